@@ -1,0 +1,228 @@
+//! Byte keys of bounded length, their bits, the first bit at which two keys differ, and bits gathered into a word.
+#![tactic(auto)]
+
+ghost use Rattle.std.specs.Prelude.{◌≡◌, ◌≢◌, ℕ, ◌+◌, ◌*◌, ◌≤◌, ◌<◌, ◌↔◌, length, IsTrue, IsOk, IsNone, IfOk, IfErr, IfSome, false, if◌then◌else◌};
+ghost use Rattle.std.specs.Cmp.Lexicographic.{slice_cmp};
+ghost use Rattle.std.specs.Ordering.{nat_cmp};
+ghost use Rattle.key_bits.specs.Bits.{bit_of, IsFirstDifference, BytesDifferAt};
+ghost use Rattle.key_bits.specs.Gather.{gathered};
+ghost use Rattle.key_bits.specs.Key.{IsKey};
+
+use arrayvec::ArrayVec;
+use std::cmp::Ordering;
+use std::hash::{Hash, Hasher};
+use std::marker::Model;
+
+/// The most bytes that a key has. Every other bound on keys and their bits is computed from this one:
+/// a key's bits stand at positions below `9 * MAX_BYTES`, and so does the first difference of two keys.
+pub const MAX_BYTES: usize = 240;
+
+/// Why bytes are no key.
+#[derive(Clone, Copy, Debug, PartialEq, Eq)]
+pub enum KeyFault {
+    /// There are more than `MAX_BYTES` of them.
+    TooLong = 1,
+}
+
+/// A key of an ordered index: 0 to `MAX_BYTES` bytes, which lie in the value itself.
+///
+/// Keys are ordered by bytes, a prefix first. Contracts see a key as the list of its bytes.
+#[derive(Debug, Drop)]
+pub struct Key {
+    bytes: ArrayVec<u8, MAX_BYTES>,
+}
+
+impl Model for Key {
+    ghost use Rattle.std.specs.Prelude.{List, ℕ};
+    ghost use Rattle.key_bits.specs.Key.{IsKey};
+
+    ghost Value = { List ℕ };
+
+    ghost view = { λ k. k.bytes.items };
+
+    ghost invariant = { λ k. IsKey k.bytes.items };
+
+    ghost inverse = { λ bytes. record { bytes = record { items = bytes } } };
+}
+
+impl Key {
+    /// The key of these bytes; `TooLong` exactly where there are more than `MAX_BYTES`.
+    pub fn from_bytes(bytes: &[u8]) -> Result<Key, KeyFault>
+        ensures fits { IsOk result ↔ (length bytes.now ≤ MAX_BYTES) }
+        ensures ok { IfOk result (λ key. key ≡ bytes.now) }
+        ensures key { IfOk result IsKey }
+        ensures err { IfErr result (λ fault. fault ≡ KeyFault.TooLong) }
+    {
+        let mut list = ArrayVec::new();
+        match list.try_extend_from_slice(bytes) {
+            Ok(()) => Ok(Key { bytes: list }),
+            Err(_) => Err(KeyFault::TooLong),
+        }
+    }
+
+    /// The key's bytes.
+    pub fn as_bytes(&self) -> &[u8]
+        ensures bytes { result.now ≡ self.now }
+        ensures key { IsKey self.now }
+    {
+        self.bytes.as_slice()
+    }
+
+    /// A second key of the same bytes.
+    pub fn copy(&self) -> Key
+        ensures same { result ≡ self.now }
+        ensures key { IsKey self.now }
+    {
+        let mut list = ArrayVec::new();
+        for byte in self.as_bytes() {
+            list.push(*byte);
+        }
+        Key { bytes: list }
+    }
+
+    /// The bit at a position: byte `i` gives nine bits at `9 * i` on, a 1 and then its own bits, the highest first.
+    /// Each bit past the last byte is 0.
+    pub fn bit(&self, position: u16) -> bool
+        ensures { result ≡ bit_of self.now position }
+    {
+        bit_in(self.as_bytes(), position) == 1
+    }
+}
+
+impl PartialEq for Key {
+    ghost use Rattle.std.specs.Prelude.{◌≡◌, ◌↔◌, IsTrue, nat_eq};
+    ghost use Rattle.std.specs.Cmp.{partial_equiv_from_equiv};
+    ghost use Rattle.std.specs.Cmp.Lexicographic.{pointwise, nat_list_eq_equiv};
+
+    ghost eq = { pointwise nat_eq };
+
+    ghost laws = { partial_equiv_from_equiv nat_list_eq_equiv };
+
+    fn eq(&self, other: &Key) -> bool
+        ensures same { IsTrue result ↔ (self.now ≡ other.now) }
+        ensures pointwise { result ≡ pointwise nat_eq self.now other.now }
+    {
+        self.as_bytes() == other.as_bytes()
+    }
+}
+
+impl Eq for Key {
+    ghost use Rattle.std.specs.Cmp.Lexicographic.{nat_list_eq_equiv};
+
+    ghost laws = { nat_list_eq_equiv };
+}
+
+impl PartialOrd for Key {
+    ghost use Rattle.std.specs.Prelude.{Some};
+    ghost use Rattle.std.specs.Cmp.Lexicographic.{slice_cmp, texts_po};
+    ghost use Rattle.std.specs.Ordering.{nat_cmp};
+
+    ghost partial_cmp = { λ a b. Some (slice_cmp nat_cmp a b) };
+
+    ghost laws = { texts_po };
+
+    fn partial_cmp(&self, other: &Key) -> Option<Ordering> {
+        Some(self.cmp(other))
+    }
+}
+
+impl Ord for Key {
+    ghost use Rattle.std.specs.Prelude.{◌≡◌, ℕ, ◌↔◌, refl, false, true};
+    ghost use Rattle.std.specs.Cmp.Lexicographic.{slice_cmp, nat_list_cmp_total, texts_ties};
+    ghost use Rattle.std.specs.Ordering.{nat_cmp};
+    ghost use Rattle.key_bits.specs.Bits.{bit_of, IsFirstDifference};
+
+    ghost cmp = { slice_cmp nat_cmp };
+
+    ghost total = { nat_list_cmp_total };
+
+    ghost matches_partial_cmp = { λ a b. refl };
+
+    ghost matches_eq = { texts_ties };
+
+    fn cmp(&self, other: &Key) -> Ordering
+        ensures bytes { result ≡ slice_cmp nat_cmp self.now other.now }
+        ensures equal { (result ≡ Ordering.Equal) ↔ (self.now ≡ other.now) }
+
+        // Of two distinct keys the one with 0 at the first differing bit is the smaller.
+        ensures less { (p : ℕ) → IsFirstDifference self.now other.now p → (result ≡ Ordering.Less) ↔ (bit_of self.now p ≡ false) }
+        ensures greater { (p : ℕ) → IsFirstDifference self.now other.now p → (result ≡ Ordering.Greater) ↔ (bit_of self.now p ≡ true) }
+    {
+        self.as_bytes().cmp(other.as_bytes())
+    }
+}
+
+impl Hash for Key {
+    ghost use Rattle.std.specs.Hash as fed;
+    ghost use Rattle.std.specs.Cmp.Rules.{hashing};
+    ghost use Rattle.std.proofs.Common.{rules};
+
+    ghost hash_input = { fed.slice fed.u8 };
+
+    ghost respects_eq = { Prim.search (hashing, rules) };
+
+    fn hash<H: Hasher>(&self, state: &mut H) {
+        self.as_bytes().hash(state);
+    }
+}
+
+/// The first position at which the keys differ, below `9 * MAX_BYTES`, and `None` exactly for equal keys.
+pub fn mismatch(a: &Key, b: &Key) -> Option<u16>
+    ensures none { IsNone result ↔ (a.now ≡ b.now) }
+    ensures first { IfSome result (IsFirstDifference a.now b.now) }
+    ensures bound { IfSome result (λ p. p < 9 * MAX_BYTES) }
+
+    // The key with 0 there is the smaller one.
+    ensures order { IfSome result (λ p. (slice_cmp nat_cmp a.now b.now ≡ Ordering.Less) ↔ (bit_of a.now p ≡ false)) }
+    ensures keys { IsKey a.now × IsKey b.now }
+{
+    let xs = a.as_bytes();
+    let ys = b.as_bytes();
+    let common = xs.len().min(ys.len());
+    for i in 0..common {
+        if xs[i] != ys[i] {
+            return Some(9 * i as u16 + 1 + byte_mismatch(xs[i], ys[i]) as u16);
+        }
+    }
+    if xs.len() == ys.len() {
+        None
+    } else {
+        Some(9 * common as u16)
+    }
+}
+
+/// How many bits stand before the first at which the bytes differ, counted from the highest.
+fn byte_mismatch(x: u8, y: u8) -> u32
+    requires { x ≢ y }
+    ensures bound { result < 8 }
+    ensures first { BytesDifferAt x y result }
+{
+    (x ^ y).leading_zeros()
+}
+
+/// The key's bits at the positions, the bit at `positions[j]` as bit `31 - j`. All lower bits are 0.
+pub fn extract(key: &Key, positions: &[u16]) -> u32
+    requires { length positions.now ≤ 31 }
+    ensures { result ≡ gathered (bit_of key.now) positions.now }
+{
+    let bytes = key.as_bytes();
+    let mut bits = 0;
+    for position in positions {
+        bits = bits << 1 | bit_in(bytes, *position);
+    }
+    bits << (31 - positions.len()) << 1
+}
+
+/// The bit at a position of a key with these bytes, as a number.
+fn bit_in(bytes: &[u8], position: u16) -> u32
+    ensures { result ≡ (if bit_of bytes.now position then 1 else 0) }
+{
+    let nine_bits = match bytes.get((position / 9) as usize) {
+        Some(byte) => 256 + *byte as u32,
+        None => 0,
+    };
+    nine_bits >> (8 - position % 9) & 1
+}
+
+#[cfg(test)]
+mod tests;
