@@ -1,0 +1,76 @@
+-- Worked examples of the definitions, which compute.
+use Rattle.std.proofs.Common.{◌≡◌, ℕ, List, [], ◌∷◌, ◌++◌, refl}
+use Rattle.hot_model.specs.declared.Call.{Call}
+use Rattle.hot_model.specs.declared.Call.TheVariants.{Insert, Upsert, Get, Remove}
+use Rattle.hot_model.specs.declared.Reply.{Reply}
+use Rattle.hot_model.specs.declared.Reply.TheVariants.{Inserted, Exists, New, Was, Value, Absent, Removed}
+use Rattle.hot_model.specs.declared.Kind.TheVariants.{Added, Replaced, Removed as TakenAway}
+use Rattle.hot_model.specs.declared.Change.{Change}
+use Rattle.hot_model.specs.declared.Note.{Note}
+use Rattle.hot_model.specs.Maps.{Map, replies_of, map_after_all}
+use Rattle.hot_model.specs.Fronts.{map_of}
+use Rattle.hot_model.specs.Calls.{changes_of, own_changes}
+use Rattle.hot_model.specs.Weaves.{Event, answered, only, weave}
+use Rattle.hot_model.specs.Scans.{range_of}
+
+abbrev a : List ℕ
+a = 97 ∷ []
+
+abbrev b : List ℕ
+b = 98 ∷ []
+
+abbrev ab : List ℕ
+ab = 97 ∷ 98 ∷ []
+
+abbrev empty : List ℕ
+empty = []
+
+-- calls one after the other
+abbrev calls : List Call
+calls = Insert b 5 ∷ Insert b 6 ∷ Upsert a 7 ∷ Upsert a 8 ∷ Get b ∷ Upsert empty 1 ∷ Remove b ∷ Remove b ∷ Get b ∷ Insert ab 18446744073709551615 ∷ []
+
+their_replies : replies_of [] calls ≡ Inserted ∷ Exists 5 ∷ New ∷ Was 7 ∷ Value 5 ∷ New ∷ Removed 5 ∷ Absent ∷ Absent ∷ Inserted ∷ []
+their_replies = refl
+
+-- the keys are in the order of their bytes, a prefix first
+abbrev three : Map
+three = (empty, 1) ∷ (a, 8) ∷ (ab, 18446744073709551615) ∷ []
+
+their_map : map_after_all [] calls ≡ three
+their_map = refl
+
+from_a : range_of three a b ≡ (a, 8) ∷ (ab, 18446744073709551615) ∷ []
+from_a = refl
+
+both_bounds_included : range_of three empty a ≡ (empty, 1) ∷ (a, 8) ∷ []
+both_bounds_included = refl
+
+lower_above_upper : range_of three b a ≡ []
+lower_above_upper = refl
+
+-- pass 1 adds the key, pass 2 replaces its value, and pass 1 takes it away
+abbrev front : List Change
+front = record { pass = 1; key = a; value = 5; kind = Added } ∷ record { pass = 2; key = a; value = 6; kind = Replaced } ∷ record { pass = 1; key = a; value = 6; kind = TakenAway } ∷ []
+
+its_map : map_of front ≡ []
+its_map = refl
+
+abbrev note : ℕ → Call → Reply → Note
+note place call reply = record { place = place; call = call; reply = reply }
+
+abbrev notes_of_1 : List Note
+notes_of_1 = note 0 (Get a) Absent ∷ note 0 (Insert a 5) Inserted ∷ note 2 (Get a) (Value 6) ∷ note 2 (Remove a) (Removed 6) ∷ []
+
+abbrev notes_of_3 : List Note
+notes_of_3 = note 1 (Insert a 9) (Exists 5) ∷ note 2 (Get a) (Value 6) ∷ note 3 (Get a) Absent ∷ []
+
+own_are_noted : own_changes 1 front ≡ changes_of 1 notes_of_1
+own_are_noted = refl
+
+-- pass 2's call is none of the notes, so its change stands alone
+abbrev woven : List Event
+woven = answered (Get a) Absent ∷ answered (Insert a 5) Inserted ∷ answered (Insert a 9) (Exists 5) ∷ only (record { pass = 2; key = a; value = 6; kind = Replaced })
+    ∷ answered (Get a) (Value 6) ∷ answered (Get a) (Value 6) ∷ answered (Remove a) (Removed 6) ∷ answered (Get a) Absent ∷ []
+
+their_weave : weave front (notes_of_1 ++ notes_of_3) ≡ woven
+their_weave = refl

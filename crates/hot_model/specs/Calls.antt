@@ -1,0 +1,63 @@
+-- Legal calls of a pass, after Herlihy and Wing: where its answered calls stand in a front, and that each was answered as a finite map would.
+use Rattle.std.specs.Prelude.{◌≡◌, ℕ, ◌+◌, ◌≤◌, List, [], ◌∷◌, length, take, slice_get, filter, filter_map, All, Option, Some, None, Bool, is_some, option_map, nat_eq, if◌then◌else◌}
+use Rattle.hot_model.specs.declared.Call.{Call}
+use Rattle.hot_model.specs.declared.Call.TheVariants.{Insert, Upsert, Remove}
+use Rattle.hot_model.specs.declared.Reply.{Reply}
+use Rattle.hot_model.specs.declared.Reply.TheVariants.{Inserted, New, Was, Removed}
+use Rattle.hot_model.specs.declared.Kind.{Kind}
+use Rattle.hot_model.specs.declared.Kind.TheVariants.{Added, Replaced, Removed as TakenAway}
+use Rattle.hot_model.specs.declared.Change.{Change}
+use Rattle.hot_model.specs.declared.Note.{Note}
+use Rattle.hot_model.specs.Maps.{key_of, reply_of}
+use Rattle.hot_model.specs.Fronts.{map_of, LegalFront}
+
+-- what a call with this reply did to its key, if it changed the map: the kind and the value of its change
+abbrev pub effect_of : Call → Reply → Option (Kind × ℕ)
+effect_of (Insert key value) Inserted = Some (Added, value)
+effect_of (Upsert key value) New = Some (Added, value)
+effect_of (Upsert key value) (Was held) = Some (Replaced, value)
+effect_of (Remove key) (Removed held) = Some (TakenAway, held)
+effect_of _ _ = None
+
+-- whether the call of a note changed the map
+abbrev pub is_change : Note → Bool
+is_change n = is_some (effect_of n.call n.reply)
+
+-- the change that a note of pass q tells of, if its call changed the map
+abbrev pub change_of : ℕ → Note → Option Change
+change_of q n = option_map (λ effect. record { pass = q; key = key_of n.call; value = effect.1; kind = effect.0 }) (effect_of n.call n.reply)
+
+-- the first place at which the pass's next call may stand
+abbrev pub place_after : Note → ℕ
+place_after n = if is_change n then n.place + 1 else n.place
+
+-- The note stands in the front: its place is one of the front, its reply is the map's after the first `place` changes,
+-- and where its call changed the map, that is the change of number `place`.
+pub record StandsIn (front : List Change) (q : ℕ) (n : Note) : Type 0 where
+  pub place : n.place ≤ length front
+  pub reply : n.reply ≡ reply_of (map_of (take n.place front)) n.call
+  pub change : (c : Change) → change_of q n ≡ Some c → slice_get front n.place ≡ Some c
+
+-- from the place `low` on, places never fall, and rise after a call that changed the map
+abbrev pub RisesFrom : ℕ → List Note → Type 0
+RisesFrom low [] = Unit {0}
+RisesFrom low (n ∷ ns) = (low ≤ n.place) × RisesFrom (place_after n) ns
+
+-- the changes that notes of pass q tell of, in order
+abbrev pub changes_of : ℕ → List Note → List Change
+changes_of q notes = filter_map (change_of q) notes
+
+-- the changes of a front that are pass q's, in order
+abbrev pub own_changes : ℕ → List Change → List Change
+own_changes q front = filter (λ c. nat_eq c.pass q) front
+
+-- The answered calls of pass q are legal in the front.
+pub record LegalCalls (front : List Change) (q : ℕ) (notes : List Note) : Type 0 where
+  -- each change fits the map of those before it
+  pub legal : LegalFront front
+  -- each call was answered as the map at its place answers, and names the change that it made
+  pub each : All (StandsIn front q) notes
+  -- the places are in the order in which the pass made its calls
+  pub rising : RisesFrom 0 notes
+  -- the pass's changes are those of its calls, in order, each once
+  pub own : own_changes q front ≡ changes_of q notes

@@ -1,0 +1,47 @@
+-- Fronts: lists of changes, each of which fits the map that those before it lead to.
+use Rattle.std.specs.Prelude.{◌≡◌, ◌≢◌, ℕ, List, [], ◌∷◌, ◌++◌, fold, All, Option, Some, None, IsSome}
+use Rattle.hot_model.specs.declared.Change.{Change}
+use Rattle.hot_model.specs.declared.Kind.{Kind}
+use Rattle.hot_model.specs.declared.Kind.TheVariants.{Added, Replaced, Removed}
+use Rattle.hot_model.specs.Maps.{Map, value_at, with_value, without}
+
+-- what a change of this kind makes of a map
+abbrev pub changed_by : Kind → Map → List ℕ → ℕ → Map
+changed_by Added m key value = with_value m key value
+changed_by Replaced m key value = with_value m key value
+changed_by Removed m key value = without m key
+
+-- the map after a change
+abbrev pub changed : Map → Change → Map
+changed m c = changed_by c.kind m c.key c.value
+
+-- the map that a front leads to, from the empty map
+abbrev pub map_of : List Change → Map
+map_of front = fold changed [] front
+
+-- a change of this kind is legal where this value, or none, is held: only an absent key is added, a held one is replaced, and the held value is removed
+abbrev pub FitsKind : Kind → Option ℕ → ℕ → Type 0
+FitsKind Added held value = held ≡ None
+FitsKind Replaced held value = IsSome held
+FitsKind Removed held value = held ≡ Some value
+
+-- the change is legal on this map
+abbrev pub Fits : Map → Change → Type 0
+Fits m c = FitsKind c.kind (value_at m c.key) c.value
+
+-- each change is legal on the map that those before it lead to, from the map m
+abbrev pub LegalFrom : Map → List Change → Type 0
+LegalFrom m [] = Unit {0}
+LegalFrom m (c ∷ cs) = Fits m c × LegalFrom (changed m c) cs
+
+-- each change is legal on the map of the changes before it
+abbrev pub LegalFront : List Change → Type 0
+LegalFront front = LegalFrom [] front
+
+-- the later front begins with the earlier one
+abbrev pub BeginsWith : List Change → List Change → Type 0
+BeginsWith later earlier = (more : List Change) × (later ≡ earlier ++ more)
+
+-- the front goes on by changes of other passes than q alone
+abbrev pub OthersGoOn : ℕ → List Change → List Change → Type 0
+OthersGoOn q earlier later = (more : List Change) × (later ≡ earlier ++ more) × All (λ c. c.pass ≢ q) more

@@ -1,0 +1,82 @@
+-- A finite map from keys to numbers, and what one call makes of it.
+use Rattle.std.specs.Prelude.{◌≡◌, ℕ, List, [], ◌∷◌, fold, Option, Some, None}
+use Rattle.std.specs.declared.cmp.Ordering.{Ordering}
+use Rattle.std.specs.Ordering.{nat_cmp}
+use Rattle.std.specs.Cmp.Lexicographic.{slice_cmp}
+use Rattle.std.specs.List.Sorted.{IsStrictlySortedBy}
+use Rattle.std.specs.Map.{keys_of, lookup, remove_entry}
+use Rattle.std.specs.BTreeMap.{insert_entry, is_at}
+use Rattle.hot_model.specs.declared.Call.{Call}
+use Rattle.hot_model.specs.declared.Call.TheVariants.{Insert, Upsert, Get, Remove}
+use Rattle.hot_model.specs.declared.Reply.{Reply}
+use Rattle.hot_model.specs.declared.Reply.TheVariants.{Inserted, Exists, New, Was, Value, Absent, Removed}
+
+-- the order of keys: by bytes, a prefix first
+abbrev pub key_order : List ℕ → List ℕ → Ordering
+key_order = slice_cmp nat_cmp
+
+-- a map: its keys with their values, in the order of the keys
+abbrev pub Map : Type 0
+Map = List (List ℕ × ℕ)
+
+-- each key is below those after it, as in every map that calls and changes lead to
+abbrev pub IsRising : Map → Type 0
+IsRising m = IsStrictlySortedBy key_order (keys_of m)
+
+-- the value that the map holds for the key
+abbrev pub value_at : Map → List ℕ → Option ℕ
+value_at m key = lookup (is_at (key_order key)) m
+
+-- the map in which the key has the value
+abbrev pub with_value : Map → List ℕ → ℕ → Map
+with_value m key value = insert_entry key_order m key value
+
+-- the map in which the key is absent
+abbrev pub without : Map → List ℕ → Map
+without m key = remove_entry (is_at (key_order key)) m
+
+-- the key that a call is about
+abbrev pub key_of : Call → List ℕ
+key_of (Insert key value) = key
+key_of (Upsert key value) = key
+key_of (Get key) = key
+key_of (Remove key) = key
+
+-- a call on a map which holds this value for its key, or none: the map after it, and the reply
+abbrev pub step_where : Option ℕ → Map → Call → Map × Reply
+step_where None m (Insert key value) = (with_value m key value, Inserted)
+step_where (Some held) m (Insert key value) = (m, Exists held)
+step_where None m (Upsert key value) = (with_value m key value, New)
+step_where (Some held) m (Upsert key value) = (with_value m key value, Was held)
+step_where None m (Get key) = (m, Absent)
+step_where (Some held) m (Get key) = (m, Value held)
+step_where None m (Remove key) = (m, Absent)
+step_where (Some held) m (Remove key) = (without m key, Removed held)
+
+-- one call on a map: the map after it, and the reply
+abbrev pub step : Map → Call → Map × Reply
+step m call = step_where (value_at m (key_of call)) m call
+
+-- the map after a call
+abbrev pub map_after : Map → Call → Map
+map_after m call = (step m call).0
+
+-- what a call answers on a map
+abbrev pub reply_of : Map → Call → Reply
+reply_of m call = (step m call).1
+
+-- what calls answer one after the other, the first on the map m
+abbrev pub replies_of : Map → List Call → List Reply
+replies_of m [] = []
+replies_of m (call ∷ calls) = reply_of m call ∷ replies_of (map_after m call) calls
+
+-- the map after these calls, the first on the map m
+abbrev pub map_after_all : Map → List Call → Map
+map_after_all m calls = fold map_after m calls
+
+-- the call gives an absent key a value
+abbrev pub AddsKey : Map → Call → Type 0
+AddsKey m (Insert key value) = value_at m key ≡ None
+AddsKey m (Upsert key value) = value_at m key ≡ None
+AddsKey m (Get key) = ⊥
+AddsKey m (Remove key) = ⊥

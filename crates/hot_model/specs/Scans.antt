@@ -1,0 +1,55 @@
+-- Scans of a range: of one map outright, and lawful ones while the map changes.
+use Rattle.std.specs.Prelude.{◌≡◌, ◌≢◌, ℕ, ◌≤◌, ◌<◌, ◌↔◌, List, length, take, drop, filter, All, Any, Contains, Bool, true, false, IsTrue, IsSome, Some}
+use Rattle.std.specs.declared.cmp.Ordering.TheVariants.{Less, Greater}
+use Rattle.std.specs.Map.{keys_of}
+use Rattle.std.specs.BTreeMap.Range.{range_contains}
+use Rattle.std.specs.declared.ops.Bound.TheVariants.{Included}
+use Rattle.hot_model.specs.declared.Change.{Change}
+use Rattle.hot_model.specs.declared.Kind.TheVariants.{Removed}
+use Rattle.hot_model.specs.declared.Scan.{Scan}
+use Rattle.hot_model.specs.Maps.{Map, key_order, IsRising, value_at}
+use Rattle.hot_model.specs.Fronts.{map_of, BeginsWith}
+
+-- whether the key is neither below `from` nor above `upto`
+abbrev pub is_within : List ℕ → List ℕ → List ℕ → Bool
+is_within from upto key = range_contains key_order (Included from) (Included upto) key
+
+-- the part of the map in the range
+abbrev pub range_of : Map → List ℕ → List ℕ → Map
+range_of m from upto = filter (λ e. is_within from upto e.0) m
+
+-- the scan gives the first `limit` pairs of the map in the range, and `more` exactly where there is a further one
+pub record IsScanOf (m : Map) (from upto : List ℕ) (limit : ℕ) (scan : Scan) : Type 0 where
+  pub pairs : scan.pairs.items ≡ take limit (range_of m from upto)
+  pub more : IsTrue scan.more ↔ (limit < length (range_of m from upto))
+
+-- the key has the value in the map of the first n changes of `after`, for some n from the length of `before` to that of `after`
+abbrev pub IsHeldBetween : List Change → List Change → List ℕ → ℕ → Type 0
+IsHeldBetween before after key value = (n : ℕ) × (length before ≤ n) × (n ≤ length after) × (value_at (map_of (take n after)) key ≡ Some value)
+
+-- the key is in the map of `before`, and no change of `after` beyond it removes the key
+abbrev pub IsKept : List Change → List Change → List ℕ → Type 0
+IsKept before after key = IsSome (value_at (map_of before) key) × All (λ c. c.kind ≡ Removed → c.key ≢ key) (drop (length before) after)
+
+-- the key is at most that of the last pair, the keys rising
+abbrev pub IsUpToLast : Map → List ℕ → Type 0
+IsUpToLast pairs key = Any (λ e. key_order key e.0 ≢ Greater) pairs
+
+-- the key is above that of the last pair, the keys rising
+abbrev pub IsPastLast : Map → List ℕ → Type 0
+IsPastLast pairs key = All (λ e. key_order e.0 key ≡ Less) pairs
+
+-- A scan of the keys from `from` to `upto`, while the front `before` grew to `after`.
+pub record IsLawfulScan (before after : List Change) (from upto : List ℕ) (limit : ℕ) (scan : Scan) : Type 0 where
+  pub begins : BeginsWith after before
+  pub rising : IsRising scan.pairs.items
+  pub within : All (λ e. IsTrue (is_within from upto e.0)) scan.pairs.items
+  pub short : length scan.pairs.items ≤ limit
+  pub held : All (λ e. IsHeldBetween before after e.0 e.1) scan.pairs.items
+  -- without `more`, each key of the range that was there all along is listed
+  pub whole : scan.more ≡ false → (key : List ℕ) → IsTrue (is_within from upto key) → IsKept before after key → Contains (keys_of scan.pairs.items) key
+  -- with `more`, each such key up to the last pair's is listed
+  pub part : scan.more ≡ true → (key : List ℕ) → IsTrue (is_within from upto key) → IsKept before after key → IsUpToLast scan.pairs.items key → Contains (keys_of scan.pairs.items) key
+  -- with `more`, the scan is full, and some key of the range above the last pair's was there meanwhile
+  pub full : scan.more ≡ true → length scan.pairs.items ≡ limit
+  pub further : scan.more ≡ true → (key : List ℕ) × (value : ℕ) × IsTrue (is_within from upto key) × IsHeldBetween before after key value × IsPastLast scan.pairs.items key

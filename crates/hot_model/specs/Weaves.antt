@@ -1,0 +1,76 @@
+-- The one sequential history in which calls of several passes stand together.
+use Rattle.std.specs.Prelude.{◌≡◌, ◌≢◌, ℕ, ◌+◌, List, [], ◌∷◌, ◌++◌, filter, map, All, not, ◌&&◌, nat_eq}
+use Rattle.hot_model.specs.declared.Call.{Call}
+use Rattle.hot_model.specs.declared.Reply.{Reply}
+use Rattle.hot_model.specs.declared.Change.{Change}
+use Rattle.hot_model.specs.declared.Note.{Note}
+use Rattle.hot_model.specs.Maps.{Map, map_after, reply_of}
+use Rattle.hot_model.specs.Fronts.{changed, BeginsWith}
+use Rattle.hot_model.specs.Calls.{is_change, LegalCalls}
+
+-- what stands in a woven history: a call with its reply, or a change whose call is none of the notes
+pub data Event : Type 0 where
+  answered : Call → Reply → Event
+  only : Change → Event
+
+-- the notes of this place whose calls changed nothing, and those whose calls changed the map
+abbrev pub quiet_at : ℕ → List Note → List Note
+quiet_at place notes = filter (λ n. nat_eq n.place place && not (is_change n)) notes
+
+abbrev pub changing_at : ℕ → List Note → List Note
+changing_at place notes = filter (λ n. nat_eq n.place place && is_change n) notes
+
+-- the calls of notes, in their order
+abbrev pub calls_of : List Note → List Event
+calls_of notes = map (λ n. answered n.call n.reply) notes
+
+-- a change as the call that made it, where a note tells of that
+abbrev pub made_by : Change → List Note → List Event
+made_by c [] = only c ∷ []
+made_by c (n ∷ ns) = calls_of (n ∷ ns)
+
+-- before each change, of which the first has the number `place`, the calls of its place that changed nothing
+abbrev pub weave_from : ℕ → List Change → List Note → List Event
+weave_from place [] notes = calls_of (quiet_at place notes)
+weave_from place (c ∷ cs) notes = calls_of (quiet_at place notes) ++ (made_by c (changing_at place notes) ++ weave_from (place + 1) cs notes)
+
+-- The front with the calls of these notes in it: one that changed nothing stands between changes place-1 and place,
+-- calls of one place in the order of the notes, and one that changed the map stands for its change.
+abbrev pub weave : List Change → List Note → List Event
+weave front notes = weave_from 0 front notes
+
+-- the calls that stand in a history, in order
+abbrev pub calls_in : List Event → List Event
+calls_in [] = []
+calls_in (answered call reply ∷ es) = answered call reply ∷ calls_in es
+calls_in (only c ∷ es) = calls_in es
+
+-- in turn from the map m, each call has the map's reply
+abbrev pub LegalHistoryFrom : Map → List Event → Type 0
+LegalHistoryFrom m [] = Unit {0}
+LegalHistoryFrom m (answered call reply ∷ es) = (reply ≡ reply_of m call) × LegalHistoryFrom (map_after m call) es
+LegalHistoryFrom m (only c ∷ es) = LegalHistoryFrom (changed m c) es
+
+-- a legal sequential history: each reply is that of a finite map, which is empty at first
+abbrev pub LegalHistory : List Event → Type 0
+LegalHistory events = LegalHistoryFrom [] events
+
+-- the notes of passes, each with its number, one pass after the other
+abbrev pub notes_of : List (ℕ × List Note) → List Note
+notes_of [] = []
+notes_of (pass ∷ passes) = pass.1 ++ notes_of passes
+
+-- the passes have different numbers, and the calls of each are legal in the front
+abbrev pub AllLegal : List Change → List (ℕ × List Note) → Type 0
+AllLegal front [] = Unit {0}
+AllLegal front (pass ∷ passes) = LegalCalls front pass.0 pass.1 × All (λ other. other.0 ≢ pass.0) passes × AllLegal front passes
+
+-- Passes of the numbers p and q have met: their fronts are equal and begin with both earlier fronts, the notes of both,
+-- one list after the other, are woven into it, and the calls of both are legal there.
+pub record HaveMet (p q : ℕ) (earlier_p earlier_q front_p front_q : List Change) (notes_p notes_q : List Note) : Type 0 where
+  pub same : front_p ≡ front_q
+  pub begins_p : BeginsWith front_p earlier_p
+  pub begins_q : BeginsWith front_q earlier_q
+  pub legal_p : LegalCalls front_p p notes_p
+  pub legal_q : LegalCalls front_q q notes_q
+  pub woven : LegalHistory (weave front_p (notes_p ++ notes_q))

@@ -1,0 +1,23 @@
+//! Laws of histories, over their definitions alone. The functions do nothing: their contracts are the laws.
+ghost use Rattle.hot_model.specs.Statements.{InOrder, Longer, Woven, WovenTwo, ScansAtOnce};
+
+/// A pass's calls stay legal while other passes make changes.
+pub fn longer()
+    ensures { Longer }
+{}
+
+/// The calls of passes of different numbers, each legal in one front, stand together in one legal sequential history.
+pub fn woven()
+    ensures any { Woven }
+    ensures two { WovenTwo }
+{}
+
+/// The first pairs of a map's range are a lawful scan while nothing changes.
+pub fn scans_at_once()
+    ensures { ScansAtOnce }
+{}
+
+/// A pass's legal calls stand in their weave each once, in the order in which the pass made them.
+pub fn in_order()
+    ensures { InOrder }
+{}

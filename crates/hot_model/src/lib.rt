@@ -1,0 +1,83 @@
+//! A finite map from keys to numbers, and histories of it: the calls, what they answer, and what makes the calls of many passes legal together.
+#![tactic(auto)]
+
+mod histories;
+pub mod laws;
+mod plain;
+
+pub use histories::are_legal;
+use key_bits::Key;
+pub use plain::PlainIndex;
+
+/// A call on the map.
+#[derive(Debug, PartialEq, Eq, Drop)]
+pub enum Call {
+    /// Gives the key the value where it has none.
+    Insert(Key, u64),
+    /// Gives the key the value, whether it has one or not.
+    Upsert(Key, u64),
+    /// Asks for the value of the key.
+    Get(Key),
+    /// Takes the key away.
+    Remove(Key),
+}
+
+/// What a call answers.
+#[derive(Clone, Copy, Debug, PartialEq, Eq)]
+pub enum Reply {
+    /// Of `Insert`: the key was absent and has the value now.
+    Inserted,
+    /// Of `Insert`: the key has this value, and keeps it.
+    Exists(u64),
+    /// Of `Upsert`: the key was absent and has the value now.
+    New,
+    /// Of `Upsert`: the key had this value and has the new one now.
+    Was(u64),
+    /// Of `Get`: the key has this value.
+    Value(u64),
+    /// Of `Get` and `Remove`: the key is absent.
+    Absent,
+    /// Of `Remove`: the key had this value and is absent now.
+    Removed(u64),
+}
+
+/// What a change does to its key.
+#[derive(Clone, Copy, Debug, PartialEq, Eq)]
+pub enum Kind {
+    /// The absent key got the value.
+    Added,
+    /// The held key got the value, which may be the one that it had.
+    Replaced,
+    /// The key, which held the value, was taken away.
+    Removed,
+}
+
+/// A change of the map, by the pass of this number.
+#[derive(Debug, PartialEq, Eq, Drop)]
+pub struct Change {
+    pub pass: u16,
+    pub key: Key,
+    pub value: u64,
+    pub kind: Kind,
+}
+
+/// A call of a pass that was answered, and where it stands in a front: after the first `place` changes.
+/// In contracts a place is a whole number without bound.
+#[derive(Debug, PartialEq, Eq, Drop)]
+pub struct Note {
+    pub place: u64,
+    pub call: Call,
+    pub reply: Reply,
+}
+
+/// What a scan of a range gives.
+#[derive(Drop)]
+pub struct Scan {
+    /// Keys with their values, in the order of the keys.
+    pub pairs: Vec<(Key, u64)>,
+    /// Whether the range has a further key.
+    pub more: bool,
+}
+
+#[cfg(test)]
+mod tests;

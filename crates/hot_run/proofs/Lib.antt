@@ -1,0 +1,4 @@
+pub mod Answering
+pub mod Commands
+pub mod Cuts
+pub mod Numbers

@@ -1,0 +1,5 @@
+pub mod Faults
+pub mod Grammar
+pub mod Meaning
+pub mod Runs
+pub mod Words

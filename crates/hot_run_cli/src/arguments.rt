@@ -1,0 +1,57 @@
+//! The command line.
+
+ghost use Rattle.std.specs.Prelude.{◌≡◌, ◌≤◌};
+ghost use Rattle.clap.specs.Words.{kind_of};
+ghost use Rattle.hot_run_cli.specs.Endings.{ending_of};
+ghost use Rattle.hot_run_cli.specs.Options.{IsCountOption};
+
+use crate::ending::Ending;
+use clap::error::ErrorKind;
+use clap::{Arg, ArgAction, Command, value_parser};
+use hot_run::{MAX_LEAVES, MAX_NODES, RunFault};
+use std::alloc::Global;
+
+/// How many records the index may have.
+#[derive(Clone, Copy, Debug)]
+pub struct Sizes {
+    pub nodes: u32,
+    pub leaves: u32,
+    ghost nodes_fit: { (1 ≤ nodes) × (nodes ≤ 65535) },
+    ghost leaves_fit: { (1 ≤ leaves) × (leaves ≤ 262143) },
+}
+
+impl From<clap::Error> for Ending {
+    ghost from_gives = { λ error ending. ending ≡ ending_of (kind_of error) };
+
+    fn from(error: clap::Error) -> Ending {
+        if error.kind() == ErrorKind::OutOfMemory {
+            Ending::Fault(RunFault::Memory)
+        } else {
+            Ending::Usage
+        }
+    }
+}
+
+/// An option that takes a number from 1 to `most`.
+fn count_option<'a>(alloc: Global, name: &'a str, most: u32) -> Arg<'a>
+    ensures { IsCountOption name.now most result }
+{
+    Arg::new(alloc, name)
+        .long(name)
+        .action(ArgAction::Set)
+        .value_parser(value_parser!(u32).range(1..=i64::from(most)))
+}
+
+/// The sizes that the command line asks for.
+pub fn parse(alloc: Global, words: &[String]) -> Result<Sizes, Ending> {
+    let nodes = count_option(alloc, "nodes", MAX_NODES);
+    let leaves = count_option(alloc, "leaves", MAX_LEAVES);
+    let command = Command::new(alloc, "hot-run").arg(nodes)?.arg(leaves)?;
+    let matches = command.try_get_matches_from(words)?;
+    let nodes = matches.get_one::<u32>("nodes").unwrap_or(4096);
+    let leaves = matches.get_one::<u32>("leaves").unwrap_or(16_384);
+    Ok(Sizes { nodes, leaves })
+}
+
+#[cfg(test)]
+mod tests;

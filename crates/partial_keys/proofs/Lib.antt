@@ -1,0 +1,12 @@
+pub mod Codes
+pub mod Keeping
+pub mod Search
+pub mod Lanes
+pub mod Rowing
+pub mod Reading
+pub mod Showing
+pub mod Growing
+pub mod Affected
+pub mod Squeezing
+pub mod Cutting
+pub mod Worked

@@ -1,0 +1,20 @@
+-- What the columns of a node are.
+use Rattle.std.specs.Prelude.{List, length, replicate, take, ℕ, ◌++◌, ◌-◌, ◌<◌, ◌≡◌, ◌≤◌}
+use Rattle.pieces.specs.Positions.{Ascends, AllBelow}
+
+-- 1 to 31 positions that rise strictly, each below 65,535
+pub record IsColumns (positions : List ℕ) : Type 0 where
+  pub some : 0 < length positions
+  pub few : length positions ≤ 31
+  pub rise : Ascends 0 positions
+  pub below : AllBelow 65535 positions
+
+-- the positions, with the unused places of 31 filled by 65,535
+abbrev pub with_free : List ℕ → List ℕ
+with_free positions = positions ++ replicate (31 - length positions) 65535
+
+-- the first `count` of the 31 places are columns, and the others are unused
+pub record HoldsColumns (places : List ℕ) (count : ℕ) : Type 0 where
+  pub columns : IsColumns (take count places)
+  pub counted : length (take count places) ≡ count
+  pub filled : places ≡ with_free (take count places)

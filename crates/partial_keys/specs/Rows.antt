@@ -1,0 +1,34 @@
+-- The rows of a piece over columns, as numbers of 32 bits.
+use Rattle.std.specs.Int.{bit_at}
+use Rattle.std.specs.Prelude.{Bool, List, bit_and, eqb, false, length, map, replicate, slice_index, ℕ, ◌++◌, ◌-◌, ◌<◌, ◌≡◌}
+use Rattle.key_bits.specs.Gather.{gathered}
+use Rattle.pieces.specs.Piece.{Piece, paths}
+use Rattle.pieces.specs.Positions.{has, front_below}
+
+-- the key's bits at the columns, column j as bit 31-j
+abbrev pub dense_of : List ℕ → (ℕ → Bool) → ℕ
+dense_of columns bit = gathered bit columns
+
+-- a 1 exactly in the columns at which the path takes the 1 side
+abbrev pub row_of : List ℕ → List ℕ → ℕ
+row_of columns path = gathered (has path) columns
+
+abbrev pub rows_of : {A : Type 0} → List ℕ → Piece A → List ℕ
+rows_of columns piece = map (row_of columns) (paths piece)
+
+abbrev pub complies : ℕ → ℕ → Bool
+complies dense row = eqb (bit_and dense row) row
+
+-- entry i is the highest that complies
+pub record IsHighest (rows : List ℕ) (dense i : ℕ) : Type 0 where
+  pub in_range : i < length rows
+  pub complying : bit_and dense (slice_index rows i) ≡ slice_index rows i
+  pub none_above : (k : ℕ) → i < k → k < length rows → complies dense (slice_index rows k) ≡ false
+
+-- the rows, with the unused places of 32 filled by ones
+abbrev pub with_unused : List ℕ → List ℕ
+with_unused rows = rows ++ replicate (32 - length rows) 4294967295
+
+-- the bit that a dense key has for a position: for column j that is bit 31-j
+abbrev pub dense_bit : List ℕ → ℕ → ℕ → Bool
+dense_bit columns dense p = eqb (bit_at dense (31 - front_below p columns)) 1

@@ -1,0 +1,18 @@
+-- What rows over columns show, read column by column.
+use Rattle.std.specs.Prelude.{List, [], cond, drop, length, map, nat_eq, slice_index_or, suc, take, zero, ℕ, ◌-◌, ◌^◌, ◌∷◌}
+use Rattle.pieces.specs.Piece.{Piece, Place, Fork}
+use Rattle.pieces.specs.Positions.{front_below}
+
+-- The piece that the rows show, where the first of the remaining columns is bit w - 1 of each row.
+-- Where no row has a 1 in the first column, what the other columns show. Otherwise a fork there: the rows with 0
+-- are its first part, the others its second, and each part shows its piece by the later columns
+abbrev pub shown : {A : Type 0} → A → ℕ → List ℕ → List ℕ → List A → Piece A
+shown x w [] rows entries = Place (slice_index_or entries 0 x)
+shown x zero (c ∷ cs) rows entries = Place (slice_index_or entries 0 x)
+shown x (suc w) (c ∷ cs) rows entries =
+    let k = front_below (2 ^ w) rows in
+    cond (nat_eq k (length rows)) (shown x w cs rows entries)
+    (Fork c (shown x w cs (take k rows) (take k entries)) (shown x w cs (map (λ row. row - 2 ^ w) (drop k rows)) (drop k entries)))
+
+abbrev pub piece_of : {A : Type 0} → A → List ℕ → List ℕ → List A → Piece A
+piece_of x columns rows entries = shown x 32 columns rows entries

@@ -1,0 +1,23 @@
+-- Rows and columns of which some are kept.
+use Rattle.std.specs.Int.{bit_at}
+use Rattle.std.specs.Prelude.{Bool, List, [], bit_or, eqb, suc, zero, ℕ, ◌∷◌}
+use Rattle.key_bits.specs.Gather.{code}
+use Rattle.pieces.specs.Kept.{kept}
+
+-- the w lowest bits of a number, the highest first
+abbrev pub bits_of : ℕ → ℕ → List Bool
+bits_of zero n = []
+bits_of (suc w) n = eqb (bit_at n w) 1 ∷ bits_of w n
+
+-- the bits of a number of 32 bits, the highest first
+unfoldable pub used_bits : ℕ → List Bool
+used_bits used = bits_of 32 used
+
+-- the row without the columns whose bit in `used` is 0
+abbrev pub squeezed : ℕ → ℕ → ℕ
+squeezed used row = code 32 (kept (bits_of 32 used) (bits_of 32 row))
+
+-- all rows joined by |
+abbrev pub or_all : List ℕ → ℕ
+or_all [] = 0
+or_all (row ∷ rows) = bit_or row (or_all rows)

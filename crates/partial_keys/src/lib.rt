@@ -1,0 +1,230 @@
+//! Columns of a compound node, and the search of its sparse partial keys (Binna and others, "HOT", SIGMOD 2018).
+#![tactic(auto)]
+
+ghost use Rattle.std.specs.Prelude.{◌≡◌, ◌%◌, ◌≤◌, length, map, slice_index};
+ghost use Rattle.pieces.specs.Kept.{kept};
+ghost use Rattle.pieces.specs.Highest.{highest};
+ghost use Rattle.pieces.specs.Positions.{front_below};
+ghost use Rattle.partial_keys.specs.Columns.{with_free};
+ghost use Rattle.partial_keys.specs.Leads.{IsPlaceForDense, IsPlaceForKey};
+ghost use Rattle.partial_keys.specs.Rows.{IsHighest, complies};
+ghost use Rattle.partial_keys.specs.Squeezed.{used_bits};
+ghost use lib.Lanes.{mask_l};
+
+use arrayvec::ArrayVec;
+use key_bits::{Key, extract};
+use std::marker::Model;
+use std::simd::prelude::*;
+
+/// The columns of a compound node: 1 to 31 bit positions, strictly rising, each below 65,535. Column j is bit 31-j of a
+/// dense or sparse partial key.
+#[derive(Clone, Copy, Debug, PartialEq, Eq)]
+pub struct Columns {
+    positions: [u16; 31],
+    count: u8,
+}
+
+impl Model for Columns {
+    ghost use Rattle.std.specs.Prelude.{ℕ, List, length, take};
+    ghost use Rattle.partial_keys.specs.Columns.{HoldsColumns, with_free};
+
+    ghost Value = { List ℕ };
+
+    ghost view = { λ c. take c.count c.positions };
+
+    ghost invariant = { λ c. HoldsColumns c.positions c.count };
+
+    ghost inverse = { λ positions. record { positions = with_free positions; count = length positions } };
+
+    ghost use Rattle.std.proofs.Common.{sym};
+
+    ghost inverse_ok = { λ c h i. record { positions = sym h.filled i; count = h.counted i } };
+}
+
+impl Columns {
+    ghost use Rattle.std.specs.Prelude.{◌≡◌, ◌<◌, ◌≤◌, false, length, slice_index};
+    ghost use Rattle.key_bits.specs.Bits.{bit_of};
+    ghost use Rattle.pieces.specs.Kept.{kept};
+    ghost use Rattle.pieces.specs.Positions.{front_below, has, with_position};
+    ghost use Rattle.partial_keys.specs.Columns.{IsColumns};
+    ghost use Rattle.partial_keys.specs.Rows.{dense_of};
+    ghost use Rattle.partial_keys.specs.Squeezed.{used_bits};
+
+    /// The columns at these positions.
+    pub fn of(positions: &[u16]) -> Columns
+        requires { IsColumns positions.now }
+        ensures { result ≡ positions.now }
+    {
+        Columns {
+            positions: filled(positions),
+            count: positions.len() as u8,
+        }
+    }
+
+    /// The positions, in order.
+    pub fn as_slice(&self) -> &[u16]
+        ensures positions { result.now ≡ self.now }
+        ensures columns { IsColumns self.now }
+    {
+        &self.positions[..self.count as usize]
+    }
+
+    /// How many columns there are, 1 to 31.
+    pub fn count(&self) -> u8
+        ensures { result ≡ length self.now }
+    {
+        self.count
+    }
+
+    /// The first position.
+    pub fn first(&self) -> u16
+        ensures { result ≡ slice_index self.now 0 }
+    {
+        self.positions[0]
+    }
+
+    /// The position of column `j`.
+    pub fn position(&self, j: u8) -> u16
+        requires { j < length self.now }
+        ensures { result ≡ slice_index self.now j }
+    {
+        self.positions[j as usize]
+    }
+
+    /// How many columns are below the position. If the position is a column, that is its index.
+    pub fn below(&self, position: u16) -> u8
+        ensures value { result ≡ front_below position self.now }
+        ensures within { result ≤ length self.now }
+    {
+        count_below(self.as_slice(), position) as u8
+    }
+
+    /// Whether the position is a column.
+    pub fn contains(&self, position: u16) -> bool
+        ensures { result ≡ has self.now position }
+    {
+        let positions = self.as_slice();
+        let at = count_below(positions, position);
+        at < positions.len() && positions[at] == position
+    }
+
+    /// The key's bits at the columns: the bit of column j is bit 31-j.
+    pub fn dense(&self, key: &Key) -> u32
+        ensures { result ≡ dense_of self.now (bit_of key.now) }
+    {
+        extract(key, self.as_slice())
+    }
+
+    /// Puts a position in as a column, in order, and answers its index.
+    pub fn add_position(&mut self, position: u16) -> u8
+        requires room { length self.old < 31 }
+        requires below { position < 65535 }
+        requires new { has self.old position ≡ false }
+        ensures index { result ≡ front_below position self.old }
+        ensures columns { self.new ≡ with_position position self.old }
+    {
+        let at = self.below(position);
+        let mut longer = listed(self.as_slice());
+        longer.insert(at as usize, position);
+        *self = Columns::of(longer.as_slice());
+        at
+    }
+
+    /// Keeps the columns j whose bit 31-j is set in `used`.
+    pub fn drop_unused(&mut self, used: u32)
+        requires some { 0 < length (kept (used_bits used) self.old) }
+        ensures { self.new ≡ kept (used_bits used) self.old }
+    {
+        let shorter = kept_positions(self.as_slice(), used);
+        *self = Columns::of(shorter.as_slice());
+    }
+}
+
+/// The positions, with the unused places filled.
+fn filled(positions: &[u16]) -> [u16; 31]
+    requires { length positions.now ≤ 31 }
+    ensures { result ≡ with_free positions.now }
+{
+    let mut places = [u16::MAX; 31];
+    for (j, position) in positions.iter().enumerate() {
+        places[j] = *position;
+    }
+    places
+}
+
+fn count_below(positions: &[u16], bound: u16) -> usize
+    ensures value { result ≡ front_below bound positions.now }
+    ensures within { result ≤ length positions.now }
+{
+    for (j, position) in positions.iter().enumerate() {
+        if *position >= bound {
+            return j;
+        }
+    }
+    positions.len()
+}
+
+fn listed(positions: &[u16]) -> ArrayVec<u16, 31>
+    requires { length positions.now ≤ 31 }
+    ensures { result.items ≡ positions.now }
+{
+    let mut list = ArrayVec::new();
+    for position in positions {
+        list.push(*position);
+    }
+    list
+}
+
+fn kept_positions(positions: &[u16], used: u32) -> ArrayVec<u16, 31>
+    requires { length positions.now ≤ 31 }
+    ensures { result.items ≡ kept (used_bits used) positions.now }
+{
+    let mut list = ArrayVec::new();
+    for (j, position) in positions.iter().enumerate() {
+        if used >> (31 - j) & 1 == 1 {
+            list.push(*position);
+        }
+    }
+    list
+}
+
+/// The highest entry whose sparse partial key complies with the dense one: `dense & sparse[i] == sparse[i]`.
+pub fn search_plain(sparse: &[u32; 32], dense: u32) -> u8
+    requires { slice_index sparse.now 0 ≡ 0 }
+    ensures value { result ≡ highest (complies dense) sparse.now }
+    ensures highest { IsHighest sparse.now dense result }
+
+    // Where the words are the rows of a shown piece and the unused places, it is the place to which the forks lead.
+    ensures leads { dense % 2 ≡ 0 → IsPlaceForDense sparse.now dense result }
+    ensures leads_key { IsPlaceForKey sparse.now dense result }
+{
+    let mut best = 0;
+    for i in 1..32 {
+        if dense & sparse[i as usize] == sparse[i as usize] {
+            best = i;
+        }
+    }
+    best
+}
+
+/// The same entry as `search_plain`'s, by one comparison of all 32 words as lanes of a vector.
+pub fn search_lanes(sparse: &[u32; 32], dense: u32) -> u8
+    requires { slice_index sparse.now 0 ≡ 0 }
+    ensures value { result ≡ highest (complies dense) sparse.now }
+    ensures highest { IsHighest sparse.now dense result }
+    ensures leads { dense % 2 ≡ 0 → IsPlaceForDense sparse.now dense result }
+    ensures leads_key { IsPlaceForKey sparse.now dense result }
+{
+    (63 - complying_lanes(sparse, dense).leading_zeros()) as u8
+}
+
+/// Bit i is set exactly where entry i complies.
+fn complying_lanes(sparse: &[u32; 32], dense: u32) -> u64
+    ensures { result ≡ mask_l (map (complies dense) sparse.now) }
+{
+    let lanes = u32x32::from_array(*sparse);
+    (u32x32::splat(dense) & lanes).simd_eq(lanes).to_bitmask()
+}
+
+#[cfg(test)]
+mod tests;

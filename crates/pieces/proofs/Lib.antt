@@ -1,0 +1,12 @@
+pub mod Tests
+pub mod Highest
+pub mod Positions
+pub mod Paths
+pub mod Using
+pub mod Edits
+pub mod Growing
+pub mod Affected
+pub mod Replacing
+pub mod Removing
+pub mod Mapping
+pub mod Worked

@@ -1,0 +1,33 @@
+-- The same forks with other things at the places.
+use Rattle.std.proofs.Common.{Bool, List, map, refl, ℕ, ◌+◌, ◌≡◌}
+use Rattle.std.proofs.lemmas.List.{map-append}
+use Rattle.pieces.specs.Piece.{Piece, Place, Fork, places, size, paths, leads_to, RisesFrom, UsesOnly, uses, map_places}
+
+module _ {A B : Type 0} (f : A → B) where
+  pub places-map_places : (P : Piece A) → places (map_places f P) ≡ map f (places P)
+  places-map_places (Place x) = refl
+  places-map_places (Fork p a b) = rw (places-map_places a, places-map_places b, map-append f (places a) (places b)) refl
+
+  pub size-map_places : (P : Piece A) → size (map_places f P) ≡ size P
+  size-map_places (Place x) = refl
+  size-map_places (Fork p a b) = rw (size-map_places a, size-map_places b) refl
+
+  pub paths-map_places : (P : Piece A) → paths (map_places f P) ≡ paths P
+  paths-map_places (Place x) = refl
+  paths-map_places (Fork p a b) = rw (paths-map_places a, paths-map_places b) refl
+
+  pub leads_to-map_places : (bit : ℕ → Bool) (P : Piece A) → leads_to bit (map_places f P) ≡ leads_to bit P
+  leads_to-map_places bit (Place x) = refl
+  leads_to-map_places bit (Fork p a b) = rw (size-map_places a, leads_to-map_places bit a, leads_to-map_places bit b) refl
+
+  pub uses-map_places : (P : Piece A) (q : ℕ) → uses (map_places f P) q ≡ uses P q
+  uses-map_places (Place x) q = refl
+  uses-map_places (Fork p a b) q = rw (uses-map_places a q, uses-map_places b q) refl
+
+  pub UsesOnly-map_places : (cs : List ℕ) (P : Piece A) → UsesOnly cs P → UsesOnly cs (map_places f P)
+  UsesOnly-map_places cs (Place x) u = tt
+  UsesOnly-map_places cs (Fork p a b) u = (u.0, UsesOnly-map_places cs a u.1, UsesOnly-map_places cs b u.2)
+
+  pub RisesFrom-map_places : (low : ℕ) (P : Piece A) → RisesFrom low P → RisesFrom low (map_places f P)
+  RisesFrom-map_places low (Place x) r = tt
+  RisesFrom-map_places low (Fork p a b) r = (r.0, RisesFrom-map_places (p + 1) a r.1, RisesFrom-map_places (p + 1) b r.2)

@@ -1,0 +1,32 @@
+-- The piece of the keys a, b, c (97, 98, 99), d that comes in behind and the byte 96 before, and b that is taken out, by computation.
+use Rattle.std.proofs.Common.{◌≡◌, ℕ, true, false, [], ◌∷◌, refl}
+use Rattle.pieces.specs.Piece.{Piece, Place, Fork, places, paths}
+use Rattle.pieces.specs.Growth.{grown, affected_first, affected_count}
+use Rattle.pieces.specs.Changes.{replaced, without}
+
+abbrev pub three : Piece ℕ
+three = Fork 7 (Place 97) (Fork 8 (Place 98) (Place 99))
+
+paths_of_three : paths three ≡ [] ∷ (7 ∷ []) ∷ (7 ∷ 8 ∷ []) ∷ []
+paths_of_three = refl
+
+whole_affected : affected_count 6 0 three ≡ 3
+whole_affected = refl
+
+last_two_affected : affected_first 8 2 three ≡ 1
+last_two_affected = refl
+
+with_d : grown 6 true 100 0 three ≡ Fork 6 three (Place 100)
+with_d = refl
+
+before_a : places (grown 6 false 96 0 three) ≡ 96 ∷ 97 ∷ 98 ∷ 99 ∷ []
+before_a = refl
+
+without_b : without 1 three ≡ Fork 7 (Place 97) (Place 99)
+without_b = refl
+
+without_a : without 0 three ≡ Fork 8 (Place 98) (Place 99)
+without_a = refl
+
+another_b : replaced 1 5 three ≡ Fork 7 (Place 97) (Fork 8 (Place 5) (Place 99))
+another_b = refl

@@ -1,0 +1,6 @@
+pub mod Kept
+pub mod Positions
+pub mod Highest
+pub mod Piece
+pub mod Growth
+pub mod Changes

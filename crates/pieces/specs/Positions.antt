@@ -1,0 +1,41 @@
+-- Lists of positions: tests on them, their order, and where one stands or is put.
+use Rattle.std.specs.Prelude.{Bool, List, [], cond, eqb, false, length, nat_lt, slice_index, suc, true, ℕ, ◌&&◌, ◌+◌, ◌<◌, ◌||◌, ◌∷◌, ◌≤◌}
+
+-- whether q is among the positions
+abbrev pub has : List ℕ → ℕ → Bool
+has [] q = false
+has (p ∷ ps) q = eqb p q || has ps q
+
+abbrev pub all : {X : Type 0} → (X → Bool) → List X → Bool
+all t [] = true
+all t (x ∷ xs) = t x && all t xs
+
+abbrev pub any : {X : Type 0} → (X → Bool) → List X → Bool
+any t [] = false
+any t (x ∷ xs) = t x || any t xs
+
+-- the positions rise strictly, from `low` on
+abbrev pub Ascends : ℕ → List ℕ → Type 0
+Ascends low [] = Unit {0}
+Ascends low (p ∷ ps) = (low < p + 1) × Ascends (p + 1) ps
+
+-- each position is below the bound
+abbrev pub AllBelow : ℕ → List ℕ → Type 0
+AllBelow bound [] = Unit {0}
+AllBelow bound (p ∷ ps) = (p < bound) × AllBelow bound ps
+
+-- how many numbers stand at the front before the first that reaches m
+abbrev pub front_below : ℕ → List ℕ → ℕ
+front_below m [] = 0
+front_below m (n ∷ ns) = cond (nat_lt n m) (suc (front_below m ns)) 0
+
+-- a position put into a rising list of positions, in order
+abbrev pub with_position : ℕ → List ℕ → List ℕ
+with_position p [] = p ∷ []
+with_position p (q ∷ qs) = cond (nat_lt q p) (q ∷ with_position p qs) (p ∷ q ∷ qs)
+
+-- j of the positions are below this one, and the next is not
+pub record IsPlaceOf (columns : List ℕ) (position j : ℕ) : Type 0 where
+  pub in_range : j ≤ length columns
+  pub below : (k : ℕ) → k < j → slice_index columns k < position
+  pub above : j < length columns → position ≤ slice_index columns j
