@@ -1,0 +1,7 @@
+pub mod Ladders
+pub mod Heights
+pub mod Lawful
+pub mod Ranges
+pub mod Forks
+pub mod Sides
+pub mod Removing

@@ -1,0 +1,7 @@
+use Rattle.std.proofs.Common.{take}
+use Rattle.std.specs.List.{All}
+use Rattle.compound_node.specs.Nodes.{StandsBelow}
+use Rattle.compound_node.proofs.entries.all_stand_below.Given as goal
+
+abbrev pub invariant-loop-entry : goal.invariant-loop-entry
+invariant-loop-entry l = All (StandsBelow l.height) (take l.entry-index l.entries)

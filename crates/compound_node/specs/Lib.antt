@@ -1,0 +1,4 @@
+pub mod Ladders
+pub mod Removal
+pub mod Nodes
+pub mod Halves

@@ -1,0 +1,117 @@
+-- What contracts see of entries, nodes and heads.
+use Rattle.std.specs.List.{All}
+use Rattle.std.specs.Int.{bit_at}
+use Rattle.std.specs.Prelude.{ℕ, ◌≡◌, ◌+◌, ◌-◌, ◌<◌, ◌≤◌, List, [], ◌∷◌, length, take, max, replicate, slice_index}
+use Rattle.compound_node.specs.Ladders.{AreSparseKeys}
+use Rattle.compound_node.specs.declared.entries.Entry.{Entry}
+use Rattle.compound_node.specs.declared.entries.Entry.TheVariants.{Leaf, Node}
+use Rattle.partial_keys.specs.Columns.{IsColumns}
+use Rattle.partial_keys.specs.Rows.{with_unused}
+use Rattle.partial_keys.specs.Shown.{piece_of}
+use Rattle.partial_keys.specs.Shows.{Shows}
+use Rattle.pieces.specs.Piece.{Piece}
+
+-- ---- entries
+-- a leaf counts 0
+abbrev pub height_of : Entry → ℕ
+height_of (Leaf number) = 0
+height_of (Node number height) = height
+
+-- a child node has a height, below the greatest one
+abbrev pub IsEntry : Entry → Type 0
+IsEntry (Leaf number) = Unit {0}
+IsEntry (Node number height) = (0 < height) × (height < 65535)
+
+-- an entry that a node of this height may have
+abbrev pub StandsBelow : ℕ → Entry → Type 0
+StandsBelow height entry = IsEntry entry × (height_of entry < height)
+
+abbrev pub greatest_height : List Entry → ℕ
+greatest_height [] = 0
+greatest_height (entry ∷ entries) = max (height_of entry) (greatest_height entries)
+
+-- ---- nodes
+-- the stored height, the columns, and for each entry its sparse partial key and what it leads to
+pub record NodeView : Type 0 where
+  pub height : ℕ
+  pub columns : List ℕ
+  pub rows : List ℕ
+  pub entries : List Entry
+
+-- the piece of a bit trie that a node shows, with the entries at its places
+abbrev pub piece : NodeView → Piece Entry
+piece node = piece_of (Leaf 0) node.columns node.rows node.entries
+
+-- columns, rows and entries of a node, whatever its height
+pub record FitTogether (columns rows : List ℕ) (entries : List Entry) : Type 0 where
+  pub several : 2 ≤ length entries
+  pub room : length entries ≤ 32
+  pub same : length rows ≡ length entries
+  pub positions : IsColumns columns
+  pub shows : Shows columns rows entries (piece_of (Leaf 0) columns rows entries)
+  pub children : All IsEntry entries
+
+-- what holds of each node
+pub record IsLawful (node : NodeView) : Type 0 where
+  pub several : 2 ≤ length node.entries
+  pub room : length node.entries ≤ 32
+  pub positions : IsColumns node.columns
+  pub shows : Shows node.columns node.rows node.entries (piece node)
+  pub children : All IsEntry node.entries
+  pub above : All (λ entry. height_of entry < node.height) node.entries
+  pub bound : node.height ≤ 65535
+
+-- a node that was built anew to show this piece: its height is one above the greatest of its entries
+pub record IsBuiltFrom (node : NodeView) (shown : Piece Entry) : Type 0 where
+  pub lawful : IsLawful node
+  pub shows_it : piece node ≡ shown
+  pub height_is : node.height ≡ 1 + greatest_height node.entries
+
+-- two entries have the same bit in each column whose position is below this one
+abbrev pub AgreeBefore : NodeView → ℕ → ℕ → ℕ → Type 0
+AgreeBefore node position i k =
+    (j : ℕ) → j < length node.columns → slice_index node.columns j < position → bit_at (slice_index node.rows i) (31 - j) ≡ bit_at (slice_index node.rows k) (31 - j)
+
+-- the node of these fields, where the places behind the entries' sparse partial keys are unused
+abbrev pub node_from : ℕ → List ℕ → List ℕ → List Entry → NodeView
+node_from height columns sparse entries = record { height = height; columns = columns; rows = take (length entries) sparse; entries = entries }
+
+-- fields that fit together, with 4,294,967,295 at the unused places
+pub record IsNode (height : ℕ) (columns sparse : List ℕ) (entries : List Entry) : Type 0 where
+  pub padded : sparse ≡ with_unused (take (length entries) sparse)
+  pub lawful : IsLawful (node_from height columns sparse entries)
+
+-- ---- heads
+-- a node without its entries
+pub record HeadView : Type 0 where
+  pub height : ℕ
+  pub columns : List ℕ
+  pub rows : List ℕ
+
+abbrev pub head_of : NodeView → HeadView
+head_of node = record { height = node.height; columns = node.columns; rows = node.rows }
+
+abbrev pub node_of : HeadView → List Entry → NodeView
+node_of head entries = record { height = head.height; columns = head.columns; rows = head.rows; entries = entries }
+
+-- some node of so many entries has these fields
+abbrev pub IsHead : ℕ → ℕ → List ℕ → List ℕ → Type 0
+IsHead count height columns sparse = (entries : List Entry) × (length entries ≡ count) × IsNode height columns sparse entries
+
+-- as many leaves
+abbrev pub leaves : ℕ → List Entry
+leaves count = replicate count (Leaf 0)
+
+-- the fields of a head fit together: a node of leaves has them
+pub record FitsHead (count : ℕ) (sparse : List ℕ) (head : HeadView) : Type 0 where
+  pub padded : sparse ≡ with_unused head.rows
+  pub counted : length head.rows ≡ count
+  pub lawful : IsLawful (node_of head (leaves count))
+
+-- columns and words of a head, apart from its height
+pub record FitsWords (count : ℕ) (columns sparse : List ℕ) : Type 0 where
+  pub several : 2 ≤ count
+  pub room : count ≤ 32
+  pub positions : IsColumns columns
+  pub padded : sparse ≡ with_unused (take count sparse)
+  pub keys : AreSparseKeys (length columns) (take count sparse)

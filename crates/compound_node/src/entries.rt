@@ -1,0 +1,141 @@
+//! What a node leads to.
+
+ghost use Rattle.std.specs.List.{All};
+ghost use Rattle.std.specs.Prelude.{◌≡◌, ◌↔◌, ◌+◌, ◌-◌, ◌<◌, ◌≤◌, ◌++◌, IsTrue, length, remove, slice_set};
+ghost use Rattle.arrayvec.specs.ArrayVec.{array_vec_len};
+ghost use Rattle.pieces.specs.Growth.{edited, forked_places};
+ghost use Rattle.compound_node.specs.Nodes.{IsEntry, StandsBelow, greatest_height};
+
+use arrayvec::ArrayVec;
+
+/// What a node has at a place: a leaf record by its number, or a child node by its number and its
+/// stored height. In a node the height of a child is from 1 to 65,534.
+#[derive(Clone, Copy, Debug, PartialEq, Eq)]
+pub enum Entry {
+    Leaf(u32),
+    Node { number: u32, height: u16 },
+}
+
+impl Default for Entry {
+    fn default() -> Self {
+        Entry::Leaf(0)
+    }
+}
+
+impl Entry {
+    ghost use Rattle.std.specs.Prelude.{◌≡◌};
+    ghost use Rattle.compound_node.specs.Nodes.{height_of};
+
+    /// The height of a child node. A leaf counts 0.
+    pub fn height(&self) -> u16
+        ensures { result ≡ height_of self.now }
+    {
+        match self {
+            Entry::Leaf(_) => 0,
+            Entry::Node { height, .. } => *height,
+        }
+    }
+}
+
+/// The height of a new node over these entries.
+pub(crate) fn height_over(entries: &[Entry]) -> u16
+    requires { All IsEntry entries.now }
+    ensures { result ≡ 1 + greatest_height entries.now }
+{
+    let mut greatest = 0;
+    for i in (0..entries.len()).rev() {
+        greatest = entries[i].height().max(greatest);
+    }
+    1 + greatest
+}
+
+/// Whether an entry can stand in a node of this height.
+fn stands_below(entry: Entry, height: u16) -> bool
+    ensures { IsTrue result ↔ StandsBelow height entry }
+{
+    match entry {
+        Entry::Leaf(_) => 0 < height,
+        Entry::Node { height: child, .. } => 0 < child && child < height,
+    }
+}
+
+/// Whether all entries can stand in a node of this height.
+pub(crate) fn all_stand_below(entries: &[Entry], height: u16) -> bool
+    ensures { IsTrue result ↔ All (StandsBelow height) entries.now }
+{
+    for entry in entries {
+        if !stands_below(*entry, height) {
+            return false;
+        }
+    }
+    true
+}
+
+/// The list of these entries.
+pub(crate) fn listed(entries: &[Entry]) -> ArrayVec<Entry, 32>
+    requires { length entries.now ≤ 32 }
+    ensures { result.items ≡ entries.now }
+{
+    let mut list = ArrayVec::new();
+    append(&mut list, entries);
+    list
+}
+
+/// The entries with a new one straight after `last` or straight before `first`.
+pub(crate) fn inserted(
+    entries: &[Entry],
+    first: usize,
+    last: usize,
+    bit: bool,
+    entry: Entry,
+) -> ArrayVec<Entry, 32>
+    requires room { length entries.now < 32 }
+    requires range { first ≤ last }
+    requires in_range { last < length entries.now }
+    ensures { result.items ≡ edited first (last + 1 - first) (forked_places bit entry) entries.now }
+{
+    let mut list = ArrayVec::new();
+    append(&mut list, &entries[..first]);
+    if bit {
+        append(&mut list, &entries[first..last + 1]);
+        list.push(entry);
+    } else {
+        list.push(entry);
+        append(&mut list, &entries[first..last + 1]);
+    }
+    append(&mut list, &entries[last + 1..]);
+    list
+}
+
+/// The entries without the one at a place.
+pub(crate) fn removed(entries: &[Entry], at: usize) -> ArrayVec<Entry, 32>
+    requires room { length entries.now ≤ 32 }
+    requires in_range { at < length entries.now }
+    ensures { result.items ≡ remove entries.now at }
+{
+    let mut list = listed(entries);
+    list.remove(at);
+    list
+}
+
+/// The entries with another one at a place.
+pub(crate) fn replaced(entries: &[Entry], at: usize, entry: Entry) -> ArrayVec<Entry, 32>
+    requires room { length entries.now ≤ 32 }
+    requires in_range { at < length entries.now }
+    ensures { result.items ≡ slice_set entries.now at entry }
+{
+    let mut list = ArrayVec::new();
+    append(&mut list, &entries[..at]);
+    list.push(entry);
+    append(&mut list, &entries[at + 1..]);
+    list
+}
+
+fn append(list: &mut ArrayVec<Entry, 32>, entries: &[Entry])
+    requires { array_vec_len list.old + length entries.now ≤ 32 }
+    ensures { list.new.items ≡ list.old.items ++ entries.now }
+{
+    for entry in entries {
+        list.push(*entry);
+    }
+}

@@ -1,0 +1,153 @@
+//! Nodes without their entries.
+
+ghost use Rattle.std.specs.Prelude.{◌↔◌, IsTrue};
+ghost use Rattle.compound_node.specs.Nodes.{FitsWords};
+ghost use Rattle.partial_keys.specs.Columns.{IsColumns};
+
+use super::rows::{are_sparse_keys, is_padded, padded};
+use key_bits::Key;
+use partial_keys::{Columns, search_lanes};
+use std::marker::Model;
+
+/// A node without its entries: its stored height, its columns, and a sparse partial key for each
+/// entry. A search reads no more.
+#[derive(Drop)]
+pub struct Head {
+    height: u16,
+    count: u8,
+    columns: Columns,
+    sparse: [u32; 32],
+}
+
+impl Model for Head {
+    ghost use Rattle.std.specs.Prelude.{take};
+    ghost use Rattle.compound_node.specs.Nodes.{FitsHead, HeadView};
+
+    ghost Value = { HeadView };
+
+    ghost view = { λ h. record { height = h.height; columns = h.columns; rows = take h.count h.sparse } };
+
+    ghost invariant = { λ h. FitsHead h.count h.sparse (record { height = h.height; columns = h.columns; rows = take h.count h.sparse }) };
+}
+
+impl Head {
+    ghost use Rattle.std.specs.Prelude.{◌≡◌, ◌↔◌, ◌<◌, ◌≤◌, IsSome, IfSome, length, slice_index, take};
+    ghost use Rattle.compound_node.specs.Nodes.{IsHead, IsLawful, NodeView, head_of, leaves, node_of, piece};
+    ghost use Rattle.key_bits.specs.Bits.{bit_of};
+    ghost use Rattle.pieces.specs.Piece.{leads_to};
+
+    /// The head of these fields, where some node has them: `count` entries, and 4,294,967,295 at
+    /// the unused sparse partial keys.
+    pub fn from_parts(count: u8, height: u16, columns: &[u16], sparse: &[u32; 32]) -> Option<Head>
+        ensures some { IsSome result ↔ IsHead count height columns.now sparse.now }
+        ensures head { IfSome result (λ head. head ≡ record { height = height; columns = columns.now; rows = take count sparse.now }) }
+    {
+        if height > 0 && fits(count, columns, sparse) {
+            Some(Head {
+                height,
+                count,
+                columns: Columns::of(columns),
+                sparse: *sparse,
+            })
+        } else {
+            None
+        }
+    }
+
+    /// How many entries the node has, 2 to 32.
+    pub fn count(&self) -> u8
+        ensures count { result ≡ length self.now.rows }
+        ensures lawful { IsLawful (node_of self.now (leaves result)) }
+    {
+        self.count
+    }
+
+    /// The node's stored height.
+    pub fn height(&self) -> u16
+        ensures { result ≡ self.now.height }
+    {
+        self.height
+    }
+
+    /// The place to which the forks lead, in each node that has this head.
+    pub fn search(&self, key: &Key) -> u8
+        ensures leads { (node : NodeView) → IsLawful node → head_of node ≡ self.now → result ≡ leads_to (bit_of key.now) (piece node) }
+        ensures in_range { result < length self.now.rows }
+    {
+        search_lanes(&self.sparse, self.columns.dense(key))
+    }
+
+    /// The head over these rows.
+    pub(crate) fn over(height: u16, columns: Columns, rows: &[u32]) -> Head
+        requires { IsLawful (node_of (record { height = height; columns = columns; rows = rows.now }) (leaves (length rows.now))) }
+        ensures { result ≡ record { height = height; columns = columns; rows = rows.now } }
+    {
+        Head {
+            height,
+            count: rows.len() as u8,
+            columns,
+            sparse: padded(rows),
+        }
+    }
+
+    pub(crate) fn copy(&self) -> Head
+        ensures { result ≡ self.now }
+    {
+        Head {
+            height: self.height,
+            count: self.count,
+            columns: self.columns,
+            sparse: self.sparse,
+        }
+    }
+
+    pub(crate) fn columns(&self) -> &Columns
+        ensures { result.now ≡ self.now.columns }
+    {
+        &self.columns
+    }
+
+    pub(crate) fn rows(&self) -> &[u32]
+        ensures { result.now ≡ self.now.rows }
+    {
+        &self.sparse[..self.count as usize]
+    }
+
+    /// The word at a place, used or unused.
+    pub(crate) fn word(&self, at: u8) -> u32
+        requires { at < 32 }
+        ensures used { at < length self.now.rows → result ≡ slice_index self.now.rows at }
+        ensures unused { length self.now.rows ≤ at → result ≡ 4294967295 }
+    {
+        self.sparse[at as usize]
+    }
+}
+
+/// Whether a head of some height has these fields.
+fn fits(count: u8, columns: &[u16], sparse: &[u32; 32]) -> bool
+    ensures { IsTrue result ↔ FitsWords count columns.now sparse.now }
+{
+    let used = count as usize;
+    2 <= used
+        && used <= 32
+        && are_columns(columns)
+        && is_padded(sparse, used)
+        && are_sparse_keys(&sparse[..used], columns.len())
+}
+
+/// Whether these are 1 to 31 positions that rise strictly, each below 65,535.
+fn are_columns(positions: &[u16]) -> bool
+    ensures { IsTrue result ↔ IsColumns positions.now }
+{
+    if positions.is_empty() || positions.len() > 31 {
+        return false;
+    }
+    let mut least = 0;
+    for position in positions {
+        if *position < least || *position == u16::MAX {
+            return false;
+        }
+        least = *position + 1;
+    }
+    true
+}

@@ -1,0 +1,217 @@
+//! Compound nodes.
+
+use super::building::{built, with_fork};
+use super::entries::{Entry, all_stand_below, listed, replaced};
+use super::halves::{Cut, Half, cut_of, rest_of};
+use super::heads::Head;
+use super::rows::{run_end, run_start};
+use arrayvec::ArrayVec;
+use key_bits::Key;
+use partial_keys::Columns;
+use std::marker::Model;
+
+/// A compound node of 2 to 32 entries, in the order of their keys. It shows a piece of a bit trie:
+/// its 1 to 31 columns are the positions of the piece's forks, and the sparse partial key of an
+/// entry has a 1 exactly where the entry's path takes the 1 side of a fork. The stored height is
+/// above that of each entry.
+#[derive(Drop)]
+pub struct Node {
+    head: Head,
+    entries: ArrayVec<Entry, 32>,
+}
+
+impl Model for Node {
+    ghost use Rattle.compound_node.specs.Nodes.{IsLawful, NodeView, node_of};
+
+    ghost Value = { NodeView };
+
+    ghost view = { λ n. node_of n.head n.entries.items };
+
+    ghost invariant = { λ n. IsLawful (node_of n.head n.entries.items) };
+}
+
+impl Node {
+    ghost use Rattle.std.specs.Prelude.{◌≡◌, ℕ, ◌↔◌, ◌+◌, ◌<◌, ◌≤◌, IsSome, IfSome, Some, length, slice_get, slice_index, slice_set};
+    ghost use Rattle.compound_node.specs.Halves.{CutShows, HalfShows};
+    ghost use Rattle.compound_node.specs.Nodes.{AgreeBefore, IsBuiltFrom, IsEntry, IsLawful, IsNode, StandsBelow, head_of, node_from, node_of, piece};
+    ghost use Rattle.key_bits.specs.Bits.{bit_of};
+    ghost use Rattle.pieces.specs.Changes.{without};
+    ghost use Rattle.pieces.specs.Changes.{replaced as replaced_place};
+    ghost use Rattle.pieces.specs.Growth.{IsAffected, affected_count, affected_first, grown};
+    ghost use Rattle.pieces.specs.Piece.{Fork, Place, leads_to};
+
+    /// The node of these fields, where they fit together: the columns are 1 to 31 positions that
+    /// rise strictly, the sparse partial keys show a piece over them, the unused ones are
+    /// 4,294,967,295, and the entries can stand in a node of this height.
+    pub fn from_parts(
+        height: u16,
+        columns: &[u16],
+        sparse: &[u32; 32],
+        entries: &[Entry],
+    ) -> Option<Node>
+        ensures some { IsSome result ↔ IsNode height columns.now sparse.now entries.now }
+        ensures node { IfSome result (λ node. node ≡ node_from height columns.now sparse.now entries.now) }
+    {
+        if entries.len() > 32 || !all_stand_below(entries, height) {
+            return None;
+        }
+        let head = Head::from_parts(entries.len() as u8, height, columns, sparse)?;
+        Some(Node::of(head, listed(entries)))
+    }
+
+    /// The node of two entries that part at a position. The height is one above theirs.
+    pub fn pair(position: u16, zero: Entry, one: Entry) -> Node
+        requires below { position < 65535 }
+        requires zero { IsEntry zero }
+        requires one { IsEntry one }
+        ensures { IsBuiltFrom result (Fork position (Place zero) (Place one)) }
+    {
+        let mut entries = ArrayVec::new();
+        entries.push(zero);
+        entries.push(one);
+        built(Columns::of(&[position]), &[0, 1 << 31], entries)
+    }
+
+    /// How many entries there are, 2 to 32.
+    pub fn count(&self) -> u8
+        ensures count { result ≡ length self.now.entries }
+        ensures lawful { IsLawful self.now }
+    {
+        self.head.count()
+    }
+
+    /// The stored height.
+    pub fn height(&self) -> u16
+        ensures { result ≡ self.now.height }
+    {
+        self.head.height()
+    }
+
+    /// The positions of the forks.
+    pub fn columns(&self) -> &Columns
+        ensures { result.now ≡ self.now.columns }
+    {
+        self.head.columns()
+    }
+
+    /// The sparse partial key of an entry, or 4,294,967,295 at an unused place.
+    pub fn sparse(&self, i: u8) -> u32
+        requires { i < 32 }
+        ensures used { i < length self.now.rows → result ≡ slice_index self.now.rows i }
+        ensures unused { length self.now.rows ≤ i → result ≡ 4294967295 }
+    {
+        self.head.word(i)
+    }
+
+    /// What the node has at a place.
+    pub fn entry(&self, i: u8) -> Entry
+        requires { i < length self.now.entries }
+        ensures entry { slice_get self.now.entries i ≡ Some result }
+        ensures stands { StandsBelow self.now.height result }
+    {
+        self.entries[i as usize]
+    }
+
+    /// The node without its entries.
+    pub fn head(&self) -> Head
+        ensures { result ≡ head_of self.now }
+    {
+        self.head.copy()
+    }
+
+    /// The place to which the forks lead.
+    pub fn search(&self, key: &Key) -> u8
+        ensures leads { result ≡ leads_to (bit_of key.now) (piece self.now) }
+        ensures in_range { result < length self.now.entries }
+    {
+        self.head.search(key)
+    }
+
+    /// The first and the last of the entries that agree with entry `found` in all columns whose
+    /// position is below this one: those that a new fork at the position concerns.
+    pub fn affected(&self, found: u8, position: u16) -> (u8, u8)
+        requires { found < length self.now.entries }
+        ensures range { (k : ℕ) → k < length self.now.entries → AgreeBefore self.now position found k ↔ ((result.0 ≤ k) × (k ≤ result.1)) }
+
+        // In terms of the piece: the part below the forks before the position, on the way to entry `found`.
+        ensures from { affected_first position found (piece self.now) ≡ result.0 }
+        ensures upto { affected_count position found (piece self.now) + result.0 ≡ result.1 + 1 }
+    {
+        let rows = self.head.rows();
+        let columns = self.head.columns().below(position) as usize;
+        (
+            run_start(rows, columns, found as usize) as u8,
+            run_end(rows, columns, found as usize) as u8,
+        )
+    }
+
+    /// The node with a new fork over the entries from `first` to `last`, where they part from the
+    /// new entry. With bit 1 that stands straight after them, with bit 0 straight before. The
+    /// height is built anew.
+    pub fn insert(&self, first: u8, last: u8, position: u16, bit: bool, entry: Entry) -> Node
+        requires room { length self.now.entries < 32 }
+        requires range { IsAffected (piece self.now) position first last }
+        requires below { position < 65535 }
+        requires entry { IsEntry entry }
+        ensures { IsBuiltFrom result (grown position bit entry first (piece self.now)) }
+    {
+        with_fork(
+            *self.head.columns(),
+            self.head.rows(),
+            self.entries.as_slice(),
+            first as usize,
+            last as usize,
+            position,
+            bit,
+            entry,
+        )
+    }
+
+    /// The node with another entry at a place. The stored height stays.
+    pub fn replace(&self, i: u8, entry: Entry) -> Node
+        requires in_range { i < length self.now.entries }
+        requires stands { StandsBelow self.now.height entry }
+        ensures fields { result ≡ record self.now { entries = slice_set self.now.entries i entry } }
+        ensures piece { piece result ≡ replaced_place i entry (piece self.now) }
+        ensures lawful { IsLawful result }
+    {
+        Node::of(
+            self.head.copy(),
+            replaced(self.entries.as_slice(), i as usize, entry),
+        )
+    }
+
+    /// The two sides of the root fork, each without the columns that it doesn't use and with its
+    /// height built anew. Neither is `Same`.
+    pub fn cut(&self) -> Cut
+        ensures { CutShows result (piece self.now) }
+    {
+        cut_of(
+            self.head.columns(),
+            self.head.rows(),
+            self.entries.as_slice(),
+        )
+    }
+
+    /// The node without an entry, and without the last fork on its path: the fork's other side
+    /// takes its place. It is never `Same`.
+    pub fn without(&self, i: u8) -> Half
+        requires { i < length self.now.entries }
+        ensures { HalfShows result (without i (piece self.now)) }
+    {
+        rest_of(
+            self.head.columns(),
+            self.head.rows(),
+            self.entries.as_slice(),
+            i as usize,
+        )
+    }
+
+    /// The node of a head and entries.
+    pub(crate) fn of(head: Head, entries: ArrayVec<Entry, 32>) -> Node
+        requires { IsLawful (node_of head entries.items) }
+        ensures { result ≡ node_of head entries.items }
+    {
+        Node { head, entries }
+    }
+}

@@ -1,0 +1,291 @@
+//! Sparse partial keys as rows of 32 bits, the column of the lowest position as the highest bit.
+
+ghost use Rattle.std.specs.Prelude.{◌≡◌, ◌+◌, ◌-◌, ◌%◌, ◌^◌, ◌<◌, ◌≤◌, ◌↔◌, ◌++◌, IsTrue, map, length, take, bit_or};
+ghost use Rattle.arrayvec.specs.ArrayVec.{array_vec_len};
+ghost use Rattle.key_bits.specs.Gather.{code};
+ghost use Rattle.partial_keys.specs.Rows.{with_unused};
+ghost use Rattle.partial_keys.specs.Runs.{agree_in, IsRunStart, IsRunEnd};
+ghost use Rattle.partial_keys.specs.Spread.{spread_row, forked_rows};
+ghost use Rattle.partial_keys.specs.Squeezed.{bits_of, squeezed, or_all};
+ghost use Rattle.pieces.specs.Growth.{edited};
+ghost use Rattle.pieces.specs.Kept.{kept};
+ghost use Rattle.pieces.specs.Positions.{front_below};
+ghost use Rattle.compound_node.specs.Ladders.{AreSparseKeys, IsLadder};
+ghost use Rattle.compound_node.specs.Removal.{lowest, bit_after, cleared_front, removed_row};
+
+use arrayvec::ArrayVec;
+
+/// The rows, with the unused places filled.
+pub(crate) fn padded(rows: &[u32]) -> [u32; 32]
+    requires { length rows.now ≤ 32 }
+    ensures { result ≡ with_unused rows.now }
+{
+    let mut out = [u32::MAX; 32];
+    for (i, row) in rows.iter().enumerate() {
+        out[i] = *row;
+    }
+    out
+}
+
+/// Whether the places from `count` on are unused.
+pub(crate) fn is_padded(sparse: &[u32; 32], count: usize) -> bool
+    requires { count ≤ 32 }
+    ensures { IsTrue result ↔ (sparse.now ≡ with_unused (take count sparse.now)) }
+{
+    for i in count..32 {
+        if sparse[i] != u32::MAX {
+            return false;
+        }
+    }
+    true
+}
+
+/// Whether these are the rows of some piece over so many columns.
+pub(crate) fn are_sparse_keys(rows: &[u32], columns: usize) -> bool
+    requires some { 0 < length rows.now }
+    requires few { columns ≤ 31 }
+    ensures { IsTrue result ↔ AreSparseKeys columns rows.now }
+{
+    is_ladder(rows) && joined(rows) == !(u32::MAX >> columns)
+}
+
+/// Whether each row comes next after the one before it, the first being 0.
+fn is_ladder(rows: &[u32]) -> bool
+    requires { 0 < length rows.now }
+    ensures { IsTrue result ↔ IsLadder rows.now }
+{
+    for i in 1..rows.len() {
+        let row = rows[i];
+        if row <= rows[i - 1] || row & (row - 1) > rows[i - 1] {
+            return false;
+        }
+    }
+    rows[0] == 0
+}
+
+/// All rows joined.
+pub(crate) fn joined(rows: &[u32]) -> u32
+    ensures { result ≡ or_all rows.now }
+{
+    let mut all = 0;
+    for i in (0..rows.len()).rev() {
+        all |= rows[i];
+    }
+    all
+}
+
+fn append(out: &mut ArrayVec<u32, 32>, rows: &[u32])
+    requires { array_vec_len out.old + length rows.now ≤ 32 }
+    ensures { out.new.items ≡ out.old.items ++ rows.now }
+{
+    for row in rows {
+        out.push(*row);
+    }
+}
+
+// ---- a new column and a new fork
+
+/// A row with a new column at place `j`, in which it has 0.
+fn spread(row: u32, j: u8) -> u32
+    requires { j ≤ 31 }
+    ensures { result ≡ spread_row j row }
+{
+    let low = u32::MAX >> j;
+    row & !low | (row & low) >> 1
+}
+
+pub(crate) fn spread_all(rows: &[u32], j: u8) -> ArrayVec<u32, 32>
+    requires column { j ≤ 31 }
+    requires room { length rows.now ≤ 32 }
+    ensures { result.items ≡ map (spread_row j) rows.now }
+{
+    let mut out = ArrayVec::new();
+    for row in rows {
+        out.push(spread(*row, j));
+    }
+    out
+}
+
+fn append_with(out: &mut ArrayVec<u32, 32>, rows: &[u32], bits: u32)
+    requires { array_vec_len out.old + length rows.now ≤ 32 }
+    ensures { out.new.items ≡ out.old.items ++ map (λ row. bit_or row bits) rows.now }
+{
+    for row in rows {
+        out.push(*row | bits);
+    }
+}
+
+/// The rows with a new fork over those from `first` to `last`.
+pub(crate) fn forked(
+    rows: &[u32],
+    first: usize,
+    last: usize,
+    weight: u32,
+    bit: bool,
+) -> ArrayVec<u32, 32>
+    requires room { length rows.now < 32 }
+    requires range { first ≤ last }
+    requires in_range { last < length rows.now }
+    ensures { result.items ≡ edited first (last + 1 - first) (forked_rows weight bit) rows.now }
+{
+    let mut out = ArrayVec::new();
+    append(&mut out, &rows[..first]);
+    if bit {
+        append(&mut out, &rows[first..last + 1]);
+        out.push(rows[first] | weight);
+    } else {
+        out.push(rows[first]);
+        append_with(&mut out, &rows[first..last + 1], weight);
+    }
+    append(&mut out, &rows[last + 1..]);
+    out
+}
+
+// ---- the rows round one
+
+/// Whether two rows agree in the first columns, so many of them.
+fn agree(a: u32, b: u32, columns: usize) -> bool
+    requires { columns ≤ 31 }
+    ensures { result ≡ agree_in columns a b }
+{
+    columns == 0 || a >> (32 - columns) == b >> (32 - columns)
+}
+
+/// The first of the rows round `found` that agree with it in the first columns.
+pub(crate) fn run_start(rows: &[u32], columns: usize, found: usize) -> usize
+    requires few { columns ≤ 31 }
+    requires in_range { found < length rows.now }
+    ensures { IsRunStart rows.now columns found result }
+{
+    for i in (0..found).rev() {
+        if !agree(rows[i], rows[found], columns) {
+            return i + 1;
+        }
+    }
+    0
+}
+
+/// The last of the rows round `found` that agree with it in the first columns.
+pub(crate) fn run_end(rows: &[u32], columns: usize, found: usize) -> usize
+    requires few { columns ≤ 31 }
+    requires in_range { found < length rows.now }
+    ensures { IsRunEnd rows.now columns found result }
+{
+    for i in found + 1..rows.len() {
+        if !agree(rows[i], rows[found], columns) {
+            return i - 1;
+        }
+    }
+    rows.len() - 1
+}
+
+// ---- the two sides of the first column
+
+/// How many rows have 0 in the first column.
+pub(crate) fn front_len(rows: &[u32]) -> usize
+    ensures value { result ≡ front_below (2 ^ 31) rows.now }
+    ensures within { result ≤ length rows.now }
+{
+    for (i, row) in rows.iter().enumerate() {
+        if *row >= 1 << 31 {
+            return i;
+        }
+    }
+    rows.len()
+}
+
+/// The rows with 0 in the first column.
+pub(crate) fn cleared(rows: &[u32]) -> ArrayVec<u32, 32>
+    requires { length rows.now ≤ 32 }
+    ensures { result.items ≡ map (λ r. r % 2 ^ 31) rows.now }
+{
+    let mut out = ArrayVec::new();
+    for row in rows {
+        out.push(*row % (1 << 31));
+    }
+    out
+}
+
+/// The `width` low bits of the row at which `used` has a 1, put side by side below bit `place`.
+fn squeeze(row: u32, used: u32, width: u32, place: u32) -> u32
+    requires low { width ≤ place }
+    requires high { place ≤ 32 }
+    ensures { result ≡ code place (kept (bits_of width used) (bits_of width row)) }
+{
+    if width == 0 {
+        0
+    } else if used >> (width - 1) & 1 == 0 {
+        squeeze(row, used, width - 1, place)
+    } else {
+        let rest = squeeze(row, used, width - 1, place - 1);
+        if row >> (width - 1) & 1 == 0 {
+            rest
+        } else {
+            1 << (place - 1) | rest
+        }
+    }
+}
+
+/// The rows over the columns at which `used` has a 1.
+pub(crate) fn squeeze_all(rows: &[u32], used: u32) -> ArrayVec<u32, 32>
+    requires { length rows.now ≤ 32 }
+    ensures { result.items ≡ map (squeezed used) rows.now }
+{
+    let mut out = ArrayVec::new();
+    for row in rows {
+        out.push(squeeze(*row, used, 32, 32));
+    }
+    out
+}
+
+// ---- a row less
+
+/// The lowest 1 of a row.
+fn lowest_bit(row: u32) -> u32
+    requires { 0 < row }
+    ensures { result ≡ lowest row }
+{
+    row - (row & (row - 1))
+}
+
+/// The bit of the last fork on the path to place `at`, if the place is the fork's 0 side, else 0.
+fn sibling_bit(rows: &[u32], at: usize) -> u32
+    requires ladder { IsLadder rows.now }
+    requires in_range { at < length rows.now }
+    ensures { result ≡ bit_after at rows.now }
+{
+    if at + 1 == rows.len() {
+        return 0;
+    }
+    let after = lowest_bit(rows[at + 1]);
+    if at == 0 || after < lowest_bit(rows[at]) {
+        after
+    } else {
+        0
+    }
+}
+
+/// Puts the rows behind, the front ones that have the bit without it.
+fn append_cleared(out: &mut ArrayVec<u32, 32>, rows: &[u32], bit: u32)
+    requires { array_vec_len out.old + length rows.now ≤ 32 }
+    ensures { out.new.items ≡ out.old.items ++ cleared_front bit rows.now }
+{
+    let mut front = true;
+    for row in rows {
+        front = front && *row & bit != 0;
+        out.push(if front { *row - (*row & bit) } else { *row });
+    }
+}
+
+/// The rows without row `at`. Where its place is the 0 side of its last fork, the rows of the 1 side lose their 1 there.
+pub(crate) fn without_row(rows: &[u32], at: usize) -> ArrayVec<u32, 32>
+    requires ladder { IsLadder rows.now }
+    requires room { length rows.now ≤ 32 }
+    requires in_range { at < length rows.now }
+    ensures { result.items ≡ removed_row at rows.now }
+{
+    let mut out = ArrayVec::new();
+    append(&mut out, &rows[..at]);
+    append_cleared(&mut out, &rows[at + 1..], sibling_bit(rows, at));
+    out
+}

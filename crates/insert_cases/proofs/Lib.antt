@@ -1,0 +1,4 @@
+pub mod Grafting
+pub mod NodeFacts
+pub mod Affecting
+pub mod Choosing

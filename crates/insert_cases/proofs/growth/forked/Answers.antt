@@ -1,0 +1,102 @@
+-- A leaf in the entry's place, the higher entry beside it, and the lower one in the leaf's place.
+use Rattle.std.proofs.Common.{◌≡◌, ℕ, ◌+◌, ◌<◌, ◌≤◌, ap, sym, ◌∙◌, arith, length, true, false, Bool}
+use Rattle.compound_node.specs.Nodes.{NodeView, piece, IsLawful, IsBuiltFrom, height_of, greatest_height}
+use Rattle.compound_node.specs.declared.entries.Entry.{Entry}
+use Rattle.compound_node.specs.declared.entries.Entry.TheVariants.{Leaf}
+use Rattle.pieces.specs.Changes.{replaced}
+use Rattle.pieces.specs.Growth.{forked, grown, IsAffected}
+use Rattle.pieces.specs.Piece.{Place, size, places}
+use Rattle.insert_cases.specs.Grafts.{grafted, IsAbovePath}
+use Rattle.insert_cases.proofs.Grafting.{old_at, size-replaced, size-grown, affected_alone, replaced-grown}
+use Rattle.insert_cases.proofs.NodeFacts.{size-piece, height_positive, greatest-grown, greatest-grafted}
+use Rattle.insert_cases.proofs.growth.forked.Goals as goal
+
+-- the node with a leaf in the entry's place
+module _ (n d : NodeView) (i : ℕ) (lawful_n : IsLawful n) (lawful_d : IsLawful d) (cleared : piece d ≡ replaced i (Leaf 0) (piece n)) where
+  same_length : length d.entries ≡ length n.entries
+  same_length = sym (size-piece d lawful_d) ∙ (ap size cleared ∙ (size-replaced i (Leaf 0) (piece n) ∙ size-piece n lawful_n))
+
+  in_reach : i < length n.entries → i < size (piece n)
+  in_reach h = let e = size-piece n lawful_n in omega arith
+
+  alone : (position : ℕ) → i < length n.entries → IsAbovePath position i (piece n) → IsAffected (piece d) position i i
+  alone position h a = rw cleared (affected_alone position i (Leaf 0) (piece n) (in_reach h) a)
+
+  -- and the higher entry beside it
+  module _ (position : ℕ) (bit : Bool) (x y : Entry) (g : NodeView) (grew : IsBuiltFrom g (grown position bit x i (piece d))) where
+    longer : length g.entries ≡ length n.entries + 1
+    longer =
+        sym (size-piece g grew.lawful) ∙ (ap size grew.shows_it ∙ (size-grown position bit x i (piece d) ∙
+        (ap (λ m. m + 1) (size-piece d lawful_d ∙ same_length))))
+
+    taller : height_of y ≤ height_of x → height_of y < g.height
+    taller h =
+        let e : greatest_height g.entries ≡ greatest_height (places (grown position bit x i (piece d))) = ap greatest_height (grew.lawful.shows.entries_are ∙ ap places grew.shows_it) in
+        omega (arith, grew.height_is, greatest-grown position bit x i (piece d))
+
+    -- and the lower one in the leaf's place
+    whole : (r : NodeView) → IsLawful r → piece r ≡ replaced (old_at bit i) y (piece g) → r.height ≡ g.height → height_of y ≤ height_of x →
+        i < length n.entries → IsAbovePath position i (piece n) → IsBuiltFrom r (grafted i (forked position bit x (Place y)) (piece n))
+    whole r lawful_r replaced_it same_height h j a =
+        let shows : piece r ≡ grafted i (forked position bit x (Place y)) (piece n) =
+        replaced_it ∙ (ap (replaced (old_at bit i) y) (grew.shows_it ∙ ap (grown position bit x i) cleared) ∙ replaced-grown position bit x y (Leaf 0) i (piece n) (in_reach j) a) in
+        let tall : greatest_height r.entries ≡ greatest_height g.entries =
+        ap greatest_height (lawful_r.shows.entries_are ∙ ap places shows) ∙
+        (greatest-grafted position bit x y (Leaf 0) i (piece n) h (omega arith) a ∙
+        sym (ap greatest_height (grew.lawful.shows.entries_are ∙ ap places (grew.shows_it ∙ ap (grown position bit x i) cleared)))) in
+        record { lawful = lawful_r; shows_it = shows; height_is = same_height ∙ (grew.height_is ∙ ap (λ m. 1 + m) (sym tall)) }
+
+pub replace-cleared-requires-clause-stands : goal.replace-cleared-requires-clause-stands
+replace-cleared-requires-clause-stands c = (tt, height_positive c.args.node.now c.requires.lawful)
+
+pub insert-grown-requires-clause-room : goal.insert-grown-requires-clause-room
+insert-grown-requires-clause-room c =
+    let e = same_length c.args.node.now c.replace-cleared.result c.args.at c.requires.lawful c.replace-cleared.ensures.lawful c.replace-cleared.ensures.piece in omega (arith, c.requires.room)
+
+pub insert-grown-requires-clause-range : goal.insert-grown-requires-clause-range
+insert-grown-requires-clause-range c =
+    alone c.args.node.now c.replace-cleared.result c.args.at c.requires.lawful c.replace-cleared.ensures.lawful c.replace-cleared.ensures.piece c.args.position c.requires.place c.requires.path
+
+pub replace-requires-clause-in_range : goal.replace-requires-clause-in_range
+replace-requires-clause-in_range c =
+    let e = longer c.args.node.now c.replace-cleared.result c.args.at c.requires.lawful c.replace-cleared.ensures.lawful c.replace-cleared.ensures.piece
+    c.args.position true c.args.one c.args.zero c.insert-grown.result c.insert-grown.ensures in omega (arith, c.requires.place)
+
+pub replace-requires-clause-stands : goal.replace-requires-clause-stands
+replace-requires-clause-stands c = (
+  c.requires.zero,
+  taller c.args.node.now c.replace-cleared.result c.args.at c.requires.lawful c.replace-cleared.ensures.lawful c.replace-cleared.ensures.piece
+      c.args.position true c.args.one c.args.zero c.insert-grown.result c.insert-grown.ensures (omega arith),
+)
+
+pub insert-grown-requires-else-height-clause-room : goal.insert-grown-requires-else-height-clause-room
+insert-grown-requires-else-height-clause-room c =
+    let e = same_length c.args.node.now c.replace-cleared.result c.args.at c.requires.lawful c.replace-cleared.ensures.lawful c.replace-cleared.ensures.piece in omega (arith, c.requires.room)
+
+pub insert-grown-requires-else-height-clause-range : goal.insert-grown-requires-else-height-clause-range
+insert-grown-requires-else-height-clause-range c =
+    alone c.args.node.now c.replace-cleared.result c.args.at c.requires.lawful c.replace-cleared.ensures.lawful c.replace-cleared.ensures.piece c.args.position c.requires.place c.requires.path
+
+pub replace-requires-else-height-clause-in_range : goal.replace-requires-else-height-clause-in_range
+replace-requires-else-height-clause-in_range c =
+    let e = longer c.args.node.now c.replace-cleared.result c.args.at c.requires.lawful c.replace-cleared.ensures.lawful c.replace-cleared.ensures.piece
+    c.args.position false c.args.zero c.args.one c.insert-grown-else-height.result c.insert-grown-else-height.ensures in omega (arith, c.requires.place)
+
+pub replace-requires-else-height-clause-stands : goal.replace-requires-else-height-clause-stands
+replace-requires-else-height-clause-stands c = (
+  c.requires.one,
+  taller c.args.node.now c.replace-cleared.result c.args.at c.requires.lawful c.replace-cleared.ensures.lawful c.replace-cleared.ensures.piece
+      c.args.position false c.args.zero c.args.one c.insert-grown-else-height.result c.insert-grown-else-height.ensures (omega arith),
+)
+
+pub returns-then-height : goal.returns-then-height
+returns-then-height c =
+    whole c.args.node.now c.replace-cleared.result c.args.at c.requires.lawful c.replace-cleared.ensures.lawful c.replace-cleared.ensures.piece
+    c.args.position true c.args.one c.args.zero c.insert-grown.result c.insert-grown.ensures
+    c.replace.result c.replace.ensures.lawful c.replace.ensures.piece (ap (λ (n : NodeView). n.height) c.replace.ensures.fields) (omega arith) c.requires.place c.requires.path
+
+pub returns-else-height : goal.returns-else-height
+returns-else-height c =
+    whole c.args.node.now c.replace-cleared.result c.args.at c.requires.lawful c.replace-cleared.ensures.lawful c.replace-cleared.ensures.piece
+    c.args.position false c.args.zero c.args.one c.insert-grown-else-height.result c.insert-grown-else-height.ensures
+    c.replace-else-height.result c.replace-else-height.ensures.lawful c.replace-else-height.ensures.piece (ap (λ (n : NodeView). n.height) c.replace-else-height.ensures.fields) (omega arith) c.requires.place c.requires.path

@@ -1,0 +1,6 @@
+use Rattle.std.proofs.Common.{sym, ◌∙◌}
+use Rattle.insert_cases.proofs.NodeFacts.{size-piece}
+use Rattle.insert_cases.proofs.growth.half_count.Goals as goal
+
+pub returns-in-Many : goal.returns-in-Many
+returns-in-Many c = rw c.in-Many.is (c.count.ensures.count ∙ sym (size-piece c.in-Many.node c.count.ensures.lawful))

@@ -1,0 +1,33 @@
+-- The fork stands in the half that has the entry.
+use Rattle.std.proofs.Common.{arith, ap, false, ◌||◌}
+use Rattle.pieces.specs.Piece.{size}
+use Rattle.pieces.proofs.Paths.{size_pos}
+use Rattle.compound_node.specs.Nodes.{piece}
+use Rattle.insert_cases.specs.Grown.{half_piece}
+use Rattle.insert_cases.proofs.NodeFacts.{size-piece, cut_is, half_anew}
+use Rattle.insert_cases.proofs.growth.pull_up.Goals as goal
+
+pub half_forked-requires-clause-room : goal.half_forked-requires-clause-room
+half_forked-requires-clause-room c =
+    let k = cut_is c.cut-root.result (piece c.args.node.now) c.cut-root.ensures in
+    omega (arith, ap size k.whole, size-piece c.args.node.now c.count.ensures.lawful, c.count.ensures.lawful.room, size_pos (half_piece c.cut-root.result.one))
+
+pub half_forked-requires-else-at-count-clause-room : goal.half_forked-requires-else-at-count-clause-room
+half_forked-requires-else-at-count-clause-room c =
+    let k = cut_is c.cut-root.result (piece c.args.node.now) c.cut-root.ensures in
+    omega (arith, ap size k.whole, size-piece c.args.node.now c.count.ensures.lawful, c.count.ensures.lawful.room, size_pos (half_piece c.cut-root.result.zero))
+
+pub half_forked-requires-else-at-count-clause-place : goal.half_forked-requires-else-at-count-clause-place
+half_forked-requires-else-at-count-clause-place c =
+    let k = cut_is c.cut-root.result (piece c.args.node.now) c.cut-root.ensures in
+    omega (arith, ap size k.whole, size-piece c.args.node.now c.count.ensures.lawful, c.half_count-count.ensures, c.requires.place)
+
+pub returns-then-at-count-clause-same : goal.returns-then-at-count-clause-same
+returns-then-at-count-clause-same c =
+    let k = cut_is c.cut-root.result (piece c.args.node.now) c.cut-root.ensures in
+    half_anew c.cut-root.result.one (half_piece c.cut-root.result.one) k.one
+
+pub returns-else-at-count-clause-same : goal.returns-else-at-count-clause-same
+returns-else-at-count-clause-same c =
+    let k = cut_is c.cut-root.result (piece c.args.node.now) c.cut-root.ensures in
+    ap (λ b. b || false) (half_anew c.cut-root.result.zero (half_piece c.cut-root.result.zero) k.zero)

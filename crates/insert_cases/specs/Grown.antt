@@ -1,0 +1,43 @@
+-- What a grown node shows.
+use Rattle.std.specs.Prelude.{◌≡◌, Bool, true, false, ◌||◌}
+use Rattle.compound_node.specs.Halves.{HalfShows}
+use Rattle.compound_node.specs.Nodes.{NodeView, piece, IsEntry, IsBuiltFrom}
+use Rattle.compound_node.specs.declared.entries.Entry.{Entry}
+use Rattle.compound_node.specs.declared.entries.Entry.TheVariants.{Leaf}
+use Rattle.compound_node.specs.declared.halves.Half.{Half}
+use Rattle.compound_node.specs.declared.halves.Half.TheVariants.{One, Many, Same}
+use Rattle.pieces.specs.Piece.{Piece, Place}
+use Rattle.pieces.specs.Changes.{AtRootFork}
+use Rattle.insert_cases.specs.declared.growth.Grown.{Grown}
+use Rattle.insert_cases.specs.declared.growth.Grown.TheVariants.{One as Whole, Two}
+
+-- the two sides of a root fork: halves made anew, or the old node as it stands and an entry
+abbrev pub SidesShow : NodeView → Half → Half → Piece Entry → Piece Entry → Type 0
+SidesShow old Same (One entry) zero one = (zero ≡ piece old) × (one ≡ Place entry) × IsEntry entry
+SidesShow old (One entry) Same zero one = (zero ≡ Place entry) × (one ≡ piece old) × IsEntry entry
+SidesShow old first second zero one = HalfShows first zero × HalfShows second one
+
+-- one node that was built for the piece, or the piece's root fork and its two sides
+abbrev pub GrownShows : NodeView → Grown → Piece Entry → Type 0
+GrownShows old (Whole node) shown = IsBuiltFrom node shown
+GrownShows old (Two cut) shown = AtRootFork (λ p zero one. (cut.position ≡ p) × SidesShow old cut.zero cut.one zero one) shown
+
+abbrev pub is_whole : Grown → Bool
+is_whole (Whole node) = true
+is_whole (Two cut) = false
+
+abbrev pub is_same : Half → Bool
+is_same (One entry) = false
+is_same (Many node) = false
+is_same Same = true
+
+-- the old node is one half as it stands
+abbrev pub keeps_node : Grown → Bool
+keeps_node (Whole node) = false
+keeps_node (Two cut) = is_same cut.zero || is_same cut.one
+
+-- the piece that a half made anew shows
+abbrev pub half_piece : Half → Piece Entry
+half_piece (One entry) = Place entry
+half_piece (Many node) = piece node
+half_piece Same = Place (Leaf 0)

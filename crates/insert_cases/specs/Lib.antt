@@ -1,0 +1,5 @@
+pub mod Grafts
+pub mod Grown
+pub mod Searches
+pub mod Ways
+pub mod Levels

@@ -1,0 +1,81 @@
+-- The way of a key's search through the nodes of a tree, and which node an insertion affects.
+use Rattle.std.specs.Bool.{MatchBool}
+use Rattle.std.specs.Prelude.{◌≡◌, ℕ, zero, suc, ◌<◌, List, [], ◌∷◌, Bool, true, false, ◌&&◌, nat_lt, if◌then◌else◌}
+use Rattle.pieces.specs.Piece.{size}
+use Rattle.pieces.specs.Growth.{IsAffected, affected_first}
+use Rattle.tries.specs.Affected.{affected, IsPart}
+use Rattle.tries.specs.Keys.{Key, bit}
+use Rattle.tries.specs.Place.{spot}
+use Rattle.tries.specs.Search.{child}
+use Rattle.tries.specs.Tree.{Tree, leaf, node, fork, Fixed, page, first_position}
+use Rattle.insert_cases.specs.declared.choice.Case.{Case}
+use Rattle.insert_cases.specs.declared.choice.Case.TheVariants.{LeafPushdown, NormalInsert, Overflow}
+use Rattle.insert_cases.specs.declared.choice.Choice.{Choice}
+use Rattle.insert_cases.specs.declared.choice.Step.{Step}
+
+-- where a search goes on below a node
+abbrev pub below : Key → Tree → Tree
+below k (leaf n l v) = leaf n l v
+below k (node n x b) = child k b
+below k (fork p a b) = fork p a b
+
+-- where it stands after so many nodes
+abbrev pub stage : Key → Tree → ℕ → Tree
+stage k t zero = t
+stage k t (suc l) = stage k (below k t) l
+
+-- what a step tells of its node
+pub record IsStep (k : Key) (s : Step) (n : ℕ) (x : Fixed) (b : Tree) : Type 0 where
+  pub number : s.number ≡ n
+  pub height : s.height ≡ x.height
+  pub first : s.first_position ≡ first_position (page b)
+  pub count : s.count ≡ size (page b)
+  pub at : s.at ≡ spot k (page b)
+
+abbrev pub IsStepAt : Key → Step → Tree → Type 0
+IsStepAt k s (leaf n l v) = ⊥
+IsStepAt k s (node n x b) = IsStep k s n x b
+IsStepAt k s (fork p a b) = ⊥
+
+abbrev pub IsLeaf : Tree → Type 0
+IsLeaf (leaf n l v) = Unit {0}
+IsLeaf (node n x b) = ⊥
+IsLeaf (fork p a b) = ⊥
+
+-- the steps of a key's search through a tree, down to a leaf
+abbrev pub IsWay : Key → Tree → List Step → Type 0
+IsWay k t [] = IsLeaf t
+IsWay k t (s ∷ ss) = IsStepAt k s t × IsWay k (below k t) ss
+
+-- all forks on the key's way through a body are below the position
+abbrev pub WayBelow : ℕ → Key → Tree → Type 0
+WayBelow p k (leaf n l v) = Unit {0}
+WayBelow p k (node n x b) = Unit {0}
+WayBelow p k (fork q a b) = (q < p) × MatchBool (bit k q) (WayBelow p k b) (WayBelow p k a)
+
+abbrev pub body : Tree → Tree
+body (leaf n l v) = leaf n l v
+body (node n x b) = b
+body (fork p a b) = fork p a b
+
+abbrev pub is_leaf : Tree → Bool
+is_leaf (leaf n l v) = true
+is_leaf (node n x b) = false
+is_leaf (fork p a b) = false
+
+-- what is done at a node of this height and count, where one leaf alone is affected or not
+abbrev pub case_of : ℕ → ℕ → Bool → Case
+case_of height count one_leaf = if one_leaf && nat_lt 1 height then LeafPushdown else (if nat_lt count 32 then NormalInsert else Overflow)
+
+-- The node that the insertion of a key affects, where the key differs from the leaf that its search finds first at p:
+-- all forks above it on the key's way are below p, and its affected part is a leaf, or it has two entries or more.
+pub record IsAffectedNode (k : Key) (p : ℕ) (t : Tree) (c : Choice) : Type 0 where
+  pub number : ℕ
+  pub fixed : Fixed
+  pub inner : Tree
+  pub is : stage k t c.level ≡ node number fixed inner
+  pub above : (l : ℕ) → l < c.level → WayBelow p k (body (stage k t l))
+  pub part : IsPart (affected p k inner)
+  pub first : c.first ≡ affected_first p (spot k (page inner)) (page inner)
+  pub range : IsAffected (page inner) p c.first c.last
+  pub case : c.case ≡ case_of fixed.height (size (page inner)) (is_leaf (affected p k inner))

@@ -1,0 +1,137 @@
+//! The choice of the insertion case, from the way of a search.
+
+ghost use Rattle.std.specs.Prelude.{◌≡◌, ◌≢◌, ℕ, ◌+◌, ◌<◌, length, true, false};
+ghost use Rattle.key_bits.specs.Bits.{IsFirstDifference};
+ghost use Rattle.pieces.specs.Growth.{affected_first, affected_count};
+ghost use Rattle.tries.specs.Keys.{Key as KeyBytes};
+ghost use Rattle.tries.specs.Place.{spot};
+ghost use Rattle.tries.specs.Tree.{Tree, IsTrie, IsBuilt, page};
+ghost use Rattle.insert_cases.specs.Levels.{IsLevel, IsChosen, IsChainEnd};
+ghost use Rattle.insert_cases.specs.Searches.{found};
+ghost use Rattle.insert_cases.specs.Ways.{IsWay, IsAffectedNode, case_of, stage, body};
+
+/// A node on the way of a search, topmost first, and the entry that the search took there.
+#[derive(Clone, Copy, Debug, PartialEq, Eq)]
+pub struct Step {
+    /// The node's record number.
+    pub number: u32,
+    /// The node's stored height.
+    pub height: u16,
+    /// The node's first position.
+    pub first_position: u16,
+    /// How many entries the node has.
+    pub count: u8,
+    /// The index of the entry that the search took.
+    pub at: u8,
+}
+
+/// What is done at the affected node.
+#[derive(Clone, Copy, Debug, PartialEq, Eq)]
+pub enum Case {
+    /// A new node of two entries takes the place of the one affected leaf.
+    LeafPushdown,
+    /// A copy with the new entry takes the node's place.
+    NormalInsert,
+    /// The node is full: its root fork goes up.
+    Overflow,
+}
+
+/// The affected node of an insertion, by its place on the way, its affected entries, and what is done there.
+///
+/// It says which nodes get another one in their place: none for `LeafPushdown`, which stores into the affected node's
+/// entry `first`; the affected node for `NormalInsert`; and the nodes from the affected one up to `chain_end` for
+/// `Overflow`, but for a full node that stays whole as one half. The last two store into the entry at `at` of the node
+/// above the uppermost of these, or at the root. So these nodes and the one that is stored into are those that a
+/// writer locks.
+#[derive(Clone, Copy, Debug, PartialEq, Eq)]
+pub struct Choice {
+    pub level: usize,
+    pub first: u8,
+    pub last: u8,
+    pub case: Case,
+}
+
+/// The last node on the way whose first position is below `position`, or the topmost where there is none.
+pub fn level_below(way: &[Step], position: u16) -> usize
+    requires { 0 < length way.now }
+    ensures { IsLevel way.now position result }
+{
+    let mut level = 0;
+    for (i, step) in way.iter().enumerate() {
+        if step.first_position < position {
+            level = i;
+        }
+    }
+    level
+}
+
+/// The insertion case for a key that differs from the leaf that its search finds first at a position: `level` is what
+/// `level_below` gives for it, and the entries from `first` to `last` of that node are those that the position affects.
+/// Where one entry alone is affected and the way goes on below it, the whole next node is affected instead.
+pub fn choose(way: &[Step], level: usize, first: u8, last: u8) -> Choice
+    requires { level < length way.now }
+    ensures chosen { IsChosen way.now level first last result }
+    ensures affected { (k : KeyBytes) (t : Tree) (p : ℕ) → IsTrie t → IsBuilt t → IsWay k t way.now → IsFirstDifference k (found k t).key p →
+        IsLevel way.now p level →
+        affected_first p (spot k (page (body (stage k t level)))) (page (body (stage k t level))) ≡ first →
+        affected_count p (spot k (page (body (stage k t level)))) (page (body (stage k t level))) + first ≡ last + 1 → IsAffectedNode k p t result }
+{
+    let step = way[level];
+    if first < last {
+        return Choice {
+            level,
+            first,
+            last,
+            case: case_at(step, false),
+        };
+    }
+    if level + 1 < way.len() {
+        let child = way[level + 1];
+        return Choice {
+            level: level + 1,
+            first: 0,
+            last: child.count.saturating_sub(1),
+            case: case_at(child, false),
+        };
+    }
+    Choice {
+        level,
+        first,
+        last,
+        case: case_at(step, true),
+    }
+}
+
+/// What is done at a node, where one leaf alone is affected or not.
+fn case_at(step: Step, one_leaf: bool) -> Case
+    ensures { result ≡ case_of step.height step.count one_leaf }
+{
+    if one_leaf && step.height > 1 {
+        Case::LeafPushdown
+    } else if step.count < 32 {
+        Case::NormalInsert
+    } else {
+        Case::Overflow
+    }
+}
+
+/// The uppermost node on the way that gets another one in its place, where the node at `level` overflows: the halves
+/// of a full node go into its parent where that is one higher, and a full parent overflows in turn.
+pub fn chain_end(way: &[Step], level: usize) -> usize
+    requires { level < length way.now }
+    ensures { IsChainEnd way.now level result }
+{
+    let mut end = level;
+    while end > 0 && is_pulled_up(way[end], way[end - 1]) {
+        end -= 1;
+    }
+    end
+}
+
+/// Whether a node is full and its parent one higher.
+fn is_pulled_up(child: Step, parent: Step) -> bool
+    ensures pulled { result ≡ true → (child.count ≡ 32) × (parent.height ≡ child.height + 1) }
+    ensures stays { result ≡ false → child.count ≡ 32 → parent.height ≢ child.height + 1 }
+{
+    child.count == 32 && parent.height > child.height && parent.height - child.height == 1
+}

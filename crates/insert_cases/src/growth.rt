@@ -1,0 +1,225 @@
+//! A node with one entry more: whole, or cut in two where it was full.
+
+ghost use Rattle.std.specs.Prelude.{◌≡◌, ◌↔◌, ◌<◌, IsTrue, length, false, if◌then◌else◌};
+ghost use Rattle.pieces.specs.Piece.{size, Place as At, Fork};
+ghost use Rattle.pieces.specs.Growth.{grown, IsAffected};
+ghost use Rattle.pieces.specs.Changes.{AtRootFork};
+ghost use Rattle.compound_node.specs.Halves.{HalfShows, CutShows};
+ghost use Rattle.compound_node.specs.Nodes.{piece, IsEntry, IsLawful, IsBuiltFrom};
+ghost use Rattle.insert_cases.specs.Grafts.{grafted, IsAbovePath};
+ghost use Rattle.insert_cases.specs.Grown.{GrownShows, is_whole, keeps_node, half_piece};
+
+use compound_node::{Cut, Entry, Half, Node};
+
+/// Where the two halves of a node that was cut go.
+#[derive(Clone, Copy, Debug, PartialEq, Eq)]
+pub enum Place {
+    /// Into the parent, in place of the entry that named the node.
+    PullUp,
+    /// Into a new node between the parent and the halves.
+    Intermediate,
+    /// Into a new topmost node.
+    NewRoot,
+}
+
+/// A node with one entry more.
+#[derive(Drop)]
+pub enum Grown {
+    /// The one node that has them all.
+    One(Node),
+    /// The root fork of 33 entries and its two sides. `Half::Same` stands for the node that was handed in.
+    Two(Cut),
+}
+
+/// The node with a new entry beside the entries from `first` to `last`, as `Node::insert` puts it there. A full node
+/// is cut, and the entry goes into one of the halves; where the position is below the node's first one, the whole
+/// node is one side and the entry the other.
+pub fn grow(node: &Node, first: u8, last: u8, position: u16, bit: bool, entry: Entry) -> Grown
+    requires range { IsAffected (piece node.now) position first last }
+    requires position { position < 65535 }
+    requires entry { IsEntry entry }
+    ensures shows { GrownShows node.now result (grown position bit entry first (piece node.now)) }
+    ensures whole { IsTrue (is_whole result) ↔ (length node.now.entries < 32) }
+    ensures same { IsTrue (keeps_node result) ↔ ((length node.now.entries ≡ 32) × AtRootFork (λ p zero one. position < p) (piece node.now)) }
+{
+    if node.count() < 32 {
+        return Grown::One(node.insert(first, last, position, bit, entry));
+    }
+    if position < first_position(node) {
+        return Grown::Two(beside(position, bit, entry));
+    }
+    Grown::Two(cut_grown(node, first, last, position, bit, entry))
+}
+
+/// The position of a node's root fork.
+pub(crate) fn first_position(node: &Node) -> u16
+    requires { IsLawful node.now }
+    ensures { AtRootFork (λ p zero one. result ≡ p) (piece node.now) }
+{
+    node.columns().first()
+}
+
+/// The fork of a node that stays whole and a new entry.
+fn beside(position: u16, bit: bool, entry: Entry) -> Cut
+    ensures position { result.position ≡ position }
+    ensures zero { result.zero ≡ (if bit then Half.Same else Half.One entry) }
+    ensures one { result.one ≡ (if bit then Half.One entry else Half.Same) }
+{
+    if bit {
+        Cut {
+            position,
+            zero: Half::Same,
+            one: Half::One(entry),
+        }
+    } else {
+        Cut {
+            position,
+            zero: Half::One(entry),
+            one: Half::Same,
+        }
+    }
+}
+
+/// A full node cut, with a new entry in the half that holds those from `first` to `last`.
+fn cut_grown(node: &Node, first: u8, last: u8, position: u16, bit: bool, entry: Entry) -> Cut
+    requires lawful { IsLawful node.now }
+    requires range { IsAffected (piece node.now) position first last }
+    requires below { AtRootFork (λ p zero one. p < position) (piece node.now) }
+    requires position { position < 65535 }
+    requires entry { IsEntry entry }
+    ensures { CutShows result (grown position bit entry first (piece node.now)) }
+{
+    let Cut {
+        position: root,
+        zero,
+        one,
+    } = node.cut();
+    let front = half_count(&zero);
+    if first < front {
+        let zero = Half::Many(half_grown(&zero, first, last, position, bit, entry));
+        Cut {
+            position: root,
+            zero,
+            one,
+        }
+    } else {
+        let one = Half::Many(half_grown(&one, first - front, last - front, position, bit, entry));
+        Cut {
+            position: root,
+            zero,
+            one,
+        }
+    }
+}
+
+/// How many entries a half of a cut has.
+fn half_count(half: &Half) -> u8
+    requires { HalfShows half.now (half_piece half.now) }
+    ensures { result ≡ size (half_piece half.now) }
+{
+    match half {
+        Half::Many(node) => node.count(),
+        Half::One(_) => 1,
+        Half::Same => unreachable!(),
+    }
+}
+
+/// A half of a cut with a new entry.
+fn half_grown(half: &Half, first: u8, last: u8, position: u16, bit: bool, entry: Entry) -> Node
+    requires half { HalfShows half.now (half_piece half.now) }
+    requires room { size (half_piece half.now) < 32 }
+    requires range { IsAffected (half_piece half.now) position first last }
+    requires position { position < 65535 }
+    requires entry { IsEntry entry }
+    ensures { IsBuiltFrom result (grown position bit entry first (half_piece half.now)) }
+{
+    match half {
+        Half::Many(node) => node.insert(first, last, position, bit, entry),
+        Half::One(other) => {
+            if bit {
+                Node::pair(position, *other, entry)
+            } else {
+                Node::pair(position, entry, *other)
+            }
+        }
+        Half::Same => unreachable!(),
+    }
+}
+
+/// The node with a fork of two entries in place of entry `at`. A full node is cut first, and the fork stands in one
+/// of its halves.
+pub fn pull_up(node: &Node, at: u8, position: u16, zero: Entry, one: Entry) -> Grown
+    requires place { at < length node.now.entries }
+    requires path { IsAbovePath position at (piece node.now) }
+    requires position { position < 65535 }
+    requires zero { IsEntry zero }
+    requires one { IsEntry one }
+    ensures shows { GrownShows node.now result (grafted at (Fork position (At zero) (At one)) (piece node.now)) }
+    ensures whole { IsTrue (is_whole result) ↔ (length node.now.entries < 32) }
+    ensures same { keeps_node result ≡ false }
+{
+    if node.count() < 32 {
+        return Grown::One(forked(node, at, position, zero, one));
+    }
+    let Cut {
+        position: root,
+        zero: front,
+        one: rest,
+    } = node.cut();
+    let count = half_count(&front);
+    if at < count {
+        let front = Half::Many(half_forked(&front, at, position, zero, one));
+        Grown::Two(Cut {
+            position: root,
+            zero: front,
+            one: rest,
+        })
+    } else {
+        let rest = Half::Many(half_forked(&rest, at - count, position, zero, one));
+        Grown::Two(Cut {
+            position: root,
+            zero: front,
+            one: rest,
+        })
+    }
+}
+
+/// A half of a cut with a fork of two entries in place of entry `at`.
+fn half_forked(half: &Half, at: u8, position: u16, zero: Entry, one: Entry) -> Node
+    requires half { HalfShows half.now (half_piece half.now) }
+    requires room { size (half_piece half.now) < 32 }
+    requires place { at < size (half_piece half.now) }
+    requires path { IsAbovePath position at (half_piece half.now) }
+    requires position { position < 65535 }
+    requires zero { IsEntry zero }
+    requires one { IsEntry one }
+    ensures { IsBuiltFrom result (grafted at (Fork position (At zero) (At one)) (half_piece half.now)) }
+{
+    match half {
+        Half::Many(node) => forked(node, at, position, zero, one),
+        Half::One(_) => Node::pair(position, zero, one),
+        Half::Same => unreachable!(),
+    }
+}
+
+/// The node with a fork of two entries in place of entry `at`, and its height anew. A leaf stands there first, so that
+/// the old entry's height does not count; and the higher entry is added before the lower one takes the leaf's place.
+fn forked(node: &Node, at: u8, position: u16, zero: Entry, one: Entry) -> Node
+    requires lawful { IsLawful node.now }
+    requires room { length node.now.entries < 32 }
+    requires place { at < length node.now.entries }
+    requires path { IsAbovePath position at (piece node.now) }
+    requires position { position < 65535 }
+    requires zero { IsEntry zero }
+    requires one { IsEntry one }
+    ensures { IsBuiltFrom result (grafted at (Fork position (At zero) (At one)) (piece node.now)) }
+{
+    let cleared = node.replace(at, Entry::Leaf(0));
+    if zero.height() <= one.height() {
+        let grown = cleared.insert(at, at, position, true, one);
+        grown.replace(at, zero)
+    } else {
+        let grown = cleared.insert(at, at, position, false, zero);
+        grown.replace(at + 1, one)
+    }
+}

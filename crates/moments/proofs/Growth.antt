@@ -1,0 +1,120 @@
+-- What a pass knows stays true; what its search was led to stays so.
+use Rattle.std.proofs.Common.{◌≡◌, ◌⊎◌, ◌≢◌, inl, inr, ℕ, ◌<◌, ◌≤◌, List, [], ◌∷◌, ◌++◌, append_assoc, true, ap, ap₂, sym, ◌∙◌, subst, arith, Some, le_refl, le_trans}
+use Rattle.std.proofs.lemmas.List.Elements.{All-append}
+use Rattle.tries.specs.Keys.{Key, AgreeBelow}
+use Rattle.compound_node.specs.declared.entries.Entry.{Entry}
+use Rattle.tries.specs.Tree.{Tree, leaf, node, fork, page}
+use Rattle.tries.specs.Search.{Follows}
+use Rattle.moments.specs.Heap.{NodeWords, IsCopied}
+use Rattle.moments.specs.State.{rec_of, Spans, last_of, IsLived, Past, Stands, IsLawful, IsAbsent, IsMissed, IsLed, IsMarked, IsUnlinkedSince}
+use Rattle.moments.specs.declared.Rec.{Rec}
+use Rattle.moments.specs.declared.Rec.TheVariants.{Node as a_node, Leaf as a_leaf}
+use Rattle.std.specs.List.{AllByRecursion}
+use Rattle.moments.specs.Known.{flat, Fact, Led, Near, Had, Lacked, IsFact, IsSameAt, IsLockedAs, IsOwnedAs, IsGrown, IsLonger, Known, IsKnown, IsFrame}
+use Rattle.hot_model.specs.declared.Change.{Change}
+use Rattle.moments.specs.Core.{has_seen, InTree, Marked, life_of, IsOwn, Core, pin_moment, view, IsPaced}
+use Rattle.moments.specs.declared.Pin.{Pin}
+
+pub grown_trans : (a b c : Past) → IsGrown a b → IsGrown b c → IsGrown a c
+grown_trans a b c x y = record {
+  longer = le_trans x.longer y.longer;
+  kept = λ n h. y.kept n (le_trans h x.longer) ∙ x.kept n h;
+}
+
+pub longer_trans : (q : ℕ) (a b c : List Change) → IsLonger q a b → IsLonger q b c → IsLonger q a c
+longer_trans q a b c x y = record {
+  rest = x.rest ++ y.rest;
+  is_front = sym (append_assoc a x.rest y.rest) ∙ (ap (λ z. z ++ y.rest) x.is_front ∙ y.is_front);
+  others = All-append (λ z. z.pass ≢ q) x.rest y.rest x.others y.others;
+}
+
+pub stands_grown : (a b : Past) → IsGrown a b → (n : ℕ) (r : Rec) (u : Tree) → n ≤ a.now → Stands a n r u → Stands b n r u
+stands_grown a b g n r u h st =
+    record { tree = st.tree; is_moment = g.kept n h ∙ st.is_moment; within = st.within; is_record = st.is_record }
+
+absent_grown : (a b : Past) → IsGrown a b → (n : ℕ) (k : Key) → n ≤ a.now → IsAbsent a n k → IsAbsent b n k
+absent_grown a b g n k h x = λ t e. x t (sym (g.kept n h) ∙ e)
+
+-- What a search was led to in the past that a pass knows, it was led to in the past as it is.
+pub led_grown : (a b : Past) → IsGrown a b → (m : ℕ) (k : Key) (e : Entry) → IsLed a m k e → IsLed b m k e
+led_grown a b g m k e (n, u, lo, hi, st, pg, f) = (n, u, lo, le_trans hi g.longer, stands_grown a b g n (rec_of e) u hi st, pg, go f)
+  where
+    go : Follows k u ⊎ IsMissed a m k → Follows k u ⊎ IsMissed b m k
+    go (inl x) = inl x
+    go (inr (o, l, h, x)) = inr (o, l, le_trans h g.longer, absent_grown a b g o k h x)
+
+pub marked_grown : (a b : Past) → IsGrown a b → (m : ℕ) (P : Key → Type 0) (e : Entry) → IsMarked a m P e → IsMarked b m P e
+marked_grown a b g m P e (n, u, lo, hi, st, pg, f) = (n, u, lo, le_trans hi g.longer, stands_grown a b g n (rec_of e) u hi st, pg, f)
+
+-- A fact of the past stays one.
+pub fact_grown : (a b : Past) → IsGrown a b → (f : Fact) → IsFact a f → IsFact b f
+fact_grown a b g (Led m k e) h = led_grown a b g m k e h
+fact_grown a b g (Near m x p k ps e) h = marked_grown a b g m (λ y. AgreeBelow p x y × IsSameAt k y ps) e h
+fact_grown a b g (Had m k v) (n, t, lo, hi, e, h) = (n, t, lo, le_trans hi g.longer, g.kept n hi ∙ e, h)
+fact_grown a b g (Lacked m k) (n, lo, hi, h) = (n, lo, le_trans hi g.longer, absent_grown a b g n k hi h)
+
+all_map : {X : Type 0} (P Q : X → Type 0) (xs : List X) → ((x : X) → P x → Q x) → AllByRecursion P xs → AllByRecursion Q xs
+all_map P Q [] f h = h
+all_map P Q (x ∷ xs) f h = (f x h.0, all_map P Q xs f h.1)
+
+-- A step of one pass leaves true what any other pass knows.
+pub keeps : (q : ℕ) (k : Known) (c d : Core) → IsKnown q k c → IsFrame q c d → IsKnown q k d
+keeps q k c d i f = record {
+  front = longer_trans q k.front c.changes d.changes i.front f.changes;
+  facts = all_map (IsFact c.past) (IsFact d.past) k.facts (fact_grown c.past d.past f.past) i.facts;
+  own = all_map (IsOwnedAs q c) (IsOwnedAs q d) k.own
+      (λ w x. let y = f.own w.record_of (subst (IsOwn q) (sym x.1) x.0) in (x.0, y.0 ∙ x.1, y.1 ∙ x.2)) i.own;
+  locks = all_map (IsLockedAs q c) (IsLockedAs q d) k.locks
+      (λ w x. let y = f.locks w.0 x.2.0 x.0 x.2.1 in (y.0, ap flat y.1 ∙ x.1, (x.2.0, y.2))) i.locks;
+  anchor = λ e h. let x = i.anchor e h in let y = f.anchor x.0 in (y.0, y.1 ∙ x.1);
+  pin = f.pin ∙ i.pin;
+  round = f.round ∙ i.round;
+}
+
+-- A record that may be given back was linked at no moment since a pass's pin.
+pub give_back : (c : Core) → IsLawful (view c) → IsPaced c → (o : ℕ) (r : Rec) (f l s : ℕ) → c.fate r ≡ Marked f l s →
+    s < (c.rounds o).bound → (q : ℕ) (p : Pin) → c.pins q ≡ Some p → has_seen (c.rounds o).seen q ≡ true → IsUnlinkedSince c.past p.moment r
+give_back c law pace o r f l s e h q p eq seen n lo hi u st =
+    let spans : Spans c.past.now (life_of (Marked f l s)) n =
+    subst (λ z. Spans c.past.now (life_of z) n) e (law.reach q p.moment (ap pin_moment eq) n lo hi r u st) in
+    let low : (c.rounds o).bound ≤ p.floor = pace.bounds q o p eq seen in
+    elim (pace.marks r f l s e q p eq) [ inl x ↦ absurd (omega arith) | inr x ↦ absurd (omega arith) ]
+
+-- And it isn't linked now.
+pub not_now : (c : Core) → IsLawful (view c) → (r : Rec) (f l s : ℕ) → c.fate r ≡ Marked f l s → IsUnlinkedSince c.past c.past.now r
+not_now c law r f l s e n lo hi u st =
+    let spans : Spans c.past.now (life_of (Marked f l s)) n =
+    subst (λ z. Spans c.past.now (life_of z) n) e (law.present n lo hi r u st) in
+    let old : (f ≤ l) × (l < c.past.now) = subst (λ z. IsLived c.past.now (life_of z)) e (law.lived r) in
+    omega arith
+
+-- A node that is in the tree stands in the newest moment, with the words that it has: what a pass knows of a node that it has locked.
+pub in_tree_now : (c : Core) → IsLawful (view c) → (n f : ℕ) → c.fate (a_node n) ≡ InTree f →
+    (b : Tree) × Stands c.past c.past.now (a_node n) (node n (c.heap.nodes n).fixed b) × (page b ≡ (c.heap.nodes n).page)
+in_tree_now c law n f e = go at_now.0 at_now.1 (law.frozen (a_node n) at_now.0 lasts (subst (λ z. Stands c.past z (a_node n) at_now.0) (sym is_last) at_now.1))
+  where
+    is_last : last_of c.past.now (life_of (c.fate (a_node n))) ≡ c.past.now
+    is_last = ap (λ z. last_of c.past.now (life_of z)) e
+
+    spans : Spans c.past.now (life_of (c.fate (a_node n))) c.past.now
+    spans = subst (λ z. Spans c.past.now (life_of z) c.past.now) (sym e)
+        (subst (λ z. IsLived c.past.now (life_of z)) e (law.lived (a_node n)), le_refl c.past.now)
+
+    lasts : Spans c.past.now (life_of (c.fate (a_node n))) (last_of c.past.now (life_of (c.fate (a_node n))))
+    lasts = subst (Spans c.past.now (life_of (c.fate (a_node n)))) (sym is_last) spans
+
+    at_now : (u : Tree) × Stands c.past c.past.now (a_node n) u
+    at_now = law.alive (a_node n) c.past.now spans
+
+    number : {a b : ℕ} → a_node a ≡ a_node b → a ≡ b
+    number e = cc
+
+    go : (u : Tree) → Stands c.past c.past.now (a_node n) u → IsCopied c.heap u →
+        (b : Tree) × Stands c.past c.past.now (a_node n) (node n (c.heap.nodes n).fixed b) × (page b ≡ (c.heap.nodes n).page)
+    go (leaf a k w) st i = absurd (let r : a_node n ≡ a_leaf a = st.is_record in cc)
+    go (fork a k w) st i = elim st.is_record [ ]
+    go (node a x b) st i =
+        let z : a ≡ n = sym (number st.is_record) in
+        let y : c.heap.nodes n ≡ record { fixed = x; page = page b } = ap c.heap.nodes (sym z) ∙ i in
+        let v : node a x b ≡ node n (c.heap.nodes n).fixed b = ap₂ (λ p q. node p q b) z (sym (ap (λ (w : NodeWords). w.fixed) y)) in
+        (b, subst (Stands c.past c.past.now (a_node n)) v st, sym (ap (λ (w : NodeWords). w.page) y))

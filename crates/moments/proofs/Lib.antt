@@ -1,0 +1,12 @@
+pub mod Heaps
+pub mod States
+pub mod Publish
+pub mod Quiet
+pub mod Growth
+pub mod Legal
+pub mod Frames
+pub mod Pace
+pub mod Stored
+pub mod Telling
+pub mod Reading
+pub mod Stepping

@@ -1,0 +1,8 @@
+pub mod Heap
+pub mod State
+pub mod Core
+pub mod Known
+pub mod Told
+pub mod Steps
+pub mod Read
+pub mod Statements

@@ -1,0 +1,200 @@
+-- The core's state: the records' words, the moments, the records' lives and the pins.
+use Rattle.moments.specs.declared.Rec.{Rec}
+use Rattle.moments.specs.declared.Rec.TheVariants.{Node as a_node, Leaf as a_leaf}
+use Rattle.std.specs.Prelude.{◌≡◌, ◌⊎◌, ℕ, suc, ◌<◌, ◌≤◌, Option, Some, None, if◌then◌else◌, nat_eq, true, false}
+use Rattle.tries.specs.Keys.{Key, bit, AgreeBelow}
+use Rattle.compound_node.specs.declared.entries.Entry.{Entry}
+use Rattle.compound_node.specs.declared.entries.Entry.TheVariants.{Leaf, Node}
+use Rattle.tries.specs.Tree.{Page, Tree, leaf, node, fork, page, Has, Holds, IsTrie, IsBuilt, Within}
+use Rattle.pieces.specs.Piece.{Place, Fork}
+use Rattle.tries.specs.Search.{Follows, Kin}
+use Rattle.moments.specs.Heap.{Heap, IsCopied, IsShown, IsNear}
+
+abbrev pub rec_of : Entry → Rec
+rec_of (Leaf n) = a_leaf n
+rec_of (Node n h) = a_node n
+
+-- The tree begins with this record.
+abbrev pub IsRecord : Rec → Tree → Type 0
+IsRecord r (leaf n k v) = r ≡ a_leaf n
+IsRecord r (node n h b) = r ≡ a_node n
+IsRecord r (fork p a b) = ⊥
+
+-- The record is linked in the tree.
+abbrev pub Links : Tree → Rec → Type 0
+Links (leaf n k v) r = r ≡ a_leaf n
+Links (node n h b) r = (r ≡ a_node n) ⊎ Links b r
+Links (fork p a b) r = Links a r ⊎ Links b r
+
+-- The present life of a record: not linked since it was last Free; linked since a moment; linked from a moment to another.
+pub data Life : Type 0 where
+  Out : Life
+  Linked : (since : ℕ) → Life
+  Retired : (since last : ℕ) → Life
+
+-- The life has the moment, where `now` is the newest.
+abbrev pub Spans : ℕ → Life → ℕ → Type 0
+Spans now Out n = ⊥
+Spans now (Linked since) n = (since ≤ n) × (n ≤ now)
+Spans now (Retired since last) n = (since ≤ n) × (n ≤ last)
+
+-- The last moment of a life.
+abbrev pub last_of : ℕ → Life → ℕ
+last_of now Out = now
+last_of now (Linked since) = now
+last_of now (Retired since last) = last
+
+-- A life has a last moment, which is none to come.
+abbrev pub IsLived : ℕ → Life → Type 0
+IsLived now Out = Unit {0}
+IsLived now (Linked since) = since ≤ now
+IsLived now (Retired since last) = (since ≤ last) × (last < now)
+
+-- The moments so far: the newest is number `now`.
+pub record Past : Type 0 where
+  pub now : ℕ
+  pub moment : ℕ → Option Tree
+
+pub record State : Type 0 where
+  pub heap : Heap
+  pub root : Option Entry
+  pub past : Past
+  pub open past use *
+  pub life : Rec → Life
+  pub pin : ℕ → Option ℕ
+
+-- At moment `n` the record stands in the tree as `u`.
+pub record Stands (s : Past) (n : ℕ) (r : Rec) (u : Tree) : Type 0 where
+  pub tree : Tree
+  pub is_moment : s.moment n ≡ Some tree
+  pub within : Within u tree
+  pub is_record : IsRecord r u
+
+-- Two trees of one record: the same fixed words and kin bodies, or the same key and value.
+abbrev pub IsSame : Tree → Tree → Type 0
+IsSame (leaf n k v) (leaf m l w) = (k ≡ l) × (v ≡ w)
+IsSame (node n h b) (node m i c) = (h ≡ i) × Kin b c
+IsSame s t = ⊥
+
+-- What the root entry says.
+abbrev pub IsTop : Heap → Option Entry → Option Tree → Type 0
+IsTop m None None = Unit {0}
+IsTop m None (Some t) = ⊥
+IsTop m (Some e) None = ⊥
+IsTop m (Some e) (Some t) = (page t ≡ Place e) × IsShown m t
+
+-- Each record linked at a moment since `m` is in the life that it had there.
+abbrev pub IsReach : State → ℕ → Type 0
+IsReach s m = (n : ℕ) → m ≤ n → n ≤ s.now → (r : Rec) (u : Tree) → Stands s.past n r u → Spans s.now (s.life r) n
+
+pub record IsLawful (s : State) : Type 0 where
+  pub trees : (n : ℕ) (t : Tree) → n ≤ s.now → s.moment n ≡ Some t → IsTrie t × IsBuilt t
+  pub top : IsTop s.heap s.root (s.moment s.now)
+  pub lived : (r : Rec) → IsLived s.now (s.life r)
+  -- a record is linked at each moment of its life
+  pub alive : (r : Rec) (n : ℕ) → Spans s.now (s.life r) n → (u : Tree) × Stands s.past n r u
+  -- what is linked now is in its life
+  pub present : IsReach s s.now
+  -- a record's words are those of the last moment of its life
+  pub frozen : (r : Rec) (u : Tree) → Spans s.now (s.life r) (last_of s.now (s.life r)) → Stands s.past (last_of s.now (s.life r)) r u → IsCopied s.heap u
+  -- and its fixed words and stems are those of each moment of its life
+  pub same : (r : Rec) (n : ℕ) (u v : Tree) → Spans s.now (s.life r) n → Stands s.past n r u → Stands s.past (last_of s.now (s.life r)) r v → IsSame u v
+  -- what was linked at a moment since a pass's pin is still in the life of that moment
+  pub reach : (q m : ℕ) → s.pin q ≡ Some m → IsReach s m
+
+-- The key is in no leaf of the moment.
+abbrev pub IsAbsent : Past → ℕ → Key → Type 0
+IsAbsent s n k = (t : Tree) → s.moment n ≡ Some t → Has t k → ⊥
+
+-- The key was absent at a moment since `m`.
+abbrev pub IsMissed : Past → ℕ → Key → Type 0
+IsMissed s m k = (n : ℕ) × (m ≤ n) × (n ≤ s.now) × IsAbsent s n k
+
+-- What a search for the key knows of the entry `e` that it was led to: its record was linked at a moment since `m`,
+-- and the key follows its stem or was absent since.
+abbrev pub IsLed : Past → ℕ → Key → Entry → Type 0
+IsLed s m k e =
+    (n : ℕ) × (u : Tree) × (m ≤ n) × (n ≤ s.now) × Stands s n (rec_of e) u × (page u ≡ Place e) × (Follows k u ⊎ IsMissed s m k)
+
+-- The page's first fork is at `p` or later.
+abbrev pub IsFrom : ℕ → Page → Type 0
+IsFrom p (Place e) = Unit {0}
+IsFrom p (Fork q x y) = p ≤ q
+
+-- Of the entry `e` it is known that its record was linked at a moment since `m`, with keys that have `P`.
+abbrev pub IsMarked : Past → ℕ → (Key → Type 0) → Entry → Type 0
+IsMarked s m P e =
+    (n : ℕ) × (u : Tree) × (m ≤ n) × (n ≤ s.now) × Stands s n (rec_of e) u × (page u ≡ Place e) × ((y : Key) → Has u y → P y)
+
+-- The property turns on the bits before `p` alone.
+abbrev pub TurnsBelow : ℕ → (Key → Type 0) → Type 0
+TurnsBelow p P = (x y : Key) → AgreeBelow p x y → P x → P y
+
+-- The key takes the same side as `k` at each fork on the way of `k`.
+abbrev pub IsTaken : Key → Page → Key → Type 0
+IsTaken k (Place e) y = Unit {0}
+IsTaken k (Fork p a b) y = (bit y p ≡ bit k p) × (bit k p ≡ true → IsTaken k b y) × (bit k p ≡ false → IsTaken k a y)
+
+-- What a publish makes of a record's life, where `L` says that the new moment links it.
+pub data IsNext (now : ℕ) (L : Type 0) : Life → Life → Type 0 where
+  comes : L → IsNext now L Out (Linked (suc now))
+  stays_out : ¬ L → IsNext now L Out Out
+  stays : {since : ℕ} → L → IsNext now L (Linked since) (Linked since)
+  goes : {since : ℕ} → ¬ L → IsNext now L (Linked since) (Retired since now)
+  gone : {since last : ℕ} → ¬ L → IsNext now L (Retired since last) (Retired since last)
+
+-- The record is linked in the moment, which may be empty.
+abbrev pub IsLinked : Option Tree → Rec → Type 0
+IsLinked None r = ⊥
+IsLinked (Some t) r = Links t r
+
+-- The moments with one more, `t` at place `n`.
+abbrev pub with_moment : (ℕ → Option Tree) → ℕ → Option Tree → ℕ → Option Tree
+with_moment f n t i = if nat_eq i n then t else f i
+
+-- The state after a publish: these words, this root, these lives, and one moment more.
+abbrev pub published : State → Heap → Option Entry → (Rec → Life) → Option Tree → State
+published s heap root life t = record {
+  heap = heap;
+  root = root;
+  past = record { now = suc s.now; moment = with_moment s.moment (suc s.now) t };
+  life = life;
+  pin = s.pin;
+}
+
+-- A publish stores one entry, after which the words show `t`, and no retired record is linked again.
+pub record IsPublish (s : State) (heap : Heap) (root : Option Entry) (life : Rec → Life) (t : Option Tree) : Type 0 where
+  pub top : IsTop heap root t
+  pub tree : (u : Tree) → t ≡ Some u → IsTrie u × IsBuilt u
+  pub near : IsNear s.heap heap
+  pub kept : (n : ℕ) → IsLinked t (a_node n) ⊎ (s.heap.nodes n ≡ heap.nodes n)
+  pub lives : (r : Rec) → IsNext s.now (IsLinked t r) (s.life r) (life r)
+
+-- The record was linked at no moment since `m`.
+abbrev pub IsUnlinkedSince : Past → ℕ → Rec → Type 0
+IsUnlinkedSince s m r = (n : ℕ) → m ≤ n → n ≤ s.now → (u : Tree) → Stands s n r u → ⊥
+
+-- A step that leaves the moments: it writes words of records outside their lives only, ends lives that no pin and
+-- not the newest moment reaches, and pins at the newest moment.
+pub record IsQuiet (s : State) (heap : Heap) (life : Rec → Life) (pin : ℕ → Option ℕ) : Type 0 where
+  pub nodes : (n : ℕ) → (s.life (a_node n) ≡ Out) ⊎ (s.heap.nodes n ≡ heap.nodes n)
+  pub leaves : (n : ℕ) → (s.life (a_leaf n) ≡ Out) ⊎ (s.heap.leaves n ≡ heap.leaves n)
+  pub lives : (r : Rec) → (life r ≡ s.life r) ⊎
+      ((life r ≡ Out) × IsUnlinkedSince s.past s.now r × ((q m : ℕ) → pin q ≡ Some m → IsUnlinkedSince s.past m r))
+  pub pins : (q m : ℕ) → pin q ≡ Some m → (s.pin q ≡ Some m) ⊎ (m ≡ s.now)
+
+abbrev pub quieted : State → Heap → (Rec → Life) → (ℕ → Option ℕ) → State
+quieted s heap life pin = record { heap = heap; root = s.root; past = s.past; life = life; pin = pin }
+
+-- The key had the value at a moment since `m`.
+abbrev pub IsHeld : Past → ℕ → Key → ℕ → Type 0
+IsHeld s m k v = (n : ℕ) × (t : Tree) × (m ≤ n) × (n ≤ s.now) × (s.moment n ≡ Some t) × Holds t k v
+
+-- The key was held at each moment since `m`.
+abbrev pub IsKept : Past → ℕ → Key → Type 0
+IsKept s m k = (n : ℕ) → m ≤ n → n ≤ s.now → (t : Tree) × (s.moment n ≡ Some t) × Has t k
+
+-- The records keep their fixed words and stems from moment `m` on: what the lawful state says of a pass's reach.
+pub record IsSteady (s : Past) (m : ℕ) : Type 0 where
+  pub trees : (n : ℕ) (t : Tree) → n ≤ s.now → s.moment n ≡ Some t → IsTrie t × IsBuilt t
+  pub same : (r : Rec) (n o : ℕ) (u v : Tree) → m ≤ n → n ≤ s.now → m ≤ o → o ≤ s.now → Stands s n r u → Stands s o r v → IsSame u v

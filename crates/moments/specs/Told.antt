@@ -1,0 +1,39 @@
+-- The content of a moment, and how the moments tell the changes.
+use Rattle.std.specs.Prelude.{◌≡◌, ℕ, ◌≤◌, List, [], length, take, Option, Some, None}
+use Rattle.hot_model.specs.declared.Change.{Change}
+use Rattle.hot_model.specs.declared.Kind.{Kind}
+use Rattle.hot_model.specs.declared.Kind.TheVariants.{Added, Replaced, Removed}
+use Rattle.hot_model.specs.Maps.{Map}
+use Rattle.hot_model.specs.Fronts.{map_of, LegalFront}
+use Rattle.tries.specs.Tree.{Tree}
+use Rattle.tries.specs.Content.{Item, items, pairs, IsMore, IsExchange}
+use Rattle.moments.specs.State.{Past}
+
+abbrev pub items_of : Option Tree → List Item
+items_of None = []
+items_of (Some t) = items t
+
+-- The keys and values of a moment's leaves, in order.
+abbrev pub content : Option Tree → Map
+content t = pairs (items_of t)
+
+-- The leaf record of this number, with a change's key and value.
+abbrev pub item_of : ℕ → Change → Item
+item_of n x = record { number = n; key = x.key; value = x.value }
+
+-- What a change of this kind makes of the leaves: one more, or one for another of the same key, or one less.
+abbrev pub IsChanged : Kind → Item → List Item → List Item → Type 0
+IsChanged Added x xs ys = IsMore x xs ys
+IsChanged Replaced x xs ys = (y : Item) × (y.key ≡ x.key) × IsExchange y x xs ys
+IsChanged Removed x xs ys = IsMore x ys xs
+
+-- From one moment to the next one leaf record changes, as the change says.
+abbrev pub IsChange : Option Tree → Change → Option Tree → Type 0
+IsChange s x t = (n : ℕ) × IsChanged x.kind (item_of n x) (items_of s) (items_of t)
+
+-- There is a moment after each number of changes, its content is the map of these, and each change is legal on the
+-- map of those before it.
+pub record IsTold (s : Past) (changes : List Change) : Type 0 where
+  pub count : length changes ≡ s.now
+  pub content_is : (n : ℕ) → n ≤ s.now → content (s.moment n) ≡ map_of (take n changes)
+  pub legal : LegalFront changes

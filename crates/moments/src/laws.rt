@@ -1,0 +1,48 @@
+//! The laws of the core. The functions do nothing: their contracts are the laws.
+
+ghost use Rattle.moments.specs.Statements.{ContentIsMap, Hindsight, Keeps, OpeningIsLawful, Parting, ReachIsKept, ReachIsSteady, StepKeepsLawful, StepLeavesOthers};
+
+/// A search that goes on at a record goes on at what it finds there, whatever has been published since.
+pub fn hindsight()
+    ensures { Hindsight }
+{}
+
+/// Keys below two entries of a record part at the fork between them.
+pub fn parting()
+    ensures { Parting }
+{}
+
+/// What a pass knows stays true under the steps of another.
+pub fn keeps()
+    ensures { Keeps }
+{}
+
+/// The opening core is lawful.
+pub fn opening_is_lawful()
+    ensures { OpeningIsLawful }
+{}
+
+/// Each legal step keeps the core lawful.
+pub fn step_keeps_lawful()
+    ensures { StepKeepsLawful }
+{}
+
+/// A legal step of one pass leaves what another knows: locks of two passes on different nodes are lawful at once, and each publish is one change whatever other locks are held.
+pub fn step_leaves_others()
+    ensures { StepLeavesOthers }
+{}
+
+/// The content of each moment is the map of the changes before it, in strict key order.
+pub fn content_is_map()
+    ensures { ContentIsMap }
+{}
+
+/// No record of a pinned pass's reach is Free or Held.
+pub fn reach_is_kept()
+    ensures { ReachIsKept }
+{}
+
+/// What a pass loads of a record of its reach, states and entries aside, is of one content.
+pub fn reach_is_steady()
+    ensures { ReachIsSteady }
+{}

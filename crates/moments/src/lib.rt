@@ -1,0 +1,29 @@
+//! The moments of the index: the trees that publishes make one after the other, the lives of records, fates and epochs.
+#![tactic(auto)]
+
+pub mod laws;
+
+use std::collections::LinkedList;
+
+/// A record of the table.
+#[derive(Clone, Copy, Debug, PartialEq, Eq)]
+pub enum Rec {
+    Node(u32),
+    Leaf(u32),
+}
+
+/// A pin: its word, the moment at which it was set, and the epoch of that moment. No value of it is made.
+pub struct Pin {
+    pub word: u64,
+    pub moment: u64,
+    pub floor: u64,
+}
+
+/// A pass's last load of the epoch: what it found, at which moment, the least of it and of the pins loaded since, and
+/// whose they were. No value of it is made.
+pub struct Round {
+    pub epoch: u64,
+    pub moment: u64,
+    pub bound: u64,
+    pub seen: LinkedList<u64>,
+}

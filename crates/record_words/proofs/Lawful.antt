@@ -1,0 +1,47 @@
+-- What the fixed words need of a lawful node.
+use Rattle.std.proofs.Common.{ℕ, ◌≡◌, ◌-◌, ◌^◌, ◌<◌, ◌≤◌, ⊎_elim, arith, List, [], ◌∷◌, get_or, length, replicate, lit<, sym, ◌∙◌, refl, zero, suc, length-append}
+use Rattle.std.proofs.lemmas.Bool.{cases_lt}
+use Rattle.std.proofs.lemmas.List.{length-map, length-replicate, get_or-map, get_or_past, ext_get_or, get_or_append_left, get_or-append_right, get_or-replicate}
+use Rattle.key_bits.proofs.Gathering.{code-lt}
+use Rattle.pieces.specs.Positions.{AllBelow}
+use Rattle.pieces.specs.Piece.{paths}
+use Rattle.partial_keys.specs.Rows.{row_of, with_unused}
+use Rattle.compound_node.specs.Nodes.{NodeView, IsLawful, piece}
+use Rattle.record_words.specs.Packed.{row_at}
+
+pub small_below : (bound : ℕ) (xs : List ℕ) → 0 < bound → AllBelow bound xs → (i : ℕ) → get_or xs i 0 < bound
+small_below bound [] some below i = some
+small_below bound (x ∷ xs) some below zero = below.0
+small_below bound (x ∷ xs) some below (suc i) = small_below bound xs some below.1 i
+
+pub column-lt : (node : NodeView) → IsLawful node → (i : ℕ) → get_or node.columns i 0 < 2 ^ 16
+column-lt node lawful i = omega (arith, small_below 65535 node.columns (lit< tt) lawful.positions.below i)
+
+pub row-lt : (node : NodeView) → IsLawful node → (i : ℕ) → get_or node.rows i 0 < 2 ^ 32
+row-lt node lawful i =
+    ⊎_elim (λ (inside : i < length (paths (piece node))).
+    rw (lawful.shows.rows_are, get_or-map (row_of node.columns) (paths (piece node)) i [] 0 inside) (code-lt 32 _))
+    (λ (past : length (paths (piece node)) ≤ i). rw (get_or_past node.rows i 0 (rw lawful.shows.rows_are (rw length-map past))) (lit< tt))
+    (cases_lt i (length (paths (piece node))))
+
+-- the unused places change no row
+pub row_at-with_unused : (rows : List ℕ) (i : ℕ) → row_at (with_unused rows) i ≡ row_at rows i
+row_at-with_unused rows i =
+    ⊎_elim (λ (used : i < length rows). get_or_append_left rows _ 4294967295 i used)
+    (λ (past : length rows ≤ i). get_or-append_right rows _ (length rows) i 4294967295 refl past ∙ (⊎_elim
+    (λ (inside : i - length rows < 32 - length rows). get_or-replicate _ _ 4294967295 4294967295 inside)
+    (λ (outside : 32 - length rows ≤ i - length rows). get_or_past (replicate (32 - length rows) 4294967295) _ 4294967295 (omega (arith, length-replicate {A = ℕ} (32 - length rows) 4294967295)))
+    (cases_lt (i - length rows) (32 - length rows)) ∙ sym (get_or_past rows i 4294967295 past)))
+    (cases_lt i (length rows))
+
+pub length-with_unused : (rows : List ℕ) → length rows ≤ 32 → length (with_unused rows) ≡ 32
+length-with_unused rows room = length-append rows _ ∙ omega (arith, length-replicate {A = ℕ} (32 - length rows) 4294967295)
+
+-- 32 rows are those of a node with the unused places, where they are so at each place
+pub with_unused_made : (rows sparse : List ℕ) → length rows ≤ 32 → length sparse ≡ 32 → ((i : ℕ) → i < length rows → get_or sparse i 0 ≡ get_or rows i 0) → ((i : ℕ) → length rows ≤ i → i < 32 → get_or sparse i 0 ≡ 4294967295) → sparse ≡ with_unused rows
+with_unused_made rows sparse room whole used unused =
+    ext_get_or 0 sparse (with_unused rows) (whole ∙ sym (length-with_unused rows room))
+    (λ i h. ⊎_elim (λ (inside : i < length rows). used i inside ∙ sym (get_or_append_left rows _ 0 i inside))
+    (λ (past : length rows ≤ i). unused i past (omega (arith, whole))
+    ∙ sym (get_or-append_right rows _ (length rows) i 0 refl past ∙ get_or-replicate (32 - length rows) (i - length rows) 4294967295 0 (omega (arith, whole))))
+    (cases_lt i (length rows)))

@@ -1,0 +1,12 @@
+pub mod Bytes
+pub mod Entries
+pub mod Fixing
+pub mod Heads
+pub mod Lawful
+pub mod Leaves
+pub mod Locations
+pub mod Nodes
+pub mod Offsets
+pub mod Packings
+pub mod Readings
+pub mod Spellings

@@ -1,0 +1,39 @@
+-- Where each word of a table stands.
+use Rattle.std.specs.Prelude.{ℕ, ◌≡◌, ◌+◌, ◌*◌, ◌<◌}
+use Rattle.record_words.specs.declared.layout.Layout.{Layout}
+use Rattle.record_words.specs.declared.layout.Location.{Location}
+use Rattle.record_words.specs.declared.layout.Location.TheVariants.{Epoch, Root, Anchor, Pin, NodeWord, LeafWord}
+use Rattle.record_words.specs.declared.node.TheConstants.{NODE_WORDS}
+use Rattle.record_words.specs.declared.leaf.TheConstants.{LEAF_WORDS}
+
+-- the first word of a node record and of a leaf record; these records follow the pins, one after another
+abbrev pub node_start : Layout → ℕ → ℕ
+node_start layout n = 3 + layout.passes + NODE_WORDS * n
+
+abbrev pub leaf_start : Layout → ℕ → ℕ
+leaf_start layout n = 3 + layout.passes + NODE_WORDS * layout.nodes + LEAF_WORDS * n
+
+abbrev pub word_count : Layout → ℕ
+word_count layout = 3 + layout.passes + NODE_WORDS * layout.nodes + LEAF_WORDS * layout.leaves
+
+abbrev pub address : Layout → Location → ℕ
+address layout Epoch = 0
+address layout Root = 1
+address layout Anchor = 2
+address layout (Pin pass) = 3 + pass
+address layout (NodeWord n offset) = node_start layout n + offset
+address layout (LeafWord n offset) = leaf_start layout n + offset
+
+abbrev pub IsInTable : Layout → Location → Type 0
+IsInTable layout Epoch = Unit {0}
+IsInTable layout Root = Unit {0}
+IsInTable layout Anchor = Unit {0}
+IsInTable layout (Pin pass) = pass < layout.passes
+IsInTable layout (NodeWord n offset) = (n < layout.nodes) × (offset < NODE_WORDS)
+IsInTable layout (LeafWord n offset) = (n < layout.leaves) × (offset < LEAF_WORDS)
+
+-- this location alone has the word
+pub record IsOnlyAt (layout : Layout) (word : ℕ) (location : Location) : Type 0 where
+  pub in_table : IsInTable layout location
+  pub here : address layout location ≡ word
+  pub only : (other : Location) → IsInTable layout other → address layout other ≡ word → other ≡ location

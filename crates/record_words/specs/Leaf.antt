@@ -1,0 +1,29 @@
+-- The words of a leaf record.
+use Rattle.std.specs.Prelude.{ℕ, ◌≡◌, ◌-◌, ◌*◌, ◌^◌, ◌<◌, cond, nat_eq, List, length, map, drop, slice_index}
+use Rattle.std.specs.List.{range_with_len}
+use Rattle.std.specs.Int.{from_be_bytes, w64}
+use Rattle.record_words.specs.declared.leaf.TheConstants.{KEY_WORDS, LEAF_FIELDS}
+use Rattle.key_bits.specs.Key.{IsKey}
+use Rattle.key_bits.specs.declared.TheConstants.{MAX_BYTES}
+
+-- a key's eight bytes from byte 8j on, the first of them highest; past its end they are 0
+unfoldable pub key_word : List ℕ → ℕ → ℕ
+key_word key j = from_be_bytes w64 (drop (8 * j) key)
+
+-- the word at an offset of a leaf record, after that of the state
+abbrev pub leaf_word : List ℕ × ℕ → ℕ → ℕ
+leaf_word (key, value) offset = cond (nat_eq offset 1) value (cond (nat_eq offset 2) (length key) (key_word key (offset - 3)))
+
+-- the words at offsets 1 to LEAF_FIELDS
+unfoldable pub leaf_words : List ℕ × ℕ → List ℕ
+leaf_words leaf = map (leaf_word leaf) (range_with_len 1 LEAF_FIELDS)
+
+-- a key, and a value of 64 bits
+pub record HasLeafWords (leaf : List ℕ × ℕ) : Type 0 where
+  pub key : IsKey leaf.0
+  pub value : leaf.1 < 2 ^ 64
+
+-- bytes whose words these are
+pub record IsBytesOf (bytes words : List ℕ) : Type 0 where
+  pub count : length bytes ≡ MAX_BYTES
+  pub words_are : (j : ℕ) → j < KEY_WORDS → key_word bytes j ≡ slice_index words j

@@ -1,0 +1,9 @@
+pub mod Entry
+pub mod Fixed
+pub mod Layout
+pub mod Leaf
+pub mod Limits
+pub mod Node
+pub mod Packed
+pub mod Reading
+pub mod State

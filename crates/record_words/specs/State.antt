@@ -1,0 +1,19 @@
+-- State words.
+use Rattle.std.specs.Prelude.{ℕ, ◌+◌, ◌*◌, ◌^◌, ◌<◌, ◌≤◌}
+use Rattle.record_words.specs.declared.state.Tag.{Tag}
+use Rattle.record_words.specs.declared.state.Tag.TheVariants.{Free, Held, Live, Locked, Obsolete}
+
+-- an epoch is from 1 to 2^60 - 1
+abbrev pub HasStateWord : Tag → Type 0
+HasStateWord Free = Unit {0}
+HasStateWord Held = Unit {0}
+HasStateWord Live = Unit {0}
+HasStateWord Locked = Unit {0}
+HasStateWord (Obsolete epoch) = (1 ≤ epoch) × (epoch < 2 ^ 60)
+
+abbrev pub state_word : Tag → ℕ
+state_word Free = 0
+state_word Held = 1
+state_word Live = 2
+state_word Locked = 3
+state_word (Obsolete epoch) = 8 * epoch + 4

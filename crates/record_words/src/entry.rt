@@ -1,0 +1,37 @@
+//! The word of an entry.
+
+ghost use Rattle.std.specs.Prelude.{◌≡◌};
+ghost use Rattle.record_words.specs.Entry.{HasEntryWord, entry_word};
+ghost use Rattle.record_words.specs.Reading.{IsReading};
+
+use crate::WordFault;
+use compound_node::Entry;
+
+/// The word of an entry, or of none; a node's height is at least 1.
+pub fn pack_entry(entry: Option<Entry>) -> u64
+    requires { HasEntryWord entry }
+    ensures { result ≡ entry_word entry }
+{
+    match entry {
+        None => 0,
+        Some(Entry::Leaf(number)) => 4 * number as u64 + 1,
+        Some(Entry::Node { number, height }) => ((height as u64) << 34) + 4 * number as u64 + 2,
+    }
+}
+
+/// The entry, or none, that has this word.
+pub fn unpack_entry(word: u64) -> Result<Option<Entry>, WordFault>
+    ensures { IsReading HasEntryWord entry_word word result }
+{
+    let number = (word % (1 << 34) / 4) as u32;
+    let height = word >> 34;
+    match word % 4 {
+        0 if word == 0 => Ok(None),
+        1 if height == 0 => Ok(Some(Entry::Leaf(number))),
+        2 if height != 0 && height < 1 << 16 => Ok(Some(Entry::Node {
+            number,
+            height: height as u16,
+        })),
+        _ => Err(WordFault::Bad),
+    }
+}

@@ -1,0 +1,147 @@
+//! The fixed words of a node: all but its state and its entries.
+
+ghost use Rattle.std.specs.Prelude.{◌≡◌, ℕ, ◌+◌, ◌*◌, ◌<◌, ◌≤◌, ◌↔◌, IsTrue, EachIndex, length, slice_index, slice_index_or};
+ghost use Rattle.record_words.specs.Packed.{ArePositionsOf, AreRowsOf, fixed_word, fixed_words, position_at, position_word, row_at, row_word};
+
+use crate::WordFault;
+use arrayvec::ArrayVec;
+
+/// How many words a node's head has: the numbers, the positions and the sparse partial keys.
+pub const HEAD_WORDS: usize = 25;
+
+/// What a node's fixed words say, each number by itself.
+#[derive(Drop)]
+pub(crate) struct Fixed {
+    pub(crate) count: u8,
+    pub(crate) height: u16,
+    pub(crate) columns: ArrayVec<u16, 31>,
+    pub(crate) sparse: [u32; 32],
+}
+
+impl Fixed {
+    ghost use Rattle.std.specs.Prelude.{◌≡◌, length};
+    ghost use Rattle.record_words.specs.Reading.{IsReading};
+    ghost use Rattle.record_words.specs.Fixed.{HasFixedWords, words_of};
+
+    /// The numbers that have these words.
+    pub(crate) fn unpack(words: &[u64]) -> Result<Fixed, WordFault>
+        requires { length words.now ≡ 25 }
+        ensures { IsReading HasFixedWords words_of words.now result }
+    {
+        let meta = words[0];
+        let column_count = meta / 256 % 256;
+        if meta >= 1 << 32 || column_count > 31 {
+            return Err(WordFault::Bad);
+        }
+        let positions = positions_of_words(&words[1..9]);
+        let (used, unused) = positions.split_at(column_count as usize);
+        if !is_unused(unused) {
+            return Err(WordFault::Bad);
+        }
+        Ok(Fixed {
+            count: (meta % 256) as u8,
+            height: (meta / 65_536) as u16,
+            columns: copied(used),
+            sparse: rows_of_words(&words[9..HEAD_WORDS]),
+        })
+    }
+}
+
+/// The fixed words of these numbers, in the order of their offsets.
+pub(crate) fn pack_fixed(count: u8, height: u16, columns: &[u16], rows: &[u32]) -> [u64; HEAD_WORDS]
+    requires { length columns.now ≤ 31 }
+    ensures { result ≡ fixed_words count height columns.now rows.now }
+{
+    let mut words = [0; HEAD_WORDS];
+    for i in 0..HEAD_WORDS {
+        words[i] = word_at(count, height, columns, rows, i + 1);
+    }
+    words
+}
+
+/// The fixed word at an offset.
+fn word_at(count: u8, height: u16, columns: &[u16], rows: &[u32], offset: usize) -> u64
+    requires few { length columns.now ≤ 31 }
+    requires in_range { offset ≤ 25 }
+    ensures { result ≡ fixed_word count height columns.now rows.now offset }
+{
+    match offset {
+        0 | 1 => count as u64 + 256 * columns.len() as u64 + 65_536 * height as u64,
+        2..=9 => word_of_positions(columns, offset - 2),
+        _ => word_of_rows(rows, offset - 10),
+    }
+}
+
+/// Four positions in a word, the first in its lowest bits.
+fn word_of_positions(columns: &[u16], j: usize) -> u64
+    requires { j < 8 }
+    ensures { result ≡ position_word columns.now j }
+{
+    let low = position(columns, 4 * j) as u64 + ((position(columns, 4 * j + 1) as u64) << 16);
+    let high = position(columns, 4 * j + 2) as u64 + ((position(columns, 4 * j + 3) as u64) << 16);
+    low + (high << 32)
+}
+
+/// Two sparse partial keys in a word, the first in its low half.
+fn word_of_rows(rows: &[u32], j: usize) -> u64
+    requires { j < 16 }
+    ensures { result ≡ row_word rows.now j }
+{
+    row(rows, 2 * j) as u64 + ((row(rows, 2 * j + 1) as u64) << 32)
+}
+
+/// The position of a column, or what stands past the last one.
+fn position(columns: &[u16], at: usize) -> u16
+    ensures { result ≡ position_at columns.now at }
+{
+    columns.get(at).copied().unwrap_or(u16::MAX)
+}
+
+/// The sparse partial key of an entry, or what stands past the last one.
+fn row(rows: &[u32], at: usize) -> u32
+    ensures { result ≡ row_at rows.now at }
+{
+    rows.get(at).copied().unwrap_or(u32::MAX)
+}
+
+/// The positions that have these words.
+fn positions_of_words(words: &[u64]) -> [u16; 32]
+    requires { length words.now ≡ 8 }
+    ensures { ArePositionsOf result words.now }
+{
+    let mut positions = [0; 32];
+    for i in 0..32 {
+        positions[i] = (words[i / 4] >> (16 * (i % 4)) & 0xffff) as u16;
+    }
+    positions
+}
+
+/// The sparse partial keys that have these words.
+fn rows_of_words(words: &[u64]) -> [u32; 32]
+    requires { length words.now ≡ 16 }
+    ensures { AreRowsOf result words.now }
+{
+    let mut rows = [0; 32];
+    for i in 0..32 {
+        rows[i] = (words[i / 2] >> (32 * (i % 2)) & 0xffff_ffff) as u32;
+    }
+    rows
+}
+
+/// Whether no column has one of these positions.
+fn is_unused(positions: &[u16]) -> bool
+    ensures { IsTrue result ↔ EachIndex positions.now (λ i. slice_index positions.now i ≡ 65535) }
+{
+    positions.iter().all(|position| *position == u16::MAX)
+}
+
+fn copied(columns: &[u16]) -> ArrayVec<u16, 31>
+    requires { length columns.now ≤ 31 }
+    ensures { result.items ≡ columns.now }
+{
+    let mut copy = ArrayVec::new();
+    for column in columns {
+        copy.push(*column);
+    }
+    copy
+}

@@ -1,0 +1,142 @@
+//! Where each record of a table stands among its words.
+
+ghost use Rattle.record_words.specs.Limits.{IsPassCount, IsNodeCount, IsLeafCount};
+
+use crate::leaf::LEAF_WORDS;
+use crate::node::NODE_WORDS;
+
+/// Which number of records is out of range; they are tested in this order.
+#[derive(Clone, Copy, Debug, PartialEq, Eq)]
+pub enum LayoutFault {
+    Passes = 1,
+    Nodes = 2,
+    Leaves = 3,
+}
+
+/// How many passes, node records and leaf records a table has.
+///
+/// Its words are the epoch, the root, the anchor, a pin for each pass, the node records and the leaf records.
+#[derive(Clone, Copy, Debug, PartialEq, Eq)]
+pub struct Layout {
+    /// 1 to 64.
+    pub passes: u32,
+    /// 1 to 65,535.
+    pub nodes: u32,
+    /// 1 to 262,143.
+    pub leaves: u32,
+    ghost passes_in_range: { IsPassCount passes },
+    ghost nodes_in_range: { IsNodeCount nodes },
+    ghost leaves_in_range: { IsLeafCount leaves },
+}
+
+/// What stands at a word of a table.
+#[derive(Clone, Copy, Debug, PartialEq, Eq)]
+pub enum Location {
+    Epoch,
+    Root,
+    Anchor,
+    /// The pin of a pass.
+    Pin(u16),
+    /// A word of a node record.
+    NodeWord { node: u32, offset: u8 },
+    /// A word of a leaf record.
+    LeafWord { leaf: u32, offset: u8 },
+}
+
+impl Layout {
+    ghost use Rattle.std.specs.Prelude.{◌≡◌, ◌≢◌, ◌↔◌, ◌<◌, ◌+◌, IfOk, Err};
+    ghost use Rattle.record_words.specs.Limits.{IsPassCount, IsNodeCount, IsLeafCount};
+    ghost use Rattle.record_words.specs.Layout.{node_start, leaf_start, word_count, address, IsOnlyAt};
+
+    /// The layout with these numbers of records.
+    pub fn of(passes: u32, nodes: u32, leaves: u32) -> Result<Layout, LayoutFault>
+        ensures ok { IfOk result (λ layout. (layout.passes ≡ passes) × (layout.nodes ≡ nodes) × (layout.leaves ≡ leaves)) }
+        ensures passes { (result ≡ Err LayoutFault.Passes) ↔ ¬ IsPassCount passes }
+        ensures nodes { (result ≡ Err LayoutFault.Nodes) ↔ (IsPassCount passes × ¬ IsNodeCount nodes) }
+        ensures leaves { (result ≡ Err LayoutFault.Leaves) ↔ (IsPassCount passes × IsNodeCount nodes × ¬ IsLeafCount leaves) }
+    {
+        if passes < 1 || passes > 64 {
+            return Err(LayoutFault::Passes);
+        }
+        if nodes < 1 || nodes > 65_535 {
+            return Err(LayoutFault::Nodes);
+        }
+        if leaves < 1 || leaves > 262_143 {
+            return Err(LayoutFault::Leaves);
+        }
+        Ok(Layout {
+            passes,
+            nodes,
+            leaves,
+        })
+    }
+
+    /// The word of a pass's pin.
+    pub fn pin(&self, pass: u16) -> usize
+        ensures { result ≡ 3 + pass }
+    {
+        3 + pass as usize
+    }
+
+    /// The first word of a node record.
+    pub fn node(&self, number: u32) -> usize
+        ensures { result ≡ node_start self.now number }
+    {
+        3 + self.passes as usize + NODE_WORDS * number as usize
+    }
+
+    /// The first word of a leaf record.
+    pub fn leaf(&self, number: u32) -> usize
+        ensures { result ≡ leaf_start self.now number }
+    {
+        self.node(self.nodes) + LEAF_WORDS * number as usize
+    }
+
+    /// How many words the table has.
+    pub fn words(&self) -> usize
+        ensures { result ≡ word_count self.now }
+    {
+        self.leaf(self.leaves)
+    }
+
+    /// The word that stands at a location.
+    pub fn address(&self, location: Location) -> usize
+        ensures { result ≡ address self.now location }
+    {
+        match location {
+            Location::Epoch => 0,
+            Location::Root => 1,
+            Location::Anchor => 2,
+            Location::Pin(pass) => self.pin(pass),
+            Location::NodeWord { node, offset } => self.node(node) + offset as usize,
+            Location::LeafWord { leaf, offset } => self.leaf(leaf) + offset as usize,
+        }
+    }
+
+    /// The one location of the table that has this word.
+    pub fn location(&self, word: usize) -> Location
+        requires { word < word_count self.now }
+        ensures { IsOnlyAt self.now word result }
+    {
+        match word {
+            0 => Location::Epoch,
+            1 => Location::Root,
+            2 => Location::Anchor,
+            _ if word < self.node(0) => Location::Pin((word - 3) as u16),
+            _ if word < self.leaf(0) => {
+                let within = word - self.node(0);
+                Location::NodeWord {
+                    node: (within / NODE_WORDS) as u32,
+                    offset: (within % NODE_WORDS) as u8,
+                }
+            }
+            _ => {
+                let within = word - self.leaf(0);
+                Location::LeafWord {
+                    leaf: (within / LEAF_WORDS) as u32,
+                    offset: (within % LEAF_WORDS) as u8,
+                }
+            }
+        }
+    }
+}

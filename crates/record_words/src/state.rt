@@ -1,0 +1,50 @@
+//! The state word of a record.
+
+ghost use Rattle.std.specs.Prelude.{◌≡◌};
+ghost use Rattle.record_words.specs.State.{HasStateWord, state_word};
+ghost use Rattle.record_words.specs.Reading.{IsReading};
+
+use crate::WordFault;
+
+/// What a record's state word says of it.
+#[derive(Clone, Copy, Debug, PartialEq, Eq)]
+pub enum Tag {
+    /// Any pass may claim it.
+    Free,
+    /// A pass has claimed it and fills it.
+    Held,
+    /// It is whole, and unlocked.
+    Live,
+    /// A writer has locked it.
+    Locked,
+    /// It was retired in this epoch.
+    Obsolete(u64),
+}
+
+/// The state word of a tag; an epoch is from 1 to 2^60 - 1.
+pub fn pack_state(tag: Tag) -> u64
+    requires { HasStateWord tag }
+    ensures { result ≡ state_word tag }
+{
+    match tag {
+        Tag::Free => 0,
+        Tag::Held => 1,
+        Tag::Live => 2,
+        Tag::Locked => 3,
+        Tag::Obsolete(epoch) => 8 * epoch + 4,
+    }
+}
+
+/// The tag that has this state word.
+pub fn unpack_state(word: u64) -> Result<Tag, WordFault>
+    ensures { IsReading HasStateWord state_word word result }
+{
+    match word {
+        0 => Ok(Tag::Free),
+        1 => Ok(Tag::Held),
+        2 => Ok(Tag::Live),
+        3 => Ok(Tag::Locked),
+        _ if word % 8 == 4 && word / 8 != 0 && word < 1 << 63 => Ok(Tag::Obsolete(word / 8)),
+        _ => Err(WordFault::Bad),
+    }
+}

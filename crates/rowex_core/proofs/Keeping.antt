@@ -1,0 +1,100 @@
+-- What a pass knows stays true while other passes make their steps.
+use Rattle.std.proofs.Common.{◌≡◌, ◌≢◌, inl, inr, ℕ, ◌<◌, ◌≤◌, List, ◌++◌, refl, sym, ap, ◌∙◌, subst, le_trans, append_assoc}
+use Rattle.std.proofs.lemmas.List.Elements.{All-append, All-weaker}
+use Rattle.hot_model.specs.declared.Change.{Change}
+use Rattle.hot_model.specs.Fronts.{OthersGoOn}
+use Rattle.tries.specs.Tree.{Tree}
+use Rattle.moments.specs.declared.Rec.{Rec}
+use Rattle.moments.specs.declared.Rec.TheVariants.{Node as a_node}
+use Rattle.moments.specs.State.{Past, Stands}
+use Rattle.moments.specs.Core.{IsOwn}
+use Rattle.moments.specs.Known.{IsGrown}
+use Rattle.moments.proofs.Growth.{stands_grown}
+use Rattle.rowex_core.specs.declared.event.Act.{Act}
+use Rattle.rowex_core.specs.declared.known.Fact.{Fact}
+use Rattle.rowex_core.specs.declared.known.Fact.TheVariants.{Rooted, Placed, Fixed}
+use Rattle.rowex_core.specs.declared.known.Holding.{Holding}
+use Rattle.rowex_core.specs.declared.known.Holding.TheVariants.{Held, Ready, Unlinked}
+use Rattle.rowex_core.specs.declared.known.Owned.{Owned}
+use Rattle.rowex_core.specs.declared.known.Locked.{Locked}
+use Rattle.rowex_core.specs.declared.known.Known.{Known}
+use Rattle.rowex_core.specs.declared.known.View.{View}
+use Rattle.rowex_core.specs.declared.known.View.TheVariants.{Spent, Dealer, Pass, Pair}
+use Rattle.rowex_core.specs.Reading.{entry_in, word_in}
+use Rattle.rowex_core.specs.Cores.{Core, IsLawful, HasRecord}
+use Rattle.rowex_core.specs.Events.{Legal, after}
+use Rattle.rowex_core.specs.Frames.{IsFrame}
+use Rattle.rowex_core.specs.Knowing.{StoodBetween, StoodAs, IsFact, fate_of, IsOwned, IsLocked, Knows, NoChangeBy, IsUntouched, Knowing, Owns}
+use Rattle.rowex_core.proofs.Frames.{frame}
+
+-- Facts of the past
+
+stands_before : (a b : Past) → IsGrown a b → (n : ℕ) (r : Rec) (u : Tree) → n ≤ a.now → Stands b n r u → Stands a n r u
+stands_before a b g n r u h st =
+    record { tree = st.tree; is_moment = sym (g.kept n h) ∙ st.is_moment; within = st.within; is_record = st.is_record }
+
+stood_as_grown : (a b : Past) → IsGrown a b → (since : ℕ) (r : Rec) (P : Tree → Type 0) → StoodAs a since r P → StoodAs b since r P
+stood_as_grown a b g since r P (n, u, lo, hi, st, p) = (n, u, lo, le_trans hi g.longer, stands_grown a b g n r u hi st, p)
+
+stood_before : (a b : Past) → IsGrown a b → (since at : ℕ) (r : Rec) → at ≤ a.now → StoodBetween b since at r → StoodBetween a since at r
+stood_before a b g since at r h (n, u, lo, hi, st) = (n, u, lo, hi, stands_before a b g n r u (le_trans hi h) st)
+
+pub fact_grown : (a b : Past) → IsGrown a b → (f : Fact) → IsFact a f → IsFact b f
+fact_grown a b g (Rooted since at e) (lo, hi, h) = (lo, le_trans hi g.longer, ap Rattle.rowex_core.specs.Reading.root_of (g.kept at hi) ∙ h)
+fact_grown a b g (Placed since at n j e) (hi, h) =
+    (le_trans hi g.longer, λ s. stood_as_grown a b g since (a_node n) (λ u. entry_in u j ≡ e) (h (stood_before a b g since at (a_node n) hi s)))
+fact_grown a b g (Fixed since at r offset w) (hi, h) =
+    (le_trans hi g.longer, λ s. stood_as_grown a b g since r (λ u. word_in u offset ≡ w) (h (stood_before a b g since at r hi s)))
+
+-- Fronts
+
+pub others_trans : (q : ℕ) (a b c : List Change) → OthersGoOn q a b → OthersGoOn q b c → OthersGoOn q a c
+others_trans q a b c x y = (x.0 ++ y.0, y.1 ∙ (ap (λ (z : List Change). z ++ y.0) x.1 ∙ append_assoc a x.0 y.0), All-append (λ z. z.pass ≢ q) x.0 y.0 x.2 y.2)
+
+-- The whole
+
+pub holding_own : (q : ℕ) (h : Holding) → IsOwn q (fate_of q h)
+holding_own q Held = refl
+holding_own q Ready = refl
+holding_own q (Unlinked s l) = refl
+
+pub knows_kept : (c d : Core) (k : Known) → IsFrame k.pass c d → Knows c k → Knows d k
+knows_kept c d k f h = record {
+  pass = subst (λ (z : Rattle.record_words.specs.declared.layout.Layout.Layout). k.pass < z.passes) (sym f.layout) h.pass;
+  front = others_trans k.pass k.front c.changes d.changes h.front f.changes;
+  fresh = h.fresh;
+  facts = All-weaker (IsFact c.past) (IsFact d.past) (fact_grown c.past d.past f.past) k.facts h.facts;
+  own = All-weaker (IsOwned k.pass c) (IsOwned k.pass d) owned k.own h.own;
+  locks = All-weaker (IsLocked k.pass c) (IsLocked k.pass d) locked k.locks h.locks;
+  anchor = λ e a. let x = h.anchor e a in let y = f.anchor x.0 in (y.0, y.1 ∙ x.1);
+  pin = f.pin ∙ h.pin;
+  round = f.round ∙ h.round;
+}
+  where
+    owned : (o : Owned) → IsOwned k.pass c o → IsOwned k.pass d o
+    owned o (a, b, e) =
+        let x = f.own o.rec (subst (IsOwn k.pass) (sym b) (holding_own k.pass o.holding)) in
+        (subst (λ (z : Rattle.record_words.specs.declared.layout.Layout.Layout). HasRecord z o.rec) (sym f.layout) a, x.0 ∙ b, x.1 ∙ e)
+
+    locked : (l : Locked) → IsLocked k.pass c l → IsLocked k.pass d l
+    locked l (a, b, t, e) =
+        let x = f.locks l.node b t in
+        (subst (λ (z : Rattle.record_words.specs.declared.layout.Layout.Layout). l.node < z.nodes) (sym f.layout) a, x.0, x.1, x.2 ∙ e)
+
+untouched_kept : (c d : Core) (q : ℕ) → IsFrame q c d → IsUntouched c q → IsUntouched d q
+untouched_kept c d q f h = record {
+  changes = subst (NoChangeBy q) (sym f.changes.1) (All-append (λ z. z.pass ≢ q) c.changes f.changes.0 h.changes f.changes.2);
+  pin = f.pin ∙ h.pin;
+  round = f.round ∙ h.round;
+}
+
+-- A legal step of one pass leaves true what any other view says.
+pub keeps : (c : Core) (p : ℕ) (act : Act) (v : View) → IsLawful c → Legal c p act → ¬ (Owns v p) → Knowing c v → Knowing (after c p act) v
+keeps c p act Spent law l n k = tt
+keeps c p act (Dealer m) law l n k = λ q low. untouched_kept c (after c p act) q (frame c p q act (λ e. n (subst (λ z. m ≤ z) (sym e) low)) law l) (k q low)
+keeps c p act (Pass k) law l n h = knows_kept c (after c p act) k (frame c p k.pass act (λ e. n (sym e)) law l) h
+keeps c p act (Pair j k) law l n h = (
+  knows_kept c (after c p act) j (frame c p j.pass act (λ e. n (inl (sym e))) law l) h.0,
+  knows_kept c (after c p act) k (frame c p k.pass act (λ e. n (inr (sym e))) law l) h.1,
+  h.2,
+)

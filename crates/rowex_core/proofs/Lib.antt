@@ -1,0 +1,13 @@
+pub mod Lists
+pub mod Reading
+pub mod Frames
+pub mod Keeping
+pub mod Records
+pub mod Storing
+pub mod Loading
+pub mod Publishing
+pub mod Published
+pub mod Learning
+pub mod Staying
+pub mod Writing
+pub mod Promises

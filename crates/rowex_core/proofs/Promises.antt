@@ -1,0 +1,152 @@
+-- The laws that follow: the opening core, records in reach, a publish as a step of the map, locks of two passes.
+use Rattle.std.proofs.Common.{◌≡◌, ◌≢◌, inl, ⊎_elim, ℕ, zero, suc, ◌+◌, ◌-◌, ◌*◌, ◌^◌, ◌<◌, ◌≤◌, List, [], ◌∷◌, ◌++◌, length, get_or, replicate, fold, Option, Some, None, IsSome, refl, sym, ap, ap₂, ◌∙◌, arith, le_refl, lit<}
+use Rattle.std.proofs.lemmas.Bool.{eq-eqb, ne_eqb, false≢true, cases_lt}
+use Rattle.std.proofs.lemmas.List.{length-replicate, get_or-replicate, get_or_past, take_all}
+use Rattle.std.proofs.lemmas.List.Elements.{All-replicate, All-from_recursion}
+use Rattle.hot_model.specs.declared.Change.{Change}
+use Rattle.hot_model.specs.declared.Kind.{Kind}
+use Rattle.hot_model.specs.declared.Kind.TheVariants.{Added, Replaced, Removed}
+use Rattle.hot_model.specs.Maps.{Map, map_after, step_where, value_at}
+use Rattle.hot_model.specs.declared.Call.TheVariants.{Upsert, Remove}
+use Rattle.hot_model.specs.Fronts.{map_of, changed, changed_by, FitsKind, Fits, LegalFrom}
+use Rattle.record_words.specs.Layout.{address, IsInTable}
+use Rattle.record_words.specs.declared.layout.Layout.{Layout}
+use Rattle.record_words.specs.declared.layout.Location.{Location}
+use Rattle.record_words.specs.declared.layout.Location.TheVariants.{Epoch, Root as RootWord, Anchor as AnchorWord, Pin as PinOf, NodeWord, LeafWord}
+use Rattle.record_words.specs.Packed.{fixed_words}
+use Rattle.record_words.specs.Leaf.{leaf_words}
+use Rattle.tries.specs.Keys.{Key}
+use Rattle.tries.specs.Tree.{Fixed, Tree, leaf, node, fork}
+use Rattle.moments.specs.declared.Rec.{Rec}
+use Rattle.moments.specs.declared.Rec.TheVariants.{Node as a_node, Leaf as a_leaf}
+use Rattle.moments.specs.State.{IsSame}
+use Rattle.moments.specs.Core.{Free, Unlinked, Marked, pin_moment}
+use Rattle.moments.specs.Told.{content, items_of}
+use Rattle.moments.proofs.States.{hindsight as state_hindsight, state_parting}
+use Rattle.moments.proofs.Stepping.{opening_core, core_reach, core_steady}
+use Rattle.rowex_core.specs.declared.event.Act.TheVariants.{Lock, Publish}
+use Rattle.rowex_core.specs.declared.event.Target.TheVariants.{Node as NodeTarget}
+use Rattle.rowex_core.specs.Reading.{word_in}
+use Rattle.rowex_core.specs.Cores.{IsLawful, bare, heap_of, view, word_count_of}
+use Rattle.rowex_core.specs.Words.{record_word, word_at, Shows}
+use Rattle.rowex_core.specs.Events.{IsFixedOffset, after, next_change, next_tree}
+use Rattle.rowex_core.specs.Opening.{opening, opening_words}
+use Rattle.rowex_core.specs.Statements.{OpeningIsLawful, Hindsight, Parting, InReach, PublishIsAStep, LocksApart, call_for, call_of}
+use Rattle.rowex_core.proofs.Frames.{change_pass}
+use Rattle.rowex_core.proofs.Loading.{fixed_fact}
+use Rattle.rowex_core.proofs.Staying.{stays_lawful}
+
+-- The opening core
+
+zeros : (n i : ℕ) → ◌≡◌ {A = ℕ} (get_or (replicate n 0) i 0) 0
+zeros n i = ⊎_elim (λ (h : i < n). get_or-replicate {A = ℕ} n i 0 0 h) (λ (h : n ≤ i). get_or_past {X = ℕ} (replicate n 0) i 0 (omega (arith, length-replicate {A = ℕ} n 0))) (cases_lt i n)
+
+later_zero : (n i a : ℕ) → a ≡ 3 + i → ◌≡◌ {A = ℕ} (get_or (1 ∷ 0 ∷ 2 ∷ replicate n 0) a 0) 0
+later_zero n i zero e = absurd (omega arith)
+later_zero n i (suc zero) e = absurd (omega arith)
+later_zero n i (suc (suc zero)) e = absurd (omega arith)
+later_zero n i (suc (suc (suc a))) e = zeros n a
+
+opening_record : (layout : Layout) (r : Rec) (offset : ℕ) → record_word (opening layout) r offset ≡ 0
+opening_record layout r zero = refl
+opening_record layout r (suc offset) = zeros (word_count_of r) offset
+
+opening_shows : (layout : Layout) → Shows (opening layout) (opening_words layout)
+opening_shows layout = record {
+  size = let l = length-replicate {A = ℕ} (layout.passes + 58 * layout.nodes + 33 * layout.leaves) 0 in omega arith;
+  each = each;
+}
+  where
+    each : (location : Location) → IsInTable layout location → get_or (opening_words layout) (address layout location) 0 ≡ word_at (opening layout) location
+    each Epoch h = refl
+    each RootWord h = refl
+    each AnchorWord h = refl
+    each (PinOf q) h = later_zero (layout.passes + 58 * layout.nodes + 33 * layout.leaves) q (3 + q) (omega arith)
+    each (NodeWord n offset) h =
+        later_zero (layout.passes + 58 * layout.nodes + 33 * layout.leaves) (layout.passes + 58 * n + offset) (address layout (NodeWord n offset)) (omega arith) ∙ sym (opening_record layout (a_node n) offset)
+    each (LeafWord n offset) h =
+        later_zero (layout.passes + 58 * layout.nodes + 33 * layout.leaves) (layout.passes + 58 * layout.nodes + 33 * n + offset) (address layout (LeafWord n offset)) (omega arith) ∙ sym (opening_record layout (a_leaf n) offset)
+
+pub opening_is_lawful : OpeningIsLawful
+opening_is_lawful layout = (
+  record {
+    core = opening_core (heap_of (opening layout).words);
+    records = record {
+      sized = λ r. (length-replicate {A = ℕ} (word_count_of r) 0, All-replicate (λ (w : ℕ). w < 2 ^ 64) (word_count_of r) 0 (lit< tt));
+      packed = λ r h. absurd h;
+      retired = λ n since last q e. absurd (let x : Free ≡ Unlinked since last q = e in cc);
+      used = λ r. inl refl;
+    };
+    epochs = record { now = (omega arith, lit< tt); loads = λ q. inl refl; pinned = λ q p e. absurd (let x : None ≡ Some p = e in cc); marked = λ r since last epoch e. absurd (let x : Free ≡ Marked since last epoch = e in cc) };
+    root = tt;
+    makers = All-from_recursion (λ (x : Change). x.pass < layout.passes) [] tt;
+  },
+  opening_shows layout,
+  λ q low. record { changes = All-from_recursion (λ (x : Change). x.pass ≢ q) [] tt; pin = refl; round = refl },
+)
+
+-- Records in reach
+
+pub hindsight : Hindsight
+hindsight c law q p e k n h = state_hindsight (view c) law.core.state p.moment (law.core.state.reach q p.moment (ap pin_moment e)) k n h
+
+pub parting : Parting
+parting c law = state_parting (view c) law.core.state
+
+same_word : (offset : ℕ) (u v : Tree) → IsSame u v → word_in u offset ≡ word_in v offset
+same_word offset (leaf n k v) (leaf m l w) (e, f) = ap₂ (λ x y. get_or (leaf_words (x, y)) (offset - 1) 0) e f
+same_word offset (leaf n k v) (node m x b) h = absurd h
+same_word offset (leaf n k v) (fork p a b) h = absurd h
+same_word offset (node n x b) (node m y d) h = ap (λ (z : Fixed). get_or (fixed_words (length z.rows) z.height z.columns z.rows) (offset - 1) 0) h.0
+same_word offset (node n x b) (leaf m l w) h = absurd h
+same_word offset (node n x b) (fork p a d) h = absurd h
+same_word offset (fork p a b) v h = absurd h
+
+pub in_reach : InReach
+in_reach c law q p e n r u lo hi st =
+    let kept = core_reach (bare c) law.core q p e n lo hi r u st in (kept.0, kept.1, word)
+  where
+    word : (offset : ℕ) → IsFixedOffset r offset → record_word c r offset ≡ word_in u offset
+    word offset fits =
+        let f = (fixed_fact c law p.moment (law.core.state.reach q p.moment (ap pin_moment e)) r offset fits).1 (n, u, lo, hi, st) in
+        sym f.5 ∙ same_word offset f.1 u (core_steady (bare c) law.core q p e r f.0 n f.1 u f.2 f.3 lo hi f.4 st)
+
+-- A publish is a step of the map
+
+map_of_end : (m : Map) (xs : List Change) (x : Change) → fold changed m (xs ++ x ∷ []) ≡ changed (fold changed m xs) x
+map_of_end m [] x = refl
+map_of_end m (y ∷ xs) x = map_of_end (changed m y) xs x
+
+last_fits : (m : Map) (xs : List Change) (x : Change) → LegalFrom m (xs ++ x ∷ []) → Fits (fold changed m xs) x
+last_fits m [] x l = l.0
+last_fits m (y ∷ xs) x l = last_fits (changed m y) xs x l.1
+
+one_call : (k : Kind) (m : Map) (key : Key) (value : ℕ) → FitsKind k (value_at m key) value → map_after m (call_for k key value) ≡ changed_by k m key value
+one_call Added m key value e = ap (λ (o : Option ℕ). (step_where o m (Upsert key value)).0) e
+one_call Removed m key value e = ap (λ (o : Option ℕ). (step_where o m (Remove key)).0) e
+one_call Replaced m key value h = go (value_at m key) refl h
+  where
+    go : (o : Option ℕ) → value_at m key ≡ o → IsSome o → map_after m (call_for Replaced key value) ≡ changed_by Replaced m key value
+    go None e h = absurd (false≢true h)
+    go (Some v) e h = ap (λ (z : Option ℕ). (step_where z m (Upsert key value)).0) e
+
+pub publish_is_a_step : PublishIsAStep
+publish_is_a_step c q spot w law l = (refl, change_pass q (items_of (c.past.moment c.past.now)) (items_of (next_tree c spot w)), fits, sym (held ∙ sym told_then))
+  where
+    then_lawful : IsLawful (after c q (Publish spot w))
+    then_lawful = stays_lawful c q (Publish spot w) law l
+
+    fits : Fits (map_of c.changes) (next_change c q spot w)
+    fits = last_fits [] c.changes (next_change c q spot w) then_lawful.core.told.legal
+
+    held : map_after (map_of c.changes) (call_of (next_change c q spot w)) ≡ map_of (c.changes ++ next_change c q spot w ∷ [])
+    held = one_call (next_change c q spot w).kind (map_of c.changes) (next_change c q spot w).key (next_change c q spot w).value fits ∙ sym (map_of_end [] c.changes (next_change c q spot w))
+
+    told_then : content ((after c q (Publish spot w)).past.moment (suc c.past.now)) ≡ map_of (c.changes ++ next_change c q spot w ∷ [])
+    told_then = then_lawful.core.told.content_is (suc c.past.now) (le_refl (suc c.past.now)) ∙
+        ap map_of (take_all (suc c.past.now) (c.changes ++ next_change c q spot w ∷ []) (let e = then_lawful.core.told.count in omega arith))
+
+-- Locks of two passes
+
+pub locks_apart : LocksApart
+locks_apart c p q n m law e ne l = (stays_lawful c q (Lock (NodeTarget m) 2) law l, rw (ne_eqb n m ne) e, rw (eq-eqb m m refl) refl)

@@ -1,0 +1,145 @@
+-- A legal publish keeps the core lawful.
+use Rattle.std.proofs.Common.{◌≡◌, ◌⊎◌, inl, inr, ℕ, ◌+◌, ◌^◌, ◌<◌, Bool, true, false, Option, Some, None, refl, sym, ap, ◌∙◌, subst, arith}
+use Rattle.std.proofs.lemmas.Bool.{cases_Bool, false≢true}
+use Rattle.std.proofs.lemmas.List.Elements.{All-push}
+use Rattle.hot_model.specs.declared.Change.{Change}
+use Rattle.compound_node.specs.declared.entries.Entry.{Entry}
+use Rattle.compound_node.specs.declared.entries.Entry.TheVariants.{Leaf, Node}
+use Rattle.record_words.specs.Entry.{HasEntryWord, entry_word}
+use Rattle.moments.specs.declared.Rec.{Rec}
+use Rattle.moments.specs.declared.Rec.TheVariants.{Node as a_node, Leaf as a_leaf}
+use Rattle.moments.specs.State.{IsLinked}
+use Rattle.moments.specs.Told.{items_of}
+use Rattle.moments.specs.Core.{Fate, Free, Held, Ready as ReadyBy, InTree, Unlinked, Marked}
+use Rattle.moments.specs.Steps.{same_rec, is_linked, next_fate, publishes, IsStore, at_root, at_slot}
+use Rattle.moments.specs.Steps.{IsLegalPublish as IsMomentsPublish}
+use Rattle.moments.proofs.Legal.{same_rec_true, linked_cases}
+use Rattle.moments.proofs.Stepping.{step_lawful}
+use Rattle.rowex_core.specs.declared.event.Act.TheVariants.{Publish}
+use Rattle.rowex_core.specs.declared.event.Spot.{Spot}
+use Rattle.rowex_core.specs.declared.event.Spot.TheVariants.{Root, Slot}
+use Rattle.rowex_core.specs.Reading.{node_of, leaf_of, entry_of, IsPacked}
+use Rattle.rowex_core.specs.Cores.{Core, IsLawful, bare, heap_of, HasRecord, IsSized, IsWhole}
+use Rattle.rowex_core.specs.Events.{after, stored_words, stored_root, next_tree, next_change, IsLegalPublish, IsPackedAt, IsLockedAt}
+use Rattle.rowex_core.proofs.Frames.{change_pass}
+use Rattle.rowex_core.proofs.Records.{sized_after}
+use Rattle.rowex_core.proofs.Publishing.{other_words, unlinked_words, true_linked}
+use Rattle.rowex_core.proofs.Storing.{near_store}
+use Rattle.moments.proofs.Pace.{next_marked}
+
+whole_before : (now q : ℕ) (b : Bool) (f : Fate) → IsWhole (next_fate now q b f) → IsWhole f
+whole_before now q true Free h = h
+whole_before now q true (Held p) h = h
+whole_before now q true (ReadyBy p) h = tt
+whole_before now q true (InTree s) h = tt
+whole_before now q true (Unlinked s l p) h = tt
+whole_before now q true (Marked s l p) h = tt
+whole_before now q false Free h = h
+whole_before now q false (Held p) h = h
+whole_before now q false (ReadyBy p) h = tt
+whole_before now q false (InTree s) h = tt
+whole_before now q false (Unlinked s l p) h = tt
+whole_before now q false (Marked s l p) h = tt
+
+-- what a publish makes an unlinked record was one, or was in the tree and went
+unlinked_before : (now q : ℕ) (b : Bool) (f : Fate) (since last p : ℕ) → next_fate now q b f ≡ Unlinked since last p →
+    (f ≡ Unlinked since last p) ⊎ ((s : ℕ) × (f ≡ InTree s) × (b ≡ false) × (q ≡ p))
+unlinked_before now q true Free since last p e = absurd cc
+unlinked_before now q true (Held i) since last p e = absurd cc
+unlinked_before now q true (ReadyBy i) since last p e = absurd cc
+unlinked_before now q true (InTree s) since last p e = absurd cc
+unlinked_before now q true (Unlinked s l i) since last p e = inl e
+unlinked_before now q true (Marked s l i) since last p e = absurd cc
+unlinked_before now q false Free since last p e = absurd cc
+unlinked_before now q false (Held i) since last p e = absurd cc
+unlinked_before now q false (ReadyBy i) since last p e = absurd cc
+unlinked_before now q false (InTree s) since last p e = inr (s, refl, refl, cc)
+unlinked_before now q false (Unlinked s l i) since last p e = inl e
+unlinked_before now q false (Marked s l i) since last p e = absurd cc
+
+entry_small : (e : Option Entry) → HasEntryWord e → entry_word e < 2 ^ 64
+entry_small None h = omega arith
+entry_small (Some (Leaf n)) h = omega arith
+entry_small (Some (Node n height)) h = omega arith
+
+module _ (c : Core) (q : ℕ) (spot : Spot) (w : ℕ) (law : IsLawful c) (l : IsLegalPublish c q spot w) where
+  store : (s : Spot) → IsLockedAt c q s → IsStore (bare c) q (heap_of (stored_words c s w)) (stored_root c s w)
+  store Root e = at_root e refl
+  store (Slot n j) e = at_slot n e.2
+      (λ m ne. ap node_of (other_words c n j w (a_node m) (λ x. ne (number x))))
+      (λ m. ap leaf_of (other_words c n j w (a_leaf m) (λ x. absurd cc))) refl
+    where
+      number : {a b : ℕ} → a_node a ≡ a_node b → a ≡ b
+      number e = cc
+
+  kept : (s : Spot) → IsLegalPublish c q s w → (n : ℕ) → IsLinked (next_tree c s w) (a_node n) ⊎ ((heap_of c.words).nodes n ≡ (heap_of (stored_words c s w)).nodes n)
+  kept s k n = go (linked_cases (next_tree c s w) (a_node n))
+    where
+      go : (IsLinked (next_tree c s w) (a_node n) × (is_linked (next_tree c s w) (a_node n) ≡ true)) ⊎ ((¬ (IsLinked (next_tree c s w) (a_node n))) × (is_linked (next_tree c s w) (a_node n) ≡ false)) →
+          IsLinked (next_tree c s w) (a_node n) ⊎ ((heap_of c.words).nodes n ≡ (heap_of (stored_words c s w)).nodes n)
+      go (inl x) = inl x.0
+      go (inr x) = inr (ap node_of (sym (unlinked_words c q law s w k (a_node n) x.0)))
+
+  pub moments_publish : IsMomentsPublish (bare c) q (heap_of (stored_words c spot w)) (stored_root c spot w) (next_tree c spot w) (next_change c q spot w)
+  moments_publish = record {
+    store = store spot l.locked;
+    near = near_store c spot w;
+    top = l.top;
+    tree = l.tree;
+    kept = kept spot l;
+    comes = l.comes;
+    goes = λ n f e out. l.goes n (f, e) out;
+    own = change_pass q (items_of (c.past.moment c.past.now)) (items_of (next_tree c spot w));
+    change = l.change;
+  }
+
+  published_words : (s : Spot) → IsPackedAt c s w → (r : Rec) → IsWhole (c.fate r) → IsPacked r (stored_words c s w r)
+  published_words Root p r h = law.records.packed r h
+  published_words (Slot n j) p r h = go (cases_Bool (same_rec r (a_node n)))
+    where
+      go : ((same_rec r (a_node n) ≡ true) ⊎ (same_rec r (a_node n) ≡ false)) → IsPacked r (stored_words c (Slot n j) w r)
+      go (inl e) = subst (λ z. IsPacked z (stored_words c (Slot n j) w z)) (sym (same_rec_true r (a_node n) e)) p
+      go (inr e) = rw e (law.records.packed r h)
+
+  published_sizes : (s : Spot) (r : Rec) → IsSized r (stored_words c s w r)
+  published_sizes Root r = law.records.sized r
+  published_sizes (Slot n j) r = sized_after c.words (a_node n) (26 + j) w (subst (λ z. z < 2 ^ 64) l.entry.1 (entry_small (entry_of w) l.entry.0)) law.records.sized r
+
+  published_root : (s : Spot) → HasEntryWord (stored_root c s w)
+  published_root Root = l.entry.0
+  published_root (Slot n j) = law.root
+
+  published_used : (r : Rec) → (next_fate c.past.now q (is_linked (next_tree c spot w) r) (c.fate r) ≡ Free) ⊎ HasRecord c.layout r
+  published_used r = elim (law.records.used r) [ inr h ↦ inr h | inl e ↦ go e (linked_cases (next_tree c spot w) r) ]
+    where
+      go : c.fate r ≡ Free → (IsLinked (next_tree c spot w) r × (is_linked (next_tree c spot w) r ≡ true)) ⊎ ((¬ (IsLinked (next_tree c spot w) r)) × (is_linked (next_tree c spot w) r ≡ false)) →
+          (next_fate c.past.now q (is_linked (next_tree c spot w) r) (c.fate r) ≡ Free) ⊎ HasRecord c.layout r
+      go e (inr x) = inl (rw (x.1, e) refl)
+      go e (inl x) = inl (rw (x.1, e) refl)
+
+  published_locks : (n since last p : ℕ) → next_fate c.past.now q (is_linked (next_tree c spot w) (a_node n)) (c.fate (a_node n)) ≡ Unlinked since last p → c.lock n ≡ Some p
+  published_locks n since last p e =
+      elim (unlinked_before c.past.now q (is_linked (next_tree c spot w) (a_node n)) (c.fate (a_node n)) since last p e) [
+        | inl x ↦ law.records.retired n since last p x
+        | inr (s, t, b, z) ↦ subst (λ i. c.lock n ≡ Some i) z (l.goes n (s, t) (λ y. false≢true (sym b ∙ true_linked (next_tree c spot w) (a_node n) y)))
+      ]
+
+  pub publish_stays : q < c.layout.passes → IsLawful (after c q (Publish spot w))
+  publish_stays low = record {
+    core = step_lawful (bare c) q _ law.core (publishes (heap_of (stored_words c spot w)) (stored_root c spot w) (next_tree c spot w) (next_change c q spot w) moments_publish);
+    records = record {
+      sized = published_sizes spot;
+      packed = λ r h. published_words spot l.packed r (whole_before c.past.now q (is_linked (next_tree c spot w) r) (c.fate r) h);
+      retired = published_locks;
+      used = published_used;
+    };
+    epochs = record {
+      now = law.epochs.now;
+      loads = law.epochs.loads;
+      pinned = law.epochs.pinned;
+      marked = λ r since last epoch e. law.epochs.marked r since last epoch (next_marked c.past.now q (is_linked (next_tree c spot w) r) (c.fate r) since last epoch e);
+    };
+    root = published_root spot;
+    makers = All-push (λ (x : Change). x.pass < c.layout.passes) c.changes (next_change c q spot w) law.makers
+        (subst (λ z. z < c.layout.passes) (sym (change_pass q (items_of (c.past.moment c.past.now)) (items_of (next_tree c spot w)))) low);
+  }

@@ -1,0 +1,212 @@
+-- Reading the words of a record that spell a value gives the value's parts.
+use Rattle.std.proofs.Common.{◌≡◌, ◌⊎◌, inl, inr, ⊎_elim, ℕ, zero, suc, ◌+◌, ◌-◌, ◌*◌, ◌/◌, ◌%◌, ◌^◌, ◌<◌, ◌≤◌, List, [], ◌∷◌, ◌++◌, length, get_or, take, drop, map, Option, Some, None, nat_lt, eqb, ltb, if◌then◌else◌, true, false, refl, sym, ap, ap₂, ◌∙◌, arith, lit<, length-take, get_or-take, get_or-drop, length-append}
+use Rattle.std.specs.Prelude.{All, slice_get}
+use Rattle.std.specs.Option.{unwrap_or}
+use Rattle.std.specs.Int.{to_be_bytes, w64}
+use Rattle.std.specs.Int.{byte_at, bytes_high_first}
+use Rattle.std.proofs.lemmas.Bool.{eq-eqb, ne_eqb, cases_lt, lt-ltb, le-ltb}
+use Rattle.std.proofs.lemmas.List.{ext_get_or, get_or_past, take_at, drop_at, length-take-le, length-map, get_or-map}
+use Rattle.std.proofs.lemmas.List.FromFn.{length-map-range_with_len, get_or-map-range_with_len}
+use Rattle.std.proofs.lemmas.List.Elements.{All-get_or, All-take, All-drop}
+use Rattle.std.proofs.lemmas.Option.{unwrap_or-slice_get}
+use Rattle.compound_node.specs.declared.entries.Entry.{Entry}
+use Rattle.compound_node.specs.declared.entries.Entry.TheVariants.{Leaf, Node}
+use Rattle.compound_node.specs.Nodes.{NodeView, head_of, piece}
+use Rattle.compound_node.proofs.Lawful.{same_count}
+use Rattle.partial_keys.specs.Shown.{piece_of}
+use Rattle.pieces.specs.Piece.{Place, Fork, size, places}
+use Rattle.record_words.specs.Entry.{HasEntryWord, entry_word}
+use Rattle.record_words.specs.Node.{HasNodeWords, head_words, entry_words, node_words}
+use Rattle.record_words.specs.Leaf.{HasLeafWords, leaf_words, IsBytesOf}
+use Rattle.record_words.specs.Packed.{fixed_words, ArePositionsOf, AreRowsOf}
+use Rattle.record_words.proofs.Entries.{length-entry_words, entry_words_at}
+use Rattle.record_words.proofs.Fixing.{AreFixed, fixed_words_parts}
+use Rattle.record_words.proofs.Packings.{positions_from_parts, same_positions, rows_from_parts, same_rows}
+use Rattle.record_words.proofs.Lawful.{column-lt, row-lt}
+use Rattle.record_words.proofs.Leaves.{key_of_bytes, leaf_words_parts}
+use Rattle.record_words.proofs.Bytes.{key_word-bytes}
+use Rattle.tries.specs.Tree.{Page}
+use Rattle.tries.specs.Place.{entry_at}
+use Rattle.moments.specs.Heap.{NodeWords, LeafWords}
+use Rattle.rowex_core.specs.Reading.{entry_of, positions_in, rows_in, fixed_of, entries_of, node_of, bytes_in, leaf_of}
+
+-- Entries
+
+pub entry_of_word : (e : Option Entry) → HasEntryWord e → entry_of (entry_word e) ≡ e
+unfolding entry_of
+entry_of_word None h = refl
+entry_of_word (Some (Leaf n)) h =
+    let other : eqb (4 * n + 1) 0 ≡ false = ne_eqb (4 * n + 1) 0 (λ z. omega arith) in
+    let tagged : eqb ((4 * n + 1) % 4) 1 ≡ true = eq-eqb ((4 * n + 1) % 4) 1 (omega arith) in
+    rw (other, tagged) (ap (λ z. Some (Leaf z)) (let x : (4 * n + 1) / 4 ≡ n = omega arith in x))
+entry_of_word (Some (Node n height)) h =
+    let w : ℕ = 2 ^ 34 * height + 4 * n + 2 in
+    let other : eqb (2 ^ 34 * height + 4 * n + 2) 0 ≡ false = ne_eqb (2 ^ 34 * height + 4 * n + 2) 0 (λ z. omega arith) in
+    let tagged : eqb ((2 ^ 34 * height + 4 * n + 2) % 4) 1 ≡ false = ne_eqb ((2 ^ 34 * height + 4 * n + 2) % 4) 1 (λ z. omega arith) in
+    rw (other, tagged) (ap₂ (λ x y. Some (Node x y)) (let x : (2 ^ 34 * height + 4 * n + 2) / 4 % 2 ^ 32 ≡ n = omega arith in x) (let y : (2 ^ 34 * height + 4 * n + 2) / 2 ^ 34 ≡ height = omega arith in y))
+
+-- the entry at a place of a page, from the list of its places
+low_place : {X : Type 0} (xs ys : List X) (j : ℕ) → j < length xs → slice_get (xs ++ ys) j ≡ slice_get xs j
+low_place [] ys j h = absurd (omega arith)
+low_place (x ∷ xs) ys zero h = refl
+low_place (x ∷ xs) ys (suc j) h = low_place xs ys j (omega arith)
+
+high_place : {X : Type 0} (xs ys : List X) (j : ℕ) → length xs ≤ j → slice_get (xs ++ ys) j ≡ slice_get ys (j - length xs)
+high_place [] ys j h = ap (slice_get ys) (let e : j ≡ j - 0 = omega arith in e)
+high_place (x ∷ xs) ys zero h = absurd (omega arith)
+high_place (x ∷ xs) ys (suc j) h = high_place xs ys j (omega arith) ∙ ap (slice_get ys) (let e : j - length xs ≡ suc j - suc (length xs) = omega arith in e)
+
+size_places : (p : Page) → length (places p) ≡ size p
+size_places (Place e) = refl
+size_places (Fork q a b) = length-append (places a) (places b) ∙ ap₂ (λ x y. x + y) (size_places a) (size_places b)
+
+pub place_is : (p : Page) (j : ℕ) → (if nat_lt j (size p) then Some (entry_at p j) else None) ≡ slice_get (places p) j
+place_is (Place e) zero = refl
+place_is (Place e) (suc j) = rw (le-ltb (suc j) 1 (omega arith)) refl
+place_is (Fork q a b) j = go (place_is a j) (place_is b (j - size a)) (cases_lt j (size a))
+  where
+    same : size a ≤ j → (j - size a < size b) ⊎ (size b ≤ j - size a) → ltb j (size a + size b) ≡ ltb (j - size a) (size b)
+    same h (inl x) = lt-ltb j (size a + size b) (omega arith) ∙ sym (lt-ltb (j - size a) (size b) x)
+    same h (inr x) = le-ltb j (size a + size b) (omega arith) ∙ sym (le-ltb (j - size a) (size b) x)
+
+    go : (if nat_lt j (size a) then Some (entry_at a j) else None) ≡ slice_get (places a) j →
+        (if nat_lt (j - size a) (size b) then Some (entry_at b (j - size a)) else None) ≡ slice_get (places b) (j - size a) → (j < size a) ⊎ (size a ≤ j) →
+        (if nat_lt j (size a + size b) then Some (if nat_lt j (size a) then entry_at a j else entry_at b (j - size a)) else None) ≡ slice_get (places a ++ places b) j
+    go x y (inl h) =
+        let s = size_places a in
+        let low : ltb j (size a) ≡ true = lt-ltb j (size a) h in
+        let all : ltb j (size a + size b) ≡ true = lt-ltb j (size a + size b) (omega arith) in
+        rw (all, low) ((rw low at x) ∙ sym (low_place (places a) (places b) j (omega arith)))
+    go x y (inr h) =
+        let s = size_places a in
+        let high : ltb j (size a) ≡ false = le-ltb j (size a) h in
+        rw (high, same h (cases_lt (j - size a) (size b))) (y ∙ (ap (λ z. slice_get (places b) (j - z)) (sym s) ∙ sym (high_place (places a) (places b) j (omega arith))))
+
+-- Nodes
+
+small_at : (words : List ℕ) → All (λ w. w < 2 ^ 64) words → (i : ℕ) → get_or words i 0 < 2 ^ 64
+small_at words small i = ⊎_elim (λ (inside : i < length words). All-get_or (λ w. w < 2 ^ 64) words i 0 inside small)
+    (λ (past : length words ≤ i). rw (get_or_past words i 0 past) (lit< tt)) (cases_lt i (length words))
+
+module _ (view : NodeView) (words : List ℕ) (small : All (λ w. w < 2 ^ 64) words) (has : HasNodeWords view) (same : node_words view ≡ words) where
+  head_long : length (head_words (head_of view)) ≡ 25
+  head_long = (fixed_words_parts (length view.rows) view.height view.columns view.rows (head_words (head_of view)) refl).whole
+
+  pub head_is : head_words (head_of view) ≡ take 25 words
+  head_is = sym (take_at (head_words (head_of view)) (entry_words view.entries) 25 head_long) ∙ ap (take 25) same
+
+  tail_is : entry_words view.entries ≡ drop 25 words
+  tail_is = sym (drop_at (head_words (head_of view)) (entry_words view.entries) 25 head_long) ∙ ap (drop 25) same
+
+  parts : AreFixed (length view.rows) view.height view.columns view.rows (take 25 words)
+  parts = fixed_words_parts (length view.rows) view.height view.columns view.rows (take 25 words) head_is
+
+  room : length view.rows ≤ 32
+  room = omega (arith, same_count view has.lawful, has.lawful.room)
+
+  numbers : (get_or (take 25 words) 0 0 % 256 ≡ length view.rows) × (get_or (take 25 words) 0 0 / 256 % 256 ≡ length view.columns) × (get_or (take 25 words) 0 0 / 65536 ≡ view.height)
+  numbers = let m = parts.numbers in let f = has.lawful.positions.few in let r = room in (omega arith, omega arith, omega arith)
+
+  positions : ArePositionsOf (positions_in (drop 1 (take 25 words))) (drop 1 (take 25 words))
+  positions = positions_from_parts (positions_in (drop 1 (take 25 words))) (drop 1 (take 25 words))
+      (length-map-range_with_len (λ k. get_or (drop 1 (take 25 words)) (k / 4) 0 / 2 ^ (16 * (k % 4)) % 2 ^ 16) 0 32)
+      (small_at (drop 1 (take 25 words)) (All-drop (λ w. w < 2 ^ 64) 1 (take 25 words) (All-take (λ w. w < 2 ^ 64) 25 words small)))
+      (λ k h. get_or-map-range_with_len (λ k. get_or (drop 1 (take 25 words)) (k / 4) 0 / 2 ^ (16 * (k % 4)) % 2 ^ 16) 0 32 k k 0 h (omega arith))
+
+  rows_read : AreRowsOf (rows_in (drop 9 (take 25 words))) (drop 9 (take 25 words))
+  rows_read = rows_from_parts (rows_in (drop 9 (take 25 words))) (drop 9 (take 25 words))
+      (length-map-range_with_len (λ k. get_or (drop 9 (take 25 words)) (k / 2) 0 / 2 ^ (32 * (k % 2)) % 2 ^ 32) 0 32)
+      (small_at (drop 9 (take 25 words)) (All-drop (λ w. w < 2 ^ 64) 9 (take 25 words) (All-take (λ w. w < 2 ^ 64) 25 words small)))
+      (λ k h. get_or-map-range_with_len (λ k. get_or (drop 9 (take 25 words)) (k / 2) 0 / 2 ^ (32 * (k % 2)) % 2 ^ 32) 0 32 k k 0 h (omega arith))
+
+  columns_are : (fixed_of (take 25 words)).columns ≡ view.columns
+  columns_are =
+      let n = numbers.1 in
+      let w = positions.whole in
+      ext_get_or 65535 (fixed_of (take 25 words)).columns view.columns
+      (length-take-le (get_or (take 25 words) 0 0 / 256 % 256) (positions_in (drop 1 (take 25 words))) (omega (arith, has.lawful.positions.few)) ∙ n)
+      (λ i h. let low : i < length view.columns = omega (arith, length-take (get_or (take 25 words) 0 0 / 256 % 256) (positions_in (drop 1 (take 25 words)))) in
+      get_or-take (get_or (take 25 words) 0 0 / 256 % 256) (positions_in (drop 1 (take 25 words))) i 65535 (omega arith) ∙
+      same_positions (positions_in (drop 1 (take 25 words))) view.columns positions.small (column-lt view has.lawful)
+      (λ j s. positions.words_are j s ∙ (get_or-drop 1 (take 25 words) j 0 ∙ sym (parts.positions j s))) i (omega (arith, has.lawful.positions.few)))
+
+  rows_are : (fixed_of (take 25 words)).rows ≡ view.rows
+  rows_are =
+      let n = numbers.0 in
+      let w = rows_read.whole in
+      let r = room in
+      ext_get_or 4294967295 (fixed_of (take 25 words)).rows view.rows
+      (length-take-le (get_or (take 25 words) 0 0 % 256) (rows_in (drop 9 (take 25 words))) (omega arith) ∙ n)
+      (λ i h. let low : i < length view.rows = omega (arith, length-take (get_or (take 25 words) 0 0 % 256) (rows_in (drop 9 (take 25 words)))) in
+      get_or-take (get_or (take 25 words) 0 0 % 256) (rows_in (drop 9 (take 25 words))) i 4294967295 (omega arith) ∙
+      same_rows (rows_in (drop 9 (take 25 words))) view.rows rows_read.small (row-lt view has.lawful)
+      (λ j s. rows_read.words_are j s ∙ (get_or-drop 9 (take 25 words) j 0 ∙ sym (parts.rows_are j s))) i (omega arith))
+
+  entry_word_at : (i : ℕ) → i < 32 → entry_of (get_or (drop 25 words) i 0) ≡ slice_get view.entries i
+  entry_word_at i h = ap entry_of (entry_words_at view.entries (drop 25 words) tail_is i h) ∙ entry_of_word (slice_get view.entries i) (has.entries.each i)
+
+  tail_long : length (drop 25 words) ≡ 32
+  tail_long = ap length (sym tail_is) ∙ length-entry_words view.entries
+
+  entries_are : entries_of (get_or (take 25 words) 0 0 % 256) (drop 25 words) ≡ view.entries
+  entries_are =
+      let n = numbers.0 in
+      let r = same_count view has.lawful in
+      let l = has.lawful.room in
+      let m = length-map (drop 25 words) (λ w. unwrap_or (entry_of w) (Leaf 0)) in
+      let t = tail_long in
+      ext_get_or (Leaf 0) (entries_of (get_or (take 25 words) 0 0 % 256) (drop 25 words)) view.entries
+      (length-take-le (get_or (take 25 words) 0 0 % 256) (map (λ w. unwrap_or (entry_of w) (Leaf 0)) (drop 25 words)) (omega arith) ∙ (n ∙ r))
+      (λ i h. let low : i < length view.entries = omega (arith, length-take (get_or (take 25 words) 0 0 % 256) (map (λ w. unwrap_or (entry_of w) (Leaf 0)) (drop 25 words))) in
+      get_or-take (get_or (take 25 words) 0 0 % 256) (map (λ w. unwrap_or (entry_of w) (Leaf 0)) (drop 25 words)) i (Leaf 0) (omega arith) ∙
+      (get_or-map (λ w. unwrap_or (entry_of w) (Leaf 0)) (drop 25 words) i 0 (Leaf 0) (omega arith) ∙
+      (ap (λ z. unwrap_or z (Leaf 0)) (entry_word_at i (omega arith)) ∙ unwrap_or-slice_get view.entries i (Leaf 0))))
+
+  -- the words that a node has are read as that node
+  pub node_is : node_of words ≡ record { fixed = record { height = view.height; columns = view.columns; rows = view.rows }; page = piece view }
+  unfolding node_of
+  node_is = same_node (numbers.2) columns_are rows_are entries_are
+    where
+      same_node : {h i : ℕ} {c d r s : List ℕ} {e f : List Entry} → h ≡ i → c ≡ d → r ≡ s → e ≡ f →
+          ◌≡◌ {A = NodeWords} (record { fixed = record { height = h; columns = c; rows = r }; page = piece_of (Leaf 0) c r e }) (record { fixed = record { height = i; columns = d; rows = s }; page = piece_of (Leaf 0) d s f })
+      same_node a b c d = rw (a, b, c, d) refl
+
+  -- and each entry word is that of the entry at its place, or of none
+  pub entry_at_is : (j : ℕ) → j < 32 → entry_of (get_or words (25 + j) 0) ≡ (if nat_lt j (size (piece view)) then Some (entry_at (piece view) j) else None)
+  entry_at_is j h = ap entry_of (sym (get_or-drop 25 words j 0)) ∙ (entry_word_at j h ∙ (ap (λ z. slice_get z j) has.lawful.shows.entries_are ∙ sym (place_is (piece view) j)))
+
+  -- and each fixed word is that of its columns, rows and height
+  pub fixed_word_is : (i : ℕ) → i < 25 → get_or words i 0 ≡ get_or (fixed_words (length view.rows) view.height view.columns view.rows) i 0
+  fixed_word_is i h = sym (get_or-take 25 words i 0 h) ∙ ap (λ z. get_or z i 0) (sym head_is)
+
+-- Leaves
+
+byte_at_small : (k n : ℕ) → byte_at k n < 256
+byte_at_small zero n = omega arith
+byte_at_small (suc k) n = omega arith
+
+byte_small : (k n i : ℕ) → get_or (bytes_high_first k n) i 0 < 256
+byte_small zero n i = lit< tt
+byte_small (suc k) n zero = byte_at_small k n
+byte_small (suc k) n (suc i) = byte_small k n i
+
+pub leaf_is : (pair : List ℕ × ℕ) (words : List ℕ) → All (λ w. w < 2 ^ 64) words → HasLeafWords pair → leaf_words pair ≡ words → leaf_of words ≡ record { key = pair.0; value = pair.1 }
+unfolding leaf_of
+leaf_is pair words small has same = same_leaf (key_of_bytes (bytes_in (drop 2 words)) words pair (get_or words 1 0) of bytes_small has (sym same) refl) (leaf_words_parts pair words (sym same)).value
+  where
+    same_leaf : {k l : List ℕ} {v w : ℕ} → k ≡ l → v ≡ w → ◌≡◌ {A = LeafWords} (record { key = k; value = v }) (record { key = l; value = w })
+    same_leaf a b = rw (a, b) refl
+
+    bytes_small : (i : ℕ) → get_or (bytes_in (drop 2 words)) i 0 < 256
+    bytes_small i = ⊎_elim
+        (λ (h : i < 240). rw (get_or-map-range_with_len (λ i. get_or (to_be_bytes w64 (get_or (drop 2 words) (i / 8) 0)) (i % 8) 0) 0 240 i i 0 h (let e : 0 + i ≡ i = omega arith in e)) (byte_small 8 (get_or (drop 2 words) (i / 8) 0) (i % 8)))
+        (λ (h : 240 ≤ i). rw (get_or_past (bytes_in (drop 2 words)) i 0 (let l = length-map-range_with_len (λ i. get_or (to_be_bytes w64 (get_or (drop 2 words) (i / 8) 0)) (i % 8) 0) 0 240 in omega arith)) (lit< tt)) (cases_lt i 240)
+
+    of : IsBytesOf (bytes_in (drop 2 words)) (take 30 (drop 2 words))
+    of = record {
+      count = length-map-range_with_len (λ i. get_or (to_be_bytes w64 (get_or (drop 2 words) (i / 8) 0)) (i % 8) 0) 0 240;
+      words_are = λ j h. key_word-bytes (bytes_in (drop 2 words)) j (get_or (take 30 (drop 2 words)) j 0)
+          (small_at (take 30 (drop 2 words)) (All-take (λ w. w < 2 ^ 64) 30 (drop 2 words) (All-drop (λ w. w < 2 ^ 64) 2 words small)) j)
+          (λ i l. get_or-map-range_with_len (λ i. get_or (to_be_bytes w64 (get_or (drop 2 words) (i / 8) 0)) (i % 8) 0) 0 240 (8 * j + i) (8 * j + i) 0 (omega arith) (omega arith) ∙
+          ap₂ (λ x y. get_or (to_be_bytes w64 x) y 0) (ap (λ z. get_or (drop 2 words) z 0) (let e : (8 * j + i) / 8 ≡ j = omega arith in e) ∙ sym (get_or-take 30 (drop 2 words) j 0 h)) (let e : (8 * j + i) % 8 ≡ i = omega arith in e));
+    }

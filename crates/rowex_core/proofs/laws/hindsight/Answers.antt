@@ -1,0 +1,6 @@
+-- The law hindsight.
+use Rattle.rowex_core.proofs.Promises.{hindsight}
+use Rattle.rowex_core.proofs.laws.hindsight.Goals as goal
+
+pub returns : goal.returns
+returns c = hindsight

@@ -1,0 +1,6 @@
+-- The law opening_is_lawful.
+use Rattle.rowex_core.proofs.Promises.{opening_is_lawful}
+use Rattle.rowex_core.proofs.laws.opening_is_lawful.Goals as goal
+
+pub returns : goal.returns
+returns c = opening_is_lawful

@@ -1,0 +1,97 @@
+-- The state of the shared words and of all moments so far.
+use Rattle.std.specs.Prelude.{◌≡◌, ◌⊎◌, ℕ, ◌<◌, ◌≤◌, ◌^◌, List, length, All, Option, Some}
+use Rattle.compound_node.specs.declared.entries.Entry.{Entry}
+use Rattle.hot_model.specs.declared.Change.{Change}
+use Rattle.record_words.specs.declared.layout.Layout.{Layout}
+use Rattle.moments.specs.declared.Rec.{Rec}
+use Rattle.moments.specs.declared.Rec.TheVariants.{Node as a_node, Leaf as a_leaf}
+use Rattle.moments.specs.declared.Pin.{Pin}
+use Rattle.moments.specs.declared.Round.{Round}
+use Rattle.moments.specs.Heap.{Heap}
+use Rattle.moments.specs.State.{Past, State}
+use Rattle.moments.specs.Steps.{IsLawfulCore}
+use Rattle.record_words.specs.Entry.{HasEntryWord}
+use Rattle.moments.specs.Core.{Core as Moments, Fate, Free, Held, Unlinked, Marked, view as moments_of}
+use Rattle.rowex_core.specs.Reading.{node_of, leaf_of, IsPacked}
+
+-- Words: of each record all but its state; a node record has 57 and a leaf record 32.
+pub record Core : Type 0 where
+  pub layout : Layout
+  pub words : Rec → List ℕ
+  pub root : Option Entry
+  pub past : Past
+  pub changes : List Change
+  pub fate : Rec → Fate
+  pub anchor : Option ℕ
+  pub lock : ℕ → Option ℕ
+  pub epoch : ℕ
+  pub pins : ℕ → Option Pin
+  pub rounds : ℕ → Round
+
+-- what the words of the records say
+abbrev pub heap_of : (Rec → List ℕ) → Heap
+heap_of words = record { nodes = λ n. node_of (words (a_node n)); leaves = λ n. leaf_of (words (a_leaf n)) }
+
+-- the core with what its words say in the place of the words
+abbrev pub bare : Core → Moments
+bare c = record {
+  heap = heap_of c.words;
+  root = c.root;
+  past = c.past;
+  changes = c.changes;
+  fate = c.fate;
+  anchor = c.anchor;
+  lock = c.lock;
+  epoch = c.epoch;
+  pins = c.pins;
+  rounds = c.rounds;
+}
+
+abbrev pub HasRecord : Layout → Rec → Type 0
+HasRecord layout (a_node n) = n < layout.nodes
+HasRecord layout (a_leaf n) = n < layout.leaves
+
+-- the core without the words: moments, lives and pins
+abbrev pub view : Core → State
+view c = moments_of (bare c)
+
+-- a record has this many words, each of 64 bits
+abbrev pub word_count_of : Rec → ℕ
+word_count_of (a_node n) = 57
+word_count_of (a_leaf n) = 32
+
+abbrev pub IsSized : Rec → List ℕ → Type 0
+IsSized r words = (length words ≡ word_count_of r) × All (λ w. w < 2 ^ 64) words
+
+-- neither free nor held
+abbrev pub IsWhole : Fate → Type 0
+IsWhole Free = ⊥
+IsWhole (Held q) = ⊥
+IsWhole _ = Unit {0}
+
+-- What holds of the records, where these are their words, fates and locks.
+pub record AreRecords (layout : Layout) (words : Rec → List ℕ) (fate : Rec → Fate) (lock : ℕ → Option ℕ) : Type 0 where
+  -- each has its number of words, and those of one that is neither free nor held spell a value
+  pub sized : (r : Rec) → IsSized r (words r)
+  pub packed : (r : Rec) → IsWhole (fate r) → IsPacked r (words r)
+  -- an unlinked node stays locked until it is marked
+  pub retired : (n since last q : ℕ) → fate (a_node n) ≡ Unlinked since last q → lock n ≡ Some q
+  -- only those of the table are used
+  pub used : (r : Rec) → (fate r ≡ Free) ⊎ HasRecord layout r
+
+-- What holds of the epochs: they go from 1 to 2^60 - 1, and so do pins and marks; only passes of the index are pinned.
+pub record AreEpochs (layout : Layout) (epoch : ℕ) (pins : ℕ → Option Pin) (rounds : ℕ → Round) (fate : Rec → Fate) : Type 0 where
+  pub now : (1 ≤ epoch) × (epoch < 2 ^ 60)
+  pub loads : (q : ℕ) → ((rounds q).moment ≡ 0) ⊎ (1 ≤ (rounds q).epoch)
+  pub pinned : (q : ℕ) (p : Pin) → pins q ≡ Some p → (q < layout.passes) × (1 ≤ p.word)
+  pub marked : (r : Rec) (since last epoch : ℕ) → fate r ≡ Marked since last epoch → (1 ≤ epoch) × (epoch < 2 ^ 60)
+
+-- The whole core is lawful.
+pub record IsLawful (c : Core) : Type 0 where
+  -- moments, lives, paces and locks; the content of each moment is the map of the changes before it
+  pub core : IsLawfulCore (bare c)
+  pub records : AreRecords c.layout c.words c.fate c.lock
+  pub epochs : AreEpochs c.layout c.epoch c.pins c.rounds c.fate
+  pub root : HasEntryWord c.root
+  -- each change was made by a pass of the index
+  pub makers : All (λ x. x.pass < c.layout.passes) c.changes

@@ -1,0 +1,224 @@
+-- What a pass knows of a core: when it is true, what its own steps teach it, and which steps it may make.
+use Rattle.std.specs.Prelude.{◌≡◌, ◌≢◌, ◌⊎◌, ℕ, ◌+◌, ◌-◌, ◌<◌, ◌≤◌, List, [], ◌∷◌, ◌++◌, set, map, filter, All, not, nat_eq, if◌then◌else◌, Option, Some, None}
+use Rattle.compound_node.specs.declared.entries.Entry.{Entry}
+use Rattle.hot_model.specs.declared.Change.{Change}
+use Rattle.hot_model.specs.declared.Note.{Note}
+use Rattle.hot_model.specs.Fronts.{BeginsWith, OthersGoOn}
+use Rattle.record_words.specs.declared.layout.Location.{Location}
+use Rattle.record_words.specs.declared.layout.Layout.{Layout}
+use Rattle.tries.specs.Tree.{Tree, node, leaf, fork}
+use Rattle.moments.specs.declared.Rec.{Rec}
+use Rattle.moments.specs.declared.Rec.TheVariants.{Node as a_node, Leaf as a_leaf}
+use Rattle.moments.specs.declared.Pin.{Pin}
+use Rattle.moments.specs.State.{Past, Stands}
+use Rattle.moments.specs.Core.{Fate, Free, Held as HeldBy, Ready as ReadyBy, InTree, Unlinked as UnlinkedBy}
+use Rattle.moments.specs.Steps.{same_rec, is_linked, lowered}
+use Rattle.rowex_core.specs.declared.event.Act.{Act}
+use Rattle.rowex_core.specs.declared.event.Act.TheVariants.{Claim, Fill, Ready, Release, LoadRef, LoadFixed, Lock, Unlock, Publish, Mark, LoadEpoch, Advance, SetPin, ClearPin, LoadPin, LoadState, GiveBack}
+use Rattle.rowex_core.specs.declared.event.Target.TheVariants.{Anchor, Node as NodeTarget}
+use Rattle.rowex_core.specs.declared.event.Spot.{Spot}
+use Rattle.rowex_core.specs.declared.event.Spot.TheVariants.{Root, Slot}
+use Rattle.rowex_core.specs.declared.known.Fact.{Fact}
+use Rattle.rowex_core.specs.declared.known.Fact.TheVariants.{Rooted, Placed, Fixed}
+use Rattle.rowex_core.specs.declared.known.Holding.{Holding}
+use Rattle.rowex_core.specs.declared.known.Holding.TheVariants.{Held, Ready as IsReady, Unlinked}
+use Rattle.rowex_core.specs.declared.known.Owned.{Owned}
+use Rattle.rowex_core.specs.declared.known.Locked.{Locked}
+use Rattle.rowex_core.specs.declared.known.Known.{Known}
+use Rattle.rowex_core.specs.declared.known.View.{View}
+use Rattle.rowex_core.specs.declared.known.View.TheVariants.{Spent, Dealer, Pass, Pair}
+use Rattle.rowex_core.specs.Cores.{Core, HasRecord, IsLawful}
+use Rattle.rowex_core.specs.Reading.{entry_of, root_of, entry_in, word_in}
+use Rattle.rowex_core.specs.Words.{word_at, record_word}
+use Rattle.rowex_core.specs.Events.{IsInTree, Legal, stored_words, stored_root, next_change, next_tree, word_of, target_word, location_of}
+
+-- Facts of past moments
+
+-- the record stood in the tree at some moment from `since` to `at`
+abbrev pub StoodBetween : Past → ℕ → ℕ → Rec → Type 0
+StoodBetween s since at r = (n : ℕ) × (u : Tree) × (since ≤ n) × (n ≤ at) × Stands s n r u
+
+-- it stood as a tree of which P holds
+abbrev pub StoodAs : Past → ℕ → Rec → (Tree → Type 0) → Type 0
+StoodAs s since r P = (n : ℕ) × (u : Tree) × (since ≤ n) × (n ≤ s.now) × Stands s n r u × P u
+
+abbrev pub IsFact : Past → Fact → Type 0
+IsFact s (Rooted since at e) = (since ≤ at) × (at ≤ s.now) × (root_of (s.moment at) ≡ e)
+IsFact s (Placed since at n j e) = (at ≤ s.now) × (StoodBetween s since at (a_node n) → StoodAs s since (a_node n) (λ u. entry_in u j ≡ e))
+IsFact s (Fixed since at r offset w) = (at ≤ s.now) × (StoodBetween s since at r → StoodAs s since r (λ u. word_in u offset ≡ w))
+
+-- Records of the pass's own, and locks
+
+abbrev pub fate_of : ℕ → Holding → Fate
+fate_of q Held = HeldBy q
+fate_of q IsReady = ReadyBy q
+fate_of q (Unlinked since last) = UnlinkedBy since last q
+
+abbrev pub IsOwned : ℕ → Core → Owned → Type 0
+IsOwned q c o = HasRecord c.layout o.rec × (c.fate o.rec ≡ fate_of q o.holding) × (c.words o.rec ≡ o.words)
+
+abbrev pub IsLocked : ℕ → Core → Locked → Type 0
+IsLocked q c l = (l.node < c.layout.nodes) × (c.lock l.node ≡ Some q) × IsInTree c l.node × (c.words (a_node l.node) ≡ l.words)
+
+-- what the pass knows is true of the core
+pub record Knows (c : Core) (k : Known) : Type 0 where
+  pub pass : k.pass < c.layout.passes
+  pub front : OthersGoOn k.pass k.front c.changes
+  pub fresh : BeginsWith k.front k.fresh.front
+  pub facts : All (IsFact c.past) k.facts
+  pub own : All (IsOwned k.pass c) k.own
+  pub locks : All (IsLocked k.pass c) k.locks
+  pub anchor : (e : Option Entry) → k.anchor ≡ Some e → (c.anchor ≡ Some k.pass) × (c.root ≡ e)
+  pub pin : c.pins k.pass ≡ k.pin
+  pub round : c.rounds k.pass ≡ k.round
+
+abbrev pub NoChangeBy : ℕ → List Change → Type 0
+NoChangeBy q changes = All (λ x. x.pass ≢ q) changes
+
+-- what a new pass finds: nothing is its own yet
+pub record IsUntouched (c : Core) (q : ℕ) : Type 0 where
+  pub changes : NoChangeBy q c.changes
+  pub pin : c.pins q ≡ None
+  pub round : c.rounds q ≡ record { epoch = 0; moment = 0; bound = 0; seen = [] }
+
+abbrev pub Knowing : Core → View → Type 0
+Knowing c Spent = Unit {0}
+Knowing c (Dealer m) = (q : ℕ) → m ≤ q → IsUntouched c q
+Knowing c (Pass k) = Knows c k
+Knowing c (Pair j k) = Knows c j × Knows c k × (j.pass ≢ k.pass)
+
+-- the view has this number
+abbrev pub Owns : View → ℕ → Type 0
+Owns Spent q = ⊥
+Owns (Dealer m) q = m ≤ q
+Owns (Pass k) q = k.pass ≡ q
+Owns (Pair j k) q = (j.pass ≡ q) ⊎ (k.pass ≡ q)
+
+-- What a step teaches its pass, where c is the core before it
+
+-- a load teaches a pinned pass a fact
+abbrev pub facts_with : Option Pin → (ℕ → Fact) → List Fact → List Fact
+facts_with None f facts = facts
+facts_with (Some p) f facts = f p.moment ∷ facts
+
+abbrev pub failed_with : Known → Location → ℕ → Known
+failed_with k location w = record k { failed = record { location = location; word = w; step = k.steps } ∷ k.failed }
+
+abbrev pub hold_as : Rec → Holding → Owned → Owned
+hold_as r h o = if same_rec o.rec r then record o { holding = h } else o
+
+abbrev pub fill_in : Rec → ℕ → ℕ → Owned → Owned
+fill_in r offset w o = if same_rec o.rec r then record o { words = set o.words (offset - 1) w } else o
+
+abbrev pub without_record : Rec → List Owned → List Owned
+without_record r own = filter (λ o. not (same_rec o.rec r)) own
+
+abbrev pub without_lock : ℕ → List Locked → List Locked
+without_lock n locks = filter (λ l. not (nat_eq l.node n)) locks
+
+abbrev pub claim_learned : Core → Rec → ℕ → Fate → Known → Known
+claim_learned c r found Free k = record k { own = record { rec = r; holding = Held; words = c.words r } ∷ k.own }
+claim_learned c r found _ k = failed_with k (word_of r 0) found
+
+abbrev pub anchor_learned : Core → ℕ → Option ℕ → Known → Known
+anchor_learned c found None k = record k { anchor = Some c.root }
+anchor_learned c found (Some q) k = failed_with k (target_word Anchor) found
+
+abbrev pub node_learned : Core → ℕ → ℕ → Known → Known
+node_learned c n found k =
+    if nat_eq found 2 then record k { locks = record { node = n; words = c.words (a_node n) } ∷ k.locks }
+    else failed_with k (target_word (NodeTarget n)) found
+
+abbrev pub entry_learned : Core → Spot → Known → Known
+entry_learned c Root k = record k {
+  front = c.changes;
+  fresh = record { front = c.changes; step = k.steps };
+  facts = facts_with k.pin (λ since. Rooted since c.past.now c.root) k.facts;
+}
+entry_learned c (Slot n j) k = record k { facts = facts_with k.pin (λ since. Placed since c.past.now n j (entry_of (record_word c (a_node n) (26 + j)))) k.facts }
+
+-- the records of a tree
+abbrev pub records_of : Tree → List Rec
+records_of (leaf n k v) = a_leaf n ∷ []
+records_of (node n x b) = a_node n ∷ records_of b
+records_of (fork p a b) = records_of a ++ records_of b
+
+abbrev pub records_in : Option Tree → List Rec
+records_in None = []
+records_in (Some t) = records_of t
+
+-- a record that the pass unlinks is its own until it is marked
+abbrev pub unlinked_as : Core → Rec → Fate → Owned
+unlinked_as c r (InTree since) = record { rec = r; holding = Unlinked since c.past.now; words = c.words r }
+unlinked_as c r _ = record { rec = r; holding = Unlinked 0 0; words = c.words r }
+
+-- the pass's own records after a publish of the tree t: those that it links have gone, and those that it unlinks have come
+abbrev pub own_after : Core → Option Tree → List Owned → List Owned
+own_after c t own =
+    map (λ r. unlinked_as c r (c.fate r)) (filter (λ r. not (is_linked t r)) (records_in (c.past.moment c.past.now))) ++
+    filter (λ o. not (is_linked t o.rec)) own
+
+abbrev pub relocked : (Rec → List ℕ) → Locked → Locked
+relocked words l = record l { words = words (a_node l.node) }
+
+-- the nodes in the tree t that the pass has locked, where these are the words then
+abbrev pub locks_after : (Rec → List ℕ) → Option Tree → List Locked → List Locked
+locks_after words t locks = map (λ l. relocked words l) (filter (λ l. is_linked t (a_node l.node)) locks)
+
+abbrev pub anchor_after : Spot → Option Entry → Option (Option Entry) → Option (Option Entry)
+anchor_after Root root anchor = Some root
+anchor_after (Slot n j) root anchor = anchor
+
+abbrev pub publish_learned : Core → Spot → ℕ → Known → Known
+publish_learned c spot w k = record k {
+  front = c.changes ++ next_change c k.pass spot w ∷ [];
+  own = own_after c (next_tree c spot w) k.own;
+  locks = locks_after (stored_words c spot w) (next_tree c spot w) k.locks;
+  anchor = anchor_after spot (stored_root c spot w) k.anchor;
+}
+
+abbrev pub learned_by : Core → Act → Known → Known
+learned_by c (Claim r found) k = claim_learned c r found (c.fate r) k
+learned_by c (Fill r offset w) k = record k { own = map (fill_in r offset w) k.own }
+learned_by c (Ready r) k = record k { own = map (hold_as r IsReady) k.own }
+learned_by c (Release r) k = record k { own = without_record r k.own }
+learned_by c (LoadRef spot w) k = entry_learned c spot k
+learned_by c (LoadFixed r offset w) k = record k { facts = facts_with k.pin (λ since. Fixed since c.past.now r offset w) k.facts }
+learned_by c (Lock Anchor found) k = anchor_learned c found c.anchor k
+learned_by c (Lock (NodeTarget n) found) k = node_learned c n found k
+learned_by c (Unlock Anchor) k = record k { anchor = None }
+learned_by c (Unlock (NodeTarget n)) k = record k { locks = without_lock n k.locks }
+learned_by c (Publish spot w) k = publish_learned c spot w k
+learned_by c (Mark r epoch) k = record k { own = without_record r k.own }
+learned_by c (LoadEpoch w) k = record k { round = record { epoch = c.epoch; moment = c.past.now; bound = c.epoch; seen = [] } }
+learned_by c (Advance expected found) k = k
+learned_by c (SetPin w) k = record k { pin = Some (record { word = w; moment = c.past.now; floor = c.epoch }) }
+learned_by c ClearPin k = record k { pin = None }
+learned_by c (LoadPin o w) k = record k {
+  round = record {
+    epoch = k.round.epoch;
+    moment = k.round.moment;
+    bound = lowered k.round.bound (c.pins o);
+    seen = o ∷ k.round.seen;
+  };
+}
+learned_by c (LoadState r w) k = k
+learned_by c (GiveBack r epoch found) k = k
+
+-- and it counts the step
+abbrev pub learned : Core → Act → Known → Known
+learned c act k = let j = learned_by c act k in record j { steps = k.steps + 1 }
+
+-- The pass may make the step: it is legal in every lawful core of which what the pass knows is true, where `act` takes
+-- the word that stands there.
+abbrev pub MayMake : (ℕ → Act) → Known → Type 0
+MayMake act k = (c : Core) → IsLawful c → Knows c k → Legal c k.pass (act (word_at c (location_of k.pass (act 0))))
+
+-- One atomic step of a pass: it knew k, and knows j; `said` are the notes that its caller adds.
+pub record IsEvent (layout : Layout) (act : Act) (said : Known → List Note) (k j : Known) : Type 0 where
+  pub core : Core
+  pub lawful : IsLawful core
+  pub layout_is : core.layout ≡ layout
+  pub knows : Knows core k
+  pub legal : Legal core k.pass act
+  pub learned_is : j ≡ record (learned core act k) { notes = k.notes ++ said (learned core act k) }

@@ -1,0 +1,8 @@
+pub mod Reading
+pub mod Cores
+pub mod Words
+pub mod Events
+pub mod Knowing
+pub mod Frames
+pub mod Opening
+pub mod Statements

@@ -1,0 +1,84 @@
+-- What the words of a record say, and what words and entries a tree has. The words of a record are those from offset 1 on.
+use Rattle.std.specs.Prelude.{◌≡◌, ℕ, ◌-◌, ◌*◌, ◌/◌, ◌%◌, ◌^◌, List, length, get_or, take, drop, map, Option, Some, None, nat_eq, nat_lt, if◌then◌else◌}
+use Rattle.std.specs.List.{range_with_len}
+use Rattle.std.specs.Option.{unwrap_or}
+use Rattle.std.specs.Int.{to_be_bytes, w64}
+use Rattle.compound_node.specs.declared.entries.Entry.{Entry}
+use Rattle.compound_node.specs.declared.entries.Entry.TheVariants.{Leaf, Node}
+use Rattle.compound_node.specs.Nodes.{NodeView}
+use Rattle.partial_keys.specs.Shown.{piece_of}
+use Rattle.pieces.specs.Piece.{size}
+use Rattle.record_words.specs.Packed.{fixed_words}
+use Rattle.record_words.specs.Node.{HasNodeWords, node_words}
+use Rattle.record_words.specs.Leaf.{HasLeafWords, leaf_words}
+use Rattle.tries.specs.Tree.{Tree, leaf, node, fork, page, Fixed}
+use Rattle.tries.specs.Place.{entry_at}
+use Rattle.moments.specs.declared.Rec.{Rec}
+use Rattle.moments.specs.declared.Rec.TheVariants.{Node as a_node, Leaf as a_leaf}
+use Rattle.moments.specs.Heap.{NodeWords, LeafWords}
+
+-- ---- reading words, whatever they are; of words that spell a value these are its parts
+
+-- the entry that a word spells
+unfoldable pub entry_of : ℕ → Option Entry
+entry_of w = if nat_eq w 0 then None else (if nat_eq (w % 4) 1 then Some (Leaf (w / 4)) else Some (Node (w / 4 % 2 ^ 32) (w / 2 ^ 34)))
+
+-- 32 positions of 16 bits, and 32 sparse partial keys of 32 bits, from the lowest bits of the first word up
+abbrev pub positions_in : List ℕ → List ℕ
+positions_in words = map (λ k. get_or words (k / 4) 0 / 2 ^ (16 * (k % 4)) % 2 ^ 16) (range_with_len 0 32)
+
+abbrev pub rows_in : List ℕ → List ℕ
+rows_in words = map (λ k. get_or words (k / 2) 0 / 2 ^ (32 * (k % 2)) % 2 ^ 32) (range_with_len 0 32)
+
+-- the words at offsets 1 to 25 of a node: the first has the numbers of entries and columns and the height
+abbrev pub fixed_of : List ℕ → Fixed
+fixed_of head = record {
+  height = get_or head 0 0 / 65536;
+  columns = take (get_or head 0 0 / 256 % 256) (positions_in (drop 1 head));
+  rows = take (get_or head 0 0 % 256) (rows_in (drop 9 head));
+}
+
+abbrev pub entries_of : ℕ → List ℕ → List Entry
+entries_of count tail = take count (map (λ w. unwrap_or (entry_of w) (Leaf 0)) tail)
+
+abbrev pub node_from : List ℕ → List ℕ → NodeWords
+node_from head tail = record { fixed = fixed_of head; page = piece_of (Leaf 0) (fixed_of head).columns (fixed_of head).rows (entries_of (get_or head 0 0 % 256) tail) }
+
+unfoldable pub node_of : List ℕ → NodeWords
+node_of words = node_from (take 25 words) (drop 25 words)
+
+-- eight bytes a word, the first in its highest bits
+abbrev pub bytes_in : List ℕ → List ℕ
+bytes_in words = map (λ i. get_or (to_be_bytes w64 (get_or words (i / 8) 0)) (i % 8) 0) (range_with_len 0 240)
+
+unfoldable pub leaf_of : List ℕ → LeafWords
+leaf_of words = record { key = take (get_or words 1 0) (bytes_in (drop 2 words)); value = get_or words 0 0 }
+
+-- the words spell a value
+unfoldable pub IsPacked : Rec → List ℕ → Type 0
+IsPacked (a_node n) words = (view : NodeView) × HasNodeWords view × (node_words view ≡ words)
+IsPacked (a_leaf n) words = (pair : List ℕ × ℕ) × HasLeafWords pair × (leaf_words pair ≡ words)
+
+-- ---- trees
+
+-- the entry that names the record at the tree's head
+abbrev pub head_entry : Tree → Option Entry
+head_entry (leaf n k v) = Some (Leaf n)
+head_entry (node n x b) = Some (Node n x.height)
+head_entry (fork p a b) = None
+
+abbrev pub root_of : Option Tree → Option Entry
+root_of None = None
+root_of (Some t) = head_entry t
+
+-- the entry at a place of the node at the tree's head
+abbrev pub entry_in : Tree → ℕ → Option Entry
+entry_in (leaf n k v) j = None
+entry_in (node n x b) j = if nat_lt j (size (page b)) then Some (entry_at (page b) j) else None
+entry_in (fork p a b) j = None
+
+-- the word at an offset, neither state nor entry, of the record at the tree's head
+abbrev pub word_in : Tree → ℕ → ℕ
+word_in (leaf n k v) offset = get_or (leaf_words (k, v)) (offset - 1) 0
+word_in (node n x b) offset = get_or (fixed_words (length x.rows) x.height x.columns x.rows) (offset - 1) 0
+word_in (fork p a b) offset = 0

@@ -1,0 +1,100 @@
+-- The laws of the core.
+use Rattle.std.specs.Prelude.{◌≡◌, ◌≢◌, ℕ, ◌<◌, ◌≤◌, List, [], ◌∷◌, ◌++◌, set, Some}
+use Rattle.compound_node.specs.declared.entries.Entry.TheVariants.{Node}
+use Rattle.hot_model.specs.declared.Call.{Call}
+use Rattle.hot_model.specs.declared.Call.TheVariants.{Upsert, Remove}
+use Rattle.hot_model.specs.declared.Change.{Change}
+use Rattle.hot_model.specs.declared.Kind.{Kind}
+use Rattle.hot_model.specs.declared.Kind.TheVariants.{Added, Replaced, Removed}
+use Rattle.hot_model.specs.Maps.{map_after}
+use Rattle.hot_model.specs.Fronts.{map_of, Fits}
+use Rattle.record_words.specs.Layout.{address}
+use Rattle.record_words.specs.declared.layout.Layout.{Layout}
+use Rattle.tries.specs.Keys.{Key, IsParted}
+use Rattle.tries.specs.Tree.{Fixed, Tree, node, page}
+use Rattle.tries.specs.Search.{seek, between, IsUnder}
+use Rattle.moments.specs.declared.Rec.{Rec}
+use Rattle.moments.specs.declared.Rec.TheVariants.{Node as a_node}
+use Rattle.moments.specs.declared.Pin.{Pin}
+use Rattle.moments.specs.State.{Spans, Stands, IsLed}
+use Rattle.moments.specs.Core.{Free, Held, life_of}
+use Rattle.moments.specs.Told.{content}
+use Rattle.rowex_core.specs.declared.event.Act.{Act}
+use Rattle.rowex_core.specs.declared.event.Act.TheVariants.{Lock, Publish}
+use Rattle.rowex_core.specs.declared.event.Target.TheVariants.{Node as NodeTarget}
+use Rattle.rowex_core.specs.declared.event.Spot.{Spot}
+use Rattle.rowex_core.specs.declared.known.Known.{Known}
+use Rattle.rowex_core.specs.declared.known.View.{View}
+use Rattle.rowex_core.specs.declared.known.View.TheVariants.{Dealer}
+use Rattle.rowex_core.specs.Reading.{node_of, word_in}
+use Rattle.rowex_core.specs.Cores.{Core, IsLawful}
+use Rattle.rowex_core.specs.Words.{record_word, word_at, Shows}
+use Rattle.rowex_core.specs.Events.{IsFixedOffset, Legal, after, location_of, writes, next_change}
+use Rattle.rowex_core.specs.Knowing.{Knows, Knowing, Owns, learned}
+use Rattle.rowex_core.specs.Opening.{opening, opening_words}
+
+-- a legal step keeps the core lawful
+abbrev pub StaysLawful : Type 0
+StaysLawful = (c : Core) (q : ℕ) (act : Act) → IsLawful c → Legal c q act → IsLawful (after c q act)
+
+-- a legal step of one pass leaves true what any other view says
+abbrev pub Keeps : Type 0
+Keeps = (c : Core) (p : ℕ) (act : Act) (v : View) → IsLawful c → Legal c p act → ¬ Owns v p → Knowing c v → Knowing (after c p act) v
+
+-- what a pass knows after its own step is true
+abbrev pub Learns : Type 0
+Learns = (c : Core) (k : Known) (act : Act) → IsLawful c → Knows c k → Legal c k.pass act → Knows (after c k.pass act) (learned c act k)
+
+-- a legal step changes one word, and its words show the core after it
+abbrev pub WritesOne : Type 0
+WritesOne =
+    (c : Core) (q : ℕ) (act : Act) (words : List ℕ) → IsLawful c → Legal c q act → Shows c words →
+    Shows (after c q act) (set words (address c.layout (location_of q act)) (writes act (word_at c (location_of q act))))
+
+-- the opening core is lawful, the opening words show it, and no pass has done anything
+abbrev pub OpeningIsLawful : Type 0
+OpeningIsLawful = (layout : Layout) → IsLawful (opening layout) × Shows (opening layout) (opening_words layout) × Knowing (opening layout) (Dealer 0)
+
+-- a search of a pinned pass that was led to a node at a moment since the pin goes on at what its words say now
+abbrev pub Hindsight : Type 0
+Hindsight =
+    (c : Core) → IsLawful c → (q : ℕ) (p : Pin) → c.pins q ≡ Some p → (k : Key) (n h : ℕ) →
+    IsLed c.past p.moment k (Node n h) → IsLed c.past p.moment k (seek k (node_of (c.words (a_node n))).page)
+
+-- keys below two entries of a record part at the fork between these, whichever moments of its present life they come from
+abbrev pub Parting : Type 0
+Parting =
+    (c : Core) → IsLawful c → (r : Rec) (n o x y : ℕ) (g h : Fixed) (a b : Tree) → n ≤ c.past.now → o ≤ c.past.now →
+    Spans c.past.now (life_of (c.fate r)) n → Spans c.past.now (life_of (c.fate r)) o → Stands c.past n r (node x g a) → Stands c.past o r (node y h b) →
+    (i j : ℕ) → i < j → (k l : Key) → IsUnder a i k → IsUnder b j l → IsParted (between (page a) i j) k l
+
+-- a record that stood at a moment since a pass's pin is neither free nor held, and its words, state and entries aside, are
+-- those that it had then
+abbrev pub InReach : Type 0
+InReach =
+    (c : Core) → IsLawful c → (q : ℕ) (p : Pin) → c.pins q ≡ Some p → (n : ℕ) (r : Rec) (u : Tree) → p.moment ≤ n → n ≤ c.past.now → Stands c.past n r u →
+    (c.fate r ≢ Free) × ((o : ℕ) → c.fate r ≢ Held o) × ((offset : ℕ) → IsFixedOffset r offset → record_word c r offset ≡ word_in u offset)
+
+-- the call that makes the change
+abbrev pub call_for : Kind → Key → ℕ → Call
+call_for Added key value = Upsert key value
+call_for Replaced key value = Upsert key value
+call_for Removed key value = Remove key
+
+abbrev pub call_of : Change → Call
+call_of x = call_for x.kind x.key x.value
+
+-- a publish makes one change, by its pass, which fits the map of those before; the content is then that map after one call,
+-- whatever locks others hold
+abbrev pub PublishIsAStep : Type 0
+PublishIsAStep =
+    (c : Core) (q : ℕ) (spot : Spot) (w : ℕ) → IsLawful c → Legal c q (Publish spot w) →
+    ((after c q (Publish spot w)).changes ≡ c.changes ++ next_change c q spot w ∷ []) × ((next_change c q spot w).pass ≡ q) ×
+    Fits (map_of c.changes) (next_change c q spot w) ×
+    (content ((after c q (Publish spot w)).past.moment (after c q (Publish spot w)).past.now) ≡ map_after (map_of c.changes) (call_of (next_change c q spot w)))
+
+-- a pass may lock a node while another holds the lock of another node, and both have their locks then
+abbrev pub LocksApart : Type 0
+LocksApart =
+    (c : Core) (p q n m : ℕ) → IsLawful c → c.lock n ≡ Some p → n ≢ m → Legal c q (Lock (NodeTarget m) 2) →
+    IsLawful (after c q (Lock (NodeTarget m) 2)) × ((after c q (Lock (NodeTarget m) 2)).lock n ≡ Some p) × ((after c q (Lock (NodeTarget m) 2)).lock m ≡ Some q)

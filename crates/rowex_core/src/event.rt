@@ -1,0 +1,72 @@
+//! Atomic steps on the shared words, as events.
+
+use moments::Rec;
+
+/// What a writer locks.
+#[derive(Clone, Copy, Debug, PartialEq, Eq)]
+pub enum Target {
+    /// The word that stands for the root.
+    Anchor,
+    /// The node record of this number.
+    Node(u32),
+}
+
+/// Where an entry word stands.
+#[derive(Clone, Copy, Debug, PartialEq, Eq)]
+pub enum Spot {
+    Root,
+    /// Entry 0 to 31 of a node record.
+    Slot { node: u32, entry: u8 },
+}
+
+/// One load, store or compare-exchange on one word. In a compare-exchange `found` is the word that stood there; where it
+/// is not the expected one, the word stays.
+#[derive(Clone, Copy, Debug, PartialEq, Eq)]
+pub enum Act {
+    /// Exchanges the state of a record from free to held.
+    Claim { rec: Rec, found: u64 },
+    /// Stores a word other than the state of a record that the pass holds.
+    Fill { rec: Rec, offset: u8, word: u64 },
+    /// Makes a held record live.
+    Ready { rec: Rec },
+    /// Makes a held record free.
+    Release { rec: Rec },
+    /// Loads the root or an entry word.
+    LoadRef { spot: Spot, word: u64 },
+    /// Loads a word of a record that is neither its state nor an entry.
+    LoadFixed { rec: Rec, offset: u8, word: u64 },
+    /// Exchanges the state of the anchor or of a node from live to locked.
+    Lock { target: Target, found: u64 },
+    /// Makes what the pass has locked live.
+    Unlock { target: Target },
+    /// Stores the root or an entry word under its lock: the one step that changes the map.
+    Publish { spot: Spot, word: u64 },
+    /// Makes a record obsolete that the pass has unlinked.
+    Mark { rec: Rec, epoch: u64 },
+    /// Loads the epoch.
+    LoadEpoch { word: u64 },
+    /// Exchanges the epoch from the expected one to the next.
+    Advance { expected: u64, found: u64 },
+    /// Stores the epoch that the pass loaded last as its pin.
+    SetPin { word: u64 },
+    /// Stores 0 as the pin.
+    ClearPin,
+    /// Loads the pin of a pass.
+    LoadPin { of: u16, word: u64 },
+    /// Loads the state of a record.
+    LoadState { rec: Rec, word: u64 },
+    /// Exchanges the state of a record from obsolete in this epoch to free.
+    GiveBack { rec: Rec, epoch: u64, found: u64 },
+}
+
+/// An atomic step of the pass of this number.
+#[derive(Clone, Copy, Debug, PartialEq, Eq)]
+pub struct Event {
+    pub pass: u16,
+    pub act: Act,
+}
+
+/// What is told each event, straight after its step.
+pub trait Gate {
+    fn at(&mut self, event: &Event);
+}

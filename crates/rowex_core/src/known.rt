@@ -1,0 +1,101 @@
+//! What a pass knows of the shared state. No value of these types is made: contracts alone speak of them, and their
+//! numbers are whole numbers without bound.
+
+use compound_node::Entry;
+use hot_model::{Change, Note};
+use moments::{Pin, Rec, Round};
+use record_words::Location;
+use std::collections::LinkedList;
+
+/// What a load found, of a moment since `since`, at the moment `at`.
+pub enum Fact {
+    /// The root had this entry.
+    Rooted {
+        since: u64,
+        at: u64,
+        entry: Option<Entry>,
+    },
+    /// If the node stood meanwhile, it stood with this entry at this place.
+    Placed {
+        since: u64,
+        at: u64,
+        node: u32,
+        place: u8,
+        entry: Option<Entry>,
+    },
+    /// If the record stood meanwhile, it stood with this word at this offset.
+    Fixed {
+        since: u64,
+        at: u64,
+        rec: Rec,
+        offset: u8,
+        word: u64,
+    },
+}
+
+/// How a pass holds a record of its own.
+pub enum Holding {
+    /// Claimed, and not yet ready.
+    Held,
+    /// Made live, and not yet linked.
+    Ready,
+    /// Linked from a moment to another, unlinked by the pass, and not yet marked.
+    Unlinked { since: u64, last: u64 },
+}
+
+/// A record of the pass's own, with its words but the state.
+pub struct Owned {
+    pub rec: Rec,
+    pub holding: Holding,
+    pub words: LinkedList<u64>,
+}
+
+/// A node in the tree that the pass has locked, with its words but the state.
+pub struct Locked {
+    pub node: u32,
+    pub words: LinkedList<u64>,
+}
+
+/// A lock or a claim that failed: the word that it found, and the number of the step.
+pub struct Failed {
+    pub location: Location,
+    pub word: u64,
+    pub step: u64,
+}
+
+/// The front that the last load of the root left, and the number of that step.
+pub struct Fresh {
+    pub front: LinkedList<Change>,
+    pub step: u64,
+}
+
+/// What a pass knows.
+pub struct Known {
+    pub pass: u64,
+    /// The changes that it has seen.
+    pub front: LinkedList<Change>,
+    pub fresh: Fresh,
+    /// Its answered calls.
+    pub notes: LinkedList<Note>,
+    /// How many atomic steps it has made.
+    pub steps: u64,
+    pub failed: LinkedList<Failed>,
+    pub facts: LinkedList<Fact>,
+    pub own: LinkedList<Owned>,
+    pub locks: LinkedList<Locked>,
+    /// The root's entry, where it has locked the anchor.
+    pub anchor: Option<Option<Entry>>,
+    pub pin: Option<Pin>,
+    pub round: Round,
+}
+
+/// What a seat of the table knows.
+pub enum View {
+    /// Nothing more: it was given up in a join.
+    Spent,
+    /// That it hands out the pass numbers from this one on.
+    Dealer(u64),
+    Pass(Known),
+    /// What two passes know that have been joined.
+    Pair(Known, Known),
+}

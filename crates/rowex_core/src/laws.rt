@@ -1,0 +1,53 @@
+//! The laws of the core. The functions do nothing: their contracts are the laws.
+
+ghost use Rattle.rowex_core.specs.Statements.{Hindsight, InReach, Keeps, Learns, LocksApart, OpeningIsLawful, Parting, PublishIsAStep, StaysLawful, WritesOne};
+
+/// A legal step keeps the core lawful.
+pub fn stays_lawful()
+    ensures { StaysLawful }
+{}
+
+/// A legal step of one pass leaves true what any other pass knows.
+pub fn keeps()
+    ensures { Keeps }
+{}
+
+/// What a pass knows after its own step is true.
+pub fn learns()
+    ensures { Learns }
+{}
+
+/// A legal step changes one word of the table, and its words show the core after it.
+pub fn writes_one()
+    ensures { WritesOne }
+{}
+
+/// The opening core is lawful, and the opening words show it.
+pub fn opening_is_lawful()
+    ensures { OpeningIsLawful }
+{}
+
+/// A search of a pinned pass that goes on at a record goes on at what it finds there, whatever has been published since.
+pub fn hindsight()
+    ensures { Hindsight }
+{}
+
+/// Keys below two entries of a record part at the fork between them, whichever moments of its life they come from.
+pub fn parting()
+    ensures { Parting }
+{}
+
+/// No record of a pinned pass's reach is free or held, and what it loads of one, states and entries aside, is of one content.
+pub fn in_reach()
+    ensures { InReach }
+{}
+
+/// A publish is one step of the map, whatever other locks are held.
+pub fn publish_is_a_step()
+    ensures { PublishIsAStep }
+{}
+
+/// Locks of two passes on different nodes are lawful at once.
+pub fn locks_apart()
+    ensures { LocksApart }
+{}

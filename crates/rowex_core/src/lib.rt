@@ -1,0 +1,11 @@
+//! The concurrent index as a pure state machine: the atomic steps of its passes, when each is legal, what it makes of
+//! the shared state, and what it teaches the pass that makes it.
+#![tactic(auto)]
+
+mod event;
+mod known;
+pub mod laws;
+
+pub use event::{Act, Event, Gate, Spot, Target};
+pub use known::{Fact, Failed, Fresh, Holding, Known, Locked, Owned, View};
+pub use moments::{Pin, Rec, Round};

@@ -1,0 +1,113 @@
+-- A scan of an empty map, or of one leaf; the depth of the way.
+use Rattle.std.proofs.Common.{◌≡◌, ◌⊎◌, inl, inr, ℕ, ◌+◌, ◌<◌, ◌≤◌, List, [], ◌∷◌, length, refl, ap, sym, ◌∙◌, subst, arith, Some, None, Option, le_refl}
+use Rattle.tries.specs.Keys.{IsAtMost, Key, IsBefore}
+use Rattle.tries.specs.Tree.{Fixed, Tree, node, page, IsBuilt}
+use Rattle.compound_node.specs.declared.entries.Entry.{Entry}
+use Rattle.compound_node.specs.declared.entries.Entry.TheVariants.{Leaf, Node}
+use Rattle.pieces.specs.Piece.{Place, size}
+use Rattle.moments.specs.State.{Past, State, IsLawful, IsTop, IsSame, IsSteady}
+use Rattle.moments.specs.declared.Rec.TheVariants.{Node as a_node}
+use Rattle.compound_node.specs.Nodes.{height_of}
+use Rattle.tries.specs.Place.{entry_at}
+use Rattle.rowex_walks.specs.Scan.{IsRooted, IsPlaced, IsShaped, IsRead, IsSeen, IsBlank, Frame, IsStack, Range, IsInRange, IsComplete, IsCut, top_height}
+use Rattle.tries.proofs.Tries.{built_within}
+use Rattle.rowex_walks.proofs.Scans.{shaped, node_of, on_root, on_leaf, read_held, never_before}
+use Rattle.rowex_walks.proofs.Walk.{stack_shape}
+use Rattle.tries.proofs.Places.{shape_tips}
+use Rattle.rowex_walks.proofs.Loads.{lower_at, page_at, rooted_seen, placed_seen}
+
+pub loads_blank : (s : State) → IsLawful s → (m : ℕ) → m ≤ s.now → s.root ≡ None → IsBlank s.past m
+loads_blank s law m lo h = (s.now, lo, le_refl s.now, go s.root (s.moment s.now) h law.top)
+  where
+    go : (r : Option Entry) (f : Option Tree) → r ≡ None → IsTop s.heap r f → f ≡ None
+    go None None e i = refl
+    go None (Some t) e i = absurd i
+    go (Some x) f e i = absurd cc
+
+pub scan_blank : (s : Past) (m : ℕ) (g : Range) → IsBlank s m → IsComplete s m g []
+scan_blank s m g (n, lo, hi, e) = record {
+  falling = tt;
+  within = tt;
+  held = tt;
+  short = omega arith;
+  covered = λ k kept r. let o = kept n lo hi in absurd (none_some (sym e ∙ o.1));
+}
+  where
+    none_some : {t : Tree} → None ≡ Some t → ⊥
+    none_some e = cc
+
+-- The root is a leaf in the range.
+pub scan_one : (s : Past) (m : ℕ) → IsSteady s m → (g : Range) (n : ℕ) (l : Key) (v : ℕ) → IsRooted s m (Leaf n) → IsRead s m n l v → IsInRange g l →
+    0 < g.limit → IsComplete s m g (record { key = l; value = v } ∷ [])
+scan_one s m law g n l v root is r room = record {
+  falling = (tt, tt);
+  within = (r, tt);
+  held = (read_held s m n l v is, tt);
+  short = omega arith;
+  covered = λ k kept q. inl (on_leaf s m law n k l v (on_root s m k kept (Leaf n) root) is);
+}
+
+-- The limit is 0.
+pub scan_nought : (s : Past) (m : ℕ) → (g : Range) (n : ℕ) (l : Key) (v : ℕ) → IsRead s m n l v → IsInRange g l →
+    g.limit ≡ 0 → IsCut s m g []
+scan_nought s m g n l v is r full = record {
+  falling = tt;
+  within = tt;
+  held = tt;
+  full = sym full;
+  further = (l, v, r, read_held s m n l v is, tt);
+  covered = λ k kept q u. absurd u;
+}
+
+-- It is out of the range.
+pub scan_outside : (s : Past) (m : ℕ) → IsSteady s m → (g : Range) (n : ℕ) (l : Key) (v : ℕ) → IsRooted s m (Leaf n) → IsRead s m n l v →
+    IsBefore l g.from ⊎ IsBefore g.upto l → IsComplete s m g []
+scan_outside s m law g n l v root is out = record {
+  falling = tt;
+  within = tt;
+  held = tt;
+  short = omega arith;
+  covered = λ k kept q. go k q (on_leaf s m law n k l v (on_root s m k kept (Leaf n) root) is) out;
+}
+  where
+    go : (k : Key) → IsInRange g k → k ≡ l → IsBefore l g.from ⊎ IsBefore g.upto l → ⊥
+    go k q e (inl y) = never_before l g.from y (subst (λ z. IsAtMost g.from z) e q.0)
+    go k q e (inr y) = never_before g.upto l y (subst (λ z. IsAtMost z g.upto) e q.1)
+
+-- The heights fall along the way.
+fixed_height : {a b : Fixed} → a ≡ b → a.height ≡ b.height
+fixed_height e = ap (λ (z : Fixed). z.height) e
+
+pub placed_falls : (s : Past) (m : ℕ) → IsSteady s m → (r h j : ℕ) (e : Entry) → IsSeen s m (Node r h) → IsPlaced s m r j e → height_of e < h
+placed_falls s m law r h j e (n, u, lo, hi, sn, pg) (b, st, lt, pe) =
+    let o = node_of r h u pg in
+    let same : IsSame (node r st.fixed b) u = law.same (a_node r) st.at n (node r st.fixed b) u st.since st.until lo hi st.stands sn in
+    let q : st.fixed ≡ o.0 = (subst (λ z. IsSame (node r st.fixed b) z) o.2 same).0 in
+    let built : IsBuilt (node r st.fixed b) = built_within st.stands.within (law.trees st.at st.stands.tree st.until st.stands.is_moment).1 in
+    let f : Place (entry_at (page b) j) ≡ Place e = sym (page_at b j lt) ∙ pe in
+    subst (λ z. height_of z < h) (tip_same f) (subst (λ z. height_of (entry_at (page b) j) < z) (fixed_height q ∙ o.3) (lower_at st.fixed.height b j built.1))
+  where
+    tip_same : {a b : Entry} → Place a ≡ Place b → a ≡ b
+    tip_same e = cc
+
+pub stack_seen : (s : Past) (m : ℕ) (f : Frame) (fs : List Frame) → IsStack s m (f ∷ fs) → IsSeen s m (Node f.number f.height)
+stack_seen s m f [] h = rooted_seen s m (Node f.number f.height) h.0
+stack_seen s m f (g ∷ gs) h = placed_seen s m g.number g.place (Node f.number f.height) h.0
+
+-- So the way is no longer than the root's node is high.
+pub stack_depth : (s : Past) (m : ℕ) → IsSteady s m → (f : Frame) (fs : List Frame) → IsStack s m (f ∷ fs) → length fs + f.height ≤ top_height f.height fs
+stack_depth s m law f [] h = omega arith
+stack_depth s m law f (g ∷ gs) h =
+    let a = stack_depth s m law g gs h.2 in
+    let b : f.height < g.height = placed_falls s m law g.number g.height g.place (Node f.number f.height) (stack_seen s m g gs h.2) h.0 in
+    omega arith
+
+-- A frame below another stands at one of its node's places.
+pub stack_inside : (s : Past) (m : ℕ) → IsSteady s m → (f g : Frame) (fs : List Frame) → IsStack s m (f ∷ g ∷ fs) → g.place < size g.shape
+stack_inside s m law f g fs h = go h.0
+  where
+    sh : IsShaped s m g.number g.shape
+    sh = stack_shape s m g fs h.2
+
+    go : IsPlaced s m g.number g.place (Node f.number f.height) → g.place < size g.shape
+    go (b, st, lt, pe) = subst (λ z. g.place < z) (sym (shape_tips (page b)) ∙ ap size (shaped s m law g.number g.shape b sh st)) lt

@@ -1,0 +1,129 @@
+-- The insertion cases.
+use Rattle.std.proofs.Common.{◌≡◌, ◌≢◌, inr, ℕ, ◌<◌, refl, ap, sym, ◌∙◌, subst, Some, None, le_refl}
+use Rattle.tries.specs.Keys.{Key, bit, AgreeBelow}
+use Rattle.tries.specs.Tree.{Fixed, Tree, leaf, node, fork, page, Has, IsTrie, IsFork, IsBuilt, Within, here, inside}
+use Rattle.compound_node.specs.declared.entries.Entry.TheVariants.{Leaf, Node}
+use Rattle.tries.specs.Search.{Follows, child}
+use Rattle.moments.specs.Heap.{Heap, IsShown}
+use Rattle.moments.specs.State.{IsLawful}
+use Rattle.moments.specs.declared.Rec.TheVariants.{Node as a_node}
+use Rattle.moments.specs.Core.{InTree, Core, view}
+use Rattle.moments.specs.Steps.{IsLegalPublish, at_root}
+use Rattle.tries.specs.Content.{Item, added}
+use Rattle.tries.specs.Changes.{put, IsFlat, IsAdded, IsExchanged}
+use Rattle.tries.specs.Place.{bare}
+use Rattle.moments.specs.Told.{IsChange}
+use Rattle.rowex_walks.specs.Writer.{added_change, replaced_change, IsAtHand, IsStored, IsNewNode, IsNewLeaf, IsFound}
+use Rattle.tries.specs.Affected.{affected, IsPart}
+use Rattle.tries.proofs.Tries.{trie_within, built_within, within_trans}
+use Rattle.moments.proofs.Heaps.{shown_within, near_refl}
+use Rattle.moments.proofs.Publish.{top_shown}
+use Rattle.tries.proofs.Places.{grown}
+use Rattle.moments.proofs.Growth.{in_tree_now}
+use Rattle.tries.proofs.Adding.{added_here, added as added_at, exchanged_leaf}
+use Rattle.tries.proofs.Affected.{IsAway, away, part_away, part_place}
+use Rattle.rowex_walks.proofs.Descent.{way_follows}
+use Rattle.rowex_walks.proofs.Hands.{hand_stay, hand_around, hand_put, hand_leaf, hand_grown, added_around}
+use Rattle.rowex_walks.proofs.Cases.{slot_exchanged, root_added, root_exchanged}
+
+-- The body with the new leaf at the affected part.
+abbrev pub with_leaf : Item → ℕ → Tree → Tree
+with_leaf x p b = put (part_place p x.key b).0 (grown (bit x.key p) p (affected p x.key b) x)
+
+some_same : {a b : Tree} → Some a ≡ Some b → a ≡ b
+some_same e = cc
+
+pub part_of : (b : Tree) → IsFork b → IsPart b
+part_of (leaf n k v) f = tt
+part_of (node n k v) f = elim f [ ]
+part_of (fork n k v) f = tt
+
+module _ (c : Core) (q : ℕ) (law : IsLawful (view c)) (t : Tree) (now : c.past.moment c.past.now ≡ Some t) where
+  trie_now : IsTrie t
+  trie_now = (law.trees c.past.now t (le_refl c.past.now) now).0
+
+  built_now : IsBuilt t
+  built_now = (law.trees c.past.now t (le_refl c.past.now) now).1
+
+  shown_now : IsShown c.heap t
+  shown_now = top_shown c.heap c.root (c.past.moment c.past.now) t law.top now
+
+  -- What a writer that has found a leaf below its lowest locked node knows of the present.
+  pub found_follows : {n : ℕ} {y : Fixed} {b : Tree} → Within (node n y b) t → (since p : ℕ) (x : Item) (l : Key) → IsFound c q since x p l n → Follows l (child x.key b)
+  found_follows v since p x l f = way_follows c law since f.reach t now v x.key l f.way
+
+  -- All keys of the affected part agree with the new key before `p` and have the other bit there.
+  pub found_away : {n : ℕ} {y : Fixed} {b : Tree} → Within (node n y b) t → (since p : ℕ) (x : Item) (l : Key) → IsFound c q since x p l n →
+      IsPart (affected p x.key b) → (k : Key) → Has (affected p x.key b) k → IsAway p x.key k
+  found_away {b = b} v since p x l f is_part =
+      part_away p x.key l f.agree f.differ b (trie_within (within_trans (inside here) v) trie_now) is_part (found_follows v since p x l f)
+
+  -- So the node's body with the new leaf has one leaf more.
+  pub found_added : {n : ℕ} {y : Fixed} {b : Tree} → Within (node n y b) t → (since p : ℕ) (x : Item) (l : Key) → IsFound c q since x p l n →
+      IsPart (affected p x.key b) → (r : Tree) → bare r ≡ bare (with_leaf x p b) → IsAdded x p b r
+  found_added {b = b} v since p x l f is_part r e =
+      added_at (part_place p x.key b).0 x p r (trie_within (within_trans (inside here) v) trie_now) f.key (part_place p x.key b).2 (found_away v since p x l f is_part) e
+
+  -- The new leaf in a locked node's body is at hand.
+  pub hand_leaf_in : {n : ℕ} {y : Fixed} {b : Tree} → Within (node n y b) t → (p : ℕ) (x : Item) → IsNewLeaf c q x → IsAtHand c q b (with_leaf x p b)
+  hand_leaf_in {b = b} v p x new =
+      let place = part_place p x.key b in
+      let d = affected p x.key b in
+      let i = built_within (within_trans (inside here) v) built_now in
+      let j = shown_within c.heap (within_trans (inside here) v) shown_now in
+      hand_put c q place.0 place.1 (grown (bit x.key p) p d x) i j
+      (hand_grown c q (bit x.key p) p d d x (hand_stay c q d (built_within place.0 i) (shown_within c.heap place.0 j)) new.fate new.words)
+
+  -- Upsert of a held key: another leaf takes the leaf's place.
+  pub upsert : {n : ℕ} {y : Fixed} {b : Tree} (v : Within (node n y b) t) (j a : ℕ) (x : Item) (w : Within (leaf j x.key a) b) → IsFlat w →
+      c.lock n ≡ Some q → IsNewLeaf c q x → 0 < y.height → (heap : Heap) → IsStored c.heap heap n (page (put w (leaf x.number x.key x.value))) →
+      IsLegalPublish c q heap c.root (Some (put v (node n y (put w (leaf x.number x.key x.value))))) (replaced_change q x)
+  upsert {n} {y} {b} v j a x w flat lock new low heap st =
+      slot_exchanged c q law t now v w flat tt (leaf x.number x.key x.value) tt lock
+      (hand_leaf c q j x.number x.key x.key a x.value new.fate new.words) low
+      (record { number = j; key = x.key; value = a }) x refl (exchanged_leaf j x.number x.key a x.value new.key) heap st
+
+  pub upsert_top : (j a : ℕ) (x : Item) → t ≡ leaf j x.key a → c.anchor ≡ Some q → IsNewLeaf c q x →
+      IsLegalPublish c q c.heap (Some (Leaf x.number)) (Some (leaf x.number x.key x.value)) (replaced_change q x)
+  upsert_top j a x e lock new =
+      root_exchanged c q law t now (leaf x.number x.key x.value) (Leaf x.number) refl lock
+      (subst (λ s. IsAtHand c q s (leaf x.number x.key x.value)) (sym e) (hand_leaf c q j x.number x.key x.key a x.value new.fate new.words))
+      (record { number = j; key = x.key; value = a }) x refl
+      (subst (λ s. IsExchanged (record { number = j; key = x.key; value = a }) x s (leaf x.number x.key x.value)) (sym e) (exchanged_leaf j x.number x.key a x.value new.key))
+
+  -- A second key: a new node of two entries takes the place of the leaf at the root.
+  pub second_key : (j a p : ℕ) (k : Key) (x : Item) → t ≡ leaf j k a → AgreeBelow p x.key k → bit x.key p ≢ bit k p → c.anchor ≡ Some q → IsNewLeaf c q x →
+      (m : ℕ) (g : Fixed) → IsNewNode c q m g (grown (bit x.key p) p (leaf j k a) x) →
+      IsLegalPublish c q c.heap (Some (Node m g.height)) (Some (node m g (grown (bit x.key p) p (leaf j k a) x))) (added_change q x)
+  second_key j a p k x e agree differ lock leaf_new m g new =
+      let d : Tree = leaf j k a in
+      let s = grown (bit x.key p) p d x in
+      root_added c q law t now (node m g s) (Node m g.height) refl lock
+      (subst (λ o. IsAtHand c q o (node m g s)) (sym e)
+      (hand_around c q d s m g
+      (hand_grown c q (bit x.key p) p d d x (hand_stay c q d tt (subst (IsShown c.heap) e shown_now)) leaf_new.fate leaf_new.words)
+      new))
+      x p
+      (subst (λ o. IsAdded x p o (node m g s)) (sym e)
+      (added_around d s m g x p (added_here d x p (subst IsTrie e trie_now) leaf_new.key (λ y h. away p x.key k y agree differ (λ r i. ap (λ o. bit o r) (sym h)) (ap (λ o. bit o p) (sym h))))))
+
+-- The first key.
+pub first_key : (c : Core) (q : ℕ) → IsLawful (view c) → c.past.moment c.past.now ≡ None → (x : Item) → c.anchor ≡ Some q → IsNewLeaf c q x →
+    IsLegalPublish c q c.heap (Some (Leaf x.number)) (Some (leaf x.number x.key x.value)) (added_change q x)
+first_key c q law now x lock new = record {
+  store = at_root lock refl;
+  near = near_refl c.heap;
+  top = (refl, new.words);
+  tree = λ u y. subst (λ o. IsTrie o × IsBuilt o) (some_same y) (new.key, tt);
+  kept = λ i. inr refl;
+  comes = λ r h. inr (ap c.fate h ∙ new.fate);
+  goes = λ n f e g. absurd (none_linked n f e);
+  own = refl;
+  change = subst (λ z. IsChange z (added_change q x) (Some (leaf x.number x.key x.value))) (sym now) (x.number, added);
+}
+  where
+    none_some : {u : Tree} → None ≡ Some u → ⊥
+    none_some e = cc
+
+    none_linked : (n f : ℕ) → c.fate (a_node n) ≡ InTree f → ⊥
+    none_linked n f e = let u = (in_tree_now c law n f e).1 in none_some (sym now ∙ u.is_moment)

@@ -1,0 +1,108 @@
+-- Removal of one entry.
+use Rattle.moments.specs.Told.{IsChange}
+use Rattle.std.proofs.Common.{◌≡◌, inl, inr, ℕ, List, [], ◌∷◌, ◌++◌, refl, sym, subst, Some, None, le_refl}
+use Rattle.tries.specs.Keys.{Key}
+use Rattle.tries.specs.Tree.{Fixed, Tree, leaf, node, fork, page, IsTrie, IsTip, IsLower, IsBuilt, Within, here, inside, zero_side, one_side}
+use Rattle.compound_node.specs.declared.entries.Entry.{Entry}
+use Rattle.pieces.specs.Piece.{Place}
+use Rattle.moments.specs.Heap.{Heap, IsShown}
+use Rattle.moments.specs.State.{Links, IsLawful}
+use Rattle.moments.specs.declared.Rec.TheVariants.{Node as a_node, Leaf as a_leaf}
+use Rattle.moments.specs.Core.{Core, view}
+use Rattle.moments.specs.Steps.{IsLegalPublish, at_root}
+use Rattle.tries.specs.Content.{Item, items, IsMore, added, behind}
+use Rattle.tries.specs.Changes.{put, IsFlat, IsRemoved}
+use Rattle.rowex_walks.specs.Writer.{item, removed_change, IsAtHand, IsStored}
+use Rattle.tries.proofs.Tries.{trie_within, within_trans}
+use Rattle.moments.proofs.Heaps.{near_refl}
+use Rattle.moments.proofs.Publish.{top_shown}
+use Rattle.tries.proofs.Contents.{more_left, more_right}
+use Rattle.tries.proofs.Adding.{put_less, has_less}
+use Rattle.rowex_walks.proofs.Replaced.{slot_legal, root_legal, fate_linked}
+
+more_end : (x : Item) (xs : List Item) → IsMore x xs (xs ++ x ∷ [])
+more_end x [] = added
+more_end x (y ∷ xs) = behind (more_end x xs)
+
+-- A fork loses the leaf on one of its sides, and the other side is left.
+pub removed_zero : (p n : ℕ) (k : Key) (v : ℕ) (b : Tree) → IsTrie b → IsRemoved (item n k v) (fork p (leaf n k v) b) b
+removed_zero p n k v b i = record { trie = i; less = added; keys = λ l h. inr h }
+
+pub removed_one : (p n : ℕ) (k : Key) (v : ℕ) (a : Tree) → IsTrie a → IsRemoved (item n k v) (fork p a (leaf n k v)) a
+removed_one p n k v a i = record { trie = i; less = more_end (item n k v) (items a); keys = λ l h. inl h }
+
+pub less_put : {s t : Tree} (w : Within s t) (r : Tree) (x : Item) → IsMore x (items r) (items s) → IsMore x (items (put w r)) (items t)
+less_put here r x m = m
+less_put (inside w) r x m = less_put w r x m
+less_put (zero_side {a = a} {b = b} w) r x m = more_left x (items (put w r)) (items a) (items b) (less_put w r x m)
+less_put (one_side {a = a} {b = b} w) r x m = more_right x (items (put w r)) (items b) (items a) (less_put w r x m)
+
+pub removed_put : {s t : Tree} (w : Within s t) (r : Tree) (x : Item) → IsTrie t → IsRemoved x s r → IsRemoved x t (put w r)
+removed_put w r x i a = record { trie = put_less w r i a.trie a.keys; less = less_put w r x a.less; keys = has_less w r a.keys }
+
+pub removed_marks : (b r : Tree) (n m : ℕ) (y g : Fixed) (x : Item) → IsRemoved x b r → IsRemoved x (node n y b) (node m g r)
+removed_marks b r n m y g x a = record { trie = a.trie; less = a.less; keys = a.keys }
+
+pub removed_open : (b r : Tree) (n : ℕ) (y : Fixed) (x : Item) → IsRemoved x b r → IsRemoved x (node n y b) r
+removed_open b r n y x a = record { trie = a.trie; less = a.less; keys = a.keys }
+
+leaf_node : {n m : ℕ} → a_node n ≡ a_leaf m → ⊥
+leaf_node e = cc
+
+module _ (c : Core) (q : ℕ) where
+  pub hand_zero : (p n : ℕ) (k : Key) (v : ℕ) (b : Tree) → IsBuilt b → IsShown c.heap b → IsAtHand c q (fork p (leaf n k v) b) b
+  hand_zero p n k v b i j = record {
+    built = i;
+    shown = j;
+    comes = λ r h. inl (inr h);
+    goes = λ o h. elim h [ inl e ↦ absurd (leaf_node e) | inr z ↦ inl z ];
+  }
+
+  pub hand_one : (p n : ℕ) (k : Key) (v : ℕ) (a : Tree) → IsBuilt a → IsShown c.heap a → IsAtHand c q (fork p a (leaf n k v)) a
+  hand_one p n k v a i j = record {
+    built = i;
+    shown = j;
+    comes = λ r h. inl (inl h);
+    goes = λ o h. elim h [ inl z ↦ inl z | inr e ↦ absurd (leaf_node e) ];
+  }
+
+module _ (c : Core) (q : ℕ) (law : IsLawful (view c)) (t : Tree) (now : c.past.moment c.past.now ≡ Some t) where
+  trie_now : IsTrie t
+  trie_now = (law.trees c.past.now t (le_refl c.past.now) now).0
+
+  built_now : IsBuilt t
+  built_now = (law.trees c.past.now t (le_refl c.past.now) now).1
+
+  shown_now : IsShown c.heap t
+  shown_now = top_shown c.heap c.root (c.past.moment c.past.now) t law.top now
+
+  -- At an entry of a locked node: what stands there loses one leaf.
+  pub slot_removed : {n : ℕ} {y : Fixed} {b s : Tree} (v : Within (node n y b) t) (w : Within s b) → IsFlat w → IsTip s → (r : Tree) → IsTip r →
+      c.lock n ≡ Some q → IsAtHand c q s r → IsLower y.height r → (x : Item) → IsRemoved x s r →
+      (heap : Heap) → IsStored c.heap heap n (page (put w r)) →
+      IsLegalPublish c q heap c.root (Some (put v (node n y (put w r)))) (removed_change q x)
+  slot_removed {n} {y} {b} {s} v w flat ts r tr lock hand low x a heap st =
+      let body = removed_put w r x (trie_within (within_trans (inside here) v) trie_now) a in
+      let whole : IsRemoved x t (put v (node n y (put w r))) = removed_put v (node n y (put w r)) x trie_now (removed_marks b (put w r) n n y y x body) in
+      slot_legal c q law t now v w flat ts r tr lock hand low whole.trie heap st (removed_change q x) refl (x.number, whole.less)
+
+  pub root_removed : (r : Tree) (e : Entry) → page r ≡ Place e → c.anchor ≡ Some q → IsAtHand c q t r → (x : Item) → IsRemoved x t r →
+      IsLegalPublish c q c.heap (Some e) (Some r) (removed_change q x)
+  root_removed r e pg lock hand x a = root_legal c q law t now r e pg lock hand a.trie (removed_change q x) refl (x.number, a.less)
+
+  -- The one leaf: the index is empty then.
+  pub remove_last : (n : ℕ) (k : Key) (a : ℕ) → t ≡ leaf n k a → c.anchor ≡ Some q → IsLegalPublish c q c.heap None None (removed_change q (item n k a))
+  remove_last n k a e lock = record {
+    store = at_root lock refl;
+    near = near_refl c.heap;
+    top = tt;
+    tree = λ u y. absurd (none_some y);
+    kept = λ i. inr refl;
+    comes = λ r h. elim h [ ];
+    goes = λ m f i g. absurd (leaf_node (subst (λ s. Links s (a_node m)) e (fate_linked c law t now m f i)));
+    own = refl;
+    change = subst (λ z. IsChange z (removed_change q (item n k a)) None) (sym now) (n, subst (λ s. IsMore (item n k a) [] (items s)) (sym e) added);
+  }
+    where
+      none_some : {u : Tree} → None ≡ Some u → ⊥
+      none_some e = cc

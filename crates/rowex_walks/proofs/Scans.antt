@@ -1,0 +1,332 @@
+-- What a scan knows.
+use Rattle.std.proofs.Common.{◌≡◌, ◌⊎◌, inl, inr, ℕ, suc, ◌+◌, ◌-◌, ◌<◌, ◌≤◌, true, false, refl, ap, ap₂, sym, ◌∙◌, subst, arith, Some, if◌then◌else◌, ltb}
+use Rattle.std.proofs.lemmas.Bool.{cases_order, cases_lt, cond-true, cond-false, lt-ltb, le-ltb, false≢true}
+use Rattle.tries.specs.Keys.{IsAtMost, Key, bit, AgreeBelow, IsParted, IsBefore}
+use Rattle.tries.specs.Tree.{Fixed, Page, Tree, leaf, node, fork, page, Has, Holds, IsTrie, IsFork, IsBuilt, Within, here, inside, zero_side, one_side}
+use Rattle.compound_node.specs.declared.entries.Entry.{Entry}
+use Rattle.compound_node.specs.declared.entries.Entry.TheVariants.{Leaf, Node}
+use Rattle.pieces.specs.Piece.{Place, Fork, size}
+use Rattle.tries.specs.Search.{Follows, child, Kin, tips, forks, between, IsUnder}
+use Rattle.moments.specs.State.{rec_of, IsRecord, Past, Stands, IsHeld, IsKept, IsMissed, IsLed, IsSteady}
+use Rattle.moments.specs.declared.Rec.TheVariants.{Node as a_node, Leaf as a_leaf}
+use Rattle.tries.specs.Place.{spot, shape}
+use Rattle.rowex_walks.specs.Scan.{at_place, IsAlike, Stood, IsRooted, IsPlaced, IsShaped, IsRead, Fits, IsReached, placed, further, IsOn}
+use Rattle.tries.proofs.Tries.{has_first, has_within, within_trans, trie_within, built_within, rises, has_if_follows, follows_if_has, follows_kin, descend, has_child, has_under, under_below, between_low, between_mid, between_high, parting, kin_tips}
+use Rattle.moments.proofs.States.{record_of_page}
+use Rattle.tries.proofs.Contents.{before_irrefl}
+use Rattle.tries.proofs.Places.{spot_below, shape_tips, spot_shape}
+use Rattle.tries.specs.Content.{first}
+
+-- Places of a body.
+at_low : (p : ℕ) (a b : Tree) (i : ℕ) → i < size (page a) → at_place (fork p a b) i ≡ at_place a i
+at_low p a b i h = cond-true (ltb i (size (page a))) _ _ (lt-ltb i (size (page a)) h)
+
+at_high : (p : ℕ) (a b : Tree) (i : ℕ) → size (page a) ≤ i → at_place (fork p a b) i ≡ at_place b (i - size (page a))
+at_high p a b i h = cond-false (ltb i (size (page a))) _ _ (le-ltb i (size (page a)) h)
+
+pub under_at : (b : Tree) (i : ℕ) (k : Key) → i < size (page b) → Has (at_place b i) k → IsUnder b i k
+under_at (leaf n l v) i k h x = (omega arith, x)
+under_at (node n y c) i k h x = (omega arith, x)
+under_at (fork p a b) i k h x =
+    elim (cases_lt i (size (page a))) as (λ w. IsUnder (fork p a b) i k) [
+      | inl l ↦ inl (under_at a i k l (subst (λ z. Has z k) (at_low p a b i l) x))
+      | inr g ↦ inr (i - size (page a), omega arith, under_at b (i - size (page a)) k (omega arith) (subst (λ z. Has z k) (at_high p a b i g) x))
+    ]
+
+pub within_at : (b : Tree) (i : ℕ) → Within (at_place b i) b
+within_at (leaf n l v) i = here
+within_at (node n y c) i = here
+within_at (fork p a b) i =
+    let x = within_at a i in let y = within_at b (i - size (page a)) in
+    elim (ltb i (size (page a))) as (λ u. Within (if u then at_place a i else at_place b (i - size (page a))) (fork p a b)) [ true ↦ zero_side x | false ↦ one_side y ]
+
+-- A key's search leads to its place.
+pub at_spot : (k : Key) (b : Tree) → child k b ≡ at_place b (spot k (page b))
+at_spot k (leaf n l v) = refl
+at_spot k (node n y c) = refl
+at_spot k (fork p a b) =
+    let f = at_spot k a in let g = at_spot k b in let l = spot_below k (page a) in
+    let d : (size (page a) + spot k (page b)) - size (page a) ≡ spot k (page b) = omega arith in
+    elim (bit k p) as (λ u. (if u then child k b else child k a) ≡ at_place (fork p a b) (if u then size (page a) + spot k (page b) else spot k (page a))) [
+      | true ↦ g ∙ sym (at_high p a b (size (page a) + spot k (page b)) (omega arith) ∙ ap (at_place b) d)
+      | false ↦ f ∙ sym (at_low p a b (spot k (page a)) l)
+    ]
+
+pub under_spot : (b : Tree) (k : Key) → IsTrie b → Has b k → IsUnder b (spot k (page b)) k
+under_spot b k i h = under_at b (spot k (page b)) k (spot_below k (page b)) (subst (λ z. Has z k) (at_spot k b) (has_child b i k h))
+
+-- Alike keys.
+pub alike_refl : (x : Page) (i : ℕ) (k : Key) → IsAlike x i k k
+alike_refl (Place e) i k = tt
+alike_refl (Fork p a b) i k = ((λ q z. refl), (λ h. alike_refl a i k), (λ h. alike_refl b (i - size a) k))
+
+alike_left : (x : Page) (i j : ℕ) → i < j → j < size x → (k y : Key) → IsAlike x i k y → AgreeBelow (suc (between x i j)) k y
+alike_left (Place e) i j h b k y f = absurd (omega arith)
+alike_left (Fork p u v) i j h b k y f =
+    elim (cases_lt j (size u)) as (λ w. AgreeBelow (suc (between (Fork p u v) i j)) k y) [
+      | inl c ↦ subst (λ z. AgreeBelow (suc z) k y) (between_low p u v i j c) (alike_left u i j h c k y (f.1 (omega arith)))
+      | inr c ↦ elim (cases_lt i (size u)) as (λ w. AgreeBelow (suc (between (Fork p u v) i j)) k y) [
+        | inl d ↦ subst (λ z. AgreeBelow (suc z) k y) (between_mid p u v i j d c) f.0
+        | inr d ↦
+            subst (λ z. AgreeBelow (suc z) k y) (between_high p u v i j (i - size u) (j - size u) (omega arith) (omega arith))
+            (alike_left v (i - size u) (j - size u) (omega arith) (omega arith) k y (f.2 d))
+      ]
+    ]
+
+alike_right : (x : Page) (i j : ℕ) → i < j → j < size x → (k y : Key) → IsAlike x j k y → AgreeBelow (suc (between x i j)) k y
+alike_right (Place e) i j h b k y f = absurd (omega arith)
+alike_right (Fork p u v) i j h b k y f =
+    elim (cases_lt j (size u)) as (λ w. AgreeBelow (suc (between (Fork p u v) i j)) k y) [
+      | inl c ↦ subst (λ z. AgreeBelow (suc z) k y) (between_low p u v i j c) (alike_right u i j h c k y (f.1 c))
+      | inr c ↦ elim (cases_lt i (size u)) as (λ w. AgreeBelow (suc (between (Fork p u v) i j)) k y) [
+        | inl d ↦ subst (λ z. AgreeBelow (suc z) k y) (between_mid p u v i j d c) f.0
+        | inr d ↦
+            subst (λ z. AgreeBelow (suc z) k y) (between_high p u v i j (i - size u) (j - size u) (omega arith) (omega arith))
+            (alike_right v (i - size u) (j - size u) (omega arith) (omega arith) k y (f.2 c))
+      ]
+    ]
+
+-- Kin bodies have the same forks.
+pub kin_shape : {b c : Tree} → Kin b c → shape (page b) ≡ shape (page c)
+kin_shape (tips {a = leaf n k v} {b = leaf m l w} x y) = refl
+kin_shape (tips {a = leaf n k v} {b = node m l w} x y) = refl
+kin_shape (tips {a = node n k v} {b = leaf m l w} x y) = refl
+kin_shape (tips {a = node n k v} {b = node m l w} x y) = refl
+kin_shape (tips {a = fork n k v} {b = t} x y) = elim x [ ]
+kin_shape (tips {a = leaf n k v} {b = fork m l w} x y) = elim y [ ]
+kin_shape (tips {a = node n k v} {b = fork m l w} x y) = elim y [ ]
+kin_shape (forks {p = p} e x y) = ap₂ (Fork p) (kin_shape x) (kin_shape y)
+
+between_shape : (x : Page) (i j : ℕ) → between (shape x) i j ≡ between x i j
+between_shape (Place e) i j = refl
+between_shape (Fork p x y) i j =
+    let t = shape_tips x in let f = between_shape x i j in let g = between_shape y (i - size x) (j - size x) in
+    subst (λ z. (if ltb j z then between (shape x) i j else (if ltb i z then p else between (shape y) (i - z) (j - z))) ≡ between (Fork p x y) i j) (sym t)
+    (subst (λ z. (if ltb j (size x) then z else (if ltb i (size x) then p else between (shape y) (i - size x) (j - size x))) ≡ between (Fork p x y) i j) (sym f)
+    (subst (λ z. (if ltb j (size x) then between x i j else (if ltb i (size x) then p else z)) ≡ between (Fork p x y) i j) (sym g) refl))
+
+shape_between : (x y : Page) (i j : ℕ) → shape x ≡ shape y → between x i j ≡ between y i j
+shape_between x y i j e = sym (between_shape x i j) ∙ (ap (λ z. between z i j) e ∙ between_shape y i j)
+
+-- Parted keys stay so when each is changed behind that position.
+pub parted_alike : (p : ℕ) (k l y z : Key) → IsParted p k l → AgreeBelow (suc p) k y → AgreeBelow (suc p) l z → IsParted p y z
+parted_alike p k l y z h f g =
+    ((λ q b. sym (f q (omega arith)) ∙ (h.0 q b ∙ g q (omega arith))), sym (f p (omega arith)) ∙ h.1, sym (g p (omega arith)) ∙ h.2)
+
+-- The keys agree beyond the forks on the way to the place, where a fork beyond agrees with them so far.
+alike_deep : (b : Tree) (j p : ℕ) (c d : Tree) → IsTrie b → Within (fork p c d) (at_place b j) → (x y : Key) → AgreeBelow p x y → IsAlike (page b) j x y
+alike_deep (leaf n l v) j p c d i w x y f = tt
+alike_deep (node n h b) j p c d i w x y f = tt
+alike_deep (fork q a b) j p c d i w x y f = (
+  λ z g. f z (let h : q < p = low in omega arith),
+  (λ h. alike_deep a j p c d i.0 (subst (λ z. Within (fork p c d) z) (at_low q a b j h) w) x y f),
+  (λ h. alike_deep b (j - size (page a)) p c d i.1 (subst (λ z. Within (fork p c d) z) (at_high q a b j h) w) x y f),
+)
+  where
+    low : q < p
+    low = elim (cases_lt j (size (page a))) as (λ z. q < p) [
+      | inl h ↦ rises false (within_trans (subst (λ z. Within (fork p c d) z) (at_low q a b j h) w) (within_at a j)) i.0
+          (λ k l hk hl. i.2 k l (inl hk) (inl hl)) i.3
+      | inr h ↦ rises true (within_trans (subst (λ z. Within (fork p c d) z) (at_high q a b j h) w) (within_at b (j - size (page a)))) i.1
+          (λ k l hk hl. i.2 k l (inr hk) (inr hl)) i.4
+    ]
+
+-- What is known of bodies of one record at two moments.
+stood_trie : (s : Past) (m : ℕ) → IsSteady s m → (r : ℕ) (b : Tree) → Stood s m r b → IsTrie b
+stood_trie s m law r b st = trie_within (within_trans (inside here) st.stands.within) (law.trees st.at st.stands.tree st.until st.stands.is_moment).0
+
+stood_built : (s : Past) (m : ℕ) → IsSteady s m → (r : ℕ) (b : Tree) → (st : Stood s m r b) → IsBuilt (node r st.fixed b)
+stood_built s m law r b st = built_within st.stands.within (law.trees st.at st.stands.tree st.until st.stands.is_moment).1
+
+stood_kin : (s : Past) (m : ℕ) → IsSteady s m → (r : ℕ) (b c : Tree) → Stood s m r b → Stood s m r c → Kin b c
+stood_kin s m law r b c st su =
+    (law.same (a_node r) st.at su.at (node r st.fixed b) (node r su.fixed c) st.since st.until su.since su.until st.stands su.stands).1
+
+-- A key left of the place of another is before it.
+pub fit_order : (s : Past) (m : ℕ) → IsSteady s m → (r i j : ℕ) → i < j → (y z : Key) → Fits s m r i y → Fits s m r j z → IsBefore y z
+fit_order s m law r i j lt y z (b, k, st, u, f) (c, l, su, v, g) =
+    let kin : Kin b c = stood_kin s m law r b c st su in
+    let to = under_below c j l v in
+    let t : size (page b) ≡ size (page c) = kin_tips kin in
+    let e : between (page c) i j ≡ between (page b) i j = shape_between (page c) (page b) i j (sym (kin_shape kin)) in (
+      between (page b) i j,
+      parted_alike (between (page b) i j) k l y z (parting kin (stood_trie s m law r b st) (stood_trie s m law r c su) i j lt k l u v)
+          (alike_left (page b) i j lt (omega arith) k y f)
+          (subst (λ p. AgreeBelow (suc p) l z) e (alike_right (page c) i j lt to l z g)),
+    )
+
+-- What an entry word says of the tree that it stands for.
+pub node_of : (c h : ℕ) (u : Tree) → page u ≡ Place (Node c h) → (x : Fixed) × (d : Tree) × (u ≡ node c x d) × (x.height ≡ h)
+node_of c h (leaf n k v) e = absurd cc
+node_of c h (fork n k v) e = absurd cc
+node_of c h (node n x d) e = (x, d, (let q : n ≡ c = cc in ap (λ z. node z x d) q), cc)
+
+pub leaf_of : (n : ℕ) (u : Tree) → page u ≡ Place (Leaf n) → (k : Key) × (v : ℕ) × (u ≡ leaf n k v)
+leaf_of n (node m k v) e = absurd cc
+leaf_of n (fork m k v) e = absurd cc
+leaf_of n (leaf m k v) e = (k, v, (let q : m ≡ n = cc in ap (λ z. leaf z k v) q))
+
+pub record_node : (r : ℕ) (u : Tree) → IsRecord (a_node r) u → (x : Fixed) × (d : Tree) × (u ≡ node r x d)
+record_node r (leaf m k v) e = absurd cc
+record_node r (fork m k v) e = absurd e
+record_node r (node m x d) e = (x, d, (let q : m ≡ r = cc in ap (λ z. node z x d) q))
+
+pub record_leaf : (r : ℕ) (u : Tree) → IsRecord (a_leaf r) u → (k : Key) × (v : ℕ) × (u ≡ leaf r k v)
+record_leaf r (node m k v) e = absurd cc
+record_leaf r (fork m k v) e = absurd e
+record_leaf r (leaf m k v) e = (k, v, (let q : m ≡ r = cc in ap (λ z. leaf z k v) q))
+
+-- A placed entry's record stood at that moment.
+pub placed_stands : (s : Past) (m r j : ℕ) (b : Tree) → (st : Stood s m r b) → (e : Entry) → page (at_place b j) ≡ Place e → Stands s st.at (rec_of e) (at_place b j)
+placed_stands s m r j b st e pg = record {
+  tree = st.stands.tree;
+  is_moment = st.stands.is_moment;
+  within = within_trans (within_trans (within_at b j) (inside here)) st.stands.within;
+  is_record = record_of_page e (at_place b j) pg;
+}
+
+-- A key that may stand in a child may stand at the child's place.
+fit_kin : (s : Past) (m r j i : ℕ) (b : Tree) (l z : Key) → Stood s m r b → IsTrie b → j < size (page b) → {d e : Tree} → Kin d e → IsFork d →
+    Within d (at_place b j) → IsUnder e i l → IsAlike (page e) i l z → Fits s m r j z
+fit_kin s m r j i b l z st t lt (tips {a = fork p a c} x y) f w u g = elim x [ ]
+fit_kin s m r j i b l z st t lt (tips {a = leaf n k v} x y) f w u g = elim f [ ]
+fit_kin s m r j i b l z st t lt (tips {a = node n k v} x y) f w u g = elim f [ ]
+fit_kin s m r j i b l z st t lt (forks {p = p} {a = a} {b = a'} {c = c} {d = d} e x y) f w u g = (
+  b,
+  first a,
+  st,
+  under_at b j (first a) lt (has_within w (first a) (inl (has_first a))),
+  alike_deep b j p a a' t w (first a) z (λ q h. e (first a) l (inl (has_first a)) (has_under (fork p c d) i l u) q h ∙ g.0 q (omega arith)),
+)
+
+pub fit_down : (s : Past) (m : ℕ) → IsSteady s m → (r j c h i : ℕ) (z : Key) → IsPlaced s m r j (Node c h) → Fits s m c i z → Fits s m r j z
+fit_down s m law r j c h i z (b, st, lt, pg) (d, l, su, v, g) =
+    let o = node_of c h (at_place b j) pg in
+    let sd = placed_stands s m r j b st (Node c h) pg in
+    let here_stands : Stands s st.at (a_node c) (node c o.0 o.1) = subst (λ u. Stands s st.at (a_node c) u) o.2 sd in
+    let sc : Stood s m c o.1 = record { at = st.at; since = st.since; until = st.until; fixed = o.0; stands = here_stands } in
+    fit_kin s m r j i b l z st (stood_trie s m law r b st) lt (stood_kin s m law c o.1 d sc su) (stood_built s m law c o.1 sc).0
+    (subst (λ u. Within o.1 u) (sym o.2) (inside here)) v g
+
+pub fit_leaf : (s : Past) (m : ℕ) → IsSteady s m → (r j n : ℕ) (k : Key) (v : ℕ) → IsPlaced s m r j (Leaf n) → IsRead s m n k v → Fits s m r j k
+fit_leaf s m law r j n k v (b, st, lt, pg) (o, lo, hi, sn) =
+    let w = leaf_of n (at_place b j) pg in
+    let sd : Stands s st.at (a_leaf n) (leaf n w.0 w.1) = subst (λ u. Stands s st.at (a_leaf n) u) w.2 (placed_stands s m r j b st (Leaf n) pg) in
+    let e : k ≡ w.0 = (law.same (a_leaf n) o st.at (leaf n k v) (leaf n w.0 w.1) lo hi st.since st.until sn sd).0 in
+    (b, k, st, under_at b j k lt (subst (λ u. Has u k) (sym w.2) e), alike_refl (page b) j k)
+
+-- A key that may stand in a record that was reached from a place may stand at the place.
+pub fit_reached : (s : Past) (m : ℕ) → IsSteady s m → (r j c h i : ℕ) (z : Key) → IsReached s m r j (Node c h) → Fits s m c i z → Fits s m r j z
+fit_reached s m law r j c h i z (placed p) f = fit_down s m law r j c h i z p f
+fit_reached s m law r j c h i z (further {c = d} {h = g} {i = o} q p) f = fit_reached s m law r j d g o z q (fit_down s m law d o c h i z p f)
+
+pub fit_first : (s : Past) (m : ℕ) → IsSteady s m → (r j n : ℕ) (k : Key) (v : ℕ) → IsReached s m r j (Leaf n) → IsRead s m n k v → Fits s m r j k
+fit_first s m law r j n k v (placed p) f = fit_leaf s m law r j n k v p f
+fit_first s m law r j n k v (further {c = d} {h = g} {i = o} q p) f = fit_reached s m law r j d g o k q (fit_leaf s m law d o n k v p f)
+
+-- What is known of a key that was held all the time.
+on_stood : (s : Past) (m r : ℕ) (k : Key) → IsOn s m k (a_node r) → (b : Tree) × Stood s m r b × Has b k
+on_stood s m r k (n, u, lo, hi, st, h) =
+    let o = record_node r u st.is_record in (
+      o.1,
+      record { at = n; since = lo; until = hi; fixed = o.0; stands = subst (λ z. Stands s n (a_node r) z) o.2 st },
+      subst (λ z. Has z k) o.2 h,
+    )
+
+pub shaped : (s : Past) (m : ℕ) → IsSteady s m → (r : ℕ) (p : Page) (b : Tree) → IsShaped s m r p → Stood s m r b → shape (page b) ≡ p
+shaped s m law r p b (c, st, e) su = sym (kin_shape (stood_kin s m law r c b st su)) ∙ e
+
+shaped_spot : (s : Past) (m : ℕ) → IsSteady s m → (r : ℕ) (p : Page) (b : Tree) (k : Key) → IsShaped s m r p → Stood s m r b → spot k (page b) ≡ spot k p
+shaped_spot s m law r p b k sh st = sym (spot_shape k (page b)) ∙ ap (spot k) (shaped s m law r p b sh st)
+
+pub on_fit : (s : Past) (m : ℕ) → IsSteady s m → (r : ℕ) (p : Page) (k : Key) → IsShaped s m r p → IsOn s m k (a_node r) → Fits s m r (spot k p) k
+on_fit s m law r p k sh on =
+    let o = on_stood s m r k on in
+    let e = shaped_spot s m law r p o.0 k sh o.1 in
+    (o.0, k, o.1, subst (λ z. IsUnder o.0 z k) e (under_spot o.0 k (stood_trie s m law r o.0 o.1) o.2), alike_refl (page o.0) (spot k p) k)
+
+some_same : {a b : Tree} → Some a ≡ Some b → a ≡ b
+some_same e = cc
+
+kept_has : (s : Past) (m : ℕ) (k : Key) → IsKept s m k → (n : ℕ) (t : Tree) → m ≤ n → n ≤ s.now → s.moment n ≡ Some t → Has t k
+kept_has s m k kept n t lo hi e = let o = kept n lo hi in subst (λ z. Has z k) (some_same (sym o.1 ∙ e)) o.2
+
+pub on_down : (s : Past) (m : ℕ) → IsSteady s m → (k : Key) → IsKept s m k → (r j : ℕ) (p : Page) (e : Entry) → IsShaped s m r p →
+    IsOn s m k (a_node r) → spot k p ≡ j → IsPlaced s m r j e → IsOn s m k (rec_of e)
+on_down s m law k kept r j p e sh on at (b, st, lt, pg) =
+    let o = on_stood s m r k on in
+    let t : IsTrie b = stood_trie s m law r b st in
+    let f : Follows k b =
+    follows_kin (stood_kin s m law r o.0 b o.1 st) (stood_built s m law r o.0 o.1).0 k (follows_if_has o.0 (stood_trie s m law r o.0 o.1) k o.2) in
+    let h : Has b k =
+    has_if_follows (within_trans (inside here) st.stands.within) (law.trees st.at st.stands.tree st.until st.stands.is_moment).0 k f
+    (kept_has s m k kept st.at st.stands.tree st.since st.until st.stands.is_moment) in (
+      st.at,
+      at_place b j,
+      st.since,
+      st.until,
+      placed_stands s m r j b st e pg,
+      subst (λ z. Has (at_place b z) k) (shaped_spot s m law r p b k sh st ∙ at) (subst (λ z. Has z k) (at_spot k b) (has_child b t k h)),
+    )
+
+pub on_root : (s : Past) (m : ℕ) (k : Key) → IsKept s m k → (e : Entry) → IsRooted s m e → IsOn s m k (rec_of e)
+on_root s m k kept e (n, t, lo, hi, g, pg) =
+    (n, t, lo, hi, record { tree = t; is_moment = g; within = here; is_record = record_of_page e t pg }, kept_has s m k kept n t lo hi g)
+
+pub on_leaf : (s : Past) (m : ℕ) → IsSteady s m → (n : ℕ) (k l : Key) (v : ℕ) → IsOn s m k (a_leaf n) → IsRead s m n l v → k ≡ l
+on_leaf s m law n k l v (o, u, lo, hi, st, h) (a, la, ha, sa) =
+    let w = record_leaf n u st.is_record in
+    let e : l ≡ w.0 = (law.same (a_leaf n) a o (leaf n l v) (leaf n w.0 w.1) la ha lo hi sa (subst (λ z. Stands s o (a_leaf n) z) w.2 st)).0 in
+    (let g : k ≡ w.0 = subst (λ z. Has z k) w.2 h in g ∙ sym e)
+
+pub read_held : (s : Past) (m n : ℕ) (k : Key) (v : ℕ) → IsRead s m n k v → IsHeld s m k v
+read_held s m n k v (o, lo, hi, st) = (o, st.tree, lo, hi, st.is_moment, holds_within st.within v (refl, refl))
+  where
+    holds_within : {u t : Tree} → Within u t → (v : ℕ) → Holds u k v → Holds t k v
+    holds_within here v h = h
+    holds_within (inside w) v h = holds_within w v h
+    holds_within (zero_side w) v h = inl (holds_within w v h)
+    holds_within (one_side w) v h = inr (holds_within w v h)
+
+-- A search that goes by placed entries is led: `hindsight` without the state.
+pub led_placed : (s : Past) (m : ℕ) → IsSteady s m → (k : Key) (r h j : ℕ) (p : Page) (e : Entry) → IsShaped s m r p → spot k p ≡ j → IsPlaced s m r j e →
+    IsLed s m k (Node r h) → IsLed s m k e
+led_placed s m law k r h j p e sh at (b, st, lt, pe) (n, u, lo, hi, su, pg, f) =
+    (st.at, at_place b j, st.since, st.until, placed_stands s m r j b st e pe, pe, go f)
+  where
+    o : (x : Fixed) × (d : Tree) × (u ≡ node r x d) × (x.height ≡ h)
+    o = node_of r h u pg
+
+    sd : Stood s m r o.1
+    sd = record { at = n; since = lo; until = hi; fixed = o.0; stands = subst (λ z. Stands s n (a_node r) z) o.2 su }
+
+    same : child k b ≡ at_place b j
+    same = at_spot k b ∙ ap (at_place b) (shaped_spot s m law r p b k sh st ∙ at)
+
+    w : Within b st.stands.tree
+    w = within_trans (inside here) st.stands.within
+
+    either : Follows k (child k b) ⊎ ¬ (Has st.stands.tree k) → Follows k (at_place b j) ⊎ IsMissed s m k
+    either (inl x) = inl (subst (Follows k) same x)
+    either (inr x) = inr (st.at, st.since, st.until, λ t q h. x (subst (λ z. Has z k) (some_same (sym q ∙ st.stands.is_moment)) h))
+
+    go : Follows k u ⊎ IsMissed s m k → Follows k (at_place b j) ⊎ IsMissed s m k
+    go (inr x) = inr x
+    go (inl x) = either (descend w (law.trees st.at st.stands.tree st.until st.stands.is_moment).0 k
+        (follows_kin (stood_kin s m law r o.1 b sd st) (stood_built s m law r o.1 sd).0 k (subst (λ z. Follows k z) o.2 x)))
+
+-- The order.
+pub before_trans : (a b c : Key) → IsBefore a b → IsBefore b c → IsBefore a c
+before_trans a b c (p, f) (q, g) = elim (cases_order p q) as (λ z. IsBefore a c) [
+  | inl e ↦ absurd (false≢true (sym g.1 ∙ (ap (bit b) (sym e) ∙ f.2)))
+  | inr (inl h) ↦ (p, ((λ z w. f.0 z w ∙ g.0 z (omega arith)), f.1, sym (g.0 p h) ∙ f.2))
+  | inr (inr h) ↦ (q, ((λ z w. f.0 z (omega arith) ∙ g.0 z w), f.0 q h ∙ g.1, g.2))
+]
+
+pub never_before : (a b : Key) → IsBefore a b → IsAtMost b a → ⊥
+never_before a b (p, f) (inl e) = false≢true (sym f.1 ∙ (ap (λ z. bit z p) (sym e) ∙ f.2))
+never_before a b x (inr y) = before_irrefl a (before_trans a b a x y)
+
+pub before_most : (a b c : Key) → IsBefore a b → IsAtMost b c → IsBefore a c
+before_most a b c x (inl e) = subst (IsBefore a) e x
+before_most a b c x (inr y) = before_trans a b c x y

@@ -1,0 +1,107 @@
+-- What a pass's locks and the words that it has read say of the present tree.
+use Rattle.std.proofs.Common.{◌≡◌, ℕ, refl, ap, sym, ◌∙◌, subst, Some, Option, None}
+use Rattle.tries.specs.Keys.{Key}
+use Rattle.tries.specs.Tree.{Fixed, Tree, leaf, node, fork, page, Within, here, inside}
+use Rattle.compound_node.specs.declared.entries.Entry.TheVariants.{Leaf, Node}
+use Rattle.pieces.specs.Piece.{Place}
+use Rattle.tries.specs.Search.{child, seek}
+use Rattle.moments.specs.Heap.{NodeWords, LeafWords, IsShown}
+use Rattle.moments.specs.State.{IsLawful, IsTop}
+use Rattle.moments.specs.declared.Rec.TheVariants.{Node as a_node}
+use Rattle.moments.specs.Core.{InTree, Core, view}
+use Rattle.tries.proofs.Tries.{within_trans, page_child, within_child}
+use Rattle.moments.proofs.Heaps.{shown_within}
+use Rattle.moments.proofs.Publish.{top_shown}
+use Rattle.moments.proofs.Growth.{in_tree_now}
+use Rattle.compound_node.specs.declared.entries.Entry.{Entry}
+
+node_parts : {n m h g : ℕ} → Place (Node n h) ≡ Place (Node m g) → n ≡ m
+node_parts e = cc
+
+leaf_parts : {n m : ℕ} → Place (Leaf n) ≡ Place (Leaf m) → n ≡ m
+leaf_parts e = cc
+
+some_same : {a b : Tree} → Some a ≡ Some b → a ≡ b
+some_same e = cc
+
+module _ (c : Core) (law : IsLawful (view c)) (t : Tree) (now : c.past.moment c.past.now ≡ Some t) where
+  shown_now : IsShown c.heap t
+  shown_now = top_shown c.heap c.root (c.past.moment c.past.now) t law.top now
+
+  -- A node that is in the tree stands in the present tree with its words.
+  pub stands_now : (n f : ℕ) → c.fate (a_node n) ≡ InTree f →
+      (b : Tree) × Within (node n (c.heap.nodes n).fixed b) t × (page b ≡ (c.heap.nodes n).page)
+  stands_now n f e =
+      let u = in_tree_now c law n f e in
+      (u.0, subst (Within (node n (c.heap.nodes n).fixed u.0)) (some_same (sym u.1.is_moment ∙ now)) u.1.within, u.2)
+
+  -- The node that its entry names stands there.
+  pub entry_node : {o : ℕ} {z : Fixed} {d : Tree} → Within (node o z d) t → (k : Key) (n h : ℕ) → seek k (c.heap.nodes o).page ≡ Node n h →
+      (y : Fixed) × (b : Tree) × (child k d ≡ node n y b) × (c.heap.nodes n ≡ record { fixed = y; page = page b })
+  entry_node {o} {z} {d} v k n h e =
+      let words : (c.heap.nodes o).page ≡ page d = ap (λ (w : NodeWords). w.page) (shown_within c.heap v shown_now).0 in
+      go (child k d) (shown_within c.heap (within_trans (within_child k d) (within_trans (inside here) v)) shown_now)
+      (page_child k d ∙ ap Place (ap (seek k) (sym words) ∙ e))
+    where
+      go : (u : Tree) → IsShown c.heap u → page u ≡ Place (Node n h) → (y : Fixed) × (b : Tree) × (u ≡ node n y b) × (c.heap.nodes n ≡ record { fixed = y; page = page b })
+      go (leaf m y b) s e = absurd cc
+      go (fork m y b) s e = absurd cc
+      go (node m y b) s e = (y, b, ap (λ a. node a y b) (node_parts e), ap c.heap.nodes (sym (node_parts e)) ∙ s.0)
+
+  -- A leaf is the one of its number, with its words.
+  leaf_of : {j : ℕ} (u : Tree) → IsShown c.heap u → page u ≡ Place (Leaf j) → u ≡ leaf j (c.heap.leaves j).key (c.heap.leaves j).value
+  leaf_of (node m y b) s e = absurd cc
+  leaf_of (fork m y b) s e = absurd cc
+  leaf_of {j} (leaf m y b) s e =
+      let n : m ≡ j = leaf_parts e in
+      let w : c.heap.leaves j ≡ record { key = y; value = b } = ap c.heap.leaves (sym n) ∙ s in
+      let f : (c.heap.leaves j).key ≡ y = ap (λ (r : LeafWords). r.key) w in
+      let g : (c.heap.leaves j).value ≡ b = ap (λ (r : LeafWords). r.value) w in cc
+
+  -- The leaf that its entry names stands there: the key is present.
+  pub entry_leaf : {o : ℕ} {z : Fixed} {d : Tree} → Within (node o z d) t → (k : Key) (j : ℕ) → seek k (c.heap.nodes o).page ≡ Leaf j →
+      child k d ≡ leaf j (c.heap.leaves j).key (c.heap.leaves j).value
+  entry_leaf {o} {z} {d} v k j e =
+      let words : (c.heap.nodes o).page ≡ page d = ap (λ (w : NodeWords). w.page) (shown_within c.heap v shown_now).0 in
+      leaf_of (child k d) (shown_within c.heap (within_trans (within_child k d) (within_trans (inside here) v)) shown_now)
+      (page_child k d ∙ ap Place (ap (seek k) (sym words) ∙ e))
+
+  -- What the root entry says of the tree.
+  pub root_page : (e : Entry) → c.root ≡ Some e → page t ≡ Place e
+  root_page e h = go c.root (c.past.moment c.past.now) h now law.top
+    where
+      go : (r : Option Entry) (f : Option Tree) → r ≡ Some e → f ≡ Some t → IsTop c.heap r f → page t ≡ Place e
+      go None f a b i = absurd cc
+      go (Some d) None a b i = absurd i
+      go (Some d) (Some u) a b i = let z : d ≡ e = cc in let w : u ≡ t = cc in ap page (sym w) ∙ (i.0 ∙ ap Place z)
+
+  pub root_node : (n h : ℕ) → c.root ≡ Some (Node n h) → (y : Fixed) × (b : Tree) × (t ≡ node n y b)
+  root_node n h e = go t (root_page (Node n h) e)
+    where
+      go : (u : Tree) → page u ≡ Place (Node n h) → (y : Fixed) × (b : Tree) × (u ≡ node n y b)
+      go (leaf m y b) z = absurd cc
+      go (fork m y b) z = absurd cc
+      go (node m y b) z = let w : m ≡ n = cc in (y, b, ap (λ a. node a y b) w)
+
+  pub root_leaf : (j : ℕ) → c.root ≡ Some (Leaf j) → t ≡ leaf j (c.heap.leaves j).key (c.heap.leaves j).value
+  root_leaf j e = leaf_of t shown_now (root_page (Leaf j) e)
+
+-- The tree of the present, where there is a node in it or a root entry.
+pub now_standing : (c : Core) → IsLawful (view c) → (n f : ℕ) → c.fate (a_node n) ≡ InTree f → (t : Tree) × (c.past.moment c.past.now ≡ Some t)
+now_standing c law n f e = let u = (in_tree_now c law n f e).1 in (u.tree, u.is_moment)
+
+pub now_rooted : (c : Core) → IsLawful (view c) → (e : Entry) → c.root ≡ Some e → (t : Tree) × (c.past.moment c.past.now ≡ Some t)
+now_rooted c law e h = go c.root (c.past.moment c.past.now) h refl law.top
+  where
+    go : (r : Option Entry) (f : Option Tree) → r ≡ Some e → c.past.moment c.past.now ≡ f → IsTop c.heap r f → (t : Tree) × (c.past.moment c.past.now ≡ Some t)
+    go None f a b i = absurd cc
+    go (Some d) None a b i = absurd i
+    go (Some d) (Some u) a b i = (u, b)
+
+pub now_empty : (c : Core) → IsLawful (view c) → c.root ≡ None → c.past.moment c.past.now ≡ None
+now_empty c law h = go c.root (c.past.moment c.past.now) h refl law.top
+  where
+    go : (r : Option Entry) (f : Option Tree) → r ≡ None → c.past.moment c.past.now ≡ f → IsTop c.heap r f → c.past.moment c.past.now ≡ None
+    go None None a b i = b
+    go None (Some u) a b i = absurd i
+    go (Some d) f a b i = absurd cc

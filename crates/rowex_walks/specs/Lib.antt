@@ -1,0 +1,4 @@
+pub mod Writer
+pub mod Rise
+pub mod Scan
+pub mod Statements

@@ -1,0 +1,85 @@
+-- What a writer has checked and prepared, in words: locked nodes with their pages, new records with theirs.
+use Rattle.std.specs.Prelude.{◌≡◌, ◌⊎◌, ℕ, Some}
+use Rattle.tries.specs.Keys.{Key, bit}
+use Rattle.compound_node.specs.declared.entries.Entry.{Entry}
+use Rattle.compound_node.specs.declared.entries.Entry.TheVariants.{Leaf, Node}
+use Rattle.pieces.specs.Piece.{Place, Fork}
+use Rattle.tries.specs.Tree.{Fixed, Page, IsFit}
+use Rattle.tries.specs.Search.{seek}
+use Rattle.tries.specs.Content.{Item}
+use Rattle.tries.specs.Place.{spot, with_entry, with_page}
+use Rattle.tries.specs.Affected.{page_affected, page_forked, page_grown, IsPartPage, IsLowerPage, IsFirstBelow, IsTipPage}
+use Rattle.moments.specs.Heap.{Heap}
+use Rattle.moments.specs.State.{IsFrom}
+use Rattle.moments.specs.declared.Rec.TheVariants.{Node as a_node}
+use Rattle.moments.specs.Core.{Ready, InTree, Core}
+use Rattle.rowex_walks.specs.Writer.{IsFound, IsStored}
+
+-- A new node record that the pass has filled with this page and made ready.
+pub record IsNewPage (c : Core) (q m : ℕ) (g : Fixed) (x : Page) : Type 0 where
+  pub fate : c.fate (a_node m) ≡ Ready q
+  pub words : c.heap.nodes m ≡ record { fixed = g; page = x }
+  pub two : IsTipPage x → ⊥
+  pub lower : IsLowerPage g.height x
+  pub fit : IsFit g x
+
+-- The entry for a page: the one entry that it is, or a new node of it.
+pub data IsEntryFor (c : Core) (q : ℕ) (x : Page) : Entry → Type 0 where
+  alone : (e : Entry) → x ≡ Place e → IsEntryFor c q x e
+  in_node : (m : ℕ) (g : Fixed) → IsNewPage c q m g x → IsEntryFor c q x (Node m g.height)
+
+-- A node in the tree that the pass has locked.
+pub record IsLockedNode (c : Core) (q n : ℕ) : Type 0 where
+  pub lock : c.lock n ≡ Some q
+  pub linked : ℕ
+  pub fate : c.fate (a_node n) ≡ InTree linked
+
+-- Such a node's entry on the key's way names node `n`.
+pub record IsOver (c : Core) (q : ℕ) (k : Key) (o n : ℕ) : Type 0 where
+  pub locked : IsLockedNode c q o
+  pub height : ℕ
+  pub entry : seek k (c.heap.nodes o).page ≡ Node n height
+
+-- And it is the place of `n` alone that an insertion at `p` affects.
+pub record IsUpper (c : Core) (q : ℕ) (k : Key) (p o n : ℕ) : Type 0 where
+  pub over : IsOver c q k o n
+  pub path : IsFirstBelow p (c.heap.nodes n).page ⊎ IsTipPage (page_affected p k (c.heap.nodes o).page)
+
+-- What an insertion makes of a locked node: of its body, or of the entry that names it.
+pub data Side : Type 0 where
+  body : Side
+  entry : Side
+
+-- From the lowest locked node upwards: the page that the node's body becomes, and the page, one entry or a fork of two,
+-- that takes the place of its entry.
+pub data IsRise (c : Core) (q since : ℕ) (x : Item) (p : ℕ) (l : Key) : Side → ℕ → Page → Type 0 where
+  -- the lowest node gets the new leaf
+  grows : (n : ℕ) → IsFound c q since x p l n → IsPartPage (page_affected p x.key (c.heap.nodes n).page) →
+      IsRise c q since x p l body n (page_grown p x.key (Leaf x.number) (c.heap.nodes n).page)
+  -- the node above gets what takes the place of the node below
+  pulls : (o n : ℕ) (r : Page) → IsUpper c q x.key p o n → IsRise c q since x p l entry n r →
+      IsRise c q since x p l body o (with_page x.key r (c.heap.nodes o).page)
+  -- a body in a node of its own: a copy of the old one
+  copies : (n : ℕ) (r : Page) (m : ℕ) (g : Fixed) → IsRise c q since x p l body n r → IsNewPage c q m g r → IsRise c q since x p l entry n (Place (Node m g.height))
+  -- a body cut at its first fork
+  halves : (n f : ℕ) (a b : Page) (d e : Entry) → IsRise c q since x p l body n (Fork f a b) → IsEntryFor c q a d → IsEntryFor c q b e →
+      IsRise c q since x p l entry n (Fork f (Place d) (Place e))
+  -- the lowest node stays whole, and the new leaf stands beside it
+  stays_whole : (n : ℕ) → IsFound c q since x p l n → IsFrom p (c.heap.nodes n).page →
+      IsRise c q since x p l entry n (page_forked (bit x.key p) p (Leaf x.number) (Place (Node n (c.heap.nodes n).fixed.height)))
+  -- a fork in a node of its own: an intermediate node, a new root
+  wraps : (n : ℕ) (r : Page) (m : ℕ) (g : Fixed) → IsRise c q since x p l entry n r → IsNewPage c q m g r → IsRise c q since x p l entry n (Place (Node m g.height))
+
+-- A locked node's entry on the key's way names leaf `j`, which has the key.
+pub record IsLeafOf (c : Core) (q : ℕ) (k : Key) (n j : ℕ) : Type 0 where
+  pub lock : c.lock n ≡ Some q
+  pub entry : seek k (c.heap.nodes n).page ≡ Leaf j
+  pub key : (c.heap.leaves j).key ≡ k
+
+-- The store of one entry at the key's place of a node.
+abbrev pub IsSlotStore : Core → Heap → ℕ → Key → Entry → Type 0
+IsSlotStore c heap o k e = IsStored c.heap heap o (with_entry (c.heap.nodes o).page (spot k (c.heap.nodes o).page) e)
+
+-- The entry is lower than the node.
+abbrev pub IsBelowNode : Core → ℕ → Entry → Type 0
+IsBelowNode c o e = IsLowerPage (c.heap.nodes o).fixed.height (Place e)

@@ -1,0 +1,188 @@
+-- What a scan knows: facts of the past alone.
+use Rattle.std.specs.Prelude.{◌≡◌, ◌⊎◌, ℕ, suc, ◌<◌, ◌≤◌, ◌-◌, ◌+◌, ◌*◌, ◌^◌, List, [], ◌∷◌, ◌++◌, length, Some, None, if◌then◌else◌, nat_lt}
+use Rattle.tries.specs.Keys.{IsAtMost, Key, AgreeBelow, IsBefore}
+use Rattle.tries.specs.Tree.{Fixed, Page, Tree, leaf, node, fork, page, Has}
+use Rattle.compound_node.specs.declared.entries.Entry.{Entry}
+use Rattle.compound_node.specs.declared.entries.Entry.TheVariants.{Node}
+use Rattle.pieces.specs.Piece.{Place, Fork, size}
+use Rattle.tries.specs.Search.{IsUnder}
+use Rattle.moments.specs.State.{rec_of, Past, Stands, IsHeld, IsKept}
+use Rattle.moments.specs.declared.Rec.{Rec}
+use Rattle.moments.specs.declared.Rec.TheVariants.{Node as a_node, Leaf as a_leaf}
+use Rattle.tries.specs.Place.{spot, shape}
+
+-- What stands at a place of a body.
+abbrev pub at_place : Tree → ℕ → Tree
+at_place (leaf n k v) i = leaf n k v
+at_place (node n x b) i = node n x b
+at_place (fork p a b) i = if nat_lt i (size (page a)) then at_place a i else at_place b (i - size (page a))
+
+-- The keys agree through each fork on the way to a place.
+abbrev pub IsAlike : Page → ℕ → Key → Key → Type 0
+IsAlike (Place e) i x y = Unit {0}
+IsAlike (Fork p a b) i x y =
+    AgreeBelow (suc p) x y × (i < size a → IsAlike a i x y) × (size a ≤ i → IsAlike b (i - size a) x y)
+
+-- At a moment since `m` the node record had this body.
+pub record Stood (s : Past) (m r : ℕ) (b : Tree) : Type 0 where
+  pub at : ℕ
+  pub since : m ≤ at
+  pub until : at ≤ s.now
+  pub fixed : Fixed
+  pub stands : Stands s at (a_node r) (node r fixed b)
+
+-- The four facts that a reader's loads leave.
+-- The root's entry at a moment since `m`.
+abbrev pub IsRooted : Past → ℕ → Entry → Type 0
+IsRooted s m e = (n : ℕ) × (t : Tree) × (m ≤ n) × (n ≤ s.now) × (s.moment n ≡ Some t) × (page t ≡ Place e)
+
+-- The entry stood at the record's place.
+abbrev pub IsPlaced : Past → ℕ → ℕ → ℕ → Entry → Type 0
+IsPlaced s m r j e = (b : Tree) × Stood s m r b × (j < size (page b)) × (page (at_place b j) ≡ Place e)
+
+-- The node stood with these forks.
+abbrev pub IsShaped : Past → ℕ → ℕ → Page → Type 0
+IsShaped s m r p = (b : Tree) × Stood s m r b × (shape (page b) ≡ p)
+
+-- The leaf stood with this key and value.
+abbrev pub IsRead : Past → ℕ → ℕ → Key → ℕ → Type 0
+IsRead s m r k v = (n : ℕ) × (m ≤ n) × (n ≤ s.now) × Stands s n (a_leaf r) (leaf r k v)
+
+-- A key that may stand at the record's place.
+abbrev pub Fits : Past → ℕ → ℕ → ℕ → Key → Type 0
+Fits s m r i y = (b : Tree) × (k : Key) × Stood s m r b × IsUnder b i k × IsAlike (page b) i k y
+
+-- It may stand left of the place.
+abbrev pub IsLeft : Past → ℕ → ℕ → ℕ → Key → Type 0
+IsLeft s m r i y = (j : ℕ) × (j < i) × Fits s m r j y
+
+-- The entry was reached from the record's place, by places taken one after the other.
+pub data IsReached (s : Past) (m r j : ℕ) : Entry → Type 0 where
+  placed : {e : Entry} → IsPlaced s m r j e → IsReached s m r j e
+  further : {c h i : ℕ} {e : Entry} → IsReached s m r j (Node c h) → IsPlaced s m c i e → IsReached s m r j e
+
+-- The record had the key below it.
+abbrev pub IsOn : Past → ℕ → Key → Rec → Type 0
+IsOn s m k r = (n : ℕ) × (u : Tree) × (m ≤ n) × (n ≤ s.now) × Stands s n r u × Has u k
+
+-- A node on the way of the scan: its number, its forks, and a place: the next one of the topmost frame, of any other
+-- frame the one in which the scan is.
+pub record Frame : Type 0 where
+  pub number : ℕ
+  pub height : ℕ
+  pub shape : Page
+  pub place : ℕ
+
+-- The frames, topmost first, are the way from the root.
+abbrev pub IsStack : Past → ℕ → List Frame → Type 0
+IsStack s m [] = Unit {0}
+IsStack s m (f ∷ []) = IsRooted s m (Node f.number f.height) × IsShaped s m f.number f.shape
+IsStack s m (f ∷ g ∷ gs) =
+    IsPlaced s m g.number g.place (Node f.number f.height) × IsShaped s m f.number f.shape × IsStack s m (g ∷ gs)
+
+-- The key may stand left of the place of one of the frames.
+abbrev pub IsPassed : Past → ℕ → Key → List Frame → Type 0
+IsPassed s m k [] = ⊥
+IsPassed s m k (f ∷ fs) = IsLeft s m f.number f.place k ⊎ IsPassed s m k fs
+
+-- The key was in the node of one of these frames, right of its place.
+abbrev pub IsRight : Past → ℕ → Key → List Frame → Type 0
+IsRight s m k [] = ⊥
+IsRight s m k (f ∷ fs) = (IsOn s m k (a_node f.number) × (f.place < spot k f.shape)) ⊎ IsRight s m k fs
+
+-- The scan has the key still before it.
+abbrev pub IsAhead : Past → ℕ → Key → List Frame → Type 0
+IsAhead s m k [] = ⊥
+IsAhead s m k (f ∷ fs) = (IsOn s m k (a_node f.number) × (f.place ≤ spot k f.shape)) ⊎ IsRight s m k fs
+
+pub record Pair : Type 0 where
+  pub key : Key
+  pub value : ℕ
+
+abbrev pub Every : (Pair → Type 0) → List Pair → Type 0
+Every P [] = Unit {0}
+Every P (x ∷ xs) = P x × Every P xs
+
+abbrev pub IsListed : Key → List Pair → Type 0
+IsListed k [] = ⊥
+IsListed k (x ∷ xs) = (k ≡ x.key) ⊎ IsListed k xs
+
+-- The keys rise strictly, where the newest pair stands first.
+abbrev pub IsFalling : List Pair → Type 0
+IsFalling [] = Unit {0}
+IsFalling (x ∷ xs) = Every (λ y. IsBefore y.key x.key) xs × IsFalling xs
+
+-- The call's range and limit.
+pub record Range : Type 0 where
+  pub from : Key
+  pub upto : Key
+  pub limit : ℕ
+
+abbrev pub IsInRange : Range → Key → Type 0
+IsInRange g k = IsAtMost g.from k × IsAtMost k g.upto
+
+-- The loop's invariant: the pairs so far (the newest first) and the way.
+pub record IsScan (s : Past) (m : ℕ) (g : Range) (fs : List Frame) (xs : List Pair) : Type 0 where
+  pub stack : IsStack s m fs
+  pub falling : IsFalling xs
+  pub within : Every (λ x. IsInRange g x.key) xs
+  pub held : Every (λ x. IsHeld s m x.key x.value) xs
+  pub passed : Every (λ x. IsPassed s m x.key fs) xs
+  pub short : length xs ≤ g.limit
+  pub covered : (k : Key) → IsKept s m k → IsInRange g k → IsListed k xs ⊎ IsAhead s m k fs
+
+-- What a scan promises, by moments: complete, or cut at the limit.
+pub record IsComplete (s : Past) (m : ℕ) (g : Range) (xs : List Pair) : Type 0 where
+  pub falling : IsFalling xs
+  pub within : Every (λ x. IsInRange g x.key) xs
+  pub held : Every (λ x. IsHeld s m x.key x.value) xs
+  pub short : length xs ≤ g.limit
+  pub covered : (k : Key) → IsKept s m k → IsInRange g k → IsListed k xs
+
+-- The key is that of one of the pairs, or below one of them.
+abbrev pub IsUpTo : Key → List Pair → Type 0
+IsUpTo k [] = ⊥
+IsUpTo k (x ∷ xs) = IsAtMost k x.key
+
+pub record IsCut (s : Past) (m : ℕ) (g : Range) (xs : List Pair) : Type 0 where
+  pub falling : IsFalling xs
+  pub within : Every (λ x. IsInRange g x.key) xs
+  pub held : Every (λ x. IsHeld s m x.key x.value) xs
+  pub full : length xs ≡ g.limit
+  pub further : (k : Key) × (v : ℕ) × IsInRange g k × IsHeld s m k v × Every (λ x. IsBefore x.key k) xs
+  pub covered : (k : Key) → IsKept s m k → IsInRange g k → IsUpTo k xs → IsListed k xs
+
+-- A place at which the scan may begin in a node: the first, or one below which a key was read that isn't above `from`.
+abbrev pub IsStart : Past → ℕ → Range → ℕ → ℕ → Type 0
+IsStart s m g c i = (i ≡ 0) ⊎ ((k : Key) × Fits s m c i k × IsAtMost k g.from)
+
+-- The frame one place further.
+abbrev pub next : Frame → Frame
+next f = record f { place = suc f.place }
+
+-- The entry's record stood at a moment since `m`, with the entry's height.
+abbrev pub IsSeen : Past → ℕ → Entry → Type 0
+IsSeen s m e = (n : ℕ) × (u : Tree) × (m ≤ n) × (n ≤ s.now) × Stands s n (rec_of e) u × (page u ≡ Place e)
+
+-- The root was None at a moment since `m`.
+abbrev pub IsBlank : Past → ℕ → Type 0
+IsBlank s m = (n : ℕ) × (m ≤ n) × (n ≤ s.now) × (s.moment n ≡ None)
+
+-- The height of the lowest frame: that of the root's node.
+abbrev pub top_height : ℕ → List Frame → ℕ
+top_height h [] = h
+top_height h (f ∷ fs) = top_height f.height fs
+
+-- What the scan has still to walk, at most, where a node has at most 32 entries: the loop's measure.
+abbrev pub rest_after : List Frame → ℕ
+rest_after [] = 0
+rest_after (f ∷ fs) = (size f.shape - suc f.place) * 34 ^ f.height + 1 + rest_after fs
+
+abbrev pub remaining : List Frame → ℕ
+remaining [] = 0
+remaining (f ∷ fs) = (size f.shape - f.place) * 34 ^ f.height + 1 + rest_after fs
+
+-- The pairs in the order in which they were taken.
+abbrev pub turned : List Pair → List (Key × ℕ)
+turned [] = []
+turned (x ∷ xs) = turned xs ++ (x.key, x.value) ∷ []

@@ -1,0 +1,103 @@
+//! The laws of walks. The functions do nothing: their contracts are the laws.
+
+ghost use Rattle.rowex_walks.specs.Statements.{FirstKey, FoundIsKept, GetEnds, InsertAtRoot, InsertInSlot, LedPlaced, LoadsLeaf, LoadsNone, LoadsPlace, LoadsRoot, LoadsShape, PushDown, RemoveAtRoot, RemoveInSlot, RemoveLast, ScanCompletes, ScanIsCut, SecondKey, UpsertAtRoot, UpsertInSlot};
+
+/// An insertion that was checked under its locks, of any case that ends in a node, is a legal publish that adds the key.
+pub fn insert_in_slot()
+    ensures { InsertInSlot }
+{}
+
+/// An insertion that ends at the root is a legal publish that adds the key.
+pub fn insert_at_root()
+    ensures { InsertAtRoot }
+{}
+
+/// A leaf pushdown is a legal publish that adds the key.
+pub fn push_down()
+    ensures { PushDown }
+{}
+
+/// An upsert of a held key in a node is a legal publish that replaces its value.
+pub fn upsert_in_slot()
+    ensures { UpsertInSlot }
+{}
+
+/// An upsert of the one held key is a legal publish that replaces its value.
+pub fn upsert_at_root()
+    ensures { UpsertAtRoot }
+{}
+
+/// The first key at an empty root is a legal publish.
+pub fn first_key()
+    ensures { FirstKey }
+{}
+
+/// The second key beside a leaf at the root is a legal publish.
+pub fn second_key()
+    ensures { SecondKey }
+{}
+
+/// A removal that ends in a node is a legal publish that takes the key away.
+pub fn remove_in_slot()
+    ensures { RemoveInSlot }
+{}
+
+/// A removal from the topmost node is a legal publish that takes the key away.
+pub fn remove_at_root()
+    ensures { RemoveAtRoot }
+{}
+
+/// The removal of the one leaf is a legal publish that leaves the index empty.
+pub fn remove_last()
+    ensures { RemoveLast }
+{}
+
+/// What a writer found below a locked node stays true while other passes go on.
+pub fn found_is_kept()
+    ensures { FoundIsKept }
+{}
+
+/// A load of the root tells its entry at a moment.
+pub fn loads_root()
+    ensures { LoadsRoot }
+{}
+
+/// A load of an empty root tells that each key was absent at a moment.
+pub fn loads_none()
+    ensures { LoadsNone }
+{}
+
+/// A load of an entry of a node in reach tells that it stood there at a moment, and that it is lower.
+pub fn loads_place()
+    ensures { LoadsPlace }
+{}
+
+/// The loads of the fixed words of a node in reach tell its forks.
+pub fn loads_shape()
+    ensures { LoadsShape }
+{}
+
+/// The loads of the words of a leaf in reach tell its key and value.
+pub fn loads_leaf()
+    ensures { LoadsLeaf }
+{}
+
+/// A search goes from a node to the entry at its place, whatever was published between the loads.
+pub fn led_placed()
+    ensures { LedPlaced }
+{}
+
+/// A lookup that came to a leaf stands at a moment since its pin.
+pub fn get_ends()
+    ensures { GetEnds }
+{}
+
+/// A scan that came to its end is lawful.
+pub fn scan_completes()
+    ensures { ScanCompletes }
+{}
+
+/// A scan that was cut at its limit is lawful.
+pub fn scan_is_cut()
+    ensures { ScanIsCut }
+{}

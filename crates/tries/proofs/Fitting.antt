@@ -1,0 +1,98 @@
+-- A node's fixed part fits its page whatever entries stand at the places, and the nodes of a tree are lawful nodes.
+use Rattle.std.proofs.Common.{◌≡◌, ℕ, ◌+◌, ◌*◌, ◌<◌, ◌≤◌, arith, true, List, ◌∷◌, ◌++◌, Bool, refl, ap, ◌∙◌, subst, [], sym}
+use Rattle.std.specs.Prelude.{map, ◌||◌, eqb}
+use Rattle.key_bits.specs.declared.TheConstants.{MAX_BYTES}
+use Rattle.pieces.specs.Piece.{size, paths, uses, UsesOnly, RisesFrom}
+use Rattle.pieces.specs.Positions.{all}
+use Rattle.partial_keys.specs.Rows.{row_of}
+use Rattle.std.specs.Prelude.{All}
+use Rattle.std.proofs.lemmas.List.Elements.{All-append, All-from_recursion}
+use Rattle.compound_node.specs.Nodes.{IsEntry, height_of, IsLawful, node_of}
+use Rattle.compound_node.specs.declared.entries.Entry.TheVariants.{Leaf, Node}
+use Rattle.pieces.specs.Piece.{places}
+use Rattle.pieces.proofs.Paths.{size_pos, length-places}
+use Rattle.partial_keys.proofs.Reading.{piece_of_shown}
+use Rattle.tries.specs.Tree.{Page, Fixed, first_position, IsFit, Tree, leaf, node, fork, page, IsFork, IsLower, IsBuilt}
+use Rattle.tries.specs.Place.{Swap, swap, in_zero, in_one}
+use Rattle.partial_keys.specs.Shows.{Shows}
+
+size_swap : {x y : Page} → Swap x y → size x ≡ size y
+size_swap swap = refl
+size_swap (in_zero {b = b} s) = ap (λ n. n + size b) (size_swap s)
+size_swap (in_one {a = a} s) = ap (λ n. size a + n) (size_swap s)
+
+paths_swap : {x y : Page} → Swap x y → paths x ≡ paths y
+paths_swap swap = refl
+paths_swap (in_zero {p = p} {b = b} s) = ap (λ (u : List (List ℕ)). u ++ map (λ path. p ∷ path) (paths b)) (paths_swap s)
+paths_swap (in_one {p = p} {a = a} s) = ap (λ (u : List (List ℕ)). paths a ++ map (λ path. p ∷ path) u) (paths_swap s)
+
+uses_swap : {x y : Page} → Swap x y → uses x ≡ uses y
+uses_swap swap = refl
+uses_swap (in_zero {p = p} {b = b} s) = ap (λ (u : ℕ → Bool). λ q. eqb p q || (u q || uses b q)) (uses_swap s)
+uses_swap (in_one {p = p} {a = a} s) = ap (λ (u : ℕ → Bool). λ q. eqb p q || (uses a q || u q)) (uses_swap s)
+
+only_swap : {x y : Page} → Swap x y → (ps : List ℕ) → UsesOnly ps x → UsesOnly ps y
+only_swap swap ps u = tt
+only_swap (in_zero s) ps u = (u.0, only_swap s ps u.1, u.2)
+only_swap (in_one s) ps u = (u.0, u.1, only_swap s ps u.2)
+
+rises_swap : {x y : Page} → Swap x y → (low : ℕ) → RisesFrom low x → RisesFrom low y
+rises_swap swap low r = tt
+rises_swap (in_zero {p = p} s) low r = (r.0, rises_swap s (p + 1) r.1, r.2)
+rises_swap (in_one {p = p} s) low r = (r.0, r.1, rises_swap s (p + 1) r.2)
+
+first_swap : {x y : Page} → Swap x y → first_position x ≡ first_position y
+first_swap swap = refl
+first_swap (in_zero s) = refl
+first_swap (in_one s) = refl
+
+pub fit_swap : {x y : Page} → Swap x y → (f : Fixed) → IsFit f x → IsFit f y
+fit_swap {x} {y} s f i = record {
+  positions = i.positions;
+  shows = record {
+    few = i.shows.few;
+    columns_rise = i.shows.columns_rise;
+    forks_at_columns = only_swap s f.columns i.shows.forks_at_columns;
+    columns_used = subst (λ (u : ℕ → Bool). all u f.columns ≡ true) (uses_swap s) i.shows.columns_used;
+    paths_rise = rises_swap s 0 i.shows.paths_rise;
+    rows_are = i.shows.rows_are ∙ ap (λ (u : List (List ℕ)). map (row_of f.columns) u) (paths_swap s);
+    entries_are = refl;
+  };
+  room = subst (λ n. n ≤ 32) (size_swap s) i.room;
+  bound = subst (λ n. f.height + n ≤ 9 * MAX_BYTES) (first_swap s) i.bound;
+}
+
+-- A node is not of height 0.
+pub lower_positive : (h : ℕ) (b : Tree) → IsLower h b → 0 < h
+lower_positive h (leaf n k v) l = l
+lower_positive h (node n x b) l = omega (arith, l)
+lower_positive h (fork p a b) l = lower_positive h a l.0
+
+children_are : (b : Tree) → IsBuilt b → All IsEntry (places (page b))
+children_are (leaf n k v) i = All-from_recursion IsEntry (Leaf n ∷ []) (tt, tt)
+children_are (node n x b) i =
+    let l = lower_positive x.height b i.1 in let h = i.3.bound in let m : MAX_BYTES ≡ 240 = refl in
+    All-from_recursion IsEntry (Node n x.height ∷ []) ((l, omega arith), tt)
+children_are (fork p a b) i = All-append IsEntry (places (page a)) (places (page b)) (children_are a i.0) (children_are b i.1)
+
+all_above : (h : ℕ) (b : Tree) → IsLower h b → All (λ e. height_of e < h) (places (page b))
+all_above h (leaf n k v) l = All-from_recursion (λ e. height_of e < h) (Leaf n ∷ []) (l, tt)
+all_above h (node n x b) l = All-from_recursion (λ e. height_of e < h) (Node n x.height ∷ []) (l, tt)
+all_above h (fork p a b) l = All-append (λ e. height_of e < h) (places (page a)) (places (page b)) (all_above h a l.0) (all_above h b l.1)
+
+two_places : (b : Tree) → IsFork b → 2 ≤ size (page b)
+two_places (leaf n k v) f = absurd f
+two_places (node n x b) f = absurd f
+two_places (fork p a b) f = let l = size_pos (page a) in let r = size_pos (page b) in omega arith
+
+-- Each node of a built tree is a lawful node, with the entries of its page.
+pub node_lawful : (n : ℕ) (x : Fixed) (b : Tree) → IsBuilt (node n x b) → IsLawful (node_of x (places (page b)))
+node_lawful n x b (two, low, built, fit) = record {
+  several = let l = length-places (page b) in let t = two_places b two in omega arith;
+  room = let l = length-places (page b) in let r = fit.room in omega arith;
+  positions = fit.positions;
+  shows = subst (Shows x.columns x.rows (places (page b))) (sym (piece_of_shown (Leaf 0) x.columns x.rows (places (page b)) (page b) fit.shows)) fit.shows;
+  children = children_are b built;
+  above = all_above x.height b low;
+  bound = let h = fit.bound in let m : MAX_BYTES ≡ 240 = refl in omega arith;
+}

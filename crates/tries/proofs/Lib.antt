@@ -1,0 +1,9 @@
+pub mod Tries
+pub mod Contents
+pub mod Maps
+pub mod Ranges
+pub mod Places
+pub mod Adding
+pub mod Affected
+pub mod Spots
+pub mod Fitting

@@ -1,0 +1,8 @@
+pub mod Keys
+pub mod Tree
+pub mod Search
+pub mod Place
+pub mod Content
+pub mod Changes
+pub mod Affected
+pub mod Statements

@@ -1,0 +1,94 @@
+-- The tree of one moment: a bit trie with marks at which records begin.
+use Rattle.key_bits.specs.Key.{IsKey}
+use Rattle.std.specs.Prelude.{◌≡◌, ◌⊎◌, ℕ, ◌<◌, true, false, ◌+◌, ◌*◌, ◌≤◌}
+use Rattle.tries.specs.Keys.{Key, bit, AgreeBelow}
+use Rattle.key_bits.specs.declared.TheConstants.{MAX_BYTES}
+use Rattle.pieces.specs.Piece.{Piece, Place, Fork, size, places}
+use Rattle.partial_keys.specs.Columns.{IsColumns}
+use Rattle.partial_keys.specs.Shows.{Shows}
+use Rattle.compound_node.specs.Nodes.{HeadView}
+use Rattle.compound_node.specs.declared.entries.Entry.{Entry}
+use Rattle.compound_node.specs.declared.entries.Entry.TheVariants.{Leaf, Node}
+
+-- What a node shows: forks, and the entry that stands at each place.
+abbrev pub Page : Type 0
+Page = Piece Entry
+
+-- What stays of a node while it is in use: all but its state and its entries.
+abbrev pub Fixed : Type 0
+Fixed = HeadView
+
+-- Each fork belongs to the nearest record above it.
+pub data Tree : Type 0 where
+  leaf : (number : ℕ) (key : Key) (value : ℕ) → Tree
+  node : (number : ℕ) (fixed : Fixed) (body : Tree) → Tree
+  fork : (position : ℕ) (zero one : Tree) → Tree
+
+-- What the record that a tree begins with, or a body, has at its places.
+abbrev pub page : Tree → Page
+page (leaf n k v) = Place (Leaf n)
+page (node n x b) = Place (Node n x.height)
+page (fork p a b) = Fork p (page a) (page b)
+
+-- A leaf of the tree has the key.
+abbrev pub Has : Tree → Key → Type 0
+Has (leaf n k v) l = l ≡ k
+Has (node n h b) l = Has b l
+Has (fork p a b) l = Has a l ⊎ Has b l
+
+-- A leaf of the tree has the key and the value.
+abbrev pub Holds : Tree → Key → ℕ → Type 0
+Holds (leaf n k v) l w = (l ≡ k) × (w ≡ v)
+Holds (node n h b) l w = Holds b l w
+Holds (fork p a b) l w = Holds a l w ⊎ Holds b l w
+
+-- Each leaf has a key. All keys below a fork agree before its position, and have 0 there on its first side and 1 on the other.
+abbrev pub IsTrie : Tree → Type 0
+IsTrie (leaf n k v) = IsKey k
+IsTrie (node n h b) = IsTrie b
+IsTrie (fork p a b) =
+    IsTrie a × IsTrie b × ((k l : Key) → Has a k ⊎ Has b k → Has a l ⊎ Has b l → AgreeBelow p k l) ×
+    ((k : Key) → Has a k → bit k p ≡ false) ×
+    ((k : Key) → Has b k → bit k p ≡ true)
+
+-- A body has two entries or more.
+abbrev pub IsFork : Tree → Type 0
+IsFork (fork p a b) = Unit {0}
+IsFork t = ⊥
+
+-- The heights of the entries are below `h`, a leaf counting 0.
+abbrev pub IsLower : ℕ → Tree → Type 0
+IsLower h (leaf n k v) = 0 < h
+IsLower h (node n x b) = x.height < h
+IsLower h (fork p a b) = IsLower h a × IsLower h b
+
+-- The first position of a page, or 0 for a page of one place.
+abbrev pub first_position : Page → ℕ
+first_position (Place e) = 0
+first_position (Fork p a b) = p
+
+-- A node's fixed part fits its page: the rows show it, there is room for its places, and height and first position add
+-- up to at most the number of positions that a key has.
+pub record IsFit (x : Fixed) (p : Page) : Type 0 where
+  pub positions : IsColumns x.columns
+  pub shows : Shows x.columns x.rows (places p) p
+  pub room : size p ≤ 32
+  pub bound : x.height + first_position p ≤ 9 * MAX_BYTES
+
+-- Each node has two entries or more, a height above theirs, and a fixed part that fits its page.
+abbrev pub IsBuilt : Tree → Type 0
+IsBuilt (leaf n k v) = Unit {0}
+IsBuilt (node n x b) = IsFork b × IsLower x.height b × IsBuilt b × IsFit x (page b)
+IsBuilt (fork p a b) = IsBuilt a × IsBuilt b
+
+-- The tree stands in the other one.
+pub data Within (s : Tree) : Tree → Type 0 where
+  here : Within s s
+  inside : {n : ℕ} {x : Fixed} {b : Tree} → Within s b → Within s (node n x b)
+  zero_side : {p : ℕ} {a b : Tree} → Within s a → Within s (fork p a b)
+  one_side : {p : ℕ} {a b : Tree} → Within s b → Within s (fork p a b)
+
+-- A record stands at the tree's head.
+abbrev pub IsTip : Tree → Type 0
+IsTip (fork p a b) = ⊥
+IsTip t = Unit {0}

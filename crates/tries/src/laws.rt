@@ -1,0 +1,28 @@
+//! The laws of bit tries. The functions do nothing: their contracts are the laws.
+
+ghost use Rattle.tries.specs.Statements.{AddingInserts, ContentRises, ExchangeReplaces, LocalIsTrie, TakingRemoves};
+
+/// The content of a bit trie is in strict key order.
+pub fn content_rises()
+    ensures { ContentRises }
+{}
+
+/// A bit trie is told by its forks alone.
+pub fn local_is_trie()
+    ensures { LocalIsTrie }
+{}
+
+/// One leaf more is one key more in the map.
+pub fn adding_inserts()
+    ensures { AddingInserts }
+{}
+
+/// One leaf for another of the same key is another value in the map.
+pub fn exchange_replaces()
+    ensures { ExchangeReplaces }
+{}
+
+/// One leaf less is one key less in the map.
+pub fn taking_removes()
+    ensures { TakingRemoves }
+{}
