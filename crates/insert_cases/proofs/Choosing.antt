@@ -15,7 +15,8 @@ use Rattle.tries.specs.Search.{child}
 use Rattle.tries.specs.Tree.{Tree, leaf, node, fork, Fixed, page, first_position, Has, IsTrie, IsBuilt, IsTip, IsFork, Within, here, inside}
 use Rattle.tries.proofs.Affected.{IsAway, part_away, part_place, affected_page}
 use Rattle.tries.proofs.Places.{spot_below}
-use Rattle.tries.proofs.Tries.{first, has_first, within_trans, within_child, trie_within, built_within, follows_if_has, rises}
+use Rattle.tries.specs.Content.{first}
+use Rattle.tries.proofs.Tries.{has_first, within_trans, within_child, trie_within, built_within, follows_if_has, rises}
 use Rattle.insert_cases.specs.declared.choice.Case.{Case}
 use Rattle.insert_cases.specs.declared.choice.Choice.{Choice}
 use Rattle.insert_cases.specs.declared.choice.Step.{Step}

@@ -1,0 +1,214 @@
+-- The opening, and how seats are split and joined.
+use Rattle.std.proofs.Common.{◌≡◌, ◌≢◌, ◌⊎◌, ℕ, zero, suc, ◌+◌, ◌*◌, ◌<◌, ◌≤◌, List, [], ◌∷◌, ◌++◌, length, set, get_or, replicate, Option, Some, None, refl, sym, ap, subst, ◌∙◌, arith, inl, inr, ⊎_elim}
+use Rattle.std.specs.Prelude.{All}
+use Rattle.std.proofs.lemmas.List.{set-get_or}
+use Rattle.std.proofs.lemmas.List.Elements.{All-from_recursion}
+use mathlib.Core.Option.{none, some, some-ne-none, some-injective}
+use lib.ListN.{get_elem?}
+use Rattle.compound_node.specs.declared.entries.Entry.{Entry}
+use Rattle.atomic_table.specs.Table.{State, Me, Step, Allows, Splits, Joins, opening as first_state}
+use Rattle.atomic_table.specs.Table as table
+use Rattle.atomic_table.proofs.Lists.{at_set}
+use Rattle.hot_model.specs.declared.Change.{Change}
+use Rattle.hot_model.specs.Fronts.{LegalFront, BeginsWith, OthersGoOn}
+use Rattle.record_words.specs.Layout.{word_count}
+use Rattle.record_words.specs.declared.layout.Layout.{Layout}
+use Rattle.rowex_core.specs.declared.known.Fact.{Fact}
+use Rattle.rowex_core.specs.declared.known.Owned.{Owned}
+use Rattle.rowex_core.specs.declared.known.Locked.{Locked}
+use Rattle.rowex_core.specs.declared.known.Known.{Known}
+use Rattle.rowex_core.specs.declared.known.View.{View}
+use Rattle.rowex_core.specs.declared.known.View.TheVariants.{Spent, Dealer, Pass, Pair}
+use Rattle.rowex_core.specs.Cores.{Core, IsLawful}
+use Rattle.rowex_core.specs.Words.{Shows}
+use Rattle.rowex_core.specs.Knowing.{IsFact, IsOwned, IsLocked, IsUntouched, Knows, Knowing, Owns}
+use Rattle.rowex_core.specs.Opening.{opening, opening_words}
+use Rattle.rowex_core.proofs.Promises.{opening_is_lawful}
+use Rattle.rowex_table.specs.Rule.{Ruled, opening_of, next_dealer, dealt, paired, first_of_two, second_of_two, with_front, HaveMet, Meeting, met}
+use Rattle.rowex_table.proofs.Keeping.{Apart, apart_set}
+
+-- The opening
+
+first_words : (layout : Layout) → set (set (replicate (word_count layout) 0) 0 1) 2 2 ≡ opening_words layout
+first_words layout = ap (λ z. set (set (replicate z 0) 0 1) 2 2) count
+  where
+    count : word_count layout ≡ suc (suc (suc (layout.passes + 58 * layout.nodes + 33 * layout.leaves)))
+    count = omega arith
+
+pub opens : {S : Type 0} (layout : Layout) (words : List ℕ) → words ≡ set (set (replicate (word_count layout) 0) 0 1) 2 2 → Ruled {S = S} layout (first_state words [] (Dealer 0))
+opens {S = S} layout words is = record {
+  core = opening layout;
+  lawful = (opening_is_lawful layout).0;
+  layout_is = refl;
+  shows = subst (Shows (opening layout)) (sym (is ∙ first_words layout)) (opening_is_lawful layout).1;
+  knows = λ i v e. only (λ v. Knowing (opening layout) v) (opening_is_lawful layout).2 i v e;
+  apart = λ i j q v w a b ov ow. first i v a ∙ sym (first j w b);
+}
+  where
+    only : (P : View → Type 0) → P (Dealer 0) → (i : ℕ) (v : View) → get_elem? (Dealer 0 ∷ []) i ≡ some v → P v
+    only P p zero v e = subst P (some-injective (Dealer 0) v e) p
+    only P p (suc i) v e = absurd (some-ne-none v (sym e))
+
+    first : (i : ℕ) (v : View) → get_elem? (Dealer 0 ∷ []) i ≡ some v → i ≡ 0
+    first zero v e = refl
+    first (suc i) v e = absurd (some-ne-none v (sym e))
+
+-- Splitting
+
+at_end : {A : Type 0} (l : List A) (a b : A) (j : ℕ) → get_elem? (l ++ a ∷ []) j ≡ some b → (get_elem? l j ≡ some b) ⊎ ((j ≡ length l) × (a ≡ b))
+at_end [] a b zero e = inr (refl, some-injective a b e)
+at_end [] a b (suc j) e = absurd (some-ne-none b (sym e))
+at_end (x ∷ xs) a b zero e = inl e
+at_end (x ∷ xs) a b (suc j) e = ⊎_elim inl (λ t. inr (ap suc t.0, t.1)) (at_end xs a b j e)
+
+module _ {S : Type 0} (layout : Layout) (id : ℕ) (v left right : View) where
+  -- each part keeps to the numbers and the knowledge of the whole, and they have no number in common
+  splits : ((c : Core) → c.layout ≡ layout → Knowing c v → Knowing c left × Knowing c right) → ((q : ℕ) → Owns left q → Owns v q) → ((q : ℕ) → Owns right q → Owns v q) → ((q : ℕ) → Owns left q → Owns right q → ⊥)
+      → Splits {S = S} {V = View} (Ruled layout) id v left right
+  splits knowing lo ro lr s r here =
+      let parts = knowing r.core r.layout_is (r.knows id v here) in
+      let views : List View = set s.views id left in
+      let apart : Apart views = apart_set s.views id v left here lo r.apart in
+      let alone : (i q : ℕ) (w : View) → get_elem? views i ≡ some w → Owns w q → Owns right q → ⊥ = λ i q w e ow oright. ⊎_elim
+      (λ (t : (i ≡ id) × (left ≡ w)). lr q (subst (λ z. Owns z q) (sym t.1) ow) oright)
+      (λ (t : (i ≢ id) × (get_elem? s.views i ≡ some w)). t.0 (r.apart i id q w v t.1 here ow (ro q oright)))
+      (at_set s.views id i left w e) in
+      record {
+        core = r.core;
+        lawful = r.lawful;
+        layout_is = r.layout_is;
+        shows = r.shows;
+        knows = λ i w e. ⊎_elim
+            (λ old. ⊎_elim (λ (t : (i ≡ id) × (left ≡ w)). subst (Knowing r.core) t.1 parts.0) (λ (t : (i ≢ id) × (get_elem? s.views i ≡ some w)). r.knows i w t.1) (at_set s.views id i left w old))
+            (λ (t : (i ≡ length views) × (right ≡ w)). subst (Knowing r.core) t.1 parts.1)
+            (at_end views right w i e);
+        apart = λ i j q x y a b ox oy. ⊎_elim
+            (λ (olda : get_elem? views i ≡ some x). ⊎_elim (λ (oldb : get_elem? views j ≡ some y). apart i j q x y olda oldb ox oy) (λ (t : (j ≡ length views) × (right ≡ y)). absurd (alone i q x olda ox (subst (λ z. Owns z q) (sym t.1) oy))) (at_end views right y j b))
+            (λ (t : (i ≡ length views) × (right ≡ x)). ⊎_elim (λ (oldb : get_elem? views j ≡ some y). absurd (alone j q y oldb oy (subst (λ z. Owns z q) (sym t.1) ox))) (λ (u : (j ≡ length views) × (right ≡ y)). t.0 ∙ sym u.0) (at_end views right y j b))
+            (at_end views right x i a);
+      }
+
+new_knows : (c : Core) (m : ℕ) → m < c.layout.passes → IsUntouched c m → Knows c (opening_of m)
+new_knows c m low h = record {
+  pass = low;
+  front = (c.changes, refl, h.changes);
+  fresh = ([], refl);
+  facts = All-from_recursion (IsFact c.past) [] tt;
+  own = All-from_recursion (IsOwned m c) [] tt;
+  locks = All-from_recursion (IsLocked m c) [] tt;
+  anchor = λ e is. absurd cc;
+  pin = h.pin;
+  round = h.round;
+}
+
+pub deals : {S : Type 0} (layout : Layout) (id : ℕ) (v : View) (m : ℕ) → m < layout.passes → v ≡ Dealer m → Splits {S = S} {V = View} (Ruled layout) id v (next_dealer v) (dealt v)
+deals {S = S} layout id v m low is = subst (λ (z : View). Splits {S = S} {V = View} (Ruled layout) id z (next_dealer z) (dealt z)) (sym is)
+    (splits layout id (Dealer m) (Dealer (m + 1)) (Pass (opening_of m))
+    (λ c at k. ((λ q low. k q (omega arith)), new_knows c m (subst (λ (z : Layout). m < z.passes) (sym at) low) (k m (omega arith))))
+    (λ q low. omega arith)
+    (λ q e. omega arith)
+    (λ q low e. omega arith))
+
+pub parts : {S : Type 0} (layout : Layout) (id : ℕ) (v : View) (j k : Known) → v ≡ Pair j k → j.pass ≢ k.pass → Splits {S = S} {V = View} (Ruled layout) id v (first_of_two v) (second_of_two v)
+parts {S = S} layout id v j k is ne = subst (λ (z : View). Splits {S = S} {V = View} (Ruled layout) id z (first_of_two z) (second_of_two z)) (sym is)
+    (splits layout id (Pair j k) (Pass j) (Pass k) (λ c at t. (t.0, t.1)) (λ q o. inl o) (λ q o. inr o) (λ q a b. ne (a ∙ sym b)))
+
+-- Joining
+
+pub joins : {S : Type 0} (layout : Layout) (id other : ℕ) (v w : View) (j k : Known) → v ≡ Pass j → w ≡ Pass k → Joins {S = S} {V = View} (Ruled layout) id v other w (paired v w) Spent
+joins {S = S} layout id other v w j k isv isw = subst (λ (z : View × View). Joins {S = S} {V = View} (Ruled layout) id z.0 other z.1 (paired z.0 z.1) Spent) (λ i. (sym isv i, sym isw i)) go
+  where
+    go : Joins {S = S} {V = View} (Ruled layout) id (Pass j) other (Pass k) (Pair j k) Spent
+    go s r here ne there =
+        let second : get_elem? s.views other ≡ some (Pass k) = ⊎_elim (λ (t : (other ≡ id) × (Pair j k ≡ Pass k)). absurd (ne t.0)) (λ (t : (other ≢ id) × (get_elem? s.views other ≡ some (Pass k))). t.1) (at_set s.views id other (Pair j k) (Pass k) there) in
+        let views : List View = set s.views id (Pair j k) in
+        -- a seat of the new list is one of the old that owns the same, or the pair
+        let from : (i q : ℕ) (x : View) → get_elem? (set views other Spent) i ≡ some x → Owns x q → ((i ≡ id) × ((j.pass ≡ q) ⊎ (k.pass ≡ q))) ⊎ ((i ≢ id) × (i ≢ other) × (get_elem? s.views i ≡ some x)) = λ i q x e o. ⊎_elim
+        (λ (t : (i ≡ other) × (Spent ≡ x)). absurd (subst (λ z. Owns z q) (sym t.1) o))
+        (λ (t : (i ≢ other) × (get_elem? views i ≡ some x)). ⊎_elim
+        (λ (u : (i ≡ id) × (Pair j k ≡ x)). inl (u.0, subst (λ z. Owns z q) (sym u.1) o))
+        (λ (u : (i ≢ id) × (get_elem? s.views i ≡ some x)). inr (u.0, t.0, u.1))
+        (at_set s.views id i (Pair j k) x t.1))
+        (at_set views other i Spent x e) in
+        let clash : (i q : ℕ) (x : View) → i ≢ id → i ≢ other → get_elem? s.views i ≡ some x → Owns x q → (j.pass ≡ q) ⊎ (k.pass ≡ q) → ⊥ = λ i q x a b e o own. ⊎_elim
+        (λ (p : j.pass ≡ q). a (r.apart i id q x (Pass j) e here o p))
+        (λ (p : k.pass ≡ q). b (r.apart i other q x (Pass k) e second o p))
+        own in
+        record {
+          core = r.core;
+          lawful = r.lawful;
+          layout_is = r.layout_is;
+          shows = r.shows;
+          knows = λ i x e. ⊎_elim
+              (λ (t : (i ≡ other) × (Spent ≡ x)). subst (Knowing r.core) t.1 tt)
+              (λ (t : (i ≢ other) × (get_elem? views i ≡ some x)). ⊎_elim
+              (λ (u : (i ≡ id) × (Pair j k ≡ x)). subst (Knowing r.core) u.1 (r.knows id (Pass j) here, r.knows other (Pass k) second, λ e. ne (r.apart other id k.pass (Pass k) (Pass j) second here refl e)))
+              (λ (u : (i ≢ id) × (get_elem? s.views i ≡ some x)). r.knows i x u.1)
+              (at_set s.views id i (Pair j k) x t.1))
+              (at_set views other i Spent x e);
+          apart = λ i l q x y a b ox oy. ⊎_elim
+              (λ s1. ⊎_elim (λ s2. s1.0 ∙ sym s2.0) (λ s2. absurd (clash l q y s2.0 s2.1 s2.2 oy s1.1)) (from l q y b oy))
+              (λ s1. ⊎_elim (λ s2. absurd (clash i q x s1.0 s1.1 s1.2 ox s2.1)) (λ s2. r.apart i l q x y s1.2 s2.2 ox oy) (from l q y b oy))
+              (from i q x a ox);
+        }
+
+-- The load of a meeting
+
+fresh_begins : (q : ℕ) (a b c : List Change) → OthersGoOn q a b → BeginsWith a c → BeginsWith b c
+fresh_begins q a b c x y = (y.0 ++ x.0, x.1 ∙ (ap (λ (z : List Change). z ++ x.0) y.1 ∙ Rattle.std.proofs.Common.append_assoc c y.0 x.0))
+
+met_knows : (c : Core) (k : Known) → Knows c k → Knows c (with_front c.changes k)
+met_knows c k h = record {
+  pass = h.pass;
+  front = ([], sym (Rattle.std.proofs.Common.append-nil c.changes), All-from_recursion (λ (x : Change). x.pass ≢ k.pass) [] tt);
+  fresh = fresh_begins k.pass k.front c.changes k.fresh.front h.front h.fresh;
+  facts = h.facts;
+  own = h.own;
+  locks = h.locks;
+  anchor = h.anchor;
+  pin = h.pin;
+  round = h.round;
+}
+
+pub meets : {S : Type 0} (layout : Layout) (slots id i : ℕ) (me : Me S View) (j k : Known) → me ≡ (Pair j k, []) → Allows {S = S} {V = View} (Ruled layout) slots id me i (λ n. n) (met (table.step slots i 0 0 none) me)
+meets {S = S} layout slots id i me j k is = subst (λ (m : Me S View). Allows {S = S} {V = View} (Ruled layout) slots id m i (λ n. n) (met (table.step slots i 0 0 none) m)) (sym is) go
+  where
+    go : Allows {S = S} {V = View} (Ruled layout) slots id (Pair j k, []) i (λ n. n) (met (table.step slots i 0 0 none) (Pair j k, []))
+    go s r deep here low =
+        let c : Core = r.core in
+        let both = r.knows id (Pair j k) here in
+        let new : View = Pair (with_front c.changes j) (with_front c.changes k) in (
+          new,
+          table.keeps,
+          tt,
+          record {
+            core = c;
+            lawful = r.lawful;
+            layout_is = r.layout_is;
+            shows = subst (Shows c) (sym (set-get_or s.words i 0)) r.shows;
+            knows = λ m v e. ⊎_elim
+                (λ (t : (m ≡ id) × (new ≡ v)). subst (Knowing c) t.1 (met_knows c j both.0, met_knows c k both.1, both.2))
+                (λ (t : (m ≢ id) × (get_elem? s.views m ≡ some v)). r.knows m v t.1)
+                (at_set s.views id m new v e);
+            apart = apart_set s.views id (Pair j k) new here (λ q o. o) r.apart;
+          },
+          (refl, (with_front c.changes j, with_front c.changes k, refl, (c.changes, refl, refl, r.lawful.core.told.legal, both.0.front, both.1.front, both.2))),
+        )
+
+-- one more at the end of a list
+pub each_longer : {A : Type 0} (P : ℕ → A → Type 0) (xs : List A) (x : A) (n : ℕ) → length xs ≡ n → ((q : ℕ) (h : A) → get_elem? xs q ≡ some h → P q h) → P n x → (q : ℕ) (h : A) → get_elem? (xs ++ x ∷ []) q ≡ some h → P q h
+each_longer {A = A} P xs x n len each new q h e = ⊎_elim (each q h) (λ (t : (q ≡ length xs) × (x ≡ h)). subst (λ (z : ℕ × A). P z.0 z.1) (λ i. (sym (t.0 ∙ len) i, t.1 i)) new) (at_end xs x h q e)
+
+-- What a meeting's steps leave
+
+pub paired_me : {S : Type 0} (me a b : Me S View) (j k : Known) → me ≡ (paired a.0 b.0, a.1) → a ≡ (Pass j, []) → b ≡ (Pass k, []) → me ≡ (Pair j k, [])
+paired_me {S = S} me a b j k e is was = e ∙ (λ i. (paired (is i).0 (was i).0, (is i).1))
+
+pub meeting : {S : Type 0} (me m' : Me S View) (j k : Known) → me ≡ (Pair j k, []) → (m'.1 ≡ me.1) × Meeting me.0 m'.0
+    → (j' : Known) × (k' : Known) × (m' ≡ (Pair j' k', [])) × HaveMet j k j' k'
+meeting {S = S} me m' j k is h = let t = subst (λ (v : View). Meeting v m'.0) (ap (λ (z : Me S View). z.0) is) h.1 in
+    (t.0, t.1, (λ i. (t.2 i, (h.0 ∙ ap (λ (z : Me S View). z.1) is) i)), t.3)
+
+-- those who have met have different numbers
+pub apart_met : (j k j' k' : Known) → HaveMet j k j' k' → j'.pass ≢ k'.pass
+apart_met j k j' k' (front, e, f, legal, a, b, ne) = λ q. ne (sym (ap (λ (z : Known). z.pass) e) ∙ (q ∙ ap (λ (z : Known). z.pass) f))

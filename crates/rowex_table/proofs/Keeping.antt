@@ -1,0 +1,201 @@
+-- A step that its pass may make keeps the rule.
+use Rattle.std.proofs.Common.{◌≡◌, ◌≢◌, ◌⊎◌, ℕ, ◌<◌, List, [], ◌∷◌, ◌++◌, set, get_or, Bool, true, false, nat_eq, if◌then◌else◌, Option, Some, None, refl, sym, ap, subst, ◌∙◌, inl, inr, ⊎_elim}
+use mathlib.Core.Option.{none, some}
+use lib.ListN.{get_elem?}
+use Rattle.atomic_table.specs.Table.{State, Me, Step, Allows}
+use Rattle.atomic_table.specs.Table as table
+use Rattle.atomic_table.proofs.Lists.{at_set}
+use Rattle.hot_model.specs.declared.Note.{Note}
+use Rattle.record_words.specs.Layout.{address}
+use Rattle.record_words.specs.declared.layout.Layout.{Layout}
+use Rattle.moments.specs.declared.Rec.{Rec}
+use Rattle.moments.specs.Core.{Fate, Free, Held, Ready as ReadyBy, InTree, Unlinked, Marked}
+use Rattle.rowex_core.specs.declared.event.Act.{Act}
+use Rattle.rowex_core.specs.declared.event.Act.TheVariants.{Claim, Fill, Ready, Release, LoadRef, LoadFixed, Lock, Unlock, Publish, Mark, LoadEpoch, Advance, SetPin, ClearPin, LoadPin, LoadState, GiveBack}
+use Rattle.rowex_core.specs.declared.event.Target.TheVariants.{Anchor, Node as NodeTarget}
+use Rattle.rowex_core.specs.declared.event.Spot.TheVariants.{Root, Slot}
+use Rattle.rowex_core.specs.declared.known.Known.{Known}
+use Rattle.rowex_core.specs.declared.known.View.{View}
+use Rattle.rowex_core.specs.declared.known.View.TheVariants.{Spent, Dealer, Pass, Pair}
+use Rattle.rowex_core.specs.Cores.{Core, IsLawful}
+use Rattle.rowex_core.specs.Words.{Shows, word_at}
+use Rattle.rowex_core.specs.Events.{Legal, after, location_of, writes}
+use Rattle.rowex_core.specs.Knowing.{Knows, Knowing, Owns, IsEvent, learned, learned_by, claim_learned, anchor_learned, node_learned}
+use Rattle.rowex_core.proofs.Keeping.{keeps}
+use Rattle.rowex_core.proofs.Learning.{learns}
+use Rattle.rowex_core.proofs.Staying.{stays_lawful}
+use Rattle.rowex_core.proofs.Writing.{step_writes, writes_one, in_table}
+use Rattle.rowex_table.specs.Rule.{Ruled, did, Happens, MayStep, found_by, known_of}
+
+-- A pass keeps its number
+
+claim_pass : (c : Core) (r : Rec) (found : ℕ) (k : Known) (f : Fate) → (claim_learned c r found f k).pass ≡ k.pass
+claim_pass c r found k Free = refl
+claim_pass c r found k (Held q) = refl
+claim_pass c r found k (ReadyBy q) = refl
+claim_pass c r found k (InTree s) = refl
+claim_pass c r found k (Unlinked s l q) = refl
+claim_pass c r found k (Marked s l e) = refl
+
+anchor_pass : (c : Core) (found : ℕ) (k : Known) (o : Option ℕ) → (anchor_learned c found o k).pass ≡ k.pass
+anchor_pass c found k None = refl
+anchor_pass c found k (Some q) = refl
+
+either_pass : (b : Bool) (j i k : Known) → j.pass ≡ k.pass → i.pass ≡ k.pass → (if b then j else i).pass ≡ k.pass
+either_pass true j i k e f = e
+either_pass false j i k e f = f
+
+pub learned_pass : (c : Core) (act : Act) (k : Known) → (learned c act k).pass ≡ k.pass
+learned_pass c (Claim r found) k = claim_pass c r found k (c.fate r)
+learned_pass c (Fill r offset w) k = refl
+learned_pass c (Ready r) k = refl
+learned_pass c (Release r) k = refl
+learned_pass c (LoadRef Root w) k = refl
+learned_pass c (LoadRef (Slot n j) w) k = refl
+learned_pass c (LoadFixed r offset w) k = refl
+learned_pass c (Lock Anchor found) k = anchor_pass c found k c.anchor
+learned_pass c (Lock (NodeTarget n) found) k = either_pass (nat_eq found 2) _ _ k refl refl
+learned_pass c (Unlock Anchor) k = refl
+learned_pass c (Unlock (NodeTarget n)) k = refl
+learned_pass c (Publish spot w) k = refl
+learned_pass c (Mark r epoch) k = refl
+learned_pass c (LoadEpoch w) k = refl
+learned_pass c (Advance expected found) k = refl
+learned_pass c (SetPin w) k = refl
+learned_pass c ClearPin k = refl
+learned_pass c (LoadPin o w) k = refl
+learned_pass c (LoadState r w) k = refl
+learned_pass c (GiveBack r epoch found) k = refl
+
+pub event_pass : (layout : Layout) (act : Act) (said : Known → List Note) (k j : Known) → IsEvent layout act said k j → j.pass ≡ k.pass
+event_pass layout act said k j e = ap (λ (z : Known). z.pass) e.learned_is ∙ learned_pass e.core act k
+
+-- notes are outside the rule
+renoted : (c : Core) (k : Known) (notes : List Note) → Knows c k → Knows c (record k { notes = notes })
+renoted c k notes h = record {
+  pass = h.pass;
+  front = h.front;
+  fresh = h.fresh;
+  facts = h.facts;
+  own = h.own;
+  locks = h.locks;
+  anchor = h.anchor;
+  pin = h.pin;
+  round = h.round;
+}
+
+-- The word that an act finds changes neither its place nor what it writes
+
+pub found_place : (q : ℕ) (act : Act) (w : ℕ) → location_of q (found_by act w) ≡ location_of q act
+found_place q (Claim r found) w = refl
+found_place q (Fill r offset x) w = refl
+found_place q (Ready r) w = refl
+found_place q (Release r) w = refl
+found_place q (LoadRef spot x) w = refl
+found_place q (LoadFixed r offset x) w = refl
+found_place q (Lock target found) w = refl
+found_place q (Unlock target) w = refl
+found_place q (Publish spot x) w = refl
+found_place q (Mark r epoch) w = refl
+found_place q (LoadEpoch x) w = refl
+found_place q (Advance expected found) w = refl
+found_place q (SetPin x) w = refl
+found_place q ClearPin w = refl
+found_place q (LoadPin o x) w = refl
+found_place q (LoadState r x) w = refl
+found_place q (GiveBack r epoch found) w = refl
+
+pub found_writes : (act : Act) (w x : ℕ) → writes (found_by act w) x ≡ writes act x
+found_writes (Claim r found) w x = refl
+found_writes (Fill r offset y) w x = refl
+found_writes (Ready r) w x = refl
+found_writes (Release r) w x = refl
+found_writes (LoadRef spot y) w x = refl
+found_writes (LoadFixed r offset y) w x = refl
+found_writes (Lock target found) w x = refl
+found_writes (Unlock target) w x = refl
+found_writes (Publish spot y) w x = refl
+found_writes (Mark r epoch) w x = refl
+found_writes (LoadEpoch y) w x = refl
+found_writes (Advance expected found) w x = refl
+found_writes (SetPin y) w x = refl
+found_writes ClearPin w x = refl
+found_writes (LoadPin o y) w x = refl
+found_writes (LoadState r y) w x = refl
+found_writes (GiveBack r epoch found) w x = refl
+
+-- The numbers of seats
+
+abbrev pub Apart : List View → Type 0
+Apart views = (i j q : ℕ) (v w : View) → get_elem? views i ≡ some v → get_elem? views j ≡ some w → Owns v q → Owns w q → i ≡ j
+
+-- a seat whose view keeps to its numbers
+pub apart_set : (views : List View) (id : ℕ) (v w : View) → get_elem? views id ≡ some v → ((q : ℕ) → Owns w q → Owns v q) → Apart views → Apart (set views id w)
+apart_set views id v w here owns apart i j q x y a b ox oy = ⊎_elim
+    (λ (s : (i ≡ id) × (w ≡ x)). ⊎_elim
+    (λ (t : (j ≡ id) × (w ≡ y)). s.0 ∙ sym t.0)
+    (λ (t : (j ≢ id) × (get_elem? views j ≡ some y)). s.0 ∙ apart id j q v y here t.1 (owns q (subst (λ z. Owns z q) (sym s.1) ox)) oy)
+    (at_set views id j w y b))
+    (λ (s : (i ≢ id) × (get_elem? views i ≡ some x)). ⊎_elim
+    (λ (t : (j ≡ id) × (w ≡ y)). apart i id q x v s.1 here ox (owns q (subst (λ z. Owns z q) (sym t.1) oy)) ∙ sym t.0)
+    (λ (t : (j ≢ id) × (get_elem? views j ≡ some y)). apart i j q x y s.1 t.1 ox oy)
+    (at_set views id j w y b))
+    (at_set views id i w x a)
+
+-- A step
+
+module _ {S : Type 0} (layout : Layout) (slots id i : ℕ) (k : Known) (act : Act) (said : Known → List Note) (f tell : ℕ → ℕ) where
+  -- what a step tells depends on its act alone
+  abbrev st : Step S
+  st = table.step 0 0 0 0 none
+
+  -- the step keeps the rule, and is the event
+  pub allows : i ≡ address layout (location_of k.pass act) → ((w : ℕ) → f w ≡ writes act w) → ((w : ℕ) → found_by act (tell w) ≡ found_by act w) → MayStep layout (found_by act) k
+      → Allows {S = S} {V = View} (Ruled layout) slots id (Pass k, []) i f (λ n m'. did (Some layout) act said st (Pass k, []) (tell n) m')
+  allows place new says apt s r deep here low =
+      let c : Core = r.core in
+      let w : ℕ = get_or s.words i 0 in
+      let at : ℕ = word_at c (location_of k.pass act) in
+      let known : Knows c k = r.knows id (Pass k) here in
+      let found : Legal c k.pass (found_by act at) = subst (λ z. Legal c k.pass (found_by act (word_at c z))) (found_place k.pass act 0) (apt c r.lawful r.layout_is known) in
+      let inside = subst (λ z. Rattle.record_words.specs.Layout.IsInTable c.layout z) (found_place k.pass act at) (in_table c k.pass (found_by act at) found) in
+      let there : i ≡ address c.layout (location_of k.pass act) = place ∙ ap (λ (z : Layout). address z (location_of k.pass act)) (sym r.layout_is) in
+      let word : w ≡ at = ap (λ z. get_or s.words z 0) there ∙ r.shows.each (location_of k.pass act) inside in
+      let does : Act = found_by act at in
+      let j : Known = record (learned c does k) { notes = k.notes ++ said (learned c does k) } in
+      let mine : Knowing (after c k.pass does) (Pass j) = renoted (after c k.pass does) (learned c does k) j.notes (learns c k does r.lawful known found) in
+      let event : IsEvent layout does said k j = record { core = c; lawful = r.lawful; layout_is = r.layout_is; knows = known; legal = found; learned_is = refl } in (
+        Pass j,
+        table.keeps,
+        tt,
+        record {
+          core = after c k.pass does;
+          lawful = stays_lawful c k.pass does r.lawful found;
+          layout_is = (step_writes c k.pass does r.lawful found).layout ∙ r.layout_is;
+          shows = subst (λ (z : ℕ × ℕ). Shows (after c k.pass does) (set s.words z.0 z.1))
+              (λ e. ((ap (λ z. address c.layout z) (found_place k.pass act at) ∙ sym there) e, (found_writes act at (word_at c (location_of k.pass does)) ∙ (ap (λ z. writes act (word_at c z)) (found_place k.pass act at) ∙ (ap (writes act) (sym word) ∙ sym (new w)))) e))
+              (writes_one c k.pass does s.words r.lawful found r.shows);
+          knows = λ m v e. ⊎_elim
+              (λ (t : (m ≡ id) × (Pass j ≡ v)). subst (Knowing (after c k.pass does)) t.1 mine)
+              (λ (t : (m ≢ id) × (get_elem? s.views m ≡ some v)). keeps c k.pass does v r.lawful found (λ o. t.0 (r.apart m id k.pass v (Pass k) t.1 here o refl)) (r.knows m v t.1))
+              (at_set s.views id m (Pass j) v e);
+          apart = apart_set s.views id (Pass k) (Pass j) here (λ q o. sym (learned_pass c does k) ∙ o) r.apart;
+        },
+        (refl, (j, refl, subst (λ z. IsEvent layout z said k j) (ap (found_by act) (sym word) ∙ sym (says w)) event)),
+      )
+
+  -- the same for a seat that is a pass's
+  pub allows_me : (me : Me S View) (key : Layout) (of : Option Layout) → key ≡ layout → of ≡ Some layout → me ≡ (Pass (known_of me.0), []) → k ≡ known_of me.0 → i ≡ address layout (location_of k.pass act) → ((w : ℕ) → f w ≡ writes act w)
+      → ((w : ℕ) → found_by act (tell w) ≡ found_by act w) → MayStep layout (found_by act) k
+      → Allows {S = S} {V = View} (Ruled key) slots id me i f (λ n m'. did of act said st me (tell n) m')
+  allows_me me key of count is_of is same place new says apt = subst (λ (x : Layout). Allows {S = S} {V = View} (Ruled x) slots id me i f (λ n m'. did of act said st me (tell n) m')) (sym count)
+      (subst (λ (x : Option Layout). Allows {S = S} {V = View} (Ruled layout) slots id me i f (λ n m'. did x act said st me (tell n) m')) (sym is_of)
+      (subst (λ (m : Me S View). Allows {S = S} {V = View} (Ruled layout) slots id m i f (λ n m'. did (Some layout) act said st m (tell n) m'))
+      (ap (λ (z : Known). let m : Me S View = (Pass z, []) in m) same ∙ sym is) (allows place new says apt)))
+
+-- what a step tells a pass
+pub told : {S : Type 0} (layout : Layout) (of : Option Layout) (act : Act) (said : Known → List Note) (st : Step S) (me m' : Me S View) (w : ℕ) → of ≡ Some layout → me ≡ (Pass (known_of me.0), []) → did of act said st me w m'
+    → (m' ≡ (Pass (known_of m'.0), [])) × IsEvent layout (found_by act w) said (known_of me.0) (known_of m'.0)
+told {S = S} layout of act said _ me m' w is_of is h =
+    let e = subst (λ (x : Option Layout × View). Happens x.0 (found_by act w) said x.1 m'.0) (λ i. (is_of i, (ap (λ (z : Me S View). z.0) is) i)) h.1 in
+    ((λ i. ((e.1 ∙ ap Pass (ap known_of (sym e.1))) i, (h.0 ∙ ap (λ (z : Me S View). z.1) is) i)), subst (IsEvent layout (found_by act w) said (known_of me.0)) (ap known_of (sym e.1)) e.2)

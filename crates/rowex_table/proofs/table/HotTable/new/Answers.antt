@@ -1,0 +1,31 @@
+-- The opening, and one seat more.
+use Rattle.std.proofs.Common.{rules, arith, ◌≡◌, ℕ, ◌<◌, ◌+◌, ◌∷◌, ◌++◌, List, length, [], ap, subst, sym, ◌∙◌, refl}
+use mathlib.Core.Option.{some}
+use lib.ListN.{get_elem?}
+use Rattle.rowex_core.specs.declared.known.View.TheVariants.{Dealer, Pass}
+use Rattle.rowex_table.specs.declared.table.TableSeat.{TableSeat}
+use Rattle.rowex_table.specs.Rule.{known_of, next_dealer, dealt}
+use Rattle.rowex_table.specs.Seats.{IsNew}
+use Rattle.rowex_table.proofs.Dealing.{opens, deals, each_longer}
+use Rattle.rowex_table.proofs.table.HotTable.new.Goals as goal
+
+pub of_words-requires : goal.of_words-requires
+of_words-requires c = opens c.args.layout c.as_slice.result.now (search rules)
+
+pub split_seat-seat-requires : goal.split_seat-seat-requires
+split_seat-seat-requires c =
+    let low : c.loop-number.number < c.in_ok-table.table.shared.key.passes = search rules in
+    (search rules, search rules, deals c.in_ok-table.table.shared.key _ _ c.loop-number.number low (ap (λ m. m.0) c.loop-number.invariant.1))
+
+pub loop-number-preserved : goal.loop-number-preserved
+loop-number-preserved c =
+    let was = ap (λ m. m.0) c.loop-number.invariant.1 in
+    let none = ap (λ m. m.1) c.loop-number.invariant.1 in
+    let split = c.split_seat-seat.ensures in (
+      search rules,
+      split.2 ∙ (λ i. (next_dealer (was i), none i)),
+      search rules,
+      subst (λ (l : List TableSeat). (q : ℕ) (h : TableSeat) → get_elem? l q ≡ some h → IsNew c.in_ok-table.table.shared.table_id q h) (sym c.in_ok-push.ensures.items)
+          (each_longer (λ q (h : TableSeat). IsNew c.in_ok-table.table.shared.table_id q h) c.loop-number.seats.items _ c.loop-number.number c.loop-number.invariant.2 c.loop-number.invariant.3
+          (search rules, search rules, ap (λ m. known_of m.0) split.4 ∙ ap (λ v. known_of (dealt v)) was)),
+    )

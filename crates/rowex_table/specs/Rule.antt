@@ -1,0 +1,129 @@
+-- The rule of the table, and what its steps tell.
+use Rattle.std.specs.Prelude.{◌≡◌, ◌≢◌, ℕ, ◌+◌, ◌<◌, List, [], ◌++◌, Option, Some, None}
+use mathlib.Core.Option.{some}
+use lib.ListN.{get_elem?}
+use Rattle.atomic_table.specs.Table.{State, Me, Step}
+use Rattle.hot_model.specs.declared.Change.{Change}
+use Rattle.hot_model.specs.declared.Note.{Note}
+use Rattle.hot_model.specs.Fronts.{LegalFront, BeginsWith, OthersGoOn}
+use Rattle.record_words.specs.declared.layout.Layout.{Layout}
+use Rattle.rowex_core.specs.declared.event.Act.{Act}
+use Rattle.rowex_core.specs.declared.event.Act.TheVariants.{Claim, Fill, Ready, Release, LoadRef, LoadFixed, Lock, Unlock, Publish, Mark, LoadEpoch, Advance, SetPin, ClearPin, LoadPin, LoadState, GiveBack}
+use Rattle.rowex_core.specs.declared.event.Spot.{Spot}
+use Rattle.rowex_core.specs.declared.event.Spot.TheVariants.{Root, Slot}
+use Rattle.rowex_core.specs.declared.known.Known.{Known}
+use Rattle.rowex_core.specs.declared.known.View.{View}
+use Rattle.rowex_core.specs.declared.known.View.TheVariants.{Spent, Dealer, Pass, Pair}
+use Rattle.rowex_core.specs.Cores.{Core, IsLawful}
+use Rattle.rowex_core.specs.Words.{Shows, word_at}
+use Rattle.rowex_core.specs.Events.{Legal, location_of}
+use Rattle.rowex_core.specs.Knowing.{Knows, Knowing, Owns, IsEvent}
+
+-- There is a lawful core with this layout, which the words show; what each seat knows is true of it; and no two seats have
+-- one number.
+pub record Ruled {S : Type 0} (layout : Layout) (s : State S View) : Type 0 where
+  pub core : Core
+  pub lawful : IsLawful core
+  pub layout_is : core.layout ≡ layout
+  pub shows : Shows core s.words
+  pub knows : (i : ℕ) (v : View) → get_elem? s.views i ≡ some v → Knowing core v
+  pub apart : (i j q : ℕ) (v w : View) → get_elem? s.views i ≡ some v → get_elem? s.views j ≡ some w → Owns v q → Owns w q → i ≡ j
+
+-- what a new pass knows
+abbrev pub opening_of : ℕ → Known
+opening_of q = record {
+  pass = q;
+  front = [];
+  fresh = record { front = []; step = 0 };
+  notes = [];
+  steps = 0;
+  failed = [];
+  facts = [];
+  own = [];
+  locks = [];
+  anchor = None;
+  pin = None;
+  round = record { epoch = 0; moment = 0; bound = 0; seen = [] };
+}
+
+-- what a pass's seat knows
+abbrev pub known_of : View → Known
+known_of (Pass k) = k
+known_of _ = opening_of 0
+
+-- the root, or one of 32 entries
+abbrev pub HasPlace : Spot → Type 0
+HasPlace Root = Unit {0}
+HasPlace (Slot n j) = j < 32
+
+-- the root, or one of the 32 entries of a node of the table
+abbrev pub IsEntry : Layout → Spot → Type 0
+IsEntry layout Root = Unit {0}
+IsEntry layout (Slot n j) = (n < layout.nodes) × (j < 32)
+
+-- Events
+
+-- the act with the word that it finds; a store finds none
+abbrev pub found_by : Act → ℕ → Act
+found_by (Claim r found) w = Claim r w
+found_by (LoadRef spot word) w = LoadRef spot w
+found_by (LoadFixed r offset word) w = LoadFixed r offset w
+found_by (Lock target found) w = Lock target w
+found_by (LoadEpoch word) w = LoadEpoch w
+found_by (Advance expected found) w = Advance expected w
+found_by (LoadPin o word) w = LoadPin o w
+found_by (LoadState r word) w = LoadState r w
+found_by (GiveBack r epoch found) w = GiveBack r epoch w
+found_by act w = act
+
+-- The pass may make the step at a table of this layout: it is legal in every lawful core of which what the pass knows is
+-- true, where `act` takes the word that stands there.
+abbrev pub MayStep : Layout → (ℕ → Act) → Known → Type 0
+MayStep layout act k = (c : Core) → IsLawful c → c.layout ≡ layout → Knows c k → Legal c k.pass (act (word_at c (location_of k.pass (act 0))))
+
+abbrev pub Happens : Option Layout → Act → (Known → List Note) → View → View → Type 0
+Happens (Some layout) act said (Pass k) w = (j : Known) × (w ≡ Pass j) × IsEvent layout act said k j
+Happens _ act said v w = Unit {0}
+
+-- a pass's step is an event, which finds the word that the step tells
+abbrev pub did : {S : Type 0} → Option Layout → Act → (Known → List Note) → Step S → Me S View → ℕ → Me S View → Type 0
+did layout act said st m told m' = (m'.1 ≡ m.1) × Happens layout (found_by act told) said m.0 m'.0
+
+-- Seats dealt, and two that meet
+
+abbrev pub next_dealer : View → View
+next_dealer (Dealer m) = Dealer (m + 1)
+next_dealer v = v
+
+abbrev pub dealt : View → View
+dealt (Dealer m) = Pass (opening_of m)
+dealt _ = Spent
+
+abbrev pub paired : View → View → View
+paired (Pass j) (Pass k) = Pair j k
+paired v w = Spent
+
+abbrev pub first_of_two : View → View
+first_of_two (Pair j k) = Pass j
+first_of_two v = v
+
+abbrev pub second_of_two : View → View
+second_of_two (Pair j k) = Pass k
+second_of_two v = Spent
+
+abbrev pub with_front : List Change → Known → Known
+with_front front k = record k { front = front }
+
+-- Two passes of different numbers that knew j and k now know j' and k': both have seen one list of changes, each of which
+-- was legal; it begins with what each had seen, and goes on by changes of others.
+abbrev pub HaveMet : Known → Known → Known → Known → Type 0
+HaveMet j k j' k' =
+    (front : List Change) × (j' ≡ with_front front j) × (k' ≡ with_front front k) × LegalFront front × OthersGoOn j.pass j.front front × OthersGoOn k.pass k.front front ×
+    (j.pass ≢ k.pass)
+
+abbrev pub Meeting : View → View → Type 0
+Meeting (Pair j k) w = (j' : Known) × (k' : Known) × (w ≡ Pair j' k') × HaveMet j k j' k'
+Meeting _ w = Unit {0}
+
+abbrev pub met : {S : Type 0} → Step S → Me S View → ℕ → Me S View → Type 0
+met st m told m' = (m'.1 ≡ m.1) × Meeting m.0 m'.0

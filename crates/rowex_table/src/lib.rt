@@ -1,0 +1,17 @@
+//! The shared table: its words, the seats of its passes, and the atomic steps that they make, each one event of the core.
+#![tactic(auto)]
+
+mod epoch_steps;
+mod places;
+mod plays;
+mod record_steps;
+mod seating;
+mod spot_steps;
+mod steps;
+mod table;
+
+pub use plays::RowexRule;
+pub use table::{HotTable, TableSeat};
+
+#[cfg(test)]
+mod tests;

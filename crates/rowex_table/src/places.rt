@@ -1,0 +1,42 @@
+//! Where the word of a step stands.
+
+ghost use Rattle.std.specs.Prelude.{◌≡◌};
+ghost use Rattle.rowex_core.specs.Events.{word_of as word_location, spot_word as spot_location, target_word as target_location};
+ghost use Rattle.rowex_table.specs.Rule.{HasPlace};
+
+use record_words::Location;
+use rowex_core::{Rec, Spot, Target};
+
+/// The word of a record at this offset.
+pub(crate) fn record_place(rec: Rec, offset: u8) -> Location
+    ensures { result ≡ word_location rec offset }
+{
+    match rec {
+        Rec::Node(node) => Location::NodeWord { node, offset },
+        Rec::Leaf(leaf) => Location::LeafWord { leaf, offset },
+    }
+}
+
+/// The word of the root, or of an entry.
+pub(crate) fn spot_place(spot: Spot) -> Location
+    requires { HasPlace spot }
+    ensures { result ≡ spot_location spot }
+{
+    match spot {
+        Spot::Root => Location::Root,
+        Spot::Slot { node, entry } => Location::NodeWord {
+            node,
+            offset: 26 + entry,
+        },
+    }
+}
+
+/// The word that is locked.
+pub(crate) fn target_place(target: Target) -> Location
+    ensures { result ≡ target_location target }
+{
+    match target {
+        Target::Anchor => Location::Anchor,
+        Target::Node(node) => Location::NodeWord { node, offset: 0 },
+    }
+}

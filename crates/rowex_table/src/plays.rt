@@ -1,0 +1,78 @@
+//! The rule of the table, and what its steps tell.
+
+ghost use Rattle.std.specs.Prelude.{ℕ, List, [], Option as Maybe, None};
+ghost use Rattle.hot_model.specs.declared.Note.{Note};
+ghost use Rattle.record_words.specs.declared.layout.Layout.{Layout as Laid};
+ghost use Rattle.rowex_core.specs.declared.event.Act.{Act as Deed};
+ghost use Rattle.rowex_core.specs.declared.event.Act.TheVariants.{ClearPin};
+ghost use Rattle.rowex_core.specs.declared.known.Known.{Known};
+ghost use Rattle.rowex_core.specs.declared.known.View.TheVariants.{Dealer, Spent};
+ghost use Rattle.rowex_table.specs.Rule.{Ruled, did, met, next_dealer, dealt, paired, first_of_two, second_of_two};
+
+use atomic_table::{Join, Play, Split, TableRule};
+use record_words::Layout;
+use rowex_core::View;
+use std::marker::{Brand, PhantomData};
+
+/// The rule of a table with a layout: there is a lawful core which its words show, what each seat knows is true of it, and
+/// no two seats are of one pass.
+pub struct RowexRule;
+
+impl TableRule<(), View, Layout> for RowexRule {
+    ghost holds = { Ruled };
+
+    ghost first = { λ _. Dealer 0 };
+}
+
+/// Which event a step makes, at a table of which layout, and the notes that its caller adds to what is known after it.
+pub(crate) trait Step {
+    ghost layout: { Maybe Laid };
+
+    ghost act: { Deed };
+
+    ghost said: { Known → List Note };
+}
+
+impl Step for Brand {
+    ghost layout = { None };
+
+    ghost act = { ClearPin };
+
+    ghost said = { λ _. [] };
+}
+
+pub(crate) struct Does<Q> {
+    step: PhantomData<Q>,
+}
+
+impl<Q: Step> Play<(), View> for Does<Q> {
+    ghost then = { did Q.layout Q.act Q.said };
+}
+
+pub(crate) struct Meets;
+
+impl Play<(), View> for Meets {
+    ghost then = { met };
+}
+
+pub(crate) struct Deal;
+
+impl Split<View> for Deal {
+    ghost left = { next_dealer };
+
+    ghost right = { dealt };
+}
+
+pub(crate) struct Part;
+
+impl Split<View> for Part {
+    ghost left = { first_of_two };
+
+    ghost right = { second_of_two };
+}
+
+impl Join<View> for Part {
+    ghost both = { paired };
+
+    ghost spent = { Spent };
+}

@@ -1,0 +1,62 @@
+//! How a table is made with the seats of its passes, and how two of these meet.
+
+ghost use Rattle.std.specs.Prelude.{◌≡◌, ℕ, IfOk, length};
+ghost use mathlib.Core.Option.{some};
+ghost use lib.ListN.{get_elem?};
+ghost use Rattle.rowex_table.specs.declared.table.TableSeat.{TableSeat as Seated};
+ghost use Rattle.rowex_table.specs.Rule.{HaveMet};
+ghost use Rattle.rowex_table.specs.Seats.{IsNew, known};
+
+use crate::plays::{Deal, Meets, Part};
+use crate::table::{HotTable, TableSeat};
+use atomic_table::Table;
+use record_words::Layout;
+use std::alloc::{AllocError, Global};
+
+impl HotTable {
+    /// A table with an empty index, and the seats of its passes in the order of their numbers, which go from 0 on.
+    pub fn new(alloc: Global, layout: Layout) -> Result<(HotTable, Vec<TableSeat>), AllocError>
+        ensures table { IfOk result (λ made. made.0.layout ≡ layout) }
+        ensures count { IfOk result (λ made. length made.1.items ≡ layout.passes) }
+        ensures seats { IfOk result (λ made. (q : ℕ) (s : Seated) → get_elem? made.1.items q ≡ some s → IsNew made.0.table.shared.table_id q s) }
+    {
+        let mut words = Vec::from_elem(alloc, 0u64, layout.words())?;
+        words[0] = 1;
+        words[2] = 2;
+        let (table, mut dealer) = Table::of_words(alloc, words.as_slice(), &layout)?;
+        let mut seats = Vec::new(alloc);
+        for number in 0..layout.passes {
+            let seat = table.shared.split_seat::<Deal>(&mut dealer);
+            seats.push(TableSeat {
+                seat,
+                pass: number as u16,
+            })?;
+        }
+        Ok((HotTable { table, layout }, seats))
+    }
+
+    /// Two passes meet: both have then seen the list of changes as it is now. It makes no event.
+    pub fn meet_seats(&self, first: TableSeat, second: TableSeat) -> (TableSeat, TableSeat)
+        requires { (first.seat.table_id ≡ self.now.table.shared.table_id) × (second.seat.table_id ≡ self.now.table.shared.table_id) }
+        ensures seats { (result.0.seat.table_id ≡ first.seat.table_id) × (result.1.seat.table_id ≡ second.seat.table_id) }
+        ensures passes { (result.0.pass ≡ first.pass) × (result.1.pass ≡ second.pass) }
+        ensures met { HaveMet (known first) (known second) (known result.0) (known result.1) }
+    {
+        let TableSeat { mut seat, pass } = first;
+        let TableSeat {
+            seat: other,
+            pass: other_pass,
+        } = second;
+        let shared = &self.table.shared;
+        shared.join_seat::<Part>(&mut seat, other);
+        shared.load::<Meets>(&mut seat, 0);
+        let other = shared.split_seat::<Part>(&mut seat);
+        (
+            TableSeat { seat, pass },
+            TableSeat {
+                seat: other,
+                pass: other_pass,
+            },
+        )
+    }
+}
