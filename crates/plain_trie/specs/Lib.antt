@@ -1,0 +1,3 @@
+-- The definitions that the contracts use.
+pub mod Store
+pub mod Risen
