@@ -1,3 +1,4 @@
+-- The lemmas, lowest first.
 pub mod Ladders
 pub mod Heights
 pub mod Lawful

@@ -1,3 +1,4 @@
+-- What contracts cite.
 pub mod Ladders
 pub mod Removal
 pub mod Nodes

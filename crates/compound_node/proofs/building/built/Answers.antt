@@ -1,3 +1,4 @@
+-- The height over the entries makes the parts a node.
 use Rattle.std.proofs.Common.{ap, ◌+◌, ◌∙◌, ◌≡◌}
 use Rattle.compound_node.proofs.Lawful.{built_lawful, with_leaves}
 use Rattle.compound_node.specs.Nodes.{greatest_height}

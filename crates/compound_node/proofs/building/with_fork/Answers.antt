@@ -1,3 +1,4 @@
+-- The parts with a new fork fit together, and show it.
 use Rattle.std.proofs.Common.{arith, length, subst, sym, ◌<◌, ◌∙◌, ◌≤◌}
 use Rattle.std.proofs.lemmas.List.{length-map}
 use Rattle.compound_node.proofs.Forks.{fit_at_column, fit_at_new, fork_range}

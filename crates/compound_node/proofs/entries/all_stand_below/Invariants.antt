@@ -1,3 +1,4 @@
+-- The entries so far stand below.
 use Rattle.std.proofs.Common.{take}
 use Rattle.std.specs.List.{All}
 use Rattle.compound_node.specs.Nodes.{StandsBelow}

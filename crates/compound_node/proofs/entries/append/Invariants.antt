@@ -1,3 +1,4 @@
+-- The entries so far stand behind the list.
 use Rattle.std.proofs.Common.{◌≡◌, ◌++◌, take}
 use Rattle.compound_node.proofs.entries.append.Given as goal
 

@@ -1,3 +1,4 @@
+-- A height above that of each child fits 16 bits.
 use Rattle.std.proofs.Common.{ap, arith, drop, ◌∙◌, ◌≡◌}
 use Rattle.compound_node.specs.Nodes.{greatest_height}
 use Rattle.compound_node.proofs.Heights.{greatest_height-fits}

@@ -1,3 +1,4 @@
+-- The greatest height of the entries behind.
 use Rattle.std.proofs.Common.{◌≡◌, drop}
 use Rattle.compound_node.specs.Nodes.{greatest_height}
 use Rattle.compound_node.proofs.entries.height_over.Given as goal

@@ -1,3 +1,4 @@
+-- A list with one element set is its front, the element and its end.
 use Rattle.std.proofs.Common.{arith, drop, length, refl, set, sym, take, ◌++◌, ◌+◌, ◌<◌, ◌∙◌, ◌∷◌, ◌≡◌, [], List, ℕ}
 use Rattle.std.proofs.lemmas.List.{append_assoc, drop-set-lt, drop_more, get_or-set_same, length-set, take-append-drop, take-set, take_rest}
 use Rattle.compound_node.specs.declared.entries.Entry.{Entry}

@@ -1,3 +1,4 @@
+-- The two sides of the root fork are covered by their rows.
 use Rattle.std.proofs.Common.{arith, ◌^◌}
 use Rattle.std.proofs.lemmas.List.{length-drop, length-take-le, take_rest}
 use Rattle.compound_node.proofs.Sides.{Parts, parts}

@@ -1,3 +1,4 @@
+-- The used columns and the squeezed rows fit together.
 use Rattle.std.proofs.Common.{arith, subst}
 use Rattle.compound_node.proofs.Sides.{fit_used, some_used}
 use Rattle.compound_node.specs.Nodes.{IsBuiltFrom}

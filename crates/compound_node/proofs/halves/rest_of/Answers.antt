@@ -1,3 +1,4 @@
+-- The rows that are left cover the piece without the place.
 use Rattle.std.proofs.Common.{subst, sym, take, drop, suc, ◌∙◌}
 use Rattle.std.proofs.lemmas.List.Elements.{All-append, All-drop, All-take}
 use Rattle.std.specs.List.{All}

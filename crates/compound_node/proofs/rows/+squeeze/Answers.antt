@@ -1,3 +1,4 @@
+-- One used bit of the row, 0 or 1.
 use Rattle.std.proofs.Common.{arith}
 use Rattle.partial_keys.proofs.Squeezing.{squeeze_zero, squeeze_one}
 use Rattle.compound_node.proofs.rows.+squeeze.Goals as goal

@@ -1,3 +1,4 @@
+-- The width falls.
 use Rattle.compound_node.proofs.rows.+squeeze.Given as goal
 
 abbrev pub decreases-squeeze : goal.decreases-squeeze

@@ -1,3 +1,4 @@
+-- The rows so far stand behind the list.
 use Rattle.std.proofs.Common.{◌≡◌, ◌++◌, take}
 use Rattle.compound_node.proofs.rows.append.Given as goal
 

@@ -1,3 +1,4 @@
+-- What is done and what is left make the whole.
 use Rattle.std.proofs.Common.{◌≡◌, ◌+◌, ◌++◌, cond, drop, length}
 use Rattle.compound_node.specs.Removal.{cleared_front}
 use Rattle.compound_node.proofs.rows.append_cleared.Given as goal

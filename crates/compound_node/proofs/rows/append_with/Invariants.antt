@@ -1,3 +1,4 @@
+-- The rows so far stand behind the list, with the bits.
 use Rattle.std.proofs.Common.{◌≡◌, ◌++◌, take, map}
 use Rattle.std.specs.Prelude.{bit_or}
 use Rattle.compound_node.proofs.rows.append_with.Given as goal

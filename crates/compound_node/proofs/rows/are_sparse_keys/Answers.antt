@@ -1,3 +1,4 @@
+-- All ones but the low bits, as a mask.
 use Rattle.std.proofs.Common.{arith, sym, ◌-◌, ◌/◌, ◌^◌, ◌∙◌, ◌≡◌, ◌≤◌, ℕ}
 use Rattle.std.proofs.lemmas.Bool.{eq-eqb, eqb-true}
 use Rattle.std.proofs.lemmas.Nat.Bits.{ones_shr}

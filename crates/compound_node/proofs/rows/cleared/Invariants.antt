@@ -1,3 +1,4 @@
+-- The rows so far, cleared.
 use Rattle.std.proofs.Common.{◌≡◌, take, map, ◌%◌, ◌^◌}
 use Rattle.compound_node.proofs.rows.cleared.Given as goal
 

@@ -1,3 +1,4 @@
+-- The rows so far are below the bit.
 use Rattle.std.proofs.Common.{◌≡◌, ◌+◌, ◌^◌, drop}
 use Rattle.pieces.specs.Positions.{front_below}
 use Rattle.compound_node.proofs.rows.front_len.Given as goal

@@ -1,3 +1,4 @@
+-- The rows so far each come next.
 use Rattle.std.proofs.Common.{ℕ, ◌+◌, ◌<◌, get_or}
 use Rattle.compound_node.specs.Ladders.{IsNext}
 use Rattle.compound_node.proofs.rows.is_ladder.Given as goal

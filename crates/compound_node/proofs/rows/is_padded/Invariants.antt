@@ -1,3 +1,4 @@
+-- The places so far are unused.
 use Rattle.std.proofs.Common.{◌≡◌, ℕ, ◌<◌, ◌≤◌, get_or}
 use Rattle.compound_node.proofs.rows.is_padded.Given as goal
 

@@ -1,3 +1,4 @@
+-- One row more is joined.
 use Rattle.std.proofs.Common.{◌-◌, get_or, ap, ◌∙◌, arith}
 use Rattle.std.specs.Prelude.{bit_or}
 use Rattle.partial_keys.proofs.Squeezing.{or_all_step}

@@ -1,3 +1,4 @@
+-- The rows behind, joined.
 use Rattle.std.proofs.Common.{◌≡◌, drop}
 use Rattle.partial_keys.specs.Squeezed.{or_all}
 use Rattle.compound_node.proofs.rows.joined.Given as goal

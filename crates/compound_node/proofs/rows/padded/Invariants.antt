@@ -1,3 +1,4 @@
+-- The rows so far stand in front of unused places.
 use Rattle.std.proofs.Common.{◌≡◌, ◌-◌, ◌++◌, take, replicate}
 use Rattle.compound_node.proofs.rows.padded.Given as goal
 

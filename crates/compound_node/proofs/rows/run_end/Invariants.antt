@@ -1,3 +1,4 @@
+-- The rows since the found one agree with it.
 use Rattle.std.proofs.Common.{◌≡◌, ℕ, ◌<◌, get_or, true}
 use Rattle.partial_keys.specs.Runs.{agree_in}
 use Rattle.compound_node.proofs.rows.run_end.Given as goal

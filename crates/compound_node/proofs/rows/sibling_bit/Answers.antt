@@ -1,3 +1,4 @@
+-- A row behind the first is not 0.
 use Rattle.std.proofs.Common.{arith, get_or, subst, ◌+◌, ◌-◌, ◌<◌, ◌≡◌}
 use Rattle.compound_node.specs.Ladders.{IsNext}
 use Rattle.compound_node.proofs.rows.sibling_bit.Goals as goal

@@ -1,3 +1,4 @@
+-- The rows so far, spread.
 use Rattle.std.proofs.Common.{◌≡◌, take, map}
 use Rattle.partial_keys.specs.Spread.{spread_row}
 use Rattle.compound_node.proofs.rows.spread_all.Given as goal

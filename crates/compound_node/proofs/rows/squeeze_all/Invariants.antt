@@ -1,3 +1,4 @@
+-- The rows so far, squeezed.
 use Rattle.std.proofs.Common.{◌≡◌, take, map}
 use Rattle.partial_keys.specs.Squeezed.{squeezed}
 use Rattle.compound_node.proofs.rows.squeeze_all.Given as goal

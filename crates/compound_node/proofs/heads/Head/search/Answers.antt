@@ -1,3 +1,4 @@
+-- The highest complying row is where the forks lead.
 use Rattle.std.proofs.Common.{ap, get_or, length, refl, subst, sym, ◌<◌, ◌∙◌}
 use Rattle.compound_node.proofs.Lawful.{head_leads, head_leads-fits}
 use Rattle.compound_node.specs.Nodes.{HeadView}

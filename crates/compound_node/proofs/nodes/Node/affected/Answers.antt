@@ -1,3 +1,4 @@
+-- The run of rows is the affected range.
 use Rattle.std.proofs.Common.{ap, arith, length, subst, ℕ, ◌+◌, ◌<◌, ◌↔◌, ◌∙◌, ◌≡◌, ◌≤◌}
 use Rattle.compound_node.proofs.Lawful.{affected_range_is, same_count}
 use Rattle.compound_node.proofs.Ranges.{agree_range}

@@ -1,3 +1,4 @@
+-- There are as many rows as entries.
 use Rattle.std.proofs.Common.{ap, length, ◌∙◌}
 use Rattle.compound_node.proofs.Lawful.{same_count}
 use Rattle.compound_node.specs.Nodes.{NodeView}

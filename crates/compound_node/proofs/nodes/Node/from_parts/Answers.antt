@@ -1,3 +1,4 @@
+-- A head and entries that stand below its height make a node.
 use Rattle.std.proofs.Common.{refl}
 use Rattle.compound_node.proofs.Lawful.{other_node}
 use Rattle.compound_node.proofs.nodes.Node.from_parts.Goals as goal

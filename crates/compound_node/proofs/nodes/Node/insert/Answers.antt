@@ -1,3 +1,4 @@
+-- The parts of a node fit together.
 use Rattle.compound_node.proofs.Lawful.{parts_fit}
 use Rattle.compound_node.proofs.nodes.Node.insert.Goals as goal
 

@@ -1,3 +1,4 @@
+-- The node with another entry is lawful, and shows it at its place.
 use Rattle.std.proofs.Common.{ap, length, subst, sym, ◌<◌, ◌∙◌}
 use Rattle.compound_node.proofs.Lawful.{piece-replaced, replaced_lawful}
 use Rattle.compound_node.specs.Nodes.{NodeView, StandsBelow, node_of, piece}
