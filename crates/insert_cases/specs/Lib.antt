@@ -3,3 +3,5 @@ pub mod Grown
 pub mod Searches
 pub mod Ways
 pub mod Levels
+pub mod Store
+pub mod Risen

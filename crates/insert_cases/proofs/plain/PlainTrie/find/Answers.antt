@@ -1,0 +1,48 @@
+-- The search goes down the tree that the records show.
+use Rattle.std.proofs.Common.{◌≡◌, ◌∙◌, ap, subst, arith, Some}
+use Rattle.compound_node.specs.Nodes.{height_of}
+use Rattle.insert_cases.specs.Searches.{found}
+use Rattle.insert_cases.specs.Store.{PlainView, tree_of, record_of}
+use Rattle.insert_cases.proofs.Searching.{IsOnWay, on_way_start, on_way_down, on_way_within, on_way_end, tree_once}
+use Rattle.insert_cases.proofs.plain.PlainTrie.find.Goals as goal
+
+pub loop-entry-init : goal.loop-entry-init
+loop-entry-init c =
+    on_way_start (record { nodes = c.self.inside.nodes.items; leaves = c.self.inside.leaves.items; top = c.self.inside.top }) c.args.key.now c.args.top
+    (ap (λ (v : PlainView). v.top) c.self.view_is ∙ c.requires) c.self.invariant
+
+pub returns-in-Leaf : goal.returns-in-Leaf
+returns-in-Leaf c = λ t e.
+    let i = c.loop-entry.invariant in
+    let nodes = c.self.inside.nodes.items in
+    let leaves = c.self.inside.leaves.items in
+    let w = subst (IsOnWay nodes leaves c.args.key.now i.0) c.in-Leaf.is i.2 in
+    let v : PlainView = record { nodes = nodes; leaves = leaves; top = c.self.inside.top } in
+    let same : i.0 ≡ t = tree_once v i.0 t i.1 (ap tree_of c.self.view_is ∙ e) in
+    rw (← c.self.view_is) (on_way_end nodes leaves c.args.key.now i.0 c.in-Leaf.number w ∙ ap (λ u. Some (record_of (found c.args.key.now u))) same)
+
+pub index-requires : goal.index-requires
+index-requires c =
+    let i = c.loop-entry.invariant in
+    let nodes = c.self.inside.nodes.items in
+    let leaves = c.self.inside.leaves.items in
+    let h = on_way_within nodes leaves c.args.key.now i.0 c.in-Node.number c.in-Node.height (subst (IsOnWay nodes leaves c.args.key.now i.0) c.in-Node.is i.2) in
+    omega (arith, h, c.self.inside.nodes.ok.0)
+
+pub loop-entry-smaller : goal.loop-entry-smaller
+loop-entry-smaller c =
+    let i = c.loop-entry.invariant in
+    let nodes = c.self.inside.nodes.items in
+    let leaves = c.self.inside.leaves.items in
+    let d = on_way_down nodes leaves c.args.key.now i.0 c.in-Node.number c.in-Node.height (subst (IsOnWay nodes leaves c.args.key.now i.0) c.in-Node.is i.2)
+    c.index.result.now c.sought-entry.result c.index.ensures c.sought-entry.ensures in
+    omega (arith, d.1, ap height_of c.in-Node.is)
+
+pub loop-entry-preserved : goal.loop-entry-preserved
+loop-entry-preserved c =
+    let i = c.loop-entry.invariant in
+    let nodes = c.self.inside.nodes.items in
+    let leaves = c.self.inside.leaves.items in
+    let d = on_way_down nodes leaves c.args.key.now i.0 c.in-Node.number c.in-Node.height (subst (IsOnWay nodes leaves c.args.key.now i.0) c.in-Node.is i.2)
+    c.index.result.now c.sought-entry.result c.index.ensures c.sought-entry.ensures in
+    (i.0, i.1, d.0)

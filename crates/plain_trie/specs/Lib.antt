@@ -1,3 +1,0 @@
--- The definitions that the contracts use.
-pub mod Store
-pub mod Risen
