@@ -58,7 +58,7 @@ fn rate(times: u32, time: Duration) -> f64 {
 
 /// Prints the rates of a node of these keys to standard error, and answers a checksum of the places and entries that were found.
 /// Keys that do not rise, and forms that differ, are `InvalidData`.
-pub fn measure<R: Clock + Eprint>(rt: &R, name: &str, keys: &[Key]) -> io::Result<u32> {
+pub(crate) fn measure<R: Clock + Eprint>(rt: &R, name: &str, keys: &[Key]) -> io::Result<u32> {
     let node = node_of(keys).ok_or(ErrorKind::InvalidData)?;
     let sparse = sparse_words(&node);
     let columns = *node.columns();

@@ -11,7 +11,7 @@ use std::alloc::{AllocError, Global};
 pub const KEYS: u8 = 32;
 
 /// Keys of one byte.
-pub fn byte_keys(alloc: Global) -> Result<Vec<Key>, AllocError> {
+pub(crate) fn byte_keys(alloc: Global) -> Result<Vec<Key>, AllocError> {
     let mut keys = Vec::new(alloc);
     for i in 0..KEYS {
         keys.push(Key::from_bytes(&[8 * i]).unwrap())?;
@@ -20,7 +20,7 @@ pub fn byte_keys(alloc: Global) -> Result<Vec<Key>, AllocError> {
 }
 
 /// Numbers of eight bytes, the highest first, with gaps that grow.
-pub fn cube_keys(alloc: Global) -> Result<Vec<Key>, AllocError> {
+pub(crate) fn cube_keys(alloc: Global) -> Result<Vec<Key>, AllocError> {
     let mut keys = Vec::new(alloc);
     for i in 0..KEYS {
         let cube = u64::from(i).wrapping_pow(3).wrapping_mul(1_000_003);
@@ -30,7 +30,7 @@ pub fn cube_keys(alloc: Global) -> Result<Vec<Key>, AllocError> {
 }
 
 /// Keys of 200 to 231 bytes, each a prefix of the next.
-pub fn prefix_keys(alloc: Global) -> Result<Vec<Key>, AllocError> {
+pub(crate) fn prefix_keys(alloc: Global) -> Result<Vec<Key>, AllocError> {
     let bytes = [b'a'; 240];
     let mut keys = Vec::new(alloc);
     for i in 0..KEYS {
@@ -52,7 +52,7 @@ fn columns_of(keys: &[Key]) -> Option<Columns> {
 }
 
 /// The node of these keys, which rise, with leaf `i` for the key at `i`. `None` where they do not rise, or are not 2 to 32.
-pub fn node_of(keys: &[Key]) -> Option<Node> {
+pub(crate) fn node_of(keys: &[Key]) -> Option<Node> {
     if keys.len() > 32 {
         return None;
     }
@@ -71,7 +71,7 @@ pub fn node_of(keys: &[Key]) -> Option<Node> {
 }
 
 /// The node's sparse partial keys, with the unused places.
-pub fn sparse_words(node: &Node) -> [u32; 32]
+pub(crate) fn sparse_words(node: &Node) -> [u32; 32]
     ensures { slice_index result 0 ≡ 0 }
 {
     let mut words = [0; 32];

@@ -139,17 +139,6 @@ fn legal_calls_are_told(rt: HostRuntime) -> Result<(), KeyFault> {
         change(2, &a, 6, Kind::Replaced),
         change(1, &a, 6, Kind::Removed),
     ];
-    assert!(rt; are_legal(&[], 1, &[]));
-    assert!(rt;
-        are_legal(
-            &[],
-            1,
-            &[
-                note(0, get(&a), Reply::Absent),
-                note(0, remove(&a), Reply::Absent)
-            ]
-        )
-    );
     let first = [
         note(0, get(&a), Reply::Absent),
         note(0, insert(&a, 5), Reply::Inserted),
@@ -175,6 +164,23 @@ fn legal_calls_are_told(rt: HostRuntime) -> Result<(), KeyFault> {
             &[
                 note(1, insert(&a, 9), Reply::Exists(5)),
                 note(2, get(&a), Reply::Value(6))
+            ]
+        )
+    );
+    Ok(())
+}
+
+#[test]
+fn calls_before_any_change_are_legal(rt: HostRuntime) -> Result<(), KeyFault> {
+    let a = Key::from_bytes(b"a")?;
+    assert!(rt; are_legal(&[], 1, &[]));
+    assert!(rt;
+        are_legal(
+            &[],
+            1,
+            &[
+                note(0, get(&a), Reply::Absent),
+                note(0, remove(&a), Reply::Absent)
             ]
         )
     );
@@ -231,6 +237,18 @@ fn illegal_calls_are_told(rt: HostRuntime) -> Result<(), KeyFault> {
         !are_legal(&front, 3, &[note(2, insert(&b, 5), Reply::Inserted)]),
         "a note without its change"
     );
+    Ok(())
+}
+
+#[test]
+fn calls_of_other_changes_are_illegal(rt: HostRuntime) -> Result<(), KeyFault> {
+    let a = Key::from_bytes(b"a")?;
+    let b = Key::from_bytes(b"b")?;
+    let front = [
+        change(1, &a, 5, Kind::Added),
+        change(2, &a, 6, Kind::Replaced),
+    ];
+    let made = || note(0, insert(&a, 5), Reply::Inserted);
     assert!(rt;
         !are_legal(&front, 1, &[note(0, insert(&a, 7), Reply::Inserted)]),
         "a change to another value"
