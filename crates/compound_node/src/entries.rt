@@ -17,6 +17,10 @@ pub enum Entry {
 }
 
 impl Default for Entry {
+    ghost use Rattle.compound_node.specs.declared.entries.Entry.TheVariants.{Leaf as LeafEntry};
+
+    ghost is_default = { λ entry. entry ≡ LeafEntry 0 };
+
     fn default() -> Self {
         Entry::Leaf(0)
     }
