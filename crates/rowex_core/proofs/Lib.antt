@@ -6,6 +6,7 @@ pub mod Records
 pub mod Storing
 pub mod Loading
 pub mod Publishing
+pub mod Finding
 pub mod Published
 pub mod Learning
 pub mod Staying

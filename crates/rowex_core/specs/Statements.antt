@@ -11,14 +11,14 @@ use Rattle.hot_model.specs.Fronts.{map_of, Fits}
 use Rattle.record_words.specs.Layout.{address}
 use Rattle.record_words.specs.declared.layout.Layout.{Layout}
 use Rattle.tries.specs.Keys.{Key, IsParted}
-use Rattle.tries.specs.Tree.{Fixed, Tree, node, page}
+use Rattle.tries.specs.Tree.{Fixed, Tree, node, page, IsTrie, IsBuilt}
 use Rattle.tries.specs.Search.{seek, between, IsUnder}
 use Rattle.moments.specs.declared.Rec.{Rec}
 use Rattle.moments.specs.declared.Rec.TheVariants.{Node as a_node}
 use Rattle.moments.specs.declared.Pin.{Pin}
-use Rattle.moments.specs.State.{Spans, Stands, IsLed}
+use Rattle.moments.specs.State.{Spans, Stands, IsLed, IsTop}
 use Rattle.moments.specs.Core.{Free, Held, life_of}
-use Rattle.moments.specs.Told.{content}
+use Rattle.moments.specs.Told.{content, items_of, IsChange}
 use Rattle.rowex_core.specs.declared.event.Act.{Act}
 use Rattle.rowex_core.specs.declared.event.Act.TheVariants.{Lock, Publish}
 use Rattle.rowex_core.specs.declared.event.Target.TheVariants.{Node as NodeTarget}
@@ -27,9 +27,9 @@ use Rattle.rowex_core.specs.declared.known.Known.{Known}
 use Rattle.rowex_core.specs.declared.known.View.{View}
 use Rattle.rowex_core.specs.declared.known.View.TheVariants.{Dealer}
 use Rattle.rowex_core.specs.Reading.{node_of, word_in}
-use Rattle.rowex_core.specs.Cores.{Core, IsLawful}
+use Rattle.rowex_core.specs.Cores.{Core, IsLawful, heap_of}
 use Rattle.rowex_core.specs.Words.{record_word, word_at, Shows}
-use Rattle.rowex_core.specs.Events.{IsFixedOffset, Legal, after, location_of, writes, next_change}
+use Rattle.rowex_core.specs.Events.{IsFixedOffset, Legal, after, location_of, writes, stored_words, stored_root, next_tree, next_change}
 use Rattle.rowex_core.specs.Knowing.{Knows, Knowing, Owns, learned}
 use Rattle.rowex_core.specs.Opening.{opening, opening_words}
 
@@ -92,6 +92,14 @@ PublishIsAStep =
     ((after c q (Publish spot w)).changes ≡ c.changes ++ next_change c q spot w ∷ []) × ((next_change c q spot w).pass ≡ q) ×
     Fits (map_of c.changes) (next_change c q spot w) ×
     (content ((after c q (Publish spot w)).past.moment (after c q (Publish spot w)).past.now) ≡ map_after (map_of c.changes) (call_of (next_change c q spot w)))
+
+-- where the words then show a bit trie whose leaves differ by one change of the pass from those before, the change that the
+-- publish makes is that one
+abbrev pub FindsChange : Type 0
+FindsChange =
+    (c : Core) (q : ℕ) (spot : Spot) (w : ℕ) → IsLawful c → IsTop (heap_of (stored_words c spot w)) (stored_root c spot w) (next_tree c spot w) →
+    ((t : Tree) → next_tree c spot w ≡ Some t → IsTrie t × IsBuilt t) → (x : Change) → IsChange (c.past.moment c.past.now) x (next_tree c spot w) →
+    items_of (c.past.moment c.past.now) ≢ items_of (next_tree c spot w) → x.pass ≡ q → next_change c q spot w ≡ x
 
 -- a pass may lock a node while another holds the lock of another node, and both have their locks then
 abbrev pub LocksApart : Type 0

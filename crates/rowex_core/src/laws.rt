@@ -1,6 +1,6 @@
 //! The laws of the core. The functions do nothing: their contracts are the laws.
 
-ghost use Rattle.rowex_core.specs.Statements.{Hindsight, InReach, Keeps, Learns, LocksApart, OpeningIsLawful, Parting, PublishIsAStep, StaysLawful, WritesOne};
+ghost use Rattle.rowex_core.specs.Statements.{FindsChange, Hindsight, InReach, Keeps, Learns, LocksApart, OpeningIsLawful, Parting, PublishIsAStep, StaysLawful, WritesOne};
 
 /// A legal step keeps the core lawful.
 pub fn stays_lawful()
@@ -45,6 +45,11 @@ pub fn in_reach()
 /// A publish is one step of the map, whatever other locks are held.
 pub fn publish_is_a_step()
     ensures { PublishIsAStep }
+{}
+
+/// Where a publish would change the leaves by one change of its pass, its legality asks for that change and no other.
+pub fn finds_change()
+    ensures { FindsChange }
 {}
 
 /// Locks of two passes on different nodes are lawful at once.

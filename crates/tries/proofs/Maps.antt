@@ -33,7 +33,7 @@ unfolding bit
 before_greater k l a b (p, x) =
     (greater_by_first l k b a p (record { differ = λ e. false≢true (sym x.1 ∙ sym e ∙ x.2); agree = λ q h. sym (x.0 q h) })).1 x.2
 
-same_order : (k : Key) → order k k ≡ Equal
+pub same_order : (k : Key) → order k k ≡ Equal
 same_order k = tied_itself nat_list_cmp_total k
 
 -- Each item has a key.
