@@ -8,7 +8,7 @@ use Rattle.moments.specs.Heap.{Heap}
 use Rattle.moments.specs.State.{Past, IsLinked}
 use Rattle.moments.specs.declared.Rec.{Rec}
 use Rattle.moments.specs.declared.Rec.TheVariants.{Node as a_node, Leaf as a_leaf}
-use Rattle.moments.specs.Known.{IsGrown, IsLonger, flat, of_node, of_leaf, words, IsFrame}
+use Rattle.moments.specs.Frames.{IsGrown, IsLonger, flat, of_node, of_leaf, words, IsFrame}
 use Rattle.hot_model.specs.declared.Change.{Change}
 use Rattle.moments.specs.Core.{Fate, Free, Held, Ready, InTree, Unlinked, Marked, IsOwn, Core}
 use Rattle.moments.specs.declared.Round.{Round}

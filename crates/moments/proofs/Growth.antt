@@ -1,18 +1,16 @@
--- What a pass knows stays true; what its search was led to stays so.
-use Rattle.std.proofs.Common.{◌≡◌, ◌⊎◌, ◌≢◌, inl, inr, ℕ, ◌<◌, ◌≤◌, List, [], ◌∷◌, ◌++◌, append_assoc, true, ap, ap₂, sym, ◌∙◌, subst, arith, Some, le_refl, le_trans}
+-- What was so in a past stays so as it grows; which records may be given back, and which stand now.
+use Rattle.std.proofs.Common.{◌≡◌, ◌≢◌, inl, inr, ℕ, ◌<◌, ◌≤◌, List, ◌++◌, append_assoc, true, ap, ap₂, sym, ◌∙◌, subst, arith, Some, le_refl, le_trans}
 use Rattle.std.proofs.lemmas.List.Elements.{All-append}
-use Rattle.tries.specs.Keys.{Key, AgreeBelow}
+use Rattle.tries.specs.Keys.{Key}
 use Rattle.compound_node.specs.declared.entries.Entry.{Entry}
 use Rattle.tries.specs.Tree.{Tree, leaf, node, fork, page}
-use Rattle.tries.specs.Search.{Follows}
 use Rattle.moments.specs.Heap.{NodeWords, IsCopied}
-use Rattle.moments.specs.State.{rec_of, Spans, last_of, IsLived, Past, Stands, IsLawful, IsAbsent, IsMissed, IsLed, IsMarked, IsUnlinkedSince}
+use Rattle.moments.specs.State.{rec_of, Spans, last_of, IsLived, Past, Stands, IsLawful, IsMarked, IsUnlinkedSince}
 use Rattle.moments.specs.declared.Rec.{Rec}
 use Rattle.moments.specs.declared.Rec.TheVariants.{Node as a_node, Leaf as a_leaf}
-use Rattle.std.specs.List.{AllByRecursion}
-use Rattle.moments.specs.Known.{flat, Fact, Led, Near, Had, Lacked, IsFact, IsSameAt, IsLockedAs, IsOwnedAs, IsGrown, IsLonger, Known, IsKnown, IsFrame}
+use Rattle.moments.specs.Frames.{IsGrown, IsLonger}
 use Rattle.hot_model.specs.declared.Change.{Change}
-use Rattle.moments.specs.Core.{has_seen, InTree, Marked, life_of, IsOwn, Core, pin_moment, view, IsPaced}
+use Rattle.moments.specs.Core.{has_seen, InTree, Marked, life_of, Core, pin_moment, view, IsPaced}
 use Rattle.moments.specs.declared.Pin.{Pin}
 
 pub grown_trans : (a b c : Past) → IsGrown a b → IsGrown b c → IsGrown a c
@@ -32,44 +30,8 @@ pub stands_grown : (a b : Past) → IsGrown a b → (n : ℕ) (r : Rec) (u : Tre
 stands_grown a b g n r u h st =
     record { tree = st.tree; is_moment = g.kept n h ∙ st.is_moment; within = st.within; is_record = st.is_record }
 
-absent_grown : (a b : Past) → IsGrown a b → (n : ℕ) (k : Key) → n ≤ a.now → IsAbsent a n k → IsAbsent b n k
-absent_grown a b g n k h x = λ t e. x t (sym (g.kept n h) ∙ e)
-
--- What a search was led to in the past that a pass knows, it was led to in the past as it is.
-pub led_grown : (a b : Past) → IsGrown a b → (m : ℕ) (k : Key) (e : Entry) → IsLed a m k e → IsLed b m k e
-led_grown a b g m k e (n, u, lo, hi, st, pg, f) = (n, u, lo, le_trans hi g.longer, stands_grown a b g n (rec_of e) u hi st, pg, go f)
-  where
-    go : Follows k u ⊎ IsMissed a m k → Follows k u ⊎ IsMissed b m k
-    go (inl x) = inl x
-    go (inr (o, l, h, x)) = inr (o, l, le_trans h g.longer, absent_grown a b g o k h x)
-
 pub marked_grown : (a b : Past) → IsGrown a b → (m : ℕ) (P : Key → Type 0) (e : Entry) → IsMarked a m P e → IsMarked b m P e
 marked_grown a b g m P e (n, u, lo, hi, st, pg, f) = (n, u, lo, le_trans hi g.longer, stands_grown a b g n (rec_of e) u hi st, pg, f)
-
--- A fact of the past stays one.
-pub fact_grown : (a b : Past) → IsGrown a b → (f : Fact) → IsFact a f → IsFact b f
-fact_grown a b g (Led m k e) h = led_grown a b g m k e h
-fact_grown a b g (Near m x p k ps e) h = marked_grown a b g m (λ y. AgreeBelow p x y × IsSameAt k y ps) e h
-fact_grown a b g (Had m k v) (n, t, lo, hi, e, h) = (n, t, lo, le_trans hi g.longer, g.kept n hi ∙ e, h)
-fact_grown a b g (Lacked m k) (n, lo, hi, h) = (n, lo, le_trans hi g.longer, absent_grown a b g n k hi h)
-
-all_map : {X : Type 0} (P Q : X → Type 0) (xs : List X) → ((x : X) → P x → Q x) → AllByRecursion P xs → AllByRecursion Q xs
-all_map P Q [] f h = h
-all_map P Q (x ∷ xs) f h = (f x h.0, all_map P Q xs f h.1)
-
--- A step of one pass leaves true what any other pass knows.
-pub keeps : (q : ℕ) (k : Known) (c d : Core) → IsKnown q k c → IsFrame q c d → IsKnown q k d
-keeps q k c d i f = record {
-  front = longer_trans q k.front c.changes d.changes i.front f.changes;
-  facts = all_map (IsFact c.past) (IsFact d.past) k.facts (fact_grown c.past d.past f.past) i.facts;
-  own = all_map (IsOwnedAs q c) (IsOwnedAs q d) k.own
-      (λ w x. let y = f.own w.record_of (subst (IsOwn q) (sym x.1) x.0) in (x.0, y.0 ∙ x.1, y.1 ∙ x.2)) i.own;
-  locks = all_map (IsLockedAs q c) (IsLockedAs q d) k.locks
-      (λ w x. let y = f.locks w.0 x.2.0 x.0 x.2.1 in (y.0, ap flat y.1 ∙ x.1, (x.2.0, y.2))) i.locks;
-  anchor = λ e h. let x = i.anchor e h in let y = f.anchor x.0 in (y.0, y.1 ∙ x.1);
-  pin = f.pin ∙ i.pin;
-  round = f.round ∙ i.round;
-}
 
 -- A record that may be given back was linked at no moment since a pass's pin.
 pub give_back : (c : Core) → IsLawful (view c) → IsPaced c → (o : ℕ) (r : Rec) (f l s : ℕ) → c.fate r ≡ Marked f l s →

@@ -1,7 +1,7 @@
 pub mod Heap
 pub mod State
 pub mod Core
-pub mod Known
+pub mod Frames
 pub mod Told
 pub mod Steps
 pub mod Read

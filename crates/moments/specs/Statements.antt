@@ -13,7 +13,7 @@ use Rattle.hot_model.specs.Maps.{IsRising}
 use Rattle.hot_model.specs.Fronts.{map_of}
 use Rattle.moments.specs.Told.{content}
 use Rattle.moments.specs.Steps.{IsLawfulCore, IsStep, opening}
-use Rattle.moments.specs.Known.{Known, IsKnown, IsFrame}
+use Rattle.moments.specs.Frames.{IsFrame}
 
 abbrev pub Hindsight : Type 0
 Hindsight =
@@ -25,9 +25,6 @@ Parting =
     (s : State) → IsLawful s → (r : Rec) (n o x y : ℕ) (g h : Fixed) (b c : Tree) → n ≤ s.now → o ≤ s.now →
     Spans s.now (s.life r) n → Spans s.now (s.life r) o → Stands s.past n r (node x g b) → Stands s.past o r (node y h c) →
     (i j : ℕ) → i < j → (k l : Key) → IsUnder b i k → IsUnder c j l → IsParted (between (page b) i j) k l
-
-abbrev pub Keeps : Type 0
-Keeps = (q : ℕ) (k : Known) (c d : Core) → IsKnown q k c → IsFrame q c d → IsKnown q k d
 
 -- The opening core is lawful.
 abbrev pub OpeningIsLawful : Type 0

@@ -1,6 +1,6 @@
 //! The laws of the core. The functions do nothing: their contracts are the laws.
 
-ghost use Rattle.moments.specs.Statements.{ContentIsMap, Hindsight, Keeps, OpeningIsLawful, Parting, ReachIsKept, ReachIsSteady, StepKeepsLawful, StepLeavesOthers};
+ghost use Rattle.moments.specs.Statements.{ContentIsMap, Hindsight, OpeningIsLawful, Parting, ReachIsKept, ReachIsSteady, StepKeepsLawful, StepLeavesOthers};
 
 /// A search that goes on at a record goes on at what it finds there, whatever has been published since.
 pub fn hindsight()
@@ -10,11 +10,6 @@ pub fn hindsight()
 /// Keys below two entries of a record part at the fork between them.
 pub fn parting()
     ensures { Parting }
-{}
-
-/// What a pass knows stays true under the steps of another.
-pub fn keeps()
-    ensures { Keeps }
 {}
 
 /// The opening core is lawful.

@@ -22,11 +22,11 @@ use Rattle.rowex_core.proofs.Storing.{near_store}
 
 -- ---- The number determines the leaf
 
-abbrev AreByNumber : List Item → List Item → Type 0
+abbrev pub AreByNumber : List Item → List Item → Type 0
 AreByNumber xs ys = (x y : Item) → IsIn x xs → IsIn y ys → x.number ≡ y.number → x ≡ y
 
 -- the words of the item's record
-abbrev words_are : Heap → Item → Type 0
+abbrev pub words_are : Heap → Item → Type 0
 words_are m x = m.leaves x.number ≡ record { key = x.key; value = x.value }
 
 shown_items : (m : Heap) (t : Tree) → IsShown m t → Each (words_are m) (items t)
@@ -34,13 +34,13 @@ shown_items m (leaf n k v) h = (h, tt)
 shown_items m (node n x b) h = shown_items m b h.1
 shown_items m (fork p a b) h = each_append (words_are m) (items a) (items b) (shown_items m a h.0) (shown_items m b h.1)
 
-top_items : (m : Heap) (e : Option Entry) (t : Option Tree) → IsTop m e t → Each (words_are m) (items_of t)
+pub top_items : (m : Heap) (e : Option Entry) (t : Option Tree) → IsTop m e t → Each (words_are m) (items_of t)
 top_items m None None h = tt
 top_items m None (Some t) h = absurd h
 top_items m (Some e) None h = absurd h
 top_items m (Some e) (Some t) h = shown_items m t h.1
 
-by_number : (m o : Heap) (xs ys : List Item) → ((n : ℕ) → m.leaves n ≡ o.leaves n) → Each (words_are m) xs → Each (words_are o) ys → AreByNumber xs ys
+pub by_number : (m o : Heap) (xs ys : List Item) → ((n : ℕ) → m.leaves n ≡ o.leaves n) → Each (words_are m) xs → Each (words_are o) ys → AreByNumber xs ys
 by_number m o xs ys same f g x y i j e =
     let one = each_in (words_are m) xs x f i in
     let other = each_in (words_are o) ys y g j in

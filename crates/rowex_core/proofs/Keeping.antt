@@ -8,7 +8,7 @@ use Rattle.moments.specs.declared.Rec.{Rec}
 use Rattle.moments.specs.declared.Rec.TheVariants.{Node as a_node}
 use Rattle.moments.specs.State.{Past, Stands}
 use Rattle.moments.specs.Core.{IsOwn}
-use Rattle.moments.specs.Known.{IsGrown}
+use Rattle.moments.specs.Frames.{IsGrown}
 use Rattle.moments.proofs.Growth.{stands_grown}
 use Rattle.rowex_core.specs.declared.event.Act.{Act}
 use Rattle.rowex_core.specs.declared.known.Fact.{Fact}

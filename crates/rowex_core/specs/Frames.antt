@@ -4,7 +4,7 @@ use Rattle.hot_model.specs.Fronts.{OthersGoOn}
 use Rattle.moments.specs.declared.Rec.{Rec}
 use Rattle.moments.specs.declared.Rec.TheVariants.{Node as a_node}
 use Rattle.moments.specs.Core.{IsOwn}
-use Rattle.moments.specs.Known.{IsGrown}
+use Rattle.moments.specs.Frames.{IsGrown}
 use Rattle.rowex_core.specs.Cores.{Core}
 use Rattle.rowex_core.specs.Events.{IsInTree}
 

@@ -29,8 +29,8 @@ use Rattle.rowex_core.specs.declared.known.View.{View}
 use Rattle.rowex_core.specs.declared.known.View.TheVariants.{Spent, Dealer, Pass, Pair}
 use Rattle.rowex_core.specs.Cores.{Core, HasRecord, IsLawful}
 use Rattle.rowex_core.specs.Reading.{entry_of, root_of, entry_in, word_in}
-use Rattle.rowex_core.specs.Words.{word_at, record_word}
-use Rattle.rowex_core.specs.Events.{IsInTree, Legal, stored_words, stored_root, next_change, next_tree, word_of, target_word, location_of}
+use Rattle.rowex_core.specs.Words.{record_word}
+use Rattle.rowex_core.specs.Events.{IsInTree, Legal, stored_words, stored_root, next_change, next_tree, word_of, target_word}
 
 -- Facts of past moments
 
@@ -208,11 +208,6 @@ learned_by c (GiveBack r epoch found) k = k
 -- and it counts the step
 abbrev pub learned : Core → Act → Known → Known
 learned c act k = let j = learned_by c act k in record j { steps = k.steps + 1 }
-
--- The pass may make the step: it is legal in every lawful core of which what the pass knows is true, where `act` takes
--- the word that stands there.
-abbrev pub MayMake : (ℕ → Act) → Known → Type 0
-MayMake act k = (c : Core) → IsLawful c → Knows c k → Legal c k.pass (act (word_at c (location_of k.pass (act 0))))
 
 -- One atomic step of a pass: it knew k, and knows j; `said` are the notes that its caller adds.
 pub record IsEvent (layout : Layout) (act : Act) (said : Known → List Note) (k j : Known) : Type 0 where

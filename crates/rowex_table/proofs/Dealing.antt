@@ -1,31 +1,45 @@
 -- The opening, and how seats are split and joined.
 use Rattle.std.proofs.Common.{◌≡◌, ◌≢◌, ◌⊎◌, ℕ, zero, suc, ◌+◌, ◌*◌, ◌<◌, ◌≤◌, List, [], ◌∷◌, ◌++◌, length, set, get_or, replicate, Option, Some, None, refl, sym, ap, subst, ◌∙◌, arith, inl, inr, ⊎_elim}
-use Rattle.std.specs.Prelude.{All}
 use Rattle.std.proofs.lemmas.List.{set-get_or}
-use Rattle.std.proofs.lemmas.List.Elements.{All-from_recursion}
+use Rattle.std.proofs.lemmas.List.Elements.{All-from_recursion, All-nil, All-cons, All-weaker}
+use Rattle.std.specs.Prelude.{All}
+use Rattle.atomic_table.specs.Seated.{TableId}
 use mathlib.Core.Option.{none, some, some-ne-none, some-injective}
 use lib.ListN.{get_elem?}
-use Rattle.compound_node.specs.declared.entries.Entry.{Entry}
 use Rattle.atomic_table.specs.Table.{State, Me, Step, Allows, Splits, Joins, opening as first_state}
 use Rattle.atomic_table.specs.Table as table
 use Rattle.atomic_table.proofs.Lists.{at_set}
 use Rattle.hot_model.specs.declared.Change.{Change}
-use Rattle.hot_model.specs.Fronts.{LegalFront, BeginsWith, OthersGoOn}
+use Rattle.hot_model.specs.Fronts.{BeginsWith, OthersGoOn}
 use Rattle.record_words.specs.Layout.{word_count}
 use Rattle.record_words.specs.declared.layout.Layout.{Layout}
-use Rattle.rowex_core.specs.declared.known.Fact.{Fact}
-use Rattle.rowex_core.specs.declared.known.Owned.{Owned}
-use Rattle.rowex_core.specs.declared.known.Locked.{Locked}
 use Rattle.rowex_core.specs.declared.known.Known.{Known}
 use Rattle.rowex_core.specs.declared.known.View.{View}
 use Rattle.rowex_core.specs.declared.known.View.TheVariants.{Spent, Dealer, Pass, Pair}
-use Rattle.rowex_core.specs.Cores.{Core, IsLawful}
+use Rattle.rowex_core.specs.Cores.{Core}
 use Rattle.rowex_core.specs.Words.{Shows}
 use Rattle.rowex_core.specs.Knowing.{IsFact, IsOwned, IsLocked, IsUntouched, Knows, Knowing, Owns}
 use Rattle.rowex_core.specs.Opening.{opening, opening_words}
 use Rattle.rowex_core.proofs.Promises.{opening_is_lawful}
 use Rattle.rowex_table.specs.Rule.{Ruled, opening_of, next_dealer, dealt, paired, first_of_two, second_of_two, with_front, HaveMet, Meeting, met}
+use Rattle.rowex_table.specs.declared.table.TableSeat.{TableSeat}
+use Rattle.rowex_table.specs.Seats.{IsNew, known}
 use Rattle.rowex_table.proofs.Keeping.{Apart, apart_set}
+
+-- Seats by their numbers, and each of them
+
+numbered : (P : ℕ → TableSeat → Type 0) (first : ℕ) (items : List TableSeat) → ((q : ℕ) (s : TableSeat) → get_elem? items q ≡ some s → P (first + q) s) → All (λ s. (q : ℕ) × (q < first + length items) × P q s) items
+numbered P first [] h = All-nil (λ s. (q : ℕ) × (q < first + 0) × P q s)
+numbered P first (x ∷ xs) h =
+    All-cons (λ s. (q : ℕ) × (q < first + suc (length xs)) × P q s) x xs (first, omega arith, subst (λ z. P z x) (omega arith) (h 0 x refl))
+    (All-weaker (λ s. (q : ℕ) × (q < suc first + length xs) × P q s) (λ s. (q : ℕ) × (q < first + suc (length xs)) × P q s) (λ s t. let low = t.1 in (t.0, omega arith, t.2)) xs
+    (numbered P (suc first) xs (λ q s e. subst (λ z. P z s) (omega arith) (h (suc q) s e))))
+
+pub all_fit : (table : TableId) (passes : ℕ) (items : List TableSeat) → length items ≡ passes → ((q : ℕ) (s : TableSeat) → get_elem? items q ≡ some s → IsNew table q s)
+    → All (λ s. ((s.seat.table_id ≡ table) × (s.pass < passes)) × (known s ≡ opening_of s.pass)) items
+all_fit table passes items long h = All-weaker (λ s. (q : ℕ) × (q < 0 + length items) × IsNew table q s) (λ s. ((s.seat.table_id ≡ table) × (s.pass < passes)) × (known s ≡ opening_of s.pass))
+    (λ s u. let low = u.1 in let is : s.pass ≡ u.0 = u.2.1 in ((u.2.0, omega arith), u.2.2 ∙ ap opening_of (sym is)))
+    items (numbered (IsNew table) 0 items (λ q s e. subst (λ z. IsNew table z s) (omega arith) (h q s e)))
 
 -- The opening
 

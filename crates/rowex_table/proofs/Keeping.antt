@@ -1,5 +1,5 @@
 -- A step that its pass may make keeps the rule.
-use Rattle.std.proofs.Common.{◌≡◌, ◌≢◌, ◌⊎◌, ℕ, ◌<◌, List, [], ◌∷◌, ◌++◌, set, get_or, Bool, true, false, nat_eq, if◌then◌else◌, Option, Some, None, refl, sym, ap, subst, ◌∙◌, inl, inr, ⊎_elim}
+use Rattle.std.proofs.Common.{◌≡◌, ◌≢◌, ℕ, List, [], ◌++◌, set, get_or, Bool, true, false, nat_eq, if◌then◌else◌, Option, Some, None, refl, sym, ap, subst, ◌∙◌, ⊎_elim}
 use mathlib.Core.Option.{none, some}
 use lib.ListN.{get_elem?}
 use Rattle.atomic_table.specs.Table.{State, Me, Step, Allows}
@@ -16,11 +16,11 @@ use Rattle.rowex_core.specs.declared.event.Target.TheVariants.{Anchor, Node as N
 use Rattle.rowex_core.specs.declared.event.Spot.TheVariants.{Root, Slot}
 use Rattle.rowex_core.specs.declared.known.Known.{Known}
 use Rattle.rowex_core.specs.declared.known.View.{View}
-use Rattle.rowex_core.specs.declared.known.View.TheVariants.{Spent, Dealer, Pass, Pair}
-use Rattle.rowex_core.specs.Cores.{Core, IsLawful}
+use Rattle.rowex_core.specs.declared.known.View.TheVariants.{Pass}
+use Rattle.rowex_core.specs.Cores.{Core}
 use Rattle.rowex_core.specs.Words.{Shows, word_at}
 use Rattle.rowex_core.specs.Events.{Legal, after, location_of, writes}
-use Rattle.rowex_core.specs.Knowing.{Knows, Knowing, Owns, IsEvent, learned, learned_by, claim_learned, anchor_learned, node_learned}
+use Rattle.rowex_core.specs.Knowing.{Knows, Knowing, Owns, IsEvent, learned, claim_learned, anchor_learned}
 use Rattle.rowex_core.proofs.Keeping.{keeps}
 use Rattle.rowex_core.proofs.Learning.{learns}
 use Rattle.rowex_core.proofs.Staying.{stays_lawful}

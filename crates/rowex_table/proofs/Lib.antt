@@ -1,3 +1,3 @@
 pub mod Keeping
 pub mod Dealing
-pub mod Granted
+pub mod Rights

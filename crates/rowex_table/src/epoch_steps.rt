@@ -1,6 +1,6 @@
 //! Steps on the epoch and on pins.
 
-ghost use Rattle.std.specs.Prelude.{◌≡◌, ◌<◌, ◌+◌, ◌*◌, ◌^◌, ℕ, List};
+ghost use Rattle.std.specs.Prelude.{◌≡◌, ◌<◌, ◌≤◌, ◌+◌, ◌*◌, ◌^◌, ℕ, List};
 ghost use Rattle.hot_model.specs.declared.Note.{Note};
 ghost use Rattle.rowex_core.specs.declared.event.Act.TheVariants.{LoadEpoch, Advance, SetPin, ClearPin, LoadPin};
 ghost use Rattle.rowex_core.specs.declared.known.Known.{Known};
@@ -18,19 +18,17 @@ impl HotTable {
     pub fn load_epoch(&self, seat: &mut TableSeat) -> u64
         ghost said: { Known → List Note }
         requires own { seat.old.seat.table_id ≡ self.now.table.shared.table_id }
-        requires may { MayStep self.now.layout (λ found. LoadEpoch found) (known seat.old) }
         ensures seat { IsSame seat.old seat.new }
         ensures told { IsEvent self.now.layout (LoadEpoch result) said (known seat.old) (known seat.new) }
     {
         self.load_as::<Brand>(seat, Act::LoadEpoch { word: 0 }, Location::Epoch)
     }
 
-    /// Makes the epoch the next one, if it finds the expected one; answers the epoch that it found.
+    /// Makes the epoch the next one, if it finds the expected one, from 1 to 2^60 - 2; answers the epoch that it found.
     pub fn advance(&self, seat: &mut TableSeat, expected: u64) -> u64
         ghost said: { Known → List Note }
         requires own { seat.old.seat.table_id ≡ self.now.table.shared.table_id }
-        requires range { expected + 1 < 2 ^ 60 }
-        requires may { MayStep self.now.layout (λ found. Advance expected found) (known seat.old) }
+        requires range { (1 ≤ expected) × (expected + 1 < 2 ^ 60) }
         ensures seat { IsSame seat.old seat.new }
         ensures told { IsEvent self.now.layout (Advance expected result) said (known seat.old) (known seat.new) }
     {
@@ -72,7 +70,6 @@ impl HotTable {
         ghost said: { Known → List Note }
         requires own { seat.old.seat.table_id ≡ self.now.table.shared.table_id }
         requires range { of < self.now.layout.passes }
-        requires may { MayStep self.now.layout (λ found. LoadPin of found) (known seat.old) }
         ensures seat { IsSame seat.old seat.new }
         ensures told { IsEvent self.now.layout (LoadPin of result) said (known seat.old) (known seat.new) }
     {

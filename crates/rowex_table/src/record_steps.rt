@@ -21,7 +21,6 @@ impl HotTable {
         ghost said: { Known → List Note }
         requires own { seat.old.seat.table_id ≡ self.now.table.shared.table_id }
         requires range { HasRecord self.now.layout rec }
-        requires may { MayStep self.now.layout (λ found. Claim rec found) (known seat.old) }
         ensures seat { IsSame seat.old seat.new }
         ensures told { IsEvent self.now.layout (Claim rec result) said (known seat.old) (known seat.new) }
     {
@@ -80,19 +79,12 @@ impl HotTable {
         ghost said: { Known → List Note }
         requires own { seat.old.seat.table_id ≡ self.now.table.shared.table_id }
         requires range { HasRecord self.now.layout rec × IsFixedOffset rec offset }
-        requires may { MayStep self.now.layout (λ found. LoadFixed rec offset found) (known seat.old) }
         ensures seat { IsSame seat.old seat.new }
         ensures told { IsEvent self.now.layout (LoadFixed rec offset result) said (known seat.old) (known seat.new) }
     {
-        self.load_as::<Brand>(
-            seat,
-            Act::LoadFixed {
-                rec,
-                offset,
-                word: 0,
-            },
-            record_place(rec, offset),
-        )
+        let location = record_place(rec, offset);
+        let word = 0;
+        self.load_as::<Brand>(seat, Act::LoadFixed { rec, offset, word }, location)
     }
 
     /// Makes a record obsolete that the pass has unlinked, in the epoch that the pass loaded last.
@@ -117,7 +109,6 @@ impl HotTable {
         ghost said: { Known → List Note }
         requires own { seat.old.seat.table_id ≡ self.now.table.shared.table_id }
         requires range { HasRecord self.now.layout rec }
-        requires may { MayStep self.now.layout (λ found. LoadState rec found) (known seat.old) }
         ensures seat { IsSame seat.old seat.new }
         ensures told { IsEvent self.now.layout (LoadState rec result) said (known seat.old) (known seat.new) }
     {
@@ -133,16 +124,12 @@ impl HotTable {
         ensures seat { IsSame seat.old seat.new }
         ensures told { IsEvent self.now.layout (GiveBack rec epoch result) said (known seat.old) (known seat.new) }
     {
-        self.exchange_as::<Brand>(
-            seat,
-            Act::GiveBack {
-                rec,
-                epoch,
-                found: 0,
-            },
-            record_place(rec, 0),
-            8 * epoch + 4,
-            0,
-        )
+        let obsolete = 8 * epoch + 4;
+        let act = Act::GiveBack {
+            rec,
+            epoch,
+            found: 0,
+        };
+        self.exchange_as::<Brand>(seat, act, record_place(rec, 0), obsolete, 0)
     }
 }

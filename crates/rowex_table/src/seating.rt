@@ -1,11 +1,11 @@
 //! How a table is made with the seats of its passes, and how two of these meet.
 
-ghost use Rattle.std.specs.Prelude.{◌≡◌, ℕ, IfOk, length};
+ghost use Rattle.std.specs.Prelude.{◌≡◌, ℕ, IfOk, All, length};
 ghost use mathlib.Core.Option.{some};
 ghost use lib.ListN.{get_elem?};
 ghost use Rattle.rowex_table.specs.declared.table.TableSeat.{TableSeat as Seated};
-ghost use Rattle.rowex_table.specs.Rule.{HaveMet};
-ghost use Rattle.rowex_table.specs.Seats.{IsNew, known};
+ghost use Rattle.rowex_table.specs.Rule.{HaveMet, opening_of};
+ghost use Rattle.rowex_table.specs.Seats.{Fits, IsNew, known};
 
 use crate::plays::{Deal, Meets, Part};
 use crate::table::{HotTable, TableSeat};
@@ -19,6 +19,7 @@ impl HotTable {
         ensures table { IfOk result (λ made. made.0.layout ≡ layout) }
         ensures count { IfOk result (λ made. length made.1.items ≡ layout.passes) }
         ensures seats { IfOk result (λ made. (q : ℕ) (s : Seated) → get_elem? made.1.items q ≡ some s → IsNew made.0.table.shared.table_id q s) }
+        ensures each { IfOk result (λ made. All (λ s. Fits made.0 s × (known s ≡ opening_of s.pass)) made.1.items) }
     {
         let mut words = Vec::from_elem(alloc, 0u64, layout.words())?;
         words[0] = 1;

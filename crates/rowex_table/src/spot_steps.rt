@@ -8,6 +8,7 @@ ghost use Rattle.rowex_core.specs.declared.known.Known.{Known};
 ghost use Rattle.rowex_core.specs.Events.{target_word};
 ghost use Rattle.rowex_core.specs.Knowing.{IsEvent};
 ghost use Rattle.rowex_table.specs.Rule.{IsEntry, MayStep};
+ghost use Rattle.rowex_table.specs.Rights.{MayLock};
 ghost use Rattle.rowex_table.specs.Seats.{IsSame, known};
 
 use crate::places::{spot_place, target_place};
@@ -21,7 +22,6 @@ impl HotTable {
         ghost said: { Known → List Note }
         requires own { seat.old.seat.table_id ≡ self.now.table.shared.table_id }
         requires range { IsEntry self.now.layout spot }
-        requires may { MayStep self.now.layout (λ found. LoadRef spot found) (known seat.old) }
         ensures seat { IsSame seat.old seat.new }
         ensures told { IsEvent self.now.layout (LoadRef spot result) said (known seat.old) (known seat.new) }
     {
@@ -33,7 +33,7 @@ impl HotTable {
         ghost said: { Known → List Note }
         requires own { seat.old.seat.table_id ≡ self.now.table.shared.table_id }
         requires range { IsInTable self.now.layout (target_word target) }
-        requires may { MayStep self.now.layout (λ found. Lock target found) (known seat.old) }
+        requires may { MayLock self.now.layout target (known seat.old) }
         ensures seat { IsSame seat.old seat.new }
         ensures told { IsEvent self.now.layout (Lock target result) said (known seat.old) (known seat.new) }
     {

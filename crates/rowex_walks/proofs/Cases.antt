@@ -1,6 +1,6 @@
 -- The publish of each kind of insertion is legal and tells the one change.
-use Rattle.std.proofs.Common.{◌≡◌, inl, inr, ℕ, ◌<◌, ◌≤◌, true, false, refl, arith, Some, le_refl}
-use Rattle.tries.specs.Tree.{Fixed, Tree, leaf, node, fork, page, IsTrie, IsTip, IsFork, IsLower, IsBuilt, Within, here, inside, zero_side, one_side}
+use Rattle.std.proofs.Common.{◌≡◌, inl, inr, ℕ, ◌<◌, ◌≤◌, true, false, refl, arith, Some}
+use Rattle.tries.specs.Tree.{Fixed, Tree, leaf, node, fork, page, IsTrie, IsTip, IsFork, IsLower, Within, here, inside, zero_side, one_side}
 use Rattle.compound_node.specs.declared.entries.Entry.{Entry}
 use Rattle.pieces.specs.Piece.{Place}
 use Rattle.moments.specs.Heap.{Heap}
@@ -12,6 +12,7 @@ use Rattle.tries.specs.Changes.{put, IsPathBelow, IsFlat, IsAdded, IsExchanged}
 use Rattle.rowex_walks.specs.Writer.{added_change, replaced_change, IsAtHand, IsStored}
 use Rattle.tries.proofs.Tries.{trie_within, built_within, within_trans, rises}
 use Rattle.tries.proofs.Adding.{added_put, exchanged_put}
+use Rattle.rowex_walks.proofs.Now.{built_now, trie_now}
 use Rattle.rowex_walks.proofs.Hands.{added_around, added_open}
 use Rattle.rowex_walks.proofs.Replaced.{slot_legal, root_legal}
 
@@ -33,21 +34,15 @@ path_above p {b = fork m k u} v (zero_side w) i f j h = let z = h.0 in path_rise
 path_above p {b = fork m k u} v (one_side w) i f j h = let z = h.0 in path_rises_node v j (omega arith)
 
 module _ (c : Core) (q : ℕ) (law : IsLawful (view c)) (t : Tree) (now : c.past.moment c.past.now ≡ Some t) where
-  trie_now : IsTrie t
-  trie_now = (law.trees c.past.now t (le_refl c.past.now) now).0
-
-  built_now : IsBuilt t
-  built_now = (law.trees c.past.now t (le_refl c.past.now) now).1
-
   -- At an entry of a locked node: what stands there gets one leaf more.
   pub slot_added : {n : ℕ} {y : Fixed} {b s : Tree} (v : Within (node n y b) t) (w : Within s b) → IsFlat w → IsTip s → (r : Tree) → IsTip r →
       c.lock n ≡ Some q → IsAtHand c q s r → IsLower y.height r → (x : Item) (p : ℕ) → IsAdded x p s r → IsPathBelow p w →
       (heap : Heap) → IsStored c.heap heap n (page (put w r)) →
       IsLegalPublish c q heap c.root (Some (put v (node n y (put w r)))) (added_change q x)
   slot_added {n} {y} {b} {s} v w flat ts r tr lock hand low x p a path heap st =
-      let body : IsAdded x p b (put w r) = added_put w r x p (trie_within (within_trans (inside here) v) trie_now) path a in
+      let body : IsAdded x p b (put w r) = added_put w r x p (trie_within (within_trans (inside here) v) (trie_now c law t now)) path a in
       let whole : IsAdded x p t (put v (node n y (put w r))) =
-      added_put v (node n y (put w r)) x p trie_now (path_above p v w ts (built_within v built_now).0 trie_now path)
+      added_put v (node n y (put w r)) x p (trie_now c law t now) (path_above p v w ts (built_within v (built_now c law t now)).0 (trie_now c law t now) path)
       (added_open b (node n y (put w r)) n y x p (added_around b (put w r) n y x p body)) in
       slot_legal c q law t now v w flat ts r tr lock hand low whole.trie heap st (added_change q x) refl (x.number, whole.more)
 
@@ -56,9 +51,9 @@ module _ (c : Core) (q : ℕ) (law : IsLawful (view c)) (t : Tree) (now : c.past
       (heap : Heap) → IsStored c.heap heap n (page (put w r)) →
       IsLegalPublish c q heap c.root (Some (put v (node n y (put w r)))) (replaced_change q x)
   slot_exchanged {n} {y} {b} {s} v w flat ts r tr lock hand low o x e a heap st =
-      let body : IsExchanged o x b (put w r) = exchanged_put w r o x (trie_within (within_trans (inside here) v) trie_now) a in
+      let body : IsExchanged o x b (put w r) = exchanged_put w r o x (trie_within (within_trans (inside here) v) (trie_now c law t now)) a in
       let whole : IsExchanged o x t (put v (node n y (put w r))) =
-      exchanged_put v (node n y (put w r)) o x trie_now (record { trie = body.trie; exchange = body.exchange; keys = body.keys }) in
+      exchanged_put v (node n y (put w r)) o x (trie_now c law t now) (record { trie = body.trie; exchange = body.exchange; keys = body.keys }) in
       slot_legal c q law t now v w flat ts r tr lock hand low whole.trie heap st (replaced_change q x) refl (x.number, (o, e, whole.exchange))
 
   -- At the root, under the anchor's lock.

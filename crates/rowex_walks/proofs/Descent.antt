@@ -6,16 +6,16 @@ use Rattle.tries.specs.Tree.{Fixed, Page, Tree, leaf, node, fork, page, Has, IsT
 use Rattle.compound_node.specs.declared.entries.Entry.TheVariants.{Leaf, Node}
 use Rattle.pieces.specs.Piece.{Place}
 use Rattle.tries.specs.Search.{seek, Follows, child, Kin, tips, forks}
-use Rattle.moments.specs.Heap.{NodeWords, LeafWords, IsCopied, IsShown}
+use Rattle.moments.specs.Heap.{NodeWords, LeafWords, IsCopied}
 use Rattle.moments.specs.State.{IsRecord, Life, Out, Linked, Retired, Spans, last_of, IsLived, State, Stands, IsSame, IsReach, IsLawful, IsFrom, IsMarked}
 use Rattle.moments.specs.declared.Rec.TheVariants.{Node as a_node}
 use Rattle.moments.specs.Core.{Core, view}
 use Rattle.rowex_walks.specs.Writer.{IsBegun, IsWay, at_leaf, below}
 use Rattle.tries.proofs.Tries.{has_first, trie_within, built_within, within_trans, page_child, within_child}
 use Rattle.moments.proofs.States.{stem_down, is_trie, is_built}
+use Rattle.rowex_walks.proofs.Now.{built_now, shown_now}
 use Rattle.rowex_walks.proofs.Search.{now_same, leaf_now}
 use Rattle.moments.proofs.Heaps.{shown_within}
-use Rattle.moments.proofs.Publish.{top_shown}
 use Rattle.tries.specs.Content.{first}
 
 -- Where all keys agree with one before `r`, the first fork is not before `r`, at any moment of the record's life.
@@ -98,14 +98,11 @@ kin_root (forks {p = z} w x y) r b d e like h p f g i =
 
 -- The way below a locked node tells of the present: the key that was found follows the stem of the node's child.
 module _ (c : Core) (law : IsLawful (view c)) (since : ℕ) (reach : IsReach (view c) since) (t : Tree) (now : c.past.moment c.past.now ≡ Some t) where
-  shown_now : IsShown c.heap t
-  shown_now = top_shown c.heap c.root (c.past.moment c.past.now) t law.top now
-
   leaf_follows : (u : Tree) → Within u t → (j : ℕ) (l : Key) → page u ≡ Place (Leaf j) → IsMarked c.past since (λ y. y ≡ l) (Leaf j) → Follows l u
   leaf_follows (node n x b) w j l e f = absurd cc
   leaf_follows (fork n x b) w j l e f = absurd cc
   leaf_follows (leaf n m v) w j l e f =
-      let s = shown_within c.heap w shown_now in
+      let s = shown_within c.heap w (shown_now c law t now) in
       sym (key_now f) ∙ (ap (λ z. (c.heap.leaves z).key) (sym (leaf_entry e)) ∙ ap (λ (z : LeafWords). z.key) s)
     where
       key_now : IsMarked c.past since (λ y. y ≡ l) (Leaf j) → (c.heap.leaves j).key ≡ l
@@ -116,8 +113,8 @@ module _ (c : Core) (law : IsLawful (view c)) (since : ℕ) (reach : IsReach (vi
   node_follows : (u : Tree) → Within u t → (a h r : ℕ) (l like : Key) → page u ≡ Place (Node a h) → IsBegun c.past since r like a → AgreeBelow r like l → Follows l u
   node_follows (leaf n x b) w a h r l like e f g = absurd cc
   node_follows (fork n x b) w a h r l like e f g = absurd cc
-  node_follows (node n x (leaf m o v)) w a h r l like e f g = elim (built_within w (law.trees c.past.now t (le_refl c.past.now) now).1).0 [ ]
-  node_follows (node n x (node m o v)) w a h r l like e f g = elim (built_within w (law.trees c.past.now t (le_refl c.past.now) now).1).0 [ ]
+  node_follows (node n x (leaf m o v)) w a h r l like e f g = elim (built_within w (built_now c law t now)).0 [ ]
+  node_follows (node n x (node m o v)) w a h r l like e f g = elim (built_within w (built_now c law t now)).0 [ ]
   node_follows (node n x (fork p d o)) w a h r l like e (i, y, b, z, lo, hi, st, has) g =
       λ m hm s j. sym (g s (subst (λ v. s < v) root.0 j)) ∙ root.1 m hm s (subst (λ v. s < v) root.0 j)
     where
@@ -141,6 +138,6 @@ module _ (c : Core) (law : IsLawful (view c)) (since : ℕ) (reach : IsReach (vi
 
   pub way_follows : {n : ℕ} {x : Fixed} {b : Tree} → Within (node n x b) t → (k l : Key) → IsWay c.past since k (c.heap.nodes n).page l → Follows l (child k b)
   way_follows {n} {x} {b} v k l way =
-      let e : (c.heap.nodes n).page ≡ page b = ap (λ (z : NodeWords). z.page) (shown_within c.heap v shown_now).0 in
+      let e : (c.heap.nodes n).page ≡ page b = ap (λ (z : NodeWords). z.page) (shown_within c.heap v (shown_now c law t now)).0 in
       way_tree (child k b) (within_trans (within_child k b) (within_trans (inside here) v))
       k l (c.heap.nodes n).page (page_child k b ∙ ap (λ z. Place (seek k z)) (sym e)) way

@@ -1,5 +1,5 @@
 -- Each insertion is a chain of a few steps, from the lowest locked node up to the entry that is stored.
-use Rattle.std.proofs.Common.{◌≡◌, ◌⊎◌, inl, inr, ℕ, refl, ap, ap₂, ◌∙◌, Some, le_refl}
+use Rattle.std.proofs.Common.{◌≡◌, ◌⊎◌, inl, inr, ℕ, refl, ap, ap₂, ◌∙◌, Some}
 use Rattle.tries.specs.Keys.{Key, bit}
 use Rattle.tries.specs.Tree.{Fixed, Tree, node, fork, page, Has, IsTrie, IsTip, IsLower, IsBuilt, Within, here, inside}
 use Rattle.compound_node.specs.declared.entries.Entry.{Entry}
@@ -19,10 +19,10 @@ use Rattle.tries.proofs.Tries.{trie_within, built_within, within_trans}
 use Rattle.moments.proofs.Heaps.{shown_within}
 use Rattle.tries.proofs.Places.{grown}
 use Rattle.tries.proofs.Adding.{added_put, added_bare, added_here}
+use Rattle.rowex_walks.proofs.Now.{built_now, shown_now, trie_now}
 use Rattle.rowex_walks.proofs.Hands.{hand_stay, hand_around, hand_open, hand_put, hand_grown, added_around, added_open}
 use Rattle.rowex_walks.proofs.Cases.{slot_added, root_added}
 use Rattle.rowex_walks.proofs.Insertions.{found_added, found_away, hand_leaf_in, with_leaf}
-use Rattle.moments.proofs.Publish.{top_shown}
 
 half_bare : (c : Core) (q : ℕ) (r s : Tree) → IsHalf c q r s → bare s ≡ bare r
 half_bare c q r s (one i) = refl
@@ -87,15 +87,6 @@ module _ (c : Core) (q : ℕ) (x : Item) (p : ℕ) where
 
 module _ (c : Core) (q : ℕ) (law : IsLawful (view c)) (t : Tree) (now : c.past.moment c.past.now ≡ Some t) (since : ℕ) (x : Item) (p : ℕ) (l : Key)
     (new : IsNewLeaf c q x) where
-  trie_now : IsTrie t
-  trie_now = (law.trees c.past.now t (le_refl c.past.now) now).0
-
-  built_now : IsBuilt t
-  built_now = (law.trees c.past.now t (le_refl c.past.now) now).1
-
-  shown_now : IsShown c.heap t
-  shown_now = top_shown c.heap c.root (c.past.moment c.past.now) t law.top now
-
   -- The start: the lowest locked node's body with the new leaf.
   pub growth_leaf : {n : ℕ} {y : Fixed} {b : Tree} → Within (node n y b) t → IsFound c q since x p l n → IsPart (affected p x.key b) →
       IsGrowth c q x p b (with_leaf x p b)
@@ -108,8 +99,8 @@ module _ (c : Core) (q : ℕ) (law : IsLawful (view c)) (t : Tree) (now : c.past
   pub growth_beside : {n : ℕ} {y : Fixed} {b s : Tree} → Within (node n y b) t → IsFound c q since x p l n → IsPart (affected p x.key b) →
       Within s t → ((k : Key) → Has s k → Has (affected p x.key b) k) → IsGrowth c q x p s (grown (bit x.key p) p s x)
   growth_beside {b = b} {s = s} v f is_part w keys = record {
-    hand = hand_grown c q (bit x.key p) p s s x (hand_stay c q s (built_within w built_now) (shown_within c.heap w shown_now)) new.fate new.words;
-    adds = added_here s x p (trie_within w trie_now) f.key (λ k h. found_away c q law t now v since p x l f is_part k (keys k h));
+    hand = hand_grown c q (bit x.key p) p s s x (hand_stay c q s (built_within w (built_now c law t now)) (shown_within c.heap w (shown_now c law t now))) new.fate new.words;
+    adds = added_here s x p (trie_within w (trie_now c law t now)) f.key (λ k h. found_away c q law t now v since p x l f is_part k (keys k h));
   }
 
   -- The end: the store at an entry of a locked node, or at the root.
@@ -128,4 +119,4 @@ module _ (c : Core) (q : ℕ) (law : IsLawful (view c)) (t : Tree) (now : c.past
       IsGrowth c q x p (node n y b) r → IsGrowth c q x p d (put u r)
   pulled v u flat path r a =
       let i = within_trans (inside here) v in
-      growth_put c q x p u flat r (trie_within i trie_now) (built_within i built_now) (shown_within c.heap i shown_now) path a
+      growth_put c q x p u flat r (trie_within i (trie_now c law t now)) (built_within i (built_now c law t now)) (shown_within c.heap i (shown_now c law t now)) path a

@@ -1,5 +1,5 @@
 -- The insertion cases.
-use Rattle.std.proofs.Common.{◌≡◌, ◌≢◌, inr, ℕ, ◌<◌, refl, ap, sym, ◌∙◌, subst, Some, None, le_refl}
+use Rattle.std.proofs.Common.{◌≡◌, ◌≢◌, inr, ℕ, ◌<◌, refl, ap, sym, ◌∙◌, subst, Some, None}
 use Rattle.tries.specs.Keys.{Key, bit, AgreeBelow}
 use Rattle.tries.specs.Tree.{Fixed, Tree, leaf, node, fork, page, Has, IsTrie, IsFork, IsBuilt, Within, here, inside}
 use Rattle.compound_node.specs.declared.entries.Entry.TheVariants.{Leaf, Node}
@@ -17,11 +17,11 @@ use Rattle.rowex_walks.specs.Writer.{added_change, replaced_change, IsAtHand, Is
 use Rattle.tries.specs.Affected.{affected, IsPart}
 use Rattle.tries.proofs.Tries.{trie_within, built_within, within_trans}
 use Rattle.moments.proofs.Heaps.{shown_within, near_refl}
-use Rattle.moments.proofs.Publish.{top_shown}
 use Rattle.tries.proofs.Places.{grown}
 use Rattle.moments.proofs.Growth.{in_tree_now}
 use Rattle.tries.proofs.Adding.{added_here, added as added_at, exchanged_leaf}
 use Rattle.tries.proofs.Affected.{IsAway, away, part_away, part_place}
+use Rattle.rowex_walks.proofs.Now.{built_now, shown_now, trie_now}
 use Rattle.rowex_walks.proofs.Descent.{way_follows}
 use Rattle.rowex_walks.proofs.Hands.{hand_stay, hand_around, hand_put, hand_leaf, hand_grown, added_around}
 use Rattle.rowex_walks.proofs.Cases.{slot_exchanged, root_added, root_exchanged}
@@ -39,15 +39,6 @@ part_of (node n k v) f = elim f [ ]
 part_of (fork n k v) f = tt
 
 module _ (c : Core) (q : ℕ) (law : IsLawful (view c)) (t : Tree) (now : c.past.moment c.past.now ≡ Some t) where
-  trie_now : IsTrie t
-  trie_now = (law.trees c.past.now t (le_refl c.past.now) now).0
-
-  built_now : IsBuilt t
-  built_now = (law.trees c.past.now t (le_refl c.past.now) now).1
-
-  shown_now : IsShown c.heap t
-  shown_now = top_shown c.heap c.root (c.past.moment c.past.now) t law.top now
-
   -- What a writer that has found a leaf below its lowest locked node knows of the present.
   pub found_follows : {n : ℕ} {y : Fixed} {b : Tree} → Within (node n y b) t → (since p : ℕ) (x : Item) (l : Key) → IsFound c q since x p l n → Follows l (child x.key b)
   found_follows v since p x l f = way_follows c law since f.reach t now v x.key l f.way
@@ -56,21 +47,21 @@ module _ (c : Core) (q : ℕ) (law : IsLawful (view c)) (t : Tree) (now : c.past
   pub found_away : {n : ℕ} {y : Fixed} {b : Tree} → Within (node n y b) t → (since p : ℕ) (x : Item) (l : Key) → IsFound c q since x p l n →
       IsPart (affected p x.key b) → (k : Key) → Has (affected p x.key b) k → IsAway p x.key k
   found_away {b = b} v since p x l f is_part =
-      part_away p x.key l f.agree f.differ b (trie_within (within_trans (inside here) v) trie_now) is_part (found_follows v since p x l f)
+      part_away p x.key l f.agree f.differ b (trie_within (within_trans (inside here) v) (trie_now c law t now)) is_part (found_follows v since p x l f)
 
   -- So the node's body with the new leaf has one leaf more.
   pub found_added : {n : ℕ} {y : Fixed} {b : Tree} → Within (node n y b) t → (since p : ℕ) (x : Item) (l : Key) → IsFound c q since x p l n →
       IsPart (affected p x.key b) → (r : Tree) → bare r ≡ bare (with_leaf x p b) → IsAdded x p b r
   found_added {b = b} v since p x l f is_part r e =
-      added_at (part_place p x.key b).0 x p r (trie_within (within_trans (inside here) v) trie_now) f.key (part_place p x.key b).2 (found_away v since p x l f is_part) e
+      added_at (part_place p x.key b).0 x p r (trie_within (within_trans (inside here) v) (trie_now c law t now)) f.key (part_place p x.key b).2 (found_away v since p x l f is_part) e
 
   -- The new leaf in a locked node's body is at hand.
   pub hand_leaf_in : {n : ℕ} {y : Fixed} {b : Tree} → Within (node n y b) t → (p : ℕ) (x : Item) → IsNewLeaf c q x → IsAtHand c q b (with_leaf x p b)
   hand_leaf_in {b = b} v p x new =
       let place = part_place p x.key b in
       let d = affected p x.key b in
-      let i = built_within (within_trans (inside here) v) built_now in
-      let j = shown_within c.heap (within_trans (inside here) v) shown_now in
+      let i = built_within (within_trans (inside here) v) (built_now c law t now) in
+      let j = shown_within c.heap (within_trans (inside here) v) (shown_now c law t now) in
       hand_put c q place.0 place.1 (grown (bit x.key p) p d x) i j
       (hand_grown c q (bit x.key p) p d d x (hand_stay c q d (built_within place.0 i) (shown_within c.heap place.0 j)) new.fate new.words)
 
@@ -101,11 +92,11 @@ module _ (c : Core) (q : ℕ) (law : IsLawful (view c)) (t : Tree) (now : c.past
       root_added c q law t now (node m g s) (Node m g.height) refl lock
       (subst (λ o. IsAtHand c q o (node m g s)) (sym e)
       (hand_around c q d s m g
-      (hand_grown c q (bit x.key p) p d d x (hand_stay c q d tt (subst (IsShown c.heap) e shown_now)) leaf_new.fate leaf_new.words)
+      (hand_grown c q (bit x.key p) p d d x (hand_stay c q d tt (subst (IsShown c.heap) e (shown_now c law t now))) leaf_new.fate leaf_new.words)
       new))
       x p
       (subst (λ o. IsAdded x p o (node m g s)) (sym e)
-      (added_around d s m g x p (added_here d x p (subst IsTrie e trie_now) leaf_new.key (λ y h. away p x.key k y agree differ (λ r i. ap (λ o. bit o r) (sym h)) (ap (λ o. bit o p) (sym h))))))
+      (added_around d s m g x p (added_here d x p (subst IsTrie e (trie_now c law t now)) leaf_new.key (λ y h. away p x.key k y agree differ (λ r i. ap (λ o. bit o r) (sym h)) (ap (λ o. bit o p) (sym h))))))
 
 -- The first key.
 pub first_key : (c : Core) (q : ℕ) → IsLawful (view c) → c.past.moment c.past.now ≡ None → (x : Item) → c.anchor ≡ Some q → IsNewLeaf c q x →

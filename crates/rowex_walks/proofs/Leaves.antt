@@ -1,5 +1,5 @@
 -- What a writer has in words makes its publish legal: upserts, and the first two keys.
-use Rattle.std.proofs.Common.{◌≡◌, ◌≢◌, ℕ, ap, sym, ◌∙◌, subst, Some, None, le_refl}
+use Rattle.std.proofs.Common.{◌≡◌, ◌≢◌, ℕ, ap, sym, ◌∙◌, subst, Some, None}
 use Rattle.tries.specs.Keys.{bit, AgreeBelow}
 use Rattle.compound_node.specs.declared.entries.Entry.TheVariants.{Leaf, Node}
 use Rattle.pieces.specs.Piece.{Place}
@@ -19,6 +19,7 @@ use Rattle.tries.proofs.Tries.{built_within}
 use Rattle.tries.proofs.Affected.{grown_page}
 use Rattle.tries.proofs.Places.{grown}
 use Rattle.tries.proofs.Spots.{IsSpot, page_spot, with_page_entry}
+use Rattle.rowex_walks.proofs.Now.{built_now}
 use Rattle.rowex_walks.proofs.Insertions.{upsert, upsert_top, first_key, second_key}
 use Rattle.rowex_walks.proofs.Standing.{stands_now, entry_leaf, root_leaf, now_standing, now_rooted, now_empty}
 use Rattle.rowex_walks.proofs.Rising.{new_node}
@@ -40,7 +41,7 @@ upsert_slot c q law n j x locked at same new heap st = go (now_standing c law n 
         let stored : IsStored c.heap heap n (page put_leaf) =
         subst (IsStored c.heap heap n)
         (sym (with_page_entry x.key (Leaf x.number) (c.heap.nodes n).page) ∙ (ap (with_page x.key (Place (Leaf x.number))) (sym pg) ∙ sym (pages (leaf x.number x.key x.value)))) st in
-        let low = lower_positive (c.heap.nodes n).fixed.height b (built_within v ((law.trees c.past.now t (le_refl c.past.now) now).1)).1 in
+        let low = lower_positive (c.heap.nodes n).fixed.height b (built_within v (built_now c law t now)).1 in
         (put v (node n (c.heap.nodes n).fixed put_leaf), upsert c q law t now v j (c.heap.leaves j).value x w flat locked.lock new low heap stored)
 
 -- At the root.

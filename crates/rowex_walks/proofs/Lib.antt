@@ -1,3 +1,4 @@
+pub mod Now
 pub mod Search
 pub mod Replaced
 pub mod Hands

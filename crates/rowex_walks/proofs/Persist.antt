@@ -7,7 +7,7 @@ use Rattle.tries.specs.Tree.{Page, Tree}
 use Rattle.moments.specs.State.{Past, Stands, IsHeld, IsKept}
 use Rattle.moments.specs.declared.Rec.{Rec}
 use Rattle.moments.specs.declared.Rec.TheVariants.{Node as a_node, Leaf as a_leaf}
-use Rattle.moments.specs.Known.{IsGrown}
+use Rattle.moments.specs.Frames.{IsGrown}
 use Rattle.rowex_walks.specs.Scan.{Stood, IsRooted, IsPlaced, IsShaped, IsRead, Fits, IsReached, placed, further, IsOn, Frame, IsStack, IsPassed, IsRight, IsAhead, Pair, Every, IsListed, Range, IsScan, IsStart}
 
 stands_on : (a b : Past) → IsGrown a b → (n : ℕ) (r : Rec) (u : Tree) → n ≤ a.now → Stands a n r u → Stands b n r u

@@ -1,6 +1,6 @@
 -- Removal of one entry.
 use Rattle.moments.specs.Told.{IsChange}
-use Rattle.std.proofs.Common.{◌≡◌, inl, inr, ℕ, List, [], ◌∷◌, ◌++◌, refl, sym, subst, Some, None, le_refl}
+use Rattle.std.proofs.Common.{◌≡◌, inl, inr, ℕ, List, [], ◌∷◌, ◌++◌, refl, sym, subst, Some, None}
 use Rattle.tries.specs.Keys.{Key}
 use Rattle.tries.specs.Tree.{Fixed, Tree, leaf, node, fork, page, IsTrie, IsTip, IsLower, IsBuilt, Within, here, inside, zero_side, one_side}
 use Rattle.compound_node.specs.declared.entries.Entry.{Entry}
@@ -15,9 +15,9 @@ use Rattle.tries.specs.Changes.{put, IsFlat, IsRemoved}
 use Rattle.rowex_walks.specs.Writer.{item, removed_change, IsAtHand, IsStored}
 use Rattle.tries.proofs.Tries.{trie_within, within_trans}
 use Rattle.moments.proofs.Heaps.{near_refl}
-use Rattle.moments.proofs.Publish.{top_shown}
 use Rattle.tries.proofs.Contents.{more_left, more_right}
 use Rattle.tries.proofs.Adding.{put_less, has_less}
+use Rattle.rowex_walks.proofs.Now.{trie_now}
 use Rattle.rowex_walks.proofs.Replaced.{slot_legal, root_legal, fate_linked}
 
 more_end : (x : Item) (xs : List Item) → IsMore x xs (xs ++ x ∷ [])
@@ -67,23 +67,14 @@ module _ (c : Core) (q : ℕ) where
   }
 
 module _ (c : Core) (q : ℕ) (law : IsLawful (view c)) (t : Tree) (now : c.past.moment c.past.now ≡ Some t) where
-  trie_now : IsTrie t
-  trie_now = (law.trees c.past.now t (le_refl c.past.now) now).0
-
-  built_now : IsBuilt t
-  built_now = (law.trees c.past.now t (le_refl c.past.now) now).1
-
-  shown_now : IsShown c.heap t
-  shown_now = top_shown c.heap c.root (c.past.moment c.past.now) t law.top now
-
   -- At an entry of a locked node: what stands there loses one leaf.
   pub slot_removed : {n : ℕ} {y : Fixed} {b s : Tree} (v : Within (node n y b) t) (w : Within s b) → IsFlat w → IsTip s → (r : Tree) → IsTip r →
       c.lock n ≡ Some q → IsAtHand c q s r → IsLower y.height r → (x : Item) → IsRemoved x s r →
       (heap : Heap) → IsStored c.heap heap n (page (put w r)) →
       IsLegalPublish c q heap c.root (Some (put v (node n y (put w r)))) (removed_change q x)
   slot_removed {n} {y} {b} {s} v w flat ts r tr lock hand low x a heap st =
-      let body = removed_put w r x (trie_within (within_trans (inside here) v) trie_now) a in
-      let whole : IsRemoved x t (put v (node n y (put w r))) = removed_put v (node n y (put w r)) x trie_now (removed_marks b (put w r) n n y y x body) in
+      let body = removed_put w r x (trie_within (within_trans (inside here) v) (trie_now c law t now)) a in
+      let whole : IsRemoved x t (put v (node n y (put w r))) = removed_put v (node n y (put w r)) x (trie_now c law t now) (removed_marks b (put w r) n n y y x body) in
       slot_legal c q law t now v w flat ts r tr lock hand low whole.trie heap st (removed_change q x) refl (x.number, whole.less)
 
   pub root_removed : (r : Tree) (e : Entry) → page r ≡ Place e → c.anchor ≡ Some q → IsAtHand c q t r → (x : Item) → IsRemoved x t r →

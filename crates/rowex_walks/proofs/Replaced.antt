@@ -15,13 +15,14 @@ use Rattle.moments.specs.Core.{Fate, Free, Held, Ready, InTree, Unlinked, Marked
 use Rattle.moments.specs.Steps.{at_root, at_slot, IsLegalPublish}
 use Rattle.tries.specs.Changes.{put, IsFlat}
 use Rattle.rowex_walks.specs.Writer.{IsAtHand, IsStored}
-use Rattle.moments.proofs.Publish.{links_within, within_links, top_shown}
+use Rattle.moments.proofs.Publish.{links_within, within_links}
 use Rattle.moments.proofs.Quiet.{shown_ext}
 use Rattle.moments.proofs.Heaps.{shown_within, near_refl}
 use Rattle.moments.proofs.Stored.{not_above, lower_within, page_put, put_shown, put_built}
 use Rattle.moments.proofs.Growth.{in_tree_now}
 use Rattle.tries.proofs.Tries.{built_within}
 use Rattle.tries.proofs.Fitting.{fit_swap}
+use Rattle.rowex_walks.proofs.Now.{built_now, shown_now, trie_now}
 
 -- What is linked in the tree with another part in one place.
 pub links_put : {s t : Tree} (w : Within s t) (r : Tree) (i : Rec) → Links (put w r) i → Links t i ⊎ Links r i
@@ -142,15 +143,6 @@ is_node? i n = go (cases_Bool (eqb i n))
 -- A store of one entry of a locked node, under which stood `s` and then stands `r`, is a legal publish of the tree
 -- with `r` in the place of `s`, where that is a bit trie.
 module _ (c : Core) (q : ℕ) (law : IsLawful (view c)) (t : Tree) (now : c.past.moment c.past.now ≡ Some t) where
-  trie_now : IsTrie t
-  trie_now = (law.trees c.past.now t (le_refl c.past.now) now).0
-
-  built_now : IsBuilt t
-  built_now = (law.trees c.past.now t (le_refl c.past.now) now).1
-
-  shown_now : IsShown c.heap t
-  shown_now = top_shown c.heap c.root (c.past.moment c.past.now) t law.top now
-
   goes_now : (s r new : Tree) → ((i : Rec) → Links r i → Links new i) → ((i : Rec) → Links t i → Links new i ⊎ Links s i) → IsAtHand c q s r →
       (n f : ℕ) → c.fate (a_node n) ≡ InTree f → ¬ (Links new (a_node n)) → c.lock n ≡ Some q
   goes_now s r new b d hand n f e g =
@@ -184,10 +176,10 @@ module _ (c : Core) (q : ℕ) (law : IsLawful (view c)) (t : Tree) (now : c.past
   }
     where
       here_shown : IsShown c.heap (node n x b)
-      here_shown = shown_within c.heap v shown_now
+      here_shown = shown_within c.heap v (shown_now c law t now)
 
       here_built : IsBuilt (node n x b)
-      here_built = built_within v built_now
+      here_built = built_within v (built_now c law t now)
 
       same_x : (c.heap.nodes n).fixed ≡ x
       same_x = ap (λ (z : NodeWords). z.fixed) here_shown.0
@@ -202,7 +194,7 @@ module _ (c : Core) (q : ℕ) (law : IsLawful (view c)) (t : Tree) (now : c.past
       new_built = (fork_flat w ts r here_built.0, lower_flat x.height w flat r here_built.1 low, built_flat w flat r here_built.2 hand.built, fit_swap (swap_flat w flat ts r is_tip) x here_built.3)
 
       built : IsBuilt (put v (node n x (put w r)))
-      built = put_built n x b (put w r) v built_now new_built
+      built = put_built n x b (put w r) v (built_now c law t now) new_built
 
       not_linked : Links (put w r) (a_node n) → ⊥
       not_linked h =
@@ -224,7 +216,7 @@ module _ (c : Core) (q : ℕ) (law : IsLawful (view c)) (t : Tree) (now : c.past
       top_new (Some y) None i h = absurd cc
       top_new (Some y) (Some u) i h = (
         page_put v (node n x (put w r)) refl ∙ (ap page (sym (some_same h)) ∙ i.0),
-        put_shown c.heap heap n x b (put w r) v trie_now built_now shown_now st.others st.leaves new_shown,
+        put_shown c.heap heap n x b (put w r) v (trie_now c law t now) (built_now c law t now) (shown_now c law t now) st.others st.leaves new_shown,
       )
 
       same_fixed : (i : ℕ) → (i ≡ n) ⊎ (i ≢ n) → (c.heap.nodes i).fixed ≡ (heap.nodes i).fixed

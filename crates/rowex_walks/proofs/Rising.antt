@@ -1,17 +1,17 @@
 -- What a writer has in words makes its publish legal: insertions.
-use Rattle.std.proofs.Common.{◌≡◌, ◌⊎◌, inl, inr, ℕ, refl, ap, ap₂, sym, ◌∙◌, subst, arith, Some, le_refl}
+use Rattle.std.proofs.Common.{◌≡◌, ◌⊎◌, inl, inr, ℕ, refl, ap, ap₂, sym, ◌∙◌, subst, arith, Some}
 use Rattle.std.proofs.lemmas.Bool.{le-ltb}
 use Rattle.tries.specs.Keys.{Key, bit}
 use Rattle.compound_node.specs.declared.entries.Entry.{Entry}
 use Rattle.compound_node.specs.declared.entries.Entry.TheVariants.{Leaf, Node}
 use Rattle.pieces.specs.Piece.{Place, Fork}
-use Rattle.tries.specs.Tree.{Fixed, Page, Tree, leaf, node, fork, page, Has, IsTrie, IsTip, IsFork, IsBuilt, Within, here, inside, IsFit}
+use Rattle.tries.specs.Tree.{Fixed, Page, Tree, leaf, node, fork, page, Has, IsTrie, IsTip, IsFork, Within, here, inside, IsFit}
 use Rattle.tries.specs.Search.{child}
 use Rattle.tries.specs.Content.{Item}
 use Rattle.tries.specs.Changes.{put, IsPathBelow, IsFlat}
 use Rattle.tries.specs.Place.{with_page}
 use Rattle.tries.specs.Affected.{affected, IsPart, page_affected, page_forked, page_grown, IsPartPage, IsLowerPage, IsFirstBelow, IsTipPage}
-use Rattle.moments.specs.Heap.{NodeWords, Heap, IsShown}
+use Rattle.moments.specs.Heap.{NodeWords, Heap}
 use Rattle.moments.specs.State.{IsFrom, IsLawful}
 use Rattle.moments.specs.Core.{Core, view}
 use Rattle.moments.specs.Steps.{IsLegalPublish}
@@ -21,7 +21,7 @@ use Rattle.tries.proofs.Tries.{trie_within, built_within, within_trans}
 use Rattle.tries.proofs.Affected.{affected_page, part_page, lower_page, place_page, grown_page}
 use Rattle.tries.proofs.Places.{grown}
 use Rattle.moments.proofs.Heaps.{shown_within}
-use Rattle.moments.proofs.Publish.{top_shown}
+use Rattle.rowex_walks.proofs.Now.{built_now, shown_now, trie_now}
 use Rattle.rowex_walks.proofs.Cases.{path_rises_node}
 use Rattle.rowex_walks.proofs.Insertions.{with_leaf, part_of}
 use Rattle.rowex_walks.proofs.Growing.{growth_around, growth_open, growth_cut, growth_leaf, growth_beside, growth_slot, growth_root, pulled}
@@ -70,17 +70,8 @@ whole_affected p k (fork q a b) f i = rw (le-ltb q p i) refl
 
 module _ (c : Core) (q : ℕ) (law : IsLawful (view c)) (t : Tree) (now : c.past.moment c.past.now ≡ Some t) (since : ℕ) (x : Item) (p : ℕ) (l : Key)
     (new : IsNewLeaf c q x) where
-  trie_now : IsTrie t
-  trie_now = (law.trees c.past.now t (le_refl c.past.now) now).0
-
-  built_now : IsBuilt t
-  built_now = (law.trees c.past.now t (le_refl c.past.now) now).1
-
-  shown_now : IsShown c.heap t
-  shown_now = top_shown c.heap c.root (c.past.moment c.past.now) t law.top now
-
   words_of : {n : ℕ} {y : Fixed} {b : Tree} → Within (node n y b) t → c.heap.nodes n ≡ record { fixed = y; page = page b }
-  words_of v = (shown_within c.heap v shown_now).0
+  words_of v = (shown_within c.heap v (shown_now c law t now)).0
 
   page_of : {n : ℕ} {y : Fixed} {b : Tree} → Within (node n y b) t → (c.heap.nodes n).page ≡ page b
   page_of v = ap (λ (w : NodeWords). w.page) (words_of v)
@@ -102,7 +93,7 @@ module _ (c : Core) (q : ℕ) (law : IsLawful (view c)) (t : Tree) (now : c.past
           at = subst (IsSpot x.key d) f (page_spot x.key d)
 
           trie_d : IsTrie d
-          trie_d = trie_within (within_trans (inside here) v) trie_now
+          trie_d = trie_within (within_trans (inside here) v) (trie_now c law t now)
 
           first_path : (b : Tree) (w : Within (node n y b) d) → IsFirstBelow p (page b) → IsPathBelow p w
           first_path (leaf a k s) w h = absurd h
@@ -164,7 +155,7 @@ module _ (c : Core) (q : ℕ) (law : IsLawful (view c)) (t : Tree) (now : c.past
   rise_whole : (n : ℕ) → IsFound c q since x p l n → IsFrom p (c.heap.nodes n).page →
       HasRisen entry n (page_forked (bit x.key p) p (Leaf x.number) (Place (Node n (c.heap.nodes n).fixed.height)))
   rise_whole n found i y b v =
-      let two : IsFork b = (built_within v built_now).0 in
+      let two : IsFork b = (built_within v (built_now c law t now)).0 in
       let whole : affected p x.key b ≡ b = whole_affected p x.key b two (subst (IsFrom p) (page_of v) i) in
       let height : y.height ≡ (c.heap.nodes n).fixed.height = ap (λ (w : NodeWords). w.fixed.height) (sym (words_of v)) in (
         grown (bit x.key p) p (node n y b) x,

@@ -11,9 +11,9 @@ use Rattle.moments.specs.declared.Rec.TheVariants.{Node as a_node}
 use Rattle.moments.specs.Core.{InTree, Core, view}
 use Rattle.tries.proofs.Tries.{within_trans, page_child, within_child}
 use Rattle.moments.proofs.Heaps.{shown_within}
-use Rattle.moments.proofs.Publish.{top_shown}
 use Rattle.moments.proofs.Growth.{in_tree_now}
 use Rattle.compound_node.specs.declared.entries.Entry.{Entry}
+use Rattle.rowex_walks.proofs.Now.{shown_now}
 
 node_parts : {n m h g : ℕ} → Place (Node n h) ≡ Place (Node m g) → n ≡ m
 node_parts e = cc
@@ -25,9 +25,6 @@ some_same : {a b : Tree} → Some a ≡ Some b → a ≡ b
 some_same e = cc
 
 module _ (c : Core) (law : IsLawful (view c)) (t : Tree) (now : c.past.moment c.past.now ≡ Some t) where
-  shown_now : IsShown c.heap t
-  shown_now = top_shown c.heap c.root (c.past.moment c.past.now) t law.top now
-
   -- A node that is in the tree stands in the present tree with its words.
   pub stands_now : (n f : ℕ) → c.fate (a_node n) ≡ InTree f →
       (b : Tree) × Within (node n (c.heap.nodes n).fixed b) t × (page b ≡ (c.heap.nodes n).page)
@@ -39,8 +36,8 @@ module _ (c : Core) (law : IsLawful (view c)) (t : Tree) (now : c.past.moment c.
   pub entry_node : {o : ℕ} {z : Fixed} {d : Tree} → Within (node o z d) t → (k : Key) (n h : ℕ) → seek k (c.heap.nodes o).page ≡ Node n h →
       (y : Fixed) × (b : Tree) × (child k d ≡ node n y b) × (c.heap.nodes n ≡ record { fixed = y; page = page b })
   entry_node {o} {z} {d} v k n h e =
-      let words : (c.heap.nodes o).page ≡ page d = ap (λ (w : NodeWords). w.page) (shown_within c.heap v shown_now).0 in
-      go (child k d) (shown_within c.heap (within_trans (within_child k d) (within_trans (inside here) v)) shown_now)
+      let words : (c.heap.nodes o).page ≡ page d = ap (λ (w : NodeWords). w.page) (shown_within c.heap v (shown_now c law t now)).0 in
+      go (child k d) (shown_within c.heap (within_trans (within_child k d) (within_trans (inside here) v)) (shown_now c law t now))
       (page_child k d ∙ ap Place (ap (seek k) (sym words) ∙ e))
     where
       go : (u : Tree) → IsShown c.heap u → page u ≡ Place (Node n h) → (y : Fixed) × (b : Tree) × (u ≡ node n y b) × (c.heap.nodes n ≡ record { fixed = y; page = page b })
@@ -62,8 +59,8 @@ module _ (c : Core) (law : IsLawful (view c)) (t : Tree) (now : c.past.moment c.
   pub entry_leaf : {o : ℕ} {z : Fixed} {d : Tree} → Within (node o z d) t → (k : Key) (j : ℕ) → seek k (c.heap.nodes o).page ≡ Leaf j →
       child k d ≡ leaf j (c.heap.leaves j).key (c.heap.leaves j).value
   entry_leaf {o} {z} {d} v k j e =
-      let words : (c.heap.nodes o).page ≡ page d = ap (λ (w : NodeWords). w.page) (shown_within c.heap v shown_now).0 in
-      leaf_of (child k d) (shown_within c.heap (within_trans (within_child k d) (within_trans (inside here) v)) shown_now)
+      let words : (c.heap.nodes o).page ≡ page d = ap (λ (w : NodeWords). w.page) (shown_within c.heap v (shown_now c law t now)).0 in
+      leaf_of (child k d) (shown_within c.heap (within_trans (within_child k d) (within_trans (inside here) v)) (shown_now c law t now))
       (page_child k d ∙ ap Place (ap (seek k) (sym words) ∙ e))
 
   -- What the root entry says of the tree.
@@ -84,7 +81,7 @@ module _ (c : Core) (law : IsLawful (view c)) (t : Tree) (now : c.past.moment c.
       go (node m y b) z = let w : m ≡ n = cc in (y, b, ap (λ a. node a y b) w)
 
   pub root_leaf : (j : ℕ) → c.root ≡ Some (Leaf j) → t ≡ leaf j (c.heap.leaves j).key (c.heap.leaves j).value
-  root_leaf j e = leaf_of t shown_now (root_page (Leaf j) e)
+  root_leaf j e = leaf_of t (shown_now c law t now) (root_page (Leaf j) e)
 
 -- The tree of the present, where there is a node in it or a root entry.
 pub now_standing : (c : Core) → IsLawful (view c) → (n f : ℕ) → c.fate (a_node n) ≡ InTree f → (t : Tree) × (c.past.moment c.past.now ≡ Some t)

@@ -7,7 +7,7 @@ use Rattle.moments.specs.State.{Past, IsLawful}
 use Rattle.moments.specs.declared.Rec.TheVariants.{Node as a_node}
 use Rattle.moments.specs.Core.{InTree, Core, pin_moment, view}
 use Rattle.moments.specs.declared.Pin.{Pin}
-use Rattle.moments.specs.Known.{IsGrown, IsFrame}
+use Rattle.moments.specs.Frames.{IsGrown, IsFrame}
 use Rattle.tries.specs.Content.{Item}
 use Rattle.rowex_walks.specs.Writer.{IsBegun, IsWay, at_leaf, below, IsFound}
 use Rattle.moments.proofs.Growth.{stands_grown, marked_grown}

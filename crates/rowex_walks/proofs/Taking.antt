@@ -1,5 +1,5 @@
 -- What a writer has in words makes its publish legal: removals.
-use Rattle.std.proofs.Common.{◌≡◌, ℕ, Bool, true, false, refl, ap, sym, ◌∙◌, subst, Some, None, le_refl, if◌then◌else◌}
+use Rattle.std.proofs.Common.{◌≡◌, ℕ, Bool, true, false, refl, ap, sym, ◌∙◌, subst, Some, None, if◌then◌else◌}
 use Rattle.tries.specs.Keys.{Key, bit}
 use Rattle.compound_node.specs.declared.entries.Entry.{Entry}
 use Rattle.compound_node.specs.declared.entries.Entry.TheVariants.{Leaf, Node}
@@ -19,7 +19,7 @@ use Rattle.tries.proofs.Tries.{trie_within, built_within, within_trans}
 use Rattle.tries.proofs.Affected.{lower_page}
 use Rattle.tries.proofs.Spots.{IsSpot, page_spot, with_page_entry}
 use Rattle.moments.proofs.Heaps.{shown_within}
-use Rattle.moments.proofs.Publish.{top_shown}
+use Rattle.rowex_walks.proofs.Now.{built_now, shown_now, trie_now}
 use Rattle.rowex_walks.proofs.Hands.{hand_around, hand_open, hand_put}
 use Rattle.rowex_walks.proofs.Removal.{removed_zero, removed_one, removed_put, removed_marks, removed_open, hand_zero, hand_one, slot_removed, root_removed, remove_last}
 use Rattle.rowex_walks.proofs.Standing.{stands_now, entry_node, entry_leaf, root_node, root_leaf, now_standing, now_rooted}
@@ -80,14 +80,13 @@ module _ (c : Core) (q : ℕ) (law : IsLawful (view c)) (k : Key) (n j : ℕ) (s
   left_now : (t : Tree) (now : c.past.moment c.past.now ≡ Some t) (e : Entry) → IsEntryFor c q (page_without k (c.heap.nodes n).page) e → (y : Fixed) (b : Tree) → Within (node n y b) t →
       IsLeft c q k j (c.heap.leaves j).value e (node n y b)
   left_now t now e i y b v =
-      let trees = law.trees c.past.now t (le_refl c.past.now) now in
-      let shown = shown_within c.heap v (top_shown c.heap c.root (c.past.moment c.past.now) t law.top now) in
+      let shown = shown_within c.heap v (shown_now c law t now) in
       let pg : (c.heap.nodes n).page ≡ page b = ap (λ (w : NodeWords). w.page) shown.0 in
-      let built = built_within v trees.1 in
+      let built = built_within v (built_now c law t now) in
       let old : child k b ≡ leaf j k (c.heap.leaves j).value =
       entry_leaf c law t now v k j seen.entry ∙ ap (λ z. leaf j z (c.heap.leaves j).value) seen.key in
       left_over c q k j (c.heap.leaves j).value n y b e seen.lock (subst (λ z. IsEntryFor c q (page_without k z) e) pg i)
-      (without c q k j (c.heap.leaves j).value b built.0 old (trie_within (within_trans (inside here) v) trees.0) built.2 shown.1)
+      (without c q k j (c.heap.leaves j).value b built.0 old (trie_within (within_trans (inside here) v) (trie_now c law t now)) built.2 shown.1)
 
   -- At an entry of a locked node: what is left of the node below takes its place.
   pub remove_slot : (o : ℕ) (e : Entry) → IsEntryFor c q (page_without k (c.heap.nodes n).page) e → IsOver c q k o n → IsBelowNode c o e →

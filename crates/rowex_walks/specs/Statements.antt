@@ -24,7 +24,7 @@ use Rattle.rowex_walks.specs.Writer.{item, added_change, replaced_change, remove
 use Rattle.rowex_walks.specs.Rise.{IsNewPage, IsEntryFor, IsLockedNode, IsOver, IsUpper, IsLeafOf, entry, IsRise, IsSlotStore, IsBelowNode}
 use Rattle.rowex_walks.specs.Scan.{Pair, Range, IsComplete, IsCut, turned, IsRooted, IsPlaced, IsShaped, IsRead, IsSeen}
 use Rattle.compound_node.specs.Nodes.{height_of}
-use Rattle.moments.specs.Known.{IsFrame}
+use Rattle.moments.specs.Frames.{IsFrame}
 
 -- The store is a legal publish of some tree, and tells this change.
 abbrev pub IsPublished : Core → ℕ → Heap → Option Entry → Change → Type 0

@@ -1,5 +1,5 @@
 -- A meeting: both views in one, the load, and the two views again.
-use Rattle.std.proofs.Common.{rules, ◌≡◌, ap, refl, ◌∙◌}
+use Rattle.std.proofs.Common.{rules, ap}
 use Rattle.rowex_table.proofs.Dealing.{joins, meets, meeting, parts, paired_me, apart_met}
 use Rattle.rowex_table.proofs.table.HotTable.meet_seats.Goals as goal
 

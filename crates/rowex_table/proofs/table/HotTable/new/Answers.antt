@@ -1,12 +1,11 @@
 -- The opening, and one seat more.
-use Rattle.std.proofs.Common.{rules, arith, ◌≡◌, ℕ, ◌<◌, ◌+◌, ◌∷◌, ◌++◌, List, length, [], ap, subst, sym, ◌∙◌, refl}
+use Rattle.std.proofs.Common.{rules, ◌≡◌, ℕ, ◌<◌, List, ap, subst, sym, ◌∙◌}
 use mathlib.Core.Option.{some}
 use lib.ListN.{get_elem?}
-use Rattle.rowex_core.specs.declared.known.View.TheVariants.{Dealer, Pass}
 use Rattle.rowex_table.specs.declared.table.TableSeat.{TableSeat}
 use Rattle.rowex_table.specs.Rule.{known_of, next_dealer, dealt}
 use Rattle.rowex_table.specs.Seats.{IsNew}
-use Rattle.rowex_table.proofs.Dealing.{opens, deals, each_longer}
+use Rattle.rowex_table.proofs.Dealing.{opens, deals, each_longer, all_fit}
 use Rattle.rowex_table.proofs.table.HotTable.new.Goals as goal
 
 pub of_words-requires : goal.of_words-requires
@@ -29,3 +28,6 @@ loop-number-preserved c =
           (each_longer (λ q (h : TableSeat). IsNew c.in_ok-table.table.shared.table_id q h) c.loop-number.seats.items _ c.loop-number.number c.loop-number.invariant.2 c.loop-number.invariant.3
           (search rules, search rules, ap (λ m. known_of m.0) split.4 ∙ ap (λ v. known_of (dealt v)) was)),
     )
+
+pub returns-clause-each : goal.returns-clause-each
+returns-clause-each c = all_fit c.in_ok-table.table.shared.table_id c.args.layout.passes c.loop-number.seats.items (search rules) c.loop-number.invariant.3

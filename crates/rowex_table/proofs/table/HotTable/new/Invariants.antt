@@ -1,5 +1,5 @@
 -- The seats that have been dealt are those of the passes below the number.
-use Rattle.std.specs.Prelude.{◌≡◌, ◌≤◌, ℕ, [], length}
+use Rattle.std.specs.Prelude.{◌≡◌, ℕ, [], length}
 use mathlib.Core.Option.{some}
 use lib.ListN.{get_elem?}
 use Rattle.rowex_core.specs.declared.known.View.TheVariants.{Dealer}

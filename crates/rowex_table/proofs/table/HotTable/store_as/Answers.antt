@@ -1,5 +1,5 @@
 -- A step as an event.
-use Rattle.std.proofs.Common.{rules, ◌≡◌, ◌<◌, refl, sym, ap, ◌∙◌, subst}
+use Rattle.std.proofs.Common.{rules, ◌≡◌, ◌<◌, refl, sym, ap, ◌∙◌}
 use Rattle.record_words.specs.Layout.{address, word_count}
 use Rattle.record_words.proofs.Locations.{address-below}
 use Rattle.rowex_core.specs.Events.{location_of}

@@ -1,0 +1,55 @@
+-- What loading the pins in turn comes to: the bound of a round.
+use Rattle.std.proofs.Common.{◌≡◌, ℕ, ◌+◌, ◌<◌, ◌≤◌, List, [], ◌∷◌, ◌++◌, Bool, true, false, min, nat_eq, if◌then◌else◌, Option, Some, None, refl, sym, ap, subst, ◌∙◌, arith, add-one, eq-eqb, ⊎_elim}
+use Rattle.std.proofs.lemmas.Bool.{cases_lt}
+use Rattle.record_words.specs.declared.layout.Layout.{Layout}
+use Rattle.moments.specs.declared.Pin.{Pin}
+use Rattle.moments.specs.declared.Round.{Round}
+use Rattle.moments.specs.Core.{has_seen}
+use Rattle.moments.specs.Steps.{lowered}
+use Rattle.rowex_core.specs.declared.event.Act.TheVariants.{LoadEpoch, LoadPin}
+use Rattle.rowex_core.specs.declared.known.Known.{Known}
+use Rattle.rowex_core.specs.Words.{pin_word}
+use Rattle.rowex_core.specs.Knowing.{IsEvent}
+use Rattle.epochs.specs.Runs.{silent}
+use Rattle.epochs.specs.Rounds.{HasBound, FindsBound}
+use Rattle.epochs.proofs.Doing.{does_one, does_append}
+
+pub finds_none : (layout : Layout) (epoch : ℕ) (k j : Known) → IsEvent layout (LoadEpoch epoch) silent k j → FindsBound layout 0 k j
+finds_none layout epoch k j e = (epoch, [], refl, does_one layout (LoadEpoch epoch) k j tt e)
+
+pub finds_more : (layout : Layout) (n word : ℕ) (k i j : Known) → FindsBound layout n k i → IsEvent layout (LoadPin n word) silent i j → FindsBound layout (n + 1) k j
+finds_more layout n word k i j finds e = subst (λ m. FindsBound layout m k j) (sym (add-one n)) (
+  finds.0,
+  finds.1 ++ LoadPin n word ∷ [],
+  (finds.1, LoadPin n word ∷ [], finds.2, (word, refl), refl),
+  does_append layout (LoadEpoch finds.0 ∷ finds.1) (LoadPin n word ∷ []) k i j finds.3 (does_one layout (LoadPin n word) i j tt e),
+)
+
+pub bound_none : (layout : Layout) (epoch : ℕ) (k j : Known) → IsEvent layout (LoadEpoch epoch) silent k j → HasBound 0 epoch j
+bound_none layout epoch k j e = record {
+  least = ap (λ (z : Known). z.round.bound) e.learned_is ∙ sym e.legal.1;
+  seen = λ o low. absurd (omega arith);
+}
+
+lowered_is : (b c w : ℕ) (p : Option Pin) → w ≡ pin_word p → ((x : Pin) → p ≡ Some x → 1 ≤ x.word) → (w ≡ 0 → c ≡ b) → (1 ≤ w → c ≡ min b w) → lowered b p ≡ c
+lowered_is b c w None is low none some = sym (none is)
+lowered_is b c w (Some x) is low none some = ap (λ z. min b z) (sym is) ∙ sym (some (subst (λ z. 1 ≤ z) (sym is) (low x refl)))
+
+seen_more : (n : ℕ) (seen : List ℕ) → ((o : ℕ) → o < n → has_seen seen o ≡ true) → (o : ℕ) → o < n + 1 → has_seen (n ∷ seen) o ≡ true
+seen_more n seen before o low = ⊎_elim
+    (λ (h : o < n). either (nat_eq o n) (before o h))
+    (λ (h : n ≤ o). let same : o ≡ n = omega arith in ap (λ b. if b then true else has_seen seen o) (eq-eqb o n same))
+    (cases_lt o n)
+  where
+    either : (b : Bool) → has_seen seen o ≡ true → (if b then true else has_seen seen o) ≡ true
+    either true e = refl
+    either false e = e
+
+-- one more pin, which lowers the bound unless it is 0
+pub bound_more : (layout : Layout) (n b c word : ℕ) (i j : Known) → HasBound n b i → IsEvent layout (LoadPin n word) silent i j → (word ≡ 0 → c ≡ b) → (1 ≤ word → c ≡ min b word) → HasBound (n + 1) c j
+bound_more layout n b c word i j has e none some =
+    let round = ap (λ (z : Known). z.round) e.learned_is in
+    record {
+      least = ap (λ (z : Round). z.bound) round ∙ (ap (λ z. lowered z (e.core.pins n)) has.least ∙ lowered_is b c word (e.core.pins n) e.legal.1.1 (λ x is. (e.lawful.epochs.pinned n x is).1) none some);
+      seen = λ o low. ap (λ (z : Round). has_seen z.seen o) round ∙ seen_more n i.round.seen has.seen o low;
+    }

@@ -1,0 +1,6 @@
+pub mod Advancing
+pub mod Bounding
+pub mod Doing
+pub mod Reaching
+pub mod Visiting
+pub mod Whole

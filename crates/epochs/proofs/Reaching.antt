@@ -1,0 +1,56 @@
+-- What pinned passes can reach is neither free nor held.
+use Rattle.std.proofs.Common.{◌≡◌, ℕ, ◌<◌, ◌≤◌, true, nat_eq, if◌then◌else◌, Option, Some, None, refl, sym, ap, subst, ◌∙◌, arith, eq-eqb}
+use Rattle.record_words.specs.declared.state.Tag.TheVariants.{Obsolete}
+use Rattle.record_words.specs.State.{state_word}
+use Rattle.moments.specs.declared.Rec.{Rec}
+use Rattle.moments.specs.declared.Pin.{Pin}
+use Rattle.moments.specs.State.{Past, Stands}
+use Rattle.moments.specs.Core.{Fate, Free, Held, Ready as ReadyBy, InTree, Unlinked, Marked}
+use Rattle.moments.proofs.Legal.{same_rec_refl}
+use Rattle.rowex_core.specs.declared.event.Act.TheVariants.{GiveBack}
+use Rattle.rowex_core.specs.Cores.{Core, IsLawful}
+use Rattle.rowex_core.specs.Words.{tag_of, lock_tag, lock_of}
+use Rattle.rowex_core.specs.Events.{after, given_back}
+use Rattle.rowex_core.proofs.Promises.{in_reach}
+use Rattle.rowex_core.proofs.Staying.{stays_lawful}
+use Rattle.epochs.specs.Reach.{IsReachKept}
+use Rattle.epochs.specs.Statements.{ReachIsKept, GivenIsOutOfReach}
+
+kept_in : (c : Core) → IsLawful c → IsReachKept c
+kept_in c lawful r h = let kept = in_reach c lawful h.0 h.1 h.4 h.2 r h.3 h.5 h.6 h.7 in (kept.0, kept.1)
+
+pub reach_is_kept : ReachIsKept
+reach_is_kept layout act said k j event = (kept_in event.core event.lawful, kept_in (after event.core k.pass act) (stays_lawful event.core k.pass act event.lawful event.legal))
+
+-- an exchange that found the state that it expected makes the record free, and changes no pin and no moment
+
+unlocked_below : (o : Option ℕ) → state_word (lock_tag o) < 4
+unlocked_below None = omega arith
+unlocked_below (Some q) = omega arith
+
+freed : (c : Core) (r : Rec) (epoch : ℕ) (o : Option ℕ) (f : Fate) → state_word (Obsolete epoch) ≡ state_word (tag_of o f)
+    → ((given_back c r epoch f).fate r ≡ Free) × ((given_back c r epoch f).pins ≡ c.pins) × ((given_back c r epoch f).past ≡ c.past)
+freed c r epoch o Free is = absurd (omega arith)
+freed c r epoch o (Held q) is = absurd (omega arith)
+freed c r epoch o (ReadyBy q) is = absurd (let low = unlocked_below o in omega arith)
+freed c r epoch o (InTree since) is = absurd (let low = unlocked_below o in omega arith)
+freed c r epoch o (Unlinked since last q) is = absurd (let low = unlocked_below o in omega arith)
+freed c r epoch o (Marked since last s) is =
+    let same : s ≡ epoch = omega arith in
+    let yes : nat_eq s epoch ≡ true = eq-eqb s epoch same in
+    rw yes (ap (λ b. if b then Free else c.fate r) (same_rec_refl r), refl, refl)
+
+pub given_is_out_of_reach : GivenIsOutOfReach
+given_is_out_of_reach layout r epoch said k j event h =
+    let c : Core = event.core in
+    let free = freed c r epoch (lock_of c r) (c.fate r) event.legal.1.1 in
+    ((reach_is_kept layout (GiveBack r epoch (state_word (Obsolete epoch))) said k j event).1 r (
+      h.0,
+      h.1,
+      h.2,
+      h.3,
+      ap (λ (pins : ℕ → Option Pin). pins h.0) free.1 ∙ h.4,
+      h.5,
+      subst (λ (past : Past). h.2 ≤ past.now) (sym free.2) h.6,
+      subst (λ (past : Past). Stands past h.2 r h.3) (sym free.2) h.7,
+    )).0 free.0

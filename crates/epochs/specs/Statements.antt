@@ -1,0 +1,23 @@
+-- The laws of epochs.
+use Rattle.std.specs.Prelude.{ℕ, List}
+use Rattle.hot_model.specs.declared.Note.{Note}
+use Rattle.record_words.specs.declared.layout.Layout.{Layout}
+use Rattle.record_words.specs.declared.state.Tag.TheVariants.{Obsolete}
+use Rattle.record_words.specs.State.{state_word}
+use Rattle.moments.specs.declared.Rec.{Rec}
+use Rattle.rowex_core.specs.declared.event.Act.{Act}
+use Rattle.rowex_core.specs.declared.event.Act.TheVariants.{GiveBack}
+use Rattle.rowex_core.specs.declared.known.Known.{Known}
+use Rattle.rowex_core.specs.Events.{after}
+use Rattle.rowex_core.specs.Knowing.{IsEvent}
+use Rattle.epochs.specs.Reach.{IsInReach, IsReachKept}
+
+-- before and after each step of any pass, no record of a pinned pass's reach is free or held
+abbrev pub ReachIsKept : Type 0
+ReachIsKept = (layout : Layout) (act : Act) (said : Known → List Note) (k j : Known) (event : IsEvent layout act said k j) → IsReachKept event.core × IsReachKept (after event.core k.pass act)
+
+-- a record that an exchange gives back is in no pinned pass's reach then
+abbrev pub GivenIsOutOfReach : Type 0
+GivenIsOutOfReach =
+    (layout : Layout) (r : Rec) (epoch : ℕ) (said : Known → List Note) (k j : Known) (event : IsEvent layout (GiveBack r epoch (state_word (Obsolete epoch))) said k j) →
+    ¬ IsInReach event.core r

@@ -1,0 +1,195 @@
+//! The steps of pins and rounds on small tables, as a gate is told them.
+
+ghost use Rattle.std.specs.Prelude.{◌≡◌, All, IfOk};
+ghost use Rattle.rowex_table.specs.Rule.{opening_of};
+ghost use Rattle.rowex_table.specs.Seats.{Fits, known};
+
+use super::*;
+use record_words::Layout;
+use rowex_core::{Act, Event, Gate, Rec};
+use rowex_table::{HotTable, TableSeat};
+use std::alloc::Global;
+use std::test::*;
+use std::thread::map_vec;
+
+/// Writes down the events that it is told.
+#[derive(Drop)]
+struct Recorder {
+    events: Vec<Event>,
+}
+
+impl Gate for Recorder {
+    fn at(&mut self, event: &Event) {
+        let _ = self.events.push(*event);
+    }
+}
+
+impl Recorder {
+    /// Whether it was told these acts of this pass, and nothing else, since the last call.
+    fn was_told(&mut self, pass: u16, acts: &[Act]) -> bool {
+        let is_same = self.events.len() == acts.len()
+            && self
+                .events
+                .iter()
+                .zip(acts.iter())
+                .all(|(event, act)| event.pass == pass && event.act == *act);
+        self.events.clear();
+        is_same
+    }
+}
+
+/// Counts the steps that made the epoch the next one.
+#[derive(Drop)]
+struct AdvanceCount {
+    count: u64,
+}
+
+impl Gate for AdvanceCount {
+    fn at(&mut self, event: &Event) {
+        if let Act::Advance { expected, found } = event.act {
+            if found == expected {
+                self.count = self.count.wrapping_add(1);
+            }
+        }
+    }
+}
+
+/// A table of so many passes and records, and the seats of its passes.
+fn table_of(
+    alloc: Global,
+    passes: u32,
+    nodes: u32,
+    leaves: u32,
+) -> Result<(HotTable, Vec<TableSeat>), Fail>
+    ensures leaves { IfOk result (λ made. made.0.layout.leaves ≡ leaves) }
+    ensures seats { IfOk result (λ made. All (λ s. Fits made.0 s × (known s ≡ opening_of s.pass)) made.1.items) }
+{
+    let layout = Layout::of(passes, nodes, leaves).ok().ok_or("a layout")?;
+    Ok(HotTable::new(alloc, layout)?)
+}
+
+/// The last of the seats that are left.
+fn last_seat(table: &HotTable, seats: &mut Vec<TableSeat>) -> Result<TableSeat, Fail>
+    requires { All (λ s. Fits table.now s × (known s ≡ opening_of s.pass)) seats.old.items }
+    ensures rest { All (λ s. Fits table.now s × (known s ≡ opening_of s.pass)) seats.new.items }
+    ensures last { IfOk result (λ s. Fits table.now s × (known s ≡ opening_of s.pass)) }
+{
+    let _ = table;
+    Ok(seats.pop().ok_or("a seat")?)
+}
+
+#[test]
+fn pins_and_rounds_on_a_new_table(rt: HostRuntime) -> Result<(), Fail> {
+    let (table, mut seats) = table_of(rt.alloc(), 2, 8, 8)?;
+    let mut second = last_seat(&table, &mut seats)?;
+    let mut first = last_seat(&table, &mut seats)?;
+    pin(&table, &mut second);
+    let given = collect_round(&table, &mut first);
+    assert_eq!(rt;
+        given,
+        Given {
+            nodes: 0,
+            leaves: 0
+        }
+    );
+    unpin(&table, &mut second);
+    let given = collect_round(&table, &mut second);
+    assert_eq!(rt;
+        given,
+        Given {
+            nodes: 0,
+            leaves: 0
+        }
+    );
+    Ok(())
+}
+
+#[test]
+fn a_round_leaves_held_records(rt: HostRuntime) -> Result<(), Fail> {
+    let (table, mut seats) = table_of(rt.alloc(), 2, 1, 2)?;
+    let mut second = last_seat(&table, &mut seats)?;
+    let mut first = last_seat(&table, &mut seats)?;
+    assert_eq!(rt; table.claim(&mut first, Rec::Leaf(1)), 0);
+    let given = collect_round(&table, &mut second);
+    assert_eq!(rt;
+        given,
+        Given {
+            nodes: 0,
+            leaves: 0
+        }
+    );
+    assert_eq!(rt; table.load_state(&mut first, Rec::Leaf(1)), 1);
+    Ok(())
+}
+
+/// The acts of a round that finds this epoch and this pin of pass 1, at two passes, a free node and two free leaves.
+fn acts_of_round(epoch: u64, next: u64, pin: u64) -> [Act; 8] {
+    let state = |rec: Rec| Act::LoadState { rec, word: 0 };
+    [
+        Act::LoadEpoch { word: epoch },
+        Act::Advance {
+            expected: epoch,
+            found: epoch,
+        },
+        Act::LoadEpoch { word: next },
+        Act::LoadPin { of: 0, word: 0 },
+        Act::LoadPin { of: 1, word: pin },
+        state(Rec::Node(0)),
+        state(Rec::Leaf(0)),
+        state(Rec::Leaf(1)),
+    ]
+}
+
+#[test]
+fn events_of_pins_and_rounds(rt: HostRuntime) -> Result<(), Fail> {
+    let (table, mut seats) = table_of(rt.alloc(), 2, 1, 2)?;
+    let mut second = last_seat(&table, &mut seats)?;
+    let mut first = last_seat(&table, &mut seats)?;
+    let mut gate = Recorder {
+        events: Vec::new(rt.alloc()),
+    };
+    pin_with(&table, &mut second, &mut gate);
+    let pinning = [Act::LoadEpoch { word: 1 }, Act::SetPin { word: 1 }];
+    assert!(rt; gate.was_told(1, &pinning));
+    collect_round_with(&table, &mut first, &mut gate);
+    assert!(rt; gate.was_told(0, &acts_of_round(1, 2, 1)));
+    unpin_with(&table, &mut second, &mut gate);
+    assert!(rt; gate.was_told(1, &[Act::ClearPin]));
+    collect_round_with(&table, &mut second, &mut gate);
+    assert!(rt; gate.was_told(1, &acts_of_round(2, 3, 0)));
+    Ok(())
+}
+
+/// Pins, unpins and collects a hundred times; answers how often that made the epoch the next one.
+fn work(table: &HotTable, mut seat: TableSeat) -> u64
+    requires { Fits table.now seat × (known seat ≡ opening_of seat.pass) }
+{
+    let mut gate = AdvanceCount { count: 0 };
+    for _round in 0..100u32 {
+        pin(table, &mut seat);
+        unpin(table, &mut seat);
+        collect_round_with(table, &mut seat, &mut gate);
+    }
+    gate.count
+}
+
+#[test]
+fn rounds_of_four_threads_advance_the_epoch(rt: HostRuntime) -> Result<(), Fail> {
+    let (table, mut seats) = table_of(rt.alloc(), 5, 2, 2)?;
+    let mut last = last_seat(&table, &mut seats)?;
+    let work = |seat: TableSeat| -> u64
+        requires { Fits table seat × (known seat ≡ opening_of seat.pass) }
+    { work(&table, seat) };
+    let mut epoch = 1u64;
+    for advances in map_vec(&rt, seats, &work)? {
+        epoch = epoch.wrapping_add(advances);
+    }
+    let mut gate = Recorder {
+        events: Vec::new(rt.alloc()),
+    };
+    pin_with(&table, &mut last, &mut gate);
+    assert!(rt; epoch > 100);
+    let act = gate.events.first().map(|event| event.act);
+    assert!(rt; act == Some(Act::LoadEpoch { word: epoch }));
+    Ok(())
+}

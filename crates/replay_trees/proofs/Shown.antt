@@ -1,0 +1,193 @@
+-- The parts of a lawful tree: of a leaf, of a node, of a fork.
+use Rattle.std.proofs.Common.{◌≡◌, ◌⊎◌, inl, inr, ℕ, ◌+◌, ◌*◌, ◌<◌, ◌≤◌, List, [], length, get_or, refl, ap, sym, ◌∙◌, subst, arith}
+use Rattle.std.specs.Prelude.{All}
+use Rattle.key_bits.specs.declared.TheConstants.{MAX_BYTES}
+use Rattle.pieces.specs.Piece.{Place, Fork, places}
+use Rattle.pieces.proofs.Paths.{length-places}
+use Rattle.partial_keys.specs.Shows.{Shows}
+use Rattle.compound_node.specs.Nodes.{NodeView, head_of, piece, height_of, IsLawful}
+use Rattle.compound_node.specs.declared.entries.Entry.TheVariants.{Leaf, Node}
+use Rattle.record_words.specs.Node.{HasNodeWords, node_words}
+use Rattle.tries.specs.Keys.{IsParted}
+use Rattle.tries.specs.Tree.{Page, Tree, leaf, node, fork, page, first_position, IsFork, IsLower, IsFit}
+use Rattle.tries.specs.Content.{IsAbove, first}
+use Rattle.moments.specs.declared.Rec.{Rec}
+use Rattle.moments.specs.declared.Rec.TheVariants.{Node as a_node, Leaf as a_leaf}
+use Rattle.moments.specs.Heap.{NodeWords}
+use Rattle.moments.specs.State.{Links}
+use Rattle.moments.proofs.Heaps.{determined}
+use Rattle.rowex_core.specs.Reading.{node_of, leaf_of, IsPacked}
+use Rattle.rowex_core.specs.Cores.{heap_of}
+use Rattle.rowex_core.proofs.Reading.{node_is, leaf_is}
+use Rattle.replay_trees.proofs.Lists.{all_parts}
+use Rattle.replay_trees.proofs.Small.{leaf_small, node_small}
+use Rattle.replay_trees.specs.Moments.{AreWordsOf, IsSpelled}
+use Rattle.replay_trees.specs.Parts.{IsForkedFrom, IsPart, IsLeafAt, IsNodeOf}
+
+-- Where a first fork stands
+above_from : (p : ℕ) (t : Tree) → IsForkedFrom (p + 1) t → IsAbove p t
+above_from p (leaf n k v) h = tt
+above_from p (node n x b) h = above_from p b h
+above_from p (fork q a b) h = omega (arith, h)
+
+from_above : (p : ℕ) (t : Tree) → IsAbove p t → IsForkedFrom (p + 1) t
+from_above p (leaf n k v) h = tt
+from_above p (node n x b) h = from_above p b h
+from_above p (fork q a b) h = omega (arith, h)
+
+pub from_start : (t : Tree) → IsForkedFrom 0 t
+from_start (leaf n k v) = tt
+from_start (node n x b) = from_start b
+from_start (fork q a b) = omega arith
+
+-- The entries of a body are lower where its places are
+lower_from : (h : ℕ) (b : Tree) → All (λ e. height_of e < h) (places (page b)) → IsLower h b
+lower_from h (leaf n k v) a = a 0 (Leaf 0) (omega arith)
+lower_from h (node n x b) a = a 0 (Leaf 0) (omega arith)
+lower_from h (fork p x y) a = let s = all_parts (λ e. height_of e < h) (places (page x)) (places (page y)) a in (lower_from h x s.0, lower_from h y s.1)
+
+module _ (nodes leaves : List (List ℕ)) (words : Rec → List ℕ) (are : AreWordsOf nodes leaves words) where
+  -- Leaves
+
+  leaf_packed : (n : ℕ) (pair : List ℕ × ℕ) → IsLeafAt leaves n pair → IsPacked (a_leaf n) (words (a_leaf n))
+  unfolding IsPacked
+  leaf_packed n pair at = (pair, at.has, at.spelling ∙ sym (are.leaves_are n at.in_table))
+
+  pub leaf_part : (least n : ℕ) (pair : List ℕ × ℕ) → IsLeafAt leaves n pair → IsPart nodes leaves words least (Place (Leaf n)) (leaf n pair.0 pair.1)
+  leaf_part least n pair at = record {
+    page_is = refl;
+    shown = ap leaf_of (are.leaves_are n at.in_table) ∙ leaf_is pair (get_or leaves n []) (leaf_small pair (get_or leaves n []) at.has at.spelling) at.has at.spelling;
+    local = at.has.key;
+    built = tt;
+    from = tt;
+    spelled = λ r e. subst (IsSpelled nodes leaves words) (sym e) (at.in_table, leaf_packed n pair at);
+  }
+
+  same_number : {n o : ℕ} → Place (Leaf n) ≡ Place (Leaf o) → n ≡ o
+  same_number e = cc
+
+  leaf_spelled : (n : ℕ) → IsSpelled nodes leaves words (a_leaf n) → (pair : List ℕ × ℕ) × IsLeafAt leaves n pair
+  unfolding IsPacked
+  leaf_spelled n s = (s.1.0, record { in_table = s.0; has = s.1.1; spelling = s.1.2 ∙ are.leaves_are n s.0 })
+
+  pub no_leaf : (least n : ℕ) (t : Tree) → ((pair : List ℕ × ℕ) → ¬ (IsLeafAt leaves n pair)) → ¬ (IsPart nodes leaves words least (Place (Leaf n)) t)
+  no_leaf least n (leaf o k v) none part =
+      let e : o ≡ n = same_number part.page_is in
+      let found = leaf_spelled n (subst (λ z. IsSpelled nodes leaves words (a_leaf z)) e (part.spelled (a_leaf o) refl)) in
+      none found.0 found.1
+  no_leaf least n (node o x b) none part = let e = part.page_is in absurd cc
+  no_leaf least n (fork p a b) none part = let e = part.page_is in absurd cc
+
+  -- Nodes
+
+  node_packed : (n h : ℕ) (view : NodeView) → IsNodeOf nodes n h view → IsPacked (a_node n) (words (a_node n))
+  unfolding IsPacked
+  node_packed n h view at = (view, at.has, at.spelling ∙ sym (are.nodes_are n at.in_table))
+
+  words_are : (n : ℕ) (view : NodeView) → n < length nodes → HasNodeWords view → node_words view ≡ get_or nodes n [] →
+      node_of (words (a_node n)) ≡ record { fixed = head_of view; page = piece view }
+  words_are n view in_table has spelling = ap node_of (are.nodes_are n in_table) ∙ node_is view (get_or nodes n []) (node_small view has (get_or nodes n []) spelling) has spelling
+
+  fit_of : (view : NodeView) (b : Tree) → IsLawful view → page b ≡ piece view → view.height + first_position (piece view) ≤ 9 * MAX_BYTES → IsFit (head_of view) (page b)
+  fit_of view b lawful e bound = subst (IsFit (head_of view)) (sym e) (record {
+    positions = lawful.positions;
+    shows = subst (λ u. Shows view.columns view.rows u (piece view)) lawful.shows.entries_are lawful.shows;
+    room = let l = length-places (piece view) in let s = ap length lawful.shows.entries_are in omega (arith, lawful.room);
+    bound = bound;
+  })
+
+  pub node_part : (least n h : ℕ) (view : NodeView) (b : Tree) → IsNodeOf nodes n h view → h + first_position (piece view) ≤ 9 * MAX_BYTES → IsFork b →
+      IsPart nodes leaves words least (piece view) b → IsPart nodes leaves words least (Place (Node n h)) (node n (head_of view) b)
+  node_part least n h view b at bound two part = record {
+    page_is = ap (λ z. Place (Node n z)) at.height_is;
+    shown = (words_are n view at.in_table at.has at.spelling ∙ ap (λ z. let w : NodeWords = record { fixed = head_of view; page = z } in w) (sym part.page_is), part.shown);
+    local = part.local;
+    built = (
+      two,
+      lower_from view.height b (subst (All (λ e. height_of e < view.height)) (at.has.lawful.shows.entries_are ∙ ap places (sym part.page_is)) at.has.lawful.above),
+      part.built,
+      fit_of view b at.has.lawful part.page_is (subst (λ z. z + first_position (piece view) ≤ 9 * MAX_BYTES) (sym at.height_is) bound),
+    );
+    from = part.from;
+    spelled = of;
+  }
+    where
+      of : (r : Rec) → (r ≡ a_node n) ⊎ Links b r → IsSpelled nodes leaves words r
+      of r (inl e) = subst (IsSpelled nodes leaves words) (sym e) (at.in_table, node_packed n h view at)
+      of r (inr l) = part.spelled r l
+
+  node_number : {n o h i : ℕ} → Place (Node n h) ≡ Place (Node o i) → (n ≡ o) × (h ≡ i)
+  node_number e = (cc, cc)
+
+  node_spelled : (n : ℕ) → IsSpelled nodes leaves words (a_node n) → (view : NodeView) × (n < length nodes) × HasNodeWords view × (node_words view ≡ get_or nodes n [])
+  unfolding IsPacked
+  node_spelled n s = (s.1.0, s.0, s.1.1, s.1.2 ∙ are.nodes_are n s.0)
+
+  pub no_node : (least n h : ℕ) (t : Tree) → ((view : NodeView) → ¬ (IsNodeOf nodes n h view)) → ¬ (IsPart nodes leaves words least (Place (Node n h)) t)
+  no_node least n h (leaf o k v) none part = let e = part.page_is in absurd cc
+  no_node least n h (fork p a b) none part = let e = part.page_is in absurd cc
+  no_node least n h (node o x b) none part =
+      let e = node_number part.page_is in
+      let s = node_spelled n (subst (λ z. IsSpelled nodes leaves words (a_node z)) e.0 (part.spelled (a_node o) (inl refl))) in
+      let w : record { fixed = x; page = page b } ≡ record { fixed = head_of s.0; page = piece s.0 } = sym part.shown.0 ∙ (ap (λ z. node_of (words (a_node z))) e.0 ∙ words_are n s.0 s.1 s.2 s.3) in
+      none s.0 (record { in_table = s.1; has = s.2; spelling = s.3; height_is = sym (ap (λ (z : NodeWords). z.fixed.height) w) ∙ e.1 })
+
+  pub node_back : (least n h : ℕ) (view : NodeView) (t : Tree) → IsNodeOf nodes n h view → IsPart nodes leaves words least (Place (Node n h)) t →
+      (b : Tree) × IsPart nodes leaves words least (piece view) b × (h + first_position (piece view) ≤ 9 * MAX_BYTES)
+  node_back least n h view (leaf o k v) at part = let e = part.page_is in absurd cc
+  node_back least n h view (fork p a b) at part = let e = part.page_is in absurd cc
+  node_back least n h view (node o x b) at part =
+      let e = node_number part.page_is in
+      let w : record { fixed = x; page = page b } ≡ record { fixed = head_of view; page = piece view } = sym part.shown.0 ∙ (ap (λ z. node_of (words (a_node z))) e.0 ∙ words_are n view at.in_table at.has at.spelling) in
+      let p : page b ≡ piece view = ap (λ (z : NodeWords). z.page) w in (
+        b,
+        record { page_is = p; shown = part.shown.1; local = part.local; built = part.built.2; from = part.from; spelled = λ r l. part.spelled r (inr l) },
+        subst (λ z. z + first_position (piece view) ≤ 9 * MAX_BYTES) e.1 (subst (λ z. x.height + first_position z ≤ 9 * MAX_BYTES) p part.built.3.bound),
+      )
+
+  -- Forks
+
+  pub fork_part : (least p : ℕ) (x y : Page) (a b : Tree) → least ≤ p → IsPart nodes leaves words (p + 1) x a → IsPart nodes leaves words (p + 1) y b → IsParted p (first a) (first b) →
+      IsPart nodes leaves words least (Fork p x y) (fork p a b)
+  fork_part least p x y a b low zero one parted = record {
+    page_is = let e = zero.page_is in let f = one.page_is in cc;
+    shown = (zero.shown, one.shown);
+    local = (zero.local, one.local, above_from p a zero.from, above_from p b one.from, parted);
+    built = (zero.built, one.built);
+    from = low;
+    spelled = of;
+  }
+    where
+      of : (r : Rec) → Links a r ⊎ Links b r → IsSpelled nodes leaves words r
+      of r (inl l) = zero.spelled r l
+      of r (inr l) = one.spelled r l
+
+  -- What a lawful fork has.
+  pub record IsForkPart (least p : ℕ) (x y : Page) : Type 0 where
+    pub low : least ≤ p
+    pub zero : Tree
+    pub zero_part : IsPart nodes leaves words (p + 1) x zero
+    pub one : Tree
+    pub one_part : IsPart nodes leaves words (p + 1) y one
+    pub parted : IsParted p (first zero) (first one)
+
+  fork_parts : {p q : ℕ} {a b x y : Page} → Fork p a b ≡ Fork q x y → (p ≡ q) × (a ≡ x) × (b ≡ y)
+  fork_parts e = (cc, cc, cc)
+
+  pub fork_back : (least p : ℕ) (x y : Page) (t : Tree) → IsPart nodes leaves words least (Fork p x y) t → IsForkPart least p x y
+  fork_back least p x y (leaf o k v) part = let e = part.page_is in absurd cc
+  fork_back least p x y (node o z b) part = let e = part.page_is in absurd cc
+  fork_back least p x y (fork q a b) part =
+      let e = fork_parts part.page_is in
+      record {
+        low = subst (λ z. least ≤ z) e.0 part.from;
+        zero = a;
+        zero_part = record { page_is = e.1; shown = part.shown.0; local = part.local.0; built = part.built.0; from = subst (λ z. IsForkedFrom (z + 1) a) e.0 (from_above q a part.local.2); spelled = λ r l. part.spelled r (inl l) };
+        one = b;
+        one_part = record { page_is = e.2; shown = part.shown.1; local = part.local.1; built = part.built.1; from = subst (λ z. IsForkedFrom (z + 1) b) e.0 (from_above q b part.local.3); spelled = λ r l. part.spelled r (inr l) };
+        parted = subst (λ z. IsParted z (first a) (first b)) e.0 part.local.4;
+      }
+
+  -- A page shows one tree.
+  pub one_tree : (least least' : ℕ) (p : Page) (s t : Tree) → IsPart nodes leaves words least p s → IsPart nodes leaves words least' p t → s ≡ t
+  one_tree least least' p s t i j = determined (heap_of words) s t i.shown j.shown (i.page_is ∙ sym j.page_is)

@@ -1,0 +1,6 @@
+-- The law leaves_are_one.
+use Rattle.replay_trees.proofs.Leaves.{leaves_are_one}
+use Rattle.replay_trees.proofs.laws.leaves_are_one.Goals as goal
+
+pub returns : goal.returns
+returns c = leaves_are_one

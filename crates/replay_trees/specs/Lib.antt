@@ -1,0 +1,4 @@
+pub mod Moments
+pub mod Parts
+pub mod Changed
+pub mod Statements

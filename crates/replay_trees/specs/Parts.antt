@@ -1,0 +1,92 @@
+-- The parts of a lawful tree, and what reading one leaves.
+use Rattle.std.specs.Prelude.{◌≡◌, ◌⊎◌, ◌↔◌, ℕ, ◌<◌, ◌≤◌, List, [], ◌∷◌, ◌++◌, length, map, slice_index_or, slice_set, Option, Some, None, Bool, true, false}
+use Rattle.compound_node.specs.Nodes.{NodeView}
+use Rattle.compound_node.specs.Halves.{CutShows, HalfShows}
+use Rattle.compound_node.specs.declared.entries.Entry.{Entry}
+use Rattle.compound_node.specs.declared.halves.Cut.{Cut}
+use Rattle.compound_node.specs.declared.halves.Half.{Half}
+use Rattle.pieces.specs.Piece.{Place}
+use Rattle.record_words.specs.Node.{HasNodeWords, node_words}
+use Rattle.record_words.specs.Leaf.{HasLeafWords, leaf_words}
+use Rattle.tries.specs.Tree.{Page, Tree, leaf, node, fork, page, IsBuilt}
+use Rattle.tries.specs.Content.{items, IsLocal}
+use Rattle.moments.specs.declared.Rec.{Rec}
+use Rattle.moments.specs.declared.Rec.TheVariants.{Node as a_node, Leaf as a_leaf}
+use Rattle.moments.specs.Heap.{IsShown}
+use Rattle.moments.specs.State.{Links}
+use Rattle.rowex_core.specs.Cores.{heap_of}
+use Rattle.replay_trees.specs.declared.trees.Linked.{Linked}
+use Rattle.replay_trees.specs.Moments.{AreWordsOf, IsSpelled, item_of}
+
+-- the tree's first fork is at `least` or later; a leaf has none
+abbrev pub IsForkedFrom : ℕ → Tree → Type 0
+IsForkedFrom least (leaf n k v) = Unit {0}
+IsForkedFrom least (node n x b) = IsForkedFrom least b
+IsForkedFrom least (fork p a b) = least ≤ p
+
+-- The words show a lawful tree for the page, of records of the table that spell values.
+pub record IsPart (nodes leaves : List (List ℕ)) (words : Rec → List ℕ) (least : ℕ) (p : Page) (t : Tree) : Type 0 where
+  pub page_is : page t ≡ p
+  pub shown : IsShown (heap_of words) t
+  pub local : IsLocal t
+  pub built : IsBuilt t
+  pub from : IsForkedFrom least t
+  pub spelled : (r : Rec) → Links t r → IsSpelled nodes leaves words r
+
+-- there is a mark for each record of the table
+pub record HasRoom (nodes leaves : List (List ℕ)) (linked : Linked) : Type 0 where
+  pub all_nodes : length linked.nodes.items ≡ length nodes
+  pub all_leaves : length linked.leaves.items ≡ length leaves
+
+-- What is told grows by what a tree links.
+pub record IsGrown (t : Tree) (old new : Linked) : Type 0 where
+  pub items_are : map item_of new.items.items ≡ map item_of old.items.items ++ items t
+  pub nodes_are : (n : ℕ) → (slice_index_or new.nodes.items n false ≡ true) ↔ ((slice_index_or old.nodes.items n false ≡ true) ⊎ Links t (a_node n))
+  pub leaves_are : (n : ℕ) → (slice_index_or new.leaves.items n false ≡ true) ↔ ((slice_index_or old.leaves.items n false ≡ true) ⊎ Links t (a_leaf n))
+
+-- A part was read exactly where the words show one.
+abbrev pub IsPartRead : List (List ℕ) → List (List ℕ) → (Rec → List ℕ) → ℕ → Page → Bool → Linked → Linked → Type 0
+IsPartRead nodes leaves words least p true old new = (t : Tree) × IsPart nodes leaves words least p t × IsGrown t old new
+IsPartRead nodes leaves words least p false old new = (t : Tree) → ¬ (IsPart nodes leaves words least p t)
+
+-- So it is for all words that the records of the table may be part of: of an entry, of a half, of a cut.
+abbrev pub IsEntryRead : List (List ℕ) → List (List ℕ) → ℕ → Entry → Bool → Linked → Linked → Type 0
+IsEntryRead nodes leaves least e good old new = (words : Rec → List ℕ) → AreWordsOf nodes leaves words → IsPartRead nodes leaves words least (Place e) good old new
+
+abbrev pub IsHalfRead : List (List ℕ) → List (List ℕ) → ℕ → Half → Bool → Linked → Linked → Type 0
+IsHalfRead nodes leaves least half good old new =
+    (words : Rec → List ℕ) → AreWordsOf nodes leaves words → (p : Page) → HalfShows half p → IsPartRead nodes leaves words least p good old new
+
+abbrev pub IsCutRead : List (List ℕ) → List (List ℕ) → ℕ → Cut → Bool → Linked → Linked → Type 0
+IsCutRead nodes leaves least cut good old new =
+    (words : Rec → List ℕ) → AreWordsOf nodes leaves words → (p : Page) → CutShows cut p → IsPartRead nodes leaves words least p good old new
+
+-- one leaf more is told, or several
+abbrev pub IsLonger : Linked → Linked → Type 0
+IsLonger old new = length old.items.items < length new.items.items
+
+-- a record of the table whose words spell this leaf
+pub record IsLeafAt (leaves : List (List ℕ)) (n : ℕ) (pair : List ℕ × ℕ) : Type 0 where
+  pub in_table : n < length leaves
+  pub has : HasLeafWords pair
+  pub spelling : leaf_words pair ≡ slice_index_or leaves n []
+
+-- A leaf was added exactly where the record spells one.
+abbrev pub IsLeafTaken : List (List ℕ) → ℕ → Bool → Linked → Linked → Type 0
+IsLeafTaken leaves n true old new =
+    (pair : List ℕ × ℕ) × IsLeafAt leaves n pair ×
+    (new.items.items ≡ old.items.items ++ record { number = n; key = pair.0; value = pair.1 } ∷ []) ×
+    (new.nodes ≡ old.nodes) × (new.leaves.items ≡ slice_set old.leaves.items n true)
+IsLeafTaken leaves n false old new = ((pair : List ℕ × ℕ) → ¬ (IsLeafAt leaves n pair)) × (new ≡ old)
+
+-- a record of the table whose words spell this node, of this height
+pub record IsNodeOf (nodes : List (List ℕ)) (n height : ℕ) (view : NodeView) : Type 0 where
+  pub in_table : n < length nodes
+  pub has : HasNodeWords view
+  pub spelling : node_words view ≡ slice_index_or nodes n []
+  pub height_is : view.height ≡ height
+
+-- a node, exactly where the record spells one of the height
+abbrev pub IsNodeAt : List (List ℕ) → ℕ → ℕ → Option NodeView → Type 0
+IsNodeAt nodes n height None = (view : NodeView) → ¬ (IsNodeOf nodes n height view)
+IsNodeAt nodes n height (Some view) = IsNodeOf nodes n height view

@@ -1,0 +1,68 @@
+//! By which change one list of leaves became another.
+
+ghost use Rattle.std.specs.Prelude.{ℕ, ◌≡◌, ◌↔◌, ◌<◌, ◌≤◌, IsTrue, Some, None, if◌then◌else◌, length, map, slice_index};
+ghost use Rattle.replay_trees.specs.Moments.{item_of};
+ghost use Rattle.replay_trees.specs.Changed.{AreApart, AreSame, IsFound, IsMade, numbers};
+
+use crate::trees::Item;
+use hot_model::{Change, Kind};
+use std::cmp::Ordering;
+
+/// The change by which a pass made one list of leaves the other: one leaf more, or one less, or one in the place of
+/// another of its key; `None` exactly where it was no such change. The lists are in the order of the keys, and leaves
+/// of one number are one leaf.
+pub fn change_between(pass: u16, before: &[Item], after: &[Item]) -> Option<Change>
+    ensures { AreSame (map item_of before.now) (map item_of after.now) → IsFound pass (map item_of before.now) (map item_of after.now) result }
+{
+    let front = same_front(before, after);
+    change_at(pass, &before[front..], &after[front..])
+}
+
+/// As `change_between`, of lists whose first leaves are not the same.
+fn change_at(pass: u16, gone: &[Item], come: &[Item]) -> Option<Change>
+    requires { AreApart (map item_of gone.now) (map item_of come.now) }
+    ensures { AreSame (map item_of gone.now) (map item_of come.now) → IsFound pass (map item_of gone.now) (map item_of come.now) result }
+{
+    match (gone.split_first(), come.split_first()) {
+        (None, None) => None,
+        (None, Some((y, rest))) => made(pass, y, Kind::Added, gone, rest),
+        (Some((x, rest)), None) => made(pass, x, Kind::Removed, rest, come),
+        (Some((x, gone_rest)), Some((y, come_rest))) => match x.key.cmp(&y.key) {
+            Ordering::Less => made(pass, x, Kind::Removed, gone_rest, come),
+            Ordering::Equal => made(pass, y, Kind::Replaced, gone_rest, come_rest),
+            Ordering::Greater => made(pass, y, Kind::Added, gone, come_rest),
+        },
+    }
+}
+
+/// The change that a leaf tells, where the other leaves are the same before and after.
+fn made(pass: u16, item: &Item, kind: Kind, before: &[Item], after: &[Item]) -> Option<Change>
+    ensures { IsMade (map item_of before.now) (map item_of after.now) (record { pass = pass; key = item.now.key; value = item.now.value; kind = kind }) result }
+{
+    if before.len() == after.len() && same_front(before, after) == before.len() {
+        Some(Change {
+            pass,
+            key: item.key.copy(),
+            value: item.value,
+            kind,
+        })
+    } else {
+        None
+    }
+}
+
+/// How many leaves the lists have in common before they differ.
+fn same_front(before: &[Item], after: &[Item]) -> usize
+    ensures within { result ≤ length before.now }
+    ensures within_both { result ≤ length after.now }
+    ensures same { (k : ℕ) → k < result → slice_index (numbers (map item_of before.now)) k ≡ slice_index (numbers (map item_of after.now)) k }
+    ensures apart { result < length before.now → result < length after.now → slice_index (numbers (map item_of before.now)) result ≡ slice_index (numbers (map item_of after.now)) result → ⊥ }
+{
+    let common = before.len().min(after.len());
+    for i in 0..common {
+        if before[i].number != after[i].number {
+            return i;
+        }
+    }
+    common
+}

@@ -1,0 +1,131 @@
+//! Reading a part of a tree: below an entry, or below a fork of a node.
+
+ghost use Rattle.std.specs.Prelude.{IfOk, IsTrue, length, true, ◌≡◌, ◌↔◌};
+ghost use Rattle.tries.specs.Keys.{IsParted};
+ghost use Rattle.replay_trees.specs.Parts.{HasRoom, IsCutRead, IsEntryRead, IsHalfRead, IsLeafTaken, IsLonger, IsNodeAt};
+
+use crate::trees::{Item, Linked};
+use compound_node::{Cut, Entry, Half, Node};
+use key_bits::{Key, MAX_BYTES, mismatch};
+use record_words::{unpack_leaf, unpack_node};
+use std::alloc::AllocError;
+
+/// Reads what stands below an entry, and answers whether that is lawful, with no fork before position `least`. What it
+/// links is added to `linked`.
+#[cycle(reading)]
+pub(crate) fn read_entry(
+    nodes: &[[u64; 57]],
+    leaves: &[[u64; 32]],
+    least: u32,
+    entry: Entry,
+    linked: &mut Linked,
+) -> Result<bool, AllocError>
+    requires { HasRoom nodes.now leaves.now linked.old }
+    ensures room { IfOk result (λ good. HasRoom nodes.now leaves.now linked.new) }
+    ensures longer { IfOk result (λ good. good ≡ true → IsLonger linked.old linked.new) }
+    ensures read { IfOk result (λ good. IsEntryRead nodes.now leaves.now least entry good linked.old linked.new) }
+{
+    match entry {
+        Entry::Leaf(number) => take_leaf(leaves, number, linked),
+        Entry::Node { number, height } => {
+            let Some(node) = node_at(nodes, number, height) else {
+                return Ok(false);
+            };
+            let cut = node.cut();
+            if usize::from(height) + usize::from(cut.position) > 9 * MAX_BYTES {
+                return Ok(false);
+            }
+            linked.nodes[number as usize] = true;
+            read_cut(nodes, leaves, least, cut, linked)
+        }
+    }
+}
+
+/// As `read_entry`, of one side of a fork.
+#[cycle(reading)]
+fn read_half(
+    nodes: &[[u64; 57]],
+    leaves: &[[u64; 32]],
+    least: u32,
+    half: Half,
+    linked: &mut Linked,
+) -> Result<bool, AllocError>
+    requires { HasRoom nodes.now leaves.now linked.old }
+    ensures room { IfOk result (λ good. HasRoom nodes.now leaves.now linked.new) }
+    ensures longer { IfOk result (λ good. good ≡ true → IsLonger linked.old linked.new) }
+    ensures read { IfOk result (λ good. IsHalfRead nodes.now leaves.now least half good linked.old linked.new) }
+{
+    match half {
+        Half::One(entry) => read_entry(nodes, leaves, least, entry, linked),
+        Half::Many(node) => read_cut(nodes, leaves, least, node.cut(), linked),
+        Half::Same => Ok(false),
+    }
+}
+
+/// As `read_entry`, of a node's root fork and its two sides.
+#[cycle(reading)]
+fn read_cut(
+    nodes: &[[u64; 57]],
+    leaves: &[[u64; 32]],
+    least: u32,
+    cut: Cut,
+    linked: &mut Linked,
+) -> Result<bool, AllocError>
+    requires { HasRoom nodes.now leaves.now linked.old }
+    ensures room { IfOk result (λ good. HasRoom nodes.now leaves.now linked.new) }
+    ensures longer { IfOk result (λ good. good ≡ true → IsLonger linked.old linked.new) }
+    ensures read { IfOk result (λ good. IsCutRead nodes.now leaves.now least cut good linked.old linked.new) }
+{
+    let position = cut.position;
+    if u32::from(position) < least {
+        return Ok(false);
+    }
+    let zero = linked.items.len();
+    if !read_half(nodes, leaves, u32::from(position) + 1, cut.zero, linked)? {
+        return Ok(false);
+    }
+    let one = linked.items.len();
+    if !read_half(nodes, leaves, u32::from(position) + 1, cut.one, linked)? {
+        return Ok(false);
+    }
+    Ok(are_parted(position, &linked.items[zero].key, &linked.items[one].key))
+}
+
+/// Adds a leaf record of the table, and answers whether its words spell a value.
+fn take_leaf(leaves: &[[u64; 32]], number: u32, linked: &mut Linked) -> Result<bool, AllocError>
+    requires { length linked.old.leaves.items ≡ length leaves.now }
+    ensures { IfOk result (λ good. IsLeafTaken leaves.now number good linked.old linked.new) }
+{
+    let Some(words) = leaves.get(number as usize) else {
+        return Ok(false);
+    };
+    let Ok((key, value)) = unpack_leaf(words) else {
+        return Ok(false);
+    };
+    linked.items.push(Item { number, key, value })?;
+    linked.leaves[number as usize] = true;
+    Ok(true)
+}
+
+/// The node of this height that a record of the table has.
+fn node_at(nodes: &[[u64; 57]], number: u32, height: u16) -> Option<Node>
+    ensures { IsNodeAt nodes.now number height result }
+{
+    let words = nodes.get(number as usize)?;
+    let node = unpack_node(words).ok()?;
+    if node.height() == height {
+        Some(node)
+    } else {
+        None
+    }
+}
+
+/// Whether two keys part at a position, the first on the side of 0.
+fn are_parted(position: u16, zero: &Key, one: &Key) -> bool
+    ensures { IsTrue result ↔ IsParted position zero.now one.now }
+{
+    let Some(first) = mismatch(zero, one) else {
+        return false;
+    };
+    first == position && !zero.bit(position)
+}

@@ -1,0 +1,63 @@
+//! The tree that words show from a root entry.
+
+ghost use Rattle.std.specs.Prelude.{IfOk, ◌≡◌, replicate, false};
+ghost use Rattle.replay_trees.specs.Moments.{IsToldMoment};
+
+use crate::parts::read_entry;
+use compound_node::Entry;
+use key_bits::Key;
+use std::alloc::{AllocError, Global};
+
+/// A leaf record as it stands in a tree.
+#[derive(Drop)]
+pub struct Item {
+    pub number: u32,
+    pub key: Key,
+    pub value: u64,
+}
+
+/// What a tree links: its leaves in the order of their keys, and of each record of the table whether it is linked.
+#[derive(Drop)]
+pub struct Linked {
+    pub items: Vec<Item>,
+    pub nodes: Vec<bool>,
+    pub leaves: Vec<bool>,
+}
+
+/// Reads the tree that the words of a table's records show from a root entry, and tells what it links. `None` exactly
+/// where they show no lawful tree, or one that links a record outside the table or one whose words spell no value. Only
+/// a growth that is refused is an error.
+///
+/// The words of a record are those from offset 1 on. The time is linear in the tree; what is not lawful is left at the
+/// first fault.
+pub fn read_tree(
+    alloc: Global,
+    nodes: &[[u64; 57]],
+    leaves: &[[u64; 32]],
+    root: Option<Entry>,
+) -> Result<Option<Linked>, AllocError>
+    ensures { IfOk result (λ linked. IsToldMoment nodes.now leaves.now root linked) }
+{
+    let mut linked = Linked {
+        items: Vec::new(alloc),
+        nodes: marks(alloc, nodes.len())?,
+        leaves: marks(alloc, leaves.len())?,
+    };
+    if let Some(entry) = root {
+        if !read_entry(nodes, leaves, 0, entry, &mut linked)? {
+            return Ok(None);
+        }
+    }
+    Ok(Some(linked))
+}
+
+/// So many marks, none of them set.
+fn marks(alloc: Global, count: usize) -> Result<Vec<bool>, AllocError>
+    ensures { IfOk result (λ marks. marks.items ≡ replicate count false) }
+{
+    let mut marks = Vec::new(alloc);
+    for _ in 0..count {
+        marks.push(false)?;
+    }
+    Ok(marks)
+}

@@ -1,0 +1,27 @@
+-- What a pass has to know for a step that not every pass may make.
+use Rattle.std.specs.Prelude.{◌≡◌, ℕ, List, length, Contains}
+use Rattle.record_words.specs.declared.layout.Layout.{Layout}
+use Rattle.moments.specs.declared.Rec.{Rec}
+use Rattle.moments.specs.declared.Rec.TheVariants.{Node as a_node}
+use Rattle.rowex_core.specs.declared.event.Target.{Target}
+use Rattle.rowex_core.specs.declared.event.Target.TheVariants.{Anchor, Node as NodeTarget}
+use Rattle.rowex_core.specs.declared.known.Holding.{Holding}
+use Rattle.rowex_core.specs.declared.known.Holding.TheVariants.{Held}
+use Rattle.rowex_core.specs.declared.known.Known.{Known}
+use Rattle.rowex_core.specs.Cores.{Core, IsLawful, word_count_of}
+use Rattle.rowex_core.specs.Words.{state_at}
+use Rattle.rowex_core.specs.Events.{IsInTree}
+use Rattle.rowex_core.specs.Knowing.{Knows}
+
+-- the record is the pass's own, held this way, and these are its words but the state
+abbrev pub Has : Known → Rec → Holding → List ℕ → Type 0
+Has k r h words = Contains k.own (record { rec = r; holding = h; words = words })
+
+-- the pass has claimed the record, and not made it ready
+abbrev pub IsHeld : Known → Rec → Type 0
+IsHeld k r = (words : List ℕ) × (length words ≡ word_count_of r) × Has k r Held words
+
+-- The pass may lock: the anchor always, and a node of which it knows that it stands in the tree, if it is live.
+abbrev pub MayLock : Layout → Target → Known → Type 0
+MayLock layout Anchor k = Unit {0}
+MayLock layout (NodeTarget n) k = (c : Core) → IsLawful c → c.layout ≡ layout → Knows c k → state_at c (a_node n) ≡ 2 → IsInTree c n

@@ -1,0 +1,18 @@
+-- The tree of the newest moment.
+use Rattle.std.proofs.Common.{◌≡◌, Some, le_refl}
+use Rattle.tries.specs.Tree.{Tree, IsTrie, IsBuilt}
+use Rattle.moments.specs.Heap.{IsShown}
+use Rattle.moments.specs.State.{IsLawful}
+use Rattle.moments.specs.Core.{Core, view}
+use Rattle.moments.proofs.Publish.{top_shown}
+
+-- it is a bit trie, built as nodes are, and the words show it
+module _ (c : Core) (law : IsLawful (view c)) (t : Tree) (now : c.past.moment c.past.now ≡ Some t) where
+  pub trie_now : IsTrie t
+  trie_now = (law.trees c.past.now t (le_refl c.past.now) now).0
+
+  pub built_now : IsBuilt t
+  built_now = (law.trees c.past.now t (le_refl c.past.now) now).1
+
+  pub shown_now : IsShown c.heap t
+  shown_now = top_shown c.heap c.root (c.past.moment c.past.now) t law.top now
