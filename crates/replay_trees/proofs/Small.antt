@@ -1,5 +1,5 @@
 -- The words of a leaf and of a node have 64 bits.
-use Rattle.std.proofs.Common.{◌≡◌, ◌⊎◌, inl, inr, ⊎_elim, ℕ, ◌+◌, ◌-◌, ◌*◌, ◌^◌, ◌<◌, ◌≤◌, List, length, get_or, drop, Option, Some, None, refl, sym, subst, arith, lit<, get_or-drop}
+use Rattle.std.proofs.Common.{◌≡◌, ◌⊎◌, inl, inr, ⊎_elim, ℕ, ◌+◌, ◌-◌, ◌*◌, ◌^◌, ◌<◌, ◌≤◌, List, length, get_or, drop, refl, sym, subst, arith, lit<, get_or-drop}
 use Rattle.std.specs.Prelude.{All, slice_get}
 use Rattle.std.specs.Int.{from_be_bytes, w64}
 use Rattle.std.proofs.lemmas.Bool.{cases_lt}
@@ -8,16 +8,14 @@ use Rattle.std.proofs.lemmas.List.{get_or_past}
 use Rattle.std.proofs.lemmas.List.Elements.{All-from_get_or, All-get_or, All-append}
 use Rattle.key_bits.specs.declared.TheConstants.{MAX_BYTES}
 use Rattle.compound_node.specs.Nodes.{NodeView, head_of}
-use Rattle.compound_node.specs.declared.entries.Entry.{Entry}
-use Rattle.compound_node.specs.declared.entries.Entry.TheVariants.{Leaf, Node}
 use Rattle.compound_node.proofs.Lawful.{same_count}
-use Rattle.record_words.specs.Entry.{HasEntryWord, entry_word}
 use Rattle.record_words.specs.Leaf.{HasLeafWords, key_word, leaf_words}
 use Rattle.record_words.specs.Node.{HasNodeWords, entry_words, head_words, node_words}
 use Rattle.record_words.specs.Packed.{position_at, position_word, row_at, row_word}
 use Rattle.record_words.proofs.Entries.{length-entry_words, entry_words_at}
 use Rattle.record_words.proofs.Fixing.{AreFixed, fixed_words_parts}
 use Rattle.record_words.proofs.Lawful.{column-lt, row-lt}
+use Rattle.rowex_core.proofs.Published.{entry_small}
 use Rattle.record_words.proofs.Leaves.{IsLeafOf, leaf_words_parts}
 
 eight_bytes : (a b c d e f g h : ℕ) → a < 256 → b < 256 → c < 256 → d < 256 → e < 256 → f < 256 → g < 256 → h < 256 →
@@ -63,11 +61,6 @@ position_word_small columns j s =
 row_word_small : (rows : List ℕ) (j : ℕ) → ((k : ℕ) → get_or rows k 0 < 2 ^ 32) → row_word rows j < 2 ^ 64
 unfolding row_word
 row_word_small rows j s = let a = row_small rows (2 * j) s in let b = row_small rows (2 * j + 1) s in omega arith
-
-entry_small : (e : Option Entry) → HasEntryWord e → entry_word e < 2 ^ 64
-entry_small None h = omega arith
-entry_small (Some (Leaf n)) h = omega arith
-entry_small (Some (Node n height)) h = omega arith
 
 module _ (view : NodeView) (has : HasNodeWords view) where
   head_small : All (λ w. w < 2 ^ 64) (head_words (head_of view))

@@ -57,7 +57,7 @@ unlinked_before now q false (InTree s) since last p e = inr (s, refl, refl, cc)
 unlinked_before now q false (Unlinked s l i) since last p e = inl e
 unlinked_before now q false (Marked s l i) since last p e = absurd cc
 
-entry_small : (e : Option Entry) → HasEntryWord e → entry_word e < 2 ^ 64
+pub entry_small : (e : Option Entry) → HasEntryWord e → entry_word e < 2 ^ 64
 entry_small None h = omega arith
 entry_small (Some (Leaf n)) h = omega arith
 entry_small (Some (Node n height)) h = omega arith
