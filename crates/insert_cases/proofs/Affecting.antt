@@ -1,5 +1,5 @@
 -- The part of a page that a key's insertion affects, by its places and by the key.
-use Rattle.std.proofs.Common.{◌≡◌, ◌≢◌, ◌⊎◌, ℕ, ◌+◌, ◌-◌, ◌<◌, Bool, true, false, nat_lt, refl, ap, sym, ◌∙◌, subst, arith, ⊎_elim}
+use Rattle.std.proofs.Common.{◌≡◌, ◌≢◌, ℕ, ◌+◌, ◌-◌, ◌<◌, Bool, true, false, nat_lt, refl, ap, sym, ◌∙◌, subst, arith, ⊎_elim}
 use Rattle.std.proofs.lemmas.Bool.{cases_Bool, lt-ltb, le-ltb}
 use Rattle.compound_node.specs.declared.entries.Entry.{Entry}
 use Rattle.pieces.proofs.Growing.{affected_fits}
@@ -17,10 +17,10 @@ RootNot p (Place e) = Unit {0}
 RootNot p (Fork q x y) = q ≢ p
 
 module _ (p q : ℕ) (x y : Page) (e : nat_lt q p ≡ true) where
-  first_zero : (i : ℕ) → i < size x → affected_first p i (Fork q x y) ≡ affected_first p i x
+  pub first_zero : (i : ℕ) → i < size x → affected_first p i (Fork q x y) ≡ affected_first p i x
   first_zero i h = let f : nat_lt i (size x) ≡ true = lt-ltb i (size x) h in rw (e, f) refl
 
-  first_one : (i : ℕ) → affected_first p (size x + i) (Fork q x y) ≡ size x + affected_first p i y
+  pub first_one : (i : ℕ) → affected_first p (size x + i) (Fork q x y) ≡ size x + affected_first p i y
   first_one i =
       let f : nat_lt (size x + i) (size x) ≡ false = le-ltb (size x + i) (size x) (omega arith) in
       let g : size x + i - size x ≡ i = omega arith in rw (e, f, g) refl

@@ -20,7 +20,7 @@ fork_of (node n x b) f = elim f [ ]
 fork_of (fork q a c) f = (q, a, c, refl)
 
 -- a bit that is 1 is one of the key's
-bit_below : (k : Key) (q : ℕ) → IsKey k → bit k q ≡ true → q < 9 * MAX_BYTES
+pub bit_below : (k : Key) (q : ℕ) → IsKey k → bit k q ≡ true → q < 9 * MAX_BYTES
 unfolding bit
 bit_below k q i e = let h : q / 9 < length k = ltb-true (q / 9) (length k) (and_parts (nat_lt (q / 9) (length k)) _ e).0 in omega (arith, i.short)
 

@@ -6,7 +6,7 @@ use Rattle.std.proofs.lemmas.Bool.{ltb-true, le-ltb, false≢true, cases_lt, cas
 use Rattle.key_bits.specs.Bits.{IsFirstDifference}
 use Rattle.pieces.proofs.Affected.{affected_again}
 use Rattle.pieces.proofs.Paths.{size_pos}
-use Rattle.pieces.specs.Growth.{affected_first, affected_count, IsFresh}
+use Rattle.pieces.specs.Growth.{affected_first, affected_count, IsAffected, IsFresh}
 use Rattle.pieces.specs.Piece.{size}
 use Rattle.tries.specs.Affected.{affected, IsPart}
 use Rattle.tries.specs.Keys.{Key, bit, AgreeBelow}
@@ -123,12 +123,12 @@ way_rises k t (s ∷ ss) w i (suc l) (suc j) h q a c in_j o =
     way_rises k (below k t) ss w.1 (trie_within (below_within k t) i) l j (omega arith) q a c in_j (omega arith)
 
 -- ---- the affected part
-part_big : (d : Tree) → 2 ≤ size (page d) → IsPart d × (is_leaf d ≡ false)
+pub part_big : (d : Tree) → 2 ≤ size (page d) → IsPart d × (is_leaf d ≡ false)
 part_big (leaf n l v) h = absurd (omega arith)
 part_big (node n x b) h = absurd (omega arith)
 part_big (fork q a b) h = (tt, refl)
 
-tip_small : (d : Tree) → size (page d) ≤ 1 → IsTip d
+pub tip_small : (d : Tree) → size (page d) ≤ 1 → IsTip d
 tip_small (leaf n l v) h = tt
 tip_small (node n x b) h = tt
 tip_small (fork q a b) h = absurd (omega (arith, size_pos (page a), size_pos (page b)))
@@ -184,8 +184,20 @@ module _ (k l : Key) (p : ℕ) (d : IsFirstDifference k l p) where
   root_fresh b i h part =
       root_not p (if bit k p then false else true) (affected p k b) (trie_within (part_place p k b).0 i) (λ y g. (all_away b i h part y g).1)
 
-size_affected : (k : Key) (p : ℕ) (b : Tree) → affected_count p (spot k (page b)) (page b) ≡ size (page (affected p k b))
+pub size_affected : (k : Key) (p : ℕ) (b : Tree) → affected_count p (spot k (page b)) (page b) ≡ size (page (affected p k b))
 size_affected k p b = (key_part k p (page b)).count ∙ ap size (sym (affected_page p k b))
+
+-- the range that a position affects from the key's place on
+pub affected_range : (k l : Key) (p : ℕ) → IsFirstDifference k l p → (b : Tree) → IsTrie b → Has (child k b) l → IsPart (affected p k b) → (first last : ℕ) →
+    affected_first p (spot k (page b)) (page b) ≡ first → affected_count p (spot k (page b)) (page b) + first ≡ last + 1 → IsAffected (page b) p first last
+affected_range k l p d b trie has part first last from upto =
+    let again = affected_again p (page b) (spot k (page b)) (spot_below k (page b)) in
+    let root = root_fresh k l p d b trie has part in
+    record {
+      from = ap (λ j. affected_first p j (page b)) (sym from) ∙ (again.0 ∙ from);
+      upto = ap (λ j. j + first) (ap (λ j. affected_count p j (page b)) (sym from) ∙ again.1) ∙ upto;
+      fresh = subst (λ j. IsFresh p j (page b)) from ((key_part k p (page b)).fresh (subst (RootNot p) (affected_page p k b) root));
+    }
 
 -- a body whose first fork is not before p is affected whole
 pub record IsWhole (k : Key) (p : ℕ) (b : Tree) : Type 0 where
@@ -254,8 +266,6 @@ module _ (k : Key) (t : Tree) (p : ℕ) (way : List Step) (trie : IsTrie t) (bui
         let from' : affected_first p (spot k (page u.inner)) (page u.inner) ≡ first = subst (λ z. affected_first p (spot k (page z)) (page z) ≡ first) inner from in
         let upto' : affected_count p (spot k (page u.inner)) (page u.inner) + first ≡ last + 1 = subst (λ z. affected_count p (spot k (page z)) (page z) + first ≡ last + 1) inner upto in
         let part' : IsPart (affected p k u.inner) = subst (λ z. IsPart (affected p k z)) inner part.0 in
-        let again = affected_again p (page u.inner) (spot k (page u.inner)) (spot_below k (page u.inner)) in
-        let root = root_fresh k (found k t).key p d u.inner (trie_here level u.number u.fixed u.inner u.is) (has_here level u.number u.fixed u.inner u.is) part' in
         record {
           number = u.number;
           fixed = u.fixed;
@@ -264,11 +274,7 @@ module _ (k : Key) (t : Tree) (p : ℕ) (way : List Step) (trie : IsTrie t) (bui
           above = above_level;
           part = part';
           first = sym from';
-          range = record {
-            from = ap (λ j. affected_first p j (page u.inner)) (sym from') ∙ (again.0 ∙ from');
-            upto = ap (λ j. j + first) (ap (λ j. affected_count p j (page u.inner)) (sym from') ∙ again.1) ∙ upto';
-            fresh = subst (λ j. IsFresh p j (page u.inner)) from' ((key_part k p (page u.inner)).fresh (subst (RootNot p) (affected_page p k u.inner) root));
-          };
+          range = affected_range k (found k t).key p d u.inner (trie_here level u.number u.fixed u.inner u.is) (has_here level u.number u.fixed u.inner u.is) part' first last from' upto';
           case = ap (λ h. case_of h s.count one) u.step.height ∙
               (ap (λ n. case_of u.fixed.height n one) u.step.count ∙ ap (case_of u.fixed.height (size (page u.inner))) (sym part.1 ∙ ap (λ z. is_leaf (affected p k z)) inner));
         }

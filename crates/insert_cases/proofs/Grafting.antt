@@ -1,10 +1,10 @@
 -- A fork in the place of an entry, and an entry with a fork before it, in the two sides of a root fork.
-use Rattle.std.proofs.Common.{Bool, ap, arith, false, nat_lt, refl, true, ℕ, ⊎_elim, ◌+◌, ◌-◌, ◌<◌, ◌∙◌, ◌≡◌, ◌≤◌, ◌⊎◌}
+use Rattle.std.proofs.Common.{Bool, ap, arith, false, nat_lt, refl, true, ℕ, ⊎_elim, ◌+◌, ◌-◌, ◌<◌, ◌∙◌, ◌≡◌, ◌≤◌}
 use Rattle.std.proofs.lemmas.Bool.{cases_Bool, lt-ltb, le-ltb, ltb-true, ltb-false}
 use Rattle.pieces.proofs.Growing.{affected_fits}
 use Rattle.pieces.specs.Changes.{replaced}
 use Rattle.pieces.specs.Growth.{affected_first, affected_count, IsAffected, forked, grown}
-use Rattle.pieces.specs.Piece.{Piece, Place, Fork, places, size}
+use Rattle.pieces.specs.Piece.{Piece, Place, Fork, size}
 use Rattle.insert_cases.specs.Grafts.{grafted, IsAbovePath}
 
 -- the index of the old entry of a place that gets a fork with a new one

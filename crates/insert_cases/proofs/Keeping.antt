@@ -1,5 +1,5 @@
 -- What stays shown when records change.
-use Rattle.std.proofs.Common.{◌≡◌, ◌≢◌, inl, inr, ℕ, ◌≤◌, List, ap, ap₂, sym, ◌∙◌, subst, arith, Some}
+use Rattle.std.proofs.Common.{◌≡◌, inl, inr, ℕ, ◌≤◌, List, ap, ap₂, sym, ◌∙◌, subst, arith, Some}
 use Rattle.std.specs.Prelude.{slice_get}
 use Rattle.pieces.specs.Piece.{Place, Fork}
 use Rattle.compound_node.specs.Nodes.{NodeView, piece}
@@ -8,23 +8,14 @@ use Rattle.tries.specs.Tree.{Page, Fixed, Tree, leaf, node, fork, page, Has, IsB
 use Rattle.tries.specs.Content.{first}
 use Rattle.tries.proofs.Tries.{has_first}
 use Rattle.insert_cases.specs.declared.plain.LeafRecord.{LeafRecord}
+use Rattle.insert_cases.specs.Rising.{NoNode, IsKept}
+use Rattle.insert_cases.specs.Risen.{OthersStay}
 use Rattle.insert_cases.specs.Store.{fixed_of, IsStored, IsShown}
 use Rattle.insert_cases.proofs.Choosing.{same_some}
-
--- no node of the tree has this number
-abbrev pub NoNode : ℕ → Tree → Type 0
-NoNode n (leaf m k v) = Unit {0}
-NoNode n (node m x b) = (n ≢ m) × NoNode n b
-NoNode n (fork p a b) = NoNode n a × NoNode n b
 
 -- the trees have no key in common
 abbrev pub IsApart : Tree → Tree → Type 0
 IsApart s t = (k : List ℕ) → Has s k → Has t k → ⊥
-
--- From some records to others, nodes that are not of the tree s stay, and so do leaves.
-pub record IsKept (ns ms : List NodeView) (ls ks : List LeafRecord) (s : Tree) : Type 0 where
-  pub nodes : (n : ℕ) (v : NodeView) → NoNode n s → slice_get ns n ≡ Some v → slice_get ms n ≡ Some v
-  pub leaves : (n : ℕ) (l : LeafRecord) → slice_get ls n ≡ Some l → slice_get ks n ≡ Some l
 
 module _ (ns : List NodeView) where
   same_view : {n m : ℕ} {v w : NodeView} → n ≡ m → slice_get ns n ≡ Some v → slice_get ns m ≡ Some w → v ≡ w
@@ -98,23 +89,30 @@ module _ (ns : List NodeView) where
   no_node_below ls n h v (fork p c d) at e l b i = (no_node_below ls n h v c at e l.0 b.0 i.0, no_node_below ls n h v d at e l.1 b.1 i.1)
 
 -- A tree that has none of the keys of s stays shown.
-pub shown_kept : (ns ms : List NodeView) (ls ks : List LeafRecord) (s t : Tree) → IsKept ns ms ls ks s → IsShown ns ls s → IsShown ns ls t → IsApart t s → IsShown ms ks t
-shown_kept ns ms ls ks s (leaf n k v) c i j a = c.leaves n _ j
-shown_kept ns ms ls ks s (node n x b) c i j a = (
-  record { view = j.0.view; at = c.nodes n j.0.view (no_node ns ls n x b s j i a) j.0.at; fixed = j.0.fixed; shows = j.0.shows },
-  shown_kept ns ms ls ks s b c i j.1 a,
+pub shown_kept : (ns ms : List NodeView) (ls : List LeafRecord) (s t : Tree) → IsKept ns ms s → IsShown ns ls s → IsShown ns ls t → IsApart t s → IsShown ms ls t
+shown_kept ns ms ls s (leaf n k v) c i j a = j
+shown_kept ns ms ls s (node n x b) c i j a = (
+  record { view = j.0.view; at = c n j.0.view (no_node ns ls n x b s j i a) j.0.at; fixed = j.0.fixed; shows = j.0.shows },
+  shown_kept ns ms ls s b c i j.1 a,
 )
-shown_kept ns ms ls ks s (fork p b d) c i j a = (
-  shown_kept ns ms ls ks s b c i j.0 (λ k h g. a k (inl h) g),
-  shown_kept ns ms ls ks s d c i j.1 (λ k h g. a k (inr h) g),
+shown_kept ns ms ls s (fork p b d) c i j a = (
+  shown_kept ns ms ls s b c i j.0 (λ k h g. a k (inl h) g),
+  shown_kept ns ms ls s d c i j.1 (λ k h g. a k (inr h) g),
 )
 
 -- A tree without node n stays shown where that node alone changes.
-pub shown_but : (ns ms : List NodeView) (ls ks : List LeafRecord) (n : ℕ) (t : Tree) → ((m : ℕ) (v : NodeView) → n ≢ m → slice_get ns m ≡ Some v → slice_get ms m ≡ Some v) →
-    ((m : ℕ) (l : LeafRecord) → slice_get ls m ≡ Some l → slice_get ks m ≡ Some l) → NoNode n t → IsShown ns ls t → IsShown ms ks t
-shown_but ns ms ls ks n (leaf m k v) f g none j = g m _ j
-shown_but ns ms ls ks n (node m x b) f g none j = (
+pub shown_but : (ns ms : List NodeView) (ls : List LeafRecord) (n : ℕ) (t : Tree) → OthersStay ns ms n → NoNode n t → IsShown ns ls t → IsShown ms ls t
+shown_but ns ms ls n (leaf m k v) f none j = j
+shown_but ns ms ls n (node m x b) f none j = (
   record { view = j.0.view; at = f m j.0.view none.0 j.0.at; fixed = j.0.fixed; shows = j.0.shows },
-  shown_but ns ms ls ks n b f g none.1 j.1,
+  shown_but ns ms ls n b f none.1 j.1,
 )
-shown_but ns ms ls ks n (fork p b d) f g none j = (shown_but ns ms ls ks n b f g none.0 j.0, shown_but ns ms ls ks n d f g none.1 j.1)
+shown_but ns ms ls n (fork p b d) f none j = (shown_but ns ms ls n b f none.0 j.0, shown_but ns ms ls n d f none.1 j.1)
+
+-- Each tree stays shown where records are added.
+pub shown_more : (ns ms : List NodeView) (ls ks : List LeafRecord) (t : Tree) → ((m : ℕ) (v : NodeView) → slice_get ns m ≡ Some v → slice_get ms m ≡ Some v) →
+    ((m : ℕ) (l : LeafRecord) → slice_get ls m ≡ Some l → slice_get ks m ≡ Some l) → IsShown ns ls t → IsShown ms ks t
+shown_more ns ms ls ks (leaf m k v) f g j = g m _ j
+shown_more ns ms ls ks (node m x b) f g j =
+    (record { view = j.0.view; at = f m j.0.view j.0.at; fixed = j.0.fixed; shows = j.0.shows }, shown_more ns ms ls ks b f g j.1)
+shown_more ns ms ls ks (fork p b d) f g j = (shown_more ns ms ls ks b f g j.0, shown_more ns ms ls ks d f g j.1)

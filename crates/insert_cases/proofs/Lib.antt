@@ -11,3 +11,10 @@ pub mod Building
 pub mod Storing
 pub mod Raised
 pub mod Lifting
+pub mod Gathering
+pub mod Parts
+pub mod Standing
+pub mod Cutting
+pub mod Starting
+pub mod Climbing
+pub mod Inserting

@@ -20,9 +20,10 @@ use Rattle.insert_cases.specs.Ways.{WayBelow}
 use Rattle.insert_cases.specs.declared.plain.LeafRecord.{LeafRecord}
 use Rattle.insert_cases.specs.declared.raising.Risen.{Risen}
 use Rattle.insert_cases.specs.Risen.{page_of, RisenShows, OthersStay}
+use Rattle.insert_cases.specs.Rising.{NoNode, IsRaised}
 use Rattle.insert_cases.specs.Store.{IsShown}
-use Rattle.insert_cases.proofs.Keeping.{NoNode, lower_more, no_node_below, shown_but}
-use Rattle.insert_cases.proofs.Raised.{risen_around, IsSpot, child_spot, put_kept, put_lower, put_built, top_height, IsRaised, added_node}
+use Rattle.insert_cases.proofs.Keeping.{lower_more, no_node_below, shown_but}
+use Rattle.insert_cases.proofs.Raised.{risen_around, child_spot, put_kept, put_lower, put_built, added_node}
 use Rattle.insert_cases.proofs.Searching.{shown_within}
 
 put_shown : (ns : List NodeView) (ls : List LeafRecord) {s b : Tree} (w : Within s b) → IsFlat w → (r : Tree) → IsShown ns ls b → IsShown ns ls r → IsShown ns ls (put w r)
@@ -49,7 +50,7 @@ no_node_part n (inside w) f l = elim f [ ]
 no_node_part n (zero_side w) f l = no_node_part n w f l.0
 no_node_part n (one_side w) f l = no_node_part n w f l.1
 
-positive : (h : ℕ) (b : Tree) → IsLower h b → 0 < h
+pub positive : (h : ℕ) (b : Tree) → IsLower h b → 0 < h
 positive h (leaf n k v) l = l
 positive h (node n x b) l = omega arith
 positive h (fork p a b) l = positive h a l.0
@@ -70,44 +71,34 @@ module _ (ns : List NodeView) (ls : List LeafRecord) (n : ℕ) (x : Fixed) (b : 
   not_below = no_node_below ns ls n x.height shown.0.view b shown.0.at old_height built.1 built.2 shown.1
 
   -- the new leaf in the node's own body
-  module _ (ms : List NodeView) (ks : List LeafRecord) (it : Item) (p : ℕ) (key : IsKey it.key)
+  module _ (ms : List NodeView) (it : Item) (p : ℕ) (key : IsKey it.key)
       (away : (y : Key) → Has (affected p it.key b) y → IsAway p it.key y)
-      (leaves : (m : ℕ) (l : LeafRecord) → slice_get ls m ≡ Some l → slice_get ks m ≡ Some l)
-      (new : slice_get ks it.number ≡ Some (record { key = it.key; value = it.value }))
+      (new : slice_get ls it.number ≡ Some (record { key = it.key; value = it.value }))
       (others : OthersStay ns ms n) (risen : Risen) (shows : RisenShows ms shown.0.view risen (page_grown p it.key (Leaf it.number) (page b))) where
-    part : Tree
-    part = affected p it.key b
+    kept_body : IsShown ms ls b
+    kept_body = shown_but ns ms ls n b others not_below shown.1
 
-    place : Within (affected p it.key b) b
-    place = (part_place p it.key b).0
-
-    flat : IsFlat (part_place p it.key b).0
-    flat = (part_place p it.key b).1
-
-    kept_body : IsShown ms ks b
-    kept_body = shown_but ns ms ls ks n b others leaves not_below shown.1
-
-    new_part : (u : Bool) → IsShown ms ks (grown u p (affected p it.key b) it) × IsBuilt (grown u p (affected p it.key b) it) × IsLower x.height (grown u p (affected p it.key b) it)
+    new_part : (u : Bool) → IsShown ms ls (grown u p (affected p it.key b) it) × IsBuilt (grown u p (affected p it.key b) it) × IsLower x.height (grown u p (affected p it.key b) it)
     new_part false = (
-      (new, shown_within ms ks (part_place p it.key b).0 kept_body),
+      (new, shown_within ms ls (part_place p it.key b).0 kept_body),
       (tt, built_part (part_place p it.key b).0 (part_place p it.key b).1 built.2),
       (positive x.height b built.1, lower_part x.height (part_place p it.key b).0 (part_place p it.key b).1 built.1),
     )
     new_part true = (
-      (shown_within ms ks (part_place p it.key b).0 kept_body, new),
+      (shown_within ms ls (part_place p it.key b).0 kept_body, new),
       (built_part (part_place p it.key b).0 (part_place p it.key b).1 built.2, tt),
       (lower_part x.height (part_place p it.key b).0 (part_place p it.key b).1 built.1, positive x.height b built.1),
     )
 
-    pub grow_raised : IsRaised ns ms ls ks it p (node n x b) (page_of risen)
+    pub grow_raised : IsRaised ns ms ls it p (node n x b) (suc x.height) (page_of risen)
     grow_raised =
         let w = part_place p it.key b in
         let r : Tree = grown (bit it.key p) p (affected p it.key b) it in
         let c : Tree = put w.0 r in
         let facts = new_part (bit it.key p) in
         let adds = added w.0 it p c trie key w.2 away refl in
-        let a = risen_around ms ks shown.0.view bounded risen c (subst (RisenShows ms shown.0.view risen) (sym (place_page p it b)) shows) adds.trie
-        (put_built w.0 w.1 r built.2 facts.1) (put_shown ms ks w.0 w.1 r kept_body facts.0)
+        let a = risen_around ms ls shown.0.view bounded risen c (subst (RisenShows ms shown.0.view risen) (sym (place_page p it b)) shows) adds.trie
+        (put_built w.0 w.1 r built.2 facts.1) (put_shown ms ls w.0 w.1 r kept_body facts.0)
         (subst (λ h. IsLower h c) (sym old_height) (put_lower x.height w.0 w.1 r built.1 facts.2)) in
         record {
           tree = a.tree;
@@ -116,42 +107,39 @@ module _ (ns : List NodeView) (ls : List LeafRecord) (n : ℕ) (x : Fixed) (b : 
           built = a.built;
           lower = subst (λ h. IsLower (suc h) a.tree) old_height a.lower;
           shown = a.shown;
-          kept = record { nodes = λ m v no_m at. others m v (λ e. no_m.0 (sym e)) at; leaves = leaves };
+          kept = λ m v no_m at. others m v (λ e. no_m.0 (sym e)) at;
         }
 
   -- what took the child's place, in the node's body
-  module _ (ms : List NodeView) (ks : List LeafRecord) (it : Item) (p : ℕ) (head : Page) (below : WayBelow p it.key b)
-      (up : IsRaised ns ms ls ks it p (child it.key b) head) (low : suc (top_height (child it.key b)) ≤ x.height) where
-    at_spot : IsSpot it.key b (child it.key b)
-    at_spot = child_spot it.key b
-
+  module _ (ms : List NodeView) (it : Item) (p h : ℕ) (head : Page) (below : WayBelow p it.key b)
+      (up : IsRaised ns ms ls it p (child it.key b) h head) (low : h ≤ x.height) where
     -- the node's record is as it was
     pub old_stays : slice_get ms n ≡ Some shown.0.view
-    old_stays = up.kept.nodes n shown.0.view (no_node_part n (child_spot it.key b).place (child_spot it.key b).flat not_below) shown.0.at
+    old_stays = up.kept n shown.0.view (no_node_part n (child_spot it.key b).place (child_spot it.key b).flat not_below) shown.0.at
 
-    body_lower : IsLower x.height (put (child_spot it.key b).place up.tree)
-    body_lower = put_lower x.height (child_spot it.key b).place (child_spot it.key b).flat up.tree built.1 (lower_more ms (suc (top_height (child it.key b))) x.height up.tree up.lower low)
+    pub body_lower : IsLower x.height (put (child_spot it.key b).place up.tree)
+    body_lower = put_lower x.height (child_spot it.key b).place (child_spot it.key b).flat up.tree built.1 (lower_more ms h x.height up.tree up.lower low)
 
-    body_built : IsBuilt (put (child_spot it.key b).place up.tree)
+    pub body_built : IsBuilt (put (child_spot it.key b).place up.tree)
     body_built = put_built (child_spot it.key b).place (child_spot it.key b).flat up.tree built.2 up.built
 
-    body_shown : IsShown ms ks (put (child_spot it.key b).place up.tree)
+    body_shown : IsShown ms ls (put (child_spot it.key b).place up.tree)
     body_shown =
-        put_kept ns ms ls ks (child_spot it.key b).place (child_spot it.key b).flat up.tree trie shown.1 (shown_within ns ls (child_spot it.key b).place shown.1) up.kept up.shown
+        put_kept ns ms ls (child_spot it.key b).place (child_spot it.key b).flat up.tree trie shown.1 (shown_within ns ls (child_spot it.key b).place shown.1) up.kept up.shown
 
-    body_adds : IsAdded it p b (put (child_spot it.key b).place up.tree)
+    pub body_adds : IsAdded it p b (put (child_spot it.key b).place up.tree)
     body_adds = added_put (child_spot it.key b).place up.tree it p trie ((child_spot it.key b).path p below) up.adds
 
     body_page : page (put (child_spot it.key b).place up.tree) ≡ grafted (spot it.key (page b)) head (page b)
     body_page = (child_spot it.key b).shows up.tree ∙ ap (λ z. grafted (spot it.key (page b)) z (page b)) up.begins
 
     pub pulled_raised : (us : List NodeView) (risen : Risen) → OthersStay ms us n → RisenShows us shown.0.view risen (grafted (spot it.key (page b)) head (page b)) →
-        IsRaised ns us ls ks it p (node n x b) (page_of risen)
+        IsRaised ns us ls it p (node n x b) (suc x.height) (page_of risen)
     pulled_raised us risen others shows =
         let c : Tree = put (child_spot it.key b).place up.tree in
-        let none = no_node_below ms ks n x.height shown.0.view c old_stays old_height body_lower body_built body_shown in
-        let a = risen_around us ks shown.0.view bounded risen c (subst (RisenShows us shown.0.view risen) (sym body_page) shows) body_adds.trie body_built
-        (shown_but ms us ks ks n c others (λ m l h. h) none body_shown) (subst (λ h. IsLower h c) (sym old_height) body_lower) in
+        let none = no_node_below ms ls n x.height shown.0.view c old_stays old_height body_lower body_built body_shown in
+        let a = risen_around us ls shown.0.view bounded risen c (subst (RisenShows us shown.0.view risen) (sym body_page) shows) body_adds.trie body_built
+        (shown_but ms us ls n c others none body_shown) (subst (λ h. IsLower h c) (sym old_height) body_lower) in
         record {
           tree = a.tree;
           begins = a.begins;
@@ -159,8 +147,5 @@ module _ (ns : List NodeView) (ls : List LeafRecord) (n : ℕ) (x : Fixed) (b : 
           built = a.built;
           lower = subst (λ h. IsLower (suc h) a.tree) old_height a.lower;
           shown = a.shown;
-          kept = record {
-            nodes = λ m v no_m at. others m v (λ e. no_m.0 (sym e)) (up.kept.nodes m v (no_node_part m (child_spot it.key b).place (child_spot it.key b).flat no_m.1) at);
-            leaves = up.kept.leaves;
-          };
+          kept = λ m v no_m at. others m v (λ e. no_m.0 (sym e)) (up.kept m v (no_node_part m (child_spot it.key b).place (child_spot it.key b).flat no_m.1) at);
         }

@@ -1,5 +1,5 @@
 -- Facts of nodes and of the halves of a cut.
-use Rattle.std.proofs.Common.{Bool, List, [], ◌∷◌, ap, arith, cond, false, nat_lt, refl, sym, true, ℕ, ⊎_elim, ◌++◌, ◌+◌, ◌-◌, ◌<◌, ◌∙◌, ◌≡◌, ◌≤◌, ◌⊎◌, max, length, get_or, subst}
+use Rattle.std.proofs.Common.{Bool, List, [], ◌∷◌, ap, arith, false, nat_lt, refl, sym, true, ℕ, ⊎_elim, ◌++◌, ◌-◌, ◌<◌, ◌∙◌, ◌≡◌, ◌≤◌, max, length, get_or, subst}
 use Rattle.std.proofs.lemmas.Bool.{cond-true, cond-false, cases_Bool, lt-ltb}
 use Rattle.compound_node.specs.Halves.{HalfShows, CutShows}
 use Rattle.compound_node.specs.Nodes.{NodeView, piece, IsLawful, height_of, greatest_height}

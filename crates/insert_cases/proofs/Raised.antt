@@ -1,6 +1,6 @@
 -- What takes a node's place, as a tree.
 use Rattle.std.proofs.Common.{◌≡◌, ◌⊎◌, inl, inr, ℕ, suc, ◌+◌, ◌-◌, ◌*◌, ◌<◌, ◌≤◌, Bool, true, false, List, refl, ap, ap₂, sym, ◌∙◌, subst, arith, if◌then◌else◌, nat_lt, MatchBool}
-use Rattle.std.proofs.lemmas.Bool.{lt-ltb, le-ltb, cond-true, cond-false}
+use Rattle.std.proofs.lemmas.Bool.{lt-ltb, le-ltb, cond-true, cond-false, false≢true}
 use Rattle.key_bits.specs.declared.TheConstants.{MAX_BYTES}
 use Rattle.pieces.specs.Piece.{Place, Fork, places, size}
 use Rattle.compound_node.specs.Nodes.{NodeView, piece, greatest_height}
@@ -13,7 +13,7 @@ use Rattle.tries.specs.Search.{child}
 use Rattle.tries.specs.Tree.{Page, Fixed, Tree, leaf, node, fork, page, IsTrie, IsBuilt, IsLower, first_position, Within, here, inside, zero_side, one_side}
 use Rattle.tries.proofs.Places.{spot_below}
 use Rattle.tries.proofs.Tries.{has_within}
-use Rattle.insert_cases.specs.Grafts.{grafted}
+use Rattle.insert_cases.specs.Grafts.{grafted, IsAbovePath}
 use Rattle.insert_cases.specs.Ways.{WayBelow}
 use Rattle.insert_cases.proofs.NodeFacts.{size-piece}
 use Rattle.insert_cases.specs.declared.plain.LeafRecord.{LeafRecord}
@@ -22,7 +22,8 @@ use Rattle.insert_cases.specs.declared.raising.Risen.TheVariants.{Whole, Split}
 use Rattle.insert_cases.specs.Risen.{page_of, IsNamed, IsFor, RisenShows}
 use Rattle.insert_cases.specs.Store.{fixed_of, IsShown}
 use Rattle.insert_cases.proofs.Building.{fork_of, new_bound, lower_to, node_built, fork_big}
-use Rattle.insert_cases.proofs.Keeping.{IsKept, lower_more, shown_kept}
+use Rattle.insert_cases.specs.Rising.{IsKept}
+use Rattle.insert_cases.proofs.Keeping.{lower_more, shown_kept}
 
 -- ---- records for a body
 -- a tree that differs from a body in its nodes alone, and begins with this page
@@ -48,15 +49,15 @@ module _ (ms : List NodeView) (ls : List LeafRecord) (old : NodeView) (bounded :
       below : greatest_height (places (page s)) < old.height
       below = lower_to old.height s low
 
-      high : (i.view.height ≡ 1 + greatest_height (places (page s))) ⊎ (i.view ≡ old) → greatest_height (places (page s)) < i.view.height
+      high : (i.view.height ≡ 1 + greatest_height (places (page s))) ⊎ ((i.view.height ≡ old.height) × (first_position (piece i.view) ≡ first_position (piece old))) → greatest_height (places (page s)) < i.view.height
       high (inl e) = omega arith
-      high (inr e) = let f : i.view.height ≡ old.height = ap (λ (v : NodeView). v.height) e in omega (arith, below)
+      high (inr e) = omega (arith, below)
 
-      under : (i.view.height ≡ 1 + greatest_height (places (page s))) ⊎ (i.view ≡ old) → i.view.height < suc old.height
+      under : (i.view.height ≡ 1 + greatest_height (places (page s))) ⊎ ((i.view.height ≡ old.height) × (first_position (piece i.view) ≡ first_position (piece old))) → i.view.height < suc old.height
       under (inl e) = omega (arith, below)
-      under (inr e) = let f : i.view.height ≡ old.height = ap (λ (v : NodeView). v.height) e in omega arith
+      under (inr e) = omega arith
 
-      bound : (i.view.height ≡ 1 + greatest_height (places (page s))) ⊎ (i.view ≡ old) → i.view.height + first_position (page s) ≤ 9 * MAX_BYTES
+      bound : (i.view.height ≡ 1 + greatest_height (places (page s))) ⊎ ((i.view.height ≡ old.height) × (first_position (piece i.view) ≡ first_position (piece old))) → i.view.height + first_position (page s) ≤ 9 * MAX_BYTES
       bound (inl e) =
           let f = fork_of s (fork_big s (omega (arith, i.lawful.several, ap size i.shows, size-piece i.view i.lawful))) in
           let g = new_bound f.0 f.1 f.2 (subst IsTrie f.3 trie) (subst IsBuilt f.3 built) in
@@ -64,8 +65,7 @@ module _ (ms : List NodeView) (ls : List LeafRecord) (old : NodeView) (bounded :
           let q : greatest_height (places (page s)) ≡ greatest_height (places (page (fork f.0 f.1 f.2))) = ap (λ z. greatest_height (places (page z))) f.3 in
           omega arith
       bound (inr e) =
-          let f : i.view.height ≡ old.height = ap (λ (v : NodeView). v.height) e in
-          let g : first_position (piece old) ≡ first_position (page s) = ap (λ v. first_position (piece v)) (sym e) ∙ ap first_position i.shows in
+          let g : first_position (piece old) ≡ first_position (page s) = sym e.1 ∙ ap first_position i.shows in
           omega (arith, bounded)
 
   for_around : (e : Entry) (s : Tree) → IsFor ms old e (page s) → IsTrie s → IsBuilt s → IsShown ms ls s → IsLower old.height s → IsAround ms ls old.height (Place e) s
@@ -98,6 +98,7 @@ pub record IsSpot (k : Key) (b s : Tree) : Type 0 where
   pub flat : IsFlat place
   pub shows : (r : Tree) → page (put place r) ≡ grafted (spot k (page b)) (page r) (page b)
   pub path : (p : ℕ) → WayBelow p k b → IsPathBelow p place
+  pub above : (p : ℕ) → IsPathBelow p place → IsAbovePath p (spot k (page b)) (page b)
 
 graft_low : (q : ℕ) (x y z : Page) (i : ℕ) → i < size x → grafted i z (Fork q x y) ≡ Fork q (grafted i z x) y
 graft_low q x y z i h = cond-true (nat_lt i (size x)) _ _ (lt-ltb i (size x) h)
@@ -107,9 +108,17 @@ graft_high q x y z i =
     let d : size x + i - size x ≡ i = omega arith in
     cond-false (nat_lt (size x + i) (size x)) _ _ (le-ltb (size x + i) (size x) (omega arith)) ∙ ap (λ j. Fork q x (grafted j z y)) d
 
+path_low : (p q : ℕ) (x y : Page) (i : ℕ) → i < size x → q < p → IsAbovePath p i x → IsAbovePath p i (Fork q x y)
+path_low p q x y i h l a = (l, subst (λ o. MatchBool o (IsAbovePath p i x) (IsAbovePath p (i - size x) y)) (sym (lt-ltb i (size x) h)) a)
+
+path_high : (p q : ℕ) (x y : Page) (i : ℕ) → q < p → IsAbovePath p i y → IsAbovePath p (size x + i) (Fork q x y)
+path_high p q x y i l a =
+    let d : i ≡ size x + i - size x = omega arith in
+    (l, subst (λ o. MatchBool o (IsAbovePath p (size x + i) x) (IsAbovePath p (size x + i - size x) y)) (sym (le-ltb (size x + i) (size x) (omega arith))) (subst (λ j. IsAbovePath p j y) d a))
+
 pub child_spot : (k : Key) (b : Tree) → IsSpot k b (child k b)
-child_spot k (leaf n l v) = record { place = here; flat = tt; shows = λ r. refl; path = λ p w. tt }
-child_spot k (node n x d) = record { place = here; flat = tt; shows = λ r. refl; path = λ p w. tt }
+child_spot k (leaf n l v) = record { place = here; flat = tt; shows = λ r. refl; path = λ p w. tt; above = λ p w. tt }
+child_spot k (node n x d) = record { place = here; flat = tt; shows = λ r. refl; path = λ p w. tt; above = λ p w. tt }
 child_spot k (fork q a c) = go (bit k q) refl (child_spot k a) (child_spot k c)
   where
     go : (o : Bool) → bit k q ≡ o → IsSpot k a (child k a) → IsSpot k c (child k c) → IsSpot k (fork q a c) (if o then child k c else child k a)
@@ -120,6 +129,9 @@ child_spot k (fork q a c) = go (bit k q) refl (child_spot k a) (child_spot k c)
           let i : spot k (page (fork q a c)) ≡ size (page a) + spot k (page c) = rw e refl in
           ap (Fork q (page a)) (y.shows r) ∙ (sym (graft_high q (page a) (page c) (page r) (spot k (page c))) ∙ ap (λ j. grafted j (page r) (page (fork q a c))) (sym i));
       path = λ p w. (w.0, y.path p (let m : MatchBool (bit k q) (WayBelow p k c) (WayBelow p k a) = w.1 in rw e at m));
+      above = λ p w.
+          let i : spot k (page (fork q a c)) ≡ size (page a) + spot k (page c) = rw e refl in
+          subst (λ j. IsAbovePath p j (page (fork q a c))) (sym i) (path_high p q (page a) (page c) (spot k (page c)) w.0 (y.above p w.1));
     }
     go false e x y = record {
       place = zero_side x.place;
@@ -128,20 +140,23 @@ child_spot k (fork q a c) = go (bit k q) refl (child_spot k a) (child_spot k c)
           let i : spot k (page (fork q a c)) ≡ spot k (page a) = rw e refl in
           ap (λ z. Fork q z (page c)) (x.shows r) ∙ (sym (graft_low q (page a) (page c) (page r) (spot k (page a)) (spot_below k (page a))) ∙ ap (λ j. grafted j (page r) (page (fork q a c))) (sym i));
       path = λ p w. (w.0, x.path p (let m : MatchBool (bit k q) (WayBelow p k c) (WayBelow p k a) = w.1 in rw e at m));
+      above = λ p w.
+          let i : spot k (page (fork q a c)) ≡ spot k (page a) = rw e refl in
+          subst (λ j. IsAbovePath p j (page (fork q a c))) (sym i) (path_low p q (page a) (page c) (spot k (page a)) (spot_below k (page a)) w.0 (x.above p w.1));
     }
 
 -- another tree in one place of a shown one, whose other parts stay shown
-pub put_kept : (ns ms : List NodeView) (ls ks : List LeafRecord) {s b : Tree} (w : Within s b) → IsFlat w → (r : Tree) → IsTrie b → IsShown ns ls b → IsShown ns ls s →
-    IsKept ns ms ls ks s → IsShown ms ks r → IsShown ms ks (put w r)
-put_kept ns ms ls ks here f r t i j c h = h
-put_kept ns ms ls ks (inside w) f r t i j c h = elim f [ ]
-put_kept ns ms ls ks {s} (zero_side {p = p} {a = a} {b = d} w) f r t i j c h = (
-  put_kept ns ms ls ks w f r t.0 i.0 j c h,
-  shown_kept ns ms ls ks s d c j i.1 (λ k x y. Rattle.std.proofs.lemmas.Bool.false≢true (sym (t.3 k (has_within w k y)) ∙ t.4 k x)),
+pub put_kept : (ns ms : List NodeView) (ls : List LeafRecord) {s b : Tree} (w : Within s b) → IsFlat w → (r : Tree) → IsTrie b → IsShown ns ls b → IsShown ns ls s →
+    IsKept ns ms s → IsShown ms ls r → IsShown ms ls (put w r)
+put_kept ns ms ls here f r t i j c h = h
+put_kept ns ms ls (inside w) f r t i j c h = elim f [ ]
+put_kept ns ms ls {s} (zero_side {p = p} {a = a} {b = d} w) f r t i j c h = (
+  put_kept ns ms ls w f r t.0 i.0 j c h,
+  shown_kept ns ms ls s d c j i.1 (λ k x y. false≢true (sym (t.3 k (has_within w k y)) ∙ t.4 k x)),
 )
-put_kept ns ms ls ks {s} (one_side {p = p} {a = a} {b = d} w) f r t i j c h = (
-  shown_kept ns ms ls ks s a c j i.0 (λ k x y. Rattle.std.proofs.lemmas.Bool.false≢true (sym (t.3 k x) ∙ t.4 k (has_within w k y))),
-  put_kept ns ms ls ks w f r t.1 i.1 j c h,
+put_kept ns ms ls {s} (one_side {p = p} {a = a} {b = d} w) f r t i j c h = (
+  shown_kept ns ms ls s a c j i.0 (λ k x y. false≢true (sym (t.3 k x) ∙ t.4 k (has_within w k y))),
+  put_kept ns ms ls w f r t.1 i.1 j c h,
 )
 
 pub put_lower : (h : ℕ) {s b : Tree} (w : Within s b) → IsFlat w → (r : Tree) → IsLower h b → IsLower h r → IsLower h (put w r)
@@ -157,22 +172,6 @@ put_built (zero_side w) f r i j = (put_built w f r i.0 j, i.1)
 put_built (one_side w) f r i j = (i.0, put_built w f r i.1 j)
 
 -- ---- one entry more below a node
--- the height of what a tree begins with
-abbrev pub top_height : Tree → ℕ
-top_height (leaf n k v) = 0
-top_height (node n x b) = x.height
-top_height (fork p a b) = 0
-
--- In the place of s the records show a tree with one leaf more, and all records but those of s are as they were.
-pub record IsRaised (ns ms : List NodeView) (ls ks : List LeafRecord) (x : Item) (p : ℕ) (s : Tree) (head : Page) : Type 0 where
-  pub tree : Tree
-  pub begins : page tree ≡ head
-  pub adds : IsAdded x p s tree
-  pub built : IsBuilt tree
-  pub lower : IsLower (suc (top_height s)) tree
-  pub shown : IsShown ms ks tree
-  pub kept : IsKept ns ms ls ks s
-
 -- one leaf more in a node's body is one more in the node
 pub added_node : (n : ℕ) (y : Fixed) (b r : Tree) (x : Item) (p : ℕ) → IsAdded x p b r → IsAdded x p (node n y b) r
 added_node n y b r x p a = record { trie = a.trie; more = a.more; keys = a.keys; like = a.like; has_like = a.has_like; agree = a.agree }

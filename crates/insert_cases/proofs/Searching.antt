@@ -9,6 +9,7 @@ use Rattle.key_bits.specs.Bits.{bit_of}
 use Rattle.compound_node.specs.Nodes.{NodeView, piece, IsLawful, height_of}
 use Rattle.compound_node.specs.declared.entries.Entry.{Entry}
 use Rattle.compound_node.specs.declared.entries.Entry.TheVariants.{Leaf, Node}
+use Rattle.tries.specs.Content.{Item}
 use Rattle.tries.specs.Keys.{Key, bit}
 use Rattle.tries.specs.Search.{child, seek}
 use Rattle.tries.specs.Place.{spot}
@@ -84,6 +85,11 @@ leaf_of_page ns ls k n (leaf m l v) e s = let f : m ≡ n = cc in subst (λ z. s
 leaf_of_page ns ls k n (node m x d) e s = absurd cc
 leaf_of_page ns ls k n (fork p x y) e s = absurd cc
 
+leaf_number : (k : Key) (n : ℕ) (u : Tree) → page u ≡ Place (Leaf n) → (found k u).number ≡ n
+leaf_number k n (leaf m l v) e = cc
+leaf_number k n (node m x d) e = absurd cc
+leaf_number k n (fork p x y) e = absurd cc
+
 -- where a search stands: at an entry that shows a part of the tree, in which it ends at the same leaf
 pub record IsOnWay (ns : List NodeView) (ls : List LeafRecord) (k : Key) (t : Tree) (e : Entry) : Type 0 where
   pub part : Tree
@@ -125,6 +131,9 @@ on_way_within ns ls k t n h w = let u = node_of_page ns ls n h w.part w.head w.s
 
 pub on_way_end : (ns : List NodeView) (ls : List LeafRecord) (k : Key) (t : Tree) (n : ℕ) → IsOnWay ns ls k t (Leaf n) → slice_get ls n ≡ Some (record_of (found k t))
 on_way_end ns ls k t n w = leaf_of_page ns ls k n w.part w.head w.shown ∙ ap (λ x. Some (record_of x)) w.same
+
+pub on_way_number : (ns : List NodeView) (ls : List LeafRecord) (k : Key) (t : Tree) (n : ℕ) → IsOnWay ns ls k t (Leaf n) → (found k t).number ≡ n
+on_way_number ns ls k t n w = ap (λ (y : Item). y.number) (sym w.same) ∙ leaf_number k n w.part w.head
 
 pub on_way_start : (v : PlainView) (k : Key) (e : Entry) → v.top ≡ Some e → IsPlain v → (t : Tree) × (tree_of v ≡ Some t) × IsOnWay v.nodes v.leaves k t e
 on_way_start v k e top i =

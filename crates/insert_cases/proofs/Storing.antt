@@ -48,7 +48,7 @@ module _ (old : NodeView) where
 
   pub named_old : (xs : List NodeView) (n h : ℕ) (P : Piece Entry) → slice_get xs n ≡ Some old → old.height ≡ h → IsLawful old → P ≡ piece old → IsNamed xs old (Node n h) P
   named_old xs n h P at e l s =
-      record { number = n; view = old; at = at; is = ap (Node n) (sym e); lawful = l; shows = sym s; height = inr refl }
+      record { number = n; view = old; at = at; is = ap (Node n) (sym e); lawful = l; shows = sym s; height = inr (refl, refl) }
 
   named_more : (xs ys : List NodeView) (e : Entry) (P : Piece Entry) (i : IsNamed xs old e P) → slice_get ys i.number ≡ Some i.view → IsNamed ys old e P
   named_more xs ys e P i at = record { number = i.number; view = i.view; at = at; is = i.is; lawful = i.lawful; shows = i.shows; height = i.height }

@@ -11,12 +11,12 @@ use Rattle.tries.proofs.Maps.{are_keys, lookup_in, value_holds}
 use Rattle.insert_cases.specs.Searches.{found}
 use Rattle.insert_cases.specs.Store.{PlainView, tree_of, map_read, map_of, read}
 
-in_left : (x : Item) (xs ys : List Item) → IsIn x xs → IsIn x (xs ++ ys)
+pub in_left : (x : Item) (xs ys : List Item) → IsIn x xs → IsIn x (xs ++ ys)
 in_left x [] ys h = elim h [ ]
 in_left x (y ∷ xs) ys (inl e) = inl e
 in_left x (y ∷ xs) ys (inr h) = inr (in_left x xs ys h)
 
-in_right : (x : Item) (xs ys : List Item) → IsIn x ys → IsIn x (xs ++ ys)
+pub in_right : (x : Item) (xs ys : List Item) → IsIn x ys → IsIn x (xs ++ ys)
 in_right x [] ys h = h
 in_right x (y ∷ xs) ys h = inr (in_right x xs ys h)
 

@@ -4,4 +4,6 @@ pub mod Searches
 pub mod Ways
 pub mod Levels
 pub mod Store
+pub mod Gathered
 pub mod Risen
+pub mod Rising

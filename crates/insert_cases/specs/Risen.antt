@@ -7,7 +7,7 @@ use Rattle.compound_node.specs.declared.entries.Entry.{Entry}
 use Rattle.compound_node.specs.declared.entries.Entry.TheVariants.{Node}
 use Rattle.compound_node.specs.declared.halves.Half.{Half}
 use Rattle.compound_node.specs.declared.halves.Half.TheVariants.{One, Many, Same}
-use Rattle.tries.specs.Tree.{Page}
+use Rattle.tries.specs.Tree.{Page, first_position}
 use Rattle.insert_cases.specs.declared.raising.Risen.{Risen}
 use Rattle.insert_cases.specs.declared.raising.Risen.TheVariants.{Whole, Split}
 
@@ -16,7 +16,7 @@ abbrev pub page_of : Risen → Page
 page_of (Whole entry) = Place entry
 page_of (Split position zero one) = Fork position (Place zero) (Place one)
 
--- the entry names a node that shows the page: the old one, or one whose height is built anew
+-- the entry names a node that shows the page: its height is built anew, or it has the old one's height and first position
 pub record IsNamed (nodes : List NodeView) (old : NodeView) (entry : Entry) (shown : Page) : Type 0 where
   pub number : ℕ
   pub view : NodeView
@@ -24,7 +24,7 @@ pub record IsNamed (nodes : List NodeView) (old : NodeView) (entry : Entry) (sho
   pub is : entry ≡ Node number view.height
   pub lawful : IsLawful view
   pub shows : piece view ≡ shown
-  pub height : (view.height ≡ 1 + greatest_height (places shown)) ⊎ (view ≡ old)
+  pub height : (view.height ≡ 1 + greatest_height (places shown)) ⊎ ((view.height ≡ old.height) × (first_position (piece view) ≡ first_position (piece old)))
 
 -- the entry stands for the page: it alone is its place, or it names a node
 abbrev pub IsFor : List NodeView → NodeView → Entry → Page → Type 0

@@ -7,6 +7,8 @@ use Rattle.compound_node.specs.declared.entries.Entry.TheVariants.{Leaf, Node}
 use Rattle.hot_model.specs.Maps.{Map}
 use Rattle.tries.specs.Content.{Item, items, pairs}
 use Rattle.tries.specs.Tree.{Page, Fixed, Tree, leaf, node, fork, page, IsTrie, IsBuilt}
+use Rattle.tries.specs.Keys.{Key}
+use Rattle.insert_cases.specs.Searches.{found}
 use Rattle.insert_cases.specs.declared.plain.LeafRecord.{LeafRecord}
 
 -- what contracts see of a trie: its records, and the root's entry
@@ -85,3 +87,11 @@ ShowsTrie v = MatchOption v.top (map_of v ≡ []) (λ e.
 
 abbrev pub record_of : Item → LeafRecord
 record_of x = record { key = x.key; value = x.value }
+
+-- the key's search ends at its own leaf, which is the record of this number
+pub record IsHeld (v : PlainView) (k : Key) (n : ℕ) : Type 0 where
+  pub tree : Tree
+  pub is : tree_of v ≡ Some tree
+  pub number : (found k tree).number ≡ n
+  pub key : (found k tree).key ≡ k
+  pub at : slice_get v.leaves n ≡ Some (record_of (found k tree))

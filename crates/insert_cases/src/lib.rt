@@ -7,6 +7,7 @@ mod growth;
 mod overflow;
 mod plain;
 mod raising;
+mod rising;
 
 pub use choice::{Case, Choice, Step, chain_end, choose, level_below};
 pub use growth::{Grown, Place, grow, pull_up};

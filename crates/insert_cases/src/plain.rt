@@ -1,14 +1,24 @@
-//! A sequential trie, with its records in vectors: the empty one, and how one is read.
+//! A sequential trie, with its records in vectors.
 
-ghost use Rattle.std.specs.Prelude.{◌≡◌, ◌↔◌, ◌<◌, ◌+◌, Some, None, [], IfOk, OnErr, MatchOption, slice_get};
+ghost use Rattle.std.specs.Prelude.{◌≡◌, ◌⊎◌, ◌<◌, ◌≤◌, ◌+◌, ◌^◌, Some, None, [], IfOk, OnOk, OnErr, MatchOption, slice_get};
+ghost use Rattle.std.specs.Vec.{vec_len, vec_capacity};
 ghost use Rattle.compound_node.specs.Nodes.{piece};
-ghost use Rattle.hot_model.specs.Maps.{value_at, step};
+ghost use Rattle.hot_model.specs.Maps.{value_at, with_value, map_after, reply_of, AddsKey};
+ghost use Rattle.hot_model.specs.declared.Call.TheVariants.{Insert, Upsert};
+ghost use Rattle.key_bits.specs.Bits.{IsFirstDifference};
 ghost use Rattle.tries.specs.Search.{seek};
 
+mod scan;
+
+use crate::rising::{raised, rooted};
 use compound_node::{Entry, Node};
-use key_bits::Key;
-use std::alloc::Global;
+use hot_model::Reply;
+use key_bits::{Key, mismatch};
+use std::alloc::{AllocError, Global};
 use std::marker::Model;
+
+/// A vector has at most this many records, so that a number of 32 bits names each.
+const MAX_RECORDS: usize = 4_294_967_296;
 
 /// A leaf's record: a key with its value.
 #[derive(Drop)]
@@ -37,7 +47,7 @@ impl Model for PlainTrie {
 
 impl PlainTrie {
     ghost use Rattle.insert_cases.specs.Searches.{found};
-    ghost use Rattle.insert_cases.specs.Store.{map_of, ShowsTrie, tree_of, record_of};
+    ghost use Rattle.insert_cases.specs.Store.{map_of, ShowsTrie, IsHeld, tree_of, record_of};
     ghost use Rattle.tries.specs.Tree.{Tree};
     ghost use Rattle.compound_node.specs.Nodes.{height_of};
 
@@ -95,10 +105,115 @@ impl PlainTrie {
         }
     }
 
+    /// Gives the key the value where it has none, and answers `Inserted`, or `Exists` with the value that it has and
+    /// keeps. Only a key that was absent takes memory. Where there is none, or no number is left for a record, the answer
+    /// is `AllocError`, and nothing changes.
+    pub fn insert(&mut self, key: &Key, value: u64) -> Result<Reply, AllocError>
+        ensures reply { IfOk result (λ reply. reply ≡ reply_of (map_of self.old) (Insert key.now value)) }
+        ensures map { OnOk result (map_of self.new ≡ map_after (map_of self.old) (Insert key.now value)) }
+        ensures memory { OnErr result (AddsKey (map_of self.old) (Insert key.now value)) }
+        ensures err { OnErr result (self.new ≡ self.old) }
+    {
+        match self.add_absent(key, value)? {
+            None => Ok(Reply::Inserted),
+            Some(leaf) => Ok(Reply::Exists(self.leaves[leaf].value)),
+        }
+    }
+
+    /// Gives the key the value, and answers `New`, or `Was` with the value that it had. Only a key that was absent takes
+    /// memory. Where there is none, or no number is left for a record, the answer is `AllocError`, and nothing changes.
+    pub fn upsert(&mut self, key: &Key, value: u64) -> Result<Reply, AllocError>
+        ensures reply { IfOk result (λ reply. reply ≡ reply_of (map_of self.old) (Upsert key.now value)) }
+        ensures map { OnOk result (map_of self.new ≡ map_after (map_of self.old) (Upsert key.now value)) }
+        ensures memory { OnErr result (AddsKey (map_of self.old) (Upsert key.now value)) }
+        ensures err { OnErr result (self.new ≡ self.old) }
+    {
+        match self.add_absent(key, value)? {
+            None => Ok(Reply::New),
+            Some(leaf) => {
+                let held = self.leaves[leaf].value;
+                self.set(leaf, key, value);
+                Ok(Reply::Was(held))
+            }
+        }
+    }
+
+    /// Adds a key with its value where it is absent, and answers its leaf where it is not.
+    fn add_absent(&mut self, key: &Key, value: u64) -> Result<Option<usize>, AllocError>
+        ensures ok { IfOk result (λ held. MatchOption held
+            ((value_at (map_of self.old) key.now ≡ None) × (map_of self.new ≡ with_value (map_of self.old) key.now value))
+            (λ leaf. IsHeld self.old key.now leaf × (self.new ≡ self.old))) }
+        ensures memory { OnErr result (value_at (map_of self.old) key.now ≡ None) }
+        ensures err { OnErr result (self.new ≡ self.old) }
+    {
+        match self.top {
+            None => {
+                self.plant(key, value)?;
+                Ok(None)
+            }
+            Some(top) => {
+                let leaf = self.find(key, top);
+                match mismatch(key, &self.leaves[leaf].key) {
+                    None => Ok(Some(leaf)),
+                    Some(position) => {
+                        self.add(key, value, top, position)?;
+                        Ok(None)
+                    }
+                }
+            }
+        }
+    }
+
+    /// Adds the first key.
+    fn plant(&mut self, key: &Key, value: u64) -> Result<(), AllocError>
+        requires { self.old.top ≡ None }
+        ensures map { OnOk result (map_of self.new ≡ with_value (map_of self.old) key.now value) }
+        ensures err { OnErr result (self.new ≡ self.old) }
+    {
+        let number = make_room(&mut self.nodes, &mut self.leaves, 0)?;
+        self.leaves.push_reserved(LeafRecord {
+            key: key.copy(),
+            value,
+        });
+        self.top = Some(Entry::Leaf(number));
+        Ok(())
+    }
+
+    /// Adds a key that differs first at a position from that of the leaf where its search ends.
+    fn add(&mut self, key: &Key, value: u64, top: Entry, position: u16) -> Result<(), AllocError>
+        requires top { self.old.top ≡ Some top }
+        requires position { position < 65535 }
+        requires differ { (t : Tree) → tree_of self.old ≡ Some t → IsFirstDifference key.now (found key.now t).key position }
+        ensures map { OnOk result (map_of self.new ≡ with_value (map_of self.old) key.now value) }
+        ensures err { OnErr result (self.new ≡ self.old) }
+    {
+        let count = usize::from(top.height()) + 1;
+        let number = make_room(&mut self.nodes, &mut self.leaves, count)?;
+        self.leaves.push_reserved(LeafRecord {
+            key: key.copy(),
+            value,
+        });
+        let risen = raised(&mut self.nodes, top, key, position, number);
+        self.top = Some(rooted(&mut self.nodes, risen));
+        Ok(())
+    }
+
+    /// Gives a key that the trie has another value.
+    fn set(&mut self, leaf: usize, key: &Key, value: u64)
+        requires { IsHeld self.old key.now leaf }
+        ensures { map_of self.new ≡ with_value (map_of self.old) key.now value }
+    {
+        self.leaves[leaf] = LeafRecord {
+            key: key.copy(),
+            value,
+        };
+    }
+
     /// The leaf at which the key's search ends.
     fn find(&self, key: &Key, top: Entry) -> usize
         requires { self.now.top ≡ Some top }
-        ensures { (t : Tree) → tree_of self.now ≡ Some t → slice_get self.now.leaves result ≡ Some (record_of (found key.now t)) }
+        ensures number { (t : Tree) → tree_of self.now ≡ Some t → (found key.now t).number ≡ result }
+        ensures record { (t : Tree) → tree_of self.now ≡ Some t → slice_get self.now.leaves result ≡ Some (record_of (found key.now t)) }
     {
         let mut entry = top;
         loop {
@@ -110,6 +225,31 @@ impl PlainTrie {
             }
         }
     }
+}
+
+/// Makes room for one leaf more, whose number is the answer, and for so many nodes.
+fn make_room(
+    nodes: &mut Vec<Node>,
+    leaves: &mut Vec<LeafRecord>,
+    count: usize,
+) -> Result<u32, AllocError>
+    requires { count ≤ 65536 }
+    ensures number { IfOk result (λ number. number ≡ vec_len leaves.old) }
+    ensures nodes { OnOk result (vec_len nodes.new + count ≤ vec_capacity nodes.new) }
+    ensures small { OnOk result (vec_len nodes.new + count ≤ 2 ^ 32) }
+    ensures leaves { OnOk result (vec_len leaves.new < vec_capacity leaves.new) }
+    ensures refused { OnErr result ((2 ^ 32 ≤ vec_len leaves.old) ⊎ (2 ^ 32 < vec_len nodes.old + count) ⊎ (vec_capacity leaves.old ≤ vec_len leaves.old) ⊎
+        (vec_capacity nodes.old < vec_len nodes.old + count)) }
+    ensures same_nodes { nodes.new.items ≡ nodes.old.items }
+    ensures same_leaves { leaves.new.items ≡ leaves.old.items }
+{
+    let number = leaves.len();
+    if number >= MAX_RECORDS || nodes.len() > MAX_RECORDS - count {
+        return Err(AllocError);
+    }
+    leaves.reserve(1)?;
+    nodes.reserve(count)?;
+    Ok(number as u32)
 }
 
 /// The entry to which the key's search leads.

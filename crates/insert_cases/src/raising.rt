@@ -6,10 +6,11 @@ ghost use Rattle.pieces.specs.Piece.{Piece, Fork, Place as At};
 ghost use Rattle.compound_node.specs.Nodes.{NodeView, IsLawful, IsEntry};
 ghost use Rattle.compound_node.specs.declared.entries.Entry.{Entry as EntryView};
 ghost use Rattle.insert_cases.specs.Grown.{GrownShows};
-ghost use Rattle.insert_cases.specs.Risen.{RisenShows, IsNamed, OthersStay, pushed_nodes, pushed_entry, kept_nodes, kept_entry};
+ghost use Rattle.insert_cases.specs.Rising.{IsNew};
+ghost use Rattle.insert_cases.specs.Risen.{RisenShows, OthersStay, pushed_nodes, pushed_entry, kept_nodes, kept_entry};
 
-use compound_node::{Cut, Entry, Half, Node};
 use crate::growth::Grown;
+use compound_node::{Cut, Entry, Half, Node};
 
 /// What takes a node's place: an entry, or a fork of two at a bit position.
 #[derive(Clone, Copy)]
@@ -113,7 +114,7 @@ fn half_pushed(nodes: &mut Vec<Node>, number: u32, height: u16, half: Half) -> E
 }
 
 /// A node in the place of an old one.
-fn kept(nodes: &mut Vec<Node>, number: u32, node: Node) -> Entry
+pub fn kept(nodes: &mut Vec<Node>, number: u32, node: Node) -> Entry
     requires { number < vec_len nodes.old }
     ensures nodes { nodes.new.items ≡ slice_set nodes.old.items number node }
     ensures entry { result ≡ Entry.Node number node.height }
@@ -149,8 +150,7 @@ pub fn settled(nodes: &mut Vec<Node>, position: u16, zero: Entry, one: Entry) ->
     requires position { position < 65535 }
     requires zero { IsEntry zero }
     requires one { IsEntry one }
-    ensures shows { (old : NodeView) → IsNamed nodes.new.items old result (Fork position (At zero) (At one)) }
-    ensures others { (m : ℕ) (v : NodeView) → slice_get nodes.old.items m ≡ Some v → slice_get nodes.new.items m ≡ Some v }
+    ensures new { IsNew nodes.old.items nodes.new.items result (Fork position (At zero) (At one)) }
     ensures len { vec_len nodes.new ≡ vec_len nodes.old + 1 }
     ensures capacity { vec_capacity nodes.new ≡ vec_capacity nodes.old }
 {

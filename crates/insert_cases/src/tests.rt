@@ -2,3 +2,4 @@
 
 mod cases;
 mod plain;
+mod scan;

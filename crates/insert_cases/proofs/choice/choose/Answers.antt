@@ -1,6 +1,5 @@
 -- The choice by steps is the choice of the affected node.
 use Rattle.std.proofs.Common.{◌+◌, get_or}
-use Rattle.std.specs.Prelude.{slice_get}
 use Rattle.std.proofs.lemmas.Option.{slice_get-get_or}
 use Rattle.insert_cases.specs.declared.choice.Step.{Step}
 use Rattle.insert_cases.proofs.Choosing.{chosen, chosen_several, chosen_next, chosen_leaf}

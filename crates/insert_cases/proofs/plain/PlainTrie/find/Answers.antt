@@ -1,9 +1,9 @@
 -- The search goes down the tree that the records show.
-use Rattle.std.proofs.Common.{◌≡◌, ◌∙◌, ap, subst, arith, Some}
+use Rattle.std.proofs.Common.{◌≡◌, ◌∙◌, ap, sym, subst, arith, Some}
 use Rattle.compound_node.specs.Nodes.{height_of}
 use Rattle.insert_cases.specs.Searches.{found}
 use Rattle.insert_cases.specs.Store.{PlainView, tree_of, record_of}
-use Rattle.insert_cases.proofs.Searching.{IsOnWay, on_way_start, on_way_down, on_way_within, on_way_end, tree_once}
+use Rattle.insert_cases.proofs.Searching.{IsOnWay, on_way_start, on_way_down, on_way_within, on_way_end, on_way_number, tree_once}
 use Rattle.insert_cases.proofs.plain.PlainTrie.find.Goals as goal
 
 pub loop-entry-init : goal.loop-entry-init
@@ -11,8 +11,17 @@ loop-entry-init c =
     on_way_start (record { nodes = c.self.inside.nodes.items; leaves = c.self.inside.leaves.items; top = c.self.inside.top }) c.args.key.now c.args.top
     (ap (λ (v : PlainView). v.top) c.self.view_is ∙ c.requires) c.self.invariant
 
-pub returns-in-Leaf : goal.returns-in-Leaf
-returns-in-Leaf c = λ t e.
+pub returns-in-Leaf-clause-number : goal.returns-in-Leaf-clause-number
+returns-in-Leaf-clause-number c = λ t e.
+    let i = c.loop-entry.invariant in
+    let nodes = c.self.inside.nodes.items in
+    let leaves = c.self.inside.leaves.items in
+    let w = subst (IsOnWay nodes leaves c.args.key.now i.0) c.in-Leaf.is i.2 in
+    let same : i.0 ≡ t = tree_once (record { nodes = nodes; leaves = leaves; top = c.self.inside.top }) i.0 t i.1 (ap tree_of c.self.view_is ∙ e) in
+    ap (λ u. (found c.args.key.now u).number) (sym same) ∙ on_way_number nodes leaves c.args.key.now i.0 c.in-Leaf.number w
+
+pub returns-in-Leaf-clause-record : goal.returns-in-Leaf-clause-record
+returns-in-Leaf-clause-record c = λ t e.
     let i = c.loop-entry.invariant in
     let nodes = c.self.inside.nodes.items in
     let leaves = c.self.inside.leaves.items in

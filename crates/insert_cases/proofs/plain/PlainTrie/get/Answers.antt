@@ -20,7 +20,7 @@ tree c =
     (rw (← c.self.view_is) c.self.invariant)
 
 leaf_at : (c : After-find) → Rattle.std.specs.Prelude.slice_get c.args.self.now.leaves c.find.result ≡ Some (record_of (found c.args.key.now (tree c).0))
-leaf_at c = c.find.ensures (tree c).0 (tree c).1.is
+leaf_at c = c.find.ensures.record (tree c).0 (tree c).1.is
 
 pub index-leaf-requires : goal.index-leaf-requires
 index-leaf-requires c =

@@ -1,0 +1,56 @@
+-- What gave way in the child's place is put there.
+use Rattle.std.proofs.Common.{◌≢◌, suc, ◌+◌, ◌<◌, refl, ap, arith, Some}
+use Rattle.insert_cases.specs.Risen.{page_of}
+use Rattle.insert_cases.specs.declared.raising.Risen.TheVariants.{Whole}
+use Rattle.insert_cases.proofs.Climbing.{old_at, old_high, at_within, above_path, pair_here, stands_here, lift, between}
+use Rattle.insert_cases.proofs.rising.lifted.Goals as goal
+
+pub replaced-requires : goal.replaced-requires
+replaced-requires c =
+    let i = c.requires.place.6 in
+    (i.shown.0.view, old_at i, at_within i, stands_here i c.in-Whole.entry (ap page_of c.in-Whole.is))
+
+pub forked_at-requires-clause-place : goal.forked_at-requires-clause-place
+forked_at-requires-clause-place c =
+    let i = c.requires.place.6 in
+    (i.shown.0.view, old_at i, old_high i, at_within i, above_path i c.in-Split.position c.in-Split.zero c.in-Split.one (ap page_of c.in-Split.is))
+
+pub forked_at-requires-clause-position : goal.forked_at-requires-clause-position
+forked_at-requires-clause-position c =
+    let p = pair_here c.requires.place.6 c.in-Split.position c.in-Split.zero c.in-Split.one (ap page_of c.in-Split.is) in omega (arith, p.position)
+
+pub forked_at-requires-clause-zero : goal.forked_at-requires-clause-zero
+forked_at-requires-clause-zero c = (pair_here c.requires.place.6 c.in-Split.position c.in-Split.zero c.in-Split.one (ap page_of c.in-Split.is)).zero
+
+pub forked_at-requires-clause-one : goal.forked_at-requires-clause-one
+forked_at-requires-clause-one c = (pair_here c.requires.place.6 c.in-Split.position c.in-Split.zero c.in-Split.one (ap page_of c.in-Split.is)).one
+
+pub settled-entry-requires : goal.settled-entry-requires
+settled-entry-requires c =
+    let p = pair_here c.requires.place.6 c.in-Split.position c.in-Split.zero c.in-Split.one (ap page_of c.in-Split.is) in
+    record { room = c.requires.room; small = c.requires.small; position = omega (arith, p.position); zero = p.zero; one = p.one }
+
+pub replaced-requires-in_default : goal.replaced-requires-in_default
+replaced-requires-in_default c =
+    let i = c.requires.place.6 in
+    let ne : c.args.height ≢ c.args.low + 1 = λ e. c.in_default.not-PullUp (c.place.ensures.pull_up.1 (ap Some e)) in
+    let far : suc c.args.low < c.args.height = omega (arith, i.lower) in
+    let o = between i c.settled-entry.new.nodes.items c.in-Split.position c.in-Split.zero c.in-Split.one c.settled-entry.result (ap page_of c.in-Split.is) c.settled-entry.ensures.new far in
+    (o.shown.0.view, old_at o, at_within o, stands_here o c.settled-entry.result refl)
+
+pub returns-in-Whole-clause-raised : goal.returns-in-Whole-clause-raised
+returns-in-Whole-clause-raised c = λ ns leaves x p y b i.
+    lift i c.replaced.new.nodes.items (Whole c.replaced.result) c.replaced.ensures.others
+    (λ old at. rw c.in-Whole.is (c.replaced.ensures.shows old at))
+
+pub returns-in-PullUp-clause-raised : goal.returns-in-PullUp-clause-raised
+returns-in-PullUp-clause-raised c = λ ns leaves x p y b i.
+    lift i c.forked_at.new.nodes.items c.forked_at.result c.forked_at.ensures.others
+    (λ old at. rw c.in-Split.is (c.forked_at.ensures.shows old at))
+
+pub returns-in_default-clause-raised : goal.returns-in_default-clause-raised
+returns-in_default-clause-raised c = λ ns leaves x p y b i.
+    let ne : c.args.height ≢ c.args.low + 1 = λ e. c.in_default.not-PullUp (c.place.ensures.pull_up.1 (ap Some e)) in
+    let far : suc c.args.low < c.args.height = omega (arith, i.lower) in
+    lift (between i c.settled-entry.new.nodes.items c.in-Split.position c.in-Split.zero c.in-Split.one c.settled-entry.result (ap page_of c.in-Split.is) c.settled-entry.ensures.new far)
+    c.replaced-in_default.new.nodes.items (Whole c.replaced-in_default.result) c.replaced-in_default.ensures.others c.replaced-in_default.ensures.shows

@@ -1,0 +1,29 @@
+-- An entry stands for itself, and a fork for a node.
+use Rattle.std.proofs.Common.{suc, ap, ◌∙◌, arith, subst}
+use Rattle.insert_cases.specs.Rising.{IsRaised}
+use Rattle.insert_cases.specs.Risen.{page_of}
+use Rattle.insert_cases.proofs.Climbing.{pair_facts, settle}
+use Rattle.insert_cases.proofs.Keeping.{lower_more}
+use Rattle.insert_cases.proofs.rising.rooted.Goals as goal
+
+pub settled-requires : goal.settled-requires
+settled-requires c =
+    let u = c.requires.place.6 in
+    let p = pair_facts c.in-Split.position c.in-Split.zero c.in-Split.one u.tree (u.begins ∙ ap page_of c.in-Split.is) u.adds.trie u.built in
+    record { room = c.requires.room; small = c.requires.small; position = omega (arith, p.position); zero = p.zero; one = p.one }
+
+pub returns-in-Whole : goal.returns-in-Whole
+returns-in-Whole c = λ ns leaves x p t h u. record {
+  tree = u.tree;
+  begins = u.begins ∙ ap page_of c.in-Whole.is;
+  adds = u.adds;
+  built = u.built;
+  lower = lower_more c.args.nodes.now.items h (suc h) u.tree u.lower (omega arith);
+  shown = u.shown;
+  kept = u.kept;
+}
+
+pub returns-in-Split : goal.returns-in-Split
+returns-in-Split c = λ ns leaves x p t h u.
+    settle ns c.args.nodes.now.items c.settled.new.nodes.items leaves x p t h c.in-Split.position c.in-Split.zero c.in-Split.one c.settled.result
+    (subst (IsRaised ns c.args.nodes.now.items leaves x p t h) (ap page_of c.in-Split.is) u) c.settled.ensures.new

@@ -1,0 +1,197 @@
+//! How a new leaf rises from the node that it affects to the root, in records that are kept in a vector.
+
+ghost use Rattle.std.specs.Prelude.{◌≡◌, ℕ, suc, ◌+◌, ◌^◌, ◌<◌, ◌≤◌, List, Some, slice_get};
+ghost use Rattle.std.specs.Vec.{vec_len, vec_capacity};
+ghost use Rattle.pieces.specs.Growth.{grown, IsAffected};
+ghost use Rattle.pieces.specs.Piece.{Fork, Place as At, size};
+ghost use Rattle.compound_node.specs.Nodes.{NodeView, piece, IsEntry, StandsBelow, height_of};
+ghost use Rattle.tries.specs.Affected.{page_forked};
+ghost use Rattle.tries.specs.Content.{Item};
+ghost use Rattle.tries.specs.Tree.{Tree, Fixed, node as tree_node};
+ghost use Rattle.insert_cases.specs.Grafts.{grafted, IsAbovePath};
+ghost use Rattle.insert_cases.specs.Rising.{IsRaised, IsAddable, IsLifting, item};
+ghost use Rattle.insert_cases.specs.Risen.{page_of, IsNamed, RisenShows, OthersStay};
+ghost use Rattle.insert_cases.specs.declared.plain.LeafRecord.{LeafRecord};
+
+use crate::growth::{Place, grow, pull_up};
+use crate::overflow::place;
+use crate::raising::{Risen, kept, settled, stored};
+use compound_node::{Entry, Node};
+use key_bits::Key;
+
+/// What takes the place of an entry when a key gets a leaf below it. The key differs first at `position` from that of
+/// the leaf where its search ends.
+///
+/// The search goes down to the node that the position affects, or to a leaf. A leaf alone counts as a child of height
+/// 0 that gave way to a fork of itself and the new one. Each node on the way back takes what took its child's place.
+pub fn raised(nodes: &mut Vec<Node>, entry: Entry, key: &Key, position: u16, leaf: u32) -> Risen
+    requires place { (leaves : List LeafRecord) × (value : ℕ) × (t : Tree) × IsAddable nodes.old.items leaves (item leaf key.now value) position entry t }
+    requires position { position < 65535 }
+    requires room { vec_len nodes.old + height_of entry ≤ vec_capacity nodes.old }
+    requires small { vec_len nodes.old + height_of entry ≤ 2 ^ 32 }
+    ensures raised { (leaves : List LeafRecord) (value : ℕ) (t : Tree) → IsAddable nodes.old.items leaves (item leaf key.now value) position entry t →
+        IsRaised nodes.old.items nodes.new.items leaves (item leaf key.now value) position t (suc (height_of entry)) (page_of result) }
+    ensures len { vec_len nodes.new ≤ vec_len nodes.old + height_of entry }
+    ensures capacity { vec_capacity nodes.new ≡ vec_capacity nodes.old }
+{
+    match entry {
+        Entry::Leaf(_) => beside(entry, position, key.bit(position), Entry::Leaf(leaf)),
+        Entry::Node { number, height } => {
+            let node = &nodes[number as usize];
+            let at = node.search(key);
+            prove!(at < node.count());
+            let (first, last) = node.affected(at, position);
+            if first < last {
+                return grown_at(
+                    nodes,
+                    number,
+                    height,
+                    first,
+                    last,
+                    position,
+                    key.bit(position),
+                    leaf,
+                );
+            }
+            let child = node.entry(at);
+            let risen = raised(nodes, child, key, position, leaf);
+            lifted(nodes, number, height, at, child.height(), risen)
+        }
+    }
+}
+
+/// The fork of an entry and a new one, which stands on the side of the bit.
+fn beside(old: Entry, position: u16, bit: bool, new: Entry) -> Risen
+    ensures { page_of result ≡ page_forked bit position new (At old) }
+{
+    if bit {
+        Risen::Split {
+            position,
+            zero: old,
+            one: new,
+        }
+    } else {
+        Risen::Split {
+            position,
+            zero: new,
+            one: old,
+        }
+    }
+}
+
+/// What takes the place of a node that gets a leaf beside its entries from `first` to `last`.
+fn grown_at(
+    nodes: &mut Vec<Node>,
+    number: u32,
+    height: u16,
+    first: u8,
+    last: u8,
+    position: u16,
+    bit: bool,
+    leaf: u32,
+) -> Risen
+    requires place { (old : NodeView) × (slice_get nodes.old.items number ≡ Some old) × (old.height ≡ height) × IsAffected (piece old) position first last }
+    requires position { position < 65535 }
+    requires room { vec_len nodes.old < vec_capacity nodes.old }
+    requires small { vec_len nodes.old < 2 ^ 32 }
+    ensures shows { (old : NodeView) → slice_get nodes.old.items number ≡ Some old →
+        RisenShows nodes.new.items old result (grown position bit (Entry.Leaf leaf) first (piece old)) }
+    ensures others { OthersStay nodes.old.items nodes.new.items number }
+    ensures len { vec_len nodes.new ≤ vec_len nodes.old + 1 }
+    ensures capacity { vec_capacity nodes.new ≡ vec_capacity nodes.old }
+{
+    let node = &nodes[number as usize];
+    prove!(node.count() <= 32);
+    let grown = grow(node, first, last, position, bit, Entry::Leaf(leaf));
+    stored(nodes, number, height, grown)
+}
+
+/// What takes a node's place when the child at `at`, which had the height `low`, gave way. A fork goes into the node
+/// where the node is one higher than the child, and into a new child otherwise.
+fn lifted(nodes: &mut Vec<Node>, number: u32, height: u16, at: u8, low: u16, risen: Risen) -> Risen
+    requires place { (ns : List NodeView) × (leaves : List LeafRecord) × (x : Item) × (p : ℕ) × (y : Fixed) × (b : Tree) ×
+        IsLifting ns nodes.old.items leaves x p number height at low y b (page_of risen) }
+    requires room { vec_len nodes.old < vec_capacity nodes.old }
+    requires small { vec_len nodes.old < 2 ^ 32 }
+    ensures raised { (ns : List NodeView) (leaves : List LeafRecord) (x : Item) (p : ℕ) (y : Fixed) (b : Tree) →
+        IsLifting ns nodes.old.items leaves x p number height at low y b (page_of risen) →
+        IsRaised ns nodes.new.items leaves x p (tree_node number y b) (suc height) (page_of result) }
+    ensures len { vec_len nodes.new ≤ vec_len nodes.old + 1 }
+    ensures capacity { vec_capacity nodes.new ≡ vec_capacity nodes.old }
+{
+    match risen {
+        Risen::Whole(entry) => Risen::Whole(replaced(nodes, number, at, entry)),
+        Risen::Split {
+            position,
+            zero,
+            one,
+        } => match place(low, Some(height)) {
+            Place::PullUp => forked_at(nodes, number, height, at, position, zero, one),
+            _ => {
+                let entry = settled(nodes, position, zero, one);
+                Risen::Whole(replaced(nodes, number, at, entry))
+            }
+        },
+    }
+}
+
+/// What takes the place of a node that gets a fork of two entries in place of its entry `at`.
+fn forked_at(
+    nodes: &mut Vec<Node>,
+    number: u32,
+    height: u16,
+    at: u8,
+    position: u16,
+    zero: Entry,
+    one: Entry,
+) -> Risen
+    requires place { (old : NodeView) × (slice_get nodes.old.items number ≡ Some old) × (old.height ≡ height) × (at < size (piece old)) × IsAbovePath position at (piece old) }
+    requires position { position < 65535 }
+    requires zero { IsEntry zero }
+    requires one { IsEntry one }
+    requires room { vec_len nodes.old < vec_capacity nodes.old }
+    requires small { vec_len nodes.old < 2 ^ 32 }
+    ensures shows { (old : NodeView) → slice_get nodes.old.items number ≡ Some old →
+        RisenShows nodes.new.items old result (grafted at (Fork position (At zero) (At one)) (piece old)) }
+    ensures others { OthersStay nodes.old.items nodes.new.items number }
+    ensures len { vec_len nodes.new ≤ vec_len nodes.old + 1 }
+    ensures capacity { vec_capacity nodes.new ≡ vec_capacity nodes.old }
+{
+    let node = &nodes[number as usize];
+    prove!(at < node.count());
+    let grown = pull_up(node, at, position, zero, one);
+    stored(nodes, number, height, grown)
+}
+
+/// The root's entry, where this is what takes the place of the one before: a fork gets a new node.
+pub fn rooted(nodes: &mut Vec<Node>, risen: Risen) -> Entry
+    requires place { (ns : List NodeView) × (leaves : List LeafRecord) × (x : Item) × (p : ℕ) × (t : Tree) × (h : ℕ) ×
+        IsRaised ns nodes.old.items leaves x p t h (page_of risen) }
+    requires room { vec_len nodes.old < vec_capacity nodes.old }
+    requires small { vec_len nodes.old < 2 ^ 32 }
+    ensures { (ns : List NodeView) (leaves : List LeafRecord) (x : Item) (p : ℕ) (t : Tree) (h : ℕ) →
+        IsRaised ns nodes.old.items leaves x p t h (page_of risen) → IsRaised ns nodes.new.items leaves x p t (suc h) (At result) }
+{
+    match risen {
+        Risen::Whole(entry) => entry,
+        Risen::Split {
+            position,
+            zero,
+            one,
+        } => settled(nodes, position, zero, one),
+    }
+}
+
+/// A node with another entry at a place, in its own record.
+fn replaced(nodes: &mut Vec<Node>, number: u32, at: u8, entry: Entry) -> Entry
+    requires { (old : NodeView) × (slice_get nodes.old.items number ≡ Some old) × (at < size (piece old)) × StandsBelow old.height entry }
+    ensures shows { (old : NodeView) → slice_get nodes.old.items number ≡ Some old → IsNamed nodes.new.items old result (grafted at (At entry) (piece old)) }
+    ensures others { OthersStay nodes.old.items nodes.new.items number }
+    ensures len { vec_len nodes.new ≡ vec_len nodes.old }
+    ensures capacity { vec_capacity nodes.new ≡ vec_capacity nodes.old }
+{
+    let node = &nodes[number as usize];
+    prove!(at < node.count());
+    let node = node.replace(at, entry);
+    kept(nodes, number, node)
+}
