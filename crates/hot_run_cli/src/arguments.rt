@@ -1,7 +1,9 @@
 //! The command line.
 
-ghost use Rattle.std.specs.Prelude.{◌≡◌, ◌≤◌};
+ghost use Rattle.std.specs.Prelude.{◌≡◌, ◌⊎◌, ◌≤◌, IfErr};
 ghost use Rattle.clap.specs.Words.{kind_of};
+ghost use Rattle.hot_run.specs.declared.fault.RunFault.TheVariants.{Memory};
+ghost use Rattle.hot_run_cli.specs.declared.ending.Ending.TheVariants.{Usage, Fault};
 ghost use Rattle.hot_run_cli.specs.Endings.{ending_of};
 ghost use Rattle.hot_run_cli.specs.Options.{IsCountOption};
 
@@ -42,8 +44,11 @@ fn count_option<'a>(alloc: Global, name: &'a str, most: u32) -> Arg<'a>
         .value_parser(value_parser!(u32).range(1..=i64::from(most)))
 }
 
-/// The sizes that the command line asks for.
-pub fn parse(alloc: Global, words: &[String]) -> Result<Sizes, Ending> {
+/// The sizes that the command line asks for: 4,096 nodes and 16,384 leaves where it doesn't say. It is refused by the usage
+/// line, or for want of memory.
+pub fn parse(alloc: Global, words: &[String]) -> Result<Sizes, Ending>
+    ensures { IfErr result (λ ending. (ending ≡ Usage) ⊎ (ending ≡ Fault Memory)) }
+{
     let nodes = count_option(alloc, "nodes", MAX_NODES);
     let leaves = count_option(alloc, "leaves", MAX_LEAVES);
     let command = Command::new(alloc, "hot-run").arg(nodes)?.arg(leaves)?;
