@@ -179,7 +179,8 @@ impl PlainTrie {
         Ok(())
     }
 
-    /// Adds a key that differs first at a position from that of the leaf where its search ends.
+    /// Adds a key that differs first at a position from that of the leaf where its search ends. Room is made first, for
+    /// the leaf and for the most nodes that can come: one for each height, and a new root. So a refusal changes nothing.
     fn add(&mut self, key: &Key, value: u64, top: Entry, position: u16) -> Result<(), AllocError>
         requires top { self.old.top ≡ Some top }
         requires position { position < 65535 }

@@ -46,8 +46,7 @@ pub fn raised(nodes: &mut Vec<Node>, entry: Entry, key: &Key, position: u16, lea
                     nodes,
                     number,
                     height,
-                    first,
-                    last,
+                    (first, last),
                     position,
                     key.bit(position),
                     leaf,
@@ -79,27 +78,27 @@ fn beside(old: Entry, position: u16, bit: bool, new: Entry) -> Risen
     }
 }
 
-/// What takes the place of a node that gets a leaf beside its entries from `first` to `last`.
+/// What takes the place of a node that gets a leaf beside a range of its entries, from the first to the last.
 fn grown_at(
     nodes: &mut Vec<Node>,
     number: u32,
     height: u16,
-    first: u8,
-    last: u8,
+    range: (u8, u8),
     position: u16,
     bit: bool,
     leaf: u32,
 ) -> Risen
-    requires place { (old : NodeView) × (slice_get nodes.old.items number ≡ Some old) × (old.height ≡ height) × IsAffected (piece old) position first last }
+    requires place { (old : NodeView) × (slice_get nodes.old.items number ≡ Some old) × (old.height ≡ height) × IsAffected (piece old) position range.0 range.1 }
     requires position { position < 65535 }
     requires room { vec_len nodes.old < vec_capacity nodes.old }
     requires small { vec_len nodes.old < 2 ^ 32 }
     ensures shows { (old : NodeView) → slice_get nodes.old.items number ≡ Some old →
-        RisenShows nodes.new.items old result (grown position bit (Entry.Leaf leaf) first (piece old)) }
+        RisenShows nodes.new.items old result (grown position bit (Entry.Leaf leaf) range.0 (piece old)) }
     ensures others { OthersStay nodes.old.items nodes.new.items number }
     ensures len { vec_len nodes.new ≤ vec_len nodes.old + 1 }
     ensures capacity { vec_capacity nodes.new ≡ vec_capacity nodes.old }
 {
+    let (first, last) = range;
     let node = &nodes[number as usize];
     prove!(node.count() <= 32);
     let grown = grow(node, first, last, position, bit, Entry::Leaf(leaf));
