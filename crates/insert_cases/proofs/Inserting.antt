@@ -20,6 +20,7 @@ use Rattle.tries.proofs.Adding.{exchanged_put, exchanged_leaf}
 use Rattle.tries.proofs.Contents.{content_rises}
 use Rattle.tries.proofs.Maps.{are_keys, more_inserts, exchange_inserts}
 use Rattle.tries.proofs.Tries.{has_within, trie_within}
+use Rattle.tries.proofs.Puts.{page_put}
 use Rattle.insert_cases.specs.declared.plain.LeafRecord.{LeafRecord}
 use Rattle.insert_cases.specs.Rising.{IsRaised, IsAddable, item}
 use Rattle.insert_cases.specs.Searches.{found}
@@ -82,13 +83,6 @@ found_place k (node n x b) = inside (found_place k b)
 found_place k (fork p a b) =
     elim (bit k p) as (λ u. let y : Item = if u then found k b else found k a in Within (leaf y.number y.key y.value) (fork p a b)) [ true ↦ one_side (found_place k b) | false ↦ zero_side (found_place k a) ]
 
--- a leaf for another of the same number keeps the pages
-put_page : {s t : Tree} (w : Within s t) (r : Tree) → page r ≡ page s → page (put w r) ≡ page t
-put_page here r e = e
-put_page (inside w) r e = refl
-put_page (zero_side {p = p} {b = b} w) r e = ap (λ z. Fork p z (page b)) (put_page w r e)
-put_page (one_side {p = p} {a = a} w) r e = ap (Fork p (page a)) (put_page w r e)
-
 fork_page : (s t : Tree) → page s ≡ page t → IsFork t → IsFork s
 fork_page s (leaf n l v) e f = elim f [ ]
 fork_page s (node n x b) e f = elim f [ ]
@@ -99,7 +93,7 @@ fork_page (fork q c d) (fork p a b) e f = tt
 put_same : {s t : Tree} (w : Within s t) (r : Tree) → page r ≡ page s → IsBuilt r → IsBuilt t → IsBuilt (put w r)
 put_same here r e b i = b
 put_same (inside {n = n} {x = x} {b = d} w) r e b i =
-    let same = put_page w r e in (
+    let same = page_put w r e in (
       fork_page (put w r) d same i.0,
       lower_from x.height (put w r) (subst (λ f. greatest_height (places f) < x.height) (sym same) (lower_to x.height d i.1)),
       put_same w r e b i.2,
@@ -121,7 +115,7 @@ shown_put : (ns : List NodeView) (ls : List LeafRecord) (n : ℕ) (k : Key) (v x
     IsShown ns ls t → IsShown ns (set ls n (record { key = k; value = x })) (put w (leaf n k x))
 shown_put ns ls n k v x here trie at i = set_same ls n _ (slice_get_within ls n _ at)
 shown_put ns ls n k v x (inside {b = d} w) trie at i =
-    (record { view = i.0.view; at = i.0.at; fixed = i.0.fixed; shows = i.0.shows ∙ sym (put_page w (leaf n k x) refl) }, shown_put ns ls n k v x w trie at i.1)
+    (record { view = i.0.view; at = i.0.at; fixed = i.0.fixed; shows = i.0.shows ∙ sym (page_put w (leaf n k x) refl) }, shown_put ns ls n k v x w trie at i.1)
 shown_put ns ls n k v x (zero_side {p = p} {a = a} {b = d} w) trie at i = (
   shown_put ns ls n k v x w trie.0 at i.0,
   shown_else ns ls n (record { key = k; value = v }) (record { key = k; value = x }) d at
@@ -144,7 +138,7 @@ top_of v t e = go v.top refl
 pub held_becomes : (v w : PlainView) (k : Key) (n x : ℕ) → IsPlain v → IsHeld v k n → w.nodes ≡ v.nodes → w.leaves ≡ set v.leaves n (record { key = k; value = x }) → w.top ≡ v.top →
     Becomes v w k x
 held_becomes v w k n x plain held nodes leaves top =
-    becomes v w e.0 (put place new) k x (top ∙ e.1) (put_page place new refl ∙ (ap page (sym same) ∙ t.1.head)) exchange.trie (put_same place new refl tt (subst IsBuilt same t.1.sound.built))
+    becomes v w e.0 (put place new) k x (top ∙ e.1) (page_put place new refl ∙ (ap page (sym same) ∙ t.1.head)) exchange.trie (put_same place new refl tt (subst IsBuilt same t.1.sound.built))
     (subst (λ ns. IsShown ns w.leaves (put place new)) (sym nodes) (subst (λ ls. IsShown v.nodes ls (put place new)) (sym leaves)
     (shown_put v.nodes v.leaves n k y.value x place trie at (subst (IsShown v.nodes v.leaves) same t.1.shown))))
     (ap (λ m. with_value m k x) (map_is v held.tree held.is) ∙

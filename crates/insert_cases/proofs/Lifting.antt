@@ -15,6 +15,7 @@ use Rattle.tries.specs.Tree.{Page, Fixed, Tree, leaf, node, fork, page, Has, IsT
 use Rattle.tries.proofs.Adding.{added, added_bare, added_put}
 use Rattle.tries.proofs.Affected.{IsAway, part_place, place_page}
 use Rattle.tries.proofs.Places.{grown}
+use Rattle.tries.proofs.Puts.{lower_flat, built_flat}
 use Rattle.insert_cases.specs.Grafts.{grafted}
 use Rattle.insert_cases.specs.Ways.{WayBelow}
 use Rattle.insert_cases.specs.declared.plain.LeafRecord.{LeafRecord}
@@ -23,7 +24,7 @@ use Rattle.insert_cases.specs.Risen.{page_of, RisenShows, OthersStay}
 use Rattle.insert_cases.specs.Rising.{NoNode, IsRaised}
 use Rattle.insert_cases.specs.Store.{IsShown}
 use Rattle.insert_cases.proofs.Keeping.{lower_more, no_node_below, shown_but}
-use Rattle.insert_cases.proofs.Raised.{risen_around, child_spot, put_kept, put_lower, put_built, added_node}
+use Rattle.insert_cases.proofs.Raised.{risen_around, child_spot, put_kept, added_node}
 use Rattle.insert_cases.proofs.Searching.{shown_within}
 
 put_shown : (ns : List NodeView) (ls : List LeafRecord) {s b : Tree} (w : Within s b) → IsFlat w → (r : Tree) → IsShown ns ls b → IsShown ns ls r → IsShown ns ls (put w r)
@@ -98,8 +99,8 @@ module _ (ns : List NodeView) (ls : List LeafRecord) (n : ℕ) (x : Fixed) (b : 
         let facts = new_part (bit it.key p) in
         let adds = added w.0 it p c trie key w.2 away refl in
         let a = risen_around ms ls shown.0.view bounded risen c (subst (RisenShows ms shown.0.view risen) (sym (place_page p it b)) shows) adds.trie
-        (put_built w.0 w.1 r built.2 facts.1) (put_shown ms ls w.0 w.1 r kept_body facts.0)
-        (subst (λ h. IsLower h c) (sym old_height) (put_lower x.height w.0 w.1 r built.1 facts.2)) in
+        (built_flat w.0 w.1 r built.2 facts.1) (put_shown ms ls w.0 w.1 r kept_body facts.0)
+        (subst (λ h. IsLower h c) (sym old_height) (lower_flat x.height w.0 w.1 r built.1 facts.2)) in
         record {
           tree = a.tree;
           begins = a.begins;
@@ -118,10 +119,10 @@ module _ (ns : List NodeView) (ls : List LeafRecord) (n : ℕ) (x : Fixed) (b : 
     old_stays = up.kept n shown.0.view (no_node_part n (child_spot it.key b).place (child_spot it.key b).flat not_below) shown.0.at
 
     pub body_lower : IsLower x.height (put (child_spot it.key b).place up.tree)
-    body_lower = put_lower x.height (child_spot it.key b).place (child_spot it.key b).flat up.tree built.1 (lower_more ms h x.height up.tree up.lower low)
+    body_lower = lower_flat x.height (child_spot it.key b).place (child_spot it.key b).flat up.tree built.1 (lower_more ms h x.height up.tree up.lower low)
 
     pub body_built : IsBuilt (put (child_spot it.key b).place up.tree)
-    body_built = put_built (child_spot it.key b).place (child_spot it.key b).flat up.tree built.2 up.built
+    body_built = built_flat (child_spot it.key b).place (child_spot it.key b).flat up.tree built.2 up.built
 
     body_shown : IsShown ms ls (put (child_spot it.key b).place up.tree)
     body_shown =

@@ -159,18 +159,6 @@ put_kept ns ms ls {s} (one_side {p = p} {a = a} {b = d} w) f r t i j c h = (
   put_kept ns ms ls w f r t.1 i.1 j c h,
 )
 
-pub put_lower : (h : ℕ) {s b : Tree} (w : Within s b) → IsFlat w → (r : Tree) → IsLower h b → IsLower h r → IsLower h (put w r)
-put_lower h here f r i j = j
-put_lower h (inside w) f r i j = elim f [ ]
-put_lower h (zero_side w) f r i j = (put_lower h w f r i.0 j, i.1)
-put_lower h (one_side w) f r i j = (i.0, put_lower h w f r i.1 j)
-
-pub put_built : {s b : Tree} (w : Within s b) → IsFlat w → (r : Tree) → IsBuilt b → IsBuilt r → IsBuilt (put w r)
-put_built here f r i j = j
-put_built (inside w) f r i j = elim f [ ]
-put_built (zero_side w) f r i j = (put_built w f r i.0 j, i.1)
-put_built (one_side w) f r i j = (i.0, put_built w f r i.1 j)
-
 -- ---- one entry more below a node
 -- one leaf more in a node's body is one more in the node
 pub added_node : (n : ℕ) (y : Fixed) (b r : Tree) (x : Item) (p : ℕ) → IsAdded x p b r → IsAdded x p (node n y b) r

@@ -13,6 +13,7 @@ use Rattle.moments.proofs.Heaps.{shown_within, determined}
 use Rattle.moments.proofs.Publish.{links_within}
 use Rattle.moments.proofs.Quiet.{shown_ext}
 use Rattle.tries.specs.Content.{first}
+use Rattle.tries.proofs.Puts.{page_put}
 
 node_number : {n o : ℕ} → a_node n ≡ a_node o → n ≡ o
 node_number e = cc
@@ -56,12 +57,6 @@ not_above m n x b t i l = go (links_within b (a_node n) l)
         let f : x ≡ y = cc in
         let h : y.height < x.height = lower_within x.height u t.1 t.2 in
         let g : x.height ≡ y.height = ap (λ (z : Fixed). z.height) f in omega arith
-
-pub page_put : {s t : Tree} (w : Within s t) (r : Tree) → page r ≡ page s → page (put w r) ≡ page t
-page_put here r e = e
-page_put (inside w) r e = refl
-page_put (zero_side {p = p} {b = b} w) r e = ap (λ z. Fork p z (page b)) (page_put w r e)
-page_put (one_side {p = p} {a = a} w) r e = ap (λ z. Fork p (page a) z) (page_put w r e)
 
 pub links_of : {n : ℕ} {x : Fixed} {b t : Tree} → Within (node n x b) t → Links t (a_node n)
 links_of here = inl refl

@@ -11,7 +11,8 @@ use Rattle.tries.specs.Content.{Item}
 use Rattle.tries.specs.Changes.{put, IsFlat, IsAdded}
 use Rattle.rowex_walks.specs.Writer.{IsAtHand, IsNewNode}
 use Rattle.tries.proofs.Places.{grown}
-use Rattle.rowex_walks.proofs.Replaced.{links_put, put_links, links_new, links_old, shown_flat, built_flat}
+use Rattle.tries.proofs.Puts.{built_flat}
+use Rattle.rowex_walks.proofs.Replaced.{links_put, put_links, links_new, links_old, shown_flat}
 
 leaf_node : {n m : ℕ} → a_node n ≡ a_leaf m → ⊥
 leaf_node e = cc

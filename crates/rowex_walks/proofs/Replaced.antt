@@ -18,10 +18,11 @@ use Rattle.rowex_walks.specs.Writer.{IsAtHand, IsStored}
 use Rattle.moments.proofs.Publish.{links_within, within_links}
 use Rattle.moments.proofs.Quiet.{shown_ext}
 use Rattle.moments.proofs.Heaps.{shown_within, near_refl}
-use Rattle.moments.proofs.Stored.{not_above, lower_within, page_put, put_shown, put_built}
+use Rattle.moments.proofs.Stored.{not_above, lower_within, put_shown, put_built}
 use Rattle.moments.proofs.Growth.{in_tree_now}
 use Rattle.tries.proofs.Tries.{built_within}
 use Rattle.tries.proofs.Fitting.{fit_swap}
+use Rattle.tries.proofs.Puts.{page_put, lower_flat, built_flat}
 use Rattle.rowex_walks.proofs.Now.{built_now, shown_now, trie_now}
 
 -- What is linked in the tree with another part in one place.
@@ -83,18 +84,6 @@ shown_flat m here f r i j = j
 shown_flat m (inside w) f r i j = elim f [ ]
 shown_flat m (zero_side w) f r i j = (shown_flat m w f r i.0 j, i.1)
 shown_flat m (one_side w) f r i j = (i.0, shown_flat m w f r i.1 j)
-
-pub lower_flat : (h : ℕ) {s t : Tree} (w : Within s t) → IsFlat w → (r : Tree) → IsLower h t → IsLower h r → IsLower h (put w r)
-lower_flat h here f r i j = j
-lower_flat h (inside w) f r i j = elim f [ ]
-lower_flat h (zero_side w) f r i j = (lower_flat h w f r i.0 j, i.1)
-lower_flat h (one_side w) f r i j = (i.0, lower_flat h w f r i.1 j)
-
-pub built_flat : {s t : Tree} (w : Within s t) → IsFlat w → (r : Tree) → IsBuilt t → IsBuilt r → IsBuilt (put w r)
-built_flat here f r i j = j
-built_flat (inside w) f r i j = elim f [ ]
-built_flat (zero_side w) f r i j = (built_flat w f r i.0 j, i.1)
-built_flat (one_side w) f r i j = (i.0, built_flat w f r i.1 j)
 
 pub fork_flat : {s t : Tree} (w : Within s t) → IsTip s → (r : Tree) → IsFork t → IsFork (put w r)
 fork_flat {s = leaf n k v} here i r f = elim f [ ]

@@ -3,6 +3,7 @@ pub mod Contents
 pub mod Maps
 pub mod Ranges
 pub mod Places
+pub mod Puts
 pub mod Adding
 pub mod Affected
 pub mod Spots
