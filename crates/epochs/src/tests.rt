@@ -1,12 +1,16 @@
 //! The steps of pins and rounds on small tables, as a gate is told them.
 
-ghost use Rattle.std.specs.Prelude.{◌≡◌, All, IfOk};
+ghost use Rattle.std.specs.Prelude.{◌≡◌, ◌<◌, ℕ, List, All, IfOk, true};
+ghost use Rattle.moments.specs.declared.Rec.TheVariants.{Leaf as a_leaf};
+ghost use Rattle.rowex_core.specs.declared.known.Holding.TheVariants.{Ready as IsReady};
+ghost use Rattle.rowex_table.specs.Rights.{Has};
 ghost use Rattle.rowex_table.specs.Rule.{opening_of};
 ghost use Rattle.rowex_table.specs.Seats.{Fits, known};
 
 use super::*;
-use record_words::Layout;
-use rowex_core::{Act, Event, Gate, Rec};
+use key_bits::Key;
+use record_words::{Layout, pack_leaf};
+use rowex_core::{Act, Event, Gate, Rec, Spot, Target};
 use rowex_table::{HotTable, TableSeat};
 use std::alloc::Global;
 use std::test::*;
@@ -119,6 +123,81 @@ fn a_round_leaves_held_records(rt: HostRuntime) -> Result<(), Fail> {
         }
     );
     assert_eq!(rt; table.load_state(&mut first, Rec::Leaf(1)), 1);
+    Ok(())
+}
+
+/// Claims leaf 0, fills it with a pair and makes it ready; answers whether it was free.
+fn make_leaf(table: &HotTable, seat: &mut TableSeat, key: &Key, value: u64) -> bool
+    requires { Fits table.now seat.old × (0 < table.now.layout.leaves) }
+    ensures fits { Fits table.now seat.new }
+    ensures pin { (known seat.new).pin ≡ (known seat.old).pin }
+    ensures has { result ≡ true → (words : List ℕ) × Has (known seat.new) (a_leaf 0) IsReady words }
+{
+    if table.claim(seat, Rec::Leaf(0)) != 0 {
+        return false;
+    }
+    let words = pack_leaf(key, value);
+    for index in 0..32u8 {
+        table.fill(seat, Rec::Leaf(0), index + 1, words[index as usize]);
+    }
+    table.ready(seat, Rec::Leaf(0));
+    true
+}
+
+/// Links leaf 0 at the root; answers whether the anchor was not locked and the root was empty.
+fn link_leaf(table: &HotTable, seat: &mut TableSeat) -> bool
+    requires fits { Fits table.now seat.old × (0 < table.now.layout.leaves) }
+    requires has { (words : List ℕ) × Has (known seat.old) (a_leaf 0) IsReady words }
+    ensures fits { Fits table.now seat.new }
+    ensures pin { (known seat.new).pin ≡ (known seat.old).pin }
+{
+    if table.lock(seat, Target::Anchor) != 2 {
+        return false;
+    }
+    let root = table.load_ref(seat, Spot::Root);
+    if root == 0 {
+        table.publish(seat, Spot::Root, 1);
+    }
+    table.unlock(seat, Target::Anchor);
+    root == 0
+}
+
+/// Unlinks leaf 0 from the root and retires it; answers whether the anchor was not locked and the root named leaf 0.
+fn unlink_leaf(table: &HotTable, seat: &mut TableSeat) -> bool
+    requires { Fits table.now seat.old × (0 < table.now.layout.leaves) }
+    ensures fits { Fits table.now seat.new }
+    ensures pin { (known seat.new).pin ≡ (known seat.old).pin }
+{
+    if table.lock(seat, Target::Anchor) != 2 {
+        return false;
+    }
+    let root = table.load_ref(seat, Spot::Root);
+    if root == 1 {
+        table.publish(seat, Spot::Root, 0);
+        let epoch = table.load_epoch(seat);
+        table.mark(seat, Rec::Leaf(0), epoch);
+    }
+    table.unlock(seat, Target::Anchor);
+    root == 1
+}
+
+#[test]
+fn an_unlinked_leaf_is_given_back_once_no_pass_is_pinned(rt: HostRuntime) -> Result<(), Fail> {
+    let (table, mut seats) = table_of(rt.alloc(), 2, 1, 1)?;
+    let mut second = last_seat(&table, &mut seats)?;
+    let mut first = last_seat(&table, &mut seats)?;
+    let key = Key::from_bytes(b"ab").ok().ok_or("a key")?;
+    assert!(rt; make_leaf(&table, &mut first, &key, 77));
+    assert!(rt; link_leaf(&table, &mut first));
+    pin(&table, &mut second);
+    assert!(rt; unlink_leaf(&table, &mut first));
+    let given = collect_round(&table, &mut first);
+    assert!(rt; given.nodes == 0 && given.leaves == 0);
+    assert_eq!(rt; table.load_state(&mut first, Rec::Leaf(0)), 12);
+    unpin(&table, &mut second);
+    let given = collect_round(&table, &mut first);
+    assert!(rt; given.nodes == 0 && given.leaves == 1);
+    assert_eq!(rt; table.claim(&mut first, Rec::Leaf(0)), 0);
     Ok(())
 }
 

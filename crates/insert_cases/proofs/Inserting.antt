@@ -5,7 +5,7 @@ use Rattle.std.proofs.lemmas.Bool.{false≢true}
 use Rattle.std.proofs.lemmas.Option.{slice_get_within}
 use Rattle.key_bits.specs.Key.{IsKey}
 use Rattle.key_bits.specs.Bits.{IsFirstDifference, bit_of}
-use Rattle.pieces.specs.Piece.{Place, Fork, places}
+use Rattle.pieces.specs.Piece.{Place, places}
 use Rattle.compound_node.specs.Nodes.{NodeView, height_of, greatest_height}
 use Rattle.compound_node.specs.declared.entries.Entry.{Entry}
 use Rattle.compound_node.specs.declared.entries.Entry.TheVariants.{Leaf}

@@ -1,9 +1,9 @@
 -- One store into a node: the tree that the words show then. And the opening state.
 use Rattle.std.proofs.Common.{◌≡◌, ◌≢◌, inl, inr, ℕ, ◌<◌, refl, ap, ap₂, sym, ◌∙◌, subst, arith, Option, Some, None, lt_trans}
 use Rattle.std.proofs.lemmas.Bool.{false≢true}
-use Rattle.tries.specs.Tree.{Fixed, Tree, leaf, node, fork, page, Has, IsTrie, IsFork, IsLower, IsBuilt, Within, here, inside, zero_side, one_side, IsFit}
+use Rattle.tries.specs.Tree.{Fixed, Tree, leaf, node, fork, Has, IsTrie, IsFork, IsLower, IsBuilt, Within, here, inside, zero_side, one_side, IsFit}
 use Rattle.compound_node.specs.declared.entries.Entry.TheVariants.{Node}
-use Rattle.pieces.specs.Piece.{Place, Fork}
+use Rattle.pieces.specs.Piece.{Place}
 use Rattle.moments.specs.Heap.{NodeWords, Heap, IsShown}
 use Rattle.moments.specs.State.{IsRecord, Links, Out, IsLawful}
 use Rattle.moments.specs.declared.Rec.TheVariants.{Node as a_node}

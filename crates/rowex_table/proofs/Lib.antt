@@ -1,3 +1,4 @@
 pub mod Keeping
 pub mod Dealing
 pub mod Rights
+pub mod RootRights

@@ -1,7 +1,7 @@
 -- Steps that a pass may make by what it knows, and what they leave it.
-use Rattle.std.proofs.Common.{◌≡◌, ◌≢◌, ℕ, suc, Bool, true, false, nat_eq, if◌then◌else◌, ◌-◌, ◌<◌, set, map, ◌^◌, List, ◌∷◌, Option, Some, None, IsSome, refl, sym, ap, subst, ◌∙◌, arith}
+use Rattle.std.proofs.Common.{◌≡◌, ◌≢◌, ℕ, suc, Bool, true, false, nat_eq, if◌then◌else◌, ◌-◌, ◌<◌, ◌≤◌, set, map, ◌^◌, ◌+◌, List, [], ◌∷◌, ◌++◌, length, take, get_or, Option, Some, None, IsSome, refl, sym, ap, subst, ◌∙◌, arith}
 use Rattle.std.specs.Prelude.{Contains}
-use Rattle.std.proofs.lemmas.List.{get_or-map, length-map}
+use Rattle.std.proofs.lemmas.List.{get_or-map, length-map, length-set, take_all, take_more, take_more_set}
 use Rattle.std.proofs.lemmas.List.Elements.{All-contains}
 use Rattle.compound_node.specs.declared.entries.Entry.{Entry}
 use Rattle.hot_model.specs.declared.Note.{Note}
@@ -25,7 +25,7 @@ use Rattle.rowex_core.specs.Reading.{IsPacked}
 use Rattle.rowex_core.specs.Events.{IsOffset}
 use Rattle.rowex_core.specs.Knowing.{Knows, IsOwned, IsEvent, anchor_learned, claim_learned, fill_in, hold_as, learned_by}
 use Rattle.rowex_table.specs.Rule.{MayStep}
-use Rattle.rowex_table.specs.Rights.{Has, IsHeld}
+use Rattle.rowex_table.specs.Rights.{Has, HasFilled, IsHeld}
 
 -- A record whose state word is 0 is free
 
@@ -43,10 +43,22 @@ free_tag lock (Marked s l epoch) e = absurd (omega arith)
 mapped : (f : Owned → Owned) (own : List Owned) (o : Owned) → Contains own o → Contains (map f own) (f o)
 mapped f own o h = (h.0, subst (λ n. h.0 < n) (sym (length-map own f)) h.1, get_or-map f own h.0 o (f o) h.1 ∙ ap f h.2)
 
+next_word : (own words : List ℕ) (i : ℕ) (word : ℕ) → length own ≡ length words → i < length words → take i own ≡ take i words → word ≡ get_or words i word
+    → (length (set own (i + 1 - 1) word) ≡ length words) × (take (i + 1) (set own (i + 1 - 1) word) ≡ take (i + 1) words)
+next_word own words i word m low same is = subst (λ j. (length (set own j word) ≡ length words) × (take (i + 1) (set own j word) ≡ take (i + 1) words)) at
+    (length-set own i word ∙ m, take_more_set own i word (omega arith) ∙ (ap (λ z. z ++ word ∷ []) same ∙ (ap (λ z. take i words ++ z ∷ []) is ∙ sym (take_more words i word low))))
+  where
+    at : i ≡ i + 1 - 1
+    at = omega arith
+
+-- a record that is filled with all of the words has these
+pub filled : (k : Known) (r : Rec) (words : List ℕ) (i : ℕ) → length words ≤ i → HasFilled k r words i → Has k r Held words
+filled k r words i all (own, size, same, has) = subst (λ z. Has k r Held z) (sym (take_all i own (omega arith)) ∙ (same ∙ take_all i words all)) has
+
 module _ (layout : Layout) (k : Known) where
   -- Records of the pass's own
 
-  own_is : (r : Rec) (h : Holding) (words : List ℕ) → Has k r h words → (c : Core) → Knows c k → IsOwned k.pass c (record { rec = r; holding = h; words = words })
+  pub own_is : (r : Rec) (h : Holding) (words : List ℕ) → Has k r h words → (c : Core) → Knows c k → IsOwned k.pass c (record { rec = r; holding = h; words = words })
   own_is r h words has c known = All-contains (IsOwned k.pass c) k.own (record { rec = r; holding = h; words = words }) known.own has
 
   pub releases : (r : Rec) (words : List ℕ) → HasRecord layout r → Has k r Held words → MayStep layout (λ w. Release r) k
@@ -99,6 +111,12 @@ module _ (layout : Layout) (said : Known → List Note) (k j : Known) where
       let filled : fill_in r offset word o ≡ record { rec = r; holding = Held; words = set words (offset - 1) word } = rw (same_rec_refl r) refl in
       subst (λ l. Contains l (record { rec = r; holding = Held; words = set words (offset - 1) word })) (sym (ap (λ (z : Known). z.own) e.learned_is))
       (subst (Contains (map (fill_in r offset word) k.own)) filled (mapped (fill_in r offset word) k.own o has))
+
+  -- and of words that it fills in turn it has one more
+  pub fill_more : (r : Rec) (words : List ℕ) (i word : ℕ) → IsEvent layout (Fill r (i + 1) word) said k j → i < length words → word ≡ get_or words i word → HasFilled k r words i → HasFilled j r words (i + 1)
+  fill_more r words i word e low is (own, size, same, has) =
+      let next = next_word own words i word size low same is in
+      (set own (i + 1 - 1) word, next.0, next.1, fill_gives r (i + 1) word own e has)
 
   -- and what it makes ready is ready
   pub ready_gives : (r : Rec) (words : List ℕ) → IsEvent layout (Ready r) said k j → Has k r Held words → Has j r IsReady words

@@ -1,8 +1,7 @@
 -- No note is added, and the first words of the leaf are those of the pair.
-use Rattle.std.specs.Prelude.{◌≡◌, ℕ, List, [], length, take}
+use Rattle.std.specs.Prelude.{[]}
 use Rattle.moments.specs.declared.Rec.TheVariants.{Leaf}
-use Rattle.rowex_core.specs.declared.known.Holding.TheVariants.{Held}
-use Rattle.rowex_table.specs.Rights.{Has}
+use Rattle.rowex_table.specs.Rights.{HasFilled}
 use Rattle.rowex_table.specs.Seats.{Fits, known}
 use Rattle.rowex_table.proofs.tests.make_leaf.Given as goal
 
@@ -13,4 +12,4 @@ abbrev pub ghost-ready : goal.ghost-ready
 ghost-ready a k = []
 
 abbrev pub invariant-loop-index : goal.invariant-loop-index
-invariant-loop-index l = Fits l.table l.seat × ((own : List ℕ) × (length own ≡ 32) × (take l.index own ≡ take l.index l.words) × Has (known l.seat) (Leaf l.leaf) Held own)
+invariant-loop-index l = Fits l.table l.seat × HasFilled (known l.seat) (Leaf l.leaf) l.words l.index

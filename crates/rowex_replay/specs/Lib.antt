@@ -1,0 +1,7 @@
+pub mod Faults
+pub mod Fates
+pub mod Records
+pub mod Links
+pub mod Passes
+pub mod Replays
+pub mod Publishing

@@ -1,0 +1,20 @@
+//! The replay of one given run of the concurrent index: its events one by one, each answered by whether it is legal.
+#![tactic(auto)]
+
+mod epoch_steps;
+mod fate;
+mod fault;
+mod links;
+mod load_steps;
+mod lock_steps;
+mod passes;
+mod publish;
+mod record_steps;
+mod records;
+mod replay;
+
+pub use fault::ReplayFault;
+pub use replay::Replay;
+
+#[cfg(test)]
+mod tests;
