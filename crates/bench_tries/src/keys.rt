@@ -4,10 +4,10 @@ use key_bits::Key;
 use std::alloc::{AllocError, Global};
 
 /// How many keys are inserted.
-pub const KEYS: u32 = 200_000;
+pub(crate) const KEYS: u32 = 200_000;
 
 /// Numbers of eight bytes, the highest first, in no order.
-pub fn scattered_keys(alloc: Global) -> Result<Vec<Key>, AllocError> {
+pub(crate) fn scattered_keys(alloc: Global) -> Result<Vec<Key>, AllocError> {
     let mut keys = Vec::new(alloc);
     for i in 0..KEYS {
         let number = u64::from(i)

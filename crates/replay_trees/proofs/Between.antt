@@ -9,10 +9,10 @@ use Rattle.hot_model.specs.declared.Kind.TheVariants.{Added, Replaced, Removed}
 use Rattle.hot_model.specs.Maps.{key_order}
 use Rattle.tries.specs.Content.{Item, IsMore, added, behind, IsExchange, exchanged, past_one}
 use Rattle.moments.specs.Told.{item_of, IsChanged}
-use Rattle.rowex_core.specs.Events.{change_between, change_at, added_by, replaced_by, removed_by}
+use Rattle.rowex_core.specs.Events.{AreSame, change_between, change_at, added_by, replaced_by, removed_by}
 use Rattle.replay_trees.specs.declared.trees.Item.{Item as ReadItem}
 use Rattle.replay_trees.specs.Moments.{item_of as leaf_item}
-use Rattle.replay_trees.specs.Changed.{AreSame, AreApart, numbers, Changes, IsFound, IsMade}
+use Rattle.replay_trees.specs.Changed.{AreApart, numbers, Changes, IsFound, IsMade}
 
 -- Lists of the same numbers are the same lists
 same_lists : (xs ys : List Item) → AreSame xs ys → numbers xs ≡ numbers ys → xs ≡ ys

@@ -1,13 +1,9 @@
 -- By which change one list of leaves became another.
 use Rattle.std.specs.Prelude.{◌≡◌, ◌≢◌, ℕ, List, ◌∷◌, map, Option, Some, None}
 use Rattle.hot_model.specs.declared.Change.{Change}
-use Rattle.tries.specs.Content.{Item, IsIn}
+use Rattle.tries.specs.Content.{Item}
 use Rattle.moments.specs.Told.{item_of, IsChanged}
 use Rattle.rowex_core.specs.Events.{change_between}
-
--- leaves of one number are one leaf
-abbrev pub AreSame : List Item → List Item → Type 0
-AreSame xs ys = (x y : Item) → IsIn x xs → IsIn y ys → x.number ≡ y.number → x ≡ y
 
 -- the first leaves of the lists, if both have one, have different numbers
 abbrev pub AreApart : List Item → List Item → Type 0

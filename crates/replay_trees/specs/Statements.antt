@@ -4,8 +4,7 @@ use Rattle.moments.specs.State.{IsTop}
 use Rattle.moments.specs.Told.{items_of}
 use Rattle.rowex_core.specs.declared.event.Spot.{Spot}
 use Rattle.rowex_core.specs.Cores.{Core, IsLawful, heap_of}
-use Rattle.rowex_core.specs.Events.{stored_words, stored_root, next_tree}
-use Rattle.replay_trees.specs.Changed.{AreSame}
+use Rattle.rowex_core.specs.Events.{AreSame, stored_words, stored_root, next_tree}
 
 -- where the words show a tree after a word is stored, a number names one leaf before and after
 abbrev pub LeavesAreOne : Type 0

@@ -2,7 +2,8 @@
 
 ghost use Rattle.std.specs.Prelude.{ℕ, ◌≡◌, ◌↔◌, ◌<◌, ◌≤◌, IsTrue, Some, None, if◌then◌else◌, length, map, slice_index};
 ghost use Rattle.replay_trees.specs.Moments.{item_of};
-ghost use Rattle.replay_trees.specs.Changed.{AreApart, AreSame, IsFound, IsMade, numbers};
+ghost use Rattle.rowex_core.specs.Events.{AreSame};
+ghost use Rattle.replay_trees.specs.Changed.{AreApart, IsFound, IsMade, numbers};
 
 use crate::trees::Item;
 use hot_model::{Change, Kind};

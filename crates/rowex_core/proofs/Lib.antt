@@ -12,3 +12,4 @@ pub mod Learning
 pub mod Staying
 pub mod Writing
 pub mod Promises
+pub mod Runs

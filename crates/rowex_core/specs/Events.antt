@@ -11,7 +11,7 @@ use Rattle.record_words.specs.State.{state_word}
 use Rattle.record_words.specs.declared.layout.Location.{Location}
 use Rattle.record_words.specs.declared.layout.Location.TheVariants.{Epoch, Root as RootWord, Anchor as AnchorWord, Pin as PinOf, NodeWord, LeafWord}
 use Rattle.tries.specs.Tree.{Tree, IsTrie, IsBuilt}
-use Rattle.tries.specs.Content.{Item}
+use Rattle.tries.specs.Content.{Item, IsIn}
 use Rattle.moments.specs.Told.{items_of, IsChange}
 use Rattle.moments.specs.declared.Rec.{Rec}
 use Rattle.moments.specs.declared.Rec.TheVariants.{Node as a_node, Leaf as a_leaf}
@@ -87,6 +87,10 @@ change_between q [] [] = record { pass = q; key = []; value = 0; kind = Removed 
 change_between q [] (y ∷ ys) = added_by q y
 change_between q (x ∷ xs) [] = removed_by q x
 change_between q (x ∷ xs) (y ∷ ys) = if nat_eq x.number y.number then change_between q xs ys else change_at q (key_order x.key y.key) x y
+
+-- leaves of one number are one leaf
+abbrev pub AreSame : List Item → List Item → Type 0
+AreSame xs ys = (x y : Item) → IsIn x xs → IsIn y ys → x.number ≡ y.number → x ≡ y
 
 -- what a publish makes
 abbrev pub next_tree : Core → Spot → ℕ → Option Tree

@@ -5,4 +5,5 @@ pub mod Events
 pub mod Knowing
 pub mod Frames
 pub mod Opening
+pub mod Runs
 pub mod Statements

@@ -32,6 +32,8 @@ use Rattle.rowex_core.specs.Words.{record_word, word_at, Shows}
 use Rattle.rowex_core.specs.Events.{IsFixedOffset, Legal, after, location_of, writes, stored_words, stored_root, next_tree, next_change}
 use Rattle.rowex_core.specs.Knowing.{Knows, Knowing, Owns, learned}
 use Rattle.rowex_core.specs.Opening.{opening, opening_words}
+use Rattle.rowex_core.specs.Runs.{Leads, AreOthers}
+use Rattle.rowex_core.specs.declared.event.Event.{Event}
 
 -- a legal step keeps the core lawful
 abbrev pub StaysLawful : Type 0
@@ -54,6 +56,14 @@ WritesOne =
 -- the opening core is lawful, the opening words show it, and no pass has done anything
 abbrev pub OpeningIsLawful : Type 0
 OpeningIsLawful = (layout : Layout) → IsLawful (opening layout) × Shows (opening layout) (opening_words layout) × Knowing (opening layout) (Dealer 0)
+
+-- so for lists of events: from the opening core they lead to lawful cores,
+abbrev pub RunsStayLawful : Type 0
+RunsStayLawful = (layout : Layout) (events : List Event) (d : Core) → Leads (opening layout) events d → IsLawful d
+
+-- and from any lawful core they leave true what a view says that owns none of their passes
+abbrev pub RunsKeep : Type 0
+RunsKeep = (c : Core) (events : List Event) (d : Core) (v : View) → IsLawful c → Leads c events d → AreOthers v events → Knowing c v → Knowing d v
 
 -- a search of a pinned pass that was led to a node at a moment since the pin goes on at what its words say now
 abbrev pub Hindsight : Type 0

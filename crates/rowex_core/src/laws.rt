@@ -1,6 +1,6 @@
 //! The laws of the core. The functions do nothing: their contracts are the laws.
 
-ghost use Rattle.rowex_core.specs.Statements.{FindsChange, Hindsight, InReach, Keeps, Learns, LocksApart, OpeningIsLawful, Parting, PublishIsAStep, StaysLawful, WritesOne};
+ghost use Rattle.rowex_core.specs.Statements.{FindsChange, Hindsight, InReach, Keeps, Learns, LocksApart, OpeningIsLawful, Parting, PublishIsAStep, RunsKeep, RunsStayLawful, StaysLawful, WritesOne};
 
 /// A legal step keeps the core lawful.
 pub fn stays_lawful()
@@ -25,6 +25,16 @@ pub fn writes_one()
 /// The opening core is lawful, and the opening words show it.
 pub fn opening_is_lawful()
     ensures { OpeningIsLawful }
+{}
+
+/// From the opening core every list of legal events leads to a lawful core.
+pub fn runs_stay_lawful()
+    ensures { RunsStayLawful }
+{}
+
+/// A list of legal events of other passes leaves true what a pass knows.
+pub fn runs_keep()
+    ensures { RunsKeep }
 {}
 
 /// A search of a pinned pass that goes on at a record goes on at what it finds there, whatever has been published since.

@@ -14,9 +14,8 @@ use Rattle.moments.specs.Steps.{is_linked}
 use Rattle.moments.proofs.Legal.{linked_cases}
 use Rattle.rowex_core.specs.Reading.{leaf_of}
 use Rattle.rowex_core.specs.Cores.{Core, HasRecord, IsWhole, heap_of}
-use Rattle.rowex_core.specs.Events.{tree_of}
+use Rattle.rowex_core.specs.Events.{AreSame, tree_of}
 use Rattle.rowex_core.proofs.Finding.{by_number, top_items}
-use Rattle.replay_trees.specs.Changed.{AreSame}
 use Rattle.replay_trees.specs.Moments.{AreWordsOf, IsInTable, IsMoment, Tells}
 use Rattle.replay_trees.specs.declared.trees.Linked.{Linked}
 use Rattle.rowex_replay.specs.declared.fate.Fate.{Fate as Stored}

@@ -11,8 +11,8 @@ use Rattle.moments.specs.Told.{items_of}
 use Rattle.moments.specs.Core.{Free, Ready as ReadyBy, InTree as InTreeSince}
 use Rattle.moments.specs.Steps.{is_linked, next_fate}
 use Rattle.rowex_core.specs.Cores.{Core, HasRecord, heap_of}
-use Rattle.rowex_core.specs.Events.{IsInTree, tree_of, change_between}
-use Rattle.replay_trees.specs.Changed.{AreSame, IsFound}
+use Rattle.rowex_core.specs.Events.{AreSame, IsInTree, tree_of, change_between}
+use Rattle.replay_trees.specs.Changed.{IsFound}
 use Rattle.replay_trees.specs.Moments.{AreWordsOf, IsMoment, IsReadMoment, Tells, item_of}
 use Rattle.replay_trees.specs.declared.trees.Item.{Item as ReadItem}
 use Rattle.replay_trees.specs.declared.trees.Linked.{Linked}

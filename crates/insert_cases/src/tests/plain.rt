@@ -45,13 +45,10 @@ fn first_keys_make_a_root(rt: HostRuntime) -> Result<(), Fail> {
     Ok(())
 }
 
-// The one-byte keys 00 to 3f, and then 2000: a full node, a new root, a leaf pushed down, and a node pulled up.
+// The one-byte keys 00 to 1f fill a node. 20 gives a new root, and 21 pushes the leaf of 20 down.
 #[test]
-fn one_byte_keys_rise(rt: HostRuntime) -> Result<(), Fail> {
-    let mut trie = PlainTrie::new(rt.alloc());
-    for byte in 0..0x20 {
-        trie.insert(&Key::from_bytes(&[byte])?, u64::from(byte))?;
-    }
+fn full_root_gives_way(rt: HostRuntime) -> Result<(), Fail> {
+    let mut trie = one_byte_keys(rt.alloc(), 0x20)?;
     let full = trie.top();
     let root = node_of(&rt, &trie, full);
     assert_eq!(rt; root.count(), 32);
@@ -69,11 +66,16 @@ fn one_byte_keys_rise(rt: HostRuntime) -> Result<(), Fail> {
     let low = node_of(&rt, &trie, Some(entry_of(&rt, root, 1)));
     assert_eq!(rt; low.columns().as_slice(), [8].as_slice());
     assert_eq!(rt; low.height(), 1);
-    for byte in 0x22..0x40 {
-        trie.insert(&Key::from_bytes(&[byte])?, u64::from(byte))?;
-    }
+    Ok(())
+}
+
+// The one-byte keys 00 to 3f fill two nodes below the root. 2000 cuts the second, and its fork is pulled up.
+#[test]
+fn full_child_is_pulled_up(rt: HostRuntime) -> Result<(), Fail> {
+    let mut trie = one_byte_keys(rt.alloc(), 0x40)?;
     let root = node_of(&rt, &trie, trie.top());
     assert_eq!(rt; root.count(), 2);
+    let first = entry_of(&rt, root, 0);
     assert_eq!(rt;
         node_of(&rt, &trie, Some(entry_of(&rt, root, 1))).count(),
         32
@@ -86,7 +88,7 @@ fn one_byte_keys_rise(rt: HostRuntime) -> Result<(), Fail> {
     assert_eq!(rt; root.sparse(0), 0);
     assert_eq!(rt; root.sparse(1), 0x8000_0000);
     assert_eq!(rt; root.sparse(2), 0xc000_0000);
-    assert_eq!(rt; Some(entry_of(&rt, root, 0)), full);
+    assert_eq!(rt; entry_of(&rt, root, 0), first);
     assert_eq!(rt;
         node_of(&rt, &trie, Some(entry_of(&rt, root, 1))).count(),
         17
@@ -282,6 +284,15 @@ fn first_bytes(bytes: &[u8], count: usize) -> &[u8] {
     } else {
         bytes
     }
+}
+
+/// A trie of this many one-byte keys in rising order, each with itself as its value.
+fn one_byte_keys(alloc: Global, count: u8) -> Result<PlainTrie, Fail> {
+    let mut trie = PlainTrie::new(alloc);
+    for byte in 0..count {
+        trie.insert(&Key::from_bytes(&[byte])?, u64::from(byte))?;
+    }
+    Ok(trie)
 }
 
 /// A number as a key of two bytes, the high one first.

@@ -3,7 +3,8 @@ use Rattle.std.proofs.Common.{ℕ, ◌-◌, List, length, take, drop, map, sym, 
 use Rattle.std.proofs.lemmas.List.{length-map, drop-map, take_rest}
 use Rattle.replay_trees.specs.Moments.{item_of}
 use Rattle.replay_trees.specs.declared.trees.Item.{Item}
-use Rattle.replay_trees.specs.Changed.{AreApart, AreSame, IsFound}
+use Rattle.rowex_core.specs.Events.{AreSame}
+use Rattle.replay_trees.specs.Changed.{AreApart, IsFound}
 use Rattle.replay_trees.proofs.Between.{found_from, apart_from}
 use Rattle.replay_trees.proofs.changes.change_between.Goals as goal
 
