@@ -1,3 +1,4 @@
+-- The lemmas of the crate.
 pub mod Advancing
 pub mod Bounding
 pub mod Doing

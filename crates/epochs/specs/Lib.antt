@@ -1,3 +1,4 @@
+-- The definitions of the crate.
 pub mod Reach
 pub mod Rounds
 pub mod Runs

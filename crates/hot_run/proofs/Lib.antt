@@ -1,3 +1,4 @@
+-- The lemmas of the crate.
 pub mod Answering
 pub mod Commands
 pub mod Cuts

@@ -1,3 +1,4 @@
+-- The definitions of the crate.
 pub mod Faults
 pub mod Grammar
 pub mod Meaning

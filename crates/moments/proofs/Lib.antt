@@ -1,3 +1,4 @@
+-- The lemmas of the crate.
 pub mod Heaps
 pub mod States
 pub mod Publish

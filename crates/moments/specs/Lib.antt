@@ -1,3 +1,4 @@
+-- The definitions of the crate.
 pub mod Heap
 pub mod State
 pub mod Core

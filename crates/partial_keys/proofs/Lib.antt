@@ -1,3 +1,4 @@
+-- The lemmas of the crate.
 pub mod Codes
 pub mod Keeping
 pub mod Search

@@ -1,3 +1,4 @@
+-- The definitions of the crate.
 pub mod Rows
 pub mod Columns
 pub mod Shown

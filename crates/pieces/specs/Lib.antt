@@ -1,3 +1,4 @@
+-- The definitions of the crate.
 pub mod Kept
 pub mod Positions
 pub mod Highest

@@ -1,3 +1,4 @@
+-- The lemmas of the crate.
 pub mod Bytes
 pub mod Entries
 pub mod Fixing

@@ -1,3 +1,4 @@
+-- The definitions of the crate.
 pub mod Entry
 pub mod Fixed
 pub mod Layout

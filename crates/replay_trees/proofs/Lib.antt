@@ -1,3 +1,4 @@
+-- The lemmas of the crate.
 mod Lists
 mod Steps
 mod Keys

@@ -1,3 +1,4 @@
+-- The definitions of the crate.
 pub mod Moments
 pub mod Parts
 pub mod Changed

@@ -1,3 +1,4 @@
+-- The lemmas of the crate.
 pub mod Lists
 pub mod Reading
 pub mod Frames

@@ -1,3 +1,4 @@
+-- The definitions of the crate.
 pub mod Reading
 pub mod Cores
 pub mod Words

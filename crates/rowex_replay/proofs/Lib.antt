@@ -1,3 +1,4 @@
+-- The lemmas of the crate.
 pub mod Tables
 pub mod Packing
 pub mod Reading

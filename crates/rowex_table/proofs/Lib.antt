@@ -1,3 +1,4 @@
+-- The lemmas of the crate.
 pub mod Keeping
 pub mod Dealing
 pub mod Rights

@@ -1,3 +1,4 @@
+-- The lemmas of the crate.
 pub mod Now
 pub mod Search
 pub mod Replaced

@@ -1,3 +1,4 @@
+-- The definitions of the crate.
 pub mod Writer
 pub mod Rise
 pub mod Scan

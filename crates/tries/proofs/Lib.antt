@@ -1,3 +1,4 @@
+-- The lemmas of the crate.
 pub mod Tries
 pub mod Contents
 pub mod Maps

@@ -1,3 +1,4 @@
+-- The definitions of the crate.
 pub mod Keys
 pub mod Tree
 pub mod Search

@@ -1,3 +1,4 @@
+-- Why `run_one` meets its contract.
 use Rattle.std.proofs.Common.{◌≡◌, ◌∙◌, Ok, string_bytes, ap, sym, arith}
 use Rattle.std.proofs.lemmas.Result.{on_ok_weaker}
 use Rattle.hot_run.specs.Meaning.{script_meaning}

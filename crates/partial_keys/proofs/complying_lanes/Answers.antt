@@ -1,3 +1,4 @@
+-- Why `complying_lanes` meets its contract.
 use Rattle.partial_keys.proofs.complying_lanes.Goals as goal
 use Rattle.partial_keys.proofs.Lanes.{lanes_comply}
 

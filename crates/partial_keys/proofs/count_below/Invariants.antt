@@ -1,3 +1,4 @@
+-- What stays true in the loop of `count_below`.
 use Rattle.std.proofs.Common.{◌≡◌, ◌+◌, drop}
 use Rattle.pieces.specs.Positions.{front_below}
 use Rattle.partial_keys.proofs.count_below.Given as goal

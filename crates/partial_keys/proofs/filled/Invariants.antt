@@ -1,3 +1,4 @@
+-- What stays true in the loop of `filled`.
 use Rattle.std.proofs.Common.{◌≡◌, ◌-◌, ◌++◌, take, replicate}
 use Rattle.partial_keys.proofs.filled.Given as goal
 

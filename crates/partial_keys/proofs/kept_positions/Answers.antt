@@ -1,3 +1,4 @@
+-- Why `kept_positions` meets its contract.
 use Rattle.std.proofs.Common.{◌++◌, [], ◌∷◌, get_or, ap, sym, ◌∙◌, arith}
 use Rattle.pieces.proofs.Positions.{kept_nil}
 use Rattle.partial_keys.proofs.Squeezing.{kept_set, kept_clear}

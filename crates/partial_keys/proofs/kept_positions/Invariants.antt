@@ -1,3 +1,4 @@
+-- What stays true in the loop of `kept_positions`.
 use Rattle.std.proofs.Common.{◌≡◌, take, length, ◌≤◌}
 use Rattle.pieces.specs.Kept.{kept}
 use Rattle.partial_keys.specs.Squeezed.{used_bits}

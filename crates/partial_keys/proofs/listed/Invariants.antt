@@ -1,3 +1,4 @@
+-- What stays true in the loop of `listed`.
 use Rattle.std.proofs.Common.{◌≡◌, take}
 use Rattle.partial_keys.proofs.listed.Given as goal
 

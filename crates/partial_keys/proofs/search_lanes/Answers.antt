@@ -1,3 +1,4 @@
+-- Why `search_lanes` meets its contract.
 use Rattle.partial_keys.proofs.Lanes.{highest_of_lanes}
 use Rattle.partial_keys.proofs.Search.{highest-value, place_for_dense, place_for_key}
 use Rattle.partial_keys.proofs.search_lanes.Goals as goal

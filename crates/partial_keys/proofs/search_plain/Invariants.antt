@@ -1,3 +1,4 @@
+-- What stays true in the loop of `search_plain`.
 use Rattle.std.proofs.Common.{◌≡◌, ℕ, ◌<◌, get_or, false}
 use Rattle.std.specs.Prelude.{bit_and}
 use Rattle.partial_keys.specs.Rows.{complies}

@@ -1,3 +1,4 @@
+-- What stays true in the loop of `sparse_words`.
 use Rattle.std.proofs.Common.{◌≡◌, slice_index}
 use Rattle.bench_nodes.proofs.samples.sparse_words.Given as goal
 

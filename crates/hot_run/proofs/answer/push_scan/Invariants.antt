@@ -1,3 +1,4 @@
+-- What stays true in the loop of `push_scan`.
 use Rattle.std.proofs.Common.{◌≡◌, ◌++◌, string_bytes, take}
 use Rattle.std.specs.Prelude.{flat_map}
 use Rattle.hot_run.specs.Meaning.{pair_line}

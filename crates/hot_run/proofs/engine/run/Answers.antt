@@ -1,3 +1,4 @@
+-- Why `run` meets its contract.
 use Rattle.std.proofs.Common.{◌≡◌, [], ◌∷◌, ◌++◌, string_bytes, append_assoc, refl, arith, rules}
 use Rattle.std.specs.Vec.Iter.{into_iter_items}
 use Rattle.std.proofs.lemmas.List.{append-nil, nil_from_length}

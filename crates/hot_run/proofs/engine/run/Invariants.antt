@@ -1,3 +1,4 @@
+-- What stays true in the loop of `run`.
 use Rattle.std.proofs.Common.{◌++◌, List, ℕ, string_bytes}
 use Rattle.std.specs.Vec.Iter.{into_iter_items}
 use Rattle.hot_run.specs.Runs.{Answers}

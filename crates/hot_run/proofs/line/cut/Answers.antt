@@ -1,3 +1,4 @@
+-- Why `cut` meets its contract.
 use Rattle.std.proofs.Common.{◌==◌, rules}
 use Rattle.hot_run.proofs.Cuts.{slice_split-Some, slice_split-None}
 use Rattle.hot_run.proofs.line.cut.Goals as goal

@@ -1,3 +1,4 @@
+-- Why `words_in` meets its contract.
 use Rattle.std.proofs.Common.{◌≡◌, ◌==◌, ◌<◌, ◌∷◌, length, ap, arith, rules}
 use Rattle.std.specs.List.{slice_split}
 use Rattle.hot_run.specs.Grammar.{words_of}

@@ -1,3 +1,4 @@
+-- What stays true in the loop of `commands`.
 use Rattle.std.proofs.Common.{◌≡◌, ◌+◌, ◌^◌, ◌<◌, map}
 use Rattle.hot_run.specs.Grammar.{commands_from, reading_of}
 use Rattle.hot_run.specs.Words.{parts_left, text_len}

@@ -1,3 +1,4 @@
+-- What stays true in the loop of `read_script`.
 use Rattle.std.proofs.Common.{◌-◌, vec_len}
 use Rattle.std.specs.Io.KnownBytes.{Consumes}
 use Rattle.hot_run.proofs.streams.read_script.Given as goal

@@ -1,3 +1,4 @@
+-- Why `number` meets its contract.
 use Rattle.std.proofs.Common.{◌≡◌, true, rules, ◌∙◌}
 use Rattle.hot_run.specs.Grammar.{is_number}
 use Rattle.hot_run.proofs.Numbers.{IsUtf8-number, parsed_number}

@@ -1,3 +1,4 @@
+-- Why `parse` meets its contract.
 use Rattle.std.proofs.Common.{◌≡◌, ◌∙◌, ℕ, List, [], sym, ap, arith, slice_index}
 use Rattle.std.specs.Prelude.{codes}
 use Rattle.std.specs.Str.Parse.{ParsesUnsigned, ExplainsUnsignedError, HasUnsignedDigitsIfOk}

@@ -1,3 +1,4 @@
+-- What stays true in the loop of `chain_end`.
 use Rattle.std.proofs.Common.{◌≡◌, ℕ, ◌+◌, ◌<◌, ◌≤◌, Some}
 use Rattle.std.specs.Prelude.{slice_get}
 use Rattle.insert_cases.specs.declared.choice.Step.{Step}

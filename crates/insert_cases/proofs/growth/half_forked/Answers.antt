@@ -1,3 +1,4 @@
+-- Why `half_forked` meets its contract.
 use Rattle.std.proofs.Common.{arith}
 use Rattle.insert_cases.proofs.NodeFacts.{size-piece}
 use Rattle.insert_cases.proofs.growth.half_forked.Goals as goal

@@ -1,3 +1,4 @@
+-- Why `add_position` meets its contract.
 use Rattle.std.proofs.Common.{refl, ◌≡◌, ◌∙◌, ap, arith}
 use Rattle.std.specs.Prelude.{length}
 use Rattle.pieces.proofs.Positions.{with_position-split}

@@ -1,3 +1,4 @@
+-- Why `below` meets its contract.
 use Rattle.std.proofs.Common.{arith, ap}
 use Rattle.std.specs.Prelude.{length}
 use Rattle.partial_keys.proofs.Columns.below.Goals as goal

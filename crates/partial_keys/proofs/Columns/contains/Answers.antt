@@ -1,3 +1,4 @@
+-- Why `contains` meets its contract.
 use Rattle.std.proofs.Common.{◌<◌, ◌≤◌, length, sym, ◌∙◌}
 use Rattle.std.proofs.lemmas.Bool.{le-ltb}
 use Rattle.pieces.specs.Positions.{front_below}

@@ -1,3 +1,4 @@
+-- Why `drop_unused` meets its contract.
 use Rattle.partial_keys.proofs.Keeping.{IsColumns-kept}
 use Rattle.partial_keys.proofs.Columns.drop_unused.Goals as goal
 

@@ -1,3 +1,4 @@
+-- Why `columns_keep_the_order` meets its contract.
 use Rattle.std.proofs.Common.{arith, ℕ, ◌<◌, length, [], ◌∷◌}
 use Rattle.pieces.specs.Kept.{kept}
 use Rattle.partial_keys.specs.Squeezed.{used_bits}

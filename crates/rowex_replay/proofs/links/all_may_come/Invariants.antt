@@ -1,3 +1,4 @@
+-- What stays true in the loop of `all_may_come`.
 use Rattle.std.proofs.Common.{◌≡◌, ℕ, ◌<◌, get_or, slice_get, false, Some}
 use Rattle.rowex_replay.specs.declared.fate.Fate.{Fate}
 use Rattle.rowex_replay.specs.Links.{MayCome}

@@ -1,3 +1,4 @@
+-- What stays true in the loop of `all_may_go`.
 use Rattle.std.proofs.Common.{◌≡◌, ℕ, ◌<◌, get_or, slice_get, false, Some, None}
 use Rattle.rowex_replay.specs.declared.fate.Fate.{Fate}
 use Rattle.rowex_replay.specs.Links.{MayGo}

@@ -1,3 +1,4 @@
+-- What stays true in the loop of `link_all`.
 use Rattle.std.proofs.Common.{◌≡◌, ℕ, ◌<◌, ◌≤◌, get_or, slice_get, false, Some}
 use Rattle.moments.specs.Steps.{next_fate}
 use Rattle.rowex_replay.specs.declared.fate.Fate.{Fate}

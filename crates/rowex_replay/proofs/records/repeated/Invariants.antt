@@ -1,3 +1,4 @@
+-- What stays true in the loop of `repeated`.
 use Rattle.std.proofs.Common.{◌≡◌, replicate}
 use Rattle.rowex_replay.proofs.records.repeated.Given as goal
 

@@ -1,3 +1,4 @@
+-- What stays true in the loop of `content`.
 use Rattle.std.proofs.Common.{◌≡◌, map, take}
 use Rattle.rowex_replay.proofs.replay.Replay.content.Given as goal
 
