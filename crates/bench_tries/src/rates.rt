@@ -16,7 +16,11 @@ const LIMIT: usize = 100;
 const STRIDE: u32 = 200;
 
 /// Inserts the keys into a trie, looks each up, and scans from some: a checksum of what was found. The rates go to standard error.
-pub(crate) fn measure_trie<R: Clock + Eprint>(rt: &R, alloc: Global, keys: &[Key]) -> io::Result<u64> {
+pub(crate) fn measure_trie<R: Clock + Eprint>(
+    rt: &R,
+    alloc: Global,
+    keys: &[Key],
+) -> io::Result<u64> {
     let last = Key::from_bytes(&[0xff; 16]).unwrap();
     let mut trie = PlainTrie::new(alloc);
     let start = Instant::now(rt)?;
@@ -40,7 +44,11 @@ pub(crate) fn measure_trie<R: Clock + Eprint>(rt: &R, alloc: Global, keys: &[Key
 }
 
 /// The same for a plain index.
-pub(crate) fn measure_index<R: Clock + Eprint>(rt: &R, alloc: Global, keys: &[Key]) -> io::Result<u64> {
+pub(crate) fn measure_index<R: Clock + Eprint>(
+    rt: &R,
+    alloc: Global,
+    keys: &[Key],
+) -> io::Result<u64> {
     let last = Key::from_bytes(&[0xff; 16]).unwrap();
     let mut index = PlainIndex::new(alloc);
     let start = Instant::now(rt)?;
