@@ -12,7 +12,7 @@ impl Gate for NoGate {
 }
 
 /// Tells the gate of the step that the pass of this seat has just made.
-pub(crate) fn tell<G: Gate>(gate: &mut G, seat: &TableSeat, act: Act) {
+pub fn tell<G: Gate>(gate: &mut G, seat: &TableSeat, act: Act) {
     gate.at(&Event {
         pass: seat.pass,
         act,

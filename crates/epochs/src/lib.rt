@@ -7,7 +7,7 @@ pub mod laws;
 mod pinning;
 
 pub use collection::{Given, collect_round, collect_round_with};
-pub use gate::NoGate;
+pub use gate::{NoGate, tell};
 pub use pinning::{pin, pin_with, unpin, unpin_with};
 
 #[cfg(test)]

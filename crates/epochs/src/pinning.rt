@@ -1,10 +1,12 @@
 //! Pins: while a pass is pinned, no record that it may find is given back.
 
-ghost use Rattle.std.specs.Prelude.{◌≡◌, [], ◌∷◌, None, IsSome};
+ghost use Rattle.std.specs.Prelude.{◌≡◌, List, None, IsSome};
+ghost use Rattle.hot_model.specs.declared.Note.{Note};
 ghost use Rattle.rowex_core.specs.declared.event.Act.TheVariants.{LoadEpoch, ClearPin};
+ghost use Rattle.rowex_core.specs.declared.known.Known.{Known};
 ghost use Rattle.rowex_core.specs.Knowing.{IsEvent};
 ghost use Rattle.rowex_table.specs.Seats.{Fits, IsSame, known};
-ghost use Rattle.epochs.specs.Runs.{Does, Pins, silent};
+ghost use Rattle.epochs.specs.Runs.{Pins, silent};
 
 use crate::gate::{NoGate, tell};
 use rowex_core::{Act, Gate};
@@ -36,24 +38,27 @@ pub fn pin_with<G: Gate>(table: &HotTable, seat: &mut TableSeat, gate: &mut G)
     tell(gate, seat, Act::SetPin { word });
 }
 
-/// Clears the pin: what the pass has found may be given back from now on.
+/// Clears the pin: what the pass has found may be given back from now on. The notes of the call that ends by it come with
+/// this step.
 pub fn unpin(table: &HotTable, seat: &mut TableSeat)
+    ghost said: { Known → List Note }
     requires fits { Fits table.now seat.old }
     requires pinned { IsSome (known seat.old).pin }
     ensures seat { IsSame seat.old seat.new }
     ensures free { (known seat.new).pin ≡ None }
-    ensures steps { Does table.now.layout (ClearPin ∷ []) (known seat.old) (known seat.new) }
+    ensures told { IsEvent table.now.layout ClearPin said (known seat.old) (known seat.new) }
 {
     unpin_with(table, seat, &mut NoGate);
 }
 
 /// `unpin`, with a gate that is told its one step.
 pub fn unpin_with<G: Gate>(table: &HotTable, seat: &mut TableSeat, gate: &mut G)
+    ghost said: { Known → List Note }
     requires fits { Fits table.now seat.old }
     requires pinned { IsSome (known seat.old).pin }
     ensures seat { IsSame seat.old seat.new }
     ensures free { (known seat.new).pin ≡ None }
-    ensures steps { Does table.now.layout (ClearPin ∷ []) (known seat.old) (known seat.new) }
+    ensures told { IsEvent table.now.layout ClearPin said (known seat.old) (known seat.new) }
 {
     table.clear_pin(seat);
     tell(gate, seat, Act::ClearPin);

@@ -19,7 +19,7 @@ use Rattle.tries.specs.Search.{child, seek}
 use Rattle.tries.specs.Tree.{Page, Fixed, Tree, leaf, node, fork, page, Has, IsTrie, IsBuilt, IsLower, first_position, Within, here, inside, zero_side, one_side}
 use Rattle.tries.proofs.Adding.{added_here}
 use Rattle.tries.proofs.Affected.{grown_page}
-use Rattle.tries.proofs.Places.{grown, spot_below}
+use Rattle.tries.proofs.Places.{grown, leads_spot, spot_below}
 use Rattle.tries.proofs.Ranges.{has_key}
 use Rattle.tries.proofs.Tries.{has_first, rises, trie_within, built_within, within_child, page_child}
 use Rattle.insert_cases.specs.declared.plain.LeafRecord.{LeafRecord}
@@ -36,7 +36,7 @@ use Rattle.insert_cases.proofs.Choosing.{found-child, has_found, all_away, affec
 use Rattle.insert_cases.proofs.Keeping.{shown_more}
 use Rattle.insert_cases.proofs.Lifting.{grow_raised, old_stays, body_adds, pulled_raised, positive}
 use Rattle.insert_cases.proofs.Raised.{child_spot}
-use Rattle.insert_cases.proofs.Searching.{leads_spot, node_of_page, read_at, shown_within, lower_child, sought_entry}
+use Rattle.insert_cases.proofs.Searching.{node_of_page, read_at, shown_within, lower_child, sought_entry}
 use Rattle.insert_cases.proofs.Storing.{push_old, push_new}
 
 -- ---- tips and forks of tips

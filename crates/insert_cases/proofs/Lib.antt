@@ -9,6 +9,8 @@ pub mod Values
 pub mod Keeping
 pub mod Building
 pub mod Storing
+pub mod Steady
+pub mod Heights
 pub mod Raised
 pub mod Lifting
 pub mod Gathering

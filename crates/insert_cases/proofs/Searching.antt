@@ -15,22 +15,12 @@ use Rattle.tries.specs.Search.{child, seek}
 use Rattle.tries.specs.Place.{spot}
 use Rattle.tries.specs.Tree.{Page, Fixed, Tree, leaf, node, fork, page, IsBuilt, IsLower, Within, here, inside, zero_side, one_side}
 use Rattle.tries.proofs.Tries.{page_child, within_child, built_within}
-use Rattle.tries.proofs.Places.{spot_below}
+use Rattle.tries.proofs.Places.{leads_spot, spot_below}
 use Rattle.insert_cases.specs.declared.plain.LeafRecord.{LeafRecord}
 use Rattle.insert_cases.proofs.Choosing.{found-child, same_some}
 use Rattle.insert_cases.specs.Searches.{found}
 use Rattle.insert_cases.specs.Store.{PlainView, IsStored, IsShown, record_of, tree_of, IsPlain}
 use Rattle.insert_cases.proofs.Reading.{plain_tree}
-
--- the place to which a search leads
-pub leads_spot : (k : Key) (x : Page) → leads_to (bit_of k) x ≡ spot k x
-unfolding bit
-leads_spot k (Place e) = refl
-leads_spot k (Fork p x y) =
-    elim (bit_of k p) as (λ u. (if u then size x + leads_to (bit_of k) y else leads_to (bit_of k) x) ≡ (if u then size x + spot k y else spot k x)) [
-      | true ↦ ap (λ n. size x + n) (leads_spot k y)
-      | false ↦ leads_spot k x
-    ]
 
 -- what stands there
 pub spot_entry : (k : Key) (x : Page) (d : Entry) → get_or (places x) (spot k x) d ≡ seek k x

@@ -1,5 +1,6 @@
 -- Records that are written or added.
-use Rattle.std.proofs.Common.{◌≡◌, ◌≢◌, inl, inr, ℕ, ◌+◌, ◌<◌, List, [], ◌∷◌, ◌++◌, length, refl, ap, sym, ◌∙◌, arith, Some, set, length-append, length-set}
+use Rattle.std.proofs.Common.{◌≡◌, ◌≢◌, ◌⊎◌, inl, inr, ℕ, ◌+◌, ◌<◌, List, [], ◌∷◌, ◌++◌, length, refl, ap, sym, ◌∙◌, arith, Some, set, length-append, length-set, eqb, get_or}
+use Rattle.std.proofs.lemmas.Bool.{cases_Bool, eqb-true, eqb-false}
 use Rattle.std.specs.Prelude.{slice_get}
 use Rattle.std.proofs.lemmas.List.{get_or-set_same, get_or-set_other, get_or_append_left}
 use Rattle.std.proofs.Math.Seq.{get_or-append_seam}
@@ -13,8 +14,9 @@ use Rattle.compound_node.specs.declared.halves.Half.{Half}
 use Rattle.compound_node.specs.declared.halves.Half.TheVariants.{One, Many, Same}
 use Rattle.insert_cases.specs.Grown.{GrownShows}
 use Rattle.insert_cases.specs.declared.growth.Grown.TheVariants.{Two}
-use Rattle.insert_cases.specs.Risen.{IsNamed, IsFor, RisenShows, OthersStay, pushed_nodes, pushed_entry, kept_nodes, kept_entry}
+use Rattle.insert_cases.specs.Risen.{IsNamed, IsFor, RisenShows, OthersStay, AllStay, pushed_nodes, pushed_entry, kept_nodes, kept_entry}
 use Rattle.insert_cases.specs.declared.raising.Risen.TheVariants.{Split}
+use Rattle.insert_cases.proofs.Choosing.{same_some}
 
 module _ {A : Type 0} where
   pub set_same : (xs : List A) (n : ℕ) (v : A) → n < length xs → slice_get (set xs n v) n ≡ Some v
@@ -33,6 +35,24 @@ module _ {A : Type 0} where
 
   pub push_new : (xs : List A) (v : A) → slice_get (xs ++ v ∷ []) (length xs) ≡ Some v
   push_new xs v = slice_get-get_or (xs ++ v ∷ []) (length xs) v (omega (arith, length-append xs (v ∷ []))) ∙ ap Some (get_or-append_seam xs v [] v)
+
+  -- what stands after a write or a push is what was written, or stood before
+  pub set_back : (xs : List A) (n m : ℕ) (v w : A) → n < length xs → slice_get (set xs n v) m ≡ Some w → ((n ≡ m) × (w ≡ v)) ⊎ (slice_get xs m ≡ Some w)
+  set_back xs n m v w h e = elim (cases_Bool (eqb n m)) [
+    | inl i ↦ let same : n ≡ m = eqb-true n m i in inl (same, same_some (sym e ∙ (ap (slice_get (set xs n v)) (sym same) ∙ set_same xs n v h)))
+    | inr i ↦
+        let old = slice_get-get_or xs m w (let g = slice_get_within (set xs n v) m w e in omega (arith, length-set xs n v)) in
+        inr (old ∙ (sym (set_other xs n m v (get_or xs m w) (eqb-false n m i) old) ∙ e))
+  ]
+
+  pub push_back : (xs : List A) (v : A) (m : ℕ) (w : A) → slice_get (xs ++ v ∷ []) m ≡ Some w → (slice_get xs m ≡ Some w) ⊎ (w ≡ v)
+  push_back xs v m w e = elim (cases_Bool (eqb (length xs) m)) [
+    | inl i ↦ inr (same_some (sym e ∙ (ap (slice_get (xs ++ v ∷ [])) (sym (eqb-true (length xs) m i)) ∙ push_new xs v)))
+    | inr i ↦
+        let ne = eqb-false (length xs) m i in
+        let old = slice_get-get_or xs m w (let g = slice_get_within (xs ++ v ∷ []) m w e in omega (arith, length-append xs (v ∷ []))) in
+        inl (old ∙ (sym (push_old xs (v ∷ []) m (get_or xs m w) old) ∙ e))
+  ]
 
 module _ (old : NodeView) where
   pub named_built : (xs : List NodeView) (n : ℕ) (v : NodeView) (P : Piece Entry) → slice_get xs n ≡ Some v → IsBuiltFrom v P → IsNamed xs old (Node n v.height) P
@@ -106,7 +126,7 @@ others_kept xs n (One e) = λ m v ne h. h
 others_kept xs n (Many u) = λ m v ne h. set_other xs n m u v ne h
 others_kept xs n Same = λ m v ne h. h
 
-pub others_pushed : (xs : List NodeView) (half : Half) (m : ℕ) (v : NodeView) → slice_get xs m ≡ Some v → slice_get (pushed_nodes xs half) m ≡ Some v
-others_pushed xs (One e) m v h = h
-others_pushed xs (Many u) m v h = push_old xs (u ∷ []) m v h
-others_pushed xs Same m v h = h
+pub others_pushed : (xs : List NodeView) (half : Half) → AllStay xs (pushed_nodes xs half)
+others_pushed xs (One e) = λ m v h. h
+others_pushed xs (Many u) = λ m v h. push_old xs (u ∷ []) m v h
+others_pushed xs Same = λ m v h. h

@@ -5,6 +5,8 @@ pub mod Searches
 pub mod Ways
 pub mod Levels
 pub mod Store
+pub mod Room
+pub mod Heights
 pub mod Gathered
 pub mod Risen
 pub mod Rising

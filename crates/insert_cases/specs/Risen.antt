@@ -38,6 +38,10 @@ RisenShows nodes old (Split position zero one) shown = AtRootFork (λ p a b. (po
 abbrev pub OthersStay : List NodeView → List NodeView → ℕ → Type 0
 OthersStay old new n = (m : ℕ) (v : NodeView) → n ≢ m → slice_get old m ≡ Some v → slice_get new m ≡ Some v
 
+-- all nodes stay, and new ones may come
+abbrev pub AllStay : List NodeView → List NodeView → Type 0
+AllStay old new = (m : ℕ) (v : NodeView) → slice_get old m ≡ Some v → slice_get new m ≡ Some v
+
 -- the nodes with a half behind them, and the half's entry
 abbrev pub pushed_nodes : List NodeView → Half → List NodeView
 pushed_nodes nodes (One entry) = nodes

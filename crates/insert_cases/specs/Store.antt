@@ -11,11 +11,13 @@ use Rattle.tries.specs.Keys.{Key}
 use Rattle.insert_cases.specs.Searches.{found}
 use Rattle.insert_cases.specs.declared.plain.LeafRecord.{LeafRecord}
 
--- what contracts see of a trie: its records, and the root's entry
+-- what contracts see of a trie: its records, the root's entry, and for how many records the two vectors have memory
 pub record PlainView : Type 0 where
   pub nodes : List NodeView
   pub leaves : List LeafRecord
   pub top : Option Entry
+  pub node_capacity : ℕ
+  pub leaf_capacity : ℕ
 
 -- all of a node but its entries
 abbrev pub fixed_of : NodeView → Fixed

@@ -27,7 +27,11 @@ pub struct LeafRecord {
     value: u64,
 }
 
-/// A height optimized trie for one thread. Contracts see its records and the entry of its root.
+/// A height optimized trie for one thread. Contracts see its records, the entry of its root, and for how many records its
+/// two vectors have memory.
+///
+/// A node's stored height is one above the greatest of its entries when the node is built, and stays as it is while the
+/// node keeps its forks. So where an entry gives way to a lower one, it can be more than one above the greatest.
 #[derive(Drop)]
 pub struct PlainTrie {
     nodes: Vec<Node>,
@@ -36,16 +40,19 @@ pub struct PlainTrie {
 }
 
 impl Model for PlainTrie {
+    ghost use Rattle.std.specs.Vec.{vec_capacity};
     ghost use Rattle.insert_cases.specs.Store.{PlainView, IsPlain};
 
     ghost Value = { PlainView };
 
-    ghost view = { λ a. record { nodes = a.nodes.items; leaves = a.leaves.items; top = a.top } };
+    ghost view = { λ a. record { nodes = a.nodes.items; leaves = a.leaves.items; top = a.top; node_capacity = vec_capacity a.nodes; leaf_capacity = vec_capacity a.leaves } };
 
-    ghost invariant = { λ a. IsPlain (record { nodes = a.nodes.items; leaves = a.leaves.items; top = a.top }) };
+    ghost invariant = { λ a. IsPlain (record { nodes = a.nodes.items; leaves = a.leaves.items; top = a.top; node_capacity = vec_capacity a.nodes; leaf_capacity = vec_capacity a.leaves }) };
 }
 
 impl PlainTrie {
+    ghost use Rattle.insert_cases.specs.Heights.{KeepsHeights};
+    ghost use Rattle.insert_cases.specs.Room.{LacksRoom, KeepsRoom, IsUnchanged};
     ghost use Rattle.insert_cases.specs.Searches.{found};
     ghost use Rattle.insert_cases.specs.Store.{map_of, ShowsTrie, IsHeld, tree_of, record_of};
     ghost use Rattle.tries.specs.Tree.{Tree};
@@ -53,7 +60,8 @@ impl PlainTrie {
 
     /// A trie without a key. It takes no memory yet.
     pub fn new(alloc: Global) -> PlainTrie
-        ensures { map_of result ≡ [] }
+        ensures map { map_of result ≡ [] }
+        ensures memory { (result.node_capacity ≡ 0) × (result.leaf_capacity ≡ 0) }
     {
         PlainTrie {
             nodes: Vec::new(alloc),
@@ -106,13 +114,21 @@ impl PlainTrie {
     }
 
     /// Gives the key the value where it has none, and answers `Inserted`, or `Exists` with the value that it has and
-    /// keeps. Only a key that was absent takes memory. Where there is none, or no number is left for a record, the answer
-    /// is `AllocError`, and nothing changes.
+    /// keeps. Only a key that was absent takes memory. Room is made for its leaf and for the most nodes that one insertion
+    /// can add: `height() + 1`, one for each level and one above the root, and none for the first key.
+    ///
+    /// The answer is `AllocError` only where a vector had to grow for that many and got no memory, or where too few numbers
+    /// of 32 bits are left: with 4,294,967,296 leaves, or with more than 4,294,967,295 - `height()` nodes. Most insertions
+    /// add fewer nodes than room is made for, so one can be refused that would have found room for its own, and the last
+    /// few numbers of nodes stay unused. A refused call leaves all records and the root as they were.
     pub fn insert(&mut self, key: &Key, value: u64) -> Result<Reply, AllocError>
         ensures reply { IfOk result (λ reply. reply ≡ reply_of (map_of self.old) (Insert key.now value)) }
         ensures map { OnOk result (map_of self.new ≡ map_after (map_of self.old) (Insert key.now value)) }
         ensures memory { OnErr result (AddsKey (map_of self.old) (Insert key.now value)) }
-        ensures err { OnErr result (self.new ≡ self.old) }
+        ensures refused { OnErr result (LacksRoom self.old) }
+        ensures err { OnErr result (IsUnchanged self.old self.new) }
+        ensures room { KeepsRoom self.old self.new }
+        ensures heights { KeepsHeights self.old.nodes self.new.nodes }
     {
         match self.add_absent(key, value)? {
             None => Ok(Reply::Inserted),
@@ -121,12 +137,15 @@ impl PlainTrie {
     }
 
     /// Gives the key the value, and answers `New`, or `Was` with the value that it had. Only a key that was absent takes
-    /// memory. Where there is none, or no number is left for a record, the answer is `AllocError`, and nothing changes.
+    /// memory. When the answer is `AllocError`, and what it leaves, is as for `insert`.
     pub fn upsert(&mut self, key: &Key, value: u64) -> Result<Reply, AllocError>
         ensures reply { IfOk result (λ reply. reply ≡ reply_of (map_of self.old) (Upsert key.now value)) }
         ensures map { OnOk result (map_of self.new ≡ map_after (map_of self.old) (Upsert key.now value)) }
         ensures memory { OnErr result (AddsKey (map_of self.old) (Upsert key.now value)) }
-        ensures err { OnErr result (self.new ≡ self.old) }
+        ensures refused { OnErr result (LacksRoom self.old) }
+        ensures err { OnErr result (IsUnchanged self.old self.new) }
+        ensures room { KeepsRoom self.old self.new }
+        ensures heights { KeepsHeights self.old.nodes self.new.nodes }
     {
         match self.add_absent(key, value)? {
             None => Ok(Reply::New),
@@ -144,7 +163,10 @@ impl PlainTrie {
             ((value_at (map_of self.old) key.now ≡ None) × (map_of self.new ≡ with_value (map_of self.old) key.now value))
             (λ leaf. IsHeld self.old key.now leaf × (self.new ≡ self.old))) }
         ensures memory { OnErr result (value_at (map_of self.old) key.now ≡ None) }
-        ensures err { OnErr result (self.new ≡ self.old) }
+        ensures refused { OnErr result (LacksRoom self.old) }
+        ensures err { OnErr result (IsUnchanged self.old self.new) }
+        ensures room { KeepsRoom self.old self.new }
+        ensures heights { KeepsHeights self.old.nodes self.new.nodes }
     {
         match self.top {
             None => {
@@ -168,7 +190,10 @@ impl PlainTrie {
     fn plant(&mut self, key: &Key, value: u64) -> Result<(), AllocError>
         requires { self.old.top ≡ None }
         ensures map { OnOk result (map_of self.new ≡ with_value (map_of self.old) key.now value) }
-        ensures err { OnErr result (self.new ≡ self.old) }
+        ensures refused { OnErr result (LacksRoom self.old) }
+        ensures err { OnErr result (IsUnchanged self.old self.new) }
+        ensures room { KeepsRoom self.old self.new }
+        ensures heights { KeepsHeights self.old.nodes self.new.nodes }
     {
         let number = make_room(&mut self.nodes, &mut self.leaves, 0)?;
         self.leaves.push_reserved(LeafRecord {
@@ -186,7 +211,10 @@ impl PlainTrie {
         requires position { position < 65535 }
         requires differ { (t : Tree) → tree_of self.old ≡ Some t → IsFirstDifference key.now (found key.now t).key position }
         ensures map { OnOk result (map_of self.new ≡ with_value (map_of self.old) key.now value) }
-        ensures err { OnErr result (self.new ≡ self.old) }
+        ensures refused { OnErr result (LacksRoom self.old) }
+        ensures err { OnErr result (IsUnchanged self.old self.new) }
+        ensures room { KeepsRoom self.old self.new }
+        ensures heights { KeepsHeights self.old.nodes self.new.nodes }
     {
         let count = usize::from(top.height()) + 1;
         let number = make_room(&mut self.nodes, &mut self.leaves, count)?;
@@ -202,7 +230,9 @@ impl PlainTrie {
     /// Gives a key that the trie has another value.
     fn set(&mut self, leaf: usize, key: &Key, value: u64)
         requires { IsHeld self.old key.now leaf }
-        ensures { map_of self.new ≡ with_value (map_of self.old) key.now value }
+        ensures map { map_of self.new ≡ with_value (map_of self.old) key.now value }
+        ensures room { KeepsRoom self.old self.new }
+        ensures nodes { self.new.nodes ≡ self.old.nodes }
     {
         self.leaves[leaf] = LeafRecord {
             key: key.copy(),
@@ -243,6 +273,9 @@ fn make_room(
         (vec_capacity nodes.old < vec_len nodes.old + count)) }
     ensures same_nodes { nodes.new.items ≡ nodes.old.items }
     ensures same_leaves { leaves.new.items ≡ leaves.old.items }
+    ensures node_room { vec_capacity nodes.old ≤ vec_capacity nodes.new }
+    ensures leaf_room { vec_capacity leaves.old ≤ vec_capacity leaves.new }
+    ensures err { OnErr result (vec_capacity nodes.new ≡ vec_capacity nodes.old) }
 {
     let number = leaves.len();
     if number >= MAX_RECORDS || nodes.len() > MAX_RECORDS - count {

@@ -6,6 +6,7 @@ ghost use Rattle.pieces.specs.Piece.{Piece, Fork, Place as At};
 ghost use Rattle.compound_node.specs.Nodes.{NodeView, IsLawful, IsEntry};
 ghost use Rattle.compound_node.specs.declared.entries.Entry.{Entry as EntryView};
 ghost use Rattle.insert_cases.specs.Grown.{GrownShows};
+ghost use Rattle.insert_cases.specs.Heights.{IsGrownSteady, KeepsHeights};
 ghost use Rattle.insert_cases.specs.Rising.{IsNew};
 ghost use Rattle.insert_cases.specs.Risen.{RisenShows, OthersStay, pushed_nodes, pushed_entry, kept_nodes, kept_entry};
 
@@ -32,6 +33,8 @@ pub fn stored(nodes: &mut Vec<Node>, number: u32, height: u16, grown: Grown) -> 
     requires small { vec_len nodes.old < 2 ^ 32 }
     ensures shows { (old : NodeView) (P : Piece EntryView) → slice_get nodes.old.items number ≡ Some old → old.height ≡ height → IsLawful old →
         GrownShows old grown P → RisenShows nodes.new.items old result P }
+    ensures heights { (old : NodeView) (P : Piece EntryView) → slice_get nodes.old.items number ≡ Some old → GrownShows old grown P →
+        IsGrownSteady old grown → KeepsHeights nodes.old.items nodes.new.items }
     ensures others { OthersStay nodes.old.items nodes.new.items number }
     ensures longer { vec_len nodes.old ≤ vec_len nodes.new }
     ensures len { vec_len nodes.new ≤ vec_len nodes.old + 1 }
@@ -50,6 +53,8 @@ fn split(nodes: &mut Vec<Node>, number: u32, height: u16, cut: Cut) -> Risen
     requires small { vec_len nodes.old < 2 ^ 32 }
     ensures shows { (old : NodeView) (P : Piece EntryView) → slice_get nodes.old.items number ≡ Some old → old.height ≡ height → IsLawful old →
         GrownShows old (Grown.Two cut) P → RisenShows nodes.new.items old result P }
+    ensures heights { (old : NodeView) (P : Piece EntryView) → slice_get nodes.old.items number ≡ Some old → GrownShows old (Grown.Two cut) P →
+        IsGrownSteady old (Grown.Two cut) → KeepsHeights nodes.old.items nodes.new.items }
     ensures others { OthersStay nodes.old.items nodes.new.items number }
     ensures longer { vec_len nodes.old ≤ vec_len nodes.new }
     ensures len { vec_len nodes.new ≤ vec_len nodes.old + 1 }

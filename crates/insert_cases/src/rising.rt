@@ -9,8 +9,9 @@ ghost use Rattle.tries.specs.Affected.{page_forked};
 ghost use Rattle.tries.specs.Content.{Item};
 ghost use Rattle.tries.specs.Tree.{Tree, Fixed, node as tree_node};
 ghost use Rattle.insert_cases.specs.Grafts.{grafted, IsAbovePath};
+ghost use Rattle.insert_cases.specs.Heights.{KeepsHeights};
 ghost use Rattle.insert_cases.specs.Rising.{IsRaised, IsAddable, IsLifting, item};
-ghost use Rattle.insert_cases.specs.Risen.{page_of, IsNamed, RisenShows, OthersStay};
+ghost use Rattle.insert_cases.specs.Risen.{page_of, IsNamed, RisenShows, OthersStay, AllStay};
 ghost use Rattle.insert_cases.specs.declared.plain.LeafRecord.{LeafRecord};
 
 use crate::growth::{Place, grow, pull_up};
@@ -31,6 +32,7 @@ pub fn raised(nodes: &mut Vec<Node>, entry: Entry, key: &Key, position: u16, lea
     requires small { vec_len nodes.old + height_of entry ≤ 2 ^ 32 }
     ensures raised { (leaves : List LeafRecord) (value : ℕ) (t : Tree) → IsAddable nodes.old.items leaves (item leaf key.now value) position entry t →
         IsRaised nodes.old.items nodes.new.items leaves (item leaf key.now value) position t (suc (height_of entry)) (page_of result) }
+    ensures heights { KeepsHeights nodes.old.items nodes.new.items }
     ensures len { vec_len nodes.new ≤ vec_len nodes.old + height_of entry }
     ensures capacity { vec_capacity nodes.new ≡ vec_capacity nodes.old }
 {
@@ -95,6 +97,7 @@ fn grown_at(
     ensures shows { (old : NodeView) → slice_get nodes.old.items number ≡ Some old →
         RisenShows nodes.new.items old result (grown position bit (Entry.Leaf leaf) range.0 (piece old)) }
     ensures others { OthersStay nodes.old.items nodes.new.items number }
+    ensures heights { KeepsHeights nodes.old.items nodes.new.items }
     ensures len { vec_len nodes.new ≤ vec_len nodes.old + 1 }
     ensures capacity { vec_capacity nodes.new ≡ vec_capacity nodes.old }
 {
@@ -115,6 +118,8 @@ fn lifted(nodes: &mut Vec<Node>, number: u32, height: u16, at: u8, low: u16, ris
     ensures raised { (ns : List NodeView) (leaves : List LeafRecord) (x : Item) (p : ℕ) (y : Fixed) (b : Tree) →
         IsLifting ns nodes.old.items leaves x p number height at low y b (page_of risen) →
         IsRaised ns nodes.new.items leaves x p (tree_node number y b) (suc height) (page_of result) }
+    ensures others { OthersStay nodes.old.items nodes.new.items number }
+    ensures heights { KeepsHeights nodes.old.items nodes.new.items }
     ensures len { vec_len nodes.new ≤ vec_len nodes.old + 1 }
     ensures capacity { vec_capacity nodes.new ≡ vec_capacity nodes.old }
 {
@@ -153,6 +158,7 @@ fn forked_at(
     ensures shows { (old : NodeView) → slice_get nodes.old.items number ≡ Some old →
         RisenShows nodes.new.items old result (grafted at (Fork position (At zero) (At one)) (piece old)) }
     ensures others { OthersStay nodes.old.items nodes.new.items number }
+    ensures heights { KeepsHeights nodes.old.items nodes.new.items }
     ensures len { vec_len nodes.new ≤ vec_len nodes.old + 1 }
     ensures capacity { vec_capacity nodes.new ≡ vec_capacity nodes.old }
 {
@@ -168,8 +174,11 @@ pub fn rooted(nodes: &mut Vec<Node>, risen: Risen) -> Entry
         IsRaised ns nodes.old.items leaves x p t h (page_of risen) }
     requires room { vec_len nodes.old < vec_capacity nodes.old }
     requires small { vec_len nodes.old < 2 ^ 32 }
-    ensures { (ns : List NodeView) (leaves : List LeafRecord) (x : Item) (p : ℕ) (t : Tree) (h : ℕ) →
+    ensures raised { (ns : List NodeView) (leaves : List LeafRecord) (x : Item) (p : ℕ) (t : Tree) (h : ℕ) →
         IsRaised ns nodes.old.items leaves x p t h (page_of risen) → IsRaised ns nodes.new.items leaves x p t (suc h) (At result) }
+    ensures all { AllStay nodes.old.items nodes.new.items }
+    ensures heights { KeepsHeights nodes.old.items nodes.new.items }
+    ensures capacity { vec_capacity nodes.new ≡ vec_capacity nodes.old }
 {
     match risen {
         Risen::Whole(entry) => entry,
@@ -186,6 +195,7 @@ fn replaced(nodes: &mut Vec<Node>, number: u32, at: u8, entry: Entry) -> Entry
     requires { (old : NodeView) × (slice_get nodes.old.items number ≡ Some old) × (at < size (piece old)) × StandsBelow old.height entry }
     ensures shows { (old : NodeView) → slice_get nodes.old.items number ≡ Some old → IsNamed nodes.new.items old result (grafted at (At entry) (piece old)) }
     ensures others { OthersStay nodes.old.items nodes.new.items number }
+    ensures heights { KeepsHeights nodes.old.items nodes.new.items }
     ensures len { vec_len nodes.new ≡ vec_len nodes.old }
     ensures capacity { vec_capacity nodes.new ≡ vec_capacity nodes.old }
 {

@@ -24,7 +24,7 @@ use Rattle.rowex_core.specs.Reading.{entry_in, word_in}
 use Rattle.rowex_core.specs.Cores.{Core, IsLawful, HasRecord}
 use Rattle.rowex_core.specs.Events.{Legal, after}
 use Rattle.rowex_core.specs.Frames.{IsFrame}
-use Rattle.rowex_core.specs.Knowing.{StoodBetween, StoodAs, IsFact, fate_of, IsOwned, IsLocked, Knows, NoChangeBy, IsUntouched, Knowing, Owns}
+use Rattle.rowex_core.specs.Knowing.{StoodBetween, StoodAs, IsFound, IsFact, fate_of, IsOwned, IsLocked, Knows, NoChangeBy, IsUntouched, Knowing, Owns}
 use Rattle.rowex_core.proofs.Frames.{frame}
 
 -- Facts of the past
@@ -33,18 +33,19 @@ stands_before : (a b : Past) → IsGrown a b → (n : ℕ) (r : Rec) (u : Tree) 
 stands_before a b g n r u h st =
     record { tree = st.tree; is_moment = sym (g.kept n h) ∙ st.is_moment; within = st.within; is_record = st.is_record }
 
-stood_as_grown : (a b : Past) → IsGrown a b → (since : ℕ) (r : Rec) (P : Tree → Type 0) → StoodAs a since r P → StoodAs b since r P
-stood_as_grown a b g since r P (n, u, lo, hi, st, p) = (n, u, lo, le_trans hi g.longer, stands_grown a b g n r u hi st, p)
+stood_as_grown : (a b : Past) → IsGrown a b → (since at : ℕ) (r : Rec) (P : Tree → Type 0) → at ≤ a.now → StoodAs a since at r P → StoodAs b since at r P
+stood_as_grown a b g since at r P h (n, u, lo, hi, st, p) = (n, u, lo, hi, stands_grown a b g n r u (le_trans hi h) st, p)
 
 stood_before : (a b : Past) → IsGrown a b → (since at : ℕ) (r : Rec) → at ≤ a.now → StoodBetween b since at r → StoodBetween a since at r
 stood_before a b g since at r h (n, u, lo, hi, st) = (n, u, lo, hi, stands_before a b g n r u (le_trans hi h) st)
 
+found_grown : (a b : Past) → IsGrown a b → (since at : ℕ) (r : Rec) (P : Tree → Type 0) → at ≤ a.now → IsFound a since at r P → IsFound b since at r P
+found_grown a b g since at r P h f m lo s = stood_as_grown a b g m at r P h (f m lo (stood_before a b g m at r h s))
+
 pub fact_grown : (a b : Past) → IsGrown a b → (f : Fact) → IsFact a f → IsFact b f
 fact_grown a b g (Rooted since at e) (lo, hi, h) = (lo, le_trans hi g.longer, ap Rattle.rowex_core.specs.Reading.root_of (g.kept at hi) ∙ h)
-fact_grown a b g (Placed since at n j e) (hi, h) =
-    (le_trans hi g.longer, λ s. stood_as_grown a b g since (a_node n) (λ u. entry_in u j ≡ e) (h (stood_before a b g since at (a_node n) hi s)))
-fact_grown a b g (Fixed since at r offset w) (hi, h) =
-    (le_trans hi g.longer, λ s. stood_as_grown a b g since r (λ u. word_in u offset ≡ w) (h (stood_before a b g since at r hi s)))
+fact_grown a b g (Placed since at n j e) (hi, h) = (le_trans hi g.longer, found_grown a b g since at (a_node n) (λ u. entry_in u j ≡ e) hi h)
+fact_grown a b g (Fixed since at r offset w) (hi, h) = (le_trans hi g.longer, found_grown a b g since at r (λ u. word_in u offset ≡ w) hi h)
 
 -- Fronts
 

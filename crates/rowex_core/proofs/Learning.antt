@@ -1,9 +1,10 @@
 -- What a pass knows after a step of its own is true.
-use Rattle.std.proofs.Common.{◌≡◌, ◌≢◌, ◌⊎◌, inl, inr, ℕ, ◌+◌, ◌-◌, ◌<◌, ◌≤◌, List, [], ◌∷◌, Bool, true, false, if◌then◌else◌, nat_eq, eqb, set, Option, Some, None, refl, sym, ap, ◌∙◌, subst, le_refl, append-nil}
+use Rattle.std.proofs.Common.{◌≡◌, ◌≢◌, ◌⊎◌, inl, inr, ℕ, ◌+◌, ◌-◌, ◌<◌, ◌≤◌, List, [], ◌∷◌, Bool, true, false, if◌then◌else◌, nat_eq, eqb, set, Option, Some, None, refl, sym, ap, ◌∙◌, subst, le_refl, append-nil, append_assoc, ◌++◌}
 use Rattle.std.specs.Prelude.{All, map, not}
 use Rattle.std.proofs.lemmas.Bool.{eq-eqb, eqb-true, cases_Bool, false≢true}
 use Rattle.std.proofs.lemmas.List.Elements.{All-cons, All-weaker, All-map, All-from_recursion}
-use Rattle.hot_model.specs.Fronts.{OthersGoOn}
+use Rattle.hot_model.specs.declared.Change.{Change}
+use Rattle.hot_model.specs.Fronts.{BeginsWith, OthersGoOn}
 use Rattle.compound_node.specs.declared.entries.Entry.{Entry}
 use Rattle.pieces.specs.Piece.{Place}
 use Rattle.tries.specs.Tree.{Tree, leaf, node, fork, page}
@@ -56,19 +57,6 @@ counted c k n h = record {
 
 -- Facts of loads
 
-with_facts : (c : Core) (k : Known) (facts : List Fact) → Knows c k → All (IsFact c.past) facts → Knows c (record k { facts = facts })
-with_facts c k facts h f = record {
-  pass = h.pass;
-  front = h.front;
-  fresh = h.fresh;
-  facts = f;
-  own = h.own;
-  locks = h.locks;
-  anchor = h.anchor;
-  pin = h.pin;
-  round = h.round;
-}
-
 more_facts : (s : Past) (o : Option Pin) (f : ℕ → Fact) (facts : List Fact) → ((p : Pin) → o ≡ Some p → IsFact s (f p.moment)) →
     All (IsFact s) facts → All (IsFact s) (facts_with o f facts)
 more_facts s None f facts h a = a
@@ -90,14 +78,26 @@ pinned : (c : Core) (k : Known) → IsLawful c → Knows c k → (p : Pin) → k
 pinned c k law h p e =
     (law.core.state.reach k.pass p.moment (ap pin_moment (h.pin ∙ e)), (law.core.paced.floors k.pass p (h.pin ∙ e)).2)
 
--- A load teaches a pinned pass its fact.
-fact_learned : (c : Core) (k : Known) (f : ℕ → Fact) → IsLawful c → Knows c k →
-    ((since : ℕ) → IsReach (view c) since → since ≤ c.past.now → IsFact c.past (f since)) → Knows c (record k { facts = facts_with k.pin f k.facts })
-fact_learned c k f law h true_ =
-    with_facts c k _ h (more_facts c.past k.pin f k.facts (λ p e. let x = pinned c k law h p e in true_ p.moment x.0 x.1) h.facts)
-
 seen_whole : (c : Core) (q : ℕ) → OthersGoOn q c.changes c.changes
 seen_whole c q = ([], sym (append-nil c.changes), All-from_recursion (λ z. z.pass ≢ q) [] tt)
+
+begins_whole : (c : Core) (k : Known) → Knows c k → BeginsWith c.changes k.fresh.front
+begins_whole c k h = (h.fresh.0 ++ h.front.0, h.front.1 ∙ (ap (λ (z : List Change). z ++ h.front.0) h.fresh.1 ∙ append_assoc k.fresh.front h.fresh.0 h.front.0))
+
+-- A load teaches a pass all changes so far, and a pinned pass its fact.
+fact_learned : (c : Core) (k : Known) (f : ℕ → Fact) → IsLawful c → Knows c k →
+    ((since : ℕ) → IsReach (view c) since → since ≤ c.past.now → IsFact c.past (f since)) → Knows c (record k { front = c.changes; facts = facts_with k.pin f k.facts })
+fact_learned c k f law h true_ = record {
+  pass = h.pass;
+  front = seen_whole c k.pass;
+  fresh = begins_whole c k h;
+  facts = more_facts c.past k.pin f k.facts (λ p e. let x = pinned c k law h p e in true_ p.moment x.0 x.1) h.facts;
+  own = h.own;
+  locks = h.locks;
+  anchor = h.anchor;
+  pin = h.pin;
+  round = h.round;
+}
 
 root_learned : (c : Core) (k : Known) → IsLawful c → Knows c k → Knows c (entry_learned c Root k)
 root_learned c k law h = record {

@@ -74,7 +74,7 @@ pub slot_fact : (c : Core) → IsLawful c → (since : ℕ) → IsReach (view c)
 unfolding IsPacked
 slot_fact c law since reach n j small = (
   le_refl c.past.now,
-  λ s. let l = last c law since reach (a_node n) s in
+  λ m lo s. let l = last c law m (λ o b. reach o (le_trans lo b)) (a_node n) s in
       (l.at, l.tree, l.low, l.high, l.stands, go l.tree l.stands.is_record l.copied l.packed),
 )
   where
@@ -94,7 +94,7 @@ pub fixed_fact : (c : Core) → IsLawful c → (since : ℕ) → IsReach (view c
 unfolding IsPacked
 fixed_fact c law since reach r offset fits = (
   le_refl c.past.now,
-  λ s. let l = last c law since reach r s in
+  λ m lo s. let l = last c law m (λ o b. reach o (le_trans lo b)) r s in
       (l.at, l.tree, l.low, l.high, l.stands, go r l.tree fits l.stands.is_record l.copied l.packed),
 )
   where

@@ -108,7 +108,7 @@ in_reach c law q p e n r u lo hi st =
   where
     word : (offset : ℕ) → IsFixedOffset r offset → record_word c r offset ≡ word_in u offset
     word offset fits =
-        let f = (fixed_fact c law p.moment (law.core.state.reach q p.moment (ap pin_moment e)) r offset fits).1 (n, u, lo, hi, st) in
+        let f = (fixed_fact c law p.moment (law.core.state.reach q p.moment (ap pin_moment e)) r offset fits).1 p.moment (le_refl p.moment) (n, u, lo, hi, st) in
         sym f.5 ∙ same_word offset f.1 u (core_steady (bare c) law.core q p e r f.0 n f.1 u f.2 f.3 lo hi f.4 st)
 
 -- A publish is a step of the map

@@ -38,14 +38,18 @@ use Rattle.rowex_core.specs.Events.{IsInTree, Legal, stored_words, stored_root, 
 abbrev pub StoodBetween : Past → ℕ → ℕ → Rec → Type 0
 StoodBetween s since at r = (n : ℕ) × (u : Tree) × (since ≤ n) × (n ≤ at) × Stands s n r u
 
--- it stood as a tree of which P holds
-abbrev pub StoodAs : Past → ℕ → Rec → (Tree → Type 0) → Type 0
-StoodAs s since r P = (n : ℕ) × (u : Tree) × (since ≤ n) × (n ≤ s.now) × Stands s n r u × P u
+-- and there as a tree of which P holds
+abbrev pub StoodAs : Past → ℕ → ℕ → Rec → (Tree → Type 0) → Type 0
+StoodAs s since at r P = (n : ℕ) × (u : Tree) × (since ≤ n) × (n ≤ at) × Stands s n r u × P u
+
+-- whichever moment since `since` we begin at, if the record stood from then to `at`, it stood so as a tree of which P holds
+abbrev pub IsFound : Past → ℕ → ℕ → Rec → (Tree → Type 0) → Type 0
+IsFound s since at r P = (m : ℕ) → since ≤ m → StoodBetween s m at r → StoodAs s m at r P
 
 abbrev pub IsFact : Past → Fact → Type 0
 IsFact s (Rooted since at e) = (since ≤ at) × (at ≤ s.now) × (root_of (s.moment at) ≡ e)
-IsFact s (Placed since at n j e) = (at ≤ s.now) × (StoodBetween s since at (a_node n) → StoodAs s since (a_node n) (λ u. entry_in u j ≡ e))
-IsFact s (Fixed since at r offset w) = (at ≤ s.now) × (StoodBetween s since at r → StoodAs s since r (λ u. word_in u offset ≡ w))
+IsFact s (Placed since at n j e) = (at ≤ s.now) × IsFound s since at (a_node n) (λ u. entry_in u j ≡ e)
+IsFact s (Fixed since at r offset w) = (at ≤ s.now) × IsFound s since at r (λ u. word_in u offset ≡ w)
 
 -- Records of the pass's own, and locks
 
@@ -135,7 +139,10 @@ entry_learned c Root k = record k {
   fresh = record { front = c.changes; step = k.steps };
   facts = facts_with k.pin (λ since. Rooted since c.past.now c.root) k.facts;
 }
-entry_learned c (Slot n j) k = record k { facts = facts_with k.pin (λ since. Placed since c.past.now n j (entry_of (record_word c (a_node n) (26 + j)))) k.facts }
+entry_learned c (Slot n j) k = record k {
+  front = c.changes;
+  facts = facts_with k.pin (λ since. Placed since c.past.now n j (entry_of (record_word c (a_node n) (26 + j)))) k.facts;
+}
 
 -- the records of a tree
 abbrev pub records_of : Tree → List Rec
@@ -183,7 +190,7 @@ learned_by c (Fill r offset w) k = record k { own = map (fill_in r offset w) k.o
 learned_by c (Ready r) k = record k { own = map (hold_as r IsReady) k.own }
 learned_by c (Release r) k = record k { own = without_record r k.own }
 learned_by c (LoadRef spot w) k = entry_learned c spot k
-learned_by c (LoadFixed r offset w) k = record k { facts = facts_with k.pin (λ since. Fixed since c.past.now r offset w) k.facts }
+learned_by c (LoadFixed r offset w) k = record k { front = c.changes; facts = facts_with k.pin (λ since. Fixed since c.past.now r offset w) k.facts }
 learned_by c (Lock Anchor found) k = anchor_learned c found c.anchor k
 learned_by c (Lock (NodeTarget n) found) k = node_learned c n found k
 learned_by c (Unlock Anchor) k = record k { anchor = None }

@@ -7,7 +7,7 @@ use moments::{Pin, Rec, Round};
 use record_words::Location;
 use std::collections::LinkedList;
 
-/// What a load found, of a moment since `since`, at the moment `at`.
+/// What a load found at the moment `at`, of a moment since any since `since`.
 pub enum Fact {
     /// The root had this entry.
     Rooted {

@@ -1,11 +1,12 @@
 -- The places of a page; the bit trie without marks; one key more.
 use Rattle.key_bits.specs.Key.{IsKey}
+use Rattle.key_bits.specs.Bits.{bit_of}
 use Rattle.std.proofs.Common.{◌≡◌, ◌⊎◌, inl, inr, ℕ, ◌+◌, ◌-◌, ◌<◌, List, [], ◌∷◌, ◌++◌, Bool, true, false, refl, ap, ap₂, sym, ◌∙◌, subst, arith, if◌then◌else◌, ltb}
 use Rattle.std.proofs.lemmas.Bool.{cond-true, cond-false, lt-ltb, le-ltb}
 use Rattle.tries.specs.Keys.{Key, bit, AgreeBelow}
 use Rattle.compound_node.specs.declared.entries.Entry.{Entry}
 use Rattle.tries.specs.Tree.{Page, Tree, leaf, node, fork, Has, IsTrie}
-use Rattle.pieces.specs.Piece.{Place, Fork, size}
+use Rattle.pieces.specs.Piece.{Place, Fork, size, leads_to}
 use Rattle.tries.specs.Search.{seek}
 use Rattle.tries.specs.Place.{Swap, swap, in_zero, in_one, spot, entry_at, with_entry, shape, bare}
 use Rattle.tries.specs.Content.{Item, items, IsMore, added, behind}
@@ -15,6 +16,16 @@ spot_below k (Place e) = omega arith
 spot_below k (Fork p x y) =
     let l = spot_below k x in let r = spot_below k y in
     elim (bit k p) as (λ u. (if u then size x + spot k y else spot k x) < size x + size y) [ true ↦ omega arith | false ↦ omega arith ]
+
+-- The search of pieces leads to that place.
+pub leads_spot : (k : Key) (x : Page) → leads_to (bit_of k) x ≡ spot k x
+unfolding bit
+leads_spot k (Place e) = refl
+leads_spot k (Fork p x y) =
+    elim (bit_of k p) as (λ u. (if u then size x + leads_to (bit_of k) y else leads_to (bit_of k) x) ≡ (if u then size x + spot k y else spot k x)) [
+      | true ↦ ap (λ n. size x + n) (leads_spot k y)
+      | false ↦ leads_spot k x
+    ]
 
 low_entry : (p : ℕ) (x y : Page) (i : ℕ) → i < size x → entry_at (Fork p x y) i ≡ entry_at x i
 low_entry p x y i h = cond-true (ltb i (size x)) _ _ (lt-ltb i (size x) h)

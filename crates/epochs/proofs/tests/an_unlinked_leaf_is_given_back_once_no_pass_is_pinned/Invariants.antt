@@ -7,3 +7,6 @@ ghost-claim g a = silent
 
 abbrev pub ghost-load_state : goal.ghost-load_state
 ghost-load_state g a = silent
+
+abbrev pub ghost-unpin : goal.ghost-unpin
+ghost-unpin g a = silent

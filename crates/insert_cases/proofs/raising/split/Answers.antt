@@ -2,6 +2,7 @@
 use Rattle.std.proofs.Common.{◌≡◌, arith, length}
 use Rattle.std.specs.Vec.{vec_len}
 use Rattle.insert_cases.specs.Risen.{pushed_nodes}
+use Rattle.insert_cases.proofs.Heights.{heights_double}
 use Rattle.insert_cases.proofs.Storing.{double_shows, others_kept, others_pushed}
 use Rattle.insert_cases.proofs.raising.split.Goals as goal
 
@@ -15,3 +16,7 @@ pub returns-in_default-clause-others : goal.returns-in_default-clause-others
 returns-in_default-clause-others c = λ m v ne at.
     rw (c.half_kept-zero.ensures.nodes, c.half_pushed-one.ensures.nodes)
     (others_kept (pushed_nodes c.args.nodes.now.items c.args.cut.one) c.args.number c.args.cut.zero m v ne (others_pushed c.args.nodes.now.items c.args.cut.one m v at))
+
+pub returns-in_default-clause-heights : goal.returns-in_default-clause-heights
+returns-in_default-clause-heights c = λ old P at s steady.
+    rw (c.half_kept-zero.ensures.nodes, c.half_pushed-one.ensures.nodes) (heights_double c.args.nodes.now.items c.args.number old P at c.args.cut s steady)

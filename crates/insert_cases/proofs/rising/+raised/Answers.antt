@@ -9,7 +9,8 @@ use Rattle.tries.specs.Search.{child}
 use Rattle.pieces.specs.Piece.{Place}
 use Rattle.insert_cases.specs.Rising.{IsRaised, item}
 use Rattle.insert_cases.specs.Risen.{page_of, RisenShows}
-use Rattle.insert_cases.proofs.Climbing.{addable_to, node_here, here_positive, here_within, here_high, here_spot, here_from, here_upto, here_entry, here_raised, here_lifting, range, way_below, child_addable, child_low, beside_raised}
+use Rattle.insert_cases.proofs.Heights.{heights_over}
+use Rattle.insert_cases.proofs.Climbing.{old_at, addable_to, node_here, here_positive, here_within, here_high, here_spot, here_from, here_upto, here_entry, here_raised, here_lifting, range, way_below, child_addable, child_low, beside_raised}
 use Rattle.insert_cases.proofs.rising.+raised.Goals as goal
 
 pub index-node-requires : goal.index-node-requires
@@ -135,6 +136,25 @@ returns-else-first-last-clause-raised t c = λ leaves value s a.
     let r = c.lifted.ensures.raised c.args.nodes.now.items leaves x c.args.position u.fixed u.body l in
     subst (λ h. IsRaised c.args.nodes.now.items c.lifted.new.nodes.items leaves x c.args.position s (suc h) (page_of c.lifted.result)) (sym (ap height_of c.in-Node.is))
     (subst (λ y. IsRaised c.args.nodes.now.items c.lifted.new.nodes.items leaves x c.args.position y (suc c.in-Node.height) (page_of c.lifted.result)) (sym u.is) r)
+
+pub returns-else-first-last-clause-heights : goal.returns-else-first-last-clause-heights
+returns-else-first-last-clause-heights t c =
+    let q = c.requires.place in
+    let i = addable_to c.in-Node.is q.3 in
+    let u = node_here i in
+    let v = c.index-node.result.now in
+    let at = c.search-at.result in
+    let first = c.affected-first.result.0 in
+    let last = c.affected-first.result.1 in
+    let leads = c.search-at.ensures.leads in
+    let from = here_from u v c.index-node.ensures at first leads c.affected-first.ensures.from in
+    let upto = here_upto u v c.index-node.ensures at first last leads c.affected-first.ensures.upto in
+    let is = here_entry u v c.index-node.ensures at c.entry-child.result c.count.ensures.lawful leads c.entry-child.ensures.entry in
+    let up = c.raised-risen.ensures.raised q.0 q.1 _ (child_addable i u c.entry-child.result is) in
+    let l = here_lifting u at c.height.result c.entry-child.result c.raised-risen.new.nodes.items (page_of c.raised-risen.result) (way_below i u first last from upto c.if-first-last.false)
+    (here_spot u v c.index-node.ensures at leads) is c.height.ensures up in
+    heights_over c.args.nodes.now.items c.raised-risen.new.nodes.items c.lifted.new.nodes.items c.raised-risen.ensures.heights c.lifted.ensures.heights
+    c.in-Node.number l.shown.0.view l.shown.0.at (old_at l) c.lifted.ensures.others
 
 pub returns-else-first-last-clause-len : goal.returns-else-first-last-clause-len
 returns-else-first-last-clause-len t c =

@@ -1,8 +1,12 @@
 -- What gave way in the child's place is put there.
-use Rattle.std.proofs.Common.{◌≢◌, suc, ◌+◌, ◌<◌, refl, ap, arith, Some}
+use Rattle.std.proofs.Common.{◌≡◌, ◌≢◌, suc, ◌+◌, ◌<◌, List, refl, ap, ◌∙◌, arith, Some}
+use Rattle.std.specs.Prelude.{slice_get}
+use Rattle.compound_node.specs.Nodes.{NodeView}
 use Rattle.insert_cases.specs.Risen.{page_of}
 use Rattle.insert_cases.specs.declared.raising.Risen.TheVariants.{Whole}
 use Rattle.insert_cases.proofs.Climbing.{old_at, old_high, at_within, above_path, pair_here, stands_here, lift, between}
+use Rattle.insert_cases.proofs.Heights.{heights_new, heights_over}
+use Rattle.insert_cases.proofs.Storing.{push_old}
 use Rattle.insert_cases.proofs.rising.lifted.Goals as goal
 
 pub replaced-requires : goal.replaced-requires
@@ -54,3 +58,13 @@ returns-in_default-clause-raised c = λ ns leaves x p y b i.
     let far : suc c.args.low < c.args.height = omega (arith, i.lower) in
     lift (between i c.settled-entry.new.nodes.items c.in-Split.position c.in-Split.zero c.in-Split.one c.settled-entry.result (ap page_of c.in-Split.is) c.settled-entry.ensures.new far)
     c.replaced-in_default.new.nodes.items (Whole c.replaced-in_default.result) c.replaced-in_default.ensures.others c.replaced-in_default.ensures.shows
+
+pub returns-in_default-clause-heights : goal.returns-in_default-clause-heights
+returns-in_default-clause-heights c =
+    let i = c.requires.place.6 in
+    let ms = c.args.nodes.now.items in
+    let us = c.settled-entry.new.nodes.items in
+    let new = c.settled-entry.ensures.new in
+    let still : slice_get us c.args.number ≡ Some i.shown.0.view = ap (λ (vs : List NodeView). slice_get vs c.args.number) new.added ∙ push_old ms _ c.args.number i.shown.0.view (old_at i) in
+    heights_over ms us c.replaced-in_default.new.nodes.items (heights_new ms us c.settled-entry.result _ new) c.replaced-in_default.ensures.heights c.args.number i.shown.0.view (old_at i) still
+    c.replaced-in_default.ensures.others

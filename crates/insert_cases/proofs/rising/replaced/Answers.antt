@@ -1,11 +1,12 @@
 -- The node that is named gets the entry.
-use Rattle.std.proofs.Common.{◌≡◌, ap, ◌∙◌, arith}
+use Rattle.std.proofs.Common.{◌≡◌, inl, inr, ap, sym, ◌∙◌, arith}
 use Rattle.std.specs.Prelude.{slice_get, Some}
 use Rattle.std.proofs.lemmas.Option.{slice_get_within}
 use Rattle.pieces.specs.Changes.{replaced}
 use Rattle.pieces.specs.Piece.{size}
 use Rattle.compound_node.specs.Nodes.{NodeView, piece}
 use Rattle.insert_cases.proofs.Climbing.{replaced_named}
+use Rattle.insert_cases.proofs.Heights.{heights_set}
 use Rattle.insert_cases.proofs.NodeFacts.{size-piece}
 use Rattle.insert_cases.proofs.Searching.{read_at}
 use Rattle.insert_cases.proofs.Storing.{set_same, set_other}
@@ -44,3 +45,10 @@ returns-clause-shows c = λ old at.
 
 pub returns-clause-others : goal.returns-clause-others
 returns-clause-others c = λ m v ne at. rw c.kept.ensures.nodes (set_other c.args.nodes.now.items c.args.number m c.replace-node.result v ne at)
+
+pub returns-clause-heights : goal.returns-clause-heights
+returns-clause-heights c =
+    let o = c.requires in
+    let v = c.index-node.result.now in
+    let same : v ≡ o.0 = read_at c.args.nodes.now.items c.args.number o.0 v o.1 c.index-node.ensures in
+    rw c.kept.ensures.nodes (heights_set c.args.nodes.now.items c.args.number v c.replace-node.result (o.1 ∙ ap Some (sym same)) (inl (inr (c.args.at, c.args.entry, c.replace-node.ensures.fields))))

@@ -12,8 +12,8 @@ settled-requires c =
     let p = pair_facts c.in-Split.position c.in-Split.zero c.in-Split.one u.tree (u.begins ∙ ap page_of c.in-Split.is) u.adds.trie u.built in
     record { room = c.requires.room; small = c.requires.small; position = omega (arith, p.position); zero = p.zero; one = p.one }
 
-pub returns-in-Whole : goal.returns-in-Whole
-returns-in-Whole c = λ ns leaves x p t h u. record {
+pub returns-in-Whole-clause-raised : goal.returns-in-Whole-clause-raised
+returns-in-Whole-clause-raised c = λ ns leaves x p t h u. record {
   tree = u.tree;
   begins = u.begins ∙ ap page_of c.in-Whole.is;
   adds = u.adds;
@@ -23,7 +23,7 @@ returns-in-Whole c = λ ns leaves x p t h u. record {
   kept = u.kept;
 }
 
-pub returns-in-Split : goal.returns-in-Split
-returns-in-Split c = λ ns leaves x p t h u.
+pub returns-in-Split-clause-raised : goal.returns-in-Split-clause-raised
+returns-in-Split-clause-raised c = λ ns leaves x p t h u.
     settle ns c.args.nodes.now.items c.settled.new.nodes.items leaves x p t h c.in-Split.position c.in-Split.zero c.in-Split.one c.settled.result
     (subst (IsRaised ns c.args.nodes.now.items leaves x p t h) (ap page_of c.in-Split.is) u) c.settled.ensures.new

@@ -13,12 +13,13 @@ use Rattle.compound_node.specs.declared.entries.Entry.TheVariants.{Leaf, Node}
 use Rattle.tries.specs.Content.{Item, items}
 use Rattle.tries.specs.Place.{spot}
 use Rattle.tries.specs.Tree.{Page, Fixed, Tree, node, page}
+use Rattle.tries.proofs.Places.{leads_spot}
 use Rattle.insert_cases.specs.declared.plain.LeafRecord.{LeafRecord}
 use Rattle.insert_cases.specs.declared.plain.scan.Progress.TheVariants.{On}
 use Rattle.insert_cases.specs.Gathered.{IsBeyond, IsFloor, IsGathered, IsMismatch, StandsIn, items_from, leaves_of, parts}
 use Rattle.insert_cases.specs.Store.{PlainView, record_of}
 use Rattle.insert_cases.proofs.Gathering.{gathered_none, gathered_skip, less_beyond, not_less_floor}
-use Rattle.insert_cases.proofs.Searching.{leads_spot, read_at}
+use Rattle.insert_cases.proofs.Searching.{read_at}
 use Rattle.insert_cases.proofs.Standing.{no_tree, node_shows, node_height, node_within, IsPartAt, IsLeafAt, IsNodeAt, part_at, leaf_at, node_at}
 use Rattle.insert_cases.proofs.Starting.{gathered_ended, gathered_from, gathered_on, part_mismatch}
 use Rattle.insert_cases.proofs.plain.PlainTrie.+gather.Goals as goal

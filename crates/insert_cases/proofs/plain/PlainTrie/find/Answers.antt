@@ -1,5 +1,6 @@
 -- The search goes down the tree that the records show.
 use Rattle.std.proofs.Common.{◌≡◌, ◌∙◌, ap, sym, subst, arith, Some}
+use Rattle.std.specs.Vec.{vec_capacity}
 use Rattle.compound_node.specs.Nodes.{height_of}
 use Rattle.insert_cases.specs.Searches.{found}
 use Rattle.insert_cases.specs.Store.{PlainView, tree_of, record_of}
@@ -8,7 +9,7 @@ use Rattle.insert_cases.proofs.plain.PlainTrie.find.Goals as goal
 
 pub loop-entry-init : goal.loop-entry-init
 loop-entry-init c =
-    on_way_start (record { nodes = c.self.inside.nodes.items; leaves = c.self.inside.leaves.items; top = c.self.inside.top }) c.args.key.now c.args.top
+    on_way_start (record { nodes = c.self.inside.nodes.items; leaves = c.self.inside.leaves.items; top = c.self.inside.top; node_capacity = vec_capacity c.self.inside.nodes; leaf_capacity = vec_capacity c.self.inside.leaves }) c.args.key.now c.args.top
     (ap (λ (v : PlainView). v.top) c.self.view_is ∙ c.requires) c.self.invariant
 
 pub returns-in-Leaf-clause-number : goal.returns-in-Leaf-clause-number
@@ -17,7 +18,7 @@ returns-in-Leaf-clause-number c = λ t e.
     let nodes = c.self.inside.nodes.items in
     let leaves = c.self.inside.leaves.items in
     let w = subst (IsOnWay nodes leaves c.args.key.now i.0) c.in-Leaf.is i.2 in
-    let same : i.0 ≡ t = tree_once (record { nodes = nodes; leaves = leaves; top = c.self.inside.top }) i.0 t i.1 (ap tree_of c.self.view_is ∙ e) in
+    let same : i.0 ≡ t = tree_once (record { nodes = nodes; leaves = leaves; top = c.self.inside.top; node_capacity = vec_capacity c.self.inside.nodes; leaf_capacity = vec_capacity c.self.inside.leaves }) i.0 t i.1 (ap tree_of c.self.view_is ∙ e) in
     ap (λ u. (found c.args.key.now u).number) (sym same) ∙ on_way_number nodes leaves c.args.key.now i.0 c.in-Leaf.number w
 
 pub returns-in-Leaf-clause-record : goal.returns-in-Leaf-clause-record
@@ -26,7 +27,7 @@ returns-in-Leaf-clause-record c = λ t e.
     let nodes = c.self.inside.nodes.items in
     let leaves = c.self.inside.leaves.items in
     let w = subst (IsOnWay nodes leaves c.args.key.now i.0) c.in-Leaf.is i.2 in
-    let v : PlainView = record { nodes = nodes; leaves = leaves; top = c.self.inside.top } in
+    let v : PlainView = record { nodes = nodes; leaves = leaves; top = c.self.inside.top; node_capacity = vec_capacity c.self.inside.nodes; leaf_capacity = vec_capacity c.self.inside.leaves } in
     let same : i.0 ≡ t = tree_once v i.0 t i.1 (ap tree_of c.self.view_is ∙ e) in
     rw (← c.self.view_is) (on_way_end nodes leaves c.args.key.now i.0 c.in-Leaf.number w ∙ ap (λ u. Some (record_of (found c.args.key.now u))) same)
 

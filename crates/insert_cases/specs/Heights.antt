@@ -1,0 +1,38 @@
+-- What one call does to the nodes and their stored heights.
+use Rattle.std.specs.Prelude.{◌≡◌, ◌⊎◌, ℕ, ◌+◌, ◌≤◌, List, length, slice_get, slice_set, Some}
+use Rattle.compound_node.specs.Nodes.{NodeView, greatest_height}
+use Rattle.compound_node.specs.declared.entries.Entry.{Entry}
+use Rattle.compound_node.specs.declared.halves.Half.{Half}
+use Rattle.compound_node.specs.declared.halves.Half.TheVariants.{One, Many, Same}
+use Rattle.insert_cases.specs.declared.growth.Grown.{Grown}
+use Rattle.insert_cases.specs.declared.growth.Grown.TheVariants.{One as Whole, Two}
+
+-- the node that it was, or that node with another entry at one place; its stored height is as it was
+abbrev pub Remains : NodeView → NodeView → Type 0
+Remains old new = (new ≡ old) ⊎ ((place : ℕ) × (entry : Entry) × (new ≡ record old { entries = slice_set old.entries place entry }))
+
+-- the stored height of a node at the time when it is built: one above the greatest of its entries, a leaf counting 0
+abbrev pub HasHeightAnew : NodeView → Type 0
+HasHeightAnew node = node.height ≡ 1 + greatest_height node.entries
+
+-- with the same forks the stored height is the same: it changes only where forks are added or cut off
+abbrev pub IsSteady : NodeView → NodeView → Type 0
+IsSteady old new = new.columns ≡ old.columns → new.rows ≡ old.rows → new.height ≡ old.height
+
+-- No record goes away. Each has a node that remains, or one that was built; and where the forks are as before, so is the
+-- stored height.
+pub record KeepsHeights (old new : List NodeView) : Type 0 where
+  pub longer : length old ≤ length new
+  pub each : (n : ℕ) (node : NodeView) → slice_get new n ≡ Some node →
+      ((was : NodeView) × (slice_get old n ≡ Some was) × Remains was node) ⊎ HasHeightAnew node
+  pub steady : (n : ℕ) (was node : NodeView) → slice_get old n ≡ Some was → slice_get new n ≡ Some node → IsSteady was node
+
+-- what grew out of a node is steady beside it
+abbrev pub IsHalfSteady : NodeView → Half → Type 0
+IsHalfSteady old (One entry) = Unit {0}
+IsHalfSteady old (Many node) = IsSteady old node
+IsHalfSteady old Same = Unit {0}
+
+abbrev pub IsGrownSteady : NodeView → Grown → Type 0
+IsGrownSteady old (Whole node) = IsSteady old node
+IsGrownSteady old (Two cut) = IsHalfSteady old cut.zero × IsHalfSteady old cut.one

@@ -1,0 +1,29 @@
+-- When a trie has no room for one key more, and what a refused call leaves.
+use Rattle.std.specs.Prelude.{◌≡◌, ◌⊎◌, ℕ, ◌+◌, ◌^◌, ◌<◌, ◌≤◌, length, Option, Some, None}
+use Rattle.compound_node.specs.Nodes.{height_of}
+use Rattle.compound_node.specs.declared.entries.Entry.{Entry}
+use Rattle.insert_cases.specs.Store.{PlainView}
+
+-- the most nodes that one insertion adds: one for each level, and one above the root; the first key adds none
+abbrev pub most_new_nodes : Option Entry → ℕ
+most_new_nodes None = 0
+most_new_nodes (Some root) = height_of root + 1
+
+-- no number of 32 bits is left for one leaf more, or too few are left for the most nodes that can come
+abbrev pub IsAtLimit : PlainView → Type 0
+IsAtLimit v = (2 ^ 32 ≤ length v.leaves) ⊎ (2 ^ 32 < length v.nodes + most_new_nodes v.top)
+
+-- the vector of the leaves is full, or that of the nodes has no room for the most nodes that can come
+abbrev pub MustGrow : PlainView → Type 0
+MustGrow v = (v.leaf_capacity ≤ length v.leaves) ⊎ (v.node_capacity < length v.nodes + most_new_nodes v.top)
+
+abbrev pub LacksRoom : PlainView → Type 0
+LacksRoom v = IsAtLimit v ⊎ MustGrow v
+
+-- no vector has less room than before
+abbrev pub KeepsRoom : PlainView → PlainView → Type 0
+KeepsRoom old new = (old.node_capacity ≤ new.node_capacity) × (old.leaf_capacity ≤ new.leaf_capacity)
+
+-- nothing has changed but that the vector of the leaves may have got more room
+abbrev pub IsUnchanged : PlainView → PlainView → Type 0
+IsUnchanged old new = new ≡ record old { leaf_capacity = new.leaf_capacity }
