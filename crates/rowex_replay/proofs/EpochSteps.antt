@@ -14,8 +14,9 @@ use Rattle.rowex_core.specs.Words.{pin_word}
 use Rattle.rowex_core.specs.Events.{LegalAct, after}
 use Rattle.rowex_replay.specs.declared.passes.PassState.{PassState}
 use Rattle.rowex_replay.specs.Passes.{ArePassesOf, IsPassOf, in_round, with_pin_seen, lowered_by}
-use Rattle.rowex_replay.specs.Replays.{ReplayView, IsReplayOf}
+use Rattle.rowex_replay.specs.States.{StateView, IsStateOf}
 use Rattle.rowex_replay.proofs.Tables.{slice_get-replicate, slice_get-set, slice_get_there, within, at_number, other_number}
+use Rattle.rowex_replay.proofs.Sound.{count}
 
 -- the stored passes with one of them changed
 pub pass_set : (passes : List PassState) (layout : Layout) (pins : ℕ → Option Pin) (rounds : ℕ → Round) → ArePassesOf passes layout pins rounds →
@@ -33,16 +34,16 @@ pass_set passes layout pins rounds a q p pin round is = record {
 pub own_value : {X : Type 0} (f : ℕ → X) (q i : ℕ) → (if nat_eq i q then f q else f i) ≡ f i
 own_value f q i = elim (cases_Bool (nat_eq i q)) [ inl e ↦ rw e (ap f (sym (eqb-true i q e))) | inr e ↦ rw e refl ]
 
-pub passes_are : (s : ReplayView) (c : Core) → IsReplayOf s c → (passes : List PassState) (pins : ℕ → Option Pin) (rounds : ℕ → Round) → ArePassesOf passes c.layout pins rounds →
-    IsReplayOf (record s { passes = passes }) (record c { pins = pins; rounds = rounds })
+pub passes_are : (s : StateView) (c : Core) → IsStateOf s c → (passes : List PassState) (pins : ℕ → Option Pin) (rounds : ℕ → Round) → ArePassesOf passes c.layout pins rounds →
+    IsStateOf (record s { passes = passes }) (record c { pins = pins; rounds = rounds })
 passes_are s c h passes pins rounds a = record { records = h.records; passes = a; anchor = h.anchor; root = h.root; epoch = h.epoch; changes = h.changes; items = h.items }
 
 -- the pass itself
-pub own_at : (s : ReplayView) (c : Core) → IsReplayOf s c → (q : ℕ) (p : PassState) → slice_get s.passes q ≡ Some p → IsPassOf c.layout p (c.pins q) (c.rounds q)
+pub own_at : (s : StateView) (c : Core) → IsStateOf s c → (q : ℕ) (p : PassState) → slice_get s.passes q ≡ Some p → IsPassOf c.layout p (c.pins q) (c.rounds q)
 own_at s c h q p e = h.passes.each q p e
 
-pub pass_in : (s t : ReplayView) → s ≡ t → (q : ℕ) (p : PassState) → slice_get t.passes q ≡ Some p → slice_get s.passes q ≡ Some p
-pass_in s t e q p at = subst (λ (z : ReplayView). slice_get z.passes q ≡ Some p) (sym e) at
+pub pass_in : (s t : StateView) → s ≡ t → (q : ℕ) (p : PassState) → slice_get t.passes q ≡ Some p → slice_get s.passes q ≡ Some p
+pass_in s t e q p at = subst (λ (z : StateView). slice_get z.passes q ≡ Some p) (sym e) at
 
 pub none_from : (o : Option ℕ) → is_some o ≡ false → o ≡ None
 none_from None e = refl
@@ -63,12 +64,12 @@ round_begun : (p : PassState) (layout : Layout) (pin : Option Pin) (round : Roun
     IsPassOf layout (in_round p e m) pin (record { epoch = e; moment = m; bound = e; seen = [] })
 round_begun p layout pin round e m is = record { pin_is = is.pin_is; epoch_is = refl; moment_is = refl; bound_is = refl; seen_are = fresh_seen layout }
 
-pub epoch_loads : (s : ReplayView) (q w : ℕ) (p : PassState) → w ≡ s.epoch → slice_get s.passes q ≡ Some p → (c : Core) → IsLawful c → IsReplayOf s c →
-    LegalAct c q (LoadEpoch w) × IsReplayOf (record s { passes = set s.passes q (in_round p s.epoch (length s.changes)) }) (after c q (LoadEpoch w))
+pub epoch_loads : (s : StateView) (q w : ℕ) (p : PassState) → w ≡ s.epoch → slice_get s.passes q ≡ Some p → (c : Core) → ∥ IsLawful c ∥₁ → IsStateOf s c →
+    LegalAct c q (LoadEpoch w) × IsStateOf (record s { passes = set s.passes q (in_round p s.epoch (length s.changes)) }) (after c q (LoadEpoch w))
 epoch_loads s q w p is at c lawful h = (
   is ∙ sym h.epoch,
-  subst (λ e. IsReplayOf (record s { passes = set s.passes q (in_round p e (length s.changes)) }) (after c q (LoadEpoch w))) h.epoch
-      (subst (λ m. IsReplayOf (record s { passes = set s.passes q (in_round p c.epoch m) }) (after c q (LoadEpoch w))) (sym lawful.core.told.count ∙ ap length h.changes)
+  subst (λ e. IsStateOf (record s { passes = set s.passes q (in_round p e (length s.changes)) }) (after c q (LoadEpoch w))) h.epoch
+      (subst (λ m. IsStateOf (record s { passes = set s.passes q (in_round p c.epoch m) }) (after c q (LoadEpoch w))) (sym (count c lawful) ∙ ap length h.changes)
       (passes_are s c h (set s.passes q (in_round p c.epoch c.past.now)) c.pins (after c q (LoadEpoch w)).rounds (same_pins (own_at s c h q p at)))),
 )
   where
@@ -81,14 +82,14 @@ epoch_loads s q w p is at c lawful h = (
           (round_begun p c.layout (c.pins q) (c.rounds q) c.epoch c.past.now own)).each i x e);
     }
 
-epoch_is : (s : ReplayView) (c : Core) → IsReplayOf s c → (e : ℕ) → IsReplayOf (record s { epoch = e }) (record c { epoch = e })
+epoch_is : (s : StateView) (c : Core) → IsStateOf s c → (e : ℕ) → IsStateOf (record s { epoch = e }) (record c { epoch = e })
 epoch_is s c h e = record { records = h.records; passes = h.passes; anchor = h.anchor; root = h.root; epoch = refl; changes = h.changes; items = h.items }
 
 -- ---- pins
 
 -- the passes with one pin changed
-pub pin_set : (s : ReplayView) (c : Core) → IsReplayOf s c → (q : ℕ) (p : PassState) (pin : Option Pin) → slice_get s.passes q ≡ Some p →
-    IsReplayOf (record s { passes = set s.passes q (record p { pin = option_map (λ (x : Pin). x.word) pin }) }) (record c { pins = λ i. if nat_eq i q then pin else c.pins i })
+pub pin_set : (s : StateView) (c : Core) → IsStateOf s c → (q : ℕ) (p : PassState) (pin : Option Pin) → slice_get s.passes q ≡ Some p →
+    IsStateOf (record s { passes = set s.passes q (record p { pin = option_map (λ (x : Pin). x.word) pin }) }) (record c { pins = λ i. if nat_eq i q then pin else c.pins i })
 pin_set s c h q p pin at = passes_are s c h (set s.passes q (record p { pin = option_map (λ (x : Pin). x.word) pin })) (λ i. if nat_eq i q then pin else c.pins i) c.rounds same_rounds
   where
     own : IsPassOf c.layout p (c.pins q) (c.rounds q)
@@ -113,16 +114,16 @@ some_word : (o : Option Pin) → option_map (λ (x : Pin). x.word) o ≢ None �
 some_word None ne = absurd (ne refl)
 some_word (Some x) ne = refl
 
-pub pins : (s : ReplayView) (q w : ℕ) (p : PassState) → slice_get s.passes q ≡ Some p → p.pin ≡ None → w ≡ p.epoch → 1 ≤ w → (c : Core) → IsLawful c → IsReplayOf s c →
-    LegalAct c q (SetPin w) × IsReplayOf (record s { passes = set s.passes q (record p { pin = Some w }) }) (after c q (SetPin w))
+pub pins : (s : StateView) (q w : ℕ) (p : PassState) → slice_get s.passes q ≡ Some p → p.pin ≡ None → w ≡ p.epoch → 1 ≤ w → (c : Core) → ∥ IsLawful c ∥₁ → IsStateOf s c →
+    LegalAct c q (SetPin w) × IsStateOf (record s { passes = set s.passes q (record p { pin = Some w }) }) (after c q (SetPin w))
 pins s q w p at none is positive c lawful h =
     let own = own_at s c h q p at in (
       (no_word (c.pins q) (sym own.pin_is ∙ none), is ∙ sym own.epoch_is, positive),
       pin_set s c h q p (Some (record { word = w; moment = c.past.now; floor = c.epoch })) at,
     )
 
-pub unpins : (s : ReplayView) (q : ℕ) (p : PassState) → slice_get s.passes q ≡ Some p → p.pin ≢ None → (c : Core) → IsLawful c → IsReplayOf s c →
-    LegalAct c q ClearPin × IsReplayOf (record s { passes = set s.passes q (record p { pin = None }) }) (after c q ClearPin)
+pub unpins : (s : StateView) (q : ℕ) (p : PassState) → slice_get s.passes q ≡ Some p → p.pin ≢ None → (c : Core) → ∥ IsLawful c ∥₁ → IsStateOf s c →
+    LegalAct c q ClearPin × IsStateOf (record s { passes = set s.passes q (record p { pin = None }) }) (after c q ClearPin)
 unpins s q p at some c lawful h =
     let own = own_at s c h q p at in
     (some_word (c.pins q) (λ e. some (own.pin_is ∙ e)), pin_set s c h q p None at)
@@ -146,8 +147,8 @@ seen_more layout p pin round o i is there =
     (λ (other, old). same_Some x.0 (has_seen round.seen i) (sym old ∙ is.seen_are i there) ∙ sym (rw (ne_eqb i o other) refl))
     (slice_get-set p.seen o i true x.0 x.1))
 
-pub pin_loads : (s : ReplayView) (q o w : ℕ) (p x : PassState) → slice_get s.passes q ≡ Some p → slice_get s.passes o ≡ Some x → w ≡ unwrap_or x.pin 0 → (c : Core) → IsLawful c → IsReplayOf s c →
-    LegalAct c q (LoadPin o w) × IsReplayOf (record s { passes = set s.passes q (with_pin_seen p o x.pin) }) (after c q (LoadPin o w))
+pub pin_loads : (s : StateView) (q o w : ℕ) (p x : PassState) → slice_get s.passes q ≡ Some p → slice_get s.passes o ≡ Some x → w ≡ unwrap_or x.pin 0 → (c : Core) → ∥ IsLawful c ∥₁ → IsStateOf s c →
+    LegalAct c q (LoadPin o w) × IsStateOf (record s { passes = set s.passes q (with_pin_seen p o x.pin) }) (after c q (LoadPin o w))
 pin_loads s q o w p x at other is c lawful h =
     let there = own_at s c h o x other in (
       (within s.passes c.layout.passes o x h.passes.count other, is ∙ ap (λ z. unwrap_or z 0) there.pin_is ∙ sym (word_of_pin (c.pins o))),

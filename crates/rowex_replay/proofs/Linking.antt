@@ -1,10 +1,13 @@
 -- What a publish asks of the records and makes of them.
-use Rattle.std.proofs.Common.{◌≡◌, ◌≢◌, ◌↔◌, ◌⊎◌, inl, inr, ◌<◌, ℕ, List, [], get_or, Option, Some, None, Bool, true, false, refl, sym, ap, ◌∙◌, subst}
+use Rattle.std.proofs.Common.{◌≡◌, ◌≢◌, ◌↔◌, ◌⊎◌, inl, inr, ◌<◌, ℕ, List, [], get_or, Option, Bool, true, false, sym, ap, ◌∙◌, subst}
+use Rattle.std.proofs.Props.{props}
+use Rattle.std.proofs.Math.Logic.{∥∥₁_elim}
 use Rattle.std.proofs.lemmas.Bool.{cases_Bool, false≢true}
 use Rattle.std.proofs.lemmas.Option.{slice_get-get_or}
 use Rattle.compound_node.specs.declared.entries.Entry.{Entry}
 use Rattle.record_words.specs.declared.layout.Layout.{Layout}
 use Rattle.tries.specs.Tree.{Tree}
+use Rattle.tries.specs.Content.{Item}
 use Rattle.moments.specs.declared.Rec.{Rec}
 use Rattle.moments.specs.declared.Rec.TheVariants.{Node as a_node, Leaf as a_leaf}
 use Rattle.moments.specs.State.{IsTop, IsLinked}
@@ -23,9 +26,10 @@ use Rattle.rowex_replay.specs.declared.fate.Fate.TheVariants.{Free as IsFree, He
 use Rattle.rowex_replay.specs.Fates.{fate_of}
 use Rattle.rowex_replay.specs.Links.{AllMayCome, AllMayGo}
 use Rattle.rowex_replay.specs.Records.{RecordsView, AreRecordsOf, MayLink}
-use Rattle.rowex_replay.specs.Replays.{ReplayView}
-use Rattle.rowex_replay.specs.Publishing.{IsStored, MayPublish}
+use Rattle.rowex_replay.specs.States.{StateView}
+use Rattle.rowex_replay.specs.Publishing.{IsStored, ArePacked, MayPublish}
 use Rattle.rowex_replay.proofs.Reading.{tree_stored}
+use Rattle.rowex_replay.proofs.Sound.{used}
 
 -- ---- the tests of fates
 
@@ -58,21 +62,25 @@ whole : (q : ℕ) (f : Fate) → ((since : ℕ) × (f ≡ InTreeSince since)) �
 whole q f (inl (since, e)) = rw e (tt, λ x. cc)
 whole q f (inr e) = rw e (tt, λ x. cc)
 
-pub is_moment : (s : ReplayView) (c : Core) (words : Rec → List ℕ) (q : ℕ) (root : Option Entry) → IsStored s c words → MayPublish c q words root → IsMoment s.records.nodes s.records.leaves words root
-is_moment s c words q root st may = record {
+pub is_moment : (s : StateView) (c : Core) (words : Rec → List ℕ) (q : ℕ) (root : Option Entry) → IsStored s c words → ArePacked c words → MayPublish c q words root → IsMoment s.records.nodes s.records.leaves words root
+is_moment s c words q root st packed may = record {
   top = may.top;
   tree = may.tree;
   spelled = λ r linked.
       let w = whole q (c.fate r) (may.comes r linked) in
-      (elim (st.lawful.records.used r) [ inl e ↦ absurd (w.1 e) | inr h ↦ in_table s.records c.layout words c.fate c.lock st.at.records r h ], st.packed r w.0);
+      (in_table s.records c.layout words c.fate c.lock st.at.records r (used c r st.lawful w.1), packed r w.0);
 }
 
 -- ---- a number names one leaf
 
-pub same_leaves : (s : ReplayView) (c : Core) (words : Rec → List ℕ) (root : Option Entry) → IsStored s c words → IsTop (heap_of words) root (tree_of (heap_of words) root) →
+item-set : IsSet Item
+item-set = Prim.hlevel props
+
+pub same_leaves : (s : StateView) (c : Core) (words : Rec → List ℕ) (root : Option Entry) → IsStored s c words → IsTop (heap_of words) root (tree_of (heap_of words) root) →
     AreSame (items_of (c.past.moment c.past.now)) (items_of (tree_of (heap_of words) root))
-same_leaves s c words root st top = by_number (heap_of c.words) (heap_of words) _ _ (λ n. ap leaf_of (sym (st.leaves n)))
-    (top_items (heap_of c.words) c.root (c.past.moment c.past.now) st.lawful.core.state.top) (top_items (heap_of words) root (tree_of (heap_of words) root) top)
+same_leaves s c words root st top = λ x y i j e. ∥∥₁_elim st.lawful (item-set x y) (λ lawful.
+    by_number (heap_of c.words) (heap_of words) _ _ (λ n. ap leaf_of (sym (st.leaves n)))
+    (top_items (heap_of c.words) c.root (c.past.moment c.past.now) lawful.core.state.top) (top_items (heap_of words) root (tree_of (heap_of words) root) top) x y i j e)
 
 -- ---- comes and goes
 

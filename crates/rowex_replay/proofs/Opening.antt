@@ -8,7 +8,7 @@ use Rattle.rowex_core.specs.Opening.{opening}
 use Rattle.replay_trees.specs.declared.trees.Item.{Item as Stored}
 use Rattle.rowex_replay.specs.Passes.{ArePassesOf, fresh_pass}
 use Rattle.rowex_replay.specs.Records.{AreRecordsOf}
-use Rattle.rowex_replay.specs.Replays.{ReplayView, IsReplayOf}
+use Rattle.rowex_replay.specs.States.{StateView, IsStateOf}
 use Rattle.replay_trees.specs.Moments.{item_of}
 use Rattle.rowex_replay.proofs.Tables.{slice_get-replicate}
 use Rattle.rowex_replay.proofs.EpochSteps.{fresh_seen}
@@ -19,8 +19,8 @@ opening_passes layout = record {
   each = λ q p e. rw (slice_get-replicate layout.passes fresh_pass q p e) record { pin_is = refl; epoch_is = refl; moment_is = refl; bound_is = refl; seen_are = fresh_seen layout };
 }
 
-pub opening_replay : (s : ReplayView) (layout : Layout) → AreRecordsOf s.records layout (opening layout).words (opening layout).fate (opening layout).lock →
-    s.passes ≡ replicate layout.passes fresh_pass → s.anchor ≡ None → s.root ≡ None → s.epoch ≡ 1 → s.changes ≡ [] → s.items ≡ [] → IsReplayOf s (opening layout)
+pub opening_replay : (s : StateView) (layout : Layout) → AreRecordsOf s.records layout (opening layout).words (opening layout).fate (opening layout).lock →
+    s.passes ≡ replicate layout.passes fresh_pass → s.anchor ≡ None → s.root ≡ None → s.epoch ≡ 1 → s.changes ≡ [] → s.items ≡ [] → IsStateOf s (opening layout)
 opening_replay s layout records passes anchor root epoch changes items = record {
   records = records;
   passes = rw passes (opening_passes layout);
@@ -35,5 +35,5 @@ pairs_stored : (xs : List Stored) → map (λ (x : Stored). (x.key, x.value)) xs
 pairs_stored [] = refl
 pairs_stored (x ∷ xs) = ap (λ z. (x.key, x.value) ∷ z) (pairs_stored xs)
 
-pub content_is : (s : ReplayView) (c : Core) → IsReplayOf s c → map (λ (x : Stored). (x.key, x.value)) s.items ≡ Rattle.moments.specs.Told.content (c.past.moment c.past.now)
+pub content_is : (s : StateView) (c : Core) → IsStateOf s c → map (λ (x : Stored). (x.key, x.value)) s.items ≡ Rattle.moments.specs.Told.content (c.past.moment c.past.now)
 content_is s c h = pairs_stored s.items ∙ ap pairs (sym h.items)

@@ -20,16 +20,17 @@ use Rattle.rowex_replay.specs.declared.fate.Fate.{Fate as Stored}
 use Rattle.rowex_replay.specs.declared.fate.Fate.TheVariants.{Ready as IsReady, InTree as IsTree}
 use Rattle.rowex_replay.specs.Fates.{fate_of}
 use Rattle.rowex_replay.specs.Records.{RecordsView, MayLink, IsNext, words_in, fate_in}
-use Rattle.rowex_replay.specs.Replays.{ReplayView, IsReplayOf}
-use Rattle.rowex_replay.specs.Publishing.{IsStored, MayPublish, published}
+use Rattle.rowex_replay.specs.States.{StateView, IsStateOf}
+use Rattle.rowex_replay.specs.Publishing.{IsStored, ArePacked, MayPublish, published}
 use Rattle.rowex_replay.proofs.Tables as table
 use Rattle.rowex_replay.proofs.Reading.{tree_stored}
+use Rattle.rowex_replay.proofs.Sound.{count, used}
 use Rattle.rowex_replay.proofs.Linking.{flag, flag_is, linked_flag, came, comes, of_table, is_moment, same_leaves, words_read}
 
 not_true : (b : Bool) → (b ≡ true → ⊥) → b ≡ false
 not_true b f = elim (cases_Bool b) [ inl e ↦ absurd (f e) | inr e ↦ e ]
 
-module _ (s : ReplayView) (c : Core) (words : Rec → List ℕ) (q : ℕ) (root : Option Entry) (st : IsStored s c words) (linked : Linked)
+module _ (s : StateView) (c : Core) (words : Rec → List ℕ) (q : ℕ) (root : Option Entry) (st : IsStored s c words) (linked : Linked)
     (tells : Tells s.records.nodes s.records.leaves (tree_of (heap_of words) root) linked) where
   -- the tests of fates say what is asked of the records
   come_stored : (r : Rec) (f : Stored) → MayLink s.records q linked.nodes.items linked.leaves.items → fate_in s.records r ≡ Some f → flag linked r ≡ true →
@@ -48,7 +49,7 @@ module _ (s : ReplayView) (c : Core) (words : Rec → List ℕ) (q : ℕ) (root 
 
   pub all_go : MayLink s.records q linked.nodes.items linked.leaves.items → (n : ℕ) → IsInTree c n → ¬ (IsLinked (tree_of (heap_of words) root) (a_node n)) → c.lock n ≡ Some q
   all_go m n (since, e) out =
-      let there : HasRecord c.layout (a_node n) = elim (st.lawful.records.used (a_node n)) [ inl x ↦ absurd (let y : Free ≡ InTreeSince since = sym x ∙ e in cc) | inr h ↦ h ] in
+      let there : HasRecord c.layout (a_node n) = used c (a_node n) st.lawful (λ x. let y : Free ≡ InTreeSince since = sym x ∙ e in cc) in
       let x = table.fate_there s.records c.layout words c.fate c.lock st.at.records (a_node n) there in
       let y = table.lock_there s.records c.layout words c.fate c.lock st.at.records (a_node n) there in
       let off = not_true (get_or linked.nodes.items n false) (λ on. out ((tells.nodes_are n).0 on)) in
@@ -93,13 +94,13 @@ module _ (s : ReplayView) (c : Core) (words : Rec → List ℕ) (q : ℕ) (root 
 
   pub published_is : (now : ℕ) (t : RecordsView) (x : Change) → now ≡ length s.changes → IsNext now q linked.nodes.items linked.leaves.items s.records t →
       x ≡ change_between q (items_of (c.past.moment c.past.now)) (items_of (tree_of (heap_of words) root)) →
-      IsReplayOf (record s { records = t; root = root; changes = s.changes ++ x ∷ []; items = linked.items.items }) (published c q words root)
+      IsStateOf (record s { records = t; root = root; changes = s.changes ++ x ∷ []; items = linked.items.items }) (published c q words root)
   published_is now t x same next is = record {
     records = record {
       node_count = (ap length next.words.0 ∙ st.at.records.node_count.0, next.node_count ∙ st.at.records.node_count.1, ap length next.locks ∙ st.at.records.node_count.2);
       leaf_count = (ap length next.words.1 ∙ st.at.records.leaf_count.0, next.leaf_count ∙ st.at.records.leaf_count.1);
       words_are = next_words t next.words;
-      fates_are = next_fates now t (same ∙ ap length (sym st.at.changes) ∙ st.lawful.core.told.count) next;
+      fates_are = next_fates now t (same ∙ ap length (sym st.at.changes) ∙ count c st.lawful) next;
       locks_are = λ n o e. st.at.records.locks_are n o (subst (λ z. slice_get z n ≡ Some o) next.locks e);
     };
     passes = st.at.passes;
@@ -112,30 +113,30 @@ module _ (s : ReplayView) (c : Core) (words : Rec → List ℕ) (q : ℕ) (root 
 
 -- ---- the answers
 
-pub none_read : (s : ReplayView) (q : ℕ) (root : Option Entry) → ((words : Rec → List ℕ) → AreWordsOf s.records.nodes s.records.leaves words → IsReadMoment s.records.nodes s.records.leaves words root None) →
-    (c : Core) (words : Rec → List ℕ) → IsStored s c words → ¬ (MayPublish c q words root)
-none_read s q root read c words st may = read words (words_read s.records c.layout words c.fate c.lock st.at.records) (is_moment s c words q root st may)
+pub none_read : (s : StateView) (q : ℕ) (root : Option Entry) → ((words : Rec → List ℕ) → AreWordsOf s.records.nodes s.records.leaves words → IsReadMoment s.records.nodes s.records.leaves words root None) →
+    (c : Core) (words : Rec → List ℕ) → IsStored s c words → ArePacked c words → ¬ (MayPublish c q words root)
+none_read s q root read c words st packed may = read words (words_read s.records c.layout words c.fate c.lock st.at.records) (is_moment s c words q root st packed may)
 
-pub not_linked : (s : ReplayView) (q : ℕ) (root : Option Entry) (linked : Linked) →
+pub not_linked : (s : StateView) (q : ℕ) (root : Option Entry) (linked : Linked) →
     ((words : Rec → List ℕ) → AreWordsOf s.records.nodes s.records.leaves words → IsReadMoment s.records.nodes s.records.leaves words root (Some linked)) →
-    ¬ (MayLink s.records q linked.nodes.items linked.leaves.items) → (c : Core) (words : Rec → List ℕ) → IsStored s c words → ¬ (MayPublish c q words root)
-not_linked s q root linked read fails c words st may =
+    ¬ (MayLink s.records q linked.nodes.items linked.leaves.items) → (c : Core) (words : Rec → List ℕ) → IsStored s c words → ArePacked c words → ¬ (MayPublish c q words root)
+not_linked s q root linked read fails c words st packed may =
     fails (may_link_from s c words q root st linked (read words (words_read s.records c.layout words c.fate c.lock st.at.records)).1 may)
 
-pub not_changed : (s : ReplayView) (q : ℕ) (root : Option Entry) (linked : Linked) →
+pub not_changed : (s : StateView) (q : ℕ) (root : Option Entry) (linked : Linked) →
     ((words : Rec → List ℕ) → AreWordsOf s.records.nodes s.records.leaves words → IsReadMoment s.records.nodes s.records.leaves words root (Some linked)) →
     (AreSame (map item_of s.items) (map item_of linked.items.items) → IsFound q (map item_of s.items) (map item_of linked.items.items) None) →
-    (c : Core) (words : Rec → List ℕ) → IsStored s c words → ¬ (MayPublish c q words root)
-not_changed s q root linked read none c words st may =
+    (c : Core) (words : Rec → List ℕ) → IsStored s c words → ArePacked c words → ¬ (MayPublish c q words root)
+not_changed s q root linked read none c words st packed may =
     let x = read words (words_read s.records c.layout words c.fate c.lock st.at.records) in
     found s c words q root st linked x.1 None x.0 none may.change
 
-pub publishes : (s : ReplayView) (q : ℕ) (root : Option Entry) (linked : Linked) (x : Change) (now : ℕ) (t : RecordsView) →
+pub publishes : (s : StateView) (q : ℕ) (root : Option Entry) (linked : Linked) (x : Change) (now : ℕ) (t : RecordsView) →
     ((words : Rec → List ℕ) → AreWordsOf s.records.nodes s.records.leaves words → IsReadMoment s.records.nodes s.records.leaves words root (Some linked)) →
     MayLink s.records q linked.nodes.items linked.leaves.items →
     (AreSame (map item_of s.items) (map item_of linked.items.items) → IsFound q (map item_of s.items) (map item_of linked.items.items) (Some x)) →
     now ≡ length s.changes → IsNext now q linked.nodes.items linked.leaves.items s.records t → (c : Core) (words : Rec → List ℕ) → IsStored s c words →
-    MayPublish c q words root × IsReplayOf (record s { records = t; root = root; changes = s.changes ++ x ∷ []; items = linked.items.items }) (published c q words root)
+    MayPublish c q words root × IsStateOf (record s { records = t; root = root; changes = s.changes ++ x ∷ []; items = linked.items.items }) (published c q words root)
 publishes s q root linked x now t read m one same next c words st =
     let y = read words (words_read s.records c.layout words c.fate c.lock st.at.records) in
     let z = found s c words q root st linked y.1 (Some x) y.0 one in (

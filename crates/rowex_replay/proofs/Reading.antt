@@ -12,7 +12,7 @@ use Rattle.rowex_replay.specs.declared.fate.Fate.{Fate as Stored}
 use Rattle.rowex_replay.specs.declared.fate.Fate.TheVariants.{Free as IsFree, Held as IsHeld, Ready as IsReady, InTree as IsInTree, Unlinked as IsUnlinked, Marked as IsMarked}
 use Rattle.rowex_replay.specs.Fates.{fate_of}
 use Rattle.rowex_replay.specs.Records.{HasState, words_in, fate_in, lock_in}
-use Rattle.rowex_replay.specs.Replays.{ReplayView, IsReplayOf}
+use Rattle.rowex_replay.specs.States.{StateView, IsStateOf}
 use Rattle.rowex_replay.proofs.Tables as table
 
 -- ---- a stored fate is that of one fate
@@ -35,28 +35,28 @@ marked_stored (IsMarked i l s) since last p e = let x : Marked i l s ≡ Marked 
 
 -- ---- fates, locks and words at a core
 
-pub fate_at : (s : ReplayView) (c : Core) → IsReplayOf s c → (r : Rec) (f : Stored) → fate_in s.records r ≡ Some f → HasRecord c.layout r × (c.fate r ≡ fate_of f)
+pub fate_at : (s : StateView) (c : Core) → IsStateOf s c → (r : Rec) (f : Stored) → fate_in s.records r ≡ Some f → HasRecord c.layout r × (c.fate r ≡ fate_of f)
 fate_at s c h r f e = (table.has_fate s.records c.layout c.words c.fate c.lock h.records r f e, h.records.fates_are r f e)
 
-pub fate_from : (s : ReplayView) (c : Core) → IsReplayOf s c → (r : Rec) → HasRecord c.layout r → (f : Stored) × (fate_in s.records r ≡ Some f) × (c.fate r ≡ fate_of f)
+pub fate_from : (s : StateView) (c : Core) → IsStateOf s c → (r : Rec) → HasRecord c.layout r → (f : Stored) × (fate_in s.records r ≡ Some f) × (c.fate r ≡ fate_of f)
 fate_from s c h r there = let x = table.fate_there s.records c.layout c.words c.fate c.lock h.records r there in (x.0, x.1, h.records.fates_are r x.0 x.1)
 
-pub lock_at : (s : ReplayView) (c : Core) → IsReplayOf s c → (r : Rec) (o : Option ℕ) → lock_in s.records r ≡ Some o → lock_of c r ≡ o
+pub lock_at : (s : StateView) (c : Core) → IsStateOf s c → (r : Rec) (o : Option ℕ) → lock_in s.records r ≡ Some o → lock_of c r ≡ o
 lock_at s c h (a_node n) o e = h.records.locks_are n o e
 lock_at s c h (a_leaf n) o e = same_Some {A = Option ℕ} None o e
 
-pub lock_from : (s : ReplayView) (c : Core) → IsReplayOf s c → (r : Rec) → HasRecord c.layout r → lock_in s.records r ≡ Some (lock_of c r)
+pub lock_from : (s : StateView) (c : Core) → IsStateOf s c → (r : Rec) → HasRecord c.layout r → lock_in s.records r ≡ Some (lock_of c r)
 lock_from s c h r there = let x = table.lock_there s.records c.layout c.words c.fate c.lock h.records r there in x.1 ∙ ap Some (sym (lock_at s c h r x.0 x.1))
 
-pub words_from : (s : ReplayView) (c : Core) → IsReplayOf s c → (r : Rec) → HasRecord c.layout r → words_in s.records r ≡ Some (c.words r)
+pub words_from : (s : StateView) (c : Core) → IsStateOf s c → (r : Rec) → HasRecord c.layout r → words_in s.records r ≡ Some (c.words r)
 words_from s c h r there = let x = table.words_there s.records c.layout c.words c.fate c.lock h.records r there in x.1 ∙ ap Some (sym (h.records.words_are r x.0 x.1))
 
 -- the pass holds the record
-pub held_at : (s : ReplayView) (c : Core) → IsReplayOf s c → (r : Rec) (q : ℕ) → fate_in s.records r ≡ Some (IsHeld q) → HasRecord c.layout r × (c.fate r ≡ Held q)
+pub held_at : (s : StateView) (c : Core) → IsStateOf s c → (r : Rec) (q : ℕ) → fate_in s.records r ≡ Some (IsHeld q) → HasRecord c.layout r × (c.fate r ≡ Held q)
 held_at s c h r q e = fate_at s c h r (IsHeld q) e
 
 -- the node is in the tree
-pub tree_from : (s : ReplayView) (c : Core) → IsReplayOf s c → (n since : ℕ) → n < c.layout.nodes → c.fate (a_node n) ≡ InTree since → fate_in s.records (a_node n) ≡ Some (IsInTree since)
+pub tree_from : (s : StateView) (c : Core) → IsStateOf s c → (n since : ℕ) → n < c.layout.nodes → c.fate (a_node n) ≡ InTree since → fate_in s.records (a_node n) ≡ Some (IsInTree since)
 tree_from s c h n since there e = let x = fate_from s c h (a_node n) there in x.1 ∙ ap Some (tree_stored x.0 since (sym x.2 ∙ e))
 
 -- ---- states
@@ -79,13 +79,13 @@ has_word None (Unlinked i l q) h = tt
 has_word (Some p) (Unlinked i l q) h = tt
 has_word o (Marked i l s) h = h i l s refl
 
-pub state_from : (s : ReplayView) (c : Core) → IsReplayOf s c → (r : Rec) (w : ℕ) → HasState s.records r w → HasRecord c.layout r × (w ≡ state_at c r)
+pub state_from : (s : StateView) (c : Core) → IsStateOf s c → (r : Rec) (w : ℕ) → HasState s.records r w → HasRecord c.layout r × (w ≡ state_at c r)
 state_from s c h r w (t, e, fits, is) =
     let (f, o, a, b, x) = tag_parts (fate_in s.records r) (lock_in s.records r) t e in
     let y = fate_at s c h r f a in
     (y.0, sym is ∙ ap state_word (sym x) ∙ ap (λ z. state_word (tag_of z (fate_of f))) (sym (lock_at s c h r o b)) ∙ ap (λ z. state_word (tag_of (lock_of c r) z)) (sym y.1))
 
-pub state_is : (s : ReplayView) (c : Core) → IsLawful c → IsReplayOf s c → (r : Rec) (w : ℕ) → HasRecord c.layout r → w ≡ state_at c r → HasState s.records r w
+pub state_is : (s : StateView) (c : Core) → IsLawful c → IsStateOf s c → (r : Rec) (w : ℕ) → HasRecord c.layout r → w ≡ state_at c r → HasState s.records r w
 state_is s c lawful h r w there is =
     let x = fate_from s c h r there in (
       tag_of (lock_of c r) (c.fate r),

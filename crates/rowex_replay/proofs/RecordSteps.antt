@@ -11,12 +11,12 @@ use Rattle.rowex_replay.specs.declared.fate.Fate.{Fate as Stored}
 use Rattle.rowex_replay.specs.declared.fate.Fate.TheVariants.{Free as IsFree, Held as IsHeld, Ready as IsReady}
 use Rattle.rowex_replay.specs.Fates.{fate_of}
 use Rattle.rowex_replay.specs.Records.{RecordsView, HasState, IsPackedIn, words_in, fate_in, with_fate_in, with_words_in}
-use Rattle.rowex_replay.specs.Replays.{ReplayView, IsReplayOf}
+use Rattle.rowex_replay.specs.States.{StateView, IsStateOf}
 use Rattle.rowex_replay.proofs.Tables as table
 use Rattle.rowex_replay.proofs.Reading.{held_at, state_from, state_is, word_0, words_from}
 
 -- the replay with one fate changed is at the core with that fate changed
-pub with_fate_is : (s : ReplayView) (c : Core) → IsReplayOf s c → (r : Rec) (g : Stored) → IsReplayOf (record s { records = with_fate_in s.records r g }) (with_fate c r (fate_of g))
+pub with_fate_is : (s : StateView) (c : Core) → IsStateOf s c → (r : Rec) (g : Stored) → IsStateOf (record s { records = with_fate_in s.records r g }) (with_fate c r (fate_of g))
 with_fate_is s c h r g = record {
   records = table.fate_set s.records c.layout c.words c.fate c.lock h.records r g;
   passes = h.passes;
@@ -29,7 +29,7 @@ with_fate_is s c h r g = record {
 
 -- ---- claim
 
-claim_taken : (s : ReplayView) (c : Core) (q : ℕ) (r : Rec) (f : Fate) → f ≡ Free → IsReplayOf s c → IsReplayOf (record s { records = with_fate_in s.records r (IsHeld q) }) (claimed c q r f)
+claim_taken : (s : StateView) (c : Core) (q : ℕ) (r : Rec) (f : Fate) → f ≡ Free → IsStateOf s c → IsStateOf (record s { records = with_fate_in s.records r (IsHeld q) }) (claimed c q r f)
 claim_taken s c q r f e h = rw e (with_fate_is s c h r (IsHeld q))
 
 claim_left : (c : Core) (q : ℕ) (r : Rec) (f : Fate) → f ≢ Free → claimed c q r f ≡ c
@@ -40,26 +40,26 @@ claim_left c q r (InTree i) ne = refl
 claim_left c q r (Unlinked i l p) ne = refl
 claim_left c q r (Marked i l e) ne = refl
 
-pub claims : (s : ReplayView) (q : ℕ) (r : Rec) (w : ℕ) → HasState s.records r w → w ≡ 0 → (c : Core) → IsLawful c → IsReplayOf s c →
-    LegalAct c q (Claim r w) × IsReplayOf (record s { records = with_fate_in s.records r (IsHeld q) }) (after c q (Claim r w))
+pub claims : (s : StateView) (q : ℕ) (r : Rec) (w : ℕ) → HasState s.records r w → w ≡ 0 → (c : Core) → ∥ IsLawful c ∥₁ → IsStateOf s c →
+    LegalAct c q (Claim r w) × IsStateOf (record s { records = with_fate_in s.records r (IsHeld q) }) (after c q (Claim r w))
 claims s q r w has zero_is c lawful h =
     let x = state_from s c h r w has in
     (x, claim_taken s c q r (c.fate r) (word_0 (lock_of c r) (c.fate r) (sym zero_is ∙ x.1)) h)
 
-pub claims_nothing : (s : ReplayView) (q : ℕ) (r : Rec) (w : ℕ) → HasState s.records r w → w ≢ 0 → (c : Core) → IsLawful c → IsReplayOf s c →
-    LegalAct c q (Claim r w) × IsReplayOf s (after c q (Claim r w))
+pub claims_nothing : (s : StateView) (q : ℕ) (r : Rec) (w : ℕ) → HasState s.records r w → w ≢ 0 → (c : Core) → ∥ IsLawful c ∥₁ → IsStateOf s c →
+    LegalAct c q (Claim r w) × IsStateOf s (after c q (Claim r w))
 claims_nothing s q r w has ne c lawful h =
     let x = state_from s c h r w has in
     (x, rw (claim_left c q r (c.fate r) (λ e. ne (x.1 ∙ ap (λ z. Rattle.record_words.specs.State.state_word (tag_of (lock_of c r) z)) e))) h)
 
-pub no_state : (s : ReplayView) (r : Rec) (w : ℕ) → ¬ (HasState s.records r w) → (c : Core) → IsLawful c → IsReplayOf s c → ¬ (HasRecord c.layout r × (w ≡ state_at c r))
+pub no_state : (s : StateView) (r : Rec) (w : ℕ) → ¬ (HasState s.records r w) → (c : Core) → IsLawful c → IsStateOf s c → ¬ (HasRecord c.layout r × (w ≡ state_at c r))
 no_state s r w fails c lawful h (there, is) = fails (state_is s c lawful h r w there is)
 
 -- ---- fill, ready and release
 
-pub fills : (s : ReplayView) (q : ℕ) (r : Rec) (offset w : ℕ) (t : RecordsView) → fate_in s.records r ≡ Some (IsHeld q) → IsOffset r offset → w < 2 ^ 64 →
-    ((words : List ℕ) → words_in s.records r ≡ Some words → t ≡ with_words_in s.records r (set words (offset - 1) w)) → (c : Core) → IsLawful c → IsReplayOf s c →
-    LegalAct c q (Fill r offset w) × IsReplayOf (record s { records = t }) (after c q (Fill r offset w))
+pub fills : (s : StateView) (q : ℕ) (r : Rec) (offset w : ℕ) (t : RecordsView) → fate_in s.records r ≡ Some (IsHeld q) → IsOffset r offset → w < 2 ^ 64 →
+    ((words : List ℕ) → words_in s.records r ≡ Some words → t ≡ with_words_in s.records r (set words (offset - 1) w)) → (c : Core) → ∥ IsLawful c ∥₁ → IsStateOf s c →
+    LegalAct c q (Fill r offset w) × IsStateOf (record s { records = t }) (after c q (Fill r offset w))
 fills s q r offset w t held offset_is small put c lawful h =
     let x = held_at s c h r q held in (
       (x.0, x.1, offset_is, small),
@@ -74,12 +74,12 @@ fills s q r offset w t held offset_is small put c lawful h =
       },
     )
 
-pub readies : (s : ReplayView) (q : ℕ) (r : Rec) → fate_in s.records r ≡ Some (IsHeld q) → IsPackedIn s.records r → (c : Core) → IsLawful c → IsReplayOf s c →
-    LegalAct c q (Ready r) × IsReplayOf (record s { records = with_fate_in s.records r (IsReady q) }) (after c q (Ready r))
+pub readies : (s : StateView) (q : ℕ) (r : Rec) → fate_in s.records r ≡ Some (IsHeld q) → IsPackedIn s.records r → (c : Core) → ∥ IsLawful c ∥₁ → IsStateOf s c →
+    LegalAct c q (Ready r) × IsStateOf (record s { records = with_fate_in s.records r (IsReady q) }) (after c q (Ready r))
 readies s q r held (words, there, packed) c lawful h =
     let x = held_at s c h r q held in
     ((x.0, x.1, subst (IsPacked r) (sym (h.records.words_are r words there)) packed), with_fate_is s c h r (IsReady q))
 
-pub releases : (s : ReplayView) (q : ℕ) (r : Rec) → fate_in s.records r ≡ Some (IsHeld q) → (c : Core) → IsLawful c → IsReplayOf s c →
-    LegalAct c q (Release r) × IsReplayOf (record s { records = with_fate_in s.records r IsFree }) (after c q (Release r))
+pub releases : (s : StateView) (q : ℕ) (r : Rec) → fate_in s.records r ≡ Some (IsHeld q) → (c : Core) → ∥ IsLawful c ∥₁ → IsStateOf s c →
+    LegalAct c q (Release r) × IsStateOf (record s { records = with_fate_in s.records r IsFree }) (after c q (Release r))
 releases s q r held c lawful h = (held_at s c h r q held, with_fate_is s c h r IsFree)

@@ -4,5 +4,6 @@ pub mod Fates
 pub mod Records
 pub mod Links
 pub mod Passes
-pub mod Replays
+pub mod Runs
+pub mod States
 pub mod Publishing

@@ -22,6 +22,10 @@ lowered_by bound (Some w) = min bound w
 abbrev pub with_pin_seen : PassState → ℕ → Option ℕ → PassState
 with_pin_seen p o pin = record { pin = p.pin; epoch = p.epoch; moment = p.moment; bound = lowered_by p.bound pin; seen = set p.seen o true }
 
+-- it isn't pinned, and has loaded this epoch last
+abbrev pub MayPin : PassState → ℕ → Type 0
+MayPin p epoch = (p.pin ≡ None) × (epoch ≡ p.epoch) × (1 ≤ epoch)
+
 -- it has loaded the pin of each of the first n passes
 abbrev pub HasSeenAll : PassState → ℕ → Type 0
 HasSeenAll p n = All (λ b. b ≡ true) (take n p.seen)

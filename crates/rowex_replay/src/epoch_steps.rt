@@ -3,16 +3,16 @@
 ghost use Rattle.std.specs.Prelude.{◌≡◌, ◌↔◌, ◌<◌, ◌^◌, IsTrue, length, slice_get, set, Some};
 ghost use Rattle.rowex_core.specs.declared.event.Act.{Act};
 ghost use Rattle.rowex_core.specs.declared.event.Act.TheVariants.{Advance, ClearPin, LoadEpoch, LoadPin, SetPin};
-ghost use Rattle.rowex_replay.specs.Replays.{IsStepped};
+ghost use Rattle.rowex_replay.specs.States.{IsStepped};
 
 use crate::passes::PassState;
 use crate::records::put;
-use crate::replay::Replay;
+use crate::state::State;
 
 /// Epochs are below this number.
 const EPOCHS: u64 = 1 << 60;
 
-impl Replay {
+impl State {
     /// The pin and the round of a pass.
     pub(crate) fn own(&self, pass: u16) -> PassState
         requires { pass < length self.now.passes }
@@ -61,7 +61,7 @@ impl Replay {
         ensures { IsStepped result self.old self.new pass (SetPin word) }
     {
         let mut own = self.own(pass);
-        if own.pin.is_some() || word != own.epoch || word < 1 {
+        if !own.may_pin(word) {
             return false;
         }
         own.pin = Some(word);

@@ -4,6 +4,8 @@
 mod epoch_steps;
 mod fate;
 mod fault;
+mod history;
+pub mod laws;
 mod links;
 mod load_steps;
 mod lock_steps;
@@ -12,6 +14,7 @@ mod publish;
 mod record_steps;
 mod records;
 mod replay;
+mod state;
 
 pub use fault::ReplayFault;
 pub use replay::Replay;

@@ -4,15 +4,18 @@ ghost use Rattle.std.specs.Prelude.{◌≡◌, ◌↔◌, IsTrue, Option};
 ghost use Rattle.rowex_core.specs.declared.event.Act.{Act};
 ghost use Rattle.rowex_core.specs.declared.event.Act.TheVariants.{LoadFixed, LoadRef, LoadState};
 ghost use Rattle.record_words.specs.Entry.{HasEntryWord, entry_word};
-ghost use Rattle.rowex_replay.specs.Replays.{IsStepped};
+ghost use Rattle.rowex_replay.specs.States.{IsStepped};
 
 use crate::record_steps::is_fixed_offset;
-use crate::replay::Replay;
+use crate::state::State;
 use compound_node::Entry;
 use record_words::unpack_entry;
 use rowex_core::{Rec, Spot};
 
-impl Replay {
+/// How many entry words a node record has.
+pub(crate) const ENTRIES: u8 = 32;
+
+impl State {
     /// Loads the root or an entry word.
     pub(crate) fn load_ref(&mut self, pass: u16, spot: Spot, word: u64) -> bool
         ensures { IsStepped result self.old self.new pass (LoadRef spot word) }
@@ -20,7 +23,7 @@ impl Replay {
         match spot {
             Spot::Root => is_entry_word(self.root, word),
             Spot::Slot { node, entry } => {
-                if entry >= 32 {
+                if entry >= ENTRIES {
                     return false;
                 }
                 self.records

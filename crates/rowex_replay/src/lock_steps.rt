@@ -4,14 +4,14 @@ ghost use Rattle.std.specs.Prelude.{◌≡◌, ◌↔◌, IsTrue, Some};
 ghost use Rattle.rowex_core.specs.declared.event.Act.{Act};
 ghost use Rattle.rowex_core.specs.declared.event.Act.TheVariants.{Lock, Unlock};
 ghost use Rattle.rowex_core.specs.declared.event.Target.TheVariants.{Anchor, Node as NodeTarget};
-ghost use Rattle.rowex_replay.specs.Replays.{IsStepped};
+ghost use Rattle.rowex_replay.specs.States.{IsStepped};
 
 use crate::fate::tag_of_lock;
-use crate::replay::Replay;
+use crate::state::State;
 use record_words::pack_state;
 use rowex_core::{Rec, Target};
 
-impl Replay {
+impl State {
     /// Whether the pass has locked the anchor.
     pub(crate) fn is_anchored_by(&self, pass: u16) -> bool
         ensures { IsTrue result ↔ (self.now.anchor ≡ Some pass) }

@@ -17,7 +17,7 @@ pub(crate) struct PassState {
 }
 
 impl PassState {
-    ghost use Rattle.rowex_replay.specs.Passes.{fresh_pass, in_round, with_pin_seen, HasSeenAll, IsPast};
+    ghost use Rattle.rowex_replay.specs.Passes.{fresh_pass, in_round, with_pin_seen, HasSeenAll, IsPast, MayPin};
 
     /// A pass that has done nothing yet.
     pub(crate) fn new() -> PassState
@@ -64,6 +64,13 @@ impl PassState {
             bound,
             seen,
         }
+    }
+
+    /// Whether the pass may be pinned by this epoch: it isn't pinned, and has loaded the epoch last.
+    pub(crate) fn may_pin(&self, epoch: u64) -> bool
+        ensures { IsTrue result ↔ MayPin self.now epoch }
+    {
+        self.pin.is_none() && epoch == self.epoch && epoch >= 1
     }
 
     /// Whether no pass can reach what was marked with this epoch: it is below the round's bound, and the round has loaded

@@ -6,21 +6,23 @@ ghost use Rattle.rowex_core.specs.declared.event.Act.TheVariants.{Publish};
 ghost use Rattle.rowex_core.specs.declared.event.Spot.TheVariants.{Root, Slot};
 ghost use Rattle.rowex_core.specs.Reading.{entry_of};
 ghost use Rattle.rowex_replay.specs.Publishing.{IsPublished};
-ghost use Rattle.rowex_replay.specs.Replays.{IsStepped};
+ghost use Rattle.rowex_replay.specs.States.{HasLock, IsStepped};
 
+use crate::load_steps::ENTRIES;
 use crate::records::{filled, is_node};
-use crate::replay::Replay;
+use crate::state::State;
 use compound_node::Entry;
 use record_words::unpack_entry;
 use replay_trees::{Linked, change_between, read_tree};
 use rowex_core::Spot;
 use std::alloc::AllocError;
 
-impl Replay {
+impl State {
     /// Stores the root or an entry word under its lock.
     pub(crate) fn publish(&mut self, pass: u16, spot: Spot, word: u64) -> Result<bool, AllocError>
         ensures ok { IfOk result (λ made. IsStepped made self.old self.new pass (Publish spot word)) }
         ensures err { OnErr result (self.new ≡ self.old) }
+        ensures locked { OnErr result (HasLock self.old pass spot) }
     {
         let Ok(entry) = unpack_entry(word) else {
             return Ok(false);
@@ -42,6 +44,7 @@ impl Replay {
         requires spelled { entry_word root ≡ word }
         ensures ok { IfOk result (λ made. IsStepped made self.old self.new pass (Publish Root word)) }
         ensures err { OnErr result (self.new ≡ self.old) }
+        ensures locked { OnErr result (HasLock self.old pass Root) }
     {
         if !self.is_anchored_by(pass) {
             return Ok(false);
@@ -60,8 +63,9 @@ impl Replay {
         requires { HasEntryWord (entry_of word) × (entry_word (entry_of word) ≡ word) }
         ensures ok { IfOk result (λ made. IsStepped made self.old self.new pass (Publish (Slot node entry) word)) }
         ensures err { OnErr result (self.new ≡ self.old) }
+        ensures locked { OnErr result (HasLock self.old pass (Slot node entry)) }
     {
-        if entry >= 32 {
+        if entry >= ENTRIES {
             return Ok(false);
         }
         if !self.records.is_locked_by(node, pass) {

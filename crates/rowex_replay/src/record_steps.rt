@@ -4,13 +4,13 @@ ghost use Rattle.std.specs.Prelude.{◌≡◌, ◌↔◌, ◌<◌, IsTrue, lengt
 ghost use Rattle.rowex_core.specs.declared.event.Act.{Act};
 ghost use Rattle.rowex_core.specs.declared.event.Act.TheVariants.{Claim, Fill, GiveBack, Mark, Ready, Release};
 ghost use Rattle.rowex_core.specs.Events.{IsFixedOffset, IsOffset};
-ghost use Rattle.rowex_replay.specs.Replays.{IsStepped};
+ghost use Rattle.rowex_replay.specs.States.{IsStepped};
 
 use crate::fate::Fate;
-use crate::replay::Replay;
+use crate::state::State;
 use rowex_core::Rec;
 
-impl Replay {
+impl State {
     /// Claims a record, if it is free.
     pub(crate) fn claim(&mut self, pass: u16, rec: Rec, found: u64) -> bool
         ensures { IsStepped result self.old self.new pass (Claim rec found) }

@@ -1,129 +1,82 @@
-//! The replay: the state that it keeps, and what it says of it.
+//! The replay: the state that it keeps, beside the run that it has accepted.
 
-ghost use Rattle.std.specs.Prelude.{◌≡◌, ◌<◌, IfOk, OnErr, OnOk, length};
+ghost use Rattle.std.specs.Prelude.{◌≡◌, IfOk, OnErr, OnOk, length};
 
 use crate::fault::ReplayFault;
-use crate::passes::PassState;
-use crate::records::{Records, repeated};
-use compound_node::Entry;
-use hot_model::Change;
+use crate::history::History;
+use crate::state::State;
 use key_bits::Key;
 use record_words::Layout;
-use replay_trees::Item;
-use rowex_core::{Act, Event};
+use rowex_core::Event;
 use std::alloc::{AllocError, Global};
 use std::marker::Model;
 
-/// Checks one given run of the concurrent index, event by event. It keeps the records, pins and rounds of the index as
-/// numbers, the list of its changes and the leaves of its newest moment.
+/// Checks one given run of the concurrent index, event by event.
+///
+/// Contracts see it as the run so far: the layout of the index and the events that were accepted, which are legal one
+/// after the other from the opening core on.
 #[derive(Drop)]
 pub struct Replay {
-    pub(crate) alloc: Global,
-    pub(crate) records: Records,
-    pub(crate) passes: Vec<PassState>,
-    pub(crate) anchor: Option<u16>,
-    pub(crate) root: Option<Entry>,
-    pub(crate) epoch: u64,
-    pub(crate) changes: Vec<Change>,
-    pub(crate) items: Vec<Item>,
+    pub(crate) state: State,
+    history: History,
 }
 
 impl Model for Replay {
-    ghost use Rattle.rowex_replay.specs.Replays.{ReplayView};
+    ghost use Rattle.rowex_replay.specs.Runs.{Run};
 
-    ghost Value = { ReplayView };
+    ghost Value = { Run };
 
-    ghost view = { λ a. record { records = a.records; passes = a.passes.items; anchor = a.anchor; root = a.root; epoch = a.epoch; changes = a.changes.items; items = a.items.items } };
+    ghost use Rattle.rowex_replay.specs.States.{IsAfter};
+
+    ghost view = { λ a. a.history.run };
+
+    ghost invariant = { λ a. IsAfter a.state a.history.run };
 }
 
 impl Replay {
+    ghost use Rattle.hot_model.specs.Fronts.{map_of};
     ghost use Rattle.moments.specs.Told.{content};
-    ghost use Rattle.rowex_core.specs.Cores.{Core, IsLawful};
-    ghost use Rattle.rowex_core.specs.Events.{Legal, after};
-    ghost use Rattle.rowex_core.specs.Opening.{opening};
-    ghost use Rattle.rowex_replay.specs.Replays.{IsPublish, IsReplayOf, IsStepped};
+    ghost use Rattle.rowex_core.specs.Events.{Legal};
+    ghost use Rattle.rowex_replay.specs.Runs.{core_of, new_run, with_event};
+    ghost use Rattle.rowex_replay.specs.States.{MayWantMemory};
 
-    /// A replay of no event yet, of an index of this layout: it is at the opening core.
+    /// A replay of no event yet, of an index of this layout.
     pub fn new(alloc: Global, layout: Layout) -> Result<Replay, AllocError>
-        ensures { IfOk result (λ replay. IsReplayOf replay (opening layout)) }
+        ensures { IfOk result (λ replay. replay ≡ new_run layout) }
     {
         Ok(Replay {
-            alloc,
-            records: Records::new(alloc, layout)?,
-            passes: repeated(alloc, PassState::new(), layout.passes)?,
-            anchor: None,
-            root: None,
-            epoch: 1,
-            changes: Vec::new(alloc),
-            items: Vec::new(alloc),
+            state: State::new(alloc, layout)?,
+            history: History::new(&layout),
         })
     }
 
-    /// Makes an event, if it is legal.
+    /// Makes an event, if it is legal where the run so far leads.
     ///
-    /// Ok exactly where it is, and `Illegal` exactly where it is not, but that a publish is refused by `Memory` where a
-    /// growth is. Either refusal changes nothing.
+    /// Ok exactly where it is, and `Illegal` exactly where it is not, but that a publish under the lock of its word is
+    /// refused by `Memory` where a growth is. Either refusal changes nothing.
     pub fn step(&mut self, event: Event) -> Result<(), ReplayFault>
-        ensures ok { OnOk result ((c : Core) → IsLawful c → IsReplayOf self.old c
-            → Legal c event.pass event.act × IsReplayOf self.new (after c event.pass event.act)) }
-        ensures illegal { result ≡ Err ReplayFault.Illegal → (c : Core) → IsLawful c → IsReplayOf self.old c
-            → ¬ Legal c event.pass event.act }
-        ensures memory { result ≡ Err ReplayFault.Memory → IsPublish event.act }
+        ensures ok { OnOk result (Legal (core_of self.old) event.pass event.act × (self.new ≡ with_event self.old event)) }
+        ensures illegal { result ≡ Err ReplayFault.Illegal → ¬ Legal (core_of self.old) event.pass event.act }
+        ensures memory { result ≡ Err ReplayFault.Memory → MayWantMemory (core_of self.old) event.pass event.act }
         ensures refused { OnErr result (self.new ≡ self.old) }
     {
-        if event.pass as usize >= self.passes.len() {
-            return Err(ReplayFault::Illegal);
-        }
-        match self.made(event.pass, event.act) {
-            Ok(true) => Ok(()),
-            Ok(false) => Err(ReplayFault::Illegal),
-            Err(_) => Err(ReplayFault::Memory),
-        }
-    }
-
-    /// Makes the act of a pass, if it is legal, and answers whether it was.
-    fn made(&mut self, pass: u16, act: Act) -> Result<bool, AllocError>
-        requires { pass < length self.old.passes }
-        ensures ok { IfOk result (λ made. IsStepped made self.old self.new pass act) }
-        ensures err { OnErr result (IsPublish act) }
-        ensures kept { OnErr result (self.new ≡ self.old) }
-    {
-        match act {
-            Act::Claim { rec, found } => Ok(self.claim(pass, rec, found)),
-            Act::Fill { rec, offset, word } => Ok(self.fill(pass, rec, offset, word)),
-            Act::Ready { rec } => Ok(self.ready(pass, rec)),
-            Act::Release { rec } => Ok(self.release(pass, rec)),
-            Act::LoadRef { spot, word } => Ok(self.load_ref(pass, spot, word)),
-            Act::LoadFixed { rec, offset, word } => Ok(self.load_fixed(pass, rec, offset, word)),
-            Act::Lock { target, found } => Ok(self.lock(pass, target, found)),
-            Act::Unlock { target } => Ok(self.unlock(pass, target)),
-            Act::Publish { spot, word } => self.publish(pass, spot, word),
-            Act::Mark { rec, epoch } => Ok(self.mark(pass, rec, epoch)),
-            Act::LoadEpoch { word } => Ok(self.load_epoch(pass, word)),
-            Act::Advance { expected, found } => Ok(self.advance(pass, expected, found)),
-            Act::SetPin { word } => Ok(self.set_pin(pass, word)),
-            Act::ClearPin => Ok(self.clear_pin(pass)),
-            Act::LoadPin { of, word } => Ok(self.load_pin(pass, of, word)),
-            Act::LoadState { rec, word } => Ok(self.load_state(pass, rec, word)),
-            Act::GiveBack { rec, epoch, found } => Ok(self.give_back(pass, rec, epoch, found)),
-        }
+        self.state.step(event)?;
+        self.history = self.history.then(&event);
+        Ok(())
     }
 
     /// How many changes the run has made so far.
     pub fn changes(&self) -> u64
-        ensures { (c : Core) → IsReplayOf self.now c → result ≡ length c.changes }
+        ensures { result ≡ length (core_of self.now).changes }
     {
-        self.changes.len() as u64
+        self.state.changes()
     }
 
-    /// The keys that the newest moment holds, with their values, in the order of the keys.
+    /// The map after the run's changes: the keys of the newest moment with their values, in the order of the keys.
     pub fn content(&self, alloc: Global) -> Result<Vec<(Key, u64)>, AllocError>
-        ensures { IfOk result (λ pairs. (c : Core) → IsReplayOf self.now c → pairs.items ≡ content (c.past.moment c.past.now)) }
+        ensures moment { IfOk result (λ pairs. pairs.items ≡ content ((core_of self.now).past.moment (core_of self.now).past.now)) }
+        ensures map { IfOk result (λ pairs. pairs.items ≡ map_of (core_of self.now).changes) }
     {
-        let mut pairs = Vec::with_capacity(alloc, self.items.len())?;
-        for item in &self.items {
-            pairs.push((item.key.copy(), item.value))?;
-        }
-        Ok(pairs)
+        self.state.content(alloc)
     }
 }

@@ -1,11 +1,11 @@
--- The items are those of the newest moment.
-use Rattle.std.proofs.Common.{sym}
-use Rattle.std.proofs.Common.{◌∙◌, ap, map}
-use Rattle.std.proofs.lemmas.List.{take_all}
-use Rattle.replay_trees.specs.declared.trees.Item.{Item}
-use Rattle.rowex_replay.proofs.Opening.{content_is}
+-- The state is that of the run's core, where the content is the map of the changes.
+use Rattle.std.proofs.Common.{sym, ◌∙◌}
+use Rattle.std.proofs.lemmas.Result.{IfOk-weaker}
+use Rattle.rowex_replay.proofs.Runs.{told}
 use Rattle.rowex_replay.proofs.replay.Replay.content.Goals as goal
 
-pub returns : goal.returns
-returns c = rw (sym c.self.view_is) (λ c' h.
-    c.loop-item.invariant ∙ ap (map (λ (x : Item). (x.key, x.value))) (take_all c.loop-item.item-index c.deref-item-items.result.now c.loop-item-test.false ∙ c.deref-item-items.ensures.value) ∙ content_is _ c' h)
+pub returns-clause-moment : goal.returns-clause-moment
+returns-clause-moment c = rw (sym c.self.view_is) (IfOk-weaker c.content.result _ _ (λ pairs p. p _ c.self.invariant.at) c.content.ensures)
+
+pub returns-clause-map : goal.returns-clause-map
+returns-clause-map c = rw (sym c.self.view_is) (IfOk-weaker c.content.result _ _ (λ pairs p. p _ c.self.invariant.at ∙ told _ c.self.invariant.legal) c.content.ensures)

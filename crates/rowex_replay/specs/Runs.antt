@@ -1,0 +1,34 @@
+-- Runs of an index, and where they lead.
+use Rattle.std.specs.Prelude.{List, [], ◌∷◌, ◌++◌}
+use Rattle.record_words.specs.declared.layout.Layout.{Layout}
+use Rattle.rowex_core.specs.declared.event.Event.{Event}
+use Rattle.rowex_core.specs.Cores.{Core}
+use Rattle.rowex_core.specs.Events.{after}
+use Rattle.rowex_core.specs.Opening.{opening}
+use Rattle.rowex_core.specs.Runs.{Leads}
+
+-- the layout of an index and the events so far, the oldest first
+pub record Run : Type 0 where
+  pub layout : Layout
+  pub events : List Event
+
+-- the core after these events
+abbrev pub core_after : Core → List Event → Core
+core_after c [] = c
+core_after c (x ∷ xs) = core_after (after c x.pass x.act) xs
+
+-- the core to which a run leads, from the opening core on
+abbrev pub core_of : Run → Core
+core_of run = core_after (opening run.layout) run.events
+
+-- its events are legal one after the other
+abbrev pub IsLegalRun : Run → Type 0
+IsLegalRun run = Leads (opening run.layout) run.events (core_of run)
+
+-- a run of no event yet, and one with one event more
+
+abbrev pub new_run : Layout → Run
+new_run layout = record { layout = layout; events = [] }
+
+abbrev pub with_event : Run → Event → Run
+with_event run x = record { layout = run.layout; events = run.events ++ x ∷ [] }
