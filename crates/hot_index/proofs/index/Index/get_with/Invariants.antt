@@ -1,0 +1,8 @@
+-- The note of the get.
+use Rattle.hot_model.specs.declared.Call.TheVariants.{Get}
+use Rattle.hot_index.specs.Answers.{got}
+use Rattle.hot_index.specs.Noting.{note_of}
+use Rattle.hot_index.proofs.index.Index.get_with.Given as goal
+
+abbrev pub ghost-end_get : goal.ghost-end_get
+ghost-end_get g a = note_of (Get a._key.now) (got a._found)

@@ -1,0 +1,39 @@
+-- Where an answered call that changed nothing stands among the changes that its pass has seen.
+use Rattle.std.specs.Prelude.{ℕ, zero, suc, ◌+◌, ◌-◌, List, [], ◌∷◌, length, take, Bool, true, false, nat_eq, if◌then◌else◌}
+use Rattle.hot_model.specs.declared.Call.{Call}
+use Rattle.hot_model.specs.declared.Change.{Change}
+use Rattle.hot_model.specs.declared.Note.{Note}
+use Rattle.hot_model.specs.declared.Reply.{Reply}
+use Rattle.hot_model.specs.declared.Reply.TheVariants.{Inserted, Exists, New, Was, Value, Absent, Removed}
+use Rattle.hot_model.specs.Maps.{reply_of}
+use Rattle.hot_model.specs.Fronts.{map_of}
+use Rattle.rowex_core.specs.declared.known.Known.{Known}
+use Rattle.hot_index.specs.Seen.{since}
+
+-- whether two replies are the same
+abbrev pub same_reply : Reply → Reply → Bool
+same_reply Inserted Inserted = true
+same_reply (Exists v) (Exists w) = nat_eq v w
+same_reply New New = true
+same_reply (Was v) (Was w) = nat_eq v w
+same_reply (Value v) (Value w) = nat_eq v w
+same_reply Absent Absent = true
+same_reply (Removed v) (Removed w) = nat_eq v w
+same_reply _ _ = false
+
+-- the first number from `low` on that passes the test, of so many more than `low`; the last of them if no other does
+abbrev pub first_from : (ℕ → Bool) → ℕ → ℕ → ℕ
+first_from test low zero = low
+first_from test low (suc more) = if test low then low else first_from test (low + 1) more
+
+-- whether the map of the first n changes answers the call so
+abbrev pub answers_so : List Change → Call → Reply → ℕ → Bool
+answers_so front call reply n = same_reply (reply_of (map_of (take n front)) call) reply
+
+-- the first place from `low` up to the front's end at which the map answers the call so
+unfoldable pub place_of : List Change → ℕ → Call → Reply → ℕ
+place_of front low call reply = first_from (answers_so front call reply) low (length front - low)
+
+-- the note of a call that changed nothing: its place is the first right one since the pass's last load of the root
+abbrev pub note_of : Call → Reply → Known → List Note
+note_of call reply k = record { place = place_of k.front (since k) call reply; call = call; reply = reply } ∷ []

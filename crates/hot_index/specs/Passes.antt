@@ -1,0 +1,47 @@
+-- What contracts see of an index and of its passes.
+use Rattle.std.specs.Prelude.{◌≡◌, ℕ, List, [], None}
+use Rattle.atomic_table.specs.Seated.{TableId}
+use Rattle.hot_model.specs.declared.Change.{Change}
+use Rattle.hot_model.specs.declared.Note.{Note}
+use Rattle.hot_model.specs.Calls.{LegalCalls}
+use Rattle.hot_model.specs.Fronts.{BeginsWith}
+use Rattle.record_words.specs.declared.layout.Layout.{Layout}
+use Rattle.rowex_core.specs.declared.known.Failed.{Failed}
+use Rattle.rowex_core.specs.declared.known.Fresh.{Fresh}
+use Rattle.rowex_core.specs.declared.known.Known.{Known}
+
+-- an index: its table, and how many records that has
+pub record IndexView : Type 0 where
+  pub table : TableId
+  pub layout : Layout
+
+-- A pass: the table of its index, its number, the changes that it has seen, those at its last load of the root, its answered
+-- calls, how many atomic steps it has made, and what its failed claims and locks found.
+pub record PassView : Type 0 where
+  pub table : TableId
+  pub number : ℕ
+  pub front : List Change
+  pub fresh : Fresh
+  pub notes : List Note
+  pub steps : ℕ
+  pub failed : List Failed
+
+abbrev pub pass_view : TableId → Known → PassView
+pass_view table k = record { table = table; number = k.pass; front = k.front; fresh = k.fresh; notes = k.notes; steps = k.steps; failed = k.failed }
+
+-- the pass belongs to the index
+abbrev pub Owns : IndexView → PassView → Type 0
+Owns index pass = pass.table ≡ index.table
+
+-- Between two calls a pass has no claimed record, no lock and no pin, and its calls are legal in its front.
+pub record IsSettled (k : Known) : Type 0 where
+  pub own : k.own ≡ []
+  pub locks : k.locks ≡ []
+  pub anchor : k.anchor ≡ None
+  pub pin : k.pin ≡ None
+  pub fresh : BeginsWith k.front k.fresh.front
+  pub legal : LegalCalls k.front k.pass k.notes
+
+-- a pass that has made no call
+abbrev pub IsNewPass : ℕ → PassView → Type 0
+IsNewPass q pass = (pass.number ≡ q) × (pass.front ≡ []) × (pass.notes ≡ [])

@@ -1,0 +1,13 @@
+-- What a pass knows is true of some core.
+use Rattle.std.specs.Prelude.{◌≡◌}
+use Rattle.record_words.specs.declared.layout.Layout.{Layout}
+use Rattle.rowex_core.specs.declared.known.Known.{Known}
+use Rattle.rowex_core.specs.Cores.{Core, IsLawful}
+use Rattle.rowex_core.specs.Knowing.{Knows}
+
+-- There is a lawful core of this layout of which what the pass knows is true: the one at its last load.
+pub record IsPossible (layout : Layout) (k : Known) : Type 0 where
+  pub core : Core
+  pub lawful : IsLawful core
+  pub layout_is : core.layout ≡ layout
+  pub knows : Knows core k

@@ -1,0 +1,18 @@
+//! An ordered index from byte keys to 64-bit values, shared by threads: a height optimized trie (HOT, Binna and others,
+//! SIGMOD 2018) whose readers take no lock (ROWEX, Leis and others, DaMoN 2016).
+#![tactic(auto)]
+
+mod collecting;
+mod index;
+mod lookup;
+mod meeting;
+mod reading;
+
+pub use epochs::{Given, NoGate};
+pub use hot_model::{Reply, Scan};
+pub use index::{Index, IndexFault, Pass, create};
+pub use key_bits::Key;
+pub use rowex_core::{Event, Gate};
+
+#[cfg(test)]
+mod tests;

@@ -1,0 +1,4 @@
+//! The index on small tables.
+
+mod looking;
+mod making;
