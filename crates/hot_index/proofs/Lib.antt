@@ -9,5 +9,7 @@ pub mod Heading
 pub mod Leafing
 pub mod Looking
 pub mod Noting
+pub mod Walking
+pub mod Scanned
 pub mod Making
 pub mod Meets

@@ -5,4 +5,5 @@ pub mod Passes
 pub mod Answers
 pub mod Lookups
 pub mod Noting
+pub mod Scanning
 pub mod Collected

@@ -7,6 +7,7 @@ mod index;
 mod lookup;
 mod meeting;
 mod reading;
+mod scanning;
 
 pub use epochs::{Given, NoGate};
 pub use hot_model::{Reply, Scan};
