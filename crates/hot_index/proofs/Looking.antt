@@ -1,17 +1,16 @@
 -- A search from the root down to a leaf: what it is sure of at each entry that it is led to.
-use Rattle.std.proofs.Common.{◌≡◌, ◌≢◌, ◌⊎◌, inl, inr, ℕ, ◌+◌, ◌*◌, ◌<◌, ◌≤◌, length, Some, None, refl, sym, ap, subst, ◌∙◌, arith, le_refl}
+use Rattle.std.proofs.Common.{◌≡◌, ◌≢◌, ◌⊎◌, inl, inr, ℕ, ◌+◌, ◌*◌, ◌<◌, ◌≤◌, length, Some, None, sym, ap, subst, ◌∙◌, arith, le_refl}
 use Rattle.key_bits.specs.declared.TheConstants.{MAX_BYTES}
 use Rattle.hot_model.specs.Fronts.{BeginsWith}
-use Rattle.key_bits.specs.Bits.{bit_of}
-use Rattle.compound_node.specs.Nodes.{HeadView, NodeView, IsLawful, head_of, height_of, leaves, node_of, piece}
+use Rattle.compound_node.specs.Nodes.{HeadView, height_of}
 use Rattle.compound_node.specs.declared.entries.Entry.{Entry}
 use Rattle.compound_node.specs.declared.entries.Entry.TheVariants.{Leaf, Node}
-use Rattle.pieces.specs.Piece.{leads_to, size}
+use Rattle.pieces.specs.Piece.{size}
 use Rattle.tries.specs.Keys.{Key}
 use Rattle.tries.specs.Tree.{Page, Tree, leaf, node, fork, Has, here}
 use Rattle.tries.specs.Search.{Follows}
 use Rattle.tries.specs.Place.{spot}
-use Rattle.tries.proofs.Places.{leads_spot, spot_below}
+use Rattle.tries.proofs.Places.{spot_below}
 use Rattle.tries.proofs.Tries.{has?, follows_if_has}
 use Rattle.moments.specs.State.{Past, IsSteady, IsLed, IsMissed, IsHeld}
 use Rattle.moments.specs.declared.Rec.TheVariants.{Leaf as a_leaf}
@@ -105,36 +104,27 @@ module _ (k j : Known) (loads : Loads 1 k j) (new : j.fresh ≡ record { front =
   }
 
 -- the search is at an entry, of which the pass knows that it stood in the tree
-pub at_seen : (k j : Known) (key : Key) (e : Entry) → IsAt k j key e → IsLedTo j (since j) e
-at_seen k j key e at = (at.pinned, sure_map (λ s h. led_seen s (since j) key e h) at.led)
+pub at_seen : (k j : Known) (key : Key) (d e : Entry) → IsAt k j key d → d ≡ e → IsLedTo j (since j) e
+at_seen k j key d e at is = subst (IsLedTo j (since j)) is (at.pinned, sure_map (λ s h. led_seen s (since j) key d h) at.led)
 
-pub at_entry : {k j : Known} {key : Key} {d e : Entry} → d ≡ e → IsAt k j key d → IsAt k j key e
-at_entry {k} {j} {key} is at = subst (IsAt k j key) is at
-
--- it has read the node's head
-pub at_shape : (k j i : Known) (key : Key) (n height : ℕ) (x : Page) → IsAt k j key (Node n height) → Loads 25 j i → Sure i (λ s. IsShaped s (since j) n x) →
-    HasShape i (since j) n height x
-at_shape k j i key n height x at head shaped =
-    let led = at_seen k j key (Node n height) at in
-    ((since_on head led.0, sure_on (seen_stable (since j) (Node n height)) head led.1), shaped)
-
--- the place to which the head leads
-pub place_spot : (head : HeadView) (key : Key) (place : ℕ) → IsLawful (node_of head (leaves (length head.rows))) →
-    ((node : NodeView) → IsLawful node → head_of node ≡ head → place ≡ leads_to (bit_of key) (piece node)) → spot key (shape_of head) ≡ place
-place_spot head key place lawful leads = sym (leads (node_of head (leaves (length head.rows))) lawful refl ∙ leads_spot key (shape_of head))
-
-pub place_below : (key : Key) (x : Page) (place : ℕ) → spot key x ≡ place → place < size x
-place_below key x place is = subst (λ z. z < size x) is (spot_below key x)
+-- it is a node, whose head has been read: there is an entry at the key's place
+pub node_shape : (k j i : Known) (key : Key) (d : Entry) (n height : ℕ) (head : HeadView) (place : ℕ) → IsAt k j key d → d ≡ Node n height → Loads 25 j i →
+    ((m h : ℕ) → IsLedTo j m (Node n h) → (head.height ≡ h) × Sure i (λ s. IsShaped s m n (shape_of head))) → place ≡ spot key (shape_of head) →
+    HasShape i (since j) n height (shape_of head) × (place < size (shape_of head))
+node_shape k j i key d n height head place at is loads told leads =
+    let led = at_seen k j key d (Node n height) at is in (
+      ((since_on loads led.0, sure_on (seen_stable (since j) (Node n height)) loads led.1), (told (since j) height led).1),
+      subst (λ z. z < size (shape_of head)) (sym leads) (spot_below key (shape_of head)),
+    )
 
 -- one node down
-pub at_next : (k j i h : Known) (key : Key) (n height place : ℕ) (x : Page) (e : Entry) → IsAt k j key (Node n height) →
-    Loads 25 j i → i.fresh ≡ j.fresh → Sure i (λ s. IsShaped s (since j) n x) → spot key x ≡ place →
-    Loads 1 i h → h.fresh ≡ i.fresh → height_of e < height → Sure h (λ s. IsPlaced s (since j) n place e) → IsAt k h key e
-at_next k j i h key n height place x e at head same shaped is one same' lower placed = record {
+pub at_next : (k j i h : Known) (key : Key) (d : Entry) (n height place : ℕ) (x : Page) (e : Entry) → IsAt k j key d → d ≡ Node n height → Loads 25 j i → i.fresh ≡ j.fresh →
+    HasShape i (since j) n height x → place ≡ spot key x → Loads 1 i h → h.fresh ≡ i.fresh → (height_of e < height) × Sure h (λ s. IsPlaced s (since j) n place e) → IsAt k h key e
+at_next k j i h key d n height place x e at is head same shape leads one same' entry = record {
   height = at.height;
   passed = at.passed + 1;
   loaded = at.loaded + 26;
-  falls = let f = at.falls in omega arith;
+  falls = let f : at.passed + height ≤ at.height = subst (λ z. at.passed + height_of z ≤ at.height) is at.falls in let lower = entry.0 in omega arith;
   low = at.low;
   few = let f = at.few in omega arith;
   loads = loads_trans at.loads both;
@@ -142,7 +132,7 @@ at_next k j i h key n height place x e at head same shaped is one same' lower pl
   now = subst (λ (z : Fresh). k.steps ≤ z.step) (sym kept) at.now;
   pinned = subst (IsSince h) (sym (same_since j h kept)) pinned;
   led = subst (λ m. Sure h (λ s. IsLed s m key e)) (sym (same_since j h kept))
-      (λ c lawful knows. led_placed (seen c h) (since j) (seen_steady lawful knows pinned) key n height place x e (shapes c lawful knows) is (placed c lawful knows) (leads c lawful knows));
+      (λ c lawful knows. led_placed (seen c h) (since j) (seen_steady lawful knows pinned) key n height place x e (shapes c lawful knows) (sym leads) (entry.1 c lawful knows) (leads_on c lawful knows));
 }
   where
     both : Loads 26 j h
@@ -155,20 +145,24 @@ at_next k j i h key n height place x e at head same shaped is one same' lower pl
     pinned = since_on both at.pinned
 
     shapes : Sure h (λ s. IsShaped s (since j) n x)
-    shapes = sure_on (shaped_stable (since j) n x) one shaped
+    shapes = sure_on (shaped_stable (since j) n x) one shape.1
 
-    leads : Sure h (λ s. IsLed s (since j) key (Node n height))
-    leads = sure_on (led_stable (since j) key (Node n height)) both at.led
+    leads_on : Sure h (λ s. IsLed s (since j) key (Node n height))
+    leads_on = sure_on (led_stable (since j) key (Node n height)) both (subst (λ z. Sure j (λ s. IsLed s (since j) key z)) is at.led)
 
--- the leaf at the end
-module _ (k j i : Known) (key : Key) (n : ℕ) (at : IsAt k j key (Leaf n)) (leaf_loads : Loads 32 j i) (same : i.fresh ≡ j.fresh) (l : Key) (v : ℕ) (read : Sure i (λ s. IsRead s (since j) n l v)) where
+-- it is a leaf, which has been read
+module _ (k j i : Known) (key : Key) (d : Entry) (n : ℕ) (at : IsAt k j key d) (is : d ≡ Leaf n) (loads : Loads 32 j i) (same : i.fresh ≡ j.fresh) (l : Key) (v : ℕ)
+    (told : (m : ℕ) → IsLedTo j m (Leaf n) → Sure i (λ s. IsRead s m n l v)) where
+  read : Sure i (λ s. IsRead s (since j) n l v)
+  read = told (since j) (at_seen k j key d (Leaf n) at is)
+
   pub leaf_searched : HasSearched k i
   leaf_searched = record {
     nodes = at.passed;
     loaded = at.loaded + 32;
     low = let f = at.falls in let b = at.low in omega arith;
     few = let f = at.few in omega arith;
-    loads = loads_trans at.loads leaf_loads;
+    loads = loads_trans at.loads loads;
     fresh = subst (λ (z : Fresh). BeginsWith z.front k.front) (sym same) at.fresh;
     now = subst (λ (z : Fresh). k.steps ≤ z.step) (sym same) at.now;
   }
@@ -179,8 +173,7 @@ module _ (k j i : Known) (key : Key) (n : ℕ) (at : IsAt k j key (Leaf n)) (lea
 
   pub leaf_absent : l ≢ key → HasFound i key None
   leaf_absent ne = subst (λ m. Sure i (λ s. IsMissed s m key)) (sym (same_since j i same))
-      (λ c lawful knows. leaf_missed (seen c i) (since j) (seen_steady lawful knows (since_on leaf_loads at.pinned)) key n l v
-      (led_on c lawful knows) (read c lawful knows) (λ e. ne (sym e)))
+      (λ c lawful knows. leaf_missed (seen c i) (since j) (seen_steady lawful knows (since_on loads at.pinned)) key n l v (led_on c lawful knows) (read c lawful knows) (λ e. ne (sym e)))
     where
       led_on : Sure i (λ s. IsLed s (since j) key (Leaf n))
-      led_on = sure_on (led_stable (since j) key (Leaf n)) leaf_loads at.led
+      led_on = sure_on (led_stable (since j) key (Leaf n)) loads (subst (λ z. Sure j (λ s. IsLed s (since j) key z)) is at.led)

@@ -2,7 +2,6 @@
 use Rattle.std.proofs.Common.{◌≡◌, ◌≢◌, ℕ, zero, suc, ◌+◌, ◌-◌, ◌*◌, ◌≤◌, List, [], ◌∷◌, ◌++◌, length, take, Bool, true, false, if◌then◌else◌, Option, Some, None, refl, sym, ap, subst, ◌∙◌, arith, le_refl, le_trans, length-append, nat_eq, eq-eqb}
 use Rattle.std.proofs.lemmas.Bool.{false≢true}
 use Rattle.std.proofs.lemmas.Bool.Decides.{nat_tests}
-use Rattle.std.proofs.lemmas.List.{take-append-le}
 use Rattle.atomic_table.specs.Seated.{TableId}
 use Rattle.hot_model.specs.declared.Call.{Call}
 use Rattle.hot_model.specs.declared.Call.TheVariants.{Get}
@@ -11,9 +10,8 @@ use Rattle.hot_model.specs.declared.Note.{Note}
 use Rattle.hot_model.specs.declared.Reply.{Reply}
 use Rattle.hot_model.specs.declared.Reply.TheVariants.{Inserted, Exists, New, Was, Value, Absent, Removed}
 use Rattle.hot_model.specs.Maps.{Map, value_at, step_where, reply_of}
-use Rattle.hot_model.specs.Fronts.{map_of, LegalFront, BeginsWith, OthersGoOn}
+use Rattle.hot_model.specs.Fronts.{map_of, BeginsWith, OthersGoOn}
 use Rattle.hot_model.specs.Calls.{is_change, LegalCalls}
-use Rattle.hot_model.proofs.Growth.{legal_front_part}
 use Rattle.hot_model.proofs.Legal.{legal_quiet}
 use Rattle.key_bits.specs.declared.TheConstants.{MAX_BYTES}
 use Rattle.record_words.specs.declared.layout.Layout.{Layout}
@@ -32,6 +30,7 @@ use Rattle.hot_index.specs.Passes.{IsSettled, pass_view}
 use Rattle.hot_index.specs.Answers.{IsNoted, HasFound, got}
 use Rattle.hot_index.specs.Lookups.{HasSearched}
 use Rattle.hot_index.specs.Noting.{same_reply, first_from, answers_so, place_of, note_of}
+use Rattle.hot_index.proofs.Seeing.{seen_told, seen_within}
 
 -- Replies
 
@@ -96,15 +95,6 @@ right_place k call reply (n, lo, hi, e) =
 
 -- What a search found
 
-legal_seen : (c : Core) (k : Known) → IsLawful c → Knows c k → LegalFront k.front
-legal_seen c k law kn = legal_front_part k.front c.changes (kn.front.0, kn.front.1) law.core.told.legal
-
--- the map of the first n changes that the pass has seen is the content of moment n
-map_seen : (c : Core) (k : Known) → IsLawful c → Knows c k → (n : ℕ) → n ≤ length k.front → (n ≤ c.past.now) × (content (c.past.moment n) ≡ map_of (take n k.front))
-map_seen c k law kn n hi =
-    let later : n ≤ c.past.now = let e = law.core.told.count in let l = ap length kn.front.1 ∙ length-append k.front kn.front.0 in omega arith in
-    (later, law.core.told.content_is n later ∙ ap map_of (ap (take n) kn.front.1 ∙ take-append-le n k.front kn.front.0 hi))
-
 absent_at : (t : Option Tree) (key : Key) → ((u : Tree) → t ≡ Some u → Has u key → ⊥) → value_at (content t) key ≡ None
 absent_at None key h = refl
 absent_at (Some t) key h = go (value_at (content (Some t)) key) refl
@@ -122,15 +112,15 @@ get_reply m key o e = ap (λ z. (step_where z m (Get key)).1) e ∙ at o
 
 -- the reply that a get gives was right
 pub found_right : (k : Known) (key : Key) (o : Option ℕ) → HasFound k key o → (c : Core) → IsLawful c → Knows c k → WasRight k (Get key) (got o)
-found_right k key None found c law kn =
-    let f = found c law kn in
-    let m = map_seen c k law kn f.0 f.2 in
-    (f.0, f.1, f.2, get_reply _ key None (ap (λ (z : Map). value_at z key) (sym m.1) ∙ absent_at (c.past.moment f.0) key f.3))
-found_right k key (Some v) found c law kn =
-    let f = found c law kn in
-    let m = map_seen c k law kn f.0 f.3 in
-    let tree : IsTrie f.1 = (law.core.state.trees f.0 f.1 m.0 f.4).0 in
-    (f.0, f.2, f.3, get_reply _ key (Some v) (ap (λ (z : Map). value_at z key) (sym m.1) ∙ (ap (λ t. value_at (content t) key) f.4 ∙ holds_value f.1 tree key v f.5)))
+found_right k key None found c lawful knows =
+    let f = found c lawful knows in
+    let told = (seen_told lawful knows).content_is f.0 f.2 in
+    (f.0, f.1, f.2, get_reply _ key None (ap (λ (z : Map). value_at z key) (sym told) ∙ absent_at (c.past.moment f.0) key f.3))
+found_right k key (Some v) found c lawful knows =
+    let f = found c lawful knows in
+    let told = (seen_told lawful knows).content_is f.0 f.3 in
+    let tree : IsTrie f.1 = (lawful.core.state.trees f.0 f.1 (le_trans f.3 (seen_within lawful knows)) f.4).0 in
+    (f.0, f.2, f.3, get_reply _ key (Some v) (ap (λ (z : Map). value_at z key) (sym told) ∙ (ap (λ t. value_at (content t) key) f.4 ∙ holds_value f.1 tree key v f.5)))
 
 -- The end of a call
 
@@ -167,7 +157,7 @@ noted table table' layout call reply k i j settled looked event right quiet = su
     after = record i { pin = None; steps = i.steps + 1; notes = i.notes ++ note ∷ [] }
 
     calls : LegalCalls i.front k.pass (k.notes ++ note ∷ [])
-    calls = legal_quiet k.front i.front k.pass k.notes note settled.legal looked.front (legal_seen event.core i event.lawful event.knows)
+    calls = legal_quiet k.front i.front k.pass k.notes note settled.legal looked.front (seen_told event.lawful event.knows).legal
         (le_trans (longer i.fresh.front k.front looked.fresh) at.least) at.most at.right (quiet place)
 
     legal : LegalCalls i.front i.pass (i.notes ++ note ∷ [])

@@ -52,6 +52,9 @@ is_entry layout k m n h x i possible has low =
 pub to_stood : (s : Past) (m r at : ℕ) (u : Tree) (x : Fixed) (b : Tree) → u ≡ node r x b → m ≤ at → at ≤ s.now → Stands s at (a_node r) u → Stood s m r b
 to_stood s m r at u x b is low high st = record { at = at; since = low; until = high; fixed = x; stands = subst (λ z. Stands s at (a_node r) z) is st }
 
+place_below : (i : ℕ) (p x : Page) → shape p ≡ x → i < size x → i < size p
+place_below i p x same low = subst (λ z. i < z) (ap size (sym same) ∙ shape_tips p) low
+
 entry_of_node : (n : ℕ) (x : Fixed) (b u : Tree) (i : ℕ) (o : Option Entry) → u ≡ node n x b → i < size (page b) → entry_in u i ≡ o → Some (entry_at (page b) i) ≡ o
 entry_of_node n x b u i o is inside e = sym (ap (λ t. if t then Some (entry_at (page b) i) else None) (lt-ltb i (size (page b)) inside)) ∙ (sym (ap (λ (z : Tree). entry_in z i) is) ∙ e)
 
@@ -99,7 +102,7 @@ module _ (layout : Layout) (k j : Known) (n i w : ℕ) (event : IsEvent layout (
           let v = record_node n found.1 found.4.is_record in
           let st : Stood (seen c j) m n v.1 = to_stood (seen c j) m n found.0 found.1 v.0 v.1 v.2 found.2 found.3 found.4 in
           let same : shape (page v.1) ≡ x = shaped (seen c j) m (seen_steady lawful knows (since_on slot_loads has.0.0)) n x v.1 (sure_on (shaped_stable m n x) slot_loads has.1 c lawful knows) st in
-          let inside : i < size (page v.1) = subst (λ z. i < z) (ap size (sym same) ∙ shape_tips (page v.1)) low in
+          let inside : i < size (page v.1) = place_below i (page v.1) x same low in
           record {
             body = v.1;
             stood = st;

@@ -1,11 +1,16 @@
 -- What a pass is sure of, and what stays so while it loads.
 use Rattle.std.proofs.Common.{◌≡◌, inl, inr, ℕ, suc, zero, ◌+◌, ◌<◌, ◌≤◌, List, [], ◌∷◌, ◌++◌, length, take, refl, ap, sym, ◌∙◌, subst, arith, le_trans}
 use Rattle.std.proofs.lemmas.List.{length-append}
+use Rattle.key_bits.specs.Bits.{bit_of}
+use Rattle.pieces.specs.Piece.{leads_to}
+use Rattle.compound_node.specs.Nodes.{HeadView, NodeView, IsLawful as IsLawfulNode, head_of, leaves, node_of, piece}
 use Rattle.compound_node.specs.declared.entries.Entry.{Entry}
 use Rattle.hot_model.specs.declared.Change.{Change}
 use Rattle.hot_model.specs.Fronts.{OthersGoOn, map_of}
 use Rattle.hot_model.proofs.Growth.{legal_front_part, others_on}
 use Rattle.tries.specs.Keys.{Key}
+use Rattle.tries.specs.Place.{spot}
+use Rattle.tries.proofs.Places.{leads_spot}
 use Rattle.tries.specs.Tree.{Page, Tree}
 use Rattle.moments.specs.declared.Rec.{Rec}
 use Rattle.moments.specs.State.{Past, Stands, IsHeld, IsMissed, IsLed, IsSteady, rec_of}
@@ -19,7 +24,7 @@ use Rattle.rowex_core.specs.Cores.{Core, IsLawful, view}
 use Rattle.rowex_core.specs.Knowing.{Knows}
 use Rattle.rowex_walks.specs.Scan.{IsSeen, IsRooted, IsPlaced, IsShaped, IsRead, IsBlank}
 use Rattle.rowex_walks.proofs.Persist.{rooted_on, placed_on, shaped_on, read_on}
-use Rattle.hot_index.specs.Seen.{seen, Sure, IsStable, IsSince, Loads}
+use Rattle.hot_index.specs.Seen.{seen, shape_of, Sure, IsStable, IsSince, Loads}
 
 -- Loads
 
@@ -139,3 +144,10 @@ missed_stable m k a b g (n, lo, hi, absent) = (n, lo, le_trans hi g.longer, λ t
 pub led_stable : (m : ℕ) (k : Key) (e : Entry) → IsStable (λ s. IsLed s m k e)
 led_stable m k e a b g (n, u, lo, hi, st, pg, inl follows) = (n, u, lo, le_trans hi g.longer, stands_grown a b g n (rec_of e) u hi st, pg, inl follows)
 led_stable m k e a b g (n, u, lo, hi, st, pg, inr missed) = (n, u, lo, le_trans hi g.longer, stands_grown a b g n (rec_of e) u hi st, pg, inr (missed_stable m k a b g missed))
+
+-- The place to which a search leads
+
+-- where a node's head leads a key
+pub search_spot : (head : HeadView) (k : Key) (i : ℕ) → IsLawfulNode (node_of head (leaves (length head.rows))) →
+    ((node : NodeView) → IsLawfulNode node → head_of node ≡ head → i ≡ leads_to (bit_of k) (piece node)) → i ≡ spot k (shape_of head)
+search_spot head k i lawful leads = leads (node_of head (leaves (length head.rows))) lawful refl ∙ leads_spot k (shape_of head)

@@ -31,7 +31,8 @@ impl Index {
     /// them, and whether there is a further one.
     ///
     /// It takes no lock and waits for nobody. It is no picture of one moment: each pair was held at some moment of the
-    /// call, and no key that was there all along is left out. Where memory ends, nothing is answered.
+    /// call, and each key that was there all along is listed, where there is a further one up to the last pair's. Where
+    /// memory ends, it answers nothing.
     pub fn scan(
         &self,
         alloc: Global,

@@ -2,3 +2,4 @@
 
 mod looking;
 mod making;
+mod scans;

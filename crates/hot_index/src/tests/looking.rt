@@ -96,7 +96,11 @@ fn link_leaf(table: &HotTable, seat: &mut TableSeat) -> bool
 }
 
 /// An index with one key, and two passes that have made no call.
-fn index_of_one(alloc: Global, key: &Key, value: u64) -> Result<(Index, Pass, Pass), Fail>
+pub(super) fn index_of_one(
+    alloc: Global,
+    key: &Key,
+    value: u64,
+) -> Result<(Index, Pass, Pass), Fail>
     ensures { IfOk result (λ made. Owns made.0 made.1 × Owns made.0 made.2) }
 {
     let (table, mut seats) = small_table(alloc)?;
