@@ -1,0 +1,11 @@
+-- The records below the number are not free.
+use Rattle.moments.specs.declared.Rec.TheVariants.{Leaf as a_leaf}
+use Rattle.rowex_table.specs.Seats.{IsSame, known}
+use Rattle.rowex_records.specs.Claims.{FindsNone}
+use Rattle.rowex_records.proofs.claiming.claim_leaf.Given as goal
+
+abbrev pub invariant-loop-number : goal.invariant-loop-number
+invariant-loop-number g l = record {
+  seat : IsSame l.fn.seat l.seat;
+  none : FindsNone l.table.layout a_leaf l.number (known l.fn.seat) (known l.seat);
+}

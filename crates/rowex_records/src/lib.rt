@@ -1,0 +1,11 @@
+//! Records of a pass's own on their way into the tree: claimed, filled and made ready, or given up.
+#![tactic(auto)]
+
+mod claiming;
+mod filling;
+
+pub use claiming::{claim_leaf, claim_node, give_up};
+pub use filling::{fill_leaf, fill_node};
+
+#[cfg(test)]
+mod tests;
