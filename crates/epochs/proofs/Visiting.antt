@@ -11,6 +11,7 @@ use Rattle.rowex_core.specs.declared.event.Act.{Act}
 use Rattle.rowex_core.specs.declared.event.Act.TheVariants.{LoadState, GiveBack}
 use Rattle.rowex_core.specs.declared.known.Known.{Known}
 use Rattle.rowex_core.specs.Knowing.{IsEvent}
+use Rattle.rowex_core.proofs.Owning.{round_is}
 use Rattle.epochs.specs.Runs.{silent}
 use Rattle.epochs.specs.Rounds.{Visits, has_given, VisitsOne, VisitsAll}
 use Rattle.epochs.proofs.Doing.{does_one, does_append}
@@ -22,7 +23,7 @@ bound_top : (layout : Layout) (act : Act) (k j : Known) → IsEvent layout act s
 bound_top layout act k j e =
     let low = e.lawful.core.paced.loads k.pass in
     let now = e.lawful.epochs.now in
-    subst (λ (z : Round). z.bound < 2 ^ 60) e.knows.round (omega arith)
+    subst (λ (z : Round). z.bound < 2 ^ 60) (round_is e.core k e.knows) (omega arith)
 
 pub visit_passes : (layout : Layout) (bound : ℕ) (r : Rec) (word : ℕ) (k j : Known) → IsEvent layout (LoadState r word) silent k j → k.round.bound ≡ bound
     → ((epoch : ℕ) → 1 ≤ epoch → epoch < 2 ^ 60 → epoch < bound → word ≢ state_word (Obsolete epoch)) → VisitsOne layout bound r false k j

@@ -19,6 +19,7 @@ goes_on k front s legal others = record {
   anchor = s.anchor;
   pin = s.pin;
   fresh = begins_on k.fresh.front k.front front s.fresh (others_begin k.pass k.front front others);
+  loaded = s.loaded;
   legal = legal_longer k.front front k.pass k.notes s.legal others legal;
 }
 

@@ -23,6 +23,7 @@ use Rattle.rowex_core.specs.declared.known.Fresh.{Fresh}
 use Rattle.rowex_core.specs.declared.known.Known.{Known}
 use Rattle.rowex_core.specs.Cores.{Core, IsLawful, heap_of}
 use Rattle.rowex_core.specs.Knowing.{Knows, IsEvent}
+use Rattle.rowex_core.proofs.Owning.{pin_is}
 use Rattle.rowex_core.specs.Reading.{entry_of, root_of, head_entry}
 use Rattle.rowex_core.proofs.Reading.{entry_of_word}
 use Rattle.epochs.specs.Runs.{silent}
@@ -96,7 +97,7 @@ module _ (layout : Layout) (k j : Known) (p : Pin) (pinned : k.pin ≡ Some p) (
   root_since = (
     p,
     ap (λ (z : Known). z.pin) event.learned_is ∙ pinned,
-    subst (λ z. p.moment ≤ z) (sym fresh_now) (event.lawful.core.paced.floors k.pass p (event.knows.pin ∙ pinned)).2,
+    subst (λ z. p.moment ≤ z) (sym fresh_now) (event.lawful.core.paced.floors k.pass p (pin_is core k event.knows ∙ pinned)).2,
   )
 
   found_root : (e : Option Entry) → HasEntryWord e → entry_word e ≡ w → e ≡ core.root

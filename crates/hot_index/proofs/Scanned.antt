@@ -47,21 +47,21 @@ if_refused (Err e) Q h = h
 lawful_scan : (k : Known) (g : Range) (scan : Scan) (layout : Layout) (said : Known → List Note) (j : Known) → IsKey g.from → IsKey g.upto → (p : Pin) → k.pin ≡ Some p → HasScanned k g scan → IsEvent layout ClearPin said k j →
     IsLawfulScan k.fresh.front k.front g.from g.upto g.limit scan
 lawful_scan k g scan layout said j kf ku p pin h event =
-    subst (λ (z : List Change). IsLawfulScan k.fresh.front z g.from g.upto g.limit scan) (sym event.knows.fresh.1) (go scan.more refl (h.answer event.core event.lawful event.knows))
+    subst (λ (z : List Change). IsLawfulScan k.fresh.front z g.from g.upto g.limit scan) (sym event.knows.seen.fresh.1) (go scan.more refl (h.answer event.core event.lawful event.knows))
   where
-    told : IsTold (seen event.core k) (k.fresh.front ++ event.knows.fresh.0)
-    told = subst (λ (z : List Change). IsTold (seen event.core k) z) event.knows.fresh.1 (seen_told event.lawful event.knows)
+    told : IsTold (seen event.core k) (k.fresh.front ++ event.knows.seen.fresh.0)
+    told = subst (λ (z : List Change). IsTold (seen event.core k) z) event.knows.seen.fresh.1 (seen_told event.lawful event.knows)
 
     steady : IsSteady (seen event.core k) p.moment
     steady = seen_steady event.lawful event.knows (p, pin, le_refl p.moment)
 
     go : (more : Bool) → scan.more ≡ more → IsAnswer (seen event.core k) (since k) g h.taken scan.more →
-        IsLawfulScan k.fresh.front (k.fresh.front ++ event.knows.fresh.0) g.from g.upto g.limit scan
+        IsLawfulScan k.fresh.front (k.fresh.front ++ event.knows.seen.fresh.0) g.from g.upto g.limit scan
     go false e answer =
-        complete_lawful (seen event.core k) k.fresh.front event.knows.fresh.0 p.moment steady told g kf ku h.taken scan h.pairs e
+        complete_lawful (seen event.core k) k.fresh.front event.knows.seen.fresh.0 p.moment steady told g kf ku h.taken scan h.pairs e
         (subst (λ z. IsAnswer (seen event.core k) (since k) g h.taken z) e answer)
     go true e answer =
-        cut_lawful (seen event.core k) k.fresh.front event.knows.fresh.0 p.moment steady told g kf ku h.taken scan h.pairs e
+        cut_lawful (seen event.core k) k.fresh.front event.knows.seen.fresh.0 p.moment steady told g kf ku h.taken scan h.pairs e
         (subst (λ z. IsAnswer (seen event.core k) (since k) g h.taken z) e answer)
 
 -- The pass was settled, pinned itself, made loads, and clears the pin now.
@@ -98,7 +98,8 @@ module _ {n : ℕ} (before later : TableId) (layout : Layout) (k a b j : Known) 
         locks = ap (λ (z : Known). z.locks) l.rest ∙ (ap (λ (z : Known). z.locks) pinned ∙ settled.locks);
         anchor = ap (λ (z : Known). z.anchor) l.rest ∙ (ap (λ (z : Known). z.anchor) pinned ∙ settled.anchor);
         pin = refl;
-        fresh = event.knows.fresh;
+        fresh = event.knows.seen.fresh;
+        loaded = let l = event.knows.loaded in omega arith;
         legal = legal;
       }
 
@@ -118,8 +119,8 @@ module _ {n : ℕ} (before later : TableId) (layout : Layout) (k a b j : Known) 
           number = pass;
           front = (others.0, others.1);
           fresh = subst (λ (z : List Change). BeginsWith b.fresh.front z) begun fresh;
-          seen = event.knows.fresh;
-          now = let e = ap (λ (z : Known). z.steps) pinned in omega arith;
+          seen = event.knows.seen.fresh;
+          now = let e = ap (λ (z : Known). z.steps) pinned in let l = event.knows.loaded in (omega arith, omega arith);
         };
         notes = notes;
         lawful =

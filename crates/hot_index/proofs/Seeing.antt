@@ -22,6 +22,7 @@ use Rattle.moments.proofs.States.{steady, reach_later}
 use Rattle.rowex_core.specs.declared.known.Known.{Known}
 use Rattle.rowex_core.specs.Cores.{Core, IsLawful, view}
 use Rattle.rowex_core.specs.Knowing.{Knows}
+use Rattle.rowex_core.proofs.Owning.{pin_is}
 use Rattle.rowex_walks.specs.Scan.{IsSeen, IsRooted, IsPlaced, IsShaped, IsRead, IsBlank}
 use Rattle.rowex_walks.proofs.Persist.{rooted_on, placed_on, shaped_on, read_on}
 use Rattle.hot_index.specs.Seen.{seen, shape_of, Sure, IsStable, IsSince, Loads}
@@ -34,14 +35,13 @@ same_pass l = ap (λ (z : Known). z.pass) l.rest
 pub loads_knows : {n : ℕ} {k j : Known} {c : Core} → Loads n k j → Knows c j → Knows c k
 loads_knows {n} {k} {j} {c} l h = record {
   pass = subst (λ z. z < c.layout.passes) (same_pass l) h.pass;
-  front = others_on k.pass k.front j.front c.changes l.front (subst (λ z. OthersGoOn z j.front c.changes) (same_pass l) h.front);
-  fresh = l.began;
-  facts = l.facts c.past h.facts;
+  loaded = l.loaded;
+  seen = record {
+    front = others_on k.pass k.front j.front c.changes l.front (subst (λ z. OthersGoOn z j.front c.changes) (same_pass l) h.seen.front);
+    fresh = l.began;
+    facts = l.facts c.past h.seen.facts;
+  };
   own = other.own;
-  locks = other.locks;
-  anchor = other.anchor;
-  pin = other.pin;
-  round = other.round;
 }
   where
     other : Knows c (record k { front = j.front; fresh = j.fresh; facts = j.facts; steps = k.steps + n })
@@ -53,6 +53,7 @@ loads_trans {n} {m} {k} {i} {j} x y = record {
       ap (λ (s : ℕ). let w : Known = record k { front = j.front; fresh = j.fresh; facts = j.facts; steps = s } in w) (let e : k.steps + n + m ≡ k.steps + (n + m) = omega arith in e));
   front = others_on k.pass k.front i.front j.front x.front (subst (λ z. OthersGoOn z i.front j.front) (same_pass x) y.front);
   began = x.began;
+  loaded = x.loaded;
   facts = λ s h. x.facts s (y.facts s h);
 }
 
@@ -77,7 +78,7 @@ since_on l (p, is, low) = (p, ap (λ (z : Known). z.pin) l.rest ∙ is, low)
 -- The moments that a pass has seen are those of the core up to one of them
 
 pub seen_within : {c : Core} {k : Known} → IsLawful c → Knows c k → length k.front ≤ c.past.now
-seen_within {c} {k} lawful knows = omega (arith, lawful.core.told.count, ap length knows.front.1, length-append k.front knows.front.0)
+seen_within {c} {k} lawful knows = omega (arith, lawful.core.told.count, ap length knows.seen.front.1, length-append k.front knows.seen.front.0)
 
 pub seen_past : {c : Core} {k : Known} → IsLawful c → Knows c k → IsGrown (seen c k) c.past
 seen_past lawful knows = record { longer = seen_within lawful knows; kept = λ n a. refl }
@@ -98,8 +99,8 @@ pub seen_told : {c : Core} {k : Known} → IsLawful c → Knows c k → IsTold (
 seen_told {c} {k} lawful knows = record {
   count = refl;
   content_is = λ n h. lawful.core.told.content_is n (le_trans h (seen_within lawful knows)) ∙
-      ap map_of (ap (take n) knows.front.1 ∙ take_front n k.front knows.front.0 h);
-  legal = legal_front_part k.front c.changes (knows.front.0, knows.front.1) lawful.core.told.legal;
+      ap map_of (ap (take n) knows.seen.front.1 ∙ take_front n k.front knows.seen.front.0 h);
+  legal = legal_front_part k.front c.changes (knows.seen.front.0, knows.seen.front.1) lawful.core.told.legal;
 }
 
 -- and since its pin the records keep their fixed words
@@ -113,7 +114,7 @@ seen_steady {c} {k} {m} lawful knows (p, is, low) = record {
     within = seen_within lawful knows
 
     all : IsSteady c.past m
-    all = steady (view c) lawful.core.state m (reach_later (view c) p.moment m low (lawful.core.state.reach k.pass p.moment (ap pin_moment (knows.pin ∙ is))))
+    all = steady (view c) lawful.core.state m (reach_later (view c) p.moment m low (lawful.core.state.reach k.pass p.moment (ap pin_moment (pin_is c k knows ∙ is))))
 
 -- What stays true as the past grows
 

@@ -48,7 +48,8 @@ no_loads : (k : Known) (layout : Layout) → IsPossible layout k → Loads 0 k k
 no_loads k layout possible = record {
   rest = ap (λ (s : ℕ). let z : Known = record k { steps = s } in z) (let e : k.steps ≡ k.steps + 0 = omega arith in e);
   front = others_none k.pass k.front;
-  began = possible.knows.fresh;
+  began = possible.knows.seen.fresh;
+  loaded = possible.knows.loaded;
   facts = λ s h. h;
 }
 

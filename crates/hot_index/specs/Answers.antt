@@ -1,5 +1,5 @@
 -- What calls of an index say.
-use Rattle.std.specs.Prelude.{◌≡◌, ◌≢◌, ℕ, ◌≤◌, [], ◌∷◌, ◌++◌, length, Option, Some, None}
+use Rattle.std.specs.Prelude.{◌≡◌, ◌≢◌, ℕ, ◌<◌, ◌≤◌, [], ◌∷◌, ◌++◌, length, Option, Some, None}
 use Rattle.hot_model.specs.declared.Call.{Call}
 use Rattle.hot_model.specs.declared.Reply.{Reply}
 use Rattle.hot_model.specs.declared.Reply.TheVariants.{Value, Absent}
@@ -25,7 +25,7 @@ pub record GoesOn (k j : PassView) : Type 0 where
   pub front : BeginsWith j.front k.front
   pub fresh : BeginsWith j.fresh.front k.front
   pub seen : BeginsWith j.front j.fresh.front
-  pub now : k.steps ≤ j.fresh.step
+  pub now : (k.steps ≤ j.fresh.step) × (j.fresh.step < j.steps)
 
 -- A call of the pass was answered: there is one note more, of this call and this reply, which stands in the history at a
 -- place from what the pass had seen at its last load of the root up to what it has seen now; and the pass's calls are legal.

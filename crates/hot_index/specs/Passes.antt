@@ -1,5 +1,5 @@
 -- What contracts see of an index and of its passes.
-use Rattle.std.specs.Prelude.{◌≡◌, ℕ, List, [], None}
+use Rattle.std.specs.Prelude.{◌≡◌, ◌<◌, ℕ, List, [], None}
 use Rattle.atomic_table.specs.Seated.{TableId}
 use Rattle.hot_model.specs.declared.Change.{Change}
 use Rattle.hot_model.specs.declared.Note.{Note}
@@ -16,7 +16,7 @@ pub record IndexView : Type 0 where
   pub layout : Layout
 
 -- A pass: the table of its index, its number, the changes that it has seen, those at its last load of the root, its answered
--- calls, how many atomic steps it has made, and what its failed claims and locks found.
+-- calls, the number of its next atomic step, and what its failed claims and locks found.
 pub record PassView : Type 0 where
   pub table : TableId
   pub number : ℕ
@@ -33,13 +33,15 @@ pass_view table k = record { table = table; number = k.pass; front = k.front; fr
 abbrev pub Owns : IndexView → PassView → Type 0
 Owns index pass = pass.table ≡ index.table
 
--- Between two calls a pass has no claimed record, no lock and no pin, and its calls are legal in its front.
+-- Between two calls a pass has no claimed record, no lock and no pin, its last load of the root was a step of an earlier call
+-- or is still to come, and its calls are legal in its front.
 pub record IsSettled (k : Known) : Type 0 where
   pub own : k.own ≡ []
   pub locks : k.locks ≡ []
   pub anchor : k.anchor ≡ None
   pub pin : k.pin ≡ None
   pub fresh : BeginsWith k.front k.fresh.front
+  pub loaded : k.fresh.step < k.steps
   pub legal : LegalCalls k.front k.pass k.notes
 
 -- a pass that has made no call

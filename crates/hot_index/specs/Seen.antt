@@ -1,5 +1,5 @@
 -- What a pass may conclude of the moments that it has seen, and what loads teach it.
-use Rattle.std.specs.Prelude.{◌≡◌, ℕ, ◌+◌, ◌≤◌, length, All, Option, Some, None}
+use Rattle.std.specs.Prelude.{◌≡◌, ℕ, ◌+◌, ◌<◌, ◌≤◌, length, All, Option, Some, None}
 use Rattle.hot_model.specs.Fronts.{BeginsWith, OthersGoOn}
 use Rattle.compound_node.specs.Nodes.{HeadView, piece, node_of, leaves}
 use Rattle.compound_node.specs.declared.entries.Entry.{Entry}
@@ -38,6 +38,7 @@ pub record Loads (n : ℕ) (k j : Known) : Type 0 where
   pub rest : j ≡ record k { front = j.front; fresh = j.fresh; facts = j.facts; steps = k.steps + n }
   pub front : OthersGoOn k.pass k.front j.front
   pub began : BeginsWith k.front k.fresh.front
+  pub loaded : k.fresh.step < k.steps
   pub facts : (s : Past) → All (IsFact s) j.facts → All (IsFact s) k.facts
 
 -- the forks of a node with this head

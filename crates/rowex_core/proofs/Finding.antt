@@ -1,11 +1,10 @@
 -- The change that a publish makes is found from its leaves before and after.
-use Rattle.std.proofs.Common.{◌≡◌, ◌≢◌, ◌⊎◌, inl, inr, ℕ, List, [], ◌∷◌, Bool, true, false, eqb, Option, Some, None, refl, sym, ap, ◌∙◌, subst, arith}
+use Rattle.std.proofs.Common.{◌≡◌, ◌≢◌, inl, inr, ℕ, List, [], ◌∷◌, false, eqb, Option, Some, None, refl, sym, ap, ◌∙◌, subst, arith}
 use Rattle.std.proofs.lemmas.Bool.{eq-eqb, eqb-true, cases_Bool}
 use Rattle.compound_node.specs.declared.entries.Entry.{Entry}
 use Rattle.hot_model.specs.declared.Change.{Change}
 use Rattle.hot_model.specs.declared.Kind.{Kind}
 use Rattle.hot_model.specs.declared.Kind.TheVariants.{Added, Replaced, Removed}
-use Rattle.hot_model.specs.Maps.{key_order}
 use Rattle.tries.specs.Tree.{Tree, leaf, node, fork, IsTrie, IsBuilt}
 use Rattle.tries.specs.Content.{Item, items, Each, IsRising, IsIn, IsMore, added, behind, IsExchange, exchanged, past_one}
 use Rattle.tries.specs.Keys.{IsBefore}
@@ -13,10 +12,9 @@ use Rattle.tries.proofs.Contents.{content_rises, before_irrefl, each_append, eac
 use Rattle.tries.proofs.Maps.{AreKeys, are_keys, before_less, before_greater, same_order}
 use Rattle.moments.specs.Heap.{Heap, LeafWords, IsShown}
 use Rattle.moments.specs.State.{IsTop}
-use Rattle.moments.specs.Told.{items_of, item_of, IsChanged, IsChange}
-use Rattle.rowex_core.specs.declared.event.Spot.{Spot}
-use Rattle.rowex_core.specs.Cores.{Core, IsLawful, heap_of}
-use Rattle.rowex_core.specs.Events.{AreSame, change_between, added_by, replaced_by, removed_by, stored_words, stored_root, next_tree, next_change}
+use Rattle.moments.specs.Told.{items_of, item_of, IsChanged}
+use Rattle.rowex_core.specs.Cores.{heap_of}
+use Rattle.rowex_core.specs.Events.{AreSame, change_between, added_by, replaced_by, removed_by, stored_words, stored_root, next_tree}
 use Rattle.rowex_core.specs.Statements.{FindsChange}
 use Rattle.rowex_core.proofs.Storing.{near_store}
 

@@ -1,5 +1,5 @@
 -- What a pass knows stays true while other passes make their steps.
-use Rattle.std.proofs.Common.{◌≡◌, ◌≢◌, inl, inr, ℕ, ◌<◌, ◌≤◌, List, ◌++◌, refl, sym, ap, ◌∙◌, subst, le_trans, append_assoc}
+use Rattle.std.proofs.Common.{◌≡◌, ◌≢◌, inl, inr, ℕ, ◌<◌, ◌≤◌, List, ◌++◌, sym, ap, ◌∙◌, subst, le_trans, append_assoc}
 use Rattle.std.proofs.lemmas.List.Elements.{All-append, All-weaker}
 use Rattle.hot_model.specs.declared.Change.{Change}
 use Rattle.hot_model.specs.Fronts.{OthersGoOn}
@@ -7,24 +7,20 @@ use Rattle.tries.specs.Tree.{Tree}
 use Rattle.moments.specs.declared.Rec.{Rec}
 use Rattle.moments.specs.declared.Rec.TheVariants.{Node as a_node}
 use Rattle.moments.specs.State.{Past, Stands}
-use Rattle.moments.specs.Core.{IsOwn}
 use Rattle.moments.specs.Frames.{IsGrown}
 use Rattle.moments.proofs.Growth.{stands_grown}
 use Rattle.rowex_core.specs.declared.event.Act.{Act}
 use Rattle.rowex_core.specs.declared.known.Fact.{Fact}
 use Rattle.rowex_core.specs.declared.known.Fact.TheVariants.{Rooted, Placed, Fixed}
-use Rattle.rowex_core.specs.declared.known.Holding.{Holding}
-use Rattle.rowex_core.specs.declared.known.Holding.TheVariants.{Held, Ready, Unlinked}
-use Rattle.rowex_core.specs.declared.known.Owned.{Owned}
-use Rattle.rowex_core.specs.declared.known.Locked.{Locked}
 use Rattle.rowex_core.specs.declared.known.Known.{Known}
 use Rattle.rowex_core.specs.declared.known.View.{View}
 use Rattle.rowex_core.specs.declared.known.View.TheVariants.{Spent, Dealer, Pass, Pair}
+use Rattle.record_words.specs.declared.layout.Layout.{Layout}
 use Rattle.rowex_core.specs.Reading.{entry_in, word_in}
-use Rattle.rowex_core.specs.Cores.{Core, IsLawful, HasRecord}
+use Rattle.rowex_core.specs.Cores.{Core, IsLawful}
 use Rattle.rowex_core.specs.Events.{Legal, after}
 use Rattle.rowex_core.specs.Frames.{IsFrame}
-use Rattle.rowex_core.specs.Knowing.{StoodBetween, StoodAs, IsFound, IsFact, fate_of, IsOwned, IsLocked, Knows, NoChangeBy, IsUntouched, Knowing, Owns}
+use Rattle.rowex_core.specs.Knowing.{StoodBetween, StoodAs, IsFound, IsFact, Knows, NoChangeBy, IsUntouched, Knowing, Owns}
 use Rattle.rowex_core.proofs.Frames.{frame}
 
 -- Facts of the past
@@ -54,39 +50,22 @@ others_trans q a b c x y = (x.0 ++ y.0, y.1 ∙ (ap (λ (z : List Change). z ++ 
 
 -- The whole
 
-pub holding_own : (q : ℕ) (h : Holding) → IsOwn q (fate_of q h)
-holding_own q Held = refl
-holding_own q Ready = refl
-holding_own q (Unlinked s l) = refl
-
 pub knows_kept : (c d : Core) (k : Known) → IsFrame k.pass c d → Knows c k → Knows d k
 knows_kept c d k f h = record {
-  pass = subst (λ (z : Rattle.record_words.specs.declared.layout.Layout.Layout). k.pass < z.passes) (sym f.layout) h.pass;
-  front = others_trans k.pass k.front c.changes d.changes h.front f.changes;
-  fresh = h.fresh;
-  facts = All-weaker (IsFact c.past) (IsFact d.past) (fact_grown c.past d.past f.past) k.facts h.facts;
-  own = All-weaker (IsOwned k.pass c) (IsOwned k.pass d) owned k.own h.own;
-  locks = All-weaker (IsLocked k.pass c) (IsLocked k.pass d) locked k.locks h.locks;
-  anchor = λ e a. let x = h.anchor e a in let y = f.anchor x.0 in (y.0, y.1 ∙ x.1);
-  pin = f.pin ∙ h.pin;
-  round = f.round ∙ h.round;
+  pass = subst (λ (z : Layout). k.pass < z.passes) (sym f.layout) h.pass;
+  loaded = h.loaded;
+  seen = record {
+    front = others_trans k.pass k.front c.changes d.changes h.seen.front f.changes;
+    fresh = h.seen.fresh;
+    facts = All-weaker (IsFact c.past) (IsFact d.past) (fact_grown c.past d.past f.past) k.facts h.seen.facts;
+  };
+  own = f.own ∙ h.own;
 }
-  where
-    owned : (o : Owned) → IsOwned k.pass c o → IsOwned k.pass d o
-    owned o (a, b, e) =
-        let x = f.own o.rec (subst (IsOwn k.pass) (sym b) (holding_own k.pass o.holding)) in
-        (subst (λ (z : Rattle.record_words.specs.declared.layout.Layout.Layout). HasRecord z o.rec) (sym f.layout) a, x.0 ∙ b, x.1 ∙ e)
-
-    locked : (l : Locked) → IsLocked k.pass c l → IsLocked k.pass d l
-    locked l (a, b, t, e) =
-        let x = f.locks l.node b t in
-        (subst (λ (z : Rattle.record_words.specs.declared.layout.Layout.Layout). l.node < z.nodes) (sym f.layout) a, x.0, x.1, x.2 ∙ e)
 
 untouched_kept : (c d : Core) (q : ℕ) → IsFrame q c d → IsUntouched c q → IsUntouched d q
 untouched_kept c d q f h = record {
   changes = subst (NoChangeBy q) (sym f.changes.1) (All-append (λ z. z.pass ≢ q) c.changes f.changes.0 h.changes f.changes.2);
-  pin = f.pin ∙ h.pin;
-  round = f.round ∙ h.round;
+  own = f.own ∙ h.own;
 }
 
 -- A legal step of one pass leaves true what any other view says.

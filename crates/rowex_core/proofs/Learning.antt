@@ -1,8 +1,8 @@
 -- What a pass knows after a step of its own is true.
-use Rattle.std.proofs.Common.{◌≡◌, ◌≢◌, ◌⊎◌, inl, inr, ℕ, ◌+◌, ◌-◌, ◌<◌, ◌≤◌, List, [], ◌∷◌, Bool, true, false, if◌then◌else◌, nat_eq, eqb, set, Option, Some, None, refl, sym, ap, ◌∙◌, subst, le_refl, append-nil, append_assoc, ◌++◌}
-use Rattle.std.specs.Prelude.{All, map, not}
-use Rattle.std.proofs.lemmas.Bool.{eq-eqb, eqb-true, cases_Bool, false≢true}
-use Rattle.std.proofs.lemmas.List.Elements.{All-cons, All-weaker, All-map, All-from_recursion}
+use Rattle.std.proofs.Common.{◌≡◌, ◌≢◌, ◌⊎◌, inl, inr, ℕ, suc, ◌+◌, ◌-◌, ◌<◌, ◌&&◌, ◌≤◌, List, [], ◌∷◌, Bool, true, false, if◌then◌else◌, nat_eq, eqb, set, Option, Some, None, refl, sym, ap, ◌∙◌, subst, arith, le_refl, append-nil, append_assoc, ◌++◌}
+use Rattle.std.specs.Prelude.{All, filter, map, not}
+use Rattle.std.proofs.lemmas.Bool.{eqb-true, cases_Bool}
+use Rattle.std.proofs.lemmas.List.Elements.{All-cons, All-weaker, All-from_recursion, filter-append}
 use Rattle.hot_model.specs.declared.Change.{Change}
 use Rattle.hot_model.specs.Fronts.{BeginsWith, OthersGoOn}
 use Rattle.compound_node.specs.declared.entries.Entry.{Entry}
@@ -14,9 +14,9 @@ use Rattle.moments.specs.declared.Pin.{Pin}
 use Rattle.moments.specs.declared.Round.{Round}
 use Rattle.moments.specs.Heap.{Heap}
 use Rattle.moments.specs.State.{Past, IsTop, IsReach}
-use Rattle.moments.specs.Core.{Fate, Free, Held as HeldBy, Ready as ReadyBy, InTree, Unlinked as UnlinkedBy, Marked, IsOwn, pin_moment}
-use Rattle.moments.specs.Steps.{same_rec, lowered}
-use Rattle.moments.proofs.Legal.{same_rec_refl, same_rec_true}
+use Rattle.moments.specs.Core.{Fate, Free, Held as HeldBy, Ready as ReadyBy, InTree, Unlinked as UnlinkedBy, Marked, pin_moment}
+use Rattle.moments.specs.Steps.{same_rec, is_linked, next_fate, MayLock, lowered}
+use Rattle.moments.proofs.Legal.{same_rec_refl}
 use Rattle.rowex_core.specs.declared.event.Act.{Act}
 use Rattle.rowex_core.specs.declared.event.Act.TheVariants.{Claim, Fill, Ready, Release, LoadRef, LoadFixed, Lock, Unlock, Publish, Mark, LoadEpoch, Advance, SetPin, ClearPin, LoadPin, LoadState, GiveBack}
 use Rattle.rowex_core.specs.declared.event.Target.TheVariants.{Anchor, Node as NodeTarget}
@@ -29,31 +29,33 @@ use Rattle.rowex_core.specs.declared.known.Owned.{Owned}
 use Rattle.rowex_core.specs.declared.known.Locked.{Locked}
 use Rattle.rowex_core.specs.declared.known.Known.{Known}
 use Rattle.rowex_core.specs.Reading.{entry_of, head_entry, root_of}
-use Rattle.rowex_core.specs.Cores.{Core, IsLawful, HasRecord, view, heap_of}
+use Rattle.rowex_core.specs.Cores.{Core, IsLawful, view, heap_of}
 use Rattle.rowex_core.specs.Words.{record_word}
-use Rattle.record_words.specs.declared.layout.Layout.{Layout}
-use Rattle.rowex_core.specs.Events.{Legal, after, with_fate, with_word, with_lock, with_pin, with_round, claimed, marked, anchored, unlocked, word_of, target_word, IsInTree}
-use Rattle.rowex_core.specs.Knowing.{IsFact, facts_with, fate_of, IsOwned, IsLocked, Knows, learned_by, learned, entry_learned, hold_as, fill_in, without_record, failed_with, claim_learned, anchor_learned, node_learned, without_lock}
+use Rattle.moments.proofs.Publish.{moment_old}
+use Rattle.rowex_core.specs.declared.event.Spot.{Spot}
+use Rattle.rowex_core.specs.Events.{IsLegalPublish, IsLockedAt, stored_words, stored_root, next_tree, next_change, Legal, after, with_fate, with_word, with_lock, with_pin, with_round, claimed, marked, anchored, unlocked, word_of, target_word, IsInTree}
+use Rattle.rowex_core.specs.Knowing.{IsFact, HasSeen, facts_with, Knows, learned_by, learned, entry_learned, hold_as, fill_in, without_record, failed_with, claim_learned, anchor_learned, node_learned, without_lock, records_in, unlinked_as, own_after, relocked, locks_after, anchor_after, publish_learned}
 use Rattle.record_words.specs.declared.layout.Location.{Location}
-use Rattle.rowex_core.proofs.Frames.{fate_frame, advance_frame, give_back_frame}
-use Rattle.rowex_core.proofs.Keeping.{knows_kept}
+use Rattle.rowex_core.proofs.Frames.{advance_frame, give_back_frame, unlocked_node}
+use Rattle.rowex_core.proofs.Keeping.{fact_grown, knows_kept}
 use Rattle.rowex_core.proofs.Loading.{slot_fact, fixed_fact}
-use Rattle.rowex_core.proofs.Publishing.{publish_learns}
-use Rattle.rowex_core.proofs.Lists.{passing}
+use Rattle.rowex_core.proofs.Publishing.{once, Linking, stays, comes, out, linking, listed_once}
+use Rattle.rowex_core.proofs.Lists.{filter_mapped, filter_swapped}
+use Rattle.rowex_core.specs.Sharing.{Share, share, known_share, holding_of, is_by, is_in_tree, owned, locked, anchored_at, of_record, of_node}
+use Rattle.rowex_core.proofs.Sharing.{and_false, at_record, at_number, by_itself, is_by_true, fate_locks, word_locks, same_unlocked}
 
--- The number of steps, the notes and what failed are facts of no core.
-counted : (c : Core) (k : Known) (n : ℕ) → Knows c k → Knows c (record k { steps = n })
-counted c k n h = record {
-  pass = h.pass;
-  front = h.front;
-  fresh = h.fresh;
-  facts = h.facts;
-  own = h.own;
-  locks = h.locks;
-  anchor = h.anchor;
-  pin = h.pin;
-  round = h.round;
-}
+-- What a pass knows is true, whatever the number of its steps.
+record IsTrue (c : Core) (k : Known) : Type 0 where
+  pass : k.pass < c.layout.passes
+  seen : HasSeen k.pass c.past c.changes k.front k.fresh.front k.facts
+  own : share k.pass c ≡ known_share k
+
+is_true : {c : Core} {k : Known} → Knows c k → IsTrue c k
+is_true h = record { pass = h.pass; seen = h.seen; own = h.own }
+
+-- what failed is a fact of no core
+with_failed : (c : Core) (k : Known) (location : Location) (w : ℕ) → Knows c k → IsTrue c (failed_with k location w)
+with_failed c k location w h = record { pass = h.pass; seen = h.seen; own = h.own }
 
 -- Facts of loads
 
@@ -76,300 +78,339 @@ root_is heap (Some e) (Some t) h = head t h.0
 
 pinned : (c : Core) (k : Known) → IsLawful c → Knows c k → (p : Pin) → k.pin ≡ Some p → IsReach (view c) p.moment × (p.moment ≤ c.past.now)
 pinned c k law h p e =
-    (law.core.state.reach k.pass p.moment (ap pin_moment (h.pin ∙ e)), (law.core.paced.floors k.pass p (h.pin ∙ e)).2)
+    let is : c.pins k.pass ≡ Some p = ap (λ (z : Share). z.pin) h.own ∙ e in (law.core.state.reach k.pass p.moment (ap pin_moment is), (law.core.paced.floors k.pass p is).2)
 
 seen_whole : (c : Core) (q : ℕ) → OthersGoOn q c.changes c.changes
 seen_whole c q = ([], sym (append-nil c.changes), All-from_recursion (λ z. z.pass ≢ q) [] tt)
 
 begins_whole : (c : Core) (k : Known) → Knows c k → BeginsWith c.changes k.fresh.front
-begins_whole c k h = (h.fresh.0 ++ h.front.0, h.front.1 ∙ (ap (λ (z : List Change). z ++ h.front.0) h.fresh.1 ∙ append_assoc k.fresh.front h.fresh.0 h.front.0))
+begins_whole c k h =
+    let s = h.seen in
+    (s.fresh.0 ++ s.front.0, s.front.1 ∙ (ap (λ (z : List Change). z ++ s.front.0) s.fresh.1 ∙ append_assoc k.fresh.front s.fresh.0 s.front.0))
 
 -- A load teaches a pass all changes so far, and a pinned pass its fact.
 fact_learned : (c : Core) (k : Known) (f : ℕ → Fact) → IsLawful c → Knows c k →
-    ((since : ℕ) → IsReach (view c) since → since ≤ c.past.now → IsFact c.past (f since)) → Knows c (record k { front = c.changes; facts = facts_with k.pin f k.facts })
+    ((since : ℕ) → IsReach (view c) since → since ≤ c.past.now → IsFact c.past (f since)) → IsTrue c (record k { front = c.changes; facts = facts_with k.pin f k.facts })
 fact_learned c k f law h true_ = record {
   pass = h.pass;
-  front = seen_whole c k.pass;
-  fresh = begins_whole c k h;
-  facts = more_facts c.past k.pin f k.facts (λ p e. let x = pinned c k law h p e in true_ p.moment x.0 x.1) h.facts;
+  seen = record {
+    front = seen_whole c k.pass;
+    fresh = begins_whole c k h;
+    facts = more_facts c.past k.pin f k.facts (λ p e. let x = pinned c k law h p e in true_ p.moment x.0 x.1) h.seen.facts;
+  };
   own = h.own;
-  locks = h.locks;
-  anchor = h.anchor;
-  pin = h.pin;
-  round = h.round;
 }
 
-root_learned : (c : Core) (k : Known) → IsLawful c → Knows c k → Knows c (entry_learned c Root k)
+root_learned : (c : Core) (k : Known) → IsLawful c → Knows c k → IsTrue c (entry_learned c Root k)
 root_learned c k law h = record {
   pass = h.pass;
-  front = seen_whole c k.pass;
-  fresh = ([], sym (append-nil c.changes));
-  facts = (fact_learned c k (λ since. Rooted since c.past.now c.root) law h (λ since r lo. (lo, le_refl c.past.now, root_is (heap_of c.words) c.root (c.past.moment c.past.now) law.core.state.top))).facts;
+  seen = record {
+    front = seen_whole c k.pass;
+    fresh = ([], sym (append-nil c.changes));
+    facts = (fact_learned c k (λ since. Rooted since c.past.now c.root) law h (λ since r lo. (lo, le_refl c.past.now, root_is (heap_of c.words) c.root (c.past.moment c.past.now) law.core.state.top))).seen.facts;
+  };
   own = h.own;
-  locks = h.locks;
-  anchor = h.anchor;
-  pin = h.pin;
-  round = h.round;
 }
 
 -- Records of the pass's own
 
-with_own : (c d : Core) (k : Known) (own : List Owned) → Knows c k → d.layout ≡ c.layout → d.past ≡ c.past → d.changes ≡ c.changes → d.anchor ≡ c.anchor → d.root ≡ c.root →
-    d.pins k.pass ≡ c.pins k.pass → d.rounds k.pass ≡ c.rounds k.pass → All (IsLocked k.pass d) k.locks → All (IsOwned k.pass d) own → Knows d (record k { own = own })
-with_own c d k own h layout past changes anchor root pin round locks owned = record {
-  pass = subst (λ (z : Layout). k.pass < z.passes) (sym layout) h.pass;
-  front = subst (OthersGoOn k.pass k.front) (sym changes) h.front;
-  fresh = h.fresh;
-  facts = subst (λ (z : Past). All (IsFact z) k.facts) (sym past) h.facts;
-  own = owned;
-  locks = locks;
-  anchor = λ e a. let x = h.anchor e a in (anchor ∙ x.0, root ∙ x.1);
-  pin = pin ∙ h.pin;
-  round = round ∙ h.round;
-}
+-- what a change of the pass's own records does at each record: of others than r it leaves what there is
+record IsAt (r : Rec) (change : List Owned → List Owned) : Type 0 where
+  each : (i : Rec) (own : List Owned) → of_record i (change own) ≡ change (of_record i own)
+  others : (i : Rec) (words : List ℕ) (h : Option Holding) → same_rec i r ≡ false → change (owned i words h) ≡ owned i words h
 
--- a record that is not in the tree changes its fate
-locks_stay : (c : Core) (q : ℕ) (r : Rec) (f : Fate) (ls : List Locked) → ((since : ℕ) → c.fate r ≡ InTree since → ⊥) → All (IsLocked q c) ls → All (IsLocked q (with_fate c r f)) ls
-locks_stay c q r f ls n h = All-weaker (IsLocked q c) (IsLocked q (with_fate c r f)) stays ls h
+-- a map that changes no record's number, and nothing but r
+module _ (r : Rec) (f : Owned → Owned) (rec_is : (o : Owned) → (f o).rec ≡ o.rec) (left : (o : Owned) → same_rec o.rec r ≡ false → f o ≡ o) where
+  map_at : IsAt r (map f)
+  map_at = record {
+    each = λ i. filter_mapped (λ o. same_rec i o.rec) (λ o. same_rec i o.rec) f (λ o. ap (same_rec i) (rec_is o));
+    others = λ i words. leaves i words;
+  }
+    where
+      leaves : (i : Rec) (words : List ℕ) (g : Option Holding) → same_rec i r ≡ false → map f (owned i words g) ≡ owned i words g
+      leaves i words None e = refl
+      leaves i words (Some g) e = ap (λ o. o ∷ []) (left (record { rec = i; holding = g; words = words }) e)
+
+either_rec : (b : Bool) (o p : Owned) → p.rec ≡ o.rec → (if b then p else o).rec ≡ o.rec
+either_rec true o p e = e
+either_rec false o p e = refl
+
+hold_at : (r : Rec) (h : Holding) → IsAt r (map (hold_as r h))
+hold_at r h = map_at r (hold_as r h) (λ o. either_rec (same_rec o.rec r) o (record o { holding = h }) refl) (λ o e. rw e refl)
+
+fill_at : (r : Rec) (offset w : ℕ) → IsAt r (map (fill_in r offset w))
+fill_at r offset w = map_at r (fill_in r offset w) (λ o. either_rec (same_rec o.rec r) o (record o { words = set o.words (offset - 1) w }) refl) (λ o e. rw e refl)
+
+drop_at : (r : Rec) → IsAt r (without_record r)
+drop_at r = record { each = λ i own. filter_swapped (λ (o : Owned). same_rec i o.rec) (λ (o : Owned). not (same_rec o.rec r)) own; others = λ i words. leaves i words }
   where
-    stays : (l : Locked) → IsLocked q c l → IsLocked q (with_fate c r f) l
-    stays l (a, b, t, e) = (a, b, (t.0, linked (cases_Bool (same_rec (a_node l.node) r))), e)
-      where
-        linked : ((same_rec (a_node l.node) r ≡ true) ⊎ (same_rec (a_node l.node) r ≡ false)) → (if same_rec (a_node l.node) r then f else c.fate (a_node l.node)) ≡ InTree t.0
-        linked (inl x) = absurd (n t.0 (subst (λ z. c.fate z ≡ InTree t.0) (same_rec_true (a_node l.node) r x) t.1))
-        linked (inr x) = rw x t.1
+    leaves : (i : Rec) (words : List ℕ) (g : Option Holding) → same_rec i r ≡ false → without_record r (owned i words g) ≡ owned i words g
+    leaves i words None e = refl
+    leaves i words (Some g) e = rw e refl
 
-mapped : {X : Type 0} (g : X → X) (P Q : X → Type 0) (xs : List X) → ((x : X) → P x → Q (g x)) → All P xs → All Q (map g xs)
-mapped g P Q xs f h = All-map Q g xs (All-weaker P (λ x. Q (g x)) f xs h)
+dropped : (r : Rec) (words : List ℕ) (g : Option Holding) → without_record r (owned r words g) ≡ []
+dropped r words None = refl
+dropped r words (Some g) = rw (same_rec_refl r) refl
 
-not_true : (b : Bool) → not b ≡ true → b ≡ false
-not_true false e = refl
-not_true true e = absurd (false≢true e)
+module _ (c : Core) (k : Known) (h : Knows c k) where
+  -- what the pass has of a record
+  had : (i : Rec) → owned i (c.words i) (holding_of k.pass (c.fate i)) ≡ of_record i k.own
+  had i = ap (λ (z : Share). z.own i) h.own
 
--- the record whose fate changes, and every other one
-fate_here : (c : Core) (r i : Rec) (f : Fate) → same_rec i r ≡ true → (with_fate c r f).fate i ≡ f
-fate_here c r i f e = rw e refl
+  has_then : (r : Rec) (change : List Owned → List Owned) → IsAt r change → (i : Rec) → change (owned i (c.words i) (holding_of k.pass (c.fate i))) ≡ of_record i (change k.own)
+  has_then r change at i = ap change (had i) ∙ sym (at.each i k.own)
 
-fate_there : (c : Core) (r i : Rec) (f : Fate) → same_rec i r ≡ false → (with_fate c r f).fate i ≡ c.fate i
-fate_there c r i f e = rw e refl
+  -- the fate of one record, which is not in the tree
+  fate_learns : (r : Rec) (f : Fate) (own : List Owned) → is_in_tree (c.fate r) ≡ false → is_in_tree f ≡ false →
+      owned r (c.words r) (holding_of k.pass f) ≡ of_record r own → ((i : Rec) → same_rec i r ≡ false → owned i (c.words i) (holding_of k.pass (c.fate i)) ≡ of_record i own) →
+      IsTrue (with_fate c r f) (record k { own = own })
+  fate_learns r f own before after here there = record {
+    pass = h.pass;
+    seen = h.seen;
+    own = λ i. record (h.own i) {
+      own = λ s. at_record (λ s x. owned s (c.words s) (holding_of k.pass x) ≡ of_record s own) r f c.fate here there s i;
+      locks = λ n. (fate_locks c k.pass r f before after n ∙ ap (λ (z : Share). z.locks n) h.own) i;
+    };
+  }
 
-held_is : (c : Core) (q : ℕ) (r : Rec) (f : Fate) (h : Holding) (own : List Owned) → f ≡ fate_of q h → All (IsOwned q c) own → All (IsOwned q (with_fate c r f)) (map (hold_as r h) own)
-held_is c q r f h own e = mapped (hold_as r h) (IsOwned q c) (IsOwned q (with_fate c r f)) own one
-  where
-    one : (o : Owned) → IsOwned q c o → IsOwned q (with_fate c r f) (hold_as r h o)
-    one o (a, b, w) = go (cases_Bool (same_rec o.rec r))
-      where
-        go : ((same_rec o.rec r ≡ true) ⊎ (same_rec o.rec r ≡ false)) → IsOwned q (with_fate c r f) (hold_as r h o)
-        go (inl x) = rw x (a, rw x e, w)
-        go (inr x) = rw x (a, rw x b, w)
+  changes : (r : Rec) (g f : Fate) (change : List Owned → List Owned) → IsAt r change → c.fate r ≡ g → is_in_tree g ≡ false → is_in_tree f ≡ false →
+      change (owned r (c.words r) (holding_of k.pass g)) ≡ owned r (c.words r) (holding_of k.pass f) → IsTrue (with_fate c r f) (record k { own = change k.own })
+  changes r g f change at is before after e = fate_learns r f (change k.own) (ap is_in_tree is ∙ before) after
+      (sym e ∙ (ap (λ z. change (owned r (c.words r) (holding_of k.pass z))) (sym is) ∙ has_then r change at r))
+      (λ i o. sym (at.others i (c.words i) (holding_of k.pass (c.fate i)) o) ∙ has_then r change at i)
 
-let_go : (c : Core) (q : ℕ) (r : Rec) (f : Fate) (own : List Owned) → All (IsOwned q c) own → All (IsOwned q (with_fate c r f)) (without_record r own)
-let_go c q r f own = passing (λ o. not (same_rec o.rec r)) (IsOwned q c) (IsOwned q (with_fate c r f)) own
-    (λ o p h. (h.0, fate_there c r o.rec f (not_true (same_rec o.rec r) p) ∙ h.1, h.2))
+  claim_learns : (r : Rec) (found : ℕ) (f : Fate) → c.fate r ≡ f → IsTrue (claimed c k.pass r f) (claim_learned c r found f k)
+  claim_learns r found Free e = fate_learns r (HeldBy k.pass) _ (ap is_in_tree e) refl
+      (rw (by_itself k.pass, same_rec_refl r) (ap (λ (z : List Owned). record { rec = r; holding = Held; words = c.words r } ∷ z) (ap (λ f. owned r (c.words r) (holding_of k.pass f)) (sym e) ∙ had r)))
+      (λ i o. rw o (had i))
+  claim_learns r found _ e = with_failed c k (word_of r 0) found h
 
-with_fate_own : (c : Core) (k : Known) (r : Rec) (f : Fate) (own : List Owned) → Knows c k → ((since : ℕ) → c.fate r ≡ InTree since → ⊥) →
-    All (IsOwned k.pass (with_fate c r f)) own → Knows (with_fate c r f) (record k { own = own })
-with_fate_own c k r f own h n o = with_own c (with_fate c r f) k own h refl refl refl refl refl refl refl (locks_stay c k.pass r f k.locks n h.locks) o
+  fill_learns : (r : Rec) (offset w : ℕ) → c.fate r ≡ HeldBy k.pass → IsTrue (record c { words = with_word c.words r offset w }) (record k { own = map (fill_in r offset w) k.own })
+  fill_learns r offset w e = record {
+    pass = h.pass;
+    seen = h.seen;
+    own = λ i. record (h.own i) {
+      own = λ s. at_record (λ s x. owned s x (holding_of k.pass (c.fate s)) ≡ of_record s (map (fill_in r offset w) k.own)) r (set (c.words r) (offset - 1) w) c.words
+          (sym filled ∙ has_then r (map (fill_in r offset w)) (fill_at r offset w) r)
+          (λ i o. sym ((fill_at r offset w).others i (c.words i) (holding_of k.pass (c.fate i)) o) ∙ has_then r (map (fill_in r offset w)) (fill_at r offset w) i) s i;
+      locks = λ n. (word_locks c k.pass r offset w (ap is_in_tree e) n ∙ ap (λ (z : Share). z.locks n) h.own) i;
+    };
+  }
+    where
+      filled : map (fill_in r offset w) (owned r (c.words r) (holding_of k.pass (c.fate r))) ≡ owned r (set (c.words r) (offset - 1) w) (holding_of k.pass (c.fate r))
+      filled = rw (e, by_itself k.pass, same_rec_refl r) refl
 
--- Locks
+  -- The lock of a node
 
-with_locks : (c d : Core) (k : Known) (locks : List Locked) → Knows c k → d.layout ≡ c.layout → d.past ≡ c.past → d.changes ≡ c.changes → d.anchor ≡ c.anchor → d.root ≡ c.root →
-    d.pins k.pass ≡ c.pins k.pass → d.rounds k.pass ≡ c.rounds k.pass → All (IsOwned k.pass d) k.own → All (IsLocked k.pass d) locks → Knows d (record k { locks = locks })
-with_locks c d k locks h layout past changes anchor root pin round owned locked = record {
-  pass = subst (λ (z : Layout). k.pass < z.passes) (sym layout) h.pass;
-  front = subst (OthersGoOn k.pass k.front) (sym changes) h.front;
-  fresh = h.fresh;
-  facts = subst (λ (z : Past). All (IsFact z) k.facts) (sym past) h.facts;
-  own = owned;
-  locks = locked;
-  anchor = λ e a. let x = h.anchor e a in (anchor ∙ x.0, root ∙ x.1);
-  pin = pin ∙ h.pin;
-  round = round ∙ h.round;
-}
+  locks_learn : (n : ℕ) (o : Option ℕ) (locks : List Locked) → locked n (c.words (a_node n)) (is_in_tree (c.fate (a_node n)) && is_by k.pass o) ≡ of_node n locks →
+      ((i : ℕ) → nat_eq i n ≡ false → (share k.pass c).locks i ≡ of_node i locks) → IsTrue (with_lock c n o) (record k { locks = locks })
+  locks_learn n o locks here there = record {
+    pass = h.pass;
+    seen = h.seen;
+    own = λ i. record (h.own i) { locks = λ m. at_number (λ m x. locked m (c.words (a_node m)) (is_in_tree (c.fate (a_node m)) && is_by k.pass x) ≡ of_node m locks) n o c.lock here there m i };
+  }
 
--- what failed is known of no core
-with_failed : (c : Core) (k : Known) (location : Location) (w : ℕ) → Knows c k → Knows c (failed_with k location w)
-with_failed c k location w h = record {
-  pass = h.pass;
-  front = h.front;
-  fresh = h.fresh;
-  facts = h.facts;
-  own = h.own;
-  locks = h.locks;
-  anchor = h.anchor;
-  pin = h.pin;
-  round = h.round;
-}
+  had_lock : (n : ℕ) → (share k.pass c).locks n ≡ of_node n k.locks
+  had_lock n = ap (λ (z : Share). z.locks n) h.own
 
-claim_learns : (c : Core) (k : Known) (r : Rec) (found : ℕ) → Knows c k → HasRecord c.layout r → (f : Fate) → c.fate r ≡ f →
-    Knows (claimed c k.pass r f) (claim_learned c r found f k)
-claim_learns c k r found h has Free e =
-    with_fate_own c k r (HeldBy k.pass) _ h (λ s x. let y : Free ≡ InTree s = sym e ∙ x in cc)
-    (All-cons (IsOwned k.pass (with_fate c r (HeldBy k.pass))) (record { rec = r; holding = Held; words = c.words r }) k.own
-    (has, fate_here c r r (HeldBy k.pass) (same_rec_refl r), refl)
-    (knows_kept c (with_fate c r (HeldBy k.pass)) k (fate_frame c k.pass r (HeldBy k.pass) (λ o. subst (IsOwn k.pass) e o) (λ s x. let y : Free ≡ InTree s = sym e ∙ x in cc)) h).own)
-claim_learns c k r found h has (HeldBy p) e = with_failed c k (word_of r 0) found h
-claim_learns c k r found h has (ReadyBy p) e = with_failed c k (word_of r 0) found h
-claim_learns c k r found h has (InTree s) e = with_failed c k (word_of r 0) found h
-claim_learns c k r found h has (UnlinkedBy s l p) e = with_failed c k (word_of r 0) found h
-claim_learns c k r found h has (Marked s l p) e = with_failed c k (word_of r 0) found h
+  lock_taken : (n : ℕ) → IsInTree c n → c.lock n ≡ None → IsTrue (with_lock c n (Some k.pass)) (record k { locks = record { node = n; words = c.words (a_node n) } ∷ k.locks })
+  lock_taken n t none = locks_learn n (Some k.pass) _
+      (rw (t.1, by_itself k.pass, by_itself n) (ap (λ (z : List Locked). record { node = n; words = c.words (a_node n) } ∷ z) (rw (t.1, none) refl ∙ had_lock n)))
+      (λ i o. rw o (had_lock i))
 
-held_not_in_tree : (c : Core) (q : ℕ) (r : Rec) → c.fate r ≡ HeldBy q → (since : ℕ) → c.fate r ≡ InTree since → ⊥
-held_not_in_tree c q r e since x = let y : HeldBy q ≡ InTree since = sym e ∙ x in cc
+  lock_given : (n : ℕ) → IsTrue (with_lock c n None) (record k { locks = without_lock n k.locks })
+  lock_given n = locks_learn n None _
+      (ap (locked n (c.words (a_node n))) (and_false (is_in_tree (c.fate (a_node n)))) ∙ (sym (gone (is_in_tree (c.fate (a_node n)) && is_by k.pass (c.lock n))) ∙ through n))
+      (λ i o. sym (left i o (is_in_tree (c.fate (a_node i)) && is_by k.pass (c.lock i))) ∙ through i)
+    where
+      through : (i : ℕ) → without_lock n ((share k.pass c).locks i) ≡ of_node i (without_lock n k.locks)
+      through i = ap (without_lock n) (had_lock i) ∙ filter_swapped (λ (l : Locked). not (nat_eq l.node n)) (λ (l : Locked). nat_eq i l.node) k.locks
 
-fill_learns : (c : Core) (k : Known) (r : Rec) (offset w : ℕ) → Knows c k → c.fate r ≡ HeldBy k.pass →
-    Knows (record c { words = with_word c.words r offset w }) (record k { own = map (fill_in r offset w) k.own })
-fill_learns c k r offset w h e =
-    with_own c _ k _ h refl refl refl refl refl refl refl
-    (All-weaker (IsLocked k.pass c) (IsLocked k.pass (record c { words = with_word c.words r offset w })) locked k.locks h.locks)
-    (mapped (fill_in r offset w) (IsOwned k.pass c) (IsOwned k.pass (record c { words = with_word c.words r offset w })) k.own owned h.own)
-  where
-    locked : (l : Locked) → IsLocked k.pass c l → IsLocked k.pass (record c { words = with_word c.words r offset w }) l
-    locked l (a, b, t, x) = (a, b, t, go (cases_Bool (same_rec (a_node l.node) r)))
-      where
-        go : ((same_rec (a_node l.node) r ≡ true) ⊎ (same_rec (a_node l.node) r ≡ false)) → with_word c.words r offset w (a_node l.node) ≡ l.words
-        go (inl y) = absurd (held_not_in_tree c k.pass r e t.0 (ap c.fate (sym (same_rec_true (a_node l.node) r y)) ∙ t.1))
-        go (inr y) = rw y x
+      gone : (b : Bool) → without_lock n (locked n (c.words (a_node n)) b) ≡ []
+      gone true = rw (by_itself n) refl
+      gone false = refl
 
-    owned : (o : Owned) → IsOwned k.pass c o → IsOwned k.pass (record c { words = with_word c.words r offset w }) (fill_in r offset w o)
-    owned o (a, b, x) = go (cases_Bool (same_rec o.rec r))
-      where
-        go : ((same_rec o.rec r ≡ true) ⊎ (same_rec o.rec r ≡ false)) → IsOwned k.pass (record c { words = with_word c.words r offset w }) (fill_in r offset w o)
-        go (inl y) = rw y (a, b, rw y (ap (λ (z : List ℕ). set z (offset - 1) w) (ap c.words (sym (same_rec_true o.rec r y)) ∙ x)))
-        go (inr y) = rw y (a, b, rw y x)
+      left : (i : ℕ) → nat_eq i n ≡ false → (b : Bool) → without_lock n (locked i (c.words (a_node i)) b) ≡ locked i (c.words (a_node i)) b
+      left i o true = rw o refl
+      left i o false = refl
 
--- a record that is not in the tree is locked no more
-unlocked_learns : (c : Core) (k : Known) (r : Rec) → Knows c k → ((n : ℕ) → a_node n ≡ r → ¬ (IsInTree c n)) → Knows (unlocked c r) k
-unlocked_learns c k r h out = with_locks c (unlocked c r) k k.locks h refl refl refl refl refl refl refl h.own (All-weaker (IsLocked k.pass c) (IsLocked k.pass (unlocked c r)) stays k.locks h.locks)
-  where
-    stays : (l : Locked) → IsLocked k.pass c l → IsLocked k.pass (unlocked c r) l
-    stays l (a, b, t, e) = (a, go (cases_Bool (same_rec (a_node l.node) r)), t, e)
-      where
-        go : ((same_rec (a_node l.node) r ≡ true) ⊎ (same_rec (a_node l.node) r ≡ false)) → (if same_rec (a_node l.node) r then None else c.lock l.node) ≡ Some k.pass
-        go (inl x) = absurd (out l.node (same_rec_true (a_node l.node) r x) t)
-        go (inr x) = rw x b
+  -- The anchor, the pin, the round
 
-lock_taken : (c : Core) (k : Known) (n : ℕ) → Knows c k → n < c.layout.nodes → IsInTree c n →
-    Knows (with_lock c n (Some k.pass)) (record k { locks = record { node = n; words = c.words (a_node n) } ∷ k.locks })
-lock_taken c k n h low t =
-    with_locks c d k _ h refl refl refl refl refl refl refl h.own
-    (All-cons (IsLocked k.pass d) (record { node = n; words = c.words (a_node n) }) k.locks (low, rw (eq-eqb n n refl) refl, t, refl)
-    (All-weaker (IsLocked k.pass c) (IsLocked k.pass d) stays k.locks h.locks))
-  where
-    d : Core
-    d = with_lock c n (Some k.pass)
+  anchor_learns : (found : ℕ) (o : Option ℕ) → c.anchor ≡ o → IsTrue (anchored c k.pass o) (anchor_learned c found o k)
+  anchor_learns found None e = record { pass = h.pass; seen = h.seen; own = λ i. record (h.own i) { anchor = ap (anchored_at c.root) (by_itself k.pass) i } }
+  anchor_learns found (Some p) e = with_failed c k (target_word Anchor) found h
 
-    stays : (l : Locked) → IsLocked k.pass c l → IsLocked k.pass (with_lock c n (Some k.pass)) l
-    stays l (a, b, t, e) = (a, go (cases_Bool (eqb l.node n)), t, e)
-      where
-        go : ((eqb l.node n ≡ true) ⊎ (eqb l.node n ≡ false)) → (if nat_eq l.node n then Some k.pass else c.lock l.node) ≡ Some k.pass
-        go (inl x) = rw x refl
-        go (inr x) = rw x b
+  anchor_given : IsTrue (record c { anchor = None }) (record k { anchor = None })
+  anchor_given = record { pass = h.pass; seen = h.seen; own = λ i. record (h.own i) { anchor = None } }
 
-lock_given : (c : Core) (k : Known) (n : ℕ) → Knows c k → Knows (with_lock c n None) (record k { locks = without_lock n k.locks })
-lock_given c k n h =
-    with_locks c (with_lock c n None) k _ h refl refl refl refl refl refl refl h.own
-    (passing (λ l. not (nat_eq l.node n)) (IsLocked k.pass c) (IsLocked k.pass (with_lock c n None)) k.locks stays h.locks)
-  where
-    stays : (l : Locked) → not (nat_eq l.node n) ≡ true → IsLocked k.pass c l → IsLocked k.pass (with_lock c n None) l
-    stays l p (a, b, t, e) = (a, rw (not_true (nat_eq l.node n) p) b, t, e)
+  pin_learns : (o : Option Pin) → IsTrue (with_pin c k.pass o) (record k { pin = o })
+  pin_learns o = record { pass = h.pass; seen = h.seen; own = λ i. record (h.own i) { pin = ap (λ b. if b then o else c.pins k.pass) (by_itself k.pass) i } }
 
--- The anchor, the pin, the round
-
-anchor_learns : (c : Core) (k : Known) (found : ℕ) → Knows c k → (o : Option ℕ) → c.anchor ≡ o →
-    Knows (anchored c k.pass o) (anchor_learned c found o k)
-anchor_learns c k found h None e = record {
-  pass = h.pass;
-  front = h.front;
-  fresh = h.fresh;
-  facts = h.facts;
-  own = h.own;
-  locks = h.locks;
-  anchor = λ x a. (refl, let y : Some c.root ≡ Some x = a in cc);
-  pin = h.pin;
-  round = h.round;
-}
-anchor_learns c k found h (Some p) e = with_failed c k (target_word Anchor) found h
-
-anchor_given : (c : Core) (k : Known) → Knows c k → Knows (record c { anchor = None }) (record k { anchor = None })
-anchor_given c k h = record {
-  pass = h.pass;
-  front = h.front;
-  fresh = h.fresh;
-  facts = h.facts;
-  own = h.own;
-  locks = h.locks;
-  anchor = λ x a. absurd (let y : None ≡ Some x = a in cc);
-  pin = h.pin;
-  round = h.round;
-}
-
-pin_learns : (c : Core) (k : Known) (o : Option Pin) → Knows c k → Knows (with_pin c k.pass o) (record k { pin = o })
-pin_learns c k o h = record {
-  pass = h.pass;
-  front = h.front;
-  fresh = h.fresh;
-  facts = h.facts;
-  own = h.own;
-  locks = h.locks;
-  anchor = h.anchor;
-  pin = rw (eq-eqb k.pass k.pass refl) refl;
-  round = h.round;
-}
-
-round_learns : (c : Core) (k : Known) (p o : Round) → p ≡ o → Knows c k → Knows (with_round c k.pass p) (record k { round = o })
-round_learns c k p o e h = record {
-  pass = h.pass;
-  front = h.front;
-  fresh = h.fresh;
-  facts = h.facts;
-  own = h.own;
-  locks = h.locks;
-  anchor = h.anchor;
-  pin = h.pin;
-  round = rw (eq-eqb k.pass k.pass refl) e;
-}
+  round_learns : (p o : Round) → p ≡ o → IsTrue (with_round c k.pass p) (record k { round = o })
+  round_learns p o e = record { pass = h.pass; seen = h.seen; own = λ i. record (h.own i) { round = (ap (λ b. if b then p else c.rounds k.pass) (by_itself k.pass) ∙ e) i } }
 
 -- Mark: the record is not the pass's any more, and a node is unlocked
 mark_learns : (c : Core) (k : Known) (r : Rec) (epoch since last : ℕ) → Knows c k → c.fate r ≡ UnlinkedBy since last k.pass →
-    Knows (marked c r epoch (c.fate r)) (record k { own = without_record r k.own })
-mark_learns c k r epoch since last h e = subst (λ f. Knows (marked c r epoch f) (record k { own = without_record r k.own })) (sym e)
-    (with_fate_own d k r (Marked since last epoch) _ (unlocked_learns c k r h (λ n x t. out t.0 (sym (ap c.fate x) ∙ t.1))) out (let_go d k.pass r (Marked since last epoch) k.own h.own))
-  where
-    d : Core
-    d = unlocked c r
+    IsTrue (marked c r epoch (c.fate r)) (record k { own = without_record r k.own })
+mark_learns c k r epoch since last h e = subst (λ f. IsTrue (marked c r epoch f) (record k { own = without_record r k.own })) (sym e)
+    (changes (unlocked c r) k (record { pass = h.pass; loaded = h.loaded; seen = h.seen; own = same_unlocked c k.pass r (ap is_in_tree e) ∙ h.own })
+    r (UnlinkedBy since last k.pass) (Marked since last epoch) (without_record r) (drop_at r) e refl refl (dropped r (c.words r) (holding_of k.pass (UnlinkedBy since last k.pass))))
 
-    out : (s : ℕ) → c.fate r ≡ InTree s → ⊥
-    out s x = let y : UnlinkedBy since last k.pass ≡ InTree s = sym e ∙ x in cc
+-- Publish
+module _ (c : Core) (k : Known) (spot : Spot) (w : ℕ) (law : IsLawful c) (h : Knows c k) (l : IsLegalPublish c k.pass spot w) where
+  abbrev gone : Rec → Bool
+  gone r = not (is_linked (next_tree c spot w) r)
+
+  abbrev left : Owned → Bool
+  left o = not (is_linked (next_tree c spot w) o.rec)
+
+  abbrev unlinked : Rec → Owned
+  unlinked r = unlinked_as c r (c.fate r)
+
+  -- what the pass has of a record then
+  listed : (r : Rec) → of_record r (own_after c (next_tree c spot w) k.own) ≡ map unlinked (filter gone (once r (is_in_tree (c.fate r)))) ++ filter left (owned r (c.words r) (holding_of k.pass (c.fate r)))
+  listed r = filter-append (λ o. same_rec r o.rec) (map unlinked (filter gone (records_in (c.past.moment c.past.now)))) (filter left k.own) ∙ (λ i. come i ++ stay i)
+    where
+      rec_is : (i : Rec) (f : Fate) → (unlinked_as c i f).rec ≡ i
+      rec_is i (InTree s) = refl
+      rec_is i _ = refl
+
+      come : of_record r (map unlinked (filter gone (records_in (c.past.moment c.past.now)))) ≡ map unlinked (filter gone (once r (is_in_tree (c.fate r))))
+      come = filter_mapped (λ o. same_rec r o.rec) (same_rec r) unlinked (λ i. ap (same_rec r) (rec_is i (c.fate i))) (filter gone (records_in (c.past.moment c.past.now))) ∙
+          ap (map unlinked) (filter_swapped (same_rec r) gone (records_in (c.past.moment c.past.now)) ∙ ap (filter gone) (listed_once c law r))
+
+      stay : of_record r (filter left k.own) ≡ filter left (owned r (c.words r) (holding_of k.pass (c.fate r)))
+      stay = filter_swapped (λ (o : Owned). same_rec r o.rec) left k.own ∙ ap (filter left) (sym (had c k h r))
+
+  own_then : (r : Rec) → owned r (stored_words c spot w r) (holding_of k.pass (next_fate c.past.now k.pass (is_linked (next_tree c spot w) r) (c.fate r))) ≡
+      map unlinked (filter gone (once r (is_in_tree (c.fate r)))) ++ filter left (owned r (c.words r) (holding_of k.pass (c.fate r)))
+  own_then r = go (linking c k.pass spot w law l r)
+    where
+      kept : is_linked (next_tree c spot w) r ≡ false → (g : Option Holding) → owned r (c.words r) g ≡ filter left (owned r (c.words r) g)
+      kept e None = refl
+      kept e (Some g) = rw e refl
+
+      unlinks : is_linked (next_tree c spot w) r ≡ false → (f : Fate) → c.fate r ≡ f → owned r (c.words r) (holding_of k.pass (next_fate c.past.now k.pass false f)) ≡
+          map unlinked (filter gone (once r (is_in_tree f))) ++ filter left (owned r (c.words r) (holding_of k.pass f))
+      unlinks e (InTree s) f = rw (e, f, by_itself k.pass) refl
+      unlinks e Free f = refl
+      unlinks e (HeldBy p) f = kept e (holding_of k.pass (HeldBy p))
+      unlinks e (ReadyBy p) f = kept e (holding_of k.pass (ReadyBy p))
+      unlinks e (UnlinkedBy s n p) f = kept e (holding_of k.pass (UnlinkedBy s n p))
+      unlinks e (Marked s n p) f = refl
+
+      go : Linking c k.pass spot w law l r → owned r (stored_words c spot w r) (holding_of k.pass (next_fate c.past.now k.pass (is_linked (next_tree c spot w) r) (c.fate r))) ≡
+          map unlinked (filter gone (once r (is_in_tree (c.fate r)))) ++ filter left (owned r (c.words r) (holding_of k.pass (c.fate r)))
+      go (stays s f e) = rw (f, e) refl
+      go (comes f e) = rw (f, by_itself k.pass, e) refl
+      go (out n e same) = ap (λ z. owned r z (holding_of k.pass (next_fate c.past.now k.pass (is_linked (next_tree c spot w) r) (c.fate r)))) same ∙
+          (ap (λ b. owned r (c.words r) (holding_of k.pass (next_fate c.past.now k.pass b (c.fate r)))) e ∙ unlinks e (c.fate r) refl)
+
+  -- and of a node's lock
+  locks_then : (n : ℕ) → locked n (stored_words c spot w (a_node n)) (is_in_tree (next_fate c.past.now k.pass (is_linked (next_tree c spot w) (a_node n)) (c.fate (a_node n))) && is_by k.pass (c.lock n)) ≡
+      of_node n (locks_after (stored_words c spot w) (next_tree c spot w) k.locks)
+  locks_then n = go (cases_Bool (is_by k.pass (c.lock n))) ∙ sym through
+    where
+      linked : Locked → Bool
+      linked x = is_linked (next_tree c spot w) (a_node x.node)
+
+      words : Locked → Locked
+      words = relocked (stored_words c spot w)
+
+      through : of_node n (locks_after (stored_words c spot w) (next_tree c spot w) k.locks) ≡ map words (filter linked (locked n (c.words (a_node n)) (is_in_tree (c.fate (a_node n)) && is_by k.pass (c.lock n))))
+      through = filter_mapped (λ (x : Locked). nat_eq n x.node) (λ (x : Locked). nat_eq n x.node) words (λ x. refl) (filter linked k.locks) ∙
+          ap (map words) (filter_swapped (λ (x : Locked). nat_eq n x.node) linked k.locks ∙ ap (filter linked) (sym (had_lock c k h n)))
+
+      lockable : (f : Fate) → MayLock k.pass f → (b : Bool) → is_linked (next_tree c spot w) (a_node n) ≡ b →
+          locked n (stored_words c spot w (a_node n)) (is_in_tree (next_fate c.past.now k.pass b f) && true) ≡ map words (filter linked (locked n (c.words (a_node n)) (is_in_tree f && true)))
+      lockable (InTree s) m true e = rw e refl
+      lockable (InTree s) m false e = rw e refl
+      lockable (UnlinkedBy s f p) m true e = refl
+      lockable (UnlinkedBy s f p) m false e = refl
+      lockable _ m b e = absurd m
+
+      go : ((is_by k.pass (c.lock n) ≡ true) ⊎ (is_by k.pass (c.lock n) ≡ false)) →
+          locked n (stored_words c spot w (a_node n)) (is_in_tree (next_fate c.past.now k.pass (is_linked (next_tree c spot w) (a_node n)) (c.fate (a_node n))) && is_by k.pass (c.lock n)) ≡
+          map words (filter linked (locked n (c.words (a_node n)) (is_in_tree (c.fate (a_node n)) && is_by k.pass (c.lock n))))
+      go (inl e) = rw e (lockable (c.fate (a_node n)) (law.core.locked n k.pass (is_by_true k.pass (c.lock n) e)) (is_linked (next_tree c spot w) (a_node n)) refl)
+      go (inr e) = rw (e, and_false (is_in_tree (c.fate (a_node n))), and_false (is_in_tree (next_fate c.past.now k.pass (is_linked (next_tree c spot w) (a_node n)) (c.fate (a_node n))))) refl
+
+  anchor_then : (s : Spot) → IsLockedAt c k.pass s → anchored_at (stored_root c s w) (is_by k.pass c.anchor) ≡ anchor_after s (stored_root c s w) k.anchor
+  anchor_then Root a = rw (a, by_itself k.pass) refl
+  anchor_then (Slot n j) a = ap (λ (z : Share). z.anchor) h.own
+
+  publish_learns : IsTrue (after c k.pass (Publish spot w)) (publish_learned c spot w k)
+  publish_learns = record {
+    pass = h.pass;
+    seen = record {
+      front = ([], sym (append-nil _), All-from_recursion (λ z. z.pass ≢ k.pass) [] tt);
+      fresh = longer h.seen.front h.seen.fresh;
+      facts = All-weaker (IsFact c.past) (IsFact _) (fact_grown c.past _ (record { longer = omega arith; kept = λ i b. moment_old c.past.moment (suc c.past.now) (next_tree c spot w) i (omega arith) })) k.facts h.seen.facts;
+    };
+    own = λ i. record (h.own i) { own = λ r. (own_then r ∙ sym (listed r)) i; locks = λ n. locks_then n i; anchor = anchor_then spot l.locked i };
+  }
+    where
+      x : List Change
+      x = next_change c k.pass spot w ∷ []
+
+      longer : OthersGoOn k.pass k.front c.changes → BeginsWith k.front k.fresh.front → BeginsWith (c.changes ++ next_change c k.pass spot w ∷ []) k.fresh.front
+      longer (more, e, o) (rest, f) = (
+        rest ++ (more ++ x),
+        ap (λ (z : List Change). z ++ x) e ∙
+            (append_assoc k.front more x ∙ (ap (λ (z : List Change). z ++ (more ++ x)) f ∙ append_assoc k.fresh.front rest (more ++ x))),
+      )
 
 -- What the pass knows after a step, before the step is counted.
-pub learns_by : (c : Core) (k : Known) (act : Act) → IsLawful c → Knows c k → Legal c k.pass act → Knows (after c k.pass act) (learned_by c act k)
-learns_by c k (Claim r found) law h (a, b) = claim_learns c k r found h b.0 (c.fate r) refl
-learns_by c k (Fill r offset w) law h (a, b) = fill_learns c k r offset w h b.1
-learns_by c k (Ready r) law h (a, b) =
-    with_fate_own c k r (ReadyBy k.pass) _ h (held_not_in_tree c k.pass r b.1) (held_is c k.pass r (ReadyBy k.pass) IsReady k.own refl h.own)
-learns_by c k (Release r) law h (a, b) = with_fate_own c k r Free _ h (held_not_in_tree c k.pass r b.1) (let_go c k.pass r Free k.own h.own)
+learns_by : (c : Core) (k : Known) (act : Act) → IsLawful c → Knows c k → Legal c k.pass act → IsTrue (after c k.pass act) (learned_by c act k)
+learns_by c k (Claim r found) law h (a, b) = claim_learns c k h r found (c.fate r) refl
+learns_by c k (Fill r offset w) law h (a, b) = fill_learns c k h r offset w b.1
+learns_by c k (Ready r) law h (a, b) = changes c k h r (HeldBy k.pass) (ReadyBy k.pass) (map (hold_as r IsReady)) (hold_at r IsReady) b.1 refl refl (rw (by_itself k.pass, same_rec_refl r) refl)
+learns_by c k (Release r) law h (a, b) = changes c k h r (HeldBy k.pass) Free (without_record r) (drop_at r) b.1 refl refl (dropped r (c.words r) (holding_of k.pass (HeldBy k.pass)))
 learns_by c k (LoadRef Root w) law h l = root_learned c k law h
 learns_by c k (LoadRef (Slot n j) w) law h (a, b) = fact_learned c k (λ since. Placed since c.past.now n j (entry_of (record_word c (a_node n) (26 + j)))) law h (λ since r lo. slot_fact c law since r n j b.1)
 learns_by c k (LoadFixed r offset w) law h (a, b) = fact_learned c k (λ since. Fixed since c.past.now r offset w) law h (λ since x lo. subst (λ z. IsFact c.past (Fixed since c.past.now r offset z)) (sym b.2) (fixed_fact c law since x r offset b.1))
-learns_by c k (Lock Anchor found) law h l = anchor_learns c k found h c.anchor refl
+learns_by c k (Lock Anchor found) law h l = anchor_learns c k h found c.anchor refl
 learns_by c k (Lock (NodeTarget n) found) law h (a, b) = go (cases_Bool (eqb found 2))
   where
-    go : ((eqb found 2 ≡ true) ⊎ (eqb found 2 ≡ false)) → Knows (after c k.pass (Lock (NodeTarget n) found)) (node_learned c n found k)
-    go (inl e) = rw e (lock_taken c k n h b.0 (b.2 (eqb-true found 2 e)))
+    go : ((eqb found 2 ≡ true) ⊎ (eqb found 2 ≡ false)) → IsTrue (after c k.pass (Lock (NodeTarget n) found)) (node_learned c n found k)
+    go (inl e) = rw e (lock_taken c k h n (b.2 (eqb-true found 2 e)) (unlocked_node c law n (sym b.1 ∙ eqb-true found 2 e)))
     go (inr e) = rw e (with_failed c k (target_word (NodeTarget n)) found h)
 learns_by c k (Unlock Anchor) law h l = anchor_given c k h
-learns_by c k (Unlock (NodeTarget n)) law h l = lock_given c k n h
+learns_by c k (Unlock (NodeTarget n)) law h l = lock_given c k h n
 learns_by c k (Publish spot w) law h (a, b) = publish_learns c k spot w law h b
 learns_by c k (Mark r epoch) law h (a, b) = mark_learns c k r epoch b.2.0 b.2.1 h b.2.2
-learns_by c k (LoadEpoch w) law h l = round_learns c k _ _ refl h
-learns_by c k (Advance expected found) law h l = knows_kept c _ k (advance_frame c k.pass expected) h
-learns_by c k (SetPin w) law h l = pin_learns c k _ h
-learns_by c k ClearPin law h l = pin_learns c k None h
-learns_by c k (LoadPin o w) law h l = round_learns c k _ _ (ap (λ (z : Round). let x : Round = record { epoch = z.epoch; moment = z.moment; bound = lowered z.bound (c.pins o); seen = o ∷ z.seen } in x) h.round) h
-learns_by c k (LoadState r w) law h l = h
-learns_by c k (GiveBack r epoch found) law h l = knows_kept c _ k (give_back_frame c k.pass r epoch (c.fate r) refl) h
+learns_by c k (LoadEpoch w) law h l = round_learns c k h _ _ refl
+learns_by c k (Advance expected found) law h l = is_true (knows_kept c _ k (advance_frame c k.pass expected) h)
+learns_by c k (SetPin w) law h l = pin_learns c k h _
+learns_by c k ClearPin law h l = pin_learns c k h None
+learns_by c k (LoadPin o w) law h l = round_learns c k h _ _ (ap (λ (s : Share). let z = s.round in let x : Round = record { epoch = z.epoch; moment = z.moment; bound = lowered z.bound (c.pins o); seen = o ∷ z.seen } in x) h.own)
+learns_by c k (LoadState r w) law h l = is_true h
+learns_by c k (GiveBack r epoch found) law h l = is_true (knows_kept c _ k (give_back_frame c k.pass r epoch (c.fate r) refl) h)
+
+-- Its last load of the root was one of its steps.
+module _ (c : Core) (k : Known) (h : k.fresh.step < k.steps) where
+  claim_loaded : (r : Rec) (found : ℕ) (f : Fate) → (claim_learned c r found f k).fresh.step < k.steps + 1
+  claim_loaded r found Free = omega arith
+  claim_loaded r found _ = omega arith
+
+  anchor_loaded : (found : ℕ) (o : Option ℕ) → (anchor_learned c found o k).fresh.step < k.steps + 1
+  anchor_loaded found None = omega arith
+  anchor_loaded found (Some p) = omega arith
+
+  either_loaded : (b : Bool) (i j : Known) → i.fresh.step < k.steps + 1 → j.fresh.step < k.steps + 1 → (if b then i else j).fresh.step < k.steps + 1
+  either_loaded true i j x y = x
+  either_loaded false i j x y = y
+
+  loaded_by : (act : Act) → (learned_by c act k).fresh.step < k.steps + 1
+  loaded_by (Claim r found) = claim_loaded r found (c.fate r)
+  loaded_by (Lock Anchor found) = anchor_loaded found c.anchor
+  loaded_by (Lock (NodeTarget n) found) = either_loaded (nat_eq found 2) _ _ (omega arith) (omega arith)
+  loaded_by (LoadRef Root w) = omega arith
+  loaded_by (LoadRef (Slot n j) w) = omega arith
+  loaded_by (Unlock Anchor) = omega arith
+  loaded_by (Unlock (NodeTarget n)) = omega arith
+  loaded_by _ = omega arith
 
 -- What a pass knows after its own step is true.
 pub learns : (c : Core) (k : Known) (act : Act) → IsLawful c → Knows c k → Legal c k.pass act → Knows (after c k.pass act) (learned c act k)
-learns c k act law h l = counted (after c k.pass act) (learned_by c act k) (k.steps + 1) (learns_by c k act law h l)
+learns c k act law h l = let t = learns_by c k act law h l in record { pass = t.pass; loaded = loaded_by c k h.loaded act; seen = t.seen; own = t.own }

@@ -82,7 +82,7 @@ opening_is_lawful layout = (
     makers = All-from_recursion (λ (x : Change). x.pass < layout.passes) [] tt;
   },
   opening_shows layout,
-  λ q low. record { changes = All-from_recursion (λ (x : Change). x.pass ≢ q) [] tt; pin = refl; round = refl },
+  λ q low. record { changes = All-from_recursion (λ (x : Change). x.pass ≢ q) [] tt; own = refl },
 )
 
 -- Records in reach

@@ -1,36 +1,42 @@
--- A legal publish stores to a record that is linked then, and what it teaches its pass.
-use Rattle.std.proofs.Common.{◌≡◌, ◌≢◌, ◌⊎◌, inl, inr, ℕ, suc, ◌+◌, ◌-◌, ◌<◌, ◌≤◌, List, [], ◌∷◌, ◌++◌, length, Bool, true, false, if◌then◌else◌, nat_eq, eqb, Option, Some, None, refl, sym, ap, ◌∙◌, subst, arith, le_refl, append_assoc}
-use Rattle.std.specs.Prelude.{All, not}
+-- A legal publish stores to a record that is linked then; and what it makes of what another pass has.
+use Rattle.std.proofs.Common.{◌≡◌, ◌≢◌, ◌⊎◌, inl, inr, ℕ, suc, ◌<◌, ◌&&◌, ◌||◌, List, [], ◌∷◌, ◌++◌, length, Bool, true, false, Option, Some, None, refl, sym, ap, ◌∙◌, subst, arith, le_refl}
+use Rattle.std.specs.Prelude.{filter}
 use Rattle.std.proofs.lemmas.Bool.{eq-eqb, cases_Bool, false≢true}
-use Rattle.std.proofs.lemmas.List.Elements.{All-append, All-weaker, All-map, All-from_recursion}
-use Rattle.hot_model.specs.declared.Change.{Change}
+use Rattle.std.proofs.lemmas.List.Elements.{filter-append}
 use Rattle.hot_model.specs.declared.Kind.TheVariants.{Removed}
-use Rattle.hot_model.specs.Fronts.{BeginsWith, OthersGoOn}
 use Rattle.compound_node.specs.declared.entries.Entry.{Entry}
-use Rattle.tries.specs.Tree.{Tree, leaf, node, fork}
-use Rattle.tries.specs.Content.{Item, IsMore, added, behind}
+use Rattle.compound_node.specs.declared.entries.Entry.TheVariants.{Leaf, Node}
+use Rattle.pieces.specs.Piece.{Place}
+use Rattle.tries.specs.Tree.{Tree, leaf, node, fork, page, Has, IsTrie, IsBuilt, IsLower}
+use Rattle.tries.specs.Content.{Item, IsMore, added, behind, first}
+use Rattle.tries.proofs.Contents.{within_has}
+use Rattle.tries.proofs.Tries.{has_first}
 use Rattle.moments.specs.declared.Rec.{Rec}
 use Rattle.moments.specs.declared.Rec.TheVariants.{Node as a_node, Leaf as a_leaf}
-use Rattle.moments.specs.Heap.{Heap}
-use Rattle.moments.specs.State.{Past, Stands, IsTop, IsLinked, Links, Spans, with_moment}
-use Rattle.moments.specs.Core.{Fate, Free, Held, Ready as ReadyBy, InTree, Unlinked as UnlinkedBy, Marked, IsOwn, life_of}
-use Rattle.moments.specs.Steps.{same_rec, is_linked}
+use Rattle.moments.specs.Heap.{Heap, NodeWords, IsShown}
+use Rattle.moments.specs.State.{IsRecord, IsLived, IsTop, IsLinked, Links, Spans}
+use Rattle.moments.specs.Core.{Fate, Free, Held, Ready as ReadyBy, InTree, Unlinked as UnlinkedBy, Marked, life_of}
+use Rattle.moments.specs.Steps.{same_rec, links, is_linked, next_fate, MayLock}
 use Rattle.moments.specs.Told.{items_of, item_of, IsChanged, IsChange}
-use Rattle.moments.proofs.Publish.{moment_old, links_within}
+use Rattle.moments.proofs.Publish.{links_within, within_links}
+use Rattle.moments.proofs.Heaps.{determined, shown_within}
 use Rattle.moments.proofs.Quiet.{slot_linked}
-use Rattle.moments.proofs.Legal.{same_rec_true, linked_cases}
-use Rattle.moments.proofs.Frames.{next_own}
+use Rattle.moments.proofs.Legal.{same_rec_true, links_true, linked_cases}
 use Rattle.rowex_core.specs.declared.event.Act.TheVariants.{Publish}
 use Rattle.rowex_core.specs.declared.event.Spot.{Spot}
 use Rattle.rowex_core.specs.declared.event.Spot.TheVariants.{Root, Slot}
-use Rattle.rowex_core.specs.declared.known.Owned.{Owned}
-use Rattle.rowex_core.specs.declared.known.Locked.{Locked}
-use Rattle.rowex_core.specs.declared.known.Known.{Known}
-use Rattle.rowex_core.specs.Cores.{Core, IsLawful, HasRecord, heap_of}
-use Rattle.rowex_core.specs.Events.{after, stored_words, stored_root, next_tree, next_change, change_between, IsLegalPublish, IsLockedAt}
-use Rattle.rowex_core.specs.Knowing.{IsFact, IsOwned, IsLocked, Knows, records_of, records_in, unlinked_as, relocked, anchor_after, publish_learned}
-use Rattle.rowex_core.proofs.Keeping.{fact_grown, holding_own}
-use Rattle.rowex_core.proofs.Lists.{passing}
+use Rattle.rowex_core.specs.Reading.{node_of, leaf_of}
+use Rattle.rowex_core.specs.Cores.{Core, IsLawful, heap_of}
+use Rattle.rowex_core.specs.Events.{after, stored_words, stored_root, next_tree, change_between, IsLegalPublish, IsLockedAt}
+use Rattle.rowex_core.specs.Sharing.{share, holding_of, is_by, is_in_tree, owned, locked, anchored_at}
+use Rattle.rowex_core.specs.Knowing.{records_of, records_in}
+use Rattle.rowex_core.proofs.Sharing.{same_share, by_another, is_by_true, and_false}
+
+node_number : {n m : ℕ} → a_node n ≡ a_node m → n ≡ m
+node_number e = cc
+
+leaf_number : {n m : ℕ} → a_leaf n ≡ a_leaf m → n ≡ m
+leaf_number e = cc
 
 -- From a list of leaves to itself there is no change.
 
@@ -60,9 +66,6 @@ same_top m o (Some e) n None t i j f g l = absurd i
 same_top m o (Some e) n (Some s) None i j f g l = absurd j
 same_top m o (Some e) n (Some s) (Some t) i j f g l = ap Some (slot_linked m o n s t f g i.1 j.1 (i.0 ∙ sym j.0) l)
 
-node_number : {n m : ℕ} → a_node n ≡ a_node m → n ≡ m
-node_number e = cc
-
 -- every record but the one that is stored to keeps its words
 pub other_words : (c : Core) (n j w : ℕ) (r : Rec) → r ≢ a_node n → stored_words c (Slot n j) w r ≡ c.words r
 other_words c n j w r ne = go (cases_Bool (same_rec r (a_node n)))
@@ -81,27 +84,81 @@ module _ (c : Core) (q : ℕ) (law : IsLawful c) where
       go (inl x) = x.0
       go (inr x) = absurd (always_changed q (c.past.moment c.past.now) (next_tree c (Slot n j) w)
           (same_top (heap_of c.words) (heap_of (stored_words c (Slot n j) w)) c.root n _ _ law.core.state.top l.top
-          (λ i ne. ap Rattle.rowex_core.specs.Reading.node_of (sym (other_words c n j w (a_node i) (λ e. ne (node_number e)))))
-          (λ i. ap Rattle.rowex_core.specs.Reading.leaf_of (sym (other_words c n j w (a_leaf i) (λ e. absurd cc)))) x.0) l.change)
+          (λ i ne. ap node_of (sym (other_words c n j w (a_node i) (λ e. ne (node_number e)))))
+          (λ i. ap leaf_of (sym (other_words c n j w (a_leaf i) (λ e. absurd cc)))) x.0) l.change)
 
   -- A record that is not linked then keeps its words.
   pub unlinked_words : (spot : Spot) (w : ℕ) → IsLegalPublish c q spot w → (r : Rec) → ¬ (IsLinked (next_tree c spot w) r) → stored_words c spot w r ≡ c.words r
   unlinked_words Root w l r o = refl
   unlinked_words (Slot n j) w l r o = other_words c n j w r (λ e. o (subst (IsLinked (next_tree c (Slot n j) w)) (sym e) (stored_linked n j w l)))
 
+is_false : (b : Bool) → ¬ (b ≡ true) → b ≡ false
+is_false true n = absurd (n refl)
+is_false false n = refl
+
+-- Each record is linked once.
+
+-- the records that a list has of r, where it has it once or not at all
+abbrev pub once : Rec → Bool → List Rec
+once r true = r ∷ []
+once r false = []
+
+-- a node in a body is lower than the body's bound
+lower_links : (m : Heap) (h n : ℕ) (t : Tree) → IsLower h t → IsBuilt t → IsShown m t → Links t (a_node n) → (m.nodes n).fixed.height < h
+lower_links m h n (leaf o k v) low b s l = absurd cc
+lower_links m h n (node o x t) low b s (inl e) = subst (λ z. (m.nodes z).fixed.height < h) (sym (node_number e)) (subst (λ (z : NodeWords). z.fixed.height < h) (sym s.0) low)
+lower_links m h n (node o x t) low b s (inr l) = let y = lower_links m x.height n t b.1 b.2 s.1 l in omega arith
+lower_links m h n (fork p t u) low b s (inl l) = lower_links m h n t low.0 b.0 s.0 l
+lower_links m h n (fork p t u) low b s (inr l) = lower_links m h n u low.1 b.1 s.1 l
+
+same_page : (m : Heap) (r : Rec) (s t : Tree) → IsRecord r s → IsRecord r t → IsShown m s → IsShown m t → page s ≡ page t
+same_page m r (leaf n k v) (leaf o l w) a b i j = let e : n ≡ o = leaf_number (sym a ∙ b) in ap (λ z. Place (Leaf z)) e
+same_page m r (node n x s) (node o y t) a b i j =
+    let e : n ≡ o = node_number (sym a ∙ b) in
+    let h : x.height ≡ y.height = ap (λ (z : NodeWords). z.fixed.height) (sym i.0 ∙ (ap m.nodes e ∙ j.0)) in
+    λ k. Place (Node (e k) (h k))
+same_page m r (leaf n k v) (node o y t) a b i j = absurd (let z : a_leaf n ≡ a_node o = sym a ∙ b in cc)
+same_page m r (node n x s) (leaf o l w) a b i j = absurd (let z : a_node n ≡ a_leaf o = sym a ∙ b in cc)
+same_page m r (fork p a b) t x y i j = absurd x
+same_page m r (leaf n k v) (fork p a b) x y i j = absurd y
+same_page m r (node n z s) (fork p a b) x y i j = absurd y
+
+-- the sides of a fork have no record in common
+sides_apart : (m : Heap) (p : ℕ) (a b : Tree) → IsTrie (fork p a b) → IsShown m a → IsShown m b → (r : Rec) → Links a r → Links b r → ⊥
+sides_apart m p a b trie i j r x y =
+    let s = links_within a r x in
+    let t = links_within b r y in
+    let e : s.0 ≡ t.0 = determined m s.0 t.0 (shown_within m s.1 i) (shown_within m t.1 j) (same_page m r s.0 t.0 s.2 t.2 (shown_within m s.1 i) (shown_within m t.1 j)) in
+    let k = first s.0 in
+    let zero = trie.3 k (within_has s.1 k (has_first s.0)) in
+    let one = trie.4 k (within_has t.1 k (subst (λ z. Has z k) e (has_first s.0))) in
+    false≢true (sym zero ∙ one)
+
+records_once : (m : Heap) (t : Tree) → IsTrie t → IsBuilt t → IsShown m t → (r : Rec) → filter (same_rec r) (records_of t) ≡ once r (links t r)
+records_once m (leaf n k v) trie built shown r = go (cases_Bool (same_rec r (a_leaf n)))
+  where
+    go : ((same_rec r (a_leaf n) ≡ true) ⊎ (same_rec r (a_leaf n) ≡ false)) → filter (same_rec r) (a_leaf n ∷ []) ≡ once r (same_rec r (a_leaf n))
+    go (inl e) = rw e (ap (λ (z : Rec). z ∷ []) (sym (same_rec_true r (a_leaf n) e)))
+    go (inr e) = rw e refl
+records_once m (node n x b) trie built shown r = go (cases_Bool (same_rec r (a_node n))) (records_once m b trie built.2 shown.1 r)
+  where
+    go : ((same_rec r (a_node n) ≡ true) ⊎ (same_rec r (a_node n) ≡ false)) → filter (same_rec r) (records_of b) ≡ once r (links b r) → filter (same_rec r) (a_node n ∷ records_of b) ≡ once r (same_rec r (a_node n) || links b r)
+    go (inr e) h = rw e h
+    go (inl e) h = rw e (ap (λ (z : List Rec). a_node n ∷ z) (h ∙ ap (once r) none) ∙ ap (λ (z : Rec). z ∷ []) (sym (same_rec_true r (a_node n) e)))
+      where
+        none : links b r ≡ false
+        none = is_false (links b r) (λ t. let l = links_true b r t in let low = lower_links m x.height n b built.1 built.2 shown.1 (subst (Links b) (same_rec_true r (a_node n) e) l) in
+            let same : (m.nodes n).fixed.height ≡ x.height = ap (λ (z : NodeWords). z.fixed.height) shown.0 in omega arith)
+records_once m (fork p a b) trie built shown r =
+    filter-append (same_rec r) (records_of a) (records_of b) ∙
+    (λ i. records_once m a trie.0 built.0 shown.0 r i ++ records_once m b trie.1 built.1 shown.1 r i) ∙ join (cases_Bool (links a r)) (cases_Bool (links b r))
+  where
+    join : ((links a r ≡ true) ⊎ (links a r ≡ false)) → ((links b r ≡ true) ⊎ (links b r ≡ false)) → once r (links a r) ++ once r (links b r) ≡ once r (links a r || links b r)
+    join (inl e) (inl f) = absurd (sides_apart m p a b trie shown.0 shown.1 r (links_true a r e) (links_true b r f))
+    join (inl e) (inr f) = rw (e, f) refl
+    join (inr e) h = rw e refl
+
 -- A record of the newest moment is in the tree.
-
-links_of_records : (t : Tree) → All (Links t) (records_of t)
-links_of_records (leaf n k v) = All-from_recursion (Links (leaf n k v)) (a_leaf n ∷ []) (refl, tt)
-links_of_records (node n x b) = Rattle.std.proofs.lemmas.List.Elements.All-cons (Links (node n x b)) (a_node n) (records_of b) (inl refl)
-    (All-weaker (Links b) (Links (node n x b)) (λ r l. inr l) (records_of b) (links_of_records b))
-links_of_records (fork p a b) = All-append (Links (fork p a b)) (records_of a) (records_of b)
-    (All-weaker (Links a) (Links (fork p a b)) (λ r l. inl l) (records_of a) (links_of_records a))
-    (All-weaker (Links b) (Links (fork p a b)) (λ r l. inr l) (records_of b) (links_of_records b))
-
-linked_in_records : (t : Option Tree) → All (IsLinked t) (records_in t)
-linked_in_records None = All-from_recursion (IsLinked None) [] tt
-linked_in_records (Some t) = links_of_records t
 
 spans_now : (now : ℕ) (f : Fate) → Rattle.moments.specs.State.IsLived now (life_of f) → Spans now (life_of f) now → (since : ℕ) × (f ≡ InTree since)
 spans_now now Free l s = absurd s
@@ -121,72 +178,94 @@ linked_now c law r l = go (c.past.moment c.past.now) refl l
         spans_now c.past.now (c.fate r) (law.core.state.lived r)
         (law.core.state.present c.past.now (le_refl c.past.now) (le_refl c.past.now) r u.0 (record { tree = t; is_moment = e; within = u.1; is_record = u.2 }))
 
-in_layout : (c : Core) → IsLawful c → (r : Rec) → c.fate r ≢ Free → HasRecord c.layout r
-in_layout c law r ne = elim (law.records.used r) [ inl e ↦ absurd (ne e) | inr h ↦ h ]
-
-not_linked : (t : Option Tree) (r : Rec) → not (is_linked t r) ≡ true → ¬ (IsLinked t r)
-not_linked t r e l = go (linked_cases t r)
-  where
-    go : (IsLinked t r × (is_linked t r ≡ true)) ⊎ ((¬ (IsLinked t r)) × (is_linked t r ≡ false)) → ⊥
-    go (inl x) = false≢true (ap not (sym x.1) ∙ e)
-    go (inr x) = x.0 l
-
 pub true_linked : (t : Option Tree) (r : Rec) → IsLinked t r → is_linked t r ≡ true
 true_linked t r h = elim (linked_cases t r) [ inl x ↦ x.1 | inr x ↦ absurd (x.0 h) ]
 
-not_is : (b : Bool) → not b ≡ true → b ≡ false
-not_is false e = refl
-not_is true e = absurd (false≢true e)
+-- a record is linked in the newest moment where its fate says so
+pub linked_where : (c : Core) → IsLawful c → (r : Rec) → is_linked (c.past.moment c.past.now) r ≡ is_in_tree (c.fate r)
+linked_where c law r = go (linked_cases (c.past.moment c.past.now) r)
+  where
+    there : (f : Fate) → c.fate r ≡ f → ¬ (IsLinked (c.past.moment c.past.now) r) → is_in_tree f ≡ false
+    there (InTree since) e n =
+        let stood = law.core.state.alive r c.past.now (subst (λ z. Spans c.past.now (life_of z) c.past.now) (sym e) (subst (λ z. IsLived c.past.now (life_of z)) e (law.core.state.lived r), le_refl c.past.now)) in
+        absurd (n (subst (λ z. IsLinked z r) (sym stood.1.is_moment) (within_links stood.1.within r stood.1.is_record)))
+    there _ e n = refl
 
-module _ (c : Core) (k : Known) (spot : Spot) (w : ℕ) (law : IsLawful c) (h : Knows c k) (l : IsLegalPublish c k.pass spot w) where
-  unlinked_owned : (r : Rec) → not (is_linked (next_tree c spot w) r) ≡ true → IsLinked (c.past.moment c.past.now) r →
-      IsOwned k.pass (after c k.pass (Publish spot w)) (unlinked_as c r (c.fate r))
-  unlinked_owned r n i = go (linked_now c law r i)
+    go : (IsLinked (c.past.moment c.past.now) r × (is_linked (c.past.moment c.past.now) r ≡ true)) ⊎ ((¬ (IsLinked (c.past.moment c.past.now) r)) × (is_linked (c.past.moment c.past.now) r ≡ false)) →
+        is_linked (c.past.moment c.past.now) r ≡ is_in_tree (c.fate r)
+    go (inl (h, e)) = e ∙ sym (ap is_in_tree (linked_now c law r h).1)
+    go (inr (h, e)) = e ∙ sym (there (c.fate r) refl h)
+
+-- the records of the newest moment, each once
+pub listed_once : (c : Core) → IsLawful c → (r : Rec) → filter (same_rec r) (records_in (c.past.moment c.past.now)) ≡ once r (is_in_tree (c.fate r))
+listed_once c law r = go (c.past.moment c.past.now) c.root law.core.state.top (λ t e. law.core.state.trees c.past.now t (le_refl c.past.now) e) ∙ ap (once r) (linked_where c law r)
+  where
+    go : (o : Option Tree) (e : Option Entry) → IsTop (heap_of c.words) e o → ((t : Tree) → o ≡ Some t → IsTrie t × IsBuilt t) → filter (same_rec r) (records_in o) ≡ once r (is_linked o r)
+    go None e top trees = refl
+    go (Some t) None top trees = absurd top
+    go (Some t) (Some e) top trees = records_once (heap_of c.words) t (trees t refl).0 (trees t refl).1 top.1 r
+
+-- What a publish by pass p makes of what pass q has
+
+some_pass : {p q : ℕ} → Some p ≡ Some q → p ≡ q
+some_pass e = cc
+
+unlinked_stays : (now p : ℕ) (b : Bool) (since last o : ℕ) → is_in_tree (next_fate now p b (UnlinkedBy since last o)) ≡ false
+unlinked_stays now p true since last o = refl
+unlinked_stays now p false since last o = refl
+
+module _ (c : Core) (p : ℕ) (spot : Spot) (w : ℕ) (law : IsLawful c) (l : IsLegalPublish c p spot w) where
+  -- a record is linked then, and was in the tree or made ready by p; or it is not, and keeps its words
+  pub data Linking (r : Rec) : Type 0 where
+    stays : (since : ℕ) → c.fate r ≡ InTree since → is_linked (next_tree c spot w) r ≡ true → Linking r
+    comes : c.fate r ≡ ReadyBy p → is_linked (next_tree c spot w) r ≡ true → Linking r
+    out : ¬ (IsLinked (next_tree c spot w) r) → is_linked (next_tree c spot w) r ≡ false → stored_words c spot w r ≡ c.words r → Linking r
+
+  pub linking : (r : Rec) → Linking r
+  linking r = go (linked_cases (next_tree c spot w) r)
     where
-      go : (since : ℕ) × (c.fate r ≡ InTree since) → IsOwned k.pass (after c k.pass (Publish spot w)) (unlinked_as c r (c.fate r))
-      go (since, e) = rw e (
-        in_layout c law r (λ z. let x : Free ≡ InTree since = sym z ∙ e in cc),
-        rw (not_is (is_linked (next_tree c spot w) r) n, e) refl,
-        unlinked_words c k.pass law spot w l r (not_linked (next_tree c spot w) r n),
-      )
+      go : (IsLinked (next_tree c spot w) r × (is_linked (next_tree c spot w) r ≡ true)) ⊎ ((¬ (IsLinked (next_tree c spot w) r)) × (is_linked (next_tree c spot w) r ≡ false)) → Linking r
+      go (inl (h, e)) = elim (l.comes r h) [ inl f ↦ stays f.0 f.1 e | inr f ↦ comes f e ]
+      go (inr (h, e)) = out h e (unlinked_words c p law spot w l r h)
 
-  still_owned : (o : Owned) → not (is_linked (next_tree c spot w) o.rec) ≡ true → IsOwned k.pass c o → IsOwned k.pass (after c k.pass (Publish spot w)) o
-  still_owned o n (a, b, e) = (
-    a,
-    rw (not_is (is_linked (next_tree c spot w) o.rec) n) (next_own c.past.now k.pass k.pass (c.fate o.rec) (subst (IsOwn k.pass) (sym b) (holding_own k.pass o.holding)) ∙ b),
-    unlinked_words c k.pass law spot w l o.rec (not_linked (next_tree c spot w) o.rec n) ∙ e,
-  )
+  module _ (q : ℕ) (ne : p ≢ q) where
+    held_then : (f : Fate) → holding_of q (next_fate c.past.now p false f) ≡ holding_of q f
+    held_then (InTree s) = rw (by_another ne) refl
+    held_then _ = refl
 
-  still_locked : (x : Locked) → is_linked (next_tree c spot w) (a_node x.node) ≡ true → IsLocked k.pass c x → IsLocked k.pass (after c k.pass (Publish spot w)) (relocked (stored_words c spot w) x)
-  still_locked x n (a, b, t, e) = (a, b, (t.0, rw (n, t.1) refl), refl)
+    own_then : (r : Rec) → (share q (after c p (Publish spot w))).own r ≡ (share q c).own r
+    own_then r = go (linking r)
+      where
+        go : Linking r → owned r (stored_words c spot w r) (holding_of q (next_fate c.past.now p (is_linked (next_tree c spot w) r) (c.fate r))) ≡ owned r (c.words r) (holding_of q (c.fate r))
+        go (stays s f e) = rw (e, f) refl
+        go (comes f e) = rw (e, f) (rw (by_another ne) refl)
+        go (out h e same) = rw (e, same) (ap (owned r (c.words r)) (held_then (c.fate r)))
 
-  pub publish_learns : Knows (after c k.pass (Publish spot w)) (publish_learned c spot w k)
-  publish_learns = record {
-    pass = h.pass;
-    front = ([], sym (Rattle.std.proofs.Common.append-nil _), All-from_recursion (λ z. z.pass ≢ k.pass) [] tt);
-    fresh = longer h.front h.fresh;
-    facts = All-weaker (IsFact c.past) (IsFact _) (fact_grown c.past _ (record { longer = omega arith; kept = λ i b. moment_old c.past.moment (suc c.past.now) (next_tree c spot w) i (omega arith) })) k.facts h.facts;
-    own = All-append (IsOwned k.pass (after c k.pass (Publish spot w))) _ _
-        (All-map (IsOwned k.pass (after c k.pass (Publish spot w))) (λ r. unlinked_as c r (c.fate r)) _
-        (passing (λ r. not (is_linked (next_tree c spot w) r)) (IsLinked (c.past.moment c.past.now)) _ (records_in (c.past.moment c.past.now)) unlinked_owned (linked_in_records (c.past.moment c.past.now))))
-        (passing (λ (o : Owned). not (is_linked (next_tree c spot w) o.rec)) (IsOwned k.pass c) _ k.own still_owned h.own);
-    locks = All-map (IsLocked k.pass (after c k.pass (Publish spot w))) (relocked (stored_words c spot w)) _
-        (passing (λ (x : Locked). is_linked (next_tree c spot w) (a_node x.node)) (IsLocked k.pass c) _ k.locks still_locked h.locks);
-    anchor = anchored spot l.locked;
-    pin = h.pin;
-    round = h.round;
-  }
-    where
-      x : List Change
-      x = next_change c k.pass spot w ∷ []
+    stored : (s : Spot) → IsLockedAt c p s → (n : ℕ) → c.lock n ≡ Some q → stored_words c s w (a_node n) ≡ c.words (a_node n)
+    stored Root h n e = refl
+    stored (Slot m j) h n e = other_words c m j w (a_node n) (λ x. ne (some_pass (sym h.2 ∙ (ap c.lock (sym (node_number x)) ∙ e))))
 
-      longer : OthersGoOn k.pass k.front c.changes → BeginsWith k.front k.fresh.front → BeginsWith (c.changes ++ next_change c k.pass spot w ∷ []) k.fresh.front
-      longer (more, e, o) (rest, f) = (
-        rest ++ (more ++ x),
-        ap (λ (z : List Change). z ++ x) e ∙
-            (append_assoc k.front more x ∙ (ap (λ (z : List Change). z ++ (more ++ x)) f ∙ append_assoc k.fresh.front rest (more ++ x))),
-      )
+    lock_then : (n : ℕ) → c.lock n ≡ Some q → (f : Fate) → c.fate (a_node n) ≡ f → MayLock q f → Linking (a_node n) → is_in_tree (next_fate c.past.now p (is_linked (next_tree c spot w) (a_node n)) f) ≡ is_in_tree f
+    lock_then n a (InTree s) f m (stays t g e) = rw e refl
+    lock_then n a (InTree s) f m (comes g e) = absurd (let x : InTree s ≡ ReadyBy p = sym f ∙ g in cc)
+    lock_then n a (InTree s) f m (out h e same) = absurd (ne (some_pass (sym (l.goes n (s, f) h) ∙ a)))
+    lock_then n a (UnlinkedBy s e o) f m k = unlinked_stays c.past.now p (is_linked (next_tree c spot w) (a_node n)) s e o
+    lock_then n a _ f m k = absurd m
 
-      anchored : (s : Spot) → IsLockedAt c k.pass s → (e : Option Entry) → anchor_after s (stored_root c s w) k.anchor ≡ Some e → (c.anchor ≡ Some k.pass) × (stored_root c s w ≡ e)
-      anchored Root a e x = (a, let y : Some (stored_root c Root w) ≡ Some e = x in cc)
-      anchored (Slot n j) a e x = h.anchor e x
+    locks_then : (n : ℕ) → (share q (after c p (Publish spot w))).locks n ≡ (share q c).locks n
+    locks_then n = go (cases_Bool (is_by q (c.lock n)))
+      where
+        go : ((is_by q (c.lock n) ≡ true) ⊎ (is_by q (c.lock n) ≡ false)) →
+            locked n (stored_words c spot w (a_node n)) (is_in_tree (next_fate c.past.now p (is_linked (next_tree c spot w) (a_node n)) (c.fate (a_node n))) && is_by q (c.lock n)) ≡
+            locked n (c.words (a_node n)) (is_in_tree (c.fate (a_node n)) && is_by q (c.lock n))
+        go (inl e) = let a = is_by_true q (c.lock n) e in
+            rw (stored spot l.locked n a, lock_then n a (c.fate (a_node n)) refl (law.core.locked n q a) (linking (a_node n))) refl
+        go (inr e) = rw (e, and_false (is_in_tree (c.fate (a_node n))), and_false (is_in_tree (next_fate c.past.now p (is_linked (next_tree c spot w) (a_node n)) (c.fate (a_node n))))) refl
+
+    anchor_then : (s : Spot) → IsLockedAt c p s → anchored_at (stored_root c s w) (is_by q c.anchor) ≡ anchored_at c.root (is_by q c.anchor)
+    anchor_then Root h = rw (h, by_another ne) refl
+    anchor_then (Slot n j) h = refl
+
+    -- of another pass's: nothing
+    pub publish_share : share q (after c p (Publish spot w)) ≡ share q c
+    publish_share = same_share own_then locks_then (anchor_then spot l.locked) refl refl

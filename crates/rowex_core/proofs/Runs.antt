@@ -1,12 +1,11 @@
 -- Lists of legal events, by one event after the other.
-use Rattle.std.proofs.Common.{◌≡◌, List, [], ◌∷◌, sym, subst}
+use Rattle.std.proofs.Common.{List, [], ◌∷◌, sym, subst}
 use Rattle.rowex_core.specs.declared.event.Event.{Event}
-use Rattle.rowex_core.specs.declared.known.View.{View}
 use Rattle.rowex_core.specs.Cores.{Core, IsLawful}
 use Rattle.rowex_core.specs.Events.{after}
 use Rattle.rowex_core.specs.Knowing.{Knowing}
 use Rattle.rowex_core.specs.Opening.{opening}
-use Rattle.rowex_core.specs.Runs.{Leads, AreOthers}
+use Rattle.rowex_core.specs.Runs.{Leads}
 use Rattle.rowex_core.specs.Statements.{RunsStayLawful, RunsKeep}
 use Rattle.rowex_core.proofs.Keeping.{keeps}
 use Rattle.rowex_core.proofs.Promises.{opening_is_lawful}

@@ -11,7 +11,7 @@ use Rattle.moments.specs.declared.Rec.{Rec}
 use Rattle.moments.specs.declared.Rec.TheVariants.{Node as a_node, Leaf as a_leaf}
 use Rattle.moments.specs.declared.Pin.{Pin}
 use Rattle.moments.specs.State.{Past, Stands}
-use Rattle.moments.specs.Core.{Fate, Free, Held as HeldBy, Ready as ReadyBy, InTree, Unlinked as UnlinkedBy}
+use Rattle.moments.specs.Core.{Fate, Free, InTree}
 use Rattle.moments.specs.Steps.{same_rec, is_linked, lowered}
 use Rattle.rowex_core.specs.declared.event.Act.{Act}
 use Rattle.rowex_core.specs.declared.event.Act.TheVariants.{Claim, Fill, Ready, Release, LoadRef, LoadFixed, Lock, Unlock, Publish, Mark, LoadEpoch, Advance, SetPin, ClearPin, LoadPin, LoadState, GiveBack}
@@ -27,10 +27,11 @@ use Rattle.rowex_core.specs.declared.known.Locked.{Locked}
 use Rattle.rowex_core.specs.declared.known.Known.{Known}
 use Rattle.rowex_core.specs.declared.known.View.{View}
 use Rattle.rowex_core.specs.declared.known.View.TheVariants.{Spent, Dealer, Pass, Pair}
-use Rattle.rowex_core.specs.Cores.{Core, HasRecord, IsLawful}
+use Rattle.rowex_core.specs.Cores.{Core, IsLawful}
 use Rattle.rowex_core.specs.Reading.{entry_of, root_of, entry_in, word_in}
+use Rattle.rowex_core.specs.Sharing.{share, known_share, nothing}
 use Rattle.rowex_core.specs.Words.{record_word}
-use Rattle.rowex_core.specs.Events.{IsInTree, Legal, stored_words, stored_root, next_change, next_tree, word_of, target_word}
+use Rattle.rowex_core.specs.Events.{Legal, stored_words, stored_root, next_change, next_tree, word_of, target_word}
 
 -- Facts of past moments
 
@@ -51,39 +52,28 @@ IsFact s (Rooted since at e) = (since ≤ at) × (at ≤ s.now) × (root_of (s.m
 IsFact s (Placed since at n j e) = (at ≤ s.now) × IsFound s since at (a_node n) (λ u. entry_in u j ≡ e)
 IsFact s (Fixed since at r offset w) = (at ≤ s.now) × IsFound s since at r (λ u. word_in u offset ≡ w)
 
--- Records of the pass's own, and locks
+-- What it has seen is true: others alone have changed the map since; its last load of the root saw a front of that; and
+-- its facts are facts of the past.
+pub record HasSeen (q : ℕ) (past : Past) (changes : List Change) (seen last : List Change) (known : List Fact) : Type 0 where
+  pub front : OthersGoOn q seen changes
+  pub fresh : BeginsWith seen last
+  pub facts : All (IsFact past) known
 
-abbrev pub fate_of : ℕ → Holding → Fate
-fate_of q Held = HeldBy q
-fate_of q IsReady = ReadyBy q
-fate_of q (Unlinked since last) = UnlinkedBy since last q
-
-abbrev pub IsOwned : ℕ → Core → Owned → Type 0
-IsOwned q c o = HasRecord c.layout o.rec × (c.fate o.rec ≡ fate_of q o.holding) × (c.words o.rec ≡ o.words)
-
-abbrev pub IsLocked : ℕ → Core → Locked → Type 0
-IsLocked q c l = (l.node < c.layout.nodes) × (c.lock l.node ≡ Some q) × IsInTree c l.node × (c.words (a_node l.node) ≡ l.words)
-
--- what the pass knows is true of the core
+-- What the pass knows is true of the core, and what it knows that it has is all that it has. Its last load of the root was a
+-- step before its next one.
 pub record Knows (c : Core) (k : Known) : Type 0 where
   pub pass : k.pass < c.layout.passes
-  pub front : OthersGoOn k.pass k.front c.changes
-  pub fresh : BeginsWith k.front k.fresh.front
-  pub facts : All (IsFact c.past) k.facts
-  pub own : All (IsOwned k.pass c) k.own
-  pub locks : All (IsLocked k.pass c) k.locks
-  pub anchor : (e : Option Entry) → k.anchor ≡ Some e → (c.anchor ≡ Some k.pass) × (c.root ≡ e)
-  pub pin : c.pins k.pass ≡ k.pin
-  pub round : c.rounds k.pass ≡ k.round
+  pub loaded : k.fresh.step < k.steps
+  pub seen : HasSeen k.pass c.past c.changes k.front k.fresh.front k.facts
+  pub own : share k.pass c ≡ known_share k
 
 abbrev pub NoChangeBy : ℕ → List Change → Type 0
 NoChangeBy q changes = All (λ x. x.pass ≢ q) changes
 
--- what a new pass finds: nothing is its own yet
+-- what a new pass finds: it has made no change, and has nothing
 pub record IsUntouched (c : Core) (q : ℕ) : Type 0 where
   pub changes : NoChangeBy q c.changes
-  pub pin : c.pins q ≡ None
-  pub round : c.rounds q ≡ record { epoch = 0; moment = 0; bound = 0; seen = [] }
+  pub own : share q c ≡ nothing
 
 abbrev pub Knowing : Core → View → Type 0
 Knowing c Spent = Unit {0}

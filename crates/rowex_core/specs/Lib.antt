@@ -3,6 +3,7 @@ pub mod Reading
 pub mod Cores
 pub mod Words
 pub mod Events
+pub mod Sharing
 pub mod Knowing
 pub mod Frames
 pub mod Opening

@@ -30,6 +30,7 @@ use Rattle.rowex_core.specs.Reading.{node_of, word_in}
 use Rattle.rowex_core.specs.Cores.{Core, IsLawful, heap_of}
 use Rattle.rowex_core.specs.Words.{record_word, word_at, Shows}
 use Rattle.rowex_core.specs.Events.{IsFixedOffset, Legal, after, location_of, writes, stored_words, stored_root, next_tree, next_change}
+use Rattle.rowex_core.specs.Sharing.{HasAll}
 use Rattle.rowex_core.specs.Knowing.{Knows, Knowing, Owns, learned}
 use Rattle.rowex_core.specs.Opening.{opening, opening_words}
 use Rattle.rowex_core.specs.Runs.{Leads, AreOthers}
@@ -46,6 +47,10 @@ Keeps = (c : Core) (p : ℕ) (act : Act) (v : View) → IsLawful c → Legal c p
 -- what a pass knows after its own step is true
 abbrev pub Learns : Type 0
 Learns = (c : Core) (k : Known) (act : Act) → IsLawful c → Knows c k → Legal c k.pass act → Knows (after c k.pass act) (learned c act k)
+
+-- what a pass knows that it has, it has, and no more
+abbrev pub KnowsAll : Type 0
+KnowsAll = (c : Core) (k : Known) → Knows c k → HasAll c k
 
 -- a legal step changes one word, and its words show the core after it
 abbrev pub WritesOne : Type 0

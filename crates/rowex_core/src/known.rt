@@ -63,7 +63,8 @@ pub struct Failed {
     pub step: u64,
 }
 
-/// The front that the last load of the root left, and the number of that step.
+/// The front that the last load of the root left, and the number of that step; before the first load 0, the number of no
+/// step.
 pub struct Fresh {
     pub front: LinkedList<Change>,
     pub step: u64,
@@ -77,7 +78,7 @@ pub struct Known {
     pub fresh: Fresh,
     /// Its answered calls.
     pub notes: LinkedList<Note>,
-    /// How many atomic steps it has made.
+    /// The number of its next atomic step; the first is 1.
     pub steps: u64,
     pub failed: LinkedList<Failed>,
     pub facts: LinkedList<Fact>,

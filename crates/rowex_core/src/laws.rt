@@ -1,6 +1,6 @@
 //! The laws of the core. The functions do nothing: their contracts are the laws.
 
-ghost use Rattle.rowex_core.specs.Statements.{FindsChange, Hindsight, InReach, Keeps, Learns, LocksApart, OpeningIsLawful, Parting, PublishIsAStep, RunsKeep, RunsStayLawful, StaysLawful, WritesOne};
+ghost use Rattle.rowex_core.specs.Statements.{FindsChange, Hindsight, InReach, Keeps, KnowsAll, Learns, LocksApart, OpeningIsLawful, Parting, PublishIsAStep, RunsKeep, RunsStayLawful, StaysLawful, WritesOne};
 
 /// A legal step keeps the core lawful.
 pub fn stays_lawful()
@@ -15,6 +15,11 @@ pub fn keeps()
 /// What a pass knows after its own step is true.
 pub fn learns()
     ensures { Learns }
+{}
+
+/// What a pass knows that it has, it has, and no more.
+pub fn knows_all()
+    ensures { KnowsAll }
 {}
 
 /// A legal step changes one word of the table, and its words show the core after it.

@@ -18,7 +18,7 @@ use Rattle.rowex_core.specs.declared.known.View.{View}
 use Rattle.rowex_core.specs.declared.known.View.TheVariants.{Spent, Dealer, Pass, Pair}
 use Rattle.rowex_core.specs.Cores.{Core}
 use Rattle.rowex_core.specs.Words.{Shows}
-use Rattle.rowex_core.specs.Knowing.{IsFact, IsOwned, IsLocked, IsUntouched, Knows, Knowing, Owns}
+use Rattle.rowex_core.specs.Knowing.{IsFact, IsUntouched, Knows, Knowing, Owns}
 use Rattle.rowex_core.specs.Opening.{opening, opening_words}
 use Rattle.rowex_core.proofs.Promises.{opening_is_lawful}
 use Rattle.rowex_table.specs.Rule.{Ruled, opening_of, next_dealer, dealt, paired, first_of_two, second_of_two, with_front, HaveMet, Meeting, met}
@@ -105,14 +105,9 @@ module _ {S : Type 0} (layout : Layout) (id : ℕ) (v left right : View) where
 new_knows : (c : Core) (m : ℕ) → m < c.layout.passes → IsUntouched c m → Knows c (opening_of m)
 new_knows c m low h = record {
   pass = low;
-  front = (c.changes, refl, h.changes);
-  fresh = ([], refl);
-  facts = All-from_recursion (IsFact c.past) [] tt;
-  own = All-from_recursion (IsOwned m c) [] tt;
-  locks = All-from_recursion (IsLocked m c) [] tt;
-  anchor = λ e is. absurd cc;
-  pin = h.pin;
-  round = h.round;
+  loaded = omega arith;
+  seen = record { front = (c.changes, refl, h.changes); fresh = ([], refl); facts = All-from_recursion (IsFact c.past) [] tt };
+  own = h.own;
 }
 
 pub deals : {S : Type 0} (layout : Layout) (id : ℕ) (v : View) (m : ℕ) → m < layout.passes → v ≡ Dealer m → Splits {S = S} {V = View} (Ruled layout) id v (next_dealer v) (dealt v)
@@ -174,14 +169,13 @@ fresh_begins q a b c x y = (y.0 ++ x.0, x.1 ∙ (ap (λ (z : List Change). z ++ 
 met_knows : (c : Core) (k : Known) → Knows c k → Knows c (with_front c.changes k)
 met_knows c k h = record {
   pass = h.pass;
-  front = ([], sym (Rattle.std.proofs.Common.append-nil c.changes), All-from_recursion (λ (x : Change). x.pass ≢ k.pass) [] tt);
-  fresh = fresh_begins k.pass k.front c.changes k.fresh.front h.front h.fresh;
-  facts = h.facts;
+  loaded = h.loaded;
+  seen = record {
+    front = ([], sym (Rattle.std.proofs.Common.append-nil c.changes), All-from_recursion (λ (x : Change). x.pass ≢ k.pass) [] tt);
+    fresh = fresh_begins k.pass k.front c.changes k.fresh.front h.seen.front h.seen.fresh;
+    facts = h.seen.facts;
+  };
   own = h.own;
-  locks = h.locks;
-  anchor = h.anchor;
-  pin = h.pin;
-  round = h.round;
 }
 
 pub meets : {S : Type 0} (layout : Layout) (slots id i : ℕ) (me : Me S View) (j k : Known) → me ≡ (Pair j k, []) → Allows {S = S} {V = View} (Ruled layout) slots id me i (λ n. n) (met (table.step slots i 0 0 none) me)
@@ -206,7 +200,7 @@ meets {S = S} layout slots id i me j k is = subst (λ (m : Me S View). Allows {S
                 (at_set s.views id m new v e);
             apart = apart_set s.views id (Pair j k) new here (λ q o. o) r.apart;
           },
-          (refl, (with_front c.changes j, with_front c.changes k, refl, (c.changes, refl, refl, r.lawful.core.told.legal, both.0.front, both.1.front, both.2))),
+          (refl, (with_front c.changes j, with_front c.changes k, refl, (c.changes, refl, refl, r.lawful.core.told.legal, both.0.seen.front, both.1.seen.front, both.2))),
         )
 
 -- one more at the end of a list

@@ -23,7 +23,9 @@ use Rattle.rowex_core.specs.Cores.{Core, HasRecord}
 use Rattle.rowex_core.specs.Words.{lock_of, lock_tag, tag_of}
 use Rattle.rowex_core.specs.Reading.{IsPacked}
 use Rattle.rowex_core.specs.Events.{IsOffset}
-use Rattle.rowex_core.specs.Knowing.{Knows, IsOwned, IsEvent, anchor_learned, claim_learned, fill_in, hold_as, learned_by}
+use Rattle.rowex_core.specs.Sharing.{IsOwned}
+use Rattle.rowex_core.proofs.Owning.{knows_all}
+use Rattle.rowex_core.specs.Knowing.{Knows, IsEvent, anchor_learned, claim_learned, fill_in, hold_as, learned_by}
 use Rattle.rowex_table.specs.Rule.{MayStep}
 use Rattle.rowex_table.specs.Rights.{Has, HasFilled, IsHeld}
 
@@ -59,18 +61,18 @@ module _ (layout : Layout) (k : Known) where
   -- Records of the pass's own
 
   pub own_is : (r : Rec) (h : Holding) (words : List ℕ) → Has k r h words → (c : Core) → Knows c k → IsOwned k.pass c (record { rec = r; holding = h; words = words })
-  own_is r h words has c known = All-contains (IsOwned k.pass c) k.own (record { rec = r; holding = h; words = words }) known.own has
+  own_is r h words has c known = All-contains (IsOwned k.pass c) k.own (record { rec = r; holding = h; words = words }) (knows_all c k known).own has
 
   pub releases : (r : Rec) (words : List ℕ) → HasRecord layout r → Has k r Held words → MayStep layout (λ w. Release r) k
-  releases r words h has c law at known = (known.pass, (subst (λ z. HasRecord z r) (sym at) h, (own_is r Held words has c known).1))
+  releases r words h has c law at known = (known.pass, (subst (λ z. HasRecord z r) (sym at) h, (own_is r Held words has c known).0))
 
   pub fills : (r : Rec) (offset word : ℕ) (words : List ℕ) → HasRecord layout r → IsOffset r offset → word < 2 ^ 64 → Has k r Held words → MayStep layout (λ w. Fill r offset word) k
-  fills r offset word words h o low has c law at known = (known.pass, (subst (λ z. HasRecord z r) (sym at) h, (own_is r Held words has c known).1, o, low))
+  fills r offset word words h o low has c law at known = (known.pass, (subst (λ z. HasRecord z r) (sym at) h, (own_is r Held words has c known).0, o, low))
 
   pub readies : (r : Rec) (words : List ℕ) → HasRecord layout r → Has k r Held words → IsPacked r words → MayStep layout (λ w. Ready r) k
   readies r words h has packed c law at known =
       let owned = own_is r Held words has c known in
-      (known.pass, (subst (λ z. HasRecord z r) (sym at) h, owned.1, subst (IsPacked r) (sym owned.2) packed))
+      (known.pass, (subst (λ z. HasRecord z r) (sym at) h, owned.0, subst (IsPacked r) (sym owned.1) packed))
 
   -- The anchor
 
@@ -78,7 +80,7 @@ module _ (layout : Layout) (k : Known) where
   unlocks_anchor some c law at known = (known.pass, go k.anchor refl some)
     where
       go : (o : Option (Option Entry)) → k.anchor ≡ o → IsSome o → c.anchor ≡ Some k.pass
-      go (Some e) is some = (known.anchor e is).0
+      go (Some e) is some = ((knows_all c k known).anchor e is).0
       go None is some = absurd cc
 
 anchor_free : (o : Option ℕ) → state_word (lock_tag o) ≡ 2 → o ≡ None

@@ -30,6 +30,7 @@ use Rattle.rowex_core.specs.Reading.{entry_of, leaf_of, IsPacked}
 use Rattle.rowex_core.specs.Cores.{Core, IsLawful, HasRecord, IsWhole, bare, heap_of}
 use Rattle.rowex_core.specs.Events.{tree_of, next_tree, change_between, IsInTree}
 use Rattle.rowex_core.specs.Knowing.{IsEvent, own_after}
+use Rattle.rowex_core.proofs.Owning.{knows_all, round_is}
 use Rattle.rowex_core.proofs.Reading.{entry_of_word, leaf_is}
 use Rattle.rowex_core.proofs.Publishing.{linked_now}
 use Rattle.rowex_table.specs.Rule.{MayStep}
@@ -92,7 +93,7 @@ module _ (layout : Layout) (k : Known) where
   links_first n w words low is has empty c law at known = (
     known.pass,
     record {
-      locked = (known.anchor None empty).0;
+      locked = ((knows_all c k known).anchor None empty).0;
       entry = (subst HasEntryWord (sym entry) low, ap entry_word entry ∙ sym is);
       top = subst (λ e. IsTop (heap_of c.words) e (tree_of (heap_of c.words) e)) (sym entry) (refl, refl);
       tree = λ t e. subst (λ z. IsTrie z × IsBuilt z) (some_same (sym next ∙ e)) (ready_key c law n k.pass ready, tt);
@@ -108,10 +109,10 @@ module _ (layout : Layout) (k : Known) where
       entry = ap entry_of is ∙ entry_of_word (Some (Leaf n)) low
 
       ready : c.fate (a_leaf n) ≡ ReadyBy k.pass
-      ready = (own_is layout k (a_leaf n) IsReady words has c known).1
+      ready = (own_is layout k (a_leaf n) IsReady words has c known).0
 
       now : c.past.moment c.past.now ≡ None
-      now = empty_moment c law (known.anchor None empty).1
+      now = empty_moment c law ((knows_all c k known).anchor None empty).1
 
       next : next_tree c Root w ≡ Some (leaf n (leaf_of (c.words (a_leaf n))).key (leaf_of (c.words (a_leaf n))).value)
       next = ap (tree_of (heap_of c.words)) entry
@@ -122,7 +123,7 @@ module _ (layout : Layout) (k : Known) where
   unlinks_last n root c law at known = (
     known.pass,
     record {
-      locked = (known.anchor (Some (Leaf n)) root).0;
+      locked = ((knows_all c k known).anchor (Some (Leaf n)) root).0;
       entry = (tt, refl);
       top = tt;
       tree = λ t e. absurd (let z : None ≡ Some t = e in cc);
@@ -134,7 +135,7 @@ module _ (layout : Layout) (k : Known) where
   )
     where
       now : (key : List ℕ) × (v : ℕ) × (c.past.moment c.past.now ≡ Some (leaf n key v))
-      now = leaf_moment c law n (known.anchor (Some (Leaf n)) root).1
+      now = leaf_moment c law n ((knows_all c k known).anchor (Some (Leaf n)) root).1
 
   -- what it has unlinked before it loaded the epoch it may mark with that epoch
   pub marks : (r : Rec) (since last epoch : ℕ) (words : List ℕ) → HasRecord layout r → Has k r (Unlinked since last) words → last < k.round.moment → epoch ≡ k.round.epoch →
@@ -143,8 +144,8 @@ module _ (layout : Layout) (k : Known) where
     known.pass,
     (
       subst (λ z. HasRecord z r) (sym at) h,
-      is ∙ ap (λ (z : Round). z.epoch) (sym known.round),
-      (since, last, (own_is layout k r (Unlinked since last) words has c known).1, subst (λ (z : Round). last < z.moment) (sym known.round) before),
+      is ∙ ap (λ (z : Round). z.epoch) (sym (round_is c k known)),
+      (since, last, (own_is layout k r (Unlinked since last) words has c known).0, subst (λ (z : Round). last < z.moment) (sym (round_is c k known)) before),
     ),
   )
 
@@ -160,14 +161,14 @@ module _ (layout : Layout) (said : Known → List Note) (k j : Known) where
 
       go : (o : Option (Option Entry)) → k.anchor ≡ o → IsSome o → j.anchor ≡ Some root
       go None is some = absurd (false≢true some)
-      go (Some was) is some = ap (λ (z : Known). z.anchor) e.learned_is ∙ (is ∙ ap Some (sym (e.knows.anchor was is).1 ∙ shown))
+      go (Some was) is some = ap (λ (z : Known). z.anchor) e.learned_is ∙ (is ∙ ap Some (sym ((knows_all e.core k e.knows).anchor was is).1 ∙ shown))
 
   -- the leaf that it unlinks is its own
   pub removal_gives : (n : ℕ) → k.anchor ≡ Some (Some (Leaf n)) → IsEvent layout (Publish Root 0) said k j → (since : ℕ) × (last : ℕ) × (words : List ℕ) × Has j (a_leaf n) (Unlinked since last) words
   unfolding entry_of
   removal_gives n root e =
       let c = e.core in
-      let now = leaf_moment c e.lawful n (e.knows.anchor (Some (Leaf n)) root).1 in
+      let now = leaf_moment c e.lawful n ((knows_all c k e.knows).anchor (Some (Leaf n)) root).1 in
       let held = linked_now c e.lawful (a_leaf n) (subst (λ t. IsLinked t (a_leaf n)) (sym now.2) refl) in
       let o : Owned = record { rec = a_leaf n; holding = Unlinked held.0 c.past.now; words = c.words (a_leaf n) } in
       let own : j.own ≡ own_after c None k.own = ap (λ (z : Known). z.own) e.learned_is in
@@ -181,7 +182,7 @@ module _ (layout : Layout) (said : Known → List Note) (k j : Known) where
       Has j r (Unlinked since last) words × (last < j.round.moment)
   epoch_keeps w r since last words e has =
       let owned = own_is layout k r (Unlinked since last) words has e.core e.knows in
-      let lived = subst (λ f. IsLived e.core.past.now (life_of f)) owned.1 (e.lawful.core.state.lived r) in (
+      let lived = subst (λ f. IsLived e.core.past.now (life_of f)) owned.0 (e.lawful.core.state.lived r) in (
         subst (λ l. Contains l (record { rec = r; holding = Unlinked since last; words = words })) (sym (ap (λ (z : Known). z.own) e.learned_is)) has,
         subst (λ z. last < z) (sym (ap (λ (z : Known). z.round.moment) e.learned_is)) lived.1,
       )

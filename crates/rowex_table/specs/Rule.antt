@@ -36,7 +36,7 @@ opening_of q = record {
   front = [];
   fresh = record { front = []; step = 0 };
   notes = [];
-  steps = 0;
+  steps = 1;
   failed = [];
   facts = [];
   own = [];

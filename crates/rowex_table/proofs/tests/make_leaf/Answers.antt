@@ -3,8 +3,13 @@ use Rattle.std.proofs.Common.{rules, sym}
 use Rattle.moments.specs.declared.Rec.TheVariants.{Leaf}
 use Rattle.rowex_core.specs.Reading.{IsPacked}
 use Rattle.rowex_table.specs.Seats.{known}
-use Rattle.rowex_table.proofs.Rights.{fill_more, filled, readies}
+use Rattle.rowex_table.proofs.Rights.{fill_more, filled, fills, readies}
 use Rattle.rowex_table.proofs.tests.make_leaf.Goals as goal
+
+pub fill-requires : goal.fill-requires
+fill-requires c =
+    let has = c.loop-index.invariant.1 in
+    (search rules, ((search rules, search rules), fills c.args.table.now.layout (known c.loop-index.seat) (Leaf c.args.leaf) _ _ has.0 c.requires.1 (search rules) (search rules) has.3))
 
 pub loop-index-preserved : goal.loop-index-preserved
 loop-index-preserved c = (search rules, fill_more _ _ _ _ (Leaf c.args.leaf) c.pack_leaf-words.result c.loop-index.index _ c.fill.ensures.told (search rules) (search rules) c.loop-index.invariant.1)
