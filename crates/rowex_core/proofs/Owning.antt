@@ -15,7 +15,7 @@ use Rattle.rowex_core.specs.declared.known.Locked.{Locked}
 use Rattle.rowex_core.specs.declared.known.Known.{Known}
 use Rattle.rowex_core.specs.Cores.{Core}
 use Rattle.rowex_core.specs.Sharing.{Share, share, holding_of, is_by, is_in_tree, owned, locked, anchored_at, fate_of, IsOwned, IsLocked, HasAll}
-use Rattle.rowex_core.specs.Knowing.{Knows}
+use Rattle.rowex_core.specs.Knowing.{Knows, Recalls}
 use Rattle.rowex_core.proofs.Lists.{kept, was_there}
 use Rattle.rowex_core.proofs.Sharing.{by_itself, is_by_true}
 
@@ -86,3 +86,6 @@ module _ (c : Core) (k : Known) (h : Knows c k) where
 
   pub round_is : c.rounds k.pass ≡ k.round
   round_is = ap (λ (z : Share). z.round) h.own
+
+  pub recalls : Recalls c k
+  recalls = record { front = h.seen.front; facts = h.seen.facts; pin = pin_is }
