@@ -1,0 +1,373 @@
+-- What a writer has in words makes its publish legal: insertions.
+use Rattle.std.proofs.Common.{◌≡◌, ◌⊎◌, ◌≤◌, inl, inr, ℕ, List, [], ◌∷◌, ◌++◌, refl, ap, ap₂, sym, ◌∙◌, subst, arith, Some}
+use Rattle.std.proofs.lemmas.Bool.{le-ltb}
+use Rattle.tries.specs.Keys.{Key, bit}
+use Rattle.compound_node.specs.declared.entries.Entry.{Entry}
+use Rattle.compound_node.specs.declared.entries.Entry.TheVariants.{Leaf, Node}
+use Rattle.pieces.specs.Piece.{Place, Fork}
+use Rattle.tries.specs.Tree.{Fixed, Page, Tree, leaf, node, fork, page, Has, IsTrie, IsTip, IsFork, Within, here, inside, zero_side, one_side, IsFit}
+use Rattle.tries.specs.Search.{child, seek}
+use Rattle.tries.specs.Content.{Item}
+use Rattle.tries.specs.Changes.{put, IsPathBelow, IsFlat}
+use Rattle.tries.specs.Place.{with_page}
+use Rattle.tries.specs.Affected.{affected, IsPart, page_affected, page_forked, page_grown, IsPartPage, IsLowerPage, IsFirstBelow, IsTipPage}
+use Rattle.moments.specs.Heap.{NodeWords, Heap}
+use Rattle.moments.specs.State.{IsFrom, IsLawful}
+use Rattle.moments.specs.Core.{Core, view}
+use Rattle.moments.specs.Steps.{IsLegalPublish}
+use Rattle.rowex_walks.specs.Writer.{added_change, IsStored, IsNewNode, IsNewLeaf, IsFound, IsHalf, one, many, IsGrowth}
+use Rattle.rowex_walks.specs.Rise.{IsNewPage, IsEntryFor, alone, in_node, IsLockedNode, IsUpper, Side, body, entry, IsRise, grows, pulls, copies, halves, stays_whole, wraps, IsSlotStore, IsBelowNode}
+use Rattle.tries.proofs.Tries.{trie_within, built_within, within_trans}
+use Rattle.tries.proofs.Affected.{affected_page, part_page, part_place, lower_page, place_page, grown_page}
+use Rattle.tries.proofs.Places.{grown}
+use Rattle.moments.proofs.Heaps.{shown_within}
+use Rattle.rowex_walks.proofs.Now.{built_now, shown_now, trie_now}
+use Rattle.rowex_walks.proofs.Cases.{path_rises_node}
+use Rattle.rowex_walks.proofs.Insertions.{with_leaf, part_of}
+use Rattle.rowex_walks.proofs.Growing.{growth_around, growth_open, growth_cut, growth_leaf, growth_beside, growth_slot, growth_root, pulled}
+use Rattle.rowex_walks.proofs.Standing.{stands_now, entry_node, root_node, now_standing, now_rooted}
+use Rattle.tries.proofs.Spots.{IsSpot, page_spot, with_page_entry}
+use Rattle.moments.specs.State.{Links}
+use Rattle.moments.specs.Core.{Ready, InTree}
+use Rattle.moments.specs.declared.Rec.TheVariants.{Node as a_node, Leaf as a_leaf}
+use Rattle.moments.specs.Heap.{IsShown}
+use Rattle.tries.specs.Tree.{IsBuilt}
+use Rattle.rowex_walks.proofs.Replaced.{links_old, linked_fate}
+use Rattle.moments.proofs.Stored.{not_above}
+use Rattle.rowex_rights.specs.Lists.{IsOf}
+use Rattle.rowex_rights.specs.Trade.{IsTraded}
+use Rattle.rowex_rights.specs.Lists.{AreApart}
+use Rattle.rowex_rights.specs.Rises.{entry_news, news_of, gone_of}
+use Rattle.moments.specs.declared.Rec.{Rec}
+use Rattle.rowex_rights.proofs.Members.{of_append, of_left, of_right}
+use Rattle.rowex_rights.proofs.Trading.{traded_around, traded_open, traded_put, traded_body, traded_grown}
+
+-- A page's shape is that of its tree.
+fork_of_page : (u : Tree) → (IsTipPage (page u) → ⊥) → IsFork u
+fork_of_page (leaf n k v) f = f tt
+fork_of_page (node n k v) f = f tt
+fork_of_page (fork n k v) f = tt
+
+pub is_tip : (u : Tree) → IsTipPage (page u) → IsTip u
+is_tip (leaf n k v) i = tt
+is_tip (node n k v) i = tt
+is_tip (fork n k v) i = i
+
+abbrev pub IsForkOf : ℕ → Page → Page → Tree → Type 0
+IsForkOf f a b u = (s : Tree) × (r : Tree) × (u ≡ fork f s r) × (page s ≡ a) × (page r ≡ b)
+
+pub fork_parts : (u : Tree) (f : ℕ) (a b : Page) → page u ≡ Fork f a b → IsForkOf f a b u
+fork_parts (leaf n k v) f a b e = absurd cc
+fork_parts (node n k v) f a b e = absurd cc
+fork_parts (fork q s r) f a b e = let z : q ≡ f = cc in (s, r, ap (λ n. fork n s r) z, cc, cc)
+
+pub new_node : (c : Core) (q m : ℕ) (g : Fixed) (r : Tree) (x : Page) → page r ≡ x → IsNewPage c q m g x → IsNewNode c q m g r
+new_node c q m g r x e i = record {
+  fate = i.fate;
+  words = i.words ∙ ap (λ z. let s : NodeWords = record { fixed = g; page = z } in s) (sym e);
+  two = fork_of_page r (λ z. i.two (subst IsTipPage e z));
+  lower = lower_page g.height r (subst (IsLowerPage g.height) (sym e) i.lower);
+  fit = subst (IsFit g) (sym e) i.fit;
+}
+
+-- A side of a cut body with the entry for it.
+pub half_tree : (c : Core) (q : ℕ) (x : Page) (d : Entry) → IsEntryFor c q x d → (s : Tree) → page s ≡ x → (u : Tree) × (page u ≡ Place d) × IsHalf c q s u
+half_tree c q x d (alone a e) s z = (s, z ∙ e, one (is_tip s (subst IsTipPage (sym (z ∙ e)) tt)))
+half_tree c q x d (in_node m g i) s z = (node m g s, refl, many m g (new_node c q m g s x z i))
+
+-- The whole body is affected where `p` is not above its first fork.
+whole_affected : (p : ℕ) (k : Key) (b : Tree) → IsFork b → IsFrom p (page b) → affected p k b ≡ b
+whole_affected p k (leaf n l v) f i = absurd f
+whole_affected p k (node n x b) f i = absurd f
+whole_affected p k (fork q a b) f i = rw (le-ltb q p i) refl
+
+not_ready : {f q : ℕ} → InTree f ≡ Ready q → ⊥
+not_ready e = cc
+
+-- the trade of a rise: its new nodes are the pass's and ready
+pub record IsTrade (c : Core) (q : ℕ) (s r : Tree) (new gone : List Rec) : Type 0 where
+  pub trade : IsTraded s r new gone
+  pub ready : (n : Rec) → IsOf n new → c.fate n ≡ Ready q
+  pub apart : AreApart gone
+
+-- a side of a cut body
+record IsHalfNew (c : Core) (q : ℕ) (d a : Tree) (new : List Rec) : Type 0 where
+  comes : (n : Rec) → Links a n → Links d n ⊎ IsOf n new
+  came : (n : Rec) → IsOf n new → Links a n
+  goes : (n : Rec) → Links d n → Links a n
+  ready : (n : Rec) → IsOf n new → c.fate n ≡ Ready q
+
+-- A side of a cut body with the entry for it.
+half_trade : (c : Core) (q : ℕ) (x : Page) (d : Entry) (i : IsEntryFor c q x d) (s : Tree) → page s ≡ x → (u : Tree) × (page u ≡ Place d) × IsHalf c q s u × IsHalfNew c q s u (entry_news i)
+half_trade c q x d (alone a e) s z = (
+  s,
+  z ∙ e,
+  one (is_tip s (subst IsTipPage (sym (z ∙ e)) tt)),
+  record { comes = λ n h. inl h; came = λ n h. absurd h; goes = λ n h. h; ready = λ n h. absurd h },
+)
+half_trade c q x d (in_node m g i) s z = (
+  node m g s,
+  refl,
+  many m g (new_node c q m g s x z i),
+  record {
+    comes = λ n h. elim h [ inl e ↦ inr (inl e) | inr y ↦ inl y ];
+    came = λ n h. elim h [ inl e ↦ inl e | inr y ↦ absurd y ];
+    goes = λ n h. inr h;
+    ready = λ n h. elim h [ inl e ↦ ap c.fate e ∙ i.fate | inr y ↦ absurd y ];
+  },
+)
+
+-- the cut: what was linked on either side is, with the new nodes
+cut_trade : (c : Core) (q : ℕ) (s : Tree) (f : ℕ) (d e a b : Tree) (new gone us vs : List Rec) → ((n : Rec) → Links s n → ¬ (c.fate n ≡ Ready q)) → IsTrade c q s (fork f d e) new gone →
+    IsHalfNew c q d a us → IsHalfNew c q e b vs → IsTrade c q s (fork f a b) (us ++ (vs ++ new)) gone
+cut_trade c q s f d e a b new gone us vs old t u v = record {
+  trade = record {
+    comes = λ n h. elim h [
+      | inl y ↦ elim (u.comes n y) [ inl z ↦ from n (inl z) | inr z ↦ inr (of_left n us (vs ++ new) z) ]
+      | inr y ↦ elim (v.comes n y) [ inl z ↦ from n (inr z) | inr z ↦ inr (of_right n us (vs ++ new) (of_left n vs new z)) ]
+    ];
+    came = λ n h. elim (of_append n us (vs ++ new) h) [
+      | inl y ↦ inl (u.came n y)
+      | inr y ↦ elim (of_append n vs new y) [ inl z ↦ inr (v.came n z) | inr z ↦ on n (t.trade.came n z) ]
+    ];
+    goes = λ n h. elim (t.trade.goes n h) [ inl y ↦ inl (on n y) | inr y ↦ inr y ];
+    went = λ n h. (let w = t.trade.went n h in (
+      w.0,
+      λ o. elim o [
+        | inl y ↦ elim (u.comes n y) [ inl z ↦ w.1 (inl z) | inr z ↦ old n w.0 (u.ready n z) ]
+        | inr y ↦ elim (v.comes n y) [ inl z ↦ w.1 (inr z) | inr z ↦ old n w.0 (v.ready n z) ]
+      ],
+    ));
+  };
+  apart = t.apart;
+  ready = λ n h. elim (of_append n us (vs ++ new) h) [
+    | inl y ↦ u.ready n y
+    | inr y ↦ elim (of_append n vs new y) [ inl z ↦ v.ready n z | inr z ↦ t.ready n z ]
+  ];
+}
+  where
+    on : (n : Rec) → Links d n ⊎ Links e n → Links a n ⊎ Links b n
+    on n (inl y) = inl (u.goes n y)
+    on n (inr y) = inr (v.goes n y)
+
+    from : (n : Rec) → Links d n ⊎ Links e n → Links s n ⊎ IsOf n (us ++ (vs ++ new))
+    from n h = elim (t.trade.comes n h) [ inl y ↦ inl y | inr y ↦ inr (of_right n us (vs ++ new) (of_right n vs new y)) ]
+
+module _ (c : Core) (q : ℕ) (law : IsLawful (view c)) (t : Tree) (now : c.past.moment c.past.now ≡ Some t) (since : ℕ) (x : Item) (p : ℕ) (l : Key)
+    (new : IsNewLeaf c q x) where
+  pub old_now : {s : Tree} → Within s t → (i : Rec) → Links s i → ¬ (c.fate i ≡ Ready q)
+  old_now w i h e = let f = linked_fate c law t now i (links_old w i h) in not_ready (sym f.1 ∙ e)
+
+  words_of : {n : ℕ} {y : Fixed} {b : Tree} → Within (node n y b) t → c.heap.nodes n ≡ record { fixed = y; page = page b }
+  words_of v = (shown_within c.heap v (shown_now c law t now)).0
+
+  page_of : {n : ℕ} {y : Fixed} {b : Tree} → Within (node n y b) t → (c.heap.nodes n).page ≡ page b
+  page_of v = ap (λ (w : NodeWords). w.page) (words_of v)
+
+  part_here : {n : ℕ} {y : Fixed} {b : Tree} → Within (node n y b) t → IsPartPage (page_affected p x.key (c.heap.nodes n).page) → IsPart (affected p x.key b)
+  part_here {b = b} v i = part_page (affected p x.key b) (subst IsPartPage (ap (page_affected p x.key) (page_of v) ∙ sym (affected_page p x.key b)) i)
+
+  -- Node `n` as it stands in the body of the locked node `o` above it, and the way to it.
+  abbrev IsChild : Tree → ℕ → Type 0
+  IsChild d n = (y : Fixed) × (b : Tree) × (w : Within (node n y b) d) × IsFlat w × IsPathBelow p w × ((r : Tree) → page (put w r) ≡ with_page x.key (page r) (page d))
+
+  child_of : {o n : ℕ} {z : Fixed} {d : Tree} → Within (node o z d) t → IsUpper c q x.key p o n → IsChild d n
+  child_of {o} {n} {z} {d} v u = go (entry_node c law t now v x.key n u.over.height u.over.entry)
+    where
+      go : (y : Fixed) × (b : Tree) × (child x.key d ≡ node n y b) × (c.heap.nodes n ≡ record { fixed = y; page = page b }) → IsChild d n
+      go (y, b, f, w) = (y, b, at.0, at.1, path u.path, at.2)
+        where
+          at : IsSpot x.key d (node n y b)
+          at = subst (IsSpot x.key d) f (page_spot x.key d)
+
+          trie_d : IsTrie d
+          trie_d = trie_within (within_trans (inside here) v) (trie_now c law t now)
+
+          first_path : (b : Tree) (w : Within (node n y b) d) → IsFirstBelow p (page b) → IsPathBelow p w
+          first_path (leaf a k s) w h = absurd h
+          first_path (node a k s) w h = absurd h
+          first_path (fork a k s) w h = path_rises_node w trie_d (omega arith)
+
+          path : IsFirstBelow p (c.heap.nodes n).page ⊎ IsTipPage (page_affected p x.key (c.heap.nodes o).page) → IsPathBelow p at.0
+          path (inl h) = first_path b at.0 (subst (IsFirstBelow p) (ap (λ (z : NodeWords). z.page) w) h)
+          path (inr h) = at.3 p (is_tip (affected p x.key d) (subst IsTipPage (ap (page_affected p x.key) (page_of v) ∙ sym (affected_page p x.key d)) h))
+
+  -- What the rise of a node is the page of: a tree in the place of its body, or of its entry; and what it trades.
+  abbrev HasRisen : Side → ℕ → Page → List Rec → List Rec → Type 0
+  HasRisen body n r us gs = (y : Fixed) (b : Tree) → Within (node n y b) t → (s : Tree) × (page s ≡ r) × IsGrowth c q x p b s × IsTrade c q b s us gs
+  HasRisen entry n r us gs = (y : Fixed) (b : Tree) → Within (node n y b) t → (s : Tree) × (page s ≡ r) × IsGrowth c q x p (node n y b) s × IsTrade c q (node n y b) s us gs
+
+  -- The node is locked.
+  rise_locked : (d : Side) (n : ℕ) (r : Page) → IsRise c q since x p l d n r → c.lock n ≡ Some q
+  rise_locked d o r (grows n found i) = found.lock
+  rise_locked d o r (pulls k n s u i) = u.over.locked.lock
+  rise_locked d o r (copies n s m g i z) = rise_locked body n s i
+  rise_locked d o r (halves n f a b e h i u v) = rise_locked body n (Fork f a b) i
+  rise_locked d o r (stays_whole n found i) = found.lock
+  rise_locked d o r (wraps n s m g i z) = rise_locked entry n s i
+
+  trie_in : {s : Tree} → Within s t → IsTrie s
+  trie_in w = trie_within w (trie_now c law t now)
+
+  built_in : {s : Tree} → Within s t → IsBuilt s
+  built_in w = built_within w (built_now c law t now)
+
+  shown_in : {s : Tree} → Within s t → IsShown c.heap s
+  shown_in w = shown_within c.heap w (shown_now c law t now)
+
+  -- a part with the new leaf
+  pub grown_trade : (s : Tree) → Within s t → IsTrade c q s (grown (bit x.key p) p s x) (a_leaf x.number ∷ []) []
+  grown_trade s v = record {
+    trade = traded_grown (bit x.key p) p s x (λ h. old_now v (a_leaf x.number) h new.fate);
+    ready = λ i h. elim h [ inl e ↦ ap c.fate e ∙ new.fate | inr y ↦ absurd y ];
+    apart = tt;
+  }
+
+  open_trade : {n : ℕ} {y : Fixed} {b : Tree} → Within (node n y b) t → (r : Tree) (us gs : List Rec) → IsTrade c q b r us gs → IsTrade c q (node n y b) r us (a_node n ∷ gs)
+  open_trade {n} {y} {b} v r us gs a = record {
+    trade = traded_open c.heap b r n y us gs (built_in v) (shown_in v) (λ h. old_now v (a_node n) (inl refl) (a.ready (a_node n) h)) a.trade;
+    ready = a.ready;
+    apart = (λ h. not_above c.heap n y b (built_in v) (shown_in v) (a.trade.went (a_node n) h).0, a.apart);
+  }
+
+  pub around_trade : (s r : Tree) (m : ℕ) (g : Fixed) (us gs : List Rec) → Within s t → c.fate (a_node m) ≡ Ready q → IsTrade c q s r us gs → IsTrade c q s (node m g r) (a_node m ∷ us) gs
+  around_trade s r m g us gs v fate a = record {
+    trade = traded_around s r m g us gs (λ h. old_now v (a_node m) h fate) a.trade;
+    ready = λ i h. elim h [ inl e ↦ ap c.fate e ∙ fate | inr y ↦ a.ready i y ];
+    apart = a.apart;
+  }
+
+  part_trade : {n : ℕ} {y : Fixed} (b : Tree) → Within (node n y b) t →
+      IsTrade c q (affected p x.key b) (grown (bit x.key p) p (affected p x.key b) x) (a_leaf x.number ∷ []) []
+  part_trade b v = grown_trade (affected p x.key b) (within_trans (part_place p x.key b).0 (within_trans (inside here) v))
+
+  rise_grows : (n : ℕ) → IsFound c q since x p l n → IsPartPage (page_affected p x.key (c.heap.nodes n).page) →
+      HasRisen body n (page_grown p x.key (Leaf x.number) (c.heap.nodes n).page) (a_leaf x.number ∷ []) []
+  rise_grows n found i y b v = (
+    with_leaf x p b,
+    place_page p x b ∙ ap (page_grown p x.key (Leaf x.number)) (sym (page_of v)),
+    growth_leaf c q law t now since x p l new v found (part_here v i),
+    record {
+      trade = traded_put c.heap (part_place p x.key b).0 (grown (bit x.key p) p (affected p x.key b) x) (a_leaf x.number ∷ []) [] (trie_in (within_trans (inside here) v)) (built_in (within_trans (inside here) v)) (shown_in (within_trans (inside here) v))
+          (part_trade b v).trade;
+      ready = (part_trade b v).ready;
+      apart = tt;
+    },
+  )
+
+  rise_pulls : (o n : ℕ) (r : Page) (us gs : List Rec) → IsUpper c q x.key p o n → HasRisen entry n r us gs → HasRisen body o (with_page x.key r (c.heap.nodes o).page) us gs
+  rise_pulls o n r us gs u f z d v =
+      let (y, b, w, flat, path, pages) = child_of v u in
+      let (s, e, a, tr) = f y b (within_trans w (within_trans (inside here) v)) in (
+        put w s,
+        pages s ∙ (ap (λ z. with_page x.key z (page d)) e ∙ ap (with_page x.key r) (sym (page_of v))),
+        pulled c q law t now since x p l new v w flat path s a,
+        record {
+          trade = traded_put c.heap w s us gs (trie_in (within_trans (inside here) v)) (built_in (within_trans (inside here) v)) (shown_in (within_trans (inside here) v)) tr.trade;
+          ready = tr.ready;
+          apart = tr.apart;
+        },
+      )
+
+  rise_copies : (n : ℕ) (r : Page) (m : ℕ) (g : Fixed) (us gs : List Rec) → c.lock n ≡ Some q → HasRisen body n r us gs → IsNewPage c q m g r → HasRisen entry n (Place (Node m g.height)) (a_node m ∷ us) (a_node n ∷ gs)
+  rise_copies n r m g us gs lock f i y b v =
+      let (s, e, a, tr) = f y b v in (
+        node m g s,
+        refl,
+        growth_open c q x p b (node m g s) n y (growth_around c q x p b s m g a (new_node c q m g s r e i)) lock,
+        open_trade v (node m g s) (a_node m ∷ us) gs (around_trade b s m g us gs (within_trans (inside here) v) i.fate tr),
+      )
+
+  rise_halves : (n f : ℕ) (a b : Page) (d e : Entry) (us gs : List Rec) → c.lock n ≡ Some q → HasRisen body n (Fork f a b) us gs → (i : IsEntryFor c q a d) (j : IsEntryFor c q b e) →
+      HasRisen entry n (Fork f (Place d) (Place e)) (entry_news i ++ (entry_news j ++ us)) (a_node n ∷ gs)
+  rise_halves n f a b d e us gs lock h i j y o v =
+      let (s, z, k, tr) = h y o v in
+      let (u, w, is, pu, pw) = fork_parts s f a b z in
+      let (u', eu, hu, nu) = half_trade c q a d i u pu in
+      let (w', ew, hw, nw) = half_trade c q b e j w pw in (
+        fork f u' w',
+        ap₂ (Fork f) eu ew,
+        growth_open c q x p o (fork f u' w') n y (growth_cut c q x p o f u w u' w' (subst (IsGrowth c q x p o) is k) hu hw) lock,
+        open_trade v (fork f u' w') (entry_news i ++ (entry_news j ++ us)) gs
+            (cut_trade c q o f u w u' w' us gs (entry_news i) (entry_news j) (old_now (within_trans (inside here) v)) (subst (λ z. IsTrade c q o z us gs) is tr) nu nw),
+      )
+
+  rise_whole : (n : ℕ) → IsFound c q since x p l n → IsFrom p (c.heap.nodes n).page →
+      HasRisen entry n (page_forked (bit x.key p) p (Leaf x.number) (Place (Node n (c.heap.nodes n).fixed.height))) (a_leaf x.number ∷ []) []
+  rise_whole n found i y b v =
+      let two : IsFork b = (built_within v (built_now c law t now)).0 in
+      let whole : affected p x.key b ≡ b = whole_affected p x.key b two (subst (IsFrom p) (page_of v) i) in
+      let height : y.height ≡ (c.heap.nodes n).fixed.height = ap (λ (w : NodeWords). w.fixed.height) (sym (words_of v)) in (
+        grown (bit x.key p) p (node n y b) x,
+        grown_page (bit x.key p) p (node n y b) x ∙ ap (λ h. page_forked (bit x.key p) p (Leaf x.number) (Place (Node n h))) height,
+        growth_beside c q law t now since x p l new v found (subst IsPart (sym whole) (part_of b two)) v (λ k h. subst (λ u. Has u k) (sym whole) h),
+        grown_trade (node n y b) v,
+      )
+
+  rise_wraps : (n : ℕ) (r : Page) (m : ℕ) (g : Fixed) (us gs : List Rec) → HasRisen entry n r us gs → IsNewPage c q m g r → HasRisen entry n (Place (Node m g.height)) (a_node m ∷ us) gs
+  rise_wraps n r m g us gs f i y b v =
+      let (s, e, a, tr) = f y b v in (node m g s, refl, growth_around c q x p (node n y b) s m g a (new_node c q m g s r e i), around_trade (node n y b) s m g us gs v i.fate tr)
+
+  -- The fold over the path.
+  pub risen : (d : Side) (n : ℕ) (r : Page) (i : IsRise c q since x p l d n r) → HasRisen d n r (news_of i) (gone_of i)
+  risen d o r (grows n found i) = rise_grows n found i
+  risen d o r (pulls k n s u i) = rise_pulls k n s (news_of i) (gone_of i) u (risen entry n s i)
+  risen d o r (copies n s m g i z) = rise_copies n s m g (news_of i) (gone_of i) (rise_locked body n s i) (risen body n s i) z
+  risen d o r (halves n f a b e h i u v) = rise_halves n f a b e h (news_of i) (gone_of i) (rise_locked body n (Fork f a b) i) (risen body n (Fork f a b) i) u v
+  risen d o r (stays_whole n found i) = rise_whole n found i
+  risen d o r (wraps n s m g i z) = rise_wraps n s m g (news_of i) (gone_of i) (risen entry n s i) z
+
+  -- The publish, at an entry of a locked node: it links the new nodes, and unlinks those that the rise replaces and no others.
+  pub rise_slot : (o n : ℕ) (e : Entry) (i : IsRise c q since x p l entry n (Place e)) → IsUpper c q x.key p o n → IsBelowNode c o e →
+      (heap : Heap) → IsSlotStore c heap o x.key e → (r : Tree) × IsLegalPublish c q heap c.root (Some r) (added_change q x) × IsTrade c q t r (news_of i) (gone_of i)
+  rise_slot o n e i u low heap st = go (stands_now c law t now o u.over.locked.linked u.over.locked.fate)
+    where
+      go : (d : Tree) × Within (node o (c.heap.nodes o).fixed d) t × (page d ≡ (c.heap.nodes o).page) →
+          (r : Tree) × IsLegalPublish c q heap c.root (Some r) (added_change q x) × IsTrade c q t r (news_of i) (gone_of i)
+      go (d, v, pg) =
+          let (y, b, w, flat, path, pages) = child_of v u in
+          let (s, z, a, tr) = risen entry n (Place e) i y b (within_trans w (within_trans (inside here) v)) in
+          let stored : IsStored c.heap heap o (page (put w s)) =
+          subst (IsStored c.heap heap o)
+          (sym (with_page_entry x.key e (c.heap.nodes o).page) ∙ (ap (with_page x.key (Place e)) (sym pg) ∙ (ap (λ r. with_page x.key r (page d)) (sym z) ∙ sym (pages s)))) st in (
+            put v (node o (c.heap.nodes o).fixed (put w s)),
+            growth_slot c q law t now since x p l new v w flat tt path u.over.locked.lock s (is_tip s (subst IsTipPage (sym z) tt))
+                (lower_page (c.heap.nodes o).fixed.height s (subst (IsLowerPage (c.heap.nodes o).fixed.height) (sym z) low)) a heap stored,
+            record {
+              trade = traded_put c.heap v (node o (c.heap.nodes o).fixed (put w s)) (news_of i) (gone_of i) (trie_now c law t now) (built_now c law t now) (shown_now c law t now)
+                  (traded_body d (put w s) o (c.heap.nodes o).fixed (news_of i) (gone_of i)
+                  (λ h. not_above c.heap o (c.heap.nodes o).fixed d (built_in v) (shown_in v) (links_old w (a_node o) (tr.trade.went (a_node o) h).0))
+                  (traded_put c.heap w s (news_of i) (gone_of i) (trie_in (within_trans (inside here) v)) (built_in (within_trans (inside here) v)) (shown_in (within_trans (inside here) v)) tr.trade));
+              ready = tr.ready;
+              apart = tr.apart;
+            },
+          )
+
+  -- At the root.
+  pub rise_root : (n h : ℕ) (e : Entry) (i : IsRise c q since x p l entry n (Place e)) → c.anchor ≡ Some q → c.root ≡ Some (Node n h) →
+      (r : Tree) × IsLegalPublish c q c.heap (Some e) (Some r) (added_change q x) × IsTrade c q t r (news_of i) (gone_of i)
+  rise_root n h e i lock root =
+      let (y, b, is) = root_node c law t now n h root in
+      let (s, z, a, tr) = risen entry n (Place e) i y b (subst (Within (node n y b)) (sym is) here) in
+      (s, growth_root c q law t now since x p l new s e z lock (subst (λ u. IsGrowth c q x p u s) (sym is) a), subst (λ u. IsTrade c q u s (news_of i) (gone_of i)) (sym is) tr)
+
+  -- A locked node is above the node that its entry names; so what is below p stays so upwards.
+  pub upper_below : (o n h : ℕ) → IsLockedNode c q o → seek x.key (c.heap.nodes o).page ≡ Node n h → IsFirstBelow p (c.heap.nodes n).page → IsFirstBelow p (c.heap.nodes o).page
+  upper_below o n h locked names low = go (stands_now c law t now o locked.linked locked.fate)
+    where
+      first : (f : ℕ) (y : Fixed) (b d : Tree) (w : Within (node n y b) d) → IsPathBelow f w → f ≤ p → IsFork d → IsFirstBelow p (page d)
+      first f y b (leaf a k v) w h le two = absurd two
+      first f y b (node a k v) w h le two = absurd two
+      first f y b (fork a k v) (zero_side w) h le two = let z = h.0 in omega arith
+      first f y b (fork a k v) (one_side w) h le two = let z = h.0 in omega arith
+
+      rises_on : (y : Fixed) (b d : Tree) (w : Within (node n y b) d) → IsTrie d → IsFork d → IsFirstBelow p (page b) → IsFirstBelow p (page d)
+      rises_on y (leaf a k v) d w i two h = absurd h
+      rises_on y (node a k v) d w i two h = absurd h
+      rises_on y (fork a k v) d w i two h = first a y (fork a k v) d w (path_rises_node w i (omega arith)) (omega (arith, h)) two
+
+      go : (d : Tree) × Within (node o (c.heap.nodes o).fixed d) t × (page d ≡ (c.heap.nodes o).page) → IsFirstBelow p (c.heap.nodes o).page
+      go (d, v, pg) =
+          let (y, b, is, words) = entry_node c law t now v x.key n h names in
+          let (w, flat, pages, path) = subst (IsSpot x.key d) is (page_spot x.key d) in
+          subst (IsFirstBelow p) pg (rises_on y b d w (trie_in (within_trans (inside here) v)) (built_in v).0 (subst (IsFirstBelow p) (ap (λ (z : NodeWords). z.page) words) low))

@@ -1,0 +1,23 @@
+-- The lemmas of the crate.
+pub mod Members
+pub mod Having
+pub mod Owning
+pub mod Acts
+pub mod Ending
+pub mod Trading
+pub mod Climbing
+pub mod Slots
+pub mod Bridge
+pub mod Stages
+pub mod Inserting
+pub mod Bounding
+pub mod Rising
+pub mod Before
+pub mod Beginning
+pub mod Loops
+pub mod Exchanging
+pub mod Removing
+pub mod Differing
+pub mod Others
+pub mod Levels
+pub mod Roots
