@@ -10,7 +10,10 @@ pub mod Growing
 pub mod Standing
 pub mod Removal
 pub mod Steady
+pub mod Trading
+pub mod Differing
 pub mod Rising
+pub mod Pushing
 pub mod Leaves
 pub mod Taking
 pub mod Scans
