@@ -17,8 +17,7 @@ use Rattle.rowex_core.specs.Cores.{Core, IsLawful, bare, HasRecord}
 use Rattle.rowex_core.specs.Events.{IsInTree, stored_words, next_tree}
 use Rattle.rowex_core.specs.Knowing.{records_of, records_in, unlinked_as, own_after, relocked, locks_after, without_record, without_lock}
 use Rattle.rowex_core.proofs.Publishing.{linked_now, true_linked}
-use Rattle.moments.specs.Trades.{IsOf, AreApart}
-use Rattle.moments.specs.Trades.{HasTraded}
+use Rattle.moments.specs.Trades.{IsOf, AreApart, HasTraded}
 use Rattle.rowex_core.specs.Having.{OwnsJust, LocksJust, IsKept, IsAny, IsUnlinked}
 use Rattle.moments.proofs.Members.{all_of, of_append, of_left, of_right, of_map, map_of, of_filter, filter_of, none_of}
 use Rattle.rowex_core.specs.declared.known.Holding.{Holding}

@@ -3,3 +3,6 @@ pub mod Keeping
 pub mod Dealing
 pub mod Rights
 pub mod RootRights
+pub mod ActsBefore
+pub mod ActsAfter
+pub mod ActsLeave

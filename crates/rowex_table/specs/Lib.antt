@@ -2,3 +2,6 @@
 pub mod Rule
 pub mod Rights
 pub mod Seats
+pub mod Made
+pub mod Publishes
+pub mod Stays

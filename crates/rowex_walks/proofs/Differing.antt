@@ -2,7 +2,7 @@
 use Rattle.std.proofs.Common.{◌≡◌, ◌⊎◌, inl, inr, ℕ, List, Option, Some, None, refl, sym, ap, subst}
 use Rattle.compound_node.specs.declared.entries.Entry.{Entry}
 use Rattle.hot_model.specs.declared.Change.{Change}
-use Rattle.tries.specs.Tree.{Tree, leaf, node, fork}
+use Rattle.tries.specs.Tree.{Tree, leaf, node, fork, here}
 use Rattle.tries.specs.Content.{Item, items}
 use Rattle.moments.specs.Heap.{Heap}
 use Rattle.moments.specs.declared.Rec.{Rec}
@@ -13,7 +13,6 @@ use Rattle.moments.specs.Core.{Core, view}
 use Rattle.moments.specs.Steps.{IsLegalPublish}
 use Rattle.moments.specs.Trades.{IsOf, HasTraded}
 use Rattle.moments.proofs.Members.{of_append, of_left, of_right}
-use Rattle.tries.specs.Tree.{here}
 use Rattle.rowex_walks.specs.Statements.{IsPublished}
 use Rattle.rowex_walks.proofs.Trading.{IsTrade, old_now}
 

@@ -17,7 +17,7 @@ use Rattle.moments.specs.Steps.{IsLegalPublish}
 use Rattle.rowex_walks.specs.Writer.{added_change, replaced_change, IsStored, IsNewLeaf}
 use Rattle.rowex_walks.specs.Rise.{IsNewPage, IsLockedNode, IsSlotStore}
 use Rattle.tries.proofs.Tries.{built_within, within_trans}
-use Rattle.tries.proofs.Affected.{grown_page}
+use Rattle.tries.proofs.Affected.{grown_page, away}
 use Rattle.tries.proofs.Places.{grown}
 use Rattle.tries.proofs.Spots.{IsSpot, page_spot, with_page_entry}
 use Rattle.tries.proofs.Fitting.{lower_positive}
@@ -25,7 +25,6 @@ use Rattle.rowex_walks.proofs.Now.{built_now, trie_now}
 use Rattle.rowex_walks.proofs.Insertions.{upsert, upsert_top, first_key, second_key}
 use Rattle.rowex_walks.proofs.Standing.{stands_now, entry_leaf, root_leaf, now_standing, now_rooted, now_empty}
 use Rattle.tries.proofs.Adding.{added_here}
-use Rattle.tries.proofs.Affected.{away}
 use Rattle.moments.specs.Trades.{HasTraded}
 use Rattle.rowex_walks.proofs.Trading.{IsTrade, grown_trade, around_trade, slot_trade, leaf_trade}
 use Rattle.rowex_walks.proofs.Differing.{published, trade_differs}

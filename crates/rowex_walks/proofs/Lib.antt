@@ -13,6 +13,7 @@ pub mod Steady
 pub mod Trading
 pub mod Differing
 pub mod Rising
+pub mod Upwards
 pub mod Pushing
 pub mod Leaves
 pub mod Taking

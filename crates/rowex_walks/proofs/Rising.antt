@@ -5,18 +5,18 @@ use Rattle.tries.specs.Keys.{Key, bit}
 use Rattle.compound_node.specs.declared.entries.Entry.{Entry}
 use Rattle.compound_node.specs.declared.entries.Entry.TheVariants.{Leaf, Node}
 use Rattle.pieces.specs.Piece.{Place, Fork}
-use Rattle.tries.specs.Tree.{Fixed, Page, Tree, leaf, node, fork, page, Has, IsTrie, IsTip, IsFork, Within, here, inside, zero_side, one_side, IsFit}
+use Rattle.tries.specs.Tree.{Fixed, Page, Tree, leaf, node, fork, page, Has, IsTrie, IsTip, IsFork, Within, here, inside, zero_side, one_side, IsFit, IsBuilt}
 use Rattle.tries.specs.Search.{child, seek}
 use Rattle.tries.specs.Content.{Item}
 use Rattle.tries.specs.Changes.{put, IsPathBelow, IsFlat}
 use Rattle.tries.specs.Place.{with_page}
 use Rattle.tries.specs.Affected.{affected, IsPart, page_affected, page_forked, page_grown, IsPartPage, IsLowerPage, IsFirstBelow, IsTipPage}
-use Rattle.moments.specs.Heap.{NodeWords, Heap}
-use Rattle.moments.specs.State.{IsFrom, IsLawful}
-use Rattle.moments.specs.Core.{Core, view}
+use Rattle.moments.specs.Heap.{NodeWords, Heap, IsShown}
+use Rattle.moments.specs.State.{IsFrom, IsLawful, Links}
+use Rattle.moments.specs.Core.{Core, view, Ready}
 use Rattle.moments.specs.Steps.{IsLegalPublish}
 use Rattle.rowex_walks.specs.Writer.{added_change, IsStored, IsNewNode, IsNewLeaf, IsFound, IsHalf, one, many, IsGrowth}
-use Rattle.rowex_walks.specs.Rise.{IsNewPage, IsEntryFor, alone, in_node, IsLockedNode, IsUpper, Side, body, entry, IsRise, grows, pulls, copies, halves, stays_whole, wraps, IsSlotStore, IsBelowNode}
+use Rattle.rowex_walks.specs.Rise.{IsNewPage, IsEntryFor, alone, in_node, IsLockedNode, IsUpper, Side, body, entry, IsRise, grows, pulls, copies, halves, stays_whole, wraps, IsSlotStore, IsBelowNode, entry_news, news_of, gone_of}
 use Rattle.tries.proofs.Tries.{trie_within, built_within, within_trans}
 use Rattle.tries.proofs.Affected.{affected_page, part_page, part_place, lower_page, place_page, grown_page}
 use Rattle.tries.proofs.Places.{grown}
@@ -27,13 +27,8 @@ use Rattle.rowex_walks.proofs.Insertions.{with_leaf, part_of}
 use Rattle.rowex_walks.proofs.Growing.{growth_around, growth_open, growth_cut, growth_leaf, growth_beside, growth_slot, growth_root, pulled}
 use Rattle.rowex_walks.proofs.Standing.{stands_now, entry_node, root_node, now_standing, now_rooted}
 use Rattle.tries.proofs.Spots.{IsSpot, page_spot, with_page_entry}
-use Rattle.moments.specs.State.{Links}
-use Rattle.moments.specs.Core.{Ready}
 use Rattle.moments.specs.declared.Rec.TheVariants.{Node as a_node, Leaf as a_leaf}
-use Rattle.moments.specs.Heap.{IsShown}
-use Rattle.tries.specs.Tree.{IsBuilt}
 use Rattle.moments.specs.Trades.{IsOf}
-use Rattle.rowex_walks.specs.Rise.{entry_news, news_of, gone_of}
 use Rattle.moments.specs.declared.Rec.{Rec}
 use Rattle.moments.proofs.Members.{of_append, of_left, of_right}
 use Rattle.rowex_walks.proofs.Trading.{IsTrade, old_now, traded_put, grown_trade, open_trade, around_trade, slot_trade}
@@ -299,27 +294,6 @@ module _ (c : Core) (q : ℕ) (law : IsLawful (view c)) (t : Tree) (now : c.past
       let (y, b, is) = root_node c law t now n h root in
       let (s, z, a, tr) = risen entry n (Place e) i y b (subst (Within (node n y b)) (sym is) here) in
       (s, growth_root c q law t now since x p l new s e z lock (subst (λ u. IsGrowth c q x p u s) (sym is) a), subst (λ u. IsTrade c q u s (news_of i) (gone_of i)) (sym is) tr)
-
-  -- A locked node is above the node that its entry names; so what is below p stays so upwards.
-  pub upper_below : (o n h : ℕ) → IsLockedNode c q o → seek x.key (c.heap.nodes o).page ≡ Node n h → IsFirstBelow p (c.heap.nodes n).page → IsFirstBelow p (c.heap.nodes o).page
-  upper_below o n h locked names low = go (stands_now c law t now o locked.linked locked.fate)
-    where
-      first : (f : ℕ) (y : Fixed) (b d : Tree) (w : Within (node n y b) d) → IsPathBelow f w → f ≤ p → IsFork d → IsFirstBelow p (page d)
-      first f y b (leaf a k v) w h le two = absurd two
-      first f y b (node a k v) w h le two = absurd two
-      first f y b (fork a k v) (zero_side w) h le two = let z = h.0 in omega arith
-      first f y b (fork a k v) (one_side w) h le two = let z = h.0 in omega arith
-
-      rises_on : (y : Fixed) (b d : Tree) (w : Within (node n y b) d) → IsTrie d → IsFork d → IsFirstBelow p (page b) → IsFirstBelow p (page d)
-      rises_on y (leaf a k v) d w i two h = absurd h
-      rises_on y (node a k v) d w i two h = absurd h
-      rises_on y (fork a k v) d w i two h = first a y (fork a k v) d w (path_rises_node w i (omega arith)) (omega (arith, h)) two
-
-      go : (d : Tree) × Within (node o (c.heap.nodes o).fixed d) t × (page d ≡ (c.heap.nodes o).page) → IsFirstBelow p (c.heap.nodes o).page
-      go (d, v, pg) =
-          let (y, b, is, words) = entry_node c law t now v x.key n h names in
-          let (w, flat, pages, path) = subst (IsSpot x.key d) is (page_spot x.key d) in
-          subst (IsFirstBelow p) pg (rises_on y b d w (trie_in (within_trans (inside here) v)) (built_in v).0 (subst (IsFirstBelow p) (ap (λ (z : NodeWords). z.page) words) low))
 
 -- The new leaf is among the records of a rise.
 pub leaf_risen : {c : Core} {q since : ℕ} {x : Item} {p : ℕ} {l : Key} {d : Side} {n : ℕ} {r : Page} (i : IsRise c q since x p l d n r) → IsOf (a_leaf x.number) (news_of i)

@@ -16,7 +16,7 @@ use Rattle.moments.specs.declared.Rec.{Rec}
 use Rattle.moments.specs.declared.Rec.TheVariants.{Node as a_node, Leaf as a_leaf}
 use Rattle.moments.specs.Steps.{IsLegalPublish}
 use Rattle.rowex_walks.specs.Writer.{item, removed_change, IsAtHand, IsStored}
-use Rattle.rowex_walks.specs.Rise.{IsNewPage, IsEntryFor, alone, in_node, IsOver, IsLeafOf, IsSlotStore, IsBelowNode}
+use Rattle.rowex_walks.specs.Rise.{IsNewPage, IsEntryFor, alone, in_node, IsOver, IsLeafOf, IsSlotStore, IsBelowNode, entry_news}
 use Rattle.tries.proofs.Tries.{trie_within, built_within, within_trans}
 use Rattle.tries.proofs.Affected.{lower_page}
 use Rattle.tries.proofs.Spots.{IsSpot, page_spot, with_page_entry}
@@ -25,13 +25,11 @@ use Rattle.rowex_walks.proofs.Now.{built_now, shown_now, trie_now}
 use Rattle.rowex_walks.proofs.Hands.{hand_around, hand_open, hand_put}
 use Rattle.rowex_walks.proofs.Removal.{removed_zero, removed_one, removed_put, removed_marks, removed_open, hand_zero, hand_one, slot_removed, root_removed, remove_last}
 use Rattle.rowex_walks.proofs.Standing.{stands_now, entry_node, entry_leaf, root_node, root_leaf, now_standing, now_rooted}
-use Rattle.moments.specs.Trades.{IsTraded}
-use Rattle.rowex_walks.specs.Rise.{entry_news}
+use Rattle.moments.specs.Trades.{IsTraded, HasTraded}
 use Rattle.rowex_walks.proofs.Trading.{IsTrade, old_now, not_beside, traded_put, traded_around, traded_open, slot_trade}
 use Rattle.rowex_walks.proofs.Rising.{is_tip, new_node}
 use Rattle.rowex_walks.proofs.Differing.{published, trade_differs}
 use Rattle.rowex_walks.specs.Statements.{RemoveInSlot, RemoveAtRoot, RemoveLast}
-use Rattle.moments.specs.Trades.{HasTraded}
 
 -- A body without one of its leaves: what is left, its page, that the pass has it at hand, and that the leaf alone goes.
 abbrev IsWithout : Core → ℕ → Key → ℕ → ℕ → Tree → Type 0

@@ -5,9 +5,9 @@ use Rattle.tries.specs.Tree.{Fixed, Tree, leaf, node, fork, IsTrie, IsBuilt, Wit
 use Rattle.tries.specs.Changes.{put}
 use Rattle.tries.specs.Content.{Item, first}
 use Rattle.tries.proofs.Places.{grown}
-use Rattle.tries.proofs.Tries.{has_first, has_within}
+use Rattle.tries.proofs.Tries.{has_first, has_within, trie_within, built_within}
 use Rattle.moments.specs.Heap.{Heap, IsShown, NodeWords, LeafWords}
-use Rattle.moments.specs.State.{Links, IsRecord}
+use Rattle.moments.specs.State.{Links, IsRecord, IsLawful}
 use Rattle.moments.specs.declared.Rec.{Rec}
 use Rattle.moments.specs.declared.Rec.TheVariants.{Node as a_node, Leaf as a_leaf}
 use Rattle.moments.proofs.Stored.{not_above}
@@ -15,17 +15,12 @@ use Rattle.moments.proofs.Publish.{links_within}
 use Rattle.moments.proofs.Heaps.{shown_within, determined}
 use Rattle.compound_node.specs.declared.entries.Entry.TheVariants.{Node}
 use Rattle.pieces.specs.Piece.{Place}
-use Rattle.rowex_walks.proofs.Replaced.{links_put, put_links, links_new, links_old}
-use Rattle.moments.specs.Trades.{IsOf}
-use Rattle.moments.specs.Trades.{IsTraded}
+use Rattle.rowex_walks.proofs.Replaced.{links_put, put_links, links_new, links_old, linked_fate}
+use Rattle.moments.specs.Trades.{IsOf, IsTraded, AreApart}
 use Rattle.tries.specs.Keys.{Key, bit}
-use Rattle.moments.specs.State.{IsLawful}
 use Rattle.moments.specs.Core.{Core, Ready, InTree, view}
-use Rattle.moments.specs.Trades.{AreApart}
-use Rattle.tries.proofs.Tries.{trie_within, built_within}
 use Rattle.rowex_walks.specs.Writer.{IsNewLeaf}
 use Rattle.rowex_walks.proofs.Now.{built_now, shown_now, trie_now}
-use Rattle.rowex_walks.proofs.Replaced.{linked_fate}
 
 -- A record is linked at one place
 

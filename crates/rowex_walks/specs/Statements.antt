@@ -12,7 +12,7 @@ use Rattle.tries.specs.Tree.{Fixed, Tree, Page}
 use Rattle.tries.specs.Search.{seek}
 use Rattle.tries.specs.Content.{Item}
 use Rattle.tries.specs.Place.{page_without, spot, entry_at, shape}
-use Rattle.tries.specs.Affected.{page_affected, page_forked}
+use Rattle.tries.specs.Affected.{page_affected, page_forked, IsFirstBelow}
 use Rattle.moments.specs.Heap.{Heap}
 use Rattle.moments.specs.State.{State, Past, IsLawful, IsReach, IsSteady, IsLed, IsMissed, IsHeld}
 use Rattle.moments.specs.declared.Rec.{Rec}
@@ -49,6 +49,11 @@ InsertAtRoot =
     (c : Core) (q : ℕ) → IsLawful (view c) → (since : ℕ) (x : Item) (p : ℕ) (l : Key) → IsNewLeaf c q x → (n h : ℕ) (e : Entry) →
     (i : IsRise c q since x p l entry n (Place e)) → c.anchor ≡ Some q → c.root ≡ Some (Node n h) →
     IsPublished c q c.heap (Some e) (added_change q x) (news_of i) (gone_of i)
+
+-- Where a locked node's place of the node below is all that an insertion at p affects, its own first fork is before p: so the node
+-- above it needs no other check than that its entry names it.
+abbrev pub UpperGoesOn : Type 0
+UpperGoesOn = (c : Core) (q : ℕ) → IsLawful (view c) → (k : Key) (p o n : ℕ) → IsUpper c q k p o n → IsFirstBelow p (c.heap.nodes o).page
 
 -- Leaf pushdown: a new node of the one affected leaf and the new one.
 abbrev pub PushDown : Type 0

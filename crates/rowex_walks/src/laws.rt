@@ -1,6 +1,6 @@
 //! The laws of walks. The functions do nothing: their contracts are the laws.
 
-ghost use Rattle.rowex_walks.specs.Statements.{FirstKey, FoundIsKept, GetEnds, InsertAtRoot, InsertInSlot, LedPlaced, LoadsLeaf, LoadsNone, LoadsPlace, LoadsRoot, LoadsShape, PushDown, RemoveAtRoot, RemoveInSlot, RemoveLast, ScanCompletes, ScanIsCut, SecondKey, UpsertAtRoot, UpsertInSlot};
+ghost use Rattle.rowex_walks.specs.Statements.{FirstKey, FoundIsKept, GetEnds, InsertAtRoot, InsertInSlot, LedPlaced, LoadsLeaf, LoadsNone, LoadsPlace, LoadsRoot, LoadsShape, PushDown, RemoveAtRoot, RemoveInSlot, RemoveLast, ScanCompletes, ScanIsCut, SecondKey, UpperGoesOn, UpsertAtRoot, UpsertInSlot};
 
 /// An insertion that was checked under its locks, of any case that ends in a node, is a legal publish that adds the key.
 pub fn insert_in_slot()
@@ -10,6 +10,11 @@ pub fn insert_in_slot()
 /// An insertion that ends at the root is a legal publish that adds the key.
 pub fn insert_at_root()
     ensures { InsertAtRoot }
+{}
+
+/// Up from a locked node whose place alone is affected, each node above is so too.
+pub fn upper_goes_on()
+    ensures { UpperGoesOn }
 {}
 
 /// A leaf pushdown is a legal publish that adds the key.
