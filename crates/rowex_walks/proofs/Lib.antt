@@ -24,3 +24,4 @@ pub mod Persist
 pub mod Fronts
 pub mod Ends
 pub mod Measure
+pub mod Ways

@@ -1,12 +1,12 @@
 -- What a writer has in words makes its publish legal: insertions.
-use Rattle.std.proofs.Common.{◌≡◌, ◌⊎◌, ◌≤◌, inl, inr, ℕ, List, [], ◌∷◌, ◌++◌, refl, ap, ap₂, sym, ◌∙◌, subst, arith, Some}
+use Rattle.std.proofs.Common.{◌≡◌, ◌⊎◌, inl, inr, ℕ, List, [], ◌∷◌, ◌++◌, refl, ap, ap₂, sym, ◌∙◌, subst, arith, Some}
 use Rattle.std.proofs.lemmas.Bool.{le-ltb}
 use Rattle.tries.specs.Keys.{Key, bit}
 use Rattle.compound_node.specs.declared.entries.Entry.{Entry}
 use Rattle.compound_node.specs.declared.entries.Entry.TheVariants.{Leaf, Node}
 use Rattle.pieces.specs.Piece.{Place, Fork}
-use Rattle.tries.specs.Tree.{Fixed, Page, Tree, leaf, node, fork, page, Has, IsTrie, IsTip, IsFork, Within, here, inside, zero_side, one_side, IsFit, IsBuilt}
-use Rattle.tries.specs.Search.{child, seek}
+use Rattle.tries.specs.Tree.{Fixed, Page, Tree, leaf, node, fork, page, Has, IsTrie, IsTip, IsFork, Within, here, inside, IsFit, IsBuilt}
+use Rattle.tries.specs.Search.{child}
 use Rattle.tries.specs.Content.{Item}
 use Rattle.tries.specs.Changes.{put, IsPathBelow, IsFlat}
 use Rattle.tries.specs.Place.{with_page}
@@ -16,7 +16,7 @@ use Rattle.moments.specs.State.{IsFrom, IsLawful, Links}
 use Rattle.moments.specs.Core.{Core, view, Ready}
 use Rattle.moments.specs.Steps.{IsLegalPublish}
 use Rattle.rowex_walks.specs.Writer.{added_change, IsStored, IsNewNode, IsNewLeaf, IsFound, IsHalf, one, many, IsGrowth}
-use Rattle.rowex_walks.specs.Rise.{IsNewPage, IsEntryFor, alone, in_node, IsLockedNode, IsUpper, Side, body, entry, IsRise, grows, pulls, copies, halves, stays_whole, wraps, IsSlotStore, IsBelowNode, entry_news, news_of, gone_of}
+use Rattle.rowex_walks.specs.Rise.{IsNewPage, IsEntryFor, alone, in_node, IsUpper, Side, body, entry, IsRise, grows, pulls, copies, halves, stays_whole, wraps, IsSlotStore, IsBelowNode, entry_news, news_of, gone_of}
 use Rattle.tries.proofs.Tries.{trie_within, built_within, within_trans}
 use Rattle.tries.proofs.Affected.{affected_page, part_page, part_place, lower_page, place_page, grown_page}
 use Rattle.tries.proofs.Places.{grown}

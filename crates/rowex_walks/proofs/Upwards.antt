@@ -3,15 +3,15 @@ use Rattle.std.proofs.Common.{◌≡◌, ◌⊎◌, inl, inr, ℕ, ◌<◌, ◌�
 use Rattle.std.proofs.lemmas.Bool.{cases_lt, le-ltb}
 use Rattle.tries.specs.Keys.{Key}
 use Rattle.compound_node.specs.declared.entries.Entry.TheVariants.{Node}
-use Rattle.pieces.specs.Piece.{Place, Fork}
+use Rattle.pieces.specs.Piece.{Fork}
 use Rattle.tries.specs.Tree.{Fixed, Page, Tree, leaf, node, fork, page, IsTrie, IsFork, Within, here, inside, zero_side, one_side}
-use Rattle.tries.specs.Search.{child, seek}
+use Rattle.tries.specs.Search.{seek}
 use Rattle.tries.specs.Changes.{IsPathBelow}
 use Rattle.tries.specs.Affected.{page_affected, IsFirstBelow, IsTipPage}
 use Rattle.moments.specs.Heap.{NodeWords}
 use Rattle.moments.specs.State.{IsLawful}
 use Rattle.moments.specs.Core.{Core, view}
-use Rattle.rowex_walks.specs.Rise.{IsLockedNode, IsUpper}
+use Rattle.rowex_walks.specs.Rise.{IsLockedNode}
 use Rattle.rowex_walks.specs.Statements.{UpperGoesOn}
 use Rattle.tries.proofs.Tries.{trie_within, built_within, within_trans}
 use Rattle.tries.proofs.Spots.{IsSpot, page_spot}
