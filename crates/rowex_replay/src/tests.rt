@@ -1,5 +1,6 @@
 //! Runs, event by event, by value.
 
+mod cases;
 mod steps;
 mod trees;
 
