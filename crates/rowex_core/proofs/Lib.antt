@@ -20,3 +20,4 @@ pub mod Bridging
 pub mod Slots
 pub mod Leading
 pub mod Having
+pub mod Kept
