@@ -105,7 +105,7 @@ module _ {S : Type 0} (layout : Layout) (id : ℕ) (v left right : View) where
 new_knows : (c : Core) (m : ℕ) → m < c.layout.passes → IsUntouched c m → Knows c (opening_of m)
 new_knows c m low h = record {
   pass = low;
-  loaded = omega arith;
+  counted = record { loaded = omega arith; failed = All-from_recursion (λ f. f.step < 1) [] tt };
   seen = record { front = (c.changes, refl, h.changes); fresh = ([], refl); facts = All-from_recursion (IsFact c.past) [] tt };
   own = h.own;
 }
@@ -169,7 +169,7 @@ fresh_begins q a b c x y = (y.0 ++ x.0, x.1 ∙ (ap (λ (z : List Change). z ++ 
 met_knows : (c : Core) (k : Known) → Knows c k → Knows c (with_front c.changes k)
 met_knows c k h = record {
   pass = h.pass;
-  loaded = h.loaded;
+  counted = h.counted;
   seen = record {
     front = ([], sym (Rattle.std.proofs.Common.append-nil c.changes), All-from_recursion (λ (x : Change). x.pass ≢ k.pass) [] tt);
     fresh = fresh_begins k.pass k.front c.changes k.fresh.front h.seen.front h.seen.fresh;
