@@ -16,7 +16,7 @@ use Rattle.tries.proofs.Adding.{added, added_bare, added_put}
 use Rattle.tries.proofs.Affected.{IsAway, part_place, place_page}
 use Rattle.tries.proofs.Places.{grown}
 use Rattle.tries.proofs.Puts.{lower_flat, built_flat}
-use Rattle.insert_cases.specs.Grafts.{grafted}
+use Rattle.pieces.specs.Grafts.{grafted}
 use Rattle.insert_cases.specs.Ways.{WayBelow}
 use Rattle.insert_cases.specs.declared.plain.LeafRecord.{LeafRecord}
 use Rattle.insert_cases.specs.declared.raising.Risen.{Risen}

@@ -3,13 +3,13 @@ use Rattle.std.proofs.Common.{◌≡◌, inl, inr, ℕ, suc, zero, ◌<◌, ◌�
 use Rattle.std.specs.Prelude.{IsSomeAnd, MatchOption, slice_get, option_map, option_and_then}
 use Rattle.std.proofs.lemmas.Bool.{cond-true, cond-false, eq-eqb, eqb-true, cases_Bool}
 use Rattle.pieces.specs.Piece.{Place, Fork}
-use Rattle.compound_node.specs.Nodes.{NodeView, piece, height_of}
+use Rattle.compound_node.specs.Nodes.{NodeView, piece, height_of, head_of}
 use Rattle.compound_node.specs.declared.entries.Entry.{Entry}
 use Rattle.compound_node.specs.declared.entries.Entry.TheVariants.{Leaf, Node}
 use Rattle.tries.specs.Content.{items, pairs}
 use Rattle.tries.specs.Tree.{Page, Fixed, Tree, leaf, node, fork, page, IsLower, IsBuilt}
 use Rattle.insert_cases.specs.declared.plain.LeafRecord.{LeafRecord}
-use Rattle.insert_cases.specs.Store.{PlainView, fixed_of, IsStored, IsShown, join_fork, join_node, read_page, read_node, read, tree_of, map_read, map_of, IsSound, IsPlain, ShowsTrie}
+use Rattle.insert_cases.specs.Store.{PlainView, IsStored, IsShown, join_fork, join_node, read_page, read_node, read, tree_of, map_read, map_of, IsSound, IsPlain, ShowsTrie}
 
 same_some : {a b : Tree} → Some a ≡ Some b → a ≡ b
 same_some e = cc
@@ -33,7 +33,7 @@ module _ (nodes : List NodeView) (leaves : List LeafRecord) where
   page_found f g (Fork p x y) t h = fork_found p x y (read_page f x) (read_page f y) t (page_found f g x) (page_found f g y) h
 
   node_found : (n h : ℕ) (v : NodeView) (o : Option Tree) (t : Tree) → slice_get nodes n ≡ Some v → v.height ≡ h →
-      ((u : Tree) → o ≡ Some u → IsFound (piece v) u) → join_node n (fixed_of v) o ≡ Some t → IsFound (Place (Node n h)) t
+      ((u : Tree) → o ≡ Some u → IsFound (piece v) u) → join_node n (head_of v) o ≡ Some t → IsFound (Place (Node n h)) t
   node_found n h v None t at i f e = absurd cc
   node_found n h v (Some b) t at i f e =
       let u = f b refl in
@@ -56,9 +56,9 @@ module _ (nodes : List NodeView) (leaves : List LeafRecord) where
       go None at h k = absurd cc
       go (Some v) at h k = elim (cases_Bool (eqb v.height g)) [
         | inl e ↦ node_found n g v (read_page (read nodes leaves f) (piece v)) t at (eqb-true v.height g e) (k (piece v))
-            (sym (cond-true (eqb v.height g) (join_node n (fixed_of v) (read_page (read nodes leaves f) (piece v))) None e) ∙ h)
+            (sym (cond-true (eqb v.height g) (join_node n (head_of v) (read_page (read nodes leaves f) (piece v))) None e) ∙ h)
         | inr e ↦
-            let x : None ≡ Some t = sym (cond-false (eqb v.height g) (join_node n (fixed_of v) (read_page (read nodes leaves f) (piece v))) None e) ∙ h in
+            let x : None ≡ Some t = sym (cond-false (eqb v.height g) (join_node n (head_of v) (read_page (read nodes leaves f) (piece v))) None e) ∙ h in
             absurd cc
       ]
 
@@ -86,7 +86,7 @@ module _ (nodes : List NodeView) (leaves : List LeafRecord) where
       read nodes leaves (suc f) (Node n x.height) ≡ Some (node n x b)
   read_at f n x b s g =
       ap (read_node (read nodes leaves f) n x.height) s.at ∙
-      (cond-true (eqb s.view.height x.height) (join_node n (fixed_of s.view) (read_page (read nodes leaves f) (piece s.view))) None
+      (cond-true (eqb s.view.height x.height) (join_node n (head_of s.view) (read_page (read nodes leaves f) (piece s.view))) None
       (eq-eqb s.view.height x.height (ap (λ (z : Fixed). z.height) s.fixed)) ∙
       (ap₂ (λ (z : Fixed) (o : Option Tree). join_node n z o) s.fixed (ap (read_page (read nodes leaves f)) s.shows ∙ g)))
 

@@ -1,7 +1,7 @@
 -- The tree that records in lists show, and what it holds.
 use Rattle.std.specs.Prelude.{◌≡◌, ℕ, zero, suc, List, [], slice_get, Option, Some, None, option_map, option_and_then, MatchOption, IsSomeAnd, if◌then◌else◌, nat_eq}
 use Rattle.pieces.specs.Piece.{Place, Fork}
-use Rattle.compound_node.specs.Nodes.{NodeView, piece, height_of}
+use Rattle.compound_node.specs.Nodes.{NodeView, piece, head_of, height_of}
 use Rattle.compound_node.specs.declared.entries.Entry.{Entry}
 use Rattle.compound_node.specs.declared.entries.Entry.TheVariants.{Leaf, Node}
 use Rattle.hot_model.specs.Maps.{Map}
@@ -19,15 +19,11 @@ pub record PlainView : Type 0 where
   pub node_capacity : ℕ
   pub leaf_capacity : ℕ
 
--- all of a node but its entries
-abbrev pub fixed_of : NodeView → Fixed
-fixed_of v = record { height = v.height; columns = v.columns; rows = v.rows }
-
 -- record n is a node that shows this page
 pub record IsStored (nodes : List NodeView) (n : ℕ) (x : Fixed) (p : Page) : Type 0 where
   pub view : NodeView
   pub at : slice_get nodes n ≡ Some view
-  pub fixed : fixed_of view ≡ x
+  pub fixed : head_of view ≡ x
   pub shows : piece view ≡ p
 
 -- the records show the tree
@@ -52,7 +48,7 @@ read_page f (Fork p x y) = join_fork p (read_page f x) (read_page f y)
 
 -- what a node of a number shows, where it has this height
 abbrev pub read_node : (Entry → Option Tree) → ℕ → ℕ → Option NodeView → Option Tree
-read_node f n h (Some v) = if nat_eq v.height h then join_node n (fixed_of v) (read_page f (piece v)) else None
+read_node f n h (Some v) = if nat_eq v.height h then join_node n (head_of v) (read_page f (piece v)) else None
 read_node f n h None = None
 
 -- the tree that an entry shows, read with a bound on the depth
