@@ -19,6 +19,7 @@ use Rattle.tries.specs.Search.{child, seek}
 use Rattle.tries.specs.Tree.{Page, Fixed, Tree, leaf, node, fork, page, Has, IsTrie, IsBuilt, IsLower, first_position, Within, here, inside, zero_side, one_side}
 use Rattle.tries.proofs.Adding.{added_here}
 use Rattle.tries.proofs.Affected.{grown_page}
+use Rattle.tries.proofs.Fitting.{lower_positive}
 use Rattle.tries.proofs.Places.{grown, leads_spot, spot_below}
 use Rattle.tries.proofs.Ranges.{has_key}
 use Rattle.tries.proofs.Tries.{has_first, rises, trie_within, built_within, within_child, page_child}
@@ -34,7 +35,7 @@ use Rattle.insert_cases.proofs.Affecting.{key_part}
 use Rattle.tries.proofs.Building.{bit_below, lower_to, node_built_from}
 use Rattle.insert_cases.proofs.Choosing.{found-child, has_found, all_away, affected_range, part_big, tip_small, tip_child, size_affected}
 use Rattle.insert_cases.proofs.Keeping.{shown_more}
-use Rattle.insert_cases.proofs.Lifting.{grow_raised, old_stays, body_adds, pulled_raised, positive}
+use Rattle.insert_cases.proofs.Lifting.{grow_raised, old_stays, body_adds, pulled_raised}
 use Rattle.insert_cases.proofs.Raised.{child_spot}
 use Rattle.insert_cases.proofs.Searching.{node_of_page, read_at, shown_within, lower_child, sought_entry}
 use Rattle.insert_cases.proofs.Storing.{push_old, push_new}
@@ -43,7 +44,7 @@ use Rattle.insert_cases.proofs.Storing.{push_old, push_new}
 tip_entry : (e : Entry) (t : Tree) → page t ≡ Place e → IsBuilt t → IsEntry e
 tip_entry (Leaf n) t h b = tt
 tip_entry (Node n g) (leaf m k v) h b = absurd cc
-tip_entry (Node n g) (node m x c) h b = let e : x.height ≡ g = cc in let p = positive x.height c b.1 in (omega arith, omega (arith, b.3.bound))
+tip_entry (Node n g) (node m x c) h b = let e : x.height ≡ g = cc in let p = lower_positive x.height c b.1 in (omega arith, omega (arith, b.3.bound))
 tip_entry (Node n g) (fork p a c) h b = absurd cc
 
 tip_low : (h : ℕ) (e : Entry) (t : Tree) → page t ≡ Place e → IsLower h t → height_of e < h
@@ -195,7 +196,7 @@ module _ {ns : List NodeView} {ls : List LeafRecord} {x : Item} {p n h : ℕ} {t
 -- what the node's record tells of it
 module _ {ns : List NodeView} {ls : List LeafRecord} {x : Item} {p n h : ℕ} {t : Tree} (u : IsHere ns ls x p n h t) where
   pub here_positive : 0 < h
-  here_positive = let g = positive u.fixed.height u.body u.built.1 in omega (arith, u.high)
+  here_positive = let g = lower_positive u.fixed.height u.body u.built.1 in omega (arith, u.high)
 
   pub here_within : n < length ns
   here_within = slice_get_within ns n u.shown.0.view u.shown.0.at

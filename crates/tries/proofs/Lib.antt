@@ -10,3 +10,4 @@ pub mod Affected
 pub mod Spots
 pub mod Fitting
 pub mod Building
+pub mod Reading
