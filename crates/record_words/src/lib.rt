@@ -20,6 +20,3 @@ pub use state::{Tag, pack_state, unpack_state};
 pub enum WordFault {
     Bad = 1,
 }
-
-#[cfg(test)]
-mod tests;
