@@ -246,6 +246,3 @@ fn bit_in(bytes: &[u8], position: u16) -> u32
     };
     nine_bits >> (8 - position % 9) & 1
 }
-
-#[cfg(test)]
-mod tests;

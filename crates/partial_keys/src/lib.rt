@@ -233,6 +233,3 @@ fn complying_lanes(sparse: &[u32; 32], dense: u32) -> u64
     let lanes = u32x32::from_array(*sparse);
     (u32x32::splat(dense) & lanes).simd_eq(lanes).to_bitmask()
 }
-
-#[cfg(test)]
-mod tests;

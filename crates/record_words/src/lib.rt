@@ -68,6 +68,3 @@ pub const LEAF_FIELDS: usize = LEAF_WORDS - 1;
 pub enum WordFault {
     Bad = 1,
 }
-
-#[cfg(test)]
-mod tests;

@@ -2,7 +2,7 @@
 use Rattle.std.proofs.Common.{arith, ℕ, ◌<◌, length, [], ◌∷◌}
 use Rattle.pieces.specs.Kept.{kept}
 use Rattle.partial_keys.specs.Squeezed.{used_bits}
-use Rattle.partial_keys.proofs.tests.columns_keep_the_order.Goals as goal
+use Rattle.trie_tests.proofs.columns.columns_keep_the_order.Goals as goal
 
 two_kept : 0 < length {A = ℕ} (kept (used_bits 0x6000_0000) (6 ∷ 7 ∷ 8 ∷ []))
 unfolding used_bits

@@ -5,8 +5,8 @@ ghost use Rattle.compound_node.specs.Nodes.{piece};
 ghost use Rattle.compound_node.specs.declared.entries.Entry.TheVariants.{Leaf as LeafEntry};
 ghost use Rattle.pieces.specs.Piece.{Fork, Place};
 
-use super::{Entry, Half, Head, Node};
-use key_bits::{Key, KeyFault};
+use crate::made::key;
+use compound_node::{Entry, Half, Head, Node};
 
 /// The node of three keys, of which the last two part at 8 and the first from both at 7.
 fn three() -> Node
@@ -42,26 +42,39 @@ fn consists_of(node: &Node, positions: &[u16], rows: &[u32], leaves: &[u32]) -> 
     true
 }
 
+/// Whether this half is a node that consists of these.
+fn is_node(half: &Half, positions: &[u16], rows: &[u32], leaves: &[u32]) -> bool {
+    match half {
+        Half::Many(node) => consists_of(node, positions, rows, leaves),
+        _ => false,
+    }
+}
+
+/// Whether this half is this one entry.
+fn is_one(half: &Half, entry: Entry) -> bool {
+    match half {
+        Half::One(one) => *one == entry,
+        _ => false,
+    }
+}
+
 #[test]
-fn three_keys(rt: HostRuntime) -> Result<(), KeyFault> {
+fn three_keys(rt: HostRuntime) {
     let node = three();
     assert!(rt; consists_of(&node, &[7, 8], &[0, 0x8000_0000, 0xc000_0000], &[0, 1, 2]));
-    assert_eq!(rt; node.height(), 1);
+    assert!(rt; node.height() == 1);
     let head = node.head();
-    assert_eq!(rt; head.count(), 3);
-    assert_eq!(rt; head.height(), 1);
-    for (key, place) in [(b"a", 0), (b"b", 1), (b"c", 2), (b"d", 0)] {
-        let key = Key::from_bytes(key)?;
-        assert_eq!(rt; node.search(&key), place);
-        assert_eq!(rt; head.search(&key), place);
+    assert!(rt; head.count() == 3 && head.height() == 1);
+    for (byte, place) in [(b'a', 0), (b'b', 1), (b'c', 2), (b'd', 0)] {
+        let key = key(&rt, &[byte]);
+        assert!(rt; node.search(&key) == place);
+        assert!(rt; head.search(&key) == place);
     }
-    Ok(())
 }
 
 #[test]
 fn four_keys(rt: HostRuntime) {
-    let (first, last) = three().affected(0, 6);
-    assert_eq!(rt; (first, last), (0, 2));
+    assert!(rt; three().affected(0, 6) == (0, 2));
     let rows = [0, 0x4000_0000, 0x6000_0000, 0x8000_0000];
     assert!(rt; consists_of(&four(), &[6, 7, 8], &rows, &[0, 1, 2, 3]));
 }
@@ -75,38 +88,27 @@ fn a_key_in_front(rt: HostRuntime) {
 
 #[test]
 fn removals(rt: HostRuntime) {
-    match four().without(3) {
-        Half::Many(node) => assert!(rt;
-            consists_of(&node, &[7, 8], &[0, 0x8000_0000, 0xc000_0000], &[0, 1, 2])
-        ),
-        _ => assert!(rt; false, "the last of four"),
-    }
-    match four().without(0) {
-        Half::Many(node) => assert!(rt;
-            consists_of(&node, &[6, 8], &[0, 0x4000_0000, 0x8000_0000], &[1, 2, 3])
-        ),
-        _ => assert!(rt; false, "the first of four"),
-    }
-    match Node::pair(7, Entry::Leaf(0), Entry::Leaf(1)).without(0) {
-        Half::One(entry) => assert_eq!(rt; entry, Entry::Leaf(1)),
-        _ => assert!(rt; false, "the first of two"),
-    }
+    let last = four().without(3);
+    assert!(rt; is_node(&last, &[7, 8], &[0, 0x8000_0000, 0xc000_0000], &[0, 1, 2]));
+    let first = four().without(0);
+    assert!(rt; is_node(&first, &[6, 8], &[0, 0x4000_0000, 0x8000_0000], &[1, 2, 3]));
+    let first_of_two = Node::pair(7, Entry::Leaf(0), Entry::Leaf(1)).without(0);
+    assert!(rt; is_one(&first_of_two, Entry::Leaf(1)));
 }
 
 #[test]
 fn cuts(rt: HostRuntime) {
     let cut = four().cut();
-    assert_eq!(rt; cut.position, 6);
-    match &cut.zero {
-        Half::Many(node) => assert!(rt;
-            consists_of(node, &[7, 8], &[0, 0x8000_0000, 0xc000_0000], &[0, 1, 2])
-        ),
-        _ => assert!(rt; false, "three on the 0 side"),
-    }
-    match &cut.one {
-        Half::One(entry) => assert_eq!(rt; *entry, Entry::Leaf(3)),
-        _ => assert!(rt; false, "one on the 1 side"),
-    }
+    assert!(rt; cut.position == 6);
+    assert!(rt;
+        is_node(
+            &cut.zero,
+            &[7, 8],
+            &[0, 0x8000_0000, 0xc000_0000],
+            &[0, 1, 2]
+        )
+    );
+    assert!(rt; is_one(&cut.one, Entry::Leaf(3)));
 }
 
 #[test]
@@ -116,18 +118,15 @@ fn heights(rt: HostRuntime) {
         height: 3,
     };
     let node = Node::pair(7, child, Entry::Leaf(1));
-    assert_eq!(rt; node.height(), 4);
+    assert!(rt; node.height() == 4);
     let replaced = node.replace(0, Entry::Leaf(5));
-    assert_eq!(rt; replaced.height(), 4);
+    assert!(rt; replaced.height() == 4);
     assert!(rt; consists_of(&replaced, &[7], &[0, 0x8000_0000], &[5, 1]));
 }
 
 #[test]
 fn fields_that_fit(rt: HostRuntime) {
-    let mut sparse = [u32::MAX; 32];
-    sparse[0] = 0;
-    sparse[1] = 0x8000_0000;
-    sparse[2] = 0xc000_0000;
+    let sparse = rows_of_three();
     let leaves = [Entry::Leaf(0), Entry::Leaf(1), Entry::Leaf(2)];
     match Node::from_parts(1, &[7, 8], &sparse, &leaves) {
         Some(node) => assert!(rt;
@@ -136,12 +135,31 @@ fn fields_that_fit(rt: HostRuntime) {
         None => assert!(rt; false, "the node of three keys"),
     }
     assert!(rt; Head::from_parts(3, 1, &[7, 8], &sparse).is_some());
-    assert!(rt; Node::from_parts(0, &[7, 8], &sparse, &leaves).is_none());
-    assert!(rt; Node::from_parts(1, &[8, 7], &sparse, &leaves).is_none());
-    assert!(rt; Node::from_parts(1, &[7, 8, 9], &sparse, &leaves).is_none());
-    assert!(rt; Node::from_parts(1, &[7, u16::MAX], &sparse, &leaves).is_none());
-    assert!(rt; Head::from_parts(2, 1, &[7, 8], &sparse).is_none());
-    assert!(rt; Head::from_parts(33, 1, &[7, 8], &sparse).is_none());
+}
+
+#[test]
+fn fields_that_do_not_fit(rt: HostRuntime) {
+    let mut sparse = rows_of_three();
+    let leaves = [Entry::Leaf(0), Entry::Leaf(1), Entry::Leaf(2)];
+    assert!(rt;
+        Node::from_parts(0, &[7, 8], &sparse, &leaves).is_none(),
+        "a height"
+    );
+    let columns: [&[u16]; 3] = [&[8, 7], &[7, 8, 9], &[7, u16::MAX]];
+    for positions in columns.iter() {
+        assert!(rt; Node::from_parts(1, positions, &sparse, &leaves).is_none());
+    }
+    for count in [2, 33] {
+        assert!(rt; Head::from_parts(count, 1, &[7, 8], &sparse).is_none());
+    }
     sparse[1] = 0x4000_0000;
-    assert!(rt; Head::from_parts(3, 1, &[7, 8], &sparse).is_none());
+    assert!(rt; Head::from_parts(3, 1, &[7, 8], &sparse).is_none(), "a row");
+}
+
+fn rows_of_three() -> [u32; 32] {
+    let mut sparse = [u32::MAX; 32];
+    sparse[0] = 0;
+    sparse[1] = 0x8000_0000;
+    sparse[2] = 0xc000_0000;
+    sparse
 }
