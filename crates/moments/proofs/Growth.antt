@@ -4,12 +4,16 @@ use Rattle.tries.specs.Keys.{Key}
 use Rattle.compound_node.specs.declared.entries.Entry.{Entry}
 use Rattle.tries.specs.Tree.{Tree, leaf, node, fork, page}
 use Rattle.moments.specs.Heap.{NodeWords, IsCopied}
-use Rattle.moments.specs.State.{rec_of, Spans, last_of, IsLived, Past, Stands, IsLawful, IsMarked, IsUnlinkedSince}
+use Rattle.moments.specs.State.{rec_of, Spans, last_of, IsLived, Past, Stands, IsLawful, IsMarked}
 use Rattle.moments.specs.declared.Rec.{Rec}
 use Rattle.moments.specs.declared.Rec.TheVariants.{Node as a_node, Leaf as a_leaf}
 use Rattle.moments.specs.Frames.{IsGrown}
 use Rattle.moments.specs.Core.{has_seen, InTree, Marked, life_of, Core, pin_moment, view, IsPaced}
 use Rattle.moments.specs.declared.Pin.{Pin}
+
+-- The record was linked at no moment since `m`.
+abbrev pub IsUnlinkedSince : Past → ℕ → Rec → Type 0
+IsUnlinkedSince s m r = (n : ℕ) → m ≤ n → n ≤ s.now → (u : Tree) → Stands s n r u → ⊥
 
 pub stands_grown : (a b : Past) → IsGrown a b → (n : ℕ) (r : Rec) (u : Tree) → n ≤ a.now → Stands a n r u → Stands b n r u
 stands_grown a b g n r u h st =

@@ -4,16 +4,16 @@ use Rattle.std.proofs.lemmas.Bool.{eq-eqb, eqb-true, cases_Bool, false≢true, o
 use Rattle.compound_node.specs.declared.entries.Entry.{Entry}
 use Rattle.tries.specs.Tree.{Tree, leaf, node, fork}
 use Rattle.moments.specs.Heap.{Heap}
-use Rattle.moments.specs.State.{Out, Links, IsLinked, IsLawful, IsNext, comes, stays_out, stays, goes, gone, IsUnlinkedSince}
+use Rattle.moments.specs.State.{Out, Links, IsLinked, IsLawful}
 use Rattle.moments.specs.declared.Rec.{Rec}
 use Rattle.moments.specs.declared.Rec.TheVariants.{Node as a_node, Leaf as a_leaf}
 use Rattle.hot_model.specs.declared.Change.{Change}
 use Rattle.moments.specs.Core.{has_seen, Fate, Free, Held, Ready, InTree, Unlinked, Marked, life_of, Core, pin_moment, view, IsPaced}
 use Rattle.moments.specs.declared.Pin.{Pin}
 use Rattle.moments.specs.Steps.{same_rec, with_fate, links, is_linked, next_fate, after_publish, IsLegalPublish, after_set_pin, with_pin}
-use Rattle.moments.proofs.Publish.{publish_lawful}
+use Rattle.moments.proofs.Publish.{publish_lawful, IsNext, comes, stays_out, stays, goes, gone}
 use Rattle.moments.proofs.Quiet.{quiet_lawful}
-use Rattle.moments.proofs.Growth.{give_back, not_now}
+use Rattle.moments.proofs.Growth.{IsUnlinkedSince, give_back, not_now}
 
 pub same_rec_refl : (r : Rec) → same_rec r r ≡ true
 same_rec_refl (a_node n) = eq-eqb n n refl

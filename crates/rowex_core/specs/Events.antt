@@ -4,7 +4,7 @@ use Rattle.std.specs.declared.cmp.Ordering.{Ordering}
 use Rattle.std.specs.declared.cmp.Ordering.TheVariants.{Less, Equal, Greater}
 use Rattle.compound_node.specs.declared.entries.Entry.{Entry}
 use Rattle.hot_model.specs.declared.Change.{Change}
-use Rattle.hot_model.specs.declared.Kind.TheVariants.{Added, Replaced, Removed}
+use Rattle.hot_model.specs.declared.Kind.TheVariants.{Removed}
 use Rattle.hot_model.specs.Maps.{key_order}
 use Rattle.record_words.specs.Entry.{HasEntryWord, entry_word}
 use Rattle.record_words.specs.State.{state_word}
@@ -12,7 +12,7 @@ use Rattle.record_words.specs.declared.layout.Location.{Location}
 use Rattle.record_words.specs.declared.layout.Location.TheVariants.{Epoch, Root as RootWord, Anchor as AnchorWord, Pin as PinOf, NodeWord, LeafWord}
 use Rattle.tries.specs.Tree.{Tree}
 use Rattle.tries.specs.Content.{Item, IsIn}
-use Rattle.moments.specs.Told.{items_of}
+use Rattle.moments.specs.Told.{items_of, added_change, replaced_change, removed_change}
 use Rattle.moments.specs.declared.Rec.{Rec}
 use Rattle.moments.specs.declared.Rec.TheVariants.{Node as a_node, Leaf as a_leaf}
 use Rattle.moments.specs.Heap.{Heap}
@@ -51,26 +51,17 @@ abbrev pub tree_of : Heap → Option Entry → Option Tree
 tree_of heap None = None
 tree_of heap (Some e) = read heap (height_of e) e
 
-abbrev pub added_by : ℕ → Item → Change
-added_by q x = record { pass = q; key = x.key; value = x.value; kind = Added }
-
-abbrev pub replaced_by : ℕ → Item → Change
-replaced_by q x = record { pass = q; key = x.key; value = x.value; kind = Replaced }
-
-abbrev pub removed_by : ℕ → Item → Change
-removed_by q x = record { pass = q; key = x.key; value = x.value; kind = Removed }
-
 -- the change at the first place where two lists of leaves differ, by the order of the keys there
 abbrev pub change_at : ℕ → Ordering → Item → Item → Change
-change_at q Less x y = removed_by q x
-change_at q Equal x y = replaced_by q y
-change_at q Greater x y = added_by q y
+change_at q Less x y = removed_change q x
+change_at q Equal x y = replaced_change q y
+change_at q Greater x y = added_change q y
 
 -- the change by which pass q made the first list of leaves the second
 abbrev pub change_between : ℕ → List Item → List Item → Change
 change_between q [] [] = record { pass = q; key = []; value = 0; kind = Removed }
-change_between q [] (y ∷ ys) = added_by q y
-change_between q (x ∷ xs) [] = removed_by q x
+change_between q [] (y ∷ ys) = added_change q y
+change_between q (x ∷ xs) [] = removed_change q x
 change_between q (x ∷ xs) (y ∷ ys) = if nat_eq x.number y.number then change_between q xs ys else change_at q (key_order x.key y.key) x y
 
 -- leaves of one number are one leaf
