@@ -15,8 +15,7 @@ use Rattle.tries.specs.Place.{page_without, spot, entry_at, shape}
 use Rattle.tries.specs.Affected.{page_affected, page_forked}
 use Rattle.moments.specs.Heap.{Heap}
 use Rattle.moments.specs.State.{State, Past, IsLawful, IsReach, IsSteady, IsLed, IsMissed, IsHeld}
-use Rattle.moments.specs.declared.Rec.TheVariants.{Node as a_node}
-use Rattle.moments.specs.Core.{Core, view, InTree}
+use Rattle.moments.specs.Core.{Core, view}
 use Rattle.moments.specs.declared.Pin.{Pin}
 use Rattle.moments.specs.Told.{IsTold}
 use Rattle.moments.specs.Steps.{IsLegalPublish}
@@ -24,7 +23,7 @@ use Rattle.rowex_walks.specs.Writer.{item, added_change, replaced_change, remove
 use Rattle.rowex_walks.specs.Rise.{IsNewPage, IsEntryFor, IsLockedNode, IsOver, IsUpper, IsLeafOf, entry, IsRise, IsSlotStore, IsBelowNode}
 use Rattle.rowex_walks.specs.Scan.{Pair, Range, IsComplete, IsCut, turned, IsRooted, IsPlaced, IsShaped, IsRead, IsSeen}
 use Rattle.compound_node.specs.Nodes.{height_of}
-use Rattle.moments.specs.Frames.{IsFrame}
+use Rattle.moments.specs.Frames.{IsGrown}
 
 -- The store is a legal publish of some tree, and tells this change.
 abbrev pub IsPublished : Core → ℕ → Heap → Option Entry → Change → Type 0
@@ -144,8 +143,9 @@ LedPlaced =
     (s : Past) (m : ℕ) → IsSteady s m → (k : Key) (r h j : ℕ) (p : Page) (e : Entry) → IsShaped s m r p → spot k p ≡ j → IsPlaced s m r j e →
     IsLed s m k (Node r h) → IsLed s m k e
 
--- What a writer has found below a locked node stays true while other passes go on.
+-- What a writer has found below a locked node stays true while the moments grow, as long as the writer keeps the lock, with the words
+-- that the node had, and its pin.
 abbrev pub FoundIsKept : Type 0
 FoundIsKept =
-    (c d : Core) (q since p : ℕ) (x : Item) (l : Key) (n f : ℕ) (pin : Pin) → IsLawful (view d) → IsFrame q c d →
-    c.fate (a_node n) ≡ InTree f → c.pins q ≡ Some pin → pin.moment ≤ since → IsFound c q since x p l n → IsFound d q since x p l n
+    (c d : Core) (q since p : ℕ) (x : Item) (l : Key) (n : ℕ) (pin : Pin) → IsLawful (view d) → IsGrown c.past d.past →
+    d.lock n ≡ Some q → d.heap.nodes n ≡ c.heap.nodes n → d.pins q ≡ Some pin → pin.moment ≤ since → IsFound c q since x p l n → IsFound d q since x p l n
