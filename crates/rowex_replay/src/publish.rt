@@ -105,7 +105,9 @@ impl State {
         if !self.records.may_link(pass, &linked.nodes, &linked.leaves) {
             return Ok(false);
         }
-        let Some(change) = change_between(pass, &self.items, &linked.items) else {
+        let before = self.items.as_slice();
+        let after = linked.items.as_slice();
+        let Some(change) = change_between(pass, before, after) else {
             return Ok(false);
         };
         let now = self.changes.len() as u64;
