@@ -10,3 +10,4 @@ pub mod Stored
 pub mod Telling
 pub mod Reading
 pub mod Stepping
+pub mod Members
