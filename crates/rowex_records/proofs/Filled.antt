@@ -1,6 +1,6 @@
 -- What filling a record comes to, making it ready, and giving it up.
 use Rattle.std.proofs.Common.{◌≡◌, ◌≢◌, ℕ, zero, suc, ◌+◌, ◌-◌, ◌<◌, ◌≤◌, List, [], ◌∷◌, ◌++◌, length, map, take, set, get_or, Bool, true, false, if◌then◌else◌, refl, sym, ap, subst, ◌∙◌, arith, add-one, length-append}
-use Rattle.std.specs.Prelude.{All, Contains, filter, not}
+use Rattle.std.specs.Prelude.{All, Contains, not}
 use Rattle.std.proofs.lemmas.List.{get_or_default, length-set, take_all, take_more, take_more_set}
 use Rattle.std.proofs.lemmas.List.Elements.{All-head, All-tail, All-weaker}
 use Rattle.moments.specs.declared.Rec.{Rec}
@@ -17,13 +17,13 @@ use Rattle.rowex_core.specs.declared.known.Known.{Known}
 use Rattle.rowex_core.specs.Cores.{Core, IsLawful, word_count_of}
 use Rattle.rowex_core.specs.Events.{IsOffset}
 use Rattle.rowex_core.specs.Sharing.{IsOwned}
-use Rattle.rowex_core.specs.Knowing.{Knows, fill_in, hold_as, without_record}
+use Rattle.rowex_core.specs.Knowing.{Knows, fill_in, hold_as}
 use Rattle.rowex_core.proofs.Lists.{kept}
 use Rattle.rowex_core.proofs.Owning.{knows_all}
 use Rattle.rowex_table.specs.Rights.{Has, HasFilled, IsHeld}
 use Rattle.rowex_table.specs.Runs.{silent, Steps, Does, InTurn}
 use Rattle.rowex_table.specs.Seats.{TableView, SeatView}
-use Rattle.rowex_table.proofs.Rights.{fill_more, filled, mapped, other}
+use Rattle.rowex_table.proofs.Rights.{fill_more, mapped, other}
 use Rattle.rowex_table.proofs.Running.{in_turn_more, does_count}
 use Rattle.rowex_records.specs.Records.{owning, StoresWord, fill_with, Fills, Readies, GivesUp}
 use Rattle.rowex_records.proofs.Making.{owns_none, owns_one, owns_append}
@@ -41,7 +41,7 @@ each_mapped P f g e [] all = refl
 each_mapped P f g e (o ∷ own) all = λ i. e o (All-head P o own all) i ∷ each_mapped P f g e own (All-tail P o own all) i
 
 -- what a pass has of one record stays where a change is of another
-stays_mapped : (k j : Known) (f : Owned → Owned) (s : Rec) (h : Holding) (words : List ℕ) → j.own ≡ map f k.own → f (record { rec = s; holding = h; words = words }) ≡ record { rec = s; holding = h; words = words } → Has k s h words → Has j s h words
+pub stays_mapped : (k j : Known) (f : Owned → Owned) (s : Rec) (h : Holding) (words : List ℕ) → j.own ≡ map f k.own → f (record { rec = s; holding = h; words = words }) ≡ record { rec = s; holding = h; words = words } → Has k s h words → Has j s h words
 stays_mapped k j f s h words is same has =
     let o : Owned = record { rec = s; holding = h; words = words } in
     subst (λ l. Contains l o) (sym is) (subst (Contains (map f k.own)) same (mapped f k.own o has))
@@ -160,6 +160,7 @@ module _ {G : Type 0} (table : TableView) (becomes : G → Event → G → Type 
 
   pub fills_all : (r : Rec) (words : List ℕ) (i : ℕ) (a b : SeatView × G) → length words ≡ word_count_of r → FillsSome r words i a b → i ≡ length words → Fills table becomes r words a b
   fills_all r words i a b size some all = record {
+    sized = size;
     stores = some.stores;
     in_turn = subst (λ n. InTurn (StoresWord r words) n some.stores) all some.in_turn;
     count = some.count ∙ all;

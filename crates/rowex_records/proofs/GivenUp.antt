@@ -1,24 +1,27 @@
--- Giving up all records that a pass holds, one after the other.
-use Rattle.std.proofs.Common.{◌≡◌, ◌≢◌, ℕ, zero, suc, ◌+◌, ◌<◌, ◌≤◌, List, [], ◌∷◌, ◌++◌, length, map, take, drop, get_or, Bool, true, false, refl, sym, ap, subst, ◌∙◌, arith, add-one}
-use Rattle.std.specs.Prelude.{All, Contains, filter, not}
+-- The records that a pass holds, and giving up all of them, one after the other.
+use Rattle.std.proofs.Common.{◌≡◌, ◌≢◌, ℕ, zero, suc, ◌+◌, ◌<◌, List, [], ◌∷◌, ◌++◌, length, map, take, drop, get_or, Bool, true, false, if◌then◌else◌, refl, sym, ap, subst, ◌∙◌, arith, add-one}
+use Rattle.std.specs.Prelude.{All, Contains}
 use Rattle.std.proofs.lemmas.List.{drop_all, map-append, take_all, take_more}
 use Rattle.std.proofs.Math.Seq.{drop-cons}
-use Rattle.std.proofs.lemmas.List.Elements.{All-nil, All-cons, All-head, All-tail, All-filter, All-weaker}
+use Rattle.std.proofs.lemmas.List.Elements.{All-nil, All-cons, All-contains, All-head, All-map, All-push, All-tail, All-weaker}
 use Rattle.moments.specs.declared.Rec.{Rec}
 use Rattle.moments.specs.Steps.{same_rec}
-use Rattle.moments.proofs.Legal.{same_rec_refl}
-use Rattle.rowex_core.specs.declared.event.Act.{Act}
+use Rattle.moments.proofs.Legal.{same_rec_refl, same_rec_true}
 use Rattle.rowex_core.specs.declared.event.Act.TheVariants.{Release}
 use Rattle.rowex_core.specs.declared.event.Event.{Event}
 use Rattle.rowex_core.specs.declared.known.Holding.TheVariants.{Held}
 use Rattle.rowex_core.specs.declared.known.Known.{Known}
 use Rattle.rowex_core.specs.declared.known.Owned.{Owned}
+use Rattle.rowex_core.specs.Cores.{word_count_of}
 use Rattle.rowex_core.specs.Knowing.{without_record}
-use Rattle.rowex_table.specs.Rights.{Has, IsHeld}
+use Rattle.rowex_table.specs.Rights.{IsHeld}
 use Rattle.rowex_table.specs.Runs.{Does}
 use Rattle.rowex_table.specs.Seats.{TableView, SeatView}
-use Rattle.rowex_records.specs.Records.{owning, HasNone, AreApart, HoldsJust, GivesUp, GivesUpAll}
-use Rattle.rowex_records.proofs.Filled.{gives_up_keeps}
+use Rattle.rowex_table.proofs.Rights.{mapped}
+use Rattle.rowex_records.specs.Claims.{Claims}
+use Rattle.rowex_records.specs.Records.{owning, fill_with, Fills, HasNone, AreApart, HoldsJust, GivesUp, GivesUpAll}
+use Rattle.rowex_records.proofs.Claimed.{claims_gives, claims_keeps}
+use Rattle.rowex_records.proofs.Filled.{gives_up_keeps, stays_mapped}
 use Rattle.rowex_records.proofs.Making.{owns_none, owns_append}
 
 -- a pass that has just no records has none
@@ -94,3 +97,67 @@ module _ {G : Type 0} (table : TableView) (becomes : G → Event → G → Type 
     does = subst (λ l. Does table becomes owning (map (λ r. Release r) l) a b) (take_all i recs (omega arith)) some.does;
     own = held_none b.0.known (subst (HoldsJust b.0.known) (drop_all i recs (omega arith)) some.holds);
   }
+
+-- What a pass has claimed it holds, and fills leave it so
+
+in_front : {X : Type 0} (xs ys : List X) (x : X) → Contains xs x → Contains (xs ++ ys) x
+in_front [] ys x (i, low, is) = absurd (omega arith)
+in_front (y ∷ xs) ys x (zero, low, is) = (0, omega arith, is)
+in_front (y ∷ xs) ys x (suc i, low, is) = let rest = in_front xs ys x (i, omega arith, is) in let below = rest.1 in (suc rest.0, omega arith, rest.2)
+
+at_end : {X : Type 0} (xs : List X) (x : X) → Contains (xs ++ x ∷ []) x
+at_end [] x = (0, omega arith, refl)
+at_end (y ∷ xs) x = let rest = at_end xs x in let below = rest.1 in (suc rest.0, omega arith, rest.2)
+
+apart_push : (recs : List Rec) (r : Rec) → AreApart recs → HasNone r recs → AreApart (recs ++ r ∷ [])
+apart_push [] r apart none = (All-nil (λ s. s ≢ r), tt)
+apart_push (s ∷ recs) r apart none = (
+  All-push (λ z. z ≢ s) recs r apart.0 (λ e. All-head (λ z. z ≢ r) s recs none (sym e)),
+  apart_push recs r apart.1 (All-tail (λ z. z ≢ r) s recs none),
+)
+
+pub holds_nothing : (k : Known) → k.own ≡ [] → HoldsJust k []
+holds_nothing k is = record { only = subst (λ own. All (λ o. (o.holding ≡ Held) × Contains [] o.rec) own) (sym is) (All-nil (λ o. (o.holding ≡ Held) × Contains [] o.rec)); each = All-nil (IsHeld k); apart = tt }
+
+module _ {G : Type 0} (table : TableView) (becomes : G → Event → G → Type 0) where
+  pub holds_claimed : (kind : ℕ → Rec) (n from number : ℕ) (recs : List Rec) (a b : SeatView × G) → HoldsJust a.0.known recs → Claims table becomes kind n from number a b
+      → HoldsJust b.0.known (recs ++ kind number ∷ [])
+  holds_claimed kind n from number recs a b holds claims = record {
+    only = subst (λ own. All (λ o. (o.holding ≡ Held) × Contains more o.rec) own) (sym claims.own)
+        (All-cons (λ o. (o.holding ≡ Held) × Contains more o.rec) _ a.0.known.own (refl, at_end recs r)
+        (All-weaker (λ o. (o.holding ≡ Held) × Contains recs o.rec) (λ o. (o.holding ≡ Held) × Contains more o.rec) (λ o h. (h.0, in_front recs (r ∷ []) o.rec h.1)) a.0.known.own holds.only));
+    each = All-push (IsHeld b.0.known) recs r
+        (All-weaker (IsHeld a.0.known) (IsHeld b.0.known) (λ s h. (h.0, h.1, claims_keeps table becomes kind n from number s Held h.0 a b claims h.2)) recs holds.each)
+        (claims_gives table becomes kind n from number a b claims);
+    apart = apart_push recs r holds.apart
+        (All-weaker (IsHeld a.0.known) (λ s. s ≢ r) (λ s h. All-contains (λ o. o.rec ≢ r) a.0.known.own (record { rec = s; holding = Held; words = h.0 }) claims.apart h.2) recs holds.each);
+  }
+    where
+      r : Rec
+      r = kind number
+
+      more : List Rec
+      more = recs ++ r ∷ []
+
+  pub holds_filled : (r : Rec) (words : List ℕ) (recs : List Rec) (a b : SeatView × G) → HoldsJust a.0.known recs → Fills table becomes r words a b → HoldsJust b.0.known recs
+  holds_filled r words recs a b holds fills = record {
+    only = subst (λ own. All (λ o. (o.holding ≡ Held) × Contains recs o.rec) own) (sym fills.own)
+        (All-map (λ o. (o.holding ≡ Held) × Contains recs o.rec) (fill_with r words) a.0.known.own
+        (All-weaker (λ o. (o.holding ≡ Held) × Contains recs o.rec) (λ o. ((fill_with r words o).holding ≡ Held) × Contains recs (fill_with r words o).rec) (λ o h. same o (same_rec o.rec r) h) a.0.known.own holds.only));
+    each = All-weaker (IsHeld a.0.known) (IsHeld b.0.known) (λ s h. held s h (same_rec s r) refl) recs holds.each;
+    apart = holds.apart;
+  }
+    where
+      same : (o : Owned) (t : Bool) → (o.holding ≡ Held) × Contains recs o.rec → ((if t then record o { words = words } else o).holding ≡ Held) × Contains recs (if t then record o { words = words } else o).rec
+      same o true h = h
+      same o false h = h
+
+      held : (s : Rec) → IsHeld a.0.known s → (t : Bool) → same_rec s r ≡ t → IsHeld b.0.known s
+      held s h true e =
+          let o : Owned = record { rec = s; holding = Held; words = words } in
+          let with : fill_with r words (record { rec = s; holding = Held; words = h.0 }) ≡ o = rw e refl in (
+            words,
+            fills.sized ∙ ap word_count_of (sym (same_rec_true s r e)),
+            subst (λ l. Contains l o) (sym fills.own) (subst (Contains (map (fill_with r words) a.0.known.own)) with (mapped (fill_with r words) a.0.known.own (record { rec = s; holding = Held; words = h.0 }) h.2)),
+          )
+      held s h false e = (h.0, h.1, stays_mapped a.0.known b.0.known (fill_with r words) s Held h.0 fills.own (rw e refl) h.2)

@@ -8,6 +8,7 @@ use Rattle.rowex_core.specs.declared.event.Event.{Event}
 use Rattle.rowex_core.specs.declared.known.Holding.TheVariants.{Held, Ready as IsReady}
 use Rattle.rowex_core.specs.declared.known.Known.{Known}
 use Rattle.rowex_core.specs.declared.known.Owned.{Owned}
+use Rattle.rowex_core.specs.Cores.{word_count_of}
 use Rattle.rowex_core.specs.Knowing.{hold_as, without_record}
 use Rattle.rowex_core.specs.Reading.{IsPacked}
 use Rattle.rowex_table.specs.Rights.{Has, IsHeld}
@@ -30,9 +31,10 @@ StoresWord r words i acts = acts ≡ Fill r (i + 1) (get_or words i 0) ∷ []
 abbrev pub fill_with : Rec → List ℕ → Owned → Owned
 fill_with r words o = if same_rec o.rec r then record o { words = words } else o
 
--- The words are stored in the record from offset 1 on, one after the other. Of the pass's own records this one has them then, and
+-- The words, all that the record has but its state, are stored from offset 1 on, one after the other. Of the pass's own records this one has them then, and
 -- the others are as they were.
 pub record Fills {G : Type 0} (table : TableView) (becomes : G → Event → G → Type 0) (r : Rec) (words : List ℕ) (a b : SeatView × G) : Type 0 where
+  pub sized : length words ≡ word_count_of r
   pub stores : List Act
   pub in_turn : InTurn (StoresWord r words) (length words) stores
   pub count : length stores ≡ length words
