@@ -22,7 +22,8 @@ use Rattle.moments.specs.State.{Stands, IsRecord, IsSame, IsReach}
 use Rattle.moments.proofs.States.{steady}
 use Rattle.rowex_core.specs.declared.known.Known.{Known}
 use Rattle.rowex_core.specs.Cores.{Core, IsLawful, heap_of, view}
-use Rattle.rowex_core.specs.Knowing.{Knows}
+use Rattle.rowex_core.specs.Knowing.{Recalls}
+use Rattle.rowex_core.proofs.Owning.{recalls}
 use Rattle.rowex_core.specs.Reading.{IsPacked}
 use Rattle.rowex_core.proofs.Reading.{head_is, node_is}
 use Rattle.rowex_walks.specs.Scan.{IsSeen, IsShaped}
@@ -30,7 +31,7 @@ use Rattle.rowex_walks.proofs.Loads.{loads_shape}
 use Rattle.rowex_walks.proofs.Search.{now_same}
 use Rattle.rowex_walks.proofs.Scans.{node_of, shaped}
 use Rattle.hot_index.specs.Seen.{seen, IsLedTo, shape_of}
-use Rattle.hot_index.proofs.Seeing.{loads_knows, seen_within, seen_past, seen_grown, seen_stable, stands_in, stands_seen}
+use Rattle.hot_index.proofs.Seeing.{recalls_before, seen_within, seen_past, seen_grown, seen_stable, stands_in, stands_seen}
 use Rattle.hot_index.proofs.Standing.{reach, is_packed}
 use Rattle.hot_index.proofs.Placing.{to_stood}
 use Rattle.hot_index.proofs.Wording.{AreLoaded, led_stood, words_now}
@@ -83,15 +84,16 @@ module _ {E : Type 0} (layout : Layout) (k j : Known) (n i : ℕ) (words : List 
     answered : answer ≡ Ok (head_of view_now)
     nodes_are : (heap_of c.words).nodes n ≡ record { fixed = head_of view_now; page = piece view_now }
 
-  head_now : (c : Core) → IsLawful c → Knows c j → HeadNow c
+  head_now : (c : Core) → IsLawful c → Recalls c j → HeadNow c
   unfolding IsPacked
-  head_now c lawful knows =
-      go (is_packed c k lawful (loads_knows loaded.loads knows) m led.0 (Node n h) (led.1 c lawful (loads_knows loaded.loads knows)))
+  head_now c lawful known =
+      let before = recalls_before loaded.loads.later known in
+      go (is_packed c k lawful before m led.0 (Node n h) (led.1 c lawful before))
     where
       go : IsPacked (a_node n) (c.words (a_node n)) → HeadNow c
       go (v, has, same) =
           let sized = lawful.records.sized (a_node n) in
-          let are = words_now layout k j (a_node n) i words loaded (long ∙ sym all) (λ o low. (omega arith, omega arith)) m (led_stood k m (Node n h) led) c lawful knows (omega (arith, sized.0)) in
+          let are = words_now layout k j (a_node n) i words loaded (long ∙ sym all) (λ o low. (omega arith, omega arith)) m (led_stood k m (Node n h) led) c lawful known (omega (arith, sized.0)) in
           let head : head_words (head_of v) ≡ words = head_is v (c.words (a_node n)) sized.1 has same ∙ (ap (λ z. take z (c.words (a_node n))) (sym all) ∙ sym are) in
           record {
             view_now = v;
@@ -101,17 +103,17 @@ module _ {E : Type 0} (layout : Layout) (k j : Known) (n i : ℕ) (words : List 
           }
 
   pub head_ok : IsOk answer
-  head_ok = subst IsOk (sym (head_now loaded.possible.core loaded.possible.lawful loaded.possible.knows).answered) refl
+  head_ok = subst IsOk (sym (let x = loaded.possible in head_now x.core x.lawful (recalls x.core j x.knows)).answered) refl
 
-  module _ (head : HeadView) (is : answer ≡ Ok head) (c : Core) (lawful : IsLawful c) (knows : Knows c j) where
+  module _ (head : HeadView) (is : answer ≡ Ok head) (c : Core) (lawful : IsLawful c) (known : Recalls c j) where
     there : HeadNow c
-    there = head_now c lawful knows
+    there = head_now c lawful known
 
     head_same : head_of there.view_now ≡ head
     head_same = ok_same (sym there.answered ∙ is)
 
-    before : Knows c k
-    before = loads_knows loaded.loads knows
+    before : Recalls c k
+    before = recalls_before loaded.loads.later known
 
     led_there : IsSeen (seen c k) m (Node n h)
     led_there = led.1 c lawful before
@@ -134,7 +136,7 @@ module _ {E : Type 0} (layout : Layout) (k j : Known) (n i : ℕ) (words : List 
       where
         go : (x : Fixed) × (b : Tree) × (led_there.1 ≡ node n x b) × (x.height ≡ h) → IsShaped (seen c j) m n (shape_of head)
         go (x, b, is_node, high) =
-            let inside : led_there.0 ≤ length j.front = le_trans led_there.3 (seen_grown loaded.loads knows).longer in
+            let inside : led_there.0 ≤ length j.front = le_trans led_there.3 (seen_grown c loaded.loads.later).longer in
             let past : led_there.0 ≤ c.past.now = le_trans led_there.3 (seen_within lawful before) in
             let st = stands_in c k led_there.4 in
             let p = shape ((heap_of c.words).nodes n).page in

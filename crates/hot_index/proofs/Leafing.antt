@@ -13,14 +13,15 @@ use Rattle.moments.specs.Heap.{LeafWords}
 use Rattle.moments.specs.State.{Stands}
 use Rattle.rowex_core.specs.declared.known.Known.{Known}
 use Rattle.rowex_core.specs.Cores.{Core, IsLawful, heap_of, view}
-use Rattle.rowex_core.specs.Knowing.{Knows}
+use Rattle.rowex_core.specs.Knowing.{Recalls}
+use Rattle.rowex_core.proofs.Owning.{recalls}
 use Rattle.rowex_core.specs.Reading.{IsPacked}
 use Rattle.rowex_core.proofs.Reading.{leaf_is}
 use Rattle.rowex_walks.specs.Scan.{IsSeen, IsRead}
 use Rattle.rowex_walks.proofs.Search.{leaf_now}
 use Rattle.rowex_walks.proofs.Scans.{leaf_of}
 use Rattle.hot_index.specs.Seen.{seen, Sure, IsLedTo}
-use Rattle.hot_index.proofs.Seeing.{loads_knows, seen_within, seen_grown, stands_in, stands_seen}
+use Rattle.hot_index.proofs.Seeing.{recalls_before, seen_within, seen_grown, stands_in, stands_seen}
 use Rattle.hot_index.proofs.Standing.{reach, is_packed}
 use Rattle.hot_index.proofs.Wording.{AreLoaded, led_stood, words_now}
 
@@ -35,15 +36,16 @@ module _ {E : Type 0} (layout : Layout) (k j : Known) (n i : ℕ) (words : List 
     answered : answer ≡ Ok pair
     leaves_are : (heap_of c.words).leaves n ≡ record { key = pair.0; value = pair.1 }
 
-  leaf_there : (c : Core) → IsLawful c → Knows c j → LeafNow c
+  leaf_there : (c : Core) → IsLawful c → Recalls c j → LeafNow c
   unfolding IsPacked
-  leaf_there c lawful knows =
-      go (is_packed c k lawful (loads_knows loaded.loads knows) m led.0 (Leaf n) (led.1 c lawful (loads_knows loaded.loads knows)))
+  leaf_there c lawful known =
+      let before = recalls_before loaded.loads.later known in
+      go (is_packed c k lawful before m led.0 (Leaf n) (led.1 c lawful before))
     where
       go : IsPacked (a_leaf n) (c.words (a_leaf n)) → LeafNow c
       go (pair, has, same) =
           let sized = lawful.records.sized (a_leaf n) in
-          let are = words_now layout k j (a_leaf n) i words loaded (long ∙ sym all) (λ o low. (omega arith, omega arith)) m (led_stood k m (Leaf n) led) c lawful knows (omega (arith, sized.0)) in
+          let are = words_now layout k j (a_leaf n) i words loaded (long ∙ sym all) (λ o low. (omega arith, omega arith)) m (led_stood k m (Leaf n) led) c lawful known (omega (arith, sized.0)) in
           record {
             pair = pair;
             answered = reading.read pair has (same ∙ (sym (take_all i (c.words (a_leaf n)) (omega (arith, sized.0))) ∙ sym are));
@@ -51,16 +53,16 @@ module _ {E : Type 0} (layout : Layout) (k j : Known) (n i : ℕ) (words : List 
           }
 
   pub leaf_ok : IsOk answer
-  leaf_ok = subst IsOk (sym (leaf_there loaded.possible.core loaded.possible.lawful loaded.possible.knows).answered) refl
+  leaf_ok = subst IsOk (sym (let x = loaded.possible in leaf_there x.core x.lawful (recalls x.core j x.knows)).answered) refl
 
   pub leaf_read : (pair : List ℕ × ℕ) → answer ≡ Ok pair → Sure j (λ s. IsRead s m n pair.0 pair.1)
-  leaf_read pair is c lawful knows = go (leaf_of n led_there.1 led_there.5)
+  leaf_read pair is c lawful known = go (leaf_of n led_there.1 led_there.5)
     where
       there : LeafNow c
-      there = leaf_there c lawful knows
+      there = leaf_there c lawful known
 
-      before : Knows c k
-      before = loads_knows loaded.loads knows
+      before : Recalls c k
+      before = recalls_before loaded.loads.later known
 
       led_there : IsSeen (seen c k) m (Leaf n)
       led_there = led.1 c lawful before
@@ -70,4 +72,4 @@ module _ {E : Type 0} (layout : Layout) (k j : Known) (n i : ℕ) (words : List 
           let st : Stands c.past led_there.0 (a_leaf n) (leaf n key value) = subst (λ z. Stands c.past led_there.0 (a_leaf n) z) is_leaf (stands_in c k led_there.4) in
           let now = leaf_now (view c) lawful.core.state m (reach c k lawful before m led.0) led_there.0 n n key value led_there.2 (le_trans led_there.3 (seen_within lawful before)) st in
           subst (λ (z : List ℕ × ℕ). IsRead (seen c j) m n z.0 z.1) (ok_same (sym there.answered ∙ is))
-          (subst (λ (z : LeafWords). IsRead (seen c j) m n z.key z.value) (sym now ∙ there.leaves_are) (led_there.0, led_there.2, le_trans led_there.3 (seen_grown loaded.loads knows).longer, stands_seen c j st))
+          (subst (λ (z : LeafWords). IsRead (seen c j) m n z.key z.value) (sym now ∙ there.leaves_are) (led_there.0, led_there.2, le_trans led_there.3 (seen_grown c loaded.loads.later).longer, stands_seen c j st))

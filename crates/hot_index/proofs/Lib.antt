@@ -1,5 +1,6 @@
 -- The lemmas of the crate.
 pub mod Seeing
+pub mod Later
 pub mod Loading
 pub mod Rooting
 pub mod Standing

@@ -2,9 +2,8 @@
 use Rattle.std.proofs.Common.{◌≡◌, ℕ, ◌+◌, ◌≤◌, List, [], ◌∷◌, ◌++◌, length, Option, Some, None, IsSome, refl, ap, sym, ◌∙◌, subst, le_trans}
 use Rattle.std.specs.Prelude.{All}
 use Rattle.std.proofs.lemmas.List.{append-nil}
-use Rattle.std.proofs.lemmas.List.Elements.{All-head, All-tail}
+use Rattle.std.proofs.lemmas.List.Elements.{All-head}
 use Rattle.hot_model.specs.declared.Note.{Note}
-use Rattle.hot_model.specs.Fronts.{OthersGoOn}
 use Rattle.record_words.specs.declared.layout.Layout.{Layout}
 use Rattle.tries.specs.Tree.{Tree}
 use Rattle.moments.specs.declared.Pin.{Pin}
@@ -18,74 +17,58 @@ use Rattle.rowex_core.specs.declared.known.Fact.TheVariants.{Rooted, Placed, Fix
 use Rattle.rowex_core.specs.declared.known.Fresh.{Fresh}
 use Rattle.rowex_core.specs.declared.known.Known.{Known}
 use Rattle.rowex_core.specs.Cores.{Core, IsLawful}
-use Rattle.rowex_core.specs.Knowing.{IsFact, IsFound, StoodAs, StoodBetween, Knows, IsEvent, facts_with, learned}
+use Rattle.rowex_core.specs.Knowing.{IsFact, IsFound, StoodAs, StoodBetween, Recalls, IsEvent, facts_with}
 use Rattle.rowex_core.specs.Reading.{entry_of}
 use Rattle.rowex_core.specs.Words.{record_word}
-use Rattle.rowex_core.proofs.Learning.{learns}
 use Rattle.epochs.specs.Runs.{silent}
-use Rattle.hot_index.specs.Seen.{seen, Loads}
+use Rattle.hot_index.specs.Seen.{seen, IsLater, Loads}
 use Rattle.hot_index.proofs.Seeing.{seen_grown, stands_in, stands_seen}
+use Rattle.hot_index.proofs.Later.{event_later}
 
 -- One load of a pass that is pinned, at this core: the pass knew k, knows j then, and j has the fact.
 pub record IsTaught (core : Core) (found : Fact) (k j : Known) : Type 0 where
   pub loads : Loads 1 k j
   pub front : j.front ≡ core.changes
-  pub before : Knows core k
-  pub knows : Knows core j
-  pub fact : (c : Core) → Knows c j → IsFact c.past found
+  pub fact : (c : Core) → Recalls c j → IsFact c.past found
 
-renoted : (c : Core) (k : Known) (notes : List Note) → Knows c k → Knows c (record k { notes = notes })
-renoted c k notes h = record { pass = h.pass; loaded = h.loaded; seen = h.seen; own = h.own }
-
-taught : (core : Core) (k j : Known) (p : Pin) (f : ℕ → Fact) (fresh : Fresh) → k.pin ≡ Some p → Knows core k → Knows core j →
+taught : (core : Core) (k j : Known) (p : Pin) (f : ℕ → Fact) (fresh : Fresh) → k.pin ≡ Some p → IsLater k j →
     j ≡ record k { front = core.changes; fresh = fresh; facts = facts_with k.pin f k.facts; steps = k.steps + 1; notes = k.notes ++ [] } → IsTaught core (f p.moment) k j
-taught core k j p f fresh pinned before knows is = record {
+taught core k j p f fresh pinned later is = record {
   loads = record {
     rest = is ∙ (ap (λ (notes : List Note). let z : Known = record k { front = core.changes; fresh = fresh; facts = facts_with k.pin f k.facts; steps = k.steps + 1; notes = notes } in z) (append-nil k.notes) ∙
         ap (λ (z : Known). let y : Known = record k { front = z.front; fresh = z.fresh; facts = z.facts; steps = k.steps + 1 } in y) (sym is));
-    front = subst (OthersGoOn k.pass k.front) (sym (ap (λ (z : Known). z.front) is)) before.seen.front;
-    began = before.seen.fresh;
-    loaded = before.loaded;
-    facts = λ s h. All-tail (IsFact s) (f p.moment) k.facts (subst (All (IsFact s)) facts_are h);
+    later = later;
   };
   front = ap (λ (z : Known). z.front) is;
-  before = before;
-  knows = knows;
-  fact = λ c h. All-head (IsFact c.past) (f p.moment) k.facts (subst (All (IsFact c.past)) facts_are h.seen.facts);
+  fact = λ c h. All-head (IsFact c.past) (f p.moment) k.facts (subst (All (IsFact c.past)) facts_are h.facts);
 }
   where
     facts_are : j.facts ≡ f p.moment ∷ k.facts
     facts_are = ap (λ (z : Known). z.facts) is ∙ ap (λ (o : Option Pin). facts_with o f k.facts) pinned
 
-knows_then : (core : Core) (k j : Known) (act : Act) → Knows core (learned core act k) → j ≡ record (learned core act k) { notes = k.notes ++ [] } → Knows core j
-knows_then core k j act h is = subst (Knows core) (sym is) (renoted core (learned core act k) (k.notes ++ []) h)
-
 module _ (layout : Layout) (k j : Known) (p : Pin) (pinned : k.pin ≡ Some p) where
   pub root_taught : (w : ℕ) (e : IsEvent layout (LoadRef Root w) silent k j) → IsTaught e.core (Rooted p.moment e.core.past.now e.core.root) k j
   root_taught w e =
-      taught e.core k j p (λ since. Rooted since e.core.past.now e.core.root) (record { front = e.core.changes; step = k.steps }) pinned e.knows
-      (knows_then e.core k j (LoadRef Root w) (learns e.core k (LoadRef Root w) e.lawful e.knows e.legal) e.learned_is) e.learned_is
+      taught e.core k j p (λ since. Rooted since e.core.past.now e.core.root) (record { front = e.core.changes; step = k.steps }) pinned (event_later e tt) e.learned_is
 
   pub slot_taught : (n i w : ℕ) (e : IsEvent layout (LoadRef (Slot n i) w) silent k j) →
       IsTaught e.core (Placed p.moment e.core.past.now n i (entry_of (record_word e.core (a_node n) (26 + i)))) k j
   slot_taught n i w e =
-      taught e.core k j p (λ since. Placed since e.core.past.now n i (entry_of (record_word e.core (a_node n) (26 + i)))) k.fresh pinned e.knows
-      (knows_then e.core k j (LoadRef (Slot n i) w) (learns e.core k (LoadRef (Slot n i) w) e.lawful e.knows e.legal) e.learned_is) e.learned_is
+      taught e.core k j p (λ since. Placed since e.core.past.now n i (entry_of (record_word e.core (a_node n) (26 + i)))) k.fresh pinned (event_later e tt) e.learned_is
 
   pub fixed_taught : (r : Rec) (offset w : ℕ) (e : IsEvent layout (LoadFixed r offset w) silent k j) → IsTaught e.core (Fixed p.moment e.core.past.now r offset w) k j
   fixed_taught r offset w e =
-      taught e.core k j p (λ since. Fixed since e.core.past.now r offset w) k.fresh pinned e.knows
-      (knows_then e.core k j (LoadFixed r offset w) (learns e.core k (LoadFixed r offset w) e.lawful e.knows e.legal) e.learned_is) e.learned_is
+      taught e.core k j p (λ since. Fixed since e.core.past.now r offset w) k.fresh pinned (event_later e tt) e.learned_is
 
 -- the load was at the newest moment that the pass has seen then
 pub taught_now : {core : Core} {fact : Fact} {k j : Known} → IsLawful core → IsTaught core fact k j → length j.front ≡ core.past.now
 taught_now lawful t = ap length t.front ∙ lawful.core.told.count
 
 -- what the load found of a record that stood before: it stood so at a moment that the pass has seen
-pub found_seen : (core c : Core) (k j : Known) (n p m : ℕ) (r : Rec) (P : Tree → Type 0) → length j.front ≡ core.past.now → Loads n k j → Knows c j → p ≤ m →
+pub found_seen : (core c : Core) (k j : Known) (p m : ℕ) (r : Rec) (P : Tree → Type 0) → length j.front ≡ core.past.now → IsLater k j → p ≤ m →
     StoodBetween (seen c k) m (length k.front) r → IsFound c.past p core.past.now r P → StoodAs (seen c j) m (length j.front) r P
-found_seen core c k j n p m r P now loads knows low (o, u, lo, hi, st) found =
-    let f = found m low (o, u, lo, subst (λ z. o ≤ z) now (le_trans hi (seen_grown loads knows).longer), stands_in c k st) in
+found_seen core c k j p m r P now later low (o, u, lo, hi, st) found =
+    let f = found m low (o, u, lo, subst (λ z. o ≤ z) now (le_trans hi (seen_grown c later).longer), stands_in c k st) in
     (f.0, f.1, f.2, subst (λ z. f.0 ≤ z) (sym now) f.3, stands_seen c j f.4, f.5)
 
 -- the pin of a pinned pass

@@ -75,7 +75,7 @@ same_since j i e = ap (λ (z : Fresh). length z.front) e
 -- the load of the root
 module _ (k j : Known) (loads : Loads 1 k j) (new : j.fresh ≡ record { front = j.front; step = k.steps }) where
   root_front : BeginsWith j.fresh.front k.front
-  root_front = (loads.front.0, ap (λ (z : Fresh). z.front) new ∙ loads.front.1)
+  root_front = (loads.later.front.0, ap (λ (z : Fresh). z.front) new ∙ loads.later.front.1)
 
   root_step : k.steps ≤ j.fresh.step
   root_step = subst (λ (z : Fresh). k.steps ≤ z.step) (sym new) (le_refl k.steps)
@@ -100,7 +100,7 @@ module _ (k j : Known) (loads : Loads 1 k j) (new : j.fresh ≡ record { front =
     fresh = root_front;
     now = root_step;
     pinned = pinned;
-    led = λ c lawful knows. rooted_led (seen c j) (since j) (seen_steady lawful knows pinned) key e (rooted c lawful knows);
+    led = λ c lawful recalls. rooted_led (seen c j) (since j) (seen_steady lawful recalls pinned) key e (rooted c lawful recalls);
   }
 
 -- the search is at an entry, of which the pass knows that it stood in the tree
@@ -132,7 +132,7 @@ at_next k j i h key d n height place x e at is head same shape leads one same' e
   now = subst (λ (z : Fresh). k.steps ≤ z.step) (sym kept) at.now;
   pinned = subst (IsSince h) (sym (same_since j h kept)) pinned;
   led = subst (λ m. Sure h (λ s. IsLed s m key e)) (sym (same_since j h kept))
-      (λ c lawful knows. led_placed (seen c h) (since j) (seen_steady lawful knows pinned) key n height place x e (shapes c lawful knows) (sym leads) (entry.1 c lawful knows) (leads_on c lawful knows));
+      (λ c lawful recalls. led_placed (seen c h) (since j) (seen_steady lawful recalls pinned) key n height place x e (shapes c lawful recalls) (sym leads) (entry.1 c lawful recalls) (leads_on c lawful recalls));
 }
   where
     both : Loads 26 j h
@@ -169,11 +169,11 @@ module _ (k j i : Known) (key : Key) (d : Entry) (n : ℕ) (at : IsAt k j key d)
 
   pub leaf_held : l ≡ key → HasFound i key (Some v)
   leaf_held e = subst (λ m. Sure i (λ s. IsHeld s m key v)) (sym (same_since j i same))
-      (λ c lawful knows. subst (λ z. IsHeld (seen c i) (since j) z v) e (read_held (seen c i) (since j) n l v (read c lawful knows)))
+      (λ c lawful recalls. subst (λ z. IsHeld (seen c i) (since j) z v) e (read_held (seen c i) (since j) n l v (read c lawful recalls)))
 
   pub leaf_absent : l ≢ key → HasFound i key None
   leaf_absent ne = subst (λ m. Sure i (λ s. IsMissed s m key)) (sym (same_since j i same))
-      (λ c lawful knows. leaf_missed (seen c i) (since j) (seen_steady lawful knows (since_on loads at.pinned)) key n l v (led_on c lawful knows) (read c lawful knows) (λ e. ne (sym e)))
+      (λ c lawful recalls. leaf_missed (seen c i) (since j) (seen_steady lawful recalls (since_on loads at.pinned)) key n l v (led_on c lawful recalls) (read c lawful recalls) (λ e. ne (sym e)))
     where
       led_on : Sure i (λ s. IsLed s (since j) key (Leaf n))
       led_on = sure_on (led_stable (since j) key (Leaf n)) loads (subst (λ z. Sure j (λ s. IsLed s (since j) key z)) is at.led)

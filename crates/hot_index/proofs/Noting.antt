@@ -23,7 +23,7 @@ use Rattle.moments.specs.Told.{content}
 use Rattle.rowex_core.specs.declared.event.Act.TheVariants.{ClearPin}
 use Rattle.rowex_core.specs.declared.known.Known.{Known}
 use Rattle.rowex_core.specs.Cores.{Core, IsLawful}
-use Rattle.rowex_core.specs.Knowing.{Knows, IsEvent}
+use Rattle.rowex_core.specs.Knowing.{Recalls, IsEvent}
 use Rattle.epochs.specs.Runs.{Pins}
 use Rattle.hot_index.specs.Seen.{since}
 use Rattle.hot_index.specs.Passes.{IsSettled, pass_view}
@@ -31,6 +31,7 @@ use Rattle.hot_index.specs.Answers.{IsNoted, HasFound, got}
 use Rattle.hot_index.specs.Lookups.{HasSearched}
 use Rattle.hot_index.specs.Noting.{same_reply, first_from, answers_so, place_of, note_of}
 use Rattle.hot_index.proofs.Seeing.{seen_told, seen_within}
+use Rattle.hot_index.proofs.Later.{event_recalls}
 
 -- Replies
 
@@ -111,15 +112,15 @@ get_reply m key o e = ap (λ z. (step_where z m (Get key)).1) e ∙ at o
     at (Some v) = refl
 
 -- the reply that a get gives was right
-pub found_right : (k : Known) (key : Key) (o : Option ℕ) → HasFound k key o → (c : Core) → IsLawful c → Knows c k → WasRight k (Get key) (got o)
-found_right k key None found c lawful knows =
-    let f = found c lawful knows in
-    let told = (seen_told lawful knows).content_is f.0 f.2 in
+pub found_right : (k : Known) (key : Key) (o : Option ℕ) → HasFound k key o → (c : Core) → IsLawful c → Recalls c k → WasRight k (Get key) (got o)
+found_right k key None found c lawful recalls =
+    let f = found c lawful recalls in
+    let told = (seen_told lawful recalls).content_is f.0 f.2 in
     (f.0, f.1, f.2, get_reply _ key None (ap (λ (z : Map). value_at z key) (sym told) ∙ absent_at (c.past.moment f.0) key f.3))
-found_right k key (Some v) found c lawful knows =
-    let f = found c lawful knows in
-    let told = (seen_told lawful knows).content_is f.0 f.3 in
-    let tree : IsTrie f.1 = (lawful.core.state.trees f.0 f.1 (le_trans f.3 (seen_within lawful knows)) f.4).0 in
+found_right k key (Some v) found c lawful recalls =
+    let f = found c lawful recalls in
+    let told = (seen_told lawful recalls).content_is f.0 f.3 in
+    let tree : IsTrie f.1 = (lawful.core.state.trees f.0 f.1 (le_trans f.3 (seen_within lawful recalls)) f.4).0 in
     (f.0, f.2, f.3, get_reply _ key (Some v) (ap (λ (z : Map). value_at z key) (sym told) ∙ (ap (λ t. value_at (content t) key) f.4 ∙ holds_value f.1 tree key v f.5)))
 
 -- The end of a call
@@ -140,7 +141,7 @@ longer later front b = let e = ap length b.1 ∙ length-append front b.0 in omeg
 
 -- a call that changed nothing is noted as its pass clears the pin
 pub noted : (table table' : TableId) (layout : Layout) (call : Call) (reply : Reply) (k i j : Known) → IsSettled k → HasLooked k i → IsEvent layout ClearPin (note_of call reply) i j →
-    ((c : Core) → IsLawful c → Knows c i → WasRight i call reply) → ((p : ℕ) → is_change (record { place = p; call = call; reply = reply }) ≡ false) →
+    ((c : Core) → IsLawful c → Recalls c i → WasRight i call reply) → ((p : ℕ) → is_change (record { place = p; call = call; reply = reply }) ≡ false) →
     IsNoted (pass_view table k) (pass_view table' j) call reply × IsSettled j
 noted table table' layout call reply k i j settled looked event right quiet = subst (λ z. IsNoted (pass_view table k) (pass_view table' z) call reply × IsSettled z) (sym event.learned_is) (told, whole)
   where
@@ -151,13 +152,13 @@ noted table table' layout call reply k i j settled looked event right quiet = su
     note = record { place = place; call = call; reply = reply }
 
     at : IsRightPlace i.front (since i) call reply place
-    at = right_place i call reply (right event.core event.lawful event.knows)
+    at = right_place i call reply (right event.core event.lawful (event_recalls event))
 
     after : Known
     after = record i { pin = None; steps = i.steps + 1; notes = i.notes ++ note ∷ [] }
 
     calls : LegalCalls i.front k.pass (k.notes ++ note ∷ [])
-    calls = legal_quiet k.front i.front k.pass k.notes note settled.legal looked.front (seen_told event.lawful event.knows).legal
+    calls = legal_quiet k.front i.front k.pass k.notes note settled.legal looked.front (seen_told event.lawful (event_recalls event)).legal
         (le_trans (longer i.fresh.front k.front looked.fresh) at.least) at.most at.right (quiet place)
 
     legal : LegalCalls i.front i.pass (i.notes ++ note ∷ [])
@@ -186,7 +187,7 @@ looked layout k i j settled pins search = record {
   own = ap (λ (z : Known). z.own) loads ∙ (ap (λ (z : Known). z.own) pinned ∙ settled.own);
   locks = ap (λ (z : Known). z.locks) loads ∙ (ap (λ (z : Known). z.locks) pinned ∙ settled.locks);
   anchor = ap (λ (z : Known). z.anchor) loads ∙ (ap (λ (z : Known). z.anchor) pinned ∙ settled.anchor);
-  front = subst (λ (z : ℕ × List Change). OthersGoOn z.0 z.1 j.front) (λ x. (pass x, front x)) search.loads.front;
+  front = subst (λ (z : ℕ × List Change). OthersGoOn z.0 z.1 j.front) (λ x. (pass x, front x)) search.loads.later.front;
   fresh = subst (λ (z : List Change). BeginsWith j.fresh.front z) front search.fresh;
   now = let now = search.now in let steps = ap (λ (z : Known). z.steps) pinned in omega arith;
 }

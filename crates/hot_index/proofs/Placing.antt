@@ -19,7 +19,8 @@ use Rattle.rowex_core.specs.declared.event.Spot.TheVariants.{Slot}
 use Rattle.rowex_core.specs.declared.known.Fact.TheVariants.{Placed}
 use Rattle.rowex_core.specs.declared.known.Known.{Known}
 use Rattle.rowex_core.specs.Cores.{Core, IsLawful}
-use Rattle.rowex_core.specs.Knowing.{Knows, IsEvent, StoodAs}
+use Rattle.rowex_core.specs.Knowing.{Recalls, IsEvent, StoodAs}
+use Rattle.rowex_core.proofs.Owning.{recalls}
 use Rattle.rowex_core.specs.Reading.{entry_of, entry_in}
 use Rattle.rowex_core.specs.Words.{record_word}
 use Rattle.rowex_core.proofs.Reading.{entry_of_word}
@@ -31,15 +32,17 @@ use Rattle.rowex_walks.proofs.Loads.{page_at}
 use Rattle.rowex_walks.proofs.Scans.{record_node, shaped}
 use Rattle.hot_index.specs.Possible.{IsPossible}
 use Rattle.hot_index.specs.Seen.{seen, Sure, Loads, HasShape, IsLedTo}
-use Rattle.hot_index.proofs.Seeing.{loads_knows, seen_steady, shaped_stable, seen_stable, sure_on, since_on}
+use Rattle.hot_index.proofs.Seeing.{recalls_before, seen_steady, shaped_stable, seen_stable, sure_on, since_on}
+use Rattle.hot_index.proofs.Later.{event_knows, event_possible, event_recalls}
 use Rattle.hot_index.proofs.Loading.{IsTaught, slot_taught, taught_now, found_seen}
 use Rattle.hot_index.proofs.Standing.{led_in_table, is_packed, entry_spelled}
 
 -- a node has at most 32 places
 few_places : (layout : Layout) (k : Known) (m n h : ℕ) (x : Page) → IsPossible layout k → HasShape k m n h x → size x ≤ 32
 few_places layout k m n h x possible (led, shape_is) =
-    let s = shape_is possible.core possible.lawful possible.knows in
-    let steady : IsSteady (seen possible.core k) m = seen_steady possible.lawful possible.knows led.0 in
+    let known = recalls possible.core k possible.knows in
+    let s = shape_is possible.core possible.lawful known in
+    let steady : IsSteady (seen possible.core k) m = seen_steady possible.lawful known led.0 in
     let st = s.1.stands in
     let built : IsBuilt (node n s.1.fixed s.0) = built_within st.within (steady.trees s.1.at st.tree s.1.until st.is_moment).1 in
     subst (λ z. z ≤ 32) (sym (shape_tips (page s.0)) ∙ ap size s.2) built.3.room
@@ -65,7 +68,7 @@ module _ (layout : Layout) (k j : Known) (n i w : ℕ) (event : IsEvent layout (
   -- the word is that of an entry, or of none
   pub slot_spelled : (m h : ℕ) → IsLedTo k m (Node n h) → (x : Option Entry) × HasEntryWord x × (entry_word x ≡ w)
   slot_spelled m h led =
-      let x = entry_spelled core n i (is_packed core k event.lawful event.knows m led.0 (Node n h) (led.1 core event.lawful event.knows)) event.legal.1.1 in
+      let x = entry_spelled core n i (is_packed core k event.lawful (event_recalls event) m led.0 (Node n h) (led.1 core event.lawful (event_recalls event))) event.legal.1.1 in
       (x.0, x.1, x.2 ∙ sym event.legal.1.2)
 
   module _ (m h : ℕ) (x : Page) (has : HasShape k m n h x) (low : i < size x) where
@@ -79,7 +82,7 @@ module _ (layout : Layout) (k j : Known) (n i w : ℕ) (event : IsEvent layout (
     slot_loads = is.loads
 
     pub slot_possible : IsPossible layout j
-    slot_possible = record { core = core; lawful = event.lawful; layout_is = event.layout_is; knows = is.knows }
+    slot_possible = event_possible event
 
     module _ (o : Option Entry) (word : HasEntryWord o) (spells : entry_word o ≡ w) where
       word_is : entry_of (record_word core (a_node n) (26 + i)) ≡ o
@@ -92,16 +95,16 @@ module _ (layout : Layout) (k j : Known) (n i w : ℕ) (event : IsEvent layout (
         low_there : i < size (page body)
         entry_there : Some (entry_at (page body) i) ≡ o
 
-      there : (c : Core) → IsLawful c → Knows c j → There c
-      there c lawful knows =
-          let before : Knows c k = loads_knows slot_loads knows in
+      there : (c : Core) → IsLawful c → Recalls c j → There c
+      there c lawful known =
+          let before : Recalls c k = recalls_before slot_loads.later known in
           let found : StoodAs (seen c j) m (length j.front) (a_node n) (λ u. entry_in u i ≡ o) =
-          found_seen core c k j 1 pin.moment m (a_node n) (λ u. entry_in u i ≡ o) (taught_now event.lawful is) slot_loads knows has.0.0.2
+          found_seen core c k j pin.moment m (a_node n) (λ u. entry_in u i ≡ o) (taught_now event.lawful is) slot_loads.later has.0.0.2
           (let s = has.0.1 c lawful before in (s.0, s.1, s.2, s.3, s.4))
-          (λ a lo st. let f = (is.fact c knows).1 a lo st in (f.0, f.1, f.2, f.3, f.4, f.5 ∙ word_is)) in
+          (λ a lo st. let f = (is.fact c known).1 a lo st in (f.0, f.1, f.2, f.3, f.4, f.5 ∙ word_is)) in
           let v = record_node n found.1 found.4.is_record in
           let st : Stood (seen c j) m n v.1 = to_stood (seen c j) m n found.0 found.1 v.0 v.1 v.2 found.2 found.3 found.4 in
-          let same : shape (page v.1) ≡ x = shaped (seen c j) m (seen_steady lawful knows (since_on slot_loads has.0.0)) n x v.1 (sure_on (shaped_stable m n x) slot_loads has.1 c lawful knows) st in
+          let same : shape (page v.1) ≡ x = shaped (seen c j) m (seen_steady lawful known (since_on slot_loads has.0.0)) n x v.1 (sure_on (shaped_stable m n x) slot_loads has.1 c lawful known) st in
           let inside : i < size (page v.1) = place_below i (page v.1) x same low in
           record {
             body = v.1;
@@ -110,12 +113,16 @@ module _ (layout : Layout) (k j : Known) (n i w : ℕ) (event : IsEvent layout (
             entry_there = entry_of_node n v.0 v.1 found.1 i o v.2 inside found.5;
           }
 
+      -- what is recalled after the load is true of the core of the load
+      now : Recalls core j
+      now = recalls core j (event_knows event)
+
       pub slot_some : IsSome o
-      slot_some = subst IsSome (there core event.lawful is.knows).entry_there refl
+      slot_some = subst IsSome (there core event.lawful now).entry_there refl
 
       pub slot_placed : (e : Entry) → o ≡ Some e → Sure j (λ s. IsPlaced s m n i e)
-      slot_placed e some c lawful knows =
-          let t = there c lawful knows in
+      slot_placed e some c lawful known =
+          let t = there c lawful known in
           let same : entry_at (page t.body) i ≡ e = some_same (t.entry_there ∙ some) in
           (t.body, t.stood, t.low_there, page_at t.body i t.low_there ∙ ap Place same)
         where
@@ -123,5 +130,5 @@ module _ (layout : Layout) (k j : Known) (n i w : ℕ) (event : IsEvent layout (
           some_same q = cc
 
       pub slot_lower : (e : Entry) → o ≡ Some e → height_of e < h
-      slot_lower e some = placed_falls (seen core j) m (seen_steady event.lawful is.knows (since_on slot_loads has.0.0)) n h i e
-          (sure_on (seen_stable m (Node n h)) slot_loads has.0.1 core event.lawful is.knows) (slot_placed e some core event.lawful is.knows)
+      slot_lower e some = placed_falls (seen core j) m (seen_steady event.lawful now (since_on slot_loads has.0.0)) n h i e
+          (sure_on (seen_stable m (Node n h)) slot_loads has.0.1 core event.lawful now) (slot_placed e some core event.lawful now)

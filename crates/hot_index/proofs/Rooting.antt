@@ -22,7 +22,7 @@ use Rattle.rowex_core.specs.declared.known.Fact.TheVariants.{Rooted}
 use Rattle.rowex_core.specs.declared.known.Fresh.{Fresh}
 use Rattle.rowex_core.specs.declared.known.Known.{Known}
 use Rattle.rowex_core.specs.Cores.{Core, IsLawful, heap_of}
-use Rattle.rowex_core.specs.Knowing.{Knows, IsEvent}
+use Rattle.rowex_core.specs.Knowing.{Recalls, IsEvent}
 use Rattle.rowex_core.proofs.Owning.{pin_is}
 use Rattle.rowex_core.specs.Reading.{entry_of, root_of, head_entry}
 use Rattle.rowex_core.proofs.Reading.{entry_of_word}
@@ -30,6 +30,7 @@ use Rattle.epochs.specs.Runs.{silent}
 use Rattle.hot_index.specs.Possible.{IsPossible}
 use Rattle.hot_index.specs.Seen.{Loads, RootIs, IsSince, since}
 use Rattle.hot_index.proofs.Seeing.{seen_told}
+use Rattle.hot_index.proofs.Later.{event_possible}
 use Rattle.hot_index.proofs.Loading.{IsTaught, root_taught, taught_now}
 
 -- a tree has an item
@@ -81,7 +82,7 @@ module _ (layout : Layout) (k j : Known) (p : Pin) (pinned : k.pin ≡ Some p) (
   root_loads = is.loads
 
   pub root_possible : IsPossible layout j
-  root_possible = record { core = core; lawful = event.lawful; layout_is = event.layout_is; knows = is.knows }
+  root_possible = event_possible event
 
   fresh_is : j.fresh ≡ record { front = core.changes; step = k.steps }
   fresh_is = ap (λ (z : Known). z.fresh) event.learned_is
@@ -115,27 +116,27 @@ module _ (layout : Layout) (k j : Known) (p : Pin) (pinned : k.pin ≡ Some p) (
       go (Some x) h = top (core.past.moment core.past.now) x refl (subst (λ z. IsTop (heap_of core.words) z (core.past.moment core.past.now)) (sym h) event.lawful.core.state.top)
 
   -- in each core of which j is true, the root was this one then
-  fact_there : (c : Core) → Knows c j → root_of (c.past.moment (since j)) ≡ core.root
-  fact_there c knows = ap (λ z. root_of (c.past.moment z)) fresh_now ∙ (is.fact c knows).2
+  fact_there : (c : Core) → Recalls c j → root_of (c.past.moment (since j)) ≡ core.root
+  fact_there c recalls = ap (λ z. root_of (c.past.moment z)) fresh_now ∙ (is.fact c recalls).2
 
   front_long : since j ≤ length j.front
   front_long = subst (λ z. z ≤ length j.front) (sym fresh_now) (subst (λ z. core.past.now ≤ z) (sym (taught_now event.lawful is)) (le_refl core.past.now))
 
   -- and the content is that of the core here
-  same_content : (c : Core) → IsLawful c → Knows c j → content (c.past.moment (since j)) ≡ content (core.past.moment core.past.now)
-  same_content c lawful knows =
-      (seen_told lawful knows).content_is (since j) front_long ∙
+  same_content : (c : Core) → IsLawful c → Recalls c j → content (c.past.moment (since j)) ≡ content (core.past.moment core.past.now)
+  same_content c lawful recalls =
+      (seen_told lawful recalls).content_is (since j) front_long ∙
       (ap (λ (z : ℕ). map_of (take z j.front)) fresh_now ∙ (ap (λ (z : List Change). map_of (take core.past.now z)) is.front ∙ sym (event.lawful.core.told.content_is core.past.now (le_refl core.past.now))))
 
   pub root_told : (e : Option Entry) → HasEntryWord e → entry_word e ≡ w → RootIs j e
   root_told e has spells = go e (found_root e has spells)
     where
       go : (e : Option Entry) → e ≡ core.root → RootIs j e
-      go None h = λ c lawful knows. (
+      go None h = λ c lawful recalls. (
         since j,
         le_refl (since j),
         front_long,
-        no_tree (c.past.moment (since j)) (same_content c lawful knows ∙
+        no_tree (c.past.moment (since j)) (same_content c lawful recalls ∙
             ap content (no_top (heap_of core.words) (core.past.moment core.past.now) (subst (λ z. IsTop (heap_of core.words) z (core.past.moment core.past.now)) (sym h) event.lawful.core.state.top))),
       )
-      go (Some x) h = λ c lawful knows. (let t = a_top (c.past.moment (since j)) x (fact_there c knows ∙ sym h) in (since j, t.0, le_refl (since j), front_long, t.1, t.2))
+      go (Some x) h = λ c lawful recalls. (let t = a_top (c.past.moment (since j)) x (fact_there c recalls ∙ sym h) in (since j, t.0, le_refl (since j), front_long, t.1, t.2))

@@ -28,6 +28,7 @@ use Rattle.hot_index.specs.Answers.{IsScanned, IsUnnoted}
 use Rattle.hot_index.specs.Seen.{seen, Loads, since}
 use Rattle.hot_index.specs.Scanning.{HasScanned, IsAnswer}
 use Rattle.hot_index.proofs.Seeing.{seen_told, seen_steady}
+use Rattle.hot_index.proofs.Later.{event_recalls}
 
 some_of : (o : Option Pin) → IsSome o → (p : Pin) × (o ≡ Some p)
 some_of None h = absurd (false≢true h)
@@ -47,13 +48,13 @@ if_refused (Err e) Q h = h
 lawful_scan : (k : Known) (g : Range) (scan : Scan) (layout : Layout) (said : Known → List Note) (j : Known) → IsKey g.from → IsKey g.upto → (p : Pin) → k.pin ≡ Some p → HasScanned k g scan → IsEvent layout ClearPin said k j →
     IsLawfulScan k.fresh.front k.front g.from g.upto g.limit scan
 lawful_scan k g scan layout said j kf ku p pin h event =
-    subst (λ (z : List Change). IsLawfulScan k.fresh.front z g.from g.upto g.limit scan) (sym event.knows.seen.fresh.1) (go scan.more refl (h.answer event.core event.lawful event.knows))
+    subst (λ (z : List Change). IsLawfulScan k.fresh.front z g.from g.upto g.limit scan) (sym event.knows.seen.fresh.1) (go scan.more refl (h.answer event.core event.lawful (event_recalls event)))
   where
     told : IsTold (seen event.core k) (k.fresh.front ++ event.knows.seen.fresh.0)
-    told = subst (λ (z : List Change). IsTold (seen event.core k) z) event.knows.seen.fresh.1 (seen_told event.lawful event.knows)
+    told = subst (λ (z : List Change). IsTold (seen event.core k) z) event.knows.seen.fresh.1 (seen_told event.lawful (event_recalls event))
 
     steady : IsSteady (seen event.core k) p.moment
-    steady = seen_steady event.lawful event.knows (p, pin, le_refl p.moment)
+    steady = seen_steady event.lawful (event_recalls event) (p, pin, le_refl p.moment)
 
     go : (more : Bool) → scan.more ≡ more → IsAnswer (seen event.core k) (since k) g h.taken scan.more →
         IsLawfulScan k.fresh.front (k.fresh.front ++ event.knows.seen.fresh.0) g.from g.upto g.limit scan
@@ -80,14 +81,14 @@ module _ {n : ℕ} (before later : TableId) (layout : Layout) (k a b j : Known) 
   begun = ap (λ (z : Known). z.front) pinned
 
   others : OthersGoOn k.pass k.front b.front
-  others = subst (λ (z : ℕ). OthersGoOn z k.front b.front) (ap (λ (z : Known). z.pass) pinned) (subst (λ (z : List Change). OthersGoOn a.pass z b.front) begun l.front)
+  others = subst (λ (z : ℕ). OthersGoOn z k.front b.front) (ap (λ (z : Known). z.pass) pinned) (subst (λ (z : List Change). OthersGoOn a.pass z b.front) begun l.later.front)
 
   abbrev after : Known
   after = record b { pin = None; steps = b.steps + 1; notes = b.notes ++ [] }
 
   legal : LegalCalls b.front b.pass (b.notes ++ [])
   legal = subst (λ (z : ℕ). LegalCalls b.front z (b.notes ++ [])) (sym pass) (subst (λ (z : List Note). LegalCalls b.front k.pass z) (sym notes)
-      (legal_longer k.front b.front k.pass k.notes settled.legal others (seen_told event.lawful event.knows).legal))
+      (legal_longer k.front b.front k.pass k.notes settled.legal others (seen_told event.lawful (event_recalls event)).legal))
 
   pub scan_settled : IsSettled j
   scan_settled = subst IsSettled (sym event.learned_is) whole

@@ -1,5 +1,5 @@
 -- What a pass is sure of, and what stays so while it loads.
-use Rattle.std.proofs.Common.{◌≡◌, inl, inr, ℕ, suc, zero, ◌+◌, ◌<◌, ◌≤◌, List, [], ◌∷◌, ◌++◌, length, take, refl, ap, sym, ◌∙◌, subst, arith, le_trans}
+use Rattle.std.proofs.Common.{◌≡◌, inl, inr, ℕ, suc, zero, ◌+◌, ◌≤◌, List, [], ◌∷◌, ◌++◌, length, take, refl, ap, sym, ◌∙◌, subst, arith, le_trans}
 use Rattle.std.proofs.lemmas.List.{length-append}
 use Rattle.key_bits.specs.Bits.{bit_of}
 use Rattle.pieces.specs.Piece.{leads_to}
@@ -7,7 +7,7 @@ use Rattle.compound_node.specs.Nodes.{HeadView, NodeView, IsLawful as IsLawfulNo
 use Rattle.compound_node.specs.declared.entries.Entry.{Entry}
 use Rattle.hot_model.specs.declared.Change.{Change}
 use Rattle.hot_model.specs.Fronts.{OthersGoOn, map_of}
-use Rattle.hot_model.proofs.Growth.{legal_front_part, others_on}
+use Rattle.hot_model.proofs.Growth.{legal_front_part, others_none, others_on}
 use Rattle.tries.specs.Keys.{Key}
 use Rattle.tries.specs.Place.{spot}
 use Rattle.tries.proofs.Places.{leads_spot}
@@ -21,67 +21,69 @@ use Rattle.moments.proofs.Growth.{stands_grown}
 use Rattle.moments.proofs.States.{steady, reach_later}
 use Rattle.rowex_core.specs.declared.known.Known.{Known}
 use Rattle.rowex_core.specs.Cores.{Core, IsLawful, view}
-use Rattle.rowex_core.specs.Knowing.{Knows}
-use Rattle.rowex_core.proofs.Owning.{pin_is}
+use Rattle.rowex_core.specs.Knowing.{Recalls}
 use Rattle.rowex_walks.specs.Scan.{IsSeen, IsRooted, IsPlaced, IsShaped, IsRead, IsBlank}
 use Rattle.rowex_walks.proofs.Persist.{rooted_on, placed_on, shaped_on, read_on}
-use Rattle.hot_index.specs.Seen.{seen, shape_of, Sure, IsStable, IsSince, Loads}
+use Rattle.hot_index.specs.Seen.{seen, shape_of, Sure, IsStable, IsSince, IsLater, Loads}
+
+-- Later on
+
+pub later_trans : {k i j : Known} → IsLater k i → IsLater i j → IsLater k j
+later_trans {k} {i} {j} x y = record {
+  pass = y.pass ∙ x.pass;
+  pin = y.pin ∙ x.pin;
+  front = others_on k.pass k.front i.front j.front x.front (subst (λ z. OthersGoOn z i.front j.front) x.pass y.front);
+  facts = λ s h. x.facts s (y.facts s h);
+}
+
+pub later_same : (k : Known) → IsLater k k
+later_same k = record { pass = refl; pin = refl; front = others_none k.pass k.front; facts = λ s h. h }
+
+-- what is true later on was true before
+pub recalls_before : {k j : Known} {c : Core} → IsLater k j → Recalls c j → Recalls c k
+recalls_before {k} {j} {c} l h = record {
+  front = others_on k.pass k.front j.front c.changes l.front (subst (λ z. OthersGoOn z j.front c.changes) l.pass h.front);
+  facts = l.facts c.past h.facts;
+  pin = subst (λ z. c.pins z ≡ j.pin) l.pass h.pin ∙ l.pin;
+}
 
 -- Loads
-
-same_pass : {n : ℕ} {k j : Known} → Loads n k j → j.pass ≡ k.pass
-same_pass l = ap (λ (z : Known). z.pass) l.rest
-
-pub loads_knows : {n : ℕ} {k j : Known} {c : Core} → Loads n k j → Knows c j → Knows c k
-loads_knows {n} {k} {j} {c} l h = record {
-  pass = subst (λ z. z < c.layout.passes) (same_pass l) h.pass;
-  loaded = l.loaded;
-  seen = record {
-    front = others_on k.pass k.front j.front c.changes l.front (subst (λ z. OthersGoOn z j.front c.changes) (same_pass l) h.seen.front);
-    fresh = l.began;
-    facts = l.facts c.past h.seen.facts;
-  };
-  own = other.own;
-}
-  where
-    other : Knows c (record k { front = j.front; fresh = j.fresh; facts = j.facts; steps = k.steps + n })
-    other = subst (Knows c) l.rest h
 
 pub loads_trans : {n m : ℕ} {k i j : Known} → Loads n k i → Loads m i j → Loads (n + m) k j
 loads_trans {n} {m} {k} {i} {j} x y = record {
   rest = y.rest ∙ (ap (λ (z : Known). let w : Known = record z { front = j.front; fresh = j.fresh; facts = j.facts; steps = z.steps + m } in w) x.rest ∙
       ap (λ (s : ℕ). let w : Known = record k { front = j.front; fresh = j.fresh; facts = j.facts; steps = s } in w) (let e : k.steps + n + m ≡ k.steps + (n + m) = omega arith in e));
-  front = others_on k.pass k.front i.front j.front x.front (subst (λ z. OthersGoOn z i.front j.front) (same_pass x) y.front);
-  began = x.began;
-  loaded = x.loaded;
-  facts = λ s h. x.facts s (y.facts s h);
+  later = later_trans x.later y.later;
 }
 
-longer : {n : ℕ} {k j : Known} → Loads n k j → length k.front ≤ length j.front
-longer {n} {k} {j} l = omega (arith, ap length l.front.1, length-append k.front l.front.0)
-
 -- the moments that it has seen become more
-pub seen_grown : {n : ℕ} {k j : Known} {c : Core} → Loads n k j → Knows c j → IsGrown (seen c k) (seen c j)
-seen_grown l h = record { longer = longer l; kept = λ n a. refl }
+pub seen_grown : {k j : Known} (c : Core) → IsLater k j → IsGrown (seen c k) (seen c j)
+seen_grown {k} {j} c l = record { longer = omega (arith, ap length l.front.1, length-append k.front l.front.0); kept = λ n a. refl }
 
 -- What a pass is sure of
 
+pub sure_later : {P : Past → Type 0} {k j : Known} → IsStable P → IsLater k j → Sure k P → Sure j P
+sure_later {P} {k} {j} stable l sure c lawful recalls = stable (seen c k) (seen c j) (seen_grown c l) (sure c lawful (recalls_before l recalls))
+
 pub sure_on : {P : Past → Type 0} {n : ℕ} {k j : Known} → IsStable P → Loads n k j → Sure k P → Sure j P
-sure_on {P} {n} {k} {j} stable l sure c lawful knows = stable (seen c k) (seen c j) (seen_grown l knows) (sure c lawful (loads_knows l knows))
+sure_on {P} stable l = sure_later {P = P} stable l.later
 
 pub sure_map : {P Q : Past → Type 0} {k : Known} → ((s : Past) → P s → Q s) → Sure k P → Sure k Q
-sure_map f sure c lawful knows = f _ (sure c lawful knows)
+sure_map f sure c lawful recalls = f _ (sure c lawful recalls)
+
+pub since_later : {m : ℕ} {k j : Known} → IsLater k j → IsSince k m → IsSince j m
+since_later l (p, is, low) = (p, l.pin ∙ is, low)
 
 pub since_on : {n m : ℕ} {k j : Known} → Loads n k j → IsSince k m → IsSince j m
-since_on l (p, is, low) = (p, ap (λ (z : Known). z.pin) l.rest ∙ is, low)
+since_on l = since_later l.later
 
 -- The moments that a pass has seen are those of the core up to one of them
 
-pub seen_within : {c : Core} {k : Known} → IsLawful c → Knows c k → length k.front ≤ c.past.now
-seen_within {c} {k} lawful knows = omega (arith, lawful.core.told.count, ap length knows.seen.front.1, length-append k.front knows.seen.front.0)
+pub seen_within : {c : Core} {k : Known} → IsLawful c → Recalls c k → length k.front ≤ c.past.now
+seen_within {c} {k} lawful recalls = omega (arith, lawful.core.told.count, ap length recalls.front.1, length-append k.front recalls.front.0)
 
-pub seen_past : {c : Core} {k : Known} → IsLawful c → Knows c k → IsGrown (seen c k) c.past
-seen_past lawful knows = record { longer = seen_within lawful knows; kept = λ n a. refl }
+pub seen_past : {c : Core} {k : Known} → IsLawful c → Recalls c k → IsGrown (seen c k) c.past
+seen_past lawful recalls = record { longer = seen_within lawful recalls; kept = λ n a. refl }
 
 pub stands_in : (c : Core) (k : Known) {n : ℕ} {r : Rec} {u : Tree} → Stands (seen c k) n r u → Stands c.past n r u
 stands_in c k st = record { tree = st.tree; is_moment = st.is_moment; within = st.within; is_record = st.is_record }
@@ -95,26 +97,26 @@ take_front (suc n) [] ys h = absurd (omega arith)
 take_front (suc n) (x ∷ xs) ys h = ap (λ z. x ∷ z) (take_front n xs ys (omega arith))
 
 -- its front tells them
-pub seen_told : {c : Core} {k : Known} → IsLawful c → Knows c k → IsTold (seen c k) k.front
-seen_told {c} {k} lawful knows = record {
+pub seen_told : {c : Core} {k : Known} → IsLawful c → Recalls c k → IsTold (seen c k) k.front
+seen_told {c} {k} lawful recalls = record {
   count = refl;
-  content_is = λ n h. lawful.core.told.content_is n (le_trans h (seen_within lawful knows)) ∙
-      ap map_of (ap (take n) knows.seen.front.1 ∙ take_front n k.front knows.seen.front.0 h);
-  legal = legal_front_part k.front c.changes (knows.seen.front.0, knows.seen.front.1) lawful.core.told.legal;
+  content_is = λ n h. lawful.core.told.content_is n (le_trans h (seen_within lawful recalls)) ∙
+      ap map_of (ap (take n) recalls.front.1 ∙ take_front n k.front recalls.front.0 h);
+  legal = legal_front_part k.front c.changes (recalls.front.0, recalls.front.1) lawful.core.told.legal;
 }
 
 -- and since its pin the records keep their fixed words
-pub seen_steady : {c : Core} {k : Known} {m : ℕ} → IsLawful c → Knows c k → IsSince k m → IsSteady (seen c k) m
-seen_steady {c} {k} {m} lawful knows (p, is, low) = record {
+pub seen_steady : {c : Core} {k : Known} {m : ℕ} → IsLawful c → Recalls c k → IsSince k m → IsSteady (seen c k) m
+seen_steady {c} {k} {m} lawful recalls (p, is, low) = record {
   trees = λ n t h e. all.trees n t (le_trans h within) e;
   same = λ r n o u v a b d e x y. all.same r n o u v a (le_trans b within) d (le_trans e within) (stands_in c k x) (stands_in c k y);
 }
   where
     within : length k.front ≤ c.past.now
-    within = seen_within lawful knows
+    within = seen_within lawful recalls
 
     all : IsSteady c.past m
-    all = steady (view c) lawful.core.state m (reach_later (view c) p.moment m low (lawful.core.state.reach k.pass p.moment (ap pin_moment (pin_is c k knows ∙ is))))
+    all = steady (view c) lawful.core.state m (reach_later (view c) p.moment m low (lawful.core.state.reach k.pass p.moment (ap pin_moment (recalls.pin ∙ is))))
 
 -- What stays true as the past grows
 

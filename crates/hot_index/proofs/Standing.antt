@@ -18,8 +18,8 @@ use Rattle.moments.proofs.States.{reach_later}
 use Rattle.rowex_core.specs.declared.known.Known.{Known}
 use Rattle.rowex_core.specs.Cores.{Core, IsLawful, IsWhole, HasRecord, view}
 use Rattle.rowex_core.specs.Events.{IsFixedOffset}
-use Rattle.rowex_core.specs.Knowing.{Knows}
-use Rattle.rowex_core.proofs.Owning.{pin_is}
+use Rattle.rowex_core.specs.Knowing.{Recalls}
+use Rattle.rowex_core.proofs.Owning.{recalls}
 use Rattle.rowex_core.specs.Reading.{IsPacked, word_in}
 use Rattle.rowex_core.specs.Words.{record_word}
 use Rattle.rowex_core.proofs.Promises.{in_reach}
@@ -36,19 +36,19 @@ whole (InTree s) a b = tt
 whole (Unlinked s l q) a b = tt
 whole (Marked s l e) a b = tt
 
-module _ (c : Core) (k : Known) (lawful : IsLawful c) (knows : Knows c k) (m : ℕ) (pinned : IsSince k m) where
+module _ (c : Core) (k : Known) (lawful : IsLawful c) (known : Recalls c k) (m : ℕ) (pinned : IsSince k m) where
   -- the pass's reach
   pub reach : IsReach (view c) m
-  reach = reach_later (view c) pinned.0.moment m pinned.2 (lawful.core.state.reach k.pass pinned.0.moment (ap pin_moment (pin_is c k knows ∙ pinned.1)))
+  reach = reach_later (view c) pinned.0.moment m pinned.2 (lawful.core.state.reach k.pass pinned.0.moment (ap pin_moment (known.pin ∙ pinned.1)))
 
   -- the words of a record that stood are those that it has now
   pub word_stays : (n : ℕ) (r : Rec) (u : Tree) → m ≤ n → n ≤ c.past.now → Stands c.past n r u → (offset : ℕ) → IsFixedOffset r offset → record_word c r offset ≡ word_in u offset
-  word_stays n r u lo hi st = (in_reach c lawful k.pass pinned.0 (pin_is c k knows ∙ pinned.1) n r u (le_trans pinned.2 lo) hi st).2
+  word_stays n r u lo hi st = (in_reach c lawful k.pass pinned.0 (known.pin ∙ pinned.1) n r u (le_trans pinned.2 lo) hi st).2
 
   module _ (e : Entry) (led : IsSeen (seen c k) m e) where
     fate_is : (c.fate (rec_of e) ≢ Free) × ((o : ℕ) → c.fate (rec_of e) ≢ Held o)
     fate_is =
-        let h = in_reach c lawful k.pass pinned.0 (pin_is c k knows ∙ pinned.1) led.0 (rec_of e) led.1 (le_trans pinned.2 led.2) (le_trans led.3 (seen_within lawful knows)) (stands_in c k led.4) in
+        let h = in_reach c lawful k.pass pinned.0 (known.pin ∙ pinned.1) led.0 (rec_of e) led.1 (le_trans pinned.2 led.2) (le_trans led.3 (seen_within lawful known)) (stands_in c k led.4) in
         (h.0, h.1)
 
     -- it is one of the table
@@ -64,7 +64,7 @@ module _ (c : Core) (k : Known) (lawful : IsLawful c) (knows : Knows c k) (m : �
     is_packed = lawful.records.packed (rec_of e) (whole (c.fate (rec_of e)) fate_is.0 fate_is.1)
 
 pub led_in_table : (layout : Layout) (k : Known) (m : ℕ) (e : Entry) → IsPossible layout k → IsLedTo k m e → HasRecord layout (rec_of e)
-led_in_table layout k m e x led = subst (λ (z : Layout). HasRecord z (rec_of e)) x.layout_is (in_table x.core k x.lawful x.knows m led.0 e (led.1 x.core x.lawful x.knows))
+led_in_table layout k m e x led = subst (λ (z : Layout). HasRecord z (rec_of e)) x.layout_is (let h = recalls x.core k x.knows in in_table x.core k x.lawful h m led.0 e (led.1 x.core x.lawful h))
 
 -- a word other than the state
 pub later_word : (c : Core) (r : Rec) (offset : ℕ) → record_word c r (offset + 1) ≡ get_or (c.words r) offset 0

@@ -3,7 +3,6 @@ use Rattle.std.proofs.Common.{◌≡◌, inl, inr, ◌⊎◌, ℕ, ◌+◌, ◌<
 use Rattle.std.proofs.lemmas.Bool.{cases_lt}
 use Rattle.std.proofs.lemmas.List.{ext_get_or, get_or-set_same, get_or-set_other, get_or-take, length-take-le}
 use Rattle.compound_node.specs.declared.entries.Entry.{Entry}
-use Rattle.hot_model.proofs.Growth.{others_none}
 use Rattle.record_words.specs.declared.layout.Layout.{Layout}
 use Rattle.moments.specs.declared.Pin.{Pin}
 use Rattle.moments.specs.declared.Rec.{Rec}
@@ -14,12 +13,13 @@ use Rattle.rowex_core.specs.declared.known.Fact.TheVariants.{Fixed}
 use Rattle.rowex_core.specs.declared.known.Known.{Known}
 use Rattle.rowex_core.specs.Cores.{Core, IsLawful}
 use Rattle.rowex_core.specs.Events.{IsFixedOffset}
-use Rattle.rowex_core.specs.Knowing.{Knows, IsEvent, StoodAs, StoodBetween}
+use Rattle.rowex_core.specs.Knowing.{Recalls, IsEvent, StoodAs, StoodBetween}
 use Rattle.rowex_core.specs.Reading.{word_in}
 use Rattle.epochs.specs.Runs.{silent}
 use Rattle.hot_index.specs.Possible.{IsPossible}
 use Rattle.hot_index.specs.Seen.{seen, Sure, IsStable, IsSince, IsLedTo, Loads}
-use Rattle.hot_index.proofs.Seeing.{loads_knows, loads_trans, sure_on, since_on, seen_within, stands_in}
+use Rattle.hot_index.proofs.Seeing.{later_same, recalls_before, loads_trans, sure_on, since_on, seen_within, stands_in}
+use Rattle.hot_index.proofs.Later.{event_possible}
 use Rattle.hot_index.proofs.Loading.{IsTaught, fixed_taught, taught_now, found_seen}
 use Rattle.hot_index.proofs.Standing.{word_stays, later_word}
 
@@ -35,7 +35,7 @@ abbrev pub IsStood : Known → ℕ → Rec → Type 0
 IsStood k m r = IsSince k m × Sure k (λ s. StoodBetween s m s.now r)
 
 pub led_stood : (k : Known) (m : ℕ) (e : Entry) → IsLedTo k m e → IsStood k m (rec_of e)
-led_stood k m e led = (led.0, λ c lawful knows. (let s = led.1 c lawful knows in (s.0, s.1, s.2, s.3, s.4)))
+led_stood k m e led = (led.0, λ c lawful recalls. (let s = led.1 c lawful recalls in (s.0, s.1, s.2, s.3, s.4)))
 
 -- the first n words of the record have been loaded, of a pass that knew k and knows j
 pub record AreLoaded (layout : Layout) (k j : Known) (r : Rec) (n : ℕ) (words : List ℕ) : Type 0 where
@@ -44,19 +44,16 @@ pub record AreLoaded (layout : Layout) (k j : Known) (r : Rec) (n : ℕ) (words 
   pub fresh : j.fresh ≡ k.fresh
   pub each : (m : ℕ) → IsStood k m r → (o : ℕ) → o < n → Sure j (λ s. HasWord s m r (o + 1) (get_or words o 0))
 
-no_loads : (k : Known) (layout : Layout) → IsPossible layout k → Loads 0 k k
-no_loads k layout possible = record {
+no_loads : (k : Known) → Loads 0 k k
+no_loads k = record {
   rest = ap (λ (s : ℕ). let z : Known = record k { steps = s } in z) (let e : k.steps ≡ k.steps + 0 = omega arith in e);
-  front = others_none k.pass k.front;
-  began = possible.knows.seen.fresh;
-  loaded = possible.knows.loaded;
-  facts = λ s h. h;
+  later = later_same k;
 }
 
 pub none_loaded : (layout : Layout) (k : Known) (r : Rec) (words : List ℕ) → IsPossible layout k → AreLoaded layout k k r 0 words
 none_loaded layout k r words possible = record {
   possible = possible;
-  loads = no_loads k layout possible;
+  loads = no_loads k;
   fresh = refl;
   each = λ m led o low. absurd (omega arith);
 }
@@ -69,7 +66,7 @@ module _ (layout : Layout) (k j i : Known) (r : Rec) (n w : ℕ) (words : List �
 
   pub one_loaded : (m : ℕ) → IsStood k m r → AreLoaded layout k i r (n + 1) (set words n w)
   one_loaded m stood = record {
-    possible = record { core = event.core; lawful = event.lawful; layout_is = event.layout_is; knows = now.knows };
+    possible = event_possible event;
     loads = both;
     fresh = ap (λ (z : Known). z.fresh) event.learned_is ∙ so_far.fresh;
     each = λ o from a low. word_at o from a (cases_lt a n) low;
@@ -85,10 +82,10 @@ module _ (layout : Layout) (k j i : Known) (r : Rec) (n w : ℕ) (words : List �
       both = loads_trans so_far.loads now.loads
 
       new_word : (o : ℕ) → IsStood k o r → Sure i (λ s. HasWord s o r (n + 1) w)
-      new_word o from c lawful knows =
+      new_word o from c lawful recalls =
           let since : IsSince j o = since_on so_far.loads from.0 in
           let taught = is since.0 since.1 in
-          found_seen event.core c k i (n + 1) since.0.moment o r (λ u. word_in u (n + 1) ≡ w) (taught_now event.lawful taught) both knows since.2 (from.1 c lawful (loads_knows both knows)) (taught.fact c knows).1
+          found_seen event.core c k i since.0.moment o r (λ u. word_in u (n + 1) ≡ w) (taught_now event.lawful taught) both.later since.2 (from.1 c lawful (recalls_before both.later recalls)) (taught.fact c recalls).1
 
       word_at : (o : ℕ) → IsStood k o r → (a : ℕ) → (a < n) ⊎ (n ≤ a) → a < n + 1 → Sure i (λ s. HasWord s o r (a + 1) (get_or (set words n w) a 0))
       word_at o from a (inl older) low =
@@ -100,11 +97,11 @@ module _ (layout : Layout) (k j i : Known) (r : Rec) (n w : ℕ) (words : List �
 
 -- in each core of which it knows true things, the words are those of the record now
 module _ (layout : Layout) (k j : Known) (r : Rec) (n : ℕ) (words : List ℕ) (loaded : AreLoaded layout k j r n words) (long : length words ≡ n)
-    (fixed : (o : ℕ) → o < n → IsFixedOffset r (o + 1)) (m : ℕ) (stood : IsStood k m r) (c : Core) (lawful : IsLawful c) (knows : Knows c j) where
+    (fixed : (o : ℕ) → o < n → IsFixedOffset r (o + 1)) (m : ℕ) (stood : IsStood k m r) (c : Core) (lawful : IsLawful c) (known : Recalls c j) where
   word_now : (o : ℕ) → o < n → get_or words o 0 ≡ get_or (c.words r) o 0
   word_now o low =
-      let h : HasWord (seen c j) m r (o + 1) (get_or words o 0) = loaded.each m stood o low c lawful knows in
-      sym h.5 ∙ (sym (word_stays c j lawful knows m (since_on loaded.loads stood.0) h.0 r h.1 h.2 (le_trans h.3 (seen_within lawful knows)) (stands_in c j h.4) (o + 1) (fixed o low)) ∙ later_word c r o)
+      let h : HasWord (seen c j) m r (o + 1) (get_or words o 0) = loaded.each m stood o low c lawful known in
+      sym h.5 ∙ (sym (word_stays c j lawful known m (since_on loaded.loads stood.0) h.0 r h.1 h.2 (le_trans h.3 (seen_within lawful known)) (stands_in c j h.4) (o + 1) (fixed o low)) ∙ later_word c r o)
 
   pub words_now : n ≤ length (c.words r) → words ≡ take n (c.words r)
   words_now room = ext_get_or 0 words (take n (c.words r)) (long ∙ sym (length-take-le n (c.words r) room))

@@ -1,6 +1,6 @@
 -- What a pass may conclude of the moments that it has seen, and what loads teach it.
 use Rattle.std.specs.Prelude.{◌≡◌, ℕ, ◌+◌, ◌<◌, ◌≤◌, length, All, Option, Some, None}
-use Rattle.hot_model.specs.Fronts.{BeginsWith, OthersGoOn}
+use Rattle.hot_model.specs.Fronts.{OthersGoOn}
 use Rattle.compound_node.specs.Nodes.{HeadView, piece, node_of, leaves}
 use Rattle.compound_node.specs.declared.entries.Entry.{Entry}
 use Rattle.compound_node.specs.declared.entries.Entry.TheVariants.{Node}
@@ -10,16 +10,16 @@ use Rattle.moments.specs.State.{Past}
 use Rattle.moments.specs.Frames.{IsGrown}
 use Rattle.rowex_core.specs.declared.known.Known.{Known}
 use Rattle.rowex_core.specs.Cores.{Core, IsLawful}
-use Rattle.rowex_core.specs.Knowing.{IsFact, Knows}
+use Rattle.rowex_core.specs.Knowing.{IsFact, Recalls}
 use Rattle.rowex_walks.specs.Scan.{IsSeen, IsRooted, IsBlank, IsShaped}
 
 -- the moments that the pass has seen, of those of a core: up to the one after the changes of its front
 abbrev pub seen : Core → Known → Past
 seen c k = record { now = length k.front; moment = c.past.moment }
 
--- the pass can be sure of it: it holds of the moments seen in each lawful core of which what the pass knows is true
+-- the pass can be sure of it: it holds of the moments seen in each lawful core of which what the pass recalls is true
 abbrev pub Sure : Known → (Past → Type 0) → Type 0
-Sure k P = (c : Core) → IsLawful c → Knows c k → P (seen c k)
+Sure k P = (c : Core) → IsLawful c → Recalls c k → P (seen c k)
 
 -- what holds of a past holds of each longer one
 abbrev pub IsStable : (Past → Type 0) → Type 0
@@ -33,13 +33,18 @@ IsSince k m = (p : Pin) × (k.pin ≡ Some p) × (p.moment ≤ m)
 abbrev pub since : Known → ℕ
 since k = length k.fresh.front
 
+-- The pass knew k, and knows j later on: it has its pin still, has seen further changes of others alone, and has forgotten
+-- no fact. So what it was sure of of each longer past, it is sure of still.
+pub record IsLater (k j : Known) : Type 0 where
+  pub pass : j.pass ≡ k.pass
+  pub pin : j.pin ≡ k.pin
+  pub front : OthersGoOn k.pass k.front j.front
+  pub facts : (s : Past) → All (IsFact s) j.facts → All (IsFact s) k.facts
+
 -- The pass has made so many loads, and nothing else: it knew k, and knows j.
 pub record Loads (n : ℕ) (k j : Known) : Type 0 where
   pub rest : j ≡ record k { front = j.front; fresh = j.fresh; facts = j.facts; steps = k.steps + n }
-  pub front : OthersGoOn k.pass k.front j.front
-  pub began : BeginsWith k.front k.fresh.front
-  pub loaded : k.fresh.step < k.steps
-  pub facts : (s : Past) → All (IsFact s) j.facts → All (IsFact s) k.facts
+  pub later : IsLater k j
 
 -- the forks of a node with this head
 abbrev pub shape_of : HeadView → Page

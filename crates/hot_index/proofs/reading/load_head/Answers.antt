@@ -2,6 +2,7 @@
 use Rattle.std.proofs.Common.{◌≡◌, ◌∙◌, arith}
 use Rattle.std.proofs.lemmas.List.{length-set}
 use Rattle.compound_node.specs.declared.entries.Entry.TheVariants.{Node}
+use Rattle.rowex_core.proofs.Owning.{recalls}
 use Rattle.rowex_table.specs.Seats.{known}
 use Rattle.moments.specs.declared.Rec.TheVariants.{Node as a_node}
 use Rattle.hot_index.proofs.Standing.{led_in_table}
@@ -32,6 +33,6 @@ pub returns-clause-head : goal.returns-clause-head
 returns-clause-head g c = λ m h led.
     let at_end : c.loop-index.index ≡ 25 = omega (arith, c.loop-index-test.false, c.loop-index.auto.index-end) in
     let possible = c.loop-index.invariant.2.possible in (
-      head_height _ _ _ c.args.number _ c.loop-index.words c.loop-index.invariant.2 at_end c.loop-index.invariant.1 c.unpack_head.result c.unpack_head.ensures m h led c.unwrap.result c.unwrap.ensures possible.core possible.lawful possible.knows,
+      head_height _ _ _ c.args.number _ c.loop-index.words c.loop-index.invariant.2 at_end c.loop-index.invariant.1 c.unpack_head.result c.unpack_head.ensures m h led c.unwrap.result c.unwrap.ensures possible.core possible.lawful (recalls possible.core (known c.loop-index.seat) possible.knows),
       head_shaped _ _ _ c.args.number _ c.loop-index.words c.loop-index.invariant.2 at_end c.loop-index.invariant.1 c.unpack_head.result c.unpack_head.ensures m h led c.unwrap.result c.unwrap.ensures,
     )
