@@ -24,9 +24,10 @@ use Rattle.rowex_walks.proofs.Measure.{push_less, next_less, pop_less}
 use Rattle.hot_index.specs.declared.scanning.Frame.{Frame}
 use Rattle.hot_index.specs.declared.scanning.Verdict.{Verdict}
 use Rattle.hot_index.specs.declared.scanning.Verdict.TheVariants.{Further, Past as IsPast, Full}
-use Rattle.hot_index.specs.Seen.{seen, Sure, Loads, IsSince, IsLedTo, HasShape, since, shape_of}
+use Rattle.rowex_reading.specs.Seen.{seen, Sure, Loads, IsAtRoot, IsSince, IsLedTo, HasPlace, HasShape, since, shape_of}
 use Rattle.hot_index.specs.Scanning.{HasScanned, IsAnswer, IsTaken, frame, frames_of, IsEntered, AreInside, IsWalk, rest_of_frames, rest_of}
-use Rattle.hot_index.proofs.Seeing.{recalls_before, seen_grown, seen_steady, since_on, sure_on, seen_stable, shaped_stable}
+use Rattle.rowex_reading.proofs.Led.{shape_place}
+use Rattle.rowex_reading.proofs.Seeing.{recalls_before, seen_grown, seen_steady, since_on, sure_on, seen_stable, shaped_stable}
 
 -- Keys
 
@@ -86,20 +87,6 @@ whole_is f fs = ap (λ z. (size f.shape - f.place) * 34 ^ f.height + 1 + z) (res
 at_next : (f : Stage) → (record (frame f) { place = f.place + 1 }) ≡ frame (next f)
 at_next f = let e : f.place + 1 ≡ suc f.place = omega arith in ap (λ z. let x : Frame = record { number = f.number; height = f.height; count = size f.shape; place = z } in x) e
 
--- Facts on the way
-
-pub shape_on : {n : ℕ} {k j : Known} (m c h : ℕ) (x : Page) → Loads n k j → HasShape k m c h x → HasShape j m c h x
-shape_on m c h x l ((pinned, sure), shaped) = (
-  (since_on l pinned, sure_on {P = λ s. IsSeen s m (Node c h)} (seen_stable m (Node c h)) l sure),
-  sure_on {P = λ s. IsShaped s m c x} (shaped_stable m c x) l shaped,
-)
-
-pub rooted_led : {k : Known} {m : ℕ} (e : Entry) → IsSince k m → Sure k (λ s. IsRooted s m e) → IsLedTo k m e
-rooted_led {k} {m} e pinned root = (pinned, λ c lawful recalls. rooted_seen (seen c k) m e (root c lawful recalls))
-
-pub placed_led : {k : Known} {m : ℕ} (r j : ℕ) (e : Entry) → IsSince k m → Sure k (λ s. IsPlaced s m r j e) → IsLedTo k m e
-placed_led {k} {m} r j e pinned at = (pinned, λ c lawful recalls. placed_seen (seen c k) m r j e (at c lawful recalls))
-
 -- The walk
 
 -- what the pass knows of its topmost node
@@ -113,12 +100,17 @@ walk_top {k} {m} w = subst (λ (z : Frame). HasShape k m z.number z.height w.low
   refl,
 )
 
+-- there is an entry at its place
+pub walk_place : {k : Known} {m : ℕ} {g : Range} {top : Frame} {frames : List Frame} {pairs : List (Key × ℕ)} → IsWalk k m g top frames pairs → top.place < top.count →
+    HasPlace k m top.number top.height top.place
+walk_place {top = top} w low = let t = walk_top w in shape_place t.0 (subst (λ z. top.place < z) t.1 low)
+
 pub walk_room : {k : Known} {m : ℕ} {g : Range} {top : Frame} {frames : List Frame} {pairs : List (Key × ℕ)} → IsWalk k m g top frames pairs → top.count ≤ 32
 walk_room w = subst (λ (z : Frame). z.count ≤ 32) (sym w.top_is) w.room
 
-pub walk_begin : {n : ℕ} {k j : Known} (m : ℕ) (g : Range) (number height : ℕ) (top : Frame) (frames : List Frame) (pairs : List (Key × ℕ)) → frames ≡ [] → pairs ≡ [] →
-    Loads n k j → IsSince k m → Sure k (λ s. IsRooted s m (Node number height)) → IsEntered j m g number height top → IsWalk j m g top frames pairs
-walk_begin {n} {k} {j} m g number height top frames pairs ef ep l pinned root e = record {
+pub walk_begin : {n : ℕ} {k j : Known} (g : Range) (number height : ℕ) (top : Frame) (frames : List Frame) (pairs : List (Key × ℕ)) → frames ≡ [] → pairs ≡ [] →
+    Loads n k j → IsAtRoot k (Node number height) → IsEntered j (since k) g number height top → IsWalk j (since k) g top frames pairs
+walk_begin {n} {k} {j} g number height top frames pairs ef ep l (pinned, root) e = record {
   lowest = record { number = number; height = height; shape = e.forks; place = top.place };
   others = [];
   taken = [];
@@ -129,8 +121,8 @@ walk_begin {n} {k} {j} m g number height top frames pairs ef ep l pinned root e 
   inside = tt;
   pinned = since_on l pinned;
   scan = λ c lawful recalls.
-      scan_begin (seen c j) m (seen_steady lawful recalls (since_on l pinned)) g number height top.place e.forks
-      (rooted_on (seen c k) (seen c j) (seen_grown c l.later) m (Node number height) (root c lawful (recalls_before l.later recalls))) (e.shaped c lawful recalls) (e.start c lawful recalls);
+      scan_begin (seen c j) (since k) (seen_steady lawful recalls (since_on l pinned)) g number height top.place e.forks
+      (rooted_on (seen c k) (seen c j) (seen_grown c l.later) (since k) (Node number height) (root c lawful (recalls_before l.later recalls))) (e.shaped c lawful recalls) (e.start c lawful recalls);
 }
 
 -- The scan's invariant after more loads.
@@ -346,13 +338,13 @@ nothing_scanned {k} g scan before none more = record {
 }
 
 -- the root is a leaf
-module _ {n : ℕ} {k j : Known} (g : Range) (number : ℕ) (key : Key) (value : ℕ) (l : Loads n k j) (pinned : IsSince k (since k)) (same : since j ≡ since k)
-    (root : Sure k (λ s. IsRooted s (since k) (Leaf number))) (read : Sure j (λ s. IsRead s (since k) number key value)) (scan : Scan) where
+module _ {n : ℕ} {k j : Known} (g : Range) (number : ℕ) (key : Key) (value : ℕ) (l : Loads n k j) (root : IsAtRoot k (Leaf number)) (same : since j ≡ since k)
+    (read : Sure j (λ s. IsRead s (since k) number key value)) (scan : Scan) where
   rooted : Sure j (λ s. IsRooted s (since k) (Leaf number))
-  rooted c lawful recalls = rooted_on (seen c k) (seen c j) (seen_grown c l.later) (since k) (Leaf number) (root c lawful (recalls_before l.later recalls))
+  rooted c lawful recalls = rooted_on (seen c k) (seen c j) (seen_grown c l.later) (since k) (Leaf number) (root.1 c lawful (recalls_before l.later recalls))
 
   fixed : (c : Core) → IsLawful c → Recalls c j → IsSteady (seen c j) (since k)
-  fixed c lawful recalls = seen_steady lawful recalls (since_on l pinned)
+  fixed c lawful recalls = seen_steady lawful recalls (since_on l root.0)
 
   answered : (taken : List Pair) → scan.pairs.items ≡ turned taken → (more : Bool) → scan.more ≡ more → Sure j (λ s. IsAnswer s (since k) g taken more) → HasScanned j g scan
   answered taken pairs more e answer = record {
@@ -427,10 +419,6 @@ reached_placed {k} {m} r j e at c lawful recalls = placed (at c lawful recalls)
 
 pub reached_at : {k : Known} {m : ℕ} (r j : ℕ) (d e : Entry) → d ≡ e → Sure k (λ s. IsReached s m r j d) → Sure k (λ s. IsReached s m r j e)
 reached_at {k} {m} r j d e is reached = subst (λ z. Sure k (λ s. IsReached s m r j z)) is reached
-
--- A node that the pass was led to, with the forks that it has read.
-pub node_shape : {n : ℕ} {k i : Known} {m : ℕ} (c h : ℕ) (x : Page) → Loads n k i → IsLedTo k m (Node c h) → Sure i (λ s. IsShaped s m c x) → HasShape i m c h x
-node_shape {n} {k} {i} {m} c h x l (pinned, led) shaped = ((since_on l pinned, sure_on {P = λ s. IsSeen s m (Node c h)} (seen_stable m (Node c h)) l led), shaped)
 
 -- The place to begin at
 
