@@ -1,6 +1,8 @@
 -- The lemmas of the crate.
+pub mod Tracing
 pub mod Noting
 pub mod Walking
 pub mod Scanned
+pub mod Collected
 pub mod Making
 pub mod Meets

@@ -1,8 +1,9 @@
 -- How an answered call that changed nothing gets its note.
-use Rattle.std.proofs.Common.{◌≡◌, ◌≢◌, ℕ, zero, suc, ◌+◌, ◌-◌, ◌*◌, ◌≤◌, List, [], ◌∷◌, ◌++◌, length, take, Bool, true, false, if◌then◌else◌, Option, Some, None, refl, sym, ap, subst, ◌∙◌, arith, le_refl, le_trans, length-append, nat_eq, eq-eqb}
+use Rattle.std.proofs.Common.{◌≡◌, ◌≢◌, ℕ, zero, suc, ◌+◌, ◌-◌, ◌*◌, ◌<◌, ◌≤◌, List, [], ◌∷◌, ◌++◌, length, take, Bool, true, false, if◌then◌else◌, Option, Some, None, refl, sym, ap, subst, ◌∙◌, arith, le_refl, le_trans, length-append, nat_eq, eq-eqb}
 use Rattle.std.proofs.lemmas.Bool.{false≢true}
+use Rattle.std.specs.Prelude.{All}
+use Rattle.std.proofs.lemmas.List.Elements.{All-cons, All-head, All-nil, All-tail}
 use Rattle.std.proofs.lemmas.Bool.Decides.{nat_tests}
-use Rattle.atomic_table.specs.Seated.{TableId}
 use Rattle.hot_model.specs.declared.Call.{Call}
 use Rattle.hot_model.specs.declared.Call.TheVariants.{Get}
 use Rattle.hot_model.specs.declared.Change.{Change}
@@ -20,22 +21,24 @@ use Rattle.tries.specs.Tree.{Tree, Has, IsTrie}
 use Rattle.tries.proofs.Contents.{holds_has}
 use Rattle.tries.proofs.Maps.{holds_value, value_holds}
 use Rattle.moments.specs.Told.{content}
+use Rattle.rowex_core.specs.declared.event.Act.{Act}
 use Rattle.rowex_core.specs.declared.event.Act.TheVariants.{ClearPin}
+use Rattle.rowex_core.specs.declared.event.Event.{Event}
 use Rattle.rowex_core.specs.declared.known.Known.{Known}
 use Rattle.rowex_core.specs.Cores.{Core, IsLawful}
 use Rattle.rowex_core.specs.Knowing.{Recalls, IsEvent}
-use Rattle.rowex_table.specs.declared.table.HotTable.{HotTable}
-use Rattle.rowex_table.specs.declared.table.TableSeat.{TableSeat}
-use Rattle.rowex_table.specs.Seats.{known}
+use Rattle.rowex_table.specs.Runs.{StepsWith}
+use Rattle.rowex_table.specs.Seats.{TableView, SeatView, Fits, IsSame}
 use Rattle.epochs.specs.Runs.{Pins}
-use Rattle.rowex_reading.specs.Seen.{since}
-use Rattle.hot_index.specs.Passes.{IsSettled, pass_view}
-use Rattle.hot_index.specs.Answers.{GoesOn, IsNoted, got}
 use Rattle.rowex_reading.specs.Lookups.{HasFound, HasSearched}
 use Rattle.rowex_reading.specs.Reads.{Looks}
-use Rattle.hot_index.specs.Noting.{same_reply, first_from, answers_so, place_of, note_of}
-use Rattle.rowex_reading.proofs.Seeing.{seen_told, seen_within}
+use Rattle.rowex_reading.specs.Seen.{since}
 use Rattle.rowex_reading.proofs.Later.{event_recalls}
+use Rattle.rowex_reading.proofs.Led.{HasLookedAt, looked_at}
+use Rattle.rowex_reading.proofs.Seeing.{seen_told, seen_within}
+use Rattle.hot_index.specs.Passes.{AreByPasses, IsSettled, pass_of}
+use Rattle.hot_index.specs.Answers.{GoesOn, IsNoted, got}
+use Rattle.hot_index.specs.Noting.{same_reply, first_from, answers_so, place_of, note_of}
 
 -- Replies
 
@@ -143,61 +146,79 @@ pub record HasLooked (k i : Known) : Type 0 where
 longer : (later front : List Change) → BeginsWith later front → length front ≤ length later
 longer later front b = let e = ap length b.1 ∙ length-append front b.0 in omega arith
 
+-- it is one seat still
+pub fits_then : (table : TableView) (s t : SeatView) → IsSame s t → Fits table s → Fits table t
+fits_then table s t same fits = (same.0 ∙ fits.0, subst (λ q. q < table.layout.passes) (sym same.2) fits.1)
+
 -- a pass that was settled, was pinned and has looked then
-pub looked : (layout : Layout) (table : HotTable) (n : ℕ) (k : Known) (a b : TableSeat) → IsSettled k → Pins layout k (known a) → Looks table n a b → HasLooked k (known b)
-looked layout table n k a b settled pins looks = record {
-  pass = ap (λ (z : Known). z.pass) loads ∙ pass;
-  notes = ap (λ (z : Known). z.notes) loads ∙ ap (λ (z : Known). z.notes) pinned;
-  own = ap (λ (z : Known). z.own) loads ∙ (ap (λ (z : Known). z.own) pinned ∙ settled.own);
-  locks = ap (λ (z : Known). z.locks) loads ∙ (ap (λ (z : Known). z.locks) pinned ∙ settled.locks);
-  anchor = ap (λ (z : Known). z.anchor) loads ∙ (ap (λ (z : Known). z.anchor) pinned ∙ settled.anchor);
-  front = subst (λ (z : ℕ × List Change). OthersGoOn z.0 z.1 (known b).front) (λ x. (pass x, front x)) looks.loads.later.front;
-  fresh = subst (λ (z : List Change). BeginsWith (known b).fresh.front z) front looks.fresh;
-  now = let now = looks.now in let steps = ap (λ (z : Known). z.steps) pinned in omega arith;
+pub looked : {G : Type 0} {table : TableView} {becomes : G → Event → G → Type 0} {n : ℕ} {a b c : SeatView × G} → IsSettled a.0.known → Pins table becomes a b → Looks table becomes n b c →
+    HasLooked a.0.known c.0.known
+looked {n = n} {a = a} {b = b} {c = c} settled pins looks = record {
+  pass = at.later.pass ∙ pass;
+  notes = ap (λ (z : Known). z.notes) at.sees ∙ ap (λ (z : Known). z.notes) pinned;
+  own = ap (λ (z : Known). z.own) at.sees ∙ (ap (λ (z : Known). z.own) pinned ∙ settled.own);
+  locks = ap (λ (z : Known). z.locks) at.sees ∙ (ap (λ (z : Known). z.locks) pinned ∙ settled.locks);
+  anchor = ap (λ (z : Known). z.anchor) at.sees ∙ (ap (λ (z : Known). z.anchor) pinned ∙ settled.anchor);
+  front = subst (λ (z : ℕ × List Change). OthersGoOn z.0 z.1 c.0.known.front) (λ x. (pass x, front x)) at.later.front;
+  fresh = subst (λ (z : List Change). BeginsWith c.0.known.fresh.front z) front at.fresh;
+  now = let now = at.now in let steps = ap (λ (z : Known). z.steps) pinned in omega arith;
 }
   where
-    pinned : known a ≡ record k { pin = (known a).pin; round = (known a).round; steps = k.steps + 2 }
+    at : HasLookedAt n b.0.known c.0.known
+    at = looked_at looks
+
+    pinned : b.0.known ≡ record a.0.known { pin = b.0.known.pin; round = b.0.known.round; steps = a.0.known.steps + 2 }
     pinned = pins.1.rest
 
-    loads : known b ≡ record (known a) { front = (known b).front; fresh = (known b).fresh; facts = (known b).facts; steps = (known a).steps + n }
-    loads = looks.loads.rest
-
-    pass : (known a).pass ≡ k.pass
+    pass : b.0.known.pass ≡ a.0.known.pass
     pass = ap (λ (z : Known). z.pass) pinned
 
-    front : (known a).front ≡ k.front
+    front : b.0.known.front ≡ a.0.known.front
     front = ap (λ (z : Known). z.front) pinned
 
--- The pass clears its pin, with these notes.
-module _ {layout : Layout} {said : Known → List Note} {k i j : Known} (settled : IsSettled k) (looks : HasLooked k i) (event : IsEvent layout ClearPin said i j) where
-  abbrev pub cleared : Known
-  cleared = record i { pin = None; steps = i.steps + 1 }
+-- what holds of each of two lists holds of each of the first
+All-part : {A : Type 0} (P : A → Type 0) (xs ys : List A) → All P (xs ++ ys) → All P xs
+All-part P [] ys h = All-nil P
+All-part P (x ∷ xs) ys h = All-cons P x xs (All-head P x (xs ++ ys) h) (All-part P xs ys (All-tail P x (xs ++ ys) h))
 
+-- changes that a lawful core goes on from were made by passes of its index
+pub by_passes : (c : Core) (k : Known) → IsLawful c → Recalls c k → AreByPasses c.layout k.front
+by_passes c k lawful recalls = All-part (λ x. x.pass < c.layout.passes) k.front recalls.front.0 (subst (AreByPasses c.layout) recalls.front.1 lawful.makers)
+
+pub event_makers : {layout : Layout} {act : Act} {said : Known → List Note} {k j : Known} → IsEvent layout act said k j → AreByPasses layout k.front
+event_makers {k = k} e = subst (λ (z : Layout). AreByPasses z k.front) e.layout_is (by_passes e.core k e.lawful (event_recalls e))
+
+-- The pass clears its pin, with these notes.
+abbrev pub cleared : Known → Known
+cleared i = record i { pin = None; steps = i.steps + 1 }
+
+module _ {layout : Layout} {said : Known → List Note} {i : Known} (s t : SeatView) (settled : IsSettled s.known) (looks : HasLooked s.known i) (event : IsEvent layout ClearPin said i t.known) where
   pub legal_front : LegalFront i.front
   legal_front = (seen_told event.lawful (event_recalls event)).legal
 
   -- its front has gone on
-  pub goes_on : (t t' : TableId) → GoesOn (pass_view t k) (pass_view t' j)
-  goes_on t t' = subst (λ z. GoesOn (pass_view t k) (pass_view t' z)) (sym event.learned_is) (record {
-    number = looks.pass;
-    front = (looks.front.0, looks.front.1);
-    fresh = looks.fresh;
-    seen = event.knows.seen.fresh;
-    now = (looks.now, let l = event.knows.loaded in omega arith);
-  })
+  pub goes_on : GoesOn layout (pass_of s) (pass_of t)
+  goes_on = record {
+    number = ap (λ (z : Known). z.pass) event.learned_is ∙ looks.pass;
+    front = subst (λ (z : Known). BeginsWith z.front s.known.front) (sym event.learned_is) (looks.front.0, looks.front.1);
+    fresh = subst (λ (z : Known). BeginsWith z.fresh.front s.known.front) (sym event.learned_is) looks.fresh;
+    seen = subst (λ (z : Known). BeginsWith z.front z.fresh.front) (sym event.learned_is) event.knows.seen.fresh;
+    now = subst (λ (z : Known). (s.known.steps ≤ z.fresh.step) × (z.fresh.step < z.steps)) (sym event.learned_is) (looks.now, let l = event.knows.loaded in omega arith);
+    makers = subst (λ (z : Known). AreByPasses layout z.front) (sym event.learned_is) (event_makers event);
+  }
 
   -- and it has settled again
-  pub settles : LegalCalls i.front i.pass (i.notes ++ said cleared) → IsSettled j
+  pub settles : LegalCalls i.front i.pass (i.notes ++ said (cleared i)) → IsSettled t.known
   settles legal = subst IsSettled (sym event.learned_is) whole
     where
-      whole : IsSettled (record cleared { notes = i.notes ++ said cleared })
+      whole : IsSettled (record (cleared i) { notes = i.notes ++ said (cleared i) })
       whole = record { own = looks.own; locks = looks.locks; anchor = looks.anchor; pin = refl; fresh = event.knows.seen.fresh; loaded = let l = event.knows.loaded in omega arith; legal = legal }
 
 -- a call that changed nothing is noted as its pass clears the pin
-pub noted : (table table' : TableId) (layout : Layout) (call : Call) (reply : Reply) (k i j : Known) → IsSettled k → HasLooked k i → IsEvent layout ClearPin (note_of call reply) i j →
+pub noted : (layout : Layout) (call : Call) (reply : Reply) (s : SeatView) (i : Known) (t : SeatView) → IsSettled s.known → HasLooked s.known i → IsEvent layout ClearPin (note_of call reply) i t.known →
     ((c : Core) → IsLawful c → Recalls c i → WasRight i call reply) → ((p : ℕ) → is_change (record { place = p; call = call; reply = reply }) ≡ false) →
-    IsNoted (pass_view table k) (pass_view table' j) call reply × IsSettled j
-noted table table' layout call reply k i j settled looks event right quiet = (told, settles settled looks event legal)
+    IsNoted layout (pass_of s) (pass_of t) call reply × IsSettled t.known
+noted layout call reply s i t settled looks event right quiet = (told, settles s t settled looks event legal)
   where
     place : ℕ
     place = place_of i.front (since i) call reply
@@ -208,16 +229,16 @@ noted table table' layout call reply k i j settled looks event right quiet = (to
     at : IsRightPlace i.front (since i) call reply place
     at = right_place i call reply (right event.core event.lawful (event_recalls event))
 
-    calls : LegalCalls i.front k.pass (k.notes ++ note ∷ [])
-    calls = legal_quiet k.front i.front k.pass k.notes note settled.legal looks.front (legal_front settled looks event)
-        (le_trans (longer i.fresh.front k.front looks.fresh) at.least) at.most at.right (quiet place)
+    calls : LegalCalls i.front s.known.pass (s.known.notes ++ note ∷ [])
+    calls = legal_quiet s.known.front i.front s.known.pass s.known.notes note settled.legal looks.front (legal_front s t settled looks event)
+        (le_trans (longer i.fresh.front s.known.front looks.fresh) at.least) at.most at.right (quiet place)
 
     legal : LegalCalls i.front i.pass (i.notes ++ note ∷ [])
     legal = subst (λ (z : ℕ × List Note). LegalCalls i.front z.0 (z.1 ++ note ∷ [])) (λ x. (sym looks.pass x, sym looks.notes x)) calls
 
-    told : IsNoted (pass_view table k) (pass_view table' j) call reply
+    told : IsNoted layout (pass_of s) (pass_of t) call reply
     told = record {
-      on = goes_on settled looks event table table';
+      on = goes_on s t settled looks event;
       place = place;
       notes = ap (λ (z : Known). z.notes) event.learned_is ∙ ap (λ (z : List Note). z ++ note ∷ []) looks.notes;
       low = subst (λ (z : Known). length z.fresh.front ≤ place) (sym event.learned_is) at.least;
@@ -231,18 +252,17 @@ get_quiet : (key : Key) (o : Option ℕ) (p : ℕ) → is_change (record { place
 get_quiet key None p = refl
 get_quiet key (Some v) p = refl
 
--- the get is noted, and the pass has settled again
-pub get_noted : (t t' : TableId) (layout : Layout) (table : HotTable) (key : Key) (o : Option ℕ) (k : Known) (a b : TableSeat) (l : Known) → IsSettled k → Pins layout k (known a) →
-    HasSearched table a b → HasFound (known b) key o → IsEvent layout ClearPin (note_of (Get key) (got o)) (known b) l →
-    IsNoted (pass_view t k) (pass_view t' l) (Get key) (got o) × IsSettled l
-get_noted t t' layout table key o k a b l settled pins search found event =
-    noted t t' layout (Get key) (got o) k (known b) l settled (looked layout table search.loaded k a b settled pins search.looks) event (found_right (known b) key o found) (get_quiet key o)
+module _ {G : Type 0} {table : TableView} {becomes : G → Event → G → Type 0} {a b c d : SeatView × G} (key : Key) (o : Option ℕ) (pins : Pins table becomes a b) (search : HasSearched table becomes b c)
+    (end : StepsWith table becomes ClearPin (note_of (Get key) (got o)) c d) where
+  -- the get is noted, and the pass has settled again
+  pub get_noted : IsSettled a.0.known → HasFound c.0.known key o → IsNoted table.layout (pass_of a.0) (pass_of d.0) (Get key) (got o) × IsSettled d.0.known
+  get_noted settled found =
+      noted table.layout (Get key) (got o) a.0 c.0.known d.0 settled (looked settled pins search.looks) end.event (found_right c.0.known key o found) (get_quiet key o)
 
-pub get_steps : (layout : Layout) (said : Known → List Note) (table : HotTable) (k : Known) (a b : TableSeat) (l : Known) → Pins layout k (known a) → HasSearched table a b →
-    IsEvent layout ClearPin said (known b) l → (v : ℕ) × (v ≤ 9 * MAX_BYTES) × (l.steps ≤ k.steps + 36 + 26 * v)
-get_steps layout said table k a b l pins search event =
-    let first : (known a).steps ≡ k.steps + 2 = ap (λ (z : Known). z.steps) pins.1.rest in
-    let second : (known b).steps ≡ (known a).steps + search.loaded = ap (λ (z : Known). z.steps) search.looks.loads.rest in
-    let third : l.steps ≡ (known b).steps + 1 = ap (λ (z : Known). z.steps) event.learned_is in
-    let few = search.few in
-    (search.nodes, search.low, omega arith)
+  pub get_steps : (v : ℕ) × (v ≤ 9 * MAX_BYTES) × (d.0.known.steps ≤ a.0.known.steps + 36 + 26 * v)
+  get_steps =
+      let first : b.0.known.steps ≡ a.0.known.steps + 2 = ap (λ (z : Known). z.steps) pins.1.rest in
+      let second : c.0.known.steps ≡ b.0.known.steps + (1 + search.loaded) = ap (λ (z : Known). z.steps) (looked_at search.looks).sees in
+      let third : d.0.known.steps ≡ c.0.known.steps + 1 = ap (λ (z : Known). z.steps) end.event.learned_is in
+      let few = search.few in
+      (search.nodes, search.low, omega arith)

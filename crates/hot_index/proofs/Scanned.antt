@@ -4,7 +4,6 @@ use Rattle.std.specs.declared.alloc.AllocError.{AllocError}
 use Rattle.std.proofs.lemmas.Bool.{false≢true}
 use Rattle.std.proofs.Common.{◌≡◌, ℕ, ◌+◌, ◌≤◌, List, [], ◌++◌, Bool, true, false, Some, None, refl, sym, ap, subst, ◌∙◌, arith, le_refl}
 use Rattle.std.proofs.lemmas.List.{append-nil}
-use Rattle.atomic_table.specs.Seated.{TableId}
 use Rattle.hot_model.specs.declared.Change.{Change}
 use Rattle.hot_model.specs.declared.Note.{Note}
 use Rattle.hot_model.specs.declared.Scan.{Scan}
@@ -20,12 +19,13 @@ use Rattle.moments.specs.Told.{IsTold}
 use Rattle.rowex_core.specs.declared.event.Act.TheVariants.{ClearPin}
 use Rattle.rowex_core.specs.declared.known.Known.{Known}
 use Rattle.rowex_core.specs.Knowing.{IsEvent}
-use Rattle.epochs.specs.Runs.{Pins, silent}
+use Rattle.rowex_table.specs.Runs.{silent}
+use Rattle.rowex_table.specs.Seats.{SeatView}
 use Rattle.rowex_walks.specs.Scan.{Range}
 use Rattle.rowex_walks.proofs.Fronts.{complete_lawful, cut_lawful}
-use Rattle.hot_index.specs.Passes.{IsSettled, pass_view}
+use Rattle.hot_index.specs.Passes.{IsSettled, pass_of}
 use Rattle.hot_index.specs.Answers.{IsScanned, IsUnnoted}
-use Rattle.rowex_reading.specs.Seen.{seen, Loads, since}
+use Rattle.rowex_reading.specs.Seen.{seen, since}
 use Rattle.hot_index.specs.Scanning.{HasScanned, IsAnswer}
 use Rattle.hot_index.proofs.Noting.{HasLooked, goes_on, legal_front, settles}
 use Rattle.rowex_reading.proofs.Loading.{pinned_by}
@@ -64,33 +64,32 @@ lawful_scan k g scan layout said j kf ku p pin h event =
         (subst (λ z. IsAnswer (seen event.core k) (since k) g h.taken z) e answer)
 
 -- The pass was settled, has looked since, and clears the pin now.
-module _ {layout : Layout} {k i j : Known} (settled : IsSettled k) (looks : HasLooked k i) (event : IsEvent layout ClearPin silent i j) (t t' : TableId) where
+module _ {layout : Layout} {i : Known} (s t : SeatView) (settled : IsSettled s.known) (looks : HasLooked s.known i) (event : IsEvent layout ClearPin silent i t.known) where
   legal : LegalCalls i.front i.pass (i.notes ++ [])
   legal = subst (λ (z : ℕ × List Note). LegalCalls i.front z.0 z.1) (λ x. (sym looks.pass x, sym same x))
-      (legal_longer k.front i.front k.pass k.notes settled.legal looks.front (legal_front settled looks event))
+      (legal_longer s.known.front i.front s.known.pass s.known.notes settled.legal looks.front (legal_front s t settled looks event))
     where
-      same : i.notes ++ [] ≡ k.notes
+      same : i.notes ++ [] ≡ s.known.notes
       same = append-nil i.notes ∙ looks.notes
 
-  pub scan_settled : IsSettled j
-  scan_settled = settles settled looks event legal
+  pub scan_settled : IsSettled t.known
+  scan_settled = settles s t settled looks event legal
 
-  notes_stay : j.notes ≡ k.notes
+  notes_stay : t.known.notes ≡ s.known.notes
   notes_stay = ap (λ (z : Known). z.notes) event.learned_is ∙ (append-nil i.notes ∙ looks.notes)
 
-  legal_then : LegalCalls j.front j.pass j.notes
+  legal_then : LegalCalls t.known.front t.known.pass t.known.notes
   legal_then = subst (λ (z : Known). LegalCalls z.front z.pass z.notes) (sym event.learned_is) legal
 
-  pub scan_refused : IsUnnoted (pass_view t k) (pass_view t' j)
-  scan_refused = let on = goes_on settled looks event t t' in record { number = on.number; front = on.front; notes = notes_stay; legal = legal_then }
+  pub scan_refused : IsUnnoted layout (pass_of s) (pass_of t)
+  scan_refused = let on = goes_on s t settled looks event in record { number = on.number; front = on.front; notes = notes_stay; legal = legal_then; makers = on.makers }
 
-  pub scan_answered : (g : Range) → IsKey g.from × IsKey g.upto → IsSome i.pin → (scan : Scan) → HasScanned i g scan →
-      IsScanned (pass_view t k) (pass_view t' j) g.from g.upto g.limit scan
+  pub scan_answered : (g : Range) → IsKey g.from × IsKey g.upto → IsSome i.pin → (scan : Scan) → HasScanned i g scan → IsScanned layout (pass_of s) (pass_of t) g.from g.upto g.limit scan
   scan_answered g keys is scan h = record {
-    on = goes_on settled looks event t t';
+    on = goes_on s t settled looks event;
     notes = notes_stay;
     lawful =
         let p = pinned_by i.pin is in
-        subst (λ (z : Known). IsLawfulScan z.fresh.front z.front g.from g.upto g.limit scan) (sym event.learned_is) (lawful_scan i g scan layout silent j keys.0 keys.1 p.0 p.1 h event);
+        subst (λ (z : Known). IsLawfulScan z.fresh.front z.front g.from g.upto g.limit scan) (sym event.learned_is) (lawful_scan i g scan layout silent t.known keys.0 keys.1 p.0 p.1 h event);
     legal = legal_then;
   }

@@ -24,10 +24,10 @@ use Rattle.rowex_walks.proofs.Measure.{push_less, next_less, pop_less}
 use Rattle.hot_index.specs.declared.scanning.Frame.{Frame}
 use Rattle.hot_index.specs.declared.scanning.Verdict.{Verdict}
 use Rattle.hot_index.specs.declared.scanning.Verdict.TheVariants.{Further, Past as IsPast, Full}
-use Rattle.rowex_reading.specs.Seen.{seen, Sure, Loads, IsAtRoot, IsSince, IsLedTo, HasPlace, HasShape, since, shape_of}
+use Rattle.rowex_reading.specs.Seen.{seen, Sure, IsLater, IsAtRoot, IsSince, IsLedTo, HasPlace, HasShape, since, shape_of}
 use Rattle.hot_index.specs.Scanning.{HasScanned, IsAnswer, IsTaken, frame, frames_of, IsEntered, AreInside, IsWalk, rest_of_frames, rest_of}
 use Rattle.rowex_reading.proofs.Led.{shape_place}
-use Rattle.rowex_reading.proofs.Seeing.{recalls_before, seen_grown, seen_steady, since_on, sure_on, seen_stable, shaped_stable}
+use Rattle.rowex_reading.proofs.Seeing.{recalls_before, seen_grown, seen_steady, since_later, sure_later, seen_stable, shaped_stable}
 
 -- Keys
 
@@ -108,9 +108,9 @@ walk_place {top = top} w low = let t = walk_top w in shape_place t.0 (subst (λ 
 pub walk_room : {k : Known} {m : ℕ} {g : Range} {top : Frame} {frames : List Frame} {pairs : List (Key × ℕ)} → IsWalk k m g top frames pairs → top.count ≤ 32
 walk_room w = subst (λ (z : Frame). z.count ≤ 32) (sym w.top_is) w.room
 
-pub walk_begin : {n : ℕ} {k j : Known} (g : Range) (number height : ℕ) (top : Frame) (frames : List Frame) (pairs : List (Key × ℕ)) → frames ≡ [] → pairs ≡ [] →
-    Loads n k j → IsAtRoot k (Node number height) → IsEntered j (since k) g number height top → IsWalk j (since k) g top frames pairs
-walk_begin {n} {k} {j} g number height top frames pairs ef ep l (pinned, root) e = record {
+pub walk_begin : {k j : Known} (g : Range) (number height : ℕ) (top : Frame) (frames : List Frame) (pairs : List (Key × ℕ)) → frames ≡ [] → pairs ≡ [] →
+    IsLater k j → IsAtRoot k (Node number height) → IsEntered j (since k) g number height top → IsWalk j (since k) g top frames pairs
+walk_begin {k} {j} g number height top frames pairs ef ep l (pinned, root) e = record {
   lowest = record { number = number; height = height; shape = e.forks; place = top.place };
   others = [];
   taken = [];
@@ -119,31 +119,31 @@ walk_begin {n} {k} {j} g number height top frames pairs ef ep l (pinned, root) e
   pairs_are = ep;
   room = e.room;
   inside = tt;
-  pinned = since_on l pinned;
+  pinned = since_later l pinned;
   scan = λ c lawful recalls.
-      scan_begin (seen c j) (since k) (seen_steady lawful recalls (since_on l pinned)) g number height top.place e.forks
-      (rooted_on (seen c k) (seen c j) (seen_grown c l.later) (since k) (Node number height) (root c lawful (recalls_before l.later recalls))) (e.shaped c lawful recalls) (e.start c lawful recalls);
+      scan_begin (seen c j) (since k) (seen_steady lawful recalls (since_later l pinned)) g number height top.place e.forks
+      (rooted_on (seen c k) (seen c j) (seen_grown c l) (since k) (Node number height) (root c lawful (recalls_before l recalls))) (e.shaped c lawful recalls) (e.start c lawful recalls);
 }
 
 -- The scan's invariant after more loads.
-scan_later : {n : ℕ} {k j : Known} {m : ℕ} {g : Range} {top : Frame} {frames : List Frame} {pairs : List (Key × ℕ)} → (w : IsWalk k m g top frames pairs) → Loads n k j →
+scan_later : {k j : Known} {m : ℕ} {g : Range} {top : Frame} {frames : List Frame} {pairs : List (Key × ℕ)} → (w : IsWalk k m g top frames pairs) → IsLater k j →
     Sure j (λ s. IsScan s m g (w.lowest ∷ w.others) w.taken)
-scan_later {n} {k} {j} {m} {g} w l c lawful recalls =
-    scan_on (seen c k) (seen c j) (seen_grown c l.later) m g (w.lowest ∷ w.others) w.taken (w.scan c lawful (recalls_before l.later recalls))
+scan_later {k} {j} {m} {g} w l c lawful recalls =
+    scan_on (seen c k) (seen c j) (seen_grown c l) m g (w.lowest ∷ w.others) w.taken (w.scan c lawful (recalls_before l recalls))
 
-placed_later : {n : ℕ} {k j : Known} (m r i : ℕ) (e : Entry) → Loads n k j → Sure k (λ s. IsPlaced s m r i e) → Sure j (λ s. IsPlaced s m r i e)
-placed_later {n} {k} {j} m r i e l sure c lawful recalls = placed_on (seen c k) (seen c j) (seen_grown c l.later) m r i e (sure c lawful (recalls_before l.later recalls))
+placed_later : {k j : Known} (m r i : ℕ) (e : Entry) → IsLater k j → Sure k (λ s. IsPlaced s m r i e) → Sure j (λ s. IsPlaced s m r i e)
+placed_later {k} {j} m r i e l sure c lawful recalls = placed_on (seen c k) (seen c j) (seen_grown c l) m r i e (sure c lawful (recalls_before l recalls))
 
-module _ {k i j : Known} {a b m : ℕ} {g : Range} {top : Frame} {frames : List Frame} {pairs : List (Key × ℕ)} (w : IsWalk k m g top frames pairs) (l : Loads a k i) (o : Loads b i j)
+module _ {k i j : Known} {m : ℕ} {g : Range} {top : Frame} {frames : List Frame} {pairs : List (Key × ℕ)} (w : IsWalk k m g top frames pairs) (l : IsLater k i) (o : IsLater i j)
     (inside : top.place < top.count) where
   lowest_inside : w.lowest.place < size w.lowest.shape
   lowest_inside = subst (λ (z : Frame). z.place < z.count) w.top_is inside
 
   later : (c : Core) → IsLawful c → Recalls c j → IsScan (seen c j) m g (w.lowest ∷ w.others) w.taken
-  later c lawful recalls = scan_on (seen c i) (seen c j) (seen_grown c o.later) m g (w.lowest ∷ w.others) w.taken (scan_later w l c lawful (recalls_before o.later recalls))
+  later c lawful recalls = scan_on (seen c i) (seen c j) (seen_grown c o) m g (w.lowest ∷ w.others) w.taken (scan_later w l c lawful (recalls_before o recalls))
 
   steady : (c : Core) → IsLawful c → Recalls c j → IsSteady (seen c j) m
-  steady c lawful recalls = seen_steady lawful recalls (since_on o (since_on l w.pinned))
+  steady c lawful recalls = seen_steady lawful recalls (since_later o (since_later l w.pinned))
 
   -- the entry there, as the pass knows it in the end
   there : (e : Entry) → Sure i (λ s. IsPlaced s m top.number top.place e) → Sure j (λ s. IsPlaced s m w.lowest.number w.lowest.place e)
@@ -160,7 +160,7 @@ module _ {k i j : Known} {a b m : ℕ} {g : Range} {top : Frame} {frames : List 
     pairs_are = w.pairs_are;
     room = e.room;
     inside = (lowest_inside, w.room, w.inside);
-    pinned = since_on o (since_on l w.pinned);
+    pinned = since_later o (since_later l w.pinned);
     scan = λ c lawful recalls.
         scan_push (seen c j) m (steady c lawful recalls) g w.lowest w.others w.taken (later c lawful recalls) number height into.place e.forks
         (there (Node number height) at c lawful recalls) (e.shaped c lawful recalls) (e.start c lawful recalls);
@@ -190,7 +190,7 @@ module _ {k i j : Known} {a b m : ℕ} {g : Range} {top : Frame} {frames : List 
       pairs_are = e ∙ w.pairs_are;
       room = w.room;
       inside = w.inside;
-      pinned = since_on o (since_on l w.pinned);
+      pinned = since_later o (since_later l w.pinned);
       scan = λ c lawful recalls.
           scan_skip (seen c j) m (steady c lawful recalls) g w.lowest w.others w.taken (later c lawful recalls) number key value
           (there (Leaf number) at c lawful recalls) (read c lawful recalls) low;
@@ -204,7 +204,7 @@ module _ {k i j : Known} {a b m : ℕ} {g : Range} {top : Frame} {frames : List 
       pairs_are = e ∙ ap (λ z. z ++ (key, value) ∷ []) w.pairs_are;
       room = w.room;
       inside = w.inside;
-      pinned = since_on o (since_on l w.pinned);
+      pinned = since_later o (since_later l w.pinned);
       scan = λ c lawful recalls.
           let s = later c lawful recalls in let short = s.short in
           let n = ap length w.pairs_are ∙ length_turned w.taken in
@@ -338,13 +338,13 @@ nothing_scanned {k} g scan before none more = record {
 }
 
 -- the root is a leaf
-module _ {n : ℕ} {k j : Known} (g : Range) (number : ℕ) (key : Key) (value : ℕ) (l : Loads n k j) (root : IsAtRoot k (Leaf number)) (same : since j ≡ since k)
+module _ {k j : Known} (g : Range) (number : ℕ) (key : Key) (value : ℕ) (l : IsLater k j) (root : IsAtRoot k (Leaf number)) (same : since j ≡ since k)
     (read : Sure j (λ s. IsRead s (since k) number key value)) (scan : Scan) where
   rooted : Sure j (λ s. IsRooted s (since k) (Leaf number))
-  rooted c lawful recalls = rooted_on (seen c k) (seen c j) (seen_grown c l.later) (since k) (Leaf number) (root.1 c lawful (recalls_before l.later recalls))
+  rooted c lawful recalls = rooted_on (seen c k) (seen c j) (seen_grown c l) (since k) (Leaf number) (root.1 c lawful (recalls_before l recalls))
 
   fixed : (c : Core) → IsLawful c → Recalls c j → IsSteady (seen c j) (since k)
-  fixed c lawful recalls = seen_steady lawful recalls (since_on l root.0)
+  fixed c lawful recalls = seen_steady lawful recalls (since_later l root.0)
 
   answered : (taken : List Pair) → scan.pairs.items ≡ turned taken → (more : Bool) → scan.more ≡ more → Sure j (λ s. IsAnswer s (since k) g taken more) → HasScanned j g scan
   answered taken pairs more e answer = record {
@@ -377,16 +377,16 @@ reached_seen s m r j e (further {c = c} {i = i} q p) = placed_seen s m c i e p
 pub reached_led : {k : Known} {m : ℕ} (r j : ℕ) (e : Entry) → IsSince k m → Sure k (λ s. IsReached s m r j e) → IsLedTo k m e
 reached_led {k} {m} r j e pinned reached = (pinned, λ c lawful recalls. reached_seen (seen c k) m r j e (reached c lawful recalls))
 
-pub reached_further : {n : ℕ} {k i : Known} {m : ℕ} (r j c h o : ℕ) (e : Entry) → Loads n k i → Sure k (λ s. IsReached s m r j (Node c h)) → Sure i (λ s. IsPlaced s m c o e) →
+pub reached_further : {k i : Known} {m : ℕ} (r j c h o : ℕ) (e : Entry) → IsLater k i → Sure k (λ s. IsReached s m r j (Node c h)) → Sure i (λ s. IsPlaced s m c o e) →
     Sure i (λ s. IsReached s m r j e)
-reached_further {n} {k} {i} {m} r j c h o e l reached at core lawful recalls =
-    further (reached_on (seen core k) (seen core i) (seen_grown core l.later) m r j (reached core lawful (recalls_before l.later recalls))) (at core lawful recalls)
+reached_further {k} {i} {m} r j c h o e l reached at core lawful recalls =
+    further (reached_on (seen core k) (seen core i) (seen_grown core l) m r j (reached core lawful (recalls_before l recalls))) (at core lawful recalls)
 
-pub first_fits : {n : ℕ} {k i : Known} {m : ℕ} (r j number : ℕ) (key : Key) (value : ℕ) → Loads n k i → IsSince k m → Sure k (λ s. IsReached s m r j (Leaf number)) →
+pub first_fits : {k i : Known} {m : ℕ} (r j number : ℕ) (key : Key) (value : ℕ) → IsLater k i → IsSince k m → Sure k (λ s. IsReached s m r j (Leaf number)) →
     Sure i (λ s. IsRead s m number key value) → Sure i (λ s. Fits s m r j key)
-first_fits {n} {k} {i} {m} r j number key value l pinned reached read c lawful recalls =
-    fit_first (seen c i) m (seen_steady lawful recalls (since_on l pinned)) r j number key value
-    (reached_on (seen c k) (seen c i) (seen_grown c l.later) m r j (reached c lawful (recalls_before l.later recalls))) (read c lawful recalls)
+first_fits {k} {i} {m} r j number key value l pinned reached read c lawful recalls =
+    fit_first (seen c i) m (seen_steady lawful recalls (since_later l pinned)) r j number key value
+    (reached_on (seen c k) (seen c i) (seen_grown c l) m r j (reached c lawful (recalls_before l recalls))) (read c lawful recalls)
 
 -- A head's forks
 
@@ -422,8 +422,8 @@ reached_at {k} {m} r j d e is reached = subst (λ z. Sure k (λ s. IsReached s m
 
 -- The place to begin at
 
-pub start_later : {n : ℕ} {k j : Known} (m : ℕ) (g : Range) (c i : ℕ) → Loads n k j → Sure k (λ s. IsStart s m g c i) → Sure j (λ s. IsStart s m g c i)
-start_later {n} {k} {j} m g c i l start core lawful recalls = start_on (seen core k) (seen core j) (seen_grown core l.later) m g c i (start core lawful (recalls_before l.later recalls))
+pub start_later : {k j : Known} (m : ℕ) (g : Range) (c i : ℕ) → IsLater k j → Sure k (λ s. IsStart s m g c i) → Sure j (λ s. IsStart s m g c i)
+start_later {k} {j} m g c i l start core lawful recalls = start_on (seen core k) (seen core j) (seen_grown core l) m g c i (start core lawful (recalls_before l recalls))
 
 pub start_first : {k : Known} (m : ℕ) (g : Range) (c : ℕ) → Sure k (λ s. IsStart s m g c 0)
 start_first m g c core lawful recalls = inl refl

@@ -3,4 +3,4 @@ pub mod Passes
 pub mod Answers
 pub mod Noting
 pub mod Scanning
-pub mod Collected
+pub mod Traces

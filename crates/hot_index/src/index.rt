@@ -1,24 +1,26 @@
 //! The index and the passes by which threads use it: how it is made, and all calls on it.
 
 ghost use Rattle.std.specs.Prelude.{◌≡◌, ◌↔◌, ◌+◌, ◌*◌, ◌≤◌, ℕ, List, Some, Err, IfOk, IsSome, OnErr, length, slice_get};
+ghost use mathlib.Core.Option.{some};
+ghost use lib.ListN.{get_elem?};
 ghost use Rattle.key_bits.specs.declared.TheConstants.{MAX_BYTES};
 ghost use Rattle.hot_model.specs.declared.Call.TheVariants.{Get};
 ghost use Rattle.hot_model.specs.declared.Note.{Note};
 ghost use Rattle.record_words.specs.Limits.{IsPassCount, IsNodeCount, IsLeafCount};
 ghost use Rattle.rowex_core.specs.declared.event.Act.TheVariants.{ClearPin};
 ghost use Rattle.rowex_core.specs.declared.known.Known.{Known};
-ghost use Rattle.rowex_core.specs.Knowing.{IsEvent};
-ghost use Rattle.rowex_table.specs.Seats.{Fits, IsSame, known};
+ghost use Rattle.rowex_table.specs.Runs.{StepsWith};
+ghost use Rattle.rowex_table.specs.Seats.{Fits, IsNew, SeatView};
 ghost use Rattle.hot_index.specs.Passes.{PassView, Owns, IsNewPass};
 ghost use Rattle.hot_index.specs.Answers.{IsNoted, IsScanned, IsUnnoted, HaveMet, got};
-ghost use Rattle.hot_index.specs.Collected.{HasCollected};
+ghost use Rattle.hot_index.specs.Traces.{HasCollected, HasRead, untold};
 
 use crate::scanning::{Range, scan_root};
-use epochs::{Given, NoGate, collect_round_with, pin_with, unpin_with};
+use epochs::{Given, collect_round, pin, unpin};
 use hot_model::Scan;
 use key_bits::Key;
 use record_words::{Layout, LayoutFault};
-use rowex_core::Gate;
+use rowex_core::{Gate, NoGate};
 use rowex_reading::look_up;
 use rowex_table::{HotTable, TableSeat};
 use std::alloc::{AllocError, Global};
@@ -43,11 +45,11 @@ pub struct Index {
 }
 
 impl Model for Index {
-    ghost use Rattle.hot_index.specs.Passes.{IndexView};
+    ghost use Rattle.rowex_table.specs.Seats.{TableView};
 
-    ghost Value = { IndexView };
+    ghost Value = { TableView };
 
-    ghost view = { λ i. record { table = i.table.table.shared.table_id; layout = i.table.layout } };
+    ghost view = { λ i. i.table };
 }
 
 /// The right of one thread to use an index. A running program stores its number alone; contracts see the changes that it has
@@ -58,14 +60,13 @@ pub struct Pass {
 }
 
 impl Model for Pass {
-    ghost use Rattle.rowex_table.specs.Seats.{known};
-    ghost use Rattle.hot_index.specs.Passes.{PassView, IsSettled, pass_view};
+    ghost use Rattle.hot_index.specs.Passes.{PassView, IsSettled, pass_of};
 
     ghost Value = { PassView };
 
-    ghost view = { λ p. pass_view p.seat.seat.table_id (known p.seat) };
+    ghost view = { λ p. pass_of p.seat };
 
-    ghost invariant = { λ p. IsSettled (known p.seat) };
+    ghost invariant = { λ p. IsSettled p.seat.known };
 }
 
 impl Pass {
@@ -73,7 +74,7 @@ impl Pass {
     pub fn number(&self) -> u16
         ensures { result ≡ self.now.number }
     {
-        self.seat.pass
+        self.seat.number()
     }
 }
 
@@ -103,8 +104,9 @@ impl Index {
     pub fn get(&self, pass: &mut Pass, key: &Key) -> Option<u64>
         requires { Owns self.now pass.old }
         ensures own { Owns self.now pass.new }
-        ensures call { IsNoted pass.old pass.new (Get key.now) (got result) }
+        ensures call { IsNoted self.now.layout pass.old pass.new (Get key.now) (got result) }
         ensures steps { (v : ℕ) × (v ≤ 9 * MAX_BYTES) × (pass.new.steps ≤ pass.old.steps + 36 + 26 * v) }
+        ensures read { HasRead self.now untold (pass.old, tt) (pass.new, tt) }
     {
         self.get_with(pass, key, &mut NoGate)
     }
@@ -113,10 +115,11 @@ impl Index {
     pub fn get_with<G: Gate>(&self, pass: &mut Pass, key: &Key, gate: &mut G) -> Option<u64>
         requires { Owns self.now pass.old }
         ensures own { Owns self.now pass.new }
-        ensures call { IsNoted pass.old pass.new (Get key.now) (got result) }
+        ensures call { IsNoted self.now.layout pass.old pass.new (Get key.now) (got result) }
         ensures steps { (v : ℕ) × (v ≤ 9 * MAX_BYTES) × (pass.new.steps ≤ pass.old.steps + 36 + 26 * v) }
+        ensures read { HasRead self.now G.becomes (pass.old, gate.old) (pass.new, gate.new) }
     {
-        pin_with(&self.table, &mut pass.seat, gate);
+        pin(&self.table, &mut pass.seat, gate);
         let found = look_up(&self.table, &mut pass.seat, key, gate);
         end_get(&self.table, &mut pass.seat, gate, key, found);
         found
@@ -138,8 +141,9 @@ impl Index {
     ) -> Result<Scan, AllocError>
         requires { Owns self.now pass.old }
         ensures own { Owns self.now pass.new }
-        ensures ok { IfOk result (IsScanned pass.old pass.new from.now upto.now limit) }
-        ensures err { OnErr result (IsUnnoted pass.old pass.new) }
+        ensures ok { IfOk result (IsScanned self.now.layout pass.old pass.new from.now upto.now limit) }
+        ensures err { OnErr result (IsUnnoted self.now.layout pass.old pass.new) }
+        ensures read { HasRead self.now untold (pass.old, tt) (pass.new, tt) }
     {
         self.scan_with(alloc, pass, from, upto, limit, &mut NoGate)
     }
@@ -156,13 +160,14 @@ impl Index {
     ) -> Result<Scan, AllocError>
         requires { Owns self.now pass.old }
         ensures own { Owns self.now pass.new }
-        ensures ok { IfOk result (IsScanned pass.old pass.new from.now upto.now limit) }
-        ensures err { OnErr result (IsUnnoted pass.old pass.new) }
+        ensures ok { IfOk result (IsScanned self.now.layout pass.old pass.new from.now upto.now limit) }
+        ensures err { OnErr result (IsUnnoted self.now.layout pass.old pass.new) }
+        ensures read { HasRead self.now G.becomes (pass.old, gate.old) (pass.new, gate.new) }
     {
         let range = Range { from, upto, limit };
-        pin_with(&self.table, &mut pass.seat, gate);
+        pin(&self.table, &mut pass.seat, gate);
         let scan = scan_root(alloc, &self.table, &mut pass.seat, gate, &range);
-        unpin_with(&self.table, &mut pass.seat, gate);
+        unpin(&self.table, &mut pass.seat, gate);
         scan
     }
 
@@ -170,7 +175,7 @@ impl Index {
     pub fn meet(&self, first: Pass, second: Pass) -> (Pass, Pass)
         requires { Owns self.now first × Owns self.now second }
         ensures own { Owns self.now result.0 × Owns self.now result.1 }
-        ensures met { HaveMet first second result.0 result.1 }
+        ensures met { HaveMet self.now.layout first second result.0 result.1 }
     {
         let (first, second) = self.table.meet_seats(first.seat, second.seat);
         (Pass { seat: first }, Pass { seat: second })
@@ -182,9 +187,9 @@ impl Index {
     pub fn collect(&self, pass: &mut Pass) -> Given
         requires { Owns self.now pass.old }
         ensures own { Owns self.now pass.new }
-        ensures call { IsUnnoted pass.old pass.new }
+        ensures call { IsUnnoted self.now.layout pass.old pass.new }
         ensures front { pass.new.front ≡ pass.old.front }
-        ensures round { HasCollected self.now.layout pass.old pass.new result.nodes result.leaves }
+        ensures round { HasCollected self.now untold (pass.old, tt) (pass.new, tt) result.nodes result.leaves }
     {
         self.collect_with(pass, &mut NoGate)
     }
@@ -193,11 +198,11 @@ impl Index {
     pub fn collect_with<G: Gate>(&self, pass: &mut Pass, gate: &mut G) -> Given
         requires { Owns self.now pass.old }
         ensures own { Owns self.now pass.new }
-        ensures call { IsUnnoted pass.old pass.new }
+        ensures call { IsUnnoted self.now.layout pass.old pass.new }
         ensures front { pass.new.front ≡ pass.old.front }
-        ensures round { HasCollected self.now.layout pass.old pass.new result.nodes result.leaves }
+        ensures round { HasCollected self.now G.becomes (pass.old, gate.old) (pass.new, gate.new) result.nodes result.leaves }
     {
-        collect_round_with(&self.table, &mut pass.seat, gate)
+        collect_round(&self.table, &mut pass.seat, gate)
     }
 }
 
@@ -208,11 +213,25 @@ fn made(alloc: Global, layout: Layout) -> Result<(Index, Vec<Pass>), AllocError>
     ensures each { IfOk result (λ made. (q : ℕ) (p : PassView) → slice_get made.1.items q ≡ Some p → Owns made.0 p × IsNewPass q p) }
 {
     let (table, seats) = HotTable::new(alloc, layout)?;
+    let passes = passes_of(alloc, &table, seats)?;
+    Ok((Index { table }, passes))
+}
+
+/// The passes of the new seats of this table, in their order.
+fn passes_of(
+    alloc: Global,
+    _table: &HotTable,
+    seats: Vec<TableSeat>,
+) -> Result<Vec<Pass>, AllocError>
+    requires { (q : ℕ) (s : SeatView) → get_elem? seats.items q ≡ some s → IsNew _table.now q s }
+    ensures count { IfOk result (λ passes. length passes.items ≡ length seats.items) }
+    ensures each { IfOk result (λ passes. (q : ℕ) (p : PassView) → slice_get passes.items q ≡ Some p → Owns _table.now p × IsNewPass q p) }
+{
     let mut passes = Vec::new(alloc);
     for seat in seats {
         passes.push(Pass { seat })?;
     }
-    Ok((Index { table }, passes))
+    Ok(passes)
 }
 
 /// Clears the pin at the end of a get that looked for this key and found this. The get's note comes with this step.
@@ -225,9 +244,8 @@ fn end_get<G: Gate>(
 )
     ghost said: { Known → List Note }
     requires fits { Fits table.now seat.old }
-    requires pinned { IsSome (known seat.old).pin }
-    ensures seat { IsSame seat.old seat.new }
-    ensures told { IsEvent table.now.layout ClearPin said (known seat.old) (known seat.new) }
+    requires pinned { IsSome seat.old.known.pin }
+    ensures step { StepsWith table.now G.becomes ClearPin said (seat.old, gate.old) (seat.new, gate.new) }
 {
-    unpin_with(table, seat, gate);
+    unpin(table, seat, gate);
 }

@@ -5,11 +5,11 @@
 mod index;
 mod scanning;
 
-pub use epochs::{Given, NoGate};
+pub use epochs::Given;
 pub use hot_model::{Reply, Scan};
 pub use index::{Index, IndexFault, Pass, create};
 pub use key_bits::Key;
-pub use rowex_core::{Event, Gate};
+pub use rowex_core::{Event, Gate, NoGate};
 
 #[cfg(test)]
 mod tests;

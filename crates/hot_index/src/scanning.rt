@@ -6,7 +6,7 @@ ghost use Rattle.pieces.specs.Piece.{size};
 ghost use Rattle.key_bits.specs.Key.{IsKey};
 ghost use Rattle.tries.specs.Keys.{IsAtMost, IsBefore};
 ghost use Rattle.tries.specs.Tree.{Page};
-ghost use Rattle.rowex_table.specs.Seats.{known};
+ghost use Rattle.rowex_table.specs.Seats.{IsSeatOf};
 ghost use Rattle.rowex_walks.specs.Scan.{Fits, IsStart};
 ghost use Rattle.rowex_reading.specs.Reads.{IsReader, Looks, ReadsSome};
 ghost use Rattle.rowex_reading.specs.Seen.{Sure, IsAtRoot, IsLedTo, HasPlace, HasShape};
@@ -56,11 +56,11 @@ pub(crate) fn scan_root<G: Gate>(
     gate: &mut G,
     range: &Range,
 ) -> Result<Scan, AllocError>
-    requires own { seat.old.seat.table_id ≡ table.now.table.shared.table_id }
-    requires pinned { IsSome (known seat.old).pin }
-    ensures looks { (n : ℕ) × Looks table.now n seat.old seat.new }
+    requires own { IsSeatOf table.now seat.old }
+    requires pinned { IsSome seat.old.known.pin }
+    ensures looks { (n : ℕ) × Looks table.now G.becomes n (seat.old, gate.old) (seat.new, gate.new) }
     ensures keys { IsKey range.now.from.now × IsKey range.now.upto.now }
-    ensures scanned { IfOk result (HasScanned (known seat.new) (range_of range.now)) }
+    ensures scanned { IfOk result (HasScanned seat.new.known (range_of range.now)) }
 {
     let root = load_root(table, seat, gate);
     if is_before(range.upto, range.from) {
@@ -89,9 +89,9 @@ fn scan_leaf<G: Gate>(
     number: u32,
 ) -> Result<Scan, AllocError>
     requires reader { IsReader table.now seat.old }
-    requires root { IsAtRoot (known seat.old) (LeafEntry number) }
-    ensures reads { ReadsSome table.now seat.old seat.new }
-    ensures scanned { IfOk result (HasScanned (known seat.new) (range_of range.now)) }
+    requires root { IsAtRoot seat.old.known (LeafEntry number) }
+    ensures reads { ReadsSome table.now G.becomes (seat.old, gate.old) (seat.new, gate.new) }
+    ensures scanned { IfOk result (HasScanned seat.new.known (range_of range.now)) }
 {
     let (key, value) = load_leaf(table, seat, gate, number);
     let mut pairs = Vec::new(alloc);
@@ -112,9 +112,9 @@ fn scan_node<G: Gate>(
     number: u32,
 ) -> Result<Scan, AllocError>
     requires reader { IsReader table.now seat.old }
-    requires root { (h : ℕ) × IsAtRoot (known seat.old) (NodeEntry number h) }
-    ensures reads { ReadsSome table.now seat.old seat.new }
-    ensures scanned { IfOk result (HasScanned (known seat.new) (range_of range.now)) }
+    requires root { (h : ℕ) × IsAtRoot seat.old.known (NodeEntry number h) }
+    ensures reads { ReadsSome table.now G.becomes (seat.old, gate.old) (seat.new, gate.new) }
+    ensures scanned { IfOk result (HasScanned seat.new.known (range_of range.now)) }
 {
     let mut pairs = Vec::new(alloc);
     let mut frames = Vec::new(alloc);
@@ -161,9 +161,9 @@ fn enter<G: Gate>(
     at_edge: bool,
 ) -> Frame
     requires reader { IsReader table.now seat.old }
-    requires led { (m h : ℕ) × IsLedTo (known seat.old) m (NodeEntry number h) }
-    ensures reads { ReadsSome table.now seat.old seat.new }
-    ensures entered { (m h : ℕ) → IsLedTo (known seat.old) m (NodeEntry number h) → IsEntered (known seat.new) m (range_of range.now) number h result }
+    requires led { (m h : ℕ) × IsLedTo seat.old.known m (NodeEntry number h) }
+    ensures reads { ReadsSome table.now G.becomes (seat.old, gate.old) (seat.new, gate.new) }
+    ensures entered { (m h : ℕ) → IsLedTo seat.old.known m (NodeEntry number h) → IsEntered seat.new.known m (range_of range.now) number h result }
 {
     let head = load_head(table, seat, gate, number);
     let count = head.count();
@@ -191,9 +191,9 @@ fn start_place<G: Gate>(
     count: u8,
 ) -> u8
     requires reader { IsReader table.now seat.old }
-    requires shape { (m h : ℕ) × (x : Page) × HasShape (known seat.old) m number h x × (count ≤ size x) × (1 ≤ count) × (count ≤ 32) }
-    ensures reads { ReadsSome table.now seat.old seat.new }
-    ensures start { (m h : ℕ) (x : Page) → HasShape (known seat.old) m number h x → count ≤ size x → Sure (known seat.new) (λ s. IsStart s m (range_of range.now) number result) }
+    requires shape { (m h : ℕ) × (x : Page) × HasShape seat.old.known m number h x × (count ≤ size x) × (1 ≤ count) × (count ≤ 32) }
+    ensures reads { ReadsSome table.now G.becomes (seat.old, gate.old) (seat.new, gate.new) }
+    ensures start { (m h : ℕ) (x : Page) → HasShape seat.old.known m number h x → count ≤ size x → Sure seat.new.known (λ s. IsStart s m (range_of range.now) number result) }
 {
     let mut low = 0;
     let mut high = count;
@@ -218,9 +218,9 @@ fn first_key<G: Gate>(
     place: u8,
 ) -> Key
     requires reader { IsReader table.now seat.old }
-    requires place { (m h : ℕ) × HasPlace (known seat.old) m number h place }
-    ensures reads { ReadsSome table.now seat.old seat.new }
-    ensures key { (m h : ℕ) → HasPlace (known seat.old) m number h place → Sure (known seat.new) (λ s. Fits s m number place result) }
+    requires place { (m h : ℕ) × HasPlace seat.old.known m number h place }
+    ensures reads { ReadsSome table.now G.becomes (seat.old, gate.old) (seat.new, gate.new) }
+    ensures key { (m h : ℕ) → HasPlace seat.old.known m number h place → Sure seat.new.known (λ s. Fits s m number place result) }
 {
     let mut entry = load_entry(table, seat, gate, number, place);
     loop {

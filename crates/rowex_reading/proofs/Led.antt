@@ -24,7 +24,7 @@ use Rattle.rowex_core.specs.declared.known.Known.{Known}
 use Rattle.rowex_core.specs.Knowing.{IsEvent}
 use Rattle.rowex_table.specs.Runs.{Runs, Steps, silent}
 use Rattle.rowex_table.specs.Seats.{TableView, SeatView, IsSame, IsSeatOf}
-use Rattle.rowex_table.proofs.Running.{runs_append, runs_one, runs_same}
+use Rattle.rowex_table.proofs.Running.{runs_append, runs_one, runs_same, same_more}
 use Rattle.rowex_walks.specs.Scan.{IsSeen, IsPlaced, IsShaped}
 use Rattle.rowex_walks.proofs.Loads.{placed_seen, rooted_seen}
 use Rattle.rowex_walks.proofs.Scans.{node_of}
@@ -167,6 +167,9 @@ module _ {G : Type 0} {table : TableView} {becomes : G → Event → G → Type 
 
   pub looks_on : {n m : ℕ} {a b c : SeatView × G} → Looks table becomes n a b → Reads table becomes m b c → Looks table becomes (n + m) a c
   looks_on x y = record { at = x.at; root = x.root; rest = reads_trans x.rest y }
+
+  pub looks_same : {n : ℕ} {a b : SeatView × G} → Looks table becomes n a b → IsSame a.0 b.0
+  looks_same {a = a} {b = b} x = same_more a.0 x.at.0 b.0 x.root.1.seat (reads_same x.rest)
 
   pub looked_at : {n : ℕ} {a b : SeatView × G} → Looks table becomes n a b → HasLookedAt n a.0.known b.0.known
   looked_at {n} {a} {b} x =

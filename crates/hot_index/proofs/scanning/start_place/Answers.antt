@@ -1,7 +1,6 @@
 -- The place between the two, and which of them it becomes.
 use Rattle.std.proofs.Common.{◌+◌, ◌/◌, arith}
-use Rattle.rowex_table.specs.Seats.{known}
-use Rattle.rowex_reading.proofs.Led.{reader_then, reads_none, reads_trans, shape_on, shape_place}
+use Rattle.rowex_reading.proofs.Led.{reader_then, reads_later, reads_none, reads_trans, shape_on, shape_place}
 use Rattle.hot_index.specs.Scanning.{range_of}
 use Rattle.hot_index.proofs.Walking.{start_first, start_later, start_fits}
 use Rattle.hot_index.proofs.scanning.start_place.Goals as goal
@@ -11,7 +10,7 @@ loop-low-init g c =
     let q = c.requires.shape in let one = q.5 in
     record {
       reader = c.requires.reader;
-      reads = (0, reads_none c.args.table.now c.args.seat.now c.requires.reader);
+      reads = (0, reads_none (c.args.seat.now, c.args.gate.now));
       low = omega arith;
       high = omega arith;
       start = λ m h x shape le. start_first m (range_of c.args.range.now) c.args.number;
@@ -30,7 +29,7 @@ loop-low-preserved-then-is_before g c =
       reads = (i.reads.0 + e.reads.0, reads_trans i.reads.1 e.reads.1);
       low = omega arith;
       high = omega arith;
-      start = λ m h x shape le. start_later m (range_of c.args.range.now) c.args.number c.loop-low.low e.reads.1.loads (i.start m h x shape le);
+      start = λ m h x shape le. start_later m (range_of c.args.range.now) c.args.number c.loop-low.low (reads_later e.reads.1) (i.start m h x shape le);
     }
 
 pub loop-low-preserved : goal.loop-low-preserved
