@@ -21,7 +21,8 @@ use Rattle.insert_cases.specs.Heights.{IsSteady, IsHalfSteady, IsGrownSteady}
 use Rattle.insert_cases.specs.declared.growth.Grown.{Grown}
 use Rattle.insert_cases.specs.declared.growth.Grown.TheVariants.{One as Whole, Two}
 use Rattle.insert_cases.proofs.Grafting.{size-grown}
-use Rattle.insert_cases.proofs.NodeFacts.{size-piece, first_column}
+use Rattle.insert_cases.proofs.NodeFacts.{size-piece}
+use Rattle.compound_node.proofs.Roots.{first_column}
 
 -- ---- root forks
 module _ {A : Type 0} where
