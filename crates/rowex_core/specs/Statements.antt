@@ -121,7 +121,8 @@ pub record StoodLast (s : Past) (n : ℕ) (r : Rec) (u : Tree) : Type 0 where
 abbrev pub EntriesInReach : Type 0
 EntriesInReach =
     (c : Core) → IsLawful c → (q : ℕ) (p : Pin) → c.pins q ≡ Some p → (m n : ℕ) (u : Tree) → p.moment ≤ m → m ≤ c.past.now → Stands c.past m (a_node n) u →
-    (o : ℕ) × (v : Tree) × (m ≤ o) × StoodLast c.past o (a_node n) v × IsSame u v × ((j : ℕ) → j < MAX_ENTRIES → entry_of (record_word c (a_node n) (FIRST_ENTRY + j)) ≡ entry_in v j)
+    (o : ℕ) × (v : Tree) × (m ≤ o) × StoodLast c.past o (a_node n) v × IsSame u v ×
+    ((j : ℕ) → j < MAX_ENTRIES → entry_of (record_word c (a_node n) (FIRST_ENTRY + j)) ≡ entry_in v j)
 
 -- the call that makes the change
 abbrev pub call_for : Kind → Key → ℕ → Call
@@ -153,4 +154,5 @@ FindsChange =
 abbrev pub LocksApart : Type 0
 LocksApart =
     (c : Core) (p q n m : ℕ) → IsLawful c → c.lock n ≡ Some p → n ≢ m → Legal c q (Lock (NodeTarget m) (state_word Live)) →
-    IsLawful (after c q (Lock (NodeTarget m) (state_word Live))) × ((after c q (Lock (NodeTarget m) (state_word Live))).lock n ≡ Some p) × ((after c q (Lock (NodeTarget m) (state_word Live))).lock m ≡ Some q)
+    IsLawful (after c q (Lock (NodeTarget m) (state_word Live))) ×
+    ((after c q (Lock (NodeTarget m) (state_word Live))).lock n ≡ Some p) × ((after c q (Lock (NodeTarget m) (state_word Live))).lock m ≡ Some q)
