@@ -52,6 +52,9 @@ behind_first p n q x (node m y c) f e h = elim f [ ]
 behind_first p n q x (fork r a c) f e h = record { position = r; zero_tree = a; one_tree = c; within = inside here; before = omega arith }
 
 -- ---- a node, as the records have it
+pub standing_to : {ns : List NodeView} {ls : List LeafRecord} {e f : Entry} {t : Tree} → e ≡ f → IsStanding ns ls e t → IsStanding ns ls f t
+standing_to {ns} {ls} {e} {f} {t} is s = subst (λ g. IsStanding ns ls g t) is s
+
 pub standing_node : {ns : List NodeView} {ls : List LeafRecord} {n h : ℕ} {t : Tree} → IsStanding ns ls (Node n h) t → IsNodeOf ns ls n h t
 standing_node {ns} {ls} {n} {h} {t} s = node_of_page ns ls n h t s.head s.shown s.built
 
@@ -125,6 +128,21 @@ module _ {ns : List NodeView} {ls : List LeafRecord} {n h : ℕ} {t : Tree} (s :
     pub way_above : IsBehind p (child k w.body) → WayBelow p k w.body
     way_above o = way_behind p k w.body body_trie o
 
+-- an entry of the node, with the tree below it, as the search finds it
+pub record IsAt (ns : List NodeView) (ls : List LeafRecord) (n h : ℕ) (t : Tree) (k : Key) (e : Entry) : Type 0 where
+  pub whole : IsStanding ns ls (Node n h) t
+  pub node : IsNodeOf ns ls n h t
+  pub is : e ≡ seek k (page node.body)
+  pub below : IsStanding ns ls e (child k node.body)
+
+pub search_at : {ns : List NodeView} {ls : List LeafRecord} {n h : ℕ} {d : Entry} {t : Tree} → d ≡ Node n h → IsStanding ns ls d t → (k : Key) (v : NodeView) → v ≡ get_or ns n v →
+    (at : ℕ) (e : Entry) → IsLawful v → at ≡ leads_to (bit_of k) (piece v) → slice_get v.entries at ≡ Some e → IsAt ns ls n h t k e
+search_at same stands k v is at e lawful leads entry =
+    let s = standing_to same stands in
+    let w = standing_node s in
+    let sought = standing_entry s w k v is at e lawful leads entry in
+    record { whole = s; node = w; is = sought; below = child_stands s w k e sought }
+
 -- ---- a leaf
 pub standing_leaf : (ns : List NodeView) (ls : List LeafRecord) (k : Key) (n : ℕ) (t : Tree) → IsStanding ns ls (Leaf n) t → slice_get ls n ≡ Some (record_of (found k t))
 standing_leaf ns ls k n t s = leaf_of_page ns ls k n t s.head s.shown
@@ -142,9 +160,6 @@ leaf_addable ns ls us e t k v m p s leaves number key differ = record {
 }
 
 -- ---- what rises from a node
-pub standing_to : {ns : List NodeView} {ls : List LeafRecord} {e f : Entry} {t : Tree} → e ≡ f → IsStanding ns ls e t → IsStanding ns ls f t
-standing_to {ns} {ls} {e} {f} {t} is s = subst (λ g. IsStanding ns ls g t) is s
-
 pub risen_here : (ns os ms : List NodeView) (ls us : List LeafRecord) (k : Key) (v n p : ℕ) (e : Entry) (t : Tree) (risen : Risen) → os ≡ ns → us ≡ with_leaf ls k v → n ≡ length ls →
     IsAddable ns us (item n k v) p e t → IsBehind p t → IsRaised os ms us (item n k v) p t (suc (height_of e)) (page_of risen) → HasRisen ns ms ls us k v e t risen
 risen_here ns os ms ls us k v n p e t risen nodes leaves number addable behind raised = record {
