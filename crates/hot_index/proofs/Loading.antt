@@ -35,7 +35,7 @@ pub record IsTaught (core : Core) (found : Fact) (k j : Known) : Type 0 where
   pub fact : (c : Core) → Knows c j → IsFact c.past found
 
 renoted : (c : Core) (k : Known) (notes : List Note) → Knows c k → Knows c (record k { notes = notes })
-renoted c k notes h = record { pass = h.pass; loaded = h.loaded; seen = h.seen; own = h.own }
+renoted c k notes h = record { pass = h.pass; counted = h.counted; seen = h.seen; own = h.own }
 
 taught : (core : Core) (k j : Known) (p : Pin) (f : ℕ → Fact) (fresh : Fresh) → k.pin ≡ Some p → Knows core k → Knows core j →
     j ≡ record k { front = core.changes; fresh = fresh; facts = facts_with k.pin f k.facts; steps = k.steps + 1; notes = k.notes ++ [] } → IsTaught core (f p.moment) k j
@@ -45,7 +45,7 @@ taught core k j p f fresh pinned before knows is = record {
         ap (λ (z : Known). let y : Known = record k { front = z.front; fresh = z.fresh; facts = z.facts; steps = k.steps + 1 } in y) (sym is));
     front = subst (OthersGoOn k.pass k.front) (sym (ap (λ (z : Known). z.front) is)) before.seen.front;
     began = before.seen.fresh;
-    loaded = before.loaded;
+    counted = before.counted;
     facts = λ s h. All-tail (IsFact s) (f p.moment) k.facts (subst (All (IsFact s)) facts_are h);
   };
   front = ap (λ (z : Known). z.front) is;

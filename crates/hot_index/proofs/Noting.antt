@@ -165,7 +165,7 @@ noted table table' layout call reply k i j settled looked event right quiet = su
 
     told : IsNoted (pass_view table k) (pass_view table' after) call reply
     told = record {
-      on = record { number = looked.pass; front = (looked.front.0, looked.front.1); fresh = looked.fresh; seen = event.knows.seen.fresh; now = (looked.now, let l = event.knows.loaded in omega arith) };
+      on = record { number = looked.pass; front = (looked.front.0, looked.front.1); fresh = looked.fresh; seen = event.knows.seen.fresh; now = (looked.now, let l = event.knows.counted.loaded in omega arith) };
       place = place;
       notes = ap (λ (z : List Note). z ++ note ∷ []) looked.notes;
       low = at.least;
@@ -174,7 +174,7 @@ noted table table' layout call reply k i j settled looked event right quiet = su
     }
 
     whole : IsSettled after
-    whole = record { own = looked.own; locks = looked.locks; anchor = looked.anchor; pin = refl; fresh = event.knows.seen.fresh; loaded = let l = event.knows.loaded in omega arith; legal = legal }
+    whole = record { own = looked.own; locks = looked.locks; anchor = looked.anchor; pin = refl; fresh = event.knows.seen.fresh; loaded = let l = event.knows.counted.loaded in omega arith; legal = legal }
 
 -- A get
 

@@ -99,7 +99,7 @@ module _ {n : ℕ} (before later : TableId) (layout : Layout) (k a b j : Known) 
         anchor = ap (λ (z : Known). z.anchor) l.rest ∙ (ap (λ (z : Known). z.anchor) pinned ∙ settled.anchor);
         pin = refl;
         fresh = event.knows.seen.fresh;
-        loaded = let l = event.knows.loaded in omega arith;
+        loaded = let l = event.knows.counted.loaded in omega arith;
         legal = legal;
       }
 
@@ -120,7 +120,7 @@ module _ {n : ℕ} (before later : TableId) (layout : Layout) (k a b j : Known) 
           front = (others.0, others.1);
           fresh = subst (λ (z : List Change). BeginsWith b.fresh.front z) begun fresh;
           seen = event.knows.seen.fresh;
-          now = let e = ap (λ (z : Known). z.steps) pinned in let l = event.knows.loaded in (omega arith, omega arith);
+          now = let e = ap (λ (z : Known). z.steps) pinned in let l = event.knows.counted.loaded in (omega arith, omega arith);
         };
         notes = notes;
         lawful =

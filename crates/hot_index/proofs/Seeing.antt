@@ -35,7 +35,7 @@ same_pass l = ap (λ (z : Known). z.pass) l.rest
 pub loads_knows : {n : ℕ} {k j : Known} {c : Core} → Loads n k j → Knows c j → Knows c k
 loads_knows {n} {k} {j} {c} l h = record {
   pass = subst (λ z. z < c.layout.passes) (same_pass l) h.pass;
-  loaded = l.loaded;
+  counted = l.counted;
   seen = record {
     front = others_on k.pass k.front j.front c.changes l.front (subst (λ z. OthersGoOn z j.front c.changes) (same_pass l) h.seen.front);
     fresh = l.began;
@@ -53,7 +53,7 @@ loads_trans {n} {m} {k} {i} {j} x y = record {
       ap (λ (s : ℕ). let w : Known = record k { front = j.front; fresh = j.fresh; facts = j.facts; steps = s } in w) (let e : k.steps + n + m ≡ k.steps + (n + m) = omega arith in e));
   front = others_on k.pass k.front i.front j.front x.front (subst (λ z. OthersGoOn z i.front j.front) (same_pass x) y.front);
   began = x.began;
-  loaded = x.loaded;
+  counted = x.counted;
   facts = λ s h. x.facts s (y.facts s h);
 }
 

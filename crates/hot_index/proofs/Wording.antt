@@ -49,7 +49,7 @@ no_loads k layout possible = record {
   rest = ap (λ (s : ℕ). let z : Known = record k { steps = s } in z) (let e : k.steps ≡ k.steps + 0 = omega arith in e);
   front = others_none k.pass k.front;
   began = possible.knows.seen.fresh;
-  loaded = possible.knows.loaded;
+  counted = possible.knows.counted;
   facts = λ s h. h;
 }
 

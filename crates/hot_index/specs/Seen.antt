@@ -10,7 +10,7 @@ use Rattle.moments.specs.State.{Past}
 use Rattle.moments.specs.Frames.{IsGrown}
 use Rattle.rowex_core.specs.declared.known.Known.{Known}
 use Rattle.rowex_core.specs.Cores.{Core, IsLawful}
-use Rattle.rowex_core.specs.Knowing.{IsFact, Knows}
+use Rattle.rowex_core.specs.Knowing.{IsFact, AreCounted, Knows}
 use Rattle.rowex_walks.specs.Scan.{IsSeen, IsRooted, IsBlank, IsShaped}
 
 -- the moments that the pass has seen, of those of a core: up to the one after the changes of its front
@@ -38,7 +38,7 @@ pub record Loads (n : ℕ) (k j : Known) : Type 0 where
   pub rest : j ≡ record k { front = j.front; fresh = j.fresh; facts = j.facts; steps = k.steps + n }
   pub front : OthersGoOn k.pass k.front j.front
   pub began : BeginsWith k.front k.fresh.front
-  pub loaded : k.fresh.step < k.steps
+  pub counted : AreCounted k.steps k.fresh.step k.failed
   pub facts : (s : Past) → All (IsFact s) j.facts → All (IsFact s) k.facts
 
 -- the forks of a node with this head

@@ -5,7 +5,7 @@ use Rattle.hot_model.specs.declared.Note.{Note}
 use Rattle.hot_model.specs.declared.Scan.{Scan}
 use Rattle.hot_model.specs.Fronts.{map_of, LegalFront, OthersGoOn}
 use Rattle.hot_model.specs.Calls.{LegalCalls}
-use Rattle.hot_model.specs.Weaves.{LegalHistory, weave, notes_of, AllLegal, calls_in, calls_of}
+use Rattle.hot_model.specs.Weaves.{LegalHistory, weave, notes_of, AllLegal, calls_in, calls_of, AreWoven, CallsAreWoven}
 use Rattle.hot_model.specs.Scans.{IsScanOf, IsLawfulScan}
 
 -- Calls that are legal in a front are legal in each legal front that goes on from it by changes of other passes alone.
@@ -19,6 +19,16 @@ Woven = (front : List Change) (passes : List (ℕ × List Note)) → AllLegal fr
 -- The same for two passes.
 abbrev pub WovenTwo : Type 0
 WovenTwo = (front : List Change) (p q : ℕ) (notes_p notes_q : List Note) → p ≢ q → LegalCalls front p notes_p → LegalCalls front q notes_q → LegalHistory (weave front (notes_p ++ notes_q))
+
+-- In the weave of the calls of several passes, those of each pass stand each once, in the order in which it made them.
+abbrev pub WovenInOrder : Type 0
+WovenInOrder = (front : List Change) (passes : List (ℕ × List Note)) → AllLegal front passes → CallsAreWoven passes (calls_in (weave front (notes_of passes)))
+
+-- The same for two passes.
+abbrev pub WovenInOrderTwo : Type 0
+WovenInOrderTwo =
+    (front : List Change) (p q : ℕ) (notes_p notes_q : List Note) → LegalCalls front p notes_p → LegalCalls front q notes_q →
+    AreWoven (calls_of notes_p) (calls_of notes_q) (calls_in (weave front (notes_p ++ notes_q)))
 
 -- A scan of the map of a front is lawful where the front stays as it is.
 abbrev pub ScansAtOnce : Type 0

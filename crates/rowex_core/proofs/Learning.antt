@@ -34,7 +34,7 @@ use Rattle.rowex_core.specs.Words.{record_word}
 use Rattle.moments.proofs.Publish.{moment_old}
 use Rattle.rowex_core.specs.declared.event.Spot.{Spot}
 use Rattle.rowex_core.specs.Events.{IsLegalPublish, IsLockedAt, stored_words, stored_root, next_tree, next_change, Legal, after, with_fate, with_word, with_lock, with_pin, with_round, claimed, marked, anchored, unlocked, word_of, target_word, IsInTree}
-use Rattle.rowex_core.specs.Knowing.{IsFact, HasSeen, facts_with, Knows, learned_by, learned, entry_learned, hold_as, fill_in, without_record, failed_with, claim_learned, anchor_learned, node_learned, without_lock, records_in, unlinked_as, own_after, relocked, locks_after, anchor_after, publish_learned}
+use Rattle.rowex_core.specs.Knowing.{IsFact, HasSeen, facts_with, AreCounted, Knows, learned_by, learned, entry_learned, hold_as, fill_in, without_record, failed_with, claim_learned, anchor_learned, node_learned, without_lock, records_in, unlinked_as, own_after, relocked, locks_after, anchor_after, publish_learned}
 use Rattle.record_words.specs.declared.layout.Location.{Location}
 use Rattle.rowex_core.proofs.Frames.{advance_frame, give_back_frame, unlocked_node}
 use Rattle.rowex_core.proofs.Keeping.{fact_grown, knows_kept}
@@ -253,7 +253,7 @@ module _ (c : Core) (k : Known) (h : Knows c k) where
 mark_learns : (c : Core) (k : Known) (r : Rec) (epoch since last : ℕ) → Knows c k → c.fate r ≡ UnlinkedBy since last k.pass →
     IsTrue (marked c r epoch (c.fate r)) (record k { own = without_record r k.own })
 mark_learns c k r epoch since last h e = subst (λ f. IsTrue (marked c r epoch f) (record k { own = without_record r k.own })) (sym e)
-    (changes (unlocked c r) k (record { pass = h.pass; loaded = h.loaded; seen = h.seen; own = same_unlocked c k.pass r (ap is_in_tree e) ∙ h.own })
+    (changes (unlocked c r) k (record { pass = h.pass; counted = h.counted; seen = h.seen; own = same_unlocked c k.pass r (ap is_in_tree e) ∙ h.own })
     r (UnlinkedBy since last k.pass) (Marked since last epoch) (without_record r) (drop_at r) e refl refl (dropped r (c.words r) (holding_of k.pass (UnlinkedBy since last k.pass))))
 
 -- Publish
@@ -387,30 +387,43 @@ learns_by c k (LoadPin o w) law h l = round_learns c k h _ _ (ap (λ (s : Share)
 learns_by c k (LoadState r w) law h l = is_true h
 learns_by c k (GiveBack r epoch found) law h l = is_true (knows_kept c _ k (give_back_frame c k.pass r epoch (c.fate r) refl) h)
 
--- Its last load of the root was one of its steps.
-module _ (c : Core) (k : Known) (h : k.fresh.step < k.steps) where
-  claim_loaded : (r : Rec) (found : ℕ) (f : Fate) → (claim_learned c r found f k).fresh.step < k.steps + 1
-  claim_loaded r found Free = omega arith
-  claim_loaded r found _ = omega arith
+-- The step is counted, and with it the last load of the root and what failed.
+module _ (c : Core) (k : Known) (h : AreCounted k.steps k.fresh.step k.failed) where
+  abbrev IsNext : Known → Type 0
+  IsNext j = AreCounted (k.steps + 1) j.fresh.step j.failed
 
-  anchor_loaded : (found : ℕ) (o : Option ℕ) → (anchor_learned c found o k).fresh.step < k.steps + 1
-  anchor_loaded found None = omega arith
-  anchor_loaded found (Some p) = omega arith
+  before : (last : ℕ) → last < k.steps + 1 → AreCounted (k.steps + 1) last k.failed
+  before last low = record { loaded = low; failed = All-weaker (λ f. f.step < k.steps) (λ f. f.step < k.steps + 1) (λ f b. omega arith) k.failed h.failed }
 
-  either_loaded : (b : Bool) (i j : Known) → i.fresh.step < k.steps + 1 → j.fresh.step < k.steps + 1 → (if b then i else j).fresh.step < k.steps + 1
-  either_loaded true i j x y = x
-  either_loaded false i j x y = y
+  -- no step is remembered
+  same_next : AreCounted (k.steps + 1) k.fresh.step k.failed
+  same_next = before k.fresh.step (let l = h.loaded in omega arith)
 
-  loaded_by : (act : Act) → (learned_by c act k).fresh.step < k.steps + 1
-  loaded_by (Claim r found) = claim_loaded r found (c.fate r)
-  loaded_by (Lock Anchor found) = anchor_loaded found c.anchor
-  loaded_by (Lock (NodeTarget n) found) = either_loaded (nat_eq found 2) _ _ (omega arith) (omega arith)
-  loaded_by (LoadRef Root w) = omega arith
-  loaded_by (LoadRef (Slot n j) w) = omega arith
-  loaded_by (Unlock Anchor) = omega arith
-  loaded_by (Unlock (NodeTarget n)) = omega arith
-  loaded_by _ = omega arith
+  failed_next : (location : Location) (w : ℕ) → IsNext (failed_with k location w)
+  failed_next location w = record { loaded = same_next.loaded; failed = All-cons (λ f. f.step < k.steps + 1) _ k.failed (omega arith) same_next.failed }
+
+  claim_next : (r : Rec) (found : ℕ) (f : Fate) → IsNext (claim_learned c r found f k)
+  claim_next r found Free = same_next
+  claim_next r found _ = failed_next (word_of r 0) found
+
+  anchor_next : (found : ℕ) (o : Option ℕ) → IsNext (anchor_learned c found o k)
+  anchor_next found None = same_next
+  anchor_next found (Some p) = failed_next (target_word Anchor) found
+
+  either_next : (b : Bool) (i j : Known) → IsNext i → IsNext j → IsNext (if b then i else j)
+  either_next true i j x y = x
+  either_next false i j x y = y
+
+  next_by : (act : Act) → IsNext (learned_by c act k)
+  next_by (Claim r found) = claim_next r found (c.fate r)
+  next_by (Lock Anchor found) = anchor_next found c.anchor
+  next_by (Lock (NodeTarget n) found) = either_next (nat_eq found 2) _ _ same_next (failed_next (target_word (NodeTarget n)) found)
+  next_by (LoadRef Root w) = before k.steps (omega arith)
+  next_by (LoadRef (Slot n j) w) = same_next
+  next_by (Unlock Anchor) = same_next
+  next_by (Unlock (NodeTarget n)) = same_next
+  next_by _ = same_next
 
 -- What a pass knows after its own step is true.
 pub learns : (c : Core) (k : Known) (act : Act) → IsLawful c → Knows c k → Legal c k.pass act → Knows (after c k.pass act) (learned c act k)
-learns c k act law h l = let t = learns_by c k act law h l in record { pass = t.pass; loaded = loaded_by c k h.loaded act; seen = t.seen; own = t.own }
+learns c k act law h l = let t = learns_by c k act law h l in record { pass = t.pass; counted = next_by c k h.counted act; seen = t.seen; own = t.own }

@@ -24,6 +24,7 @@ use Rattle.rowex_core.specs.declared.known.Holding.{Holding}
 use Rattle.rowex_core.specs.declared.known.Holding.TheVariants.{Held, Ready as IsReady, Unlinked}
 use Rattle.rowex_core.specs.declared.known.Owned.{Owned}
 use Rattle.rowex_core.specs.declared.known.Locked.{Locked}
+use Rattle.rowex_core.specs.declared.known.Failed.{Failed}
 use Rattle.rowex_core.specs.declared.known.Known.{Known}
 use Rattle.rowex_core.specs.declared.known.View.{View}
 use Rattle.rowex_core.specs.declared.known.View.TheVariants.{Spent, Dealer, Pass, Pair}
@@ -59,11 +60,16 @@ pub record HasSeen (q : ℕ) (past : Past) (changes : List Change) (seen last : 
   pub fresh : BeginsWith seen last
   pub facts : All (IsFact past) known
 
--- What the pass knows is true of the core, and what it knows that it has is all that it has. Its last load of the root was a
--- step before its next one.
+-- The steps whose numbers it remembers, its last load of the root and the locks and claims that failed, came before step
+-- number `next`.
+pub record AreCounted (next last : ℕ) (failures : List Failed) : Type 0 where
+  pub loaded : last < next
+  pub failed : All (λ f. f.step < next) failures
+
+-- What the pass knows is true of the core, what it knows that it has is all that it has, and its steps are counted.
 pub record Knows (c : Core) (k : Known) : Type 0 where
   pub pass : k.pass < c.layout.passes
-  pub loaded : k.fresh.step < k.steps
+  pub counted : AreCounted k.steps k.fresh.step k.failed
   pub seen : HasSeen k.pass c.past c.changes k.front k.fresh.front k.facts
   pub own : share k.pass c ≡ known_share k
 
