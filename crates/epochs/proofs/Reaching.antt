@@ -37,7 +37,7 @@ unlocked_below None = omega arith
 unlocked_below (Some q) = omega arith
 
 freed : (c : Core) (r : Rec) (epoch : ℕ) (o : Option ℕ) (f : Fate) → state_word (Obsolete epoch) ≡ state_word (tag_of o f)
-    → ((given_back c r epoch f).fate r ≡ Free) × ((given_back c r epoch f).pins ≡ c.pins) × ((given_back c r epoch f).past ≡ c.past)
+    → ((given_back c.shared r epoch f).fate r ≡ Free) × ((given_back c.shared r epoch f).pins ≡ c.pins) × ((given_back c.shared r epoch f).past ≡ c.past)
 freed c r epoch o Free is = absurd (omega arith)
 freed c r epoch o (Held q) is = absurd (omega arith)
 freed c r epoch o (ReadyBy q) is = absurd (let low = unlocked_below o in omega arith)

@@ -4,7 +4,7 @@ use Rattle.std.proofs.lemmas.List.Elements.{filter-append}
 use Rattle.hot_model.specs.declared.Change.{Change}
 use Rattle.hot_model.specs.declared.Note.{Note}
 use Rattle.hot_model.specs.Calls.{is_change, LegalCalls}
-use Rattle.hot_model.specs.Weaves.{Event, answered, only, quiet_at, changing_at, calls_of, made_by, weave_from, weave, calls_in, notes_of, AllLegal, AreWoven, empty, of_first, of_second, CallsAreWoven}
+use Rattle.hot_model.specs.Weaves.{Event, answered, quiet_at, changing_at, calls_of, made_by, weave_from, weave, calls_in, notes_of, AllLegal, AreWoven, empty, of_first, of_second, CallsAreWoven}
 use Rattle.hot_model.proofs.InOrder.{weave-in_order}
 
 -- Lists woven one after the other

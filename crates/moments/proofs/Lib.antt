@@ -5,9 +5,9 @@ pub mod Publish
 pub mod Quiet
 pub mod Growth
 pub mod Legal
-pub mod Frames
 pub mod Pace
 pub mod Stored
 pub mod Telling
 pub mod Reading
 pub mod Stepping
+pub mod Members

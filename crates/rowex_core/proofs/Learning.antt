@@ -15,7 +15,7 @@ use Rattle.moments.specs.declared.Round.{Round}
 use Rattle.moments.specs.Heap.{Heap}
 use Rattle.moments.specs.State.{Past, IsTop, IsReach}
 use Rattle.moments.specs.Core.{Fate, Free, Held as HeldBy, Ready as ReadyBy, InTree, Unlinked as UnlinkedBy, Marked, pin_moment}
-use Rattle.moments.specs.Steps.{same_rec, is_linked, next_fate, MayLock, lowered}
+use Rattle.moments.specs.Steps.{same_rec, is_linked, next_fate, MayLock, lowered, with_fate, with_lock, with_pin, with_round, unlocked, with_anchor}
 use Rattle.moments.proofs.Legal.{same_rec_refl}
 use Rattle.rowex_core.specs.declared.event.Act.{Act}
 use Rattle.rowex_core.specs.declared.event.Act.TheVariants.{Claim, Fill, Ready, Release, LoadRef, LoadFixed, Lock, Unlock, Publish, Mark, LoadEpoch, Advance, SetPin, ClearPin, LoadPin, LoadState, GiveBack}
@@ -33,7 +33,7 @@ use Rattle.rowex_core.specs.Cores.{Core, IsLawful, view, heap_of}
 use Rattle.rowex_core.specs.Words.{record_word}
 use Rattle.moments.proofs.Publish.{moment_old}
 use Rattle.rowex_core.specs.declared.event.Spot.{Spot}
-use Rattle.rowex_core.specs.Events.{IsLegalPublish, IsLockedAt, stored_words, stored_root, next_tree, next_change, Legal, after, with_fate, with_word, with_lock, with_pin, with_round, claimed, marked, anchored, unlocked, word_of, target_word, IsInTree}
+use Rattle.rowex_core.specs.Events.{IsLegalPublish, IsLockedAt, stored_words, stored_root, next_tree, next_change, Legal, after, with_word, claimed, marked, anchored, word_of, target_word, IsInTree}
 use Rattle.rowex_core.specs.Knowing.{IsFact, HasSeen, facts_with, AreCounted, Knows, learned_by, learned, entry_learned, hold_as, fill_in, without_record, failed_with, claim_learned, anchor_learned, node_learned, without_lock, records_in, unlinked_as, own_after, relocked, locks_after, anchor_after, publish_learned}
 use Rattle.record_words.specs.declared.layout.Location.{Location}
 use Rattle.rowex_core.proofs.Frames.{advance_frame, give_back_frame, unlocked_node}
@@ -163,7 +163,7 @@ module _ (c : Core) (k : Known) (h : Knows c k) where
   -- the fate of one record, which is not in the tree
   fate_learns : (r : Rec) (f : Fate) (own : List Owned) → is_in_tree (c.fate r) ≡ false → is_in_tree f ≡ false →
       owned r (c.words r) (holding_of k.pass f) ≡ of_record r own → ((i : Rec) → same_rec i r ≡ false → owned i (c.words i) (holding_of k.pass (c.fate i)) ≡ of_record i own) →
-      IsTrue (with_fate c r f) (record k { own = own })
+      IsTrue (record c { shared = with_fate c.shared r f }) (record k { own = own })
   fate_learns r f own before after here there = record {
     pass = h.pass;
     seen = h.seen;
@@ -174,12 +174,12 @@ module _ (c : Core) (k : Known) (h : Knows c k) where
   }
 
   changes : (r : Rec) (g f : Fate) (change : List Owned → List Owned) → IsAt r change → c.fate r ≡ g → is_in_tree g ≡ false → is_in_tree f ≡ false →
-      change (owned r (c.words r) (holding_of k.pass g)) ≡ owned r (c.words r) (holding_of k.pass f) → IsTrue (with_fate c r f) (record k { own = change k.own })
+      change (owned r (c.words r) (holding_of k.pass g)) ≡ owned r (c.words r) (holding_of k.pass f) → IsTrue (record c { shared = with_fate c.shared r f }) (record k { own = change k.own })
   changes r g f change at is before after e = fate_learns r f (change k.own) (ap is_in_tree is ∙ before) after
       (sym e ∙ (ap (λ z. change (owned r (c.words r) (holding_of k.pass z))) (sym is) ∙ has_then r change at r))
       (λ i o. sym (at.others i (c.words i) (holding_of k.pass (c.fate i)) o) ∙ has_then r change at i)
 
-  claim_learns : (r : Rec) (found : ℕ) (f : Fate) → c.fate r ≡ f → IsTrue (claimed c k.pass r f) (claim_learned c r found f k)
+  claim_learns : (r : Rec) (found : ℕ) (f : Fate) → c.fate r ≡ f → IsTrue (record c { shared = claimed c.shared k.pass r f }) (claim_learned c r found f k)
   claim_learns r found Free e = fate_learns r (HeldBy k.pass) _ (ap is_in_tree e) refl
       (rw (by_itself k.pass, same_rec_refl r) (ap (λ (z : List Owned). record { rec = r; holding = Held; words = c.words r } ∷ z) (ap (λ f. owned r (c.words r) (holding_of k.pass f)) (sym e) ∙ had r)))
       (λ i o. rw o (had i))
@@ -203,7 +203,7 @@ module _ (c : Core) (k : Known) (h : Knows c k) where
   -- The lock of a node
 
   locks_learn : (n : ℕ) (o : Option ℕ) (locks : List Locked) → locked n (c.words (a_node n)) (is_in_tree (c.fate (a_node n)) && is_by k.pass o) ≡ of_node n locks →
-      ((i : ℕ) → nat_eq i n ≡ false → (share k.pass c).locks i ≡ of_node i locks) → IsTrue (with_lock c n o) (record k { locks = locks })
+      ((i : ℕ) → nat_eq i n ≡ false → (share k.pass c).locks i ≡ of_node i locks) → IsTrue (record c { shared = with_lock c.shared n o }) (record k { locks = locks })
   locks_learn n o locks here there = record {
     pass = h.pass;
     seen = h.seen;
@@ -213,12 +213,12 @@ module _ (c : Core) (k : Known) (h : Knows c k) where
   had_lock : (n : ℕ) → (share k.pass c).locks n ≡ of_node n k.locks
   had_lock n = ap (λ (z : Share). z.locks n) h.own
 
-  lock_taken : (n : ℕ) → IsInTree c n → c.lock n ≡ None → IsTrue (with_lock c n (Some k.pass)) (record k { locks = record { node = n; words = c.words (a_node n) } ∷ k.locks })
+  lock_taken : (n : ℕ) → IsInTree c n → c.lock n ≡ None → IsTrue (record c { shared = with_lock c.shared n (Some k.pass) }) (record k { locks = record { node = n; words = c.words (a_node n) } ∷ k.locks })
   lock_taken n t none = locks_learn n (Some k.pass) _
       (rw (t.1, by_itself k.pass, by_itself n) (ap (λ (z : List Locked). record { node = n; words = c.words (a_node n) } ∷ z) (rw (t.1, none) refl ∙ had_lock n)))
       (λ i o. rw o (had_lock i))
 
-  lock_given : (n : ℕ) → IsTrue (with_lock c n None) (record k { locks = without_lock n k.locks })
+  lock_given : (n : ℕ) → IsTrue (record c { shared = with_lock c.shared n None }) (record k { locks = without_lock n k.locks })
   lock_given n = locks_learn n None _
       (ap (locked n (c.words (a_node n))) (and_false (is_in_tree (c.fate (a_node n)))) ∙ (sym (gone (is_in_tree (c.fate (a_node n)) && is_by k.pass (c.lock n))) ∙ through n))
       (λ i o. sym (left i o (is_in_tree (c.fate (a_node i)) && is_by k.pass (c.lock i))) ∙ through i)
@@ -236,24 +236,24 @@ module _ (c : Core) (k : Known) (h : Knows c k) where
 
   -- The anchor, the pin, the round
 
-  anchor_learns : (found : ℕ) (o : Option ℕ) → c.anchor ≡ o → IsTrue (anchored c k.pass o) (anchor_learned c found o k)
+  anchor_learns : (found : ℕ) (o : Option ℕ) → c.anchor ≡ o → IsTrue (record c { shared = anchored c.shared k.pass o }) (anchor_learned c found o k)
   anchor_learns found None e = record { pass = h.pass; seen = h.seen; own = λ i. record (h.own i) { anchor = ap (anchored_at c.root) (by_itself k.pass) i } }
   anchor_learns found (Some p) e = with_failed c k (target_word Anchor) found h
 
-  anchor_given : IsTrue (record c { anchor = None }) (record k { anchor = None })
+  anchor_given : IsTrue (record c { shared = with_anchor c.shared None }) (record k { anchor = None })
   anchor_given = record { pass = h.pass; seen = h.seen; own = λ i. record (h.own i) { anchor = None } }
 
-  pin_learns : (o : Option Pin) → IsTrue (with_pin c k.pass o) (record k { pin = o })
+  pin_learns : (o : Option Pin) → IsTrue (record c { shared = with_pin c.shared k.pass o }) (record k { pin = o })
   pin_learns o = record { pass = h.pass; seen = h.seen; own = λ i. record (h.own i) { pin = ap (λ b. if b then o else c.pins k.pass) (by_itself k.pass) i } }
 
-  round_learns : (p o : Round) → p ≡ o → IsTrue (with_round c k.pass p) (record k { round = o })
+  round_learns : (p o : Round) → p ≡ o → IsTrue (record c { shared = with_round c.shared k.pass p }) (record k { round = o })
   round_learns p o e = record { pass = h.pass; seen = h.seen; own = λ i. record (h.own i) { round = (ap (λ b. if b then p else c.rounds k.pass) (by_itself k.pass) ∙ e) i } }
 
 -- Mark: the record is not the pass's any more, and a node is unlocked
 mark_learns : (c : Core) (k : Known) (r : Rec) (epoch since last : ℕ) → Knows c k → c.fate r ≡ UnlinkedBy since last k.pass →
-    IsTrue (marked c r epoch (c.fate r)) (record k { own = without_record r k.own })
-mark_learns c k r epoch since last h e = subst (λ f. IsTrue (marked c r epoch f) (record k { own = without_record r k.own })) (sym e)
-    (changes (unlocked c r) k (record { pass = h.pass; counted = h.counted; seen = h.seen; own = same_unlocked c k.pass r (ap is_in_tree e) ∙ h.own })
+    IsTrue (record c { shared = marked c.shared r epoch (c.fate r) }) (record k { own = without_record r k.own })
+mark_learns c k r epoch since last h e = subst (λ f. IsTrue (record c { shared = marked c.shared r epoch f }) (record k { own = without_record r k.own })) (sym e)
+    (changes (record c { shared = unlocked c.shared r }) k (record { pass = h.pass; counted = h.counted; seen = h.seen; own = same_unlocked c k.pass r (ap is_in_tree e) ∙ h.own })
     r (UnlinkedBy since last k.pass) (Marked since last epoch) (without_record r) (drop_at r) e refl refl (dropped r (c.words r) (holding_of k.pass (UnlinkedBy since last k.pass))))
 
 -- Publish

@@ -17,3 +17,7 @@ pub mod Writing
 pub mod Appending
 pub mod Promises
 pub mod Runs
+pub mod Bridging
+pub mod Slots
+pub mod Leading
+pub mod Having

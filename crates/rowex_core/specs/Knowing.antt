@@ -12,7 +12,7 @@ use Rattle.moments.specs.declared.Rec.TheVariants.{Node as a_node, Leaf as a_lea
 use Rattle.moments.specs.declared.Pin.{Pin}
 use Rattle.moments.specs.State.{Past, Stands}
 use Rattle.moments.specs.Core.{Fate, Free, InTree}
-use Rattle.moments.specs.Steps.{same_rec, is_linked, lowered}
+use Rattle.moments.specs.Steps.{same_rec, is_linked, begun_round, with_seen}
 use Rattle.rowex_core.specs.declared.event.Act.{Act}
 use Rattle.rowex_core.specs.declared.event.Act.TheVariants.{Claim, Fill, Ready, Release, LoadRef, LoadFixed, Lock, Unlock, Publish, Mark, LoadEpoch, Advance, SetPin, ClearPin, LoadPin, LoadState, GiveBack}
 use Rattle.rowex_core.specs.declared.event.Target.TheVariants.{Anchor, Node as NodeTarget}
@@ -199,18 +199,11 @@ learned_by c (Unlock Anchor) k = record k { anchor = None }
 learned_by c (Unlock (NodeTarget n)) k = record k { locks = without_lock n k.locks }
 learned_by c (Publish spot w) k = publish_learned c spot w k
 learned_by c (Mark r epoch) k = record k { own = without_record r k.own }
-learned_by c (LoadEpoch w) k = record k { round = record { epoch = c.epoch; moment = c.past.now; bound = c.epoch; seen = [] } }
+learned_by c (LoadEpoch w) k = record k { round = begun_round c.epoch c.past.now }
 learned_by c (Advance expected found) k = k
 learned_by c (SetPin w) k = record k { pin = Some (record { word = w; moment = c.past.now; floor = c.epoch }) }
 learned_by c ClearPin k = record k { pin = None }
-learned_by c (LoadPin o w) k = record k {
-  round = record {
-    epoch = k.round.epoch;
-    moment = k.round.moment;
-    bound = lowered k.round.bound (c.pins o);
-    seen = o ∷ k.round.seen;
-  };
-}
+learned_by c (LoadPin o w) k = record k { round = with_seen k.round o (c.pins o) }
 learned_by c (LoadState r w) k = k
 learned_by c (GiveBack r epoch found) k = k
 

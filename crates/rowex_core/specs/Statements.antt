@@ -31,6 +31,7 @@ use Rattle.rowex_core.specs.Cores.{Core, IsLawful, heap_of}
 use Rattle.rowex_core.specs.Words.{record_word, word_at, Shows}
 use Rattle.rowex_core.specs.Events.{IsFixedOffset, Legal, after, location_of, writes, stored_words, stored_root, next_tree, next_change}
 use Rattle.rowex_core.specs.Sharing.{HasAll}
+use Rattle.rowex_core.specs.Frames.{IsFrame}
 use Rattle.rowex_core.specs.Knowing.{Knows, Knowing, Owns, learned}
 use Rattle.rowex_core.specs.Opening.{opening, opening_words}
 use Rattle.rowex_core.specs.Runs.{Leads, AreOthers}
@@ -43,6 +44,11 @@ StaysLawful = (c : Core) (q : ℕ) (act : Act) → IsLawful c → Legal c q act 
 -- a legal step of one pass leaves true what any other view says
 abbrev pub Keeps : Type 0
 Keeps = (c : Core) (p : ℕ) (act : Act) (v : View) → IsLawful c → Legal c p act → ¬ Owns v p → Knowing c v → Knowing (after c p act) v
+
+-- a legal step of one pass leaves to another what it has, and the moments and changes so far: locks of two passes on different nodes are
+-- lawful at once, and each publish is one change whatever other locks are held
+abbrev pub LeavesOthers : Type 0
+LeavesOthers = (c : Core) (p q : ℕ) (act : Act) → p ≢ q → IsLawful c → Legal c p act → IsFrame q c (after c p act)
 
 -- what a pass knows after its own step is true
 abbrev pub Learns : Type 0
@@ -72,7 +78,8 @@ RunsKeep = (c : Core) (events : List Event) (d : Core) (v : View) → IsLawful c
 
 -- what a step does to the changes and the moments: a publish appends one of each, any other leaves both as they are
 abbrev pub Appends : Act → Core → Core → Type 0
-Appends (Publish spot w) c d = (x : Change) × (d.changes ≡ c.changes ++ x ∷ []) × (d.past.now ≡ suc c.past.now) × ((n : ℕ) → n ≤ c.past.now → d.past.moment n ≡ c.past.moment n)
+Appends (Publish spot w) c d =
+    (x : Change) × (d.changes ≡ c.changes ++ x ∷ []) × (d.past.now ≡ suc c.past.now) × ((n : ℕ) → n ≤ c.past.now → d.past.moment n ≡ c.past.moment n)
 Appends _ c d = (d.changes ≡ c.changes) × (d.past ≡ c.past)
 
 abbrev pub OnlyPublishAppends : Type 0

@@ -1,10 +1,15 @@
 //! The laws of the core. The functions do nothing: their contracts are the laws.
 
-ghost use Rattle.rowex_core.specs.Statements.{EntriesInReach, FindsChange, Hindsight, InReach, Keeps, KnowsAll, Learns, LocksApart, OnlyPublishAppends, OpeningIsLawful, Parting, PublishIsAStep, RunsKeep, RunsStayLawful, StaysLawful, WritesOne};
+ghost use Rattle.rowex_core.specs.Statements.{EntriesInReach, FindsChange, Hindsight, InReach, Keeps, KnowsAll, Learns, LeavesOthers, LocksApart, OnlyPublishAppends, OpeningIsLawful, Parting, PublishIsAStep, RunsKeep, RunsStayLawful, StaysLawful, WritesOne};
 
 /// A legal step keeps the core lawful.
 pub fn stays_lawful()
     ensures { StaysLawful }
+{}
+
+/// A legal step of one pass leaves to another what it has: its records, locks, pin and round.
+pub fn leaves_others()
+    ensures { LeavesOthers }
 {}
 
 /// A legal step of one pass leaves true what any other pass knows.

@@ -1,0 +1,13 @@
+-- The lemmas of the crate.
+pub mod Stages
+pub mod Publishing
+pub mod Bounding
+pub mod Sure
+pub mod Rising
+pub mod Inserting
+pub mod Insertions
+pub mod Replacing
+pub mod Acting
+pub mod Loops
+pub mod Ending
+pub mod Wholes

@@ -1,0 +1,140 @@
+-- What has risen stays while the pass goes on, and grows by one step.
+use Rattle.std.proofs.Common.{◌≡◌, inl, ℕ, List, [], ◌∷◌, ◌++◌, refl, sym, ap, ap₂, subst, ◌∙◌}
+use Rattle.compound_node.specs.Nodes.{piece}
+use Rattle.compound_node.specs.declared.entries.Entry.{Entry}
+use Rattle.compound_node.specs.declared.entries.Entry.TheVariants.{Node, Leaf}
+use Rattle.pieces.specs.Piece.{Place, Fork}
+use Rattle.record_words.specs.declared.layout.Layout.{Layout}
+use Rattle.tries.specs.Keys.{Key, bit}
+use Rattle.tries.specs.Tree.{Page, Tree, fork, page, IsTrie, IsBuilt}
+use Rattle.tries.specs.Place.{with_page}
+use Rattle.tries.specs.Content.{Item}
+use Rattle.moments.specs.declared.Rec.TheVariants.{Node as a_node, Leaf as a_leaf}
+use Rattle.moments.specs.Heap.{NodeWords}
+use Rattle.rowex_walks.specs.Rise.{IsEntryFor, alone, in_node, IsNewPage, IsRise, body, entry, grows, pulls, copies, halves, stays_whole, wraps, entry_news, news_of, gone_of}
+use Rattle.rowex_core.specs.declared.known.Holding.TheVariants.{Ready}
+use Rattle.rowex_core.specs.declared.known.Known.{Known}
+use Rattle.rowex_core.specs.declared.known.Locked.{Locked}
+use Rattle.rowex_core.specs.Reading.{node_of}
+use Rattle.rowex_core.specs.Cores.{Core, bare}
+use Rattle.rowex_core.specs.Sharing.{IsOwned, IsLocked}
+use Rattle.moments.specs.Trades.{IsOf}
+use Rattle.moments.proofs.Members.{of_left, of_right}
+use Rattle.rowex_walks.proofs.Rising.{fork_parts}
+use Rattle.rowex_walks.proofs.Upwards.{upper_goes_on}
+use Rattle.rowex_rights.proofs.Bounding.{bound_of, tree_risen, bound_risen}
+use Rattle.rowex_rights.proofs.Sure.{reach_since, recalls_earlier}
+use Rattle.rowex_rights.proofs.Stages.{node_fixed, locked_node, upper_in, made_node}
+use Rattle.tries.specs.Affected.{page_affected, page_forked, page_grown, IsPartPage, IsFirstBelow}
+use Rattle.moments.specs.State.{IsFrom}
+use Rattle.rowex_walks.specs.Writer.{IsWay, IsFound}
+use Rattle.rowex_table.specs.Made.{IsLater, Made, held_as, recs_of}
+use Rattle.rowex_rights.specs.Stages.{IsStage}
+use Rattle.rowex_rights.specs.Rises.{AboveGoesOn, HasFoundBelow, IsSide, RiseGrows, RiseWhole, RisenStays, RisesCopied, RisesHalved, RisesPulled, RisesWrapped, anew, of_leaf, of_view, one}
+
+-- What stays
+
+pub stage_earlier : (layout : Layout) (k j : Known) → IsLater k j → (held : List Locked) (news : List Made) (c : Core) → IsStage layout j held news c → IsStage layout k held news c
+stage_earlier layout k j later held news c s = record {
+  lawful = s.lawful;
+  layout_is = s.layout_is;
+  recalls = recalls_earlier k j later c s.recalls;
+  locks = λ l i. subst (λ q. IsLocked q c l) later.pass (s.locks l i);
+  made = λ m i. subst (λ q. IsOwned q c (held_as Ready m)) later.pass (s.made m i);
+}
+
+pub risen_stays : RisenStays
+risen_stays layout k j later held news gone since x p l d n r risen c stage =
+    subst (λ q. (i : IsRise (bare c) q since x p l d n r) × (news_of i ≡ recs_of news) × (gone_of i ≡ gone)) (sym later.pass)
+    (risen c (stage_earlier layout k j later held news c stage))
+
+-- a stage of more records is one of fewer
+fewer : (layout : Layout) (k : Known) (held : List Locked) (more news : List Made) (c : Core) → IsStage layout k held (more ++ news) c → IsStage layout k held news c
+fewer layout k held more news c s = record { lawful = s.lawful; layout_is = s.layout_is; recalls = s.recalls; locks = s.locks; made = λ m i. s.made m (of_right m more news i) }
+
+-- One level more
+
+pub rises_copied : RisesCopied
+rises_copied layout k held news gone since x p l leaf n words at m view may risen c stage =
+    let less = fewer layout k held (of_view m view ∷ []) news c stage in
+    let (i, new, old) = risen c less in
+    let bound = bound_risen layout k held news c less since x p l body n words leaf at (piece view) i view may refl in
+    let page = made_node layout k held (of_view m view ∷ news) c stage m view (inl refl) may.0 bound in
+    (copies n (piece view) m (node_fixed view) i page, ap (λ z. a_node m ∷ z) new, ap (λ z. a_node n ∷ z) old)
+
+pub rises_wrapped : RisesWrapped
+rises_wrapped layout k held news gone since x p l leaf n words at m view may risen c stage =
+    let less = fewer layout k held (of_view m view ∷ []) news c stage in
+    let (i, new, old) = risen c less in
+    let bound = bound_risen layout k held news c less since x p l entry n words leaf at (piece view) i view may refl in
+    let page = made_node layout k held (of_view m view ∷ news) c stage m view (inl refl) may.0 bound in
+    (wraps n (piece view) m (node_fixed view) i page, ap (λ z. a_node m ∷ z) new, old)
+
+pub rises_pulled : RisesPulled
+rises_pulled layout k held news gone since x p l o n r a risen c stage =
+    let (i, new, old) = risen c stage in
+    let u = upper_in layout k held news c stage x.key p o n a in
+    let here : (bare c).heap.nodes o ≡ node_of a.upper = (locked_node layout k held news c stage o a.upper a.has_upper).1 in
+    subst (λ (z : NodeWords). (i : IsRise (bare c) k.pass since x p l body o (with_page x.key r z.page)) × (news_of i ≡ recs_of news) × (gone_of i ≡ gone)) here (pulls o n r u i, new, old)
+
+-- the entry for a side, in a core in which its records are made, where some lawful tree has its page
+pub side_in : (layout : Layout) (k : Known) (held : List Locked) (news : List Made) (c : Core) → IsStage layout k held news c → (x : Page) (e : Entry) (us : List Made) → IsSide x e us → ((m : Made) → IsOf m us → IsOf m news) →
+    (s : Tree) → page s ≡ x → IsTrie s → IsBuilt s → (i : IsEntryFor (bare c) k.pass x e) × (entry_news i ≡ recs_of us)
+side_in layout k held news c stage x e us (one d is) has s pg trie built = (alone d is, refl)
+side_in layout k held news c stage x e us (anew m view may is) has s pg trie built =
+    (in_node m (node_fixed view) (subst (IsNewPage (bare c) k.pass m (node_fixed view)) is (made_node layout k held news c stage m view (has (of_view m view) (inl refl)) may.0 (bound_of view s may (is ∙ sym pg) trie built))), refl)
+
+recs_append : (us vs : List Made) → recs_of (us ++ vs) ≡ recs_of us ++ recs_of vs
+recs_append [] vs = refl
+recs_append (u ∷ us) vs = ap (λ z. u.rec ∷ z) (recs_append us vs)
+
+pub rises_halved : RisesHalved
+rises_halved layout k held news gone since x p l leaf n words at f a b d e us vs lower upper risen c stage =
+    let less = fewer layout k held vs news c (fewer layout k held us (vs ++ news) c stage) in
+    let (i, new, old) = risen c less in
+    let (s, pg, trie, built) = tree_risen layout k held news c less since x p l body n words leaf at (Fork f a b) i in
+    let (u, w, is, pu, pw) = fork_parts s f a b pg in
+    let trie : IsTrie (fork f u w) = subst IsTrie is trie in
+    let built : IsBuilt (fork f u w) = subst IsBuilt is built in
+    let (g, gn) = side_in layout k held (us ++ (vs ++ news)) c stage a d us lower (λ m h. of_left m us (vs ++ news) h) u pu trie.0 built.0 in
+    let (h, hn) = side_in layout k held (us ++ (vs ++ news)) c stage b e vs upper (λ m h. of_right m us (vs ++ news) (of_left m vs news h)) w pw trie.1 built.1 in
+    let same : entry_news g ++ (entry_news h ++ news_of i) ≡ recs_of (us ++ (vs ++ news)) =
+    ap₂ (λ y z. y ++ z) gn (ap₂ (λ y z. y ++ z) hn new ∙ sym (recs_append vs news)) ∙ sym (recs_append us (vs ++ news)) in
+    (halves n f a b d e i g h, same, ap (λ z. a_node n ∷ z) old)
+
+-- How it begins
+
+pub found_in : (layout : Layout) (k : Known) (held : List Locked) (news : List Made) (since : ℕ) (x : Item) (p : ℕ) (l : Key) (n : ℕ) (words : List ℕ) → HasFoundBelow k held since x p l n words →
+    (c : Core) → IsStage layout k held news c → IsFound (bare c) k.pass since x p l n × ((bare c).heap.nodes n ≡ node_of words)
+found_in layout k held news since x p l n words f c stage =
+    let (node, same) = locked_node layout k held news c stage n words f.locked in (
+      record {
+        key = f.leaf.key;
+        reach = reach_since k since f.pinned c stage.lawful stage.recalls;
+        lock = node.lock;
+        way = subst (λ (z : NodeWords). IsWay c.past since x.key z.page l) (sym same) (f.way c stage.lawful stage.recalls);
+        agree = f.agree;
+        differ = f.differ;
+      },
+      same,
+    )
+
+pub rise_grows : RiseGrows
+rise_grows layout k held since x p l n words f part c stage =
+    let (found, same) = found_in layout k held (of_leaf x ∷ []) since x p l n words f c stage in
+    subst (λ (z : NodeWords). (i : IsRise (bare c) k.pass since x p l body n (page_grown p x.key (Leaf x.number) z.page)) × (news_of i ≡ a_leaf x.number ∷ []) × (gone_of i ≡ [])) same
+    (grows n found (subst (λ (z : NodeWords). IsPartPage (page_affected p x.key z.page)) (sym same) part), refl, refl)
+
+pub rise_whole : RiseWhole
+rise_whole layout k held since x p l n words f first c stage =
+    let (found, same) = found_in layout k held (of_leaf x ∷ []) since x p l n words f c stage in
+    subst (λ (z : NodeWords). (i : IsRise (bare c) k.pass since x p l entry n (page_forked (bit x.key p) p (Leaf x.number) (Place (Node n z.fixed.height)))) × (news_of i ≡ a_leaf x.number ∷ []) × (gone_of i ≡ [])) same
+    (stays_whole n found (subst (λ (z : NodeWords). IsFrom p z.page) (sym same) first), refl, refl)
+
+-- On and on upwards
+
+pub above_goes_on : AboveGoesOn
+above_goes_on layout k held news c stage key p o n a =
+    let u = upper_in layout k held news c stage key p o n a in
+    let (on, upper) = locked_node layout k held news c stage o a.upper a.has_upper in
+    subst (λ (z : NodeWords). IsFirstBelow p z.page) upper (upper_goes_on (bare c) k.pass stage.lawful.core.state key p o n u)

@@ -1,0 +1,158 @@
+-- What holds in each core in which a writer's records are made, from their words and those of its locks.
+use Rattle.std.proofs.Common.{◌≡◌, inl, inr, ℕ, ◌+◌, ◌-◌, ◌*◌, ◌<◌, ◌≤◌, List, length, set, Some, refl, sym, ap, ap₂, subst, ◌∙◌, arith}
+use Rattle.std.specs.Prelude.{All}
+use Rattle.compound_node.specs.declared.entries.Entry.{Entry}
+use Rattle.compound_node.specs.declared.entries.Entry.TheVariants.{Leaf, Node}
+use Rattle.compound_node.specs.Nodes.{NodeView, StandsBelow, IsLawful as IsLawfulNode, height_of, piece}
+use Rattle.key_bits.specs.declared.TheConstants.{MAX_BYTES}
+use Rattle.pieces.specs.Piece.{Place, Fork, size, places}
+use Rattle.pieces.proofs.Paths.{length-places}
+use Rattle.partial_keys.specs.Shows.{Shows}
+use Rattle.record_words.specs.declared.layout.Layout.{Layout}
+use Rattle.record_words.specs.Entry.{HasEntryWord, entry_word}
+use Rattle.record_words.specs.Node.{HasNodeWords, node_words}
+use Rattle.record_words.specs.Leaf.{HasLeafWords, leaf_words}
+use Rattle.tries.specs.Keys.{Key}
+use Rattle.tries.specs.Tree.{Fixed, Page, first_position}
+use Rattle.tries.specs.Content.{Item}
+use Rattle.tries.specs.Place.{spot, with_entry}
+use Rattle.tries.specs.Affected.{page_affected, IsLowerPage, IsTipPage, IsFirstBelow}
+use Rattle.tries.specs.Search.{seek}
+use Rattle.tries.proofs.Places.{spot_below}
+use Rattle.moments.specs.declared.Rec.TheVariants.{Node as a_node, Leaf as a_leaf}
+use Rattle.moments.specs.Heap.{NodeWords}
+use Rattle.moments.proofs.Legal.{same_rec_refl}
+use Rattle.rowex_walks.specs.Writer.{IsNewLeaf}
+use Rattle.rowex_walks.specs.Rise.{IsNewPage, IsLockedNode, IsUpper, IsSlotStore, IsBelowNode}
+use Rattle.rowex_core.specs.declared.event.Spot.TheVariants.{Slot}
+use Rattle.rowex_core.specs.declared.known.Known.{Known}
+use Rattle.rowex_core.specs.declared.known.Locked.{Locked}
+use Rattle.rowex_core.specs.Reading.{node_of, leaf_of, IsPacked}
+use Rattle.rowex_core.specs.Cores.{Core, IsLawful, IsWhole, bare, heap_of}
+use Rattle.rowex_core.specs.Events.{IsPackedAt, IsLockedAt, stored_words}
+use Rattle.rowex_core.specs.Sharing.{IsLocked, IsOwned}
+use Rattle.rowex_core.specs.Knowing.{Knows}
+use Rattle.rowex_core.proofs.Owning.{knows_all, recalls}
+use Rattle.rowex_core.specs.declared.known.Holding.TheVariants.{Ready}
+use Rattle.rowex_core.proofs.Reading.{node_is, leaf_is}
+use Rattle.rowex_core.proofs.Publishing.{other_words}
+use Rattle.moments.specs.Trades.{IsOf}
+use Rattle.moments.proofs.Members.{of_left, of_right, all_of, map_of}
+use Rattle.rowex_core.proofs.Having.{node_used}
+use Rattle.rowex_core.proofs.Slots.{slot_is_stored}
+use Rattle.rowex_table.specs.Made.{Made, held_as}
+use Rattle.rowex_rights.specs.Stages.{HasReady, IsAbove, IsStage}
+
+node_number : {n o : ℕ} → a_node n ≡ a_node o → n ≡ o
+node_number e = cc
+
+leaf_node : {n m : ℕ} → a_leaf n ≡ a_node m → ⊥
+leaf_node e = cc
+
+pub size_is : (v : NodeView) → IsLawfulNode v → size (piece v) ≡ length v.entries
+size_is v l = sym (length-places (piece v)) ∙ ap length (sym l.shows.entries_are)
+
+abbrev pub node_fixed : NodeView → Fixed
+node_fixed v = record { height = v.height; columns = v.columns; rows = v.rows }
+
+not_tip : (p : Page) → 2 ≤ size p → IsTipPage p → ⊥
+not_tip (Place e) h t = omega arith
+not_tip (Fork q a b) h t = t
+
+lower_page_from : (h : ℕ) (p : Page) → ((e : Entry) → IsOf e (places p) → height_of e < h) → IsLowerPage h p
+lower_page_from h (Place (Leaf n)) f = f (Leaf n) (inl refl)
+lower_page_from h (Place (Node n g)) f = f (Node n g) (inl refl)
+lower_page_from h (Fork q x y) f = (lower_page_from h x (λ e i. f e (of_left e (places x) (places y) i)), lower_page_from h y (λ e i. f e (of_right e (places x) (places y) i)))
+
+-- an entry that is lower than a node may stand in it
+below_stands : (h : ℕ) (e : Entry) → h ≤ 65535 → HasEntryWord (Some e) → IsLowerPage h (Place e) → StandsBelow h e
+below_stands h (Leaf n) top word low = (tt, low)
+below_stands h (Node n g) top word low = ((omega (arith, word.1), omega arith), low)
+
+module _ (layout : Layout) (k : Known) (held : List Locked) (news : List Made) (c : Core) (stage : IsStage layout k held news c) where
+  -- Locked nodes
+
+  pub locked_node : (n : ℕ) (words : List ℕ) → IsOf (record { node = n; words = words }) held → IsLockedNode (bare c) k.pass n × ((bare c).heap.nodes n ≡ node_of words)
+  locked_node n words h =
+      let (lock, tree, same) = stage.locks (record { node = n; words = words }) h in
+      (record { lock = lock; linked = tree.0; fate = tree.1 }, ap node_of same)
+
+  -- the store of an entry at the key's place of a locked node
+  pub slot_store : (o j w : ℕ) (words : List ℕ) (key : Key) (e : Entry) → IsOf (record { node = o; words = words }) held → spot key (node_of words).page ≡ j → HasEntryWord (Some e) → entry_word (Some e) ≡ w →
+      IsLowerPage (node_of words).fixed.height (Place e) →
+      IsPackedAt c (Slot o j) w × IsSlotStore (bare c) (heap_of (stored_words c (Slot o j) w)) o key e × IsBelowNode (bare c) o e × IsLockedAt c k.pass (Slot o j)
+  unfolding IsPacked
+  slot_store o j w words key e h at fits is low =
+      let (lock, tree, same) = stage.locks (record { node = o; words = words }) h in
+      let now : node_of (c.words (a_node o)) ≡ node_of words = ap node_of same in
+      let sized = stage.lawful.records.sized (a_node o) in
+      let (view, has, spells) = stage.lawful.records.packed (a_node o) (subst IsWhole (sym tree.1) tt) in
+      let is_node = node_is view (c.words (a_node o)) sized.1 has spells in
+      let view_page : (node_of words).page ≡ piece view = ap (λ (z : NodeWords). z.page) (sym now ∙ is_node) in
+      let view_height : (node_of words).fixed.height ≡ view.height = ap (λ (z : NodeWords). z.fixed.height) (sym now ∙ is_node) in
+      let inside : j < length view.entries = subst (λ i. i < length view.entries) at
+      (subst (λ q. spot key (node_of words).page < q) (size_is view has.lawful) (subst (λ (q : Page). spot key (node_of words).page < size q) view_page (spot_below key (node_of words).page))) in
+      let stands : StandsBelow view.height e = below_stands view.height e has.lawful.bound fits (subst (λ z. IsLowerPage z (Place e)) view_height low) in
+      let offset : 26 + j - 1 ≡ 25 + j = omega arith in
+      let here : stored_words c (Slot o j) w (a_node o) ≡ set (c.words (a_node o)) (25 + j) (entry_word (Some e)) =
+      rw (same_rec_refl (a_node o)) (ap₂ (λ i z. set (c.words (a_node o)) i z) offset (sym is)) in
+      let (new_has, new_spells, after) = slot_is_stored view (c.words (a_node o)) has spells sized.1 j e inside fits stands in
+      let place : j ≡ spot key (node_of (c.words (a_node o))).page = sym at ∙ ap (λ (z : NodeWords). spot key z.page) (sym now) in (
+        subst (IsPacked (a_node o)) (sym here) (record view { entries = set view.entries j e }, new_has, new_spells),
+        record {
+          others = λ i ne. ap node_of (sym (other_words c o j w (a_node i) (λ z. ne (node_number z))));
+          leaves = λ i. ap leaf_of (sym (other_words c o j w (a_leaf i) leaf_node));
+          stored = ap node_of here ∙ (after ∙ ap (λ i. let s : NodeWords = record { fixed = (node_of (c.words (a_node o))).fixed; page = with_entry (node_of (c.words (a_node o))).page i e } in s) place);
+        },
+        subst (λ (z : NodeWords). IsLowerPage z.fixed.height (Place e)) (sym now) low,
+        (node_used c stage.lawful o tree, omega (arith, has.lawful.room), lock),
+      )
+
+  -- a locked node above another one
+  pub upper_in : (key : Key) (p o n : ℕ) → IsAbove held key p o n → IsUpper (bare c) k.pass key p o n
+  upper_in key p o n a =
+      let (on, upper) = locked_node o a.upper a.has_upper in
+      let (below, lower) = locked_node n a.lower a.has_lower in
+      record {
+        over = record { locked = on; height = a.height; entry = ap (λ (z : NodeWords). seek key z.page) upper ∙ a.entry };
+        path = elim a.path [
+          | inl h ↦ inl (subst (λ (z : NodeWords). IsFirstBelow p z.page) (sym lower) h)
+          | inr h ↦ inr (subst (λ (z : NodeWords). IsTipPage (page_affected p key z.page)) (sym upper) h)
+        ];
+      }
+
+  -- New records
+
+  pub made_leaf : (x : Item) → IsOf (record { rec = a_leaf x.number; words = leaf_words (x.key, x.value) }) news → HasLeafWords (x.key, x.value) → IsNewLeaf (bare c) k.pass x
+  made_leaf x h has =
+      let (fate, words) = stage.made (record { rec = a_leaf x.number; words = leaf_words (x.key, x.value) }) h in
+      record { key = has.key; fate = fate; words = leaf_is (x.key, x.value) (c.words (a_leaf x.number)) (stage.lawful.records.sized (a_leaf x.number)).1 has (sym words) }
+
+  pub made_node : (m : ℕ) (view : NodeView) → IsOf (record { rec = a_node m; words = node_words view }) news → HasNodeWords view → view.height + first_position (piece view) ≤ 9 * MAX_BYTES →
+      IsNewPage (bare c) k.pass m (node_fixed view) (piece view)
+  made_node m view h has bound =
+      let (fate, words) = stage.made (record { rec = a_node m; words = node_words view }) h in
+      let l = has.lawful in
+      record {
+        fate = fate;
+        words = node_is view (c.words (a_node m)) (stage.lawful.records.sized (a_node m)).1 has (sym words);
+        two = not_tip (piece view) (omega (arith, size_is view l, l.several));
+        lower = lower_page_from view.height (piece view) (λ e i. all_of (λ e. height_of e < view.height) e (places (piece view)) (subst (All (λ e. height_of e < view.height)) l.shows.entries_are l.above) i);
+        fit = record {
+          positions = l.positions;
+          shows = subst (λ es. Shows view.columns view.rows es (piece view)) l.shows.entries_are l.shows;
+          room = omega (arith, size_is view l, l.room);
+          bound = bound;
+        };
+      }
+
+-- a core of which all that the pass knows is true is a stage
+pub stage_of : (layout : Layout) (k : Known) (held : List Locked) (news : List Made) → HasReady k held news →
+    (c : Core) → IsLawful c → c.layout ≡ layout → Knows c k → IsStage layout k held news c
+stage_of layout k held news has c law at known = record {
+  lawful = law;
+  layout_is = at;
+  recalls = recalls c k known;
+  locks = λ l i. all_of (IsLocked k.pass c) l k.locks (knows_all c k known).locks (subst (IsOf l) (sym has.locks) i);
+  made = λ m i. all_of (IsOwned k.pass c) (held_as Ready m) k.own (knows_all c k known).own (subst (IsOf (held_as Ready m)) (sym has.own) (map_of (held_as Ready) m news i));
+}
