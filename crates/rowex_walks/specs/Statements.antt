@@ -18,7 +18,7 @@ use Rattle.moments.specs.State.{State, Past, IsLawful, IsReach, IsSteady, IsLed,
 use Rattle.moments.specs.declared.Rec.{Rec}
 use Rattle.moments.specs.declared.Rec.TheVariants.{Node as a_node, Leaf as a_leaf}
 use Rattle.moments.specs.Trades.{HasTraded}
-use Rattle.moments.specs.Core.{Core, view, InTree}
+use Rattle.moments.specs.Core.{Core, view}
 use Rattle.moments.specs.declared.Pin.{Pin}
 use Rattle.moments.specs.Told.{IsTold, items_of}
 use Rattle.moments.specs.Steps.{IsLegalPublish}
