@@ -7,6 +7,3 @@ mod pinning;
 
 pub use collection::{Given, collect_round};
 pub use pinning::{pin, unpin};
-
-#[cfg(test)]
-mod tests;

@@ -12,6 +12,3 @@ mod steps;
 mod table;
 
 pub use table::{HotTable, TableSeat};
-
-#[cfg(test)]
-mod tests;

@@ -1,9 +1,0 @@
--- A step adds no notes, and the first words of the leaf are those of the pair.
-use Rattle.std.specs.Prelude.{◌≡◌}
-use Rattle.moments.specs.declared.Rec.TheVariants.{Leaf}
-use Rattle.rowex_table.specs.Rights.{HasFilled}
-use Rattle.rowex_table.specs.Seats.{Fits}
-use Rattle.epochs.proofs.tests.make_leaf.Given as goal
-
-abbrev pub invariant-loop-index : goal.invariant-loop-index
-invariant-loop-index l = Fits l.table l.seat × (l.seat.known.pin ≡ l.fn.seat.known.pin) × HasFilled l.seat.known (Leaf 0) l.words l.index

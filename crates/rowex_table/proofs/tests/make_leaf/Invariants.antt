@@ -1,8 +1,0 @@
--- The first words of the leaf are those of the pair.
-use Rattle.moments.specs.declared.Rec.TheVariants.{Leaf}
-use Rattle.rowex_table.specs.Rights.{HasFilled}
-use Rattle.rowex_table.specs.Seats.{Fits}
-use Rattle.rowex_table.proofs.tests.make_leaf.Given as goal
-
-abbrev pub invariant-loop-index : goal.invariant-loop-index
-invariant-loop-index l = Fits l.table l.seat × HasFilled l.seat.known (Leaf l.leaf) l.words l.index
