@@ -1,0 +1,6 @@
+//! The writers of a shared trie: what a call does to the index, and what it builds for that.
+#![tactic(auto)]
+
+mod plan;
+
+pub use plan::{Ask, Deed, Found, Outline, Plan, Span, plan_beside, plan_call};
