@@ -25,7 +25,7 @@ use Rattle.insert_cases.specs.declared.plain.LeafRecord.{LeafRecord}
 use Rattle.insert_cases.specs.Rising.{IsRaised, IsAddable, item}
 use Rattle.insert_cases.specs.Searches.{found}
 use Rattle.insert_cases.specs.Store.{PlainView, IsShown, IsSound, IsPlain, IsHeld, tree_of, map_of, read, record_of}
-use Rattle.insert_cases.proofs.Building.{lower_from, lower_to}
+use Rattle.tries.proofs.Building.{lower_from, lower_to}
 use Rattle.insert_cases.proofs.Choosing.{same_some}
 use Rattle.insert_cases.proofs.Keeping.{shown_more}
 use Rattle.insert_cases.proofs.Reading.{IsTree, plain_tree, tree_is, tree_plain}

@@ -10,17 +10,14 @@ use Rattle.compound_node.specs.declared.halves.Half.{Half}
 use Rattle.compound_node.specs.declared.halves.Half.TheVariants.{One, Many, Same}
 use Rattle.partial_keys.proofs.Cutting.{root_first}
 use Rattle.partial_keys.specs.Shows.{Shows}
-use Rattle.pieces.proofs.Paths.{length-places}
+use Rattle.tries.proofs.Building.{size-piece, greatest-append}
 use Rattle.pieces.specs.Changes.{replaced, AtRootFork}
 use Rattle.pieces.specs.Growth.{forked, grown}
 use Rattle.pieces.specs.Piece.{Piece, Place, Fork, places, size}
 use Rattle.pieces.specs.Positions.{has}
-use Rattle.insert_cases.specs.Grafts.{grafted, IsAbovePath}
+use Rattle.pieces.specs.Grafts.{grafted, IsAbovePath}
 use Rattle.insert_cases.specs.Grown.{is_same, half_piece}
-use Rattle.insert_cases.proofs.Grafting.{size-replaced}
-
-pub size-piece : (n : NodeView) → IsLawful n → size (piece n) ≡ length n.entries
-size-piece n l = sym (length-places (piece n)) ∙ ap length (sym l.shows.entries_are)
+use Rattle.pieces.proofs.Grafting.{size-replaced}
 
 pub height_positive : (n : NodeView) → IsLawful n → 0 < n.height
 height_positive n l = let several = l.several in omega (arith, l.above 0 (Leaf 0) (omega arith))
@@ -60,10 +57,6 @@ cut_is cut (Fork p a b) s =
     record { whole = cc; zero = subst (HalfShows cut.zero) z s.1; one = subst (HalfShows cut.one) o s.2 }
 
 -- ---- the greatest height
-pub greatest-append : (xs ys : List Entry) → greatest_height (xs ++ ys) ≡ max (greatest_height xs) (greatest_height ys)
-greatest-append [] ys = omega arith
-greatest-append (x ∷ xs) ys = ap (max (height_of x)) (greatest-append xs ys) ∙ omega arith
-
 -- a new entry counts
 pub greatest-grown : (position : ℕ) (bit : Bool) (x : Entry) (i : ℕ) (P : Piece Entry) → height_of x ≤ greatest_height (places (grown position bit x i P))
 greatest-grown position true x i (Place y) = omega arith

@@ -1,5 +1,4 @@
 -- The definitions of the crate.
-pub mod Grafts
 pub mod Grown
 pub mod Searches
 pub mod Ways

@@ -6,7 +6,7 @@ ghost use Rattle.pieces.specs.Growth.{grown, IsAffected};
 ghost use Rattle.pieces.specs.Changes.{AtRootFork};
 ghost use Rattle.compound_node.specs.Halves.{HalfShows, CutShows};
 ghost use Rattle.compound_node.specs.Nodes.{piece, IsEntry, IsLawful, IsBuiltFrom};
-ghost use Rattle.insert_cases.specs.Grafts.{grafted, IsAbovePath};
+ghost use Rattle.pieces.specs.Grafts.{grafted, IsAbovePath};
 ghost use Rattle.insert_cases.specs.Grown.{GrownShows, is_whole, keeps_node, half_piece};
 
 use compound_node::{Cut, Entry, Half, Node};

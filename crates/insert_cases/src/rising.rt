@@ -8,7 +8,7 @@ ghost use Rattle.compound_node.specs.Nodes.{NodeView, piece, IsEntry, StandsBelo
 ghost use Rattle.tries.specs.Affected.{page_forked};
 ghost use Rattle.tries.specs.Content.{Item};
 ghost use Rattle.tries.specs.Tree.{Tree, Fixed, node as tree_node};
-ghost use Rattle.insert_cases.specs.Grafts.{grafted, IsAbovePath};
+ghost use Rattle.pieces.specs.Grafts.{grafted, IsAbovePath};
 ghost use Rattle.insert_cases.specs.Heights.{KeepsHeights};
 ghost use Rattle.insert_cases.specs.Rising.{IsRaised, IsAddable, IsLifting, item};
 ghost use Rattle.insert_cases.specs.Risen.{page_of, IsNamed, RisenShows, OthersStay, AllStay};

@@ -7,7 +7,7 @@ use Rattle.pieces.specs.Piece.{size}
 use Rattle.compound_node.specs.Nodes.{NodeView, piece}
 use Rattle.insert_cases.proofs.Climbing.{replaced_named}
 use Rattle.insert_cases.proofs.Heights.{heights_set}
-use Rattle.insert_cases.proofs.NodeFacts.{size-piece}
+use Rattle.tries.proofs.Building.{size-piece}
 use Rattle.insert_cases.proofs.Searching.{read_at}
 use Rattle.insert_cases.proofs.Storing.{set_same, set_other}
 use Rattle.insert_cases.proofs.rising.replaced.Goals as goal

@@ -5,7 +5,7 @@ use Rattle.pieces.proofs.Growing.{affected_fits}
 use Rattle.pieces.specs.Changes.{replaced}
 use Rattle.pieces.specs.Growth.{affected_first, affected_count, IsAffected, forked, grown}
 use Rattle.pieces.specs.Piece.{Piece, Place, Fork, size}
-use Rattle.insert_cases.specs.Grafts.{grafted, IsAbovePath}
+use Rattle.pieces.specs.Grafts.{grafted, IsAbovePath}
 
 -- the index of the old entry of a place that gets a fork with a new one
 abbrev pub old_at : Bool → ℕ → ℕ
