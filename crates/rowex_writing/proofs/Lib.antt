@@ -1,2 +1,3 @@
 -- The lemmas of the crate.
 pub mod Planning
+pub mod Remade

@@ -1,12 +1,12 @@
 -- The span of a plan lies on the way.
-use Rattle.std.proofs.Common.{◌≡◌, ◌⊎◌, inl, inr, ℕ, ◌+◌, ◌-◌, ◌<◌, ◌≤◌, List, [], ◌∷◌, length, ap, sym, ◌∙◌, subst, arith, Option, Some, None, ⊎_elim}
+use Rattle.std.proofs.Common.{◌≡◌, ℕ, ◌+◌, ◌<◌, ◌≤◌, List, [], ◌∷◌, length, ap, sym, subst, arith, Some, None, ⊎_elim}
 use Rattle.std.proofs.lemmas.Bool.{cases_lt}
 use Rattle.std.specs.Prelude.{slice_get}
 use Rattle.insert_cases.specs.declared.choice.Case.{Case}
 use Rattle.insert_cases.specs.declared.choice.Case.TheVariants.{LeafPushdown, NormalInsert, Overflow}
 use Rattle.insert_cases.specs.declared.choice.Choice.{Choice}
 use Rattle.insert_cases.specs.declared.choice.Step.{Step}
-use Rattle.insert_cases.specs.Levels.{IsLevel, IsChosen, IsChainEnd}
+use Rattle.insert_cases.specs.Levels.{IsChosen}
 use Rattle.insert_cases.proofs.Choosing.{some_at}
 use Rattle.rowex_writing.specs.Plans.{change, IsCase, IsBeside, IsNew, IsPlan}
 use Rattle.rowex_writing.specs.declared.plan.Ask.{Ask}

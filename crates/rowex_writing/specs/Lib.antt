@@ -1,2 +1,3 @@
 -- The definitions of the crate.
 pub mod Plans
+pub mod Remaking

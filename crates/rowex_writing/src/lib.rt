@@ -2,5 +2,7 @@
 #![tactic(auto)]
 
 mod plan;
+mod remaking;
 
 pub use plan::{Ask, Deed, Found, Outline, Plan, Span, plan_beside, plan_call};
+pub use remaking::{pair_with_leaf, with_fork, with_leaf, without_leaf};
