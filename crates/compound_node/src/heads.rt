@@ -54,6 +54,19 @@ impl Head {
         }
     }
 
+    /// The head of these fields, which some node has.
+    pub fn of(count: u8, height: u16, columns: Columns, sparse: [u32; 32]) -> Head
+        requires { IsHead count height columns sparse }
+        ensures { result ≡ record { height = height; columns = columns; rows = take count sparse } }
+    {
+        Head {
+            height,
+            count,
+            columns,
+            sparse,
+        }
+    }
+
     /// How many entries the node has, 2 to 32.
     pub fn count(&self) -> u8
         ensures count { result ≡ length self.now.rows }

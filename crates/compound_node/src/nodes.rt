@@ -59,6 +59,14 @@ impl Node {
         Some(Node::of(head, listed(entries)))
     }
 
+    /// The node of a head and entries that it may have.
+    pub fn of(head: Head, entries: ArrayVec<Entry, 32>) -> Node
+        requires { IsLawful (node_of head entries.items) }
+        ensures { result ≡ node_of head entries.items }
+    {
+        Node { head, entries }
+    }
+
     /// The node of two entries that part at a position. The height is one above theirs.
     pub fn pair(position: u16, zero: Entry, one: Entry) -> Node
         requires below { position < 65535 }
@@ -205,13 +213,5 @@ impl Node {
             self.entries.as_slice(),
             i as usize,
         )
-    }
-
-    /// The node of a head and entries.
-    pub(crate) fn of(head: Head, entries: ArrayVec<Entry, 32>) -> Node
-        requires { IsLawful (node_of head entries.items) }
-        ensures { result ≡ node_of head entries.items }
-    {
-        Node { head, entries }
     }
 }

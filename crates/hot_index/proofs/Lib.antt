@@ -1,13 +1,4 @@
 -- The lemmas of the crate.
-pub mod Seeing
-pub mod Loading
-pub mod Rooting
-pub mod Standing
-pub mod Placing
-pub mod Wording
-pub mod Heading
-pub mod Leafing
-pub mod Looking
 pub mod Noting
 pub mod Walking
 pub mod Scanned

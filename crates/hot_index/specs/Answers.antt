@@ -9,10 +9,7 @@ use Rattle.hot_model.specs.Fronts.{BeginsWith}
 use Rattle.hot_model.specs.Scans.{IsLawfulScan}
 use Rattle.hot_model.specs.Weaves.{LegalHistory, weave}
 use Rattle.tries.specs.Keys.{Key}
-use Rattle.moments.specs.State.{IsHeld, IsMissed}
-use Rattle.rowex_core.specs.declared.known.Known.{Known}
 use Rattle.hot_index.specs.Passes.{PassView}
-use Rattle.hot_index.specs.Seen.{Sure, since}
 
 -- the reply that says what a get found
 abbrev pub got : Option ℕ → Reply
@@ -59,8 +56,3 @@ pub record HaveMet (j k j' k' : PassView) : Type 0 where
   pub fronts : j'.front ≡ k'.front
   pub apart : j'.number ≢ k'.number
   pub history : LegalHistory (weave j'.front (j'.notes ++ k'.notes))
-
--- what a search for the key found: that it had the value, or was absent, at a moment since the last load of the root
-abbrev pub HasFound : Known → Key → Option ℕ → Type 0
-HasFound k key None = Sure k (λ s. IsMissed s (since k) key)
-HasFound k key (Some value) = Sure k (λ s. IsHeld s (since k) key value)

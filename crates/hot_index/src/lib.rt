@@ -2,11 +2,7 @@
 //! SIGMOD 2018) whose readers take no lock (ROWEX, Leis and others, DaMoN 2016).
 #![tactic(auto)]
 
-mod collecting;
 mod index;
-mod lookup;
-mod meeting;
-mod reading;
 mod scanning;
 
 pub use epochs::{Given, NoGate};

@@ -6,6 +6,6 @@ mod event;
 mod known;
 pub mod laws;
 
-pub use event::{Act, Event, Gate, Spot, Target};
+pub use event::{Act, Event, Gate, NoGate, Spot, Target};
 pub use known::{Fact, Failed, Fresh, Holding, Known, Locked, Owned, View};
 pub use moments::{Pin, Rec, Round};

@@ -3,3 +3,4 @@ pub mod Keeping
 pub mod Dealing
 pub mod Rights
 pub mod RootRights
+pub mod Running

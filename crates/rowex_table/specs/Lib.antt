@@ -1,4 +1,6 @@
 -- The definitions of the crate.
 pub mod Rule
 pub mod Rights
+pub mod Runs
 pub mod Seats
+pub mod Statements

@@ -19,8 +19,12 @@ use Rattle.rowex_core.specs.Words.{Shows, word_at}
 use Rattle.rowex_core.specs.Events.{Legal, location_of}
 use Rattle.rowex_core.specs.Knowing.{Knows, Knowing, Owns, IsEvent}
 
--- There is a lawful core with this layout, which the words show; what each seat knows is true of it; and no two seats have
--- one number.
+-- some seat has this number
+abbrev pub IsSomeSeats : List View → ℕ → Type 0
+IsSomeSeats views q = (i : ℕ) × (v : View) × (get_elem? views i ≡ some v) × Owns v q
+
+-- There is a lawful core with this layout, which the words show; what each seat knows is true of it; no two seats have one
+-- number, and each number of a pass is some seat's.
 pub record Ruled {S : Type 0} (layout : Layout) (s : State S View) : Type 0 where
   pub core : Core
   pub lawful : IsLawful core
@@ -28,6 +32,7 @@ pub record Ruled {S : Type 0} (layout : Layout) (s : State S View) : Type 0 wher
   pub shows : Shows core s.words
   pub knows : (i : ℕ) (v : View) → get_elem? s.views i ≡ some v → Knowing core v
   pub apart : (i j q : ℕ) (v w : View) → get_elem? s.views i ≡ some v → get_elem? s.views j ≡ some w → Owns v q → Owns w q → i ≡ j
+  pub each : (q : ℕ) → q < layout.passes → IsSomeSeats s.views q
 
 -- what a new pass knows
 abbrev pub opening_of : ℕ → Known
@@ -50,6 +55,10 @@ opening_of q = record {
 abbrev pub known_of : View → Known
 known_of (Pass k) = k
 known_of _ = opening_of 0
+
+-- the seat is that of the pass of this number, and holds nothing else
+abbrev pub IsOfPass : {S : Type 0} → Me S View → ℕ → Type 0
+IsOfPass me q = (me ≡ (Pass (known_of me.0), [])) × ((known_of me.0).pass ≡ q)
 
 -- the root, or one of 32 entries
 abbrev pub HasPlace : Spot → Type 0

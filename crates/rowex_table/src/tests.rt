@@ -3,13 +3,12 @@
 ghost use Rattle.std.specs.Prelude.{◌≡◌, ◌<◌, ◌≤◌, ◌^◌, IfOk, IfSome, All, true, length, None};
 ghost use Rattle.moments.specs.declared.Rec.TheVariants.{Leaf};
 ghost use Rattle.rowex_table.specs.Rights.{IsHeld};
-ghost use Rattle.rowex_table.specs.Rule.{opening_of};
-ghost use Rattle.rowex_table.specs.Seats.{Fits, known};
+ghost use Rattle.rowex_table.specs.Seats.{Fits, IsNewSeat};
 
 use crate::{HotTable, TableSeat};
 use key_bits::Key;
 use record_words::{Layout, pack_leaf};
-use rowex_core::{Rec, Spot, Target};
+use rowex_core::{NoGate, Rec, Spot, Target};
 use std::alloc::{AllocError, Global};
 use std::test::*;
 use std::thread::{join, map_vec};
@@ -22,7 +21,7 @@ fn a_table_has_a_seat_for_each_pass(rt: HostRuntime) -> Result<(), Fail> {
         };
         let (table, seats) = HotTable::new(rt.alloc(), layout)?;
         assert_eq!(rt; seats.len(), passes as usize);
-        assert_eq!(rt; table.layout.words(), words);
+        assert_eq!(rt; table.layout().words(), words);
     }
     Ok(())
 }
@@ -36,7 +35,7 @@ fn a_claimed_leaf_is_free_again_once_it_is_released(rt: HostRuntime) -> Result<(
     ) else {
         panic!(rt; "two seats")
     };
-    assert!(rt; seats.is_empty() && second.pass == 1 && first.pass == 0);
+    assert!(rt; seats.is_empty() && second.number() == 1 && first.number() == 0);
     let claimed = claim(&table, &mut first, 0);
     assert!(rt; claimed == 0 && claim(&table, &mut second, 0) == 1);
     release(&table, &mut first, 0);
@@ -71,7 +70,7 @@ fn the_words_are_as_the_steps_of_four_threads_say(rt: HostRuntime) -> Result<(),
         panic!(rt; "five seats")
     };
     let work = |seat: TableSeat| -> Option<u64>
-        requires { Fits table seat × (table.layout.leaves ≡ 8) × (known seat ≡ opening_of seat.pass) }
+        requires { IsNewSeat table seat × (table.layout.leaves ≡ 8) }
     { work(&table, seat) };
     let mut advances = 0u64;
     for answer in map_vec(&rt, seats, &work)? {
@@ -97,18 +96,21 @@ fn what_one_pass_stores_the_other_finds(rt: HostRuntime) -> Result<(), Fail> {
     };
     let claimed = claim(&table, &mut first, 0);
     assert_eq!(rt; claimed, 0);
-    table.fill(&mut first, Rec::Leaf(0), 32, 77);
-    assert_eq!(rt; table.load_fixed(&mut second, Rec::Leaf(0), 32), 77);
-    assert_eq!(rt; table.load_ref(&mut second, Spot::Root), 0);
+    table.fill(&mut first, &mut NoGate, Rec::Leaf(0), 32, 77);
+    assert_eq!(rt;
+        table.load_fixed(&mut second, &mut NoGate, Rec::Leaf(0), 32),
+        77
+    );
+    assert_eq!(rt; table.load_ref(&mut second, &mut NoGate, Spot::Root), 0);
     let slot = Spot::Slot { node: 7, entry: 31 };
-    assert_eq!(rt; table.load_ref(&mut second, slot), 0);
-    let found = table.lock(&mut first, Target::Anchor);
-    assert!(rt; found == 2 && table.lock(&mut second, Target::Anchor) == 3);
-    table.unlock(&mut first, Target::Anchor);
+    assert_eq!(rt; table.load_ref(&mut second, &mut NoGate, slot), 0);
+    let found = table.lock(&mut first, &mut NoGate, Target::Anchor);
+    assert!(rt; found == 2 && table.lock(&mut second, &mut NoGate, Target::Anchor) == 3);
+    table.unlock(&mut first, &mut NoGate, Target::Anchor);
     let (mut first, mut second) = table.meet_seats(first, second);
-    assert!(rt; first.pass == 0 && second.pass == 1);
-    assert_eq!(rt; table.lock(&mut second, Target::Anchor), 2);
-    assert_eq!(rt; table.lock(&mut first, Target::Anchor), 3);
+    assert!(rt; first.number() == 0 && second.number() == 1);
+    assert_eq!(rt; table.lock(&mut second, &mut NoGate, Target::Anchor), 2);
+    assert_eq!(rt; table.lock(&mut first, &mut NoGate, Target::Anchor), 3);
     Ok(())
 }
 
@@ -144,7 +146,7 @@ fn a_refused_table_is_made_by_the_next_call(rt: HostRuntime) -> Result<(), Fail>
     let Some(mut last) = last_seat(&table, &mut seats) else {
         panic!(rt; "a seat")
     };
-    assert!(rt; last.pass == 63 && load_epoch(&table, &mut last) == 1);
+    assert!(rt; last.number() == 63 && load_epoch(&table, &mut last) == 1);
     Ok(())
 }
 
@@ -153,7 +155,7 @@ fn small(alloc: Global, passes: u32) -> Result<(HotTable, Vec<TableSeat>), Alloc
     requires { (1 ≤ passes) × (passes ≤ 64) }
     ensures records { IfOk result (λ made. (made.0.layout.nodes ≡ 8) × (made.0.layout.leaves ≡ 8)) }
     ensures passes { IfOk result (λ made. made.0.layout.passes ≡ passes) }
-    ensures each { IfOk result (λ made. All (λ s. Fits made.0 s × (known s ≡ opening_of s.pass)) made.1.items) }
+    ensures each { IfOk result (λ made. All (IsNewSeat made.0) made.1.items) }
 {
     let Ok(layout) = Layout::of(passes, 8, 8) else {
         return Err(AllocError);
@@ -163,9 +165,9 @@ fn small(alloc: Global, passes: u32) -> Result<(HotTable, Vec<TableSeat>), Alloc
 
 /// The last of the seats that are left.
 fn last_seat(_table: &HotTable, seats: &mut Vec<TableSeat>) -> Option<TableSeat>
-    requires { All (λ s. Fits _table.now s × (known s ≡ opening_of s.pass)) seats.old.items }
-    ensures rest { All (λ s. Fits _table.now s × (known s ≡ opening_of s.pass)) seats.new.items }
-    ensures one { IfSome result (λ s. Fits _table.now s × (known s ≡ opening_of s.pass)) }
+    requires { All (IsNewSeat _table.now) seats.old.items }
+    ensures rest { All (IsNewSeat _table.now) seats.new.items }
+    ensures one { IfSome result (IsNewSeat _table.now) }
 {
     seats.pop()
 }
@@ -174,20 +176,20 @@ fn last_seat(_table: &HotTable, seats: &mut Vec<TableSeat>) -> Option<TableSeat>
 fn claim(table: &HotTable, seat: &mut TableSeat, leaf: u32) -> u64
     requires fits { Fits table.now seat.old × (leaf < table.now.layout.leaves) }
     ensures fits { Fits table.now seat.new }
-    ensures has { result ≡ 0 → IsHeld (known seat.new) (Leaf leaf) }
-    ensures pin { (known seat.new).pin ≡ (known seat.old).pin }
+    ensures has { result ≡ 0 → IsHeld seat.new.known (Leaf leaf) }
+    ensures pin { seat.new.known.pin ≡ seat.old.known.pin }
 {
-    table.claim(seat, Rec::Leaf(leaf))
+    table.claim(seat, &mut NoGate, Rec::Leaf(leaf))
 }
 
 /// Gives a claimed leaf back.
 fn release(table: &HotTable, seat: &mut TableSeat, leaf: u32)
     requires fits { Fits table.now seat.old × (leaf < table.now.layout.leaves) }
-    requires has { IsHeld (known seat.old) (Leaf leaf) }
+    requires has { IsHeld seat.old.known (Leaf leaf) }
     ensures fits { Fits table.now seat.new }
-    ensures pin { (known seat.new).pin ≡ (known seat.old).pin }
+    ensures pin { seat.new.known.pin ≡ seat.old.known.pin }
 {
-    table.release(seat, Rec::Leaf(leaf));
+    table.release(seat, &mut NoGate, Rec::Leaf(leaf));
 }
 
 /// Claims a leaf, fills it with a pair and makes it ready; answers whether it was free.
@@ -200,9 +202,15 @@ fn make_leaf(table: &HotTable, seat: &mut TableSeat, leaf: u32, key: &Key, value
     }
     let words = pack_leaf(key, value);
     for index in 0..32u8 {
-        table.fill(seat, Rec::Leaf(leaf), index + 1, words[index as usize]);
+        table.fill(
+            seat,
+            &mut NoGate,
+            Rec::Leaf(leaf),
+            index + 1,
+            words[index as usize],
+        );
     }
-    table.ready(seat, Rec::Leaf(leaf));
+    table.ready(seat, &mut NoGate, Rec::Leaf(leaf));
     true
 }
 
@@ -212,7 +220,7 @@ fn load_word(table: &HotTable, seat: &mut TableSeat, leaf: u32, offset: u8) -> u
     requires offset { (1 ≤ offset) × (offset < 33) }
     ensures { Fits table.now seat.new }
 {
-    table.load_fixed(seat, Rec::Leaf(leaf), offset)
+    table.load_fixed(seat, &mut NoGate, Rec::Leaf(leaf), offset)
 }
 
 /// Claims each of the eight leaves that is free; the answer has a bit for each that it claimed.
@@ -231,7 +239,7 @@ fn claim_each(table: &HotTable, mut seat: TableSeat) -> u64
 /// Claims leaves and gives them back, pins the epoch, and makes it the next one, a hundred times each. Answers how often it
 /// made the epoch the next one, or `None` where it loaded a word that no step stores.
 fn work(table: &HotTable, mut seat: TableSeat) -> Option<u64>
-    requires { Fits table.now seat × (table.now.layout.leaves ≡ 8) × (known seat ≡ opening_of seat.pass) }
+    requires { IsNewSeat table.now seat × (table.now.layout.leaves ≡ 8) }
 {
     let mut advances = 0;
     for round in 0..100u32 {
@@ -252,27 +260,27 @@ fn work(table: &HotTable, mut seat: TableSeat) -> Option<u64>
 
 /// Pins the epoch, unpins it, and makes it the next one; answers whether it did, or `None` where its pin is another.
 fn advance_once(table: &HotTable, seat: &mut TableSeat) -> Option<bool>
-    requires { Fits table.now seat.old × ((known seat.old).pin ≡ None) }
-    ensures { Fits table.now seat.new × ((known seat.new).pin ≡ None) }
+    requires { Fits table.now seat.old × (seat.old.known.pin ≡ None) }
+    ensures { Fits table.now seat.new × (seat.new.known.pin ≡ None) }
 {
-    let epoch = table.load_epoch(seat);
-    table.set_pin(seat, epoch);
-    let pass = seat.pass;
-    let pin = table.load_pin(seat, pass);
-    table.clear_pin(seat);
+    let epoch = table.load_epoch(seat, &mut NoGate);
+    table.set_pin(seat, &mut NoGate, epoch);
+    let pass = seat.number();
+    let pin = table.load_pin(seat, &mut NoGate, pass);
+    table.clear_pin(seat, &mut NoGate);
     if pin != epoch || epoch > 1000 {
         return None;
     }
-    Some(table.advance(seat, epoch) == epoch)
+    Some(table.advance(seat, &mut NoGate, epoch) == epoch)
 }
 
 /// Loads the state of a leaf.
 fn load_state(table: &HotTable, seat: &mut TableSeat, leaf: u32) -> u64
     requires { Fits table.now seat.old × (leaf < table.now.layout.leaves) }
     ensures fits { Fits table.now seat.new }
-    ensures pin { (known seat.new).pin ≡ (known seat.old).pin }
+    ensures pin { seat.new.known.pin ≡ seat.old.known.pin }
 {
-    table.load_state(seat, Rec::Leaf(leaf))
+    table.load_state(seat, &mut NoGate, Rec::Leaf(leaf))
 }
 
 /// Loads the epoch.
@@ -280,7 +288,7 @@ fn load_epoch(table: &HotTable, seat: &mut TableSeat) -> u64
     requires { Fits table.now seat.old }
     ensures { Fits table.now seat.new }
 {
-    table.load_epoch(seat)
+    table.load_epoch(seat, &mut NoGate)
 }
 
 /// Whether the leaves are free and no pass of five is pinned.
@@ -293,7 +301,7 @@ fn is_at_rest(table: &HotTable, seat: &mut TableSeat) -> bool
         }
     }
     for pass in 0..5u16 {
-        if table.load_pin(seat, pass) != 0 {
+        if table.load_pin(seat, &mut NoGate, pass) != 0 {
             return false;
         }
     }

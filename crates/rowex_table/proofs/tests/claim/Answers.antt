@@ -4,4 +4,4 @@ use Rattle.rowex_table.proofs.Rights.{claim_gives}
 use Rattle.rowex_table.proofs.tests.claim.Goals as goal
 
 pub returns-clause-has : goal.returns-clause-has
-returns-clause-has c = claim_gives _ _ _ _ (Leaf c.args.leaf) c.claim.result c.claim.ensures.told
+returns-clause-has c = claim_gives _ _ _ _ (Leaf c.args.leaf) c.claim.result c.claim.ensures.event

@@ -1,10 +1,6 @@
--- No note is added, and the seat stays one of the table.
-use Rattle.std.specs.Prelude.{[]}
+-- The seat stays one of the table.
 use Rattle.rowex_table.specs.Seats.{Fits}
 use Rattle.rowex_table.proofs.tests.is_at_rest.Given as goal
-
-abbrev pub ghost-load_pin : goal.ghost-load_pin
-ghost-load_pin a k = []
 
 abbrev pub invariant-loop-leaf : goal.invariant-loop-leaf
 invariant-loop-leaf l = Fits l.table l.seat

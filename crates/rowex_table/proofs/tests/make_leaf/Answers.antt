@@ -2,20 +2,19 @@
 use Rattle.std.proofs.Common.{rules, sym}
 use Rattle.moments.specs.declared.Rec.TheVariants.{Leaf}
 use Rattle.rowex_core.specs.Reading.{IsPacked}
-use Rattle.rowex_table.specs.Seats.{known}
 use Rattle.rowex_table.proofs.Rights.{fill_more, filled, fills, readies}
 use Rattle.rowex_table.proofs.tests.make_leaf.Goals as goal
 
 pub fill-requires : goal.fill-requires
 fill-requires c =
     let has = c.loop-index.invariant.1 in
-    (search rules, ((search rules, search rules), fills c.args.table.now.layout (known c.loop-index.seat) (Leaf c.args.leaf) _ _ has.0 c.requires.1 (search rules) (search rules) has.3))
+    record { own = search rules; range = (search rules, search rules); may = fills c.args.table.now.layout c.loop-index.seat.known (Leaf c.args.leaf) _ _ has.0 c.requires.1 (search rules) (search rules) has.3 }
 
 pub loop-index-preserved : goal.loop-index-preserved
-loop-index-preserved c = (search rules, fill_more _ _ _ _ (Leaf c.args.leaf) c.pack_leaf-words.result c.loop-index.index _ c.fill.ensures.told (search rules) (search rules) c.loop-index.invariant.1)
+loop-index-preserved c = (search rules, fill_more _ _ _ _ (Leaf c.args.leaf) c.pack_leaf-words.result c.loop-index.index _ c.fill.ensures.event (search rules) (search rules) c.loop-index.invariant.1)
 
 pub ready-requires : goal.ready-requires
 unfolding IsPacked
 ready-requires c =
-    let has = filled (known c.loop-index.seat) (Leaf c.args.leaf) c.pack_leaf-words.result c.loop-index.index (search rules) c.loop-index.invariant.1 in
-    (search rules, (search rules, readies _ _ (Leaf c.args.leaf) c.pack_leaf-words.result c.requires.1 has ((c.args.key.now, c.args.value), c.pack_leaf-words.ensures.fits, sym c.pack_leaf-words.ensures.words)))
+    let has = filled c.loop-index.seat.known (Leaf c.args.leaf) c.pack_leaf-words.result c.loop-index.index (search rules) c.loop-index.invariant.1 in
+    record { own = search rules; range = search rules; may = readies _ _ (Leaf c.args.leaf) c.pack_leaf-words.result c.requires.1 has ((c.args.key.now, c.args.value), c.pack_leaf-words.ensures.fits, sym c.pack_leaf-words.ensures.words) }

@@ -4,11 +4,11 @@ use Rattle.rowex_table.proofs.Dealing.{joins, meets, meeting, parts, paired_me, 
 use Rattle.rowex_table.proofs.table.HotTable.meet_seats.Goals as goal
 
 pub join_seat-requires : goal.join_seat-requires
-join_seat-requires c = (search rules, search rules, ap (λ m. m.1) c.args.second.is_pass, search rules, joins c.args.self.now.table.shared.key _ _ _ _ _ _ (ap (λ m. m.0) c.args.first.is_pass) (ap (λ m. m.0) c.args.second.is_pass))
+join_seat-requires c = (search rules, search rules, ap (λ m. m.1) c.second.invariant.0, search rules, joins c.self.inside.table.shared.key _ _ _ _ _ _ (ap (λ m. m.0) c.first.invariant.0) (ap (λ m. m.0) c.second.invariant.0))
 
 pub load-requires : goal.load-requires
-load-requires c = (search rules, search rules, meets c.args.self.now.table.shared.key _ _ _ _ _ _ (paired_me _ _ _ _ _ c.join_seat.ensures.2 c.args.first.is_pass c.args.second.is_pass))
+load-requires c = (search rules, search rules, meets c.self.inside.table.shared.key _ _ _ _ _ _ (paired_me _ _ _ _ _ c.join_seat.ensures.2 c.first.invariant.0 c.second.invariant.0))
 
 pub split_seat-other-requires : goal.split_seat-other-requires
-split_seat-other-requires c = let m = meeting _ _ _ _ (paired_me _ _ _ _ _ c.join_seat.ensures.2 c.args.first.is_pass c.args.second.is_pass) c.load.ensures.2 in
-    (search rules, search rules, parts c.args.self.now.table.shared.key _ _ _ _ (ap (λ z. z.0) m.2) (apart_met _ _ _ _ m.3))
+split_seat-other-requires c = let m = meeting _ _ _ _ (paired_me _ _ _ _ _ c.join_seat.ensures.2 c.first.invariant.0 c.second.invariant.0) c.load.ensures.2 in
+    (search rules, search rules, parts c.self.inside.table.shared.key _ _ _ _ (ap (λ z. z.0) m.2) (apart_met _ _ _ _ m.3))
