@@ -1,3 +1,4 @@
 -- The lemmas of the crate.
 pub mod Planning
 pub mod Remade
+pub mod Locking

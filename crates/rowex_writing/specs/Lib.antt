@@ -1,3 +1,4 @@
 -- The definitions of the crate.
 pub mod Plans
 pub mod Remaking
+pub mod Going
