@@ -1,37 +1,42 @@
 //! The steps of pins and rounds on small tables, as a gate is told them.
 
-ghost use Rattle.std.specs.Prelude.{◌≡◌, ◌<◌, ℕ, List, All, IfOk, true};
+ghost use Rattle.std.specs.Prelude.{◌≡◌, ◌<◌, ◌++◌, ◌∷◌, [], ℕ, List, All, IfOk, true, false};
 ghost use Rattle.moments.specs.declared.Rec.TheVariants.{Leaf as a_leaf};
 ghost use Rattle.rowex_core.specs.declared.known.Holding.TheVariants.{Ready as IsReady};
 ghost use Rattle.rowex_table.specs.Rights.{Has};
-ghost use Rattle.rowex_table.specs.Rule.{opening_of};
-ghost use Rattle.rowex_table.specs.Seats.{Fits, known};
+ghost use Rattle.rowex_table.specs.Seats.{Fits, IsNewSeat};
 
 use super::*;
 use key_bits::Key;
 use record_words::{Layout, pack_leaf};
-use rowex_core::{Act, Event, Gate, Rec, Spot, Target};
+use rowex_core::{Act, Event, Gate, NoGate, Rec, Spot, Target};
 use rowex_table::{HotTable, TableSeat};
 use std::alloc::Global;
 use std::test::*;
 use std::thread::map_vec;
 
-/// Writes down the events that it is told.
+/// Writes down the events that it is told, in order, as long as there is memory.
 #[derive(Drop)]
 struct Recorder {
     events: Vec<Event>,
+    has_lost: bool,
 }
 
 impl Gate for Recorder {
+    ghost becomes = { λ r event s. s.has_lost ≡ false → (r.has_lost ≡ false) × (s.events.items ≡ r.events.items ++ event ∷ []) };
+
     fn at(&mut self, event: &Event) {
-        let _ = self.events.push(*event);
+        if self.events.push(*event).is_err() {
+            self.has_lost = true;
+        }
     }
 }
 
 impl Recorder {
     /// Whether it was told these acts of this pass, and nothing else, since the last call.
     fn was_told(&mut self, pass: u16, acts: &[Act]) -> bool {
-        let is_same = self.events.len() == acts.len()
+        let is_same = !self.has_lost
+            && self.events.len() == acts.len()
             && self
                 .events
                 .iter()
@@ -49,6 +54,8 @@ struct AdvanceCount {
 }
 
 impl Gate for AdvanceCount {
+    ghost becomes = { λ _ _ _. Unit {0} };
+
     fn at(&mut self, event: &Event) {
         if let Act::Advance { expected, found } = event.act {
             if found == expected {
@@ -66,7 +73,7 @@ fn table_of(
     leaves: u32,
 ) -> Result<(HotTable, Vec<TableSeat>), Fail>
     ensures leaves { IfOk result (λ made. made.0.layout.leaves ≡ leaves) }
-    ensures seats { IfOk result (λ made. All (λ s. Fits made.0 s × (known s ≡ opening_of s.pass)) made.1.items) }
+    ensures seats { IfOk result (λ made. All (IsNewSeat made.0) made.1.items) }
 {
     let layout = Layout::of(passes, nodes, leaves).ok().ok_or("a layout")?;
     Ok(HotTable::new(alloc, layout)?)
@@ -74,9 +81,9 @@ fn table_of(
 
 /// The last of the seats that are left.
 fn last_seat(table: &HotTable, seats: &mut Vec<TableSeat>) -> Result<TableSeat, Fail>
-    requires { All (λ s. Fits table.now s × (known s ≡ opening_of s.pass)) seats.old.items }
-    ensures rest { All (λ s. Fits table.now s × (known s ≡ opening_of s.pass)) seats.new.items }
-    ensures last { IfOk result (λ s. Fits table.now s × (known s ≡ opening_of s.pass)) }
+    requires { All (IsNewSeat table.now) seats.old.items }
+    ensures rest { All (IsNewSeat table.now) seats.new.items }
+    ensures last { IfOk result (IsNewSeat table.now) }
 {
     let _ = table;
     Ok(seats.pop().ok_or("a seat")?)
@@ -87,8 +94,8 @@ fn pins_and_rounds_on_a_new_table(rt: HostRuntime) -> Result<(), Fail> {
     let (table, mut seats) = table_of(rt.alloc(), 2, 8, 8)?;
     let mut second = last_seat(&table, &mut seats)?;
     let mut first = last_seat(&table, &mut seats)?;
-    pin(&table, &mut second);
-    let given = collect_round(&table, &mut first);
+    pin(&table, &mut second, &mut NoGate);
+    let given = collect_round(&table, &mut first, &mut NoGate);
     assert_eq!(rt;
         given,
         Given {
@@ -96,8 +103,8 @@ fn pins_and_rounds_on_a_new_table(rt: HostRuntime) -> Result<(), Fail> {
             leaves: 0
         }
     );
-    unpin(&table, &mut second);
-    let given = collect_round(&table, &mut second);
+    unpin(&table, &mut second, &mut NoGate);
+    let given = collect_round(&table, &mut second, &mut NoGate);
     assert_eq!(rt;
         given,
         Given {
@@ -113,8 +120,8 @@ fn a_round_leaves_held_records(rt: HostRuntime) -> Result<(), Fail> {
     let (table, mut seats) = table_of(rt.alloc(), 2, 1, 2)?;
     let mut second = last_seat(&table, &mut seats)?;
     let mut first = last_seat(&table, &mut seats)?;
-    assert_eq!(rt; table.claim(&mut first, Rec::Leaf(1)), 0);
-    let given = collect_round(&table, &mut second);
+    assert_eq!(rt; table.claim(&mut first, &mut NoGate, Rec::Leaf(1)), 0);
+    let given = collect_round(&table, &mut second, &mut NoGate);
     assert_eq!(rt;
         given,
         Given {
@@ -122,7 +129,7 @@ fn a_round_leaves_held_records(rt: HostRuntime) -> Result<(), Fail> {
             leaves: 0
         }
     );
-    assert_eq!(rt; table.load_state(&mut first, Rec::Leaf(1)), 1);
+    assert_eq!(rt; table.load_state(&mut first, &mut NoGate, Rec::Leaf(1)), 1);
     Ok(())
 }
 
@@ -130,35 +137,41 @@ fn a_round_leaves_held_records(rt: HostRuntime) -> Result<(), Fail> {
 fn make_leaf(table: &HotTable, seat: &mut TableSeat, key: &Key, value: u64) -> bool
     requires { Fits table.now seat.old × (0 < table.now.layout.leaves) }
     ensures fits { Fits table.now seat.new }
-    ensures pin { (known seat.new).pin ≡ (known seat.old).pin }
-    ensures has { result ≡ true → (words : List ℕ) × Has (known seat.new) (a_leaf 0) IsReady words }
+    ensures pin { seat.new.known.pin ≡ seat.old.known.pin }
+    ensures has { result ≡ true → (words : List ℕ) × Has seat.new.known (a_leaf 0) IsReady words }
 {
-    if table.claim(seat, Rec::Leaf(0)) != 0 {
+    if table.claim(seat, &mut NoGate, Rec::Leaf(0)) != 0 {
         return false;
     }
     let words = pack_leaf(key, value);
     for index in 0..32u8 {
-        table.fill(seat, Rec::Leaf(0), index + 1, words[index as usize]);
+        table.fill(
+            seat,
+            &mut NoGate,
+            Rec::Leaf(0),
+            index + 1,
+            words[index as usize],
+        );
     }
-    table.ready(seat, Rec::Leaf(0));
+    table.ready(seat, &mut NoGate, Rec::Leaf(0));
     true
 }
 
 /// Links leaf 0 at the root; answers whether the anchor was not locked and the root was empty.
 fn link_leaf(table: &HotTable, seat: &mut TableSeat) -> bool
     requires fits { Fits table.now seat.old × (0 < table.now.layout.leaves) }
-    requires has { (words : List ℕ) × Has (known seat.old) (a_leaf 0) IsReady words }
+    requires has { (words : List ℕ) × Has seat.old.known (a_leaf 0) IsReady words }
     ensures fits { Fits table.now seat.new }
-    ensures pin { (known seat.new).pin ≡ (known seat.old).pin }
+    ensures pin { seat.new.known.pin ≡ seat.old.known.pin }
 {
-    if table.lock(seat, Target::Anchor) != 2 {
+    if table.lock(seat, &mut NoGate, Target::Anchor) != 2 {
         return false;
     }
-    let root = table.load_ref(seat, Spot::Root);
+    let root = table.load_ref(seat, &mut NoGate, Spot::Root);
     if root == 0 {
-        table.publish(seat, Spot::Root, 1);
+        table.publish(seat, &mut NoGate, Spot::Root, 1);
     }
-    table.unlock(seat, Target::Anchor);
+    table.unlock(seat, &mut NoGate, Target::Anchor);
     root == 0
 }
 
@@ -166,18 +179,18 @@ fn link_leaf(table: &HotTable, seat: &mut TableSeat) -> bool
 fn unlink_leaf(table: &HotTable, seat: &mut TableSeat) -> bool
     requires { Fits table.now seat.old × (0 < table.now.layout.leaves) }
     ensures fits { Fits table.now seat.new }
-    ensures pin { (known seat.new).pin ≡ (known seat.old).pin }
+    ensures pin { seat.new.known.pin ≡ seat.old.known.pin }
 {
-    if table.lock(seat, Target::Anchor) != 2 {
+    if table.lock(seat, &mut NoGate, Target::Anchor) != 2 {
         return false;
     }
-    let root = table.load_ref(seat, Spot::Root);
+    let root = table.load_ref(seat, &mut NoGate, Spot::Root);
     if root == 1 {
-        table.publish(seat, Spot::Root, 0);
-        let epoch = table.load_epoch(seat);
-        table.mark(seat, Rec::Leaf(0), epoch);
+        table.publish(seat, &mut NoGate, Spot::Root, 0);
+        let epoch = table.load_epoch(seat, &mut NoGate);
+        table.mark(seat, &mut NoGate, Rec::Leaf(0), epoch);
     }
-    table.unlock(seat, Target::Anchor);
+    table.unlock(seat, &mut NoGate, Target::Anchor);
     root == 1
 }
 
@@ -189,15 +202,15 @@ fn an_unlinked_leaf_is_given_back_once_no_pass_is_pinned(rt: HostRuntime) -> Res
     let key = Key::from_bytes(b"ab").ok().ok_or("a key")?;
     assert!(rt; make_leaf(&table, &mut first, &key, 77));
     assert!(rt; link_leaf(&table, &mut first));
-    pin(&table, &mut second);
+    pin(&table, &mut second, &mut NoGate);
     assert!(rt; unlink_leaf(&table, &mut first));
-    let given = collect_round(&table, &mut first);
+    let given = collect_round(&table, &mut first, &mut NoGate);
     assert!(rt; given.nodes == 0 && given.leaves == 0);
-    assert_eq!(rt; table.load_state(&mut first, Rec::Leaf(0)), 12);
-    unpin(&table, &mut second);
-    let given = collect_round(&table, &mut first);
+    assert_eq!(rt; table.load_state(&mut first, &mut NoGate, Rec::Leaf(0)), 12);
+    unpin(&table, &mut second, &mut NoGate);
+    let given = collect_round(&table, &mut first, &mut NoGate);
     assert!(rt; given.nodes == 0 && given.leaves == 1);
-    assert_eq!(rt; table.claim(&mut first, Rec::Leaf(0)), 0);
+    assert_eq!(rt; table.claim(&mut first, &mut NoGate, Rec::Leaf(0)), 0);
     Ok(())
 }
 
@@ -226,28 +239,29 @@ fn events_of_pins_and_rounds(rt: HostRuntime) -> Result<(), Fail> {
     let mut first = last_seat(&table, &mut seats)?;
     let mut gate = Recorder {
         events: Vec::new(rt.alloc()),
+        has_lost: false,
     };
-    pin_with(&table, &mut second, &mut gate);
+    pin(&table, &mut second, &mut gate);
     let pinning = [Act::LoadEpoch { word: 1 }, Act::SetPin { word: 1 }];
     assert!(rt; gate.was_told(1, &pinning));
-    collect_round_with(&table, &mut first, &mut gate);
+    collect_round(&table, &mut first, &mut gate);
     assert!(rt; gate.was_told(0, &acts_of_round(1, 2, 1)));
-    unpin_with(&table, &mut second, &mut gate);
+    unpin(&table, &mut second, &mut gate);
     assert!(rt; gate.was_told(1, &[Act::ClearPin]));
-    collect_round_with(&table, &mut second, &mut gate);
+    collect_round(&table, &mut second, &mut gate);
     assert!(rt; gate.was_told(1, &acts_of_round(2, 3, 0)));
     Ok(())
 }
 
 /// Pins, unpins and collects a hundred times; answers how often that made the epoch the next one.
 fn work(table: &HotTable, mut seat: TableSeat) -> u64
-    requires { Fits table.now seat × (known seat ≡ opening_of seat.pass) }
+    requires { IsNewSeat table.now seat }
 {
     let mut gate = AdvanceCount { count: 0 };
     for _round in 0..100u32 {
-        pin(table, &mut seat);
-        unpin(table, &mut seat);
-        collect_round_with(table, &mut seat, &mut gate);
+        pin(table, &mut seat, &mut NoGate);
+        unpin(table, &mut seat, &mut NoGate);
+        collect_round(table, &mut seat, &mut gate);
     }
     gate.count
 }
@@ -257,7 +271,7 @@ fn rounds_of_four_threads_advance_the_epoch(rt: HostRuntime) -> Result<(), Fail>
     let (table, mut seats) = table_of(rt.alloc(), 5, 2, 2)?;
     let mut last = last_seat(&table, &mut seats)?;
     let work = |seat: TableSeat| -> u64
-        requires { Fits table seat × (known seat ≡ opening_of seat.pass) }
+        requires { IsNewSeat table seat }
     { work(&table, seat) };
     let mut epoch = 1u64;
     for advances in map_vec(&rt, seats, &work)? {
@@ -265,8 +279,9 @@ fn rounds_of_four_threads_advance_the_epoch(rt: HostRuntime) -> Result<(), Fail>
     }
     let mut gate = Recorder {
         events: Vec::new(rt.alloc()),
+        has_lost: false,
     };
-    pin_with(&table, &mut last, &mut gate);
+    pin(&table, &mut last, &mut gate);
     assert!(rt; epoch > 100);
     let act = gate.events.first().map(|event| event.act);
     assert!(rt; act == Some(Act::LoadEpoch { word: epoch }));

@@ -70,10 +70,10 @@ module _ {G : Type 0} (table : TableView) (becomes : G → Event → G → Type 
     does_none a none =
         let k : Known = a.0.known in
         let zero : k.steps ≡ k.steps + 0 = omega arith in
-        record { steps = refl; rest = sym (ap (λ (z : Known). let y : Known = record z { steps = k.steps + 0 } in y) (none k) ∙ ap (λ (n : ℕ). let y : Known = record k { steps = n } in y) (sym zero)) }
+        record { seat = same_none a.0; steps = refl; rest = sym (ap (λ (z : Known). let y : Known = record z { steps = k.steps + 0 } in y) (none k) ∙ ap (λ (n : ℕ). let y : Known = record k { steps = n } in y) (sym zero)) }
 
     pub does_one : (act : Act) (a b : SeatView × G) → Steps table becomes act a b → b.0.known ≡ record (changed a.0.known b.0.known) { steps = a.0.known.steps + 1 } → Does table becomes changed (act ∷ []) a b
-    does_one act a b step rest = record { steps = runs_one act a b step; rest = rest }
+    does_one act a b step rest = record { seat = step.seat; steps = runs_one act a b step; rest = rest }
 
     pub does_append : IsPart → (acts more : List Act) (a m b : SeatView × G) → Does table becomes changed acts a m → Does table becomes changed more m b → Does table becomes changed (acts ++ more) a b
     does_append part acts more a m b first second =
@@ -81,6 +81,7 @@ module _ {G : Type 0} (table : TableView) (becomes : G → Event → G → Type 
         let j : Known = b.0.known in
         let count : k.steps + length acts + length more ≡ k.steps + length (acts ++ more) = omega (arith, length-append acts more) in
         record {
+          seat = same_more a.0 m.0 b.0 first.seat second.seat;
           steps = runs_append acts more a m b first.steps second.steps;
           rest = second.rest ∙
               (ap (λ (z : Known). let y : Known = record (changed z j) { steps = z.steps + length more } in y) first.rest ∙

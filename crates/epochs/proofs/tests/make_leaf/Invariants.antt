@@ -2,18 +2,8 @@
 use Rattle.std.specs.Prelude.{◌≡◌}
 use Rattle.moments.specs.declared.Rec.TheVariants.{Leaf}
 use Rattle.rowex_table.specs.Rights.{HasFilled}
-use Rattle.rowex_table.specs.Seats.{Fits, known}
-use Rattle.epochs.specs.Runs.{silent}
+use Rattle.rowex_table.specs.Seats.{Fits}
 use Rattle.epochs.proofs.tests.make_leaf.Given as goal
 
-abbrev pub ghost-claim : goal.ghost-claim
-ghost-claim a = silent
-
-abbrev pub ghost-fill : goal.ghost-fill
-ghost-fill a = silent
-
-abbrev pub ghost-ready : goal.ghost-ready
-ghost-ready a = silent
-
 abbrev pub invariant-loop-index : goal.invariant-loop-index
-invariant-loop-index l = Fits l.table l.seat × ((known l.seat).pin ≡ (known l.fn.seat).pin) × HasFilled (known l.seat) (Leaf 0) l.words l.index
+invariant-loop-index l = Fits l.table l.seat × (l.seat.known.pin ≡ l.fn.seat.known.pin) × HasFilled l.seat.known (Leaf 0) l.words l.index

@@ -1,5 +1,5 @@
 -- No notes.
-use Rattle.epochs.specs.Runs.{silent}
+use Rattle.rowex_table.specs.Runs.{silent}
 use Rattle.epochs.proofs.tests.pins_and_rounds_on_a_new_table.Given as goal
 
 abbrev pub ghost-unpin : goal.ghost-unpin

@@ -8,15 +8,15 @@ use Rattle.epochs.proofs.tests.unlink_leaf.Goals as goal
 
 pub publish-requires : goal.publish-requires
 publish-requires c =
-    let locked = lock_gives _ _ _ _ c.lock.result c.lock.ensures.told (search rules) in
-    let root = root_gives _ _ _ _ (Some (Leaf 0)) c.load_ref-root.result c.load_ref-root.ensures.told locked (lit< tt) (search rules) in
-    (search rules, (search rules, unlinks_last _ _ 0 root))
+    let locked = lock_gives _ _ _ _ c.lock.result c.lock.ensures.event (search rules) in
+    let root = root_gives _ _ _ _ (Some (Leaf 0)) c.load_ref-root.result c.load_ref-root.ensures.event locked (lit< tt) (search rules) in
+    record { own = search rules; range = search rules; may = unlinks_last _ _ 0 root }
 
 pub mark-requires : goal.mark-requires
 mark-requires c =
-    let locked = lock_gives _ _ _ _ c.lock.result c.lock.ensures.told (search rules) in
-    let root = root_gives _ _ _ _ (Some (Leaf 0)) c.load_ref-root.result c.load_ref-root.ensures.told locked (lit< tt) (search rules) in
-    let own = removal_gives _ _ _ _ 0 root c.publish.ensures.told in
-    let kept = epoch_keeps _ _ _ _ c.load_epoch-epoch.result (a_leaf 0) own.0 own.1 own.2 c.load_epoch-epoch.ensures.told own.3 in
-    let epoch = epoch_gives _ _ _ _ c.load_epoch-epoch.result c.load_epoch-epoch.ensures.told in
-    (search rules, ((search rules, epoch.0), marks _ _ (a_leaf 0) own.0 own.1 c.load_epoch-epoch.result own.2 (search rules) kept.0 kept.1 epoch.1))
+    let locked = lock_gives _ _ _ _ c.lock.result c.lock.ensures.event (search rules) in
+    let root = root_gives _ _ _ _ (Some (Leaf 0)) c.load_ref-root.result c.load_ref-root.ensures.event locked (lit< tt) (search rules) in
+    let own = removal_gives _ _ _ _ 0 root c.publish.ensures.event in
+    let kept = epoch_keeps _ _ _ _ c.load_epoch-epoch.result (a_leaf 0) own.0 own.1 own.2 c.load_epoch-epoch.ensures.event own.3 in
+    let epoch = epoch_gives _ _ _ _ c.load_epoch-epoch.result c.load_epoch-epoch.ensures.event in
+    record { own = search rules; range = (search rules, epoch.0); may = marks _ _ (a_leaf 0) own.0 own.1 c.load_epoch-epoch.result own.2 (search rules) kept.0 kept.1 epoch.1 }
