@@ -1,5 +1,5 @@
 -- The way up of a new leaf: at a leaf, at the affected node, at each node above it, and in a new node.
-use Rattle.std.proofs.Common.{◌≡◌, inl, inr, ℕ, suc, ◌+◌, ◌*◌, ◌<◌, ◌≤◌, Bool, true, false, List, refl, ap, sym, ◌∙◌, subst, arith, Some, length, get_or}
+use Rattle.std.proofs.Common.{◌≡◌, ◌⊎◌, inl, inr, ℕ, suc, ◌+◌, ◌*◌, ◌<◌, ◌≤◌, Bool, true, false, List, refl, ap, sym, ◌∙◌, subst, arith, Some, length, get_or}
 use Rattle.std.proofs.lemmas.Option.{slice_get_within}
 use Rattle.std.specs.Prelude.{slice_get, cond, nat_lt, ◌-◌}
 use Rattle.key_bits.specs.Bits.{IsFirstDifference, bit_of}
@@ -18,7 +18,7 @@ use Rattle.tries.specs.Place.{spot}
 use Rattle.tries.specs.Search.{child, seek}
 use Rattle.tries.specs.Tree.{Page, Fixed, Tree, leaf, node, fork, page, Has, IsTrie, IsBuilt, IsLower, first_position, Within, here, inside, zero_side, one_side}
 use Rattle.tries.proofs.Adding.{added_here}
-use Rattle.tries.proofs.Affected.{grown_page}
+use Rattle.tries.proofs.Affected.{grown_page, part_place}
 use Rattle.tries.proofs.Fitting.{lower_positive}
 use Rattle.tries.proofs.Places.{grown, leads_spot, spot_below}
 use Rattle.tries.proofs.Ranges.{has_key}
@@ -35,7 +35,7 @@ use Rattle.insert_cases.proofs.Affecting.{key_part}
 use Rattle.tries.proofs.Building.{bit_below, lower_to, node_built_from}
 use Rattle.insert_cases.proofs.Choosing.{found-child, has_found, all_away, affected_range, part_big, tip_small, tip_child, size_affected}
 use Rattle.insert_cases.proofs.Keeping.{shown_more}
-use Rattle.insert_cases.proofs.Lifting.{grow_raised, old_stays, body_adds, pulled_raised}
+use Rattle.insert_cases.proofs.Lifting.{grow_raised, lower_part, old_stays, body_adds, pulled_raised}
 use Rattle.insert_cases.proofs.Raised.{child_spot}
 use Rattle.insert_cases.proofs.Searching.{node_of_page, read_at, shown_within, lower_child, sought_entry}
 use Rattle.insert_cases.proofs.Storing.{push_old, push_new}
@@ -144,6 +144,12 @@ beside_raised ns ls x p n (node m y b) i = absurd (let e = i.head in cc)
 beside_raised ns ls x p n (fork q a b) i = absurd (let e = i.head in cc)
 
 -- ---- a node
+-- a part whose entries are leaves has no node for its head
+part_low : (d : Tree) → IsBuilt d → IsLower 1 d → IsPart d
+part_low (leaf n k v) b l = tt
+part_low (node n x c) b l = let p = lower_positive x.height c b.1 in absurd (omega arith)
+part_low (fork q a c) b l = tt
+
 -- the node at which a search stands
 pub record IsHere (ns : List NodeView) (ls : List LeafRecord) (x : Item) (p n h : ℕ) (t : Tree) : Type 0 where
   pub fixed : Fixed
@@ -173,17 +179,20 @@ node_here {ns} {ls} {x} {p} {n} {h} {t} i =
 
 module _ {ns : List NodeView} {ls : List LeafRecord} {x : Item} {p n h : ℕ} {t : Tree} (i : IsAddable ns ls x p (Node n h) t) (u : IsHere ns ls x p n h t) (first last : ℕ)
     (from : affected_first p (spot x.key (page u.body)) (page u.body) ≡ first) (upto : affected_count p (spot x.key (page u.body)) (page u.body) + first ≡ last + 1) where
-  -- several entries are affected: the new leaf belongs to the node
-  pub several : first < last → IsPart (affected p x.key u.body)
-  several o = (part_big (affected p x.key u.body) (omega (arith, upto, size_affected x.key p u.body))).0
+  -- several entries are affected, or there are leaves alone: the new leaf belongs to the node
+  pub part : (first < last) ⊎ (h ≡ 1) → IsPart (affected p x.key u.body)
+  part (inl o) = (part_big (affected p x.key u.body) (omega (arith, upto, size_affected x.key p u.body))).0
+  part (inr one) =
+      let w = part_place p x.key u.body in
+      part_low (affected p x.key u.body) (built_within w.0 u.built.2) (lower_part 1 w.0 w.1 (subst (λ g. IsLower g u.body) (u.high ∙ one) u.built.1))
 
-  pub range : first < last → IsAffected (page u.body) p first last
-  range o = affected_range x.key (found x.key u.body).key p u.differ u.body u.trie u.has (several o) first last from upto
+  pub range : IsPart (affected p x.key u.body) → IsAffected (page u.body) p first last
+  range o = affected_range x.key (found x.key u.body).key p u.differ u.body u.trie u.has o first last from upto
 
-  pub here_raised : first < last → (ms : List NodeView) (risen : Risen) → OthersStay ns ms n →
+  pub here_raised : IsPart (affected p x.key u.body) → (ms : List NodeView) (risen : Risen) → OthersStay ns ms n →
       RisenShows ms u.shown.0.view risen (piece_grown p (bit x.key p) (Leaf x.number) first (page u.body)) → IsRaised ns ms ls x p t (suc h) (page_of risen)
   here_raised o ms risen others shows =
-      let away = all_away x.key (found x.key u.body).key p u.differ u.body u.trie u.has (several o) in
+      let away = all_away x.key (found x.key u.body).key p u.differ u.body u.trie u.has o in
       let page_is : piece_grown p (bit x.key p) (Leaf x.number) first (page u.body) ≡ page_grown p x.key (Leaf x.number) (page u.body) =
       ap (λ j. piece_grown p (bit x.key p) (Leaf x.number) j (page u.body)) (sym from) ∙ (key_part x.key p (page u.body)).grows (Leaf x.number) in
       let r = grow_raised ns ls n u.fixed u.body u.trie u.built u.shown ms x p i.key away i.new others risen (subst (RisenShows ms u.shown.0.view risen) page_is shows) in

@@ -35,7 +35,7 @@ put_shown ns ls (inside w) f r i j = elim f [ ]
 put_shown ns ls (zero_side w) f r i j = (put_shown ns ls w f r i.0 j, i.1)
 put_shown ns ls (one_side w) f r i j = (i.0, put_shown ns ls w f r i.1 j)
 
-lower_part : (h : ℕ) {s b : Tree} (w : Within s b) → IsFlat w → IsLower h b → IsLower h s
+pub lower_part : (h : ℕ) {s b : Tree} (w : Within s b) → IsFlat w → IsLower h b → IsLower h s
 lower_part h here f l = l
 lower_part h (inside w) f l = elim f [ ]
 lower_part h (zero_side w) f l = lower_part h w f l.0
