@@ -25,6 +25,9 @@ use Rattle.pieces.proofs.Positions.{front_below-place}
 use Rattle.pieces.specs.Growth.{affected_count, affected_first}
 use Rattle.pieces.specs.Positions.{IsPlaceOf, front_below, has}
 
+pub length-leaves : (n : ℕ) → length (leaves n) ≡ n
+length-leaves n = length-replicate n (Leaf 0)
+
 pub same_count : (node : NodeView) → IsLawful node → length node.rows ≡ length node.entries
 same_count node lawful = same_length node.columns node.rows node.entries (piece node) lawful.shows
 

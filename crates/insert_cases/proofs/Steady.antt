@@ -22,7 +22,7 @@ use Rattle.insert_cases.specs.declared.growth.Grown.{Grown}
 use Rattle.insert_cases.specs.declared.growth.Grown.TheVariants.{One as Whole, Two}
 use Rattle.pieces.proofs.Grafting.{size-grown}
 use Rattle.tries.proofs.Building.{size-piece}
-use Rattle.insert_cases.proofs.NodeFacts.{first_column}
+use Rattle.compound_node.proofs.Roots.{first_column}
 
 -- ---- root forks
 module _ {A : Type 0} where

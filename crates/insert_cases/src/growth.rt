@@ -45,18 +45,10 @@ pub fn grow(node: &Node, first: u8, last: u8, position: u16, bit: bool, entry: E
     if node.count() < 32 {
         return Grown::One(node.insert(first, last, position, bit, entry));
     }
-    if position < first_position(node) {
+    if position < node.first_position() {
         return Grown::Two(beside(position, bit, entry));
     }
     Grown::Two(cut_grown(node, first, last, position, bit, entry))
-}
-
-/// The position of a node's root fork.
-pub(crate) fn first_position(node: &Node) -> u16
-    requires { IsLawful node.now }
-    ensures { AtRootFork (λ p zero one. result ≡ p) (piece node.now) }
-{
-    node.columns().first()
 }
 
 /// The fork of a node that stays whole and a new entry.

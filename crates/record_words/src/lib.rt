@@ -15,6 +15,9 @@ pub use leaf::{pack_leaf, read_leaf, unpack_leaf};
 pub use node::{pack_node, read_head, read_node, unpack_head, unpack_node};
 pub use state::{Tag, pack_state, unpack_state};
 
+/// Epochs are below this number, and at least 1.
+pub const EPOCHS: u64 = 1 << 60;
+
 /// How many passes a table has at most.
 pub const MAX_PASSES: u32 = 64;
 
