@@ -1,6 +1,5 @@
 -- What the loads of a node's head tell.
-use Rattle.std.proofs.Common.{◌≡◌, ℕ, ◌≤◌, List, [], ◌∷◌, length, map, take, Result, Ok, refl, ap, ap₂, sym, ◌∙◌, subst, arith, le_trans}
-use Rattle.std.specs.Result.{IsOk}
+use Rattle.std.proofs.Common.{◌≡◌, ℕ, ◌≤◌, List, [], ◌∷◌, length, map, take, refl, ap, ap₂, sym, ◌∙◌, subst, arith, le_trans}
 use Rattle.compound_node.specs.declared.entries.Entry.{Entry}
 use Rattle.compound_node.specs.declared.entries.Entry.TheVariants.{Leaf, Node}
 use Rattle.compound_node.specs.Nodes.{NodeView, HeadView, IsLawful as IsLawfulNode, head_of, leaves, piece}
@@ -13,7 +12,8 @@ use Rattle.partial_keys.specs.Shows.{Shows}
 use Rattle.partial_keys.proofs.Reading.{piece_of_shown}
 use Rattle.record_words.specs.declared.layout.Layout.{Layout}
 use Rattle.record_words.specs.Node.{HasHeadWords, head_words}
-use Rattle.record_words.specs.Reading.{IsReading}
+use Rattle.record_words.specs.Reading.{IsSpelling, IsSpelledBy}
+use Rattle.record_words.specs.declared.TheConstants.{HEAD_WORDS}
 use Rattle.tries.specs.Tree.{Tree, leaf, node, fork, page, Page, Fixed}
 use Rattle.tries.specs.Place.{shape}
 use Rattle.moments.specs.declared.Rec.TheVariants.{Node as a_node}
@@ -30,6 +30,7 @@ use Rattle.rowex_walks.specs.Scan.{IsSeen, IsShaped}
 use Rattle.rowex_walks.proofs.Loads.{loads_shape}
 use Rattle.rowex_walks.proofs.Search.{now_same}
 use Rattle.rowex_walks.proofs.Scans.{node_of, shaped}
+use Rattle.rowex_reading.specs.Possible.{IsPossible}
 use Rattle.rowex_reading.specs.Seen.{seen, IsLedTo, shape_of}
 use Rattle.rowex_reading.proofs.Seeing.{recalls_before, seen_within, seen_past, seen_grown, seen_stable, stands_in, stands_seen}
 use Rattle.rowex_reading.proofs.Standing.{reach, is_packed}
@@ -72,48 +73,46 @@ same_fixed heap n x b (node m y d) r i f = ap (λ z. (heap.nodes z).fixed) (numb
     number : {a b : ℕ} → a_node a ≡ a_node b → a ≡ b
     number e = cc
 
-ok_same : {E : Type 0} {x y : HeadView} → ◌≡◌ {A = Result HeadView E} (Ok x) (Ok y) → x ≡ y
-ok_same e = cc
-
-module _ {E : Type 0} (layout : Layout) (k j : Known) (n i : ℕ) (words : List ℕ) (loaded : AreLoaded layout k j (a_node n) i words) (all : i ≡ 25) (long : length words ≡ 25)
-    (answer : Result HeadView E) (reading : IsReading HasHeadWords head_words words answer) (m h : ℕ) (led : IsLedTo k m (Node n h)) where
-  -- in each core of which j is true, the words are those of a node with the head that was read
+module _ (layout : Layout) (k j : Known) (n i : ℕ) (words : List ℕ) (possible : IsPossible layout j) (loaded : AreLoaded k j (a_node n) i words) (all : i ≡ HEAD_WORDS)
+    (long : length words ≡ HEAD_WORDS) (m h : ℕ) (led : IsLedTo k m (Node n h)) where
+  -- in each core of which j is true, the words are those of a node's head
   record HeadNow (c : Core) : Type 0 where
     view_now : NodeView
     lawful_now : IsLawfulNode view_now
-    answered : answer ≡ Ok (head_of view_now)
+    spelled : head_words (head_of view_now) ≡ words
     nodes_are : (heap_of c.words).nodes n ≡ record { fixed = head_of view_now; page = piece view_now }
 
   head_now : (c : Core) → IsLawful c → Recalls c j → HeadNow c
   unfolding IsPacked
   head_now c lawful known =
-      let before = recalls_before loaded.loads.later known in
+      let before = recalls_before loaded.later known in
       go (is_packed c k lawful before m led.0 (Node n h) (led.1 c lawful before))
     where
       go : IsPacked (a_node n) (c.words (a_node n)) → HeadNow c
       go (v, has, same) =
           let sized = lawful.records.sized (a_node n) in
-          let are = words_now layout k j (a_node n) i words loaded (long ∙ sym all) (λ o low. (omega arith, omega arith)) m (led_stood k m (Node n h) led) c lawful known (omega (arith, sized.0)) in
-          let head : head_words (head_of v) ≡ words = head_is v (c.words (a_node n)) sized.1 has same ∙ (ap (λ z. take z (c.words (a_node n))) (sym all) ∙ sym are) in
+          let are = words_now k j (a_node n) i words loaded (long ∙ sym all) (λ o low. (omega arith, omega arith)) m (led_stood k m (Node n h) led) c lawful known (omega (arith, sized.0)) in
           record {
             view_now = v;
             lawful_now = has.lawful;
-            answered = reading.read (head_of v) (v, has.lawful, refl) head;
+            spelled = head_is v (c.words (a_node n)) sized.1 has same ∙ (ap (λ z. take z (c.words (a_node n))) (sym all) ∙ sym are);
             nodes_are = node_is v (c.words (a_node n)) sized.1 has same;
           }
 
-  pub head_ok : IsOk answer
-  head_ok = subst IsOk (sym (let x = loaded.possible in head_now x.core x.lawful (recalls x.core j x.knows)).answered) refl
+  -- the words spell a head
+  pub head_spelled : IsSpelling HasHeadWords head_words words
+  head_spelled = let now = head_now possible.core possible.lawful (recalls possible.core j possible.knows) in (head_of now.view_now, (now.view_now, now.lawful_now, refl), now.spelled)
 
-  module _ (head : HeadView) (is : answer ≡ Ok head) (c : Core) (lawful : IsLawful c) (known : Recalls c j) where
+  -- and it is the node's
+  module _ (head : HeadView) (read : IsSpelledBy HasHeadWords head_words words head) (c : Core) (lawful : IsLawful c) (known : Recalls c j) where
     there : HeadNow c
     there = head_now c lawful known
 
     head_same : head_of there.view_now ≡ head
-    head_same = ok_same (sym there.answered ∙ is)
+    head_same = sym (read.only (head_of there.view_now) (there.view_now, there.lawful_now, refl) there.spelled)
 
     before : Recalls c k
-    before = recalls_before loaded.loads.later known
+    before = recalls_before loaded.later known
 
     led_there : IsSeen (seen c k) m (Node n h)
     led_there = led.1 c lawful before
@@ -136,7 +135,7 @@ module _ {E : Type 0} (layout : Layout) (k j : Known) (n i : ℕ) (words : List 
       where
         go : (x : Fixed) × (b : Tree) × (led_there.1 ≡ node n x b) × (x.height ≡ h) → IsShaped (seen c j) m n (shape_of head)
         go (x, b, is_node, high) =
-            let inside : led_there.0 ≤ length j.front = le_trans led_there.3 (seen_grown c loaded.loads.later).longer in
+            let inside : led_there.0 ≤ length j.front = le_trans led_there.3 (seen_grown c loaded.later).longer in
             let past : led_there.0 ≤ c.past.now = le_trans led_there.3 (seen_within lawful before) in
             let st = stands_in c k led_there.4 in
             let p = shape ((heap_of c.words).nodes n).page in

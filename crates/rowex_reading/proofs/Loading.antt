@@ -20,25 +20,21 @@ use Rattle.rowex_core.specs.Cores.{Core, IsLawful}
 use Rattle.rowex_core.specs.Knowing.{IsFact, IsFound, StoodAs, StoodBetween, Recalls, IsEvent, facts_with}
 use Rattle.rowex_core.specs.Reading.{entry_of}
 use Rattle.rowex_core.specs.Words.{record_word}
-use Rattle.epochs.specs.Runs.{silent}
-use Rattle.rowex_reading.specs.Seen.{seen, IsLater, Loads}
+use Rattle.rowex_table.specs.Runs.{silent}
+use Rattle.rowex_reading.specs.Seen.{seen, IsLater}
 use Rattle.rowex_reading.proofs.Seeing.{seen_grown, stands_in, stands_seen}
 use Rattle.rowex_reading.proofs.Later.{event_later}
 
 -- One load of a pass that is pinned, at this core: the pass knew k, knows j then, and j has the fact.
 pub record IsTaught (core : Core) (found : Fact) (k j : Known) : Type 0 where
-  pub loads : Loads 1 k j
+  pub later : IsLater k j
   pub front : j.front ≡ core.changes
   pub fact : (c : Core) → Recalls c j → IsFact c.past found
 
 taught : (core : Core) (k j : Known) (p : Pin) (f : ℕ → Fact) (fresh : Fresh) → k.pin ≡ Some p → IsLater k j →
     j ≡ record k { front = core.changes; fresh = fresh; facts = facts_with k.pin f k.facts; steps = k.steps + 1; notes = k.notes ++ [] } → IsTaught core (f p.moment) k j
 taught core k j p f fresh pinned later is = record {
-  loads = record {
-    rest = is ∙ (ap (λ (notes : List Note). let z : Known = record k { front = core.changes; fresh = fresh; facts = facts_with k.pin f k.facts; steps = k.steps + 1; notes = notes } in z) (append-nil k.notes) ∙
-        ap (λ (z : Known). let y : Known = record k { front = z.front; fresh = z.fresh; facts = z.facts; steps = k.steps + 1 } in y) (sym is));
-    later = later;
-  };
+  later = later;
   front = ap (λ (z : Known). z.front) is;
   fact = λ c h. All-head (IsFact c.past) (f p.moment) k.facts (subst (All (IsFact c.past)) facts_are h.facts);
 }

@@ -1,5 +1,5 @@
 -- A search from the root down to a leaf: what it is sure of at each entry that it is led to.
-use Rattle.std.proofs.Common.{◌≡◌, ◌≢◌, ◌⊎◌, inl, inr, ℕ, ◌+◌, ◌*◌, ◌<◌, ◌≤◌, Some, None, sym, subst, ◌∙◌, arith}
+use Rattle.std.proofs.Common.{◌≡◌, ◌≢◌, ◌⊎◌, inl, inr, ℕ, ◌+◌, ◌*◌, ◌<◌, ◌≤◌, Some, None, IsSome, sym, subst, ◌∙◌, arith}
 use Rattle.key_bits.specs.declared.TheConstants.{MAX_BYTES}
 use Rattle.compound_node.specs.Nodes.{HeadView, height_of}
 use Rattle.compound_node.specs.declared.entries.Entry.{Entry}
@@ -16,14 +16,14 @@ use Rattle.moments.specs.declared.Rec.TheVariants.{Leaf as a_leaf}
 use Rattle.moments.proofs.States.{record_of_page}
 use Rattle.rowex_walks.specs.Scan.{IsSeen, IsRooted, IsBlank, IsPlaced, IsShaped, IsRead}
 use Rattle.rowex_walks.proofs.Scans.{led_placed, read_held}
-use Rattle.rowex_table.specs.declared.table.HotTable.{HotTable}
-use Rattle.rowex_table.specs.declared.table.TableSeat.{TableSeat}
-use Rattle.rowex_table.specs.Seats.{known}
+use Rattle.record_words.specs.declared.TheConstants.{HEAD_WORDS, LEAF_FIELDS}
+use Rattle.rowex_core.specs.declared.event.Event.{Event}
+use Rattle.rowex_table.specs.Seats.{TableView, SeatView}
 use Rattle.rowex_reading.specs.Lookups.{HasFound, HasSearched}
 use Rattle.rowex_reading.specs.Reads.{Looks, Reads, ReadsRoot}
 use Rattle.rowex_reading.specs.Seen.{seen, Sure, IsSince, since, IsLedTo, HasPlace, shape_of}
-use Rattle.rowex_reading.proofs.Led.{led_shape, looks_first, looks_on, reads_trans, same_since, shape_place}
-use Rattle.rowex_reading.proofs.Seeing.{sure_on, sure_map, since_later, seen_steady, led_stable, shaped_stable}
+use Rattle.rowex_reading.proofs.Led.{led_shape, looks_first, looks_on, reads_later, reads_trans, root_pinned, same_since, shape_place}
+use Rattle.rowex_reading.proofs.Seeing.{sure_later, sure_map, since_later, seen_steady, led_stable, shaped_stable}
 
 -- Over moments alone
 
@@ -57,109 +57,115 @@ leaf_missed s m steady k n l v (o, fork p x y, lo, hi, st, pg, inl follows) r ne
 
 -- Since its load of the root the pass was led to this entry by its search. It has passed so many nodes, and the root's entry
 -- has this height.
-pub record IsAt (table : HotTable) (a b : TableSeat) (key : Key) (e : Entry) : Type 0 where
+pub record IsAt {G : Type 0} (table : TableView) (becomes : G → Event → G → Type 0) (a b : SeatView × G) (key : Key) (e : Entry) : Type 0 where
   pub height : ℕ
   pub passed : ℕ
   pub loaded : ℕ
   pub falls : passed + height_of e ≤ height
   pub low : height ≤ 9 * MAX_BYTES
-  pub few : loaded ≤ 1 + 26 * passed
-  pub looks : Looks table loaded a b
-  pub pinned : IsSince (known b) (since (known b))
-  pub led : Sure (known b) (λ s. IsLed s (since (known b)) key e)
+  pub few : loaded ≤ 26 * passed
+  pub looks : Looks table becomes loaded a b
+  pub pinned : IsSince b.0.known (since b.0.known)
+  pub led : Sure b.0.known (λ s. IsLed s (since b.0.known) key e)
 
--- the load of the root
-module _ {table : HotTable} {a b : TableSeat} (reads : ReadsRoot table a b) where
-  -- it was empty
-  pub none_searched : HasSearched table a b
-  none_searched = record { nodes = 0; loaded = 1; low = omega arith; few = omega arith; looks = looks_first reads }
+module _ {G : Type 0} {table : TableView} {becomes : G → Event → G → Type 0} where
+  -- the load of the root
+  module _ {a b : SeatView × G} (reads : ReadsRoot table becomes a b) where
+    -- it was empty
+    pub none_searched : HasSearched table becomes a b
+    none_searched = record { nodes = 0; loaded = 0; low = omega arith; few = omega arith; looks = looks_first reads }
 
-  pub none_found : (key : Key) → Sure (known b) (λ s. IsBlank s (since (known b))) → HasFound (known b) key None
-  none_found key blank = sure_map (λ s h. blank_missed s (since (known b)) key h) blank
+    pub none_found : (key : Key) → Sure b.0.known (λ s. IsBlank s (since b.0.known)) → HasFound b.0.known key None
+    none_found key blank = sure_map (λ s h. blank_missed s (since b.0.known) key h) blank
 
-  -- it named an entry
-  pub at_root : (key : Key) (e : Entry) → height_of e ≤ 9 * MAX_BYTES → Sure (known b) (λ s. IsRooted s (since (known b)) e) → IsAt table a b key e
-  at_root key e low rooted = record {
-    height = height_of e;
-    passed = 0;
-    loaded = 1;
-    falls = omega arith;
-    low = low;
-    few = omega arith;
-    looks = looks_first reads;
-    pinned = reads.pinned;
-    led = λ c lawful recalls. rooted_led (seen c (known b)) (since (known b)) (seen_steady lawful recalls reads.pinned) key e (rooted c lawful recalls);
-  }
+    -- it named an entry
+    pub at_root : IsSome a.0.known.pin → (key : Key) (e : Entry) → height_of e ≤ 9 * MAX_BYTES → Sure b.0.known (λ s. IsRooted s (since b.0.known) e) → IsAt table becomes a b key e
+    at_root is key e low rooted =
+        let pinned = root_pinned is reads in
+        record {
+          height = height_of e;
+          passed = 0;
+          loaded = 0;
+          falls = omega arith;
+          low = low;
+          few = omega arith;
+          looks = looks_first reads;
+          pinned = pinned;
+          led = λ c lawful recalls. rooted_led (seen c b.0.known) (since b.0.known) (seen_steady lawful recalls pinned) key e (rooted c lawful recalls);
+        }
 
-module _ {table : HotTable} {a b : TableSeat} {key : Key} {d : Entry} (at : IsAt table a b key d) where
-  -- the search is at an entry, of which the pass knows that it stood in the tree
-  pub at_led : (e : Entry) → d ≡ e → IsLedTo (known b) (since (known b)) e
-  at_led e is = subst (IsLedTo (known b) (since (known b))) is (at.pinned, sure_map (λ s h. led_seen s (since (known b)) key d h) at.led)
+  module _ {a b : SeatView × G} {key : Key} {d : Entry} (at : IsAt table becomes a b key d) where
+    abbrev m : ℕ
+    m = since b.0.known
 
-  -- It is a node, whose head has been read: there is an entry at the key's place.
-  module _ {c : TableSeat} (n height : ℕ) (head : HeadView) (place : ℕ) (is : d ≡ Node n height) (reads : Reads table 25 b c)
-      (told : (m h : ℕ) → IsLedTo (known b) m (Node n h) → (head.height ≡ h) × Sure (known c) (λ s. IsShaped s m n (shape_of head))) (leads : place ≡ spot key (shape_of head)) where
-    shaped : Sure (known c) (λ s. IsShaped s (since (known b)) n (shape_of head))
-    shaped = (told (since (known b)) height (at_led (Node n height) is)).1
+    -- the search is at an entry, of which the pass knows that it stood in the tree
+    pub at_led : (e : Entry) → d ≡ e → IsLedTo b.0.known (since b.0.known) e
+    at_led e is = subst (IsLedTo b.0.known m) is (at.pinned, sure_map (λ s h. led_seen s m key d h) at.led)
 
-    pub at_place : HasPlace (known c) (since (known b)) n height place
-    at_place = shape_place (led_shape (since (known b)) n height (shape_of head) reads (at_led (Node n height) is) shaped)
-        (subst (λ z. z < size (shape_of head)) (sym leads) (spot_below key (shape_of head)))
+    -- It is a node, whose head has been read: there is an entry at the key's place.
+    module _ {c : SeatView × G} (n height : ℕ) (head : HeadView) (place : ℕ) (is : d ≡ Node n height) (reads : Reads table becomes HEAD_WORDS b c)
+        (told : (m h : ℕ) → IsLedTo b.0.known m (Node n h) → (head.height ≡ h) × Sure c.0.known (λ s. IsShaped s m n (shape_of head))) (leads : place ≡ spot key (shape_of head)) where
+      shaped : Sure c.0.known (λ s. IsShaped s m n (shape_of head))
+      shaped = (told m height (at_led (Node n height) is)).1
 
-    -- one node down
-    pub at_next : {i : TableSeat} (e : Entry) → Reads table 1 c i → (height_of e < height) × Sure (known i) (λ s. IsPlaced s (since (known b)) n place e) → IsAt table a i key e
-    at_next {i} e one entry = record {
-      height = at.height;
-      passed = at.passed + 1;
-      loaded = at.loaded + 26;
-      falls = let f : at.passed + height ≤ at.height = subst (λ z. at.passed + height_of z ≤ at.height) is at.falls in let lower = entry.0 in omega arith;
-      low = at.low;
-      few = let f = at.few in omega arith;
-      looks = looks_on at.looks both;
-      pinned = subst (IsSince (known i)) (sym kept) pinned;
-      led = subst (λ m. Sure (known i) (λ s. IsLed s m key e)) (sym kept)
-          (λ o lawful recalls. led_placed (seen o (known i)) (since (known b)) (seen_steady lawful recalls pinned) key n height place (shape_of head) e
-          (shapes o lawful recalls) (sym leads) (entry.1 o lawful recalls) (leads_on o lawful recalls));
-    }
-      where
-        both : Reads table 26 b i
-        both = reads_trans reads one
+      pub at_place : HasPlace c.0.known (since b.0.known) n height place
+      at_place = shape_place (led_shape m n height (shape_of head) reads (at_led (Node n height) is) shaped)
+          (subst (λ z. z < size (shape_of head)) (sym leads) (spot_below key (shape_of head)))
 
-        kept : since (known i) ≡ since (known b)
-        kept = same_since both
+      -- one node down
+      pub at_next : {i : SeatView × G} (e : Entry) → Reads table becomes 1 c i → (height_of e < height) × Sure i.0.known (λ s. IsPlaced s (since b.0.known) n place e) → IsAt table becomes a i key e
+      at_next {i} e one entry = record {
+        height = at.height;
+        passed = at.passed + 1;
+        loaded = at.loaded + 26;
+        falls = let f : at.passed + height ≤ at.height = subst (λ z. at.passed + height_of z ≤ at.height) is at.falls in let lower = entry.0 in omega arith;
+        low = at.low;
+        few = let f = at.few in omega arith;
+        looks = looks_on at.looks both;
+        pinned = subst (IsSince i.0.known) (sym kept) pinned;
+        led = subst (λ o. Sure i.0.known (λ s. IsLed s o key e)) (sym kept)
+            (λ o lawful recalls. led_placed (seen o i.0.known) m (seen_steady lawful recalls pinned) key n height place (shape_of head) e
+            (shapes o lawful recalls) (sym leads) (entry.1 o lawful recalls) (leads_on o lawful recalls));
+      }
+        where
+          both : Reads table becomes 26 b i
+          both = reads_trans reads one
 
-        pinned : IsSince (known i) (since (known b))
-        pinned = since_later both.loads.later at.pinned
+          kept : since i.0.known ≡ m
+          kept = same_since both
 
-        shapes : Sure (known i) (λ s. IsShaped s (since (known b)) n (shape_of head))
-        shapes = sure_on (shaped_stable (since (known b)) n (shape_of head)) one.loads shaped
+          pinned : IsSince i.0.known m
+          pinned = since_later (reads_later both) at.pinned
 
-        leads_on : Sure (known i) (λ s. IsLed s (since (known b)) key (Node n height))
-        leads_on = sure_on (led_stable (since (known b)) key (Node n height)) both.loads (subst (λ z. Sure (known b) (λ s. IsLed s (since (known b)) key z)) is at.led)
+          shapes : Sure i.0.known (λ s. IsShaped s m n (shape_of head))
+          shapes = sure_later (shaped_stable m n (shape_of head)) (reads_later one) shaped
 
-  -- it is a leaf, which has been read
-  module _ {c : TableSeat} (n : ℕ) (is : d ≡ Leaf n) (reads : Reads table 32 b c) (l : Key) (v : ℕ)
-      (told : (m : ℕ) → IsLedTo (known b) m (Leaf n) → Sure (known c) (λ s. IsRead s m n l v)) where
-    read : Sure (known c) (λ s. IsRead s (since (known b)) n l v)
-    read = told (since (known b)) (at_led (Leaf n) is)
+          leads_on : Sure i.0.known (λ s. IsLed s m key (Node n height))
+          leads_on = sure_later (led_stable m key (Node n height)) (reads_later both) (subst (λ z. Sure b.0.known (λ s. IsLed s m key z)) is at.led)
 
-    pub leaf_searched : HasSearched table a c
-    leaf_searched = record {
-      nodes = at.passed;
-      loaded = at.loaded + 32;
-      low = let f = at.falls in let b = at.low in omega arith;
-      few = let f = at.few in omega arith;
-      looks = looks_on at.looks reads;
-    }
+    -- it is a leaf, which has been read
+    module _ {c : SeatView × G} (n : ℕ) (is : d ≡ Leaf n) (reads : Reads table becomes LEAF_FIELDS b c) (l : Key) (v : ℕ)
+        (told : (m : ℕ) → IsLedTo b.0.known m (Leaf n) → Sure c.0.known (λ s. IsRead s m n l v)) where
+      read : Sure c.0.known (λ s. IsRead s m n l v)
+      read = told m (at_led (Leaf n) is)
 
-    pub leaf_held : l ≡ key → HasFound (known c) key (Some v)
-    leaf_held e = subst (λ m. Sure (known c) (λ s. IsHeld s m key v)) (sym (same_since reads))
-        (λ o lawful recalls. subst (λ z. IsHeld (seen o (known c)) (since (known b)) z v) e (read_held (seen o (known c)) (since (known b)) n l v (read o lawful recalls)))
+      pub leaf_searched : HasSearched table becomes a c
+      leaf_searched = record {
+        nodes = at.passed;
+        loaded = at.loaded + 32;
+        low = let f = at.falls in let b = at.low in omega arith;
+        few = let f = at.few in omega arith;
+        looks = looks_on at.looks reads;
+      }
 
-    pub leaf_absent : l ≢ key → HasFound (known c) key None
-    leaf_absent ne = subst (λ m. Sure (known c) (λ s. IsMissed s m key)) (sym (same_since reads))
-        (λ o lawful recalls. leaf_missed (seen o (known c)) (since (known b)) (seen_steady lawful recalls (since_later reads.loads.later at.pinned)) key n l v
-        (led_on o lawful recalls) (read o lawful recalls) (λ e. ne (sym e)))
-      where
-        led_on : Sure (known c) (λ s. IsLed s (since (known b)) key (Leaf n))
-        led_on = sure_on (led_stable (since (known b)) key (Leaf n)) reads.loads (subst (λ z. Sure (known b) (λ s. IsLed s (since (known b)) key z)) is at.led)
+      pub leaf_held : l ≡ key → HasFound c.0.known key (Some v)
+      leaf_held e = subst (λ o. Sure c.0.known (λ s. IsHeld s o key v)) (sym (same_since reads))
+          (λ o lawful recalls. subst (λ z. IsHeld (seen o c.0.known) m z v) e (read_held (seen o c.0.known) m n l v (read o lawful recalls)))
+
+      pub leaf_absent : l ≢ key → HasFound c.0.known key None
+      leaf_absent ne = subst (λ o. Sure c.0.known (λ s. IsMissed s o key)) (sym (same_since reads))
+          (λ o lawful recalls. leaf_missed (seen o c.0.known) m (seen_steady lawful recalls (since_later (reads_later reads) at.pinned)) key n l v
+          (led_there o lawful recalls) (read o lawful recalls) (λ e. ne (sym e)))
+        where
+          led_there : Sure c.0.known (λ s. IsLed s m key (Leaf n))
+          led_there = sure_later (led_stable m key (Leaf n)) (reads_later reads) (subst (λ z. Sure b.0.known (λ s. IsLed s m key z)) is at.led)

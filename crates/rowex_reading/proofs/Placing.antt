@@ -25,15 +25,15 @@ use Rattle.rowex_core.specs.Reading.{entry_of, entry_in}
 use Rattle.rowex_core.specs.Words.{record_word}
 use Rattle.rowex_core.proofs.Reading.{entry_of_word}
 use Rattle.rowex_table.specs.Rule.{IsEntry}
-use Rattle.epochs.specs.Runs.{silent}
+use Rattle.rowex_table.specs.Runs.{silent}
 use Rattle.rowex_walks.specs.Scan.{Stood, IsPlaced}
 use Rattle.rowex_walks.proofs.Ends.{placed_falls}
 use Rattle.rowex_walks.proofs.Loads.{page_at}
 use Rattle.rowex_walks.proofs.Scans.{record_node, shaped}
 use Rattle.rowex_reading.specs.Possible.{IsPossible}
-use Rattle.rowex_reading.specs.Seen.{seen, Sure, Loads, HasRoom, HasPlace, IsLedTo}
-use Rattle.rowex_reading.proofs.Seeing.{recalls_before, seen_steady, room_stable, seen_stable, sure_on, since_on}
-use Rattle.rowex_reading.proofs.Later.{event_knows, event_possible, event_recalls}
+use Rattle.rowex_reading.specs.Seen.{seen, Sure, IsLater, HasRoom, HasPlace, IsLedTo}
+use Rattle.rowex_reading.proofs.Seeing.{recalls_before, seen_steady, room_stable, seen_stable, sure_later, since_later}
+use Rattle.rowex_reading.proofs.Later.{event_knows, event_recalls}
 use Rattle.rowex_reading.proofs.Loading.{IsTaught, slot_taught, taught_now, found_seen}
 use Rattle.rowex_reading.proofs.Standing.{led_in_table, is_packed, entry_spelled}
 
@@ -79,11 +79,8 @@ module _ (layout : Layout) (k j : Known) (n i w : ℕ) (event : IsEvent layout (
     is : IsTaught core (Placed pin.moment core.past.now n i (entry_of (record_word core (a_node n) (26 + i)))) k j
     is = slot_taught layout k j pin has.0.0.1 n i w event
 
-    pub slot_loads : Loads 1 k j
-    slot_loads = is.loads
-
-    pub slot_possible : IsPossible layout j
-    slot_possible = event_possible event
+    pub slot_later : IsLater k j
+    slot_later = is.later
 
     module _ (o : Option Entry) (word : HasEntryWord o) (spells : entry_word o ≡ w) where
       word_is : entry_of (record_word core (a_node n) (26 + i)) ≡ o
@@ -98,15 +95,15 @@ module _ (layout : Layout) (k j : Known) (n i w : ℕ) (event : IsEvent layout (
 
       there : (c : Core) → IsLawful c → Recalls c j → There c
       there c lawful known =
-          let before : Recalls c k = recalls_before slot_loads.later known in
+          let before : Recalls c k = recalls_before slot_later known in
           let found : StoodAs (seen c j) m (length j.front) (a_node n) (λ u. entry_in u i ≡ o) =
-          found_seen core c k j pin.moment m (a_node n) (λ u. entry_in u i ≡ o) (taught_now event.lawful is) slot_loads.later has.0.0.2
+          found_seen core c k j pin.moment m (a_node n) (λ u. entry_in u i ≡ o) (taught_now event.lawful is) slot_later has.0.0.2
           (let s = has.0.1 c lawful before in (s.0, s.1, s.2, s.3, s.4))
           (λ a lo st. let f = (is.fact c known).1 a lo st in (f.0, f.1, f.2, f.3, f.4, f.5 ∙ word_is)) in
           let v = record_node n found.1 found.4.is_record in
           let st : Stood (seen c j) m n v.1 = to_stood (seen c j) m n found.0 found.1 v.0 v.1 v.2 found.2 found.3 found.4 in
-          let room : HasRoom (seen c j) m n i = sure_on {P = λ s. HasRoom s m n i} (room_stable m n i) slot_loads has.1 c lawful known in
-          let same : shape (page v.1) ≡ room.0 = shaped (seen c j) m (seen_steady lawful known (since_on slot_loads has.0.0)) n room.0 v.1 room.1 st in
+          let room : HasRoom (seen c j) m n i = sure_later {P = λ s. HasRoom s m n i} (room_stable m n i) slot_later has.1 c lawful known in
+          let same : shape (page v.1) ≡ room.0 = shaped (seen c j) m (seen_steady lawful known (since_later slot_later has.0.0)) n room.0 v.1 room.1 st in
           let inside : i < size (page v.1) = place_below i (page v.1) room.0 same room.2 in
           record {
             body = v.1;
@@ -132,5 +129,5 @@ module _ (layout : Layout) (k j : Known) (n i w : ℕ) (event : IsEvent layout (
           some_same q = cc
 
       pub slot_lower : (e : Entry) → o ≡ Some e → height_of e < h
-      slot_lower e some = placed_falls (seen core j) m (seen_steady event.lawful now (since_on slot_loads has.0.0)) n h i e
-          (sure_on (seen_stable m (Node n h)) slot_loads has.0.1 core event.lawful now) (slot_placed e some core event.lawful now)
+      slot_lower e some = placed_falls (seen core j) m (seen_steady event.lawful now (since_later slot_later has.0.0)) n h i e
+          (sure_later (seen_stable m (Node n h)) slot_later has.0.1 core event.lawful now) (slot_placed e some core event.lawful now)

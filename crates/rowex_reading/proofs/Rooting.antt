@@ -10,6 +10,7 @@ use Rattle.hot_model.specs.Fronts.{map_of}
 use Rattle.pieces.specs.Piece.{Place}
 use Rattle.record_words.specs.declared.layout.Layout.{Layout}
 use Rattle.record_words.specs.Entry.{HasEntryWord, entry_word}
+use Rattle.record_words.specs.Reading.{IsSpelling}
 use Rattle.tries.specs.Tree.{Tree, leaf, node, fork, page, IsBuilt}
 use Rattle.tries.specs.Content.{Item, items, pairs}
 use Rattle.moments.specs.declared.Pin.{Pin}
@@ -26,11 +27,9 @@ use Rattle.rowex_core.specs.Knowing.{Recalls, IsEvent}
 use Rattle.rowex_core.proofs.Owning.{pin_is}
 use Rattle.rowex_core.specs.Reading.{entry_of, root_of, head_entry}
 use Rattle.rowex_core.proofs.Reading.{entry_of_word}
-use Rattle.epochs.specs.Runs.{silent}
-use Rattle.rowex_reading.specs.Possible.{IsPossible}
-use Rattle.rowex_reading.specs.Seen.{Loads, RootIs, IsSince, since}
+use Rattle.rowex_table.specs.Runs.{silent}
+use Rattle.rowex_reading.specs.Seen.{RootIs, IsSince, since}
 use Rattle.rowex_reading.proofs.Seeing.{seen_told}
-use Rattle.rowex_reading.proofs.Later.{event_possible}
 use Rattle.rowex_reading.proofs.Loading.{IsTaught, root_taught, taught_now}
 
 -- a tree has an item
@@ -71,18 +70,16 @@ low_height (node n x d) e p b = subst (λ (z : Entry). height_of z ≤ 9 * MAX_B
     place_entry q = cc
 low_height (fork q a d) e p b = absurd cc
 
+-- the word is that of the root's entry
+pub root_spelled : (layout : Layout) (k j : Known) (w : ℕ) → IsEvent layout (LoadRef Root w) silent k j → IsSpelling HasEntryWord entry_word w
+root_spelled layout k j w event = (event.core.root, event.lawful.root, sym event.legal.1)
+
 module _ (layout : Layout) (k j : Known) (p : Pin) (pinned : k.pin ≡ Some p) (w : ℕ) (event : IsEvent layout (LoadRef Root w) silent k j) where
   abbrev core : Core
   core = event.core
 
   is : IsTaught core (Rooted p.moment core.past.now core.root) k j
   is = root_taught layout k j p pinned w event
-
-  pub root_loads : Loads 1 k j
-  root_loads = is.loads
-
-  pub root_possible : IsPossible layout j
-  root_possible = event_possible event
 
   fresh_is : j.fresh ≡ record { front = core.changes; step = k.steps }
   fresh_is = ap (λ (z : Known). z.fresh) event.learned_is

@@ -24,7 +24,7 @@ use Rattle.rowex_core.specs.Cores.{Core, IsLawful, view}
 use Rattle.rowex_core.specs.Knowing.{Recalls}
 use Rattle.rowex_walks.specs.Scan.{IsSeen, IsRooted, IsPlaced, IsShaped, IsRead, IsBlank}
 use Rattle.rowex_walks.proofs.Persist.{rooted_on, placed_on, shaped_on, read_on}
-use Rattle.rowex_reading.specs.Seen.{seen, shape_of, Sure, IsStable, IsSince, IsLater, Loads, HasRoom}
+use Rattle.rowex_reading.specs.Seen.{seen, shape_of, Sure, IsStable, IsSince, IsLater, HasRoom}
 
 -- Later on
 
@@ -47,21 +47,6 @@ recalls_before {k} {j} {c} l h = record {
   pin = subst (λ z. c.pins z ≡ j.pin) l.pass h.pin ∙ l.pin;
 }
 
--- Loads
-
-pub loads_trans : {n m : ℕ} {k i j : Known} → Loads n k i → Loads m i j → Loads (n + m) k j
-loads_trans {n} {m} {k} {i} {j} x y = record {
-  rest = y.rest ∙ (ap (λ (z : Known). let w : Known = record z { front = j.front; fresh = j.fresh; facts = j.facts; steps = z.steps + m } in w) x.rest ∙
-      ap (λ (s : ℕ). let w : Known = record k { front = j.front; fresh = j.fresh; facts = j.facts; steps = s } in w) (let e : k.steps + n + m ≡ k.steps + (n + m) = omega arith in e));
-  later = later_trans x.later y.later;
-}
-
-pub loads_none : (k : Known) → Loads 0 k k
-loads_none k = record {
-  rest = ap (λ (s : ℕ). let z : Known = record k { steps = s } in z) (let e : k.steps ≡ k.steps + 0 = omega arith in e);
-  later = later_none k;
-}
-
 -- the moments that it has seen become more
 pub seen_grown : {k j : Known} (c : Core) → IsLater k j → IsGrown (seen c k) (seen c j)
 seen_grown {k} {j} c l = record { longer = omega (arith, ap length l.front.1, length-append k.front l.front.0); kept = λ n a. refl }
@@ -71,17 +56,11 @@ seen_grown {k} {j} c l = record { longer = omega (arith, ap length l.front.1, le
 pub sure_later : {P : Past → Type 0} {k j : Known} → IsStable P → IsLater k j → Sure k P → Sure j P
 sure_later {P} {k} {j} stable l sure c lawful recalls = stable (seen c k) (seen c j) (seen_grown c l) (sure c lawful (recalls_before l recalls))
 
-pub sure_on : {P : Past → Type 0} {n : ℕ} {k j : Known} → IsStable P → Loads n k j → Sure k P → Sure j P
-sure_on {P} stable l = sure_later {P = P} stable l.later
-
 pub sure_map : {P Q : Past → Type 0} {k : Known} → ((s : Past) → P s → Q s) → Sure k P → Sure k Q
 sure_map f sure c lawful recalls = f _ (sure c lawful recalls)
 
 pub since_later : {m : ℕ} {k j : Known} → IsLater k j → IsSince k m → IsSince j m
 since_later l (p, is, low) = (p, l.pin ∙ is, low)
-
-pub since_on : {n m : ℕ} {k j : Known} → Loads n k j → IsSince k m → IsSince j m
-since_on l = since_later l.later
 
 -- The moments that a pass has seen are those of the core up to one of them
 

@@ -15,11 +15,9 @@ use Rattle.rowex_core.specs.Cores.{Core, IsLawful}
 use Rattle.rowex_core.specs.Events.{IsFixedOffset}
 use Rattle.rowex_core.specs.Knowing.{Recalls, IsEvent, StoodAs, StoodBetween}
 use Rattle.rowex_core.specs.Reading.{word_in}
-use Rattle.epochs.specs.Runs.{silent}
-use Rattle.rowex_reading.specs.Possible.{IsPossible}
-use Rattle.rowex_reading.specs.Seen.{seen, Sure, IsStable, IsSince, IsLedTo, Loads}
-use Rattle.rowex_reading.proofs.Seeing.{loads_none, recalls_before, loads_trans, sure_on, since_on, seen_within, stands_in}
-use Rattle.rowex_reading.proofs.Later.{event_possible}
+use Rattle.rowex_table.specs.Runs.{silent}
+use Rattle.rowex_reading.specs.Seen.{seen, Sure, IsStable, IsSince, IsLater, IsLedTo}
+use Rattle.rowex_reading.proofs.Seeing.{later_none, later_trans, recalls_before, sure_later, since_later, seen_within, stands_in}
 use Rattle.rowex_reading.proofs.Loading.{IsTaught, fixed_taught, taught_now, found_seen}
 use Rattle.rowex_reading.proofs.Standing.{word_stays, later_word}
 
@@ -38,64 +36,55 @@ pub led_stood : (k : Known) (m : ℕ) (e : Entry) → IsLedTo k m e → IsStood 
 led_stood k m e led = (led.0, λ c lawful recalls. (let s = led.1 c lawful recalls in (s.0, s.1, s.2, s.3, s.4)))
 
 -- the first n words of the record have been loaded, of a pass that knew k and knows j
-pub record AreLoaded (layout : Layout) (k j : Known) (r : Rec) (n : ℕ) (words : List ℕ) : Type 0 where
-  pub possible : IsPossible layout j
-  pub loads : Loads n k j
-  pub fresh : j.fresh ≡ k.fresh
+pub record AreLoaded (k j : Known) (r : Rec) (n : ℕ) (words : List ℕ) : Type 0 where
+  pub later : IsLater k j
   pub each : (m : ℕ) → IsStood k m r → (o : ℕ) → o < n → Sure j (λ s. HasWord s m r (o + 1) (get_or words o 0))
 
-pub none_loaded : (layout : Layout) (k : Known) (r : Rec) (words : List ℕ) → IsPossible layout k → AreLoaded layout k k r 0 words
-none_loaded layout k r words possible = record {
-  possible = possible;
-  loads = loads_none k;
-  fresh = refl;
-  each = λ m led o low. absurd (omega arith);
-}
+pub none_loaded : (k : Known) (r : Rec) (words : List ℕ) → AreLoaded k k r 0 words
+none_loaded k r words = record { later = later_none k; each = λ m led o low. absurd (omega arith) }
 
 -- one word more
-module _ (layout : Layout) (k j i : Known) (r : Rec) (n w : ℕ) (words : List ℕ) (so_far : AreLoaded layout k j r n words) (room : n < length words)
+module _ (layout : Layout) (k j i : Known) (r : Rec) (n w : ℕ) (words : List ℕ) (so_far : AreLoaded k j r n words) (room : n < length words)
     (event : IsEvent layout (LoadFixed r (n + 1) w) silent j i) where
   is : (p : Pin) → j.pin ≡ Some p → IsTaught event.core (Fixed p.moment event.core.past.now r (n + 1) w) j i
   is p pinned = fixed_taught layout j i p pinned r (n + 1) w event
 
-  pub one_loaded : (m : ℕ) → IsStood k m r → AreLoaded layout k i r (n + 1) (set words n w)
+  pub one_loaded : (m : ℕ) → IsStood k m r → AreLoaded k i r (n + 1) (set words n w)
   one_loaded m stood = record {
-    possible = event_possible event;
-    loads = both;
-    fresh = ap (λ (z : Known). z.fresh) event.learned_is ∙ so_far.fresh;
+    later = both;
     each = λ o from a low. word_at o from a (cases_lt a n) low;
   }
     where
       still : IsSince j m
-      still = since_on so_far.loads stood.0
+      still = since_later so_far.later stood.0
 
       now : IsTaught event.core (Fixed still.0.moment event.core.past.now r (n + 1) w) j i
       now = is still.0 still.1
 
-      both : Loads (n + 1) k i
-      both = loads_trans so_far.loads now.loads
+      both : IsLater k i
+      both = later_trans so_far.later now.later
 
       new_word : (o : ℕ) → IsStood k o r → Sure i (λ s. HasWord s o r (n + 1) w)
       new_word o from c lawful recalls =
-          let since : IsSince j o = since_on so_far.loads from.0 in
+          let since : IsSince j o = since_later so_far.later from.0 in
           let taught = is since.0 since.1 in
-          found_seen event.core c k i since.0.moment o r (λ u. word_in u (n + 1) ≡ w) (taught_now event.lawful taught) both.later since.2 (from.1 c lawful (recalls_before both.later recalls)) (taught.fact c recalls).1
+          found_seen event.core c k i since.0.moment o r (λ u. word_in u (n + 1) ≡ w) (taught_now event.lawful taught) both since.2 (from.1 c lawful (recalls_before both recalls)) (taught.fact c recalls).1
 
       word_at : (o : ℕ) → IsStood k o r → (a : ℕ) → (a < n) ⊎ (n ≤ a) → a < n + 1 → Sure i (λ s. HasWord s o r (a + 1) (get_or (set words n w) a 0))
       word_at o from a (inl older) low =
-          subst (λ z. Sure i (λ s. HasWord s o r (a + 1) z)) (sym (get_or-set_other words n a w 0 (λ e. omega arith))) (sure_on (word_stable o r (a + 1) (get_or words a 0)) now.loads (so_far.each o from a older))
+          subst (λ z. Sure i (λ s. HasWord s o r (a + 1) z)) (sym (get_or-set_other words n a w 0 (λ e. omega arith))) (sure_later (word_stable o r (a + 1) (get_or words a 0)) now.later (so_far.each o from a older))
       word_at o from a (inr newest) low =
           let e : n ≡ a = omega arith in
           subst (λ z. Sure i (λ s. HasWord s o r (z + 1) (get_or (set words n w) z 0))) e
           (subst (λ z. Sure i (λ s. HasWord s o r (n + 1) z)) (sym (get_or-set_same words n w 0 room)) (new_word o from))
 
 -- in each core of which it knows true things, the words are those of the record now
-module _ (layout : Layout) (k j : Known) (r : Rec) (n : ℕ) (words : List ℕ) (loaded : AreLoaded layout k j r n words) (long : length words ≡ n)
+module _ (k j : Known) (r : Rec) (n : ℕ) (words : List ℕ) (loaded : AreLoaded k j r n words) (long : length words ≡ n)
     (fixed : (o : ℕ) → o < n → IsFixedOffset r (o + 1)) (m : ℕ) (stood : IsStood k m r) (c : Core) (lawful : IsLawful c) (known : Recalls c j) where
   word_now : (o : ℕ) → o < n → get_or words o 0 ≡ get_or (c.words r) o 0
   word_now o low =
       let h : HasWord (seen c j) m r (o + 1) (get_or words o 0) = loaded.each m stood o low c lawful known in
-      sym h.5 ∙ (sym (word_stays c j lawful known m (since_on loaded.loads stood.0) h.0 r h.1 h.2 (le_trans h.3 (seen_within lawful known)) (stands_in c j h.4) (o + 1) (fixed o low)) ∙ later_word c r o)
+      sym h.5 ∙ (sym (word_stays c j lawful known m (since_later loaded.later stood.0) h.0 r h.1 h.2 (le_trans h.3 (seen_within lawful known)) (stands_in c j h.4) (o + 1) (fixed o low)) ∙ later_word c r o)
 
   pub words_now : n ≤ length (c.words r) → words ≡ take n (c.words r)
   words_now room = ext_get_or 0 words (take n (c.words r)) (long ∙ sym (length-take-le n (c.words r) room))

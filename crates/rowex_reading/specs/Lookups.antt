@@ -3,20 +3,20 @@ use Rattle.std.specs.Prelude.{ℕ, ◌+◌, ◌*◌, ◌≤◌, Option, Some, No
 use Rattle.key_bits.specs.declared.TheConstants.{MAX_BYTES}
 use Rattle.tries.specs.Keys.{Key}
 use Rattle.moments.specs.State.{IsHeld, IsMissed}
+use Rattle.rowex_core.specs.declared.event.Event.{Event}
 use Rattle.rowex_core.specs.declared.known.Known.{Known}
-use Rattle.rowex_table.specs.declared.table.HotTable.{HotTable}
-use Rattle.rowex_table.specs.declared.table.TableSeat.{TableSeat}
+use Rattle.rowex_table.specs.Seats.{TableView, SeatView}
 use Rattle.rowex_reading.specs.Reads.{Looks}
 use Rattle.rowex_reading.specs.Seen.{Sure, since}
 
--- The pass has searched for a key. On its way were so many nodes, no more than a tree can be high. It made at most one load of
--- the root, 26 of each node and 32 of a leaf, and no other step.
-pub record HasSearched (table : HotTable) (a b : TableSeat) : Type 0 where
+-- The pass has searched for a key. On its way were so many nodes, no more than a tree can be high. It has loaded the root, and
+-- then at most 26 words of each node and 32 of a leaf, and has made no other step.
+pub record HasSearched {G : Type 0} (table : TableView) (becomes : G → Event → G → Type 0) (a b : SeatView × G) : Type 0 where
   pub nodes : ℕ
   pub loaded : ℕ
   pub low : nodes ≤ 9 * MAX_BYTES
-  pub few : loaded ≤ 33 + 26 * nodes
-  pub looks : Looks table loaded a b
+  pub few : loaded ≤ 32 + 26 * nodes
+  pub looks : Looks table becomes loaded a b
 
 -- what a search for the key found: that it had the value, or was absent, at a moment since the last load of the root
 abbrev pub HasFound : Known → Key → Option ℕ → Type 0

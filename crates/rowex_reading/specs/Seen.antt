@@ -1,5 +1,5 @@
 -- What a pass may conclude of the moments that it has seen, and what loads teach it.
-use Rattle.std.specs.Prelude.{◌≡◌, ℕ, ◌+◌, ◌<◌, ◌≤◌, length, All, Option, Some, None}
+use Rattle.std.specs.Prelude.{◌≡◌, ℕ, ◌<◌, ◌≤◌, length, All, Option, Some, None}
 use Rattle.hot_model.specs.Fronts.{OthersGoOn}
 use Rattle.compound_node.specs.Nodes.{HeadView, piece, node_of, leaves}
 use Rattle.compound_node.specs.declared.entries.Entry.{Entry}
@@ -41,11 +41,6 @@ pub record IsLater (k j : Known) : Type 0 where
   pub pin : j.pin ≡ k.pin
   pub front : OthersGoOn k.pass k.front j.front
   pub facts : (s : Past) → All (IsFact s) j.facts → All (IsFact s) k.facts
-
--- The pass has made so many loads, and nothing else: it knew k, and knows j.
-pub record Loads (n : ℕ) (k j : Known) : Type 0 where
-  pub rest : j ≡ record k { front = j.front; fresh = j.fresh; facts = j.facts; steps = k.steps + n }
-  pub later : IsLater k j
 
 -- the forks of a node with this head
 abbrev pub shape_of : HeadView → Page

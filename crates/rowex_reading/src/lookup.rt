@@ -1,7 +1,7 @@
 //! The search for a key, from the root down to a leaf.
 
-ghost use Rattle.std.specs.Prelude.{◌≡◌, IsSome};
-ghost use Rattle.rowex_table.specs.Seats.{known};
+ghost use Rattle.std.specs.Prelude.{IsSome};
+ghost use Rattle.rowex_table.specs.Seats.{IsSeatOf};
 ghost use Rattle.rowex_reading.specs.Lookups.{HasFound, HasSearched};
 
 use crate::reading::{load_entry, load_head, load_leaf, load_root};
@@ -17,10 +17,10 @@ pub fn look_up<G: Gate>(
     key: &Key,
     gate: &mut G,
 ) -> Option<u64>
-    requires own { seat.old.seat.table_id ≡ table.now.table.shared.table_id }
-    requires pinned { IsSome (known seat.old).pin }
-    ensures searched { HasSearched table.now seat.old seat.new }
-    ensures found { HasFound (known seat.new) key.now result }
+    requires own { IsSeatOf table.now seat.old }
+    requires pinned { IsSome seat.old.known.pin }
+    ensures searched { HasSearched table.now G.becomes (seat.old, gate.old) (seat.new, gate.new) }
+    ensures found { HasFound seat.new.known key.now result }
 {
     let mut entry = load_root(table, seat, gate)?;
     loop {

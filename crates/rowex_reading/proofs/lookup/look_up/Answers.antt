@@ -1,11 +1,10 @@
 -- The empty root, the root's entry, one node down, and the leaf.
-use Rattle.std.proofs.Common.{◌<◌, ◌∙◌, refl, sym, subst}
+use Rattle.std.proofs.Common.{◌<◌, refl, sym, subst}
 use Rattle.std.proofs.lemmas.Bool.{false≢true}
 use Rattle.compound_node.specs.Nodes.{height_of}
-use Rattle.rowex_table.specs.Seats.{known}
 use Rattle.rowex_reading.specs.Seen.{since}
 use Rattle.rowex_reading.proofs.Looking.{none_searched, none_found, at_root, at_led, at_place, at_next, leaf_searched, leaf_held, leaf_absent}
-use Rattle.rowex_reading.proofs.Led.{reader_then}
+use Rattle.rowex_reading.proofs.Led.{reader_then, root_reader}
 use Rattle.rowex_reading.proofs.Seeing.{search_spot}
 use Rattle.rowex_reading.proofs.lookup.look_up.Goals as goal
 
@@ -18,10 +17,10 @@ returns-in_err-entry-clause-searched g c = none_searched c.load_root.ensures.rea
 pub loop-entry-init : goal.loop-entry-init
 loop-entry-init g c =
     let r = c.load_root.ensures.reads in
-    record { reader = (r.same.0 ∙ c.requires.own, r.possible); at = at_root r _ c.in_ok-entry.entry c.in_ok-entry.ensures.low c.in_ok-entry.ensures.root }
+    record { reader = root_reader c.requires.own r; at = at_root r c.requires.pinned _ c.in_ok-entry.entry c.in_ok-entry.ensures.low c.in_ok-entry.ensures.root }
 
 pub load_head-head-requires-clause-led : goal.load_head-head-requires-clause-led
-load_head-head-requires-clause-led g c = (since (known c.loop-entry.seat), c.in-Node.height, at_led c.loop-entry.invariant.at _ c.in-Node.is)
+load_head-head-requires-clause-led g c = (since c.loop-entry.seat.known, c.in-Node.height, at_led c.loop-entry.invariant.at _ c.in-Node.is)
 
 pub load_entry-entry-requires-clause-reader : goal.load_entry-entry-requires-clause-reader
 load_entry-entry-requires-clause-reader g c = reader_then c.loop-entry.invariant.reader c.load_head-head.ensures.reads
@@ -30,7 +29,7 @@ pub load_entry-entry-requires-clause-place : goal.load_entry-entry-requires-clau
 load_entry-entry-requires-clause-place g c =
     let leads = search_spot c.load_head-head.result c.args.key.now c.search-place.result c.load_head-head.ensures.lawful c.search-place.ensures.leads in
     let e = c.load_head-head.ensures in (
-      since (known c.loop-entry.seat),
+      since c.loop-entry.seat.known,
       c.in-Node.height,
       at_place c.loop-entry.invariant.at c.in-Node.number c.in-Node.height c.load_head-head.result c.search-place.result c.in-Node.is e.reads e.head leads,
     )
@@ -40,7 +39,7 @@ loop-entry-smaller g c =
     let leads = search_spot c.load_head-head.result c.args.key.now c.search-place.result c.load_head-head.ensures.lawful c.search-place.ensures.leads in
     let e = c.load_head-head.ensures in
     let place = at_place c.loop-entry.invariant.at c.in-Node.number c.in-Node.height c.load_head-head.result c.search-place.result c.in-Node.is e.reads e.head leads in
-    let entry = c.load_entry-entry.ensures.entry (since (known c.loop-entry.seat)) c.in-Node.height place in
+    let entry = c.load_entry-entry.ensures.entry (since c.loop-entry.seat.known) c.in-Node.height place in
     subst (λ z. height_of c.load_entry-entry.result < height_of z) (sym c.in-Node.is) entry.0
 
 pub loop-entry-preserved : goal.loop-entry-preserved
@@ -48,14 +47,14 @@ loop-entry-preserved g c =
     let leads = search_spot c.load_head-head.result c.args.key.now c.search-place.result c.load_head-head.ensures.lawful c.search-place.ensures.leads in
     let e = c.load_head-head.ensures in let i = c.loop-entry.invariant in
     let place = at_place i.at c.in-Node.number c.in-Node.height c.load_head-head.result c.search-place.result c.in-Node.is e.reads e.head leads in
-    let entry = c.load_entry-entry.ensures.entry (since (known c.loop-entry.seat)) c.in-Node.height place in
+    let entry = c.load_entry-entry.ensures.entry (since c.loop-entry.seat.known) c.in-Node.height place in
     record {
       reader = reader_then (reader_then i.reader e.reads) c.load_entry-entry.ensures.reads;
       at = at_next i.at c.in-Node.number c.in-Node.height c.load_head-head.result c.search-place.result c.in-Node.is e.reads e.head leads c.load_entry-entry.result c.load_entry-entry.ensures.reads entry;
     }
 
 pub load_leaf-held-requires-clause-led : goal.load_leaf-held-requires-clause-led
-load_leaf-held-requires-clause-led g c = (since (known c.loop-entry.seat), at_led c.loop-entry.invariant.at _ c.in-Leaf.is)
+load_leaf-held-requires-clause-led g c = (since c.loop-entry.seat.known, at_led c.loop-entry.invariant.at _ c.in-Leaf.is)
 
 pub returns-then-eq : goal.returns-then-eq
 returns-then-eq g c =

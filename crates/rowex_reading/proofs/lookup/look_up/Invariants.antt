@@ -5,7 +5,10 @@ use Rattle.rowex_reading.proofs.Looking.{IsAt}
 use Rattle.rowex_reading.proofs.lookup.look_up.Given as goal
 
 abbrev pub invariant-loop-entry : goal.invariant-loop-entry
-invariant-loop-entry g l = record { reader : IsReader l.table l.seat; at : IsAt l.table l.fn.seat l.seat l.key l.entry }
+invariant-loop-entry g l = record {
+  reader : IsReader l.table l.seat;
+  at : IsAt l.table g.G.Gate.becomes (l.fn.seat, l.fn.gate) (l.seat, l.gate) l.key l.entry;
+}
 
 abbrev pub decreases-loop-entry : goal.decreases-loop-entry
 decreases-loop-entry g l = height_of l.entry
