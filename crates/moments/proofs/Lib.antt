@@ -11,3 +11,4 @@ pub mod Stored
 pub mod Telling
 pub mod Reading
 pub mod Stepping
+pub mod Members

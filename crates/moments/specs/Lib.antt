@@ -6,4 +6,5 @@ pub mod Frames
 pub mod Told
 pub mod Steps
 pub mod Read
+pub mod Trades
 pub mod Statements

@@ -16,3 +16,7 @@ pub mod Staying
 pub mod Writing
 pub mod Promises
 pub mod Runs
+pub mod Bridging
+pub mod Slots
+pub mod Leading
+pub mod Having

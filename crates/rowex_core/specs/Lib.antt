@@ -9,3 +9,5 @@ pub mod Frames
 pub mod Opening
 pub mod Runs
 pub mod Statements
+pub mod Having
+pub mod Writers

@@ -5,6 +5,7 @@
 mod event;
 mod known;
 pub mod laws;
+pub mod writer_laws;
 
 pub use event::{Act, Event, Gate, NoGate, Spot, Target};
 pub use known::{Fact, Failed, Fresh, Holding, Known, Locked, Owned, View};

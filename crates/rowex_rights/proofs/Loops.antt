@@ -1,33 +1,32 @@
 -- The loops before a publish.
-use Rattle.std.proofs.Common.{◌≡◌, ◌≢◌, ◌⊎◌, inl, inr, ℕ, suc, ◌+◌, ◌-◌, ◌<◌, List, [], ◌∷◌, ◌++◌, length, set, map, refl, sym, ap, ap₂, subst, ◌∙◌, arith, append_assoc, length-append}
+use Rattle.std.proofs.Common.{◌≡◌, inl, inr, ℕ, ◌+◌, ◌-◌, List, [], ◌∷◌, ◌++◌, length, set, map, refl, sym, ap, subst, ◌∙◌, arith, append_assoc, length-append}
 use Rattle.std.specs.Prelude.{All}
 use Rattle.std.proofs.lemmas.List.{append-nil, map-append}
 use Rattle.std.proofs.Math.Seq.{set-append_seam}
 use Rattle.hot_model.specs.Fronts.{OthersGoOn}
 use Rattle.record_words.specs.declared.layout.Layout.{Layout}
 use Rattle.moments.specs.declared.Rec.{Rec}
-use Rattle.moments.specs.State.{Past}
 use Rattle.rowex_core.specs.declared.event.Act.TheVariants.{Claim, Fill, Ready, Release}
-use Rattle.rowex_core.specs.declared.known.Holding.{Holding}
 use Rattle.rowex_core.specs.declared.known.Holding.TheVariants.{Held, Ready as IsReady}
 use Rattle.rowex_core.specs.declared.known.Known.{Known}
-use Rattle.rowex_core.specs.declared.known.Owned.{Owned}
-use Rattle.rowex_core.specs.Cores.{Core, HasRecord, word_count_of}
+use Rattle.rowex_core.specs.Cores.{Core}
 use Rattle.rowex_core.specs.Reading.{IsPacked}
-use Rattle.rowex_core.specs.Knowing.{IsEvent, IsFact, claim_learned}
+use Rattle.rowex_core.specs.Knowing.{Knows, IsEvent, IsFact}
+use Rattle.rowex_core.specs.declared.event.Act.{Act}
+use Rattle.rowex_table.specs.Stays.{KeepsRecall, LeavesLocks, LeavesAnchor}
+use Rattle.rowex_table.proofs.ActsLeave.{act_leaves}
 use Rattle.rowex_core.specs.Sharing.{IsOwned}
 use Rattle.rowex_core.proofs.Owning.{knows_all}
-use Rattle.rowex_rights.proofs.Having.{owned_used}
-use Rattle.rowex_rights.specs.Lists.{IsOf, AreApart}
-use Rattle.rowex_rights.specs.Steps.{silent}
-use Rattle.rowex_rights.specs.Stages.{Made, held_as, recs_of}
-use Rattle.rowex_rights.specs.Making.{IsLater, HoldsMade, HasReadied}
-use Rattle.rowex_rights.specs.Loops.{FillsEach, ReadiesEach, ReleasesEach, MakesOne, ReadiesAll, ReleasesAll, HoldsRights}
-use Rattle.rowex_rights.proofs.Members.{of_map, map_of, of_left, of_right, all_of}
-use Rattle.rowex_rights.proofs.Before.{claim_gives_one, fill_gives_first, ready_gives_next, release_gives_rest, recalls_on, claim_leaves}
+use Rattle.rowex_core.proofs.Having.{owned_used}
+use Rattle.moments.specs.Trades.{IsOf, AreApart}
+use Rattle.moments.proofs.Members.{of_map, map_of, of_right, all_of}
+use Rattle.rowex_table.proofs.ActsBefore.{claim_gives_one, fill_gives_first, ready_gives_next, release_gives_rest, recalls_on, claim_leaves}
 use Rattle.rowex_rights.proofs.Rising.{others_on}
+use Rattle.rowex_table.specs.Publishes.{silent}
+use Rattle.rowex_table.specs.Made.{HasReadied, IsLater, Made, held_as, recs_of}
+use Rattle.rowex_rights.specs.Loops.{FillsEach, HoldsRights, MakesOne, ReadiesAll, ReadiesEach, ReleasesAll, StaysLocked}
 
--- ---- What is recalled on and on
+-- What is recalled on and on
 
 pub later_same : (k j : Known) → j ≡ k → IsLater k j
 later_same k j e = record {
@@ -45,7 +44,7 @@ later_on k i j a b = record {
   facts = λ s x. a.facts s (b.facts s x);
 }
 
--- ---- Claim and fills
+-- Claim and fills
 
 fills_first : (layout : Layout) (r : Rec) (news : List Made) → (IsOf r (recs_of news) → ⊥) → (n : ℕ) (done old ws : List ℕ) (k j : Known) → length done ≡ n → length old ≡ length ws →
     k.own ≡ record { rec = r; holding = Held; words = done ++ old } ∷ map (held_as Held) news → FillsEach layout r n ws k j →
@@ -73,9 +72,9 @@ makes_one layout k i j news r words holds size claim fills =
     let begun : i.own ≡ record { rec = r; holding = Held; words = old } ∷ map (held_as Held) news = own ∙ ap (λ z. record { rec = r; holding = Held; words = old } ∷ z) holds.0 in
     let (filled, later, locks, anchor) = fills_first layout r news not_it 0 [] old words i j refl (long ∙ sym size) begun fills in
     let still = claim_leaves layout silent k i r 0 claim in
-    ((filled, (not_it, holds.1)), later_on k i j (recalls_on layout silent k i (Claim r 0) tt claim) later, locks ∙ still.0, anchor ∙ still.1)
+    ((filled, (not_it, holds.1)), (later_on k i j (recalls_on layout silent k i (Claim r 0) tt claim) later, locks ∙ still.0, anchor ∙ still.1))
 
--- ---- All made ready, or given up
+-- All made ready, or given up
 
 recs_append : (us vs : List Made) → recs_of (us ++ vs) ≡ recs_of us ++ recs_of vs
 recs_append us vs = map-append (λ (m : Made). m.rec) us vs
@@ -87,31 +86,45 @@ middle (z ∷ xs) ys x a =
     let m = middle xs ys x a.1 in
     (λ h. elim h [ inl e ↦ a.0 (of_right z xs (x ∷ ys) (inl (sym e))) | inr i ↦ m.0 i ], m.1)
 
-ready_each : (layout : Layout) (done todo : List Made) (k j : Known) → HasReadied k done todo → ReadiesEach layout todo k j → (j.own ≡ map (held_as IsReady) (done ++ todo)) × IsLater k j
+-- a step that leaves the locks and the anchor
+still_locked : (layout : Layout) (k i : Known) (act : Act) → KeepsRecall act → LeavesLocks act → LeavesAnchor act → IsEvent layout act silent k i → StaysLocked k i
+still_locked layout k i act recalls locks anchor e = let n = act_leaves layout k i act e in (recalls_on layout silent k i act recalls e, n.locks locks, n.anchor anchor)
+
+locked_on : (k i j : Known) → StaysLocked k i → StaysLocked i j → StaysLocked k j
+locked_on k i j a b = (later_on k i j a.0 b.0, b.1 ∙ a.1, b.2 ∙ a.2)
+
+locked_same : (k j : Known) → j ≡ k → StaysLocked k j
+locked_same k j e = (later_same k j e, ap (λ (z : Known). z.locks) e, ap (λ (z : Known). z.anchor) e)
+
+ready_each : (layout : Layout) (done todo : List Made) (k j : Known) → HasReadied k done todo → ReadiesEach layout todo k j → (j.own ≡ map (held_as IsReady) (done ++ todo)) × StaysLocked k j
 ready_each layout done [] k j has e =
-    (ap (λ (z : Known). z.own) e ∙ (has.0 ∙ (append-nil (map (held_as IsReady) done) ∙ ap (map (held_as IsReady)) (sym (append-nil done)))), later_same k j e)
+    (ap (λ (z : Known). z.own) e ∙ (has.0 ∙ (append-nil (map (held_as IsReady) done) ∙ ap (map (held_as IsReady)) (sym (append-nil done)))), locked_same k j e)
 ready_each layout done (m ∷ todo) k j has (i, e, rest) =
     let sides = middle (recs_of done) (recs_of todo) m.rec (subst AreApart (recs_append done (m ∷ todo)) has.1) in
     let now = ready_gives_next layout silent k i m done todo e has.0 sides.0 sides.1 in
     let moved : (done ++ m ∷ []) ++ todo ≡ done ++ m ∷ todo = append_assoc done (m ∷ []) todo in
     let next = ready_each layout (done ++ m ∷ []) todo i j (now, subst (λ z. AreApart (recs_of z)) (sym moved) has.1) rest in
-    (next.0 ∙ ap (map (held_as IsReady)) moved, later_on k i j (recalls_on layout silent k i (Ready m.rec) tt e) next.1)
+    (next.0 ∙ ap (map (held_as IsReady)) moved, locked_on k i j (still_locked layout k i (Ready m.rec) tt tt tt e) next.1)
 
 pub readies_all : ReadiesAll
 readies_all layout k j news holds e = ready_each layout [] news k j holds e
 
 pub releases_all : ReleasesAll
-releases_all layout k j [] holds e = (ap (λ (z : Known). z.own) e ∙ holds.0, later_same k j e)
+releases_all layout k j [] holds e = (ap (λ (z : Known). z.own) e ∙ holds.0, locked_same k j e)
 releases_all layout k j (m ∷ news) holds (i, e, rest) =
     let now = release_gives_rest layout silent k i m news e holds.0 holds.1.0 in
     let next = releases_all layout i j news (now, holds.1.1) rest in
-    (next.0, later_on k i j (recalls_on layout silent k i (Release m.rec) tt e) next.1)
+    (next.0, locked_on k i j (still_locked layout k i (Release m.rec) tt tt tt e) next.1)
 
 pub holds_rights : HoldsRights
 holds_rights layout k done todo m has = (
-  λ packed c law at known. (let owned = all_of (IsOwned k.pass c) (held_as Held m) k.own (knows_all c k known).own here in (known.pass, (owned_used c law k.pass (held_as Held m) owned, owned.0, subst (IsPacked m.rec) (sym owned.1) packed))),
-  λ c law at known. (let owned = all_of (IsOwned k.pass c) (held_as Held m) k.own (knows_all c k known).own here in (known.pass, (owned_used c law k.pass (held_as Held m) owned, owned.0))),
+  λ offset w at low c law layout_is known. (let owned = owned_here c known in (known.pass, (owned_used c law k.pass (held_as Held m) owned, owned.0, at, low))),
+  λ packed c law layout_is known. (let owned = owned_here c known in (known.pass, (owned_used c law k.pass (held_as Held m) owned, owned.0, subst (IsPacked m.rec) (sym owned.1) packed))),
+  λ c law layout_is known. (let owned = owned_here c known in (known.pass, (owned_used c law k.pass (held_as Held m) owned, owned.0))),
 )
   where
     here : IsOf (held_as Held m) k.own
     here = subst (IsOf (held_as Held m)) (sym has.0) (of_right (held_as Held m) (map (held_as IsReady) done) (held_as Held m ∷ map (held_as Held) todo) (inl refl))
+
+    owned_here : (c : Core) → Knows c k → IsOwned k.pass c (held_as Held m)
+    owned_here c known = all_of (IsOwned k.pass c) (held_as Held m) k.own (knows_all c k known).own here

@@ -1,40 +1,42 @@
--- The loop that makes the records of a rise: what has risen stays while the pass goes on, and grows by one level.
-use Rattle.std.proofs.Common.{◌≡◌, ◌≢◌, ◌⊎◌, inl, inr, ℕ, ◌+◌, ◌*◌, ◌≤◌, List, [], ◌∷◌, ◌++◌, map, Option, Some, None, refl, sym, ap, ap₂, subst, ◌∙◌, append_assoc}
-use Rattle.std.specs.Prelude.{All}
+-- What has risen stays while the pass goes on, and grows by one step.
+use Rattle.std.proofs.Common.{◌≡◌, ◌≢◌, inl, ℕ, List, [], ◌∷◌, ◌++◌, Some, refl, sym, ap, ap₂, subst, ◌∙◌, append_assoc, arith}
 use Rattle.std.proofs.lemmas.List.Elements.{All-append}
 use Rattle.hot_model.specs.declared.Change.{Change}
 use Rattle.hot_model.specs.Fronts.{OthersGoOn}
-use Rattle.compound_node.specs.Nodes.{NodeView, piece}
+use Rattle.compound_node.specs.Nodes.{piece}
 use Rattle.compound_node.specs.declared.entries.Entry.{Entry}
-use Rattle.compound_node.specs.declared.entries.Entry.TheVariants.{Node}
+use Rattle.compound_node.specs.declared.entries.Entry.TheVariants.{Node, Leaf}
 use Rattle.pieces.specs.Piece.{Place, Fork}
 use Rattle.record_words.specs.declared.layout.Layout.{Layout}
-use Rattle.tries.specs.Keys.{Key}
-use Rattle.tries.specs.Tree.{Page}
+use Rattle.tries.specs.Keys.{Key, bit}
+use Rattle.tries.specs.Tree.{Page, Tree, fork, page, IsTrie, IsBuilt}
 use Rattle.tries.specs.Place.{with_page}
 use Rattle.tries.specs.Content.{Item}
-use Rattle.moments.specs.declared.Rec.{Rec}
-use Rattle.moments.specs.declared.Rec.TheVariants.{Node as a_node}
+use Rattle.moments.specs.declared.Rec.TheVariants.{Node as a_node, Leaf as a_leaf}
 use Rattle.moments.specs.Heap.{NodeWords}
-use Rattle.rowex_walks.specs.Rise.{IsEntryFor, alone, in_node, IsNewPage, IsRise, Side, body, entry, grows, pulls, copies, halves, stays_whole, wraps}
+use Rattle.rowex_walks.specs.Rise.{IsEntryFor, alone, in_node, IsNewPage, IsRise, body, entry, grows, pulls, copies, halves, stays_whole, wraps, entry_news, news_of, gone_of}
 use Rattle.rowex_core.specs.declared.known.Holding.TheVariants.{Ready}
 use Rattle.rowex_core.specs.declared.known.Known.{Known}
 use Rattle.rowex_core.specs.declared.known.Locked.{Locked}
 use Rattle.rowex_core.specs.Reading.{node_of}
 use Rattle.rowex_core.specs.Cores.{Core, bare}
 use Rattle.rowex_core.specs.Sharing.{IsOwned, IsLocked}
-use Rattle.rowex_core.specs.Knowing.{IsFact, Recalls}
-use Rattle.rowex_rights.specs.Lists.{IsOf}
-use Rattle.rowex_rights.specs.Rises.{entry_news, news_of, gone_of}
-use Rattle.rowex_rights.specs.Stages.{Made, IsStage, IsAbove, HasRisen, held_as, recs_of}
-use Rattle.rowex_rights.specs.Making.{IsLater, of_view, MayBeNode, RisenStays, RisesCopied, RisesWrapped, RisesPulled, IsSide, one, anew, RisesHalved}
-use Rattle.rowex_rights.proofs.Members.{of_left, of_right}
-use Rattle.tries.specs.Tree.{Tree, fork, page, IsTrie, IsBuilt}
-use Rattle.rowex_rights.proofs.Climbing.{fork_parts}
+use Rattle.rowex_core.specs.Knowing.{Recalls}
+use Rattle.moments.specs.Trades.{IsOf}
+use Rattle.moments.proofs.Members.{of_left, of_right}
+use Rattle.rowex_walks.proofs.Rising.{fork_parts}
+use Rattle.rowex_walks.proofs.Upwards.{upper_goes_on}
 use Rattle.rowex_rights.proofs.Bounding.{bound_of, tree_risen, bound_risen}
 use Rattle.rowex_rights.proofs.Stages.{node_fixed, locked_node, upper_in, made_node}
+use Rattle.tries.specs.Affected.{page_affected, page_forked, page_grown, IsPartPage, IsFirstBelow}
+use Rattle.moments.specs.Core.{pin_moment}
+use Rattle.moments.specs.State.{IsFrom}
+use Rattle.rowex_walks.specs.Writer.{IsWay, IsFound}
+use Rattle.rowex_table.specs.Made.{IsLater, Made, held_as, recs_of}
+use Rattle.rowex_rights.specs.Stages.{IsStage}
+use Rattle.rowex_rights.specs.Rises.{AboveGoesOn, HasFoundBelow, IsSide, RiseGrows, RiseWhole, RisenStays, RisesCopied, RisesHalved, RisesPulled, RisesWrapped, anew, of_leaf, of_view, one}
 
--- ---- What stays
+-- What stays
 
 pub others_on : (q : ℕ) (a b c : List Change) → OthersGoOn q a b → OthersGoOn q b c → OthersGoOn q a c
 others_on q a b c (x, e, f) (y, g, h) = (x ++ y, g ∙ (ap (λ z. z ++ y) e ∙ append_assoc a x y), All-append (λ (z : Change). z.pass ≢ q) x y f h)
@@ -56,7 +58,7 @@ stage_earlier layout k j later held news c s = record {
 }
 
 pub risen_stays : RisenStays
-risen_stays layout k j later held news since x p l d n r gone risen c stage =
+risen_stays layout k j later held news gone since x p l d n r risen c stage =
     subst (λ q. (i : IsRise (bare c) q since x p l d n r) × (news_of i ≡ recs_of news) × (gone_of i ≡ gone)) (sym later.pass)
     (risen c (stage_earlier layout k j later held news c stage))
 
@@ -64,10 +66,10 @@ risen_stays layout k j later held news since x p l d n r gone risen c stage =
 fewer : (layout : Layout) (k : Known) (held : List Locked) (more news : List Made) (c : Core) → IsStage layout k held (more ++ news) c → IsStage layout k held news c
 fewer layout k held more news c s = record { lawful = s.lawful; layout_is = s.layout_is; recalls = s.recalls; locks = s.locks; made = λ m i. s.made m (of_right m more news i) }
 
--- ---- One level more
+-- One level more
 
 pub rises_copied : RisesCopied
-rises_copied layout k held news since x p l n words gone m view may leaf at risen c stage =
+rises_copied layout k held news gone since x p l leaf n words at m view may risen c stage =
     let less = fewer layout k held (of_view m view ∷ []) news c stage in
     let (i, new, old) = risen c less in
     let bound = bound_risen layout k held news c less since x p l body n words leaf at (piece view) i view may refl in
@@ -75,7 +77,7 @@ rises_copied layout k held news since x p l n words gone m view may leaf at rise
     (copies n (piece view) m (node_fixed view) i page, ap (λ z. a_node m ∷ z) new, ap (λ z. a_node n ∷ z) old)
 
 pub rises_wrapped : RisesWrapped
-rises_wrapped layout k held news since x p l n words gone m view may leaf at risen c stage =
+rises_wrapped layout k held news gone since x p l leaf n words at m view may risen c stage =
     let less = fewer layout k held (of_view m view ∷ []) news c stage in
     let (i, new, old) = risen c less in
     let bound = bound_risen layout k held news c less since x p l entry n words leaf at (piece view) i view may refl in
@@ -83,7 +85,7 @@ rises_wrapped layout k held news since x p l n words gone m view may leaf at ris
     (wraps n (piece view) m (node_fixed view) i page, ap (λ z. a_node m ∷ z) new, old)
 
 pub rises_pulled : RisesPulled
-rises_pulled layout k held news since x p l o n r gone a risen c stage =
+rises_pulled layout k held news gone since x p l o n r a risen c stage =
     let (i, new, old) = risen c stage in
     let u = upper_in layout k held news c stage x.key p o n a in
     let here : (bare c).heap.nodes o ≡ node_of a.upper = (locked_node layout k held news c stage o a.upper a.has_upper).1 in
@@ -101,7 +103,7 @@ recs_append [] vs = refl
 recs_append (u ∷ us) vs = ap (λ z. u.rec ∷ z) (recs_append us vs)
 
 pub rises_halved : RisesHalved
-rises_halved layout k held news since x p l n f words a b gone d e us vs lower upper leaf at risen c stage =
+rises_halved layout k held news gone since x p l leaf n words at f a b d e us vs lower upper risen c stage =
     let less = fewer layout k held vs news c (fewer layout k held us (vs ++ news) c stage) in
     let (i, new, old) = risen c less in
     let (s, pg, trie, built) = tree_risen layout k held news c less since x p l body n words leaf at (Fork f a b) i in
@@ -113,3 +115,42 @@ rises_halved layout k held news since x p l n f words a b gone d e us vs lower u
     let same : entry_news g ++ (entry_news h ++ news_of i) ≡ recs_of (us ++ (vs ++ news)) =
     ap₂ (λ y z. y ++ z) gn (ap₂ (λ y z. y ++ z) hn new ∙ sym (recs_append vs news)) ∙ sym (recs_append us (vs ++ news)) in
     (halves n f a b d e i g h, same, ap (λ z. a_node n ∷ z) old)
+
+-- How it begins
+
+pub found_in : (layout : Layout) (k : Known) (held : List Locked) (news : List Made) (since : ℕ) (x : Item) (p : ℕ) (l : Key) (n : ℕ) (words : List ℕ) → HasFoundBelow k held since x p l n words →
+    (c : Core) → IsStage layout k held news c → IsFound (bare c) k.pass since x p l n × ((bare c).heap.nodes n ≡ node_of words)
+found_in layout k held news since x p l n words f c stage =
+    let (node, same) = locked_node layout k held news c stage n words f.locked in
+    let pinned : pin_moment (c.pins k.pass) ≡ Some f.pin.moment = ap pin_moment (stage.recalls.pin ∙ f.pinned) in
+    let early = f.early in (
+      record {
+        key = f.leaf.key;
+        reach = λ m le. stage.lawful.core.state.reach k.pass f.pin.moment pinned m (omega arith);
+        lock = node.lock;
+        way = subst (λ (z : NodeWords). IsWay c.past since x.key z.page l) (sym same) (f.way c stage.lawful stage.recalls);
+        agree = f.agree;
+        differ = f.differ;
+      },
+      same,
+    )
+
+pub rise_grows : RiseGrows
+rise_grows layout k held since x p l n words f part c stage =
+    let (found, same) = found_in layout k held (of_leaf x ∷ []) since x p l n words f c stage in
+    subst (λ (z : NodeWords). (i : IsRise (bare c) k.pass since x p l body n (page_grown p x.key (Leaf x.number) z.page)) × (news_of i ≡ a_leaf x.number ∷ []) × (gone_of i ≡ [])) same
+    (grows n found (subst (λ (z : NodeWords). IsPartPage (page_affected p x.key z.page)) (sym same) part), refl, refl)
+
+pub rise_whole : RiseWhole
+rise_whole layout k held since x p l n words f first c stage =
+    let (found, same) = found_in layout k held (of_leaf x ∷ []) since x p l n words f c stage in
+    subst (λ (z : NodeWords). (i : IsRise (bare c) k.pass since x p l entry n (page_forked (bit x.key p) p (Leaf x.number) (Place (Node n z.fixed.height)))) × (news_of i ≡ a_leaf x.number ∷ []) × (gone_of i ≡ [])) same
+    (stays_whole n found (subst (λ (z : NodeWords). IsFrom p z.page) (sym same) first), refl, refl)
+
+-- On and on upwards
+
+pub above_goes_on : AboveGoesOn
+above_goes_on layout k held news c stage key p o n a =
+    let u = upper_in layout k held news c stage key p o n a in
+    let (on, upper) = locked_node layout k held news c stage o a.upper a.has_upper in
+    subst (λ (z : NodeWords). IsFirstBelow p z.page) upper (upper_goes_on (bare c) k.pass stage.lawful.core.state key p o n u)

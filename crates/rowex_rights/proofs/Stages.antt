@@ -1,11 +1,9 @@
 -- What holds in each core in which a writer's records are made, from their words and those of its locks.
-use Rattle.std.proofs.Common.{◌≡◌, ◌≢◌, ◌⊎◌, inl, inr, ℕ, ◌+◌, ◌-◌, ◌*◌, ◌<◌, ◌≤◌, ◌^◌, List, [], ◌∷◌, ◌++◌, length, get_or, set, map, Bool, true, false, Option, Some, None, refl, sym, ap, subst, ◌∙◌, arith}
-use Rattle.std.specs.Prelude.{All, if◌then◌else◌}
-use Rattle.std.proofs.lemmas.List.Elements.{All-append}
+use Rattle.std.proofs.Common.{◌≡◌, inl, inr, ℕ, ◌+◌, ◌-◌, ◌*◌, ◌<◌, ◌≤◌, List, length, set, Some, refl, sym, ap, ap₂, subst, ◌∙◌, arith}
+use Rattle.std.specs.Prelude.{All}
 use Rattle.compound_node.specs.declared.entries.Entry.{Entry}
 use Rattle.compound_node.specs.declared.entries.Entry.TheVariants.{Leaf, Node}
-use Rattle.compound_node.specs.Nodes.{NodeView, StandsBelow, IsLawful as IsLawfulNode, height_of, head_of, piece}
-use Rattle.key_bits.specs.Key.{IsKey}
+use Rattle.compound_node.specs.Nodes.{NodeView, StandsBelow, IsLawful as IsLawfulNode, height_of, piece}
 use Rattle.key_bits.specs.declared.TheConstants.{MAX_BYTES}
 use Rattle.pieces.specs.Piece.{Place, Fork, size, places}
 use Rattle.pieces.proofs.Paths.{length-places}
@@ -15,34 +13,35 @@ use Rattle.record_words.specs.Entry.{HasEntryWord, entry_word}
 use Rattle.record_words.specs.Node.{HasNodeWords, node_words}
 use Rattle.record_words.specs.Leaf.{HasLeafWords, leaf_words}
 use Rattle.tries.specs.Keys.{Key}
-use Rattle.tries.specs.Tree.{Fixed, Page, IsFit, first_position}
+use Rattle.tries.specs.Tree.{Fixed, Page, first_position}
 use Rattle.tries.specs.Content.{Item}
 use Rattle.tries.specs.Place.{spot, with_entry}
 use Rattle.tries.specs.Affected.{page_affected, IsLowerPage, IsTipPage, IsFirstBelow}
 use Rattle.tries.specs.Search.{seek}
 use Rattle.tries.proofs.Places.{spot_below}
-use Rattle.moments.specs.declared.Rec.{Rec}
 use Rattle.moments.specs.declared.Rec.TheVariants.{Node as a_node, Leaf as a_leaf}
-use Rattle.moments.specs.Heap.{Heap, NodeWords, LeafWords}
-use Rattle.moments.specs.Core.{InTree, Ready as ReadyBy}
-use Rattle.moments.specs.Steps.{same_rec}
+use Rattle.moments.specs.Heap.{NodeWords}
 use Rattle.moments.proofs.Legal.{same_rec_refl}
-use Rattle.rowex_walks.specs.Writer.{IsNewLeaf, IsStored}
-use Rattle.rowex_walks.specs.Rise.{IsNewPage, IsLockedNode, IsOver, IsUpper, IsSlotStore, IsBelowNode}
+use Rattle.rowex_walks.specs.Writer.{IsNewLeaf}
+use Rattle.rowex_walks.specs.Rise.{IsNewPage, IsLockedNode, IsUpper, IsSlotStore, IsBelowNode}
 use Rattle.rowex_core.specs.declared.event.Spot.TheVariants.{Slot}
 use Rattle.rowex_core.specs.declared.known.Known.{Known}
 use Rattle.rowex_core.specs.declared.known.Locked.{Locked}
 use Rattle.rowex_core.specs.Reading.{node_of, leaf_of, IsPacked}
 use Rattle.rowex_core.specs.Cores.{Core, IsLawful, IsWhole, bare, heap_of}
-use Rattle.rowex_core.specs.Events.{IsPackedAt, IsInTree, stored_words}
-use Rattle.rowex_core.specs.Sharing.{IsLocked}
+use Rattle.rowex_core.specs.Events.{IsPackedAt, IsLockedAt, stored_words}
+use Rattle.rowex_core.specs.Sharing.{IsLocked, IsOwned}
+use Rattle.rowex_core.specs.Knowing.{Knows}
+use Rattle.rowex_core.proofs.Owning.{knows_all, recalls}
+use Rattle.rowex_core.specs.declared.known.Holding.TheVariants.{Ready}
 use Rattle.rowex_core.proofs.Reading.{node_is, leaf_is}
-use Rattle.rowex_core.proofs.Published.{entry_small}
 use Rattle.rowex_core.proofs.Publishing.{other_words}
-use Rattle.rowex_rights.specs.Lists.{IsOf}
-use Rattle.rowex_rights.specs.Stages.{Made, IsStage, IsAbove, held_as}
-use Rattle.rowex_rights.proofs.Members.{of_left, of_right, all_of}
-use Rattle.rowex_rights.proofs.Slots.{stored_packed, stored_node}
+use Rattle.moments.specs.Trades.{IsOf}
+use Rattle.moments.proofs.Members.{of_left, of_right, all_of, map_of}
+use Rattle.rowex_core.proofs.Having.{node_used}
+use Rattle.rowex_core.proofs.Slots.{slot_is_stored}
+use Rattle.rowex_table.specs.Made.{Made, held_as}
+use Rattle.rowex_rights.specs.Stages.{HasReady, IsAbove, IsStage}
 
 node_number : {n o : ℕ} → a_node n ≡ a_node o → n ≡ o
 node_number e = cc
@@ -71,7 +70,7 @@ below_stands h (Leaf n) top word low = (tt, low)
 below_stands h (Node n g) top word low = ((omega (arith, word.1), omega arith), low)
 
 module _ (layout : Layout) (k : Known) (held : List Locked) (news : List Made) (c : Core) (stage : IsStage layout k held news c) where
-  -- ---- Locked nodes
+  -- Locked nodes
 
   pub locked_node : (n : ℕ) (words : List ℕ) → IsOf (record { node = n; words = words }) held → IsLockedNode (bare c) k.pass n × ((bare c).heap.nodes n ≡ node_of words)
   locked_node n words h =
@@ -81,7 +80,7 @@ module _ (layout : Layout) (k : Known) (held : List Locked) (news : List Made) (
   -- the store of an entry at the key's place of a locked node
   pub slot_store : (o j w : ℕ) (words : List ℕ) (key : Key) (e : Entry) → IsOf (record { node = o; words = words }) held → spot key (node_of words).page ≡ j → HasEntryWord (Some e) → entry_word (Some e) ≡ w →
       IsLowerPage (node_of words).fixed.height (Place e) →
-      IsPackedAt c (Slot o j) w × IsSlotStore (bare c) (heap_of (stored_words c (Slot o j) w)) o key e × IsBelowNode (bare c) o e × (j < 32)
+      IsPackedAt c (Slot o j) w × IsSlotStore (bare c) (heap_of (stored_words c (Slot o j) w)) o key e × IsBelowNode (bare c) o e × IsLockedAt c k.pass (Slot o j)
   unfolding IsPacked
   slot_store o j w words key e h at fits is low =
       let (lock, tree, same) = stage.locks (record { node = o; words = words }) h in
@@ -91,19 +90,22 @@ module _ (layout : Layout) (k : Known) (held : List Locked) (news : List Made) (
       let is_node = node_is view (c.words (a_node o)) sized.1 has spells in
       let view_page : (node_of words).page ≡ piece view = ap (λ (z : NodeWords). z.page) (sym now ∙ is_node) in
       let view_height : (node_of words).fixed.height ≡ view.height = ap (λ (z : NodeWords). z.fixed.height) (sym now ∙ is_node) in
-      let inside : j < length view.entries = subst (λ i. i < length view.entries) at (subst (λ q. spot key (node_of words).page < q) (size_is view has.lawful) (subst (λ (q : Page). spot key (node_of words).page < size q) view_page (spot_below key (node_of words).page))) in
+      let inside : j < length view.entries = subst (λ i. i < length view.entries) at
+      (subst (λ q. spot key (node_of words).page < q) (size_is view has.lawful) (subst (λ (q : Page). spot key (node_of words).page < size q) view_page (spot_below key (node_of words).page))) in
       let stands : StandsBelow view.height e = below_stands view.height e has.lawful.bound fits (subst (λ z. IsLowerPage z (Place e)) view_height low) in
-      let here : stored_words c (Slot o j) w (a_node o) ≡ set (c.words (a_node o)) (26 + j - 1) (entry_word (Some e)) = rw (same_rec_refl (a_node o)) (ap (λ z. set (c.words (a_node o)) (26 + j - 1) z) (sym is)) in
-      let after = stored_node view (c.words (a_node o)) has spells j inside e fits stands sized.1 (entry_small (Some e) fits) in
+      let offset : 26 + j - 1 ≡ 25 + j = omega arith in
+      let here : stored_words c (Slot o j) w (a_node o) ≡ set (c.words (a_node o)) (25 + j) (entry_word (Some e)) =
+      rw (same_rec_refl (a_node o)) (ap₂ (λ i z. set (c.words (a_node o)) i z) offset (sym is)) in
+      let (new_has, new_spells, after) = slot_is_stored view (c.words (a_node o)) has spells sized.1 j e inside fits stands in
       let place : j ≡ spot key (node_of (c.words (a_node o))).page = sym at ∙ ap (λ (z : NodeWords). spot key z.page) (sym now) in (
-        subst (IsPacked (a_node o)) (sym here) (stored_packed view (c.words (a_node o)) has spells j inside e fits stands o),
+        subst (IsPacked (a_node o)) (sym here) (record view { entries = set view.entries j e }, new_has, new_spells),
         record {
           others = λ i ne. ap node_of (sym (other_words c o j w (a_node i) (λ z. ne (node_number z))));
           leaves = λ i. ap leaf_of (sym (other_words c o j w (a_leaf i) leaf_node));
           stored = ap node_of here ∙ (after ∙ ap (λ i. let s : NodeWords = record { fixed = (node_of (c.words (a_node o))).fixed; page = with_entry (node_of (c.words (a_node o))).page i e } in s) place);
         },
         subst (λ (z : NodeWords). IsLowerPage z.fixed.height (Place e)) (sym now) low,
-        omega (arith, has.lawful.room),
+        (node_used c stage.lawful o tree, omega (arith, has.lawful.room), lock),
       )
 
   -- a locked node above another one
@@ -119,7 +121,7 @@ module _ (layout : Layout) (k : Known) (held : List Locked) (news : List Made) (
         ];
       }
 
-  -- ---- New records
+  -- New records
 
   pub made_leaf : (x : Item) → IsOf (record { rec = a_leaf x.number; words = leaf_words (x.key, x.value) }) news → HasLeafWords (x.key, x.value) → IsNewLeaf (bare c) k.pass x
   made_leaf x h has =
@@ -143,3 +145,14 @@ module _ (layout : Layout) (k : Known) (held : List Locked) (news : List Made) (
           bound = bound;
         };
       }
+
+-- a core of which all that the pass knows is true is a stage
+pub stage_of : (layout : Layout) (k : Known) (held : List Locked) (news : List Made) → HasReady k held news →
+    (c : Core) → IsLawful c → c.layout ≡ layout → Knows c k → IsStage layout k held news c
+stage_of layout k held news has c law at known = record {
+  lawful = law;
+  layout_is = at;
+  recalls = recalls c k known;
+  locks = λ l i. all_of (IsLocked k.pass c) l k.locks (knows_all c k known).locks (subst (IsOf l) (sym has.locks) i);
+  made = λ m i. all_of (IsOwned k.pass c) (held_as Ready m) k.own (knows_all c k known).own (subst (IsOf (held_as Ready m)) (sym has.own) (map_of (held_as Ready) m news i));
+}

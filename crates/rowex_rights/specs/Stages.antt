@@ -1,8 +1,8 @@
--- What a writer knows before its publish, by lists of its locks and of the records that it makes.
-use Rattle.std.specs.Prelude.{◌≡◌, ◌⊎◌, ℕ, ◌<◌, List, map, All}
-use Rattle.hot_model.specs.Fronts.{OthersGoOn}
+-- What a writer has before its publish, by lists of its locks and of the records that it makes.
+use Rattle.std.specs.Prelude.{◌≡◌, ◌⊎◌, ℕ, List, map}
 use Rattle.compound_node.specs.declared.entries.Entry.TheVariants.{Node}
 use Rattle.record_words.specs.declared.layout.Layout.{Layout}
+use Rattle.record_words.specs.Leaf.{HasLeafWords, leaf_words}
 use Rattle.tries.specs.Keys.{Key}
 use Rattle.tries.specs.Tree.{Page}
 use Rattle.tries.specs.Search.{seek}
@@ -10,39 +10,24 @@ use Rattle.tries.specs.Content.{Item}
 use Rattle.tries.specs.Affected.{page_affected, IsFirstBelow, IsTipPage}
 use Rattle.moments.specs.declared.Rec.{Rec}
 use Rattle.moments.specs.declared.Rec.TheVariants.{Leaf as a_leaf}
-use Rattle.record_words.specs.Leaf.{HasLeafWords, leaf_words}
-use Rattle.rowex_walks.specs.Rise.{Side, IsRise}
-use Rattle.rowex_core.specs.declared.known.Holding.{Holding}
+use Rattle.moments.specs.State.{Past}
+use Rattle.moments.specs.Trades.{IsOf}
+use Rattle.rowex_walks.specs.Rise.{Side, IsRise, news_of, gone_of}
 use Rattle.rowex_core.specs.declared.known.Holding.TheVariants.{Ready}
 use Rattle.rowex_core.specs.declared.known.Known.{Known}
 use Rattle.rowex_core.specs.declared.known.Locked.{Locked}
-use Rattle.rowex_core.specs.declared.known.Owned.{Owned}
-use Rattle.rowex_core.specs.Reading.{node_of}
+use Rattle.rowex_core.specs.Reading.{node_of, leaf_of}
 use Rattle.rowex_core.specs.Cores.{Core, IsLawful, bare}
 use Rattle.rowex_core.specs.Sharing.{IsOwned, IsLocked}
 use Rattle.rowex_core.specs.Knowing.{Recalls}
-use Rattle.rowex_rights.specs.Lists.{IsOf}
-use Rattle.rowex_rights.specs.Rises.{news_of, gone_of}
+use Rattle.rowex_table.specs.Made.{Made, held_as, recs_of}
 
--- a new record, with the words that it is filled with
-pub record Made : Type 0 where
-  pub rec : Rec
-  pub words : List ℕ
+-- It holds of the past of each lawful core in which what the pass recalls is true.
+abbrev pub IsSure : Known → (Past → Type 0) → Type 0
+IsSure k P = (c : Core) → IsLawful c → Recalls c k → P c.past
 
-abbrev pub held_as : Holding → Made → Owned
-held_as h m = record { rec = m.rec; holding = h; words = m.words }
-
-abbrev pub recs_of : List Made → List Rec
-recs_of made = map (λ (m : Made). m.rec) made
-
-abbrev pub nodes_of : List Locked → List ℕ
-nodes_of locks = map (λ (l : Locked). l.node) locks
-
--- among the new records is the leaf with the words of this key and value
-abbrev pub HasLeaf : List Made → Item → Type 0
-HasLeaf news x = IsOf (record { rec = a_leaf x.number; words = leaf_words (x.key, x.value) }) news × HasLeafWords (x.key, x.value)
-
--- A core in which what the pass recalls is true, these nodes are locked with these words, and these records are ready with theirs.
+-- A core in which what the pass recalls is true, these nodes are locked by it with these words, and these records are its own
+-- and ready, with theirs.
 pub record IsStage (layout : Layout) (k : Known) (held : List Locked) (news : List Made) (c : Core) : Type 0 where
   pub lawful : IsLawful c
   pub layout_is : c.layout ≡ layout
@@ -50,18 +35,32 @@ pub record IsStage (layout : Layout) (k : Known) (held : List Locked) (news : Li
   pub locks : (l : Locked) → IsOf l held → IsLocked k.pass c l
   pub made : (m : Made) → IsOf m news → IsOwned k.pass c (held_as Ready m)
 
--- In each such core the page is what comes in the place of node n's body or entry; it links just the records made, the last one
--- first, and unlinks those.
-abbrev pub HasRisen : Layout → Known → List Locked → List Made → ℕ → Item → ℕ → Key → Side → ℕ → Page → List Rec → Type 0
-HasRisen layout k locks made since x p l d n r gone = (c : Core) → IsStage layout k locks made c →
-    (i : IsRise (bare c) k.pass since x p l d n r) × (news_of i ≡ recs_of made) × (gone_of i ≡ gone)
+-- What the pass has is just these locks and these records, which it has made ready.
+pub record HasReady (k : Known) (held : List Locked) (news : List Made) : Type 0 where
+  pub locks : k.locks ≡ held
+  pub own : k.own ≡ map (held_as Ready) news
 
--- By their words, the locked node o's entry on the key's way names the locked node n, and an insertion at p affects just that place.
-pub record IsAbove (locks : List Locked) (key : Key) (p o n : ℕ) : Type 0 where
+-- Among the new records is the leaf with the words of this key and value.
+abbrev pub HasLeaf : List Made → Item → Type 0
+HasLeaf news x = IsOf (record { rec = a_leaf x.number; words = leaf_words (x.key, x.value) }) news × HasLeafWords (x.key, x.value)
+
+-- In each stage the page is what comes in the place of node n's body or entry when the key is added; it links anew just the
+-- records made, the one made last first, and unlinks just those.
+abbrev pub HasRisen : Layout → Known → List Locked → List Made → ℕ → Item → ℕ → Key → Side → ℕ → Page → List Rec → Type 0
+HasRisen layout k held news since x p l d n r gone = (c : Core) → IsStage layout k held news c →
+    (i : IsRise (bare c) k.pass since x p l d n r) × (news_of i ≡ recs_of news) × (gone_of i ≡ gone)
+
+-- By their words, the locked node o's entry on the key's way names the locked node n, and an insertion at p affects no more than
+-- that place.
+pub record IsAbove (held : List Locked) (key : Key) (p o n : ℕ) : Type 0 where
   pub upper : List ℕ
   pub lower : List ℕ
-  pub has_upper : IsOf (record { node = o; words = upper }) locks
-  pub has_lower : IsOf (record { node = n; words = lower }) locks
+  pub has_upper : IsOf (record { node = o; words = upper }) held
+  pub has_lower : IsOf (record { node = n; words = lower }) held
   pub height : ℕ
   pub entry : seek key (node_of upper).page ≡ Node n height
   pub path : IsFirstBelow p (node_of lower).page ⊎ IsTipPage (page_affected p key (node_of upper).page)
+
+-- In each stage leaf j has this key, and this value.
+abbrev pub IsLeafThere : Layout → Known → List Locked → List Made → ℕ → Key → ℕ → Type 0
+IsLeafThere layout k held news j key value = (c : Core) → IsStage layout k held news c → leaf_of (c.words (a_leaf j)) ≡ record { key = key; value = value }

@@ -4,3 +4,6 @@ pub mod Dealing
 pub mod Rights
 pub mod RootRights
 pub mod Running
+pub mod ActsBefore
+pub mod ActsAfter
+pub mod ActsLeave

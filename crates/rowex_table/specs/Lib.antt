@@ -4,3 +4,6 @@ pub mod Rights
 pub mod Runs
 pub mod Seats
 pub mod Statements
+pub mod Made
+pub mod Publishes
+pub mod Stays

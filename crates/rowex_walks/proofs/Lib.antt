@@ -10,7 +10,11 @@ pub mod Growing
 pub mod Standing
 pub mod Removal
 pub mod Steady
+pub mod Trading
+pub mod Differing
 pub mod Rising
+pub mod Upwards
+pub mod Pushing
 pub mod Leaves
 pub mod Taking
 pub mod Scans
@@ -20,3 +24,4 @@ pub mod Persist
 pub mod Fronts
 pub mod Ends
 pub mod Measure
+pub mod Ways

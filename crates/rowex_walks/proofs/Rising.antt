@@ -1,24 +1,24 @@
 -- What a writer has in words makes its publish legal: insertions.
-use Rattle.std.proofs.Common.{◌≡◌, ◌⊎◌, inl, inr, ℕ, refl, ap, ap₂, sym, ◌∙◌, subst, arith, Some}
+use Rattle.std.proofs.Common.{◌≡◌, ◌⊎◌, inl, inr, ℕ, List, [], ◌∷◌, ◌++◌, refl, ap, ap₂, sym, ◌∙◌, subst, arith, Some}
 use Rattle.std.proofs.lemmas.Bool.{le-ltb}
 use Rattle.tries.specs.Keys.{Key, bit}
 use Rattle.compound_node.specs.declared.entries.Entry.{Entry}
 use Rattle.compound_node.specs.declared.entries.Entry.TheVariants.{Leaf, Node}
 use Rattle.pieces.specs.Piece.{Place, Fork}
-use Rattle.tries.specs.Tree.{Fixed, Page, Tree, leaf, node, fork, page, Has, IsTrie, IsTip, IsFork, Within, here, inside, IsFit}
+use Rattle.tries.specs.Tree.{Fixed, Page, Tree, leaf, node, fork, page, Has, IsTrie, IsTip, IsFork, Within, here, inside, IsFit, IsBuilt}
 use Rattle.tries.specs.Search.{child}
 use Rattle.tries.specs.Content.{Item}
 use Rattle.tries.specs.Changes.{put, IsPathBelow, IsFlat}
 use Rattle.tries.specs.Place.{with_page}
 use Rattle.tries.specs.Affected.{affected, IsPart, page_affected, page_forked, page_grown, IsPartPage, IsLowerPage, IsFirstBelow, IsTipPage}
-use Rattle.moments.specs.Heap.{NodeWords, Heap}
-use Rattle.moments.specs.State.{IsFrom, IsLawful}
-use Rattle.moments.specs.Core.{Core, view}
+use Rattle.moments.specs.Heap.{NodeWords, Heap, IsShown}
+use Rattle.moments.specs.State.{IsFrom, IsLawful, Links}
+use Rattle.moments.specs.Core.{Core, view, Ready}
 use Rattle.moments.specs.Steps.{IsLegalPublish}
 use Rattle.rowex_walks.specs.Writer.{added_change, IsStored, IsNewNode, IsNewLeaf, IsFound, IsHalf, one, many, IsGrowth}
-use Rattle.rowex_walks.specs.Rise.{IsNewPage, IsEntryFor, alone, in_node, IsLockedNode, IsUpper, Side, body, entry, IsRise, grows, pulls, copies, halves, stays_whole, wraps, IsSlotStore, IsBelowNode}
+use Rattle.rowex_walks.specs.Rise.{IsNewPage, IsEntryFor, alone, in_node, IsUpper, Side, body, entry, IsRise, grows, pulls, copies, halves, stays_whole, wraps, IsSlotStore, IsBelowNode, entry_news, news_of, gone_of}
 use Rattle.tries.proofs.Tries.{trie_within, built_within, within_trans}
-use Rattle.tries.proofs.Affected.{affected_page, part_page, lower_page, place_page, grown_page}
+use Rattle.tries.proofs.Affected.{affected_page, part_page, part_place, lower_page, place_page, grown_page}
 use Rattle.tries.proofs.Places.{grown}
 use Rattle.moments.proofs.Heaps.{shown_within}
 use Rattle.rowex_walks.proofs.Now.{built_now, shown_now, trie_now}
@@ -26,8 +26,14 @@ use Rattle.rowex_walks.proofs.Cases.{path_rises_node}
 use Rattle.rowex_walks.proofs.Insertions.{with_leaf, part_of}
 use Rattle.rowex_walks.proofs.Growing.{growth_around, growth_open, growth_cut, growth_leaf, growth_beside, growth_slot, growth_root, pulled}
 use Rattle.rowex_walks.proofs.Standing.{stands_now, entry_node, root_node, now_standing, now_rooted}
-use Rattle.rowex_walks.specs.Statements.{InsertInSlot, InsertAtRoot, PushDown}
-use Rattle.tries.proofs.Spots.{IsSpot, page_spot, tip_affected, with_page_entry}
+use Rattle.tries.proofs.Spots.{IsSpot, page_spot, with_page_entry}
+use Rattle.moments.specs.declared.Rec.TheVariants.{Node as a_node, Leaf as a_leaf}
+use Rattle.moments.specs.Trades.{IsOf}
+use Rattle.moments.specs.declared.Rec.{Rec}
+use Rattle.moments.proofs.Members.{of_append, of_left, of_right}
+use Rattle.rowex_walks.proofs.Trading.{IsTrade, old_now, traded_put, grown_trade, open_trade, around_trade, slot_trade}
+use Rattle.rowex_walks.proofs.Differing.{published}
+use Rattle.rowex_walks.specs.Statements.{InsertInSlot, InsertAtRoot}
 
 -- A page's shape is that of its tree.
 fork_of_page : (u : Tree) → (IsTipPage (page u) → ⊥) → IsFork u
@@ -40,10 +46,10 @@ is_tip (leaf n k v) i = tt
 is_tip (node n k v) i = tt
 is_tip (fork n k v) i = i
 
-abbrev IsForkOf : ℕ → Page → Page → Tree → Type 0
+abbrev pub IsForkOf : ℕ → Page → Page → Tree → Type 0
 IsForkOf f a b u = (s : Tree) × (r : Tree) × (u ≡ fork f s r) × (page s ≡ a) × (page r ≡ b)
 
-fork_parts : (u : Tree) (f : ℕ) (a b : Page) → page u ≡ Fork f a b → IsForkOf f a b u
+pub fork_parts : (u : Tree) (f : ℕ) (a b : Page) → page u ≡ Fork f a b → IsForkOf f a b u
 fork_parts (leaf n k v) f a b e = absurd cc
 fork_parts (node n k v) f a b e = absurd cc
 fork_parts (fork q s r) f a b e = let z : q ≡ f = cc in (s, r, ap (λ n. fork n s r) z, cc, cc)
@@ -57,16 +63,74 @@ new_node c q m g r x e i = record {
   fit = subst (IsFit g) (sym e) i.fit;
 }
 
--- A side of a cut body with the entry for it.
-pub half_tree : (c : Core) (q : ℕ) (x : Page) (d : Entry) → IsEntryFor c q x d → (s : Tree) → page s ≡ x → (u : Tree) × (page u ≡ Place d) × IsHalf c q s u
-half_tree c q x d (alone a e) s z = (s, z ∙ e, one (is_tip s (subst IsTipPage (sym (z ∙ e)) tt)))
-half_tree c q x d (in_node m g i) s z = (node m g s, refl, many m g (new_node c q m g s x z i))
-
 -- The whole body is affected where `p` is not above its first fork.
 whole_affected : (p : ℕ) (k : Key) (b : Tree) → IsFork b → IsFrom p (page b) → affected p k b ≡ b
 whole_affected p k (leaf n l v) f i = absurd f
 whole_affected p k (node n x b) f i = absurd f
 whole_affected p k (fork q a b) f i = rw (le-ltb q p i) refl
+
+-- a side of a cut body
+record IsHalfNew (c : Core) (q : ℕ) (d a : Tree) (new : List Rec) : Type 0 where
+  comes : (n : Rec) → Links a n → Links d n ⊎ IsOf n new
+  came : (n : Rec) → IsOf n new → Links a n
+  goes : (n : Rec) → Links d n → Links a n
+  ready : (n : Rec) → IsOf n new → c.fate n ≡ Ready q
+
+-- A side of a cut body with the entry for it.
+half_trade : (c : Core) (q : ℕ) (x : Page) (d : Entry) (i : IsEntryFor c q x d) (s : Tree) → page s ≡ x → (u : Tree) × (page u ≡ Place d) × IsHalf c q s u × IsHalfNew c q s u (entry_news i)
+half_trade c q x d (alone a e) s z = (
+  s,
+  z ∙ e,
+  one (is_tip s (subst IsTipPage (sym (z ∙ e)) tt)),
+  record { comes = λ n h. inl h; came = λ n h. absurd h; goes = λ n h. h; ready = λ n h. absurd h },
+)
+half_trade c q x d (in_node m g i) s z = (
+  node m g s,
+  refl,
+  many m g (new_node c q m g s x z i),
+  record {
+    comes = λ n h. elim h [ inl e ↦ inr (inl e) | inr y ↦ inl y ];
+    came = λ n h. elim h [ inl e ↦ inl e | inr y ↦ absurd y ];
+    goes = λ n h. inr h;
+    ready = λ n h. elim h [ inl e ↦ ap c.fate e ∙ i.fate | inr y ↦ absurd y ];
+  },
+)
+
+-- the cut: what was linked on either side is, with the new nodes
+cut_trade : (c : Core) (q : ℕ) (s : Tree) (f : ℕ) (d e a b : Tree) (new gone us vs : List Rec) → ((n : Rec) → Links s n → ¬ (c.fate n ≡ Ready q)) → IsTrade c q s (fork f d e) new gone →
+    IsHalfNew c q d a us → IsHalfNew c q e b vs → IsTrade c q s (fork f a b) (us ++ (vs ++ new)) gone
+cut_trade c q s f d e a b new gone us vs old t u v = record {
+  trade = record {
+    comes = λ n h. elim h [
+      | inl y ↦ elim (u.comes n y) [ inl z ↦ from n (inl z) | inr z ↦ inr (of_left n us (vs ++ new) z) ]
+      | inr y ↦ elim (v.comes n y) [ inl z ↦ from n (inr z) | inr z ↦ inr (of_right n us (vs ++ new) (of_left n vs new z)) ]
+    ];
+    came = λ n h. elim (of_append n us (vs ++ new) h) [
+      | inl y ↦ inl (u.came n y)
+      | inr y ↦ elim (of_append n vs new y) [ inl z ↦ inr (v.came n z) | inr z ↦ on n (t.trade.came n z) ]
+    ];
+    goes = λ n h. elim (t.trade.goes n h) [ inl y ↦ inl (on n y) | inr y ↦ inr y ];
+    went = λ n h. (let w = t.trade.went n h in (
+      w.0,
+      λ o. elim o [
+        | inl y ↦ elim (u.comes n y) [ inl z ↦ w.1 (inl z) | inr z ↦ old n w.0 (u.ready n z) ]
+        | inr y ↦ elim (v.comes n y) [ inl z ↦ w.1 (inr z) | inr z ↦ old n w.0 (v.ready n z) ]
+      ],
+    ));
+  };
+  apart = t.apart;
+  ready = λ n h. elim (of_append n us (vs ++ new) h) [
+    | inl y ↦ u.ready n y
+    | inr y ↦ elim (of_append n vs new y) [ inl z ↦ v.ready n z | inr z ↦ t.ready n z ]
+  ];
+}
+  where
+    on : (n : Rec) → Links d n ⊎ Links e n → Links a n ⊎ Links b n
+    on n (inl y) = inl (u.goes n y)
+    on n (inr y) = inr (v.goes n y)
+
+    from : (n : Rec) → Links d n ⊎ Links e n → Links s n ⊎ IsOf n (us ++ (vs ++ new))
+    from n h = elim (t.trade.comes n h) [ inl y ↦ inl y | inr y ↦ inr (of_right n us (vs ++ new) (of_right n vs new y)) ]
 
 module _ (c : Core) (q : ℕ) (law : IsLawful (view c)) (t : Tree) (now : c.past.moment c.past.now ≡ Some t) (since : ℕ) (x : Item) (p : ℕ) (l : Key)
     (new : IsNewLeaf c q x) where
@@ -104,10 +168,10 @@ module _ (c : Core) (q : ℕ) (law : IsLawful (view c)) (t : Tree) (now : c.past
           path (inl h) = first_path b at.0 (subst (IsFirstBelow p) (ap (λ (z : NodeWords). z.page) w) h)
           path (inr h) = at.3 p (is_tip (affected p x.key d) (subst IsTipPage (ap (page_affected p x.key) (page_of v) ∙ sym (affected_page p x.key d)) h))
 
-  -- What the rise of a node is the page of: a tree in the place of its body, or of its entry.
-  abbrev HasRisen : Side → ℕ → Page → Type 0
-  HasRisen body n r = (y : Fixed) (b : Tree) → Within (node n y b) t → (s : Tree) × (page s ≡ r) × IsGrowth c q x p b s
-  HasRisen entry n r = (y : Fixed) (b : Tree) → Within (node n y b) t → (s : Tree) × (page s ≡ r) × IsGrowth c q x p (node n y b) s
+  -- What the rise of a node is the page of: a tree in the place of its body, or of its entry; and what it trades.
+  abbrev HasRisen : Side → ℕ → Page → List Rec → List Rec → Type 0
+  HasRisen body n r us gs = (y : Fixed) (b : Tree) → Within (node n y b) t → (s : Tree) × (page s ≡ r) × IsGrowth c q x p b s × IsTrade c q b s us gs
+  HasRisen entry n r us gs = (y : Fixed) (b : Tree) → Within (node n y b) t → (s : Tree) × (page s ≡ r) × IsGrowth c q x p (node n y b) s × IsTrade c q (node n y b) s us gs
 
   -- The node is locked.
   rise_locked : (d : Side) (n : ℕ) (r : Page) → IsRise c q since x p l d n r → c.lock n ≡ Some q
@@ -118,42 +182,72 @@ module _ (c : Core) (q : ℕ) (law : IsLawful (view c)) (t : Tree) (now : c.past
   rise_locked d o r (stays_whole n found i) = found.lock
   rise_locked d o r (wraps n s m g i z) = rise_locked entry n s i
 
+  trie_in : {s : Tree} → Within s t → IsTrie s
+  trie_in w = trie_within w (trie_now c law t now)
+
+  built_in : {s : Tree} → Within s t → IsBuilt s
+  built_in w = built_within w (built_now c law t now)
+
+  shown_in : {s : Tree} → Within s t → IsShown c.heap s
+  shown_in w = shown_within c.heap w (shown_now c law t now)
+
+  part_trade : {n : ℕ} {y : Fixed} (b : Tree) → Within (node n y b) t →
+      IsTrade c q (affected p x.key b) (grown (bit x.key p) p (affected p x.key b) x) (a_leaf x.number ∷ []) []
+  part_trade b v = grown_trade c q law t now x p new (affected p x.key b) (within_trans (part_place p x.key b).0 (within_trans (inside here) v))
+
   rise_grows : (n : ℕ) → IsFound c q since x p l n → IsPartPage (page_affected p x.key (c.heap.nodes n).page) →
-      HasRisen body n (page_grown p x.key (Leaf x.number) (c.heap.nodes n).page)
+      HasRisen body n (page_grown p x.key (Leaf x.number) (c.heap.nodes n).page) (a_leaf x.number ∷ []) []
   rise_grows n found i y b v = (
     with_leaf x p b,
     place_page p x b ∙ ap (page_grown p x.key (Leaf x.number)) (sym (page_of v)),
     growth_leaf c q law t now since x p l new v found (part_here v i),
+    record {
+      trade = traded_put c.heap (part_place p x.key b).0 (grown (bit x.key p) p (affected p x.key b) x) (a_leaf x.number ∷ []) [] (trie_in (within_trans (inside here) v)) (built_in (within_trans (inside here) v)) (shown_in (within_trans (inside here) v))
+          (part_trade b v).trade;
+      ready = (part_trade b v).ready;
+      apart = tt;
+    },
   )
 
-  rise_pulls : (o n : ℕ) (r : Page) → IsUpper c q x.key p o n → HasRisen entry n r → HasRisen body o (with_page x.key r (c.heap.nodes o).page)
-  rise_pulls o n r u f z d v =
+  rise_pulls : (o n : ℕ) (r : Page) (us gs : List Rec) → IsUpper c q x.key p o n → HasRisen entry n r us gs → HasRisen body o (with_page x.key r (c.heap.nodes o).page) us gs
+  rise_pulls o n r us gs u f z d v =
       let (y, b, w, flat, path, pages) = child_of v u in
-      let (s, e, a) = f y b (within_trans w (within_trans (inside here) v)) in (
+      let (s, e, a, tr) = f y b (within_trans w (within_trans (inside here) v)) in (
         put w s,
         pages s ∙ (ap (λ z. with_page x.key z (page d)) e ∙ ap (with_page x.key r) (sym (page_of v))),
         pulled c q law t now since x p l new v w flat path s a,
+        record {
+          trade = traded_put c.heap w s us gs (trie_in (within_trans (inside here) v)) (built_in (within_trans (inside here) v)) (shown_in (within_trans (inside here) v)) tr.trade;
+          ready = tr.ready;
+          apart = tr.apart;
+        },
       )
 
-  rise_copies : (n : ℕ) (r : Page) (m : ℕ) (g : Fixed) → c.lock n ≡ Some q → HasRisen body n r → IsNewPage c q m g r → HasRisen entry n (Place (Node m g.height))
-  rise_copies n r m g lock f i y b v =
-      let (s, e, a) = f y b v in
-      (node m g s, refl, growth_open c q x p b (node m g s) n y (growth_around c q x p b s m g a (new_node c q m g s r e i)) lock)
+  rise_copies : (n : ℕ) (r : Page) (m : ℕ) (g : Fixed) (us gs : List Rec) → c.lock n ≡ Some q → HasRisen body n r us gs → IsNewPage c q m g r → HasRisen entry n (Place (Node m g.height)) (a_node m ∷ us) (a_node n ∷ gs)
+  rise_copies n r m g us gs lock f i y b v =
+      let (s, e, a, tr) = f y b v in (
+        node m g s,
+        refl,
+        growth_open c q x p b (node m g s) n y (growth_around c q x p b s m g a (new_node c q m g s r e i)) lock,
+        open_trade c q law t now v (node m g s) (a_node m ∷ us) gs (around_trade c q law t now b s m g us gs (within_trans (inside here) v) i.fate tr),
+      )
 
-  rise_halves : (n f : ℕ) (a b : Page) (d e : Entry) → c.lock n ≡ Some q → HasRisen body n (Fork f a b) → IsEntryFor c q a d → IsEntryFor c q b e →
-      HasRisen entry n (Fork f (Place d) (Place e))
-  rise_halves n f a b d e lock h i j y o v =
-      let (s, z, k) = h y o v in
+  rise_halves : (n f : ℕ) (a b : Page) (d e : Entry) (us gs : List Rec) → c.lock n ≡ Some q → HasRisen body n (Fork f a b) us gs → (i : IsEntryFor c q a d) (j : IsEntryFor c q b e) →
+      HasRisen entry n (Fork f (Place d) (Place e)) (entry_news i ++ (entry_news j ++ us)) (a_node n ∷ gs)
+  rise_halves n f a b d e us gs lock h i j y o v =
+      let (s, z, k, tr) = h y o v in
       let (u, w, is, pu, pw) = fork_parts s f a b z in
-      let (u', eu, hu) = half_tree c q a d i u pu in
-      let (w', ew, hw) = half_tree c q b e j w pw in (
+      let (u', eu, hu, nu) = half_trade c q a d i u pu in
+      let (w', ew, hw, nw) = half_trade c q b e j w pw in (
         fork f u' w',
         ap₂ (Fork f) eu ew,
         growth_open c q x p o (fork f u' w') n y (growth_cut c q x p o f u w u' w' (subst (IsGrowth c q x p o) is k) hu hw) lock,
+        open_trade c q law t now v (fork f u' w') (entry_news i ++ (entry_news j ++ us)) gs
+            (cut_trade c q o f u w u' w' us gs (entry_news i) (entry_news j) (old_now c q law t now (within_trans (inside here) v)) (subst (λ z. IsTrade c q o z us gs) is tr) nu nw),
       )
 
   rise_whole : (n : ℕ) → IsFound c q since x p l n → IsFrom p (c.heap.nodes n).page →
-      HasRisen entry n (page_forked (bit x.key p) p (Leaf x.number) (Place (Node n (c.heap.nodes n).fixed.height)))
+      HasRisen entry n (page_forked (bit x.key p) p (Leaf x.number) (Place (Node n (c.heap.nodes n).fixed.height))) (a_leaf x.number ∷ []) []
   rise_whole n found i y b v =
       let two : IsFork b = (built_within v (built_now c law t now)).0 in
       let whole : affected p x.key b ≡ b = whole_affected p x.key b two (subst (IsFrom p) (page_of v) i) in
@@ -161,81 +255,64 @@ module _ (c : Core) (q : ℕ) (law : IsLawful (view c)) (t : Tree) (now : c.past
         grown (bit x.key p) p (node n y b) x,
         grown_page (bit x.key p) p (node n y b) x ∙ ap (λ h. page_forked (bit x.key p) p (Leaf x.number) (Place (Node n h))) height,
         growth_beside c q law t now since x p l new v found (subst IsPart (sym whole) (part_of b two)) v (λ k h. subst (λ u. Has u k) (sym whole) h),
+        grown_trade c q law t now x p new (node n y b) v,
       )
 
-  rise_wraps : (n : ℕ) (r : Page) (m : ℕ) (g : Fixed) → HasRisen entry n r → IsNewPage c q m g r → HasRisen entry n (Place (Node m g.height))
-  rise_wraps n r m g f i y b v =
-      let (s, e, a) = f y b v in (node m g s, refl, growth_around c q x p (node n y b) s m g a (new_node c q m g s r e i))
+  rise_wraps : (n : ℕ) (r : Page) (m : ℕ) (g : Fixed) (us gs : List Rec) → HasRisen entry n r us gs → IsNewPage c q m g r → HasRisen entry n (Place (Node m g.height)) (a_node m ∷ us) gs
+  rise_wraps n r m g us gs f i y b v =
+      let (s, e, a, tr) = f y b v in (node m g s, refl, growth_around c q x p (node n y b) s m g a (new_node c q m g s r e i), around_trade c q law t now (node n y b) s m g us gs v i.fate tr)
 
   -- The fold over the path.
-  risen : (d : Side) (n : ℕ) (r : Page) → IsRise c q since x p l d n r → HasRisen d n r
+  pub risen : (d : Side) (n : ℕ) (r : Page) (i : IsRise c q since x p l d n r) → HasRisen d n r (news_of i) (gone_of i)
   risen d o r (grows n found i) = rise_grows n found i
-  risen d o r (pulls k n s u i) = rise_pulls k n s u (risen entry n s i)
-  risen d o r (copies n s m g i z) = rise_copies n s m g (rise_locked body n s i) (risen body n s i) z
-  risen d o r (halves n f a b e h i u v) = rise_halves n f a b e h (rise_locked body n (Fork f a b) i) (risen body n (Fork f a b) i) u v
+  risen d o r (pulls k n s u i) = rise_pulls k n s (news_of i) (gone_of i) u (risen entry n s i)
+  risen d o r (copies n s m g i z) = rise_copies n s m g (news_of i) (gone_of i) (rise_locked body n s i) (risen body n s i) z
+  risen d o r (halves n f a b e h i u v) = rise_halves n f a b e h (news_of i) (gone_of i) (rise_locked body n (Fork f a b) i) (risen body n (Fork f a b) i) u v
   risen d o r (stays_whole n found i) = rise_whole n found i
-  risen d o r (wraps n s m g i z) = rise_wraps n s m g (risen entry n s i) z
+  risen d o r (wraps n s m g i z) = rise_wraps n s m g (news_of i) (gone_of i) (risen entry n s i) z
 
   -- The publish, at an entry of a locked node.
-  rise_slot : (o n : ℕ) (e : Entry) → IsRise c q since x p l entry n (Place e) → IsUpper c q x.key p o n → IsBelowNode c o e →
-      (heap : Heap) → IsSlotStore c heap o x.key e → (r : Tree) × IsLegalPublish c q heap c.root (Some r) (added_change q x)
-  rise_slot o n e i u low heap st = go (stands_now c law t now o u.over.locked.linked u.over.locked.fate)
-    where
-      go : (d : Tree) × Within (node o (c.heap.nodes o).fixed d) t × (page d ≡ (c.heap.nodes o).page) → (r : Tree) × IsLegalPublish c q heap c.root (Some r) (added_change q x)
-      go (d, v, pg) =
-          let (y, b, w, flat, path, pages) = child_of v u in
-          let (s, z, a) = risen entry n (Place e) i y b (within_trans w (within_trans (inside here) v)) in
-          let stored : IsStored c.heap heap o (page (put w s)) =
-          subst (IsStored c.heap heap o)
-          (sym (with_page_entry x.key e (c.heap.nodes o).page) ∙ (ap (with_page x.key (Place e)) (sym pg) ∙ (ap (λ r. with_page x.key r (page d)) (sym z) ∙ sym (pages s)))) st in (
-            put v (node o (c.heap.nodes o).fixed (put w s)),
-            growth_slot c q law t now since x p l new v w flat tt path u.over.locked.lock s (is_tip s (subst IsTipPage (sym z) tt))
-                (lower_page (c.heap.nodes o).fixed.height s (subst (IsLowerPage (c.heap.nodes o).fixed.height) (sym z) low)) a heap stored,
-          )
+  pub rise_slot : (o n : ℕ) (e : Entry) (i : IsRise c q since x p l entry n (Place e)) → IsUpper c q x.key p o n → IsBelowNode c o e →
+      (heap : Heap) → IsSlotStore c heap o x.key e → (r : Tree) × IsLegalPublish c q heap c.root (Some r) (added_change q x) × IsTrade c q t r (news_of i) (gone_of i)
+  rise_slot o n e i u low heap st =
+      let (d, v, pg) = stands_now c law t now o u.over.locked.linked u.over.locked.fate in
+      let (y, b, w, flat, path, pages) = child_of v u in
+      let (s, z, a, tr) = risen entry n (Place e) i y b (within_trans w (within_trans (inside here) v)) in
+      let stored : IsStored c.heap heap o (page (put w s)) =
+      subst (IsStored c.heap heap o)
+      (sym (with_page_entry x.key e (c.heap.nodes o).page) ∙ (ap (with_page x.key (Place e)) (sym pg) ∙ (ap (λ r. with_page x.key r (page d)) (sym z) ∙ sym (pages s)))) st in (
+        put v (node o (c.heap.nodes o).fixed (put w s)),
+        growth_slot c q law t now since x p l new v w flat tt path u.over.locked.lock s (is_tip s (subst IsTipPage (sym z) tt))
+            (lower_page (c.heap.nodes o).fixed.height s (subst (IsLowerPage (c.heap.nodes o).fixed.height) (sym z) low)) a heap stored,
+        slot_trade c q law t now v w s (news_of i) (gone_of i) tr,
+      )
 
   -- At the root.
-  rise_root : (n h : ℕ) (e : Entry) → IsRise c q since x p l entry n (Place e) → c.anchor ≡ Some q → c.root ≡ Some (Node n h) →
-      (r : Tree) × IsLegalPublish c q c.heap (Some e) (Some r) (added_change q x)
+  pub rise_root : (n h : ℕ) (e : Entry) (i : IsRise c q since x p l entry n (Place e)) → c.anchor ≡ Some q → c.root ≡ Some (Node n h) →
+      (r : Tree) × IsLegalPublish c q c.heap (Some e) (Some r) (added_change q x) × IsTrade c q t r (news_of i) (gone_of i)
   rise_root n h e i lock root =
       let (y, b, is) = root_node c law t now n h root in
-      let (s, z, a) = risen entry n (Place e) i y b (subst (Within (node n y b)) (sym is) here) in
-      (s, growth_root c q law t now since x p l new s e z lock (subst (λ u. IsGrowth c q x p u s) (sym is) a))
+      let (s, z, a, tr) = risen entry n (Place e) i y b (subst (Within (node n y b)) (sym is) here) in
+      (s, growth_root c q law t now since x p l new s e z lock (subst (λ u. IsGrowth c q x p u s) (sym is) a), subst (λ u. IsTrade c q u s (news_of i) (gone_of i)) (sym is) tr)
 
-  -- Leaf pushdown: a new node of the one affected leaf and the new one, at an entry of the lowest locked node.
-  push_down : (n j m : ℕ) (g : Fixed) → IsFound c q since x p l n → IsLockedNode c q n → page_affected p x.key (c.heap.nodes n).page ≡ Place (Leaf j) →
-      IsNewPage c q m g (page_forked (bit x.key p) p (Leaf x.number) (Place (Leaf j))) → IsBelowNode c n (Node m g.height) →
-      (heap : Heap) → IsSlotStore c heap n x.key (Node m g.height) → (r : Tree) × IsLegalPublish c q heap c.root (Some r) (added_change q x)
-  push_down n j m g found locked alone_affected i low heap st = go (stands_now c law t now n locked.linked locked.fate)
-    where
-      go : (b : Tree) × Within (node n (c.heap.nodes n).fixed b) t × (page b ≡ (c.heap.nodes n).page) → (r : Tree) × IsLegalPublish c q heap c.root (Some r) (added_change q x)
-      go (b, v, pg) =
-          let y = (c.heap.nodes n).fixed in
-          let part_page_is : page (affected p x.key b) ≡ Place (Leaf j) = affected_page p x.key b ∙ (ap (page_affected p x.key) pg ∙ alone_affected) in
-          let tip : IsTip (affected p x.key b) = is_tip (affected p x.key b) (subst IsTipPage (sym part_page_is) tt) in
-          let is_part : IsPart (affected p x.key b) = part_page (affected p x.key b) (subst IsPartPage (sym part_page_is) tt) in
-          let (w, flat, pages, path) = subst (IsSpot x.key b) (sym (tip_affected p x.key b tip)) (page_spot x.key b) in
-          let s = grown (bit x.key p) p (affected p x.key b) x in
-          let s_page : page s ≡ page_forked (bit x.key p) p (Leaf x.number) (Place (Leaf j)) =
-          grown_page (bit x.key p) p (affected p x.key b) x ∙ ap (page_forked (bit x.key p) p (Leaf x.number)) part_page_is in
-          let stored : IsStored c.heap heap n (page (put w (node m g s))) =
-          subst (IsStored c.heap heap n)
-          (sym (with_page_entry x.key (Node m g.height) (c.heap.nodes n).page) ∙ (ap (with_page x.key (Place (Node m g.height))) (sym pg) ∙ sym (pages (node m g s)))) st in (
-            put v (node n y (put w (node m g s))),
-            growth_slot c q law t now since x p l new v w flat tip (path p tip) locked.lock (node m g s) tt low
-                (growth_around c q x p (affected p x.key b) s m g
-                (growth_beside c q law t now since x p l new v found is_part (within_trans w (within_trans (inside here) v)) (λ k h. h))
-                (new_node c q m g s _ s_page i)) heap stored,
-          )
+-- The new leaf is among the records of a rise.
+pub leaf_risen : {c : Core} {q since : ℕ} {x : Item} {p : ℕ} {l : Key} {d : Side} {n : ℕ} {r : Page} (i : IsRise c q since x p l d n r) → IsOf (a_leaf x.number) (news_of i)
+leaf_risen (grows n found i) = inl refl
+leaf_risen (pulls o n r u i) = leaf_risen i
+leaf_risen (copies n r m g i z) = inr (leaf_risen i)
+leaf_risen {x = x} (halves n f a b d e i u v) = of_right (a_leaf x.number) (entry_news u) (entry_news v ++ news_of i) (of_right (a_leaf x.number) (entry_news v) (news_of i) (leaf_risen i))
+leaf_risen (stays_whole n found i) = inl refl
+leaf_risen (wraps n r m g i z) = inr (leaf_risen i)
 
 -- The same with no tree named: what is locked, or the root's entry, stands in the present tree.
 pub insert_slot : InsertInSlot
 insert_slot c q law since x p l new o n e i u low heap st =
-    let (t, now) = now_standing c law o u.over.locked.linked u.over.locked.fate in rise_slot c q law t now since x p l new o n e i u low heap st
+    let (t, now) = now_standing c law o u.over.locked.linked u.over.locked.fate in
+    let (r, legal, trade) = rise_slot c q law t now since x p l new o n e i u low heap st in
+    published c q law t now heap c.root (added_change q x) r x.number (news_of i) (gone_of i) legal trade (inl (leaf_risen i))
 
 pub insert_root : InsertAtRoot
 insert_root c q law since x p l new n h e i lock root =
-    let (t, now) = now_rooted c law (Node n h) root in rise_root c q law t now since x p l new n h e i lock root
-
-pub insert_pushed : PushDown
-insert_pushed c q law since x p l new n j m g found locked is i low heap st =
-    let (t, now) = now_standing c law n locked.linked locked.fate in push_down c q law t now since x p l new n j m g found locked is i low heap st
+    let (t, now) = now_rooted c law (Node n h) root in
+    let (r, legal, trade) = rise_root c q law t now since x p l new n h e i lock root in
+    published c q law t now c.heap (Some e) (added_change q x) r x.number (news_of i) (gone_of i) legal trade (inl (leaf_risen i))

@@ -3,3 +3,4 @@ pub mod Writer
 pub mod Rise
 pub mod Scan
 pub mod Statements
+pub mod Ways

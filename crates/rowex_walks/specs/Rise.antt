@@ -1,5 +1,5 @@
 -- What a writer has checked and prepared, in words: locked nodes with their pages, new records with theirs.
-use Rattle.std.specs.Prelude.{◌≡◌, ◌⊎◌, ℕ, Some}
+use Rattle.std.specs.Prelude.{◌≡◌, ◌⊎◌, ℕ, List, [], ◌∷◌, ◌++◌, Some}
 use Rattle.tries.specs.Keys.{Key, bit}
 use Rattle.compound_node.specs.declared.entries.Entry.{Entry}
 use Rattle.compound_node.specs.declared.entries.Entry.TheVariants.{Leaf, Node}
@@ -11,7 +11,8 @@ use Rattle.tries.specs.Place.{spot, with_entry, with_page}
 use Rattle.tries.specs.Affected.{page_affected, page_forked, page_grown, IsPartPage, IsLowerPage, IsFirstBelow, IsTipPage}
 use Rattle.moments.specs.Heap.{Heap}
 use Rattle.moments.specs.State.{IsFrom}
-use Rattle.moments.specs.declared.Rec.TheVariants.{Node as a_node}
+use Rattle.moments.specs.declared.Rec.{Rec}
+use Rattle.moments.specs.declared.Rec.TheVariants.{Node as a_node, Leaf as a_leaf}
 use Rattle.moments.specs.Core.{Ready, InTree, Core}
 use Rattle.rowex_walks.specs.Writer.{IsFound, IsStored}
 
@@ -69,6 +70,29 @@ pub data IsRise (c : Core) (q since : ℕ) (x : Item) (p : ℕ) (l : Key) : Side
       IsRise c q since x p l entry n (page_forked (bit x.key p) p (Leaf x.number) (Place (Node n (c.heap.nodes n).fixed.height)))
   -- a fork in a node of its own: an intermediate node, a new root
   wraps : (n : ℕ) (r : Page) (m : ℕ) (g : Fixed) → IsRise c q since x p l entry n r → IsNewPage c q m g r → IsRise c q since x p l entry n (Place (Node m g.height))
+
+-- The new record of such an entry, if there is one.
+abbrev pub entry_news : {c : Core} {q : ℕ} {x : Page} {e : Entry} → IsEntryFor c q x e → List Rec
+entry_news (alone e h) = []
+entry_news (in_node m g i) = a_node m ∷ []
+
+-- The records that a rise links anew, the one made last first: of a cut the upper half is made before the lower one.
+abbrev pub news_of : {c : Core} {q since : ℕ} {x : Item} {p : ℕ} {l : Key} {d : Side} {n : ℕ} {r : Page} → IsRise c q since x p l d n r → List Rec
+news_of {x = x} (grows n found i) = a_leaf x.number ∷ []
+news_of (pulls o n r u i) = news_of i
+news_of (copies n r m g i z) = a_node m ∷ news_of i
+news_of (halves n f a b d e i u v) = entry_news u ++ (entry_news v ++ news_of i)
+news_of {x = x} (stays_whole n found i) = a_leaf x.number ∷ []
+news_of (wraps n r m g i z) = a_node m ∷ news_of i
+
+-- And those that it unlinks: each node that was copied or cut, the topmost first.
+abbrev pub gone_of : {c : Core} {q since : ℕ} {x : Item} {p : ℕ} {l : Key} {d : Side} {n : ℕ} {r : Page} → IsRise c q since x p l d n r → List Rec
+gone_of (grows n found i) = []
+gone_of (pulls o n r u i) = gone_of i
+gone_of (copies n r m g i z) = a_node n ∷ gone_of i
+gone_of (halves n f a b d e i u v) = a_node n ∷ gone_of i
+gone_of (stays_whole n found i) = []
+gone_of (wraps n r m g i z) = gone_of i
 
 -- A locked node's entry on the key's way names leaf `j`, which has the key.
 pub record IsLeafOf (c : Core) (q : ℕ) (k : Key) (n j : ℕ) : Type 0 where

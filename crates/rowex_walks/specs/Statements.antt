@@ -1,5 +1,5 @@
 -- The laws of walks.
-use Rattle.std.specs.Prelude.{◌≡◌, ◌≢◌, ◌⊎◌, ℕ, ◌++◌, List, length, Option, Some, None, false, true, ◌≤◌, ◌<◌}
+use Rattle.std.specs.Prelude.{◌≡◌, ◌≢◌, ◌⊎◌, ℕ, ◌++◌, List, [], ◌∷◌, length, Option, Some, None, false, true, ◌≤◌, ◌<◌}
 use Rattle.hot_model.specs.declared.Change.{Change}
 use Rattle.hot_model.specs.declared.Scan.{Scan as Answer}
 use Rattle.hot_model.specs.Scans.{IsLawfulScan}
@@ -12,36 +12,48 @@ use Rattle.tries.specs.Tree.{Fixed, Tree, Page}
 use Rattle.tries.specs.Search.{seek}
 use Rattle.tries.specs.Content.{Item}
 use Rattle.tries.specs.Place.{page_without, spot, entry_at, shape}
-use Rattle.tries.specs.Affected.{page_affected, page_forked}
+use Rattle.tries.specs.Affected.{page_affected, page_forked, IsFirstBelow}
 use Rattle.moments.specs.Heap.{Heap}
 use Rattle.moments.specs.State.{State, Past, IsLawful, IsReach, IsSteady, IsLed, IsMissed, IsHeld}
-use Rattle.moments.specs.declared.Rec.TheVariants.{Node as a_node}
+use Rattle.moments.specs.declared.Rec.{Rec}
+use Rattle.moments.specs.declared.Rec.TheVariants.{Node as a_node, Leaf as a_leaf}
+use Rattle.moments.specs.Trades.{HasTraded}
 use Rattle.moments.specs.Core.{Core, view, InTree}
 use Rattle.moments.specs.declared.Pin.{Pin}
-use Rattle.moments.specs.Told.{IsTold}
+use Rattle.moments.specs.Told.{IsTold, items_of}
 use Rattle.moments.specs.Steps.{IsLegalPublish}
 use Rattle.rowex_walks.specs.Writer.{item, added_change, replaced_change, removed_change, IsFound, IsNewLeaf}
-use Rattle.rowex_walks.specs.Rise.{IsNewPage, IsEntryFor, IsLockedNode, IsOver, IsUpper, IsLeafOf, entry, IsRise, IsSlotStore, IsBelowNode}
+use Rattle.rowex_walks.specs.Rise.{IsNewPage, IsEntryFor, IsLockedNode, IsOver, IsUpper, IsLeafOf, entry, IsRise, entry_news, news_of, gone_of, IsSlotStore, IsBelowNode}
 use Rattle.rowex_walks.specs.Scan.{Pair, Range, IsComplete, IsCut, turned, IsRooted, IsPlaced, IsShaped, IsRead, IsSeen}
 use Rattle.compound_node.specs.Nodes.{height_of}
 use Rattle.moments.specs.Frames.{IsFrame}
 
--- The store is a legal publish of some tree, and tells this change.
-abbrev pub IsPublished : Core → ℕ → Heap → Option Entry → Change → Type 0
-IsPublished c q heap root x = (r : Tree) × IsLegalPublish c q heap root (Some r) x
+-- The store is a legal publish of this tree, which may be empty, and tells this change: the leaves are others than before, just
+-- the records `new` are linked anew, and just the records `gone` are linked no more.
+pub record IsPublished (c : Core) (q : ℕ) (heap : Heap) (root : Option Entry) (x : Change) (new gone : List Rec) : Type 0 where
+  pub tree : Option Tree
+  pub legal : IsLegalPublish c q heap root tree x
+  pub differs : items_of (c.past.moment c.past.now) ≢ items_of tree
+  pub trade : HasTraded (c.past.moment c.past.now) tree new gone
 
 -- Insertion: normal, with intermediate node, or with pull ups, stored in the node above the last one that changes.
 abbrev pub InsertInSlot : Type 0
 InsertInSlot =
     (c : Core) (q : ℕ) → IsLawful (view c) → (since : ℕ) (x : Item) (p : ℕ) (l : Key) → IsNewLeaf c q x → (o n : ℕ) (e : Entry) →
-    IsRise c q since x p l entry n (Place e) → IsUpper c q x.key p o n → IsBelowNode c o e →
-    (heap : Heap) → IsSlotStore c heap o x.key e → IsPublished c q heap c.root (added_change q x)
+    (i : IsRise c q since x p l entry n (Place e)) → IsUpper c q x.key p o n → IsBelowNode c o e →
+    (heap : Heap) → IsSlotStore c heap o x.key e → IsPublished c q heap c.root (added_change q x) (news_of i) (gone_of i)
 
 -- Insertion stored at the root: a copy of the topmost node, or a new root.
 abbrev pub InsertAtRoot : Type 0
 InsertAtRoot =
     (c : Core) (q : ℕ) → IsLawful (view c) → (since : ℕ) (x : Item) (p : ℕ) (l : Key) → IsNewLeaf c q x → (n h : ℕ) (e : Entry) →
-    IsRise c q since x p l entry n (Place e) → c.anchor ≡ Some q → c.root ≡ Some (Node n h) → IsPublished c q c.heap (Some e) (added_change q x)
+    (i : IsRise c q since x p l entry n (Place e)) → c.anchor ≡ Some q → c.root ≡ Some (Node n h) →
+    IsPublished c q c.heap (Some e) (added_change q x) (news_of i) (gone_of i)
+
+-- Where a locked node's place of the node below is all that an insertion at p affects, its own first fork is before p: so the node
+-- above it needs no other check than that its entry names it.
+abbrev pub UpperGoesOn : Type 0
+UpperGoesOn = (c : Core) (q : ℕ) → IsLawful (view c) → (k : Key) (p o n : ℕ) → IsUpper c q k p o n → IsFirstBelow p (c.heap.nodes o).page
 
 -- Leaf pushdown: a new node of the one affected leaf and the new one.
 abbrev pub PushDown : Type 0
@@ -49,51 +61,51 @@ PushDown =
     (c : Core) (q : ℕ) → IsLawful (view c) → (since : ℕ) (x : Item) (p : ℕ) (l : Key) → IsNewLeaf c q x → (n j m : ℕ) (g : Fixed) →
     IsFound c q since x p l n → IsLockedNode c q n → page_affected p x.key (c.heap.nodes n).page ≡ Place (Leaf j) →
     IsNewPage c q m g (page_forked (bit x.key p) p (Leaf x.number) (Place (Leaf j))) → IsBelowNode c n (Node m g.height) →
-    (heap : Heap) → IsSlotStore c heap n x.key (Node m g.height) → IsPublished c q heap c.root (added_change q x)
+    (heap : Heap) → IsSlotStore c heap n x.key (Node m g.height) → IsPublished c q heap c.root (added_change q x) (a_node m ∷ a_leaf x.number ∷ []) []
 
 -- Upsert of a held key, in a node and at the root.
 abbrev pub UpsertInSlot : Type 0
 UpsertInSlot =
     (c : Core) (q : ℕ) → IsLawful (view c) → (n j : ℕ) (x : Item) → IsLockedNode c q n → seek x.key (c.heap.nodes n).page ≡ Leaf j →
     (c.heap.leaves j).key ≡ x.key → IsNewLeaf c q x → (heap : Heap) → IsSlotStore c heap n x.key (Leaf x.number) →
-    IsPublished c q heap c.root (replaced_change q x)
+    IsPublished c q heap c.root (replaced_change q x) (a_leaf x.number ∷ []) (a_leaf j ∷ [])
 
 abbrev pub UpsertAtRoot : Type 0
 UpsertAtRoot =
     (c : Core) (q : ℕ) → IsLawful (view c) → (j : ℕ) (x : Item) → c.anchor ≡ Some q → c.root ≡ Some (Leaf j) →
-    (c.heap.leaves j).key ≡ x.key → IsNewLeaf c q x → IsPublished c q c.heap (Some (Leaf x.number)) (replaced_change q x)
+    (c.heap.leaves j).key ≡ x.key → IsNewLeaf c q x → IsPublished c q c.heap (Some (Leaf x.number)) (replaced_change q x) (a_leaf x.number ∷ []) (a_leaf j ∷ [])
 
 -- The first key, and the second.
 abbrev pub FirstKey : Type 0
 FirstKey =
     (c : Core) (q : ℕ) → IsLawful (view c) → (x : Item) → c.anchor ≡ Some q → c.root ≡ None → IsNewLeaf c q x →
-    IsPublished c q c.heap (Some (Leaf x.number)) (added_change q x)
+    IsPublished c q c.heap (Some (Leaf x.number)) (added_change q x) (a_leaf x.number ∷ []) []
 
 abbrev pub SecondKey : Type 0
 SecondKey =
     (c : Core) (q : ℕ) → IsLawful (view c) → (j p m : ℕ) (g : Fixed) (x : Item) → c.anchor ≡ Some q → c.root ≡ Some (Leaf j) →
     AgreeBelow p x.key (c.heap.leaves j).key → bit x.key p ≢ bit (c.heap.leaves j).key p → IsNewLeaf c q x →
     IsNewPage c q m g (page_forked (bit x.key p) p (Leaf x.number) (Place (Leaf j))) →
-    IsPublished c q c.heap (Some (Node m g.height)) (added_change q x)
+    IsPublished c q c.heap (Some (Node m g.height)) (added_change q x) (a_node m ∷ a_leaf x.number ∷ []) []
 
 -- Removal of an entry: what is left of its node, one entry or a new node, takes the node's place, in a node or at the root.
 abbrev pub RemoveInSlot : Type 0
 RemoveInSlot =
     (c : Core) (q : ℕ) → IsLawful (view c) → (k : Key) (n j : ℕ) → IsLeafOf c q k n j → (o : ℕ) (e : Entry) →
-    IsEntryFor c q (page_without k (c.heap.nodes n).page) e → IsOver c q k o n → IsBelowNode c o e →
-    (heap : Heap) → IsSlotStore c heap o k e → IsPublished c q heap c.root (removed_change q (item j k (c.heap.leaves j).value))
+    (i : IsEntryFor c q (page_without k (c.heap.nodes n).page) e) → IsOver c q k o n → IsBelowNode c o e → (heap : Heap) → IsSlotStore c heap o k e →
+    IsPublished c q heap c.root (removed_change q (item j k (c.heap.leaves j).value)) (entry_news i) (a_node n ∷ a_leaf j ∷ [])
 
 abbrev pub RemoveAtRoot : Type 0
 RemoveAtRoot =
     (c : Core) (q : ℕ) → IsLawful (view c) → (k : Key) (n j : ℕ) → IsLeafOf c q k n j → (h : ℕ) (e : Entry) →
-    IsEntryFor c q (page_without k (c.heap.nodes n).page) e → c.anchor ≡ Some q → c.root ≡ Some (Node n h) →
-    IsPublished c q c.heap (Some e) (removed_change q (item j k (c.heap.leaves j).value))
+    (i : IsEntryFor c q (page_without k (c.heap.nodes n).page) e) → c.anchor ≡ Some q → c.root ≡ Some (Node n h) →
+    IsPublished c q c.heap (Some e) (removed_change q (item j k (c.heap.leaves j).value)) (entry_news i) (a_node n ∷ a_leaf j ∷ [])
 
 -- Removal of the last key.
 abbrev pub RemoveLast : Type 0
 RemoveLast =
     (c : Core) (q : ℕ) → IsLawful (view c) → (j : ℕ) → c.anchor ≡ Some q → c.root ≡ Some (Leaf j) →
-    IsLegalPublish c q c.heap None None (removed_change q (item j (c.heap.leaves j).key (c.heap.leaves j).value))
+    IsPublished c q c.heap None (removed_change q (item j (c.heap.leaves j).key (c.heap.leaves j).value)) [] (a_leaf j ∷ [])
 
 -- A lookup that was led to a leaf: the leaf's key tells whether its key was held, with this value, or absent meanwhile.
 abbrev pub GetEnds : Type 0

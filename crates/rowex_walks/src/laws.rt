@@ -1,6 +1,7 @@
 //! The laws of walks. The functions do nothing: their contracts are the laws.
 
-ghost use Rattle.rowex_walks.specs.Statements.{FirstKey, FoundIsKept, GetEnds, InsertAtRoot, InsertInSlot, LedPlaced, LoadsLeaf, LoadsNone, LoadsPlace, LoadsRoot, LoadsShape, PushDown, RemoveAtRoot, RemoveInSlot, RemoveLast, ScanCompletes, ScanIsCut, SecondKey, UpsertAtRoot, UpsertInSlot};
+ghost use Rattle.rowex_walks.specs.Ways.{OneBody, StillGrows, StillPlaced, StillRooted, WayBegins, WayEnds, WayGoesOn, WayIsBelow, WayOfLeaf};
+ghost use Rattle.rowex_walks.specs.Statements.{FirstKey, FoundIsKept, GetEnds, InsertAtRoot, InsertInSlot, LedPlaced, LoadsLeaf, LoadsNone, LoadsPlace, LoadsRoot, LoadsShape, PushDown, RemoveAtRoot, RemoveInSlot, RemoveLast, ScanCompletes, ScanIsCut, SecondKey, UpperGoesOn, UpsertAtRoot, UpsertInSlot};
 
 /// An insertion that was checked under its locks, of any case that ends in a node, is a legal publish that adds the key.
 pub fn insert_in_slot()
@@ -10,6 +11,11 @@ pub fn insert_in_slot()
 /// An insertion that ends at the root is a legal publish that adds the key.
 pub fn insert_at_root()
     ensures { InsertAtRoot }
+{}
+
+/// Up from a locked node whose place alone is affected, each node above is so too.
+pub fn upper_goes_on()
+    ensures { UpperGoesOn }
 {}
 
 /// A leaf pushdown is a legal publish that adds the key.
@@ -100,4 +106,49 @@ pub fn scan_completes()
 /// A scan that was cut at its limit is lawful.
 pub fn scan_is_cut()
     ensures { ScanIsCut }
+{}
+
+/// The descent of a writer below its lock begins at a node of which it has read the forks,
+pub fn way_begins()
+    ensures { WayBegins }
+{}
+
+/// goes on by each entry that it reads, whatever is published in between,
+pub fn way_goes_on()
+    ensures { WayGoesOn }
+{}
+
+/// and ends at a leaf: before the first node's first fork its key agrees with a key that the node had.
+pub fn way_ends()
+    ensures { WayEnds }
+{}
+
+/// Or it begins and ends at a leaf.
+pub fn way_of_leaf()
+    ensures { WayOfLeaf }
+{}
+
+/// From the entry of a locked node on, it is the way below that node.
+pub fn way_is_below()
+    ensures { WayIsBelow }
+{}
+
+/// If nothing changes after the load of the root, the search is at it,
+pub fn still_rooted()
+    ensures { StillRooted }
+{}
+
+/// and at each entry that is read from there on,
+pub fn still_placed()
+    ensures { StillPlaced }
+{}
+
+/// and this stays true.
+pub fn still_grows()
+    ensures { StillGrows }
+{}
+
+/// At one moment a node stands at one place.
+pub fn one_body()
+    ensures { OneBody }
 {}

@@ -1,0 +1,23 @@
+//! The laws of a writer's publish, in words. The functions do nothing: their contracts are the laws.
+
+ghost use Rattle.rowex_core.specs.Writers.{LedIsInTree, PublishIsLegal, PublishLeaves, SlotIsStored};
+
+/// A store that moments allow as a publish is a legal publish of the word, of the tree that the words show then.
+pub fn publish_is_legal()
+    ensures { PublishIsLegal }
+{}
+
+/// A node's words with one entry stored spell the node with that entry.
+pub fn slot_is_stored()
+    ensures { SlotIsStored }
+{}
+
+/// A node to which a pass was led since its pin is in the tree, if its state is that of a live record.
+pub fn led_is_in_tree()
+    ensures { LedIsInTree }
+{}
+
+/// After a publish a pass owns just what it has unlinked, and has locked just what is still linked.
+pub fn publish_leaves()
+    ensures { PublishLeaves }
+{}

@@ -1,0 +1,82 @@
+-- From the publish to a pass that has nothing of its own and no lock.
+use Rattle.std.specs.Prelude.{◌≡◌, ℕ, List, [], ◌∷◌, Option, None, IsSome}
+use Rattle.hot_model.specs.declared.Change.{Change}
+use Rattle.record_words.specs.declared.layout.Layout.{Layout}
+use Rattle.moments.specs.declared.Rec.{Rec}
+use Rattle.moments.specs.Trades.{AreApart}
+use Rattle.rowex_core.specs.declared.event.Act.TheVariants.{Unlock, Mark, LoadEpoch}
+use Rattle.rowex_core.specs.declared.event.Target.TheVariants.{Anchor, Node as NodeTarget}
+use Rattle.rowex_core.specs.declared.known.Known.{Known}
+use Rattle.rowex_core.specs.Having.{OwnsJust, LocksJust, IsDue}
+use Rattle.rowex_core.specs.Knowing.{IsEvent}
+use Rattle.rowex_table.specs.Rule.{MayStep}
+use Rattle.rowex_table.specs.Publishes.{HasPublished, silent}
+
+-- After the epoch was loaded: just these records are the pass's own, each unlinked before that load, and just those nodes are
+-- locked by it; the epoch is that of its round.
+pub record IsEnding (k : Known) (epoch : ℕ) (recs : List Rec) (nodes : List ℕ) : Type 0 where
+  pub own : OwnsJust k.own (IsDue k.round.moment) recs
+  pub locks : LocksJust k.locks nodes
+  pub recs_apart : AreApart recs
+  pub nodes_apart : AreApart nodes
+  pub epoch_is : epoch ≡ k.round.epoch
+
+-- what the pass has seen is the same, and so is the anchor's lock
+abbrev pub SeesTheSame : Known → Known → Type 0
+SeesTheSame k j = (j.front ≡ k.front) × (j.anchor ≡ k.anchor)
+
+-- nothing is the pass's own, and nothing is locked
+pub record IsAtRest (k : Known) : Type 0 where
+  pub own : k.own ≡ []
+  pub locks : k.locks ≡ []
+  pub anchor : k.anchor ≡ None
+
+-- The load of the epoch begins the end,
+abbrev pub EndBegins : Type 0
+EndBegins =
+    (layout : Layout) (k j i : Known) (x : Change) (was : Option ℕ) (gone : List Rec) (kept : List ℕ) (epoch : ℕ) → HasPublished k j x was gone kept →
+    AreApart kept → IsEvent layout (LoadEpoch epoch) silent j i → IsEnding i epoch gone kept × SeesTheSame j i
+
+-- then the first record may be marked, and the rest is left,
+abbrev pub EndMarks : Type 0
+EndMarks =
+    (layout : Layout) (k : Known) (epoch : ℕ) (r : Rec) (rs : List Rec) (ns : List ℕ) → IsEnding k epoch (r ∷ rs) ns →
+    MayStep layout (λ found. Mark r epoch) k × ((j : Known) → IsEvent layout (Mark r epoch) silent k j → IsEnding j epoch rs ns × SeesTheSame k j)
+
+-- and so for the first node that is locked,
+abbrev pub EndUnlocks : Type 0
+EndUnlocks =
+    (layout : Layout) (k : Known) (epoch : ℕ) (rs : List Rec) (n : ℕ) (ns : List ℕ) → IsEnding k epoch rs (n ∷ ns) →
+    MayStep layout (λ found. Unlock (NodeTarget n)) k ×
+    ((j : Known) → IsEvent layout (Unlock (NodeTarget n)) silent k j → IsEnding j epoch rs ns × SeesTheSame k j)
+
+-- and for the anchor;
+abbrev pub EndUnlocksAnchor : Type 0
+EndUnlocksAnchor =
+    (layout : Layout) (k : Known) (epoch : ℕ) (rs : List Rec) (ns : List ℕ) → IsEnding k epoch rs ns → IsSome k.anchor →
+    MayStep layout (λ found. Unlock Anchor) k ×
+    ((j : Known) → IsEvent layout (Unlock Anchor) silent k j → IsEnding j epoch rs ns × (j.front ≡ k.front) × (j.anchor ≡ None))
+
+-- with none left, the pass is at rest.
+abbrev pub EndRests : Type 0
+EndRests = (k : Known) (epoch : ℕ) → IsEnding k epoch [] [] → k.anchor ≡ None → IsAtRest k
+
+-- The loops
+
+-- the pass marks these records in turn, with one epoch
+abbrev pub MarksEach : Layout → ℕ → List Rec → Known → Known → Type 0
+MarksEach layout epoch [] k j = j ≡ k
+MarksEach layout epoch (r ∷ rs) k j = (i : Known) × IsEvent layout (Mark r epoch) silent k i × MarksEach layout epoch rs i j
+
+-- the pass unlocks these nodes in turn
+abbrev pub UnlocksEach : Layout → List ℕ → Known → Known → Type 0
+UnlocksEach layout [] k j = j ≡ k
+UnlocksEach layout (n ∷ ns) k j = (i : Known) × IsEvent layout (Unlock (NodeTarget n)) silent k i × UnlocksEach layout ns i j
+
+-- A pass that has published, loads the epoch, marks all that it has unlinked and unlocks all that it keeps has nothing of its own
+-- and no locked node, and has seen its own change last.
+abbrev pub Settles : Type 0
+Settles =
+    (layout : Layout) (k j i h g : Known) (x : Change) (was : Option ℕ) (gone : List Rec) (kept : List ℕ) (epoch : ℕ) → HasPublished k j x was gone kept →
+    AreApart kept → IsEvent layout (LoadEpoch epoch) silent j i → MarksEach layout epoch gone i h → UnlocksEach layout kept h g →
+    (g.own ≡ []) × (g.locks ≡ []) × SeesTheSame j g

@@ -1,0 +1,281 @@
+-- What the acts before a publish leave a pass, on the whole lists of what it has: locks, claims, fills, readies, releases, loads.
+use Rattle.std.proofs.Common.{◌≡◌, ◌≢◌, inl, inr, ℕ, suc, ◌+◌, ◌-◌, List, [], ◌∷◌, ◌++◌, length, get_or, map, set, nat_eq, Bool, true, false, Option, Some, None, refl, sym, ap, ap₂, subst, ◌∙◌, arith, append_assoc}
+use Rattle.std.specs.Prelude.{All, if◌then◌else◌}
+use Rattle.std.proofs.lemmas.Bool.{eqb-true}
+use Rattle.std.proofs.lemmas.List.{map-append, append-nil}
+use Rattle.std.proofs.lemmas.List.Elements.{All-nil, All-tail}
+use Rattle.compound_node.specs.declared.entries.Entry.{Entry}
+use Rattle.hot_model.specs.declared.Change.{Change}
+use Rattle.hot_model.specs.declared.Note.{Note}
+use Rattle.hot_model.specs.Fronts.{OthersGoOn}
+use Rattle.record_words.specs.declared.layout.Layout.{Layout}
+use Rattle.record_words.specs.State.{state_word}
+use Rattle.record_words.specs.Entry.{entry_word}
+use Rattle.moments.specs.declared.Rec.{Rec}
+use Rattle.moments.specs.declared.Rec.TheVariants.{Node as a_node}
+use Rattle.moments.specs.declared.Pin.{Pin}
+use Rattle.moments.specs.State.{Past}
+use Rattle.moments.specs.Core.{Fate, Free, Held as HeldBy, Ready as ReadyBy, InTree, Unlinked as UnlinkedBy, Marked}
+use Rattle.moments.specs.Steps.{same_rec}
+use Rattle.moments.proofs.Legal.{same_rec_refl, same_rec_true}
+use Rattle.rowex_core.specs.declared.event.Act.{Act}
+use Rattle.rowex_core.specs.declared.event.Act.TheVariants.{Claim, Fill, Ready, Release, LoadRef, LoadFixed, Lock, Unlock, Publish, Mark, LoadEpoch, Advance, SetPin, ClearPin, LoadPin, LoadState, GiveBack}
+use Rattle.rowex_core.specs.declared.event.Spot.TheVariants.{Root, Slot}
+use Rattle.rowex_core.specs.declared.event.Target.TheVariants.{Anchor, Node as NodeTarget}
+use Rattle.rowex_core.specs.declared.known.Fact.{Fact}
+use Rattle.rowex_core.specs.declared.known.Holding.{Holding}
+use Rattle.rowex_core.specs.declared.known.Holding.TheVariants.{Held, Ready as IsReady}
+use Rattle.rowex_core.specs.declared.known.Known.{Known}
+use Rattle.rowex_core.specs.declared.known.Locked.{Locked}
+use Rattle.rowex_core.specs.declared.known.Owned.{Owned}
+use Rattle.rowex_core.specs.Cores.{Core, word_count_of}
+use Rattle.rowex_core.specs.Words.{lock_of, lock_tag, tag_of, record_word}
+use Rattle.rowex_core.specs.Events.{target_word, word_of}
+use Rattle.rowex_core.specs.declared.event.Target.{Target}
+use Rattle.record_words.specs.declared.layout.Location.{Location}
+use Rattle.rowex_core.specs.Knowing.{Knows, failed_with, IsFact, IsEvent, facts_with, fill_in, hold_as, without_record, claim_learned, anchor_learned, node_learned, learned_by, learned}
+use Rattle.rowex_core.specs.Sharing.{IsOwned, IsLocked}
+use Rattle.rowex_core.proofs.Owning.{knows_all}
+use Rattle.rowex_table.proofs.Rights.{free_tag, anchor_free}
+use Rattle.rowex_table.specs.Publishes.{silent}
+use Rattle.rowex_table.specs.Stays.{KeepsRecall}
+use Rattle.moments.specs.Trades.{IsOf}
+use Rattle.rowex_core.proofs.Having.{not_free}
+use Rattle.rowex_table.specs.Made.{Made, held_as, recs_of, nodes_of, IsLater}
+use Rattle.moments.proofs.Members.{of_map, map_of, all_of}
+
+-- Lists in which one record is changed
+
+same_map : {X : Type 0} (f : X → X) (xs : List X) → ((x : X) → IsOf x xs → f x ≡ x) → map f xs ≡ xs
+same_map f [] h = refl
+same_map f (x ∷ xs) h = ap₂ (λ y ys. y ∷ ys) (h x (inl refl)) (same_map f xs (λ y i. h y (inr i)))
+
+other : (s r : Rec) → (s ≡ r → ⊥) → same_rec s r ≡ false
+other s r ne = go (same_rec s r) refl
+  where
+    go : (b : Bool) → same_rec s r ≡ b → b ≡ false
+    go true e = absurd (ne (same_rec_true s r e))
+    go false e = refl
+
+-- of records made and held in any way, none of which is r
+unlike : (h : Holding) (ms : List Made) (r : Rec) → (IsOf r (recs_of ms) → ⊥) → (o : Owned) → IsOf o (map (held_as h) ms) → o.rec ≡ r → ⊥
+unlike h ms r not_it o i e =
+    let (m, k, z) = of_map (held_as h) o ms i in
+    not_it (subst (λ y. IsOf y (recs_of ms)) (sym (ap (λ (x : Owned). x.rec) z) ∙ e) (map_of (λ (m : Made). m.rec) m ms k))
+
+hold_others : (h g : Holding) (ms : List Made) (r : Rec) → (IsOf r (recs_of ms) → ⊥) → map (hold_as r h) (map (held_as g) ms) ≡ map (held_as g) ms
+hold_others h g ms r not_it = same_map (hold_as r h) (map (held_as g) ms) (λ o i. rw (other o.rec r (unlike g ms r not_it o i)) refl)
+
+fill_others : (offset w : ℕ) (g : Holding) (ms : List Made) (r : Rec) → (IsOf r (recs_of ms) → ⊥) → map (fill_in r offset w) (map (held_as g) ms) ≡ map (held_as g) ms
+fill_others offset w g ms r not_it = same_map (fill_in r offset w) (map (held_as g) ms) (λ o i. rw (other o.rec r (unlike g ms r not_it o i)) refl)
+
+keep_others : (own : List Owned) (r : Rec) → ((o : Owned) → IsOf o own → o.rec ≡ r → ⊥) → without_record r own ≡ own
+keep_others [] r not_it = refl
+keep_others (o ∷ own) r not_it = rw (other o.rec r (not_it o (inl refl))) (ap (λ z. o ∷ z) (keep_others own r (λ x i. not_it x (inr i))))
+
+-- a node in the tree whose lock is taken is not live
+taken : (o : Option ℕ) (f : Fate) (q s : ℕ) → o ≡ Some q → f ≡ InTree s → state_word (tag_of o f) ≡ 2 → ⊥
+taken o f q s e g h = not_live (subst (λ z. state_word (tag_of z (InTree s)) ≡ 2) e (subst (λ z. state_word (tag_of o z) ≡ 2) g h))
+  where
+    not_live : state_word (tag_of (Some q) (InTree s)) ≡ 2 → ⊥
+    not_live e = omega arith
+
+module _ (layout : Layout) (said : Known → List Note) (k j : Known) where
+  -- Locks
+
+  pub lock_gives_node : (n found : ℕ) → IsEvent layout (Lock (NodeTarget n) found) said k j → found ≡ 2 →
+      (words : List ℕ) × (length words ≡ 57) × (j.locks ≡ record { node = n; words = words } ∷ k.locks) × (IsOf n (nodes_of k.locks) → ⊥)
+  lock_gives_node n found e live =
+      let c = e.core in (
+        c.words (a_node n),
+        (e.lawful.records.sized (a_node n)).0,
+        ap (λ (z : Known). z.locks) e.learned_is ∙ ap (λ f. (node_learned c n f k).locks) live,
+        λ i. (let (l, h, is) = of_map (λ (l : Locked). l.node) n k.locks i in
+            let (lock, tree, words) = all_of (IsLocked k.pass c) l k.locks (knows_all c k e.knows).locks h in
+            taken (c.lock n) (c.fate (a_node n)) k.pass tree.0 (ap c.lock is ∙ lock) (ap (λ z. c.fate (a_node z)) is ∙ tree.1) (sym e.legal.1.1 ∙ live)),
+      )
+
+  -- the anchor that it has locked was not locked by it before
+  pub lock_gives_anchor : (found : ℕ) → IsEvent layout (Lock Anchor found) said k j → found ≡ 2 → (k.anchor ≡ None) × ((root : Option Entry) × (j.anchor ≡ Some root))
+  lock_gives_anchor found e live =
+      let c = e.core in
+      let loose : c.anchor ≡ None = anchor_free c.anchor (sym e.legal.1 ∙ live) in
+      (unlocked c e.knows loose k.anchor refl, (c.root, ap (λ (z : Known). z.anchor) e.learned_is ∙ ap (λ o. (anchor_learned c found o k).anchor) loose))
+    where
+      unlocked : (c : Core) → Knows c k → c.anchor ≡ None → (o : Option (Option Entry)) → k.anchor ≡ o → k.anchor ≡ None
+      unlocked c known loose None is = is
+      unlocked c known loose (Some r) is = absurd (let z : None ≡ Some k.pass = sym loose ∙ ((knows_all c k known).anchor r is).0 in cc)
+
+  -- what it loads of a node that it has locked is that of the words
+  pub entry_of_locked : (n i w : ℕ) (words : List ℕ) → IsEvent layout (LoadRef (Slot n i) w) said k j → IsOf (record { node = n; words = words }) k.locks → (w ≡ get_or words (25 + i) 0) × (j.locks ≡ k.locks)
+  entry_of_locked n i w words e h =
+      let c = e.core in
+      let (lock, tree, same) = all_of (IsLocked k.pass c) (record { node = n; words = words }) k.locks (knows_all c k e.knows).locks h in
+      let next : 26 + i ≡ suc (25 + i) = omega arith in (
+        e.legal.1.2 ∙ (ap (record_word c (a_node n)) next ∙ ap (λ ws. get_or ws (25 + i) 0) same),
+        ap (λ (z : Known). z.locks) e.learned_is,
+      )
+
+  pub fixed_of_locked : (n offset w : ℕ) (words : List ℕ) → IsEvent layout (LoadFixed (a_node n) (suc offset) w) said k j → IsOf (record { node = n; words = words }) k.locks → (w ≡ get_or words offset 0) × (j.locks ≡ k.locks)
+  fixed_of_locked n offset w words e h =
+      let c = e.core in
+      let (lock, tree, same) = all_of (IsLocked k.pass c) (record { node = n; words = words }) k.locks (knows_all c k e.knows).locks h in
+      (e.legal.1.2 ∙ ap (λ ws. get_or ws offset 0) same, ap (λ (z : Known). z.locks) e.learned_is)
+
+  -- New records
+
+  -- one more in front, which none of the others is
+  pub claim_gives_one : (r : Rec) (found : ℕ) → IsEvent layout (Claim r found) said k j → found ≡ 0 →
+      (words : List ℕ) × (length words ≡ word_count_of r) × (j.own ≡ record { rec = r; holding = Held; words = words } ∷ k.own) × ((o : Owned) → IsOf o k.own → o.rec ≡ r → ⊥)
+  claim_gives_one r found e none =
+      let c = e.core in
+      let free : c.fate r ≡ Free = free_tag (lock_of c r) (c.fate r) (sym e.legal.1.1 ∙ none) in (
+        c.words r,
+        (e.lawful.records.sized r).0,
+        ap (λ (z : Known). z.own) e.learned_is ∙ ap (λ f. (claim_learned c r found f k).own) free,
+        λ o i is. not_free k.pass o.holding (sym free ∙ (ap c.fate (sym is) ∙ (all_of (IsOwned k.pass c) o k.own (knows_all c k e.knows).own i).0)),
+      )
+
+  claim_still : (c : Core) (r : Rec) (found : ℕ) (f : Fate) → ((claim_learned c r found f k).locks ≡ k.locks) × ((claim_learned c r found f k).anchor ≡ k.anchor)
+  claim_still c r found Free = (refl, refl)
+  claim_still c r found (HeldBy q) = (refl, refl)
+  claim_still c r found (ReadyBy q) = (refl, refl)
+  claim_still c r found (InTree s) = (refl, refl)
+  claim_still c r found (UnlinkedBy s l q) = (refl, refl)
+  claim_still c r found (Marked s l epoch) = (refl, refl)
+
+  pub claim_leaves : (r : Rec) (found : ℕ) → IsEvent layout (Claim r found) said k j → (j.locks ≡ k.locks) × (j.anchor ≡ k.anchor)
+  claim_leaves r found e =
+      let still = claim_still e.core r found (e.core.fate r) in
+      (ap (λ (z : Known). z.locks) e.learned_is ∙ still.0, ap (λ (z : Known). z.anchor) e.learned_is ∙ still.1)
+
+  -- the first one has the word
+  pub fill_gives_first : (r : Rec) (offset w : ℕ) (words : List ℕ) (news : List Made) → IsEvent layout (Fill r offset w) said k j →
+      k.own ≡ record { rec = r; holding = Held; words = words } ∷ map (held_as Held) news → (IsOf r (recs_of news) → ⊥) →
+      j.own ≡ record { rec = r; holding = Held; words = set words (offset - 1) w } ∷ map (held_as Held) news
+  fill_gives_first r offset w words news e own not_it =
+      let o : Owned = record { rec = r; holding = Held; words = words } in
+      let first : fill_in r offset w o ≡ record { rec = r; holding = Held; words = set words (offset - 1) w } = rw (same_rec_refl r) refl in
+      ap (λ (z : Known). z.own) e.learned_is ∙ (ap (map (fill_in r offset w)) own ∙ ap₂ (λ y ys. y ∷ ys) first (fill_others offset w Held news r not_it))
+
+  -- the next one is ready
+  pub ready_gives_next : (m : Made) (done todo : List Made) → IsEvent layout (Ready m.rec) said k j → k.own ≡ map (held_as IsReady) done ++ (held_as Held m ∷ map (held_as Held) todo) →
+      (IsOf m.rec (recs_of done) → ⊥) → (IsOf m.rec (recs_of todo) → ⊥) → j.own ≡ map (held_as IsReady) (done ++ m ∷ []) ++ map (held_as Held) todo
+  ready_gives_next m done todo e own before behind =
+      let next : hold_as m.rec IsReady (held_as Held m) ≡ held_as IsReady m = rw (same_rec_refl m.rec) refl in
+      ap (λ (z : Known). z.own) e.learned_is ∙
+      (ap (map (hold_as m.rec IsReady)) own ∙ (map-append (hold_as m.rec IsReady) (map (held_as IsReady) done) (held_as Held m ∷ map (held_as Held) todo) ∙
+      (ap₂ (λ y ys. y ++ ys) (hold_others IsReady IsReady done m.rec before) (ap₂ (λ y ys. y ∷ ys) next (hold_others IsReady Held todo m.rec behind)) ∙
+      (sym (append_assoc (map (held_as IsReady) done) (held_as IsReady m ∷ []) (map (held_as Held) todo)) ∙
+      ap (λ z. z ++ map (held_as Held) todo) (sym (map-append (held_as IsReady) done (m ∷ [])))))))
+
+  -- the first one is given up
+  pub release_gives_rest : (m : Made) (news : List Made) → IsEvent layout (Release m.rec) said k j → k.own ≡ map (held_as Held) (m ∷ news) → (IsOf m.rec (recs_of news) → ⊥) → j.own ≡ map (held_as Held) news
+  release_gives_rest m news e own not_it =
+      let first : without_record m.rec (held_as Held m ∷ map (held_as Held) news) ≡ without_record m.rec (map (held_as Held) news) = rw (same_rec_refl m.rec) refl in
+      ap (λ (z : Known). z.own) e.learned_is ∙ (ap (without_record m.rec) own ∙ (first ∙ keep_others (map (held_as Held) news) m.rec (unlike Held news m.rec not_it)))
+
+  -- What the pass recalls
+
+  abbrev AreSeen : Core → Known → Type 0
+  AreSeen c i = (i.pass ≡ k.pass) × (i.pin ≡ k.pin) × OthersGoOn k.pass k.front i.front × ((s : Past) → All (IsFact s) i.facts → All (IsFact s) k.facts)
+
+  no_more : (q : ℕ) (front : List Change) → OthersGoOn q front front
+  no_more q front = ([], sym (append-nil front), All-nil (λ (x : Change). x.pass ≢ q))
+
+  facts_kept : (o : Option Pin) (f : ℕ → Fact) (s : Past) → All (IsFact s) (facts_with o f k.facts) → All (IsFact s) k.facts
+  facts_kept None f s a = a
+  facts_kept (Some p) f s a = All-tail (IsFact s) (f p.moment) k.facts a
+
+  same : (c : Core) → AreSeen c k
+  same c = (refl, refl, no_more k.pass k.front, λ s x. x)
+
+  one_of : (b : Bool) (c : Core) (x y : Known) → AreSeen c x → AreSeen c y → AreSeen c (if b then x else y)
+  one_of true c x y f g = f
+  one_of false c x y f g = g
+
+  claim_seen : (c : Core) (r : Rec) (found : ℕ) (f : Fate) → AreSeen c (claim_learned c r found f k)
+  claim_seen c r found Free = same c
+  claim_seen c r found (HeldBy q) = same c
+  claim_seen c r found (ReadyBy q) = same c
+  claim_seen c r found (InTree s) = same c
+  claim_seen c r found (UnlinkedBy s l q) = same c
+  claim_seen c r found (Marked s l epoch) = same c
+
+  anchor_seen : (c : Core) (found : ℕ) (o : Option ℕ) → AreSeen c (anchor_learned c found o k)
+  anchor_seen c found None = same c
+  anchor_seen c found (Some q) = same c
+
+  act_seen : (c : Core) (act : Act) → OthersGoOn k.pass k.front c.changes → KeepsRecall act → AreSeen c (learned_by c act k)
+  act_seen c (Claim r found) o t = claim_seen c r found (c.fate r)
+  act_seen c (Fill r offset w) o t = same c
+  act_seen c (Ready r) o t = same c
+  act_seen c (Release r) o t = same c
+  act_seen c (LoadRef Root w) o t = (refl, refl, o, facts_kept k.pin _)
+  act_seen c (LoadRef (Slot n i) w) o t = (refl, refl, o, facts_kept k.pin _)
+  act_seen c (LoadFixed r offset w) o t = (refl, refl, o, facts_kept k.pin _)
+  act_seen c (Lock Anchor found) o t = anchor_seen c found c.anchor
+  act_seen c (Lock (NodeTarget n) found) o t = one_of (nat_eq found 2) c (record k { locks = record { node = n; words = c.words (a_node n) } ∷ k.locks }) (failed_with k (target_word (NodeTarget n)) found) (same c) (same c)
+  act_seen c (Unlock Anchor) o t = same c
+  act_seen c (Unlock (NodeTarget n)) o t = same c
+  act_seen c (Mark r epoch) o t = same c
+  act_seen c (LoadEpoch w) o t = same c
+  act_seen c (Advance expected found) o t = same c
+  act_seen c (LoadPin p w) o t = same c
+  act_seen c (LoadState r w) o t = same c
+  act_seen c (GiveBack r epoch found) o t = same c
+  act_seen c (Publish spot w) o t = absurd t
+  act_seen c (SetPin w) o t = absurd t
+  act_seen c ClearPin o t = absurd t
+
+  -- whatever a pass does but publish, pin and unpin, it recalls what it did
+  pub recalls_on : (act : Act) → KeepsRecall act → IsEvent layout act said k j → IsLater k j
+  recalls_on act t e =
+      let (pass, pin, front, facts) = act_seen e.core act e.knows.seen.front t in record {
+        pass = ap (λ (z : Known). z.pass) e.learned_is ∙ pass;
+        pin = ap (λ (z : Known). z.pin) e.learned_is ∙ pin;
+        front = subst (OthersGoOn k.pass k.front) (sym (ap (λ (z : Known). z.front) e.learned_is)) front;
+        facts = λ s a. facts s (subst (All (IsFact s)) (ap (λ (z : Known). z.facts) e.learned_is) a);
+      }
+
+-- Attempts that fail, with the word that each found
+
+module _ (layout : Layout) (k j : Known) where
+  noted : (i : Known) → record i { notes = i.notes ++ [] } ≡ i
+  noted i = ap (λ n. record i { notes = n }) (append-nil i.notes)
+
+  failed_step : (c : Core) (act : Act) (location : Location) (found : ℕ) → j ≡ record (learned c act k) { notes = k.notes ++ [] } → learned_by c act k ≡ failed_with k location found →
+      j ≡ record (failed_with k location found) { steps = k.steps + 1 }
+  failed_step c act location found e is =
+      e ∙ (ap (λ (z : Known). record z { steps = k.steps + 1; notes = k.notes ++ [] }) is ∙ noted (record (failed_with k location found) { steps = k.steps + 1 }))
+
+  dead : (found n : ℕ) → (found ≡ n → ⊥) → nat_eq found n ≡ false
+  dead found n ne = go (nat_eq found n) refl
+    where
+      go : (b : Bool) → nat_eq found n ≡ b → b ≡ false
+      go true e = absurd (ne (eqb-true found n e))
+      go false e = refl
+
+  anchor_held : (c : Core) (found : ℕ) (o : Option ℕ) → found ≡ state_word (lock_tag o) → (found ≡ 2 → ⊥) → anchor_learned c found o k ≡ failed_with k (target_word Anchor) found
+  anchor_held c found None e ne = absurd (ne e)
+  anchor_held c found (Some q) e ne = refl
+
+  pub lock_fails : (target : Target) (found : ℕ) → IsEvent layout (Lock target found) silent k j → (found ≡ 2 → ⊥) → j ≡ record (failed_with k (target_word target) found) { steps = k.steps + 1 }
+  lock_fails Anchor found e ne = failed_step e.core (Lock Anchor found) (target_word Anchor) found e.learned_is (anchor_held e.core found e.core.anchor e.legal.1 ne)
+  lock_fails (NodeTarget n) found e ne = failed_step e.core (Lock (NodeTarget n) found) (target_word (NodeTarget n)) found e.learned_is (rw (dead found 2 ne) refl)
+
+  claim_held : (c : Core) (r : Rec) (found : ℕ) (f : Fate) → found ≡ state_word (tag_of (lock_of c r) f) → (found ≡ 0 → ⊥) → claim_learned c r found f k ≡ failed_with k (word_of r 0) found
+  claim_held c r found Free e ne = absurd (ne e)
+  claim_held c r found (HeldBy q) e ne = refl
+  claim_held c r found (ReadyBy q) e ne = refl
+  claim_held c r found (InTree s) e ne = refl
+  claim_held c r found (UnlinkedBy s l q) e ne = refl
+  claim_held c r found (Marked s l epoch) e ne = refl
+
+  pub claim_fails : (r : Rec) (found : ℕ) → IsEvent layout (Claim r found) silent k j → (found ≡ 0 → ⊥) → j ≡ record (failed_with k (word_of r 0) found) { steps = k.steps + 1 }
+  claim_fails r found e ne = failed_step e.core (Claim r found) (word_of r 0) found e.learned_is (claim_held e.core r found (e.core.fate r) e.legal.1.1 ne)
+
+-- The root, under the anchor's lock
+
+pub root_of_anchored : (layout : Layout) (k j : Known) (root : Option Entry) (w : ℕ) → k.anchor ≡ Some root → IsEvent layout (LoadRef Root w) silent k j → (w ≡ entry_word root) × (j.anchor ≡ k.anchor)
+root_of_anchored layout k j root w is e = (e.legal.1 ∙ ap entry_word ((knows_all e.core k e.knows).anchor root is).1, ap (λ (z : Known). z.anchor) e.learned_is)

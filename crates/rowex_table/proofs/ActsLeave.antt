@@ -1,0 +1,86 @@
+-- What each act leaves its pass of what it knew.
+use Rattle.std.proofs.Common.{◌≡◌, ℕ, Bool, true, false, nat_eq, Option, Some, None, refl, ap, ◌∙◌}
+use Rattle.std.specs.Prelude.{if◌then◌else◌}
+use Rattle.std.proofs.lemmas.List.{append-nil}
+use Rattle.record_words.specs.declared.layout.Layout.{Layout}
+use Rattle.moments.specs.declared.Rec.{Rec}
+use Rattle.moments.specs.Core.{Fate, Free, Held as HeldBy, Ready as ReadyBy, InTree, Unlinked as UnlinkedBy, Marked}
+use Rattle.rowex_core.specs.declared.event.Act.{Act}
+use Rattle.rowex_core.specs.declared.event.Act.TheVariants.{Claim, Fill, Ready, Release, LoadRef, LoadFixed, Lock, Unlock, Publish, Mark, LoadEpoch, Advance, SetPin, ClearPin, LoadPin, LoadState, GiveBack}
+use Rattle.rowex_core.specs.declared.event.Spot.TheVariants.{Root, Slot}
+use Rattle.rowex_core.specs.declared.event.Target.TheVariants.{Anchor, Node as NodeTarget}
+use Rattle.rowex_core.specs.declared.known.Known.{Known}
+use Rattle.rowex_core.specs.Cores.{Core}
+use Rattle.rowex_core.specs.Knowing.{IsEvent, claim_learned, anchor_learned, learned_by}
+use Rattle.rowex_table.specs.Publishes.{silent}
+use Rattle.rowex_table.specs.Stays.{LeavesFront, LeavesFresh, LeavesFailed, LeavesOwn, LeavesLocks, LeavesAnchor, LeavesPin, LeavesRound, IsNext}
+
+module _ (layout : Layout) (k j : Known) where
+  -- the same, but for what the act is about
+  record IsAs (act : Act) (i : Known) : Type 0 where
+    pass : i.pass ≡ k.pass
+    front : LeavesFront act → i.front ≡ k.front
+    fresh : LeavesFresh act → i.fresh ≡ k.fresh
+    failed : LeavesFailed act → i.failed ≡ k.failed
+    own : LeavesOwn act → i.own ≡ k.own
+    locks : LeavesLocks act → i.locks ≡ k.locks
+    anchor : LeavesAnchor act → i.anchor ≡ k.anchor
+    pin : LeavesPin act → i.pin ≡ k.pin
+    round : LeavesRound act → i.round ≡ k.round
+
+  claimed : (c : Core) (r : Rec) (found : ℕ) (f : Fate) → IsAs (Claim r found) (claim_learned c r found f k)
+  claimed c r found Free = record { pass = refl; front = λ t. refl; fresh = λ t. refl; failed = λ t. absurd t; own = λ t. absurd t; locks = λ t. refl; anchor = λ t. refl; pin = λ t. refl; round = λ t. refl }
+  claimed c r found (HeldBy q) = record { pass = refl; front = λ t. refl; fresh = λ t. refl; failed = λ t. absurd t; own = λ t. absurd t; locks = λ t. refl; anchor = λ t. refl; pin = λ t. refl; round = λ t. refl }
+  claimed c r found (ReadyBy q) = record { pass = refl; front = λ t. refl; fresh = λ t. refl; failed = λ t. absurd t; own = λ t. absurd t; locks = λ t. refl; anchor = λ t. refl; pin = λ t. refl; round = λ t. refl }
+  claimed c r found (InTree s) = record { pass = refl; front = λ t. refl; fresh = λ t. refl; failed = λ t. absurd t; own = λ t. absurd t; locks = λ t. refl; anchor = λ t. refl; pin = λ t. refl; round = λ t. refl }
+  claimed c r found (UnlinkedBy s l q) = record { pass = refl; front = λ t. refl; fresh = λ t. refl; failed = λ t. absurd t; own = λ t. absurd t; locks = λ t. refl; anchor = λ t. refl; pin = λ t. refl; round = λ t. refl }
+  claimed c r found (Marked s l epoch) = record { pass = refl; front = λ t. refl; fresh = λ t. refl; failed = λ t. absurd t; own = λ t. absurd t; locks = λ t. refl; anchor = λ t. refl; pin = λ t. refl; round = λ t. refl }
+
+  anchored : (c : Core) (found : ℕ) (o : Option ℕ) → IsAs (Lock Anchor found) (anchor_learned c found o k)
+  anchored c found None = record { pass = refl; front = λ t. refl; fresh = λ t. refl; failed = λ t. absurd t; own = λ t. refl; locks = λ t. refl; anchor = λ t. absurd t; pin = λ t. refl; round = λ t. refl }
+  anchored c found (Some q) = record { pass = refl; front = λ t. refl; fresh = λ t. refl; failed = λ t. absurd t; own = λ t. refl; locks = λ t. refl; anchor = λ t. absurd t; pin = λ t. refl; round = λ t. refl }
+
+  one_of : (act : Act) (b : Bool) (x y : Known) → IsAs act x → IsAs act y → IsAs act (if b then x else y)
+  one_of act true x y f g = f
+  one_of act false x y f g = g
+
+  as_before : (c : Core) (act : Act) → IsAs act (learned_by c act k)
+  as_before c (Claim r found) = claimed c r found (c.fate r)
+  as_before c (Lock Anchor found) = anchored c found c.anchor
+  as_before c (Lock (NodeTarget n) found) = one_of (Lock (NodeTarget n) found) (nat_eq found 2) _ _
+      (record { pass = refl; front = λ t. refl; fresh = λ t. refl; failed = λ t. absurd t; own = λ t. refl; locks = λ t. absurd t; anchor = λ t. refl; pin = λ t. refl; round = λ t. refl })
+      (record { pass = refl; front = λ t. refl; fresh = λ t. refl; failed = λ t. absurd t; own = λ t. refl; locks = λ t. absurd t; anchor = λ t. refl; pin = λ t. refl; round = λ t. refl })
+  as_before c (LoadRef Root w) = record { pass = refl; front = λ t. absurd t; fresh = λ t. absurd t; failed = λ t. refl; own = λ t. refl; locks = λ t. refl; anchor = λ t. refl; pin = λ t. refl; round = λ t. refl }
+  as_before c (LoadRef (Slot n i) w) = record { pass = refl; front = λ t. absurd t; fresh = λ t. refl; failed = λ t. refl; own = λ t. refl; locks = λ t. refl; anchor = λ t. refl; pin = λ t. refl; round = λ t. refl }
+  as_before c (LoadFixed r offset w) = record { pass = refl; front = λ t. absurd t; fresh = λ t. refl; failed = λ t. refl; own = λ t. refl; locks = λ t. refl; anchor = λ t. refl; pin = λ t. refl; round = λ t. refl }
+  as_before c (Fill r offset w) = record { pass = refl; front = λ t. refl; fresh = λ t. refl; failed = λ t. refl; own = λ t. absurd t; locks = λ t. refl; anchor = λ t. refl; pin = λ t. refl; round = λ t. refl }
+  as_before c (Ready r) = record { pass = refl; front = λ t. refl; fresh = λ t. refl; failed = λ t. refl; own = λ t. absurd t; locks = λ t. refl; anchor = λ t. refl; pin = λ t. refl; round = λ t. refl }
+  as_before c (Release r) = record { pass = refl; front = λ t. refl; fresh = λ t. refl; failed = λ t. refl; own = λ t. absurd t; locks = λ t. refl; anchor = λ t. refl; pin = λ t. refl; round = λ t. refl }
+  as_before c (Publish Root w) = record { pass = refl; front = λ t. absurd t; fresh = λ t. refl; failed = λ t. refl; own = λ t. absurd t; locks = λ t. absurd t; anchor = λ t. absurd t; pin = λ t. refl; round = λ t. refl }
+  as_before c (Publish (Slot n i) w) = record { pass = refl; front = λ t. absurd t; fresh = λ t. refl; failed = λ t. refl; own = λ t. absurd t; locks = λ t. absurd t; anchor = λ t. refl; pin = λ t. refl; round = λ t. refl }
+  as_before c (Unlock Anchor) = record { pass = refl; front = λ t. refl; fresh = λ t. refl; failed = λ t. refl; own = λ t. refl; locks = λ t. refl; anchor = λ t. absurd t; pin = λ t. refl; round = λ t. refl }
+  as_before c (Unlock (NodeTarget n)) = record { pass = refl; front = λ t. refl; fresh = λ t. refl; failed = λ t. refl; own = λ t. refl; locks = λ t. absurd t; anchor = λ t. refl; pin = λ t. refl; round = λ t. refl }
+  as_before c (Mark r epoch) = record { pass = refl; front = λ t. refl; fresh = λ t. refl; failed = λ t. refl; own = λ t. absurd t; locks = λ t. refl; anchor = λ t. refl; pin = λ t. refl; round = λ t. refl }
+  as_before c (LoadEpoch w) = record { pass = refl; front = λ t. refl; fresh = λ t. refl; failed = λ t. refl; own = λ t. refl; locks = λ t. refl; anchor = λ t. refl; pin = λ t. refl; round = λ t. absurd t }
+  as_before c (Advance expected found) = record { pass = refl; front = λ t. refl; fresh = λ t. refl; failed = λ t. refl; own = λ t. refl; locks = λ t. refl; anchor = λ t. refl; pin = λ t. refl; round = λ t. refl }
+  as_before c (SetPin w) = record { pass = refl; front = λ t. refl; fresh = λ t. refl; failed = λ t. refl; own = λ t. refl; locks = λ t. refl; anchor = λ t. refl; pin = λ t. absurd t; round = λ t. refl }
+  as_before c ClearPin = record { pass = refl; front = λ t. refl; fresh = λ t. refl; failed = λ t. refl; own = λ t. refl; locks = λ t. refl; anchor = λ t. refl; pin = λ t. absurd t; round = λ t. refl }
+  as_before c (LoadPin o w) = record { pass = refl; front = λ t. refl; fresh = λ t. refl; failed = λ t. refl; own = λ t. refl; locks = λ t. refl; anchor = λ t. refl; pin = λ t. refl; round = λ t. absurd t }
+  as_before c (LoadState r w) = record { pass = refl; front = λ t. refl; fresh = λ t. refl; failed = λ t. refl; own = λ t. refl; locks = λ t. refl; anchor = λ t. refl; pin = λ t. refl; round = λ t. refl }
+  as_before c (GiveBack r epoch found) = record { pass = refl; front = λ t. refl; fresh = λ t. refl; failed = λ t. refl; own = λ t. refl; locks = λ t. refl; anchor = λ t. refl; pin = λ t. refl; round = λ t. refl }
+
+  pub act_leaves : (act : Act) → IsEvent layout act silent k j → IsNext act k j
+  act_leaves act e =
+      let a = as_before e.core act in record {
+        pass = ap (λ (z : Known). z.pass) e.learned_is ∙ a.pass;
+        steps = ap (λ (z : Known). z.steps) e.learned_is;
+        notes = ap (λ (z : Known). z.notes) e.learned_is ∙ append-nil k.notes;
+        front = λ t. ap (λ (z : Known). z.front) e.learned_is ∙ a.front t;
+        fresh = λ t. ap (λ (z : Known). z.fresh) e.learned_is ∙ a.fresh t;
+        failed = λ t. ap (λ (z : Known). z.failed) e.learned_is ∙ a.failed t;
+        own = λ t. ap (λ (z : Known). z.own) e.learned_is ∙ a.own t;
+        locks = λ t. ap (λ (z : Known). z.locks) e.learned_is ∙ a.locks t;
+        anchor = λ t. ap (λ (z : Known). z.anchor) e.learned_is ∙ a.anchor t;
+        pin = λ t. ap (λ (z : Known). z.pin) e.learned_is ∙ a.pin t;
+        round = λ t. ap (λ (z : Known). z.round) e.learned_is ∙ a.round t;
+      }

@@ -1,0 +1,43 @@
+-- New records on their way into the tree, by the whole list of what a pass has, and a pass that has gone on.
+use Rattle.std.specs.Prelude.{◌≡◌, ℕ, List, ◌++◌, map, All}
+use Rattle.hot_model.specs.Fronts.{OthersGoOn}
+use Rattle.moments.specs.State.{Past}
+use Rattle.moments.specs.declared.Rec.{Rec}
+use Rattle.moments.specs.Trades.{AreApart}
+use Rattle.rowex_core.specs.declared.known.Holding.{Holding}
+use Rattle.rowex_core.specs.declared.known.Holding.TheVariants.{Held, Ready}
+use Rattle.rowex_core.specs.declared.known.Known.{Known}
+use Rattle.rowex_core.specs.declared.known.Locked.{Locked}
+use Rattle.rowex_core.specs.declared.known.Owned.{Owned}
+use Rattle.rowex_core.specs.Knowing.{IsFact}
+
+-- a new record, with the words that it is filled with
+pub record Made : Type 0 where
+  pub rec : Rec
+  pub words : List ℕ
+
+-- the record as the pass's own, held this way
+abbrev pub held_as : Holding → Made → Owned
+held_as h m = record { rec = m.rec; holding = h; words = m.words }
+
+-- the records, and the locked nodes, without their words
+abbrev pub recs_of : List Made → List Rec
+recs_of made = map (λ (m : Made). m.rec) made
+
+abbrev pub nodes_of : List Locked → List ℕ
+nodes_of locks = map (λ (l : Locked). l.node) locks
+
+-- the pass's own records are exactly these, claimed and filled
+abbrev pub HoldsMade : Known → List Made → Type 0
+HoldsMade k news = (k.own ≡ map (held_as Held) news) × AreApart (recs_of news)
+
+-- the first of them, up to here, are ready
+abbrev pub HasReadied : Known → List Made → List Made → Type 0
+HasReadied k done todo = (k.own ≡ map (held_as Ready) done ++ map (held_as Held) todo) × AreApart (recs_of (done ++ todo))
+
+-- The pass is the one that knew k, has the same pin, has seen more changes by others alone, and has forgotten no past fact.
+pub record IsLater (k j : Known) : Type 0 where
+  pub pass : j.pass ≡ k.pass
+  pub pin : j.pin ≡ k.pin
+  pub front : OthersGoOn k.pass k.front j.front
+  pub facts : (s : Past) → All (IsFact s) j.facts → All (IsFact s) k.facts

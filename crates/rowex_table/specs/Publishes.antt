@@ -1,0 +1,56 @@
+-- A writer's publish: that it may be made, and what it leaves the pass.
+use Rattle.std.specs.Prelude.{◌≡◌, ℕ, List, [], ◌∷◌, ◌++◌, Option, None, IsSome}
+use Rattle.hot_model.specs.declared.Change.{Change}
+use Rattle.hot_model.specs.declared.Note.{Note}
+use Rattle.hot_model.specs.Maps.{value_at}
+use Rattle.hot_model.specs.Fronts.{OthersGoOn, map_of, Fits}
+use Rattle.record_words.specs.declared.layout.Layout.{Layout}
+use Rattle.moments.specs.declared.Rec.{Rec}
+use Rattle.moments.specs.Trades.{AreApart, HasTraded}
+use Rattle.rowex_core.specs.declared.event.Act.TheVariants.{Publish}
+use Rattle.rowex_core.specs.declared.event.Spot.{Spot}
+use Rattle.rowex_core.specs.declared.known.Known.{Known}
+use Rattle.rowex_core.specs.Cores.{Core, IsLawful}
+use Rattle.rowex_core.specs.Events.{IsLegalPublish, next_tree, next_change}
+use Rattle.rowex_core.specs.Having.{OwnsJust, LocksJust, IsKept, IsUnlinked}
+use Rattle.rowex_core.specs.Knowing.{Knows, IsEvent}
+use Rattle.rowex_table.specs.Rule.{MayStep}
+use Rattle.rowex_table.specs.Made.{nodes_of}
+
+-- a step with which its pass notes nothing
+abbrev pub silent : Known → List Note
+silent k = []
+
+-- In this core the store of the word at the spot is a legal publish by pass q of the change x: `was` is what the key's value was
+-- before; just the records `new` are linked anew, and just the records `gone` are linked no more.
+pub record IsPublishOf (c : Core) (q : ℕ) (spot : Spot) (w : ℕ) (x : Change) (was : Option ℕ) (new gone : List Rec) : Type 0 where
+  pub legal : IsLegalPublish c q spot w
+  pub change : next_change c q spot w ≡ x
+  pub was_held : value_at (map_of c.changes) x.key ≡ was
+  pub trade : HasTraded (c.past.moment c.past.now) (next_tree c spot w) new gone
+
+-- So in each core of which what the pass knows is true.
+abbrev pub MayPublish : Layout → Known → Spot → ℕ → Change → Option ℕ → List Rec → List Rec → Type 0
+MayPublish layout k spot w x was new gone = (c : Core) → IsLawful c → c.layout ≡ layout → Knows c k → IsPublishOf c k.pass spot w x was new gone
+
+-- The pass knew k and has published the change x. It has seen all changes now: `before` are those before its own one, which fits
+-- them; `was` is what the key's value was then. Just the records `gone` are its own, unlinked by it; just the nodes `kept`, and the
+-- anchor if it was so before, are locked by it.
+pub record HasPublished (k j : Known) (x : Change) (was : Option ℕ) (gone : List Rec) (kept : List ℕ) : Type 0 where
+  pub pass : j.pass ≡ k.pass
+  pub pin : j.pin ≡ k.pin
+  pub before : List Change
+  pub others : OthersGoOn k.pass k.front before
+  pub front : j.front ≡ before ++ x ∷ []
+  pub fits : Fits (map_of before) x
+  pub was_held : value_at (map_of before) x.key ≡ was
+  pub own : OwnsJust j.own IsUnlinked gone
+  pub apart : AreApart gone
+  pub locks : LocksJust j.locks kept
+  pub anchor : (k.anchor ≡ None → j.anchor ≡ None) × (IsSome k.anchor → IsSome j.anchor)
+
+-- A pass that knows k may publish the change x by a store of the word at the spot; and when it has, it knows what HasPublished
+-- says, where `kept` are those of its locked nodes that are not among the records `gone`.
+pub record Publishes (layout : Layout) (k : Known) (spot : Spot) (w : ℕ) (x : Change) (was : Option ℕ) (gone : List Rec) : Type 0 where
+  pub may : MayStep layout (λ found. Publish spot w) k
+  pub gives : (j : Known) (kept : List ℕ) → IsKept (nodes_of k.locks) gone kept → IsEvent layout (Publish spot w) silent k j → HasPublished k j x was gone kept

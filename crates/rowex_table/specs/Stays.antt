@@ -1,0 +1,83 @@
+-- What each act leaves its pass of what it knew.
+use Rattle.std.specs.Prelude.{◌≡◌, ◌+◌}
+use Rattle.rowex_core.specs.declared.event.Act.{Act}
+use Rattle.rowex_core.specs.declared.event.Act.TheVariants.{Claim, Fill, Ready, Release, LoadRef, LoadFixed, Lock, Unlock, Publish, Mark, LoadEpoch, SetPin, ClearPin, LoadPin}
+use Rattle.rowex_core.specs.declared.event.Spot.TheVariants.{Root}
+use Rattle.rowex_core.specs.declared.event.Target.TheVariants.{Anchor, Node as NodeTarget}
+use Rattle.rowex_core.specs.declared.known.Known.{Known}
+
+-- a step that shows no change: neither a load of a record or of the root, nor a publish
+abbrev pub LeavesFront : Act → Type 0
+LeavesFront (LoadRef spot w) = ⊥
+LeavesFront (LoadFixed r offset w) = ⊥
+LeavesFront (Publish spot w) = ⊥
+LeavesFront act = Unit {0}
+
+-- a step that is no load of the root
+abbrev pub LeavesFresh : Act → Type 0
+LeavesFresh (LoadRef Root w) = ⊥
+LeavesFresh act = Unit {0}
+
+-- a step that can't fail
+abbrev pub LeavesFailed : Act → Type 0
+LeavesFailed (Claim r found) = ⊥
+LeavesFailed (Lock target found) = ⊥
+LeavesFailed act = Unit {0}
+
+-- a step that leaves the records that its pass owns
+abbrev pub LeavesOwn : Act → Type 0
+LeavesOwn (Claim r found) = ⊥
+LeavesOwn (Fill r offset w) = ⊥
+LeavesOwn (Ready r) = ⊥
+LeavesOwn (Release r) = ⊥
+LeavesOwn (Publish spot w) = ⊥
+LeavesOwn (Mark r epoch) = ⊥
+LeavesOwn act = Unit {0}
+
+-- the nodes that it has locked,
+abbrev pub LeavesLocks : Act → Type 0
+LeavesLocks (Lock (NodeTarget n) found) = ⊥
+LeavesLocks (Unlock (NodeTarget n)) = ⊥
+LeavesLocks (Publish spot w) = ⊥
+LeavesLocks act = Unit {0}
+
+-- the anchor,
+abbrev pub LeavesAnchor : Act → Type 0
+LeavesAnchor (Lock Anchor found) = ⊥
+LeavesAnchor (Unlock Anchor) = ⊥
+LeavesAnchor (Publish Root w) = ⊥
+LeavesAnchor act = Unit {0}
+
+-- its pin,
+abbrev pub LeavesPin : Act → Type 0
+LeavesPin (SetPin w) = ⊥
+LeavesPin ClearPin = ⊥
+LeavesPin act = Unit {0}
+
+-- its round
+abbrev pub LeavesRound : Act → Type 0
+LeavesRound (LoadEpoch w) = ⊥
+LeavesRound (LoadPin o w) = ⊥
+LeavesRound act = Unit {0}
+
+-- a step after which the pass recalls all that it did before: neither a publish, nor a pin, nor an unpin
+abbrev pub KeepsRecall : Act → Type 0
+KeepsRecall (Publish spot w) = ⊥
+KeepsRecall (SetPin w) = ⊥
+KeepsRecall ClearPin = ⊥
+KeepsRecall act = Unit {0}
+
+-- From k to j is one step: it is counted, and no note is added; each part of what the pass knew is as before, but for the acts that
+-- are about it.
+pub record IsNext (act : Act) (k j : Known) : Type 0 where
+  pub pass : j.pass ≡ k.pass
+  pub steps : j.steps ≡ k.steps + 1
+  pub notes : j.notes ≡ k.notes
+  pub front : LeavesFront act → j.front ≡ k.front
+  pub fresh : LeavesFresh act → j.fresh ≡ k.fresh
+  pub failed : LeavesFailed act → j.failed ≡ k.failed
+  pub own : LeavesOwn act → j.own ≡ k.own
+  pub locks : LeavesLocks act → j.locks ≡ k.locks
+  pub anchor : LeavesAnchor act → j.anchor ≡ k.anchor
+  pub pin : LeavesPin act → j.pin ≡ k.pin
+  pub round : LeavesRound act → j.round ≡ k.round

@@ -1,0 +1,80 @@
+-- A writer's descent below its lock, by facts of the past alone; and what it knows where nothing has changed since.
+use Rattle.std.specs.Prelude.{◌≡◌, ℕ, ◌≤◌, Some, if◌then◌else◌}
+use Rattle.compound_node.specs.declared.entries.Entry.{Entry}
+use Rattle.compound_node.specs.declared.entries.Entry.TheVariants.{Leaf, Node}
+use Rattle.pieces.specs.Piece.{Place}
+use Rattle.tries.specs.Keys.{Key, bit, AgreeBelow}
+use Rattle.tries.specs.Tree.{Fixed, Page, Tree, leaf, node, fork, page, IsTrie, IsBuilt, Within, first_position}
+use Rattle.tries.specs.Search.{Kin, seek}
+use Rattle.tries.specs.Content.{Item}
+use Rattle.tries.specs.Place.{spot}
+use Rattle.moments.specs.State.{Past, State, IsLawful, IsMarked, IsSteady}
+use Rattle.moments.specs.Frames.{IsGrown}
+use Rattle.rowex_walks.specs.Scan.{IsSeen, IsPlaced, IsShaped, IsRead}
+use Rattle.rowex_walks.specs.Writer.{IsBegun, IsWay}
+
+-- From node `a`, whose first fork is at `r`, the descent has come to the entry: before `r` the keys there agree with a key that
+-- the node had.
+abbrev pub IsOnWay : Past → ℕ → ℕ → ℕ → Entry → Type 0
+IsOnWay s m r a e = (like : Key) × IsBegun s m r like a × IsMarked s m (λ y. AgreeBelow r like y) e
+
+-- What began at this entry ended at a leaf with the key `l`.
+pub data IsWayFrom (s : Past) (m : ℕ) (l : Key) : Entry → Type 0 where
+  from_leaf : (j : ℕ) → IsMarked s m (λ y. y ≡ l) (Leaf j) → IsWayFrom s m l (Leaf j)
+  from_node : (a h r : ℕ) (like : Key) → IsBegun s m r like a → AgreeBelow r like l → IsWayFrom s m l (Node a h)
+
+-- The leaf at which a search of the tree for the key ends.
+abbrev pub found : Key → Tree → Item
+found k (leaf n l v) = record { number = n; key = l; value = v }
+found k (node n x b) = found k b
+found k (fork p a b) = if bit k p then found k b else found k a
+
+-- Where no change has been made since moment `m`, the search for the key is at this entry in the newest tree: it stands there, and
+-- the search below it ends where that of the whole tree does.
+abbrev pub IsStill : Past → ℕ → Key → Entry → Type 0
+IsStill s m k e = m ≡ s.now → (t : Tree) × (u : Tree) × (s.moment m ≡ Some t) × Within u t × (page u ≡ Place e) × (found k u ≡ found k t)
+
+-- The way of a writer
+
+-- it begins at a node to which it was led, and of which it has read the forks;
+abbrev pub WayBegins : Type 0
+WayBegins =
+    (s : Past) (m : ℕ) → IsSteady s m → (a h r : ℕ) (x : Page) → IsSeen s m (Node a h) → IsShaped s m a x → first_position x ≡ r → IsOnWay s m r a (Node a h)
+
+-- it goes on by an entry that was read, whatever was published in between;
+abbrev pub WayGoesOn : Type 0
+WayGoesOn = (s : Past) (m : ℕ) → IsSteady s m → (r a n h j : ℕ) (e : Entry) → IsOnWay s m r a (Node n h) → IsPlaced s m n j e → IsOnWay s m r a e
+
+-- it ends at a leaf that was read;
+abbrev pub WayEnds : Type 0
+WayEnds =
+    (s : Past) (m : ℕ) → IsSteady s m → (r a h j : ℕ) (l : Key) (v : ℕ) → IsOnWay s m r a (Leaf j) → IsRead s m j l v → IsWayFrom s m l (Node a h)
+
+-- or it began there.
+abbrev pub WayOfLeaf : Type 0
+WayOfLeaf = (s : Past) (m j : ℕ) (l : Key) (v : ℕ) → IsRead s m j l v → IsWayFrom s m l (Leaf j)
+
+-- From the entry of a locked node on the key's way, it is the way below that node.
+abbrev pub WayIsBelow : Type 0
+WayIsBelow = (s : Past) (m : ℕ) (k : Key) (x : Page) (l : Key) → IsWayFrom s m l (seek k x) → IsWay s m k x l
+
+-- Where nothing has changed
+
+-- the search is at the root that was loaded;
+abbrev pub StillRooted : Type 0
+StillRooted = (s : State) → IsLawful s → (k : Key) (e : Entry) → s.root ≡ Some e → IsStill s.past s.now k e
+
+-- it goes on by an entry that was read;
+abbrev pub StillPlaced : Type 0
+StillPlaced =
+    (s : Past) (m : ℕ) → IsSteady s m → m ≤ s.now → (k : Key) (n h j : ℕ) (x : Page) (e : Entry) → IsShaped s m n x → spot k x ≡ j → IsPlaced s m n j e →
+    IsStill s m k (Node n h) → IsStill s m k e
+
+-- and what is so known stays true.
+abbrev pub StillGrows : Type 0
+StillGrows = (a b : Past) → IsGrown a b → (m : ℕ) (k : Key) (e : Entry) → m ≤ a.now → IsStill a m k e → IsStill b m k e
+
+-- At one moment a node stands at one place: two bodies of it that are kin are one.
+abbrev pub OneBody : Type 0
+OneBody =
+    (n : ℕ) (x : Fixed) (b c t : Tree) → Within (node n x b) t → Within (node n x c) t → IsTrie t → IsBuilt t → Kin b c → b ≡ c
