@@ -2,3 +2,5 @@
 pub mod Planning
 pub mod Remade
 pub mod Locking
+pub mod Staging
+pub mod Raising

@@ -20,57 +20,51 @@ use Rattle.rowex_core.proofs.Owning.{knows_all}
 use Rattle.rowex_table.specs.Runs.{Steps, silent}
 use Rattle.rowex_table.specs.Seats.{TableView, SeatView, IsSeatOf}
 use Rattle.rowex_table.proofs.Running.{runs_one, runs_append, runs_same}
-use Rattle.rowex_rights.specs.Lists.{IsOf}
-use Rattle.rowex_rights.proofs.Before.{recalls_on, entry_of_locked, fixed_of_locked}
-use Rattle.rowex_rights.proofs.Loops.{later_same, later_on}
-use Rattle.rowex_rights.proofs.Members.{all_of}
-use Rattle.rowex_writing.specs.Going.{GoesOn, Reads, HasLocked}
+use Rattle.moments.specs.Trades.{IsOf}
+use Rattle.rowex_table.proofs.ActsBefore.{entry_of_locked, fixed_of_locked}
+use Rattle.rowex_rights.proofs.Loops.{later_same, later_on, still_locked}
+use Rattle.moments.proofs.Members.{all_of}
+use Rattle.rowex_writing.specs.Going.{GoesOn, ReadsOn, HasLocked}
 
 -- ---- one after the other
 module _ {G : Type 0} (table : TableView) (becomes : G → Event → G → Type 0) where
   pub goes_none : (a : SeatView × G) → GoesOn table becomes a a
-  goes_none a = record { acts = []; steps = refl; later = later_same a.0.known a.0.known refl; locks = refl; anchor = refl }
+  goes_none a = record { acts = []; steps = refl; stays = (later_same a.0.known a.0.known refl, refl, refl) }
 
   pub goes_more : (a m b : SeatView × G) → GoesOn table becomes a m → GoesOn table becomes m b → GoesOn table becomes a b
   goes_more a m b first second = record {
     acts = first.acts ++ second.acts;
     steps = runs_append table becomes first.acts second.acts a m b first.steps second.steps;
-    later = later_on a.0.known m.0.known b.0.known first.later second.later;
-    locks = second.locks ∙ first.locks;
-    anchor = second.anchor ∙ first.anchor;
+    stays = (later_on a.0.known m.0.known b.0.known first.stays.0 second.stays.0, second.stays.1 ∙ first.stays.1, second.stays.2 ∙ first.stays.2);
   }
 
   -- the seat is one of the table still
   pub seat_of : (a b : SeatView × G) → GoesOn table becomes a b → IsSeatOf table a.0 → IsSeatOf table b.0
   seat_of a b goes is = (runs_same table becomes goes.acts a b goes.steps).0 ∙ is
 
-  pub reads_none : (a : SeatView × G) → Reads table becomes a a
+  pub reads_none : (a : SeatView × G) → ReadsOn table becomes a a
   reads_none a = record { goes = goes_none a; own = refl }
 
-  pub reads_more : (a m b : SeatView × G) → Reads table becomes a m → Reads table becomes m b → Reads table becomes a b
+  pub reads_more : (a m b : SeatView × G) → ReadsOn table becomes a m → ReadsOn table becomes m b → ReadsOn table becomes a b
   reads_more a m b first second = record { goes = goes_more a m b first.goes second.goes; own = second.own ∙ first.own }
 
   -- ---- loads of a locked node
-  pub reads_fixed : (n offset w : ℕ) (a b : SeatView × G) → Steps table becomes (LoadFixed (a_node n) offset w) a b → Reads table becomes a b
+  pub reads_fixed : (n offset w : ℕ) (a b : SeatView × G) → Steps table becomes (LoadFixed (a_node n) offset w) a b → ReadsOn table becomes a b
   reads_fixed n offset w a b s = record {
     goes = record {
       acts = LoadFixed (a_node n) offset w ∷ [];
       steps = runs_one table becomes (LoadFixed (a_node n) offset w) a b s;
-      later = recalls_on table.layout silent a.0.known b.0.known (LoadFixed (a_node n) offset w) tt s.event;
-      locks = ap (λ (z : Known). z.locks) s.event.learned_is;
-      anchor = ap (λ (z : Known). z.anchor) s.event.learned_is;
+      stays = still_locked table.layout a.0.known b.0.known (LoadFixed (a_node n) offset w) tt tt tt s.event;
     };
     own = ap (λ (z : Known). z.own) s.event.learned_is;
   }
 
-  pub reads_entry : (n i w : ℕ) (a b : SeatView × G) → Steps table becomes (LoadRef (Slot n i) w) a b → Reads table becomes a b
+  pub reads_entry : (n i w : ℕ) (a b : SeatView × G) → Steps table becomes (LoadRef (Slot n i) w) a b → ReadsOn table becomes a b
   reads_entry n i w a b s = record {
     goes = record {
       acts = LoadRef (Slot n i) w ∷ [];
       steps = runs_one table becomes (LoadRef (Slot n i) w) a b s;
-      later = recalls_on table.layout silent a.0.known b.0.known (LoadRef (Slot n i) w) tt s.event;
-      locks = ap (λ (z : Known). z.locks) s.event.learned_is;
-      anchor = ap (λ (z : Known). z.anchor) s.event.learned_is;
+      stays = still_locked table.layout a.0.known b.0.known (LoadRef (Slot n i) w) tt tt tt s.event;
     };
     own = ap (λ (z : Known). z.own) s.event.learned_is;
   }

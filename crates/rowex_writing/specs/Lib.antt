@@ -2,3 +2,4 @@
 pub mod Plans
 pub mod Remaking
 pub mod Going
+pub mod Building

@@ -4,7 +4,7 @@ ghost use Rattle.std.specs.Prelude.{◌≡◌, ◌<◌, ℕ, List, get_or};
 ghost use Rattle.record_words.specs.Reading.{IsSpelling};
 ghost use Rattle.record_words.specs.Node.{HasNodeWords, node_words};
 ghost use Rattle.rowex_table.specs.Seats.{IsSeatOf};
-ghost use Rattle.rowex_writing.specs.Going.{Reads, HasLocked, IsLockedBy};
+ghost use Rattle.rowex_writing.specs.Going.{ReadsOn, HasLocked, IsLockedBy};
 
 use compound_node::Node;
 use record_words::{HEAD_WORDS, NODE_FIELDS, read_node};
@@ -21,7 +21,7 @@ pub fn read_locked<G: Gate>(
     requires own { IsSeatOf table.now seat.old }
     requires range { number < table.now.layout.nodes }
     requires locked { IsLockedBy seat.old.known number }
-    ensures reads { Reads table.now G.becomes (seat.old, gate.old) (seat.new, gate.new) }
+    ensures reads { ReadsOn table.now G.becomes (seat.old, gate.old) (seat.new, gate.new) }
     ensures node { (words : List ℕ) → HasLocked seat.old.known number words → HasNodeWords result × (node_words result ≡ words) }
 {
     let mut words = [0; NODE_FIELDS];
@@ -42,7 +42,7 @@ fn load_word<G: Gate>(
     requires own { IsSeatOf table.now seat.old }
     requires range { number < table.now.layout.nodes }
     requires index { index < 57 }
-    ensures reads { Reads table.now G.becomes (seat.old, gate.old) (seat.new, gate.new) }
+    ensures reads { ReadsOn table.now G.becomes (seat.old, gate.old) (seat.new, gate.new) }
     ensures word { (words : List ℕ) → HasLocked seat.old.known number words → result ≡ get_or words index 0 }
     ensures spelled { (words : List ℕ) → HasLocked seat.old.known number words → IsSpelling HasNodeWords node_words words }
 {

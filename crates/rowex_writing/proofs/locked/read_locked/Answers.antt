@@ -18,7 +18,7 @@ loop-index-preserved g c =
       own = seat_of table g.G.Gate.becomes _ _ e.reads.goes i.own;
       reads = reads_more table g.G.Gate.becomes _ _ _ i.reads e.reads;
       long = length-set c.loop-index.words c.loop-index.index c.load_word.result ∙ i.long;
-      those = λ words h. (let there = locked_on c.args.seat.now.known c.loop-index.seat.known c.args.number words i.reads.goes.locks h in
+      those = λ words h. (let there = locked_on c.args.seat.now.known c.loop-index.seat.known c.args.number words i.reads.goes.stays.1 h in
           more_those c.loop-index.words words c.loop-index.index c.load_word.result (omega (arith, i.long, c.loop-index-test.true)) (i.those words h) (e.word words there) (e.spelled words there));
     }
 
