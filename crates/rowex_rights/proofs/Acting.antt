@@ -11,7 +11,7 @@ use Rattle.rowex_table.proofs.ActsLeave as leave
 use Rattle.rowex_rights.specs.Acts.{LedMayLock, LockGivesNode, LockGivesAnchor, LoadsOfLocked, LoadOfRoot, LockFails, ClaimFails, ActLeaves, ActGoesOn}
 
 pub led_may_lock : LedMayLock
-led_may_lock layout k pin since n h pinned early sure c law layout_is known state =
+led_may_lock layout k since n h (pin, pinned, early) sure c law layout_is known state =
     let (m, u, lo, hi, stands, page_is) = sure c law (recalls c k known) in
     led_is_in_tree c law k.pass pin (pin_is c k known ∙ pinned) n m u (omega arith) hi stands state
 

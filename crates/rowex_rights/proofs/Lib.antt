@@ -2,8 +2,10 @@
 pub mod Stages
 pub mod Publishing
 pub mod Bounding
+pub mod Sure
 pub mod Rising
 pub mod Inserting
+pub mod Insertions
 pub mod Replacing
 pub mod Acting
 pub mod Loops

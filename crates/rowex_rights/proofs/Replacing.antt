@@ -1,5 +1,5 @@
 -- Upserts and removals may be published; and leaves that a pass has read stay.
-use Rattle.std.proofs.Common.{◌≡◌, inl, List, [], ◌∷◌, Some, None, refl, sym, ap, subst, ◌∙◌, arith}
+use Rattle.std.proofs.Common.{◌≡◌, inl, List, [], ◌∷◌, Some, None, refl, sym, ap, subst, ◌∙◌}
 use Rattle.compound_node.specs.declared.entries.Entry.TheVariants.{Leaf, Node}
 use Rattle.hot_model.specs.declared.Change.{Change}
 use Rattle.tries.specs.Search.{child, seek}
@@ -8,7 +8,6 @@ use Rattle.tries.specs.Tree.{leaf, Within, here, inside}
 use Rattle.tries.proofs.Tries.{within_trans, within_child}
 use Rattle.moments.specs.declared.Rec.TheVariants.{Node as a_node, Leaf as a_leaf}
 use Rattle.moments.specs.Heap.{NodeWords, LeafWords}
-use Rattle.moments.specs.Core.{pin_moment}
 use Rattle.rowex_walks.specs.Writer.{item, replaced_change, removed_change}
 use Rattle.rowex_walks.specs.Rise.{IsLeafOf, IsOver, entry_news}
 use Rattle.rowex_walks.specs.Statements.{IsPublished}
@@ -23,6 +22,7 @@ use Rattle.rowex_table.specs.Publishes.{MayPublish}
 use Rattle.rowex_table.proofs.ActsAfter.{publishes_made}
 use Rattle.rowex_rights.specs.Rises.{of_leaf}
 use Rattle.rowex_rights.proofs.Stages.{locked_node, slot_store, made_leaf, stage_of}
+use Rattle.rowex_rights.proofs.Sure.{reach_since}
 use Rattle.rowex_rights.proofs.Publishing.{publish_words, publish_root, leaf_held}
 use Rattle.rowex_rights.proofs.Rising.{side_in}
 use Rattle.rowex_walks.proofs.Leaves.{upsert_slot, upsert_root}
@@ -31,10 +31,9 @@ use Rattle.rowex_walks.proofs.Search.{leaf_now}
 use Rattle.rowex_rights.specs.Cases.{LeafStays, UpsertInSlot, UpsertAtRoot, RemoveInSlot, RemoveAtRoot, RemoveLast}
 
 pub leaf_stays : LeafStays
-leaf_stays layout k held news pin since j key value pinned early sure c stage =
+leaf_stays layout k held news since j key value pinned sure c stage =
     let (n, lo, hi, st) = sure c stage.lawful stage.recalls in
-    let at : pin_moment (c.pins k.pass) ≡ Some pin.moment = ap pin_moment (stage.recalls.pin ∙ pinned) in
-    leaf_now (state_of c) stage.lawful.core.state since (λ m le. stage.lawful.core.state.reach k.pass pin.moment at m (omega arith)) n j j key value lo hi st
+    leaf_now (state_of c) stage.lawful.core.state since (reach_since k since pinned c stage.lawful stage.recalls) n j j key value lo hi st
 
 pub upsert_in_slot : UpsertInSlot
 upsert_in_slot layout k held x n j slot w value words has spelled here_locked at place high there word =

@@ -1,8 +1,5 @@
 -- What has risen stays while the pass goes on, and grows by one step.
-use Rattle.std.proofs.Common.{◌≡◌, ◌≢◌, inl, ℕ, List, [], ◌∷◌, ◌++◌, Some, refl, sym, ap, ap₂, subst, ◌∙◌, append_assoc, arith}
-use Rattle.std.proofs.lemmas.List.Elements.{All-append}
-use Rattle.hot_model.specs.declared.Change.{Change}
-use Rattle.hot_model.specs.Fronts.{OthersGoOn}
+use Rattle.std.proofs.Common.{◌≡◌, inl, ℕ, List, [], ◌∷◌, ◌++◌, refl, sym, ap, ap₂, subst, ◌∙◌}
 use Rattle.compound_node.specs.Nodes.{piece}
 use Rattle.compound_node.specs.declared.entries.Entry.{Entry}
 use Rattle.compound_node.specs.declared.entries.Entry.TheVariants.{Node, Leaf}
@@ -21,15 +18,14 @@ use Rattle.rowex_core.specs.declared.known.Locked.{Locked}
 use Rattle.rowex_core.specs.Reading.{node_of}
 use Rattle.rowex_core.specs.Cores.{Core, bare}
 use Rattle.rowex_core.specs.Sharing.{IsOwned, IsLocked}
-use Rattle.rowex_core.specs.Knowing.{Recalls}
 use Rattle.moments.specs.Trades.{IsOf}
 use Rattle.moments.proofs.Members.{of_left, of_right}
 use Rattle.rowex_walks.proofs.Rising.{fork_parts}
 use Rattle.rowex_walks.proofs.Upwards.{upper_goes_on}
 use Rattle.rowex_rights.proofs.Bounding.{bound_of, tree_risen, bound_risen}
+use Rattle.rowex_rights.proofs.Sure.{reach_since, recalls_earlier}
 use Rattle.rowex_rights.proofs.Stages.{node_fixed, locked_node, upper_in, made_node}
 use Rattle.tries.specs.Affected.{page_affected, page_forked, page_grown, IsPartPage, IsFirstBelow}
-use Rattle.moments.specs.Core.{pin_moment}
 use Rattle.moments.specs.State.{IsFrom}
 use Rattle.rowex_walks.specs.Writer.{IsWay, IsFound}
 use Rattle.rowex_table.specs.Made.{IsLater, Made, held_as, recs_of}
@@ -37,16 +33,6 @@ use Rattle.rowex_rights.specs.Stages.{IsStage}
 use Rattle.rowex_rights.specs.Rises.{AboveGoesOn, HasFoundBelow, IsSide, RiseGrows, RiseWhole, RisenStays, RisesCopied, RisesHalved, RisesPulled, RisesWrapped, anew, of_leaf, of_view, one}
 
 -- What stays
-
-pub others_on : (q : ℕ) (a b c : List Change) → OthersGoOn q a b → OthersGoOn q b c → OthersGoOn q a c
-others_on q a b c (x, e, f) (y, g, h) = (x ++ y, g ∙ (ap (λ z. z ++ y) e ∙ append_assoc a x y), All-append (λ (z : Change). z.pass ≢ q) x y f h)
-
-recalls_earlier : (k j : Known) → IsLater k j → (c : Core) → Recalls c j → Recalls c k
-recalls_earlier k j later c r = record {
-  front = others_on k.pass k.front j.front c.changes later.front (subst (λ q. OthersGoOn q j.front c.changes) later.pass r.front);
-  facts = later.facts c.past r.facts;
-  pin = ap c.pins (sym later.pass) ∙ (r.pin ∙ later.pin);
-}
 
 pub stage_earlier : (layout : Layout) (k j : Known) → IsLater k j → (held : List Locked) (news : List Made) (c : Core) → IsStage layout j held news c → IsStage layout k held news c
 stage_earlier layout k j later held news c s = record {
@@ -121,12 +107,10 @@ rises_halved layout k held news gone since x p l leaf n words at f a b d e us vs
 pub found_in : (layout : Layout) (k : Known) (held : List Locked) (news : List Made) (since : ℕ) (x : Item) (p : ℕ) (l : Key) (n : ℕ) (words : List ℕ) → HasFoundBelow k held since x p l n words →
     (c : Core) → IsStage layout k held news c → IsFound (bare c) k.pass since x p l n × ((bare c).heap.nodes n ≡ node_of words)
 found_in layout k held news since x p l n words f c stage =
-    let (node, same) = locked_node layout k held news c stage n words f.locked in
-    let pinned : pin_moment (c.pins k.pass) ≡ Some f.pin.moment = ap pin_moment (stage.recalls.pin ∙ f.pinned) in
-    let early = f.early in (
+    let (node, same) = locked_node layout k held news c stage n words f.locked in (
       record {
         key = f.leaf.key;
-        reach = λ m le. stage.lawful.core.state.reach k.pass f.pin.moment pinned m (omega arith);
+        reach = reach_since k since f.pinned c stage.lawful stage.recalls;
         lock = node.lock;
         way = subst (λ (z : NodeWords). IsWay c.past since x.key z.page l) (sym same) (f.way c stage.lawful stage.recalls);
         agree = f.agree;

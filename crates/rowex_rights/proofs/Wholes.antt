@@ -17,7 +17,7 @@ use Rattle.rowex_rights.proofs.Ending.{settles}
 use Rattle.rowex_rights.proofs.Loops.{makes_one, later_on}
 use Rattle.rowex_table.specs.Publishes.{Publishes}
 use Rattle.rowex_table.specs.Made.{Made, nodes_of}
-use Rattle.rowex_rights.specs.Wholes.{NormalInsert, TwoLevels}
+use Rattle.rowex_rights.specs.Wholes.{TwoLevels, WholeInsert}
 use Rattle.rowex_rights.specs.Stages.{HasRisen}
 use Rattle.rowex_rights.specs.Rises.{anew, of_leaf, of_view}
 
@@ -31,8 +31,8 @@ kept_two o n ne = record {
   each = λ m h. elim h [ inl e ↦ (inl e, λ y. elim y [ inl g ↦ ne (sym e ∙ node_number g) | inr z ↦ absurd z ]) | inr z ↦ absurd z ];
 }
 
-pub normal_insert : NormalInsert
-normal_insert layout k since x p l o n m slot w below above view has ne none found part a same at low built shows word = (
+pub whole_insert : WholeInsert
+whole_insert layout k since x p l o n m slot w below above view has ne none found part a same at low built shows word = (
   publishes,
   λ j i h g epoch done load marks unlocks. (let published = publishes.gives j (o ∷ []) keeps done in
       let (own, locks, (front, anchor)) = settles layout k j i h g (added_change k.pass x) None (a_node n ∷ []) (o ∷ []) epoch published ((λ z. absurd z), tt) load marks unlocks in

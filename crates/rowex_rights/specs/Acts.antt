@@ -1,12 +1,11 @@
 -- Locks, loads under them, attempts that fail: what they teach a pass, and what each act leaves it.
-use Rattle.std.specs.Prelude.{◌≡◌, ◌≢◌, ◌≤◌, ℕ, ◌+◌, List, ◌∷◌, length, get_or, Option, Some, None}
+use Rattle.std.specs.Prelude.{◌≡◌, ◌≢◌, ℕ, ◌+◌, List, ◌∷◌, length, get_or, Option, Some, None}
 use Rattle.compound_node.specs.declared.entries.Entry.{Entry}
 use Rattle.compound_node.specs.declared.entries.Entry.TheVariants.{Node}
 use Rattle.record_words.specs.declared.layout.Layout.{Layout}
 use Rattle.record_words.specs.Entry.{entry_word}
 use Rattle.moments.specs.declared.Rec.{Rec}
 use Rattle.moments.specs.declared.Rec.TheVariants.{Node as a_node}
-use Rattle.moments.specs.declared.Pin.{Pin}
 use Rattle.moments.specs.Trades.{IsOf}
 use Rattle.rowex_walks.specs.Scan.{IsSeen}
 use Rattle.rowex_core.specs.declared.event.Act.{Act}
@@ -21,13 +20,12 @@ use Rattle.rowex_table.specs.Rights.{MayLock}
 use Rattle.rowex_table.specs.Made.{IsLater, nodes_of}
 use Rattle.rowex_table.specs.Publishes.{silent}
 use Rattle.rowex_table.specs.Stays.{KeepsRecall, IsNext}
-use Rattle.rowex_rights.specs.Stages.{IsSure}
+use Rattle.rowex_rights.specs.Stages.{IsSure, IsSince}
 
 -- A node to which the pass was led since its pin it may lock.
 abbrev pub LedMayLock : Type 0
 LedMayLock =
-    (layout : Layout) (k : Known) (pin : Pin) (since n h : ℕ) → k.pin ≡ Some pin → pin.moment ≤ since → IsSure k (λ s. IsSeen s since (Node n h)) →
-    MayLock layout (NodeTarget n) k
+    (layout : Layout) (k : Known) (since n h : ℕ) → IsSince k since → IsSure k (λ s. IsSeen s since (Node n h)) → MayLock layout (NodeTarget n) k
 
 -- A node that it has locked it had not locked before; its words stay from then on.
 abbrev pub LockGivesNode : Type 0

@@ -1,5 +1,5 @@
 -- Each case of an insertion, an upsert and a removal: from what a pass knows to its publish, and to what it knows then.
-use Rattle.std.specs.Prelude.{◌≡◌, ◌≢◌, ◌≤◌, ◌<◌, ℕ, List, [], ◌∷◌, Some, None}
+use Rattle.std.specs.Prelude.{◌≡◌, ◌≢◌, ◌<◌, ℕ, List, [], ◌∷◌, Some, None}
 use Rattle.compound_node.specs.Nodes.{NodeView, piece}
 use Rattle.compound_node.specs.declared.entries.Entry.{Entry}
 use Rattle.compound_node.specs.declared.entries.Entry.TheVariants.{Leaf, Node}
@@ -14,7 +14,6 @@ use Rattle.tries.specs.Content.{Item}
 use Rattle.tries.specs.Affected.{page_affected, page_forked, IsLowerPage}
 use Rattle.moments.specs.declared.Rec.{Rec}
 use Rattle.moments.specs.declared.Rec.TheVariants.{Node as a_node, Leaf as a_leaf}
-use Rattle.moments.specs.declared.Pin.{Pin}
 use Rattle.moments.specs.Trades.{IsOf}
 use Rattle.rowex_walks.specs.Scan.{IsRead}
 use Rattle.rowex_walks.specs.Writer.{item, added_change, replaced_change, removed_change}
@@ -25,7 +24,7 @@ use Rattle.rowex_core.specs.declared.known.Locked.{Locked}
 use Rattle.rowex_core.specs.Reading.{node_of}
 use Rattle.rowex_table.specs.Made.{Made}
 use Rattle.rowex_table.specs.Publishes.{Publishes}
-use Rattle.rowex_rights.specs.Stages.{IsSure, HasReady, HasLeaf, HasRisen, IsAbove, IsLeafThere}
+use Rattle.rowex_rights.specs.Stages.{IsSure, IsSince, HasReady, HasLeaf, HasRisen, IsAbove, IsLeafThere}
 use Rattle.rowex_rights.specs.Rises.{of_view, of_leaf, IsAnew, IsSide, HasFoundBelow}
 
 -- The entry has a word, which is this one.
@@ -35,8 +34,8 @@ IsWord e w = HasEntryWord (Some e) × (entry_word (Some e) ≡ w)
 -- A leaf that a pinned pass has read keeps its key and value.
 abbrev pub LeafStays : Type 0
 LeafStays =
-    (layout : Layout) (k : Known) (held : List Locked) (news : List Made) (pin : Pin) (since j : ℕ) (key : Key) (value : ℕ) →
-    k.pin ≡ Some pin → pin.moment ≤ since → IsSure k (λ s. IsRead s since j key value) → IsLeafThere layout k held news j key value
+    (layout : Layout) (k : Known) (held : List Locked) (news : List Made) (since j : ℕ) (key : Key) (value : ℕ) → IsSince k since →
+    IsSure k (λ s. IsRead s since j key value) → IsLeafThere layout k held news j key value
 
 -- Insertion
 

@@ -32,8 +32,8 @@ use Rattle.rowex_rights.specs.Ending.{MarksEach, UnlocksEach, IsAtRest}
 -- A normal insert below a parent: the pass has locked the node o and, before it, the node n below; it has made a leaf, and then a
 -- node of n's page with the leaf, and no more. It may publish that node in the place of n; and when it has loaded the epoch,
 -- marked n and unlocked o, it is at rest.
-abbrev pub NormalInsert : Type 0
-NormalInsert =
+abbrev pub WholeInsert : Type 0
+WholeInsert =
     (layout : Layout) (k : Known) (since : ℕ) (x : Item) (p : ℕ) (l : Key) (o n m slot w : ℕ) (below above : List ℕ) (view : NodeView) →
     HasReady k (record { node = o; words = above } ∷ record { node = n; words = below } ∷ []) (of_view m view ∷ of_leaf x ∷ []) → o ≢ n → k.anchor ≡ None →
     HasFoundBelow k k.locks since x p l n below → IsPartPage (page_affected p x.key (node_of below).page) →

@@ -1,0 +1,6 @@
+-- The law insertion.
+use Rattle.rowex_rights.proofs.Insertions.{insertion}
+use Rattle.rowex_rights.proofs.laws.insertion.Goals as goal
+
+pub returns : goal.returns
+returns c = insertion
