@@ -13,7 +13,7 @@ use Rattle.moments.specs.Steps.{same_rec}
 use Rattle.moments.specs.Core.{Fate, Free, Held as HeldBy, Ready as ReadyBy, InTree, Unlinked as UnlinkedBy, Marked}
 use Rattle.rowex_core.specs.declared.event.Act.{Act}
 use Rattle.rowex_core.specs.declared.event.Spot.TheVariants.{Root, Slot}
-use Rattle.rowex_core.specs.declared.event.Act.TheVariants.{Claim, Fill, Ready, Release, LoadRef, LoadFixed, Lock, Unlock, LoadEpoch, Advance, SetPin, ClearPin, LoadPin, LoadState, GiveBack}
+use Rattle.rowex_core.specs.declared.event.Act.TheVariants.{Claim, Fill, Ready, Release, LoadRef, LoadFixed, Lock, Unlock, Publish, Mark, LoadEpoch, Advance, SetPin, ClearPin, LoadPin, LoadState, GiveBack}
 use Rattle.rowex_core.specs.declared.event.Target.TheVariants.{Anchor, Node as NodeTarget}
 use Rattle.rowex_core.specs.declared.known.Holding.{Holding}
 use Rattle.rowex_core.specs.declared.known.Holding.TheVariants.{Held, Ready as IsReady}
@@ -27,7 +27,6 @@ use Rattle.rowex_core.specs.Sharing.{IsOwned}
 use Rattle.rowex_core.proofs.Owning.{knows_all}
 use Rattle.rowex_core.specs.Knowing.{Knows, IsEvent, anchor_learned, claim_learned, fill_in, hold_as, learned_by}
 use Rattle.rowex_table.specs.Rule.{MayStep}
-use Rattle.rowex_table.specs.Stays.{LeavesOwn}
 use Rattle.rowex_table.specs.Rights.{Has, HasFilled, IsHeld}
 
 -- A record whose state word is 0 is free
@@ -43,7 +42,7 @@ free_tag None (UnlinkedBy s l q) e = absurd (omega arith)
 free_tag (Some p) (UnlinkedBy s l q) e = absurd (omega arith)
 free_tag lock (Marked s l epoch) e = absurd (omega arith)
 
-mapped : (f : Owned → Owned) (own : List Owned) (o : Owned) → Contains own o → Contains (map f own) (f o)
+pub mapped : (f : Owned → Owned) (own : List Owned) (o : Owned) → Contains own o → Contains (map f own) (f o)
 mapped f own o h = (h.0, subst (λ n. h.0 < n) (sym (length-map own f)) h.1, get_or-map f own h.0 o (f o) h.1 ∙ ap f h.2)
 
 next_word : (own words : List ℕ) (i : ℕ) (word : ℕ) → length own ≡ length words → i < length words → take i own ≡ take i words → word ≡ get_or words i word
@@ -53,6 +52,14 @@ next_word own words i word m low same is = subst (λ j. (length (set own j word)
   where
     at : i ≡ i + 1 - 1
     at = omega arith
+
+-- another record than r
+pub other : (s r : Rec) → s ≢ r → same_rec s r ≡ false
+other s r ne = go (same_rec s r) refl
+  where
+    go : (b : Bool) → same_rec s r ≡ b → b ≡ false
+    go true e = absurd (ne (same_rec_true s r e))
+    go false e = refl
 
 -- a record that is filled with all of the words has these
 pub filled : (k : Known) (r : Rec) (words : List ℕ) (i : ℕ) → length words ≤ i → HasFilled k r words i → Has k r Held words
@@ -84,9 +91,19 @@ module _ (layout : Layout) (k : Known) where
       go (Some e) is some = ((knows_all c k known).anchor e is).0
       go None is some = absurd cc
 
-pub anchor_free : (o : Option ℕ) → state_word (lock_tag o) ≡ 2 → o ≡ None
+anchor_free : (o : Option ℕ) → state_word (lock_tag o) ≡ 2 → o ≡ None
 anchor_free None e = refl
 anchor_free (Some q) e = absurd (omega arith)
+
+-- a step that leaves the records that its pass owns
+abbrev pub LeavesOwn : Act → Type 0
+LeavesOwn (Claim r found) = ⊥
+LeavesOwn (Fill r offset w) = ⊥
+LeavesOwn (Ready r) = ⊥
+LeavesOwn (Release r) = ⊥
+LeavesOwn (Publish spot w) = ⊥
+LeavesOwn (Mark r epoch) = ⊥
+LeavesOwn act = Unit {0}
 
 module _ (layout : Layout) (said : Known → List Note) (k j : Known) where
   -- what a pass has claimed is its own, with the words that stand there
@@ -155,13 +172,6 @@ module _ (layout : Layout) (said : Known → List Note) (k j : Known) where
   -- loads, locks and steps on epochs leave all that it has
   pub own_stays : (act : Act) → LeavesOwn act → IsEvent layout act said k j → j.own ≡ k.own
   own_stays act t e = ap (λ (z : Known). z.own) e.learned_is ∙ learned_own e.core act t
-
-  other : (s r : Rec) → s ≢ r → same_rec s r ≡ false
-  other s r ne = go (same_rec s r) refl
-    where
-      go : (b : Bool) → same_rec s r ≡ b → b ≡ false
-      go true e = absurd (ne (same_rec_true s r e))
-      go false e = refl
 
   claimed_own : (c : Core) (r : Rec) (found : ℕ) (f : Fate) (o : Owned) → Contains k.own o → Contains (claim_learned c r found f k).own o
   claimed_own c r found Free o h = let low = h.1 in (suc h.0, omega arith, h.2)

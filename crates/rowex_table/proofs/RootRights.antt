@@ -67,7 +67,7 @@ module _ (c : Core) (law : IsLawful c) where
       go (Some t) is top = let l = leaf_tree n t top.0 in (l.0, l.1, is ∙ ap Some l.2)
 
   -- a node in the tree is linked in the newest moment
-  node_linked : (n : ℕ) (t : Option Tree) → c.past.moment c.past.now ≡ t → IsInTree c n → IsLinked t (a_node n)
+  pub node_linked : (n : ℕ) (t : Option Tree) → c.past.moment c.past.now ≡ t → IsInTree c n → IsLinked t (a_node n)
   node_linked n t is (since, e) =
       let u = (in_tree_now (bare c) law.core.state n since e).1 in
       subst (λ z. IsLinked z (a_node n)) (sym u.is_moment ∙ is) (within_links u.within (a_node n) u.is_record)

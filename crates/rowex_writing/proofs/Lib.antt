@@ -4,3 +4,4 @@ pub mod Remade
 pub mod Locking
 pub mod Staging
 pub mod Raising
+pub mod Making
