@@ -13,7 +13,7 @@ use Rattle.moments.specs.Steps.{same_rec}
 use Rattle.moments.specs.Core.{Fate, Free, Held as HeldBy, Ready as ReadyBy, InTree, Unlinked as UnlinkedBy, Marked}
 use Rattle.rowex_core.specs.declared.event.Act.{Act}
 use Rattle.rowex_core.specs.declared.event.Spot.TheVariants.{Root, Slot}
-use Rattle.rowex_core.specs.declared.event.Act.TheVariants.{Claim, Fill, Ready, Release, LoadRef, LoadFixed, Lock, Unlock, Publish, Mark, LoadEpoch, Advance, SetPin, ClearPin, LoadPin, LoadState, GiveBack}
+use Rattle.rowex_core.specs.declared.event.Act.TheVariants.{Claim, Fill, Ready, Release, LoadRef, LoadFixed, Lock, Unlock, LoadEpoch, Advance, SetPin, ClearPin, LoadPin, LoadState, GiveBack}
 use Rattle.rowex_core.specs.declared.event.Target.TheVariants.{Anchor, Node as NodeTarget}
 use Rattle.rowex_core.specs.declared.known.Holding.{Holding}
 use Rattle.rowex_core.specs.declared.known.Holding.TheVariants.{Held, Ready as IsReady}
@@ -27,6 +27,7 @@ use Rattle.rowex_core.specs.Sharing.{IsOwned}
 use Rattle.rowex_core.proofs.Owning.{knows_all}
 use Rattle.rowex_core.specs.Knowing.{Knows, IsEvent, anchor_learned, claim_learned, fill_in, hold_as, learned_by}
 use Rattle.rowex_table.specs.Rule.{MayStep}
+use Rattle.rowex_table.specs.Stays.{LeavesOwn}
 use Rattle.rowex_table.specs.Rights.{Has, HasFilled, IsHeld}
 
 -- A record whose state word is 0 is free
@@ -91,19 +92,9 @@ module _ (layout : Layout) (k : Known) where
       go (Some e) is some = ((knows_all c k known).anchor e is).0
       go None is some = absurd cc
 
-anchor_free : (o : Option ℕ) → state_word (lock_tag o) ≡ 2 → o ≡ None
+pub anchor_free : (o : Option ℕ) → state_word (lock_tag o) ≡ 2 → o ≡ None
 anchor_free None e = refl
 anchor_free (Some q) e = absurd (omega arith)
-
--- a step that leaves the records that its pass owns
-abbrev pub LeavesOwn : Act → Type 0
-LeavesOwn (Claim r found) = ⊥
-LeavesOwn (Fill r offset w) = ⊥
-LeavesOwn (Ready r) = ⊥
-LeavesOwn (Release r) = ⊥
-LeavesOwn (Publish spot w) = ⊥
-LeavesOwn (Mark r epoch) = ⊥
-LeavesOwn act = Unit {0}
 
 module _ (layout : Layout) (said : Known → List Note) (k j : Known) where
   -- what a pass has claimed is its own, with the words that stand there
