@@ -1,5 +1,5 @@
 -- What holds of each node, and of the fields that make one.
-use Rattle.std.proofs.Common.{Bool, List, [], ap, arith, cond, false, get_or, length, map, set, subst, sym, take, true, ℕ, ◌+◌, ◌<◌, ◌^◌, ◌∙◌, ◌≡◌, ◌≤◌}
+use Rattle.std.proofs.Common.{Bool, List, [], ap, arith, cond, false, get_or, length, map, refl, set, subst, sym, take, true, ℕ, ◌+◌, ◌<◌, ◌^◌, ◌∙◌, ◌≡◌, ◌≤◌}
 use Rattle.std.proofs.lemmas.List.{get_or-replicate, get_or-take, length-map, length-replicate, length-set, length-take-le}
 use Rattle.std.proofs.lemmas.List.Elements.{All-set}
 use Rattle.std.specs.List.{All}
@@ -24,6 +24,9 @@ use Rattle.partial_keys.specs.Runs.{IsRunEnd, IsRunStart}
 use Rattle.pieces.proofs.Positions.{front_below-place}
 use Rattle.pieces.specs.Growth.{affected_count, affected_first}
 use Rattle.pieces.specs.Positions.{IsPlaceOf, front_below, has}
+
+pub length-leaves : (n : ℕ) → length (leaves n) ≡ n
+length-leaves n = length-replicate n (Leaf 0)
 
 pub same_count : (node : NodeView) → IsLawful node → length node.rows ≡ length node.entries
 same_count node lawful = same_length node.columns node.rows node.entries (piece node) lawful.shows
@@ -175,6 +178,17 @@ module _ (count height : ℕ) (columns sparse : List ℕ) where
         positions = lawful.positions;
         padded = node.padded;
         keys = shown-sparse_keys columns (take (length entries) sparse) entries (piece (node_from height columns sparse entries)) lawful.shows;
+      })
+
+  -- a head's fields fit together
+  pub head_fits : IsHead count height columns sparse → FitsHead count sparse (record { height = height; columns = columns; rows = take count sparse })
+  head_fits head =
+      let entries : List Entry = head.0 in
+      let node : IsNode height columns sparse entries = head.2 in
+      subst (λ n. FitsHead n sparse (record { height = height; columns = columns; rows = take n sparse })) head.1 (record {
+        padded = node.padded;
+        counted = same_count (node_from height columns sparse entries) node.lawful;
+        lawful = with_leaves (node_from height columns sparse entries) node.lawful (length entries) refl;
       })
 
   pub head_height : IsHead count height columns sparse → 0 < height

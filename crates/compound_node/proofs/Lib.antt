@@ -6,3 +6,4 @@ pub mod Ranges
 pub mod Forks
 pub mod Sides
 pub mod Removing
+pub mod Roots

@@ -7,10 +7,11 @@ use Rattle.std.proofs.lemmas.Nat.Bits.{bit_at_above, bit_at_cat_high, same_from_
 use Rattle.std.proofs.lemmas.Nat.{le-div, mod_below, pow_pos, shr_split}
 use Rattle.std.specs.Int.{bit_at}
 use Rattle.compound_node.proofs.Ladders.{rises-ladder, shown-sparse_keys}
-use Rattle.compound_node.proofs.Lawful.{rows_fit, same_count}
-use Rattle.compound_node.specs.Nodes.{AgreeBefore, IsLawful, NodeView, piece}
+use Rattle.compound_node.proofs.Lawful.{affected_range_is, rows_fit, same_count}
+use Rattle.compound_node.specs.Nodes.{AgreeBefore, HeadView, IsLawful, NodeView, head_of, piece}
 use Rattle.compound_node.specs.declared.entries.Entry.TheVariants.{Leaf}
 use Rattle.partial_keys.specs.Runs.{IsRunEnd, IsRunStart}
+use Rattle.pieces.specs.Growth.{affected_count, affected_first}
 use Rattle.pieces.proofs.Positions.{ascends_back, front_below-place}
 use Rattle.pieces.specs.Positions.{Ascends, IsPlaceOf, front_below}
 
@@ -91,3 +92,21 @@ module _ (node : NodeView) (lawful : IsLawful node) (position found n first last
 
   pub agree_range : (k : ℕ) → k < length node.entries → AgreeBefore node position found k ↔ ((first ≤ k) × (k ≤ last))
   agree_range k l = (inside k l, agrees k)
+
+-- ---- of a head, in each of its nodes
+pub record IsRange (node : NodeView) (position found first last : ℕ) : Type 0 where
+  pub range : (k : ℕ) → k < length node.entries → AgreeBefore node position found k ↔ ((first ≤ k) × (k ≤ last))
+  pub from : affected_first position found (piece node) ≡ first
+  pub upto : affected_count position found (piece node) + first ≡ last + 1
+
+pub range_of_head : (head : HeadView) (position found n first last : ℕ) → found < length head.rows → n ≡ front_below position head.columns → IsRunStart head.rows n found first → IsRunEnd head.rows n found last →
+    (node : NodeView) → IsLawful node → head_of node ≡ head → IsRange node position found first last
+range_of_head head position found n first last here below start end node lawful same =
+    let at_head = sym same in
+    let its_here : found < length node.rows = subst (λ (h : HeadView). found < length h.rows) at_head here in
+    let inside : found < length node.entries = omega (arith, its_here, same_count node lawful) in
+    let its_below : n ≡ front_below position node.columns = subst (λ (h : HeadView). n ≡ front_below position h.columns) at_head below in
+    let its_start : IsRunStart node.rows n found first = subst (λ (h : HeadView). IsRunStart h.rows n found first) at_head start in
+    let its_end : IsRunEnd node.rows n found last = subst (λ (h : HeadView). IsRunEnd h.rows n found last) at_head end in
+    let part = affected_range_is node lawful position found n first last inside its_below its_start its_end in
+    record { range = agree_range node lawful position found n first last inside its_below its_start its_end; from = part.0; upto = part.1 }

@@ -91,6 +91,10 @@ pub record HeadView : Type 0 where
 abbrev pub head_of : NodeView → HeadView
 head_of node = record { height = node.height; columns = node.columns; rows = node.rows }
 
+-- each node that has this head is so
+abbrev pub InEachNode : HeadView → (NodeView → Type 0) → Type 0
+InEachNode head IsSo = (node : NodeView) → IsLawful node → head_of node ≡ head → IsSo node
+
 abbrev pub node_of : HeadView → List Entry → NodeView
 node_of head entries = record { height = head.height; columns = head.columns; rows = head.rows; entries = entries }
 

@@ -4,7 +4,7 @@ ghost use Rattle.std.specs.Prelude.{◌↔◌, IsTrue};
 ghost use Rattle.compound_node.specs.Nodes.{FitsWords};
 ghost use Rattle.partial_keys.specs.Columns.{IsColumns};
 
-use super::rows::{are_sparse_keys, is_padded, padded};
+use super::rows::{are_sparse_keys, is_padded, padded, run_end, run_start};
 use key_bits::Key;
 use partial_keys::{Columns, search_lanes};
 use std::marker::Model;
@@ -31,9 +31,11 @@ impl Model for Head {
 }
 
 impl Head {
-    ghost use Rattle.std.specs.Prelude.{◌≡◌, ◌↔◌, ◌<◌, ◌≤◌, IsSome, IfSome, length, slice_index, take};
-    ghost use Rattle.compound_node.specs.Nodes.{IsHead, IsLawful, NodeView, head_of, leaves, node_of, piece};
+    ghost use Rattle.std.specs.Prelude.{◌≡◌, ℕ, ◌↔◌, ◌+◌, ◌<◌, ◌≤◌, IsSome, IfSome, length, slice_index, take};
+    ghost use Rattle.compound_node.specs.Nodes.{AgreeBefore, InEachNode, IsHead, IsLawful, leaves, node_of, piece};
     ghost use Rattle.key_bits.specs.Bits.{bit_of};
+    ghost use Rattle.pieces.specs.Changes.{AtRootFork};
+    ghost use Rattle.pieces.specs.Growth.{affected_count, affected_first};
     ghost use Rattle.pieces.specs.Piece.{leads_to};
 
     /// The head of these fields, where some node has them: `count` entries, and 4,294,967,295 at
@@ -54,6 +56,19 @@ impl Head {
         }
     }
 
+    /// The head of these fields, which some node has.
+    pub fn of(count: u8, height: u16, columns: Columns, sparse: [u32; 32]) -> Head
+        requires { IsHead count height columns sparse }
+        ensures { result ≡ record { height = height; columns = columns; rows = take count sparse } }
+    {
+        Head {
+            height,
+            count,
+            columns,
+            sparse,
+        }
+    }
+
     /// How many entries the node has, 2 to 32.
     pub fn count(&self) -> u8
         ensures count { result ≡ length self.now.rows }
@@ -71,10 +86,38 @@ impl Head {
 
     /// The place to which the forks lead, in each node that has this head.
     pub fn search(&self, key: &Key) -> u8
-        ensures leads { (node : NodeView) → IsLawful node → head_of node ≡ self.now → result ≡ leads_to (bit_of key.now) (piece node) }
+        ensures leads { InEachNode self.now (λ node. result ≡ leads_to (bit_of key.now) (piece node)) }
         ensures in_range { result < length self.now.rows }
     {
         search_lanes(&self.sparse, self.columns.dense(key))
+    }
+
+    /// The position of the root fork, in each node that has this head.
+    pub fn first_position(&self) -> u16
+        ensures column { result ≡ slice_index self.now.columns 0 }
+        ensures root { InEachNode self.now (λ node. AtRootFork (λ p zero one. result ≡ p) (piece node)) }
+        ensures below { result < 65535 }
+    {
+        self.columns.first()
+    }
+
+    /// The first and the last of the entries that agree with entry `found` in all columns whose
+    /// position is below this one, in each node that has this head: those that a new fork at the
+    /// position concerns.
+    pub fn affected(&self, found: u8, position: u16) -> (u8, u8)
+        requires { found < length self.now.rows }
+        ensures range { InEachNode self.now (λ node. (k : ℕ) → k < length node.entries → AgreeBefore node position found k ↔ ((result.0 ≤ k) × (k ≤ result.1))) }
+
+        // In terms of the piece: the part below the forks before the position, on the way to entry `found`.
+        ensures from { InEachNode self.now (λ node. affected_first position found (piece node) ≡ result.0) }
+        ensures upto { InEachNode self.now (λ node. affected_count position found (piece node) + result.0 ≡ result.1 + 1) }
+    {
+        let rows = self.rows();
+        let columns = self.columns.below(position) as usize;
+        (
+            run_start(rows, columns, found as usize) as u8,
+            run_end(rows, columns, found as usize) as u8,
+        )
     }
 
     /// The head over these rows.

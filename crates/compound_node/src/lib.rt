@@ -17,6 +17,3 @@ pub use entries::Entry;
 pub use halves::{Cut, Half};
 pub use heads::Head;
 pub use nodes::Node;
-
-#[cfg(test)]
-mod tests;

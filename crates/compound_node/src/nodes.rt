@@ -4,7 +4,6 @@ use super::building::{built, with_fork};
 use super::entries::{Entry, all_stand_below, listed, replaced};
 use super::halves::{Cut, Half, cut_of, rest_of};
 use super::heads::Head;
-use super::rows::{run_end, run_start};
 use arrayvec::ArrayVec;
 use key_bits::Key;
 use partial_keys::Columns;
@@ -35,7 +34,7 @@ impl Node {
     ghost use Rattle.compound_node.specs.Halves.{CutShows, HalfShows};
     ghost use Rattle.compound_node.specs.Nodes.{AgreeBefore, IsBuiltFrom, IsEntry, IsLawful, IsNode, StandsBelow, head_of, node_from, node_of, piece};
     ghost use Rattle.key_bits.specs.Bits.{bit_of};
-    ghost use Rattle.pieces.specs.Changes.{without};
+    ghost use Rattle.pieces.specs.Changes.{AtRootFork, without};
     ghost use Rattle.pieces.specs.Changes.{replaced as replaced_place};
     ghost use Rattle.pieces.specs.Growth.{IsAffected, affected_count, affected_first, grown};
     ghost use Rattle.pieces.specs.Piece.{Fork, Place, leads_to};
@@ -57,6 +56,14 @@ impl Node {
         }
         let head = Head::from_parts(entries.len() as u8, height, columns, sparse)?;
         Some(Node::of(head, listed(entries)))
+    }
+
+    /// The node of a head and entries that it may have.
+    pub fn of(head: Head, entries: ArrayVec<Entry, 32>) -> Node
+        requires { IsLawful (node_of head entries.items) }
+        ensures { result ≡ node_of head entries.items }
+    {
+        Node { head, entries }
     }
 
     /// The node of two entries that part at a position. The height is one above theirs.
@@ -119,6 +126,14 @@ impl Node {
         self.head.copy()
     }
 
+    /// The position of the root fork.
+    pub fn first_position(&self) -> u16
+        ensures root { AtRootFork (λ p zero one. result ≡ p) (piece self.now) }
+        ensures below { result < 65535 }
+    {
+        self.head.first_position()
+    }
+
     /// The place to which the forks lead.
     pub fn search(&self, key: &Key) -> u8
         ensures leads { result ≡ leads_to (bit_of key.now) (piece self.now) }
@@ -137,12 +152,7 @@ impl Node {
         ensures from { affected_first position found (piece self.now) ≡ result.0 }
         ensures upto { affected_count position found (piece self.now) + result.0 ≡ result.1 + 1 }
     {
-        let rows = self.head.rows();
-        let columns = self.head.columns().below(position) as usize;
-        (
-            run_start(rows, columns, found as usize) as u8,
-            run_end(rows, columns, found as usize) as u8,
-        )
+        self.head.affected(found, position)
     }
 
     /// The node with a new fork over the entries from `first` to `last`, where they part from the
@@ -205,13 +215,5 @@ impl Node {
             self.entries.as_slice(),
             i as usize,
         )
-    }
-
-    /// The node of a head and entries.
-    pub(crate) fn of(head: Head, entries: ArrayVec<Entry, 32>) -> Node
-        requires { IsLawful (node_of head entries.items) }
-        ensures { result ≡ node_of head entries.items }
-    {
-        Node { head, entries }
     }
 }

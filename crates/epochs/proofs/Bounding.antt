@@ -1,5 +1,5 @@
 -- What loading the pins in turn comes to: the bound of a round.
-use Rattle.std.proofs.Common.{◌≡◌, ℕ, ◌+◌, ◌<◌, ◌≤◌, List, [], ◌∷◌, ◌++◌, Bool, true, false, min, nat_eq, if◌then◌else◌, Option, Some, None, refl, sym, ap, subst, ◌∙◌, arith, add-one, eq-eqb, ⊎_elim}
+use Rattle.std.proofs.Common.{◌≡◌, ℕ, ◌+◌, ◌<◌, ◌≤◌, List, [], ◌∷◌, ◌++◌, Bool, true, false, min, nat_eq, if◌then◌else◌, Option, Some, None, refl, sym, ap, subst, ◌∙◌, arith, eq-eqb, ⊎_elim}
 use Rattle.std.proofs.lemmas.Bool.{cases_lt}
 use Rattle.record_words.specs.declared.layout.Layout.{Layout}
 use Rattle.moments.specs.declared.Pin.{Pin}
@@ -10,20 +10,24 @@ use Rattle.rowex_core.specs.declared.event.Act.TheVariants.{LoadEpoch, LoadPin}
 use Rattle.rowex_core.specs.declared.known.Known.{Known}
 use Rattle.rowex_core.specs.Words.{pin_word}
 use Rattle.rowex_core.specs.Knowing.{IsEvent}
-use Rattle.epochs.specs.Runs.{silent}
-use Rattle.epochs.specs.Rounds.{HasBound, FindsBound}
+use Rattle.rowex_core.specs.declared.event.Event.{Event}
+use Rattle.rowex_table.specs.Runs.{silent, Steps}
+use Rattle.rowex_table.specs.Seats.{TableView, SeatView}
+use Rattle.rowex_table.proofs.Running.{in_turn_more}
+use Rattle.epochs.specs.Rounds.{HasBound, FindsBound, LoadsPin}
 use Rattle.epochs.proofs.Doing.{does_one, does_append}
 
-pub finds_none : (layout : Layout) (epoch : ℕ) (k j : Known) → IsEvent layout (LoadEpoch epoch) silent k j → FindsBound layout 0 k j
-finds_none layout epoch k j e = (epoch, [], refl, does_one layout (LoadEpoch epoch) k j tt e)
+module _ {G : Type 0} (table : TableView) (becomes : G → Event → G → Type 0) where
+  pub finds_none : (epoch : ℕ) (a b : SeatView × G) → Steps table becomes (LoadEpoch epoch) a b → FindsBound table becomes 0 a b
+  finds_none epoch a b e = (epoch, [], refl, does_one table becomes (LoadEpoch epoch) a b tt e)
 
-pub finds_more : (layout : Layout) (n word : ℕ) (k i j : Known) → FindsBound layout n k i → IsEvent layout (LoadPin n word) silent i j → FindsBound layout (n + 1) k j
-finds_more layout n word k i j finds e = subst (λ m. FindsBound layout m k j) (sym (add-one n)) (
-  finds.0,
-  finds.1 ++ LoadPin n word ∷ [],
-  (finds.1, LoadPin n word ∷ [], finds.2, (word, refl), refl),
-  does_append layout (LoadEpoch finds.0 ∷ finds.1) (LoadPin n word ∷ []) k i j finds.3 (does_one layout (LoadPin n word) i j tt e),
-)
+  pub finds_more : (n word : ℕ) (a m b : SeatView × G) → FindsBound table becomes n a m → Steps table becomes (LoadPin n word) m b → FindsBound table becomes (n + 1) a b
+  finds_more n word a m b finds e = (
+    finds.0,
+    finds.1 ++ LoadPin n word ∷ [],
+    in_turn_more LoadsPin n finds.1 (LoadPin n word ∷ []) finds.2 (word, refl),
+    does_append table becomes (LoadEpoch finds.0 ∷ finds.1) (LoadPin n word ∷ []) a m b finds.3 (does_one table becomes (LoadPin n word) m b tt e),
+  )
 
 pub bound_none : (layout : Layout) (epoch : ℕ) (k j : Known) → IsEvent layout (LoadEpoch epoch) silent k j → HasBound 0 epoch j
 bound_none layout epoch k j e = record {

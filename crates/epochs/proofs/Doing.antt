@@ -1,5 +1,5 @@
 -- Steps on epochs, pins and states: what they leave of what their pass knows, and how they follow one another.
-use Rattle.std.proofs.Common.{◌≡◌, ℕ, ◌+◌, List, [], ◌∷◌, ◌++◌, length, Option, refl, sym, ap, subst, ◌∙◌, arith, length-append}
+use Rattle.std.proofs.Common.{◌≡◌, ◌+◌, List, [], ◌∷◌, ◌++◌, Option, refl, sym, ap, ◌∙◌}
 use Rattle.std.proofs.lemmas.List.{append-nil}
 use Rattle.hot_model.specs.declared.Note.{Note}
 use Rattle.record_words.specs.declared.layout.Layout.{Layout}
@@ -7,10 +7,13 @@ use Rattle.moments.specs.declared.Pin.{Pin}
 use Rattle.moments.specs.declared.Round.{Round}
 use Rattle.rowex_core.specs.declared.event.Act.{Act}
 use Rattle.rowex_core.specs.declared.event.Act.TheVariants.{LoadEpoch, Advance, SetPin, ClearPin, LoadPin, LoadState, GiveBack}
+use Rattle.rowex_core.specs.declared.event.Event.{Event}
 use Rattle.rowex_core.specs.declared.known.Known.{Known}
 use Rattle.rowex_core.specs.Knowing.{IsEvent}
-use Rattle.epochs.specs.Runs.{silent, Run, Does}
-use Rattle.epochs.proofs.Reaching.{reach_is_kept}
+use Rattle.rowex_table.specs.Runs.{silent, Steps, Does}
+use Rattle.rowex_table.specs.Seats.{TableView, SeatView}
+use Rattle.rowex_table.proofs.Running as running
+use Rattle.epochs.specs.Runs.{paced}
 
 -- One step
 
@@ -26,12 +29,12 @@ OnlyPaces (GiveBack r epoch found) = Unit {0}
 OnlyPaces act = ⊥
 
 settled : (k j : Known) (pin : Option Pin) (round : Round) → j ≡ record k { pin = pin; round = round; steps = k.steps + 1; notes = k.notes ++ [] }
-    → j ≡ record k { pin = j.pin; round = j.round; steps = k.steps + 1 }
+    → j ≡ record (paced k j) { steps = k.steps + 1 }
 settled k j pin round e =
     let bare : record k { pin = pin; round = round; steps = k.steps + 1; notes = k.notes ++ [] } ≡ record k { pin = pin; round = round; steps = k.steps + 1 } = ap (λ (notes : List Note). let z : Known = record k { pin = pin; round = round; steps = k.steps + 1; notes = notes } in z) (append-nil k.notes) in
-    e ∙ (bare ∙ ap (λ (z : Known). let y : Known = record k { pin = z.pin; round = z.round; steps = k.steps + 1 } in y) (sym e))
+    e ∙ (bare ∙ ap (λ (z : Known). let y : Known = record (paced k z) { steps = k.steps + 1 } in y) (sym e))
 
-rest : (layout : Layout) (act : Act) (k j : Known) → OnlyPaces act → IsEvent layout act silent k j → j ≡ record k { pin = j.pin; round = j.round; steps = k.steps + 1 }
+rest : (layout : Layout) (act : Act) (k j : Known) → OnlyPaces act → IsEvent layout act silent k j → j ≡ record (paced k j) { steps = k.steps + 1 }
 rest layout (LoadEpoch w) k j paces e = settled k j _ _ e.learned_is
 rest layout (Advance expected found) k j paces e = settled k j _ _ e.learned_is
 rest layout (SetPin w) k j paces e = settled k j _ _ e.learned_is
@@ -41,29 +44,14 @@ rest layout (LoadState r w) k j paces e = settled k j _ _ e.learned_is
 rest layout (GiveBack r epoch found) k j paces e = settled k j _ _ e.learned_is
 rest layout _ k j paces e = absurd paces
 
-pub does_one : (layout : Layout) (act : Act) (k j : Known) → OnlyPaces act → IsEvent layout act silent k j → Does layout (act ∷ []) k j
-does_one layout act k j paces e =
-    let kept = reach_is_kept layout act silent k j e in
-    record { steps = (j, record { event = e; before = kept.0; later = kept.1 }, refl); rest = rest layout act k j paces e }
+module _ {G : Type 0} (table : TableView) (becomes : G → Event → G → Type 0) where
+  pub does_one : (act : Act) (a b : SeatView × G) → OnlyPaces act → Steps table becomes act a b → Does table becomes paced (act ∷ []) a b
+  does_one act a b paces step = running.does_one table becomes paced act a b step (rest table.layout act a.0.known b.0.known paces step.event)
 
--- Steps one after the other
+  -- Steps one after the other
 
-run_append : (layout : Layout) (acts more : List Act) (k i j : Known) → Run layout acts k i → Run layout more i j → Run layout (acts ++ more) k j
-run_append layout [] more k i j first second = subst (λ z. Run layout more z j) first second
-run_append layout (act ∷ acts) more k i j first second = (first.0, first.1, run_append layout acts more first.0 i j first.2 second)
+  pub does_append : (acts more : List Act) (a m b : SeatView × G) → Does table becomes paced acts a m → Does table becomes paced more m b → Does table becomes paced (acts ++ more) a b
+  does_append acts more a m b first second = running.does_append table becomes paced (λ k i j n o. refl) acts more a m b first second
 
-rest_append : (n m : ℕ) (k i j : Known) → i ≡ record k { pin = i.pin; round = i.round; steps = k.steps + n } → j ≡ record i { pin = j.pin; round = j.round; steps = i.steps + m }
-    → j ≡ record k { pin = j.pin; round = j.round; steps = k.steps + n + m }
-rest_append n m k i j first second = second ∙ ap (λ (z : Known). let y : Known = record z { pin = j.pin; round = j.round; steps = z.steps + m } in y) first
-
-pub does_append : (layout : Layout) (acts more : List Act) (k i j : Known) → Does layout acts k i → Does layout more i j → Does layout (acts ++ more) k j
-does_append layout acts more k i j first second =
-    let count : k.steps + length acts + length more ≡ k.steps + length (acts ++ more) = omega (arith, length-append acts more) in
-    record {
-      steps = run_append layout acts more k i j first.steps second.steps;
-      rest = rest_append (length acts) (length more) k i j first.rest second.rest ∙ ap (λ (n : ℕ). let z : Known = record k { pin = j.pin; round = j.round; steps = n } in z) count;
-    }
-
-pub does_two : (layout : Layout) (first second : Act) (k i j : Known) → OnlyPaces first → OnlyPaces second → IsEvent layout first silent k i → IsEvent layout second silent i j
-    → Does layout (first ∷ second ∷ []) k j
-does_two layout first second k i j paces paces' e f = does_append layout (first ∷ []) (second ∷ []) k i j (does_one layout first k i paces e) (does_one layout second i j paces' f)
+  pub does_two : (first second : Act) (a m b : SeatView × G) → OnlyPaces first → OnlyPaces second → Steps table becomes first a m → Steps table becomes second m b → Does table becomes paced (first ∷ second ∷ []) a b
+  does_two first second a m b paces paces' e f = does_append (first ∷ []) (second ∷ []) a m b (does_one first a m paces e) (does_one second m b paces' f)

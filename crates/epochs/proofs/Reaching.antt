@@ -1,5 +1,5 @@
 -- What pinned passes can reach is neither free nor held.
-use Rattle.std.proofs.Common.{◌≡◌, ℕ, ◌<◌, ◌≤◌, true, nat_eq, if◌then◌else◌, Option, Some, None, refl, sym, ap, subst, ◌∙◌, arith, eq-eqb}
+use Rattle.std.proofs.Common.{◌≡◌, ℕ, [], ◌∷◌, ◌<◌, ◌≤◌, true, nat_eq, if◌then◌else◌, Option, Some, None, refl, sym, ap, subst, ◌∙◌, arith, eq-eqb}
 use Rattle.record_words.specs.declared.state.Tag.TheVariants.{Obsolete}
 use Rattle.record_words.specs.State.{state_word}
 use Rattle.moments.specs.declared.Rec.{Rec}
@@ -13,14 +13,22 @@ use Rattle.rowex_core.specs.Words.{tag_of, lock_tag, lock_of}
 use Rattle.rowex_core.specs.Events.{after, given_back}
 use Rattle.rowex_core.proofs.Promises.{in_reach}
 use Rattle.rowex_core.proofs.Staying.{stays_lawful}
+use Rattle.rowex_core.specs.declared.event.Event.{Event}
+use Rattle.rowex_table.specs.Runs.{silent}
 use Rattle.epochs.specs.Reach.{IsReachKept}
-use Rattle.epochs.specs.Statements.{ReachIsKept, GivenIsOutOfReach}
+use Rattle.epochs.specs.Statements.{ReachIsKept, RunsKeepReach, GivenIsOutOfReach}
 
 kept_in : (c : Core) → IsLawful c → IsReachKept c
 kept_in c lawful r h = let kept = in_reach c lawful h.0 h.1 h.4 h.2 r h.3 h.5 h.6 h.7 in (kept.0, kept.1)
 
 pub reach_is_kept : ReachIsKept
 reach_is_kept layout act said k j event = (kept_in event.core event.lawful, kept_in (after event.core k.pass act) (stays_lawful event.core k.pass act event.lawful event.legal))
+
+pub runs_keep_reach : {G : Type 0} (becomes : G → Event → G → Type 0) → RunsKeepReach becomes
+runs_keep_reach becomes table [] a b run = tt
+runs_keep_reach becomes table (act ∷ acts) a b run =
+    let kept = reach_is_kept table.layout act silent a.0.known run.0.0.known run.1.event in
+    (kept.0, kept.1, runs_keep_reach becomes table acts run.0 b run.2)
 
 -- an exchange that found the state that it expected makes the record free, and changes no pin and no moment
 
@@ -29,7 +37,7 @@ unlocked_below None = omega arith
 unlocked_below (Some q) = omega arith
 
 freed : (c : Core) (r : Rec) (epoch : ℕ) (o : Option ℕ) (f : Fate) → state_word (Obsolete epoch) ≡ state_word (tag_of o f)
-    → ((given_back c r epoch f).fate r ≡ Free) × ((given_back c r epoch f).pins ≡ c.pins) × ((given_back c r epoch f).past ≡ c.past)
+    → ((given_back c.shared r epoch f).fate r ≡ Free) × ((given_back c.shared r epoch f).pins ≡ c.pins) × ((given_back c.shared r epoch f).past ≡ c.past)
 freed c r epoch o Free is = absurd (omega arith)
 freed c r epoch o (Held q) is = absurd (omega arith)
 freed c r epoch o (ReadyBy q) is = absurd (let low = unlocked_below o in omega arith)

@@ -1,20 +1,17 @@
 -- Rounds of collection.
-use Rattle.std.specs.Prelude.{◌≡◌, ◌≢◌, ℕ, zero, suc, ◌<◌, ◌≤◌, ◌+◌, ◌^◌, List, [], ◌∷◌, ◌++◌, Bool, true, false, nat_eq, nat_lt, if◌then◌else◌, count_by}
-use Rattle.record_words.specs.declared.layout.Layout.{Layout}
+use Rattle.std.specs.Prelude.{◌≡◌, ◌≢◌, ℕ, ◌<◌, ◌≤◌, ◌+◌, ◌^◌, List, [], ◌∷◌, ◌++◌, Bool, true, false, nat_eq, nat_lt, if◌then◌else◌, count_by}
 use Rattle.record_words.specs.declared.state.Tag.TheVariants.{Obsolete}
 use Rattle.record_words.specs.State.{state_word}
 use Rattle.moments.specs.Core.{has_seen}
 use Rattle.moments.specs.declared.Rec.{Rec}
 use Rattle.moments.specs.declared.Rec.TheVariants.{Node as a_node, Leaf as a_leaf}
 use Rattle.rowex_core.specs.declared.event.Act.{Act}
+use Rattle.rowex_core.specs.declared.event.Event.{Event}
 use Rattle.rowex_core.specs.declared.event.Act.TheVariants.{LoadEpoch, Advance, LoadPin, LoadState, GiveBack}
 use Rattle.rowex_core.specs.declared.known.Known.{Known}
-use Rattle.epochs.specs.Runs.{Does}
-
--- the steps of the first n, in rising number and one after the other
-abbrev pub InTurn : (ℕ → List Act → Type 0) → ℕ → List Act → Type 0
-InTurn Steps zero acts = acts ≡ []
-InTurn Steps (suc n) acts = (before : List Act) × (last : List Act) × InTurn Steps n before × Steps n last × (acts ≡ before ++ last)
+use Rattle.rowex_table.specs.Runs.{Does, InTurn}
+use Rattle.rowex_table.specs.Seats.{TableView, SeatView}
+use Rattle.epochs.specs.Runs.{paced}
 
 -- the exchange that makes an epoch the next one; at the last epoch there is none
 abbrev pub advance_steps : ℕ → ℕ → List Act
@@ -33,20 +30,20 @@ abbrev pub has_given : Act → Bool
 has_given (GiveBack r epoch found) = nat_eq found (state_word (Obsolete epoch))
 has_given act = false
 
--- A round of collection of a pass that knew k, and knows j then: it loads the epoch, makes it the next one, loads it again
+-- A round of collection: the pass loads the epoch, makes it the next one, loads it again
 -- and loads each pin; the least of that epoch and of the pins that are set is the bound of its round. Then it visits each
 -- record, nodes first. So many nodes and leaves it gives back.
-pub record IsRound (layout : Layout) (k j : Known) (given_nodes given_leaves : ℕ) : Type 0 where
+pub record IsRound {G : Type 0} (table : TableView) (becomes : G → Event → G → Type 0) (a b : SeatView × G) (given_nodes given_leaves : ℕ) : Type 0 where
   pub epoch : ℕ
   pub found : ℕ
   pub next : ℕ
   pub pins : List Act
   pub nodes : List Act
   pub leaves : List Act
-  pub does : Does layout (LoadEpoch epoch ∷ advance_steps epoch found ++ LoadEpoch next ∷ pins ++ nodes ++ leaves) k j
-  pub loads_pins : InTurn LoadsPin layout.passes pins
-  pub visits_nodes : InTurn (λ n. Visits j.round.bound (a_node n)) layout.nodes nodes
-  pub visits_leaves : InTurn (λ n. Visits j.round.bound (a_leaf n)) layout.leaves leaves
+  pub does : Does table becomes paced (LoadEpoch epoch ∷ advance_steps epoch found ++ LoadEpoch next ∷ pins ++ nodes ++ leaves) a b
+  pub loads_pins : InTurn LoadsPin table.layout.passes pins
+  pub visits_nodes : InTurn (λ n. Visits b.0.known.round.bound (a_node n)) table.layout.nodes nodes
+  pub visits_leaves : InTurn (λ n. Visits b.0.known.round.bound (a_leaf n)) table.layout.leaves leaves
   pub nodes_given : given_nodes ≡ count_by has_given nodes
   pub leaves_given : given_leaves ≡ count_by has_given leaves
 
@@ -59,17 +56,17 @@ pub record HasBound (n bound : ℕ) (k : Known) : Type 0 where
   pub seen : (o : ℕ) → o < n → has_seen k.round.seen o ≡ true
 
 -- the pass loads the epoch, and makes it the next one
-abbrev pub AdvancesEpoch : Layout → Known → Known → Type 0
-AdvancesEpoch layout k j = (epoch : ℕ) × (found : ℕ) × Does layout (LoadEpoch epoch ∷ advance_steps epoch found) k j
+abbrev pub AdvancesEpoch : {G : Type 0} → TableView → (G → Event → G → Type 0) → SeatView × G → SeatView × G → Type 0
+AdvancesEpoch table becomes a b = (epoch : ℕ) × (found : ℕ) × Does table becomes paced (LoadEpoch epoch ∷ advance_steps epoch found) a b
 
 -- the pass loads the epoch, and then the first n pins
-abbrev pub FindsBound : Layout → ℕ → Known → Known → Type 0
-FindsBound layout n k j = (next : ℕ) × (pins : List Act) × InTurn LoadsPin n pins × Does layout (LoadEpoch next ∷ pins) k j
+abbrev pub FindsBound : {G : Type 0} → TableView → (G → Event → G → Type 0) → ℕ → SeatView × G → SeatView × G → Type 0
+FindsBound table becomes n a b = (next : ℕ) × (pins : List Act) × InTurn LoadsPin n pins × Does table becomes paced (LoadEpoch next ∷ pins) a b
 
 -- a visit of a record, which gives it back or not
-abbrev pub VisitsOne : Layout → ℕ → Rec → Bool → Known → Known → Type 0
-VisitsOne layout bound r given k j = (acts : List Act) × Visits bound r acts × Does layout acts k j × (count_by has_given acts ≡ if given then 1 else 0)
+abbrev pub VisitsOne : {G : Type 0} → TableView → (G → Event → G → Type 0) → ℕ → Rec → Bool → SeatView × G → SeatView × G → Type 0
+VisitsOne table becomes bound r given a b = (acts : List Act) × Visits bound r acts × Does table becomes paced acts a b × (count_by has_given acts ≡ if given then 1 else 0)
 
 -- visits of the first n records of a kind, which give so many of them back
-abbrev pub VisitsAll : Layout → ℕ → (ℕ → Rec) → ℕ → ℕ → Known → Known → Type 0
-VisitsAll layout bound kind n given k j = (acts : List Act) × InTurn (λ m. Visits bound (kind m)) n acts × Does layout acts k j × (given ≡ count_by has_given acts)
+abbrev pub VisitsAll : {G : Type 0} → TableView → (G → Event → G → Type 0) → ℕ → (ℕ → Rec) → ℕ → ℕ → SeatView × G → SeatView × G → Type 0
+VisitsAll table becomes bound kind n given a b = (acts : List Act) × InTurn (λ m. Visits bound (kind m)) n acts × Does table becomes paced acts a b × (given ≡ count_by has_given acts)

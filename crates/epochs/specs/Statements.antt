@@ -1,5 +1,5 @@
 -- The laws of epochs.
-use Rattle.std.specs.Prelude.{ℕ, List}
+use Rattle.std.specs.Prelude.{ℕ, List, [], ◌∷◌}
 use Rattle.hot_model.specs.declared.Note.{Note}
 use Rattle.record_words.specs.declared.layout.Layout.{Layout}
 use Rattle.record_words.specs.declared.state.Tag.TheVariants.{Obsolete}
@@ -7,14 +7,25 @@ use Rattle.record_words.specs.State.{state_word}
 use Rattle.moments.specs.declared.Rec.{Rec}
 use Rattle.rowex_core.specs.declared.event.Act.{Act}
 use Rattle.rowex_core.specs.declared.event.Act.TheVariants.{GiveBack}
+use Rattle.rowex_core.specs.declared.event.Event.{Event}
 use Rattle.rowex_core.specs.declared.known.Known.{Known}
 use Rattle.rowex_core.specs.Events.{after}
 use Rattle.rowex_core.specs.Knowing.{IsEvent}
+use Rattle.rowex_table.specs.Runs.{Runs}
+use Rattle.rowex_table.specs.Seats.{TableView, SeatView}
 use Rattle.epochs.specs.Reach.{IsInReach, IsReachKept}
 
 -- before and after each step of any pass, no record of a pinned pass's reach is free or held
 abbrev pub ReachIsKept : Type 0
 ReachIsKept = (layout : Layout) (act : Act) (said : Known → List Note) (k j : Known) (event : IsEvent layout act said k j) → IsReachKept event.core × IsReachKept (after event.core k.pass act)
+
+-- and so for each step of a run
+abbrev pub KeepsReach : {G : Type 0} (table : TableView) (becomes : G → Event → G → Type 0) (acts : List Act) (a b : SeatView × G) → Runs table becomes acts a b → Type 0
+KeepsReach table becomes [] a b run = Unit {0}
+KeepsReach table becomes (act ∷ acts) a b run = IsReachKept run.1.event.core × IsReachKept (after run.1.event.core a.0.known.pass act) × KeepsReach table becomes acts run.0 b run.2
+
+abbrev pub RunsKeepReach : {G : Type 0} → (G → Event → G → Type 0) → Type 0
+RunsKeepReach {G = G} becomes = (table : TableView) (acts : List Act) (a b : SeatView × G) (run : Runs table becomes acts a b) → KeepsReach table becomes acts a b run
 
 -- a record that an exchange gives back is in no pinned pass's reach then
 abbrev pub GivenIsOutOfReach : Type 0

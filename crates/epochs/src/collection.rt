@@ -5,13 +5,11 @@ ghost use Rattle.record_words.specs.declared.state.Tag.TheVariants.{Obsolete};
 ghost use Rattle.record_words.specs.State.{state_word};
 ghost use Rattle.moments.specs.declared.Rec.TheVariants.{Node as a_node, Leaf as a_leaf};
 ghost use Rattle.rowex_core.specs.Cores.{HasRecord};
-ghost use Rattle.rowex_table.specs.Seats.{IsSame, known};
+ghost use Rattle.rowex_table.specs.Seats.{IsSeatOf};
 ghost use Rattle.epochs.specs.Rounds.{AdvancesEpoch, FindsBound, HasBound, IsRound, VisitsAll, VisitsOne};
 
-use crate::gate::{NoGate, tell};
-use crate::pinning::load_epoch;
 use record_words::{Tag, unpack_state};
-use rowex_core::{Act, Gate, Rec};
+use rowex_core::{Gate, Rec};
 use rowex_table::{HotTable, TableSeat};
 
 /// How many records a round of collection gave back.
@@ -24,23 +22,11 @@ pub struct Given {
 /// Makes the epoch the next one, and gives back each record that was retired in an epoch below all pins.
 ///
 /// At the last epoch, 2^60 - 1, the epoch stays, and what is below it is still given back.
-pub fn collect_round(table: &HotTable, seat: &mut TableSeat) -> Given
-    requires own { seat.old.seat.table_id ≡ table.now.table.shared.table_id }
-    requires free { (known seat.old).pin ≡ None }
-    ensures seat { IsSame seat.old seat.new }
-    ensures free { (known seat.new).pin ≡ None }
-    ensures round { IsRound table.now.layout (known seat.old) (known seat.new) result.nodes result.leaves }
-{
-    collect_round_with(table, seat, &mut NoGate)
-}
-
-/// `collect_round`, with a gate that is told each of its steps.
-pub fn collect_round_with<G: Gate>(table: &HotTable, seat: &mut TableSeat, gate: &mut G) -> Given
-    requires own { seat.old.seat.table_id ≡ table.now.table.shared.table_id }
-    requires free { (known seat.old).pin ≡ None }
-    ensures seat { IsSame seat.old seat.new }
-    ensures free { (known seat.new).pin ≡ None }
-    ensures round { IsRound table.now.layout (known seat.old) (known seat.new) result.nodes result.leaves }
+pub fn collect_round<G: Gate>(table: &HotTable, seat: &mut TableSeat, gate: &mut G) -> Given
+    requires own { IsSeatOf table.now seat.old }
+    requires free { seat.old.known.pin ≡ None }
+    ensures free { seat.new.known.pin ≡ None }
+    ensures round { IsRound table.now G.becomes (seat.old, gate.old) (seat.new, gate.new) result.nodes result.leaves }
 {
     advance_epoch(table, seat, gate);
     let bound = find_bound(table, seat, gate);
@@ -51,31 +37,27 @@ pub fn collect_round_with<G: Gate>(table: &HotTable, seat: &mut TableSeat, gate:
 
 /// Loads the epoch and, unless it is the last, makes it the next one.
 fn advance_epoch<G: Gate>(table: &HotTable, seat: &mut TableSeat, gate: &mut G)
-    requires { seat.old.seat.table_id ≡ table.now.table.shared.table_id }
-    ensures seat { IsSame seat.old seat.new }
-    ensures pin { (known seat.new).pin ≡ (known seat.old).pin }
-    ensures steps { AdvancesEpoch table.now.layout (known seat.old) (known seat.new) }
+    requires { IsSeatOf table.now seat.old }
+    ensures pin { seat.new.known.pin ≡ seat.old.known.pin }
+    ensures steps { AdvancesEpoch table.now G.becomes (seat.old, gate.old) (seat.new, gate.new) }
 {
-    let expected = load_epoch(table, seat, gate);
+    let expected = table.load_epoch(seat, gate);
     if expected + 1 < 1 << 60 {
-        let found = table.advance(seat, expected);
-        tell(gate, seat, Act::Advance { expected, found });
+        table.advance(seat, gate, expected);
     }
 }
 
 /// Loads the epoch and each pin; answers the least of that epoch and of the pins that are not 0.
 fn find_bound<G: Gate>(table: &HotTable, seat: &mut TableSeat, gate: &mut G) -> u64
-    requires { seat.old.seat.table_id ≡ table.now.table.shared.table_id }
-    ensures seat { IsSame seat.old seat.new }
-    ensures pin { (known seat.new).pin ≡ (known seat.old).pin }
-    ensures bound { HasBound table.now.layout.passes result (known seat.new) }
-    ensures steps { FindsBound table.now.layout table.now.layout.passes (known seat.old) (known seat.new) }
+    requires { IsSeatOf table.now seat.old }
+    ensures pin { seat.new.known.pin ≡ seat.old.known.pin }
+    ensures bound { HasBound table.now.layout.passes result seat.new.known }
+    ensures steps { FindsBound table.now G.becomes table.now.layout.passes (seat.old, gate.old) (seat.new, gate.new) }
 {
-    let mut bound = load_epoch(table, seat, gate);
-    for pass in 0..table.layout.passes {
+    let mut bound = table.load_epoch(seat, gate);
+    for pass in 0..table.layout().passes {
         let of = pass as u16;
-        let word = table.load_pin(seat, of);
-        tell(gate, seat, Act::LoadPin { of, word });
+        let word = table.load_pin(seat, gate, of);
         bound = lowered(bound, word);
     }
     bound
@@ -91,14 +73,13 @@ fn lowered(bound: u64, word: u64) -> u64
 
 /// Visits each node record in rising number; answers how many it gave back.
 fn visit_nodes<G: Gate>(table: &HotTable, seat: &mut TableSeat, gate: &mut G, bound: u64) -> u32
-    requires own { seat.old.seat.table_id ≡ table.now.table.shared.table_id }
-    requires bound { HasBound table.now.layout.passes bound (known seat.old) }
-    ensures seat { IsSame seat.old seat.new }
-    ensures same { ((known seat.new).pin ≡ (known seat.old).pin) × ((known seat.new).round ≡ (known seat.old).round) }
-    ensures steps { VisitsAll table.now.layout bound a_node table.now.layout.nodes result (known seat.old) (known seat.new) }
+    requires own { IsSeatOf table.now seat.old }
+    requires bound { HasBound table.now.layout.passes bound seat.old.known }
+    ensures same { (seat.new.known.pin ≡ seat.old.known.pin) × (seat.new.known.round ≡ seat.old.known.round) }
+    ensures steps { VisitsAll table.now G.becomes bound a_node table.now.layout.nodes result (seat.old, gate.old) (seat.new, gate.new) }
 {
     let mut given = 0;
-    for number in 0..table.layout.nodes {
+    for number in 0..table.layout().nodes {
         if visit(table, seat, gate, Rec::Node(number), bound) {
             given += 1;
         }
@@ -108,14 +89,13 @@ fn visit_nodes<G: Gate>(table: &HotTable, seat: &mut TableSeat, gate: &mut G, bo
 
 /// Visits each leaf record in rising number; answers how many it gave back.
 fn visit_leaves<G: Gate>(table: &HotTable, seat: &mut TableSeat, gate: &mut G, bound: u64) -> u32
-    requires own { seat.old.seat.table_id ≡ table.now.table.shared.table_id }
-    requires bound { HasBound table.now.layout.passes bound (known seat.old) }
-    ensures seat { IsSame seat.old seat.new }
-    ensures same { ((known seat.new).pin ≡ (known seat.old).pin) × ((known seat.new).round ≡ (known seat.old).round) }
-    ensures steps { VisitsAll table.now.layout bound a_leaf table.now.layout.leaves result (known seat.old) (known seat.new) }
+    requires own { IsSeatOf table.now seat.old }
+    requires bound { HasBound table.now.layout.passes bound seat.old.known }
+    ensures same { (seat.new.known.pin ≡ seat.old.known.pin) × (seat.new.known.round ≡ seat.old.known.round) }
+    ensures steps { VisitsAll table.now G.becomes bound a_leaf table.now.layout.leaves result (seat.old, gate.old) (seat.new, gate.new) }
 {
     let mut given = 0;
-    for number in 0..table.layout.leaves {
+    for number in 0..table.layout().leaves {
         if visit(table, seat, gate, Rec::Leaf(number), bound) {
             given += 1;
         }
@@ -132,20 +112,17 @@ fn visit<G: Gate>(
     rec: Rec,
     bound: u64,
 ) -> bool
-    requires own { seat.old.seat.table_id ≡ table.now.table.shared.table_id }
+    requires own { IsSeatOf table.now seat.old }
     requires range { HasRecord table.now.layout rec }
-    requires bound { HasBound table.now.layout.passes bound (known seat.old) }
-    ensures seat { IsSame seat.old seat.new }
-    ensures same { ((known seat.new).pin ≡ (known seat.old).pin) × ((known seat.new).round ≡ (known seat.old).round) }
-    ensures steps { VisitsOne table.now.layout bound rec result (known seat.old) (known seat.new) }
+    requires bound { HasBound table.now.layout.passes bound seat.old.known }
+    ensures same { (seat.new.known.pin ≡ seat.old.known.pin) × (seat.new.known.round ≡ seat.old.known.round) }
+    ensures steps { VisitsOne table.now G.becomes bound rec result (seat.old, gate.old) (seat.new, gate.new) }
 {
-    let word = table.load_state(seat, rec);
-    tell(gate, seat, Act::LoadState { rec, word });
+    let word = table.load_state(seat, gate, rec);
     let Some(epoch) = epoch_below(word, bound) else {
         return false;
     };
-    let found = table.give_back(seat, rec, epoch);
-    tell(gate, seat, Act::GiveBack { rec, epoch, found });
+    let found = table.give_back(seat, gate, rec, epoch);
     found == word
 }
 

@@ -1,10 +1,17 @@
 //! The laws of epochs. The functions do nothing: their contracts are the laws.
 
-ghost use Rattle.epochs.specs.Statements.{GivenIsOutOfReach, ReachIsKept};
+ghost use Rattle.epochs.specs.Statements.{GivenIsOutOfReach, ReachIsKept, RunsKeepReach};
+
+use rowex_core::Gate;
 
 /// Before and after each step of any pass, no record of a pinned pass's reach is free or held.
 pub fn reach_is_kept()
     ensures { ReachIsKept }
+{}
+
+/// And so before and after each step of a run.
+pub fn runs_keep_reach<G: Gate>()
+    ensures { RunsKeepReach G.becomes }
 {}
 
 /// A record that is given back is in no pinned pass's reach.

@@ -2,13 +2,8 @@
 #![tactic(auto)]
 
 mod collection;
-mod gate;
 pub mod laws;
 mod pinning;
 
-pub use collection::{Given, collect_round, collect_round_with};
-pub use gate::{NoGate, tell};
-pub use pinning::{pin, pin_with, unpin, unpin_with};
-
-#[cfg(test)]
-mod tests;
+pub use collection::{Given, collect_round};
+pub use pinning::{pin, unpin};

@@ -9,3 +9,4 @@ pub mod Weaving
 pub mod AtOnce
 pub mod Deciding
 pub mod InOrder
+pub mod Together

@@ -7,9 +7,9 @@ use Rattle.std.proofs.Math.Seq.{take-append_seam}
 use Rattle.hot_model.specs.declared.Change.{Change}
 use Rattle.hot_model.specs.declared.Note.{Note}
 use Rattle.hot_model.specs.Maps.{Map, reply_of}
-use Rattle.hot_model.specs.Fronts.{changed, map_of, BeginsWith}
+use Rattle.hot_model.specs.Fronts.{changed, map_of}
 use Rattle.hot_model.specs.Calls.{is_change, place_after, StandsIn, RisesFrom, LegalCalls}
-use Rattle.hot_model.specs.Weaves.{Event, quiet_at, changing_at, calls_of, made_by, weave_from, weave, LegalHistoryFrom, LegalHistory, notes_of, AllLegal, HaveMet}
+use Rattle.hot_model.specs.Weaves.{Event, quiet_at, changing_at, calls_of, made_by, weave_from, weave, LegalHistoryFrom, LegalHistory, notes_of, AllLegal}
 use Rattle.hot_model.proofs.Growth.{map_of-push}
 use Rattle.hot_model.proofs.Legal.{map_after-quiet, makes_change, change_of-change, pass-change_of, same_value}
 
@@ -152,19 +152,7 @@ weave-legal front passes h = history_from [] front (notes_of passes)
     (All-weaker (λ n. (q : ℕ) × Unit {0} × StandsIn front q n) (Stands front) (λ n s. (s.0, s.2)) (notes_of passes) (all_stand (λ _. Unit {0}) front passes (λ _ _ _. tt) h))
     (one_each front passes h)
 
--- two passes that share a front have met
+-- two passes that share a front
 pub weave-legal_two : (front : List Change) (p q : ℕ) (ns ms : List Note) → p ≢ q → LegalCalls front p ns → LegalCalls front q ms → LegalHistory (weave front (ns ++ ms))
 weave-legal_two front p q ns ms ne h g = subst (λ (l : List Note). LegalHistory (weave front (ns ++ l))) (append-nil ms)
     (weave-legal front ((p, ns) ∷ (q, ms) ∷ []) (h, All-cons (λ r. r.0 ≢ p) (q, ms) [] (λ e. ne (sym e)) (All-nil (λ r. r.0 ≢ p)), (g, All-nil (λ r. r.0 ≢ q), tt)))
-
--- two passes that came to see one front have met
-pub have_met : (p q : ℕ) (earlier_p earlier_q front_p front_q : List Change) (ns ms : List Note) → p ≢ q → front_p ≡ front_q → BeginsWith front_p earlier_p → BeginsWith front_q earlier_q →
-    LegalCalls front_p p ns → LegalCalls front_q q ms → HaveMet p q earlier_p earlier_q front_p front_q ns ms
-have_met p q earlier_p earlier_q front_p front_q ns ms ne same bp bq lp lq = record {
-  same = same;
-  begins_p = bp;
-  begins_q = bq;
-  legal_p = lp;
-  legal_q = lq;
-  woven = weave-legal_two front_p p q ns ms ne lp (subst (λ (cs : List Change). LegalCalls cs q ms) (sym same) lq);
-}

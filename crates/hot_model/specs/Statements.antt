@@ -5,24 +5,38 @@ use Rattle.hot_model.specs.declared.Note.{Note}
 use Rattle.hot_model.specs.declared.Scan.{Scan}
 use Rattle.hot_model.specs.Fronts.{map_of, LegalFront, OthersGoOn}
 use Rattle.hot_model.specs.Calls.{LegalCalls}
-use Rattle.hot_model.specs.Weaves.{LegalHistory, weave, notes_of, AllLegal, calls_in, calls_of}
+use Rattle.hot_model.specs.Weaves.{LegalHistory, weave, notes_of, AllLegal, calls_in, calls_of, AreWoven, CallsAreWoven}
 use Rattle.hot_model.specs.Scans.{IsScanOf, IsLawfulScan}
 
 -- Calls that are legal in a front are legal in each legal front that goes on from it by changes of other passes alone.
 abbrev pub Longer : Type 0
 Longer = (front later : List Change) (q : ℕ) (notes : List Note) → LegalCalls front q notes → OthersGoOn q front later → LegalFront later → LegalCalls later q notes
 
--- Where the calls of passes of different numbers are each legal in a front, they are answered as by a finite map in one sequential history: the weave of all their notes into the front.
+-- Where the calls of passes of different numbers are each legal in a front, they are answered as by a finite map in one sequential
+-- history: the weave of all their notes into the front.
 abbrev pub Woven : Type 0
 Woven = (front : List Change) (passes : List (ℕ × List Note)) → AllLegal front passes → LegalHistory (weave front (notes_of passes))
 
 -- The same for two passes.
 abbrev pub WovenTwo : Type 0
-WovenTwo = (front : List Change) (p q : ℕ) (notes_p notes_q : List Note) → p ≢ q → LegalCalls front p notes_p → LegalCalls front q notes_q → LegalHistory (weave front (notes_p ++ notes_q))
+WovenTwo =
+    (front : List Change) (p q : ℕ) (notes_p notes_q : List Note) → p ≢ q → LegalCalls front p notes_p → LegalCalls front q notes_q →
+    LegalHistory (weave front (notes_p ++ notes_q))
+
+-- In the weave of the calls of several passes, those of each pass stand each once, in the order in which it made them.
+abbrev pub WovenInOrder : Type 0
+WovenInOrder = (front : List Change) (passes : List (ℕ × List Note)) → AllLegal front passes → CallsAreWoven passes (calls_in (weave front (notes_of passes)))
+
+-- The same for two passes.
+abbrev pub WovenInOrderTwo : Type 0
+WovenInOrderTwo =
+    (front : List Change) (p q : ℕ) (notes_p notes_q : List Note) → LegalCalls front p notes_p → LegalCalls front q notes_q →
+    AreWoven (calls_of notes_p) (calls_of notes_q) (calls_in (weave front (notes_p ++ notes_q)))
 
 -- A scan of the map of a front is lawful where the front stays as it is.
 abbrev pub ScansAtOnce : Type 0
-ScansAtOnce = (front : List Change) (from upto : List ℕ) (limit : ℕ) (scan : Scan) → IsScanOf (map_of front) from upto limit scan → IsLawfulScan front front from upto limit scan
+ScansAtOnce =
+    (front : List Change) (from upto : List ℕ) (limit : ℕ) (scan : Scan) → IsScanOf (map_of front) from upto limit scan → IsLawfulScan front front from upto limit scan
 
 -- The weave of one pass's legal calls has each of them once, in the order in which the pass made them.
 abbrev pub InOrder : Type 0

@@ -5,7 +5,7 @@ use Rattle.hot_model.specs.declared.Reply.{Reply}
 use Rattle.hot_model.specs.declared.Change.{Change}
 use Rattle.hot_model.specs.declared.Note.{Note}
 use Rattle.hot_model.specs.Maps.{Map, map_after, reply_of}
-use Rattle.hot_model.specs.Fronts.{changed, BeginsWith}
+use Rattle.hot_model.specs.Fronts.{changed}
 use Rattle.hot_model.specs.Calls.{is_change, LegalCalls}
 
 -- what stands in a woven history: a call with its reply, or a change whose call is none of the notes
@@ -45,6 +45,17 @@ calls_in [] = []
 calls_in (answered call reply ∷ es) = answered call reply ∷ calls_in es
 calls_in (only c ∷ es) = calls_in es
 
+-- a list that two lists make together: it has each element of both once, those of each list in their order
+pub data AreWoven : List Event → List Event → List Event → Type 0 where
+  empty : AreWoven [] [] []
+  of_first : {x : Event} {xs ys zs : List Event} → AreWoven xs ys zs → AreWoven (x ∷ xs) ys (x ∷ zs)
+  of_second : {y : Event} {xs ys zs : List Event} → AreWoven xs ys zs → AreWoven xs (y ∷ ys) (y ∷ zs)
+
+-- and so for the calls of any number of passes
+abbrev pub CallsAreWoven : List (ℕ × List Note) → List Event → Type 0
+CallsAreWoven [] es = es ≡ []
+CallsAreWoven (pass ∷ passes) es = (others : List Event) × CallsAreWoven passes others × AreWoven (calls_of pass.1) others es
+
 -- in turn from the map m, each call has the map's reply
 abbrev pub LegalHistoryFrom : Map → List Event → Type 0
 LegalHistoryFrom m [] = Unit {0}
@@ -64,13 +75,3 @@ notes_of (pass ∷ passes) = pass.1 ++ notes_of passes
 abbrev pub AllLegal : List Change → List (ℕ × List Note) → Type 0
 AllLegal front [] = Unit {0}
 AllLegal front (pass ∷ passes) = LegalCalls front pass.0 pass.1 × All (λ other. other.0 ≢ pass.0) passes × AllLegal front passes
-
--- Passes of the numbers p and q have met: their fronts are equal and begin with both earlier fronts, the notes of both,
--- one list after the other, are woven into it, and the calls of both are legal there.
-pub record HaveMet (p q : ℕ) (earlier_p earlier_q front_p front_q : List Change) (notes_p notes_q : List Note) : Type 0 where
-  pub same : front_p ≡ front_q
-  pub begins_p : BeginsWith front_p earlier_p
-  pub begins_q : BeginsWith front_q earlier_q
-  pub legal_p : LegalCalls front_p p notes_p
-  pub legal_q : LegalCalls front_q q notes_q
-  pub woven : LegalHistory (weave front_p (notes_p ++ notes_q))

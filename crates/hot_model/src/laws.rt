@@ -1,5 +1,5 @@
 //! Laws of histories, over their definitions alone. The functions do nothing: their contracts are the laws.
-ghost use Rattle.hot_model.specs.Statements.{InOrder, Longer, Woven, WovenTwo, ScansAtOnce};
+ghost use Rattle.hot_model.specs.Statements.{InOrder, Longer, Woven, WovenTwo, WovenInOrder, WovenInOrderTwo, ScansAtOnce};
 
 /// A pass's calls stay legal while other passes make changes.
 pub fn longer()
@@ -10,6 +10,12 @@ pub fn longer()
 pub fn woven()
     ensures any { Woven }
     ensures two { WovenTwo }
+{}
+
+/// In the one history of several passes' legal calls, the calls of each pass stand each once, in the order in which it made them.
+pub fn woven_in_order()
+    ensures any { WovenInOrder }
+    ensures two { WovenInOrderTwo }
 {}
 
 /// The first pairs of a map's range are a lawful scan while nothing changes.

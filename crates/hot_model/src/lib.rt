@@ -78,6 +78,3 @@ pub struct Scan {
     /// Whether the range has a further key.
     pub more: bool,
 }
-
-#[cfg(test)]
-mod tests;

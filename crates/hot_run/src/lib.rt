@@ -3,6 +3,7 @@
 
 ghost use Rattle.std.specs.Prelude.{◌≡◌, ◌≢◌, ◌≤◌, ◌<◌, List, ℕ, Ok, OnOk, IfErr};
 ghost use Rattle.std.specs.Io.KnownBytes.{Appends};
+ghost use Rattle.record_words.specs.Limits.{IsLeafCount, IsNodeCount};
 ghost use Rattle.hot_run.specs.Meaning.{script_meaning};
 ghost use Rattle.hot_run.specs.Runs.{TakesAll, MayEndBy};
 
@@ -17,15 +18,10 @@ mod word;
 
 pub use fault::{Reason, RunFault};
 use hot_model::PlainIndex;
+pub use record_words::{MAX_LEAVES, MAX_NODES};
 pub use script::MAX_SCRIPT;
 use std::alloc::Global;
 use std::io::{Read, Write};
-
-/// The most node records that an index may have.
-pub const MAX_NODES: u32 = 65_535;
-
-/// The most leaf records that an index may have.
-pub const MAX_LEAVES: u32 = 262_143;
 
 /// Runs one script on an empty index.
 pub fn run_one<R: Read, W: Write>(
@@ -35,8 +31,8 @@ pub fn run_one<R: Read, W: Write>(
     reader: &mut R,
     writer: &mut W,
 ) -> Result<(), RunFault>
-    requires nodes { 0 < nodes × nodes ≤ MAX_NODES }
-    requires leaves { 0 < leaves × leaves ≤ MAX_LEAVES }
+    requires nodes { IsNodeCount nodes }
+    requires leaves { IsLeafCount leaves }
 
     // What was written is what the script means, and nothing else.
     ensures ok { OnOk result ((script : List ℕ) × (text : List ℕ)

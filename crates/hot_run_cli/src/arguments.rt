@@ -2,6 +2,7 @@
 
 ghost use Rattle.std.specs.Prelude.{◌≡◌, ◌⊎◌, ◌≤◌, IfErr};
 ghost use Rattle.clap.specs.Words.{kind_of};
+ghost use Rattle.record_words.specs.Limits.{IsLeafCount, IsNodeCount};
 ghost use Rattle.hot_run.specs.declared.fault.RunFault.TheVariants.{Memory};
 ghost use Rattle.hot_run_cli.specs.declared.ending.Ending.TheVariants.{Usage, Fault};
 ghost use Rattle.hot_run_cli.specs.Endings.{ending_of};
@@ -18,8 +19,8 @@ use std::alloc::Global;
 pub struct Sizes {
     pub nodes: u32,
     pub leaves: u32,
-    ghost nodes_fit: { (1 ≤ nodes) × (nodes ≤ 65535) },
-    ghost leaves_fit: { (1 ≤ leaves) × (leaves ≤ 262143) },
+    ghost nodes_fit: { IsNodeCount nodes },
+    ghost leaves_fit: { IsLeafCount leaves },
 }
 
 impl From<clap::Error> for Ending {

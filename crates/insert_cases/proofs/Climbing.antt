@@ -1,5 +1,5 @@
 -- The way up of a new leaf: at a leaf, at the affected node, at each node above it, and in a new node.
-use Rattle.std.proofs.Common.{◌≡◌, inl, inr, ℕ, suc, ◌+◌, ◌*◌, ◌<◌, ◌≤◌, Bool, true, false, List, refl, ap, sym, ◌∙◌, subst, arith, Some, length, get_or}
+use Rattle.std.proofs.Common.{◌≡◌, ◌⊎◌, inl, inr, ℕ, suc, ◌+◌, ◌*◌, ◌<◌, ◌≤◌, Bool, true, false, List, refl, ap, sym, ◌∙◌, subst, arith, Some, length, get_or}
 use Rattle.std.proofs.lemmas.Option.{slice_get_within}
 use Rattle.std.specs.Prelude.{slice_get, cond, nat_lt, ◌-◌}
 use Rattle.key_bits.specs.Bits.{IsFirstDifference, bit_of}
@@ -7,7 +7,7 @@ use Rattle.key_bits.specs.declared.TheConstants.{MAX_BYTES}
 use Rattle.pieces.specs.Changes.{replaced}
 use Rattle.pieces.specs.Growth.{affected_first, affected_count, IsAffected, grown as piece_grown}
 use Rattle.pieces.specs.Piece.{Place, Fork, places, size, leads_to}
-use Rattle.compound_node.specs.Nodes.{NodeView, piece, IsEntry, IsLawful, StandsBelow, greatest_height, height_of}
+use Rattle.compound_node.specs.Nodes.{NodeView, piece, IsEntry, IsLawful, IsBuiltFrom, StandsBelow, greatest_height, height_of, head_of}
 use Rattle.compound_node.specs.declared.entries.Entry.{Entry}
 use Rattle.compound_node.specs.declared.entries.Entry.TheVariants.{Leaf, Node}
 use Rattle.tries.specs.Affected.{affected, IsPart, page_grown, page_forked}
@@ -18,23 +18,24 @@ use Rattle.tries.specs.Place.{spot}
 use Rattle.tries.specs.Search.{child, seek}
 use Rattle.tries.specs.Tree.{Page, Fixed, Tree, leaf, node, fork, page, Has, IsTrie, IsBuilt, IsLower, first_position, Within, here, inside, zero_side, one_side}
 use Rattle.tries.proofs.Adding.{added_here}
-use Rattle.tries.proofs.Affected.{grown_page}
+use Rattle.tries.proofs.Affected.{grown_page, part_place}
+use Rattle.tries.proofs.Fitting.{lower_positive}
 use Rattle.tries.proofs.Places.{grown, leads_spot, spot_below}
 use Rattle.tries.proofs.Ranges.{has_key}
 use Rattle.tries.proofs.Tries.{has_first, rises, trie_within, built_within, within_child, page_child}
 use Rattle.insert_cases.specs.declared.plain.LeafRecord.{LeafRecord}
 use Rattle.insert_cases.specs.declared.raising.Risen.{Risen}
-use Rattle.insert_cases.specs.Grafts.{grafted, IsAbovePath}
+use Rattle.pieces.specs.Grafts.{grafted, IsAbovePath}
 use Rattle.insert_cases.specs.Rising.{IsRaised, IsAddable, IsLifting, IsNew}
 use Rattle.insert_cases.specs.Risen.{page_of, IsNamed, RisenShows, OthersStay}
 use Rattle.insert_cases.specs.Searches.{found}
-use Rattle.insert_cases.specs.Store.{fixed_of, IsShown}
+use Rattle.insert_cases.specs.Store.{IsShown}
 use Rattle.insert_cases.specs.Ways.{WayBelow}
 use Rattle.insert_cases.proofs.Affecting.{key_part}
-use Rattle.insert_cases.proofs.Building.{bit_below, lower_to, node_built, new_bound}
+use Rattle.tries.proofs.Building.{bit_below, lower_to, node_built_from}
 use Rattle.insert_cases.proofs.Choosing.{found-child, has_found, all_away, affected_range, part_big, tip_small, tip_child, size_affected}
 use Rattle.insert_cases.proofs.Keeping.{shown_more}
-use Rattle.insert_cases.proofs.Lifting.{grow_raised, old_stays, body_adds, pulled_raised, positive}
+use Rattle.insert_cases.proofs.Lifting.{grow_raised, lower_part, old_stays, body_adds, pulled_raised}
 use Rattle.insert_cases.proofs.Raised.{child_spot}
 use Rattle.insert_cases.proofs.Searching.{node_of_page, read_at, shown_within, lower_child, sought_entry}
 use Rattle.insert_cases.proofs.Storing.{push_old, push_new}
@@ -43,7 +44,7 @@ use Rattle.insert_cases.proofs.Storing.{push_old, push_new}
 tip_entry : (e : Entry) (t : Tree) → page t ≡ Place e → IsBuilt t → IsEntry e
 tip_entry (Leaf n) t h b = tt
 tip_entry (Node n g) (leaf m k v) h b = absurd cc
-tip_entry (Node n g) (node m x c) h b = let e : x.height ≡ g = cc in let p = positive x.height c b.1 in (omega arith, omega (arith, b.3.bound))
+tip_entry (Node n g) (node m x c) h b = let e : x.height ≡ g = cc in let p = lower_positive x.height c b.1 in (omega arith, omega (arith, b.3.bound))
 tip_entry (Node n g) (fork p a c) h b = absurd cc
 
 tip_low : (h : ℕ) (e : Entry) (t : Tree) → page t ≡ Place e → IsLower h t → height_of e < h
@@ -86,10 +87,10 @@ pair_facts q z o t e i b =
 pub settle : (ns ms us : List NodeView) (ls : List LeafRecord) (x : Item) (p : ℕ) (s : Tree) (h q : ℕ) (z o e : Entry) →
     IsRaised ns ms ls x p s h (Fork q (Place z) (Place o)) → IsNew ms us e (Fork q (Place z) (Place o)) → IsRaised ns us ls x p s (suc h) (Place e)
 settle ns ms us ls x p s h q z o e u new = record {
-  tree = node (length ms) (fixed_of new.view) u.tree;
+  tree = node (length ms) (head_of new.view) u.tree;
   begins = ap (λ d. let y : Page = Place d in y) (sym new.is);
   adds = record { trie = u.adds.trie; more = u.adds.more; keys = u.adds.keys; like = u.adds.like; has_like = u.adds.has_like; agree = u.adds.agree };
-  built = node_built new.view (length ms) u.tree new.built.lawful shows u.built (omega (arith, high)) bound;
+  built = node_built_from new.view (length ms) u.tree built u.adds.trie u.built;
   lower = omega (arith, high, lower_to h u.tree u.lower);
   shown = (
     record { view = new.view; at = stands; fixed = refl; shows = shows },
@@ -110,13 +111,8 @@ settle ns ms us ls x p s h q z o e u new = record {
     more : (m : ℕ) (v : NodeView) → slice_get ms m ≡ Some v → slice_get us m ≡ Some v
     more m v g = ap (λ (vs : List NodeView). slice_get vs m) new.added ∙ push_old ms _ m v g
 
-    bound : new.view.height + first_position (page u.tree) ≤ 9 * MAX_BYTES
-    bound =
-        let w = pair_of q z o u.tree u.begins in
-        let b = new_bound q w.zero_tip w.one_tip (subst IsTrie w.is u.adds.trie) (subst IsBuilt w.is u.built) in
-        let f : first_position (page u.tree) ≡ q = ap first_position u.begins in
-        let g : greatest_height (places (page u.tree)) ≡ greatest_height (places (page (fork q w.zero_tip w.one_tip))) = ap (λ y. greatest_height (places (page y))) w.is in
-        omega (arith, high)
+    built : IsBuiltFrom new.view (page u.tree)
+    built = subst (IsBuiltFrom new.view) (sym u.begins) new.built
 
 -- ---- a leaf
 pub beside_raised : (ns : List NodeView) (ls : List LeafRecord) (x : Item) (p n : ℕ) (t : Tree) → IsAddable ns ls x p (Leaf n) t →
@@ -148,6 +144,12 @@ beside_raised ns ls x p n (node m y b) i = absurd (let e = i.head in cc)
 beside_raised ns ls x p n (fork q a b) i = absurd (let e = i.head in cc)
 
 -- ---- a node
+-- a part whose entries are leaves has no node for its head
+part_low : (d : Tree) → IsBuilt d → IsLower 1 d → IsPart d
+part_low (leaf n k v) b l = tt
+part_low (node n x c) b l = let p = lower_positive x.height c b.1 in absurd (omega arith)
+part_low (fork q a c) b l = tt
+
 -- the node at which a search stands
 pub record IsHere (ns : List NodeView) (ls : List LeafRecord) (x : Item) (p n h : ℕ) (t : Tree) : Type 0 where
   pub fixed : Fixed
@@ -177,17 +179,20 @@ node_here {ns} {ls} {x} {p} {n} {h} {t} i =
 
 module _ {ns : List NodeView} {ls : List LeafRecord} {x : Item} {p n h : ℕ} {t : Tree} (i : IsAddable ns ls x p (Node n h) t) (u : IsHere ns ls x p n h t) (first last : ℕ)
     (from : affected_first p (spot x.key (page u.body)) (page u.body) ≡ first) (upto : affected_count p (spot x.key (page u.body)) (page u.body) + first ≡ last + 1) where
-  -- several entries are affected: the new leaf belongs to the node
-  pub several : first < last → IsPart (affected p x.key u.body)
-  several o = (part_big (affected p x.key u.body) (omega (arith, upto, size_affected x.key p u.body))).0
+  -- several entries are affected, or there are leaves alone: the new leaf belongs to the node
+  pub part : (first < last) ⊎ (h ≡ 1) → IsPart (affected p x.key u.body)
+  part (inl o) = (part_big (affected p x.key u.body) (omega (arith, upto, size_affected x.key p u.body))).0
+  part (inr one) =
+      let w = part_place p x.key u.body in
+      part_low (affected p x.key u.body) (built_within w.0 u.built.2) (lower_part 1 w.0 w.1 (subst (λ g. IsLower g u.body) (u.high ∙ one) u.built.1))
 
-  pub range : first < last → IsAffected (page u.body) p first last
-  range o = affected_range x.key (found x.key u.body).key p u.differ u.body u.trie u.has (several o) first last from upto
+  pub range : IsPart (affected p x.key u.body) → IsAffected (page u.body) p first last
+  range o = affected_range x.key (found x.key u.body).key p u.differ u.body u.trie u.has o first last from upto
 
-  pub here_raised : first < last → (ms : List NodeView) (risen : Risen) → OthersStay ns ms n →
+  pub here_raised : IsPart (affected p x.key u.body) → (ms : List NodeView) (risen : Risen) → OthersStay ns ms n →
       RisenShows ms u.shown.0.view risen (piece_grown p (bit x.key p) (Leaf x.number) first (page u.body)) → IsRaised ns ms ls x p t (suc h) (page_of risen)
   here_raised o ms risen others shows =
-      let away = all_away x.key (found x.key u.body).key p u.differ u.body u.trie u.has (several o) in
+      let away = all_away x.key (found x.key u.body).key p u.differ u.body u.trie u.has o in
       let page_is : piece_grown p (bit x.key p) (Leaf x.number) first (page u.body) ≡ page_grown p x.key (Leaf x.number) (page u.body) =
       ap (λ j. piece_grown p (bit x.key p) (Leaf x.number) j (page u.body)) (sym from) ∙ (key_part x.key p (page u.body)).grows (Leaf x.number) in
       let r = grow_raised ns ls n u.fixed u.body u.trie u.built u.shown ms x p i.key away i.new others risen (subst (RisenShows ms u.shown.0.view risen) page_is shows) in
@@ -200,7 +205,7 @@ module _ {ns : List NodeView} {ls : List LeafRecord} {x : Item} {p n h : ℕ} {t
 -- what the node's record tells of it
 module _ {ns : List NodeView} {ls : List LeafRecord} {x : Item} {p n h : ℕ} {t : Tree} (u : IsHere ns ls x p n h t) where
   pub here_positive : 0 < h
-  here_positive = let g = positive u.fixed.height u.body u.built.1 in omega (arith, u.high)
+  here_positive = let g = lower_positive u.fixed.height u.body u.built.1 in omega (arith, u.high)
 
   pub here_within : n < length ns
   here_within = slice_get_within ns n u.shown.0.view u.shown.0.at

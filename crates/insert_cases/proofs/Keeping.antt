@@ -2,7 +2,7 @@
 use Rattle.std.proofs.Common.{◌≡◌, inl, inr, ℕ, ◌≤◌, List, ap, ap₂, sym, ◌∙◌, subst, arith, Some}
 use Rattle.std.specs.Prelude.{slice_get}
 use Rattle.pieces.specs.Piece.{Place, Fork}
-use Rattle.compound_node.specs.Nodes.{NodeView, piece}
+use Rattle.compound_node.specs.Nodes.{NodeView, piece, head_of}
 use Rattle.compound_node.specs.declared.entries.Entry.TheVariants.{Leaf, Node}
 use Rattle.tries.specs.Tree.{Page, Fixed, Tree, leaf, node, fork, page, Has, IsBuilt, IsLower}
 use Rattle.tries.specs.Content.{first}
@@ -10,7 +10,7 @@ use Rattle.tries.proofs.Tries.{has_first}
 use Rattle.insert_cases.specs.declared.plain.LeafRecord.{LeafRecord}
 use Rattle.insert_cases.specs.Rising.{NoNode, IsKept}
 use Rattle.insert_cases.specs.Risen.{OthersStay}
-use Rattle.insert_cases.specs.Store.{fixed_of, IsStored, IsShown}
+use Rattle.insert_cases.specs.Store.{IsStored, IsShown}
 use Rattle.insert_cases.proofs.Choosing.{same_some}
 
 -- the trees have no key in common
@@ -24,7 +24,7 @@ module _ (ns : List NodeView) where
   stored_same : {n m : ℕ} {x y : Fixed} {p q : Page} → n ≡ m → IsStored ns n x p → IsStored ns m y q → (x ≡ y) × (p ≡ q)
   stored_same e s t =
       let z = same_view e s.at t.at in
-      (sym s.fixed ∙ (ap fixed_of z ∙ t.fixed), sym s.shows ∙ (ap piece z ∙ t.shows))
+      (sym s.fixed ∙ (ap head_of z ∙ t.fixed), sym s.shows ∙ (ap piece z ∙ t.shows))
 
   leaf_parts : {n o : ℕ} → (let a : Page = Place (Leaf n) in let b : Page = Place (Leaf o) in a ≡ b) → n ≡ o
   leaf_parts e = cc
@@ -81,7 +81,7 @@ module _ (ns : List NodeView) where
   no_node_below ls n h v (leaf m k w) at e l b i = tt
   no_node_below ls n h v (node m x d) at e l b i = (
     λ same.
-        let f : fixed_of v ≡ x = ap fixed_of (same_view same at i.0.at) ∙ i.0.fixed in
+        let f : head_of v ≡ x = ap head_of (same_view same at i.0.at) ∙ i.0.fixed in
         let g : v.height ≡ x.height = ap (λ (z : Fixed). z.height) f in
         absurd (omega (arith, l)),
     no_node_below ls n h v d at e (lower_more x.height h d b.1 (omega (arith, l))) b.2 i.1,

@@ -1,5 +1,4 @@
 -- The lemmas of the crate.
-pub mod Grafting
 pub mod NodeFacts
 pub mod Affecting
 pub mod Choosing
@@ -7,7 +6,6 @@ pub mod Reading
 pub mod Searching
 pub mod Values
 pub mod Keeping
-pub mod Building
 pub mod Storing
 pub mod Steady
 pub mod Heights
@@ -20,3 +18,4 @@ pub mod Cutting
 pub mod Starting
 pub mod Climbing
 pub mod Inserting
+pub mod Adding

@@ -1,5 +1,5 @@
 -- One entry more at a node of the way, and so in each node above it.
-use Rattle.std.proofs.Common.{◌≡◌, ℕ, suc, ◌+◌, ◌*◌, ◌<◌, ◌≤◌, Bool, true, false, List, refl, ap, sym, ◌∙◌, subst, arith, Some}
+use Rattle.std.proofs.Common.{◌≡◌, ℕ, suc, ◌+◌, ◌*◌, ◌≤◌, Bool, true, false, List, refl, ap, sym, ◌∙◌, subst, arith, Some}
 use Rattle.std.specs.Prelude.{slice_get}
 use Rattle.key_bits.specs.Key.{IsKey}
 use Rattle.key_bits.specs.declared.TheConstants.{MAX_BYTES}
@@ -11,12 +11,14 @@ use Rattle.tries.specs.Content.{Item}
 use Rattle.tries.specs.Keys.{Key, bit}
 use Rattle.tries.specs.Place.{spot}
 use Rattle.tries.specs.Search.{child}
-use Rattle.tries.specs.Tree.{Page, Fixed, Tree, leaf, node, fork, page, Has, IsTrie, IsBuilt, IsLower, first_position, Within, here, inside, zero_side, one_side}
+use Rattle.tries.specs.Tree.{Page, Fixed, Tree, leaf, node, page, Has, IsTrie, IsBuilt, IsLower, first_position, Within, here, inside, zero_side, one_side}
 use Rattle.tries.proofs.Adding.{added, added_bare, added_put}
 use Rattle.tries.proofs.Affected.{IsAway, part_place, place_page}
+use Rattle.tries.proofs.Fitting.{lower_positive}
 use Rattle.tries.proofs.Places.{grown}
 use Rattle.tries.proofs.Puts.{lower_flat, built_flat}
-use Rattle.insert_cases.specs.Grafts.{grafted}
+use Rattle.tries.proofs.Tries.{built_within}
+use Rattle.pieces.specs.Grafts.{grafted}
 use Rattle.insert_cases.specs.Ways.{WayBelow}
 use Rattle.insert_cases.specs.declared.plain.LeafRecord.{LeafRecord}
 use Rattle.insert_cases.specs.declared.raising.Risen.{Risen}
@@ -33,28 +35,17 @@ put_shown ns ls (inside w) f r i j = elim f [ ]
 put_shown ns ls (zero_side w) f r i j = (put_shown ns ls w f r i.0 j, i.1)
 put_shown ns ls (one_side w) f r i j = (i.0, put_shown ns ls w f r i.1 j)
 
-lower_part : (h : ℕ) {s b : Tree} (w : Within s b) → IsFlat w → IsLower h b → IsLower h s
+pub lower_part : (h : ℕ) {s b : Tree} (w : Within s b) → IsFlat w → IsLower h b → IsLower h s
 lower_part h here f l = l
 lower_part h (inside w) f l = elim f [ ]
 lower_part h (zero_side w) f l = lower_part h w f l.0
 lower_part h (one_side w) f l = lower_part h w f l.1
-
-built_part : {s b : Tree} (w : Within s b) → IsFlat w → IsBuilt b → IsBuilt s
-built_part here f l = l
-built_part (inside w) f l = elim f [ ]
-built_part (zero_side w) f l = built_part w f l.0
-built_part (one_side w) f l = built_part w f l.1
 
 no_node_part : (n : ℕ) {s b : Tree} (w : Within s b) → IsFlat w → NoNode n b → NoNode n s
 no_node_part n here f l = l
 no_node_part n (inside w) f l = elim f [ ]
 no_node_part n (zero_side w) f l = no_node_part n w f l.0
 no_node_part n (one_side w) f l = no_node_part n w f l.1
-
-pub positive : (h : ℕ) (b : Tree) → IsLower h b → 0 < h
-positive h (leaf n k v) l = l
-positive h (node n x b) l = omega arith
-positive h (fork p a b) l = positive h a l.0
 
 -- a node of the tree, as the records have it
 module _ (ns : List NodeView) (ls : List LeafRecord) (n : ℕ) (x : Fixed) (b : Tree) (trie : IsTrie b) (built : IsBuilt (node n x b)) (shown : IsShown ns ls (node n x b)) where
@@ -82,13 +73,13 @@ module _ (ns : List NodeView) (ls : List LeafRecord) (n : ℕ) (x : Fixed) (b : 
     new_part : (u : Bool) → IsShown ms ls (grown u p (affected p it.key b) it) × IsBuilt (grown u p (affected p it.key b) it) × IsLower x.height (grown u p (affected p it.key b) it)
     new_part false = (
       (new, shown_within ms ls (part_place p it.key b).0 kept_body),
-      (tt, built_part (part_place p it.key b).0 (part_place p it.key b).1 built.2),
-      (positive x.height b built.1, lower_part x.height (part_place p it.key b).0 (part_place p it.key b).1 built.1),
+      (tt, built_within (part_place p it.key b).0 built.2),
+      (lower_positive x.height b built.1, lower_part x.height (part_place p it.key b).0 (part_place p it.key b).1 built.1),
     )
     new_part true = (
       (shown_within ms ls (part_place p it.key b).0 kept_body, new),
-      (built_part (part_place p it.key b).0 (part_place p it.key b).1 built.2, tt),
-      (lower_part x.height (part_place p it.key b).0 (part_place p it.key b).1 built.1, positive x.height b built.1),
+      (built_within (part_place p it.key b).0 built.2, tt),
+      (lower_part x.height (part_place p it.key b).0 (part_place p it.key b).1 built.1, lower_positive x.height b built.1),
     )
 
     pub grow_raised : IsRaised ns ms ls it p (node n x b) (suc x.height) (page_of risen)

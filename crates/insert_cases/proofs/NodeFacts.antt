@@ -1,6 +1,8 @@
 -- Facts of nodes and of the halves of a cut.
 use Rattle.std.proofs.Common.{Bool, List, [], ◌∷◌, ap, arith, false, nat_lt, refl, sym, true, ℕ, ⊎_elim, ◌++◌, ◌-◌, ◌<◌, ◌∙◌, ◌≡◌, ◌≤◌, max, length, get_or, subst}
 use Rattle.std.proofs.lemmas.Bool.{cond-true, cond-false, cases_Bool, lt-ltb}
+use Rattle.std.proofs.lemmas.Option.{get_or_from_slice_get, slice_get_within}
+use Rattle.std.specs.Prelude.{slice_get, Some}
 use Rattle.compound_node.specs.Halves.{HalfShows, CutShows}
 use Rattle.compound_node.specs.Nodes.{NodeView, piece, IsLawful, height_of, greatest_height}
 use Rattle.compound_node.specs.declared.entries.Entry.{Entry}
@@ -8,32 +10,23 @@ use Rattle.compound_node.specs.declared.entries.Entry.TheVariants.{Leaf}
 use Rattle.compound_node.specs.declared.halves.Cut.{Cut}
 use Rattle.compound_node.specs.declared.halves.Half.{Half}
 use Rattle.compound_node.specs.declared.halves.Half.TheVariants.{One, Many, Same}
-use Rattle.partial_keys.proofs.Cutting.{root_first}
-use Rattle.partial_keys.specs.Shows.{Shows}
-use Rattle.pieces.proofs.Paths.{length-places}
-use Rattle.pieces.specs.Changes.{replaced, AtRootFork}
+use Rattle.tries.proofs.Building.{size-piece, greatest-append}
+use Rattle.pieces.proofs.Replacing.{replaced-same}
+use Rattle.pieces.specs.Changes.{replaced}
 use Rattle.pieces.specs.Growth.{forked, grown}
 use Rattle.pieces.specs.Piece.{Piece, Place, Fork, places, size}
-use Rattle.pieces.specs.Positions.{has}
-use Rattle.insert_cases.specs.Grafts.{grafted, IsAbovePath}
+use Rattle.pieces.specs.Grafts.{grafted, IsAbovePath}
 use Rattle.insert_cases.specs.Grown.{is_same, half_piece}
-use Rattle.insert_cases.proofs.Grafting.{size-replaced}
+use Rattle.pieces.proofs.Grafting.{size-replaced}
 
-pub size-piece : (n : NodeView) → IsLawful n → size (piece n) ≡ length n.entries
-size-piece n l = sym (length-places (piece n)) ∙ ap length (sym l.shows.entries_are)
+-- the entry that stands at a place, put there
+pub piece-same : (n : NodeView) (i : ℕ) (e : Entry) → IsLawful n → slice_get n.entries i ≡ Some e → replaced i e (piece n) ≡ piece n
+piece-same n i e l h =
+    replaced-same e i e (piece n) (omega (arith, slice_get_within n.entries i e h, size-piece n l))
+    (ap (λ es. get_or es i e) (sym l.shows.entries_are) ∙ get_or_from_slice_get n.entries i e e h)
 
 pub height_positive : (n : NodeView) → IsLawful n → 0 < n.height
 height_positive n l = let several = l.several in omega (arith, l.above 0 (Leaf 0) (omega arith))
-
--- the first column is the position of the root fork
-root_column : (columns rows : List ℕ) (entries : List Entry) (P : Piece Entry) → 2 ≤ size P → Shows columns rows entries P →
-    (0 < length columns) × AtRootFork (λ p zero one. get_or columns 0 0 ≡ p) P
-root_column columns rows entries (Place x) h sh = absurd (omega arith)
-root_column [] rows entries (Fork p s t) h sh = let f : has [] p ≡ true = sh.forks_at_columns.0 in absurd cc
-root_column (c ∷ cs) rows entries (Fork p s t) h sh = (omega arith, sym (root_first c p cs rows entries s t sh))
-
-pub first_column : (n : NodeView) → IsLawful n → (0 < length n.columns) × AtRootFork (λ p zero one. get_or n.columns 0 0 ≡ p) (piece n)
-first_column n l = root_column n.columns n.rows n.entries (piece n) (let e = size-piece n l in omega (arith, l.several)) l.shows
 
 pub half_is : (h : Half) (P : Piece Entry) → HalfShows h P → P ≡ half_piece h
 half_is (One e) P s = s.0
@@ -60,10 +53,6 @@ cut_is cut (Fork p a b) s =
     record { whole = cc; zero = subst (HalfShows cut.zero) z s.1; one = subst (HalfShows cut.one) o s.2 }
 
 -- ---- the greatest height
-pub greatest-append : (xs ys : List Entry) → greatest_height (xs ++ ys) ≡ max (greatest_height xs) (greatest_height ys)
-greatest-append [] ys = omega arith
-greatest-append (x ∷ xs) ys = ap (max (height_of x)) (greatest-append xs ys) ∙ omega arith
-
 -- a new entry counts
 pub greatest-grown : (position : ℕ) (bit : Bool) (x : Entry) (i : ℕ) (P : Piece Entry) → height_of x ≤ greatest_height (places (grown position bit x i P))
 greatest-grown position true x i (Place y) = omega arith

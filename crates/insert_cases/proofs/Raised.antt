@@ -1,27 +1,27 @@
 -- What takes a node's place, as a tree.
-use Rattle.std.proofs.Common.{◌≡◌, ◌⊎◌, inl, inr, ℕ, suc, ◌+◌, ◌-◌, ◌*◌, ◌<◌, ◌≤◌, Bool, true, false, List, refl, ap, ap₂, sym, ◌∙◌, subst, arith, if◌then◌else◌, nat_lt, MatchBool}
-use Rattle.std.proofs.lemmas.Bool.{lt-ltb, le-ltb, cond-true, cond-false, false≢true}
+use Rattle.std.proofs.Common.{◌≡◌, ◌⊎◌, inl, inr, ℕ, suc, ◌+◌, ◌*◌, ◌<◌, ◌≤◌, Bool, true, false, List, refl, ap, ap₂, sym, ◌∙◌, arith, if◌then◌else◌, MatchBool}
+use Rattle.std.proofs.lemmas.Bool.{lt-ltb, false≢true}
 use Rattle.key_bits.specs.declared.TheConstants.{MAX_BYTES}
 use Rattle.pieces.specs.Piece.{Place, Fork, places, size}
-use Rattle.compound_node.specs.Nodes.{NodeView, piece, greatest_height}
+use Rattle.compound_node.specs.Nodes.{NodeView, piece, greatest_height, head_of}
 use Rattle.compound_node.specs.declared.entries.Entry.{Entry}
+use Rattle.tries.specs.Affected.{affected}
 use Rattle.tries.specs.Changes.{put, IsFlat, IsPathBelow, IsAdded}
 use Rattle.tries.specs.Content.{Item}
 use Rattle.tries.specs.Keys.{Key, bit}
 use Rattle.tries.specs.Place.{bare, spot}
 use Rattle.tries.specs.Search.{child}
-use Rattle.tries.specs.Tree.{Page, Fixed, Tree, leaf, node, fork, page, IsTrie, IsBuilt, IsLower, first_position, Within, here, inside, zero_side, one_side}
-use Rattle.tries.proofs.Places.{spot_below}
+use Rattle.tries.specs.Tree.{Page, Fixed, Tree, leaf, node, fork, page, IsTrie, IsBuilt, IsLower, first_position, Within, here, inside, zero_side, one_side, IsTip}
+use Rattle.tries.proofs.Spots.{path_spot, grafted_spot}
 use Rattle.tries.proofs.Tries.{has_within}
-use Rattle.insert_cases.specs.Grafts.{grafted, IsAbovePath}
+use Rattle.pieces.specs.Grafts.{grafted, IsAbovePath}
 use Rattle.insert_cases.specs.Ways.{WayBelow}
-use Rattle.insert_cases.proofs.NodeFacts.{size-piece}
+use Rattle.tries.proofs.Building.{size-piece, body_bound, lower_to, node_built, fork_big}
 use Rattle.insert_cases.specs.declared.plain.LeafRecord.{LeafRecord}
 use Rattle.insert_cases.specs.declared.raising.Risen.{Risen}
 use Rattle.insert_cases.specs.declared.raising.Risen.TheVariants.{Whole, Split}
 use Rattle.insert_cases.specs.Risen.{page_of, IsNamed, IsFor, RisenShows}
-use Rattle.insert_cases.specs.Store.{fixed_of, IsShown}
-use Rattle.insert_cases.proofs.Building.{fork_of, new_bound, lower_to, node_built, fork_big}
+use Rattle.insert_cases.specs.Store.{IsShown}
 use Rattle.insert_cases.specs.Rising.{IsKept}
 use Rattle.insert_cases.proofs.Keeping.{lower_more, shown_kept}
 
@@ -38,7 +38,7 @@ pub record IsAround (ms : List NodeView) (ls : List LeafRecord) (h : ℕ) (head 
 module _ (ms : List NodeView) (ls : List LeafRecord) (old : NodeView) (bounded : old.height + first_position (piece old) ≤ 9 * MAX_BYTES) where
   named_around : (e : Entry) (s : Tree) → IsNamed ms old e (page s) → IsTrie s → IsBuilt s → IsShown ms ls s → IsLower old.height s → IsAround ms ls old.height (Place e) s
   named_around e s i trie built shown low = record {
-    tree = node i.number (fixed_of i.view) s;
+    tree = node i.number (head_of i.view) s;
     begins = ap (λ z. let y : Page = Place z in y) (sym i.is);
     same = refl;
     built = node_built i.view i.number s i.lawful i.shows built (high i.height) (bound i.height);
@@ -59,10 +59,7 @@ module _ (ms : List NodeView) (ls : List LeafRecord) (old : NodeView) (bounded :
 
       bound : (i.view.height ≡ 1 + greatest_height (places (page s))) ⊎ ((i.view.height ≡ old.height) × (first_position (piece i.view) ≡ first_position (piece old))) → i.view.height + first_position (page s) ≤ 9 * MAX_BYTES
       bound (inl e) =
-          let f = fork_of s (fork_big s (omega (arith, i.lawful.several, ap size i.shows, size-piece i.view i.lawful))) in
-          let g = new_bound f.0 f.1 f.2 (subst IsTrie f.3 trie) (subst IsBuilt f.3 built) in
-          let p : first_position (page s) ≡ f.0 = ap (λ z. first_position (page z)) f.3 in
-          let q : greatest_height (places (page s)) ≡ greatest_height (places (page (fork f.0 f.1 f.2))) = ap (λ z. greatest_height (places (page z))) f.3 in
+          let g = body_bound s (fork_big s (omega (arith, i.lawful.several, ap size i.shows, size-piece i.view i.lawful))) trie built in
           omega arith
       bound (inr e) =
           let g : first_position (piece old) ≡ first_position (page s) = sym e.1 ∙ ap first_position i.shows in
@@ -100,49 +97,26 @@ pub record IsSpot (k : Key) (b s : Tree) : Type 0 where
   pub path : (p : ℕ) → WayBelow p k b → IsPathBelow p place
   pub above : (p : ℕ) → IsPathBelow p place → IsAbovePath p (spot k (page b)) (page b)
 
-graft_low : (q : ℕ) (x y z : Page) (i : ℕ) → i < size x → grafted i z (Fork q x y) ≡ Fork q (grafted i z x) y
-graft_low q x y z i h = cond-true (nat_lt i (size x)) _ _ (lt-ltb i (size x) h)
-
-graft_high : (q : ℕ) (x y z : Page) (i : ℕ) → grafted (size x + i) z (Fork q x y) ≡ Fork q x (grafted i z y)
-graft_high q x y z i =
-    let d : size x + i - size x ≡ i = omega arith in
-    cond-false (nat_lt (size x + i) (size x)) _ _ (le-ltb (size x + i) (size x) (omega arith)) ∙ ap (λ j. Fork q x (grafted j z y)) d
-
-path_low : (p q : ℕ) (x y : Page) (i : ℕ) → i < size x → q < p → IsAbovePath p i x → IsAbovePath p i (Fork q x y)
-path_low p q x y i h l a = (l, subst (λ o. MatchBool o (IsAbovePath p i x) (IsAbovePath p (i - size x) y)) (sym (lt-ltb i (size x) h)) a)
-
-path_high : (p q : ℕ) (x y : Page) (i : ℕ) → q < p → IsAbovePath p i y → IsAbovePath p (size x + i) (Fork q x y)
-path_high p q x y i l a =
-    let d : i ≡ size x + i - size x = omega arith in
-    (l, subst (λ o. MatchBool o (IsAbovePath p (size x + i) x) (IsAbovePath p (size x + i - size x) y)) (sym (le-ltb (size x + i) (size x) (omega arith))) (subst (λ j. IsAbovePath p j y) d a))
+-- forks below the position alone on the way: there is but an entry after the forks below it
+way_tip : (p : ℕ) (k : Key) (b : Tree) → WayBelow p k b → IsTip (affected p k b)
+way_tip p k (leaf n l v) w = tt
+way_tip p k (node n x d) w = tt
+way_tip p k (fork q a c) w = rw (lt-ltb q p w.0) (go (bit k q) (way_tip p k a) (way_tip p k c) w.1)
+  where
+    go : (o : Bool) → (WayBelow p k a → IsTip (affected p k a)) → (WayBelow p k c → IsTip (affected p k c)) →
+        MatchBool o (WayBelow p k c) (WayBelow p k a) → IsTip (if o then affected p k c else affected p k a)
+    go true f g w = g w
+    go false f g w = f w
 
 pub child_spot : (k : Key) (b : Tree) → IsSpot k b (child k b)
-child_spot k (leaf n l v) = record { place = here; flat = tt; shows = λ r. refl; path = λ p w. tt; above = λ p w. tt }
-child_spot k (node n x d) = record { place = here; flat = tt; shows = λ r. refl; path = λ p w. tt; above = λ p w. tt }
-child_spot k (fork q a c) = go (bit k q) refl (child_spot k a) (child_spot k c)
-  where
-    go : (o : Bool) → bit k q ≡ o → IsSpot k a (child k a) → IsSpot k c (child k c) → IsSpot k (fork q a c) (if o then child k c else child k a)
-    go true e x y = record {
-      place = one_side y.place;
-      flat = y.flat;
-      shows = λ r.
-          let i : spot k (page (fork q a c)) ≡ size (page a) + spot k (page c) = rw e refl in
-          ap (Fork q (page a)) (y.shows r) ∙ (sym (graft_high q (page a) (page c) (page r) (spot k (page c))) ∙ ap (λ j. grafted j (page r) (page (fork q a c))) (sym i));
-      path = λ p w. (w.0, y.path p (let m : MatchBool (bit k q) (WayBelow p k c) (WayBelow p k a) = w.1 in rw e at m));
-      above = λ p w.
-          let i : spot k (page (fork q a c)) ≡ size (page a) + spot k (page c) = rw e refl in
-          subst (λ j. IsAbovePath p j (page (fork q a c))) (sym i) (path_high p q (page a) (page c) (spot k (page c)) w.0 (y.above p w.1));
-    }
-    go false e x y = record {
-      place = zero_side x.place;
-      flat = x.flat;
-      shows = λ r.
-          let i : spot k (page (fork q a c)) ≡ spot k (page a) = rw e refl in
-          ap (λ z. Fork q z (page c)) (x.shows r) ∙ (sym (graft_low q (page a) (page c) (page r) (spot k (page a)) (spot_below k (page a))) ∙ ap (λ j. grafted j (page r) (page (fork q a c))) (sym i));
-      path = λ p w. (w.0, x.path p (let m : MatchBool (bit k q) (WayBelow p k c) (WayBelow p k a) = w.1 in rw e at m));
-      above = λ p w.
-          let i : spot k (page (fork q a c)) ≡ spot k (page a) = rw e refl in
-          subst (λ j. IsAbovePath p j (page (fork q a c))) (sym i) (path_low p q (page a) (page c) (spot k (page a)) (spot_below k (page a)) w.0 (x.above p w.1));
+child_spot k b =
+    let ((place, flat, pages, path), above) = path_spot k b in
+    record {
+      place = place;
+      flat = flat;
+      shows = λ r. pages r ∙ sym (grafted_spot k (page r) (page b));
+      path = λ p w. path p (way_tip p k b w);
+      above = above;
     }
 
 -- another tree in one place of a shown one, whose other parts stay shown

@@ -15,13 +15,14 @@ use Rattle.compound_node.specs.declared.halves.Cut.{Cut}
 use Rattle.compound_node.specs.declared.halves.Half.{Half}
 use Rattle.compound_node.specs.declared.halves.Half.TheVariants.{One, Many, Same}
 use Rattle.tries.specs.Tree.{Page, first_position}
-use Rattle.insert_cases.specs.Grafts.{grafted, IsAbovePath}
+use Rattle.pieces.specs.Grafts.{grafted, IsAbovePath}
 use Rattle.insert_cases.specs.Grown.{GrownShows, SidesShow, is_whole, keeps_node}
 use Rattle.insert_cases.specs.Heights.{IsSteady, IsHalfSteady, IsGrownSteady}
 use Rattle.insert_cases.specs.declared.growth.Grown.{Grown}
 use Rattle.insert_cases.specs.declared.growth.Grown.TheVariants.{One as Whole, Two}
-use Rattle.insert_cases.proofs.Grafting.{size-grown}
-use Rattle.insert_cases.proofs.NodeFacts.{size-piece, first_column}
+use Rattle.pieces.proofs.Grafting.{size-grown}
+use Rattle.tries.proofs.Building.{size-piece}
+use Rattle.compound_node.proofs.Roots.{first_column}
 
 -- ---- root forks
 module _ {A : Type 0} where

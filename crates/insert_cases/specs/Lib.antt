@@ -1,5 +1,4 @@
 -- The definitions of the crate.
-pub mod Grafts
 pub mod Grown
 pub mod Searches
 pub mod Ways
@@ -10,3 +9,4 @@ pub mod Heights
 pub mod Gathered
 pub mod Risen
 pub mod Rising
+pub mod Adding

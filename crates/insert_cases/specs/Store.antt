@@ -1,11 +1,12 @@
 -- The tree that records in lists show, and what it holds.
 use Rattle.std.specs.Prelude.{◌≡◌, ℕ, zero, suc, List, [], slice_get, Option, Some, None, option_map, option_and_then, MatchOption, IsSomeAnd, if◌then◌else◌, nat_eq}
-use Rattle.pieces.specs.Piece.{Place, Fork}
-use Rattle.compound_node.specs.Nodes.{NodeView, piece, height_of}
+use Rattle.pieces.specs.Piece.{Place}
+use Rattle.compound_node.specs.Nodes.{NodeView, piece, head_of, height_of}
 use Rattle.compound_node.specs.declared.entries.Entry.{Entry}
 use Rattle.compound_node.specs.declared.entries.Entry.TheVariants.{Leaf, Node}
 use Rattle.hot_model.specs.Maps.{Map}
 use Rattle.tries.specs.Content.{Item, items, pairs}
+use Rattle.tries.specs.Read.{join_node, read_page}
 use Rattle.tries.specs.Tree.{Page, Fixed, Tree, leaf, node, fork, page, IsTrie, IsBuilt}
 use Rattle.tries.specs.Keys.{Key}
 use Rattle.insert_cases.specs.Searches.{found}
@@ -19,15 +20,11 @@ pub record PlainView : Type 0 where
   pub node_capacity : ℕ
   pub leaf_capacity : ℕ
 
--- all of a node but its entries
-abbrev pub fixed_of : NodeView → Fixed
-fixed_of v = record { height = v.height; columns = v.columns; rows = v.rows }
-
 -- record n is a node that shows this page
 pub record IsStored (nodes : List NodeView) (n : ℕ) (x : Fixed) (p : Page) : Type 0 where
   pub view : NodeView
   pub at : slice_get nodes n ≡ Some view
-  pub fixed : fixed_of view ≡ x
+  pub fixed : head_of view ≡ x
   pub shows : piece view ≡ p
 
 -- the records show the tree
@@ -36,23 +33,9 @@ IsShown nodes leaves (leaf n k v) = slice_get leaves n ≡ Some (record { key = 
 IsShown nodes leaves (node n x b) = IsStored nodes n x (page b) × IsShown nodes leaves b
 IsShown nodes leaves (fork p a b) = IsShown nodes leaves a × IsShown nodes leaves b
 
-abbrev pub join_fork : ℕ → Option Tree → Option Tree → Option Tree
-join_fork p (Some a) (Some b) = Some (fork p a b)
-join_fork p (Some a) None = None
-join_fork p None o = None
-
-abbrev pub join_node : ℕ → Fixed → Option Tree → Option Tree
-join_node n x (Some b) = Some (node n x b)
-join_node n x None = None
-
--- what a page shows, where each entry shows what `f` says
-abbrev pub read_page : (Entry → Option Tree) → Page → Option Tree
-read_page f (Place e) = f e
-read_page f (Fork p x y) = join_fork p (read_page f x) (read_page f y)
-
 -- what a node of a number shows, where it has this height
 abbrev pub read_node : (Entry → Option Tree) → ℕ → ℕ → Option NodeView → Option Tree
-read_node f n h (Some v) = if nat_eq v.height h then join_node n (fixed_of v) (read_page f (piece v)) else None
+read_node f n h (Some v) = if nat_eq v.height h then join_node n (head_of v) (read_page f (piece v)) else None
 read_node f n h None = None
 
 -- the tree that an entry shows, read with a bound on the depth

@@ -6,7 +6,7 @@ ghost use Rattle.pieces.specs.Growth.{grown, IsAffected};
 ghost use Rattle.pieces.specs.Changes.{AtRootFork};
 ghost use Rattle.compound_node.specs.Halves.{HalfShows, CutShows};
 ghost use Rattle.compound_node.specs.Nodes.{piece, IsEntry, IsLawful, IsBuiltFrom};
-ghost use Rattle.insert_cases.specs.Grafts.{grafted, IsAbovePath};
+ghost use Rattle.pieces.specs.Grafts.{grafted, IsAbovePath};
 ghost use Rattle.insert_cases.specs.Grown.{GrownShows, is_whole, keeps_node, half_piece};
 
 use compound_node::{Cut, Entry, Half, Node};
@@ -45,18 +45,10 @@ pub fn grow(node: &Node, first: u8, last: u8, position: u16, bit: bool, entry: E
     if node.count() < 32 {
         return Grown::One(node.insert(first, last, position, bit, entry));
     }
-    if position < first_position(node) {
+    if position < node.first_position() {
         return Grown::Two(beside(position, bit, entry));
     }
     Grown::Two(cut_grown(node, first, last, position, bit, entry))
-}
-
-/// The position of a node's root fork.
-pub(crate) fn first_position(node: &Node) -> u16
-    requires { IsLawful node.now }
-    ensures { AtRootFork (λ p zero one. result ≡ p) (piece node.now) }
-{
-    node.columns().first()
 }
 
 /// The fork of a node that stays whole and a new entry.

@@ -8,7 +8,7 @@ ghost use Rattle.compound_node.specs.Nodes.{NodeView, piece, IsEntry, StandsBelo
 ghost use Rattle.tries.specs.Affected.{page_forked};
 ghost use Rattle.tries.specs.Content.{Item};
 ghost use Rattle.tries.specs.Tree.{Tree, Fixed, node as tree_node};
-ghost use Rattle.insert_cases.specs.Grafts.{grafted, IsAbovePath};
+ghost use Rattle.pieces.specs.Grafts.{grafted, IsAbovePath};
 ghost use Rattle.insert_cases.specs.Heights.{KeepsHeights};
 ghost use Rattle.insert_cases.specs.Rising.{IsRaised, IsAddable, IsLifting, item};
 ghost use Rattle.insert_cases.specs.Risen.{page_of, IsNamed, RisenShows, OthersStay, AllStay};
@@ -23,8 +23,10 @@ use key_bits::Key;
 /// What takes the place of an entry when a key gets a leaf below it. The key differs first at `position` from that of
 /// the leaf where its search ends.
 ///
-/// The search goes down to the node that the position affects, or to a leaf. A leaf alone counts as a child of height
-/// 0 that gave way to a fork of itself and the new one. Each node on the way back takes what took its child's place.
+/// The search goes down to the node that the position affects, or to a leaf. A node above leaves alone takes the new
+/// leaf beside one of them; below a higher node a leaf counts as a child of height 0 that gave way to a fork of itself
+/// and the new one. Each node on the way back takes what took its child's place, and stays as it is where that is the
+/// child's own entry.
 pub fn raised(nodes: &mut Vec<Node>, entry: Entry, key: &Key, position: u16, leaf: u32) -> Risen
     requires place { (leaves : List LeafRecord) × (value : ℕ) × (t : Tree) × IsAddable nodes.old.items leaves (item leaf key.now value) position entry t }
     requires position { position < 65535 }
@@ -43,7 +45,8 @@ pub fn raised(nodes: &mut Vec<Node>, entry: Entry, key: &Key, position: u16, lea
             let at = node.search(key);
             prove!(at < node.count());
             let (first, last) = node.affected(at, position);
-            if first < last {
+            let child = node.entry(at);
+            if first < last || height == 1 {
                 return grown_at(
                     nodes,
                     number,
@@ -54,7 +57,6 @@ pub fn raised(nodes: &mut Vec<Node>, entry: Entry, key: &Key, position: u16, lea
                     leaf,
                 );
             }
-            let child = node.entry(at);
             let risen = raised(nodes, child, key, position, leaf);
             lifted(nodes, number, height, at, child.height(), risen)
         }
@@ -110,7 +112,14 @@ fn grown_at(
 
 /// What takes a node's place when the child at `at`, which had the height `low`, gave way. A fork goes into the node
 /// where the node is one higher than the child, and into a new child otherwise.
-fn lifted(nodes: &mut Vec<Node>, number: u32, height: u16, at: u8, low: u16, risen: Risen) -> Risen
+pub fn lifted(
+    nodes: &mut Vec<Node>,
+    number: u32,
+    height: u16,
+    at: u8,
+    low: u16,
+    risen: Risen,
+) -> Risen
     requires place { (ns : List NodeView) × (leaves : List LeafRecord) × (x : Item) × (p : ℕ) × (y : Fixed) × (b : Tree) ×
         IsLifting ns nodes.old.items leaves x p number height at low y b (page_of risen) }
     requires room { vec_len nodes.old < vec_capacity nodes.old }
@@ -190,7 +199,7 @@ pub fn rooted(nodes: &mut Vec<Node>, risen: Risen) -> Entry
     }
 }
 
-/// A node with another entry at a place, in its own record.
+/// A node with an entry at a place, in its own record, which stays as it is where the entry stands there already.
 fn replaced(nodes: &mut Vec<Node>, number: u32, at: u8, entry: Entry) -> Entry
     requires { (old : NodeView) × (slice_get nodes.old.items number ≡ Some old) × (at < size (piece old)) × StandsBelow old.height entry }
     ensures shows { (old : NodeView) → slice_get nodes.old.items number ≡ Some old → IsNamed nodes.new.items old result (grafted at (At entry) (piece old)) }
@@ -201,6 +210,12 @@ fn replaced(nodes: &mut Vec<Node>, number: u32, at: u8, entry: Entry) -> Entry
 {
     let node = &nodes[number as usize];
     prove!(at < node.count());
+    if node.entry(at) == entry {
+        return Entry::Node {
+            number,
+            height: node.height(),
+        };
+    }
     let node = node.replace(at, entry);
     kept(nodes, number, node)
 }

@@ -3,3 +3,4 @@ pub mod Bytes
 pub mod Difference
 pub mod Order
 pub mod Gathering
+pub mod Holding

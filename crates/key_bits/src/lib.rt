@@ -1,14 +1,13 @@
 //! Byte keys of bounded length, their bits, the first bit at which two keys differ, and bits gathered into a word.
 #![tactic(auto)]
 
-ghost use Rattle.std.specs.Prelude.{◌≡◌, ◌≢◌, ℕ, ◌+◌, ◌*◌, ◌≤◌, ◌<◌, ◌↔◌, length, IsTrue, IsOk, IsNone, IfOk, IfErr, IfSome, false, if◌then◌else◌};
+ghost use Rattle.std.specs.Prelude.{◌≡◌, ◌≢◌, ℕ, ◌+◌, ◌*◌, ◌≤◌, ◌<◌, ◌↔◌, length, take, IsTrue, IsOk, IsNone, IfOk, IfErr, IfSome, false, if◌then◌else◌};
 ghost use Rattle.std.specs.Cmp.Lexicographic.{slice_cmp};
 ghost use Rattle.std.specs.Ordering.{nat_cmp};
 ghost use Rattle.key_bits.specs.Bits.{bit_of, IsFirstDifference, BytesDifferAt};
 ghost use Rattle.key_bits.specs.Gather.{gathered};
-ghost use Rattle.key_bits.specs.Key.{IsKey};
+ghost use Rattle.key_bits.specs.Key.{HoldsKey, IsKey, with_zeros};
 
-use arrayvec::ArrayVec;
 use std::cmp::Ordering;
 use std::hash::{Hash, Hasher};
 use std::marker::Model;
@@ -29,20 +28,26 @@ pub enum KeyFault {
 /// Keys are ordered by bytes, a prefix first. Contracts see a key as the list of its bytes.
 #[derive(Debug, Drop)]
 pub struct Key {
-    bytes: ArrayVec<u8, MAX_BYTES>,
+    // The count stands first: in a `Result` a fault then shares no byte with the key's own, so that these move in one piece.
+    count: usize,
+    bytes: [u8; MAX_BYTES],
 }
 
 impl Model for Key {
-    ghost use Rattle.std.specs.Prelude.{List, ℕ};
-    ghost use Rattle.key_bits.specs.Key.{IsKey};
+    ghost use Rattle.std.specs.Prelude.{List, ℕ, length, take};
+    ghost use Rattle.key_bits.specs.Key.{HoldsKey, with_zeros};
 
     ghost Value = { List ℕ };
 
-    ghost view = { λ k. k.bytes.items };
+    ghost view = { λ k. take k.count k.bytes };
 
-    ghost invariant = { λ k. IsKey k.bytes.items };
+    ghost invariant = { λ k. HoldsKey k.bytes k.count };
 
-    ghost inverse = { λ bytes. record { bytes = record { items = bytes } } };
+    ghost inverse = { λ bytes. record { count = length bytes; bytes = with_zeros bytes } };
+
+    ghost use Rattle.std.proofs.Common.{sym};
+
+    ghost inverse_ok = { λ k h i. record { count = h.counted i; bytes = sym h.zeros i } };
 }
 
 impl Key {
@@ -53,11 +58,21 @@ impl Key {
         ensures key { IfOk result IsKey }
         ensures err { IfErr result (λ fault. fault ≡ KeyFault.TooLong) }
     {
-        let mut list = ArrayVec::new();
-        match list.try_extend_from_slice(bytes) {
-            Ok(()) => Ok(Key { bytes: list }),
-            Err(_) => Err(KeyFault::TooLong),
+        if bytes.len() > MAX_BYTES {
+            return Err(KeyFault::TooLong);
         }
+        Ok(Key {
+            count: bytes.len(),
+            bytes: padded(bytes),
+        })
+    }
+
+    /// The key of the first `count` of these bytes; all others are 0.
+    pub fn of_places(bytes: [u8; MAX_BYTES], count: usize) -> Key
+        requires { HoldsKey bytes count }
+        ensures { result ≡ take count bytes }
+    {
+        Key { count, bytes }
     }
 
     /// The key's bytes.
@@ -65,7 +80,7 @@ impl Key {
         ensures bytes { result.now ≡ self.now }
         ensures key { IsKey self.now }
     {
-        self.bytes.as_slice()
+        &self.bytes[..self.count]
     }
 
     /// A second key of the same bytes.
@@ -73,11 +88,10 @@ impl Key {
         ensures same { result ≡ self.now }
         ensures key { IsKey self.now }
     {
-        let mut list = ArrayVec::new();
-        for byte in self.as_bytes() {
-            list.push(*byte);
+        Key {
+            count: self.count,
+            bytes: self.bytes,
         }
-        Key { bytes: list }
     }
 
     /// The bit at a position: byte `i` gives nine bits at `9 * i` on, a 1 and then its own bits, the highest first.
@@ -87,6 +101,16 @@ impl Key {
     {
         bit_in(self.as_bytes(), position) == 1
     }
+}
+
+/// The bytes, with the unused places filled.
+fn padded(bytes: &[u8]) -> [u8; MAX_BYTES]
+    requires { length bytes.now ≤ MAX_BYTES }
+    ensures { result ≡ with_zeros bytes.now }
+{
+    let mut places = [0; MAX_BYTES];
+    places[..bytes.len()].copy_from_slice(bytes);
+    places
 }
 
 impl PartialEq for Key {
@@ -223,6 +247,3 @@ fn bit_in(bytes: &[u8], position: u16) -> u32
     };
     nine_bits >> (8 - position % 9) & 1
 }
-
-#[cfg(test)]
-mod tests;

@@ -1,30 +1,19 @@
 -- What was so in a past stays so as it grows; which records may be given back, and which stand now.
-use Rattle.std.proofs.Common.{◌≡◌, ◌≢◌, inl, inr, ℕ, ◌<◌, ◌≤◌, List, ◌++◌, append_assoc, true, ap, ap₂, sym, ◌∙◌, subst, arith, Some, le_refl, le_trans}
-use Rattle.std.proofs.lemmas.List.Elements.{All-append}
+use Rattle.std.proofs.Common.{◌≡◌, inl, inr, ℕ, ◌<◌, ◌≤◌, true, ap, ap₂, sym, ◌∙◌, subst, arith, Some, le_refl, le_trans}
 use Rattle.tries.specs.Keys.{Key}
 use Rattle.compound_node.specs.declared.entries.Entry.{Entry}
 use Rattle.tries.specs.Tree.{Tree, leaf, node, fork, page}
 use Rattle.moments.specs.Heap.{NodeWords, IsCopied}
-use Rattle.moments.specs.State.{rec_of, Spans, last_of, IsLived, Past, Stands, IsLawful, IsMarked, IsUnlinkedSince}
+use Rattle.moments.specs.State.{rec_of, Spans, last_of, IsLived, Past, Stands, IsLawful, IsMarked}
 use Rattle.moments.specs.declared.Rec.{Rec}
 use Rattle.moments.specs.declared.Rec.TheVariants.{Node as a_node, Leaf as a_leaf}
-use Rattle.moments.specs.Frames.{IsGrown, IsLonger}
-use Rattle.hot_model.specs.declared.Change.{Change}
+use Rattle.moments.specs.Frames.{IsGrown}
 use Rattle.moments.specs.Core.{has_seen, InTree, Marked, life_of, Core, pin_moment, view, IsPaced}
 use Rattle.moments.specs.declared.Pin.{Pin}
 
-pub grown_trans : (a b c : Past) → IsGrown a b → IsGrown b c → IsGrown a c
-grown_trans a b c x y = record {
-  longer = le_trans x.longer y.longer;
-  kept = λ n h. y.kept n (le_trans h x.longer) ∙ x.kept n h;
-}
-
-pub longer_trans : (q : ℕ) (a b c : List Change) → IsLonger q a b → IsLonger q b c → IsLonger q a c
-longer_trans q a b c x y = record {
-  rest = x.rest ++ y.rest;
-  is_front = sym (append_assoc a x.rest y.rest) ∙ (ap (λ z. z ++ y.rest) x.is_front ∙ y.is_front);
-  others = All-append (λ z. z.pass ≢ q) x.rest y.rest x.others y.others;
-}
+-- The record was linked at no moment since `m`.
+abbrev pub IsUnlinkedSince : Past → ℕ → Rec → Type 0
+IsUnlinkedSince s m r = (n : ℕ) → m ≤ n → n ≤ s.now → (u : Tree) → Stands s n r u → ⊥
 
 pub stands_grown : (a b : Past) → IsGrown a b → (n : ℕ) (r : Rec) (u : Tree) → n ≤ a.now → Stands a n r u → Stands b n r u
 stands_grown a b g n r u h st =
@@ -34,7 +23,7 @@ pub marked_grown : (a b : Past) → IsGrown a b → (m : ℕ) (P : Key → Type 
 marked_grown a b g m P e (n, u, lo, hi, st, pg, f) = (n, u, lo, le_trans hi g.longer, stands_grown a b g n (rec_of e) u hi st, pg, f)
 
 -- A record that may be given back was linked at no moment since a pass's pin.
-pub give_back : (c : Core) → IsLawful (view c) → IsPaced c → (o : ℕ) (r : Rec) (f l s : ℕ) → c.fate r ≡ Marked f l s →
+pub give_back : (c : Core) → IsLawful (view c) → IsPaced c.shared → (o : ℕ) (r : Rec) (f l s : ℕ) → c.fate r ≡ Marked f l s →
     s < (c.rounds o).bound → (q : ℕ) (p : Pin) → c.pins q ≡ Some p → has_seen (c.rounds o).seen q ≡ true → IsUnlinkedSince c.past p.moment r
 give_back c law pace o r f l s e h q p eq seen n lo hi u st =
     let spans : Spans c.past.now (life_of (Marked f l s)) n =

@@ -4,16 +4,16 @@ use Rattle.std.proofs.lemmas.Bool.{eq-eqb, eqb-true, cases_Bool, false≢true, o
 use Rattle.compound_node.specs.declared.entries.Entry.{Entry}
 use Rattle.tries.specs.Tree.{Tree, leaf, node, fork}
 use Rattle.moments.specs.Heap.{Heap}
-use Rattle.moments.specs.State.{Out, Links, IsLinked, IsLawful, IsNext, comes, stays_out, stays, goes, gone, IsUnlinkedSince}
+use Rattle.moments.specs.State.{Out, Links, IsLinked, IsLawful}
 use Rattle.moments.specs.declared.Rec.{Rec}
 use Rattle.moments.specs.declared.Rec.TheVariants.{Node as a_node, Leaf as a_leaf}
 use Rattle.hot_model.specs.declared.Change.{Change}
 use Rattle.moments.specs.Core.{has_seen, Fate, Free, Held, Ready, InTree, Unlinked, Marked, life_of, Core, pin_moment, view, IsPaced}
 use Rattle.moments.specs.declared.Pin.{Pin}
-use Rattle.moments.specs.Steps.{same_rec, with_fate, with_heap, links, is_linked, next_fate, after_publish, IsLegalPublish, after_set_pin, with_pin}
-use Rattle.moments.proofs.Publish.{publish_lawful}
+use Rattle.moments.specs.Steps.{same_rec, with_fate, links, is_linked, next_fate, after_publish, IsLegalPublish, after_set_pin, with_pin}
+use Rattle.moments.proofs.Publish.{publish_lawful, IsNext, comes, stays_out, stays, goes, gone}
 use Rattle.moments.proofs.Quiet.{quiet_lawful}
-use Rattle.moments.proofs.Growth.{give_back, not_now}
+use Rattle.moments.proofs.Growth.{IsUnlinkedSince, give_back, not_now}
 
 pub same_rec_refl : (r : Rec) → same_rec r r ≡ true
 same_rec_refl (a_node n) = eq-eqb n n refl
@@ -75,7 +75,7 @@ legal_publish_lawful c q heap root t x law p =
     (record { top = p.top; tree = p.tree; near = p.near; kept = p.kept; lives = lives c q heap root t x p })
 
 -- A step at one record that leaves its life keeps the core lawful: Claim, Ready, Release, Mark.
-pub fate_lawful : (c : Core) (r : Rec) (f : Fate) → IsLawful (view c) → life_of f ≡ life_of (c.fate r) → IsLawful (view (with_fate c r f))
+pub fate_lawful : (c : Core) (r : Rec) (f : Fate) → IsLawful (view c) → life_of f ≡ life_of (c.fate r) → IsLawful (view (record c { shared = with_fate c.shared r f }))
 fate_lawful c r f law e =
     quiet_lawful (view c) law c.heap (λ i. life_of (if same_rec i r then f else c.fate i)) (λ q. pin_moment (c.pins q)) (record {
       nodes = λ n. inr refl;
@@ -93,8 +93,8 @@ pin_of None m e = absurd cc
 pin_of (Some p) m e = (p, refl, let x : p.moment ≡ m = cc in x)
 
 -- GiveBack keeps the core lawful: no pinned pass can find the record.
-pub give_back_lawful : (c : Core) → IsLawful (view c) → IsPaced c → (o : ℕ) (r : Rec) (f l s : ℕ) → c.fate r ≡ Marked f l s →
-    s < (c.rounds o).bound → ((q : ℕ) (p : Pin) → c.pins q ≡ Some p → has_seen (c.rounds o).seen q ≡ true) → IsLawful (view (with_fate c r Free))
+pub give_back_lawful : (c : Core) → IsLawful (view c) → IsPaced c.shared → (o : ℕ) (r : Rec) (f l s : ℕ) → c.fate r ≡ Marked f l s →
+    s < (c.rounds o).bound → ((q : ℕ) (p : Pin) → c.pins q ≡ Some p → has_seen (c.rounds o).seen q ≡ true) → IsLawful (view (record c { shared = with_fate c.shared r Free }))
 give_back_lawful c law pace o r f l s e h all =
     quiet_lawful (view c) law c.heap (λ i. life_of (if same_rec i r then Free else c.fate i)) (λ q. pin_moment (c.pins q)) (record {
       nodes = λ n. inr refl;
@@ -117,15 +117,15 @@ give_back_lawful c law pace o r f l s e h all =
 
 -- Fill keeps the core lawful: the record is outside its life.
 pub fill_lawful : (c : Core) (heap : Heap) → IsLawful (view c) → ((n : ℕ) → (life_of (c.fate (a_node n)) ≡ Out) ⊎ (c.heap.nodes n ≡ heap.nodes n)) →
-    ((n : ℕ) → (life_of (c.fate (a_leaf n)) ≡ Out) ⊎ (c.heap.leaves n ≡ heap.leaves n)) → IsLawful (view (with_heap c heap))
+    ((n : ℕ) → (life_of (c.fate (a_leaf n)) ≡ Out) ⊎ (c.heap.leaves n ≡ heap.leaves n)) → IsLawful (view (record c { heap = heap }))
 fill_lawful c heap law f g =
     quiet_lawful (view c) law heap (λ r. life_of (c.fate r)) (λ q. pin_moment (c.pins q))
     (record { nodes = f; leaves = g; lives = λ r. inl refl; pins = λ q m h. inl h })
 
 -- SetPin keeps the core lawful.
-pub set_pin_lawful : (c : Core) (q : ℕ) → IsLawful (view c) → IsLawful (view (after_set_pin c q))
+pub set_pin_lawful : (c : Core) (q : ℕ) → IsLawful (view c) → IsLawful (view (record c { shared = after_set_pin c.shared q (c.rounds q).epoch }))
 set_pin_lawful c q law =
-    quiet_lawful (view c) law c.heap (λ r. life_of (c.fate r)) (λ i. pin_moment ((after_set_pin c q).pins i))
+    quiet_lawful (view c) law c.heap (λ r. life_of (c.fate r)) (λ i. pin_moment ((after_set_pin c.shared q (c.rounds q).epoch).pins i))
     (record { nodes = λ n. inr refl; leaves = λ n. inr refl; lives = λ r. inl refl; pins = λ i m h. at i m (cases_Bool (eqb i q)) h })
   where
     pin : Pin
@@ -138,9 +138,9 @@ set_pin_lawful c q law =
         let x : Some c.past.now ≡ Some m = rw e at h in inr cc
 
 -- ClearPin keeps the core lawful.
-pub clear_pin_lawful : (c : Core) (q : ℕ) → IsLawful (view c) → IsLawful (view (with_pin c q None))
+pub clear_pin_lawful : (c : Core) (q : ℕ) → IsLawful (view c) → IsLawful (view (record c { shared = with_pin c.shared q None }))
 clear_pin_lawful c q law =
-    quiet_lawful (view c) law c.heap (λ r. life_of (c.fate r)) (λ i. pin_moment ((with_pin c q None).pins i))
+    quiet_lawful (view c) law c.heap (λ r. life_of (c.fate r)) (λ i. pin_moment ((with_pin c.shared q None).pins i))
     (record { nodes = λ n. inr refl; leaves = λ n. inr refl; lives = λ r. inl refl; pins = λ i m h. at i m (cases_Bool (eqb i q)) h })
   where
     at : (i m : ℕ) → ((eqb i q ≡ true) ⊎ (eqb i q ≡ false)) → pin_moment (if eqb i q then None else c.pins i) ≡ Some m →

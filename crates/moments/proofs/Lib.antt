@@ -5,7 +5,6 @@ pub mod Publish
 pub mod Quiet
 pub mod Growth
 pub mod Legal
-pub mod Frames
 pub mod Pace
 pub mod Stored
 pub mod Telling

@@ -3,14 +3,13 @@ use Rattle.std.proofs.Common.{◌≡◌, ◌⊎◌, ◌≢◌, inl, inr, ℕ, su
 use Rattle.std.proofs.lemmas.Bool.{eqb-true, cases_Bool, false≢true}
 use Rattle.compound_node.specs.declared.entries.Entry.{Entry}
 use Rattle.tries.specs.Tree.{Tree}
-use Rattle.moments.specs.Heap.{Heap}
 use Rattle.moments.specs.State.{Spans, IsLived, IsLawful, Stands}
 use Rattle.moments.specs.declared.Rec.{Rec}
 use Rattle.hot_model.specs.declared.Change.{Change}
 use Rattle.moments.specs.Core.{has_seen, pin_moment, Fate, Free, Held, Ready, InTree, Unlinked, Marked, life_of, Core, view, IsPaced}
 use Rattle.moments.specs.declared.Pin.{Pin}
 use Rattle.moments.specs.declared.Round.{Round}
-use Rattle.moments.specs.Steps.{with_fate, with_heap, with_lock, with_anchor, with_epoch, with_pin, same_rec, next_fate, is_linked, after_publish, after_set_pin, after_load_epoch, lowered, after_load_pin, after_mark}
+use Rattle.moments.specs.Steps.{with_fate, with_lock, with_anchor, with_epoch, with_pin, same_rec, next_fate, is_linked, published_by, after_set_pin, after_load_epoch, lowered, after_load_pin, after_mark}
 
 -- A choice by a test keeps what both have.
 either : {A : Type 0} (P : A → Type 0) (b : Bool) (x y : A) → (b ≡ true → P x) → (b ≡ false → P y) → P (if b then x else y)
@@ -27,7 +26,7 @@ marked_old : (c : Core) → IsLawful (view c) → (r : Rec) (f l s : ℕ) → c.
 marked_old c law r f l s e =
     let x : (f ≤ l) × (l < c.past.now) = subst (λ z. IsLived c.past.now (life_of z)) e (law.lived r) in x.1
 
-pub set_pin_paced : (c : Core) (q : ℕ) → IsLawful (view c) → IsPaced c → IsPaced (after_set_pin c q)
+pub set_pin_paced : (c : Core) (q : ℕ) → IsLawful (view c) → IsPaced c.shared → IsPaced (after_set_pin c.shared q (c.rounds q).epoch)
 set_pin_paced c q law p = record {
   floors = λ i x e. either (λ z. z ≡ Some x → (x.word ≤ x.floor) × (x.floor ≤ c.epoch) × (x.moment ≤ c.past.now)) (nat_eq i q) (Some new) (c.pins i)
       (λ b h. subst (λ z. (z.word ≤ z.floor) × (z.floor ≤ c.epoch) × (z.moment ≤ c.past.now)) (same_pin h) ((p.loads q).0, le_refl c.epoch, le_refl c.past.now))
@@ -47,7 +46,7 @@ set_pin_paced c q law p = record {
     new : Pin
     new = record { word = (c.rounds q).epoch; moment = c.past.now; floor = c.epoch }
 
-pub load_epoch_paced : (c : Core) (q : ℕ) → IsPaced c → IsPaced (after_load_epoch c q)
+pub load_epoch_paced : (c : Core) (q : ℕ) → IsPaced c.shared → IsPaced (after_load_epoch c.shared q)
 load_epoch_paced c q p = record {
   floors = p.floors;
   loads = λ i. either (λ (z : Round). (z.epoch ≤ c.epoch) × (z.moment ≤ c.past.now) × (z.bound ≤ z.epoch)) (nat_eq i q) _ (c.rounds i)
@@ -66,7 +65,7 @@ lowered_less b (Some p) = omega arith
 lowered_pin : (b : ℕ) (o : Option Pin) (x : Pin) → o ≡ Some x → x.word ≤ x.floor → lowered b o ≤ x.floor
 lowered_pin b o x e h = rw e (omega arith)
 
-pub load_pin_paced : (c : Core) (q o : ℕ) → IsPaced c → IsPaced (after_load_pin c q o)
+pub load_pin_paced : (c : Core) (q o : ℕ) → IsPaced c.shared → IsPaced (after_load_pin c.shared q o)
 load_pin_paced c q o p = record {
   floors = p.floors;
   loads = λ i. either (λ (z : Round). (z.epoch ≤ c.epoch) × (z.moment ≤ c.past.now) × (z.bound ≤ z.epoch)) (nat_eq i q) _ (c.rounds i)
@@ -86,7 +85,7 @@ load_pin_paced c q o p = record {
         go (inr b) = le_trans (lowered_less (c.rounds q).bound (c.pins o)) (p.bounds i q x e (rw b at h))
 
 -- Mark: the pass loaded the epoch after it had unlinked the record.
-pub mark_paced : (c : Core) (q : ℕ) (r : Rec) (f l : ℕ) → l < (c.rounds q).moment → IsPaced c → IsPaced (after_mark c q r f l)
+pub mark_paced : (c : Core) (q : ℕ) (r : Rec) (f l : ℕ) → l < (c.rounds q).moment → IsPaced c.shared → IsPaced (after_mark c.shared r f l (c.rounds q).epoch)
 mark_paced c q r f l late p = record {
   floors = p.floors;
   loads = p.loads;
@@ -115,8 +114,8 @@ next_marked now q false (InTree p) f l s e = absurd cc
 next_marked now q false (Unlinked a b p) f l s e = absurd cc
 next_marked now q false (Marked a b p) f l s e = e
 
-pub publish_paced : (c : Core) (q : ℕ) (heap : Heap) (root : Option Entry) (t : Option Tree) (x : Change) → IsPaced c → IsPaced (after_publish c q heap root t x)
-publish_paced c q heap root t x p = record {
+pub publish_paced : (c : Core) (q : ℕ) (root : Option Entry) (t : Option Tree) (x : Change) → IsPaced c.shared → IsPaced (published_by c.shared q root t x)
+publish_paced c q root t x p = record {
   floors = λ i y e. let z = p.floors i y e in (z.0, z.1, omega arith);
   loads = λ i. let z = p.loads i in (z.0, omega arith, z.2);
   after = p.after;
@@ -125,7 +124,7 @@ publish_paced c q heap root t x p = record {
 }
 
 -- A record that gets a fate other than a mark.
-pub fate_paced : (c : Core) (r : Rec) (f : Fate) → ((a b s : ℕ) → f ≡ Marked a b s → ⊥) → IsPaced c → IsPaced (with_fate c r f)
+pub fate_paced : (c : Core) (r : Rec) (f : Fate) → ((a b s : ℕ) → f ≡ Marked a b s → ⊥) → IsPaced c.shared → IsPaced (with_fate c.shared r f)
 fate_paced c r f n p = record {
   floors = p.floors;
   loads = p.loads;
@@ -135,17 +134,14 @@ fate_paced c r f n p = record {
   bounds = p.bounds;
 }
 
--- The epochs don't turn on words and locks.
-pub heap_paced : (c : Core) (heap : Heap) → IsPaced c → IsPaced (with_heap c heap)
-heap_paced c heap p = record { floors = p.floors; loads = p.loads; after = p.after; marks = p.marks; bounds = p.bounds }
-
-pub lock_paced : (c : Core) (n : ℕ) (o : Option ℕ) → IsPaced c → IsPaced (with_lock c n o)
+-- The epochs don't turn on locks.
+pub lock_paced : (c : Core) (n : ℕ) (o : Option ℕ) → IsPaced c.shared → IsPaced (with_lock c.shared n o)
 lock_paced c n o p = record { floors = p.floors; loads = p.loads; after = p.after; marks = p.marks; bounds = p.bounds }
 
-pub anchor_paced : (c : Core) (o : Option ℕ) → IsPaced c → IsPaced (with_anchor c o)
+pub anchor_paced : (c : Core) (o : Option ℕ) → IsPaced c.shared → IsPaced (with_anchor c.shared o)
 anchor_paced c o p = record { floors = p.floors; loads = p.loads; after = p.after; marks = p.marks; bounds = p.bounds }
 
-pub advance_paced : (c : Core) → IsPaced c → IsPaced (with_epoch c (suc c.epoch))
+pub advance_paced : (c : Core) → IsPaced c.shared → IsPaced (with_epoch c.shared (suc c.epoch))
 advance_paced c p = record {
   floors = λ i x e. let z = p.floors i x e in (z.0, omega arith, z.2);
   loads = λ i. let z = p.loads i in (omega arith, z.1, z.2);
@@ -154,7 +150,7 @@ advance_paced c p = record {
   bounds = p.bounds;
 }
 
-pub clear_pin_paced : (c : Core) (q : ℕ) → IsPaced c → IsPaced (with_pin c q None)
+pub clear_pin_paced : (c : Core) (q : ℕ) → IsPaced c.shared → IsPaced (with_pin c.shared q None)
 clear_pin_paced c q p = record {
   floors = λ i x e. p.floors i x (old i x e);
   loads = p.loads;

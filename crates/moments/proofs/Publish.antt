@@ -4,12 +4,38 @@ use Rattle.std.proofs.lemmas.Bool.{cond-true, cond-false, eq-eqb, ne_eqb, cases_
 use Rattle.compound_node.specs.declared.entries.Entry.{Entry}
 use Rattle.tries.specs.Tree.{Tree, leaf, node, fork, IsTrie, IsBuilt, Within, here, inside, zero_side, one_side}
 use Rattle.moments.specs.Heap.{NodeWords, LeafWords, Heap, IsCopied, IsShown, IsNear}
-use Rattle.moments.specs.State.{IsRecord, Links, Life, Linked, Spans, last_of, State, Stands, IsSame, IsTop, IsReach, IsLawful, IsLived, IsNext, comes, stays_out, stays, goes, gone, with_moment, published, IsLinked, IsPublish}
+use Rattle.moments.specs.State.{IsRecord, Links, Life, Out, Linked, Retired, Spans, last_of, State, Stands, IsSame, IsTop, IsReach, IsLawful, IsLived, with_moment, IsLinked}
 use Rattle.moments.specs.declared.Rec.{Rec}
 use Rattle.moments.specs.declared.Rec.TheVariants.{Node as a_node, Leaf as a_leaf}
 use Rattle.tries.proofs.Tries.{trie_within, built_within, kin_trans}
 use Rattle.moments.proofs.States.{spans_last, spans_ended}
 use Rattle.moments.proofs.Heaps.{shown_within, copied_if_shown, kin_step, near_page, near_refl}
+
+-- What a publish makes of a record's life, where `L` says that the new moment links it.
+pub data IsNext (now : ℕ) (L : Type 0) : Life → Life → Type 0 where
+  comes : L → IsNext now L Out (Linked (suc now))
+  stays_out : ¬ L → IsNext now L Out Out
+  stays : {since : ℕ} → L → IsNext now L (Linked since) (Linked since)
+  goes : {since : ℕ} → ¬ L → IsNext now L (Linked since) (Retired since now)
+  gone : {since last : ℕ} → ¬ L → IsNext now L (Retired since last) (Retired since last)
+
+-- The state after a publish: these words, this root, these lives, and one moment more.
+abbrev pub published : State → Heap → Option Entry → (Rec → Life) → Option Tree → State
+published s heap root life t = record {
+  heap = heap;
+  root = root;
+  past = record { now = suc s.now; moment = with_moment s.moment (suc s.now) t };
+  life = life;
+  pin = s.pin;
+}
+
+-- A publish stores one entry, after which the words show `t`, and no retired record is linked again.
+pub record IsPublish (s : State) (heap : Heap) (root : Option Entry) (life : Rec → Life) (t : Option Tree) : Type 0 where
+  pub top : IsTop heap root t
+  pub tree : (u : Tree) → t ≡ Some u → IsTrie u × IsBuilt u
+  pub near : IsNear s.heap heap
+  pub kept : (n : ℕ) → IsLinked t (a_node n) ⊎ (s.heap.nodes n ≡ heap.nodes n)
+  pub lives : (r : Rec) → IsNext s.now (IsLinked t r) (s.life r) (life r)
 
 pub moment_old : (f : ℕ → Option Tree) (n : ℕ) (t : Option Tree) (i : ℕ) → i < n → with_moment f n t i ≡ f i
 moment_old f n t i h = cond-false (eqb i n) t (f i) (ne_eqb i n (λ e. omega arith))

@@ -3,11 +3,24 @@ use Rattle.std.proofs.Common.{◌≡◌, ◌≢◌, ◌⊎◌, inl, inr, ℕ, re
 use Rattle.compound_node.specs.declared.entries.Entry.{Entry}
 use Rattle.tries.specs.Tree.{Tree, leaf, node, fork, page}
 use Rattle.moments.specs.Heap.{Heap, IsCopied, IsShown}
-use Rattle.moments.specs.State.{IsRecord, Links, Life, Out, Spans, last_of, State, Stands, IsSame, IsTop, IsReach, IsLawful, IsLived, IsUnlinkedSince, IsQuiet, quieted}
+use Rattle.moments.specs.State.{IsRecord, Links, Life, Out, Spans, last_of, State, Stands, IsSame, IsTop, IsReach, IsLawful, IsLived}
 use Rattle.moments.specs.declared.Rec.{Rec}
 use Rattle.moments.specs.declared.Rec.TheVariants.{Node as a_node, Leaf as a_leaf}
 use Rattle.moments.proofs.Publish.{links_within}
+use Rattle.moments.proofs.Growth.{IsUnlinkedSince}
 use Rattle.moments.proofs.Heaps.{determined}
+
+-- A step that leaves the moments: it writes words of records outside their lives only, ends lives that no pin and
+-- not the newest moment reaches, and pins at the newest moment.
+pub record IsQuiet (s : State) (heap : Heap) (life : Rec → Life) (pin : ℕ → Option ℕ) : Type 0 where
+  pub nodes : (n : ℕ) → (s.life (a_node n) ≡ Out) ⊎ (s.heap.nodes n ≡ heap.nodes n)
+  pub leaves : (n : ℕ) → (s.life (a_leaf n) ≡ Out) ⊎ (s.heap.leaves n ≡ heap.leaves n)
+  pub lives : (r : Rec) → (life r ≡ s.life r) ⊎
+      ((life r ≡ Out) × IsUnlinkedSince s.past s.now r × ((q m : ℕ) → pin q ≡ Some m → IsUnlinkedSince s.past m r))
+  pub pins : (q m : ℕ) → pin q ≡ Some m → (s.pin q ≡ Some m) ⊎ (m ≡ s.now)
+
+abbrev pub quieted : State → Heap → (Rec → Life) → (ℕ → Option ℕ) → State
+quieted s heap life pin = record { heap = heap; root = s.root; past = s.past; life = life; pin = pin }
 
 pub shown_ext : (m o : Heap) (t : Tree) → ((n : ℕ) → Links t (a_node n) → m.nodes n ≡ o.nodes n) →
     ((n : ℕ) → Links t (a_leaf n) → m.leaves n ≡ o.leaves n) → IsShown m t → IsShown o t

@@ -1,17 +1,26 @@
 -- The laws of the core.
 use Rattle.std.proofs.Common.{◌≡◌, ◌⊎◌, inl, inr, ℕ, ◌<◌, ◌≤◌, Bool, true, false, if◌then◌else◌, refl, ap, sym, ◌∙◌, subst, arith, Some, le_refl, le_trans, true≢false}
 use Rattle.tries.specs.Keys.{Key, bit, AgreeBelow, IsParted}
-use Rattle.tries.specs.Tree.{Fixed, Tree, leaf, node, fork, page, Has, IsTrie, IsFork, IsBuilt, here, inside}
+use Rattle.tries.specs.Tree.{Fixed, Page, Tree, leaf, node, fork, page, Has, IsTrie, IsFork, IsBuilt, here, inside}
 use Rattle.compound_node.specs.declared.entries.Entry.{Entry}
 use Rattle.compound_node.specs.declared.entries.Entry.TheVariants.{Leaf, Node}
-use Rattle.pieces.specs.Piece.{Place}
+use Rattle.pieces.specs.Piece.{Place, Fork}
 use Rattle.tries.specs.Search.{Follows, child, seek, Kin, tips, forks, between, IsUnder}
 use Rattle.moments.specs.Heap.{NodeWords, IsCopied}
-use Rattle.moments.specs.State.{rec_of, IsRecord, Life, Out, Linked, Retired, Spans, last_of, State, Stands, IsSame, IsReach, IsLawful, IsMissed, IsLed, IsLived, IsFrom, IsMarked, TurnsBelow, IsTaken, IsSteady}
+use Rattle.moments.specs.State.{rec_of, IsRecord, Life, Out, Linked, Retired, Spans, last_of, State, Stands, IsSame, IsReach, IsLawful, IsMissed, IsLed, IsLived, IsFrom, IsMarked, IsSteady}
 use Rattle.moments.specs.declared.Rec.{Rec}
 use Rattle.moments.specs.declared.Rec.TheVariants.{Node as a_node}
 use Rattle.tries.proofs.Tries.{has_within, within_trans, trie_within, built_within, has_first, descend, within_child, page_child, follows_kin, kin_trans, kin_sym, parting}
 use Rattle.tries.specs.Content.{first}
+
+-- The property turns on the bits before `p` alone.
+abbrev pub TurnsBelow : ℕ → (Key → Type 0) → Type 0
+TurnsBelow p P = (x y : Key) → AgreeBelow p x y → P x → P y
+
+-- The key takes the same side as `k` at each fork on the way of `k`.
+abbrev pub IsTaken : Key → Page → Key → Type 0
+IsTaken k (Place e) y = Unit {0}
+IsTaken k (Fork p a b) y = (bit y p ≡ bit k p) × (bit k p ≡ true → IsTaken k b y) × (bit k p ≡ false → IsTaken k a y)
 
 pub record_of_page : (e : Entry) (u : Tree) → page u ≡ Place e → IsRecord (rec_of e) u
 record_of_page (Leaf n) (leaf m k v) x = cc

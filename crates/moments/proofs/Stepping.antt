@@ -10,9 +10,9 @@ use Rattle.moments.specs.declared.Rec.{Rec}
 use Rattle.moments.specs.declared.Rec.TheVariants.{Node as a_node, Leaf as a_leaf}
 use Rattle.moments.specs.Core.{Fate, Free, Held, Ready, InTree, Unlinked, Marked, life_of, Core, view, pin_moment}
 use Rattle.moments.specs.declared.Pin.{Pin}
-use Rattle.moments.specs.Steps.{opening, same_rec, with_fate, with_heap, is_linked, next_fate, IsLegalPublish, with_lock, unlocked, after_mark, IsFilled, MayLock, IsLawfulCore, IsStep, claims, fills, readies, releases, locks_anchor, unlocks_anchor, locks, unlocks, publishes, marks, loads_epoch, advances, pins, unpins, loads_pin, gives_back}
+use Rattle.moments.specs.Steps.{opening, same_rec, with_fate, is_linked, next_fate, IsLegalPublish, with_lock, unlocked, after_mark, IsFilled, MayLock, IsLawfulCore, IsStep, claims, fills, readies, releases, locks_anchor, unlocks_anchor, locks, unlocks, publishes, marks, loads_epoch, advances, pins, unpins, loads_pin, gives_back}
 use Rattle.moments.proofs.Legal.{same_rec_refl, same_rec_true, linked_cases, legal_publish_lawful, fate_lawful, give_back_lawful, fill_lawful, set_pin_lawful, clear_pin_lawful}
-use Rattle.moments.proofs.Pace.{set_pin_paced, load_epoch_paced, load_pin_paced, mark_paced, publish_paced, fate_paced, heap_paced, lock_paced, anchor_paced, advance_paced, clear_pin_paced, reach_kept}
+use Rattle.moments.proofs.Pace.{set_pin_paced, load_epoch_paced, load_pin_paced, mark_paced, publish_paced, fate_paced, lock_paced, anchor_paced, advance_paced, clear_pin_paced, reach_kept}
 use Rattle.moments.proofs.Telling.{publish_told, content_in_order}
 use Rattle.moments.proofs.Stored.{opening_lawful}
 use Rattle.hot_model.specs.Fronts.{map_of}
@@ -27,7 +27,7 @@ none_some : {q : ℕ} → None ≡ Some q → ⊥
 none_some e = cc
 
 -- A record that no pass can have locked gets another fate.
-fate_locked : (c : Core) (r : Rec) (f g : Fate) → IsLawfulCore c → c.fate r ≡ g → ((q : ℕ) → MayLock q g → ⊥) → (n q : ℕ) → c.lock n ≡ Some q → MayLock q ((with_fate c r f).fate (a_node n))
+fate_locked : (c : Core) (r : Rec) (f g : Fate) → IsLawfulCore c → c.fate r ≡ g → ((q : ℕ) → MayLock q g → ⊥) → (n q : ℕ) → c.lock n ≡ Some q → MayLock q ((with_fate c.shared r f).fate (a_node n))
 fate_locked c r f g law e none n q l = go (cases_Bool (same_rec (a_node n) r))
   where
     old : MayLock q (c.fate (a_node n))
@@ -38,7 +38,7 @@ fate_locked c r f g law e none n q l = go (cases_Bool (same_rec (a_node n) r))
     go (inr h) = rw h old
 
 module _ (c : Core) (q : ℕ) (law : IsLawfulCore c) where
-  fate_step : (r : Rec) (f g : Fate) → c.fate r ≡ g → ((p : ℕ) → MayLock p g → ⊥) → life_of f ≡ life_of g → ((a b s : ℕ) → f ≡ Marked a b s → ⊥) → IsLawfulCore (with_fate c r f)
+  fate_step : (r : Rec) (f g : Fate) → c.fate r ≡ g → ((p : ℕ) → MayLock p g → ⊥) → life_of f ≡ life_of g → ((a b s : ℕ) → f ≡ Marked a b s → ⊥) → IsLawfulCore (record c { shared = with_fate c.shared r f })
   fate_step r f g e none life unmarked = record {
     state = fate_lawful c r f law.state (life ∙ sym (ap life_of e));
     paced = fate_paced c r f unmarked law.paced;
@@ -46,11 +46,11 @@ module _ (c : Core) (q : ℕ) (law : IsLawfulCore c) where
     locked = fate_locked c r f g law e none;
   }
 
-  fill_step : (r : Rec) (heap : Heap) → c.fate r ≡ Held q → IsFilled c.heap heap r → IsLawfulCore (with_heap c heap)
+  fill_step : (r : Rec) (heap : Heap) → c.fate r ≡ Held q → IsFilled c.heap heap r → IsLawfulCore (record c { heap = heap })
   fill_step r heap e f = record {
     state = fill_lawful c heap law.state
         (λ n. either (a_node n) (λ h. f.nodes n h)) (λ n. either (a_leaf n) (λ h. f.leaves n h));
-    paced = heap_paced c heap law.paced;
+    paced = law.paced;
     told = law.told;
     locked = law.locked;
   }
@@ -77,7 +77,7 @@ module _ (c : Core) (q : ℕ) (law : IsLawfulCore c) where
       go (Ready k) i m z = absurd m
       go (Marked s o k) i m z = absurd m
 
-  mark_locked : (r : Rec) (f l : ℕ) → (n p : ℕ) → (after_mark c q r f l).lock n ≡ Some p → MayLock p ((after_mark c q r f l).fate (a_node n))
+  mark_locked : (r : Rec) (f l : ℕ) → (n p : ℕ) → (after_mark c.shared r f l (c.rounds q).epoch).lock n ≡ Some p → MayLock p ((after_mark c.shared r f l (c.rounds q).epoch).fate (a_node n))
   mark_locked r f l n p e = go (cases_Bool (same_rec (a_node n) r)) e
     where
       go : (same_rec (a_node n) r ≡ true) ⊎ (same_rec (a_node n) r ≡ false) → (if same_rec (a_node n) r then None else c.lock n) ≡ Some p →
@@ -85,7 +85,7 @@ module _ (c : Core) (q : ℕ) (law : IsLawfulCore c) where
       go (inl h) z = absurd (none_some (rw h at z))
       go (inr h) z = rw h (law.locked n p (rw h at z))
 
-  lock_locked : (n s : ℕ) → c.fate (a_node n) ≡ InTree s → (o : Option ℕ) → (i p : ℕ) → (with_lock c n o).lock i ≡ Some p → MayLock p (c.fate (a_node i))
+  lock_locked : (n s : ℕ) → c.fate (a_node n) ≡ InTree s → (o : Option ℕ) → (i p : ℕ) → (with_lock c.shared n o).lock i ≡ Some p → MayLock p (c.fate (a_node i))
   lock_locked n s e o i p l = go (cases_Bool (eqb i n)) l
     where
       go : (eqb i n ≡ true) ⊎ (eqb i n ≡ false) → (if eqb i n then o else c.lock i) ≡ Some p → MayLock p (c.fate (a_node i))
@@ -113,12 +113,12 @@ step_lawful c q d law (locks n s e f) = record { state = law.state; paced = lock
 step_lawful c q d law (unlocks n s e f) = record { state = law.state; paced = lock_paced c n None law.paced; told = law.told; locked = lock_locked c q law n s f None }
 step_lawful c q d law (publishes heap root t x l) = record {
   state = legal_publish_lawful c q heap root t x law.state l;
-  paced = publish_paced c q heap root t x law.paced;
+  paced = publish_paced c q root t x law.paced;
   told = publish_told c q heap root t x law.state law.told l;
   locked = publish_locked c q law heap root t x l;
 }
 step_lawful c q d law (marks r f l e late) = record {
-  state = fate_lawful (unlocked c r) r (Marked f l (c.rounds q).epoch) law.state (sym (ap life_of e));
+  state = fate_lawful (record c { shared = unlocked c.shared r }) r (Marked f l (c.rounds q).epoch) law.state (sym (ap life_of e));
   paced = mark_paced c q r f l late law.paced;
   told = law.told;
   locked = mark_locked c q law r f l;

@@ -25,21 +25,13 @@ life_of (InTree f) = Linked f
 life_of (Unlinked f l q) = Retired f l
 life_of (Marked f l s) = Retired f l
 
--- The record is the pass's own.
-abbrev pub IsOwn : ℕ → Fate → Type 0
-IsOwn q Free = ⊥
-IsOwn q (Held p) = p ≡ q
-IsOwn q (Ready p) = p ≡ q
-IsOwn q (InTree f) = ⊥
-IsOwn q (Unlinked f l p) = p ≡ q
-IsOwn q (Marked f l s) = ⊥
-
 abbrev pub has_seen : List ℕ → ℕ → Bool
 has_seen [] i = false
 has_seen (x ∷ xs) i = if nat_eq i x then true else has_seen xs i
 
-pub record Core : Type 0 where
-  pub heap : Heap
+-- What passes share, whatever is said of the words of the records: the root's entry, the moments and changes so far, what has
+-- become of each record, who has locked the anchor and each node, the epoch, and each pass's pin and round.
+pub record Shared : Type 0 where
   pub root : Option Entry
   pub past : Past
   pub changes : List Change
@@ -50,6 +42,12 @@ pub record Core : Type 0 where
   pub pins : ℕ → Option Pin
   pub rounds : ℕ → Round
 
+-- And what the words of the records say.
+pub record Core : Type 0 where
+  pub heap : Heap
+  pub shared : Shared
+  pub open shared use *
+
 abbrev pub pin_moment : Option Pin → Option ℕ
 pin_moment None = None
 pin_moment (Some p) = Some p.moment
@@ -59,7 +57,7 @@ abbrev pub view : Core → State
 view c = record { heap = c.heap; root = c.root; past = c.past; life = λ r. life_of (c.fate r); pin = λ q. pin_moment (c.pins q) }
 
 -- The epochs: a retired record's mark is not below the epoch at which a pass was pinned that may have found it linked.
-pub record IsPaced (c : Core) : Type 0 where
+pub record IsPaced (c : Shared) : Type 0 where
   pub floors : (q : ℕ) (p : Pin) → c.pins q ≡ Some p → (p.word ≤ p.floor) × (p.floor ≤ c.epoch) × (p.moment ≤ c.past.now)
   pub loads : (q : ℕ) → ((c.rounds q).epoch ≤ c.epoch) × ((c.rounds q).moment ≤ c.past.now) × ((c.rounds q).bound ≤ (c.rounds q).epoch)
   pub after : (q o : ℕ) (p : Pin) → c.pins q ≡ Some p → (p.floor ≤ (c.rounds o).epoch) ⊎ ((c.rounds o).moment ≤ p.moment)

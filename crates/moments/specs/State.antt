@@ -1,14 +1,14 @@
 -- The core's state: the records' words, the moments, the records' lives and the pins.
 use Rattle.moments.specs.declared.Rec.{Rec}
 use Rattle.moments.specs.declared.Rec.TheVariants.{Node as a_node, Leaf as a_leaf}
-use Rattle.std.specs.Prelude.{◌≡◌, ◌⊎◌, ℕ, suc, ◌<◌, ◌≤◌, Option, Some, None, if◌then◌else◌, nat_eq, true, false}
-use Rattle.tries.specs.Keys.{Key, bit, AgreeBelow}
+use Rattle.std.specs.Prelude.{◌≡◌, ◌⊎◌, ℕ, ◌<◌, ◌≤◌, Option, Some, None, if◌then◌else◌, nat_eq}
+use Rattle.tries.specs.Keys.{Key}
 use Rattle.compound_node.specs.declared.entries.Entry.{Entry}
 use Rattle.compound_node.specs.declared.entries.Entry.TheVariants.{Leaf, Node}
 use Rattle.tries.specs.Tree.{Page, Tree, leaf, node, fork, page, Has, Holds, IsTrie, IsBuilt, Within}
 use Rattle.pieces.specs.Piece.{Place, Fork}
 use Rattle.tries.specs.Search.{Follows, Kin}
-use Rattle.moments.specs.Heap.{Heap, IsCopied, IsShown, IsNear}
+use Rattle.moments.specs.Heap.{Heap, IsCopied, IsShown}
 
 abbrev pub rec_of : Entry → Rec
 rec_of (Leaf n) = a_leaf n
@@ -126,23 +126,6 @@ abbrev pub IsMarked : Past → ℕ → (Key → Type 0) → Entry → Type 0
 IsMarked s m P e =
     (n : ℕ) × (u : Tree) × (m ≤ n) × (n ≤ s.now) × Stands s n (rec_of e) u × (page u ≡ Place e) × ((y : Key) → Has u y → P y)
 
--- The property turns on the bits before `p` alone.
-abbrev pub TurnsBelow : ℕ → (Key → Type 0) → Type 0
-TurnsBelow p P = (x y : Key) → AgreeBelow p x y → P x → P y
-
--- The key takes the same side as `k` at each fork on the way of `k`.
-abbrev pub IsTaken : Key → Page → Key → Type 0
-IsTaken k (Place e) y = Unit {0}
-IsTaken k (Fork p a b) y = (bit y p ≡ bit k p) × (bit k p ≡ true → IsTaken k b y) × (bit k p ≡ false → IsTaken k a y)
-
--- What a publish makes of a record's life, where `L` says that the new moment links it.
-pub data IsNext (now : ℕ) (L : Type 0) : Life → Life → Type 0 where
-  comes : L → IsNext now L Out (Linked (suc now))
-  stays_out : ¬ L → IsNext now L Out Out
-  stays : {since : ℕ} → L → IsNext now L (Linked since) (Linked since)
-  goes : {since : ℕ} → ¬ L → IsNext now L (Linked since) (Retired since now)
-  gone : {since last : ℕ} → ¬ L → IsNext now L (Retired since last) (Retired since last)
-
 -- The record is linked in the moment, which may be empty.
 abbrev pub IsLinked : Option Tree → Rec → Type 0
 IsLinked None r = ⊥
@@ -151,40 +134,6 @@ IsLinked (Some t) r = Links t r
 -- The moments with one more, `t` at place `n`.
 abbrev pub with_moment : (ℕ → Option Tree) → ℕ → Option Tree → ℕ → Option Tree
 with_moment f n t i = if nat_eq i n then t else f i
-
--- The state after a publish: these words, this root, these lives, and one moment more.
-abbrev pub published : State → Heap → Option Entry → (Rec → Life) → Option Tree → State
-published s heap root life t = record {
-  heap = heap;
-  root = root;
-  past = record { now = suc s.now; moment = with_moment s.moment (suc s.now) t };
-  life = life;
-  pin = s.pin;
-}
-
--- A publish stores one entry, after which the words show `t`, and no retired record is linked again.
-pub record IsPublish (s : State) (heap : Heap) (root : Option Entry) (life : Rec → Life) (t : Option Tree) : Type 0 where
-  pub top : IsTop heap root t
-  pub tree : (u : Tree) → t ≡ Some u → IsTrie u × IsBuilt u
-  pub near : IsNear s.heap heap
-  pub kept : (n : ℕ) → IsLinked t (a_node n) ⊎ (s.heap.nodes n ≡ heap.nodes n)
-  pub lives : (r : Rec) → IsNext s.now (IsLinked t r) (s.life r) (life r)
-
--- The record was linked at no moment since `m`.
-abbrev pub IsUnlinkedSince : Past → ℕ → Rec → Type 0
-IsUnlinkedSince s m r = (n : ℕ) → m ≤ n → n ≤ s.now → (u : Tree) → Stands s n r u → ⊥
-
--- A step that leaves the moments: it writes words of records outside their lives only, ends lives that no pin and
--- not the newest moment reaches, and pins at the newest moment.
-pub record IsQuiet (s : State) (heap : Heap) (life : Rec → Life) (pin : ℕ → Option ℕ) : Type 0 where
-  pub nodes : (n : ℕ) → (s.life (a_node n) ≡ Out) ⊎ (s.heap.nodes n ≡ heap.nodes n)
-  pub leaves : (n : ℕ) → (s.life (a_leaf n) ≡ Out) ⊎ (s.heap.leaves n ≡ heap.leaves n)
-  pub lives : (r : Rec) → (life r ≡ s.life r) ⊎
-      ((life r ≡ Out) × IsUnlinkedSince s.past s.now r × ((q m : ℕ) → pin q ≡ Some m → IsUnlinkedSince s.past m r))
-  pub pins : (q m : ℕ) → pin q ≡ Some m → (s.pin q ≡ Some m) ⊎ (m ≡ s.now)
-
-abbrev pub quieted : State → Heap → (Rec → Life) → (ℕ → Option ℕ) → State
-quieted s heap life pin = record { heap = heap; root = s.root; past = s.past; life = life; pin = pin }
 
 -- The key had the value at a moment since `m`.
 abbrev pub IsHeld : Past → ℕ → Key → ℕ → Type 0

@@ -13,7 +13,6 @@ use Rattle.hot_model.specs.Maps.{IsRising}
 use Rattle.hot_model.specs.Fronts.{map_of}
 use Rattle.moments.specs.Told.{content}
 use Rattle.moments.specs.Steps.{IsLawfulCore, IsStep, opening}
-use Rattle.moments.specs.Frames.{IsFrame}
 
 abbrev pub Hindsight : Type 0
 Hindsight =
@@ -33,10 +32,6 @@ OpeningIsLawful = (heap : Heap) → IsLawfulCore (opening heap)
 -- Each legal step keeps the core lawful.
 abbrev pub StepKeepsLawful : Type 0
 StepKeepsLawful = (c : Core) (q : ℕ) (d : Core) → IsLawfulCore c → IsStep c q d → IsLawfulCore d
-
--- A legal step of pass `p` leaves pass `q` what it knows.
-abbrev pub StepLeavesOthers : Type 0
-StepLeavesOthers = (c : Core) (p q : ℕ) (d : Core) → p ≢ q → IsStep c p d → IsFrame q c d
 
 -- The content of each moment is the map of the changes before it, in strict key order.
 abbrev pub ContentIsMap : Type 0

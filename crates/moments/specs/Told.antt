@@ -21,6 +21,16 @@ content t = pairs (items_of t)
 abbrev pub item_of : ℕ → Change → Item
 item_of n x = record { number = n; key = x.key; value = x.value }
 
+-- The changes by which pass `q` adds this leaf, puts it in the place of another one, or takes it away.
+abbrev pub added_change : ℕ → Item → Change
+added_change q x = record { pass = q; key = x.key; value = x.value; kind = Added }
+
+abbrev pub replaced_change : ℕ → Item → Change
+replaced_change q x = record { pass = q; key = x.key; value = x.value; kind = Replaced }
+
+abbrev pub removed_change : ℕ → Item → Change
+removed_change q x = record { pass = q; key = x.key; value = x.value; kind = Removed }
+
 -- What a change of this kind makes of the leaves: one more, or one for another of the same key, or one less.
 abbrev pub IsChanged : Kind → Item → List Item → List Item → Type 0
 IsChanged Added x xs ys = IsMore x xs ys

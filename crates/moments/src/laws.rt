@@ -1,6 +1,6 @@
 //! The laws of the core. The functions do nothing: their contracts are the laws.
 
-ghost use Rattle.moments.specs.Statements.{ContentIsMap, Hindsight, OpeningIsLawful, Parting, ReachIsKept, ReachIsSteady, StepKeepsLawful, StepLeavesOthers};
+ghost use Rattle.moments.specs.Statements.{ContentIsMap, Hindsight, OpeningIsLawful, Parting, ReachIsKept, ReachIsSteady, StepKeepsLawful};
 
 /// A search that goes on at a record goes on at what it finds there, whatever has been published since.
 pub fn hindsight()
@@ -20,11 +20,6 @@ pub fn opening_is_lawful()
 /// Each legal step keeps the core lawful.
 pub fn step_keeps_lawful()
     ensures { StepKeepsLawful }
-{}
-
-/// A legal step of one pass leaves what another knows: locks of two passes on different nodes are lawful at once, and each publish is one change whatever other locks are held.
-pub fn step_leaves_others()
-    ensures { StepLeavesOthers }
 {}
 
 /// The content of each moment is the map of the changes before it, in strict key order.

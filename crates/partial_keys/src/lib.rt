@@ -42,11 +42,11 @@ impl Model for Columns {
 }
 
 impl Columns {
-    ghost use Rattle.std.specs.Prelude.{◌≡◌, ◌<◌, ◌≤◌, false, length, slice_index};
+    ghost use Rattle.std.specs.Prelude.{◌≡◌, ◌<◌, ◌≤◌, false, length, slice_index, take};
     ghost use Rattle.key_bits.specs.Bits.{bit_of};
     ghost use Rattle.pieces.specs.Kept.{kept};
     ghost use Rattle.pieces.specs.Positions.{front_below, has, with_position};
-    ghost use Rattle.partial_keys.specs.Columns.{IsColumns};
+    ghost use Rattle.partial_keys.specs.Columns.{HoldsColumns, IsColumns};
     ghost use Rattle.partial_keys.specs.Rows.{dense_of};
     ghost use Rattle.partial_keys.specs.Squeezed.{used_bits};
 
@@ -59,6 +59,14 @@ impl Columns {
             positions: filled(positions),
             count: positions.len() as u8,
         }
+    }
+
+    /// The columns at the first `count` of these positions; all others are 65,535.
+    pub fn of_places(positions: [u16; 31], count: u8) -> Columns
+        requires { HoldsColumns positions count }
+        ensures { result ≡ take count positions }
+    {
+        Columns { positions, count }
     }
 
     /// The positions, in order.
@@ -225,6 +233,3 @@ fn complying_lanes(sparse: &[u32; 32], dense: u32) -> u64
     let lanes = u32x32::from_array(*sparse);
     (u32x32::splat(dense) & lanes).simd_eq(lanes).to_bitmask()
 }
-
-#[cfg(test)]
-mod tests;

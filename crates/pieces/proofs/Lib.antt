@@ -9,5 +9,6 @@ pub mod Growing
 pub mod Affected
 pub mod Replacing
 pub mod Removing
+pub mod Grafting
 pub mod Mapping
 pub mod Worked

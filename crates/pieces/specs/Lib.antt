@@ -5,3 +5,4 @@ pub mod Highest
 pub mod Piece
 pub mod Growth
 pub mod Changes
+pub mod Grafts

@@ -56,7 +56,7 @@ is_node node lawful = record {
   lawful = rw (used_rows node lawful) lawful;
 }
 
-is_head : (node : NodeView) → IsLawful node → IsHead (length node.rows) node.height node.columns (with_unused node.rows)
+pub is_head : (node : NodeView) → IsLawful node → IsHead (length node.rows) node.height node.columns (with_unused node.rows)
 is_head node lawful = (node.entries, sym (same_count node lawful), is_node node lawful)
 
 -- ---- reading a head

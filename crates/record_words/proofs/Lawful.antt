@@ -1,5 +1,5 @@
 -- What the fixed words need of a lawful node.
-use Rattle.std.proofs.Common.{ℕ, ◌≡◌, ◌-◌, ◌^◌, ◌<◌, ◌≤◌, ⊎_elim, arith, List, [], ◌∷◌, get_or, length, replicate, lit<, sym, ◌∙◌, refl, zero, suc, length-append}
+use Rattle.std.proofs.Common.{ℕ, ◌≡◌, ◌-◌, ◌^◌, ◌<◌, ◌≤◌, ◌++◌, ⊎_elim, arith, List, [], ◌∷◌, get_or, length, replicate, lit<, sym, ◌∙◌, refl, zero, suc, length-append}
 use Rattle.std.proofs.lemmas.Bool.{cases_lt}
 use Rattle.std.proofs.lemmas.List.{length-map, length-replicate, get_or-map, get_or_past, ext_get_or, get_or_append_left, get_or-append_right, get_or-replicate}
 use Rattle.key_bits.proofs.Gathering.{code-lt}
@@ -24,15 +24,18 @@ row-lt node lawful i =
     (λ (past : length (paths (piece node)) ≤ i). rw (get_or_past node.rows i 0 (rw lawful.shows.rows_are (rw length-map past))) (lit< tt))
     (cases_lt i (length (paths (piece node))))
 
--- the unused places change no row
+-- unused places change no element
+pub get_or-padded : (xs : List ℕ) (n d i : ℕ) → get_or (xs ++ replicate n d) i d ≡ get_or xs i d
+get_or-padded xs n d i =
+    ⊎_elim (λ (used : i < length xs). get_or_append_left xs _ d i used)
+    (λ (past : length xs ≤ i). get_or-append_right xs _ (length xs) i d refl past ∙ (⊎_elim
+    (λ (inside : i - length xs < n). get_or-replicate _ _ d d inside)
+    (λ (outside : n ≤ i - length xs). get_or_past (replicate n d) _ d (omega (arith, length-replicate {A = ℕ} n d)))
+    (cases_lt (i - length xs) n) ∙ sym (get_or_past xs i d past)))
+    (cases_lt i (length xs))
+
 pub row_at-with_unused : (rows : List ℕ) (i : ℕ) → row_at (with_unused rows) i ≡ row_at rows i
-row_at-with_unused rows i =
-    ⊎_elim (λ (used : i < length rows). get_or_append_left rows _ 4294967295 i used)
-    (λ (past : length rows ≤ i). get_or-append_right rows _ (length rows) i 4294967295 refl past ∙ (⊎_elim
-    (λ (inside : i - length rows < 32 - length rows). get_or-replicate _ _ 4294967295 4294967295 inside)
-    (λ (outside : 32 - length rows ≤ i - length rows). get_or_past (replicate (32 - length rows) 4294967295) _ 4294967295 (omega (arith, length-replicate {A = ℕ} (32 - length rows) 4294967295)))
-    (cases_lt (i - length rows) (32 - length rows)) ∙ sym (get_or_past rows i 4294967295 past)))
-    (cases_lt i (length rows))
+row_at-with_unused rows i = get_or-padded rows (32 - length rows) 4294967295 i
 
 pub length-with_unused : (rows : List ℕ) → length rows ≤ 32 → length (with_unused rows) ≡ 32
 length-with_unused rows room = length-append rows _ ∙ omega (arith, length-replicate {A = ℕ} (32 - length rows) 4294967295)

@@ -7,6 +7,9 @@ use Rattle.std.proofs.lemmas.List.{ext_get_or, get_or_past, length-take-le}
 use Rattle.std.proofs.lemmas.Bool.Decides.{nat_tests}
 use Rattle.std.proofs.lemmas.List.FromFn.{length-map-range_with_len}
 use Rattle.record_words.specs.Leaf.{key_word, leaf_word, leaf_words, HasLeafWords, IsBytesOf}
+use Rattle.key_bits.specs.Key.{HoldsKey, with_zeros}
+use Rattle.key_bits.proofs.Holding.{holds, length-with_zeros}
+use Rattle.record_words.proofs.Lawful.{get_or-padded}
 use Rattle.record_words.proofs.Bytes.{same_key_word, same_key_bytes}
 use Rattle.record_words.proofs.Offsets.{words_by_offset, word_by_offset}
 
@@ -74,6 +77,13 @@ pub rest_of_bytes : (bytes words : List ℕ) (leaf : List ℕ × ℕ) (n : ℕ) 
 rest_of_bytes bytes words leaf n of small has same is i inside =
     get_or-drop n bytes i 0 ∙ (bytes_of_leaf bytes words leaf of small has same (n + i)
     ∙ get_or_past leaf.0 (n + i) 0 (omega (arith, is, (leaf_words_parts leaf words same).size)))
+
+-- the bytes are the places of the key
+pub places_of_leaf : (bytes words : List ℕ) (leaf : List ℕ × ℕ) (n : ℕ) → IsBytesOf bytes (take 30 (drop 2 words)) → ((i : ℕ) → get_or bytes i 0 < 256) → HasLeafWords leaf → words ≡ leaf_words leaf → n ≡ get_or words 1 0 → HoldsKey bytes n
+places_of_leaf bytes words leaf n of small has same is =
+    let counted : n ≡ length leaf.0 = is ∙ (leaf_words_parts leaf words same).size in
+    rw counted (holds leaf.0 bytes has.key (ext_get_or 0 bytes (with_zeros leaf.0) (of.count ∙ sym (length-with_zeros leaf.0 has.key.short))
+    (λ i inside. bytes_of_leaf bytes words leaf of small has same i ∙ sym (get_or-padded leaf.0 (240 - length leaf.0) 0 i))))
 
 -- where the other bytes are 0, the front of the bytes is a key of these words
 pub leaf_of_bytes : (bytes words : List ℕ) (n : ℕ) → IsBytesOf bytes (take 30 (drop 2 words)) → ((i : ℕ) → get_or bytes i 0 < 256) → length words ≡ 32 → n ≡ get_or words 1 0 → n ≤ 240 → EachIndex (drop n bytes) (λ i. get_or (drop n bytes) i 0 ≡ 0) → leaf_words (take n bytes, get_or words 0 0) ≡ words

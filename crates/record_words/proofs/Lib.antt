@@ -9,5 +9,7 @@ pub mod Locations
 pub mod Nodes
 pub mod Offsets
 pub mod Packings
+pub mod Parts
 pub mod Readings
+pub mod Spelled
 pub mod Spellings

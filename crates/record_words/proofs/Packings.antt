@@ -26,7 +26,7 @@ positions_from_parts positions words whole fits parts = record {
   words_are = λ j small. position_word-parts positions words j whole small (fits j) parts;
 }
 
-position_at-lt : (columns : List ℕ) (i : ℕ) → ((k : ℕ) → get_or columns k 0 < 2 ^ 16) → position_at columns i < 2 ^ 16
+pub position_at-lt : (columns : List ℕ) (i : ℕ) → ((k : ℕ) → get_or columns k 0 < 2 ^ 16) → position_at columns i < 2 ^ 16
 position_at-lt columns i small =
     ⊎_elim (λ (inside : i < length columns). rw (get_or_default columns i 65535 0 inside) (small i))
     (λ (past : length columns ≤ i). rw (get_or_past columns i 65535 past) (lit< tt)) (cases_lt i (length columns))
@@ -81,7 +81,7 @@ rows_from_parts rows words whole fits parts = record {
   words_are = λ j small. row_word-parts rows words j whole small (fits j) parts;
 }
 
-row_at-lt : (rows : List ℕ) (i : ℕ) → ((k : ℕ) → get_or rows k 0 < 2 ^ 32) → row_at rows i < 2 ^ 32
+pub row_at-lt : (rows : List ℕ) (i : ℕ) → ((k : ℕ) → get_or rows k 0 < 2 ^ 32) → row_at rows i < 2 ^ 32
 row_at-lt rows i small =
     ⊎_elim (λ (inside : i < length rows). rw (get_or_default rows i 4294967295 0 inside) (small i))
     (λ (past : length rows ≤ i). rw (get_or_past rows i 4294967295 past) (lit< tt)) (cases_lt i (length rows))

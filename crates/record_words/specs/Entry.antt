@@ -2,6 +2,7 @@
 use Rattle.std.specs.Prelude.{ℕ, ◌+◌, ◌*◌, ◌^◌, ◌<◌, ◌≤◌, Option, Some, None}
 use Rattle.compound_node.specs.declared.entries.Entry.{Entry}
 use Rattle.compound_node.specs.declared.entries.Entry.TheVariants.{Leaf, Node}
+use Rattle.record_words.specs.declared.TheConstants.{HEIGHT_BIT}
 
 -- a record number has 32 bits, and a node's height is from 1 to 65,535
 abbrev pub HasEntryWord : Option Entry → Type 0
@@ -12,4 +13,4 @@ HasEntryWord (Some (Node number height)) = (number < 2 ^ 32) × (1 ≤ height) �
 abbrev pub entry_word : Option Entry → ℕ
 entry_word None = 0
 entry_word (Some (Leaf number)) = 4 * number + 1
-entry_word (Some (Node number height)) = 2 ^ 34 * height + 4 * number + 2
+entry_word (Some (Node number height)) = 2 ^ HEIGHT_BIT * height + 4 * number + 2

@@ -2,6 +2,7 @@
 use Rattle.std.specs.Prelude.{ℕ, ◌≡◌, ◌^◌, ◌<◌, ◌≤◌, List, length, slice_index}
 use Rattle.record_words.specs.declared.fixed.Fixed.{Fixed}
 use Rattle.record_words.specs.Packed.{fixed_words}
+use Rattle.record_words.specs.declared.TheConstants.{MAX_ENTRIES}
 
 -- numbers of these widths, and at most 31 columns; nothing is said of how they fit together
 pub record HasFixedWords (fixed : Fixed) : Type 0 where
@@ -9,7 +10,7 @@ pub record HasFixedWords (fixed : Fixed) : Type 0 where
   pub height : fixed.height < 2 ^ 16
   pub few : length fixed.columns.items ≤ 31
   pub columns : (i : ℕ) → slice_index fixed.columns.items i < 2 ^ 16
-  pub whole : length fixed.sparse ≡ 32
+  pub whole : length fixed.sparse ≡ MAX_ENTRIES
   pub sparse : (i : ℕ) → slice_index fixed.sparse i < 2 ^ 32
 
 abbrev pub words_of : Fixed → List ℕ

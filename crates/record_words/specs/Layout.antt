@@ -3,24 +3,23 @@ use Rattle.std.specs.Prelude.{ℕ, ◌≡◌, ◌+◌, ◌*◌, ◌<◌}
 use Rattle.record_words.specs.declared.layout.Layout.{Layout}
 use Rattle.record_words.specs.declared.layout.Location.{Location}
 use Rattle.record_words.specs.declared.layout.Location.TheVariants.{Epoch, Root, Anchor, Pin, NodeWord, LeafWord}
-use Rattle.record_words.specs.declared.node.TheConstants.{NODE_WORDS}
-use Rattle.record_words.specs.declared.leaf.TheConstants.{LEAF_WORDS}
+use Rattle.record_words.specs.declared.TheConstants.{EPOCH_WORD, ROOT_WORD, ANCHOR_WORD, FIRST_PIN, NODE_WORDS, LEAF_WORDS}
 
 -- the first word of a node record and of a leaf record; these records follow the pins, one after another
 abbrev pub node_start : Layout → ℕ → ℕ
-node_start layout n = 3 + layout.passes + NODE_WORDS * n
+node_start layout n = FIRST_PIN + layout.passes + NODE_WORDS * n
 
 abbrev pub leaf_start : Layout → ℕ → ℕ
-leaf_start layout n = 3 + layout.passes + NODE_WORDS * layout.nodes + LEAF_WORDS * n
+leaf_start layout n = FIRST_PIN + layout.passes + NODE_WORDS * layout.nodes + LEAF_WORDS * n
 
 abbrev pub word_count : Layout → ℕ
-word_count layout = 3 + layout.passes + NODE_WORDS * layout.nodes + LEAF_WORDS * layout.leaves
+word_count layout = FIRST_PIN + layout.passes + NODE_WORDS * layout.nodes + LEAF_WORDS * layout.leaves
 
 abbrev pub address : Layout → Location → ℕ
-address layout Epoch = 0
-address layout Root = 1
-address layout Anchor = 2
-address layout (Pin pass) = 3 + pass
+address layout Epoch = EPOCH_WORD
+address layout Root = ROOT_WORD
+address layout Anchor = ANCHOR_WORD
+address layout (Pin pass) = FIRST_PIN + pass
 address layout (NodeWord n offset) = node_start layout n + offset
 address layout (LeafWord n offset) = leaf_start layout n + offset
 

@@ -2,7 +2,7 @@
 use Rattle.std.specs.Prelude.{ℕ, ◌≡◌, ◌-◌, ◌*◌, ◌^◌, ◌<◌, cond, nat_eq, List, length, map, drop, slice_index}
 use Rattle.std.specs.List.{range_with_len}
 use Rattle.std.specs.Int.{from_be_bytes, w64}
-use Rattle.record_words.specs.declared.leaf.TheConstants.{KEY_WORDS, LEAF_FIELDS}
+use Rattle.record_words.specs.declared.TheConstants.{KEY_WORDS, LEAF_FIELDS}
 use Rattle.key_bits.specs.Key.{IsKey}
 use Rattle.key_bits.specs.declared.TheConstants.{MAX_BYTES}
 

@@ -1,11 +1,12 @@
 -- How many records a table may have.
 use Rattle.std.specs.Prelude.{ℕ, ◌≤◌}
+use Rattle.record_words.specs.declared.TheConstants.{MAX_PASSES, MAX_NODES, MAX_LEAVES}
 
 abbrev pub IsPassCount : ℕ → Type 0
-IsPassCount passes = (1 ≤ passes) × (passes ≤ 64)
+IsPassCount passes = (1 ≤ passes) × (passes ≤ MAX_PASSES)
 
 abbrev pub IsNodeCount : ℕ → Type 0
-IsNodeCount nodes = (1 ≤ nodes) × (nodes ≤ 65535)
+IsNodeCount nodes = (1 ≤ nodes) × (nodes ≤ MAX_NODES)
 
 abbrev pub IsLeafCount : ℕ → Type 0
-IsLeafCount leaves = (1 ≤ leaves) × (leaves ≤ 262143)
+IsLeafCount leaves = (1 ≤ leaves) × (leaves ≤ MAX_LEAVES)

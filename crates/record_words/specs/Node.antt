@@ -5,8 +5,9 @@ use Rattle.compound_node.specs.declared.entries.Entry.{Entry}
 use Rattle.compound_node.specs.Nodes.{NodeView, HeadView, IsLawful, head_of}
 use Rattle.record_words.specs.Entry.{HasEntryWord, entry_word}
 use Rattle.record_words.specs.Packed.{fixed_words}
+use Rattle.record_words.specs.declared.TheConstants.{MAX_ENTRIES}
 
--- the words at offsets 1 to 25
+-- the words at offsets 1 to HEAD_WORDS
 abbrev pub head_words : HeadView → List ℕ
 head_words head = fixed_words (length head.rows) head.height head.columns head.rows
 
@@ -14,16 +15,20 @@ head_words head = fixed_words (length head.rows) head.height head.columns head.r
 abbrev pub HasHeadWords : HeadView → Type 0
 HasHeadWords head = (node : NodeView) × IsLawful node × (head_of node ≡ head)
 
--- the words at offsets 26 to 57, for entries 0 to 31, with 0 past the last entry
-unfoldable pub entry_words : List Entry → List ℕ
-entry_words entries = map (λ i. entry_word (slice_get entries i)) (range_with_len 0 32)
+-- each node whose head has these words is so
+abbrev pub InNodesOf : List ℕ → (NodeView → Type 0) → Type 0
+InNodesOf words IsSo = (node : NodeView) → IsLawful node → head_words (head_of node) ≡ words → IsSo node
 
--- up to 32 entries that have words
+-- the words from offset FIRST_ENTRY on, one for each of MAX_ENTRIES places, with 0 past the last entry
+unfoldable pub entry_words : List Entry → List ℕ
+entry_words entries = map (λ i. entry_word (slice_get entries i)) (range_with_len 0 MAX_ENTRIES)
+
+-- up to MAX_ENTRIES entries that have words
 pub record HaveEntryWords (entries : List Entry) : Type 0 where
-  pub room : length entries ≤ 32
+  pub room : length entries ≤ MAX_ENTRIES
   pub each : (i : ℕ) → HasEntryWord (slice_get entries i)
 
--- the words at offsets 1 to 57
+-- the words at offsets 1 to NODE_FIELDS
 abbrev pub node_words : NodeView → List ℕ
 node_words node = head_words (head_of node) ++ entry_words node.entries
 

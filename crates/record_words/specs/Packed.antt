@@ -1,7 +1,7 @@
 -- What stands in the fixed words of a node: all but its state and its entries.
 use Rattle.std.specs.Prelude.{ℕ, ◌≡◌, ◌<◌, ◌+◌, ◌-◌, ◌*◌, ◌^◌, cond, nat_lt, List, length, map, slice_index, slice_index_or}
 use Rattle.std.specs.List.{range_with_len}
-use Rattle.record_words.specs.declared.fixed.TheConstants.{HEAD_WORDS}
+use Rattle.record_words.specs.declared.TheConstants.{HEAD_WORDS, MAX_ENTRIES}
 
 -- the number of entries, the number of columns and the stored height
 abbrev pub meta_word : ℕ → ℕ → ℕ → ℕ
@@ -40,6 +40,6 @@ pub record ArePositionsOf (positions words : List ℕ) : Type 0 where
 
 -- 32 sparse partial keys of these words
 pub record AreRowsOf (rows words : List ℕ) : Type 0 where
-  pub whole : length rows ≡ 32
+  pub whole : length rows ≡ MAX_ENTRIES
   pub small : (i : ℕ) → slice_index rows i < 2 ^ 32
   pub words_are : (j : ℕ) → j < 16 → row_word rows j ≡ slice_index words j

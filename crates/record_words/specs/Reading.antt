@@ -1,6 +1,16 @@
 -- What reading words answers.
 use Rattle.std.specs.Prelude.{◌≡◌, Result, Ok, IfOk}
 
+-- some value is spelled by these words
+abbrev pub IsSpelling : {A W : Type 0} → (A → Type 0) → (A → W) → W → Type 0
+IsSpelling {A} IsValue spelled words = (x : A) × IsValue x × (spelled x ≡ words)
+
+-- the value that is spelled by these words, and the only one
+pub record IsSpelledBy {A W : Type 0} (IsValue : A → Type 0) (spelled : A → W) (words : W) (x : A) : Type 0 where
+  pub is_value : IsValue x
+  pub spells : spelled x ≡ words
+  pub only : (y : A) → IsValue y → spelled y ≡ words → x ≡ y
+
 -- The answer is the value that is spelled by these words, and an error where there is none. So reading what was
 -- spelled gives the value back, what is read is spelled by the words, and no value has two spellings
 pub record IsReading {A W E : Type 0} (IsValue : A → Type 0) (spelled : A → W) (words : W) (answer : Result A E) : Type 0 where

@@ -1,15 +1,16 @@
 -- State words.
-use Rattle.std.specs.Prelude.{ℕ, ◌+◌, ◌*◌, ◌^◌, ◌<◌, ◌≤◌}
+use Rattle.std.specs.Prelude.{ℕ, ◌+◌, ◌*◌, ◌<◌, ◌≤◌}
 use Rattle.record_words.specs.declared.state.Tag.{Tag}
 use Rattle.record_words.specs.declared.state.Tag.TheVariants.{Free, Held, Live, Locked, Obsolete}
+use Rattle.record_words.specs.declared.TheConstants.{EPOCHS}
 
--- an epoch is from 1 to 2^60 - 1
+-- an epoch is from 1 to EPOCHS - 1
 abbrev pub HasStateWord : Tag → Type 0
 HasStateWord Free = Unit {0}
 HasStateWord Held = Unit {0}
 HasStateWord Live = Unit {0}
 HasStateWord Locked = Unit {0}
-HasStateWord (Obsolete epoch) = (1 ≤ epoch) × (epoch < 2 ^ 60)
+HasStateWord (Obsolete epoch) = (1 ≤ epoch) × (epoch < EPOCHS)
 
 abbrev pub state_word : Tag → ℕ
 state_word Free = 0

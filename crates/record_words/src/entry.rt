@@ -2,9 +2,9 @@
 
 ghost use Rattle.std.specs.Prelude.{◌≡◌};
 ghost use Rattle.record_words.specs.Entry.{HasEntryWord, entry_word};
-ghost use Rattle.record_words.specs.Reading.{IsReading};
+ghost use Rattle.record_words.specs.Reading.{IsReading, IsSpelledBy, IsSpelling};
 
-use crate::WordFault;
+use crate::{HEIGHT_BIT, WordFault};
 use compound_node::Entry;
 
 /// The word of an entry, or of none; a node's height is at least 1.
@@ -15,7 +15,9 @@ pub fn pack_entry(entry: Option<Entry>) -> u64
     match entry {
         None => 0,
         Some(Entry::Leaf(number)) => 4 * number as u64 + 1,
-        Some(Entry::Node { number, height }) => ((height as u64) << 34) + 4 * number as u64 + 2,
+        Some(Entry::Node { number, height }) => ((height as u64) << HEIGHT_BIT)
+            + 4 * number as u64
+            + 2,
     }
 }
 
@@ -23,8 +25,8 @@ pub fn pack_entry(entry: Option<Entry>) -> u64
 pub fn unpack_entry(word: u64) -> Result<Option<Entry>, WordFault>
     ensures { IsReading HasEntryWord entry_word word result }
 {
-    let number = (word % (1 << 34) / 4) as u32;
-    let height = word >> 34;
+    let number = (word % (1 << HEIGHT_BIT) / 4) as u32;
+    let height = word >> HEIGHT_BIT;
     match word % 4 {
         0 if word == 0 => Ok(None),
         1 if height == 0 => Ok(Some(Entry::Leaf(number))),
@@ -33,5 +35,21 @@ pub fn unpack_entry(word: u64) -> Result<Option<Entry>, WordFault>
             height: height as u16,
         })),
         _ => Err(WordFault::Bad),
+    }
+}
+
+/// The entry, or none, that has this word; some has it.
+pub fn read_entry(word: u64) -> Option<Entry>
+    requires { IsSpelling HasEntryWord entry_word word }
+    ensures { IsSpelledBy HasEntryWord entry_word word result }
+{
+    let number = (word % (1 << HEIGHT_BIT) / 4) as u32;
+    match word % 4 {
+        0 => None,
+        1 => Some(Entry::Leaf(number)),
+        _ => Some(Entry::Node {
+            number,
+            height: (word >> HEIGHT_BIT) as u16,
+        }),
     }
 }

@@ -2,12 +2,12 @@
 
 ghost use Rattle.std.specs.Prelude.{◌≡◌, ℕ, ◌+◌, ◌*◌, ◌<◌, ◌≤◌, ◌↔◌, IsTrue, EachIndex, length, slice_index, slice_index_or};
 ghost use Rattle.record_words.specs.Packed.{ArePositionsOf, AreRowsOf, fixed_word, fixed_words, position_at, position_word, row_at, row_word};
+ghost use Rattle.record_words.specs.Node.{InNodesOf};
+ghost use Rattle.partial_keys.specs.Columns.{with_free};
+ghost use Rattle.partial_keys.specs.Rows.{with_unused};
 
-use crate::WordFault;
+use crate::{HEAD_WORDS, MAX_ENTRIES, WordFault};
 use arrayvec::ArrayVec;
-
-/// How many words a node's head has: the numbers, the positions and the sparse partial keys.
-pub const HEAD_WORDS: usize = 25;
 
 /// What a node's fixed words say, each number by itself.
 #[derive(Drop)]
@@ -25,7 +25,7 @@ impl Fixed {
 
     /// The numbers that have these words.
     pub(crate) fn unpack(words: &[u64]) -> Result<Fixed, WordFault>
-        requires { length words.now ≡ 25 }
+        requires { length words.now ≡ HEAD_WORDS }
         ensures { IsReading HasFixedWords words_of words.now result }
     {
         let meta = words[0];
@@ -47,6 +47,30 @@ impl Fixed {
     }
 }
 
+/// The positions that a head's words have, as far as there are places for them.
+pub(crate) fn read_places(words: &[u64]) -> [u16; 31]
+    requires { length words.now ≡ HEAD_WORDS }
+    ensures { InNodesOf words.now (λ node. result ≡ with_free node.columns) }
+{
+    let mut places = [0; 31];
+    for i in 0..31 {
+        places[i] = (words[1 + i / 4] >> (16 * (i % 4)) & 0xffff) as u16;
+    }
+    places
+}
+
+/// The sparse partial keys that a head's words have.
+pub(crate) fn read_rows(words: &[u64]) -> [u32; MAX_ENTRIES]
+    requires { length words.now ≡ HEAD_WORDS }
+    ensures { InNodesOf words.now (λ node. result ≡ with_unused node.rows) }
+{
+    let mut rows = [0; MAX_ENTRIES];
+    for i in 0..MAX_ENTRIES {
+        rows[i] = (words[9 + i / 2] >> (32 * (i % 2)) & 0xffff_ffff) as u32;
+    }
+    rows
+}
+
 /// The fixed words of these numbers, in the order of their offsets.
 pub(crate) fn pack_fixed(count: u8, height: u16, columns: &[u16], rows: &[u32]) -> [u64; HEAD_WORDS]
     requires { length columns.now ≤ 31 }
@@ -62,7 +86,7 @@ pub(crate) fn pack_fixed(count: u8, height: u16, columns: &[u16], rows: &[u32]) 
 /// The fixed word at an offset.
 fn word_at(count: u8, height: u16, columns: &[u16], rows: &[u32], offset: usize) -> u64
     requires few { length columns.now ≤ 31 }
-    requires in_range { offset ≤ 25 }
+    requires in_range { offset ≤ HEAD_WORDS }
     ensures { result ≡ fixed_word count height columns.now rows.now offset }
 {
     match offset {

@@ -2,8 +2,10 @@
 
 ghost use Rattle.record_words.specs.Limits.{IsPassCount, IsNodeCount, IsLeafCount};
 
-use crate::leaf::LEAF_WORDS;
-use crate::node::NODE_WORDS;
+use crate::{
+    ANCHOR_WORD, EPOCH_WORD, FIRST_PIN, LEAF_WORDS, MAX_LEAVES, MAX_NODES, MAX_PASSES, NODE_WORDS,
+    ROOT_WORD,
+};
 
 /// Which number of records is out of range; they are tested in this order.
 #[derive(Clone, Copy, Debug, PartialEq, Eq)]
@@ -18,11 +20,11 @@ pub enum LayoutFault {
 /// Its words are the epoch, the root, the anchor, a pin for each pass, the node records and the leaf records.
 #[derive(Clone, Copy, Debug, PartialEq, Eq)]
 pub struct Layout {
-    /// 1 to 64.
+    /// 1 to `MAX_PASSES`.
     pub passes: u32,
-    /// 1 to 65,535.
+    /// 1 to `MAX_NODES`.
     pub nodes: u32,
-    /// 1 to 262,143.
+    /// 1 to `MAX_LEAVES`.
     pub leaves: u32,
     ghost passes_in_range: { IsPassCount passes },
     ghost nodes_in_range: { IsNodeCount nodes },
@@ -55,13 +57,13 @@ impl Layout {
         ensures nodes { (result ≡ Err LayoutFault.Nodes) ↔ (IsPassCount passes × ¬ IsNodeCount nodes) }
         ensures leaves { (result ≡ Err LayoutFault.Leaves) ↔ (IsPassCount passes × IsNodeCount nodes × ¬ IsLeafCount leaves) }
     {
-        if passes < 1 || passes > 64 {
+        if passes < 1 || passes > MAX_PASSES {
             return Err(LayoutFault::Passes);
         }
-        if nodes < 1 || nodes > 65_535 {
+        if nodes < 1 || nodes > MAX_NODES {
             return Err(LayoutFault::Nodes);
         }
-        if leaves < 1 || leaves > 262_143 {
+        if leaves < 1 || leaves > MAX_LEAVES {
             return Err(LayoutFault::Leaves);
         }
         Ok(Layout {
@@ -73,16 +75,16 @@ impl Layout {
 
     /// The word of a pass's pin.
     pub fn pin(&self, pass: u16) -> usize
-        ensures { result ≡ 3 + pass }
+        ensures { result ≡ FIRST_PIN + pass }
     {
-        3 + pass as usize
+        FIRST_PIN + pass as usize
     }
 
     /// The first word of a node record.
     pub fn node(&self, number: u32) -> usize
         ensures { result ≡ node_start self.now number }
     {
-        3 + self.passes as usize + NODE_WORDS * number as usize
+        FIRST_PIN + self.passes as usize + NODE_WORDS * number as usize
     }
 
     /// The first word of a leaf record.
@@ -104,9 +106,9 @@ impl Layout {
         ensures { result ≡ address self.now location }
     {
         match location {
-            Location::Epoch => 0,
-            Location::Root => 1,
-            Location::Anchor => 2,
+            Location::Epoch => EPOCH_WORD,
+            Location::Root => ROOT_WORD,
+            Location::Anchor => ANCHOR_WORD,
             Location::Pin(pass) => self.pin(pass),
             Location::NodeWord { node, offset } => self.node(node) + offset as usize,
             Location::LeafWord { leaf, offset } => self.leaf(leaf) + offset as usize,
@@ -119,10 +121,10 @@ impl Layout {
         ensures { IsOnlyAt self.now word result }
     {
         match word {
-            0 => Location::Epoch,
-            1 => Location::Root,
-            2 => Location::Anchor,
-            _ if word < self.node(0) => Location::Pin((word - 3) as u16),
+            EPOCH_WORD => Location::Epoch,
+            ROOT_WORD => Location::Root,
+            ANCHOR_WORD => Location::Anchor,
+            _ if word < self.node(0) => Location::Pin((word - FIRST_PIN) as u16),
             _ if word < self.leaf(0) => {
                 let within = word - self.node(0);
                 Location::NodeWord {

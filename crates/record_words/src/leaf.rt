@@ -1,21 +1,12 @@
 //! The words of a leaf record.
 
-ghost use Rattle.std.specs.Prelude.{ℕ, ◌≡◌, ◌≢◌, ◌+◌, ◌*◌, ◌<◌, ◌≤◌, ◌↔◌, length, slice_index, take, drop, IsTrue, EachIndex};
-ghost use Rattle.record_words.specs.declared.leaf.TheConstants.{KEY_WORDS};
+ghost use Rattle.std.specs.Prelude.{List, ℕ, ◌≡◌, ◌≢◌, ◌+◌, ◌*◌, ◌<◌, ◌≤◌, ◌↔◌, length, slice_index, take, drop, IsTrue, EachIndex};
+ghost use Rattle.record_words.specs.declared.TheConstants.{KEY_WORDS};
 ghost use Rattle.record_words.specs.Leaf.{HasLeafWords, IsBytesOf, key_word, leaf_words};
-ghost use Rattle.record_words.specs.Reading.{IsReading};
+ghost use Rattle.record_words.specs.Reading.{IsReading, IsSpelledBy, IsSpelling};
 
-use crate::WordFault;
+use crate::{KEY_WORDS, LEAF_FIELDS, WordFault};
 use key_bits::{Key, MAX_BYTES};
-
-/// How many words the bytes of the longest key take.
-const KEY_WORDS: usize = (MAX_BYTES + 7) / 8;
-
-/// How many words a leaf record has: its state, the value, the key's length and its bytes.
-pub const LEAF_WORDS: usize = 3 + KEY_WORDS;
-
-/// How many words a leaf record has besides its state.
-pub const LEAF_FIELDS: usize = LEAF_WORDS - 1;
 
 /// The words of a leaf record from offset 1 on: the value, the key's length and its bytes.
 pub fn pack_leaf(key: &Key, value: u64) -> [u64; LEAF_FIELDS]
@@ -37,6 +28,24 @@ pub fn unpack_leaf(words: &[u64; LEAF_FIELDS]) -> Result<(Key, u64), WordFault>
     ensures { IsReading HasLeafWords leaf_words words.now result }
 {
     unpack_with(words, &bytes_of_words(&words[2..]))
+}
+
+/// The key and the value that a leaf record has, of its words from offset 1 on; there are some.
+pub fn read_leaf(words: &[u64; LEAF_FIELDS]) -> (Key, u64)
+    requires { IsSpelling HasLeafWords leaf_words words.now }
+    ensures { IsSpelledBy HasLeafWords leaf_words words.now result }
+{
+    let bytes = bytes_of_words(&words[2..]);
+    (key_of_bytes(words, &bytes), words[0])
+}
+
+/// The key of a leaf whose words of key bytes are those of `bytes`.
+fn key_of_bytes(words: &[u64; LEAF_FIELDS], bytes: &[u8; MAX_BYTES]) -> Key
+    requires bytes { IsBytesOf bytes.now (take KEY_WORDS (drop 2 words.now)) }
+    requires words { IsSpelling HasLeafWords leaf_words words.now }
+    ensures { (leaf : List ℕ × ℕ) → HasLeafWords leaf → leaf_words leaf ≡ words.now → result ≡ leaf.0 }
+{
+    Key::of_places(*bytes, words[1] as usize)
 }
 
 /// Unpacks a leaf whose words of key bytes are those of `bytes`.

@@ -8,18 +8,66 @@ mod leaf;
 mod node;
 mod state;
 
-pub use entry::{pack_entry, unpack_entry};
-pub use fixed::HEAD_WORDS;
+pub use entry::{pack_entry, read_entry, unpack_entry};
+use key_bits::MAX_BYTES;
 pub use layout::{Layout, LayoutFault, Location};
-pub use leaf::{LEAF_FIELDS, LEAF_WORDS, pack_leaf, unpack_leaf};
-pub use node::{NODE_FIELDS, NODE_WORDS, pack_node, unpack_head, unpack_node};
+pub use leaf::{pack_leaf, read_leaf, unpack_leaf};
+pub use node::{pack_node, read_head, read_node, unpack_head, unpack_node};
 pub use state::{Tag, pack_state, unpack_state};
+
+/// Epochs are below this number, and at least 1.
+pub const EPOCHS: u64 = 1 << 60;
+
+/// How many passes a table has at most.
+pub const MAX_PASSES: u32 = 64;
+
+/// How many node records a table has at most.
+pub const MAX_NODES: u32 = 65_535;
+
+/// How many leaf records a table has at most.
+pub const MAX_LEAVES: u32 = 262_143;
+
+/// The word of the epoch.
+pub const EPOCH_WORD: usize = 0;
+
+/// The word of the root.
+pub const ROOT_WORD: usize = 1;
+
+/// The word of the anchor.
+pub const ANCHOR_WORD: usize = 2;
+
+/// The word of the first pin: the epoch, the root and the anchor stand before the pins.
+pub const FIRST_PIN: usize = 3;
+
+/// How many words a node's head has, from offset 1 on: the numbers, the positions and the sparse partial keys.
+pub const HEAD_WORDS: usize = 25;
+
+/// The offset at which a node record has its first entry: its state and its head stand before the entries.
+pub const FIRST_ENTRY: usize = 1 + HEAD_WORDS;
+
+/// How many entries a node has at most; a node record has a word for each.
+pub const MAX_ENTRIES: usize = 32;
+
+/// The bit of an entry's word from which on a child node's height stands.
+pub const HEIGHT_BIT: u32 = 34;
+
+/// How many words a node record has: its state, those of its head and those of its entries.
+pub const NODE_WORDS: usize = FIRST_ENTRY + MAX_ENTRIES;
+
+/// How many words a node record has besides its state.
+pub const NODE_FIELDS: usize = NODE_WORDS - 1;
+
+/// How many words the bytes of the longest key take.
+pub const KEY_WORDS: usize = (MAX_BYTES + 7) / 8;
+
+/// How many words a leaf record has: its state, the value, the key's length and its bytes.
+pub const LEAF_WORDS: usize = 3 + KEY_WORDS;
+
+/// How many words a leaf record has besides its state.
+pub const LEAF_FIELDS: usize = LEAF_WORDS - 1;
 
 /// Why words are no packing of any value.
 #[derive(Clone, Copy, Debug, PartialEq, Eq)]
 pub enum WordFault {
     Bad = 1,
 }
-
-#[cfg(test)]
-mod tests;

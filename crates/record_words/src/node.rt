@@ -1,25 +1,18 @@
 //! The words of a node record.
 
-ghost use Rattle.std.specs.Prelude.{◌≡◌, ℕ, ◌<◌, ◌≤◌, length, slice_get, slice_index};
+ghost use Rattle.std.specs.Prelude.{◌≡◌, ℕ, List, ◌<◌, ◌≤◌, length, slice_get, slice_index};
 ghost use Rattle.partial_keys.specs.Rows.{with_unused};
 ghost use Rattle.record_words.specs.Entry.{HasEntryWord};
 ghost use Rattle.record_words.specs.Node.{HasHeadWords, HasNodeWords, HaveEntryWords, entry_words, head_words, node_words};
-ghost use Rattle.record_words.specs.Reading.{IsReading};
+ghost use Rattle.record_words.specs.Reading.{IsReading, IsSpelledBy, IsSpelling};
+ghost use Rattle.compound_node.specs.declared.entries.Entry.{Entry as NodeEntry};
 
-use crate::WordFault;
-use crate::entry::{pack_entry, unpack_entry};
-use crate::fixed::{Fixed, HEAD_WORDS, pack_fixed};
+use crate::entry::{pack_entry, read_entry, unpack_entry};
+use crate::fixed::{Fixed, pack_fixed, read_places, read_rows};
+use crate::{HEAD_WORDS, MAX_ENTRIES, NODE_FIELDS, WordFault};
 use arrayvec::ArrayVec;
 use compound_node::{Entry, Head, Node};
-
-/// How many entries a node has room for, with a word for each.
-const ENTRY_WORDS: usize = 32;
-
-/// How many words a node record has: its state, those of its head and those of its entries.
-pub const NODE_WORDS: usize = 1 + HEAD_WORDS + ENTRY_WORDS;
-
-/// How many words a node record has besides its state.
-pub const NODE_FIELDS: usize = NODE_WORDS - 1;
+use partial_keys::Columns;
 
 /// The words of a node record from offset 1 on.
 pub fn pack_node(node: &Node) -> [u64; NODE_FIELDS]
@@ -54,7 +47,7 @@ pub fn unpack_node(words: &[u64; NODE_FIELDS]) -> Result<Node, WordFault>
     }
 }
 
-/// The head that a node record has, of its words at offsets 1 to 25, whatever its entries are.
+/// The head that a node record has, of its words from offset 1 on, whatever its entries are.
 pub fn unpack_head(words: &[u64; HEAD_WORDS]) -> Result<Head, WordFault>
     ensures { IsReading HasHeadWords head_words words.now result }
 {
@@ -70,11 +63,56 @@ pub fn unpack_head(words: &[u64; HEAD_WORDS]) -> Result<Head, WordFault>
     }
 }
 
+/// The head that a node record has, of its words from offset 1 on; some node has it.
+pub fn read_head(words: &[u64; HEAD_WORDS]) -> Head
+    requires { IsSpelling HasHeadWords head_words words.now }
+    ensures { IsSpelledBy HasHeadWords head_words words.now result }
+{
+    head_of_words(words)
+}
+
+/// The node that a node record has, of its words from offset 1 on; there is one.
+pub fn read_node(words: &[u64; NODE_FIELDS]) -> Node
+    requires { IsSpelling HasNodeWords node_words words.now }
+    ensures { IsSpelledBy HasNodeWords node_words words.now result }
+{
+    let head = head_of_words(&words[..HEAD_WORDS]);
+    let entries = read_entries(&words[HEAD_WORDS..], head.count());
+    Node::of(head, entries)
+}
+
+/// The head that has these words.
+fn head_of_words(words: &[u64]) -> Head
+    requires { IsSpelling HasHeadWords head_words words.now }
+    ensures { IsSpelledBy HasHeadWords head_words words.now result }
+{
+    let numbers = words[0];
+    let columns = Columns::of_places(read_places(words), (numbers / 256 % 256) as u8);
+    Head::of(
+        (numbers % 256) as u8,
+        (numbers / 65_536) as u16,
+        columns,
+        read_rows(words),
+    )
+}
+
+/// The entries that have these words, of which there are so many.
+fn read_entries(words: &[u64], count: u8) -> ArrayVec<Entry, MAX_ENTRIES>
+    requires { (entries : List NodeEntry) × HaveEntryWords entries × (entry_words entries ≡ words.now) × (length entries ≡ count) }
+    ensures { (entries : List NodeEntry) → HaveEntryWords entries → entry_words entries ≡ words.now → result.items ≡ entries }
+{
+    let mut entries = ArrayVec::new();
+    for i in 0..count {
+        entries.push(read_entry(words[i as usize]).unwrap());
+    }
+    entries
+}
+
 /// A node's sparse partial keys, with the unused places.
-fn sparse_of(node: &Node) -> [u32; 32]
+fn sparse_of(node: &Node) -> [u32; MAX_ENTRIES]
     ensures { result ≡ with_unused node.now.rows }
 {
-    let mut sparse = [u32::MAX; 32];
+    let mut sparse = [u32::MAX; MAX_ENTRIES];
     for i in 0..node.count() {
         sparse[i as usize] = node.sparse(i);
     }
@@ -82,12 +120,12 @@ fn sparse_of(node: &Node) -> [u32; 32]
 }
 
 /// The entry words of a node.
-fn entry_words_of(node: &Node) -> [u64; ENTRY_WORDS]
+fn entry_words_of(node: &Node) -> [u64; MAX_ENTRIES]
     ensures words { result ≡ entry_words node.now.entries }
-    ensures fit { (i : ℕ) → i < 32 → HasEntryWord (slice_get node.now.entries i) }
+    ensures fit { (i : ℕ) → i < MAX_ENTRIES → HasEntryWord (slice_get node.now.entries i) }
 {
-    let mut words = [0; ENTRY_WORDS];
-    for i in 0..ENTRY_WORDS {
+    let mut words = [0; MAX_ENTRIES];
+    for i in 0..MAX_ENTRIES {
         words[i] = pack_entry(entry_at(node, i as u8));
     }
     words
@@ -106,8 +144,8 @@ fn entry_at(node: &Node, at: u8) -> Option<Entry>
 }
 
 /// The entries that have these words.
-fn unpack_entries(words: &[u64]) -> Result<ArrayVec<Entry, ENTRY_WORDS>, WordFault>
-    requires { length words.now ≡ 32 }
+fn unpack_entries(words: &[u64]) -> Result<ArrayVec<Entry, MAX_ENTRIES>, WordFault>
+    requires { length words.now ≡ MAX_ENTRIES }
     ensures { IsReading (λ entries. HaveEntryWords entries.items) (λ entries. entry_words entries.items) words.now result }
 {
     let mut entries = ArrayVec::new();

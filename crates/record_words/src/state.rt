@@ -4,7 +4,7 @@ ghost use Rattle.std.specs.Prelude.{◌≡◌};
 ghost use Rattle.record_words.specs.State.{HasStateWord, state_word};
 ghost use Rattle.record_words.specs.Reading.{IsReading};
 
-use crate::WordFault;
+use crate::{EPOCHS, WordFault};
 
 /// What a record's state word says of it.
 #[derive(Clone, Copy, Debug, PartialEq, Eq)]
@@ -21,7 +21,7 @@ pub enum Tag {
     Obsolete(u64),
 }
 
-/// The state word of a tag; an epoch is from 1 to 2^60 - 1.
+/// The state word of a tag; an epoch is from 1 to `EPOCHS - 1`.
 pub fn pack_state(tag: Tag) -> u64
     requires { HasStateWord tag }
     ensures { result ≡ state_word tag }
@@ -44,7 +44,7 @@ pub fn unpack_state(word: u64) -> Result<Tag, WordFault>
         1 => Ok(Tag::Held),
         2 => Ok(Tag::Live),
         3 => Ok(Tag::Locked),
-        _ if word % 8 == 4 && word / 8 != 0 && word < 1 << 63 => Ok(Tag::Obsolete(word / 8)),
+        _ if word % 8 == 4 && word / 8 != 0 && word / 8 < EPOCHS => Ok(Tag::Obsolete(word / 8)),
         _ => Err(WordFault::Bad),
     }
 }

@@ -8,8 +8,8 @@ use Rattle.hot_model.specs.declared.Kind.{Kind}
 use Rattle.hot_model.specs.declared.Kind.TheVariants.{Added, Replaced, Removed}
 use Rattle.hot_model.specs.Maps.{key_order}
 use Rattle.tries.specs.Content.{Item, IsMore, added, behind, IsExchange, exchanged, past_one}
-use Rattle.moments.specs.Told.{item_of, IsChanged}
-use Rattle.rowex_core.specs.Events.{AreSame, change_between, change_at, added_by, replaced_by, removed_by}
+use Rattle.moments.specs.Told.{item_of, IsChanged, added_change, replaced_change, removed_change}
+use Rattle.rowex_core.specs.Events.{AreSame, change_between, change_at}
 use Rattle.replay_trees.specs.declared.trees.Item.{Item as ReadItem}
 use Rattle.replay_trees.specs.Moments.{item_of as leaf_item}
 use Rattle.replay_trees.specs.Changed.{AreApart, numbers, Changes, IsFound, IsMade}
@@ -91,30 +91,30 @@ rest_of_less : (z y : Item) (xs ys : List Item) → AreApart xs (y ∷ ys) → I
 rest_of_less z y xs ys a added = refl
 rest_of_less z y xs ys a (behind m) = absurd (a refl)
 
-pub removal_found : (q : ℕ) (x : Item) (xs ys : List Item) (o : Option Change) → AreApart (x ∷ xs) ys → AreSame (x ∷ xs) ys → change_between q (x ∷ xs) ys ≡ removed_by q x →
-    IsMade xs ys (removed_by q x) o → IsFound q (x ∷ xs) ys o
+pub removal_found : (q : ℕ) (x : Item) (xs ys : List Item) (o : Option Change) → AreApart (x ∷ xs) ys → AreSame (x ∷ xs) ys → change_between q (x ∷ xs) ys ≡ removed_change q x →
+    IsMade xs ys (removed_change q x) o → IsFound q (x ∷ xs) ys o
 removal_found q x xs ys o a s e made =
-    made_found q (x ∷ xs) ys xs ys (removed_by q x) o e
+    made_found q (x ∷ xs) ys xs ys (removed_change q x) o e
     (λ i. (x.number, subst (λ z. IsMore x z (x ∷ xs)) (same_lists xs ys (λ u v h g. s u v (inr h) g) i) added))
-    (λ m. ap numbers (sym (rest_of_more (item_of m.0 (removed_by q x)) x xs ys a m.1))) made
+    (λ m. ap numbers (sym (rest_of_more (item_of m.0 (removed_change q x)) x xs ys a m.1))) made
 
-pub addition_found : (q : ℕ) (y : Item) (xs ys : List Item) (o : Option Change) → AreApart xs (y ∷ ys) → AreSame xs (y ∷ ys) → change_between q xs (y ∷ ys) ≡ added_by q y →
-    IsMade xs ys (added_by q y) o → IsFound q xs (y ∷ ys) o
+pub addition_found : (q : ℕ) (y : Item) (xs ys : List Item) (o : Option Change) → AreApart xs (y ∷ ys) → AreSame xs (y ∷ ys) → change_between q xs (y ∷ ys) ≡ added_change q y →
+    IsMade xs ys (added_change q y) o → IsFound q xs (y ∷ ys) o
 addition_found q y xs ys o a s e made =
-    made_found q xs (y ∷ ys) xs ys (added_by q y) o e
+    made_found q xs (y ∷ ys) xs ys (added_change q y) o e
     (λ i. (y.number, subst (λ z. IsMore y xs (y ∷ z)) (same_lists xs ys (λ u v h g. s u v h (inr g)) i) added))
-    (λ m. ap numbers (rest_of_less (item_of m.0 (added_by q y)) y xs ys a m.1)) made
+    (λ m. ap numbers (rest_of_less (item_of m.0 (added_change q y)) y xs ys a m.1)) made
 
 rest_of_exchange : (w z x y : Item) (xs ys : List Item) → x.number ≢ y.number → IsExchange w z (x ∷ xs) (y ∷ ys) → xs ≡ ys
 rest_of_exchange w z x y xs ys a exchanged = refl
 rest_of_exchange w z x y xs ys a (past_one m) = absurd (a refl)
 
 pub exchange_found : (q : ℕ) (x y : Item) (xs ys : List Item) (o : Option Change) → x.number ≢ y.number → AreSame (x ∷ xs) (y ∷ ys) → x.key ≡ y.key →
-    change_between q (x ∷ xs) (y ∷ ys) ≡ replaced_by q y → IsMade xs ys (replaced_by q y) o → IsFound q (x ∷ xs) (y ∷ ys) o
+    change_between q (x ∷ xs) (y ∷ ys) ≡ replaced_change q y → IsMade xs ys (replaced_change q y) o → IsFound q (x ∷ xs) (y ∷ ys) o
 exchange_found q x y xs ys o a s k e made =
-    made_found q (x ∷ xs) (y ∷ ys) xs ys (replaced_by q y) o e
+    made_found q (x ∷ xs) (y ∷ ys) xs ys (replaced_change q y) o e
     (λ i. (y.number, (x, k, subst (λ z. IsExchange x y (x ∷ xs) (y ∷ z)) (same_lists xs ys (λ u v h g. s u v (inr h) (inr g)) i) exchanged)))
-    (λ m. ap numbers (rest_of_exchange m.1.0 (item_of m.0 (replaced_by q y)) x y xs ys a m.1.2)) made
+    (λ m. ap numbers (rest_of_exchange m.1.0 (item_of m.0 (replaced_change q y)) x y xs ys a m.1.2)) made
 
 -- of heads of different numbers the change is by the order of their keys
 pub apart_change : (q : ℕ) (x y : Item) (xs ys : List Item) (o : Ordering) → x.number ≢ y.number → key_order x.key y.key ≡ o → change_between q (x ∷ xs) (y ∷ ys) ≡ change_at q o x y

@@ -9,6 +9,3 @@ mod trees;
 
 pub use changes::change_between;
 pub use trees::{Item, Linked, read_tree};
-
-#[cfg(test)]
-mod tests;

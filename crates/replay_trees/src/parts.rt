@@ -7,15 +7,15 @@ ghost use Rattle.replay_trees.specs.Parts.{HasRoom, IsCutRead, IsEntryRead, IsHa
 use crate::trees::{Item, Linked};
 use compound_node::{Cut, Entry, Half, Node};
 use key_bits::{Key, MAX_BYTES, mismatch};
-use record_words::{unpack_leaf, unpack_node};
+use record_words::{LEAF_FIELDS, NODE_FIELDS, unpack_leaf, unpack_node};
 use std::alloc::AllocError;
 
 /// Reads what stands below an entry, and answers whether that is lawful, with no fork before position `least`. What it
 /// links is added to `linked`.
 #[cycle(reading)]
 pub(crate) fn read_entry(
-    nodes: &[[u64; 57]],
-    leaves: &[[u64; 32]],
+    nodes: &[[u64; NODE_FIELDS]],
+    leaves: &[[u64; LEAF_FIELDS]],
     least: u32,
     entry: Entry,
     linked: &mut Linked,
@@ -44,8 +44,8 @@ pub(crate) fn read_entry(
 /// As `read_entry`, of one side of a fork.
 #[cycle(reading)]
 fn read_half(
-    nodes: &[[u64; 57]],
-    leaves: &[[u64; 32]],
+    nodes: &[[u64; NODE_FIELDS]],
+    leaves: &[[u64; LEAF_FIELDS]],
     least: u32,
     half: Half,
     linked: &mut Linked,
@@ -65,8 +65,8 @@ fn read_half(
 /// As `read_entry`, of a node's root fork and its two sides.
 #[cycle(reading)]
 fn read_cut(
-    nodes: &[[u64; 57]],
-    leaves: &[[u64; 32]],
+    nodes: &[[u64; NODE_FIELDS]],
+    leaves: &[[u64; LEAF_FIELDS]],
     least: u32,
     cut: Cut,
     linked: &mut Linked,
@@ -92,7 +92,11 @@ fn read_cut(
 }
 
 /// Adds a leaf record of the table, and answers whether its words spell a value.
-fn take_leaf(leaves: &[[u64; 32]], number: u32, linked: &mut Linked) -> Result<bool, AllocError>
+fn take_leaf(
+    leaves: &[[u64; LEAF_FIELDS]],
+    number: u32,
+    linked: &mut Linked,
+) -> Result<bool, AllocError>
     requires { length linked.old.leaves.items ≡ length leaves.now }
     ensures { IfOk result (λ good. IsLeafTaken leaves.now number good linked.old linked.new) }
 {
@@ -108,7 +112,7 @@ fn take_leaf(leaves: &[[u64; 32]], number: u32, linked: &mut Linked) -> Result<b
 }
 
 /// The node of this height that a record of the table has.
-fn node_at(nodes: &[[u64; 57]], number: u32, height: u16) -> Option<Node>
+fn node_at(nodes: &[[u64; NODE_FIELDS]], number: u32, height: u16) -> Option<Node>
     ensures { IsNodeAt nodes.now number height result }
 {
     let words = nodes.get(number as usize)?;

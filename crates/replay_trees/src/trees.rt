@@ -6,6 +6,7 @@ ghost use Rattle.replay_trees.specs.Moments.{IsToldMoment};
 use crate::parts::read_entry;
 use compound_node::Entry;
 use key_bits::Key;
+use record_words::{LEAF_FIELDS, NODE_FIELDS};
 use std::alloc::{AllocError, Global};
 
 /// A leaf record as it stands in a tree.
@@ -32,8 +33,8 @@ pub struct Linked {
 /// first fault.
 pub fn read_tree(
     alloc: Global,
-    nodes: &[[u64; 57]],
-    leaves: &[[u64; 32]],
+    nodes: &[[u64; NODE_FIELDS]],
+    leaves: &[[u64; LEAF_FIELDS]],
     root: Option<Entry>,
 ) -> Result<Option<Linked>, AllocError>
     ensures { IfOk result (λ linked. IsToldMoment nodes.now leaves.now root linked) }

@@ -3,9 +3,9 @@ use Rattle.std.proofs.Common.{◌≡◌, ℕ, Option, Some, None, refl, sym, ap,
 use Rattle.compound_node.specs.declared.entries.Entry.{Entry}
 use Rattle.tries.specs.Tree.{Tree, IsTrie, IsBuilt}
 use Rattle.moments.specs.Heap.{Heap}
-use Rattle.moments.specs.State.{IsTop, IsLinked}
-use Rattle.moments.specs.Told.{items_of, IsChange}
-use Rattle.moments.specs.declared.Rec.TheVariants.{Node as a_node}
+use Rattle.moments.specs.State.{IsTop}
+use Rattle.moments.specs.Told.{items_of}
+use Rattle.moments.specs.Steps.{IsNextMoment}
 use Rattle.moments.proofs.Reading.{read_exact}
 use Rattle.rowex_core.specs.Cores.{heap_of}
 use Rattle.rowex_core.specs.Events.{IsLegalPublish, tree_of, stored_words, stored_root, next_tree, next_change}
@@ -25,29 +25,17 @@ publish_is_legal c q spot w law locked entry packed t x l ne = (legal, next, cha
     next : next_tree c spot w ≡ t
     next = tree_read (heap_of (stored_words c spot w)) (stored_root c spot w) t l.top l.tree
 
-    top : IsTop (heap_of (stored_words c spot w)) (stored_root c spot w) (next_tree c spot w)
-    top = subst (IsTop (heap_of (stored_words c spot w)) (stored_root c spot w)) (sym next) l.top
-
-    trees : (u : Tree) → next_tree c spot w ≡ Some u → IsTrie u × IsBuilt u
-    trees u e = l.tree u (sym next ∙ e)
-
-    one : IsChange (c.past.moment c.past.now) x (next_tree c spot w)
-    one = subst (IsChange (c.past.moment c.past.now) x) (sym next) l.change
+    -- the demands on the next moment are the same for both
+    moment : IsNextMoment c.shared q (heap_of (stored_words c spot w)) (stored_root c spot w) (next_tree c spot w) x
+    moment = subst (λ z. IsNextMoment c.shared q (heap_of (stored_words c spot w)) (stored_root c spot w) z x) (sym next) l.next
 
     change : next_change c q spot w ≡ x
-    change = finds_change c q spot w law top trees x one (λ e. ne (e ∙ ap items_of next)) l.own
-
-    still : (n : ℕ) → IsLinked t (a_node n) → IsLinked (next_tree c spot w) (a_node n)
-    still n h = subst (λ z. IsLinked z (a_node n)) (sym next) h
+    change = finds_change c q spot w law moment.top moment.tree x moment.change (λ e. ne (e ∙ ap items_of next)) l.own
 
     legal : IsLegalPublish c q spot w
     legal = record {
       locked = locked;
       entry = entry;
-      top = top;
-      tree = trees;
-      comes = λ r h. l.comes r (subst (λ z. IsLinked z r) next h);
-      goes = λ n f out. l.goes n f.0 f.1 (λ h. out (still n h));
       packed = packed;
-      change = subst (λ z. IsChange (c.past.moment c.past.now) z (next_tree c spot w)) (sym change) one;
+      next = subst (IsNextMoment c.shared q (heap_of (stored_words c spot w)) (stored_root c spot w) (next_tree c spot w)) (sym change) moment;
     }

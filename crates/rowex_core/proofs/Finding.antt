@@ -12,9 +12,9 @@ use Rattle.tries.proofs.Contents.{content_rises, before_irrefl, each_append, eac
 use Rattle.tries.proofs.Maps.{AreKeys, are_keys, before_less, before_greater, same_order}
 use Rattle.moments.specs.Heap.{Heap, LeafWords, IsShown}
 use Rattle.moments.specs.State.{IsTop}
-use Rattle.moments.specs.Told.{items_of, item_of, IsChanged}
+use Rattle.moments.specs.Told.{items_of, item_of, IsChanged, added_change, replaced_change, removed_change}
 use Rattle.rowex_core.specs.Cores.{heap_of}
-use Rattle.rowex_core.specs.Events.{AreSame, change_between, added_by, replaced_by, removed_by, stored_words, stored_root, next_tree}
+use Rattle.rowex_core.specs.Events.{AreSame, change_between, stored_words, stored_root, next_tree}
 use Rattle.rowex_core.specs.Statements.{FindsChange}
 use Rattle.rowex_core.proofs.Storing.{near_store}
 
@@ -64,19 +64,19 @@ behind_one x y xs ys d a b i j = d a b (inr i) (inr j)
 before_differ : (x y : Item) → IsBefore x.key y.key → x ≢ y
 before_differ x y b e = before_irrefl y.key (subst (λ (z : Item). IsBefore z.key y.key) e b)
 
-pub finds_added : (q : ℕ) (x : Item) (xs ys : List Item) → IsMore x xs ys → IsRising ys → AreKeys ys → AreSame xs ys → change_between q xs ys ≡ added_by q x
+pub finds_added : (q : ℕ) (x : Item) (xs ys : List Item) → IsMore x xs ys → IsRising ys → AreKeys ys → AreSame xs ys → change_between q xs ys ≡ added_change q x
 finds_added q x [] _ added r a d = refl
 finds_added q x (z ∷ zs) _ added r a d =
     rw (apart (z ∷ zs) (x ∷ z ∷ zs) z x d (inl refl) (inl refl) (λ e. before_differ x z r.0.0 (sym e)), before_greater x.key z.key a.0 a.1.0 r.0.0) refl
 finds_added q x _ _ (behind {y = y} {xs = xs} {ys = ys} m) r a d = past q y xs ys ∙ finds_added q x xs ys m r.1 a.1 (behind_one y y xs ys d)
 
-pub finds_removed : (q : ℕ) (x : Item) (xs ys : List Item) → IsMore x ys xs → IsRising xs → AreKeys xs → AreSame xs ys → change_between q xs ys ≡ removed_by q x
+pub finds_removed : (q : ℕ) (x : Item) (xs ys : List Item) → IsMore x ys xs → IsRising xs → AreKeys xs → AreSame xs ys → change_between q xs ys ≡ removed_change q x
 finds_removed q x _ [] added r a d = refl
 finds_removed q x _ (z ∷ zs) added r a d =
     rw (apart (x ∷ z ∷ zs) (z ∷ zs) x z d (inl refl) (inl refl) (before_differ x z r.0.0), before_less x.key z.key a.0 a.1.0 r.0.0) refl
 finds_removed q x _ _ (behind {y = y} {xs = ys} {ys = xs} m) r a d = past q y xs ys ∙ finds_removed q x xs ys m r.1 a.1 (behind_one y y xs ys d)
 
-pub finds_replaced : (q : ℕ) (y x : Item) (xs ys : List Item) → IsExchange y x xs ys → y.key ≡ x.key → xs ≢ ys → AreSame xs ys → change_between q xs ys ≡ replaced_by q x
+pub finds_replaced : (q : ℕ) (y x : Item) (xs ys : List Item) → IsExchange y x xs ys → y.key ≡ x.key → xs ≢ ys → AreSame xs ys → change_between q xs ys ≡ replaced_change q x
 finds_replaced q y x _ _ (exchanged {xs = xs}) e ne d =
     rw (apart (y ∷ xs) (x ∷ xs) y x d (inl refl) (inl refl) (λ s. ne (ap (λ z. z ∷ xs) s)), e, same_order x.key) refl
 finds_replaced q y x _ _ (past_one {z = z} {xs = xs} {ys = ys} m) e ne d =

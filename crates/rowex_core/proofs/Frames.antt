@@ -14,7 +14,7 @@ use Rattle.hot_model.specs.Maps.{key_order}
 use Rattle.std.specs.declared.cmp.Ordering.{Ordering}
 use Rattle.std.specs.declared.cmp.Ordering.TheVariants.{Less, Equal, Greater}
 use Rattle.moments.specs.Core.{Fate, Free, Held, Ready as ReadyBy, InTree, Unlinked, Marked}
-use Rattle.moments.specs.Steps.{MayLock}
+use Rattle.moments.specs.Steps.{MayLock, with_fate, with_lock, with_pin, with_round, unlocked, with_anchor}
 use Rattle.moments.proofs.Publish.{moment_old}
 use Rattle.rowex_core.specs.declared.event.Act.{Act}
 use Rattle.rowex_core.specs.declared.event.Act.TheVariants.{Claim, Fill, Ready, Release, LoadRef, LoadFixed, Lock, Unlock, Publish, Mark, LoadEpoch, Advance, SetPin, ClearPin, LoadPin, LoadState, GiveBack}
@@ -23,7 +23,7 @@ use Rattle.rowex_core.specs.declared.event.Spot.{Spot}
 use Rattle.rowex_core.specs.Cores.{Core, IsLawful}
 use Rattle.record_words.specs.State.{state_word}
 use Rattle.rowex_core.specs.Words.{lock_tag, tag_of, state_at}
-use Rattle.rowex_core.specs.Events.{Legal, after, with_fate, with_lock, with_word, with_pin, with_round, claimed, marked, given_back, anchored, unlocked, next_tree, next_change, IsLegalPublish, change_at, change_between}
+use Rattle.rowex_core.specs.Events.{Legal, after, with_word, claimed, marked, given_back, anchored, next_tree, next_change, IsLegalPublish, change_at, change_between, locked_where, advanced}
 use Rattle.rowex_core.specs.Frames.{IsFrame}
 use Rattle.rowex_core.specs.Sharing.{share, holding_of, is_by, is_in_tree, anchored_at}
 use Rattle.rowex_core.proofs.Publishing.{publish_share}
@@ -46,8 +46,8 @@ unchanged : (q : ℕ) (c : Core) → IsFrame q c c
 unchanged q c = quiet q c c refl refl refl refl
 
 -- the fate of a record that is neither q's nor in the tree, before or after
-fate_frame : (c : Core) (q : ℕ) (r : Rec) (f g : Fate) → c.fate r ≡ g → is_in_tree g ≡ false → is_in_tree f ≡ false → holding_of q f ≡ holding_of q g → IsFrame q c (with_fate c r f)
-fate_frame c q r f g is before after e = quiet q c (with_fate c r f) refl refl refl
+fate_frame : (c : Core) (q : ℕ) (r : Rec) (f g : Fate) → c.fate r ≡ g → is_in_tree g ≡ false → is_in_tree f ≡ false → holding_of q f ≡ holding_of q g → IsFrame q c (record c { shared = with_fate c.shared r f })
+fate_frame c q r f g is before after e = quiet q c (record c { shared = with_fate c.shared r f }) refl refl refl
     (same_fate c q r f (ap is_in_tree is ∙ before) after (e ∙ ap (holding_of q) (sym is)))
 
 -- a word of a record that is neither q's nor in the tree
@@ -55,24 +55,24 @@ word_frame : (c : Core) (q : ℕ) (r : Rec) (offset w : ℕ) (g : Fate) → c.fa
 word_frame c q r offset w g is out none = quiet q c _ refl refl refl (same_word c q r offset w (ap is_in_tree is ∙ out) (ap (holding_of q) is ∙ none))
 
 -- the lock of a node, or of the anchor
-lock_frame : (c : Core) (q n : ℕ) (o : Option ℕ) → is_by q o ≡ is_by q (c.lock n) → IsFrame q c (with_lock c n o)
-lock_frame c q n o e = quiet q c (with_lock c n o) refl refl refl (same_lock c q n o e)
+lock_frame : (c : Core) (q n : ℕ) (o : Option ℕ) → is_by q o ≡ is_by q (c.lock n) → IsFrame q c (record c { shared = with_lock c.shared n o })
+lock_frame c q n o e = quiet q c (record c { shared = with_lock c.shared n o }) refl refl refl (same_lock c q n o e)
 
-anchor_frame : (c : Core) (q : ℕ) (o : Option ℕ) → is_by q o ≡ is_by q c.anchor → IsFrame q c (record c { anchor = o })
+anchor_frame : (c : Core) (q : ℕ) (o : Option ℕ) → is_by q o ≡ is_by q c.anchor → IsFrame q c (record c { shared = with_anchor c.shared o })
 anchor_frame c q o e = quiet q c _ refl refl refl (same_share (λ r. refl) (λ n. refl) (ap (anchored_at c.root) e) refl refl)
 
 -- the pin or the round of another
-pin_frame : (c : Core) (p q : ℕ) (o : Option Pin) → p ≢ q → IsFrame q c (with_pin c p o)
+pin_frame : (c : Core) (p q : ℕ) (o : Option Pin) → p ≢ q → IsFrame q c (record c { shared = with_pin c.shared p o })
 pin_frame c p q o ne = quiet q c _ refl refl refl (same_share (λ r. refl) (λ n. refl) refl (rw (by_another (λ e. ne (sym e))) refl) refl)
 
-round_frame : (c : Core) (p q : ℕ) (o : Round) → p ≢ q → IsFrame q c (with_round c p o)
+round_frame : (c : Core) (p q : ℕ) (o : Round) → p ≢ q → IsFrame q c (record c { shared = with_round c.shared p o })
 round_frame c p q o ne = quiet q c _ refl refl refl (same_share (λ r. refl) (λ n. refl) refl refl (rw (by_another (λ e. ne (sym e))) refl))
 
 -- the epoch
-pub advance_frame : (c : Core) (q expected : ℕ) → IsFrame q c (if nat_eq c.epoch expected then record c { epoch = suc c.epoch } else c)
+pub advance_frame : (c : Core) (q expected : ℕ) → IsFrame q c (record c { shared = advanced c.shared expected })
 advance_frame c q expected = go (cases_Bool (eqb c.epoch expected))
   where
-    go : ((eqb c.epoch expected ≡ true) ⊎ (eqb c.epoch expected ≡ false)) → IsFrame q c (if nat_eq c.epoch expected then record c { epoch = suc c.epoch } else c)
+    go : ((eqb c.epoch expected ≡ true) ⊎ (eqb c.epoch expected ≡ false)) → IsFrame q c (record c { shared = advanced c.shared expected })
     go (inl e) = rw e (quiet q c _ refl refl refl refl)
     go (inr e) = rw e (unchanged q c)
 
@@ -83,23 +83,23 @@ some_pass e = cc
 not_by : {p q : ℕ} (o : Option ℕ) → p ≢ q → o ≡ Some p → is_by q o ≡ false
 not_by {p} {q} o ne e = ap (is_by q) e ∙ by_another ne
 
-claim_frame : (c : Core) (p q : ℕ) (r : Rec) (f : Fate) → p ≢ q → c.fate r ≡ f → IsFrame q c (claimed c p r f)
+claim_frame : (c : Core) (p q : ℕ) (r : Rec) (f : Fate) → p ≢ q → c.fate r ≡ f → IsFrame q c (record c { shared = claimed c.shared p r f })
 claim_frame c p q r Free ne e = fate_frame c q r (Held p) Free e refl refl (rw (by_another ne) refl)
 claim_frame c p q r _ ne e = unchanged q c
 
-pub give_back_frame : (c : Core) (q : ℕ) (r : Rec) (epoch : ℕ) (f : Fate) → c.fate r ≡ f → IsFrame q c (given_back c r epoch f)
+pub give_back_frame : (c : Core) (q : ℕ) (r : Rec) (epoch : ℕ) (f : Fate) → c.fate r ≡ f → IsFrame q c (record c { shared = given_back c.shared r epoch f })
 give_back_frame c q r epoch (Marked s l m) e = go (cases_Bool (eqb m epoch))
   where
-    go : ((eqb m epoch ≡ true) ⊎ (eqb m epoch ≡ false)) → IsFrame q c (if nat_eq m epoch then with_fate c r Free else c)
+    go : ((eqb m epoch ≡ true) ⊎ (eqb m epoch ≡ false)) → IsFrame q c (record c { shared = if nat_eq m epoch then with_fate c.shared r Free else c.shared })
     go (inl x) = rw x (fate_frame c q r Free (Marked s l m) e refl refl refl)
     go (inr x) = rw x (unchanged q c)
 give_back_frame c q r epoch _ e = unchanged q c
 
-mark_frame : (c : Core) (p q : ℕ) (r : Rec) (epoch since last : ℕ) → p ≢ q → c.fate r ≡ Unlinked since last p → IsFrame q c (marked c r epoch (c.fate r))
-mark_frame c p q r epoch since last ne e = subst (λ f. IsFrame q c (marked c r epoch f)) (sym e) (quiet q c _ refl refl refl
-    (same_fate (unlocked c r) q r (Marked since last epoch) (ap is_in_tree e) refl (rw (e, by_another ne) refl) ∙ same_unlocked c q r (ap is_in_tree e)))
+mark_frame : (c : Core) (p q : ℕ) (r : Rec) (epoch since last : ℕ) → p ≢ q → c.fate r ≡ Unlinked since last p → IsFrame q c (record c { shared = marked c.shared r epoch (c.fate r) })
+mark_frame c p q r epoch since last ne e = subst (λ f. IsFrame q c (record c { shared = marked c.shared r epoch f })) (sym e) (quiet q c _ refl refl refl
+    (same_fate (record c { shared = unlocked c.shared r }) q r (Marked since last epoch) (ap is_in_tree e) refl (rw (e, by_another ne) refl) ∙ same_unlocked c q r (ap is_in_tree e)))
 
-anchored_frame : (c : Core) (p q : ℕ) (o : Option ℕ) → p ≢ q → c.anchor ≡ o → IsFrame q c (anchored c p o)
+anchored_frame : (c : Core) (p q : ℕ) (o : Option ℕ) → p ≢ q → c.anchor ≡ o → IsFrame q c (record c { shared = anchored c.shared p o })
 anchored_frame c p q None ne e = anchor_frame c q (Some p) (by_another ne ∙ ap (is_by q) (sym e))
 anchored_frame c p q (Some i) ne e = unchanged q c
 
@@ -156,7 +156,7 @@ frame c p q (LoadFixed r offset w) ne law l = unchanged q c
 frame c p q (Lock Anchor found) ne law l = anchored_frame c p q c.anchor ne refl
 frame c p q (Lock (NodeTarget n) found) ne law (a, b) = go (cases_Bool (eqb found 2))
   where
-    go : ((eqb found 2 ≡ true) ⊎ (eqb found 2 ≡ false)) → IsFrame q c (if nat_eq found 2 then with_lock c n (Some p) else c)
+    go : ((eqb found 2 ≡ true) ⊎ (eqb found 2 ≡ false)) → IsFrame q c (record c { shared = locked_where c.shared n p found })
     go (inl e) = rw e (lock_frame c q n (Some p) (by_another ne ∙ ap (is_by q) (sym (unlocked_node c law n (sym b.1 ∙ eqb-true found 2 e)))))
     go (inr e) = rw e (unchanged q c)
 frame c p q (Unlock Anchor) ne law (a, b) = anchor_frame c q None (sym (not_by c.anchor ne b))

@@ -53,7 +53,7 @@ others_trans q a b c x y = (x.0 ++ y.0, y.1 ∙ (ap (λ (z : List Change). z ++ 
 pub knows_kept : (c d : Core) (k : Known) → IsFrame k.pass c d → Knows c k → Knows d k
 knows_kept c d k f h = record {
   pass = subst (λ (z : Layout). k.pass < z.passes) (sym f.layout) h.pass;
-  loaded = h.loaded;
+  counted = h.counted;
   seen = record {
     front = others_trans k.pass k.front c.changes d.changes h.seen.front f.changes;
     fresh = h.seen.fresh;

@@ -15,7 +15,7 @@ use Rattle.moments.specs.declared.Round.{Round}
 use Rattle.moments.specs.Heap.{Heap}
 use Rattle.moments.specs.State.{Past, IsTop, IsReach}
 use Rattle.moments.specs.Core.{Fate, Free, Held as HeldBy, Ready as ReadyBy, InTree, Unlinked as UnlinkedBy, Marked, pin_moment}
-use Rattle.moments.specs.Steps.{same_rec, is_linked, next_fate, MayLock, lowered}
+use Rattle.moments.specs.Steps.{same_rec, is_linked, next_fate, MayLock, lowered, with_fate, with_lock, with_pin, with_round, unlocked, with_anchor}
 use Rattle.moments.proofs.Legal.{same_rec_refl}
 use Rattle.rowex_core.specs.declared.event.Act.{Act}
 use Rattle.rowex_core.specs.declared.event.Act.TheVariants.{Claim, Fill, Ready, Release, LoadRef, LoadFixed, Lock, Unlock, Publish, Mark, LoadEpoch, Advance, SetPin, ClearPin, LoadPin, LoadState, GiveBack}
@@ -33,8 +33,8 @@ use Rattle.rowex_core.specs.Cores.{Core, IsLawful, view, heap_of}
 use Rattle.rowex_core.specs.Words.{record_word}
 use Rattle.moments.proofs.Publish.{moment_old}
 use Rattle.rowex_core.specs.declared.event.Spot.{Spot}
-use Rattle.rowex_core.specs.Events.{IsLegalPublish, IsLockedAt, stored_words, stored_root, next_tree, next_change, Legal, after, with_fate, with_word, with_lock, with_pin, with_round, claimed, marked, anchored, unlocked, word_of, target_word, IsInTree}
-use Rattle.rowex_core.specs.Knowing.{IsFact, HasSeen, facts_with, Knows, learned_by, learned, entry_learned, hold_as, fill_in, without_record, failed_with, claim_learned, anchor_learned, node_learned, without_lock, records_in, unlinked_as, own_after, relocked, locks_after, anchor_after, publish_learned}
+use Rattle.rowex_core.specs.Events.{IsLegalPublish, IsLockedAt, stored_words, stored_root, next_tree, next_change, Legal, after, with_word, claimed, marked, anchored, word_of, target_word, IsInTree}
+use Rattle.rowex_core.specs.Knowing.{IsFact, HasSeen, facts_with, AreCounted, Knows, learned_by, learned, entry_learned, hold_as, fill_in, without_record, failed_with, claim_learned, anchor_learned, node_learned, without_lock, records_in, unlinked_as, own_after, relocked, locks_after, anchor_after, publish_learned}
 use Rattle.record_words.specs.declared.layout.Location.{Location}
 use Rattle.rowex_core.proofs.Frames.{advance_frame, give_back_frame, unlocked_node}
 use Rattle.rowex_core.proofs.Keeping.{fact_grown, knows_kept}
@@ -163,7 +163,7 @@ module _ (c : Core) (k : Known) (h : Knows c k) where
   -- the fate of one record, which is not in the tree
   fate_learns : (r : Rec) (f : Fate) (own : List Owned) → is_in_tree (c.fate r) ≡ false → is_in_tree f ≡ false →
       owned r (c.words r) (holding_of k.pass f) ≡ of_record r own → ((i : Rec) → same_rec i r ≡ false → owned i (c.words i) (holding_of k.pass (c.fate i)) ≡ of_record i own) →
-      IsTrue (with_fate c r f) (record k { own = own })
+      IsTrue (record c { shared = with_fate c.shared r f }) (record k { own = own })
   fate_learns r f own before after here there = record {
     pass = h.pass;
     seen = h.seen;
@@ -174,12 +174,12 @@ module _ (c : Core) (k : Known) (h : Knows c k) where
   }
 
   changes : (r : Rec) (g f : Fate) (change : List Owned → List Owned) → IsAt r change → c.fate r ≡ g → is_in_tree g ≡ false → is_in_tree f ≡ false →
-      change (owned r (c.words r) (holding_of k.pass g)) ≡ owned r (c.words r) (holding_of k.pass f) → IsTrue (with_fate c r f) (record k { own = change k.own })
+      change (owned r (c.words r) (holding_of k.pass g)) ≡ owned r (c.words r) (holding_of k.pass f) → IsTrue (record c { shared = with_fate c.shared r f }) (record k { own = change k.own })
   changes r g f change at is before after e = fate_learns r f (change k.own) (ap is_in_tree is ∙ before) after
       (sym e ∙ (ap (λ z. change (owned r (c.words r) (holding_of k.pass z))) (sym is) ∙ has_then r change at r))
       (λ i o. sym (at.others i (c.words i) (holding_of k.pass (c.fate i)) o) ∙ has_then r change at i)
 
-  claim_learns : (r : Rec) (found : ℕ) (f : Fate) → c.fate r ≡ f → IsTrue (claimed c k.pass r f) (claim_learned c r found f k)
+  claim_learns : (r : Rec) (found : ℕ) (f : Fate) → c.fate r ≡ f → IsTrue (record c { shared = claimed c.shared k.pass r f }) (claim_learned c r found f k)
   claim_learns r found Free e = fate_learns r (HeldBy k.pass) _ (ap is_in_tree e) refl
       (rw (by_itself k.pass, same_rec_refl r) (ap (λ (z : List Owned). record { rec = r; holding = Held; words = c.words r } ∷ z) (ap (λ f. owned r (c.words r) (holding_of k.pass f)) (sym e) ∙ had r)))
       (λ i o. rw o (had i))
@@ -203,7 +203,7 @@ module _ (c : Core) (k : Known) (h : Knows c k) where
   -- The lock of a node
 
   locks_learn : (n : ℕ) (o : Option ℕ) (locks : List Locked) → locked n (c.words (a_node n)) (is_in_tree (c.fate (a_node n)) && is_by k.pass o) ≡ of_node n locks →
-      ((i : ℕ) → nat_eq i n ≡ false → (share k.pass c).locks i ≡ of_node i locks) → IsTrue (with_lock c n o) (record k { locks = locks })
+      ((i : ℕ) → nat_eq i n ≡ false → (share k.pass c).locks i ≡ of_node i locks) → IsTrue (record c { shared = with_lock c.shared n o }) (record k { locks = locks })
   locks_learn n o locks here there = record {
     pass = h.pass;
     seen = h.seen;
@@ -213,12 +213,12 @@ module _ (c : Core) (k : Known) (h : Knows c k) where
   had_lock : (n : ℕ) → (share k.pass c).locks n ≡ of_node n k.locks
   had_lock n = ap (λ (z : Share). z.locks n) h.own
 
-  lock_taken : (n : ℕ) → IsInTree c n → c.lock n ≡ None → IsTrue (with_lock c n (Some k.pass)) (record k { locks = record { node = n; words = c.words (a_node n) } ∷ k.locks })
+  lock_taken : (n : ℕ) → IsInTree c n → c.lock n ≡ None → IsTrue (record c { shared = with_lock c.shared n (Some k.pass) }) (record k { locks = record { node = n; words = c.words (a_node n) } ∷ k.locks })
   lock_taken n t none = locks_learn n (Some k.pass) _
       (rw (t.1, by_itself k.pass, by_itself n) (ap (λ (z : List Locked). record { node = n; words = c.words (a_node n) } ∷ z) (rw (t.1, none) refl ∙ had_lock n)))
       (λ i o. rw o (had_lock i))
 
-  lock_given : (n : ℕ) → IsTrue (with_lock c n None) (record k { locks = without_lock n k.locks })
+  lock_given : (n : ℕ) → IsTrue (record c { shared = with_lock c.shared n None }) (record k { locks = without_lock n k.locks })
   lock_given n = locks_learn n None _
       (ap (locked n (c.words (a_node n))) (and_false (is_in_tree (c.fate (a_node n)))) ∙ (sym (gone (is_in_tree (c.fate (a_node n)) && is_by k.pass (c.lock n))) ∙ through n))
       (λ i o. sym (left i o (is_in_tree (c.fate (a_node i)) && is_by k.pass (c.lock i))) ∙ through i)
@@ -236,24 +236,24 @@ module _ (c : Core) (k : Known) (h : Knows c k) where
 
   -- The anchor, the pin, the round
 
-  anchor_learns : (found : ℕ) (o : Option ℕ) → c.anchor ≡ o → IsTrue (anchored c k.pass o) (anchor_learned c found o k)
+  anchor_learns : (found : ℕ) (o : Option ℕ) → c.anchor ≡ o → IsTrue (record c { shared = anchored c.shared k.pass o }) (anchor_learned c found o k)
   anchor_learns found None e = record { pass = h.pass; seen = h.seen; own = λ i. record (h.own i) { anchor = ap (anchored_at c.root) (by_itself k.pass) i } }
   anchor_learns found (Some p) e = with_failed c k (target_word Anchor) found h
 
-  anchor_given : IsTrue (record c { anchor = None }) (record k { anchor = None })
+  anchor_given : IsTrue (record c { shared = with_anchor c.shared None }) (record k { anchor = None })
   anchor_given = record { pass = h.pass; seen = h.seen; own = λ i. record (h.own i) { anchor = None } }
 
-  pin_learns : (o : Option Pin) → IsTrue (with_pin c k.pass o) (record k { pin = o })
+  pin_learns : (o : Option Pin) → IsTrue (record c { shared = with_pin c.shared k.pass o }) (record k { pin = o })
   pin_learns o = record { pass = h.pass; seen = h.seen; own = λ i. record (h.own i) { pin = ap (λ b. if b then o else c.pins k.pass) (by_itself k.pass) i } }
 
-  round_learns : (p o : Round) → p ≡ o → IsTrue (with_round c k.pass p) (record k { round = o })
+  round_learns : (p o : Round) → p ≡ o → IsTrue (record c { shared = with_round c.shared k.pass p }) (record k { round = o })
   round_learns p o e = record { pass = h.pass; seen = h.seen; own = λ i. record (h.own i) { round = (ap (λ b. if b then p else c.rounds k.pass) (by_itself k.pass) ∙ e) i } }
 
 -- Mark: the record is not the pass's any more, and a node is unlocked
 mark_learns : (c : Core) (k : Known) (r : Rec) (epoch since last : ℕ) → Knows c k → c.fate r ≡ UnlinkedBy since last k.pass →
-    IsTrue (marked c r epoch (c.fate r)) (record k { own = without_record r k.own })
-mark_learns c k r epoch since last h e = subst (λ f. IsTrue (marked c r epoch f) (record k { own = without_record r k.own })) (sym e)
-    (changes (unlocked c r) k (record { pass = h.pass; loaded = h.loaded; seen = h.seen; own = same_unlocked c k.pass r (ap is_in_tree e) ∙ h.own })
+    IsTrue (record c { shared = marked c.shared r epoch (c.fate r) }) (record k { own = without_record r k.own })
+mark_learns c k r epoch since last h e = subst (λ f. IsTrue (record c { shared = marked c.shared r epoch f }) (record k { own = without_record r k.own })) (sym e)
+    (changes (record c { shared = unlocked c.shared r }) k (record { pass = h.pass; counted = h.counted; seen = h.seen; own = same_unlocked c k.pass r (ap is_in_tree e) ∙ h.own })
     r (UnlinkedBy since last k.pass) (Marked since last epoch) (without_record r) (drop_at r) e refl refl (dropped r (c.words r) (holding_of k.pass (UnlinkedBy since last k.pass))))
 
 -- Publish
@@ -387,30 +387,43 @@ learns_by c k (LoadPin o w) law h l = round_learns c k h _ _ (ap (λ (s : Share)
 learns_by c k (LoadState r w) law h l = is_true h
 learns_by c k (GiveBack r epoch found) law h l = is_true (knows_kept c _ k (give_back_frame c k.pass r epoch (c.fate r) refl) h)
 
--- Its last load of the root was one of its steps.
-module _ (c : Core) (k : Known) (h : k.fresh.step < k.steps) where
-  claim_loaded : (r : Rec) (found : ℕ) (f : Fate) → (claim_learned c r found f k).fresh.step < k.steps + 1
-  claim_loaded r found Free = omega arith
-  claim_loaded r found _ = omega arith
+-- The step is counted, and with it the last load of the root and what failed.
+module _ (c : Core) (k : Known) (h : AreCounted k.steps k.fresh.step k.failed) where
+  abbrev IsNext : Known → Type 0
+  IsNext j = AreCounted (k.steps + 1) j.fresh.step j.failed
 
-  anchor_loaded : (found : ℕ) (o : Option ℕ) → (anchor_learned c found o k).fresh.step < k.steps + 1
-  anchor_loaded found None = omega arith
-  anchor_loaded found (Some p) = omega arith
+  before : (last : ℕ) → last < k.steps + 1 → AreCounted (k.steps + 1) last k.failed
+  before last low = record { loaded = low; failed = All-weaker (λ f. f.step < k.steps) (λ f. f.step < k.steps + 1) (λ f b. omega arith) k.failed h.failed }
 
-  either_loaded : (b : Bool) (i j : Known) → i.fresh.step < k.steps + 1 → j.fresh.step < k.steps + 1 → (if b then i else j).fresh.step < k.steps + 1
-  either_loaded true i j x y = x
-  either_loaded false i j x y = y
+  -- no step is remembered
+  same_next : AreCounted (k.steps + 1) k.fresh.step k.failed
+  same_next = before k.fresh.step (let l = h.loaded in omega arith)
 
-  loaded_by : (act : Act) → (learned_by c act k).fresh.step < k.steps + 1
-  loaded_by (Claim r found) = claim_loaded r found (c.fate r)
-  loaded_by (Lock Anchor found) = anchor_loaded found c.anchor
-  loaded_by (Lock (NodeTarget n) found) = either_loaded (nat_eq found 2) _ _ (omega arith) (omega arith)
-  loaded_by (LoadRef Root w) = omega arith
-  loaded_by (LoadRef (Slot n j) w) = omega arith
-  loaded_by (Unlock Anchor) = omega arith
-  loaded_by (Unlock (NodeTarget n)) = omega arith
-  loaded_by _ = omega arith
+  failed_next : (location : Location) (w : ℕ) → IsNext (failed_with k location w)
+  failed_next location w = record { loaded = same_next.loaded; failed = All-cons (λ f. f.step < k.steps + 1) _ k.failed (omega arith) same_next.failed }
+
+  claim_next : (r : Rec) (found : ℕ) (f : Fate) → IsNext (claim_learned c r found f k)
+  claim_next r found Free = same_next
+  claim_next r found _ = failed_next (word_of r 0) found
+
+  anchor_next : (found : ℕ) (o : Option ℕ) → IsNext (anchor_learned c found o k)
+  anchor_next found None = same_next
+  anchor_next found (Some p) = failed_next (target_word Anchor) found
+
+  either_next : (b : Bool) (i j : Known) → IsNext i → IsNext j → IsNext (if b then i else j)
+  either_next true i j x y = x
+  either_next false i j x y = y
+
+  next_by : (act : Act) → IsNext (learned_by c act k)
+  next_by (Claim r found) = claim_next r found (c.fate r)
+  next_by (Lock Anchor found) = anchor_next found c.anchor
+  next_by (Lock (NodeTarget n) found) = either_next (nat_eq found 2) _ _ same_next (failed_next (target_word (NodeTarget n)) found)
+  next_by (LoadRef Root w) = before k.steps (omega arith)
+  next_by (LoadRef (Slot n j) w) = same_next
+  next_by (Unlock Anchor) = same_next
+  next_by (Unlock (NodeTarget n)) = same_next
+  next_by _ = same_next
 
 -- What a pass knows after its own step is true.
 pub learns : (c : Core) (k : Known) (act : Act) → IsLawful c → Knows c k → Legal c k.pass act → Knows (after c k.pass act) (learned c act k)
-learns c k act law h l = let t = learns_by c k act law h l in record { pass = t.pass; loaded = loaded_by c k h.loaded act; seen = t.seen; own = t.own }
+learns c k act law h l = let t = learns_by c k act law h l in record { pass = t.pass; counted = next_by c k h.counted act; seen = t.seen; own = t.own }

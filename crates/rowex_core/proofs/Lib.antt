@@ -14,6 +14,7 @@ pub mod Learning
 pub mod Owning
 pub mod Staying
 pub mod Writing
+pub mod Appending
 pub mod Promises
 pub mod Runs
 pub mod Bridging

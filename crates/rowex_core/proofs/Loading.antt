@@ -11,7 +11,7 @@ use Rattle.moments.specs.declared.Rec.TheVariants.{Node as a_node, Leaf as a_lea
 use Rattle.moments.specs.Heap.{NodeWords, LeafWords, IsCopied}
 use Rattle.moments.specs.State.{Stands, IsReach, last_of, Spans, IsRecord}
 use Rattle.moments.specs.Core.{Fate, Free, Held as HeldBy, Ready as ReadyBy, InTree, Unlinked as UnlinkedBy, Marked, life_of}
-use Rattle.moments.proofs.States.{spans_last, spans_ended}
+use Rattle.moments.proofs.States.{spans_last, spans_ended, reach_later}
 use Rattle.rowex_core.specs.declared.known.Fact.TheVariants.{Placed, Fixed as FixedWord}
 use Rattle.rowex_core.specs.Reading.{entry_of, node_of, leaf_of, IsPacked, entry_in, word_in}
 use Rattle.rowex_core.specs.Cores.{Core, IsLawful, IsWhole, view, heap_of}
@@ -21,14 +21,15 @@ use Rattle.rowex_core.specs.Knowing.{StoodBetween, IsFact}
 use Rattle.rowex_core.proofs.Reading.{node_is, entry_at_is, fixed_word_is, leaf_is}
 
 -- The last moment of the life of a record that stood since a pass's pin: its words are those of now, and they spell a value.
-record LastOf (c : Core) (since : ℕ) (r : Rec) : Type 0 where
-  tree : Tree
-  at : ℕ
-  low : since ≤ at
-  high : at ≤ c.past.now
-  stands : Stands c.past at r tree
-  copied : IsCopied (heap_of c.words) tree
-  packed : IsPacked r (c.words r)
+pub record LastOf (c : Core) (since : ℕ) (r : Rec) : Type 0 where
+  pub tree : Tree
+  pub at : ℕ
+  pub low : since ≤ at
+  pub high : at ≤ c.past.now
+  pub stands : Stands c.past at r tree
+  pub ends : (o : ℕ) (u : Tree) → since ≤ o → o ≤ c.past.now → Stands c.past o r u → o ≤ at
+  pub copied : IsCopied (heap_of c.words) tree
+  pub packed : IsPacked r (c.words r)
 
 spanned_whole : (now : ℕ) (f : Fate) (n : ℕ) → Spans now (life_of f) n → IsWhole f
 spanned_whole now Free n h = absurd h
@@ -38,7 +39,7 @@ spanned_whole now (InTree s) n h = tt
 spanned_whole now (UnlinkedBy s l q) n h = tt
 spanned_whole now (Marked s l e) n h = tt
 
-last : (c : Core) → IsLawful c → (since : ℕ) → IsReach (view c) since → (r : Rec) → StoodBetween c.past since c.past.now r → LastOf c since r
+pub last : (c : Core) → IsLawful c → (since : ℕ) → IsReach (view c) since → (r : Rec) → StoodBetween c.past since c.past.now r → LastOf c since r
 last c law since reach r (n, u, lo, hi, st) =
     let spans = reach n lo hi r u st in
     let lived = law.core.state.lived r in
@@ -51,6 +52,7 @@ last c law since reach r (n, u, lo, hi, st) =
       low = le_trans lo ends.0;
       high = ends.1;
       stands = s.1;
+      ends = λ o v low high t. (spans_ended c.past.now ((view c).life r) o lived (reach o low high r v t)).0;
       copied = law.core.state.frozen r s.0 whole s.1;
       packed = law.records.packed r (spanned_whole c.past.now (c.fate r) n spans);
     }
@@ -69,14 +71,10 @@ leaf_number e = cc
 same_words : {x y : NodeWords} → x ≡ y → (x.page ≡ y.page) × (x.fixed ≡ y.fixed)
 same_words e = (ap (λ (z : NodeWords). z.page) e, ap (λ (z : NodeWords). z.fixed) e)
 
--- An entry word of a node in reach.
-pub slot_fact : (c : Core) → IsLawful c → (since : ℕ) → IsReach (view c) since → (n j : ℕ) → j < 32 → IsFact c.past (Placed since c.past.now n j (entry_of (record_word c (a_node n) (26 + j))))
+-- An entry word of a node in reach: it has the entry that the node had when it stood last,
+pub entry_of_last : (c : Core) → IsLawful c → (since n j : ℕ) → j < 32 → (l : LastOf c since (a_node n)) → entry_in l.tree j ≡ entry_of (record_word c (a_node n) (26 + j))
 unfolding IsPacked
-slot_fact c law since reach n j small = (
-  le_refl c.past.now,
-  λ m lo s. let l = last c law m (λ o b. reach o (le_trans lo b)) (a_node n) s in
-      (l.at, l.tree, l.low, l.high, l.stands, go l.tree l.stands.is_record l.copied l.packed),
-)
+entry_of_last c law since n j small l = go l.tree l.stands.is_record l.copied l.packed
   where
     go : (u : Tree) → IsRecord (a_node n) u → IsCopied (heap_of c.words) u → IsPacked (a_node n) (c.words (a_node n)) → entry_in u j ≡ entry_of (record_word c (a_node n) (26 + j))
     go (leaf m k v) r i p = absurd cc
@@ -89,12 +87,19 @@ slot_fact c law since reach n j small = (
         ap (λ z. entry_of (get_or (c.words (a_node n)) z 0)) (let a : 25 + j ≡ 26 + j - 1 = omega arith in a) ∙
         ap entry_of (sym (later_word c (a_node n) (26 + j) (omega arith))))
 
+-- which is a fact of the past.
+pub slot_fact : (c : Core) → IsLawful c → (since : ℕ) → IsReach (view c) since → (n j : ℕ) → j < 32 → IsFact c.past (Placed since c.past.now n j (entry_of (record_word c (a_node n) (26 + j))))
+slot_fact c law since reach n j small = (
+  le_refl c.past.now,
+  λ m lo s. let l = last c law m (reach_later (view c) since m lo reach) (a_node n) s in (l.at, l.tree, l.low, l.high, l.stands, entry_of_last c law m n j small l),
+)
+
 -- Another word of a record in reach.
 pub fixed_fact : (c : Core) → IsLawful c → (since : ℕ) → IsReach (view c) since → (r : Rec) (offset : ℕ) → IsFixedOffset r offset → IsFact c.past (FixedWord since c.past.now r offset (record_word c r offset))
 unfolding IsPacked
 fixed_fact c law since reach r offset fits = (
   le_refl c.past.now,
-  λ m lo s. let l = last c law m (λ o b. reach o (le_trans lo b)) r s in
+  λ m lo s. let l = last c law m (reach_later (view c) since m lo reach) r s in
       (l.at, l.tree, l.low, l.high, l.stands, go r l.tree fits l.stands.is_record l.copied l.packed),
 )
   where

@@ -1,5 +1,5 @@
 -- The laws that follow: the opening core, records in reach, a publish as a step of the map, locks of two passes.
-use Rattle.std.proofs.Common.{◌≡◌, ◌≢◌, inl, ⊎_elim, ℕ, zero, suc, ◌+◌, ◌-◌, ◌*◌, ◌^◌, ◌<◌, ◌≤◌, List, [], ◌∷◌, ◌++◌, length, get_or, replicate, fold, Option, Some, None, IsSome, refl, sym, ap, ap₂, ◌∙◌, arith, le_refl, lit<}
+use Rattle.std.proofs.Common.{◌≡◌, ◌≢◌, inl, ⊎_elim, ℕ, zero, suc, ◌+◌, ◌-◌, ◌*◌, ◌^◌, ◌<◌, ◌≤◌, List, [], ◌∷◌, ◌++◌, length, get_or, replicate, fold, Option, Some, None, IsSome, refl, sym, ap, ap₂, ◌∙◌, arith, le_refl, le_trans, lit<}
 use Rattle.std.proofs.lemmas.Bool.{eq-eqb, ne_eqb, false≢true, cases_lt}
 use Rattle.std.proofs.lemmas.List.{length-replicate, get_or-replicate, get_or_past, take_all}
 use Rattle.std.proofs.lemmas.List.Elements.{All-replicate, All-from_recursion}
@@ -22,7 +22,7 @@ use Rattle.moments.specs.declared.Rec.TheVariants.{Node as a_node, Leaf as a_lea
 use Rattle.moments.specs.State.{IsSame}
 use Rattle.moments.specs.Core.{Free, Unlinked, Marked, pin_moment}
 use Rattle.moments.specs.Told.{content, items_of}
-use Rattle.moments.proofs.States.{hindsight as state_hindsight, state_parting}
+use Rattle.moments.proofs.States.{hindsight as state_hindsight, state_parting, reach_later}
 use Rattle.moments.proofs.Stepping.{opening_core, core_reach, core_steady}
 use Rattle.rowex_core.specs.declared.event.Act.TheVariants.{Lock, Publish}
 use Rattle.rowex_core.specs.declared.event.Target.TheVariants.{Node as NodeTarget}
@@ -31,9 +31,9 @@ use Rattle.rowex_core.specs.Cores.{IsLawful, bare, heap_of, view, word_count_of}
 use Rattle.rowex_core.specs.Words.{record_word, word_at, Shows}
 use Rattle.rowex_core.specs.Events.{IsFixedOffset, after, next_change, next_tree}
 use Rattle.rowex_core.specs.Opening.{opening, opening_words}
-use Rattle.rowex_core.specs.Statements.{OpeningIsLawful, Hindsight, Parting, InReach, PublishIsAStep, LocksApart, call_for, call_of}
+use Rattle.rowex_core.specs.Statements.{OpeningIsLawful, Hindsight, Parting, InReach, EntriesInReach, PublishIsAStep, LocksApart, call_for, call_of}
 use Rattle.rowex_core.proofs.Frames.{change_pass}
-use Rattle.rowex_core.proofs.Loading.{fixed_fact}
+use Rattle.rowex_core.proofs.Loading.{LastOf, last, entry_of_last, fixed_fact}
 use Rattle.rowex_core.proofs.Staying.{stays_lawful}
 
 -- The opening core
@@ -88,7 +88,7 @@ opening_is_lawful layout = (
 -- Records in reach
 
 pub hindsight : Hindsight
-hindsight c law q p e k n h = state_hindsight (view c) law.core.state p.moment (law.core.state.reach q p.moment (ap pin_moment e)) k n h
+hindsight c law q p e m low k n h = state_hindsight (view c) law.core.state m (reach_later (view c) p.moment m low (law.core.state.reach q p.moment (ap pin_moment e))) k n h
 
 pub parting : Parting
 parting c law = state_parting (view c) law.core.state
@@ -110,6 +110,19 @@ in_reach c law q p e n r u lo hi st =
     word offset fits =
         let f = (fixed_fact c law p.moment (law.core.state.reach q p.moment (ap pin_moment e)) r offset fits).1 p.moment (le_refl p.moment) (n, u, lo, hi, st) in
         sym f.5 ∙ same_word offset f.1 u (core_steady (bare c) law.core q p e r f.0 n f.1 u f.2 f.3 lo hi f.4 st)
+
+pub entries_in_reach : EntriesInReach
+entries_in_reach c law q p e m n u lo hi st = (
+  l.at,
+  l.tree,
+  l.low,
+  record { past = l.high; stands = l.stands; later = λ o v late past s. let x = l.ends o v (le_trans l.low (let y : l.at ≤ o = omega arith in y)) past s in omega arith },
+  core_steady (bare c) law.core q p e (a_node n) m l.at u l.tree lo hi (le_trans lo l.low) l.high st l.stands,
+  λ j small. sym (entry_of_last c law m n j small l),
+)
+  where
+    l : LastOf c m (a_node n)
+    l = last c law m (reach_later (view c) p.moment m lo (law.core.state.reach q p.moment (ap pin_moment e))) (a_node n) (m, u, le_refl m, hi, st)
 
 -- A publish is a step of the map
 

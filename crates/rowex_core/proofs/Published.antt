@@ -84,13 +84,9 @@ module _ (c : Core) (q : ℕ) (spot : Spot) (w : ℕ) (law : IsLawful c) (l : Is
   moments_publish = record {
     store = store spot l.locked;
     near = near_store c spot w;
-    top = l.top;
-    tree = l.tree;
     kept = kept spot l;
-    comes = l.comes;
-    goes = λ n f e out. l.goes n (f, e) out;
     own = change_pass q (items_of (c.past.moment c.past.now)) (items_of (next_tree c spot w));
-    change = l.change;
+    next = l.next;
   }
 
   published_words : (s : Spot) → IsPackedAt c s w → (r : Rec) → IsWhole (c.fate r) → IsPacked r (stored_words c s w r)
@@ -121,7 +117,7 @@ module _ (c : Core) (q : ℕ) (spot : Spot) (w : ℕ) (law : IsLawful c) (l : Is
   published_locks n since last p e =
       elim (unlinked_before c.past.now q (is_linked (next_tree c spot w) (a_node n)) (c.fate (a_node n)) since last p e) [
         | inl x ↦ law.records.retired n since last p x
-        | inr (s, t, b, z) ↦ subst (λ i. c.lock n ≡ Some i) z (l.goes n (s, t) (λ y. false≢true (sym b ∙ true_linked (next_tree c spot w) (a_node n) y)))
+        | inr (s, t, b, z) ↦ subst (λ i. c.lock n ≡ Some i) z (l.goes n s t (λ y. false≢true (sym b ∙ true_linked (next_tree c spot w) (a_node n) y)))
       ]
 
   pub publish_stays : q < c.layout.passes → IsLawful (after c q (Publish spot w))

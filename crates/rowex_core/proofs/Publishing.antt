@@ -248,7 +248,7 @@ module _ (c : Core) (p : ℕ) (spot : Spot) (w : ℕ) (law : IsLawful c) (l : Is
     lock_then : (n : ℕ) → c.lock n ≡ Some q → (f : Fate) → c.fate (a_node n) ≡ f → MayLock q f → Linking (a_node n) → is_in_tree (next_fate c.past.now p (is_linked (next_tree c spot w) (a_node n)) f) ≡ is_in_tree f
     lock_then n a (InTree s) f m (stays t g e) = rw e refl
     lock_then n a (InTree s) f m (comes g e) = absurd (let x : InTree s ≡ ReadyBy p = sym f ∙ g in cc)
-    lock_then n a (InTree s) f m (out h e same) = absurd (ne (some_pass (sym (l.goes n (s, f) h) ∙ a)))
+    lock_then n a (InTree s) f m (out h e same) = absurd (ne (some_pass (sym (l.goes n s f h) ∙ a)))
     lock_then n a (UnlinkedBy s e o) f m k = unlinked_stays c.past.now p (is_linked (next_tree c spot w) (a_node n)) s e o
     lock_then n a _ f m k = absurd m
 

@@ -4,10 +4,10 @@ use Rattle.std.proofs.lemmas.Bool.{eq-eqb, eqb-true, cases_Bool, false≢true}
 use Rattle.moments.specs.declared.Rec.{Rec}
 use Rattle.moments.specs.declared.Rec.TheVariants.{Node as a_node}
 use Rattle.moments.specs.Core.{Fate}
-use Rattle.moments.specs.Steps.{same_rec}
+use Rattle.moments.specs.Steps.{same_rec, with_fate, with_lock, unlocked}
 use Rattle.moments.proofs.Legal.{same_rec_true}
 use Rattle.rowex_core.specs.Cores.{Core}
-use Rattle.rowex_core.specs.Events.{with_fate, with_word, with_lock, unlocked}
+use Rattle.rowex_core.specs.Events.{with_word}
 use Rattle.rowex_core.specs.Sharing.{Share, share, holding_of, owned, locked, is_by, is_in_tree}
 
 -- two shares of the same parts
@@ -52,12 +52,12 @@ is_by_true q (Some p) e = ap Some (eqb-true p q e)
 -- One record's fate, in the tree neither before nor after
 
 module _ (c : Core) (q : ℕ) (r : Rec) (f : Fate) (before : is_in_tree (c.fate r) ≡ false) (after : is_in_tree f ≡ false) where
-  pub fate_locks : (n : ℕ) → (share q (with_fate c r f)).locks n ≡ (share q c).locks n
+  pub fate_locks : (n : ℕ) → (share q (record c { shared = with_fate c.shared r f })).locks n ≡ (share q c).locks n
   fate_locks n = at_record (λ i x. locked n (c.words (a_node n)) (is_in_tree x && is_by q (c.lock n)) ≡ locked n (c.words (a_node n)) (is_in_tree (c.fate i) && is_by q (c.lock n))) r f c.fate
       (rw (before, after) refl) (λ i e. refl) (a_node n)
 
   -- and in the pass's hands as before
-  pub same_fate : holding_of q f ≡ holding_of q (c.fate r) → share q (with_fate c r f) ≡ share q c
+  pub same_fate : holding_of q f ≡ holding_of q (c.fate r) → share q (record c { shared = with_fate c.shared r f }) ≡ share q c
   same_fate e = same_share
       (at_record (λ i x. owned i (c.words i) (holding_of q x) ≡ owned i (c.words i) (holding_of q (c.fate i))) r f c.fate (ap (owned r (c.words r)) e) (λ i n. refl))
       fate_locks refl refl refl
@@ -76,13 +76,13 @@ same_word c q r offset w out none = same_share
 
 -- The lock of a node
 
-pub same_lock : (c : Core) (q n : ℕ) (o : Option ℕ) → is_by q o ≡ is_by q (c.lock n) → share q (with_lock c n o) ≡ share q c
+pub same_lock : (c : Core) (q n : ℕ) (o : Option ℕ) → is_by q o ≡ is_by q (c.lock n) → share q (record c { shared = with_lock c.shared n o }) ≡ share q c
 same_lock c q n o e = same_share (λ r. refl)
     (at_number (λ i x. locked i (c.words (a_node i)) (is_in_tree (c.fate (a_node i)) && is_by q x) ≡ (share q c).locks i) n o c.lock
     (ap (λ b. locked n (c.words (a_node n)) (is_in_tree (c.fate (a_node n)) && b)) e) (λ i e. refl)) refl refl refl
 
 -- a record that is not in the tree is locked no more
-pub same_unlocked : (c : Core) (q : ℕ) (r : Rec) → is_in_tree (c.fate r) ≡ false → share q (unlocked c r) ≡ share q c
+pub same_unlocked : (c : Core) (q : ℕ) (r : Rec) → is_in_tree (c.fate r) ≡ false → share q (record c { shared = unlocked c.shared r }) ≡ share q c
 same_unlocked c q r out = same_share (λ i. refl)
     (λ n. at_record (λ i x. locked n (c.words (a_node n)) (is_in_tree (c.fate i) && is_by q x) ≡ locked n (c.words (a_node n)) (is_in_tree (c.fate i) && is_by q (c.lock n)))
     r None (λ i. c.lock n) (rw out refl) (λ i e. refl) (a_node n)) refl refl refl

@@ -1,5 +1,5 @@
 -- Each legal step keeps the core lawful.
-use Rattle.std.proofs.Common.{◌≡◌, ◌≢◌, ◌⊎◌, inl, inr, ℕ, suc, ◌+◌, ◌^◌, ◌<◌, ◌≤◌, true, false, if◌then◌else◌, nat_eq, eqb, Option, Some, None, refl, sym, ap, ◌∙◌, subst, arith}
+use Rattle.std.proofs.Common.{◌≡◌, ◌≢◌, ◌⊎◌, inl, inr, ℕ, ◌+◌, ◌^◌, ◌<◌, ◌≤◌, true, false, if◌then◌else◌, nat_eq, eqb, Option, Some, None, refl, sym, ap, ◌∙◌, subst, arith}
 use Rattle.std.specs.Prelude.{IsSome}
 use Rattle.std.proofs.lemmas.Bool.{eqb-true, cases_Bool, false≢true}
 use Rattle.record_words.specs.State.{state_word}
@@ -8,7 +8,7 @@ use Rattle.moments.specs.declared.Rec.TheVariants.{Node as a_node, Leaf as a_lea
 use Rattle.moments.specs.declared.Pin.{Pin}
 use Rattle.moments.specs.declared.Round.{Round}
 use Rattle.moments.specs.Core.{Fate, Free, Held, Ready as ReadyBy, InTree, Unlinked, Marked, has_seen}
-use Rattle.moments.specs.Steps.{same_rec, IsLawfulCore, claims, fills, readies, releases, locks_anchor, unlocks_anchor, locks, unlocks, marks, loads_epoch, advances, pins, unpins, loads_pin, gives_back}
+use Rattle.moments.specs.Steps.{same_rec, IsLawfulCore, claims, fills, readies, releases, locks_anchor, unlocks_anchor, locks, unlocks, marks, loads_epoch, advances, pins, unpins, loads_pin, gives_back, with_fate, with_lock, with_pin, with_round, unlocked, after_mark}
 use Rattle.moments.proofs.Legal.{same_rec_true}
 use Rattle.moments.proofs.Stepping.{step_lawful}
 use Rattle.rowex_core.specs.declared.event.Act.{Act}
@@ -17,14 +17,14 @@ use Rattle.rowex_core.specs.declared.event.Target.TheVariants.{Anchor, Node as N
 use Rattle.rowex_core.specs.Reading.{node_of, leaf_of, IsPacked}
 use Rattle.rowex_core.specs.Cores.{Core, IsLawful, bare, heap_of, HasRecord, IsWhole}
 use Rattle.rowex_core.specs.Words.{tag_of}
-use Rattle.rowex_core.specs.Events.{Legal, after, with_fate, with_lock, with_word, with_pin, with_round, claimed, marked, given_back, anchored, unlocked}
+use Rattle.rowex_core.specs.Events.{Legal, after, with_word, claimed, marked, given_back, anchored, locked_where, advanced}
 use Rattle.rowex_core.proofs.Records.{word_at_record, sized_after}
 use Rattle.rowex_core.proofs.Published.{publish_stays}
 
 -- One record's fate
 
 -- a property of each record and its fate, after one fate has changed
-fate_at : (c : Core) (r : Rec) (f : Fate) (P : Rec → Fate → Type 0) → P r f → ((i : Rec) → same_rec i r ≡ false → P i (c.fate i)) → (i : Rec) → P i ((with_fate c r f).fate i)
+fate_at : (c : Core) (r : Rec) (f : Fate) (P : Rec → Fate → Type 0) → P r f → ((i : Rec) → same_rec i r ≡ false → P i (c.fate i)) → (i : Rec) → P i ((with_fate c.shared r f).fate i)
 fate_at c r f P here there i = go (cases_Bool (same_rec i r))
   where
     go : ((same_rec i r ≡ true) ⊎ (same_rec i r ≡ false)) → P i (if same_rec i r then f else c.fate i)
@@ -44,7 +44,7 @@ new_unlinked f n since last q e = subst IsNew e n
 new_marked : (f : Fate) → IsNew f → (since last epoch : ℕ) → f ≡ Marked since last epoch → ⊥
 new_marked f n since last epoch e = subst IsNew e n
 
-fate_stays : (c : Core) (r : Rec) (f : Fate) → IsLawful c → IsLawfulCore (bare (with_fate c r f)) → HasRecord c.layout r → IsNew f → (IsWhole f → IsPacked r (c.words r)) → IsLawful (with_fate c r f)
+fate_stays : (c : Core) (r : Rec) (f : Fate) → IsLawful c → IsLawfulCore (bare (record c { shared = with_fate c.shared r f })) → HasRecord c.layout r → IsNew f → (IsWhole f → IsPacked r (c.words r)) → IsLawful (record c { shared = with_fate c.shared r f })
 fate_stays c r f law core has new packed = record {
   core = core;
   records = record {
@@ -65,7 +65,7 @@ fate_stays c r f law core has new packed = record {
   makers = law.makers;
 }
 
-claim_stays : (c : Core) (q : ℕ) (r : Rec) (f : Fate) → IsLawful c → HasRecord c.layout r → c.fate r ≡ f → IsLawful (claimed c q r f)
+claim_stays : (c : Core) (q : ℕ) (r : Rec) (f : Fate) → IsLawful c → HasRecord c.layout r → c.fate r ≡ f → IsLawful (record c { shared = claimed c.shared q r f })
 claim_stays c q r Free law has e = fate_stays c r (Held q) law (step_lawful (bare c) q _ law.core (claims r e)) has tt (λ x. absurd x)
 claim_stays c q r (Held p) law has e = law
 claim_stays c q r (ReadyBy p) law has e = law
@@ -74,7 +74,7 @@ claim_stays c q r (Unlinked s l p) law has e = law
 claim_stays c q r (Marked s l p) law has e = law
 
 give_back_stays : (c : Core) (q : ℕ) (r : Rec) (epoch : ℕ) (f : Fate) → IsLawful c → HasRecord c.layout r → c.fate r ≡ f → epoch < (c.rounds q).bound →
-    ((o : ℕ) → o < c.layout.passes → has_seen (c.rounds q).seen o ≡ true) → IsLawful (given_back c r epoch f)
+    ((o : ℕ) → o < c.layout.passes → has_seen (c.rounds q).seen o ≡ true) → IsLawful (record c { shared = given_back c.shared r epoch f })
 give_back_stays c q r epoch Free law has e low seen = law
 give_back_stays c q r epoch (Held p) law has e low seen = law
 give_back_stays c q r epoch (ReadyBy p) law has e low seen = law
@@ -82,19 +82,19 @@ give_back_stays c q r epoch (InTree s) law has e low seen = law
 give_back_stays c q r epoch (Unlinked s l p) law has e low seen = law
 give_back_stays c q r epoch (Marked s l m) law has e low seen = go (cases_Bool (eqb m epoch))
   where
-    go : ((eqb m epoch ≡ true) ⊎ (eqb m epoch ≡ false)) → IsLawful (if nat_eq m epoch then with_fate c r Free else c)
+    go : ((eqb m epoch ≡ true) ⊎ (eqb m epoch ≡ false)) → IsLawful (record c { shared = if nat_eq m epoch then with_fate c.shared r Free else c.shared })
     go (inl x) = rw x (fate_stays c r Free law (step_lawful (bare c) q _ law.core (gives_back r s l m e (let y = eqb-true m epoch x in omega arith)
         (λ o p z. seen o (law.epochs.pinned o p z).0))) has tt (λ y. absurd y))
     go (inr x) = rw x law
 
 mark_stays : (c : Core) (q : ℕ) (r : Rec) (epoch since last : ℕ) → IsLawful c → HasRecord c.layout r → epoch ≡ (c.rounds q).epoch → c.fate r ≡ Unlinked since last q →
-    last < (c.rounds q).moment → IsLawful (with_fate (unlocked c r) r (Marked since last epoch))
+    last < (c.rounds q).moment → IsLawful (record c { shared = after_mark c.shared r since last epoch })
 mark_stays c q r epoch since last law has same e late = record {
-  core = subst (λ z. IsLawfulCore (bare (with_fate (unlocked c r) r (Marked since last z)))) (sym same) (step_lawful (bare c) q _ law.core (marks r since last e late));
+  core = subst (λ z. IsLawfulCore (bare (record c { shared = after_mark c.shared r since last z }))) (sym same) (step_lawful (bare c) q _ law.core (marks r since last e late));
   records = record {
     sized = law.records.sized;
     packed = fate_at c r (Marked since last epoch) (λ i g. IsWhole g → IsPacked i (c.words i)) (λ w. law.records.packed r (subst IsWhole (sym e) tt)) (λ i x. law.records.packed i);
-    retired = λ n s l p. fate_at c r (Marked since last epoch) (λ i g. i ≡ a_node n → g ≡ Unlinked s l p → (unlocked c r).lock n ≡ Some p)
+    retired = λ n s l p. fate_at c r (Marked since last epoch) (λ i g. i ≡ a_node n → g ≡ Unlinked s l p → (unlocked c.shared r).lock n ≡ Some p)
         (λ x y. absurd cc) (λ i x y z. rw (subst (λ v. same_rec v r ≡ false) y x) (law.records.retired n s l p (ap c.fate (sym y) ∙ z))) (a_node n) refl;
     used = fate_at c r (Marked since last epoch) (λ i g. (g ≡ Free) ⊎ HasRecord c.layout i) (inr has) (λ i x. law.records.used i);
   };
@@ -137,12 +137,12 @@ fill_stays c q r offset w law e small = record {
 
 -- Locks
 
-anchor_stays : (c : Core) (q : ℕ) (o : Option ℕ) → IsLawful c → c.anchor ≡ o → IsLawful (anchored c q o)
+anchor_stays : (c : Core) (q : ℕ) (o : Option ℕ) → IsLawful c → c.anchor ≡ o → IsLawful (record c { shared = anchored c.shared q o })
 anchor_stays c q None law e = record { core = step_lawful (bare c) q _ law.core (locks_anchor e); records = law.records; epochs = law.epochs; root = law.root; makers = law.makers }
 anchor_stays c q (Some p) law e = law
 
 -- the lock of a node in the tree
-lock_stays : (c : Core) (n since : ℕ) (o : Option ℕ) → IsLawful c → c.fate (a_node n) ≡ InTree since → IsLawfulCore (bare (with_lock c n o)) → IsLawful (with_lock c n o)
+lock_stays : (c : Core) (n since : ℕ) (o : Option ℕ) → IsLawful c → c.fate (a_node n) ≡ InTree since → IsLawfulCore (bare (record c { shared = with_lock c.shared n o })) → IsLawful (record c { shared = with_lock c.shared n o })
 lock_stays c n since o law e core = record {
   core = core;
   records = record { sized = law.records.sized; packed = law.records.packed; retired = λ i s l q h. go i s l q h (cases_Bool (eqb i n)); used = law.records.used };
@@ -165,14 +165,14 @@ live_unlocked (Some q) f since e h = absurd (let x : 2 ≡ 3 = h ∙ ap (λ z. s
 no_pin : IsSome {T = Pin} None → ⊥
 no_pin h = false≢true h
 
-pin_at : (c : Core) (q : ℕ) (o : Option Pin) (P : ℕ → Option Pin → Type 0) → P q o → ((i : ℕ) → P i (c.pins i)) → (i : ℕ) → P i ((with_pin c q o).pins i)
+pin_at : (c : Core) (q : ℕ) (o : Option Pin) (P : ℕ → Option Pin → Type 0) → P q o → ((i : ℕ) → P i (c.pins i)) → (i : ℕ) → P i ((with_pin c.shared q o).pins i)
 pin_at c q o P here there i = go (cases_Bool (eqb i q))
   where
     go : ((eqb i q ≡ true) ⊎ (eqb i q ≡ false)) → P i (if nat_eq i q then o else c.pins i)
     go (inl e) = rw e (subst (λ z. P z o) (sym (eqb-true i q e)) here)
     go (inr e) = rw e (there i)
 
-pin_stays : (c : Core) (q : ℕ) (o : Option Pin) → IsLawful c → IsLawfulCore (bare (with_pin c q o)) → ((p : Pin) → o ≡ Some p → (q < c.layout.passes) × (1 ≤ p.word)) → IsLawful (with_pin c q o)
+pin_stays : (c : Core) (q : ℕ) (o : Option Pin) → IsLawful c → IsLawfulCore (bare (record c { shared = with_pin c.shared q o })) → ((p : Pin) → o ≡ Some p → (q < c.layout.passes) × (1 ≤ p.word)) → IsLawful (record c { shared = with_pin c.shared q o })
 pin_stays c q o law core new = record {
   core = core;
   records = law.records;
@@ -186,7 +186,7 @@ pin_stays c q o law core new = record {
   makers = law.makers;
 }
 
-round_stays : (c : Core) (q : ℕ) (o : Round) → IsLawful c → IsLawfulCore (bare (with_round c q o)) → (o.moment ≡ 0) ⊎ (1 ≤ o.epoch) → IsLawful (with_round c q o)
+round_stays : (c : Core) (q : ℕ) (o : Round) → IsLawful c → IsLawfulCore (bare (record c { shared = with_round c.shared q o })) → (o.moment ≡ 0) ⊎ (1 ≤ o.epoch) → IsLawful (record c { shared = with_round c.shared q o })
 round_stays c q o law core new = record {
   core = core;
   records = law.records;
@@ -201,10 +201,10 @@ round_stays c q o law core new = record {
 
 -- The epoch
 
-advance_stays : (c : Core) (q expected : ℕ) → IsLawful c → expected + 1 < 2 ^ 60 → IsLawful (if nat_eq c.epoch expected then record c { epoch = suc c.epoch } else c)
+advance_stays : (c : Core) (q expected : ℕ) → IsLawful c → expected + 1 < 2 ^ 60 → IsLawful (record c { shared = advanced c.shared expected })
 advance_stays c q expected law low = go (cases_Bool (eqb c.epoch expected))
   where
-    go : ((eqb c.epoch expected ≡ true) ⊎ (eqb c.epoch expected ≡ false)) → IsLawful (if nat_eq c.epoch expected then record c { epoch = suc c.epoch } else c)
+    go : ((eqb c.epoch expected ≡ true) ⊎ (eqb c.epoch expected ≡ false)) → IsLawful (record c { shared = advanced c.shared expected })
     go (inr e) = rw e law
     go (inl e) = rw e (record {
       core = step_lawful (bare c) q _ law.core advances;
@@ -225,7 +225,7 @@ stays_lawful c q (LoadFixed r offset w) law l = law
 stays_lawful c q (Lock Anchor found) law l = anchor_stays c q c.anchor law refl
 stays_lawful c q (Lock (NodeTarget n) found) law (a, b) = go (cases_Bool (eqb found 2))
   where
-    go : ((eqb found 2 ≡ true) ⊎ (eqb found 2 ≡ false)) → IsLawful (if nat_eq found 2 then with_lock c n (Some q) else c)
+    go : ((eqb found 2 ≡ true) ⊎ (eqb found 2 ≡ false)) → IsLawful (record c { shared = locked_where c.shared n q found })
     go (inr e) = rw e law
     go (inl e) =
         let live : found ≡ 2 = eqb-true found 2 e in
@@ -234,15 +234,15 @@ stays_lawful c q (Lock (NodeTarget n) found) law (a, b) = go (cases_Bool (eqb fo
 stays_lawful c q (Unlock Anchor) law (a, b) = record { core = step_lawful (bare c) q _ law.core (unlocks_anchor b); records = law.records; epochs = law.epochs; root = law.root; makers = law.makers }
 stays_lawful c q (Unlock (NodeTarget n)) law (a, b) = lock_stays c n b.2.0 None law b.2.1 (step_lawful (bare c) q _ law.core (unlocks n b.2.0 b.1 b.2.1))
 stays_lawful c q (Publish spot w) law (a, b) = publish_stays c q spot w law b a
-stays_lawful c q (Mark r epoch) law (a, b) = subst (λ f. IsLawful (marked c r epoch f)) (sym b.2.2) (mark_stays c q r epoch b.2.0 b.2.1 law b.0 b.1 b.2.2 b.2.3)
+stays_lawful c q (Mark r epoch) law (a, b) = subst (λ f. IsLawful (record c { shared = marked c.shared r epoch f })) (sym b.2.2) (mark_stays c q r epoch b.2.0 b.2.1 law b.0 b.1 b.2.2 b.2.3)
 stays_lawful c q (LoadEpoch w) law l = round_stays c q _ law (step_lawful (bare c) q _ law.core loads_epoch) (inr law.epochs.now.0)
 stays_lawful c q (Advance expected found) law (a, b) = advance_stays c q expected law b.1
 stays_lawful c q (SetPin w) law (a, b) =
-    subst (λ z. IsLawful (with_pin c q (Some (record { word = z; moment = c.past.now; floor = c.epoch })))) (sym b.1)
+    subst (λ z. IsLawful (record c { shared = with_pin c.shared q (Some (record { word = z; moment = c.past.now; floor = c.epoch })) })) (sym b.1)
     (pin_stays c q _ law (step_lawful (bare c) q _ law.core (pins b.0)) (λ p e. (a, subst (λ (z : Pin). 1 ≤ z.word) (let x : (record { word = (c.rounds q).epoch; moment = c.past.now; floor = c.epoch }) ≡ p = cc in x) (let y = b.1 in let z = b.2 in omega arith))))
 stays_lawful c q ClearPin law (a, b) = go (c.pins q) refl b
   where
-    go : (o : Option Pin) → c.pins q ≡ o → IsSome o → IsLawful (with_pin c q None)
+    go : (o : Option Pin) → c.pins q ≡ o → IsSome o → IsLawful (record c { shared = with_pin c.shared q None })
     go None e h = absurd (no_pin h)
     go (Some p) e h = pin_stays c q None law (step_lawful (bare c) q _ law.core (unpins p e)) (λ z x. absurd cc)
 stays_lawful c q (LoadPin o w) law l = round_stays c q _ law (step_lawful (bare c) q _ law.core (loads_pin o)) (law.epochs.loads q)

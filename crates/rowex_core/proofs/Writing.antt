@@ -15,7 +15,7 @@ use Rattle.moments.specs.declared.Rec.TheVariants.{Node as a_node, Leaf as a_lea
 use Rattle.moments.specs.declared.Pin.{Pin}
 use Rattle.moments.specs.declared.Round.{Round}
 use Rattle.moments.specs.Core.{Fate, Free, Held, Ready as ReadyBy, InTree, Unlinked, Marked}
-use Rattle.moments.specs.Steps.{same_rec, is_linked, next_fate, MayLock}
+use Rattle.moments.specs.Steps.{same_rec, is_linked, next_fate, MayLock, with_fate, with_lock, with_pin, with_round, with_anchor, with_epoch, after_mark}
 use Rattle.moments.proofs.Legal.{same_rec_refl, same_rec_true}
 use Rattle.rowex_core.specs.declared.event.Act.{Act}
 use Rattle.rowex_core.specs.declared.event.Act.TheVariants.{Claim, Fill, Ready, Release, LoadRef, LoadFixed, Lock, Unlock, Publish, Mark, LoadEpoch, Advance, SetPin, ClearPin, LoadPin, LoadState, GiveBack}
@@ -24,7 +24,7 @@ use Rattle.rowex_core.specs.declared.event.Spot.{Spot}
 use Rattle.rowex_core.specs.declared.event.Spot.TheVariants.{Root, Slot}
 use Rattle.rowex_core.specs.Cores.{Core, IsLawful, HasRecord}
 use Rattle.rowex_core.specs.Words.{lock_tag, tag_of, lock_of, state_at, pin_word, record_word, word_at, Shows}
-use Rattle.rowex_core.specs.Events.{Legal, after, with_fate, with_lock, with_word, with_pin, with_round, claimed, marked, given_back, anchored, unlocked, stored_words, next_tree, IsInTree, IsOffset, IsLegalPublish, word_of, spot_word, location_of, exchanged, writes}
+use Rattle.rowex_core.specs.Events.{Legal, after, with_word, claimed, marked, given_back, anchored, stored_words, next_tree, IsInTree, IsOffset, IsLegalPublish, word_of, spot_word, location_of, exchanged, writes, locked_where, advanced}
 
 -- From core c to core d the word at this location becomes w, and every other one stays.
 pub record IsWrite (c d : Core) (location : Location) (w : ℕ) : Type 0 where
@@ -78,24 +78,24 @@ state_write c d r w layout epoch root anchor pins words here there = record_writ
     other i (suc o) e = ap (λ z. get_or z o 0) (words i)
 
 -- a record's fate
-fate_write : (c : Core) (r : Rec) (f : Fate) (w : ℕ) → state_word (tag_of (lock_of c r) f) ≡ w → IsWrite c (with_fate c r f) (word_of r 0) w
-fate_write c r f w e = state_write c (with_fate c r f) r w refl refl refl refl (λ q. refl) (λ i. refl) (rw (same_rec_refl r) e) (λ i x. rw x refl)
+fate_write : (c : Core) (r : Rec) (f : Fate) (w : ℕ) → state_word (tag_of (lock_of c r) f) ≡ w → IsWrite c (record c { shared = with_fate c.shared r f }) (word_of r 0) w
+fate_write c r f w e = state_write c (record c { shared = with_fate c.shared r f }) r w refl refl refl refl (λ q. refl) (λ i. refl) (rw (same_rec_refl r) e) (λ i x. rw x refl)
 
 -- a node's lock
-lock_write : (c : Core) (n : ℕ) (o : Option ℕ) (w : ℕ) → state_word (tag_of o (c.fate (a_node n))) ≡ w → IsWrite c (with_lock c n o) (NodeWord n 0) w
-lock_write c n o w e = state_write c (with_lock c n o) (a_node n) w refl refl refl refl (λ q. refl) (λ i. refl) (rw (eq-eqb n n refl) e) other
+lock_write : (c : Core) (n : ℕ) (o : Option ℕ) (w : ℕ) → state_word (tag_of o (c.fate (a_node n))) ≡ w → IsWrite c (record c { shared = with_lock c.shared n o }) (NodeWord n 0) w
+lock_write c n o w e = state_write c (record c { shared = with_lock c.shared n o }) (a_node n) w refl refl refl refl (λ q. refl) (λ i. refl) (rw (eq-eqb n n refl) e) other
   where
-    other : (i : Rec) → same_rec i (a_node n) ≡ false → state_at (with_lock c n o) i ≡ state_at c i
+    other : (i : Rec) → same_rec i (a_node n) ≡ false → state_at (record c { shared = with_lock c.shared n o }) i ≡ state_at c i
     other (a_node i) x = rw x refl
     other (a_leaf i) x = refl
 
-mark_write : (c : Core) (r : Rec) (since last epoch : ℕ) → IsWrite c (with_fate (unlocked c r) r (Marked since last epoch)) (word_of r 0) (8 * epoch + 4)
+mark_write : (c : Core) (r : Rec) (since last epoch : ℕ) → IsWrite c (record c { shared = after_mark c.shared r since last epoch }) (word_of r 0) (8 * epoch + 4)
 mark_write c r since last epoch = state_write c d r _ refl refl refl refl (λ q. refl) (λ i. refl) (rw (same_rec_refl r) refl) other
   where
     d : Core
-    d = with_fate (unlocked c r) r (Marked since last epoch)
+    d = record c { shared = after_mark c.shared r since last epoch }
 
-    other : (i : Rec) → same_rec i r ≡ false → state_at (with_fate (unlocked c r) r (Marked since last epoch)) i ≡ state_at c i
+    other : (i : Rec) → same_rec i r ≡ false → state_at (record c { shared = after_mark c.shared r since last epoch }) i ≡ state_at c i
     other (a_node i) x = rw x refl
     other (a_leaf i) x = rw x refl
 
@@ -119,10 +119,10 @@ fill_write c r offset w low high = record_write c (record c { words = with_word 
 
 -- Other words
 
-anchor_write : (c : Core) (o : Option ℕ) (w : ℕ) → state_word (lock_tag o) ≡ w → IsWrite c (record c { anchor = o }) AnchorWord w
+anchor_write : (c : Core) (o : Option ℕ) (w : ℕ) → state_word (lock_tag o) ≡ w → IsWrite c (record c { shared = with_anchor c.shared o }) AnchorWord w
 anchor_write c o w e = record { layout = refl; here = e; others = others }
   where
-    others : (other : Location) → other ≢ AnchorWord → word_at (record c { anchor = o }) other ≡ word_at c other
+    others : (other : Location) → other ≢ AnchorWord → word_at (record c { shared = with_anchor c.shared o }) other ≡ word_at c other
     others Epoch ne = refl
     others RootWord ne = refl
     others AnchorWord ne = absurd (ne refl)
@@ -130,10 +130,10 @@ anchor_write c o w e = record { layout = refl; here = e; others = others }
     others (NodeWord n o) ne = refl
     others (LeafWord n o) ne = refl
 
-epoch_write : (c : Core) (e w : ℕ) → e ≡ w → IsWrite c (record c { epoch = e }) Epoch w
+epoch_write : (c : Core) (e w : ℕ) → e ≡ w → IsWrite c (record c { shared = with_epoch c.shared e }) Epoch w
 epoch_write c e w same = record { layout = refl; here = same; others = others }
   where
-    others : (other : Location) → other ≢ Epoch → word_at (record c { epoch = e }) other ≡ word_at c other
+    others : (other : Location) → other ≢ Epoch → word_at (record c { shared = with_epoch c.shared e }) other ≡ word_at c other
     others Epoch ne = absurd (ne refl)
     others RootWord ne = refl
     others AnchorWord ne = refl
@@ -141,10 +141,10 @@ epoch_write c e w same = record { layout = refl; here = same; others = others }
     others (NodeWord n o) ne = refl
     others (LeafWord n o) ne = refl
 
-pin_write : (c : Core) (q : ℕ) (o : Option Pin) (w : ℕ) → pin_word o ≡ w → IsWrite c (with_pin c q o) (PinOf q) w
+pin_write : (c : Core) (q : ℕ) (o : Option Pin) (w : ℕ) → pin_word o ≡ w → IsWrite c (record c { shared = with_pin c.shared q o }) (PinOf q) w
 pin_write c q o w e = record { layout = refl; here = rw (eq-eqb q q refl) e; others = others }
   where
-    others : (other : Location) → other ≢ PinOf q → word_at (with_pin c q o) other ≡ word_at c other
+    others : (other : Location) → other ≢ PinOf q → word_at (record c { shared = with_pin c.shared q o }) other ≡ word_at c other
     others Epoch ne = refl
     others RootWord ne = refl
     others AnchorWord ne = refl
@@ -153,10 +153,10 @@ pin_write c q o w e = record { layout = refl; here = rw (eq-eqb q q refl) e; oth
     others (LeafWord n o) ne = refl
 
 -- rounds stand in no word
-round_write : (c : Core) (q : ℕ) (o : Round) (location : Location) (w : ℕ) → word_at c location ≡ w → IsWrite c (with_round c q o) location w
+round_write : (c : Core) (q : ℕ) (o : Round) (location : Location) (w : ℕ) → word_at c location ≡ w → IsWrite c (record c { shared = with_round c.shared q o }) location w
 round_write c q o location w e = record { layout = refl; here = same location ∙ e; others = λ other ne. same other }
   where
-    same : (other : Location) → word_at (with_round c q o) other ≡ word_at c other
+    same : (other : Location) → word_at (record c { shared = with_round c.shared q o }) other ≡ word_at c other
     same Epoch = refl
     same RootWord = refl
     same AnchorWord = refl
@@ -177,8 +177,8 @@ lock_small : (o : Option ℕ) → (2 ≤ state_word (lock_tag o)) × (state_word
 lock_small None = (omega arith, omega arith)
 lock_small (Some q) = (omega arith, omega arith)
 
-claim_write : (c : Core) (q : ℕ) (r : Rec) (f : Fate) → c.fate r ≡ f → IsWrite c (claimed c q r f) (word_of r 0) (exchanged (word_at c (word_of r 0)) 0 1)
-claim_write c q r f e = subst (λ z. IsWrite c (claimed c q r f) (word_of r 0) (exchanged z 0 1)) (sym stands) (go f e)
+claim_write : (c : Core) (q : ℕ) (r : Rec) (f : Fate) → c.fate r ≡ f → IsWrite c (record c { shared = claimed c.shared q r f }) (word_of r 0) (exchanged (word_at c (word_of r 0)) 0 1)
+claim_write c q r f e = subst (λ z. IsWrite c (record c { shared = claimed c.shared q r f }) (word_of r 0) (exchanged z 0 1)) (sym stands) (go f e)
   where
     stands : word_at c (word_of r 0) ≡ state_word (tag_of (lock_of c r) f)
     stands = first_word c r ∙ ap (λ z. state_word (tag_of (lock_of c r) z)) e
@@ -186,7 +186,7 @@ claim_write c q r f e = subst (λ z. IsWrite c (claimed c q r f) (word_of r 0) (
     stay : (g : Fate) → c.fate r ≡ g → state_word (tag_of (lock_of c r) g) ≢ 0 → IsWrite c c (word_of r 0) (exchanged (state_word (tag_of (lock_of c r) g)) 0 1)
     stay g x ne = nothing c (word_of r 0) _ (first_word c r ∙ (ap (λ z. state_word (tag_of (lock_of c r) z)) x ∙ sym (exchanged_not _ 0 1 ne)))
 
-    go : (g : Fate) → c.fate r ≡ g → IsWrite c (claimed c q r g) (word_of r 0) (exchanged (state_word (tag_of (lock_of c r) g)) 0 1)
+    go : (g : Fate) → c.fate r ≡ g → IsWrite c (record c { shared = claimed c.shared q r g }) (word_of r 0) (exchanged (state_word (tag_of (lock_of c r) g)) 0 1)
     go Free x = fate_write c r (Held q) 1 refl
     go (Held p) x = stay (Held p) x (λ z. omega arith)
     go (ReadyBy p) x = stay (ReadyBy p) x (λ z. let y = lock_small (lock_of c r) in omega arith)
@@ -194,8 +194,8 @@ claim_write c q r f e = subst (λ z. IsWrite c (claimed c q r f) (word_of r 0) (
     go (Unlinked s l p) x = stay (Unlinked s l p) x (λ z. let y = lock_small (lock_of c r) in omega arith)
     go (Marked s l p) x = stay (Marked s l p) x (λ z. omega arith)
 
-give_back_write : (c : Core) (r : Rec) (epoch : ℕ) (f : Fate) → c.fate r ≡ f → IsWrite c (given_back c r epoch f) (word_of r 0) (exchanged (word_at c (word_of r 0)) (8 * epoch + 4) 0)
-give_back_write c r epoch f e = subst (λ z. IsWrite c (given_back c r epoch f) (word_of r 0) (exchanged z (8 * epoch + 4) 0)) (sym stands) (go f e)
+give_back_write : (c : Core) (r : Rec) (epoch : ℕ) (f : Fate) → c.fate r ≡ f → IsWrite c (record c { shared = given_back c.shared r epoch f }) (word_of r 0) (exchanged (word_at c (word_of r 0)) (8 * epoch + 4) 0)
+give_back_write c r epoch f e = subst (λ z. IsWrite c (record c { shared = given_back c.shared r epoch f }) (word_of r 0) (exchanged z (8 * epoch + 4) 0)) (sym stands) (go f e)
   where
     stands : word_at c (word_of r 0) ≡ state_word (tag_of (lock_of c r) f)
     stands = first_word c r ∙ ap (λ z. state_word (tag_of (lock_of c r) z)) e
@@ -203,7 +203,7 @@ give_back_write c r epoch f e = subst (λ z. IsWrite c (given_back c r epoch f) 
     stay : (g : Fate) → c.fate r ≡ g → state_word (tag_of (lock_of c r) g) ≢ 8 * epoch + 4 → IsWrite c c (word_of r 0) (exchanged (state_word (tag_of (lock_of c r) g)) (8 * epoch + 4) 0)
     stay g x ne = nothing c (word_of r 0) _ (first_word c r ∙ (ap (λ z. state_word (tag_of (lock_of c r) z)) x ∙ sym (exchanged_not _ (8 * epoch + 4) 0 ne)))
 
-    go : (g : Fate) → c.fate r ≡ g → IsWrite c (given_back c r epoch g) (word_of r 0) (exchanged (state_word (tag_of (lock_of c r) g)) (8 * epoch + 4) 0)
+    go : (g : Fate) → c.fate r ≡ g → IsWrite c (record c { shared = given_back c.shared r epoch g }) (word_of r 0) (exchanged (state_word (tag_of (lock_of c r) g)) (8 * epoch + 4) 0)
     go Free x = stay Free x (λ z. omega arith)
     go (Held p) x = stay (Held p) x (λ z. omega arith)
     go (ReadyBy p) x = stay (ReadyBy p) x (λ z. let y = lock_small (lock_of c r) in omega arith)
@@ -211,33 +211,33 @@ give_back_write c r epoch f e = subst (λ z. IsWrite c (given_back c r epoch f) 
     go (Unlinked s l p) x = stay (Unlinked s l p) x (λ z. let y = lock_small (lock_of c r) in omega arith)
     go (Marked s l m) x = at (cases_Bool (eqb m epoch))
       where
-        at : ((eqb m epoch ≡ true) ⊎ (eqb m epoch ≡ false)) → IsWrite c (if nat_eq m epoch then with_fate c r Free else c) (word_of r 0) (exchanged (8 * m + 4) (8 * epoch + 4) 0)
-        at (inl y) = rw y (subst (IsWrite c (with_fate c r Free) (word_of r 0)) (sym (exchanged_here (8 * m + 4) (8 * epoch + 4) 0 (let z = eqb-true m epoch y in omega arith))) (fate_write c r Free 0 refl))
+        at : ((eqb m epoch ≡ true) ⊎ (eqb m epoch ≡ false)) → IsWrite c (record c { shared = if nat_eq m epoch then with_fate c.shared r Free else c.shared }) (word_of r 0) (exchanged (8 * m + 4) (8 * epoch + 4) 0)
+        at (inl y) = rw y (subst (IsWrite c (record c { shared = with_fate c.shared r Free }) (word_of r 0)) (sym (exchanged_here (8 * m + 4) (8 * epoch + 4) 0 (let z = eqb-true m epoch y in omega arith))) (fate_write c r Free 0 refl))
         at (inr y) = rw y (stay (Marked s l m) x (λ z. false≢true (sym y ∙ eq-eqb m epoch (omega arith))))
 
-anchored_write : (c : Core) (q : ℕ) (o : Option ℕ) → c.anchor ≡ o → IsWrite c (anchored c q o) AnchorWord (exchanged (state_word (lock_tag c.anchor)) 2 3)
-anchored_write c q o e = subst (λ z. IsWrite c (anchored c q o) AnchorWord (exchanged (state_word (lock_tag z)) 2 3)) (sym e) (go o e)
+anchored_write : (c : Core) (q : ℕ) (o : Option ℕ) → c.anchor ≡ o → IsWrite c (record c { shared = anchored c.shared q o }) AnchorWord (exchanged (state_word (lock_tag c.anchor)) 2 3)
+anchored_write c q o e = subst (λ z. IsWrite c (record c { shared = anchored c.shared q o }) AnchorWord (exchanged (state_word (lock_tag z)) 2 3)) (sym e) (go o e)
   where
-    go : (o : Option ℕ) → c.anchor ≡ o → IsWrite c (anchored c q o) AnchorWord (exchanged (state_word (lock_tag o)) 2 3)
+    go : (o : Option ℕ) → c.anchor ≡ o → IsWrite c (record c { shared = anchored c.shared q o }) AnchorWord (exchanged (state_word (lock_tag o)) 2 3)
     go None x = anchor_write c (Some q) 3 refl
     go (Some p) x = nothing c AnchorWord 3 (ap (λ z. state_word (lock_tag z)) x)
 
 lock_exchange : (c : Core) (q n found : ℕ) → found ≡ state_at c (a_node n) → (found ≡ 2 → IsInTree c n) →
-    IsWrite c (if nat_eq found 2 then with_lock c n (Some q) else c) (NodeWord n 0) (exchanged (state_at c (a_node n)) 2 3)
+    IsWrite c (record c { shared = locked_where c.shared n q found }) (NodeWord n 0) (exchanged (state_at c (a_node n)) 2 3)
 lock_exchange c q n found e live = go (cases_Bool (eqb found 2))
   where
-    go : ((eqb found 2 ≡ true) ⊎ (eqb found 2 ≡ false)) → IsWrite c (if nat_eq found 2 then with_lock c n (Some q) else c) (NodeWord n 0) (exchanged (state_at c (a_node n)) 2 3)
+    go : ((eqb found 2 ≡ true) ⊎ (eqb found 2 ≡ false)) → IsWrite c (record c { shared = locked_where c.shared n q found }) (NodeWord n 0) (exchanged (state_at c (a_node n)) 2 3)
     go (inl x) =
         let two = eqb-true found 2 x in
-        rw x (subst (IsWrite c (with_lock c n (Some q)) (NodeWord n 0)) (sym (exchanged_here (state_at c (a_node n)) 2 3 (sym e ∙ two)))
+        rw x (subst (IsWrite c (record c { shared = with_lock c.shared n (Some q) }) (NodeWord n 0)) (sym (exchanged_here (state_at c (a_node n)) 2 3 (sym e ∙ two)))
         (lock_write c n (Some q) 3 (ap (λ z. state_word (tag_of (Some q) z)) (live two).1)))
     go (inr x) = rw x (nothing c (NodeWord n 0) _ (sym (exchanged_not (state_at c (a_node n)) 2 3 (λ z. false≢true (sym x ∙ eq-eqb found 2 (e ∙ z))))))
 
-advance_write : (c : Core) (expected : ℕ) → IsWrite c (if nat_eq c.epoch expected then record c { epoch = suc c.epoch } else c) Epoch (exchanged c.epoch expected (expected + 1))
+advance_write : (c : Core) (expected : ℕ) → IsWrite c (record c { shared = advanced c.shared expected }) Epoch (exchanged c.epoch expected (expected + 1))
 advance_write c expected = go (cases_Bool (eqb c.epoch expected))
   where
     go : ((eqb c.epoch expected ≡ true) ⊎ (eqb c.epoch expected ≡ false)) →
-        IsWrite c (if nat_eq c.epoch expected then record c { epoch = suc c.epoch } else c) Epoch (if nat_eq c.epoch expected then expected + 1 else c.epoch)
+        IsWrite c (record c { shared = advanced c.shared expected }) Epoch (if nat_eq c.epoch expected then expected + 1 else c.epoch)
     go (inl x) = rw x (epoch_write c (suc c.epoch) (expected + 1) (let y = eqb-true c.epoch expected x in omega arith))
     go (inr x) = rw x (nothing c Epoch c.epoch refl)
 
@@ -323,7 +323,7 @@ step_writes c q (Lock (NodeTarget n) found) law (a, b) = lock_exchange c q n fou
 step_writes c q (Unlock Anchor) law l = anchor_write c None 2 refl
 step_writes c q (Unlock (NodeTarget n)) law (a, b) = lock_write c n None 2 (ap (λ z. state_word (tag_of None z)) b.2.1)
 step_writes c q (Publish spot w) law (a, b) = publish_write c q spot w law b
-step_writes c q (Mark r epoch) law (a, b) = subst (λ f. IsWrite c (marked c r epoch f) (word_of r 0) (8 * epoch + 4)) (sym b.2.2) (mark_write c r b.2.0 b.2.1 epoch)
+step_writes c q (Mark r epoch) law (a, b) = subst (λ f. IsWrite c (record c { shared = marked c.shared r epoch f }) (word_of r 0) (8 * epoch + 4)) (sym b.2.2) (mark_write c r b.2.0 b.2.1 epoch)
 step_writes c q (LoadEpoch w) law l = round_write c q _ Epoch _ refl
 step_writes c q (Advance expected found) law l = advance_write c expected
 step_writes c q (SetPin w) law l = pin_write c q _ w refl

@@ -4,15 +4,18 @@ use Rattle.compound_node.specs.declared.entries.Entry.{Entry}
 use Rattle.hot_model.specs.declared.Change.{Change}
 use Rattle.hot_model.specs.declared.Note.{Note}
 use Rattle.hot_model.specs.Fronts.{BeginsWith, OthersGoOn}
+use Rattle.record_words.specs.declared.TheConstants.{FIRST_ENTRY}
 use Rattle.record_words.specs.declared.layout.Location.{Location}
 use Rattle.record_words.specs.declared.layout.Layout.{Layout}
+use Rattle.record_words.specs.declared.state.Tag.TheVariants.{Live}
+use Rattle.record_words.specs.State.{state_word}
 use Rattle.tries.specs.Tree.{Tree, node, leaf, fork}
 use Rattle.moments.specs.declared.Rec.{Rec}
 use Rattle.moments.specs.declared.Rec.TheVariants.{Node as a_node, Leaf as a_leaf}
 use Rattle.moments.specs.declared.Pin.{Pin}
 use Rattle.moments.specs.State.{Past, Stands}
 use Rattle.moments.specs.Core.{Fate, Free, InTree}
-use Rattle.moments.specs.Steps.{same_rec, is_linked, lowered}
+use Rattle.moments.specs.Steps.{same_rec, is_linked, begun_round, with_seen}
 use Rattle.rowex_core.specs.declared.event.Act.{Act}
 use Rattle.rowex_core.specs.declared.event.Act.TheVariants.{Claim, Fill, Ready, Release, LoadRef, LoadFixed, Lock, Unlock, Publish, Mark, LoadEpoch, Advance, SetPin, ClearPin, LoadPin, LoadState, GiveBack}
 use Rattle.rowex_core.specs.declared.event.Target.TheVariants.{Anchor, Node as NodeTarget}
@@ -24,6 +27,7 @@ use Rattle.rowex_core.specs.declared.known.Holding.{Holding}
 use Rattle.rowex_core.specs.declared.known.Holding.TheVariants.{Held, Ready as IsReady, Unlinked}
 use Rattle.rowex_core.specs.declared.known.Owned.{Owned}
 use Rattle.rowex_core.specs.declared.known.Locked.{Locked}
+use Rattle.rowex_core.specs.declared.known.Failed.{Failed}
 use Rattle.rowex_core.specs.declared.known.Known.{Known}
 use Rattle.rowex_core.specs.declared.known.View.{View}
 use Rattle.rowex_core.specs.declared.known.View.TheVariants.{Spent, Dealer, Pass, Pair}
@@ -31,7 +35,7 @@ use Rattle.rowex_core.specs.Cores.{Core, IsLawful}
 use Rattle.rowex_core.specs.Reading.{entry_of, root_of, entry_in, word_in}
 use Rattle.rowex_core.specs.Sharing.{share, known_share, nothing}
 use Rattle.rowex_core.specs.Words.{record_word}
-use Rattle.rowex_core.specs.Events.{Legal, stored_words, stored_root, next_change, next_tree, word_of, target_word}
+use Rattle.rowex_core.specs.Events.{Legal, stored_words, stored_root, next_change, next_tree, state_of, target_word}
 
 -- Facts of past moments
 
@@ -59,11 +63,16 @@ pub record HasSeen (q : ℕ) (past : Past) (changes : List Change) (seen last : 
   pub fresh : BeginsWith seen last
   pub facts : All (IsFact past) known
 
--- What the pass knows is true of the core, and what it knows that it has is all that it has. Its last load of the root was a
--- step before its next one.
+-- The steps whose numbers it remembers, its last load of the root and the locks and claims that failed, came before step
+-- number `next`.
+pub record AreCounted (next last : ℕ) (failures : List Failed) : Type 0 where
+  pub loaded : last < next
+  pub failed : All (λ f. f.step < next) failures
+
+-- What the pass knows is true of the core, what it knows that it has is all that it has, and its steps are counted.
 pub record Knows (c : Core) (k : Known) : Type 0 where
   pub pass : k.pass < c.layout.passes
-  pub loaded : k.fresh.step < k.steps
+  pub counted : AreCounted k.steps k.fresh.step k.failed
   pub seen : HasSeen k.pass c.past c.changes k.front k.fresh.front k.facts
   pub own : share k.pass c ≡ known_share k
 
@@ -118,7 +127,7 @@ without_lock n locks = filter (λ l. not (nat_eq l.node n)) locks
 
 abbrev pub claim_learned : Core → Rec → ℕ → Fate → Known → Known
 claim_learned c r found Free k = record k { own = record { rec = r; holding = Held; words = c.words r } ∷ k.own }
-claim_learned c r found _ k = failed_with k (word_of r 0) found
+claim_learned c r found _ k = failed_with k (state_of r) found
 
 abbrev pub anchor_learned : Core → ℕ → Option ℕ → Known → Known
 anchor_learned c found None k = record k { anchor = Some c.root }
@@ -126,7 +135,7 @@ anchor_learned c found (Some q) k = failed_with k (target_word Anchor) found
 
 abbrev pub node_learned : Core → ℕ → ℕ → Known → Known
 node_learned c n found k =
-    if nat_eq found 2 then record k { locks = record { node = n; words = c.words (a_node n) } ∷ k.locks }
+    if nat_eq found (state_word Live) then record k { locks = record { node = n; words = c.words (a_node n) } ∷ k.locks }
     else failed_with k (target_word (NodeTarget n)) found
 
 abbrev pub entry_learned : Core → Spot → Known → Known
@@ -137,7 +146,7 @@ entry_learned c Root k = record k {
 }
 entry_learned c (Slot n j) k = record k {
   front = c.changes;
-  facts = facts_with k.pin (λ since. Placed since c.past.now n j (entry_of (record_word c (a_node n) (26 + j)))) k.facts;
+  facts = facts_with k.pin (λ since. Placed since c.past.now n j (entry_of (record_word c (a_node n) (FIRST_ENTRY + j)))) k.facts;
 }
 
 -- the records of a tree
@@ -193,18 +202,11 @@ learned_by c (Unlock Anchor) k = record k { anchor = None }
 learned_by c (Unlock (NodeTarget n)) k = record k { locks = without_lock n k.locks }
 learned_by c (Publish spot w) k = publish_learned c spot w k
 learned_by c (Mark r epoch) k = record k { own = without_record r k.own }
-learned_by c (LoadEpoch w) k = record k { round = record { epoch = c.epoch; moment = c.past.now; bound = c.epoch; seen = [] } }
+learned_by c (LoadEpoch w) k = record k { round = begun_round c.epoch c.past.now }
 learned_by c (Advance expected found) k = k
 learned_by c (SetPin w) k = record k { pin = Some (record { word = w; moment = c.past.now; floor = c.epoch }) }
 learned_by c ClearPin k = record k { pin = None }
-learned_by c (LoadPin o w) k = record k {
-  round = record {
-    epoch = k.round.epoch;
-    moment = k.round.moment;
-    bound = lowered k.round.bound (c.pins o);
-    seen = o ∷ k.round.seen;
-  };
-}
+learned_by c (LoadPin o w) k = record k { round = with_seen k.round o (c.pins o) }
 learned_by c (LoadState r w) k = k
 learned_by c (GiveBack r epoch found) k = k
 

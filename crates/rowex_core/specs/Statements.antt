@@ -1,5 +1,5 @@
 -- The laws of the core.
-use Rattle.std.specs.Prelude.{◌≡◌, ◌≢◌, ℕ, ◌<◌, ◌≤◌, List, [], ◌∷◌, ◌++◌, set, Some}
+use Rattle.std.specs.Prelude.{◌≡◌, ◌≢◌, ℕ, suc, ◌+◌, ◌<◌, ◌≤◌, List, [], ◌∷◌, ◌++◌, set, Some}
 use Rattle.compound_node.specs.declared.entries.Entry.TheVariants.{Node}
 use Rattle.hot_model.specs.declared.Call.{Call}
 use Rattle.hot_model.specs.declared.Call.TheVariants.{Upsert, Remove}
@@ -8,15 +8,18 @@ use Rattle.hot_model.specs.declared.Kind.{Kind}
 use Rattle.hot_model.specs.declared.Kind.TheVariants.{Added, Replaced, Removed}
 use Rattle.hot_model.specs.Maps.{map_after}
 use Rattle.hot_model.specs.Fronts.{map_of, Fits}
+use Rattle.record_words.specs.declared.TheConstants.{FIRST_ENTRY, MAX_ENTRIES}
 use Rattle.record_words.specs.Layout.{address}
 use Rattle.record_words.specs.declared.layout.Layout.{Layout}
+use Rattle.record_words.specs.declared.state.Tag.TheVariants.{Live}
+use Rattle.record_words.specs.State.{state_word}
 use Rattle.tries.specs.Keys.{Key, IsParted}
 use Rattle.tries.specs.Tree.{Fixed, Tree, node, page, IsTrie, IsBuilt}
 use Rattle.tries.specs.Search.{seek, between, IsUnder}
 use Rattle.moments.specs.declared.Rec.{Rec}
 use Rattle.moments.specs.declared.Rec.TheVariants.{Node as a_node}
 use Rattle.moments.specs.declared.Pin.{Pin}
-use Rattle.moments.specs.State.{Spans, Stands, IsLed, IsTop}
+use Rattle.moments.specs.State.{Past, Spans, Stands, IsSame, IsLed, IsTop}
 use Rattle.moments.specs.Core.{Free, Held, life_of}
 use Rattle.moments.specs.Told.{content, items_of, IsChange}
 use Rattle.rowex_core.specs.declared.event.Act.{Act}
@@ -26,11 +29,12 @@ use Rattle.rowex_core.specs.declared.event.Spot.{Spot}
 use Rattle.rowex_core.specs.declared.known.Known.{Known}
 use Rattle.rowex_core.specs.declared.known.View.{View}
 use Rattle.rowex_core.specs.declared.known.View.TheVariants.{Dealer}
-use Rattle.rowex_core.specs.Reading.{node_of, word_in}
+use Rattle.rowex_core.specs.Reading.{entry_of, node_of, entry_in, word_in}
 use Rattle.rowex_core.specs.Cores.{Core, IsLawful, heap_of}
 use Rattle.rowex_core.specs.Words.{record_word, word_at, Shows}
 use Rattle.rowex_core.specs.Events.{IsFixedOffset, Legal, after, location_of, writes, stored_words, stored_root, next_tree, next_change}
 use Rattle.rowex_core.specs.Sharing.{HasAll}
+use Rattle.rowex_core.specs.Frames.{IsFrame}
 use Rattle.rowex_core.specs.Knowing.{Knows, Knowing, Owns, learned}
 use Rattle.rowex_core.specs.Opening.{opening, opening_words}
 use Rattle.rowex_core.specs.Runs.{Leads, AreOthers}
@@ -43,6 +47,11 @@ StaysLawful = (c : Core) (q : ℕ) (act : Act) → IsLawful c → Legal c q act 
 -- a legal step of one pass leaves true what any other view says
 abbrev pub Keeps : Type 0
 Keeps = (c : Core) (p : ℕ) (act : Act) (v : View) → IsLawful c → Legal c p act → ¬ Owns v p → Knowing c v → Knowing (after c p act) v
+
+-- a legal step of one pass leaves to another what it has, and the moments and changes so far: locks of two passes on different nodes are
+-- lawful at once, and each publish is one change whatever other locks are held
+abbrev pub LeavesOthers : Type 0
+LeavesOthers = (c : Core) (p q : ℕ) (act : Act) → p ≢ q → IsLawful c → Legal c p act → IsFrame q c (after c p act)
 
 -- what a pass knows after its own step is true
 abbrev pub Learns : Type 0
@@ -70,11 +79,22 @@ RunsStayLawful = (layout : Layout) (events : List Event) (d : Core) → Leads (o
 abbrev pub RunsKeep : Type 0
 RunsKeep = (c : Core) (events : List Event) (d : Core) (v : View) → IsLawful c → Leads c events d → AreOthers v events → Knowing c v → Knowing d v
 
--- a search of a pinned pass that was led to a node at a moment since the pin goes on at what its words say now
+-- what a step does to the changes and the moments: a publish appends one of each, any other leaves both as they are
+abbrev pub Appends : Act → Core → Core → Type 0
+Appends (Publish spot w) c d =
+    (x : Change) × (d.changes ≡ c.changes ++ x ∷ []) × (d.past.now ≡ suc c.past.now) × ((n : ℕ) → n ≤ c.past.now → d.past.moment n ≡ c.past.moment n)
+Appends _ c d = (d.changes ≡ c.changes) × (d.past ≡ c.past)
+
+abbrev pub OnlyPublishAppends : Type 0
+OnlyPublishAppends = (c : Core) (q : ℕ) (act : Act) → Appends act c (after c q act)
+
+-- Whichever moment m since its pin we begin at: a search of a pinned pass that was led to a node since m, a node that was
+-- linked then and whose stem the key followed unless it was absent since m, is led since m to the child that the node's words
+-- give it now, be the node still linked or retired.
 abbrev pub Hindsight : Type 0
 Hindsight =
-    (c : Core) → IsLawful c → (q : ℕ) (p : Pin) → c.pins q ≡ Some p → (k : Key) (n h : ℕ) →
-    IsLed c.past p.moment k (Node n h) → IsLed c.past p.moment k (seek k (node_of (c.words (a_node n))).page)
+    (c : Core) → IsLawful c → (q : ℕ) (p : Pin) → c.pins q ≡ Some p → (m : ℕ) → p.moment ≤ m → (k : Key) (n h : ℕ) →
+    IsLed c.past m k (Node n h) → IsLed c.past m k (seek k (node_of (c.words (a_node n))).page)
 
 -- keys below two entries of a record part at the fork between these, whichever moments of its present life they come from
 abbrev pub Parting : Type 0
@@ -89,6 +109,20 @@ abbrev pub InReach : Type 0
 InReach =
     (c : Core) → IsLawful c → (q : ℕ) (p : Pin) → c.pins q ≡ Some p → (n : ℕ) (r : Rec) (u : Tree) → p.moment ≤ n → n ≤ c.past.now → Stands c.past n r u →
     (c.fate r ≢ Free) × ((o : ℕ) → c.fate r ≢ Held o) × ((offset : ℕ) → IsFixedOffset r offset → record_word c r offset ≡ word_in u offset)
+
+-- the record stood at moment n as u, and at no later one
+pub record StoodLast (s : Past) (n : ℕ) (r : Rec) (u : Tree) : Type 0 where
+  pub past : n ≤ s.now
+  pub stands : Stands s n r u
+  pub later : (o : ℕ) (v : Tree) → n < o → o ≤ s.now → Stands s o r v → ⊥
+
+-- Of a node that stood as u at a moment m since a pass's pin, each entry is one that it had when it stood last, which is now or at
+-- a moment since m; all other words but the state are the same as at m, and so are its stems.
+abbrev pub EntriesInReach : Type 0
+EntriesInReach =
+    (c : Core) → IsLawful c → (q : ℕ) (p : Pin) → c.pins q ≡ Some p → (m n : ℕ) (u : Tree) → p.moment ≤ m → m ≤ c.past.now → Stands c.past m (a_node n) u →
+    (o : ℕ) × (v : Tree) × (m ≤ o) × StoodLast c.past o (a_node n) v × IsSame u v ×
+    ((j : ℕ) → j < MAX_ENTRIES → entry_of (record_word c (a_node n) (FIRST_ENTRY + j)) ≡ entry_in v j)
 
 -- the call that makes the change
 abbrev pub call_for : Kind → Key → ℕ → Call
@@ -119,5 +153,6 @@ FindsChange =
 -- a pass may lock a node while another holds the lock of another node, and both have their locks then
 abbrev pub LocksApart : Type 0
 LocksApart =
-    (c : Core) (p q n m : ℕ) → IsLawful c → c.lock n ≡ Some p → n ≢ m → Legal c q (Lock (NodeTarget m) 2) →
-    IsLawful (after c q (Lock (NodeTarget m) 2)) × ((after c q (Lock (NodeTarget m) 2)).lock n ≡ Some p) × ((after c q (Lock (NodeTarget m) 2)).lock m ≡ Some q)
+    (c : Core) (p q n m : ℕ) → IsLawful c → c.lock n ≡ Some p → n ≢ m → Legal c q (Lock (NodeTarget m) (state_word Live)) →
+    IsLawful (after c q (Lock (NodeTarget m) (state_word Live))) ×
+    ((after c q (Lock (NodeTarget m) (state_word Live))).lock n ≡ Some p) × ((after c q (Lock (NodeTarget m) (state_word Live))).lock m ≡ Some q)

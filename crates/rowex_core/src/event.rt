@@ -68,5 +68,21 @@ pub struct Event {
 
 /// What is told each event, straight after its step.
 pub trait Gate {
-    fn at(&mut self, event: &Event);
+    ghost use Rattle.rowex_core.specs.declared.event.Event.{Event};
+
+    /// That the one gate, told this event, has become the other.
+    ghost becomes: { Self → Event → Self → Type 0 };
+
+    fn at(&mut self, event: &Event)
+        ensures { becomes self.old event.now self.new };
+}
+
+/// A gate that does nothing.
+#[derive(Clone, Copy, Debug, PartialEq, Eq)]
+pub struct NoGate;
+
+impl Gate for NoGate {
+    ghost becomes = { λ _ _ _. Unit {0} };
+
+    fn at(&mut self, _event: &Event) {}
 }

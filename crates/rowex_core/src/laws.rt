@@ -1,10 +1,15 @@
 //! The laws of the core. The functions do nothing: their contracts are the laws.
 
-ghost use Rattle.rowex_core.specs.Statements.{FindsChange, Hindsight, InReach, Keeps, KnowsAll, Learns, LocksApart, OpeningIsLawful, Parting, PublishIsAStep, RunsKeep, RunsStayLawful, StaysLawful, WritesOne};
+ghost use Rattle.rowex_core.specs.Statements.{EntriesInReach, FindsChange, Hindsight, InReach, Keeps, KnowsAll, Learns, LeavesOthers, LocksApart, OnlyPublishAppends, OpeningIsLawful, Parting, PublishIsAStep, RunsKeep, RunsStayLawful, StaysLawful, WritesOne};
 
 /// A legal step keeps the core lawful.
 pub fn stays_lawful()
     ensures { StaysLawful }
+{}
+
+/// A legal step of one pass leaves to another what it has: its records, locks, pin and round.
+pub fn leaves_others()
+    ensures { LeavesOthers }
 {}
 
 /// A legal step of one pass leaves true what any other pass knows.
@@ -42,7 +47,13 @@ pub fn runs_keep()
     ensures { RunsKeep }
 {}
 
-/// A search of a pinned pass that goes on at a record goes on at what it finds there, whatever has been published since.
+/// A publish appends one change and one moment and leaves all earlier ones; every other step leaves both lists.
+pub fn only_publish_appends()
+    ensures { OnlyPublishAppends }
+{}
+
+/// A search of a pinned pass that goes on at a record goes on at what it finds there, whatever has been published since: at
+/// each moment since the pin.
 pub fn hindsight()
     ensures { Hindsight }
 {}
@@ -55,6 +66,11 @@ pub fn parting()
 /// No record of a pinned pass's reach is free or held, and what it loads of one, states and entries aside, is of one content.
 pub fn in_reach()
     ensures { InReach }
+{}
+
+/// Each entry that a pinned pass loads of a node of its reach is one that the node had when it stood last, since it was met.
+pub fn entries_in_reach()
+    ensures { EntriesInReach }
 {}
 
 /// A publish is one step of the map, whatever other locks are held.

@@ -7,6 +7,6 @@ mod known;
 pub mod laws;
 pub mod writer_laws;
 
-pub use event::{Act, Event, Gate, Spot, Target};
+pub use event::{Act, Event, Gate, NoGate, Spot, Target};
 pub use known::{Fact, Failed, Fresh, Holding, Known, Locked, Owned, View};
 pub use moments::{Pin, Rec, Round};

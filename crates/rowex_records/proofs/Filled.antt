@@ -1,151 +1,227 @@
--- What filling a record comes to, and giving it up.
-use Rattle.std.proofs.Common.{◌≡◌, ◌≢◌, ℕ, zero, suc, ◌+◌, ◌<◌, List, [], ◌∷◌, ◌++◌, length, map, get_or, Bool, true, false, if◌then◌else◌, refl, sym, ap, subst, ◌∙◌, arith, add-one, length-append}
-use Rattle.std.specs.Prelude.{All, Contains, filter, not}
-use Rattle.std.proofs.lemmas.List.{get_or_default}
-use Rattle.std.proofs.lemmas.List.Elements.{All-contains, All-contains_itself, All-filter}
-use Rattle.record_words.specs.declared.layout.Layout.{Layout}
+-- What filling a record comes to, making it ready, and giving it up.
+use Rattle.std.proofs.Common.{◌≡◌, ◌≢◌, ℕ, zero, suc, ◌+◌, ◌-◌, ◌<◌, ◌≤◌, List, [], ◌∷◌, ◌++◌, length, map, take, set, get_or, Bool, true, false, if◌then◌else◌, refl, sym, ap, subst, ◌∙◌, arith, add-one, length-append}
+use Rattle.std.specs.Prelude.{All, Contains, not}
+use Rattle.std.proofs.lemmas.List.{get_or_default, length-set, take_all, take_more, take_more_set}
+use Rattle.std.proofs.lemmas.List.Elements.{All-head, All-tail, All-weaker}
 use Rattle.moments.specs.declared.Rec.{Rec}
 use Rattle.moments.specs.declared.Rec.TheVariants.{Node as a_node, Leaf as a_leaf}
 use Rattle.moments.specs.Steps.{same_rec}
-use Rattle.moments.proofs.Legal.{same_rec_true}
+use Rattle.moments.proofs.Legal.{same_rec_true, same_rec_refl}
 use Rattle.rowex_core.specs.declared.event.Act.{Act}
 use Rattle.rowex_core.specs.declared.event.Act.TheVariants.{Fill, Ready, Release}
+use Rattle.rowex_core.specs.declared.event.Event.{Event}
 use Rattle.rowex_core.specs.declared.known.Holding.{Holding}
-use Rattle.rowex_core.specs.declared.known.Holding.TheVariants.{Ready as IsReady}
+use Rattle.rowex_core.specs.declared.known.Holding.TheVariants.{Held, Ready as IsReady}
 use Rattle.rowex_core.specs.declared.known.Owned.{Owned}
 use Rattle.rowex_core.specs.declared.known.Known.{Known}
-use Rattle.rowex_core.specs.Cores.{word_count_of}
+use Rattle.rowex_core.specs.Cores.{Core, IsLawful, word_count_of}
 use Rattle.rowex_core.specs.Events.{IsOffset}
-use Rattle.rowex_core.specs.Knowing.{IsEvent, fill_in, hold_as, without_record}
+use Rattle.rowex_core.specs.Sharing.{IsOwned}
+use Rattle.rowex_core.specs.Knowing.{Knows, fill_in, hold_as}
+use Rattle.rowex_core.proofs.Lists.{kept}
+use Rattle.rowex_core.proofs.Owning.{knows_all}
 use Rattle.rowex_table.specs.Rights.{Has, HasFilled, IsHeld}
-use Rattle.rowex_table.proofs.Rights.{fill_more, filled, ready_gives}
-use Rattle.epochs.specs.Rounds.{InTurn}
-use Rattle.epochs.specs.Runs.{silent}
-use Rattle.rowex_records.specs.Records.{Succeeds, StoresWord, Fills, GivesUp}
-use Rattle.rowex_records.proofs.Making.{makes_one, makes_none, succeeds_append}
+use Rattle.rowex_table.specs.Runs.{silent, Steps, Does, InTurn}
+use Rattle.rowex_table.specs.Seats.{TableView, SeatView}
+use Rattle.rowex_table.proofs.Rights.{fill_more, mapped, other}
+use Rattle.rowex_table.proofs.Running.{in_turn_more, does_count}
+use Rattle.rowex_records.specs.Records.{owning, StoresWord, fill_with, Fills, Readies, GivesUp}
+use Rattle.rowex_records.proofs.Making.{owns_none, owns_one, owns_append}
 
--- The records beside one
+-- Lists of records
 
--- a change of one record alone leaves the others
-others_of : (r : Rec) (f : Owned → Owned) → ((o : Owned) → (f o).rec ≡ o.rec) → ((o : Owned) → same_rec o.rec r ≡ false → f o ≡ o) → (own : List Owned) → without_record r (map f own) ≡ without_record r own
-others_of r f same stays [] = refl
-others_of r f same stays (o ∷ own) = go (others_of r f same stays own) (same_rec o.rec r) refl
-  where
-    go : without_record r (map f own) ≡ without_record r own → (b : Bool) → same_rec o.rec r ≡ b → without_record r (map f (o ∷ own)) ≡ without_record r (o ∷ own)
-    go rest true e =
-        let e' : same_rec (f o).rec r ≡ true = ap (λ s. same_rec s r) (same o) ∙ e in
-        rw e' (rw e rest)
-    go rest false e =
-        let e' : same_rec (f o).rec r ≡ false = ap (λ s. same_rec s r) (same o) ∙ e in
-        rw e' (rw e (ap (λ z. z ∷ without_record r (map f own)) (stays o e) ∙ ap (λ l. o ∷ l) rest))
+-- two changes, one after the other
+twice : (f g h : Owned → Owned) → ((o : Owned) → f (g o) ≡ h o) → (own : List Owned) → map f (map g own) ≡ map h own
+twice f g h e [] = refl
+twice f g h e (o ∷ own) = λ i. e o i ∷ twice f g h e own i
 
-either_rec : (b : Bool) (o p : Owned) → p.rec ≡ o.rec → (if b then p else o).rec ≡ o.rec
-either_rec true o p e = e
-either_rec false o p e = refl
+-- a change is what it is to each
+each_mapped : (P : Owned → Type 0) (f g : Owned → Owned) → ((o : Owned) → P o → f o ≡ g o) → (own : List Owned) → All P own → map f own ≡ map g own
+each_mapped P f g e [] all = refl
+each_mapped P f g e (o ∷ own) all = λ i. e o (All-head P o own all) i ∷ each_mapped P f g e own (All-tail P o own all) i
 
-fill_others : (layout : Layout) (r : Rec) (offset word : ℕ) (k j : Known) → IsEvent layout (Fill r offset word) silent k j → without_record r j.own ≡ without_record r k.own
-fill_others layout r offset word k j e =
-    ap (λ (z : Known). without_record r z.own) e.learned_is ∙
-    others_of r (fill_in r offset word) (λ o. either_rec (same_rec o.rec r) o _ refl) (λ o other. rw other refl) k.own
-
-ready_others : (layout : Layout) (r : Rec) (k j : Known) → IsEvent layout (Ready r) silent k j → without_record r j.own ≡ without_record r k.own
-ready_others layout r k j e =
-    ap (λ (z : Known). without_record r z.own) e.learned_is ∙
-    others_of r (hold_as r IsReady) (λ o. either_rec (same_rec o.rec r) o _ refl) (λ o other. rw other refl) k.own
-
--- what a list has that passes a test, the filtered list has
-kept : (p : Owned → Bool) (own : List Owned) (o : Owned) → p o ≡ true → Contains own o → Contains (filter p own) o
-kept p [] o passes (i, low, is) = absurd (omega arith)
-kept p (y ∷ ys) o passes (zero, low, is) = let first : p y ≡ true = ap p is ∙ passes in rw first (0, omega arith, is)
-kept p (y ∷ ys) o passes (suc i, low, is) = go (kept p ys o passes (i, omega arith, is)) (p y) refl
-  where
-    go : Contains (filter p ys) o → (b : Bool) → p y ≡ b → Contains (filter p (y ∷ ys)) o
-    go (n, below, at) true e = rw e (suc n, omega arith, at)
-    go has false e = rw e has
+-- what a pass has of one record stays where a change is of another
+pub stays_mapped : (k j : Known) (f : Owned → Owned) (s : Rec) (h : Holding) (words : List ℕ) → j.own ≡ map f k.own → f (record { rec = s; holding = h; words = words }) ≡ record { rec = s; holding = h; words = words } → Has k s h words → Has j s h words
+stays_mapped k j f s h words is same has =
+    let o : Owned = record { rec = s; holding = h; words = words } in
+    subst (λ l. Contains l o) (sym is) (subst (Contains (map f k.own)) same (mapped f k.own o has))
 
 passes_beside : (r s : Rec) → s ≢ r → not (same_rec s r) ≡ true
-passes_beside r s ne = go (same_rec s r) refl
+passes_beside r s ne = rw (other s r ne) refl
+
+-- Filling, word by word
+
+-- the words of a record of which the first i have been stored
+abbrev pub stored : List ℕ → ℕ → List ℕ → List ℕ
+stored words zero old = old
+stored words (suc i) old = set (stored words i old) i (get_or words i 0)
+
+abbrev pub stored_in : Rec → List ℕ → ℕ → Owned → Owned
+stored_in r words i o = if same_rec o.rec r then record o { words = stored words i o.words } else o
+
+stored_none : (r : Rec) (words : List ℕ) (o : Owned) → stored_in r words 0 o ≡ o
+stored_none r words o = go (same_rec o.rec r)
   where
-    go : (b : Bool) → same_rec s r ≡ b → not (same_rec s r) ≡ true
-    go true e = absurd (ne (same_rec_true s r e))
+    go : (b : Bool) → (if b then record o { words = o.words } else o) ≡ o
+    go true = refl
+    go false = refl
+
+stored_more : (r : Rec) (words : List ℕ) (i : ℕ) (o : Owned) → fill_in r (i + 1) (get_or words i 0) (stored_in r words i o) ≡ stored_in r words (i + 1) o
+stored_more r words i o = rw (add-one i) (go (same_rec o.rec r) refl)
+  where
+    at : suc i - 1 ≡ i
+    at = omega arith
+
+    go : (b : Bool) → same_rec o.rec r ≡ b → fill_in r (suc i) (get_or words i 0) (stored_in r words i o) ≡ stored_in r words (suc i) o
+    go true e = rw e (rw e (rw at refl))
+    go false e = rw e (rw e refl)
+
+stored_first : (words : List ℕ) (i : ℕ) (old : List ℕ) → length old ≡ length words → i ≤ length words → (length (stored words i old) ≡ length words) × (take i (stored words i old) ≡ take i words)
+stored_first words zero old size low = (size, refl)
+stored_first words (suc i) old size low =
+    let before = stored_first words i old size (omega arith) in
+    let more : take (i + 1) (set (stored words i old) i (get_or words i 0)) ≡ take (i + 1) words =
+    take_more_set (stored words i old) i (get_or words i 0) (let z = before.0 in omega arith) ∙ (ap (λ l. l ++ get_or words i 0 ∷ []) before.1 ∙ sym (take_more words i 0 (omega arith))) in
+    (length-set (stored words i old) i (get_or words i 0) ∙ before.0, subst (λ n. take n (set (stored words i old) i (get_or words i 0)) ≡ take n words) (add-one i) more)
+
+stored_all : (words old : List ℕ) → length old ≡ length words → stored words (length words) old ≡ words
+stored_all words old size =
+    let all = stored_first words (length words) old size (omega arith) in
+    let long = all.0 in
+    sym (take_all (length words) (stored words (length words) old) (omega arith)) ∙ (all.1 ∙ take_all (length words) words (omega arith))
+
+-- each record has its number of words
+abbrev pub AreSized : List Owned → Type 0
+AreSized own = All (λ o. length o.words ≡ word_count_of o.rec) own
+
+own_sized : (c : Core) (k : Known) → IsLawful c → Knows c k → AreSized k.own
+own_sized c k lawful known = All-weaker (IsOwned k.pass c) (λ o. length o.words ≡ word_count_of o.rec) (λ o is. ap length (sym is.1) ∙ (lawful.records.sized o.rec).0) k.own (knows_all c k known).own
+
+filled_with : (r : Rec) (words : List ℕ) → length words ≡ word_count_of r → (o : Owned) → length o.words ≡ word_count_of o.rec → stored_in r words (length words) o ≡ fill_with r words o
+filled_with r words size o sized = go (same_rec o.rec r) refl
+  where
+    go : (b : Bool) → same_rec o.rec r ≡ b → stored_in r words (length words) o ≡ fill_with r words o
+    go true e = rw e (ap (λ l. record o { words = l }) (stored_all words o.words (sized ∙ (ap word_count_of (same_rec_true o.rec r e) ∙ sym size))))
     go false e = rw e refl
 
-stays_beside : (k : Known) (r s : Rec) (h : Holding) (words : List ℕ) → s ≢ r → Has k s h words → Contains (without_record r k.own) (record { rec = s; holding = h; words = words })
-stays_beside k r s h words ne has = kept (λ x. not (same_rec x.rec r)) k.own (record { rec = s; holding = h; words = words }) (passes_beside r s ne) has
+module _ {G : Type 0} (table : TableView) (becomes : G → Event → G → Type 0) where
+  -- The first i words are stored.
+  pub record FillsSome (r : Rec) (words : List ℕ) (i : ℕ) (a b : SeatView × G) : Type 0 where
+    pub stores : List Act
+    pub in_turn : InTurn (StoresWord r words) i stores
+    pub count : length stores ≡ i
+    pub does : Does table becomes owning stores a b
+    pub has : HasFilled b.0.known r words i
+    pub own : b.0.known.own ≡ map (stored_in r words i) a.0.known.own
+    pub sized : 1 ≤ i → AreSized a.0.known.own
 
--- what a pass has of one record, filling another leaves to it
-pub fills_keeps : (layout : Layout) (r s : Rec) (filling : List ℕ) (h : Holding) (words : List ℕ) (k j : Known) → s ≢ r → Fills layout r filling k j → Has k s h words → Has j s h words
-fills_keeps layout r s filling h words k j ne fills has =
-    let o : Owned = record { rec = s; holding = h; words = words } in
-    let itself : All (Contains j.own) (without_record r j.own) = All-filter (λ x. not (same_rec x.rec r)) (Contains j.own) j.own (All-contains_itself j.own) in
-    All-contains (Contains j.own) (without_record r j.own) o itself (subst (λ l. Contains l o) (sym fills.others) (stays_beside k r s h words ne has))
+  pub fills_none : (r : Rec) (words : List ℕ) (a : SeatView × G) → length words ≡ word_count_of r → IsHeld a.0.known r → FillsSome r words 0 a a
+  fills_none r words a size held = record {
+    stores = [];
+    in_turn = refl;
+    count = refl;
+    does = owns_none table becomes a;
+    has = (held.0, held.1 ∙ sym size, refl, held.2);
+    own = sym (unchanged a.0.known.own);
+    sized = λ low. absurd (omega arith);
+  }
+    where
+      unchanged : (own : List Owned) → map (stored_in r words 0) own ≡ own
+      unchanged [] = refl
+      unchanged (o ∷ own) = λ i. stored_none r words o i ∷ unchanged own i
 
--- and so does giving up another
-pub gives_up_keeps : (layout : Layout) (r s : Rec) (h : Holding) (words : List ℕ) (k j : Known) → s ≢ r → GivesUp layout r k j → Has k s h words → Has j s h words
-gives_up_keeps layout r s h words k j ne gives has = subst (λ l. Contains l (record { rec = s; holding = h; words = words })) (sym gives.own) (stays_beside k r s h words ne has)
+  pub fills_more : (r : Rec) (words : List ℕ) (i word : ℕ) (a m b : SeatView × G) → FillsSome r words i a m → i < length words → word ≡ get_or words i 0
+      → Steps table becomes (Fill r (i + 1) word) m b → FillsSome r words (i + 1) a b
+  fills_more r words i word a m b some low is step = record {
+    stores = some.stores ++ act ∷ [];
+    in_turn = in_turn_more (StoresWord r words) i some.stores (act ∷ []) some.in_turn (ap (λ w. Fill r (i + 1) w ∷ []) is);
+    count = let count = some.count in omega (arith, length-append some.stores (act ∷ []));
+    does = owns_append table becomes some.stores (act ∷ []) a m b some.does (owns_one table becomes act m b tt step);
+    has = fill_more table.layout silent m.0.known b.0.known r words i word step.event low (is ∙ get_or_default words i 0 word low) some.has;
+    own = ap (λ (z : Known). z.own) step.event.learned_is ∙
+        (ap (map (fill_in r (i + 1) word)) some.own ∙
+        (ap (λ w. map (fill_in r (i + 1) w) (map (stored_in r words i) a.0.known.own)) is ∙ twice (fill_in r (i + 1) (get_or words i 0)) (stored_in r words i) (stored_in r words (i + 1)) (stored_more r words i) a.0.known.own));
+    sized = λ _. sized i some.own some.sized;
+  }
+    where
+      act : Act
+      act = Fill r (i + 1) word
 
--- Filling
+      now : AreSized m.0.known.own
+      now = own_sized step.event.core m.0.known step.event.lawful step.event.knows
 
--- The first i words are stored.
-pub record FillsSome (layout : Layout) (r : Rec) (words : List ℕ) (i : ℕ) (k j : Known) : Type 0 where
-  pub stores : List Act
-  pub in_turn : InTurn (StoresWord r words) i stores
-  pub makes : Succeeds layout stores k j
-  pub count : length stores ≡ i
-  pub has : HasFilled j r words i
-  pub others : without_record r j.own ≡ without_record r k.own
+      unchanged : (own : List Owned) → map (stored_in r words 0) own ≡ own
+      unchanged [] = refl
+      unchanged (o ∷ own) = λ i. stored_none r words o i ∷ unchanged own i
 
-pub fills_none : (layout : Layout) (r : Rec) (words : List ℕ) (k : Known) → length words ≡ word_count_of r → IsHeld k r → FillsSome layout r words 0 k k
-fills_none layout r words k size held = record {
-  stores = [];
-  in_turn = refl;
-  makes = (makes_none layout k, refl);
-  count = refl;
-  has = (held.0, held.1 ∙ sym size, refl, held.2);
-  others = refl;
-}
+      sized : (n : ℕ) → m.0.known.own ≡ map (stored_in r words n) a.0.known.own → (1 ≤ n → AreSized a.0.known.own) → AreSized a.0.known.own
+      sized zero own before = subst AreSized (own ∙ unchanged a.0.known.own) now
+      sized (suc n) own before = before (omega arith)
 
-pub fills_more : (layout : Layout) (r : Rec) (words : List ℕ) (i word : ℕ) (k l j : Known) → FillsSome layout r words i k l → i < length words → word ≡ get_or words i 0
-    → IsEvent layout (Fill r (i + 1) word) silent l j → FillsSome layout r words (i + 1) k j
-fills_more layout r words i word k l j some low is e =
-    let act = Fill r (i + 1) word in
-    record {
-      stores = some.stores ++ act ∷ [];
-      in_turn = subst (λ n. InTurn (StoresWord r words) n (some.stores ++ act ∷ [])) (sym (add-one i))
-          (some.stores, act ∷ [], some.in_turn, ap (λ w. Fill r (i + 1) w ∷ []) is, refl);
-      makes = succeeds_append layout some.stores (act ∷ []) k l j some.makes (makes_one layout act l j tt e, ap (λ (z : Known). z.failed) e.learned_is);
-      count = let count = some.count in omega (arith, length-append some.stores (act ∷ []));
-      has = fill_more layout silent l j r words i word e low (is ∙ get_or_default words i 0 word low) some.has;
-      others = fill_others layout r (i + 1) word l j e ∙ some.others;
-    }
+  pub fills_all : (r : Rec) (words : List ℕ) (i : ℕ) (a b : SeatView × G) → length words ≡ word_count_of r → FillsSome r words i a b → i ≡ length words → Fills table becomes r words a b
+  fills_all r words i a b size some all = record {
+    sized = size;
+    stores = some.stores;
+    in_turn = subst (λ n. InTurn (StoresWord r words) n some.stores) all some.in_turn;
+    count = some.count ∙ all;
+    does = some.does;
+    own = some.own ∙ (ap (λ n. map (stored_in r words n) a.0.known.own) all ∙
+        each_mapped (λ o. length o.words ≡ word_count_of o.rec) (stored_in r words (length words)) (fill_with r words) (filled_with r words size) a.0.known.own (some.sized (let much = counts r in omega arith)));
+  }
+    where
+      counts : (s : Rec) → 1 ≤ word_count_of s
+      counts (a_node n) = omega arith
+      counts (a_leaf n) = omega arith
 
-pub fills_all : (layout : Layout) (r : Rec) (words : List ℕ) (i : ℕ) (k l j : Known) → FillsSome layout r words i k l → i ≡ length words → IsEvent layout (Ready r) silent l j → Fills layout r words k j
-fills_all layout r words i k l j some all e =
-    record {
-      stores = some.stores;
-      in_turn = subst (λ n. InTurn (StoresWord r words) n some.stores) all some.in_turn;
-      makes = succeeds_append layout some.stores (Ready r ∷ []) k l j some.makes (makes_one layout (Ready r) l j tt e, ap (λ (z : Known). z.failed) e.learned_is);
-      count = some.count ∙ all;
-      has = ready_gives layout silent l j r words e (filled l r words i (omega arith) some.has);
-      others = ready_others layout r l j e ∙ some.others;
-    }
+  -- with so many steps
+  pub fills_count : (r : Rec) (words : List ℕ) (a b : SeatView × G) → Fills table becomes r words a b → b.0.known.steps ≡ a.0.known.steps + length words
+  fills_count r words a b fills = does_count table becomes owning fills.stores a b fills.does ∙ ap (λ n. a.0.known.steps + n) fills.count
 
--- with so many steps
-pub fills_count : (layout : Layout) (r : Rec) (words : List ℕ) (k j : Known) → Fills layout r words k j → j.steps ≡ k.steps + length words + 1
-fills_count layout r words k j fills =
-    let steps : j.steps ≡ k.steps + length (fills.stores ++ Ready r ∷ []) = ap (λ (z : Known). z.steps) fills.makes.0.rest in
-    let count = fills.count in
-    omega (arith, length-append fills.stores (Ready r ∷ []))
+  -- what a pass has of one record, filling another leaves to it, and so do making another ready and giving up another
+  pub fills_keeps : (r s : Rec) (filling : List ℕ) (h : Holding) (words : List ℕ) (a b : SeatView × G) → s ≢ r → Fills table becomes r filling a b → Has a.0.known s h words → Has b.0.known s h words
+  fills_keeps r s filling h words a b ne fills has = stays_mapped a.0.known b.0.known (fill_with r filling) s h words fills.own (rw (other s r ne) refl) has
+
+  pub readies_keeps : (r s : Rec) (h : Holding) (words : List ℕ) (a b : SeatView × G) → s ≢ r → Readies table becomes r a b → Has a.0.known s h words → Has b.0.known s h words
+  readies_keeps r s h words a b ne readies has = stays_mapped a.0.known b.0.known (hold_as r IsReady) s h words readies.own (rw (other s r ne) refl) has
+
+  pub gives_up_keeps : (r s : Rec) (h : Holding) (words : List ℕ) (a b : SeatView × G) → s ≢ r → GivesUp table becomes r a b → Has a.0.known s h words → Has b.0.known s h words
+  gives_up_keeps r s h words a b ne gives has =
+      let o : Owned = record { rec = s; holding = h; words = words } in
+      subst (λ l. Contains l o) (sym gives.own) (kept (λ x. not (same_rec x.rec r)) a.0.known.own o (passes_beside r s ne) has)
+
+  -- Making ready, and giving up
+
+  pub readies_of : (r : Rec) (a b : SeatView × G) → Steps table becomes (Ready r) a b → Readies table becomes r a b
+  readies_of r a b step = record { does = owns_one table becomes (Ready r) a b tt step; own = ap (λ (z : Known). z.own) step.event.learned_is }
+
+  -- what it makes ready is ready
+  pub readies_gives : (r : Rec) (words : List ℕ) (a b : SeatView × G) → Readies table becomes r a b → Has a.0.known r Held words → Has b.0.known r IsReady words
+  readies_gives r words a b readies has =
+      let held : hold_as r IsReady (record { rec = r; holding = Held; words = words }) ≡ record { rec = r; holding = IsReady; words = words } = rw (same_rec_refl r) refl in
+      subst (λ l. Contains l (record { rec = r; holding = IsReady; words = words })) (sym readies.own)
+      (subst (Contains (map (hold_as r IsReady) a.0.known.own)) held (mapped (hold_as r IsReady) a.0.known.own (record { rec = r; holding = Held; words = words }) has))
+
+  pub gives_up : (r : Rec) (a b : SeatView × G) → Steps table becomes (Release r) a b → GivesUp table becomes r a b
+  gives_up r a b step = record { does = owns_one table becomes (Release r) a b tt step; own = ap (λ (z : Known). z.own) step.event.learned_is }
+
+-- One record among those of a list
+
+-- filling or making ready a record that is not among them leaves the others
+pub fill_beside : (r : Rec) (words : List ℕ) (own : List Owned) → All (λ o. o.rec ≢ r) own → map (fill_with r words) own ≡ own
+fill_beside r words [] apart = refl
+fill_beside r words (o ∷ own) apart = λ i. beside i ∷ fill_beside r words own (All-tail (λ x. x.rec ≢ r) o own apart) i
+  where
+    beside : fill_with r words o ≡ o
+    beside = rw (other o.rec r (All-head (λ x. x.rec ≢ r) o own apart)) refl
+
+pub hold_beside : (r : Rec) (h : Holding) (own : List Owned) → All (λ o. o.rec ≢ r) own → map (hold_as r h) own ≡ own
+hold_beside r h [] apart = refl
+hold_beside r h (o ∷ own) apart = λ i. beside i ∷ hold_beside r h own (All-tail (λ x. x.rec ≢ r) o own apart) i
+  where
+    beside : hold_as r h o ≡ o
+    beside = rw (other o.rec r (All-head (λ x. x.rec ≢ r) o own apart)) refl
 
 -- the offset of a word of a record
 pub offset_of : (r : Rec) (i : ℕ) → i < word_count_of r → IsOffset r (i + 1)
 offset_of (a_node n) i low = (omega arith, omega arith)
 offset_of (a_leaf n) i low = (omega arith, omega arith)
-
--- Giving up
-
-pub gives_up : (layout : Layout) (r : Rec) (k j : Known) → IsEvent layout (Release r) silent k j → GivesUp layout r k j
-gives_up layout r k j e = record {
-  makes = (makes_one layout (Release r) k j tt e, ap (λ (z : Known). z.failed) e.learned_is);
-  own = ap (λ (z : Known). z.own) e.learned_is;
-}

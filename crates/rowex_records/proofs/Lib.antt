@@ -1,4 +1,5 @@
 -- The lemmas of the crate.
 pub mod Claimed
 pub mod Filled
+pub mod GivenUp
 pub mod Making

@@ -1,16 +1,28 @@
--- Claims of the records of a kind, in rising number.
-use Rattle.std.specs.Prelude.{◌≡◌, ℕ, ◌+◌, ◌<◌, ◌≤◌, List, [], ◌∷◌, ◌++◌, length, Contains}
-use Rattle.record_words.specs.declared.layout.Layout.{Layout}
+-- Claims of the records of a kind, from one number on and then from 0.
+use Rattle.std.specs.Prelude.{◌≡◌, ◌≢◌, ℕ, ◌+◌, ◌-◌, ◌<◌, ◌≤◌, List, [], ◌∷◌, ◌++◌, length, nat_lt, All, Contains, if◌then◌else◌}
 use Rattle.moments.specs.declared.Rec.{Rec}
 use Rattle.rowex_core.specs.declared.event.Act.{Act}
 use Rattle.rowex_core.specs.declared.event.Act.TheVariants.{Claim}
+use Rattle.rowex_core.specs.declared.event.Event.{Event}
 use Rattle.rowex_core.specs.declared.known.Failed.{Failed}
 use Rattle.rowex_core.specs.declared.known.Holding.TheVariants.{Held}
 use Rattle.rowex_core.specs.declared.known.Known.{Known}
 use Rattle.rowex_core.specs.Cores.{word_count_of}
 use Rattle.rowex_core.specs.Events.{word_of}
-use Rattle.epochs.specs.Rounds.{InTurn}
-use Rattle.rowex_records.specs.Records.{Makes}
+use Rattle.rowex_table.specs.Runs.{Does, InTurn}
+use Rattle.rowex_table.specs.Seats.{TableView, SeatView}
+
+-- of what a pass knows, its own records and its failed claims may change
+abbrev pub claiming : Known → Known → Known
+claiming k j = record k { own = j.own; failed = j.failed }
+
+-- the number to begin at, of n: one that is out of range counts as 0
+abbrev pub begin_of : ℕ → ℕ → ℕ
+begin_of n from = if nat_lt from n then from else 0
+
+-- of n numbers the one that is m after this one, where 0 comes after the last
+abbrev pub turned : ℕ → ℕ → ℕ → ℕ
+turned n from m = if nat_lt (from + m) n then from + m else from + m - n
 
 -- a claim that finds the record not free
 abbrev pub Misses : Rec → List Act → Type 0
@@ -20,26 +32,34 @@ Misses r acts = (word : ℕ) × (1 ≤ word) × (acts ≡ Claim r word ∷ [])
 abbrev pub HasMissed : List Failed → Rec → ℕ → Type 0
 HasMissed failed r step = (word : ℕ) × (1 ≤ word) × Contains failed (record { location = word_of r 0; word = word; step = step })
 
--- The pass claims each of the first n records of the kind once, in rising number, and finds none of them free. It has these n
+-- Of the n records of the kind the pass claims m, from this one on, each once, and finds none of them free. It has these m
 -- failed claims more, and its own records as they were.
-pub record FindsNone (layout : Layout) (kind : ℕ → Rec) (n : ℕ) (k j : Known) : Type 0 where
+pub record FindsNone {G : Type 0} (table : TableView) (becomes : G → Event → G → Type 0) (kind : ℕ → Rec) (n from m : ℕ) (a b : SeatView × G) : Type 0 where
   pub claims : List Act
-  pub in_turn : InTurn (λ m. Misses (kind m)) n claims
-  pub makes : Makes layout claims k j
-  pub count : length claims ≡ n
-  pub own : j.own ≡ k.own
+  pub in_turn : InTurn (λ i. Misses (kind (turned n from i))) m claims
+  pub count : length claims ≡ m
+  pub does : Does table becomes claiming claims a b
+  pub own : b.0.known.own ≡ a.0.known.own
   pub missed : List Failed
-  pub failed : j.failed ≡ missed ++ k.failed
-  pub size : length missed ≡ n
-  pub each : (m : ℕ) → m < n → HasMissed missed (kind m) (k.steps + m)
+  pub failed : b.0.known.failed ≡ missed ++ a.0.known.failed
+  pub size : length missed ≡ m
+  pub each : (i : ℕ) → i < m → HasMissed missed (kind (turned n from i)) (a.0.known.steps + i)
 
--- The pass finds none of the first n records of the kind free, and claims the next one. It holds this one then, beside the
--- records that it had.
-pub record Claims (layout : Layout) (kind : ℕ → Rec) (n : ℕ) (k j : Known) : Type 0 where
-  pub before : Known
-  pub none : FindsNone layout kind n k before
-  pub makes : Makes layout (Claim (kind n) 0 ∷ []) before j
-  pub failed : j.failed ≡ before.failed
+-- The pass finds some of the n records of the kind not free, from this one on, and then claims the one of this number. It holds
+-- this one then, beside the records that it had, of which none is this one.
+pub record Claims {G : Type 0} (table : TableView) (becomes : G → Event → G → Type 0) (kind : ℕ → Rec) (n from number : ℕ) (a b : SeatView × G) : Type 0 where
+  pub tried : ℕ
+  pub low : tried < n
+  pub number_is : number ≡ turned n from tried
+  pub before : SeatView × G
+  pub none : FindsNone table becomes kind n from tried a before
+  pub does : Does table becomes claiming (Claim (kind number) 0 ∷ []) before b
+  pub failed : b.0.known.failed ≡ before.0.known.failed
   pub words : List ℕ
-  pub sized : length words ≡ word_count_of (kind n)
-  pub own : j.own ≡ record { rec = kind n; holding = Held; words = words } ∷ k.own
+  pub sized : length words ≡ word_count_of (kind number)
+  pub own : b.0.known.own ≡ record { rec = kind number; holding = Held; words = words } ∷ a.0.known.own
+  pub apart : All (λ o. o.rec ≢ kind number) a.0.known.own
+
+-- each of the n records of the kind has a failed claim among these, at this step or a later one
+abbrev pub AllMissed : (ℕ → Rec) → ℕ → List Failed → ℕ → Type 0
+AllMissed kind n failed since = (q : ℕ) → q < n → (step : ℕ) × (since ≤ step) × HasMissed failed (kind q) step

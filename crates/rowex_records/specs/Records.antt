@@ -1,41 +1,72 @@
--- Steps on records of a pass's own that are not in the tree.
-use Rattle.std.specs.Prelude.{◌≡◌, ℕ, ◌+◌, List, [], ◌∷◌, ◌++◌, length, get_or}
-use Rattle.record_words.specs.declared.layout.Layout.{Layout}
+-- Steps on records of a pass's own that are not in the tree: filled, made ready, given up.
+use Rattle.std.specs.Prelude.{◌≡◌, ◌≢◌, ℕ, ◌+◌, List, [], ◌∷◌, length, map, get_or, All, Contains, if◌then◌else◌}
 use Rattle.moments.specs.declared.Rec.{Rec}
+use Rattle.moments.specs.Steps.{same_rec}
 use Rattle.rowex_core.specs.declared.event.Act.{Act}
 use Rattle.rowex_core.specs.declared.event.Act.TheVariants.{Fill, Ready, Release}
-use Rattle.rowex_core.specs.declared.known.Holding.TheVariants.{Ready as IsReady}
+use Rattle.rowex_core.specs.declared.event.Event.{Event}
+use Rattle.rowex_core.specs.declared.known.Holding.TheVariants.{Held, Ready as IsReady}
 use Rattle.rowex_core.specs.declared.known.Known.{Known}
-use Rattle.rowex_core.specs.Knowing.{without_record}
-use Rattle.rowex_table.specs.Rights.{Has}
-use Rattle.epochs.specs.Rounds.{InTurn}
-use Rattle.epochs.specs.Runs.{Run}
+use Rattle.rowex_core.specs.declared.known.Owned.{Owned}
+use Rattle.rowex_core.specs.Cores.{word_count_of}
+use Rattle.rowex_core.specs.Knowing.{hold_as, without_record}
+use Rattle.rowex_core.specs.Reading.{IsPacked}
+use Rattle.rowex_table.specs.Rights.{Has, IsHeld}
+use Rattle.rowex_table.specs.Runs.{Does, InTurn}
+use Rattle.rowex_table.specs.Seats.{TableView, SeatView}
 
--- The pass makes these steps, and no others. Of what it knows they change its own records and its failed claims alone, and it
--- counts them.
-pub record Makes (layout : Layout) (acts : List Act) (k j : Known) : Type 0 where
-  pub steps : Run layout acts k j
-  pub rest : j ≡ record k { own = j.own; failed = j.failed; steps = k.steps + length acts }
+-- of what a pass knows, its own records may change
+abbrev pub owning : Known → Known → Known
+owning k j = record k { own = j.own }
 
--- and nothing that it tries fails
-abbrev pub Succeeds : Layout → List Act → Known → Known → Type 0
-Succeeds layout acts k j = Makes layout acts k j × (j.failed ≡ k.failed)
+-- the pass has claimed the record and not made it ready, and its words, which are these, spell a value
+abbrev pub IsFilled : Known → Rec → List ℕ → Type 0
+IsFilled k r words = Has k r Held words × IsPacked r words
 
 -- the word of this index is stored; the first stands at offset 1
 abbrev pub StoresWord : Rec → List ℕ → ℕ → List Act → Type 0
 StoresWord r words i acts = acts ≡ Fill r (i + 1) (get_or words i 0) ∷ []
 
--- The words are stored from offset 1 on, one after the other, and the record is made ready. The pass has it with these words
--- then, and its other records as they were.
-pub record Fills (layout : Layout) (r : Rec) (words : List ℕ) (k j : Known) : Type 0 where
+-- these words in the place of the one record's
+abbrev pub fill_with : Rec → List ℕ → Owned → Owned
+fill_with r words o = if same_rec o.rec r then record o { words = words } else o
+
+-- The words, all that the record has but its state, are stored from offset 1 on, one after the other. Of the pass's own records this one has them then, and
+-- the others are as they were.
+pub record Fills {G : Type 0} (table : TableView) (becomes : G → Event → G → Type 0) (r : Rec) (words : List ℕ) (a b : SeatView × G) : Type 0 where
+  pub sized : length words ≡ word_count_of r
   pub stores : List Act
   pub in_turn : InTurn (StoresWord r words) (length words) stores
-  pub makes : Succeeds layout (stores ++ Ready r ∷ []) k j
   pub count : length stores ≡ length words
-  pub has : Has j r IsReady words
-  pub others : without_record r j.own ≡ without_record r k.own
+  pub does : Does table becomes owning stores a b
+  pub own : b.0.known.own ≡ map (fill_with r words) a.0.known.own
+
+-- The record is made ready. Of the pass's own records this one is ready then, and the others are as they were.
+pub record Readies {G : Type 0} (table : TableView) (becomes : G → Event → G → Type 0) (r : Rec) (a b : SeatView × G) : Type 0 where
+  pub does : Does table becomes owning (Ready r ∷ []) a b
+  pub own : b.0.known.own ≡ map (hold_as r IsReady) a.0.known.own
 
 -- The record is released, and is no more among the pass's own; all others are.
-pub record GivesUp (layout : Layout) (r : Rec) (k j : Known) : Type 0 where
-  pub makes : Succeeds layout (Release r ∷ []) k j
-  pub own : j.own ≡ without_record r k.own
+pub record GivesUp {G : Type 0} (table : TableView) (becomes : G → Event → G → Type 0) (r : Rec) (a b : SeatView × G) : Type 0 where
+  pub does : Does table becomes owning (Release r ∷ []) a b
+  pub own : b.0.known.own ≡ without_record r a.0.known.own
+
+-- none of these is the record
+abbrev pub HasNone : Rec → List Rec → Type 0
+HasNone r recs = All (λ s. s ≢ r) recs
+
+-- none is listed twice
+abbrev pub AreApart : List Rec → Type 0
+AreApart [] = Unit {0}
+AreApart (r ∷ recs) = HasNone r recs × AreApart recs
+
+-- The pass has just these records, each once, and all of them claimed and not made ready.
+pub record HoldsJust (k : Known) (recs : List Rec) : Type 0 where
+  pub only : All (λ o. (o.holding ≡ Held) × Contains recs o.rec) k.own
+  pub each : All (IsHeld k) recs
+  pub apart : AreApart recs
+
+-- The records are released, one after the other, and the pass has no record of its own then.
+pub record GivesUpAll {G : Type 0} (table : TableView) (becomes : G → Event → G → Type 0) (recs : List Rec) (a b : SeatView × G) : Type 0 where
+  pub does : Does table becomes owning (map (λ r. Release r) recs) a b
+  pub own : b.0.known.own ≡ []

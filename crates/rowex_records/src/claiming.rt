@@ -1,33 +1,38 @@
 //! Records claimed, and given up again.
 
-ghost use Rattle.std.specs.Prelude.{◌≡◌, ◌<◌, IfSome, MatchOption};
+ghost use Rattle.std.specs.Prelude.{◌≡◌, ◌<◌, IfNone, IfSome, MatchOption, All};
 ghost use Rattle.moments.specs.declared.Rec.TheVariants.{Node as a_node, Leaf as a_leaf};
-ghost use Rattle.rowex_core.specs.declared.event.Act.TheVariants.{Claim};
 ghost use Rattle.rowex_core.specs.Cores.{HasRecord};
-ghost use Rattle.rowex_core.specs.Knowing.{IsEvent};
 ghost use Rattle.rowex_table.specs.Rights.{IsHeld};
-ghost use Rattle.rowex_table.specs.Seats.{IsSame, known};
-ghost use Rattle.epochs.specs.Runs.{silent};
-ghost use Rattle.rowex_records.specs.Claims.{Claims, FindsNone};
-ghost use Rattle.rowex_records.specs.Records.{GivesUp};
+ghost use Rattle.rowex_table.specs.Seats.{IsSeatOf};
+ghost use Rattle.rowex_records.specs.Claims.{AllMissed, Claims, FindsNone, begin_of, turned};
+ghost use Rattle.rowex_records.specs.Records.{GivesUp, GivesUpAll, HoldsJust};
 
-use epochs::tell;
-use rowex_core::{Act, Gate, Rec};
+use rowex_core::{Gate, Rec};
 use rowex_table::{HotTable, TableSeat};
 
 /// Claims the first leaf record that it finds free; answers its number.
 ///
-/// Each record is tried once, from number 0 upwards; `None` if no try found one free.
-pub fn claim_leaf<G: Gate>(table: &HotTable, seat: &mut TableSeat, gate: &mut G) -> Option<u32>
-    requires own { seat.old.seat.table_id ≡ table.now.table.shared.table_id }
-    ensures seat { IsSame seat.old seat.new }
+/// Each record is tried once, from number `from` on, and from 0 on after the last; `None` if no try found one free. A `from` that
+/// is out of range counts as 0.
+pub fn claim_leaf<G: Gate>(
+    table: &HotTable,
+    seat: &mut TableSeat,
+    gate: &mut G,
+    from: u32,
+) -> Option<u32>
+    requires own { IsSeatOf table.now seat.old }
     ensures claims { MatchOption result
-        (FindsNone table.now.layout a_leaf table.now.layout.leaves (known seat.old) (known seat.new))
-        (λ n. (n < table.now.layout.leaves) × Claims table.now.layout a_leaf n (known seat.old) (known seat.new)) }
-    ensures held { IfSome result (λ n. IsHeld (known seat.new) (a_leaf n)) }
+        (let n = table.now.layout.leaves in FindsNone table.now G.becomes a_leaf n (begin_of n from) n (seat.old, gate.old) (seat.new, gate.new))
+        (λ number. let n = table.now.layout.leaves in Claims table.now G.becomes a_leaf n (begin_of n from) number (seat.old, gate.old) (seat.new, gate.new)) }
+    ensures none { IfNone result (AllMissed a_leaf table.now.layout.leaves seat.new.known.failed seat.old.known.steps) }
+    ensures held { IfSome result (λ number. (number < table.now.layout.leaves) × IsHeld seat.new.known (a_leaf number)) }
 {
-    for number in 0..table.layout.leaves {
-        if claim(table, seat, gate, Rec::Leaf(number)) == 0 {
+    let leaves = table.layout().leaves;
+    let begin = first(from, leaves);
+    for tried in 0..leaves {
+        let number = turn(begin, tried, leaves);
+        if table.claim(seat, gate, Rec::Leaf(number)) == 0 {
             return Some(number);
         }
     }
@@ -36,43 +41,72 @@ pub fn claim_leaf<G: Gate>(table: &HotTable, seat: &mut TableSeat, gate: &mut G)
 
 /// Claims the first node record that it finds free; answers its number.
 ///
-/// Each record is tried once, from number 0 upwards; `None` if no try found one free.
-pub fn claim_node<G: Gate>(table: &HotTable, seat: &mut TableSeat, gate: &mut G) -> Option<u32>
-    requires own { seat.old.seat.table_id ≡ table.now.table.shared.table_id }
-    ensures seat { IsSame seat.old seat.new }
+/// Each record is tried once, from number `from` on, and from 0 on after the last; `None` if no try found one free. A `from` that
+/// is out of range counts as 0.
+pub fn claim_node<G: Gate>(
+    table: &HotTable,
+    seat: &mut TableSeat,
+    gate: &mut G,
+    from: u32,
+) -> Option<u32>
+    requires own { IsSeatOf table.now seat.old }
     ensures claims { MatchOption result
-        (FindsNone table.now.layout a_node table.now.layout.nodes (known seat.old) (known seat.new))
-        (λ n. (n < table.now.layout.nodes) × Claims table.now.layout a_node n (known seat.old) (known seat.new)) }
-    ensures held { IfSome result (λ n. IsHeld (known seat.new) (a_node n)) }
+        (let n = table.now.layout.nodes in FindsNone table.now G.becomes a_node n (begin_of n from) n (seat.old, gate.old) (seat.new, gate.new))
+        (λ number. let n = table.now.layout.nodes in Claims table.now G.becomes a_node n (begin_of n from) number (seat.old, gate.old) (seat.new, gate.new)) }
+    ensures none { IfNone result (AllMissed a_node table.now.layout.nodes seat.new.known.failed seat.old.known.steps) }
+    ensures held { IfSome result (λ number. (number < table.now.layout.nodes) × IsHeld seat.new.known (a_node number)) }
 {
-    for number in 0..table.layout.nodes {
-        if claim(table, seat, gate, Rec::Node(number)) == 0 {
+    let nodes = table.layout().nodes;
+    let begin = first(from, nodes);
+    for tried in 0..nodes {
+        let number = turn(begin, tried, nodes);
+        if table.claim(seat, gate, Rec::Node(number)) == 0 {
             return Some(number);
         }
     }
     None
 }
 
-/// Tries to claim a record, and tells the gate; answers the state word that it found.
-fn claim<G: Gate>(table: &HotTable, seat: &mut TableSeat, gate: &mut G, rec: Rec) -> u64
-    requires own { seat.old.seat.table_id ≡ table.now.table.shared.table_id }
-    requires range { HasRecord table.now.layout rec }
-    ensures seat { IsSame seat.old seat.new }
-    ensures told { IsEvent table.now.layout (Claim rec result) silent (known seat.old) (known seat.new) }
+/// The number to begin at, of `all`.
+fn first(from: u32, all: u32) -> u32
+    ensures begin { result ≡ begin_of all from }
+    ensures low { 0 < all → result < all }
 {
-    let found = table.claim(seat, rec);
-    tell(gate, seat, Act::Claim { rec, found });
-    found
+    if from < all { from } else { 0 }
+}
+
+/// Of `all` numbers the one that is `tried` after `begin`, where 0 comes after the last.
+fn turn(begin: u32, tried: u32, all: u32) -> u32
+    requires { (begin < all) × (tried < all) }
+    ensures turned { result ≡ turned all begin tried }
+    ensures low { result < all }
+{
+    let left = all - begin;
+    if tried < left {
+        begin + tried
+    } else {
+        tried - left
+    }
 }
 
 /// Makes a record free again that the pass has claimed and not made ready.
 pub fn give_up<G: Gate>(table: &HotTable, seat: &mut TableSeat, gate: &mut G, rec: Rec)
-    requires own { seat.old.seat.table_id ≡ table.now.table.shared.table_id }
+    requires own { IsSeatOf table.now seat.old }
     requires range { HasRecord table.now.layout rec }
-    requires held { IsHeld (known seat.old) rec }
-    ensures seat { IsSame seat.old seat.new }
-    ensures gone { GivesUp table.now.layout rec (known seat.old) (known seat.new) }
+    requires held { IsHeld seat.old.known rec }
+    ensures { GivesUp table.now G.becomes rec (seat.old, gate.old) (seat.new, gate.new) }
 {
-    table.release(seat, rec);
-    tell(gate, seat, Act::Release { rec });
+    table.release(seat, gate, rec);
+}
+
+/// Makes all the records free again that the pass has, where each of them is claimed and not made ready.
+pub fn give_up_all<G: Gate>(table: &HotTable, seat: &mut TableSeat, gate: &mut G, recs: &[Rec])
+    requires own { IsSeatOf table.now seat.old }
+    requires range { All (HasRecord table.now.layout) recs.now }
+    requires held { HoldsJust seat.old.known recs.now }
+    ensures { GivesUpAll table.now G.becomes recs.now (seat.old, gate.old) (seat.new, gate.new) }
+{
+    for index in 0..recs.len() {
+        give_up(table, seat, gate, recs[index]);
+    }
 }

@@ -1,23 +1,22 @@
 //! Records filled with the words of a leaf or of a node, and made ready.
 
-ghost use Rattle.std.specs.Prelude.{◌≡◌, ◌<◌, ◌+◌, length};
+ghost use Rattle.std.specs.Prelude.{◌≡◌, ◌<◌, ◌+◌, ℕ, List, length};
 ghost use Rattle.moments.specs.declared.Rec.TheVariants.{Node as a_node, Leaf as a_leaf};
 ghost use Rattle.record_words.specs.Leaf.{leaf_words};
 ghost use Rattle.record_words.specs.Node.{node_words};
 ghost use Rattle.rowex_core.specs.Cores.{HasRecord, word_count_of};
 ghost use Rattle.rowex_core.specs.Reading.{IsPacked};
 ghost use Rattle.rowex_table.specs.Rights.{IsHeld};
-ghost use Rattle.rowex_table.specs.Seats.{IsSame, known};
-ghost use Rattle.rowex_records.specs.Records.{Fills};
+ghost use Rattle.rowex_table.specs.Seats.{IsSeatOf};
+ghost use Rattle.rowex_records.specs.Records.{Fills, IsFilled, Readies};
 
 use compound_node::Node;
-use epochs::tell;
 use key_bits::Key;
 use record_words::{pack_leaf, pack_node};
-use rowex_core::{Act, Gate, Rec};
+use rowex_core::{Gate, Rec};
 use rowex_table::{HotTable, TableSeat};
 
-/// Fills a claimed leaf record with a key and a value, and makes it ready, in 33 steps.
+/// Fills a claimed leaf record with a key and a value, in 32 steps.
 pub fn fill_leaf<G: Gate>(
     table: &HotTable,
     seat: &mut TableSeat,
@@ -26,18 +25,18 @@ pub fn fill_leaf<G: Gate>(
     key: &Key,
     value: u64,
 )
-    requires own { seat.old.seat.table_id ≡ table.now.table.shared.table_id }
+    requires own { IsSeatOf table.now seat.old }
     requires range { number < table.now.layout.leaves }
-    requires held { IsHeld (known seat.old) (a_leaf number) }
-    ensures seat { IsSame seat.old seat.new }
-    ensures filled { Fills table.now.layout (a_leaf number) (leaf_words (key.now, value)) (known seat.old) (known seat.new) }
-    ensures steps { (known seat.new).steps ≡ (known seat.old).steps + 33 }
+    requires held { IsHeld seat.old.known (a_leaf number) }
+    ensures fills { Fills table.now G.becomes (a_leaf number) (leaf_words (key.now, value)) (seat.old, gate.old) (seat.new, gate.new) }
+    ensures filled { IsFilled seat.new.known (a_leaf number) (leaf_words (key.now, value)) }
+    ensures steps { seat.new.known.steps ≡ seat.old.known.steps + 32 }
 {
     let words = pack_leaf(key, value);
     fill_words(table, seat, gate, Rec::Leaf(number), &words);
 }
 
-/// Fills a claimed node record with a node, and makes it ready, in 58 steps.
+/// Fills a claimed node record with a node, in 57 steps.
 pub fn fill_node<G: Gate>(
     table: &HotTable,
     seat: &mut TableSeat,
@@ -45,18 +44,18 @@ pub fn fill_node<G: Gate>(
     number: u32,
     node: &Node,
 )
-    requires own { seat.old.seat.table_id ≡ table.now.table.shared.table_id }
+    requires own { IsSeatOf table.now seat.old }
     requires range { number < table.now.layout.nodes }
-    requires held { IsHeld (known seat.old) (a_node number) }
-    ensures seat { IsSame seat.old seat.new }
-    ensures filled { Fills table.now.layout (a_node number) (node_words node.now) (known seat.old) (known seat.new) }
-    ensures steps { (known seat.new).steps ≡ (known seat.old).steps + 58 }
+    requires held { IsHeld seat.old.known (a_node number) }
+    ensures fills { Fills table.now G.becomes (a_node number) (node_words node.now) (seat.old, gate.old) (seat.new, gate.new) }
+    ensures filled { IsFilled seat.new.known (a_node number) (node_words node.now) }
+    ensures steps { seat.new.known.steps ≡ seat.old.known.steps + 57 }
 {
     let words = pack_node(node);
     fill_words(table, seat, gate, Rec::Node(number), &words);
 }
 
-/// Stores the words of a claimed record from offset 1 on, and makes it ready.
+/// Stores the words of a claimed record from offset 1 on.
 fn fill_words<G: Gate>(
     table: &HotTable,
     seat: &mut TableSeat,
@@ -64,20 +63,25 @@ fn fill_words<G: Gate>(
     rec: Rec,
     words: &[u64],
 )
-    requires own { seat.old.seat.table_id ≡ table.now.table.shared.table_id }
+    requires own { IsSeatOf table.now seat.old }
     requires range { HasRecord table.now.layout rec }
-    requires held { IsHeld (known seat.old) rec }
+    requires held { IsHeld seat.old.known rec }
     requires words { (length words.now ≡ word_count_of rec) × IsPacked rec words.now }
-    ensures seat { IsSame seat.old seat.new }
-    ensures filled { Fills table.now.layout rec words.now (known seat.old) (known seat.new) }
-    ensures steps { (known seat.new).steps ≡ (known seat.old).steps + length words.now + 1 }
+    ensures fills { Fills table.now G.becomes rec words.now (seat.old, gate.old) (seat.new, gate.new) }
+    ensures filled { IsFilled seat.new.known rec words.now }
+    ensures steps { seat.new.known.steps ≡ seat.old.known.steps + length words.now }
 {
     for index in 0..words.len() {
-        let offset = index as u8 + 1;
-        let word = words[index];
-        table.fill(seat, rec, offset, word);
-        tell(gate, seat, Act::Fill { rec, offset, word });
+        table.fill(seat, gate, rec, index as u8 + 1, words[index]);
     }
-    table.ready(seat, rec);
-    tell(gate, seat, Act::Ready { rec });
+}
+
+/// Makes a claimed record live that has been filled.
+pub fn make_ready<G: Gate>(table: &HotTable, seat: &mut TableSeat, gate: &mut G, rec: Rec)
+    requires own { IsSeatOf table.now seat.old }
+    requires range { HasRecord table.now.layout rec }
+    requires filled { (words : List ℕ) × IsFilled seat.old.known rec words }
+    ensures { Readies table.now G.becomes rec (seat.old, gate.old) (seat.new, gate.new) }
+{
+    table.ready(seat, gate, rec);
 }

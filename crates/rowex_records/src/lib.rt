@@ -4,8 +4,8 @@
 mod claiming;
 mod filling;
 
-pub use claiming::{claim_leaf, claim_node, give_up};
-pub use filling::{fill_leaf, fill_node};
+pub use claiming::{claim_leaf, claim_node, give_up, give_up_all};
+pub use filling::{fill_leaf, fill_node, make_ready};
 
 #[cfg(test)]
 mod tests;

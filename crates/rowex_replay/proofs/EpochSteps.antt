@@ -7,7 +7,7 @@ use Rattle.record_words.specs.declared.layout.Layout.{Layout}
 use Rattle.moments.specs.declared.Pin.{Pin}
 use Rattle.moments.specs.declared.Round.{Round}
 use Rattle.moments.specs.Core.{has_seen}
-use Rattle.moments.specs.Steps.{lowered}
+use Rattle.moments.specs.Steps.{lowered, with_pin, with_epoch}
 use Rattle.rowex_core.specs.declared.event.Act.TheVariants.{ClearPin, LoadEpoch, LoadPin, SetPin}
 use Rattle.rowex_core.specs.Cores.{Core, IsLawful}
 use Rattle.rowex_core.specs.Words.{pin_word}
@@ -35,7 +35,7 @@ pub own_value : {X : Type 0} (f : ℕ → X) (q i : ℕ) → (if nat_eq i q then
 own_value f q i = elim (cases_Bool (nat_eq i q)) [ inl e ↦ rw e (ap f (sym (eqb-true i q e))) | inr e ↦ rw e refl ]
 
 pub passes_are : (s : StateView) (c : Core) → IsStateOf s c → (passes : List PassState) (pins : ℕ → Option Pin) (rounds : ℕ → Round) → ArePassesOf passes c.layout pins rounds →
-    IsStateOf (record s { passes = passes }) (record c { pins = pins; rounds = rounds })
+    IsStateOf (record s { passes = passes }) (record c { shared = record c.shared { pins = pins; rounds = rounds } })
 passes_are s c h passes pins rounds a = record { records = h.records; passes = a; anchor = h.anchor; root = h.root; epoch = h.epoch; changes = h.changes; items = h.items }
 
 -- the pass itself
@@ -82,14 +82,14 @@ epoch_loads s q w p is at c lawful h = (
           (round_begun p c.layout (c.pins q) (c.rounds q) c.epoch c.past.now own)).each i x e);
     }
 
-epoch_is : (s : StateView) (c : Core) → IsStateOf s c → (e : ℕ) → IsStateOf (record s { epoch = e }) (record c { epoch = e })
+epoch_is : (s : StateView) (c : Core) → IsStateOf s c → (e : ℕ) → IsStateOf (record s { epoch = e }) (record c { shared = with_epoch c.shared e })
 epoch_is s c h e = record { records = h.records; passes = h.passes; anchor = h.anchor; root = h.root; epoch = refl; changes = h.changes; items = h.items }
 
 -- ---- pins
 
 -- the passes with one pin changed
 pub pin_set : (s : StateView) (c : Core) → IsStateOf s c → (q : ℕ) (p : PassState) (pin : Option Pin) → slice_get s.passes q ≡ Some p →
-    IsStateOf (record s { passes = set s.passes q (record p { pin = option_map (λ (x : Pin). x.word) pin }) }) (record c { pins = λ i. if nat_eq i q then pin else c.pins i })
+    IsStateOf (record s { passes = set s.passes q (record p { pin = option_map (λ (x : Pin). x.word) pin }) }) (record c { shared = with_pin c.shared q pin })
 pin_set s c h q p pin at = passes_are s c h (set s.passes q (record p { pin = option_map (λ (x : Pin). x.word) pin })) (λ i. if nat_eq i q then pin else c.pins i) c.rounds same_rounds
   where
     own : IsPassOf c.layout p (c.pins q) (c.rounds q)

@@ -5,14 +5,15 @@ use Rattle.moments.specs.declared.Rec.TheVariants.{Node as a_node}
 use Rattle.rowex_core.specs.declared.event.Act.TheVariants.{Lock, Unlock}
 use Rattle.rowex_core.specs.declared.event.Target.TheVariants.{Node as NodeTarget}
 use Rattle.rowex_core.specs.Cores.{Core, IsLawful}
-use Rattle.rowex_core.specs.Events.{LegalAct, after, with_lock, IsInTree}
+use Rattle.rowex_core.specs.Events.{LegalAct, after, IsInTree}
 use Rattle.rowex_replay.specs.declared.fate.Fate.TheVariants.{InTree as IsStored}
 use Rattle.rowex_replay.specs.Records.{RecordsView, HasState, fate_in, lock_in, with_lock_in}
 use Rattle.rowex_replay.specs.States.{StateView, IsStateOf}
 use Rattle.rowex_replay.proofs.Tables as table
 use Rattle.rowex_replay.proofs.Reading.{state_from, fate_at, tree_from}
+use Rattle.moments.specs.Steps.{with_lock}
 
-pub lock_is : (s : StateView) (c : Core) → IsStateOf s c → (n : ℕ) (o : Option ℕ) → IsStateOf (record s { records = with_lock_in s.records n o }) (with_lock c n o)
+pub lock_is : (s : StateView) (c : Core) → IsStateOf s c → (n : ℕ) (o : Option ℕ) → IsStateOf (record s { records = with_lock_in s.records n o }) (record c { shared = with_lock c.shared n o })
 lock_is s c h n o = record {
   records = table.lock_set s.records c.layout c.words c.fate c.lock h.records n o;
   passes = h.passes;

@@ -63,7 +63,7 @@ module _ (s : StateView) (c : Core) (words : Rec → List ℕ) (q : ℕ) (root :
         let there = table.has_fate s.records c.layout words c.fate c.lock st.at.records (a_node i) f e in
         let y = table.lock_there s.records c.layout words c.fate c.lock st.at.records (a_node i) there in
         get_or_from_slice_get s.records.locks i y.0 None y.1 ∙ (sym (st.at.records.locks_are i y.0 y.1) ∙
-        may.goes i (since, st.at.records.fates_are (a_node i) f e ∙ ap fate_of is) (λ l. false≢true (sym off ∙ (tells.nodes_are i).1 l)));
+        may.goes i since (st.at.records.fates_are (a_node i) f e ∙ ap fate_of is) (λ l. false≢true (sym off ∙ (tells.nodes_are i).1 l)));
   }
 
   -- the change that is found is the one that the publish makes
@@ -144,7 +144,7 @@ publishes s q root linked x now t read m one same next c words st =
         top = y.0.top;
         tree = y.0.tree;
         comes = all_come s c words q root st linked y.1 y.0 m;
-        goes = all_go s c words q root st linked y.1 m;
+        goes = λ n since e. all_go s c words q root st linked y.1 m n (since, e);
         change = subst (λ w. Rattle.moments.specs.Told.IsChange (c.past.moment c.past.now) w (tree_of (heap_of words) root)) z.0 z.1;
       },
       published_is s c words q root st linked y.1 now t x same next z.0,

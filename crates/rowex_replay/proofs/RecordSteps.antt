@@ -6,7 +6,7 @@ use Rattle.rowex_core.specs.declared.event.Act.TheVariants.{Claim, Fill, Ready, 
 use Rattle.rowex_core.specs.Reading.{IsPacked}
 use Rattle.rowex_core.specs.Cores.{Core, IsLawful, HasRecord}
 use Rattle.rowex_core.specs.Words.{tag_of, lock_of, state_at}
-use Rattle.rowex_core.specs.Events.{LegalAct, after, claimed, with_fate, IsOffset}
+use Rattle.rowex_core.specs.Events.{LegalAct, after, claimed, IsOffset}
 use Rattle.rowex_replay.specs.declared.fate.Fate.{Fate as Stored}
 use Rattle.rowex_replay.specs.declared.fate.Fate.TheVariants.{Free as IsFree, Held as IsHeld, Ready as IsReady}
 use Rattle.rowex_replay.specs.Fates.{fate_of}
@@ -14,9 +14,10 @@ use Rattle.rowex_replay.specs.Records.{RecordsView, HasState, IsPackedIn, words_
 use Rattle.rowex_replay.specs.States.{StateView, IsStateOf}
 use Rattle.rowex_replay.proofs.Tables as table
 use Rattle.rowex_replay.proofs.Reading.{held_at, state_from, state_is, word_0, words_from}
+use Rattle.moments.specs.Steps.{with_fate}
 
 -- the replay with one fate changed is at the core with that fate changed
-pub with_fate_is : (s : StateView) (c : Core) → IsStateOf s c → (r : Rec) (g : Stored) → IsStateOf (record s { records = with_fate_in s.records r g }) (with_fate c r (fate_of g))
+pub with_fate_is : (s : StateView) (c : Core) → IsStateOf s c → (r : Rec) (g : Stored) → IsStateOf (record s { records = with_fate_in s.records r g }) (record c { shared = with_fate c.shared r (fate_of g) })
 with_fate_is s c h r g = record {
   records = table.fate_set s.records c.layout c.words c.fate c.lock h.records r g;
   passes = h.passes;
@@ -29,10 +30,10 @@ with_fate_is s c h r g = record {
 
 -- ---- claim
 
-claim_taken : (s : StateView) (c : Core) (q : ℕ) (r : Rec) (f : Fate) → f ≡ Free → IsStateOf s c → IsStateOf (record s { records = with_fate_in s.records r (IsHeld q) }) (claimed c q r f)
+claim_taken : (s : StateView) (c : Core) (q : ℕ) (r : Rec) (f : Fate) → f ≡ Free → IsStateOf s c → IsStateOf (record s { records = with_fate_in s.records r (IsHeld q) }) (record c { shared = claimed c.shared q r f })
 claim_taken s c q r f e h = rw e (with_fate_is s c h r (IsHeld q))
 
-claim_left : (c : Core) (q : ℕ) (r : Rec) (f : Fate) → f ≢ Free → claimed c q r f ≡ c
+claim_left : (c : Core) (q : ℕ) (r : Rec) (f : Fate) → f ≢ Free → claimed c.shared q r f ≡ c.shared
 claim_left c q r Free ne = absurd (ne refl)
 claim_left c q r (Held p) ne = refl
 claim_left c q r (ReadyBy p) ne = refl

@@ -8,7 +8,7 @@ use Rattle.moments.specs.declared.Rec.TheVariants.{Node as a_node, Leaf as a_lea
 use Rattle.moments.specs.Core.{Fate, Free, Held, Ready as ReadyBy, InTree, Unlinked, Marked, has_seen}
 use Rattle.rowex_core.specs.declared.event.Act.TheVariants.{Mark, GiveBack}
 use Rattle.rowex_core.specs.Cores.{Core, IsLawful}
-use Rattle.rowex_core.specs.Events.{LegalAct, after, marked, given_back, unlocked, with_fate, with_lock}
+use Rattle.rowex_core.specs.Events.{LegalAct, after, marked, given_back}
 use Rattle.rowex_replay.specs.declared.fate.Fate.{Fate as Stored}
 use Rattle.rowex_replay.specs.declared.fate.Fate.TheVariants.{Free as IsFree, Unlinked as IsUnlinked, Marked as IsMarked}
 use Rattle.rowex_replay.specs.declared.passes.PassState.{PassState}
@@ -19,11 +19,12 @@ use Rattle.rowex_replay.specs.States.{StateView, IsStateOf}
 use Rattle.rowex_replay.proofs.Reading.{fate_at, fate_from, marked_stored, state_from}
 use Rattle.rowex_replay.proofs.RecordSteps.{with_fate_is}
 use Rattle.rowex_replay.proofs.LockSteps.{lock_is}
+use Rattle.moments.specs.Steps.{with_fate, with_lock, unlocked}
 
 -- ---- marks
 
-marked_is : (s : StateView) (c : Core) → IsStateOf s c → (r : Rec) (g : Stored) → IsStateOf (record s { records = marked_in s.records r g }) (with_fate (unlocked c r) r (fate_of g))
-marked_is s c h (a_node n) g = with_fate_is (record s { records = with_lock_in s.records n None }) (with_lock c n None) (lock_is s c h n None) (a_node n) g
+marked_is : (s : StateView) (c : Core) → IsStateOf s c → (r : Rec) (g : Stored) → IsStateOf (record s { records = marked_in s.records r g }) (record c { shared = with_fate (unlocked c.shared r) r (fate_of g) })
+marked_is s c h (a_node n) g = with_fate_is (record s { records = with_lock_in s.records n None }) (record c { shared = with_lock c.shared n None }) (lock_is s c h n None) (a_node n) g
 marked_is s c h (a_leaf n) g = with_fate_is s c h (a_leaf n) g
 
 pub marks : (s : StateView) (q : ℕ) (r : Rec) (epoch since last : ℕ) (p : PassState) → slice_get s.passes q ≡ Some p → fate_in s.records r ≡ Some (IsUnlinked since last q) → p.epoch ≡ epoch → last < p.moment →
@@ -32,7 +33,7 @@ marks s q r epoch since last p at gone same before c lawful h =
     let own = h.passes.each q p at in
     let x = fate_at s c h r (IsUnlinked since last q) gone in (
       (x.0, sym same ∙ sym own.epoch_is, (since, last, x.1, subst (λ m. last < m) (sym own.moment_is) before)),
-      subst (λ f. IsStateOf (record s { records = marked_in s.records r (IsMarked since last epoch) }) (marked c r epoch f)) (sym x.1) (marked_is s c h r (IsMarked since last epoch)),
+      subst (λ f. IsStateOf (record s { records = marked_in s.records r (IsMarked since last epoch) }) (record c { shared = marked c.shared r epoch f })) (sym x.1) (marked_is s c h r (IsMarked since last epoch)),
     )
 
 -- ---- giving back
@@ -60,11 +61,11 @@ gives_back s q r epoch w p at past has (since, last, e) c lawful h =
     let y = past_is s c h q epoch p at past in
     let z = fate_at s c h r (IsMarked since last epoch) e in (
       (x.0, x.1, y.0, y.1, y.2),
-      subst (λ f. IsStateOf (record s { records = with_fate_in s.records r IsFree }) (given_back c r epoch f)) (sym z.1)
+      subst (λ f. IsStateOf (record s { records = with_fate_in s.records r IsFree }) (record c { shared = given_back c.shared r epoch f })) (sym z.1)
           (rw (eq-eqb epoch epoch refl) (with_fate_is s c h r IsFree)),
     )
 
-kept_back : (c : Core) (r : Rec) (epoch : ℕ) (f : Fate) → ((since last : ℕ) → f ≡ Marked since last epoch → ⊥) → given_back c r epoch f ≡ c
+kept_back : (c : Core) (r : Rec) (epoch : ℕ) (f : Fate) → ((since last : ℕ) → f ≡ Marked since last epoch → ⊥) → given_back c.shared r epoch f ≡ c.shared
 kept_back c r epoch Free ne = refl
 kept_back c r epoch (Held p) ne = refl
 kept_back c r epoch (ReadyBy p) ne = refl

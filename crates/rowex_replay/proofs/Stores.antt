@@ -10,11 +10,10 @@ use Rattle.moments.specs.declared.Rec.TheVariants.{Node as a_node}
 use Rattle.moments.specs.Steps.{same_rec}
 use Rattle.moments.proofs.Legal.{same_rec_refl, same_rec_true}
 use Rattle.rowex_core.specs.declared.event.Act.TheVariants.{Publish}
-use Rattle.rowex_core.specs.declared.event.Spot.{Spot}
 use Rattle.rowex_core.specs.declared.event.Spot.TheVariants.{Root, Slot}
 use Rattle.rowex_core.specs.Reading.{entry_of, IsPacked}
 use Rattle.rowex_core.specs.Cores.{Core, IsLawful, IsWhole}
-use Rattle.rowex_core.specs.Events.{LegalAct, IsLegalPublish, after, stored_words, stored_root}
+use Rattle.rowex_core.specs.Events.{LegalAct, after, stored_words}
 use Rattle.rowex_core.proofs.Reading.{entry_of_word}
 use Rattle.rowex_replay.specs.Records.{RecordsView, AreRecordsOf, lock_in, with_words_in}
 use Rattle.rowex_replay.specs.States.{StateView, IsStateOf, IsStepped}
@@ -24,10 +23,6 @@ use Rattle.rowex_replay.proofs.Tables as table
 pub entry_is : (e : Option Entry) (w : ℕ) → HasEntryWord e → entry_word e ≡ w → entry_of w ≡ e
 entry_is e w fits is = subst (λ z. entry_of z ≡ e) is (entry_of_word e fits)
 
--- what is asked of a publish is asked of its tree
-may_publish : (c : Core) (q : ℕ) (spot : Spot) (w : ℕ) → IsLegalPublish c q spot w → MayPublish c q (stored_words c spot w) (stored_root c spot w)
-may_publish c q spot w l = record { top = l.top; tree = l.tree; comes = l.comes; goes = l.goes; change = l.change }
-
 -- ---- the root
 
 root_stored : (s : StateView) (c : Core) → ∥ IsLawful c ∥₁ → IsStateOf s c → IsStored s c c.words
@@ -36,8 +31,8 @@ root_stored s c lawful h = record { lawful = lawful; at = h; leaves = λ n. refl
 pub root_steps : (b : Bool) (s t : StateView) (q w : ℕ) → HasEntryWord (entry_of w) → entry_word (entry_of w) ≡ w → s.anchor ≡ Some q → IsPublished b s t q (entry_of w) → IsStepped b s t q (Publish Root w)
 root_steps true s t q w fits is own p = λ c lawful h.
     let x = p c c.words (root_stored s c lawful h) in
-    (record { locked = h.anchor ∙ own; entry = (fits, is); top = x.0.top; tree = x.0.tree; comes = x.0.comes; goes = x.0.goes; packed = tt; change = x.0.change }, x.1)
-root_steps false s t q w fits is own (same, p) = (same, λ c lawful h legal. p c c.words (root_stored s c ∣ lawful ∣₁ h) lawful.records.packed (may_publish c q Root w legal))
+    (record { locked = h.anchor ∙ own; entry = (fits, is); packed = tt; next = x.0 }, x.1)
+root_steps false s t q w fits is own (same, p) = (same, λ c lawful h legal. p c c.words (root_stored s c ∣ lawful ∣₁ h) lawful.records.packed legal.next)
 
 -- ---- an entry word
 
@@ -82,12 +77,8 @@ entry_publishes s t q n j w x y few own at is packed entry p c lawful h =
       record {
         locked = (table.has_words s.records c.layout c.words c.fate c.lock h.records (a_node n) x at, few, h.records.locks_are n (Some q) own);
         entry = entry;
-        top = z.0.top;
-        tree = z.0.tree;
-        comes = z.0.comes;
-        goes = z.0.goes;
         packed = subst (IsPacked (a_node n)) (sym (stored_here c n j w x y (h.records.words_are (a_node n) x at) is)) packed;
-        change = z.0.change;
+        next = z.0;
       },
       z.1,
     )
@@ -96,7 +87,7 @@ pub entry_refused : (s t : StateView) (q n j w : ℕ) (x y : List ℕ) → slice
     IsPublished false (record s { records = with_words_in s.records (a_node n) y }) t q s.root → (c : Core) → IsLawful c → IsStateOf s c → ¬ (LegalAct c q (Publish (Slot n j) w))
 entry_refused s t q n j w x y at is packed (same, p) c lawful h legal =
     p c (stored_words c (Slot n j) w) (entry_stored s c n j w x y ∣ lawful ∣₁ h at is) (entry_packed s c n j w x y lawful h at is packed)
-    (subst (MayPublish c q (stored_words c (Slot n j) w)) h.root (may_publish c q (Slot n j) w legal))
+    (subst (MayPublish c q (stored_words c (Slot n j) w)) h.root legal.next)
 
 pub entry_unpacked : (s : StateView) (q n j w : ℕ) (x y : List ℕ) → slice_get s.records.nodes n ≡ Some x → y ≡ set x (25 + j) w → ¬ (IsPacked (a_node n) y) → (c : Core) → IsLawful c → IsStateOf s c →
     ¬ (LegalAct c q (Publish (Slot n j) w))

@@ -1,15 +1,14 @@
 -- A publish, once its word is stored.
-use Rattle.std.specs.Prelude.{◌≡◌, ◌⊎◌, ℕ, List, Bool, true, false, Option, Some}
+use Rattle.std.specs.Prelude.{◌≡◌, ℕ, List, Bool, true, false, Option}
 use Rattle.compound_node.specs.declared.entries.Entry.{Entry}
-use Rattle.tries.specs.Tree.{Tree, IsTrie, IsBuilt}
+use Rattle.hot_model.specs.declared.Change.{Change}
 use Rattle.moments.specs.declared.Rec.{Rec}
-use Rattle.moments.specs.declared.Rec.TheVariants.{Node as a_node, Leaf as a_leaf}
-use Rattle.moments.specs.Core.{InTree as InTreeSince, Ready as ReadyBy}
-use Rattle.moments.specs.State.{IsTop, IsLinked}
-use Rattle.moments.specs.Told.{items_of, IsChange}
+use Rattle.moments.specs.declared.Rec.TheVariants.{Leaf as a_leaf}
+use Rattle.moments.specs.Steps.{IsNextMoment, published_by}
+use Rattle.moments.specs.Told.{items_of}
 use Rattle.rowex_core.specs.Reading.{IsPacked}
 use Rattle.rowex_core.specs.Cores.{Core, IsLawful, IsWhole, heap_of}
-use Rattle.rowex_core.specs.Events.{IsInTree, after_publish, change_between, tree_of}
+use Rattle.rowex_core.specs.Events.{change_between, tree_of}
 use Rattle.rowex_replay.specs.States.{StateView, IsStateOf}
 
 -- The state is that of the lawful core but for the words of records, which are these: those of leaves are the core's.
@@ -22,17 +21,17 @@ pub record IsStored (s : StateView) (c : Core) (words : Rec → List ℕ) : Type
 abbrev pub ArePacked : Core → (Rec → List ℕ) → Type 0
 ArePacked c words = (r : Rec) → IsWhole (c.fate r) → IsPacked r (words r)
 
--- Pass q may make the tree that the words show from this root the newest moment, its locks on words aside.
-pub record MayPublish (c : Core) (q : ℕ) (words : Rec → List ℕ) (root : Option Entry) : Type 0 where
-  pub top : IsTop (heap_of words) root (tree_of (heap_of words) root)
-  pub tree : (t : Tree) → tree_of (heap_of words) root ≡ Some t → IsTrie t × IsBuilt t
-  pub comes : (r : Rec) → IsLinked (tree_of (heap_of words) root) r → ((since : ℕ) × (c.fate r ≡ InTreeSince since)) ⊎ (c.fate r ≡ ReadyBy q)
-  pub goes : (n : ℕ) → IsInTree c n → ¬ (IsLinked (tree_of (heap_of words) root) (a_node n)) → c.lock n ≡ Some q
-  pub change : IsChange (c.past.moment c.past.now) (change_between q (items_of (c.past.moment c.past.now)) (items_of (tree_of (heap_of words) root))) (tree_of (heap_of words) root)
+-- the change by which pass q then makes the tree that the words show from this root
+abbrev pub change_to : Core → ℕ → (Rec → List ℕ) → Option Entry → Change
+change_to c q words root = change_between q (items_of (c.past.moment c.past.now)) (items_of (tree_of (heap_of words) root))
 
--- the core when it has made it the newest moment
+-- Pass q may make that tree the newest moment, its locks on words aside,
+abbrev pub MayPublish : Core → ℕ → (Rec → List ℕ) → Option Entry → Type 0
+MayPublish c q words root = IsNextMoment c.shared q (heap_of words) root (tree_of (heap_of words) root) (change_to c q words root)
+
+-- and the core when it has.
 abbrev pub published : Core → ℕ → (Rec → List ℕ) → Option Entry → Core
-published c q words root = after_publish c q words root (tree_of (heap_of words) root) (change_between q (items_of (c.past.moment c.past.now)) (items_of (tree_of (heap_of words) root)))
+published c q words root = record { layout = c.layout; words = words; shared = published_by c.shared q root (tree_of (heap_of words) root) (change_to c q words root) }
 
 -- That was done, and may be done in each core whose state it was; or it wasn't, and may be in none.
 abbrev pub IsPublished : Bool → StateView → StateView → ℕ → Option Entry → Type 0

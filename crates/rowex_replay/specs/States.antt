@@ -8,6 +8,7 @@ use Rattle.rowex_core.specs.declared.event.Act.{Act}
 use Rattle.rowex_core.specs.declared.event.Act.TheVariants.{Publish}
 use Rattle.rowex_core.specs.declared.event.Spot.{Spot}
 use Rattle.rowex_core.specs.declared.event.Spot.TheVariants.{Root, Slot}
+use Rattle.record_words.specs.declared.TheConstants.{MAX_ENTRIES}
 use Rattle.rowex_core.specs.Cores.{Core, IsLawful}
 use Rattle.rowex_core.specs.Events.{IsLockedAt, LegalAct, after}
 use Rattle.replay_trees.specs.declared.trees.Item.{Item as ReadItem}
@@ -46,7 +47,7 @@ IsStepped false s t q act = (t ≡ s) × ((c : Core) → IsLawful c → IsStateO
 -- pass q has locked the word of the spot
 abbrev pub HasLock : StateView → ℕ → Spot → Type 0
 HasLock s q Root = s.anchor ≡ Some q
-HasLock s q (Slot n j) = (j < 32) × (lock_in s.records (a_node n) ≡ Some (Some q))
+HasLock s q (Slot n j) = (j < MAX_ENTRIES) × (lock_in s.records (a_node n) ≡ Some (Some q))
 
 -- the act is a publish of pass q, which has locked its word
 abbrev pub IsLockedPublish : StateView → ℕ → Act → Type 0

@@ -8,9 +8,7 @@ ghost use Rattle.rowex_replay.specs.States.{IsStepped};
 use crate::passes::PassState;
 use crate::records::put;
 use crate::state::State;
-
-/// Epochs are below this number.
-const EPOCHS: u64 = 1 << 60;
+use record_words::EPOCHS;
 
 impl State {
     /// The pin and the round of a pass.

@@ -18,6 +18,3 @@ mod state;
 
 pub use fault::ReplayFault;
 pub use replay::Replay;
-
-#[cfg(test)]
-mod tests;

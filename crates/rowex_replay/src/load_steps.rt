@@ -9,11 +9,8 @@ ghost use Rattle.rowex_replay.specs.States.{IsStepped};
 use crate::record_steps::is_fixed_offset;
 use crate::state::State;
 use compound_node::Entry;
-use record_words::unpack_entry;
+use record_words::{HEAD_WORDS, MAX_ENTRIES, unpack_entry};
 use rowex_core::{Rec, Spot};
-
-/// How many entry words a node record has.
-pub(crate) const ENTRIES: u8 = 32;
 
 impl State {
     /// Loads the root or an entry word.
@@ -23,11 +20,11 @@ impl State {
         match spot {
             Spot::Root => is_entry_word(self.root, word),
             Spot::Slot { node, entry } => {
-                if entry >= ENTRIES {
+                if entry as usize >= MAX_ENTRIES {
                     return false;
                 }
                 self.records
-                    .has_word(Rec::Node(node), 25 + entry as usize, word)
+                    .has_word(Rec::Node(node), HEAD_WORDS + entry as usize, word)
             }
         }
     }

@@ -8,7 +8,7 @@ ghost use Rattle.rowex_replay.specs.States.{IsStepped};
 
 use crate::fate::tag_of_lock;
 use crate::state::State;
-use record_words::pack_state;
+use record_words::{Tag, pack_state};
 use rowex_core::{Rec, Target};
 
 impl State {
@@ -59,7 +59,7 @@ impl State {
         if !self.records.has_state(Rec::Node(node), found) {
             return false;
         }
-        if found == 2 {
+        if found == pack_state(Tag::Live) {
             if !self.records.is_in_tree(node) {
                 return false;
             }

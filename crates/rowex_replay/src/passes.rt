@@ -2,8 +2,10 @@
 
 ghost use Rattle.std.specs.Prelude.{◌≡◌, ◌↔◌, ◌<◌, ℕ, IsTrue, true, slice_get, set, Some, None, length, MatchOption, unwrap_or, min, replicate, false};
 
-/// The most passes of an index.
-pub(crate) const MAX_PASSES: usize = 64;
+use record_words::MAX_PASSES;
+
+/// The most passes of an index, as a length.
+const PASSES: usize = MAX_PASSES as usize;
 
 /// The pin of a pass, and its last load of the epoch: what it found, at which moment, the least of it and of the pins
 /// loaded since, and whose they were.
@@ -13,7 +15,7 @@ pub(crate) struct PassState {
     pub(crate) epoch: u64,
     pub(crate) moment: u64,
     pub(crate) bound: u64,
-    pub(crate) seen: [bool; MAX_PASSES],
+    pub(crate) seen: [bool; PASSES],
 }
 
 impl PassState {
@@ -28,7 +30,7 @@ impl PassState {
             epoch: 0,
             moment: 0,
             bound: 0,
-            seen: [false; MAX_PASSES],
+            seen: [false; PASSES],
         }
     }
 
@@ -41,7 +43,7 @@ impl PassState {
             epoch,
             moment,
             bound: epoch,
-            seen: [false; MAX_PASSES],
+            seen: [false; PASSES],
         }
     }
 
@@ -50,7 +52,7 @@ impl PassState {
         ensures { result ≡ with_pin_seen self of pin }
     {
         let mut seen = self.seen;
-        if (of as usize) < MAX_PASSES {
+        if (of as usize) < PASSES {
             seen[of as usize] = true;
         }
         let bound = match pin {

@@ -8,11 +8,10 @@ ghost use Rattle.rowex_core.specs.Reading.{entry_of};
 ghost use Rattle.rowex_replay.specs.Publishing.{IsPublished};
 ghost use Rattle.rowex_replay.specs.States.{HasLock, IsStepped};
 
-use crate::load_steps::ENTRIES;
 use crate::records::{filled, is_node};
 use crate::state::State;
 use compound_node::Entry;
-use record_words::unpack_entry;
+use record_words::{HEAD_WORDS, MAX_ENTRIES, unpack_entry};
 use replay_trees::{Linked, change_between, read_tree};
 use rowex_core::Spot;
 use std::alloc::AllocError;
@@ -65,7 +64,7 @@ impl State {
         ensures err { OnErr result (self.new ≡ self.old) }
         ensures locked { OnErr result (HasLock self.old pass (Slot node entry)) }
     {
-        if entry >= ENTRIES {
+        if entry as usize >= MAX_ENTRIES {
             return Ok(false);
         }
         if !self.records.is_locked_by(node, pass) {
@@ -74,7 +73,7 @@ impl State {
         let Some(before) = self.records.node(node) else {
             return Ok(false);
         };
-        let after = filled(before, 25 + entry as usize, word);
+        let after = filled(before, HEAD_WORDS + entry as usize, word);
         if !is_node(&after) {
             return Ok(false);
         }
@@ -106,7 +105,9 @@ impl State {
         if !self.records.may_link(pass, &linked.nodes, &linked.leaves) {
             return Ok(false);
         }
-        let Some(change) = change_between(pass, &self.items, &linked.items) else {
+        let before = self.items.as_slice();
+        let after = linked.items.as_slice();
+        let Some(change) = change_between(pass, before, after) else {
             return Ok(false);
         };
         let now = self.changes.len() as u64;

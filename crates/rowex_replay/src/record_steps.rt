@@ -8,6 +8,7 @@ ghost use Rattle.rowex_replay.specs.States.{IsStepped};
 
 use crate::fate::Fate;
 use crate::state::State;
+use record_words::{FIRST_ENTRY, LEAF_WORDS, NODE_WORDS, Tag, pack_state};
 use rowex_core::Rec;
 
 impl State {
@@ -18,7 +19,7 @@ impl State {
         if !self.records.has_state(rec, found) {
             return false;
         }
-        if found == 0 {
+        if found == pack_state(Tag::Free) {
             self.records.set_fate(rec, Fate::Held { by: pass });
         }
         true
@@ -96,8 +97,8 @@ fn is_offset(rec: Rec, offset: u8) -> bool
     ensures { IsTrue result ↔ IsOffset rec offset }
 {
     match rec {
-        Rec::Node(_) => 1 <= offset && offset < 58,
-        Rec::Leaf(_) => 1 <= offset && offset < 33,
+        Rec::Node(_) => 1 <= offset && offset < NODE_WORDS as u8,
+        Rec::Leaf(_) => 1 <= offset && offset < LEAF_WORDS as u8,
     }
 }
 
@@ -106,7 +107,7 @@ pub(crate) fn is_fixed_offset(rec: Rec, offset: u8) -> bool
     ensures { IsTrue result ↔ IsFixedOffset rec offset }
 {
     match rec {
-        Rec::Node(_) => 1 <= offset && offset < 26,
-        Rec::Leaf(_) => 1 <= offset && offset < 33,
+        Rec::Node(_) => 1 <= offset && offset < FIRST_ENTRY as u8,
+        Rec::Leaf(_) => 1 <= offset && offset < LEAF_WORDS as u8,
     }
 }

@@ -1,14 +1,15 @@
 -- The opening, and how seats are split and joined.
-use Rattle.std.proofs.Common.{◌≡◌, ◌≢◌, ◌⊎◌, ℕ, zero, suc, ◌+◌, ◌*◌, ◌<◌, ◌≤◌, List, [], ◌∷◌, ◌++◌, length, set, get_or, replicate, Option, Some, None, refl, sym, ap, subst, ◌∙◌, arith, inl, inr, ⊎_elim}
+use Rattle.std.proofs.Common.{◌≡◌, ◌≢◌, ◌⊎◌, ℕ, zero, suc, ◌+◌, ◌*◌, ◌<◌, ◌≤◌, List, [], ◌∷◌, ◌++◌, length, set, get_or, replicate, Bool, true, false, eqb, Option, Some, None, refl, sym, ap, subst, ◌∙◌, arith, inl, inr, ⊎_elim}
 use Rattle.std.proofs.lemmas.List.{set-get_or}
 use Rattle.std.proofs.lemmas.List.Elements.{All-from_recursion, All-nil, All-cons, All-weaker}
 use Rattle.std.specs.Prelude.{All}
-use Rattle.atomic_table.specs.Seated.{TableId}
 use mathlib.Core.Option.{none, some, some-ne-none, some-injective}
 use lib.ListN.{get_elem?}
 use Rattle.atomic_table.specs.Table.{State, Me, Step, Allows, Splits, Joins, opening as first_state}
 use Rattle.atomic_table.specs.Table as table
-use Rattle.atomic_table.proofs.Lists.{at_set}
+use Rattle.atomic_table.proofs.Lists.{at_set, at_longer, at_last, set_else}
+use Rattle.std.proofs.lemmas.Bool.{cases_lt}
+use Rattle.std.proofs.lemmas.Bool.Decides.{eqb_tells}
 use Rattle.hot_model.specs.declared.Change.{Change}
 use Rattle.hot_model.specs.Fronts.{BeginsWith, OthersGoOn}
 use Rattle.record_words.specs.Layout.{word_count}
@@ -22,23 +23,22 @@ use Rattle.rowex_core.specs.Knowing.{IsFact, IsUntouched, Knows, Knowing, Owns}
 use Rattle.rowex_core.specs.Opening.{opening, opening_words}
 use Rattle.rowex_core.proofs.Promises.{opening_is_lawful}
 use Rattle.rowex_table.specs.Rule.{Ruled, opening_of, next_dealer, dealt, paired, first_of_two, second_of_two, with_front, HaveMet, Meeting, met}
-use Rattle.rowex_table.specs.declared.table.TableSeat.{TableSeat}
-use Rattle.rowex_table.specs.Seats.{IsNew, known}
-use Rattle.rowex_table.proofs.Keeping.{Apart, apart_set}
+use Rattle.rowex_table.specs.Seats.{TableView, SeatView, IsNew, IsNewSeat}
+use Rattle.rowex_table.proofs.Keeping.{Apart, apart_set, each_set, set_at}
 
 -- Seats by their numbers, and each of them
 
-numbered : (P : ℕ → TableSeat → Type 0) (first : ℕ) (items : List TableSeat) → ((q : ℕ) (s : TableSeat) → get_elem? items q ≡ some s → P (first + q) s) → All (λ s. (q : ℕ) × (q < first + length items) × P q s) items
+numbered : (P : ℕ → SeatView → Type 0) (first : ℕ) (items : List SeatView) → ((q : ℕ) (s : SeatView) → get_elem? items q ≡ some s → P (first + q) s) → All (λ s. (q : ℕ) × (q < first + length items) × P q s) items
 numbered P first [] h = All-nil (λ s. (q : ℕ) × (q < first + 0) × P q s)
 numbered P first (x ∷ xs) h =
     All-cons (λ s. (q : ℕ) × (q < first + suc (length xs)) × P q s) x xs (first, omega arith, subst (λ z. P z x) (omega arith) (h 0 x refl))
     (All-weaker (λ s. (q : ℕ) × (q < suc first + length xs) × P q s) (λ s. (q : ℕ) × (q < first + suc (length xs)) × P q s) (λ s t. let low = t.1 in (t.0, omega arith, t.2)) xs
     (numbered P (suc first) xs (λ q s e. subst (λ z. P z s) (omega arith) (h (suc q) s e))))
 
-pub all_fit : (table : TableId) (passes : ℕ) (items : List TableSeat) → length items ≡ passes → ((q : ℕ) (s : TableSeat) → get_elem? items q ≡ some s → IsNew table q s)
-    → All (λ s. ((s.seat.table_id ≡ table) × (s.pass < passes)) × (known s ≡ opening_of s.pass)) items
-all_fit table passes items long h = All-weaker (λ s. (q : ℕ) × (q < 0 + length items) × IsNew table q s) (λ s. ((s.seat.table_id ≡ table) × (s.pass < passes)) × (known s ≡ opening_of s.pass))
-    (λ s u. let low = u.1 in let is : s.pass ≡ u.0 = u.2.1 in ((u.2.0, omega arith), u.2.2 ∙ ap opening_of (sym is)))
+-- the seats of new passes, each of its number, are seats of new passes
+pub all_new : (table : TableView) (items : List SeatView) → length items ≡ table.layout.passes → ((q : ℕ) (s : SeatView) → get_elem? items q ≡ some s → IsNew table q s) → All (IsNewSeat table) items
+all_new table items long h = All-weaker (λ s. (q : ℕ) × (q < 0 + length items) × IsNew table q s) (IsNewSeat table)
+    (λ s u. let low = u.1 in let is : s.known.pass ≡ u.0 = ap (λ (k : Known). k.pass) u.2.1 in ((u.2.0, omega arith), u.2.1 ∙ ap opening_of (sym is)))
     items (numbered (IsNew table) 0 items (λ q s e. subst (λ z. IsNew table z s) (omega arith) (h q s e)))
 
 -- The opening
@@ -57,6 +57,7 @@ opens {S = S} layout words is = record {
   shows = subst (Shows (opening layout)) (sym (is ∙ first_words layout)) (opening_is_lawful layout).1;
   knows = λ i v e. only (λ v. Knowing (opening layout) v) (opening_is_lawful layout).2 i v e;
   apart = λ i j q v w a b ov ow. first i v a ∙ sym (first j w b);
+  each = λ q low. (0, Dealer 0, refl, omega arith);
 }
   where
     only : (P : View → Type 0) → P (Dealer 0) → (i : ℕ) (v : View) → get_elem? (Dealer 0 ∷ []) i ≡ some v → P v
@@ -77,9 +78,9 @@ at_end (x ∷ xs) a b (suc j) e = ⊎_elim inl (λ t. inr (ap suc t.0, t.1)) (at
 
 module _ {S : Type 0} (layout : Layout) (id : ℕ) (v left right : View) where
   -- each part keeps to the numbers and the knowledge of the whole, and they have no number in common
-  splits : ((c : Core) → c.layout ≡ layout → Knowing c v → Knowing c left × Knowing c right) → ((q : ℕ) → Owns left q → Owns v q) → ((q : ℕ) → Owns right q → Owns v q) → ((q : ℕ) → Owns left q → Owns right q → ⊥)
+  splits : ((c : Core) → c.layout ≡ layout → Knowing c v → Knowing c left × Knowing c right) → ((q : ℕ) → Owns left q → Owns v q) → ((q : ℕ) → Owns right q → Owns v q) → ((q : ℕ) → Owns left q → Owns right q → ⊥) → ((q : ℕ) → Owns v q → Owns left q ⊎ Owns right q)
       → Splits {S = S} {V = View} (Ruled layout) id v left right
-  splits knowing lo ro lr s r here =
+  splits knowing lo ro lr vs s r here =
       let parts = knowing r.core r.layout_is (r.knows id v here) in
       let views : List View = set s.views id left in
       let apart : Apart views = apart_set s.views id v left here lo r.apart in
@@ -100,12 +101,19 @@ module _ {S : Type 0} (layout : Layout) (id : ℕ) (v left right : View) where
             (λ (olda : get_elem? views i ≡ some x). ⊎_elim (λ (oldb : get_elem? views j ≡ some y). apart i j q x y olda oldb ox oy) (λ (t : (j ≡ length views) × (right ≡ y)). absurd (alone i q x olda ox (subst (λ z. Owns z q) (sym t.1) oy))) (at_end views right y j b))
             (λ (t : (i ≡ length views) × (right ≡ x)). ⊎_elim (λ (oldb : get_elem? views j ≡ some y). absurd (alone j q y oldb oy (subst (λ z. Owns z q) (sym t.1) ox))) (λ (u : (j ≡ length views) × (right ≡ y)). t.0 ∙ sym u.0) (at_end views right y j b))
             (at_end views right x i a);
+        each = λ q low. let seat = r.each q low in ⊎_elim
+            (λ (e : (eqb seat.0 id ≡ true) × (seat.0 ≡ id)). ⊎_elim
+            (λ (o : Owns left q). (id, left, at_longer views (right ∷ []) id left (set_at s.views id left v here), o))
+            (λ (o : Owns right q). (length views, right, at_last views right (length views) refl, o))
+            (vs q (subst (λ z. Owns z q) (some-injective seat.1 v (sym seat.2 ∙ (ap (λ n. get_elem? s.views n) e.1 ∙ here))) seat.3)))
+            (λ (n : (eqb seat.0 id ≡ false) × (seat.0 ≢ id)). (seat.0, seat.1, at_longer views (right ∷ []) seat.0 seat.1 (set_else s.views id seat.0 left n.1 ∙ seat.2), seat.3))
+            (eqb_tells seat.0 id);
       }
 
 new_knows : (c : Core) (m : ℕ) → m < c.layout.passes → IsUntouched c m → Knows c (opening_of m)
 new_knows c m low h = record {
   pass = low;
-  loaded = omega arith;
+  counted = record { loaded = omega arith; failed = All-from_recursion (λ f. f.step < 1) [] tt };
   seen = record { front = (c.changes, refl, h.changes); fresh = ([], refl); facts = All-from_recursion (IsFact c.past) [] tt };
   own = h.own;
 }
@@ -116,11 +124,12 @@ deals {S = S} layout id v m low is = subst (λ (z : View). Splits {S = S} {V = V
     (λ c at k. ((λ q low. k q (omega arith)), new_knows c m (subst (λ (z : Layout). m < z.passes) (sym at) low) (k m (omega arith))))
     (λ q low. omega arith)
     (λ q e. omega arith)
-    (λ q low e. omega arith))
+    (λ q low e. omega arith)
+    (λ q low. ⊎_elim (λ (h : m < q). inl (omega arith)) (λ (h : q ≤ m). inr (omega arith)) (cases_lt m q)))
 
 pub parts : {S : Type 0} (layout : Layout) (id : ℕ) (v : View) (j k : Known) → v ≡ Pair j k → j.pass ≢ k.pass → Splits {S = S} {V = View} (Ruled layout) id v (first_of_two v) (second_of_two v)
 parts {S = S} layout id v j k is ne = subst (λ (z : View). Splits {S = S} {V = View} (Ruled layout) id z (first_of_two z) (second_of_two z)) (sym is)
-    (splits layout id (Pair j k) (Pass j) (Pass k) (λ c at t. (t.0, t.1)) (λ q o. inl o) (λ q o. inr o) (λ q a b. ne (a ∙ sym b)))
+    (splits layout id (Pair j k) (Pass j) (Pass k) (λ c at t. (t.0, t.1)) (λ q o. inl o) (λ q o. inr o) (λ q a b. ne (a ∙ sym b)) (λ q o. o))
 
 -- Joining
 
@@ -159,6 +168,17 @@ joins {S = S} layout id other v w j k isv isw = subst (λ (z : View × View). Jo
               (λ s1. ⊎_elim (λ s2. s1.0 ∙ sym s2.0) (λ s2. absurd (clash l q y s2.0 s2.1 s2.2 oy s1.1)) (from l q y b oy))
               (λ s1. ⊎_elim (λ s2. absurd (clash i q x s1.0 s1.1 s1.2 ox s2.1)) (λ s2. r.apart i l q x y s1.2 s2.2 ox oy) (from l q y b oy))
               (from i q x a ox);
+          each = λ q low. let seat = r.each q low in ⊎_elim
+              (λ (e : (eqb seat.0 other ≡ true) × (seat.0 ≡ other)).
+              let is : k.pass ≡ q = subst (λ z. Owns z q) (some-injective seat.1 (Pass k) (sym seat.2 ∙ (ap (λ n. get_elem? s.views n) e.1 ∙ second))) seat.3 in
+              (id, Pair j k, set_else views other id Spent (λ same. ne (sym same)) ∙ set_at s.views id (Pair j k) (Pass j) here, inr is))
+              (λ (n : (eqb seat.0 other ≡ false) × (seat.0 ≢ other)). ⊎_elim
+              (λ (e : (eqb seat.0 id ≡ true) × (seat.0 ≡ id)).
+              let is : j.pass ≡ q = subst (λ z. Owns z q) (some-injective seat.1 (Pass j) (sym seat.2 ∙ (ap (λ m. get_elem? s.views m) e.1 ∙ here))) seat.3 in
+              (id, Pair j k, set_else views other id Spent (λ same. ne (sym same)) ∙ set_at s.views id (Pair j k) (Pass j) here, inl is))
+              (λ (m : (eqb seat.0 id ≡ false) × (seat.0 ≢ id)). (seat.0, seat.1, set_else views other seat.0 Spent n.1 ∙ (set_else s.views id seat.0 (Pair j k) m.1 ∙ seat.2), seat.3))
+              (eqb_tells seat.0 id))
+              (eqb_tells seat.0 other);
         }
 
 -- The load of a meeting
@@ -169,7 +189,7 @@ fresh_begins q a b c x y = (y.0 ++ x.0, x.1 ∙ (ap (λ (z : List Change). z ++ 
 met_knows : (c : Core) (k : Known) → Knows c k → Knows c (with_front c.changes k)
 met_knows c k h = record {
   pass = h.pass;
-  loaded = h.loaded;
+  counted = h.counted;
   seen = record {
     front = ([], sym (Rattle.std.proofs.Common.append-nil c.changes), All-from_recursion (λ (x : Change). x.pass ≢ k.pass) [] tt);
     fresh = fresh_begins k.pass k.front c.changes k.fresh.front h.seen.front h.seen.fresh;
@@ -178,10 +198,13 @@ met_knows c k h = record {
   own = h.own;
 }
 
-pub meets : {S : Type 0} (layout : Layout) (slots id i : ℕ) (me : Me S View) (j k : Known) → me ≡ (Pair j k, []) → Allows {S = S} {V = View} (Ruled layout) slots id me i (λ n. n) (met (table.step slots i 0 0 none) me)
-meets {S = S} layout slots id i me j k is = subst (λ (m : Me S View). Allows {S = S} {V = View} (Ruled layout) slots id m i (λ n. n) (met (table.step slots i 0 0 none) m)) (sym is) go
+pub meets : {S : Type 0} (layout : Layout) (of : Option Layout) → of ≡ Some layout → (slots id i : ℕ) (me : Me S View) (j k : Known) → me ≡ (Pair j k, [])
+    → Allows {S = S} {V = View} (Ruled layout) slots id me i (λ n. n) (met of (table.step slots i 0 0 none) me)
+meets {S = S} layout of is_of slots id i me j k is =
+    subst (λ (o : Option Layout). Allows {S = S} {V = View} (Ruled layout) slots id me i (λ n. n) (met o (table.step slots i 0 0 none) me)) (sym is_of)
+    (subst (λ (m : Me S View). Allows {S = S} {V = View} (Ruled layout) slots id m i (λ n. n) (met (Some layout) (table.step slots i 0 0 none) m)) (sym is) go)
   where
-    go : Allows {S = S} {V = View} (Ruled layout) slots id (Pair j k, []) i (λ n. n) (met (table.step slots i 0 0 none) (Pair j k, []))
+    go : Allows {S = S} {V = View} (Ruled layout) slots id (Pair j k, []) i (λ n. n) (met (Some layout) (table.step slots i 0 0 none) (Pair j k, []))
     go s r deep here low =
         let c : Core = r.core in
         let both = r.knows id (Pair j k) here in
@@ -199,8 +222,9 @@ meets {S = S} layout slots id i me j k is = subst (λ (m : Me S View). Allows {S
                 (λ (t : (m ≢ id) × (get_elem? s.views m ≡ some v)). r.knows m v t.1)
                 (at_set s.views id m new v e);
             apart = apart_set s.views id (Pair j k) new here (λ q o. o) r.apart;
+            each = λ q low. each_set s.views id q (Pair j k) new here (λ o. o) (r.each q low);
           },
-          (refl, (with_front c.changes j, with_front c.changes k, refl, (c.changes, refl, refl, r.lawful.core.told.legal, both.0.seen.front, both.1.seen.front, both.2))),
+          (refl, (with_front c.changes j, with_front c.changes k, refl, (c.changes, refl, refl, r.lawful.core.told.legal, both.0.seen.front, both.1.seen.front, both.2, subst (λ (z : Layout). All (λ x. x.pass < z.passes) c.changes) r.layout_is r.lawful.makers))),
         )
 
 -- one more at the end of a list
@@ -212,11 +236,12 @@ each_longer {A = A} P xs x n len each new q h e = ⊎_elim (each q h) (λ (t : (
 pub paired_me : {S : Type 0} (me a b : Me S View) (j k : Known) → me ≡ (paired a.0 b.0, a.1) → a ≡ (Pass j, []) → b ≡ (Pass k, []) → me ≡ (Pair j k, [])
 paired_me {S = S} me a b j k e is was = e ∙ (λ i. (paired (is i).0 (was i).0, (is i).1))
 
-pub meeting : {S : Type 0} (me m' : Me S View) (j k : Known) → me ≡ (Pair j k, []) → (m'.1 ≡ me.1) × Meeting me.0 m'.0
-    → (j' : Known) × (k' : Known) × (m' ≡ (Pair j' k', [])) × HaveMet j k j' k'
-meeting {S = S} me m' j k is h = let t = subst (λ (v : View). Meeting v m'.0) (ap (λ (z : Me S View). z.0) is) h.1 in
+pub meeting : {S : Type 0} (layout : Layout) (of : Option Layout) → of ≡ Some layout → (me m' : Me S View) (j k : Known) → me ≡ (Pair j k, []) → (m'.1 ≡ me.1) × Meeting of me.0 m'.0
+    → (j' : Known) × (k' : Known) × (m' ≡ (Pair j' k', [])) × HaveMet layout j k j' k'
+meeting {S = S} layout of is_of me m' j k is h =
+    let t = subst (λ (v : View). Meeting (Some layout) v m'.0) (ap (λ (z : Me S View). z.0) is) (subst (λ (o : Option Layout). Meeting o me.0 m'.0) is_of h.1) in
     (t.0, t.1, (λ i. (t.2 i, (h.0 ∙ ap (λ (z : Me S View). z.1) is) i)), t.3)
 
 -- those who have met have different numbers
-pub apart_met : (j k j' k' : Known) → HaveMet j k j' k' → j'.pass ≢ k'.pass
-apart_met j k j' k' (front, e, f, legal, a, b, ne) = λ q. ne (sym (ap (λ (z : Known). z.pass) e) ∙ (q ∙ ap (λ (z : Known). z.pass) f))
+pub apart_met : (layout : Layout) (j k j' k' : Known) → HaveMet layout j k j' k' → j'.pass ≢ k'.pass
+apart_met layout j k j' k' (front, e, f, legal, a, b, ne, makers) = λ q. ne (sym (ap (λ (z : Known). z.pass) e) ∙ (q ∙ ap (λ (z : Known). z.pass) f))

@@ -1,10 +1,11 @@
 -- A step that its pass may make keeps the rule.
-use Rattle.std.proofs.Common.{◌≡◌, ◌≢◌, ℕ, List, [], ◌++◌, set, get_or, Bool, true, false, nat_eq, if◌then◌else◌, Option, Some, None, refl, sym, ap, subst, ◌∙◌, ⊎_elim}
-use mathlib.Core.Option.{none, some}
+use Rattle.std.proofs.Common.{◌≡◌, ◌≢◌, ℕ, zero, suc, eqb, List, [], ◌∷◌, ◌++◌, set, get_or, Bool, true, false, nat_eq, if◌then◌else◌, Option, Some, None, refl, sym, ap, subst, ◌∙◌, ⊎_elim}
+use mathlib.Core.Option.{none, some, some-injective, some-ne-none}
 use lib.ListN.{get_elem?}
 use Rattle.atomic_table.specs.Table.{State, Me, Step, Allows}
 use Rattle.atomic_table.specs.Table as table
-use Rattle.atomic_table.proofs.Lists.{at_set}
+use Rattle.atomic_table.proofs.Lists.{at_set, set_else}
+use Rattle.std.proofs.lemmas.Bool.Decides.{eqb_tells}
 use Rattle.hot_model.specs.declared.Note.{Note}
 use Rattle.record_words.specs.Layout.{address}
 use Rattle.record_words.specs.declared.layout.Layout.{Layout}
@@ -25,7 +26,7 @@ use Rattle.rowex_core.proofs.Keeping.{keeps}
 use Rattle.rowex_core.proofs.Learning.{learns}
 use Rattle.rowex_core.proofs.Staying.{stays_lawful}
 use Rattle.rowex_core.proofs.Writing.{step_writes, writes_one, in_table}
-use Rattle.rowex_table.specs.Rule.{Ruled, did, Happens, MayStep, found_by, known_of}
+use Rattle.rowex_table.specs.Rule.{Ruled, IsSomeSeats, did, Happens, MayStep, found_by, known_of}
 
 -- A pass keeps its number
 
@@ -72,7 +73,7 @@ event_pass layout act said k j e = ap (λ (z : Known). z.pass) e.learned_is ∙ 
 
 -- notes are outside the rule
 renoted : (c : Core) (k : Known) (notes : List Note) → Knows c k → Knows c (record k { notes = notes })
-renoted c k notes h = record { pass = h.pass; loaded = h.loaded; seen = h.seen; own = h.own }
+renoted c k notes h = record { pass = h.pass; counted = h.counted; seen = h.seen; own = h.own }
 
 -- The word that an act finds changes neither its place nor what it writes
 
@@ -132,6 +133,18 @@ apart_set views id v w here owns apart i j q x y a b ox oy = ⊎_elim
     (at_set views id j w y b))
     (at_set views id i w x a)
 
+pub set_at : {A : Type 0} (l : List A) (i : ℕ) (a b : A) → get_elem? l i ≡ some b → get_elem? (set l i a) i ≡ some a
+set_at [] i a b e = absurd (some-ne-none b (sym e))
+set_at (x ∷ xs) zero a b e = refl
+set_at (x ∷ xs) (suc i) a b e = set_at xs i a b e
+
+-- a number of some seat's: of the one that is set, where that keeps it, or of one of the others
+pub each_set : (views : List View) (id q : ℕ) (v w : View) → get_elem? views id ≡ some v → (Owns v q → Owns w q) → IsSomeSeats views q → IsSomeSeats (set views id w) q
+each_set views id q v w here keeps (i, x, at, owns) = ⊎_elim
+    (λ (e : (eqb i id ≡ true) × (i ≡ id)). (id, w, set_at views id w v here, keeps (subst (λ z. Owns z q) (some-injective x v (sym at ∙ (ap (λ n. get_elem? views n) e.1 ∙ here))) owns)))
+    (λ (n : (eqb i id ≡ false) × (i ≢ id)). (i, x, set_else views id i w n.1 ∙ at, owns))
+    (eqb_tells i id)
+
 -- A step
 
 module _ {S : Type 0} (layout : Layout) (slots id i : ℕ) (k : Known) (act : Act) (said : Known → List Note) (f tell : ℕ → ℕ) where
@@ -170,6 +183,7 @@ module _ {S : Type 0} (layout : Layout) (slots id i : ℕ) (k : Known) (act : Ac
               (λ (t : (m ≢ id) × (get_elem? s.views m ≡ some v)). keeps c k.pass does v r.lawful found (λ o. t.0 (r.apart m id k.pass v (Pass k) t.1 here o refl)) (r.knows m v t.1))
               (at_set s.views id m (Pass j) v e);
           apart = apart_set s.views id (Pass k) (Pass j) here (λ q o. sym (learned_pass c does k) ∙ o) r.apart;
+          each = λ q low. each_set s.views id q (Pass k) (Pass j) here (λ o. learned_pass c does k ∙ o) (r.each q low);
         },
         (refl, (j, refl, subst (λ z. IsEvent layout z said k j) (ap (found_by act) (sym word) ∙ sym (says w)) event)),
       )

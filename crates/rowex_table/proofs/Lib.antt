@@ -3,6 +3,7 @@ pub mod Keeping
 pub mod Dealing
 pub mod Rights
 pub mod RootRights
+pub mod Running
 pub mod ActsBefore
 pub mod ActsAfter
 pub mod ActsLeave

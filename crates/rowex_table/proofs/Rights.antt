@@ -43,7 +43,7 @@ free_tag None (UnlinkedBy s l q) e = absurd (omega arith)
 free_tag (Some p) (UnlinkedBy s l q) e = absurd (omega arith)
 free_tag lock (Marked s l epoch) e = absurd (omega arith)
 
-mapped : (f : Owned → Owned) (own : List Owned) (o : Owned) → Contains own o → Contains (map f own) (f o)
+pub mapped : (f : Owned → Owned) (own : List Owned) (o : Owned) → Contains own o → Contains (map f own) (f o)
 mapped f own o h = (h.0, subst (λ n. h.0 < n) (sym (length-map own f)) h.1, get_or-map f own h.0 o (f o) h.1 ∙ ap f h.2)
 
 next_word : (own words : List ℕ) (i : ℕ) (word : ℕ) → length own ≡ length words → i < length words → take i own ≡ take i words → word ≡ get_or words i word
@@ -53,6 +53,14 @@ next_word own words i word m low same is = subst (λ j. (length (set own j word)
   where
     at : i ≡ i + 1 - 1
     at = omega arith
+
+-- another record than r
+pub other : (s r : Rec) → s ≢ r → same_rec s r ≡ false
+other s r ne = go (same_rec s r) refl
+  where
+    go : (b : Bool) → same_rec s r ≡ b → b ≡ false
+    go true e = absurd (ne (same_rec_true s r e))
+    go false e = refl
 
 -- a record that is filled with all of the words has these
 pub filled : (k : Known) (r : Rec) (words : List ℕ) (i : ℕ) → length words ≤ i → HasFilled k r words i → Has k r Held words

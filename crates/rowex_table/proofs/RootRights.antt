@@ -88,13 +88,15 @@ module _ (layout : Layout) (k : Known) where
     record {
       locked = ((knows_all c k known).anchor None empty).0;
       entry = (subst HasEntryWord (sym entry) low, ap entry_word entry ∙ sym is);
-      top = subst (λ e. IsTop (heap_of c.words) e (tree_of (heap_of c.words) e)) (sym entry) (refl, refl);
-      tree = λ t e. subst (λ z. IsTrie z × IsBuilt z) (some_same (sym next ∙ e)) (ready_key c law n k.pass ready, tt);
-      comes = λ r l. inr (ap c.fate (subst (λ z. IsLinked z r) next l) ∙ ready);
-      goes = λ m i out. absurd (subst (λ z. IsLinked z (a_node m)) now (node_linked c law m i));
       packed = tt;
-      change = subst (λ s. IsChange s (change_between k.pass (items_of s) (items_of (next_tree c Root w))) (next_tree c Root w)) (sym now)
-          (subst (λ t. IsChange None (change_between k.pass [] (items_of t)) t) (sym next) (n, added));
+      next = record {
+        top = subst (λ e. IsTop (heap_of c.words) e (tree_of (heap_of c.words) e)) (sym entry) (refl, refl);
+        tree = λ t e. subst (λ z. IsTrie z × IsBuilt z) (some_same (sym next ∙ e)) (ready_key c law n k.pass ready, tt);
+        comes = λ r l. inr (ap c.fate (subst (λ z. IsLinked z r) next l) ∙ ready);
+        goes = λ m since e out. absurd (subst (λ z. IsLinked z (a_node m)) now (node_linked c law m (since, e)));
+        change = subst (λ s. IsChange s (change_between k.pass (items_of s) (items_of (next_tree c Root w))) (next_tree c Root w)) (sym now)
+            (subst (λ t. IsChange None (change_between k.pass [] (items_of t)) t) (sym next) (n, added));
+      };
     },
   )
     where
@@ -118,12 +120,14 @@ module _ (layout : Layout) (k : Known) where
     record {
       locked = ((knows_all c k known).anchor (Some (Leaf n)) root).0;
       entry = (tt, refl);
-      top = tt;
-      tree = λ t e. absurd (let z : None ≡ Some t = e in cc);
-      comes = λ r l. absurd l;
-      goes = λ m i out. absurd (leaf_node (subst (λ z. IsLinked z (a_node m)) now.2 (node_linked c law m i)));
       packed = tt;
-      change = subst (λ s. IsChange s (change_between k.pass (items_of s) []) None) (sym now.2) (n, added);
+      next = record {
+        top = tt;
+        tree = λ t e. absurd (let z : None ≡ Some t = e in cc);
+        comes = λ r l. absurd l;
+        goes = λ m since e out. absurd (leaf_node (subst (λ z. IsLinked z (a_node m)) now.2 (node_linked c law m (since, e))));
+        change = subst (λ s. IsChange s (change_between k.pass (items_of s) []) None) (sym now.2) (n, added);
+      };
     },
   )
     where

@@ -1,5 +1,5 @@
 -- The rule of the table, and what its steps tell.
-use Rattle.std.specs.Prelude.{◌≡◌, ◌≢◌, ℕ, ◌+◌, ◌<◌, List, [], Option, Some, None}
+use Rattle.std.specs.Prelude.{◌≡◌, ◌≢◌, ℕ, ◌+◌, ◌<◌, List, [], All, Option, Some, None}
 use mathlib.Core.Option.{some}
 use lib.ListN.{get_elem?}
 use Rattle.atomic_table.specs.Table.{State, Me, Step}
@@ -19,8 +19,12 @@ use Rattle.rowex_core.specs.Words.{Shows, word_at}
 use Rattle.rowex_core.specs.Events.{Legal, location_of}
 use Rattle.rowex_core.specs.Knowing.{Knows, Knowing, Owns, IsEvent}
 
--- There is a lawful core with this layout, which the words show; what each seat knows is true of it; and no two seats have
--- one number.
+-- some seat has this number
+abbrev pub IsSomeSeats : List View → ℕ → Type 0
+IsSomeSeats views q = (i : ℕ) × (v : View) × (get_elem? views i ≡ some v) × Owns v q
+
+-- There is a lawful core with this layout, which the words show; what each seat knows is true of it; no two seats have one
+-- number, and each number of a pass is some seat's.
 pub record Ruled {S : Type 0} (layout : Layout) (s : State S View) : Type 0 where
   pub core : Core
   pub lawful : IsLawful core
@@ -28,6 +32,7 @@ pub record Ruled {S : Type 0} (layout : Layout) (s : State S View) : Type 0 wher
   pub shows : Shows core s.words
   pub knows : (i : ℕ) (v : View) → get_elem? s.views i ≡ some v → Knowing core v
   pub apart : (i j q : ℕ) (v w : View) → get_elem? s.views i ≡ some v → get_elem? s.views j ≡ some w → Owns v q → Owns w q → i ≡ j
+  pub each : (q : ℕ) → q < layout.passes → IsSomeSeats s.views q
 
 -- what a new pass knows
 abbrev pub opening_of : ℕ → Known
@@ -50,6 +55,10 @@ opening_of q = record {
 abbrev pub known_of : View → Known
 known_of (Pass k) = k
 known_of _ = opening_of 0
+
+-- the seat is that of the pass of this number, and holds nothing else
+abbrev pub IsOfPass : {S : Type 0} → Me S View → ℕ → Type 0
+IsOfPass me q = (me ≡ (Pass (known_of me.0), [])) × ((known_of me.0).pass ≡ q)
 
 -- the root, or one of 32 entries
 abbrev pub HasPlace : Spot → Type 0
@@ -115,15 +124,15 @@ abbrev pub with_front : List Change → Known → Known
 with_front front k = record k { front = front }
 
 -- Two passes of different numbers that knew j and k now know j' and k': both have seen one list of changes, each of which
--- was legal; it begins with what each had seen, and goes on by changes of others.
-abbrev pub HaveMet : Known → Known → Known → Known → Type 0
-HaveMet j k j' k' =
+-- was legal and made by a pass of the table; it begins with what each had seen, and goes on by changes of others.
+abbrev pub HaveMet : Layout → Known → Known → Known → Known → Type 0
+HaveMet layout j k j' k' =
     (front : List Change) × (j' ≡ with_front front j) × (k' ≡ with_front front k) × LegalFront front × OthersGoOn j.pass j.front front × OthersGoOn k.pass k.front front ×
-    (j.pass ≢ k.pass)
+    (j.pass ≢ k.pass) × All (λ x. x.pass < layout.passes) front
 
-abbrev pub Meeting : View → View → Type 0
-Meeting (Pair j k) w = (j' : Known) × (k' : Known) × (w ≡ Pair j' k') × HaveMet j k j' k'
-Meeting _ w = Unit {0}
+abbrev pub Meeting : Option Layout → View → View → Type 0
+Meeting (Some layout) (Pair j k) w = (j' : Known) × (k' : Known) × (w ≡ Pair j' k') × HaveMet layout j k j' k'
+Meeting _ _ w = Unit {0}
 
-abbrev pub met : {S : Type 0} → Step S → Me S View → ℕ → Me S View → Type 0
-met st m told m' = (m'.1 ≡ m.1) × Meeting m.0 m'.0
+abbrev pub met : {S : Type 0} → Option Layout → Step S → Me S View → ℕ → Me S View → Type 0
+met layout st m told m' = (m'.1 ≡ m.1) × Meeting layout m.0 m'.0

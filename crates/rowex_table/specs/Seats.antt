@@ -1,23 +1,37 @@
--- Seats of passes.
+-- Tables and the seats of their passes, as contracts see them.
 use Rattle.std.specs.Prelude.{◌≡◌, ◌<◌, ℕ}
 use Rattle.atomic_table.specs.Seated.{TableId}
+use Rattle.record_words.specs.declared.layout.Layout.{Layout}
 use Rattle.rowex_core.specs.declared.known.Known.{Known}
-use Rattle.rowex_table.specs.declared.table.TableSeat.{TableSeat}
-use Rattle.rowex_table.specs.declared.table.HotTable.{HotTable}
-use Rattle.rowex_table.specs.Rule.{known_of, opening_of}
+use Rattle.rowex_table.specs.Rule.{opening_of}
 
--- what the pass of the seat knows
-abbrev pub known : TableSeat → Known
-known s = known_of s.seat.me.0
+-- a table: which one it is, and how many passes and records it has
+pub record TableView : Type 0 where
+  pub id : TableId
+  pub layout : Layout
 
--- one seat, before and after
-abbrev pub IsSame : TableSeat → TableSeat → Type 0
-IsSame s t = (t.seat.table_id ≡ s.seat.table_id) × (t.seat.id ≡ s.seat.id) × (t.pass ≡ s.pass)
+-- a seat: its table, which one it is there, and what its pass knows
+pub record SeatView : Type 0 where
+  pub table : TableId
+  pub id : ℕ
+  pub known : Known
 
--- the seat is of a pass of this table
-abbrev pub Fits : HotTable → TableSeat → Type 0
-Fits t s = (s.seat.table_id ≡ t.table.shared.table_id) × (s.pass < t.layout.passes)
+-- the seat is one of this table
+abbrev pub IsSeatOf : TableView → SeatView → Type 0
+IsSeatOf table s = s.table ≡ table.id
+
+-- and its pass is one of the table's passes
+abbrev pub Fits : TableView → SeatView → Type 0
+Fits table s = IsSeatOf table s × (s.known.pass < table.layout.passes)
+
+-- one seat of one pass, before and after
+abbrev pub IsSame : SeatView → SeatView → Type 0
+IsSame s t = (t.table ≡ s.table) × (t.id ≡ s.id) × (t.known.pass ≡ s.known.pass)
 
 -- the seat of a new pass of this table
-abbrev pub IsNew : TableId → ℕ → TableSeat → Type 0
-IsNew table q s = (s.seat.table_id ≡ table) × (s.pass ≡ q) × (known s ≡ opening_of q)
+abbrev pub IsNewSeat : TableView → SeatView → Type 0
+IsNewSeat table s = Fits table s × (s.known ≡ opening_of s.known.pass)
+
+-- and its pass has this number
+abbrev pub IsNew : TableView → ℕ → SeatView → Type 0
+IsNew table q s = IsSeatOf table s × (s.known ≡ opening_of q)

@@ -4,36 +4,33 @@ ghost use Rattle.std.specs.Prelude.{◌≡◌, ◌<◌, ◌≤◌, ◌+◌, ◌*
 ghost use Rattle.hot_model.specs.declared.Note.{Note};
 ghost use Rattle.rowex_core.specs.declared.event.Act.TheVariants.{LoadEpoch, Advance, SetPin, ClearPin, LoadPin};
 ghost use Rattle.rowex_core.specs.declared.known.Known.{Known};
-ghost use Rattle.rowex_core.specs.Knowing.{IsEvent};
 ghost use Rattle.rowex_table.specs.Rule.{MayStep};
-ghost use Rattle.rowex_table.specs.Seats.{IsSame, known};
+ghost use Rattle.rowex_table.specs.Runs.{Steps, StepsWith};
+ghost use Rattle.rowex_table.specs.Seats.{Fits, IsSeatOf};
 
 use crate::table::{HotTable, TableSeat};
 use record_words::Location;
-use rowex_core::Act;
+use rowex_core::{Act, Gate};
 use std::marker::Brand;
 
 impl HotTable {
     /// Loads the epoch.
-    pub fn load_epoch(&self, seat: &mut TableSeat) -> u64
-        ghost said: { Known → List Note }
-        requires own { seat.old.seat.table_id ≡ self.now.table.shared.table_id }
-        ensures seat { IsSame seat.old seat.new }
-        ensures told { IsEvent self.now.layout (LoadEpoch result) said (known seat.old) (known seat.new) }
+    pub fn load_epoch<G: Gate>(&self, seat: &mut TableSeat, gate: &mut G) -> u64
+        requires own { IsSeatOf self.now seat.old }
+        ensures { Steps self.now G.becomes (LoadEpoch result) (seat.old, gate.old) (seat.new, gate.new) }
     {
-        self.load_as::<Brand>(seat, Act::LoadEpoch { word: 0 }, Location::Epoch)
+        self.load_as::<Brand, G>(seat, gate, Act::LoadEpoch { word: 0 }, Location::Epoch)
     }
 
     /// Makes the epoch the next one, if it finds the expected one, from 1 to 2^60 - 2; answers the epoch that it found.
-    pub fn advance(&self, seat: &mut TableSeat, expected: u64) -> u64
-        ghost said: { Known → List Note }
-        requires own { seat.old.seat.table_id ≡ self.now.table.shared.table_id }
+    pub fn advance<G: Gate>(&self, seat: &mut TableSeat, gate: &mut G, expected: u64) -> u64
+        requires own { IsSeatOf self.now seat.old }
         requires range { (1 ≤ expected) × (expected + 1 < 2 ^ 60) }
-        ensures seat { IsSame seat.old seat.new }
-        ensures told { IsEvent self.now.layout (Advance expected result) said (known seat.old) (known seat.new) }
+        ensures { Steps self.now G.becomes (Advance expected result) (seat.old, gate.old) (seat.new, gate.new) }
     {
-        self.exchange_as::<Brand>(
+        self.exchange_as::<Brand, G>(
             seat,
+            gate,
             Act::Advance { expected, found: 0 },
             Location::Epoch,
             expected,
@@ -42,37 +39,36 @@ impl HotTable {
     }
 
     /// Stores the epoch that the pass loaded last as its pin.
-    pub fn set_pin(&self, seat: &mut TableSeat, word: u64)
-        ghost said: { Known → List Note }
-        requires own { seat.old.seat.table_id ≡ self.now.table.shared.table_id }
-        requires range { seat.old.pass < self.now.layout.passes }
-        requires may { MayStep self.now.layout (λ _. SetPin word) (known seat.old) }
-        ensures seat { IsSame seat.old seat.new }
-        ensures told { IsEvent self.now.layout (SetPin word) said (known seat.old) (known seat.new) }
+    pub fn set_pin<G: Gate>(&self, seat: &mut TableSeat, gate: &mut G, word: u64)
+        requires fits { Fits self.now seat.old }
+        requires may { MayStep self.now.layout (λ _. SetPin word) seat.old.known }
+        ensures { Steps self.now G.becomes (SetPin word) (seat.old, gate.old) (seat.new, gate.new) }
     {
-        self.store_as::<Brand>(seat, Act::SetPin { word }, Location::Pin(seat.pass), word);
+        self.store_as::<Brand, G>(
+            seat,
+            gate,
+            Act::SetPin { word },
+            Location::Pin(seat.number()),
+            word,
+        );
     }
 
-    /// Stores 0 as the pin.
-    pub fn clear_pin(&self, seat: &mut TableSeat)
+    /// Stores 0 as the pin. A call ends with this step, and its notes come with it.
+    pub fn clear_pin<G: Gate>(&self, seat: &mut TableSeat, gate: &mut G)
         ghost said: { Known → List Note }
-        requires own { seat.old.seat.table_id ≡ self.now.table.shared.table_id }
-        requires range { seat.old.pass < self.now.layout.passes }
-        requires may { MayStep self.now.layout (λ _. ClearPin) (known seat.old) }
-        ensures seat { IsSame seat.old seat.new }
-        ensures told { IsEvent self.now.layout ClearPin said (known seat.old) (known seat.new) }
+        requires fits { Fits self.now seat.old }
+        requires may { MayStep self.now.layout (λ _. ClearPin) seat.old.known }
+        ensures { StepsWith self.now G.becomes ClearPin said (seat.old, gate.old) (seat.new, gate.new) }
     {
-        self.store_as::<Brand>(seat, Act::ClearPin, Location::Pin(seat.pass), 0);
+        self.store_as::<Brand, G>(seat, gate, Act::ClearPin, Location::Pin(seat.number()), 0);
     }
 
     /// Loads the pin of a pass.
-    pub fn load_pin(&self, seat: &mut TableSeat, of: u16) -> u64
-        ghost said: { Known → List Note }
-        requires own { seat.old.seat.table_id ≡ self.now.table.shared.table_id }
+    pub fn load_pin<G: Gate>(&self, seat: &mut TableSeat, gate: &mut G, of: u16) -> u64
+        requires own { IsSeatOf self.now seat.old }
         requires range { of < self.now.layout.passes }
-        ensures seat { IsSame seat.old seat.new }
-        ensures told { IsEvent self.now.layout (LoadPin of result) said (known seat.old) (known seat.new) }
+        ensures { Steps self.now G.becomes (LoadPin of result) (seat.old, gate.old) (seat.new, gate.new) }
     {
-        self.load_as::<Brand>(seat, Act::LoadPin { of, word: 0 }, Location::Pin(of))
+        self.load_as::<Brand, G>(seat, gate, Act::LoadPin { of, word: 0 }, Location::Pin(of))
     }
 }

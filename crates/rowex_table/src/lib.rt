@@ -2,6 +2,7 @@
 #![tactic(auto)]
 
 mod epoch_steps;
+pub mod laws;
 mod places;
 mod plays;
 mod record_steps;
@@ -10,8 +11,4 @@ mod spot_steps;
 mod steps;
 mod table;
 
-pub use plays::RowexRule;
 pub use table::{HotTable, TableSeat};
-
-#[cfg(test)]
-mod tests;

@@ -1,6 +1,8 @@
-//! Where the word of a step stands.
+//! Where the word of a step stands, and the state word of an obsolete record.
 
-ghost use Rattle.std.specs.Prelude.{◌≡◌};
+ghost use Rattle.std.specs.Prelude.{◌≡◌, ◌^◌, ◌<◌};
+ghost use Rattle.record_words.specs.declared.state.Tag.TheVariants.{Obsolete};
+ghost use Rattle.record_words.specs.State.{state_word};
 ghost use Rattle.rowex_core.specs.Events.{word_of as word_location, spot_word as spot_location, target_word as target_location};
 ghost use Rattle.rowex_table.specs.Rule.{HasPlace};
 
@@ -39,4 +41,12 @@ pub(crate) fn target_place(target: Target) -> Location
         Target::Anchor => Location::Anchor,
         Target::Node(node) => Location::NodeWord { node, offset: 0 },
     }
+}
+
+/// The state word of a record that was retired in this epoch.
+pub(crate) fn obsolete_word(epoch: u64) -> u64
+    requires { epoch < 2 ^ 60 }
+    ensures { result ≡ state_word (Obsolete epoch) }
+{
+    8 * epoch + 4
 }

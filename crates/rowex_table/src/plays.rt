@@ -14,9 +14,9 @@ use record_words::Layout;
 use rowex_core::View;
 use std::marker::{Brand, PhantomData};
 
-/// The rule of a table with a layout: there is a lawful core which its words show, what each seat knows is true of it, and
-/// no two seats are of one pass.
-pub struct RowexRule;
+/// The rule of a table with a layout: there is a lawful core which its words show, what each seat knows is true of it, no two
+/// seats are of one pass, and each pass has a seat.
+pub(crate) struct RowexRule;
 
 impl TableRule<(), View, Layout> for RowexRule {
     ghost holds = { Ruled };
@@ -41,18 +41,20 @@ impl Step for Brand {
     ghost said = { λ _. [] };
 }
 
-pub(crate) struct Does<Q> {
+pub(crate) struct Stepping<Q> {
     step: PhantomData<Q>,
 }
 
-impl<Q: Step> Play<(), View> for Does<Q> {
+impl<Q: Step> Play<(), View> for Stepping<Q> {
     ghost then = { did Q.layout Q.act Q.said };
 }
 
-pub(crate) struct Meets;
+pub(crate) struct Meets<Q> {
+    step: PhantomData<Q>,
+}
 
-impl Play<(), View> for Meets {
-    ghost then = { met };
+impl<Q: Step> Play<(), View> for Meets<Q> {
+    ghost then = { met Q.layout };
 }
 
 pub(crate) struct Deal;

@@ -1,25 +1,25 @@
 //! How a table is made with the seats of its passes, and how two of these meet.
 
-ghost use Rattle.std.specs.Prelude.{◌≡◌, ℕ, IfOk, All, length};
+ghost use Rattle.std.specs.Prelude.{◌≡◌, ℕ, IfOk, Some, All, length};
 ghost use mathlib.Core.Option.{some};
 ghost use lib.ListN.{get_elem?};
-ghost use Rattle.rowex_table.specs.declared.table.TableSeat.{TableSeat as Seated};
-ghost use Rattle.rowex_table.specs.Rule.{HaveMet, opening_of};
-ghost use Rattle.rowex_table.specs.Seats.{Fits, IsNew, known};
+ghost use Rattle.rowex_table.specs.Rule.{HaveMet};
+ghost use Rattle.rowex_table.specs.Seats.{SeatView, IsNew, IsNewSeat, IsSeatOf};
 
-use crate::plays::{Deal, Meets, Part};
+use crate::plays::{Deal, Meets, Part, Step};
 use crate::table::{HotTable, TableSeat};
 use atomic_table::Table;
 use record_words::Layout;
 use std::alloc::{AllocError, Global};
+use std::marker::Brand;
 
 impl HotTable {
     /// A table with an empty index, and the seats of its passes in the order of their numbers, which go from 0 on.
     pub fn new(alloc: Global, layout: Layout) -> Result<(HotTable, Vec<TableSeat>), AllocError>
         ensures table { IfOk result (λ made. made.0.layout ≡ layout) }
         ensures count { IfOk result (λ made. length made.1.items ≡ layout.passes) }
-        ensures seats { IfOk result (λ made. (q : ℕ) (s : Seated) → get_elem? made.1.items q ≡ some s → IsNew made.0.table.shared.table_id q s) }
-        ensures each { IfOk result (λ made. All (λ s. Fits made.0 s × (known s ≡ opening_of s.pass)) made.1.items) }
+        ensures seats { IfOk result (λ made. (q : ℕ) (s : SeatView) → get_elem? made.1.items q ≡ some s → IsNew made.0 q s) }
+        ensures each { IfOk result (λ made. All (IsNewSeat made.0) made.1.items) }
     {
         let mut words = Vec::from_elem(alloc, 0u64, layout.words())?;
         words[0] = 1;
@@ -38,10 +38,21 @@ impl HotTable {
 
     /// Two passes meet: both have then seen the list of changes as it is now. It makes no event.
     pub fn meet_seats(&self, first: TableSeat, second: TableSeat) -> (TableSeat, TableSeat)
-        requires { (first.seat.table_id ≡ self.now.table.shared.table_id) × (second.seat.table_id ≡ self.now.table.shared.table_id) }
-        ensures seats { (result.0.seat.table_id ≡ first.seat.table_id) × (result.1.seat.table_id ≡ second.seat.table_id) }
-        ensures passes { (result.0.pass ≡ first.pass) × (result.1.pass ≡ second.pass) }
-        ensures met { HaveMet (known first) (known second) (known result.0) (known result.1) }
+        requires { IsSeatOf self.now first × IsSeatOf self.now second }
+        ensures own { IsSeatOf self.now result.0 × IsSeatOf self.now result.1 }
+        ensures passes { (result.0.known.pass ≡ first.known.pass) × (result.1.known.pass ≡ second.known.pass) }
+        ensures met { HaveMet self.now.layout first.known second.known result.0.known result.1.known }
+    {
+        self.meet_as::<Brand>(first, second)
+    }
+
+    /// `meet_seats`, at a table of the layout that `Q` names.
+    fn meet_as<Q: Step>(&self, first: TableSeat, second: TableSeat) -> (TableSeat, TableSeat)
+        requires own { IsSeatOf self.now first × IsSeatOf self.now second }
+        requires layout { Q.layout ≡ Some self.now.layout }
+        ensures own { IsSeatOf self.now result.0 × IsSeatOf self.now result.1 }
+        ensures passes { (result.0.known.pass ≡ first.known.pass) × (result.1.known.pass ≡ second.known.pass) }
+        ensures met { HaveMet self.now.layout first.known second.known result.0.known result.1.known }
     {
         let TableSeat { mut seat, pass } = first;
         let TableSeat {
@@ -50,7 +61,7 @@ impl HotTable {
         } = second;
         let shared = &self.table.shared;
         shared.join_seat::<Part>(&mut seat, other);
-        shared.load::<Meets>(&mut seat, 0);
+        shared.load::<Meets<Q>>(&mut seat, 0);
         let other = shared.split_seat::<Part>(&mut seat);
         (
             TableSeat { seat, pass },

@@ -1,72 +1,61 @@
 //! Steps on the entries of the tree, and on the locks that guard them.
 
 ghost use Rattle.std.specs.Prelude.{◌≡◌, ◌<◌, ◌+◌, ◌*◌, ◌^◌, ℕ, List};
-ghost use Rattle.hot_model.specs.declared.Note.{Note};
 ghost use Rattle.record_words.specs.Layout.{IsInTable};
 ghost use Rattle.rowex_core.specs.declared.event.Act.TheVariants.{LoadRef, Lock, Unlock, Publish};
-ghost use Rattle.rowex_core.specs.declared.known.Known.{Known};
 ghost use Rattle.rowex_core.specs.Events.{target_word};
-ghost use Rattle.rowex_core.specs.Knowing.{IsEvent};
 ghost use Rattle.rowex_table.specs.Rule.{IsEntry, MayStep};
 ghost use Rattle.rowex_table.specs.Rights.{MayLock};
-ghost use Rattle.rowex_table.specs.Seats.{IsSame, known};
+ghost use Rattle.rowex_table.specs.Runs.{Steps};
+ghost use Rattle.rowex_table.specs.Seats.{IsSeatOf};
 
 use crate::places::{spot_place, target_place};
 use crate::table::{HotTable, TableSeat};
-use rowex_core::{Act, Spot, Target};
+use record_words::{Tag, pack_state};
+use rowex_core::{Act, Gate, Spot, Target};
 use std::marker::Brand;
 
 impl HotTable {
     /// Loads the root or an entry word.
-    pub fn load_ref(&self, seat: &mut TableSeat, spot: Spot) -> u64
-        ghost said: { Known → List Note }
-        requires own { seat.old.seat.table_id ≡ self.now.table.shared.table_id }
+    pub fn load_ref<G: Gate>(&self, seat: &mut TableSeat, gate: &mut G, spot: Spot) -> u64
+        requires own { IsSeatOf self.now seat.old }
         requires range { IsEntry self.now.layout spot }
-        ensures seat { IsSame seat.old seat.new }
-        ensures told { IsEvent self.now.layout (LoadRef spot result) said (known seat.old) (known seat.new) }
+        ensures { Steps self.now G.becomes (LoadRef spot result) (seat.old, gate.old) (seat.new, gate.new) }
     {
-        self.load_as::<Brand>(seat, Act::LoadRef { spot, word: 0 }, spot_place(spot))
+        self.load_as::<Brand, G>(seat, gate, Act::LoadRef { spot, word: 0 }, spot_place(spot))
     }
 
     /// Locks the anchor or a node, if it finds it live; answers the state word that it found.
-    pub fn lock(&self, seat: &mut TableSeat, target: Target) -> u64
-        ghost said: { Known → List Note }
-        requires own { seat.old.seat.table_id ≡ self.now.table.shared.table_id }
+    pub fn lock<G: Gate>(&self, seat: &mut TableSeat, gate: &mut G, target: Target) -> u64
+        requires own { IsSeatOf self.now seat.old }
         requires range { IsInTable self.now.layout (target_word target) }
-        requires may { MayLock self.now.layout target (known seat.old) }
-        ensures seat { IsSame seat.old seat.new }
-        ensures told { IsEvent self.now.layout (Lock target result) said (known seat.old) (known seat.new) }
+        requires may { MayLock self.now.layout target seat.old.known }
+        ensures { Steps self.now G.becomes (Lock target result) (seat.old, gate.old) (seat.new, gate.new) }
     {
-        self.exchange_as::<Brand>(
-            seat,
-            Act::Lock { target, found: 0 },
-            target_place(target),
-            2,
-            3,
-        )
+        let (live, locked) = (pack_state(Tag::Live), pack_state(Tag::Locked));
+        let act = Act::Lock { target, found: 0 };
+        self.exchange_as::<Brand, G>(seat, gate, act, target_place(target), live, locked)
     }
 
     /// Makes what the pass has locked live.
-    pub fn unlock(&self, seat: &mut TableSeat, target: Target)
-        ghost said: { Known → List Note }
-        requires own { seat.old.seat.table_id ≡ self.now.table.shared.table_id }
+    pub fn unlock<G: Gate>(&self, seat: &mut TableSeat, gate: &mut G, target: Target)
+        requires own { IsSeatOf self.now seat.old }
         requires range { IsInTable self.now.layout (target_word target) }
-        requires may { MayStep self.now.layout (λ _. Unlock target) (known seat.old) }
-        ensures seat { IsSame seat.old seat.new }
-        ensures told { IsEvent self.now.layout (Unlock target) said (known seat.old) (known seat.new) }
+        requires may { MayStep self.now.layout (λ _. Unlock target) seat.old.known }
+        ensures { Steps self.now G.becomes (Unlock target) (seat.old, gate.old) (seat.new, gate.new) }
     {
-        self.store_as::<Brand>(seat, Act::Unlock { target }, target_place(target), 2);
+        let (act, live) = (Act::Unlock { target }, pack_state(Tag::Live));
+        self.store_as::<Brand, G>(seat, gate, act, target_place(target), live);
     }
 
     /// Stores the root or an entry word under its lock: the one step that changes the map.
-    pub fn publish(&self, seat: &mut TableSeat, spot: Spot, word: u64)
-        ghost said: { Known → List Note }
-        requires own { seat.old.seat.table_id ≡ self.now.table.shared.table_id }
+    pub fn publish<G: Gate>(&self, seat: &mut TableSeat, gate: &mut G, spot: Spot, word: u64)
+        requires own { IsSeatOf self.now seat.old }
         requires range { IsEntry self.now.layout spot }
-        requires may { MayStep self.now.layout (λ _. Publish spot word) (known seat.old) }
-        ensures seat { IsSame seat.old seat.new }
-        ensures told { IsEvent self.now.layout (Publish spot word) said (known seat.old) (known seat.new) }
+        requires may { MayStep self.now.layout (λ _. Publish spot word) seat.old.known }
+        ensures { Steps self.now G.becomes (Publish spot word) (seat.old, gate.old) (seat.new, gate.new) }
     {
-        self.store_as::<Brand>(seat, Act::Publish { spot, word }, spot_place(spot), word);
+        let act = Act::Publish { spot, word };
+        self.store_as::<Brand, G>(seat, gate, act, spot_place(spot), word);
     }
 }

@@ -1,75 +1,121 @@
-//! The one form of all steps: a load, a store or an exchange, as an event.
+//! The one form of all steps: a load, a store or an exchange, as an event of which the gate is told.
 
 ghost use Rattle.std.specs.Prelude.{◌≡◌, ℕ, Some};
 ghost use Rattle.record_words.specs.Layout.{IsInTable};
 ghost use Rattle.rowex_core.specs.Events.{exchanged, location_of, writes};
-ghost use Rattle.rowex_core.specs.Knowing.{IsEvent};
 ghost use Rattle.rowex_table.specs.Rule.{MayStep, found_by};
-ghost use Rattle.rowex_table.specs.Seats.{IsSame, known};
+ghost use Rattle.rowex_table.specs.Runs.{StepsWith};
+ghost use Rattle.rowex_table.specs.Seats.{IsSeatOf};
 
-use crate::plays::{Does, Step};
+use crate::plays::{Step, Stepping};
 use crate::table::{HotTable, TableSeat};
 use record_words::Location;
-use rowex_core::Act;
+use rowex_core::{Act, Event, Gate};
 
 impl HotTable {
-    /// A load of the word at this location, as the event `_act`.
-    pub(crate) fn load_as<Q: Step>(
+    /// A load of the word at this location, as this act; the answer is the word.
+    pub(crate) fn load_as<Q: Step, G: Gate>(
         &self,
         seat: &mut TableSeat,
-        _act: Act,
+        gate: &mut G,
+        act: Act,
         location: Location,
     ) -> u64
-        requires own { seat.old.seat.table_id ≡ self.now.table.shared.table_id }
-        requires place { (location ≡ location_of seat.old.pass Q.act) × IsInTable self.now.layout location }
+        requires own { IsSeatOf self.now seat.old }
+        requires place { (location ≡ location_of seat.old.known.pass Q.act) × IsInTable self.now.layout location }
         requires load { (w : ℕ) → w ≡ writes Q.act w }
-        requires apt { (Q.layout ≡ Some self.now.layout) × MayStep self.now.layout (found_by Q.act) (known seat.old) }
-        ensures seat { IsSame seat.old seat.new }
-        ensures told { IsEvent self.now.layout (found_by Q.act result) Q.said (known seat.old) (known seat.new) }
+        requires apt { (Q.layout ≡ Some self.now.layout) × (act ≡ Q.act) × MayStep self.now.layout (found_by Q.act) seat.old.known }
+        ensures { StepsWith self.now G.becomes (found_by Q.act result) Q.said (seat.old, gate.old) (seat.new, gate.new) }
     {
-        self.table
+        let word = self
+            .table
             .shared
-            .load::<Does<Q>>(&mut seat.seat, self.layout.address(location))
+            .load::<Stepping<Q>>(&mut seat.seat, self.layout.address(location));
+        tell(gate, seat, finding(act, word));
+        word
     }
 
-    /// A store to the word at this location, as the event `_act`.
-    pub(crate) fn store_as<Q: Step>(
+    /// A store to the word at this location, as this act.
+    pub(crate) fn store_as<Q: Step, G: Gate>(
         &self,
         seat: &mut TableSeat,
-        _act: Act,
+        gate: &mut G,
+        act: Act,
         location: Location,
         new: u64,
     )
-        requires own { seat.old.seat.table_id ≡ self.now.table.shared.table_id }
-        requires place { (location ≡ location_of seat.old.pass Q.act) × IsInTable self.now.layout location }
+        requires own { IsSeatOf self.now seat.old }
+        requires place { (location ≡ location_of seat.old.known.pass Q.act) × IsInTable self.now.layout location }
         requires store { ((w : ℕ) → new ≡ writes Q.act w) × ((w : ℕ) → found_by Q.act w ≡ Q.act) }
-        requires apt { (Q.layout ≡ Some self.now.layout) × MayStep self.now.layout (found_by Q.act) (known seat.old) }
-        ensures seat { IsSame seat.old seat.new }
-        ensures told { IsEvent self.now.layout (found_by Q.act new) Q.said (known seat.old) (known seat.new) }
+        requires apt { (Q.layout ≡ Some self.now.layout) × (act ≡ Q.act) × MayStep self.now.layout (found_by Q.act) seat.old.known }
+        ensures { StepsWith self.now G.becomes (found_by Q.act new) Q.said (seat.old, gate.old) (seat.new, gate.new) }
     {
         self.table
             .shared
-            .store::<Does<Q>>(&mut seat.seat, self.layout.address(location), new);
+            .store::<Stepping<Q>>(&mut seat.seat, self.layout.address(location), new);
+        tell(gate, seat, act);
     }
 
-    /// An exchange of the word at this location from `old` to `new`, as the event `_act`; the answer is the word that it found.
-    pub(crate) fn exchange_as<Q: Step>(
+    /// An exchange of the word at this location from `old` to `new`, as this act; the answer is the word that it found.
+    pub(crate) fn exchange_as<Q: Step, G: Gate>(
         &self,
         seat: &mut TableSeat,
-        _act: Act,
+        gate: &mut G,
+        act: Act,
         location: Location,
         old: u64,
         new: u64,
     ) -> u64
-        requires own { seat.old.seat.table_id ≡ self.now.table.shared.table_id }
-        requires place { (location ≡ location_of seat.old.pass Q.act) × IsInTable self.now.layout location }
+        requires own { IsSeatOf self.now seat.old }
+        requires place { (location ≡ location_of seat.old.known.pass Q.act) × IsInTable self.now.layout location }
         requires exchange { (w : ℕ) → exchanged w old new ≡ writes Q.act w }
-        requires apt { (Q.layout ≡ Some self.now.layout) × MayStep self.now.layout (found_by Q.act) (known seat.old) }
-        ensures seat { IsSame seat.old seat.new }
-        ensures told { IsEvent self.now.layout (found_by Q.act result) Q.said (known seat.old) (known seat.new) }
+        requires apt { (Q.layout ≡ Some self.now.layout) × (act ≡ Q.act) × MayStep self.now.layout (found_by Q.act) seat.old.known }
+        ensures { StepsWith self.now G.becomes (found_by Q.act result) Q.said (seat.old, gate.old) (seat.new, gate.new) }
     {
-        self.table
+        let address = self.layout.address(location);
+        let found = self
+            .table
             .shared
-            .compare_exchange::<Does<Q>>(&mut seat.seat, self.layout.address(location), old, new)
+            .compare_exchange::<Stepping<Q>>(&mut seat.seat, address, old, new);
+        tell(gate, seat, finding(act, found));
+        found
+    }
+}
+
+/// Tells the gate of the step that the pass of this seat has just made.
+fn tell<G: Gate>(gate: &mut G, seat: &TableSeat, act: Act)
+    ensures { G.becomes gate.old (record { pass = seat.now.known.pass; act = act }) gate.new }
+{
+    let pass = seat.pass;
+    gate.at(&Event { pass, act });
+}
+
+/// The act with the word that its step found. A store finds none.
+fn finding(act: Act, word: u64) -> Act
+    ensures { result ≡ found_by act word }
+{
+    match act {
+        Act::Claim { rec, .. } => Act::Claim { rec, found: word },
+        Act::LoadRef { spot, .. } => Act::LoadRef { spot, word },
+        Act::LoadFixed { rec, offset, .. } => Act::LoadFixed { rec, offset, word },
+        Act::Lock { target, .. } => Act::Lock {
+            target,
+            found: word,
+        },
+        Act::LoadEpoch { .. } => Act::LoadEpoch { word },
+        Act::Advance { expected, .. } => Act::Advance {
+            expected,
+            found: word,
+        },
+        Act::LoadPin { of, .. } => Act::LoadPin { of, word },
+        Act::LoadState { rec, .. } => Act::LoadState { rec, word },
+        Act::GiveBack { rec, epoch, .. } => Act::GiveBack {
+            rec,
+            epoch,
+            found: word,
+        },
+        Act::Fill { .. } | Act::Ready { .. } | Act::Release { .. } => act,
+        Act::Unlock { .. } | Act::Publish { .. } | Act::Mark { .. } => act,
+        Act::SetPin { .. } | Act::ClearPin => act,
     }
 }

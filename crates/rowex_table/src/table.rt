@@ -1,30 +1,67 @@
 //! The table and the seats of its passes.
 
-ghost use Rattle.std.specs.Prelude.{◌≡◌, []};
-ghost use Rattle.record_words.specs.Layout.{word_count};
-ghost use Rattle.rowex_core.specs.declared.known.View.TheVariants.{Pass};
-ghost use Rattle.rowex_table.specs.Rule.{known_of};
+ghost use Rattle.std.specs.Prelude.{◌≡◌};
 
 use crate::plays::RowexRule;
 use atomic_table::{Seat, Table};
 use record_words::Layout;
 use rowex_core::View;
 use std::alloc::Global;
+use std::marker::Model;
 
-/// The right of one pass to step. What its pass knows has no bytes.
+/// The right of one pass to step. What its pass knows has no bytes, and changes at its steps alone.
 #[derive(Drop)]
 pub struct TableSeat {
-    pub seat: Seat<(), View>,
+    pub(crate) seat: Seat<(), View>,
+    pub(crate) pass: u16,
+}
+
+impl Model for TableSeat {
+    ghost use Rattle.rowex_table.specs.Seats.{SeatView};
+
+    ghost Value = { SeatView };
+
+    ghost use Rattle.rowex_table.specs.Rule.{IsOfPass, known_of};
+
+    ghost view = { λ s. record { table = s.seat.table_id; id = s.seat.id; known = known_of s.seat.me.0 } };
+
+    ghost invariant = { λ s. IsOfPass s.seat.me s.pass };
+}
+
+impl TableSeat {
     /// The number of the pass.
-    pub pass: u16,
-    pub ghost is_pass: { seat.me ≡ (Pass (known_of seat.me.0), []) },
-    pub ghost numbered: { (known_of seat.me.0).pass ≡ pass },
+    pub fn number(&self) -> u16
+        ensures { result ≡ self.now.known.pass }
+    {
+        self.pass
+    }
 }
 
 /// The shared words of an index, which passes step on through a `&`.
 #[derive(Drop)]
 pub struct HotTable {
-    pub table: Table<(), View, Layout, RowexRule, Global>,
-    pub layout: Layout,
-    pub ghost sized: { (table.shared.table_id.words ≡ word_count layout) × (table.shared.key ≡ layout) },
+    pub(crate) table: Table<(), View, Layout, RowexRule, Global>,
+    pub(crate) layout: Layout,
+}
+
+impl Model for HotTable {
+    ghost use Rattle.std.specs.Prelude.{◌≡◌};
+    ghost use Rattle.rowex_table.specs.Seats.{TableView};
+
+    ghost Value = { TableView };
+
+    ghost use Rattle.record_words.specs.Layout.{word_count};
+
+    ghost view = { λ t. record { id = t.table.shared.table_id; layout = t.layout } };
+
+    ghost invariant = { λ t. (t.table.shared.table_id.words ≡ word_count t.layout) × (t.table.shared.key ≡ t.layout) };
+}
+
+impl HotTable {
+    /// How many passes and records the table has.
+    pub fn layout(&self) -> Layout
+        ensures { result ≡ self.now.layout }
+    {
+        self.layout
+    }
 }

@@ -104,13 +104,15 @@ pub first_key : (c : Core) (q : ℕ) → IsLawful (view c) → c.past.moment c.p
 first_key c q law now x lock new = record {
   store = at_root lock refl;
   near = near_refl c.heap;
-  top = (refl, new.words);
-  tree = λ u y. subst (λ o. IsTrie o × IsBuilt o) (some_same y) (new.key, tt);
   kept = λ i. inr refl;
-  comes = λ r h. inr (ap c.fate h ∙ new.fate);
-  goes = λ n f e g. absurd (none_linked n f e);
   own = refl;
-  change = subst (λ z. IsChange z (added_change q x) (Some (leaf x.number x.key x.value))) (sym now) (x.number, added);
+  next = record {
+    top = (refl, new.words);
+    tree = λ u y. subst (λ o. IsTrie o × IsBuilt o) (some_same y) (new.key, tt);
+    comes = λ r h. inr (ap c.fate h ∙ new.fate);
+    goes = λ n f e g. absurd (none_linked n f e);
+    change = subst (λ z. IsChange z (added_change q x) (Some (leaf x.number x.key x.value))) (sym now) (x.number, added);
+  };
 }
   where
     none_some : {u : Tree} → None ≡ Some u → ⊥

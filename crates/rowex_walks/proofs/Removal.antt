@@ -86,13 +86,15 @@ module _ (c : Core) (q : ℕ) (law : IsLawful (view c)) (t : Tree) (now : c.past
   remove_last n k a e lock = record {
     store = at_root lock refl;
     near = near_refl c.heap;
-    top = tt;
-    tree = λ u y. absurd (none_some y);
     kept = λ i. inr refl;
-    comes = λ r h. elim h [ ];
-    goes = λ m f i g. absurd (leaf_node (subst (λ s. Links s (a_node m)) e (fate_linked c law t now m f i)));
     own = refl;
-    change = subst (λ z. IsChange z (removed_change q (item n k a)) None) (sym now) (n, subst (λ s. IsMore (item n k a) [] (items s)) (sym e) added);
+    next = record {
+      top = tt;
+      tree = λ u y. absurd (none_some y);
+      comes = λ r h. elim h [ ];
+      goes = λ m f i g. absurd (leaf_node (subst (λ s. Links s (a_node m)) e (fate_linked c law t now m f i)));
+      change = subst (λ z. IsChange z (removed_change q (item n k a)) None) (sym now) (n, subst (λ s. IsMore (item n k a) [] (items s)) (sym e) added);
+    };
   }
     where
       none_some : {u : Tree} → None ≡ Some u → ⊥

@@ -155,13 +155,15 @@ module _ (c : Core) (q : ℕ) (law : IsLawful (view c)) (t : Tree) (now : c.past
   slot_legal {n} {x} {b} {s} v w flat ts r is_tip lock hand low trie heap st ch e one = record {
     store = at_slot n lock (λ m h. sym (st.others m h)) (λ m. sym (st.leaves m)) refl;
     near = (st.leaves, λ i. same_fixed i (is_node? i n), λ i. pages i (is_node? i n));
-    top = top_new c.root (c.past.moment c.past.now) law.top now;
-    tree = λ u z. subst (λ y. IsTrie y × IsBuilt y) (some_same z) (trie, built);
     kept = λ i. kept i (is_node? i n);
-    comes = comes_now s r (put v (node n x (put w r))) (λ i h. links_old v i (inr (links_old w i h))) links_in hand;
-    goes = goes_now s r (put v (node n x (put w r))) (λ i h. links_new v (node n x (put w r)) i (inr (links_new w r i h))) links_out hand;
     own = e;
-    change = subst (λ z. IsChange z ch (Some (put v (node n x (put w r))))) (sym now) one;
+    next = record {
+      top = top_new c.root (c.past.moment c.past.now) law.top now;
+      tree = λ u z. subst (λ y. IsTrie y × IsBuilt y) (some_same z) (trie, built);
+      comes = comes_now s r (put v (node n x (put w r))) (λ i h. links_old v i (inr (links_old w i h))) links_in hand;
+      goes = goes_now s r (put v (node n x (put w r))) (λ i h. links_new v (node n x (put w r)) i (inr (links_new w r i h))) links_out hand;
+      change = subst (λ z. IsChange z ch (Some (put v (node n x (put w r))))) (sym now) one;
+    };
   }
     where
       here_shown : IsShown c.heap (node n x b)
@@ -243,11 +245,13 @@ module _ (c : Core) (q : ℕ) (law : IsLawful (view c)) (t : Tree) (now : c.past
   root_legal r e pg lock hand trie ch z one = record {
     store = at_root lock refl;
     near = near_refl c.heap;
-    top = (pg, hand.shown);
-    tree = λ u y. subst (λ o. IsTrie o × IsBuilt o) (some_same y) (trie, hand.built);
     kept = λ i. inr refl;
-    comes = comes_now t r r (λ i h. h) (λ i h. inr h) hand;
-    goes = goes_now t r r (λ i h. h) (λ i h. inr h) hand;
     own = z;
-    change = subst (λ z. IsChange z ch (Some r)) (sym now) one;
+    next = record {
+      top = (pg, hand.shown);
+      tree = λ u y. subst (λ o. IsTrie o × IsBuilt o) (some_same y) (trie, hand.built);
+      comes = comes_now t r r (λ i h. h) (λ i h. inr h) hand;
+      goes = goes_now t r r (λ i h. h) (λ i h. inr h) hand;
+      change = subst (λ z. IsChange z ch (Some r)) (sym now) one;
+    };
   }

@@ -1,13 +1,13 @@
 -- What a writer knows stays true under the steps of other passes.
-use Rattle.std.proofs.Common.{◌≡◌, ℕ, ◌≤◌, Some, ap, sym, ◌∙◌, subst, le_trans}
+use Rattle.std.proofs.Common.{◌≡◌, ℕ, ◌≤◌, Some, ap, sym, subst, le_trans}
 use Rattle.tries.specs.Keys.{Key}
 use Rattle.tries.specs.Tree.{Page}
 use Rattle.moments.specs.Heap.{NodeWords}
 use Rattle.moments.specs.State.{Past, IsLawful}
 use Rattle.moments.specs.declared.Rec.TheVariants.{Node as a_node}
-use Rattle.moments.specs.Core.{InTree, Core, pin_moment, view}
+use Rattle.moments.specs.Core.{Core, pin_moment, view}
 use Rattle.moments.specs.declared.Pin.{Pin}
-use Rattle.moments.specs.Frames.{IsGrown, IsFrame}
+use Rattle.moments.specs.Frames.{IsGrown}
 use Rattle.tries.specs.Content.{Item}
 use Rattle.rowex_walks.specs.Writer.{IsBegun, IsWay, at_leaf, below, IsFound}
 use Rattle.moments.proofs.Growth.{stands_grown, marked_grown}
@@ -20,14 +20,13 @@ pub way_grown : (a b : Past) → IsGrown a b → (m : ℕ) (k : Key) (x : Page) 
 way_grown a b g m k x l (at_leaf j e f) = at_leaf j e (marked_grown a b g m (λ y. y ≡ l) _ f)
 way_grown a b g m k x l (below n h r like e f i) = below n h r like e (begun_grown a b g m r like n f) i
 
-pub found_kept : (c d : Core) (q since p : ℕ) (x : Item) (l : Key) (n f : ℕ) (pin : Pin) → IsLawful (view d) → IsFrame q c d →
-    c.fate (a_node n) ≡ InTree f → c.pins q ≡ Some pin → pin.moment ≤ since → IsFound c q since x p l n → IsFound d q since x p l n
-found_kept c d q since p x l n f pin law frame fate pinned lo found =
-    let y = frame.locks n f found.lock fate in record {
-      key = found.key;
-      reach = reach_later (view d) pin.moment since lo (law.reach q pin.moment (ap pin_moment (frame.pin ∙ pinned)));
-      lock = y.0;
-      way = subst (λ z. IsWay d.past since x.key z l) (ap (λ (w : NodeWords). w.page) (sym y.1)) (way_grown c.past d.past frame.past since x.key _ l found.way);
-      agree = found.agree;
-      differ = found.differ;
-    }
+pub found_kept : (c d : Core) (q since p : ℕ) (x : Item) (l : Key) (n : ℕ) (pin : Pin) → IsLawful (view d) → IsGrown c.past d.past →
+    d.lock n ≡ Some q → d.heap.nodes n ≡ c.heap.nodes n → d.pins q ≡ Some pin → pin.moment ≤ since → IsFound c q since x p l n → IsFound d q since x p l n
+found_kept c d q since p x l n pin law grown lock words pinned lo found = record {
+  key = found.key;
+  reach = reach_later (view d) pin.moment since lo (law.reach q pin.moment (ap pin_moment pinned));
+  lock = lock;
+  way = subst (λ z. IsWay d.past since x.key z l) (ap (λ (w : NodeWords). w.page) (sym words)) (way_grown c.past d.past grown since x.key _ l found.way);
+  agree = found.agree;
+  differ = found.differ;
+}

@@ -18,7 +18,7 @@ use Rattle.moments.specs.State.{State, Past, IsLawful, IsReach, IsSteady, IsLed,
 use Rattle.moments.specs.declared.Rec.{Rec}
 use Rattle.moments.specs.declared.Rec.TheVariants.{Node as a_node, Leaf as a_leaf}
 use Rattle.moments.specs.Trades.{HasTraded}
-use Rattle.moments.specs.Core.{Core, view, InTree}
+use Rattle.moments.specs.Core.{Core, view}
 use Rattle.moments.specs.declared.Pin.{Pin}
 use Rattle.moments.specs.Told.{IsTold, items_of}
 use Rattle.moments.specs.Steps.{IsLegalPublish}
@@ -26,7 +26,7 @@ use Rattle.rowex_walks.specs.Writer.{item, added_change, replaced_change, remove
 use Rattle.rowex_walks.specs.Rise.{IsNewPage, IsEntryFor, IsLockedNode, IsOver, IsUpper, IsLeafOf, entry, IsRise, entry_news, news_of, gone_of, IsSlotStore, IsBelowNode}
 use Rattle.rowex_walks.specs.Scan.{Pair, Range, IsComplete, IsCut, turned, IsRooted, IsPlaced, IsShaped, IsRead, IsSeen}
 use Rattle.compound_node.specs.Nodes.{height_of}
-use Rattle.moments.specs.Frames.{IsFrame}
+use Rattle.moments.specs.Frames.{IsGrown}
 
 -- The store is a legal publish of this tree, which may be empty, and tells this change: the leaves are others than before, just
 -- the records `new` are linked anew, and just the records `gone` are linked no more.
@@ -160,8 +160,9 @@ LedPlaced =
     (s : Past) (m : ℕ) → IsSteady s m → (k : Key) (r h j : ℕ) (p : Page) (e : Entry) → IsShaped s m r p → spot k p ≡ j → IsPlaced s m r j e →
     IsLed s m k (Node r h) → IsLed s m k e
 
--- What a writer has found below a locked node stays true while other passes go on.
+-- What a writer has found below a locked node stays true while the moments grow, as long as the writer keeps the lock, with the words
+-- that the node had, and its pin.
 abbrev pub FoundIsKept : Type 0
 FoundIsKept =
-    (c d : Core) (q since p : ℕ) (x : Item) (l : Key) (n f : ℕ) (pin : Pin) → IsLawful (view d) → IsFrame q c d →
-    c.fate (a_node n) ≡ InTree f → c.pins q ≡ Some pin → pin.moment ≤ since → IsFound c q since x p l n → IsFound d q since x p l n
+    (c d : Core) (q since p : ℕ) (x : Item) (l : Key) (n : ℕ) (pin : Pin) → IsLawful (view d) → IsGrown c.past d.past →
+    d.lock n ≡ Some q → d.heap.nodes n ≡ c.heap.nodes n → d.pins q ≡ Some pin → pin.moment ≤ since → IsFound c q since x p l n → IsFound d q since x p l n

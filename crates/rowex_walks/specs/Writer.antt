@@ -14,6 +14,7 @@ use Rattle.moments.specs.declared.Rec.TheVariants.{Node as a_node, Leaf as a_lea
 use Rattle.moments.specs.Core.{Ready, Core, view}
 use Rattle.tries.specs.Content.{Item}
 use Rattle.tries.specs.Changes.{IsAdded}
+pub use Rattle.moments.specs.Told.{added_change, replaced_change, removed_change}
 
 -- For the place of `s` the pass has `r`: its words show it, what it links anew is the pass's and ready, and the nodes
 -- that go are locked by the pass.
@@ -76,13 +77,3 @@ pub record IsGrowth (c : Core) (q : ℕ) (x : Item) (p : ℕ) (s r : Tree) : Typ
 -- A leaf record with its words.
 abbrev pub item : ℕ → Key → ℕ → Item
 item n k v = record { number = n; key = k; value = v }
-
--- The changes that publishes of pass `q` tell, by the leaf record that comes or goes.
-abbrev pub added_change : ℕ → Item → Change
-added_change q x = record { pass = q; key = x.key; value = x.value; kind = Added }
-
-abbrev pub replaced_change : ℕ → Item → Change
-replaced_change q x = record { pass = q; key = x.key; value = x.value; kind = Replaced }
-
-abbrev pub removed_change : ℕ → Item → Change
-removed_change q x = record { pass = q; key = x.key; value = x.value; kind = Removed }

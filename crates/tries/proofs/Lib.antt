@@ -9,3 +9,5 @@ pub mod Adding
 pub mod Affected
 pub mod Spots
 pub mod Fitting
+pub mod Building
+pub mod Reading

@@ -6,4 +6,5 @@ pub mod Place
 pub mod Content
 pub mod Changes
 pub mod Affected
+pub mod Read
 pub mod Statements

@@ -5,16 +5,14 @@ use Rattle.epochs.proofs.collection.find_bound.Goals as goal
 
 pub loop-pass-init : goal.loop-pass-init
 loop-pass-init g c = record {
-  seat = search rules;
   pin = search rules;
-  bound = bound_none _ _ _ _ c.load_epoch-bound.ensures.told;
-  steps = finds_none _ _ _ _ c.load_epoch-bound.ensures.told;
+  bound = bound_none _ _ _ _ c.load_epoch-bound.ensures.event;
+  steps = finds_none _ _ _ _ _ c.load_epoch-bound.ensures;
 }
 
 pub loop-pass-preserved : goal.loop-pass-preserved
 loop-pass-preserved g c = record {
-  seat = search rules;
   pin = search rules;
-  bound = bound_more _ _ _ _ _ _ _ c.loop-pass.invariant.bound c.load_pin-word.ensures.told c.lowered-bound.ensures.none c.lowered-bound.ensures.pinned;
-  steps = finds_more _ _ _ _ _ _ c.loop-pass.invariant.steps c.load_pin-word.ensures.told;
+  bound = bound_more _ _ _ _ _ _ _ c.loop-pass.invariant.bound c.load_pin-word.ensures.event c.lowered-bound.ensures.none c.lowered-bound.ensures.pinned;
+  steps = finds_more _ _ _ _ _ _ _ c.loop-pass.invariant.steps c.load_pin-word.ensures;
 }

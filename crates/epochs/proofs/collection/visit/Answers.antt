@@ -3,7 +3,7 @@ use Rattle.epochs.proofs.Visiting.{visit_passes, visit_tries}
 use Rattle.epochs.proofs.collection.visit.Goals as goal
 
 pub returns-in_default-clause-steps : goal.returns-in_default-clause-steps
-returns-in_default-clause-steps g c = visit_passes _ _ _ _ _ _ c.load_state-word.ensures.told c.requires.bound.least c.in_default.ensures
+returns-in_default-clause-steps g c = visit_passes _ _ _ _ _ _ _ c.load_state-word.ensures c.requires.bound.least c.in_default.ensures
 
 pub returns-clause-steps : goal.returns-clause-steps
-returns-clause-steps g c = visit_tries _ _ _ _ _ _ _ _ _ c.in-Some.ensures.3 c.in-Some.ensures.0 c.in-Some.ensures.2 c.load_state-word.ensures.told c.give_back-found.ensures.told
+returns-clause-steps g c = visit_tries _ _ _ _ _ _ _ _ _ _ c.in-Some.ensures.3 c.in-Some.ensures.0 c.in-Some.ensures.2 c.load_state-word.ensures c.give_back-found.ensures

@@ -1,14 +1,12 @@
 -- The records below the number have been visited.
 use Rattle.std.specs.Prelude.{◌≡◌, ◌≤◌}
 use Rattle.moments.specs.declared.Rec.TheVariants.{Leaf as a_leaf}
-use Rattle.rowex_table.specs.Seats.{IsSame, known}
 use Rattle.epochs.specs.Rounds.{VisitsAll}
 use Rattle.epochs.proofs.collection.visit_leaves.Given as goal
 
 abbrev pub invariant-loop-number : goal.invariant-loop-number
 invariant-loop-number g l = record {
-  seat : IsSame l.fn.seat l.seat;
-  same : ((known l.seat).pin ≡ (known l.fn.seat).pin) × ((known l.seat).round ≡ (known l.fn.seat).round);
+  same : (l.seat.known.pin ≡ l.fn.seat.known.pin) × (l.seat.known.round ≡ l.fn.seat.known.round);
   few : l.given ≤ l.number;
-  steps : VisitsAll l.table.layout l.bound a_leaf l.number l.given (known l.fn.seat) (known l.seat);
+  steps : VisitsAll l.table g.G.Gate.becomes l.bound a_leaf l.number l.given (l.fn.seat, l.fn.gate) (l.seat, l.gate);
 }

@@ -1,5 +1,5 @@
 -- The notes are the caller's.
 use Rattle.epochs.proofs.pinning.unpin.Given as goal
 
-abbrev pub ghost-unpin_with : goal.ghost-unpin_with
-ghost-unpin_with g a = g.said
+abbrev pub ghost-clear_pin : goal.ghost-clear_pin
+ghost-clear_pin g a = g.said

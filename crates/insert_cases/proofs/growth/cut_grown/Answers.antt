@@ -4,8 +4,9 @@ use Rattle.pieces.specs.Piece.{size}
 use Rattle.pieces.proofs.Paths.{size_pos}
 use Rattle.compound_node.specs.Nodes.{piece}
 use Rattle.insert_cases.specs.Grown.{half_piece}
-use Rattle.insert_cases.proofs.Grafting.{affected_one, affected_rises}
-use Rattle.insert_cases.proofs.NodeFacts.{size-piece, cut_is}
+use Rattle.pieces.proofs.Grafting.{affected_one, affected_rises}
+use Rattle.tries.proofs.Building.{size-piece}
+use Rattle.insert_cases.proofs.NodeFacts.{cut_is}
 use Rattle.insert_cases.proofs.growth.cut_grown.Goals as goal
 
 pub half_grown-requires-clause-room : goal.half_grown-requires-clause-room

@@ -6,9 +6,10 @@ use Rattle.compound_node.specs.declared.entries.Entry.TheVariants.{Leaf}
 use Rattle.pieces.specs.Changes.{replaced}
 use Rattle.pieces.specs.Growth.{forked, grown, IsAffected}
 use Rattle.pieces.specs.Piece.{Place, size, places}
-use Rattle.insert_cases.specs.Grafts.{grafted, IsAbovePath}
-use Rattle.insert_cases.proofs.Grafting.{old_at, size-replaced, size-grown, affected_alone, replaced-grown}
-use Rattle.insert_cases.proofs.NodeFacts.{size-piece, height_positive, greatest-grown, greatest-grafted}
+use Rattle.pieces.specs.Grafts.{grafted, IsAbovePath}
+use Rattle.pieces.proofs.Grafting.{old_at, size-replaced, size-grown, affected_alone, replaced-grown}
+use Rattle.tries.proofs.Building.{size-piece}
+use Rattle.insert_cases.proofs.NodeFacts.{height_positive, greatest-grown, greatest-grafted}
 use Rattle.insert_cases.proofs.growth.forked.Goals as goal
 
 -- the node with a leaf in the entry's place

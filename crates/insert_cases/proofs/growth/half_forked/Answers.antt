@@ -1,6 +1,6 @@
 -- Why `half_forked` meets its contract.
 use Rattle.std.proofs.Common.{arith}
-use Rattle.insert_cases.proofs.NodeFacts.{size-piece}
+use Rattle.tries.proofs.Building.{size-piece}
 use Rattle.insert_cases.proofs.growth.half_forked.Goals as goal
 
 pub forked-requires-clause-room : goal.forked-requires-clause-room

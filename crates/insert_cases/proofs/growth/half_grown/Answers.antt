@@ -1,6 +1,6 @@
 -- Why `half_grown` meets its contract.
 use Rattle.std.proofs.Common.{arith}
-use Rattle.insert_cases.proofs.NodeFacts.{size-piece}
+use Rattle.tries.proofs.Building.{size-piece}
 use Rattle.insert_cases.proofs.growth.half_grown.Goals as goal
 
 pub insert-requires-clause-room : goal.insert-requires-clause-room

@@ -4,7 +4,8 @@ use Rattle.pieces.specs.Piece.{size}
 use Rattle.pieces.proofs.Paths.{size_pos}
 use Rattle.compound_node.specs.Nodes.{piece}
 use Rattle.insert_cases.specs.Grown.{half_piece}
-use Rattle.insert_cases.proofs.NodeFacts.{size-piece, cut_is, half_anew}
+use Rattle.tries.proofs.Building.{size-piece}
+use Rattle.insert_cases.proofs.NodeFacts.{cut_is, half_anew}
 use Rattle.insert_cases.proofs.growth.pull_up.Goals as goal
 
 pub half_forked-requires-clause-room : goal.half_forked-requires-clause-room

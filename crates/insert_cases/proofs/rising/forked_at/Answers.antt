@@ -3,10 +3,10 @@ use Rattle.std.proofs.Common.{◌≡◌, ap, sym, ◌∙◌, subst, arith}
 use Rattle.std.proofs.lemmas.Option.{slice_get_within}
 use Rattle.pieces.specs.Piece.{Place, Fork, size}
 use Rattle.compound_node.specs.Nodes.{NodeView, piece, IsLawful}
-use Rattle.insert_cases.specs.Grafts.{grafted, IsAbovePath}
+use Rattle.pieces.specs.Grafts.{grafted, IsAbovePath}
 use Rattle.insert_cases.specs.Grown.{GrownShows}
 use Rattle.insert_cases.proofs.Choosing.{same_some}
-use Rattle.insert_cases.proofs.NodeFacts.{size-piece}
+use Rattle.tries.proofs.Building.{size-piece}
 use Rattle.insert_cases.proofs.Searching.{read_at}
 use Rattle.insert_cases.proofs.Steady.{pull_steady}
 use Rattle.insert_cases.proofs.rising.forked_at.Goals as goal

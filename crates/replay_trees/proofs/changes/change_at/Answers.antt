@@ -3,10 +3,10 @@ use Rattle.std.proofs.Common.{◌∷◌, [], refl, sym, subst}
 use Rattle.std.specs.declared.cmp.Ordering.TheVariants.{Less, Equal, Greater}
 use Rattle.std.specs.Prelude.{map}
 use Rattle.replay_trees.specs.Moments.{item_of}
-use Rattle.rowex_core.specs.Events.{added_by, removed_by}
 use Rattle.replay_trees.specs.Changed.{IsMade}
 use Rattle.replay_trees.proofs.Between.{removal_found, addition_found, exchange_found, apart_change, found_at, no_items}
 use Rattle.replay_trees.proofs.changes.change_at.Goals as goal
+use Rattle.moments.specs.Told.{added_change, removed_change}
 
 pub returns-in-None-Some : goal.returns-in-None-Some
 returns-in-None-Some c =
@@ -14,7 +14,7 @@ returns-in-None-Some c =
     let e = no_items c.args.gone.now p.ensures.cases in
     found_at c.args.pass c.args.gone.now c.args.come.now [] (p.y.now ∷ p.rest.now) c.made.result e p.ensures'.cases.0 c.requires
     (λ a s. addition_found c.args.pass (item_of p.y.now) [] (map item_of p.rest.now) c.made.result a s refl
-    (subst (λ g. IsMade (map item_of g) (map item_of p.rest.now) (added_by c.args.pass (item_of p.y.now)) c.made.result) e c.made.ensures))
+    (subst (λ g. IsMade (map item_of g) (map item_of p.rest.now) (added_change c.args.pass (item_of p.y.now)) c.made.result) e c.made.ensures))
 
 pub returns-in-Some-None : goal.returns-in-Some-None
 returns-in-Some-None c =
@@ -22,7 +22,7 @@ returns-in-Some-None c =
     let e = no_items c.args.come.now p.ensures'.cases in
     found_at c.args.pass c.args.gone.now c.args.come.now (p.x.now ∷ p.rest.now) [] c.made-in-Some-None.result p.ensures.cases.0 e c.requires
     (λ a s. removal_found c.args.pass (item_of p.x.now) (map item_of p.rest.now) [] c.made-in-Some-None.result a s refl
-    (subst (λ g. IsMade (map item_of p.rest.now) (map item_of g) (removed_by c.args.pass (item_of p.x.now)) c.made-in-Some-None.result) e c.made-in-Some-None.ensures))
+    (subst (λ g. IsMade (map item_of p.rest.now) (map item_of g) (removed_change c.args.pass (item_of p.x.now)) c.made-in-Some-None.result) e c.made-in-Some-None.ensures))
 
 pub returns-in-Less : goal.returns-in-Less
 returns-in-Less c =
@@ -30,7 +30,7 @@ returns-in-Less c =
     found_at c.args.pass c.args.gone.now c.args.come.now (p.x.now ∷ p.gone_rest.now) (p.y.now ∷ p.come_rest.now) c.made-in-Less.result p.ensures.cases.0 p.ensures'.cases.0 c.requires
     (λ a s. removal_found c.args.pass (item_of p.x.now) (map item_of p.gone_rest.now) (map item_of (p.y.now ∷ p.come_rest.now)) c.made-in-Less.result a s
     (apart_change c.args.pass (item_of p.x.now) (item_of p.y.now) (map item_of p.gone_rest.now) (map item_of p.come_rest.now) Less a (sym c.in-Less.ensures.bytes))
-    (subst (λ g. IsMade (map item_of p.gone_rest.now) (map item_of g) (removed_by c.args.pass (item_of p.x.now)) c.made-in-Less.result) p.ensures'.cases.0 c.made-in-Less.ensures))
+    (subst (λ g. IsMade (map item_of p.gone_rest.now) (map item_of g) (removed_change c.args.pass (item_of p.x.now)) c.made-in-Less.result) p.ensures'.cases.0 c.made-in-Less.ensures))
 
 pub returns-in-Greater : goal.returns-in-Greater
 returns-in-Greater c =
@@ -38,7 +38,7 @@ returns-in-Greater c =
     found_at c.args.pass c.args.gone.now c.args.come.now (p.x.now ∷ p.gone_rest.now) (p.y.now ∷ p.come_rest.now) c.made-in-Greater.result p.ensures.cases.0 p.ensures'.cases.0 c.requires
     (λ a s. addition_found c.args.pass (item_of p.y.now) (map item_of (p.x.now ∷ p.gone_rest.now)) (map item_of p.come_rest.now) c.made-in-Greater.result a s
     (apart_change c.args.pass (item_of p.x.now) (item_of p.y.now) (map item_of p.gone_rest.now) (map item_of p.come_rest.now) Greater a (sym c.in-Greater.ensures.bytes))
-    (subst (λ g. IsMade (map item_of g) (map item_of p.come_rest.now) (added_by c.args.pass (item_of p.y.now)) c.made-in-Greater.result) p.ensures.cases.0 c.made-in-Greater.ensures))
+    (subst (λ g. IsMade (map item_of g) (map item_of p.come_rest.now) (added_change c.args.pass (item_of p.y.now)) c.made-in-Greater.result) p.ensures.cases.0 c.made-in-Greater.ensures))
 
 pub returns-in-Equal : goal.returns-in-Equal
 returns-in-Equal c =

@@ -15,7 +15,7 @@ returns-then-not-is_node-clause-ok c = rw (sym c.self.view_is) (
 
 pub returns-in-Ok-true-clause-ok : goal.returns-in-Ok-true-clause-ok
 returns-in-Ok-true-clause-ok c = rw (sym c.self.view_is) (entry_publishes _ c.publish_tree.new.self c.args.pass c.args.node c.args.entry c.args.word c.in-Some.before c.filled-after.result
-    c.if-entry-ge-ENTRIES.false (c.is_locked_by.ensures.0 c.if-not-is_locked_by.false) (sym c.node.ensures ∙ c.in-Some.is) c.filled-after.ensures ((c.is_node.ensures c.args.node).0 c.if-not-is_node.false) c.requires
+    c.if-entry-ge-MAX_ENTRIES.false (c.is_locked_by.ensures.0 c.if-not-is_locked_by.false) (sym c.node.ensures ∙ c.in-Some.is) c.filled-after.ensures ((c.is_node.ensures c.args.node).0 c.if-not-is_node.false) c.requires
     (of_words (the_view c.self.inside) c.publish_tree.new.self c.set_node.new.self (with_words_in c.self.inside.records (a_node c.args.node) c.filled-after.result) c.args.pass c.self.inside.root c.in-Ok-true.field-0 true c.in-Ok-true.field-0-test c.set_node.ensures c.in-Ok-true.ensures.ok))
 
 pub returns-in-Ok-false-clause-ok : goal.returns-in-Ok-false-clause-ok

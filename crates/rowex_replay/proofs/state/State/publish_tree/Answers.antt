@@ -23,7 +23,7 @@ returns-in_default-change_between-clause-ok c = rw (sym c.self.view_is) (
   refl,
   not_changed _ c.args.pass c.args.root c.in-Some.linked
       (read_is _ _ _ _ c.args.root c.in_ok-linked.field-0 (Some c.in-Some.linked) c.nodes-nodes.ensures c.leaves-leaves.ensures c.in-Some.is c.in_ok-linked.ensures)
-      (found_is c.args.pass _ _ _ _ c.change_between.result None c.deref-3.ensures.value c.deref-4.ensures.value c.in_default-change_between.is c.change_between.ensures),
+      (found_is c.args.pass _ _ _ _ c.change_between.result None c.as_slice-before.ensures.value c.as_slice-after.ensures.value c.in_default-change_between.is c.change_between.ensures),
 )
 
 pub returns-clause-ok : goal.returns-clause-ok
@@ -32,6 +32,6 @@ returns-clause-ok c =
     rw (sym c.self.view_is, c.in_ok-push.ensures.items) (publishes _ c.args.pass c.args.root c.in-Some.linked c.in-Some-change_between.change c.len-now.result c.link.new.self
     (read_is _ _ _ _ c.args.root c.in_ok-linked.field-0 (Some c.in-Some.linked) c.nodes-nodes.ensures c.leaves-leaves.ensures c.in-Some.is c.in_ok-linked.ensures)
     (rw (c.deref.ensures.value, c.deref-2.ensures.value) at (c.may_link.ensures.0 c.if-not-may_link.false))
-    (found_is c.args.pass _ _ _ _ c.change_between.result (Some c.in-Some-change_between.change) c.deref-3.ensures.value c.deref-4.ensures.value c.in-Some-change_between.is c.change_between.ensures)
+    (found_is c.args.pass _ _ _ _ c.change_between.result (Some c.in-Some-change_between.change) c.as_slice-before.ensures.value c.as_slice-after.ensures.value c.in-Some-change_between.is c.change_between.ensures)
     long
-    (next_of _ _ _ _ _ _ _ _ c.deref-5.ensures.value c.deref-6.ensures.value c.link.ensures))
+    (next_of _ _ _ _ _ _ _ _ c.deref-3.ensures.value c.deref-4.ensures.value c.link.ensures))

@@ -2,10 +2,9 @@
 use Rattle.std.proofs.Common.{rules, ◌≡◌, ℕ, ◌<◌, List, ap, subst, sym, ◌∙◌}
 use mathlib.Core.Option.{some}
 use lib.ListN.{get_elem?}
-use Rattle.rowex_table.specs.declared.table.TableSeat.{TableSeat}
 use Rattle.rowex_table.specs.Rule.{known_of, next_dealer, dealt}
-use Rattle.rowex_table.specs.Seats.{IsNew}
-use Rattle.rowex_table.proofs.Dealing.{opens, deals, each_longer, all_fit}
+use Rattle.rowex_table.specs.Seats.{TableView, SeatView, IsNew}
+use Rattle.rowex_table.proofs.Dealing.{opens, deals, each_longer, all_new}
 use Rattle.rowex_table.proofs.table.HotTable.new.Goals as goal
 
 pub of_words-requires : goal.of_words-requires
@@ -20,14 +19,15 @@ pub loop-number-preserved : goal.loop-number-preserved
 loop-number-preserved c =
     let was = ap (λ m. m.0) c.loop-number.invariant.1 in
     let none = ap (λ m. m.1) c.loop-number.invariant.1 in
-    let split = c.split_seat-seat.ensures in (
+    let split = c.split_seat-seat.ensures in
+    let made : TableView = record { id = c.in_ok-table.table.shared.table_id; layout = c.args.layout } in (
       search rules,
       split.2 ∙ (λ i. (next_dealer (was i), none i)),
       search rules,
-      subst (λ (l : List TableSeat). (q : ℕ) (h : TableSeat) → get_elem? l q ≡ some h → IsNew c.in_ok-table.table.shared.table_id q h) (sym c.in_ok-push.ensures.items)
-          (each_longer (λ q (h : TableSeat). IsNew c.in_ok-table.table.shared.table_id q h) c.loop-number.seats.items _ c.loop-number.number c.loop-number.invariant.2 c.loop-number.invariant.3
-          (search rules, search rules, ap (λ m. known_of m.0) split.4 ∙ ap (λ v. known_of (dealt v)) was)),
+      subst (λ (l : List SeatView). (q : ℕ) (h : SeatView) → get_elem? l q ≡ some h → IsNew made q h) (sym c.in_ok-push.ensures.items)
+          (each_longer (λ q (h : SeatView). IsNew made q h) c.loop-number.seats.items _ c.loop-number.number c.loop-number.invariant.2 c.loop-number.invariant.3
+          (search rules, ap (λ m. known_of m.0) split.4 ∙ ap (λ v. known_of (dealt v)) was)),
     )
 
 pub returns-clause-each : goal.returns-clause-each
-returns-clause-each c = all_fit c.in_ok-table.table.shared.table_id c.args.layout.passes c.loop-number.seats.items (search rules) c.loop-number.invariant.3
+returns-clause-each c = let made : TableView = record { id = c.in_ok-table.table.shared.table_id; layout = c.args.layout } in all_new made c.loop-number.seats.items (search rules) c.loop-number.invariant.3

@@ -1,13 +1,21 @@
 -- A step as an event.
-use Rattle.std.proofs.Common.{rules, ◌≡◌, ◌<◌, refl, sym, ap, ◌∙◌}
-use Rattle.record_words.specs.Layout.{address, word_count}
+use Rattle.std.proofs.Common.{rules, ◌≡◌, ◌<◌, sym, ap, subst, ◌∙◌}
+use Rattle.record_words.specs.declared.layout.Layout.{Layout}
+use Rattle.record_words.specs.Layout.{IsInTable, address, word_count}
 use Rattle.record_words.proofs.Locations.{address-below}
 use Rattle.rowex_core.specs.Events.{location_of}
+use Rattle.rowex_table.specs.Seats.{TableView, SeatView}
 use Rattle.rowex_table.proofs.Keeping.{allows_me}
 use Rattle.rowex_table.proofs.table.HotTable.store_as.Goals as goal
 
 pub store-requires : goal.store-requires
 store-requires g c =
-    let is : address c.args.self.now.layout c.args.location ≡ address c.args.self.now.layout (location_of (Rattle.rowex_table.specs.Rule.known_of c.args.seat.now.seat.me.0).pass g.Q.Step.act) = ap (address c.args.self.now.layout) (c.requires.place.0 ∙ ap (λ q. location_of q g.Q.Step.act) (sym c.args.seat.now.numbered)) in
-    let low : address c.args.self.now.layout c.args.location < word_count c.args.self.now.layout = address-below c.args.self.now.layout c.args.location c.requires.place.1 in
-    (search rules, search rules, allows_me _ _ _ _ _ _ g.Q.Step.said (λ _. c.args.new) (λ _. c.args.new) _ _ _ c.args.self.now.sized.1 c.requires.apt.0 c.args.seat.now.is_pass refl (c.address.ensures ∙ is) c.requires.store.0 (λ w. c.requires.store.1 c.args.new ∙ sym (c.requires.store.1 w)) c.requires.apt.1)
+    let layout : c.self.inside.layout ≡ c.args.self.now.layout = ap (λ (z : TableView). z.layout) c.self.view_is in
+    let is : c.address.result ≡ address c.args.self.now.layout (location_of c.args.seat.now.known.pass g.Q.Step.act) =
+    c.address.ensures ∙ (ap (λ (z : Layout). address z c.args.location) layout ∙ ap (address c.args.self.now.layout) c.requires.place.0) in
+    let low : address c.self.inside.layout c.args.location < word_count c.self.inside.layout =
+    address-below c.self.inside.layout c.args.location (subst (λ (z : Layout). IsInTable z c.args.location) (sym layout) c.requires.place.1) in (
+      search rules,
+      search rules,
+      allows_me _ _ _ _ _ _ _ _ _ _ _ _ (c.self.invariant.1 ∙ layout) c.requires.apt.0 c.seat.invariant.0 (sym (ap (λ (z : SeatView). z.known) c.seat.view_is)) is c.requires.store.0 (λ w. c.requires.store.1 c.args.new ∙ sym (c.requires.store.1 w)) c.requires.apt.2,
+    )

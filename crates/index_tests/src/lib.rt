@@ -1,0 +1,11 @@
+//! Tests of the shared table, of pins and rounds, of new records and of the index, by what their crates make public.
+#![tactic(auto)]
+
+#[cfg(test)]
+mod gates;
+#[cfg(test)]
+mod made;
+#[cfg(test)]
+mod rounds;
+#[cfg(test)]
+mod steps;

@@ -1,5 +1,0 @@
-//! Worked cases and tries.
-
-mod cases;
-mod plain;
-mod scan;

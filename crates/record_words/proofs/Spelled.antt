@@ -1,0 +1,127 @@
+-- What is read of words that spell a value.
+use Rattle.std.proofs.Common.{ℕ, ◌≡◌, ◌+◌, ◌-◌, ◌*◌, ◌/◌, ◌%◌, ◌^◌, ◌<◌, ◌≤◌, ◌++◌, List, [], ◌∷◌, Option, Some, suc, arith, get_or, length, take, drop, refl, sym, ap, ◌∙◌, length-append}
+use Rattle.std.specs.Prelude.{slice_get, IsSome}
+use Rattle.std.proofs.Math.Seq.{take-suc}
+use Rattle.std.proofs.lemmas.Option.{same_Some, slice_get-get_or}
+use Rattle.compound_node.specs.declared.entries.Entry.{Entry}
+use Rattle.compound_node.specs.declared.entries.Entry.TheVariants.{Leaf}
+use Rattle.record_words.specs.Entry.{HasEntryWord, entry_word}
+use Rattle.record_words.proofs.Entries.{entry_words_at, same_entries}
+use Rattle.std.proofs.lemmas.List.{ext_get_or, get_or_default, length-replicate, take_at}
+use Rattle.partial_keys.specs.Columns.{HoldsColumns, IsColumns, with_free}
+use Rattle.partial_keys.specs.Rows.{with_unused}
+use Rattle.compound_node.specs.Nodes.{NodeView, HeadView, IsHead, IsLawful, head_of, node_of}
+use Rattle.compound_node.proofs.Lawful.{same_count}
+use Rattle.record_words.specs.Node.{HasHeadWords, HasNodeWords, HaveEntryWords, entry_words, head_words, node_words}
+use Rattle.record_words.specs.Leaf.{HasLeafWords, leaf_words}
+use Rattle.record_words.specs.Reading.{IsSpelledBy}
+use Rattle.record_words.proofs.Fixing.{AreFixed, fixed_words_parts}
+use Rattle.record_words.proofs.Heads.{head_from-numbers, is_head}
+use Rattle.record_words.proofs.Lawful.{column-lt, get_or-padded, length-with_unused, row-lt}
+use Rattle.record_words.proofs.Leaves.{same_leaf}
+use Rattle.record_words.proofs.Nodes.{entry_part, head_part, same_head, same_node}
+use Rattle.record_words.proofs.Parts.{position_in_word, row_in_word}
+
+length-with_free : (columns : List ℕ) → length columns ≤ 31 → length (with_free columns) ≡ 31
+length-with_free columns few = length-append columns _ ∙ omega (arith, length-replicate {A = ℕ} (31 - length columns) 65535)
+
+pub columns_in_front : (columns places : List ℕ) (count : ℕ) → places ≡ with_free columns → count ≡ length columns → take count places ≡ columns
+columns_in_front columns places count same counted = rw (same, counted) (take_at columns _ (length columns) refl)
+
+pub holds_columns : (columns places : List ℕ) (count : ℕ) → IsColumns columns → places ≡ with_free columns → count ≡ length columns → HoldsColumns places count
+holds_columns columns places count are same counted =
+    let front : take count places ≡ columns = columns_in_front columns places count same counted in
+    record { columns = rw front are; counted = rw front (sym counted); filled = rw front same }
+
+-- a node whose head has these words
+module _ (node : NodeView) (lawful : IsLawful node) (words : List ℕ) (same : head_words (head_of node) ≡ words) where
+  parts : AreFixed (length node.rows) node.height node.columns node.rows words
+  parts = fixed_words_parts (length node.rows) node.height node.columns node.rows words same
+
+  pub whole : length words ≡ 25
+  whole = parts.whole
+
+  pub count_read : get_or words 0 0 % 256 ≡ length node.rows
+  count_read = omega (arith, parts.numbers, same_count node lawful, lawful.room, lawful.positions.few)
+
+  pub columns_counted : get_or words 0 0 / 256 % 256 ≡ length node.columns
+  columns_counted = omega (arith, parts.numbers, same_count node lawful, lawful.room, lawful.positions.few)
+
+  pub height_read : get_or words 0 0 / 65536 ≡ node.height
+  height_read = omega (arith, parts.numbers, same_count node lawful, lawful.room, lawful.positions.few)
+
+  pub height-lt : get_or words 0 0 / 65536 < 2 ^ 16
+  height-lt = omega (arith, height_read, lawful.bound)
+
+  pub places_read : (places : List ℕ) → length places ≡ 31 → ((k : ℕ) → k < 31 → get_or places k 0 ≡ get_or words (1 + k / 4) 0 / 2 ^ (16 * (k % 4)) % 2 ^ 16) → places ≡ with_free node.columns
+  places_read places long each =
+      ext_get_or 65535 places (with_free node.columns) (long ∙ sym (length-with_free node.columns lawful.positions.few))
+      (λ i h. get_or_default places i 65535 0 h
+      ∙ (each i (omega arith) ∙ (ap (λ word. word / 2 ^ (16 * (i % 4)) % 2 ^ 16) (sym (parts.positions (i / 4) (omega arith))) ∙ (sym (position_in_word node.columns i (column-lt node lawful))
+      ∙ sym (get_or-padded node.columns (31 - length node.columns) 65535 i)))))
+
+  pub rows_read : (rows : List ℕ) → length rows ≡ 32 → ((k : ℕ) → k < 32 → get_or rows k 0 ≡ get_or words (9 + k / 2) 0 / 2 ^ (32 * (k % 2)) % 2 ^ 32) → rows ≡ with_unused node.rows
+  rows_read rows long each =
+      ext_get_or 4294967295 rows (with_unused node.rows) (long ∙ sym (length-with_unused node.rows (omega (arith, same_count node lawful, lawful.room))))
+      (λ i h. get_or_default rows i 4294967295 0 h
+      ∙ (each i (omega arith) ∙ (ap (λ word. word / 2 ^ (32 * (i % 2)) % 2 ^ 32) (sym (parts.rows_are (i / 2) (omega arith))) ∙ (sym (row_in_word node.rows i (row-lt node lawful))
+      ∙ sym (get_or-padded node.rows (32 - length node.rows) 4294967295 i)))))
+
+  pub is_head_read : (count height : ℕ) (columns rows : List ℕ) → count ≡ length node.rows → height ≡ node.height → columns ≡ node.columns → rows ≡ with_unused node.rows → IsHead count height columns rows
+  is_head_read count height columns rows counts heights columns_are rows_are = rw (counts, heights, columns_are, rows_are) (is_head node lawful)
+
+  pub head_is : (count height : ℕ) (columns rows : List ℕ) → count ≡ length node.rows → height ≡ node.height → columns ≡ node.columns → rows ≡ with_unused node.rows →
+      ◌≡◌ {A = HeadView} (record { height = height; columns = columns; rows = take count rows }) (head_of node)
+  head_is count height columns rows counts heights columns_are rows_are = rw (counts, heights, columns_are, rows_are) (head_from-numbers node)
+
+  -- its head is the one that the words spell
+  pub spells_head : (head : HeadView) → head ≡ head_of node → IsSpelledBy HasHeadWords head_words words head
+  spells_head head is = record {
+    is_value = (node, lawful, sym is);
+    spells = ap head_words is ∙ same;
+    only = λ other has spelled. is ∙ (same_head node has.0 lawful has.1 (same ∙ sym (ap head_words has.2 ∙ spelled)) ∙ has.2);
+  }
+
+pub spells_node : (node read : NodeView) (words : List ℕ) → HasNodeWords node → node_words node ≡ words → read ≡ node → IsSpelledBy HasNodeWords node_words words read
+spells_node node read words has same is = record {
+  is_value = rw is has;
+  spells = ap node_words is ∙ same;
+  only = λ other other_has spelled. is ∙ same_node node other has other_has (same ∙ sym spelled);
+}
+
+pub spells_leaf : (leaf read : List ℕ × ℕ) (words : List ℕ) → HasLeafWords leaf → leaf_words leaf ≡ words → read ≡ leaf → IsSpelledBy HasLeafWords leaf_words words read
+spells_leaf leaf read words has same is = record {
+  is_value = rw is has;
+  spells = ap leaf_words is ∙ same;
+  only = λ other other_has spelled. is ∙ same_leaf leaf other has other_has (same ∙ sym spelled);
+}
+
+-- ---- entries
+-- the word at a place is read as the entry there
+pub entry_read : (entries : List Entry) (words : List ℕ) (i : ℕ) (read : Option Entry) → HaveEntryWords entries → entry_words entries ≡ words → i < length entries → IsSpelledBy HasEntryWord entry_word (get_or words i 0) read → read ≡ Some (get_or entries i (Leaf 0))
+entry_read entries words i read has same inside spelled =
+    spelled.only (slice_get entries i) (has.each i) (sym (entry_words_at entries words same i (omega (arith, has.room)))) ∙ slice_get-get_or entries i (Leaf 0) inside
+
+pub some_read : (read : Option Entry) (entry : Entry) → read ≡ Some entry → IsSome read
+some_read read entry same = rw same refl
+
+-- and it joins those before
+pub one_more_read : (entries before after : List Entry) (i : ℕ) (entry : Entry) (read : Option Entry) → read ≡ Some (get_or entries i (Leaf 0)) → read ≡ Some entry → i < length entries → before ≡ take i entries → after ≡ before ++ entry ∷ [] → after ≡ take (i + 1) entries
+one_more_read entries before after i entry read is unwrapped inside so_far pushed =
+    let this : entry ≡ get_or entries i (Leaf 0) = same_Some entry (get_or entries i (Leaf 0)) (sym unwrapped ∙ is) in
+    pushed ∙ (ap (λ front. front ++ entry ∷ []) so_far ∙ (ap (λ x. take i entries ++ x ∷ []) this ∙ (sym (take-suc entries i (Leaf 0) inside) ∙ ap (λ n. take n entries) (let e : suc i ≡ i + 1 = omega arith in e))))
+
+-- entries with the same words are as many
+pub same_counted : (entries others : List Entry) (words : List ℕ) (n : ℕ) → HaveEntryWords entries → entry_words entries ≡ words → HaveEntryWords others → entry_words others ≡ words → length others ≡ n → length entries ≡ n
+same_counted entries others words n has same other_has other_same counted = ap length (same_entries entries others words has other_has same other_same) ∙ counted
+
+-- ---- a node of its two parts
+pub head_read : (node : NodeView) (words : List ℕ) (head : HeadView) → HasNodeWords node → node_words node ≡ words → IsSpelledBy HasHeadWords head_words (take 25 words) head → head ≡ head_of node
+head_read node words head has same spelled = spelled.only (head_of node) (node, has.lawful, refl) (head_part node words same)
+
+pub both_read : (node : NodeView) (words : List ℕ) (head : HeadView) (entries : List Entry) → HasNodeWords node → node_words node ≡ words → IsSpelledBy HasHeadWords head_words (take 25 words) head →
+    ((others : List Entry) → HaveEntryWords others → entry_words others ≡ take 32 (drop 25 words) → entries ≡ others) → node_of head entries ≡ node
+both_read node words head entries has same spelled read =
+    let heads = head_read node words head has same spelled in
+    let same_entries = read node.entries has.entries (entry_part node words same) in
+    rw (heads, same_entries) refl

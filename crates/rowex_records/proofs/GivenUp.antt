@@ -1,0 +1,163 @@
+-- The records that a pass holds, and giving up all of them, one after the other.
+use Rattle.std.proofs.Common.{◌≡◌, ◌≢◌, ℕ, zero, suc, ◌+◌, ◌<◌, List, [], ◌∷◌, ◌++◌, length, map, take, drop, get_or, Bool, true, false, if◌then◌else◌, refl, sym, ap, subst, ◌∙◌, arith, add-one}
+use Rattle.std.specs.Prelude.{All, Contains}
+use Rattle.std.proofs.lemmas.List.{drop_all, map-append, take_all, take_more}
+use Rattle.std.proofs.Math.Seq.{drop-cons}
+use Rattle.std.proofs.lemmas.List.Elements.{All-nil, All-cons, All-contains, All-head, All-map, All-push, All-tail, All-weaker}
+use Rattle.moments.specs.declared.Rec.{Rec}
+use Rattle.moments.specs.Steps.{same_rec}
+use Rattle.moments.proofs.Legal.{same_rec_refl, same_rec_true}
+use Rattle.rowex_core.specs.declared.event.Act.TheVariants.{Release}
+use Rattle.rowex_core.specs.declared.event.Event.{Event}
+use Rattle.rowex_core.specs.declared.known.Holding.TheVariants.{Held}
+use Rattle.rowex_core.specs.declared.known.Known.{Known}
+use Rattle.rowex_core.specs.declared.known.Owned.{Owned}
+use Rattle.rowex_core.specs.Cores.{word_count_of}
+use Rattle.rowex_core.specs.Knowing.{without_record}
+use Rattle.rowex_table.specs.Rights.{IsHeld}
+use Rattle.rowex_table.specs.Runs.{Does}
+use Rattle.rowex_table.specs.Seats.{TableView, SeatView}
+use Rattle.rowex_table.proofs.Rights.{mapped}
+use Rattle.rowex_records.specs.Claims.{Claims}
+use Rattle.rowex_records.specs.Records.{owning, fill_with, Fills, HasNone, AreApart, HoldsJust, GivesUp, GivesUpAll}
+use Rattle.rowex_records.proofs.Claimed.{claims_gives, claims_keeps}
+use Rattle.rowex_records.proofs.Filled.{gives_up_keeps, stays_mapped}
+use Rattle.rowex_records.proofs.Making.{owns_none, owns_append}
+
+-- a pass that has just no records has none
+held_none : (k : Known) → HoldsJust k [] → k.own ≡ []
+held_none k holds = go k.own refl holds.only
+  where
+    go : (own : List Owned) → k.own ≡ own → All (λ o. (o.holding ≡ Held) × Contains [] o.rec) own → k.own ≡ []
+    go [] is all = is
+    go (o ∷ own) is all = let none = (All-head (λ o. (o.holding ≡ Held) × Contains [] o.rec) o own all).1 in let low = none.1 in absurd (omega arith)
+
+not_first : (r s : Rec) (recs : List Rec) → Contains (r ∷ recs) s → s ≢ r → Contains recs s
+not_first r s recs (zero, low, is) ne = absurd (ne (sym is))
+not_first r s recs (suc i, low, is) ne = (i, omega arith, is)
+
+-- with one of them given up, the others are left
+left_over : (r : Rec) (recs : List Rec) (own : List Owned) → All (λ o. (o.holding ≡ Held) × Contains (r ∷ recs) o.rec) own → All (λ o. (o.holding ≡ Held) × Contains recs o.rec) (without_record r own)
+left_over r recs [] all = All-nil (λ o. (o.holding ≡ Held) × Contains recs o.rec)
+left_over r recs (o ∷ own) all =
+    let first = All-head (λ o. (o.holding ≡ Held) × Contains (r ∷ recs) o.rec) o own all in
+    go first (left_over r recs own (All-tail (λ o. (o.holding ≡ Held) × Contains (r ∷ recs) o.rec) o own all)) (same_rec o.rec r) refl
+  where
+    go : (o.holding ≡ Held) × Contains (r ∷ recs) o.rec → All (λ o. (o.holding ≡ Held) × Contains recs o.rec) (without_record r own) → (b : Bool) → same_rec o.rec r ≡ b
+        → All (λ o. (o.holding ≡ Held) × Contains recs o.rec) (without_record r (o ∷ own))
+    go first rest true e = rw e rest
+    go first rest false e = rw e (All-cons (λ o. (o.holding ≡ Held) × Contains recs o.rec) o (without_record r own) (first.0, not_first r o.rec recs first.1 (apart e)) rest)
+      where
+        apart : same_rec o.rec r ≡ false → o.rec ≢ r
+        apart e is = let yes : same_rec o.rec r ≡ true = ap (λ s. same_rec s r) is ∙ same_rec_refl r in cc
+
+module _ {G : Type 0} (table : TableView) (becomes : G → Event → G → Type 0) where
+  holds_fewer : (r : Rec) (recs : List Rec) (a b : SeatView × G) → HoldsJust a.0.known (r ∷ recs) → GivesUp table becomes r a b → HoldsJust b.0.known recs
+  holds_fewer r recs a b holds gives = record {
+    only = subst (λ own. All (λ o. (o.holding ≡ Held) × Contains recs o.rec) own) (sym gives.own) (left_over r recs a.0.known.own holds.only);
+    each = both recs holds.apart.0 (All-tail (IsHeld a.0.known) r recs holds.each);
+    apart = holds.apart.1;
+  }
+    where
+      both : (rest : List Rec) → HasNone r rest → All (IsHeld a.0.known) rest → All (IsHeld b.0.known) rest
+      both [] none held = All-nil (IsHeld b.0.known)
+      both (s ∷ rest) none held =
+          let h = All-head (IsHeld a.0.known) s rest held in
+          All-cons (IsHeld b.0.known) s rest
+          (h.0, h.1, gives_up_keeps table becomes r s Held h.0 a b (All-head (λ z. z ≢ r) s rest none) gives h.2)
+          (both rest (All-tail (λ z. z ≢ r) s rest none) (All-tail (IsHeld a.0.known) s rest held))
+
+  -- The first i records are given up, and the pass has just the others.
+  pub record GivesUpSome (recs : List Rec) (i : ℕ) (a b : SeatView × G) : Type 0 where
+    pub does : Does table becomes owning (map (λ r. Release r) (take i recs)) a b
+    pub holds : HoldsJust b.0.known (drop i recs)
+
+  pub gives_up_none : (recs : List Rec) (a : SeatView × G) → HoldsJust a.0.known recs → GivesUpSome recs 0 a a
+  gives_up_none recs a holds = record { does = owns_none table becomes a; holds = holds }
+
+  pub gives_up_more : (recs : List Rec) (i : ℕ) (r : Rec) (a m b : SeatView × G) → i < length recs → r ≡ get_or recs i r → GivesUpSome recs i a m → GivesUp table becomes r m b → GivesUpSome recs (i + 1) a b
+  gives_up_more recs i r a m b low is some gives = record {
+    does = subst (λ acts. Does table becomes owning acts a b) (sym acts_are) (owns_append table becomes (map (λ z. Release z) (take i recs)) (Release r ∷ []) a m b some.does gives.does);
+    holds = subst (λ n. HoldsJust b.0.known (drop n recs)) (sym (add-one i)) (holds_fewer r (drop (suc i) recs) m b (subst (HoldsJust m.0.known) next some.holds) gives);
+  }
+    where
+      next : drop i recs ≡ r ∷ drop (suc i) recs
+      next = drop-cons recs i r low ∙ ap (λ z. z ∷ drop (suc i) recs) (sym is)
+
+      acts_are : map (λ z. Release z) (take (i + 1) recs) ≡ map (λ z. Release z) (take i recs) ++ Release r ∷ []
+      acts_are = ap (map (λ z. Release z)) (take_more recs i r low ∙ ap (λ z. take i recs ++ z ∷ []) (sym is)) ∙ map-append (λ z. Release z) (take i recs) (r ∷ [])
+
+  -- the next of them is held
+  pub next_held : (recs : List Rec) (i : ℕ) (r : Rec) (a b : SeatView × G) → i < length recs → r ≡ get_or recs i r → GivesUpSome recs i a b → IsHeld b.0.known r
+  next_held recs i r a b low is some =
+      All-head (IsHeld b.0.known) r (drop (suc i) recs) (subst (λ l. All (IsHeld b.0.known) l) (drop-cons recs i r low ∙ ap (λ z. z ∷ drop (suc i) recs) (sym is)) some.holds.each)
+
+  pub gives_up_all : (recs : List Rec) (i : ℕ) (a b : SeatView × G) → GivesUpSome recs i a b → i ≡ length recs → GivesUpAll table becomes recs a b
+  gives_up_all recs i a b some all = record {
+    does = subst (λ l. Does table becomes owning (map (λ r. Release r) l) a b) (take_all i recs (omega arith)) some.does;
+    own = held_none b.0.known (subst (HoldsJust b.0.known) (drop_all i recs (omega arith)) some.holds);
+  }
+
+-- What a pass has claimed it holds, and fills leave it so
+
+in_front : {X : Type 0} (xs ys : List X) (x : X) → Contains xs x → Contains (xs ++ ys) x
+in_front [] ys x (i, low, is) = absurd (omega arith)
+in_front (y ∷ xs) ys x (zero, low, is) = (0, omega arith, is)
+in_front (y ∷ xs) ys x (suc i, low, is) = let rest = in_front xs ys x (i, omega arith, is) in let below = rest.1 in (suc rest.0, omega arith, rest.2)
+
+at_end : {X : Type 0} (xs : List X) (x : X) → Contains (xs ++ x ∷ []) x
+at_end [] x = (0, omega arith, refl)
+at_end (y ∷ xs) x = let rest = at_end xs x in let below = rest.1 in (suc rest.0, omega arith, rest.2)
+
+apart_push : (recs : List Rec) (r : Rec) → AreApart recs → HasNone r recs → AreApart (recs ++ r ∷ [])
+apart_push [] r apart none = (All-nil (λ s. s ≢ r), tt)
+apart_push (s ∷ recs) r apart none = (
+  All-push (λ z. z ≢ s) recs r apart.0 (λ e. All-head (λ z. z ≢ r) s recs none (sym e)),
+  apart_push recs r apart.1 (All-tail (λ z. z ≢ r) s recs none),
+)
+
+pub holds_nothing : (k : Known) → k.own ≡ [] → HoldsJust k []
+holds_nothing k is = record { only = subst (λ own. All (λ o. (o.holding ≡ Held) × Contains [] o.rec) own) (sym is) (All-nil (λ o. (o.holding ≡ Held) × Contains [] o.rec)); each = All-nil (IsHeld k); apart = tt }
+
+module _ {G : Type 0} (table : TableView) (becomes : G → Event → G → Type 0) where
+  pub holds_claimed : (kind : ℕ → Rec) (n from number : ℕ) (recs : List Rec) (a b : SeatView × G) → HoldsJust a.0.known recs → Claims table becomes kind n from number a b
+      → HoldsJust b.0.known (recs ++ kind number ∷ [])
+  holds_claimed kind n from number recs a b holds claims = record {
+    only = subst (λ own. All (λ o. (o.holding ≡ Held) × Contains more o.rec) own) (sym claims.own)
+        (All-cons (λ o. (o.holding ≡ Held) × Contains more o.rec) _ a.0.known.own (refl, at_end recs r)
+        (All-weaker (λ o. (o.holding ≡ Held) × Contains recs o.rec) (λ o. (o.holding ≡ Held) × Contains more o.rec) (λ o h. (h.0, in_front recs (r ∷ []) o.rec h.1)) a.0.known.own holds.only));
+    each = All-push (IsHeld b.0.known) recs r
+        (All-weaker (IsHeld a.0.known) (IsHeld b.0.known) (λ s h. (h.0, h.1, claims_keeps table becomes kind n from number s Held h.0 a b claims h.2)) recs holds.each)
+        (claims_gives table becomes kind n from number a b claims);
+    apart = apart_push recs r holds.apart
+        (All-weaker (IsHeld a.0.known) (λ s. s ≢ r) (λ s h. All-contains (λ o. o.rec ≢ r) a.0.known.own (record { rec = s; holding = Held; words = h.0 }) claims.apart h.2) recs holds.each);
+  }
+    where
+      r : Rec
+      r = kind number
+
+      more : List Rec
+      more = recs ++ r ∷ []
+
+  pub holds_filled : (r : Rec) (words : List ℕ) (recs : List Rec) (a b : SeatView × G) → HoldsJust a.0.known recs → Fills table becomes r words a b → HoldsJust b.0.known recs
+  holds_filled r words recs a b holds fills = record {
+    only = subst (λ own. All (λ o. (o.holding ≡ Held) × Contains recs o.rec) own) (sym fills.own)
+        (All-map (λ o. (o.holding ≡ Held) × Contains recs o.rec) (fill_with r words) a.0.known.own
+        (All-weaker (λ o. (o.holding ≡ Held) × Contains recs o.rec) (λ o. ((fill_with r words o).holding ≡ Held) × Contains recs (fill_with r words o).rec) (λ o h. same o (same_rec o.rec r) h) a.0.known.own holds.only));
+    each = All-weaker (IsHeld a.0.known) (IsHeld b.0.known) (λ s h. held s h (same_rec s r) refl) recs holds.each;
+    apart = holds.apart;
+  }
+    where
+      same : (o : Owned) (t : Bool) → (o.holding ≡ Held) × Contains recs o.rec → ((if t then record o { words = words } else o).holding ≡ Held) × Contains recs (if t then record o { words = words } else o).rec
+      same o true h = h
+      same o false h = h
+
+      held : (s : Rec) → IsHeld a.0.known s → (t : Bool) → same_rec s r ≡ t → IsHeld b.0.known s
+      held s h true e =
+          let o : Owned = record { rec = s; holding = Held; words = words } in
+          let with : fill_with r words (record { rec = s; holding = Held; words = h.0 }) ≡ o = rw e refl in (
+            words,
+            fills.sized ∙ ap word_count_of (sym (same_rec_true s r e)),
+            subst (λ l. Contains l o) (sym fills.own) (subst (Contains (map (fill_with r words) a.0.known.own)) with (mapped (fill_with r words) a.0.known.own (record { rec = s; holding = Held; words = h.0 }) h.2)),
+          )
+      held s h false e = (h.0, h.1, stays_mapped a.0.known b.0.known (fill_with r words) s Held h.0 fills.own (rw e refl) h.2)

@@ -1,0 +1,6 @@
+-- The seat stays one of the table.
+use Rattle.rowex_table.specs.Seats.{Fits}
+use Rattle.rowex_records.proofs.tests.claims_go_on_from_0_after_the_last.Given as goal
+
+abbrev pub invariant-loop-number : goal.invariant-loop-number
+invariant-loop-number g l = Fits l.table l.seat

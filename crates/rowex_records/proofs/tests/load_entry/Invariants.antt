@@ -1,6 +1,0 @@
--- A step adds no notes.
-use Rattle.epochs.specs.Runs.{silent}
-use Rattle.rowex_records.proofs.tests.load_entry.Given as goal
-
-abbrev pub ghost-load_ref : goal.ghost-load_ref
-ghost-load_ref a = silent

@@ -1,9 +1,0 @@
--- What a pass has claimed it may release.
-use Rattle.std.proofs.Common.{rules}
-use Rattle.moments.specs.declared.Rec.TheVariants.{Leaf}
-use Rattle.rowex_table.specs.Seats.{known}
-use Rattle.rowex_table.proofs.Rights.{releases}
-use Rattle.rowex_table.proofs.tests.release.Goals as goal
-
-pub release-requires : goal.release-requires
-release-requires c = (search rules, (c.requires.fits.1, releases c.args.table.now.layout (known c.args.seat.now) (Leaf c.args.leaf) c.requires.has.0 c.requires.fits.1 c.requires.has.2))

@@ -1,7 +1,0 @@
--- Between rounds the pass is not pinned.
-use Rattle.std.specs.Prelude.{◌≡◌, ◌≤◌, None}
-use Rattle.rowex_table.specs.Seats.{Fits, known}
-use Rattle.rowex_table.proofs.tests.work.Given as goal
-
-abbrev pub invariant-loop-round : goal.invariant-loop-round
-invariant-loop-round l = Fits l.table l.seat × ((known l.seat).pin ≡ None) × (l.advances ≤ l.round)

@@ -1,0 +1,52 @@
+-- Steps of one pass, one after the other, and what its gate is told.
+use Rattle.std.specs.Prelude.{◌≡◌, ℕ, zero, suc, ◌+◌, List, [], ◌∷◌, ◌++◌, length, map}
+use Rattle.hot_model.specs.declared.Note.{Note}
+use Rattle.rowex_core.specs.declared.event.Act.{Act}
+use Rattle.rowex_core.specs.declared.event.Event.{Event}
+use Rattle.rowex_core.specs.declared.known.Known.{Known}
+use Rattle.rowex_core.specs.Knowing.{IsEvent}
+use Rattle.rowex_table.specs.Seats.{TableView, SeatView, IsSame}
+
+-- no notes
+abbrev pub silent : Known → List Note
+silent k = []
+
+-- Told these events, one after the other, the one gate has become the other.
+abbrev pub IsTold : {G : Type 0} → (G → Event → G → Type 0) → List Event → G → G → Type 0
+IsTold becomes [] g h = h ≡ g
+IsTold {G = G} becomes (event ∷ events) g h = (f : G) × becomes g event f × IsTold becomes events f h
+
+-- the acts as events of one pass
+abbrev pub events_of : ℕ → List Act → List Event
+events_of q acts = map (λ act. record { pass = q; act = act }) acts
+
+-- The seat stays one seat; its pass makes this one step, and `said` are the notes that come with it; and the gate is told it.
+pub record StepsWith {G : Type 0} (table : TableView) (becomes : G → Event → G → Type 0) (act : Act) (said : Known → List Note) (a b : SeatView × G) : Type 0 where
+  pub seat : IsSame a.0 b.0
+  pub event : IsEvent table.layout act said a.0.known b.0.known
+  pub told : becomes a.1 (record { pass = a.0.known.pass; act = act }) b.1
+
+-- the same with no note
+abbrev pub Steps : {G : Type 0} → TableView → (G → Event → G → Type 0) → Act → SeatView × G → SeatView × G → Type 0
+Steps table becomes act a b = StepsWith table becomes act silent a b
+
+-- The pass of the seat makes these steps, one after the other, and the gate is told each of them, in order.
+abbrev pub Runs : {G : Type 0} → TableView → (G → Event → G → Type 0) → List Act → SeatView × G → SeatView × G → Type 0
+Runs table becomes [] a b = b ≡ a
+Runs {G = G} table becomes (act ∷ acts) a b = (m : SeatView × G) × Steps table becomes act a m × Runs table becomes acts m b
+
+-- It makes these steps, and then one more with which these notes come.
+abbrev pub Ends : {G : Type 0} → TableView → (G → Event → G → Type 0) → List Act → Act → (Known → List Note) → SeatView × G → SeatView × G → Type 0
+Ends {G = G} table becomes acts act said a b = (m : SeatView × G) × Runs table becomes acts a m × StepsWith table becomes act said m b
+
+-- The seat stays one seat; its pass makes these steps, and no others, and the gate is told each. Of what the pass knew before,
+-- `changed` takes what they may change from what it knows after; the rest stays, but that they are counted.
+pub record Does {G : Type 0} (table : TableView) (becomes : G → Event → G → Type 0) (changed : Known → Known → Known) (acts : List Act) (a b : SeatView × G) : Type 0 where
+  pub seat : IsSame a.0 b.0
+  pub steps : Runs table becomes acts a b
+  pub rest : b.0.known ≡ record (changed a.0.known b.0.known) { steps = a.0.known.steps + length acts }
+
+-- the steps of the first n, in rising number and one after the other
+abbrev pub InTurn : (ℕ → List Act → Type 0) → ℕ → List Act → Type 0
+InTurn Parts zero acts = acts ≡ []
+InTurn Parts (suc n) acts = (before : List Act) × (last : List Act) × InTurn Parts n before × Parts n last × (acts ≡ before ++ last)

@@ -1,0 +1,19 @@
+-- The tree that a page shows, where each of its entries shows one or nothing.
+use Rattle.std.specs.Prelude.{ℕ, Option, Some, None}
+use Rattle.compound_node.specs.declared.entries.Entry.{Entry}
+use Rattle.pieces.specs.Piece.{Place, Fork}
+use Rattle.tries.specs.Tree.{Fixed, Page, Tree, node, fork}
+
+abbrev pub join_fork : ℕ → Option Tree → Option Tree → Option Tree
+join_fork p (Some a) (Some b) = Some (fork p a b)
+join_fork p (Some a) None = None
+join_fork p None o = None
+
+abbrev pub join_node : ℕ → Fixed → Option Tree → Option Tree
+join_node n x (Some b) = Some (node n x b)
+join_node n x None = None
+
+-- What a page shows, where each entry shows what `f` says.
+abbrev pub read_page : (Entry → Option Tree) → Page → Option Tree
+read_page f (Place e) = f e
+read_page f (Fork p x y) = join_fork p (read_page f x) (read_page f y)
