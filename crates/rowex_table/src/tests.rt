@@ -116,22 +116,23 @@ fn what_one_pass_stores_the_other_finds(rt: HostRuntime) -> Result<(), Fail> {
 
 #[test]
 fn a_filled_leaf_is_live_once_it_is_ready(rt: HostRuntime) -> Result<(), Fail> {
-    let (table, mut seats) = small(rt.alloc(), 2)?;
+    let (made, mut seats) = small(rt.alloc(), 2)?;
+    let table = &made;
     let (Some(mut second), Some(mut first)) = (
-        last_seat(&table, &mut seats),
-        last_seat(&table, &mut seats),
+        last_seat(table, &mut seats),
+        last_seat(table, &mut seats),
     ) else {
         panic!(rt; "two seats")
     };
     let Ok(key) = Key::from_bytes(b"ab") else {
         panic!(rt; "a key")
     };
-    assert!(rt; make_leaf(&table, &mut first, 3, &key, 77));
-    assert_eq!(rt; load_state(&table, &mut second, 3), 2);
+    assert!(rt; make_leaf(table, &mut first, 3, &key, 77));
+    assert_eq!(rt; load_state(table, &mut second, 3), 2);
     for (offset, word) in [(1, 77), (2, 2), (3, 0x6162_0000_0000_0000), (32, 0)] {
-        assert_eq!(rt; load_word(&table, &mut second, 3, offset), word);
+        assert_eq!(rt; load_word(table, &mut second, 3, offset), word);
     }
-    assert!(rt; !make_leaf(&table, &mut second, 3, &key, 78));
+    assert!(rt; !make_leaf(table, &mut second, 3, &key, 78));
     Ok(())
 }
 
