@@ -1,15 +1,8 @@
 -- The lemmas of the crate.
-pub mod Seeing
-pub mod Loading
-pub mod Rooting
-pub mod Standing
-pub mod Placing
-pub mod Wording
-pub mod Heading
-pub mod Leafing
-pub mod Looking
+pub mod Tracing
 pub mod Noting
 pub mod Walking
 pub mod Scanned
+pub mod Collected
 pub mod Making
 pub mod Meets

@@ -1,14 +1,17 @@
 -- Two passes that meet.
-use Rattle.std.proofs.Common.{◌≡◌, List, refl, sym, subst}
-use Rattle.atomic_table.specs.Seated.{TableId}
+use Rattle.std.proofs.Common.{◌≡◌, ◌++◌, ◌∙◌, List, sym, subst, ap}
 use Rattle.hot_model.specs.declared.Change.{Change}
-use Rattle.hot_model.specs.Fronts.{LegalFront, OthersGoOn}
+use Rattle.hot_model.specs.Calls.{LegalCalls}
+use Rattle.hot_model.specs.Fronts.{BeginsWith, LegalFront, OthersGoOn}
+use Rattle.hot_model.specs.Weaves.{LegalHistory, weave}
 use Rattle.hot_model.proofs.Growth.{begins_on, others_begin}
 use Rattle.hot_model.proofs.Legal.{legal_longer}
 use Rattle.hot_model.proofs.Weaving.{weave-legal_two}
+use Rattle.record_words.specs.declared.layout.Layout.{Layout}
 use Rattle.rowex_core.specs.declared.known.Known.{Known}
 use Rattle.rowex_table.specs.Rule.{HaveMet as SeatsHaveMet, with_front}
-use Rattle.hot_index.specs.Passes.{PassView, IsSettled, pass_view}
+use Rattle.rowex_table.specs.Seats.{SeatView}
+use Rattle.hot_index.specs.Passes.{AreByPasses, IsSettled, pass_of}
 use Rattle.hot_index.specs.Answers.{HaveMet, IsUnnoted}
 
 -- a pass of which only the front goes on, by changes of others
@@ -24,38 +27,42 @@ goes_on k front s legal others = record {
 }
 
 -- each of the two is settled as before
-pub first_settled : (j k j' k' : Known) → SeatsHaveMet j k j' k' → IsSettled j → IsSettled j'
-first_settled j k j' k' (front, first, second, legal, others, more, apart) s = subst IsSettled (sym first) (goes_on j front s legal others)
+pub first_settled : (layout : Layout) (j k j' k' : Known) → SeatsHaveMet layout j k j' k' → IsSettled j → IsSettled j'
+first_settled layout j k j' k' (front, first, second, legal, others, more, apart, makers) s = subst IsSettled (sym first) (goes_on j front s legal others)
 
-pub second_settled : (j k j' k' : Known) → SeatsHaveMet j k j' k' → IsSettled k → IsSettled k'
-second_settled j k j' k' (front, first, second, legal, others, more, apart) s = subst IsSettled (sym second) (goes_on k front s legal more)
+pub second_settled : (layout : Layout) (j k j' k' : Known) → SeatsHaveMet layout j k j' k' → IsSettled k → IsSettled k'
+second_settled layout j k j' k' (front, first, second, legal, others, more, apart, makers) s = subst IsSettled (sym second) (goes_on k front s legal more)
 
-unnoted : (t u : TableId) (k : Known) (front : List Change) → IsSettled k → LegalFront front → OthersGoOn k.pass k.front front → IsUnnoted (pass_view t k) (pass_view u (with_front front k))
-unnoted t u k front s legal others = record {
-  number = refl;
-  front = others_begin k.pass k.front front others;
-  notes = refl;
-  legal = legal_longer k.front front k.pass k.notes s.legal others legal;
+unnoted : (layout : Layout) (s t : SeatView) (front : List Change) → t.known ≡ with_front front s.known → IsSettled s.known → LegalFront front → OthersGoOn s.known.pass s.known.front front →
+    AreByPasses layout front → IsUnnoted layout (pass_of s) (pass_of t)
+unnoted layout s t front is settled legal others makers = record {
+  number = ap (λ (z : Known). z.pass) is;
+  front = subst (λ (z : Known). BeginsWith z.front s.known.front) (sym is) (others_begin s.known.pass s.known.front front others);
+  notes = ap (λ (z : Known). z.notes) is;
+  legal = subst (λ (z : Known). LegalCalls z.front z.pass z.notes) (sym is) (legal_longer s.known.front front s.known.pass s.known.notes settled.legal others legal);
+  makers = subst (λ (z : Known). AreByPasses layout z.front) (sym is) makers;
 }
 
 -- so they have met
-passes_met : (t u v w : TableId) (j k j' k' : Known) → SeatsHaveMet j k j' k' → IsSettled j → IsSettled k → HaveMet (pass_view t j) (pass_view u k) (pass_view v j') (pass_view w k')
-passes_met t u v w j k j' k' (front, first, second, legal, others, more, apart) sj sk =
-    subst (λ (z : Known). HaveMet (pass_view t j) (pass_view u k) (pass_view v z) (pass_view w k')) (sym first)
-    (subst (λ (z : Known). HaveMet (pass_view t j) (pass_view u k) (pass_view v (with_front front j)) (pass_view w z)) (sym second) both)
+pub passes_met : (layout : Layout) (s t s' t' : SeatView) → SeatsHaveMet layout s.known t.known s'.known t'.known → IsSettled s.known → IsSettled t.known →
+    HaveMet layout (pass_of s) (pass_of t) (pass_of s') (pass_of t')
+passes_met layout s t s' t' (front, first, second, legal, others, more, apart, makers) settled other_settled =
+    let one = unnoted layout s s' front first settled legal others makers in
+    let other = unnoted layout t t' front second other_settled legal more makers in
+    record {
+      first = one;
+      second = other;
+      fronts = ap (λ (z : Known). z.front) first ∙ sym (ap (λ (z : Known). z.front) second);
+      apart = λ e. apart (sym (ap (λ (z : Known). z.pass) first) ∙ (e ∙ ap (λ (z : Known). z.pass) second));
+      history = woven;
+    }
   where
-    both : HaveMet (pass_view t j) (pass_view u k) (pass_view v (with_front front j)) (pass_view w (with_front front k))
-    both =
-        let one = unnoted t v j front sj legal others in
-        let other = unnoted u w k front sk legal more in
-        record {
-          first = one;
-          second = other;
-          fronts = refl;
-          apart = apart;
-          history = weave-legal_two front j.pass k.pass j.notes k.notes apart one.legal other.legal;
-        }
+    same : t'.known.front ≡ s'.known.front
+    same = ap (λ (z : Known). z.front) second ∙ sym (ap (λ (z : Known). z.front) first)
 
-pub views_met : (x y : PassView) (t u v w : TableId) (j k j' k' : Known) → pass_view t j ≡ x → pass_view u k ≡ y → SeatsHaveMet j k j' k' → IsSettled j → IsSettled k → HaveMet x y (pass_view v j') (pass_view w k')
-views_met x y t u v w j k j' k' is_x is_y met sj sk =
-    subst (λ (z : PassView). HaveMet z y (pass_view v j') (pass_view w k')) is_x (subst (λ (z : PassView). HaveMet (pass_view t j) z (pass_view v j') (pass_view w k')) is_y (passes_met t u v w j k j' k' met sj sk))
+    woven : LegalHistory (weave s'.known.front (s'.known.notes ++ t'.known.notes))
+    woven =
+        weave-legal_two s'.known.front s'.known.pass t'.known.pass s'.known.notes t'.known.notes
+        (λ e. apart (sym (ap (λ (z : Known). z.pass) first) ∙ (e ∙ ap (λ (z : Known). z.pass) second)))
+        (unnoted layout s s' front first settled legal others makers).legal
+        (subst (λ (z : List Change). LegalCalls z t'.known.pass t'.known.notes) same (unnoted layout t t' front second other_settled legal more makers).legal)

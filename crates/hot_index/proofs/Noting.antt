@@ -1,8 +1,9 @@
 -- How an answered call that changed nothing gets its note.
-use Rattle.std.proofs.Common.{◌≡◌, ◌≢◌, ℕ, zero, suc, ◌+◌, ◌-◌, ◌*◌, ◌≤◌, List, [], ◌∷◌, ◌++◌, length, take, Bool, true, false, if◌then◌else◌, Option, Some, None, refl, sym, ap, subst, ◌∙◌, arith, le_refl, le_trans, length-append, nat_eq, eq-eqb}
+use Rattle.std.proofs.Common.{◌≡◌, ◌≢◌, ℕ, zero, suc, ◌+◌, ◌-◌, ◌*◌, ◌<◌, ◌≤◌, List, [], ◌∷◌, ◌++◌, length, take, Bool, true, false, if◌then◌else◌, Option, Some, None, refl, sym, ap, subst, ◌∙◌, arith, le_refl, le_trans, length-append, nat_eq, eq-eqb}
 use Rattle.std.proofs.lemmas.Bool.{false≢true}
+use Rattle.std.specs.Prelude.{All}
+use Rattle.std.proofs.lemmas.List.Elements.{All-cons, All-head, All-nil, All-tail}
 use Rattle.std.proofs.lemmas.Bool.Decides.{nat_tests}
-use Rattle.atomic_table.specs.Seated.{TableId}
 use Rattle.hot_model.specs.declared.Call.{Call}
 use Rattle.hot_model.specs.declared.Call.TheVariants.{Get}
 use Rattle.hot_model.specs.declared.Change.{Change}
@@ -10,7 +11,7 @@ use Rattle.hot_model.specs.declared.Note.{Note}
 use Rattle.hot_model.specs.declared.Reply.{Reply}
 use Rattle.hot_model.specs.declared.Reply.TheVariants.{Inserted, Exists, New, Was, Value, Absent, Removed}
 use Rattle.hot_model.specs.Maps.{Map, value_at, step_where, reply_of}
-use Rattle.hot_model.specs.Fronts.{map_of, BeginsWith, OthersGoOn}
+use Rattle.hot_model.specs.Fronts.{map_of, BeginsWith, LegalFront, OthersGoOn}
 use Rattle.hot_model.specs.Calls.{is_change, LegalCalls}
 use Rattle.hot_model.proofs.Legal.{legal_quiet}
 use Rattle.key_bits.specs.declared.TheConstants.{MAX_BYTES}
@@ -20,17 +21,24 @@ use Rattle.tries.specs.Tree.{Tree, Has, IsTrie}
 use Rattle.tries.proofs.Contents.{holds_has}
 use Rattle.tries.proofs.Maps.{holds_value, value_holds}
 use Rattle.moments.specs.Told.{content}
+use Rattle.rowex_core.specs.declared.event.Act.{Act}
 use Rattle.rowex_core.specs.declared.event.Act.TheVariants.{ClearPin}
+use Rattle.rowex_core.specs.declared.event.Event.{Event}
 use Rattle.rowex_core.specs.declared.known.Known.{Known}
 use Rattle.rowex_core.specs.Cores.{Core, IsLawful}
-use Rattle.rowex_core.specs.Knowing.{Knows, IsEvent}
+use Rattle.rowex_core.specs.Knowing.{Recalls, IsEvent}
+use Rattle.rowex_table.specs.Runs.{StepsWith}
+use Rattle.rowex_table.specs.Seats.{TableView, SeatView, Fits, IsSame}
 use Rattle.epochs.specs.Runs.{Pins}
-use Rattle.hot_index.specs.Seen.{since}
-use Rattle.hot_index.specs.Passes.{IsSettled, pass_view}
-use Rattle.hot_index.specs.Answers.{IsNoted, HasFound, got}
-use Rattle.hot_index.specs.Lookups.{HasSearched}
+use Rattle.rowex_reading.specs.Lookups.{HasFound, HasSearched}
+use Rattle.rowex_reading.specs.Reads.{Looks}
+use Rattle.rowex_reading.specs.Seen.{since}
+use Rattle.rowex_reading.proofs.Later.{event_recalls}
+use Rattle.rowex_reading.proofs.Led.{HasLookedAt, looked_at}
+use Rattle.rowex_reading.proofs.Seeing.{seen_told, seen_within}
+use Rattle.hot_index.specs.Passes.{AreByPasses, IsSettled, pass_of}
+use Rattle.hot_index.specs.Answers.{GoesOn, IsNoted, got}
 use Rattle.hot_index.specs.Noting.{same_reply, first_from, answers_so, place_of, note_of}
-use Rattle.hot_index.proofs.Seeing.{seen_told, seen_within}
 
 -- Replies
 
@@ -111,15 +119,15 @@ get_reply m key o e = ap (λ z. (step_where z m (Get key)).1) e ∙ at o
     at (Some v) = refl
 
 -- the reply that a get gives was right
-pub found_right : (k : Known) (key : Key) (o : Option ℕ) → HasFound k key o → (c : Core) → IsLawful c → Knows c k → WasRight k (Get key) (got o)
-found_right k key None found c lawful knows =
-    let f = found c lawful knows in
-    let told = (seen_told lawful knows).content_is f.0 f.2 in
+pub found_right : (k : Known) (key : Key) (o : Option ℕ) → HasFound k key o → (c : Core) → IsLawful c → Recalls c k → WasRight k (Get key) (got o)
+found_right k key None found c lawful recalls =
+    let f = found c lawful recalls in
+    let told = (seen_told lawful recalls).content_is f.0 f.2 in
     (f.0, f.1, f.2, get_reply _ key None (ap (λ (z : Map). value_at z key) (sym told) ∙ absent_at (c.past.moment f.0) key f.3))
-found_right k key (Some v) found c lawful knows =
-    let f = found c lawful knows in
-    let told = (seen_told lawful knows).content_is f.0 f.3 in
-    let tree : IsTrie f.1 = (lawful.core.state.trees f.0 f.1 (le_trans f.3 (seen_within lawful knows)) f.4).0 in
+found_right k key (Some v) found c lawful recalls =
+    let f = found c lawful recalls in
+    let told = (seen_told lawful recalls).content_is f.0 f.3 in
+    let tree : IsTrie f.1 = (lawful.core.state.trees f.0 f.1 (le_trans f.3 (seen_within lawful recalls)) f.4).0 in
     (f.0, f.2, f.3, get_reply _ key (Some v) (ap (λ (z : Map). value_at z key) (sym told) ∙ (ap (λ t. value_at (content t) key) f.4 ∙ holds_value f.1 tree key v f.5)))
 
 -- The end of a call
@@ -138,11 +146,79 @@ pub record HasLooked (k i : Known) : Type 0 where
 longer : (later front : List Change) → BeginsWith later front → length front ≤ length later
 longer later front b = let e = ap length b.1 ∙ length-append front b.0 in omega arith
 
+-- it is one seat still
+pub fits_then : (table : TableView) (s t : SeatView) → IsSame s t → Fits table s → Fits table t
+fits_then table s t same fits = (same.0 ∙ fits.0, subst (λ q. q < table.layout.passes) (sym same.2) fits.1)
+
+-- a pass that was settled, was pinned and has looked then
+pub looked : {G : Type 0} {table : TableView} {becomes : G → Event → G → Type 0} {n : ℕ} {a b c : SeatView × G} → IsSettled a.0.known → Pins table becomes a b → Looks table becomes n b c →
+    HasLooked a.0.known c.0.known
+looked {n = n} {a = a} {b = b} {c = c} settled pins looks = record {
+  pass = at.later.pass ∙ pass;
+  notes = ap (λ (z : Known). z.notes) at.sees ∙ ap (λ (z : Known). z.notes) pinned;
+  own = ap (λ (z : Known). z.own) at.sees ∙ (ap (λ (z : Known). z.own) pinned ∙ settled.own);
+  locks = ap (λ (z : Known). z.locks) at.sees ∙ (ap (λ (z : Known). z.locks) pinned ∙ settled.locks);
+  anchor = ap (λ (z : Known). z.anchor) at.sees ∙ (ap (λ (z : Known). z.anchor) pinned ∙ settled.anchor);
+  front = subst (λ (z : ℕ × List Change). OthersGoOn z.0 z.1 c.0.known.front) (λ x. (pass x, front x)) at.later.front;
+  fresh = subst (λ (z : List Change). BeginsWith c.0.known.fresh.front z) front at.fresh;
+  now = let now = at.now in let steps = ap (λ (z : Known). z.steps) pinned in omega arith;
+}
+  where
+    at : HasLookedAt n b.0.known c.0.known
+    at = looked_at looks
+
+    pinned : b.0.known ≡ record a.0.known { pin = b.0.known.pin; round = b.0.known.round; steps = a.0.known.steps + 2 }
+    pinned = pins.1.rest
+
+    pass : b.0.known.pass ≡ a.0.known.pass
+    pass = ap (λ (z : Known). z.pass) pinned
+
+    front : b.0.known.front ≡ a.0.known.front
+    front = ap (λ (z : Known). z.front) pinned
+
+-- what holds of each of two lists holds of each of the first
+All-part : {A : Type 0} (P : A → Type 0) (xs ys : List A) → All P (xs ++ ys) → All P xs
+All-part P [] ys h = All-nil P
+All-part P (x ∷ xs) ys h = All-cons P x xs (All-head P x (xs ++ ys) h) (All-part P xs ys (All-tail P x (xs ++ ys) h))
+
+-- changes that a lawful core goes on from were made by passes of its index
+pub by_passes : (c : Core) (k : Known) → IsLawful c → Recalls c k → AreByPasses c.layout k.front
+by_passes c k lawful recalls = All-part (λ x. x.pass < c.layout.passes) k.front recalls.front.0 (subst (AreByPasses c.layout) recalls.front.1 lawful.makers)
+
+pub event_makers : {layout : Layout} {act : Act} {said : Known → List Note} {k j : Known} → IsEvent layout act said k j → AreByPasses layout k.front
+event_makers {k = k} e = subst (λ (z : Layout). AreByPasses z k.front) e.layout_is (by_passes e.core k e.lawful (event_recalls e))
+
+-- The pass clears its pin, with these notes.
+abbrev pub cleared : Known → Known
+cleared i = record i { pin = None; steps = i.steps + 1 }
+
+module _ {layout : Layout} {said : Known → List Note} {i : Known} (s t : SeatView) (settled : IsSettled s.known) (looks : HasLooked s.known i) (event : IsEvent layout ClearPin said i t.known) where
+  pub legal_front : LegalFront i.front
+  legal_front = (seen_told event.lawful (event_recalls event)).legal
+
+  -- its front has gone on
+  pub goes_on : GoesOn layout (pass_of s) (pass_of t)
+  goes_on = record {
+    number = ap (λ (z : Known). z.pass) event.learned_is ∙ looks.pass;
+    front = subst (λ (z : Known). BeginsWith z.front s.known.front) (sym event.learned_is) (looks.front.0, looks.front.1);
+    fresh = subst (λ (z : Known). BeginsWith z.fresh.front s.known.front) (sym event.learned_is) looks.fresh;
+    seen = subst (λ (z : Known). BeginsWith z.front z.fresh.front) (sym event.learned_is) event.knows.seen.fresh;
+    now = subst (λ (z : Known). (s.known.steps ≤ z.fresh.step) × (z.fresh.step < z.steps)) (sym event.learned_is) (looks.now, let l = event.knows.counted.loaded in omega arith);
+    makers = subst (λ (z : Known). AreByPasses layout z.front) (sym event.learned_is) (event_makers event);
+  }
+
+  -- and it has settled again
+  pub settles : LegalCalls i.front i.pass (i.notes ++ said (cleared i)) → IsSettled t.known
+  settles legal = subst IsSettled (sym event.learned_is) whole
+    where
+      whole : IsSettled (record (cleared i) { notes = i.notes ++ said (cleared i) })
+      whole = record { own = looks.own; locks = looks.locks; anchor = looks.anchor; pin = refl; fresh = event.knows.seen.fresh; loaded = let l = event.knows.counted.loaded in omega arith; legal = legal }
+
 -- a call that changed nothing is noted as its pass clears the pin
-pub noted : (table table' : TableId) (layout : Layout) (call : Call) (reply : Reply) (k i j : Known) → IsSettled k → HasLooked k i → IsEvent layout ClearPin (note_of call reply) i j →
-    ((c : Core) → IsLawful c → Knows c i → WasRight i call reply) → ((p : ℕ) → is_change (record { place = p; call = call; reply = reply }) ≡ false) →
-    IsNoted (pass_view table k) (pass_view table' j) call reply × IsSettled j
-noted table table' layout call reply k i j settled looked event right quiet = subst (λ z. IsNoted (pass_view table k) (pass_view table' z) call reply × IsSettled z) (sym event.learned_is) (told, whole)
+pub noted : (layout : Layout) (call : Call) (reply : Reply) (s : SeatView) (i : Known) (t : SeatView) → IsSettled s.known → HasLooked s.known i → IsEvent layout ClearPin (note_of call reply) i t.known →
+    ((c : Core) → IsLawful c → Recalls c i → WasRight i call reply) → ((p : ℕ) → is_change (record { place = p; call = call; reply = reply }) ≡ false) →
+    IsNoted layout (pass_of s) (pass_of t) call reply × IsSettled t.known
+noted layout call reply s i t settled looks event right quiet = (told, settles s t settled looks event legal)
   where
     place : ℕ
     place = place_of i.front (since i) call reply
@@ -151,73 +227,42 @@ noted table table' layout call reply k i j settled looked event right quiet = su
     note = record { place = place; call = call; reply = reply }
 
     at : IsRightPlace i.front (since i) call reply place
-    at = right_place i call reply (right event.core event.lawful event.knows)
+    at = right_place i call reply (right event.core event.lawful (event_recalls event))
 
-    after : Known
-    after = record i { pin = None; steps = i.steps + 1; notes = i.notes ++ note ∷ [] }
-
-    calls : LegalCalls i.front k.pass (k.notes ++ note ∷ [])
-    calls = legal_quiet k.front i.front k.pass k.notes note settled.legal looked.front (seen_told event.lawful event.knows).legal
-        (le_trans (longer i.fresh.front k.front looked.fresh) at.least) at.most at.right (quiet place)
+    calls : LegalCalls i.front s.known.pass (s.known.notes ++ note ∷ [])
+    calls = legal_quiet s.known.front i.front s.known.pass s.known.notes note settled.legal looks.front (legal_front s t settled looks event)
+        (le_trans (longer i.fresh.front s.known.front looks.fresh) at.least) at.most at.right (quiet place)
 
     legal : LegalCalls i.front i.pass (i.notes ++ note ∷ [])
-    legal = subst (λ (z : ℕ × List Note). LegalCalls i.front z.0 (z.1 ++ note ∷ [])) (λ x. (sym looked.pass x, sym looked.notes x)) calls
+    legal = subst (λ (z : ℕ × List Note). LegalCalls i.front z.0 (z.1 ++ note ∷ [])) (λ x. (sym looks.pass x, sym looks.notes x)) calls
 
-    told : IsNoted (pass_view table k) (pass_view table' after) call reply
+    told : IsNoted layout (pass_of s) (pass_of t) call reply
     told = record {
-      on = record { number = looked.pass; front = (looked.front.0, looked.front.1); fresh = looked.fresh; seen = event.knows.seen.fresh; now = (looked.now, let l = event.knows.counted.loaded in omega arith) };
+      on = goes_on s t settled looks event;
       place = place;
-      notes = ap (λ (z : List Note). z ++ note ∷ []) looked.notes;
-      low = at.least;
-      high = at.most;
-      legal = legal;
+      notes = ap (λ (z : Known). z.notes) event.learned_is ∙ ap (λ (z : List Note). z ++ note ∷ []) looks.notes;
+      low = subst (λ (z : Known). length z.fresh.front ≤ place) (sym event.learned_is) at.least;
+      high = subst (λ (z : Known). place ≤ length z.front) (sym event.learned_is) at.most;
+      legal = subst (λ (z : Known). LegalCalls z.front z.pass z.notes) (sym event.learned_is) legal;
     }
 
-    whole : IsSettled after
-    whole = record { own = looked.own; locks = looked.locks; anchor = looked.anchor; pin = refl; fresh = event.knows.seen.fresh; loaded = let l = event.knows.counted.loaded in omega arith; legal = legal }
-
 -- A get
-
--- a pass that was pinned and has searched has only looked
-looked : (layout : Layout) (k i j : Known) → IsSettled k → Pins layout k i → HasSearched i j → HasLooked k j
-looked layout k i j settled pins search = record {
-  pass = ap (λ (z : Known). z.pass) loads ∙ pass;
-  notes = ap (λ (z : Known). z.notes) loads ∙ ap (λ (z : Known). z.notes) pinned;
-  own = ap (λ (z : Known). z.own) loads ∙ (ap (λ (z : Known). z.own) pinned ∙ settled.own);
-  locks = ap (λ (z : Known). z.locks) loads ∙ (ap (λ (z : Known). z.locks) pinned ∙ settled.locks);
-  anchor = ap (λ (z : Known). z.anchor) loads ∙ (ap (λ (z : Known). z.anchor) pinned ∙ settled.anchor);
-  front = subst (λ (z : ℕ × List Change). OthersGoOn z.0 z.1 j.front) (λ x. (pass x, front x)) search.loads.front;
-  fresh = subst (λ (z : List Change). BeginsWith j.fresh.front z) front search.fresh;
-  now = let now = search.now in let steps = ap (λ (z : Known). z.steps) pinned in omega arith;
-}
-  where
-    pinned : i ≡ record k { pin = i.pin; round = i.round; steps = k.steps + 2 }
-    pinned = pins.1.rest
-
-    loads : j ≡ record i { front = j.front; fresh = j.fresh; facts = j.facts; steps = i.steps + search.loaded }
-    loads = search.loads.rest
-
-    pass : i.pass ≡ k.pass
-    pass = ap (λ (z : Known). z.pass) pinned
-
-    front : i.front ≡ k.front
-    front = ap (λ (z : Known). z.front) pinned
 
 get_quiet : (key : Key) (o : Option ℕ) (p : ℕ) → is_change (record { place = p; call = Get key; reply = got o }) ≡ false
 get_quiet key None p = refl
 get_quiet key (Some v) p = refl
 
--- the get is noted, and the pass has settled again
-pub get_noted : (table table' : TableId) (layout : Layout) (key : Key) (o : Option ℕ) (k i j l : Known) → IsSettled k → Pins layout k i → HasSearched i j → HasFound j key o →
-    IsEvent layout ClearPin (note_of (Get key) (got o)) j l → IsNoted (pass_view table k) (pass_view table' l) (Get key) (got o) × IsSettled l
-get_noted table table' layout key o k i j l settled pins search found event =
-    noted table table' layout (Get key) (got o) k j l settled (looked layout k i j settled pins search) event (found_right j key o found) (get_quiet key o)
+module _ {G : Type 0} {table : TableView} {becomes : G → Event → G → Type 0} {a b c d : SeatView × G} (key : Key) (o : Option ℕ) (pins : Pins table becomes a b) (search : HasSearched table becomes b c)
+    (end : StepsWith table becomes ClearPin (note_of (Get key) (got o)) c d) where
+  -- the get is noted, and the pass has settled again
+  pub get_noted : IsSettled a.0.known → HasFound c.0.known key o → IsNoted table.layout (pass_of a.0) (pass_of d.0) (Get key) (got o) × IsSettled d.0.known
+  get_noted settled found =
+      noted table.layout (Get key) (got o) a.0 c.0.known d.0 settled (looked settled pins search.looks) end.event (found_right c.0.known key o found) (get_quiet key o)
 
-pub get_steps : (layout : Layout) (said : Known → List Note) (k i j l : Known) → Pins layout k i → HasSearched i j → IsEvent layout ClearPin said j l →
-    (v : ℕ) × (v ≤ 9 * MAX_BYTES) × (l.steps ≤ k.steps + 36 + 26 * v)
-get_steps layout said k i j l pins search event =
-    let first : i.steps ≡ k.steps + 2 = ap (λ (z : Known). z.steps) pins.1.rest in
-    let second : j.steps ≡ i.steps + search.loaded = ap (λ (z : Known). z.steps) search.loads.rest in
-    let third : l.steps ≡ j.steps + 1 = ap (λ (z : Known). z.steps) event.learned_is in
-    let few = search.few in
-    (search.nodes, search.low, omega arith)
+  pub get_steps : (v : ℕ) × (v ≤ 9 * MAX_BYTES) × (d.0.known.steps ≤ a.0.known.steps + 36 + 26 * v)
+  get_steps =
+      let first : b.0.known.steps ≡ a.0.known.steps + 2 = ap (λ (z : Known). z.steps) pins.1.rest in
+      let second : c.0.known.steps ≡ b.0.known.steps + (1 + search.loaded) = ap (λ (z : Known). z.steps) (looked_at search.looks).sees in
+      let third : d.0.known.steps ≡ c.0.known.steps + 1 = ap (λ (z : Known). z.steps) end.event.learned_is in
+      let few = search.few in
+      (search.nodes, search.low, omega arith)

@@ -13,7 +13,7 @@ use Rattle.tries.specs.Tree.{Page}
 use Rattle.moments.specs.State.{Past, IsSteady}
 use Rattle.rowex_core.specs.declared.known.Known.{Known}
 use Rattle.rowex_core.specs.Cores.{Core, IsLawful}
-use Rattle.rowex_core.specs.Knowing.{Knows}
+use Rattle.rowex_core.specs.Knowing.{Recalls}
 use Rattle.rowex_walks.specs.Scan.{Pair, Range, IsScan, IsRooted, IsPlaced, IsShaped, IsRead, IsSeen, IsBlank, IsStart, Fits, IsReached, placed, further, turned, next, remaining, rest_after, Frame as Stage}
 use Rattle.rowex_walks.proofs.Scans.{never_before, before_most, fit_first}
 use Rattle.rowex_walks.proofs.Walk.{stack_shape, scan_begin, scan_push, scan_pop, scan_end, scan_skip, scan_take, scan_past, scan_cut}
@@ -24,9 +24,10 @@ use Rattle.rowex_walks.proofs.Measure.{push_less, next_less, pop_less}
 use Rattle.hot_index.specs.declared.scanning.Frame.{Frame}
 use Rattle.hot_index.specs.declared.scanning.Verdict.{Verdict}
 use Rattle.hot_index.specs.declared.scanning.Verdict.TheVariants.{Further, Past as IsPast, Full}
-use Rattle.hot_index.specs.Seen.{seen, Sure, Loads, IsSince, IsLedTo, HasShape, since, shape_of}
+use Rattle.rowex_reading.specs.Seen.{seen, Sure, IsLater, IsAtRoot, IsSince, IsLedTo, HasPlace, HasShape, since, shape_of}
 use Rattle.hot_index.specs.Scanning.{HasScanned, IsAnswer, IsTaken, frame, frames_of, IsEntered, AreInside, IsWalk, rest_of_frames, rest_of}
-use Rattle.hot_index.proofs.Seeing.{loads_knows, seen_grown, seen_steady, since_on, sure_on, seen_stable, shaped_stable}
+use Rattle.rowex_reading.proofs.Led.{shape_place}
+use Rattle.rowex_reading.proofs.Seeing.{recalls_before, seen_grown, seen_steady, since_later, sure_later, seen_stable, shaped_stable}
 
 -- Keys
 
@@ -86,20 +87,6 @@ whole_is f fs = ap (λ z. (size f.shape - f.place) * 34 ^ f.height + 1 + z) (res
 at_next : (f : Stage) → (record (frame f) { place = f.place + 1 }) ≡ frame (next f)
 at_next f = let e : f.place + 1 ≡ suc f.place = omega arith in ap (λ z. let x : Frame = record { number = f.number; height = f.height; count = size f.shape; place = z } in x) e
 
--- Facts on the way
-
-pub shape_on : {n : ℕ} {k j : Known} (m c h : ℕ) (x : Page) → Loads n k j → HasShape k m c h x → HasShape j m c h x
-shape_on m c h x l ((pinned, sure), shaped) = (
-  (since_on l pinned, sure_on {P = λ s. IsSeen s m (Node c h)} (seen_stable m (Node c h)) l sure),
-  sure_on {P = λ s. IsShaped s m c x} (shaped_stable m c x) l shaped,
-)
-
-pub rooted_led : {k : Known} {m : ℕ} (e : Entry) → IsSince k m → Sure k (λ s. IsRooted s m e) → IsLedTo k m e
-rooted_led {k} {m} e pinned root = (pinned, λ c lawful knows. rooted_seen (seen c k) m e (root c lawful knows))
-
-pub placed_led : {k : Known} {m : ℕ} (r j : ℕ) (e : Entry) → IsSince k m → Sure k (λ s. IsPlaced s m r j e) → IsLedTo k m e
-placed_led {k} {m} r j e pinned at = (pinned, λ c lawful knows. placed_seen (seen c k) m r j e (at c lawful knows))
-
 -- The walk
 
 -- what the pass knows of its topmost node
@@ -107,18 +94,23 @@ pub walk_top : {k : Known} {m : ℕ} {g : Range} {top : Frame} {frames : List Fr
     HasShape k m top.number top.height w.lowest.shape × (top.count ≡ size w.lowest.shape)
 walk_top {k} {m} w = subst (λ (z : Frame). HasShape k m z.number z.height w.lowest.shape × (z.count ≡ size w.lowest.shape)) (sym w.top_is) (
   (
-    (w.pinned, λ c lawful knows. stack_seen (seen c k) m w.lowest w.others (w.scan c lawful knows).stack),
-    λ c lawful knows. stack_shape (seen c k) m w.lowest w.others (w.scan c lawful knows).stack,
+    (w.pinned, λ c lawful recalls. stack_seen (seen c k) m w.lowest w.others (w.scan c lawful recalls).stack),
+    λ c lawful recalls. stack_shape (seen c k) m w.lowest w.others (w.scan c lawful recalls).stack,
   ),
   refl,
 )
 
+-- there is an entry at its place
+pub walk_place : {k : Known} {m : ℕ} {g : Range} {top : Frame} {frames : List Frame} {pairs : List (Key × ℕ)} → IsWalk k m g top frames pairs → top.place < top.count →
+    HasPlace k m top.number top.height top.place
+walk_place {top = top} w low = let t = walk_top w in shape_place t.0 (subst (λ z. top.place < z) t.1 low)
+
 pub walk_room : {k : Known} {m : ℕ} {g : Range} {top : Frame} {frames : List Frame} {pairs : List (Key × ℕ)} → IsWalk k m g top frames pairs → top.count ≤ 32
 walk_room w = subst (λ (z : Frame). z.count ≤ 32) (sym w.top_is) w.room
 
-pub walk_begin : {n : ℕ} {k j : Known} (m : ℕ) (g : Range) (number height : ℕ) (top : Frame) (frames : List Frame) (pairs : List (Key × ℕ)) → frames ≡ [] → pairs ≡ [] →
-    Loads n k j → IsSince k m → Sure k (λ s. IsRooted s m (Node number height)) → IsEntered j m g number height top → IsWalk j m g top frames pairs
-walk_begin {n} {k} {j} m g number height top frames pairs ef ep l pinned root e = record {
+pub walk_begin : {k j : Known} (g : Range) (number height : ℕ) (top : Frame) (frames : List Frame) (pairs : List (Key × ℕ)) → frames ≡ [] → pairs ≡ [] →
+    IsLater k j → IsAtRoot k (Node number height) → IsEntered j (since k) g number height top → IsWalk j (since k) g top frames pairs
+walk_begin {k} {j} g number height top frames pairs ef ep l (pinned, root) e = record {
   lowest = record { number = number; height = height; shape = e.forks; place = top.place };
   others = [];
   taken = [];
@@ -127,31 +119,31 @@ walk_begin {n} {k} {j} m g number height top frames pairs ef ep l pinned root e 
   pairs_are = ep;
   room = e.room;
   inside = tt;
-  pinned = since_on l pinned;
-  scan = λ c lawful knows.
-      scan_begin (seen c j) m (seen_steady lawful knows (since_on l pinned)) g number height top.place e.forks
-      (rooted_on (seen c k) (seen c j) (seen_grown l knows) m (Node number height) (root c lawful (loads_knows l knows))) (e.shaped c lawful knows) (e.start c lawful knows);
+  pinned = since_later l pinned;
+  scan = λ c lawful recalls.
+      scan_begin (seen c j) (since k) (seen_steady lawful recalls (since_later l pinned)) g number height top.place e.forks
+      (rooted_on (seen c k) (seen c j) (seen_grown c l) (since k) (Node number height) (root c lawful (recalls_before l recalls))) (e.shaped c lawful recalls) (e.start c lawful recalls);
 }
 
 -- The scan's invariant after more loads.
-scan_later : {n : ℕ} {k j : Known} {m : ℕ} {g : Range} {top : Frame} {frames : List Frame} {pairs : List (Key × ℕ)} → (w : IsWalk k m g top frames pairs) → Loads n k j →
+scan_later : {k j : Known} {m : ℕ} {g : Range} {top : Frame} {frames : List Frame} {pairs : List (Key × ℕ)} → (w : IsWalk k m g top frames pairs) → IsLater k j →
     Sure j (λ s. IsScan s m g (w.lowest ∷ w.others) w.taken)
-scan_later {n} {k} {j} {m} {g} w l c lawful knows =
-    scan_on (seen c k) (seen c j) (seen_grown l knows) m g (w.lowest ∷ w.others) w.taken (w.scan c lawful (loads_knows l knows))
+scan_later {k} {j} {m} {g} w l c lawful recalls =
+    scan_on (seen c k) (seen c j) (seen_grown c l) m g (w.lowest ∷ w.others) w.taken (w.scan c lawful (recalls_before l recalls))
 
-placed_later : {n : ℕ} {k j : Known} (m r i : ℕ) (e : Entry) → Loads n k j → Sure k (λ s. IsPlaced s m r i e) → Sure j (λ s. IsPlaced s m r i e)
-placed_later {n} {k} {j} m r i e l sure c lawful knows = placed_on (seen c k) (seen c j) (seen_grown l knows) m r i e (sure c lawful (loads_knows l knows))
+placed_later : {k j : Known} (m r i : ℕ) (e : Entry) → IsLater k j → Sure k (λ s. IsPlaced s m r i e) → Sure j (λ s. IsPlaced s m r i e)
+placed_later {k} {j} m r i e l sure c lawful recalls = placed_on (seen c k) (seen c j) (seen_grown c l) m r i e (sure c lawful (recalls_before l recalls))
 
-module _ {k i j : Known} {a b m : ℕ} {g : Range} {top : Frame} {frames : List Frame} {pairs : List (Key × ℕ)} (w : IsWalk k m g top frames pairs) (l : Loads a k i) (o : Loads b i j)
+module _ {k i j : Known} {m : ℕ} {g : Range} {top : Frame} {frames : List Frame} {pairs : List (Key × ℕ)} (w : IsWalk k m g top frames pairs) (l : IsLater k i) (o : IsLater i j)
     (inside : top.place < top.count) where
   lowest_inside : w.lowest.place < size w.lowest.shape
   lowest_inside = subst (λ (z : Frame). z.place < z.count) w.top_is inside
 
-  later : (c : Core) → IsLawful c → Knows c j → IsScan (seen c j) m g (w.lowest ∷ w.others) w.taken
-  later c lawful knows = scan_on (seen c i) (seen c j) (seen_grown o knows) m g (w.lowest ∷ w.others) w.taken (scan_later w l c lawful (loads_knows o knows))
+  later : (c : Core) → IsLawful c → Recalls c j → IsScan (seen c j) m g (w.lowest ∷ w.others) w.taken
+  later c lawful recalls = scan_on (seen c i) (seen c j) (seen_grown c o) m g (w.lowest ∷ w.others) w.taken (scan_later w l c lawful (recalls_before o recalls))
 
-  steady : (c : Core) → IsLawful c → Knows c j → IsSteady (seen c j) m
-  steady c lawful knows = seen_steady lawful knows (since_on o (since_on l w.pinned))
+  steady : (c : Core) → IsLawful c → Recalls c j → IsSteady (seen c j) m
+  steady c lawful recalls = seen_steady lawful recalls (since_later o (since_later l w.pinned))
 
   -- the entry there, as the pass knows it in the end
   there : (e : Entry) → Sure i (λ s. IsPlaced s m top.number top.place e) → Sure j (λ s. IsPlaced s m w.lowest.number w.lowest.place e)
@@ -168,10 +160,10 @@ module _ {k i j : Known} {a b m : ℕ} {g : Range} {top : Frame} {frames : List 
     pairs_are = w.pairs_are;
     room = e.room;
     inside = (lowest_inside, w.room, w.inside);
-    pinned = since_on o (since_on l w.pinned);
-    scan = λ c lawful knows.
-        scan_push (seen c j) m (steady c lawful knows) g w.lowest w.others w.taken (later c lawful knows) number height into.place e.forks
-        (there (Node number height) at c lawful knows) (e.shaped c lawful knows) (e.start c lawful knows);
+    pinned = since_later o (since_later l w.pinned);
+    scan = λ c lawful recalls.
+        scan_push (seen c j) m (steady c lawful recalls) g w.lowest w.others w.taken (later c lawful recalls) number height into.place e.forks
+        (there (Node number height) at c lawful recalls) (e.shaped c lawful recalls) (e.start c lawful recalls);
   }
 
   pub walk_push_less : (number height : ℕ) → height < top.height → (into : Frame) → IsEntered j m g number height into →
@@ -198,10 +190,10 @@ module _ {k i j : Known} {a b m : ℕ} {g : Range} {top : Frame} {frames : List 
       pairs_are = e ∙ w.pairs_are;
       room = w.room;
       inside = w.inside;
-      pinned = since_on o (since_on l w.pinned);
-      scan = λ c lawful knows.
-          scan_skip (seen c j) m (steady c lawful knows) g w.lowest w.others w.taken (later c lawful knows) number key value
-          (there (Leaf number) at c lawful knows) (read c lawful knows) low;
+      pinned = since_later o (since_later l w.pinned);
+      scan = λ c lawful recalls.
+          scan_skip (seen c j) m (steady c lawful recalls) g w.lowest w.others w.taken (later c lawful recalls) number key value
+          (there (Leaf number) at c lawful recalls) (read c lawful recalls) low;
     }
     walk_further more (inr (within, room, e)) = record {
       lowest = next w.lowest;
@@ -212,30 +204,30 @@ module _ {k i j : Known} {a b m : ℕ} {g : Range} {top : Frame} {frames : List 
       pairs_are = e ∙ ap (λ z. z ++ (key, value) ∷ []) w.pairs_are;
       room = w.room;
       inside = w.inside;
-      pinned = since_on o (since_on l w.pinned);
-      scan = λ c lawful knows.
-          let s = later c lawful knows in let short = s.short in
+      pinned = since_later o (since_later l w.pinned);
+      scan = λ c lawful recalls.
+          let s = later c lawful recalls in let short = s.short in
           let n = ap length w.pairs_are ∙ length_turned w.taken in
-          scan_take (seen c j) m (steady c lawful knows) g w.lowest w.others w.taken s number key value
-          (there (Leaf number) at c lawful knows) (read c lawful knows) within (omega arith);
+          scan_take (seen c j) m (steady c lawful recalls) g w.lowest w.others w.taken s number key value
+          (there (Leaf number) at c lawful recalls) (read c lawful recalls) within (omega arith);
     }
 
     pub walk_past : since j ≡ m → (scan : Scan) → IsTaken g pairs key value scan.pairs.items IsPast → scan.more ≡ false → HasScanned j g scan
     walk_past e scan (high, same) more = record {
       taken = w.taken;
       pairs = same ∙ w.pairs_are;
-      answer = subst (λ z. Sure j (λ s. IsAnswer s z g w.taken scan.more)) (sym e) (subst (λ z. Sure j (λ s. IsAnswer s m g w.taken z)) (sym more) (λ c lawful knows.
-          scan_past (seen c j) m (steady c lawful knows) g w.lowest w.others w.taken (later c lawful knows) number key value
-          (there (Leaf number) at c lawful knows) (read c lawful knows) high));
+      answer = subst (λ z. Sure j (λ s. IsAnswer s z g w.taken scan.more)) (sym e) (subst (λ z. Sure j (λ s. IsAnswer s m g w.taken z)) (sym more) (λ c lawful recalls.
+          scan_past (seen c j) m (steady c lawful recalls) g w.lowest w.others w.taken (later c lawful recalls) number key value
+          (there (Leaf number) at c lawful recalls) (read c lawful recalls) high));
     }
 
     pub walk_full : since j ≡ m → (scan : Scan) → IsTaken g pairs key value scan.pairs.items Full → scan.more ≡ true → HasScanned j g scan
     walk_full e scan (within, full, same) more = record {
       taken = w.taken;
       pairs = same ∙ w.pairs_are;
-      answer = subst (λ z. Sure j (λ s. IsAnswer s z g w.taken scan.more)) (sym e) (subst (λ z. Sure j (λ s. IsAnswer s m g w.taken z)) (sym more) (λ c lawful knows.
-          scan_cut (seen c j) m (steady c lawful knows) g w.lowest w.others w.taken (later c lawful knows) number key value
-          (there (Leaf number) at c lawful knows) (read c lawful knows) within (sym (length_turned w.taken) ∙ (sym (ap length w.pairs_are) ∙ full))));
+      answer = subst (λ z. Sure j (λ s. IsAnswer s z g w.taken scan.more)) (sym e) (subst (λ z. Sure j (λ s. IsAnswer s m g w.taken z)) (sym more) (λ c lawful recalls.
+          scan_cut (seen c j) m (steady c lawful recalls) g w.lowest w.others w.taken (later c lawful recalls) number key value
+          (there (Leaf number) at c lawful recalls) (read c lawful recalls) within (sym (length_turned w.taken) ∙ (sym (ap length w.pairs_are) ∙ full))));
     }
 
 -- A place further is less.
@@ -290,9 +282,9 @@ module _ {k : Known} {m : ℕ} {g : Range} {top : Frame} {frames : List Frame} {
         room = i.1;
         inside = i.2;
         pinned = w.pinned;
-        scan = λ c lawful knows.
-            scan_pop (seen c k) m (seen_steady lawful knows w.pinned) g w.lowest b.stage b.stages w.taken
-            (subst (λ z. IsScan (seen c k) m g (w.lowest ∷ z) w.taken) b.others (w.scan c lawful knows)) (subst (λ (z : Frame). z.count ≤ z.place) w.top_is done);
+        scan = λ c lawful recalls.
+            scan_pop (seen c k) m (seen_steady lawful recalls w.pinned) g w.lowest b.stage b.stages w.taken
+            (subst (λ z. IsScan (seen c k) m g (w.lowest ∷ z) w.taken) b.others (w.scan c lawful recalls)) (subst (λ (z : Frame). z.count ≤ z.place) w.top_is done);
       }
 
   pub walk_pop_less : (lower : Frame) (rest : List Frame) → frames ≡ rest ++ lower ∷ [] → rest_of (record lower { place = lower.place + 1 }) rest < rest_of top frames
@@ -311,9 +303,9 @@ module _ {k : Known} {m : ℕ} {g : Range} {top : Frame} {frames : List Frame} {
   walk_end none done e scan same more = record {
     taken = w.taken;
     pairs = same ∙ w.pairs_are;
-    answer = subst (λ z. Sure k (λ s. IsAnswer s z g w.taken scan.more)) (sym e) (subst (λ z. Sure k (λ s. IsAnswer s m g w.taken z)) (sym more) (λ c lawful knows.
-        scan_end (seen c k) m (seen_steady lawful knows w.pinned) g w.lowest w.taken
-        (subst (λ z. IsScan (seen c k) m g (w.lowest ∷ z) w.taken) (no_stages w.others (sym w.frames_are ∙ none)) (w.scan c lawful knows))
+    answer = subst (λ z. Sure k (λ s. IsAnswer s z g w.taken scan.more)) (sym e) (subst (λ z. Sure k (λ s. IsAnswer s m g w.taken z)) (sym more) (λ c lawful recalls.
+        scan_end (seen c k) m (seen_steady lawful recalls w.pinned) g w.lowest w.taken
+        (subst (λ z. IsScan (seen c k) m g (w.lowest ∷ z) w.taken) (no_stages w.others (sym w.frames_are ∙ none)) (w.scan c lawful recalls))
         (subst (λ (z : Frame). z.count ≤ z.place) w.top_is done)));
   }
     where
@@ -328,7 +320,7 @@ pub blank_scanned : {k : Known} (g : Range) (scan : Scan) → Sure k (λ s. IsBl
 blank_scanned {k} g scan blank none more = record {
   taken = [];
   pairs = none;
-  answer = subst (λ z. Sure k (λ s. IsAnswer s (since k) g [] z)) (sym more) (λ c lawful knows. scan_blank (seen c k) (since k) g (blank c lawful knows));
+  answer = subst (λ z. Sure k (λ s. IsAnswer s (since k) g [] z)) (sym more) (λ c lawful recalls. scan_blank (seen c k) (since k) g (blank c lawful recalls));
 }
 
 -- nothing is between the keys
@@ -336,7 +328,7 @@ pub nothing_scanned : {k : Known} (g : Range) (scan : Scan) → IsBefore g.upto 
 nothing_scanned {k} g scan before none more = record {
   taken = [];
   pairs = none;
-  answer = subst (λ z. Sure k (λ s. IsAnswer s (since k) g [] z)) (sym more) (λ c lawful knows. record {
+  answer = subst (λ z. Sure k (λ s. IsAnswer s (since k) g [] z)) (sym more) (λ c lawful recalls. record {
     falling = tt;
     within = tt;
     held = tt;
@@ -346,13 +338,13 @@ nothing_scanned {k} g scan before none more = record {
 }
 
 -- the root is a leaf
-module _ {n : ℕ} {k j : Known} (g : Range) (number : ℕ) (key : Key) (value : ℕ) (l : Loads n k j) (pinned : IsSince k (since k)) (same : since j ≡ since k)
-    (root : Sure k (λ s. IsRooted s (since k) (Leaf number))) (read : Sure j (λ s. IsRead s (since k) number key value)) (scan : Scan) where
+module _ {k j : Known} (g : Range) (number : ℕ) (key : Key) (value : ℕ) (l : IsLater k j) (root : IsAtRoot k (Leaf number)) (same : since j ≡ since k)
+    (read : Sure j (λ s. IsRead s (since k) number key value)) (scan : Scan) where
   rooted : Sure j (λ s. IsRooted s (since k) (Leaf number))
-  rooted c lawful knows = rooted_on (seen c k) (seen c j) (seen_grown l knows) (since k) (Leaf number) (root c lawful (loads_knows l knows))
+  rooted c lawful recalls = rooted_on (seen c k) (seen c j) (seen_grown c l) (since k) (Leaf number) (root.1 c lawful (recalls_before l recalls))
 
-  fixed : (c : Core) → IsLawful c → Knows c j → IsSteady (seen c j) (since k)
-  fixed c lawful knows = seen_steady lawful knows (since_on l pinned)
+  fixed : (c : Core) → IsLawful c → Recalls c j → IsSteady (seen c j) (since k)
+  fixed c lawful recalls = seen_steady lawful recalls (since_later l root.0)
 
   answered : (taken : List Pair) → scan.pairs.items ≡ turned taken → (more : Bool) → scan.more ≡ more → Sure j (λ s. IsAnswer s (since k) g taken more) → HasScanned j g scan
   answered taken pairs more e answer = record {
@@ -363,18 +355,18 @@ module _ {n : ℕ} {k j : Known} (g : Range) (number : ℕ) (key : Key) (value :
 
   pub leaf_further : IsTaken g [] key value scan.pairs.items Further → scan.more ≡ false → HasScanned j g scan
   leaf_further (inl (low, e)) more =
-      answered [] e false more (λ c lawful knows. scan_outside (seen c j) (since k) (fixed c lawful knows) g number key value (rooted c lawful knows) (read c lawful knows) (inl low))
+      answered [] e false more (λ c lawful recalls. scan_outside (seen c j) (since k) (fixed c lawful recalls) g number key value (rooted c lawful recalls) (read c lawful recalls) (inl low))
   leaf_further (inr (within, room, e)) more =
       answered (record { key = key; value = value } ∷ []) e false more
-      (λ c lawful knows. scan_one (seen c j) (since k) (fixed c lawful knows) g number key value (rooted c lawful knows) (read c lawful knows) within (let ne : 0 ≢ g.limit = room in omega arith))
+      (λ c lawful recalls. scan_one (seen c j) (since k) (fixed c lawful recalls) g number key value (rooted c lawful recalls) (read c lawful recalls) within (let ne : 0 ≢ g.limit = room in omega arith))
 
   pub leaf_past : IsTaken g [] key value scan.pairs.items IsPast → scan.more ≡ false → HasScanned j g scan
   leaf_past (high, e) more =
-      answered [] e false more (λ c lawful knows. scan_outside (seen c j) (since k) (fixed c lawful knows) g number key value (rooted c lawful knows) (read c lawful knows) (inr high))
+      answered [] e false more (λ c lawful recalls. scan_outside (seen c j) (since k) (fixed c lawful recalls) g number key value (rooted c lawful recalls) (read c lawful recalls) (inr high))
 
   pub leaf_full : IsTaken g [] key value scan.pairs.items Full → scan.more ≡ true → HasScanned j g scan
   leaf_full (within, full, e) more =
-      answered [] e true more (λ c lawful knows. scan_nought (seen c j) (since k) g number key value (read c lawful knows) within (sym full))
+      answered [] e true more (λ c lawful recalls. scan_nought (seen c j) (since k) g number key value (read c lawful recalls) within (sym full))
 
 -- The first leaf below a place
 
@@ -383,18 +375,18 @@ reached_seen s m r j e (placed p) = placed_seen s m r j e p
 reached_seen s m r j e (further {c = c} {i = i} q p) = placed_seen s m c i e p
 
 pub reached_led : {k : Known} {m : ℕ} (r j : ℕ) (e : Entry) → IsSince k m → Sure k (λ s. IsReached s m r j e) → IsLedTo k m e
-reached_led {k} {m} r j e pinned reached = (pinned, λ c lawful knows. reached_seen (seen c k) m r j e (reached c lawful knows))
+reached_led {k} {m} r j e pinned reached = (pinned, λ c lawful recalls. reached_seen (seen c k) m r j e (reached c lawful recalls))
 
-pub reached_further : {n : ℕ} {k i : Known} {m : ℕ} (r j c h o : ℕ) (e : Entry) → Loads n k i → Sure k (λ s. IsReached s m r j (Node c h)) → Sure i (λ s. IsPlaced s m c o e) →
+pub reached_further : {k i : Known} {m : ℕ} (r j c h o : ℕ) (e : Entry) → IsLater k i → Sure k (λ s. IsReached s m r j (Node c h)) → Sure i (λ s. IsPlaced s m c o e) →
     Sure i (λ s. IsReached s m r j e)
-reached_further {n} {k} {i} {m} r j c h o e l reached at core lawful knows =
-    further (reached_on (seen core k) (seen core i) (seen_grown l knows) m r j (reached core lawful (loads_knows l knows))) (at core lawful knows)
+reached_further {k} {i} {m} r j c h o e l reached at core lawful recalls =
+    further (reached_on (seen core k) (seen core i) (seen_grown core l) m r j (reached core lawful (recalls_before l recalls))) (at core lawful recalls)
 
-pub first_fits : {n : ℕ} {k i : Known} {m : ℕ} (r j number : ℕ) (key : Key) (value : ℕ) → Loads n k i → IsSince k m → Sure k (λ s. IsReached s m r j (Leaf number)) →
+pub first_fits : {k i : Known} {m : ℕ} (r j number : ℕ) (key : Key) (value : ℕ) → IsLater k i → IsSince k m → Sure k (λ s. IsReached s m r j (Leaf number)) →
     Sure i (λ s. IsRead s m number key value) → Sure i (λ s. Fits s m r j key)
-first_fits {n} {k} {i} {m} r j number key value l pinned reached read c lawful knows =
-    fit_first (seen c i) m (seen_steady lawful knows (since_on l pinned)) r j number key value
-    (reached_on (seen c k) (seen c i) (seen_grown l knows) m r j (reached c lawful (loads_knows l knows))) (read c lawful knows)
+first_fits {k} {i} {m} r j number key value l pinned reached read c lawful recalls =
+    fit_first (seen c i) m (seen_steady lawful recalls (since_later l pinned)) r j number key value
+    (reached_on (seen c k) (seen c i) (seen_grown c l) m r j (reached c lawful (recalls_before l recalls))) (read c lawful recalls)
 
 -- A head's forks
 
@@ -423,22 +415,18 @@ pub taken_as : (g : Range) (xs zs : List (Key × ℕ)) (k : Key) (v : ℕ) (ys :
 taken_as g xs zs k v ys a b e f h = subst (λ z. IsTaken g z k v ys b) e (subst (λ z. IsTaken g xs k v ys z) f h)
 
 pub reached_placed : {k : Known} {m : ℕ} (r j : ℕ) (e : Entry) → Sure k (λ s. IsPlaced s m r j e) → Sure k (λ s. IsReached s m r j e)
-reached_placed {k} {m} r j e at c lawful knows = placed (at c lawful knows)
+reached_placed {k} {m} r j e at c lawful recalls = placed (at c lawful recalls)
 
 pub reached_at : {k : Known} {m : ℕ} (r j : ℕ) (d e : Entry) → d ≡ e → Sure k (λ s. IsReached s m r j d) → Sure k (λ s. IsReached s m r j e)
 reached_at {k} {m} r j d e is reached = subst (λ z. Sure k (λ s. IsReached s m r j z)) is reached
 
--- A node that the pass was led to, with the forks that it has read.
-pub node_shape : {n : ℕ} {k i : Known} {m : ℕ} (c h : ℕ) (x : Page) → Loads n k i → IsLedTo k m (Node c h) → Sure i (λ s. IsShaped s m c x) → HasShape i m c h x
-node_shape {n} {k} {i} {m} c h x l (pinned, led) shaped = ((since_on l pinned, sure_on {P = λ s. IsSeen s m (Node c h)} (seen_stable m (Node c h)) l led), shaped)
-
 -- The place to begin at
 
-pub start_later : {n : ℕ} {k j : Known} (m : ℕ) (g : Range) (c i : ℕ) → Loads n k j → Sure k (λ s. IsStart s m g c i) → Sure j (λ s. IsStart s m g c i)
-start_later {n} {k} {j} m g c i l start core lawful knows = start_on (seen core k) (seen core j) (seen_grown l knows) m g c i (start core lawful (loads_knows l knows))
+pub start_later : {k j : Known} (m : ℕ) (g : Range) (c i : ℕ) → IsLater k j → Sure k (λ s. IsStart s m g c i) → Sure j (λ s. IsStart s m g c i)
+start_later {k} {j} m g c i l start core lawful recalls = start_on (seen core k) (seen core j) (seen_grown core l) m g c i (start core lawful (recalls_before l recalls))
 
 pub start_first : {k : Known} (m : ℕ) (g : Range) (c : ℕ) → Sure k (λ s. IsStart s m g c 0)
-start_first m g c core lawful knows = inl refl
+start_first m g c core lawful recalls = inl refl
 
 pub start_fits : {k : Known} (m : ℕ) (g : Range) (c i : ℕ) (key : Key) → Sure k (λ s. Fits s m c i key) → IsAtMost key g.from → Sure k (λ s. IsStart s m g c i)
-start_fits m g c i key fits low core lawful knows = inr (key, fits core lawful knows, low)
+start_fits m g c i key fits low core lawful recalls = inr (key, fits core lawful recalls, low)

@@ -9,28 +9,27 @@ use Rattle.hot_model.specs.Fronts.{BeginsWith}
 use Rattle.hot_model.specs.Scans.{IsLawfulScan}
 use Rattle.hot_model.specs.Weaves.{LegalHistory, weave}
 use Rattle.tries.specs.Keys.{Key}
-use Rattle.moments.specs.State.{IsHeld, IsMissed}
-use Rattle.rowex_core.specs.declared.known.Known.{Known}
-use Rattle.hot_index.specs.Passes.{PassView}
-use Rattle.hot_index.specs.Seen.{Sure, since}
+use Rattle.record_words.specs.declared.layout.Layout.{Layout}
+use Rattle.hot_index.specs.Passes.{PassView, AreByPasses}
 
 -- the reply that says what a get found
 abbrev pub got : Option ℕ → Reply
 got None = Absent
 got (Some value) = Value value
 
--- the pass's front has grown, and its last load of the root was in this call
-pub record GoesOn (k j : PassView) : Type 0 where
+-- the pass's front has grown, by changes of passes of the index, and its last load of the root was in this call
+pub record GoesOn (layout : Layout) (k j : PassView) : Type 0 where
   pub number : j.number ≡ k.number
   pub front : BeginsWith j.front k.front
   pub fresh : BeginsWith j.fresh.front k.front
   pub seen : BeginsWith j.front j.fresh.front
   pub now : (k.steps ≤ j.fresh.step) × (j.fresh.step < j.steps)
+  pub makers : AreByPasses layout j.front
 
 -- A call of the pass was answered: there is one note more, of this call and this reply, which stands in the history at a
 -- place from what the pass had seen at its last load of the root up to what it has seen now; and the pass's calls are legal.
-pub record IsNoted (k j : PassView) (call : Call) (reply : Reply) : Type 0 where
-  pub on : GoesOn k j
+pub record IsNoted (layout : Layout) (k j : PassView) (call : Call) (reply : Reply) : Type 0 where
+  pub on : GoesOn layout k j
   pub place : ℕ
   pub notes : j.notes ≡ k.notes ++ record { place = place; call = call; reply = reply } ∷ []
   pub low : length j.fresh.front ≤ place
@@ -38,29 +37,25 @@ pub record IsNoted (k j : PassView) (call : Call) (reply : Reply) : Type 0 where
   pub legal : LegalCalls j.front j.number j.notes
 
 -- A scan was answered: it is lawful from the last load of the root to what the pass has seen now, and adds no note.
-pub record IsScanned (k j : PassView) (from upto : Key) (limit : ℕ) (scan : Scan) : Type 0 where
-  pub on : GoesOn k j
+pub record IsScanned (layout : Layout) (k j : PassView) (from upto : Key) (limit : ℕ) (scan : Scan) : Type 0 where
+  pub on : GoesOn layout k j
   pub notes : j.notes ≡ k.notes
   pub lawful : IsLawfulScan j.fresh.front j.front from upto limit scan
   pub legal : LegalCalls j.front j.number j.notes
 
 -- A call was refused or asked nothing of the map: no note is added.
-pub record IsUnnoted (k j : PassView) : Type 0 where
+pub record IsUnnoted (layout : Layout) (k j : PassView) : Type 0 where
   pub number : j.number ≡ k.number
   pub front : BeginsWith j.front k.front
   pub notes : j.notes ≡ k.notes
   pub legal : LegalCalls j.front j.number j.notes
+  pub makers : AreByPasses layout j.front
 
 -- Two passes have met: both have seen one list of changes, which begins with what each had seen; the calls of both are legal
 -- in it, and stand together in one sequential history.
-pub record HaveMet (j k j' k' : PassView) : Type 0 where
-  pub first : IsUnnoted j j'
-  pub second : IsUnnoted k k'
+pub record HaveMet (layout : Layout) (j k j' k' : PassView) : Type 0 where
+  pub first : IsUnnoted layout j j'
+  pub second : IsUnnoted layout k k'
   pub fronts : j'.front ≡ k'.front
   pub apart : j'.number ≢ k'.number
   pub history : LegalHistory (weave j'.front (j'.notes ++ k'.notes))
-
--- what a search for the key found: that it had the value, or was absent, at a moment since the last load of the root
-abbrev pub HasFound : Known → Key → Option ℕ → Type 0
-HasFound k key None = Sure k (λ s. IsMissed s (since k) key)
-HasFound k key (Some value) = Sure k (λ s. IsHeld s (since k) key value)

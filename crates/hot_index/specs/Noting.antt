@@ -8,7 +8,7 @@ use Rattle.hot_model.specs.declared.Reply.TheVariants.{Inserted, Exists, New, Wa
 use Rattle.hot_model.specs.Maps.{reply_of}
 use Rattle.hot_model.specs.Fronts.{map_of}
 use Rattle.rowex_core.specs.declared.known.Known.{Known}
-use Rattle.hot_index.specs.Seen.{since}
+use Rattle.rowex_reading.specs.Seen.{since}
 
 -- whether two replies are the same
 abbrev pub same_reply : Reply → Reply → Bool

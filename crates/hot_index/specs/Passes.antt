@@ -1,5 +1,5 @@
 -- What contracts see of an index and of its passes.
-use Rattle.std.specs.Prelude.{◌≡◌, ◌<◌, ℕ, List, [], None}
+use Rattle.std.specs.Prelude.{◌≡◌, ◌<◌, ℕ, All, List, [], None}
 use Rattle.atomic_table.specs.Seated.{TableId}
 use Rattle.hot_model.specs.declared.Change.{Change}
 use Rattle.hot_model.specs.declared.Note.{Note}
@@ -9,11 +9,7 @@ use Rattle.record_words.specs.declared.layout.Layout.{Layout}
 use Rattle.rowex_core.specs.declared.known.Failed.{Failed}
 use Rattle.rowex_core.specs.declared.known.Fresh.{Fresh}
 use Rattle.rowex_core.specs.declared.known.Known.{Known}
-
--- an index: its table, and how many records that has
-pub record IndexView : Type 0 where
-  pub table : TableId
-  pub layout : Layout
+use Rattle.rowex_table.specs.Seats.{TableView, SeatView}
 
 -- A pass: the table of its index, its number, the changes that it has seen, those at its last load of the root, its answered
 -- calls, the number of its next atomic step, and what its failed claims and locks found.
@@ -26,15 +22,29 @@ pub record PassView : Type 0 where
   pub steps : ℕ
   pub failed : List Failed
 
-abbrev pub pass_view : TableId → Known → PassView
-pass_view table k = record { table = table; number = k.pass; front = k.front; fresh = k.fresh; notes = k.notes; steps = k.steps; failed = k.failed }
+-- the pass of a seat
+abbrev pub pass_of : SeatView → PassView
+pass_of s = record {
+  table = s.table;
+  number = s.known.pass;
+  front = s.known.front;
+  fresh = s.known.fresh;
+  notes = s.known.notes;
+  steps = s.known.steps;
+  failed = s.known.failed;
+}
 
--- the pass belongs to the index
-abbrev pub Owns : IndexView → PassView → Type 0
-Owns index pass = pass.table ≡ index.table
+-- the pass belongs to the index, which is seen as its table
+abbrev pub Owns : TableView → PassView → Type 0
+Owns index pass = pass.table ≡ index.id
 
--- Between two calls a pass has no claimed record, no lock and no pin, its last load of the root was a step of an earlier call
--- or is still to come, and its calls are legal in its front.
+-- each change was made by a pass of an index with this layout
+abbrev pub AreByPasses : Layout → List Change → Type 0
+AreByPasses layout changes = All (λ x. x.pass < layout.passes) changes
+
+-- Between two calls a pass has no claimed record, no lock and no pin; and since what it knows that it has is all that it has,
+-- nothing in the index is its own. Its last load of the root was a step of an earlier call or is still to come, and its calls
+-- are legal in its front.
 pub record IsSettled (k : Known) : Type 0 where
   pub own : k.own ≡ []
   pub locks : k.locks ≡ []

@@ -11,7 +11,7 @@ use Rattle.hot_index.specs.declared.scanning.Frame.{Frame}
 use Rattle.hot_index.specs.declared.scanning.Range.{Range as Asked}
 use Rattle.hot_index.specs.declared.scanning.Verdict.{Verdict}
 use Rattle.hot_index.specs.declared.scanning.Verdict.TheVariants.{Further, Past as IsPast, Full}
-use Rattle.hot_index.specs.Seen.{Sure, IsSince, since}
+use Rattle.rowex_reading.specs.Seen.{Sure, IsSince, since}
 
 abbrev pub range_of : Asked → Range
 range_of r = record { from = r.from.now; upto = r.upto.now; limit = r.limit }

@@ -1,10 +1,27 @@
-//! The index, the passes by which threads use it, and how it is made.
+//! The index and the passes by which threads use it: how it is made, and all calls on it.
 
-ghost use Rattle.std.specs.Prelude.{◌≡◌, ◌↔◌, ℕ, Some, Err, IfOk, length, slice_get};
+ghost use Rattle.std.specs.Prelude.{◌≡◌, ◌↔◌, ◌+◌, ◌*◌, ◌≤◌, ℕ, List, Some, Err, IfOk, IsSome, OnErr, length, slice_get};
+ghost use mathlib.Core.Option.{some};
+ghost use lib.ListN.{get_elem?};
+ghost use Rattle.key_bits.specs.declared.TheConstants.{MAX_BYTES};
+ghost use Rattle.hot_model.specs.declared.Call.TheVariants.{Get};
+ghost use Rattle.hot_model.specs.declared.Note.{Note};
 ghost use Rattle.record_words.specs.Limits.{IsPassCount, IsNodeCount, IsLeafCount};
+ghost use Rattle.rowex_core.specs.declared.event.Act.TheVariants.{ClearPin};
+ghost use Rattle.rowex_core.specs.declared.known.Known.{Known};
+ghost use Rattle.rowex_table.specs.Runs.{StepsWith};
+ghost use Rattle.rowex_table.specs.Seats.{Fits, IsNew, SeatView};
 ghost use Rattle.hot_index.specs.Passes.{PassView, Owns, IsNewPass};
+ghost use Rattle.hot_index.specs.Answers.{IsNoted, IsScanned, IsUnnoted, HaveMet, got};
+ghost use Rattle.hot_index.specs.Traces.{HasCollected, HasRead, untold};
 
+use crate::scanning::{Range, scan_root};
+use epochs::{Given, collect_round, pin, unpin};
+use hot_model::Scan;
+use key_bits::Key;
 use record_words::{Layout, LayoutFault};
+use rowex_core::{Gate, NoGate};
+use rowex_reading::look_up;
 use rowex_table::{HotTable, TableSeat};
 use std::alloc::{AllocError, Global};
 use std::marker::Model;
@@ -28,11 +45,11 @@ pub struct Index {
 }
 
 impl Model for Index {
-    ghost use Rattle.hot_index.specs.Passes.{IndexView};
+    ghost use Rattle.rowex_table.specs.Seats.{TableView};
 
-    ghost Value = { IndexView };
+    ghost Value = { TableView };
 
-    ghost view = { λ i. record { table = i.table.table.shared.table_id; layout = i.table.layout } };
+    ghost view = { λ i. i.table };
 }
 
 /// The right of one thread to use an index. A running program stores its number alone; contracts see the changes that it has
@@ -43,14 +60,13 @@ pub struct Pass {
 }
 
 impl Model for Pass {
-    ghost use Rattle.rowex_table.specs.Seats.{known};
-    ghost use Rattle.hot_index.specs.Passes.{PassView, IsSettled, pass_view};
+    ghost use Rattle.hot_index.specs.Passes.{PassView, IsSettled, pass_of};
 
     ghost Value = { PassView };
 
-    ghost view = { λ p. pass_view p.seat.seat.table_id (known p.seat) };
+    ghost view = { λ p. pass_of p.seat };
 
-    ghost invariant = { λ p. IsSettled (known p.seat) };
+    ghost invariant = { λ p. IsSettled p.seat.known };
 }
 
 impl Pass {
@@ -58,7 +74,7 @@ impl Pass {
     pub fn number(&self) -> u16
         ensures { result ≡ self.now.number }
     {
-        self.seat.pass
+        self.seat.number()
     }
 }
 
@@ -82,6 +98,114 @@ pub fn create(
     made(alloc, layout).map_err(|_| IndexFault::Memory)
 }
 
+impl Index {
+    /// The value of a key: none where it is absent. It takes no lock and waits for nobody: it makes at most 36 atomic steps,
+    /// and 26 more for each of at most 2,160 nodes on the key's way.
+    pub fn get(&self, pass: &mut Pass, key: &Key) -> Option<u64>
+        requires { Owns self.now pass.old }
+        ensures own { Owns self.now pass.new }
+        ensures call { IsNoted self.now.layout pass.old pass.new (Get key.now) (got result) }
+        ensures steps { (v : ℕ) × (v ≤ 9 * MAX_BYTES) × (pass.new.steps ≤ pass.old.steps + 36 + 26 * v) }
+        ensures read { HasRead self.now untold (pass.old, tt) (pass.new, tt) }
+    {
+        self.get_with(pass, key, &mut NoGate)
+    }
+
+    /// `get`, with a gate that is told each of its steps.
+    pub fn get_with<G: Gate>(&self, pass: &mut Pass, key: &Key, gate: &mut G) -> Option<u64>
+        requires { Owns self.now pass.old }
+        ensures own { Owns self.now pass.new }
+        ensures call { IsNoted self.now.layout pass.old pass.new (Get key.now) (got result) }
+        ensures steps { (v : ℕ) × (v ≤ 9 * MAX_BYTES) × (pass.new.steps ≤ pass.old.steps + 36 + 26 * v) }
+        ensures read { HasRead self.now G.becomes (pass.old, gate.old) (pass.new, gate.new) }
+    {
+        pin(&self.table, &mut pass.seat, gate);
+        let found = look_up(&self.table, &mut pass.seat, key, gate);
+        end_get(&self.table, &mut pass.seat, gate, key, found);
+        found
+    }
+
+    /// The keys from `from` to `upto`, both included, with their values, in the order of the keys: the first `limit` of
+    /// them, and whether there is a further one.
+    ///
+    /// It takes no lock and waits for nobody. It is no picture of one moment: each pair was held at some moment of the
+    /// call, and each key that was there all along is listed, where there is a further one up to the last pair's. Where
+    /// memory ends, it answers nothing.
+    pub fn scan(
+        &self,
+        alloc: Global,
+        pass: &mut Pass,
+        from: &Key,
+        upto: &Key,
+        limit: usize,
+    ) -> Result<Scan, AllocError>
+        requires { Owns self.now pass.old }
+        ensures own { Owns self.now pass.new }
+        ensures ok { IfOk result (IsScanned self.now.layout pass.old pass.new from.now upto.now limit) }
+        ensures err { OnErr result (IsUnnoted self.now.layout pass.old pass.new) }
+        ensures read { HasRead self.now untold (pass.old, tt) (pass.new, tt) }
+    {
+        self.scan_with(alloc, pass, from, upto, limit, &mut NoGate)
+    }
+
+    /// `scan`, with a gate that is told each of its steps.
+    pub fn scan_with<G: Gate>(
+        &self,
+        alloc: Global,
+        pass: &mut Pass,
+        from: &Key,
+        upto: &Key,
+        limit: usize,
+        gate: &mut G,
+    ) -> Result<Scan, AllocError>
+        requires { Owns self.now pass.old }
+        ensures own { Owns self.now pass.new }
+        ensures ok { IfOk result (IsScanned self.now.layout pass.old pass.new from.now upto.now limit) }
+        ensures err { OnErr result (IsUnnoted self.now.layout pass.old pass.new) }
+        ensures read { HasRead self.now G.becomes (pass.old, gate.old) (pass.new, gate.new) }
+    {
+        let range = Range { from, upto, limit };
+        pin(&self.table, &mut pass.seat, gate);
+        let scan = scan_root(alloc, &self.table, &mut pass.seat, gate, &range);
+        unpin(&self.table, &mut pass.seat, gate);
+        scan
+    }
+
+    /// Two passes meet, and are given back: what either has seen, both have seen then, and all that was published before.
+    pub fn meet(&self, first: Pass, second: Pass) -> (Pass, Pass)
+        requires { Owns self.now first × Owns self.now second }
+        ensures own { Owns self.now result.0 × Owns self.now result.1 }
+        ensures met { HaveMet self.now.layout first second result.0 result.1 }
+    {
+        let (first, second) = self.table.meet_seats(first.seat, second.seat);
+        (Pass { seat: first }, Pass { seat: second })
+    }
+
+    /// Makes one round of collection: it makes the epoch the next one, visits each record of the index once, and gives back
+    /// those that were retired in an epoch below all pins, which no call that still runs can reach. Answers how many it gave
+    /// back. It takes no lock and no memory, and waits for nobody.
+    pub fn collect(&self, pass: &mut Pass) -> Given
+        requires { Owns self.now pass.old }
+        ensures own { Owns self.now pass.new }
+        ensures call { IsUnnoted self.now.layout pass.old pass.new }
+        ensures front { pass.new.front ≡ pass.old.front }
+        ensures round { HasCollected self.now untold (pass.old, tt) (pass.new, tt) result.nodes result.leaves }
+    {
+        self.collect_with(pass, &mut NoGate)
+    }
+
+    /// `collect`, with a gate that is told each of its steps.
+    pub fn collect_with<G: Gate>(&self, pass: &mut Pass, gate: &mut G) -> Given
+        requires { Owns self.now pass.old }
+        ensures own { Owns self.now pass.new }
+        ensures call { IsUnnoted self.now.layout pass.old pass.new }
+        ensures front { pass.new.front ≡ pass.old.front }
+        ensures round { HasCollected self.now G.becomes (pass.old, gate.old) (pass.new, gate.new) result.nodes result.leaves }
+    {
+        collect_round(&self.table, &mut pass.seat, gate)
+    }
+}
+
 /// The index of a layout, and its passes.
 fn made(alloc: Global, layout: Layout) -> Result<(Index, Vec<Pass>), AllocError>
     ensures layout { IfOk result (λ made. made.0.layout ≡ layout) }
@@ -89,9 +213,39 @@ fn made(alloc: Global, layout: Layout) -> Result<(Index, Vec<Pass>), AllocError>
     ensures each { IfOk result (λ made. (q : ℕ) (p : PassView) → slice_get made.1.items q ≡ Some p → Owns made.0 p × IsNewPass q p) }
 {
     let (table, seats) = HotTable::new(alloc, layout)?;
+    let passes = passes_of(alloc, &table, seats)?;
+    Ok((Index { table }, passes))
+}
+
+/// The passes of the new seats of this table, in their order.
+fn passes_of(
+    alloc: Global,
+    _table: &HotTable,
+    seats: Vec<TableSeat>,
+) -> Result<Vec<Pass>, AllocError>
+    requires { (q : ℕ) (s : SeatView) → get_elem? seats.items q ≡ some s → IsNew _table.now q s }
+    ensures count { IfOk result (λ passes. length passes.items ≡ length seats.items) }
+    ensures each { IfOk result (λ passes. (q : ℕ) (p : PassView) → slice_get passes.items q ≡ Some p → Owns _table.now p × IsNewPass q p) }
+{
     let mut passes = Vec::new(alloc);
     for seat in seats {
         passes.push(Pass { seat })?;
     }
-    Ok((Index { table }, passes))
+    Ok(passes)
+}
+
+/// Clears the pin at the end of a get that looked for this key and found this. The get's note comes with this step.
+fn end_get<G: Gate>(
+    table: &HotTable,
+    seat: &mut TableSeat,
+    gate: &mut G,
+    _key: &Key,
+    _found: Option<u64>,
+)
+    ghost said: { Known → List Note }
+    requires fits { Fits table.now seat.old }
+    requires pinned { IsSome seat.old.known.pin }
+    ensures step { StepsWith table.now G.becomes ClearPin said (seat.old, gate.old) (seat.new, gate.new) }
+{
+    unpin(table, seat, gate);
 }

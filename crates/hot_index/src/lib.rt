@@ -2,18 +2,14 @@
 //! SIGMOD 2018) whose readers take no lock (ROWEX, Leis and others, DaMoN 2016).
 #![tactic(auto)]
 
-mod collecting;
 mod index;
-mod lookup;
-mod meeting;
-mod reading;
 mod scanning;
 
-pub use epochs::{Given, NoGate};
+pub use epochs::Given;
 pub use hot_model::{Reply, Scan};
 pub use index::{Index, IndexFault, Pass, create};
 pub use key_bits::Key;
-pub use rowex_core::{Event, Gate};
+pub use rowex_core::{Event, Gate, NoGate};
 
 #[cfg(test)]
 mod tests;

@@ -1,83 +1,31 @@
-//! Scans: the pairs of a range of keys, in the order of the keys.
+//! The walk of a scan: the pairs of a range of keys, in the order of the keys, as a pinned pass reads them.
 
-ghost use Rattle.std.specs.Prelude.{◌≡◌, ◌<◌, ◌≤◌, ℕ, IfOk, OnErr, IsSome, IsTrue, false};
+ghost use Rattle.std.specs.Prelude.{◌≡◌, ◌≤◌, ℕ, IfOk, IsSome, IsTrue, false};
 ghost use Rattle.compound_node.specs.declared.entries.Entry.TheVariants.{Leaf as LeafEntry, Node as NodeEntry};
 ghost use Rattle.pieces.specs.Piece.{size};
 ghost use Rattle.key_bits.specs.Key.{IsKey};
 ghost use Rattle.tries.specs.Keys.{IsAtMost, IsBefore};
 ghost use Rattle.tries.specs.Tree.{Page};
-ghost use Rattle.hot_model.specs.Fronts.{BeginsWith};
-ghost use Rattle.rowex_core.specs.declared.known.Known.{Known};
-ghost use Rattle.rowex_table.specs.Seats.{IsSame, known};
-ghost use Rattle.rowex_walks.specs.Scan.{Fits, IsRooted, IsStart};
-ghost use Rattle.hot_index.specs.Passes.{Owns};
-ghost use Rattle.hot_index.specs.Answers.{IsScanned, IsUnnoted};
-ghost use Rattle.hot_index.specs.Possible.{IsPossible};
-ghost use Rattle.hot_index.specs.Seen.{Sure, Loads, IsSince, IsLedTo, HasShape, since};
+ghost use Rattle.rowex_table.specs.Seats.{IsSeatOf};
+ghost use Rattle.rowex_walks.specs.Scan.{Fits, IsStart};
+ghost use Rattle.rowex_reading.specs.Reads.{IsReader, Looks, ReadsSome};
+ghost use Rattle.rowex_reading.specs.Seen.{Sure, IsAtRoot, IsLedTo, HasPlace, HasShape};
 ghost use Rattle.hot_index.specs.Scanning.{HasScanned, IsEntered, IsTaken, range_of};
 
-use crate::index::{Index, Pass};
-use crate::reading::{load_entry, load_head, load_leaf, load_root};
 use compound_node::Entry;
-use epochs::{NoGate, pin_with, unpin_with};
 use hot_model::Scan;
 use key_bits::{Key, mismatch};
 use rowex_core::Gate;
+use rowex_reading::{load_entry, load_head, load_leaf, load_root};
 use rowex_table::{HotTable, TableSeat};
 use std::alloc::{AllocError, Global};
 
-impl Index {
-    /// The keys from `from` to `upto`, both included, with their values, in the order of the keys: the first `limit` of
-    /// them, and whether there is a further one.
-    ///
-    /// It takes no lock and waits for nobody. It is no picture of one moment: each pair was held at some moment of the
-    /// call, and each key that was there all along is listed, where there is a further one up to the last pair's. Where
-    /// memory ends, it answers nothing.
-    pub fn scan(
-        &self,
-        alloc: Global,
-        pass: &mut Pass,
-        from: &Key,
-        upto: &Key,
-        limit: usize,
-    ) -> Result<Scan, AllocError>
-        requires { Owns self.now pass.old }
-        ensures own { Owns self.now pass.new }
-        ensures ok { IfOk result (IsScanned pass.old pass.new from.now upto.now limit) }
-        ensures err { OnErr result (IsUnnoted pass.old pass.new) }
-    {
-        self.scan_with(alloc, pass, from, upto, limit, &mut NoGate)
-    }
-
-    /// `scan`, with a gate that is told each of its steps.
-    pub fn scan_with<G: Gate>(
-        &self,
-        alloc: Global,
-        pass: &mut Pass,
-        from: &Key,
-        upto: &Key,
-        limit: usize,
-        gate: &mut G,
-    ) -> Result<Scan, AllocError>
-        requires { Owns self.now pass.old }
-        ensures own { Owns self.now pass.new }
-        ensures ok { IfOk result (IsScanned pass.old pass.new from.now upto.now limit) }
-        ensures err { OnErr result (IsUnnoted pass.old pass.new) }
-    {
-        let range = Range { from, upto, limit };
-        pin_with(&self.table, &mut pass.seat, gate);
-        let scan = scan_root(alloc, &self.table, &mut pass.seat, gate, &range);
-        unpin_with(&self.table, &mut pass.seat, gate);
-        scan
-    }
-}
-
 /// What a scan asks for.
 #[derive(Drop)]
-struct Range<'a> {
-    from: &'a Key,
-    upto: &'a Key,
-    limit: usize,
+pub(crate) struct Range<'a> {
+    pub(crate) from: &'a Key,
+    pub(crate) upto: &'a Key,
+    pub(crate) limit: usize,
 }
 
 /// A node on the way of a scan. The place is the one where the scan is; in the lowest node of the way, the next one.
@@ -101,20 +49,18 @@ enum Verdict {
 }
 
 /// The scan of a pinned pass.
-fn scan_root<G: Gate>(
+pub(crate) fn scan_root<G: Gate>(
     alloc: Global,
     table: &HotTable,
     seat: &mut TableSeat,
     gate: &mut G,
     range: &Range,
 ) -> Result<Scan, AllocError>
-    requires own { seat.old.seat.table_id ≡ table.now.table.shared.table_id }
-    requires pinned { IsSome (known seat.old).pin }
-    ensures seat { IsSame seat.old seat.new }
-    ensures loads { (n : ℕ) × Loads n (known seat.old) (known seat.new) }
-    ensures fresh { BeginsWith (known seat.new).fresh.front (known seat.old).front × ((known seat.old).steps ≤ (known seat.new).fresh.step) }
+    requires own { IsSeatOf table.now seat.old }
+    requires pinned { IsSome seat.old.known.pin }
+    ensures looks { (n : ℕ) × Looks table.now G.becomes n (seat.old, gate.old) (seat.new, gate.new) }
     ensures keys { IsKey range.now.from.now × IsKey range.now.upto.now }
-    ensures scanned { IfOk result (HasScanned (known seat.new) (range_of range.now)) }
+    ensures scanned { IfOk result (HasScanned seat.new.known (range_of range.now)) }
 {
     let root = load_root(table, seat, gate);
     if is_before(range.upto, range.from) {
@@ -142,14 +88,10 @@ fn scan_leaf<G: Gate>(
     range: &Range,
     number: u32,
 ) -> Result<Scan, AllocError>
-    requires own { seat.old.seat.table_id ≡ table.now.table.shared.table_id }
-    requires possible { IsPossible table.now.layout (known seat.old) }
-    requires since { IsSince (known seat.old) (since (known seat.old)) }
-    requires root { Sure (known seat.old) (λ s. IsRooted s (since (known seat.old)) (LeafEntry number)) }
-    ensures seat { IsSame seat.old seat.new }
-    ensures loads { (n : ℕ) × Loads n (known seat.old) (known seat.new) }
-    ensures fresh { (known seat.new).fresh ≡ (known seat.old).fresh }
-    ensures scanned { IfOk result (HasScanned (known seat.new) (range_of range.now)) }
+    requires reader { IsReader table.now seat.old }
+    requires root { IsAtRoot seat.old.known (LeafEntry number) }
+    ensures reads { ReadsSome table.now G.becomes (seat.old, gate.old) (seat.new, gate.new) }
+    ensures scanned { IfOk result (HasScanned seat.new.known (range_of range.now)) }
 {
     let (key, value) = load_leaf(table, seat, gate, number);
     let mut pairs = Vec::new(alloc);
@@ -169,14 +111,10 @@ fn scan_node<G: Gate>(
     range: &Range,
     number: u32,
 ) -> Result<Scan, AllocError>
-    requires own { seat.old.seat.table_id ≡ table.now.table.shared.table_id }
-    requires possible { IsPossible table.now.layout (known seat.old) }
-    requires since { IsSince (known seat.old) (since (known seat.old)) }
-    requires root { (h : ℕ) × Sure (known seat.old) (λ s. IsRooted s (since (known seat.old)) (NodeEntry number h)) }
-    ensures seat { IsSame seat.old seat.new }
-    ensures loads { (n : ℕ) × Loads n (known seat.old) (known seat.new) }
-    ensures fresh { (known seat.new).fresh ≡ (known seat.old).fresh }
-    ensures scanned { IfOk result (HasScanned (known seat.new) (range_of range.now)) }
+    requires reader { IsReader table.now seat.old }
+    requires root { (h : ℕ) × IsAtRoot seat.old.known (NodeEntry number h) }
+    ensures reads { ReadsSome table.now G.becomes (seat.old, gate.old) (seat.new, gate.new) }
+    ensures scanned { IfOk result (HasScanned seat.new.known (range_of range.now)) }
 {
     let mut pairs = Vec::new(alloc);
     let mut frames = Vec::new(alloc);
@@ -222,14 +160,10 @@ fn enter<G: Gate>(
     number: u32,
     at_edge: bool,
 ) -> Frame
-    requires own { seat.old.seat.table_id ≡ table.now.table.shared.table_id }
-    requires possible { IsPossible table.now.layout (known seat.old) }
-    requires led { (m h : ℕ) × IsLedTo (known seat.old) m (NodeEntry number h) }
-    ensures seat { IsSame seat.old seat.new }
-    ensures possible { IsPossible table.now.layout (known seat.new) }
-    ensures loads { (n : ℕ) × Loads n (known seat.old) (known seat.new) }
-    ensures fresh { (known seat.new).fresh ≡ (known seat.old).fresh }
-    ensures entered { (m h : ℕ) → IsLedTo (known seat.old) m (NodeEntry number h) → IsEntered (known seat.new) m (range_of range.now) number h result }
+    requires reader { IsReader table.now seat.old }
+    requires led { (m h : ℕ) × IsLedTo seat.old.known m (NodeEntry number h) }
+    ensures reads { ReadsSome table.now G.becomes (seat.old, gate.old) (seat.new, gate.new) }
+    ensures entered { (m h : ℕ) → IsLedTo seat.old.known m (NodeEntry number h) → IsEntered seat.new.known m (range_of range.now) number h result }
 {
     let head = load_head(table, seat, gate, number);
     let count = head.count();
@@ -256,15 +190,10 @@ fn start_place<G: Gate>(
     number: u32,
     count: u8,
 ) -> u8
-    requires own { seat.old.seat.table_id ≡ table.now.table.shared.table_id }
-    requires possible { IsPossible table.now.layout (known seat.old) }
-    requires shape { (m h : ℕ) × (x : Page) × HasShape (known seat.old) m number h x × (count ≤ size x) × (1 ≤ count) × (count ≤ 32) }
-    ensures seat { IsSame seat.old seat.new }
-    ensures possible { IsPossible table.now.layout (known seat.new) }
-    ensures loads { (n : ℕ) (k : Known) → Loads n k (known seat.old) → (i : ℕ) × Loads i k (known seat.new) }
-    ensures fresh { (known seat.new).fresh ≡ (known seat.old).fresh }
-    ensures kept { (m h : ℕ) (x : Page) → HasShape (known seat.old) m number h x → HasShape (known seat.new) m number h x }
-    ensures start { (m h : ℕ) (x : Page) → HasShape (known seat.old) m number h x → count ≤ size x → Sure (known seat.new) (λ s. IsStart s m (range_of range.now) number result) }
+    requires reader { IsReader table.now seat.old }
+    requires shape { (m h : ℕ) × (x : Page) × HasShape seat.old.known m number h x × (count ≤ size x) × (1 ≤ count) × (count ≤ 32) }
+    ensures reads { ReadsSome table.now G.becomes (seat.old, gate.old) (seat.new, gate.new) }
+    ensures start { (m h : ℕ) (x : Page) → HasShape seat.old.known m number h x → count ≤ size x → Sure seat.new.known (λ s. IsStart s m (range_of range.now) number result) }
 {
     let mut low = 0;
     let mut high = count;
@@ -288,21 +217,16 @@ fn first_key<G: Gate>(
     number: u32,
     place: u8,
 ) -> Key
-    requires own { seat.old.seat.table_id ≡ table.now.table.shared.table_id }
-    requires possible { IsPossible table.now.layout (known seat.old) }
-    requires shape { (m h : ℕ) × (x : Page) × HasShape (known seat.old) m number h x × (place < size x) }
-    ensures seat { IsSame seat.old seat.new }
-    ensures possible { IsPossible table.now.layout (known seat.new) }
-    ensures loads { (n : ℕ) × Loads n (known seat.old) (known seat.new) }
-    ensures fresh { (known seat.new).fresh ≡ (known seat.old).fresh }
-    ensures key { (m h : ℕ) (x : Page) → HasShape (known seat.old) m number h x → place < size x → Sure (known seat.new) (λ s. Fits s m number place result) }
+    requires reader { IsReader table.now seat.old }
+    requires place { (m h : ℕ) × HasPlace seat.old.known m number h place }
+    ensures reads { ReadsSome table.now G.becomes (seat.old, gate.old) (seat.new, gate.new) }
+    ensures key { (m h : ℕ) → HasPlace seat.old.known m number h place → Sure seat.new.known (λ s. Fits s m number place result) }
 {
     let mut entry = load_entry(table, seat, gate, number, place);
     loop {
         match entry {
             Entry::Leaf(leaf) => return load_leaf(table, seat, gate, leaf).0,
             Entry::Node { number, .. } => {
-                load_head(table, seat, gate, number);
                 entry = load_entry(table, seat, gate, number, 0);
             }
         }

@@ -49,7 +49,9 @@ pub record IsLawfulScan (before after : List Change) (from upto : List ℕ) (lim
   -- without `more`, each key of the range that was there all along is listed
   pub whole : scan.more ≡ false → (key : List ℕ) → IsTrue (is_within from upto key) → IsKept before after key → Contains (keys_of scan.pairs.items) key
   -- with `more`, each such key up to the last pair's is listed
-  pub part : scan.more ≡ true → (key : List ℕ) → IsTrue (is_within from upto key) → IsKept before after key → IsUpToLast scan.pairs.items key → Contains (keys_of scan.pairs.items) key
+  pub part : scan.more ≡ true → (key : List ℕ) → IsTrue (is_within from upto key) → IsKept before after key → IsUpToLast scan.pairs.items key →
+      Contains (keys_of scan.pairs.items) key
   -- with `more`, the scan is full, and some key of the range above the last pair's was there meanwhile
   pub full : scan.more ≡ true → length scan.pairs.items ≡ limit
-  pub further : scan.more ≡ true → (key : List ℕ) × (value : ℕ) × IsTrue (is_within from upto key) × IsHeldBetween before after key value × IsPastLast scan.pairs.items key
+  pub further : scan.more ≡ true → (key : List ℕ) × (value : ℕ) × IsTrue (is_within from upto key) × IsHeldBetween before after key value ×
+      IsPastLast scan.pairs.items key

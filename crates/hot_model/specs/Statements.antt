@@ -12,13 +12,16 @@ use Rattle.hot_model.specs.Scans.{IsScanOf, IsLawfulScan}
 abbrev pub Longer : Type 0
 Longer = (front later : List Change) (q : ℕ) (notes : List Note) → LegalCalls front q notes → OthersGoOn q front later → LegalFront later → LegalCalls later q notes
 
--- Where the calls of passes of different numbers are each legal in a front, they are answered as by a finite map in one sequential history: the weave of all their notes into the front.
+-- Where the calls of passes of different numbers are each legal in a front, they are answered as by a finite map in one sequential
+-- history: the weave of all their notes into the front.
 abbrev pub Woven : Type 0
 Woven = (front : List Change) (passes : List (ℕ × List Note)) → AllLegal front passes → LegalHistory (weave front (notes_of passes))
 
 -- The same for two passes.
 abbrev pub WovenTwo : Type 0
-WovenTwo = (front : List Change) (p q : ℕ) (notes_p notes_q : List Note) → p ≢ q → LegalCalls front p notes_p → LegalCalls front q notes_q → LegalHistory (weave front (notes_p ++ notes_q))
+WovenTwo =
+    (front : List Change) (p q : ℕ) (notes_p notes_q : List Note) → p ≢ q → LegalCalls front p notes_p → LegalCalls front q notes_q →
+    LegalHistory (weave front (notes_p ++ notes_q))
 
 -- In the weave of the calls of several passes, those of each pass stand each once, in the order in which it made them.
 abbrev pub WovenInOrder : Type 0
@@ -32,7 +35,8 @@ WovenInOrderTwo =
 
 -- A scan of the map of a front is lawful where the front stays as it is.
 abbrev pub ScansAtOnce : Type 0
-ScansAtOnce = (front : List Change) (from upto : List ℕ) (limit : ℕ) (scan : Scan) → IsScanOf (map_of front) from upto limit scan → IsLawfulScan front front from upto limit scan
+ScansAtOnce =
+    (front : List Change) (from upto : List ℕ) (limit : ℕ) (scan : Scan) → IsScanOf (map_of front) from upto limit scan → IsLawfulScan front front from upto limit scan
 
 -- The weave of one pass's legal calls has each of them once, in the order in which the pass made them.
 abbrev pub InOrder : Type 0

@@ -158,7 +158,7 @@ has_found k (node n x b) = has_found k b
 has_found k (fork p a b) =
     elim (bit k p) as (λ o. Has a (if o then found k b else found k a).key ⊎ Has b (if o then found k b else found k a).key) [ true ↦ inr (has_found k b) | false ↦ inl (has_found k a) ]
 
-root_not : (p : ℕ) (u : Bool) (d : Tree) → IsTrie d → ((y : Key) → Has d y → bit y p ≡ u) → RootNot p (page d)
+pub root_not : (p : ℕ) (u : Bool) (d : Tree) → IsTrie d → ((y : Key) → Has d y → bit y p ≡ u) → RootNot p (page d)
 root_not p u (leaf n l v) i h = tt
 root_not p u (node n x b) i h = tt
 root_not p u (fork q a c) i h = λ e.

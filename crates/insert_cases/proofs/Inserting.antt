@@ -1,10 +1,10 @@
 -- What the map is after a key was added, or got another value.
-use Rattle.std.proofs.Common.{◌≡◌, ◌≢◌, inl, inr, ℕ, ◌<◌, List, [], ◌∷◌, ◌++◌, true, false, refl, ap, ap₂, sym, ◌∙◌, subst, Option, Some, None, if◌then◌else◌, set, length}
-use Rattle.std.specs.Prelude.{slice_get, option_and_then, OnErr, Result, Ok, Err}
+use Rattle.std.proofs.Common.{◌≡◌, ◌≢◌, inl, inr, ℕ, ◌<◌, List, true, false, refl, ap, sym, ◌∙◌, subst, Option, Some, None, if◌then◌else◌, set}
+use Rattle.std.specs.Prelude.{slice_get, option_and_then}
 use Rattle.std.proofs.lemmas.Bool.{false≢true}
 use Rattle.std.proofs.lemmas.Option.{slice_get_within}
 use Rattle.key_bits.specs.Key.{IsKey}
-use Rattle.key_bits.specs.Bits.{IsFirstDifference, bit_of}
+use Rattle.key_bits.specs.Bits.{bit_of}
 use Rattle.pieces.specs.Piece.{Place, places}
 use Rattle.compound_node.specs.Nodes.{NodeView, height_of, greatest_height}
 use Rattle.compound_node.specs.declared.entries.Entry.{Entry}
@@ -22,14 +22,14 @@ use Rattle.tries.proofs.Maps.{are_keys, more_inserts, exchange_inserts}
 use Rattle.tries.proofs.Tries.{has_within, trie_within}
 use Rattle.tries.proofs.Puts.{page_put}
 use Rattle.insert_cases.specs.declared.plain.LeafRecord.{LeafRecord}
-use Rattle.insert_cases.specs.Rising.{IsRaised, IsAddable, item}
+use Rattle.insert_cases.specs.Adding.{IsStanding, IsAbsentFrom}
+use Rattle.insert_cases.specs.Rising.{IsRaised, item}
 use Rattle.insert_cases.specs.Searches.{found}
 use Rattle.insert_cases.specs.Store.{PlainView, IsShown, IsSound, IsPlain, IsHeld, tree_of, map_of, read, record_of}
 use Rattle.tries.proofs.Building.{lower_from, lower_to}
 use Rattle.insert_cases.proofs.Choosing.{same_some}
-use Rattle.insert_cases.proofs.Keeping.{shown_more}
 use Rattle.insert_cases.proofs.Reading.{IsTree, plain_tree, tree_is, tree_plain}
-use Rattle.insert_cases.proofs.Storing.{set_same, set_other, push_old, push_new}
+use Rattle.insert_cases.proofs.Storing.{set_same, set_other}
 use Rattle.insert_cases.proofs.Values.{map_is, map_none, value_found, value_missed}
 
 -- a trie with this map
@@ -49,25 +49,19 @@ first_becomes v w n k x none top key at =
     becomes v w (Leaf n) (leaf n k x) k x top refl key tt at (ap (λ m. with_value m k x) (map_none v none))
 
 -- ---- one key more
-pub addable : (v : PlainView) (ns : List NodeView) (ls : List LeafRecord) (e : Entry) (k : Key) (x n p : ℕ) → IsPlain v → v.top ≡ Some e → ns ≡ v.nodes →
-    ls ≡ v.leaves ++ record { key = k; value = x } ∷ [] → n ≡ length v.leaves → IsKey k → ((t : Tree) → tree_of v ≡ Some t → IsFirstDifference k (found k t).key p) →
-    (t : Tree) × IsTree v e t × IsAddable ns ls (item n k x) p e t
-addable v ns ls e k x n p plain top nodes leaves number key differ =
-    let t = plain_tree v e top plain in
-    let r : LeafRecord = record { key = k; value = x } in (
-      t.0,
-      t.1,
-      record {
-        head = t.1.head;
-        trie = t.1.sound.trie;
-        built = t.1.sound.built;
-        shown = subst (λ z. IsShown z ls t.0) (sym nodes) (subst (λ z. IsShown v.nodes z t.0) (sym leaves)
-            (shown_more v.nodes v.nodes v.leaves (v.leaves ++ r ∷ []) t.0 (λ m u h. h) (λ m l h. push_old v.leaves (r ∷ []) m l h) t.1.shown));
-        key = key;
-        differ = differ t.0 t.1.is;
-        new = ap₂ (λ (z : List LeafRecord) (m : ℕ). slice_get z m) leaves number ∙ push_new v.leaves r;
-      },
-    )
+pub tree_standing : (v : PlainView) (e : Entry) (t : Tree) → IsTree v e t → IsStanding v.nodes v.leaves e t
+tree_standing v e t i = record { head = i.head; trie = i.sound.trie; built = i.sound.built; shown = i.shown }
+
+-- the root with the same records, whatever the vectors have room for
+pub kept_plain : (ns ms : List NodeView) (ls us : List LeafRecord) (o : Option Entry) (a b c d : ℕ) → ms ≡ ns → us ≡ ls →
+    IsPlain (record { nodes = ns; leaves = ls; top = o; node_capacity = a; leaf_capacity = b }) → IsPlain (record { nodes = ms; leaves = us; top = o; node_capacity = c; leaf_capacity = d })
+kept_plain ns ms ls us o a b c d e f i =
+    subst (λ xs. IsPlain (record { nodes = xs; leaves = us; top = o; node_capacity = c; leaf_capacity = d })) (sym e)
+    (subst (λ ys. IsPlain (record { nodes = ns; leaves = ys; top = o; node_capacity = c; leaf_capacity = d })) (sym f) i)
+
+pub same_view : (ns ms : List NodeView) (ls us : List LeafRecord) (o : Option Entry) (a b c : ℕ) → ms ≡ ns → us ≡ ls → c ≡ a →
+    ◌≡◌ {A = PlainView} (record { nodes = ms; leaves = us; top = o; node_capacity = c; leaf_capacity = b }) (record { nodes = ns; leaves = ls; top = o; node_capacity = a; leaf_capacity = b })
+same_view ns ms ls us o a b c e f g = rw (e, f, g) refl
 
 pub raised_becomes : (v w : PlainView) (ns : List NodeView) (e f : Entry) (t : Tree) (x : Item) (p h : ℕ) → IsTree v e t → w.top ≡ Some f →
     IsRaised ns w.nodes w.leaves x p t h (Place f) → Becomes v w x.key x.value
@@ -180,11 +174,8 @@ held_value v k n plain held =
     let same : t.0 ≡ held.tree = same_some (sym t.1.is ∙ held.is) in
     ap (λ m. value_at m k) (map_is v held.tree held.is) ∙ value_found k held.tree (subst IsTrie same t.1.sound.trie) held.key
 
-pub absent_value : (v : PlainView) (k : Key) (e : Entry) (p : ℕ) → IsPlain v → v.top ≡ Some e → ((t : Tree) → tree_of v ≡ Some t → IsFirstDifference k (found k t).key p) →
-    value_at (map_of v) k ≡ None
-absent_value v k e p plain top differ =
-    let t = plain_tree v e top plain in
-    ap (λ m. value_at m k) (map_is v t.0 t.1.is) ∙ value_missed k t.0 t.1.sound.trie (λ same. (differ t.0 t.1.is).differ (ap (λ l. bit_of l p) (sym same)))
+pub absent_value : (v : PlainView) (k : Key) (e : Entry) (t : Tree) → IsTree v e t → IsAbsentFrom k t → value_at (map_of v) k ≡ None
+absent_value v k e t i o = ap (λ m. value_at m k) (map_is v t i.is) ∙ value_missed k t i.sound.trie (λ same. o.differ.differ (ap (λ l. bit_of l o.position) (sym same)))
 
 -- ---- what the calls answer
 pub added_reply : (m : Map) (k : Key) (x : ℕ) → value_at m k ≡ None → (Inserted ≡ reply_of m (Insert k x)) × (New ≡ reply_of m (Upsert k x)) × (with_value m k x ≡ map_after m (Insert k x))
@@ -200,7 +191,3 @@ held_reply m k x y e = (
   sym (ap (λ o. (step_where o m (Upsert k x)).1) e),
   sym (ap (λ o. (step_where o m (Insert k x)).0) e),
 )
-
-pub on_err : {A E P : Type 0} (r : Result A E) → P → OnErr r P
-on_err (Ok x) p = tt
-on_err (Err x) p = p

@@ -18,3 +18,4 @@ pub mod Cutting
 pub mod Starting
 pub mod Climbing
 pub mod Inserting
+pub mod Adding

@@ -75,7 +75,7 @@ leaf_of_page ns ls k n (leaf m l v) e s = let f : m ≡ n = cc in subst (λ z. s
 leaf_of_page ns ls k n (node m x d) e s = absurd cc
 leaf_of_page ns ls k n (fork p x y) e s = absurd cc
 
-leaf_number : (k : Key) (n : ℕ) (u : Tree) → page u ≡ Place (Leaf n) → (found k u).number ≡ n
+pub leaf_number : (k : Key) (n : ℕ) (u : Tree) → page u ≡ Place (Leaf n) → (found k u).number ≡ n
 leaf_number k n (leaf m l v) e = cc
 leaf_number k n (node m x d) e = absurd cc
 leaf_number k n (fork p x y) e = absurd cc

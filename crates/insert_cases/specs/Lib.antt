@@ -9,3 +9,4 @@ pub mod Heights
 pub mod Gathered
 pub mod Risen
 pub mod Rising
+pub mod Adding

@@ -13,3 +13,4 @@ pub use choice::{Case, Choice, Step, chain_end, choose, level_below};
 pub use growth::{Grown, Place, grow, pull_up};
 pub use overflow::place;
 pub use plain::{LeafRecord, PlainTrie};
+pub use raising::Risen;

@@ -1,24 +1,22 @@
 //! A sequential trie, with its records in vectors.
 
-ghost use Rattle.std.specs.Prelude.{◌≡◌, ◌⊎◌, ◌<◌, ◌≤◌, ◌+◌, ◌^◌, Some, None, [], IfOk, OnOk, OnErr, MatchOption, slice_get};
-ghost use Rattle.std.specs.Vec.{vec_len, vec_capacity};
+ghost use Rattle.std.specs.Prelude.{◌≡◌, ◌<◌, ◌+◌, Some, None, [], IfOk, OnOk, OnErr, MatchOption, slice_get};
+ghost use Rattle.std.specs.Vec.{vec_capacity};
 ghost use Rattle.compound_node.specs.Nodes.{piece};
 ghost use Rattle.hot_model.specs.Maps.{value_at, with_value, map_after, reply_of, AddsKey};
 ghost use Rattle.hot_model.specs.declared.Call.TheVariants.{Insert, Upsert};
-ghost use Rattle.key_bits.specs.Bits.{IsFirstDifference};
 ghost use Rattle.tries.specs.Search.{seek};
 
+mod adding;
 mod scan;
 
 use crate::rising::{raised, rooted};
+use adding::{Addition, added, make_room};
 use compound_node::{Entry, Node};
 use hot_model::Reply;
-use key_bits::{Key, mismatch};
+use key_bits::Key;
 use std::alloc::{AllocError, Global};
 use std::marker::Model;
-
-/// A vector has at most this many records, so that a number of 32 bits names each.
-const MAX_RECORDS: usize = 4_294_967_296;
 
 /// A leaf's record: a key with its value.
 #[derive(Drop)]
@@ -157,7 +155,9 @@ impl PlainTrie {
         }
     }
 
-    /// Adds a key with its value where it is absent, and answers its leaf where it is not.
+    /// Adds a key with its value where it is absent, and answers its leaf where it is not. At the end of the search room is
+    /// made for the leaf and for the most nodes that can come: one for each height, and a new root. So a refusal changes
+    /// nothing.
     fn add_absent(&mut self, key: &Key, value: u64) -> Result<Option<usize>, AllocError>
         ensures ok { IfOk result (λ held. MatchOption held
             ((value_at (map_of self.old) key.now ≡ None) × (map_of self.new ≡ with_value (map_of self.old) key.now value))
@@ -168,20 +168,22 @@ impl PlainTrie {
         ensures room { KeepsRoom self.old self.new }
         ensures heights { KeepsHeights self.old.nodes self.new.nodes }
     {
-        match self.top {
-            None => {
-                self.plant(key, value)?;
+        let Some(top) = self.top else {
+            self.plant(key, value)?;
+            return Ok(None);
+        };
+        let count = usize::from(top.height()) + 1;
+        match added(&mut self.nodes, &mut self.leaves, top, key, value, count) {
+            Addition::Held(leaf) => Ok(Some(leaf as usize)),
+            Addition::Refused => Err(AllocError),
+            Addition::Above { position, leaf } => {
+                let risen = raised(&mut self.nodes, top, key, position, leaf);
+                self.top = Some(rooted(&mut self.nodes, risen));
                 Ok(None)
             }
-            Some(top) => {
-                let leaf = self.find(key, top);
-                match mismatch(key, &self.leaves[leaf].key) {
-                    None => Ok(Some(leaf)),
-                    Some(position) => {
-                        self.add(key, value, top, position)?;
-                        Ok(None)
-                    }
-                }
+            Addition::Below(risen) => {
+                self.top = Some(rooted(&mut self.nodes, risen));
+                Ok(None)
             }
         }
     }
@@ -201,29 +203,6 @@ impl PlainTrie {
             value,
         });
         self.top = Some(Entry::Leaf(number));
-        Ok(())
-    }
-
-    /// Adds a key that differs first at a position from that of the leaf where its search ends. Room is made first, for
-    /// the leaf and for the most nodes that can come: one for each height, and a new root. So a refusal changes nothing.
-    fn add(&mut self, key: &Key, value: u64, top: Entry, position: u16) -> Result<(), AllocError>
-        requires top { self.old.top ≡ Some top }
-        requires position { position < 65535 }
-        requires differ { (t : Tree) → tree_of self.old ≡ Some t → IsFirstDifference key.now (found key.now t).key position }
-        ensures map { OnOk result (map_of self.new ≡ with_value (map_of self.old) key.now value) }
-        ensures refused { OnErr result (LacksRoom self.old) }
-        ensures err { OnErr result (IsUnchanged self.old self.new) }
-        ensures room { KeepsRoom self.old self.new }
-        ensures heights { KeepsHeights self.old.nodes self.new.nodes }
-    {
-        let count = usize::from(top.height()) + 1;
-        let number = make_room(&mut self.nodes, &mut self.leaves, count)?;
-        self.leaves.push_reserved(LeafRecord {
-            key: key.copy(),
-            value,
-        });
-        let risen = raised(&mut self.nodes, top, key, position, number);
-        self.top = Some(rooted(&mut self.nodes, risen));
         Ok(())
     }
 
@@ -256,34 +235,6 @@ impl PlainTrie {
             }
         }
     }
-}
-
-/// Makes room for one leaf more, whose number is the answer, and for so many nodes.
-fn make_room(
-    nodes: &mut Vec<Node>,
-    leaves: &mut Vec<LeafRecord>,
-    count: usize,
-) -> Result<u32, AllocError>
-    requires { count ≤ 65536 }
-    ensures number { IfOk result (λ number. number ≡ vec_len leaves.old) }
-    ensures nodes { OnOk result (vec_len nodes.new + count ≤ vec_capacity nodes.new) }
-    ensures small { OnOk result (vec_len nodes.new + count ≤ 2 ^ 32) }
-    ensures leaves { OnOk result (vec_len leaves.new < vec_capacity leaves.new) }
-    ensures refused { OnErr result ((2 ^ 32 ≤ vec_len leaves.old) ⊎ (2 ^ 32 < vec_len nodes.old + count) ⊎ (vec_capacity leaves.old ≤ vec_len leaves.old) ⊎
-        (vec_capacity nodes.old < vec_len nodes.old + count)) }
-    ensures same_nodes { nodes.new.items ≡ nodes.old.items }
-    ensures same_leaves { leaves.new.items ≡ leaves.old.items }
-    ensures node_room { vec_capacity nodes.old ≤ vec_capacity nodes.new }
-    ensures leaf_room { vec_capacity leaves.old ≤ vec_capacity leaves.new }
-    ensures err { OnErr result (vec_capacity nodes.new ≡ vec_capacity nodes.old) }
-{
-    let number = leaves.len();
-    if number >= MAX_RECORDS || nodes.len() > MAX_RECORDS - count {
-        return Err(AllocError);
-    }
-    leaves.reserve(1)?;
-    nodes.reserve(count)?;
-    Ok(number as u32)
 }
 
 /// The entry to which the key's search leads.

@@ -112,7 +112,14 @@ fn grown_at(
 
 /// What takes a node's place when the child at `at`, which had the height `low`, gave way. A fork goes into the node
 /// where the node is one higher than the child, and into a new child otherwise.
-fn lifted(nodes: &mut Vec<Node>, number: u32, height: u16, at: u8, low: u16, risen: Risen) -> Risen
+pub fn lifted(
+    nodes: &mut Vec<Node>,
+    number: u32,
+    height: u16,
+    at: u8,
+    low: u16,
+    risen: Risen,
+) -> Risen
     requires place { (ns : List NodeView) × (leaves : List LeafRecord) × (x : Item) × (p : ℕ) × (y : Fixed) × (b : Tree) ×
         IsLifting ns nodes.old.items leaves x p number height at low y b (page_of risen) }
     requires room { vec_len nodes.old < vec_capacity nodes.old }

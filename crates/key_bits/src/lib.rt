@@ -28,8 +28,9 @@ pub enum KeyFault {
 /// Keys are ordered by bytes, a prefix first. Contracts see a key as the list of its bytes.
 #[derive(Debug, Drop)]
 pub struct Key {
+    // The count stands first: in a `Result` a fault then shares no byte with the key's own, so that these move in one piece.
+    count: usize,
     bytes: [u8; MAX_BYTES],
-    count: u8,
 }
 
 impl Model for Key {
@@ -42,11 +43,11 @@ impl Model for Key {
 
     ghost invariant = { λ k. HoldsKey k.bytes k.count };
 
-    ghost inverse = { λ bytes. record { bytes = with_zeros bytes; count = length bytes } };
+    ghost inverse = { λ bytes. record { count = length bytes; bytes = with_zeros bytes } };
 
     ghost use Rattle.std.proofs.Common.{sym};
 
-    ghost inverse_ok = { λ k h i. record { bytes = sym h.zeros i; count = h.counted i } };
+    ghost inverse_ok = { λ k h i. record { count = h.counted i; bytes = sym h.zeros i } };
 }
 
 impl Key {
@@ -61,17 +62,17 @@ impl Key {
             return Err(KeyFault::TooLong);
         }
         Ok(Key {
+            count: bytes.len(),
             bytes: padded(bytes),
-            count: bytes.len() as u8,
         })
     }
 
     /// The key of the first `count` of these bytes; all others are 0.
-    pub fn of_places(bytes: [u8; MAX_BYTES], count: u8) -> Key
+    pub fn of_places(bytes: [u8; MAX_BYTES], count: usize) -> Key
         requires { HoldsKey bytes count }
         ensures { result ≡ take count bytes }
     {
-        Key { bytes, count }
+        Key { count, bytes }
     }
 
     /// The key's bytes.
@@ -79,7 +80,7 @@ impl Key {
         ensures bytes { result.now ≡ self.now }
         ensures key { IsKey self.now }
     {
-        &self.bytes[..self.count as usize]
+        &self.bytes[..self.count]
     }
 
     /// A second key of the same bytes.
@@ -88,8 +89,8 @@ impl Key {
         ensures key { IsKey self.now }
     {
         Key {
-            bytes: self.bytes,
             count: self.count,
+            bytes: self.bytes,
         }
     }
 

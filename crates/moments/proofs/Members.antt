@@ -1,6 +1,6 @@
 -- What is among the elements of a list.
-use Rattle.std.proofs.Common.{◌≡◌, ◌≢◌, ◌⊎◌, inl, inr, ℕ, suc, ◌<◌, List, [], ◌∷◌, ◌++◌, length, get_or, map, filter, Bool, true, false, refl, sym, ap, subst, ◌∙◌, arith}
-use Rattle.std.specs.Prelude.{All, Contains, not}
+use Rattle.std.proofs.Common.{◌≡◌, ◌⊎◌, inl, inr, List, [], ◌∷◌, ◌++◌, map, filter, Bool, true, false, refl, sym, ap, subst, ◌∙◌}
+use Rattle.std.specs.Prelude.{All}
 use Rattle.std.proofs.lemmas.Bool.{cases_Bool, false≢true}
 use Rattle.std.proofs.lemmas.List.Elements.{All-head, All-tail}
 use Rattle.moments.specs.Trades.{IsOf}
@@ -56,9 +56,3 @@ all_of P x (z ∷ xs) a (inr h) = all_of P x xs (All-tail P z xs a) h
 pub none_of : {X : Type 0} (xs : List X) → ((x : X) → IsOf x xs → ⊥) → xs ≡ []
 none_of [] h = refl
 none_of (x ∷ xs) h = absurd (h x (inl refl))
-
--- what is among the elements is contained
-pub contains_of : {X : Type 0} (x : X) (xs : List X) → IsOf x xs → Contains xs x
-contains_of x [] h = absurd h
-contains_of x (z ∷ xs) (inl e) = (0, omega arith, sym e)
-contains_of x (z ∷ xs) (inr h) = let (n, low, is) = contains_of x xs h in (suc n, omega arith, is)

@@ -102,10 +102,10 @@ pub entry_read : (entries : List Entry) (words : List ℕ) (i : ℕ) (read : Opt
 entry_read entries words i read has same inside spelled =
     spelled.only (slice_get entries i) (has.each i) (sym (entry_words_at entries words same i (omega (arith, has.room)))) ∙ slice_get-get_or entries i (Leaf 0) inside
 
-pub is_some : (read : Option Entry) (entry : Entry) → read ≡ Some entry → IsSome read
-is_some read entry same = rw same refl
+pub some_read : (read : Option Entry) (entry : Entry) → read ≡ Some entry → IsSome read
+some_read read entry same = rw same refl
 
--- and joins those before
+-- and it joins those before
 pub one_more_read : (entries before after : List Entry) (i : ℕ) (entry : Entry) (read : Option Entry) → read ≡ Some (get_or entries i (Leaf 0)) → read ≡ Some entry → i < length entries → before ≡ take i entries → after ≡ before ++ entry ∷ [] → after ≡ take (i + 1) entries
 one_more_read entries before after i entry read is unwrapped inside so_far pushed =
     let this : entry ≡ get_or entries i (Leaf 0) = same_Some entry (get_or entries i (Leaf 0)) (sym unwrapped ∙ is) in

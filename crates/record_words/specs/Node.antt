@@ -16,8 +16,8 @@ abbrev pub HasHeadWords : HeadView → Type 0
 HasHeadWords head = (node : NodeView) × IsLawful node × (head_of node ≡ head)
 
 -- each node whose head has these words is so
-abbrev pub Tells : List ℕ → (NodeView → Type 0) → Type 0
-Tells words IsSo = (node : NodeView) → IsLawful node → head_words (head_of node) ≡ words → IsSo node
+abbrev pub InNodesOf : List ℕ → (NodeView → Type 0) → Type 0
+InNodesOf words IsSo = (node : NodeView) → IsLawful node → head_words (head_of node) ≡ words → IsSo node
 
 -- the words from offset FIRST_ENTRY on, one for each of MAX_ENTRIES places, with 0 past the last entry
 unfoldable pub entry_words : List Entry → List ℕ

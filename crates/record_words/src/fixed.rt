@@ -2,7 +2,7 @@
 
 ghost use Rattle.std.specs.Prelude.{◌≡◌, ℕ, ◌+◌, ◌*◌, ◌<◌, ◌≤◌, ◌↔◌, IsTrue, EachIndex, length, slice_index, slice_index_or};
 ghost use Rattle.record_words.specs.Packed.{ArePositionsOf, AreRowsOf, fixed_word, fixed_words, position_at, position_word, row_at, row_word};
-ghost use Rattle.record_words.specs.Node.{Tells};
+ghost use Rattle.record_words.specs.Node.{InNodesOf};
 ghost use Rattle.partial_keys.specs.Columns.{with_free};
 ghost use Rattle.partial_keys.specs.Rows.{with_unused};
 
@@ -50,7 +50,7 @@ impl Fixed {
 /// The positions that a head's words have, as far as there are places for them.
 pub(crate) fn read_places(words: &[u64]) -> [u16; 31]
     requires { length words.now ≡ HEAD_WORDS }
-    ensures { Tells words.now (λ node. result ≡ with_free node.columns) }
+    ensures { InNodesOf words.now (λ node. result ≡ with_free node.columns) }
 {
     let mut places = [0; 31];
     for i in 0..31 {
@@ -62,7 +62,7 @@ pub(crate) fn read_places(words: &[u64]) -> [u16; 31]
 /// The sparse partial keys that a head's words have.
 pub(crate) fn read_rows(words: &[u64]) -> [u32; MAX_ENTRIES]
     requires { length words.now ≡ HEAD_WORDS }
-    ensures { Tells words.now (λ node. result ≡ with_unused node.rows) }
+    ensures { InNodesOf words.now (λ node. result ≡ with_unused node.rows) }
 {
     let mut rows = [0; MAX_ENTRIES];
     for i in 0..MAX_ENTRIES {

@@ -45,7 +45,7 @@ fn key_of_bytes(words: &[u64; LEAF_FIELDS], bytes: &[u8; MAX_BYTES]) -> Key
     requires words { IsSpelling HasLeafWords leaf_words words.now }
     ensures { (leaf : List ℕ × ℕ) → HasLeafWords leaf → leaf_words leaf ≡ words.now → result ≡ leaf.0 }
 {
-    Key::of_places(*bytes, words[1] as u8)
+    Key::of_places(*bytes, words[1] as usize)
 }
 
 /// Unpacks a leaf whose words of key bytes are those of `bytes`.

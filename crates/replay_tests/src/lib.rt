@@ -2,6 +2,8 @@
 #![tactic(auto)]
 
 #[cfg(test)]
+mod cases;
+#[cfg(test)]
 mod changes;
 #[cfg(test)]
 mod layouts;

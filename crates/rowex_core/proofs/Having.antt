@@ -157,10 +157,11 @@ publish_leaves c k spot w law known new gone held kept trade own locks keeps = (
 
 -- Marks and unlocks take one away
 
-other : (s r : Rec) → (s ≡ r → ⊥) → not (same_rec s r) ≡ true
-other s r ne = go (same_rec s r) refl
+-- another record than this one
+pub other_rec : (s r : Rec) → (s ≡ r → ⊥) → same_rec s r ≡ false
+other_rec s r ne = go (same_rec s r) refl
   where
-    go : (b : Bool) → same_rec s r ≡ b → not b ≡ true
+    go : (b : Bool) → same_rec s r ≡ b → b ≡ false
     go true e = absurd (ne (same_rec_true s r e))
     go false e = refl
 
@@ -176,7 +177,7 @@ mark_owns P own r rs has apart = record { only = only; each = each }
     each : (s : Rec) → IsOf s rs → (o : Owned) × IsOf o (without_record r own) × (o.rec ≡ s)
     each s h =
         let (o, i, e) = has.each s (inr h) in
-        (o, filter_of (λ (o : Owned). not (same_rec o.rec r)) o own i (other o.rec r (λ z. apart.0 (subst (λ y. IsOf y rs) (sym e ∙ z) h))), e)
+        (o, filter_of (λ (o : Owned). not (same_rec o.rec r)) o own i (ap not (other_rec o.rec r (λ z. apart.0 (subst (λ y. IsOf y rs) (sym e ∙ z) h)))), e)
 
 other_node : (n m : ℕ) → (n ≡ m → ⊥) → not (nat_eq n m) ≡ true
 other_node n m ne = go (nat_eq n m) refl

@@ -1,5 +1,6 @@
 -- The state of the shared words and of all moments so far.
 use Rattle.std.specs.Prelude.{◌≡◌, ◌⊎◌, ℕ, ◌<◌, ◌≤◌, ◌^◌, List, length, All, Option, Some}
+use Rattle.record_words.specs.declared.TheConstants.{EPOCHS, NODE_FIELDS, LEAF_FIELDS}
 use Rattle.record_words.specs.declared.layout.Layout.{Layout}
 use Rattle.moments.specs.declared.Rec.{Rec}
 use Rattle.moments.specs.declared.Rec.TheVariants.{Node as a_node, Leaf as a_leaf}
@@ -12,7 +13,7 @@ use Rattle.record_words.specs.Entry.{HasEntryWord}
 use Rattle.moments.specs.Core.{Core as Moments, Shared, Fate, Free, Held, Unlinked, Marked, view as moments_of}
 use Rattle.rowex_core.specs.Reading.{node_of, leaf_of, IsPacked}
 
--- The words of each record but its state, and all else that passes share. A node record has 57 such words and a leaf record 32.
+-- The words of each record but its state, and all else that passes share.
 pub record Core : Type 0 where
   pub layout : Layout
   pub words : Rec → List ℕ
@@ -37,8 +38,8 @@ view c = moments_of (bare c)
 
 -- a record has this many words, each of 64 bits
 abbrev pub word_count_of : Rec → ℕ
-word_count_of (a_node n) = 57
-word_count_of (a_leaf n) = 32
+word_count_of (a_node n) = NODE_FIELDS
+word_count_of (a_leaf n) = LEAF_FIELDS
 
 abbrev pub IsSized : Rec → List ℕ → Type 0
 IsSized r words = (length words ≡ word_count_of r) × All (λ w. w < 2 ^ 64) words
@@ -59,12 +60,12 @@ pub record AreRecords (layout : Layout) (words : Rec → List ℕ) (fate : Rec �
   -- only those of the table are used
   pub used : (r : Rec) → (fate r ≡ Free) ⊎ HasRecord layout r
 
--- What holds of the epochs: they go from 1 to 2^60 - 1, and so do pins and marks; only passes of the index are pinned.
+-- What holds of the epochs: they are from 1 on and below EPOCHS, and so are pins and marks; only passes of the index are pinned.
 pub record AreEpochs (layout : Layout) (epoch : ℕ) (pins : ℕ → Option Pin) (rounds : ℕ → Round) (fate : Rec → Fate) : Type 0 where
-  pub now : (1 ≤ epoch) × (epoch < 2 ^ 60)
+  pub now : (1 ≤ epoch) × (epoch < EPOCHS)
   pub loads : (q : ℕ) → ((rounds q).moment ≡ 0) ⊎ (1 ≤ (rounds q).epoch)
   pub pinned : (q : ℕ) (p : Pin) → pins q ≡ Some p → (q < layout.passes) × (1 ≤ p.word)
-  pub marked : (r : Rec) (since last epoch : ℕ) → fate r ≡ Marked since last epoch → (1 ≤ epoch) × (epoch < 2 ^ 60)
+  pub marked : (r : Rec) (since last epoch : ℕ) → fate r ≡ Marked since last epoch → (1 ≤ epoch) × (epoch < EPOCHS)
 
 -- The whole core is lawful.
 pub record IsLawful (c : Core) : Type 0 where

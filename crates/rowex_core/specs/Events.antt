@@ -6,8 +6,10 @@ use Rattle.compound_node.specs.declared.entries.Entry.{Entry}
 use Rattle.hot_model.specs.declared.Change.{Change}
 use Rattle.hot_model.specs.declared.Kind.TheVariants.{Removed}
 use Rattle.hot_model.specs.Maps.{key_order}
+use Rattle.record_words.specs.declared.TheConstants.{EPOCHS, FIRST_ENTRY, MAX_ENTRIES, NODE_WORDS, LEAF_WORDS}
 use Rattle.record_words.specs.Entry.{HasEntryWord, entry_word}
 use Rattle.record_words.specs.State.{state_word}
+use Rattle.record_words.specs.declared.state.Tag.TheVariants.{Free as FreeTag, Held as HeldTag, Live, Locked, Obsolete}
 use Rattle.record_words.specs.declared.layout.Location.{Location}
 use Rattle.record_words.specs.declared.layout.Location.TheVariants.{Epoch, Root as RootWord, Anchor as AnchorWord, Pin as PinOf, NodeWord, LeafWord}
 use Rattle.tries.specs.Tree.{Tree}
@@ -40,7 +42,7 @@ with_word words r offset w i = if same_rec i r then set (words r) (offset - 1) w
 
 abbrev pub stored_words : Core → Spot → ℕ → Rec → List ℕ
 stored_words c Root w = c.words
-stored_words c (Slot n j) w = with_word c.words (a_node n) (26 + j) w
+stored_words c (Slot n j) w = with_word c.words (a_node n) (FIRST_ENTRY + j) w
 
 abbrev pub stored_root : Core → Spot → ℕ → Option Entry
 stored_root c Root w = entry_of w
@@ -79,13 +81,13 @@ next_change c q spot w = change_between q (items_of (c.past.moment c.past.now)) 
 
 -- the offsets of a record's words but the state
 abbrev pub IsOffset : Rec → ℕ → Type 0
-IsOffset (a_node n) offset = (1 ≤ offset) × (offset < 58)
-IsOffset (a_leaf n) offset = (1 ≤ offset) × (offset < 33)
+IsOffset (a_node n) offset = (1 ≤ offset) × (offset < NODE_WORDS)
+IsOffset (a_leaf n) offset = (1 ≤ offset) × (offset < LEAF_WORDS)
 
 -- and but the entries
 abbrev pub IsFixedOffset : Rec → ℕ → Type 0
-IsFixedOffset (a_node n) offset = (1 ≤ offset) × (offset < 26)
-IsFixedOffset (a_leaf n) offset = (1 ≤ offset) × (offset < 33)
+IsFixedOffset (a_node n) offset = (1 ≤ offset) × (offset < FIRST_ENTRY)
+IsFixedOffset (a_leaf n) offset = (1 ≤ offset) × (offset < LEAF_WORDS)
 
 abbrev pub IsInTree : Core → ℕ → Type 0
 IsInTree c n = (since : ℕ) × (c.fate (a_node n) ≡ InTree since)
@@ -93,7 +95,7 @@ IsInTree c n = (since : ℕ) × (c.fate (a_node n) ≡ InTree since)
 -- pass q has locked the word of the spot
 abbrev pub IsLockedAt : Core → ℕ → Spot → Type 0
 IsLockedAt c q Root = c.anchor ≡ Some q
-IsLockedAt c q (Slot n j) = (n < c.layout.nodes) × (j < 32) × (c.lock n ≡ Some q)
+IsLockedAt c q (Slot n j) = (n < c.layout.nodes) × (j < MAX_ENTRIES) × (c.lock n ≡ Some q)
 
 -- the node that is stored to has words that spell a value then too
 abbrev pub IsPackedAt : Core → Spot → ℕ → Type 0
@@ -115,17 +117,17 @@ LegalAct c q (Fill r offset w) = HasRecord c.layout r × (c.fate r ≡ Held q) �
 LegalAct c q (Ready r) = HasRecord c.layout r × (c.fate r ≡ Held q) × IsPacked r (c.words r)
 LegalAct c q (Release r) = HasRecord c.layout r × (c.fate r ≡ Held q)
 LegalAct c q (LoadRef Root w) = w ≡ entry_word c.root
-LegalAct c q (LoadRef (Slot n j) w) = (n < c.layout.nodes) × (j < 32) × (w ≡ record_word c (a_node n) (26 + j))
+LegalAct c q (LoadRef (Slot n j) w) = (n < c.layout.nodes) × (j < MAX_ENTRIES) × (w ≡ record_word c (a_node n) (FIRST_ENTRY + j))
 LegalAct c q (LoadFixed r offset w) = HasRecord c.layout r × IsFixedOffset r offset × (w ≡ record_word c r offset)
 LegalAct c q (Lock Anchor found) = found ≡ state_word (lock_tag c.anchor)
-LegalAct c q (Lock (NodeTarget n) found) = (n < c.layout.nodes) × (found ≡ state_at c (a_node n)) × (found ≡ 2 → IsInTree c n)
+LegalAct c q (Lock (NodeTarget n) found) = (n < c.layout.nodes) × (found ≡ state_at c (a_node n)) × (found ≡ state_word Live → IsInTree c n)
 LegalAct c q (Unlock Anchor) = c.anchor ≡ Some q
 LegalAct c q (Unlock (NodeTarget n)) = (n < c.layout.nodes) × (c.lock n ≡ Some q) × IsInTree c n
 LegalAct c q (Publish spot w) = IsLegalPublish c q spot w
 LegalAct c q (Mark r epoch) =
     HasRecord c.layout r × (epoch ≡ (c.rounds q).epoch) × ((since : ℕ) × (last : ℕ) × (c.fate r ≡ Unlinked since last q) × (last < (c.rounds q).moment))
 LegalAct c q (LoadEpoch w) = w ≡ c.epoch
-LegalAct c q (Advance expected found) = (1 ≤ expected) × (expected + 1 < 2 ^ 60) × (found ≡ c.epoch)
+LegalAct c q (Advance expected found) = (1 ≤ expected) × (expected + 1 < EPOCHS) × (found ≡ c.epoch)
 LegalAct c q (SetPin w) = (c.pins q ≡ None) × (w ≡ (c.rounds q).epoch) × (1 ≤ w)
 LegalAct c q ClearPin = IsSome (c.pins q)
 LegalAct c q (LoadPin o w) = (o < c.layout.passes) × (w ≡ pin_word (c.pins o))
@@ -162,7 +164,7 @@ anchored s q (Some p) = s
 
 -- the node locked, if its state was live
 abbrev pub locked_where : Shared → ℕ → ℕ → ℕ → Shared
-locked_where s n q found = if nat_eq found 2 then with_lock s n (Some q) else s
+locked_where s n q found = if nat_eq found (state_word Live) then with_lock s n (Some q) else s
 
 -- the next epoch, if this was the expected one
 abbrev pub advanced : Shared → ℕ → Shared
@@ -205,32 +207,36 @@ abbrev pub word_of : Rec → ℕ → Location
 word_of (a_node n) offset = NodeWord n offset
 word_of (a_leaf n) offset = LeafWord n offset
 
+-- the word of its state
+abbrev pub state_of : Rec → Location
+state_of r = word_of r 0
+
 abbrev pub spot_word : Spot → Location
 spot_word Root = RootWord
-spot_word (Slot n j) = NodeWord n (26 + j)
+spot_word (Slot n j) = NodeWord n (FIRST_ENTRY + j)
 
 abbrev pub target_word : Target → Location
 target_word Anchor = AnchorWord
-target_word (NodeTarget n) = NodeWord n 0
+target_word (NodeTarget n) = state_of (a_node n)
 
 abbrev pub location_of : ℕ → Act → Location
-location_of q (Claim r found) = word_of r 0
+location_of q (Claim r found) = state_of r
 location_of q (Fill r offset w) = word_of r offset
-location_of q (Ready r) = word_of r 0
-location_of q (Release r) = word_of r 0
+location_of q (Ready r) = state_of r
+location_of q (Release r) = state_of r
 location_of q (LoadRef spot w) = spot_word spot
 location_of q (LoadFixed r offset w) = word_of r offset
 location_of q (Lock target found) = target_word target
 location_of q (Unlock target) = target_word target
 location_of q (Publish spot w) = spot_word spot
-location_of q (Mark r epoch) = word_of r 0
+location_of q (Mark r epoch) = state_of r
 location_of q (LoadEpoch w) = Epoch
 location_of q (Advance expected found) = Epoch
 location_of q (SetPin w) = PinOf q
 location_of q ClearPin = PinOf q
 location_of q (LoadPin o w) = PinOf o
-location_of q (LoadState r w) = word_of r 0
-location_of q (GiveBack r epoch found) = word_of r 0
+location_of q (LoadState r w) = state_of r
+location_of q (GiveBack r epoch found) = state_of r
 
 -- what a compare-exchange leaves
 abbrev pub exchanged : ℕ → ℕ → ℕ → ℕ
@@ -238,20 +244,20 @@ exchanged w old new = if nat_eq w old then new else w
 
 -- what a step leaves in its word, where w stood
 abbrev pub writes : Act → ℕ → ℕ
-writes (Claim r found) w = exchanged w 0 1
+writes (Claim r found) w = exchanged w (state_word FreeTag) (state_word HeldTag)
 writes (Fill r offset word) w = word
-writes (Ready r) w = 2
-writes (Release r) w = 0
+writes (Ready r) w = state_word Live
+writes (Release r) w = state_word FreeTag
 writes (LoadRef spot word) w = w
 writes (LoadFixed r offset word) w = w
-writes (Lock target found) w = exchanged w 2 3
-writes (Unlock target) w = 2
+writes (Lock target found) w = exchanged w (state_word Live) (state_word Locked)
+writes (Unlock target) w = state_word Live
 writes (Publish spot word) w = word
-writes (Mark r epoch) w = 8 * epoch + 4
+writes (Mark r epoch) w = state_word (Obsolete epoch)
 writes (LoadEpoch word) w = w
 writes (Advance expected found) w = exchanged w expected (expected + 1)
 writes (SetPin word) w = word
-writes ClearPin w = 0
+writes ClearPin w = pin_word None
 writes (LoadPin o word) w = w
 writes (LoadState r word) w = w
-writes (GiveBack r epoch found) w = exchanged w (8 * epoch + 4) 0
+writes (GiveBack r epoch found) w = exchanged w (state_word (Obsolete epoch)) (state_word FreeTag)

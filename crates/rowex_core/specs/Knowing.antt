@@ -4,8 +4,11 @@ use Rattle.compound_node.specs.declared.entries.Entry.{Entry}
 use Rattle.hot_model.specs.declared.Change.{Change}
 use Rattle.hot_model.specs.declared.Note.{Note}
 use Rattle.hot_model.specs.Fronts.{BeginsWith, OthersGoOn}
+use Rattle.record_words.specs.declared.TheConstants.{FIRST_ENTRY}
 use Rattle.record_words.specs.declared.layout.Location.{Location}
 use Rattle.record_words.specs.declared.layout.Layout.{Layout}
+use Rattle.record_words.specs.declared.state.Tag.TheVariants.{Live}
+use Rattle.record_words.specs.State.{state_word}
 use Rattle.tries.specs.Tree.{Tree, node, leaf, fork}
 use Rattle.moments.specs.declared.Rec.{Rec}
 use Rattle.moments.specs.declared.Rec.TheVariants.{Node as a_node, Leaf as a_leaf}
@@ -32,7 +35,7 @@ use Rattle.rowex_core.specs.Cores.{Core, IsLawful}
 use Rattle.rowex_core.specs.Reading.{entry_of, root_of, entry_in, word_in}
 use Rattle.rowex_core.specs.Sharing.{share, known_share, nothing}
 use Rattle.rowex_core.specs.Words.{record_word}
-use Rattle.rowex_core.specs.Events.{Legal, stored_words, stored_root, next_change, next_tree, word_of, target_word}
+use Rattle.rowex_core.specs.Events.{Legal, stored_words, stored_root, next_change, next_tree, state_of, target_word}
 
 -- Facts of past moments
 
@@ -124,7 +127,7 @@ without_lock n locks = filter (λ l. not (nat_eq l.node n)) locks
 
 abbrev pub claim_learned : Core → Rec → ℕ → Fate → Known → Known
 claim_learned c r found Free k = record k { own = record { rec = r; holding = Held; words = c.words r } ∷ k.own }
-claim_learned c r found _ k = failed_with k (word_of r 0) found
+claim_learned c r found _ k = failed_with k (state_of r) found
 
 abbrev pub anchor_learned : Core → ℕ → Option ℕ → Known → Known
 anchor_learned c found None k = record k { anchor = Some c.root }
@@ -132,7 +135,7 @@ anchor_learned c found (Some q) k = failed_with k (target_word Anchor) found
 
 abbrev pub node_learned : Core → ℕ → ℕ → Known → Known
 node_learned c n found k =
-    if nat_eq found 2 then record k { locks = record { node = n; words = c.words (a_node n) } ∷ k.locks }
+    if nat_eq found (state_word Live) then record k { locks = record { node = n; words = c.words (a_node n) } ∷ k.locks }
     else failed_with k (target_word (NodeTarget n)) found
 
 abbrev pub entry_learned : Core → Spot → Known → Known
@@ -143,7 +146,7 @@ entry_learned c Root k = record k {
 }
 entry_learned c (Slot n j) k = record k {
   front = c.changes;
-  facts = facts_with k.pin (λ since. Placed since c.past.now n j (entry_of (record_word c (a_node n) (26 + j)))) k.facts;
+  facts = facts_with k.pin (λ since. Placed since c.past.now n j (entry_of (record_word c (a_node n) (FIRST_ENTRY + j)))) k.facts;
 }
 
 -- the records of a tree

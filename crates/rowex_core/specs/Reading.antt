@@ -8,7 +8,10 @@ use Rattle.compound_node.specs.declared.entries.Entry.TheVariants.{Leaf, Node}
 use Rattle.compound_node.specs.Nodes.{NodeView}
 use Rattle.partial_keys.specs.Shown.{piece_of}
 use Rattle.pieces.specs.Piece.{size}
+use Rattle.key_bits.specs.declared.TheConstants.{MAX_BYTES}
+use Rattle.record_words.specs.declared.TheConstants.{HEAD_WORDS, MAX_ENTRIES}
 use Rattle.record_words.specs.Packed.{fixed_words}
+use Rattle.record_words.specs.Entry.{entry_word}
 use Rattle.record_words.specs.Node.{HasNodeWords, node_words}
 use Rattle.record_words.specs.Leaf.{HasLeafWords, leaf_words}
 use Rattle.tries.specs.Tree.{Tree, leaf, node, fork, page, Fixed}
@@ -21,16 +24,16 @@ use Rattle.moments.specs.Heap.{NodeWords, LeafWords}
 
 -- the entry that a word spells
 unfoldable pub entry_of : ℕ → Option Entry
-entry_of w = if nat_eq w 0 then None else (if nat_eq (w % 4) 1 then Some (Leaf (w / 4)) else Some (Node (w / 4 % 2 ^ 32) (w / 2 ^ 34)))
+entry_of w = if nat_eq w (entry_word None) then None else (if nat_eq (w % 4) 1 then Some (Leaf (w / 4)) else Some (Node (w / 4 % 2 ^ 32) (w / 2 ^ 34)))
 
 -- 32 positions of 16 bits, and 32 sparse partial keys of 32 bits, from the lowest bits of the first word up
 abbrev pub positions_in : List ℕ → List ℕ
-positions_in words = map (λ k. get_or words (k / 4) 0 / 2 ^ (16 * (k % 4)) % 2 ^ 16) (range_with_len 0 32)
+positions_in words = map (λ k. get_or words (k / 4) 0 / 2 ^ (16 * (k % 4)) % 2 ^ 16) (range_with_len 0 MAX_ENTRIES)
 
 abbrev pub rows_in : List ℕ → List ℕ
-rows_in words = map (λ k. get_or words (k / 2) 0 / 2 ^ (32 * (k % 2)) % 2 ^ 32) (range_with_len 0 32)
+rows_in words = map (λ k. get_or words (k / 2) 0 / 2 ^ (32 * (k % 2)) % 2 ^ 32) (range_with_len 0 MAX_ENTRIES)
 
--- the words at offsets 1 to 25 of a node: the first has the numbers of entries and columns and the height
+-- the words of a node's head: the first has the numbers of entries and columns and the height
 abbrev pub fixed_of : List ℕ → Fixed
 fixed_of head = record {
   height = get_or head 0 0 / 65536;
@@ -45,11 +48,11 @@ abbrev pub node_from : List ℕ → List ℕ → NodeWords
 node_from head tail = record { fixed = fixed_of head; page = piece_of (Leaf 0) (fixed_of head).columns (fixed_of head).rows (entries_of (get_or head 0 0 % 256) tail) }
 
 unfoldable pub node_of : List ℕ → NodeWords
-node_of words = node_from (take 25 words) (drop 25 words)
+node_of words = node_from (take HEAD_WORDS words) (drop HEAD_WORDS words)
 
 -- eight bytes a word, the first in its highest bits
 abbrev pub bytes_in : List ℕ → List ℕ
-bytes_in words = map (λ i. get_or (to_be_bytes w64 (get_or words (i / 8) 0)) (i % 8) 0) (range_with_len 0 240)
+bytes_in words = map (λ i. get_or (to_be_bytes w64 (get_or words (i / 8) 0)) (i % 8) 0) (range_with_len 0 MAX_BYTES)
 
 unfoldable pub leaf_of : List ℕ → LeafWords
 leaf_of words = record { key = take (get_or words 1 0) (bytes_in (drop 2 words)); value = get_or words 0 0 }

@@ -8,8 +8,11 @@ use Rattle.hot_model.specs.declared.Kind.{Kind}
 use Rattle.hot_model.specs.declared.Kind.TheVariants.{Added, Replaced, Removed}
 use Rattle.hot_model.specs.Maps.{map_after}
 use Rattle.hot_model.specs.Fronts.{map_of, Fits}
+use Rattle.record_words.specs.declared.TheConstants.{FIRST_ENTRY, MAX_ENTRIES}
 use Rattle.record_words.specs.Layout.{address}
 use Rattle.record_words.specs.declared.layout.Layout.{Layout}
+use Rattle.record_words.specs.declared.state.Tag.TheVariants.{Live}
+use Rattle.record_words.specs.State.{state_word}
 use Rattle.tries.specs.Keys.{Key, IsParted}
 use Rattle.tries.specs.Tree.{Fixed, Tree, node, page, IsTrie, IsBuilt}
 use Rattle.tries.specs.Search.{seek, between, IsUnder}
@@ -118,7 +121,8 @@ pub record StoodLast (s : Past) (n : ℕ) (r : Rec) (u : Tree) : Type 0 where
 abbrev pub EntriesInReach : Type 0
 EntriesInReach =
     (c : Core) → IsLawful c → (q : ℕ) (p : Pin) → c.pins q ≡ Some p → (m n : ℕ) (u : Tree) → p.moment ≤ m → m ≤ c.past.now → Stands c.past m (a_node n) u →
-    (o : ℕ) × (v : Tree) × (m ≤ o) × StoodLast c.past o (a_node n) v × IsSame u v × ((j : ℕ) → j < 32 → entry_of (record_word c (a_node n) (26 + j)) ≡ entry_in v j)
+    (o : ℕ) × (v : Tree) × (m ≤ o) × StoodLast c.past o (a_node n) v × IsSame u v ×
+    ((j : ℕ) → j < MAX_ENTRIES → entry_of (record_word c (a_node n) (FIRST_ENTRY + j)) ≡ entry_in v j)
 
 -- the call that makes the change
 abbrev pub call_for : Kind → Key → ℕ → Call
@@ -149,5 +153,6 @@ FindsChange =
 -- a pass may lock a node while another holds the lock of another node, and both have their locks then
 abbrev pub LocksApart : Type 0
 LocksApart =
-    (c : Core) (p q n m : ℕ) → IsLawful c → c.lock n ≡ Some p → n ≢ m → Legal c q (Lock (NodeTarget m) 2) →
-    IsLawful (after c q (Lock (NodeTarget m) 2)) × ((after c q (Lock (NodeTarget m) 2)).lock n ≡ Some p) × ((after c q (Lock (NodeTarget m) 2)).lock m ≡ Some q)
+    (c : Core) (p q n m : ℕ) → IsLawful c → c.lock n ≡ Some p → n ≢ m → Legal c q (Lock (NodeTarget m) (state_word Live)) →
+    IsLawful (after c q (Lock (NodeTarget m) (state_word Live))) ×
+    ((after c q (Lock (NodeTarget m) (state_word Live))).lock n ≡ Some p) × ((after c q (Lock (NodeTarget m) (state_word Live))).lock m ≡ Some q)

@@ -87,7 +87,7 @@ middle (z ∷ xs) ys x a =
     (λ h. elim h [ inl e ↦ a.0 (of_right z xs (x ∷ ys) (inl (sym e))) | inr i ↦ m.0 i ], m.1)
 
 -- a step that leaves the locks and the anchor
-still_locked : (layout : Layout) (k i : Known) (act : Act) → KeepsRecall act → LeavesLocks act → LeavesAnchor act → IsEvent layout act silent k i → StaysLocked k i
+pub still_locked : (layout : Layout) (k i : Known) (act : Act) → KeepsRecall act → LeavesLocks act → LeavesAnchor act → IsEvent layout act silent k i → StaysLocked k i
 still_locked layout k i act recalls locks anchor e = let n = act_leaves layout k i act e in (recalls_on layout silent k i act recalls e, n.locks locks, n.anchor anchor)
 
 locked_on : (k i j : Known) → StaysLocked k i → StaysLocked i j → StaysLocked k j
@@ -96,14 +96,18 @@ locked_on k i j a b = (later_on k i j a.0 b.0, b.1 ∙ a.1, b.2 ∙ a.2)
 locked_same : (k j : Known) → j ≡ k → StaysLocked k j
 locked_same k j e = (later_same k j e, ap (λ (z : Known). z.locks) e, ap (λ (z : Known). z.anchor) e)
 
+-- one of them is ready
+pub ready_next : (layout : Layout) (done : List Made) (m : Made) (todo : List Made) (k i : Known) → HasReadied k done (m ∷ todo) → IsEvent layout (Ready m.rec) silent k i → HasReadied i (done ++ m ∷ []) todo
+ready_next layout done m todo k i has e =
+    let sides = middle (recs_of done) (recs_of todo) m.rec (subst AreApart (recs_append done (m ∷ todo)) has.1) in
+    (ready_gives_next layout silent k i m done todo e has.0 sides.0 sides.1, subst (λ z. AreApart (recs_of z)) (sym (append_assoc done (m ∷ []) todo)) has.1)
+
 ready_each : (layout : Layout) (done todo : List Made) (k j : Known) → HasReadied k done todo → ReadiesEach layout todo k j → (j.own ≡ map (held_as IsReady) (done ++ todo)) × StaysLocked k j
 ready_each layout done [] k j has e =
     (ap (λ (z : Known). z.own) e ∙ (has.0 ∙ (append-nil (map (held_as IsReady) done) ∙ ap (map (held_as IsReady)) (sym (append-nil done)))), locked_same k j e)
 ready_each layout done (m ∷ todo) k j has (i, e, rest) =
-    let sides = middle (recs_of done) (recs_of todo) m.rec (subst AreApart (recs_append done (m ∷ todo)) has.1) in
-    let now = ready_gives_next layout silent k i m done todo e has.0 sides.0 sides.1 in
     let moved : (done ++ m ∷ []) ++ todo ≡ done ++ m ∷ todo = append_assoc done (m ∷ []) todo in
-    let next = ready_each layout (done ++ m ∷ []) todo i j (now, subst (λ z. AreApart (recs_of z)) (sym moved) has.1) rest in
+    let next = ready_each layout (done ++ m ∷ []) todo i j (ready_next layout done m todo k i has e) rest in
     (next.0 ∙ ap (map (held_as IsReady)) moved, locked_on k i j (still_locked layout k i (Ready m.rec) tt tt tt e) next.1)
 
 pub readies_all : ReadiesAll

@@ -16,8 +16,7 @@ use Rattle.moments.specs.declared.Rec.TheVariants.{Node as a_node}
 use Rattle.moments.specs.declared.Pin.{Pin}
 use Rattle.moments.specs.State.{Past}
 use Rattle.moments.specs.Core.{Fate, Free, Held as HeldBy, Ready as ReadyBy, InTree, Unlinked as UnlinkedBy, Marked}
-use Rattle.moments.specs.Steps.{same_rec}
-use Rattle.moments.proofs.Legal.{same_rec_refl, same_rec_true}
+use Rattle.moments.proofs.Legal.{same_rec_refl}
 use Rattle.rowex_core.specs.declared.event.Act.{Act}
 use Rattle.rowex_core.specs.declared.event.Act.TheVariants.{Claim, Fill, Ready, Release, LoadRef, LoadFixed, Lock, Unlock, Publish, Mark, LoadEpoch, Advance, SetPin, ClearPin, LoadPin, LoadState, GiveBack}
 use Rattle.rowex_core.specs.declared.event.Spot.TheVariants.{Root, Slot}
@@ -40,7 +39,7 @@ use Rattle.rowex_table.proofs.Rights.{free_tag, anchor_free}
 use Rattle.rowex_table.specs.Publishes.{silent}
 use Rattle.rowex_table.specs.Stays.{KeepsRecall}
 use Rattle.moments.specs.Trades.{IsOf}
-use Rattle.rowex_core.proofs.Having.{not_free}
+use Rattle.rowex_core.proofs.Having.{not_free, other_rec}
 use Rattle.rowex_table.specs.Made.{Made, held_as, recs_of, nodes_of, IsLater}
 use Rattle.moments.proofs.Members.{of_map, map_of, all_of}
 
@@ -50,13 +49,6 @@ same_map : {X : Type 0} (f : X → X) (xs : List X) → ((x : X) → IsOf x xs �
 same_map f [] h = refl
 same_map f (x ∷ xs) h = ap₂ (λ y ys. y ∷ ys) (h x (inl refl)) (same_map f xs (λ y i. h y (inr i)))
 
-other : (s r : Rec) → (s ≡ r → ⊥) → same_rec s r ≡ false
-other s r ne = go (same_rec s r) refl
-  where
-    go : (b : Bool) → same_rec s r ≡ b → b ≡ false
-    go true e = absurd (ne (same_rec_true s r e))
-    go false e = refl
-
 -- of records made and held in any way, none of which is r
 unlike : (h : Holding) (ms : List Made) (r : Rec) → (IsOf r (recs_of ms) → ⊥) → (o : Owned) → IsOf o (map (held_as h) ms) → o.rec ≡ r → ⊥
 unlike h ms r not_it o i e =
@@ -64,14 +56,14 @@ unlike h ms r not_it o i e =
     not_it (subst (λ y. IsOf y (recs_of ms)) (sym (ap (λ (x : Owned). x.rec) z) ∙ e) (map_of (λ (m : Made). m.rec) m ms k))
 
 hold_others : (h g : Holding) (ms : List Made) (r : Rec) → (IsOf r (recs_of ms) → ⊥) → map (hold_as r h) (map (held_as g) ms) ≡ map (held_as g) ms
-hold_others h g ms r not_it = same_map (hold_as r h) (map (held_as g) ms) (λ o i. rw (other o.rec r (unlike g ms r not_it o i)) refl)
+hold_others h g ms r not_it = same_map (hold_as r h) (map (held_as g) ms) (λ o i. rw (other_rec o.rec r (unlike g ms r not_it o i)) refl)
 
 fill_others : (offset w : ℕ) (g : Holding) (ms : List Made) (r : Rec) → (IsOf r (recs_of ms) → ⊥) → map (fill_in r offset w) (map (held_as g) ms) ≡ map (held_as g) ms
-fill_others offset w g ms r not_it = same_map (fill_in r offset w) (map (held_as g) ms) (λ o i. rw (other o.rec r (unlike g ms r not_it o i)) refl)
+fill_others offset w g ms r not_it = same_map (fill_in r offset w) (map (held_as g) ms) (λ o i. rw (other_rec o.rec r (unlike g ms r not_it o i)) refl)
 
 keep_others : (own : List Owned) (r : Rec) → ((o : Owned) → IsOf o own → o.rec ≡ r → ⊥) → without_record r own ≡ own
 keep_others [] r not_it = refl
-keep_others (o ∷ own) r not_it = rw (other o.rec r (not_it o (inl refl))) (ap (λ z. o ∷ z) (keep_others own r (λ x i. not_it x (inr i))))
+keep_others (o ∷ own) r not_it = rw (other_rec o.rec r (not_it o (inl refl))) (ap (λ z. o ∷ z) (keep_others own r (λ x i. not_it x (inr i))))
 
 -- a node in the tree whose lock is taken is not live
 taken : (o : Option ℕ) (f : Fate) (q s : ℕ) → o ≡ Some q → f ≡ InTree s → state_word (tag_of o f) ≡ 2 → ⊥

@@ -198,10 +198,13 @@ met_knows c k h = record {
   own = h.own;
 }
 
-pub meets : {S : Type 0} (layout : Layout) (slots id i : ℕ) (me : Me S View) (j k : Known) → me ≡ (Pair j k, []) → Allows {S = S} {V = View} (Ruled layout) slots id me i (λ n. n) (met (table.step slots i 0 0 none) me)
-meets {S = S} layout slots id i me j k is = subst (λ (m : Me S View). Allows {S = S} {V = View} (Ruled layout) slots id m i (λ n. n) (met (table.step slots i 0 0 none) m)) (sym is) go
+pub meets : {S : Type 0} (layout : Layout) (of : Option Layout) → of ≡ Some layout → (slots id i : ℕ) (me : Me S View) (j k : Known) → me ≡ (Pair j k, [])
+    → Allows {S = S} {V = View} (Ruled layout) slots id me i (λ n. n) (met of (table.step slots i 0 0 none) me)
+meets {S = S} layout of is_of slots id i me j k is =
+    subst (λ (o : Option Layout). Allows {S = S} {V = View} (Ruled layout) slots id me i (λ n. n) (met o (table.step slots i 0 0 none) me)) (sym is_of)
+    (subst (λ (m : Me S View). Allows {S = S} {V = View} (Ruled layout) slots id m i (λ n. n) (met (Some layout) (table.step slots i 0 0 none) m)) (sym is) go)
   where
-    go : Allows {S = S} {V = View} (Ruled layout) slots id (Pair j k, []) i (λ n. n) (met (table.step slots i 0 0 none) (Pair j k, []))
+    go : Allows {S = S} {V = View} (Ruled layout) slots id (Pair j k, []) i (λ n. n) (met (Some layout) (table.step slots i 0 0 none) (Pair j k, []))
     go s r deep here low =
         let c : Core = r.core in
         let both = r.knows id (Pair j k) here in
@@ -221,7 +224,7 @@ meets {S = S} layout slots id i me j k is = subst (λ (m : Me S View). Allows {S
             apart = apart_set s.views id (Pair j k) new here (λ q o. o) r.apart;
             each = λ q low. each_set s.views id q (Pair j k) new here (λ o. o) (r.each q low);
           },
-          (refl, (with_front c.changes j, with_front c.changes k, refl, (c.changes, refl, refl, r.lawful.core.told.legal, both.0.seen.front, both.1.seen.front, both.2))),
+          (refl, (with_front c.changes j, with_front c.changes k, refl, (c.changes, refl, refl, r.lawful.core.told.legal, both.0.seen.front, both.1.seen.front, both.2, subst (λ (z : Layout). All (λ x. x.pass < z.passes) c.changes) r.layout_is r.lawful.makers))),
         )
 
 -- one more at the end of a list
@@ -233,11 +236,12 @@ each_longer {A = A} P xs x n len each new q h e = ⊎_elim (each q h) (λ (t : (
 pub paired_me : {S : Type 0} (me a b : Me S View) (j k : Known) → me ≡ (paired a.0 b.0, a.1) → a ≡ (Pass j, []) → b ≡ (Pass k, []) → me ≡ (Pair j k, [])
 paired_me {S = S} me a b j k e is was = e ∙ (λ i. (paired (is i).0 (was i).0, (is i).1))
 
-pub meeting : {S : Type 0} (me m' : Me S View) (j k : Known) → me ≡ (Pair j k, []) → (m'.1 ≡ me.1) × Meeting me.0 m'.0
-    → (j' : Known) × (k' : Known) × (m' ≡ (Pair j' k', [])) × HaveMet j k j' k'
-meeting {S = S} me m' j k is h = let t = subst (λ (v : View). Meeting v m'.0) (ap (λ (z : Me S View). z.0) is) h.1 in
+pub meeting : {S : Type 0} (layout : Layout) (of : Option Layout) → of ≡ Some layout → (me m' : Me S View) (j k : Known) → me ≡ (Pair j k, []) → (m'.1 ≡ me.1) × Meeting of me.0 m'.0
+    → (j' : Known) × (k' : Known) × (m' ≡ (Pair j' k', [])) × HaveMet layout j k j' k'
+meeting {S = S} layout of is_of me m' j k is h =
+    let t = subst (λ (v : View). Meeting (Some layout) v m'.0) (ap (λ (z : Me S View). z.0) is) (subst (λ (o : Option Layout). Meeting o me.0 m'.0) is_of h.1) in
     (t.0, t.1, (λ i. (t.2 i, (h.0 ∙ ap (λ (z : Me S View). z.1) is) i)), t.3)
 
 -- those who have met have different numbers
-pub apart_met : (j k j' k' : Known) → HaveMet j k j' k' → j'.pass ≢ k'.pass
-apart_met j k j' k' (front, e, f, legal, a, b, ne) = λ q. ne (sym (ap (λ (z : Known). z.pass) e) ∙ (q ∙ ap (λ (z : Known). z.pass) f))
+pub apart_met : (layout : Layout) (j k j' k' : Known) → HaveMet layout j k j' k' → j'.pass ≢ k'.pass
+apart_met layout j k j' k' (front, e, f, legal, a, b, ne, makers) = λ q. ne (sym (ap (λ (z : Known). z.pass) e) ∙ (q ∙ ap (λ (z : Known). z.pass) f))

@@ -8,8 +8,7 @@ use Rattle.hot_model.specs.declared.Note.{Note}
 use Rattle.record_words.specs.declared.layout.Layout.{Layout}
 use Rattle.record_words.specs.State.{state_word}
 use Rattle.moments.specs.declared.Rec.{Rec}
-use Rattle.moments.proofs.Legal.{same_rec_refl, same_rec_true}
-use Rattle.moments.specs.Steps.{same_rec}
+use Rattle.moments.proofs.Legal.{same_rec_refl}
 use Rattle.moments.specs.Core.{Fate, Free, Held as HeldBy, Ready as ReadyBy, InTree, Unlinked as UnlinkedBy, Marked}
 use Rattle.rowex_core.specs.declared.event.Act.{Act}
 use Rattle.rowex_core.specs.declared.event.Spot.TheVariants.{Root, Slot}
@@ -24,6 +23,7 @@ use Rattle.rowex_core.specs.Words.{lock_of, lock_tag, tag_of}
 use Rattle.rowex_core.specs.Reading.{IsPacked}
 use Rattle.rowex_core.specs.Events.{IsOffset}
 use Rattle.rowex_core.specs.Sharing.{IsOwned}
+use Rattle.rowex_core.proofs.Having.{other_rec}
 use Rattle.rowex_core.proofs.Owning.{knows_all}
 use Rattle.rowex_core.specs.Knowing.{Knows, IsEvent, anchor_learned, claim_learned, fill_in, hold_as, learned_by}
 use Rattle.rowex_table.specs.Rule.{MayStep}
@@ -179,11 +179,11 @@ module _ (layout : Layout) (said : Known → List Note) (k j : Known) where
   pub fill_keeps : (r s : Rec) (offset word : ℕ) (h : Holding) (words : List ℕ) → s ≢ r → IsEvent layout (Fill r offset word) said k j → Has k s h words → Has j s h words
   fill_keeps r s offset word h words ne e has =
       let o : Owned = record { rec = s; holding = h; words = words } in
-      let same : fill_in r offset word o ≡ o = rw (other s r ne) refl in
+      let same : fill_in r offset word o ≡ o = rw (other_rec s r ne) refl in
       subst (λ l. Contains l o) (sym (ap (λ (z : Known). z.own) e.learned_is)) (subst (Contains (map (fill_in r offset word) k.own)) same (mapped (fill_in r offset word) k.own o has))
 
   pub ready_keeps : (r s : Rec) (h : Holding) (words : List ℕ) → s ≢ r → IsEvent layout (Ready r) said k j → Has k s h words → Has j s h words
   ready_keeps r s h words ne e has =
       let o : Owned = record { rec = s; holding = h; words = words } in
-      let same : hold_as r IsReady o ≡ o = rw (other s r ne) refl in
+      let same : hold_as r IsReady o ≡ o = rw (other_rec s r ne) refl in
       subst (λ l. Contains l o) (sym (ap (λ (z : Known). z.own) e.learned_is)) (subst (Contains (map (hold_as r IsReady) k.own)) same (mapped (hold_as r IsReady) k.own o has))

@@ -19,17 +19,16 @@ use Rattle.moments.specs.Heap.{LeafWords}
 use Rattle.moments.specs.State.{IsTop, IsLinked, IsLived}
 use Rattle.moments.specs.Told.{items_of, IsChange}
 use Rattle.moments.specs.Core.{InTree, Ready as ReadyBy, life_of}
-use Rattle.moments.proofs.Growth.{in_tree_now}
-use Rattle.moments.proofs.Publish.{within_links}
 use Rattle.rowex_core.specs.declared.event.Act.TheVariants.{Publish, LoadRef, Mark, LoadEpoch}
 use Rattle.rowex_core.specs.declared.event.Spot.TheVariants.{Root}
 use Rattle.rowex_core.specs.declared.known.Holding.TheVariants.{Ready as IsReady, Unlinked}
 use Rattle.rowex_core.specs.declared.known.Owned.{Owned}
 use Rattle.rowex_core.specs.declared.known.Known.{Known}
 use Rattle.rowex_core.specs.Reading.{entry_of, leaf_of, IsPacked}
-use Rattle.rowex_core.specs.Cores.{Core, IsLawful, HasRecord, IsWhole, bare, heap_of}
-use Rattle.rowex_core.specs.Events.{tree_of, next_tree, change_between, IsInTree}
+use Rattle.rowex_core.specs.Cores.{Core, IsLawful, HasRecord, IsWhole, heap_of}
+use Rattle.rowex_core.specs.Events.{tree_of, next_tree, change_between}
 use Rattle.rowex_core.specs.Knowing.{IsEvent, own_after}
+use Rattle.rowex_core.proofs.Having.{node_linked}
 use Rattle.rowex_core.proofs.Owning.{knows_all, round_is}
 use Rattle.rowex_core.proofs.Reading.{entry_of_word, leaf_is}
 use Rattle.rowex_core.proofs.Publishing.{linked_now}
@@ -66,12 +65,6 @@ module _ (c : Core) (law : IsLawful c) where
       go None is top = absurd top
       go (Some t) is top = let l = leaf_tree n t top.0 in (l.0, l.1, is ∙ ap Some l.2)
 
-  -- a node in the tree is linked in the newest moment
-  pub node_linked : (n : ℕ) (t : Option Tree) → c.past.moment c.past.now ≡ t → IsInTree c n → IsLinked t (a_node n)
-  node_linked n t is (since, e) =
-      let u = (in_tree_now (bare c) law.core.state n since e).1 in
-      subst (λ z. IsLinked z (a_node n)) (sym u.is_moment ∙ is) (within_links u.within (a_node n) u.is_record)
-
   -- the words of a ready leaf spell a key
   ready_key : (n q : ℕ) → c.fate (a_leaf n) ≡ ReadyBy q → IsKey (leaf_of (c.words (a_leaf n))).key
   unfolding IsPacked
@@ -100,7 +93,7 @@ module _ (layout : Layout) (k : Known) where
         top = subst (λ e. IsTop (heap_of c.words) e (tree_of (heap_of c.words) e)) (sym entry) (refl, refl);
         tree = λ t e. subst (λ z. IsTrie z × IsBuilt z) (some_same (sym next ∙ e)) (ready_key c law n k.pass ready, tt);
         comes = λ r l. inr (ap c.fate (subst (λ z. IsLinked z r) next l) ∙ ready);
-        goes = λ m since e out. absurd (node_linked c law m None now (since, e));
+        goes = λ m since e out. absurd (subst (λ z. IsLinked z (a_node m)) now (node_linked c law m (since, e)));
         change = subst (λ s. IsChange s (change_between k.pass (items_of s) (items_of (next_tree c Root w))) (next_tree c Root w)) (sym now)
             (subst (λ t. IsChange None (change_between k.pass [] (items_of t)) t) (sym next) (n, added));
       };
@@ -132,7 +125,7 @@ module _ (layout : Layout) (k : Known) where
         top = tt;
         tree = λ t e. absurd (let z : None ≡ Some t = e in cc);
         comes = λ r l. absurd l;
-        goes = λ m since e out. absurd (leaf_node (node_linked c law m (Some (leaf n now.0 now.1)) now.2 (since, e)));
+        goes = λ m since e out. absurd (leaf_node (subst (λ z. IsLinked z (a_node m)) now.2 (node_linked c law m (since, e))));
         change = subst (λ s. IsChange s (change_between k.pass (items_of s) []) None) (sym now.2) (n, added);
       };
     },

@@ -1,5 +1,5 @@
 -- The rule of the table, and what its steps tell.
-use Rattle.std.specs.Prelude.{◌≡◌, ◌≢◌, ℕ, ◌+◌, ◌<◌, List, [], Option, Some, None}
+use Rattle.std.specs.Prelude.{◌≡◌, ◌≢◌, ℕ, ◌+◌, ◌<◌, List, [], All, Option, Some, None}
 use mathlib.Core.Option.{some}
 use lib.ListN.{get_elem?}
 use Rattle.atomic_table.specs.Table.{State, Me, Step}
@@ -124,15 +124,15 @@ abbrev pub with_front : List Change → Known → Known
 with_front front k = record k { front = front }
 
 -- Two passes of different numbers that knew j and k now know j' and k': both have seen one list of changes, each of which
--- was legal; it begins with what each had seen, and goes on by changes of others.
-abbrev pub HaveMet : Known → Known → Known → Known → Type 0
-HaveMet j k j' k' =
+-- was legal and made by a pass of the table; it begins with what each had seen, and goes on by changes of others.
+abbrev pub HaveMet : Layout → Known → Known → Known → Known → Type 0
+HaveMet layout j k j' k' =
     (front : List Change) × (j' ≡ with_front front j) × (k' ≡ with_front front k) × LegalFront front × OthersGoOn j.pass j.front front × OthersGoOn k.pass k.front front ×
-    (j.pass ≢ k.pass)
+    (j.pass ≢ k.pass) × All (λ x. x.pass < layout.passes) front
 
-abbrev pub Meeting : View → View → Type 0
-Meeting (Pair j k) w = (j' : Known) × (k' : Known) × (w ≡ Pair j' k') × HaveMet j k j' k'
-Meeting _ w = Unit {0}
+abbrev pub Meeting : Option Layout → View → View → Type 0
+Meeting (Some layout) (Pair j k) w = (j' : Known) × (k' : Known) × (w ≡ Pair j' k') × HaveMet layout j k j' k'
+Meeting _ _ w = Unit {0}
 
-abbrev pub met : {S : Type 0} → Step S → Me S View → ℕ → Me S View → Type 0
-met st m told m' = (m'.1 ≡ m.1) × Meeting m.0 m'.0
+abbrev pub met : {S : Type 0} → Option Layout → Step S → Me S View → ℕ → Me S View → Type 0
+met layout st m told m' = (m'.1 ≡ m.1) × Meeting layout m.0 m'.0

@@ -49,10 +49,12 @@ impl<Q: Step> Play<(), View> for Stepping<Q> {
     ghost then = { did Q.layout Q.act Q.said };
 }
 
-pub(crate) struct Meets;
+pub(crate) struct Meets<Q> {
+    step: PhantomData<Q>,
+}
 
-impl Play<(), View> for Meets {
-    ghost then = { met };
+impl<Q: Step> Play<(), View> for Meets<Q> {
+    ghost then = { met Q.layout };
 }
 
 pub(crate) struct Deal;

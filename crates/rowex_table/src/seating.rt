@@ -1,16 +1,17 @@
 //! How a table is made with the seats of its passes, and how two of these meet.
 
-ghost use Rattle.std.specs.Prelude.{◌≡◌, ℕ, IfOk, All, length};
+ghost use Rattle.std.specs.Prelude.{◌≡◌, ℕ, IfOk, Some, All, length};
 ghost use mathlib.Core.Option.{some};
 ghost use lib.ListN.{get_elem?};
 ghost use Rattle.rowex_table.specs.Rule.{HaveMet};
 ghost use Rattle.rowex_table.specs.Seats.{SeatView, IsNew, IsNewSeat, IsSeatOf};
 
-use crate::plays::{Deal, Meets, Part};
+use crate::plays::{Deal, Meets, Part, Step};
 use crate::table::{HotTable, TableSeat};
 use atomic_table::Table;
 use record_words::Layout;
 use std::alloc::{AllocError, Global};
+use std::marker::Brand;
 
 impl HotTable {
     /// A table with an empty index, and the seats of its passes in the order of their numbers, which go from 0 on.
@@ -40,7 +41,18 @@ impl HotTable {
         requires { IsSeatOf self.now first × IsSeatOf self.now second }
         ensures own { IsSeatOf self.now result.0 × IsSeatOf self.now result.1 }
         ensures passes { (result.0.known.pass ≡ first.known.pass) × (result.1.known.pass ≡ second.known.pass) }
-        ensures met { HaveMet first.known second.known result.0.known result.1.known }
+        ensures met { HaveMet self.now.layout first.known second.known result.0.known result.1.known }
+    {
+        self.meet_as::<Brand>(first, second)
+    }
+
+    /// `meet_seats`, at a table of the layout that `Q` names.
+    fn meet_as<Q: Step>(&self, first: TableSeat, second: TableSeat) -> (TableSeat, TableSeat)
+        requires own { IsSeatOf self.now first × IsSeatOf self.now second }
+        requires layout { Q.layout ≡ Some self.now.layout }
+        ensures own { IsSeatOf self.now result.0 × IsSeatOf self.now result.1 }
+        ensures passes { (result.0.known.pass ≡ first.known.pass) × (result.1.known.pass ≡ second.known.pass) }
+        ensures met { HaveMet self.now.layout first.known second.known result.0.known result.1.known }
     {
         let TableSeat { mut seat, pass } = first;
         let TableSeat {
@@ -49,7 +61,7 @@ impl HotTable {
         } = second;
         let shared = &self.table.shared;
         shared.join_seat::<Part>(&mut seat, other);
-        shared.load::<Meets>(&mut seat, 0);
+        shared.load::<Meets<Q>>(&mut seat, 0);
         let other = shared.split_seat::<Part>(&mut seat);
         (
             TableSeat { seat, pass },

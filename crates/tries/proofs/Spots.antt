@@ -85,10 +85,10 @@ IsSpot k b s = (w : Within s b) × IsFlat w × ((r : Tree) → page (put w r) �
 abbrev pub IsPathSpot : Key → Tree → Tree → Type 0
 IsPathSpot k b s = (i : IsSpot k b s) × ((p : ℕ) → IsPathBelow p i.0 → IsAbovePath p (spot k (page b)) (page b))
 
-path_low : (p q : ℕ) (x y : Page) (i : ℕ) → i < size x → q < p → IsAbovePath p i x → IsAbovePath p i (Fork q x y)
+pub path_low : (p q : ℕ) (x y : Page) (i : ℕ) → i < size x → q < p → IsAbovePath p i x → IsAbovePath p i (Fork q x y)
 path_low p q x y i h l a = (l, subst (λ o. MatchBool o (IsAbovePath p i x) (IsAbovePath p (i - size x) y)) (sym (lt-ltb i (size x) h)) a)
 
-path_high : (p q : ℕ) (x y : Page) (i : ℕ) → q < p → IsAbovePath p i y → IsAbovePath p (size x + i) (Fork q x y)
+pub path_high : (p q : ℕ) (x y : Page) (i : ℕ) → q < p → IsAbovePath p i y → IsAbovePath p (size x + i) (Fork q x y)
 path_high p q x y i l a =
     let d : i ≡ size x + i - size x = omega arith in
     (l, subst (λ o. MatchBool o (IsAbovePath p (size x + i) x) (IsAbovePath p (size x + i - size x) y)) (sym (le-ltb (size x + i) (size x) (omega arith))) (subst (λ j. IsAbovePath p j y) d a))

@@ -1,22 +1,22 @@
 -- A scan of one leaf.
-use Rattle.std.proofs.Common.{inl, inr, ap, refl, length, []}
+use Rattle.std.proofs.Common.{inl, inr, refl, []}
 use Rattle.compound_node.specs.declared.entries.Entry.TheVariants.{Leaf}
-use Rattle.rowex_core.specs.declared.known.Fresh.{Fresh}
-use Rattle.rowex_table.specs.Seats.{known}
 use Rattle.hot_index.specs.declared.scanning.Verdict.TheVariants.{Further, Past, Full}
-use Rattle.hot_index.specs.Seen.{since}
+use Rattle.record_words.specs.declared.TheConstants.{LEAF_FIELDS}
+use Rattle.rowex_reading.specs.Seen.{since}
+use Rattle.rowex_reading.proofs.Led.{reads_later, rooted_led, same_since}
 use Rattle.hot_index.specs.Scanning.{range_of}
-use Rattle.hot_index.proofs.Walking.{rooted_led, leaf_further, leaf_past, leaf_full, taken_as}
+use Rattle.hot_index.proofs.Walking.{leaf_further, leaf_past, leaf_full, taken_as}
 use Rattle.hot_index.proofs.scanning.scan_leaf.Goals as goal
 
 pub load_leaf-key-requires-clause-led : goal.load_leaf-key-requires-clause-led
-load_leaf-key-requires-clause-led g c = (since (known c.args.seat.now), rooted_led (Leaf c.args.number) c.requires.since c.requires.root)
+load_leaf-key-requires-clause-led g c = (since c.args.seat.now.known, rooted_led (Leaf c.args.number) c.requires.root)
 
 pub returns-in-Full-clause-scanned : goal.returns-in-Full-clause-scanned
 returns-in-Full-clause-scanned g c =
     let e = c.load_leaf-key.ensures in
-    leaf_full (range_of c.args.range.now) c.args.number c.load_leaf-key.result.0 c.load_leaf-key.result.1 e.loads c.requires.since
-    (ap (λ (z : Fresh). length z.front) e.fresh) c.requires.root (e.leaf (since (known c.args.seat.now)) (rooted_led (Leaf c.args.number) c.requires.since c.requires.root)) _
+    leaf_full (range_of c.args.range.now) c.args.number c.load_leaf-key.result.0 c.load_leaf-key.result.1 (reads_later e.reads) c.requires.root
+    (same_since e.reads) (e.leaf (since c.args.seat.now.known) (rooted_led (Leaf c.args.number) c.requires.root)) _
     (taken_as (range_of c.args.range.now) c.new-pairs.result.items [] c.load_leaf-key.result.0 c.load_leaf-key.result.1 c.take_pair.new.pairs.items c.in_ok-take_pair.field-0 Full
     c.new-pairs.ensures.items c.in-Full.is c.in_ok-take_pair.ensures) refl
 
@@ -24,18 +24,16 @@ pub returns-in-Further : goal.returns-in-Further
 returns-in-Further g c =
     let e = c.load_leaf-key.ensures in
     record {
-      seat = e.seat;
-      loads = (32, e.loads);
-      fresh = e.fresh;
+      reads = (LEAF_FIELDS, e.reads);
       scanned = elim c.in-Further.is [
         | inl is ↦
-            leaf_further (range_of c.args.range.now) c.args.number c.load_leaf-key.result.0 c.load_leaf-key.result.1 e.loads c.requires.since
-            (ap (λ (z : Fresh). length z.front) e.fresh) c.requires.root (e.leaf (since (known c.args.seat.now)) (rooted_led (Leaf c.args.number) c.requires.since c.requires.root)) _
+            leaf_further (range_of c.args.range.now) c.args.number c.load_leaf-key.result.0 c.load_leaf-key.result.1 (reads_later e.reads) c.requires.root
+            (same_since e.reads) (e.leaf (since c.args.seat.now.known) (rooted_led (Leaf c.args.number) c.requires.root)) _
             (taken_as (range_of c.args.range.now) c.new-pairs.result.items [] c.load_leaf-key.result.0 c.load_leaf-key.result.1 c.take_pair.new.pairs.items c.in_ok-take_pair.field-0 Further
             c.new-pairs.ensures.items is c.in_ok-take_pair.ensures) refl
         | inr is ↦
-            leaf_past (range_of c.args.range.now) c.args.number c.load_leaf-key.result.0 c.load_leaf-key.result.1 e.loads c.requires.since
-            (ap (λ (z : Fresh). length z.front) e.fresh) c.requires.root (e.leaf (since (known c.args.seat.now)) (rooted_led (Leaf c.args.number) c.requires.since c.requires.root)) _
+            leaf_past (range_of c.args.range.now) c.args.number c.load_leaf-key.result.0 c.load_leaf-key.result.1 (reads_later e.reads) c.requires.root
+            (same_since e.reads) (e.leaf (since c.args.seat.now.known) (rooted_led (Leaf c.args.number) c.requires.root)) _
             (taken_as (range_of c.args.range.now) c.new-pairs.result.items [] c.load_leaf-key.result.0 c.load_leaf-key.result.1 c.take_pair.new.pairs.items c.in_ok-take_pair.field-0 Past
             c.new-pairs.ensures.items is c.in_ok-take_pair.ensures) refl
       ];

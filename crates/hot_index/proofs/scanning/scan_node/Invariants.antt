@@ -1,18 +1,14 @@
 -- The pass has made loads alone; where the walk is; and what it has still to do.
-use Rattle.std.proofs.Common.{◌≡◌, ℕ}
-use Rattle.rowex_table.specs.Seats.{IsSame, known}
-use Rattle.hot_index.specs.Possible.{IsPossible}
-use Rattle.hot_index.specs.Seen.{Loads, since}
+use Rattle.rowex_reading.specs.Reads.{IsReader, ReadsSome}
+use Rattle.rowex_reading.specs.Seen.{since}
 use Rattle.hot_index.specs.Scanning.{range_of, IsWalk, rest_of}
 use Rattle.hot_index.proofs.scanning.scan_node.Given as goal
 
 abbrev pub invariant-loop-top : goal.invariant-loop-top
 invariant-loop-top g l = record {
-  same : IsSame l.fn.seat l.seat;
-  possible : IsPossible l.table.layout (known l.seat);
-  loads : (n : ℕ) × Loads n (known l.fn.seat) (known l.seat);
-  fresh : (known l.seat).fresh ≡ (known l.fn.seat).fresh;
-  walk : IsWalk (known l.seat) (since (known l.fn.seat)) (range_of l.range) l.top l.frames.items l.pairs.items;
+  reader : IsReader l.table l.seat;
+  reads : ReadsSome l.table g.G.Gate.becomes (l.fn.seat, l.fn.gate) (l.seat, l.gate);
+  walk : IsWalk l.seat.known (since l.fn.seat.known) (range_of l.range) l.top l.frames.items l.pairs.items;
 }
 
 abbrev pub decreases-loop-top : goal.decreases-loop-top

@@ -3,7 +3,7 @@ use Rattle.std.proofs.Common.{◌<◌, arith, length, sym, ap, ◌∙◌}
 use Rattle.std.specs.Prelude.{slice_get}
 use Rattle.std.proofs.lemmas.List.{take_all}
 use Rattle.record_words.proofs.Entries.{length-entry_words, entry_words_at}
-use Rattle.record_words.proofs.Spelled.{entry_read, is_some, one_more_read, same_counted}
+use Rattle.record_words.proofs.Spelled.{entry_read, some_read, one_more_read, same_counted}
 use Rattle.record_words.proofs.node.read_entries.Goals as goal
 
 pub bounds-words-i : goal.bounds-words-i
@@ -18,7 +18,7 @@ read_entry-requires c =
 
 pub unwrap-requires : goal.unwrap-requires
 unwrap-requires c =
-    is_some c.read_entry.result _ (entry_read c.requires.0 c.args.words.now c.loop-i.i c.read_entry.result c.requires.1 c.requires.2 (omega (arith, c.requires.3)) c.read_entry.ensures)
+    some_read c.read_entry.result _ (entry_read c.requires.0 c.args.words.now c.loop-i.i c.read_entry.result c.requires.1 c.requires.2 (omega (arith, c.requires.3)) c.read_entry.ensures)
 
 pub loop-i-preserved : goal.loop-i-preserved
 loop-i-preserved c = λ entries has same.

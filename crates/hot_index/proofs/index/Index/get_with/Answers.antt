@@ -1,24 +1,44 @@
 -- A get is noted as its pass clears the pin, and has settled then.
-use Rattle.std.proofs.Common.{subst}
+use Rattle.std.proofs.Common.{rules, ◌∙◌, IsSome, sym, ap, subst}
 use Rattle.hot_model.specs.declared.Call.TheVariants.{Get}
-use Rattle.rowex_table.specs.Seats.{known}
-use Rattle.hot_index.specs.Passes.{PassView, pass_view}
+use Rattle.rowex_table.specs.Seats.{TableView}
+use Rattle.hot_index.specs.Passes.{PassView, pass_of}
 use Rattle.hot_index.specs.Answers.{IsNoted, got}
-use Rattle.hot_index.proofs.Noting.{get_noted, get_steps}
+use Rattle.hot_index.specs.Traces.{HasRead}
+use Rattle.rowex_reading.proofs.Led.{looked_at, looks_same}
+use Rattle.hot_index.proofs.Noting.{fits_then, get_noted, get_steps}
+use Rattle.hot_index.proofs.Tracing.{has_read}
 use Rattle.hot_index.proofs.index.Index.get_with.Goals as goal
+
+pub end_get-requires : goal.end_get-requires
+end_get-requires g c =
+    let l = c.look_up-found.ensures.searched.looks in
+    λ κs le. (search rules, (fits_then c.self.inside.table c.pin.new.seat c.look_up-found.new.seat (looks_same l) c.pin.ensures.fits, subst IsSome (sym (looked_at l).later.pin) c.pin.ensures.pinned))
+
+pub returns-clause-own : goal.returns-clause-own
+returns-clause-own g c =
+    let same = looks_same c.look_up-found.ensures.searched.looks in
+    c.end_get.ensures.step.seat.0 ∙ (same.0 ∙ (c.pin.ensures.fits.0 ∙ ap (λ (x : TableView). x.id) c.self.view_is))
 
 pub invariant_of-pass : goal.invariant_of-pass
 invariant_of-pass g c =
-    (get_noted c.pass.inside.seat.seat.table_id c.end_get.new.seat.seat.table_id _ c.args.key.now c.look_up-found.result _ _ _ _ c.pass.invariant c.pin_with.ensures.steps c.look_up-found.ensures.searched
-    c.look_up-found.ensures.found c.end_get.ensures.told).1
+    let s = c.look_up-found.ensures in
+    (get_noted c.args.key.now c.look_up-found.result c.pin.ensures.steps s.searched c.end_get.ensures.step c.pass.invariant s.found).1
 
 pub returns-clause-call : goal.returns-clause-call
 returns-clause-call g c =
-    subst (λ (z : PassView). IsNoted z (pass_view c.end_get.new.seat.seat.table_id (known c.end_get.new.seat)) (Get c.args.key.now) (got c.look_up-found.result)) c.pass.view_is
-    (get_noted c.pass.inside.seat.seat.table_id c.end_get.new.seat.seat.table_id _ c.args.key.now c.look_up-found.result _ _ _ _ c.pass.invariant c.pin_with.ensures.steps c.look_up-found.ensures.searched
-    c.look_up-found.ensures.found c.end_get.ensures.told).0
+    let s = c.look_up-found.ensures in
+    subst (λ (x : TableView). IsNoted x.layout c.args.pass.now (pass_of c.end_get.new.seat) (Get c.args.key.now) (got c.look_up-found.result)) c.self.view_is
+    (subst (λ (z : PassView). IsNoted c.self.inside.table.layout z (pass_of c.end_get.new.seat) (Get c.args.key.now) (got c.look_up-found.result)) c.pass.view_is
+    (get_noted c.args.key.now c.look_up-found.result c.pin.ensures.steps s.searched c.end_get.ensures.step c.pass.invariant s.found).0)
 
 pub returns-clause-steps : goal.returns-clause-steps
 returns-clause-steps g c =
-    let s = get_steps _ _ (known c.pass.inside.seat) _ _ _ c.pin_with.ensures.steps c.look_up-found.ensures.searched c.end_get.ensures.told in
-    rw (← c.pass.view_is) s
+    let s = c.look_up-found.ensures in
+    rw (← c.pass.view_is) (get_steps c.args.key.now c.look_up-found.result c.pin.ensures.steps s.searched c.end_get.ensures.step)
+
+pub returns-clause-read : goal.returns-clause-read
+returns-clause-read g c =
+    subst (λ (x : TableView). HasRead x g.G.Gate.becomes (c.args.pass.now, c.args.gate.now) (pass_of c.end_get.new.seat, c.end_get.new.gate)) c.self.view_is
+    (subst (λ (z : PassView). HasRead c.self.inside.table g.G.Gate.becomes (z, c.args.gate.now) (pass_of c.end_get.new.seat, c.end_get.new.gate)) c.pass.view_is
+    (has_read c.self.inside.table g.G.Gate.becomes c.pin.ensures.steps c.look_up-found.ensures.searched.looks c.end_get.ensures.step))

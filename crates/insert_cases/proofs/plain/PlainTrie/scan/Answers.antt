@@ -21,7 +21,7 @@ use Rattle.insert_cases.proofs.Reading.{IsTree, plain_tree}
 use Rattle.insert_cases.proofs.Searching.{read_at}
 use Rattle.insert_cases.proofs.Values.{map_is}
 use Rattle.insert_cases.proofs.plain.PlainTrie.scan.Goals as goal
-use Rattle.insert_cases.proofs.plain.PlainTrie.scan.Goals.{After-find, After-mismatch-difference, in-Full, in_default-matches}
+use Rattle.insert_cases.proofs.plain.PlainTrie.scan.Goals.{After-find, in-Full, in_default-matches}
 
 -- the tree, as the search's contract needs it
 tree : (c : After-find) → (t : Tree) × IsTree c.args.self.now c.in-Some.top t

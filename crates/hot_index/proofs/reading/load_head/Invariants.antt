@@ -1,9 +1,0 @@
--- The words so far are loaded.
-use Rattle.std.proofs.Common.{◌≡◌, length}
-use Rattle.moments.specs.declared.Rec.TheVariants.{Node as a_node}
-use Rattle.rowex_table.specs.Seats.{IsSame, known}
-use Rattle.hot_index.proofs.Wording.{AreLoaded}
-use Rattle.hot_index.proofs.reading.load_head.Given as goal
-
-abbrev pub invariant-loop-index : goal.invariant-loop-index
-invariant-loop-index g l = IsSame l.fn.seat l.seat × (length l.words ≡ 25) × AreLoaded l.fn.table.layout (known l.fn.seat) (known l.seat) (a_node l.fn.number) l.index l.words

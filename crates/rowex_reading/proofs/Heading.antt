@@ -1,0 +1,147 @@
+-- What the loads of a node's head tell.
+use Rattle.std.proofs.Common.{◌≡◌, ℕ, ◌≤◌, List, [], ◌∷◌, length, map, take, refl, ap, ap₂, sym, ◌∙◌, subst, arith, le_trans}
+use Rattle.compound_node.specs.declared.entries.Entry.{Entry}
+use Rattle.compound_node.specs.declared.entries.Entry.TheVariants.{Leaf, Node}
+use Rattle.compound_node.specs.Nodes.{NodeView, HeadView, IsLawful as IsLawfulNode, head_of, leaves, piece}
+use Rattle.compound_node.proofs.Lawful.{same_count}
+use Rattle.pieces.specs.Piece.{Place, Fork, places, uses, map_places}
+use Rattle.pieces.proofs.Mapping.{places-map_places, paths-map_places, uses-map_places, UsesOnly-map_places, RisesFrom-map_places}
+use Rattle.pieces.proofs.Tests.{all_weaker}
+use Rattle.partial_keys.specs.Rows.{row_of}
+use Rattle.partial_keys.specs.Shows.{Shows}
+use Rattle.partial_keys.proofs.Reading.{piece_of_shown}
+use Rattle.record_words.specs.declared.layout.Layout.{Layout}
+use Rattle.record_words.specs.Node.{HasHeadWords, head_words}
+use Rattle.record_words.specs.Reading.{IsSpelling, IsSpelledBy}
+use Rattle.record_words.specs.declared.TheConstants.{HEAD_WORDS}
+use Rattle.tries.specs.Tree.{Tree, leaf, node, fork, page, Page, Fixed}
+use Rattle.tries.specs.Place.{shape}
+use Rattle.moments.specs.declared.Rec.TheVariants.{Node as a_node}
+use Rattle.moments.specs.Heap.{Heap, NodeWords, IsCopied}
+use Rattle.moments.specs.State.{Stands, IsRecord, IsSame, IsReach}
+use Rattle.moments.proofs.States.{steady}
+use Rattle.rowex_core.specs.declared.known.Known.{Known}
+use Rattle.rowex_core.specs.Cores.{Core, IsLawful, heap_of, view}
+use Rattle.rowex_core.specs.Knowing.{Recalls}
+use Rattle.rowex_core.proofs.Owning.{recalls}
+use Rattle.rowex_core.specs.Reading.{IsPacked}
+use Rattle.rowex_core.proofs.Reading.{head_is, node_is}
+use Rattle.rowex_walks.specs.Scan.{IsSeen, IsShaped}
+use Rattle.rowex_walks.proofs.Loads.{loads_shape}
+use Rattle.rowex_walks.proofs.Search.{now_same}
+use Rattle.rowex_walks.proofs.Scans.{node_of, shaped}
+use Rattle.rowex_reading.specs.Possible.{IsPossible}
+use Rattle.rowex_reading.specs.Seen.{seen, IsLedTo, shape_of}
+use Rattle.rowex_reading.proofs.Seeing.{recalls_before, seen_within, seen_past, seen_grown, seen_stable, stands_in, stands_seen}
+use Rattle.rowex_reading.proofs.Standing.{reach, is_packed}
+use Rattle.rowex_reading.proofs.Placing.{to_stood}
+use Rattle.rowex_reading.proofs.Wording.{AreLoaded, led_stood, words_now}
+
+-- The forks of a node are those of one with its head and leaves at its places
+
+abbrev a_leaf : Entry → Entry
+a_leaf e = Leaf 0
+
+shape_map : (p : Page) → shape p ≡ map_places a_leaf p
+shape_map (Place e) = refl
+shape_map (Fork q a b) = ap₂ (λ x y. Fork q x y) (shape_map a) (shape_map b)
+
+as_many : (xs : List Entry) → map a_leaf xs ≡ leaves (length xs)
+as_many [] = refl
+as_many (x ∷ xs) = ap (λ z. Leaf 0 ∷ z) (as_many xs)
+
+shows_leaves : (v : NodeView) → IsLawfulNode v → Shows v.columns v.rows (leaves (length v.rows)) (map_places a_leaf (piece v))
+shows_leaves v lawful = record {
+  few = lawful.shows.few;
+  columns_rise = lawful.shows.columns_rise;
+  forks_at_columns = UsesOnly-map_places a_leaf v.columns (piece v) lawful.shows.forks_at_columns;
+  columns_used = all_weaker (uses (piece v)) (uses (map_places a_leaf (piece v))) v.columns (λ p e. uses-map_places a_leaf (piece v) p ∙ e) lawful.shows.columns_used;
+  paths_rise = RisesFrom-map_places a_leaf 0 (piece v) lawful.shows.paths_rise;
+  rows_are = lawful.shows.rows_are ∙ ap (map (row_of v.columns)) (sym (paths-map_places a_leaf (piece v)));
+  entries_are = ap leaves (same_count v lawful ∙ ap length lawful.shows.entries_are) ∙ (sym (as_many (places (piece v))) ∙ sym (places-map_places a_leaf (piece v)));
+}
+
+pub shape_is : (v : NodeView) → IsLawfulNode v → shape (piece v) ≡ shape_of (head_of v)
+shape_is v lawful = shape_map (piece v) ∙ sym (piece_of_shown (Leaf 0) v.columns v.rows (leaves (length v.rows)) (map_places a_leaf (piece v)) (shows_leaves v lawful))
+
+-- the fixed words of a node that stood are those that it has
+same_fixed : (heap : Heap) (n : ℕ) (x : Fixed) (b w : Tree) → IsRecord (a_node n) w → IsSame (node n x b) w → IsCopied heap w → (heap.nodes n).fixed ≡ x
+same_fixed heap n x b (leaf m k v) r i f = absurd i
+same_fixed heap n x b (fork p y z) r i f = absurd i
+same_fixed heap n x b (node m y d) r i f = ap (λ z. (heap.nodes z).fixed) (number r) ∙ (ap (λ (z : NodeWords). z.fixed) f ∙ sym i.0)
+  where
+    number : {a b : ℕ} → a_node a ≡ a_node b → a ≡ b
+    number e = cc
+
+module _ (layout : Layout) (k j : Known) (n i : ℕ) (words : List ℕ) (possible : IsPossible layout j) (loaded : AreLoaded k j (a_node n) i words) (all : i ≡ HEAD_WORDS)
+    (long : length words ≡ HEAD_WORDS) (m h : ℕ) (led : IsLedTo k m (Node n h)) where
+  -- in each core of which j is true, the words are those of a node's head
+  record HeadNow (c : Core) : Type 0 where
+    view_now : NodeView
+    lawful_now : IsLawfulNode view_now
+    spelled : head_words (head_of view_now) ≡ words
+    nodes_are : (heap_of c.words).nodes n ≡ record { fixed = head_of view_now; page = piece view_now }
+
+  head_now : (c : Core) → IsLawful c → Recalls c j → HeadNow c
+  unfolding IsPacked
+  head_now c lawful known =
+      let before = recalls_before loaded.later known in
+      go (is_packed c k lawful before m led.0 (Node n h) (led.1 c lawful before))
+    where
+      go : IsPacked (a_node n) (c.words (a_node n)) → HeadNow c
+      go (v, has, same) =
+          let sized = lawful.records.sized (a_node n) in
+          let are = words_now k j (a_node n) i words loaded (long ∙ sym all) (λ o low. (omega arith, omega arith)) m (led_stood k m (Node n h) led) c lawful known (omega (arith, sized.0)) in
+          record {
+            view_now = v;
+            lawful_now = has.lawful;
+            spelled = head_is v (c.words (a_node n)) sized.1 has same ∙ (ap (λ z. take z (c.words (a_node n))) (sym all) ∙ sym are);
+            nodes_are = node_is v (c.words (a_node n)) sized.1 has same;
+          }
+
+  -- the words spell a head
+  pub head_spelled : IsSpelling HasHeadWords head_words words
+  head_spelled = let now = head_now possible.core possible.lawful (recalls possible.core j possible.knows) in (head_of now.view_now, (now.view_now, now.lawful_now, refl), now.spelled)
+
+  -- and it is the node's
+  module _ (head : HeadView) (read : IsSpelledBy HasHeadWords head_words words head) (c : Core) (lawful : IsLawful c) (known : Recalls c j) where
+    there : HeadNow c
+    there = head_now c lawful known
+
+    head_same : head_of there.view_now ≡ head
+    head_same = sym (read.only (head_of there.view_now) (there.view_now, there.lawful_now, refl) there.spelled)
+
+    before : Recalls c k
+    before = recalls_before loaded.later known
+
+    led_there : IsSeen (seen c k) m (Node n h)
+    led_there = led.1 c lawful before
+
+    head_reach : IsReach (view c) m
+    head_reach = reach c k lawful before m led.0
+
+    pub head_height : head.height ≡ h
+    head_height = go (node_of n h led_there.1 led_there.5)
+      where
+        go : (x : Fixed) × (b : Tree) × (led_there.1 ≡ node n x b) × (x.height ≡ h) → head.height ≡ h
+        go (x, b, is_node, high) =
+            let st : Stands c.past led_there.0 (a_node n) (node n x b) = subst (λ z. Stands c.past led_there.0 (a_node n) z) is_node (stands_in c k led_there.4) in
+            let w = now_same (view c) lawful.core.state (a_node n) led_there.0 (node n x b)
+            (head_reach led_there.0 led_there.2 (le_trans led_there.3 (seen_within lawful before)) (a_node n) (node n x b) st) st in
+            ap (λ (z : HeadView). z.height) (sym head_same ∙ (ap (λ (z : NodeWords). z.fixed) (sym there.nodes_are) ∙ same_fixed (heap_of c.words) n x b w.0 w.1.is_record w.2 w.3)) ∙ high
+
+    pub head_shaped : IsShaped (seen c j) m n (shape_of head)
+    head_shaped = go (node_of n h led_there.1 led_there.5)
+      where
+        go : (x : Fixed) × (b : Tree) × (led_there.1 ≡ node n x b) × (x.height ≡ h) → IsShaped (seen c j) m n (shape_of head)
+        go (x, b, is_node, high) =
+            let inside : led_there.0 ≤ length j.front = le_trans led_there.3 (seen_grown c loaded.later).longer in
+            let past : led_there.0 ≤ c.past.now = le_trans led_there.3 (seen_within lawful before) in
+            let st = stands_in c k led_there.4 in
+            let p = shape ((heap_of c.words).nodes n).page in
+            let shape_there : IsShaped c.past m n p = loads_shape (view c) lawful.core.state m head_reach n h (seen_stable m (Node n h) (seen c k) c.past (seen_past lawful before) led_there) in
+            let same : shape (page b) ≡ p = shaped c.past m (steady (view c) lawful.core.state m head_reach) n p b shape_there (to_stood c.past m n led_there.0 led_there.1 x b is_node led_there.2 past st) in (
+              b,
+              to_stood (seen c j) m n led_there.0 led_there.1 x b is_node led_there.2 inside (stands_seen c j st),
+              same ∙ (ap (λ (z : NodeWords). shape z.page) there.nodes_are ∙ (shape_is there.view_now there.lawful_now ∙ ap shape_of head_same)),
+            )

@@ -1,0 +1,171 @@
+-- A search from the root down to a leaf: what it is sure of at each entry that it is led to.
+use Rattle.std.proofs.Common.{◌≡◌, ◌≢◌, ◌⊎◌, inl, inr, ℕ, ◌+◌, ◌*◌, ◌<◌, ◌≤◌, Some, None, IsSome, sym, subst, ◌∙◌, arith}
+use Rattle.key_bits.specs.declared.TheConstants.{MAX_BYTES}
+use Rattle.compound_node.specs.Nodes.{HeadView, height_of}
+use Rattle.compound_node.specs.declared.entries.Entry.{Entry}
+use Rattle.compound_node.specs.declared.entries.Entry.TheVariants.{Leaf, Node}
+use Rattle.pieces.specs.Piece.{size}
+use Rattle.tries.specs.Keys.{Key}
+use Rattle.tries.specs.Tree.{Tree, leaf, node, fork, Has, here}
+use Rattle.tries.specs.Search.{Follows}
+use Rattle.tries.specs.Place.{spot}
+use Rattle.tries.proofs.Places.{spot_below}
+use Rattle.tries.proofs.Tries.{has?, follows_if_has}
+use Rattle.moments.specs.State.{Past, IsSteady, IsLed, IsMissed, IsHeld}
+use Rattle.moments.specs.declared.Rec.TheVariants.{Leaf as a_leaf}
+use Rattle.moments.proofs.States.{record_of_page}
+use Rattle.rowex_walks.specs.Scan.{IsSeen, IsRooted, IsBlank, IsPlaced, IsShaped, IsRead}
+use Rattle.rowex_walks.proofs.Scans.{led_placed, read_held}
+use Rattle.record_words.specs.declared.TheConstants.{HEAD_WORDS, LEAF_FIELDS}
+use Rattle.rowex_core.specs.declared.event.Event.{Event}
+use Rattle.rowex_table.specs.Seats.{TableView, SeatView}
+use Rattle.rowex_reading.specs.Lookups.{HasFound, HasSearched}
+use Rattle.rowex_reading.specs.Reads.{Looks, Reads, ReadsRoot}
+use Rattle.rowex_reading.specs.Seen.{seen, Sure, IsSince, since, IsLedTo, HasPlace, shape_of}
+use Rattle.rowex_reading.proofs.Led.{led_shape, looks_first, looks_on, reads_later, reads_trans, root_pinned, same_since, shape_place}
+use Rattle.rowex_reading.proofs.Seeing.{sure_later, sure_map, since_later, seen_steady, led_stable, shaped_stable}
+
+-- Over moments alone
+
+led_seen : (s : Past) (m : ℕ) (k : Key) (e : Entry) → IsLed s m k e → IsSeen s m e
+led_seen s m k e (n, u, lo, hi, st, pg, f) = (n, u, lo, hi, st, pg)
+
+blank_missed : (s : Past) (m : ℕ) (k : Key) → IsBlank s m → IsMissed s m k
+blank_missed s m k (n, lo, hi, none) = (n, lo, hi, λ t is h. absurd (let no : None ≡ Some t = sym none ∙ is in cc))
+
+-- A search begins at the root's entry.
+rooted_led : (s : Past) (m : ℕ) → IsSteady s m → (k : Key) (e : Entry) → IsRooted s m e → IsLed s m k e
+rooted_led s m steady k e (n, t, lo, hi, is, pg) =
+    (n, t, lo, hi, record { tree = t; is_moment = is; within = here; is_record = record_of_page e t pg }, pg, choose (has? t k))
+  where
+    choose : Dec (Has t k) → Follows k t ⊎ IsMissed s m k
+    choose (yes x) = inl (follows_if_has t (steady.trees n t hi is).0 k x)
+    choose (no x) = inr (n, lo, hi, λ u e h. x (subst (λ z. Has z k) (let q : u ≡ t = same (sym e ∙ is) in q) h))
+      where
+        same : {a b : Tree} → Some a ≡ Some b → a ≡ b
+        same e = cc
+
+-- It ends at a leaf: the leaf's key tells whether the key was held or absent.
+leaf_missed : (s : Past) (m : ℕ) → IsSteady s m → (k : Key) (n : ℕ) (l : Key) (v : ℕ) → IsLed s m k (Leaf n) → IsRead s m n l v → k ≢ l → IsMissed s m k
+leaf_missed s m steady k n l v (o, u, lo, hi, st, pg, inr missed) r ne = missed
+leaf_missed s m steady k n l v (o, leaf a y w, lo, hi, st, pg, inl follows) (p, la, ha, sa) ne =
+    absurd (ne (follows ∙ (steady.same (a_leaf n) o p (leaf a y w) (leaf n l v) lo hi la ha st sa).0))
+leaf_missed s m steady k n l v (o, node a x b, lo, hi, st, pg, inl follows) r ne = absurd cc
+leaf_missed s m steady k n l v (o, fork p x y, lo, hi, st, pg, inl follows) r ne = absurd cc
+
+-- Of a pass
+
+-- Since its load of the root the pass was led to this entry by its search. It has passed so many nodes, and the root's entry
+-- has this height.
+pub record IsAt {G : Type 0} (table : TableView) (becomes : G → Event → G → Type 0) (a b : SeatView × G) (key : Key) (e : Entry) : Type 0 where
+  pub height : ℕ
+  pub passed : ℕ
+  pub loaded : ℕ
+  pub falls : passed + height_of e ≤ height
+  pub low : height ≤ 9 * MAX_BYTES
+  pub few : loaded ≤ 26 * passed
+  pub looks : Looks table becomes loaded a b
+  pub pinned : IsSince b.0.known (since b.0.known)
+  pub led : Sure b.0.known (λ s. IsLed s (since b.0.known) key e)
+
+module _ {G : Type 0} {table : TableView} {becomes : G → Event → G → Type 0} where
+  -- the load of the root
+  module _ {a b : SeatView × G} (reads : ReadsRoot table becomes a b) where
+    -- it was empty
+    pub none_searched : HasSearched table becomes a b
+    none_searched = record { nodes = 0; loaded = 0; low = omega arith; few = omega arith; looks = looks_first reads }
+
+    pub none_found : (key : Key) → Sure b.0.known (λ s. IsBlank s (since b.0.known)) → HasFound b.0.known key None
+    none_found key blank = sure_map (λ s h. blank_missed s (since b.0.known) key h) blank
+
+    -- it named an entry
+    pub at_root : IsSome a.0.known.pin → (key : Key) (e : Entry) → height_of e ≤ 9 * MAX_BYTES → Sure b.0.known (λ s. IsRooted s (since b.0.known) e) → IsAt table becomes a b key e
+    at_root is key e low rooted =
+        let pinned = root_pinned is reads in
+        record {
+          height = height_of e;
+          passed = 0;
+          loaded = 0;
+          falls = omega arith;
+          low = low;
+          few = omega arith;
+          looks = looks_first reads;
+          pinned = pinned;
+          led = λ c lawful recalls. rooted_led (seen c b.0.known) (since b.0.known) (seen_steady lawful recalls pinned) key e (rooted c lawful recalls);
+        }
+
+  module _ {a b : SeatView × G} {key : Key} {d : Entry} (at : IsAt table becomes a b key d) where
+    abbrev m : ℕ
+    m = since b.0.known
+
+    -- the search is at an entry, of which the pass knows that it stood in the tree
+    pub at_led : (e : Entry) → d ≡ e → IsLedTo b.0.known (since b.0.known) e
+    at_led e is = subst (IsLedTo b.0.known m) is (at.pinned, sure_map (λ s h. led_seen s m key d h) at.led)
+
+    -- It is a node, whose head has been read: there is an entry at the key's place.
+    module _ {c : SeatView × G} (n height : ℕ) (head : HeadView) (place : ℕ) (is : d ≡ Node n height) (reads : Reads table becomes HEAD_WORDS b c)
+        (told : (m h : ℕ) → IsLedTo b.0.known m (Node n h) → (head.height ≡ h) × Sure c.0.known (λ s. IsShaped s m n (shape_of head))) (leads : place ≡ spot key (shape_of head)) where
+      shaped : Sure c.0.known (λ s. IsShaped s m n (shape_of head))
+      shaped = (told m height (at_led (Node n height) is)).1
+
+      pub at_place : HasPlace c.0.known (since b.0.known) n height place
+      at_place = shape_place (led_shape m n height (shape_of head) reads (at_led (Node n height) is) shaped)
+          (subst (λ z. z < size (shape_of head)) (sym leads) (spot_below key (shape_of head)))
+
+      -- one node down
+      pub at_next : {i : SeatView × G} (e : Entry) → Reads table becomes 1 c i → (height_of e < height) × Sure i.0.known (λ s. IsPlaced s (since b.0.known) n place e) → IsAt table becomes a i key e
+      at_next {i} e one entry = record {
+        height = at.height;
+        passed = at.passed + 1;
+        loaded = at.loaded + 26;
+        falls = let f : at.passed + height ≤ at.height = subst (λ z. at.passed + height_of z ≤ at.height) is at.falls in let lower = entry.0 in omega arith;
+        low = at.low;
+        few = let f = at.few in omega arith;
+        looks = looks_on at.looks both;
+        pinned = subst (IsSince i.0.known) (sym kept) pinned;
+        led = subst (λ o. Sure i.0.known (λ s. IsLed s o key e)) (sym kept)
+            (λ o lawful recalls. led_placed (seen o i.0.known) m (seen_steady lawful recalls pinned) key n height place (shape_of head) e
+            (shapes o lawful recalls) (sym leads) (entry.1 o lawful recalls) (leads_on o lawful recalls));
+      }
+        where
+          both : Reads table becomes 26 b i
+          both = reads_trans reads one
+
+          kept : since i.0.known ≡ m
+          kept = same_since both
+
+          pinned : IsSince i.0.known m
+          pinned = since_later (reads_later both) at.pinned
+
+          shapes : Sure i.0.known (λ s. IsShaped s m n (shape_of head))
+          shapes = sure_later (shaped_stable m n (shape_of head)) (reads_later one) shaped
+
+          leads_on : Sure i.0.known (λ s. IsLed s m key (Node n height))
+          leads_on = sure_later (led_stable m key (Node n height)) (reads_later both) (subst (λ z. Sure b.0.known (λ s. IsLed s m key z)) is at.led)
+
+    -- it is a leaf, which has been read
+    module _ {c : SeatView × G} (n : ℕ) (is : d ≡ Leaf n) (reads : Reads table becomes LEAF_FIELDS b c) (l : Key) (v : ℕ)
+        (told : (m : ℕ) → IsLedTo b.0.known m (Leaf n) → Sure c.0.known (λ s. IsRead s m n l v)) where
+      read : Sure c.0.known (λ s. IsRead s m n l v)
+      read = told m (at_led (Leaf n) is)
+
+      pub leaf_searched : HasSearched table becomes a c
+      leaf_searched = record {
+        nodes = at.passed;
+        loaded = at.loaded + 32;
+        low = let f = at.falls in let b = at.low in omega arith;
+        few = let f = at.few in omega arith;
+        looks = looks_on at.looks reads;
+      }
+
+      pub leaf_held : l ≡ key → HasFound c.0.known key (Some v)
+      leaf_held e = subst (λ o. Sure c.0.known (λ s. IsHeld s o key v)) (sym (same_since reads))
+          (λ o lawful recalls. subst (λ z. IsHeld (seen o c.0.known) m z v) e (read_held (seen o c.0.known) m n l v (read o lawful recalls)))
+
+      pub leaf_absent : l ≢ key → HasFound c.0.known key None
+      leaf_absent ne = subst (λ o. Sure c.0.known (λ s. IsMissed s o key)) (sym (same_since reads))
+          (λ o lawful recalls. leaf_missed (seen o c.0.known) m (seen_steady lawful recalls (since_later (reads_later reads) at.pinned)) key n l v
+          (led_there o lawful recalls) (read o lawful recalls) (λ e. ne (sym e)))
+        where
+          led_there : Sure c.0.known (λ s. IsLed s m key (Leaf n))
+          led_there = sure_later (led_stable m key (Leaf n)) (reads_later reads) (subst (λ z. Sure b.0.known (λ s. IsLed s m key z)) is at.led)

@@ -1,0 +1,144 @@
+-- What a pass is sure of, and what stays so while it loads.
+use Rattle.std.proofs.Common.{◌≡◌, inl, inr, ℕ, suc, zero, ◌+◌, ◌≤◌, List, [], ◌∷◌, ◌++◌, length, take, refl, ap, sym, ◌∙◌, subst, arith, le_trans}
+use Rattle.std.proofs.lemmas.List.{length-append}
+use Rattle.key_bits.specs.Bits.{bit_of}
+use Rattle.pieces.specs.Piece.{leads_to}
+use Rattle.compound_node.specs.Nodes.{HeadView, NodeView, IsLawful as IsLawfulNode, head_of, leaves, node_of, piece}
+use Rattle.compound_node.specs.declared.entries.Entry.{Entry}
+use Rattle.hot_model.specs.declared.Change.{Change}
+use Rattle.hot_model.specs.Fronts.{OthersGoOn, map_of}
+use Rattle.hot_model.proofs.Growth.{legal_front_part, others_none, others_on}
+use Rattle.tries.specs.Keys.{Key}
+use Rattle.tries.specs.Place.{spot}
+use Rattle.tries.proofs.Places.{leads_spot}
+use Rattle.tries.specs.Tree.{Page, Tree}
+use Rattle.moments.specs.declared.Rec.{Rec}
+use Rattle.moments.specs.State.{Past, Stands, IsHeld, IsMissed, IsLed, IsSteady, rec_of}
+use Rattle.moments.specs.Core.{pin_moment}
+use Rattle.moments.specs.Frames.{IsGrown}
+use Rattle.moments.specs.Told.{IsTold}
+use Rattle.moments.proofs.Growth.{stands_grown}
+use Rattle.moments.proofs.States.{steady, reach_later}
+use Rattle.rowex_core.specs.declared.known.Known.{Known}
+use Rattle.rowex_core.specs.Cores.{Core, IsLawful, view}
+use Rattle.rowex_core.specs.Knowing.{Recalls}
+use Rattle.rowex_walks.specs.Scan.{IsSeen, IsRooted, IsPlaced, IsShaped, IsRead, IsBlank}
+use Rattle.rowex_walks.proofs.Persist.{rooted_on, placed_on, shaped_on, read_on}
+use Rattle.rowex_reading.specs.Seen.{seen, shape_of, Sure, IsStable, IsSince, IsLater, HasRoom}
+
+-- Later on
+
+pub later_trans : {k i j : Known} → IsLater k i → IsLater i j → IsLater k j
+later_trans {k} {i} {j} x y = record {
+  pass = y.pass ∙ x.pass;
+  pin = y.pin ∙ x.pin;
+  front = others_on k.pass k.front i.front j.front x.front (subst (λ z. OthersGoOn z i.front j.front) x.pass y.front);
+  facts = λ s h. x.facts s (y.facts s h);
+}
+
+pub later_none : (k : Known) → IsLater k k
+later_none k = record { pass = refl; pin = refl; front = others_none k.pass k.front; facts = λ s h. h }
+
+-- what is true later on was true before
+pub recalls_before : {k j : Known} {c : Core} → IsLater k j → Recalls c j → Recalls c k
+recalls_before {k} {j} {c} l h = record {
+  front = others_on k.pass k.front j.front c.changes l.front (subst (λ z. OthersGoOn z j.front c.changes) l.pass h.front);
+  facts = l.facts c.past h.facts;
+  pin = subst (λ z. c.pins z ≡ j.pin) l.pass h.pin ∙ l.pin;
+}
+
+-- the moments that it has seen become more
+pub seen_grown : {k j : Known} (c : Core) → IsLater k j → IsGrown (seen c k) (seen c j)
+seen_grown {k} {j} c l = record { longer = omega (arith, ap length l.front.1, length-append k.front l.front.0); kept = λ n a. refl }
+
+-- What a pass is sure of
+
+pub sure_later : {P : Past → Type 0} {k j : Known} → IsStable P → IsLater k j → Sure k P → Sure j P
+sure_later {P} {k} {j} stable l sure c lawful recalls = stable (seen c k) (seen c j) (seen_grown c l) (sure c lawful (recalls_before l recalls))
+
+pub sure_map : {P Q : Past → Type 0} {k : Known} → ((s : Past) → P s → Q s) → Sure k P → Sure k Q
+sure_map f sure c lawful recalls = f _ (sure c lawful recalls)
+
+pub since_later : {m : ℕ} {k j : Known} → IsLater k j → IsSince k m → IsSince j m
+since_later l (p, is, low) = (p, l.pin ∙ is, low)
+
+-- The moments that a pass has seen are those of the core up to one of them
+
+pub seen_within : {c : Core} {k : Known} → IsLawful c → Recalls c k → length k.front ≤ c.past.now
+seen_within {c} {k} lawful recalls = omega (arith, lawful.core.told.count, ap length recalls.front.1, length-append k.front recalls.front.0)
+
+pub seen_past : {c : Core} {k : Known} → IsLawful c → Recalls c k → IsGrown (seen c k) c.past
+seen_past lawful recalls = record { longer = seen_within lawful recalls; kept = λ n a. refl }
+
+pub stands_in : (c : Core) (k : Known) {n : ℕ} {r : Rec} {u : Tree} → Stands (seen c k) n r u → Stands c.past n r u
+stands_in c k st = record { tree = st.tree; is_moment = st.is_moment; within = st.within; is_record = st.is_record }
+
+pub stands_seen : (c : Core) (k : Known) {n : ℕ} {r : Rec} {u : Tree} → Stands c.past n r u → Stands (seen c k) n r u
+stands_seen c k st = record { tree = st.tree; is_moment = st.is_moment; within = st.within; is_record = st.is_record }
+
+take_front : (n : ℕ) (xs ys : List Change) → n ≤ length xs → take n (xs ++ ys) ≡ take n xs
+take_front zero xs ys h = refl
+take_front (suc n) [] ys h = absurd (omega arith)
+take_front (suc n) (x ∷ xs) ys h = ap (λ z. x ∷ z) (take_front n xs ys (omega arith))
+
+-- its front tells them
+pub seen_told : {c : Core} {k : Known} → IsLawful c → Recalls c k → IsTold (seen c k) k.front
+seen_told {c} {k} lawful recalls = record {
+  count = refl;
+  content_is = λ n h. lawful.core.told.content_is n (le_trans h (seen_within lawful recalls)) ∙
+      ap map_of (ap (take n) recalls.front.1 ∙ take_front n k.front recalls.front.0 h);
+  legal = legal_front_part k.front c.changes (recalls.front.0, recalls.front.1) lawful.core.told.legal;
+}
+
+-- and since its pin the records keep their fixed words
+pub seen_steady : {c : Core} {k : Known} {m : ℕ} → IsLawful c → Recalls c k → IsSince k m → IsSteady (seen c k) m
+seen_steady {c} {k} {m} lawful recalls (p, is, low) = record {
+  trees = λ n t h e. all.trees n t (le_trans h within) e;
+  same = λ r n o u v a b d e x y. all.same r n o u v a (le_trans b within) d (le_trans e within) (stands_in c k x) (stands_in c k y);
+}
+  where
+    within : length k.front ≤ c.past.now
+    within = seen_within lawful recalls
+
+    all : IsSteady c.past m
+    all = steady (view c) lawful.core.state m (reach_later (view c) p.moment m low (lawful.core.state.reach k.pass p.moment (ap pin_moment (recalls.pin ∙ is))))
+
+-- What stays true as the past grows
+
+pub seen_stable : (m : ℕ) (e : Entry) → IsStable (λ s. IsSeen s m e)
+seen_stable m e a b g (n, u, lo, hi, st, pg) = (n, u, lo, le_trans hi g.longer, stands_grown a b g n (rec_of e) u hi st, pg)
+
+pub rooted_stable : (m : ℕ) (e : Entry) → IsStable (λ s. IsRooted s m e)
+rooted_stable m e a b g h = rooted_on a b g m e h
+
+pub placed_stable : (m r j : ℕ) (e : Entry) → IsStable (λ s. IsPlaced s m r j e)
+placed_stable m r j e a b g h = placed_on a b g m r j e h
+
+pub shaped_stable : (m r : ℕ) (p : Page) → IsStable (λ s. IsShaped s m r p)
+shaped_stable m r p a b g h = shaped_on a b g m r p h
+
+pub room_stable : (m r i : ℕ) → IsStable (λ s. HasRoom s m r i)
+room_stable m r i a b g (x, shaped, low) = (x, shaped_stable m r x a b g shaped, low)
+
+pub read_stable : (m r : ℕ) (k : Key) (v : ℕ) → IsStable (λ s. IsRead s m r k v)
+read_stable m r k v a b g h = read_on a b g m r k v h
+
+pub blank_stable : (m : ℕ) → IsStable (λ s. IsBlank s m)
+blank_stable m a b g (n, lo, hi, e) = (n, lo, le_trans hi g.longer, g.kept n hi ∙ e)
+
+pub held_stable : (m : ℕ) (k : Key) (v : ℕ) → IsStable (λ s. IsHeld s m k v)
+held_stable m k v a b g (n, t, lo, hi, e, h) = (n, t, lo, le_trans hi g.longer, g.kept n hi ∙ e, h)
+
+pub missed_stable : (m : ℕ) (k : Key) → IsStable (λ s. IsMissed s m k)
+missed_stable m k a b g (n, lo, hi, absent) = (n, lo, le_trans hi g.longer, λ t e. absent t (sym (g.kept n hi) ∙ e))
+
+pub led_stable : (m : ℕ) (k : Key) (e : Entry) → IsStable (λ s. IsLed s m k e)
+led_stable m k e a b g (n, u, lo, hi, st, pg, inl follows) = (n, u, lo, le_trans hi g.longer, stands_grown a b g n (rec_of e) u hi st, pg, inl follows)
+led_stable m k e a b g (n, u, lo, hi, st, pg, inr missed) = (n, u, lo, le_trans hi g.longer, stands_grown a b g n (rec_of e) u hi st, pg, inr (missed_stable m k a b g missed))
+
+-- The place to which a search leads
+
+-- where a node's head leads a key
+pub search_spot : (head : HeadView) (k : Key) (i : ℕ) → IsLawfulNode (node_of head (leaves (length head.rows))) →
+    ((node : NodeView) → IsLawfulNode node → head_of node ≡ head → i ≡ leads_to (bit_of k) (piece node)) → i ≡ spot k (shape_of head)
+search_spot head k i lawful leads = leads (node_of head (leaves (length head.rows))) lawful refl ∙ leads_spot k (shape_of head)

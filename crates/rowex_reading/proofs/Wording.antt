@@ -1,0 +1,91 @@
+-- The words of a record, loaded one after the other.
+use Rattle.std.proofs.Common.{◌≡◌, inl, inr, ◌⊎◌, ℕ, ◌+◌, ◌<◌, ◌≤◌, List, length, get_or, set, take, Some, refl, ap, sym, ◌∙◌, subst, arith, le_trans}
+use Rattle.std.proofs.lemmas.Bool.{cases_lt}
+use Rattle.std.proofs.lemmas.List.{ext_get_or, get_or-set_same, get_or-set_other, get_or-take, length-take-le}
+use Rattle.compound_node.specs.declared.entries.Entry.{Entry}
+use Rattle.record_words.specs.declared.layout.Layout.{Layout}
+use Rattle.moments.specs.declared.Pin.{Pin}
+use Rattle.moments.specs.declared.Rec.{Rec}
+use Rattle.moments.specs.State.{Past, rec_of}
+use Rattle.moments.proofs.Growth.{stands_grown}
+use Rattle.rowex_core.specs.declared.event.Act.TheVariants.{LoadFixed}
+use Rattle.rowex_core.specs.declared.known.Fact.TheVariants.{Fixed}
+use Rattle.rowex_core.specs.declared.known.Known.{Known}
+use Rattle.rowex_core.specs.Cores.{Core, IsLawful}
+use Rattle.rowex_core.specs.Events.{IsFixedOffset}
+use Rattle.rowex_core.specs.Knowing.{Recalls, IsEvent, StoodAs, StoodBetween}
+use Rattle.rowex_core.specs.Reading.{word_in}
+use Rattle.rowex_table.specs.Runs.{silent}
+use Rattle.rowex_reading.specs.Seen.{seen, Sure, IsStable, IsSince, IsLater, IsLedTo}
+use Rattle.rowex_reading.proofs.Seeing.{later_none, later_trans, recalls_before, sure_later, since_later, seen_within, stands_in}
+use Rattle.rowex_reading.proofs.Loading.{IsTaught, fixed_taught, taught_now, found_seen}
+use Rattle.rowex_reading.proofs.Standing.{word_stays, later_word}
+
+-- the record stood since m with this word at this offset
+abbrev pub HasWord : Past → ℕ → Rec → ℕ → ℕ → Type 0
+HasWord s m r offset w = StoodAs s m s.now r (λ u. word_in u offset ≡ w)
+
+word_stable : (m : ℕ) (r : Rec) (offset w : ℕ) → IsStable (λ s. HasWord s m r offset w)
+word_stable m r offset w a b g (n, u, lo, hi, st, is) = (n, u, lo, le_trans hi g.longer, stands_grown a b g n r u hi st, is)
+
+-- since m, to which its pin goes back, the pass knows that the record stood
+abbrev pub IsStood : Known → ℕ → Rec → Type 0
+IsStood k m r = IsSince k m × Sure k (λ s. StoodBetween s m s.now r)
+
+pub led_stood : (k : Known) (m : ℕ) (e : Entry) → IsLedTo k m e → IsStood k m (rec_of e)
+led_stood k m e led = (led.0, λ c lawful recalls. (let s = led.1 c lawful recalls in (s.0, s.1, s.2, s.3, s.4)))
+
+-- the first n words of the record have been loaded, of a pass that knew k and knows j
+pub record AreLoaded (k j : Known) (r : Rec) (n : ℕ) (words : List ℕ) : Type 0 where
+  pub later : IsLater k j
+  pub each : (m : ℕ) → IsStood k m r → (o : ℕ) → o < n → Sure j (λ s. HasWord s m r (o + 1) (get_or words o 0))
+
+pub none_loaded : (k : Known) (r : Rec) (words : List ℕ) → AreLoaded k k r 0 words
+none_loaded k r words = record { later = later_none k; each = λ m led o low. absurd (omega arith) }
+
+-- one word more
+module _ (layout : Layout) (k j i : Known) (r : Rec) (n w : ℕ) (words : List ℕ) (so_far : AreLoaded k j r n words) (room : n < length words)
+    (event : IsEvent layout (LoadFixed r (n + 1) w) silent j i) where
+  is : (p : Pin) → j.pin ≡ Some p → IsTaught event.core (Fixed p.moment event.core.past.now r (n + 1) w) j i
+  is p pinned = fixed_taught layout j i p pinned r (n + 1) w event
+
+  pub one_loaded : (m : ℕ) → IsStood k m r → AreLoaded k i r (n + 1) (set words n w)
+  one_loaded m stood = record {
+    later = both;
+    each = λ o from a low. word_at o from a (cases_lt a n) low;
+  }
+    where
+      still : IsSince j m
+      still = since_later so_far.later stood.0
+
+      now : IsTaught event.core (Fixed still.0.moment event.core.past.now r (n + 1) w) j i
+      now = is still.0 still.1
+
+      both : IsLater k i
+      both = later_trans so_far.later now.later
+
+      new_word : (o : ℕ) → IsStood k o r → Sure i (λ s. HasWord s o r (n + 1) w)
+      new_word o from c lawful recalls =
+          let since : IsSince j o = since_later so_far.later from.0 in
+          let taught = is since.0 since.1 in
+          found_seen event.core c k i since.0.moment o r (λ u. word_in u (n + 1) ≡ w) (taught_now event.lawful taught) both since.2 (from.1 c lawful (recalls_before both recalls)) (taught.fact c recalls).1
+
+      word_at : (o : ℕ) → IsStood k o r → (a : ℕ) → (a < n) ⊎ (n ≤ a) → a < n + 1 → Sure i (λ s. HasWord s o r (a + 1) (get_or (set words n w) a 0))
+      word_at o from a (inl older) low =
+          subst (λ z. Sure i (λ s. HasWord s o r (a + 1) z)) (sym (get_or-set_other words n a w 0 (λ e. omega arith))) (sure_later (word_stable o r (a + 1) (get_or words a 0)) now.later (so_far.each o from a older))
+      word_at o from a (inr newest) low =
+          let e : n ≡ a = omega arith in
+          subst (λ z. Sure i (λ s. HasWord s o r (z + 1) (get_or (set words n w) z 0))) e
+          (subst (λ z. Sure i (λ s. HasWord s o r (n + 1) z)) (sym (get_or-set_same words n w 0 room)) (new_word o from))
+
+-- in each core of which it knows true things, the words are those of the record now
+module _ (k j : Known) (r : Rec) (n : ℕ) (words : List ℕ) (loaded : AreLoaded k j r n words) (long : length words ≡ n)
+    (fixed : (o : ℕ) → o < n → IsFixedOffset r (o + 1)) (m : ℕ) (stood : IsStood k m r) (c : Core) (lawful : IsLawful c) (known : Recalls c j) where
+  word_now : (o : ℕ) → o < n → get_or words o 0 ≡ get_or (c.words r) o 0
+  word_now o low =
+      let h : HasWord (seen c j) m r (o + 1) (get_or words o 0) = loaded.each m stood o low c lawful known in
+      sym h.5 ∙ (sym (word_stays c j lawful known m (since_later loaded.later stood.0) h.0 r h.1 h.2 (le_trans h.3 (seen_within lawful known)) (stands_in c j h.4) (o + 1) (fixed o low)) ∙ later_word c r o)
+
+  pub words_now : n ≤ length (c.words r) → words ≡ take n (c.words r)
+  words_now room = ext_get_or 0 words (take n (c.words r)) (long ∙ sym (length-take-le n (c.words r) room))
+      (λ o low. word_now o (omega arith) ∙ sym (get_or-take n (c.words r) o 0 (omega arith)))

@@ -1,0 +1,15 @@
+-- The words so far are loaded.
+use Rattle.std.proofs.Common.{◌≡◌, length}
+use Rattle.moments.specs.declared.Rec.TheVariants.{Leaf as a_leaf}
+use Rattle.record_words.specs.declared.TheConstants.{LEAF_FIELDS}
+use Rattle.rowex_reading.specs.Reads.{IsReader, Reads}
+use Rattle.rowex_reading.proofs.Wording.{AreLoaded}
+use Rattle.rowex_reading.proofs.reading.load_leaf.Given as goal
+
+abbrev pub invariant-loop-index : goal.invariant-loop-index
+invariant-loop-index g l = record {
+  reader : IsReader l.table l.seat;
+  long : length l.words ≡ LEAF_FIELDS;
+  reads : Reads l.table g.G.Gate.becomes l.index (l.fn.seat, l.fn.gate) (l.seat, l.gate);
+  loaded : AreLoaded l.fn.seat.known l.seat.known (a_leaf l.fn.number) l.index l.words;
+}

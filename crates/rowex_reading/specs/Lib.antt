@@ -1,0 +1,5 @@
+-- The definitions of the crate.
+pub mod Seen
+pub mod Possible
+pub mod Reads
+pub mod Lookups

@@ -1,0 +1,40 @@
+-- What a pass reads of the tree, as steps of its seat of which a gate is told.
+use Rattle.std.specs.Prelude.{◌≡◌, ℕ, List, length, All}
+use Rattle.rowex_core.specs.declared.event.Act.{Act}
+use Rattle.rowex_core.specs.declared.event.Act.TheVariants.{LoadRef, LoadFixed}
+use Rattle.rowex_core.specs.declared.event.Event.{Event}
+use Rattle.rowex_core.specs.declared.event.Spot.TheVariants.{Root, Slot}
+use Rattle.rowex_table.specs.Runs.{Runs, Steps}
+use Rattle.rowex_table.specs.Seats.{TableView, SeatView, IsSeatOf}
+use Rattle.rowex_reading.specs.Possible.{IsPossible}
+
+-- the seat is of a pass of this table, which may read below the root: what it knows is true of some lawful core
+abbrev pub IsReader : TableView → SeatView → Type 0
+IsReader table a = IsSeatOf table a × IsPossible table.layout a.known
+
+-- a load of an entry of a node, or of a word of a record that is neither its state nor an entry
+abbrev pub IsBelowRoot : Act → Type 0
+IsBelowRoot (LoadRef (Slot n i) word) = Unit {0}
+IsBelowRoot (LoadFixed r offset word) = Unit {0}
+IsBelowRoot act = ⊥
+
+-- The pass makes so many loads below the root, one after the other, and no other step; and the gate is told each of them.
+pub record Reads {G : Type 0} (table : TableView) (becomes : G → Event → G → Type 0) (n : ℕ) (a b : SeatView × G) : Type 0 where
+  pub acts : List Act
+  pub below : All IsBelowRoot acts
+  pub count : length acts ≡ n
+  pub steps : Runs table becomes acts a b
+
+-- the same, of some number of loads
+abbrev pub ReadsSome : {G : Type 0} → TableView → (G → Event → G → Type 0) → SeatView × G → SeatView × G → Type 0
+ReadsSome table becomes a b = (n : ℕ) × Reads table becomes n a b
+
+-- the pass loads the root, and makes no other step; and the gate is told
+abbrev pub ReadsRoot : {G : Type 0} → TableView → (G → Event → G → Type 0) → SeatView × G → SeatView × G → Type 0
+ReadsRoot table becomes a b = (word : ℕ) × Steps table becomes (LoadRef Root word) a b
+
+-- The pass loads the root, and then so many words below it, and makes no other step; and the gate is told each load.
+pub record Looks {G : Type 0} (table : TableView) (becomes : G → Event → G → Type 0) (n : ℕ) (a b : SeatView × G) : Type 0 where
+  pub at : SeatView × G
+  pub root : ReadsRoot table becomes a at
+  pub rest : Reads table becomes n at b

@@ -1,0 +1,72 @@
+-- What a pass may conclude of the moments that it has seen, and what loads teach it.
+use Rattle.std.specs.Prelude.{◌≡◌, ℕ, ◌<◌, ◌≤◌, length, All, Option, Some, None}
+use Rattle.hot_model.specs.Fronts.{OthersGoOn}
+use Rattle.compound_node.specs.Nodes.{HeadView, piece, node_of, leaves}
+use Rattle.compound_node.specs.declared.entries.Entry.{Entry}
+use Rattle.compound_node.specs.declared.entries.Entry.TheVariants.{Node}
+use Rattle.pieces.specs.Piece.{size}
+use Rattle.tries.specs.Tree.{Page}
+use Rattle.moments.specs.declared.Pin.{Pin}
+use Rattle.moments.specs.State.{Past}
+use Rattle.moments.specs.Frames.{IsGrown}
+use Rattle.rowex_core.specs.declared.known.Known.{Known}
+use Rattle.rowex_core.specs.Cores.{Core, IsLawful}
+use Rattle.rowex_core.specs.Knowing.{IsFact, Recalls}
+use Rattle.rowex_walks.specs.Scan.{IsSeen, IsRooted, IsBlank, IsShaped}
+
+-- the moments that the pass has seen, of those of a core: up to the one after the changes of its front
+abbrev pub seen : Core → Known → Past
+seen c k = record { now = length k.front; moment = c.past.moment }
+
+-- the pass can be sure of it: it holds of the moments seen in each lawful core of which what the pass recalls is true
+abbrev pub Sure : Known → (Past → Type 0) → Type 0
+Sure k P = (c : Core) → IsLawful c → Recalls c k → P (seen c k)
+
+-- what holds of a past holds of each longer one
+abbrev pub IsStable : (Past → Type 0) → Type 0
+IsStable P = (a b : Past) → IsGrown a b → P a → P b
+
+-- the pass has been pinned since moment m or longer
+abbrev pub IsSince : Known → ℕ → Type 0
+IsSince k m = (p : Pin) × (k.pin ≡ Some p) × (p.moment ≤ m)
+
+-- the moment at which it loaded the root last
+abbrev pub since : Known → ℕ
+since k = length k.fresh.front
+
+-- The pass knew k, and knows j later on: it has its pin still, has seen further changes of others alone, and has forgotten
+-- no fact. So what it was sure of of each longer past, it is sure of still.
+pub record IsLater (k j : Known) : Type 0 where
+  pub pass : j.pass ≡ k.pass
+  pub pin : j.pin ≡ k.pin
+  pub front : OthersGoOn k.pass k.front j.front
+  pub facts : (s : Past) → All (IsFact s) j.facts → All (IsFact s) k.facts
+
+-- the forks of a node with this head
+abbrev pub shape_of : HeadView → Page
+shape_of head = piece (node_of head (leaves (length head.rows)))
+
+-- what a load of the root tells
+abbrev pub RootIs : Known → Option Entry → Type 0
+RootIs k None = Sure k (λ s. IsBlank s (since k))
+RootIs k (Some e) = Sure k (λ s. IsRooted s (since k) e)
+
+-- at its last load of the root, to which its pin goes back, the root had this entry
+abbrev pub IsAtRoot : Known → Entry → Type 0
+IsAtRoot k e = IsSince k (since k) × Sure k (λ s. IsRooted s (since k) e)
+
+-- since moment m, to which its pin goes back, the pass was led to the record that the entry names
+abbrev pub IsLedTo : Known → ℕ → Entry → Type 0
+IsLedTo k m e = IsSince k m × Sure k (λ s. IsSeen s m e)
+
+-- the node stood since m with more places than this one
+abbrev pub HasRoom : Past → ℕ → ℕ → ℕ → Type 0
+HasRoom s m n i = (x : Page) × IsShaped s m n x × (i < size x)
+
+-- it was led to the node, which has an entry at this place
+abbrev pub HasPlace : Known → ℕ → ℕ → ℕ → ℕ → Type 0
+HasPlace k m n h i = IsLedTo k m (Node n h) × Sure k (λ s. HasRoom s m n i)
+
+-- it was led to the node, and has read its forks
+abbrev pub HasShape : Known → ℕ → ℕ → ℕ → Page → Type 0
+HasShape k m n h x = IsLedTo k m (Node n h) × Sure k (λ s. IsShaped s m n x)

@@ -1,0 +1,9 @@
+//! What a pass reads of the tree: single loads, and the search for a key from the root down to a leaf; and what the pass can
+//! be sure of then, whatever other passes publish meanwhile.
+#![tactic(auto)]
+
+mod lookup;
+mod reading;
+
+pub use lookup::look_up;
+pub use reading::{load_entry, load_head, load_leaf, load_root};

@@ -1,0 +1,39 @@
+//! The search for a key, from the root down to a leaf.
+
+ghost use Rattle.std.specs.Prelude.{IsSome};
+ghost use Rattle.rowex_table.specs.Seats.{IsSeatOf};
+ghost use Rattle.rowex_reading.specs.Lookups.{HasFound, HasSearched};
+
+use crate::reading::{load_entry, load_head, load_leaf, load_root};
+use compound_node::Entry;
+use key_bits::Key;
+use rowex_core::Gate;
+use rowex_table::{HotTable, TableSeat};
+
+/// Searches for a key from the root down to a leaf, and compares the leaf's key; answers the value that it found.
+pub fn look_up<G: Gate>(
+    table: &HotTable,
+    seat: &mut TableSeat,
+    key: &Key,
+    gate: &mut G,
+) -> Option<u64>
+    requires own { IsSeatOf table.now seat.old }
+    requires pinned { IsSome seat.old.known.pin }
+    ensures searched { HasSearched table.now G.becomes (seat.old, gate.old) (seat.new, gate.new) }
+    ensures found { HasFound seat.new.known key.now result }
+{
+    let mut entry = load_root(table, seat, gate)?;
+    loop {
+        match entry {
+            Entry::Leaf(number) => {
+                let (held, value) = load_leaf(table, seat, gate, number);
+                return if held == *key { Some(value) } else { None };
+            }
+            Entry::Node { number, .. } => {
+                let head = load_head(table, seat, gate, number);
+                let place = head.search(key);
+                entry = load_entry(table, seat, gate, number, place);
+            }
+        }
+    }
+}

@@ -1,0 +1,8 @@
+-- The layout of this table. A meeting makes no event.
+use Rattle.std.specs.Prelude.{Some}
+use Rattle.rowex_core.specs.declared.event.Act.TheVariants.{ClearPin}
+use Rattle.rowex_table.specs.Runs.{silent}
+use Rattle.rowex_table.proofs.table.HotTable.meet_seats.Given as goal
+
+abbrev pub ghosts-meet_as : goal.ghosts-meet_as
+ghosts-meet_as a = record { layout = Some a.self.now.layout; act = ClearPin; said = silent }

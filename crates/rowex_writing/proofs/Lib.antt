@@ -1,0 +1,7 @@
+-- The lemmas of the crate.
+pub mod Planning
+pub mod Remade
+pub mod Locking
+pub mod Staging
+pub mod Raising
+pub mod Making

@@ -1,0 +1,112 @@
+-- Loads under a lock, and steps one after the other.
+use Rattle.std.proofs.Common.{◌≡◌, ℕ, ◌+◌, ◌-◌, ◌<◌, ◌≤◌, List, [], ◌∷◌, ◌++◌, length, get_or, set, refl, sym, ap, subst, ◌∙◌, arith, add-one, inl, inr, ◌⊎◌}
+use Rattle.std.proofs.lemmas.Bool.{cases_lt}
+use Rattle.std.proofs.lemmas.List.{ext_get_or, get_or-set_same, get_or-set_other}
+use Rattle.record_words.specs.declared.layout.Layout.{Layout}
+use Rattle.record_words.specs.Node.{HasNodeWords, node_words}
+use Rattle.record_words.specs.Reading.{IsSpelling}
+use Rattle.record_words.proofs.Nodes.{length-node_words}
+use Rattle.moments.specs.declared.Rec.TheVariants.{Node as a_node}
+use Rattle.rowex_core.specs.declared.event.Act.{Act}
+use Rattle.rowex_core.specs.declared.event.Act.TheVariants.{LoadRef, LoadFixed}
+use Rattle.rowex_core.specs.declared.event.Event.{Event}
+use Rattle.rowex_core.specs.declared.event.Spot.TheVariants.{Slot}
+use Rattle.rowex_core.specs.declared.known.Known.{Known}
+use Rattle.rowex_core.specs.Cores.{IsWhole}
+use Rattle.rowex_core.specs.Knowing.{IsEvent}
+use Rattle.rowex_core.specs.Reading.{IsPacked}
+use Rattle.rowex_core.specs.Sharing.{IsLocked}
+use Rattle.rowex_core.proofs.Owning.{knows_all}
+use Rattle.rowex_table.specs.Runs.{Steps, silent}
+use Rattle.rowex_table.specs.Seats.{TableView, SeatView, IsSeatOf}
+use Rattle.rowex_table.proofs.Running.{runs_one, runs_append, runs_same}
+use Rattle.moments.specs.Trades.{IsOf}
+use Rattle.rowex_table.proofs.ActsBefore.{entry_of_locked, fixed_of_locked}
+use Rattle.rowex_rights.proofs.Loops.{later_same, later_on, still_locked}
+use Rattle.moments.proofs.Members.{all_of}
+use Rattle.rowex_writing.specs.Going.{GoesOn, ReadsOn, HasLocked}
+
+-- ---- one after the other
+module _ {G : Type 0} (table : TableView) (becomes : G → Event → G → Type 0) where
+  pub goes_none : (a : SeatView × G) → GoesOn table becomes a a
+  goes_none a = record { acts = []; steps = refl; stays = (later_same a.0.known a.0.known refl, refl, refl) }
+
+  pub goes_more : (a m b : SeatView × G) → GoesOn table becomes a m → GoesOn table becomes m b → GoesOn table becomes a b
+  goes_more a m b first second = record {
+    acts = first.acts ++ second.acts;
+    steps = runs_append table becomes first.acts second.acts a m b first.steps second.steps;
+    stays = (later_on a.0.known m.0.known b.0.known first.stays.0 second.stays.0, second.stays.1 ∙ first.stays.1, second.stays.2 ∙ first.stays.2);
+  }
+
+  -- the seat is one of the table still
+  pub seat_of : (a b : SeatView × G) → GoesOn table becomes a b → IsSeatOf table a.0 → IsSeatOf table b.0
+  seat_of a b goes is = (runs_same table becomes goes.acts a b goes.steps).0 ∙ is
+
+  pub reads_none : (a : SeatView × G) → ReadsOn table becomes a a
+  reads_none a = record { goes = goes_none a; own = refl }
+
+  pub reads_more : (a m b : SeatView × G) → ReadsOn table becomes a m → ReadsOn table becomes m b → ReadsOn table becomes a b
+  reads_more a m b first second = record { goes = goes_more a m b first.goes second.goes; own = second.own ∙ first.own }
+
+  -- ---- loads of a locked node
+  pub reads_fixed : (n offset w : ℕ) (a b : SeatView × G) → Steps table becomes (LoadFixed (a_node n) offset w) a b → ReadsOn table becomes a b
+  reads_fixed n offset w a b s = record {
+    goes = record {
+      acts = LoadFixed (a_node n) offset w ∷ [];
+      steps = runs_one table becomes (LoadFixed (a_node n) offset w) a b s;
+      stays = still_locked table.layout a.0.known b.0.known (LoadFixed (a_node n) offset w) tt tt tt s.event;
+    };
+    own = ap (λ (z : Known). z.own) s.event.learned_is;
+  }
+
+  pub reads_entry : (n i w : ℕ) (a b : SeatView × G) → Steps table becomes (LoadRef (Slot n i) w) a b → ReadsOn table becomes a b
+  reads_entry n i w a b s = record {
+    goes = record {
+      acts = LoadRef (Slot n i) w ∷ [];
+      steps = runs_one table becomes (LoadRef (Slot n i) w) a b s;
+      stays = still_locked table.layout a.0.known b.0.known (LoadRef (Slot n i) w) tt tt tt s.event;
+    };
+    own = ap (λ (z : Known). z.own) s.event.learned_is;
+  }
+
+-- the words of a locked node spell one
+module _ {layout : Layout} {act : Act} {k j : Known} (e : IsEvent layout act silent k j) where
+  pub locked_spells : (n : ℕ) (words : List ℕ) → HasLocked k n words → IsSpelling HasNodeWords node_words words
+  unfolding IsPacked
+  locked_spells n words h =
+      let (lock, tree, same) = all_of (IsLocked k.pass e.core) (record { node = n; words = words }) k.locks (knows_all e.core k e.knows).locks h in
+      let (view, has, spells) = e.lawful.records.packed (a_node n) (subst IsWhole (sym tree.1) tt) in
+      (view, has, spells ∙ same)
+
+-- and a load gives one of them
+module _ {layout : Layout} {k j : Known} (n i w : ℕ) (words : List ℕ) (h : HasLocked k n words) where
+  pub fixed_word : IsEvent layout (LoadFixed (a_node n) (i + 1) w) silent k j → w ≡ get_or words i 0
+  fixed_word e = (fixed_of_locked layout silent k j n i w words (subst (λ z. IsEvent layout (LoadFixed (a_node n) z w) silent k j) (add-one i) e) h).0
+
+  pub entry_word_of : 25 ≤ i → IsEvent layout (LoadRef (Slot n (i - 25)) w) silent k j → w ≡ get_or words i 0
+  entry_word_of l e = let at : 25 + (i - 25) ≡ i = omega arith in (entry_of_locked layout silent k j n (i - 25) w words e h).0 ∙ ap (λ z. get_or words z 0) at
+
+-- the first words that were loaded are those of the lock, which spell a node
+pub record AreThose (loaded words : List ℕ) (n : ℕ) : Type 0 where
+  pub each : (o : ℕ) → o < n → get_or loaded o 0 ≡ get_or words o 0
+  pub spelled : 0 < n → IsSpelling HasNodeWords node_words words
+
+pub none_those : (loaded words : List ℕ) → AreThose loaded words 0
+none_those loaded words = record { each = λ o l. absurd (omega arith); spelled = λ l. absurd (omega arith) }
+
+pub more_those : (loaded words : List ℕ) (n w : ℕ) → n < length loaded → AreThose loaded words n → w ≡ get_or words n 0 → IsSpelling HasNodeWords node_words words → AreThose (set loaded n w) words (n + 1)
+more_those loaded words n w long those is spelled = record { each = λ o l. at o l (cases_lt o n); spelled = λ l. spelled }
+  where
+    at : (o : ℕ) → o < n + 1 → (o < n) ⊎ (n ≤ o) → get_or (set loaded n w) o 0 ≡ get_or words o 0
+    at o l (inl older) = get_or-set_other loaded n o w 0 (λ e. omega arith) ∙ those.each o older
+    at o l (inr newest) = let e : n ≡ o = omega arith in subst (λ z. get_or (set loaded n w) z 0 ≡ get_or words z 0) e (get_or-set_same loaded n w 0 long ∙ is)
+
+pub all_those : (loaded words : List ℕ) → length loaded ≡ 57 → AreThose loaded words 57 → (loaded ≡ words) × IsSpelling HasNodeWords node_words words
+all_those loaded words long those =
+    let (view, has, spells) = those.spelled (omega arith) in
+    let size : length words ≡ 57 = ap length (sym spells) ∙ length-node_words view in
+    (ext_get_or 0 loaded words (long ∙ sym size) (λ o l. those.each o (omega arith)), (view, has, spells))
+
+-- what was locked is
+pub locked_on : (k j : Known) (n : ℕ) (words : List ℕ) → j.locks ≡ k.locks → HasLocked k n words → HasLocked j n words
+locked_on k j n words same h = subst (λ locks. IsOf (record { node = n; words = words }) locks) (sym same) h

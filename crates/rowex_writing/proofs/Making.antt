@@ -1,0 +1,108 @@
+-- One record more for a change, or none.
+use Rattle.std.proofs.Common.{◌≡◌, ◌≢◌, ℕ, ◌+◌, ◌<◌, ◌≤◌, List, [], ◌∷◌, ◌++◌, map, reverse, refl, sym, ap, ap₂, subst, ◌∙◌}
+use Rattle.std.specs.Prelude.{All}
+use Rattle.std.proofs.lemmas.Grind.{reverse_onto}
+use Rattle.hot_model.specs.Fronts.{OthersGoOn}
+use Rattle.hot_model.proofs.Growth.{others_none}
+use Rattle.compound_node.specs.Nodes.{NodeView}
+use Rattle.record_words.specs.Node.{HasNodeWords, node_words}
+use Rattle.moments.specs.State.{Past}
+use Rattle.moments.specs.Trades.{IsOf, AreApart}
+use Rattle.moments.specs.declared.Rec.{Rec}
+use Rattle.moments.specs.declared.Rec.TheVariants.{Node as a_node}
+use Rattle.moments.proofs.Legal.{same_rec_refl}
+use Rattle.moments.proofs.Members.{all_of, of_map, map_of}
+use Rattle.rowex_core.specs.declared.event.Act.{Act}
+use Rattle.rowex_core.specs.declared.event.Event.{Event}
+use Rattle.rowex_core.specs.declared.known.Holding.TheVariants.{Held}
+use Rattle.rowex_core.specs.declared.known.Known.{Known}
+use Rattle.rowex_core.specs.declared.known.Owned.{Owned}
+use Rattle.rowex_core.specs.Knowing.{IsFact}
+use Rattle.rowex_core.specs.Reading.{IsPacked}
+use Rattle.rowex_table.specs.Made.{Made, held_as, recs_of, HoldsMade, IsLater}
+use Rattle.rowex_table.specs.Runs.{Runs, Does}
+use Rattle.rowex_table.specs.Seats.{TableView, SeatView, IsSeatOf}
+use Rattle.rowex_table.proofs.Running.{runs_same}
+use Rattle.rowex_records.specs.Claims.{claiming, FindsNone, Claims, AllMissed}
+use Rattle.rowex_records.specs.Records.{owning, fill_with, Fills}
+use Rattle.rowex_records.proofs.Filled.{fill_beside}
+use Rattle.rowex_rights.specs.Loops.{StaysLocked}
+use Rattle.rowex_rights.specs.Rises.{of_view}
+use Rattle.rowex_reading.specs.Possible.{IsPossible}
+use Rattle.rowex_reading.proofs.Later.{event_possible}
+use Rattle.rowex_writing.specs.Building.{ArePacked, IsBuilding, HasNotMade}
+use Rattle.rowex_writing.specs.Going.{GoesOn}
+use Rattle.rowex_writing.proofs.Locking.{goes_more}
+
+-- ---- steps that change what the pass owns
+same_later : (k j : Known) → j.pass ≡ k.pass → j.pin ≡ k.pin → j.front ≡ k.front → j.facts ≡ k.facts → IsLater k j
+same_later k j pass pin front facts = record {
+  pass = pass;
+  pin = pin;
+  front = subst (OthersGoOn k.pass k.front) (sym front) (others_none k.pass k.front);
+  facts = λ s h. subst (All (IsFact s)) facts h;
+}
+
+module _ {G : Type 0} (table : TableView) (becomes : G → Event → G → Type 0) where
+  pub claims_on : (acts : List Act) (a b : SeatView × G) → Does table becomes claiming acts a b → GoesOn table becomes a b
+  claims_on acts a b does = let r = does.rest in record {
+    acts = acts;
+    steps = does.steps;
+    stays = (same_later a.0.known b.0.known (ap (λ (z : Known). z.pass) r) (ap (λ (z : Known). z.pin) r) (ap (λ (z : Known). z.front) r) (ap (λ (z : Known). z.facts) r), ap (λ (z : Known). z.locks) r, ap (λ (z : Known). z.anchor) r);
+  }
+
+  pub owns_on : (acts : List Act) (a b : SeatView × G) → Does table becomes owning acts a b → GoesOn table becomes a b
+  owns_on acts a b does = let r = does.rest in record {
+    acts = acts;
+    steps = does.steps;
+    stays = (same_later a.0.known b.0.known (ap (λ (z : Known). z.pass) r) (ap (λ (z : Known). z.pin) r) (ap (λ (z : Known). z.front) r) (ap (λ (z : Known). z.facts) r), ap (λ (z : Known). z.locks) r, ap (λ (z : Known). z.anchor) r);
+  }
+
+  -- what a pass knows stays possible
+  runs_possible : (acts : List Act) (a b : SeatView × G) → Runs table becomes acts a b → IsPossible table.layout a.0.known → IsPossible table.layout b.0.known
+  runs_possible [] a b run possible = subst (λ (z : SeatView × G). IsPossible table.layout z.0.known) (sym run) possible
+  runs_possible (act ∷ acts) a b run possible = runs_possible acts run.0 b run.2 (event_possible run.1.event)
+
+  pub goes_possible : (a b : SeatView × G) → GoesOn table becomes a b → IsPossible table.layout a.0.known → IsPossible table.layout b.0.known
+  goes_possible a b goes possible = runs_possible goes.acts a b goes.steps possible
+
+  -- ---- a claim
+  pub none_on : (kind : ℕ → Rec) (n from m : ℕ) (a b : SeatView × G) → FindsNone table becomes kind n from m a b → GoesOn table becomes a b
+  none_on kind n from m a b none = claims_on none.claims a b none.does
+
+  pub claim_on : (kind : ℕ → Rec) (n from m : ℕ) (a b : SeatView × G) → Claims table becomes kind n from m a b → GoesOn table becomes a b
+  claim_on kind n from m a b claim = goes_more table becomes a claim.before b (claims_on claim.none.claims a claim.before claim.none.does) (claims_on _ claim.before b claim.does)
+
+  pub fill_on : (r : Rec) (words : List ℕ) (a b : SeatView × G) → Fills table becomes r words a b → GoesOn table becomes a b
+  fill_on r words a b fills = owns_on fills.stores a b fills.does
+
+  -- the same records, after steps that leave them
+  pub building_on : (a b : SeatView × G) (made : List Rec) (news : List Made) → GoesOn table becomes a b → b.0.known.own ≡ a.0.known.own → IsBuilding table a.0 made news → IsBuilding table b.0 made news
+  building_on a b made news goes own i = record {
+    seat = (runs_same table becomes goes.acts a b goes.steps).0 ∙ i.seat;
+    possible = goes_possible a b goes i.possible;
+    holds = (own ∙ i.holds.0, i.holds.1);
+    packed = i.packed;
+    listed = i.listed;
+  }
+
+  -- one record more
+  pub building_more : (n from m : ℕ) (node : NodeView) (a i b : SeatView × G) (made : List Rec) (news : List Made) → Claims table becomes a_node n from m a i →
+      Fills table becomes (a_node m) (node_words node) i b → IsPacked (a_node m) (node_words node) → IsBuilding table a.0 made news → IsBuilding table b.0 (made ++ a_node m ∷ []) (of_view m node ∷ news)
+  building_more n from m node a i b made news claim fills packed was =
+      let goes = goes_more table becomes a i b (claim_on a_node n from m a i claim) (fill_on (a_node m) (node_words node) i b fills) in
+      let first : fill_with (a_node m) (node_words node) (record { rec = a_node m; holding = Held; words = claim.words }) ≡ held_as Held (of_view m node) = rw (same_rec_refl (a_node m)) refl in
+      let others : map (fill_with (a_node m) (node_words node)) a.0.known.own ≡ a.0.known.own = fill_beside (a_node m) (node_words node) a.0.known.own claim.apart in
+      let own : b.0.known.own ≡ held_as Held (of_view m node) ∷ map (held_as Held) news =
+      fills.own ∙ (ap (map (fill_with (a_node m) (node_words node))) claim.own ∙ ap₂ (λ y ys. y ∷ ys) first (others ∙ was.holds.0)) in
+      record {
+        seat = (runs_same table becomes goes.acts a b goes.steps).0 ∙ was.seat;
+        possible = goes_possible a b goes was.possible;
+        holds = (
+          own,
+          (λ h. (let (y, at, is) = of_map (λ (y : Made). y.rec) (a_node m) news h in
+              all_of (λ (o : Owned). o.rec ≢ a_node m) (held_as Held y) a.0.known.own claim.apart (subst (IsOf (held_as Held y)) (sym was.holds.0) (map_of (held_as Held) y news at)) (sym is)), was.holds.1),
+        );
+        packed = (packed, was.packed);
+        listed = ap (λ z. z ++ a_node m ∷ []) was.listed ∙ sym (reverse_onto (recs_of news) (a_node m) []);
+      }

@@ -1,0 +1,206 @@
+-- What the page of a lawful tree tells of the fork that it got, and how high the nodes of a page are.
+use Rattle.std.proofs.Common.{◌≡◌, inl, inr, ℕ, suc, ◌+◌, ◌*◌, ◌<◌, ◌≤◌, Bool, true, false, List, [], ◌∷◌, ◌++◌, max, ap, sym, ◌∙◌, subst, arith, if◌then◌else◌, nat_lt}
+use Rattle.std.specs.Prelude.{All}
+use Rattle.key_bits.specs.declared.TheConstants.{MAX_BYTES}
+use Rattle.pieces.specs.Grafts.{IsAbovePath}
+use Rattle.pieces.specs.Growth.{affected_first, affected_count, IsAffected, IsFresh}
+use Rattle.pieces.specs.Piece.{Place, Fork, places, size}
+use Rattle.pieces.proofs.Affected.{affected_again}
+use Rattle.compound_node.specs.Halves.{HalfShows}
+use Rattle.compound_node.specs.Nodes.{NodeView, piece, IsLawful, IsBuiltFrom, IsEntry, height_of, greatest_height}
+use Rattle.compound_node.specs.declared.entries.Entry.{Entry}
+use Rattle.compound_node.specs.declared.halves.Half.{Half}
+use Rattle.compound_node.specs.declared.halves.Half.TheVariants.{One, Many, Same}
+use Rattle.tries.specs.Affected.{page_affected, page_forked, page_grown}
+use Rattle.tries.specs.Content.{first}
+use Rattle.tries.specs.Keys.{Key, bit}
+use Rattle.tries.specs.Place.{spot, with_page, joined, page_without}
+use Rattle.tries.specs.Tree.{Page, Tree, leaf, node, fork, page, IsTrie, Within, here, zero_side, one_side}
+use Rattle.tries.proofs.Building.{bit_below, greatest-append}
+use Rattle.tries.proofs.Places.{spot_below}
+use Rattle.tries.proofs.Ranges.{has_key}
+use Rattle.tries.proofs.Spots.{path_low, path_high}
+use Rattle.tries.proofs.Tries.{has_first, rises, trie_within, built_within}
+use Rattle.insert_cases.specs.Grown.{GrownShows, SidesShow}
+use Rattle.insert_cases.specs.declared.growth.Grown.{Grown}
+use Rattle.insert_cases.specs.declared.growth.Grown.TheVariants.{One as Whole, Two}
+use Rattle.insert_cases.proofs.Affecting.{RootNot, key_part}
+use Rattle.insert_cases.proofs.Choosing.{root_not}
+use Rattle.insert_cases.proofs.Climbing.{IsPairOf, pair_facts}
+use Rattle.insert_cases.proofs.NodeFacts.{height_positive}
+use Rattle.rowex_writing.specs.Remaking.{IsTreePage, AffectsJust, IsLowHalf, IsNoHigher}
+
+-- ---- a tree by its page
+abbrev IsForkOf : ℕ → Page → Page → Tree → Type 0
+IsForkOf q a b t = (s : Tree) × (r : Tree) × (t ≡ fork q s r) × (page s ≡ a) × (page r ≡ b)
+
+fork_parts : (t : Tree) (q : ℕ) (a b : Page) → page t ≡ Fork q a b → IsForkOf q a b t
+fork_parts (leaf n k v) q a b e = absurd cc
+fork_parts (node n x c) q a b e = absurd cc
+fork_parts (fork p s r) q a b e = let z : p ≡ q = cc in (s, r, ap (λ n. fork n s r) z, cc, cc)
+
+-- ---- a new leaf
+-- the position is one of keys, and it is not that of the part's first fork
+abbrev IsApart : ℕ → Page → Type 0
+IsApart p part = (p < 9 * MAX_BYTES) × RootNot p part
+
+fork_position : (p : ℕ) (s r : Tree) → IsTrie (fork p s r) → p < 9 * MAX_BYTES
+fork_position p s r i = bit_below (first r) p (has_key r i.1 (first r) (has_first r)) (i.4 (first r) (has_first r))
+
+forked_facts : (u : Bool) (p : ℕ) (e : Entry) (x : Page) (t : Tree) → page t ≡ page_forked u p e x → IsTrie t → IsApart p x
+forked_facts true p e x t is trie =
+    let (s, r, z, a, b) = fork_parts t p x (Place e) is in
+    let i : IsTrie (fork p s r) = subst IsTrie z trie in
+    (fork_position p s r i, subst (RootNot p) a (root_not p false s i.0 i.3))
+forked_facts false p e x t is trie =
+    let (s, r, z, a, b) = fork_parts t p (Place e) x is in
+    let i : IsTrie (fork p s r) = subst IsTrie z trie in
+    (fork_position p s r i, subst (RootNot p) b (root_not p true r i.1 i.4))
+
+pub grown_facts : (p : ℕ) (k : Key) (e : Entry) (x : Page) (t : Tree) → page t ≡ page_grown p k e x → IsTrie t → IsApart p (page_affected p k x)
+grown_facts p k e (Place d) t is trie = forked_facts (bit k p) p e (Place d) t is trie
+grown_facts p k e (Fork q x y) t is trie = go (nat_lt q p) (bit k q) (grown_facts p k e x) (grown_facts p k e y) is
+  where
+    go : (u o : Bool) → ((s : Tree) → page s ≡ page_grown p k e x → IsTrie s → IsApart p (page_affected p k x)) →
+        ((s : Tree) → page s ≡ page_grown p k e y → IsTrie s → IsApart p (page_affected p k y)) →
+        page t ≡ (if u then (if o then Fork q x (page_grown p k e y) else Fork q (page_grown p k e x) y) else page_forked (bit k p) p e (Fork q x y)) →
+        IsApart p (if u then (if o then page_affected p k y else page_affected p k x) else Fork q x y)
+    go true true f g is = let (s, r, z, a, b) = fork_parts t q x (page_grown p k e y) is in g r b (let i : IsTrie (fork q s r) = subst IsTrie z trie in i.1)
+    go true false f g is = let (s, r, z, a, b) = fork_parts t q (page_grown p k e x) y is in f s a (let i : IsTrie (fork q s r) = subst IsTrie z trie in i.0)
+    go false o f g is = forked_facts (bit k p) p e (Fork q x y) t is trie
+
+-- the range of the new leaf's place
+pub leaf_range : (k : Key) (p first last : ℕ) (e : Entry) (x : Page) → AffectsJust k p first last x → IsTreePage (page_grown p k e x) → IsAffected x p first last
+leaf_range k p first last e x a (t, is, trie, built) =
+    let again = affected_again p x (spot k x) (spot_below k x) in
+    let apart = grown_facts p k e x t is trie in
+    record {
+      from = ap (λ j. affected_first p j x) (sym a.from) ∙ (again.0 ∙ a.from);
+      upto = ap (λ j. j + first) (ap (λ j. affected_count p j x) (sym a.from) ∙ again.1) ∙ a.upto;
+      fresh = subst (λ j. IsFresh p j x) a.from ((key_part k p x).fresh apart.1);
+    }
+
+pub leaf_position : (k : Key) (p : ℕ) (e : Entry) (x : Page) → IsTreePage (page_grown p k e x) → p < 9 * MAX_BYTES
+leaf_position k p e x (t, is, trie, built) = (grown_facts p k e x t is trie).0
+
+-- ---- a fork in the place of an entry
+-- the tree that the fork begins
+pub record IsHung (q : ℕ) (a b : Page) (t : Tree) : Type 0 where
+  pub tree : Tree
+  pub within : Within tree t
+  pub is : page tree ≡ Fork q a b
+
+pub hung : (k : Key) (q : ℕ) (a b x : Page) (t : Tree) → page t ≡ with_page k (Fork q a b) x → IsTrie t → IsHung q a b t × IsAbovePath q (spot k x) x
+hung k q a b (Place e) t is trie = (record { tree = t; within = here; is = is }, tt)
+hung k q a b (Fork f y z) t is trie = go (bit k f) (hung k q a b y) (hung k q a b z) is
+  where
+    below : {s : Tree} (h : IsHung q a b s) → (v : Tree) × (w : Tree) × Within (fork q v w) s
+    below h = let (v, w, z, c, d) = fork_parts h.tree q a b h.is in (v, w, subst (λ y. Within y _) z h.within)
+
+    go : (o : Bool) → ((s : Tree) → page s ≡ with_page k (Fork q a b) y → IsTrie s → IsHung q a b s × IsAbovePath q (spot k y) y) →
+        ((s : Tree) → page s ≡ with_page k (Fork q a b) z → IsTrie s → IsHung q a b s × IsAbovePath q (spot k z) z) →
+        page t ≡ (if o then Fork f y (with_page k (Fork q a b) z) else Fork f (with_page k (Fork q a b) y) z) →
+        IsHung q a b t × IsAbovePath q (if o then size y + spot k z else spot k y) (Fork f y z)
+    go true g h is =
+        let (s, r, e, c, d) = fork_parts t f y (with_page k (Fork q a b) z) is in
+        let i : IsTrie (fork f s r) = subst IsTrie e trie in
+        let (u, path) = h r d i.1 in
+        let (v, w, at) = below u in
+        let low : f < q = rises true at i.1 (λ m n l o. i.2 m n (inr l) (inr o)) i.4 in
+        (record { tree = u.tree; within = subst (Within u.tree) (sym e) (one_side u.within); is = u.is }, path_high q f y z (spot k z) low path)
+    go false g h is =
+        let (s, r, e, c, d) = fork_parts t f (with_page k (Fork q a b) y) z is in
+        let i : IsTrie (fork f s r) = subst IsTrie e trie in
+        let (u, path) = g s c i.0 in
+        let (v, w, at) = below u in
+        let low : f < q = rises false at i.0 (λ m n l o. i.2 m n (inl l) (inl o)) i.3 in
+        (record { tree = u.tree; within = subst (Within u.tree) (sym e) (zero_side u.within); is = u.is }, path_low q f y z (spot k y) (spot_below k y) low path)
+
+-- what is owed for the fork in the entry's place
+pub fork_owed : (k : Key) (q : ℕ) (z o : Entry) (x : Page) → IsTreePage (with_page k (Fork q (Place z) (Place o)) x) → IsPairOf q z o × IsAbovePath q (spot k x) x
+fork_owed k q z o x (t, is, trie, built) =
+    let (h, path) = hung k q (Place z) (Place o) x t is trie in
+    (pair_facts q z o h.tree h.is (trie_within h.within trie) (built_within h.within built), path)
+
+-- a leaf beside an entry
+pub pair_owed : (u : Bool) (q : ℕ) (new old : Entry) → IsTreePage (page_forked u q new (Place old)) → (q < 9 * MAX_BYTES) × IsEntry old
+pair_owed true q new old (t, is, trie, built) = let f = pair_facts q old new t is trie built in (f.position, f.zero)
+pair_owed false q new old (t, is, trie, built) = let f = pair_facts q new old t is trie built in (f.position, f.one)
+
+-- ---- heights
+pub greatest_under : (es : List Entry) (h : ℕ) → 0 < h → All (λ e. height_of e < h) es → greatest_height es < h
+greatest_under [] h l a = l
+greatest_under (e ∷ es) h l a = let x = a 0 e (omega arith) in let y = greatest_under es h l (λ i d o. a (suc i) d (omega arith)) in omega arith
+
+-- the entries of a lawful node's page are lower than it
+pub entries_under : (v : NodeView) → IsLawful v → greatest_height (places (piece v)) < v.height
+entries_under v l = subst (λ es. greatest_height es < v.height) l.shows.entries_are (greatest_under v.entries v.height (height_positive v l) l.above)
+
+greatest_forked : (u : Bool) (p : ℕ) (e : Entry) (x : Page) → greatest_height (places (page_forked u p e x)) ≤ max (height_of e) (greatest_height (places x))
+greatest_forked true p e x = omega (arith, greatest-append (places x) (e ∷ []))
+greatest_forked false p e x = omega arith
+
+pub greatest_leaf : (p : ℕ) (k : Key) (e : Entry) (x : Page) → greatest_height (places (page_grown p k e x)) ≤ max (height_of e) (greatest_height (places x))
+greatest_leaf p k e (Place d) = greatest_forked (bit k p) p e (Place d)
+greatest_leaf p k e (Fork q x y) = go (nat_lt q p) (bit k q) (greatest_leaf p k e x) (greatest_leaf p k e y)
+  where
+    go : (u o : Bool) → greatest_height (places (page_grown p k e x)) ≤ max (height_of e) (greatest_height (places x)) →
+        greatest_height (places (page_grown p k e y)) ≤ max (height_of e) (greatest_height (places y)) →
+        greatest_height (places (if u then (if o then Fork q x (page_grown p k e y) else Fork q (page_grown p k e x) y) else page_forked (bit k p) p e (Fork q x y))) ≤
+        max (height_of e) (greatest_height (places x ++ places y))
+    go true true f g = omega (arith, g, greatest-append (places x) (places y), greatest-append (places x) (places (page_grown p k e y)))
+    go true false f g = omega (arith, f, greatest-append (places x) (places y), greatest-append (places (page_grown p k e x)) (places y))
+    go false o f g = greatest_forked (bit k p) p e (Fork q x y)
+
+pub greatest_put : (k : Key) (r x : Page) → greatest_height (places (with_page k r x)) ≤ max (greatest_height (places r)) (greatest_height (places x))
+greatest_put k r (Place d) = omega arith
+greatest_put k r (Fork q x y) = go (bit k q) (greatest_put k r x) (greatest_put k r y)
+  where
+    go : (o : Bool) → greatest_height (places (with_page k r x)) ≤ max (greatest_height (places r)) (greatest_height (places x)) →
+        greatest_height (places (with_page k r y)) ≤ max (greatest_height (places r)) (greatest_height (places y)) →
+        greatest_height (places (if o then Fork q x (with_page k r y) else Fork q (with_page k r x) y)) ≤ max (greatest_height (places r)) (greatest_height (places x ++ places y))
+    go true f g = omega (arith, g, greatest-append (places x) (places y), greatest-append (places x) (places (with_page k r y)))
+    go false f g = omega (arith, f, greatest-append (places x) (places y), greatest-append (places (with_page k r x)) (places y))
+
+greatest_joined : (q : ℕ) (o : Bool) (x y r : Page) → greatest_height (places r) ≤ greatest_height (places (if o then y else x)) →
+    greatest_height (places (joined q o x y r)) ≤ greatest_height (places x ++ places y)
+greatest_joined q true x (Place e) r h = omega (arith, greatest-append (places x) (e ∷ []))
+greatest_joined q true x (Fork p a b) r h = omega (arith, h, greatest-append (places x) (places (Fork p a b)), greatest-append (places x) (places r))
+greatest_joined q false (Place e) y r h = omega (arith, greatest-append (e ∷ []) (places y))
+greatest_joined q false (Fork p a b) y r h = omega (arith, h, greatest-append (places (Fork p a b)) (places y), greatest-append (places r) (places y))
+
+pub greatest_without : (k : Key) (x : Page) → greatest_height (places (page_without k x)) ≤ greatest_height (places x)
+greatest_without k (Place e) = omega arith
+greatest_without k (Fork q x y) = go (bit k q) (greatest_without k x) (greatest_without k y)
+  where
+    go : (o : Bool) → greatest_height (places (page_without k x)) ≤ greatest_height (places x) → greatest_height (places (page_without k y)) ≤ greatest_height (places y) →
+        greatest_height (places (joined q o x y (if o then page_without k y else page_without k x))) ≤ greatest_height (places x ++ places y)
+    go true f g = greatest_joined q true x y (page_without k y) g
+    go false f g = greatest_joined q false x y (page_without k x) f
+
+-- a node that was built for a page of lower entries
+built_low : (v : NodeView) (part : Page) (h : ℕ) → IsBuiltFrom v part → greatest_height (places part) < h → v.height ≤ h
+built_low v part h i l = let e : greatest_height v.entries ≡ greatest_height (places part) = ap greatest_height i.lawful.shows.entries_are ∙ ap (λ x. greatest_height (places x)) i.shows_it in omega (arith, i.height_is)
+
+pub half_low : (half : Half) (part : Page) (h : ℕ) → HalfShows half part → greatest_height (places part) < h → IsLowHalf h half
+half_low (One e) part h s l = let g = ap (λ x. greatest_height (places x)) s.0 in omega arith
+half_low (Many v) part h s l = built_low v part h s l
+half_low Same part h s l = tt
+
+sides_low : (old : NodeView) (z o : Half) (a b : Page) (h : ℕ) → SidesShow old z o a b → greatest_height (places a) < h → greatest_height (places b) < h → IsLowHalf h z × IsLowHalf h o
+sides_low old (One e) (One f) a b h s l m = (half_low (One e) a h s.0 l, half_low (One f) b h s.1 m)
+sides_low old (One e) (Many v) a b h s l m = (half_low (One e) a h s.0 l, half_low (Many v) b h s.1 m)
+sides_low old (One e) Same a b h s l m = (half_low (One e) a h (s.0, s.2) l, tt)
+sides_low old (Many v) (One e) a b h s l m = (half_low (Many v) a h s.0 l, half_low (One e) b h s.1 m)
+sides_low old (Many v) (Many w) a b h s l m = (half_low (Many v) a h s.0 l, half_low (Many w) b h s.1 m)
+sides_low old (Many v) Same a b h s l m = absurd s.1
+sides_low old Same (One e) a b h s l m = (tt, half_low (One e) b h (s.1, s.2) m)
+sides_low old Same (Many v) a b h s l m = absurd s.0
+sides_low old Same Same a b h s l m = absurd s.0
+
+pub grown_low : (old : NodeView) (g : Grown) (r : Page) (h : ℕ) → GrownShows old g r → greatest_height (places r) < h → IsNoHigher h g
+grown_low old (Whole v) r h s l = built_low v r h s l
+grown_low old (Two cut) (Place e) h s l = elim s [ ]
+grown_low old (Two cut) (Fork q a b) h s l =
+    let g = greatest-append (places a) (places b) in
+    sides_low old cut.zero cut.one a b h s.1 (omega arith) (omega arith)

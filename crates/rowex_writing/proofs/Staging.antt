@@ -1,0 +1,61 @@
+-- The records that a pass holds, as if it had made them ready: then what has risen is the page of a lawful tree.
+use Rattle.std.proofs.Common.{◌≡◌, inl, inr, ℕ, List, [], ◌∷◌, ◌++◌, map, refl, sym, ap, subst, ◌∙◌, append_assoc}
+use Rattle.std.proofs.lemmas.List.{append-nil}
+use Rattle.record_words.specs.declared.layout.Layout.{Layout}
+use Rattle.tries.specs.Content.{Item}
+use Rattle.tries.specs.Keys.{Key}
+use Rattle.tries.specs.Tree.{Page}
+use Rattle.moments.specs.Trades.{IsOf}
+use Rattle.rowex_walks.specs.Rise.{Side}
+use Rattle.rowex_core.specs.declared.event.Act.TheVariants.{Ready}
+use Rattle.rowex_core.specs.declared.known.Holding.TheVariants.{Held, Ready as IsReady}
+use Rattle.rowex_core.specs.declared.known.Known.{Known}
+use Rattle.rowex_core.specs.declared.known.Locked.{Locked}
+use Rattle.rowex_core.specs.Cores.{Core}
+use Rattle.rowex_core.specs.Knowing.{IsEvent, learned}
+use Rattle.rowex_core.specs.Reading.{IsPacked}
+use Rattle.moments.specs.declared.Rec.{Rec}
+use Rattle.rowex_table.specs.Made.{Made, held_as, recs_of, HoldsMade, HasReadied, IsLater}
+use Rattle.rowex_table.specs.Publishes.{silent}
+use Rattle.rowex_rights.specs.Loops.{ReadiesEach, StaysLocked}
+use Rattle.rowex_rights.specs.Stages.{IsStage, HasReady, HasLeaf, HasRisen}
+use Rattle.rowex_rights.proofs.Bounding.{tree_risen}
+use Rattle.rowex_rights.proofs.Loops.{holds_rights, ready_next, readies_all}
+use Rattle.rowex_rights.proofs.Rising.{stage_earlier}
+use Rattle.rowex_rights.proofs.Stages.{stage_of}
+use Rattle.rowex_reading.specs.Possible.{IsPossible}
+use Rattle.rowex_reading.proofs.Later.{event_possible}
+use Rattle.rowex_writing.specs.Building.{ArePacked}
+use Rattle.rowex_writing.specs.Remaking.{IsTreePage}
+
+module _ (layout : Layout) where
+  -- all of them, one after the other
+  readied : (done todo : List Made) (k : Known) → IsPossible layout k → HasReadied k done todo → ArePacked todo → (j : Known) × ReadiesEach layout todo k j × IsPossible layout j
+  readied done [] k possible has packed = (k, refl, possible)
+  readied done (m ∷ todo) k possible has packed =
+      let next : Known = record (learned possible.core (Ready m.rec) k) { notes = k.notes ++ [] } in
+      let e : IsEvent layout (Ready m.rec) silent k next = record {
+        core = possible.core;
+        lawful = possible.lawful;
+        layout_is = possible.layout_is;
+        knows = possible.knows;
+        legal = (holds_rights layout k done todo m has).1 packed.0 possible.core possible.lawful possible.layout_is possible.knows;
+        learned_is = refl;
+      } in
+      let (j, rest, last) = readied (done ++ m ∷ []) todo next (event_possible e) (ready_next layout done m todo k next has e) packed.1 in
+      (j, (next, e, rest), last)
+
+  -- some stage of them
+  pub stage_of_held : (k : Known) (news : List Made) → IsPossible layout k → HoldsMade k news → ArePacked news → (c : Core) × IsStage layout k k.locks news c
+  stage_of_held k news possible holds packed =
+      let (j, readies, last) = readied [] news k possible holds packed in
+      let (own, stays) = readies_all layout k j news holds readies in
+      let stage : IsStage layout j k.locks news last.core = stage_of layout j k.locks news (record { locks = stays.1; own = own }) last.core last.lawful last.layout_is last.knows in
+      (last.core, stage_earlier layout k j stays.0 k.locks news last.core stage)
+
+  -- so what has risen is the page of a lawful tree
+  pub risen_page : (k : Known) (news : List Made) (gone : List Rec) (since : ℕ) (x : Item) (p : ℕ) (l : Key) (d : Side) (n : ℕ) (words : List ℕ) (r : Page) → IsPossible layout k → HoldsMade k news → ArePacked news →
+      HasLeaf news x → IsOf (record { node = n; words = words }) k.locks → HasRisen layout k k.locks news since x p l d n r gone → IsTreePage r
+  risen_page k news gone since x p l d n words r possible holds packed leaf at risen =
+      let (c, stage) = stage_of_held k news possible holds packed in
+      tree_risen layout k k.locks news c stage since x p l d n words leaf at r (risen c stage).0

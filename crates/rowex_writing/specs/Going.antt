@@ -1,0 +1,29 @@
+-- How a pass goes on under its locks.
+use Rattle.std.specs.Prelude.{◌≡◌, ℕ, List}
+use Rattle.moments.specs.Trades.{IsOf}
+use Rattle.rowex_core.specs.declared.event.Act.{Act}
+use Rattle.rowex_core.specs.declared.event.Event.{Event}
+use Rattle.rowex_core.specs.declared.known.Known.{Known}
+use Rattle.rowex_core.specs.declared.known.Locked.{Locked}
+use Rattle.rowex_table.specs.Runs.{Runs}
+use Rattle.rowex_table.specs.Seats.{TableView, SeatView}
+use Rattle.rowex_rights.specs.Loops.{StaysLocked}
+
+-- The pass makes steps of which the gate is told; it recalls all that it did, and has locked what it had locked.
+pub record GoesOn {G : Type 0} (table : TableView) (becomes : G → Event → G → Type 0) (a b : SeatView × G) : Type 0 where
+  pub acts : List Act
+  pub steps : Runs table becomes acts a b
+  pub stays : StaysLocked a.0.known b.0.known
+
+-- and its own records are the same
+pub record ReadsOn {G : Type 0} (table : TableView) (becomes : G → Event → G → Type 0) (a b : SeatView × G) : Type 0 where
+  pub goes : GoesOn table becomes a b
+  pub own : b.0.known.own ≡ a.0.known.own
+
+-- the pass has locked the node, which has these words
+abbrev pub HasLocked : Known → ℕ → List ℕ → Type 0
+HasLocked k n words = IsOf (record { node = n; words = words }) k.locks
+
+-- it has locked the node
+abbrev pub IsLockedBy : Known → ℕ → Type 0
+IsLockedBy k n = (words : List ℕ) × HasLocked k n words

@@ -1,0 +1,5 @@
+-- The definitions of the crate.
+pub mod Plans
+pub mod Remaking
+pub mod Going
+pub mod Building

@@ -1,0 +1,66 @@
+-- What a call does, by what it asks for and where its search ended.
+use Rattle.std.specs.Prelude.{◌≡◌, ℕ, ◌+◌, ◌-◌, List, [], ◌∷◌, length, Some, None}
+use Rattle.hot_model.specs.declared.Reply.TheVariants.{Exists, Absent}
+use Rattle.insert_cases.specs.declared.choice.Case.{Case}
+use Rattle.insert_cases.specs.declared.choice.Case.TheVariants.{LeafPushdown, NormalInsert, Overflow}
+use Rattle.insert_cases.specs.declared.choice.Choice.{Choice}
+use Rattle.insert_cases.specs.declared.choice.Step.{Step}
+use Rattle.insert_cases.specs.Levels.{IsLevel, IsChosen, IsChainEnd}
+use Rattle.rowex_writing.specs.declared.plan.Ask.{Ask}
+use Rattle.rowex_writing.specs.declared.plan.Ask.TheVariants.{Insert, Upsert, Remove}
+use Rattle.rowex_writing.specs.declared.plan.Deed.{Deed}
+use Rattle.rowex_writing.specs.declared.plan.Deed.TheVariants.{Put, Pair, Grow, Take}
+use Rattle.rowex_writing.specs.declared.plan.Found.{Found}
+use Rattle.rowex_writing.specs.declared.plan.Found.TheVariants.{Nothing, Leaf}
+use Rattle.rowex_writing.specs.declared.plan.Outline.{Outline}
+use Rattle.rowex_writing.specs.declared.plan.Outline.TheVariants.{Known, Beside}
+use Rattle.rowex_writing.specs.declared.plan.Plan.{Plan}
+use Rattle.rowex_writing.specs.declared.plan.Plan.TheVariants.{Answer, Change}
+
+-- the nodes of the way from `end` on, before `len`, are remade
+abbrev pub change : ℕ → ℕ → Deed → Plan
+change len end deed = Change (record { len = len; end = end }) deed
+
+-- ---- a new leaf beside affected entries
+-- what is done at the chosen node
+abbrev pub IsCase : List Step → ℕ → Choice → Case → Plan → Type 0
+IsCase way position chosen LeafPushdown plan = plan ≡ change (chosen.level + 1) (chosen.level + 1) (Pair position)
+IsCase way position chosen NormalInsert plan = plan ≡ change (chosen.level + 1) chosen.level (Grow position chosen.first chosen.last)
+IsCase way position chosen Overflow plan = (end : ℕ) × IsChainEnd way chosen.level end × (plan ≡ change (chosen.level + 1) end (Grow position chosen.first chosen.last))
+
+-- where the position affects the entries from first to last at this level
+abbrev pub IsBeside : List Step → (position level first last : ℕ) → Plan → Type 0
+IsBeside way position level first last plan = (chosen : Choice) × IsChosen way level first last chosen × IsCase way position chosen chosen.case plan
+
+-- on a way of no node, the found leaf is at the root
+abbrev pub IsNew : List Step → (position first last : ℕ) → Plan → Type 0
+IsNew [] position first last plan = plan ≡ change 0 0 (Pair position)
+IsNew (step ∷ way) position first last plan = (level : ℕ) × IsLevel (step ∷ way) position level × IsBeside (step ∷ way) position level first last plan
+
+-- ---- all calls
+-- Of a call on this way, where a new leaf affects the entries from first to last at its level.
+abbrev pub IsPlan : List Step → (first last : ℕ) → Ask → Found → Plan → Type 0
+-- the first key
+IsPlan way first last Insert Nothing plan = plan ≡ change 0 0 Put
+IsPlan way first last Upsert Nothing plan = plan ≡ change 0 0 Put
+-- a key that is absent
+IsPlan way first last Insert (Leaf number value (Some position)) plan = IsNew way position first last plan
+IsPlan way first last Upsert (Leaf number value (Some position)) plan = IsNew way position first last plan
+-- a key that has a value
+IsPlan way first last Insert (Leaf number value None) plan = plan ≡ Answer (Exists value)
+IsPlan way first last Upsert (Leaf number value None) plan = plan ≡ change (length way) (length way) Put
+-- a removal
+IsPlan way first last Remove Nothing plan = plan ≡ Answer Absent
+IsPlan way first last Remove (Leaf number value (Some position)) plan = plan ≡ Answer Absent
+IsPlan way first last Remove (Leaf number value None) plan = plan ≡ change (length way) (length way - 1) Take
+
+-- ---- before the affected entries are known
+-- a new leaf's plan needs them where the way has nodes
+abbrev pub IsBesideFound : List Step → ℕ → Outline → Type 0
+IsBesideFound way position (Known plan) = (first last : ℕ) → IsNew way position first last plan
+IsBesideFound way position (Beside at level) = (at ≡ position) × IsLevel way position level × ((first last : ℕ) (plan : Plan) → IsBeside way position level first last plan → IsNew way position first last plan)
+
+-- the plan, whichever they are; or the level at which they tell it
+abbrev pub IsOutline : List Step → Ask → Found → Outline → Type 0
+IsOutline way ask found (Known plan) = (first last : ℕ) → IsPlan way first last ask found plan
+IsOutline way ask found (Beside position level) = IsLevel way position level × ((first last : ℕ) (plan : Plan) → IsBeside way position level first last plan → IsPlan way first last ask found plan)

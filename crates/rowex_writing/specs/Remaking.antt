@@ -1,0 +1,31 @@
+-- What a node becomes, before it has records.
+use Rattle.std.specs.Prelude.{◌≡◌, ℕ, ◌+◌, ◌≤◌}
+use Rattle.compound_node.specs.Nodes.{height_of}
+use Rattle.compound_node.specs.declared.halves.Half.{Half}
+use Rattle.compound_node.specs.declared.halves.Half.TheVariants.{One, Many, Same}
+use Rattle.insert_cases.specs.declared.growth.Grown.{Grown}
+use Rattle.insert_cases.specs.declared.growth.Grown.TheVariants.{One as Whole, Two}
+use Rattle.pieces.specs.Growth.{affected_first, affected_count}
+use Rattle.tries.specs.Keys.{Key}
+use Rattle.tries.specs.Place.{spot}
+use Rattle.tries.specs.Tree.{Page, Tree, page, IsTrie, IsBuilt}
+
+-- some tree that is a bit trie of lawful nodes begins with this page
+abbrev pub IsTreePage : Page → Type 0
+IsTreePage shown = (t : Tree) × (page t ≡ shown) × IsTrie t × IsBuilt t
+
+-- an insertion of the key at the position affects the entries from first to last of the page
+pub record AffectsJust (key : Key) (position first last : ℕ) (shown : Page) : Type 0 where
+  pub from : affected_first position (spot key shown) shown ≡ first
+  pub upto : affected_count position (spot key shown) shown + first ≡ last + 1
+
+-- a half of a cut is no higher than this; the node that stays whole is left out
+abbrev pub IsLowHalf : ℕ → Half → Type 0
+IsLowHalf height (One entry) = height_of entry ≤ height
+IsLowHalf height (Many node) = node.height ≤ height
+IsLowHalf height Same = Unit {0}
+
+-- and so for what a node becomes
+abbrev pub IsNoHigher : ℕ → Grown → Type 0
+IsNoHigher height (Whole node) = node.height ≤ height
+IsNoHigher height (Two cut) = IsLowHalf height cut.zero × IsLowHalf height cut.one

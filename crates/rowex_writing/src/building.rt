@@ -1,0 +1,112 @@
+//! Records for what takes a node's place.
+
+ghost use Rattle.std.specs.Prelude.{◌≡◌, ◌<◌, ◌≤◌, ◌+◌, ◌++◌, ◌∷◌, List, ℕ, length, MatchOption};
+ghost use Rattle.record_words.specs.Node.{HasNodeWords};
+ghost use Rattle.rowex_table.specs.Made.{Made};
+ghost use Rattle.rowex_rights.specs.Rises.{of_view};
+ghost use Rattle.rowex_writing.specs.Building.{IsBuilding, IsHalfMade, IsMadeFrom, HasNotMade};
+ghost use Rattle.rowex_writing.specs.Going.{GoesOn};
+
+use arrayvec::ArrayVec;
+use compound_node::{Entry, Half, Node};
+use insert_cases::{Grown, Risen};
+use rowex_core::{Gate, Rec};
+use rowex_records::{claim_node, fill_node};
+use rowex_table::{HotTable, TableSeat};
+
+/// The most records that one change makes: a leaf, two nodes for each node of the longest way, and one above them.
+pub const MOST_MADE: usize = 4_322;
+
+/// The records that a pass has made for a change: claimed, and filled with their words.
+#[derive(Drop)]
+pub struct Build {
+    /// The records, the first one made first.
+    pub made: ArrayVec<Rec, MOST_MADE>,
+    /// The number after that of the node record that was claimed last.
+    pub next: u32,
+}
+
+/// Makes a record for a node; answers its entry, or nothing where no node record was free.
+fn make_node<G: Gate>(
+    table: &HotTable,
+    seat: &mut TableSeat,
+    gate: &mut G,
+    build: &mut Build,
+    node: &Node,
+) -> Option<Entry>
+    requires building { (news : List Made) × IsBuilding table.now seat.old build.old.made.items news }
+    requires room { length build.old.made.items < MOST_MADE }
+    ensures goes { GoesOn table.now G.becomes (seat.old, gate.old) (seat.new, gate.new) }
+    ensures made { (news : List Made) → IsBuilding table.now seat.old build.old.made.items news → MatchOption result
+        (HasNotMade table.now seat.old seat.new build.new.made.items)
+        (λ e. (number : ℕ) × (e ≡ Entry.Node number node.now.height) × HasNodeWords node.now × IsBuilding table.now seat.new build.new.made.items (of_view number node.now ∷ news)) }
+    ensures more { length build.new.made.items ≤ length build.old.made.items + 1 }
+{
+    let number = claim_node(table, seat, gate, build.next)?;
+    build.next = number.wrapping_add(1);
+    fill_node(table, seat, gate, number, node);
+    build.made.push(Rec::Node(number));
+    Some(Entry::Node {
+        number,
+        height: node.height(),
+    })
+}
+
+/// The entry for a half of what a node became: a node gets a record, and the node that stays whole keeps its own.
+fn make_half<G: Gate>(
+    table: &HotTable,
+    seat: &mut TableSeat,
+    gate: &mut G,
+    build: &mut Build,
+    old: Entry,
+    half: &Half,
+) -> Option<Entry>
+    requires building { (news : List Made) × IsBuilding table.now seat.old build.old.made.items news }
+    requires room { length build.old.made.items < MOST_MADE }
+    ensures goes { GoesOn table.now G.becomes (seat.old, gate.old) (seat.new, gate.new) }
+    ensures made { (news : List Made) → IsBuilding table.now seat.old build.old.made.items news → MatchOption result
+        (HasNotMade table.now seat.old seat.new build.new.made.items)
+        (λ e. (more : List Made) × IsHalfMade old half.now e more × IsBuilding table.now seat.new build.new.made.items (more ++ news)) }
+    ensures more { length build.new.made.items ≤ length build.old.made.items + 1 }
+{
+    match half {
+        Half::One(entry) => Some(*entry),
+        Half::Many(node) => make_node(table, seat, gate, build, node),
+        Half::Same => Some(old),
+    }
+}
+
+/// What comes in the place of a node that became this, with records for all new nodes: of a cut the upper side's is made
+/// first.
+fn make_risen<G: Gate>(
+    table: &HotTable,
+    seat: &mut TableSeat,
+    gate: &mut G,
+    build: &mut Build,
+    old: Entry,
+    grown: &Grown,
+) -> Option<Risen>
+    requires building { (news : List Made) × IsBuilding table.now seat.old build.old.made.items news }
+    requires room { length build.old.made.items + 1 < MOST_MADE }
+    ensures goes { GoesOn table.now G.becomes (seat.old, gate.old) (seat.new, gate.new) }
+    ensures made { (news : List Made) → IsBuilding table.now seat.old build.old.made.items news → MatchOption result
+        (HasNotMade table.now seat.old seat.new build.new.made.items)
+        (λ risen. (after : List Made) × IsMadeFrom old grown.now risen news after × IsBuilding table.now seat.new build.new.made.items after) }
+    ensures more { length build.new.made.items ≤ length build.old.made.items + 2 }
+{
+    match grown {
+        Grown::One(node) => {
+            let entry = make_node(table, seat, gate, build, node)?;
+            Some(Risen::Whole(entry))
+        }
+        Grown::Two(cut) => {
+            let one = make_half(table, seat, gate, build, old, &cut.one)?;
+            let zero = make_half(table, seat, gate, build, old, &cut.zero)?;
+            Some(Risen::Split {
+                position: cut.position,
+                zero,
+                one,
+            })
+        }
+    }
+}

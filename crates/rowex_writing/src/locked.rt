@@ -1,0 +1,58 @@
+//! What a pass reads of a node that it has locked.
+
+ghost use Rattle.std.specs.Prelude.{◌≡◌, ◌<◌, ℕ, List, get_or};
+ghost use Rattle.record_words.specs.Reading.{IsSpelling};
+ghost use Rattle.record_words.specs.Node.{HasNodeWords, node_words};
+ghost use Rattle.rowex_table.specs.Seats.{IsSeatOf};
+ghost use Rattle.rowex_writing.specs.Going.{ReadsOn, HasLocked, IsLockedBy};
+
+use compound_node::Node;
+use record_words::{HEAD_WORDS, NODE_FIELDS, read_node};
+use rowex_core::{Gate, Rec, Spot};
+use rowex_table::{HotTable, TableSeat};
+
+/// The node in a record that the pass has locked: its words are those of the lock.
+pub fn read_locked<G: Gate>(
+    table: &HotTable,
+    seat: &mut TableSeat,
+    gate: &mut G,
+    number: u32,
+) -> Node
+    requires own { IsSeatOf table.now seat.old }
+    requires range { number < table.now.layout.nodes }
+    requires locked { IsLockedBy seat.old.known number }
+    ensures reads { ReadsOn table.now G.becomes (seat.old, gate.old) (seat.new, gate.new) }
+    ensures node { (words : List ℕ) → HasLocked seat.old.known number words → HasNodeWords result × (node_words result ≡ words) }
+{
+    let mut words = [0; NODE_FIELDS];
+    for index in 0..NODE_FIELDS {
+        words[index] = load_word(table, seat, gate, number, index);
+    }
+    read_node(&words)
+}
+
+/// One word of a locked node, of those after its state.
+fn load_word<G: Gate>(
+    table: &HotTable,
+    seat: &mut TableSeat,
+    gate: &mut G,
+    number: u32,
+    index: usize,
+) -> u64
+    requires own { IsSeatOf table.now seat.old }
+    requires range { number < table.now.layout.nodes }
+    requires index { index < 57 }
+    ensures reads { ReadsOn table.now G.becomes (seat.old, gate.old) (seat.new, gate.new) }
+    ensures word { (words : List ℕ) → HasLocked seat.old.known number words → result ≡ get_or words index 0 }
+    ensures spelled { (words : List ℕ) → HasLocked seat.old.known number words → IsSpelling HasNodeWords node_words words }
+{
+    if index < HEAD_WORDS {
+        table.load_fixed(seat, gate, Rec::Node(number), index as u8 + 1)
+    } else {
+        let spot = Spot::Slot {
+            node: number,
+            entry: (index - HEAD_WORDS) as u8,
+        };
+        table.load_ref(seat, gate, spot)
+    }
+}

@@ -1,0 +1,147 @@
+//! What a call is to do, from the way of its search: which nodes it remakes, and what it puts there.
+
+ghost use Rattle.std.specs.Prelude.{◌≡◌, ◌<◌, length};
+ghost use Rattle.insert_cases.specs.Levels.{IsLevel};
+ghost use Rattle.rowex_writing.specs.Plans.{change as a_change, IsOutline, IsBeside, IsBesideFound};
+
+use hot_model::Reply;
+use insert_cases::{Case, Step, chain_end, choose, level_below};
+
+/// What a call asks for.
+#[derive(Clone, Copy, Debug, PartialEq, Eq)]
+pub enum Ask {
+    /// The key with the value, if it is absent.
+    Insert,
+    /// The key with the value, whatever it had.
+    Upsert,
+    /// The key's end.
+    Remove,
+}
+
+/// Where the key's search ended.
+#[derive(Clone, Copy, Debug, PartialEq, Eq)]
+pub enum Found {
+    /// At an empty root.
+    Nothing,
+    /// At a leaf.
+    Leaf {
+        /// The leaf's record number.
+        number: u32,
+        /// The leaf's value.
+        value: u64,
+        /// Where the leaf's key first differs from the call's; none where it is that key.
+        mismatch: Option<u16>,
+    },
+}
+
+/// The nodes of the way that get others in their place: those from `end` on, before `len`. The topmost of the others goes
+/// into the entry that the search took in the node at `end - 1`, or to the root where `end` is 0.
+#[derive(Clone, Copy, Debug, PartialEq, Eq)]
+pub struct Span {
+    pub len: usize,
+    pub end: usize,
+}
+
+/// What is done at the lower end of a span.
+#[derive(Clone, Copy, Debug, PartialEq, Eq)]
+pub enum Deed {
+    /// The new leaf takes the place of what stands there.
+    Put,
+    /// A node of the leaf that stands there and the new one, with a fork at the position.
+    Pair { position: u16 },
+    /// The lowest node gets the new leaf, beside its entries from `first` to `last`.
+    Grow { position: u16, first: u8, last: u8 },
+    /// The lowest node loses the leaf, or the root its only one.
+    Take,
+}
+
+/// What a call does.
+#[derive(Clone, Copy, Debug, PartialEq, Eq)]
+pub enum Plan {
+    /// It answers, and changes nothing.
+    Answer(Reply),
+    /// It makes this change.
+    Change { span: Span, deed: Deed },
+}
+
+/// What a call does, as far as the way and the search's end tell it.
+#[derive(Clone, Copy, Debug, PartialEq, Eq)]
+pub enum Outline {
+    /// All is told.
+    Known(Plan),
+    /// The new leaf goes beside the entries that the position affects at this level of the way: `plan_beside` tells the
+    /// rest from them.
+    Beside { position: u16, level: usize },
+}
+
+/// What a call does that found this at the end of its way, as far as that tells it.
+pub fn plan_call(way: &[Step], ask: Ask, found: Found) -> Outline
+    ensures { IsOutline way.now ask found result }
+{
+    match found {
+        Found::Nothing => match ask {
+            Ask::Remove => Outline::Known(Plan::Answer(Reply::Absent)),
+            _ => Outline::Known(change(0, 0, Deed::Put)),
+        },
+        Found::Leaf {
+            mismatch: Some(position),
+            ..
+        } => match ask {
+            Ask::Remove => Outline::Known(Plan::Answer(Reply::Absent)),
+            _ => beside(way, position),
+        },
+        Found::Leaf {
+            value,
+            mismatch: None,
+            ..
+        } => match ask {
+            Ask::Insert => Outline::Known(Plan::Answer(Reply::Exists(value))),
+            Ask::Upsert => Outline::Known(change(way.len(), way.len(), Deed::Put)),
+            Ask::Remove => {
+                let end = way.len().saturating_sub(1);
+                Outline::Known(change(way.len(), end, Deed::Take))
+            }
+        },
+    }
+}
+
+/// A new leaf whose key differs from that found first at a position.
+fn beside(way: &[Step], position: u16) -> Outline
+    ensures { IsBesideFound way.now position result }
+{
+    if way.is_empty() {
+        return Outline::Known(change(0, 0, Deed::Pair { position }));
+    }
+    let level = level_below(way, position);
+    Outline::Beside { position, level }
+}
+
+/// What a call does whose new leaf goes beside the entries from `first` to `last` of the node at this level: those that
+/// the position affects.
+pub fn plan_beside(way: &[Step], position: u16, level: usize, first: u8, last: u8) -> Plan
+    requires { level < length way.now }
+    ensures { IsBeside way.now position level first last result }
+{
+    let choice = choose(way, level, first, last);
+    let deed = Deed::Grow {
+        position,
+        first: choice.first,
+        last: choice.last,
+    };
+    let len = choice.level + 1;
+    match choice.case {
+        Case::LeafPushdown => change(len, len, Deed::Pair { position }),
+        Case::NormalInsert => change(len, choice.level, deed),
+        Case::Overflow => change(len, chain_end(way, choice.level), deed),
+    }
+}
+
+/// The change of a span.
+fn change(len: usize, end: usize, deed: Deed) -> Plan
+    ensures { result ≡ a_change len end deed }
+{
+    Plan::Change {
+        span: Span { len, end },
+        deed,
+    }
+}
