@@ -6,6 +6,8 @@ mod gates;
 #[cfg(test)]
 mod made;
 #[cfg(test)]
+mod records;
+#[cfg(test)]
 mod rounds;
 #[cfg(test)]
 mod steps;

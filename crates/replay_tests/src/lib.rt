@@ -12,6 +12,8 @@ mod made;
 #[cfg(test)]
 mod publishes;
 #[cfg(test)]
+mod read;
+#[cfg(test)]
 mod runs;
 #[cfg(test)]
 mod steps;

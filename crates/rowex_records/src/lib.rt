@@ -6,6 +6,3 @@ mod filling;
 
 pub use claiming::{claim_leaf, claim_node, give_up, give_up_all};
 pub use filling::{fill_leaf, fill_node, make_ready};
-
-#[cfg(test)]
-mod tests;

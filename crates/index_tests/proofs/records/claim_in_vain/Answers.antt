@@ -2,7 +2,7 @@
 use Rattle.std.proofs.Common.{[]}
 use Rattle.moments.specs.declared.Rec.TheVariants.{Node as a_node, Leaf as a_leaf}
 use Rattle.rowex_records.proofs.GivenUp.{holds_nothing, holds_claimed, holds_filled}
-use Rattle.rowex_records.proofs.tests.claim_in_vain.Goals as goal
+use Rattle.index_tests.proofs.records.claim_in_vain.Goals as goal
 
 pub give_up_all-requires-clause-held : goal.give_up_all-requires-clause-held
 give_up_all-requires-clause-held g c =

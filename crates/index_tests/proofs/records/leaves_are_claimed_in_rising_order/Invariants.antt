@@ -1,6 +1,6 @@
--- The seat stays one of the table.
+-- The seats stay those of the table.
 use Rattle.rowex_table.specs.Seats.{Fits}
-use Rattle.rowex_records.proofs.tests.claims_go_on_from_0_after_the_last.Given as goal
+use Rattle.index_tests.proofs.records.leaves_are_claimed_in_rising_order.Given as goal
 
 abbrev pub invariant-loop-number : goal.invariant-loop-number
 invariant-loop-number g l = Fits l.table l.seat
