@@ -1,5 +1,6 @@
 -- Rounds of collection.
-use Rattle.std.specs.Prelude.{◌≡◌, ◌≢◌, ℕ, ◌<◌, ◌≤◌, ◌+◌, ◌^◌, List, [], ◌∷◌, ◌++◌, Bool, true, false, nat_eq, nat_lt, if◌then◌else◌, count_by}
+use Rattle.std.specs.Prelude.{◌≡◌, ◌≢◌, ℕ, ◌<◌, ◌≤◌, ◌+◌, List, [], ◌∷◌, ◌++◌, Bool, true, false, nat_eq, nat_lt, if◌then◌else◌, count_by}
+use Rattle.record_words.specs.declared.TheConstants.{EPOCHS}
 use Rattle.record_words.specs.declared.state.Tag.TheVariants.{Obsolete}
 use Rattle.record_words.specs.State.{state_word}
 use Rattle.moments.specs.Core.{has_seen}
@@ -15,7 +16,7 @@ use Rattle.epochs.specs.Runs.{paced}
 
 -- the exchange that makes an epoch the next one; at the last epoch there is none
 abbrev pub advance_steps : ℕ → ℕ → List Act
-advance_steps epoch found = if nat_lt (epoch + 1) (2 ^ 60) then Advance epoch found ∷ [] else []
+advance_steps epoch found = if nat_lt (epoch + 1) EPOCHS then Advance epoch found ∷ [] else []
 
 abbrev pub LoadsPin : ℕ → List Act → Type 0
 LoadsPin o acts = (word : ℕ) × (acts ≡ LoadPin o word ∷ [])

@@ -8,7 +8,7 @@ ghost use Rattle.rowex_core.specs.Cores.{HasRecord};
 ghost use Rattle.rowex_table.specs.Seats.{IsSeatOf};
 ghost use Rattle.epochs.specs.Rounds.{AdvancesEpoch, FindsBound, HasBound, IsRound, VisitsAll, VisitsOne};
 
-use record_words::{Tag, unpack_state};
+use record_words::{EPOCHS, Tag, unpack_state};
 use rowex_core::{Gate, Rec};
 use rowex_table::{HotTable, TableSeat};
 
@@ -42,7 +42,7 @@ fn advance_epoch<G: Gate>(table: &HotTable, seat: &mut TableSeat, gate: &mut G)
     ensures steps { AdvancesEpoch table.now G.becomes (seat.old, gate.old) (seat.new, gate.new) }
 {
     let expected = table.load_epoch(seat, gate);
-    if expected + 1 < 1 << 60 {
+    if expected + 1 < EPOCHS {
         table.advance(seat, gate, expected);
     }
 }
@@ -128,7 +128,7 @@ fn visit<G: Gate>(
 
 /// The epoch in which a record of this state was retired, if it is below the bound.
 fn epoch_below(word: u64, bound: u64) -> Option<u64>
-    ensures { MatchOption result ((epoch : ℕ) → 1 ≤ epoch → epoch < 2 ^ 60 → epoch < bound → word ≢ state_word (Obsolete epoch)) (λ epoch. (1 ≤ epoch) × (epoch < 2 ^ 60) × (epoch < bound) × (word ≡ state_word (Obsolete epoch))) }
+    ensures { MatchOption result ((epoch : ℕ) → 1 ≤ epoch → epoch < EPOCHS → epoch < bound → word ≢ state_word (Obsolete epoch)) (λ epoch. (1 ≤ epoch) × (epoch < EPOCHS) × (epoch < bound) × (word ≡ state_word (Obsolete epoch))) }
 {
     match unpack_state(word) {
         Ok(Tag::Obsolete(epoch)) if epoch < bound => Some(epoch),

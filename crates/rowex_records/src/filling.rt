@@ -12,11 +12,11 @@ ghost use Rattle.rowex_records.specs.Records.{Fills, IsFilled, Readies};
 
 use compound_node::Node;
 use key_bits::Key;
-use record_words::{pack_leaf, pack_node};
+use record_words::{LEAF_FIELDS, NODE_FIELDS, pack_leaf, pack_node};
 use rowex_core::{Gate, Rec};
 use rowex_table::{HotTable, TableSeat};
 
-/// Fills a claimed leaf record with a key and a value, in 32 steps.
+/// Fills a claimed leaf record with a key and a value, in a step for each word but the state.
 pub fn fill_leaf<G: Gate>(
     table: &HotTable,
     seat: &mut TableSeat,
@@ -30,13 +30,13 @@ pub fn fill_leaf<G: Gate>(
     requires held { IsHeld seat.old.known (a_leaf number) }
     ensures fills { Fills table.now G.becomes (a_leaf number) (leaf_words (key.now, value)) (seat.old, gate.old) (seat.new, gate.new) }
     ensures filled { IsFilled seat.new.known (a_leaf number) (leaf_words (key.now, value)) }
-    ensures steps { seat.new.known.steps ≡ seat.old.known.steps + 32 }
+    ensures steps { seat.new.known.steps ≡ seat.old.known.steps + LEAF_FIELDS }
 {
     let words = pack_leaf(key, value);
     fill_words(table, seat, gate, Rec::Leaf(number), &words);
 }
 
-/// Fills a claimed node record with a node, in 57 steps.
+/// Fills a claimed node record with a node, in a step for each word but the state.
 pub fn fill_node<G: Gate>(
     table: &HotTable,
     seat: &mut TableSeat,
@@ -50,7 +50,7 @@ pub fn fill_node<G: Gate>(
     ensures fits { HasNodeWords node.now }
     ensures fills { Fills table.now G.becomes (a_node number) (node_words node.now) (seat.old, gate.old) (seat.new, gate.new) }
     ensures filled { IsFilled seat.new.known (a_node number) (node_words node.now) }
-    ensures steps { seat.new.known.steps ≡ seat.old.known.steps + 57 }
+    ensures steps { seat.new.known.steps ≡ seat.old.known.steps + NODE_FIELDS }
 {
     let words = pack_node(node);
     fill_words(table, seat, gate, Rec::Node(number), &words);
