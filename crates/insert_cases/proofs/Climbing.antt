@@ -1,7 +1,7 @@
 -- The way up of a new leaf: at a leaf, at the affected node, at each node above it, and in a new node.
 use Rattle.std.proofs.Common.{◌≡◌, ◌⊎◌, inl, inr, ℕ, suc, ◌+◌, ◌*◌, ◌<◌, ◌≤◌, Bool, true, false, List, refl, ap, sym, ◌∙◌, subst, arith, Some, length, get_or}
 use Rattle.std.proofs.lemmas.Option.{slice_get_within}
-use Rattle.std.specs.Prelude.{slice_get, cond, nat_lt, ◌-◌}
+use Rattle.std.specs.Prelude.{All, slice_get, cond, nat_lt, ◌-◌}
 use Rattle.key_bits.specs.Bits.{IsFirstDifference, bit_of}
 use Rattle.key_bits.specs.declared.TheConstants.{MAX_BYTES}
 use Rattle.pieces.specs.Changes.{replaced}
@@ -19,7 +19,7 @@ use Rattle.tries.specs.Search.{child, seek}
 use Rattle.tries.specs.Tree.{Page, Fixed, Tree, leaf, node, fork, page, Has, IsTrie, IsBuilt, IsLower, first_position, Within, here, inside, zero_side, one_side}
 use Rattle.tries.proofs.Adding.{added_here}
 use Rattle.tries.proofs.Affected.{grown_page, part_place}
-use Rattle.tries.proofs.Fitting.{lower_positive}
+use Rattle.tries.proofs.Fitting.{lower_positive, children_are, all_above}
 use Rattle.tries.proofs.Places.{grown, leads_spot, spot_below}
 use Rattle.tries.proofs.Ranges.{has_key}
 use Rattle.tries.proofs.Tries.{has_first, rises, trie_within, built_within, within_child, page_child}
@@ -42,17 +42,10 @@ use Rattle.insert_cases.proofs.Storing.{push_old, push_new}
 
 -- ---- tips and forks of tips
 tip_entry : (e : Entry) (t : Tree) → page t ≡ Place e → IsBuilt t → IsEntry e
-tip_entry (Leaf n) t h b = tt
-tip_entry (Node n g) (leaf m k v) h b = absurd cc
-tip_entry (Node n g) (node m x c) h b = let e : x.height ≡ g = cc in let p = lower_positive x.height c b.1 in (omega arith, omega (arith, b.3.bound))
-tip_entry (Node n g) (fork p a c) h b = absurd cc
+tip_entry e t h b = subst (λ x. All IsEntry (places x)) h (children_are t b) 0 e (omega arith)
 
 tip_low : (h : ℕ) (e : Entry) (t : Tree) → page t ≡ Place e → IsLower h t → height_of e < h
-tip_low h (Leaf n) (leaf m k v) e l = l
-tip_low h (Node n g) (leaf m k v) e l = absurd cc
-tip_low h (Leaf n) (node m x c) e l = absurd cc
-tip_low h (Node n g) (node m x c) e l = let f : x.height ≡ g = cc in omega (arith, l)
-tip_low h d (fork p a c) e l = absurd cc
+tip_low h e t f l = subst (λ x. All (λ d. height_of d < h) (places x)) f (all_above h t l) 0 e (omega arith)
 
 pub record IsPair (q : ℕ) (z o : Entry) (t : Tree) : Type 0 where
   pub zero_tip : Tree

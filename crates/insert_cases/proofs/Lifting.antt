@@ -11,7 +11,7 @@ use Rattle.tries.specs.Content.{Item}
 use Rattle.tries.specs.Keys.{Key, bit}
 use Rattle.tries.specs.Place.{spot}
 use Rattle.tries.specs.Search.{child}
-use Rattle.tries.specs.Tree.{Page, Fixed, Tree, leaf, node, page, Has, IsTrie, IsBuilt, IsLower, first_position, Within, here, inside, zero_side, one_side}
+use Rattle.tries.specs.Tree.{Page, Fixed, Tree, node, page, Has, IsTrie, IsBuilt, IsLower, first_position, Within, here, inside, zero_side, one_side}
 use Rattle.tries.proofs.Adding.{added, added_bare, added_put}
 use Rattle.tries.proofs.Affected.{IsAway, part_place, place_page}
 use Rattle.tries.proofs.Fitting.{lower_positive}

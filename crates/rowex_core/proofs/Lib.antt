@@ -21,3 +21,4 @@ pub mod Bridging
 pub mod Slots
 pub mod Leading
 pub mod Having
+pub mod Kept

@@ -1,10 +1,11 @@
 -- What a pass has, by lists in which nothing is left out.
-use Rattle.std.specs.Prelude.{◌≡◌, ◌⊎◌, ℕ, ◌<◌, List}
+use Rattle.std.specs.Prelude.{[], ◌∷◌, Bool, true, false, not, filter, if◌then◌else◌, ◌≡◌, ◌⊎◌, ℕ, ◌<◌, List}
 use Rattle.moments.specs.declared.Rec.{Rec}
 use Rattle.moments.specs.declared.Rec.TheVariants.{Node as a_node}
 use Rattle.rowex_core.specs.declared.known.Holding.TheVariants.{Unlinked}
 use Rattle.rowex_core.specs.declared.known.Locked.{Locked}
 use Rattle.rowex_core.specs.declared.known.Owned.{Owned}
+use Rattle.moments.specs.Steps.{same_rec}
 use Rattle.moments.specs.Trades.{IsOf}
 
 -- The pass's own records are exactly these, and it has each of them in this way.
@@ -33,3 +34,12 @@ pub record LocksJust (locks : List Locked) (nodes : List ℕ) : Type 0 where
 pub record IsKept (held : List ℕ) (gone : List Rec) (kept : List ℕ) : Type 0 where
   pub only : (n : ℕ) → IsOf n held → IsOf n kept ⊎ IsOf (a_node n) gone
   pub each : (n : ℕ) → IsOf n kept → IsOf n held × (IsOf (a_node n) gone → ⊥)
+
+-- the record is one of these
+abbrev pub is_among : Rec → List Rec → Bool
+is_among r [] = false
+is_among r (x ∷ xs) = if same_rec r x then true else is_among r xs
+
+-- the locked nodes that are kept, where these records are unlinked
+abbrev pub kept_of : List ℕ → List Rec → List ℕ
+kept_of held gone = filter (λ n. not (is_among (a_node n) gone)) held

@@ -26,8 +26,8 @@ pub fn look_up<G: Gate>(
     loop {
         match entry {
             Entry::Leaf(number) => {
-                let (held, value) = load_leaf(table, seat, gate, number);
-                return if held == *key { Some(value) } else { None };
+                let leaf = load_leaf(table, seat, gate, number);
+                return if leaf.0 == *key { Some(leaf.1) } else { None };
             }
             Entry::Node { number, .. } => {
                 let head = load_head(table, seat, gate, number);

@@ -3,7 +3,7 @@
 ghost use Rattle.std.specs.Prelude.{◌≡◌, ◌<◌, ◌+◌, ℕ, List, length};
 ghost use Rattle.moments.specs.declared.Rec.TheVariants.{Node as a_node, Leaf as a_leaf};
 ghost use Rattle.record_words.specs.Leaf.{leaf_words};
-ghost use Rattle.record_words.specs.Node.{node_words};
+ghost use Rattle.record_words.specs.Node.{HasNodeWords, node_words};
 ghost use Rattle.rowex_core.specs.Cores.{HasRecord, word_count_of};
 ghost use Rattle.rowex_core.specs.Reading.{IsPacked};
 ghost use Rattle.rowex_table.specs.Rights.{IsHeld};
@@ -47,6 +47,7 @@ pub fn fill_node<G: Gate>(
     requires own { IsSeatOf table.now seat.old }
     requires range { number < table.now.layout.nodes }
     requires held { IsHeld seat.old.known (a_node number) }
+    ensures fits { HasNodeWords node.now }
     ensures fills { Fills table.now G.becomes (a_node number) (node_words node.now) (seat.old, gate.old) (seat.new, gate.new) }
     ensures filled { IsFilled seat.new.known (a_node number) (node_words node.now) }
     ensures steps { seat.new.known.steps ≡ seat.old.known.steps + 57 }

@@ -23,6 +23,7 @@ use Rattle.moments.proofs.Members.{of_left, of_right}
 use Rattle.rowex_walks.proofs.Rising.{fork_parts}
 use Rattle.rowex_walks.proofs.Upwards.{upper_goes_on}
 use Rattle.rowex_rights.proofs.Bounding.{bound_of, tree_risen, bound_risen}
+use Rattle.rowex_rights.specs.Sure.{LeafThereStays}
 use Rattle.rowex_rights.proofs.Sure.{reach_since, recalls_earlier}
 use Rattle.rowex_rights.proofs.Stages.{node_fixed, locked_node, upper_in, made_node}
 use Rattle.tries.specs.Affected.{page_affected, page_forked, page_grown, IsPartPage, IsFirstBelow}
@@ -138,3 +139,6 @@ above_goes_on layout k held news c stage key p o n a =
     let u = upper_in layout k held news c stage key p o n a in
     let (on, upper) = locked_node layout k held news c stage o a.upper a.has_upper in
     subst (λ (z : NodeWords). IsFirstBelow p z.page) upper (upper_goes_on (bare c) k.pass stage.lawful.core.state key p o n u)
+
+pub leaf_there_stays : LeafThereStays
+leaf_there_stays layout k j held news n key value later there c stage = there c (stage_earlier layout k j later held news c stage)

@@ -50,12 +50,13 @@ abbrev pub LoadOfRoot : Type 0
 LoadOfRoot =
     (layout : Layout) (k j : Known) (root : Option Entry) (w : ℕ) → k.anchor ≡ Some root → IsEvent layout (LoadRef Root w) silent k j → w ≡ entry_word root
 
--- A lock that finds another word than 2, and a claim that finds another than 0, leave all but one more failed step.
+-- A lock that finds another word than 2 leaves all but one more failed step;
 abbrev pub LockFails : Type 0
 LockFails =
     (layout : Layout) (k j : Known) (target : Target) (found : ℕ) → IsEvent layout (Lock target found) silent k j → found ≢ 2 →
     j ≡ record (failed_with k (target_word target) found) { steps = k.steps + 1 }
 
+-- and so does a claim that finds another word than 0.
 abbrev pub ClaimFails : Type 0
 ClaimFails =
     (layout : Layout) (k j : Known) (r : Rec) (found : ℕ) → IsEvent layout (Claim r found) silent k j → found ≢ 0 →

@@ -3,11 +3,11 @@ use Rattle.std.specs.Prelude.{◌≡◌, ℕ, List, [], ◌∷◌, Option, None,
 use Rattle.hot_model.specs.declared.Change.{Change}
 use Rattle.record_words.specs.declared.layout.Layout.{Layout}
 use Rattle.moments.specs.declared.Rec.{Rec}
-use Rattle.moments.specs.Trades.{AreApart}
+use Rattle.moments.specs.Trades.{IsOf, AreApart}
 use Rattle.rowex_core.specs.declared.event.Act.TheVariants.{Unlock, Mark, LoadEpoch}
 use Rattle.rowex_core.specs.declared.event.Target.TheVariants.{Anchor, Node as NodeTarget}
 use Rattle.rowex_core.specs.declared.known.Known.{Known}
-use Rattle.rowex_core.specs.Having.{OwnsJust, LocksJust, IsDue}
+use Rattle.rowex_core.specs.Having.{OwnsJust, LocksJust, IsKept, IsDue, kept_of}
 use Rattle.rowex_core.specs.Knowing.{IsEvent}
 use Rattle.rowex_table.specs.Rule.{MayStep}
 use Rattle.rowex_table.specs.Publishes.{HasPublished, silent}
@@ -30,6 +30,14 @@ pub record IsAtRest (k : Known) : Type 0 where
   pub own : k.own ≡ []
   pub locks : k.locks ≡ []
   pub anchor : k.anchor ≡ None
+
+-- Of locked nodes, each once, just those that are not unlinked are kept, each once.
+abbrev pub KeptIs : Type 0
+KeptIs = (held : List ℕ) (gone : List Rec) → AreApart held → IsKept held gone (kept_of held gone) × AreApart (kept_of held gone)
+
+-- two lists have the same elements
+abbrev pub HaveSame : {X : Type 0} → List X → List X → Type 0
+HaveSame {X} xs ys = ((x : X) → IsOf x xs → IsOf x ys) × ((x : X) → IsOf x ys → IsOf x xs)
 
 -- The load of the epoch begins the end,
 abbrev pub EndBegins : Type 0
@@ -56,6 +64,12 @@ EndUnlocksAnchor =
     (layout : Layout) (k : Known) (epoch : ℕ) (rs : List Rec) (ns : List ℕ) → IsEnding k epoch rs ns → IsSome k.anchor →
     MayStep layout (λ found. Unlock Anchor) k ×
     ((j : Known) → IsEvent layout (Unlock Anchor) silent k j → IsEnding j epoch rs ns × (j.front ≡ k.front) × (j.anchor ≡ None))
+
+-- in any order;
+abbrev pub EndInAnyOrder : Type 0
+EndInAnyOrder =
+    (k : Known) (epoch : ℕ) (rs qs : List Rec) (ns ms : List ℕ) → IsEnding k epoch rs ns → HaveSame rs qs → HaveSame ns ms → AreApart qs → AreApart ms →
+    IsEnding k epoch qs ms
 
 -- with none left, the pass is at rest.
 abbrev pub EndRests : Type 0

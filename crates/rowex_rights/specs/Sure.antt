@@ -2,6 +2,7 @@
 use Rattle.std.specs.Prelude.{◌≡◌, ◌≢◌, ℕ, List}
 use Rattle.compound_node.specs.declared.entries.Entry.{Entry}
 use Rattle.compound_node.specs.declared.entries.Entry.TheVariants.{Leaf, Node}
+use Rattle.record_words.specs.declared.layout.Layout.{Layout}
 use Rattle.record_words.specs.Leaf.{HasLeafWords}
 use Rattle.tries.specs.Keys.{Key, bit, AgreeBelow}
 use Rattle.tries.specs.Tree.{Page, first_position}
@@ -13,7 +14,8 @@ use Rattle.rowex_walks.specs.Ways.{IsOnWay, IsWayFrom}
 use Rattle.rowex_core.specs.declared.known.Known.{Known}
 use Rattle.rowex_core.specs.declared.known.Locked.{Locked}
 use Rattle.rowex_core.specs.Reading.{node_of}
-use Rattle.rowex_rights.specs.Stages.{IsSure, IsSince}
+use Rattle.rowex_table.specs.Made.{Made, IsLater}
+use Rattle.rowex_rights.specs.Stages.{IsSure, IsSince, IsLeafThere}
 use Rattle.rowex_rights.specs.Rises.{HasFoundBelow}
 
 -- Its descent below a lock: it begins at a node to which it was led,
@@ -41,3 +43,15 @@ DescentFinds =
     (k : Known) (held : List Locked) (since : ℕ) (x : Item) (p : ℕ) (l : Key) (n : ℕ) (words : List ℕ) → HasLeafWords (x.key, x.value) → IsSince k since →
     IsOf (record { node = n; words = words }) held → IsSure k (λ s. IsWayFrom s since l (seek x.key (node_of words).page)) →
     AgreeBelow p x.key l → bit x.key p ≢ bit l p → HasFoundBelow k held since x p l n words
+
+-- And that stays, while the pass goes on.
+abbrev pub FoundStays : Type 0
+FoundStays =
+    (k j : Known) (held : List Locked) (since : ℕ) (x : Item) (p : ℕ) (l : Key) (n : ℕ) (words : List ℕ) → IsLater k j →
+    HasFoundBelow k held since x p l n words → HasFoundBelow j held since x p l n words
+
+-- So does what a leaf was read to be, in each stage.
+abbrev pub LeafThereStays : Type 0
+LeafThereStays =
+    (layout : Layout) (k j : Known) (held : List Locked) (news : List Made) (n : ℕ) (key : Key) (value : ℕ) → IsLater k j →
+    IsLeafThere layout k held news n key value → IsLeafThere layout j held news n key value

@@ -20,10 +20,11 @@ pub record Made : Type 0 where
 abbrev pub held_as : Holding → Made → Owned
 held_as h m = record { rec = m.rec; holding = h; words = m.words }
 
--- the records, and the locked nodes, without their words
+-- the records without their words
 abbrev pub recs_of : List Made → List Rec
 recs_of made = map (λ (m : Made). m.rec) made
 
+-- the locked nodes without their words
 abbrev pub nodes_of : List Locked → List ℕ
 nodes_of locks = map (λ (l : Locked). l.node) locks
 

@@ -1,6 +1,8 @@
 -- What a pass has to know for a step that not every pass may make.
 use Rattle.std.specs.Prelude.{◌≡◌, ℕ, List, length, take, Contains}
 use Rattle.record_words.specs.declared.layout.Layout.{Layout}
+use Rattle.record_words.specs.declared.state.Tag.TheVariants.{Live}
+use Rattle.record_words.specs.State.{state_word}
 use Rattle.moments.specs.declared.Rec.{Rec}
 use Rattle.moments.specs.declared.Rec.TheVariants.{Node as a_node}
 use Rattle.rowex_core.specs.declared.event.Target.{Target}
@@ -28,4 +30,4 @@ HasFilled k r words i = (own : List ℕ) × (length own ≡ length words) × (ta
 -- The pass may lock: the anchor always, and a node of which it knows that it stands in the tree, if it is live.
 abbrev pub MayLock : Layout → Target → Known → Type 0
 MayLock layout Anchor k = Unit {0}
-MayLock layout (NodeTarget n) k = (c : Core) → IsLawful c → c.layout ≡ layout → Knows c k → state_at c (a_node n) ≡ 2 → IsInTree c n
+MayLock layout (NodeTarget n) k = (c : Core) → IsLawful c → c.layout ≡ layout → Knows c k → state_at c (a_node n) ≡ state_word Live → IsInTree c n

@@ -6,6 +6,7 @@ use Rattle.atomic_table.specs.Table.{State, Me, Step}
 use Rattle.hot_model.specs.declared.Change.{Change}
 use Rattle.hot_model.specs.declared.Note.{Note}
 use Rattle.hot_model.specs.Fronts.{LegalFront, OthersGoOn}
+use Rattle.record_words.specs.declared.TheConstants.{MAX_ENTRIES}
 use Rattle.record_words.specs.declared.layout.Layout.{Layout}
 use Rattle.rowex_core.specs.declared.event.Act.{Act}
 use Rattle.rowex_core.specs.declared.event.Act.TheVariants.{Claim, LoadRef, LoadFixed, Lock, LoadEpoch, Advance, LoadPin, LoadState, GiveBack}
@@ -60,15 +61,15 @@ known_of _ = opening_of 0
 abbrev pub IsOfPass : {S : Type 0} → Me S View → ℕ → Type 0
 IsOfPass me q = (me ≡ (Pass (known_of me.0), [])) × ((known_of me.0).pass ≡ q)
 
--- the root, or one of 32 entries
+-- the root, or one of the entries that a node may have
 abbrev pub HasPlace : Spot → Type 0
 HasPlace Root = Unit {0}
-HasPlace (Slot n j) = j < 32
+HasPlace (Slot n j) = j < MAX_ENTRIES
 
--- the root, or one of the 32 entries of a node of the table
+-- the root, or such an entry of a node of the table
 abbrev pub IsEntry : Layout → Spot → Type 0
 IsEntry layout Root = Unit {0}
-IsEntry layout (Slot n j) = (n < layout.nodes) × (j < 32)
+IsEntry layout (Slot n j) = (n < layout.nodes) × (j < MAX_ENTRIES)
 
 -- Events
 

@@ -9,7 +9,7 @@ ghost use Rattle.rowex_table.specs.Runs.{Steps, StepsWith};
 ghost use Rattle.rowex_table.specs.Seats.{Fits, IsSeatOf};
 
 use crate::table::{HotTable, TableSeat};
-use record_words::Location;
+use record_words::{EPOCHS, Location};
 use rowex_core::{Act, Gate};
 use std::marker::Brand;
 
@@ -25,7 +25,7 @@ impl HotTable {
     /// Makes the epoch the next one, if it finds the expected one, from 1 to 2^60 - 2; answers the epoch that it found.
     pub fn advance<G: Gate>(&self, seat: &mut TableSeat, gate: &mut G, expected: u64) -> u64
         requires own { IsSeatOf self.now seat.old }
-        requires range { (1 ≤ expected) × (expected + 1 < 2 ^ 60) }
+        requires range { (1 ≤ expected) × (expected + 1 < EPOCHS) }
         ensures { Steps self.now G.becomes (Advance expected result) (seat.old, gate.old) (seat.new, gate.new) }
     {
         self.exchange_as::<Brand, G>(

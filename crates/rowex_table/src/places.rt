@@ -6,7 +6,7 @@ ghost use Rattle.record_words.specs.State.{state_word};
 ghost use Rattle.rowex_core.specs.Events.{word_of as word_location, spot_word as spot_location, target_word as target_location};
 ghost use Rattle.rowex_table.specs.Rule.{HasPlace};
 
-use record_words::Location;
+use record_words::{EPOCHS, FIRST_ENTRY, Location};
 use rowex_core::{Rec, Spot, Target};
 
 /// The word of a record at this offset.
@@ -28,7 +28,7 @@ pub(crate) fn spot_place(spot: Spot) -> Location
         Spot::Root => Location::Root,
         Spot::Slot { node, entry } => Location::NodeWord {
             node,
-            offset: 26 + entry,
+            offset: FIRST_ENTRY as u8 + entry,
         },
     }
 }
@@ -45,7 +45,7 @@ pub(crate) fn target_place(target: Target) -> Location
 
 /// The state word of a record that was retired in this epoch.
 pub(crate) fn obsolete_word(epoch: u64) -> u64
-    requires { epoch < 2 ^ 60 }
+    requires { epoch < EPOCHS }
     ensures { result ≡ state_word (Obsolete epoch) }
 {
     8 * epoch + 4

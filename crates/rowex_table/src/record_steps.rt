@@ -10,7 +10,7 @@ ghost use Rattle.rowex_table.specs.Seats.{IsSeatOf};
 
 use crate::places::{obsolete_word, record_place};
 use crate::table::{HotTable, TableSeat};
-use record_words::{Tag, pack_state};
+use record_words::{EPOCHS, Tag, pack_state};
 use rowex_core::{Act, Gate, Rec};
 use std::marker::Brand;
 
@@ -99,7 +99,7 @@ impl HotTable {
     /// Makes a record obsolete that the pass has unlinked, in the epoch that the pass loaded last.
     pub fn mark<G: Gate>(&self, seat: &mut TableSeat, gate: &mut G, rec: Rec, epoch: u64)
         requires own { IsSeatOf self.now seat.old }
-        requires range { HasRecord self.now.layout rec × (epoch < 2 ^ 60) }
+        requires range { HasRecord self.now.layout rec × (epoch < EPOCHS) }
         requires may { MayStep self.now.layout (λ _. Mark rec epoch) seat.old.known }
         ensures { Steps self.now G.becomes (Mark rec epoch) (seat.old, gate.old) (seat.new, gate.new) }
     {
@@ -135,7 +135,7 @@ impl HotTable {
         epoch: u64,
     ) -> u64
         requires own { IsSeatOf self.now seat.old }
-        requires range { HasRecord self.now.layout rec × (epoch < 2 ^ 60) }
+        requires range { HasRecord self.now.layout rec × (epoch < EPOCHS) }
         requires may { MayStep self.now.layout (λ found. GiveBack rec epoch found) seat.old.known }
         ensures { Steps self.now G.becomes (GiveBack rec epoch result) (seat.old, gate.old) (seat.new, gate.new) }
     {

@@ -9,7 +9,7 @@ ghost use Rattle.rowex_table.specs.Seats.{SeatView, IsNew, IsNewSeat, IsSeatOf};
 use crate::plays::{Deal, Meets, Part, Step};
 use crate::table::{HotTable, TableSeat};
 use atomic_table::Table;
-use record_words::Layout;
+use record_words::{ANCHOR_WORD, EPOCH_WORD, Layout, Tag, pack_state};
 use std::alloc::{AllocError, Global};
 use std::marker::Brand;
 
@@ -22,8 +22,8 @@ impl HotTable {
         ensures each { IfOk result (λ made. All (IsNewSeat made.0) made.1.items) }
     {
         let mut words = Vec::from_elem(alloc, 0u64, layout.words())?;
-        words[0] = 1;
-        words[2] = 2;
+        words[EPOCH_WORD] = 1;
+        words[ANCHOR_WORD] = pack_state(Tag::Live);
         let (table, mut dealer) = Table::of_words(alloc, words.as_slice(), &layout)?;
         let mut seats = Vec::new(alloc);
         for number in 0..layout.passes {

@@ -1,5 +1,5 @@
 -- The descent of a writer below its lock; and where nothing has changed since.
-use Rattle.std.proofs.Common.{◌≡◌, ◌⊎◌, inl, inr, ℕ, ◌<◌, ◌≤◌, false, true, refl, ap, sym, ◌∙◌, subst, arith, Some, if◌then◌else◌, Bool}
+use Rattle.std.proofs.Common.{◌≡◌, ◌⊎◌, inl, inr, ℕ, ◌<◌, ◌≤◌, false, true, refl, ap, sym, ◌∙◌, subst, arith, Some, if◌then◌else◌, Bool, None}
 use Rattle.std.proofs.lemmas.Bool.{false≢true, cases_lt}
 use Rattle.compound_node.specs.declared.entries.Entry.{Entry}
 use Rattle.compound_node.specs.declared.entries.Entry.TheVariants.{Node}
@@ -7,16 +7,15 @@ use Rattle.pieces.specs.Piece.{Place}
 use Rattle.tries.specs.Keys.{Key, bit, AgreeBelow}
 use Rattle.tries.specs.Tree.{Fixed, Page, Tree, leaf, node, fork, page, Has, IsTrie, IsFork, IsBuilt, Within, here, inside, zero_side, one_side, first_position}
 use Rattle.tries.specs.Search.{child, seek, Kin, tips, forks}
-use Rattle.tries.specs.Content.{first}
+use Rattle.tries.specs.Content.{Item, first}
 use Rattle.tries.specs.Place.{spot, shape}
 use Rattle.tries.proofs.Tries.{has_first, has_within, within_trans, trie_within, built_within, rises, within_child}
 use Rattle.moments.specs.State.{Past, Stands, IsMarked, IsSteady}
 use Rattle.moments.specs.declared.Rec.TheVariants.{Node as a_node, Leaf as a_leaf}
 use Rattle.moments.proofs.Stored.{lower_within}
-use Rattle.rowex_walks.specs.Scan.{at_place, IsPlaced}
-use Rattle.rowex_walks.specs.Ways.{IsOnWay, IsWayFrom, from_leaf, from_node, found, WayBegins, WayGoesOn, WayEnds, WayOfLeaf, WayIsBelow, StillRooted, StillPlaced, StillGrows, OneBody}
+use Rattle.rowex_walks.specs.Scan.{IsRooted, IsBlank, at_place, IsPlaced}
+use Rattle.rowex_walks.specs.Ways.{IsOnWay, IsWayFrom, from_leaf, from_node, found, WayBegins, WayGoesOn, WayEnds, WayOfLeaf, WayIsBelow, StillRooted, StillPlaced, StillGrows, OneBody, RootedSame, PlacedSame, FoundSame}
 use Rattle.rowex_walks.specs.Writer.{IsBegun, IsWay, at_leaf, below}
-use Rattle.rowex_walks.proofs.Loads.{loads_root}
 use Rattle.rowex_walks.proofs.Scans.{node_of, leaf_of, within_at, placed_stands, at_spot, shaped}
 use Rattle.tries.proofs.Places.{spot_shape}
 
@@ -155,6 +154,9 @@ still_grows a b g m k e low f same =
 some_same : {a b : Tree} → Some a ≡ Some b → a ≡ b
 some_same e = cc
 
+some_none : {a : Tree} → Some a ≡ None → ⊥
+some_none e = cc
+
 place_same : {a b : Entry} → Place a ≡ Place b → a ≡ b
 place_same e = cc
 
@@ -186,11 +188,44 @@ still_placed s m steady seen k n h j x e shape_is at (b, stood, low, pe) f same 
 pub one_body : OneBody
 one_body n x b c t v w trie built kin = same_body n x b c refl refl v w trie built kin
 
+-- Two reads, where nothing has changed
+
 pub still_rooted : StillRooted
-still_rooted s law k e root same =
-    let (n, t, lo, hi, is, pg) = loads_root s law s.now le_refl_now e root in
-    let now : n ≡ s.now = omega arith in
+still_rooted s m k e (n, t, lo, hi, is, pg) same =
+    let now : n ≡ m = omega arith in
     (t, t, ap s.moment (sym now) ∙ is, here, pg, refl)
+
+pub rooted_same : RootedSame
+rooted_same s m same = (both, not_blank)
   where
-    le_refl_now : s.now ≤ s.now
-    le_refl_now = omega arith
+    at_now : (n : ℕ) → m ≤ n → n ≤ s.now → s.moment n ≡ s.moment m
+    at_now n lo hi = let e : n ≡ m = omega arith in ap s.moment e
+
+    both : (e f : Entry) → IsRooted s m e → IsRooted s m f → e ≡ f
+    both e f (n, t, lo, hi, is, pg) (o, u, lo2, hi2, is2, pg2) =
+        let one : t ≡ u = some_same (sym is ∙ (at_now n lo hi ∙ (sym (at_now o lo2 hi2) ∙ is2))) in
+        place_same (sym pg ∙ (ap page one ∙ pg2))
+
+    not_blank : (e : Entry) → IsRooted s m e → IsBlank s m → ⊥
+    not_blank e (n, t, lo, hi, is, pg) (o, lo2, hi2, none) = some_none (sym is ∙ (at_now n lo hi ∙ (sym (at_now o lo2 hi2) ∙ none)))
+
+pub placed_same : PlacedSame
+placed_same s m steady same n j e f (b, stood, low, pe) (c, other, low2, pf) =
+    let lo = stood.since in let hi = stood.until in let lo2 = other.since in let hi2 = other.until in
+    let now : stood.at ≡ m = omega arith in
+    let now2 : other.at ≡ m = omega arith in
+    let one : stood.stands.tree ≡ other.stands.tree = some_same (sym stood.stands.is_moment ∙ (ap s.moment (now ∙ sym now2) ∙ other.stands.is_moment)) in
+    let trees = steady.trees stood.at stood.stands.tree stood.until stood.stands.is_moment in
+    let both = steady.same (a_node n) stood.at other.at (node n stood.fixed b) (node n other.fixed c) lo hi lo2 hi2 stood.stands other.stands in
+    let there : Within (node n stood.fixed c) stood.stands.tree = subst (λ z. Within (node n z c) stood.stands.tree) (sym both.0) (subst (λ z. Within (node n other.fixed c) z) (sym one) other.stands.within) in
+    let body : b ≡ c = same_body n stood.fixed b c refl refl stood.stands.within there trees.0 trees.1 both.1 in
+    place_same (sym pe ∙ (ap (λ z. page (at_place z j)) body ∙ pf))
+
+pub found_same : FoundSame
+found_same s m same k i j f g =
+    let (t, u, is, w, pg, o) = f same in
+    let (t2, u2, is2, w2, pg2, o2) = g same in
+    let one : t ≡ t2 = some_same (sym is ∙ is2) in
+    let (l, v, leaf_is) = leaf_of i u pg in
+    let (l2, v2, leaf_is2) = leaf_of j u2 pg2 in
+    ap (λ (z : Item). z.number) (ap (found k) (sym leaf_is) ∙ (o ∙ (ap (found k) one ∙ (sym o2 ∙ ap (found k) leaf_is2))))

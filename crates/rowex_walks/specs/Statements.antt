@@ -63,24 +63,26 @@ PushDown =
     IsNewPage c q m g (page_forked (bit x.key p) p (Leaf x.number) (Place (Leaf j))) → IsBelowNode c n (Node m g.height) →
     (heap : Heap) → IsSlotStore c heap n x.key (Node m g.height) → IsPublished c q heap c.root (added_change q x) (a_node m ∷ a_leaf x.number ∷ []) []
 
--- Upsert of a held key, in a node and at the root.
+-- Upsert of a held key in a node.
 abbrev pub UpsertInSlot : Type 0
 UpsertInSlot =
     (c : Core) (q : ℕ) → IsLawful (view c) → (n j : ℕ) (x : Item) → IsLockedNode c q n → seek x.key (c.heap.nodes n).page ≡ Leaf j →
     (c.heap.leaves j).key ≡ x.key → IsNewLeaf c q x → (heap : Heap) → IsSlotStore c heap n x.key (Leaf x.number) →
     IsPublished c q heap c.root (replaced_change q x) (a_leaf x.number ∷ []) (a_leaf j ∷ [])
 
+-- And of the one held key, at the root.
 abbrev pub UpsertAtRoot : Type 0
 UpsertAtRoot =
     (c : Core) (q : ℕ) → IsLawful (view c) → (j : ℕ) (x : Item) → c.anchor ≡ Some q → c.root ≡ Some (Leaf j) →
     (c.heap.leaves j).key ≡ x.key → IsNewLeaf c q x → IsPublished c q c.heap (Some (Leaf x.number)) (replaced_change q x) (a_leaf x.number ∷ []) (a_leaf j ∷ [])
 
--- The first key, and the second.
+-- The first key: where the root is empty, the new leaf.
 abbrev pub FirstKey : Type 0
 FirstKey =
     (c : Core) (q : ℕ) → IsLawful (view c) → (x : Item) → c.anchor ≡ Some q → c.root ≡ None → IsNewLeaf c q x →
     IsPublished c q c.heap (Some (Leaf x.number)) (added_change q x) (a_leaf x.number ∷ []) []
 
+-- The second key: where the root is a leaf, a new node of it and the new one.
 abbrev pub SecondKey : Type 0
 SecondKey =
     (c : Core) (q : ℕ) → IsLawful (view c) → (j p m : ℕ) (g : Fixed) (x : Item) → c.anchor ≡ Some q → c.root ≡ Some (Leaf j) →
@@ -88,13 +90,14 @@ SecondKey =
     IsNewPage c q m g (page_forked (bit x.key p) p (Leaf x.number) (Place (Leaf j))) →
     IsPublished c q c.heap (Some (Node m g.height)) (added_change q x) (a_node m ∷ a_leaf x.number ∷ []) []
 
--- Removal of an entry: what is left of its node, one entry or a new node, takes the node's place, in a node or at the root.
+-- Removal of an entry: what is left of its node, one entry or a new node, takes the node's place in the node above.
 abbrev pub RemoveInSlot : Type 0
 RemoveInSlot =
     (c : Core) (q : ℕ) → IsLawful (view c) → (k : Key) (n j : ℕ) → IsLeafOf c q k n j → (o : ℕ) (e : Entry) →
     (i : IsEntryFor c q (page_without k (c.heap.nodes n).page) e) → IsOver c q k o n → IsBelowNode c o e → (heap : Heap) → IsSlotStore c heap o k e →
     IsPublished c q heap c.root (removed_change q (item j k (c.heap.leaves j).value)) (entry_news i) (a_node n ∷ a_leaf j ∷ [])
 
+-- And at the root.
 abbrev pub RemoveAtRoot : Type 0
 RemoveAtRoot =
     (c : Core) (q : ℕ) → IsLawful (view c) → (k : Key) (n j : ℕ) → IsLeafOf c q k n j → (h : ℕ) (e : Entry) →
@@ -113,13 +116,14 @@ GetEnds =
     (s : State) → IsLawful s → (m : ℕ) → IsReach s m → (k : Key) (n : ℕ) → IsLed s.past m k (Leaf n) →
     ((k ≡ (s.heap.leaves n).key) × IsHeld s.past m k (s.heap.leaves n).value) ⊎ ((k ≢ (s.heap.leaves n).key) × IsMissed s.past m k)
 
--- A scan that came to its end, and one that was cut at the limit, are lawful in the fronts.
+-- A scan that came to its end is lawful in the fronts.
 abbrev pub ScanCompletes : Type 0
 ScanCompletes =
     (s : Past) (before rest : List Change) (m : ℕ) → IsSteady s m → IsTold s (before ++ rest) → (g : Range) → IsKey g.from → IsKey g.upto →
     (xs : List Pair) (scan : Answer) → scan.pairs.items ≡ turned xs → scan.more ≡ false → IsComplete s (length before) g xs →
     IsLawfulScan before (before ++ rest) g.from g.upto g.limit scan
 
+-- And so is one that was cut at the limit.
 abbrev pub ScanIsCut : Type 0
 ScanIsCut =
     (s : Past) (before rest : List Change) (m : ℕ) → IsSteady s m → IsTold s (before ++ rest) → (g : Range) → IsKey g.from → IsKey g.upto →

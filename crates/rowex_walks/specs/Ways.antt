@@ -8,9 +8,9 @@ use Rattle.tries.specs.Tree.{Fixed, Page, Tree, leaf, node, fork, page, IsTrie, 
 use Rattle.tries.specs.Search.{Kin, seek}
 use Rattle.tries.specs.Content.{Item}
 use Rattle.tries.specs.Place.{spot}
-use Rattle.moments.specs.State.{Past, State, IsLawful, IsMarked, IsSteady}
+use Rattle.moments.specs.State.{Past, IsMarked, IsSteady}
 use Rattle.moments.specs.Frames.{IsGrown}
-use Rattle.rowex_walks.specs.Scan.{IsSeen, IsPlaced, IsShaped, IsRead}
+use Rattle.rowex_walks.specs.Scan.{IsSeen, IsRooted, IsBlank, IsPlaced, IsShaped, IsRead}
 use Rattle.rowex_walks.specs.Writer.{IsBegun, IsWay}
 
 -- From node `a`, whose first fork is at `r`, the descent has come to the entry: before `r` the keys there agree with a key that
@@ -60,9 +60,9 @@ WayIsBelow = (s : Past) (m : ℕ) (k : Key) (x : Page) (l : Key) → IsWayFrom s
 
 -- Where nothing has changed
 
--- the search is at the root that was loaded;
+-- the search is at the root that was read;
 abbrev pub StillRooted : Type 0
-StillRooted = (s : State) → IsLawful s → (k : Key) (e : Entry) → s.root ≡ Some e → IsStill s.past s.now k e
+StillRooted = (s : Past) (m : ℕ) (k : Key) (e : Entry) → IsRooted s m e → IsStill s m k e
 
 -- it goes on by an entry that was read;
 abbrev pub StillPlaced : Type 0
@@ -78,3 +78,17 @@ StillGrows = (a b : Past) → IsGrown a b → (m : ℕ) (k : Key) (e : Entry) �
 abbrev pub OneBody : Type 0
 OneBody =
     (n : ℕ) (x : Fixed) (b c t : Tree) → Within (node n x b) t → Within (node n x c) t → IsTrie t → IsBuilt t → Kin b c → b ≡ c
+
+-- Two reads since, where nothing has changed
+
+-- of the root find one entry, or both find none;
+abbrev pub RootedSame : Type 0
+RootedSame = (s : Past) (m : ℕ) → m ≡ s.now → ((e f : Entry) → IsRooted s m e → IsRooted s m f → e ≡ f) × ((e : Entry) → IsRooted s m e → ¬ (IsBlank s m))
+
+-- of one place of a node find one entry;
+abbrev pub PlacedSame : Type 0
+PlacedSame = (s : Past) (m : ℕ) → IsSteady s m → m ≡ s.now → (n j : ℕ) (e f : Entry) → IsPlaced s m n j e → IsPlaced s m n j f → e ≡ f
+
+-- and two searches for a key that end at leaves end at one.
+abbrev pub FoundSame : Type 0
+FoundSame = (s : Past) (m : ℕ) → m ≡ s.now → (k : Key) (i j : ℕ) → IsStill s m k (Leaf i) → IsStill s m k (Leaf j) → i ≡ j

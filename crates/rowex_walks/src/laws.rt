@@ -1,6 +1,6 @@
 //! The laws of walks. The functions do nothing: their contracts are the laws.
 
-ghost use Rattle.rowex_walks.specs.Ways.{OneBody, StillGrows, StillPlaced, StillRooted, WayBegins, WayEnds, WayGoesOn, WayIsBelow, WayOfLeaf};
+ghost use Rattle.rowex_walks.specs.Ways.{FoundSame, OneBody, PlacedSame, RootedSame, StillGrows, StillPlaced, StillRooted, WayBegins, WayEnds, WayGoesOn, WayIsBelow, WayOfLeaf};
 ghost use Rattle.rowex_walks.specs.Statements.{FirstKey, FoundIsKept, GetEnds, InsertAtRoot, InsertInSlot, LedPlaced, LoadsLeaf, LoadsNone, LoadsPlace, LoadsRoot, LoadsShape, PushDown, RemoveAtRoot, RemoveInSlot, RemoveLast, ScanCompletes, ScanIsCut, SecondKey, UpperGoesOn, UpsertAtRoot, UpsertInSlot};
 
 /// An insertion that was checked under its locks, of any case that ends in a node, is a legal publish that adds the key.
@@ -133,7 +133,7 @@ pub fn way_is_below()
     ensures { WayIsBelow }
 {}
 
-/// If nothing changes after the load of the root, the search is at it,
+/// If nothing changes after a moment, a search is at the root that was read since,
 pub fn still_rooted()
     ensures { StillRooted }
 {}
@@ -151,4 +151,19 @@ pub fn still_grows()
 /// At one moment a node stands at one place.
 pub fn one_body()
     ensures { OneBody }
+{}
+
+/// Two reads of the root find one entry, if nothing changes,
+pub fn rooted_same()
+    ensures { RootedSame }
+{}
+
+/// so do two reads of one place of a node,
+pub fn placed_same()
+    ensures { PlacedSame }
+{}
+
+/// and two searches for a key end at one leaf.
+pub fn found_same()
+    ensures { FoundSame }
 {}

@@ -5,3 +5,4 @@ pub mod Locking
 pub mod Staging
 pub mod Raising
 pub mod Making
+pub mod Lifting

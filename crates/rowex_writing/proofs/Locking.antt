@@ -3,8 +3,8 @@ use Rattle.std.proofs.Common.{◌≡◌, ℕ, ◌+◌, ◌-◌, ◌<◌, ◌≤�
 use Rattle.std.proofs.lemmas.Bool.{cases_lt}
 use Rattle.std.proofs.lemmas.List.{ext_get_or, get_or-set_same, get_or-set_other}
 use Rattle.record_words.specs.declared.layout.Layout.{Layout}
-use Rattle.record_words.specs.Node.{HasNodeWords, node_words}
-use Rattle.record_words.specs.Reading.{IsSpelling}
+use Rattle.compound_node.specs.Nodes.{NodeView}
+use Rattle.rowex_core.proofs.Reading.{node_is}
 use Rattle.record_words.proofs.Nodes.{length-node_words}
 use Rattle.moments.specs.declared.Rec.TheVariants.{Node as a_node}
 use Rattle.rowex_core.specs.declared.event.Act.{Act}
@@ -14,7 +14,7 @@ use Rattle.rowex_core.specs.declared.event.Spot.TheVariants.{Slot}
 use Rattle.rowex_core.specs.declared.known.Known.{Known}
 use Rattle.rowex_core.specs.Cores.{IsWhole}
 use Rattle.rowex_core.specs.Knowing.{IsEvent}
-use Rattle.rowex_core.specs.Reading.{IsPacked}
+use Rattle.rowex_core.specs.Reading.{IsPacked, node_of}
 use Rattle.rowex_core.specs.Sharing.{IsLocked}
 use Rattle.rowex_core.proofs.Owning.{knows_all}
 use Rattle.rowex_table.specs.Runs.{Steps, silent}
@@ -24,7 +24,7 @@ use Rattle.moments.specs.Trades.{IsOf}
 use Rattle.rowex_table.proofs.ActsBefore.{entry_of_locked, fixed_of_locked}
 use Rattle.rowex_rights.proofs.Loops.{later_same, later_on, still_locked}
 use Rattle.moments.proofs.Members.{all_of}
-use Rattle.rowex_writing.specs.Going.{GoesOn, ReadsOn, HasLocked}
+use Rattle.rowex_writing.specs.Going.{GoesOn, ReadsOn, HasLocked, IsNodeOf}
 
 -- ---- one after the other
 module _ {G : Type 0} (table : TableView) (becomes : G → Event → G → Type 0) where
@@ -71,12 +71,13 @@ module _ {G : Type 0} (table : TableView) (becomes : G → Event → G → Type 
 
 -- the words of a locked node spell one
 module _ {layout : Layout} {act : Act} {k j : Known} (e : IsEvent layout act silent k j) where
-  pub locked_spells : (n : ℕ) (words : List ℕ) → HasLocked k n words → IsSpelling HasNodeWords node_words words
+  pub locked_spells : (n : ℕ) (words : List ℕ) → HasLocked k n words → (view : NodeView) × IsNodeOf words view
   unfolding IsPacked
   locked_spells n words h =
       let (lock, tree, same) = all_of (IsLocked k.pass e.core) (record { node = n; words = words }) k.locks (knows_all e.core k e.knows).locks h in
       let (view, has, spells) = e.lawful.records.packed (a_node n) (subst IsWhole (sym tree.1) tt) in
-      (view, has, spells ∙ same)
+      let shows = node_is view (e.core.words (a_node n)) (e.lawful.records.sized (a_node n)).1 has spells in
+      (view, record { has = has; spells = spells ∙ same; shows = ap node_of (sym same) ∙ shows })
 
 -- and a load gives one of them
 module _ {layout : Layout} {k j : Known} (n i w : ℕ) (words : List ℕ) (h : HasLocked k n words) where
@@ -89,23 +90,23 @@ module _ {layout : Layout} {k j : Known} (n i w : ℕ) (words : List ℕ) (h : H
 -- the first words that were loaded are those of the lock, which spell a node
 pub record AreThose (loaded words : List ℕ) (n : ℕ) : Type 0 where
   pub each : (o : ℕ) → o < n → get_or loaded o 0 ≡ get_or words o 0
-  pub spelled : 0 < n → IsSpelling HasNodeWords node_words words
+  pub spelled : 0 < n → (view : NodeView) × IsNodeOf words view
 
 pub none_those : (loaded words : List ℕ) → AreThose loaded words 0
 none_those loaded words = record { each = λ o l. absurd (omega arith); spelled = λ l. absurd (omega arith) }
 
-pub more_those : (loaded words : List ℕ) (n w : ℕ) → n < length loaded → AreThose loaded words n → w ≡ get_or words n 0 → IsSpelling HasNodeWords node_words words → AreThose (set loaded n w) words (n + 1)
+pub more_those : (loaded words : List ℕ) (n w : ℕ) → n < length loaded → AreThose loaded words n → w ≡ get_or words n 0 → (view : NodeView) × IsNodeOf words view → AreThose (set loaded n w) words (n + 1)
 more_those loaded words n w long those is spelled = record { each = λ o l. at o l (cases_lt o n); spelled = λ l. spelled }
   where
     at : (o : ℕ) → o < n + 1 → (o < n) ⊎ (n ≤ o) → get_or (set loaded n w) o 0 ≡ get_or words o 0
     at o l (inl older) = get_or-set_other loaded n o w 0 (λ e. omega arith) ∙ those.each o older
     at o l (inr newest) = let e : n ≡ o = omega arith in subst (λ z. get_or (set loaded n w) z 0 ≡ get_or words z 0) e (get_or-set_same loaded n w 0 long ∙ is)
 
-pub all_those : (loaded words : List ℕ) → length loaded ≡ 57 → AreThose loaded words 57 → (loaded ≡ words) × IsSpelling HasNodeWords node_words words
+pub all_those : (loaded words : List ℕ) → length loaded ≡ 57 → AreThose loaded words 57 → (loaded ≡ words) × ((view : NodeView) × IsNodeOf words view)
 all_those loaded words long those =
-    let (view, has, spells) = those.spelled (omega arith) in
-    let size : length words ≡ 57 = ap length (sym spells) ∙ length-node_words view in
-    (ext_get_or 0 loaded words (long ∙ sym size) (λ o l. those.each o (omega arith)), (view, has, spells))
+    let (view, is) = those.spelled (omega arith) in
+    let size : length words ≡ 57 = ap length (sym is.spells) ∙ length-node_words view in
+    (ext_get_or 0 loaded words (long ∙ sym size) (λ o l. those.each o (omega arith)), (view, is))
 
 -- what was locked is
 pub locked_on : (k j : Known) (n : ℕ) (words : List ℕ) → j.locks ≡ k.locks → HasLocked k n words → HasLocked j n words

@@ -1,13 +1,17 @@
 -- One record more for a change, or none.
-use Rattle.std.proofs.Common.{◌≡◌, ◌≢◌, ℕ, ◌+◌, ◌<◌, ◌≤◌, List, [], ◌∷◌, ◌++◌, map, reverse, refl, sym, ap, ap₂, subst, ◌∙◌}
-use Rattle.std.specs.Prelude.{All}
+use Rattle.std.proofs.Common.{◌≡◌, ◌≢◌, ℕ, ◌≤◌, List, [], ◌∷◌, ◌++◌, map, refl, sym, ap, ap₂, subst, ◌∙◌, arith, le_trans, Option, Some, None}
+use Rattle.std.specs.Prelude.{All, MatchOption}
 use Rattle.std.proofs.lemmas.Grind.{reverse_onto}
 use Rattle.hot_model.specs.Fronts.{OthersGoOn}
 use Rattle.hot_model.proofs.Growth.{others_none}
 use Rattle.compound_node.specs.Nodes.{NodeView}
+use Rattle.compound_node.specs.declared.entries.Entry.{Entry}
+use Rattle.compound_node.specs.declared.entries.Entry.TheVariants.{Node}
+use Rattle.compound_node.specs.declared.halves.Half.{Half}
+use Rattle.compound_node.specs.declared.halves.Half.TheVariants.{Many}
+use Rattle.rowex_table.proofs.ActsLeave.{act_leaves}
 use Rattle.record_words.specs.Node.{HasNodeWords, node_words}
-use Rattle.moments.specs.State.{Past}
-use Rattle.moments.specs.Trades.{IsOf, AreApart}
+use Rattle.moments.specs.Trades.{IsOf}
 use Rattle.moments.specs.declared.Rec.{Rec}
 use Rattle.moments.specs.declared.Rec.TheVariants.{Node as a_node}
 use Rattle.moments.proofs.Legal.{same_rec_refl}
@@ -19,18 +23,17 @@ use Rattle.rowex_core.specs.declared.known.Known.{Known}
 use Rattle.rowex_core.specs.declared.known.Owned.{Owned}
 use Rattle.rowex_core.specs.Knowing.{IsFact}
 use Rattle.rowex_core.specs.Reading.{IsPacked}
-use Rattle.rowex_table.specs.Made.{Made, held_as, recs_of, HoldsMade, IsLater}
+use Rattle.rowex_table.specs.Made.{Made, held_as, recs_of, IsLater}
 use Rattle.rowex_table.specs.Runs.{Runs, Does}
-use Rattle.rowex_table.specs.Seats.{TableView, SeatView, IsSeatOf}
+use Rattle.rowex_table.specs.Seats.{TableView, SeatView}
 use Rattle.rowex_table.proofs.Running.{runs_same}
 use Rattle.rowex_records.specs.Claims.{claiming, FindsNone, Claims, AllMissed}
 use Rattle.rowex_records.specs.Records.{owning, fill_with, Fills}
 use Rattle.rowex_records.proofs.Filled.{fill_beside}
-use Rattle.rowex_rights.specs.Loops.{StaysLocked}
 use Rattle.rowex_rights.specs.Rises.{of_view}
 use Rattle.rowex_reading.specs.Possible.{IsPossible}
 use Rattle.rowex_reading.proofs.Later.{event_possible}
-use Rattle.rowex_writing.specs.Building.{ArePacked, IsBuilding, HasNotMade}
+use Rattle.rowex_writing.specs.Building.{IsBuilding, IsHalfMade, HasNotMade}
 use Rattle.rowex_writing.specs.Going.{GoesOn}
 use Rattle.rowex_writing.proofs.Locking.{goes_more}
 
@@ -100,9 +103,40 @@ module _ {G : Type 0} (table : TableView) (becomes : G → Event → G → Type 
         possible = goes_possible a b goes was.possible;
         holds = (
           own,
-          (λ h. (let (y, at, is) = of_map (λ (y : Made). y.rec) (a_node m) news h in
-              all_of (λ (o : Owned). o.rec ≢ a_node m) (held_as Held y) a.0.known.own claim.apart (subst (IsOf (held_as Held y)) (sym was.holds.0) (map_of (held_as Held) y news at)) (sym is)), was.holds.1),
+          (
+            λ h. (let (y, at, is) = of_map (λ (y : Made). y.rec) (a_node m) news h in
+                all_of (λ (o : Owned). o.rec ≢ a_node m) (held_as Held y) a.0.known.own claim.apart (subst (IsOf (held_as Held y)) (sym was.holds.0) (map_of (held_as Held) y news at)) (sym is)),
+            was.holds.1,
+          ),
         );
         packed = (packed, was.packed);
         listed = ap (λ z. z ++ a_node m ∷ []) was.listed ∙ sym (reverse_onto (recs_of news) (a_node m) []);
       }
+
+-- each step is counted
+steps_rise : {G : Type 0} (table : TableView) (becomes : G → Event → G → Type 0) (acts : List Act) (a b : SeatView × G) → Runs table becomes acts a b → a.0.known.steps ≤ b.0.known.steps
+steps_rise table becomes [] a b run = let e = ap (λ (z : SeatView × _). z.0.known.steps) run in omega arith
+steps_rise table becomes (act ∷ acts) a b run =
+    let next = (act_leaves table.layout a.0.known run.0.0.known act run.1.event).steps in omega (arith, next, steps_rise table becomes acts run.0 b run.2)
+
+-- ---- none was free
+pub not_made : {G : Type 0} (table : TableView) (becomes : G → Event → G → Type 0) (from m : ℕ) (a b : SeatView × G) (made : List Rec) (news : List Made) →
+    FindsNone table becomes a_node table.layout.nodes from m a b → AllMissed a_node table.layout.nodes b.0.known.failed a.0.known.steps → IsBuilding table a.0 made news → HasNotMade table a.0 b.0 made
+not_made table becomes from m a b made news none missed was =
+    record { news = news; building = building_on table becomes a b made news (none_on table becomes a_node table.layout.nodes from m a b none) none.own was; missed = missed }
+
+-- nor since an earlier step
+pub not_made_since : {G : Type 0} (table : TableView) (becomes : G → Event → G → Type 0) (a m b : SeatView × G) (made : List Rec) → GoesOn table becomes a m → HasNotMade table m.0 b.0 made → HasNotMade table a.0 b.0 made
+not_made_since table becomes a m b made goes none = record {
+  news = none.news;
+  building = none.building;
+  missed = λ q low. (let (step, since, missed) = none.missed q low in (step, le_trans (steps_rise table becomes goes.acts a m goes.steps) since, missed));
+}
+
+-- ---- halves
+pub half_of_node : (table : TableView) (a b : SeatView) (made : List Rec) (news : List Made) (old : Entry) (half : Half) (view : NodeView) (answer : Option Entry) → half ≡ Many view →
+    MatchOption answer (HasNotMade table a b made) (λ e. (m : ℕ) × (e ≡ Node m view.height) × HasNodeWords view × IsBuilding table b made (of_view m view ∷ news)) →
+    MatchOption answer (HasNotMade table a b made) (λ e. (more : List Made) × IsHalfMade old half e more × IsBuilding table b made (more ++ news))
+half_of_node table a b made news old half view None is h = h
+half_of_node table a b made news old half view (Some e) is (m, entry, has, building) =
+    (of_view m view ∷ [], subst (λ z. IsHalfMade old z e (of_view m view ∷ [])) (sym is) (m, entry, refl, has), building)

@@ -1,5 +1,5 @@
 -- What has risen, once the records for it are made.
-use Rattle.std.proofs.Common.{◌≡◌, ◌||◌, ℕ, ◌+◌, ◌<◌, ◌≤◌, Bool, true, false, List, [], ◌∷◌, ◌++◌, length, refl, sym, ap, subst, ◌∙◌, arith}
+use Rattle.std.proofs.Common.{◌≡◌, ◌||◌, ℕ, ◌<◌, Bool, true, false, List, [], ◌∷◌, ◌++◌, refl, sym, ap, subst, ◌∙◌, arith}
 use Rattle.compound_node.specs.Halves.{HalfShows}
 use Rattle.compound_node.specs.Nodes.{NodeView, piece}
 use Rattle.compound_node.specs.declared.entries.Entry.{Entry}
@@ -29,7 +29,7 @@ use Rattle.std.proofs.lemmas.Bool.{le-ltb}
 use Rattle.rowex_core.specs.declared.known.Known.{Known}
 use Rattle.rowex_core.specs.declared.known.Locked.{Locked}
 use Rattle.rowex_table.specs.Made.{Made}
-use Rattle.rowex_rights.specs.Rises.{of_view, of_leaf, IsSide, one, anew, HasFoundBelow}
+use Rattle.rowex_rights.specs.Rises.{of_leaf, IsSide, one, anew, HasFoundBelow}
 use Rattle.rowex_rights.specs.Stages.{HasLeaf, HasRisen}
 use Rattle.rowex_rights.proofs.Rising.{rises_copied, rises_halved, rise_whole}
 use Rattle.rowex_writing.specs.Building.{IsHalfMade, IsMadeFrom}

@@ -1,6 +1,5 @@
 -- The records that a pass holds, as if it had made them ready: then what has risen is the page of a lawful tree.
-use Rattle.std.proofs.Common.{◌≡◌, inl, inr, ℕ, List, [], ◌∷◌, ◌++◌, map, refl, sym, ap, subst, ◌∙◌, append_assoc}
-use Rattle.std.proofs.lemmas.List.{append-nil}
+use Rattle.std.proofs.Common.{ℕ, List, [], ◌∷◌, ◌++◌, refl}
 use Rattle.record_words.specs.declared.layout.Layout.{Layout}
 use Rattle.tries.specs.Content.{Item}
 use Rattle.tries.specs.Keys.{Key}
@@ -8,17 +7,14 @@ use Rattle.tries.specs.Tree.{Page}
 use Rattle.moments.specs.Trades.{IsOf}
 use Rattle.rowex_walks.specs.Rise.{Side}
 use Rattle.rowex_core.specs.declared.event.Act.TheVariants.{Ready}
-use Rattle.rowex_core.specs.declared.known.Holding.TheVariants.{Held, Ready as IsReady}
 use Rattle.rowex_core.specs.declared.known.Known.{Known}
-use Rattle.rowex_core.specs.declared.known.Locked.{Locked}
 use Rattle.rowex_core.specs.Cores.{Core}
 use Rattle.rowex_core.specs.Knowing.{IsEvent, learned}
-use Rattle.rowex_core.specs.Reading.{IsPacked}
 use Rattle.moments.specs.declared.Rec.{Rec}
-use Rattle.rowex_table.specs.Made.{Made, held_as, recs_of, HoldsMade, HasReadied, IsLater}
+use Rattle.rowex_table.specs.Made.{Made, HoldsMade, HasReadied}
 use Rattle.rowex_table.specs.Publishes.{silent}
-use Rattle.rowex_rights.specs.Loops.{ReadiesEach, StaysLocked}
-use Rattle.rowex_rights.specs.Stages.{IsStage, HasReady, HasLeaf, HasRisen}
+use Rattle.rowex_rights.specs.Loops.{ReadiesEach}
+use Rattle.rowex_rights.specs.Stages.{IsStage, HasLeaf, HasRisen}
 use Rattle.rowex_rights.proofs.Bounding.{tree_risen}
 use Rattle.rowex_rights.proofs.Loops.{holds_rights, ready_next, readies_all}
 use Rattle.rowex_rights.proofs.Rising.{stage_earlier}

@@ -1,5 +1,6 @@
 -- Records made for what a node becomes.
-use Rattle.std.specs.Prelude.{◌≡◌, ℕ, List, [], ◌∷◌, ◌++◌, reverse}
+use Rattle.std.specs.Prelude.{◌≡◌, ◌<◌, ◌≤◌, ℕ, List, [], ◌∷◌, ◌++◌, reverse}
+use Rattle.compound_node.specs.Nodes.{height_of}
 use Rattle.compound_node.specs.declared.entries.Entry.{Entry}
 use Rattle.compound_node.specs.declared.entries.Entry.TheVariants.{Node}
 use Rattle.compound_node.specs.declared.halves.Half.{Half}
@@ -8,15 +9,21 @@ use Rattle.insert_cases.specs.declared.growth.Grown.{Grown}
 use Rattle.insert_cases.specs.declared.growth.Grown.TheVariants.{One as Single, Two}
 use Rattle.insert_cases.specs.declared.raising.Risen.{Risen}
 use Rattle.insert_cases.specs.declared.raising.Risen.TheVariants.{Whole, Split}
+use Rattle.pieces.specs.Piece.{Place, Fork}
 use Rattle.record_words.specs.Node.{HasNodeWords}
+use Rattle.tries.specs.Content.{Item}
+use Rattle.tries.specs.Keys.{Key}
+use Rattle.tries.specs.Tree.{Page}
+use Rattle.rowex_walks.specs.Rise.{Side, entry}
 use Rattle.moments.specs.declared.Rec.{Rec}
 use Rattle.moments.specs.declared.Rec.TheVariants.{Node as a_node}
-use Rattle.rowex_core.specs.Reading.{IsPacked}
+use Rattle.rowex_core.specs.Reading.{IsPacked, node_of}
 use Rattle.rowex_table.specs.Made.{Made, recs_of, HoldsMade}
 use Rattle.rowex_table.specs.Seats.{TableView, SeatView, IsSeatOf}
 use Rattle.rowex_records.specs.Claims.{AllMissed}
 use Rattle.rowex_reading.specs.Possible.{IsPossible}
 use Rattle.rowex_rights.specs.Rises.{of_view}
+use Rattle.rowex_rights.specs.Stages.{HasLeaf, HasRisen, IsAbove}
 
 -- each of the records spells a value
 abbrev pub ArePacked : List Made → Type 0
@@ -53,3 +60,35 @@ pub record HasNotMade (table : TableView) (a b : SeatView) (made : List Rec) : T
   pub news : List Made
   pub building : IsBuilding table b made news
   pub missed : AllMissed a_node table.layout.nodes b.known.failed a.known.steps
+
+-- ---- on the way up
+-- The change adds x, of which the record is made: this is what comes in the place of node n's body or entry, and those go.
+pub record IsRaising (table : TableView) (a : SeatView) (made : List Rec) (news : List Made) (gone : List Rec) (since : ℕ) (x : Item) (p : ℕ) (l : Key) (d : Side) (n : ℕ) (r : Page) : Type 0 where
+  pub building : IsBuilding table a made news
+  pub leaf : HasLeaf news x
+  pub risen : HasRisen table.layout a.known a.known.locks news since x p l d n r gone
+
+-- What has risen so far, a fork of two entries, is to take the place of the entry that names the node below, in the locked node
+-- above, which is higher than both.
+pub record IsBelow (table : TableView) (a : SeatView) (made : List Rec) (key : Key) (above position : ℕ) (zero one : Entry) : Type 0 where
+  pub news : List Made
+  pub gone : List Rec
+  pub since : ℕ
+  pub item : Item
+  pub mismatch : ℕ
+  pub like : Key
+  pub lower : ℕ
+  pub key_is : key ≡ item.key
+  pub raising : IsRaising table a made news gone since item mismatch like entry lower (Fork position (Place zero) (Place one))
+  pub over : IsAbove a.known.locks item.key mismatch above lower
+  pub zero_low : height_of zero < (node_of over.upper).fixed.height
+  pub one_low : height_of one < (node_of over.upper).fixed.height
+
+-- what has risen is no higher than this
+abbrev pub IsLowRisen : ℕ → Risen → Type 0
+IsLowRisen height (Whole e) = height_of e ≤ height
+IsLowRisen height (Split position zero one) = (height_of zero ≤ height) × (height_of one ≤ height)
+
+abbrev pub IsSplit : Risen → Type 0
+IsSplit (Whole e) = ⊥
+IsSplit (Split position zero one) = Unit {0}

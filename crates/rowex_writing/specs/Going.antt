@@ -1,10 +1,12 @@
 -- How a pass goes on under its locks.
 use Rattle.std.specs.Prelude.{◌≡◌, ℕ, List}
+use Rattle.compound_node.specs.Nodes.{NodeView, head_of, piece}
+use Rattle.record_words.specs.Node.{HasNodeWords, node_words}
 use Rattle.moments.specs.Trades.{IsOf}
+use Rattle.rowex_core.specs.Reading.{node_of}
 use Rattle.rowex_core.specs.declared.event.Act.{Act}
 use Rattle.rowex_core.specs.declared.event.Event.{Event}
 use Rattle.rowex_core.specs.declared.known.Known.{Known}
-use Rattle.rowex_core.specs.declared.known.Locked.{Locked}
 use Rattle.rowex_table.specs.Runs.{Runs}
 use Rattle.rowex_table.specs.Seats.{TableView, SeatView}
 use Rattle.rowex_rights.specs.Loops.{StaysLocked}
@@ -27,3 +29,9 @@ HasLocked k n words = IsOf (record { node = n; words = words }) k.locks
 -- it has locked the node
 abbrev pub IsLockedBy : Known → ℕ → Type 0
 IsLockedBy k n = (words : List ℕ) × HasLocked k n words
+
+-- the words are those of this node
+pub record IsNodeOf (words : List ℕ) (view : NodeView) : Type 0 where
+  pub has : HasNodeWords view
+  pub spells : node_words view ≡ words
+  pub shows : node_of words ≡ record { fixed = head_of view; page = piece view }

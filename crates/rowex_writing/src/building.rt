@@ -1,15 +1,22 @@
 //! Records for what takes a node's place.
 
-ghost use Rattle.std.specs.Prelude.{◌≡◌, ◌<◌, ◌≤◌, ◌+◌, ◌++◌, ◌∷◌, List, ℕ, length, MatchOption};
+ghost use Rattle.std.specs.Prelude.{◌≡◌, ◌<◌, ◌≤◌, ◌+◌, ◌++◌, ◌∷◌, List, ℕ, length, IfSome, MatchOption};
 ghost use Rattle.record_words.specs.Node.{HasNodeWords};
 ghost use Rattle.rowex_table.specs.Made.{Made};
 ghost use Rattle.rowex_rights.specs.Rises.{of_view};
-ghost use Rattle.rowex_writing.specs.Building.{IsBuilding, IsHalfMade, IsMadeFrom, HasNotMade};
-ghost use Rattle.rowex_writing.specs.Going.{GoesOn};
+ghost use Rattle.rowex_writing.specs.Building.{IsBelow, IsBuilding, IsHalfMade, IsLowRisen, IsMadeFrom, IsRaising, HasNotMade};
+ghost use Rattle.rowex_writing.specs.Going.{GoesOn, HasLocked};
+ghost use Rattle.insert_cases.specs.Risen.{page_of};
+ghost use Rattle.moments.specs.declared.Rec.TheVariants.{Node as a_node};
+ghost use Rattle.rowex_core.specs.Reading.{node_of};
+ghost use Rattle.rowex_walks.specs.Rise.{entry};
 
+use crate::locked::read_locked;
+use crate::remaking::with_fork;
 use arrayvec::ArrayVec;
 use compound_node::{Entry, Half, Node};
 use insert_cases::{Grown, Risen};
+use key_bits::Key;
 use rowex_core::{Gate, Rec};
 use rowex_records::{claim_node, fill_node};
 use rowex_table::{HotTable, TableSeat};
@@ -109,4 +116,35 @@ fn make_risen<G: Gate>(
             })
         }
     }
+}
+
+/// What comes in the place of a locked node, when a fork takes the place of the entry that named the node below it.
+fn raise_level<G: Gate>(
+    table: &HotTable,
+    seat: &mut TableSeat,
+    gate: &mut G,
+    build: &mut Build,
+    key: &Key,
+    number: u32,
+    position: u16,
+    zero: Entry,
+    one: Entry,
+) -> Option<Risen>
+    requires range { number < table.now.layout.nodes }
+    requires below { IsBelow table.now seat.old build.old.made.items key.now number position zero one }
+    requires room { length build.old.made.items + 1 < MOST_MADE }
+    ensures goes { GoesOn table.now G.becomes (seat.old, gate.old) (seat.new, gate.new) }
+    ensures made { (b : IsBelow table.now seat.old build.old.made.items key.now number position zero one) → MatchOption result
+        (HasNotMade table.now seat.old seat.new build.new.made.items)
+        (λ risen. (after : List Made) × IsRaising table.now seat.new build.new.made.items after (a_node number ∷ b.gone) b.since b.item b.mismatch b.like entry number (page_of risen)) }
+    ensures low { (words : List ℕ) → HasLocked seat.old.known number words → IfSome result (IsLowRisen (node_of words).fixed.height) }
+    ensures more { length build.new.made.items ≤ length build.old.made.items + 2 }
+{
+    let node = read_locked(table, seat, gate, number);
+    let grown = with_fork(&node, key, position, zero, one);
+    let old = Entry::Node {
+        number,
+        height: node.height(),
+    };
+    make_risen(table, seat, gate, build, old, &grown)
 }

@@ -1,10 +1,9 @@
 //! What a pass reads of a node that it has locked.
 
 ghost use Rattle.std.specs.Prelude.{◌≡◌, ◌<◌, ℕ, List, get_or};
-ghost use Rattle.record_words.specs.Reading.{IsSpelling};
-ghost use Rattle.record_words.specs.Node.{HasNodeWords, node_words};
+ghost use Rattle.compound_node.specs.Nodes.{NodeView};
 ghost use Rattle.rowex_table.specs.Seats.{IsSeatOf};
-ghost use Rattle.rowex_writing.specs.Going.{ReadsOn, HasLocked, IsLockedBy};
+ghost use Rattle.rowex_writing.specs.Going.{ReadsOn, HasLocked, IsLockedBy, IsNodeOf};
 
 use compound_node::Node;
 use record_words::{HEAD_WORDS, NODE_FIELDS, read_node};
@@ -22,7 +21,7 @@ pub fn read_locked<G: Gate>(
     requires range { number < table.now.layout.nodes }
     requires locked { IsLockedBy seat.old.known number }
     ensures reads { ReadsOn table.now G.becomes (seat.old, gate.old) (seat.new, gate.new) }
-    ensures node { (words : List ℕ) → HasLocked seat.old.known number words → HasNodeWords result × (node_words result ≡ words) }
+    ensures node { (words : List ℕ) → HasLocked seat.old.known number words → IsNodeOf words result }
 {
     let mut words = [0; NODE_FIELDS];
     for index in 0..NODE_FIELDS {
@@ -44,7 +43,7 @@ fn load_word<G: Gate>(
     requires index { index < 57 }
     ensures reads { ReadsOn table.now G.becomes (seat.old, gate.old) (seat.new, gate.new) }
     ensures word { (words : List ℕ) → HasLocked seat.old.known number words → result ≡ get_or words index 0 }
-    ensures spelled { (words : List ℕ) → HasLocked seat.old.known number words → IsSpelling HasNodeWords node_words words }
+    ensures spelled { (words : List ℕ) → HasLocked seat.old.known number words → (view : NodeView) × IsNodeOf words view }
 {
     if index < HEAD_WORDS {
         table.load_fixed(seat, gate, Rec::Node(number), index as u8 + 1)

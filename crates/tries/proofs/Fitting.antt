@@ -68,14 +68,15 @@ lower_positive h (leaf n k v) l = l
 lower_positive h (node n x b) l = omega (arith, l)
 lower_positive h (fork p a b) l = lower_positive h a l.0
 
-children_are : (b : Tree) → IsBuilt b → All IsEntry (places (page b))
+-- What stands at the places of a built tree are entries, and lower than the tree is.
+pub children_are : (b : Tree) → IsBuilt b → All IsEntry (places (page b))
 children_are (leaf n k v) i = All-from_recursion IsEntry (Leaf n ∷ []) (tt, tt)
 children_are (node n x b) i =
     let l = lower_positive x.height b i.1 in let h = i.3.bound in let m : MAX_BYTES ≡ 240 = refl in
     All-from_recursion IsEntry (Node n x.height ∷ []) ((l, omega arith), tt)
 children_are (fork p a b) i = All-append IsEntry (places (page a)) (places (page b)) (children_are a i.0) (children_are b i.1)
 
-all_above : (h : ℕ) (b : Tree) → IsLower h b → All (λ e. height_of e < h) (places (page b))
+pub all_above : (h : ℕ) (b : Tree) → IsLower h b → All (λ e. height_of e < h) (places (page b))
 all_above h (leaf n k v) l = All-from_recursion (λ e. height_of e < h) (Leaf n ∷ []) (l, tt)
 all_above h (node n x b) l = All-from_recursion (λ e. height_of e < h) (Node n x.height ∷ []) (l, tt)
 all_above h (fork p a b) l = All-append (λ e. height_of e < h) (places (page a)) (places (page b)) (all_above h a l.0) (all_above h b l.1)

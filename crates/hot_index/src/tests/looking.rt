@@ -1,37 +1,42 @@
 //! Gets of an empty index, and of one key in a table that was made by hand.
 
-ghost use Rattle.std.specs.Prelude.{◌≡◌, ◌<◌, ℕ, List, All, IfOk, true};
+ghost use Rattle.std.specs.Prelude.{◌≡◌, ◌<◌, ◌++◌, ◌∷◌, [], ℕ, List, All, IfOk, true, false};
 ghost use Rattle.moments.specs.declared.Rec.TheVariants.{Leaf as a_leaf};
 ghost use Rattle.rowex_core.specs.declared.known.Holding.TheVariants.{Ready as IsReady};
 ghost use Rattle.rowex_table.specs.Rights.{Has};
-ghost use Rattle.rowex_table.specs.Rule.{opening_of};
-ghost use Rattle.rowex_table.specs.Seats.{Fits, known};
+ghost use Rattle.rowex_table.specs.Seats.{Fits, IsNewSeat};
 ghost use Rattle.hot_index.specs.Passes.{Owns};
 
 use crate::index::{Index, Pass};
-use crate::{Event, Gate, Key};
+use crate::{Event, Gate, Key, NoGate};
 use record_words::{Layout, pack_leaf};
 use rowex_core::{Act, Rec, Spot, Target};
 use rowex_table::{HotTable, TableSeat};
 use std::alloc::Global;
 use std::test::*;
 
-/// Writes down the events that it is told.
+/// Writes down the events that it is told, in order, as long as there is memory.
 #[derive(Drop)]
 struct Recorder {
     events: Vec<Event>,
+    has_lost: bool,
 }
 
 impl Gate for Recorder {
+    ghost becomes = { λ r event s. s.has_lost ≡ false → (r.has_lost ≡ false) × (s.events.items ≡ r.events.items ++ event ∷ []) };
+
     fn at(&mut self, event: &Event) {
-        let _ = self.events.push(*event);
+        if self.events.push(*event).is_err() {
+            self.has_lost = true;
+        }
     }
 }
 
 impl Recorder {
     /// Whether it was told these acts of this pass, and nothing else, since the last call.
     fn was_told(&mut self, pass: u16, acts: &[Act]) -> bool {
-        let is_same = self.events.len() == acts.len()
+        let is_same = !self.has_lost
+            && self.events.len() == acts.len()
             && self
                 .events
                 .iter()
@@ -45,7 +50,7 @@ impl Recorder {
 /// A table of three passes, a node and a leaf, and the seats of its passes.
 fn small_table(alloc: Global) -> Result<(HotTable, Vec<TableSeat>), Fail>
     ensures leaves { IfOk result (λ made. made.0.layout.leaves ≡ 1) }
-    ensures seats { IfOk result (λ made. All (λ s. Fits made.0 s × (known s ≡ opening_of s.pass)) made.1.items) }
+    ensures seats { IfOk result (λ made. All (IsNewSeat made.0) made.1.items) }
 {
     let layout = Layout::of(3, 1, 1).ok().ok_or("a layout")?;
     Ok(HotTable::new(alloc, layout)?)
@@ -53,9 +58,9 @@ fn small_table(alloc: Global) -> Result<(HotTable, Vec<TableSeat>), Fail>
 
 /// The last of the seats that are left.
 fn last_seat(table: &HotTable, seats: &mut Vec<TableSeat>) -> Result<TableSeat, Fail>
-    requires { All (λ s. Fits table.now s × (known s ≡ opening_of s.pass)) seats.old.items }
-    ensures rest { All (λ s. Fits table.now s × (known s ≡ opening_of s.pass)) seats.new.items }
-    ensures last { IfOk result (λ s. Fits table.now s × (known s ≡ opening_of s.pass)) }
+    requires { All (IsNewSeat table.now) seats.old.items }
+    ensures rest { All (IsNewSeat table.now) seats.new.items }
+    ensures last { IfOk result (IsNewSeat table.now) }
 {
     let _ = table;
     Ok(seats.pop().ok_or("a seat")?)
@@ -65,33 +70,39 @@ fn last_seat(table: &HotTable, seats: &mut Vec<TableSeat>) -> Result<TableSeat, 
 fn make_leaf(table: &HotTable, seat: &mut TableSeat, key: &Key, value: u64) -> bool
     requires { Fits table.now seat.old × (0 < table.now.layout.leaves) }
     ensures fits { Fits table.now seat.new }
-    ensures has { result ≡ true → (words : List ℕ) × Has (known seat.new) (a_leaf 0) IsReady words }
+    ensures has { result ≡ true → (words : List ℕ) × Has seat.new.known (a_leaf 0) IsReady words }
 {
-    if table.claim(seat, Rec::Leaf(0)) != 0 {
+    if table.claim(seat, &mut NoGate, Rec::Leaf(0)) != 0 {
         return false;
     }
     let words = pack_leaf(key, value);
     for index in 0..32u8 {
-        table.fill(seat, Rec::Leaf(0), index + 1, words[index as usize]);
+        table.fill(
+            seat,
+            &mut NoGate,
+            Rec::Leaf(0),
+            index + 1,
+            words[index as usize],
+        );
     }
-    table.ready(seat, Rec::Leaf(0));
+    table.ready(seat, &mut NoGate, Rec::Leaf(0));
     true
 }
 
 /// Links leaf 0 at the root; answers whether the anchor was not locked and the root was empty.
 fn link_leaf(table: &HotTable, seat: &mut TableSeat) -> bool
     requires fits { Fits table.now seat.old × (0 < table.now.layout.leaves) }
-    requires has { (words : List ℕ) × Has (known seat.old) (a_leaf 0) IsReady words }
+    requires has { (words : List ℕ) × Has seat.old.known (a_leaf 0) IsReady words }
     ensures fits { Fits table.now seat.new }
 {
-    if table.lock(seat, Target::Anchor) != 2 {
+    if table.lock(seat, &mut NoGate, Target::Anchor) != 2 {
         return false;
     }
-    let root = table.load_ref(seat, Spot::Root);
+    let root = table.load_ref(seat, &mut NoGate, Spot::Root);
     if root == 0 {
-        table.publish(seat, Spot::Root, 1);
+        table.publish(seat, &mut NoGate, Spot::Root, 1);
     }
-    table.unlock(seat, Target::Anchor);
+    table.unlock(seat, &mut NoGate, Target::Anchor);
     root == 0
 }
 
@@ -147,6 +158,7 @@ fn events_of_gets(rt: HostRuntime) -> Result<(), Fail> {
     let key = Key::from_bytes(b"ab").ok().ok_or("a key")?;
     let mut gate = Recorder {
         events: Vec::new(rt.alloc()),
+        has_lost: false,
     };
     let (index, mut passes) = crate::create(rt.alloc(), 1, 1, 1).ok().ok_or("an index")?;
     let mut pass = passes.pop().ok_or("a pass")?;

@@ -9,7 +9,6 @@ ghost use Rattle.insert_cases.specs.Adding.{IsStanding, IsAddition, IsRoomy, Kee
 ghost use Rattle.insert_cases.specs.Heights.{KeepsHeights};
 
 use super::LeafRecord;
-use crate::growth::first_position;
 use crate::raising::Risen;
 use crate::rising::{lifted, raised};
 use compound_node::{Entry, Node};
@@ -64,7 +63,7 @@ pub(super) fn added(
             let child = node.entry(at);
             match added(nodes, leaves, child, key, value, count) {
                 Addition::Above { position, leaf } => {
-                    if first_position(&nodes[number as usize]) < position {
+                    if nodes[number as usize].first_position() < position {
                         Addition::Below(raised(nodes, entry, key, position, leaf))
                     } else {
                         Addition::Above { position, leaf }

@@ -53,12 +53,12 @@ loop-entry-preserved g c =
       at = at_next i.at c.in-Node.number c.in-Node.height c.load_head-head.result c.search-place.result c.in-Node.is e.reads e.head leads c.load_entry-entry.result c.load_entry-entry.ensures.reads entry;
     }
 
-pub load_leaf-held-requires-clause-led : goal.load_leaf-held-requires-clause-led
-load_leaf-held-requires-clause-led g c = (since c.loop-entry.seat.known, at_led c.loop-entry.invariant.at _ c.in-Leaf.is)
+pub load_leaf-leaf-requires-clause-led : goal.load_leaf-leaf-requires-clause-led
+load_leaf-leaf-requires-clause-led g c = (since c.loop-entry.seat.known, at_led c.loop-entry.invariant.at _ c.in-Leaf.is)
 
 pub returns-then-eq : goal.returns-then-eq
 returns-then-eq g c =
-    let e = c.load_leaf-held.ensures in let l = c.load_leaf-held.result in
+    let e = c.load_leaf-leaf.ensures in let l = c.load_leaf-leaf.result in
     record {
       searched = leaf_searched c.loop-entry.invariant.at c.in-Leaf.number c.in-Leaf.is e.reads l.0 l.1 e.leaf;
       found = leaf_held c.loop-entry.invariant.at c.in-Leaf.number c.in-Leaf.is e.reads l.0 l.1 e.leaf (c.if-eq.ensures.same.0 refl);
@@ -66,7 +66,7 @@ returns-then-eq g c =
 
 pub returns-else-eq : goal.returns-else-eq
 returns-else-eq g c =
-    let e = c.load_leaf-held.ensures in let l = c.load_leaf-held.result in
+    let e = c.load_leaf-leaf.ensures in let l = c.load_leaf-leaf.result in
     record {
       searched = leaf_searched c.loop-entry.invariant.at c.in-Leaf.number c.in-Leaf.is e.reads l.0 l.1 e.leaf;
       found = leaf_absent c.loop-entry.invariant.at c.in-Leaf.number c.in-Leaf.is e.reads l.0 l.1 e.leaf (λ e. false≢true (c.if-eq.ensures.same.1 e));

@@ -1,8 +1,8 @@
 -- One word more; all of them.
 use Rattle.std.proofs.Common.{rules, ◌≡◌, ℕ, List, length, sym, ◌∙◌, subst, arith}
 use Rattle.std.proofs.lemmas.List.{length-set}
-use Rattle.record_words.specs.Node.{HasNodeWords, node_words}
-use Rattle.record_words.specs.Reading.{IsSpelling}
+use Rattle.compound_node.specs.Nodes.{NodeView}
+use Rattle.rowex_writing.specs.Going.{IsNodeOf}
 use Rattle.rowex_writing.proofs.Locking.{AreThose, reads_none, reads_more, seat_of, none_those, more_those, all_those, locked_on}
 use Rattle.rowex_writing.proofs.locked.read_locked.Goals as goal
 
@@ -23,7 +23,7 @@ loop-index-preserved g c =
     }
 
 -- all 57
-done : (words loaded : List ℕ) (n : ℕ) → n ≡ 57 → length loaded ≡ 57 → AreThose loaded words n → (loaded ≡ words) × IsSpelling HasNodeWords node_words words
+done : (words loaded : List ℕ) (n : ℕ) → n ≡ 57 → length loaded ≡ 57 → AreThose loaded words n → (loaded ≡ words) × ((view : NodeView) × IsNodeOf words view)
 done words loaded n end long t = all_those loaded words long (subst (AreThose loaded words) end t)
 
 pub read_node-requires : goal.read_node-requires
@@ -31,12 +31,12 @@ read_node-requires g c =
     let i = c.loop-index.invariant in
     let (words, h) = c.requires.locked in
     let at_end : c.loop-index.index ≡ 57 = omega (arith, c.loop-index-test.false, c.loop-index.auto.index-end) in
-    let (same, spelled) = done words c.loop-index.words c.loop-index.index at_end i.long (i.those words h) in
-    subst (IsSpelling HasNodeWords node_words) (sym same) spelled
+    let (same, (view, is)) = done words c.loop-index.words c.loop-index.index at_end i.long (i.those words h) in
+    (view, is.has, is.spells ∙ sym same)
 
 pub returns-clause-node : goal.returns-clause-node
 returns-clause-node g c = λ words h.
     let i = c.loop-index.invariant in
     let at_end : c.loop-index.index ≡ 57 = omega (arith, c.loop-index-test.false, c.loop-index.auto.index-end) in
-    let (same, spelled) = done words c.loop-index.words c.loop-index.index at_end i.long (i.those words h) in
-    (c.read_node.ensures.is_value, c.read_node.ensures.spells ∙ same)
+    let (same, (view, is)) = done words c.loop-index.words c.loop-index.index at_end i.long (i.those words h) in
+    subst (IsNodeOf words) (sym (c.read_node.ensures.only view is.has (is.spells ∙ sym same))) is

@@ -12,7 +12,7 @@ use Rattle.hot_index.proofs.tests.looking.link_leaf.Goals as goal
 
 pub publish-requires : goal.publish-requires
 publish-requires c =
-    let locked = lock_gives _ _ _ _ c.lock.result c.lock.ensures.told (search rules) in
-    let empty = root_gives _ _ _ _ None c.load_ref-root.result c.load_ref-root.ensures.told locked tt (search rules) in
-    let same = own_stays _ _ _ _ (LoadRef Root c.load_ref-root.result) tt c.load_ref-root.ensures.told ∙ own_stays _ _ _ _ (Lock Anchor c.lock.result) tt c.lock.ensures.told in
-    (search rules, (search rules, links_first _ _ 0 1 c.requires.has.0 (lit< tt) refl (subst (λ l. Contains l (record { rec = Leaf 0; holding = IsReady; words = c.requires.has.0 })) (sym same) c.requires.has.1) empty))
+    let locked = lock_gives _ _ _ _ c.lock.result c.lock.ensures.event (search rules) in
+    let empty = root_gives _ _ _ _ None c.load_ref-root.result c.load_ref-root.ensures.event locked tt (search rules) in
+    let same = own_stays _ _ _ _ (LoadRef Root c.load_ref-root.result) tt c.load_ref-root.ensures.event ∙ own_stays _ _ _ _ (Lock Anchor c.lock.result) tt c.lock.ensures.event in
+    record { own = search rules; range = search rules; may = links_first _ _ 0 1 c.requires.has.0 (lit< tt) refl (subst (λ l. Contains l (record { rec = Leaf 0; holding = IsReady; words = c.requires.has.0 })) (sym same) c.requires.has.1) empty }

@@ -11,7 +11,7 @@ use Rattle.insert_cases.proofs.Heights.{heights_then}
 use Rattle.insert_cases.proofs.Inserting.{Becomes, tree_standing, kept_plain, same_view, absent_value, raised_becomes}
 use Rattle.insert_cases.proofs.Reading.{plain_tree}
 use Rattle.insert_cases.proofs.plain.PlainTrie.add_absent.Goals as goal
-use Rattle.insert_cases.proofs.plain.PlainTrie.add_absent.Goals.{After-self-1, After-self-in-Below-1}
+use Rattle.insert_cases.proofs.plain.PlainTrie.add_absent.Goals.{After-rooted, After-rooted-in-Below}
 
 -- what the contract sees of a trie
 abbrev view : Inside → PlainView
@@ -91,7 +91,7 @@ rooted-requires-clause-place c =
     let up = c.raised-risen.ensures.raised us c.args.value t (subst (λ xs. IsAddable xs us x c.in-Above.position c.in-Some.top t) (sym left.nodes) left.addable) in
     (c.added.new.nodes.items, us, x, c.in-Above.position, t, suc (height_of c.in-Some.top), up)
 
-above : (c : After-self-1) → Becomes (view c.self.inside) (record { nodes = c.rooted.new.nodes.items; leaves = c.added.new.leaves.items; top = Some c.rooted.result; node_capacity = vec_capacity c.rooted.new.nodes; leaf_capacity = vec_capacity c.added.new.leaves }) c.args.key.now c.args.value ×
+above : (c : After-rooted) → Becomes (view c.self.inside) (record { nodes = c.rooted.new.nodes.items; leaves = c.added.new.leaves.items; top = Some c.rooted.result; node_capacity = vec_capacity c.rooted.new.nodes; leaf_capacity = vec_capacity c.added.new.leaves }) c.args.key.now c.args.value ×
     (value_at (map_of (view c.self.inside)) c.args.key.now ≡ None)
 above c =
     let v = view c.self.inside in
@@ -108,11 +108,11 @@ above c =
     )
 
 pub invariant_of-self-in-Above : goal.invariant_of-self-in-Above
-invariant_of-self-in-Above c = (above c).0.0
+invariant_of-self-in-Above c = (above (goal.at.invariant_of-self-in-Above c).After-rooted).0.0
 
 pub returns-in-Above-clause-ok : goal.returns-in-Above-clause-ok
 returns-in-Above-clause-ok c =
-    let a = above c in (
+    let a = above (goal.at.returns-in-Above-clause-ok c).After-rooted in (
       subst (λ u. value_at (map_of u) c.args.key.now ≡ None) c.self.view_is a.1,
       a.0.1 ∙ ap (λ (u : PlainView). with_value (map_of u) c.args.key.now c.args.value) c.self.view_is,
     )
@@ -134,7 +134,7 @@ rooted-requires-in-Below-clause-place c =
     let r = c.in-Below.ensures.adds t (tree_standing v c.in-Some.top t i) in
     (v.nodes, c.added.new.leaves.items, item (length v.leaves) c.args.key.now c.args.value, r.position, t, suc (height_of c.in-Some.top), r.raised)
 
-below : (c : After-self-in-Below-1) → Becomes (view c.self.inside) (record { nodes = c.rooted-in-Below.new.nodes.items; leaves = c.added.new.leaves.items; top = Some c.rooted-in-Below.result; node_capacity = vec_capacity c.rooted-in-Below.new.nodes; leaf_capacity = vec_capacity c.added.new.leaves }) c.args.key.now c.args.value ×
+below : (c : After-rooted-in-Below) → Becomes (view c.self.inside) (record { nodes = c.rooted-in-Below.new.nodes.items; leaves = c.added.new.leaves.items; top = Some c.rooted-in-Below.result; node_capacity = vec_capacity c.rooted-in-Below.new.nodes; leaf_capacity = vec_capacity c.added.new.leaves }) c.args.key.now c.args.value ×
     (value_at (map_of (view c.self.inside)) c.args.key.now ≡ None)
 below c =
     let v = view c.self.inside in
@@ -149,11 +149,11 @@ below c =
     )
 
 pub invariant_of-self-in-Below : goal.invariant_of-self-in-Below
-invariant_of-self-in-Below c = (below c).0.0
+invariant_of-self-in-Below c = (below (goal.at.invariant_of-self-in-Below c).After-rooted-in-Below).0.0
 
 pub returns-in-Below-clause-ok : goal.returns-in-Below-clause-ok
 returns-in-Below-clause-ok c =
-    let a = below c in (
+    let a = below (goal.at.returns-in-Below-clause-ok c).After-rooted-in-Below in (
       subst (λ u. value_at (map_of u) c.args.key.now ≡ None) c.self.view_is a.1,
       a.0.1 ∙ ap (λ (u : PlainView). with_value (map_of u) c.args.key.now c.args.value) c.self.view_is,
     )

@@ -42,14 +42,6 @@ index-requires t c =
     let left = c.in-Above.ensures.adds _ a.below in
     omega (arith, slice_get_within c.args.nodes.now.items c.in-Node.number a.node.stored.view a.node.stored.at, ap length left.nodes, c.added.new.nodes.ok.0)
 
-pub first_position-requires : goal.first_position-requires
-first_position-requires t c =
-    let a = here t (goal.at.first_position-requires t c).After-entry-child c.requires.place.0 c.requires.place.1 in
-    let left = c.in-Above.ensures.adds _ a.below in
-    let old = read_at c.args.nodes.now.items c.in-Node.number a.node.stored.view c.index-node.result.now a.node.stored.at c.index-node.ensures in
-    let new = read_at c.added.new.nodes.items c.in-Node.number a.node.stored.view c.index.result.now (ap (λ xs. slice_get xs c.in-Node.number) left.nodes ∙ a.node.stored.at) c.index.ensures in
-    subst IsLawful (old ∙ sym new) c.count.ensures.lawful
-
 pub raised-requires-clause-place : goal.raised-requires-clause-place
 raised-requires-clause-place t c =
     let (tree, stands) = c.requires.place in
@@ -108,7 +100,7 @@ returns-then-first_position-position-clause-adds t c = λ tree stands.
     let left = c.in-Above.ensures.adds _ a.below in
     let i = addable_above a.whole a.node us k c.args.value n p left.leaves c.entry-child.result left.addable in
     let new = read_at c.added.new.nodes.items c.in-Node.number a.node.stored.view c.index.result.now (ap (λ xs. slice_get xs c.in-Node.number) left.nodes ∙ a.node.stored.at) c.index.ensures in
-    let root = subst (AtRootFork (λ r zero one. c.first_position.result ≡ r)) (ap piece new ∙ a.node.stored.shows) c.first_position.ensures in
+    let root = subst (AtRootFork (λ r zero one. c.first_position.result ≡ r)) (ap piece new ∙ a.node.stored.shows) c.first_position.ensures.root in
     let behind : IsBehind p tree = subst (IsBehind p) (sym a.node.is) (behind_first p c.in-Node.number c.first_position.result a.node.fixed a.node.body a.node.built.0 root c.if-first_position-position.true) in
     let up = c.raised.ensures.raised us c.args.value tree (subst (λ xs. IsAddable xs us (item n k c.args.value) p (Node c.in-Node.number c.in-Node.height) tree) (sym left.nodes) i) in
     risen_here ns c.added.new.nodes.items c.raised.new.nodes.items c.args.leaves.now.items us k c.args.value n p c.args.entry tree c.raised.result left.nodes left.leaves left.number (addable_to (sym c.in-Node.is) i) behind
