@@ -23,7 +23,8 @@ use Rattle.rowex_core.proofs.Owning.{knows_all}
 use Rattle.rowex_table.specs.Rights.{Has, HasFilled, IsHeld}
 use Rattle.rowex_table.specs.Runs.{silent, Steps, Does, InTurn}
 use Rattle.rowex_table.specs.Seats.{TableView, SeatView}
-use Rattle.rowex_table.proofs.Rights.{fill_more, mapped, other}
+use Rattle.rowex_core.proofs.Having.{other_rec}
+use Rattle.rowex_table.proofs.Rights.{fill_more, mapped}
 use Rattle.rowex_table.proofs.Running.{in_turn_more, does_count}
 use Rattle.rowex_records.specs.Records.{owning, StoresWord, fill_with, Fills, Readies, GivesUp}
 use Rattle.rowex_records.proofs.Making.{owns_none, owns_one, owns_append}
@@ -47,7 +48,7 @@ stays_mapped k j f s h words is same has =
     subst (λ l. Contains l o) (sym is) (subst (Contains (map f k.own)) same (mapped f k.own o has))
 
 passes_beside : (r s : Rec) → s ≢ r → not (same_rec s r) ≡ true
-passes_beside r s ne = rw (other s r ne) refl
+passes_beside r s ne = rw (other_rec s r ne) refl
 
 -- Filling, word by word
 
@@ -179,10 +180,10 @@ module _ {G : Type 0} (table : TableView) (becomes : G → Event → G → Type 
 
   -- what a pass has of one record, filling another leaves to it, and so do making another ready and giving up another
   pub fills_keeps : (r s : Rec) (filling : List ℕ) (h : Holding) (words : List ℕ) (a b : SeatView × G) → s ≢ r → Fills table becomes r filling a b → Has a.0.known s h words → Has b.0.known s h words
-  fills_keeps r s filling h words a b ne fills has = stays_mapped a.0.known b.0.known (fill_with r filling) s h words fills.own (rw (other s r ne) refl) has
+  fills_keeps r s filling h words a b ne fills has = stays_mapped a.0.known b.0.known (fill_with r filling) s h words fills.own (rw (other_rec s r ne) refl) has
 
   pub readies_keeps : (r s : Rec) (h : Holding) (words : List ℕ) (a b : SeatView × G) → s ≢ r → Readies table becomes r a b → Has a.0.known s h words → Has b.0.known s h words
-  readies_keeps r s h words a b ne readies has = stays_mapped a.0.known b.0.known (hold_as r IsReady) s h words readies.own (rw (other s r ne) refl) has
+  readies_keeps r s h words a b ne readies has = stays_mapped a.0.known b.0.known (hold_as r IsReady) s h words readies.own (rw (other_rec s r ne) refl) has
 
   pub gives_up_keeps : (r s : Rec) (h : Holding) (words : List ℕ) (a b : SeatView × G) → s ≢ r → GivesUp table becomes r a b → Has a.0.known s h words → Has b.0.known s h words
   gives_up_keeps r s h words a b ne gives has =
@@ -212,14 +213,14 @@ fill_beside r words [] apart = refl
 fill_beside r words (o ∷ own) apart = λ i. beside i ∷ fill_beside r words own (All-tail (λ x. x.rec ≢ r) o own apart) i
   where
     beside : fill_with r words o ≡ o
-    beside = rw (other o.rec r (All-head (λ x. x.rec ≢ r) o own apart)) refl
+    beside = rw (other_rec o.rec r (All-head (λ x. x.rec ≢ r) o own apart)) refl
 
 pub hold_beside : (r : Rec) (h : Holding) (own : List Owned) → All (λ o. o.rec ≢ r) own → map (hold_as r h) own ≡ own
 hold_beside r h [] apart = refl
 hold_beside r h (o ∷ own) apart = λ i. beside i ∷ hold_beside r h own (All-tail (λ x. x.rec ≢ r) o own apart) i
   where
     beside : hold_as r h o ≡ o
-    beside = rw (other o.rec r (All-head (λ x. x.rec ≢ r) o own apart)) refl
+    beside = rw (other_rec o.rec r (All-head (λ x. x.rec ≢ r) o own apart)) refl
 
 -- the offset of a word of a record
 pub offset_of : (r : Rec) (i : ℕ) → i < word_count_of r → IsOffset r (i + 1)

@@ -54,14 +54,6 @@ next_word own words i word m low same is = subst (λ j. (length (set own j word)
     at : i ≡ i + 1 - 1
     at = omega arith
 
--- another record than r
-pub other : (s r : Rec) → s ≢ r → same_rec s r ≡ false
-other s r ne = go (same_rec s r) refl
-  where
-    go : (b : Bool) → same_rec s r ≡ b → b ≡ false
-    go true e = absurd (ne (same_rec_true s r e))
-    go false e = refl
-
 -- a record that is filled with all of the words has these
 pub filled : (k : Known) (r : Rec) (words : List ℕ) (i : ℕ) → length words ≤ i → HasFilled k r words i → Has k r Held words
 filled k r words i all (own, size, same, has) = subst (λ z. Has k r Held z) (sym (take_all i own (omega arith)) ∙ (same ∙ take_all i words all)) has
