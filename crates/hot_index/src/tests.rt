@@ -1,5 +1,4 @@
-//! The index on small tables.
+//! The index over tables that were made by hand, for which its private parts are wanted.
 
 mod looking;
-mod making;
 mod scans;
