@@ -1,5 +1,5 @@
 -- What a pass is sure of, and what stays so while it loads.
-use Rattle.std.proofs.Common.{◌≡◌, inl, inr, ℕ, suc, zero, ◌+◌, ◌≤◌, List, [], ◌∷◌, ◌++◌, length, take, refl, ap, sym, ◌∙◌, subst, arith, le_trans}
+use Rattle.std.proofs.Common.{◌≡◌, inl, inr, ℕ, suc, zero, ◌≤◌, List, [], ◌∷◌, ◌++◌, length, take, refl, ap, sym, ◌∙◌, subst, arith, le_trans}
 use Rattle.std.proofs.lemmas.List.{length-append}
 use Rattle.key_bits.specs.Bits.{bit_of}
 use Rattle.pieces.specs.Piece.{leads_to}

@@ -66,7 +66,8 @@ pub fn load_entry<G: Gate>(
     read_entry(word).unwrap()
 }
 
-/// Loads the words of a leaf: its key and its value.
+/// Loads the words of a leaf: its key and its value. Inline, so that a caller has the key where it was read.
+#[inline(always)]
 pub fn load_leaf<G: Gate>(
     table: &HotTable,
     seat: &mut TableSeat,
