@@ -1,9 +1,12 @@
 -- One level up.
-use Rattle.std.proofs.Common.{◌≡◌, ℕ, ◌<◌, ◌≤◌, List, ◌∷◌, ◌++◌, sym, ap, subst, arith, Option, Some, None, false, inr}
+use Rattle.std.proofs.Common.{◌≡◌, ℕ, ◌<◌, ◌≤◌, ◌+◌, List, [], ◌∷◌, ◌++◌, refl, sym, ap, ap₂, subst, ◌∙◌, arith, Option, Some, None, Bool, true, false, inl, inr, ◌⊎◌}
 use Rattle.std.specs.Prelude.{MatchOption, IfSome}
-use Rattle.compound_node.specs.Nodes.{NodeView, piece, height_of}
+use Rattle.std.proofs.lemmas.List.{append-nil}
+use Rattle.compound_node.specs.Halves.{HalfShows}
+use Rattle.compound_node.specs.Nodes.{NodeView, piece, height_of, IsBuiltFrom}
+use Rattle.record_words.specs.Node.{HasNodeWords}
 use Rattle.compound_node.specs.declared.entries.Entry.{Entry}
-use Rattle.compound_node.specs.declared.entries.Entry.TheVariants.{Node}
+use Rattle.compound_node.specs.declared.entries.Entry.TheVariants.{Leaf, Node}
 use Rattle.compound_node.specs.declared.halves.Half.{Half}
 use Rattle.compound_node.specs.declared.halves.Half.TheVariants.{One, Many, Same}
 use Rattle.insert_cases.specs.Grown.{GrownShows, keeps_node}
@@ -12,10 +15,12 @@ use Rattle.insert_cases.specs.declared.growth.Grown.{Grown}
 use Rattle.insert_cases.specs.declared.growth.Grown.TheVariants.{One as Single, Two}
 use Rattle.insert_cases.specs.declared.raising.Risen.{Risen}
 use Rattle.insert_cases.specs.declared.raising.Risen.TheVariants.{Whole, Split}
+use Rattle.pieces.specs.Changes.{AtRootFork}
 use Rattle.pieces.specs.Piece.{Place, Fork}
+use Rattle.tries.specs.Affected.{page_grown}
 use Rattle.tries.specs.Content.{Item}
 use Rattle.tries.specs.Keys.{Key}
-use Rattle.tries.specs.Place.{with_page}
+use Rattle.tries.specs.Place.{with_page, page_without}
 use Rattle.tries.specs.Tree.{Page}
 use Rattle.moments.specs.Heap.{NodeWords}
 use Rattle.moments.specs.Trades.{IsOf}
@@ -27,13 +32,15 @@ use Rattle.rowex_core.specs.declared.event.Event.{Event}
 use Rattle.rowex_core.specs.Reading.{node_of}
 use Rattle.rowex_table.specs.Made.{Made}
 use Rattle.rowex_table.specs.Seats.{TableView, SeatView}
-use Rattle.rowex_rights.specs.Stages.{HasRisen, IsAbove}
-use Rattle.rowex_rights.proofs.Rising.{risen_stays, rises_pulled}
-use Rattle.rowex_writing.specs.Building.{IsBuilding, IsHalfMade, IsMadeFrom, IsRaising, IsBelow, IsLowRisen, HasNotMade}
+use Rattle.rowex_rights.specs.Stages.{HasLeaf, HasRisen, IsAbove}
+use Rattle.rowex_rights.proofs.Rising.{risen_stays, rises_pulled, rise_grows}
+use Rattle.rowex_rights.specs.Rises.{of_view, of_leaf, IsSide, anew}
+use Rattle.rowex_writing.specs.Building.{IsBuilding, IsHalfMade, IsMadeFrom, IsRaising, IsBelow, IsLowest, IsLowRisen, HasNotMade, gone_unless}
 use Rattle.rowex_writing.specs.Going.{GoesOn, ReadsOn, HasLocked, IsNodeOf}
-use Rattle.rowex_writing.specs.Remaking.{IsTreePage, IsLowHalf, IsNoHigher}
+use Rattle.rowex_writing.specs.Remaking.{IsTreePage, AffectsJust, IsLowHalf, IsNoHigher}
 use Rattle.rowex_writing.proofs.Making.{building_on, not_made_since}
-use Rattle.rowex_writing.proofs.Raising.{rises_made}
+use Rattle.rowex_writing.proofs.Raising.{rises_made, rises_kept, side_made}
+use Rattle.rowex_writing.proofs.Locking.{goes_more}
 use Rattle.rowex_writing.proofs.Staging.{risen_page}
 
 -- ---- heights
@@ -136,8 +143,8 @@ module _ {G : Type 0} (table : TableView) (becomes : G → Event → G → Type 
         MatchOption answer (HasNotMade table m.0 c.0 after_made) (λ risen. (after : List Made) × IsMadeFrom (Node above node.height) g risen b.news after × IsBuilding table c.0 after_made after) →
         MatchOption answer (HasNotMade table a.0 c.0 after_made)
         (λ risen. (after : List Made) × IsRaising table c.0 after_made after (a_node above ∷ b.gone) b.since b.item b.mismatch b.like entry above (page_of risen))
-    lifted c after_made g None shows anew goes made = not_made_since table becomes a m c after_made reads.goes made
-    lifted c after_made g (Some risen) shows anew goes (after, made, building) = (
+    lifted c after_made g None shows fresh goes made = not_made_since table becomes a m c after_made reads.goes made
+    lifted c after_made g (Some risen) shows fresh goes (after, made, building) = (
       after,
       record {
         building = building;
@@ -145,6 +152,98 @@ module _ {G : Type 0} (table : TableView) (becomes : G → Event → G → Type 
         risen = risen_on m c after (a_node above ∷ b.gone) b.since b.item b.mismatch b.like entry above (page_of risen) goes
             (rises_made table.layout m.0.known m.0.known.locks b.news after b.gone b.since b.item b.mismatch b.like now.leaf above b.over.upper upper_locked node (Node above node.height) g risen
             (with_page b.item.key (Fork position (Place zero) (Place one)) (piece node))
-            (subst (λ k. GrownShows node g (with_page k (Fork position (Place zero) (Place one)) (piece node))) b.key_is shows) anew made body_risen);
+            (subst (λ k. GrownShows node g (with_page k (Fork position (Place zero) (Place one)) (piece node))) b.key_is shows) fresh made body_risen);
       },
     )
+
+-- ---- the lowest node
+kept_or_not : (stays : Bool) → (stays ≡ true) ⊎ (stays ≡ false)
+kept_or_not true = inl refl
+kept_or_not false = inr refl
+
+module _ {G : Type 0} (table : TableView) (becomes : G → Event → G → Type 0) (a m : SeatView × G) (made : List Rec) (key : Key) (number position first last leaf : ℕ)
+    (b : IsLowest table a.0 made key number position first last leaf) (reads : ReadsOn table becomes a m) (node : NodeView) (shown : (words : List ℕ) → HasLocked a.0.known number words → IsNodeOf words node) where
+  low_node : IsNodeOf b.words node
+  low_node = shown b.words b.found.locked
+
+  low_page : (node_of b.words).page ≡ piece node
+  low_page = ap (λ (z : NodeWords). z.page) low_node.shows
+
+  low_grown : HasRisen table.layout a.0.known a.0.known.locks (of_leaf b.item ∷ []) b.since b.item position b.like body number (page_grown position b.item.key (Leaf b.item.number) (piece node)) []
+  low_grown =
+      subst (λ y. HasRisen table.layout a.0.known a.0.known.locks (of_leaf b.item ∷ []) b.since b.item position b.like body number (page_grown position b.item.key (Leaf b.item.number) y) []) low_page
+      (rise_grows table.layout a.0.known a.0.known.locks b.since b.item position b.like number b.words b.found b.part)
+
+  low_leaf : HasLeaf (of_leaf b.item ∷ []) b.item
+  low_leaf = (inl refl, b.found.leaf)
+
+  same_page : page_grown position b.item.key (Leaf b.item.number) (piece node) ≡ page_grown position key (Leaf leaf) (piece node)
+  same_page = ap₂ (λ k n. page_grown position k (Leaf n) (piece node)) (sym b.key_is) (sym b.leaf_is)
+
+  pub low_tree : IsTreePage (page_grown position key (Leaf leaf) (piece node))
+  low_tree =
+      subst IsTreePage same_page
+      (risen_page table.layout a.0.known (of_leaf b.item ∷ []) [] b.since b.item position b.like body number b.words (page_grown position b.item.key (Leaf b.item.number) (piece node))
+      b.building.possible b.building.holds b.building.packed low_leaf b.found.locked low_grown)
+
+  pub low_affects : AffectsJust key position first last (piece node)
+  low_affects = subst (λ k. AffectsJust k position first last (piece node)) (sym b.key_is) (subst (AffectsJust b.item.key position first last) low_page b.affects)
+
+  pub low_building : IsBuilding table m.0 made (of_leaf b.item ∷ [])
+  low_building = building_on table becomes a m made (of_leaf b.item ∷ []) reads.goes reads.own b.building
+
+  pub lowered : (c : SeatView × G) (after_made : List Rec) (g : Grown) (stays : Bool) (risen : Risen) → GrownShows node g (page_grown position key (Leaf leaf) (piece node)) → stays ≡ keeps_node g →
+      (keeps_node g ≡ true → AtRootFork (λ q x y. position < q) (piece node)) → GoesOn table becomes m c → (after : List Made) → IsMadeFrom (Node number node.height) g risen (of_leaf b.item ∷ []) after →
+      IsBuilding table c.0 after_made after → IsRaising table c.0 after_made after (gone_unless stays number) b.since b.item position b.like entry number (page_of risen)
+  lowered c after_made g stays risen shows is before goes after made building = go (kept_or_not stays)
+    where
+      here : GrownShows node g (page_grown position b.item.key (Leaf b.item.number) (piece node))
+      here = subst (GrownShows node g) (sym same_page) shows
+
+      all : GoesOn table becomes a c
+      all = goes_more table becomes a m c reads.goes goes
+
+      leaf_stays : HasLeaf after b.item
+      leaf_stays = (made_keeps (Node number node.height) g risen (of_leaf b.item ∷ []) after made _ (inl refl), b.found.leaf)
+
+      go : (stays ≡ true) ⊎ (stays ≡ false) → IsRaising table c.0 after_made after (gone_unless stays number) b.since b.item position b.like entry number (page_of risen)
+      go (inl whole) =
+          let keeps : keeps_node g ≡ true = sym is ∙ whole in
+          let (kept, same) = rises_kept table.layout a.0.known a.0.known.locks after b.since b.item position b.like number b.words b.found node low_page (ap (λ (z : NodeWords). z.fixed.height) low_node.shows) g risen here keeps (before keeps) made in
+          subst (λ z. IsRaising table c.0 after_made after (gone_unless z number) b.since b.item position b.like entry number (page_of risen)) (sym whole)
+          (record { building = building; leaf = leaf_stays; risen = risen_on table becomes a c after [] b.since b.item position b.like entry number (page_of risen) all kept })
+      go (inr cut) =
+          let fresh : keeps_node g ≡ false = sym is ∙ cut in
+          subst (λ z. IsRaising table c.0 after_made after (gone_unless z number) b.since b.item position b.like entry number (page_of risen)) (sym cut)
+          (record {
+            building = building;
+            leaf = leaf_stays;
+            risen = risen_on table becomes a c after (a_node number ∷ []) b.since b.item position b.like entry number (page_of risen) all
+                (rises_made table.layout a.0.known a.0.known.locks (of_leaf b.item ∷ []) after [] b.since b.item position b.like low_leaf number b.words b.found.locked node (Node number node.height) g risen
+                (page_grown position b.item.key (Leaf b.item.number) (piece node)) here fresh made low_grown);
+          })
+
+-- ---- without a leaf
+pub left_over : {G : Type 0} (table : TableView) (becomes : G → Event → G → Type 0) (a m c : SeatView × G) (after_made : List Rec) (key : Key) (words : List ℕ) (node : NodeView) (half : Half) (old : Entry) (answer : Option Entry) →
+    GoesOn table becomes a m → IsNodeOf words node → HalfShows half (page_without key (piece node)) →
+    MatchOption answer (HasNotMade table m.0 c.0 after_made) (λ e. (more : List Made) × IsHalfMade old half e more × IsBuilding table c.0 after_made (more ++ [])) →
+    MatchOption answer (HasNotMade table a.0 c.0 after_made) (λ e. (news : List Made) × IsSide (page_without key (node_of words).page) e news × IsBuilding table c.0 after_made news)
+left_over table becomes a m c after_made key words node half old None goes is shows made = not_made_since table becomes a m c after_made goes made
+left_over table becomes a m c after_made key words node half old (Some e) goes is shows (more, half_made, building) = (
+  more,
+  subst (λ y. IsSide (page_without key y) e more) (sym (ap (λ (z : NodeWords). z.page) is.shows)) (side_made old e half (page_without key (piece node)) more shows half_made),
+  subst (IsBuilding table c.0 after_made) (append-nil more) building,
+)
+
+pub left_low : (words : List ℕ) (node : NodeView) (n : ℕ) (half : Half) (answer : Option Entry) (None_made : Type 0) (Q : Entry → List Made → Type 0) → IsNodeOf words node → IsLowHalf node.height half →
+    MatchOption answer None_made (λ e. (more : List Made) × IsHalfMade (Node n node.height) half e more × Q e more) → IfSome answer (λ e. height_of e ≤ (node_of words).fixed.height)
+left_low words node n half None none Q is low made = tt
+left_low words node n half (Some e) none Q is low (more, made, rest) = let same = ap (λ (z : NodeWords). z.fixed.height) is.shows in omega (arith, half_made_low n node.height half e more low made)
+
+-- ---- a pair
+pub paired : (table : TableView) (a c : SeatView) (after_made : List Rec) (news : List Made) (view : NodeView) (shown : Page) (answer : Option Entry) → IsBuiltFrom view shown →
+    MatchOption answer (HasNotMade table a c after_made) (λ e. (m : ℕ) × (e ≡ Node m view.height) × HasNodeWords view × IsBuilding table c after_made (of_view m view ∷ news)) →
+    MatchOption answer (HasNotMade table a c after_made) (λ e. (more : List Made) × IsSide shown e more × IsBuilding table c after_made (more ++ news))
+paired table a c after_made news view shown None built made = made
+paired table a c after_made news view shown (Some e) built (m, is, has, building) =
+    (of_view m view ∷ [], subst (λ z. IsSide shown z (of_view m view ∷ [])) (sym is) (anew m view (has, built.height_is) built.shows_it), building)

@@ -1,5 +1,5 @@
 -- Records made for what a node becomes.
-use Rattle.std.specs.Prelude.{◌≡◌, ◌<◌, ◌≤◌, ℕ, List, [], ◌∷◌, ◌++◌, reverse}
+use Rattle.std.specs.Prelude.{◌≡◌, ◌<◌, ◌≤◌, ℕ, List, [], ◌∷◌, ◌++◌, reverse, Bool, if◌then◌else◌}
 use Rattle.compound_node.specs.Nodes.{height_of}
 use Rattle.compound_node.specs.declared.entries.Entry.{Entry}
 use Rattle.compound_node.specs.declared.entries.Entry.TheVariants.{Node}
@@ -12,6 +12,7 @@ use Rattle.insert_cases.specs.declared.raising.Risen.TheVariants.{Whole, Split}
 use Rattle.pieces.specs.Piece.{Place, Fork}
 use Rattle.record_words.specs.Node.{HasNodeWords}
 use Rattle.tries.specs.Content.{Item}
+use Rattle.tries.specs.Affected.{page_affected, IsPartPage}
 use Rattle.tries.specs.Keys.{Key}
 use Rattle.tries.specs.Tree.{Page}
 use Rattle.rowex_walks.specs.Rise.{Side, entry}
@@ -22,8 +23,9 @@ use Rattle.rowex_table.specs.Made.{Made, recs_of, HoldsMade}
 use Rattle.rowex_table.specs.Seats.{TableView, SeatView, IsSeatOf}
 use Rattle.rowex_records.specs.Claims.{AllMissed}
 use Rattle.rowex_reading.specs.Possible.{IsPossible}
-use Rattle.rowex_rights.specs.Rises.{of_view}
+use Rattle.rowex_rights.specs.Rises.{of_view, of_leaf, HasFoundBelow}
 use Rattle.rowex_rights.specs.Stages.{HasLeaf, HasRisen, IsAbove}
+use Rattle.rowex_writing.specs.Remaking.{AffectsJust}
 
 -- each of the records spells a value
 abbrev pub ArePacked : List Made → Type 0
@@ -92,3 +94,21 @@ IsLowRisen height (Split position zero one) = (height_of zero ≤ height) × (he
 abbrev pub IsSplit : Risen → Type 0
 IsSplit (Whole e) = ⊥
 IsSplit (Split position zero one) = Unit {0}
+
+-- ---- at the lower end
+-- The leaf of x is made and nothing else, and the locked node is where it goes: beside these entries.
+pub record IsLowest (table : TableView) (a : SeatView) (made : List Rec) (key : Key) (number position first last leaf : ℕ) : Type 0 where
+  pub since : ℕ
+  pub item : Item
+  pub like : Key
+  pub words : List ℕ
+  pub key_is : key ≡ item.key
+  pub leaf_is : leaf ≡ item.number
+  pub building : IsBuilding table a made (of_leaf item ∷ [])
+  pub found : HasFoundBelow a.known a.known.locks since item position like number words
+  pub part : IsPartPage (page_affected position item.key (node_of words).page)
+  pub affects : AffectsJust item.key position first last (node_of words).page
+
+-- the node goes, where it doesn't stay whole
+abbrev pub gone_unless : Bool → ℕ → List Rec
+gone_unless stays n = if stays then [] else a_node n ∷ []

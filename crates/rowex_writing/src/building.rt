@@ -1,18 +1,25 @@
 //! Records for what takes a node's place.
 
-ghost use Rattle.std.specs.Prelude.{◌≡◌, ◌<◌, ◌≤◌, ◌+◌, ◌++◌, ◌∷◌, List, ℕ, length, IfSome, MatchOption};
+ghost use Rattle.std.specs.Prelude.{◌≡◌, ◌<◌, ◌≤◌, ◌+◌, ◌++◌, ◌∷◌, [], List, ℕ, length, IfSome, MatchOption};
 ghost use Rattle.record_words.specs.Node.{HasNodeWords};
 ghost use Rattle.rowex_table.specs.Made.{Made};
-ghost use Rattle.rowex_rights.specs.Rises.{of_view};
-ghost use Rattle.rowex_writing.specs.Building.{IsBelow, IsBuilding, IsHalfMade, IsLowRisen, IsMadeFrom, IsRaising, HasNotMade};
-ghost use Rattle.rowex_writing.specs.Going.{GoesOn, HasLocked};
+ghost use Rattle.rowex_rights.specs.Rises.{of_view, IsSide};
+ghost use Rattle.rowex_writing.specs.Building.{IsBelow, IsBuilding, IsHalfMade, IsLowest, IsLowRisen, IsMadeFrom, IsRaising, HasNotMade, gone_unless};
+ghost use Rattle.rowex_writing.specs.Going.{GoesOn, HasLocked, IsLockedBy};
+ghost use Rattle.rowex_writing.specs.Remaking.{IsTreePage};
+ghost use Rattle.compound_node.specs.Nodes.{height_of};
+ghost use Rattle.insert_cases.specs.Grown.{keeps_node, is_same as is_the_same};
+ghost use Rattle.pieces.specs.Piece.{Place as At};
+ghost use Rattle.tries.specs.Affected.{page_forked};
+ghost use Rattle.tries.specs.Keys.{bit};
+ghost use Rattle.tries.specs.Place.{page_without};
 ghost use Rattle.insert_cases.specs.Risen.{page_of};
 ghost use Rattle.moments.specs.declared.Rec.TheVariants.{Node as a_node};
 ghost use Rattle.rowex_core.specs.Reading.{node_of};
 ghost use Rattle.rowex_walks.specs.Rise.{entry};
 
 use crate::locked::read_locked;
-use crate::remaking::with_fork;
+use crate::remaking::{pair_with_leaf, with_fork, with_leaf, without_leaf};
 use arrayvec::ArrayVec;
 use compound_node::{Entry, Half, Node};
 use insert_cases::{Grown, Risen};
@@ -147,4 +154,110 @@ fn raise_level<G: Gate>(
         height: node.height(),
     };
     make_risen(table, seat, gate, build, old, &grown)
+}
+
+/// What comes in the place of the lowest node, which gets a new leaf; and whether the node stays whole.
+fn raise_lowest<G: Gate>(
+    table: &HotTable,
+    seat: &mut TableSeat,
+    gate: &mut G,
+    build: &mut Build,
+    key: &Key,
+    number: u32,
+    position: u16,
+    first: u8,
+    last: u8,
+    leaf: u32,
+) -> Option<(Risen, bool)>
+    requires range { number < table.now.layout.nodes }
+    requires lowest { IsLowest table.now seat.old build.old.made.items key.now number position first last leaf }
+    requires room { length build.old.made.items + 1 < MOST_MADE }
+    ensures goes { GoesOn table.now G.becomes (seat.old, gate.old) (seat.new, gate.new) }
+    ensures made { (b : IsLowest table.now seat.old build.old.made.items key.now number position first last leaf) → MatchOption result
+        (HasNotMade table.now seat.old seat.new build.new.made.items)
+        (λ r. (after : List Made) × IsRaising table.now seat.new build.new.made.items after (gone_unless r.1 number) b.since b.item position b.like entry number (page_of r.0)) }
+    ensures low { (words : List ℕ) → HasLocked seat.old.known number words → IfSome result (λ r. IsLowRisen (node_of words).fixed.height r.0) }
+    ensures more { length build.new.made.items ≤ length build.old.made.items + 2 }
+{
+    let node = read_locked(table, seat, gate, number);
+    let grown = with_leaf(&node, key, position, first, last, leaf);
+    let old = Entry::Node {
+        number,
+        height: node.height(),
+    };
+    let stays = stays_whole(&grown);
+    let risen = make_risen(table, seat, gate, build, old, &grown)?;
+    Some((risen, stays))
+}
+
+/// Whether one half is the old node as it stands.
+fn stays_whole(grown: &Grown) -> bool
+    ensures { result ≡ keeps_node grown.now }
+{
+    match grown {
+        Grown::One(_) => false,
+        Grown::Two(cut) => is_same(&cut.zero) || is_same(&cut.one),
+    }
+}
+
+/// Whether the half is the old node.
+fn is_same(half: &Half) -> bool
+    ensures { result ≡ is_the_same half.now }
+{
+    match half {
+        Half::Same => true,
+        _ => false,
+    }
+}
+
+/// The entry for what is left of a locked node without the leaf to which the key's search leads.
+fn raise_without<G: Gate>(
+    table: &HotTable,
+    seat: &mut TableSeat,
+    gate: &mut G,
+    build: &mut Build,
+    key: &Key,
+    number: u32,
+) -> Option<Entry>
+    requires building { IsBuilding table.now seat.old build.old.made.items [] }
+    requires range { number < table.now.layout.nodes }
+    requires locked { IsLockedBy seat.old.known number }
+    requires room { length build.old.made.items < MOST_MADE }
+    ensures goes { GoesOn table.now G.becomes (seat.old, gate.old) (seat.new, gate.new) }
+    ensures made { (words : List ℕ) → HasLocked seat.old.known number words → MatchOption result
+        (HasNotMade table.now seat.old seat.new build.new.made.items)
+        (λ e. (news : List Made) × IsSide (page_without key.now (node_of words).page) e news × IsBuilding table.now seat.new build.new.made.items news) }
+    ensures low { (words : List ℕ) → HasLocked seat.old.known number words → IfSome result (λ e. height_of e ≤ (node_of words).fixed.height) }
+{
+    let node = read_locked(table, seat, gate, number);
+    let half = without_leaf(&node, key);
+    let old = Entry::Node {
+        number,
+        height: node.height(),
+    };
+    make_half(table, seat, gate, build, old, &half)
+}
+
+/// The entry for a new node of a leaf and the new one.
+fn raise_pair<G: Gate>(
+    table: &HotTable,
+    seat: &mut TableSeat,
+    gate: &mut G,
+    build: &mut Build,
+    key: &Key,
+    position: u16,
+    old: Entry,
+    leaf: u32,
+) -> Option<Entry>
+    requires building { (news : List Made) × IsBuilding table.now seat.old build.old.made.items news }
+    requires tree { IsTreePage (page_forked (bit key.now position) position (Entry.Leaf leaf) (At old)) }
+    requires room { length build.old.made.items < MOST_MADE }
+    ensures goes { GoesOn table.now G.becomes (seat.old, gate.old) (seat.new, gate.new) }
+    ensures made { (news : List Made) → IsBuilding table.now seat.old build.old.made.items news → MatchOption result
+        (HasNotMade table.now seat.old seat.new build.new.made.items)
+        (λ e. (more : List Made) × IsSide (page_forked (bit key.now position) position (Entry.Leaf leaf) (At old)) e more ×
+        IsBuilding table.now seat.new build.new.made.items (more ++ news)) }
+{
+    let node = pair_with_leaf(key, position, old, leaf);
+    make_node(table, seat, gate, build, &node)
 }
