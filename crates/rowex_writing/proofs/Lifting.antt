@@ -33,15 +33,16 @@ use Rattle.rowex_core.specs.Reading.{node_of}
 use Rattle.rowex_table.specs.Made.{Made}
 use Rattle.rowex_table.specs.Seats.{TableView, SeatView}
 use Rattle.rowex_rights.specs.Stages.{HasLeaf, HasRisen, IsAbove}
-use Rattle.rowex_rights.proofs.Rising.{risen_stays, rises_pulled, rise_grows}
+use Rattle.rowex_rights.proofs.Rising.{risen_stays, rises_pulled, rises_wrapped, rise_grows}
 use Rattle.rowex_rights.specs.Rises.{of_view, of_leaf, IsSide, anew}
-use Rattle.rowex_writing.specs.Building.{IsBuilding, IsHalfMade, IsMadeFrom, IsRaising, IsBelow, IsLowest, IsLowRisen, HasNotMade, gone_unless}
+use Rattle.rowex_writing.specs.Building.{IsBuilding, IsHalfMade, IsMadeFrom, IsRaising, IsBelow, IsLowest, IsLowRisen, IsRisenAt, HasNotMade, gone_unless}
 use Rattle.rowex_writing.specs.Going.{GoesOn, ReadsOn, HasLocked, IsNodeOf}
 use Rattle.rowex_writing.specs.Remaking.{IsTreePage, AffectsJust, IsLowHalf, IsNoHigher}
 use Rattle.rowex_writing.proofs.Making.{building_on, not_made_since}
 use Rattle.rowex_writing.proofs.Raising.{rises_made, rises_kept, side_made}
 use Rattle.rowex_writing.proofs.Locking.{goes_more}
 use Rattle.rowex_writing.proofs.Staging.{risen_page}
+use Rattle.insert_cases.proofs.Climbing.{IsPairOf, pair_facts}
 
 -- ---- heights
 half_made_low : (n h : ℕ) (half : Half) (e : Entry) (news : List Made) → IsLowHalf h half → IsHalfMade (Node n h) half e news → height_of e ≤ h
@@ -247,3 +248,39 @@ pub paired : (table : TableView) (a c : SeatView) (after_made : List Rec) (news 
 paired table a c after_made news view shown None built made = made
 paired table a c after_made news view shown (Some e) built (m, is, has, building) =
     (of_view m view ∷ [], subst (λ z. IsSide shown z (of_view m view ∷ [])) (sym is) (anew m view (has, built.height_is) built.shows_it), building)
+
+-- ---- the topmost node
+fork_risen : (table : TableView) (a : SeatView) (made : List Rec) (number q : ℕ) (z o : Entry) (risen : Risen) → risen ≡ Split q z o → (b : IsRisenAt table a made number risen) →
+    HasRisen table.layout a.known a.known.locks b.news b.since b.item b.mismatch b.like entry number (Fork q (Place z) (Place o)) b.gone
+fork_risen table a made number q z o risen is b =
+    subst (λ (y : Risen). HasRisen table.layout a.known a.known.locks b.news b.since b.item b.mismatch b.like entry number (page_of y) b.gone) is b.raising.risen
+
+-- what a fork of two entries that has risen owes
+pub settle_owed : (table : TableView) (a : SeatView) (made : List Rec) (number q : ℕ) (z o : Entry) (risen : Risen) → risen ≡ Split q z o → IsRisenAt table a made number risen → IsPairOf q z o
+settle_owed table a made number q z o risen is b =
+    let i = b.raising in
+    let (t, page_is, trie, built) = risen_page table.layout a.known b.news b.gone b.since b.item b.mismatch b.like entry number b.words (Fork q (Place z) (Place o)) i.building.possible i.building.holds i.building.packed i.leaf b.locked
+    (fork_risen table a made number q z o risen is b) in
+    pair_facts q z o t page_is trie built
+
+pub settled : {G : Type 0} (table : TableView) (becomes : G → Event → G → Type 0) (a c : SeatView × G) (made after_made : List Rec) (number q : ℕ) (z o : Entry) (risen : Risen) → risen ≡ Split q z o →
+    (b : IsRisenAt table a.0 made number risen) (view : NodeView) → IsBuiltFrom view (Fork q (Place z) (Place o)) → GoesOn table becomes a c → (answer : Option Entry) →
+    MatchOption answer (HasNotMade table a.0 c.0 after_made) (λ e. (m : ℕ) × (e ≡ Node m view.height) × HasNodeWords view × IsBuilding table c.0 after_made (of_view m view ∷ b.news)) →
+    MatchOption answer (HasNotMade table a.0 c.0 after_made) (λ e. (after : List Made) × IsRaising table c.0 after_made after b.gone b.since b.item b.mismatch b.like entry number (Place e))
+settled table becomes a c made after_made number q z o risen is b view built goes None answer = answer
+settled table becomes a c made after_made number q z o risen is b view built goes (Some e) (m, e_is, has, building) =
+    let i = b.raising in
+    let here = subst (λ y. HasRisen table.layout a.0.known a.0.known.locks b.news b.since b.item b.mismatch b.like entry number y b.gone) (sym built.shows_it) (fork_risen table a.0 made number q z o risen is b) in
+    let wrapped = rises_wrapped table.layout a.0.known a.0.known.locks b.news b.gone b.since b.item b.mismatch b.like i.leaf number b.words b.locked m view (has, built.height_is) here in (
+      of_view m view ∷ b.news,
+      record {
+        building = building;
+        leaf = (inr i.leaf.0, i.leaf.1);
+        risen = risen_on table becomes a c (of_view m view ∷ b.news) b.gone b.since b.item b.mismatch b.like entry number (Place e) goes
+            (subst (λ y. HasRisen table.layout a.0.known a.0.known.locks (of_view m view ∷ b.news) b.since b.item b.mismatch b.like entry number (Place y) b.gone) (sym e_is) wrapped);
+      },
+    )
+
+pub settled_whole : (table : TableView) (a : SeatView) (made : List Rec) (number : ℕ) (e : Entry) (risen : Risen) → risen ≡ Whole e → (b : IsRisenAt table a made number risen) →
+    (after : List Made) × IsRaising table a made after b.gone b.since b.item b.mismatch b.like entry number (Place e)
+settled_whole table a made number e risen is b = (b.news, subst (λ (y : Risen). IsRaising table a made b.news b.gone b.since b.item b.mismatch b.like entry number (page_of y)) is b.raising)

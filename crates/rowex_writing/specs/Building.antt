@@ -7,6 +7,7 @@ use Rattle.compound_node.specs.declared.halves.Half.{Half}
 use Rattle.compound_node.specs.declared.halves.Half.TheVariants.{One, Many, Same}
 use Rattle.insert_cases.specs.declared.growth.Grown.{Grown}
 use Rattle.insert_cases.specs.declared.growth.Grown.TheVariants.{One as Single, Two}
+use Rattle.insert_cases.specs.Risen.{page_of}
 use Rattle.insert_cases.specs.declared.raising.Risen.{Risen}
 use Rattle.insert_cases.specs.declared.raising.Risen.TheVariants.{Whole, Split}
 use Rattle.pieces.specs.Piece.{Place, Fork}
@@ -25,6 +26,7 @@ use Rattle.rowex_records.specs.Claims.{AllMissed}
 use Rattle.rowex_reading.specs.Possible.{IsPossible}
 use Rattle.rowex_rights.specs.Rises.{of_view, of_leaf, HasFoundBelow}
 use Rattle.rowex_rights.specs.Stages.{HasLeaf, HasRisen, IsAbove}
+use Rattle.rowex_writing.specs.Going.{HasLocked}
 use Rattle.rowex_writing.specs.Remaking.{AffectsJust}
 
 -- each of the records spells a value
@@ -112,3 +114,16 @@ pub record IsLowest (table : TableView) (a : SeatView) (made : List Rec) (key : 
 -- the node goes, where it doesn't stay whole
 abbrev pub gone_unless : Bool → ℕ → List Rec
 gone_unless stays n = if stays then [] else a_node n ∷ []
+
+-- ---- at the upper end
+-- What has risen comes in the place of the locked node's entry.
+pub record IsRisenAt (table : TableView) (a : SeatView) (made : List Rec) (number : ℕ) (risen : Risen) : Type 0 where
+  pub news : List Made
+  pub gone : List Rec
+  pub since : ℕ
+  pub item : Item
+  pub mismatch : ℕ
+  pub like : Key
+  pub words : List ℕ
+  pub locked : HasLocked a.known number words
+  pub raising : IsRaising table a made news gone since item mismatch like entry number (page_of risen)

@@ -4,7 +4,7 @@ ghost use Rattle.std.specs.Prelude.{◌≡◌, ◌<◌, ◌≤◌, ◌+◌, ◌+
 ghost use Rattle.record_words.specs.Node.{HasNodeWords};
 ghost use Rattle.rowex_table.specs.Made.{Made};
 ghost use Rattle.rowex_rights.specs.Rises.{of_view, IsSide};
-ghost use Rattle.rowex_writing.specs.Building.{IsBelow, IsBuilding, IsHalfMade, IsLowest, IsLowRisen, IsMadeFrom, IsRaising, HasNotMade, gone_unless};
+ghost use Rattle.rowex_writing.specs.Building.{IsBelow, IsBuilding, IsHalfMade, IsLowest, IsLowRisen, IsMadeFrom, IsRaising, IsRisenAt, HasNotMade, gone_unless};
 ghost use Rattle.rowex_writing.specs.Going.{GoesOn, HasLocked, IsLockedBy};
 ghost use Rattle.rowex_writing.specs.Remaking.{IsTreePage};
 ghost use Rattle.compound_node.specs.Nodes.{height_of};
@@ -260,4 +260,34 @@ fn raise_pair<G: Gate>(
 {
     let node = pair_with_leaf(key, position, old, leaf);
     make_node(table, seat, gate, build, &node)
+}
+
+/// The one entry for what has risen: a fork of two gets a node of its own.
+fn settle<G: Gate>(
+    table: &HotTable,
+    seat: &mut TableSeat,
+    gate: &mut G,
+    build: &mut Build,
+    number: u32,
+    risen: Risen,
+) -> Option<Entry>
+    requires risen { IsRisenAt table.now seat.old build.old.made.items number risen }
+    requires room { length build.old.made.items < MOST_MADE }
+    ensures goes { GoesOn table.now G.becomes (seat.old, gate.old) (seat.new, gate.new) }
+    ensures made { (b : IsRisenAt table.now seat.old build.old.made.items number risen) → MatchOption result
+        (HasNotMade table.now seat.old seat.new build.new.made.items)
+        (λ e. (after : List Made) × IsRaising table.now seat.new build.new.made.items after b.gone b.since b.item b.mismatch b.like entry number (At e)) }
+    ensures more { length build.new.made.items ≤ length build.old.made.items + 1 }
+{
+    match risen {
+        Risen::Whole(entry) => Some(entry),
+        Risen::Split {
+            position,
+            zero,
+            one,
+        } => {
+            let node = Node::pair(position, zero, one);
+            make_node(table, seat, gate, build, &node)
+        }
+    }
 }
