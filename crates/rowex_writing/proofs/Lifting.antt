@@ -1,7 +1,8 @@
 -- One level up.
-use Rattle.std.proofs.Common.{◌≡◌, ℕ, ◌<◌, ◌≤◌, ◌+◌, List, [], ◌∷◌, ◌++◌, refl, sym, ap, ap₂, subst, ◌∙◌, arith, Option, Some, None, Bool, true, false, inl, inr, ◌⊎◌}
-use Rattle.std.specs.Prelude.{MatchOption, IfSome}
-use Rattle.std.proofs.lemmas.List.{append-nil}
+use Rattle.std.proofs.Common.{◌≡◌, ℕ, ◌<◌, ◌≤◌, ◌+◌, List, [], ◌∷◌, ◌++◌, refl, sym, ap, ap₂, subst, ◌∙◌, arith, Option, Some, None, Bool, true, false, inl, inr, ◌⊎◌, append_assoc}
+use Rattle.std.specs.Prelude.{MatchOption, IfSome, IsTrue, ◌↔◌, slice_get, length, map, drop, take}
+use Rattle.std.proofs.lemmas.List.{append-nil, drop-append-le, drop-take, length-take-le, map-append, take_more}
+use Rattle.std.proofs.lemmas.Option.{get_or_from_slice_get, slice_get_within}
 use Rattle.compound_node.specs.Halves.{HalfShows}
 use Rattle.compound_node.specs.Nodes.{NodeView, piece, height_of, IsBuiltFrom}
 use Rattle.record_words.specs.Node.{HasNodeWords}
@@ -9,14 +10,16 @@ use Rattle.compound_node.specs.declared.entries.Entry.{Entry}
 use Rattle.compound_node.specs.declared.entries.Entry.TheVariants.{Leaf, Node}
 use Rattle.compound_node.specs.declared.halves.Half.{Half}
 use Rattle.compound_node.specs.declared.halves.Half.TheVariants.{One, Many, Same}
-use Rattle.insert_cases.specs.Grown.{GrownShows, keeps_node}
+use Rattle.insert_cases.specs.Grown.{GrownShows, keeps_node, is_whole}
 use Rattle.insert_cases.specs.Risen.{page_of}
 use Rattle.insert_cases.specs.declared.growth.Grown.{Grown}
 use Rattle.insert_cases.specs.declared.growth.Grown.TheVariants.{One as Single, Two}
 use Rattle.insert_cases.specs.declared.raising.Risen.{Risen}
 use Rattle.insert_cases.specs.declared.raising.Risen.TheVariants.{Whole, Split}
 use Rattle.pieces.specs.Changes.{AtRootFork}
-use Rattle.pieces.specs.Piece.{Place, Fork}
+use Rattle.pieces.specs.Piece.{Place, Fork, size}
+use Rattle.insert_cases.specs.declared.choice.Step.{Step}
+use Rattle.tries.proofs.Building.{size-piece}
 use Rattle.tries.specs.Affected.{page_grown}
 use Rattle.tries.specs.Content.{Item}
 use Rattle.tries.specs.Keys.{Key}
@@ -35,7 +38,7 @@ use Rattle.rowex_table.specs.Seats.{TableView, SeatView}
 use Rattle.rowex_rights.specs.Stages.{HasLeaf, HasRisen, IsAbove}
 use Rattle.rowex_rights.proofs.Rising.{risen_stays, rises_pulled, rises_wrapped, rise_grows}
 use Rattle.rowex_rights.specs.Rises.{of_view, of_leaf, IsSide, anew}
-use Rattle.rowex_writing.specs.Building.{IsBuilding, IsHalfMade, IsMadeFrom, IsRaising, IsBelow, IsLowest, IsLowRisen, IsRisenAt, HasNotMade, gone_unless}
+use Rattle.rowex_writing.specs.Building.{IsBuilding, IsHalfMade, IsMadeFrom, IsRaising, IsBelow, IsLowest, IsLowRisen, IsRisenAt, IsSplit, IsChain, IsUp, HasNotMade, HasRisenTo, gone_unless, gone_with}
 use Rattle.rowex_writing.specs.Going.{GoesOn, ReadsOn, HasLocked, IsNodeOf}
 use Rattle.rowex_writing.specs.Remaking.{IsTreePage, AffectsJust, IsLowHalf, IsNoHigher}
 use Rattle.rowex_writing.proofs.Making.{building_on, not_made_since}
@@ -284,3 +287,98 @@ settled table becomes a c made after_made number q z o risen is b view built goe
 pub settled_whole : (table : TableView) (a : SeatView) (made : List Rec) (number : ℕ) (e : Entry) (risen : Risen) → risen ≡ Whole e → (b : IsRisenAt table a made number risen) →
     (after : List Made) × IsRaising table a made after b.gone b.since b.item b.mismatch b.like entry number (Place e)
 settled_whole table a made number e risen is b = (b.news, subst (λ (y : Risen). IsRaising table a made b.news b.gone b.since b.item b.mismatch b.like entry number (page_of y)) is b.raising)
+
+-- ---- a full node gives a fork
+split_made : (was : Entry) (g : Grown) (risen : Risen) (before after : List Made) → ¬ (IsTrue (is_whole g)) → IsMadeFrom was g risen before after → IsSplit risen
+split_made was (Single v) risen before after cut made = absurd (cut refl)
+split_made was (Two cut) (Whole e) before after two made = elim made [ ]
+split_made was (Two cut) (Split q z o) before after two made = tt
+
+pub split_level : (words : List ℕ) (node : NodeView) (was : Entry) (g : Grown) (answer : Option Risen) (None_made : Type 0) (before : List Made) (Q : Risen → List Made → Type 0) → IsNodeOf words node →
+    (IsTrue (is_whole g) ↔ (length node.entries < 32)) → size (node_of words).page ≡ 32 →
+    MatchOption answer None_made (λ risen. (after : List Made) × IsMadeFrom was g risen before after × Q risen after) → IfSome answer IsSplit
+split_level words node was g None none before Q is whole full made = tt
+split_level words node was g (Some risen) none before Q is whole full (after, made, rest) =
+    let long : length node.entries ≡ 32 = sym (size-piece node is.has.lawful) ∙ (ap size (sym (ap (λ (z : NodeWords). z.page) is.shows)) ∙ full) in
+    split_made was g risen before after (λ t. absurd (let l = whole.0 t in omega (arith, long))) made
+
+-- ---- on upwards
+module _ (table : TableView) (a : SeatView) (made : List Rec) (way : List Step) (key : Key) (end level : ℕ) (risen : Risen) (up : IsUp table a made way key end level risen) (above : ℕ) (next : above + 1 ≡ level)
+    (upto : end ≤ above) (s : Step) (at : slice_get way above ≡ Some s) where
+  abbrev pub up_over : (over : IsAbove a.known.locks up.item.key up.mismatch s.number up.step.number) × ((node_of over.lower).fixed.height < (node_of over.upper).fixed.height)
+  up_over = up.chain.above above s up.step upto (omega arith) at (ap (slice_get way) next ∙ up.at)
+
+  pub up_there : s.number < table.layout.nodes
+  up_there = up.chain.there above s (omega arith) at
+
+  abbrev pub up_below : (q : ℕ) (z o : Entry) → risen ≡ Split q z o → IsBelow table a made key s.number q z o
+  up_below q z o is = record {
+    news = up.news;
+    gone = up.gone;
+    since = up.since;
+    item = up.item;
+    mismatch = up.mismatch;
+    like = up.like;
+    lower = up.step.number;
+    key_is = up.key_is;
+    raising = subst (λ (y : Risen). IsRaising table a made up.news up.gone up.since up.item up.mismatch up.like entry up.step.number (page_of y)) is up.raising;
+    over = up_over.0;
+    zero_low = let l : IsLowRisen (node_of up_over.0.lower).fixed.height (Split q z o) = subst (IsLowRisen (node_of up_over.0.lower).fixed.height) is (up.low up_over.0.lower up_over.0.has_lower) in let h = up_over.1 in omega (arith, l.0);
+    one_low = let l : IsLowRisen (node_of up_over.0.lower).fixed.height (Split q z o) = subst (IsLowRisen (node_of up_over.0.lower).fixed.height) is (up.low up_over.0.lower up_over.0.has_lower) in let h = up_over.1 in omega (arith, l.1);
+  }
+
+  abbrev pub up_next : (m : SeatView) (made_then : List Rec) (then : Risen) → m.known.locks ≡ a.known.locks → (after : List Made) → IsRaising table m made_then after (a_node s.number ∷ up.gone) up.since up.item up.mismatch up.like entry s.number (page_of then) →
+      ((words : List ℕ) → HasLocked a.known s.number words → IsLowRisen (node_of words).fixed.height then) → ((words : List ℕ) → HasLocked a.known s.number words → size (node_of words).page ≡ 32 → IsSplit then) →
+      IsUp table m made_then way key end above then
+  up_next m made_then then locks after raising low split = record {
+    news = after;
+    gone = a_node s.number ∷ up.gone;
+    since = up.since;
+    item = up.item;
+    mismatch = up.mismatch;
+    like = up.like;
+    key_is = up.key_is;
+    step = s;
+    at = at;
+    upto = upto;
+    words = up_over.0.upper;
+    locked = subst (IsOf (record { node = s.number; words = up_over.0.upper })) (sym locks) up_over.0.has_upper;
+    raising = raising;
+    low = λ other h. low other (subst (IsOf (record { node = s.number; words = other })) locks h);
+    split = λ more. split up_over.0.upper up_over.0.has_upper (up.chain.full above s more (omega arith) at up_over.0.upper up_over.0.has_upper);
+    chain = subst (λ held. IsChain table.layout.nodes held way up.item.key up.mismatch end above) (sym locks) (record {
+      there = λ i u l e. up.chain.there i u (omega arith) e;
+      above = λ i u v l h e f. up.chain.above i u v l (omega arith) e f;
+      full = λ i u l h e. up.chain.full i u l (omega arith) e;
+    });
+  }
+
+-- the nodes that go, one more
+pub gone_more : (way : List Step) (end above level : ℕ) (gone : List Rec) (s : Step) → above + 1 ≡ level → end ≤ above → slice_get way above ≡ Some s → gone_with way end above (a_node s.number ∷ gone) ≡ gone_with way end level gone
+gone_more way end above level gone s next upto at =
+    let within : above < length way = slice_get_within way above s at in
+    let f : Step → Rec = λ (z : Step). a_node z.number in
+    let all : take level way ≡ take above way ++ s ∷ [] = ap (λ n. take n way) (sym next) ∙ (take_more way above s within ∙ ap (λ z. take above way ++ z ∷ []) (get_or_from_slice_get way above s s at)) in
+    let long : end ≤ length (take above way) = let e = length-take-le above way (omega arith) in omega arith in
+    let parts : drop end (take level way) ≡ drop end (take above way) ++ s ∷ [] = ap (drop end) all ∙ drop-append-le end (take above way) (s ∷ []) long in
+    sym (ap (λ z. map f z ++ gone) parts ∙ (ap (λ z. z ++ gone) (map-append f (drop end (take above way)) (s ∷ [])) ∙ append_assoc (map f (drop end (take above way))) (a_node s.number ∷ []) gone))
+
+pub gone_none : (way : List Step) (end : ℕ) (gone : List Rec) → gone_with way end end gone ≡ gone
+gone_none way end gone =
+    let zero : end + 0 ≡ end = omega arith in
+    ap (λ z. map (λ (s : Step). a_node s.number) z ++ gone) (ap (λ n. drop end (take n way)) (sym zero) ∙ drop-take end 0 way)
+
+-- the end of the way up, and one level of it
+pub up_end : (table : TableView) (a : SeatView) (made : List Rec) (way : List Step) (key : Key) (end level number : ℕ) (risen : Risen) → level ≡ end → (up : IsUp table a made way key end level risen) → number ≡ up.step.number →
+    IsRisenAt table a made number risen
+up_end table a made way key end level number risen same up is =
+    subst (λ n. IsRisenAt table a made n risen) (sym is)
+    (record { news = up.news; gone = up.gone; since = up.since; item = up.item; mismatch = up.mismatch; like = up.like; words = up.words; locked = up.locked; raising = up.raising })
+
+pub up_done : {G : Type 0} (table : TableView) (becomes : G → Event → G → Type 0) (a m c : SeatView × G) (made : List Rec) (way : List Step) (since : ℕ) (x : Item) (p : ℕ) (l : Key) (end above level : ℕ) (gone : List Rec) (s : Step) →
+    above + 1 ≡ level → end ≤ above → slice_get way above ≡ Some s → GoesOn table becomes a m → (answer : Option Entry) →
+    MatchOption answer (HasNotMade table m.0 c.0 made) (HasRisenTo table c.0 made way since x p l end (gone_with way end above (a_node s.number ∷ gone))) →
+    MatchOption answer (HasNotMade table a.0 c.0 made) (HasRisenTo table c.0 made way since x p l end (gone_with way end level gone))
+up_done table becomes a m c made way since x p l end above level gone s next upto at goes None answer = not_made_since table becomes a m c made goes answer
+up_done table becomes a m c made way since x p l end above level gone s next upto at goes (Some e) answer =
+    subst (λ g. HasRisenTo table c.0 made way since x p l end g e) (gone_more way end above level gone s next upto at) answer

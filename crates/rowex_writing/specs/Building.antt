@@ -1,5 +1,5 @@
 -- Records made for what a node becomes.
-use Rattle.std.specs.Prelude.{◌≡◌, ◌<◌, ◌≤◌, ℕ, List, [], ◌∷◌, ◌++◌, reverse, Bool, if◌then◌else◌}
+use Rattle.std.specs.Prelude.{◌≡◌, ◌<◌, ◌≤◌, ◌+◌, ℕ, List, [], ◌∷◌, ◌++◌, map, drop, take, slice_get, Some, reverse, Bool, if◌then◌else◌}
 use Rattle.compound_node.specs.Nodes.{height_of}
 use Rattle.compound_node.specs.declared.entries.Entry.{Entry}
 use Rattle.compound_node.specs.declared.entries.Entry.TheVariants.{Node}
@@ -10,7 +10,10 @@ use Rattle.insert_cases.specs.declared.growth.Grown.TheVariants.{One as Single, 
 use Rattle.insert_cases.specs.Risen.{page_of}
 use Rattle.insert_cases.specs.declared.raising.Risen.{Risen}
 use Rattle.insert_cases.specs.declared.raising.Risen.TheVariants.{Whole, Split}
-use Rattle.pieces.specs.Piece.{Place, Fork}
+use Rattle.pieces.specs.Piece.{Place, Fork, size}
+use Rattle.insert_cases.specs.declared.choice.Step.{Step}
+use Rattle.moments.specs.Trades.{IsOf}
+use Rattle.rowex_core.specs.declared.known.Locked.{Locked}
 use Rattle.record_words.specs.Node.{HasNodeWords}
 use Rattle.tries.specs.Content.{Item}
 use Rattle.tries.specs.Affected.{page_affected, IsPartPage}
@@ -127,3 +130,40 @@ pub record IsRisenAt (table : TableView) (a : SeatView) (made : List Rec) (numbe
   pub words : List ℕ
   pub locked : HasLocked a.known number words
   pub raising : IsRaising table a made news gone since item mismatch like entry number (page_of risen)
+
+-- ---- a span
+-- Of the locked nodes of the way from `end` to `level` each is named by the one above it, which is higher, and an insertion at p
+-- affects no more than that place; those between the two are full.
+pub record IsChain (nodes : ℕ) (held : List Locked) (way : List Step) (key : Key) (p end level : ℕ) : Type 0 where
+  pub there : (i : ℕ) (s : Step) → i < level → slice_get way i ≡ Some s → s.number < nodes
+  pub above : (i : ℕ) (s u : Step) → end ≤ i → i < level → slice_get way i ≡ Some s → slice_get way (i + 1) ≡ Some u →
+      (over : IsAbove held key p s.number u.number) × ((node_of over.lower).fixed.height < (node_of over.upper).fixed.height)
+  pub full : (i : ℕ) (s : Step) → end < i → i < level → slice_get way i ≡ Some s → (words : List ℕ) → IsOf (record { node = s.number; words = words }) held → size (node_of words).page ≡ 32
+
+-- What has risen comes in the place of the entry of the node at this level, and it is to rise on to `end`.
+pub record IsUp (table : TableView) (a : SeatView) (made : List Rec) (way : List Step) (key : Key) (end level : ℕ) (risen : Risen) : Type 0 where
+  pub news : List Made
+  pub gone : List Rec
+  pub since : ℕ
+  pub item : Item
+  pub mismatch : ℕ
+  pub like : Key
+  pub key_is : key ≡ item.key
+  pub step : Step
+  pub at : slice_get way level ≡ Some step
+  pub upto : end ≤ level
+  pub words : List ℕ
+  pub locked : HasLocked a.known step.number words
+  pub raising : IsRaising table a made news gone since item mismatch like entry step.number (page_of risen)
+  pub low : (other : List ℕ) → HasLocked a.known step.number other → IsLowRisen (node_of other).fixed.height risen
+  pub split : end < level → IsSplit risen
+  pub chain : IsChain table.layout.nodes a.known.locks way item.key mismatch end level
+
+-- the nodes of the way from `end` on, before `level`, go too
+abbrev pub gone_with : List Step → (end level : ℕ) → List Rec → List Rec
+gone_with way end level gone = map (λ (s : Step). a_node s.number) (drop end (take level way)) ++ gone
+
+-- one entry has risen to the place of the entry of the node at `end`
+abbrev pub HasRisenTo : (table : TableView) (a : SeatView) (made : List Rec) (way : List Step) (since : ℕ) (x : Item) (p : ℕ) (l : Key) (end : ℕ) (gone : List Rec) (e : Entry) → Type 0
+HasRisenTo table a made way since x p l end gone e =
+    (news : List Made) × (top : Step) × (slice_get way end ≡ Some top) × IsRaising table a made news gone since x p l entry top.number (Place e)

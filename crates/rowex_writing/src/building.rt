@@ -1,15 +1,15 @@
 //! Records for what takes a node's place.
 
-ghost use Rattle.std.specs.Prelude.{◌≡◌, ◌<◌, ◌≤◌, ◌+◌, ◌++◌, ◌∷◌, [], List, ℕ, length, IfSome, MatchOption};
+ghost use Rattle.std.specs.Prelude.{◌≡◌, ◌<◌, ◌≤◌, ◌+◌, ◌-◌, ◌*◌, ◌++◌, ◌∷◌, [], List, ℕ, length, IfSome, MatchOption};
 ghost use Rattle.record_words.specs.Node.{HasNodeWords};
 ghost use Rattle.rowex_table.specs.Made.{Made};
 ghost use Rattle.rowex_rights.specs.Rises.{of_view, IsSide};
-ghost use Rattle.rowex_writing.specs.Building.{IsBelow, IsBuilding, IsHalfMade, IsLowest, IsLowRisen, IsMadeFrom, IsRaising, IsRisenAt, HasNotMade, gone_unless};
+ghost use Rattle.rowex_writing.specs.Building.{IsBelow, IsBuilding, IsHalfMade, IsLowest, IsLowRisen, IsMadeFrom, IsRaising, IsRisenAt, IsSplit, IsUp, HasNotMade, HasRisenTo, gone_unless, gone_with};
 ghost use Rattle.rowex_writing.specs.Going.{GoesOn, HasLocked, IsLockedBy};
 ghost use Rattle.rowex_writing.specs.Remaking.{IsTreePage};
 ghost use Rattle.compound_node.specs.Nodes.{height_of};
 ghost use Rattle.insert_cases.specs.Grown.{keeps_node, is_same as is_the_same};
-ghost use Rattle.pieces.specs.Piece.{Place as At};
+ghost use Rattle.pieces.specs.Piece.{Place as At, size};
 ghost use Rattle.tries.specs.Affected.{page_forked};
 ghost use Rattle.tries.specs.Keys.{bit};
 ghost use Rattle.tries.specs.Place.{page_without};
@@ -22,7 +22,7 @@ use crate::locked::read_locked;
 use crate::remaking::{pair_with_leaf, with_fork, with_leaf, without_leaf};
 use arrayvec::ArrayVec;
 use compound_node::{Entry, Half, Node};
-use insert_cases::{Grown, Risen};
+use insert_cases::{Grown, Risen, Step};
 use key_bits::Key;
 use rowex_core::{Gate, Rec};
 use rowex_records::{claim_node, fill_node};
@@ -145,6 +145,7 @@ fn raise_level<G: Gate>(
         (HasNotMade table.now seat.old seat.new build.new.made.items)
         (λ risen. (after : List Made) × IsRaising table.now seat.new build.new.made.items after (a_node number ∷ b.gone) b.since b.item b.mismatch b.like entry number (page_of risen)) }
     ensures low { (words : List ℕ) → HasLocked seat.old.known number words → IfSome result (IsLowRisen (node_of words).fixed.height) }
+    ensures split { (words : List ℕ) → HasLocked seat.old.known number words → size (node_of words).page ≡ 32 → IfSome result IsSplit }
     ensures more { length build.new.made.items ≤ length build.old.made.items + 2 }
 {
     let node = read_locked(table, seat, gate, number);
@@ -177,6 +178,7 @@ fn raise_lowest<G: Gate>(
         (HasNotMade table.now seat.old seat.new build.new.made.items)
         (λ r. (after : List Made) × IsRaising table.now seat.new build.new.made.items after (gone_unless r.1 number) b.since b.item position b.like entry number (page_of r.0)) }
     ensures low { (words : List ℕ) → HasLocked seat.old.known number words → IfSome result (λ r. IsLowRisen (node_of words).fixed.height r.0) }
+    ensures split { (words : List ℕ) → HasLocked seat.old.known number words → size (node_of words).page ≡ 32 → IfSome result (λ r. IsSplit r.0) }
     ensures more { length build.new.made.items ≤ length build.old.made.items + 2 }
 {
     let node = read_locked(table, seat, gate, number);
@@ -288,6 +290,43 @@ fn settle<G: Gate>(
         } => {
             let node = Node::pair(position, zero, one);
             make_node(table, seat, gate, build, &node)
+        }
+    }
+}
+
+/// The one entry that comes in the place of the node at `end`, when this has risen to the node at `level`.
+fn raise_on<G: Gate>(
+    table: &HotTable,
+    seat: &mut TableSeat,
+    gate: &mut G,
+    build: &mut Build,
+    key: &Key,
+    way: &[Step],
+    end: usize,
+    level: usize,
+    risen: Risen,
+) -> Option<Entry>
+    requires up { IsUp table.now seat.old build.old.made.items way.now key.now end level risen }
+    requires room { length build.old.made.items + 2 * (level - end) < MOST_MADE }
+    ensures goes { GoesOn table.now G.becomes (seat.old, gate.old) (seat.new, gate.new) }
+    ensures made { (b : IsUp table.now seat.old build.old.made.items way.now key.now end level risen) → MatchOption result
+        (HasNotMade table.now seat.old seat.new build.new.made.items)
+        (HasRisenTo table.now seat.new build.new.made.items way.now b.since b.item b.mismatch b.like end (gone_with way.now end level b.gone)) }
+{
+    if level == end {
+        return settle(table, seat, gate, build, way[level].number, risen);
+    }
+    match risen {
+        Risen::Whole(_) => unreachable!(),
+        Risen::Split {
+            position,
+            zero,
+            one,
+        } => {
+            let above = level - 1;
+            let number = way[above].number;
+            let next = raise_level(table, seat, gate, build, key, number, position, zero, one)?;
+            raise_on(table, seat, gate, build, key, way, end, above, next)
         }
     }
 }
