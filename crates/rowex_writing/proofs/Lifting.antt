@@ -1,21 +1,29 @@
 -- One level up.
-use Rattle.std.proofs.Common.{◌≡◌, ℕ, ◌<◌, ◌≤◌, List, ◌∷◌, ◌++◌, sym, ap, subst, arith, Option, Some, None, false, inr}
-use Rattle.std.specs.Prelude.{MatchOption, IfSome}
-use Rattle.compound_node.specs.Nodes.{NodeView, piece, height_of}
+use Rattle.std.proofs.Common.{◌≡◌, ℕ, ◌<◌, ◌≤◌, ◌+◌, List, [], ◌∷◌, ◌++◌, refl, sym, ap, ap₂, subst, ◌∙◌, arith, Option, Some, None, Bool, true, false, inl, inr, ◌⊎◌, append_assoc}
+use Rattle.std.specs.Prelude.{MatchOption, IfSome, IsTrue, ◌↔◌, slice_get, length, map, drop, take}
+use Rattle.std.proofs.lemmas.List.{append-nil, drop-append-le, drop-take, length-take-le, map-append, take_more}
+use Rattle.std.proofs.lemmas.Option.{get_or_from_slice_get, slice_get_within}
+use Rattle.compound_node.specs.Halves.{HalfShows}
+use Rattle.compound_node.specs.Nodes.{NodeView, piece, height_of, IsBuiltFrom}
+use Rattle.record_words.specs.Node.{HasNodeWords}
 use Rattle.compound_node.specs.declared.entries.Entry.{Entry}
-use Rattle.compound_node.specs.declared.entries.Entry.TheVariants.{Node}
+use Rattle.compound_node.specs.declared.entries.Entry.TheVariants.{Leaf, Node}
 use Rattle.compound_node.specs.declared.halves.Half.{Half}
 use Rattle.compound_node.specs.declared.halves.Half.TheVariants.{One, Many, Same}
-use Rattle.insert_cases.specs.Grown.{GrownShows, keeps_node}
+use Rattle.insert_cases.specs.Grown.{GrownShows, keeps_node, is_whole}
 use Rattle.insert_cases.specs.Risen.{page_of}
 use Rattle.insert_cases.specs.declared.growth.Grown.{Grown}
 use Rattle.insert_cases.specs.declared.growth.Grown.TheVariants.{One as Single, Two}
 use Rattle.insert_cases.specs.declared.raising.Risen.{Risen}
 use Rattle.insert_cases.specs.declared.raising.Risen.TheVariants.{Whole, Split}
-use Rattle.pieces.specs.Piece.{Place, Fork}
+use Rattle.pieces.specs.Changes.{AtRootFork}
+use Rattle.pieces.specs.Piece.{Place, Fork, size}
+use Rattle.insert_cases.specs.declared.choice.Step.{Step}
+use Rattle.tries.proofs.Building.{size-piece}
+use Rattle.tries.specs.Affected.{page_grown}
 use Rattle.tries.specs.Content.{Item}
 use Rattle.tries.specs.Keys.{Key}
-use Rattle.tries.specs.Place.{with_page}
+use Rattle.tries.specs.Place.{with_page, page_without}
 use Rattle.tries.specs.Tree.{Page}
 use Rattle.moments.specs.Heap.{NodeWords}
 use Rattle.moments.specs.Trades.{IsOf}
@@ -27,14 +35,17 @@ use Rattle.rowex_core.specs.declared.event.Event.{Event}
 use Rattle.rowex_core.specs.Reading.{node_of}
 use Rattle.rowex_table.specs.Made.{Made}
 use Rattle.rowex_table.specs.Seats.{TableView, SeatView}
-use Rattle.rowex_rights.specs.Stages.{HasRisen, IsAbove}
-use Rattle.rowex_rights.proofs.Rising.{risen_stays, rises_pulled}
-use Rattle.rowex_writing.specs.Building.{IsBuilding, IsHalfMade, IsMadeFrom, IsRaising, IsBelow, IsLowRisen, HasNotMade}
+use Rattle.rowex_rights.specs.Stages.{HasLeaf, HasRisen, IsAbove}
+use Rattle.rowex_rights.proofs.Rising.{risen_stays, rises_pulled, rises_wrapped, rise_grows}
+use Rattle.rowex_rights.specs.Rises.{of_view, of_leaf, IsSide, anew}
+use Rattle.rowex_writing.specs.Building.{IsBuilding, IsHalfMade, IsMadeFrom, IsRaising, IsBelow, IsLowest, IsLowRisen, IsRisenAt, IsSplit, IsChain, IsUp, HasNotMade, HasRisenTo, gone_unless, gone_with}
 use Rattle.rowex_writing.specs.Going.{GoesOn, ReadsOn, HasLocked, IsNodeOf}
-use Rattle.rowex_writing.specs.Remaking.{IsTreePage, IsLowHalf, IsNoHigher}
+use Rattle.rowex_writing.specs.Remaking.{IsTreePage, AffectsJust, IsLowHalf, IsNoHigher}
 use Rattle.rowex_writing.proofs.Making.{building_on, not_made_since}
-use Rattle.rowex_writing.proofs.Raising.{rises_made}
+use Rattle.rowex_writing.proofs.Raising.{rises_made, rises_kept, side_made}
+use Rattle.rowex_writing.proofs.Locking.{goes_more}
 use Rattle.rowex_writing.proofs.Staging.{risen_page}
+use Rattle.insert_cases.proofs.Climbing.{IsPairOf, pair_facts}
 
 -- ---- heights
 half_made_low : (n h : ℕ) (half : Half) (e : Entry) (news : List Made) → IsLowHalf h half → IsHalfMade (Node n h) half e news → height_of e ≤ h
@@ -136,8 +147,8 @@ module _ {G : Type 0} (table : TableView) (becomes : G → Event → G → Type 
         MatchOption answer (HasNotMade table m.0 c.0 after_made) (λ risen. (after : List Made) × IsMadeFrom (Node above node.height) g risen b.news after × IsBuilding table c.0 after_made after) →
         MatchOption answer (HasNotMade table a.0 c.0 after_made)
         (λ risen. (after : List Made) × IsRaising table c.0 after_made after (a_node above ∷ b.gone) b.since b.item b.mismatch b.like entry above (page_of risen))
-    lifted c after_made g None shows anew goes made = not_made_since table becomes a m c after_made reads.goes made
-    lifted c after_made g (Some risen) shows anew goes (after, made, building) = (
+    lifted c after_made g None shows fresh goes made = not_made_since table becomes a m c after_made reads.goes made
+    lifted c after_made g (Some risen) shows fresh goes (after, made, building) = (
       after,
       record {
         building = building;
@@ -145,6 +156,229 @@ module _ {G : Type 0} (table : TableView) (becomes : G → Event → G → Type 
         risen = risen_on m c after (a_node above ∷ b.gone) b.since b.item b.mismatch b.like entry above (page_of risen) goes
             (rises_made table.layout m.0.known m.0.known.locks b.news after b.gone b.since b.item b.mismatch b.like now.leaf above b.over.upper upper_locked node (Node above node.height) g risen
             (with_page b.item.key (Fork position (Place zero) (Place one)) (piece node))
-            (subst (λ k. GrownShows node g (with_page k (Fork position (Place zero) (Place one)) (piece node))) b.key_is shows) anew made body_risen);
+            (subst (λ k. GrownShows node g (with_page k (Fork position (Place zero) (Place one)) (piece node))) b.key_is shows) fresh made body_risen);
       },
     )
+
+-- ---- the lowest node
+kept_or_not : (stays : Bool) → (stays ≡ true) ⊎ (stays ≡ false)
+kept_or_not true = inl refl
+kept_or_not false = inr refl
+
+module _ {G : Type 0} (table : TableView) (becomes : G → Event → G → Type 0) (a m : SeatView × G) (made : List Rec) (key : Key) (number position first last leaf : ℕ)
+    (b : IsLowest table a.0 made key number position first last leaf) (reads : ReadsOn table becomes a m) (node : NodeView) (shown : (words : List ℕ) → HasLocked a.0.known number words → IsNodeOf words node) where
+  low_node : IsNodeOf b.words node
+  low_node = shown b.words b.found.locked
+
+  low_page : (node_of b.words).page ≡ piece node
+  low_page = ap (λ (z : NodeWords). z.page) low_node.shows
+
+  low_grown : HasRisen table.layout a.0.known a.0.known.locks (of_leaf b.item ∷ []) b.since b.item position b.like body number (page_grown position b.item.key (Leaf b.item.number) (piece node)) []
+  low_grown =
+      subst (λ y. HasRisen table.layout a.0.known a.0.known.locks (of_leaf b.item ∷ []) b.since b.item position b.like body number (page_grown position b.item.key (Leaf b.item.number) y) []) low_page
+      (rise_grows table.layout a.0.known a.0.known.locks b.since b.item position b.like number b.words b.found b.part)
+
+  low_leaf : HasLeaf (of_leaf b.item ∷ []) b.item
+  low_leaf = (inl refl, b.found.leaf)
+
+  same_page : page_grown position b.item.key (Leaf b.item.number) (piece node) ≡ page_grown position key (Leaf leaf) (piece node)
+  same_page = ap₂ (λ k n. page_grown position k (Leaf n) (piece node)) (sym b.key_is) (sym b.leaf_is)
+
+  pub low_tree : IsTreePage (page_grown position key (Leaf leaf) (piece node))
+  low_tree =
+      subst IsTreePage same_page
+      (risen_page table.layout a.0.known (of_leaf b.item ∷ []) [] b.since b.item position b.like body number b.words (page_grown position b.item.key (Leaf b.item.number) (piece node))
+      b.building.possible b.building.holds b.building.packed low_leaf b.found.locked low_grown)
+
+  pub low_affects : AffectsJust key position first last (piece node)
+  low_affects = subst (λ k. AffectsJust k position first last (piece node)) (sym b.key_is) (subst (AffectsJust b.item.key position first last) low_page b.affects)
+
+  pub low_building : IsBuilding table m.0 made (of_leaf b.item ∷ [])
+  low_building = building_on table becomes a m made (of_leaf b.item ∷ []) reads.goes reads.own b.building
+
+  pub lowered : (c : SeatView × G) (after_made : List Rec) (g : Grown) (stays : Bool) (risen : Risen) → GrownShows node g (page_grown position key (Leaf leaf) (piece node)) → stays ≡ keeps_node g →
+      (keeps_node g ≡ true → AtRootFork (λ q x y. position < q) (piece node)) → GoesOn table becomes m c → (after : List Made) → IsMadeFrom (Node number node.height) g risen (of_leaf b.item ∷ []) after →
+      IsBuilding table c.0 after_made after → IsRaising table c.0 after_made after (gone_unless stays number) b.since b.item position b.like entry number (page_of risen)
+  lowered c after_made g stays risen shows is before goes after made building = go (kept_or_not stays)
+    where
+      here : GrownShows node g (page_grown position b.item.key (Leaf b.item.number) (piece node))
+      here = subst (GrownShows node g) (sym same_page) shows
+
+      all : GoesOn table becomes a c
+      all = goes_more table becomes a m c reads.goes goes
+
+      leaf_stays : HasLeaf after b.item
+      leaf_stays = (made_keeps (Node number node.height) g risen (of_leaf b.item ∷ []) after made _ (inl refl), b.found.leaf)
+
+      go : (stays ≡ true) ⊎ (stays ≡ false) → IsRaising table c.0 after_made after (gone_unless stays number) b.since b.item position b.like entry number (page_of risen)
+      go (inl whole) =
+          let keeps : keeps_node g ≡ true = sym is ∙ whole in
+          let (kept, same) = rises_kept table.layout a.0.known a.0.known.locks after b.since b.item position b.like number b.words b.found node low_page (ap (λ (z : NodeWords). z.fixed.height) low_node.shows) g risen here keeps (before keeps) made in
+          subst (λ z. IsRaising table c.0 after_made after (gone_unless z number) b.since b.item position b.like entry number (page_of risen)) (sym whole)
+          (record { building = building; leaf = leaf_stays; risen = risen_on table becomes a c after [] b.since b.item position b.like entry number (page_of risen) all kept })
+      go (inr cut) =
+          let fresh : keeps_node g ≡ false = sym is ∙ cut in
+          subst (λ z. IsRaising table c.0 after_made after (gone_unless z number) b.since b.item position b.like entry number (page_of risen)) (sym cut)
+          (record {
+            building = building;
+            leaf = leaf_stays;
+            risen = risen_on table becomes a c after (a_node number ∷ []) b.since b.item position b.like entry number (page_of risen) all
+                (rises_made table.layout a.0.known a.0.known.locks (of_leaf b.item ∷ []) after [] b.since b.item position b.like low_leaf number b.words b.found.locked node (Node number node.height) g risen
+                (page_grown position b.item.key (Leaf b.item.number) (piece node)) here fresh made low_grown);
+          })
+
+-- ---- without a leaf
+pub left_over : {G : Type 0} (table : TableView) (becomes : G → Event → G → Type 0) (a m c : SeatView × G) (after_made : List Rec) (key : Key) (words : List ℕ) (node : NodeView) (half : Half) (old : Entry) (answer : Option Entry) →
+    GoesOn table becomes a m → IsNodeOf words node → HalfShows half (page_without key (piece node)) →
+    MatchOption answer (HasNotMade table m.0 c.0 after_made) (λ e. (more : List Made) × IsHalfMade old half e more × IsBuilding table c.0 after_made (more ++ [])) →
+    MatchOption answer (HasNotMade table a.0 c.0 after_made) (λ e. (news : List Made) × IsSide (page_without key (node_of words).page) e news × IsBuilding table c.0 after_made news)
+left_over table becomes a m c after_made key words node half old None goes is shows made = not_made_since table becomes a m c after_made goes made
+left_over table becomes a m c after_made key words node half old (Some e) goes is shows (more, half_made, building) = (
+  more,
+  subst (λ y. IsSide (page_without key y) e more) (sym (ap (λ (z : NodeWords). z.page) is.shows)) (side_made old e half (page_without key (piece node)) more shows half_made),
+  subst (IsBuilding table c.0 after_made) (append-nil more) building,
+)
+
+pub left_low : (words : List ℕ) (node : NodeView) (n : ℕ) (half : Half) (answer : Option Entry) (None_made : Type 0) (Q : Entry → List Made → Type 0) → IsNodeOf words node → IsLowHalf node.height half →
+    MatchOption answer None_made (λ e. (more : List Made) × IsHalfMade (Node n node.height) half e more × Q e more) → IfSome answer (λ e. height_of e ≤ (node_of words).fixed.height)
+left_low words node n half None none Q is low made = tt
+left_low words node n half (Some e) none Q is low (more, made, rest) = let same = ap (λ (z : NodeWords). z.fixed.height) is.shows in omega (arith, half_made_low n node.height half e more low made)
+
+-- ---- a pair
+pub paired : (table : TableView) (a c : SeatView) (after_made : List Rec) (news : List Made) (view : NodeView) (shown : Page) (answer : Option Entry) → IsBuiltFrom view shown →
+    MatchOption answer (HasNotMade table a c after_made) (λ e. (m : ℕ) × (e ≡ Node m view.height) × HasNodeWords view × IsBuilding table c after_made (of_view m view ∷ news)) →
+    MatchOption answer (HasNotMade table a c after_made) (λ e. (more : List Made) × IsSide shown e more × IsBuilding table c after_made (more ++ news))
+paired table a c after_made news view shown None built made = made
+paired table a c after_made news view shown (Some e) built (m, is, has, building) =
+    (of_view m view ∷ [], subst (λ z. IsSide shown z (of_view m view ∷ [])) (sym is) (anew m view (has, built.height_is) built.shows_it), building)
+
+-- ---- the topmost node
+fork_risen : (table : TableView) (a : SeatView) (made : List Rec) (number q : ℕ) (z o : Entry) (risen : Risen) → risen ≡ Split q z o → (b : IsRisenAt table a made number risen) →
+    HasRisen table.layout a.known a.known.locks b.news b.since b.item b.mismatch b.like entry number (Fork q (Place z) (Place o)) b.gone
+fork_risen table a made number q z o risen is b =
+    subst (λ (y : Risen). HasRisen table.layout a.known a.known.locks b.news b.since b.item b.mismatch b.like entry number (page_of y) b.gone) is b.raising.risen
+
+-- what a fork of two entries that has risen owes
+pub settle_owed : (table : TableView) (a : SeatView) (made : List Rec) (number q : ℕ) (z o : Entry) (risen : Risen) → risen ≡ Split q z o → IsRisenAt table a made number risen → IsPairOf q z o
+settle_owed table a made number q z o risen is b =
+    let i = b.raising in
+    let (t, page_is, trie, built) = risen_page table.layout a.known b.news b.gone b.since b.item b.mismatch b.like entry number b.words (Fork q (Place z) (Place o)) i.building.possible i.building.holds i.building.packed i.leaf b.locked
+    (fork_risen table a made number q z o risen is b) in
+    pair_facts q z o t page_is trie built
+
+pub settled : {G : Type 0} (table : TableView) (becomes : G → Event → G → Type 0) (a c : SeatView × G) (made after_made : List Rec) (number q : ℕ) (z o : Entry) (risen : Risen) → risen ≡ Split q z o →
+    (b : IsRisenAt table a.0 made number risen) (view : NodeView) → IsBuiltFrom view (Fork q (Place z) (Place o)) → GoesOn table becomes a c → (answer : Option Entry) →
+    MatchOption answer (HasNotMade table a.0 c.0 after_made) (λ e. (m : ℕ) × (e ≡ Node m view.height) × HasNodeWords view × IsBuilding table c.0 after_made (of_view m view ∷ b.news)) →
+    MatchOption answer (HasNotMade table a.0 c.0 after_made) (λ e. (after : List Made) × IsRaising table c.0 after_made after b.gone b.since b.item b.mismatch b.like entry number (Place e))
+settled table becomes a c made after_made number q z o risen is b view built goes None answer = answer
+settled table becomes a c made after_made number q z o risen is b view built goes (Some e) (m, e_is, has, building) =
+    let i = b.raising in
+    let here = subst (λ y. HasRisen table.layout a.0.known a.0.known.locks b.news b.since b.item b.mismatch b.like entry number y b.gone) (sym built.shows_it) (fork_risen table a.0 made number q z o risen is b) in
+    let wrapped = rises_wrapped table.layout a.0.known a.0.known.locks b.news b.gone b.since b.item b.mismatch b.like i.leaf number b.words b.locked m view (has, built.height_is) here in (
+      of_view m view ∷ b.news,
+      record {
+        building = building;
+        leaf = (inr i.leaf.0, i.leaf.1);
+        risen = risen_on table becomes a c (of_view m view ∷ b.news) b.gone b.since b.item b.mismatch b.like entry number (Place e) goes
+            (subst (λ y. HasRisen table.layout a.0.known a.0.known.locks (of_view m view ∷ b.news) b.since b.item b.mismatch b.like entry number (Place y) b.gone) (sym e_is) wrapped);
+      },
+    )
+
+pub settled_whole : (table : TableView) (a : SeatView) (made : List Rec) (number : ℕ) (e : Entry) (risen : Risen) → risen ≡ Whole e → (b : IsRisenAt table a made number risen) →
+    (after : List Made) × IsRaising table a made after b.gone b.since b.item b.mismatch b.like entry number (Place e)
+settled_whole table a made number e risen is b = (b.news, subst (λ (y : Risen). IsRaising table a made b.news b.gone b.since b.item b.mismatch b.like entry number (page_of y)) is b.raising)
+
+-- ---- a full node gives a fork
+split_made : (was : Entry) (g : Grown) (risen : Risen) (before after : List Made) → ¬ (IsTrue (is_whole g)) → IsMadeFrom was g risen before after → IsSplit risen
+split_made was (Single v) risen before after cut made = absurd (cut refl)
+split_made was (Two cut) (Whole e) before after two made = elim made [ ]
+split_made was (Two cut) (Split q z o) before after two made = tt
+
+pub split_level : (words : List ℕ) (node : NodeView) (was : Entry) (g : Grown) (answer : Option Risen) (None_made : Type 0) (before : List Made) (Q : Risen → List Made → Type 0) → IsNodeOf words node →
+    (IsTrue (is_whole g) ↔ (length node.entries < 32)) → size (node_of words).page ≡ 32 →
+    MatchOption answer None_made (λ risen. (after : List Made) × IsMadeFrom was g risen before after × Q risen after) → IfSome answer IsSplit
+split_level words node was g None none before Q is whole full made = tt
+split_level words node was g (Some risen) none before Q is whole full (after, made, rest) =
+    let long : length node.entries ≡ 32 = sym (size-piece node is.has.lawful) ∙ (ap size (sym (ap (λ (z : NodeWords). z.page) is.shows)) ∙ full) in
+    split_made was g risen before after (λ t. absurd (let l = whole.0 t in omega (arith, long))) made
+
+-- ---- on upwards
+module _ (table : TableView) (a : SeatView) (made : List Rec) (way : List Step) (key : Key) (end level : ℕ) (risen : Risen) (up : IsUp table a made way key end level risen) (above : ℕ) (next : above + 1 ≡ level)
+    (upto : end ≤ above) (s : Step) (at : slice_get way above ≡ Some s) where
+  abbrev pub up_over : (over : IsAbove a.known.locks up.item.key up.mismatch s.number up.step.number) × ((node_of over.lower).fixed.height < (node_of over.upper).fixed.height)
+  up_over = up.chain.above above s up.step upto (omega arith) at (ap (slice_get way) next ∙ up.at)
+
+  pub up_there : s.number < table.layout.nodes
+  up_there = up.chain.there above s (omega arith) at
+
+  abbrev pub up_below : (q : ℕ) (z o : Entry) → risen ≡ Split q z o → IsBelow table a made key s.number q z o
+  up_below q z o is = record {
+    news = up.news;
+    gone = up.gone;
+    since = up.since;
+    item = up.item;
+    mismatch = up.mismatch;
+    like = up.like;
+    lower = up.step.number;
+    key_is = up.key_is;
+    raising = subst (λ (y : Risen). IsRaising table a made up.news up.gone up.since up.item up.mismatch up.like entry up.step.number (page_of y)) is up.raising;
+    over = up_over.0;
+    zero_low = let l : IsLowRisen (node_of up_over.0.lower).fixed.height (Split q z o) = subst (IsLowRisen (node_of up_over.0.lower).fixed.height) is (up.low up_over.0.lower up_over.0.has_lower) in let h = up_over.1 in omega (arith, l.0);
+    one_low = let l : IsLowRisen (node_of up_over.0.lower).fixed.height (Split q z o) = subst (IsLowRisen (node_of up_over.0.lower).fixed.height) is (up.low up_over.0.lower up_over.0.has_lower) in let h = up_over.1 in omega (arith, l.1);
+  }
+
+  abbrev pub up_next : (m : SeatView) (made_then : List Rec) (then : Risen) → m.known.locks ≡ a.known.locks → (after : List Made) → IsRaising table m made_then after (a_node s.number ∷ up.gone) up.since up.item up.mismatch up.like entry s.number (page_of then) →
+      ((words : List ℕ) → HasLocked a.known s.number words → IsLowRisen (node_of words).fixed.height then) → ((words : List ℕ) → HasLocked a.known s.number words → size (node_of words).page ≡ 32 → IsSplit then) →
+      IsUp table m made_then way key end above then
+  up_next m made_then then locks after raising low split = record {
+    news = after;
+    gone = a_node s.number ∷ up.gone;
+    since = up.since;
+    item = up.item;
+    mismatch = up.mismatch;
+    like = up.like;
+    key_is = up.key_is;
+    step = s;
+    at = at;
+    upto = upto;
+    words = up_over.0.upper;
+    locked = subst (IsOf (record { node = s.number; words = up_over.0.upper })) (sym locks) up_over.0.has_upper;
+    raising = raising;
+    low = λ other h. low other (subst (IsOf (record { node = s.number; words = other })) locks h);
+    split = λ more. split up_over.0.upper up_over.0.has_upper (up.chain.full above s more (omega arith) at up_over.0.upper up_over.0.has_upper);
+    chain = subst (λ held. IsChain table.layout.nodes held way up.item.key up.mismatch end above) (sym locks) (record {
+      there = λ i u l e. up.chain.there i u (omega arith) e;
+      above = λ i u v l h e f. up.chain.above i u v l (omega arith) e f;
+      full = λ i u l h e. up.chain.full i u l (omega arith) e;
+    });
+  }
+
+-- the nodes that go, one more
+pub gone_more : (way : List Step) (end above level : ℕ) (gone : List Rec) (s : Step) → above + 1 ≡ level → end ≤ above → slice_get way above ≡ Some s → gone_with way end above (a_node s.number ∷ gone) ≡ gone_with way end level gone
+gone_more way end above level gone s next upto at =
+    let within : above < length way = slice_get_within way above s at in
+    let f : Step → Rec = λ (z : Step). a_node z.number in
+    let all : take level way ≡ take above way ++ s ∷ [] = ap (λ n. take n way) (sym next) ∙ (take_more way above s within ∙ ap (λ z. take above way ++ z ∷ []) (get_or_from_slice_get way above s s at)) in
+    let long : end ≤ length (take above way) = let e = length-take-le above way (omega arith) in omega arith in
+    let parts : drop end (take level way) ≡ drop end (take above way) ++ s ∷ [] = ap (drop end) all ∙ drop-append-le end (take above way) (s ∷ []) long in
+    sym (ap (λ z. map f z ++ gone) parts ∙ (ap (λ z. z ++ gone) (map-append f (drop end (take above way)) (s ∷ [])) ∙ append_assoc (map f (drop end (take above way))) (a_node s.number ∷ []) gone))
+
+pub gone_none : (way : List Step) (end : ℕ) (gone : List Rec) → gone_with way end end gone ≡ gone
+gone_none way end gone =
+    let zero : end + 0 ≡ end = omega arith in
+    ap (λ z. map (λ (s : Step). a_node s.number) z ++ gone) (ap (λ n. drop end (take n way)) (sym zero) ∙ drop-take end 0 way)
+
+-- the end of the way up, and one level of it
+pub up_end : (table : TableView) (a : SeatView) (made : List Rec) (way : List Step) (key : Key) (end level number : ℕ) (risen : Risen) → level ≡ end → (up : IsUp table a made way key end level risen) → number ≡ up.step.number →
+    IsRisenAt table a made number risen
+up_end table a made way key end level number risen same up is =
+    subst (λ n. IsRisenAt table a made n risen) (sym is)
+    (record { news = up.news; gone = up.gone; since = up.since; item = up.item; mismatch = up.mismatch; like = up.like; words = up.words; locked = up.locked; raising = up.raising })
+
+pub up_done : {G : Type 0} (table : TableView) (becomes : G → Event → G → Type 0) (a m c : SeatView × G) (made : List Rec) (way : List Step) (since : ℕ) (x : Item) (p : ℕ) (l : Key) (end above level : ℕ) (gone : List Rec) (s : Step) →
+    above + 1 ≡ level → end ≤ above → slice_get way above ≡ Some s → GoesOn table becomes a m → (answer : Option Entry) →
+    MatchOption answer (HasNotMade table m.0 c.0 made) (HasRisenTo table c.0 made way since x p l end (gone_with way end above (a_node s.number ∷ gone))) →
+    MatchOption answer (HasNotMade table a.0 c.0 made) (HasRisenTo table c.0 made way since x p l end (gone_with way end level gone))
+up_done table becomes a m c made way since x p l end above level gone s next upto at goes None answer = not_made_since table becomes a m c made goes answer
+up_done table becomes a m c made way since x p l end above level gone s next upto at goes (Some e) answer =
+    subst (λ g. HasRisenTo table c.0 made way since x p l end g e) (gone_more way end above level gone s next upto at) answer

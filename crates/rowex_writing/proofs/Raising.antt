@@ -35,7 +35,7 @@ use Rattle.rowex_rights.proofs.Rising.{rises_copied, rises_halved, rise_whole}
 use Rattle.rowex_writing.specs.Building.{IsHalfMade, IsMadeFrom}
 
 -- a half that was made is a side
-side_made : (old e : Entry) (half : Half) (part : Page) (news : List Made) → HalfShows half part → IsHalfMade old half e news → IsSide part e news
+pub side_made : (old e : Entry) (half : Half) (part : Page) (news : List Made) → HalfShows half part → IsHalfMade old half e news → IsSide part e news
 side_made old e (One alone) part news shows (is, none) =
     subst (IsSide part e) (sym none) (one e (shows.0 ∙ ap (λ z. let x : Page = Place z in x) (sym is)))
 side_made old e (Many view) part news shows (m, is, made, has) =

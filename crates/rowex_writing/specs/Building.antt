@@ -1,5 +1,5 @@
 -- Records made for what a node becomes.
-use Rattle.std.specs.Prelude.{◌≡◌, ◌<◌, ◌≤◌, ℕ, List, [], ◌∷◌, ◌++◌, reverse}
+use Rattle.std.specs.Prelude.{◌≡◌, ◌<◌, ◌≤◌, ◌+◌, ℕ, List, [], ◌∷◌, ◌++◌, map, drop, take, slice_get, Some, reverse, Bool, if◌then◌else◌}
 use Rattle.compound_node.specs.Nodes.{height_of}
 use Rattle.compound_node.specs.declared.entries.Entry.{Entry}
 use Rattle.compound_node.specs.declared.entries.Entry.TheVariants.{Node}
@@ -7,11 +7,16 @@ use Rattle.compound_node.specs.declared.halves.Half.{Half}
 use Rattle.compound_node.specs.declared.halves.Half.TheVariants.{One, Many, Same}
 use Rattle.insert_cases.specs.declared.growth.Grown.{Grown}
 use Rattle.insert_cases.specs.declared.growth.Grown.TheVariants.{One as Single, Two}
+use Rattle.insert_cases.specs.Risen.{page_of}
 use Rattle.insert_cases.specs.declared.raising.Risen.{Risen}
 use Rattle.insert_cases.specs.declared.raising.Risen.TheVariants.{Whole, Split}
-use Rattle.pieces.specs.Piece.{Place, Fork}
+use Rattle.pieces.specs.Piece.{Place, Fork, size}
+use Rattle.insert_cases.specs.declared.choice.Step.{Step}
+use Rattle.moments.specs.Trades.{IsOf}
+use Rattle.rowex_core.specs.declared.known.Locked.{Locked}
 use Rattle.record_words.specs.Node.{HasNodeWords}
 use Rattle.tries.specs.Content.{Item}
+use Rattle.tries.specs.Affected.{page_affected, IsPartPage}
 use Rattle.tries.specs.Keys.{Key}
 use Rattle.tries.specs.Tree.{Page}
 use Rattle.rowex_walks.specs.Rise.{Side, entry}
@@ -22,8 +27,10 @@ use Rattle.rowex_table.specs.Made.{Made, recs_of, HoldsMade}
 use Rattle.rowex_table.specs.Seats.{TableView, SeatView, IsSeatOf}
 use Rattle.rowex_records.specs.Claims.{AllMissed}
 use Rattle.rowex_reading.specs.Possible.{IsPossible}
-use Rattle.rowex_rights.specs.Rises.{of_view}
+use Rattle.rowex_rights.specs.Rises.{of_view, of_leaf, HasFoundBelow}
 use Rattle.rowex_rights.specs.Stages.{HasLeaf, HasRisen, IsAbove}
+use Rattle.rowex_writing.specs.Going.{HasLocked}
+use Rattle.rowex_writing.specs.Remaking.{AffectsJust}
 
 -- each of the records spells a value
 abbrev pub ArePacked : List Made → Type 0
@@ -92,3 +99,71 @@ IsLowRisen height (Split position zero one) = (height_of zero ≤ height) × (he
 abbrev pub IsSplit : Risen → Type 0
 IsSplit (Whole e) = ⊥
 IsSplit (Split position zero one) = Unit {0}
+
+-- ---- at the lower end
+-- The leaf of x is made and nothing else, and the locked node is where it goes: beside these entries.
+pub record IsLowest (table : TableView) (a : SeatView) (made : List Rec) (key : Key) (number position first last leaf : ℕ) : Type 0 where
+  pub since : ℕ
+  pub item : Item
+  pub like : Key
+  pub words : List ℕ
+  pub key_is : key ≡ item.key
+  pub leaf_is : leaf ≡ item.number
+  pub building : IsBuilding table a made (of_leaf item ∷ [])
+  pub found : HasFoundBelow a.known a.known.locks since item position like number words
+  pub part : IsPartPage (page_affected position item.key (node_of words).page)
+  pub affects : AffectsJust item.key position first last (node_of words).page
+
+-- the node goes, where it doesn't stay whole
+abbrev pub gone_unless : Bool → ℕ → List Rec
+gone_unless stays n = if stays then [] else a_node n ∷ []
+
+-- ---- at the upper end
+-- What has risen comes in the place of the locked node's entry.
+pub record IsRisenAt (table : TableView) (a : SeatView) (made : List Rec) (number : ℕ) (risen : Risen) : Type 0 where
+  pub news : List Made
+  pub gone : List Rec
+  pub since : ℕ
+  pub item : Item
+  pub mismatch : ℕ
+  pub like : Key
+  pub words : List ℕ
+  pub locked : HasLocked a.known number words
+  pub raising : IsRaising table a made news gone since item mismatch like entry number (page_of risen)
+
+-- ---- a span
+-- Of the locked nodes of the way from `end` to `level` each is named by the one above it, which is higher, and an insertion at p
+-- affects no more than that place; those between the two are full.
+pub record IsChain (nodes : ℕ) (held : List Locked) (way : List Step) (key : Key) (p end level : ℕ) : Type 0 where
+  pub there : (i : ℕ) (s : Step) → i < level → slice_get way i ≡ Some s → s.number < nodes
+  pub above : (i : ℕ) (s u : Step) → end ≤ i → i < level → slice_get way i ≡ Some s → slice_get way (i + 1) ≡ Some u →
+      (over : IsAbove held key p s.number u.number) × ((node_of over.lower).fixed.height < (node_of over.upper).fixed.height)
+  pub full : (i : ℕ) (s : Step) → end < i → i < level → slice_get way i ≡ Some s → (words : List ℕ) → IsOf (record { node = s.number; words = words }) held → size (node_of words).page ≡ 32
+
+-- What has risen comes in the place of the entry of the node at this level, and it is to rise on to `end`.
+pub record IsUp (table : TableView) (a : SeatView) (made : List Rec) (way : List Step) (key : Key) (end level : ℕ) (risen : Risen) : Type 0 where
+  pub news : List Made
+  pub gone : List Rec
+  pub since : ℕ
+  pub item : Item
+  pub mismatch : ℕ
+  pub like : Key
+  pub key_is : key ≡ item.key
+  pub step : Step
+  pub at : slice_get way level ≡ Some step
+  pub upto : end ≤ level
+  pub words : List ℕ
+  pub locked : HasLocked a.known step.number words
+  pub raising : IsRaising table a made news gone since item mismatch like entry step.number (page_of risen)
+  pub low : (other : List ℕ) → HasLocked a.known step.number other → IsLowRisen (node_of other).fixed.height risen
+  pub split : end < level → IsSplit risen
+  pub chain : IsChain table.layout.nodes a.known.locks way item.key mismatch end level
+
+-- the nodes of the way from `end` on, before `level`, go too
+abbrev pub gone_with : List Step → (end level : ℕ) → List Rec → List Rec
+gone_with way end level gone = map (λ (s : Step). a_node s.number) (drop end (take level way)) ++ gone
+
+-- one entry has risen to the place of the entry of the node at `end`
+abbrev pub HasRisenTo : (table : TableView) (a : SeatView) (made : List Rec) (way : List Step) (since : ℕ) (x : Item) (p : ℕ) (l : Key) (end : ℕ) (gone : List Rec) (e : Entry) → Type 0
+HasRisenTo table a made way since x p l end gone e =
+    (news : List Made) × (top : Step) × (slice_get way end ≡ Some top) × IsRaising table a made news gone since x p l entry top.number (Place e)

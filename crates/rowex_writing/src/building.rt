@@ -1,21 +1,28 @@
 //! Records for what takes a node's place.
 
-ghost use Rattle.std.specs.Prelude.{◌≡◌, ◌<◌, ◌≤◌, ◌+◌, ◌++◌, ◌∷◌, List, ℕ, length, IfSome, MatchOption};
+ghost use Rattle.std.specs.Prelude.{◌≡◌, ◌<◌, ◌≤◌, ◌+◌, ◌-◌, ◌*◌, ◌++◌, ◌∷◌, [], List, ℕ, length, IfSome, MatchOption};
 ghost use Rattle.record_words.specs.Node.{HasNodeWords};
 ghost use Rattle.rowex_table.specs.Made.{Made};
-ghost use Rattle.rowex_rights.specs.Rises.{of_view};
-ghost use Rattle.rowex_writing.specs.Building.{IsBelow, IsBuilding, IsHalfMade, IsLowRisen, IsMadeFrom, IsRaising, HasNotMade};
-ghost use Rattle.rowex_writing.specs.Going.{GoesOn, HasLocked};
+ghost use Rattle.rowex_rights.specs.Rises.{of_view, IsSide};
+ghost use Rattle.rowex_writing.specs.Building.{IsBelow, IsBuilding, IsHalfMade, IsLowest, IsLowRisen, IsMadeFrom, IsRaising, IsRisenAt, IsSplit, IsUp, HasNotMade, HasRisenTo, gone_unless, gone_with};
+ghost use Rattle.rowex_writing.specs.Going.{GoesOn, HasLocked, IsLockedBy};
+ghost use Rattle.rowex_writing.specs.Remaking.{IsTreePage};
+ghost use Rattle.compound_node.specs.Nodes.{height_of};
+ghost use Rattle.insert_cases.specs.Grown.{keeps_node, is_same as is_the_same};
+ghost use Rattle.pieces.specs.Piece.{Place as At, size};
+ghost use Rattle.tries.specs.Affected.{page_forked};
+ghost use Rattle.tries.specs.Keys.{bit};
+ghost use Rattle.tries.specs.Place.{page_without};
 ghost use Rattle.insert_cases.specs.Risen.{page_of};
 ghost use Rattle.moments.specs.declared.Rec.TheVariants.{Node as a_node};
 ghost use Rattle.rowex_core.specs.Reading.{node_of};
 ghost use Rattle.rowex_walks.specs.Rise.{entry};
 
 use crate::locked::read_locked;
-use crate::remaking::with_fork;
+use crate::remaking::{pair_with_leaf, with_fork, with_leaf, without_leaf};
 use arrayvec::ArrayVec;
 use compound_node::{Entry, Half, Node};
-use insert_cases::{Grown, Risen};
+use insert_cases::{Grown, Risen, Step};
 use key_bits::Key;
 use rowex_core::{Gate, Rec};
 use rowex_records::{claim_node, fill_node};
@@ -138,6 +145,7 @@ fn raise_level<G: Gate>(
         (HasNotMade table.now seat.old seat.new build.new.made.items)
         (λ risen. (after : List Made) × IsRaising table.now seat.new build.new.made.items after (a_node number ∷ b.gone) b.since b.item b.mismatch b.like entry number (page_of risen)) }
     ensures low { (words : List ℕ) → HasLocked seat.old.known number words → IfSome result (IsLowRisen (node_of words).fixed.height) }
+    ensures split { (words : List ℕ) → HasLocked seat.old.known number words → size (node_of words).page ≡ 32 → IfSome result IsSplit }
     ensures more { length build.new.made.items ≤ length build.old.made.items + 2 }
 {
     let node = read_locked(table, seat, gate, number);
@@ -147,4 +155,178 @@ fn raise_level<G: Gate>(
         height: node.height(),
     };
     make_risen(table, seat, gate, build, old, &grown)
+}
+
+/// What comes in the place of the lowest node, which gets a new leaf; and whether the node stays whole.
+fn raise_lowest<G: Gate>(
+    table: &HotTable,
+    seat: &mut TableSeat,
+    gate: &mut G,
+    build: &mut Build,
+    key: &Key,
+    number: u32,
+    position: u16,
+    first: u8,
+    last: u8,
+    leaf: u32,
+) -> Option<(Risen, bool)>
+    requires range { number < table.now.layout.nodes }
+    requires lowest { IsLowest table.now seat.old build.old.made.items key.now number position first last leaf }
+    requires room { length build.old.made.items + 1 < MOST_MADE }
+    ensures goes { GoesOn table.now G.becomes (seat.old, gate.old) (seat.new, gate.new) }
+    ensures made { (b : IsLowest table.now seat.old build.old.made.items key.now number position first last leaf) → MatchOption result
+        (HasNotMade table.now seat.old seat.new build.new.made.items)
+        (λ r. (after : List Made) × IsRaising table.now seat.new build.new.made.items after (gone_unless r.1 number) b.since b.item position b.like entry number (page_of r.0)) }
+    ensures low { (words : List ℕ) → HasLocked seat.old.known number words → IfSome result (λ r. IsLowRisen (node_of words).fixed.height r.0) }
+    ensures split { (words : List ℕ) → HasLocked seat.old.known number words → size (node_of words).page ≡ 32 → IfSome result (λ r. IsSplit r.0) }
+    ensures more { length build.new.made.items ≤ length build.old.made.items + 2 }
+{
+    let node = read_locked(table, seat, gate, number);
+    let grown = with_leaf(&node, key, position, first, last, leaf);
+    let old = Entry::Node {
+        number,
+        height: node.height(),
+    };
+    let stays = stays_whole(&grown);
+    let risen = make_risen(table, seat, gate, build, old, &grown)?;
+    Some((risen, stays))
+}
+
+/// Whether one half is the old node as it stands.
+fn stays_whole(grown: &Grown) -> bool
+    ensures { result ≡ keeps_node grown.now }
+{
+    match grown {
+        Grown::One(_) => false,
+        Grown::Two(cut) => is_same(&cut.zero) || is_same(&cut.one),
+    }
+}
+
+/// Whether the half is the old node.
+fn is_same(half: &Half) -> bool
+    ensures { result ≡ is_the_same half.now }
+{
+    match half {
+        Half::Same => true,
+        _ => false,
+    }
+}
+
+/// The entry for what is left of a locked node without the leaf to which the key's search leads.
+fn raise_without<G: Gate>(
+    table: &HotTable,
+    seat: &mut TableSeat,
+    gate: &mut G,
+    build: &mut Build,
+    key: &Key,
+    number: u32,
+) -> Option<Entry>
+    requires building { IsBuilding table.now seat.old build.old.made.items [] }
+    requires range { number < table.now.layout.nodes }
+    requires locked { IsLockedBy seat.old.known number }
+    requires room { length build.old.made.items < MOST_MADE }
+    ensures goes { GoesOn table.now G.becomes (seat.old, gate.old) (seat.new, gate.new) }
+    ensures made { (words : List ℕ) → HasLocked seat.old.known number words → MatchOption result
+        (HasNotMade table.now seat.old seat.new build.new.made.items)
+        (λ e. (news : List Made) × IsSide (page_without key.now (node_of words).page) e news × IsBuilding table.now seat.new build.new.made.items news) }
+    ensures low { (words : List ℕ) → HasLocked seat.old.known number words → IfSome result (λ e. height_of e ≤ (node_of words).fixed.height) }
+{
+    let node = read_locked(table, seat, gate, number);
+    let half = without_leaf(&node, key);
+    let old = Entry::Node {
+        number,
+        height: node.height(),
+    };
+    make_half(table, seat, gate, build, old, &half)
+}
+
+/// The entry for a new node of a leaf and the new one.
+fn raise_pair<G: Gate>(
+    table: &HotTable,
+    seat: &mut TableSeat,
+    gate: &mut G,
+    build: &mut Build,
+    key: &Key,
+    position: u16,
+    old: Entry,
+    leaf: u32,
+) -> Option<Entry>
+    requires building { (news : List Made) × IsBuilding table.now seat.old build.old.made.items news }
+    requires tree { IsTreePage (page_forked (bit key.now position) position (Entry.Leaf leaf) (At old)) }
+    requires room { length build.old.made.items < MOST_MADE }
+    ensures goes { GoesOn table.now G.becomes (seat.old, gate.old) (seat.new, gate.new) }
+    ensures made { (news : List Made) → IsBuilding table.now seat.old build.old.made.items news → MatchOption result
+        (HasNotMade table.now seat.old seat.new build.new.made.items)
+        (λ e. (more : List Made) × IsSide (page_forked (bit key.now position) position (Entry.Leaf leaf) (At old)) e more ×
+        IsBuilding table.now seat.new build.new.made.items (more ++ news)) }
+{
+    let node = pair_with_leaf(key, position, old, leaf);
+    make_node(table, seat, gate, build, &node)
+}
+
+/// The one entry for what has risen: a fork of two gets a node of its own.
+fn settle<G: Gate>(
+    table: &HotTable,
+    seat: &mut TableSeat,
+    gate: &mut G,
+    build: &mut Build,
+    number: u32,
+    risen: Risen,
+) -> Option<Entry>
+    requires risen { IsRisenAt table.now seat.old build.old.made.items number risen }
+    requires room { length build.old.made.items < MOST_MADE }
+    ensures goes { GoesOn table.now G.becomes (seat.old, gate.old) (seat.new, gate.new) }
+    ensures made { (b : IsRisenAt table.now seat.old build.old.made.items number risen) → MatchOption result
+        (HasNotMade table.now seat.old seat.new build.new.made.items)
+        (λ e. (after : List Made) × IsRaising table.now seat.new build.new.made.items after b.gone b.since b.item b.mismatch b.like entry number (At e)) }
+    ensures more { length build.new.made.items ≤ length build.old.made.items + 1 }
+{
+    match risen {
+        Risen::Whole(entry) => Some(entry),
+        Risen::Split {
+            position,
+            zero,
+            one,
+        } => {
+            let node = Node::pair(position, zero, one);
+            make_node(table, seat, gate, build, &node)
+        }
+    }
+}
+
+/// The one entry that comes in the place of the node at `end`, when this has risen to the node at `level`.
+fn raise_on<G: Gate>(
+    table: &HotTable,
+    seat: &mut TableSeat,
+    gate: &mut G,
+    build: &mut Build,
+    key: &Key,
+    way: &[Step],
+    end: usize,
+    level: usize,
+    risen: Risen,
+) -> Option<Entry>
+    requires up { IsUp table.now seat.old build.old.made.items way.now key.now end level risen }
+    requires room { length build.old.made.items + 2 * (level - end) < MOST_MADE }
+    ensures goes { GoesOn table.now G.becomes (seat.old, gate.old) (seat.new, gate.new) }
+    ensures made { (b : IsUp table.now seat.old build.old.made.items way.now key.now end level risen) → MatchOption result
+        (HasNotMade table.now seat.old seat.new build.new.made.items)
+        (HasRisenTo table.now seat.new build.new.made.items way.now b.since b.item b.mismatch b.like end (gone_with way.now end level b.gone)) }
+{
+    if level == end {
+        return settle(table, seat, gate, build, way[level].number, risen);
+    }
+    match risen {
+        Risen::Whole(_) => unreachable!(),
+        Risen::Split {
+            position,
+            zero,
+            one,
+        } => {
+            let above = level - 1;
+            let number = way[above].number;
+            let next = raise_level(table, seat, gate, build, key, number, position, zero, one)?;
+            raise_on(table, seat, gate, build, key, way, end, above, next)
+        }
+    }
 }

@@ -1,0 +1,25 @@
+-- An entry is its own; a fork gets a node.
+use Rattle.std.proofs.Common.{◌≡◌, arith}
+use Rattle.rowex_writing.proofs.Lifting.{settle_owed, settled, settled_whole}
+use Rattle.rowex_writing.proofs.building.settle.Goals as goal
+
+pub pair-node-requires-clause-below : goal.pair-node-requires-clause-below
+pair-node-requires-clause-below g c =
+    let h = (settle_owed c.args.table.now c.args.seat.now c.args.build.now.made.items c.args.number c.in-Split.position c.in-Split.zero c.in-Split.one c.args.risen c.in-Split.is c.requires.risen).position in omega arith
+
+pub pair-node-requires-clause-zero : goal.pair-node-requires-clause-zero
+pair-node-requires-clause-zero g c = (settle_owed c.args.table.now c.args.seat.now c.args.build.now.made.items c.args.number c.in-Split.position c.in-Split.zero c.in-Split.one c.args.risen c.in-Split.is c.requires.risen).zero
+
+pub pair-node-requires-clause-one : goal.pair-node-requires-clause-one
+pair-node-requires-clause-one g c = (settle_owed c.args.table.now c.args.seat.now c.args.build.now.made.items c.args.number c.in-Split.position c.in-Split.zero c.in-Split.one c.args.risen c.in-Split.is c.requires.risen).one
+
+pub make_node-requires-clause-building : goal.make_node-requires-clause-building
+make_node-requires-clause-building g c = (c.requires.risen.news, c.requires.risen.raising.building)
+
+pub returns-in-Whole-clause-made : goal.returns-in-Whole-clause-made
+returns-in-Whole-clause-made g c = λ b. settled_whole c.args.table.now c.args.seat.now c.args.build.now.made.items c.args.number c.in-Whole.entry c.args.risen c.in-Whole.is b
+
+pub returns-in-Split-clause-made : goal.returns-in-Split-clause-made
+returns-in-Split-clause-made g c = λ b.
+    settled c.args.table.now g.G.Gate.becomes (c.args.seat.now, c.args.gate.now) (c.make_node.new.seat, c.make_node.new.gate) c.args.build.now.made.items c.make_node.new.build.made.items c.args.number c.in-Split.position c.in-Split.zero c.in-Split.one c.args.risen c.in-Split.is
+    b c.pair-node.result c.pair-node.ensures c.make_node.ensures.goes c.make_node.result (c.make_node.ensures.made b.news b.raising.building)
