@@ -1,13 +1,11 @@
 -- How a scan ends: its pass clears the pin, and adds no note.
-use Rattle.std.specs.Prelude.{IsSome, IfOk, OnErr, Option, Result, Ok, Err}
+use Rattle.std.specs.Prelude.{IsSome, IfOk, OnErr, Result, Ok, Err}
 use Rattle.std.specs.declared.alloc.AllocError.{AllocError}
-use Rattle.std.proofs.lemmas.Bool.{false≢true}
-use Rattle.std.proofs.Common.{◌≡◌, ℕ, ◌+◌, ◌≤◌, List, [], ◌++◌, Bool, true, false, Some, None, refl, sym, ap, subst, ◌∙◌, arith, le_refl}
+use Rattle.std.proofs.Common.{◌≡◌, ℕ, List, [], ◌++◌, Bool, true, false, Some, refl, sym, ap, subst, ◌∙◌, le_refl}
 use Rattle.std.proofs.lemmas.List.{append-nil}
 use Rattle.hot_model.specs.declared.Change.{Change}
 use Rattle.hot_model.specs.declared.Note.{Note}
 use Rattle.hot_model.specs.declared.Scan.{Scan}
-use Rattle.hot_model.specs.Fronts.{BeginsWith, OthersGoOn}
 use Rattle.hot_model.specs.Calls.{LegalCalls}
 use Rattle.hot_model.specs.Scans.{IsLawfulScan}
 use Rattle.hot_model.proofs.Legal.{legal_longer}

@@ -1,15 +1,15 @@
 -- The steps of a call, and what its gate was told.
-use Rattle.std.proofs.Common.{◌≡◌, ℕ, ◌+◌, List, [], ◌∷◌, ◌++◌, refl, sym, ap, subst}
+use Rattle.std.proofs.Common.{ℕ, List, [], ◌∷◌, ◌++◌, refl, sym, ap, subst}
 use Rattle.hot_model.specs.declared.Note.{Note}
 use Rattle.rowex_core.specs.declared.event.Act.{Act}
 use Rattle.rowex_core.specs.declared.event.Act.TheVariants.{ClearPin, LoadEpoch, LoadRef, SetPin}
 use Rattle.rowex_core.specs.declared.event.Event.{Event}
 use Rattle.rowex_core.specs.declared.event.Spot.TheVariants.{Root}
 use Rattle.rowex_core.specs.declared.known.Known.{Known}
-use Rattle.rowex_table.specs.Runs.{Does, Ends, IsTold, Runs, StepsWith, events_of}
+use Rattle.rowex_table.specs.Runs.{Ends, IsTold, Runs, StepsWith, events_of}
 use Rattle.rowex_table.specs.Seats.{TableView, SeatView}
 use Rattle.rowex_table.proofs.Running.{ends_told, runs_append}
-use Rattle.epochs.specs.Rounds.{IsRound, advance_steps}
+use Rattle.epochs.specs.Rounds.{advance_steps}
 use Rattle.epochs.specs.Runs.{Pins}
 use Rattle.rowex_reading.specs.Reads.{Looks}
 use Rattle.hot_index.specs.Passes.{PassView, pass_of}

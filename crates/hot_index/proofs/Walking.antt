@@ -9,16 +9,15 @@ use Rattle.compound_node.specs.declared.entries.Entry.TheVariants.{Leaf, Node}
 use Rattle.pieces.specs.Piece.{size}
 use Rattle.pieces.proofs.Paths.{length-places}
 use Rattle.tries.specs.Keys.{Key, bit, IsBefore, IsAtMost}
-use Rattle.tries.specs.Tree.{Page}
 use Rattle.moments.specs.State.{Past, IsSteady}
 use Rattle.rowex_core.specs.declared.known.Known.{Known}
 use Rattle.rowex_core.specs.Cores.{Core, IsLawful}
 use Rattle.rowex_core.specs.Knowing.{Recalls}
-use Rattle.rowex_walks.specs.Scan.{Pair, Range, IsScan, IsRooted, IsPlaced, IsShaped, IsRead, IsSeen, IsBlank, IsStart, Fits, IsReached, placed, further, turned, next, remaining, rest_after, Frame as Stage}
+use Rattle.rowex_walks.specs.Scan.{Pair, Range, IsScan, IsRooted, IsPlaced, IsRead, IsSeen, IsBlank, IsStart, Fits, IsReached, placed, further, turned, next, remaining, rest_after, Frame as Stage}
 use Rattle.rowex_walks.proofs.Scans.{never_before, before_most, fit_first}
 use Rattle.rowex_walks.proofs.Walk.{stack_shape, scan_begin, scan_push, scan_pop, scan_end, scan_skip, scan_take, scan_past, scan_cut}
 use Rattle.rowex_walks.proofs.Ends.{scan_blank, scan_one, scan_nought, scan_outside, stack_seen}
-use Rattle.rowex_walks.proofs.Loads.{placed_seen, rooted_seen}
+use Rattle.rowex_walks.proofs.Loads.{placed_seen}
 use Rattle.rowex_walks.proofs.Persist.{rooted_on, placed_on, scan_on, reached_on, start_on}
 use Rattle.rowex_walks.proofs.Measure.{push_less, next_less, pop_less}
 use Rattle.hot_index.specs.declared.scanning.Frame.{Frame}
@@ -27,7 +26,7 @@ use Rattle.hot_index.specs.declared.scanning.Verdict.TheVariants.{Further, Past 
 use Rattle.rowex_reading.specs.Seen.{seen, Sure, IsLater, IsAtRoot, IsSince, IsLedTo, HasPlace, HasShape, since, shape_of}
 use Rattle.hot_index.specs.Scanning.{HasScanned, IsAnswer, IsTaken, frame, frames_of, IsEntered, AreInside, IsWalk, rest_of_frames, rest_of}
 use Rattle.rowex_reading.proofs.Led.{shape_place}
-use Rattle.rowex_reading.proofs.Seeing.{recalls_before, seen_grown, seen_steady, since_later, sure_later, seen_stable, shaped_stable}
+use Rattle.rowex_reading.proofs.Seeing.{recalls_before, seen_grown, seen_steady, since_later}
 
 -- Keys
 

@@ -1,5 +1,5 @@
 -- The steps of the walk.
-use Rattle.std.proofs.Common.{rules, ◌+◌, ◌<◌, ◌∙◌, ap, refl, subst, length, arith}
+use Rattle.std.proofs.Common.{◌+◌, refl, arith}
 use Rattle.compound_node.specs.declared.entries.Entry.TheVariants.{Leaf, Node}
 use Rattle.hot_index.specs.declared.scanning.Verdict.TheVariants.{Further, Past, Full}
 use Rattle.record_words.specs.declared.TheConstants.{LEAF_FIELDS}
