@@ -369,11 +369,20 @@ gone_none way end gone =
     ap (λ z. map (λ (s : Step). a_node s.number) z ++ gone) (ap (λ n. drop end (take n way)) (sym zero) ∙ drop-take end 0 way)
 
 -- the end of the way up, and one level of it
-pub up_end : (table : TableView) (a : SeatView) (made : List Rec) (way : List Step) (key : Key) (end level number : ℕ) (risen : Risen) → level ≡ end → (up : IsUp table a made way key end level risen) → number ≡ up.step.number →
+abbrev pub up_end : (table : TableView) (a : SeatView) (made : List Rec) (way : List Step) (key : Key) (end level number : ℕ) (risen : Risen) → level ≡ end → (up : IsUp table a made way key end level risen) → number ≡ up.step.number →
     IsRisenAt table a made number risen
 up_end table a made way key end level number risen same up is =
-    subst (λ n. IsRisenAt table a made n risen) (sym is)
-    (record { news = up.news; gone = up.gone; since = up.since; item = up.item; mismatch = up.mismatch; like = up.like; words = up.words; locked = up.locked; raising = up.raising })
+    record {
+      news = up.news;
+      gone = up.gone;
+      since = up.since;
+      item = up.item;
+      mismatch = up.mismatch;
+      like = up.like;
+      words = up.words;
+      locked = subst (λ n. HasLocked a.known n up.words) (sym is) up.locked;
+      raising = subst (λ n. IsRaising table a made up.news up.gone up.since up.item up.mismatch up.like entry n (page_of risen)) (sym is) up.raising;
+    }
 
 pub up_done : {G : Type 0} (table : TableView) (becomes : G → Event → G → Type 0) (a m c : SeatView × G) (made : List Rec) (way : List Step) (since : ℕ) (x : Item) (p : ℕ) (l : Key) (end above level : ℕ) (gone : List Rec) (s : Step) →
     above + 1 ≡ level → end ≤ above → slice_get way above ≡ Some s → GoesOn table becomes a m → (answer : Option Entry) →
@@ -382,3 +391,16 @@ pub up_done : {G : Type 0} (table : TableView) (becomes : G → Event → G → 
 up_done table becomes a m c made way since x p l end above level gone s next upto at goes None answer = not_made_since table becomes a m c made goes answer
 up_done table becomes a m c made way since x p l end above level gone s next upto at goes (Some e) answer =
     subst (λ g. HasRisenTo table c.0 made way since x p l end g e) (gone_more way end above level gone s next upto at) answer
+
+pub settled_up : (table : TableView) (a c : SeatView) (made after_made : List Rec) (way : List Step) (key : Key) (end level number : ℕ) (risen : Risen) (same : level ≡ end) (up : IsUp table a made way key end level risen) (is : number ≡ up.step.number) → (answer : Option Entry) →
+    MatchOption answer (HasNotMade table a c after_made) (λ e. (after : List Made) × IsRaising table c after_made after up.gone up.since up.item up.mismatch up.like entry number (Place e)) →
+    MatchOption answer (HasNotMade table a c after_made) (HasRisenTo table c after_made way up.since up.item up.mismatch up.like end (gone_with way end level up.gone))
+settled_up table a c made after_made way key end level number risen same up is None answer = answer
+settled_up table a c made after_made way key end level number risen same up is (Some e) (after, raising) =
+    let gone : gone_with way end level up.gone ≡ up.gone = ap (λ n. gone_with way end n up.gone) same ∙ gone_none way end up.gone in (
+      after,
+      up.step,
+      ap (slice_get way) (sym same) ∙ up.at,
+      subst (λ n. IsRaising table c after_made after (gone_with way end level up.gone) up.since up.item up.mismatch up.like entry n (Place e)) is
+          (subst (λ y. IsRaising table c after_made after y up.since up.item up.mismatch up.like entry number (Place e)) (sym gone) raising),
+    )

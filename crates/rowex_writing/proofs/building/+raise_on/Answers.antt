@@ -1,0 +1,100 @@
+-- One level, and then the rest of the way up.
+use Rattle.std.proofs.Common.{◌≡◌, ◌≢◌, ◌⊎◌, ℕ, ◌+◌, ◌-◌, ◌<◌, ◌≤◌, List, length, get_or, refl, sym, ap, ◌∙◌, subst, arith, rules, Some}
+use Rattle.std.specs.Prelude.{slice_get, MatchOption}
+use Rattle.std.proofs.lemmas.Option.{slice_get-get_or, slice_get_within, get_or_from_slice_get}
+use Rattle.insert_cases.specs.declared.choice.Step.{Step}
+use Rattle.insert_cases.specs.declared.raising.Risen.{Risen}
+use Rattle.rowex_table.specs.Seats.{TableView, SeatView}
+use Rattle.moments.specs.declared.Rec.{Rec}
+use Rattle.tries.specs.Keys.{Key}
+use Rattle.rowex_writing.specs.Building.{IsUp, IsBelow, HasRisenTo, HasNotMade, gone_with}
+use Rattle.rowex_writing.proofs.Locking.{goes_more}
+use Rattle.rowex_writing.proofs.Lifting.{up_there, up_below, up_next, up_end, settled_up, up_done, gone_none}
+use Rattle.rowex_writing.proofs.building.+raise_on.Goals as goal
+
+abbrev no_step : Step
+no_step = record { number = 0; height = 0; first_position = 0; count = 0; at = 0 }
+
+abbrev step_at : List Step → ℕ → Step
+step_at way i = get_or way i no_step
+
+-- a step above another one
+within : (way : List Step) (level end : ℕ) (s : Step) → slice_get way level ≡ Some s → level - 1 < length way
+within way level end s at = let h = slice_get_within way level s at in omega arith
+
+there : (way : List Step) (level end : ℕ) (s : Step) → slice_get way level ≡ Some s → slice_get way (level - 1) ≡ Some (step_at way (level - 1))
+there way level end s at = slice_get-get_or way (level - 1) no_step (within way level end s at)
+
+next : (level end : ℕ) → level ≢ end → end ≤ level → level - 1 + 1 ≡ level
+next level end ne le = omega (arith, ne)
+
+upto : (level end : ℕ) → level ≢ end → end ≤ level → end ≤ level - 1
+upto level end ne le = omega (arith, ne)
+
+pub settle-requires-clause-risen : goal.settle-requires-clause-risen
+settle-requires-clause-risen g t c =
+    let up = c.requires.up in
+    up_end c.args.table.now c.args.seat.now c.args.build.now.made.items c.args.way.now c.args.key.now c.args.end c.args.level _ c.args.risen c.if-level-end.true up
+    (ap (λ (z : Step). z.number) (get_or_from_slice_get c.args.way.now c.args.level up.step no_step up.at))
+
+pub returns-then-level-end-clause-made : goal.returns-then-level-end-clause-made
+returns-then-level-end-clause-made g t c = λ b.
+    settled_up c.args.table.now c.args.seat.now c.settle.new.seat c.args.build.now.made.items c.settle.new.build.made.items c.args.way.now c.args.key.now c.args.end c.args.level _ c.args.risen c.if-level-end.true b
+    (ap (λ (z : Step). z.number) (get_or_from_slice_get c.args.way.now c.args.level b.step no_step b.at)) c.settle.result
+    (c.settle.ensures.made (up_end c.args.table.now c.args.seat.now c.args.build.now.made.items c.args.way.now c.args.key.now c.args.end c.args.level _ c.args.risen c.if-level-end.true b
+    (ap (λ (z : Step). z.number) (get_or_from_slice_get c.args.way.now c.args.level b.step no_step b.at))))
+
+pub offset_bounds-way-above : goal.offset_bounds-way-above
+offset_bounds-way-above g t c = let h = within c.args.way.now c.args.level c.args.end c.requires.up.step c.requires.up.at in search (rules, h)
+
+pub bounds-way-above : goal.bounds-way-above
+bounds-way-above g t c = within c.args.way.now c.args.level c.args.end c.requires.up.step c.requires.up.at
+
+pub raise_level-requires-clause-range : goal.raise_level-requires-clause-range
+raise_level-requires-clause-range g t c =
+    let up = c.requires.up in
+    up_there c.args.table.now c.args.seat.now c.args.build.now.made.items c.args.way.now c.args.key.now c.args.end c.args.level c.args.risen up (c.args.level - 1)
+    (next c.args.level c.args.end c.if-level-end.false up.upto) (upto c.args.level c.args.end c.if-level-end.false up.upto) (step_at c.args.way.now (c.args.level - 1)) (there c.args.way.now c.args.level c.args.end up.step up.at)
+
+pub raise_level-requires-clause-below : goal.raise_level-requires-clause-below
+raise_level-requires-clause-below g t c =
+    let up = c.requires.up in
+    up_below c.args.table.now c.args.seat.now c.args.build.now.made.items c.args.way.now c.args.key.now c.args.end c.args.level c.args.risen up (c.args.level - 1)
+    (next c.args.level c.args.end c.if-level-end.false up.upto) (upto c.args.level c.args.end c.if-level-end.false up.upto) (step_at c.args.way.now (c.args.level - 1)) (there c.args.way.now c.args.level c.args.end up.step up.at) c.in-Split.position c.in-Split.zero c.in-Split.one c.in-Split.is
+
+pub returns-in_err-next-in-Split-clause-made : goal.returns-in_err-next-in-Split-clause-made
+returns-in_err-next-in-Split-clause-made g t c = λ up. rw c.from_residual.ensures
+    (c.in_err-next-in-Split.ensures.made (up_below c.args.table.now c.args.seat.now c.args.build.now.made.items c.args.way.now c.args.key.now c.args.end c.args.level c.args.risen up (c.args.level - 1)
+    (next c.args.level c.args.end c.if-level-end.false up.upto) (upto c.args.level c.args.end c.if-level-end.false up.upto) (step_at c.args.way.now (c.args.level - 1)) (there c.args.way.now c.args.level c.args.end up.step up.at) c.in-Split.position c.in-Split.zero c.in-Split.one c.in-Split.is))
+
+pub raise_on-requires : goal.raise_on-requires
+raise_on-requires g t c =
+    let fewer = next c.args.level c.args.end c.if-level-end.false c.requires.up.upto in
+    let least = upto c.args.level c.args.end c.if-level-end.false c.requires.up.upto in
+    let up = c.requires.up in
+    let (after, raising) = c.in_ok-next-in-Split.ensures.made (up_below c.args.table.now c.args.seat.now c.args.build.now.made.items c.args.way.now c.args.key.now c.args.end c.args.level c.args.risen up (c.args.level - 1)
+    (next c.args.level c.args.end c.if-level-end.false up.upto) (upto c.args.level c.args.end c.if-level-end.false up.upto) (step_at c.args.way.now (c.args.level - 1)) (there c.args.way.now c.args.level c.args.end up.step up.at) c.in-Split.position c.in-Split.zero c.in-Split.one c.in-Split.is) in
+    λ κs le. (
+      omega (arith, c.decreases),
+      (
+        le,
+        (
+          up_next c.args.table.now c.args.seat.now c.args.build.now.made.items c.args.way.now c.args.key.now c.args.end c.args.level c.args.risen up (c.args.level - 1)
+              (next c.args.level c.args.end c.if-level-end.false up.upto) (upto c.args.level c.args.end c.if-level-end.false up.upto) (step_at c.args.way.now (c.args.level - 1)) (there c.args.way.now c.args.level c.args.end up.step up.at) c.raise_level.new.seat c.raise_level.new.build.made.items c.in_ok-next-in-Split.next c.in_ok-next-in-Split.ensures.goes.stays.1 after raising c.in_ok-next-in-Split.ensures.low c.in_ok-next-in-Split.ensures.split,
+          omega (arith, c.requires.room, c.in_ok-next-in-Split.ensures.more),
+        ),
+      ),
+    )
+
+pub returns-clause-goes : goal.returns-clause-goes
+returns-clause-goes g t c = goes_more c.args.table.now g.G.Gate.becomes _ _ _ c.in_ok-next-in-Split.ensures.goes c.raise_on.ensures.goes
+
+pub returns-clause-made : goal.returns-clause-made
+returns-clause-made g t c = λ up.
+    let (after, raising) = c.in_ok-next-in-Split.ensures.made (up_below c.args.table.now c.args.seat.now c.args.build.now.made.items c.args.way.now c.args.key.now c.args.end c.args.level c.args.risen up (c.args.level - 1)
+    (next c.args.level c.args.end c.if-level-end.false up.upto) (upto c.args.level c.args.end c.if-level-end.false up.upto) (step_at c.args.way.now (c.args.level - 1)) (there c.args.way.now c.args.level c.args.end up.step up.at) c.in-Split.position c.in-Split.zero c.in-Split.one c.in-Split.is) in
+    up_done c.args.table.now g.G.Gate.becomes (c.args.seat.now, c.args.gate.now) (c.raise_level.new.seat, c.raise_level.new.gate) (c.raise_on.new.seat, c.raise_on.new.gate) c.raise_on.new.build.made.items c.args.way.now up.since up.item up.mismatch up.like c.args.end
+    (c.args.level - 1) c.args.level up.gone (step_at c.args.way.now (c.args.level - 1)) (next c.args.level c.args.end c.if-level-end.false up.upto) (upto c.args.level c.args.end c.if-level-end.false up.upto)
+    (there c.args.way.now c.args.level c.args.end up.step up.at) c.in_ok-next-in-Split.ensures.goes c.raise_on.result
+    (c.raise_on.ensures.made (up_next c.args.table.now c.args.seat.now c.args.build.now.made.items c.args.way.now c.args.key.now c.args.end c.args.level c.args.risen up (c.args.level - 1)
+    (next c.args.level c.args.end c.if-level-end.false up.upto) (upto c.args.level c.args.end c.if-level-end.false up.upto) (step_at c.args.way.now (c.args.level - 1)) (there c.args.way.now c.args.level c.args.end up.step up.at) c.raise_level.new.seat c.raise_level.new.build.made.items c.in_ok-next-in-Split.next c.in_ok-next-in-Split.ensures.goes.stays.1 after raising c.in_ok-next-in-Split.ensures.low c.in_ok-next-in-Split.ensures.split))
