@@ -37,8 +37,8 @@ use Rattle.rowex_table.specs.Made.{Made}
 use Rattle.rowex_table.specs.Seats.{TableView, SeatView}
 use Rattle.rowex_rights.specs.Stages.{HasLeaf, HasRisen, IsAbove}
 use Rattle.rowex_rights.proofs.Rising.{risen_stays, rises_pulled, rises_wrapped, rise_grows}
-use Rattle.rowex_rights.specs.Rises.{of_view, of_leaf, IsSide, anew}
-use Rattle.rowex_writing.specs.Building.{IsBuilding, IsHalfMade, IsMadeFrom, IsRaising, IsBelow, IsLowest, IsLowRisen, IsRisenAt, IsSplit, IsChain, IsUp, HasNotMade, HasRisenTo, gone_unless, gone_with}
+use Rattle.rowex_rights.specs.Rises.{of_view, of_leaf, IsSide, anew, HasFoundBelow}
+use Rattle.rowex_writing.specs.Building.{IsBuilding, IsHalfMade, IsMadeFrom, IsRaising, IsBelow, IsLowest, IsLowRisen, IsRisenAt, IsSplit, IsChain, IsUp, IsGrowing, HasNotMade, HasRisenTo, gone_unless, gone_with}
 use Rattle.rowex_writing.specs.Going.{GoesOn, ReadsOn, HasLocked, IsNodeOf}
 use Rattle.rowex_writing.specs.Remaking.{IsTreePage, AffectsJust, IsLowHalf, IsNoHigher}
 use Rattle.rowex_writing.proofs.Making.{building_on, not_made_since}
@@ -404,3 +404,42 @@ settled_up table a c made after_made way key end level number risen same up is (
       subst (λ n. IsRaising table c after_made after (gone_with way end level up.gone) up.since up.item up.mismatch up.like entry n (Place e)) is
           (subst (λ y. IsRaising table c after_made after y up.since up.item up.mismatch up.like entry number (Place e)) (sym gone) raising),
     )
+
+-- ---- all of a span
+module _ (table : TableView) (a : SeatView) (made : List Rec) (way : List Step) (key : Key) (end top position first last leaf : ℕ) (b : IsGrowing table a made way key end top position first last leaf) (number : ℕ) (is : number ≡ b.step.number) where
+  abbrev pub low_at : IsLowest table a made key number position first last leaf
+  low_at = record {
+    since = b.lowest.since;
+    item = b.lowest.item;
+    like = b.lowest.like;
+    words = b.lowest.words;
+    key_is = b.lowest.key_is;
+    leaf_is = b.lowest.leaf_is;
+    building = b.lowest.building;
+    found = subst (λ n. HasFoundBelow a.known a.known.locks b.lowest.since b.lowest.item position b.lowest.like n b.lowest.words) (sym is) b.lowest.found;
+    part = b.lowest.part;
+    affects = b.lowest.affects;
+  }
+
+  abbrev pub up_first : (m : SeatView) (made_then : List Rec) (then : Risen) (stays : Bool) → m.known.locks ≡ a.known.locks → (after : List Made) →
+      IsRaising table m made_then after (gone_unless stays number) b.lowest.since b.lowest.item position b.lowest.like entry number (page_of then) →
+      ((words : List ℕ) → HasLocked a.known number words → IsLowRisen (node_of words).fixed.height then) → ((words : List ℕ) → HasLocked a.known number words → size (node_of words).page ≡ 32 → IsSplit then) →
+      IsUp table m made_then way key end top then
+  up_first m made_then then stays locks after raising low split = record {
+    news = after;
+    gone = gone_unless stays number;
+    since = b.lowest.since;
+    item = b.lowest.item;
+    mismatch = position;
+    like = b.lowest.like;
+    key_is = b.lowest.key_is;
+    step = b.step;
+    at = b.at;
+    upto = b.upto;
+    words = b.lowest.words;
+    locked = subst (IsOf (record { node = b.step.number; words = b.lowest.words })) (sym locks) b.lowest.found.locked;
+    raising = subst (λ n. IsRaising table m made_then after (gone_unless stays number) b.lowest.since b.lowest.item position b.lowest.like entry n (page_of then)) is raising;
+    low = λ other h. low other (subst (λ n. HasLocked a.known n other) (sym is) (subst (IsOf (record { node = b.step.number; words = other })) locks h));
+    split = λ more. split b.lowest.words (subst (λ n. HasLocked a.known n b.lowest.words) (sym is) b.lowest.found.locked) (b.full more);
+    chain = subst (λ held. IsChain table.layout.nodes held way b.lowest.item.key position end top) (sym locks) b.chain;
+  }

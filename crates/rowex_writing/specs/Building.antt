@@ -167,3 +167,13 @@ gone_with way end level gone = map (λ (s : Step). a_node s.number) (drop end (t
 abbrev pub HasRisenTo : (table : TableView) (a : SeatView) (made : List Rec) (way : List Step) (since : ℕ) (x : Item) (p : ℕ) (l : Key) (end : ℕ) (gone : List Rec) (e : Entry) → Type 0
 HasRisenTo table a made way since x p l end gone e =
     (news : List Made) × (top : Step) × (slice_get way end ≡ Some top) × IsRaising table a made news gone since x p l entry top.number (Place e)
+
+-- The lowest node of the span gets the new leaf, and what comes of it rises to `end`.
+pub record IsGrowing (table : TableView) (a : SeatView) (made : List Rec) (way : List Step) (key : Key) (end top position first last leaf : ℕ) : Type 0 where
+  pub step : Step
+  pub at : slice_get way top ≡ Some step
+  pub upto : end ≤ top
+  pub low : step.number < table.layout.nodes
+  pub lowest : IsLowest table a made key step.number position first last leaf
+  pub full : end < top → size (node_of lowest.words).page ≡ 32
+  pub chain : IsChain table.layout.nodes a.known.locks way lowest.item.key position end top

@@ -4,7 +4,7 @@ ghost use Rattle.std.specs.Prelude.{◌≡◌, ◌<◌, ◌≤◌, ◌+◌, ◌-
 ghost use Rattle.record_words.specs.Node.{HasNodeWords};
 ghost use Rattle.rowex_table.specs.Made.{Made};
 ghost use Rattle.rowex_rights.specs.Rises.{of_view, IsSide};
-ghost use Rattle.rowex_writing.specs.Building.{IsBelow, IsBuilding, IsHalfMade, IsLowest, IsLowRisen, IsMadeFrom, IsRaising, IsRisenAt, IsSplit, IsUp, HasNotMade, HasRisenTo, gone_unless, gone_with};
+ghost use Rattle.rowex_writing.specs.Building.{IsBelow, IsBuilding, IsGrowing, IsHalfMade, IsLowest, IsLowRisen, IsMadeFrom, IsRaising, IsRisenAt, IsSplit, IsUp, HasNotMade, HasRisenTo, gone_unless, gone_with};
 ghost use Rattle.rowex_writing.specs.Going.{GoesOn, HasLocked, IsLockedBy};
 ghost use Rattle.rowex_writing.specs.Remaking.{IsTreePage};
 ghost use Rattle.compound_node.specs.Nodes.{height_of};
@@ -213,7 +213,7 @@ fn is_same(half: &Half) -> bool
 }
 
 /// The entry for what is left of a locked node without the leaf to which the key's search leads.
-fn raise_without<G: Gate>(
+pub fn raise_without<G: Gate>(
     table: &HotTable,
     seat: &mut TableSeat,
     gate: &mut G,
@@ -241,7 +241,7 @@ fn raise_without<G: Gate>(
 }
 
 /// The entry for a new node of a leaf and the new one.
-fn raise_pair<G: Gate>(
+pub fn raise_pair<G: Gate>(
     table: &HotTable,
     seat: &mut TableSeat,
     gate: &mut G,
@@ -329,4 +329,36 @@ fn raise_on<G: Gate>(
             raise_on(table, seat, gate, build, key, way, end, above, next)
         }
     }
+}
+
+/// The one entry that comes in the place of the node at `end` of a way, when the node at `top` gets a new leaf; and whether
+/// that node stays whole.
+pub fn raise_grown<G: Gate>(
+    table: &HotTable,
+    seat: &mut TableSeat,
+    gate: &mut G,
+    build: &mut Build,
+    key: &Key,
+    way: &[Step],
+    end: usize,
+    top: usize,
+    position: u16,
+    first: u8,
+    last: u8,
+    leaf: u32,
+) -> Option<(Entry, bool)>
+    requires growing { IsGrowing table.now seat.old build.old.made.items way.now key.now end top position first last leaf }
+    requires room { length build.old.made.items + 2 * (top - end) + 2 < MOST_MADE }
+    ensures goes { GoesOn table.now G.becomes (seat.old, gate.old) (seat.new, gate.new) }
+    ensures made { (b : IsGrowing table.now seat.old build.old.made.items way.now key.now end top position first last leaf) → MatchOption result
+        (HasNotMade table.now seat.old seat.new build.new.made.items)
+        (λ r. HasRisenTo table.now seat.new build.new.made.items way.now b.lowest.since b.lowest.item position b.lowest.like end
+        (gone_with way.now end top (gone_unless r.1 b.step.number)) r.0) }
+{
+    let number = way[top].number;
+    let (risen, stays) = raise_lowest(
+        table, seat, gate, build, key, number, position, first, last, leaf,
+    )?;
+    let entry = raise_on(table, seat, gate, build, key, way, end, top, risen)?;
+    Some((entry, stays))
 }

@@ -6,7 +6,7 @@ mod locked;
 mod plan;
 mod remaking;
 
-pub use building::{Build, MOST_MADE};
+pub use building::{Build, MOST_MADE, raise_grown, raise_pair, raise_without};
 pub use locked::read_locked;
 pub use plan::{Ask, Deed, Found, Outline, Plan, Span, plan_beside, plan_call};
 pub use remaking::{pair_with_leaf, with_fork, with_leaf, without_leaf};
