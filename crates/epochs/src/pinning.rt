@@ -5,7 +5,7 @@ ghost use Rattle.hot_model.specs.declared.Note.{Note};
 ghost use Rattle.rowex_core.specs.declared.event.Act.TheVariants.{ClearPin};
 ghost use Rattle.rowex_core.specs.declared.known.Known.{Known};
 ghost use Rattle.rowex_table.specs.Runs.{StepsWith};
-ghost use Rattle.rowex_table.specs.Seats.{Fits, IsSeatOf};
+ghost use Rattle.rowex_table.specs.Seats.{IsPassOf, IsSeatOf};
 ghost use Rattle.epochs.specs.Runs.{Pins};
 
 use rowex_core::Gate;
@@ -15,7 +15,7 @@ use rowex_table::{HotTable, TableSeat};
 pub fn pin<G: Gate>(table: &HotTable, seat: &mut TableSeat, gate: &mut G)
     requires own { IsSeatOf table.now seat.old }
     requires free { seat.old.known.pin ≡ None }
-    ensures fits { Fits table.now seat.new }
+    ensures fits { IsPassOf table.now seat.new }
     ensures pinned { IsSome seat.new.known.pin }
     ensures steps { Pins table.now G.becomes (seat.old, gate.old) (seat.new, gate.new) }
 {
@@ -27,7 +27,7 @@ pub fn pin<G: Gate>(table: &HotTable, seat: &mut TableSeat, gate: &mut G)
 /// this step.
 pub fn unpin<G: Gate>(table: &HotTable, seat: &mut TableSeat, gate: &mut G)
     ghost said: { Known → List Note }
-    requires fits { Fits table.now seat.old }
+    requires fits { IsPassOf table.now seat.old }
     requires pinned { IsSome seat.old.known.pin }
     ensures free { seat.new.known.pin ≡ None }
     ensures step { StepsWith table.now G.becomes ClearPin said (seat.old, gate.old) (seat.new, gate.new) }

@@ -4,7 +4,7 @@ use Rattle.std.specs.List.{slice_get}
 use mathlib.Core.Option.{some}
 use lib.ListN.{get_elem?}
 use Rattle.rowex_core.specs.declared.known.Known.{Known}
-use Rattle.rowex_table.specs.Seats.{TableView, SeatView, IsNew}
+use Rattle.rowex_table.specs.Seats.{TableView, SeatView, IsNewSeatOf}
 use Rattle.hot_index.specs.Passes.{Owns, IsNewPass, pass_of}
 
 same : {A : Type 0} (x y : A) → Some x ≡ Some y → x ≡ y
@@ -27,17 +27,17 @@ each_longer P (z ∷ zs) x h p (suc q) y e = each_longer (λ i. P (suc i)) zs x 
 
 -- the seats that are left are of the passes from this one on
 abbrev pub AreFrom : TableView → ℕ → List SeatView → Type 0
-AreFrom table first seats = (q : ℕ) (s : SeatView) → get_elem? seats q ≡ some s → IsNew table (first + q) s
+AreFrom table first seats = (q : ℕ) (s : SeatView) → get_elem? seats q ≡ some s → IsNewSeatOf table (first + q) s
 
-pub all_left : (table : TableView) (first : ℕ) (all seats : List SeatView) → seats ≡ all → first ≡ 0 → ((q : ℕ) (s : SeatView) → get_elem? all q ≡ some s → IsNew table q s) → AreFrom table first seats
-all_left table first all seats same none h q s e = subst (λ i. IsNew table i s) (omega arith) (h q s (subst (λ l. get_elem? l q ≡ some s) same e))
+pub all_left : (table : TableView) (first : ℕ) (all seats : List SeatView) → seats ≡ all → first ≡ 0 → ((q : ℕ) (s : SeatView) → get_elem? all q ≡ some s → IsNewSeatOf table q s) → AreFrom table first seats
+all_left table first all seats same none h q s e = subst (λ i. IsNewSeatOf table i s) (omega arith) (h q s (subst (λ l. get_elem? l q ≡ some s) same e))
 
-pub first_of : (table : TableView) (first : ℕ) (s : SeatView) (seats : List SeatView) → AreFrom table first (s ∷ seats) → IsNew table first s
-first_of table first s seats h = subst (λ q. IsNew table q s) (omega arith) (h 0 s refl)
+pub first_of : (table : TableView) (first : ℕ) (s : SeatView) (seats : List SeatView) → AreFrom table first (s ∷ seats) → IsNewSeatOf table first s
+first_of table first s seats h = subst (λ q. IsNewSeatOf table q s) (omega arith) (h 0 s refl)
 
 pub rest_of : (table : TableView) (first : ℕ) (s : SeatView) (seats : List SeatView) → AreFrom table first (s ∷ seats) → AreFrom table (suc first) seats
-rest_of table first s seats h q t e = subst (λ i. IsNew table i t) (omega arith) (h (suc q) t e)
+rest_of table first s seats h q t e = subst (λ i. IsNewSeatOf table i t) (omega arith) (h (suc q) t e)
 
 -- the pass of a new seat is new
-pub new_pass : (table : TableView) (q : ℕ) (s : SeatView) → IsNew table q s → Owns table (pass_of s) × IsNewPass q (pass_of s)
+pub new_pass : (table : TableView) (q : ℕ) (s : SeatView) → IsNewSeatOf table q s → Owns table (pass_of s) × IsNewPass q (pass_of s)
 new_pass table q s new = (new.0, (ap (λ (k : Known). k.pass) new.1, ap (λ (k : Known). k.front) new.1, ap (λ (k : Known). k.notes) new.1))

@@ -9,7 +9,7 @@ use Rattle.hot_model.proofs.Legal.{legal_longer}
 use Rattle.hot_model.proofs.Weaving.{weave-legal_two}
 use Rattle.record_words.specs.declared.layout.Layout.{Layout}
 use Rattle.rowex_core.specs.declared.known.Known.{Known}
-use Rattle.rowex_table.specs.Rule.{HaveMet as SeatsHaveMet, with_front}
+use Rattle.rowex_table.specs.Rule.{SeatsHaveMet, with_front}
 use Rattle.rowex_table.specs.Seats.{SeatView}
 use Rattle.hot_index.specs.Passes.{AreByPasses, IsSettled, pass_of}
 use Rattle.hot_index.specs.Answers.{HaveMet, IsUnnoted}

@@ -12,8 +12,8 @@ use Rattle.tries.specs.Keys.{Key, bit, IsBefore, IsAtMost}
 use Rattle.moments.specs.State.{Past, IsSteady}
 use Rattle.rowex_core.specs.declared.known.Known.{Known}
 use Rattle.rowex_core.specs.Cores.{Core, IsLawful}
-use Rattle.rowex_core.specs.Knowing.{Recalls}
-use Rattle.rowex_walks.specs.Scan.{Pair, Range, IsScan, IsRooted, IsPlaced, IsRead, IsSeen, IsBlank, IsStart, Fits, IsReached, placed, further, turned, next, remaining, rest_after, Frame as Stage}
+use Rattle.rowex_core.specs.Knowing.{Recalls, IsSince}
+use Rattle.rowex_walks.specs.Scan.{Pair, Range, IsScan, IsRooted, IsPlaced, IsRead, IsSeen, IsBlank, IsStart, MayStandAt, IsReached, placed, further, turned, next, remaining, rest_after, Frame as Stage}
 use Rattle.rowex_walks.proofs.Scans.{never_before, before_most, fit_first}
 use Rattle.rowex_walks.proofs.Walk.{stack_shape, scan_begin, scan_push, scan_pop, scan_end, scan_skip, scan_take, scan_past, scan_cut}
 use Rattle.rowex_walks.proofs.Ends.{scan_blank, scan_one, scan_nought, scan_outside, stack_seen}
@@ -23,8 +23,9 @@ use Rattle.rowex_walks.proofs.Measure.{push_less, next_less, pop_less}
 use Rattle.hot_index.specs.declared.scanning.Frame.{Frame}
 use Rattle.hot_index.specs.declared.scanning.Verdict.{Verdict}
 use Rattle.hot_index.specs.declared.scanning.Verdict.TheVariants.{Further, Past as IsPast, Full}
-use Rattle.rowex_reading.specs.Seen.{seen, Sure, IsLater, IsAtRoot, IsSince, IsLedTo, HasPlace, HasShape, since, shape_of}
-use Rattle.hot_index.specs.Scanning.{HasScanned, IsAnswer, IsTaken, frame, frames_of, IsEntered, AreInside, IsWalk, rest_of_frames, rest_of}
+use Rattle.rowex_reading.specs.Seen.{seen, Sure, IsAtRoot, IsLedTo, HasPlace, HasShape, since, shape_of}
+use Rattle.rowex_table.specs.Made.{IsLater}
+use Rattle.hot_index.specs.Scanning.{HasScanned, IsAnswer, IsPairTaken, frame, frames_of, IsEntered, AreInside, IsWalk, rest_of_frames, rest_of}
 use Rattle.rowex_reading.proofs.Led.{shape_place}
 use Rattle.rowex_reading.proofs.Seeing.{recalls_before, seen_grown, seen_steady, since_later}
 
@@ -179,7 +180,7 @@ module _ {k i j : Known} {m : ℕ} {g : Range} {top : Frame} {frames : List Fram
       subst (λ z. z < rest_of top frames) (sym before) (subst (λ z. remaining (c ∷ w.lowest ∷ w.others) < z) (sym after) less)
 
   module _ (number : ℕ) (at : Sure i (λ s. IsPlaced s m top.number top.place (Leaf number))) (key : Key) (value : ℕ) (read : Sure j (λ s. IsRead s m number key value)) where
-    pub walk_further : (more : List (Key × ℕ)) → IsTaken g pairs key value more Further → IsWalk j m g (record top { place = top.place + 1 }) frames more
+    pub walk_further : (more : List (Key × ℕ)) → IsPairTaken g pairs key value more Further → IsWalk j m g (record top { place = top.place + 1 }) frames more
     walk_further more (inl (low, e)) = record {
       lowest = next w.lowest;
       others = w.others;
@@ -211,7 +212,7 @@ module _ {k i j : Known} {m : ℕ} {g : Range} {top : Frame} {frames : List Fram
           (there (Leaf number) at c lawful recalls) (read c lawful recalls) within (omega arith);
     }
 
-    pub walk_past : since j ≡ m → (scan : Scan) → IsTaken g pairs key value scan.pairs.items IsPast → scan.more ≡ false → HasScanned j g scan
+    pub walk_past : since j ≡ m → (scan : Scan) → IsPairTaken g pairs key value scan.pairs.items IsPast → scan.more ≡ false → HasScanned j g scan
     walk_past e scan (high, same) more = record {
       taken = w.taken;
       pairs = same ∙ w.pairs_are;
@@ -220,7 +221,7 @@ module _ {k i j : Known} {m : ℕ} {g : Range} {top : Frame} {frames : List Fram
           (there (Leaf number) at c lawful recalls) (read c lawful recalls) high));
     }
 
-    pub walk_full : since j ≡ m → (scan : Scan) → IsTaken g pairs key value scan.pairs.items Full → scan.more ≡ true → HasScanned j g scan
+    pub walk_full : since j ≡ m → (scan : Scan) → IsPairTaken g pairs key value scan.pairs.items Full → scan.more ≡ true → HasScanned j g scan
     walk_full e scan (within, full, same) more = record {
       taken = w.taken;
       pairs = same ∙ w.pairs_are;
@@ -352,18 +353,18 @@ module _ {k j : Known} (g : Range) (number : ℕ) (key : Key) (value : ℕ) (l :
     answer = subst (λ z. Sure j (λ s. IsAnswer s z g taken scan.more)) (sym same) (subst (λ z. Sure j (λ s. IsAnswer s (since k) g taken z)) (sym e) answer);
   }
 
-  pub leaf_further : IsTaken g [] key value scan.pairs.items Further → scan.more ≡ false → HasScanned j g scan
+  pub leaf_further : IsPairTaken g [] key value scan.pairs.items Further → scan.more ≡ false → HasScanned j g scan
   leaf_further (inl (low, e)) more =
       answered [] e false more (λ c lawful recalls. scan_outside (seen c j) (since k) (fixed c lawful recalls) g number key value (rooted c lawful recalls) (read c lawful recalls) (inl low))
   leaf_further (inr (within, room, e)) more =
       answered (record { key = key; value = value } ∷ []) e false more
       (λ c lawful recalls. scan_one (seen c j) (since k) (fixed c lawful recalls) g number key value (rooted c lawful recalls) (read c lawful recalls) within (let ne : 0 ≢ g.limit = room in omega arith))
 
-  pub leaf_past : IsTaken g [] key value scan.pairs.items IsPast → scan.more ≡ false → HasScanned j g scan
+  pub leaf_past : IsPairTaken g [] key value scan.pairs.items IsPast → scan.more ≡ false → HasScanned j g scan
   leaf_past (high, e) more =
       answered [] e false more (λ c lawful recalls. scan_outside (seen c j) (since k) (fixed c lawful recalls) g number key value (rooted c lawful recalls) (read c lawful recalls) (inr high))
 
-  pub leaf_full : IsTaken g [] key value scan.pairs.items Full → scan.more ≡ true → HasScanned j g scan
+  pub leaf_full : IsPairTaken g [] key value scan.pairs.items Full → scan.more ≡ true → HasScanned j g scan
   leaf_full (within, full, e) more =
       answered [] e true more (λ c lawful recalls. scan_nought (seen c j) (since k) g number key value (read c lawful recalls) within (sym full))
 
@@ -382,7 +383,7 @@ reached_further {k} {i} {m} r j c h o e l reached at core lawful recalls =
     further (reached_on (seen core k) (seen core i) (seen_grown core l) m r j (reached core lawful (recalls_before l recalls))) (at core lawful recalls)
 
 pub first_fits : {k i : Known} {m : ℕ} (r j number : ℕ) (key : Key) (value : ℕ) → IsLater k i → IsSince k m → Sure k (λ s. IsReached s m r j (Leaf number)) →
-    Sure i (λ s. IsRead s m number key value) → Sure i (λ s. Fits s m r j key)
+    Sure i (λ s. IsRead s m number key value) → Sure i (λ s. MayStandAt s m r j key)
 first_fits {k} {i} {m} r j number key value l pinned reached read c lawful recalls =
     fit_first (seen c i) m (seen_steady lawful recalls (since_later l pinned)) r j number key value
     (reached_on (seen c k) (seen c i) (seen_grown c l) m r j (reached c lawful (recalls_before l recalls))) (read c lawful recalls)
@@ -410,8 +411,8 @@ module _ (head : HeadView) (lawful : IsLawfulNode (node_of head (leaves (length 
     start = start;
   }
 
-pub taken_as : (g : Range) (xs zs : List (Key × ℕ)) (k : Key) (v : ℕ) (ys : List (Key × ℕ)) (a b : Verdict) → xs ≡ zs → a ≡ b → IsTaken g xs k v ys a → IsTaken g zs k v ys b
-taken_as g xs zs k v ys a b e f h = subst (λ z. IsTaken g z k v ys b) e (subst (λ z. IsTaken g xs k v ys z) f h)
+pub taken_as : (g : Range) (xs zs : List (Key × ℕ)) (k : Key) (v : ℕ) (ys : List (Key × ℕ)) (a b : Verdict) → xs ≡ zs → a ≡ b → IsPairTaken g xs k v ys a → IsPairTaken g zs k v ys b
+taken_as g xs zs k v ys a b e f h = subst (λ z. IsPairTaken g z k v ys b) e (subst (λ z. IsPairTaken g xs k v ys z) f h)
 
 pub reached_placed : {k : Known} {m : ℕ} (r j : ℕ) (e : Entry) → Sure k (λ s. IsPlaced s m r j e) → Sure k (λ s. IsReached s m r j e)
 reached_placed {k} {m} r j e at c lawful recalls = placed (at c lawful recalls)
@@ -427,5 +428,5 @@ start_later {k} {j} m g c i l start core lawful recalls = start_on (seen core k)
 pub start_first : {k : Known} (m : ℕ) (g : Range) (c : ℕ) → Sure k (λ s. IsStart s m g c 0)
 start_first m g c core lawful recalls = inl refl
 
-pub start_fits : {k : Known} (m : ℕ) (g : Range) (c i : ℕ) (key : Key) → Sure k (λ s. Fits s m c i key) → IsAtMost key g.from → Sure k (λ s. IsStart s m g c i)
+pub start_fits : {k : Known} (m : ℕ) (g : Range) (c i : ℕ) (key : Key) → Sure k (λ s. MayStandAt s m c i key) → IsAtMost key g.from → Sure k (λ s. IsStart s m g c i)
 start_fits m g c i key fits low core lawful recalls = inr (key, fits core lawful recalls, low)

@@ -11,7 +11,8 @@ use Rattle.hot_index.specs.declared.scanning.Frame.{Frame}
 use Rattle.hot_index.specs.declared.scanning.Range.{Range as Asked}
 use Rattle.hot_index.specs.declared.scanning.Verdict.{Verdict}
 use Rattle.hot_index.specs.declared.scanning.Verdict.TheVariants.{Further, Past as IsPast, Full}
-use Rattle.rowex_reading.specs.Seen.{Sure, IsSince, since}
+use Rattle.rowex_reading.specs.Seen.{Sure, since}
+use Rattle.rowex_core.specs.Knowing.{IsSince}
 
 abbrev pub range_of : Asked → Range
 range_of r = record { from = r.from.now; upto = r.upto.now; limit = r.limit }
@@ -29,11 +30,11 @@ pub record HasScanned (k : Known) (g : Range) (scan : Scan) : Type 0 where
 
 -- What became of the pairs at one with this key and value: it was below the range, or it came to their end; or it was above
 -- the range; or it belonged to the range and there was no room.
-abbrev pub IsTaken : Range → List (Key × ℕ) → Key → ℕ → List (Key × ℕ) → Verdict → Type 0
-IsTaken g xs k v ys Further =
+abbrev pub IsPairTaken : Range → List (Key × ℕ) → Key → ℕ → List (Key × ℕ) → Verdict → Type 0
+IsPairTaken g xs k v ys Further =
     (IsBefore k g.from × (ys ≡ xs)) ⊎ (IsInRange g k × (length xs ≢ g.limit) × (ys ≡ xs ++ (k, v) ∷ []))
-IsTaken g xs k v ys IsPast = IsBefore g.upto k × (ys ≡ xs)
-IsTaken g xs k v ys Full = IsInRange g k × (length xs ≡ g.limit) × (ys ≡ xs)
+IsPairTaken g xs k v ys IsPast = IsBefore g.upto k × (ys ≡ xs)
+IsPairTaken g xs k v ys Full = IsInRange g k × (length xs ≡ g.limit) × (ys ≡ xs)
 
 -- a node on the way of a walk, without its forks
 abbrev pub frame : Stage → Frame

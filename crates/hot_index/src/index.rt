@@ -10,7 +10,7 @@ ghost use Rattle.record_words.specs.Limits.{IsPassCount, IsNodeCount, IsLeafCoun
 ghost use Rattle.rowex_core.specs.declared.event.Act.TheVariants.{ClearPin};
 ghost use Rattle.rowex_core.specs.declared.known.Known.{Known};
 ghost use Rattle.rowex_table.specs.Runs.{StepsWith};
-ghost use Rattle.rowex_table.specs.Seats.{Fits, IsNew, SeatView};
+ghost use Rattle.rowex_table.specs.Seats.{IsPassOf, IsNewSeatOf, SeatView};
 ghost use Rattle.hot_index.specs.Passes.{PassView, Owns, IsNewPass};
 ghost use Rattle.hot_index.specs.Answers.{IsNoted, IsScanned, IsUnnoted, HaveMet, got};
 ghost use Rattle.hot_index.specs.Traces.{HasCollected, HasRead, untold};
@@ -223,7 +223,7 @@ fn passes_of(
     _table: &HotTable,
     seats: Vec<TableSeat>,
 ) -> Result<Vec<Pass>, AllocError>
-    requires { (q : ℕ) (s : SeatView) → get_elem? seats.items q ≡ some s → IsNew _table.now q s }
+    requires { (q : ℕ) (s : SeatView) → get_elem? seats.items q ≡ some s → IsNewSeatOf _table.now q s }
     ensures count { IfOk result (λ passes. length passes.items ≡ length seats.items) }
     ensures each { IfOk result (λ passes. (q : ℕ) (p : PassView) → slice_get passes.items q ≡ Some p → Owns _table.now p × IsNewPass q p) }
 {
@@ -243,7 +243,7 @@ fn end_get<G: Gate>(
     _found: Option<u64>,
 )
     ghost said: { Known → List Note }
-    requires fits { Fits table.now seat.old }
+    requires fits { IsPassOf table.now seat.old }
     requires pinned { IsSome seat.old.known.pin }
     ensures step { StepsWith table.now G.becomes ClearPin said (seat.old, gate.old) (seat.new, gate.new) }
 {

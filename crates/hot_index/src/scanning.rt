@@ -7,10 +7,10 @@ ghost use Rattle.key_bits.specs.Key.{IsKey};
 ghost use Rattle.tries.specs.Keys.{IsAtMost, IsBefore};
 ghost use Rattle.tries.specs.Tree.{Page};
 ghost use Rattle.rowex_table.specs.Seats.{IsSeatOf};
-ghost use Rattle.rowex_walks.specs.Scan.{Fits, IsStart};
+ghost use Rattle.rowex_walks.specs.Scan.{MayStandAt, IsStart};
 ghost use Rattle.rowex_reading.specs.Reads.{IsReader, Looks, ReadsSome};
 ghost use Rattle.rowex_reading.specs.Seen.{Sure, IsAtRoot, IsLedTo, HasPlace, HasShape};
-ghost use Rattle.hot_index.specs.Scanning.{HasScanned, IsEntered, IsTaken, range_of};
+ghost use Rattle.hot_index.specs.Scanning.{HasScanned, IsEntered, IsPairTaken, range_of};
 
 use compound_node::Entry;
 use hot_model::Scan;
@@ -220,7 +220,7 @@ fn first_key<G: Gate>(
     requires reader { IsReader table.now seat.old }
     requires place { (m h : ℕ) × HasPlace seat.old.known m number h place }
     ensures reads { ReadsSome table.now G.becomes (seat.old, gate.old) (seat.new, gate.new) }
-    ensures key { (m h : ℕ) → HasPlace seat.old.known m number h place → Sure seat.new.known (λ s. Fits s m number place result) }
+    ensures key { (m h : ℕ) → HasPlace seat.old.known m number h place → Sure seat.new.known (λ s. MayStandAt s m number place result) }
 {
     let mut entry = load_entry(table, seat, gate, number, place);
     loop {
@@ -240,7 +240,7 @@ fn take_pair(
     key: Key,
     value: u64,
 ) -> Result<Verdict, AllocError>
-    ensures { IfOk result (IsTaken (range_of range.now) pairs.old.items key value pairs.new.items) }
+    ensures { IfOk result (IsPairTaken (range_of range.now) pairs.old.items key value pairs.new.items) }
 {
     if is_before(&key, range.from) {
         return Ok(Verdict::Further);

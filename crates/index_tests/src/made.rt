@@ -5,8 +5,8 @@ ghost use Rattle.moments.specs.declared.Rec.TheVariants.{Leaf as a_leaf};
 ghost use Rattle.rowex_core.specs.declared.known.Holding.TheVariants.{Ready as IsReady};
 ghost use Rattle.rowex_core.specs.Cores.{HasRecord};
 ghost use Rattle.rowex_core.specs.Events.{IsFixedOffset};
-ghost use Rattle.rowex_table.specs.Rights.{Has, IsHeld};
-ghost use Rattle.rowex_table.specs.Seats.{Fits, IsNewSeat};
+ghost use Rattle.rowex_table.specs.Rights.{Has, IsClaimed};
+ghost use Rattle.rowex_table.specs.Seats.{IsPassOf, IsNewSeat};
 
 use key_bits::Key;
 use record_words::{Layout, pack_leaf};
@@ -57,9 +57,9 @@ pub fn last_seat(rt: &impl Abort, table: &HotTable, seats: &mut Vec<TableSeat>) 
 
 /// Claims a leaf; answers the state word that it found.
 pub fn claim(table: &HotTable, seat: &mut TableSeat, leaf: u32) -> u64
-    requires { Fits table.now seat.old × (leaf < table.now.layout.leaves) }
-    ensures fits { Fits table.now seat.new }
-    ensures has { result ≡ 0 → IsHeld seat.new.known (a_leaf leaf) }
+    requires { IsPassOf table.now seat.old × (leaf < table.now.layout.leaves) }
+    ensures fits { IsPassOf table.now seat.new }
+    ensures has { result ≡ 0 → IsClaimed seat.new.known (a_leaf leaf) }
     ensures pin { seat.new.known.pin ≡ seat.old.known.pin }
 {
     table.claim(seat, &mut NoGate, Rec::Leaf(leaf))
@@ -67,8 +67,8 @@ pub fn claim(table: &HotTable, seat: &mut TableSeat, leaf: u32) -> u64
 
 /// Claims a leaf, fills it with a pair and makes it ready; answers whether it was free.
 pub fn make_leaf(table: &HotTable, seat: &mut TableSeat, leaf: u32, key: &Key, value: u64) -> bool
-    requires { Fits table.now seat.old × (leaf < table.now.layout.leaves) }
-    ensures fits { Fits table.now seat.new }
+    requires { IsPassOf table.now seat.old × (leaf < table.now.layout.leaves) }
+    ensures fits { IsPassOf table.now seat.new }
     ensures pin { seat.new.known.pin ≡ seat.old.known.pin }
     ensures has { result ≡ true → (words : List ℕ) × Has seat.new.known (a_leaf leaf) IsReady words }
 {
@@ -91,17 +91,17 @@ pub fn make_leaf(table: &HotTable, seat: &mut TableSeat, leaf: u32, key: &Key, v
 
 /// Loads a word of a record that does not change while the record is live.
 pub fn load_word(table: &HotTable, seat: &mut TableSeat, rec: Rec, offset: u8) -> u64
-    requires fits { Fits table.now seat.old × HasRecord table.now.layout rec }
+    requires fits { IsPassOf table.now seat.old × HasRecord table.now.layout rec }
     requires offset { IsFixedOffset rec offset }
-    ensures { Fits table.now seat.new }
+    ensures { IsPassOf table.now seat.new }
 {
     table.load_fixed(seat, &mut NoGate, rec, offset)
 }
 
 /// Loads the state of a record.
 pub fn load_state(table: &HotTable, seat: &mut TableSeat, rec: Rec) -> u64
-    requires { Fits table.now seat.old × HasRecord table.now.layout rec }
-    ensures fits { Fits table.now seat.new }
+    requires { IsPassOf table.now seat.old × HasRecord table.now.layout rec }
+    ensures fits { IsPassOf table.now seat.new }
     ensures pin { seat.new.known.pin ≡ seat.old.known.pin }
 {
     table.load_state(seat, &mut NoGate, rec)
@@ -109,8 +109,8 @@ pub fn load_state(table: &HotTable, seat: &mut TableSeat, rec: Rec) -> u64
 
 /// Loads the epoch.
 pub fn load_epoch(table: &HotTable, seat: &mut TableSeat) -> u64
-    requires { Fits table.now seat.old }
-    ensures { Fits table.now seat.new }
+    requires { IsPassOf table.now seat.old }
+    ensures { IsPassOf table.now seat.new }
 {
     table.load_epoch(seat, &mut NoGate)
 }

@@ -1,7 +1,7 @@
 //! Records claimed, filled and given up on small tables, and what a gate is told of it.
 
 ghost use Rattle.std.specs.Prelude.{◌≡◌, ◌<◌, []};
-ghost use Rattle.rowex_table.specs.Seats.{Fits};
+ghost use Rattle.rowex_table.specs.Seats.{IsPassOf};
 
 use crate::gates::Recorder;
 use crate::made::*;
@@ -69,8 +69,8 @@ fn add_leaf<G: Gate>(
     key: &Key,
     value: u64,
 ) -> Option<u32>
-    requires { Fits table.now seat.old }
-    ensures { Fits table.now seat.new }
+    requires { IsPassOf table.now seat.old }
+    ensures { IsPassOf table.now seat.new }
 {
     let number = claim_leaf(table, seat, gate, 0)?;
     fill_leaf(table, seat, gate, number, key, value);
@@ -85,8 +85,8 @@ fn add_node<G: Gate>(
     gate: &mut G,
     node: &Node,
 ) -> Option<u32>
-    requires { Fits table.now seat.old }
-    ensures { Fits table.now seat.new }
+    requires { IsPassOf table.now seat.old }
+    ensures { IsPassOf table.now seat.new }
 {
     let number = claim_node(table, seat, gate, 0)?;
     fill_node(table, seat, gate, number, node);
@@ -96,8 +96,8 @@ fn add_node<G: Gate>(
 
 /// Loads an entry word of node 0.
 fn load_entry(table: &HotTable, seat: &mut TableSeat, entry: u8) -> u64
-    requires { Fits table.now seat.old × (entry < 32) × (table.now.layout.nodes ≡ 8) }
-    ensures { Fits table.now seat.new }
+    requires { IsPassOf table.now seat.old × (entry < 32) × (table.now.layout.nodes ≡ 8) }
+    ensures { IsPassOf table.now seat.new }
 {
     table.load_ref(seat, &mut NoGate, Spot::Slot { node: 0, entry })
 }
@@ -149,8 +149,8 @@ fn claim_in_vain<G: Gate>(
     gate: &mut G,
     key: &Key,
 ) -> Option<(u32, u32)>
-    requires { Fits table.now seat.old × (seat.old.known.own ≡ []) }
-    ensures { Fits table.now seat.new }
+    requires { IsPassOf table.now seat.old × (seat.old.known.own ≡ []) }
+    ensures { IsPassOf table.now seat.new }
 {
     let leaf = claim_leaf(table, seat, gate, 3)?;
     fill_leaf(table, seat, gate, leaf, key, 5);
@@ -174,7 +174,7 @@ fn all_that_is_held_is_given_up(rt: HostRuntime) -> Result<(), Fail> {
 
 /// Claims leaves until none is free; the answer has a bit for each that it claimed.
 fn claim_all(table: &HotTable, mut seat: TableSeat) -> u64
-    requires { Fits table.now seat × (table.now.layout.leaves ≡ 8) }
+    requires { IsPassOf table.now seat × (table.now.layout.leaves ≡ 8) }
 {
     let mut claimed = 0;
     for _round in 0..8u32 {

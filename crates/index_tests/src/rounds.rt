@@ -4,7 +4,7 @@ ghost use Rattle.std.specs.Prelude.{◌≡◌, ◌<◌, ℕ, List};
 ghost use Rattle.moments.specs.declared.Rec.TheVariants.{Leaf as a_leaf};
 ghost use Rattle.rowex_core.specs.declared.known.Holding.TheVariants.{Ready as IsReady};
 ghost use Rattle.rowex_table.specs.Rights.{Has};
-ghost use Rattle.rowex_table.specs.Seats.{Fits, IsNewSeat};
+ghost use Rattle.rowex_table.specs.Seats.{IsPassOf, IsNewSeat};
 
 use crate::gates::{AdvanceCount, Recorder};
 use crate::made::*;
@@ -44,9 +44,9 @@ fn a_round_leaves_held_records(rt: HostRuntime) -> Result<(), Fail> {
 
 /// Links leaf 0 at the root; answers whether the anchor was not locked and the root was empty.
 fn link_leaf(table: &HotTable, seat: &mut TableSeat) -> bool
-    requires fits { Fits table.now seat.old × (0 < table.now.layout.leaves) }
+    requires fits { IsPassOf table.now seat.old × (0 < table.now.layout.leaves) }
     requires has { (words : List ℕ) × Has seat.old.known (a_leaf 0) IsReady words }
-    ensures fits { Fits table.now seat.new }
+    ensures fits { IsPassOf table.now seat.new }
     ensures pin { seat.new.known.pin ≡ seat.old.known.pin }
 {
     if table.lock(seat, &mut NoGate, Target::Anchor) != 2 {
@@ -62,8 +62,8 @@ fn link_leaf(table: &HotTable, seat: &mut TableSeat) -> bool
 
 /// Unlinks leaf 0 from the root and retires it; answers whether the anchor was not locked and the root named leaf 0.
 fn unlink_leaf(table: &HotTable, seat: &mut TableSeat) -> bool
-    requires { Fits table.now seat.old × (0 < table.now.layout.leaves) }
-    ensures fits { Fits table.now seat.new }
+    requires { IsPassOf table.now seat.old × (0 < table.now.layout.leaves) }
+    ensures fits { IsPassOf table.now seat.new }
     ensures pin { seat.new.known.pin ≡ seat.old.known.pin }
 {
     if table.lock(seat, &mut NoGate, Target::Anchor) != 2 {

@@ -2,8 +2,8 @@
 
 ghost use Rattle.std.specs.Prelude.{◌≡◌, ◌<◌, None};
 ghost use Rattle.moments.specs.declared.Rec.TheVariants.{Leaf as a_leaf};
-ghost use Rattle.rowex_table.specs.Rights.{IsHeld};
-ghost use Rattle.rowex_table.specs.Seats.{Fits, IsNewSeat};
+ghost use Rattle.rowex_table.specs.Rights.{IsClaimed};
+ghost use Rattle.rowex_table.specs.Seats.{IsPassOf, IsNewSeat};
 
 use crate::made::*;
 use rowex_core::{NoGate, Rec, Spot, Target};
@@ -141,9 +141,9 @@ fn a_refused_table_is_made_by_the_next_call(rt: HostRuntime) -> Result<(), Fail>
 
 /// Gives a claimed leaf back.
 fn release(table: &HotTable, seat: &mut TableSeat, leaf: u32)
-    requires fits { Fits table.now seat.old × (leaf < table.now.layout.leaves) }
-    requires has { IsHeld seat.old.known (a_leaf leaf) }
-    ensures fits { Fits table.now seat.new }
+    requires fits { IsPassOf table.now seat.old × (leaf < table.now.layout.leaves) }
+    requires has { IsClaimed seat.old.known (a_leaf leaf) }
+    ensures fits { IsPassOf table.now seat.new }
     ensures pin { seat.new.known.pin ≡ seat.old.known.pin }
 {
     table.release(seat, &mut NoGate, Rec::Leaf(leaf));
@@ -151,7 +151,7 @@ fn release(table: &HotTable, seat: &mut TableSeat, leaf: u32)
 
 /// Claims each of the eight leaves that is free; the answer has a bit for each that it claimed.
 fn claim_each(table: &HotTable, mut seat: TableSeat) -> u64
-    requires { Fits table.now seat × (table.now.layout.leaves ≡ 8) }
+    requires { IsPassOf table.now seat × (table.now.layout.leaves ≡ 8) }
 {
     let mut claimed = 0;
     for leaf in 0..8u32 {
@@ -186,8 +186,8 @@ fn work(table: &HotTable, mut seat: TableSeat) -> Option<u64>
 
 /// Pins the epoch, unpins it, and makes it the next one; answers whether it did, or `None` where its pin is another.
 fn advance_once(table: &HotTable, seat: &mut TableSeat) -> Option<bool>
-    requires { Fits table.now seat.old × (seat.old.known.pin ≡ None) }
-    ensures { Fits table.now seat.new × (seat.new.known.pin ≡ None) }
+    requires { IsPassOf table.now seat.old × (seat.old.known.pin ≡ None) }
+    ensures { IsPassOf table.now seat.new × (seat.new.known.pin ≡ None) }
 {
     let epoch = table.load_epoch(seat, &mut NoGate);
     table.set_pin(seat, &mut NoGate, epoch);
@@ -202,7 +202,7 @@ fn advance_once(table: &HotTable, seat: &mut TableSeat) -> Option<bool>
 
 /// Whether the leaves are free and no pass of five is pinned.
 fn is_at_rest(table: &HotTable, seat: &mut TableSeat) -> bool
-    requires { Fits table.now seat.old × (table.now.layout.leaves ≡ 8) × (table.now.layout.passes ≡ 5) }
+    requires { IsPassOf table.now seat.old × (table.now.layout.leaves ≡ 8) × (table.now.layout.passes ≡ 5) }
 {
     for leaf in 0..8u32 {
         if load_state(table, seat, Rec::Leaf(leaf)) != 0 {

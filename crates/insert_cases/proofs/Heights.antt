@@ -11,16 +11,16 @@ use Rattle.compound_node.specs.declared.halves.Half.{Half}
 use Rattle.compound_node.specs.declared.halves.Half.TheVariants.{One, Many, Same}
 use Rattle.insert_cases.specs.Grown.{GrownShows, SidesShow}
 use Rattle.insert_cases.specs.declared.growth.Grown.TheVariants.{One as Whole, Two}
-use Rattle.insert_cases.specs.Heights.{Remains, HasHeightAnew, IsSteady, KeepsHeights, IsHalfSteady, IsGrownSteady}
+use Rattle.insert_cases.specs.Heights.{Remains, HasHeightAnew, KeepsHeight, KeepsHeights, IsHalfSteady, IsGrownSteady}
 use Rattle.insert_cases.specs.Rising.{IsNew}
 use Rattle.insert_cases.specs.Risen.{OthersStay, AllStay, pushed_nodes, kept_nodes}
 use Rattle.insert_cases.proofs.Choosing.{same_some}
 use Rattle.insert_cases.proofs.Storing.{set_back, push_back, push_old, others_kept, others_pushed}
 
-same_steady : {u v : NodeView} → v ≡ u → IsSteady u v
+same_steady : {u v : NodeView} → v ≡ u → KeepsHeight u v
 same_steady e columns rows = ap (λ (n : NodeView). n.height) e
 
-remains_steady : (u v : NodeView) → Remains u v → IsSteady u v
+remains_steady : (u v : NodeView) → Remains u v → KeepsHeight u v
 remains_steady u v (inl e) columns rows = ap (λ (n : NodeView). n.height) e
 remains_steady u v (inr e) columns rows = ap (λ (n : NodeView). n.height) e.2
 
@@ -32,25 +32,25 @@ heights_same ns = record {
 }
 
 -- ---- one change
-pub heights_set : (ns : List NodeView) (n : ℕ) (u v : NodeView) → slice_get ns n ≡ Some u → Remains u v ⊎ (HasHeightAnew v × IsSteady u v) → KeepsHeights ns (set ns n v)
+pub heights_set : (ns : List NodeView) (n : ℕ) (u v : NodeView) → slice_get ns n ≡ Some u → Remains u v ⊎ (HasHeightAnew v × KeepsHeight u v) → KeepsHeights ns (set ns n v)
 heights_set ns n u v at how = record {
   longer = omega (arith, length-set ns n v);
   each = λ m w e. pick m w how (set_back ns n m v w (slice_get_within ns n u at) e);
   steady = λ m o w old new. still m o w how old (set_back ns n m v w (slice_get_within ns n u at) new);
 }
   where
-    pick : (m : ℕ) (w : NodeView) → Remains u v ⊎ (HasHeightAnew v × IsSteady u v) → ((n ≡ m) × (w ≡ v)) ⊎ (slice_get ns m ≡ Some w) →
+    pick : (m : ℕ) (w : NodeView) → Remains u v ⊎ (HasHeightAnew v × KeepsHeight u v) → ((n ≡ m) × (w ≡ v)) ⊎ (slice_get ns m ≡ Some w) →
         ((o : NodeView) × (slice_get ns m ≡ Some o) × Remains o w) ⊎ HasHeightAnew w
     pick m w h (inr e) = inl (w, e, inl refl)
     pick m w (inl r) (inl e) = inl (u, ap (slice_get ns) (sym e.0) ∙ at, subst (Remains u) (sym e.1) r)
     pick m w (inr b) (inl e) = inr (subst HasHeightAnew (sym e.1) b.0)
 
-    both : (m : ℕ) (o w : NodeView) → IsSteady u v → slice_get ns m ≡ Some o → (n ≡ m) × (w ≡ v) → IsSteady o w
+    both : (m : ℕ) (o w : NodeView) → KeepsHeight u v → slice_get ns m ≡ Some o → (n ≡ m) × (w ≡ v) → KeepsHeight o w
     both m o w s old e =
         let same : u ≡ o = same_some (sym at ∙ (ap (slice_get ns) e.0 ∙ old)) in
-        subst (λ z. IsSteady z w) same (subst (IsSteady u) (sym e.1) s)
+        subst (λ z. KeepsHeight z w) same (subst (KeepsHeight u) (sym e.1) s)
 
-    still : (m : ℕ) (o w : NodeView) → Remains u v ⊎ (HasHeightAnew v × IsSteady u v) → slice_get ns m ≡ Some o → ((n ≡ m) × (w ≡ v)) ⊎ (slice_get ns m ≡ Some w) → IsSteady o w
+    still : (m : ℕ) (o w : NodeView) → Remains u v ⊎ (HasHeightAnew v × KeepsHeight u v) → slice_get ns m ≡ Some o → ((n ≡ m) × (w ≡ v)) ⊎ (slice_get ns m ≡ Some w) → KeepsHeight o w
     still m o w h old (inr e) = same_steady (same_some (sym e ∙ old))
     still m o w (inl r) old (inl e) = both m o w (remains_steady u v r) old e
     still m o w (inr b) old (inl e) = both m o w b.1 old e
@@ -72,7 +72,7 @@ heights_new ns ms e P i = subst (KeepsHeights ns) (sym i.added) (heights_push ns
 -- ---- one change after others
 module _ (ns ms us : List NodeView) (first : KeepsHeights ns ms) (second : KeepsHeights ms us) where
   -- a node of the old records that the second leaves as it is
-  settled_steady : (m : ℕ) (o w : NodeView) → slice_get ns m ≡ Some o → slice_get us m ≡ Some w → ((v : NodeView) → slice_get ms m ≡ Some v → slice_get us m ≡ Some v) → IsSteady o w
+  settled_steady : (m : ℕ) (o w : NodeView) → slice_get ns m ≡ Some o → slice_get us m ≡ Some w → ((v : NodeView) → slice_get ms m ≡ Some v → slice_get us m ≡ Some v) → KeepsHeight o w
   settled_steady m o w old new stay =
       let mid = slice_get-get_or ms m o (let h = slice_get_within ns m o old in omega (arith, first.longer)) in
       first.steady m o w old (mid ∙ (sym (stay (get_or ms m o) mid) ∙ new))

@@ -25,7 +25,7 @@ use Rattle.insert_cases.specs.declared.plain.LeafRecord.{LeafRecord}
 use Rattle.insert_cases.specs.Adding.{IsStanding, IsAbsentFrom}
 use Rattle.insert_cases.specs.Rising.{IsRaised, item}
 use Rattle.insert_cases.specs.Searches.{found}
-use Rattle.insert_cases.specs.Store.{PlainView, IsShown, IsSound, IsPlain, IsHeld, tree_of, map_of, read, record_of}
+use Rattle.insert_cases.specs.Store.{PlainView, IsShown, IsSound, IsPlain, IsHeldInLeaf, tree_of, map_of, read, record_of}
 use Rattle.tries.proofs.Building.{lower_from, lower_to}
 use Rattle.insert_cases.proofs.Choosing.{same_some}
 use Rattle.insert_cases.proofs.Reading.{IsTree, plain_tree, tree_is, tree_plain}
@@ -129,7 +129,7 @@ top_of v t e = go v.top refl
     go None i = absurd (let z : None ≡ Some t = sym (ap (option_and_then (λ z. read v.nodes v.leaves (height_of z) z)) i) ∙ e in cc)
     go (Some d) i = (d, i)
 
-pub held_becomes : (v w : PlainView) (k : Key) (n x : ℕ) → IsPlain v → IsHeld v k n → w.nodes ≡ v.nodes → w.leaves ≡ set v.leaves n (record { key = k; value = x }) → w.top ≡ v.top →
+pub held_becomes : (v w : PlainView) (k : Key) (n x : ℕ) → IsPlain v → IsHeldInLeaf v k n → w.nodes ≡ v.nodes → w.leaves ≡ set v.leaves n (record { key = k; value = x }) → w.top ≡ v.top →
     Becomes v w k x
 held_becomes v w k n x plain held nodes leaves top =
     becomes v w e.0 (put place new) k x (top ∙ e.1) (page_put place new refl ∙ (ap page (sym same) ∙ t.1.head)) exchange.trie (put_same place new refl tt (subst IsBuilt same t.1.sound.built))
@@ -167,7 +167,7 @@ held_becomes v w k n x plain held nodes leaves top =
     exchange = exchanged_put place (leaf n k x) (item n k (found k held.tree).value) (item n k x) trie (exchanged_leaf n n k (found k held.tree).value x (trie_within place trie))
 
 -- ---- what the map has for the key
-pub held_value : (v : PlainView) (k : Key) (n : ℕ) → IsPlain v → (held : IsHeld v k n) → value_at (map_of v) k ≡ Some (found k held.tree).value
+pub held_value : (v : PlainView) (k : Key) (n : ℕ) → IsPlain v → (held : IsHeldInLeaf v k n) → value_at (map_of v) k ≡ Some (found k held.tree).value
 held_value v k n plain held =
     let e = top_of v held.tree held.is in
     let t = plain_tree v e.0 e.1 plain in

@@ -8,9 +8,9 @@ use Rattle.tries.specs.Tree.{Page, Fixed, Tree, leaf, node, fork, page, Has, IsB
 use Rattle.tries.specs.Content.{first}
 use Rattle.tries.proofs.Tries.{has_first}
 use Rattle.insert_cases.specs.declared.plain.LeafRecord.{LeafRecord}
-use Rattle.insert_cases.specs.Rising.{NoNode, IsKept}
+use Rattle.insert_cases.specs.Rising.{NoNode, StaysStored}
 use Rattle.insert_cases.specs.Risen.{OthersStay}
-use Rattle.insert_cases.specs.Store.{IsStored, IsShown}
+use Rattle.insert_cases.specs.Store.{IsNodeStored, IsShown}
 use Rattle.insert_cases.proofs.Choosing.{same_some}
 
 -- the trees have no key in common
@@ -21,7 +21,7 @@ module _ (ns : List NodeView) where
   same_view : {n m : ℕ} {v w : NodeView} → n ≡ m → slice_get ns n ≡ Some v → slice_get ns m ≡ Some w → v ≡ w
   same_view e i j = same_some (sym i ∙ (ap (slice_get ns) e ∙ j))
 
-  stored_same : {n m : ℕ} {x y : Fixed} {p q : Page} → n ≡ m → IsStored ns n x p → IsStored ns m y q → (x ≡ y) × (p ≡ q)
+  stored_same : {n m : ℕ} {x y : Fixed} {p q : Page} → n ≡ m → IsNodeStored ns n x p → IsNodeStored ns m y q → (x ≡ y) × (p ≡ q)
   stored_same e s t =
       let z = same_view e s.at t.at in
       (sym s.fixed ∙ (ap head_of z ∙ t.fixed), sym s.shows ∙ (ap piece z ∙ t.shows))
@@ -89,7 +89,7 @@ module _ (ns : List NodeView) where
   no_node_below ls n h v (fork p c d) at e l b i = (no_node_below ls n h v c at e l.0 b.0 i.0, no_node_below ls n h v d at e l.1 b.1 i.1)
 
 -- A tree that has none of the keys of s stays shown.
-pub shown_kept : (ns ms : List NodeView) (ls : List LeafRecord) (s t : Tree) → IsKept ns ms s → IsShown ns ls s → IsShown ns ls t → IsApart t s → IsShown ms ls t
+pub shown_kept : (ns ms : List NodeView) (ls : List LeafRecord) (s t : Tree) → StaysStored ns ms s → IsShown ns ls s → IsShown ns ls t → IsApart t s → IsShown ms ls t
 shown_kept ns ms ls s (leaf n k v) c i j a = j
 shown_kept ns ms ls s (node n x b) c i j a = (
   record { view = j.0.view; at = c n j.0.view (no_node ns ls n x b s j i a) j.0.at; fixed = j.0.fixed; shows = j.0.shows },

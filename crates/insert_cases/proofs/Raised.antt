@@ -22,7 +22,7 @@ use Rattle.insert_cases.specs.declared.raising.Risen.{Risen}
 use Rattle.insert_cases.specs.declared.raising.Risen.TheVariants.{Whole, Split}
 use Rattle.insert_cases.specs.Risen.{page_of, IsNamed, IsFor, RisenShows}
 use Rattle.insert_cases.specs.Store.{IsShown}
-use Rattle.insert_cases.specs.Rising.{IsKept}
+use Rattle.insert_cases.specs.Rising.{StaysStored}
 use Rattle.insert_cases.proofs.Keeping.{lower_more, shown_kept}
 
 -- ---- records for a body
@@ -121,7 +121,7 @@ child_spot k b =
 
 -- another tree in one place of a shown one, whose other parts stay shown
 pub put_kept : (ns ms : List NodeView) (ls : List LeafRecord) {s b : Tree} (w : Within s b) → IsFlat w → (r : Tree) → IsTrie b → IsShown ns ls b → IsShown ns ls s →
-    IsKept ns ms s → IsShown ms ls r → IsShown ms ls (put w r)
+    StaysStored ns ms s → IsShown ms ls r → IsShown ms ls (put w r)
 put_kept ns ms ls here f r t i j c h = h
 put_kept ns ms ls (inside w) f r t i j c h = elim f [ ]
 put_kept ns ms ls {s} (zero_side {p = p} {a = a} {b = d} w) f r t i j c h = (

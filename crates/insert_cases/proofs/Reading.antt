@@ -11,7 +11,7 @@ use Rattle.tries.specs.Read.{join_node, read_page}
 use Rattle.tries.specs.Tree.{Page, Fixed, Tree, leaf, node, page, IsBuilt}
 use Rattle.insert_cases.specs.declared.plain.LeafRecord.{LeafRecord}
 use Rattle.tries.proofs.Reading.{same_some, IsFound, page_found, node_found, read_exact as exactly_read}
-use Rattle.insert_cases.specs.Store.{PlainView, IsStored, IsShown, read_node, read, tree_of, map_read, map_of, IsSound, IsPlain, ShowsTrie}
+use Rattle.insert_cases.specs.Store.{PlainView, IsNodeStored, IsShown, read_node, read, tree_of, map_read, map_of, IsSound, IsPlain, ShowsTrie}
 
 module _ (nodes : List NodeView) (leaves : List LeafRecord) where
   -- the records show a tree for this page
@@ -49,7 +49,7 @@ module _ (nodes : List NodeView) (leaves : List LeafRecord) where
   read_leaf zero n k v e = ap (option_map (λ (l : LeafRecord). leaf n l.key l.value)) e
   read_leaf (suc f) n k v e = ap (option_map (λ (l : LeafRecord). leaf n l.key l.value)) e
 
-  read_at : (f n : ℕ) (x : Fixed) (b : Tree) (s : IsStored nodes n x (page b)) → read_page (read nodes leaves f) (page b) ≡ Some b →
+  read_at : (f n : ℕ) (x : Fixed) (b : Tree) (s : IsNodeStored nodes n x (page b)) → read_page (read nodes leaves f) (page b) ≡ Some b →
       read nodes leaves (suc f) (Node n x.height) ≡ Some (node n x b)
   read_at f n x b s g =
       ap (read_node (read nodes leaves f) n x.height) s.at ∙

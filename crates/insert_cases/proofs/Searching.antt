@@ -19,7 +19,7 @@ use Rattle.tries.proofs.Places.{leads_spot, spot_below}
 use Rattle.insert_cases.specs.declared.plain.LeafRecord.{LeafRecord}
 use Rattle.insert_cases.proofs.Choosing.{found-child, same_some}
 use Rattle.insert_cases.specs.Searches.{found}
-use Rattle.insert_cases.specs.Store.{PlainView, IsStored, IsShown, record_of, tree_of, IsPlain}
+use Rattle.insert_cases.specs.Store.{PlainView, IsNodeStored, IsShown, record_of, tree_of, IsPlain}
 use Rattle.insert_cases.proofs.Reading.{plain_tree}
 
 -- what stands there
@@ -49,7 +49,7 @@ pub record IsNodeOf (ns : List NodeView) (ls : List LeafRecord) (n h : ℕ) (u :
   pub body : Tree
   pub is : u ≡ node n fixed body
   pub high : fixed.height ≡ h
-  pub stored : IsStored ns n fixed (page body)
+  pub stored : IsNodeStored ns n fixed (page body)
   pub below : IsShown ns ls body
   pub built : IsBuilt (node n fixed body)
 
@@ -64,7 +64,7 @@ node_of_page ns ls n h (node m x d) e s b =
       body = d;
       is = ap (λ z. node z x d) f;
       high = g;
-      stored = subst (λ z. IsStored ns z x (page d)) f s.0;
+      stored = subst (λ z. IsNodeStored ns z x (page d)) f s.0;
       below = s.1;
       built = b;
     }

@@ -17,7 +17,7 @@ use Rattle.compound_node.specs.declared.halves.Half.TheVariants.{One, Many, Same
 use Rattle.tries.specs.Tree.{Page, first_position}
 use Rattle.pieces.specs.Grafts.{grafted, IsAbovePath}
 use Rattle.insert_cases.specs.Grown.{GrownShows, SidesShow, is_whole, keeps_node}
-use Rattle.insert_cases.specs.Heights.{IsSteady, IsHalfSteady, IsGrownSteady}
+use Rattle.insert_cases.specs.Heights.{KeepsHeight, IsHalfSteady, IsGrownSteady}
 use Rattle.insert_cases.specs.declared.growth.Grown.{Grown}
 use Rattle.insert_cases.specs.declared.growth.Grown.TheVariants.{One as Whole, Two}
 use Rattle.pieces.proofs.Grafting.{size-grown}
@@ -87,11 +87,11 @@ length-rows v l = ap length l.shows.rows_are ∙ (length-map (paths (piece v)) (
 
 module _ (u v : NodeView) (lawful_u : IsLawful u) (lawful_v : IsLawful v) where
   -- a node of more places has other rows
-  steady_longer : size (piece v) ≡ size (piece u) + 1 → IsSteady u v
+  steady_longer : size (piece v) ≡ size (piece u) + 1 → KeepsHeight u v
   steady_longer h columns rows = absurd (omega (arith, ap length rows, length-rows u lawful_u, length-rows v lawful_v))
 
   -- and one whose root fork is further down has other columns
-  steady_below : IsRootAbove (first_position (piece u)) (piece v) → IsSteady u v
+  steady_below : IsRootAbove (first_position (piece u)) (piece v) → KeepsHeight u v
   steady_below h columns rows =
       let beyond = root_beyond (first_position (piece u)) (piece v) (omega (arith, size-piece v lawful_v, lawful_v.several)) h in
       absurd (omega (arith, first_is u lawful_u, first_is v lawful_v, ap (λ cs. get_or cs 0 0) columns))

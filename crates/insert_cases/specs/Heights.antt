@@ -16,8 +16,8 @@ abbrev pub HasHeightAnew : NodeView → Type 0
 HasHeightAnew node = node.height ≡ 1 + greatest_height node.entries
 
 -- with the same forks the stored height is the same: it changes only where forks are added or cut off
-abbrev pub IsSteady : NodeView → NodeView → Type 0
-IsSteady old new = new.columns ≡ old.columns → new.rows ≡ old.rows → new.height ≡ old.height
+abbrev pub KeepsHeight : NodeView → NodeView → Type 0
+KeepsHeight old new = new.columns ≡ old.columns → new.rows ≡ old.rows → new.height ≡ old.height
 
 -- No record goes away. Each has a node that remains, or one that was built; and where the forks are as before, so is the
 -- stored height.
@@ -25,14 +25,14 @@ pub record KeepsHeights (old new : List NodeView) : Type 0 where
   pub longer : length old ≤ length new
   pub each : (n : ℕ) (node : NodeView) → slice_get new n ≡ Some node →
       ((was : NodeView) × (slice_get old n ≡ Some was) × Remains was node) ⊎ HasHeightAnew node
-  pub steady : (n : ℕ) (was node : NodeView) → slice_get old n ≡ Some was → slice_get new n ≡ Some node → IsSteady was node
+  pub steady : (n : ℕ) (was node : NodeView) → slice_get old n ≡ Some was → slice_get new n ≡ Some node → KeepsHeight was node
 
 -- what grew out of a node is steady beside it
 abbrev pub IsHalfSteady : NodeView → Half → Type 0
 IsHalfSteady old (One entry) = Unit {0}
-IsHalfSteady old (Many node) = IsSteady old node
+IsHalfSteady old (Many node) = KeepsHeight old node
 IsHalfSteady old Same = Unit {0}
 
 abbrev pub IsGrownSteady : NodeView → Grown → Type 0
-IsGrownSteady old (Whole node) = IsSteady old node
+IsGrownSteady old (Whole node) = KeepsHeight old node
 IsGrownSteady old (Two cut) = IsHalfSteady old cut.zero × IsHalfSteady old cut.one

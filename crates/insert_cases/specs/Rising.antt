@@ -24,8 +24,8 @@ NoNode n (node m x b) = (n ≢ m) × NoNode n b
 NoNode n (fork p a b) = NoNode n a × NoNode n b
 
 -- nodes that are not of the tree stay
-abbrev pub IsKept : List NodeView → List NodeView → Tree → Type 0
-IsKept old new s = (n : ℕ) (v : NodeView) → NoNode n s → slice_get old n ≡ Some v → slice_get new n ≡ Some v
+abbrev pub StaysStored : List NodeView → List NodeView → Tree → Type 0
+StaysStored old new s = (n : ℕ) (v : NodeView) → NoNode n s → slice_get old n ≡ Some v → slice_get new n ≡ Some v
 
 -- In the place of s, which the old nodes show, the new ones show a tree with one leaf more. It begins with this page, its
 -- entries are lower than h, and all nodes but those of s are as they were.
@@ -36,7 +36,7 @@ pub record IsRaised (old new : List NodeView) (leaves : List LeafRecord) (x : It
   pub built : IsBuilt tree
   pub lower : IsLower h tree
   pub shown : IsShown new leaves tree
-  pub kept : IsKept old new s
+  pub kept : StaysStored old new s
 
 abbrev pub item : ℕ → Key → ℕ → Item
 item n k v = record { number = n; key = k; value = v }

@@ -21,7 +21,7 @@ pub record PlainView : Type 0 where
   pub leaf_capacity : ℕ
 
 -- record n is a node that shows this page
-pub record IsStored (nodes : List NodeView) (n : ℕ) (x : Fixed) (p : Page) : Type 0 where
+pub record IsNodeStored (nodes : List NodeView) (n : ℕ) (x : Fixed) (p : Page) : Type 0 where
   pub view : NodeView
   pub at : slice_get nodes n ≡ Some view
   pub fixed : head_of view ≡ x
@@ -30,7 +30,7 @@ pub record IsStored (nodes : List NodeView) (n : ℕ) (x : Fixed) (p : Page) : T
 -- the records show the tree
 abbrev pub IsShown : List NodeView → List LeafRecord → Tree → Type 0
 IsShown nodes leaves (leaf n k v) = slice_get leaves n ≡ Some (record { key = k; value = v })
-IsShown nodes leaves (node n x b) = IsStored nodes n x (page b) × IsShown nodes leaves b
+IsShown nodes leaves (node n x b) = IsNodeStored nodes n x (page b) × IsShown nodes leaves b
 IsShown nodes leaves (fork p a b) = IsShown nodes leaves a × IsShown nodes leaves b
 
 -- what a node of a number shows, where it has this height
@@ -74,7 +74,7 @@ abbrev pub record_of : Item → LeafRecord
 record_of x = record { key = x.key; value = x.value }
 
 -- the key's search ends at its own leaf, which is the record of this number
-pub record IsHeld (v : PlainView) (k : Key) (n : ℕ) : Type 0 where
+pub record IsHeldInLeaf (v : PlainView) (k : Key) (n : ℕ) : Type 0 where
   pub tree : Tree
   pub is : tree_of v ≡ Some tree
   pub number : (found k tree).number ≡ n

@@ -52,7 +52,7 @@ impl PlainTrie {
     ghost use Rattle.insert_cases.specs.Heights.{KeepsHeights};
     ghost use Rattle.insert_cases.specs.Room.{LacksRoom, KeepsRoom, IsUnchanged};
     ghost use Rattle.insert_cases.specs.Searches.{found};
-    ghost use Rattle.insert_cases.specs.Store.{map_of, ShowsTrie, IsHeld, tree_of, record_of};
+    ghost use Rattle.insert_cases.specs.Store.{map_of, ShowsTrie, IsHeldInLeaf, tree_of, record_of};
     ghost use Rattle.tries.specs.Tree.{Tree};
     ghost use Rattle.compound_node.specs.Nodes.{height_of};
 
@@ -161,7 +161,7 @@ impl PlainTrie {
     fn add_absent(&mut self, key: &Key, value: u64) -> Result<Option<usize>, AllocError>
         ensures ok { IfOk result (λ held. MatchOption held
             ((value_at (map_of self.old) key.now ≡ None) × (map_of self.new ≡ with_value (map_of self.old) key.now value))
-            (λ leaf. IsHeld self.old key.now leaf × (self.new ≡ self.old))) }
+            (λ leaf. IsHeldInLeaf self.old key.now leaf × (self.new ≡ self.old))) }
         ensures memory { OnErr result (value_at (map_of self.old) key.now ≡ None) }
         ensures refused { OnErr result (LacksRoom self.old) }
         ensures err { OnErr result (IsUnchanged self.old self.new) }
@@ -208,7 +208,7 @@ impl PlainTrie {
 
     /// Gives a key that the trie has another value.
     fn set(&mut self, leaf: usize, key: &Key, value: u64)
-        requires { IsHeld self.old key.now leaf }
+        requires { IsHeldInLeaf self.old key.now leaf }
         ensures map { map_of self.new ≡ with_value (map_of self.old) key.now value }
         ensures room { KeepsRoom self.old self.new }
         ensures nodes { self.new.nodes ≡ self.old.nodes }

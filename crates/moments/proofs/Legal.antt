@@ -10,7 +10,7 @@ use Rattle.moments.specs.declared.Rec.TheVariants.{Node as a_node, Leaf as a_lea
 use Rattle.hot_model.specs.declared.Change.{Change}
 use Rattle.moments.specs.Core.{has_seen, Fate, Free, Held, Ready, InTree, Unlinked, Marked, life_of, Core, pin_moment, view, IsPaced}
 use Rattle.moments.specs.declared.Pin.{Pin}
-use Rattle.moments.specs.Steps.{same_rec, with_fate, links, is_linked, next_fate, after_publish, IsLegalPublish, after_set_pin, with_pin}
+use Rattle.moments.specs.Steps.{same_rec, with_fate, links, is_linked, next_fate, after_publish, IsMomentPublish, after_set_pin, with_pin}
 use Rattle.moments.proofs.Publish.{publish_lawful, IsNext, comes, stays_out, stays, goes, gone}
 use Rattle.moments.proofs.Quiet.{quiet_lawful}
 use Rattle.moments.proofs.Growth.{IsUnlinkedSince, give_back, not_now}
@@ -58,7 +58,7 @@ next_unlinked now q L (InTree f) n = goes n
 next_unlinked now q L (Unlinked f l p) n = gone n
 next_unlinked now q L (Marked f l s) n = gone n
 
-lives : (c : Core) (q : ℕ) (heap : Heap) (root : Option Entry) (t : Option Tree) (x : Change) → IsLegalPublish c q heap root t x →
+lives : (c : Core) (q : ℕ) (heap : Heap) (root : Option Entry) (t : Option Tree) (x : Change) → IsMomentPublish c q heap root t x →
     (r : Rec) → IsNext c.past.now (IsLinked t r) (life_of (c.fate r)) (life_of (next_fate c.past.now q (is_linked t r) (c.fate r)))
 lives c q heap root t x p r = go (linked_cases t r)
   where
@@ -69,7 +69,7 @@ lives c q heap root t x p r = go (linked_cases t r)
 
 -- A legal publish keeps the core lawful.
 pub legal_publish_lawful : (c : Core) (q : ℕ) (heap : Heap) (root : Option Entry) (t : Option Tree) (x : Change) →
-    IsLawful (view c) → IsLegalPublish c q heap root t x → IsLawful (view (after_publish c q heap root t x))
+    IsLawful (view c) → IsMomentPublish c q heap root t x → IsLawful (view (after_publish c q heap root t x))
 legal_publish_lawful c q heap root t x law p =
     publish_lawful (view c) law heap root (λ r. life_of (next_fate c.past.now q (is_linked t r) (c.fate r))) t
     (record { top = p.top; tree = p.tree; near = p.near; kept = p.kept; lives = lives c q heap root t x p })

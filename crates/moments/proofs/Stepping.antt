@@ -10,7 +10,7 @@ use Rattle.moments.specs.declared.Rec.{Rec}
 use Rattle.moments.specs.declared.Rec.TheVariants.{Node as a_node, Leaf as a_leaf}
 use Rattle.moments.specs.Core.{Fate, Free, Held, Ready, InTree, Unlinked, Marked, life_of, Core, view, pin_moment}
 use Rattle.moments.specs.declared.Pin.{Pin}
-use Rattle.moments.specs.Steps.{opening, same_rec, with_fate, is_linked, next_fate, IsLegalPublish, with_lock, unlocked, after_mark, IsFilled, MayLock, IsLawfulCore, IsStep, claims, fills, readies, releases, locks_anchor, unlocks_anchor, locks, unlocks, publishes, marks, loads_epoch, advances, pins, unpins, loads_pin, gives_back}
+use Rattle.moments.specs.Steps.{opening, same_rec, with_fate, is_linked, next_fate, IsMomentPublish, with_lock, unlocked, after_mark, IsFilled, IsLockable, IsLawfulCore, IsStep, claims, fills, readies, releases, locks_anchor, unlocks_anchor, locks, unlocks, publishes, marks, loads_epoch, advances, pins, unpins, loads_pin, gives_back}
 use Rattle.moments.proofs.Legal.{same_rec_refl, same_rec_true, linked_cases, legal_publish_lawful, fate_lawful, give_back_lawful, fill_lawful, set_pin_lawful, clear_pin_lawful}
 use Rattle.moments.proofs.Pace.{set_pin_paced, load_epoch_paced, load_pin_paced, mark_paced, publish_paced, fate_paced, lock_paced, anchor_paced, advance_paced, clear_pin_paced, reach_kept}
 use Rattle.moments.proofs.Telling.{publish_told, content_in_order}
@@ -27,18 +27,18 @@ none_some : {q : ℕ} → None ≡ Some q → ⊥
 none_some e = cc
 
 -- A record that no pass can have locked gets another fate.
-fate_locked : (c : Core) (r : Rec) (f g : Fate) → IsLawfulCore c → c.fate r ≡ g → ((q : ℕ) → MayLock q g → ⊥) → (n q : ℕ) → c.lock n ≡ Some q → MayLock q ((with_fate c.shared r f).fate (a_node n))
+fate_locked : (c : Core) (r : Rec) (f g : Fate) → IsLawfulCore c → c.fate r ≡ g → ((q : ℕ) → IsLockable q g → ⊥) → (n q : ℕ) → c.lock n ≡ Some q → IsLockable q ((with_fate c.shared r f).fate (a_node n))
 fate_locked c r f g law e none n q l = go (cases_Bool (same_rec (a_node n) r))
   where
-    old : MayLock q (c.fate (a_node n))
+    old : IsLockable q (c.fate (a_node n))
     old = law.locked n q l
 
-    go : (same_rec (a_node n) r ≡ true) ⊎ (same_rec (a_node n) r ≡ false) → MayLock q (if same_rec (a_node n) r then f else c.fate (a_node n))
-    go (inl h) = absurd (none q (subst (MayLock q) (ap c.fate (same_rec_true (a_node n) r h) ∙ e) old))
+    go : (same_rec (a_node n) r ≡ true) ⊎ (same_rec (a_node n) r ≡ false) → IsLockable q (if same_rec (a_node n) r then f else c.fate (a_node n))
+    go (inl h) = absurd (none q (subst (IsLockable q) (ap c.fate (same_rec_true (a_node n) r h) ∙ e) old))
     go (inr h) = rw h old
 
 module _ (c : Core) (q : ℕ) (law : IsLawfulCore c) where
-  fate_step : (r : Rec) (f g : Fate) → c.fate r ≡ g → ((p : ℕ) → MayLock p g → ⊥) → life_of f ≡ life_of g → ((a b s : ℕ) → f ≡ Marked a b s → ⊥) → IsLawfulCore (record c { shared = with_fate c.shared r f })
+  fate_step : (r : Rec) (f g : Fate) → c.fate r ≡ g → ((p : ℕ) → IsLockable p g → ⊥) → life_of f ≡ life_of g → ((a b s : ℕ) → f ≡ Marked a b s → ⊥) → IsLawfulCore (record c { shared = with_fate c.shared r f })
   fate_step r f g e none life unmarked = record {
     state = fate_lawful c r f law.state (life ∙ sym (ap life_of e));
     paced = fate_paced c r f unmarked law.paced;
@@ -62,12 +62,12 @@ module _ (c : Core) (q : ℕ) (law : IsLawfulCore c) where
           go (inl h) = inl (ap (λ z. life_of (c.fate z)) (sym (same_rec_true r i h)) ∙ ap life_of e)
           go (inr h) = inr (g (λ z. false≢true (sym h ∙ subst (λ y. same_rec r y ≡ true) z (same_rec_refl r))))
 
-  publish_locked : (heap : Heap) (root : Option Entry) (t : Option Tree) (x : Change) → IsLegalPublish c q heap root t x → (n p : ℕ) → c.lock n ≡ Some p →
-      MayLock p (next_fate c.past.now q (is_linked t (a_node n)) (c.fate (a_node n)))
+  publish_locked : (heap : Heap) (root : Option Entry) (t : Option Tree) (x : Change) → IsMomentPublish c q heap root t x → (n p : ℕ) → c.lock n ≡ Some p →
+      IsLockable p (next_fate c.past.now q (is_linked t (a_node n)) (c.fate (a_node n)))
   publish_locked heap root t x l n p e = go (c.fate (a_node n)) refl (law.locked n p e) (linked_cases t (a_node n))
     where
-      go : (f : Fate) → c.fate (a_node n) ≡ f → MayLock p f → (IsLinked t (a_node n) × (is_linked t (a_node n) ≡ true)) ⊎ ((¬ (IsLinked t (a_node n))) × (is_linked t (a_node n) ≡ false)) →
-          MayLock p (next_fate c.past.now q (is_linked t (a_node n)) f)
+      go : (f : Fate) → c.fate (a_node n) ≡ f → IsLockable p f → (IsLinked t (a_node n) × (is_linked t (a_node n) ≡ true)) ⊎ ((¬ (IsLinked t (a_node n))) × (is_linked t (a_node n) ≡ false)) →
+          IsLockable p (next_fate c.past.now q (is_linked t (a_node n)) f)
       go (InTree s) i m (inl (h, z)) = rw z tt
       go (InTree s) i m (inr (h, z)) = rw z (some_pass (sym (l.goes n s i h) ∙ e))
       go (Unlinked s o k) i m (inl (h, z)) = rw z m
@@ -77,19 +77,19 @@ module _ (c : Core) (q : ℕ) (law : IsLawfulCore c) where
       go (Ready k) i m z = absurd m
       go (Marked s o k) i m z = absurd m
 
-  mark_locked : (r : Rec) (f l : ℕ) → (n p : ℕ) → (after_mark c.shared r f l (c.rounds q).epoch).lock n ≡ Some p → MayLock p ((after_mark c.shared r f l (c.rounds q).epoch).fate (a_node n))
+  mark_locked : (r : Rec) (f l : ℕ) → (n p : ℕ) → (after_mark c.shared r f l (c.rounds q).epoch).lock n ≡ Some p → IsLockable p ((after_mark c.shared r f l (c.rounds q).epoch).fate (a_node n))
   mark_locked r f l n p e = go (cases_Bool (same_rec (a_node n) r)) e
     where
       go : (same_rec (a_node n) r ≡ true) ⊎ (same_rec (a_node n) r ≡ false) → (if same_rec (a_node n) r then None else c.lock n) ≡ Some p →
-          MayLock p (if same_rec (a_node n) r then Marked f l (c.rounds q).epoch else c.fate (a_node n))
+          IsLockable p (if same_rec (a_node n) r then Marked f l (c.rounds q).epoch else c.fate (a_node n))
       go (inl h) z = absurd (none_some (rw h at z))
       go (inr h) z = rw h (law.locked n p (rw h at z))
 
-  lock_locked : (n s : ℕ) → c.fate (a_node n) ≡ InTree s → (o : Option ℕ) → (i p : ℕ) → (with_lock c.shared n o).lock i ≡ Some p → MayLock p (c.fate (a_node i))
+  lock_locked : (n s : ℕ) → c.fate (a_node n) ≡ InTree s → (o : Option ℕ) → (i p : ℕ) → (with_lock c.shared n o).lock i ≡ Some p → IsLockable p (c.fate (a_node i))
   lock_locked n s e o i p l = go (cases_Bool (eqb i n)) l
     where
-      go : (eqb i n ≡ true) ⊎ (eqb i n ≡ false) → (if eqb i n then o else c.lock i) ≡ Some p → MayLock p (c.fate (a_node i))
-      go (inl h) z = subst (λ y. MayLock p (c.fate (a_node y))) (sym (eqb-true i n h)) (subst (MayLock p) (sym e) tt)
+      go : (eqb i n ≡ true) ⊎ (eqb i n ≡ false) → (if eqb i n then o else c.lock i) ≡ Some p → IsLockable p (c.fate (a_node i))
+      go (inl h) z = subst (λ y. IsLockable p (c.fate (a_node y))) (sym (eqb-true i n h)) (subst (IsLockable p) (sym e) tt)
       go (inr h) z = law.locked i p (rw h at z)
 
 not_marked : {q a b s : ℕ} → Held q ≡ Marked a b s → ⊥

@@ -16,7 +16,7 @@ use Rattle.moments.specs.Heap.{Heap}
 use Rattle.moments.specs.State.{IsLawful}
 use Rattle.moments.specs.Core.{Core, view}
 use Rattle.moments.specs.Told.{items_of, content, item_of, IsChanged, IsChange, IsTold}
-use Rattle.moments.specs.Steps.{after_publish, IsLegalPublish}
+use Rattle.moments.specs.Steps.{after_publish, IsMomentPublish}
 use Rattle.moments.proofs.Publish.{moment_old, moment_new}
 
 -- A change of the leaves is the change of the map, and is legal on it.
@@ -56,7 +56,7 @@ legal_end m (y ∷ xs) x l f = (l.0, legal_end (changed m y) xs x l.1 f)
 
 -- After a legal publish the moments tell the changes, with this one at the end.
 pub publish_told : (c : Core) (q : ℕ) (heap : Heap) (root : Option Entry) (t : Option Tree) (x : Change) → IsLawful (view c) → IsTold c.past c.changes →
-    IsLegalPublish c q heap root t x → IsTold (after_publish c q heap root t x).past (after_publish c q heap root t x).changes
+    IsMomentPublish c q heap root t x → IsTold (after_publish c q heap root t x).past (after_publish c q heap root t x).changes
 publish_told c q heap root t x law told l = record {
   count = rw length-append (let e = told.count in omega arith);
   content_is = λ n h. go n h (cases_lt c.past.now n);

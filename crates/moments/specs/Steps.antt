@@ -58,7 +58,7 @@ pub record IsNextMoment (s : Shared) (q : ℕ) (heap : Heap) (root : Option Entr
   pub change : IsChange (s.past.moment s.past.now) x t
 
 -- The publish is legal: it stores one entry, under its lock, in a node that is linked then; and it makes the next moment.
-pub record IsLegalPublish (c : Core) (q : ℕ) (heap : Heap) (root : Option Entry) (t : Option Tree) (x : Change) : Type 0 where
+pub record IsMomentPublish (c : Core) (q : ℕ) (heap : Heap) (root : Option Entry) (t : Option Tree) (x : Change) : Type 0 where
   pub store : IsStore c q heap root
   pub near : IsNear c.heap heap
   pub kept : (n : ℕ) → IsLinked t (a_node n) ⊎ (c.heap.nodes n ≡ heap.nodes n)
@@ -146,7 +146,7 @@ pub data IsStep (c : Core) (q : ℕ) : Core → Type 0 where
   unlocks_anchor : c.anchor ≡ Some q → IsStep c q (record c { shared = with_anchor c.shared None })
   locks : (n since : ℕ) → c.lock n ≡ None → c.fate (a_node n) ≡ InTree since → IsStep c q (record c { shared = with_lock c.shared n (Some q) })
   unlocks : (n since : ℕ) → c.lock n ≡ Some q → c.fate (a_node n) ≡ InTree since → IsStep c q (record c { shared = with_lock c.shared n None })
-  publishes : (heap : Heap) (root : Option Entry) (t : Option Tree) (x : Change) → IsLegalPublish c q heap root t x → IsStep c q (after_publish c q heap root t x)
+  publishes : (heap : Heap) (root : Option Entry) (t : Option Tree) (x : Change) → IsMomentPublish c q heap root t x → IsStep c q (after_publish c q heap root t x)
   marks : (r : Rec) (since last : ℕ) → c.fate r ≡ Unlinked since last q → last < (c.rounds q).moment →
       IsStep c q (record c { shared = after_mark c.shared r since last (c.rounds q).epoch })
   loads_epoch : IsStep c q (record c { shared = after_load_epoch c.shared q })
@@ -158,17 +158,17 @@ pub data IsStep (c : Core) (q : ℕ) : Core → Type 0 where
       IsStep c q (record c { shared = with_fate c.shared r Free })
 
 -- A locked node is in the tree, or its lock's pass has unlinked it.
-abbrev pub MayLock : ℕ → Fate → Type 0
-MayLock q (InTree since) = Unit {0}
-MayLock q (Unlinked since last p) = p ≡ q
-MayLock q f = ⊥
+abbrev pub IsLockable : ℕ → Fate → Type 0
+IsLockable q (InTree since) = Unit {0}
+IsLockable q (Unlinked since last p) = p ≡ q
+IsLockable q f = ⊥
 
 -- The core is lawful: as a state, in its epochs and its locks, and its moments tell its changes.
 pub record IsLawfulCore (c : Core) : Type 0 where
   pub state : IsLawful (view c)
   pub paced : IsPaced c.shared
   pub told : IsTold c.past c.changes
-  pub locked : (n q : ℕ) → c.lock n ≡ Some q → MayLock q (c.fate (a_node n))
+  pub locked : (n q : ℕ) → c.lock n ≡ Some q → IsLockable q (c.fate (a_node n))
 
 -- Before the first step: no record is claimed, the index is empty and nothing is locked or pinned, and no pass has loaded the epoch.
 abbrev pub at_first : Shared

@@ -12,7 +12,7 @@ use Rattle.moments.specs.Told.{item_of, IsChanged, added_change, replaced_change
 use Rattle.rowex_core.specs.Events.{AreSame, change_between, change_at}
 use Rattle.replay_trees.specs.declared.trees.Item.{Item as ReadItem}
 use Rattle.replay_trees.specs.Moments.{item_of as leaf_item}
-use Rattle.replay_trees.specs.Changed.{AreApart, numbers, Changes, IsFound, IsMade}
+use Rattle.replay_trees.specs.Changed.{AreApart, numbers, Changes, IsFoundChange, IsMade}
 
 -- Lists of the same numbers are the same lists
 same_lists : (xs ys : List Item) → AreSame xs ys → numbers xs ≡ numbers ys → xs ≡ ys
@@ -56,7 +56,7 @@ no_change q xs ys e = subst (λ z. (change_between q xs z).kind ≡ Removed) e (
 passed : (q : ℕ) (x y : Item) (xs ys : List Item) → x.number ≡ y.number → change_between q (x ∷ xs) (y ∷ ys) ≡ change_between q xs ys
 passed q x y xs ys e = let t : eqb x.number y.number ≡ true = eq-eqb x.number y.number e in rw t refl
 
-found_step : (q : ℕ) (x : Item) (xs ys : List Item) (o : Option Change) → IsFound q xs ys o → IsFound q (x ∷ xs) (x ∷ ys) o
+found_step : (q : ℕ) (x : Item) (xs ys : List Item) (o : Option Change) → IsFoundChange q xs ys o → IsFoundChange q (x ∷ xs) (x ∷ ys) o
 found_step q x xs ys None none =
     λ c. none (subst (λ z. Changes z xs ys) (passed q x x xs ys refl) (
       c.0,
@@ -67,19 +67,19 @@ found_step q x xs ys (Some c) f = (f.0 ∙ sym (passed q x x xs ys refl), (f.1.0
 
 -- What is found behind a common front is found of the whole lists.
 pub found_from : (q : ℕ) (xs ys : List Item) (n : ℕ) (o : Option Change) → AreSame xs ys → n ≤ length xs → n ≤ length ys →
-    ((k : ℕ) → k < n → get_or (numbers xs) k 0 ≡ get_or (numbers ys) k 0) → (AreSame (drop n xs) (drop n ys) → IsFound q (drop n xs) (drop n ys) o) → IsFound q xs ys o
+    ((k : ℕ) → k < n → get_or (numbers xs) k 0 ≡ get_or (numbers ys) k 0) → (AreSame (drop n xs) (drop n ys) → IsFoundChange q (drop n xs) (drop n ys) o) → IsFoundChange q xs ys o
 found_from q xs ys zero o s h g e f = f s
 found_from q [] ys (suc n) o s h g e f = absurd (omega arith)
 found_from q (x ∷ xs) [] (suc n) o s h g e f = absurd (omega arith)
 found_from q (x ∷ xs) (y ∷ ys) (suc n) o s h g e f =
     let i : x ≡ y = s x y (inl refl) (inl refl) (e 0 (omega arith)) in
-    subst (λ z. IsFound q (x ∷ xs) (z ∷ ys) o) i
+    subst (λ z. IsFoundChange q (x ∷ xs) (z ∷ ys) o) i
     (found_step q x xs ys o (found_from q xs ys n o (λ u v a b. s u v (inr a) (inr b)) (omega arith) (omega arith) (λ k l. e (suc k) (omega arith)) f))
 
 -- At the first place where the lists differ
 
 made_found : (q : ℕ) (xs ys us vs : List Item) (c : Change) (o : Option Change) → change_between q xs ys ≡ c → (numbers us ≡ numbers vs → Changes c xs ys) →
-    (Changes c xs ys → numbers us ≡ numbers vs) → IsMade us vs c o → IsFound q xs ys o
+    (Changes c xs ys → numbers us ≡ numbers vs) → IsMade us vs c o → IsFoundChange q xs ys o
 made_found q xs ys us vs c None e into back made = λ m. made (back (subst (λ z. Changes z xs ys) e m))
 made_found q xs ys us vs c (Some d) e into back made = (made.0 ∙ sym e, subst (λ z. Changes z xs ys) (sym made.0) (into made.1))
 
@@ -92,14 +92,14 @@ rest_of_less z y xs ys a added = refl
 rest_of_less z y xs ys a (behind m) = absurd (a refl)
 
 pub removal_found : (q : ℕ) (x : Item) (xs ys : List Item) (o : Option Change) → AreApart (x ∷ xs) ys → AreSame (x ∷ xs) ys → change_between q (x ∷ xs) ys ≡ removed_change q x →
-    IsMade xs ys (removed_change q x) o → IsFound q (x ∷ xs) ys o
+    IsMade xs ys (removed_change q x) o → IsFoundChange q (x ∷ xs) ys o
 removal_found q x xs ys o a s e made =
     made_found q (x ∷ xs) ys xs ys (removed_change q x) o e
     (λ i. (x.number, subst (λ z. IsMore x z (x ∷ xs)) (same_lists xs ys (λ u v h g. s u v (inr h) g) i) added))
     (λ m. ap numbers (sym (rest_of_more (item_of m.0 (removed_change q x)) x xs ys a m.1))) made
 
 pub addition_found : (q : ℕ) (y : Item) (xs ys : List Item) (o : Option Change) → AreApart xs (y ∷ ys) → AreSame xs (y ∷ ys) → change_between q xs (y ∷ ys) ≡ added_change q y →
-    IsMade xs ys (added_change q y) o → IsFound q xs (y ∷ ys) o
+    IsMade xs ys (added_change q y) o → IsFoundChange q xs (y ∷ ys) o
 addition_found q y xs ys o a s e made =
     made_found q xs (y ∷ ys) xs ys (added_change q y) o e
     (λ i. (y.number, subst (λ z. IsMore y xs (y ∷ z)) (same_lists xs ys (λ u v h g. s u v h (inr g)) i) added))
@@ -110,7 +110,7 @@ rest_of_exchange w z x y xs ys a exchanged = refl
 rest_of_exchange w z x y xs ys a (past_one m) = absurd (a refl)
 
 pub exchange_found : (q : ℕ) (x y : Item) (xs ys : List Item) (o : Option Change) → x.number ≢ y.number → AreSame (x ∷ xs) (y ∷ ys) → x.key ≡ y.key →
-    change_between q (x ∷ xs) (y ∷ ys) ≡ replaced_change q y → IsMade xs ys (replaced_change q y) o → IsFound q (x ∷ xs) (y ∷ ys) o
+    change_between q (x ∷ xs) (y ∷ ys) ≡ replaced_change q y → IsMade xs ys (replaced_change q y) o → IsFoundChange q (x ∷ xs) (y ∷ ys) o
 exchange_found q x y xs ys o a s k e made =
     made_found q (x ∷ xs) (y ∷ ys) xs ys (replaced_change q y) o e
     (λ i. (y.number, (x, k, subst (λ z. IsExchange x y (x ∷ xs) (y ∷ z)) (same_lists xs ys (λ u v h g. s u v (inr h) (inr g)) i) exchanged)))
@@ -144,11 +144,11 @@ other_number xs ys i x y n h g e = n (sym (number_at xs i x h) ∙ (e ∙ number
 
 -- what is found of lists is found of those that are the same
 pub found_at : (q : ℕ) (gone come xs ys : List ReadItem) (o : Option Change) → gone ≡ xs → come ≡ ys → AreApart (map leaf_item gone) (map leaf_item come) →
-    (AreApart (map leaf_item xs) (map leaf_item ys) → AreSame (map leaf_item xs) (map leaf_item ys) → IsFound q (map leaf_item xs) (map leaf_item ys) o) →
-    AreSame (map leaf_item gone) (map leaf_item come) → IsFound q (map leaf_item gone) (map leaf_item come) o
+    (AreApart (map leaf_item xs) (map leaf_item ys) → AreSame (map leaf_item xs) (map leaf_item ys) → IsFoundChange q (map leaf_item xs) (map leaf_item ys) o) →
+    AreSame (map leaf_item gone) (map leaf_item come) → IsFoundChange q (map leaf_item gone) (map leaf_item come) o
 found_at q gone come xs ys o e f a k =
-    subst (λ u. AreApart (map leaf_item u) (map leaf_item come) → AreSame (map leaf_item u) (map leaf_item come) → IsFound q (map leaf_item u) (map leaf_item come) o) (sym e)
-    (subst (λ v. AreApart (map leaf_item xs) (map leaf_item v) → AreSame (map leaf_item xs) (map leaf_item v) → IsFound q (map leaf_item xs) (map leaf_item v) o) (sym f) k) a
+    subst (λ u. AreApart (map leaf_item u) (map leaf_item come) → AreSame (map leaf_item u) (map leaf_item come) → IsFoundChange q (map leaf_item u) (map leaf_item come) o) (sym e)
+    (subst (λ v. AreApart (map leaf_item xs) (map leaf_item v) → AreSame (map leaf_item xs) (map leaf_item v) → IsFoundChange q (map leaf_item xs) (map leaf_item v) o) (sym f) k) a
 
 pub no_items : (xs : List ReadItem) → length xs ≡ 0 → xs ≡ []
 no_items [] e = refl

@@ -18,9 +18,9 @@ abbrev pub Changes : Change → List Item → List Item → Type 0
 Changes x xs ys = (n : ℕ) × IsChanged x.kind (item_of n x) xs ys
 
 -- A change is found exactly where one leaf changed as the change between the lists says.
-abbrev pub IsFound : ℕ → List Item → List Item → Option Change → Type 0
-IsFound q xs ys None = ¬ (Changes (change_between q xs ys) xs ys)
-IsFound q xs ys (Some x) = (x ≡ change_between q xs ys) × Changes x xs ys
+abbrev pub IsFoundChange : ℕ → List Item → List Item → Option Change → Type 0
+IsFoundChange q xs ys None = ¬ (Changes (change_between q xs ys) xs ys)
+IsFoundChange q xs ys (Some x) = (x ≡ change_between q xs ys) × Changes x xs ys
 
 -- The change, exactly where the other leaves are the same before and after.
 abbrev pub IsMade : List Item → List Item → Change → Option Change → Type 0

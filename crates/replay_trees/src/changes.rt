@@ -3,7 +3,7 @@
 ghost use Rattle.std.specs.Prelude.{ℕ, ◌≡◌, ◌↔◌, ◌<◌, ◌≤◌, IsTrue, Some, None, if◌then◌else◌, length, map, slice_index};
 ghost use Rattle.replay_trees.specs.Moments.{item_of};
 ghost use Rattle.rowex_core.specs.Events.{AreSame};
-ghost use Rattle.replay_trees.specs.Changed.{AreApart, IsFound, IsMade, numbers};
+ghost use Rattle.replay_trees.specs.Changed.{AreApart, IsFoundChange, IsMade, numbers};
 
 use crate::trees::Item;
 use hot_model::{Change, Kind};
@@ -13,7 +13,7 @@ use std::cmp::Ordering;
 /// another of its key; `None` exactly where it was no such change. The lists are in the order of the keys, and leaves
 /// of one number are one leaf.
 pub fn change_between(pass: u16, before: &[Item], after: &[Item]) -> Option<Change>
-    ensures { AreSame (map item_of before.now) (map item_of after.now) → IsFound pass (map item_of before.now) (map item_of after.now) result }
+    ensures { AreSame (map item_of before.now) (map item_of after.now) → IsFoundChange pass (map item_of before.now) (map item_of after.now) result }
 {
     let front = same_front(before, after);
     change_at(pass, &before[front..], &after[front..])
@@ -22,7 +22,7 @@ pub fn change_between(pass: u16, before: &[Item], after: &[Item]) -> Option<Chan
 /// As `change_between`, of lists whose first leaves are not the same.
 fn change_at(pass: u16, gone: &[Item], come: &[Item]) -> Option<Change>
     requires { AreApart (map item_of gone.now) (map item_of come.now) }
-    ensures { AreSame (map item_of gone.now) (map item_of come.now) → IsFound pass (map item_of gone.now) (map item_of come.now) result }
+    ensures { AreSame (map item_of gone.now) (map item_of come.now) → IsFoundChange pass (map item_of gone.now) (map item_of come.now) result }
 {
     match (gone.split_first(), come.split_first()) {
         (None, None) => None,

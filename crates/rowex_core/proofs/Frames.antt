@@ -14,7 +14,7 @@ use Rattle.hot_model.specs.Maps.{key_order}
 use Rattle.std.specs.declared.cmp.Ordering.{Ordering}
 use Rattle.std.specs.declared.cmp.Ordering.TheVariants.{Less, Equal, Greater}
 use Rattle.moments.specs.Core.{Fate, Free, Held, Ready as ReadyBy, InTree, Unlinked, Marked}
-use Rattle.moments.specs.Steps.{MayLock, with_fate, with_lock, with_pin, with_round, unlocked, with_anchor}
+use Rattle.moments.specs.Steps.{IsLockable, with_fate, with_lock, with_pin, with_round, unlocked, with_anchor}
 use Rattle.moments.proofs.Publish.{moment_old}
 use Rattle.rowex_core.specs.declared.event.Act.{Act}
 use Rattle.rowex_core.specs.declared.event.Act.TheVariants.{Claim, Fill, Ready, Release, LoadRef, LoadFixed, Lock, Unlock, Publish, Mark, LoadEpoch, Advance, SetPin, ClearPin, LoadPin, LoadState, GiveBack}
@@ -129,7 +129,7 @@ module _ (c : Core) (p q : ℕ) (spot : Spot) (w : ℕ) (ne : p ≢ q) (law : Is
   }
 
 -- what a locked record's state word is
-locked_state : (o : Option ℕ) (f : Fate) (q : ℕ) → o ≡ Some q → MayLock q f → state_word (tag_of o f) ≡ 3
+locked_state : (o : Option ℕ) (f : Fate) (q : ℕ) → o ≡ Some q → IsLockable q f → state_word (tag_of o f) ≡ 3
 locked_state o Free q e h = absurd h
 locked_state o (Held p) q e h = absurd h
 locked_state o (ReadyBy p) q e h = absurd h

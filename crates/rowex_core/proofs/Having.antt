@@ -18,7 +18,7 @@ use Rattle.rowex_core.specs.Events.{IsInTree, stored_words, next_tree}
 use Rattle.rowex_core.specs.Knowing.{records_of, records_in, unlinked_as, own_after, relocked, locks_after, without_record, without_lock}
 use Rattle.rowex_core.proofs.Publishing.{linked_now, true_linked}
 use Rattle.moments.specs.Trades.{IsOf, AreApart, HasTraded}
-use Rattle.rowex_core.specs.Having.{OwnsJust, LocksJust, IsKept, IsAny, IsUnlinked}
+use Rattle.rowex_core.specs.Having.{OwnsJust, LocksJust, AreKept, IsAny, IsUnlinked}
 use Rattle.moments.proofs.Members.{all_of, of_append, of_left, of_right, of_map, map_of, of_filter, filter_of, none_of}
 use Rattle.rowex_core.specs.declared.known.Holding.{Holding}
 use Rattle.rowex_core.specs.declared.known.Holding.TheVariants.{Held, Ready, Unlinked}
@@ -123,7 +123,7 @@ module _ (c : Core) (law : IsLawful c) (t : Option Tree) (new gone : List Rec) (
           (o, of_left o left (right own) (map_of (λ r. unlinked_as c r (c.fate r)) r (filter (λ r. not (is_linked t r)) (records_in (c.past.moment c.past.now))) i), (unlinked_is r was).0)
 
   -- of a pass whose locked nodes are in the tree: it has locked just those that stay
-  pub publish_locks : (words : Rec → List ℕ) (locks : List Locked) (held kept : List ℕ) → LocksJust locks held → IsKept held gone kept → ((l : Locked) → IsOf l locks → IsLinked (c.past.moment c.past.now) (a_node l.node)) →
+  pub publish_locks : (words : Rec → List ℕ) (locks : List Locked) (held kept : List ℕ) → LocksJust locks held → AreKept held gone kept → ((l : Locked) → IsOf l locks → IsLinked (c.past.moment c.past.now) (a_node l.node)) →
       LocksJust (locks_after words t locks) kept
   publish_locks words locks held kept has keeps now = record { only = only; each = each }
     where

@@ -20,7 +20,7 @@ use Rattle.rowex_core.specs.Reading.{entry_in, word_in}
 use Rattle.rowex_core.specs.Cores.{Core, IsLawful}
 use Rattle.rowex_core.specs.Events.{Legal, after}
 use Rattle.rowex_core.specs.Frames.{IsFrame}
-use Rattle.rowex_core.specs.Knowing.{StoodBetween, StoodAs, IsFound, IsFact, Knows, NoChangeBy, IsUntouched, Knowing, Owns}
+use Rattle.rowex_core.specs.Knowing.{StoodBetween, StoodAs, HoldsIfStood, IsFact, Knows, NoChangeBy, IsUntouched, Knowing, Owns}
 use Rattle.rowex_core.proofs.Frames.{frame}
 
 -- Facts of the past
@@ -35,7 +35,7 @@ stood_as_grown a b g since at r P h (n, u, lo, hi, st, p) = (n, u, lo, hi, stand
 stood_before : (a b : Past) → IsGrown a b → (since at : ℕ) (r : Rec) → at ≤ a.now → StoodBetween b since at r → StoodBetween a since at r
 stood_before a b g since at r h (n, u, lo, hi, st) = (n, u, lo, hi, stands_before a b g n r u (le_trans hi h) st)
 
-found_grown : (a b : Past) → IsGrown a b → (since at : ℕ) (r : Rec) (P : Tree → Type 0) → at ≤ a.now → IsFound a since at r P → IsFound b since at r P
+found_grown : (a b : Past) → IsGrown a b → (since at : ℕ) (r : Rec) (P : Tree → Type 0) → at ≤ a.now → HoldsIfStood a since at r P → HoldsIfStood b since at r P
 found_grown a b g since at r P h f m lo s = stood_as_grown a b g m at r P h (f m lo (stood_before a b g m at r h s))
 
 pub fact_grown : (a b : Past) → IsGrown a b → (f : Fact) → IsFact a f → IsFact b f

@@ -8,7 +8,7 @@ use Rattle.moments.specs.Steps.{same_rec}
 use Rattle.moments.specs.Trades.{IsOf, AreApart}
 use Rattle.moments.proofs.Legal.{same_rec_refl, same_rec_true}
 use Rattle.moments.proofs.Members.{of_filter, filter_of}
-use Rattle.rowex_core.specs.Having.{IsKept, is_among, kept_of}
+use Rattle.rowex_core.specs.Having.{AreKept, is_among, kept_of}
 
 among : (r : Rec) (xs : List Rec) → is_among r xs ≡ true → IsOf r xs
 among r [] e = absurd (false≢true e)
@@ -32,7 +32,7 @@ was_true true e = absurd (false≢true e)
 was_true false e = refl
 
 -- of the locked nodes that are unlinked go, and the others are kept
-pub kept_is : (held : List ℕ) (gone : List Rec) → IsKept held gone (kept_of held gone)
+pub kept_is : (held : List ℕ) (gone : List Rec) → AreKept held gone (kept_of held gone)
 kept_is held gone = record {
   only = λ n h. elim (cases_Bool (is_among (a_node n) gone)) [
     | inl e ↦ inr (among (a_node n) gone e)

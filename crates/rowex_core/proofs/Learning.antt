@@ -15,7 +15,7 @@ use Rattle.moments.specs.declared.Round.{Round}
 use Rattle.moments.specs.Heap.{Heap}
 use Rattle.moments.specs.State.{Past, IsTop, IsReach}
 use Rattle.moments.specs.Core.{Fate, Free, Held as HeldBy, Ready as ReadyBy, InTree, Unlinked as UnlinkedBy, Marked, pin_moment}
-use Rattle.moments.specs.Steps.{same_rec, is_linked, next_fate, MayLock, lowered, with_fate, with_lock, with_pin, with_round, unlocked, with_anchor}
+use Rattle.moments.specs.Steps.{same_rec, is_linked, next_fate, IsLockable, lowered, with_fate, with_lock, with_pin, with_round, unlocked, with_anchor}
 use Rattle.moments.proofs.Legal.{same_rec_refl}
 use Rattle.rowex_core.specs.declared.event.Act.{Act}
 use Rattle.rowex_core.specs.declared.event.Act.TheVariants.{Claim, Fill, Ready, Release, LoadRef, LoadFixed, Lock, Unlock, Publish, Mark, LoadEpoch, Advance, SetPin, ClearPin, LoadPin, LoadState, GiveBack}
@@ -321,7 +321,7 @@ module _ (c : Core) (k : Known) (spot : Spot) (w : ℕ) (law : IsLawful c) (h : 
       through = filter_mapped (λ (x : Locked). nat_eq n x.node) (λ (x : Locked). nat_eq n x.node) words (λ x. refl) (filter linked k.locks) ∙
           ap (map words) (filter_swapped (λ (x : Locked). nat_eq n x.node) linked k.locks ∙ ap (filter linked) (sym (had_lock c k h n)))
 
-      lockable : (f : Fate) → MayLock k.pass f → (b : Bool) → is_linked (next_tree c spot w) (a_node n) ≡ b →
+      lockable : (f : Fate) → IsLockable k.pass f → (b : Bool) → is_linked (next_tree c spot w) (a_node n) ≡ b →
           locked n (stored_words c spot w (a_node n)) (is_in_tree (next_fate c.past.now k.pass b f) && true) ≡ map words (filter linked (locked n (c.words (a_node n)) (is_in_tree f && true)))
       lockable (InTree s) m true e = rw e refl
       lockable (InTree s) m false e = rw e refl

@@ -12,7 +12,7 @@ use Rattle.moments.specs.State.{IsLinked}
 use Rattle.moments.specs.Told.{items_of}
 use Rattle.moments.specs.Core.{Fate, Free, Held, Ready as ReadyBy, InTree, Unlinked, Marked}
 use Rattle.moments.specs.Steps.{same_rec, is_linked, next_fate, publishes, IsStore, at_root, at_slot}
-use Rattle.moments.specs.Steps.{IsLegalPublish as IsMomentsPublish}
+use Rattle.moments.specs.Steps.{IsMomentPublish as IsMomentsPublish}
 use Rattle.moments.proofs.Legal.{same_rec_true, linked_cases}
 use Rattle.moments.proofs.Stepping.{step_lawful}
 use Rattle.rowex_core.specs.declared.event.Act.TheVariants.{Publish}

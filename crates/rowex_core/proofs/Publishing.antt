@@ -16,7 +16,7 @@ use Rattle.moments.specs.declared.Rec.TheVariants.{Node as a_node, Leaf as a_lea
 use Rattle.moments.specs.Heap.{Heap, NodeWords, IsShown}
 use Rattle.moments.specs.State.{IsRecord, IsLived, IsTop, IsLinked, Links, Spans}
 use Rattle.moments.specs.Core.{Fate, Free, Held, Ready as ReadyBy, InTree, Unlinked as UnlinkedBy, Marked, life_of}
-use Rattle.moments.specs.Steps.{same_rec, links, is_linked, next_fate, MayLock}
+use Rattle.moments.specs.Steps.{same_rec, links, is_linked, next_fate, IsLockable}
 use Rattle.moments.specs.Told.{items_of, item_of, IsChanged, IsChange}
 use Rattle.moments.proofs.Publish.{links_within, within_links}
 use Rattle.moments.proofs.Heaps.{determined, shown_within}
@@ -245,7 +245,7 @@ module _ (c : Core) (p : ℕ) (spot : Spot) (w : ℕ) (law : IsLawful c) (l : Is
     stored Root h n e = refl
     stored (Slot m j) h n e = other_words c m j w (a_node n) (λ x. ne (some_pass (sym h.2 ∙ (ap c.lock (sym (node_number x)) ∙ e))))
 
-    lock_then : (n : ℕ) → c.lock n ≡ Some q → (f : Fate) → c.fate (a_node n) ≡ f → MayLock q f → Linking (a_node n) → is_in_tree (next_fate c.past.now p (is_linked (next_tree c spot w) (a_node n)) f) ≡ is_in_tree f
+    lock_then : (n : ℕ) → c.lock n ≡ Some q → (f : Fate) → c.fate (a_node n) ≡ f → IsLockable q f → Linking (a_node n) → is_in_tree (next_fate c.past.now p (is_linked (next_tree c spot w) (a_node n)) f) ≡ is_in_tree f
     lock_then n a (InTree s) f m (stays t g e) = rw e refl
     lock_then n a (InTree s) f m (comes g e) = absurd (let x : InTree s ≡ ReadyBy p = sym f ∙ g in cc)
     lock_then n a (InTree s) f m (out h e same) = absurd (ne (some_pass (sym (l.goes n s f h) ∙ a)))

@@ -15,7 +15,7 @@ use Rattle.moments.specs.declared.Rec.TheVariants.{Node as a_node, Leaf as a_lea
 use Rattle.moments.specs.declared.Pin.{Pin}
 use Rattle.moments.specs.declared.Round.{Round}
 use Rattle.moments.specs.Core.{Fate, Free, Held, Ready as ReadyBy, InTree, Unlinked, Marked}
-use Rattle.moments.specs.Steps.{same_rec, is_linked, next_fate, MayLock, with_fate, with_lock, with_pin, with_round, with_anchor, with_epoch, after_mark}
+use Rattle.moments.specs.Steps.{same_rec, is_linked, next_fate, IsLockable, with_fate, with_lock, with_pin, with_round, with_anchor, with_epoch, after_mark}
 use Rattle.moments.proofs.Legal.{same_rec_refl, same_rec_true}
 use Rattle.rowex_core.specs.declared.event.Act.{Act}
 use Rattle.rowex_core.specs.declared.event.Act.TheVariants.{Claim, Fill, Ready, Release, LoadRef, LoadFixed, Lock, Unlock, Publish, Mark, LoadEpoch, Advance, SetPin, ClearPin, LoadPin, LoadState, GiveBack}
@@ -314,7 +314,7 @@ step_writes c q (Ready r) law (a, b) = fate_write c r (ReadyBy q) 2 (ap (λ z. s
       where
         go : (o : Option ℕ) → c.lock n ≡ o → o ≡ None
         go None x = refl
-        go (Some p) x = absurd (subst (MayLock p) e (law.core.locked n p x))
+        go (Some p) x = absurd (subst (IsLockable p) e (law.core.locked n p x))
 step_writes c q (Release r) law l = fate_write c r Free 0 refl
 step_writes c q (LoadRef spot w) law l = nothing c (spot_word spot) _ refl
 step_writes c q (LoadFixed r offset w) law l = nothing c (word_of r offset) _ refl

@@ -31,7 +31,7 @@ pub record LocksJust (locks : List Locked) (nodes : List ℕ) : Type 0 where
   pub each : (n : ℕ) → IsOf n nodes → (l : Locked) × IsOf l locks × (l.node ≡ n)
 
 -- Of the locked nodes those that are unlinked go, and these are kept.
-pub record IsKept (held : List ℕ) (gone : List Rec) (kept : List ℕ) : Type 0 where
+pub record AreKept (held : List ℕ) (gone : List Rec) (kept : List ℕ) : Type 0 where
   pub only : (n : ℕ) → IsOf n held → IsOf n kept ⊎ IsOf (a_node n) gone
   pub each : (n : ℕ) → IsOf n kept → IsOf n held × (IsOf (a_node n) gone → ⊥)
 

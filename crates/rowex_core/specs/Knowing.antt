@@ -48,13 +48,13 @@ abbrev pub StoodAs : Past → ℕ → ℕ → Rec → (Tree → Type 0) → Type
 StoodAs s since at r P = (n : ℕ) × (u : Tree) × (since ≤ n) × (n ≤ at) × Stands s n r u × P u
 
 -- whichever moment since `since` we begin at, if the record stood from then to `at`, it stood so as a tree of which P holds
-abbrev pub IsFound : Past → ℕ → ℕ → Rec → (Tree → Type 0) → Type 0
-IsFound s since at r P = (m : ℕ) → since ≤ m → StoodBetween s m at r → StoodAs s m at r P
+abbrev pub HoldsIfStood : Past → ℕ → ℕ → Rec → (Tree → Type 0) → Type 0
+HoldsIfStood s since at r P = (m : ℕ) → since ≤ m → StoodBetween s m at r → StoodAs s m at r P
 
 abbrev pub IsFact : Past → Fact → Type 0
 IsFact s (Rooted since at e) = (since ≤ at) × (at ≤ s.now) × (root_of (s.moment at) ≡ e)
-IsFact s (Placed since at n j e) = (at ≤ s.now) × IsFound s since at (a_node n) (λ u. entry_in u j ≡ e)
-IsFact s (Fixed since at r offset w) = (at ≤ s.now) × IsFound s since at r (λ u. word_in u offset ≡ w)
+IsFact s (Placed since at n j e) = (at ≤ s.now) × HoldsIfStood s since at (a_node n) (λ u. entry_in u j ≡ e)
+IsFact s (Fixed since at r offset w) = (at ≤ s.now) × HoldsIfStood s since at r (λ u. word_in u offset ≡ w)
 
 -- What it has seen is true: others alone have changed the map since; its last load of the root saw a front of that; and
 -- its facts are facts of the past.
@@ -81,6 +81,10 @@ pub record Recalls (c : Core) (k : Known) : Type 0 where
   pub front : OthersGoOn k.pass k.front c.changes
   pub facts : All (IsFact c.past) k.facts
   pub pin : c.pins k.pass ≡ k.pin
+
+-- the pass has been pinned since moment m or longer
+abbrev pub IsSince : Known → ℕ → Type 0
+IsSince k m = (p : Pin) × (k.pin ≡ Some p) × (p.moment ≤ m)
 
 abbrev pub NoChangeBy : ℕ → List Change → Type 0
 NoChangeBy q changes = All (λ x. x.pass ≢ q) changes

@@ -13,14 +13,14 @@ use Rattle.moments.specs.declared.Pin.{Pin}
 use Rattle.moments.specs.State.{Stands}
 use Rattle.moments.specs.Told.{items_of}
 use Rattle.moments.specs.Trades.{HasTraded}
-use Rattle.moments.specs.Steps.{IsLegalPublish as IsMomentsPublish}
+use Rattle.moments.specs.Steps.{IsMomentPublish as IsMomentsPublish}
 use Rattle.rowex_core.specs.declared.event.Spot.{Spot}
 use Rattle.rowex_core.specs.declared.known.Known.{Known}
 use Rattle.rowex_core.specs.Reading.{entry_of, node_of}
 use Rattle.rowex_core.specs.Cores.{Core, IsLawful, bare, heap_of}
 use Rattle.rowex_core.specs.Words.{state_at}
 use Rattle.rowex_core.specs.Events.{IsLegalPublish, IsLockedAt, IsPackedAt, IsInTree, stored_words, stored_root, next_tree, next_change}
-use Rattle.rowex_core.specs.Having.{OwnsJust, LocksJust, IsKept, IsAny, IsUnlinked}
+use Rattle.rowex_core.specs.Having.{OwnsJust, LocksJust, AreKept, IsAny, IsUnlinked}
 use Rattle.rowex_core.specs.Knowing.{Knows, publish_learned}
 
 -- A store that moments allow as a publish of this tree, by which the leaves become others, is a legal publish of the word; the tree
@@ -52,5 +52,5 @@ LedIsInTree =
 abbrev pub PublishLeaves : Type 0
 PublishLeaves =
     (c : Core) (k : Known) (spot : Spot) (w : ℕ) → IsLawful c → Knows c k → (new gone : List Rec) (held kept : List ℕ) →
-    HasTraded (c.past.moment c.past.now) (next_tree c spot w) new gone → OwnsJust k.own IsAny new → LocksJust k.locks held → IsKept held gone kept →
+    HasTraded (c.past.moment c.past.now) (next_tree c spot w) new gone → OwnsJust k.own IsAny new → LocksJust k.locks held → AreKept held gone kept →
     let j = publish_learned c spot w k in OwnsJust j.own IsUnlinked gone × LocksJust j.locks kept

@@ -26,7 +26,7 @@ use Rattle.rowex_core.proofs.Owning.{recalls}
 use Rattle.rowex_core.proofs.Staying.{stays_lawful}
 use Rattle.rowex_core.proofs.Writing.{step_writes}
 use Rattle.rowex_reading.specs.Possible.{IsPossible}
-use Rattle.rowex_reading.specs.Seen.{IsLater}
+use Rattle.rowex_table.specs.Made.{IsLater}
 
 -- a step that neither changes the map nor sets or clears the pass's pin
 abbrev pub LeavesSure : Act → Type 0

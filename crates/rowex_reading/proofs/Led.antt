@@ -21,7 +21,7 @@ use Rattle.rowex_core.specs.declared.event.Spot.TheVariants.{Root, Slot}
 use Rattle.rowex_core.specs.declared.known.Fact.{Fact}
 use Rattle.rowex_core.specs.declared.known.Fresh.{Fresh}
 use Rattle.rowex_core.specs.declared.known.Known.{Known}
-use Rattle.rowex_core.specs.Knowing.{IsEvent}
+use Rattle.rowex_core.specs.Knowing.{IsEvent, IsSince}
 use Rattle.rowex_table.specs.Runs.{Runs, Steps, silent}
 use Rattle.rowex_table.specs.Seats.{TableView, SeatView, IsSame, IsSeatOf}
 use Rattle.rowex_table.proofs.Running.{runs_append, runs_one, runs_same, same_more}
@@ -30,7 +30,8 @@ use Rattle.rowex_walks.proofs.Loads.{placed_seen, rooted_seen}
 use Rattle.rowex_walks.proofs.Scans.{node_of}
 use Rattle.rowex_reading.specs.Possible.{IsPossible}
 use Rattle.rowex_reading.specs.Reads.{IsBelowRoot, IsReader, Reads, ReadsRoot, Looks}
-use Rattle.rowex_reading.specs.Seen.{seen, Sure, IsSince, since, IsLater, IsAtRoot, IsLedTo, HasRoom, HasPlace, HasShape}
+use Rattle.rowex_reading.specs.Seen.{seen, Sure, since, IsAtRoot, IsLedTo, HasRoom, HasPlace, HasShape}
+use Rattle.rowex_table.specs.Made.{IsLater}
 use Rattle.rowex_reading.proofs.Later.{event_later, event_possible}
 use Rattle.rowex_reading.proofs.Loading.{pinned_by}
 use Rattle.rowex_reading.proofs.Placing.{to_stood}

@@ -14,11 +14,12 @@ use Rattle.rowex_core.specs.declared.known.Fact.TheVariants.{Rooted, Placed, Fix
 use Rattle.rowex_core.specs.declared.known.Fresh.{Fresh}
 use Rattle.rowex_core.specs.declared.known.Known.{Known}
 use Rattle.rowex_core.specs.Cores.{Core, IsLawful}
-use Rattle.rowex_core.specs.Knowing.{IsFact, IsFound, StoodAs, StoodBetween, Recalls, IsEvent, facts_with}
+use Rattle.rowex_core.specs.Knowing.{IsFact, HoldsIfStood, StoodAs, StoodBetween, Recalls, IsEvent, facts_with}
 use Rattle.rowex_core.specs.Reading.{entry_of}
 use Rattle.rowex_core.specs.Words.{record_word}
 use Rattle.rowex_table.specs.Runs.{silent}
-use Rattle.rowex_reading.specs.Seen.{seen, IsLater}
+use Rattle.rowex_reading.specs.Seen.{seen}
+use Rattle.rowex_table.specs.Made.{IsLater}
 use Rattle.rowex_reading.proofs.Seeing.{seen_grown, stands_in, stands_seen}
 use Rattle.rowex_reading.proofs.Later.{event_later}
 
@@ -59,7 +60,7 @@ taught_now lawful t = ap length t.front ∙ lawful.core.told.count
 
 -- what the load found of a record that stood before: it stood so at a moment that the pass has seen
 pub found_seen : (core c : Core) (k j : Known) (p m : ℕ) (r : Rec) (P : Tree → Type 0) → length j.front ≡ core.past.now → IsLater k j → p ≤ m →
-    StoodBetween (seen c k) m (length k.front) r → IsFound c.past p core.past.now r P → StoodAs (seen c j) m (length j.front) r P
+    StoodBetween (seen c k) m (length k.front) r → HoldsIfStood c.past p core.past.now r P → StoodAs (seen c j) m (length j.front) r P
 found_seen core c k j p m r P now later low (o, u, lo, hi, st) found =
     let f = found m low (o, u, lo, subst (λ z. o ≤ z) now (le_trans hi (seen_grown c later).longer), stands_in c k st) in
     (f.0, f.1, f.2, subst (λ z. f.0 ≤ z) (sym now) f.3, stands_seen c j f.4, f.5)

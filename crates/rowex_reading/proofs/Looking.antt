@@ -21,7 +21,8 @@ use Rattle.rowex_core.specs.declared.event.Event.{Event}
 use Rattle.rowex_table.specs.Seats.{TableView, SeatView}
 use Rattle.rowex_reading.specs.Lookups.{HasFound, HasSearched}
 use Rattle.rowex_reading.specs.Reads.{Looks, Reads, ReadsRoot}
-use Rattle.rowex_reading.specs.Seen.{seen, Sure, IsSince, since, IsLedTo, HasPlace, shape_of}
+use Rattle.rowex_reading.specs.Seen.{seen, Sure, since, IsLedTo, HasPlace, shape_of}
+use Rattle.rowex_core.specs.Knowing.{IsSince}
 use Rattle.rowex_reading.proofs.Led.{led_shape, looks_first, looks_on, reads_later, reads_trans, root_pinned, same_since, shape_place}
 use Rattle.rowex_reading.proofs.Seeing.{sure_later, sure_map, since_later, seen_steady, led_stable, shaped_stable}
 

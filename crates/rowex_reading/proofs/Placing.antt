@@ -31,7 +31,8 @@ use Rattle.rowex_walks.proofs.Ends.{placed_falls}
 use Rattle.rowex_walks.proofs.Loads.{page_at}
 use Rattle.rowex_walks.proofs.Scans.{record_node, shaped}
 use Rattle.rowex_reading.specs.Possible.{IsPossible}
-use Rattle.rowex_reading.specs.Seen.{seen, Sure, IsLater, HasRoom, HasPlace, IsLedTo}
+use Rattle.rowex_reading.specs.Seen.{seen, Sure, HasRoom, HasPlace, IsLedTo}
+use Rattle.rowex_table.specs.Made.{IsLater}
 use Rattle.rowex_reading.proofs.Seeing.{recalls_before, seen_steady, room_stable, seen_stable, sure_later, since_later}
 use Rattle.rowex_reading.proofs.Later.{event_knows, event_recalls}
 use Rattle.rowex_reading.proofs.Loading.{IsTaught, slot_taught, taught_now, found_seen}

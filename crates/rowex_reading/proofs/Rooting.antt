@@ -23,12 +23,12 @@ use Rattle.rowex_core.specs.declared.known.Fact.TheVariants.{Rooted}
 use Rattle.rowex_core.specs.declared.known.Fresh.{Fresh}
 use Rattle.rowex_core.specs.declared.known.Known.{Known}
 use Rattle.rowex_core.specs.Cores.{Core, IsLawful, heap_of}
-use Rattle.rowex_core.specs.Knowing.{Recalls, IsEvent}
+use Rattle.rowex_core.specs.Knowing.{Recalls, IsEvent, IsSince}
 use Rattle.rowex_core.proofs.Owning.{pin_is}
 use Rattle.rowex_core.specs.Reading.{entry_of, root_of, head_entry}
 use Rattle.rowex_core.proofs.Reading.{entry_of_word}
 use Rattle.rowex_table.specs.Runs.{silent}
-use Rattle.rowex_reading.specs.Seen.{RootIs, IsSince, since}
+use Rattle.rowex_reading.specs.Seen.{RootIs, since}
 use Rattle.rowex_reading.proofs.Seeing.{seen_told}
 use Rattle.rowex_reading.proofs.Loading.{IsTaught, root_taught, taught_now}
 

@@ -21,10 +21,11 @@ use Rattle.moments.proofs.Growth.{stands_grown}
 use Rattle.moments.proofs.States.{steady, reach_later}
 use Rattle.rowex_core.specs.declared.known.Known.{Known}
 use Rattle.rowex_core.specs.Cores.{Core, IsLawful, view}
-use Rattle.rowex_core.specs.Knowing.{Recalls}
+use Rattle.rowex_core.specs.Knowing.{Recalls, IsSince}
 use Rattle.rowex_walks.specs.Scan.{IsSeen, IsRooted, IsPlaced, IsShaped, IsRead, IsBlank}
 use Rattle.rowex_walks.proofs.Persist.{rooted_on, placed_on, shaped_on, read_on}
-use Rattle.rowex_reading.specs.Seen.{seen, shape_of, Sure, IsStable, IsSince, IsLater, HasRoom}
+use Rattle.rowex_reading.specs.Seen.{seen, shape_of, Sure, IsStable, HasRoom}
+use Rattle.rowex_table.specs.Made.{IsLater}
 
 -- Later on
 

@@ -18,14 +18,14 @@ use Rattle.moments.proofs.States.{reach_later}
 use Rattle.rowex_core.specs.declared.known.Known.{Known}
 use Rattle.rowex_core.specs.Cores.{Core, IsLawful, IsWhole, HasRecord, view}
 use Rattle.rowex_core.specs.Events.{IsFixedOffset}
-use Rattle.rowex_core.specs.Knowing.{Recalls}
+use Rattle.rowex_core.specs.Knowing.{Recalls, IsSince}
 use Rattle.rowex_core.proofs.Owning.{recalls}
 use Rattle.rowex_core.specs.Reading.{IsPacked, word_in}
 use Rattle.rowex_core.specs.Words.{record_word}
 use Rattle.rowex_core.proofs.Promises.{in_reach}
 use Rattle.rowex_walks.specs.Scan.{IsSeen}
 use Rattle.rowex_reading.specs.Possible.{IsPossible}
-use Rattle.rowex_reading.specs.Seen.{seen, IsSince, IsLedTo}
+use Rattle.rowex_reading.specs.Seen.{seen, IsLedTo}
 use Rattle.rowex_reading.proofs.Seeing.{seen_within, stands_in}
 
 whole : (f : Fate) → f ≢ Free → ((o : ℕ) → f ≢ Held o) → IsWhole f

@@ -1,17 +1,15 @@
 -- What a pass may conclude of the moments that it has seen, and what loads teach it.
-use Rattle.std.specs.Prelude.{◌≡◌, ℕ, ◌<◌, ◌≤◌, length, All, Option, Some, None}
-use Rattle.hot_model.specs.Fronts.{OthersGoOn}
+use Rattle.std.specs.Prelude.{ℕ, ◌<◌, length, Option, Some, None}
 use Rattle.compound_node.specs.Nodes.{HeadView, piece, node_of, leaves}
 use Rattle.compound_node.specs.declared.entries.Entry.{Entry}
 use Rattle.compound_node.specs.declared.entries.Entry.TheVariants.{Node}
 use Rattle.pieces.specs.Piece.{size}
 use Rattle.tries.specs.Tree.{Page}
-use Rattle.moments.specs.declared.Pin.{Pin}
 use Rattle.moments.specs.State.{Past}
 use Rattle.moments.specs.Frames.{IsGrown}
 use Rattle.rowex_core.specs.declared.known.Known.{Known}
 use Rattle.rowex_core.specs.Cores.{Core, IsLawful}
-use Rattle.rowex_core.specs.Knowing.{IsFact, Recalls}
+use Rattle.rowex_core.specs.Knowing.{IsSince, Recalls}
 use Rattle.rowex_walks.specs.Scan.{IsSeen, IsRooted, IsBlank, IsShaped}
 
 -- the moments that the pass has seen, of those of a core: up to the one after the changes of its front
@@ -26,21 +24,9 @@ Sure k P = (c : Core) → IsLawful c → Recalls c k → P (seen c k)
 abbrev pub IsStable : (Past → Type 0) → Type 0
 IsStable P = (a b : Past) → IsGrown a b → P a → P b
 
--- the pass has been pinned since moment m or longer
-abbrev pub IsSince : Known → ℕ → Type 0
-IsSince k m = (p : Pin) × (k.pin ≡ Some p) × (p.moment ≤ m)
-
 -- the moment at which it loaded the root last
 abbrev pub since : Known → ℕ
 since k = length k.fresh.front
-
--- The pass knew k, and knows j later on: it has its pin still, has seen further changes of others alone, and has forgotten
--- no fact. So what it was sure of of each longer past, it is sure of still.
-pub record IsLater (k j : Known) : Type 0 where
-  pub pass : j.pass ≡ k.pass
-  pub pin : j.pin ≡ k.pin
-  pub front : OthersGoOn k.pass k.front j.front
-  pub facts : (s : Past) → All (IsFact s) j.facts → All (IsFact s) k.facts
 
 -- the forks of a node with this head
 abbrev pub shape_of : HeadView → Page

@@ -18,7 +18,7 @@ use Rattle.rowex_core.specs.Events.{word_of}
 use Rattle.rowex_core.specs.Sharing.{IsOwned, fate_of}
 use Rattle.rowex_core.specs.Knowing.{Knows, claim_learned}
 use Rattle.rowex_core.proofs.Owning.{knows_all}
-use Rattle.rowex_table.specs.Rights.{Has, IsHeld}
+use Rattle.rowex_table.specs.Rights.{Has, IsClaimed}
 use Rattle.rowex_table.specs.Runs.{Steps}
 use Rattle.rowex_table.specs.Seats.{TableView, SeatView}
 use Rattle.rowex_table.proofs.Rights.{free_tag}
@@ -184,7 +184,7 @@ module _ {G : Type 0} (table : TableView) (becomes : G → Event → G → Type 
       })
 
   -- a record that is claimed is held
-  pub claims_gives : (kind : ℕ → Rec) (n from number : ℕ) (a b : SeatView × G) → Claims table becomes kind n from number a b → IsHeld b.0.known (kind number)
+  pub claims_gives : (kind : ℕ → Rec) (n from number : ℕ) (a b : SeatView × G) → Claims table becomes kind n from number a b → IsClaimed b.0.known (kind number)
   claims_gives kind n from number a b claims = (
     claims.words,
     claims.sized,

@@ -20,7 +20,7 @@ use Rattle.rowex_core.specs.Sharing.{IsOwned}
 use Rattle.rowex_core.specs.Knowing.{Knows, fill_in, hold_as}
 use Rattle.rowex_core.proofs.Lists.{kept}
 use Rattle.rowex_core.proofs.Owning.{knows_all}
-use Rattle.rowex_table.specs.Rights.{Has, HasFilled, IsHeld}
+use Rattle.rowex_table.specs.Rights.{Has, HasFilled, IsClaimed}
 use Rattle.rowex_table.specs.Runs.{silent, Steps, Does, InTurn}
 use Rattle.rowex_table.specs.Seats.{TableView, SeatView}
 use Rattle.rowex_core.proofs.Having.{other_rec}
@@ -116,7 +116,7 @@ module _ {G : Type 0} (table : TableView) (becomes : G → Event → G → Type 
     pub own : b.0.known.own ≡ map (stored_in r words i) a.0.known.own
     pub sized : 1 ≤ i → AreSized a.0.known.own
 
-  pub fills_none : (r : Rec) (words : List ℕ) (a : SeatView × G) → length words ≡ word_count_of r → IsHeld a.0.known r → FillsSome r words 0 a a
+  pub fills_none : (r : Rec) (words : List ℕ) (a : SeatView × G) → length words ≡ word_count_of r → IsClaimed a.0.known r → FillsSome r words 0 a a
   fills_none r words a size held = record {
     stores = [];
     in_turn = refl;

@@ -14,7 +14,7 @@ use Rattle.rowex_core.specs.declared.known.Known.{Known}
 use Rattle.rowex_core.specs.declared.known.Owned.{Owned}
 use Rattle.rowex_core.specs.Cores.{word_count_of}
 use Rattle.rowex_core.specs.Knowing.{without_record}
-use Rattle.rowex_table.specs.Rights.{IsHeld}
+use Rattle.rowex_table.specs.Rights.{IsClaimed}
 use Rattle.rowex_table.specs.Runs.{Does}
 use Rattle.rowex_table.specs.Seats.{TableView, SeatView}
 use Rattle.rowex_table.proofs.Rights.{mapped}
@@ -55,17 +55,17 @@ module _ {G : Type 0} (table : TableView) (becomes : G → Event → G → Type 
   holds_fewer : (r : Rec) (recs : List Rec) (a b : SeatView × G) → HoldsJust a.0.known (r ∷ recs) → GivesUp table becomes r a b → HoldsJust b.0.known recs
   holds_fewer r recs a b holds gives = record {
     only = subst (λ own. All (λ o. (o.holding ≡ Held) × Contains recs o.rec) own) (sym gives.own) (left_over r recs a.0.known.own holds.only);
-    each = both recs holds.apart.0 (All-tail (IsHeld a.0.known) r recs holds.each);
+    each = both recs holds.apart.0 (All-tail (IsClaimed a.0.known) r recs holds.each);
     apart = holds.apart.1;
   }
     where
-      both : (rest : List Rec) → HasNone r rest → All (IsHeld a.0.known) rest → All (IsHeld b.0.known) rest
-      both [] none held = All-nil (IsHeld b.0.known)
+      both : (rest : List Rec) → HasNone r rest → All (IsClaimed a.0.known) rest → All (IsClaimed b.0.known) rest
+      both [] none held = All-nil (IsClaimed b.0.known)
       both (s ∷ rest) none held =
-          let h = All-head (IsHeld a.0.known) s rest held in
-          All-cons (IsHeld b.0.known) s rest
+          let h = All-head (IsClaimed a.0.known) s rest held in
+          All-cons (IsClaimed b.0.known) s rest
           (h.0, h.1, gives_up_keeps table becomes r s Held h.0 a b (All-head (λ z. z ≢ r) s rest none) gives h.2)
-          (both rest (All-tail (λ z. z ≢ r) s rest none) (All-tail (IsHeld a.0.known) s rest held))
+          (both rest (All-tail (λ z. z ≢ r) s rest none) (All-tail (IsClaimed a.0.known) s rest held))
 
   -- The first i records are given up, and the pass has just the others.
   pub record GivesUpSome (recs : List Rec) (i : ℕ) (a b : SeatView × G) : Type 0 where
@@ -88,9 +88,9 @@ module _ {G : Type 0} (table : TableView) (becomes : G → Event → G → Type 
       acts_are = ap (map (λ z. Release z)) (take_more recs i r low ∙ ap (λ z. take i recs ++ z ∷ []) (sym is)) ∙ map-append (λ z. Release z) (take i recs) (r ∷ [])
 
   -- the next of them is held
-  pub next_held : (recs : List Rec) (i : ℕ) (r : Rec) (a b : SeatView × G) → i < length recs → r ≡ get_or recs i r → GivesUpSome recs i a b → IsHeld b.0.known r
+  pub next_held : (recs : List Rec) (i : ℕ) (r : Rec) (a b : SeatView × G) → i < length recs → r ≡ get_or recs i r → GivesUpSome recs i a b → IsClaimed b.0.known r
   next_held recs i r a b low is some =
-      All-head (IsHeld b.0.known) r (drop (suc i) recs) (subst (λ l. All (IsHeld b.0.known) l) (drop-cons recs i r low ∙ ap (λ z. z ∷ drop (suc i) recs) (sym is)) some.holds.each)
+      All-head (IsClaimed b.0.known) r (drop (suc i) recs) (subst (λ l. All (IsClaimed b.0.known) l) (drop-cons recs i r low ∙ ap (λ z. z ∷ drop (suc i) recs) (sym is)) some.holds.each)
 
   pub gives_up_all : (recs : List Rec) (i : ℕ) (a b : SeatView × G) → GivesUpSome recs i a b → i ≡ length recs → GivesUpAll table becomes recs a b
   gives_up_all recs i a b some all = record {
@@ -117,7 +117,7 @@ apart_push (s ∷ recs) r apart none = (
 )
 
 pub holds_nothing : (k : Known) → k.own ≡ [] → HoldsJust k []
-holds_nothing k is = record { only = subst (λ own. All (λ o. (o.holding ≡ Held) × Contains [] o.rec) own) (sym is) (All-nil (λ o. (o.holding ≡ Held) × Contains [] o.rec)); each = All-nil (IsHeld k); apart = tt }
+holds_nothing k is = record { only = subst (λ own. All (λ o. (o.holding ≡ Held) × Contains [] o.rec) own) (sym is) (All-nil (λ o. (o.holding ≡ Held) × Contains [] o.rec)); each = All-nil (IsClaimed k); apart = tt }
 
 module _ {G : Type 0} (table : TableView) (becomes : G → Event → G → Type 0) where
   pub holds_claimed : (kind : ℕ → Rec) (n from number : ℕ) (recs : List Rec) (a b : SeatView × G) → HoldsJust a.0.known recs → Claims table becomes kind n from number a b
@@ -126,11 +126,11 @@ module _ {G : Type 0} (table : TableView) (becomes : G → Event → G → Type 
     only = subst (λ own. All (λ o. (o.holding ≡ Held) × Contains more o.rec) own) (sym claims.own)
         (All-cons (λ o. (o.holding ≡ Held) × Contains more o.rec) _ a.0.known.own (refl, at_end recs r)
         (All-weaker (λ o. (o.holding ≡ Held) × Contains recs o.rec) (λ o. (o.holding ≡ Held) × Contains more o.rec) (λ o h. (h.0, in_front recs (r ∷ []) o.rec h.1)) a.0.known.own holds.only));
-    each = All-push (IsHeld b.0.known) recs r
-        (All-weaker (IsHeld a.0.known) (IsHeld b.0.known) (λ s h. (h.0, h.1, claims_keeps table becomes kind n from number s Held h.0 a b claims h.2)) recs holds.each)
+    each = All-push (IsClaimed b.0.known) recs r
+        (All-weaker (IsClaimed a.0.known) (IsClaimed b.0.known) (λ s h. (h.0, h.1, claims_keeps table becomes kind n from number s Held h.0 a b claims h.2)) recs holds.each)
         (claims_gives table becomes kind n from number a b claims);
     apart = apart_push recs r holds.apart
-        (All-weaker (IsHeld a.0.known) (λ s. s ≢ r) (λ s h. All-contains (λ o. o.rec ≢ r) a.0.known.own (record { rec = s; holding = Held; words = h.0 }) claims.apart h.2) recs holds.each);
+        (All-weaker (IsClaimed a.0.known) (λ s. s ≢ r) (λ s h. All-contains (λ o. o.rec ≢ r) a.0.known.own (record { rec = s; holding = Held; words = h.0 }) claims.apart h.2) recs holds.each);
   }
     where
       r : Rec
@@ -144,7 +144,7 @@ module _ {G : Type 0} (table : TableView) (becomes : G → Event → G → Type 
     only = subst (λ own. All (λ o. (o.holding ≡ Held) × Contains recs o.rec) own) (sym fills.own)
         (All-map (λ o. (o.holding ≡ Held) × Contains recs o.rec) (fill_with r words) a.0.known.own
         (All-weaker (λ o. (o.holding ≡ Held) × Contains recs o.rec) (λ o. ((fill_with r words o).holding ≡ Held) × Contains recs (fill_with r words o).rec) (λ o h. same o (same_rec o.rec r) h) a.0.known.own holds.only));
-    each = All-weaker (IsHeld a.0.known) (IsHeld b.0.known) (λ s h. held s h (same_rec s r) refl) recs holds.each;
+    each = All-weaker (IsClaimed a.0.known) (IsClaimed b.0.known) (λ s h. held s h (same_rec s r) refl) recs holds.each;
     apart = holds.apart;
   }
     where
@@ -152,7 +152,7 @@ module _ {G : Type 0} (table : TableView) (becomes : G → Event → G → Type 
       same o true h = h
       same o false h = h
 
-      held : (s : Rec) → IsHeld a.0.known s → (t : Bool) → same_rec s r ≡ t → IsHeld b.0.known s
+      held : (s : Rec) → IsClaimed a.0.known s → (t : Bool) → same_rec s r ≡ t → IsClaimed b.0.known s
       held s h true e =
           let o : Owned = record { rec = s; holding = Held; words = words } in
           let with : fill_with r words (record { rec = s; holding = Held; words = h.0 }) ≡ o = rw e refl in (

@@ -11,7 +11,7 @@ use Rattle.rowex_core.specs.declared.known.Owned.{Owned}
 use Rattle.rowex_core.specs.Cores.{word_count_of}
 use Rattle.rowex_core.specs.Knowing.{hold_as, without_record}
 use Rattle.rowex_core.specs.Reading.{IsPacked}
-use Rattle.rowex_table.specs.Rights.{Has, IsHeld}
+use Rattle.rowex_table.specs.Rights.{Has, IsClaimed}
 use Rattle.rowex_table.specs.Runs.{Does, InTurn}
 use Rattle.rowex_table.specs.Seats.{TableView, SeatView}
 
@@ -63,7 +63,7 @@ AreApart (r ∷ recs) = HasNone r recs × AreApart recs
 -- The pass has just these records, each once, and all of them claimed and not made ready.
 pub record HoldsJust (k : Known) (recs : List Rec) : Type 0 where
   pub only : All (λ o. (o.holding ≡ Held) × Contains recs o.rec) k.own
-  pub each : All (IsHeld k) recs
+  pub each : All (IsClaimed k) recs
   pub apart : AreApart recs
 
 -- The records are released, one after the other, and the pass has no record of its own then.

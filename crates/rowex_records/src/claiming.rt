@@ -3,7 +3,7 @@
 ghost use Rattle.std.specs.Prelude.{◌≡◌, ◌<◌, IfNone, IfSome, MatchOption, All};
 ghost use Rattle.moments.specs.declared.Rec.TheVariants.{Node as a_node, Leaf as a_leaf};
 ghost use Rattle.rowex_core.specs.Cores.{HasRecord};
-ghost use Rattle.rowex_table.specs.Rights.{IsHeld};
+ghost use Rattle.rowex_table.specs.Rights.{IsClaimed};
 ghost use Rattle.rowex_table.specs.Seats.{IsSeatOf};
 ghost use Rattle.rowex_records.specs.Claims.{AllMissed, Claims, FindsNone, begin_of, turned};
 ghost use Rattle.rowex_records.specs.Records.{GivesUp, GivesUpAll, HoldsJust};
@@ -26,7 +26,7 @@ pub fn claim_leaf<G: Gate>(
         (let n = table.now.layout.leaves in FindsNone table.now G.becomes a_leaf n (begin_of n from) n (seat.old, gate.old) (seat.new, gate.new))
         (λ number. let n = table.now.layout.leaves in Claims table.now G.becomes a_leaf n (begin_of n from) number (seat.old, gate.old) (seat.new, gate.new)) }
     ensures none { IfNone result (AllMissed a_leaf table.now.layout.leaves seat.new.known.failed seat.old.known.steps) }
-    ensures held { IfSome result (λ number. (number < table.now.layout.leaves) × IsHeld seat.new.known (a_leaf number)) }
+    ensures held { IfSome result (λ number. (number < table.now.layout.leaves) × IsClaimed seat.new.known (a_leaf number)) }
 {
     let leaves = table.layout().leaves;
     let begin = first(from, leaves);
@@ -54,7 +54,7 @@ pub fn claim_node<G: Gate>(
         (let n = table.now.layout.nodes in FindsNone table.now G.becomes a_node n (begin_of n from) n (seat.old, gate.old) (seat.new, gate.new))
         (λ number. let n = table.now.layout.nodes in Claims table.now G.becomes a_node n (begin_of n from) number (seat.old, gate.old) (seat.new, gate.new)) }
     ensures none { IfNone result (AllMissed a_node table.now.layout.nodes seat.new.known.failed seat.old.known.steps) }
-    ensures held { IfSome result (λ number. (number < table.now.layout.nodes) × IsHeld seat.new.known (a_node number)) }
+    ensures held { IfSome result (λ number. (number < table.now.layout.nodes) × IsClaimed seat.new.known (a_node number)) }
 {
     let nodes = table.layout().nodes;
     let begin = first(from, nodes);
@@ -93,7 +93,7 @@ fn turn(begin: u32, tried: u32, all: u32) -> u32
 pub fn give_up<G: Gate>(table: &HotTable, seat: &mut TableSeat, gate: &mut G, rec: Rec)
     requires own { IsSeatOf table.now seat.old }
     requires range { HasRecord table.now.layout rec }
-    requires held { IsHeld seat.old.known rec }
+    requires held { IsClaimed seat.old.known rec }
     ensures { GivesUp table.now G.becomes rec (seat.old, gate.old) (seat.new, gate.new) }
 {
     table.release(seat, gate, rec);

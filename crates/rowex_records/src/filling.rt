@@ -6,7 +6,7 @@ ghost use Rattle.record_words.specs.Leaf.{leaf_words};
 ghost use Rattle.record_words.specs.Node.{HasNodeWords, node_words};
 ghost use Rattle.rowex_core.specs.Cores.{HasRecord, word_count_of};
 ghost use Rattle.rowex_core.specs.Reading.{IsPacked};
-ghost use Rattle.rowex_table.specs.Rights.{IsHeld};
+ghost use Rattle.rowex_table.specs.Rights.{IsClaimed};
 ghost use Rattle.rowex_table.specs.Seats.{IsSeatOf};
 ghost use Rattle.rowex_records.specs.Records.{Fills, IsFilled, Readies};
 
@@ -27,7 +27,7 @@ pub fn fill_leaf<G: Gate>(
 )
     requires own { IsSeatOf table.now seat.old }
     requires range { number < table.now.layout.leaves }
-    requires held { IsHeld seat.old.known (a_leaf number) }
+    requires held { IsClaimed seat.old.known (a_leaf number) }
     ensures fills { Fills table.now G.becomes (a_leaf number) (leaf_words (key.now, value)) (seat.old, gate.old) (seat.new, gate.new) }
     ensures filled { IsFilled seat.new.known (a_leaf number) (leaf_words (key.now, value)) }
     ensures steps { seat.new.known.steps ≡ seat.old.known.steps + LEAF_FIELDS }
@@ -46,7 +46,7 @@ pub fn fill_node<G: Gate>(
 )
     requires own { IsSeatOf table.now seat.old }
     requires range { number < table.now.layout.nodes }
-    requires held { IsHeld seat.old.known (a_node number) }
+    requires held { IsClaimed seat.old.known (a_node number) }
     ensures fits { HasNodeWords node.now }
     ensures fills { Fills table.now G.becomes (a_node number) (node_words node.now) (seat.old, gate.old) (seat.new, gate.new) }
     ensures filled { IsFilled seat.new.known (a_node number) (node_words node.now) }
@@ -66,7 +66,7 @@ fn fill_words<G: Gate>(
 )
     requires own { IsSeatOf table.now seat.old }
     requires range { HasRecord table.now.layout rec }
-    requires held { IsHeld seat.old.known rec }
+    requires held { IsClaimed seat.old.known rec }
     requires words { (length words.now ≡ word_count_of rec) × IsPacked rec words.now }
     ensures fills { Fills table.now G.becomes rec words.now (seat.old, gate.old) (seat.new, gate.new) }
     ensures filled { IsFilled seat.new.known rec words.now }

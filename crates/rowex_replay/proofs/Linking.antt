@@ -27,7 +27,7 @@ use Rattle.rowex_replay.specs.Fates.{fate_of}
 use Rattle.rowex_replay.specs.Links.{AllMayCome, AllMayGo}
 use Rattle.rowex_replay.specs.Records.{RecordsView, AreRecordsOf, MayLink}
 use Rattle.rowex_replay.specs.States.{StateView}
-use Rattle.rowex_replay.specs.Publishing.{IsStored, ArePacked, MayPublish}
+use Rattle.rowex_replay.specs.Publishing.{IsWordStored, ArePacked, MayPublish}
 use Rattle.rowex_replay.proofs.Reading.{tree_stored}
 use Rattle.rowex_replay.proofs.Sound.{used}
 
@@ -62,7 +62,7 @@ whole : (q : ℕ) (f : Fate) → ((since : ℕ) × (f ≡ InTreeSince since)) �
 whole q f (inl (since, e)) = rw e (tt, λ x. cc)
 whole q f (inr e) = rw e (tt, λ x. cc)
 
-pub is_moment : (s : StateView) (c : Core) (words : Rec → List ℕ) (q : ℕ) (root : Option Entry) → IsStored s c words → ArePacked c words → MayPublish c q words root → IsMoment s.records.nodes s.records.leaves words root
+pub is_moment : (s : StateView) (c : Core) (words : Rec → List ℕ) (q : ℕ) (root : Option Entry) → IsWordStored s c words → ArePacked c words → MayPublish c q words root → IsMoment s.records.nodes s.records.leaves words root
 is_moment s c words q root st packed may = record {
   top = may.top;
   tree = may.tree;
@@ -76,7 +76,7 @@ is_moment s c words q root st packed may = record {
 item-set : IsSet Item
 item-set = Prim.hlevel props
 
-pub same_leaves : (s : StateView) (c : Core) (words : Rec → List ℕ) (root : Option Entry) → IsStored s c words → IsTop (heap_of words) root (tree_of (heap_of words) root) →
+pub same_leaves : (s : StateView) (c : Core) (words : Rec → List ℕ) (root : Option Entry) → IsWordStored s c words → IsTop (heap_of words) root (tree_of (heap_of words) root) →
     AreSame (items_of (c.past.moment c.past.now)) (items_of (tree_of (heap_of words) root))
 same_leaves s c words root st top = λ x y i j e. ∥∥₁_elim st.lawful (item-set x y) (λ lawful.
     by_number (heap_of c.words) (heap_of words) _ _ (λ n. ap leaf_of (sym (st.leaves n)))

@@ -12,7 +12,7 @@ use Rattle.moments.specs.Core.{Free, Ready as ReadyBy, InTree as InTreeSince}
 use Rattle.moments.specs.Steps.{is_linked, next_fate}
 use Rattle.rowex_core.specs.Cores.{Core, HasRecord, heap_of}
 use Rattle.rowex_core.specs.Events.{AreSame, IsInTree, tree_of, change_between}
-use Rattle.replay_trees.specs.Changed.{IsFound}
+use Rattle.replay_trees.specs.Changed.{IsFoundChange}
 use Rattle.replay_trees.specs.Moments.{AreWordsOf, IsMoment, IsReadMoment, Tells, item_of}
 use Rattle.replay_trees.specs.declared.trees.Item.{Item as ReadItem}
 use Rattle.replay_trees.specs.declared.trees.Linked.{Linked}
@@ -21,7 +21,7 @@ use Rattle.rowex_replay.specs.declared.fate.Fate.TheVariants.{Ready as IsReady, 
 use Rattle.rowex_replay.specs.Fates.{fate_of}
 use Rattle.rowex_replay.specs.Records.{RecordsView, MayLink, IsNext, words_in, fate_in}
 use Rattle.rowex_replay.specs.States.{StateView, IsStateOf}
-use Rattle.rowex_replay.specs.Publishing.{IsStored, ArePacked, MayPublish, published}
+use Rattle.rowex_replay.specs.Publishing.{IsWordStored, ArePacked, MayPublish, published}
 use Rattle.rowex_replay.proofs.Tables as table
 use Rattle.rowex_replay.proofs.Reading.{tree_stored}
 use Rattle.rowex_replay.proofs.Sound.{count, used}
@@ -30,7 +30,7 @@ use Rattle.rowex_replay.proofs.Linking.{flag, flag_is, linked_flag, came, comes,
 not_true : (b : Bool) → (b ≡ true → ⊥) → b ≡ false
 not_true b f = elim (cases_Bool b) [ inl e ↦ absurd (f e) | inr e ↦ e ]
 
-module _ (s : StateView) (c : Core) (words : Rec → List ℕ) (q : ℕ) (root : Option Entry) (st : IsStored s c words) (linked : Linked)
+module _ (s : StateView) (c : Core) (words : Rec → List ℕ) (q : ℕ) (root : Option Entry) (st : IsWordStored s c words) (linked : Linked)
     (tells : Tells s.records.nodes s.records.leaves (tree_of (heap_of words) root) linked) where
   -- the tests of fates say what is asked of the records
   come_stored : (r : Rec) (f : Stored) → MayLink s.records q linked.nodes.items linked.leaves.items → fate_in s.records r ≡ Some f → flag linked r ≡ true →
@@ -67,11 +67,11 @@ module _ (s : StateView) (c : Core) (words : Rec → List ℕ) (q : ℕ) (root :
   }
 
   -- the change that is found is the one that the publish makes
-  pub found : (o : Option Change) → IsMoment s.records.nodes s.records.leaves words root → (AreSame (map item_of s.items) (map item_of linked.items.items) → IsFound q (map item_of s.items) (map item_of linked.items.items) o) →
-      IsFound q (items_of (c.past.moment c.past.now)) (items_of (tree_of (heap_of words) root)) o
+  pub found : (o : Option Change) → IsMoment s.records.nodes s.records.leaves words root → (AreSame (map item_of s.items) (map item_of linked.items.items) → IsFoundChange q (map item_of s.items) (map item_of linked.items.items) o) →
+      IsFoundChange q (items_of (c.past.moment c.past.now)) (items_of (tree_of (heap_of words) root)) o
   found o moment h =
-      subst (λ xs. IsFound q xs (items_of (tree_of (heap_of words) root)) o) (sym st.at.items)
-      (subst (λ ys. IsFound q (map item_of s.items) ys o) tells.items_are
+      subst (λ xs. IsFoundChange q xs (items_of (tree_of (heap_of words) root)) o) (sym st.at.items)
+      (subst (λ ys. IsFoundChange q (map item_of s.items) ys o) tells.items_are
       (h (subst (λ xs. AreSame xs (map item_of linked.items.items)) st.at.items
       (subst (λ ys. AreSame (items_of (c.past.moment c.past.now)) ys) (sym tells.items_are) (same_leaves s c words root st moment.top)))))
 
@@ -114,19 +114,19 @@ module _ (s : StateView) (c : Core) (words : Rec → List ℕ) (q : ℕ) (root :
 -- ---- the answers
 
 pub none_read : (s : StateView) (q : ℕ) (root : Option Entry) → ((words : Rec → List ℕ) → AreWordsOf s.records.nodes s.records.leaves words → IsReadMoment s.records.nodes s.records.leaves words root None) →
-    (c : Core) (words : Rec → List ℕ) → IsStored s c words → ArePacked c words → ¬ (MayPublish c q words root)
+    (c : Core) (words : Rec → List ℕ) → IsWordStored s c words → ArePacked c words → ¬ (MayPublish c q words root)
 none_read s q root read c words st packed may = read words (words_read s.records c.layout words c.fate c.lock st.at.records) (is_moment s c words q root st packed may)
 
 pub not_linked : (s : StateView) (q : ℕ) (root : Option Entry) (linked : Linked) →
     ((words : Rec → List ℕ) → AreWordsOf s.records.nodes s.records.leaves words → IsReadMoment s.records.nodes s.records.leaves words root (Some linked)) →
-    ¬ (MayLink s.records q linked.nodes.items linked.leaves.items) → (c : Core) (words : Rec → List ℕ) → IsStored s c words → ArePacked c words → ¬ (MayPublish c q words root)
+    ¬ (MayLink s.records q linked.nodes.items linked.leaves.items) → (c : Core) (words : Rec → List ℕ) → IsWordStored s c words → ArePacked c words → ¬ (MayPublish c q words root)
 not_linked s q root linked read fails c words st packed may =
     fails (may_link_from s c words q root st linked (read words (words_read s.records c.layout words c.fate c.lock st.at.records)).1 may)
 
 pub not_changed : (s : StateView) (q : ℕ) (root : Option Entry) (linked : Linked) →
     ((words : Rec → List ℕ) → AreWordsOf s.records.nodes s.records.leaves words → IsReadMoment s.records.nodes s.records.leaves words root (Some linked)) →
-    (AreSame (map item_of s.items) (map item_of linked.items.items) → IsFound q (map item_of s.items) (map item_of linked.items.items) None) →
-    (c : Core) (words : Rec → List ℕ) → IsStored s c words → ArePacked c words → ¬ (MayPublish c q words root)
+    (AreSame (map item_of s.items) (map item_of linked.items.items) → IsFoundChange q (map item_of s.items) (map item_of linked.items.items) None) →
+    (c : Core) (words : Rec → List ℕ) → IsWordStored s c words → ArePacked c words → ¬ (MayPublish c q words root)
 not_changed s q root linked read none c words st packed may =
     let x = read words (words_read s.records c.layout words c.fate c.lock st.at.records) in
     found s c words q root st linked x.1 None x.0 none may.change
@@ -134,8 +134,8 @@ not_changed s q root linked read none c words st packed may =
 pub publishes : (s : StateView) (q : ℕ) (root : Option Entry) (linked : Linked) (x : Change) (now : ℕ) (t : RecordsView) →
     ((words : Rec → List ℕ) → AreWordsOf s.records.nodes s.records.leaves words → IsReadMoment s.records.nodes s.records.leaves words root (Some linked)) →
     MayLink s.records q linked.nodes.items linked.leaves.items →
-    (AreSame (map item_of s.items) (map item_of linked.items.items) → IsFound q (map item_of s.items) (map item_of linked.items.items) (Some x)) →
-    now ≡ length s.changes → IsNext now q linked.nodes.items linked.leaves.items s.records t → (c : Core) (words : Rec → List ℕ) → IsStored s c words →
+    (AreSame (map item_of s.items) (map item_of linked.items.items) → IsFoundChange q (map item_of s.items) (map item_of linked.items.items) (Some x)) →
+    now ≡ length s.changes → IsNext now q linked.nodes.items linked.leaves.items s.records t → (c : Core) (words : Rec → List ℕ) → IsWordStored s c words →
     MayPublish c q words root × IsStateOf (record s { records = t; root = root; changes = s.changes ++ x ∷ []; items = linked.items.items }) (published c q words root)
 publishes s q root linked x now t read m one same next c words st =
     let y = read words (words_read s.records c.layout words c.fate c.lock st.at.records) in
@@ -156,8 +156,8 @@ pub read_is : (a b x y : List (List ℕ)) (root : Option Entry) (o p : Option Li
     ((words : Rec → List ℕ) → AreWordsOf a b words → IsReadMoment a b words root o) → (words : Rec → List ℕ) → AreWordsOf x y words → IsReadMoment x y words root p
 read_is a b x y root o p e f g h = rw (← e, ← f, ← g) h
 
-pub found_is : (q : ℕ) (a b x y : List ReadItem) (o p : Option Change) → a ≡ x → b ≡ y → o ≡ p → (AreSame (map item_of a) (map item_of b) → IsFound q (map item_of a) (map item_of b) o) →
-    AreSame (map item_of x) (map item_of y) → IsFound q (map item_of x) (map item_of y) p
+pub found_is : (q : ℕ) (a b x y : List ReadItem) (o p : Option Change) → a ≡ x → b ≡ y → o ≡ p → (AreSame (map item_of a) (map item_of b) → IsFoundChange q (map item_of a) (map item_of b) o) →
+    AreSame (map item_of x) (map item_of y) → IsFoundChange q (map item_of x) (map item_of y) p
 found_is q a b x y o p e f g h = rw (← e, ← f, ← g) h
 
 pub next_of : (now q : ℕ) (a b x y : List Bool) (s t : RecordsView) → a ≡ x → b ≡ y → IsNext now q a b s t → IsNext now q x y s t

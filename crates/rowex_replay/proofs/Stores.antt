@@ -17,7 +17,7 @@ use Rattle.rowex_core.specs.Events.{LegalAct, after, stored_words}
 use Rattle.rowex_core.proofs.Reading.{entry_of_word}
 use Rattle.rowex_replay.specs.Records.{RecordsView, AreRecordsOf, lock_in, with_words_in}
 use Rattle.rowex_replay.specs.States.{StateView, IsStateOf, IsStepped}
-use Rattle.rowex_replay.specs.Publishing.{IsStored, ArePacked, MayPublish, IsPublished, published}
+use Rattle.rowex_replay.specs.Publishing.{IsWordStored, ArePacked, MayPublish, IsPublished, published}
 use Rattle.rowex_replay.proofs.Tables as table
 
 pub entry_is : (e : Option Entry) (w : ℕ) → HasEntryWord e → entry_word e ≡ w → entry_of w ≡ e
@@ -25,7 +25,7 @@ entry_is e w fits is = subst (λ z. entry_of z ≡ e) is (entry_of_word e fits)
 
 -- ---- the root
 
-root_stored : (s : StateView) (c : Core) → ∥ IsLawful c ∥₁ → IsStateOf s c → IsStored s c c.words
+root_stored : (s : StateView) (c : Core) → ∥ IsLawful c ∥₁ → IsStateOf s c → IsWordStored s c c.words
 root_stored s c lawful h = record { lawful = lawful; at = h; leaves = λ n. refl }
 
 pub root_steps : (b : Bool) (s t : StateView) (q w : ℕ) → HasEntryWord (entry_of w) → entry_word (entry_of w) ≡ w → s.anchor ≡ Some q → IsPublished b s t q (entry_of w) → IsStepped b s t q (Publish Root w)
@@ -40,7 +40,7 @@ stored_here : (c : Core) (n j w : ℕ) (x y : List ℕ) → c.words (a_node n) �
 stored_here c n j w x y e is = rw (same_rec_refl (a_node n), e, is) (ap (λ i. set x i w) (let k : 26 + j - 1 ≡ 25 + j = omega arith in k))
 
 pub entry_stored : (s : StateView) (c : Core) (n j w : ℕ) (x y : List ℕ) → ∥ IsLawful c ∥₁ → IsStateOf s c → slice_get s.records.nodes n ≡ Some x → y ≡ set x (25 + j) w →
-    IsStored (record s { records = with_words_in s.records (a_node n) y }) c (stored_words c (Slot n j) w)
+    IsWordStored (record s { records = with_words_in s.records (a_node n) y }) c (stored_words c (Slot n j) w)
 entry_stored s c n j w x y lawful h at is = record {
   lawful = lawful;
   at = record {

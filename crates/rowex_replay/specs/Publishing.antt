@@ -12,7 +12,7 @@ use Rattle.rowex_core.specs.Events.{change_between, tree_of}
 use Rattle.rowex_replay.specs.States.{StateView, IsStateOf}
 
 -- The state is that of the lawful core but for the words of records, which are these: those of leaves are the core's.
-pub record IsStored (s : StateView) (c : Core) (words : Rec → List ℕ) : Type 0 where
+pub record IsWordStored (s : StateView) (c : Core) (words : Rec → List ℕ) : Type 0 where
   pub lawful : ∥ IsLawful c ∥₁
   pub at : IsStateOf s (record c { words = words })
   pub leaves : (n : ℕ) → words (a_leaf n) ≡ c.words (a_leaf n)
@@ -35,5 +35,5 @@ published c q words root = record { layout = c.layout; words = words; shared = p
 
 -- That was done, and may be done in each core whose state it was; or it wasn't, and may be in none.
 abbrev pub IsPublished : Bool → StateView → StateView → ℕ → Option Entry → Type 0
-IsPublished true s t q root = (c : Core) (words : Rec → List ℕ) → IsStored s c words → MayPublish c q words root × IsStateOf t (published c q words root)
-IsPublished false s t q root = (t ≡ s) × ((c : Core) (words : Rec → List ℕ) → IsStored s c words → ArePacked c words → ¬ (MayPublish c q words root))
+IsPublished true s t q root = (c : Core) (words : Rec → List ℕ) → IsWordStored s c words → MayPublish c q words root × IsStateOf t (published c q words root)
+IsPublished false s t q root = (t ≡ s) × ((c : Core) (words : Rec → List ℕ) → IsWordStored s c words → ArePacked c words → ¬ (MayPublish c q words root))

@@ -5,7 +5,7 @@ use Rattle.moments.specs.declared.Rec.TheVariants.{Node as a_node}
 use Rattle.rowex_core.specs.Knowing.{IsEvent}
 use Rattle.rowex_core.proofs.Owning.{recalls, pin_is}
 use Rattle.rowex_core.proofs.Leading.{led_is_in_tree}
-use Rattle.rowex_table.specs.Publishes.{silent}
+use Rattle.rowex_table.specs.Runs.{silent}
 use Rattle.rowex_table.proofs.ActsBefore as before
 use Rattle.rowex_table.proofs.ActsLeave as leave
 use Rattle.rowex_rights.specs.Acts.{LedMayLock, LockGivesNode, LockGivesAnchor, LoadsOfLocked, LoadOfRoot, LockFails, ClaimFails, ActLeaves, ActGoesOn}

@@ -22,7 +22,7 @@ use Rattle.moments.specs.Trades.{IsOf, AreApart}
 use Rattle.moments.proofs.Members.{of_map, map_of, of_right, all_of}
 use Rattle.rowex_table.proofs.ActsBefore.{claim_gives_one, fill_gives_first, ready_gives_next, release_gives_rest, recalls_on, claim_leaves}
 use Rattle.rowex_rights.proofs.Sure.{others_on}
-use Rattle.rowex_table.specs.Publishes.{silent}
+use Rattle.rowex_table.specs.Runs.{silent}
 use Rattle.rowex_table.specs.Made.{HasReadied, IsLater, Made, held_as, recs_of}
 use Rattle.rowex_rights.specs.Loops.{FillsEach, HoldsRights, MakesOne, ReadiesAll, ReadiesEach, ReleasesAll, StaysLocked}
 

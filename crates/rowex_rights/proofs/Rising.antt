@@ -28,7 +28,7 @@ use Rattle.rowex_rights.proofs.Sure.{reach_since, recalls_earlier}
 use Rattle.rowex_rights.proofs.Stages.{node_fixed, locked_node, upper_in, made_node}
 use Rattle.tries.specs.Affected.{page_affected, page_forked, page_grown, IsPartPage, IsFirstBelow}
 use Rattle.moments.specs.State.{IsFrom}
-use Rattle.rowex_walks.specs.Writer.{IsWay, IsFound}
+use Rattle.rowex_walks.specs.Writer.{IsWayBelow, IsFoundBelow}
 use Rattle.rowex_table.specs.Made.{IsLater, Made, held_as, recs_of}
 use Rattle.rowex_rights.specs.Stages.{IsStage}
 use Rattle.rowex_rights.specs.Rises.{AboveGoesOn, HasFoundBelow, IsSide, RiseGrows, RiseWhole, RisenStays, RisesCopied, RisesHalved, RisesPulled, RisesWrapped, anew, of_leaf, of_view, one}
@@ -106,14 +106,14 @@ rises_halved layout k held news gone since x p l leaf n words at f a b d e us vs
 -- How it begins
 
 pub found_in : (layout : Layout) (k : Known) (held : List Locked) (news : List Made) (since : ℕ) (x : Item) (p : ℕ) (l : Key) (n : ℕ) (words : List ℕ) → HasFoundBelow k held since x p l n words →
-    (c : Core) → IsStage layout k held news c → IsFound (bare c) k.pass since x p l n × ((bare c).heap.nodes n ≡ node_of words)
+    (c : Core) → IsStage layout k held news c → IsFoundBelow (bare c) k.pass since x p l n × ((bare c).heap.nodes n ≡ node_of words)
 found_in layout k held news since x p l n words f c stage =
     let (node, same) = locked_node layout k held news c stage n words f.locked in (
       record {
         key = f.leaf.key;
         reach = reach_since k since f.pinned c stage.lawful stage.recalls;
         lock = node.lock;
-        way = subst (λ (z : NodeWords). IsWay c.past since x.key z.page l) (sym same) (f.way c stage.lawful stage.recalls);
+        way = subst (λ (z : NodeWords). IsWayBelow c.past since x.key z.page l) (sym same) (f.way c stage.lawful stage.recalls);
         agree = f.agree;
         differ = f.differ;
       },

@@ -7,14 +7,14 @@ use Rattle.moments.specs.State.{Past, IsReach, IsSteady}
 use Rattle.moments.specs.Core.{pin_moment}
 use Rattle.moments.specs.Frames.{IsGrown}
 use Rattle.moments.proofs.States.{steady}
-use Rattle.rowex_walks.specs.Writer.{IsWay}
+use Rattle.rowex_walks.specs.Writer.{IsWayBelow}
 use Rattle.rowex_walks.proofs.Ways.{way_begins, way_goes_on, way_ends, way_is_below}
 use Rattle.rowex_core.specs.declared.known.Known.{Known}
 use Rattle.rowex_core.specs.Reading.{node_of}
 use Rattle.rowex_core.specs.Cores.{Core, IsLawful, view}
-use Rattle.rowex_core.specs.Knowing.{Recalls}
+use Rattle.rowex_core.specs.Knowing.{Recalls, IsSince}
 use Rattle.rowex_table.specs.Made.{IsLater}
-use Rattle.rowex_rights.specs.Stages.{IsSince, IsSure}
+use Rattle.rowex_rights.specs.Stages.{IsSure}
 use Rattle.rowex_rights.specs.Sure.{DescentBegins, DescentGoesOn, DescentEnds, DescentFinds, FoundStays}
 
 -- what stood since a pass's pin is still in that life, in each core in which it recalls its pin
@@ -73,7 +73,7 @@ found_stays k j held since x p l n words later f = record {
   leaf = f.leaf;
   pinned = (f.pinned.0, later.pin ∙ f.pinned.1, f.pinned.2);
   locked = f.locked;
-  way = sure_stays k j (λ s. IsWay s since x.key (node_of words).page l) later f.way;
+  way = sure_stays k j (λ s. IsWayBelow s since x.key (node_of words).page l) later f.way;
   agree = f.agree;
   differ = f.differ;
 }

@@ -10,7 +10,7 @@ use Rattle.compound_node.specs.Nodes.{piece}
 use Rattle.tries.specs.Affected.{IsLowerPage}
 use Rattle.rowex_walks.specs.Writer.{added_change}
 use Rattle.rowex_core.specs.declared.event.Spot.TheVariants.{Slot}
-use Rattle.rowex_core.specs.Having.{IsKept}
+use Rattle.rowex_core.specs.Having.{AreKept}
 use Rattle.rowex_rights.proofs.Rising.{risen_stays, rise_grows, rises_copied, rises_pulled, rises_halved}
 use Rattle.rowex_rights.proofs.Inserting.{insert_in_slot}
 use Rattle.rowex_rights.proofs.Ending.{settles}
@@ -25,7 +25,7 @@ node_number : {n o : ℕ} → a_node n ≡ a_node o → n ≡ o
 node_number e = cc
 
 -- of two locked nodes, the lower one goes
-kept_two : (o n : ℕ) → o ≢ n → IsKept (o ∷ n ∷ []) (a_node n ∷ []) (o ∷ [])
+kept_two : (o n : ℕ) → o ≢ n → AreKept (o ∷ n ∷ []) (a_node n ∷ []) (o ∷ [])
 kept_two o n ne = record {
   only = λ m h. elim h [ inl e ↦ inl (inl e) | inr y ↦ elim y [ inl e ↦ inr (inl (ap a_node e)) | inr z ↦ absurd z ] ];
   each = λ m h. elim h [ inl e ↦ (inl e, λ y. elim y [ inl g ↦ ne (sym e ∙ node_number g) | inr z ↦ absurd z ]) | inr z ↦ absurd z ];
@@ -52,8 +52,8 @@ whole_insert layout k since x p l o n m slot w below above view has ne none foun
     publishes = insert_in_slot layout k k.locks news (a_node n ∷ []) (record { locks = refl; own = has.own }) since x p l o n slot w (Node m view.height) copied (inr (inl refl), found.leaf) a
         (subst (λ z. spot x.key (node_of z).page ≡ slot) (sym same) at) (subst (λ z. IsLowerPage (node_of z).fixed.height (Place (Node m view.height))) (sym same) low) word
 
-    keeps : IsKept (nodes_of k.locks) (a_node n ∷ []) (o ∷ [])
-    keeps = subst (λ z. IsKept (nodes_of z) (a_node n ∷ []) (o ∷ [])) (sym has.locks) (kept_two o n ne)
+    keeps : AreKept (nodes_of k.locks) (a_node n ∷ []) (o ∷ [])
+    keeps = subst (λ z. AreKept (nodes_of z) (a_node n ∷ []) (o ∷ [])) (sym has.locks) (kept_two o n ne)
 
 pub two_levels : TwoLevels
 two_levels layout k k1 k2 k3 held since x p l n o below f a b u v m lower upper view holds risen leaf at up anew_upper is_b (i1, size1, claim1, fills1) anew_lower is_a (i2, size2, claim2, fills2) anew_view is_view (i3, size3, claim3, fills3) =

@@ -15,12 +15,12 @@ use Rattle.rowex_core.specs.declared.event.Target.{Target}
 use Rattle.rowex_core.specs.declared.event.Target.TheVariants.{Anchor, Node as NodeTarget}
 use Rattle.rowex_core.specs.declared.known.Known.{Known}
 use Rattle.rowex_core.specs.Events.{target_word, word_of}
-use Rattle.rowex_core.specs.Knowing.{IsEvent, failed_with}
+use Rattle.rowex_core.specs.Knowing.{IsEvent, failed_with, IsSince}
 use Rattle.rowex_table.specs.Rights.{MayLock}
 use Rattle.rowex_table.specs.Made.{IsLater, nodes_of}
-use Rattle.rowex_table.specs.Publishes.{silent}
+use Rattle.rowex_table.specs.Runs.{silent}
 use Rattle.rowex_table.specs.Stays.{KeepsRecall, IsNext}
-use Rattle.rowex_rights.specs.Stages.{IsSure, IsSince}
+use Rattle.rowex_rights.specs.Stages.{IsSure}
 
 -- A node to which the pass was led since its pin it may lock.
 abbrev pub LedMayLock : Type 0

@@ -24,7 +24,8 @@ use Rattle.rowex_core.specs.declared.known.Locked.{Locked}
 use Rattle.rowex_core.specs.Reading.{node_of}
 use Rattle.rowex_table.specs.Made.{Made}
 use Rattle.rowex_table.specs.Publishes.{Publishes}
-use Rattle.rowex_rights.specs.Stages.{IsSure, IsSince, HasReady, HasLeaf, HasRisen, IsAbove, IsLeafThere}
+use Rattle.rowex_rights.specs.Stages.{IsSure, HasReady, HasLeaf, HasRisen, IsAbove, IsLeafThere}
+use Rattle.rowex_core.specs.Knowing.{IsSince}
 use Rattle.rowex_rights.specs.Rises.{of_view, of_leaf, IsAnew, IsSide, HasFoundBelow}
 
 -- The entry has a word, which is this one.

@@ -7,10 +7,11 @@ use Rattle.moments.specs.Trades.{IsOf, AreApart}
 use Rattle.rowex_core.specs.declared.event.Act.TheVariants.{Unlock, Mark, LoadEpoch}
 use Rattle.rowex_core.specs.declared.event.Target.TheVariants.{Anchor, Node as NodeTarget}
 use Rattle.rowex_core.specs.declared.known.Known.{Known}
-use Rattle.rowex_core.specs.Having.{OwnsJust, LocksJust, IsKept, IsDue, kept_of}
+use Rattle.rowex_core.specs.Having.{OwnsJust, LocksJust, AreKept, IsDue, kept_of}
 use Rattle.rowex_core.specs.Knowing.{IsEvent}
 use Rattle.rowex_table.specs.Rule.{MayStep}
-use Rattle.rowex_table.specs.Publishes.{HasPublished, silent}
+use Rattle.rowex_table.specs.Publishes.{HasPublished}
+use Rattle.rowex_table.specs.Runs.{silent}
 
 -- After the epoch was loaded: just these records are the pass's own, each unlinked before that load, and just those nodes are
 -- locked by it; the epoch is that of its round.
@@ -33,7 +34,7 @@ pub record IsAtRest (k : Known) : Type 0 where
 
 -- Of locked nodes, each once, just those that are not unlinked are kept, each once.
 abbrev pub KeptIs : Type 0
-KeptIs = (held : List ℕ) (gone : List Rec) → AreApart held → IsKept held gone (kept_of held gone) × AreApart (kept_of held gone)
+KeptIs = (held : List ℕ) (gone : List Rec) → AreApart held → AreKept held gone (kept_of held gone) × AreApart (kept_of held gone)
 
 -- two lists have the same elements
 abbrev pub HaveSame : {X : Type 0} → List X → List X → Type 0

@@ -1,5 +1,5 @@
 -- What a writer has before its publish, by lists of its locks and of the records that it makes.
-use Rattle.std.specs.Prelude.{◌≡◌, ◌⊎◌, ℕ, ◌≤◌, List, map, Some}
+use Rattle.std.specs.Prelude.{◌≡◌, ◌⊎◌, ℕ, List, map}
 use Rattle.compound_node.specs.declared.entries.Entry.TheVariants.{Node}
 use Rattle.record_words.specs.declared.layout.Layout.{Layout}
 use Rattle.record_words.specs.Leaf.{HasLeafWords, leaf_words}
@@ -10,7 +10,6 @@ use Rattle.tries.specs.Content.{Item}
 use Rattle.tries.specs.Affected.{page_affected, IsFirstBelow, IsTipPage}
 use Rattle.moments.specs.declared.Rec.{Rec}
 use Rattle.moments.specs.declared.Rec.TheVariants.{Leaf as a_leaf}
-use Rattle.moments.specs.declared.Pin.{Pin}
 use Rattle.moments.specs.State.{Past}
 use Rattle.moments.specs.Trades.{IsOf}
 use Rattle.rowex_walks.specs.Rise.{Side, IsRise, news_of, gone_of}
@@ -26,10 +25,6 @@ use Rattle.rowex_table.specs.Made.{Made, held_as, recs_of}
 -- It holds of the past of each lawful core in which what the pass recalls is true.
 abbrev pub IsSure : Known → (Past → Type 0) → Type 0
 IsSure k P = (c : Core) → IsLawful c → Recalls c k → P c.past
-
--- The pass has been pinned since moment m or longer.
-abbrev pub IsSince : Known → ℕ → Type 0
-IsSince k m = (p : Pin) × (k.pin ≡ Some p) × (p.moment ≤ m)
 
 -- A core in which what the pass recalls is true, these nodes are locked by it with these words, and these records are its own
 -- and ready, with theirs.

@@ -15,7 +15,8 @@ use Rattle.rowex_core.specs.declared.known.Known.{Known}
 use Rattle.rowex_core.specs.declared.known.Locked.{Locked}
 use Rattle.rowex_core.specs.Reading.{node_of}
 use Rattle.rowex_table.specs.Made.{Made, IsLater}
-use Rattle.rowex_rights.specs.Stages.{IsSure, IsSince, IsLeafThere}
+use Rattle.rowex_rights.specs.Stages.{IsSure, IsLeafThere}
+use Rattle.rowex_core.specs.Knowing.{IsSince}
 use Rattle.rowex_rights.specs.Rises.{HasFoundBelow}
 
 -- Its descent below a lock: it begins at a node to which it was led,

@@ -22,7 +22,8 @@ use Rattle.rowex_core.specs.Reading.{node_of}
 use Rattle.rowex_core.specs.Cores.{word_count_of}
 use Rattle.rowex_core.specs.Knowing.{IsEvent}
 use Rattle.rowex_table.specs.Made.{Made, HoldsMade}
-use Rattle.rowex_table.specs.Publishes.{Publishes, silent}
+use Rattle.rowex_table.specs.Publishes.{Publishes}
+use Rattle.rowex_table.specs.Runs.{silent}
 use Rattle.rowex_rights.specs.Stages.{HasReady, HasRisen, IsAbove}
 use Rattle.rowex_rights.specs.Rises.{IsAnew, HasFoundBelow, of_view, of_leaf}
 use Rattle.rowex_rights.specs.Cases.{IsWord}

@@ -24,8 +24,9 @@ use Rattle.rowex_core.proofs.Owning.{knows_all, round_is}
 use Rattle.rowex_core.proofs.Promises.{publish_is_a_step}
 use Rattle.rowex_table.specs.Rule.{MayStep}
 use Rattle.moments.specs.Trades.{IsOf, AreApart}
-use Rattle.rowex_core.specs.Having.{OwnsJust, LocksJust, IsKept, IsAny, IsUnlinked, IsDue}
-use Rattle.rowex_table.specs.Publishes.{MayPublish, HasPublished, Publishes, silent}
+use Rattle.rowex_core.specs.Having.{OwnsJust, LocksJust, AreKept, IsAny, IsUnlinked, IsDue}
+use Rattle.rowex_table.specs.Publishes.{MayPublish, HasPublished, Publishes}
+use Rattle.rowex_table.specs.Runs.{silent}
 use Rattle.rowex_table.specs.Made.{Made, held_as, recs_of, nodes_of}
 use Rattle.rowex_core.specs.declared.known.Holding.TheVariants.{Ready}
 use Rattle.moments.proofs.Members.{all_of, of_map, map_of as has_mapped}
@@ -77,7 +78,7 @@ module _ (layout : Layout) (said : Known → List Note) (k j : Known) where
   )
 
   pub publish_gives : (spot : Spot) (w : ℕ) (x : Change) (was : Option ℕ) (new gone : List Rec) (held kept : List ℕ) → IsEvent layout (Publish spot w) said k j →
-      MayPublish layout k spot w x was new gone → OwnsJust k.own IsAny new → LocksJust k.locks held → IsKept held gone kept → HasPublished k j x was gone kept
+      MayPublish layout k spot w x was new gone → OwnsJust k.own IsAny new → LocksJust k.locks held → AreKept held gone kept → HasPublished k j x was gone kept
   publish_gives spot w x was new gone held kept e may own locks keeps =
       let c = e.core in
       let p = may c e.lawful e.layout_is e.knows in

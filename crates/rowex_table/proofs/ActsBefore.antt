@@ -36,7 +36,7 @@ use Rattle.rowex_core.specs.Knowing.{Knows, failed_with, IsFact, IsEvent, facts_
 use Rattle.rowex_core.specs.Sharing.{IsOwned, IsLocked}
 use Rattle.rowex_core.proofs.Owning.{knows_all}
 use Rattle.rowex_table.proofs.Rights.{free_tag, anchor_free}
-use Rattle.rowex_table.specs.Publishes.{silent}
+use Rattle.rowex_table.specs.Runs.{silent}
 use Rattle.rowex_table.specs.Stays.{KeepsRecall}
 use Rattle.moments.specs.Trades.{IsOf}
 use Rattle.rowex_core.proofs.Having.{not_free, other_rec}

@@ -12,7 +12,7 @@ use Rattle.rowex_core.specs.declared.event.Target.TheVariants.{Anchor, Node as N
 use Rattle.rowex_core.specs.declared.known.Known.{Known}
 use Rattle.rowex_core.specs.Cores.{Core}
 use Rattle.rowex_core.specs.Knowing.{IsEvent, claim_learned, anchor_learned, learned_by}
-use Rattle.rowex_table.specs.Publishes.{silent}
+use Rattle.rowex_table.specs.Runs.{silent}
 use Rattle.rowex_table.specs.Stays.{LeavesFront, LeavesFresh, LeavesFailed, LeavesOwn, LeavesLocks, LeavesAnchor, LeavesPin, LeavesRound, IsNext}
 
 module _ (layout : Layout) (k j : Known) where

@@ -22,8 +22,8 @@ use Rattle.rowex_core.specs.Words.{Shows}
 use Rattle.rowex_core.specs.Knowing.{IsFact, IsUntouched, Knows, Knowing, Owns}
 use Rattle.rowex_core.specs.Opening.{opening, opening_words}
 use Rattle.rowex_core.proofs.Promises.{opening_is_lawful}
-use Rattle.rowex_table.specs.Rule.{Ruled, opening_of, next_dealer, dealt, paired, first_of_two, second_of_two, with_front, HaveMet, Meeting, met}
-use Rattle.rowex_table.specs.Seats.{TableView, SeatView, IsNew, IsNewSeat}
+use Rattle.rowex_table.specs.Rule.{Ruled, opening_of, next_dealer, dealt, paired, first_of_two, second_of_two, with_front, SeatsHaveMet, Meeting, met}
+use Rattle.rowex_table.specs.Seats.{TableView, SeatView, IsNewSeatOf, IsNewSeat}
 use Rattle.rowex_table.proofs.Keeping.{Apart, apart_set, each_set, set_at}
 
 -- Seats by their numbers, and each of them
@@ -36,10 +36,10 @@ numbered P first (x ∷ xs) h =
     (numbered P (suc first) xs (λ q s e. subst (λ z. P z s) (omega arith) (h (suc q) s e))))
 
 -- the seats of new passes, each of its number, are seats of new passes
-pub all_new : (table : TableView) (items : List SeatView) → length items ≡ table.layout.passes → ((q : ℕ) (s : SeatView) → get_elem? items q ≡ some s → IsNew table q s) → All (IsNewSeat table) items
-all_new table items long h = All-weaker (λ s. (q : ℕ) × (q < 0 + length items) × IsNew table q s) (IsNewSeat table)
+pub all_new : (table : TableView) (items : List SeatView) → length items ≡ table.layout.passes → ((q : ℕ) (s : SeatView) → get_elem? items q ≡ some s → IsNewSeatOf table q s) → All (IsNewSeat table) items
+all_new table items long h = All-weaker (λ s. (q : ℕ) × (q < 0 + length items) × IsNewSeatOf table q s) (IsNewSeat table)
     (λ s u. let low = u.1 in let is : s.known.pass ≡ u.0 = ap (λ (k : Known). k.pass) u.2.1 in ((u.2.0, omega arith), u.2.1 ∙ ap opening_of (sym is)))
-    items (numbered (IsNew table) 0 items (λ q s e. subst (λ z. IsNew table z s) (omega arith) (h q s e)))
+    items (numbered (IsNewSeatOf table) 0 items (λ q s e. subst (λ z. IsNewSeatOf table z s) (omega arith) (h q s e)))
 
 -- The opening
 
@@ -237,11 +237,11 @@ pub paired_me : {S : Type 0} (me a b : Me S View) (j k : Known) → me ≡ (pair
 paired_me {S = S} me a b j k e is was = e ∙ (λ i. (paired (is i).0 (was i).0, (is i).1))
 
 pub meeting : {S : Type 0} (layout : Layout) (of : Option Layout) → of ≡ Some layout → (me m' : Me S View) (j k : Known) → me ≡ (Pair j k, []) → (m'.1 ≡ me.1) × Meeting of me.0 m'.0
-    → (j' : Known) × (k' : Known) × (m' ≡ (Pair j' k', [])) × HaveMet layout j k j' k'
+    → (j' : Known) × (k' : Known) × (m' ≡ (Pair j' k', [])) × SeatsHaveMet layout j k j' k'
 meeting {S = S} layout of is_of me m' j k is h =
     let t = subst (λ (v : View). Meeting (Some layout) v m'.0) (ap (λ (z : Me S View). z.0) is) (subst (λ (o : Option Layout). Meeting o me.0 m'.0) is_of h.1) in
     (t.0, t.1, (λ i. (t.2 i, (h.0 ∙ ap (λ (z : Me S View). z.1) is) i)), t.3)
 
 -- those who have met have different numbers
-pub apart_met : (layout : Layout) (j k j' k' : Known) → HaveMet layout j k j' k' → j'.pass ≢ k'.pass
+pub apart_met : (layout : Layout) (j k j' k' : Known) → SeatsHaveMet layout j k j' k' → j'.pass ≢ k'.pass
 apart_met layout j k j' k' (front, e, f, legal, a, b, ne, makers) = λ q. ne (sym (ap (λ (z : Known). z.pass) e) ∙ (q ∙ ap (λ (z : Known). z.pass) f))

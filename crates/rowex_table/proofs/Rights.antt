@@ -28,7 +28,7 @@ use Rattle.rowex_core.proofs.Owning.{knows_all}
 use Rattle.rowex_core.specs.Knowing.{Knows, IsEvent, anchor_learned, claim_learned, fill_in, hold_as, learned_by}
 use Rattle.rowex_table.specs.Rule.{MayStep}
 use Rattle.rowex_table.specs.Stays.{LeavesOwn}
-use Rattle.rowex_table.specs.Rights.{Has, HasFilled, IsHeld}
+use Rattle.rowex_table.specs.Rights.{Has, HasFilled, IsClaimed}
 
 -- A record whose state word is 0 is free
 
@@ -90,7 +90,7 @@ anchor_free (Some q) e = absurd (omega arith)
 
 module _ (layout : Layout) (said : Known → List Note) (k j : Known) where
   -- what a pass has claimed is its own, with the words that stand there
-  pub claim_gives : (r : Rec) (found : ℕ) → IsEvent layout (Claim r found) said k j → found ≡ 0 → IsHeld j r
+  pub claim_gives : (r : Rec) (found : ℕ) → IsEvent layout (Claim r found) said k j → found ≡ 0 → IsClaimed j r
   claim_gives r found e none =
       let free : e.core.fate r ≡ Free = free_tag (lock_of e.core r) (e.core.fate r) (sym e.legal.1.1 ∙ none) in
       let o : Owned = record { rec = r; holding = Held; words = e.core.words r } in

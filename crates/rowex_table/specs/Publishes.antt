@@ -1,7 +1,6 @@
 -- A writer's publish: that it may be made, and what it leaves the pass.
 use Rattle.std.specs.Prelude.{◌≡◌, ℕ, List, [], ◌∷◌, ◌++◌, Option, None, IsSome}
 use Rattle.hot_model.specs.declared.Change.{Change}
-use Rattle.hot_model.specs.declared.Note.{Note}
 use Rattle.hot_model.specs.Maps.{value_at}
 use Rattle.hot_model.specs.Fronts.{OthersGoOn, map_of, Fits}
 use Rattle.record_words.specs.declared.layout.Layout.{Layout}
@@ -12,14 +11,11 @@ use Rattle.rowex_core.specs.declared.event.Spot.{Spot}
 use Rattle.rowex_core.specs.declared.known.Known.{Known}
 use Rattle.rowex_core.specs.Cores.{Core, IsLawful}
 use Rattle.rowex_core.specs.Events.{IsLegalPublish, next_tree, next_change}
-use Rattle.rowex_core.specs.Having.{OwnsJust, LocksJust, IsKept, IsUnlinked}
+use Rattle.rowex_core.specs.Having.{OwnsJust, LocksJust, AreKept, IsUnlinked}
 use Rattle.rowex_core.specs.Knowing.{Knows, IsEvent}
 use Rattle.rowex_table.specs.Rule.{MayStep}
 use Rattle.rowex_table.specs.Made.{nodes_of}
-
--- a step with which its pass notes nothing
-abbrev pub silent : Known → List Note
-silent k = []
+use Rattle.rowex_table.specs.Runs.{silent}
 
 -- In this core the store of the word at the spot is a legal publish by pass q of the change x: `was` is what the key's value was
 -- before; just the records `new` are linked anew, and just the records `gone` are linked no more.
@@ -53,4 +49,4 @@ pub record HasPublished (k j : Known) (x : Change) (was : Option ℕ) (gone : Li
 -- says, where `kept` are those of its locked nodes that are not among the records `gone`.
 pub record Publishes (layout : Layout) (k : Known) (spot : Spot) (w : ℕ) (x : Change) (was : Option ℕ) (gone : List Rec) : Type 0 where
   pub may : MayStep layout (λ found. Publish spot w) k
-  pub gives : (j : Known) (kept : List ℕ) → IsKept (nodes_of k.locks) gone kept → IsEvent layout (Publish spot w) silent k j → HasPublished k j x was gone kept
+  pub gives : (j : Known) (kept : List ℕ) → AreKept (nodes_of k.locks) gone kept → IsEvent layout (Publish spot w) silent k j → HasPublished k j x was gone kept

@@ -20,8 +20,8 @@ abbrev pub Has : Known → Rec → Holding → List ℕ → Type 0
 Has k r h words = Contains k.own (record { rec = r; holding = h; words = words })
 
 -- the pass has claimed the record, and not made it ready
-abbrev pub IsHeld : Known → Rec → Type 0
-IsHeld k r = (words : List ℕ) × (length words ≡ word_count_of r) × Has k r Held words
+abbrev pub IsClaimed : Known → Rec → Type 0
+IsClaimed k r = (words : List ℕ) × (length words ≡ word_count_of r) × Has k r Held words
 
 -- the pass has claimed the record, and filled it with the first i of these words
 abbrev pub HasFilled : Known → Rec → List ℕ → ℕ → Type 0

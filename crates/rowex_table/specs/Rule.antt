@@ -126,13 +126,13 @@ with_front front k = record k { front = front }
 
 -- Two passes of different numbers that knew j and k now know j' and k': both have seen one list of changes, each of which
 -- was legal and made by a pass of the table; it begins with what each had seen, and goes on by changes of others.
-abbrev pub HaveMet : Layout → Known → Known → Known → Known → Type 0
-HaveMet layout j k j' k' =
+abbrev pub SeatsHaveMet : Layout → Known → Known → Known → Known → Type 0
+SeatsHaveMet layout j k j' k' =
     (front : List Change) × (j' ≡ with_front front j) × (k' ≡ with_front front k) × LegalFront front × OthersGoOn j.pass j.front front × OthersGoOn k.pass k.front front ×
     (j.pass ≢ k.pass) × All (λ x. x.pass < layout.passes) front
 
 abbrev pub Meeting : Option Layout → View → View → Type 0
-Meeting (Some layout) (Pair j k) w = (j' : Known) × (k' : Known) × (w ≡ Pair j' k') × HaveMet layout j k j' k'
+Meeting (Some layout) (Pair j k) w = (j' : Known) × (k' : Known) × (w ≡ Pair j' k') × SeatsHaveMet layout j k j' k'
 Meeting _ _ w = Unit {0}
 
 abbrev pub met : {S : Type 0} → Option Layout → Step S → Me S View → ℕ → Me S View → Type 0

@@ -21,8 +21,8 @@ abbrev pub IsSeatOf : TableView → SeatView → Type 0
 IsSeatOf table s = s.table ≡ table.id
 
 -- and its pass is one of the table's passes
-abbrev pub Fits : TableView → SeatView → Type 0
-Fits table s = IsSeatOf table s × (s.known.pass < table.layout.passes)
+abbrev pub IsPassOf : TableView → SeatView → Type 0
+IsPassOf table s = IsSeatOf table s × (s.known.pass < table.layout.passes)
 
 -- one seat of one pass, before and after
 abbrev pub IsSame : SeatView → SeatView → Type 0
@@ -30,8 +30,8 @@ IsSame s t = (t.table ≡ s.table) × (t.id ≡ s.id) × (t.known.pass ≡ s.kno
 
 -- the seat of a new pass of this table
 abbrev pub IsNewSeat : TableView → SeatView → Type 0
-IsNewSeat table s = Fits table s × (s.known ≡ opening_of s.known.pass)
+IsNewSeat table s = IsPassOf table s × (s.known ≡ opening_of s.known.pass)
 
 -- and its pass has this number
-abbrev pub IsNew : TableView → ℕ → SeatView → Type 0
-IsNew table q s = IsSeatOf table s × (s.known ≡ opening_of q)
+abbrev pub IsNewSeatOf : TableView → ℕ → SeatView → Type 0
+IsNewSeatOf table q s = IsSeatOf table s × (s.known ≡ opening_of q)

@@ -6,7 +6,7 @@ ghost use Rattle.rowex_core.specs.declared.event.Act.TheVariants.{LoadEpoch, Adv
 ghost use Rattle.rowex_core.specs.declared.known.Known.{Known};
 ghost use Rattle.rowex_table.specs.Rule.{MayStep};
 ghost use Rattle.rowex_table.specs.Runs.{Steps, StepsWith};
-ghost use Rattle.rowex_table.specs.Seats.{Fits, IsSeatOf};
+ghost use Rattle.rowex_table.specs.Seats.{IsPassOf, IsSeatOf};
 
 use crate::table::{HotTable, TableSeat};
 use record_words::{EPOCHS, Location};
@@ -40,7 +40,7 @@ impl HotTable {
 
     /// Stores the epoch that the pass loaded last as its pin.
     pub fn set_pin<G: Gate>(&self, seat: &mut TableSeat, gate: &mut G, word: u64)
-        requires fits { Fits self.now seat.old }
+        requires fits { IsPassOf self.now seat.old }
         requires may { MayStep self.now.layout (λ _. SetPin word) seat.old.known }
         ensures { Steps self.now G.becomes (SetPin word) (seat.old, gate.old) (seat.new, gate.new) }
     {
@@ -56,7 +56,7 @@ impl HotTable {
     /// Stores 0 as the pin. A call ends with this step, and its notes come with it.
     pub fn clear_pin<G: Gate>(&self, seat: &mut TableSeat, gate: &mut G)
         ghost said: { Known → List Note }
-        requires fits { Fits self.now seat.old }
+        requires fits { IsPassOf self.now seat.old }
         requires may { MayStep self.now.layout (λ _. ClearPin) seat.old.known }
         ensures { StepsWith self.now G.becomes ClearPin said (seat.old, gate.old) (seat.new, gate.new) }
     {

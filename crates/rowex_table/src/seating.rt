@@ -3,8 +3,8 @@
 ghost use Rattle.std.specs.Prelude.{◌≡◌, ℕ, IfOk, Some, All, length};
 ghost use mathlib.Core.Option.{some};
 ghost use lib.ListN.{get_elem?};
-ghost use Rattle.rowex_table.specs.Rule.{HaveMet};
-ghost use Rattle.rowex_table.specs.Seats.{SeatView, IsNew, IsNewSeat, IsSeatOf};
+ghost use Rattle.rowex_table.specs.Rule.{SeatsHaveMet};
+ghost use Rattle.rowex_table.specs.Seats.{SeatView, IsNewSeatOf, IsNewSeat, IsSeatOf};
 
 use crate::plays::{Deal, Meets, Part, Step};
 use crate::table::{HotTable, TableSeat};
@@ -18,7 +18,7 @@ impl HotTable {
     pub fn new(alloc: Global, layout: Layout) -> Result<(HotTable, Vec<TableSeat>), AllocError>
         ensures table { IfOk result (λ made. made.0.layout ≡ layout) }
         ensures count { IfOk result (λ made. length made.1.items ≡ layout.passes) }
-        ensures seats { IfOk result (λ made. (q : ℕ) (s : SeatView) → get_elem? made.1.items q ≡ some s → IsNew made.0 q s) }
+        ensures seats { IfOk result (λ made. (q : ℕ) (s : SeatView) → get_elem? made.1.items q ≡ some s → IsNewSeatOf made.0 q s) }
         ensures each { IfOk result (λ made. All (IsNewSeat made.0) made.1.items) }
     {
         let mut words = Vec::from_elem(alloc, 0u64, layout.words())?;
@@ -41,7 +41,7 @@ impl HotTable {
         requires { IsSeatOf self.now first × IsSeatOf self.now second }
         ensures own { IsSeatOf self.now result.0 × IsSeatOf self.now result.1 }
         ensures passes { (result.0.known.pass ≡ first.known.pass) × (result.1.known.pass ≡ second.known.pass) }
-        ensures met { HaveMet self.now.layout first.known second.known result.0.known result.1.known }
+        ensures met { SeatsHaveMet self.now.layout first.known second.known result.0.known result.1.known }
     {
         self.meet_as::<Brand>(first, second)
     }
@@ -52,7 +52,7 @@ impl HotTable {
         requires layout { Q.layout ≡ Some self.now.layout }
         ensures own { IsSeatOf self.now result.0 × IsSeatOf self.now result.1 }
         ensures passes { (result.0.known.pass ≡ first.known.pass) × (result.1.known.pass ≡ second.known.pass) }
-        ensures met { HaveMet self.now.layout first.known second.known result.0.known result.1.known }
+        ensures met { SeatsHaveMet self.now.layout first.known second.known result.0.known result.1.known }
     {
         let TableSeat { mut seat, pass } = first;
         let TableSeat {

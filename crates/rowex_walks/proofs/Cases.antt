@@ -6,10 +6,10 @@ use Rattle.pieces.specs.Piece.{Place}
 use Rattle.moments.specs.Heap.{Heap}
 use Rattle.moments.specs.State.{IsLawful}
 use Rattle.moments.specs.Core.{Core, view}
-use Rattle.moments.specs.Steps.{IsLegalPublish}
+use Rattle.moments.specs.Steps.{IsMomentPublish}
 use Rattle.tries.specs.Content.{Item}
 use Rattle.tries.specs.Changes.{put, IsPathBelow, IsFlat, IsAdded, IsExchanged}
-use Rattle.rowex_walks.specs.Writer.{added_change, replaced_change, IsAtHand, IsStored}
+use Rattle.rowex_walks.specs.Writer.{added_change, replaced_change, IsAtHand, IsPageStored}
 use Rattle.tries.proofs.Tries.{trie_within, built_within, within_trans, rises}
 use Rattle.tries.proofs.Adding.{added_put, exchanged_put}
 use Rattle.rowex_walks.proofs.Now.{built_now, trie_now}
@@ -37,8 +37,8 @@ module _ (c : Core) (q : ℕ) (law : IsLawful (view c)) (t : Tree) (now : c.past
   -- At an entry of a locked node: what stands there gets one leaf more.
   pub slot_added : {n : ℕ} {y : Fixed} {b s : Tree} (v : Within (node n y b) t) (w : Within s b) → IsFlat w → IsTip s → (r : Tree) → IsTip r →
       c.lock n ≡ Some q → IsAtHand c q s r → IsLower y.height r → (x : Item) (p : ℕ) → IsAdded x p s r → IsPathBelow p w →
-      (heap : Heap) → IsStored c.heap heap n (page (put w r)) →
-      IsLegalPublish c q heap c.root (Some (put v (node n y (put w r)))) (added_change q x)
+      (heap : Heap) → IsPageStored c.heap heap n (page (put w r)) →
+      IsMomentPublish c q heap c.root (Some (put v (node n y (put w r)))) (added_change q x)
   slot_added {n} {y} {b} {s} v w flat ts r tr lock hand low x p a path heap st =
       let body : IsAdded x p b (put w r) = added_put w r x p (trie_within (within_trans (inside here) v) (trie_now c law t now)) path a in
       let whole : IsAdded x p t (put v (node n y (put w r))) =
@@ -48,8 +48,8 @@ module _ (c : Core) (q : ℕ) (law : IsLawful (view c)) (t : Tree) (now : c.past
 
   pub slot_exchanged : {n : ℕ} {y : Fixed} {b s : Tree} (v : Within (node n y b) t) (w : Within s b) → IsFlat w → IsTip s → (r : Tree) → IsTip r →
       c.lock n ≡ Some q → IsAtHand c q s r → IsLower y.height r → (o x : Item) → o.key ≡ x.key → IsExchanged o x s r →
-      (heap : Heap) → IsStored c.heap heap n (page (put w r)) →
-      IsLegalPublish c q heap c.root (Some (put v (node n y (put w r)))) (replaced_change q x)
+      (heap : Heap) → IsPageStored c.heap heap n (page (put w r)) →
+      IsMomentPublish c q heap c.root (Some (put v (node n y (put w r)))) (replaced_change q x)
   slot_exchanged {n} {y} {b} {s} v w flat ts r tr lock hand low o x e a heap st =
       let body : IsExchanged o x b (put w r) = exchanged_put w r o x (trie_within (within_trans (inside here) v) (trie_now c law t now)) a in
       let whole : IsExchanged o x t (put v (node n y (put w r))) =
@@ -58,9 +58,9 @@ module _ (c : Core) (q : ℕ) (law : IsLawful (view c)) (t : Tree) (now : c.past
 
   -- At the root, under the anchor's lock.
   pub root_added : (r : Tree) (e : Entry) → page r ≡ Place e → c.anchor ≡ Some q → IsAtHand c q t r → (x : Item) (p : ℕ) → IsAdded x p t r →
-      IsLegalPublish c q c.heap (Some e) (Some r) (added_change q x)
+      IsMomentPublish c q c.heap (Some e) (Some r) (added_change q x)
   root_added r e pg lock hand x p a = root_legal c q law t now r e pg lock hand a.trie (added_change q x) refl (x.number, a.more)
 
   pub root_exchanged : (r : Tree) (e : Entry) → page r ≡ Place e → c.anchor ≡ Some q → IsAtHand c q t r → (o x : Item) → o.key ≡ x.key → IsExchanged o x t r →
-      IsLegalPublish c q c.heap (Some e) (Some r) (replaced_change q x)
+      IsMomentPublish c q c.heap (Some e) (Some r) (replaced_change q x)
   root_exchanged r e pg lock hand o x z a = root_legal c q law t now r e pg lock hand a.trie (replaced_change q x) refl (x.number, (o, z, a.exchange))

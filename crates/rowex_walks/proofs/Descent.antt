@@ -10,7 +10,7 @@ use Rattle.moments.specs.Heap.{NodeWords, LeafWords, IsCopied}
 use Rattle.moments.specs.State.{IsRecord, Life, Out, Linked, Retired, Spans, last_of, IsLived, State, Stands, IsSame, IsReach, IsLawful, IsFrom, IsMarked}
 use Rattle.moments.specs.declared.Rec.TheVariants.{Node as a_node}
 use Rattle.moments.specs.Core.{Core, view}
-use Rattle.rowex_walks.specs.Writer.{IsBegun, IsWay, at_leaf, below}
+use Rattle.rowex_walks.specs.Writer.{IsBegun, IsWayBelow, at_leaf, below}
 use Rattle.tries.proofs.Tries.{has_first, trie_within, built_within, within_trans, page_child, within_child}
 use Rattle.moments.proofs.States.{stem_down, is_trie, is_built}
 use Rattle.rowex_walks.proofs.Now.{built_now, shown_now}
@@ -132,11 +132,11 @@ module _ (c : Core) (law : IsLawful (view c)) (since : ℕ) (reach : IsReach (vi
       root : (p ≡ r) × ((y : Key) → Has (fork p d o) y → AgreeBelow r like y)
       root = kin_root kin r b z refl like has p d o refl
 
-  way_tree : (u : Tree) → Within u t → (k l : Key) (x : Page) → page u ≡ Place (seek k x) → IsWay c.past since k x l → Follows l u
+  way_tree : (u : Tree) → Within u t → (k l : Key) (x : Page) → page u ≡ Place (seek k x) → IsWayBelow c.past since k x l → Follows l u
   way_tree u w k l x e (at_leaf j f g) = leaf_follows u w j l (e ∙ ap Place f) g
   way_tree u w k l x e (below a h r like f g i) = node_follows u w a h r l like (e ∙ ap Place f) g i
 
-  pub way_follows : {n : ℕ} {x : Fixed} {b : Tree} → Within (node n x b) t → (k l : Key) → IsWay c.past since k (c.heap.nodes n).page l → Follows l (child k b)
+  pub way_follows : {n : ℕ} {x : Fixed} {b : Tree} → Within (node n x b) t → (k l : Key) → IsWayBelow c.past since k (c.heap.nodes n).page l → Follows l (child k b)
   way_follows {n} {x} {b} v k l way =
       let e : (c.heap.nodes n).page ≡ page b = ap (λ (z : NodeWords). z.page) (shown_within c.heap v (shown_now c law t now)).0 in
       way_tree (child k b) (within_trans (within_child k b) (within_trans (inside here) v))

@@ -10,7 +10,7 @@ use Rattle.moments.specs.declared.Rec.TheVariants.{Node as a_node, Leaf as a_lea
 use Rattle.moments.specs.State.{Links, IsLinked, IsLawful}
 use Rattle.moments.specs.Told.{items_of}
 use Rattle.moments.specs.Core.{Core, view}
-use Rattle.moments.specs.Steps.{IsLegalPublish}
+use Rattle.moments.specs.Steps.{IsMomentPublish}
 use Rattle.moments.specs.Trades.{IsOf, HasTraded}
 use Rattle.moments.proofs.Members.{of_append, of_left, of_right}
 use Rattle.rowex_walks.specs.Statements.{IsPublished}
@@ -55,7 +55,7 @@ trade_differs s t new gone n trade (inr h) e = let w = trade.went (a_leaf n) h i
 
 -- a legal publish of a tree in the place of another, with its trade
 pub published : (c : Core) (q : ℕ) → IsLawful (view c) → (t : Tree) → c.past.moment c.past.now ≡ Some t → (heap : Heap) (root : Option Entry) (x : Change) (r : Tree) (n : ℕ) (new gone : List Rec) →
-    IsLegalPublish c q heap root (Some r) x → IsTrade c q t r new gone → IsOf (a_leaf n) new ⊎ IsOf (a_leaf n) gone → IsPublished c q heap root x new gone
+    IsMomentPublish c q heap root (Some r) x → IsTrade c q t r new gone → IsOf (a_leaf n) new ⊎ IsOf (a_leaf n) gone → IsPublished c q heap root x new gone
 published c q law t now heap root x r n new gone legal trade one = record {
   tree = Some r;
   legal = legal;

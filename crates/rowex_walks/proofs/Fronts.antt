@@ -18,7 +18,7 @@ use Rattle.hot_model.specs.declared.Kind.TheVariants.{Added, Replaced, Removed}
 use Rattle.hot_model.specs.declared.Scan.{Scan}
 use Rattle.hot_model.specs.Maps.{Map, key_order, value_at}
 use Rattle.hot_model.specs.Fronts.{map_of, changed, changed_by}
-use Rattle.hot_model.specs.Scans.{is_within, IsHeldBetween, IsKept as IsKeptBetween, IsUpToLast, IsPastLast, IsLawfulScan}
+use Rattle.hot_model.specs.Scans.{is_within, IsHeldBetween, IsNeverRemoved as IsKeptBetween, IsUpToLast, IsPastLast, IsLawfulScan}
 use Rattle.tries.specs.Keys.{Key, IsBefore, IsAtMost}
 use Rattle.tries.specs.Tree.{Tree, Has}
 use Rattle.tries.proofs.Contents.{holds_has}

@@ -9,11 +9,11 @@ use Rattle.moments.specs.State.{Links, IsLawful}
 use Rattle.moments.specs.declared.Rec.{Rec}
 use Rattle.moments.specs.declared.Rec.TheVariants.{Node as a_node}
 use Rattle.moments.specs.Core.{Ready, Core, view}
-use Rattle.moments.specs.Steps.{IsLegalPublish}
+use Rattle.moments.specs.Steps.{IsMomentPublish}
 use Rattle.tries.specs.Content.{Item}
 use Rattle.tries.specs.Changes.{put, IsPathBelow, IsFlat}
 use Rattle.tries.specs.Place.{bare}
-use Rattle.rowex_walks.specs.Writer.{added_change, IsStored, IsNewNode, IsNewLeaf, IsFound, IsHalf, one, many, IsGrowth}
+use Rattle.rowex_walks.specs.Writer.{added_change, IsPageStored, IsNewNode, IsNewLeaf, IsFoundBelow, IsHalf, one, many, IsGrowth}
 use Rattle.tries.specs.Affected.{affected, IsPart}
 use Rattle.tries.proofs.Tries.{trie_within, built_within, within_trans}
 use Rattle.moments.proofs.Heaps.{shown_within}
@@ -88,7 +88,7 @@ module _ (c : Core) (q : ℕ) (x : Item) (p : ℕ) where
 module _ (c : Core) (q : ℕ) (law : IsLawful (view c)) (t : Tree) (now : c.past.moment c.past.now ≡ Some t) (since : ℕ) (x : Item) (p : ℕ) (l : Key)
     (new : IsNewLeaf c q x) where
   -- The start: the lowest locked node's body with the new leaf.
-  pub growth_leaf : {n : ℕ} {y : Fixed} {b : Tree} → Within (node n y b) t → IsFound c q since x p l n → IsPart (affected p x.key b) →
+  pub growth_leaf : {n : ℕ} {y : Fixed} {b : Tree} → Within (node n y b) t → IsFoundBelow c q since x p l n → IsPart (affected p x.key b) →
       IsGrowth c q x p b (with_leaf x p b)
   growth_leaf {b = b} v f is_part = record {
     hand = hand_leaf_in c q law t now v p x new;
@@ -96,7 +96,7 @@ module _ (c : Core) (q : ℕ) (law : IsLawful (view c)) (t : Tree) (now : c.past
   }
 
   -- Or the affected part alone with the new leaf beside it: leaf pushdown, and the full node that stays whole.
-  pub growth_beside : {n : ℕ} {y : Fixed} {b s : Tree} → Within (node n y b) t → IsFound c q since x p l n → IsPart (affected p x.key b) →
+  pub growth_beside : {n : ℕ} {y : Fixed} {b s : Tree} → Within (node n y b) t → IsFoundBelow c q since x p l n → IsPart (affected p x.key b) →
       Within s t → ((k : Key) → Has s k → Has (affected p x.key b) k) → IsGrowth c q x p s (grown (bit x.key p) p s x)
   growth_beside {b = b} {s = s} v f is_part w keys = record {
     hand = hand_grown c q (bit x.key p) p s s x (hand_stay c q s (built_within w (built_now c law t now)) (shown_within c.heap w (shown_now c law t now))) new.fate new.words;
@@ -106,12 +106,12 @@ module _ (c : Core) (q : ℕ) (law : IsLawful (view c)) (t : Tree) (now : c.past
   -- The end: the store at an entry of a locked node, or at the root.
   pub growth_slot : {n : ℕ} {y : Fixed} {b s : Tree} (v : Within (node n y b) t) (w : Within s b) → IsFlat w → IsTip s → IsPathBelow p w →
       c.lock n ≡ Some q → (r : Tree) → IsTip r → IsLower y.height r → IsGrowth c q x p s r →
-      (heap : Heap) → IsStored c.heap heap n (page (put w r)) →
-      IsLegalPublish c q heap c.root (Some (put v (node n y (put w r)))) (added_change q x)
+      (heap : Heap) → IsPageStored c.heap heap n (page (put w r)) →
+      IsMomentPublish c q heap c.root (Some (put v (node n y (put w r)))) (added_change q x)
   growth_slot v w flat ts path lock r tr low a heap st = slot_added c q law t now v w flat ts r tr lock a.hand low x p a.adds path heap st
 
   pub growth_root : (r : Tree) (e : Entry) → page r ≡ Place e → c.anchor ≡ Some q → IsGrowth c q x p t r →
-      IsLegalPublish c q c.heap (Some e) (Some r) (added_change q x)
+      IsMomentPublish c q c.heap (Some e) (Some r) (added_change q x)
   growth_root r e pg lock a = root_added c q law t now r e pg lock a.hand x p a.adds
 
   -- What the next node's body becomes.

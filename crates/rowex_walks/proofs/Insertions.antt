@@ -8,12 +8,12 @@ use Rattle.moments.specs.Heap.{Heap, IsShown}
 use Rattle.moments.specs.State.{IsLawful}
 use Rattle.moments.specs.declared.Rec.TheVariants.{Node as a_node}
 use Rattle.moments.specs.Core.{InTree, Core, view}
-use Rattle.moments.specs.Steps.{IsLegalPublish, at_root}
+use Rattle.moments.specs.Steps.{IsMomentPublish, at_root}
 use Rattle.tries.specs.Content.{Item, added}
 use Rattle.tries.specs.Changes.{put, IsFlat, IsAdded, IsExchanged}
 use Rattle.tries.specs.Place.{bare}
 use Rattle.moments.specs.Told.{IsChange}
-use Rattle.rowex_walks.specs.Writer.{added_change, replaced_change, IsAtHand, IsStored, IsNewNode, IsNewLeaf, IsFound}
+use Rattle.rowex_walks.specs.Writer.{added_change, replaced_change, IsAtHand, IsPageStored, IsNewNode, IsNewLeaf, IsFoundBelow}
 use Rattle.tries.specs.Affected.{affected, IsPart}
 use Rattle.tries.proofs.Tries.{trie_within, built_within, within_trans}
 use Rattle.moments.proofs.Heaps.{shown_within, near_refl}
@@ -40,17 +40,17 @@ part_of (fork n k v) f = tt
 
 module _ (c : Core) (q : ℕ) (law : IsLawful (view c)) (t : Tree) (now : c.past.moment c.past.now ≡ Some t) where
   -- What a writer that has found a leaf below its lowest locked node knows of the present.
-  pub found_follows : {n : ℕ} {y : Fixed} {b : Tree} → Within (node n y b) t → (since p : ℕ) (x : Item) (l : Key) → IsFound c q since x p l n → Follows l (child x.key b)
+  pub found_follows : {n : ℕ} {y : Fixed} {b : Tree} → Within (node n y b) t → (since p : ℕ) (x : Item) (l : Key) → IsFoundBelow c q since x p l n → Follows l (child x.key b)
   found_follows v since p x l f = way_follows c law since f.reach t now v x.key l f.way
 
   -- All keys of the affected part agree with the new key before `p` and have the other bit there.
-  pub found_away : {n : ℕ} {y : Fixed} {b : Tree} → Within (node n y b) t → (since p : ℕ) (x : Item) (l : Key) → IsFound c q since x p l n →
+  pub found_away : {n : ℕ} {y : Fixed} {b : Tree} → Within (node n y b) t → (since p : ℕ) (x : Item) (l : Key) → IsFoundBelow c q since x p l n →
       IsPart (affected p x.key b) → (k : Key) → Has (affected p x.key b) k → IsAway p x.key k
   found_away {b = b} v since p x l f is_part =
       part_away p x.key l f.agree f.differ b (trie_within (within_trans (inside here) v) (trie_now c law t now)) is_part (found_follows v since p x l f)
 
   -- So the node's body with the new leaf has one leaf more.
-  pub found_added : {n : ℕ} {y : Fixed} {b : Tree} → Within (node n y b) t → (since p : ℕ) (x : Item) (l : Key) → IsFound c q since x p l n →
+  pub found_added : {n : ℕ} {y : Fixed} {b : Tree} → Within (node n y b) t → (since p : ℕ) (x : Item) (l : Key) → IsFoundBelow c q since x p l n →
       IsPart (affected p x.key b) → (r : Tree) → bare r ≡ bare (with_leaf x p b) → IsAdded x p b r
   found_added {b = b} v since p x l f is_part r e =
       added_at (part_place p x.key b).0 x p r (trie_within (within_trans (inside here) v) (trie_now c law t now)) f.key (part_place p x.key b).2 (found_away v since p x l f is_part) e
@@ -67,15 +67,15 @@ module _ (c : Core) (q : ℕ) (law : IsLawful (view c)) (t : Tree) (now : c.past
 
   -- Upsert of a held key: another leaf takes the leaf's place.
   pub upsert : {n : ℕ} {y : Fixed} {b : Tree} (v : Within (node n y b) t) (j a : ℕ) (x : Item) (w : Within (leaf j x.key a) b) → IsFlat w →
-      c.lock n ≡ Some q → IsNewLeaf c q x → 0 < y.height → (heap : Heap) → IsStored c.heap heap n (page (put w (leaf x.number x.key x.value))) →
-      IsLegalPublish c q heap c.root (Some (put v (node n y (put w (leaf x.number x.key x.value))))) (replaced_change q x)
+      c.lock n ≡ Some q → IsNewLeaf c q x → 0 < y.height → (heap : Heap) → IsPageStored c.heap heap n (page (put w (leaf x.number x.key x.value))) →
+      IsMomentPublish c q heap c.root (Some (put v (node n y (put w (leaf x.number x.key x.value))))) (replaced_change q x)
   upsert {n} {y} {b} v j a x w flat lock new low heap st =
       slot_exchanged c q law t now v w flat tt (leaf x.number x.key x.value) tt lock
       (hand_leaf c q j x.number x.key x.key a x.value new.fate new.words) low
       (record { number = j; key = x.key; value = a }) x refl (exchanged_leaf j x.number x.key a x.value new.key) heap st
 
   pub upsert_top : (j a : ℕ) (x : Item) → t ≡ leaf j x.key a → c.anchor ≡ Some q → IsNewLeaf c q x →
-      IsLegalPublish c q c.heap (Some (Leaf x.number)) (Some (leaf x.number x.key x.value)) (replaced_change q x)
+      IsMomentPublish c q c.heap (Some (Leaf x.number)) (Some (leaf x.number x.key x.value)) (replaced_change q x)
   upsert_top j a x e lock new =
       root_exchanged c q law t now (leaf x.number x.key x.value) (Leaf x.number) refl lock
       (subst (λ s. IsAtHand c q s (leaf x.number x.key x.value)) (sym e) (hand_leaf c q j x.number x.key x.key a x.value new.fate new.words))
@@ -85,7 +85,7 @@ module _ (c : Core) (q : ℕ) (law : IsLawful (view c)) (t : Tree) (now : c.past
   -- A second key: a new node of two entries takes the place of the leaf at the root.
   pub second_key : (j a p : ℕ) (k : Key) (x : Item) → t ≡ leaf j k a → AgreeBelow p x.key k → bit x.key p ≢ bit k p → c.anchor ≡ Some q → IsNewLeaf c q x →
       (m : ℕ) (g : Fixed) → IsNewNode c q m g (grown (bit x.key p) p (leaf j k a) x) →
-      IsLegalPublish c q c.heap (Some (Node m g.height)) (Some (node m g (grown (bit x.key p) p (leaf j k a) x))) (added_change q x)
+      IsMomentPublish c q c.heap (Some (Node m g.height)) (Some (node m g (grown (bit x.key p) p (leaf j k a) x))) (added_change q x)
   second_key j a p k x e agree differ lock leaf_new m g new =
       let d : Tree = leaf j k a in
       let s = grown (bit x.key p) p d x in
@@ -100,7 +100,7 @@ module _ (c : Core) (q : ℕ) (law : IsLawful (view c)) (t : Tree) (now : c.past
 
 -- The first key.
 pub first_key : (c : Core) (q : ℕ) → IsLawful (view c) → c.past.moment c.past.now ≡ None → (x : Item) → c.anchor ≡ Some q → IsNewLeaf c q x →
-    IsLegalPublish c q c.heap (Some (Leaf x.number)) (Some (leaf x.number x.key x.value)) (added_change q x)
+    IsMomentPublish c q c.heap (Some (Leaf x.number)) (Some (leaf x.number x.key x.value)) (added_change q x)
 first_key c q law now x lock new = record {
   store = at_root lock refl;
   near = near_refl c.heap;

@@ -13,8 +13,8 @@ use Rattle.moments.specs.Heap.{Heap}
 use Rattle.moments.specs.State.{IsLawful}
 use Rattle.moments.specs.Core.{Core, view}
 use Rattle.moments.specs.declared.Rec.TheVariants.{Node as a_node, Leaf as a_leaf}
-use Rattle.moments.specs.Steps.{IsLegalPublish}
-use Rattle.rowex_walks.specs.Writer.{added_change, replaced_change, IsStored, IsNewLeaf}
+use Rattle.moments.specs.Steps.{IsMomentPublish}
+use Rattle.rowex_walks.specs.Writer.{added_change, replaced_change, IsPageStored, IsNewLeaf}
 use Rattle.rowex_walks.specs.Rise.{IsNewPage, IsLockedNode, IsSlotStore}
 use Rattle.tries.proofs.Tries.{built_within, within_trans}
 use Rattle.tries.proofs.Affected.{grown_page, away}
@@ -35,14 +35,14 @@ module _ (c : Core) (q : ℕ) (law : IsLawful (view c)) (t : Tree) (now : c.past
   -- Upsert of a held key, at an entry of a locked node.
   pub upsert_slot_now : (n j : ℕ) (x : Item) → IsLockedNode c q n → seek x.key (c.heap.nodes n).page ≡ Leaf j → (c.heap.leaves j).key ≡ x.key → IsNewLeaf c q x →
       (heap : Heap) → IsSlotStore c heap n x.key (Leaf x.number) →
-      (r : Tree) × IsLegalPublish c q heap c.root (Some r) (replaced_change q x) × IsTrade c q t r (a_leaf x.number ∷ []) (a_leaf j ∷ [])
+      (r : Tree) × IsMomentPublish c q heap c.root (Some r) (replaced_change q x) × IsTrade c q t r (a_leaf x.number ∷ []) (a_leaf j ∷ [])
   upsert_slot_now n j x locked at same new heap st =
       let (b, v, pg) = stands_now c law t now n locked.linked locked.fate in
       let old : child x.key b ≡ leaf j x.key (c.heap.leaves j).value = entry_leaf c law t now v x.key j at ∙ ap (λ k. leaf j k (c.heap.leaves j).value) same in
       let (w, flat, pages, path) = subst (IsSpot x.key b) old (page_spot x.key b) in
       let new_leaf : Tree = leaf x.number x.key x.value in
-      let stored : IsStored c.heap heap n (page (put w new_leaf)) =
-      subst (IsStored c.heap heap n)
+      let stored : IsPageStored c.heap heap n (page (put w new_leaf)) =
+      subst (IsPageStored c.heap heap n)
       (sym (with_page_entry x.key (Leaf x.number) (c.heap.nodes n).page) ∙ (ap (with_page x.key (Place (Leaf x.number))) (sym pg) ∙ sym (pages new_leaf))) st in
       let low = lower_positive (c.heap.nodes n).fixed.height b (built_within v (built_now c law t now)).1 in (
         put v (node n (c.heap.nodes n).fixed (put w new_leaf)),
@@ -52,7 +52,7 @@ module _ (c : Core) (q : ℕ) (law : IsLawful (view c)) (t : Tree) (now : c.past
 
   -- At the root.
   pub upsert_root_now : (j : ℕ) (x : Item) → c.anchor ≡ Some q → c.root ≡ Some (Leaf j) → (c.heap.leaves j).key ≡ x.key → IsNewLeaf c q x →
-      (r : Tree) × IsLegalPublish c q c.heap (Some (Leaf x.number)) (Some r) (replaced_change q x) × IsTrade c q t r (a_leaf x.number ∷ []) (a_leaf j ∷ [])
+      (r : Tree) × IsMomentPublish c q c.heap (Some (Leaf x.number)) (Some r) (replaced_change q x) × IsTrade c q t r (a_leaf x.number ∷ []) (a_leaf j ∷ [])
   upsert_root_now j x lock root same new =
       let is = root_leaf c law t now j root ∙ ap (λ k. leaf j k (c.heap.leaves j).value) same in (
         leaf x.number x.key x.value,
@@ -79,7 +79,7 @@ module _ (c : Core) (q : ℕ) (law : IsLawful (view c)) (t : Tree) (now : c.past
   -- the second key
   pub second_root_now : (j p m : ℕ) (g : Fixed) (x : Item) → c.anchor ≡ Some q → c.root ≡ Some (Leaf j) → AgreeBelow p x.key (c.heap.leaves j).key → bit x.key p ≢ bit (c.heap.leaves j).key p → IsNewLeaf c q x →
       IsNewPage c q m g (page_forked (bit x.key p) p (Leaf x.number) (Place (Leaf j))) →
-      (r : Tree) × IsLegalPublish c q c.heap (Some (Node m g.height)) (Some r) (added_change q x) × IsTrade c q t r (a_node m ∷ a_leaf x.number ∷ []) []
+      (r : Tree) × IsMomentPublish c q c.heap (Some (Node m g.height)) (Some r) (added_change q x) × IsTrade c q t r (a_node m ∷ a_leaf x.number ∷ []) []
   second_root_now j p m g x lock root agree differ new i =
       let d : Tree = leaf j (c.heap.leaves j).key (c.heap.leaves j).value in
       let is : t ≡ d = root_leaf c law t now j root in

@@ -8,7 +8,7 @@ use Rattle.moments.specs.State.{Past, Stands, IsHeld, IsKept}
 use Rattle.moments.specs.declared.Rec.{Rec}
 use Rattle.moments.specs.declared.Rec.TheVariants.{Node as a_node, Leaf as a_leaf}
 use Rattle.moments.specs.Frames.{IsGrown}
-use Rattle.rowex_walks.specs.Scan.{Stood, IsRooted, IsPlaced, IsShaped, IsRead, Fits, IsReached, placed, further, IsOn, Frame, IsStack, IsPassed, IsRight, IsAhead, Pair, Every, IsListed, Range, IsScan, IsStart}
+use Rattle.rowex_walks.specs.Scan.{Stood, IsRooted, IsPlaced, IsShaped, IsRead, MayStandAt, IsReached, placed, further, IsOn, Frame, IsStack, IsPassed, IsRight, IsAhead, Pair, Every, IsListed, Range, IsScan, IsStart}
 
 stands_on : (a b : Past) → IsGrown a b → (n : ℕ) (r : Rec) (u : Tree) → n ≤ a.now → Stands a n r u → Stands b n r u
 stands_on a b g n r u h st = record { tree = st.tree; is_moment = g.kept n h ∙ st.is_moment; within = st.within; is_record = st.is_record }
@@ -34,7 +34,7 @@ shaped_on a b g m r p (t, st, e) = (t, stood_on a b g m r t st, e)
 pub read_on : (a b : Past) → IsGrown a b → (m r : ℕ) (k : Key) (v : ℕ) → IsRead a m r k v → IsRead b m r k v
 read_on a b g m r k v (n, lo, hi, st) = (n, lo, le_trans hi g.longer, stands_on a b g n (a_leaf r) _ hi st)
 
-pub fit_on : (a b : Past) → IsGrown a b → (m r i : ℕ) (y : Key) → Fits a m r i y → Fits b m r i y
+pub fit_on : (a b : Past) → IsGrown a b → (m r i : ℕ) (y : Key) → MayStandAt a m r i y → MayStandAt b m r i y
 fit_on a b g m r i y (t, k, st, u, f) = (t, k, stood_on a b g m r t st, u, f)
 
 pub reached_on : (a b : Past) → IsGrown a b → (m r j : ℕ) {e : Entry} → IsReached a m r j e → IsReached b m r j e

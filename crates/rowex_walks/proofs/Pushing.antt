@@ -12,8 +12,8 @@ use Rattle.moments.specs.Heap.{Heap}
 use Rattle.moments.specs.State.{IsLawful}
 use Rattle.moments.specs.Core.{Core, view}
 use Rattle.moments.specs.declared.Rec.TheVariants.{Node as a_node, Leaf as a_leaf}
-use Rattle.moments.specs.Steps.{IsLegalPublish}
-use Rattle.rowex_walks.specs.Writer.{added_change, IsStored, IsNewLeaf, IsFound}
+use Rattle.moments.specs.Steps.{IsMomentPublish}
+use Rattle.rowex_walks.specs.Writer.{added_change, IsPageStored, IsNewLeaf, IsFoundBelow}
 use Rattle.rowex_walks.specs.Rise.{IsNewPage, IsLockedNode, IsSlotStore, IsBelowNode}
 use Rattle.tries.proofs.Tries.{within_trans}
 use Rattle.tries.proofs.Affected.{affected_page, part_page, grown_page}
@@ -28,7 +28,7 @@ use Rattle.rowex_walks.specs.Statements.{PushDown}
 
 module _ (c : Core) (q : ℕ) (law : IsLawful (view c)) (t : Tree) (now : c.past.moment c.past.now ≡ Some t) where
   -- what a pushdown puts in a node of its own is the page of a lawful tree
-  pub pushed_tree : (since : ℕ) (x : Item) (p : ℕ) (l : Key) → IsNewLeaf c q x → (n j : ℕ) → IsFound c q since x p l n → IsLockedNode c q n → page_affected p x.key (c.heap.nodes n).page ≡ Place (Leaf j) →
+  pub pushed_tree : (since : ℕ) (x : Item) (p : ℕ) (l : Key) → IsNewLeaf c q x → (n j : ℕ) → IsFoundBelow c q since x p l n → IsLockedNode c q n → page_affected p x.key (c.heap.nodes n).page ≡ Place (Leaf j) →
       (s : Tree) × (page s ≡ page_forked (bit x.key p) p (Leaf x.number) (Place (Leaf j))) × IsTrie s × IsBuilt s
   pushed_tree since x p l new n j found locked alone_affected =
       let (b, v, pg) = stands_now c law t now n locked.linked locked.fate in
@@ -44,9 +44,9 @@ module _ (c : Core) (q : ℕ) (law : IsLawful (view c)) (t : Tree) (now : c.past
       )
 
   -- leaf pushdown
-  pub push_down_now : (since : ℕ) (x : Item) (p : ℕ) (l : Key) → IsNewLeaf c q x → (n j m : ℕ) (g : Fixed) → IsFound c q since x p l n → IsLockedNode c q n → page_affected p x.key (c.heap.nodes n).page ≡ Place (Leaf j) →
+  pub push_down_now : (since : ℕ) (x : Item) (p : ℕ) (l : Key) → IsNewLeaf c q x → (n j m : ℕ) (g : Fixed) → IsFoundBelow c q since x p l n → IsLockedNode c q n → page_affected p x.key (c.heap.nodes n).page ≡ Place (Leaf j) →
       IsNewPage c q m g (page_forked (bit x.key p) p (Leaf x.number) (Place (Leaf j))) → IsBelowNode c n (Node m g.height) →
-      (heap : Heap) → IsSlotStore c heap n x.key (Node m g.height) → (r : Tree) × IsLegalPublish c q heap c.root (Some r) (added_change q x) × IsTrade c q t r (a_node m ∷ a_leaf x.number ∷ []) []
+      (heap : Heap) → IsSlotStore c heap n x.key (Node m g.height) → (r : Tree) × IsMomentPublish c q heap c.root (Some r) (added_change q x) × IsTrade c q t r (a_node m ∷ a_leaf x.number ∷ []) []
   push_down_now since x p l new n j m g found locked alone_affected i low heap st =
       let (b, v, pg) = stands_now c law t now n locked.linked locked.fate in
       let y = (c.heap.nodes n).fixed in
@@ -57,8 +57,8 @@ module _ (c : Core) (q : ℕ) (law : IsLawful (view c)) (t : Tree) (now : c.past
       let s = grown (bit x.key p) p (affected p x.key b) x in
       let s_page : page s ≡ page_forked (bit x.key p) p (Leaf x.number) (Place (Leaf j)) =
       grown_page (bit x.key p) p (affected p x.key b) x ∙ ap (page_forked (bit x.key p) p (Leaf x.number)) part_page_is in
-      let stored : IsStored c.heap heap n (page (put w (node m g s))) =
-      subst (IsStored c.heap heap n)
+      let stored : IsPageStored c.heap heap n (page (put w (node m g s))) =
+      subst (IsPageStored c.heap heap n)
       (sym (with_page_entry x.key (Node m g.height) (c.heap.nodes n).page) ∙ (ap (with_page x.key (Place (Node m g.height))) (sym pg) ∙ sym (pages (node m g s)))) st in
       let inner = within_trans w (within_trans (inside here) v) in (
         put v (node n y (put w (node m g s))),

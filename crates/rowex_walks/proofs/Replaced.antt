@@ -12,9 +12,9 @@ use Rattle.moments.specs.declared.Rec.{Rec}
 use Rattle.moments.specs.declared.Rec.TheVariants.{Node as a_node}
 use Rattle.hot_model.specs.declared.Change.{Change}
 use Rattle.moments.specs.Core.{Fate, Free, Held, Ready, InTree, Unlinked, Marked, life_of, Core, view}
-use Rattle.moments.specs.Steps.{at_root, at_slot, IsLegalPublish}
+use Rattle.moments.specs.Steps.{at_root, at_slot, IsMomentPublish}
 use Rattle.tries.specs.Changes.{put, IsFlat}
-use Rattle.rowex_walks.specs.Writer.{IsAtHand, IsStored}
+use Rattle.rowex_walks.specs.Writer.{IsAtHand, IsPageStored}
 use Rattle.moments.proofs.Publish.{links_within, within_links}
 use Rattle.moments.proofs.Quiet.{shown_ext}
 use Rattle.moments.proofs.Heaps.{shown_within, near_refl}
@@ -150,8 +150,8 @@ module _ (c : Core) (q : ℕ) (law : IsLawful (view c)) (t : Tree) (now : c.past
 
   pub slot_legal : {n : ℕ} {x : Fixed} {b s : Tree} (v : Within (node n x b) t) (w : Within s b) → IsFlat w → IsTip s → (r : Tree) → IsTip r →
       c.lock n ≡ Some q → IsAtHand c q s r → IsLower x.height r → IsTrie (put v (node n x (put w r))) →
-      (heap : Heap) → IsStored c.heap heap n (page (put w r)) → (ch : Change) → ch.pass ≡ q → IsChange (Some t) ch (Some (put v (node n x (put w r)))) →
-      IsLegalPublish c q heap c.root (Some (put v (node n x (put w r)))) ch
+      (heap : Heap) → IsPageStored c.heap heap n (page (put w r)) → (ch : Change) → ch.pass ≡ q → IsChange (Some t) ch (Some (put v (node n x (put w r)))) →
+      IsMomentPublish c q heap c.root (Some (put v (node n x (put w r)))) ch
   slot_legal {n} {x} {b} {s} v w flat ts r is_tip lock hand low trie heap st ch e one = record {
     store = at_slot n lock (λ m h. sym (st.others m h)) (λ m. sym (st.leaves m)) refl;
     near = (st.leaves, λ i. same_fixed i (is_node? i n), λ i. pages i (is_node? i n));
@@ -241,7 +241,7 @@ module _ (c : Core) (q : ℕ) (law : IsLawful (view c)) (t : Tree) (now : c.past
 
   -- A store of the root entry under the anchor's lock.
   pub root_legal : (r : Tree) (e : Entry) → page r ≡ Place e → c.anchor ≡ Some q → IsAtHand c q t r → IsTrie r → (ch : Change) → ch.pass ≡ q → IsChange (Some t) ch (Some r) →
-      IsLegalPublish c q c.heap (Some e) (Some r) ch
+      IsMomentPublish c q c.heap (Some e) (Some r) ch
   root_legal r e pg lock hand trie ch z one = record {
     store = at_root lock refl;
     near = near_refl c.heap;

@@ -14,8 +14,8 @@ use Rattle.tries.specs.Affected.{affected, IsPart, page_affected, page_forked, p
 use Rattle.moments.specs.Heap.{NodeWords, Heap, IsShown}
 use Rattle.moments.specs.State.{IsFrom, IsLawful, Links}
 use Rattle.moments.specs.Core.{Core, view, Ready}
-use Rattle.moments.specs.Steps.{IsLegalPublish}
-use Rattle.rowex_walks.specs.Writer.{added_change, IsStored, IsNewNode, IsNewLeaf, IsFound, IsHalf, one, many, IsGrowth}
+use Rattle.moments.specs.Steps.{IsMomentPublish}
+use Rattle.rowex_walks.specs.Writer.{added_change, IsPageStored, IsNewNode, IsNewLeaf, IsFoundBelow, IsHalf, one, many, IsGrowth}
 use Rattle.rowex_walks.specs.Rise.{IsNewPage, IsEntryFor, alone, in_node, IsUpper, Side, body, entry, IsRise, grows, pulls, copies, halves, stays_whole, wraps, IsSlotStore, IsBelowNode, entry_news, news_of, gone_of}
 use Rattle.tries.proofs.Tries.{trie_within, built_within, within_trans}
 use Rattle.tries.proofs.Affected.{affected_page, part_page, part_place, lower_page, place_page, grown_page}
@@ -195,7 +195,7 @@ module _ (c : Core) (q : ℕ) (law : IsLawful (view c)) (t : Tree) (now : c.past
       IsTrade c q (affected p x.key b) (grown (bit x.key p) p (affected p x.key b) x) (a_leaf x.number ∷ []) []
   part_trade b v = grown_trade c q law t now x p new (affected p x.key b) (within_trans (part_place p x.key b).0 (within_trans (inside here) v))
 
-  rise_grows : (n : ℕ) → IsFound c q since x p l n → IsPartPage (page_affected p x.key (c.heap.nodes n).page) →
+  rise_grows : (n : ℕ) → IsFoundBelow c q since x p l n → IsPartPage (page_affected p x.key (c.heap.nodes n).page) →
       HasRisen body n (page_grown p x.key (Leaf x.number) (c.heap.nodes n).page) (a_leaf x.number ∷ []) []
   rise_grows n found i y b v = (
     with_leaf x p b,
@@ -246,7 +246,7 @@ module _ (c : Core) (q : ℕ) (law : IsLawful (view c)) (t : Tree) (now : c.past
             (cut_trade c q o f u w u' w' us gs (entry_news i) (entry_news j) (old_now c q law t now (within_trans (inside here) v)) (subst (λ z. IsTrade c q o z us gs) is tr) nu nw),
       )
 
-  rise_whole : (n : ℕ) → IsFound c q since x p l n → IsFrom p (c.heap.nodes n).page →
+  rise_whole : (n : ℕ) → IsFoundBelow c q since x p l n → IsFrom p (c.heap.nodes n).page →
       HasRisen entry n (page_forked (bit x.key p) p (Leaf x.number) (Place (Node n (c.heap.nodes n).fixed.height))) (a_leaf x.number ∷ []) []
   rise_whole n found i y b v =
       let two : IsFork b = (built_within v (built_now c law t now)).0 in
@@ -273,13 +273,13 @@ module _ (c : Core) (q : ℕ) (law : IsLawful (view c)) (t : Tree) (now : c.past
 
   -- The publish, at an entry of a locked node.
   pub rise_slot : (o n : ℕ) (e : Entry) (i : IsRise c q since x p l entry n (Place e)) → IsUpper c q x.key p o n → IsBelowNode c o e →
-      (heap : Heap) → IsSlotStore c heap o x.key e → (r : Tree) × IsLegalPublish c q heap c.root (Some r) (added_change q x) × IsTrade c q t r (news_of i) (gone_of i)
+      (heap : Heap) → IsSlotStore c heap o x.key e → (r : Tree) × IsMomentPublish c q heap c.root (Some r) (added_change q x) × IsTrade c q t r (news_of i) (gone_of i)
   rise_slot o n e i u low heap st =
       let (d, v, pg) = stands_now c law t now o u.over.locked.linked u.over.locked.fate in
       let (y, b, w, flat, path, pages) = child_of v u in
       let (s, z, a, tr) = risen entry n (Place e) i y b (within_trans w (within_trans (inside here) v)) in
-      let stored : IsStored c.heap heap o (page (put w s)) =
-      subst (IsStored c.heap heap o)
+      let stored : IsPageStored c.heap heap o (page (put w s)) =
+      subst (IsPageStored c.heap heap o)
       (sym (with_page_entry x.key e (c.heap.nodes o).page) ∙ (ap (with_page x.key (Place e)) (sym pg) ∙ (ap (λ r. with_page x.key r (page d)) (sym z) ∙ sym (pages s)))) st in (
         put v (node o (c.heap.nodes o).fixed (put w s)),
         growth_slot c q law t now since x p l new v w flat tt path u.over.locked.lock s (is_tip s (subst IsTipPage (sym z) tt))
@@ -289,7 +289,7 @@ module _ (c : Core) (q : ℕ) (law : IsLawful (view c)) (t : Tree) (now : c.past
 
   -- At the root.
   pub rise_root : (n h : ℕ) (e : Entry) (i : IsRise c q since x p l entry n (Place e)) → c.anchor ≡ Some q → c.root ≡ Some (Node n h) →
-      (r : Tree) × IsLegalPublish c q c.heap (Some e) (Some r) (added_change q x) × IsTrade c q t r (news_of i) (gone_of i)
+      (r : Tree) × IsMomentPublish c q c.heap (Some e) (Some r) (added_change q x) × IsTrade c q t r (news_of i) (gone_of i)
   rise_root n h e i lock root =
       let (y, b, is) = root_node c law t now n h root in
       let (s, z, a, tr) = risen entry n (Place e) i y b (subst (Within (node n y b)) (sym is) here) in

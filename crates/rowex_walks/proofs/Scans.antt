@@ -10,7 +10,7 @@ use Rattle.tries.specs.Search.{Follows, child, Kin, tips, forks, between, IsUnde
 use Rattle.moments.specs.State.{rec_of, IsRecord, Past, Stands, IsHeld, IsKept, IsMissed, IsLed, IsSteady}
 use Rattle.moments.specs.declared.Rec.TheVariants.{Node as a_node, Leaf as a_leaf}
 use Rattle.tries.specs.Place.{spot, shape}
-use Rattle.rowex_walks.specs.Scan.{at_place, IsAlike, Stood, IsRooted, IsPlaced, IsShaped, IsRead, Fits, IsReached, placed, further, IsOn}
+use Rattle.rowex_walks.specs.Scan.{at_place, IsAlike, Stood, IsRooted, IsPlaced, IsShaped, IsRead, MayStandAt, IsReached, placed, further, IsOn}
 use Rattle.tries.proofs.Tries.{has_first, has_within, within_trans, trie_within, built_within, rises, has_if_follows, follows_if_has, follows_kin, descend, has_child, has_under, under_below, between_low, between_mid, between_high, parting, kin_tips}
 use Rattle.moments.proofs.States.{record_of_page}
 use Rattle.tries.proofs.Contents.{before_irrefl}
@@ -143,7 +143,7 @@ stood_kin s m law r b c st su =
     (law.same (a_node r) st.at su.at (node r st.fixed b) (node r su.fixed c) st.since st.until su.since su.until st.stands su.stands).1
 
 -- A key left of the place of another is before it.
-pub fit_order : (s : Past) (m : ℕ) → IsSteady s m → (r i j : ℕ) → i < j → (y z : Key) → Fits s m r i y → Fits s m r j z → IsBefore y z
+pub fit_order : (s : Past) (m : ℕ) → IsSteady s m → (r i j : ℕ) → i < j → (y z : Key) → MayStandAt s m r i y → MayStandAt s m r j z → IsBefore y z
 fit_order s m law r i j lt y z (b, k, st, u, f) (c, l, su, v, g) =
     let kin : Kin b c = stood_kin s m law r b c st su in
     let to = under_below c j l v in
@@ -187,7 +187,7 @@ placed_stands s m r j b st e pg = record {
 
 -- A key that may stand in a child may stand at the child's place.
 fit_kin : (s : Past) (m r j i : ℕ) (b : Tree) (l z : Key) → Stood s m r b → IsTrie b → j < size (page b) → {d e : Tree} → Kin d e → IsFork d →
-    Within d (at_place b j) → IsUnder e i l → IsAlike (page e) i l z → Fits s m r j z
+    Within d (at_place b j) → IsUnder e i l → IsAlike (page e) i l z → MayStandAt s m r j z
 fit_kin s m r j i b l z st t lt (tips {a = fork p a c} x y) f w u g = elim x [ ]
 fit_kin s m r j i b l z st t lt (tips {a = leaf n k v} x y) f w u g = elim f [ ]
 fit_kin s m r j i b l z st t lt (tips {a = node n k v} x y) f w u g = elim f [ ]
@@ -199,7 +199,7 @@ fit_kin s m r j i b l z st t lt (forks {p = p} {a = a} {b = a'} {c = c} {d = d} 
   alike_deep b j p a a' t w (first a) z (λ q h. e (first a) l (inl (has_first a)) (has_under (fork p c d) i l u) q h ∙ g.0 q (omega arith)),
 )
 
-pub fit_down : (s : Past) (m : ℕ) → IsSteady s m → (r j c h i : ℕ) (z : Key) → IsPlaced s m r j (Node c h) → Fits s m c i z → Fits s m r j z
+pub fit_down : (s : Past) (m : ℕ) → IsSteady s m → (r j c h i : ℕ) (z : Key) → IsPlaced s m r j (Node c h) → MayStandAt s m c i z → MayStandAt s m r j z
 fit_down s m law r j c h i z (b, st, lt, pg) (d, l, su, v, g) =
     let o = node_of c h (at_place b j) pg in
     let sd = placed_stands s m r j b st (Node c h) pg in
@@ -208,7 +208,7 @@ fit_down s m law r j c h i z (b, st, lt, pg) (d, l, su, v, g) =
     fit_kin s m r j i b l z st (stood_trie s m law r b st) lt (stood_kin s m law c o.1 d sc su) (stood_built s m law c o.1 sc).0
     (subst (λ u. Within o.1 u) (sym o.2) (inside here)) v g
 
-pub fit_leaf : (s : Past) (m : ℕ) → IsSteady s m → (r j n : ℕ) (k : Key) (v : ℕ) → IsPlaced s m r j (Leaf n) → IsRead s m n k v → Fits s m r j k
+pub fit_leaf : (s : Past) (m : ℕ) → IsSteady s m → (r j n : ℕ) (k : Key) (v : ℕ) → IsPlaced s m r j (Leaf n) → IsRead s m n k v → MayStandAt s m r j k
 fit_leaf s m law r j n k v (b, st, lt, pg) (o, lo, hi, sn) =
     let w = leaf_of n (at_place b j) pg in
     let sd : Stands s st.at (a_leaf n) (leaf n w.0 w.1) = subst (λ u. Stands s st.at (a_leaf n) u) w.2 (placed_stands s m r j b st (Leaf n) pg) in
@@ -216,11 +216,11 @@ fit_leaf s m law r j n k v (b, st, lt, pg) (o, lo, hi, sn) =
     (b, k, st, under_at b j k lt (subst (λ u. Has u k) (sym w.2) e), alike_refl (page b) j k)
 
 -- A key that may stand in a record that was reached from a place may stand at the place.
-pub fit_reached : (s : Past) (m : ℕ) → IsSteady s m → (r j c h i : ℕ) (z : Key) → IsReached s m r j (Node c h) → Fits s m c i z → Fits s m r j z
+pub fit_reached : (s : Past) (m : ℕ) → IsSteady s m → (r j c h i : ℕ) (z : Key) → IsReached s m r j (Node c h) → MayStandAt s m c i z → MayStandAt s m r j z
 fit_reached s m law r j c h i z (placed p) f = fit_down s m law r j c h i z p f
 fit_reached s m law r j c h i z (further {c = d} {h = g} {i = o} q p) f = fit_reached s m law r j d g o z q (fit_down s m law d o c h i z p f)
 
-pub fit_first : (s : Past) (m : ℕ) → IsSteady s m → (r j n : ℕ) (k : Key) (v : ℕ) → IsReached s m r j (Leaf n) → IsRead s m n k v → Fits s m r j k
+pub fit_first : (s : Past) (m : ℕ) → IsSteady s m → (r j n : ℕ) (k : Key) (v : ℕ) → IsReached s m r j (Leaf n) → IsRead s m n k v → MayStandAt s m r j k
 fit_first s m law r j n k v (placed p) f = fit_leaf s m law r j n k v p f
 fit_first s m law r j n k v (further {c = d} {h = g} {i = o} q p) f = fit_reached s m law r j d g o k q (fit_leaf s m law d o n k v p f)
 
@@ -239,7 +239,7 @@ shaped s m law r p b (c, st, e) su = sym (kin_shape (stood_kin s m law r c b st 
 shaped_spot : (s : Past) (m : ℕ) → IsSteady s m → (r : ℕ) (p : Page) (b : Tree) (k : Key) → IsShaped s m r p → Stood s m r b → spot k (page b) ≡ spot k p
 shaped_spot s m law r p b k sh st = sym (spot_shape k (page b)) ∙ ap (spot k) (shaped s m law r p b sh st)
 
-pub on_fit : (s : Past) (m : ℕ) → IsSteady s m → (r : ℕ) (p : Page) (k : Key) → IsShaped s m r p → IsOn s m k (a_node r) → Fits s m r (spot k p) k
+pub on_fit : (s : Past) (m : ℕ) → IsSteady s m → (r : ℕ) (p : Page) (k : Key) → IsShaped s m r p → IsOn s m k (a_node r) → MayStandAt s m r (spot k p) k
 on_fit s m law r p k sh on =
     let o = on_stood s m r k on in
     let e = shaped_spot s m law r p o.0 k sh o.1 in

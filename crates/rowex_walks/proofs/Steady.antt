@@ -9,24 +9,24 @@ use Rattle.moments.specs.Core.{Core, pin_moment, view}
 use Rattle.moments.specs.declared.Pin.{Pin}
 use Rattle.moments.specs.Frames.{IsGrown}
 use Rattle.tries.specs.Content.{Item}
-use Rattle.rowex_walks.specs.Writer.{IsBegun, IsWay, at_leaf, below, IsFound}
+use Rattle.rowex_walks.specs.Writer.{IsBegun, IsWayBelow, at_leaf, below, IsFoundBelow}
 use Rattle.moments.proofs.Growth.{stands_grown, marked_grown}
 use Rattle.moments.proofs.States.{reach_later}
 
 begun_grown : (a b : Past) → IsGrown a b → (m r : ℕ) (like : Key) (n : ℕ) → IsBegun a m r like n → IsBegun b m r like n
 begun_grown a b g m r like n (o, x, d, e, lo, hi, st, h) = (o, x, d, e, lo, le_trans hi g.longer, stands_grown a b g o (a_node n) _ hi st, h)
 
-pub way_grown : (a b : Past) → IsGrown a b → (m : ℕ) (k : Key) (x : Page) (l : Key) → IsWay a m k x l → IsWay b m k x l
+pub way_grown : (a b : Past) → IsGrown a b → (m : ℕ) (k : Key) (x : Page) (l : Key) → IsWayBelow a m k x l → IsWayBelow b m k x l
 way_grown a b g m k x l (at_leaf j e f) = at_leaf j e (marked_grown a b g m (λ y. y ≡ l) _ f)
 way_grown a b g m k x l (below n h r like e f i) = below n h r like e (begun_grown a b g m r like n f) i
 
 pub found_kept : (c d : Core) (q since p : ℕ) (x : Item) (l : Key) (n : ℕ) (pin : Pin) → IsLawful (view d) → IsGrown c.past d.past →
-    d.lock n ≡ Some q → d.heap.nodes n ≡ c.heap.nodes n → d.pins q ≡ Some pin → pin.moment ≤ since → IsFound c q since x p l n → IsFound d q since x p l n
+    d.lock n ≡ Some q → d.heap.nodes n ≡ c.heap.nodes n → d.pins q ≡ Some pin → pin.moment ≤ since → IsFoundBelow c q since x p l n → IsFoundBelow d q since x p l n
 found_kept c d q since p x l n pin law grown lock words pinned lo found = record {
   key = found.key;
   reach = reach_later (view d) pin.moment since lo (law.reach q pin.moment (ap pin_moment pinned));
   lock = lock;
-  way = subst (λ z. IsWay d.past since x.key z l) (ap (λ (w : NodeWords). w.page) (sym words)) (way_grown c.past d.past grown since x.key _ l found.way);
+  way = subst (λ z. IsWayBelow d.past since x.key z l) (ap (λ (w : NodeWords). w.page) (sym words)) (way_grown c.past d.past grown since x.key _ l found.way);
   agree = found.agree;
   differ = found.differ;
 }

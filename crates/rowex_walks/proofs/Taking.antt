@@ -14,8 +14,8 @@ use Rattle.moments.specs.State.{IsLawful, Links}
 use Rattle.moments.specs.Core.{Core, Ready, InTree, view}
 use Rattle.moments.specs.declared.Rec.{Rec}
 use Rattle.moments.specs.declared.Rec.TheVariants.{Node as a_node, Leaf as a_leaf}
-use Rattle.moments.specs.Steps.{IsLegalPublish}
-use Rattle.rowex_walks.specs.Writer.{item, removed_change, IsAtHand, IsStored}
+use Rattle.moments.specs.Steps.{IsMomentPublish}
+use Rattle.rowex_walks.specs.Writer.{item, removed_change, IsAtHand, IsPageStored}
 use Rattle.rowex_walks.specs.Rise.{IsNewPage, IsEntryFor, alone, in_node, IsOver, IsLeafOf, IsSlotStore, IsBelowNode, entry_news}
 use Rattle.tries.proofs.Tries.{trie_within, built_within, within_trans}
 use Rattle.tries.proofs.Affected.{lower_page}
@@ -158,14 +158,14 @@ module _ (c : Core) (q : ℕ) (law : IsLawful (view c)) (k : Key) (n j : ℕ) (s
   -- At an entry of a locked node.
   pub remove_slot_now : (o : ℕ) (e : Entry) (i : IsEntryFor c q (page_without k (c.heap.nodes n).page) e) → IsOver c q k o n → IsBelowNode c o e →
       (heap : Heap) → IsSlotStore c heap o k e →
-      (r : Tree) × IsLegalPublish c q heap c.root (Some r) (removed_change q (item j k (c.heap.leaves j).value)) × IsTrade c q t r (entry_news i) (a_node n ∷ a_leaf j ∷ [])
+      (r : Tree) × IsMomentPublish c q heap c.root (Some r) (removed_change q (item j k (c.heap.leaves j).value)) × IsTrade c q t r (entry_news i) (a_node n ∷ a_leaf j ∷ [])
   remove_slot_now o e i over low heap st =
       let (d, v, pg) = stands_now c law t now o over.locked.linked over.locked.fate in
       let (y, b, is, words) = entry_node c law t now v k n over.height over.entry in
       let (w, flat, pages, path) = subst (IsSpot k d) is (page_spot k d) in
       let (s, z, gone, hand, tr) = left_now e i y b (within_trans w (within_trans (inside here) v)) in
-      let stored : IsStored c.heap heap o (page (put w s)) =
-      subst (IsStored c.heap heap o)
+      let stored : IsPageStored c.heap heap o (page (put w s)) =
+      subst (IsPageStored c.heap heap o)
       (sym (with_page_entry k e (c.heap.nodes o).page) ∙ (ap (with_page k (Place e)) (sym pg) ∙ (ap (λ r. with_page k r (page d)) (sym z) ∙ sym (pages s)))) st in (
         put v (node o (c.heap.nodes o).fixed (put w s)),
         slot_removed c q law t now v w flat tt s (is_tip s (subst IsTipPage (sym z) tt)) over.locked.lock hand
@@ -175,7 +175,7 @@ module _ (c : Core) (q : ℕ) (law : IsLawful (view c)) (k : Key) (n j : ℕ) (s
 
   -- At the root.
   pub remove_root_now : (h : ℕ) (e : Entry) (i : IsEntryFor c q (page_without k (c.heap.nodes n).page) e) → c.anchor ≡ Some q → c.root ≡ Some (Node n h) →
-      (r : Tree) × IsLegalPublish c q c.heap (Some e) (Some r) (removed_change q (item j k (c.heap.leaves j).value)) × IsTrade c q t r (entry_news i) (a_node n ∷ a_leaf j ∷ [])
+      (r : Tree) × IsMomentPublish c q c.heap (Some e) (Some r) (removed_change q (item j k (c.heap.leaves j).value)) × IsTrade c q t r (entry_news i) (a_node n ∷ a_leaf j ∷ [])
   remove_root_now h e i lock root =
       let (y, b, is) = root_node c law t now n h root in
       let (s, z, gone, hand, tr) = left_now e i y b (subst (Within (node n y b)) (sym is) here) in (

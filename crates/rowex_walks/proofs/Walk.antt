@@ -8,7 +8,7 @@ use Rattle.pieces.specs.Piece.{size}
 use Rattle.moments.specs.State.{Past, IsKept, IsSteady}
 use Rattle.moments.specs.declared.Rec.TheVariants.{Node as a_node}
 use Rattle.tries.specs.Place.{spot}
-use Rattle.rowex_walks.specs.Scan.{IsRooted, IsPlaced, IsShaped, IsRead, Fits, IsOn, Frame, IsStack, IsPassed, IsRight, IsAhead, Pair, Every, IsListed, Range, IsInRange, IsScan, IsComplete, IsUpTo, IsCut, IsStart, next}
+use Rattle.rowex_walks.specs.Scan.{IsRooted, IsPlaced, IsShaped, IsRead, MayStandAt, IsOn, Frame, IsStack, IsPassed, IsRight, IsAhead, Pair, Every, IsListed, Range, IsInRange, IsScan, IsComplete, IsUpTo, IsCut, IsStart, next}
 use Rattle.tries.proofs.Places.{spot_below}
 use Rattle.rowex_walks.proofs.Scans.{fit_order, fit_down, fit_leaf, on_fit, on_down, on_root, on_leaf, read_held, before_trans, never_before, before_most}
 
@@ -28,7 +28,7 @@ stack_place s m f i (g ∷ gs) h = h
 
 -- A passed key is before the keys that may stand at the topmost frame's place or right of it.
 pub passed_before : (s : Past) (m : ℕ) → IsSteady s m → (f : Frame) (fs : List Frame) → IsStack s m (f ∷ fs) → (k z : Key) → IsPassed s m k (f ∷ fs) →
-    (j : ℕ) → f.place ≤ j → Fits s m f.number j z → IsBefore k z
+    (j : ℕ) → f.place ≤ j → MayStandAt s m f.number j z → IsBefore k z
 passed_before s m law f fs h k z (inl (i, lt, x)) j le y = fit_order s m law f.number i j (omega arith) k z x y
 passed_before s m law f [] h k z (inr x) j le y = absurd x
 passed_before s m law f (g ∷ gs) h k z (inr x) j le y =
@@ -36,7 +36,7 @@ passed_before s m law f (g ∷ gs) h k z (inr x) j le y =
 
 -- And before those that are right of the places of the other frames.
 pub right_after : (s : Past) (m : ℕ) → IsSteady s m → (g : Frame) (gs : List Frame) → IsStack s m (g ∷ gs) → (l k : Key) →
-    Fits s m g.number g.place l ⊎ IsPassed s m l (g ∷ gs) → IsRight s m k (g ∷ gs) → IsBefore l k
+    MayStandAt s m g.number g.place l ⊎ IsPassed s m l (g ∷ gs) → IsRight s m k (g ∷ gs) → IsBefore l k
 right_after s m law g gs h l k (inl x) (inl (on, lt)) =
     fit_order s m law g.number g.place (spot k g.shape) lt l k x (on_fit s m law g.number g.shape k (stack_shape s m g gs h) on)
 right_after s m law g gs h l k (inr x) (inl (on, lt)) =
@@ -223,7 +223,7 @@ scan_take s m law g f fs xs w n l v at is r room = record {
   covered = λ k kept q. go k (leaf_covers s m law g f fs xs w n l v at is k kept q);
 }
   where
-    fit : Fits s m f.number f.place l
+    fit : MayStandAt s m f.number f.place l
     fit = fit_leaf s m law f.number f.place n l v at is
 
     go : (k : Key) → IsListed k xs ⊎ ((k ≡ l) ⊎ IsAhead s m k (next f ∷ fs)) →
@@ -243,7 +243,7 @@ scan_past s m law g f fs xs w n l v at is high = record {
   covered = λ k kept r. go k r (leaf_covers s m law g f fs xs w n l v at is k kept r);
 }
   where
-    fit : Fits s m f.number f.place l
+    fit : MayStandAt s m f.number f.place l
     fit = fit_leaf s m law f.number f.place n l v at is
 
     go : (k : Key) → IsInRange g k → IsListed k xs ⊎ ((k ≡ l) ⊎ IsAhead s m k (next f ∷ fs)) → IsListed k xs

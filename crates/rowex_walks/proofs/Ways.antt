@@ -15,7 +15,7 @@ use Rattle.moments.specs.declared.Rec.TheVariants.{Node as a_node, Leaf as a_lea
 use Rattle.moments.proofs.Stored.{lower_within}
 use Rattle.rowex_walks.specs.Scan.{IsRooted, IsBlank, at_place, IsPlaced}
 use Rattle.rowex_walks.specs.Ways.{IsOnWay, IsWayFrom, from_leaf, from_node, found, WayBegins, WayGoesOn, WayEnds, WayOfLeaf, WayIsBelow, StillRooted, StillPlaced, StillGrows, OneBody, RootedSame, PlacedSame, FoundSame}
-use Rattle.rowex_walks.specs.Writer.{IsBegun, IsWay, at_leaf, below}
+use Rattle.rowex_walks.specs.Writer.{IsBegun, IsWayBelow, at_leaf, below}
 use Rattle.rowex_walks.proofs.Scans.{node_of, leaf_of, within_at, placed_stands, at_spot, shaped}
 use Rattle.tries.proofs.Places.{spot_shape}
 
@@ -91,7 +91,7 @@ way_ends s m steady r a h j l v (like, begun, (n, u, lo, hi, st, pg, f)) (o, lo2
 pub way_of_leaf : WayOfLeaf
 way_of_leaf s m j l v (n, lo, hi, st) = from_leaf j (n, leaf j l v, lo, hi, st, refl, λ y h. h)
 
-way_at : (s : Past) (m : ℕ) (k : Key) (x : Page) (l : Key) (e : Entry) → seek k x ≡ e → IsWayFrom s m l e → IsWay s m k x l
+way_at : (s : Past) (m : ℕ) (k : Key) (x : Page) (l : Key) (e : Entry) → seek k x ≡ e → IsWayFrom s m l e → IsWayBelow s m k x l
 way_at s m k x l e is (from_leaf j f) = at_leaf j is f
 way_at s m k x l e is (from_node a h r like begun agree) = below a h r like is begun agree
 

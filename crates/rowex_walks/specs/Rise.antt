@@ -14,7 +14,7 @@ use Rattle.moments.specs.State.{IsFrom}
 use Rattle.moments.specs.declared.Rec.{Rec}
 use Rattle.moments.specs.declared.Rec.TheVariants.{Node as a_node, Leaf as a_leaf}
 use Rattle.moments.specs.Core.{Ready, InTree, Core}
-use Rattle.rowex_walks.specs.Writer.{IsFound, IsStored}
+use Rattle.rowex_walks.specs.Writer.{IsFoundBelow, IsPageStored}
 
 -- A new node record that the pass has filled with this page and made ready.
 pub record IsNewPage (c : Core) (q m : ℕ) (g : Fixed) (x : Page) : Type 0 where
@@ -55,7 +55,7 @@ pub data Side : Type 0 where
 -- that takes the place of its entry.
 pub data IsRise (c : Core) (q since : ℕ) (x : Item) (p : ℕ) (l : Key) : Side → ℕ → Page → Type 0 where
   -- the lowest node gets the new leaf
-  grows : (n : ℕ) → IsFound c q since x p l n → IsPartPage (page_affected p x.key (c.heap.nodes n).page) →
+  grows : (n : ℕ) → IsFoundBelow c q since x p l n → IsPartPage (page_affected p x.key (c.heap.nodes n).page) →
       IsRise c q since x p l body n (page_grown p x.key (Leaf x.number) (c.heap.nodes n).page)
   -- the node above gets what takes the place of the node below
   pulls : (o n : ℕ) (r : Page) → IsUpper c q x.key p o n → IsRise c q since x p l entry n r →
@@ -66,7 +66,7 @@ pub data IsRise (c : Core) (q since : ℕ) (x : Item) (p : ℕ) (l : Key) : Side
   halves : (n f : ℕ) (a b : Page) (d e : Entry) → IsRise c q since x p l body n (Fork f a b) → IsEntryFor c q a d → IsEntryFor c q b e →
       IsRise c q since x p l entry n (Fork f (Place d) (Place e))
   -- the lowest node stays whole, and the new leaf stands beside it
-  stays_whole : (n : ℕ) → IsFound c q since x p l n → IsFrom p (c.heap.nodes n).page →
+  stays_whole : (n : ℕ) → IsFoundBelow c q since x p l n → IsFrom p (c.heap.nodes n).page →
       IsRise c q since x p l entry n (page_forked (bit x.key p) p (Leaf x.number) (Place (Node n (c.heap.nodes n).fixed.height)))
   -- a fork in a node of its own: an intermediate node, a new root
   wraps : (n : ℕ) (r : Page) (m : ℕ) (g : Fixed) → IsRise c q since x p l entry n r → IsNewPage c q m g r → IsRise c q since x p l entry n (Place (Node m g.height))
@@ -102,7 +102,7 @@ pub record IsLeafOf (c : Core) (q : ℕ) (k : Key) (n j : ℕ) : Type 0 where
 
 -- The store of one entry at the key's place of a node.
 abbrev pub IsSlotStore : Core → Heap → ℕ → Key → Entry → Type 0
-IsSlotStore c heap o k e = IsStored c.heap heap o (with_entry (c.heap.nodes o).page (spot k (c.heap.nodes o).page) e)
+IsSlotStore c heap o k e = IsPageStored c.heap heap o (with_entry (c.heap.nodes o).page (spot k (c.heap.nodes o).page) e)
 
 -- The entry is lower than the node.
 abbrev pub IsBelowNode : Core → ℕ → Entry → Type 0

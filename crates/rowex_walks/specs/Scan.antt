@@ -49,12 +49,12 @@ abbrev pub IsRead : Past → ℕ → ℕ → Key → ℕ → Type 0
 IsRead s m r k v = (n : ℕ) × (m ≤ n) × (n ≤ s.now) × Stands s n (a_leaf r) (leaf r k v)
 
 -- A key that may stand at the record's place.
-abbrev pub Fits : Past → ℕ → ℕ → ℕ → Key → Type 0
-Fits s m r i y = (b : Tree) × (k : Key) × Stood s m r b × IsUnder b i k × IsAlike (page b) i k y
+abbrev pub MayStandAt : Past → ℕ → ℕ → ℕ → Key → Type 0
+MayStandAt s m r i y = (b : Tree) × (k : Key) × Stood s m r b × IsUnder b i k × IsAlike (page b) i k y
 
 -- It may stand left of the place.
 abbrev pub IsLeft : Past → ℕ → ℕ → ℕ → Key → Type 0
-IsLeft s m r i y = (j : ℕ) × (j < i) × Fits s m r j y
+IsLeft s m r i y = (j : ℕ) × (j < i) × MayStandAt s m r j y
 
 -- The entry was reached from the record's place, by places taken one after the other.
 pub data IsReached (s : Past) (m r j : ℕ) : Entry → Type 0 where
@@ -154,7 +154,7 @@ pub record IsCut (s : Past) (m : ℕ) (g : Range) (xs : List Pair) : Type 0 wher
 
 -- A place at which the scan may begin in a node: the first, or one below which a key was read that isn't above `from`.
 abbrev pub IsStart : Past → ℕ → Range → ℕ → ℕ → Type 0
-IsStart s m g c i = (i ≡ 0) ⊎ ((k : Key) × Fits s m c i k × IsAtMost k g.from)
+IsStart s m g c i = (i ≡ 0) ⊎ ((k : Key) × MayStandAt s m c i k × IsAtMost k g.from)
 
 -- The frame one place further.
 abbrev pub next : Frame → Frame

@@ -21,8 +21,8 @@ use Rattle.moments.specs.Trades.{HasTraded}
 use Rattle.moments.specs.Core.{Core, view}
 use Rattle.moments.specs.declared.Pin.{Pin}
 use Rattle.moments.specs.Told.{IsTold, items_of}
-use Rattle.moments.specs.Steps.{IsLegalPublish}
-use Rattle.rowex_walks.specs.Writer.{item, added_change, replaced_change, removed_change, IsFound, IsNewLeaf}
+use Rattle.moments.specs.Steps.{IsMomentPublish}
+use Rattle.rowex_walks.specs.Writer.{item, added_change, replaced_change, removed_change, IsFoundBelow, IsNewLeaf}
 use Rattle.rowex_walks.specs.Rise.{IsNewPage, IsEntryFor, IsLockedNode, IsOver, IsUpper, IsLeafOf, entry, IsRise, entry_news, news_of, gone_of, IsSlotStore, IsBelowNode}
 use Rattle.rowex_walks.specs.Scan.{Pair, Range, IsComplete, IsCut, turned, IsRooted, IsPlaced, IsShaped, IsRead, IsSeen}
 use Rattle.compound_node.specs.Nodes.{height_of}
@@ -32,7 +32,7 @@ use Rattle.moments.specs.Frames.{IsGrown}
 -- the records `new` are linked anew, and just the records `gone` are linked no more.
 pub record IsPublished (c : Core) (q : ℕ) (heap : Heap) (root : Option Entry) (x : Change) (new gone : List Rec) : Type 0 where
   pub tree : Option Tree
-  pub legal : IsLegalPublish c q heap root tree x
+  pub legal : IsMomentPublish c q heap root tree x
   pub differs : items_of (c.past.moment c.past.now) ≢ items_of tree
   pub trade : HasTraded (c.past.moment c.past.now) tree new gone
 
@@ -59,7 +59,7 @@ UpperGoesOn = (c : Core) (q : ℕ) → IsLawful (view c) → (k : Key) (p o n : 
 abbrev pub PushDown : Type 0
 PushDown =
     (c : Core) (q : ℕ) → IsLawful (view c) → (since : ℕ) (x : Item) (p : ℕ) (l : Key) → IsNewLeaf c q x → (n j m : ℕ) (g : Fixed) →
-    IsFound c q since x p l n → IsLockedNode c q n → page_affected p x.key (c.heap.nodes n).page ≡ Place (Leaf j) →
+    IsFoundBelow c q since x p l n → IsLockedNode c q n → page_affected p x.key (c.heap.nodes n).page ≡ Place (Leaf j) →
     IsNewPage c q m g (page_forked (bit x.key p) p (Leaf x.number) (Place (Leaf j))) → IsBelowNode c n (Node m g.height) →
     (heap : Heap) → IsSlotStore c heap n x.key (Node m g.height) → IsPublished c q heap c.root (added_change q x) (a_node m ∷ a_leaf x.number ∷ []) []
 
@@ -165,4 +165,4 @@ LedPlaced =
 abbrev pub FoundIsKept : Type 0
 FoundIsKept =
     (c d : Core) (q since p : ℕ) (x : Item) (l : Key) (n : ℕ) (pin : Pin) → IsLawful (view d) → IsGrown c.past d.past →
-    d.lock n ≡ Some q → d.heap.nodes n ≡ c.heap.nodes n → d.pins q ≡ Some pin → pin.moment ≤ since → IsFound c q since x p l n → IsFound d q since x p l n
+    d.lock n ≡ Some q → d.heap.nodes n ≡ c.heap.nodes n → d.pins q ≡ Some pin → pin.moment ≤ since → IsFoundBelow c q since x p l n → IsFoundBelow d q since x p l n

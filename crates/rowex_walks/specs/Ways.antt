@@ -11,7 +11,7 @@ use Rattle.tries.specs.Place.{spot}
 use Rattle.moments.specs.State.{Past, IsMarked, IsSteady}
 use Rattle.moments.specs.Frames.{IsGrown}
 use Rattle.rowex_walks.specs.Scan.{IsSeen, IsRooted, IsBlank, IsPlaced, IsShaped, IsRead}
-use Rattle.rowex_walks.specs.Writer.{IsBegun, IsWay}
+use Rattle.rowex_walks.specs.Writer.{IsBegun, IsWayBelow}
 
 -- From node `a`, whose first fork is at `r`, the descent has come to the entry: before `r` the keys there agree with a key that
 -- the node had.
@@ -56,7 +56,7 @@ WayOfLeaf = (s : Past) (m j : ℕ) (l : Key) (v : ℕ) → IsRead s m j l v → 
 
 -- From the entry of a locked node on the key's way, it is the way below that node.
 abbrev pub WayIsBelow : Type 0
-WayIsBelow = (s : Past) (m : ℕ) (k : Key) (x : Page) (l : Key) → IsWayFrom s m l (seek k x) → IsWay s m k x l
+WayIsBelow = (s : Past) (m : ℕ) (k : Key) (x : Page) (l : Key) → IsWayFrom s m l (seek k x) → IsWayBelow s m k x l
 
 -- Where nothing has changed
 

@@ -25,7 +25,7 @@ pub record IsAtHand (c : Core) (q : ℕ) (s r : Tree) : Type 0 where
   pub goes : (n : ℕ) → Links s (a_node n) → Links r (a_node n) ⊎ (c.lock n ≡ Some q)
 
 -- From one heap to the next node `n` gets this page, and nothing else changes.
-pub record IsStored (m o : Heap) (n : ℕ) (x : Page) : Type 0 where
+pub record IsPageStored (m o : Heap) (n : ℕ) (x : Page) : Type 0 where
   pub others : (i : ℕ) → i ≢ n → m.nodes i ≡ o.nodes i
   pub leaves : (i : ℕ) → m.leaves i ≡ o.leaves i
   pub stored : o.nodes n ≡ record { fixed = (m.nodes n).fixed; page = x }
@@ -37,9 +37,9 @@ IsBegun s m r like a =
 
 -- What a pass knows of the way below a locked node with the page `x`: it ended at a leaf with the key `l`. Either the
 -- node's own entry names the leaf, or it names a node that had a key `like` with which `l` agrees before its first fork.
-pub data IsWay (s : Past) (since : ℕ) (k : Key) (x : Page) (l : Key) : Type 0 where
-  at_leaf : (j : ℕ) → seek k x ≡ Leaf j → IsMarked s since (λ y. y ≡ l) (Leaf j) → IsWay s since k x l
-  below : (a h r : ℕ) (like : Key) → seek k x ≡ Node a h → IsBegun s since r like a → AgreeBelow r like l → IsWay s since k x l
+pub data IsWayBelow (s : Past) (since : ℕ) (k : Key) (x : Page) (l : Key) : Type 0 where
+  at_leaf : (j : ℕ) → seek k x ≡ Leaf j → IsMarked s since (λ y. y ≡ l) (Leaf j) → IsWayBelow s since k x l
+  below : (a h r : ℕ) (like : Key) → seek k x ≡ Node a h → IsBegun s since r like a → AgreeBelow r like l → IsWayBelow s since k x l
 
 -- A node record that the pass has filled and made ready, with this body.
 pub record IsNewNode (c : Core) (q m : ℕ) (x : Fixed) (b : Tree) : Type 0 where
@@ -56,11 +56,11 @@ pub record IsNewLeaf (c : Core) (q : ℕ) (x : Item) : Type 0 where
 
 -- What a writer knows: it has locked node `n`, from there on its descent since the lock ended at a leaf with the key
 -- `l`, from which the new key differs first at `p`, and what stood in the tree since its pin is still in that life.
-pub record IsFound (c : Core) (q since : ℕ) (x : Item) (p : ℕ) (l : Key) (n : ℕ) : Type 0 where
+pub record IsFoundBelow (c : Core) (q since : ℕ) (x : Item) (p : ℕ) (l : Key) (n : ℕ) : Type 0 where
   pub key : IsKey x.key
   pub reach : IsReach (view c) since
   pub lock : c.lock n ≡ Some q
-  pub way : IsWay c.past since x.key (c.heap.nodes n).page l
+  pub way : IsWayBelow c.past since x.key (c.heap.nodes n).page l
   pub agree : AgreeBelow p x.key l
   pub differ : bit x.key p ≢ bit l p
 

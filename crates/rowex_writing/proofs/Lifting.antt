@@ -39,7 +39,7 @@ use Rattle.rowex_rights.specs.Stages.{HasLeaf, HasRisen, IsAbove}
 use Rattle.rowex_rights.proofs.Rising.{risen_stays, rises_pulled, rises_wrapped, rise_grows}
 use Rattle.rowex_rights.specs.Rises.{of_view, of_leaf, IsSide, anew, HasFoundBelow}
 use Rattle.rowex_writing.specs.Building.{IsBuilding, IsHalfMade, IsMadeFrom, IsRaising, IsBelow, IsLowest, IsLowRisen, IsRisenAt, IsSplit, IsChain, IsUp, IsGrowing, HasNotMade, HasRisenTo, gone_unless, gone_with}
-use Rattle.rowex_writing.specs.Going.{GoesOn, ReadsOn, HasLocked, IsNodeOf}
+use Rattle.rowex_writing.specs.Going.{WorksOn, ReadsOn, HasLocked, IsNodeOf}
 use Rattle.rowex_writing.specs.Remaking.{IsTreePage, AffectsJust, IsLowHalf, IsNoHigher}
 use Rattle.rowex_writing.proofs.Making.{building_on, not_made_since}
 use Rattle.rowex_writing.proofs.Raising.{rises_made, rises_kept, side_made}
@@ -74,7 +74,7 @@ made_keeps was (Two cut) (Split q z o) before after (lower, upper, is, low, high
 
 -- ---- what has risen stays
 module _ {G : Type 0} (table : TableView) (becomes : G → Event → G → Type 0) where
-  risen_on : (a m : SeatView × G) (news : List Made) (gone : List Rec) (since : ℕ) (x : Item) (p : ℕ) (l : Key) (d : Side) (n : ℕ) (r : Page) → GoesOn table becomes a m →
+  risen_on : (a m : SeatView × G) (news : List Made) (gone : List Rec) (since : ℕ) (x : Item) (p : ℕ) (l : Key) (d : Side) (n : ℕ) (r : Page) → WorksOn table becomes a m →
       HasRisen table.layout a.0.known a.0.known.locks news since x p l d n r gone → HasRisen table.layout m.0.known m.0.known.locks news since x p l d n r gone
   risen_on a m news gone since x p l d n r goes risen =
       subst (λ held. HasRisen table.layout m.0.known held news since x p l d n r gone) (sym goes.stays.1)
@@ -143,7 +143,7 @@ module _ {G : Type 0} (table : TableView) (becomes : G → Event → G → Type 
 
     -- the node's own records
     pub lifted : (c : SeatView × G) (after_made : List Rec) (g : Grown) (answer : Option Risen) → GrownShows node g (with_page key (Fork position (Place zero) (Place one)) (piece node)) → keeps_node g ≡ false →
-        GoesOn table becomes m c →
+        WorksOn table becomes m c →
         MatchOption answer (HasNotMade table m.0 c.0 after_made) (λ risen. (after : List Made) × IsMadeFrom (Node above node.height) g risen b.news after × IsBuilding table c.0 after_made after) →
         MatchOption answer (HasNotMade table a.0 c.0 after_made)
         (λ risen. (after : List Made) × IsRaising table c.0 after_made after (a_node above ∷ b.gone) b.since b.item b.mismatch b.like entry above (page_of risen))
@@ -197,14 +197,14 @@ module _ {G : Type 0} (table : TableView) (becomes : G → Event → G → Type 
   low_building = building_on table becomes a m made (of_leaf b.item ∷ []) reads.goes reads.own b.building
 
   pub lowered : (c : SeatView × G) (after_made : List Rec) (g : Grown) (stays : Bool) (risen : Risen) → GrownShows node g (page_grown position key (Leaf leaf) (piece node)) → stays ≡ keeps_node g →
-      (keeps_node g ≡ true → AtRootFork (λ q x y. position < q) (piece node)) → GoesOn table becomes m c → (after : List Made) → IsMadeFrom (Node number node.height) g risen (of_leaf b.item ∷ []) after →
+      (keeps_node g ≡ true → AtRootFork (λ q x y. position < q) (piece node)) → WorksOn table becomes m c → (after : List Made) → IsMadeFrom (Node number node.height) g risen (of_leaf b.item ∷ []) after →
       IsBuilding table c.0 after_made after → IsRaising table c.0 after_made after (gone_unless stays number) b.since b.item position b.like entry number (page_of risen)
   lowered c after_made g stays risen shows is before goes after made building = go (kept_or_not stays)
     where
       here : GrownShows node g (page_grown position b.item.key (Leaf b.item.number) (piece node))
       here = subst (GrownShows node g) (sym same_page) shows
 
-      all : GoesOn table becomes a c
+      all : WorksOn table becomes a c
       all = goes_more table becomes a m c reads.goes goes
 
       leaf_stays : HasLeaf after b.item
@@ -229,7 +229,7 @@ module _ {G : Type 0} (table : TableView) (becomes : G → Event → G → Type 
 
 -- ---- without a leaf
 pub left_over : {G : Type 0} (table : TableView) (becomes : G → Event → G → Type 0) (a m c : SeatView × G) (after_made : List Rec) (key : Key) (words : List ℕ) (node : NodeView) (half : Half) (old : Entry) (answer : Option Entry) →
-    GoesOn table becomes a m → IsNodeOf words node → HalfShows half (page_without key (piece node)) →
+    WorksOn table becomes a m → IsNodeOf words node → HalfShows half (page_without key (piece node)) →
     MatchOption answer (HasNotMade table m.0 c.0 after_made) (λ e. (more : List Made) × IsHalfMade old half e more × IsBuilding table c.0 after_made (more ++ [])) →
     MatchOption answer (HasNotMade table a.0 c.0 after_made) (λ e. (news : List Made) × IsSide (page_without key (node_of words).page) e news × IsBuilding table c.0 after_made news)
 left_over table becomes a m c after_made key words node half old None goes is shows made = not_made_since table becomes a m c after_made goes made
@@ -267,7 +267,7 @@ settle_owed table a made number q z o risen is b =
     pair_facts q z o t page_is trie built
 
 pub settled : {G : Type 0} (table : TableView) (becomes : G → Event → G → Type 0) (a c : SeatView × G) (made after_made : List Rec) (number q : ℕ) (z o : Entry) (risen : Risen) → risen ≡ Split q z o →
-    (b : IsRisenAt table a.0 made number risen) (view : NodeView) → IsBuiltFrom view (Fork q (Place z) (Place o)) → GoesOn table becomes a c → (answer : Option Entry) →
+    (b : IsRisenAt table a.0 made number risen) (view : NodeView) → IsBuiltFrom view (Fork q (Place z) (Place o)) → WorksOn table becomes a c → (answer : Option Entry) →
     MatchOption answer (HasNotMade table a.0 c.0 after_made) (λ e. (m : ℕ) × (e ≡ Node m view.height) × HasNodeWords view × IsBuilding table c.0 after_made (of_view m view ∷ b.news)) →
     MatchOption answer (HasNotMade table a.0 c.0 after_made) (λ e. (after : List Made) × IsRaising table c.0 after_made after b.gone b.since b.item b.mismatch b.like entry number (Place e))
 settled table becomes a c made after_made number q z o risen is b view built goes None answer = answer
@@ -385,7 +385,7 @@ up_end table a made way key end level number risen same up is =
     }
 
 pub up_done : {G : Type 0} (table : TableView) (becomes : G → Event → G → Type 0) (a m c : SeatView × G) (made : List Rec) (way : List Step) (since : ℕ) (x : Item) (p : ℕ) (l : Key) (end above level : ℕ) (gone : List Rec) (s : Step) →
-    above + 1 ≡ level → end ≤ above → slice_get way above ≡ Some s → GoesOn table becomes a m → (answer : Option Entry) →
+    above + 1 ≡ level → end ≤ above → slice_get way above ≡ Some s → WorksOn table becomes a m → (answer : Option Entry) →
     MatchOption answer (HasNotMade table m.0 c.0 made) (HasRisenTo table c.0 made way since x p l end (gone_with way end above (a_node s.number ∷ gone))) →
     MatchOption answer (HasNotMade table a.0 c.0 made) (HasRisenTo table c.0 made way since x p l end (gone_with way end level gone))
 up_done table becomes a m c made way since x p l end above level gone s next upto at goes None answer = not_made_since table becomes a m c made goes answer

@@ -24,14 +24,14 @@ use Rattle.moments.specs.Trades.{IsOf}
 use Rattle.rowex_table.proofs.ActsBefore.{entry_of_locked, fixed_of_locked}
 use Rattle.rowex_rights.proofs.Loops.{later_same, later_on, still_locked}
 use Rattle.moments.proofs.Members.{all_of}
-use Rattle.rowex_writing.specs.Going.{GoesOn, ReadsOn, HasLocked, IsNodeOf}
+use Rattle.rowex_writing.specs.Going.{WorksOn, ReadsOn, HasLocked, IsNodeOf}
 
 -- ---- one after the other
 module _ {G : Type 0} (table : TableView) (becomes : G → Event → G → Type 0) where
-  pub goes_none : (a : SeatView × G) → GoesOn table becomes a a
+  pub goes_none : (a : SeatView × G) → WorksOn table becomes a a
   goes_none a = record { acts = []; steps = refl; stays = (later_same a.0.known a.0.known refl, refl, refl) }
 
-  pub goes_more : (a m b : SeatView × G) → GoesOn table becomes a m → GoesOn table becomes m b → GoesOn table becomes a b
+  pub goes_more : (a m b : SeatView × G) → WorksOn table becomes a m → WorksOn table becomes m b → WorksOn table becomes a b
   goes_more a m b first second = record {
     acts = first.acts ++ second.acts;
     steps = runs_append table becomes first.acts second.acts a m b first.steps second.steps;
@@ -39,7 +39,7 @@ module _ {G : Type 0} (table : TableView) (becomes : G → Event → G → Type 
   }
 
   -- the seat is one of the table still
-  pub seat_of : (a b : SeatView × G) → GoesOn table becomes a b → IsSeatOf table a.0 → IsSeatOf table b.0
+  pub seat_of : (a b : SeatView × G) → WorksOn table becomes a b → IsSeatOf table a.0 → IsSeatOf table b.0
   seat_of a b goes is = (runs_same table becomes goes.acts a b goes.steps).0 ∙ is
 
   pub reads_none : (a : SeatView × G) → ReadsOn table becomes a a

@@ -34,7 +34,7 @@ use Rattle.rowex_rights.specs.Rises.{of_view}
 use Rattle.rowex_reading.specs.Possible.{IsPossible}
 use Rattle.rowex_reading.proofs.Later.{event_possible}
 use Rattle.rowex_writing.specs.Building.{IsBuilding, IsHalfMade, HasNotMade}
-use Rattle.rowex_writing.specs.Going.{GoesOn}
+use Rattle.rowex_writing.specs.Going.{WorksOn}
 use Rattle.rowex_writing.proofs.Locking.{goes_more}
 
 -- ---- steps that change what the pass owns
@@ -47,14 +47,14 @@ same_later k j pass pin front facts = record {
 }
 
 module _ {G : Type 0} (table : TableView) (becomes : G → Event → G → Type 0) where
-  pub claims_on : (acts : List Act) (a b : SeatView × G) → Does table becomes claiming acts a b → GoesOn table becomes a b
+  pub claims_on : (acts : List Act) (a b : SeatView × G) → Does table becomes claiming acts a b → WorksOn table becomes a b
   claims_on acts a b does = let r = does.rest in record {
     acts = acts;
     steps = does.steps;
     stays = (same_later a.0.known b.0.known (ap (λ (z : Known). z.pass) r) (ap (λ (z : Known). z.pin) r) (ap (λ (z : Known). z.front) r) (ap (λ (z : Known). z.facts) r), ap (λ (z : Known). z.locks) r, ap (λ (z : Known). z.anchor) r);
   }
 
-  pub owns_on : (acts : List Act) (a b : SeatView × G) → Does table becomes owning acts a b → GoesOn table becomes a b
+  pub owns_on : (acts : List Act) (a b : SeatView × G) → Does table becomes owning acts a b → WorksOn table becomes a b
   owns_on acts a b does = let r = does.rest in record {
     acts = acts;
     steps = does.steps;
@@ -66,21 +66,21 @@ module _ {G : Type 0} (table : TableView) (becomes : G → Event → G → Type 
   runs_possible [] a b run possible = subst (λ (z : SeatView × G). IsPossible table.layout z.0.known) (sym run) possible
   runs_possible (act ∷ acts) a b run possible = runs_possible acts run.0 b run.2 (event_possible run.1.event)
 
-  pub goes_possible : (a b : SeatView × G) → GoesOn table becomes a b → IsPossible table.layout a.0.known → IsPossible table.layout b.0.known
+  pub goes_possible : (a b : SeatView × G) → WorksOn table becomes a b → IsPossible table.layout a.0.known → IsPossible table.layout b.0.known
   goes_possible a b goes possible = runs_possible goes.acts a b goes.steps possible
 
   -- ---- a claim
-  pub none_on : (kind : ℕ → Rec) (n from m : ℕ) (a b : SeatView × G) → FindsNone table becomes kind n from m a b → GoesOn table becomes a b
+  pub none_on : (kind : ℕ → Rec) (n from m : ℕ) (a b : SeatView × G) → FindsNone table becomes kind n from m a b → WorksOn table becomes a b
   none_on kind n from m a b none = claims_on none.claims a b none.does
 
-  pub claim_on : (kind : ℕ → Rec) (n from m : ℕ) (a b : SeatView × G) → Claims table becomes kind n from m a b → GoesOn table becomes a b
+  pub claim_on : (kind : ℕ → Rec) (n from m : ℕ) (a b : SeatView × G) → Claims table becomes kind n from m a b → WorksOn table becomes a b
   claim_on kind n from m a b claim = goes_more table becomes a claim.before b (claims_on claim.none.claims a claim.before claim.none.does) (claims_on _ claim.before b claim.does)
 
-  pub fill_on : (r : Rec) (words : List ℕ) (a b : SeatView × G) → Fills table becomes r words a b → GoesOn table becomes a b
+  pub fill_on : (r : Rec) (words : List ℕ) (a b : SeatView × G) → Fills table becomes r words a b → WorksOn table becomes a b
   fill_on r words a b fills = owns_on fills.stores a b fills.does
 
   -- the same records, after steps that leave them
-  pub building_on : (a b : SeatView × G) (made : List Rec) (news : List Made) → GoesOn table becomes a b → b.0.known.own ≡ a.0.known.own → IsBuilding table a.0 made news → IsBuilding table b.0 made news
+  pub building_on : (a b : SeatView × G) (made : List Rec) (news : List Made) → WorksOn table becomes a b → b.0.known.own ≡ a.0.known.own → IsBuilding table a.0 made news → IsBuilding table b.0 made news
   building_on a b made news goes own i = record {
     seat = (runs_same table becomes goes.acts a b goes.steps).0 ∙ i.seat;
     possible = goes_possible a b goes i.possible;
@@ -126,7 +126,7 @@ not_made table becomes from m a b made news none missed was =
     record { news = news; building = building_on table becomes a b made news (none_on table becomes a_node table.layout.nodes from m a b none) none.own was; missed = missed }
 
 -- nor since an earlier step
-pub not_made_since : {G : Type 0} (table : TableView) (becomes : G → Event → G → Type 0) (a m b : SeatView × G) (made : List Rec) → GoesOn table becomes a m → HasNotMade table m.0 b.0 made → HasNotMade table a.0 b.0 made
+pub not_made_since : {G : Type 0} (table : TableView) (becomes : G → Event → G → Type 0) (a m b : SeatView × G) (made : List Rec) → WorksOn table becomes a m → HasNotMade table m.0 b.0 made → HasNotMade table a.0 b.0 made
 not_made_since table becomes a m b made goes none = record {
   news = none.news;
   building = none.building;

@@ -8,7 +8,7 @@ use Rattle.insert_cases.specs.declared.choice.Choice.{Choice}
 use Rattle.insert_cases.specs.declared.choice.Step.{Step}
 use Rattle.insert_cases.specs.Levels.{IsChosen}
 use Rattle.insert_cases.proofs.Choosing.{some_at}
-use Rattle.rowex_writing.specs.Plans.{change, IsCase, IsBeside, IsNew, IsPlan}
+use Rattle.rowex_writing.specs.Plans.{change, IsCase, IsBeside, IsNewLeafPlan, IsPlan}
 use Rattle.rowex_writing.specs.declared.plan.Ask.{Ask}
 use Rattle.rowex_writing.specs.declared.plan.Ask.TheVariants.{Insert, Upsert, Remove}
 use Rattle.rowex_writing.specs.declared.plan.Deed.{Deed}
@@ -52,7 +52,7 @@ case_within way position c Overflow plan h is = let u = is.1.upto in changed way
 pub beside_within : (way : List Step) (position level first last : ℕ) (plan : Plan) → level < length way → IsBeside way position level first last plan → IsOnWay way plan
 beside_within way position level first last plan h is = case_within way position is.0 is.0.case plan (chosen_within way level first last is.0 h is.1) is.2
 
-new_within : (way : List Step) (position first last : ℕ) (plan : Plan) → IsNew way position first last plan → IsOnWay way plan
+new_within : (way : List Step) (position first last : ℕ) (plan : Plan) → IsNewLeafPlan way position first last plan → IsOnWay way plan
 new_within [] position first last plan is = changed [] _ _ _ plan (omega arith) (omega arith) is
 new_within (s ∷ ss) position first last plan is = beside_within (s ∷ ss) position is.0 first last plan is.1.within is.2
 

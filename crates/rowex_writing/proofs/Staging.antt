@@ -12,7 +12,7 @@ use Rattle.rowex_core.specs.Cores.{Core}
 use Rattle.rowex_core.specs.Knowing.{IsEvent, learned}
 use Rattle.moments.specs.declared.Rec.{Rec}
 use Rattle.rowex_table.specs.Made.{Made, HoldsMade, HasReadied}
-use Rattle.rowex_table.specs.Publishes.{silent}
+use Rattle.rowex_table.specs.Runs.{silent}
 use Rattle.rowex_rights.specs.Loops.{ReadiesEach}
 use Rattle.rowex_rights.specs.Stages.{IsStage, HasLeaf, HasRisen}
 use Rattle.rowex_rights.proofs.Bounding.{tree_risen}

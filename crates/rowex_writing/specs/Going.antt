@@ -12,14 +12,14 @@ use Rattle.rowex_table.specs.Seats.{TableView, SeatView}
 use Rattle.rowex_rights.specs.Loops.{StaysLocked}
 
 -- The pass makes steps of which the gate is told; it recalls all that it did, and has locked what it had locked.
-pub record GoesOn {G : Type 0} (table : TableView) (becomes : G → Event → G → Type 0) (a b : SeatView × G) : Type 0 where
+pub record WorksOn {G : Type 0} (table : TableView) (becomes : G → Event → G → Type 0) (a b : SeatView × G) : Type 0 where
   pub acts : List Act
   pub steps : Runs table becomes acts a b
   pub stays : StaysLocked a.0.known b.0.known
 
 -- and its own records are the same
 pub record ReadsOn {G : Type 0} (table : TableView) (becomes : G → Event → G → Type 0) (a b : SeatView × G) : Type 0 where
-  pub goes : GoesOn table becomes a b
+  pub goes : WorksOn table becomes a b
   pub own : b.0.known.own ≡ a.0.known.own
 
 -- the pass has locked the node, which has these words

@@ -33,9 +33,9 @@ abbrev pub IsBeside : List Step → (position level first last : ℕ) → Plan �
 IsBeside way position level first last plan = (chosen : Choice) × IsChosen way level first last chosen × IsCase way position chosen chosen.case plan
 
 -- on a way of no node, the found leaf is at the root
-abbrev pub IsNew : List Step → (position first last : ℕ) → Plan → Type 0
-IsNew [] position first last plan = plan ≡ change 0 0 (Pair position)
-IsNew (step ∷ way) position first last plan = (level : ℕ) × IsLevel (step ∷ way) position level × IsBeside (step ∷ way) position level first last plan
+abbrev pub IsNewLeafPlan : List Step → (position first last : ℕ) → Plan → Type 0
+IsNewLeafPlan [] position first last plan = plan ≡ change 0 0 (Pair position)
+IsNewLeafPlan (step ∷ way) position first last plan = (level : ℕ) × IsLevel (step ∷ way) position level × IsBeside (step ∷ way) position level first last plan
 
 -- ---- all calls
 -- Of a call on this way, where a new leaf affects the entries from first to last at its level.
@@ -44,8 +44,8 @@ abbrev pub IsPlan : List Step → (first last : ℕ) → Ask → Found → Plan 
 IsPlan way first last Insert Nothing plan = plan ≡ change 0 0 Put
 IsPlan way first last Upsert Nothing plan = plan ≡ change 0 0 Put
 -- a key that is absent
-IsPlan way first last Insert (Leaf number value (Some position)) plan = IsNew way position first last plan
-IsPlan way first last Upsert (Leaf number value (Some position)) plan = IsNew way position first last plan
+IsPlan way first last Insert (Leaf number value (Some position)) plan = IsNewLeafPlan way position first last plan
+IsPlan way first last Upsert (Leaf number value (Some position)) plan = IsNewLeafPlan way position first last plan
 -- a key that has a value
 IsPlan way first last Insert (Leaf number value None) plan = plan ≡ Answer (Exists value)
 IsPlan way first last Upsert (Leaf number value None) plan = plan ≡ change (length way) (length way) Put
@@ -57,8 +57,8 @@ IsPlan way first last Remove (Leaf number value None) plan = plan ≡ change (le
 -- ---- before the affected entries are known
 -- a new leaf's plan needs them where the way has nodes
 abbrev pub IsBesideFound : List Step → ℕ → Outline → Type 0
-IsBesideFound way position (Known plan) = (first last : ℕ) → IsNew way position first last plan
-IsBesideFound way position (Beside at level) = (at ≡ position) × IsLevel way position level × ((first last : ℕ) (plan : Plan) → IsBeside way position level first last plan → IsNew way position first last plan)
+IsBesideFound way position (Known plan) = (first last : ℕ) → IsNewLeafPlan way position first last plan
+IsBesideFound way position (Beside at level) = (at ≡ position) × IsLevel way position level × ((first last : ℕ) (plan : Plan) → IsBeside way position level first last plan → IsNewLeafPlan way position first last plan)
 
 -- the plan, whichever they are; or the level at which they tell it
 abbrev pub IsOutline : List Step → Ask → Found → Outline → Type 0

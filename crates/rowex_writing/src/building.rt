@@ -5,7 +5,7 @@ ghost use Rattle.record_words.specs.Node.{HasNodeWords};
 ghost use Rattle.rowex_table.specs.Made.{Made};
 ghost use Rattle.rowex_rights.specs.Rises.{of_view, IsSide};
 ghost use Rattle.rowex_writing.specs.Building.{IsBelow, IsBuilding, IsGrowing, IsHalfMade, IsLowest, IsLowRisen, IsMadeFrom, IsRaising, IsRisenAt, IsSplit, IsUp, HasNotMade, HasRisenTo, gone_unless, gone_with};
-ghost use Rattle.rowex_writing.specs.Going.{GoesOn, HasLocked, IsLockedBy};
+ghost use Rattle.rowex_writing.specs.Going.{WorksOn, HasLocked, IsLockedBy};
 ghost use Rattle.rowex_writing.specs.Remaking.{IsTreePage};
 ghost use Rattle.compound_node.specs.Nodes.{height_of};
 ghost use Rattle.insert_cases.specs.Grown.{keeps_node, is_same as is_the_same};
@@ -50,7 +50,7 @@ fn make_node<G: Gate>(
 ) -> Option<Entry>
     requires building { (news : List Made) × IsBuilding table.now seat.old build.old.made.items news }
     requires room { length build.old.made.items < MOST_MADE }
-    ensures goes { GoesOn table.now G.becomes (seat.old, gate.old) (seat.new, gate.new) }
+    ensures goes { WorksOn table.now G.becomes (seat.old, gate.old) (seat.new, gate.new) }
     ensures made { (news : List Made) → IsBuilding table.now seat.old build.old.made.items news → MatchOption result
         (HasNotMade table.now seat.old seat.new build.new.made.items)
         (λ e. (number : ℕ) × (e ≡ Entry.Node number node.now.height) × HasNodeWords node.now × IsBuilding table.now seat.new build.new.made.items (of_view number node.now ∷ news)) }
@@ -77,7 +77,7 @@ fn make_half<G: Gate>(
 ) -> Option<Entry>
     requires building { (news : List Made) × IsBuilding table.now seat.old build.old.made.items news }
     requires room { length build.old.made.items < MOST_MADE }
-    ensures goes { GoesOn table.now G.becomes (seat.old, gate.old) (seat.new, gate.new) }
+    ensures goes { WorksOn table.now G.becomes (seat.old, gate.old) (seat.new, gate.new) }
     ensures made { (news : List Made) → IsBuilding table.now seat.old build.old.made.items news → MatchOption result
         (HasNotMade table.now seat.old seat.new build.new.made.items)
         (λ e. (more : List Made) × IsHalfMade old half.now e more × IsBuilding table.now seat.new build.new.made.items (more ++ news)) }
@@ -102,7 +102,7 @@ fn make_risen<G: Gate>(
 ) -> Option<Risen>
     requires building { (news : List Made) × IsBuilding table.now seat.old build.old.made.items news }
     requires room { length build.old.made.items + 1 < MOST_MADE }
-    ensures goes { GoesOn table.now G.becomes (seat.old, gate.old) (seat.new, gate.new) }
+    ensures goes { WorksOn table.now G.becomes (seat.old, gate.old) (seat.new, gate.new) }
     ensures made { (news : List Made) → IsBuilding table.now seat.old build.old.made.items news → MatchOption result
         (HasNotMade table.now seat.old seat.new build.new.made.items)
         (λ risen. (after : List Made) × IsMadeFrom old grown.now risen news after × IsBuilding table.now seat.new build.new.made.items after) }
@@ -140,7 +140,7 @@ fn raise_level<G: Gate>(
     requires range { number < table.now.layout.nodes }
     requires below { IsBelow table.now seat.old build.old.made.items key.now number position zero one }
     requires room { length build.old.made.items + 1 < MOST_MADE }
-    ensures goes { GoesOn table.now G.becomes (seat.old, gate.old) (seat.new, gate.new) }
+    ensures goes { WorksOn table.now G.becomes (seat.old, gate.old) (seat.new, gate.new) }
     ensures made { (b : IsBelow table.now seat.old build.old.made.items key.now number position zero one) → MatchOption result
         (HasNotMade table.now seat.old seat.new build.new.made.items)
         (λ risen. (after : List Made) × IsRaising table.now seat.new build.new.made.items after (a_node number ∷ b.gone) b.since b.item b.mismatch b.like entry number (page_of risen)) }
@@ -173,7 +173,7 @@ fn raise_lowest<G: Gate>(
     requires range { number < table.now.layout.nodes }
     requires lowest { IsLowest table.now seat.old build.old.made.items key.now number position first last leaf }
     requires room { length build.old.made.items + 1 < MOST_MADE }
-    ensures goes { GoesOn table.now G.becomes (seat.old, gate.old) (seat.new, gate.new) }
+    ensures goes { WorksOn table.now G.becomes (seat.old, gate.old) (seat.new, gate.new) }
     ensures made { (b : IsLowest table.now seat.old build.old.made.items key.now number position first last leaf) → MatchOption result
         (HasNotMade table.now seat.old seat.new build.new.made.items)
         (λ r. (after : List Made) × IsRaising table.now seat.new build.new.made.items after (gone_unless r.1 number) b.since b.item position b.like entry number (page_of r.0)) }
@@ -225,7 +225,7 @@ pub fn raise_without<G: Gate>(
     requires range { number < table.now.layout.nodes }
     requires locked { IsLockedBy seat.old.known number }
     requires room { length build.old.made.items < MOST_MADE }
-    ensures goes { GoesOn table.now G.becomes (seat.old, gate.old) (seat.new, gate.new) }
+    ensures goes { WorksOn table.now G.becomes (seat.old, gate.old) (seat.new, gate.new) }
     ensures made { (words : List ℕ) → HasLocked seat.old.known number words → MatchOption result
         (HasNotMade table.now seat.old seat.new build.new.made.items)
         (λ e. (news : List Made) × IsSide (page_without key.now (node_of words).page) e news × IsBuilding table.now seat.new build.new.made.items news) }
@@ -254,7 +254,7 @@ pub fn raise_pair<G: Gate>(
     requires building { (news : List Made) × IsBuilding table.now seat.old build.old.made.items news }
     requires tree { IsTreePage (page_forked (bit key.now position) position (Entry.Leaf leaf) (At old)) }
     requires room { length build.old.made.items < MOST_MADE }
-    ensures goes { GoesOn table.now G.becomes (seat.old, gate.old) (seat.new, gate.new) }
+    ensures goes { WorksOn table.now G.becomes (seat.old, gate.old) (seat.new, gate.new) }
     ensures made { (news : List Made) → IsBuilding table.now seat.old build.old.made.items news → MatchOption result
         (HasNotMade table.now seat.old seat.new build.new.made.items)
         (λ e. (more : List Made) × IsSide (page_forked (bit key.now position) position (Entry.Leaf leaf) (At old)) e more ×
@@ -275,7 +275,7 @@ fn settle<G: Gate>(
 ) -> Option<Entry>
     requires risen { IsRisenAt table.now seat.old build.old.made.items number risen }
     requires room { length build.old.made.items < MOST_MADE }
-    ensures goes { GoesOn table.now G.becomes (seat.old, gate.old) (seat.new, gate.new) }
+    ensures goes { WorksOn table.now G.becomes (seat.old, gate.old) (seat.new, gate.new) }
     ensures made { (b : IsRisenAt table.now seat.old build.old.made.items number risen) → MatchOption result
         (HasNotMade table.now seat.old seat.new build.new.made.items)
         (λ e. (after : List Made) × IsRaising table.now seat.new build.new.made.items after b.gone b.since b.item b.mismatch b.like entry number (At e)) }
@@ -308,7 +308,7 @@ fn raise_on<G: Gate>(
 ) -> Option<Entry>
     requires up { IsUp table.now seat.old build.old.made.items way.now key.now end level risen }
     requires room { length build.old.made.items + 2 * (level - end) < MOST_MADE }
-    ensures goes { GoesOn table.now G.becomes (seat.old, gate.old) (seat.new, gate.new) }
+    ensures goes { WorksOn table.now G.becomes (seat.old, gate.old) (seat.new, gate.new) }
     ensures made { (b : IsUp table.now seat.old build.old.made.items way.now key.now end level risen) → MatchOption result
         (HasNotMade table.now seat.old seat.new build.new.made.items)
         (HasRisenTo table.now seat.new build.new.made.items way.now b.since b.item b.mismatch b.like end (gone_with way.now end level b.gone)) }
@@ -349,7 +349,7 @@ pub fn raise_grown<G: Gate>(
 ) -> Option<(Entry, bool)>
     requires growing { IsGrowing table.now seat.old build.old.made.items way.now key.now end top position first last leaf }
     requires room { length build.old.made.items + 2 * (top - end) + 2 < MOST_MADE }
-    ensures goes { GoesOn table.now G.becomes (seat.old, gate.old) (seat.new, gate.new) }
+    ensures goes { WorksOn table.now G.becomes (seat.old, gate.old) (seat.new, gate.new) }
     ensures made { (b : IsGrowing table.now seat.old build.old.made.items way.now key.now end top position first last leaf) → MatchOption result
         (HasNotMade table.now seat.old seat.new build.new.made.items)
         (λ r. HasRisenTo table.now seat.new build.new.made.items way.now b.lowest.since b.lowest.item position b.lowest.like end

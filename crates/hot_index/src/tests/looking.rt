@@ -4,7 +4,7 @@ ghost use Rattle.std.specs.Prelude.{◌≡◌, ◌<◌, ◌++◌, ◌∷◌, [],
 ghost use Rattle.moments.specs.declared.Rec.TheVariants.{Leaf as a_leaf};
 ghost use Rattle.rowex_core.specs.declared.known.Holding.TheVariants.{Ready as IsReady};
 ghost use Rattle.rowex_table.specs.Rights.{Has};
-ghost use Rattle.rowex_table.specs.Seats.{Fits, IsNewSeat};
+ghost use Rattle.rowex_table.specs.Seats.{IsPassOf, IsNewSeat};
 ghost use Rattle.hot_index.specs.Passes.{Owns};
 
 use crate::index::{Index, Pass};
@@ -68,8 +68,8 @@ fn last_seat(table: &HotTable, seats: &mut Vec<TableSeat>) -> Result<TableSeat, 
 
 /// Claims leaf 0 and fills it; answers whether it was free.
 fn make_leaf(table: &HotTable, seat: &mut TableSeat, key: &Key, value: u64) -> bool
-    requires { Fits table.now seat.old × (0 < table.now.layout.leaves) }
-    ensures fits { Fits table.now seat.new }
+    requires { IsPassOf table.now seat.old × (0 < table.now.layout.leaves) }
+    ensures fits { IsPassOf table.now seat.new }
     ensures has { result ≡ true → (words : List ℕ) × Has seat.new.known (a_leaf 0) IsReady words }
 {
     if table.claim(seat, &mut NoGate, Rec::Leaf(0)) != 0 {
@@ -91,9 +91,9 @@ fn make_leaf(table: &HotTable, seat: &mut TableSeat, key: &Key, value: u64) -> b
 
 /// Links leaf 0 at the root; answers whether the anchor was not locked and the root was empty.
 fn link_leaf(table: &HotTable, seat: &mut TableSeat) -> bool
-    requires fits { Fits table.now seat.old × (0 < table.now.layout.leaves) }
+    requires fits { IsPassOf table.now seat.old × (0 < table.now.layout.leaves) }
     requires has { (words : List ℕ) × Has seat.old.known (a_leaf 0) IsReady words }
-    ensures fits { Fits table.now seat.new }
+    ensures fits { IsPassOf table.now seat.new }
 {
     if table.lock(seat, &mut NoGate, Target::Anchor) != 2 {
         return false;

@@ -2,8 +2,8 @@
 use Rattle.std.specs.Prelude.{◌≡◌}
 use Rattle.moments.specs.declared.Rec.TheVariants.{Leaf}
 use Rattle.rowex_table.specs.Rights.{HasFilled}
-use Rattle.rowex_table.specs.Seats.{Fits}
+use Rattle.rowex_table.specs.Seats.{IsPassOf}
 use Rattle.index_tests.proofs.made.make_leaf.Given as goal
 
 abbrev pub invariant-loop-index : goal.invariant-loop-index
-invariant-loop-index l = Fits l.table l.seat × (l.seat.known.pin ≡ l.fn.seat.known.pin) × HasFilled l.seat.known (Leaf l.leaf) l.words l.index
+invariant-loop-index l = IsPassOf l.table l.seat × (l.seat.known.pin ≡ l.fn.seat.known.pin) × HasFilled l.seat.known (Leaf l.leaf) l.words l.index

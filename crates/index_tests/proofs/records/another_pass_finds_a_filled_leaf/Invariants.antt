@@ -1,6 +1,6 @@
 -- The seats stay those of the table.
-use Rattle.rowex_table.specs.Seats.{Fits}
+use Rattle.rowex_table.specs.Seats.{IsPassOf}
 use Rattle.index_tests.proofs.records.another_pass_finds_a_filled_leaf.Given as goal
 
 abbrev pub invariant-loop-offset : goal.invariant-loop-offset
-invariant-loop-offset g l = Fits l.table l.second × Fits l.table l.first
+invariant-loop-offset g l = IsPassOf l.table l.second × IsPassOf l.table l.first

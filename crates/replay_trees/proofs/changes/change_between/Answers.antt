@@ -4,7 +4,7 @@ use Rattle.std.proofs.lemmas.List.{length-map, drop-map, take_rest}
 use Rattle.replay_trees.specs.Moments.{item_of}
 use Rattle.replay_trees.specs.declared.trees.Item.{Item}
 use Rattle.rowex_core.specs.Events.{AreSame}
-use Rattle.replay_trees.specs.Changed.{AreApart, IsFound}
+use Rattle.replay_trees.specs.Changed.{AreApart, IsFoundChange}
 use Rattle.replay_trees.proofs.Between.{found_from, apart_from}
 use Rattle.replay_trees.proofs.changes.change_between.Goals as goal
 
@@ -28,6 +28,6 @@ returns c s =
     let r = length-map c.args.after.now item_of in
     found_from c.args.pass (map item_of c.args.before.now) (map item_of c.args.after.now) n c.change_at.result s
     (omega (arith, c.same_front-front.ensures.within)) (omega (arith, c.same_front-front.ensures.within_both)) c.same_front-front.ensures.same
-    (subst (λ x. AreSame x (drop n (map item_of c.args.after.now)) → IsFound c.args.pass x (drop n (map item_of c.args.after.now)) c.change_at.result) (sym (rest_is c.args.before.now n))
-    (subst (λ y. AreSame (map item_of (take (length c.args.before.now - n) (drop n c.args.before.now))) y → IsFound c.args.pass (map item_of (take (length c.args.before.now - n) (drop n c.args.before.now))) y c.change_at.result) (sym (rest_is c.args.after.now n))
+    (subst (λ x. AreSame x (drop n (map item_of c.args.after.now)) → IsFoundChange c.args.pass x (drop n (map item_of c.args.after.now)) c.change_at.result) (sym (rest_is c.args.before.now n))
+    (subst (λ y. AreSame (map item_of (take (length c.args.before.now - n) (drop n c.args.before.now))) y → IsFoundChange c.args.pass (map item_of (take (length c.args.before.now - n) (drop n c.args.before.now))) y c.change_at.result) (sym (rest_is c.args.after.now n))
     c.change_at.ensures))

@@ -5,7 +5,7 @@ use Rattle.compound_node.specs.Nodes.{height_of}
 use Rattle.hot_model.specs.Maps.{with_value, value_at}
 use Rattle.insert_cases.specs.Heights.{KeepsHeights}
 use Rattle.insert_cases.specs.Rising.{IsAddable, item}
-use Rattle.insert_cases.specs.Store.{PlainView, IsHeld, map_of}
+use Rattle.insert_cases.specs.Store.{PlainView, IsHeldInLeaf, map_of}
 use Rattle.insert_cases.specs.declared.plain.PlainTrie.TheInside.{Inside}
 use Rattle.insert_cases.proofs.Heights.{heights_then}
 use Rattle.insert_cases.proofs.Inserting.{Becomes, tree_standing, kept_plain, same_view, absent_value, raised_becomes}
@@ -37,8 +37,8 @@ returns-in-Held-clause-ok c =
     let n = c.in-Held.leaf in
     let (t, i) = plain_tree v c.in-Some.top c.in-Some.is c.self.invariant in
     let held = c.in-Held.ensures.adds t (tree_standing v c.in-Some.top t i) in
-    let is : IsHeld v k n = record { tree = t; is = i.is; number = held.2.number; key = held.2.key; at = held.2.at } in (
-      subst (λ u. IsHeld u k n) c.self.view_is is,
+    let is : IsHeldInLeaf v k n = record { tree = t; is = i.is; number = held.2.number; key = held.2.key; at = held.2.at } in (
+      subst (λ u. IsHeldInLeaf u k n) c.self.view_is is,
       same_view v.nodes c.added.new.nodes.items v.leaves c.added.new.leaves.items v.top v.node_capacity (vec_capacity c.added.new.leaves) (vec_capacity c.added.new.nodes) held.0 held.1 c.in-Held.ensures.memory.0 ∙
           (ap (λ m. let w : PlainView = record v { leaf_capacity = m } in w) c.in-Held.ensures.memory.1 ∙ c.self.view_is),
     )

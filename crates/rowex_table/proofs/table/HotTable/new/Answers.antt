@@ -3,7 +3,7 @@ use Rattle.std.proofs.Common.{rules, ◌≡◌, ℕ, ◌<◌, List, ap, subst, s
 use mathlib.Core.Option.{some}
 use lib.ListN.{get_elem?}
 use Rattle.rowex_table.specs.Rule.{known_of, next_dealer, dealt}
-use Rattle.rowex_table.specs.Seats.{TableView, SeatView, IsNew}
+use Rattle.rowex_table.specs.Seats.{TableView, SeatView, IsNewSeatOf}
 use Rattle.rowex_table.proofs.Dealing.{opens, deals, each_longer, all_new}
 use Rattle.rowex_table.proofs.table.HotTable.new.Goals as goal
 
@@ -24,8 +24,8 @@ loop-number-preserved c =
       search rules,
       split.2 ∙ (λ i. (next_dealer (was i), none i)),
       search rules,
-      subst (λ (l : List SeatView). (q : ℕ) (h : SeatView) → get_elem? l q ≡ some h → IsNew made q h) (sym c.in_ok-push.ensures.items)
-          (each_longer (λ q (h : SeatView). IsNew made q h) c.loop-number.seats.items _ c.loop-number.number c.loop-number.invariant.2 c.loop-number.invariant.3
+      subst (λ (l : List SeatView). (q : ℕ) (h : SeatView) → get_elem? l q ≡ some h → IsNewSeatOf made q h) (sym c.in_ok-push.ensures.items)
+          (each_longer (λ q (h : SeatView). IsNewSeatOf made q h) c.loop-number.seats.items _ c.loop-number.number c.loop-number.invariant.2 c.loop-number.invariant.3
           (search rules, ap (λ m. known_of m.0) split.4 ∙ ap (λ v. known_of (dealt v)) was)),
     )
 
