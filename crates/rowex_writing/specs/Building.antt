@@ -70,7 +70,8 @@ pub record HasNotMade (table : TableView) (a b : SeatView) (made : List Rec) : T
 
 -- ---- on the way up
 -- The change adds x, of which the record is made: this is what comes in the place of node n's body or entry, and those go.
-pub record IsRaising (table : TableView) (a : SeatView) (made : List Rec) (news : List Made) (gone : List Rec) (since : ℕ) (x : Item) (p : ℕ) (l : Key) (d : Side) (n : ℕ) (r : Page) : Type 0 where
+pub record IsRaising (table : TableView) (a : SeatView) (made : List Rec) (news : List Made) (gone : List Rec) (since : ℕ) (x : Item) (p : ℕ) (l : Key)
+    (d : Side) (n : ℕ) (r : Page) : Type 0 where
   pub building : IsBuilding table a made news
   pub leaf : HasLeaf news x
   pub risen : HasRisen table.layout a.known a.known.locks news since x p l d n r gone
@@ -138,7 +139,8 @@ pub record IsChain (nodes : ℕ) (held : List Locked) (way : List Step) (key : K
   pub there : (i : ℕ) (s : Step) → i < level → slice_get way i ≡ Some s → s.number < nodes
   pub above : (i : ℕ) (s u : Step) → end ≤ i → i < level → slice_get way i ≡ Some s → slice_get way (i + 1) ≡ Some u →
       (over : IsAbove held key p s.number u.number) × ((node_of over.lower).fixed.height < (node_of over.upper).fixed.height)
-  pub full : (i : ℕ) (s : Step) → end < i → i < level → slice_get way i ≡ Some s → (words : List ℕ) → IsOf (record { node = s.number; words = words }) held → size (node_of words).page ≡ 32
+  pub full : (i : ℕ) (s : Step) → end < i → i < level → slice_get way i ≡ Some s →
+      (words : List ℕ) → IsOf (record { node = s.number; words = words }) held → size (node_of words).page ≡ 32
 
 -- What has risen comes in the place of the entry of the node at this level, and it is to rise on to `end`.
 pub record IsUp (table : TableView) (a : SeatView) (made : List Rec) (way : List Step) (key : Key) (end level : ℕ) (risen : Risen) : Type 0 where
@@ -164,7 +166,8 @@ abbrev pub gone_with : List Step → (end level : ℕ) → List Rec → List Rec
 gone_with way end level gone = map (λ (s : Step). a_node s.number) (drop end (take level way)) ++ gone
 
 -- one entry has risen to the place of the entry of the node at `end`
-abbrev pub HasRisenTo : (table : TableView) (a : SeatView) (made : List Rec) (way : List Step) (since : ℕ) (x : Item) (p : ℕ) (l : Key) (end : ℕ) (gone : List Rec) (e : Entry) → Type 0
+abbrev pub HasRisenTo : (table : TableView) (a : SeatView) (made : List Rec) (way : List Step) (since : ℕ) (x : Item) (p : ℕ) (l : Key) →
+    (end : ℕ) (gone : List Rec) (e : Entry) → Type 0
 HasRisenTo table a made way since x p l end gone e =
     (news : List Made) × (top : Step) × (slice_get way end ≡ Some top) × IsRaising table a made news gone since x p l entry top.number (Place e)
 

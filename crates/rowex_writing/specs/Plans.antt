@@ -58,9 +58,11 @@ IsPlan way first last Remove (Leaf number value None) plan = plan ≡ change (le
 -- a new leaf's plan needs them where the way has nodes
 abbrev pub IsBesideFound : List Step → ℕ → Outline → Type 0
 IsBesideFound way position (Known plan) = (first last : ℕ) → IsNewLeafPlan way position first last plan
-IsBesideFound way position (Beside at level) = (at ≡ position) × IsLevel way position level × ((first last : ℕ) (plan : Plan) → IsBeside way position level first last plan → IsNewLeafPlan way position first last plan)
+IsBesideFound way position (Beside at level) = (at ≡ position) × IsLevel way position level ×
+    ((first last : ℕ) (plan : Plan) → IsBeside way position level first last plan → IsNewLeafPlan way position first last plan)
 
 -- the plan, whichever they are; or the level at which they tell it
 abbrev pub IsOutline : List Step → Ask → Found → Outline → Type 0
 IsOutline way ask found (Known plan) = (first last : ℕ) → IsPlan way first last ask found plan
-IsOutline way ask found (Beside position level) = IsLevel way position level × ((first last : ℕ) (plan : Plan) → IsBeside way position level first last plan → IsPlan way first last ask found plan)
+IsOutline way ask found (Beside position level) = IsLevel way position level ×
+    ((first last : ℕ) (plan : Plan) → IsBeside way position level first last plan → IsPlan way first last ask found plan)

@@ -53,7 +53,8 @@ fn make_node<G: Gate>(
     ensures goes { WorksOn table.now G.becomes (seat.old, gate.old) (seat.new, gate.new) }
     ensures made { (news : List Made) → IsBuilding table.now seat.old build.old.made.items news → MatchOption result
         (HasNotMade table.now seat.old seat.new build.new.made.items)
-        (λ e. (number : ℕ) × (e ≡ Entry.Node number node.now.height) × HasNodeWords node.now × IsBuilding table.now seat.new build.new.made.items (of_view number node.now ∷ news)) }
+        (λ e. (number : ℕ) × (e ≡ Entry.Node number node.now.height) × HasNodeWords node.now ×
+        IsBuilding table.now seat.new build.new.made.items (of_view number node.now ∷ news)) }
     ensures more { length build.new.made.items ≤ length build.old.made.items + 1 }
 {
     let number = claim_node(table, seat, gate, build.next)?;
@@ -143,7 +144,8 @@ fn raise_level<G: Gate>(
     ensures goes { WorksOn table.now G.becomes (seat.old, gate.old) (seat.new, gate.new) }
     ensures made { (b : IsBelow table.now seat.old build.old.made.items key.now number position zero one) → MatchOption result
         (HasNotMade table.now seat.old seat.new build.new.made.items)
-        (λ risen. (after : List Made) × IsRaising table.now seat.new build.new.made.items after (a_node number ∷ b.gone) b.since b.item b.mismatch b.like entry number (page_of risen)) }
+        (λ risen. (after : List Made) ×
+        IsRaising table.now seat.new build.new.made.items after (a_node number ∷ b.gone) b.since b.item b.mismatch b.like entry number (page_of risen)) }
     ensures low { (words : List ℕ) → HasLocked seat.old.known number words → IfSome result (IsLowRisen (node_of words).fixed.height) }
     ensures split { (words : List ℕ) → HasLocked seat.old.known number words → size (node_of words).page ≡ 32 → IfSome result IsSplit }
     ensures more { length build.new.made.items ≤ length build.old.made.items + 2 }
@@ -176,7 +178,8 @@ fn raise_lowest<G: Gate>(
     ensures goes { WorksOn table.now G.becomes (seat.old, gate.old) (seat.new, gate.new) }
     ensures made { (b : IsLowest table.now seat.old build.old.made.items key.now number position first last leaf) → MatchOption result
         (HasNotMade table.now seat.old seat.new build.new.made.items)
-        (λ r. (after : List Made) × IsRaising table.now seat.new build.new.made.items after (gone_unless r.1 number) b.since b.item position b.like entry number (page_of r.0)) }
+        (λ r. (after : List Made) ×
+        IsRaising table.now seat.new build.new.made.items after (gone_unless r.1 number) b.since b.item position b.like entry number (page_of r.0)) }
     ensures low { (words : List ℕ) → HasLocked seat.old.known number words → IfSome result (λ r. IsLowRisen (node_of words).fixed.height r.0) }
     ensures split { (words : List ℕ) → HasLocked seat.old.known number words → size (node_of words).page ≡ 32 → IfSome result (λ r. IsSplit r.0) }
     ensures more { length build.new.made.items ≤ length build.old.made.items + 2 }

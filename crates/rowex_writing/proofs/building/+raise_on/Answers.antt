@@ -1,15 +1,10 @@
 -- One level, and then the rest of the way up.
-use Rattle.std.proofs.Common.{◌≡◌, ◌≢◌, ◌⊎◌, ℕ, ◌+◌, ◌-◌, ◌<◌, ◌≤◌, List, length, get_or, refl, sym, ap, ◌∙◌, subst, arith, rules, Some}
-use Rattle.std.specs.Prelude.{slice_get, MatchOption}
+use Rattle.std.proofs.Common.{◌≡◌, ◌≢◌, ℕ, ◌+◌, ◌-◌, ◌<◌, ◌≤◌, List, length, get_or, ap, arith, rules, Some}
+use Rattle.std.specs.Prelude.{slice_get}
 use Rattle.std.proofs.lemmas.Option.{slice_get-get_or, slice_get_within, get_or_from_slice_get}
 use Rattle.insert_cases.specs.declared.choice.Step.{Step}
-use Rattle.insert_cases.specs.declared.raising.Risen.{Risen}
-use Rattle.rowex_table.specs.Seats.{TableView, SeatView}
-use Rattle.moments.specs.declared.Rec.{Rec}
-use Rattle.tries.specs.Keys.{Key}
-use Rattle.rowex_writing.specs.Building.{IsUp, IsBelow, HasRisenTo, HasNotMade, gone_with}
 use Rattle.rowex_writing.proofs.Locking.{goes_more}
-use Rattle.rowex_writing.proofs.Lifting.{up_there, up_below, up_next, up_end, settled_up, up_done, gone_none}
+use Rattle.rowex_writing.proofs.Lifting.{up_there, up_below, up_next, up_end, settled_up, up_done}
 use Rattle.rowex_writing.proofs.building.+raise_on.Goals as goal
 
 abbrev no_step : Step

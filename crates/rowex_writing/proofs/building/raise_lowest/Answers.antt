@@ -1,8 +1,6 @@
 -- The lowest node gets the leaf.
-use Rattle.std.proofs.Common.{◌≡◌, List, [], ◌∷◌, ap, subst, Some}
-use Rattle.std.specs.Prelude.{MatchOption}
+use Rattle.std.proofs.Common.{[], ◌∷◌, subst, Some}
 use Rattle.compound_node.specs.declared.entries.Entry.TheVariants.{Node}
-use Rattle.rowex_table.specs.Made.{Made}
 use Rattle.rowex_rights.specs.Rises.{of_leaf}
 use Rattle.rowex_writing.specs.Building.{IsBuilding, IsMadeFrom, HasNotMade}
 use Rattle.rowex_writing.proofs.Locking.{goes_more}

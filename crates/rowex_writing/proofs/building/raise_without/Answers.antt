@@ -1,5 +1,5 @@
 -- What is left is a side.
-use Rattle.std.proofs.Common.{◌≡◌, List, [], ◌++◌, ap, subst}
+use Rattle.std.proofs.Common.{List, [], ◌++◌, subst}
 use Rattle.std.specs.Prelude.{MatchOption}
 use Rattle.compound_node.specs.declared.entries.Entry.TheVariants.{Node}
 use Rattle.rowex_table.specs.Made.{Made}

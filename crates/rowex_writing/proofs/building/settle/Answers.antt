@@ -1,5 +1,5 @@
 -- An entry is its own; a fork gets a node.
-use Rattle.std.proofs.Common.{◌≡◌, arith}
+use Rattle.std.proofs.Common.{arith}
 use Rattle.rowex_writing.proofs.Lifting.{settle_owed, settled, settled_whole}
 use Rattle.rowex_writing.proofs.building.settle.Goals as goal
 
