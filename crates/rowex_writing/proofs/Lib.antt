@@ -6,3 +6,5 @@ pub mod Staging
 pub mod Raising
 pub mod Making
 pub mod Lifting
+pub mod Works
+pub mod Spans

@@ -3,3 +3,4 @@ pub mod Plans
 pub mod Remaking
 pub mod Going
 pub mod Building
+pub mod Locks

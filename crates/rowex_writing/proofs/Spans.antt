@@ -1,0 +1,81 @@
+-- Parts of a way, and the locks of their nodes, one more and one less.
+use Rattle.std.proofs.Common.{◌≡◌, ◌⊎◌, inl, inr, ℕ, ◌+◌, ◌-◌, ◌<◌, ◌≤◌, List, [], ◌∷◌, length, get_or, take, drop, map, refl, sym, ap, subst, ◌∙◌, arith, suc}
+use Rattle.std.specs.Prelude.{All, Contains, slice_range}
+use Rattle.std.proofs.lemmas.List.{drop_more, drop_all}
+use Rattle.std.proofs.lemmas.List.Elements.{All-cons, All-drop, All-take, All-weaker}
+use Rattle.record_words.specs.declared.layout.Layout.{Layout}
+use Rattle.insert_cases.specs.declared.choice.Step.{Step}
+use Rattle.compound_node.specs.declared.entries.Entry.TheVariants.{Node}
+use Rattle.rowex_walks.specs.Scan.{IsSeen}
+use Rattle.moments.specs.Trades.{IsOf, AreApart}
+use Rattle.moments.proofs.Members.{map_of, none_of}
+use Rattle.rowex_core.specs.declared.known.Known.{Known}
+use Rattle.rowex_core.specs.declared.known.Locked.{Locked}
+use Rattle.rowex_core.specs.Having.{LocksJust}
+use Rattle.rowex_table.specs.Made.{IsLater, nodes_of}
+use Rattle.rowex_rights.proofs.Sure.{sure_stays}
+use Rattle.rowex_writing.specs.Locks.{AreLed, AreNodes, HasJustLocked, HasMetLock, IsLedStep, LocksOne, numbers_of}
+
+-- ---- parts of a list
+-- a part that begins one earlier
+pub slice_more : {X : Type 0} (xs : List X) (i j : ℕ) (d : X) → i < j → j ≤ length xs → slice_range xs i j ≡ get_or xs i d ∷ slice_range xs (i + 1) j
+slice_more xs i j d low high =
+    let e : j - i ≡ suc (j - (i + 1)) = omega arith in
+    ap (λ n. take n (drop i xs)) e ∙ ap (take (suc (j - (i + 1)))) (drop_more xs i d (omega arith))
+
+pub slice_none : {X : Type 0} (xs : List X) (i : ℕ) → slice_range xs i i ≡ []
+slice_none xs i = let e : i - i ≡ 0 = omega arith in ap (λ n. take n (drop i xs)) e
+
+-- ---- nodes that are locked
+pub none_taken : (k : Known) → k.locks ≡ [] → HasJustLocked k []
+none_taken k e = (record { only = λ l i. subst (λ z. IsOf l z) e i; each = λ n i. absurd i }, tt)
+
+-- one more
+pub locked_more : (k j : Known) (n : ℕ) (ns : List ℕ) → LocksOne n k j → HasJustLocked k ns → HasJustLocked j (n ∷ ns)
+locked_more k j n ns ((words, locks), new, own, anchor) (just, apart) = (record { only = only; each = each }, (not_there, apart))
+  where
+    only : (l : Locked) → IsOf l j.locks → IsOf l.node (n ∷ ns)
+    only l i = elim (subst (λ z. IsOf l z) locks i) [ inl e ↦ inl (ap (λ (z : Locked). z.node) e) | inr older ↦ inr (just.only l older) ]
+
+    each : (m : ℕ) → IsOf m (n ∷ ns) → (l : Locked) × IsOf l j.locks × (l.node ≡ m)
+    each m (inl e) = (record { node = n; words = words }, subst (λ z. IsOf (record { node = n; words = words }) z) (sym locks) (inl refl), sym e)
+    each m (inr i) = let (l, there, is) = just.each m i in (l, subst (λ z. IsOf l z) (sym locks) (inr there), is)
+
+    not_there : IsOf n ns → ⊥
+    not_there i = let (l, there, is) = just.each n i in new (subst (λ z. IsOf z (nodes_of k.locks)) is (map_of (λ (z : Locked). z.node) l k.locks there))
+
+-- the same, where the locks are
+pub locked_same : (k j : Known) (ns : List ℕ) → j.locks ≡ k.locks → HasJustLocked k ns → HasJustLocked j ns
+locked_same k j ns e (just, apart) = (subst (λ z. LocksJust z ns) (sym e) just, apart)
+
+-- the first of those that are left
+pub first_locked : (k : Known) (steps : List Step) (i : ℕ) (d : Step) → i < length steps → HasJustLocked k (numbers_of (drop i steps)) →
+    HasJustLocked k ((get_or steps i d).number ∷ numbers_of (drop (i + 1) steps))
+first_locked k steps i d low h = subst (λ (z : List Step). HasJustLocked k (numbers_of z)) (drop_more steps i d low) h
+
+-- none is left
+pub none_locked : (k : Known) (steps : List Step) (i : ℕ) → length steps ≤ i → HasJustLocked k (numbers_of (drop i steps)) → k.locks ≡ []
+none_locked k steps i past (just, apart) = none_of k.locks (λ l there. subst (λ (z : List Step). IsOf l.node (numbers_of z)) (drop_all i steps past) (just.only l there))
+
+-- ---- nodes to which the pass was led
+pub led_on : (layout : Layout) (k j : Known) (s : Step) → IsLater k j → IsLedStep layout k s → IsLedStep layout j s
+led_on layout k j s later (low, (m, h, (pin, pinned, early), sure)) = (low, (m, h, (pin, later.pin ∙ pinned, early), sure_stays k j (λ past. IsSeen past m (Node s.number h)) later sure))
+
+pub led_one : (layout : Layout) (k j : Known) (way : List Step) (i : ℕ) (d : Step) → i < length way → IsLater k j → AreLed layout k way → AreLed layout j (get_or way i d ∷ [])
+led_one layout k j way i d low later led = All-cons (IsLedStep layout j) (get_or way i d) [] (led_on layout k j (get_or way i d) later (led i d low)) (λ o e l. absurd (omega arith))
+
+pub led_nodes : (layout : Layout) (k : Known) (way : List Step) (i j : ℕ) → AreLed layout k way → AreNodes layout (slice_range way i j)
+led_nodes layout k way i j led =
+    All-take (λ (s : Step). s.number < layout.nodes) (j - i) (drop i way) (All-drop (λ (s : Step). s.number < layout.nodes) i way
+    (All-weaker (IsLedStep layout k) (λ (s : Step). s.number < layout.nodes) (λ s h. h.0) way led))
+
+-- ---- a lock that was refused some time ago
+pub met_since : (k i j h : Known) → k.steps ≤ i.steps → h.failed ≡ j.failed → HasMetLock i j → HasMetLock k h
+met_since k i j h count same m = record {
+  target = m.target;
+  failed = m.failed;
+  is = subst (λ z. Contains z m.failed) (sym same) m.is;
+  place = m.place;
+  word = m.word;
+  now = let l = m.now in omega arith;
+}

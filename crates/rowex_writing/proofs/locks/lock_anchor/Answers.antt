@@ -1,0 +1,17 @@
+-- The anchor, found live, is locked.
+use Rattle.rowex_core.specs.declared.event.Act.TheVariants.{Lock}
+use Rattle.rowex_core.specs.declared.event.Target.TheVariants.{Anchor}
+use Rattle.rowex_writing.proofs.Works.{works_one, anchor_locked, anchor_met, is_live, is_not_live}
+use Rattle.rowex_writing.proofs.locks.lock_anchor.Goals as goal
+
+pub returns-clause-works : goal.returns-clause-works
+returns-clause-works g c =
+    works_one c.args.table.now g.G.Gate.becomes (Lock Anchor c.lock-found.result) (c.args.seat.now, c.args.gate.now) (c.lock-found.new.seat, c.lock-found.new.gate) tt c.lock-found.ensures
+
+pub returns-clause-locked : goal.returns-clause-locked
+returns-clause-locked g c t =
+    anchor_locked c.args.table.now.layout c.args.seat.now.known c.lock-found.new.seat.known c.lock-found.result c.lock-found.ensures.event (is_live c.lock-found.result c.pack_state.result c.pack_state.ensures t)
+
+pub returns-clause-refused : goal.returns-clause-refused
+returns-clause-refused g c f =
+    anchor_met c.args.table.now.layout c.args.seat.now.known c.lock-found.new.seat.known c.lock-found.result c.lock-found.ensures.event (is_not_live c.lock-found.result c.pack_state.result c.pack_state.ensures f)

@@ -1,0 +1,124 @@
+-- One node more; one that is refused, and the anchor.
+use Rattle.std.proofs.Common.{◌≡◌, ◌∷◌, ◌+◌, ◌-◌, refl, sym, ap, subst, ◌∙◌, arith, get_or}
+use Rattle.std.specs.Prelude.{slice_range}
+use Rattle.insert_cases.specs.declared.choice.Step.{Step}
+use Rattle.rowex_writing.specs.Locks.{HasJustLocked, numbers_of}
+use Rattle.rowex_writing.proofs.Works.{works_none, works_more, works_seat, works_later, works_count}
+use Rattle.rowex_writing.proofs.Spans.{slice_more, slice_none, none_taken, locked_more, locked_same, led_one, led_nodes, met_since}
+use Rattle.rowex_writing.proofs.locks.lock_span.Goals as goal
+
+pub loop-index-init : goal.loop-index-init
+loop-index-init g c = record {
+  own = c.requires.own;
+  top = c.saturating_sub-first.ensures;
+  range = (let e = c.saturating_sub-first.ensures in omega (arith, c.requires.span.0), omega arith);
+  works = works_none c.args.table.now g.G.Gate.becomes (c.args.seat.now, c.args.gate.now);
+  locked = subst (λ z. HasJustLocked c.args.seat.now.known (numbers_of z)) (sym (slice_none c.args.way.now c.args.span.len)) (none_taken c.args.seat.now.known c.requires.free.0);
+  anchor = c.requires.free.1;
+  same = refl;
+}
+
+pub lock_node-requires-clause-led : goal.lock_node-requires-clause-led
+lock_node-requires-clause-led g c =
+    let i = c.loop-index.invariant in
+    led_one c.args.table.now.layout c.args.seat.now.known c.loop-index.seat.known c.args.way.now (c.loop-index.index - 1) _ (omega (arith, c.loop-index-test.true, i.range.1, c.requires.span.1))
+    (works_later c.args.table.now g.G.Gate.becomes (c.args.seat.now, c.args.gate.now) (c.loop-index.seat, c.loop-index.gate) i.works) c.requires.led
+
+pub unlock_nodes-requires-clause-own : goal.unlock_nodes-requires-clause-own
+unlock_nodes-requires-clause-own g c =
+    works_seat c.args.table.now g.G.Gate.becomes (c.loop-index.seat, c.loop-index.gate) (c.lock_node.new.seat, c.lock_node.new.gate) c.lock_node.ensures.works c.loop-index.invariant.own
+
+pub unlock_nodes-requires-clause-nodes : goal.unlock_nodes-requires-clause-nodes
+unlock_nodes-requires-clause-nodes g c = led_nodes c.args.table.now.layout c.args.seat.now.known c.args.way.now (c.loop-index.index - 1 + 1) c.args.span.len c.requires.led
+
+pub unlock_nodes-requires-clause-locked : goal.unlock_nodes-requires-clause-locked
+unlock_nodes-requires-clause-locked g c =
+    let i = c.loop-index.invariant in
+    let r = c.lock_node.ensures.refused c.if-not-lock_node.true in
+    let at : c.loop-index.index ≡ c.loop-index.index - 1 + 1 = omega (arith, c.loop-index-test.true) in
+    locked_same c.loop-index.seat.known c.lock_node.new.seat.known _ r.1 (subst (λ n. HasJustLocked c.loop-index.seat.known (numbers_of (slice_range c.args.way.now n c.args.span.len))) at i.locked)
+
+pub returns-then-not-lock_node-clause-works : goal.returns-then-not-lock_node-clause-works
+returns-then-not-lock_node-clause-works g c =
+    works_more c.args.table.now g.G.Gate.becomes _ _ _ (works_more c.args.table.now g.G.Gate.becomes _ _ _ c.loop-index.invariant.works c.lock_node.ensures.works) c.unlock_nodes.ensures.works
+
+pub returns-then-not-lock_node-clause-same : goal.returns-then-not-lock_node-clause-same
+returns-then-not-lock_node-clause-same g c = c.unlock_nodes.ensures.rest.0 ∙ ((c.lock_node.ensures.refused c.if-not-lock_node.true).3 ∙ c.loop-index.invariant.same)
+
+pub returns-then-not-lock_node-clause-refused : goal.returns-then-not-lock_node-clause-refused
+returns-then-not-lock_node-clause-refused g c e =
+    let i = c.loop-index.invariant in
+    let r = c.lock_node.ensures.refused c.if-not-lock_node.true in
+    let u = c.unlock_nodes.ensures in (
+      (u.free, u.rest.1 ∙ (r.2 ∙ i.anchor)),
+      met_since c.args.seat.now.known c.loop-index.seat.known c.lock_node.new.seat.known c.unlock_nodes.new.seat.known
+          (works_count c.args.table.now g.G.Gate.becomes (c.args.seat.now, c.args.gate.now) (c.loop-index.seat, c.loop-index.gate) i.works) u.rest.4 r.0,
+    )
+
+pub loop-index-preserved : goal.loop-index-preserved
+loop-index-preserved g c =
+    let i = c.loop-index.invariant in
+    let l = c.lock_node.ensures.locked c.if-not-lock_node.false in
+    let at : c.loop-index.index - 1 + 1 ≡ c.loop-index.index = omega (arith, c.loop-index-test.true) in
+    let d : Step = record { number = 0; height = 0; first_position = 0; count = 0; at = 0 } in
+    let part = slice_more c.args.way.now (c.loop-index.index - 1) c.args.span.len d (omega (arith, c.loop-index-test.true, i.range.1)) c.requires.span.1 ∙
+    ap (λ n. get_or c.args.way.now (c.loop-index.index - 1) d ∷ slice_range c.args.way.now n c.args.span.len) at in
+    record {
+      own = works_seat c.args.table.now g.G.Gate.becomes (c.loop-index.seat, c.loop-index.gate) (c.lock_node.new.seat, c.lock_node.new.gate) c.lock_node.ensures.works i.own;
+      top = i.top;
+      range = (omega (arith, c.loop-index-test.true), omega (arith, i.range.1));
+      works = works_more c.args.table.now g.G.Gate.becomes _ _ _ i.works c.lock_node.ensures.works;
+      locked = subst (λ z. HasJustLocked c.lock_node.new.seat.known (numbers_of z)) (sym part) (locked_more c.loop-index.seat.known c.lock_node.new.seat.known _ _ l i.locked);
+      anchor = l.3 ∙ i.anchor;
+      same = l.2 ∙ i.same;
+    }
+
+pub returns-then-span-gt0-clause-locked : goal.returns-then-span-gt0-clause-locked
+returns-then-span-gt0-clause-locked g c e =
+    let i = c.loop-index.invariant in
+    let at : c.loop-index.index ≡ c.args.span.end - 1 = omega (arith, i.range.0, i.top, c.loop-index-test.false) in
+    record {
+      nodes = subst (λ n. HasJustLocked c.loop-index.seat.known (numbers_of (slice_range c.args.way.now n c.args.span.len))) at i.locked;
+      top = λ z. absurd (omega (arith, c.if-span-gt0.true));
+      below = λ z. i.anchor;
+    }
+
+pub returns-then-lock_anchor-clause-works : goal.returns-then-lock_anchor-clause-works
+returns-then-lock_anchor-clause-works g c = works_more c.args.table.now g.G.Gate.becomes _ _ _ c.loop-index.invariant.works c.lock_anchor.ensures.works
+
+pub returns-then-lock_anchor-clause-locked : goal.returns-then-lock_anchor-clause-locked
+returns-then-lock_anchor-clause-locked g c e =
+    let i = c.loop-index.invariant in
+    let l = c.lock_anchor.ensures.locked c.if-lock_anchor.true in
+    let at : c.loop-index.index ≡ c.args.span.end - 1 = omega (arith, i.range.0, i.top, c.loop-index-test.false) in
+    record {
+      nodes = subst (λ n. HasJustLocked c.lock_anchor.new.seat.known (numbers_of (slice_range c.args.way.now n c.args.span.len))) at
+          (locked_same c.loop-index.seat.known c.lock_anchor.new.seat.known _ l.1 i.locked);
+      top = λ z. l.0;
+      below = λ z. absurd (omega (arith, c.if-span-gt0.false));
+    }
+
+pub unlock_nodes-requires-2-clause-own : goal.unlock_nodes-requires-2-clause-own
+unlock_nodes-requires-2-clause-own g c =
+    works_seat c.args.table.now g.G.Gate.becomes (c.loop-index.seat, c.loop-index.gate) (c.lock_anchor.new.seat, c.lock_anchor.new.gate) c.lock_anchor.ensures.works c.loop-index.invariant.own
+
+pub unlock_nodes-requires-2-clause-nodes : goal.unlock_nodes-requires-2-clause-nodes
+unlock_nodes-requires-2-clause-nodes g c = led_nodes c.args.table.now.layout c.args.seat.now.known c.args.way.now c.loop-index.index c.args.span.len c.requires.led
+
+pub unlock_nodes-requires-2-clause-locked : goal.unlock_nodes-requires-2-clause-locked
+unlock_nodes-requires-2-clause-locked g c =
+    locked_same c.loop-index.seat.known c.lock_anchor.new.seat.known _ (c.lock_anchor.ensures.refused c.if-lock_anchor.false).1 c.loop-index.invariant.locked
+
+pub returns-clause-works : goal.returns-clause-works
+returns-clause-works g c =
+    works_more c.args.table.now g.G.Gate.becomes _ _ _ (works_more c.args.table.now g.G.Gate.becomes _ _ _ c.loop-index.invariant.works c.lock_anchor.ensures.works) c.unlock_nodes-2.ensures.works
+
+pub returns-clause-refused : goal.returns-clause-refused
+returns-clause-refused g c e =
+    let i = c.loop-index.invariant in
+    let r = c.lock_anchor.ensures.refused c.if-lock_anchor.false in
+    let u = c.unlock_nodes-2.ensures in (
+      (u.free, u.rest.1 ∙ (r.2 ∙ i.anchor)),
+      met_since c.args.seat.now.known c.loop-index.seat.known c.lock_anchor.new.seat.known c.unlock_nodes-2.new.seat.known
+          (works_count c.args.table.now g.G.Gate.becomes (c.args.seat.now, c.args.gate.now) (c.loop-index.seat, c.loop-index.gate) i.works) u.rest.4 r.0,
+    )

@@ -1,0 +1,21 @@
+-- The nodes from the index on are locked.
+use Rattle.std.proofs.Common.{◌-◌, ◌≡◌, ◌≤◌, None}
+use Rattle.std.specs.Prelude.{slice_range}
+use Rattle.rowex_table.specs.Seats.{IsSeatOf}
+use Rattle.rowex_writing.specs.Locks.{HasJustLocked, Works, numbers_of}
+use Rattle.rowex_writing.proofs.locks.lock_span.Given as goal
+
+abbrev pub invariant-loop-index : goal.invariant-loop-index
+invariant-loop-index g l = record {
+  own : IsSeatOf l.table l.seat;
+  top : l.first ≡ l.span.end - 1;
+  range : (l.first ≤ l.index) × (l.index ≤ l.span.len);
+  works : Works l.table g.G.Gate.becomes (l.fn.seat, l.fn.gate) (l.seat, l.gate);
+  locked : HasJustLocked l.seat.known (numbers_of (slice_range l.way l.index l.span.len));
+  anchor : l.seat.known.anchor ≡ None;
+  same : l.seat.known.own ≡ l.fn.seat.known.own;
+}
+
+-- proposed from the loop's first test
+abbrev pub decreases-loop-index : goal.decreases-loop-index
+decreases-loop-index g l = l.index - l.first

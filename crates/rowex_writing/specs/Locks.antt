@@ -1,0 +1,93 @@
+-- The locks of a writer, and what it was refused them by.
+use Rattle.std.specs.Prelude.{◌≡◌, ◌⊎◌, ℕ, ◌-◌, ◌<◌, ◌≤◌, List, [], ◌∷◌, map, All, Contains, IsSome, None, slice_range}
+use Rattle.insert_cases.specs.declared.choice.Step.{Step}
+use Rattle.compound_node.specs.declared.entries.Entry.TheVariants.{Node}
+use Rattle.record_words.specs.declared.layout.Layout.{Layout}
+use Rattle.record_words.specs.declared.state.Tag.TheVariants.{Locked as LockedTag, Obsolete}
+use Rattle.record_words.specs.State.{state_word}
+use Rattle.moments.specs.Trades.{IsOf, AreApart}
+use Rattle.rowex_walks.specs.Scan.{IsSeen}
+use Rattle.rowex_core.specs.declared.event.Act.{Act}
+use Rattle.rowex_core.specs.declared.event.Event.{Event}
+use Rattle.rowex_core.specs.declared.event.Target.{Target}
+use Rattle.rowex_core.specs.declared.known.Failed.{Failed}
+use Rattle.rowex_core.specs.declared.known.Known.{Known}
+use Rattle.rowex_core.specs.Events.{target_word}
+use Rattle.rowex_core.specs.Having.{LocksJust}
+use Rattle.rowex_core.specs.Knowing.{IsSince}
+use Rattle.rowex_table.specs.Made.{nodes_of}
+use Rattle.rowex_table.specs.Stays.{KeepsRecall}
+use Rattle.rowex_table.specs.Runs.{Runs}
+use Rattle.rowex_table.specs.Seats.{TableView, SeatView}
+use Rattle.rowex_rights.specs.Stages.{IsSure}
+use Rattle.rowex_writing.specs.declared.plan.Span.{Span}
+
+-- The pass makes steps of which the gate is told, and recalls after each all that it did before.
+pub record Works {G : Type 0} (table : TableView) (becomes : G → Event → G → Type 0) (a b : SeatView × G) : Type 0 where
+  pub acts : List Act
+  pub plain : All KeepsRecall acts
+  pub steps : Runs table becomes acts a b
+
+-- no node is locked by the pass, and the anchor is not
+abbrev pub HasNoLock : Known → Type 0
+HasNoLock k = (k.locks ≡ []) × (k.anchor ≡ None)
+
+-- just these nodes are locked by it, each listed once
+abbrev pub HasJustLocked : Known → List ℕ → Type 0
+HasJustLocked k nodes = LocksJust k.locks nodes × AreApart nodes
+
+abbrev pub numbers_of : List Step → List ℕ
+numbers_of steps = map (λ (s : Step). s.number) steps
+
+-- the nodes of the steps are the table's
+abbrev pub AreNodes : Layout → List Step → Type 0
+AreNodes layout steps = All (λ (s : Step). s.number < layout.nodes) steps
+
+-- the pass was led to the node of the step, which is one of the table's; and so to each of a way
+abbrev pub IsLedStep : Layout → Known → Step → Type 0
+IsLedStep layout k s = (s.number < layout.nodes) × ((m : ℕ) × (h : ℕ) × IsSince k m × IsSure k (λ past. IsSeen past m (Node s.number h)))
+
+abbrev pub AreLed : Layout → Known → List Step → Type 0
+AreLed layout k steps = All (IsLedStep layout k) steps
+
+-- the nodes that are locked for a span of the way: those that are remade, and the one above them
+abbrev pub span_numbers : List Step → Span → List ℕ
+span_numbers way span = numbers_of (slice_range way (span.end - 1) span.len)
+
+-- Just those are locked by the pass, and the anchor where the span goes up to the root.
+pub record HasLockedSpan (k : Known) (way : List Step) (span : Span) : Type 0 where
+  pub nodes : HasJustLocked k (span_numbers way span)
+  pub top : span.end ≡ 0 → IsSome k.anchor
+  pub below : 0 < span.end → k.anchor ≡ None
+
+-- the state word of a node or of the anchor that is locked, or was retired
+abbrev pub IsTakenWord : ℕ → Type 0
+IsTakenWord w = (w ≡ state_word LockedTag) ⊎ ((epoch : ℕ) × (w ≡ state_word (Obsolete epoch)))
+
+-- From k on a lock of the pass found what it wanted to lock taken.
+pub record HasMetLock (k j : Known) : Type 0 where
+  pub target : Target
+  pub failed : Failed
+  pub is : Contains j.failed failed
+  pub place : failed.location ≡ target_word target
+  pub word : IsTakenWord failed.word
+  pub now : k.steps ≤ failed.step
+
+-- The parts
+
+-- the pass has locked one node more, in front of the others
+abbrev pub LocksOne : ℕ → Known → Known → Type 0
+LocksOne n k j =
+    ((words : List ℕ) × (j.locks ≡ record { node = n; words = words } ∷ k.locks)) × ¬ (IsOf n (nodes_of k.locks)) × (j.own ≡ k.own) × (j.anchor ≡ k.anchor)
+
+-- it has locked the anchor
+abbrev pub LocksAnchor : Known → Known → Type 0
+LocksAnchor k j = IsSome j.anchor × (j.locks ≡ k.locks) × (j.own ≡ k.own)
+
+-- its lock was refused
+abbrev pub IsRefusedLock : Known → Known → Type 0
+IsRefusedLock k j = HasMetLock k j × (j.locks ≡ k.locks) × (j.anchor ≡ k.anchor) × (j.own ≡ k.own)
+
+-- what it knows of its records, of the anchor, of changes, of its round and of failed steps is the same
+abbrev pub LeavesRest : Known → Known → Type 0
+LeavesRest k j = (j.own ≡ k.own) × (j.anchor ≡ k.anchor) × (j.front ≡ k.front) × (j.round ≡ k.round) × (j.failed ≡ k.failed)

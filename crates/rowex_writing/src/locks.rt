@@ -1,0 +1,86 @@
+//! The locks of a writer: those of a span of the way, taken upwards, and given back.
+
+ghost use Rattle.std.specs.Prelude.{◌≡◌, ◌≤◌, [], ◌∷◌, length, true, false};
+ghost use Rattle.rowex_table.specs.Seats.{IsSeatOf};
+ghost use Rattle.rowex_writing.specs.Locks.{AreLed, AreNodes, HasJustLocked, HasLockedSpan, HasMetLock, HasNoLock, IsRefusedLock, LeavesRest, LocksAnchor, LocksOne, Works, numbers_of};
+
+use crate::plan::Span;
+use insert_cases::Step;
+use record_words::{Tag, pack_state};
+use rowex_core::{Gate, Target};
+use rowex_table::{HotTable, TableSeat};
+
+/// Locks the nodes of a span of the way, and the one above it that gets the new entry: from the lowest upwards, and the anchor
+/// last where the span goes up to the root. Each is tried once. Where one is locked or was retired, those that were locked
+/// are given back, and the answer is `false`.
+pub fn lock_span<G: Gate>(
+    table: &HotTable,
+    seat: &mut TableSeat,
+    gate: &mut G,
+    way: &[Step],
+    span: Span,
+) -> bool
+    requires own { IsSeatOf table.now seat.old }
+    requires span { (span.end ≤ span.len) × (span.len ≤ length way.now) }
+    requires free { HasNoLock seat.old.known }
+    requires led { AreLed table.now.layout seat.old.known way.now }
+    ensures works { Works table.now G.becomes (seat.old, gate.old) (seat.new, gate.new) }
+    ensures same { seat.new.known.own ≡ seat.old.known.own }
+    ensures locked { result ≡ true → HasLockedSpan seat.new.known way.now span }
+    ensures refused { result ≡ false → HasNoLock seat.new.known × HasMetLock seat.old.known seat.new.known }
+{
+    let first = span.end.saturating_sub(1);
+    let mut index = span.len;
+    while index > first {
+        index -= 1;
+        if !lock_node(table, seat, gate, way[index]) {
+            unlock_nodes(table, seat, gate, &way[index + 1..span.len]);
+            return false;
+        }
+    }
+    if span.end > 0 {
+        return true;
+    }
+    if lock_anchor(table, seat, gate) {
+        return true;
+    }
+    unlock_nodes(table, seat, gate, &way[index..span.len]);
+    false
+}
+
+/// Locks a node to which the pass was led, if it is live.
+fn lock_node<G: Gate>(table: &HotTable, seat: &mut TableSeat, gate: &mut G, step: Step) -> bool
+    requires own { IsSeatOf table.now seat.old }
+    requires led { AreLed table.now.layout seat.old.known (step ∷ []) }
+    ensures works { Works table.now G.becomes (seat.old, gate.old) (seat.new, gate.new) }
+    ensures locked { result ≡ true → LocksOne step.number seat.old.known seat.new.known }
+    ensures refused { result ≡ false → IsRefusedLock seat.old.known seat.new.known }
+{
+    let found = table.lock(seat, gate, Target::Node(step.number));
+    found == pack_state(Tag::Live)
+}
+
+/// Locks the anchor, if it is live.
+fn lock_anchor<G: Gate>(table: &HotTable, seat: &mut TableSeat, gate: &mut G) -> bool
+    requires own { IsSeatOf table.now seat.old }
+    ensures works { Works table.now G.becomes (seat.old, gate.old) (seat.new, gate.new) }
+    ensures locked { result ≡ true → LocksAnchor seat.old.known seat.new.known }
+    ensures refused { result ≡ false → IsRefusedLock seat.old.known seat.new.known }
+{
+    let found = table.lock(seat, gate, Target::Anchor);
+    found == pack_state(Tag::Live)
+}
+
+/// Unlocks the nodes of a part of the way, the first one first: all that the pass has locked, but the anchor.
+pub fn unlock_nodes<G: Gate>(table: &HotTable, seat: &mut TableSeat, gate: &mut G, steps: &[Step])
+    requires own { IsSeatOf table.now seat.old }
+    requires nodes { AreNodes table.now.layout steps.now }
+    requires locked { HasJustLocked seat.old.known (numbers_of steps.now) }
+    ensures works { Works table.now G.becomes (seat.old, gate.old) (seat.new, gate.new) }
+    ensures free { seat.new.known.locks ≡ [] }
+    ensures rest { LeavesRest seat.old.known seat.new.known }
+{
+    for index in 0..steps.len() {
+        table.unlock(seat, gate, Target::Node(steps[index].number));
+    }
+}
