@@ -8,3 +8,4 @@ pub mod Making
 pub mod Lifting
 pub mod Works
 pub mod Spans
+pub mod Retiring

@@ -1,5 +1,5 @@
 -- Steps after which a pass recalls what it did, one after the other; locks that are taken and refused.
-use Rattle.std.proofs.Common.{◌≡◌, ◌≢◌, inl, inr, ℕ, ◌≤◌, List, [], ◌∷◌, ◌++◌, Bool, true, false, nat_eq, Option, Some, None, IsSome, refl, sym, ap, subst, ◌∙◌, arith}
+use Rattle.std.proofs.Common.{◌≡◌, ◌≢◌, inl, inr, ℕ, ◌≤◌, List, [], ◌∷◌, ◌++◌, true, false, nat_eq, Option, Some, None, IsSome, refl, sym, ap, subst, ◌∙◌, arith}
 use Rattle.std.specs.Prelude.{All, Contains}
 use Rattle.std.proofs.lemmas.Bool.{eqb-true}
 use Rattle.std.proofs.lemmas.List.Elements.{All-append, All-cons, All-head, All-tail}
@@ -31,7 +31,7 @@ use Rattle.rowex_table.proofs.ActsLeave as leave
 use Rattle.rowex_table.proofs.Running.{runs_one, runs_append, runs_same}
 use Rattle.rowex_rights.specs.Stages.{IsSure}
 use Rattle.rowex_rights.proofs.Loops.{later_same, later_on}
-use Rattle.rowex_writing.specs.Locks.{Works, IsTakenWord, HasMetLock, LocksOne, LocksAnchor, IsRefusedLock}
+use Rattle.rowex_writing.specs.Locks.{Works, IsTakenWord, LocksOne, LocksAnchor, IsRefusedLock}
 
 module _ {G : Type 0} (table : TableView) (becomes : G → Event → G → Type 0) where
   pub works_none : (a : SeatView × G) → Works table becomes a a

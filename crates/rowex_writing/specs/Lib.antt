@@ -4,3 +4,4 @@ pub mod Remaking
 pub mod Going
 pub mod Building
 pub mod Locks
+pub mod Retiring

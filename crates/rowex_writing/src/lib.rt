@@ -2,12 +2,14 @@
 #![tactic(auto)]
 
 mod building;
+mod ending;
 mod locked;
 mod locks;
 mod plan;
 mod remaking;
 
 pub use building::{Build, MOST_MADE, raise_grown, raise_pair, raise_without};
+pub use ending::{retire, undo};
 pub use locked::read_locked;
 pub use locks::{lock_span, unlock_nodes};
 pub use plan::{Ask, Deed, Found, Outline, Plan, Span, plan_beside, plan_call};

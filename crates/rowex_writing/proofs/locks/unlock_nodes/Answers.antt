@@ -1,11 +1,8 @@
 -- The first of those that are left is unlocked.
-use Rattle.std.proofs.Common.{inl, refl, ◌∙◌, ◌+◌, drop, arith}
-use Rattle.rowex_core.specs.declared.event.Act.TheVariants.{Unlock}
-use Rattle.rowex_core.specs.declared.event.Target.TheVariants.{Node as NodeTarget}
+use Rattle.std.proofs.Common.{inl, refl, ◌∙◌, arith}
 use Rattle.rowex_table.specs.Runs.{silent}
 use Rattle.rowex_table.proofs.ActsAfter.{unlocks_node, unlock_gives}
 use Rattle.rowex_table.proofs.ActsLeave.{act_leaves}
-use Rattle.rowex_writing.specs.Locks.{numbers_of}
 use Rattle.rowex_writing.proofs.Works.{works_none, works_one, works_more, works_seat}
 use Rattle.rowex_writing.proofs.Spans.{first_locked, none_locked}
 use Rattle.rowex_writing.proofs.locks.unlock_nodes.Goals as goal

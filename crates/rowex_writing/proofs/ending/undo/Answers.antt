@@ -1,0 +1,34 @@
+-- What is held is given up, what is locked is unlocked, and the anchor at last.
+use Rattle.rowex_core.specs.declared.event.Act.TheVariants.{Unlock}
+use Rattle.rowex_core.specs.declared.event.Target.TheVariants.{Anchor}
+use Rattle.rowex_writing.proofs.Works.{works_one, works_more, works_seat}
+use Rattle.rowex_writing.proofs.Retiring.{given_works, given_locks}
+use Rattle.rowex_writing.proofs.ending.undo.Goals as goal
+
+pub unlock_nodes-requires-clause-own : goal.unlock_nodes-requires-clause-own
+unlock_nodes-requires-clause-own g c =
+    works_seat c.args.table.now g.G.Gate.becomes (c.args.seat.now, c.args.gate.now) (c.give_up_all.new.seat, c.give_up_all.new.gate)
+    (given_works c.args.table.now g.G.Gate.becomes c.args.held.now (c.args.seat.now, c.args.gate.now) (c.give_up_all.new.seat, c.give_up_all.new.gate) c.give_up_all.ensures) c.requires.own
+
+pub unlock_nodes-requires-clause-locked : goal.unlock_nodes-requires-clause-locked
+unlock_nodes-requires-clause-locked g c =
+    given_locks c.args.table.now g.G.Gate.becomes c.args.held.now (c.args.seat.now, c.args.gate.now) (c.give_up_all.new.seat, c.give_up_all.new.gate) c.give_up_all.ensures _ c.requires.locked
+
+pub unlock-requires-clause-own : goal.unlock-requires-clause-own
+unlock-requires-clause-own g c =
+    let table = c.args.table.now in
+    let given = given_works table g.G.Gate.becomes c.args.held.now (c.args.seat.now, c.args.gate.now) (c.give_up_all.new.seat, c.give_up_all.new.gate) c.give_up_all.ensures in
+    works_seat table g.G.Gate.becomes _ _ (works_more table g.G.Gate.becomes _ _ _ given c.unlock_nodes.ensures.works) c.requires.own
+
+pub returns-then-anchor-clause-works : goal.returns-then-anchor-clause-works
+returns-then-anchor-clause-works g c =
+    let table = c.args.table.now in
+    let given = given_works table g.G.Gate.becomes c.args.held.now (c.args.seat.now, c.args.gate.now) (c.give_up_all.new.seat, c.give_up_all.new.gate) c.give_up_all.ensures in
+    let last = works_one table g.G.Gate.becomes (Unlock Anchor) (c.unlock_nodes.new.seat, c.unlock_nodes.new.gate) (c.unlock.new.seat, c.unlock.new.gate) tt c.unlock.ensures in
+    works_more table g.G.Gate.becomes _ _ _ (works_more table g.G.Gate.becomes _ _ _ given c.unlock_nodes.ensures.works) last
+
+pub returns-else-anchor-clause-works : goal.returns-else-anchor-clause-works
+returns-else-anchor-clause-works g c =
+    let table = c.args.table.now in
+    let given = given_works table g.G.Gate.becomes c.args.held.now (c.args.seat.now, c.args.gate.now) (c.give_up_all.new.seat, c.give_up_all.new.gate) c.give_up_all.ensures in
+    works_more table g.G.Gate.becomes _ _ _ given c.unlock_nodes.ensures.works

@@ -1,0 +1,83 @@
+//! The end of a change: what it has unlinked is marked, and what it keeps is unlocked.
+
+ghost use Rattle.std.specs.Prelude.{◌≡◌, ◌<◌, []};
+ghost use Rattle.record_words.specs.declared.TheConstants.{EPOCHS};
+ghost use Rattle.rowex_records.specs.Records.{HoldsJust};
+ghost use Rattle.rowex_rights.specs.Ending.{IsAtRest};
+ghost use Rattle.rowex_table.specs.Seats.{IsSeatOf};
+ghost use Rattle.rowex_writing.specs.Locks.{AreNodes, HasJustLocked, Works, numbers_of};
+ghost use Rattle.rowex_writing.specs.Retiring.{AreRecords, HasJustPublished, HasToMark, IsAnchored, LeavesLocks};
+
+use crate::locks::unlock_nodes;
+use insert_cases::Step;
+use rowex_core::{Gate, Rec, Target};
+use rowex_records::give_up_all;
+use rowex_table::{HotTable, TableSeat};
+
+/// Straight after a publish: marks the records `gone` that it has unlinked, in the epoch as it is now, and unlocks the nodes
+/// `kept`, the first one first, and then the anchor, where that is locked. The pass has no record and no lock then.
+pub fn retire<G: Gate>(
+    table: &HotTable,
+    seat: &mut TableSeat,
+    gate: &mut G,
+    gone: &[Rec],
+    kept: &[Step],
+    anchor: bool,
+)
+    requires own { IsSeatOf table.now seat.old }
+    requires records { AreRecords table.now.layout gone.now }
+    requires nodes { AreNodes table.now.layout kept.now }
+    requires published { HasJustPublished seat.old.known gone.now (numbers_of kept.now) }
+    requires anchored { IsAnchored anchor seat.old.known }
+    ensures works { Works table.now G.becomes (seat.old, gate.old) (seat.new, gate.new) }
+    ensures rest { IsAtRest seat.new.known }
+    ensures front { seat.new.known.front ≡ seat.old.known.front }
+{
+    let epoch = table.load_epoch(seat, gate);
+    mark_all(table, seat, gate, gone, epoch);
+    unlock_nodes(table, seat, gate, kept);
+    if anchor {
+        table.unlock(seat, gate, Target::Anchor);
+    }
+}
+
+/// Takes a change back that was not published: gives up the records `held`, which are all that the pass has, and unlocks the
+/// nodes `locked`, which are all that it has locked, and then the anchor, where that is locked.
+pub fn undo<G: Gate>(
+    table: &HotTable,
+    seat: &mut TableSeat,
+    gate: &mut G,
+    held: &[Rec],
+    locked: &[Step],
+    anchor: bool,
+)
+    requires own { IsSeatOf table.now seat.old }
+    requires records { AreRecords table.now.layout held.now }
+    requires nodes { AreNodes table.now.layout locked.now }
+    requires held { HoldsJust seat.old.known held.now }
+    requires locked { HasJustLocked seat.old.known (numbers_of locked.now) }
+    requires anchored { IsAnchored anchor seat.old.known }
+    ensures works { Works table.now G.becomes (seat.old, gate.old) (seat.new, gate.new) }
+    ensures rest { IsAtRest seat.new.known }
+{
+    give_up_all(table, seat, gate, held);
+    unlock_nodes(table, seat, gate, locked);
+    if anchor {
+        table.unlock(seat, gate, Target::Anchor);
+    }
+}
+
+/// Marks all records that the pass has unlinked, in the epoch that it has just loaded.
+fn mark_all<G: Gate>(table: &HotTable, seat: &mut TableSeat, gate: &mut G, recs: &[Rec], epoch: u64)
+    requires own { IsSeatOf table.now seat.old }
+    requires records { AreRecords table.now.layout recs.now }
+    requires epoch { epoch < EPOCHS }
+    requires due { HasToMark seat.old.known epoch recs.now }
+    ensures works { Works table.now G.becomes (seat.old, gate.old) (seat.new, gate.new) }
+    ensures marked { seat.new.known.own ≡ [] }
+    ensures same { LeavesLocks seat.old.known seat.new.known }
+{
+    for index in 0..recs.len() {
+        table.mark(seat, gate, recs[index], epoch);
+    }
+}
