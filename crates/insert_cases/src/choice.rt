@@ -11,7 +11,7 @@ ghost use Rattle.insert_cases.specs.Searches.{found};
 ghost use Rattle.insert_cases.specs.Ways.{IsWay, IsAffectedNode, case_of, stage, body};
 
 /// A node on the way of a search, topmost first, and the entry that the search took there.
-#[derive(Clone, Copy, Debug, PartialEq, Eq)]
+#[derive(Clone, Copy, Debug, Default, PartialEq, Eq)]
 pub struct Step {
     /// The node's record number.
     pub number: u32,

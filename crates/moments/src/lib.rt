@@ -12,6 +12,13 @@ pub enum Rec {
     Leaf(u32),
 }
 
+impl Default for Rec {
+    /// What stands in unused places of a list: the first node.
+    fn default() -> Rec {
+        Rec::Node(0)
+    }
+}
+
 /// A pin: its word, the moment at which it was set, and the epoch of that moment. No value of it is made.
 pub struct Pin {
     pub word: u64,
