@@ -41,7 +41,7 @@ use Rattle.rowex_reading.proofs.Seeing.{later_none, later_trans, since_later, su
 -- One load
 
 -- a load changes of what the pass knows the front, its last load of the root and its facts alone
-abbrev OnlySees : ℕ → Known → Known → Type 0
+abbrev pub OnlySees : ℕ → Known → Known → Type 0
 OnlySees n k j = j ≡ record k { front = j.front; fresh = j.fresh; facts = j.facts; steps = k.steps + n }
 
 sees : (k j : Known) (front : List Change) (fresh : Fresh) (facts : List Fact) → j ≡ record k { front = front; fresh = fresh; facts = facts; steps = k.steps + 1; notes = k.notes ++ [] } → OnlySees 1 k j
@@ -133,6 +133,10 @@ module _ {G : Type 0} {table : TableView} {becomes : G → Event → G → Type 
 
   pub reads_later : {n : ℕ} {a b : SeatView × G} → Reads table becomes n a b → IsLater a.0.known b.0.known
   reads_later x = (left x).later
+
+  -- of what the pass knows nothing else changes
+  pub reads_sees : {n : ℕ} {a b : SeatView × G} → Reads table becomes n a b → OnlySees n a.0.known b.0.known
+  reads_sees x = (left x).sees
 
   pub same_since : {n : ℕ} {a b : SeatView × G} → Reads table becomes n a b → since b.0.known ≡ since a.0.known
   same_since x = ap (λ (z : Fresh). length z.front) (left x).fresh

@@ -38,9 +38,10 @@ use Rattle.rowex_table.specs.Seats.{TableView, SeatView}
 use Rattle.rowex_rights.specs.Stages.{HasLeaf, HasRisen, IsAbove}
 use Rattle.rowex_rights.proofs.Rising.{risen_stays, rises_pulled, rises_wrapped, rise_grows}
 use Rattle.rowex_rights.specs.Rises.{of_view, of_leaf, IsSide, anew, HasFoundBelow}
-use Rattle.rowex_writing.specs.Building.{IsBuilding, IsHalfMade, IsMadeFrom, IsRaising, IsBelow, IsLowest, IsLowRisen, IsRisenAt, IsSplit, IsChain, IsUp, IsGrowing, HasNotMade, HasRisenTo, gone_unless, gone_with}
+use Rattle.rowex_writing.specs.Building.{IsBuilding, IsHalfMade, IsMadeFrom, IsRaising, IsBelow, IsLowest, IsLowRisen, IsNextTo, IsRisenAt, IsSingle, IsSplit, FitsAbove, IsChain, IsUp, IsGrowing, HasNotMade, HasRisenTo, gone_unless, gone_with}
 use Rattle.rowex_writing.specs.Going.{WorksOn, ReadsOn, HasLocked, IsNodeOf}
 use Rattle.rowex_writing.specs.Remaking.{IsTreePage, AffectsJust, IsLowHalf, IsNoHigher}
+use Rattle.rowex_writing.proofs.Remade.{built_low}
 use Rattle.rowex_writing.proofs.Making.{building_on, not_made_since}
 use Rattle.rowex_writing.proofs.Raising.{rises_made, rises_kept, side_made}
 use Rattle.rowex_writing.proofs.Locking.{goes_more}
@@ -302,6 +303,38 @@ split_level words node was g (Some risen) none before Q is whole full (after, ma
     let long : length node.entries ≡ 32 = sym (size-piece node is.has.lawful) ∙ (ap size (sym (ap (λ (z : NodeWords). z.page) is.shows)) ∙ full) in
     split_made was g risen before after (λ t. absurd (let l = whole.0 t in omega (arith, long))) made
 
+-- and a node with room gives one entry
+single_made : (was : Entry) (g : Grown) (risen : Risen) (before after : List Made) → IsTrue (is_whole g) → IsMadeFrom was g risen before after → IsSingle risen
+single_made was (Single v) (Whole e) before after whole made = tt
+single_made was (Single v) (Split q z o) before after whole made = elim made [ ]
+single_made was (Two cut) risen before after whole made = absurd (let z : false ≡ true = whole in cc)
+
+pub single_level : (words : List ℕ) (node : NodeView) (was : Entry) (g : Grown) (answer : Option Risen) (None_made : Type 0) (before : List Made) (Q : Risen → List Made → Type 0) → IsNodeOf words node →
+    (IsTrue (is_whole g) ↔ (length node.entries < 32)) → size (node_of words).page < 32 →
+    MatchOption answer None_made (λ risen. (after : List Made) × IsMadeFrom was g risen before after × Q risen after) → IfSome answer IsSingle
+single_level words node was g None none before Q is whole room made = tt
+single_level words node was g (Some risen) none before Q is whole room (after, made, rest) =
+    let long : length node.entries ≡ size (node_of words).page = sym (size-piece node is.has.lawful) ∙ ap size (sym (ap (λ (z : NodeWords). z.page) is.shows)) in
+    single_made was g risen before after (whole.1 (omega (arith, long))) made
+
+-- ---- the height of what has risen, as one entry
+pub whole_height : (h : ℕ) (e : Entry) (risen : Risen) → risen ≡ Whole e → IsLowRisen h risen → IsNextTo h risen e
+whole_height h e risen is low = let l : IsLowRisen h (Whole e) = subst (IsLowRisen h) is low in (omega (arith, l), λ s. l)
+
+pub split_height : (h q : ℕ) (z o : Entry) (risen : Risen) (view : NodeView) (none has : Type 0) (rest : ℕ → Type 0) (answer : Option Entry) → risen ≡ Split q z o → IsLowRisen h risen → IsBuiltFrom view (Fork q (Place z) (Place o)) →
+    MatchOption answer none (λ e. (m : ℕ) × (e ≡ Node m view.height) × has × rest m) → IfSome answer (IsNextTo h risen)
+split_height h q z o risen view none has rest None is low built made = tt
+split_height h q z o risen view none has rest (Some e) is low built (m, e_is, spelled, more) =
+    let l : IsLowRisen h (Split q z o) = subst (IsLowRisen h) is low in
+    let tall : view.height ≤ h + 1 = built_low view (Fork q (Place z) (Place o)) (h + 1) built (omega (arith, l.0, l.1)) in
+    let same : height_of e ≡ view.height = ap height_of e_is in
+    (omega (arith, tall, same), λ s. absurd (let f : IsSingle (Split q z o) = subst IsSingle is s in f))
+
+-- so beside the node with these words, which gave one entry where it had room
+pub fits_above : (words : List ℕ) (risen : Risen) (answer : Option Entry) → (size (node_of words).page < 32 → IsSingle risen) → IfSome answer (IsNextTo (node_of words).fixed.height risen) → IfSome answer (FitsAbove words)
+fits_above words risen None single low = tt
+fits_above words risen (Some e) single low = (low.0, λ room. low.1 (single room))
+
 -- ---- on upwards
 module _ (table : TableView) (a : SeatView) (made : List Rec) (way : List Step) (key : Key) (end level : ℕ) (risen : Risen) (up : IsUp table a made way key end level risen) (above : ℕ) (next : above + 1 ≡ level)
     (upto : end ≤ above) (s : Step) (at : slice_get way above ≡ Some s) where
@@ -329,8 +362,9 @@ module _ (table : TableView) (a : SeatView) (made : List Rec) (way : List Step) 
 
   abbrev pub up_next : (m : SeatView) (made_then : List Rec) (then : Risen) → m.known.locks ≡ a.known.locks → (after : List Made) → IsRaising table m made_then after (a_node s.number ∷ up.gone) up.since up.item up.mismatch up.like entry s.number (page_of then) →
       ((words : List ℕ) → HasLocked a.known s.number words → IsLowRisen (node_of words).fixed.height then) → ((words : List ℕ) → HasLocked a.known s.number words → size (node_of words).page ≡ 32 → IsSplit then) →
+      ((words : List ℕ) → HasLocked a.known s.number words → size (node_of words).page < 32 → IsSingle then) →
       IsUp table m made_then way key end above then
-  up_next m made_then then locks after raising low split = record {
+  up_next m made_then then locks after raising low split single = record {
     news = after;
     gone = a_node s.number ∷ up.gone;
     since = up.since;
@@ -345,6 +379,7 @@ module _ (table : TableView) (a : SeatView) (made : List Rec) (way : List Step) 
     locked = subst (IsOf (record { node = s.number; words = up_over.0.upper })) (sym locks) up_over.0.has_upper;
     raising = raising;
     low = λ other h. low other (subst (IsOf (record { node = s.number; words = other })) locks h);
+    single = λ other h. single other (subst (IsOf (record { node = s.number; words = other })) locks h);
     split = λ more. split up_over.0.upper up_over.0.has_upper (up.chain.full above s more (omega arith) at up_over.0.upper up_over.0.has_upper);
     chain = subst (λ held. IsChain table.layout.nodes held way up.item.key up.mismatch end above) (sym locks) (record {
       there = λ i u l e. up.chain.there i u (omega arith) e;
@@ -424,8 +459,9 @@ module _ (table : TableView) (a : SeatView) (made : List Rec) (way : List Step) 
   abbrev pub up_first : (m : SeatView) (made_then : List Rec) (then : Risen) (stays : Bool) → m.known.locks ≡ a.known.locks → (after : List Made) →
       IsRaising table m made_then after (gone_unless stays number) b.lowest.since b.lowest.item position b.lowest.like entry number (page_of then) →
       ((words : List ℕ) → HasLocked a.known number words → IsLowRisen (node_of words).fixed.height then) → ((words : List ℕ) → HasLocked a.known number words → size (node_of words).page ≡ 32 → IsSplit then) →
+      ((words : List ℕ) → HasLocked a.known number words → size (node_of words).page < 32 → IsSingle then) →
       IsUp table m made_then way key end top then
-  up_first m made_then then stays locks after raising low split = record {
+  up_first m made_then then stays locks after raising low split single = record {
     news = after;
     gone = gone_unless stays number;
     since = b.lowest.since;
@@ -440,6 +476,7 @@ module _ (table : TableView) (a : SeatView) (made : List Rec) (way : List Step) 
     locked = subst (IsOf (record { node = b.step.number; words = b.lowest.words })) (sym locks) b.lowest.found.locked;
     raising = subst (λ n. IsRaising table m made_then after (gone_unless stays number) b.lowest.since b.lowest.item position b.lowest.like entry n (page_of then)) is raising;
     low = λ other h. low other (subst (λ n. HasLocked a.known n other) (sym is) (subst (IsOf (record { node = b.step.number; words = other })) locks h));
+    single = λ other h. single other (subst (λ n. HasLocked a.known n other) (sym is) (subst (IsOf (record { node = b.step.number; words = other })) locks h));
     split = λ more. split b.lowest.words (subst (λ n. HasLocked a.known n b.lowest.words) (sym is) b.lowest.found.locked) (b.full more);
     chain = subst (λ held. IsChain table.layout.nodes held way b.lowest.item.key position end top) (sym locks) b.chain;
   }

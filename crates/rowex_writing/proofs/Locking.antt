@@ -1,6 +1,7 @@
 -- Loads under a lock, and steps one after the other.
 use Rattle.std.proofs.Common.{◌≡◌, ℕ, ◌+◌, ◌-◌, ◌<◌, ◌≤◌, List, [], ◌∷◌, ◌++◌, length, get_or, set, refl, sym, ap, subst, ◌∙◌, arith, add-one, inl, inr, ◌⊎◌}
 use Rattle.std.proofs.lemmas.Bool.{cases_lt}
+use Rattle.std.proofs.lemmas.List.Elements.{All-append, All-cons}
 use Rattle.std.proofs.lemmas.List.{ext_get_or, get_or-set_same, get_or-set_other}
 use Rattle.record_words.specs.declared.layout.Layout.{Layout}
 use Rattle.compound_node.specs.Nodes.{NodeView}
@@ -18,6 +19,7 @@ use Rattle.rowex_core.specs.Reading.{IsPacked, node_of}
 use Rattle.rowex_core.specs.Sharing.{IsLocked}
 use Rattle.rowex_core.proofs.Owning.{knows_all}
 use Rattle.rowex_table.specs.Runs.{Steps, silent}
+use Rattle.rowex_table.specs.Stays.{KeepsRecall}
 use Rattle.rowex_table.specs.Seats.{TableView, SeatView, IsSeatOf}
 use Rattle.rowex_table.proofs.Running.{runs_one, runs_append, runs_same}
 use Rattle.moments.specs.Trades.{IsOf}
@@ -29,11 +31,12 @@ use Rattle.rowex_writing.specs.Going.{WorksOn, ReadsOn, HasLocked, IsNodeOf}
 -- ---- one after the other
 module _ {G : Type 0} (table : TableView) (becomes : G → Event → G → Type 0) where
   pub goes_none : (a : SeatView × G) → WorksOn table becomes a a
-  goes_none a = record { acts = []; steps = refl; stays = (later_same a.0.known a.0.known refl, refl, refl) }
+  goes_none a = record { acts = []; plain = λ i d low. absurd (omega arith); steps = refl; stays = (later_same a.0.known a.0.known refl, refl, refl) }
 
   pub goes_more : (a m b : SeatView × G) → WorksOn table becomes a m → WorksOn table becomes m b → WorksOn table becomes a b
   goes_more a m b first second = record {
     acts = first.acts ++ second.acts;
+    plain = All-append KeepsRecall first.acts second.acts first.plain second.plain;
     steps = runs_append table becomes first.acts second.acts a m b first.steps second.steps;
     stays = (later_on a.0.known m.0.known b.0.known first.stays.0 second.stays.0, second.stays.1 ∙ first.stays.1, second.stays.2 ∙ first.stays.2);
   }
@@ -53,6 +56,7 @@ module _ {G : Type 0} (table : TableView) (becomes : G → Event → G → Type 
   reads_fixed n offset w a b s = record {
     goes = record {
       acts = LoadFixed (a_node n) offset w ∷ [];
+      plain = All-cons KeepsRecall (LoadFixed (a_node n) offset w) [] tt (λ i d low. absurd (omega arith));
       steps = runs_one table becomes (LoadFixed (a_node n) offset w) a b s;
       stays = still_locked table.layout a.0.known b.0.known (LoadFixed (a_node n) offset w) tt tt tt s.event;
     };
@@ -63,6 +67,7 @@ module _ {G : Type 0} (table : TableView) (becomes : G → Event → G → Type 
   reads_entry n i w a b s = record {
     goes = record {
       acts = LoadRef (Slot n i) w ∷ [];
+      plain = All-cons KeepsRecall (LoadRef (Slot n i) w) [] tt (λ i d low. absurd (omega arith));
       steps = runs_one table becomes (LoadRef (Slot n i) w) a b s;
       stays = still_locked table.layout a.0.known b.0.known (LoadRef (Slot n i) w) tt tt tt s.event;
     };

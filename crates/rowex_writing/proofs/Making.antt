@@ -1,7 +1,8 @@
 -- One record more for a change, or none.
-use Rattle.std.proofs.Common.{◌≡◌, ◌≢◌, ℕ, ◌≤◌, List, [], ◌∷◌, ◌++◌, map, refl, sym, ap, ap₂, subst, ◌∙◌, arith, le_trans, Option, Some, None}
+use Rattle.std.proofs.Common.{◌≡◌, ◌≢◌, ℕ, zero, suc, ◌+◌, ◌≤◌, List, [], ◌∷◌, ◌++◌, length, get_or, map, refl, sym, ap, ap₂, subst, ◌∙◌, arith, le_trans, Option, Some, None}
 use Rattle.std.specs.Prelude.{All, MatchOption}
 use Rattle.std.proofs.lemmas.Grind.{reverse_onto}
+use Rattle.std.proofs.lemmas.List.Elements.{All-append, All-cons}
 use Rattle.hot_model.specs.Fronts.{OthersGoOn}
 use Rattle.hot_model.proofs.Growth.{others_none}
 use Rattle.compound_node.specs.Nodes.{NodeView}
@@ -10,13 +11,14 @@ use Rattle.compound_node.specs.declared.entries.Entry.TheVariants.{Node}
 use Rattle.compound_node.specs.declared.halves.Half.{Half}
 use Rattle.compound_node.specs.declared.halves.Half.TheVariants.{Many}
 use Rattle.rowex_table.proofs.ActsLeave.{act_leaves}
-use Rattle.record_words.specs.Node.{HasNodeWords, node_words}
+use Rattle.record_words.specs.Node.{HasNodeWords}
 use Rattle.moments.specs.Trades.{IsOf}
 use Rattle.moments.specs.declared.Rec.{Rec}
 use Rattle.moments.specs.declared.Rec.TheVariants.{Node as a_node}
 use Rattle.moments.proofs.Legal.{same_rec_refl}
 use Rattle.moments.proofs.Members.{all_of, of_map, map_of}
 use Rattle.rowex_core.specs.declared.event.Act.{Act}
+use Rattle.rowex_core.specs.declared.event.Act.TheVariants.{Claim, Fill}
 use Rattle.rowex_core.specs.declared.event.Event.{Event}
 use Rattle.rowex_core.specs.declared.known.Holding.TheVariants.{Held}
 use Rattle.rowex_core.specs.declared.known.Known.{Known}
@@ -24,11 +26,12 @@ use Rattle.rowex_core.specs.declared.known.Owned.{Owned}
 use Rattle.rowex_core.specs.Knowing.{IsFact}
 use Rattle.rowex_core.specs.Reading.{IsPacked}
 use Rattle.rowex_table.specs.Made.{Made, held_as, recs_of, IsLater}
-use Rattle.rowex_table.specs.Runs.{Runs, Does}
-use Rattle.rowex_table.specs.Seats.{TableView, SeatView}
+use Rattle.rowex_table.specs.Runs.{Runs, Does, InTurn}
+use Rattle.rowex_table.specs.Stays.{KeepsRecall}
+use Rattle.rowex_table.specs.Seats.{TableView, SeatView, IsSeatOf}
 use Rattle.rowex_table.proofs.Running.{runs_same}
-use Rattle.rowex_records.specs.Claims.{claiming, FindsNone, Claims, AllMissed}
-use Rattle.rowex_records.specs.Records.{owning, fill_with, Fills}
+use Rattle.rowex_records.specs.Claims.{claiming, turned, Misses, FindsNone, Claims, AllMissed}
+use Rattle.rowex_records.specs.Records.{owning, fill_with, Fills, StoresWord}
 use Rattle.rowex_records.proofs.Filled.{fill_beside}
 use Rattle.rowex_rights.specs.Rises.{of_view}
 use Rattle.rowex_reading.specs.Possible.{IsPossible}
@@ -46,17 +49,31 @@ same_later k j pass pin front facts = record {
   facts = λ s h. subst (All (IsFact s)) facts h;
 }
 
+-- steps in turn, each part of which is plain
+in_turn_plain : (Parts : ℕ → List Act → Type 0) → ((i : ℕ) (acts : List Act) → Parts i acts → All KeepsRecall acts) → (n : ℕ) (acts : List Act) → InTurn Parts n acts → All KeepsRecall acts
+in_turn_plain Parts each zero acts none = subst (All KeepsRecall) (sym none) (λ i d low. absurd (omega arith))
+in_turn_plain Parts each (suc n) acts (before, last, first, second, is) =
+    subst (All KeepsRecall) (sym is) (All-append KeepsRecall before last (in_turn_plain Parts each n before first) (each n last second))
+
+misses_plain : (kind : ℕ → Rec) (n from m : ℕ) (acts : List Act) → InTurn (λ i. Misses (kind (turned n from i))) m acts → All KeepsRecall acts
+misses_plain kind n from m acts turn = in_turn_plain (λ i. Misses (kind (turned n from i))) (λ i acts (word, low, is). subst (All KeepsRecall) (sym is) (All-cons KeepsRecall (Claim (kind (turned n from i)) word) [] tt (λ i d low. absurd (omega arith)))) m acts turn
+
+stores_plain : (r : Rec) (words : List ℕ) (n : ℕ) (acts : List Act) → InTurn (StoresWord r words) n acts → All KeepsRecall acts
+stores_plain r words n acts turn = in_turn_plain (StoresWord r words) (λ i acts is. subst (All KeepsRecall) (sym is) (All-cons KeepsRecall (Fill r (i + 1) (get_or words i 0)) [] tt (λ i d low. absurd (omega arith)))) n acts turn
+
 module _ {G : Type 0} (table : TableView) (becomes : G → Event → G → Type 0) where
-  pub claims_on : (acts : List Act) (a b : SeatView × G) → Does table becomes claiming acts a b → WorksOn table becomes a b
-  claims_on acts a b does = let r = does.rest in record {
+  pub claims_on : (acts : List Act) (a b : SeatView × G) → All KeepsRecall acts → Does table becomes claiming acts a b → WorksOn table becomes a b
+  claims_on acts a b plain does = let r = does.rest in record {
     acts = acts;
+    plain = plain;
     steps = does.steps;
     stays = (same_later a.0.known b.0.known (ap (λ (z : Known). z.pass) r) (ap (λ (z : Known). z.pin) r) (ap (λ (z : Known). z.front) r) (ap (λ (z : Known). z.facts) r), ap (λ (z : Known). z.locks) r, ap (λ (z : Known). z.anchor) r);
   }
 
-  pub owns_on : (acts : List Act) (a b : SeatView × G) → Does table becomes owning acts a b → WorksOn table becomes a b
-  owns_on acts a b does = let r = does.rest in record {
+  pub owns_on : (acts : List Act) (a b : SeatView × G) → All KeepsRecall acts → Does table becomes owning acts a b → WorksOn table becomes a b
+  owns_on acts a b plain does = let r = does.rest in record {
     acts = acts;
+    plain = plain;
     steps = does.steps;
     stays = (same_later a.0.known b.0.known (ap (λ (z : Known). z.pass) r) (ap (λ (z : Known). z.pin) r) (ap (λ (z : Known). z.front) r) (ap (λ (z : Known). z.facts) r), ap (λ (z : Known). z.locks) r, ap (λ (z : Known). z.anchor) r);
   }
@@ -71,13 +88,14 @@ module _ {G : Type 0} (table : TableView) (becomes : G → Event → G → Type 
 
   -- ---- a claim
   pub none_on : (kind : ℕ → Rec) (n from m : ℕ) (a b : SeatView × G) → FindsNone table becomes kind n from m a b → WorksOn table becomes a b
-  none_on kind n from m a b none = claims_on none.claims a b none.does
+  none_on kind n from m a b none = claims_on none.claims a b (misses_plain kind n from m none.claims none.in_turn) none.does
 
   pub claim_on : (kind : ℕ → Rec) (n from m : ℕ) (a b : SeatView × G) → Claims table becomes kind n from m a b → WorksOn table becomes a b
-  claim_on kind n from m a b claim = goes_more table becomes a claim.before b (claims_on claim.none.claims a claim.before claim.none.does) (claims_on _ claim.before b claim.does)
+  claim_on kind n from m a b claim = goes_more table becomes a claim.before b (none_on kind n from claim.tried a claim.before claim.none)
+      (claims_on (Claim (kind m) 0 ∷ []) claim.before b (All-cons KeepsRecall (Claim (kind m) 0) [] tt (λ i d low. absurd (omega arith))) claim.does)
 
   pub fill_on : (r : Rec) (words : List ℕ) (a b : SeatView × G) → Fills table becomes r words a b → WorksOn table becomes a b
-  fill_on r words a b fills = owns_on fills.stores a b fills.does
+  fill_on r words a b fills = owns_on fills.stores a b (stores_plain r words (length words) fills.stores fills.in_turn) fills.does
 
   -- the same records, after steps that leave them
   pub building_on : (a b : SeatView × G) (made : List Rec) (news : List Made) → WorksOn table becomes a b → b.0.known.own ≡ a.0.known.own → IsBuilding table a.0 made news → IsBuilding table b.0 made news
@@ -89,29 +107,34 @@ module _ {G : Type 0} (table : TableView) (becomes : G → Event → G → Type 
     listed = i.listed;
   }
 
-  -- one record more
-  pub building_more : (n from m : ℕ) (node : NodeView) (a i b : SeatView × G) (made : List Rec) (news : List Made) → Claims table becomes a_node n from m a i →
-      Fills table becomes (a_node m) (node_words node) i b → IsPacked (a_node m) (node_words node) → IsBuilding table a.0 made news → IsBuilding table b.0 (made ++ a_node m ∷ []) (of_view m node ∷ news)
-  building_more n from m node a i b made news claim fills packed was =
-      let goes = goes_more table becomes a i b (claim_on a_node n from m a i claim) (fill_on (a_node m) (node_words node) i b fills) in
-      let first : fill_with (a_node m) (node_words node) (record { rec = a_node m; holding = Held; words = claim.words }) ≡ held_as Held (of_view m node) = rw (same_rec_refl (a_node m)) refl in
-      let others : map (fill_with (a_node m) (node_words node)) a.0.known.own ≡ a.0.known.own = fill_beside (a_node m) (node_words node) a.0.known.own claim.apart in
-      let own : b.0.known.own ≡ held_as Held (of_view m node) ∷ map (held_as Held) news =
-      fills.own ∙ (ap (map (fill_with (a_node m) (node_words node))) claim.own ∙ ap₂ (λ y ys. y ∷ ys) first (others ∙ was.holds.0)) in
+  -- one record more, a node's or a leaf's
+  pub building_more : (kind : ℕ → Rec) (n from m : ℕ) (words : List ℕ) (a i b : SeatView × G) (made : List Rec) (news : List Made) → Claims table becomes kind n from m a i →
+      Fills table becomes (kind m) words i b → IsPacked (kind m) words → IsBuilding table a.0 made news → IsBuilding table b.0 (made ++ kind m ∷ []) (record { rec = kind m; words = words } ∷ news)
+  building_more kind n from m words a i b made news claim fills packed was =
+      let newest : Made = record { rec = kind m; words = words } in
+      let goes = goes_more table becomes a i b (claim_on kind n from m a i claim) (fill_on (kind m) words i b fills) in
+      let first : fill_with (kind m) words (record { rec = kind m; holding = Held; words = claim.words }) ≡ held_as Held newest = rw (same_rec_refl (kind m)) refl in
+      let others : map (fill_with (kind m) words) a.0.known.own ≡ a.0.known.own = fill_beside (kind m) words a.0.known.own claim.apart in
+      let own : b.0.known.own ≡ held_as Held newest ∷ map (held_as Held) news =
+      fills.own ∙ (ap (map (fill_with (kind m) words)) claim.own ∙ ap₂ (λ y ys. y ∷ ys) first (others ∙ was.holds.0)) in
       record {
         seat = (runs_same table becomes goes.acts a b goes.steps).0 ∙ was.seat;
         possible = goes_possible a b goes was.possible;
         holds = (
           own,
           (
-            λ h. (let (y, at, is) = of_map (λ (y : Made). y.rec) (a_node m) news h in
-                all_of (λ (o : Owned). o.rec ≢ a_node m) (held_as Held y) a.0.known.own claim.apart (subst (IsOf (held_as Held y)) (sym was.holds.0) (map_of (held_as Held) y news at)) (sym is)),
+            λ h. (let (y, at, is) = of_map (λ (y : Made). y.rec) (kind m) news h in
+                all_of (λ (o : Owned). o.rec ≢ kind m) (held_as Held y) a.0.known.own claim.apart (subst (IsOf (held_as Held y)) (sym was.holds.0) (map_of (held_as Held) y news at)) (sym is)),
             was.holds.1,
           ),
         );
         packed = (packed, was.packed);
-        listed = ap (λ z. z ++ a_node m ∷ []) was.listed ∙ sym (reverse_onto (recs_of news) (a_node m) []);
+        listed = ap (λ z. z ++ kind m ∷ []) was.listed ∙ sym (reverse_onto (recs_of news) (kind m) []);
       }
+
+-- a pass that has nothing has made none yet
+pub building_none : (table : TableView) (a : SeatView) → IsSeatOf table a → IsPossible table.layout a.known → a.known.own ≡ [] → IsBuilding table a [] []
+building_none table a seat possible none = record { seat = seat; possible = possible; holds = (none, tt); packed = tt; listed = refl }
 
 -- each step is counted
 steps_rise : {G : Type 0} (table : TableView) (becomes : G → Event → G → Type 0) (acts : List Act) (a b : SeatView × G) → Runs table becomes acts a b → a.0.known.steps ≤ b.0.known.steps

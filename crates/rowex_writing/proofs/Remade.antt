@@ -179,7 +179,7 @@ greatest_without k (Fork q x y) = go (bit k q) (greatest_without k x) (greatest_
     go false f g = greatest_joined q false x y (page_without k x) f
 
 -- a node that was built for a page of lower entries
-built_low : (v : NodeView) (part : Page) (h : ℕ) → IsBuiltFrom v part → greatest_height (places part) < h → v.height ≤ h
+pub built_low : (v : NodeView) (part : Page) (h : ℕ) → IsBuiltFrom v part → greatest_height (places part) < h → v.height ≤ h
 built_low v part h i l = let e : greatest_height v.entries ≡ greatest_height (places part) = ap greatest_height i.lawful.shows.entries_are ∙ ap (λ x. greatest_height (places x)) i.shows_it in omega (arith, i.height_is)
 
 pub half_low : (half : Half) (part : Page) (h : ℕ) → HalfShows half part → greatest_height (places part) < h → IsLowHalf h half

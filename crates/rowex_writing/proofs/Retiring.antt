@@ -15,12 +15,11 @@ use Rattle.rowex_core.specs.Having.{OwnsJust, IsDue, LocksJust}
 use Rattle.rowex_core.specs.Knowing.{IsEvent}
 use Rattle.rowex_table.specs.Runs.{silent}
 use Rattle.rowex_table.specs.Seats.{TableView, SeatView}
-use Rattle.rowex_table.specs.Stays.{KeepsRecall}
 use Rattle.rowex_table.proofs.ActsAfter.{epoch_owns, mark_gives}
 use Rattle.rowex_table.proofs.ActsLeave.{act_leaves}
 use Rattle.rowex_records.specs.Records.{GivesUpAll}
 use Rattle.rowex_writing.proofs.Spans.{locked_same}
-use Rattle.rowex_writing.specs.Locks.{HasJustLocked, Works}
+use Rattle.rowex_writing.specs.Locks.{HasJustLocked, IsPlain, Works}
 use Rattle.rowex_writing.specs.Retiring.{HasJustPublished, HasToMark}
 
 pub first_due : (k : Known) (epoch : ℕ) (recs : List Rec) (i : ℕ) (d : Rec) → i < length recs → HasToMark k epoch (drop i recs) → HasToMark k epoch (get_or recs i d ∷ drop (i + 1) recs)
@@ -52,9 +51,9 @@ module _ (layout : Layout) (k j : Known) where
   epoch_low epoch e = let z : epoch ≡ e.core.epoch = e.legal.1 in subst (λ n. n < 2 ^ 60) (sym z) e.lawful.epochs.now.1
 
 -- ---- records given up
-all_plain : (recs : List Rec) → All KeepsRecall (map (λ r. Release r) recs)
+all_plain : (recs : List Rec) → All IsPlain (map (λ r. Release r) recs)
 all_plain [] = λ i d low. absurd (omega arith)
-all_plain (r ∷ recs) = All-cons KeepsRecall (Release r) (map (λ r. Release r) recs) tt (all_plain recs)
+all_plain (r ∷ recs) = All-cons IsPlain (Release r) (map (λ r. Release r) recs) tt (all_plain recs)
 
 module _ {G : Type 0} (table : TableView) (becomes : G → Event → G → Type 0) (recs : List Rec) (a b : SeatView × G) (g : GivesUpAll table becomes recs a b) where
   pub given_works : Works table becomes a b

@@ -2,7 +2,7 @@
 use Rattle.std.proofs.Common.{◌≡◌, ◌≢◌, inl, inr, ℕ, ◌≤◌, List, [], ◌∷◌, ◌++◌, true, false, nat_eq, Option, Some, None, IsSome, refl, sym, ap, subst, ◌∙◌, arith}
 use Rattle.std.specs.Prelude.{All, Contains}
 use Rattle.std.proofs.lemmas.Bool.{eqb-true}
-use Rattle.std.proofs.lemmas.List.Elements.{All-append, All-cons, All-head, All-tail}
+use Rattle.std.proofs.lemmas.List.Elements.{All-append, All-cons, All-head, All-tail, All-weaker}
 use Rattle.record_words.specs.declared.state.Tag.TheVariants.{Live}
 use Rattle.record_words.specs.State.{state_word}
 use Rattle.record_words.specs.declared.layout.Layout.{Layout}
@@ -31,19 +31,20 @@ use Rattle.rowex_table.proofs.ActsLeave as leave
 use Rattle.rowex_table.proofs.Running.{runs_one, runs_append, runs_same}
 use Rattle.rowex_rights.specs.Stages.{IsSure}
 use Rattle.rowex_rights.proofs.Loops.{later_same, later_on}
-use Rattle.rowex_writing.specs.Locks.{Works, IsTakenWord, LocksOne, LocksAnchor, IsRefusedLock}
+use Rattle.rowex_writing.proofs.Runs.{plain_recalls}
+use Rattle.rowex_writing.specs.Locks.{Works, IsPlain, IsTakenWord, LocksOne, LocksAnchor, IsRefusedLock}
 
 module _ {G : Type 0} (table : TableView) (becomes : G → Event → G → Type 0) where
   pub works_none : (a : SeatView × G) → Works table becomes a a
   works_none a = record { acts = []; plain = λ i d low. absurd (omega arith); steps = refl }
 
-  pub works_one : (act : Act) (a b : SeatView × G) → KeepsRecall act → Steps table becomes act a b → Works table becomes a b
-  works_one act a b plain s = record { acts = act ∷ []; plain = All-cons KeepsRecall act [] plain (λ i d low. absurd (omega arith)); steps = runs_one table becomes act a b s }
+  pub works_one : (act : Act) (a b : SeatView × G) → IsPlain act → Steps table becomes act a b → Works table becomes a b
+  works_one act a b plain s = record { acts = act ∷ []; plain = All-cons IsPlain act [] plain (λ i d low. absurd (omega arith)); steps = runs_one table becomes act a b s }
 
   pub works_more : (a m b : SeatView × G) → Works table becomes a m → Works table becomes m b → Works table becomes a b
   works_more a m b first second = record {
     acts = first.acts ++ second.acts;
-    plain = All-append KeepsRecall first.acts second.acts first.plain second.plain;
+    plain = All-append IsPlain first.acts second.acts first.plain second.plain;
     steps = runs_append table becomes first.acts second.acts a m b first.steps second.steps;
   }
 
@@ -58,7 +59,7 @@ module _ {G : Type 0} (table : TableView) (becomes : G → Event → G → Type 
       (later_runs acts m b (All-tail KeepsRecall act acts plain) more)
 
   pub works_later : (a b : SeatView × G) → Works table becomes a b → IsLater a.0.known b.0.known
-  works_later a b w = later_runs w.acts a b w.plain w.steps
+  works_later a b w = later_runs w.acts a b (All-weaker IsPlain KeepsRecall plain_recalls w.acts w.plain) w.steps
 
   count_runs : (acts : List Act) (a b : SeatView × G) → Runs table becomes acts a b → a.0.known.steps ≤ b.0.known.steps
   count_runs [] a b e = let z : b.0.known.steps ≡ a.0.known.steps = ap (λ (z : SeatView × G). z.0.known.steps) e in omega arith

@@ -101,6 +101,19 @@ abbrev pub IsSplit : Risen → Type 0
 IsSplit (Whole e) = ⊥
 IsSplit (Split position zero one) = Unit {0}
 
+-- what has risen is one entry
+abbrev pub IsSingle : Risen → Type 0
+IsSingle (Whole e) = Unit {0}
+IsSingle (Split position zero one) = ⊥
+
+-- the entry is at most one higher than this, and no higher where what has risen is one entry
+abbrev pub IsNextTo : ℕ → Risen → Entry → Type 0
+IsNextTo height risen e = (height_of e ≤ height + 1) × (IsSingle risen → height_of e ≤ height)
+
+-- the entry is at most one higher than the node with these words, and no higher where that has room
+abbrev pub FitsAbove : List ℕ → Entry → Type 0
+FitsAbove words e = (height_of e ≤ (node_of words).fixed.height + 1) × (size (node_of words).page < 32 → height_of e ≤ (node_of words).fixed.height)
+
 -- ---- at the lower end
 -- The leaf of x is made and nothing else, and the locked node is where it goes: beside these entries.
 pub record IsLowest (table : TableView) (a : SeatView) (made : List Rec) (key : Key) (number position first last leaf : ℕ) : Type 0 where
@@ -159,6 +172,7 @@ pub record IsUp (table : TableView) (a : SeatView) (made : List Rec) (way : List
   pub raising : IsRaising table a made news gone since item mismatch like entry step.number (page_of risen)
   pub low : (other : List ℕ) → HasLocked a.known step.number other → IsLowRisen (node_of other).fixed.height risen
   pub split : end < level → IsSplit risen
+  pub single : (other : List ℕ) → HasLocked a.known step.number other → size (node_of other).page < 32 → IsSingle risen
   pub chain : IsChain table.layout.nodes a.known.locks way item.key mismatch end level
 
 -- the nodes of the way from `end` on, before `level`, go too

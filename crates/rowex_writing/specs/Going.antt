@@ -1,5 +1,5 @@
 -- How a pass goes on under its locks.
-use Rattle.std.specs.Prelude.{◌≡◌, ℕ, List}
+use Rattle.std.specs.Prelude.{◌≡◌, ℕ, List, All}
 use Rattle.compound_node.specs.Nodes.{NodeView, head_of, piece}
 use Rattle.record_words.specs.Node.{HasNodeWords, node_words}
 use Rattle.moments.specs.Trades.{IsOf}
@@ -9,11 +9,13 @@ use Rattle.rowex_core.specs.declared.event.Event.{Event}
 use Rattle.rowex_core.specs.declared.known.Known.{Known}
 use Rattle.rowex_table.specs.Runs.{Runs}
 use Rattle.rowex_table.specs.Seats.{TableView, SeatView}
+use Rattle.rowex_table.specs.Stays.{KeepsRecall}
 use Rattle.rowex_rights.specs.Loops.{StaysLocked}
 
 -- The pass makes steps of which the gate is told; it recalls all that it did, and has locked what it had locked.
 pub record WorksOn {G : Type 0} (table : TableView) (becomes : G → Event → G → Type 0) (a b : SeatView × G) : Type 0 where
   pub acts : List Act
+  pub plain : All KeepsRecall acts
   pub steps : Runs table becomes acts a b
   pub stays : StaysLocked a.0.known b.0.known
 

@@ -5,3 +5,11 @@ pub mod Going
 pub mod Building
 pub mod Locks
 pub mod Retiring
+pub mod Ways
+pub mod Checks
+pub mod Changes
+pub mod Taking
+pub mod Putting
+pub mod Attempts
+pub mod Growths
+pub mod Counts

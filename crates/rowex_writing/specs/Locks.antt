@@ -8,7 +8,9 @@ use Rattle.record_words.specs.State.{state_word}
 use Rattle.moments.specs.Trades.{IsOf, AreApart}
 use Rattle.rowex_walks.specs.Scan.{IsSeen}
 use Rattle.rowex_core.specs.declared.event.Act.{Act}
+use Rattle.rowex_core.specs.declared.event.Act.TheVariants.{LoadRef}
 use Rattle.rowex_core.specs.declared.event.Event.{Event}
+use Rattle.rowex_core.specs.declared.event.Spot.TheVariants.{Root}
 use Rattle.rowex_core.specs.declared.event.Target.{Target}
 use Rattle.rowex_core.specs.declared.known.Failed.{Failed}
 use Rattle.rowex_core.specs.declared.known.Known.{Known}
@@ -22,10 +24,15 @@ use Rattle.rowex_table.specs.Seats.{TableView, SeatView}
 use Rattle.rowex_rights.specs.Stages.{IsSure}
 use Rattle.rowex_writing.specs.declared.plan.Span.{Span}
 
--- The pass makes steps of which the gate is told, and recalls after each all that it did before.
+-- a step that is no load of the root, and after which the pass recalls all that it did before
+abbrev pub IsPlain : Act → Type 0
+IsPlain (LoadRef Root w) = ⊥
+IsPlain act = KeepsRecall act
+
+-- The pass makes steps of which the gate is told, and recalls after each all that it did before; none of them loads the root.
 pub record Works {G : Type 0} (table : TableView) (becomes : G → Event → G → Type 0) (a b : SeatView × G) : Type 0 where
   pub acts : List Act
-  pub plain : All KeepsRecall acts
+  pub plain : All IsPlain acts
   pub steps : Runs table becomes acts a b
 
 -- no node is locked by the pass, and the anchor is not
@@ -64,14 +71,18 @@ pub record HasLockedSpan (k : Known) (way : List Step) (span : Span) : Type 0 wh
 abbrev pub IsTakenWord : ℕ → Type 0
 IsTakenWord w = (w ≡ state_word LockedTag) ⊎ ((epoch : ℕ) × (w ≡ state_word (Obsolete epoch)))
 
--- From k on a lock of the pass found what it wanted to lock taken.
-pub record HasMetLock (k j : Known) : Type 0 where
+-- Of these failed steps one, at step `since` or later, is a lock that found taken what it wanted to lock.
+pub record HasMetTaken (since : ℕ) (tried : List Failed) : Type 0 where
   pub target : Target
   pub failed : Failed
-  pub is : Contains j.failed failed
+  pub is : Contains tried failed
   pub place : failed.location ≡ target_word target
   pub word : IsTakenWord failed.word
-  pub now : k.steps ≤ failed.step
+  pub now : since ≤ failed.step
+
+-- from k on a lock of the pass was such a one
+abbrev pub HasMetLock : Known → Known → Type 0
+HasMetLock k j = HasMetTaken k.steps j.failed
 
 -- The parts
 

@@ -1,5 +1,5 @@
 -- What a call does, by what it asks for and where its search ended.
-use Rattle.std.specs.Prelude.{◌≡◌, ℕ, ◌+◌, ◌-◌, List, [], ◌∷◌, length, Some, None}
+use Rattle.std.specs.Prelude.{◌≡◌, ℕ, ◌+◌, ◌-◌, ◌≤◌, List, [], ◌∷◌, length, Some, None}
 use Rattle.hot_model.specs.declared.Reply.TheVariants.{Exists, Absent}
 use Rattle.insert_cases.specs.declared.choice.Case.{Case}
 use Rattle.insert_cases.specs.declared.choice.Case.TheVariants.{LeafPushdown, NormalInsert, Overflow}
@@ -61,8 +61,17 @@ IsBesideFound way position (Known plan) = (first last : ℕ) → IsNewLeafPlan w
 IsBesideFound way position (Beside at level) = (at ≡ position) × IsLevel way position level ×
     ((first last : ℕ) (plan : Plan) → IsBeside way position level first last plan → IsNewLeafPlan way position first last plan)
 
--- the plan, whichever they are; or the level at which they tell it
+-- the search ended at a leaf whose key differs first at this position
+abbrev pub DiffersAt : Found → ℕ → Type 0
+DiffersAt found position = (number : ℕ) × (value : ℕ) × (found ≡ Leaf number value (Some position))
+
+-- the plan, whichever they are; or the level at which they tell it, for a position at which the found leaf's key differs
 abbrev pub IsOutline : List Step → Ask → Found → Outline → Type 0
 IsOutline way ask found (Known plan) = (first last : ℕ) → IsPlan way first last ask found plan
-IsOutline way ask found (Beside position level) = IsLevel way position level ×
+IsOutline way ask found (Beside position level) = DiffersAt found position × IsLevel way position level ×
     ((first last : ℕ) (plan : Plan) → IsBeside way position level first last plan → IsPlan way first last ask found plan)
+
+-- the nodes of a plan's span are those of a part of the way
+abbrev pub LiesOnWay : List Step → Plan → Type 0
+LiesOnWay way (Answer reply) = Unit {0}
+LiesOnWay way (Change span deed) = (span.end ≤ span.len) × (span.len ≤ length way)

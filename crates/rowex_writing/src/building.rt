@@ -1,10 +1,11 @@
 //! Records for what takes a node's place.
 
-ghost use Rattle.std.specs.Prelude.{◌≡◌, ◌<◌, ◌≤◌, ◌+◌, ◌-◌, ◌*◌, ◌++◌, ◌∷◌, [], List, ℕ, length, IfSome, MatchOption};
+ghost use Rattle.std.specs.Prelude.{◌≡◌, ◌<◌, ◌≤◌, ◌+◌, ◌-◌, ◌*◌, ◌++◌, ◌∷◌, [], List, ℕ, length, slice_get, IfSome, MatchOption, Some};
+ghost use Rattle.insert_cases.specs.declared.choice.Step.{Step as StepView};
 ghost use Rattle.record_words.specs.Node.{HasNodeWords};
 ghost use Rattle.rowex_table.specs.Made.{Made};
 ghost use Rattle.rowex_rights.specs.Rises.{of_view, IsSide};
-ghost use Rattle.rowex_writing.specs.Building.{IsBelow, IsBuilding, IsGrowing, IsHalfMade, IsLowest, IsLowRisen, IsMadeFrom, IsRaising, IsRisenAt, IsSplit, IsUp, HasNotMade, HasRisenTo, gone_unless, gone_with};
+ghost use Rattle.rowex_writing.specs.Building.{IsBelow, IsBuilding, IsGrowing, IsHalfMade, IsLowest, IsLowRisen, IsMadeFrom, IsNextTo, IsRaising, IsRisenAt, IsSingle, IsSplit, IsUp, FitsAbove, HasNotMade, HasRisenTo, gone_unless, gone_with};
 ghost use Rattle.rowex_writing.specs.Going.{WorksOn, HasLocked, IsLockedBy};
 ghost use Rattle.rowex_writing.specs.Remaking.{IsTreePage};
 ghost use Rattle.compound_node.specs.Nodes.{height_of};
@@ -17,6 +18,7 @@ ghost use Rattle.insert_cases.specs.Risen.{page_of};
 ghost use Rattle.moments.specs.declared.Rec.TheVariants.{Node as a_node};
 ghost use Rattle.rowex_core.specs.Reading.{node_of};
 ghost use Rattle.rowex_walks.specs.Rise.{entry};
+ghost use Rattle.rowex_writing.specs.Counts.{level_steps, node_steps};
 
 use crate::locked::read_locked;
 use crate::remaking::{pair_with_leaf, with_fork, with_leaf, without_leaf};
@@ -31,13 +33,20 @@ use rowex_table::{HotTable, TableSeat};
 /// The most records that one change makes: a leaf, two nodes for each node of the longest way, and one above them.
 pub const MOST_MADE: usize = 4_322;
 
+/// The most records that one change unlinks: the nodes of the longest way, and a leaf.
+pub const MOST_GONE: usize = 2_161;
+
 /// The records that a pass has made for a change: claimed, and filled with their words.
 #[derive(Drop)]
 pub struct Build {
     /// The records, the first one made first.
     pub made: ArrayVec<Rec, MOST_MADE>,
+    /// The records that the change unlinks, as it lists them.
+    pub gone: ArrayVec<Rec, MOST_GONE>,
     /// The number after that of the node record that was claimed last.
-    pub next: u32,
+    pub next_node: u32,
+    /// The number after that of the leaf record that was claimed last.
+    pub next_leaf: u32,
 }
 
 /// Makes a record for a node; answers its entry, or nothing where no node record was free.
@@ -56,9 +65,10 @@ fn make_node<G: Gate>(
         (λ e. (number : ℕ) × (e ≡ Entry.Node number node.now.height) × HasNodeWords node.now ×
         IsBuilding table.now seat.new build.new.made.items (of_view number node.now ∷ news)) }
     ensures more { length build.new.made.items ≤ length build.old.made.items + 1 }
+    ensures few { seat.new.known.steps ≤ seat.old.known.steps + node_steps table.now.layout }
 {
-    let number = claim_node(table, seat, gate, build.next)?;
-    build.next = number.wrapping_add(1);
+    let number = claim_node(table, seat, gate, build.next_node)?;
+    build.next_node = number.wrapping_add(1);
     fill_node(table, seat, gate, number, node);
     build.made.push(Rec::Node(number));
     Some(Entry::Node {
@@ -83,6 +93,7 @@ fn make_half<G: Gate>(
         (HasNotMade table.now seat.old seat.new build.new.made.items)
         (λ e. (more : List Made) × IsHalfMade old half.now e more × IsBuilding table.now seat.new build.new.made.items (more ++ news)) }
     ensures more { length build.new.made.items ≤ length build.old.made.items + 1 }
+    ensures few { seat.new.known.steps ≤ seat.old.known.steps + node_steps table.now.layout }
 {
     match half {
         Half::One(entry) => Some(*entry),
@@ -108,6 +119,7 @@ fn make_risen<G: Gate>(
         (HasNotMade table.now seat.old seat.new build.new.made.items)
         (λ risen. (after : List Made) × IsMadeFrom old grown.now risen news after × IsBuilding table.now seat.new build.new.made.items after) }
     ensures more { length build.new.made.items ≤ length build.old.made.items + 2 }
+    ensures few { seat.new.known.steps ≤ seat.old.known.steps + 2 * node_steps table.now.layout }
 {
     match grown {
         Grown::One(node) => {
@@ -148,7 +160,9 @@ fn raise_level<G: Gate>(
         IsRaising table.now seat.new build.new.made.items after (a_node number ∷ b.gone) b.since b.item b.mismatch b.like entry number (page_of risen)) }
     ensures low { (words : List ℕ) → HasLocked seat.old.known number words → IfSome result (IsLowRisen (node_of words).fixed.height) }
     ensures split { (words : List ℕ) → HasLocked seat.old.known number words → size (node_of words).page ≡ 32 → IfSome result IsSplit }
+    ensures single { (words : List ℕ) → HasLocked seat.old.known number words → size (node_of words).page < 32 → IfSome result IsSingle }
     ensures more { length build.new.made.items ≤ length build.old.made.items + 2 }
+    ensures few { seat.new.known.steps ≤ seat.old.known.steps + level_steps table.now.layout }
 {
     let node = read_locked(table, seat, gate, number);
     let grown = with_fork(&node, key, position, zero, one);
@@ -182,7 +196,9 @@ fn raise_lowest<G: Gate>(
         IsRaising table.now seat.new build.new.made.items after (gone_unless r.1 number) b.since b.item position b.like entry number (page_of r.0)) }
     ensures low { (words : List ℕ) → HasLocked seat.old.known number words → IfSome result (λ r. IsLowRisen (node_of words).fixed.height r.0) }
     ensures split { (words : List ℕ) → HasLocked seat.old.known number words → size (node_of words).page ≡ 32 → IfSome result (λ r. IsSplit r.0) }
+    ensures single { (words : List ℕ) → HasLocked seat.old.known number words → size (node_of words).page < 32 → IfSome result (λ r. IsSingle r.0) }
     ensures more { length build.new.made.items ≤ length build.old.made.items + 2 }
+    ensures few { seat.new.known.steps ≤ seat.old.known.steps + level_steps table.now.layout }
 {
     let node = read_locked(table, seat, gate, number);
     let grown = with_leaf(&node, key, position, first, last, leaf);
@@ -233,6 +249,7 @@ pub fn raise_without<G: Gate>(
         (HasNotMade table.now seat.old seat.new build.new.made.items)
         (λ e. (news : List Made) × IsSide (page_without key.now (node_of words).page) e news × IsBuilding table.now seat.new build.new.made.items news) }
     ensures low { (words : List ℕ) → HasLocked seat.old.known number words → IfSome result (λ e. height_of e ≤ (node_of words).fixed.height) }
+    ensures few { seat.new.known.steps ≤ seat.old.known.steps + level_steps table.now.layout }
 {
     let node = read_locked(table, seat, gate, number);
     let half = without_leaf(&node, key);
@@ -262,6 +279,7 @@ pub fn raise_pair<G: Gate>(
         (HasNotMade table.now seat.old seat.new build.new.made.items)
         (λ e. (more : List Made) × IsSide (page_forked (bit key.now position) position (Entry.Leaf leaf) (At old)) e more ×
         IsBuilding table.now seat.new build.new.made.items (more ++ news)) }
+    ensures few { seat.new.known.steps ≤ seat.old.known.steps + node_steps table.now.layout }
 {
     let node = pair_with_leaf(key, position, old, leaf);
     make_node(table, seat, gate, build, &node)
@@ -282,7 +300,9 @@ fn settle<G: Gate>(
     ensures made { (b : IsRisenAt table.now seat.old build.old.made.items number risen) → MatchOption result
         (HasNotMade table.now seat.old seat.new build.new.made.items)
         (λ e. (after : List Made) × IsRaising table.now seat.new build.new.made.items after b.gone b.since b.item b.mismatch b.like entry number (At e)) }
+    ensures low { (height : ℕ) → IsLowRisen height risen → IfSome result (IsNextTo height risen) }
     ensures more { length build.new.made.items ≤ length build.old.made.items + 1 }
+    ensures few { seat.new.known.steps ≤ seat.old.known.steps + node_steps table.now.layout }
 {
     match risen {
         Risen::Whole(entry) => Some(entry),
@@ -315,6 +335,8 @@ fn raise_on<G: Gate>(
     ensures made { (b : IsUp table.now seat.old build.old.made.items way.now key.now end level risen) → MatchOption result
         (HasNotMade table.now seat.old seat.new build.new.made.items)
         (HasRisenTo table.now seat.new build.new.made.items way.now b.since b.item b.mismatch b.like end (gone_with way.now end level b.gone)) }
+    ensures low { (s : StepView) (words : List ℕ) → slice_get way.now end ≡ Some s → HasLocked seat.old.known s.number words → IfSome result (FitsAbove words) }
+    ensures few { seat.new.known.steps ≤ seat.old.known.steps + (level - end + 1) * level_steps table.now.layout }
 {
     if level == end {
         return settle(table, seat, gate, build, way[level].number, risen);
@@ -357,6 +379,8 @@ pub fn raise_grown<G: Gate>(
         (HasNotMade table.now seat.old seat.new build.new.made.items)
         (λ r. HasRisenTo table.now seat.new build.new.made.items way.now b.lowest.since b.lowest.item position b.lowest.like end
         (gone_with way.now end top (gone_unless r.1 b.step.number)) r.0) }
+    ensures low { (s : StepView) (words : List ℕ) → slice_get way.now end ≡ Some s → HasLocked seat.old.known s.number words → IfSome result (λ r. FitsAbove words r.0) }
+    ensures few { seat.new.known.steps ≤ seat.old.known.steps + (top - end + 2) * level_steps table.now.layout }
 {
     let number = way[top].number;
     let (risen, stays) = raise_lowest(

@@ -1,6 +1,6 @@
 //! The end of a change: what it has unlinked is marked, and what it keeps is unlocked.
 
-ghost use Rattle.std.specs.Prelude.{◌≡◌, ◌<◌, []};
+ghost use Rattle.std.specs.Prelude.{◌≡◌, ◌<◌, [], ◌≤◌, ◌+◌, length};
 ghost use Rattle.record_words.specs.declared.TheConstants.{EPOCHS};
 ghost use Rattle.rowex_records.specs.Records.{HoldsJust};
 ghost use Rattle.rowex_rights.specs.Ending.{IsAtRest};
@@ -32,6 +32,7 @@ pub fn retire<G: Gate>(
     ensures works { Works table.now G.becomes (seat.old, gate.old) (seat.new, gate.new) }
     ensures rest { IsAtRest seat.new.known }
     ensures front { seat.new.known.front ≡ seat.old.known.front }
+    ensures few { seat.new.known.steps ≤ seat.old.known.steps + length gone.now + length kept.now + 2 }
 {
     let epoch = table.load_epoch(seat, gate);
     mark_all(table, seat, gate, gone, epoch);
@@ -59,6 +60,7 @@ pub fn undo<G: Gate>(
     requires anchored { IsAnchored anchor seat.old.known }
     ensures works { Works table.now G.becomes (seat.old, gate.old) (seat.new, gate.new) }
     ensures rest { IsAtRest seat.new.known }
+    ensures few { seat.new.known.steps ≤ seat.old.known.steps + length held.now + length locked.now + 1 }
 {
     give_up_all(table, seat, gate, held);
     unlock_nodes(table, seat, gate, locked);
@@ -76,6 +78,7 @@ fn mark_all<G: Gate>(table: &HotTable, seat: &mut TableSeat, gate: &mut G, recs:
     ensures works { Works table.now G.becomes (seat.old, gate.old) (seat.new, gate.new) }
     ensures marked { seat.new.known.own ≡ [] }
     ensures same { LeavesLocks seat.old.known seat.new.known }
+    ensures few { seat.new.known.steps ≤ seat.old.known.steps + length recs.now }
 {
     for index in 0..recs.len() {
         table.mark(seat, gate, recs[index], epoch);

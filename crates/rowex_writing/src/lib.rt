@@ -1,16 +1,34 @@
 //! The writers of a shared trie: what a call does to the index, and what it builds for that.
 #![tactic(auto)]
 
+mod attempts;
 mod building;
+mod checking;
+mod descent;
 mod ending;
+mod finding;
+mod growing;
 mod locked;
 mod locks;
+mod pairing;
 mod plan;
+mod publishing;
+mod putting;
 mod remaking;
+mod taking;
 
-pub use building::{Build, MOST_MADE, raise_grown, raise_pair, raise_without};
+pub use attempts::{TryFault, attempt};
+pub use building::{Build, MOST_GONE, MOST_MADE, raise_grown, raise_pair, raise_without};
+pub use checking::check_span;
+pub use descent::{MOST_NODES, search_way};
 pub use ending::{retire, undo};
+pub use finding::find_plan;
+pub use growing::grow_node;
 pub use locked::read_locked;
 pub use locks::{lock_span, unlock_nodes};
-pub use plan::{Ask, Deed, Found, Outline, Plan, Span, plan_beside, plan_call};
+pub use pairing::pair_leaf;
+pub use plan::{Ask, Deed, Found, Full, Outline, Plan, Span, plan_beside, plan_call};
+pub use publishing::{make_leaf, publish_change};
+pub use putting::put_leaf;
 pub use remaking::{pair_with_leaf, with_fork, with_leaf, without_leaf};
+pub use taking::take_leaf;

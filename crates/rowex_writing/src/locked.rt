@@ -1,6 +1,6 @@
 //! What a pass reads of a node that it has locked.
 
-ghost use Rattle.std.specs.Prelude.{◌≡◌, ◌<◌, ℕ, List, get_or};
+ghost use Rattle.std.specs.Prelude.{◌≡◌, ◌<◌, ℕ, List, get_or, ◌≤◌, ◌+◌};
 ghost use Rattle.compound_node.specs.Nodes.{NodeView};
 ghost use Rattle.rowex_table.specs.Seats.{IsSeatOf};
 ghost use Rattle.rowex_writing.specs.Going.{ReadsOn, HasLocked, IsLockedBy, IsNodeOf};
@@ -22,6 +22,7 @@ pub fn read_locked<G: Gate>(
     requires locked { IsLockedBy seat.old.known number }
     ensures reads { ReadsOn table.now G.becomes (seat.old, gate.old) (seat.new, gate.new) }
     ensures node { (words : List ℕ) → HasLocked seat.old.known number words → IsNodeOf words result }
+    ensures few { seat.new.known.steps ≤ seat.old.known.steps + NODE_FIELDS }
 {
     let mut words = [0; NODE_FIELDS];
     for index in 0..NODE_FIELDS {
@@ -44,6 +45,7 @@ fn load_word<G: Gate>(
     ensures reads { ReadsOn table.now G.becomes (seat.old, gate.old) (seat.new, gate.new) }
     ensures word { (words : List ℕ) → HasLocked seat.old.known number words → result ≡ get_or words index 0 }
     ensures spelled { (words : List ℕ) → HasLocked seat.old.known number words → (view : NodeView) × IsNodeOf words view }
+    ensures few { seat.new.known.steps ≤ seat.old.known.steps + 1 }
 {
     if index < HEAD_WORDS {
         table.load_fixed(seat, gate, Rec::Node(number), index as u8 + 1)

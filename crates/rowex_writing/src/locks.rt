@@ -1,6 +1,6 @@
 //! The locks of a writer: those of a span of the way, taken upwards, and given back.
 
-ghost use Rattle.std.specs.Prelude.{◌≡◌, ◌≤◌, [], ◌∷◌, length, true, false};
+ghost use Rattle.std.specs.Prelude.{◌≡◌, ◌≤◌, [], ◌∷◌, length, true, false, ◌+◌, ◌*◌};
 ghost use Rattle.rowex_table.specs.Seats.{IsSeatOf};
 ghost use Rattle.rowex_writing.specs.Locks.{AreLed, AreNodes, HasJustLocked, HasLockedSpan, HasMetLock, HasNoLock, IsRefusedLock, LeavesRest, LocksAnchor, LocksOne, Works, numbers_of};
 
@@ -28,6 +28,7 @@ pub fn lock_span<G: Gate>(
     ensures same { seat.new.known.own ≡ seat.old.known.own }
     ensures locked { result ≡ true → HasLockedSpan seat.new.known way.now span }
     ensures refused { result ≡ false → HasNoLock seat.new.known × HasMetLock seat.old.known seat.new.known }
+    ensures few { seat.new.known.steps ≤ seat.old.known.steps + 2 * span.len + 1 }
 {
     let first = span.end.saturating_sub(1);
     let mut index = span.len;
@@ -55,6 +56,7 @@ fn lock_node<G: Gate>(table: &HotTable, seat: &mut TableSeat, gate: &mut G, step
     ensures works { Works table.now G.becomes (seat.old, gate.old) (seat.new, gate.new) }
     ensures locked { result ≡ true → LocksOne step.number seat.old.known seat.new.known }
     ensures refused { result ≡ false → IsRefusedLock seat.old.known seat.new.known }
+    ensures few { seat.new.known.steps ≤ seat.old.known.steps + 1 }
 {
     let found = table.lock(seat, gate, Target::Node(step.number));
     found == pack_state(Tag::Live)
@@ -66,6 +68,7 @@ fn lock_anchor<G: Gate>(table: &HotTable, seat: &mut TableSeat, gate: &mut G) ->
     ensures works { Works table.now G.becomes (seat.old, gate.old) (seat.new, gate.new) }
     ensures locked { result ≡ true → LocksAnchor seat.old.known seat.new.known }
     ensures refused { result ≡ false → IsRefusedLock seat.old.known seat.new.known }
+    ensures few { seat.new.known.steps ≤ seat.old.known.steps + 1 }
 {
     let found = table.lock(seat, gate, Target::Anchor);
     found == pack_state(Tag::Live)
@@ -79,6 +82,7 @@ pub fn unlock_nodes<G: Gate>(table: &HotTable, seat: &mut TableSeat, gate: &mut 
     ensures works { Works table.now G.becomes (seat.old, gate.old) (seat.new, gate.new) }
     ensures free { seat.new.known.locks ≡ [] }
     ensures rest { LeavesRest seat.old.known seat.new.known }
+    ensures few { seat.new.known.steps ≤ seat.old.known.steps + length steps.now }
 {
     for index in 0..steps.len() {
         table.unlock(seat, gate, Target::Node(steps[index].number));

@@ -6,6 +6,7 @@ ghost use Rattle.rowex_writing.specs.Plans.{change as a_change, IsOutline, IsBes
 
 use hot_model::Reply;
 use insert_cases::{Case, Step, chain_end, choose, level_below};
+use thiserror::Error;
 
 /// What a call asks for.
 #[derive(Clone, Copy, Debug, PartialEq, Eq)]
@@ -62,6 +63,17 @@ pub enum Plan {
     Answer(Reply),
     /// It makes this change.
     Change { span: Span, deed: Deed },
+}
+
+/// The kind of record of which none was free.
+#[derive(Clone, Copy, Debug, PartialEq, Eq, Error)]
+pub enum Full {
+    /// No node record was free.
+    #[error("no node record is free")]
+    Nodes,
+    /// No leaf record was free.
+    #[error("no leaf record is free")]
+    Leaves,
 }
 
 /// What a call does, as far as the way and the search's end tell it.

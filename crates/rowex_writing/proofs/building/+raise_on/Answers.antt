@@ -1,10 +1,14 @@
 -- One level, and then the rest of the way up.
-use Rattle.std.proofs.Common.{◌≡◌, ◌≢◌, ℕ, ◌+◌, ◌-◌, ◌<◌, ◌≤◌, List, length, get_or, ap, arith, rules, Some}
+use Rattle.std.proofs.Common.{◌≡◌, ◌≢◌, ℕ, ◌+◌, ◌-◌, ◌<◌, ◌≤◌, List, length, get_or, ap, sym, subst, ◌∙◌, arith, rules, Some}
 use Rattle.std.specs.Prelude.{slice_get}
 use Rattle.std.proofs.lemmas.Option.{slice_get-get_or, slice_get_within, get_or_from_slice_get}
 use Rattle.insert_cases.specs.declared.choice.Step.{Step}
+use Rattle.insert_cases.proofs.Choosing.{same_some}
+use Rattle.moments.specs.Trades.{IsOf}
+use Rattle.rowex_core.specs.Reading.{node_of}
+use Rattle.rowex_writing.specs.Going.{HasLocked}
 use Rattle.rowex_writing.proofs.Locking.{goes_more}
-use Rattle.rowex_writing.proofs.Lifting.{up_there, up_below, up_next, up_end, settled_up, up_done}
+use Rattle.rowex_writing.proofs.Lifting.{fits_above, up_there, up_below, up_next, up_end, settled_up, up_done}
 use Rattle.rowex_writing.proofs.building.+raise_on.Goals as goal
 
 abbrev no_step : Step
@@ -75,7 +79,7 @@ raise_on-requires g t c =
         le,
         (
           up_next c.args.table.now c.args.seat.now c.args.build.now.made.items c.args.way.now c.args.key.now c.args.end c.args.level c.args.risen up (c.args.level - 1)
-              (next c.args.level c.args.end c.if-level-end.false up.upto) (upto c.args.level c.args.end c.if-level-end.false up.upto) (step_at c.args.way.now (c.args.level - 1)) (there c.args.way.now c.args.level c.args.end up.step up.at) c.raise_level.new.seat c.raise_level.new.build.made.items c.in_ok-next-in-Split.next c.in_ok-next-in-Split.ensures.goes.stays.1 after raising c.in_ok-next-in-Split.ensures.low c.in_ok-next-in-Split.ensures.split,
+              (next c.args.level c.args.end c.if-level-end.false up.upto) (upto c.args.level c.args.end c.if-level-end.false up.upto) (step_at c.args.way.now (c.args.level - 1)) (there c.args.way.now c.args.level c.args.end up.step up.at) c.raise_level.new.seat c.raise_level.new.build.made.items c.in_ok-next-in-Split.next c.in_ok-next-in-Split.ensures.goes.stays.1 after raising c.in_ok-next-in-Split.ensures.low c.in_ok-next-in-Split.ensures.split c.in_ok-next-in-Split.ensures.single,
           omega (arith, c.requires.room, c.in_ok-next-in-Split.ensures.more),
         ),
       ),
@@ -92,4 +96,14 @@ returns-clause-made g t c = λ up.
     (c.args.level - 1) c.args.level up.gone (step_at c.args.way.now (c.args.level - 1)) (next c.args.level c.args.end c.if-level-end.false up.upto) (upto c.args.level c.args.end c.if-level-end.false up.upto)
     (there c.args.way.now c.args.level c.args.end up.step up.at) c.in_ok-next-in-Split.ensures.goes c.raise_on.result
     (c.raise_on.ensures.made (up_next c.args.table.now c.args.seat.now c.args.build.now.made.items c.args.way.now c.args.key.now c.args.end c.args.level c.args.risen up (c.args.level - 1)
-    (next c.args.level c.args.end c.if-level-end.false up.upto) (upto c.args.level c.args.end c.if-level-end.false up.upto) (step_at c.args.way.now (c.args.level - 1)) (there c.args.way.now c.args.level c.args.end up.step up.at) c.raise_level.new.seat c.raise_level.new.build.made.items c.in_ok-next-in-Split.next c.in_ok-next-in-Split.ensures.goes.stays.1 after raising c.in_ok-next-in-Split.ensures.low c.in_ok-next-in-Split.ensures.split))
+    (next c.args.level c.args.end c.if-level-end.false up.upto) (upto c.args.level c.args.end c.if-level-end.false up.upto) (step_at c.args.way.now (c.args.level - 1)) (there c.args.way.now c.args.level c.args.end up.step up.at) c.raise_level.new.seat c.raise_level.new.build.made.items c.in_ok-next-in-Split.next c.in_ok-next-in-Split.ensures.goes.stays.1 after raising c.in_ok-next-in-Split.ensures.low c.in_ok-next-in-Split.ensures.split c.in_ok-next-in-Split.ensures.single))
+
+pub returns-then-level-end-clause-low : goal.returns-then-level-end-clause-low
+returns-then-level-end-clause-low g t c = λ s words at h.
+    let b = c.requires.up in
+    let same : s ≡ b.step = same_some (sym at ∙ (ap (slice_get c.args.way.now) (sym c.if-level-end.true) ∙ b.at)) in
+    let here = subst (λ (z : Step). HasLocked c.args.seat.now.known z.number words) same h in
+    fits_above words c.args.risen c.settle.result (b.single words here) (c.settle.ensures.low (node_of words).fixed.height (b.low words here))
+
+pub returns-clause-low : goal.returns-clause-low
+returns-clause-low g t c = λ s words at h. c.raise_on.ensures.low s words at (subst (IsOf (record { node = s.number; words = words })) (sym c.in_ok-next-in-Split.ensures.goes.stays.1) h)

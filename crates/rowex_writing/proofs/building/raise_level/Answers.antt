@@ -5,7 +5,7 @@ use Rattle.compound_node.specs.declared.entries.Entry.TheVariants.{Node}
 use Rattle.rowex_table.specs.Made.{Made}
 use Rattle.rowex_writing.specs.Building.{IsBuilding, IsMadeFrom, HasNotMade}
 use Rattle.rowex_writing.proofs.Locking.{goes_more}
-use Rattle.rowex_writing.proofs.Lifting.{lift_tree, lift_zero, lift_one, lift_building, lifted, low_level, split_level}
+use Rattle.rowex_writing.proofs.Lifting.{lift_tree, lift_zero, lift_one, lift_building, lifted, low_level, single_level, split_level}
 use Rattle.rowex_writing.proofs.building.raise_level.Goals as goal
 
 pub with_fork-grown-requires-clause-tree : goal.with_fork-grown-requires-clause-tree
@@ -60,5 +60,15 @@ returns-clause-split g c = λ words h full.
     b c.read_locked-node.ensures.reads c.read_locked-node.result c.read_locked-node.ensures.node in
     split_level words c.read_locked-node.result (Node c.args.number c.read_locked-node.result.height) c.with_fork-grown.result c.make_risen.result _ b.news (λ risen after. IsBuilding c.args.table.now c.make_risen.new.seat c.make_risen.new.build.made.items after)
     (c.read_locked-node.ensures.node words h) c.with_fork-grown.ensures.whole full
+    (subst (λ z. MatchOption c.make_risen.result (HasNotMade c.args.table.now c.read_locked-node.new.seat c.make_risen.new.seat c.make_risen.new.build.made.items)
+    (λ risen. (after : List Made) × IsMadeFrom (Node c.args.number z) c.with_fork-grown.result risen b.news after × IsBuilding c.args.table.now c.make_risen.new.seat c.make_risen.new.build.made.items after)) c.height.ensures (c.make_risen.ensures.made b.news building))
+
+pub returns-clause-single : goal.returns-clause-single
+returns-clause-single g c = λ words h room.
+    let b = c.requires.below in
+    let building = lift_building c.args.table.now g.G.Gate.becomes (c.args.seat.now, c.args.gate.now) (c.read_locked-node.new.seat, c.read_locked-node.new.gate) c.args.build.now.made.items c.args.key.now c.args.number c.args.position c.args.zero c.args.one
+    b c.read_locked-node.ensures.reads c.read_locked-node.result c.read_locked-node.ensures.node in
+    single_level words c.read_locked-node.result (Node c.args.number c.read_locked-node.result.height) c.with_fork-grown.result c.make_risen.result _ b.news (λ risen after. IsBuilding c.args.table.now c.make_risen.new.seat c.make_risen.new.build.made.items after)
+    (c.read_locked-node.ensures.node words h) c.with_fork-grown.ensures.whole room
     (subst (λ z. MatchOption c.make_risen.result (HasNotMade c.args.table.now c.read_locked-node.new.seat c.make_risen.new.seat c.make_risen.new.build.made.items)
     (λ risen. (after : List Made) × IsMadeFrom (Node c.args.number z) c.with_fork-grown.result risen b.news after × IsBuilding c.args.table.now c.make_risen.new.seat c.make_risen.new.build.made.items after)) c.height.ensures (c.make_risen.ensures.made b.news building))

@@ -4,7 +4,7 @@ use Rattle.compound_node.specs.declared.entries.Entry.TheVariants.{Node}
 use Rattle.rowex_rights.specs.Rises.{of_leaf}
 use Rattle.rowex_writing.specs.Building.{IsBuilding, IsMadeFrom, HasNotMade}
 use Rattle.rowex_writing.proofs.Locking.{goes_more}
-use Rattle.rowex_writing.proofs.Lifting.{low_tree, low_affects, low_building, lowered, low_level, split_level}
+use Rattle.rowex_writing.proofs.Lifting.{low_tree, low_affects, low_building, lowered, low_level, single_level, split_level}
 use Rattle.rowex_writing.proofs.Making.{not_made_since}
 use Rattle.rowex_writing.proofs.building.raise_lowest.Goals as goal
 
@@ -69,4 +69,14 @@ returns-clause-split g c = λ words h full.
     let (after, made, now) = c.in_ok-risen.ensures.made (of_leaf b.item ∷ []) building in
     split_level words c.read_locked-node.result (Node c.args.number c.read_locked-node.result.height) c.with_leaf-grown.result (Some c.in_ok-risen.risen) (HasNotMade c.args.table.now c.args.seat.now c.make_risen.new.seat c.make_risen.new.build.made.items) (of_leaf b.item ∷ [])
     (λ risen more. IsBuilding c.args.table.now c.make_risen.new.seat c.make_risen.new.build.made.items more) (c.read_locked-node.ensures.node words h) c.with_leaf-grown.ensures.whole full
+    (after, subst (λ z. IsMadeFrom (Node c.args.number z) c.with_leaf-grown.result c.in_ok-risen.risen (of_leaf b.item ∷ []) after) c.height.ensures made, now)
+
+pub returns-clause-single : goal.returns-clause-single
+returns-clause-single g c = λ words h room.
+    let b = c.requires.lowest in
+    let building = low_building c.args.table.now g.G.Gate.becomes (c.args.seat.now, c.args.gate.now) (c.read_locked-node.new.seat, c.read_locked-node.new.gate) c.args.build.now.made.items c.args.key.now c.args.number c.args.position c.args.first c.args.last c.args.leaf
+    b c.read_locked-node.ensures.reads c.read_locked-node.result c.read_locked-node.ensures.node in
+    let (after, made, now) = c.in_ok-risen.ensures.made (of_leaf b.item ∷ []) building in
+    single_level words c.read_locked-node.result (Node c.args.number c.read_locked-node.result.height) c.with_leaf-grown.result (Some c.in_ok-risen.risen) (HasNotMade c.args.table.now c.args.seat.now c.make_risen.new.seat c.make_risen.new.build.made.items) (of_leaf b.item ∷ [])
+    (λ risen more. IsBuilding c.args.table.now c.make_risen.new.seat c.make_risen.new.build.made.items more) (c.read_locked-node.ensures.node words h) c.with_leaf-grown.ensures.whole room
     (after, subst (λ z. IsMadeFrom (Node c.args.number z) c.with_leaf-grown.result c.in_ok-risen.risen (of_leaf b.item ∷ []) after) c.height.ensures made, now)

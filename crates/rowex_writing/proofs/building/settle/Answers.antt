@@ -1,6 +1,9 @@
 -- An entry is its own; a fork gets a node.
-use Rattle.std.proofs.Common.{arith}
-use Rattle.rowex_writing.proofs.Lifting.{settle_owed, settled, settled_whole}
+use Rattle.std.proofs.Common.{◌∷◌, arith}
+use Rattle.record_words.specs.Node.{HasNodeWords}
+use Rattle.rowex_rights.specs.Rises.{of_view}
+use Rattle.rowex_writing.specs.Building.{IsBuilding, HasNotMade}
+use Rattle.rowex_writing.proofs.Lifting.{settle_owed, settled, settled_whole, split_height, whole_height}
 use Rattle.rowex_writing.proofs.building.settle.Goals as goal
 
 pub pair-node-requires-clause-below : goal.pair-node-requires-clause-below
@@ -23,3 +26,12 @@ pub returns-in-Split-clause-made : goal.returns-in-Split-clause-made
 returns-in-Split-clause-made g c = λ b.
     settled c.args.table.now g.G.Gate.becomes (c.args.seat.now, c.args.gate.now) (c.make_node.new.seat, c.make_node.new.gate) c.args.build.now.made.items c.make_node.new.build.made.items c.args.number c.in-Split.position c.in-Split.zero c.in-Split.one c.args.risen c.in-Split.is
     b c.pair-node.result c.pair-node.ensures c.make_node.ensures.goes c.make_node.result (c.make_node.ensures.made b.news b.raising.building)
+
+pub returns-in-Whole-clause-low : goal.returns-in-Whole-clause-low
+returns-in-Whole-clause-low g c = λ h low. whole_height h c.in-Whole.entry c.args.risen c.in-Whole.is low
+
+pub returns-in-Split-clause-low : goal.returns-in-Split-clause-low
+returns-in-Split-clause-low g c = λ h low.
+    let b = c.requires.risen in
+    split_height h c.in-Split.position c.in-Split.zero c.in-Split.one c.args.risen c.pair-node.result (HasNotMade c.args.table.now c.args.seat.now c.make_node.new.seat c.make_node.new.build.made.items)
+    (HasNodeWords c.pair-node.result) (λ m. IsBuilding c.args.table.now c.make_node.new.seat c.make_node.new.build.made.items (of_view m c.pair-node.result ∷ b.news)) c.make_node.result c.in-Split.is low c.pair-node.ensures (c.make_node.ensures.made b.news b.raising.building)

@@ -1,5 +1,5 @@
 -- Those from the index on are to be marked.
-use Rattle.std.proofs.Common.{drop}
+use Rattle.std.proofs.Common.{drop, ◌+◌, ◌≤◌}
 use Rattle.rowex_table.specs.Seats.{IsSeatOf}
 use Rattle.rowex_writing.specs.Locks.{Works}
 use Rattle.rowex_writing.specs.Retiring.{HasToMark, LeavesLocks}
@@ -11,4 +11,5 @@ invariant-loop-index g l = record {
   works : Works l.table g.G.Gate.becomes (l.fn.seat, l.fn.gate) (l.seat, l.gate);
   due : HasToMark l.seat.known l.epoch (drop l.index l.recs);
   same : LeavesLocks l.fn.seat.known l.seat.known;
+  few : l.seat.known.steps ≤ l.fn.seat.known.steps + l.index;
 }

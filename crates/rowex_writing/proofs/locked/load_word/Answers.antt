@@ -1,6 +1,7 @@
 -- The word is one of those that the lock keeps.
 use Rattle.std.proofs.Common.{◌+◌, ◌-◌, ◌≤◌, arith}
 use Rattle.rowex_writing.proofs.Locking.{reads_fixed, reads_entry, locked_spells, fixed_word, entry_word_of}
+use Rattle.rowex_writing.proofs.Counting.{step_few}
 use Rattle.rowex_writing.proofs.locked.load_word.Goals as goal
 
 pub returns-then-index-lt-HEAD_WORDS-clause-reads : goal.returns-then-index-lt-HEAD_WORDS-clause-reads
@@ -22,3 +23,9 @@ returns-else-index-lt-HEAD_WORDS-clause-word g c = λ words h. let above : 25 �
 
 pub returns-else-index-lt-HEAD_WORDS-clause-spelled : goal.returns-else-index-lt-HEAD_WORDS-clause-spelled
 returns-else-index-lt-HEAD_WORDS-clause-spelled g c = λ words h. locked_spells c.load_ref.ensures.event c.args.number words h
+
+pub returns-then-index-lt-HEAD_WORDS-clause-few : goal.returns-then-index-lt-HEAD_WORDS-clause-few
+returns-then-index-lt-HEAD_WORDS-clause-few g c = step_few c.args.table.now g.G.Gate.becomes _ (c.args.seat.now, c.args.gate.now) (c.load_fixed.new.seat, c.load_fixed.new.gate) c.load_fixed.ensures
+
+pub returns-else-index-lt-HEAD_WORDS-clause-few : goal.returns-else-index-lt-HEAD_WORDS-clause-few
+returns-else-index-lt-HEAD_WORDS-clause-few g c = step_few c.args.table.now g.G.Gate.becomes _ (c.args.seat.now, c.args.gate.now) (c.load_ref.new.seat, c.load_ref.new.gate) c.load_ref.ensures

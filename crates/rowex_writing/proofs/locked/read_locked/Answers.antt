@@ -7,7 +7,7 @@ use Rattle.rowex_writing.proofs.Locking.{AreThose, reads_none, reads_more, seat_
 use Rattle.rowex_writing.proofs.locked.read_locked.Goals as goal
 
 pub loop-index-init : goal.loop-index-init
-loop-index-init g c = record { own = c.requires.own; reads = reads_none c.args.table.now g.G.Gate.becomes (c.args.seat.now, c.args.gate.now); long = search rules; those = λ words h. none_those _ words }
+loop-index-init g c = record { few = omega arith; own = c.requires.own; reads = reads_none c.args.table.now g.G.Gate.becomes (c.args.seat.now, c.args.gate.now); long = search rules; those = λ words h. none_those _ words }
 
 pub loop-index-preserved : goal.loop-index-preserved
 loop-index-preserved g c =
@@ -15,6 +15,7 @@ loop-index-preserved g c =
     let e = c.load_word.ensures in
     let table = c.args.table.now in
     record {
+      few = omega (arith, i.few, e.few);
       own = seat_of table g.G.Gate.becomes _ _ e.reads.goes i.own;
       reads = reads_more table g.G.Gate.becomes _ _ _ i.reads e.reads;
       long = length-set c.loop-index.words c.loop-index.index c.load_word.result ∙ i.long;

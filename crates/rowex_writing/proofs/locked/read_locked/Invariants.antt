@@ -1,5 +1,5 @@
 -- The words so far are those of the lock.
-use Rattle.std.proofs.Common.{◌≡◌, ℕ, List, length}
+use Rattle.std.proofs.Common.{◌≡◌, ℕ, List, length, ◌+◌, ◌≤◌}
 use Rattle.rowex_table.specs.Seats.{IsSeatOf}
 use Rattle.rowex_writing.specs.Going.{ReadsOn, HasLocked}
 use Rattle.rowex_writing.proofs.Locking.{AreThose}
@@ -11,4 +11,5 @@ invariant-loop-index g l = record {
   reads : ReadsOn l.table g.G.Gate.becomes (l.fn.seat, l.fn.gate) (l.seat, l.gate);
   long : length l.words ≡ 57;
   those : (words : List ℕ) → HasLocked l.fn.seat.known l.fn.number words → AreThose l.words words l.index;
+  few : l.seat.known.steps ≤ l.fn.seat.known.steps + l.index;
 }

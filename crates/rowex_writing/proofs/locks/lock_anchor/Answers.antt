@@ -2,6 +2,7 @@
 use Rattle.rowex_core.specs.declared.event.Act.TheVariants.{Lock}
 use Rattle.rowex_core.specs.declared.event.Target.TheVariants.{Anchor}
 use Rattle.rowex_writing.proofs.Works.{works_one, anchor_locked, anchor_met, is_live, is_not_live}
+use Rattle.rowex_writing.proofs.Counting.{step_few}
 use Rattle.rowex_writing.proofs.locks.lock_anchor.Goals as goal
 
 pub returns-clause-works : goal.returns-clause-works
@@ -15,3 +16,7 @@ returns-clause-locked g c t =
 pub returns-clause-refused : goal.returns-clause-refused
 returns-clause-refused g c f =
     anchor_met c.args.table.now.layout c.args.seat.now.known c.lock-found.new.seat.known c.lock-found.result c.lock-found.ensures.event (is_not_live c.lock-found.result c.pack_state.result c.pack_state.ensures f)
+
+pub returns-clause-few : goal.returns-clause-few
+returns-clause-few g c =
+    step_few c.args.table.now g.G.Gate.becomes (Lock Anchor c.lock-found.result) (c.args.seat.now, c.args.gate.now) (c.lock-found.new.seat, c.lock-found.new.gate) c.lock-found.ensures

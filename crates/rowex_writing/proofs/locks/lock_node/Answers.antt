@@ -6,6 +6,7 @@ use Rattle.rowex_core.specs.declared.event.Target.TheVariants.{Node as NodeTarge
 use Rattle.rowex_rights.proofs.Acting.{led_may_lock}
 use Rattle.rowex_writing.specs.Locks.{IsLedStep}
 use Rattle.rowex_writing.proofs.Works.{works_one, node_locked, node_met, is_live, is_not_live}
+use Rattle.rowex_writing.proofs.Counting.{step_few}
 use Rattle.rowex_writing.proofs.locks.lock_node.Goals as goal
 
 pub lock-found-requires-clause-may : goal.lock-found-requires-clause-may
@@ -27,3 +28,7 @@ returns-clause-refused g c f =
     let led = All-head (IsLedStep c.args.table.now.layout c.args.seat.now.known) c.args.step [] c.requires.led in
     let (m, h, since, sure) = led.1 in
     node_met c.args.table.now.layout c.args.seat.now.known c.lock-found.new.seat.known c.args.step.number m h c.lock-found.result since sure c.lock-found.ensures.event (is_not_live c.lock-found.result c.pack_state.result c.pack_state.ensures f)
+
+pub returns-clause-few : goal.returns-clause-few
+returns-clause-few g c =
+    step_few c.args.table.now g.G.Gate.becomes (Lock (NodeTarget c.args.step.number) c.lock-found.result) (c.args.seat.now, c.args.gate.now) (c.lock-found.new.seat, c.lock-found.new.gate) c.lock-found.ensures

@@ -9,6 +9,7 @@ use Rattle.rowex_writing.proofs.locks.lock_span.Goals as goal
 
 pub loop-index-init : goal.loop-index-init
 loop-index-init g c = record {
+  few = omega arith;
   own = c.requires.own;
   top = c.saturating_sub-first.ensures;
   range = (let e = c.saturating_sub-first.ensures in omega (arith, c.requires.span.0), omega arith);
@@ -64,6 +65,7 @@ loop-index-preserved g c =
     let part = slice_more c.args.way.now (c.loop-index.index - 1) c.args.span.len d (omega (arith, c.loop-index-test.true, i.range.1)) c.requires.span.1 ∙
     ap (λ n. get_or c.args.way.now (c.loop-index.index - 1) d ∷ slice_range c.args.way.now n c.args.span.len) at in
     record {
+      few = omega (arith, i.few, i.range.1, c.loop-index-test.true, c.lock_node.ensures.few);
       own = works_seat c.args.table.now g.G.Gate.becomes (c.loop-index.seat, c.loop-index.gate) (c.lock_node.new.seat, c.lock_node.new.gate) c.lock_node.ensures.works i.own;
       top = i.top;
       range = (omega (arith, c.loop-index-test.true), omega (arith, i.range.1));

@@ -1,5 +1,5 @@
 -- The nodes from the index on are locked.
-use Rattle.std.proofs.Common.{◌-◌, ◌≡◌, ◌≤◌, None}
+use Rattle.std.proofs.Common.{◌-◌, ◌≡◌, ◌≤◌, None, ◌+◌}
 use Rattle.std.specs.Prelude.{slice_range}
 use Rattle.rowex_table.specs.Seats.{IsSeatOf}
 use Rattle.rowex_writing.specs.Locks.{HasJustLocked, Works, numbers_of}
@@ -14,6 +14,7 @@ invariant-loop-index g l = record {
   locked : HasJustLocked l.seat.known (numbers_of (slice_range l.way l.index l.span.len));
   anchor : l.seat.known.anchor ≡ None;
   same : l.seat.known.own ≡ l.fn.seat.known.own;
+  few : l.seat.known.steps ≤ l.fn.seat.known.steps + (l.span.len - l.index);
 }
 
 -- proposed from the loop's first test

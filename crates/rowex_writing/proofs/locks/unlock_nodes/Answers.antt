@@ -5,10 +5,12 @@ use Rattle.rowex_table.proofs.ActsAfter.{unlocks_node, unlock_gives}
 use Rattle.rowex_table.proofs.ActsLeave.{act_leaves}
 use Rattle.rowex_writing.proofs.Works.{works_none, works_one, works_more, works_seat}
 use Rattle.rowex_writing.proofs.Spans.{first_locked, none_locked}
+use Rattle.rowex_writing.proofs.Counting.{step_few}
 use Rattle.rowex_writing.proofs.locks.unlock_nodes.Goals as goal
 
 pub loop-index-init : goal.loop-index-init
 loop-index-init g c = record {
+  few = omega arith;
   own = c.requires.own;
   works = works_none c.args.table.now g.G.Gate.becomes (c.args.seat.now, c.args.gate.now);
   locked = c.requires.locked;
@@ -30,6 +32,7 @@ loop-index-preserved g c =
     let one = works_one table g.G.Gate.becomes _ (c.loop-index.seat, c.loop-index.gate) (c.unlock.new.seat, c.unlock.new.gate) tt e in
     let left = act_leaves table.layout c.loop-index.seat.known c.unlock.new.seat.known _ e.event in
     record {
+      few = omega (arith, i.few, step_few table g.G.Gate.becomes _ (c.loop-index.seat, c.loop-index.gate) (c.unlock.new.seat, c.unlock.new.gate) e);
       own = works_seat table g.G.Gate.becomes _ _ one i.own;
       works = works_more table g.G.Gate.becomes _ _ _ i.works one;
       locked = (unlock_gives table.layout silent c.loop-index.seat.known c.unlock.new.seat.known _ _ e.event first.0 first.1, first.1.1);

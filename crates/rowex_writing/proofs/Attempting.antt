@@ -1,0 +1,247 @@
+-- How the parts of an attempt make its answer, or its refusal.
+use Rattle.std.proofs.Common.{◌≡◌, ◌⊎◌, inl, inr, ℕ, ◌≤◌, ◌<◌, List, [], ◌∷◌, length, refl, sym, ap, subst, ◌∙◌, arith, Option, Some, None, Bool, true, false}
+use Rattle.hot_model.specs.declared.Change.{Change}
+use Rattle.hot_model.specs.declared.Reply.{Reply}
+use Rattle.hot_model.specs.declared.Reply.TheVariants.{Exists, Absent}
+use Rattle.hot_model.specs.Fronts.{OthersGoOn}
+use Rattle.hot_model.proofs.Growth.{others_on}
+use Rattle.insert_cases.specs.declared.choice.Case.{Case}
+use Rattle.insert_cases.specs.declared.choice.Case.TheVariants.{LeafPushdown, NormalInsert, Overflow}
+use Rattle.insert_cases.specs.declared.choice.Step.{Step}
+use Rattle.tries.specs.Keys.{Key}
+use Rattle.moments.specs.State.{IsHeld, IsMissed}
+use Rattle.std.proofs.lemmas.List.{length-append}
+use Rattle.record_words.specs.declared.layout.Layout.{Layout}
+use Rattle.moments.specs.declared.Rec.{Rec}
+use Rattle.moments.specs.declared.Rec.TheVariants.{Node as a_node, Leaf as a_leaf}
+use Rattle.rowex_core.specs.declared.event.Event.{Event}
+use Rattle.rowex_core.specs.declared.known.Failed.{Failed}
+use Rattle.rowex_core.specs.declared.known.Known.{Known}
+use Rattle.rowex_table.specs.Seats.{TableView, SeatView, IsSeatOf}
+use Rattle.rowex_records.specs.Claims.{AllMissed}
+use Rattle.rowex_reading.specs.Possible.{IsPossible}
+use Rattle.rowex_reading.specs.Reads.{Looks, Reads}
+use Rattle.rowex_reading.proofs.Led.{looked_at, looks_same, reads_sees}
+use Rattle.rowex_rights.specs.Ending.{IsAtRest}
+use Rattle.rowex_walks.specs.Scan.{IsShaped}
+use Rattle.rowex_table.specs.Made.{IsLater}
+use Rattle.rowex_reading.specs.Lookups.{HasFound, HasSearched}
+use Rattle.rowex_reading.specs.Seen.{Sure, since}
+use Rattle.rowex_reading.proofs.Seeing.{later_trans, held_stable, missed_stable, shaped_stable, sure_later}
+use Rattle.rowex_writing.specs.Attempts.{HasAnswered, HasDone, HasLoadedRoot, HasLooked, HasRefused, IsChangeOf, reply_to}
+use Rattle.rowex_writing.specs.Changes.{AreAffected, HasChanged, HasNoRoom, HasRun, HasStored, IsFull, IsPlanned}
+use Rattle.rowex_writing.specs.Locks.{HasMetLock}
+use Rattle.rowex_writing.specs.Plans.{change, IsCase, IsNewLeafPlan}
+use Rattle.rowex_writing.specs.Ways.{value_of}
+use Rattle.rowex_writing.specs.declared.plan.Ask.{Ask}
+use Rattle.rowex_writing.specs.declared.plan.Ask.TheVariants.{Insert, Upsert, Remove}
+use Rattle.rowex_writing.specs.declared.plan.Deed.{Deed}
+use Rattle.rowex_writing.specs.declared.plan.Deed.TheVariants.{Put, Pair, Grow, Take}
+use Rattle.rowex_writing.specs.declared.attempts.TryFault.TheVariants.{Busy, FullNodes, FullLeaves}
+use Rattle.rowex_writing.specs.declared.plan.Found.{Found}
+use Rattle.rowex_writing.specs.declared.plan.Full.{Full}
+use Rattle.rowex_writing.specs.declared.plan.Full.TheVariants.{Nodes, Leaves}
+use Rattle.rowex_writing.specs.declared.plan.Found.TheVariants.{Nothing, Leaf}
+use Rattle.rowex_writing.specs.declared.plan.Plan.{Plan}
+use Rattle.rowex_writing.specs.declared.plan.Plan.TheVariants.{Answer, Change as a_change}
+use Rattle.rowex_writing.specs.declared.plan.Span.{Span}
+use Rattle.rowex_writing.proofs.Onward.{looks_run, reads_run}
+use Rattle.rowex_writing.proofs.Runs.{run_loaded}
+use Rattle.rowex_writing.proofs.Spans.{met_since}
+
+-- ---- what was found and planned stays so
+pub found_later : (k j : Known) (key : Key) (value : Option ℕ) → IsLater k j → since j ≡ since k → HasFound k key value → HasFound j key value
+found_later k j key None later same sure =
+    subst (λ m. Sure j (λ s. IsMissed s m key)) (sym same) (sure_later {P = λ s. IsMissed s (since k) key} (missed_stable (since k) key) later sure)
+found_later k j key (Some value) later same sure =
+    subst (λ m. Sure j (λ s. IsHeld s m key value)) (sym same) (sure_later {P = λ s. IsHeld s (since k) key value} (held_stable (since k) key value) later sure)
+
+affected_later : (k j : Known) (m : ℕ) (key : Key) (way : List Step) (found : Found) (first last : ℕ) → IsLater k j → AreAffected k m key way found first last →
+    AreAffected j m key way found first last
+affected_later k j m key way Nothing first last later a = tt
+affected_later k j m key way (Leaf n v None) first last later a = tt
+affected_later k j m key way (Leaf n v (Some p)) first last later a = λ level s is at.
+    let (forks, shaped, affects) = a level s is at in (forks, sure_later {P = λ past. IsShaped past m s.number forks} (shaped_stable m s.number forks) later shaped, affects)
+
+pub planned_later : (k j : Known) (m : ℕ) (key : Key) (way : List Step) (ask : Ask) (found : Found) (plan : Plan) → IsLater k j → IsPlanned k m key way ask found plan →
+    IsPlanned j m key way ask found plan
+planned_later k j m key way ask found plan later (first, last, is, affected) = (first, last, is, affected_later k j m key way found first last later affected)
+
+-- ---- an answer
+-- the reply of a plan that answers
+abbrev reply_in : Plan → Reply
+reply_in (Answer reply) = reply
+reply_in (a_change span deed) = Absent
+
+looked_exists : (j : Known) (key : Key) (v : ℕ) (reply : Reply) → Answer reply ≡ Answer (Exists v) → HasFound j key (Some v) → HasLooked j Insert key reply
+looked_exists j key v reply e sure = subst (HasLooked j Insert key) (sym (ap reply_in e)) sure
+
+looked_absent : (j : Known) (key : Key) (reply : Reply) → Answer reply ≡ Answer Absent → HasFound j key None → HasLooked j Remove key reply
+looked_absent j key reply e sure = subst (HasLooked j Remove key) (sym (ap reply_in e)) sure
+
+-- a plan that changes the map is no answer
+abbrev is_answer : Plan → Bool
+is_answer (Answer reply) = true
+is_answer (a_change span deed) = false
+
+no_answer : {A : Type 0} (reply : Reply) (span : Span) (deed : Deed) → Answer reply ≡ a_change span deed → A
+no_answer reply span deed e = absurd (let z : true ≡ false = ap is_answer e in cc)
+
+new_answer : {A : Type 0} (way : List Step) (p first last : ℕ) (reply : Reply) → IsNewLeafPlan way p first last (Answer reply) → A
+new_answer [] p first last reply e = no_answer reply _ _ e
+new_answer {A} (s ∷ way) p first last reply (level, at, (chosen, choice, case)) = go chosen.case case
+  where
+    go : (case : Case) → IsCase (s ∷ way) p chosen case (Answer reply) → A
+    go LeafPushdown e = no_answer reply _ _ e
+    go NormalInsert e = no_answer reply _ _ e
+    go Overflow (end, upto, e) = no_answer reply _ _ e
+
+pub looked : (k j : Known) (m : ℕ) (key : Key) (way : List Step) (ask : Ask) (found : Found) (reply : Reply) → IsPlanned k m key way ask found (Answer reply) →
+    HasFound j key (value_of found) → HasLooked j ask key reply
+looked k j m key way Insert Nothing reply (first, last, is, affected) sure = no_answer reply _ _ is
+looked k j m key way Upsert Nothing reply (first, last, is, affected) sure = no_answer reply _ _ is
+looked k j m key way Insert (Leaf n v (Some p)) reply (first, last, is, affected) sure = new_answer way p first last reply is
+looked k j m key way Upsert (Leaf n v (Some p)) reply (first, last, is, affected) sure = new_answer way p first last reply is
+looked k j m key way Insert (Leaf n v None) reply (first, last, is, affected) sure = looked_exists j key v reply is sure
+looked k j m key way Upsert (Leaf n v None) reply (first, last, is, affected) sure = no_answer reply _ _ is
+looked k j m key way Remove Nothing reply (first, last, is, affected) sure = looked_absent j key reply is sure
+looked k j m key way Remove (Leaf n v (Some p)) reply (first, last, is, affected) sure = looked_absent j key reply is sure
+looked k j m key way Remove (Leaf n v None) reply (first, last, is, affected) sure = no_answer reply _ _ is
+
+-- ---- a change
+abbrev deed_in : Plan → Deed
+deed_in (Answer r) = Put
+deed_in (a_change span deed) = deed
+
+module _ (i j : Known) (key : Key) (value : ℕ) (found : Found) where
+  done_by : (span : Span) (deed other : Deed) (len end : ℕ) → a_change span deed ≡ change len end other → HasDone i j deed key value found → HasDone i j other key value found
+  done_by span deed other len end e done = subst (λ d. HasDone i j d key value found) (ap deed_in e) done
+
+  new_done : (way : List Step) (p first last : ℕ) (span : Span) (deed : Deed) → IsNewLeafPlan way p first last (a_change span deed) → HasDone i j deed key value found →
+      HasStored i j key value found
+  new_done [] p first last span deed e done = done_by span deed (Pair p) 0 0 e done
+  new_done (s ∷ way) p first last span deed (level, at, (chosen, choice, case)) done = go chosen.case case
+    where
+      go : (case : Case) → IsCase (s ∷ way) p chosen case (a_change span deed) → HasStored i j key value found
+      go LeafPushdown e = done_by span deed (Pair p) _ _ e done
+      go NormalInsert e = done_by span deed (Grow p chosen.first chosen.last) _ _ e done
+      go Overflow (end, upto, e) = done_by span deed (Grow p chosen.first chosen.last) _ _ e done
+
+-- The change is the one that the call asked for.
+pub done_is : (i j k : Known) (m : ℕ) (key : Key) (value : ℕ) (way : List Step) (ask : Ask) (found : Found) (span : Span) (deed : Deed) →
+    IsPlanned k m key way ask found (a_change span deed) → HasDone i j deed key value found →
+    (x : Change) × (was : Option ℕ) × IsChangeOf i.pass ask key value (reply_to ask found) x was × HasChanged i j x was
+done_is i j k m key value way Insert Nothing span deed (first, last, is, affected) done = done_by i j key value Nothing span deed Put 0 0 is done
+done_is i j k m key value way Upsert Nothing span deed (first, last, is, affected) done = done_by i j key value Nothing span deed Put 0 0 is done
+done_is i j k m key value way Insert (Leaf n v (Some p)) span deed (first, last, is, affected) done = new_done i j key value (Leaf n v (Some p)) way p first last span deed is done
+done_is i j k m key value way Upsert (Leaf n v (Some p)) span deed (first, last, is, affected) done = new_done i j key value (Leaf n v (Some p)) way p first last span deed is done
+done_is i j k m key value way Insert (Leaf n v None) span deed (first, last, is, affected) done = no_answer _ span deed (sym is)
+done_is i j k m key value way Upsert (Leaf n v None) span deed (first, last, is, affected) done = done_by i j key value (Leaf n v None) span deed Put _ _ is done
+done_is i j k m key value way Remove Nothing span deed (first, last, is, affected) done = no_answer _ span deed (sym is)
+done_is i j k m key value way Remove (Leaf n v (Some p)) span deed (first, last, is, affected) done = no_answer _ span deed (sym is)
+done_is i j k m key value way Remove (Leaf n v None) span deed (first, last, is, affected) done = done_by i j key value (Leaf n v None) span deed Take _ _ is done
+
+takes : (k : Known) (m : ℕ) (key : Key) (way : List Step) (found : Found) (span : Span) (deed : Deed) → IsPlanned k m key way Remove found (a_change span deed) → deed ≡ Take
+takes k m key way Nothing span deed (first, last, is, affected) = no_answer _ span deed (sym is)
+takes k m key way (Leaf n v (Some p)) span deed (first, last, is, affected) = no_answer _ span deed (sym is)
+takes k m key way (Leaf n v None) span deed (first, last, is, affected) = ap deed_in is
+
+-- a removal that changes the map takes a leaf away
+pub removal_takes : (k : Known) (m : ℕ) (key : Key) (way : List Step) (ask : Ask) (found : Found) (plan : Plan) (span : Span) (deed : Deed) → ask ≡ Remove →
+    plan ≡ a_change span deed → IsPlanned k m key way ask found plan → deed ≡ Take
+removal_takes k m key way ask found plan span deed e is planned =
+    takes k m key way found span deed (subst (λ a. IsPlanned k m key way a found (a_change span deed)) e (subst (IsPlanned k m key way ask found) is planned))
+
+-- the change of a pass that went on before
+pub changed_on : (k i j : Known) (x : Change) (was : Option ℕ) → i.pass ≡ k.pass → OthersGoOn k.pass k.front i.front → HasChanged i j x was → HasChanged k j x was
+changed_on k i j x was pass others c = record {
+  rest = c.rest;
+  before = c.before;
+  others = others_on k.pass k.front i.front c.before others (subst (λ q. OthersGoOn q i.front c.before) pass c.others);
+  front = c.front;
+  fresh = c.fresh;
+  fits = c.fits;
+  was_held = c.was_held;
+}
+
+-- ---- after the search and the plan
+-- What the pass knows when it has searched and planned: nothing is its own, and it loaded the root at a moment since the start.
+pub record Begun {G : Type 0} (table : TableView) (becomes : G → Event → G → Type 0) (a c : SeatView × G) : Type 0 where
+  pub run : HasRun table becomes a c
+  pub loaded : HasLoadedRoot a.0.known c.0.known
+  pub later : IsLater a.0.known c.0.known
+  pub rest : IsAtRest c.0.known
+  pub seat : IsSeatOf table c.0
+
+module _ {G : Type 0} (table : TableView) (becomes : G → Event → G → Type 0) where
+  pub begun : (n : ℕ) (a c : SeatView × G) → Looks table becomes n a c → IsPossible table.layout c.0.known → IsSeatOf table a.0 → IsAtRest a.0.known → Begun table becomes a c
+  begun n a c looks possible seat rest =
+      let h = looked_at looks in record {
+        run = looks_run table becomes n a c looks;
+        loaded = record { from = h.now; upto = possible.knows.counted.loaded; old = h.fresh; new = possible.knows.seen.fresh };
+        later = h.later;
+        rest = record {
+          own = ap (λ (z : Known). z.own) h.sees ∙ rest.own;
+          locks = ap (λ (z : Known). z.locks) h.sees ∙ rest.locks;
+          anchor = ap (λ (z : Known). z.anchor) h.sees ∙ rest.anchor;
+        };
+        seat = (looks_same looks).0 ∙ seat;
+      }
+
+  pub searched : (a c : SeatView × G) → HasSearched table becomes a c → IsPossible table.layout c.0.known → IsSeatOf table a.0 → IsAtRest a.0.known → Begun table becomes a c
+  searched a c s possible seat rest = begun s.loaded a c s.looks possible seat rest
+
+  -- loads below the root leave it so
+  pub rest_reads : (n : ℕ) (a b : SeatView × G) → Reads table becomes n a b → IsAtRest a.0.known → IsAtRest b.0.known
+  rest_reads n a b r rest = let s = reads_sees r in record {
+    own = ap (λ (z : Known). z.own) s ∙ rest.own;
+    locks = ap (λ (z : Known). z.locks) s ∙ rest.locks;
+    anchor = ap (λ (z : Known). z.anchor) s ∙ rest.anchor;
+  }
+
+  pub loaded_reads : (k : Known) (n : ℕ) (a b : SeatView × G) → Reads table becomes n a b → HasLoadedRoot k a.0.known → HasLoadedRoot k b.0.known
+  loaded_reads k n a b r l = run_loaded table becomes k a b l (reads_run table becomes n a b r)
+
+-- at its load of the root the pass had seen no less than at the start
+loaded_from : (k j : Known) → HasLoadedRoot k j → length k.front ≤ since j
+loaded_from k j l = let (more, is) = l.old in let n = length-append k.front more in omega (arith, ap length is, n)
+
+-- since the start no fewer steps have been made
+loaded_steps : (k j : Known) → HasLoadedRoot k j → k.steps ≤ j.steps
+loaded_steps k j l = let x = l.from in let y = l.upto in omega (arith, x, y)
+
+-- ---- refusals
+met_before : (k i j : Known) → k.steps ≤ i.steps → HasMetLock i j → HasMetLock k j
+met_before k i j low m = met_since k i j j low refl m
+
+pub refused_busy : (layout : Layout) (k i j : Known) (m : ℕ) → since i ≡ m → HasLoadedRoot k i → IsLater k i → IsLater i j → HasMetLock i j ⊎ (m < length j.front) → HasRefused layout k j Busy
+refused_busy layout k i j m same loaded first next why = record {
+  others = (later_trans first next).front;
+  cause = elim why [ inl met ↦ inl (met_before k i j (loaded_steps k i loaded) met) | inr moved ↦ inr (let low = loaded_from k i loaded in omega (arith, low, moved, same)) ];
+}
+
+missed_before : (kind : ℕ → Rec) (n : ℕ) (failed : List Failed) (early late : ℕ) → early ≤ late → AllMissed kind n failed late → AllMissed kind n failed early
+missed_before kind n failed early late low missed = λ q within. let (step, from, at) = missed q within in (step, (omega (arith, low, from)), at)
+
+full_before : (layout : Layout) (k i j : Known) (full : Full) → k.steps ≤ i.steps → IsFull layout i j full → IsFull layout k j full
+full_before layout k i j Nodes low f = missed_before a_node layout.nodes j.failed k.steps i.steps low f
+full_before layout k i j Leaves low f = missed_before a_leaf layout.leaves j.failed k.steps i.steps low f
+
+others_since : (k i j : Known) → IsLater k i → OthersGoOn i.pass i.front j.front → OthersGoOn k.pass k.front j.front
+others_since k i j later others = others_on k.pass k.front i.front j.front later.front (subst (λ q. OthersGoOn q i.front j.front) later.pass others)
+
+pub refused_nodes : (layout : Layout) (k i j : Known) → HasLoadedRoot k i → IsLater k i → HasNoRoom layout i j Nodes → HasRefused layout k j FullNodes
+refused_nodes layout k i j loaded later none = record { others = others_since k i j later none.others; cause = full_before layout k i j Nodes (loaded_steps k i loaded) none.full_of }
+
+pub refused_leaves : (layout : Layout) (k i j : Known) → HasLoadedRoot k i → IsLater k i → HasNoRoom layout i j Leaves → HasRefused layout k j FullLeaves
+refused_leaves layout k i j loaded later none = record { others = others_since k i j later none.others; cause = full_before layout k i j Leaves (loaded_steps k i loaded) none.full_of }
+
+-- ---- answers
+pub answered_look : (k j : Known) (ask : Ask) (key : Key) (value : ℕ) (reply : Reply) → IsLater k j → HasLooked j ask key reply → HasAnswered k j ask key value reply
+answered_look k j ask key value reply later looked = inl (looked, later.front)
+
+pub answered_change : (k p i j : Known) (m : ℕ) (key : Key) (value : ℕ) (way : List Step) (ask : Ask) (found : Found) (span : Span) (deed : Deed) → IsLater k i →
+    IsPlanned p m key way ask found (a_change span deed) → HasDone i j deed key value found → HasAnswered k j ask key value (reply_to ask found)
+answered_change k p i j m key value way ask found span deed later planned done =
+    let (x, was, is, changed) = done_is i j p m key value way ask found span deed planned done in
+    inr (x, was, subst (λ q. IsChangeOf q ask key value (reply_to ask found) x was) later.pass is, changed_on k i j x was later.pass later.front changed)

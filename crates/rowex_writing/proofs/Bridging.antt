@@ -1,0 +1,519 @@
+-- From what a pass knows under its locks to the way up of a new leaf.
+use Rattle.std.proofs.Common.{◌≡◌, inl, inr, ◌⊎◌, ⊎_elim, ℕ, zero, suc, ◌+◌, ◌-◌, ◌<◌, ◌≤◌, Bool, true, false, List, [], ◌∷◌, length, take, drop, refl, sym, ap, subst, ◌∙◌, arith, le_trans, if◌then◌else◌, nat_lt, ◌&&◌, Some, None}
+use Rattle.std.specs.Prelude.{slice_get}
+use Rattle.std.proofs.lemmas.Bool.{cases_lt, le-ltb, ltb-true}
+use Rattle.compound_node.specs.Nodes.{piece, height_of}
+use Rattle.compound_node.specs.declared.entries.Entry.{Entry}
+use Rattle.compound_node.specs.declared.entries.Entry.TheVariants.{Leaf as LeafEntry, Node}
+use Rattle.insert_cases.specs.Levels.{IsLevel, IsChosen, IsChainEnd}
+use Rattle.insert_cases.specs.Ways.{case_of}
+use Rattle.insert_cases.specs.declared.choice.Case.{Case}
+use Rattle.insert_cases.specs.declared.choice.Case.TheVariants.{LeafPushdown, NormalInsert, Overflow}
+use Rattle.insert_cases.specs.declared.choice.Choice.{Choice}
+use Rattle.insert_cases.specs.declared.choice.Step.{Step}
+use Rattle.insert_cases.proofs.Affecting.{key_part}
+use Rattle.insert_cases.proofs.Choosing.{same_some, some_at}
+use Rattle.moments.specs.Heap.{NodeWords}
+use Rattle.moments.specs.Frames.{IsGrown}
+use Rattle.moments.specs.State.{Past}
+use Rattle.moments.specs.Trades.{IsOf}
+use Rattle.moments.specs.declared.Rec.TheVariants.{Node as a_node}
+use Rattle.moments.proofs.Members.{all_of, map_of}
+use Rattle.pieces.proofs.Paths.{size_pos}
+use Rattle.pieces.specs.Piece.{Place, Fork, size}
+use Rattle.record_words.specs.Leaf.{HasLeafWords}
+use Rattle.record_words.specs.declared.layout.Layout.{Layout}
+use Rattle.rowex_core.specs.Cores.{IsWhole}
+use Rattle.rowex_core.specs.Knowing.{IsSince}
+use Rattle.rowex_core.specs.Reading.{IsPacked, node_of}
+use Rattle.rowex_core.specs.Sharing.{IsLocked}
+use Rattle.rowex_core.specs.declared.event.Spot.TheVariants.{Root, Slot}
+use Rattle.rowex_core.specs.declared.known.Known.{Known}
+use Rattle.rowex_core.proofs.Owning.{knows_all}
+use Rattle.rowex_core.proofs.Reading.{node_is}
+use Rattle.rowex_reading.specs.Possible.{IsPossible}
+use Rattle.rowex_reading.specs.Seen.{Sure}
+use Rattle.rowex_rights.specs.Insertions.{IsSpotOf, in_node, at_root}
+use Rattle.rowex_rights.specs.Rises.{HasFoundBelow}
+use Rattle.rowex_rights.specs.Stages.{IsAbove, IsSure}
+use Rattle.rowex_rights.proofs.Rising.{above_goes_on}
+use Rattle.rowex_rights.proofs.Sure.{descent_begins, descent_ends, descent_finds, descent_goes_on, seen_is_sure}
+use Rattle.rowex_walks.specs.Scan.{IsSeen, IsPlaced, IsShaped, IsRead}
+use Rattle.rowex_walks.specs.Ways.{IsOnWay, IsWayFrom}
+use Rattle.rowex_walks.specs.Writer.{item}
+use Rattle.rowex_walks.proofs.Persist.{placed_on, shaped_on, read_on}
+use Rattle.rowex_walks.proofs.Ways.{way_of_leaf}
+use Rattle.tries.specs.Affected.{page_affected, IsFirstBelow, IsLowerPage, IsPartPage, IsTipPage}
+use Rattle.tries.specs.Keys.{Key, bit}
+use Rattle.tries.specs.Search.{seek}
+use Rattle.tries.specs.Tree.{Page, first_position}
+use Rattle.tries.proofs.Building.{size-piece}
+use Rattle.rowex_writing.specs.Building.{FitsAbove, IsChain}
+use Rattle.rowex_writing.specs.Changes.{AreAffected, IsChecked, IsPlanned}
+use Rattle.rowex_writing.specs.Going.{HasLocked}
+use Rattle.rowex_writing.specs.Locks.{HasLockedSpan}
+use Rattle.rowex_writing.specs.Plans.{change, IsCase, IsNewLeafPlan}
+use Rattle.rowex_writing.specs.Remaking.{AffectsJust}
+use Rattle.rowex_writing.specs.Ways.{IsWayNode, IsWayOf, end_of, named}
+use Rattle.rowex_writing.specs.declared.plan.Ask.{Ask}
+use Rattle.rowex_writing.specs.declared.plan.Ask.TheVariants.{Insert, Upsert, Remove}
+use Rattle.rowex_writing.specs.declared.plan.Deed.TheVariants.{Grow, Pair, Put, Take}
+use Rattle.rowex_writing.specs.declared.plan.Found.{Found}
+use Rattle.rowex_writing.specs.declared.plan.Found.TheVariants.{Nothing, Leaf}
+use Rattle.rowex_writing.specs.declared.plan.Plan.{Plan}
+use Rattle.rowex_writing.specs.declared.plan.Plan.TheVariants.{Answer, Change}
+use Rattle.rowex_writing.specs.declared.plan.Span.{Span}
+use Rattle.rowex_writing.proofs.Planning.{chosen_within}
+use Rattle.rowex_writing.proofs.Shapes.{IsStepOf, locked_shape, shape_affects, way_node_locked}
+use Rattle.rowex_writing.proofs.Staging.{stage_of_held}
+
+-- ---- the plan
+-- a plan by which a node gets the new leaf
+pub record IsGrowPlan (k : Known) (m : ℕ) (key : Key) (way : List Step) (found : Found) (len end position first last : ℕ) : Type 0 where
+  pub number : ℕ
+  pub value : ℕ
+  pub level : ℕ
+  pub low : ℕ
+  pub high : ℕ
+  pub chosen : Choice
+  pub found_is : found ≡ Leaf number value (Some position)
+  pub is_level : IsLevel way position level
+  pub is_chosen : IsChosen way level low high chosen
+  pub len_is : len ≡ chosen.level + 1
+  pub first_is : first ≡ chosen.first
+  pub last_is : last ≡ chosen.last
+  pub chain : IsChainEnd way chosen.level end
+  pub affected : AreAffected k m key way (Leaf number value (Some position)) low high
+
+-- what the choice is, and why
+abbrev IsSeveral : List Step → (level first last : ℕ) → Choice → Type 0
+IsSeveral way level first last c = (first < last) × (s : Step) × (slice_get way level ≡ Some s) × (c ≡ record { level = level; first = first; last = last; case = case_of s.height s.count false })
+
+abbrev IsNext : List Step → (level first last : ℕ) → Choice → Type 0
+IsNext way level first last c =
+    (last ≤ first) × (s : Step) × (slice_get way (level + 1) ≡ Some s) × (c ≡ record { level = level + 1; first = 0; last = s.count - 1; case = case_of s.height s.count false })
+
+abbrev IsOnLeaf : List Step → (level first last : ℕ) → Choice → Type 0
+IsOnLeaf way level first last c =
+    (last ≤ first) × (length way ≤ level + 1) × (s : Step) × (slice_get way level ≡ Some s) × (c ≡ record { level = level; first = first; last = last; case = case_of s.height s.count true })
+
+chosen_is : (way : List Step) (level first last : ℕ) (c : Choice) → level < length way → IsChosen way level first last c → IsSeveral way level first last c ⊎ (IsNext way level first last c ⊎ IsOnLeaf way level first last c)
+chosen_is way level first last c h is = ⊎_elim several (λ o. ⊎_elim (next o) (leaf o) (cases_lt (level + 1) (length way))) (cases_lt first last)
+  where
+    here : (s : Step) × (slice_get way level ≡ Some s)
+    here = some_at way level h
+
+    several : first < last → IsSeveral way level first last c ⊎ (IsNext way level first last c ⊎ IsOnLeaf way level first last c)
+    several o = inl (o, here.0, here.1, is.several o here.0 here.1)
+
+    next : last ≤ first → level + 1 < length way → IsSeveral way level first last c ⊎ (IsNext way level first last c ⊎ IsOnLeaf way level first last c)
+    next o m = let s = some_at way (level + 1) m in inr (inl (o, s.0, s.1, is.next o s.0 s.1))
+
+    leaf : last ≤ first → length way ≤ level + 1 → IsSeveral way level first last c ⊎ (IsNext way level first last c ⊎ IsOnLeaf way level first last c)
+    leaf o m = inr (inr (o, m, here.0, here.1, is.leaf o m here.0 here.1))
+
+-- it goes by the count of the chosen node
+case_there : (way : List Step) (level first last : ℕ) (c : Choice) → level < length way → IsChosen way level first last c → (s : Step) → slice_get way c.level ≡ Some s → (b : Bool) × (c.case ≡ case_of s.height s.count b)
+case_there way level first last c h is s at = elim (chosen_is way level first last c h is) [
+  | inl (o, u, e, c_is) ↦ (false, by u level false e (ap (λ (z : Choice). z.level) c_is) (ap (λ (z : Choice). z.case) c_is))
+  | inr o ↦ elim o [
+    | inl (l, u, e, c_is) ↦ (false, by u (level + 1) false e (ap (λ (z : Choice). z.level) c_is) (ap (λ (z : Choice). z.case) c_is))
+    | inr (l, m, u, e, c_is) ↦ (true, by u level true e (ap (λ (z : Choice). z.level) c_is) (ap (λ (z : Choice). z.case) c_is))
+  ]
+]
+  where
+    by : (u : Step) (l : ℕ) (b : Bool) → slice_get way l ≡ Some u → c.level ≡ l → c.case ≡ case_of u.height u.count b → c.case ≡ case_of s.height s.count b
+    by u l b e level_is case = let same : u ≡ s = same_some (sym e ∙ (ap (slice_get way) (sym level_is) ∙ at)) in case ∙ ap (λ (z : Step). case_of z.height z.count b) same
+
+case_room : (h n : ℕ) (b : Bool) → case_of h n b ≡ NormalInsert → n < 32
+case_room h n b is = ltb-true n 32 (go (b && nat_lt 1 h) (nat_lt n 32) is)
+  where
+    go : (u v : Bool) → (if u then LeafPushdown else (if v then NormalInsert else Overflow)) ≡ NormalInsert → v ≡ true
+    go true v e = absurd cc
+    go false true e = refl
+    go false false e = absurd cc
+
+-- a node with room is the end of its chain
+one_chain : (way : List Step) (level first last : ℕ) (c : Choice) → level < length way → IsChosen way level first last c → c.case ≡ NormalInsert → IsChainEnd way c.level c.level
+one_chain way level first last c h is case = record {
+  upto = omega arith;
+  pulls = λ l s u le lt e f. absurd (omega arith);
+  stops = λ l s u next e f full. absurd (let (b, is_case) = case_there way level first last c h is s e in let room = case_room s.height s.count b (sym is_case ∙ case) in omega (arith, full));
+}
+
+abbrev len_of : Plan → ℕ
+len_of (Answer reply) = 0
+len_of (Change span deed) = span.len
+
+abbrev plan_end : Plan → ℕ
+plan_end (Answer reply) = 0
+plan_end (Change span deed) = span.end
+
+abbrev IsGrowOf : (position first last : ℕ) → Plan → Type 0
+IsGrowOf position first last (Answer reply) = ⊥
+IsGrowOf position first last (Change span (Grow p f l)) = (p ≡ position) × (f ≡ first) × (l ≡ last)
+IsGrowOf position first last (Change span (Put)) = ⊥
+IsGrowOf position first last (Change span (Pair p)) = ⊥
+IsGrowOf position first last (Change span (Take)) = ⊥
+
+module _ (k : Known) (m : ℕ) (key : Key) (way : List Step) (len end position first last : ℕ) where
+  abbrev plan : Plan
+  plan = change len end (Grow position first last)
+
+  no_other : (other : Plan) → plan ≡ other → ¬ (IsGrowOf position first last other) → ⊥
+  no_other other is other_deed = other_deed (subst (IsGrowOf position first last) is (refl, refl, refl))
+
+  grown : (number value p level low high : ℕ) (c : Choice) → IsLevel way p level → IsChosen way level low high c → AreAffected k m key way (Leaf number value (Some p)) low high → (end_at : ℕ) → IsChainEnd way c.level end_at →
+      plan ≡ change (c.level + 1) end_at (Grow p c.first c.last) → IsGrowPlan k m key way (Leaf number value (Some p)) len end position first last
+  grown number value p level low high c at is affected end_at chain same =
+      let (pos, fir, las) : IsGrowOf position first last (change (c.level + 1) end_at (Grow p c.first c.last)) = subst (IsGrowOf position first last) same (refl, refl, refl) in
+      record {
+        number = number;
+        value = value;
+        level = level;
+        low = low;
+        high = high;
+        chosen = c;
+        found_is = ap (λ z. Leaf number value (Some z)) pos;
+        is_level = subst (λ z. IsLevel way z level) pos at;
+        is_chosen = is;
+        len_is = ap len_of same;
+        first_is = sym fir;
+        last_is = sym las;
+        chain = subst (IsChainEnd way c.level) (sym (ap plan_end same)) chain;
+        affected = subst (λ z. AreAffected k m key way (Leaf number value (Some z)) low high) pos affected;
+      }
+
+  by_case : (number value p level low high : ℕ) (c : Choice) (case : Case) → c.case ≡ case → IsLevel way p level → IsChosen way level low high c → AreAffected k m key way (Leaf number value (Some p)) low high →
+      IsCase way p c case plan → IsGrowPlan k m key way (Leaf number value (Some p)) len end position first last
+  by_case number value p level low high c LeafPushdown e at is affected same = absurd (no_other _ same (λ z. z))
+  by_case number value p level low high c NormalInsert e at is affected same = grown number value p level low high c at is affected c.level (one_chain way level low high c at.within is e) same
+  by_case number value p level low high c Overflow e at is affected (end_at, chain, same) = grown number value p level low high c at is affected end_at chain same
+
+  new_leaf : (number value p low high : ℕ) → IsNewLeafPlan way p low high plan → AreAffected k m key way (Leaf number value (Some p)) low high → IsGrowPlan k m key way (Leaf number value (Some p)) len end position first last
+  new_leaf number value p low high is affected = go way refl is
+    where
+      go : (w : List Step) → w ≡ way → IsNewLeafPlan w p low high plan → IsGrowPlan k m key way (Leaf number value (Some p)) len end position first last
+      go [] e same = absurd (no_other _ same (λ z. z))
+      go (s ∷ ss) e (level, at, (c, chosen, case)) =
+          by_case number value p level low high c c.case refl (subst (λ w. IsLevel w p level) e at) (subst (λ w. IsChosen w level low high c) e chosen) affected (subst (λ w. IsCase w p c c.case plan) e case)
+
+  pub grow_plan : (ask : Ask) (found : Found) → IsPlanned k m key way ask found (change len end (Grow position first last)) → IsGrowPlan k m key way found len end position first last
+  grow_plan Insert Nothing (low, high, is, affected) = absurd (no_other _ is (λ z. z))
+  grow_plan Upsert Nothing (low, high, is, affected) = absurd (no_other _ is (λ z. z))
+  grow_plan Remove Nothing (low, high, is, affected) = absurd (no_other _ is (λ z. z))
+  grow_plan Insert (Leaf n v None) (low, high, is, affected) = absurd (no_other _ is (λ z. z))
+  grow_plan Upsert (Leaf n v None) (low, high, is, affected) = absurd (no_other _ is (λ z. z))
+  grow_plan Remove (Leaf n v None) (low, high, is, affected) = absurd (no_other _ is (λ z. z))
+  grow_plan Remove (Leaf n v (Some p)) (low, high, is, affected) = absurd (no_other _ is (λ z. z))
+  grow_plan Insert (Leaf n v (Some p)) (low, high, is, affected) = new_leaf n v p low high is affected
+  grow_plan Upsert (Leaf n v (Some p)) (low, high, is, affected) = new_leaf n v p low high is affected
+
+-- ---- the affected part
+-- more than one entry
+part_big : (y : Page) → 1 < size y → IsPartPage y
+part_big (Place e) h = absurd (omega arith)
+part_big (Fork q a b) h = tt
+
+-- one entry
+tip_small : (y : Page) → size y ≤ 1 → IsTipPage y
+tip_small (Place e) h = tt
+tip_small (Fork q a b) h = let l = size_pos a in let r = size_pos b in absurd (omega arith)
+
+-- which is that of the key's search
+tip_seek : (p : ℕ) (key : Key) (x : Page) → IsTipPage (page_affected p key x) → page_affected p key x ≡ Place (seek key x)
+tip_seek p key (Place e) h = refl
+tip_seek p key (Fork q x y) h = go (nat_lt q p) (bit key q) (tip_seek p key x) (tip_seek p key y) h
+  where
+    go : (u o : Bool) → (IsTipPage (page_affected p key x) → page_affected p key x ≡ Place (seek key x)) → (IsTipPage (page_affected p key y) → page_affected p key y ≡ Place (seek key y)) →
+        IsTipPage (if u then (if o then page_affected p key y else page_affected p key x) else Fork q x y) →
+        (if u then (if o then page_affected p key y else page_affected p key x) else Fork q x y) ≡ Place (if o then seek key y else seek key x)
+    go true true f g h = g h
+    go true false f g h = f h
+    go false o f g h = elim h [ ]
+
+size_affected : (key : Key) (p first last : ℕ) (x : Page) → AffectsJust key p first last x → size (page_affected p key x) + first ≡ last + 1
+size_affected key p first last x a = ap (λ j. j + first) (sym ((key_part key p x).count)) ∙ a.upto
+
+-- a page of two entries or more whose first fork is not before the position
+abbrev IsForked : Page → Type 0
+IsForked (Place e) = ⊥
+IsForked (Fork q a b) = Unit {0}
+
+forked_big : (x : Page) → 2 ≤ size x → IsForked x
+forked_big (Place e) h = absurd (omega arith)
+forked_big (Fork q a b) h = tt
+
+whole_part : (key : Key) (p last : ℕ) (x : Page) → IsForked x → p ≤ first_position x → size x ≡ last + 1 → IsPartPage (page_affected p key x) × AffectsJust key p 0 last x
+whole_part key p last (Place e) f h n = elim f [ ]
+whole_part key p last (Fork q a b) f h n =
+    let e : nat_lt q p ≡ false = le-ltb q p h in
+    (rw e tt, record { from = rw e refl; upto = rw e (omega (arith, n)) })
+
+below_first : (p : ℕ) (x : Page) → IsForked x → first_position x < p → IsFirstBelow p x
+below_first p (Place e) f h = elim f [ ]
+below_first p (Fork q a b) f h = h
+
+-- ---- the rest of the way
+seen_on : (m : ℕ) (e : Entry) (a b : Past) → IsGrown a b → IsSeen a m e → IsSeen b m e
+seen_on m e a b g (n, u, lo, hi, st, is) = (n, u, lo, le_trans hi g.longer, record { tree = st.tree; is_moment = g.kept n hi ∙ st.is_moment; within = st.within; is_record = st.is_record }, is)
+
+module _ (layout : Layout) (k : Known) (m : ℕ) (key : Key) (number value p : ℕ) (since : IsSince k m) (l : Key) (read : Sure k (λ past. IsRead past m number l value)) where
+  abbrev found : Found
+  found = Leaf number value (Some p)
+
+  abbrev AreWay : List Step → Type 0
+  AreWay way = (i : ℕ) (s : Step) → slice_get way i ≡ Some s → (e : Entry) × (named way found (i + 1) ≡ Some e) × IsWayNode layout k m key s e
+
+  rest_of : (s : Step) (way : List Step) → AreWay (s ∷ way) → AreWay way
+  rest_of s way nodes i u at =
+      let later : suc i + 1 ≡ suc (i + 1) = omega arith in subst (λ z. (e : Entry) × (named (s ∷ way) found z ≡ Some e) × IsWayNode layout k m key u e) later (nodes (suc i) u at)
+
+  sure_read : IsSure k (λ s. IsRead s m number l value)
+  sure_read = seen_is_sure k (λ s. IsRead s m number l value) (λ a b g. read_on a b g m number l value) read
+
+  -- from a node of the way down to the leaf
+  goes_down : (r a : ℕ) (way : List Step) → AreWay way → (e : Entry) → named way found 0 ≡ Some e → IsSure k (λ s. IsOnWay s m r a e) → IsSure k (λ s. IsOnWay s m r a (LeafEntry number))
+  goes_down r a [] nodes e is on = subst (λ z. IsSure k (λ s. IsOnWay s m r a z)) (sym (same_some is)) on
+  goes_down r a (s ∷ way) nodes e is on =
+      let (next, named_is, node) = nodes 0 s refl in
+      let placed : IsSure k (λ z. IsPlaced z m s.number s.at next) = seen_is_sure k (λ z. IsPlaced z m s.number s.at next) (λ x y g. placed_on x y g m s.number s.at next) node.placed in
+      goes_down r a way (rest_of s way nodes) next named_is
+      (descent_goes_on k m r a s.number s.height s.at next since (subst (λ z. IsSure k (λ s. IsOnWay s m r a z)) (sym (same_some is)) on) placed)
+
+  -- from what the way names at a level
+  pub way_from : (way : List Step) → AreWay way → (i : ℕ) (e : Entry) → named way found i ≡ Some e → IsSure k (λ s. IsWayFrom s m l e)
+  way_from [] nodes i e is = subst (λ z. IsSure k (λ s. IsWayFrom s m l z)) (same_some is) (λ c law recalls. way_of_leaf c.past m number l value (sure_read c law recalls))
+  way_from (s ∷ way) nodes zero e is =
+      let (next, named_is, node) = nodes 0 s refl in
+      let led : IsSure k (λ z. IsSeen z m (Node s.number s.height)) = seen_is_sure k (λ z. IsSeen z m (Node s.number s.height)) (seen_on m (Node s.number s.height)) node.seen in
+      let shaped : IsSure k (λ z. IsShaped z m s.number node.forks) = seen_is_sure k (λ z. IsShaped z m s.number node.forks) (λ x y g. shaped_on x y g m s.number node.forks) node.shaped in
+      let r : ℕ = first_position node.forks in
+      let begun = descent_begins k m s.number s.height r node.forks since led shaped refl in
+      let down = goes_down r s.number (s ∷ way) nodes (Node s.number s.height) refl begun in
+      subst (λ z. IsSure k (λ s. IsWayFrom s m l z)) (same_some is) (descent_ends k m r s.number s.height number l value since down sure_read)
+  way_from (s ∷ way) nodes (suc i) e is = way_from way (rest_of s way nodes) i e is
+
+-- ---- the locked nodes of a span
+in_range : (xs : List Step) (b n i : ℕ) (s : Step) → slice_get xs i ≡ Some s → b ≤ i → i < b + n → IsOf s (take n (drop b xs))
+in_range [] b n i s at low high = absurd (let z : None ≡ Some s = at in cc)
+in_range (x ∷ xs) zero zero i s at low high = absurd (omega arith)
+in_range (x ∷ xs) zero (suc n) zero s at low high = inl (sym (same_some at))
+in_range (x ∷ xs) zero (suc n) (suc i) s at low high = inr (in_range xs zero n i s at (omega arith) (omega arith))
+in_range (x ∷ xs) (suc b) n zero s at low high = absurd (omega arith)
+in_range (x ∷ xs) (suc b) n (suc i) s at low high = in_range xs b n i s at (omega arith) (omega arith)
+
+named_at : (way : List Step) (found : Found) (i : ℕ) (s : Step) → slice_get way i ≡ Some s → named way found i ≡ Some (Node s.number s.height)
+named_at [] found i s at = absurd (let z : None ≡ Some s = at in cc)
+named_at (x ∷ way) found zero s at = ap (λ (z : Step). Some (Node z.number z.height)) (same_some at)
+named_at (x ∷ way) found (suc i) s at = named_at way found i s at
+
+named_end : (way : List Step) (found : Found) (i : ℕ) → length way ≤ i → named way found i ≡ end_of found
+named_end [] found i h = refl
+named_end (x ∷ way) found zero h = absurd (omega arith)
+named_end (x ∷ way) found (suc i) h = named_end way found i (omega arith)
+
+lower_entry : (h : ℕ) (e : Entry) → height_of e < h → IsLowerPage h (Place e)
+lower_entry h (LeafEntry n) l = l
+lower_entry h (Node n g) l = l
+
+-- each node of the span is locked, and the one above it
+pub locked_at : (k : Known) (way : List Step) (span : Span) → HasLockedSpan k way span → (i : ℕ) (s : Step) → span.end ≤ i + 1 → i < span.len → slice_get way i ≡ Some s → (words : List ℕ) × HasLocked k s.number words
+locked_at k way span locked i s low high at =
+    let there = in_range way (span.end - 1) (span.len - (span.end - 1)) i s at (omega arith) (omega arith) in
+    let (lock, is, same) = locked.nodes.0.each s.number (map_of (λ (z : Step). z.number) s (take (span.len - (span.end - 1)) (drop (span.end - 1) way)) there) in
+    (lock.words, subst (λ n. IsOf (record { node = n; words = lock.words }) k.locks) same is)
+
+module _ (layout : Layout) (k : Known) (m : ℕ) (key : Key) (way : List Step) (found : Found) (span : Span) (possible : IsPossible layout k) (own : k.own ≡ []) (w : IsWayOf layout k m key way found) (locked : HasLockedSpan k way span)
+    (checked : IsChecked k key way found span) where
+  -- each is locked
+  pub held_at : (i : ℕ) (s : Step) → span.end ≤ i + 1 → i < span.len → slice_get way i ≡ Some s → (words : List ℕ) × HasLocked k s.number words
+  held_at i s low high at = locked_at k way span locked i s low high at
+
+  -- what its words show
+  step_at : (i : ℕ) (s : Step) (at : slice_get way i ≡ Some s) (words : List ℕ) → HasLocked k s.number words → IsStepOf key s (w.nodes i s at).2.forks (node_of words)
+  step_at i s at words h = let n = w.nodes i s at in way_node_locked layout k m key s n.0 words possible w.since n.2 h
+
+  forked : (n : ℕ) (words : List ℕ) → HasLocked k n words → IsForked (node_of words).page
+  unfolding IsPacked
+  forked n words h =
+      let (lock, tree, same) = all_of (IsLocked k.pass possible.core) (record { node = n; words = words }) k.locks (knows_all possible.core k possible.knows).locks h in
+      let (view, has, spells) = possible.lawful.records.packed (a_node n) (subst IsWhole (sym tree.1) tt) in
+      let shows = node_is view (possible.core.words (a_node n)) (possible.lawful.records.sized (a_node n)).1 has spells in
+      let page_is : (node_of words).page ≡ piece view = ap (λ (z : NodeWords). z.page) (ap node_of (sym same) ∙ shows) in
+      forked_big (node_of words).page (let e = ap size page_is ∙ size-piece view has.lawful in let l = has.lawful.several in omega (arith, e))
+
+  -- the locked node above names the one below, which is lower
+  over : (p i : ℕ) (s u : Step) (ws wu : List ℕ) → span.end ≤ i + 1 → i < span.len → slice_get way i ≡ Some s → slice_get way (i + 1) ≡ Some u → HasLocked k s.number ws → HasLocked k u.number wu →
+      IsFirstBelow p (node_of wu).page ⊎ IsTipPage (page_affected p key (node_of ws).page) → IsAbove k.locks key p s.number u.number
+  over p i s u ws wu low high at next hs hu path = record {
+    upper = ws;
+    lower = wu;
+    has_upper = hs;
+    has_lower = hu;
+    height = u.height;
+    entry = same_some (sym (checked.entries i s low high at ws hs) ∙ named_at way found (i + 1) u next);
+    path = path;
+  }
+
+  falls : (i : ℕ) (s u : Step) (ws wu : List ℕ) → slice_get way i ≡ Some s → slice_get way (i + 1) ≡ Some u → HasLocked k s.number ws → HasLocked k u.number wu → (node_of wu).fixed.height < (node_of ws).fixed.height
+  falls i s u ws wu at next hs hu =
+      let n = w.nodes i s at in
+      let same : n.0 ≡ Node u.number u.height = same_some (sym n.1 ∙ named_at way found (i + 1) u next) in
+      let high : height_of n.0 ≡ u.height = ap height_of same in
+      omega (arith, n.2.below, high, (step_at i s at ws hs).height, (step_at (i + 1) u next wu hu).height)
+
+-- ---- where a new leaf goes
+module _ (layout : Layout) (k : Known) (m : ℕ) (key : Key) (way : List Step) (found : Found) (span : Span) (possible : IsPossible layout k) (own : k.own ≡ []) (w : IsWayOf layout k m key way found) (locked : HasLockedSpan k way span)
+    (checked : IsChecked k key way found span) (position first last : ℕ) (plan : IsGrowPlan k m key way found span.len span.end position first last) where
+  abbrev top : ℕ
+  top = plan.chosen.level
+
+  -- the chosen node is one of the way
+  pub top_within : top < length way
+  top_within = chosen_within way plan.level plan.low plan.high plan.chosen plan.is_level.within plan.is_chosen
+
+  pub top_below : top + 1 ≡ span.len
+  top_below = sym plan.len_is
+
+  -- at the level the insertion affects these entries
+  affected_at : (s : Step) → slice_get way plan.level ≡ Some s → (words : List ℕ) → HasLocked k s.number words → AffectsJust key position plan.low plan.high (node_of words).page
+  affected_at s at words h =
+      let (forks, shaped, affects) = plan.affected plan.level s plan.is_level at in
+      let n = w.nodes plan.level s at in
+      let same = (locked_shape layout k m s.number s.height forks words possible w.since n.2.seen shaped h).0 in
+      shape_affects key position plan.low plan.high (node_of words).page forks same affects
+
+  -- one entry is affected there
+  tip_at : plan.high ≤ plan.low → (s : Step) → slice_get way plan.level ≡ Some s → (words : List ℕ) → HasLocked k s.number words → IsTipPage (page_affected position key (node_of words).page)
+  tip_at few s at words h = let count = size_affected key position plan.low plan.high (node_of words).page (affected_at s at words h) in tip_small (page_affected position key (node_of words).page) (omega (arith, count))
+
+  -- the chosen node's affected part
+  pub part_at : (s : Step) → slice_get way top ≡ Some s → (words : List ℕ) → HasLocked k s.number words → IsPartPage (page_affected position key (node_of words).page) × AffectsJust key position first last (node_of words).page
+  part_at s at words h = elim (chosen_is way plan.level plan.low plan.high plan.chosen plan.is_level.within plan.is_chosen) [
+    | inl (several, u, there, is) ↦
+        let here : slice_get way plan.level ≡ Some s = ap (slice_get way) (sym (ap (λ (c : Choice). c.level) is)) ∙ at in
+        let affects = affected_at s here words h in
+        let count = size_affected key position plan.low plan.high (node_of words).page affects in
+        (part_big (page_affected position key (node_of words).page) (omega (arith, count)), subst_range plan.low plan.high (ap (λ (c : Choice). c.first) is) (ap (λ (c : Choice). c.last) is) words affects)
+    | inr o ↦ elim o [
+      | inl (few, u, there, is) ↦
+          let here : slice_get way (plan.level + 1) ≡ Some s = ap (slice_get way) (sym (ap (λ (c : Choice). c.level) is)) ∙ at in
+          let same : u ≡ s = same_some (sym there ∙ here) in
+          let of_step = step_at layout k m key way found span possible own w locked checked (plan.level + 1) s here words h in
+          let high = plan.is_level.rest (plan.level + 1) s (omega arith) here in
+          let some = size_pos (node_of words).page in
+          let count : u.count ≡ s.count = ap (λ (z : Step). z.count) same in
+          let (part, affects) = whole_part key position (u.count - 1) (node_of words).page (forked layout k m key way found span possible own w locked checked s.number words h) (omega (arith, high, of_step.first)) (omega (arith, some, of_step.count, count)) in
+          (part, subst_range 0 (u.count - 1) (ap (λ (c : Choice). c.first) is) (ap (λ (c : Choice). c.last) is) words affects)
+      | inr (few, past, u, there, is) ↦
+          let level_is : top ≡ plan.level = ap (λ (c : Choice). c.level) is in
+          let here : slice_get way plan.level ≡ Some s = ap (slice_get way) (sym level_is) ∙ at in
+          let tip = tip_at few s here words h in
+          let on : page_affected position key (node_of words).page ≡ Place (seek key (node_of words).page) = tip_seek position key (node_of words).page tip in
+          let named_is = checked.entries plan.level s (let u = plan.chain.upto in omega (arith, level_is)) (omega (arith, level_is, top_below)) here words h in
+          let leaf : seek key (node_of words).page ≡ LeafEntry plan.number = same_some (sym named_is ∙ (named_end way found (plan.level + 1) past ∙ ap end_of plan.found_is)) in
+          (subst IsPartPage (sym (on ∙ ap (λ e. let z : Page = Place e in z) leaf)) tt, subst_range plan.low plan.high (ap (λ (c : Choice). c.first) is) (ap (λ (c : Choice). c.last) is) words (affected_at s here words h))
+    ]
+  ]
+    where
+      subst_range : (f l : ℕ) → plan.chosen.first ≡ f → plan.chosen.last ≡ l → (words : List ℕ) → AffectsJust key position f l (node_of words).page → AffectsJust key position first last (node_of words).page
+      subst_range f l ef el words a =
+          subst (λ z. AffectsJust key position z last (node_of words).page) (sym (plan.first_is ∙ ef)) (subst (λ z. AffectsJust key position f z (node_of words).page) (sym (plan.last_is ∙ el)) a)
+
+  -- above the chosen node the insertion affects no more than the place on the way
+  last_path : (i : ℕ) (s u : Step) (ws wu : List ℕ) → i + 1 ≡ top → slice_get way i ≡ Some s → slice_get way (i + 1) ≡ Some u → HasLocked k s.number ws → HasLocked k u.number wu →
+      IsFirstBelow position (node_of wu).page ⊎ IsTipPage (page_affected position key (node_of ws).page)
+  last_path i s u ws wu next at below hs hu = elim (chosen_is way plan.level plan.low plan.high plan.chosen plan.is_level.within plan.is_chosen) [
+    | inl (several, v, there, is) ↦ inl (under (ap (λ (c : Choice). c.level) is))
+    | inr o ↦ elim o [
+      | inl (few, v, there, is) ↦
+          let level_is : top ≡ plan.level + 1 = ap (λ (c : Choice). c.level) is in
+          let same : i ≡ plan.level = omega (arith, level_is) in
+          inr (tip_at few s (ap (slice_get way) (sym same) ∙ at) ws hs)
+      | inr (few, past, v, there, is) ↦ inl (under (ap (λ (c : Choice). c.level) is))
+    ]
+  ]
+    where
+      under : top ≡ plan.level → IsFirstBelow position (node_of wu).page
+      under level_is =
+          let same : i + 1 ≡ plan.level = omega (arith, level_is) in
+          let here : slice_get way plan.level ≡ Some u = ap (slice_get way) (sym same) ∙ below in
+          let low : u.first_position < position = plan.is_level.low (omega (arith, same)) u here in
+          let of_step = step_at layout k m key way found span possible own w locked checked plan.level u here wu hu in
+          below_first position (node_of wu).page (forked layout k m key way found span possible own w locked checked u.number wu hu) (omega (arith, low, of_step.first))
+
+  path : (d i : ℕ) (s u : Step) (ws wu : List ℕ) → i + 1 + d ≡ top → span.end ≤ i + 1 → slice_get way i ≡ Some s → slice_get way (i + 1) ≡ Some u → HasLocked k s.number ws → HasLocked k u.number wu →
+      IsFirstBelow position (node_of wu).page ⊎ IsTipPage (page_affected position key (node_of ws).page)
+  unfolding over
+  path zero i s u ws wu far low at below hs hu = last_path i s u ws wu (omega arith) at below hs hu
+  path (suc d) i s u ws wu far low at below hs hu =
+      let (v, next) = some_at way (i + 1 + 1) (omega (arith, top_within)) in
+      let (wv, hv) = held_at layout k m key way found span possible own w locked checked (i + 1 + 1) v (omega arith) (omega (arith, top_below)) next in
+      let above = over layout k m key way found span possible own w locked checked position (i + 1) u v wu wv (omega arith) (omega (arith, top_below)) below next hu hv (path d (i + 1) u v wu wv (omega arith) (omega arith) below next hu hv) in
+      let (c, stage) = stage_of_held layout k [] possible (own, tt) tt in
+      inl (above_goes_on layout k k.locks [] c stage key position u.number v.number above)
+
+  pub over_at : (i : ℕ) (s u : Step) (ws wu : List ℕ) → span.end ≤ i + 1 → i < top → slice_get way i ≡ Some s → slice_get way (i + 1) ≡ Some u → HasLocked k s.number ws → HasLocked k u.number wu → IsAbove k.locks key position s.number u.number
+  over_at i s u ws wu low high at below hs hu =
+      over layout k m key way found span possible own w locked checked position i s u ws wu low (omega (arith, top_below)) at below hs hu (path (top - (i + 1)) i s u ws wu (omega arith) low at below hs hu)
+
+  -- a full node, where its step says so
+  full_at : (i : ℕ) (s : Step) → slice_get way i ≡ Some s → s.count ≡ 32 → (words : List ℕ) → HasLocked k s.number words → size (node_of words).page ≡ 32
+  full_at i s at full words h = (step_at layout k m key way found span possible own w locked checked i s at words h).count ∙ full
+
+  pub pulled_full : (i : ℕ) (s : Step) → span.end < i → i ≤ top → slice_get way i ≡ Some s → (words : List ℕ) → HasLocked k s.number words → size (node_of words).page ≡ 32
+  pulled_full i s low high at words h =
+      let next : i - 1 + 1 ≡ i = omega arith in
+      let (u, above) = some_at way (i - 1) (omega (arith, top_within)) in
+      full_at i s at (plan.chain.pulls (i - 1) s u (omega arith) (omega arith) (ap (slice_get way) next ∙ at) above).0 words h
+
+  pub chain_at : IsChain layout.nodes k.locks way key position span.end top
+  unfolding over_at held_at over
+  chain_at = record {
+    there = λ i s low at. (w.nodes i s at).2.range;
+    above = λ i s u low high at below.
+        let (ws, hs) = held_at layout k m key way found span possible own w locked checked i s (omega arith) (omega (arith, top_below)) at in
+        let (wu, hu) = held_at layout k m key way found span possible own w locked checked (i + 1) u (omega arith) (omega (arith, top_below)) below in
+        (over_at i s u ws wu (omega arith) high at below hs hu, falls layout k m key way found span possible own w locked checked i s u ws wu at below hs hu);
+    full = λ i s low high at words h. pulled_full i s low (omega arith) at words h;
+  }
+
+  -- ---- the place above the topmost node
+  pub spot_in_node : (n slot : ℕ) (s u : Step) (wu : List ℕ) (e : Entry) → 0 < span.end → slice_get way (span.end - 1) ≡ Some s → slice_get way span.end ≡ Some u → HasLocked k u.number wu → FitsAbove wu e → n ≡ s.number → slot ≡ s.at →
+      IsSpotOf k k.locks key position u.number e (Slot n slot)
+  unfolding over_at held_at over
+  spot_in_node n slot s u wu e low at below hu fits n_is slot_is =
+      let upto = plan.chain.upto in
+      let next : span.end - 1 + 1 ≡ span.end = omega arith in
+      let (ws, hs) = held_at layout k m key way found span possible own w locked checked (span.end - 1) s (omega arith) (omega (arith, top_below, upto)) at in
+      let below' : slice_get way (span.end - 1 + 1) ≡ Some u = ap (slice_get way) next ∙ below in
+      let above = over_at (span.end - 1) s u ws wu (omega arith) (omega (arith, upto)) at below' hs hu in
+      let upper = step_at layout k m key way found span possible own w locked checked (span.end - 1) s at ws hs in
+      let lower = step_at layout k m key way found span possible own w locked checked span.end u below wu hu in
+      let high = falls layout k m key way found span possible own w locked checked (span.end - 1) s u ws wu at below' hs hu in
+      let fit : height_of e < (node_of ws).fixed.height = ⊎_elim
+      (λ room. let l = fits.1 room in omega (arith, l, high))
+      (λ full. let count : u.count ≡ 32 = let r = lower.room in let c = lower.count in omega (arith, r, c, full) in
+      let apart = plan.chain.stops (span.end - 1) u s next below at count in
+      let l = fits.0 in
+      strictly (height_of e) (node_of wu).fixed.height (node_of ws).fixed.height l high (λ same. apart (sym upper.height ∙ (same ∙ ap (λ z. z + 1) lower.height))))
+      (cases_lt (size (node_of wu).page) 32) in
+      subst (λ z. IsSpotOf k k.locks key position u.number e (Slot z slot)) (sym n_is)
+      (in_node s.number slot above (upper.at ∙ sym slot_is) (lower_entry (node_of ws).fixed.height e fit))
+    where
+      strictly : (e l h : ℕ) → e ≤ l + 1 → l < h → (h ≡ l + 1 → ⊥) → e < h
+      strictly e l h fits low apart = ⊎_elim (λ o. omega arith) (λ o. absurd (apart (omega arith))) (cases_lt (l + 1) h)
+
+  pub spot_at_root : (s : Step) (e : Entry) → span.end ≡ 0 → slice_get way span.end ≡ Some s → IsSpotOf k k.locks key position s.number e Root
+  spot_at_root s e zero_end at = at_root s.height (checked.root zero_end ∙ ap Some (named_at way found 0 s (ap (slice_get way) (sym zero_end) ∙ at)))
+
+-- ---- below the chosen node
+pub found_below : (layout : Layout) (k : Known) (m : ℕ) (key : Key) (way : List Step) (number value p : ℕ) (span : Span) → IsWayOf layout k m key way (Leaf number value (Some p)) → IsChecked k key way (Leaf number value (Some p)) span →
+    (x : ℕ) (given : ℕ) → HasLeafWords (key, given) → (i : ℕ) (s : Step) (words : List ℕ) → span.end ≤ i + 1 → i < span.len → slice_get way i ≡ Some s → HasLocked k s.number words →
+    (l : Key) × HasFoundBelow k k.locks m (item x key given) p l s.number words
+found_below layout k m key way number value p span w checked x given spelled i s words low high at h =
+    let (l, read, apart) = w.found_at in
+    let named_is = checked.entries i s low high at words h in
+    let from = way_from layout k m key number value p w.since l read way w.nodes (i + 1) (seek key (node_of words).page) named_is in
+    (l, descent_finds k k.locks m (item x key given) p l s.number words spelled w.since h from apart.0 apart.1)

@@ -1,0 +1,396 @@
+-- What rises is put at its spot; what goes for it, and what is kept of the locked nodes.
+use Rattle.std.proofs.Common.{◌≡◌, inl, inr, ◌⊎◌, ℕ, ◌+◌, ◌-◌, ◌<◌, ◌≤◌, Bool, true, false, List, [], ◌∷◌, ◌++◌, length, map, take, drop, refl, sym, ap, ap₂, subst, ◌∙◌, arith, if◌then◌else◌, Some, None, IsSome, get_or, le_trans, Result, Ok, Err, IfErr}
+use Rattle.std.specs.Prelude.{All, slice_get, slice_range}
+use Rattle.std.proofs.Math.Seq.{take-add}
+use Rattle.std.proofs.lemmas.List.{append-nil, drop-drop, drop-take, map-append}
+use Rattle.std.proofs.lemmas.List.Elements.{All-append, All-cons, All-drop, All-head, All-tail, All-take}
+use Rattle.std.proofs.lemmas.Option.{slice_get-get_or}
+use Rattle.compound_node.specs.Nodes.{IsEntry}
+use Rattle.compound_node.specs.declared.entries.Entry.{Entry}
+use Rattle.compound_node.specs.declared.entries.Entry.TheVariants.{Leaf as LeafEntry, Node}
+use Rattle.insert_cases.specs.declared.choice.Step.{Step}
+use Rattle.moments.specs.Trades.{IsOf, AreApart}
+use Rattle.moments.specs.declared.Rec.{Rec}
+use Rattle.moments.specs.declared.Rec.TheVariants.{Node as a_node, Leaf as a_leaf}
+use Rattle.moments.proofs.Members.{map_of, of_append, of_left, of_map, of_right}
+use Rattle.pieces.specs.Piece.{Place, places}
+use Rattle.record_words.specs.Entry.{HasEntryWord, entry_word}
+use Rattle.record_words.specs.declared.layout.Layout.{Layout}
+use Rattle.tries.specs.Content.{Item}
+use Rattle.tries.specs.Keys.{Key}
+use Rattle.tries.specs.Tree.{Tree, page, IsBuilt}
+use Rattle.tries.proofs.Fitting.{children_are}
+use Rattle.rowex_core.specs.Cores.{HasRecord}
+use Rattle.rowex_core.specs.Having.{AreKept, LocksJust}
+use Rattle.rowex_core.specs.declared.event.Spot.{Spot}
+use Rattle.rowex_core.specs.declared.event.Spot.TheVariants.{Root, Slot}
+use Rattle.rowex_core.specs.declared.known.Known.{Known}
+use Rattle.rowex_core.specs.declared.known.Locked.{Locked}
+use Rattle.rowex_rights.specs.Insertions.{IsSpotOf, in_node, at_root}
+use Rattle.rowex_rights.specs.Rises.{of_leaf, HasFoundBelow}
+use Rattle.rowex_rights.specs.Stages.{HasRisen}
+use Rattle.rowex_rights.proofs.Insertions.{insertion}
+use Rattle.rowex_rights.proofs.Rising.{risen_stays}
+use Rattle.rowex_table.specs.Made.{IsLater, nodes_of}
+use Rattle.rowex_table.specs.Publishes.{Publishes}
+use Rattle.rowex_table.specs.Rule.{IsEntry as IsSlotOf}
+use Rattle.record_words.specs.Leaf.{HasLeafWords}
+use Rattle.hot_model.specs.Fronts.{OthersGoOn}
+use Rattle.hot_model.proofs.Growth.{others_on}
+use Rattle.insert_cases.proofs.Choosing.{some_at}
+use Rattle.rowex_core.specs.Reading.{node_of}
+use Rattle.rowex_rights.specs.Loops.{StaysLocked}
+use Rattle.rowex_rights.proofs.Sure.{found_stays}
+use Rattle.tries.specs.Affected.{page_affected, IsPartPage}
+use Rattle.tries.proofs.Places.{spot_below}
+use Rattle.rowex_writing.specs.Remaking.{AffectsJust}
+use Rattle.rowex_writing.specs.Plans.{change}
+use Rattle.rowex_writing.specs.Ways.{IsWayOf}
+use Rattle.rowex_writing.specs.declared.plan.Ask.{Ask}
+use Rattle.rowex_writing.specs.declared.plan.Deed.TheVariants.{Grow}
+use Rattle.rowex_writing.specs.declared.plan.Found.{Found}
+use Rattle.rowex_writing.specs.declared.plan.Full.{Full}
+use Rattle.rowex_table.specs.Seats.{TableView, SeatView}
+use Rattle.rowex_walks.specs.Rise.{entry}
+use Rattle.rowex_walks.specs.Writer.{added_change, item}
+use Rattle.rowex_core.specs.declared.event.Event.{Event}
+use Rattle.rowex_records.specs.Claims.{AllMissed}
+use Rattle.rowex_rights.specs.Ending.{IsAtRest}
+use Rattle.rowex_rights.proofs.Loops.{later_on}
+use Rattle.rowex_writing.specs.declared.plan.Full.TheVariants.{Nodes, Leaves}
+use Rattle.rowex_writing.specs.Building.{FitsAbove, HasNotMade, IsBuilding, IsChain, HasRisenTo, gone_unless, gone_with}
+use Rattle.rowex_writing.specs.Changes.{HasChanged, HasNoRoom, HasStored, HasTakenSpan, IsChecked, IsFull, IsPlanned, IsStored, MayEnd}
+use Rattle.rowex_writing.specs.Going.{HasLocked, WorksOn}
+use Rattle.rowex_writing.specs.Growths.{HasNumber, MayGrow}
+use Rattle.rowex_writing.specs.Locks.{AreNodes, HasLockedSpan, Works, numbers_of, span_numbers}
+use Rattle.rowex_writing.specs.Putting.{IsSpotAbove}
+use Rattle.rowex_writing.specs.Retiring.{AreRecords}
+use Rattle.rowex_writing.specs.declared.plan.Span.{Span}
+use Rattle.rowex_writing.proofs.Bridging.{IsGrowPlan, chain_at, found_below, grow_plan, locked_at, part_at, pulled_full, spot_at_root, spot_in_node, top_within}
+use Rattle.rowex_writing.proofs.Lifting.{gone_more}
+use Rattle.rowex_writing.proofs.Runs.{works_run}
+use Rattle.rowex_writing.proofs.Keeping.{changed_since, missed_on}
+use Rattle.rowex_writing.proofs.Spans.{locked_same}
+use Rattle.rowex_writing.proofs.Works.{works_later}
+use Rattle.rowex_writing.proofs.Staging.{risen_page}
+
+-- ---- parts of a way
+range_two : {X : Type 0} (xs : List X) (b e d : ℕ) → b ≤ e → e ≤ d → slice_range xs b d ≡ slice_range xs b e ++ slice_range xs e d
+range_two xs b e d low high =
+    let all : d - b ≡ (e - b) + (d - e) = omega arith in
+    let back : b + (e - b) ≡ e = omega arith in
+    ap (λ n. take n (drop b xs)) all ∙ (take-add (e - b) (d - e) (drop b xs) ∙ ap (λ ys. take (e - b) (drop b xs) ++ take (d - e) ys) (drop-drop (e - b) b xs ∙ ap (λ n. drop n xs) back))
+
+-- ---- what goes
+gone_list : (way : List Step) (end low : ℕ) → end ≤ low → gone_with way end low [] ≡ map (λ (s : Step). a_node s.number) (slice_range way end low)
+gone_list way end low h =
+    let there : end + (low - end) ≡ low = omega arith in
+    append-nil (map (λ (s : Step). a_node s.number) (drop end (take low way))) ∙ ap (map (λ (s : Step). a_node s.number)) (ap (λ n. drop end (take n way)) (sym there) ∙ drop-take end (low - end) way)
+
+-- the nodes of the span, without the lowest where that stays
+pub gone_is : (way : List Step) (end top len low : ℕ) (stays : Bool) (s : Step) → end ≤ top → top + 1 ≡ len → low ≡ (if stays then top else len) → slice_get way top ≡ Some s →
+    gone_with way end top (gone_unless stays s.number) ≡ map (λ (s : Step). a_node s.number) (slice_range way end low)
+gone_is way end top len low true s h next low_is at = gone_list way end top h ∙ ap (λ n. map (λ (s : Step). a_node s.number) (slice_range way end n)) (sym low_is)
+gone_is way end top len low false s h next low_is at =
+    gone_more way end top len [] s next h at ∙ (gone_list way end len (omega arith) ∙ ap (λ n. map (λ (s : Step). a_node s.number) (slice_range way end n)) (sym low_is))
+
+-- ---- what is kept
+apart_right : {X : Type 0} (xs ys : List X) → AreApart (xs ++ ys) → AreApart ys
+apart_right [] ys a = a
+apart_right (x ∷ xs) ys a = apart_right xs ys a.1
+
+apart_from : {X : Type 0} (x : X) (xs ys : List X) → AreApart (xs ++ ys) → IsOf x xs → IsOf x ys → ⊥
+apart_from x [] ys a h i = h
+apart_from x (y ∷ xs) ys a (inl e) i = a.0 (of_right y xs ys (subst (λ z. IsOf z ys) e i))
+apart_from x (y ∷ xs) ys a (inr h) i = apart_from x xs ys a.1 h i
+
+apart_without : {X : Type 0} (xs ys zs : List X) → AreApart (xs ++ (ys ++ zs)) → AreApart (xs ++ zs)
+apart_without [] ys zs a = apart_right ys zs a
+apart_without (x ∷ xs) ys zs a = (
+  λ h. a.0 (elim (of_append x xs zs h) [ inl i ↦ of_left x xs (ys ++ zs) i | inr i ↦ of_right x xs (ys ++ zs) (of_right x ys zs i) ]),
+  apart_without xs ys zs a.1,
+)
+
+node_is_one : (n : ℕ) (steps : List Step) → IsOf (a_node n) (map (λ (s : Step). a_node s.number) steps) → IsOf n (numbers_of steps)
+node_is_one n [] h = absurd h
+node_is_one n (s ∷ steps) (inl e) = inl (ap number_of e)
+  where
+    number_of : Rec → ℕ
+    number_of (a_node i) = i
+    number_of r = 0
+node_is_one n (s ∷ steps) (inr h) = inr (node_is_one n steps h)
+
+one_is_node : (n : ℕ) (steps : List Step) → IsOf n (numbers_of steps) → IsOf (a_node n) (map (λ (s : Step). a_node s.number) steps)
+one_is_node n [] h = absurd h
+one_is_node n (s ∷ steps) (inl e) = inl (ap a_node e)
+one_is_node n (s ∷ steps) (inr h) = inr (one_is_node n steps h)
+
+kept_parts : (locks : List Locked) (us gs cs : List Step) → LocksJust locks (numbers_of us ++ (numbers_of gs ++ numbers_of cs)) → AreApart (numbers_of us ++ (numbers_of gs ++ numbers_of cs)) →
+    AreKept (nodes_of locks) (map (λ (s : Step). a_node s.number) gs) (numbers_of us ++ numbers_of cs) × AreApart (numbers_of us ++ numbers_of cs)
+kept_parts locks us gs cs just apart = (
+  record {
+    only = λ n h. (let (l, there, is) = of_map (λ (l : Locked). l.node) n locks h in sort n (subst (λ z. IsOf z (numbers_of us ++ (numbers_of gs ++ numbers_of cs))) (sym is) (just.only l there)));
+    each = λ n h. (held n h, λ g. outside n h (node_is_one n gs g));
+  },
+  apart_without (numbers_of us) (numbers_of gs) (numbers_of cs) apart,
+)
+  where
+    sort : (n : ℕ) → IsOf n (numbers_of us ++ (numbers_of gs ++ numbers_of cs)) → IsOf n (numbers_of us ++ numbers_of cs) ⊎ IsOf (a_node n) (map (λ (s : Step). a_node s.number) gs)
+    sort n h = elim (of_append n (numbers_of us) (numbers_of gs ++ numbers_of cs) h) [
+      | inl i ↦ inl (of_left n (numbers_of us) (numbers_of cs) i)
+      | inr i ↦ elim (of_append n (numbers_of gs) (numbers_of cs) i) [ inl j ↦ inr (one_is_node n gs j) | inr j ↦ inl (of_right n (numbers_of us) (numbers_of cs) j) ]
+    ]
+
+    within : (n : ℕ) → IsOf n (numbers_of us ++ numbers_of cs) → IsOf n (numbers_of us ++ (numbers_of gs ++ numbers_of cs))
+    within n h = elim (of_append n (numbers_of us) (numbers_of cs) h) [
+      | inl i ↦ of_left n (numbers_of us) (numbers_of gs ++ numbers_of cs) i
+      | inr i ↦ of_right n (numbers_of us) (numbers_of gs ++ numbers_of cs) (of_right n (numbers_of gs) (numbers_of cs) i)
+    ]
+
+    held : (n : ℕ) → IsOf n (numbers_of us ++ numbers_of cs) → IsOf n (nodes_of locks)
+    held n h = let (l, there, is) = just.each n (within n h) in subst (λ z. IsOf z (nodes_of locks)) is (map_of (λ (z : Locked). z.node) l locks there)
+
+    outside : (n : ℕ) → IsOf n (numbers_of us ++ numbers_of cs) → IsOf n (numbers_of gs) → ⊥
+    outside n h g = elim (of_append n (numbers_of us) (numbers_of cs) h) [
+      | inl i ↦ apart_from n (numbers_of us) (numbers_of gs ++ numbers_of cs) apart i (of_left n (numbers_of gs) (numbers_of cs) g)
+      | inr i ↦ apart_from n (numbers_of gs) (numbers_of cs) (apart_right (numbers_of us) (numbers_of gs ++ numbers_of cs) apart) g i
+    ]
+
+pub kept_span : (locks : List Locked) (way : List Step) (end low len : ℕ) → end ≤ low → low ≤ len → LocksJust locks (numbers_of (slice_range way (end - 1) len)) → AreApart (numbers_of (slice_range way (end - 1) len)) →
+    AreKept (nodes_of locks) (map (λ (s : Step). a_node s.number) (slice_range way end low)) (numbers_of (slice_range way (end - 1) end ++ slice_range way low len)) × AreApart (numbers_of (slice_range way (end - 1) end ++ slice_range way low len))
+kept_span locks way end low len h l just apart =
+    let us = slice_range way (end - 1) end in
+    let gs = slice_range way end low in
+    let cs = slice_range way low len in
+    let f : Step → ℕ = λ (s : Step). s.number in
+    let parts : numbers_of (slice_range way (end - 1) len) ≡ numbers_of us ++ (numbers_of gs ++ numbers_of cs) =
+    ap numbers_of (range_two way (end - 1) end len (omega arith) (omega arith) ∙ ap (λ ys. us ++ ys) (range_two way end low len h l)) ∙ (map-append f us (gs ++ cs) ∙ ap (λ ys. numbers_of us ++ ys) (map-append f gs cs)) in
+    subst (λ ys. AreKept (nodes_of locks) (map (λ (s : Step). a_node s.number) gs) ys × AreApart ys) (sym (map-append f us cs))
+    (kept_parts locks us gs cs (subst (LocksJust locks) parts just) (subst AreApart parts apart))
+
+-- where the lowest node stays, it is the first below those that go
+pub low_within : (stays : Bool) (end len low : ℕ) → end < len → low ≡ (if stays then len - 1 else len) → (end ≤ low) × (low ≤ len)
+low_within true end len low h e = (omega (arith, e), omega (arith, e))
+low_within false end len low h e = (omega (arith, e), omega (arith, e))
+
+pub kept_of_span : (k j : Known) (way : List Step) (span : Span) (stays : Bool) (low : ℕ) (gone : List Rec) (kept : List Step) → HasLockedSpan k way span → j.locks ≡ k.locks → span.end < span.len →
+    low ≡ (if stays then span.len - 1 else span.len) → gone ≡ map (λ (s : Step). a_node s.number) (slice_range way span.end low) → kept ≡ slice_range way (span.end - 1) span.end ++ slice_range way low span.len →
+    AreKept (nodes_of j.locks) gone (numbers_of kept) × AreApart (numbers_of kept)
+kept_of_span k j way span stays low gone kept locked same within low_is gone_is kept_is =
+    let (above, below) = low_within stays span.end span.len low within low_is in
+    subst (λ ks. AreKept (nodes_of j.locks) gone (numbers_of ks) × AreApart (numbers_of ks)) (sym kept_is)
+    (subst (λ gs. AreKept (nodes_of j.locks) gs (numbers_of (slice_range way (span.end - 1) span.end ++ slice_range way low span.len)) × AreApart (numbers_of (slice_range way (span.end - 1) span.end ++ slice_range way low span.len))) (sym gone_is)
+    (subst (λ ls. AreKept (nodes_of ls) (map (λ (s : Step). a_node s.number) (slice_range way span.end low)) (numbers_of (slice_range way (span.end - 1) span.end ++ slice_range way low span.len)) ×
+    AreApart (numbers_of (slice_range way (span.end - 1) span.end ++ slice_range way low span.len))) (sym same)
+    (kept_span k.locks way span.end low span.len above below locked.nodes.0 locked.nodes.1)))
+
+-- ---- nodes of the table
+pub range_nodes : (layout : Layout) (way : List Step) (b d : ℕ) → AreNodes layout way → AreNodes layout (slice_range way b d)
+range_nodes layout way b d nodes = All-take (λ (s : Step). s.number < layout.nodes) (d - b) (drop b way) (All-drop (λ (s : Step). s.number < layout.nodes) b way nodes)
+
+pub two_nodes : (layout : Layout) (way : List Step) (b e l d : ℕ) → AreNodes layout way → AreNodes layout (slice_range way b e ++ slice_range way l d)
+two_nodes layout way b e l d nodes = All-append (λ (s : Step). s.number < layout.nodes) (slice_range way b e) (slice_range way l d) (range_nodes layout way b e nodes) (range_nodes layout way l d nodes)
+
+node_records : (layout : Layout) (steps : List Step) → AreNodes layout steps → AreRecords layout (map (λ (s : Step). a_node s.number) steps)
+node_records layout [] nodes = λ i d low. absurd (omega arith)
+node_records layout (s ∷ steps) nodes =
+    All-cons (HasRecord layout) (a_node s.number) (map (λ (s : Step). a_node s.number) steps) (All-head (λ (s : Step). s.number < layout.nodes) s steps nodes)
+    (node_records layout steps (All-tail (λ (s : Step). s.number < layout.nodes) s steps nodes))
+
+pub range_records : (layout : Layout) (way : List Step) (b d : ℕ) → AreNodes layout way → AreRecords layout (map (λ (s : Step). a_node s.number) (slice_range way b d))
+range_records layout way b d nodes = node_records layout (slice_range way b d) (range_nodes layout way b d nodes)
+
+-- ---- none was free
+pub no_room : {G : Type 0} (table : TableView) (becomes : G → Event → G → Type 0) (a b c : SeatView × G) (made : List Rec) → WorksOn table becomes a b → Works table becomes b c → IsAtRest c.0.known → HasNotMade table a.0 b.0 made →
+    HasNoRoom table.layout a.0.known c.0.known Nodes
+no_room table becomes a b c made goes works rest none = record {
+  rest = rest;
+  others = (later_on a.0.known b.0.known c.0.known goes.stays.0 (works_later table becomes b c works)).front;
+  full_of = missed_on table becomes a_node table.layout.nodes a.0.known.steps b c (works_run table becomes b c works) none.missed;
+}
+
+pub no_leaf : {G : Type 0} (table : TableView) (becomes : G → Event → G → Type 0) (a b c : SeatView × G) → WorksOn table becomes a b → Works table becomes b c → IsAtRest c.0.known →
+    AllMissed a_leaf table.layout.leaves b.0.known.failed a.0.known.steps → HasNoRoom table.layout a.0.known c.0.known Leaves
+no_leaf table becomes a b c goes works rest missed = record {
+  rest = rest;
+  others = (later_on a.0.known b.0.known c.0.known goes.stays.0 (works_later table becomes b c works)).front;
+  full_of = missed_on table becomes a_leaf table.layout.leaves a.0.known.steps b c (works_run table becomes b c works) missed;
+}
+
+-- nor since an earlier moment
+pub no_room_since : (layout : Layout) (a b c : Known) (full : Full) → IsLater a b → a.steps ≤ b.steps → HasNoRoom layout b c full → HasNoRoom layout a c full
+no_room_since layout a b c full later count none = record {
+  rest = none.rest;
+  others = others_on a.pass a.front b.front c.front later.front (subst (λ q. OthersGoOn q b.front c.front) later.pass none.others);
+  full_of = earlier full none.full_of;
+}
+  where
+    earlier : (full : Full) → IsFull layout b c full → IsFull layout a c full
+    earlier Nodes missed = λ q low. (let (step, late, miss) = missed q low in (step, le_trans count late, miss))
+    earlier Leaves missed = λ q low. (let (step, late, miss) = missed q low in (step, le_trans count late, miss))
+
+pub if_full_since : (layout : Layout) (a b c : Known) (r : Result Unit Full) → IsLater a b → a.steps ≤ b.steps → IfErr r (λ full. HasNoRoom layout b c full) → IfErr r (λ full. HasNoRoom layout a c full)
+if_full_since layout a b c (Ok u) later count none = none
+if_full_since layout a b c (Err full) later count none = no_room_since layout a b c full later count none
+
+-- ---- the leaf's record is made
+-- the spot stays one
+spot_on : (k j : Known) (held : List Locked) (key : Key) (p n : ℕ) (e : Entry) (spot : Spot) → j.anchor ≡ k.anchor → IsSpotOf k held key p n e spot → IsSpotOf j held key p n e spot
+spot_on k j held key p n e spot same (in_node o slot a place low) = in_node o slot a place low
+spot_on k j held key p n e spot same (at_root h anchor) = at_root h (same ∙ anchor)
+
+pub may_grow : (table : TableView) (a b : SeatView) (made : List Rec) (m : ℕ) (key : Key) (value : ℕ) (way : List Step) (found : Found) (span : Span) (ask : Ask) (position first last leaf : ℕ) → HasTakenSpan table a m key way found span →
+    IsPlanned a.known m key way ask found (change span.len span.end (Grow position first last)) → StaysLocked a.known b.known → IsBuilding table b made (of_leaf (item leaf key value) ∷ []) → HasLeafWords (key, value) →
+    MayGrow table b made way key value span position first last leaf
+may_grow table a b made m key value way found span ask position first last leaf t planned stays building spelled = record {
+  within = (omega (arith, upto, len_is), omega (arith, len_is, within));
+  depth = w.depth;
+  nodes = λ n d low. (w.nodes n (get_or way n d) (slice_get-get_or way n d low)).2.range;
+  locked = record {
+    nodes = locked_same a.known b.known (span_numbers way span) stays.1 t.locked.nodes;
+    top = λ z. subst IsSome (sym stays.2) (t.locked.top z);
+    below = λ l. stays.2 ∙ t.locked.below l;
+  };
+  growing = record {
+    step = s;
+    at = ap (slice_get way) last_is ∙ at;
+    upto = omega (arith, upto, len_is);
+    low = (w.nodes plan.chosen.level s at).2.range;
+    lowest = record {
+      since = m;
+      item = x;
+      like = below.0;
+      words = words;
+      key_is = refl;
+      leaf_is = refl;
+      building = building;
+      found = subst (λ held. HasFoundBelow b.known held m x position below.0 s.number words) (sym stays.1) (found_stays a.known b.known a.known.locks m x position below.0 s.number words stays.0 below.1);
+      part = part.0;
+      affects = part.1;
+    };
+    full = λ more. pulled_full table.layout a.known m key way found span t.possible t.own w t.locked t.checked position first last plan plan.chosen.level s (omega (arith, more, len_is)) (omega arith) at words held;
+    chain = subst (λ n. IsChain table.layout.nodes b.known.locks way key position span.end n) (sym last_is)
+        (subst (λ ls. IsChain table.layout.nodes ls way key position span.end plan.chosen.level) (sym stays.1) (chain_at table.layout a.known m key way found span t.possible t.own w t.locked t.checked position first last plan));
+  };
+  item_is = refl;
+  place = λ u us e spot there locked fits where_it_is.
+      let here : HasLocked a.known u.number us = subst (IsOf (record { node = u.number; words = us })) stays.1 locked in
+      let (on, is_slot) = place u us e there here fits spot where_it_is in
+      (subst (λ ls. IsSpotOf b.known ls key position u.number e spot) (sym stays.1) (spot_on a.known b.known a.known.locks key position u.number e spot stays.2 on), is_slot);
+}
+  where
+    w : IsWayOf table.layout a.known m key way found
+    w = t.way_of
+
+    plan : IsGrowPlan a.known m key way found span.len span.end position first last
+    plan = grow_plan a.known m key way span.len span.end position first last ask found planned
+
+    x : Item
+    x = item leaf key value
+
+    upto : span.end ≤ plan.chosen.level
+    upto = plan.chain.upto
+
+    len_is : span.len ≡ plan.chosen.level + 1
+    len_is = plan.len_is
+
+    last_is : span.len - 1 ≡ plan.chosen.level
+    last_is = omega (arith, len_is)
+
+    within : plan.chosen.level < length way
+    within = top_within table.layout a.known m key way found span t.possible t.own w t.locked t.checked position first last plan
+
+    s : Step
+    s = (some_at way plan.chosen.level within).0
+
+    at : slice_get way plan.chosen.level ≡ Some s
+    at = (some_at way plan.chosen.level within).1
+
+    words : List ℕ
+    words = (locked_at a.known way span t.locked plan.chosen.level s (omega (arith, upto)) (omega (arith, len_is)) at).0
+
+    held : HasLocked a.known s.number words
+    held = (locked_at a.known way span t.locked plan.chosen.level s (omega (arith, upto)) (omega (arith, len_is)) at).1
+
+    part : IsPartPage (page_affected position key (node_of words).page) × AffectsJust key position first last (node_of words).page
+    part = part_at table.layout a.known m key way found span t.possible t.own w t.locked t.checked position first last plan s at words held
+
+    below : (l : Key) × HasFoundBelow a.known a.known.locks m x position l s.number words
+    below =
+        found_below table.layout a.known m key way plan.number plan.value position span (subst (IsWayOf table.layout a.known m key way) plan.found_is w) (subst (λ f. IsChecked a.known key way f span) plan.found_is t.checked) leaf value spelled
+        plan.chosen.level s words (omega (arith, upto)) (omega (arith, len_is)) at held
+
+    place : (u : Step) (us : List ℕ) (e : Entry) → slice_get way span.end ≡ Some u → HasLocked a.known u.number us → FitsAbove us e → (spot : Spot) → IsSpotAbove way span.end spot →
+        IsSpotOf a.known a.known.locks key position u.number e spot × IsSlotOf table.layout spot
+    place u us e there locked fits Root none = (spot_at_root table.layout a.known m key way found span t.possible t.own w t.locked t.checked position first last plan u e none there, tt)
+    place u us e there locked fits (Slot n i) (above, low, at_above, n_is, i_is) =
+        let node = (w.nodes (span.end - 1) above at_above).2 in
+        let small = spot_below key node.forks in (
+          spot_in_node table.layout a.known m key way found span t.possible t.own w t.locked t.checked position first last plan n i above u us e low at_above there locked fits n_is i_is,
+          (omega (arith, n_is, node.range), omega (arith, i_is, node.at, small, node.room)),
+        )
+
+-- the span of such a plan has a node
+pub grow_within : (table : TableView) (a : SeatView) (m : ℕ) (key : Key) (way : List Step) (found : Found) (span : Span) (ask : Ask) (position first last : ℕ) → HasTakenSpan table a m key way found span →
+    IsPlanned a.known m key way ask found (change span.len span.end (Grow position first last)) → (span.end < span.len) × (span.len ≤ length way)
+grow_within table a m key way found span ask position first last t planned =
+    let plan = grow_plan a.known m key way span.len span.end position first last ask found planned in
+    let within = top_within table.layout a.known m key way found span t.possible t.own t.way_of t.locked t.checked position first last plan in
+    let upto = plan.chain.upto in
+    (omega (arith, upto, plan.len_is), omega (arith, within, plan.len_is))
+
+-- what was stored is the key's value, which was absent
+pub grown_stored : (a b c : Known) (m : ℕ) (key : Key) (value : ℕ) (way : List Step) (found : Found) (span : Span) (ask : Ask) (position first last leaf : ℕ) →
+    IsPlanned a m key way ask found (change span.len span.end (Grow position first last)) → StaysLocked a b → HasChanged b c (added_change b.pass (item leaf key value)) None → HasStored a c key value found
+grown_stored a b c m key value way found span ask position first last leaf planned stays changed =
+    let plan = grow_plan a m key way span.len span.end position first last ask found planned in
+    let x = added_change b.pass (item leaf key value) in (
+      x,
+      None,
+      subst (λ f. IsStored a.pass key value f x None) (sym plan.found_is) (ap (λ q. added_change q (item leaf key value)) stays.0.pass, refl),
+      changed_since a b c x None stays.0 changed,
+    )
+
+-- ---- the store
+-- the entry for a tree has a word
+tip_word : (e : Entry) (t : Tree) → page t ≡ Place e → IsBuilt t → IsEntry e
+tip_word e t h b = subst (λ x. All IsEntry (places x)) h (children_are t b) 0 e (omega arith)
+
+entry_has : (e : Entry) → HasNumber e → IsEntry e → HasEntryWord (Some e)
+entry_has (LeafEntry n) low is = omega (arith, low)
+entry_has (Node n h) low is = (omega (arith, low), omega (arith, is.0), omega (arith, is.1))
+
+module _ (table : TableView) (a b : SeatView) (made after : List Rec) (way : List Step) (key : Key) (value : ℕ) (span : Span) (position first last leaf : ℕ)
+    (may : MayGrow table a made way key value span position first last leaf) (later : IsLater a.known b.known) (locks : b.known.locks ≡ a.known.locks) (anchor : b.known.anchor ≡ a.known.anchor) (e : Entry) (number : HasNumber e) (stays : Bool)
+    (risen : HasRisenTo table b after way may.growing.lowest.since may.growing.lowest.item position may.growing.lowest.like span.end (gone_with way span.end (span.len - 1) (gone_unless stays may.growing.step.number)) e)
+    (low : (s : Step) (words : List ℕ) → slice_get way span.end ≡ Some s → HasLocked a.known s.number words → FitsAbove words e) where
+  -- the words of the topmost node
+  top_words : (words : List ℕ) × HasLocked a.known risen.1.number words
+  top_words = locked_at a.known way span may.locked span.end risen.1 (omega arith) may.within.0 risen.2
+
+  pub grown_spot : (spot : Spot) → IsSpotAbove way span.end spot → IsSpotOf a.known a.known.locks key position risen.1.number e spot
+  grown_spot spot at = (may.place risen.1 top_words.0 e spot risen.2 top_words.1 (low risen.1 top_words.0 risen.2 top_words.1) at).0
+
+  pub grown_ends : (spot : Spot) (gone : List Rec) → IsSpotAbove way span.end spot → gone ≡ gone_with way span.end (span.len - 1) (gone_unless stays may.growing.step.number) →
+      MayEnd table b after spot (entry_word (Some e)) (added_change a.known.pass (item leaf key value)) None gone
+  grown_ends spot gone at gone_is = record {
+    news = risen.0;
+    building = risen.3.building;
+    publishes = λ j on ready same.
+        let b_risen = risen.3 in
+        let x = may.growing.lowest.item in
+        let key_is : x.key ≡ key = ap (λ (z : Item). z.key) may.item_is in
+        let here : HasLocked b.known risen.1.number top_words.0 = subst (IsOf (record { node = risen.1.number; words = top_words.0 })) (sym locks) top_words.1 in
+        let (t, page_is, trie, built) = risen_page table.layout b.known risen.0 (gone_with way span.end (span.len - 1) (gone_unless stays may.growing.step.number)) may.growing.lowest.since x position may.growing.lowest.like entry risen.1.number top_words.0
+        (Place e) b_risen.building.possible b_risen.building.holds b_risen.building.packed b_risen.leaf here b_risen.risen in
+        let still : HasRisen table.layout j b.known.locks risen.0 may.growing.lowest.since x position may.growing.lowest.like entry risen.1.number (Place e) gone =
+        subst (HasRisen table.layout j b.known.locks risen.0 may.growing.lowest.since x position may.growing.lowest.like entry risen.1.number (Place e)) (sym gone_is)
+        (risen_stays table.layout b.known j on b.known.locks risen.0 (gone_with way span.end (span.len - 1) (gone_unless stays may.growing.step.number)) may.growing.lowest.since x position may.growing.lowest.like entry risen.1.number (Place e)
+        b_risen.risen) in
+        let place : IsSpotOf j b.known.locks x.key position risen.1.number e spot =
+        subst (λ k. IsSpotOf j b.known.locks k position risen.1.number e spot) (sym key_is)
+        (subst (λ held. IsSpotOf j held key position risen.1.number e spot) (sym locks) (spot_on a.known j a.known.locks key position risen.1.number e spot (same ∙ anchor) (grown_spot spot at))) in
+        subst (λ y. Publishes table.layout j spot (entry_word (Some e)) y None gone) (ap₂ added_change (on.pass ∙ later.pass) may.item_is)
+        (insertion table.layout j b.known.locks risen.0 gone ready may.growing.lowest.since x position may.growing.lowest.like risen.1.number (entry_word (Some e)) e spot still b_risen.leaf place
+        (entry_has e number (tip_word e t page_is built), refl));
+  }

@@ -1,0 +1,177 @@
+-- What each change under the locks of a span needs: failed steps that are remembered, records that are given up, nodes that are unlocked.
+use Rattle.std.proofs.Common.{◌≡◌, ◌≢◌, inl, inr, ℕ, suc, ◌-◌, ◌<◌, List, [], ◌∷◌, ◌++◌, length, get_or, drop, Bool, true, false, nat_eq, Option, Some, None, refl, sym, ap, subst, ◌∙◌, arith}
+use Rattle.std.specs.Prelude.{if◌then◌else◌, All, Contains, reverse, slice_range}
+use Rattle.std.proofs.lemmas.Grind.{reverse_onto}
+use Rattle.std.proofs.lemmas.List.Elements.{All-cons, All-drop, All-head, All-nil, All-push, All-tail, All-take, Contains-push, Contains-append_left}
+use Rattle.std.proofs.lemmas.Option.{slice_get-get_or}
+use Rattle.hot_model.specs.declared.Change.{Change}
+use Rattle.hot_model.specs.Fronts.{OthersGoOn}
+use Rattle.insert_cases.specs.declared.choice.Step.{Step}
+use Rattle.record_words.specs.declared.layout.Layout.{Layout}
+use Rattle.tries.specs.Keys.{Key}
+use Rattle.moments.specs.declared.Rec.{Rec}
+use Rattle.moments.specs.declared.Rec.TheVariants.{Node as a_node}
+use Rattle.moments.specs.Core.{Fate, Free}
+use Rattle.moments.specs.Trades.{IsOf, AreApart}
+use Rattle.moments.proofs.Members.{all_of, map_of, of_map}
+use Rattle.rowex_core.specs.declared.event.Act.{Act}
+use Rattle.rowex_core.specs.declared.event.Act.TheVariants.{Claim, Lock}
+use Rattle.rowex_core.specs.declared.event.Event.{Event}
+use Rattle.rowex_core.specs.declared.event.Target.TheVariants.{Anchor, Node as NodeTarget}
+use Rattle.rowex_core.specs.declared.known.Failed.{Failed}
+use Rattle.rowex_core.specs.declared.known.Holding.TheVariants.{Held}
+use Rattle.rowex_core.specs.declared.known.Known.{Known}
+use Rattle.rowex_core.specs.declared.known.Locked.{Locked}
+use Rattle.rowex_core.specs.declared.known.Owned.{Owned}
+use Rattle.rowex_core.specs.Cores.{Core, HasRecord}
+use Rattle.rowex_core.specs.Events.{target_word}
+use Rattle.rowex_core.specs.Having.{AreKept}
+use Rattle.rowex_core.specs.Knowing.{IsEvent, failed_with, claim_learned, anchor_learned, node_learned}
+use Rattle.rowex_core.specs.Sharing.{IsOwned}
+use Rattle.rowex_core.proofs.Having.{owned_used}
+use Rattle.rowex_core.proofs.Owning.{knows_all}
+use Rattle.rowex_table.specs.Made.{Made, held_as, recs_of, nodes_of, IsLater}
+use Rattle.rowex_table.specs.Rights.{IsClaimed}
+use Rattle.rowex_table.specs.Runs.{Runs, silent}
+use Rattle.rowex_table.specs.Seats.{TableView, SeatView}
+use Rattle.rowex_table.proofs.ActsLeave.{act_leaves}
+use Rattle.rowex_records.specs.Claims.{AllMissed}
+use Rattle.rowex_records.specs.Records.{HoldsJust, HasNone, AreApart as AreApartRecs}
+use Rattle.rowex_rights.proofs.Sure.{others_on}
+use Rattle.rowex_writing.specs.Building.{IsBuilding}
+use Rattle.rowex_writing.specs.Changes.{HasRun, HasChanged}
+use Rattle.rowex_writing.specs.Locks.{HasJustLocked, AreNodes}
+use Rattle.rowex_writing.specs.Retiring.{AreRecords}
+use Rattle.rowex_writing.specs.Ways.{IsWayOf}
+use Rattle.rowex_writing.specs.declared.plan.Found.{Found}
+
+-- ---- steps that failed are remembered
+one_more : {X : Type 0} (xs : List X) (y x : X) → Contains xs x → Contains (y ∷ xs) x
+one_more xs y x (i, low, is) = (suc i, omega arith, is)
+
+module _ (c : Core) (k : Known) (x : Failed) (h : Contains k.failed x) where
+  claim_failed : (r : Rec) (found : ℕ) (f : Fate) → Contains (claim_learned c r found f k).failed x
+  claim_failed r found Free = h
+  claim_failed r found f = one_more k.failed _ x h
+
+  anchor_failed : (found : ℕ) (lock : Option ℕ) → Contains (anchor_learned c found lock k).failed x
+  anchor_failed found None = h
+  anchor_failed found (Some q) = one_more k.failed _ x h
+
+  node_failed : (n found : ℕ) → Contains (node_learned c n found k).failed x
+  node_failed n found = go (nat_eq found 2)
+    where
+      go : (b : Bool) → Contains (if b then record k { locks = record { node = n; words = c.words (a_node n) } ∷ k.locks } else failed_with k (target_word (NodeTarget n)) found).failed x
+      go true = h
+      go false = one_more k.failed _ x h
+
+failed_on : (layout : Layout) (k j : Known) (act : Act) (x : Failed) → IsEvent layout act silent k j → Contains k.failed x → Contains j.failed x
+failed_on layout k j (Claim r found) x e h = subst (λ (z : Known). Contains z.failed x) (sym e.learned_is) (claim_failed e.core k x h r found (e.core.fate r))
+failed_on layout k j (Lock Anchor found) x e h = subst (λ (z : Known). Contains z.failed x) (sym e.learned_is) (anchor_failed e.core k x h found e.core.anchor)
+failed_on layout k j (Lock (NodeTarget n) found) x e h = subst (λ (z : Known). Contains z.failed x) (sym e.learned_is) (node_failed e.core k x h n found)
+failed_on layout k j act x e h = subst (λ z. Contains z x) (sym ((act_leaves layout k j act e).failed tt)) h
+
+module _ {G : Type 0} (table : TableView) (becomes : G → Event → G → Type 0) where
+  run_failed : (acts : List Act) (a b : SeatView × G) → Runs table becomes acts a b → (x : Failed) → Contains a.0.known.failed x → Contains b.0.known.failed x
+  run_failed [] a b is x h = subst (λ (z : SeatView × G). Contains z.0.known.failed x) (sym is) h
+  run_failed (act ∷ acts) a b (m, s, rest) x h = run_failed acts m b rest x (failed_on table.layout a.0.known m.0.known act x s.event h)
+
+  -- none was free still
+  pub missed_on : (kind : ℕ → Rec) (n since : ℕ) (a b : SeatView × G) → HasRun table becomes a b → AllMissed kind n a.0.known.failed since → AllMissed kind n b.0.known.failed since
+  missed_on kind n since a b run missed = λ q low. (let (step, late, (word, one, has)) = missed q low in (step, late, (word, one, run_failed run.acts a b run.steps _ has)))
+
+-- ---- records that are given up
+reverse_more : {X : Type 0} (x : X) (xs : List X) → reverse (x ∷ xs) ≡ reverse xs ++ x ∷ []
+reverse_more x xs = reverse_onto xs x []
+
+all_reversed : {X : Type 0} (P : X → Type 0) (xs : List X) → All P xs → All P (reverse xs)
+all_reversed P [] all = All-nil P
+all_reversed P (x ∷ xs) all = subst (All P) (sym (reverse_more x xs)) (All-push P (reverse xs) x (all_reversed P xs (All-tail P x xs all)) (All-head P x xs all))
+
+reversed_has : {X : Type 0} (x : X) (xs : List X) → IsOf x xs → Contains (reverse xs) x
+reversed_has x (y ∷ xs) (inl e) = subst (λ z. Contains z x) (sym (reverse_more y xs)) (subst (λ z. Contains (reverse xs ++ z ∷ []) x) e (Contains-push (reverse xs) x))
+reversed_has x (y ∷ xs) (inr h) = subst (λ z. Contains z x) (sym (reverse_more y xs)) (Contains-append_left (reverse xs) (y ∷ []) x (reversed_has x xs h))
+reversed_has x [] h = absurd h
+
+all_ofs : {X : Type 0} (P : X → Type 0) (xs : List X) → ((x : X) → IsOf x xs → P x) → All P xs
+all_ofs P [] f = All-nil P
+all_ofs P (x ∷ xs) f = All-cons P x xs (f x (inl refl)) (all_ofs P xs (λ y h. f y (inr h)))
+
+apart_pushed : (recs : List Rec) (r : Rec) → AreApartRecs recs → HasNone r recs → AreApartRecs (recs ++ r ∷ [])
+apart_pushed [] r apart none = (All-nil (λ s. s ≢ r), tt)
+apart_pushed (s ∷ recs) r apart none = (
+  All-push (λ z. z ≢ s) recs r apart.0 (λ e. All-head (λ z. z ≢ r) s recs none (sym e)),
+  apart_pushed recs r apart.1 (All-tail (λ z. z ≢ r) s recs none),
+)
+
+apart_reversed : (recs : List Rec) → AreApart recs → AreApartRecs (reverse recs)
+apart_reversed [] apart = tt
+apart_reversed (r ∷ recs) apart =
+    subst AreApartRecs (sym (reverse_more r recs))
+    (apart_pushed (reverse recs) r (apart_reversed recs apart.1) (all_reversed (λ s. s ≢ r) recs (all_ofs (λ s. s ≢ r) recs (λ s h e. apart.0 (subst (λ z. IsOf z recs) e h)))))
+
+module _ (table : TableView) (a : SeatView) (made : List Rec) (news : List Made) (b : IsBuilding table a made news) where
+  owned : (m : Made) → IsOf m news → IsOf (held_as Held m) a.known.own
+  owned m h = subst (IsOf (held_as Held m)) (sym b.holds.0) (map_of (held_as Held) m news h)
+
+  is_owned : (m : Made) → IsOf m news → IsOwned a.known.pass b.possible.core (held_as Held m)
+  is_owned m h = all_of (IsOwned a.known.pass b.possible.core) (held_as Held m) a.known.own (knows_all b.possible.core a.known b.possible.knows).own (owned m h)
+
+  -- each is the table's
+  pub made_record : (m : Made) → IsOf m news → HasRecord table.layout m.rec
+  made_record m h = subst (λ z. HasRecord z m.rec) b.possible.layout_is (owned_used b.possible.core b.possible.lawful a.known.pass (held_as Held m) (is_owned m h))
+
+  contains : (o : Owned) → IsOf o a.known.own → Contains a.known.own o
+  contains o h = all_of (Contains a.known.own) o a.known.own (all_ofs (Contains a.known.own) a.known.own (λ y i. has_it y a.known.own i)) h
+    where
+      has_it : (y : Owned) (ys : List Owned) → IsOf y ys → Contains ys y
+      has_it y [] i = absurd i
+      has_it y (z ∷ ys) (inl e) = (0, omega arith, sym e)
+      has_it y (z ∷ ys) (inr i) = one_more ys z y (has_it y ys i)
+
+  claimed : (r : Rec) → IsOf r (recs_of news) → IsClaimed a.known r
+  claimed r h =
+      let (m, at, is) = of_map (λ (m : Made). m.rec) r news h in
+      let o = is_owned m at in
+      subst (IsClaimed a.known) (sym is) (m.words, ap length (sym o.1) ∙ (b.possible.lawful.records.sized m.rec).0, contains (held_as Held m) (owned m at))
+
+  pub made_held : HoldsJust a.known made
+  made_held = subst (HoldsJust a.known) (sym b.listed) (record {
+    only = all_ofs (λ o. (o.holding ≡ Held) × Contains (reverse (recs_of news)) o.rec) a.known.own
+        (λ o h. (let (m, at, is) = of_map (held_as Held) o news (subst (IsOf o) b.holds.0 h) in
+        (ap (λ (z : Owned). z.holding) is, subst (Contains (reverse (recs_of news))) (sym (ap (λ (z : Owned). z.rec) is)) (reversed_has m.rec (recs_of news) (map_of (λ (m : Made). m.rec) m news at)))));
+    each = all_reversed (IsClaimed a.known) (recs_of news) (all_ofs (IsClaimed a.known) (recs_of news) claimed);
+    apart = apart_reversed (recs_of news) b.holds.1;
+  })
+
+  pub made_records : AreRecords table.layout made
+  made_records =
+      subst (AreRecords table.layout) (sym b.listed) (all_reversed (HasRecord table.layout) (recs_of news) (all_ofs (HasRecord table.layout) (recs_of news)
+      (λ r h. (let (m, at, is) = of_map (λ (m : Made). m.rec) r news h in subst (HasRecord table.layout) (sym is) (made_record m at)))))
+
+-- ---- what is locked
+pub way_nodes : (layout : Layout) (k : Known) (m : ℕ) (key : Key) (way : List Step) (found : Found) (i j : ℕ) → IsWayOf layout k m key way found → AreNodes layout (slice_range way i j)
+way_nodes layout k m key way found i j w =
+    All-take (λ (s : Step). s.number < layout.nodes) (j - i) (drop i way) (All-drop (λ (s : Step). s.number < layout.nodes) i way (λ n d low. (w.nodes n (get_or way n d) (slice_get-get_or way n d low)).2.range))
+
+-- all locked nodes are kept, where no node goes
+pub all_kept : (k : Known) (ns : List ℕ) (gone : List Rec) → ((n : ℕ) → IsOf (a_node n) gone → ⊥) → HasJustLocked k ns → AreKept (nodes_of k.locks) gone ns × AreApart ns
+all_kept k ns gone none (just, apart) = (
+  record {
+    only = λ n h. (let (l, there, is) = of_map (λ (l : Locked). l.node) n k.locks h in inl (subst (λ z. IsOf z ns) (sym is) (just.only l there)));
+    each = λ n h. (let (l, there, is) = just.each n h in (subst (λ z. IsOf z (nodes_of k.locks)) is (map_of (λ (z : Locked). z.node) l k.locks there), none n));
+  },
+  apart,
+)
+
+-- ---- what is seen since an earlier moment
+pub changed_since : (a b c : Known) (x : Change) (was : Option ℕ) → IsLater a b → HasChanged b c x was → HasChanged a c x was
+changed_since a b c x was later changed = record {
+  rest = changed.rest;
+  before = changed.before;
+  others = others_on a.pass a.front b.front changed.before later.front (subst (λ q. OthersGoOn q b.front changed.before) later.pass changed.others);
+  front = changed.front;
+  fresh = changed.fresh;
+  fits = changed.fits;
+  was_held = changed.was_held;
+}

@@ -1,0 +1,52 @@
+-- What steps of a pass leave of what it knew: reads as parts of a run, and that it may read on.
+use Rattle.std.proofs.Common.{ℕ, ◌≤◌, List, [], ◌∷◌, sym, ap, subst, ◌∙◌, arith}
+use Rattle.std.specs.Prelude.{length}
+use Rattle.std.proofs.lemmas.List.{length-append}
+use Rattle.std.proofs.lemmas.List.Elements.{All-cons, All-weaker}
+use Rattle.rowex_core.specs.declared.event.Act.{Act}
+use Rattle.rowex_core.specs.declared.event.Act.TheVariants.{LoadRef, LoadFixed}
+use Rattle.rowex_core.specs.declared.event.Event.{Event}
+use Rattle.rowex_core.specs.declared.event.Spot.TheVariants.{Root, Slot}
+use Rattle.rowex_core.specs.declared.known.Known.{Known}
+use Rattle.rowex_reading.specs.Possible.{IsPossible}
+use Rattle.rowex_reading.specs.Reads.{IsBelowRoot, Looks, Reads}
+use Rattle.rowex_reading.proofs.Later.{event_possible}
+use Rattle.rowex_table.specs.Runs.{Runs}
+use Rattle.rowex_table.specs.Seats.{TableView, SeatView, IsSeatOf}
+use Rattle.rowex_table.specs.Stays.{LeavesPin}
+use Rattle.rowex_table.proofs.Running.{runs_same}
+use Rattle.rowex_writing.specs.Changes.{HasRun}
+use Rattle.rowex_table.specs.Made.{IsLater}
+
+-- a load below the root leaves the pin
+below_pin : (act : Act) → IsBelowRoot act → LeavesPin act
+below_pin (LoadRef Root w) below = absurd below
+below_pin (LoadRef (Slot n i) w) below = tt
+below_pin (LoadFixed r offset w) below = tt
+below_pin _ below = absurd below
+
+module _ {G : Type 0} (table : TableView) (becomes : G → Event → G → Type 0) where
+  runs_possible : (acts : List Act) (a b : SeatView × G) → Runs table becomes acts a b → IsPossible table.layout a.0.known → IsPossible table.layout b.0.known
+  runs_possible [] a b e p = subst (λ (z : SeatView × G). IsPossible table.layout z.0.known) (sym e) p
+  runs_possible (act ∷ acts) a b (m, s, more) p = runs_possible acts m b more (event_possible s.event)
+
+  -- ---- runs
+  pub reads_run : (n : ℕ) (a b : SeatView × G) → Reads table becomes n a b → HasRun table becomes a b
+  reads_run n a b r = record { acts = r.acts; pinned = All-weaker IsBelowRoot LeavesPin below_pin r.acts r.below; steps = r.steps }
+
+  pub looks_run : (n : ℕ) (a b : SeatView × G) → Looks table becomes n a b → HasRun table becomes a b
+  looks_run n a b l = record {
+    acts = LoadRef Root l.root.0 ∷ l.rest.acts;
+    pinned = All-cons LeavesPin (LoadRef Root l.root.0) l.rest.acts tt (All-weaker IsBelowRoot LeavesPin below_pin l.rest.acts l.rest.below);
+    steps = (l.at, l.root.1, l.rest.steps);
+  }
+
+  pub run_seat : (a b : SeatView × G) → HasRun table becomes a b → IsSeatOf table a.0 → IsSeatOf table b.0
+  run_seat a b r is = (runs_same table becomes r.acts a b r.steps).0 ∙ is
+
+  pub run_possible : (a b : SeatView × G) → HasRun table becomes a b → IsPossible table.layout a.0.known → IsPossible table.layout b.0.known
+  run_possible a b r p = runs_possible r.acts a b r.steps p
+
+-- the front is no shorter later on
+pub longer : (k j : Known) → IsLater k j → length k.front ≤ length j.front
+longer k j later = let (more, is, others) = later.front in let n = length-append k.front more in omega (arith, ap length is, n)

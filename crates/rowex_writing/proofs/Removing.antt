@@ -1,0 +1,369 @@
+-- From what a pass knows under its locks to the publish of a removal.
+use Rattle.std.proofs.Common.{◌≡◌, inl, inr, ℕ, zero, suc, ◌+◌, ◌-◌, ◌<◌, ◌≤◌, Bool, true, false, List, [], ◌∷◌, ◌++◌, length, take, drop, Option, Some, None, refl, sym, ap, subst, ◌∙◌, arith}
+use Rattle.std.specs.Prelude.{All, if◌then◌else◌, slice_get, slice_range}
+use Rattle.std.proofs.lemmas.List.Elements.{All-cons}
+use Rattle.std.proofs.lemmas.Option.{get_or_from_slice_get}
+use Rattle.compound_node.specs.Nodes.{NodeView, IsEntry, height_of, piece}
+use Rattle.compound_node.specs.declared.entries.Entry.{Entry}
+use Rattle.compound_node.specs.declared.entries.Entry.TheVariants.{Leaf as LeafEntry, Node}
+use Rattle.hot_model.specs.declared.Change.{Change as MapChange}
+use Rattle.insert_cases.specs.declared.choice.Step.{Step}
+use Rattle.pieces.specs.Piece.{Place, Fork, places}
+use Rattle.record_words.specs.declared.layout.Layout.{Layout}
+use Rattle.record_words.specs.Entry.{HasEntryWord, entry_word}
+use Rattle.tries.specs.Affected.{IsLowerPage}
+use Rattle.tries.specs.Keys.{Key, bit}
+use Rattle.tries.specs.Place.{joined, page_without, spot}
+use Rattle.tries.specs.Search.{seek}
+use Rattle.tries.specs.Tree.{Page, leaf}
+use Rattle.tries.proofs.Places.{spot_below}
+use Rattle.moments.specs.Heap.{NodeWords}
+use Rattle.moments.specs.declared.Rec.{Rec}
+use Rattle.moments.specs.declared.Rec.TheVariants.{Node as a_node, Leaf as a_leaf}
+use Rattle.moments.specs.Trades.{AreApart, IsOf}
+use Rattle.moments.proofs.Members.{all_of, map_of, none_of, of_append, of_left, of_right}
+use Rattle.rowex_core.specs.declared.event.Spot.{Spot}
+use Rattle.rowex_core.specs.declared.event.Spot.TheVariants.{Root, Slot}
+use Rattle.rowex_core.specs.declared.known.Known.{Known}
+use Rattle.rowex_core.specs.declared.known.Locked.{Locked}
+use Rattle.rowex_core.specs.Cores.{HasRecord, IsWhole}
+use Rattle.rowex_core.specs.Having.{AreKept}
+use Rattle.rowex_core.specs.Reading.{IsPacked, node_of}
+use Rattle.rowex_core.specs.Sharing.{IsLocked}
+use Rattle.rowex_core.proofs.Owning.{knows_all}
+use Rattle.rowex_core.proofs.Reading.{node_is}
+use Rattle.rowex_walks.specs.Scan.{IsRead}
+use Rattle.rowex_walks.specs.Writer.{item, removed_change}
+use Rattle.rowex_table.specs.Made.{IsLater, Made, nodes_of}
+use Rattle.rowex_table.specs.Publishes.{Publishes}
+use Rattle.rowex_table.specs.Rule.{IsEntry as IsEntrySpot}
+use Rattle.rowex_table.specs.Seats.{TableView, SeatView}
+use Rattle.rowex_reading.specs.Possible.{IsPossible}
+use Rattle.rowex_reading.specs.Seen.{Sure}
+use Rattle.rowex_reading.proofs.Seeing.{read_stable, since_later}
+use Rattle.rowex_reading.proofs.Standing.{led_in_table}
+use Rattle.rowex_rights.specs.Loops.{StaysLocked}
+use Rattle.rowex_rights.specs.Rises.{IsSide, one, anew}
+use Rattle.rowex_rights.specs.Stages.{HasReady, IsLeafThere}
+use Rattle.rowex_rights.proofs.Loops.{later_on}
+use Rattle.rowex_rights.proofs.Replacing.{leaf_stays, remove_at_root, remove_in_slot, remove_the_last}
+use Rattle.rowex_rights.proofs.Sure.{seen_is_sure, sure_stays}
+use Rattle.rowex_writing.specs.Building.{IsBuilding}
+use Rattle.rowex_writing.specs.Changes.{HasTakenSpan, IsPlanned, MayEnd}
+use Rattle.rowex_writing.specs.Plans.{change, IsCase, IsNewLeafPlan, IsPlan}
+use Rattle.rowex_writing.specs.declared.plan.Ask.{Ask}
+use Rattle.rowex_writing.specs.declared.plan.Ask.TheVariants.{Insert, Upsert, Remove}
+use Rattle.rowex_writing.specs.declared.plan.Deed.TheVariants.{Grow, Pair, Put, Take}
+use Rattle.rowex_writing.specs.declared.plan.Plan.{Plan}
+use Rattle.rowex_writing.specs.declared.plan.Plan.TheVariants.{Answer, Change}
+use Rattle.insert_cases.specs.declared.choice.Case.{Case}
+use Rattle.insert_cases.specs.declared.choice.Case.TheVariants.{LeafPushdown, NormalInsert, Overflow}
+use Rattle.insert_cases.specs.declared.choice.Choice.{Choice}
+use Rattle.rowex_writing.specs.Going.{HasLocked, IsLockedBy}
+use Rattle.rowex_writing.specs.Locks.{HasLockedSpan, numbers_of}
+use Rattle.rowex_writing.specs.Putting.{IsSpotAbove}
+use Rattle.rowex_writing.specs.Retiring.{AreRecords}
+use Rattle.rowex_writing.specs.Taking.{HasLeafBelow, HasOnlyLeaf, HasRead}
+use Rattle.rowex_writing.specs.Ways.{IsWayOf, end_of, named}
+use Rattle.rowex_writing.specs.declared.plan.Found.{Found}
+use Rattle.rowex_writing.specs.declared.plan.Found.TheVariants.{Nothing, Leaf}
+use Rattle.rowex_writing.specs.declared.plan.Span.{Span}
+use Rattle.rowex_writing.proofs.Spared.{kept_above, range_split, span_same}
+use Rattle.rowex_writing.proofs.Shapes.{way_node_locked}
+use Rattle.rowex_writing.proofs.Spans.{slice_more, slice_none}
+
+-- ---- the leaf
+-- in each stage it has the key and the value
+pub leaf_there : (layout : Layout) (k j : Known) (held : List Locked) (news : List Made) (number : ℕ) (key : Key) (value : ℕ) → IsLater k j → HasRead k number key value → IsLeafThere layout j held news number key value
+leaf_there layout k j held news number key value later (m, pinned, read) =
+    leaf_stays layout j held news m number key value (since_later later pinned)
+    (sure_stays k j (λ s. IsRead s m number key value) later (seen_is_sure k (λ s. IsRead s m number key value) (read_stable m number key value) read))
+
+-- it is one of the table's
+pub leaf_record : (layout : Layout) (k : Known) (number : ℕ) (key : Key) (value : ℕ) → IsPossible layout k → HasRead k number key value → number < layout.leaves
+leaf_record layout k number key value possible (m, pinned, read) =
+    led_in_table layout k m (LeafEntry number) possible (pinned, λ c lawful known. let (n, low, high, stands) = read c lawful known in (n, leaf number key value, low, high, stands, refl))
+
+-- ---- the root's only leaf
+module _ (table : TableView) (a : SeatView) (number : ℕ) (key : Key) (value : ℕ) (o : HasOnlyLeaf table a number key value) where
+  pub may_empty : MayEnd table a [] Root 0 (removed_change a.known.pass (item number key value)) (Some value) (a_leaf number ∷ [])
+  may_empty = record {
+    news = [];
+    building = record { seat = o.seat; possible = o.possible; holds = (o.own, tt); packed = tt; listed = refl };
+    publishes = λ j later ready anchor. subst (λ q. Publishes table.layout j Root 0 (removed_change q (item number key value)) (Some value) (a_leaf number ∷ [])) later.pass
+        (remove_the_last table.layout j a.known.locks number value key ready (anchor ∙ o.anchor) (leaf_there table.layout a.known j a.known.locks [] number key value later o.read));
+  }
+
+  pub only_records : AreRecords table.layout (a_leaf number ∷ [])
+  only_records = All-cons (HasRecord table.layout) (a_leaf number) [] (leaf_record table.layout a.known number key value o.possible o.read) (λ i d low. absurd (omega arith))
+
+-- ---- the way
+-- what stands past its end
+abbrev pub no_step : Step
+no_step = record { number = 0; height = 0; first_position = 0; count = 0; at = 0 }
+
+named_at : (way : List Step) (found : Found) (i : ℕ) (s : Step) → slice_get way i ≡ Some s → named way found i ≡ Some (Node s.number s.height)
+named_at [] found i s at = absurd (let z : None ≡ Some s = at in cc)
+named_at (x ∷ way) found zero s at = ap (λ (z : Step). Some (Node z.number z.height)) (let z : Some x ≡ Some s = at in (let y : x ≡ s = cc in y))
+named_at (x ∷ way) found (suc i) s at = named_at way found i s at
+
+named_end : (way : List Step) (found : Found) (i : ℕ) → i ≡ length way → named way found i ≡ end_of found
+named_end [] found i h = refl
+named_end (x ∷ way) found zero h = absurd (omega (arith, h))
+named_end (x ∷ way) found (suc i) h = named_end way found i (omega (arith, h))
+
+-- ---- the plan
+-- a plan by which a leaf goes
+abbrev IsTakePlan : Plan → Type 0
+IsTakePlan (Answer reply) = ⊥
+IsTakePlan (Change span (Put)) = ⊥
+IsTakePlan (Change span (Pair p)) = ⊥
+IsTakePlan (Change span (Grow p first last)) = ⊥
+IsTakePlan (Change span (Take)) = Unit {0}
+
+-- the span of such a plan is the last node of the way, and the found leaf has the key
+pub record IsTakeOf (way : List Step) (found : Found) (len end : ℕ) : Type 0 where
+  pub number : ℕ
+  pub value : ℕ
+  pub found_is : found ≡ Leaf number value None
+  pub len_is : len ≡ length way
+  pub end_is : end ≡ length way - 1
+
+no_take : (plan other : Plan) → plan ≡ other → IsTakePlan plan → (IsTakePlan other → ⊥) → ⊥
+no_take plan other is takes never = never (subst IsTakePlan is takes)
+
+case_takes : (way : List Step) (p : ℕ) (c : Choice) (case : Case) (plan : Plan) → IsCase way p c case plan → IsTakePlan plan → ⊥
+case_takes way p c LeafPushdown plan is take = no_take plan _ is take (λ z. z)
+case_takes way p c NormalInsert plan is take = no_take plan _ is take (λ z. z)
+case_takes way p c Overflow plan is take = no_take plan _ is.2 take (λ z. z)
+
+new_takes : (way : List Step) (p first last : ℕ) (plan : Plan) → IsNewLeafPlan way p first last plan → IsTakePlan plan → ⊥
+new_takes [] p first last plan is take = no_take plan _ is take (λ z. z)
+new_takes (s ∷ way) p first last plan is take = let beside = is.2 in case_takes (s ∷ way) p beside.0 beside.0.case plan beside.2 take
+
+abbrev len_of : Plan → ℕ
+len_of (Answer reply) = 0
+len_of (Change span deed) = span.len
+
+abbrev plan_end : Plan → ℕ
+plan_end (Answer reply) = 0
+plan_end (Change span deed) = span.end
+
+plan_takes : (way : List Step) (first last : ℕ) (ask : Ask) (found : Found) (len end : ℕ) → IsPlan way first last ask found (change len end Take) → IsTakeOf way found len end
+plan_takes way first last Insert Nothing len end is = absurd (no_take (change len end Take) _ is tt (λ z. z))
+plan_takes way first last Upsert Nothing len end is = absurd (no_take (change len end Take) _ is tt (λ z. z))
+plan_takes way first last Insert (Leaf n v (Some p)) len end is = absurd (new_takes way p first last (change len end Take) is tt)
+plan_takes way first last Upsert (Leaf n v (Some p)) len end is = absurd (new_takes way p first last (change len end Take) is tt)
+plan_takes way first last Insert (Leaf n v None) len end is = absurd (no_take (change len end Take) _ is tt (λ z. z))
+plan_takes way first last Upsert (Leaf n v None) len end is = absurd (no_take (change len end Take) _ is tt (λ z. z))
+plan_takes way first last Remove Nothing len end is = absurd (no_take (change len end Take) _ is tt (λ z. z))
+plan_takes way first last Remove (Leaf n v (Some p)) len end is = absurd (no_take (change len end Take) _ is tt (λ z. z))
+plan_takes way first last Remove (Leaf n v None) len end is = record { number = n; value = v; found_is = refl; len_is = ap len_of is; end_is = ap plan_end is }
+
+module _ (table : TableView) (a : SeatView) (m : ℕ) (key : Key) (way : List Step) (ask : Ask) (found : Found) (span : Span) (taken : HasTakenSpan table a m key way found span)
+    (planned : IsPlanned a.known m key way ask found (change span.len span.end Take)) (number value : ℕ) (mismatch : Option ℕ) (is_leaf : found ≡ Leaf number value mismatch) where
+  the_plan : IsTakeOf way found span.len span.end
+  the_plan = let (first, last, is, affected) = planned in plan_takes way first last ask found span.len span.end is
+
+  pub found_key : found ≡ Leaf number value None
+  found_key =
+      let both : Leaf number value mismatch ≡ Leaf the_plan.number the_plan.value None = sym is_leaf ∙ the_plan.found_is in
+      let none : mismatch ≡ None = cc in
+      is_leaf ∙ ap (λ o. Leaf number value o) none
+
+  found_span : HasTakenSpan table a m key way (Leaf number value None) span
+  found_span = subst (λ f. HasTakenSpan table a m key way f span) found_key taken
+
+  -- a way with a node
+  pub take_below : 0 < span.len → HasLeafBelow table a m key way number value span
+  take_below some = record { taken = found_span; len = the_plan.len_is; last = (let e = the_plan.end_is in let n = the_plan.len_is in omega (arith, e, n, some)) }
+
+  no_locks : (n : ℕ) → span.len ≡ 0 → IsOf n (numbers_of (slice_range way (span.end - 1) span.len)) → ⊥
+  no_locks n low i =
+      let none : span.len - (span.end - 1) ≡ 0 = omega (arith, low) in
+      absurd (subst (λ z. IsOf n (numbers_of (take z (drop (span.end - 1) way)))) none i)
+
+  -- a way of none
+  pub take_only : span.len ≤ 0 → HasOnlyLeaf table a number key value
+  take_only none =
+      let t = found_span in
+      let n = the_plan.len_is in
+      let e = the_plan.end_is in
+      let empty : length way ≡ 0 = omega (arith, n, none) in
+      let top : span.end ≡ 0 = omega (arith, e, empty) in
+      let low : span.len ≡ 0 = omega (arith, none) in
+      let (l, read, same) = t.way_of.found_at in
+      record {
+        seat = t.seat;
+        possible = t.possible;
+        own = t.own;
+        locks = none_of a.known.locks (λ l there. no_locks l.node low (t.locked.nodes.0.only l there));
+        anchor = t.checked.root top ∙ ap Some (named_end way (Leaf number value None) 0 (sym empty));
+        read = (m, t.way_of.since, subst (λ z. Sure a.known (λ past. IsRead past m number z value)) (sym same) read);
+      }
+
+-- ---- entries
+-- a node's height is at least 1
+abbrev pub IsRaised : Entry → Type 0
+IsRaised (LeafEntry n) = Unit {0}
+IsRaised (Node n h) = 1 ≤ h
+
+entry_raised : (e : Entry) → IsEntry e → IsRaised e
+entry_raised (LeafEntry n) h = tt
+entry_raised (Node n g) h = h.0
+
+-- what is left of a page was on it
+joined_of : (q : ℕ) (b : Bool) (x y r : Page) (e : Entry) → (IsOf e (places r) → IsOf e (places (if b then y else x))) → IsOf e (places (joined q b x y r)) → IsOf e (places x ++ places y)
+joined_of q true x (Place d) r e f h = of_left e (places x) (d ∷ []) h
+joined_of q true x (Fork p a b) r e f h = elim (of_append e (places x) (places r) h) [ inl i ↦ of_left e (places x) (places a ++ places b) i | inr i ↦ of_right e (places x) (places a ++ places b) (f i) ]
+joined_of q false (Place d) y r e f h = of_right e (d ∷ []) (places y) h
+joined_of q false (Fork p a b) y r e f h = elim (of_append e (places r) (places y) h) [ inl i ↦ of_left e (places a ++ places b) (places y) (f i) | inr i ↦ of_right e (places a ++ places b) (places y) i ]
+
+left_of : (k : Key) (x : Page) (e : Entry) → IsOf e (places (page_without k x)) → IsOf e (places x)
+left_of k (Place d) e h = h
+left_of k (Fork q x y) e h = sides (left_of k x e) (left_of k y e) (bit k q) h
+  where
+    sides : (IsOf e (places (page_without k x)) → IsOf e (places x)) → (IsOf e (places (page_without k y)) → IsOf e (places y)) → (b : Bool) →
+        IsOf e (places (joined q b x y (if b then page_without k y else page_without k x))) → IsOf e (places x ++ places y)
+    sides f g true h = joined_of q true x y (page_without k y) e g h
+    sides f g false h = joined_of q false x y (page_without k x) e f h
+
+-- the words of a locked node are those of one
+pub locked_view : (layout : Layout) (k : Known) (n : ℕ) (words : List ℕ) → IsPossible layout k → HasLocked k n words → (view : NodeView) × All IsEntry (places (piece view)) × ((node_of words).page ≡ piece view)
+unfolding IsPacked
+locked_view layout k n words possible h =
+    let c = possible.core in
+    let (lock, tree, same) = all_of (IsLocked k.pass c) (record { node = n; words = words }) k.locks (knows_all c k possible.knows).locks h in
+    let (view, has, spells) = possible.lawful.records.packed (a_node n) (subst IsWhole (sym tree.1) tt) in
+    let shows = node_is view (c.words (a_node n)) (possible.lawful.records.sized (a_node n)).1 has spells in
+    (view, subst (All IsEntry) has.lawful.shows.entries_are has.lawful.children, ap (λ (z : NodeWords). z.page) (ap node_of (sym same) ∙ shows))
+
+side_raised : (k : Key) (view : NodeView) (e : Entry) (news : List Made) → All IsEntry (places (piece view)) → IsSide (page_without k (piece view)) e news → IsRaised e
+side_raised k view e news all (one d is) = entry_raised e (all_of IsEntry e (places (piece view)) all (left_of k (piece view) e (subst (λ (z : Page). IsOf e (places z)) (sym is) (inl refl))))
+side_raised k view e news all (anew m made is shows) = let high = is.1 in omega (arith, high)
+
+-- so the entry for what is left has a height
+pub left_raised : (layout : Layout) (k : Known) (n : ℕ) (words : List ℕ) (key : Key) (e : Entry) (news : List Made) → IsPossible layout k → HasLocked k n words → IsSide (page_without key (node_of words).page) e news → IsRaised e
+left_raised layout k n words key e news possible h side =
+    let (view, all, page_is) = locked_view layout k n words possible h in
+    side_raised key view e news all (subst (λ (z : Page). IsSide (page_without key z) e news) page_is side)
+
+low_page : (h : ℕ) (e : Entry) → height_of e < h → IsLowerPage h (Place e)
+low_page h (LeafEntry n) l = l
+low_page h (Node n g) l = l
+
+-- what goes, in its order
+pub gone_are : (n j : ℕ) (cleared first both : List Rec) → cleared ≡ [] → first ≡ cleared ++ a_node n ∷ [] → both ≡ first ++ a_leaf j ∷ [] → both ≡ a_node n ∷ a_leaf j ∷ []
+gone_are n j cleared first both none a b = b ∙ ap (λ xs. xs ++ a_leaf j ∷ []) (a ∙ ap (λ xs. xs ++ a_node n ∷ []) none)
+
+-- ---- the span
+of_range : (xs : List Step) (a b i : ℕ) (s : Step) → a ≤ i → i < b → b ≤ length xs → slice_get xs i ≡ Some s → IsOf s (slice_range xs a b)
+of_range xs a b i s low high most at =
+    subst (IsOf s) (sym (range_split xs a i b low (omega (arith, high))))
+    (of_right s (slice_range xs a i) (slice_range xs i b) (subst (IsOf s) (sym (slice_more xs i b s high most)) (inl (sym (get_or_from_slice_get xs i s s at)))))
+
+same_some : {A : Type 0} {x y : A} → Some x ≡ Some y → x ≡ y
+same_some e = cc
+
+-- the nodes of a span are locked
+pub held_at : (k : Known) (way : List Step) (span : Span) (i : ℕ) (s : Step) → HasLockedSpan k way span → span.len ≤ length way → span.end ≤ i + 1 → i < span.len → slice_get way i ≡ Some s → IsLockedBy k s.number
+held_at k way span i s locked most low high at =
+    let there = of_range way (span.end - 1) span.len i s (omega (arith, low)) high most at in
+    let (lock, is, same) = locked.nodes.0.each s.number (map_of (λ (z : Step). z.number) s (slice_range way (span.end - 1) span.len) there) in
+    (lock.words, subst (λ n. IsOf (record { node = n; words = lock.words }) k.locks) same is)
+
+-- ---- the node that names the leaf
+module _ (table : TableView) (a : SeatView) (m : ℕ) (key : Key) (way : List Step) (number value : ℕ) (span : Span) (b : HasLeafBelow table a m key way number value span) (s : Step) (at : slice_get way span.end ≡ Some s) where
+  abbrev found : Found
+  found = Leaf number value None
+
+  w : IsWayOf table.layout a.known m key way found
+  w = b.taken.way_of
+
+  pub has_read : HasRead a.known number key value
+  has_read = let (l, read, same) = w.found_at in (m, w.since, subst (λ z. Sure a.known (λ past. IsRead past m number z value)) (sym same) read)
+
+  pub lowest_locked : IsLockedBy a.known s.number
+  lowest_locked = held_at a.known way span span.end s b.taken.locked (let e = b.len in omega (arith, e)) (omega arith) (let e = b.last in omega (arith, e)) at
+
+  low_names : (words : List ℕ) → HasLocked a.known s.number words → seek key (node_of words).page ≡ LeafEntry number
+  low_names words h =
+      let e = b.last in
+      let n = b.len in
+      let checked = b.taken.checked.entries span.end s (omega arith) (omega (arith, e)) at words h in
+      same_some (sym checked ∙ named_end way found (span.end + 1) (omega (arith, e, n)))
+
+  pub gone_records : AreRecords table.layout (a_node s.number ∷ a_leaf number ∷ [])
+  gone_records = All-cons (HasRecord table.layout) (a_node s.number) (a_leaf number ∷ []) (w.nodes span.end s at).2.range
+      (All-cons (HasRecord table.layout) (a_leaf number) [] (leaf_record table.layout a.known number key value b.taken.possible has_read) (λ i d low. absurd (omega arith)))
+
+  -- the node above it is kept
+  last_one : slice_range way span.end span.len ≡ s ∷ []
+  last_one =
+      let e = b.last in
+      let n = b.len in
+      slice_more way span.end span.len s (omega (arith, e)) (omega (arith, n)) ∙
+      (ap (λ z. z ∷ slice_range way (span.end + 1) span.len) (get_or_from_slice_get way span.end s s at) ∙
+      ap (λ z. s ∷ z) (ap (λ i. slice_range way i span.len) e ∙ slice_none way span.len))
+
+  pub kept_node : (k : Known) → k.locks ≡ a.known.locks → k.anchor ≡ a.known.anchor →
+      AreKept (nodes_of k.locks) (a_node s.number ∷ a_leaf number ∷ []) (numbers_of (slice_range way (span.end - 1) span.end)) × AreApart (numbers_of (slice_range way (span.end - 1) span.end))
+  kept_node k locks anchor = kept_above k way span (a_node s.number ∷ a_leaf number ∷ []) (let e = b.last in omega (arith, e)) (span_same a.known k way span locks anchor b.taken.locked)
+      (λ n i. elim (subst (λ z. IsOf n (numbers_of z)) last_one i) [ inl e ↦ inl (ap (λ z. a_node z) e) | inr none ↦ absurd none ])
+      (λ n i. subst (λ z. IsOf n (numbers_of z)) (sym last_one) (goes n i))
+    where
+      goes : (n : ℕ) → IsOf (a_node n) (a_node s.number ∷ a_leaf number ∷ []) → IsOf n (s.number ∷ [])
+      goes n (inl e) = inl cc
+      goes n (inr (inl e)) = absurd cc
+      goes n (inr (inr none)) = absurd none
+
+  -- the spot is one of the table's
+  pub spot_in : (spot : Spot) → IsSpotAbove way span.end spot → IsEntrySpot table.layout spot
+  spot_in Root is = tt
+  spot_in (Slot n i) (u, some, there, n_is, i_is) =
+      let node = (w.nodes (span.end - 1) u there).2 in
+      let low = spot_below key node.forks in
+      let room = node.room in
+      let place = i_is ∙ node.at in
+      (subst (λ z. z < table.layout.nodes) (sym n_is) node.range, omega (arith, low, room, place))
+
+  -- what is left may take the node's place
+  module _ (c : SeatView) (made : List Rec) (news : List Made) (words : List ℕ) (h : HasLocked a.known s.number words) (e : Entry) (stays : StaysLocked a.known c.known) (building : IsBuilding table c made news)
+      (side : IsSide (page_without key (node_of words).page) e news) (low : height_of e ≤ (node_of words).fixed.height) (word : HasEntryWord (Some e)) where
+    still : (n : ℕ) (ws : List ℕ) → HasLocked a.known n ws → HasLocked c.known n ws
+    still n ws i = subst (λ z. IsOf (record { node = n; words = ws }) z) (sym stays.1) i
+
+    abbrev gone : List Rec
+    gone = a_node s.number ∷ a_leaf number ∷ []
+
+    abbrev gone_change : ℕ → MapChange
+    gone_change q = removed_change q (item number key value)
+
+    publishes : (spot : Spot) → IsSpotAbove way span.end spot → (j : Known) → IsLater c.known j → HasReady j c.known.locks news → j.anchor ≡ c.known.anchor → Publishes table.layout j spot (entry_word (Some e)) (gone_change j.pass) (Some value) gone
+    publishes Root is j later ready anchor =
+        let top = anchor ∙ (stays.2 ∙ b.taken.checked.root is) in
+        let names : named way found 0 ≡ Some (Node s.number s.height) = named_at way found 0 s (subst (λ i. slice_get way i ≡ Some s) is at) in
+        remove_at_root table.layout j c.known.locks news key s.number number s.height (entry_word (Some e)) value e words ready side (still s.number words h) (top ∙ ap Some names) (low_names words h)
+        (leaf_there table.layout a.known j c.known.locks news number key value (later_on a.known c.known j stays.0 later) has_read) (word, refl)
+    publishes (Slot n i) (u, some, there, n_is, i_is) j later ready anchor =
+        let e_last = b.last in
+        let e_len = b.len in
+        let (upper, hu) = held_at a.known way span (span.end - 1) u b.taken.locked (omega (arith, e_len)) (omega (arith, some)) (omega (arith, some, e_last)) there in
+        let next : span.end - 1 + 1 ≡ span.end = omega (arith, some) in
+        let names : named way found (span.end - 1 + 1) ≡ Some (Node s.number s.height) = named_at way found (span.end - 1 + 1) s (ap (slice_get way) next ∙ at) in
+        let upper_names : seek key (node_of upper).page ≡ Node s.number s.height = same_some (sym (b.taken.checked.entries (span.end - 1) u (omega (arith, some)) (omega (arith, some, e_last)) there upper hu) ∙ names) in
+        let (d, named_is, node) = w.nodes (span.end - 1) u there in
+        let falls : s.height < u.height = subst (λ z. height_of z < u.height) (same_some (sym named_is ∙ names)) node.below in
+        let above = way_node_locked table.layout a.known m key u d upper b.taken.possible w.since node hu in
+        let below = (let (f, f_is, own) = w.nodes span.end s at in way_node_locked table.layout a.known m key s f words b.taken.possible w.since own h) in
+        let lower : IsLowerPage (node_of upper).fixed.height (Place e) = (let tall = above.height in let small = below.height in low_page (node_of upper).fixed.height e (omega (arith, low, falls, tall, small))) in
+        subst (λ z. Publishes table.layout j (Slot z i) (entry_word (Some e)) (gone_change j.pass) (Some value) gone) (sym n_is)
+        (remove_in_slot table.layout j c.known.locks news key u.number s.number number s.height i (entry_word (Some e)) value e upper words ready side (still u.number upper hu) (still s.number words h)
+        upper_names (low_names words h) (above.at ∙ sym i_is) lower (leaf_there table.layout a.known j c.known.locks news number key value (later_on a.known c.known j stays.0 later) has_read) (word, refl))
+
+    pub may_remake : (spot : Spot) → IsSpotAbove way span.end spot → MayEnd table c made spot (entry_word (Some e)) (gone_change c.known.pass) (Some value) gone
+    may_remake spot is = record {
+      news = news;
+      building = building;
+      publishes = λ j later ready anchor. subst (λ q. Publishes table.layout j spot (entry_word (Some e)) (gone_change q) (Some value) gone) later.pass (publishes spot is j later ready anchor);
+    }

@@ -1,0 +1,229 @@
+-- Steps of a pass, one after the other: what they leave as it was, and what only grows.
+use Rattle.std.proofs.Common.{◌≡◌, ◌≤◌, List, [], ◌∷◌, ◌++◌, refl, sym, ap, subst, ◌∙◌, arith, ◌<◌, ◌+◌}
+use Rattle.std.specs.Prelude.{All}
+use Rattle.std.proofs.lemmas.List.Elements.{All-append, All-cons, All-head, All-tail, All-weaker}
+use Rattle.hot_model.specs.Fronts.{BeginsWith}
+use Rattle.hot_model.proofs.Growth.{begins_itself, begins_on, begins_push}
+use Rattle.record_words.specs.declared.layout.Layout.{Layout}
+use Rattle.rowex_core.specs.declared.event.Act.{Act}
+use Rattle.rowex_core.specs.declared.event.Act.TheVariants.{Claim, Fill, Ready, Release, LoadRef, LoadFixed, Lock, Unlock, Publish, Mark, LoadEpoch, Advance, SetPin, ClearPin, LoadPin, LoadState, GiveBack}
+use Rattle.rowex_core.specs.declared.event.Event.{Event}
+use Rattle.rowex_core.specs.declared.event.Spot.TheVariants.{Root, Slot}
+use Rattle.rowex_core.specs.declared.known.Fresh.{Fresh}
+use Rattle.rowex_core.specs.declared.known.Known.{Known}
+use Rattle.rowex_core.specs.Events.{next_change}
+use Rattle.rowex_core.specs.Knowing.{IsEvent}
+use Rattle.rowex_table.specs.Runs.{Runs, Steps, silent}
+use Rattle.rowex_table.specs.Seats.{TableView, SeatView}
+use Rattle.rowex_table.specs.Stays.{KeepsRecall, LeavesFresh, LeavesFront, LeavesPin}
+use Rattle.rowex_table.proofs.ActsLeave.{act_leaves}
+use Rattle.rowex_table.proofs.Running.{runs_one, runs_append, runs_same}
+use Rattle.rowex_writing.specs.Attempts.{HasLoadedRoot}
+use Rattle.rowex_writing.specs.Changes.{HasRun}
+use Rattle.rowex_writing.specs.Going.{WorksOn}
+use Rattle.rowex_writing.specs.Locks.{Works, IsPlain}
+
+-- ---- kinds of steps
+pub plain_recalls : (act : Act) → IsPlain act → KeepsRecall act
+plain_recalls (Claim r found) t = t
+plain_recalls (Fill r offset w) t = t
+plain_recalls (Ready r) t = t
+plain_recalls (Release r) t = t
+plain_recalls (LoadRef Root w) t = absurd t
+plain_recalls (LoadRef (Slot n i) w) t = t
+plain_recalls (LoadFixed r offset w) t = t
+plain_recalls (Lock target found) t = t
+plain_recalls (Unlock target) t = t
+plain_recalls (Publish spot w) t = t
+plain_recalls (Mark r epoch) t = t
+plain_recalls (LoadEpoch w) t = t
+plain_recalls (Advance expected found) t = t
+plain_recalls (SetPin w) t = t
+plain_recalls ClearPin t = t
+plain_recalls (LoadPin o w) t = t
+plain_recalls (LoadState r w) t = t
+plain_recalls (GiveBack r epoch found) t = t
+
+plain_fresh : (act : Act) → IsPlain act → LeavesFresh act
+plain_fresh (Claim r found) t = tt
+plain_fresh (Fill r offset w) t = tt
+plain_fresh (Ready r) t = tt
+plain_fresh (Release r) t = tt
+plain_fresh (LoadRef Root w) t = t
+plain_fresh (LoadRef (Slot n i) w) t = tt
+plain_fresh (LoadFixed r offset w) t = tt
+plain_fresh (Lock target found) t = tt
+plain_fresh (Unlock target) t = tt
+plain_fresh (Publish spot w) t = tt
+plain_fresh (Mark r epoch) t = tt
+plain_fresh (LoadEpoch w) t = tt
+plain_fresh (Advance expected found) t = tt
+plain_fresh (SetPin w) t = tt
+plain_fresh ClearPin t = tt
+plain_fresh (LoadPin o w) t = tt
+plain_fresh (LoadState r w) t = tt
+plain_fresh (GiveBack r epoch found) t = tt
+
+pub recalls_pin : (act : Act) → KeepsRecall act → LeavesPin act
+recalls_pin (Claim r found) t = tt
+recalls_pin (Fill r offset w) t = tt
+recalls_pin (Ready r) t = tt
+recalls_pin (Release r) t = tt
+recalls_pin (LoadRef spot w) t = tt
+recalls_pin (LoadFixed r offset w) t = tt
+recalls_pin (Lock target found) t = tt
+recalls_pin (Unlock target) t = tt
+recalls_pin (Publish spot w) t = tt
+recalls_pin (Mark r epoch) t = tt
+recalls_pin (LoadEpoch w) t = tt
+recalls_pin (Advance expected found) t = tt
+recalls_pin (SetPin w) t = absurd t
+recalls_pin ClearPin t = absurd t
+recalls_pin (LoadPin o w) t = tt
+recalls_pin (LoadState r w) t = tt
+recalls_pin (GiveBack r epoch found) t = tt
+
+-- ---- one step
+module _ (layout : Layout) (k j : Known) where
+  -- what it has seen only grows
+  pub act_front : (act : Act) → IsEvent layout act silent k j → BeginsWith j.front k.front
+  act_front act e = grown act (act_leaves layout k j act e).front e
+    where
+      same : j.front ≡ k.front → BeginsWith j.front k.front
+      same is = subst (λ z. BeginsWith z k.front) (sym is) (begins_itself k.front)
+
+      seen : (act : Act) (e : IsEvent layout act silent k j) → j.front ≡ e.core.changes → BeginsWith j.front k.front
+      seen act e is = let f = e.knows.seen.front in (f.0, is ∙ f.1)
+
+      grown : (act : Act) → (LeavesFront act → j.front ≡ k.front) → IsEvent layout act silent k j → BeginsWith j.front k.front
+      grown (LoadRef Root w) is e = seen (LoadRef Root w) e (ap (λ (z : Known). z.front) e.learned_is)
+      grown (LoadRef (Slot n i) w) is e = seen (LoadRef (Slot n i) w) e (ap (λ (z : Known). z.front) e.learned_is)
+      grown (LoadFixed r offset w) is e = seen (LoadFixed r offset w) e (ap (λ (z : Known). z.front) e.learned_is)
+      grown (Publish spot w) is e =
+          let f = e.knows.seen.front in let x = next_change e.core k.pass spot w in
+          subst (λ z. BeginsWith z k.front) (sym (ap (λ (z : Known). z.front) e.learned_is)) (begins_on k.front e.core.changes (e.core.changes ++ x ∷ []) (f.0, f.1) (begins_push e.core.changes x))
+      grown (Claim r found) is e = same (is tt)
+      grown (Fill r offset w) is e = same (is tt)
+      grown (Ready r) is e = same (is tt)
+      grown (Release r) is e = same (is tt)
+      grown (Lock target found) is e = same (is tt)
+      grown (Unlock target) is e = same (is tt)
+      grown (Mark r epoch) is e = same (is tt)
+      grown (LoadEpoch w) is e = same (is tt)
+      grown (Advance expected found) is e = same (is tt)
+      grown (SetPin w) is e = same (is tt)
+      grown ClearPin is e = same (is tt)
+      grown (LoadPin o w) is e = same (is tt)
+      grown (LoadState r w) is e = same (is tt)
+      grown (GiveBack r epoch found) is e = same (is tt)
+
+  -- the root was loaded since, and what was seen then is what is known of it
+  module _ (first : Known) (h : HasLoadedRoot first k) where
+    pub act_loaded : (act : Act) → IsEvent layout act silent k j → HasLoadedRoot first j
+    act_loaded act e = loaded act (act_leaves layout k j act e).fresh e
+      where
+        next : (act : Act) → IsEvent layout act silent k j → j.steps ≡ k.steps + 1
+        next act e = (act_leaves layout k j act e).steps
+
+        same : (act : Act) → IsEvent layout act silent k j → j.fresh ≡ k.fresh → HasLoadedRoot first j
+        same act e is = record {
+          from = subst (λ (z : Fresh). first.steps ≤ z.step) (sym is) h.from;
+          upto = subst (λ (z : Fresh). z.step < j.steps) (sym is) (omega (arith, h.upto, next act e));
+          old = subst (λ (z : Fresh). BeginsWith z.front first.front) (sym is) h.old;
+          new = subst (λ (z : Fresh). BeginsWith j.front z.front) (sym is) (begins_on k.fresh.front k.front j.front h.new (act_front act e));
+        }
+
+        loaded : (act : Act) → (LeavesFresh act → j.fresh ≡ k.fresh) → IsEvent layout act silent k j → HasLoadedRoot first j
+        loaded (LoadRef Root w) is e =
+            let now : j.fresh ≡ record { front = e.core.changes; step = k.steps } = ap (λ (z : Known). z.fresh) e.learned_is in
+            let seen : j.front ≡ e.core.changes = ap (λ (z : Known). z.front) e.learned_is in
+            let f = e.knows.seen.front in
+            record {
+              from = subst (λ (z : Fresh). first.steps ≤ z.step) (sym now) (omega (arith, h.from, h.upto));
+              upto = subst (λ (z : Fresh). z.step < j.steps) (sym now) (omega (arith, next (LoadRef Root w) e));
+              old = subst (λ (z : Fresh). BeginsWith z.front first.front) (sym now) (begins_on first.front k.front e.core.changes (begins_on first.front k.fresh.front k.front h.old h.new) (f.0, f.1));
+              new = subst (λ (z : Fresh). BeginsWith j.front z.front) (sym now) (subst (λ z. BeginsWith z e.core.changes) (sym seen) (begins_itself e.core.changes));
+            }
+        loaded (LoadRef (Slot n i) w) is e = same (LoadRef (Slot n i) w) e (is tt)
+        loaded (LoadFixed r offset w) is e = same (LoadFixed r offset w) e (is tt)
+        loaded (Publish spot w) is e = same (Publish spot w) e (is tt)
+        loaded (Claim r found) is e = same (Claim r found) e (is tt)
+        loaded (Fill r offset w) is e = same (Fill r offset w) e (is tt)
+        loaded (Ready r) is e = same (Ready r) e (is tt)
+        loaded (Release r) is e = same (Release r) e (is tt)
+        loaded (Lock target found) is e = same (Lock target found) e (is tt)
+        loaded (Unlock target) is e = same (Unlock target) e (is tt)
+        loaded (Mark r epoch) is e = same (Mark r epoch) e (is tt)
+        loaded (LoadEpoch w) is e = same (LoadEpoch w) e (is tt)
+        loaded (Advance expected found) is e = same (Advance expected found) e (is tt)
+        loaded (SetPin w) is e = same (SetPin w) e (is tt)
+        loaded ClearPin is e = same ClearPin e (is tt)
+        loaded (LoadPin o w) is e = same (LoadPin o w) e (is tt)
+        loaded (LoadState r w) is e = same (LoadState r w) e (is tt)
+        loaded (GiveBack r epoch found) is e = same (GiveBack r epoch found) e (is tt)
+
+-- ---- many
+module _ {G : Type 0} (table : TableView) (becomes : G → Event → G → Type 0) where
+  pub runs_count : (acts : List Act) (a b : SeatView × G) → Runs table becomes acts a b → a.0.known.steps ≤ b.0.known.steps
+  runs_count [] a b e = let z : b.0.known.steps ≡ a.0.known.steps = ap (λ (z : SeatView × G). z.0.known.steps) e in omega arith
+  runs_count (act ∷ acts) a b (m, s, more) =
+      let one = (act_leaves table.layout a.0.known m.0.known act s.event).steps in let rest = runs_count acts m b more in omega (arith, one, rest)
+
+  pub runs_front : (acts : List Act) (a b : SeatView × G) → Runs table becomes acts a b → BeginsWith b.0.known.front a.0.known.front
+  runs_front [] a b e = subst (λ (z : SeatView × G). BeginsWith z.0.known.front a.0.known.front) (sym e) (begins_itself a.0.known.front)
+  runs_front (act ∷ acts) a b (m, s, more) = begins_on a.0.known.front m.0.known.front b.0.known.front (act_front table.layout a.0.known m.0.known act s.event) (runs_front acts m b more)
+
+  -- the last load of the root is the same, where none is one
+  pub runs_fresh : (acts : List Act) (a b : SeatView × G) → All LeavesFresh acts → Runs table becomes acts a b → b.0.known.fresh ≡ a.0.known.fresh
+  runs_fresh [] a b leaves e = ap (λ (z : SeatView × G). z.0.known.fresh) e
+  runs_fresh (act ∷ acts) a b leaves (m, s, more) =
+      runs_fresh acts m b (All-tail LeavesFresh act acts leaves) more ∙ (act_leaves table.layout a.0.known m.0.known act s.event).fresh (All-head LeavesFresh act acts leaves)
+
+  pub runs_pin : (acts : List Act) (a b : SeatView × G) → All LeavesPin acts → Runs table becomes acts a b → b.0.known.pin ≡ a.0.known.pin
+  runs_pin [] a b leaves e = ap (λ (z : SeatView × G). z.0.known.pin) e
+  runs_pin (act ∷ acts) a b leaves (m, s, more) =
+      runs_pin acts m b (All-tail LeavesPin act acts leaves) more ∙ (act_leaves table.layout a.0.known m.0.known act s.event).pin (All-head LeavesPin act acts leaves)
+
+  -- ---- as runs of a call
+  pub run_none : (a : SeatView × G) → HasRun table becomes a a
+  run_none a = record { acts = []; pinned = λ i d low. absurd (omega arith); steps = refl }
+
+  pub run_one : (act : Act) (a b : SeatView × G) → LeavesPin act → Steps table becomes act a b → HasRun table becomes a b
+  run_one act a b leaves s = record { acts = act ∷ []; pinned = All-cons LeavesPin act [] leaves (λ i d low. absurd (omega arith)); steps = runs_one table becomes act a b s }
+
+  pub runs_trans : (a m b : SeatView × G) → HasRun table becomes a m → HasRun table becomes m b → HasRun table becomes a b
+  runs_trans a m b first second = record {
+    acts = first.acts ++ second.acts;
+    pinned = All-append LeavesPin first.acts second.acts first.pinned second.pinned;
+    steps = runs_append table becomes first.acts second.acts a m b first.steps second.steps;
+  }
+
+  pub works_run : (a b : SeatView × G) → Works table becomes a b → HasRun table becomes a b
+  works_run a b w = record { acts = w.acts; pinned = All-weaker IsPlain LeavesPin (λ act t. recalls_pin act (plain_recalls act t)) w.acts w.plain; steps = w.steps }
+
+  pub goes_run : (a b : SeatView × G) → WorksOn table becomes a b → HasRun table becomes a b
+  goes_run a b w = record { acts = w.acts; pinned = All-weaker KeepsRecall LeavesPin recalls_pin w.acts w.plain; steps = w.steps }
+
+  -- what they leave
+  pub works_fresh : (a b : SeatView × G) → Works table becomes a b → b.0.known.fresh ≡ a.0.known.fresh
+  works_fresh a b w = runs_fresh w.acts a b (All-weaker IsPlain LeavesFresh plain_fresh w.acts w.plain) w.steps
+
+  pub run_pass : (a b : SeatView × G) → HasRun table becomes a b → b.0.known.pass ≡ a.0.known.pass
+  run_pass a b r = (runs_same table becomes r.acts a b r.steps).2
+
+  pub run_pin : (a b : SeatView × G) → HasRun table becomes a b → b.0.known.pin ≡ a.0.known.pin
+  run_pin a b r = runs_pin r.acts a b r.pinned r.steps
+
+  pub run_count : (a b : SeatView × G) → HasRun table becomes a b → a.0.known.steps ≤ b.0.known.steps
+  run_count a b r = runs_count r.acts a b r.steps
+
+  pub run_front : (a b : SeatView × G) → HasRun table becomes a b → BeginsWith b.0.known.front a.0.known.front
+  run_front a b r = runs_front r.acts a b r.steps
+
+  -- a load of the root by which the call goes is not forgotten, nor is one that comes later older
+  runs_loaded : (acts : List Act) (first : Known) (a b : SeatView × G) → HasLoadedRoot first a.0.known → Runs table becomes acts a b → HasLoadedRoot first b.0.known
+  runs_loaded [] first a b h e = subst (λ (z : SeatView × G). HasLoadedRoot first z.0.known) (sym e) h
+  runs_loaded (act ∷ acts) first a b h (m, s, more) = runs_loaded acts first m b (act_loaded table.layout a.0.known m.0.known first h act s.event) more
+
+  pub run_loaded : (first : Known) (a b : SeatView × G) → HasLoadedRoot first a.0.known → HasRun table becomes a b → HasLoadedRoot first b.0.known
+  run_loaded first a b h r = runs_loaded r.acts first a b h r.steps

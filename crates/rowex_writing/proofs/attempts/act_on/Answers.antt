@@ -1,0 +1,123 @@
+-- What follows from the plan: an answer, a refusal, or the change.
+use Rattle.std.proofs.Common.{Err, ap, subst, ◌∙◌, arith}
+use Rattle.rowex_writing.specs.Plans.{LiesOnWay}
+use Rattle.rowex_writing.specs.Changes.{HasNoRoom, IsPlanned}
+use Rattle.rowex_reading.proofs.Led.{reads_later, reads_same, same_since}
+use Rattle.rowex_reading.proofs.Seeing.{later_trans}
+use Rattle.rowex_reading.specs.Seen.{since}
+use Rattle.rowex_writing.proofs.Attempting.{answered_change, answered_look, found_later, loaded_reads, looked, planned_later, refused_busy, refused_leaves, refused_nodes, removal_takes, rest_reads}
+use Rattle.rowex_writing.proofs.Onward.{reads_run}
+use Rattle.rowex_writing.proofs.Runs.{run_loaded, runs_trans}
+use Rattle.rowex_writing.proofs.Ways.{way_later}
+use Rattle.rowex_writing.proofs.attempts.act_on.Goals as goal
+
+pub take_span-requires-clause-own : goal.take_span-requires-clause-own
+take_span-requires-clause-own g c = (reads_same c.find_plan.ensures.reads.1).0 ∙ c.requires.own
+
+pub take_span-requires-clause-span : goal.take_span-requires-clause-span
+take_span-requires-clause-span g c = subst (LiesOnWay c.args.way.now) c.in-Change.is c.find_plan.ensures.within
+
+pub take_span-requires-clause-way : goal.take_span-requires-clause-way
+take_span-requires-clause-way g c = (since c.args.seat.now.known, way_later _ _ _ _ _ _ _ (reads_later c.find_plan.ensures.reads.1) c.requires.way)
+
+pub take_span-requires-clause-rest : goal.take_span-requires-clause-rest
+take_span-requires-clause-rest g c = rest_reads c.args.table.now g.G.Gate.becomes c.find_plan.ensures.reads.0 _ _ c.find_plan.ensures.reads.1 c.requires.rest
+
+pub returns-in-Answer-clause-run : goal.returns-in-Answer-clause-run
+returns-in-Answer-clause-run g c = reads_run c.args.table.now g.G.Gate.becomes c.find_plan.ensures.reads.0 _ _ c.find_plan.ensures.reads.1
+
+pub returns-in-Answer-clause-rest : goal.returns-in-Answer-clause-rest
+returns-in-Answer-clause-rest g c = rest_reads c.args.table.now g.G.Gate.becomes c.find_plan.ensures.reads.0 _ _ c.find_plan.ensures.reads.1 c.requires.rest
+
+pub returns-in-Answer-clause-answered : goal.returns-in-Answer-clause-answered
+returns-in-Answer-clause-answered g c k later =
+    let on = reads_later c.find_plan.ensures.reads.1 in
+    let planned = c.find_plan.ensures.planned (since c.args.seat.now.known) c.requires.way in
+    let found = found_later _ _ _ _ on (same_since c.find_plan.ensures.reads.1) c.requires.found in
+    answered_look k _ _ _ _ _ (later_trans later on) (looked _ _ _ _ _ _ _ _ (subst (IsPlanned _ _ _ _ _ _) c.in-Answer.is planned) found)
+
+pub returns-then-not-take_span-clause-run : goal.returns-then-not-take_span-clause-run
+returns-then-not-take_span-clause-run g c =
+    runs_trans c.args.table.now g.G.Gate.becomes _ _ _ (reads_run c.args.table.now g.G.Gate.becomes c.find_plan.ensures.reads.0 _ _ c.find_plan.ensures.reads.1) c.take_span.ensures.run
+
+pub returns-then-not-take_span-clause-refused : goal.returns-then-not-take_span-clause-refused
+returns-then-not-take_span-clause-refused g c k loaded later =
+    let r = c.find_plan.ensures.reads.1 in
+    let way = way_later _ _ _ _ _ _ _ (reads_later r) c.requires.way in
+    refused_busy c.args.table.now.layout k _ _ (since c.args.seat.now.known) (same_since r) (loaded_reads c.args.table.now g.G.Gate.becomes k c.find_plan.ensures.reads.0 _ _ r loaded)
+    (later_trans later (reads_later r)) c.take_span.ensures.later (c.take_span.ensures.busy c.if-not-take_span.true (since c.args.seat.now.known) way)
+
+pub make_change-requires : goal.make_change-requires
+make_change-requires g c =
+    let r = c.find_plan.ensures.reads.1 in
+    let way = way_later _ _ _ _ _ _ _ (reads_later r) c.requires.way in
+    let planned = c.find_plan.ensures.planned (since c.args.seat.now.known) c.requires.way in
+    record {
+      taken = (
+        since c.args.seat.now.known,
+        c.args.ask,
+        c.take_span.ensures.taken c.if-not-take_span.false (since c.args.seat.now.known) way,
+        planned_later _ _ _ _ _ _ _ _ c.take_span.ensures.later (subst (IsPlanned _ _ _ _ _ _) c.in-Change.is planned),
+      );
+    }
+
+pub returns-in-Ok-clause-run : goal.returns-in-Ok-clause-run
+returns-in-Ok-clause-run g c =
+    runs_trans c.args.table.now g.G.Gate.becomes _ _ _ (runs_trans c.args.table.now g.G.Gate.becomes _ _ _ (reads_run c.args.table.now g.G.Gate.becomes c.find_plan.ensures.reads.0 _ _ c.find_plan.ensures.reads.1) c.take_span.ensures.run)
+    c.make_change.ensures.run
+
+pub returns-in-Ok-clause-answered : goal.returns-in-Ok-clause-answered
+returns-in-Ok-clause-answered g c k later =
+    let planned = c.find_plan.ensures.planned (since c.args.seat.now.known) c.requires.way in
+    rw c.reply_to.ensures (answered_change k _ _ _ _ _ _ _ _ _ _ _ (later_trans (later_trans later (reads_later c.find_plan.ensures.reads.1)) c.take_span.ensures.later)
+    (subst (IsPlanned _ _ _ _ _ _) c.in-Change.is planned) (c.make_change.ensures.done c.in-Ok.is))
+
+pub returns-in-Err-Nodes-clause-run : goal.returns-in-Err-Nodes-clause-run
+returns-in-Err-Nodes-clause-run g c =
+    runs_trans c.args.table.now g.G.Gate.becomes _ _ _ (runs_trans c.args.table.now g.G.Gate.becomes _ _ _ (reads_run c.args.table.now g.G.Gate.becomes c.find_plan.ensures.reads.0 _ _ c.find_plan.ensures.reads.1) c.take_span.ensures.run)
+    c.make_change.ensures.run
+
+pub returns-in-Err-Nodes-clause-refused : goal.returns-in-Err-Nodes-clause-refused
+returns-in-Err-Nodes-clause-refused g c k loaded later =
+    let r = c.find_plan.ensures.reads.1 in
+    let there = run_loaded c.args.table.now g.G.Gate.becomes k _ _ (loaded_reads c.args.table.now g.G.Gate.becomes k c.find_plan.ensures.reads.0 _ _ r loaded) c.take_span.ensures.run in
+    refused_nodes c.args.table.now.layout k _ _ there (later_trans (later_trans later (reads_later r)) c.take_span.ensures.later) (subst (HasNoRoom _ _ _) c.in-Err-Nodes.field-0-is c.in-Err-Nodes.ensures.full)
+
+pub returns-in-Err-Leaves-clause-run : goal.returns-in-Err-Leaves-clause-run
+returns-in-Err-Leaves-clause-run g c =
+    runs_trans c.args.table.now g.G.Gate.becomes _ _ _ (runs_trans c.args.table.now g.G.Gate.becomes _ _ _ (reads_run c.args.table.now g.G.Gate.becomes c.find_plan.ensures.reads.0 _ _ c.find_plan.ensures.reads.1) c.take_span.ensures.run)
+    c.make_change.ensures.run
+
+pub returns-in-Err-Leaves-clause-refused : goal.returns-in-Err-Leaves-clause-refused
+returns-in-Err-Leaves-clause-refused g c k loaded later =
+    let r = c.find_plan.ensures.reads.1 in
+    let there = run_loaded c.args.table.now g.G.Gate.becomes k _ _ (loaded_reads c.args.table.now g.G.Gate.becomes k c.find_plan.ensures.reads.0 _ _ r loaded) c.take_span.ensures.run in
+    refused_leaves c.args.table.now.layout k _ _ there (later_trans (later_trans later (reads_later r)) c.take_span.ensures.later) (subst (HasNoRoom _ _ _) c.in-Err-Leaves.field-0-is c.in-Err-Leaves.ensures.full)
+
+pub returns-in-Err-Leaves-clause-leafless : goal.returns-in-Err-Leaves-clause-leafless
+returns-in-Err-Leaves-clause-leafless g c e =
+    let planned = c.find_plan.ensures.planned (since c.args.seat.now.known) c.requires.way in
+    let take = removal_takes c.find_plan.new.seat.known (since c.args.seat.now.known) c.args.key.now c.args.way.now c.args.ask c.args.found c.find_plan.result c.in-Change.span c.in-Change.deed
+    e c.in-Change.is planned in
+    absurd (c.make_change.ensures.leafless take (c.in-Err-Leaves.is ∙ ap Err c.in-Err-Leaves.field-0-is))
+
+-- ---- how many steps
+pub returns-then-not-take_span-clause-few : goal.returns-then-not-take_span-clause-few
+returns-then-not-take_span-clause-few g c =
+    let within = subst (LiesOnWay c.args.way.now) c.in-Change.is c.find_plan.ensures.within in
+    omega (arith, c.find_plan.ensures.few, c.take_span.ensures.few, within.1, c.requires.way.depth)
+
+pub returns-in-Ok-clause-few : goal.returns-in-Ok-clause-few
+returns-in-Ok-clause-few g c =
+    let within = subst (LiesOnWay c.args.way.now) c.in-Change.is c.find_plan.ensures.within in
+    omega (arith, c.find_plan.ensures.few, c.take_span.ensures.few, c.make_change.ensures.few, within.1, c.requires.way.depth)
+
+pub returns-in-Err-Nodes-clause-few : goal.returns-in-Err-Nodes-clause-few
+returns-in-Err-Nodes-clause-few g c =
+    let within = subst (LiesOnWay c.args.way.now) c.in-Change.is c.find_plan.ensures.within in
+    omega (arith, c.find_plan.ensures.few, c.take_span.ensures.few, c.make_change.ensures.few, within.1, c.requires.way.depth)
+
+pub returns-in-Err-Leaves-clause-few : goal.returns-in-Err-Leaves-clause-few
+returns-in-Err-Leaves-clause-few g c =
+    let within = subst (LiesOnWay c.args.way.now) c.in-Change.is c.find_plan.ensures.within in
+    omega (arith, c.find_plan.ensures.few, c.take_span.ensures.few, c.make_change.ensures.few, within.1, c.requires.way.depth)

@@ -1,0 +1,46 @@
+-- The search, and what follows from it.
+use Rattle.std.proofs.Common.{subst, sym, arith}
+use Rattle.std.proofs.lemmas.Result.{IfErr-weaker, IfOk-weaker}
+use Rattle.rowex_reading.specs.Seen.{since}
+use Rattle.rowex_writing.specs.Ways.{IsWayOf}
+use Rattle.rowex_writing.proofs.Attempting.{searched}
+use Rattle.rowex_writing.proofs.Runs.{run_loaded, runs_trans}
+use Rattle.rowex_writing.proofs.Counting.{looks_count}
+use Rattle.rowex_writing.proofs.attempts.attempt.Goals as goal
+
+pub act_on-requires-clause-own : goal.act_on-requires-clause-own
+act_on-requires-clause-own g c = (searched c.args.table.now g.G.Gate.becomes _ _ c.search_way-found.ensures.searched c.search_way-found.ensures.possible c.requires.own c.requires.rest).seat
+
+pub act_on-requires-clause-way : goal.act_on-requires-clause-way
+act_on-requires-clause-way g c =
+    subst (λ way. IsWayOf c.args.table.now.layout c.search_way-found.new.seat.known (since c.search_way-found.new.seat.known) c.args.key.now way c.search_way-found.result)
+    (sym c.as_slice.ensures.value) c.search_way-found.ensures.way
+
+pub act_on-requires-clause-rest : goal.act_on-requires-clause-rest
+act_on-requires-clause-rest g c = (searched c.args.table.now g.G.Gate.becomes _ _ c.search_way-found.ensures.searched c.search_way-found.ensures.possible c.requires.own c.requires.rest).rest
+
+pub returns-clause-run : goal.returns-clause-run
+returns-clause-run g c =
+    let b = searched c.args.table.now g.G.Gate.becomes _ _ c.search_way-found.ensures.searched c.search_way-found.ensures.possible c.requires.own c.requires.rest in
+    runs_trans c.args.table.now g.G.Gate.becomes _ _ _ b.run c.act_on.ensures.run
+
+pub returns-clause-loaded : goal.returns-clause-loaded
+returns-clause-loaded g c =
+    let b = searched c.args.table.now g.G.Gate.becomes _ _ c.search_way-found.ensures.searched c.search_way-found.ensures.possible c.requires.own c.requires.rest in
+    run_loaded c.args.table.now g.G.Gate.becomes _ _ _ b.loaded c.act_on.ensures.run
+
+pub returns-clause-answered : goal.returns-clause-answered
+returns-clause-answered g c =
+    let b = searched c.args.table.now g.G.Gate.becomes _ _ c.search_way-found.ensures.searched c.search_way-found.ensures.possible c.requires.own c.requires.rest in
+    IfOk-weaker c.act_on.result _ _ (λ reply h. h c.args.seat.now.known b.later) c.act_on.ensures.answered
+
+pub returns-clause-refused : goal.returns-clause-refused
+returns-clause-refused g c =
+    let b = searched c.args.table.now g.G.Gate.becomes _ _ c.search_way-found.ensures.searched c.search_way-found.ensures.possible c.requires.own c.requires.rest in
+    IfErr-weaker c.act_on.result _ _ (λ fault h. h c.args.seat.now.known b.loaded b.later) c.act_on.ensures.refused
+
+pub returns-clause-few : goal.returns-clause-few
+returns-clause-few g c =
+    let s = c.search_way-found.ensures.searched in
+    let looked = looks_count c.args.table.now g.G.Gate.becomes s.loaded (c.args.seat.now, c.args.gate.now) (c.search_way-found.new.seat, c.search_way-found.new.gate) s.looks in
+    omega (arith, looked, s.few, s.low, c.act_on.ensures.few)

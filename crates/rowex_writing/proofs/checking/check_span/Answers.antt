@@ -1,0 +1,61 @@
+-- The root, and then the nodes.
+use Rattle.std.proofs.Common.{◌∙◌, ap, subst, sym, Some, arith}
+use Rattle.rowex_writing.specs.Ways.{RootWas}
+use Rattle.rowex_writing.proofs.Confirming.{since_pinned, span_later}
+use Rattle.rowex_writing.proofs.Locking.{reads_more, seat_of}
+use Rattle.rowex_writing.proofs.Ways.{way_later}
+use Rattle.rowex_writing.proofs.checking.check_span.Goals as goal
+
+pub entries_stand-requires-clause-way : goal.entries_stand-requires-clause-way
+entries_stand-requires-clause-way g c = let (m, w) = c.requires.way in (m, c.args._key.now, w)
+
+pub returns-then-span-gt0-clause-checked : goal.returns-then-span-gt0-clause-checked
+returns-then-span-gt0-clause-checked g c = λ t.
+    let (m, w) = c.requires.way in record { root = λ z. absurd (omega (arith, c.if-span-gt0.true)); entries = c.entries_stand.ensures.stand m c.args._key.now w t }
+
+pub returns-then-span-gt0-clause-changed : goal.returns-then-span-gt0-clause-changed
+returns-then-span-gt0-clause-changed g c = λ m w f. c.entries_stand.ensures.changed m c.args._key.now w f
+
+pub root_stands-requires-clause-pinned : goal.root_stands-requires-clause-pinned
+root_stands-requires-clause-pinned g c = let (m, w) = c.requires.way in since_pinned c.args.seat.now.known m w.since
+
+pub root_stands-requires-clause-locked : goal.root_stands-requires-clause-locked
+root_stands-requires-clause-locked g c = c.requires.locked.top (omega (arith, c.if-span-gt0.false))
+
+pub returns-then-not-root_stands-clause-changed : goal.returns-then-not-root_stands-clause-changed
+returns-then-not-root_stands-clause-changed g c = λ m w f.
+    c.root_stands.ensures.changed m (subst (λ o. RootWas c.args.seat.now.known m o) (sym c.named_at.ensures) w.root) c.if-not-root_stands.true
+
+pub entries_stand-requires-2-clause-own : goal.entries_stand-requires-2-clause-own
+entries_stand-requires-2-clause-own g c =
+    seat_of c.args.table.now g.G.Gate.becomes (c.args.seat.now, c.args.gate.now) (c.root_stands.new.seat, c.root_stands.new.gate) c.root_stands.ensures.reads.goes c.requires.own
+
+pub entries_stand-requires-2-clause-way : goal.entries_stand-requires-2-clause-way
+entries_stand-requires-2-clause-way g c =
+    let (m, w) = c.requires.way in
+    (m, c.args._key.now, way_later c.args.table.now.layout c.args.seat.now.known c.root_stands.new.seat.known m c.args._key.now c.args.way.now c.args.found c.root_stands.ensures.reads.goes.stays.0 w)
+
+pub entries_stand-requires-2-clause-locked : goal.entries_stand-requires-2-clause-locked
+entries_stand-requires-2-clause-locked g c =
+    span_later c.args.seat.now.known c.root_stands.new.seat.known c.args.way.now c.args.span c.root_stands.ensures.reads.goes.stays c.requires.locked
+
+pub returns-clause-reads : goal.returns-clause-reads
+returns-clause-reads g c =
+    reads_more c.args.table.now g.G.Gate.becomes (c.args.seat.now, c.args.gate.now) (c.root_stands.new.seat, c.root_stands.new.gate) (c.entries_stand-2.new.seat, c.entries_stand-2.new.gate)
+    c.root_stands.ensures.reads c.entries_stand-2.ensures.reads
+
+pub returns-clause-checked : goal.returns-clause-checked
+returns-clause-checked g c = λ t.
+    let (m, w) = c.requires.way in
+    let later = c.root_stands.ensures.reads.goes.stays.0 in
+    let moved = way_later c.args.table.now.layout c.args.seat.now.known c.root_stands.new.seat.known m c.args._key.now c.args.way.now c.args.found later w in
+    record {
+      root = λ z. c.entries_stand-2.ensures.reads.goes.stays.2 ∙ (c.root_stands.ensures.same c.if-not-root_stands.false ∙ ap Some c.named_at.ensures);
+      entries = c.entries_stand-2.ensures.stand m c.args._key.now moved t;
+    }
+
+pub returns-clause-changed : goal.returns-clause-changed
+returns-clause-changed g c = λ m w f.
+    let later = c.root_stands.ensures.reads.goes.stays.0 in
+    c.entries_stand-2.ensures.changed m c.args._key.now
+    (way_later c.args.table.now.layout c.args.seat.now.known c.root_stands.new.seat.known m c.args._key.now c.args.way.now c.args.found later w) f

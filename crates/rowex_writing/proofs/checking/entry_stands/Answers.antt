@@ -1,0 +1,37 @@
+-- The entry of a locked node.
+use Rattle.std.proofs.Common.{sym, ◌∙◌}
+use Rattle.rowex_reading.proofs.Later.{event_possible}
+use Rattle.rowex_reading.proofs.Placing.{is_entry, slot_spelled}
+use Rattle.rowex_writing.proofs.Confirming.{entry_is, entry_changed}
+use Rattle.rowex_writing.proofs.Locking.{reads_entry}
+use Rattle.rowex_writing.proofs.Counting.{step_few}
+use Rattle.rowex_writing.proofs.checking.entry_stands.Goals as goal
+
+pub load_ref-word-requires-clause-range : goal.load_ref-word-requires-clause-range
+load_ref-word-requires-clause-range g c =
+    let s = c.requires.place in is_entry c.args.table.now.layout c.args.seat.now.known s.0 c.args.step.number s.1 c.args.step.at c.requires.possible s.2
+
+pub read_entry-requires : goal.read_entry-requires
+read_entry-requires g c = let s = c.requires.place in slot_spelled _ _ _ _ _ _ c.load_ref-word.ensures.event s.0 s.1 s.2.0
+
+pub returns-clause-reads : goal.returns-clause-reads
+returns-clause-reads g c =
+    reads_entry c.args.table.now g.G.Gate.becomes c.args.step.number c.args.step.at c.load_ref-word.result (c.args.seat.now, c.args.gate.now) (c.load_ref-word.new.seat, c.load_ref-word.new.gate) c.load_ref-word.ensures
+
+pub returns-clause-possible : goal.returns-clause-possible
+returns-clause-possible g c = event_possible c.load_ref-word.ensures.event
+
+pub returns-clause-same : goal.returns-clause-same
+returns-clause-same g c = λ t words h.
+    let s = c.requires.place in
+    let r = c.read_entry.ensures in
+    let low = (is_entry c.args.table.now.layout c.args.seat.now.known s.0 c.args.step.number s.1 c.args.step.at c.requires.possible s.2).1 in
+    sym (c.are_same.ensures.same t) ∙ entry_is c.args.step.number c.args.step.at c.load_ref-word.result c.load_ref-word.ensures.event s.0 s.1 s.2 c.read_entry.result r.is_value r.spells words h low
+
+pub returns-clause-changed : goal.returns-clause-changed
+returns-clause-changed g c = λ m h e has is read f.
+    let r = c.read_entry.ensures in
+    entry_changed c.args.step.number c.args.step.at c.load_ref-word.result c.load_ref-word.ensures.event m h has c.read_entry.result r.is_value r.spells e read (λ z. c.are_same.ensures.differ f (z ∙ sym is))
+
+pub returns-clause-few : goal.returns-clause-few
+returns-clause-few g c = step_few c.args.table.now g.G.Gate.becomes _ (c.args.seat.now, c.args.gate.now) (c.load_ref-word.new.seat, c.load_ref-word.new.gate) c.load_ref-word.ensures

@@ -1,0 +1,42 @@
+-- A claim and its fills are the first record.
+use Rattle.std.proofs.Common.{◌∷◌, [], ◌++◌, subst, sym, ap, ◌∙◌, arith}
+use Rattle.record_words.specs.Leaf.{leaf_words}
+use Rattle.moments.specs.declared.Rec.TheVariants.{Leaf as a_leaf}
+use Rattle.rowex_rights.specs.Rises.{of_leaf}
+use Rattle.rowex_walks.specs.Writer.{item}
+use Rattle.rowex_writing.specs.Building.{IsBuilding}
+use Rattle.rowex_writing.proofs.Locking.{goes_more}
+use Rattle.rowex_writing.proofs.Making.{none_on, claim_on, fill_on, building_none, building_more}
+use Rattle.rowex_writing.proofs.Counting.{claim_few, none_count}
+use Rattle.rowex_writing.proofs.publishing.make_leaf.Goals as goal
+
+pub returns-in_err-number-clause-goes : goal.returns-in_err-number-clause-goes
+returns-in_err-number-clause-goes g c = none_on c.args.table.now g.G.Gate.becomes _ _ _ _ _ _ c.in_err-number.ensures.claims
+
+pub returns-in_err-number-clause-leaf : goal.returns-in_err-number-clause-leaf
+returns-in_err-number-clause-leaf g c = record { key = c.requires.key; value = c.ranges.value.fits }
+
+pub returns-clause-leaf : goal.returns-clause-leaf
+returns-clause-leaf g c = record { key = c.requires.key; value = c.ranges.value.fits }
+
+pub returns-in_err-number-clause-made : goal.returns-in_err-number-clause-made
+returns-in_err-number-clause-made g c = rw c.from_residual.ensures (c.in_err-number.ensures.claims.own ∙ c.requires.none, c.in_err-number.ensures.none)
+
+pub returns-clause-goes : goal.returns-clause-goes
+returns-clause-goes g c =
+    goes_more c.args.table.now g.G.Gate.becomes _ _ _ (claim_on c.args.table.now g.G.Gate.becomes _ _ _ _ _ _ c.in_ok-number.ensures.claims) (fill_on c.args.table.now g.G.Gate.becomes _ _ _ _ c.fill_leaf.ensures.fills)
+
+pub returns-clause-made : goal.returns-clause-made
+returns-clause-made g c =
+    let n = c.in_ok-number.number in
+    subst (λ z. IsBuilding c.args.table.now c.fill_leaf.new.seat z (of_leaf (item n c.args.key.now c.args.value) ∷ [])) (sym (c.push.ensures.items ∙ ap (λ z. z ++ a_leaf n ∷ []) c.clear.ensures))
+    (building_more c.args.table.now g.G.Gate.becomes a_leaf _ _ n (leaf_words (c.args.key.now, c.args.value)) _ _ _ [] [] c.in_ok-number.ensures.claims c.fill_leaf.ensures.fills c.fill_leaf.ensures.filled.1
+    (building_none c.args.table.now c.args.seat.now c.requires.own c.requires.possible c.requires.none))
+
+pub returns-in_err-number-clause-few : goal.returns-in_err-number-clause-few
+returns-in_err-number-clause-few g c =
+    let z = none_count c.args.table.now g.G.Gate.becomes _ _ _ _ (c.args.seat.now, c.args.gate.now) (c.claim_leaf.new.seat, c.claim_leaf.new.gate) c.in_err-number.ensures.claims in omega (arith, z)
+
+pub returns-clause-few : goal.returns-clause-few
+returns-clause-few g c =
+    let z = claim_few c.args.table.now g.G.Gate.becomes _ _ _ _ (c.args.seat.now, c.args.gate.now) (c.claim_leaf.new.seat, c.claim_leaf.new.gate) c.in_ok-number.ensures.claims in omega (arith, z, c.fill_leaf.ensures.steps)

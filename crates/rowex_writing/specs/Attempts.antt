@@ -1,0 +1,81 @@
+-- One attempt of a call that may change the map: what it answers, and why it is refused.
+use Rattle.std.specs.Prelude.{◌≡◌, ◌⊎◌, ℕ, ◌<◌, ◌≤◌, length, Option, Some, None}
+use Rattle.hot_model.specs.declared.Call.{Call}
+use Rattle.hot_model.specs.declared.Call.TheVariants.{Insert as InsertCall, Upsert as UpsertCall, Remove as RemoveCall}
+use Rattle.hot_model.specs.declared.Change.{Change}
+use Rattle.hot_model.specs.declared.Kind.TheVariants.{Added, Replaced, Removed as TakenAway}
+use Rattle.hot_model.specs.declared.Reply.{Reply}
+use Rattle.hot_model.specs.declared.Reply.TheVariants.{Inserted, Exists, New, Was, Absent, Removed}
+use Rattle.hot_model.specs.Fronts.{BeginsWith, OthersGoOn}
+use Rattle.record_words.specs.declared.layout.Layout.{Layout}
+use Rattle.tries.specs.Keys.{Key}
+use Rattle.moments.specs.State.{IsHeld, IsMissed}
+use Rattle.rowex_core.specs.declared.known.Known.{Known}
+use Rattle.rowex_reading.specs.Seen.{Sure, since}
+use Rattle.rowex_writing.specs.Changes.{HasChanged, HasStored, HasTaken, IsFull}
+use Rattle.rowex_writing.specs.Locks.{HasMetLock}
+use Rattle.rowex_writing.specs.declared.plan.Ask.{Ask}
+use Rattle.rowex_writing.specs.declared.plan.Ask.TheVariants.{Insert, Upsert, Remove}
+use Rattle.rowex_writing.specs.declared.plan.Deed.{Deed}
+use Rattle.rowex_writing.specs.declared.plan.Deed.TheVariants.{Take}
+use Rattle.rowex_writing.specs.declared.plan.Found.{Found}
+use Rattle.rowex_writing.specs.declared.plan.Found.TheVariants.{Nothing, Leaf}
+use Rattle.rowex_writing.specs.declared.plan.Full.TheVariants.{Nodes, Leaves}
+use Rattle.rowex_writing.specs.declared.attempts.TryFault.{TryFault}
+use Rattle.rowex_writing.specs.declared.attempts.TryFault.TheVariants.{Busy, FullNodes, FullLeaves}
+
+-- the call that asks so for a key and a value
+abbrev pub call_of : Ask → Key → ℕ → Call
+call_of Insert key value = InsertCall key value
+call_of Upsert key value = UpsertCall key value
+call_of Remove key value = RemoveCall key
+
+-- the last load of the root was since k, and its front begins with that of k
+pub record HasLoadedRoot (k j : Known) : Type 0 where
+  pub from : k.steps ≤ j.fresh.step
+  pub upto : j.fresh.step < j.steps
+  pub old : BeginsWith j.fresh.front k.front
+  pub new : BeginsWith j.front j.fresh.front
+
+-- what a call found that changed nothing, at a moment since its last load of the root
+abbrev pub HasLooked : Known → Ask → Key → Reply → Type 0
+HasLooked j Insert key (Exists held) = Sure j (λ past. IsHeld past (since j) key held)
+HasLooked j Remove key Absent = Sure j (λ past. IsMissed past (since j) key)
+HasLooked j ask key reply = ⊥
+
+-- the change that a call made with this reply, where its key had this value before, or none
+abbrev pub IsChangeOf : ℕ → Ask → Key → ℕ → Reply → Change → Option ℕ → Type 0
+IsChangeOf q Insert key value Inserted x was = (x ≡ record { pass = q; key = key; value = value; kind = Added }) × (was ≡ None)
+IsChangeOf q Upsert key value New x was = (x ≡ record { pass = q; key = key; value = value; kind = Added }) × (was ≡ None)
+IsChangeOf q Upsert key value (Was held) x was = (x ≡ record { pass = q; key = key; value = value; kind = Replaced }) × (was ≡ Some held)
+IsChangeOf q Remove key value (Removed held) x was = (x ≡ record { pass = q; key = key; value = held; kind = TakenAway }) × (was ≡ Some held)
+IsChangeOf q ask key value reply x was = ⊥
+
+-- the reply of a call that has made its change
+abbrev pub reply_to : Ask → Found → Reply
+reply_to Insert found = Inserted
+reply_to Upsert (Leaf number held None) = Was held
+reply_to Upsert found = New
+reply_to Remove (Leaf number held mismatch) = Removed held
+reply_to Remove Nothing = Absent
+
+-- what is done at the lower end of a span has been done: the key has the value, or it is absent
+abbrev pub HasDone : Known → Known → Deed → Key → ℕ → Found → Type 0
+HasDone k j Take key value found = HasTaken k j key found
+HasDone k j deed key value found = HasStored k j key value found
+
+-- The attempt was answered: it has changed nothing, and no change of its own was added; or it has made just the change of the reply.
+abbrev pub HasAnswered : Known → Known → Ask → Key → ℕ → Reply → Type 0
+HasAnswered k j ask key value reply = (HasLooked j ask key reply × OthersGoOn k.pass k.front j.front) ⊎
+    ((x : Change) × (was : Option ℕ) × IsChangeOf k.pass ask key value reply x was × HasChanged k j x was)
+
+-- why it was refused: a lock of it met another's, or another's change was seen since; or no record of a kind was free
+abbrev pub IsCause : Layout → Known → Known → TryFault → Type 0
+IsCause layout k j Busy = HasMetLock k j ⊎ (length k.front < length j.front)
+IsCause layout k j FullNodes = IsFull layout k j Nodes
+IsCause layout k j FullLeaves = IsFull layout k j Leaves
+
+-- It was refused: no change of its own was made.
+pub record HasRefused (layout : Layout) (k j : Known) (fault : TryFault) : Type 0 where
+  pub others : OthersGoOn k.pass k.front j.front
+  pub cause : IsCause layout k j fault

@@ -1,0 +1,131 @@
+-- What a call that changes the map knows under its locks, and what its change leaves.
+use Rattle.std.specs.Prelude.{◌≡◌, ℕ, ◌+◌, ◌<◌, ◌≤◌, List, [], ◌∷◌, ◌++◌, slice_get, All, Option, Some, None}
+use Rattle.hot_model.specs.declared.Change.{Change}
+use Rattle.hot_model.specs.declared.Kind.TheVariants.{Added, Replaced, Removed}
+use Rattle.hot_model.specs.Fronts.{BeginsWith, OthersGoOn, map_of, Fits}
+use Rattle.hot_model.specs.Maps.{value_at}
+use Rattle.insert_cases.specs.declared.choice.Step.{Step}
+use Rattle.insert_cases.specs.Levels.{IsLevel}
+use Rattle.record_words.specs.declared.layout.Layout.{Layout}
+use Rattle.tries.specs.Keys.{Key}
+use Rattle.tries.specs.Search.{seek}
+use Rattle.tries.specs.Tree.{Page}
+use Rattle.moments.specs.declared.Rec.{Rec}
+use Rattle.moments.specs.declared.Rec.TheVariants.{Node as a_node, Leaf as a_leaf}
+use Rattle.rowex_core.specs.declared.event.Act.{Act}
+use Rattle.rowex_core.specs.declared.event.Event.{Event}
+use Rattle.rowex_core.specs.declared.event.Spot.{Spot}
+use Rattle.rowex_core.specs.declared.known.Known.{Known}
+use Rattle.rowex_core.specs.Reading.{node_of}
+use Rattle.rowex_walks.specs.Scan.{IsShaped}
+use Rattle.rowex_table.specs.Made.{Made, IsLater}
+use Rattle.rowex_table.specs.Publishes.{Publishes}
+use Rattle.rowex_table.specs.Runs.{Runs}
+use Rattle.rowex_table.specs.Seats.{TableView, SeatView, IsSeatOf}
+use Rattle.rowex_table.specs.Stays.{LeavesPin}
+use Rattle.rowex_reading.specs.Possible.{IsPossible}
+use Rattle.rowex_reading.specs.Seen.{Sure}
+use Rattle.rowex_records.specs.Claims.{AllMissed}
+use Rattle.rowex_rights.specs.Ending.{IsAtRest}
+use Rattle.rowex_rights.specs.Stages.{HasReady}
+use Rattle.rowex_writing.specs.Building.{IsBuilding}
+use Rattle.rowex_writing.specs.Going.{HasLocked}
+use Rattle.rowex_writing.specs.Locks.{HasLockedSpan}
+use Rattle.rowex_writing.specs.Plans.{change, IsPlan}
+use Rattle.rowex_writing.specs.Remaking.{AffectsJust}
+use Rattle.rowex_writing.specs.Ways.{IsWayOf, named}
+use Rattle.rowex_writing.specs.declared.plan.Ask.{Ask}
+use Rattle.rowex_writing.specs.declared.plan.Deed.{Deed}
+use Rattle.rowex_writing.specs.declared.plan.Found.{Found}
+use Rattle.rowex_writing.specs.declared.plan.Found.TheVariants.{Leaf}
+use Rattle.rowex_writing.specs.declared.plan.Full.{Full}
+use Rattle.rowex_writing.specs.declared.plan.Full.TheVariants.{Nodes, Leaves}
+use Rattle.rowex_writing.specs.declared.plan.Plan.{Plan}
+use Rattle.rowex_writing.specs.declared.plan.Span.{Span}
+
+-- ---- steps
+-- The pass makes steps of which the gate is told, and none of them sets or clears its pin.
+pub record HasRun {G : Type 0} (table : TableView) (becomes : G → Event → G → Type 0) (a b : SeatView × G) : Type 0 where
+  pub acts : List Act
+  pub pinned : All LeavesPin acts
+  pub steps : Runs table becomes acts a b
+
+-- ---- the plan
+-- where a new leaf goes into a node of the way, these are the entries that its position affects there, by the forks that were read
+abbrev pub AreAffected : Known → ℕ → Key → List Step → Found → (first last : ℕ) → Type 0
+AreAffected k m key way (Leaf number value (Some p)) first last = (level : ℕ) (s : Step) → IsLevel way p level → slice_get way level ≡ Some s →
+    (forks : Page) × Sure k (λ past. IsShaped past m s.number forks) × AffectsJust key p first last forks
+AreAffected k m key way found first last = Unit {0}
+
+-- what the call does, by its way
+abbrev pub IsPlanned : Known → ℕ → Key → List Step → Ask → Found → Plan → Type 0
+IsPlanned k m key way ask found plan = (first : ℕ) × (last : ℕ) × IsPlan way first last ask found plan × AreAffected k m key way found first last
+
+-- ---- under the locks
+-- Each node that is locked for the span, and the root under the anchor's lock, names on the key's way what the search has found.
+pub record IsChecked (k : Known) (key : Key) (way : List Step) (found : Found) (span : Span) : Type 0 where
+  pub root : span.end ≡ 0 → k.anchor ≡ Some (named way found 0)
+  pub entries : (i : ℕ) (s : Step) → span.end ≤ i + 1 → i < span.len → slice_get way i ≡ Some s →
+      (words : List ℕ) → HasLocked k s.number words → named way found (i + 1) ≡ Some (seek key (node_of words).page)
+
+-- The pass holds the locks of a span of its way, and has nothing else; and what it has found still stands.
+pub record HasTakenSpan (table : TableView) (a : SeatView) (m : ℕ) (key : Key) (way : List Step) (found : Found) (span : Span) : Type 0 where
+  pub seat : IsSeatOf table a
+  pub possible : IsPossible table.layout a.known
+  pub own : a.known.own ≡ []
+  pub way_of : IsWayOf table.layout a.known m key way found
+  pub locked : HasLockedSpan a.known way span
+  pub checked : IsChecked a.known key way found span
+
+-- the pass has taken the span of what is planned, with this deed at its lower end
+abbrev pub HasTakenPlan : TableView → SeatView → Key → List Step → Found → Span → Deed → Type 0
+HasTakenPlan table a key way found span deed =
+    (m : ℕ) × (ask : Ask) × HasTakenSpan table a m key way found span × IsPlanned a.known m key way ask found (change span.len span.end deed)
+
+-- ---- the store
+-- Once the records that it has made are ready, the pass may publish the change by a store of the word at the spot.
+pub record MayEnd (table : TableView) (a : SeatView) (made : List Rec) (spot : Spot) (w : ℕ) (x : Change) (was : Option ℕ) (gone : List Rec) : Type 0 where
+  pub news : List Made
+  pub building : IsBuilding table a made news
+  pub publishes : (j : Known) → IsLater a.known j → HasReady j a.known.locks news → j.anchor ≡ a.known.anchor → Publishes table.layout j spot w x was gone
+
+-- ---- what is left
+-- The pass has made the change x, where the key's value was this: it is the last that the pass has seen, and before it are only
+-- others' since. Its last load of the root was before the change. The pass has nothing of its own and no lock.
+pub record HasChanged (k j : Known) (x : Change) (was : Option ℕ) : Type 0 where
+  pub rest : IsAtRest j
+  pub before : List Change
+  pub others : OthersGoOn k.pass k.front before
+  pub front : j.front ≡ before ++ x ∷ []
+  pub fresh : BeginsWith before j.fresh.front
+  pub fits : Fits (map_of before) x
+  pub was_held : value_at (map_of before) x.key ≡ was
+
+-- no record of the kind was free, when the pass wanted one
+abbrev pub IsFull : Layout → Known → Known → Full → Type 0
+IsFull layout k j Nodes = AllMissed a_node layout.nodes j.failed k.steps
+IsFull layout k j Leaves = AllMissed a_leaf layout.leaves j.failed k.steps
+
+-- The pass has made no change, for want of a record; it has nothing of its own and no lock.
+pub record HasNoRoom (layout : Layout) (k j : Known) (full : Full) : Type 0 where
+  pub rest : IsAtRest j
+  pub others : OthersGoOn k.pass k.front j.front
+  pub full_of : IsFull layout k j full
+
+-- the change that gives the key this value, by what was found of it
+abbrev pub IsStored : ℕ → Key → ℕ → Found → Change → Option ℕ → Type 0
+IsStored q key value (Leaf number held None) x was = (x ≡ record { pass = q; key = key; value = value; kind = Replaced }) × (was ≡ Some held)
+IsStored q key value found x was = (x ≡ record { pass = q; key = key; value = value; kind = Added }) × (was ≡ None)
+
+-- the change that takes the found key away
+abbrev pub IsTaken : ℕ → Key → Found → Change → Option ℕ → Type 0
+IsTaken q key (Leaf number held None) x was = (x ≡ record { pass = q; key = key; value = held; kind = Removed }) × (was ≡ Some held)
+IsTaken q key found x was = ⊥
+
+-- the key has the value now, by a change of the pass; or it hasn't
+abbrev pub HasStored : Known → Known → Key → ℕ → Found → Type 0
+HasStored k j key value found = (x : Change) × (was : Option ℕ) × IsStored k.pass key value found x was × HasChanged k j x was
+
+-- the key is absent now
+abbrev pub HasTaken : Known → Known → Key → Found → Type 0
+HasTaken k j key found = (x : Change) × (was : Option ℕ) × IsTaken k.pass key found x was × HasChanged k j x was

@@ -1,0 +1,20 @@
+-- How many atomic steps the parts of an attempt make at most.
+use Rattle.std.specs.Prelude.{ℕ, ◌+◌, ◌*◌}
+use Rattle.record_words.specs.declared.TheConstants.{NODE_FIELDS}
+use Rattle.record_words.specs.declared.layout.Layout.{Layout}
+
+-- a record for a node: a claim of each, and a store of each word
+abbrev pub node_steps : Layout → ℕ
+node_steps layout = layout.nodes + NODE_FIELDS
+
+-- a node of the way that is made anew: a load of each word, and records for two nodes
+abbrev pub level_steps : Layout → ℕ
+level_steps layout = NODE_FIELDS + 2 * node_steps layout
+
+-- a change, once its nodes are locked and checked: a leaf's record, those of at most 2,161 nodes made anew, and the end
+abbrev pub change_steps : Layout → ℕ
+change_steps layout = 380000 + layout.leaves + 4322 * layout.nodes
+
+-- an attempt: the search, the locks and the check of its way, and the change
+abbrev pub attempt_steps : Layout → ℕ
+attempt_steps layout = 450000 + layout.leaves + 4322 * layout.nodes

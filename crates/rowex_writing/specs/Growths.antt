@@ -1,0 +1,35 @@
+-- A new leaf's way up, once its record is made.
+use Rattle.std.specs.Prelude.{◌≡◌, ℕ, ◌-◌, ◌*◌, ◌<◌, ◌≤◌, List, length, slice_get, Some}
+use Rattle.compound_node.specs.declared.entries.Entry.{Entry}
+use Rattle.compound_node.specs.declared.entries.Entry.TheVariants.{Leaf, Node}
+use Rattle.insert_cases.specs.declared.choice.Step.{Step}
+use Rattle.key_bits.specs.declared.TheConstants.{MAX_BYTES}
+use Rattle.moments.specs.declared.Rec.{Rec}
+use Rattle.tries.specs.Keys.{Key}
+use Rattle.rowex_core.specs.declared.event.Spot.{Spot}
+use Rattle.rowex_rights.specs.Insertions.{IsSpotOf}
+use Rattle.rowex_table.specs.Rule.{IsEntry}
+use Rattle.rowex_table.specs.Seats.{TableView, SeatView}
+use Rattle.rowex_walks.specs.Writer.{item}
+use Rattle.rowex_writing.specs.Building.{FitsAbove, IsGrowing}
+use Rattle.rowex_writing.specs.Going.{HasLocked}
+use Rattle.rowex_writing.specs.Locks.{AreNodes, HasLockedSpan}
+use Rattle.rowex_writing.specs.Putting.{IsSpotAbove}
+use Rattle.rowex_writing.specs.declared.plan.Span.{Span}
+
+-- the number of the entry's record has 32 bits
+abbrev pub HasNumber : Entry → Type 0
+HasNumber (Leaf n) = n < 4294967296
+HasNumber (Node n h) = n < 4294967296
+
+-- The new leaf's record is made and no other, under the locks of a span of the way. The leaf may rise from the lowest node of the
+-- span, and what has risen may stand at the spot above the topmost one.
+pub record MayGrow (table : TableView) (a : SeatView) (made : List Rec) (way : List Step) (key : Key) (value : ℕ) (span : Span) (position first last leaf : ℕ) : Type 0 where
+  pub within : (span.end < span.len) × (span.len ≤ length way)
+  pub depth : length way ≤ 9 * MAX_BYTES
+  pub nodes : AreNodes table.layout way
+  pub locked : HasLockedSpan a.known way span
+  pub growing : IsGrowing table a made way key span.end (span.len - 1) position first last leaf
+  pub item_is : growing.lowest.item ≡ item leaf key value
+  pub place : (s : Step) (words : List ℕ) (e : Entry) (spot : Spot) → slice_get way span.end ≡ Some s → HasLocked a.known s.number words → FitsAbove words e → IsSpotAbove way span.end spot →
+      IsSpotOf a.known a.known.locks key position s.number e spot × IsEntry table.layout spot

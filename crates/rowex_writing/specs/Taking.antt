@@ -1,0 +1,33 @@
+-- What a pass knows of the leaf that it takes away.
+use Rattle.std.specs.Prelude.{◌≡◌, ℕ, ◌+◌, List, [], length, Some, None}
+use Rattle.compound_node.specs.declared.entries.Entry.TheVariants.{Leaf as LeafEntry}
+use Rattle.insert_cases.specs.declared.choice.Step.{Step}
+use Rattle.tries.specs.Keys.{Key}
+use Rattle.rowex_core.specs.declared.known.Known.{Known}
+use Rattle.rowex_core.specs.Knowing.{IsSince}
+use Rattle.rowex_table.specs.Seats.{TableView, SeatView, IsSeatOf}
+use Rattle.rowex_reading.specs.Possible.{IsPossible}
+use Rattle.rowex_reading.specs.Seen.{Sure}
+use Rattle.rowex_walks.specs.Scan.{IsRead}
+use Rattle.rowex_writing.specs.Changes.{HasTakenSpan}
+use Rattle.rowex_writing.specs.declared.plan.Found.TheVariants.{Leaf}
+use Rattle.rowex_writing.specs.declared.plan.Span.{Span}
+
+-- the pass has read the leaf since a moment to which its pin goes back: it has the key, and this value
+abbrev pub HasRead : Known → (number : ℕ) (key : Key) (value : ℕ) → Type 0
+HasRead k number key value = (m : ℕ) × IsSince k m × Sure k (λ past. IsRead past m number key value)
+
+-- The leaf is all of the tree. The pass has locked the anchor, and has nothing else.
+pub record HasOnlyLeaf (table : TableView) (a : SeatView) (number : ℕ) (key : Key) (value : ℕ) : Type 0 where
+  pub seat : IsSeatOf table a
+  pub possible : IsPossible table.layout a.known
+  pub own : a.known.own ≡ []
+  pub locks : a.known.locks ≡ []
+  pub anchor : a.known.anchor ≡ Some (Some (LeafEntry number))
+  pub read : HasRead a.known number key value
+
+-- The pass has locked the last node of the way, which names the leaf, and what names that node.
+pub record HasLeafBelow (table : TableView) (a : SeatView) (m : ℕ) (key : Key) (way : List Step) (number value : ℕ) (span : Span) : Type 0 where
+  pub taken : HasTakenSpan table a m key way (Leaf number value None) span
+  pub len : span.len ≡ length way
+  pub last : span.end + 1 ≡ span.len

@@ -1,0 +1,219 @@
+//! One attempt of a call that may change the index, from a pinned pass that has nothing to one that has nothing.
+
+ghost use Rattle.std.specs.Prelude.{◌≡◌, ◌≢◌, ◌⊎◌, ◌<◌, ◌≤◌, ℕ, length, true, false, IfErr, IfOk, IsSome, Err, Ok, ◌+◌, ◌*◌};
+ghost use Rattle.rowex_core.specs.declared.known.Known.{Known};
+ghost use Rattle.rowex_reading.specs.Lookups.{HasFound};
+ghost use Rattle.rowex_reading.specs.Possible.{IsPossible};
+ghost use Rattle.rowex_reading.specs.Seen.{since};
+ghost use Rattle.rowex_rights.specs.Ending.{IsAtRest};
+ghost use Rattle.rowex_table.specs.Made.{IsLater};
+ghost use Rattle.rowex_table.specs.Seats.{IsSeatOf};
+ghost use Rattle.rowex_writing.specs.Attempts.{HasAnswered, HasDone, HasLoadedRoot, HasRefused, reply_to as the_reply};
+ghost use Rattle.rowex_writing.specs.Changes.{HasNoRoom, HasRun, HasTakenPlan, HasTakenSpan};
+ghost use Rattle.rowex_writing.specs.Locks.{HasMetLock};
+ghost use Rattle.rowex_writing.specs.Ways.{IsWayOf, value_of};
+ghost use Rattle.rowex_writing.specs.Counts.{attempt_steps, change_steps};
+
+use crate::building::Build;
+use crate::checking::check_span;
+use crate::descent::{MOST_NODES, search_way};
+use crate::ending::undo;
+use crate::finding::find_plan;
+use crate::growing::grow_node;
+use crate::locks::lock_span;
+use crate::pairing::pair_leaf;
+use crate::plan::{Ask, Deed, Found, Full, Plan, Span};
+use crate::putting::put_leaf;
+use crate::taking::take_leaf;
+use arrayvec::ArrayVec;
+use hot_model::Reply;
+use insert_cases::Step;
+use key_bits::Key;
+use rowex_core::Gate;
+use rowex_table::{HotTable, TableSeat};
+use thiserror::Error;
+
+/// Why an attempt was refused. It has changed nothing then.
+#[derive(Clone, Copy, Debug, PartialEq, Eq, Error)]
+pub enum TryFault {
+    /// Another pass had locked or retired what it wanted to lock, or has made a change since.
+    #[error("another pass is at work there")]
+    Busy,
+    /// No node record was free.
+    #[error("no node record is free")]
+    FullNodes,
+    /// No leaf record was free.
+    #[error("no leaf record is free")]
+    FullLeaves,
+}
+
+/// Makes one attempt: searches for the key and answers, where nothing is to change; or else locks what it wants to change, each
+/// once, checks that it still stands as the search found it, and makes the change by one store. It makes at most 450,000 atomic
+/// steps, one more for each leaf record and 4,322 for each node record.
+pub fn attempt<G: Gate>(
+    table: &HotTable,
+    seat: &mut TableSeat,
+    gate: &mut G,
+    way: &mut ArrayVec<Step, MOST_NODES>,
+    build: &mut Build,
+    ask: Ask,
+    key: &Key,
+    value: u64,
+) -> Result<Reply, TryFault>
+    requires own { IsSeatOf table.now seat.old }
+    requires pinned { IsSome seat.old.known.pin }
+    requires rest { IsAtRest seat.old.known }
+    ensures run { HasRun table.now G.becomes (seat.old, gate.old) (seat.new, gate.new) }
+    ensures loaded { HasLoadedRoot seat.old.known seat.new.known }
+    ensures rest { IsAtRest seat.new.known }
+    ensures answered { IfOk result (HasAnswered seat.old.known seat.new.known ask key.now value) }
+    ensures refused { IfErr result (HasRefused table.now.layout seat.old.known seat.new.known) }
+    ensures leafless { ask ≡ Ask.Remove → result ≢ Err TryFault.FullLeaves }
+    ensures few { seat.new.known.steps ≤ seat.old.known.steps + attempt_steps table.now.layout }
+{
+    let found = search_way(table, seat, gate, key, way);
+    act_on(
+        table,
+        seat,
+        gate,
+        way.as_slice(),
+        build,
+        ask,
+        key,
+        value,
+        found,
+    )
+}
+
+/// Does what is to be done by the way of the search: answers, or makes the change.
+fn act_on<G: Gate>(
+    table: &HotTable,
+    seat: &mut TableSeat,
+    gate: &mut G,
+    way: &[Step],
+    build: &mut Build,
+    ask: Ask,
+    key: &Key,
+    value: u64,
+    found: Found,
+) -> Result<Reply, TryFault>
+    requires own { IsSeatOf table.now seat.old }
+    requires possible { IsPossible table.now.layout seat.old.known }
+    requires way { IsWayOf table.now.layout seat.old.known (since seat.old.known) key.now way.now found }
+    requires found { HasFound seat.old.known key.now (value_of found) }
+    requires rest { IsAtRest seat.old.known }
+    ensures run { HasRun table.now G.becomes (seat.old, gate.old) (seat.new, gate.new) }
+    ensures rest { IsAtRest seat.new.known }
+    ensures answered { IfOk result (λ reply. (k : Known) → IsLater k seat.old.known → HasAnswered k seat.new.known ask key.now value reply) }
+    ensures refused { IfErr result (λ fault. (k : Known) → HasLoadedRoot k seat.old.known → IsLater k seat.old.known →
+        HasRefused table.now.layout k seat.new.known fault) }
+    ensures leafless { ask ≡ Ask.Remove → result ≢ Err TryFault.FullLeaves }
+    ensures few { seat.new.known.steps ≤ seat.old.known.steps + 9000 + change_steps table.now.layout }
+{
+    match find_plan(table, seat, gate, key, way, ask, found) {
+        Plan::Answer(reply) => Ok(reply),
+        Plan::Change { span, deed } => {
+            if !take_span(table, seat, gate, key, way, found, span) {
+                return Err(TryFault::Busy);
+            }
+            match make_change(table, seat, gate, build, way, key, value, found, span, deed) {
+                Ok(()) => Ok(reply_to(ask, found)),
+                Err(Full::Nodes) => Err(TryFault::FullNodes),
+                Err(Full::Leaves) => Err(TryFault::FullLeaves),
+            }
+        }
+    }
+}
+
+/// Locks what is to change, and checks that it still stands as the search found it. Where a lock is refused, or something else
+/// stands there now, all locks are given back, and the answer is `false`.
+fn take_span<G: Gate>(
+    table: &HotTable,
+    seat: &mut TableSeat,
+    gate: &mut G,
+    key: &Key,
+    way: &[Step],
+    found: Found,
+    span: Span,
+) -> bool
+    requires own { IsSeatOf table.now seat.old }
+    requires possible { IsPossible table.now.layout seat.old.known }
+    requires span { (span.end ≤ span.len) × (span.len ≤ length way.now) }
+    requires way { (m : ℕ) × IsWayOf table.now.layout seat.old.known m key.now way.now found }
+    requires rest { IsAtRest seat.old.known }
+    ensures run { HasRun table.now G.becomes (seat.old, gate.old) (seat.new, gate.new) }
+    ensures later { IsLater seat.old.known seat.new.known }
+    ensures taken { result ≡ true → (m : ℕ) → IsWayOf table.now.layout seat.old.known m key.now way.now found →
+        HasTakenSpan table.now seat.new m key.now way.now found span }
+    ensures rest { result ≡ false → IsAtRest seat.new.known }
+    ensures busy { result ≡ false → (m : ℕ) → IsWayOf table.now.layout seat.old.known m key.now way.now found →
+        HasMetLock seat.old.known seat.new.known ⊎ (m < length seat.new.known.front) }
+    ensures few { seat.new.known.steps ≤ seat.old.known.steps + 4 * span.len + 3 }
+{
+    if !lock_span(table, seat, gate, way, span) {
+        return false;
+    }
+    if check_span(table, seat, gate, key, way, found, span) {
+        return true;
+    }
+    let locked = &way[span.end.saturating_sub(1)..span.len];
+    undo(table, seat, gate, &[], locked, span.end == 0);
+    false
+}
+
+/// Makes the change of a plan whose nodes are locked and checked.
+fn make_change<G: Gate>(
+    table: &HotTable,
+    seat: &mut TableSeat,
+    gate: &mut G,
+    build: &mut Build,
+    way: &[Step],
+    key: &Key,
+    value: u64,
+    found: Found,
+    span: Span,
+    deed: Deed,
+) -> Result<(), Full>
+    requires taken { HasTakenPlan table.now seat.old key.now way.now found span deed }
+    ensures run { HasRun table.now G.becomes (seat.old, gate.old) (seat.new, gate.new) }
+    ensures done { result ≡ Ok tt → HasDone seat.old.known seat.new.known deed key.now value found }
+    ensures full { IfErr result (λ full. HasNoRoom table.now.layout seat.old.known seat.new.known full) }
+    ensures leafless { deed ≡ Deed.Take → result ≢ Err Full.Leaves }
+    ensures few { seat.new.known.steps ≤ seat.old.known.steps + change_steps table.now.layout }
+{
+    match deed {
+        Deed::Put => put_leaf(table, seat, gate, build, way, key, value, found, span),
+        Deed::Pair { position } => pair_leaf(
+            table, seat, gate, build, way, key, value, found, span, position,
+        ),
+        Deed::Grow {
+            position,
+            first,
+            last,
+        } => grow_node(
+            table, seat, gate, build, way, key, value, found, span, position, first, last,
+        ),
+        Deed::Take => take_leaf(table, seat, gate, build, way, key, found, span),
+    }
+}
+
+/// The reply of a call that has made its change.
+fn reply_to(ask: Ask, found: Found) -> Reply
+    ensures { result ≡ the_reply ask found }
+{
+    match ask {
+        Ask::Insert => Reply::Inserted,
+        Ask::Upsert => match found {
+            Found::Leaf {
+                value,
+                mismatch: None,
+                ..
+            } => Reply::Was(value),
+            _ => Reply::New,
+        },
+        Ask::Remove => match found {
+            Found::Leaf { value, .. } => Reply::Removed(value),
+            Found::Nothing => Reply::Absent,
+        },
+    }
+}

@@ -1,0 +1,160 @@
+//! The check under the locks: what a search has found still stands.
+
+ghost use Rattle.std.specs.Prelude.{◌≡◌, ◌≢◌, ◌<◌, ◌≤◌, ℕ, List, length, true, false, Some, IsSome, ◌+◌};
+ghost use Rattle.compound_node.specs.declared.entries.Entry.{Entry as EntryValue};
+ghost use Rattle.tries.specs.Keys.{Key as KeyValue};
+ghost use Rattle.tries.specs.Place.{entry_at};
+ghost use Rattle.rowex_core.specs.Reading.{node_of};
+ghost use Rattle.rowex_walks.specs.Scan.{IsPlaced};
+ghost use Rattle.rowex_table.specs.Seats.{IsSeatOf};
+ghost use Rattle.rowex_reading.specs.Possible.{IsPossible};
+ghost use Rattle.rowex_reading.specs.Seen.{HasPlace, Sure};
+ghost use Rattle.rowex_writing.specs.Changes.{IsChecked};
+ghost use Rattle.rowex_writing.specs.Checks.{EntriesStand};
+ghost use Rattle.rowex_writing.specs.Going.{HasLocked, IsLockedBy, ReadsOn};
+ghost use Rattle.rowex_writing.specs.Locks.{HasLockedSpan};
+ghost use Rattle.rowex_writing.specs.Ways.{IsWayOf, RootWas, named};
+
+use crate::plan::{Found, Span};
+use compound_node::Entry;
+use insert_cases::Step;
+use key_bits::Key;
+use record_words::read_entry;
+use rowex_core::{Gate, Spot};
+use rowex_reading::load_root;
+use rowex_table::{HotTable, TableSeat};
+
+/// Whether each node that is locked for the span, and the root under the anchor's lock, still names what the search found there:
+/// one load each, from the top down. What the search read below the lowest of them needs no second look. Where one names something
+/// else, another pass has made a change since the search loaded the root.
+pub fn check_span<G: Gate>(
+    table: &HotTable,
+    seat: &mut TableSeat,
+    gate: &mut G,
+    _key: &Key,
+    way: &[Step],
+    found: Found,
+    span: Span,
+) -> bool
+    requires own { IsSeatOf table.now seat.old }
+    requires possible { IsPossible table.now.layout seat.old.known }
+    requires span { (span.end ≤ span.len) × (span.len ≤ length way.now) }
+    requires way { (m : ℕ) × IsWayOf table.now.layout seat.old.known m _key.now way.now found }
+    requires locked { HasLockedSpan seat.old.known way.now span }
+    ensures reads { ReadsOn table.now G.becomes (seat.old, gate.old) (seat.new, gate.new) }
+    ensures possible { IsPossible table.now.layout seat.new.known }
+    ensures checked { result ≡ true → IsChecked seat.new.known _key.now way.now found span }
+    ensures changed { (m : ℕ) → IsWayOf table.now.layout seat.old.known m _key.now way.now found → result ≡ false → m < length seat.new.known.front }
+    ensures few { seat.new.known.steps ≤ seat.old.known.steps + span.len + 1 }
+{
+    if span.end > 0 {
+        return entries_stand(table, seat, gate, way, found, span);
+    }
+    if !root_stands(table, seat, gate, named_at(way, found, 0)) {
+        return false;
+    }
+    entries_stand(table, seat, gate, way, found, span)
+}
+
+/// What names the node at this index of the way; after the last one, what the search ended at.
+fn named_at(way: &[Step], found: Found, index: usize) -> Option<Entry>
+    ensures { result ≡ named way.now found index }
+{
+    if index < way.len() {
+        let step = way[index];
+        return Some(Entry::Node {
+            number: step.number,
+            height: step.height,
+        });
+    }
+    match found {
+        Found::Nothing => None,
+        Found::Leaf { number, .. } => Some(Entry::Leaf(number)),
+    }
+}
+
+/// Whether the root has this entry, under the anchor's lock.
+fn root_stands<G: Gate>(
+    table: &HotTable,
+    seat: &mut TableSeat,
+    gate: &mut G,
+    root: Option<Entry>,
+) -> bool
+    requires own { IsSeatOf table.now seat.old }
+    requires pinned { IsSome seat.old.known.pin }
+    requires locked { IsSome seat.old.known.anchor }
+    ensures reads { ReadsOn table.now G.becomes (seat.old, gate.old) (seat.new, gate.new) }
+    ensures possible { IsPossible table.now.layout seat.new.known }
+    ensures same { result ≡ true → seat.new.known.anchor ≡ Some root }
+    ensures changed { (m : ℕ) → RootWas seat.old.known m root → result ≡ false → m < length seat.new.known.front }
+    ensures few { seat.new.known.steps ≤ seat.old.known.steps + 1 }
+{
+    let found = load_root(table, seat, gate);
+    are_same(found, root)
+}
+
+/// Whether each node that is locked for the span has the entry that the search took there.
+fn entries_stand<G: Gate>(
+    table: &HotTable,
+    seat: &mut TableSeat,
+    gate: &mut G,
+    way: &[Step],
+    found: Found,
+    span: Span,
+) -> bool
+    requires own { IsSeatOf table.now seat.old }
+    requires possible { IsPossible table.now.layout seat.old.known }
+    requires span { (span.end ≤ span.len) × (span.len ≤ length way.now) }
+    requires way { (m : ℕ) × (key : KeyValue) × IsWayOf table.now.layout seat.old.known m key way.now found }
+    requires locked { HasLockedSpan seat.old.known way.now span }
+    ensures reads { ReadsOn table.now G.becomes (seat.old, gate.old) (seat.new, gate.new) }
+    ensures possible { IsPossible table.now.layout seat.new.known }
+    ensures stand { (m : ℕ) (key : KeyValue) → IsWayOf table.now.layout seat.old.known m key way.now found → result ≡ true →
+        EntriesStand seat.new.known key way.now found span }
+    ensures changed { (m : ℕ) (key : KeyValue) → IsWayOf table.now.layout seat.old.known m key way.now found → result ≡ false →
+        m < length seat.new.known.front }
+    ensures few { seat.new.known.steps ≤ seat.old.known.steps + span.len }
+{
+    for index in span.end.saturating_sub(1)..span.len {
+        let entry = named_at(way, found, index + 1);
+        if !entry_stands(table, seat, gate, way[index], entry) {
+            return false;
+        }
+    }
+    true
+}
+
+/// Whether a locked node has this entry at the place that the search took.
+fn entry_stands<G: Gate>(
+    table: &HotTable,
+    seat: &mut TableSeat,
+    gate: &mut G,
+    step: Step,
+    entry: Option<Entry>,
+) -> bool
+    requires own { IsSeatOf table.now seat.old }
+    requires possible { IsPossible table.now.layout seat.old.known }
+    requires place { (m h : ℕ) × HasPlace seat.old.known m step.number h step.at }
+    requires locked { IsLockedBy seat.old.known step.number }
+    ensures reads { ReadsOn table.now G.becomes (seat.old, gate.old) (seat.new, gate.new) }
+    ensures possible { IsPossible table.now.layout seat.new.known }
+    ensures same { result ≡ true → (words : List ℕ) → HasLocked seat.old.known step.number words → entry ≡ Some (entry_at (node_of words).page step.at) }
+    ensures changed { (m h : ℕ) (e : EntryValue) → HasPlace seat.old.known m step.number h step.at → entry ≡ Some e →
+        Sure seat.old.known (λ past. IsPlaced past m step.number step.at e) → result ≡ false → m < length seat.new.known.front }
+    ensures few { seat.new.known.steps ≤ seat.old.known.steps + 1 }
+{
+    let spot = Spot::Slot {
+        node: step.number,
+        entry: step.at,
+    };
+    let word = table.load_ref(seat, gate, spot);
+    are_same(read_entry(word), entry)
+}
+
+/// Whether two entries, or none, are the same.
+fn are_same(one: Option<Entry>, other: Option<Entry>) -> bool
+    ensures same { result ≡ true → one ≡ other }
+    ensures differ { result ≡ false → one ≢ other }
+{
+    one == other
+}
