@@ -1,15 +1,53 @@
 -- A round of collection leaves a settled pass settled.
-use Rattle.std.proofs.Common.{◌≡◌, ℕ, ◌<◌, [], None, sym, ap, subst, ◌∙◌, arith}
+use Rattle.std.proofs.Common.{◌≡◌, ℕ, zero, suc, ◌+◌, ◌*◌, ◌<◌, ◌≤◌, List, [], ◌∷◌, ◌++◌, length, nat_lt, true, false, Bool, if◌then◌else◌, None, sym, ap, subst, ◌∙◌, arith, length-append}
 use Rattle.std.proofs.lemmas.List.{append-nil}
+use Rattle.record_words.specs.declared.TheConstants.{EPOCHS}
+use Rattle.moments.specs.declared.Rec.{Rec}
+use Rattle.moments.specs.declared.Rec.TheVariants.{Node as a_node, Leaf as a_leaf}
+use Rattle.rowex_core.specs.declared.event.Act.{Act}
+use Rattle.rowex_core.specs.declared.event.Act.TheVariants.{Advance, LoadEpoch}
 use Rattle.rowex_core.specs.declared.event.Event.{Event}
 use Rattle.rowex_core.specs.declared.known.Known.{Known}
+use Rattle.rowex_table.specs.Runs.{InTurn}
 use Rattle.rowex_table.specs.Seats.{TableView, SeatView}
 use Rattle.hot_model.specs.Calls.{LegalCalls}
 use Rattle.hot_model.specs.Fronts.{BeginsWith}
-use Rattle.epochs.specs.Rounds.{IsRound}
+use Rattle.epochs.specs.Rounds.{IsRound, LoadsPin, Visits, advance_steps}
 use Rattle.hot_index.specs.Answers.{IsUnnoted}
+use Rattle.hot_index.specs.Counts.{round_steps}
 use Rattle.hot_index.specs.Passes.{AreByPasses, IsSettled, pass_of}
 use Rattle.hot_index.proofs.Noting.{event_makers}
+
+-- how many steps the parts of a round have
+parts_count : (first next : Act) (begin pins nodes leaves : List Act) → length (first ∷ begin ++ next ∷ pins ++ nodes ++ leaves) ≡ 2 + length begin + length pins + length nodes + length leaves
+parts_count first next begin pins nodes leaves =
+    length-append (first ∷ begin ++ next ∷ pins ++ nodes) leaves ∙ ap (λ n. n + length leaves)
+    (length-append (first ∷ begin ++ next ∷ pins) nodes ∙ ap (λ n. n + length nodes) (length-append (first ∷ begin) (next ∷ pins))) ∙
+    omega arith
+
+advance_few : (epoch found : ℕ) → length (advance_steps epoch found) ≤ 1
+advance_few epoch found = cases (nat_lt (epoch + 1) EPOCHS)
+  where
+    cases : (t : Bool) → length (if t then Advance epoch found ∷ [] else []) ≤ 1
+    cases true = omega arith
+    cases false = omega arith
+
+pins_few : (n : ℕ) (acts : List Act) → InTurn LoadsPin n acts → length acts ≤ n
+pins_few zero acts none = let z : length acts ≡ 0 = ap (λ (l : List Act). length l) none in omega (arith, z)
+pins_few (suc n) acts (before, last, first, (word, is), all) =
+    let z : length acts ≡ length (before ++ last) = ap (λ (l : List Act). length l) all in
+    let one : length last ≡ 1 = ap (λ (l : List Act). length l) is in
+    omega (arith, z, one, length-append before last, pins_few n before first)
+
+visit_few : (bound : ℕ) (r : Rec) (acts : List Act) → Visits bound r acts → length acts ≤ 2
+visit_few bound r _ (Visits.passes word not) = omega arith
+visit_few bound r _ (Visits.tries epoch found low below) = omega arith
+
+visits_few : (bound : ℕ) (kind : ℕ → Rec) (n : ℕ) (acts : List Act) → InTurn (λ m. Visits bound (kind m)) n acts → length acts ≤ 2 * n
+visits_few bound kind zero acts none = let z : length acts ≡ 0 = ap (λ (l : List Act). length l) none in omega (arith, z)
+visits_few bound kind (suc n) acts (before, last, first, visit, all) =
+    let z : length acts ≡ length (before ++ last) = ap (λ (l : List Act). length l) all in
+    omega (arith, z, length-append before last, visit_few bound (kind n) last visit, visits_few bound kind n before first)
 
 module _ {G : Type 0} {table : TableView} {becomes : G → Event → G → Type 0} {a b : SeatView × G} {nodes leaves : ℕ} (r : IsRound table becomes a b nodes leaves) where
   -- of what the pass knows its pin, its round and its steps alone have changed
@@ -36,3 +74,17 @@ module _ {G : Type 0} {table : TableView} {becomes : G → Event → G → Type 
     legal = subst (λ (z : Known). LegalCalls z.front z.pass z.notes) (sym r.does.rest) s.legal;
     makers = subst (λ (z : Known). AreByPasses table.layout z.front) (sym r.does.rest) makers;
   }
+
+  -- the epoch twice and its exchange, each pin, and each record in at most two steps
+  pub round_few : b.0.known.steps ≤ a.0.known.steps + round_steps table.layout
+  round_few =
+      let count : b.0.known.steps ≡ a.0.known.steps + (2 + length (advance_steps r.epoch r.found) + length r.pins + length r.nodes + length r.leaves) =
+      ap (λ (z : Known). z.steps) r.does.rest ∙ ap (λ n. a.0.known.steps + n) (parts_count (LoadEpoch r.epoch) (LoadEpoch r.next) (advance_steps r.epoch r.found) r.pins r.nodes r.leaves) in
+      omega (
+        arith,
+        count,
+        advance_few r.epoch r.found,
+        pins_few table.layout.passes r.pins r.loads_pins,
+        visits_few b.0.known.round.bound a_node table.layout.nodes r.nodes r.visits_nodes,
+        visits_few b.0.known.round.bound a_leaf table.layout.leaves r.leaves r.visits_leaves,
+      )

@@ -1,4 +1,4 @@
--- How an answered call that changed nothing gets its note.
+-- How an answered call gets its note: one that changed nothing, and what is the same of each.
 use Rattle.std.proofs.Common.{◌≡◌, ◌≢◌, ℕ, zero, suc, ◌+◌, ◌-◌, ◌*◌, ◌<◌, ◌≤◌, List, [], ◌∷◌, ◌++◌, length, take, Bool, true, false, if◌then◌else◌, Option, Some, None, refl, sym, ap, subst, ◌∙◌, arith, le_refl, le_trans, length-append, nat_eq, eq-eqb}
 use Rattle.std.proofs.lemmas.Bool.{false≢true}
 use Rattle.std.specs.Prelude.{All}
@@ -13,6 +13,7 @@ use Rattle.hot_model.specs.declared.Reply.TheVariants.{Inserted, Exists, New, Wa
 use Rattle.hot_model.specs.Maps.{Map, value_at, step_where, reply_of}
 use Rattle.hot_model.specs.Fronts.{map_of, BeginsWith, LegalFront, OthersGoOn}
 use Rattle.hot_model.specs.Calls.{is_change, LegalCalls}
+use Rattle.hot_model.proofs.Growth.{others_begin}
 use Rattle.hot_model.proofs.Legal.{legal_quiet}
 use Rattle.key_bits.specs.declared.TheConstants.{MAX_BYTES}
 use Rattle.record_words.specs.declared.layout.Layout.{Layout}
@@ -118,32 +119,45 @@ get_reply m key o e = ap (λ z. (step_where z m (Get key)).1) e ∙ at o
     at None = refl
     at (Some v) = refl
 
--- the reply that a get gives was right
-pub found_right : (k : Known) (key : Key) (o : Option ℕ) → HasFound k key o → (c : Core) → IsLawful c → Recalls c k → WasRight k (Get key) (got o)
-found_right k key None found c lawful recalls =
+-- after some of the changes seen, from those at the last load of the root on, the key had this value, or none
+abbrev pub HadValue : Known → Key → Option ℕ → Type 0
+HadValue k key o = (n : ℕ) × (since k ≤ n) × (n ≤ length k.front) × (value_at (map_of (take n k.front)) key ≡ o)
+
+-- what a search found was so
+pub found_had : (k : Known) (key : Key) (o : Option ℕ) → HasFound k key o → (c : Core) → IsLawful c → Recalls c k → HadValue k key o
+found_had k key None found c lawful recalls =
     let f = found c lawful recalls in
     let told = (seen_told lawful recalls).content_is f.0 f.2 in
-    (f.0, f.1, f.2, get_reply _ key None (ap (λ (z : Map). value_at z key) (sym told) ∙ absent_at (c.past.moment f.0) key f.3))
-found_right k key (Some v) found c lawful recalls =
+    (f.0, f.1, f.2, ap (λ (z : Map). value_at z key) (sym told) ∙ absent_at (c.past.moment f.0) key f.3)
+found_had k key (Some v) found c lawful recalls =
     let f = found c lawful recalls in
     let told = (seen_told lawful recalls).content_is f.0 f.3 in
     let tree : IsTrie f.1 = (lawful.core.state.trees f.0 f.1 (le_trans f.3 (seen_within lawful recalls)) f.4).0 in
-    (f.0, f.2, f.3, get_reply _ key (Some v) (ap (λ (z : Map). value_at z key) (sym told) ∙ (ap (λ t. value_at (content t) key) f.4 ∙ holds_value f.1 tree key v f.5)))
+    (f.0, f.2, f.3, ap (λ (z : Map). value_at z key) (sym told) ∙ (ap (λ t. value_at (content t) key) f.4 ∙ holds_value f.1 tree key v f.5))
+
+-- and so the reply that a get gives was right
+pub found_right : (k : Known) (key : Key) (o : Option ℕ) → HasFound k key o → (c : Core) → IsLawful c → Recalls c k → WasRight k (Get key) (got o)
+found_right k key o found c lawful recalls = let f = found_had k key o found c lawful recalls in (f.0, f.1, f.2, get_reply _ key o f.3)
 
 -- The end of a call
 
--- Since it knew k the pass has only looked: it has seen changes of others, and loaded the root, and has nothing of its own.
-pub record HasLooked (k i : Known) : Type 0 where
+-- Since it knew k the pass has gone on: it has seen more changes, and loaded the root, and has nothing of its own.
+pub record HasGoneOn (k i : Known) : Type 0 where
   pub pass : i.pass ≡ k.pass
   pub notes : i.notes ≡ k.notes
   pub own : i.own ≡ []
   pub locks : i.locks ≡ []
   pub anchor : i.anchor ≡ None
-  pub front : OthersGoOn k.pass k.front i.front
+  pub front : BeginsWith i.front k.front
   pub fresh : BeginsWith i.fresh.front k.front
   pub now : k.steps ≤ i.fresh.step
 
-longer : (later front : List Change) → BeginsWith later front → length front ≤ length later
+-- It has only looked: the changes that it has seen since are others'.
+pub record HasLooked (k i : Known) : Type 0 where
+  pub on : HasGoneOn k i
+  pub others : OthersGoOn k.pass k.front i.front
+
+pub longer : (later front : List Change) → BeginsWith later front → length front ≤ length later
 longer later front b = let e = ap length b.1 ∙ length-append front b.0 in omega arith
 
 -- it is one seat still
@@ -154,14 +168,17 @@ fits_then table s t same fits = (same.0 ∙ fits.0, subst (λ q. q < table.layou
 pub looked : {G : Type 0} {table : TableView} {becomes : G → Event → G → Type 0} {n : ℕ} {a b c : SeatView × G} → IsSettled a.0.known → Pins table becomes a b → Looks table becomes n b c →
     HasLooked a.0.known c.0.known
 looked {n = n} {a = a} {b = b} {c = c} settled pins looks = record {
-  pass = at.later.pass ∙ pass;
-  notes = ap (λ (z : Known). z.notes) at.sees ∙ ap (λ (z : Known). z.notes) pinned;
-  own = ap (λ (z : Known). z.own) at.sees ∙ (ap (λ (z : Known). z.own) pinned ∙ settled.own);
-  locks = ap (λ (z : Known). z.locks) at.sees ∙ (ap (λ (z : Known). z.locks) pinned ∙ settled.locks);
-  anchor = ap (λ (z : Known). z.anchor) at.sees ∙ (ap (λ (z : Known). z.anchor) pinned ∙ settled.anchor);
-  front = subst (λ (z : ℕ × List Change). OthersGoOn z.0 z.1 c.0.known.front) (λ x. (pass x, front x)) at.later.front;
-  fresh = subst (λ (z : List Change). BeginsWith c.0.known.fresh.front z) front at.fresh;
-  now = let now = at.now in let steps = ap (λ (z : Known). z.steps) pinned in omega arith;
+  on = record {
+    pass = at.later.pass ∙ pass;
+    notes = ap (λ (z : Known). z.notes) at.sees ∙ ap (λ (z : Known). z.notes) pinned;
+    own = ap (λ (z : Known). z.own) at.sees ∙ (ap (λ (z : Known). z.own) pinned ∙ settled.own);
+    locks = ap (λ (z : Known). z.locks) at.sees ∙ (ap (λ (z : Known). z.locks) pinned ∙ settled.locks);
+    anchor = ap (λ (z : Known). z.anchor) at.sees ∙ (ap (λ (z : Known). z.anchor) pinned ∙ settled.anchor);
+    front = others_begin a.0.known.pass a.0.known.front c.0.known.front others;
+    fresh = subst (λ (z : List Change). BeginsWith c.0.known.fresh.front z) front at.fresh;
+    now = let now = at.now in let steps = ap (λ (z : Known). z.steps) pinned in omega arith;
+  };
+  others = others;
 }
   where
     at : HasLookedAt n b.0.known c.0.known
@@ -175,6 +192,9 @@ looked {n = n} {a = a} {b = b} {c = c} settled pins looks = record {
 
     front : b.0.known.front ≡ a.0.known.front
     front = ap (λ (z : Known). z.front) pinned
+
+    others : OthersGoOn a.0.known.pass a.0.known.front c.0.known.front
+    others = subst (λ (z : ℕ × List Change). OthersGoOn z.0 z.1 c.0.known.front) (λ x. (pass x, front x)) at.later.front
 
 -- what holds of each of two lists holds of each of the first
 All-part : {A : Type 0} (P : A → Type 0) (xs ys : List A) → All P (xs ++ ys) → All P xs
@@ -192,18 +212,18 @@ event_makers {k = k} e = subst (λ (z : Layout). AreByPasses z k.front) e.layout
 abbrev pub cleared : Known → Known
 cleared i = record i { pin = None; steps = i.steps + 1 }
 
-module _ {layout : Layout} {said : Known → List Note} {i : Known} (s t : SeatView) (settled : IsSettled s.known) (looks : HasLooked s.known i) (event : IsEvent layout ClearPin said i t.known) where
+module _ {layout : Layout} {said : Known → List Note} {i : Known} (s t : SeatView) (gone : HasGoneOn s.known i) (event : IsEvent layout ClearPin said i t.known) where
   pub legal_front : LegalFront i.front
   legal_front = (seen_told event.lawful (event_recalls event)).legal
 
   -- its front has gone on
   pub goes_on : GoesOn layout (pass_of s) (pass_of t)
   goes_on = record {
-    number = ap (λ (z : Known). z.pass) event.learned_is ∙ looks.pass;
-    front = subst (λ (z : Known). BeginsWith z.front s.known.front) (sym event.learned_is) (looks.front.0, looks.front.1);
-    fresh = subst (λ (z : Known). BeginsWith z.fresh.front s.known.front) (sym event.learned_is) looks.fresh;
+    number = ap (λ (z : Known). z.pass) event.learned_is ∙ gone.pass;
+    front = subst (λ (z : Known). BeginsWith z.front s.known.front) (sym event.learned_is) gone.front;
+    fresh = subst (λ (z : Known). BeginsWith z.fresh.front s.known.front) (sym event.learned_is) gone.fresh;
     seen = subst (λ (z : Known). BeginsWith z.front z.fresh.front) (sym event.learned_is) event.knows.seen.fresh;
-    now = subst (λ (z : Known). (s.known.steps ≤ z.fresh.step) × (z.fresh.step < z.steps)) (sym event.learned_is) (looks.now, let l = event.knows.counted.loaded in omega arith);
+    now = subst (λ (z : Known). (s.known.steps ≤ z.fresh.step) × (z.fresh.step < z.steps)) (sym event.learned_is) (gone.now, let l = event.knows.counted.loaded in omega arith);
     makers = subst (λ (z : Known). AreByPasses layout z.front) (sym event.learned_is) (event_makers event);
   }
 
@@ -212,13 +232,13 @@ module _ {layout : Layout} {said : Known → List Note} {i : Known} (s t : SeatV
   settles legal = subst IsSettled (sym event.learned_is) whole
     where
       whole : IsSettled (record (cleared i) { notes = i.notes ++ said (cleared i) })
-      whole = record { own = looks.own; locks = looks.locks; anchor = looks.anchor; pin = refl; fresh = event.knows.seen.fresh; loaded = let l = event.knows.counted.loaded in omega arith; legal = legal }
+      whole = record { own = gone.own; locks = gone.locks; anchor = gone.anchor; pin = refl; fresh = event.knows.seen.fresh; loaded = let l = event.knows.counted.loaded in omega arith; legal = legal }
 
 -- a call that changed nothing is noted as its pass clears the pin
 pub noted : (layout : Layout) (call : Call) (reply : Reply) (s : SeatView) (i : Known) (t : SeatView) → IsSettled s.known → HasLooked s.known i → IsEvent layout ClearPin (note_of call reply) i t.known →
     ((c : Core) → IsLawful c → Recalls c i → WasRight i call reply) → ((p : ℕ) → is_change (record { place = p; call = call; reply = reply }) ≡ false) →
     IsNoted layout (pass_of s) (pass_of t) call reply × IsSettled t.known
-noted layout call reply s i t settled looks event right quiet = (told, settles s t settled looks event legal)
+noted layout call reply s i t settled looks event right quiet = (told, settles s t looks.on event legal)
   where
     place : ℕ
     place = place_of i.front (since i) call reply
@@ -230,17 +250,17 @@ noted layout call reply s i t settled looks event right quiet = (told, settles s
     at = right_place i call reply (right event.core event.lawful (event_recalls event))
 
     calls : LegalCalls i.front s.known.pass (s.known.notes ++ note ∷ [])
-    calls = legal_quiet s.known.front i.front s.known.pass s.known.notes note settled.legal looks.front (legal_front s t settled looks event)
-        (le_trans (longer i.fresh.front s.known.front looks.fresh) at.least) at.most at.right (quiet place)
+    calls = legal_quiet s.known.front i.front s.known.pass s.known.notes note settled.legal looks.others (legal_front s t looks.on event)
+        (le_trans (longer i.fresh.front s.known.front looks.on.fresh) at.least) at.most at.right (quiet place)
 
     legal : LegalCalls i.front i.pass (i.notes ++ note ∷ [])
-    legal = subst (λ (z : ℕ × List Note). LegalCalls i.front z.0 (z.1 ++ note ∷ [])) (λ x. (sym looks.pass x, sym looks.notes x)) calls
+    legal = subst (λ (z : ℕ × List Note). LegalCalls i.front z.0 (z.1 ++ note ∷ [])) (λ x. (sym looks.on.pass x, sym looks.on.notes x)) calls
 
     told : IsNoted layout (pass_of s) (pass_of t) call reply
     told = record {
-      on = goes_on s t settled looks event;
+      on = goes_on s t looks.on event;
       place = place;
-      notes = ap (λ (z : Known). z.notes) event.learned_is ∙ ap (λ (z : List Note). z ++ note ∷ []) looks.notes;
+      notes = ap (λ (z : Known). z.notes) event.learned_is ∙ ap (λ (z : List Note). z ++ note ∷ []) looks.on.notes;
       low = subst (λ (z : Known). length z.fresh.front ≤ place) (sym event.learned_is) at.least;
       high = subst (λ (z : Known). place ≤ length z.front) (sym event.learned_is) at.most;
       legal = subst (λ (z : Known). LegalCalls z.front z.pass z.notes) (sym event.learned_is) legal;

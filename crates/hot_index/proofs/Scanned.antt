@@ -64,27 +64,27 @@ lawful_scan k g scan layout said j kf ku p pin h event =
 -- The pass was settled, has looked since, and clears the pin now.
 module _ {layout : Layout} {i : Known} (s t : SeatView) (settled : IsSettled s.known) (looks : HasLooked s.known i) (event : IsEvent layout ClearPin silent i t.known) where
   legal : LegalCalls i.front i.pass (i.notes ++ [])
-  legal = subst (λ (z : ℕ × List Note). LegalCalls i.front z.0 z.1) (λ x. (sym looks.pass x, sym same x))
-      (legal_longer s.known.front i.front s.known.pass s.known.notes settled.legal looks.front (legal_front s t settled looks event))
+  legal = subst (λ (z : ℕ × List Note). LegalCalls i.front z.0 z.1) (λ x. (sym looks.on.pass x, sym same x))
+      (legal_longer s.known.front i.front s.known.pass s.known.notes settled.legal looks.others (legal_front s t looks.on event))
     where
       same : i.notes ++ [] ≡ s.known.notes
-      same = append-nil i.notes ∙ looks.notes
+      same = append-nil i.notes ∙ looks.on.notes
 
   pub scan_settled : IsSettled t.known
-  scan_settled = settles s t settled looks event legal
+  scan_settled = settles s t looks.on event legal
 
   notes_stay : t.known.notes ≡ s.known.notes
-  notes_stay = ap (λ (z : Known). z.notes) event.learned_is ∙ (append-nil i.notes ∙ looks.notes)
+  notes_stay = ap (λ (z : Known). z.notes) event.learned_is ∙ (append-nil i.notes ∙ looks.on.notes)
 
   legal_then : LegalCalls t.known.front t.known.pass t.known.notes
   legal_then = subst (λ (z : Known). LegalCalls z.front z.pass z.notes) (sym event.learned_is) legal
 
   pub scan_refused : IsUnnoted layout (pass_of s) (pass_of t)
-  scan_refused = let on = goes_on s t settled looks event in record { number = on.number; front = on.front; notes = notes_stay; legal = legal_then; makers = on.makers }
+  scan_refused = let on = goes_on s t looks.on event in record { number = on.number; front = on.front; notes = notes_stay; legal = legal_then; makers = on.makers }
 
   pub scan_answered : (g : Range) → IsKey g.from × IsKey g.upto → IsSome i.pin → (scan : Scan) → HasScanned i g scan → IsScanned layout (pass_of s) (pass_of t) g.from g.upto g.limit scan
   scan_answered g keys is scan h = record {
-    on = goes_on s t settled looks event;
+    on = goes_on s t looks.on event;
     notes = notes_stay;
     lawful =
         let p = pinned_by i.pin is in

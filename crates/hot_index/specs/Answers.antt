@@ -1,5 +1,5 @@
 -- What calls of an index say.
-use Rattle.std.specs.Prelude.{◌≡◌, ◌≢◌, ℕ, ◌<◌, ◌≤◌, [], ◌∷◌, ◌++◌, length, Option, Some, None}
+use Rattle.std.specs.Prelude.{◌≡◌, ◌≢◌, ◌⊎◌, ℕ, ◌<◌, ◌≤◌, [], ◌∷◌, ◌++◌, length, Option, Some, None}
 use Rattle.hot_model.specs.declared.Call.{Call}
 use Rattle.hot_model.specs.declared.Reply.{Reply}
 use Rattle.hot_model.specs.declared.Reply.TheVariants.{Value, Absent}
@@ -10,6 +10,13 @@ use Rattle.hot_model.specs.Scans.{IsLawfulScan}
 use Rattle.hot_model.specs.Weaves.{LegalHistory, weave}
 use Rattle.tries.specs.Keys.{Key}
 use Rattle.record_words.specs.declared.layout.Layout.{Layout}
+use Rattle.moments.specs.declared.Rec.TheVariants.{Node as a_node, Leaf as a_leaf}
+use Rattle.rowex_records.specs.Claims.{AllMissed}
+use Rattle.rowex_writing.specs.Locks.{HasMetTaken}
+use Rattle.rowex_writing.specs.declared.attempts.TryFault.{TryFault}
+use Rattle.rowex_writing.specs.declared.attempts.TryFault.TheVariants.{Busy, FullNodes, FullLeaves}
+use Rattle.rowex_writing.specs.declared.plan.Full.{Full}
+use Rattle.rowex_writing.specs.declared.plan.Full.TheVariants.{Nodes, Leaves}
 use Rattle.hot_index.specs.Passes.{PassView, AreByPasses}
 
 -- the reply that says what a get found
@@ -50,6 +57,23 @@ pub record IsUnnoted (layout : Layout) (k j : PassView) : Type 0 where
   pub notes : j.notes ≡ k.notes
   pub legal : LegalCalls j.front j.number j.notes
   pub makers : AreByPasses layout j.front
+
+-- Why a call was refused: a lock of it met another's, or another's change was seen since it began; or of each record of a kind a
+-- claim of it failed.
+abbrev pub IsCause : Layout → PassView → PassView → TryFault → Type 0
+IsCause layout k j Busy = HasMetTaken k.steps j.failed ⊎ (length k.front < length j.front)
+IsCause layout k j FullNodes = AllMissed a_node layout.nodes j.failed k.steps
+IsCause layout k j FullLeaves = AllMissed a_leaf layout.leaves j.failed k.steps
+
+-- A call was refused: it has changed nothing and adds no note, and this is the cause.
+pub record IsRefused (layout : Layout) (k j : PassView) (fault : TryFault) : Type 0 where
+  pub unnoted : IsUnnoted layout k j
+  pub cause : IsCause layout k j fault
+
+-- the refusal of a call that waits for others
+abbrev pub fault_of : Full → TryFault
+fault_of Nodes = FullNodes
+fault_of Leaves = FullLeaves
 
 -- Two passes have met: both have seen one list of changes, which begins with what each had seen; the calls of both are legal
 -- in it, and stand together in one sequential history.

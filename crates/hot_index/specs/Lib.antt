@@ -4,3 +4,4 @@ pub mod Answers
 pub mod Noting
 pub mod Scanning
 pub mod Traces
+pub mod Counts

@@ -1,10 +1,11 @@
--- Where an answered call that changed nothing stands among the changes that its pass has seen.
-use Rattle.std.specs.Prelude.{ℕ, zero, suc, ◌+◌, ◌-◌, List, [], ◌∷◌, length, take, Bool, true, false, nat_eq, if◌then◌else◌}
+-- Where an answered call stands among the changes that its pass has seen.
+use Rattle.std.specs.Prelude.{ℕ, zero, suc, ◌+◌, ◌-◌, List, [], ◌∷◌, length, take, Bool, true, false, is_some, nat_eq, if◌then◌else◌, Result, Ok, Err}
 use Rattle.hot_model.specs.declared.Call.{Call}
 use Rattle.hot_model.specs.declared.Change.{Change}
 use Rattle.hot_model.specs.declared.Note.{Note}
 use Rattle.hot_model.specs.declared.Reply.{Reply}
 use Rattle.hot_model.specs.declared.Reply.TheVariants.{Inserted, Exists, New, Was, Value, Absent, Removed}
+use Rattle.hot_model.specs.Calls.{effect_of}
 use Rattle.hot_model.specs.Maps.{reply_of}
 use Rattle.hot_model.specs.Fronts.{map_of}
 use Rattle.rowex_core.specs.declared.known.Known.{Known}
@@ -37,3 +38,14 @@ place_of front low call reply = first_from (answers_so front call reply) low (le
 -- the note of a call that changed nothing: its place is the first right one since the pass's last load of the root
 abbrev pub note_of : Call → Reply → Known → List Note
 note_of call reply k = record { place = place_of k.front (since k) call reply; call = call; reply = reply } ∷ []
+
+-- the place of a call by what it is, where the pass knows k: one that changed the map stands at its own change, the last that was
+-- seen
+abbrev pub place_by : Bool → Call → Reply → Known → ℕ
+place_by true call reply k = length k.front - 1
+place_by false call reply k = place_of k.front (since k) call reply
+
+-- the notes of a call that may change the map: one if it was answered
+abbrev pub notes_of : {F : Type 0} → Call → Result Reply F → Known → List Note
+notes_of call (Ok reply) k = record { place = place_by (is_some (effect_of call reply)) call reply k; call = call; reply = reply } ∷ []
+notes_of call (Err fault) k = []

@@ -35,6 +35,22 @@ pub record HasRead {G : Type 0} (index : TableView) (becomes : G → Event → G
   pub steps : Ends index becomes (reading epoch root loads) ClearPin said (before, a.1) (after, b.1)
   pub told : IsTold becomes (events_of a.0.number (reading epoch root loads ++ ClearPin ∷ [])) a.1 b.1
 
+-- On a seat: the call makes some steps, and then clears the pin of its pass, with these notes.
+abbrev pub HasEnded : {G : Type 0} → TableView → (G → Event → G → Type 0) → (Known → List Note) → SeatView × G → SeatView × G → Type 0
+HasEnded table becomes said a b = (acts : List Act) × Ends table becomes acts ClearPin said a b
+
+-- The call makes some steps and no others, and the last of them clears its pin; with it come the call's notes. The gate is told
+-- each of them, in order, and nothing else.
+pub record HasMade {G : Type 0} (index : TableView) (becomes : G → Event → G → Type 0) (a b : PassView × G) : Type 0 where
+  pub before : SeatView
+  pub after : SeatView
+  pub acts : List Act
+  pub said : Known → List Note
+  pub begins : a.0 ≡ pass_of before
+  pub ends : b.0 ≡ pass_of after
+  pub steps : Ends index becomes acts ClearPin said (before, a.1) (after, b.1)
+  pub told : IsTold becomes (events_of a.0.number (acts ++ ClearPin ∷ [])) a.1 b.1
+
 -- The pass makes one round of collection, whose own exchanges give back so many nodes and so many leaves; and the gate is told
 -- each of its steps.
 pub record HasCollected {G : Type 0} (index : TableView) (becomes : G → Event → G → Type 0) (a b : PassView × G) (nodes leaves : ℕ) : Type 0 where

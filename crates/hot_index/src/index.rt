@@ -1,30 +1,35 @@
 //! The index and the passes by which threads use it: how it is made, and all calls on it.
 
-ghost use Rattle.std.specs.Prelude.{◌≡◌, ◌↔◌, ◌+◌, ◌*◌, ◌≤◌, ℕ, List, Some, Err, IfOk, IsSome, OnErr, length, slice_get};
+ghost use Rattle.std.specs.Prelude.{◌≡◌, ◌↔◌, ◌+◌, ◌*◌, ◌≤◌, ℕ, List, ◌≢◌, Some, Err, IfOk, IsSome, MatchResult, OnErr, length, slice_get};
 ghost use mathlib.Core.Option.{some};
 ghost use lib.ListN.{get_elem?};
 ghost use Rattle.key_bits.specs.declared.TheConstants.{MAX_BYTES};
-ghost use Rattle.hot_model.specs.declared.Call.TheVariants.{Get};
+ghost use Rattle.hot_model.specs.declared.Call.TheVariants.{Get, Insert, Remove, Upsert};
 ghost use Rattle.hot_model.specs.declared.Note.{Note};
 ghost use Rattle.record_words.specs.Limits.{IsPassCount, IsNodeCount, IsLeafCount};
 ghost use Rattle.rowex_core.specs.declared.event.Act.TheVariants.{ClearPin};
 ghost use Rattle.rowex_core.specs.declared.known.Known.{Known};
 ghost use Rattle.rowex_table.specs.Runs.{StepsWith};
 ghost use Rattle.rowex_table.specs.Seats.{IsPassOf, IsNewSeatOf, SeatView};
-ghost use Rattle.hot_index.specs.Passes.{PassView, Owns, IsNewPass};
-ghost use Rattle.hot_index.specs.Answers.{IsNoted, IsScanned, IsUnnoted, HaveMet, got};
-ghost use Rattle.hot_index.specs.Traces.{HasCollected, HasRead, untold};
+ghost use Rattle.hot_index.specs.Passes.{PassView, Owns, IsNewPass, IsSettled, pass_of};
+ghost use Rattle.hot_index.specs.Counts.{round_steps, try_steps};
+ghost use Rattle.hot_index.specs.Answers.{IsNoted, IsRefused, IsScanned, IsUnnoted, HaveMet, fault_of, got};
+ghost use Rattle.hot_index.specs.Traces.{HasCollected, HasMade, HasRead, untold};
 
+use crate::changing::{change, try_change};
+use crate::room::{Room, new_room};
 use crate::scanning::{Range, scan_root};
 use epochs::{Given, collect_round, pin, unpin};
-use hot_model::Scan;
+use hot_model::{Reply, Scan};
 use key_bits::Key;
 use record_words::{Layout, LayoutFault};
 use rowex_core::{Gate, NoGate};
 use rowex_reading::look_up;
 use rowex_table::{HotTable, TableSeat};
+use rowex_writing::{Ask, Full, TryFault};
 use std::alloc::{AllocError, Global};
 use std::marker::Model;
+use std::sync::Wait;
 use thiserror::Error;
 
 /// Why no index was made.
@@ -57,6 +62,7 @@ impl Model for Index {
 #[derive(Drop)]
 pub struct Pass {
     pub(crate) seat: TableSeat,
+    pub(crate) room: Box<Room>,
 }
 
 impl Model for Pass {
@@ -125,6 +131,201 @@ impl Index {
         found
     }
 
+    /// Gives a key a value if it is absent: `Inserted`, or `Exists` with the value that it has, which stays.
+    ///
+    /// It waits for nobody: it makes at most 900,009 atomic steps, one more for each pass, 8,646 for each node record and 4 for
+    /// each leaf record. It is refused as `Busy` where another pass holds what it wants to lock, or has made a change since the
+    /// call began; and as full where each record of a kind was taken when it asked for one, also after a round of collection.
+    /// Refused, it has changed nothing, and it holds no lock and no record.
+    pub fn try_insert(&self, pass: &mut Pass, key: &Key, value: u64) -> Result<Reply, TryFault>
+        requires { Owns self.now pass.old }
+        ensures own { Owns self.now pass.new }
+        ensures call { MatchResult result (IsNoted self.now.layout pass.old pass.new (Insert key.now value)) (IsRefused self.now.layout pass.old pass.new) }
+        ensures made { HasMade self.now untold (pass.old, tt) (pass.new, tt) }
+        ensures steps { pass.new.steps ≤ pass.old.steps + try_steps self.now.layout }
+    {
+        self.try_insert_with(pass, key, value, &mut NoGate)
+    }
+
+    /// `try_insert`, with a gate that is told each of its steps.
+    pub fn try_insert_with<G: Gate>(
+        &self,
+        pass: &mut Pass,
+        key: &Key,
+        value: u64,
+        gate: &mut G,
+    ) -> Result<Reply, TryFault>
+        requires { Owns self.now pass.old }
+        ensures own { Owns self.now pass.new }
+        ensures call { MatchResult result (IsNoted self.now.layout pass.old pass.new (Insert key.now value)) (IsRefused self.now.layout pass.old pass.new) }
+        ensures made { HasMade self.now G.becomes (pass.old, gate.old) (pass.new, gate.new) }
+        ensures steps { pass.new.steps ≤ pass.old.steps + try_steps self.now.layout }
+    {
+        try_change(
+            &self.table,
+            &mut pass.seat,
+            gate,
+            &mut pass.room,
+            Ask::Insert,
+            key,
+            value,
+        )
+    }
+
+    /// Gives a key a value: `New`, or `Was` with the value that it had.
+    ///
+    /// It waits for nobody, has `try_insert`'s bound of steps, and is refused as `try_insert` is.
+    pub fn try_upsert(&self, pass: &mut Pass, key: &Key, value: u64) -> Result<Reply, TryFault>
+        requires { Owns self.now pass.old }
+        ensures own { Owns self.now pass.new }
+        ensures call { MatchResult result (IsNoted self.now.layout pass.old pass.new (Upsert key.now value)) (IsRefused self.now.layout pass.old pass.new) }
+        ensures made { HasMade self.now untold (pass.old, tt) (pass.new, tt) }
+        ensures steps { pass.new.steps ≤ pass.old.steps + try_steps self.now.layout }
+    {
+        self.try_upsert_with(pass, key, value, &mut NoGate)
+    }
+
+    /// `try_upsert`, with a gate that is told each of its steps.
+    pub fn try_upsert_with<G: Gate>(
+        &self,
+        pass: &mut Pass,
+        key: &Key,
+        value: u64,
+        gate: &mut G,
+    ) -> Result<Reply, TryFault>
+        requires { Owns self.now pass.old }
+        ensures own { Owns self.now pass.new }
+        ensures call { MatchResult result (IsNoted self.now.layout pass.old pass.new (Upsert key.now value)) (IsRefused self.now.layout pass.old pass.new) }
+        ensures made { HasMade self.now G.becomes (pass.old, gate.old) (pass.new, gate.new) }
+        ensures steps { pass.new.steps ≤ pass.old.steps + try_steps self.now.layout }
+    {
+        try_change(
+            &self.table,
+            &mut pass.seat,
+            gate,
+            &mut pass.room,
+            Ask::Upsert,
+            key,
+            value,
+        )
+    }
+
+    /// Makes a key absent: `Removed` with the value that it had, or `Absent`.
+    ///
+    /// It waits for nobody, has `try_insert`'s bound of steps, and is refused as `try_insert` is; but it needs no leaf, and so is
+    /// never full of leaves.
+    pub fn try_remove(&self, pass: &mut Pass, key: &Key) -> Result<Reply, TryFault>
+        requires { Owns self.now pass.old }
+        ensures own { Owns self.now pass.new }
+        ensures call { MatchResult result (IsNoted self.now.layout pass.old pass.new (Remove key.now)) (IsRefused self.now.layout pass.old pass.new) }
+        ensures made { HasMade self.now untold (pass.old, tt) (pass.new, tt) }
+        ensures leafless { result ≢ Err TryFault.FullLeaves }
+        ensures steps { pass.new.steps ≤ pass.old.steps + try_steps self.now.layout }
+    {
+        self.try_remove_with(pass, key, &mut NoGate)
+    }
+
+    /// `try_remove`, with a gate that is told each of its steps.
+    pub fn try_remove_with<G: Gate>(
+        &self,
+        pass: &mut Pass,
+        key: &Key,
+        gate: &mut G,
+    ) -> Result<Reply, TryFault>
+        requires { Owns self.now pass.old }
+        ensures own { Owns self.now pass.new }
+        ensures call { MatchResult result (IsNoted self.now.layout pass.old pass.new (Remove key.now)) (IsRefused self.now.layout pass.old pass.new) }
+        ensures made { HasMade self.now G.becomes (pass.old, gate.old) (pass.new, gate.new) }
+        ensures leafless { result ≢ Err TryFault.FullLeaves }
+        ensures steps { pass.new.steps ≤ pass.old.steps + try_steps self.now.layout }
+    {
+        try_change(
+            &self.table,
+            &mut pass.seat,
+            gate,
+            &mut pass.room,
+            Ask::Remove,
+            key,
+            0,
+        )
+    }
+
+    /// Gives a key a value if it is absent: `Inserted`, or `Exists` with the value that it has, which stays.
+    ///
+    /// Where `try_insert` would be `Busy` it begins again, as often as need be: it ends once no other pass stands in its way.
+    /// It is refused where each record of a kind was taken when it asked for one, also after a round of collection. Refused, it
+    /// has changed nothing, and it holds no lock and no record.
+    pub fn insert<R: Wait>(
+        &self,
+        rt: &R,
+        pass: &mut Pass,
+        key: &Key,
+        value: u64,
+    ) -> Result<Reply, Full>
+        requires { Owns self.now pass.old }
+        ensures own { Owns self.now pass.new }
+        ensures call { MatchResult result (IsNoted self.now.layout pass.old pass.new (Insert key.now value))
+            (λ full. IsRefused self.now.layout pass.old pass.new (fault_of full)) }
+    {
+        change(
+            rt,
+            &self.table,
+            &mut pass.seat,
+            &mut pass.room,
+            Ask::Insert,
+            key,
+            value,
+        )
+    }
+
+    /// Gives a key a value: `New`, or `Was` with the value that it had.
+    ///
+    /// It begins again where `try_upsert` would be `Busy`, and is refused as `insert` is.
+    pub fn upsert<R: Wait>(
+        &self,
+        rt: &R,
+        pass: &mut Pass,
+        key: &Key,
+        value: u64,
+    ) -> Result<Reply, Full>
+        requires { Owns self.now pass.old }
+        ensures own { Owns self.now pass.new }
+        ensures call { MatchResult result (IsNoted self.now.layout pass.old pass.new (Upsert key.now value))
+            (λ full. IsRefused self.now.layout pass.old pass.new (fault_of full)) }
+    {
+        change(
+            rt,
+            &self.table,
+            &mut pass.seat,
+            &mut pass.room,
+            Ask::Upsert,
+            key,
+            value,
+        )
+    }
+
+    /// Makes a key absent: `Removed` with the value that it had, or `Absent`.
+    ///
+    /// It begins again where `try_remove` would be `Busy`, and is refused as `insert` is; but it needs no leaf, and so is never
+    /// full of leaves.
+    pub fn remove<R: Wait>(&self, rt: &R, pass: &mut Pass, key: &Key) -> Result<Reply, Full>
+        requires { Owns self.now pass.old }
+        ensures own { Owns self.now pass.new }
+        ensures call { MatchResult result (IsNoted self.now.layout pass.old pass.new (Remove key.now))
+            (λ full. IsRefused self.now.layout pass.old pass.new (fault_of full)) }
+        ensures leafless { result ≢ Err Full.Leaves }
+    {
+        change(
+            rt,
+            &self.table,
+            &mut pass.seat,
+            &mut pass.room,
+            Ask::Remove,
+            key,
+            0,
+        )
+    }
+
     /// The keys from `from` to `upto`, both included, with their values, in the order of the keys: the first `limit` of
     /// them, and whether there is a further one.
     ///
@@ -171,24 +372,38 @@ impl Index {
         scan
     }
 
-    /// Two passes meet, and are given back: what either has seen, both have seen then, and all that was published before.
+    /// Two passes meet, and are given back: what either has seen, both have seen then, and all that was published before. It
+    /// makes no atomic step.
     pub fn meet(&self, first: Pass, second: Pass) -> (Pass, Pass)
         requires { Owns self.now first × Owns self.now second }
         ensures own { Owns self.now result.0 × Owns self.now result.1 }
         ensures met { HaveMet self.now.layout first second result.0 result.1 }
+        ensures steps { (result.0.steps ≡ first.steps) × (result.1.steps ≡ second.steps) }
     {
+        let (one, other) = (first.room, second.room);
         let (first, second) = self.table.meet_seats(first.seat, second.seat);
-        (Pass { seat: first }, Pass { seat: second })
+        (
+            Pass {
+                seat: first,
+                room: one,
+            },
+            Pass {
+                seat: second,
+                room: other,
+            },
+        )
     }
 
     /// Makes one round of collection: it makes the epoch the next one, visits each record of the index once, and gives back
     /// those that were retired in an epoch below all pins, which no call that still runs can reach. Answers how many it gave
-    /// back. It takes no lock and no memory, and waits for nobody.
+    /// back. It takes no lock and no memory, and waits for nobody: it makes at most 3 atomic steps, one more for each pass, and
+    /// two more for each record.
     pub fn collect(&self, pass: &mut Pass) -> Given
         requires { Owns self.now pass.old }
         ensures own { Owns self.now pass.new }
         ensures call { IsUnnoted self.now.layout pass.old pass.new }
         ensures front { pass.new.front ≡ pass.old.front }
+        ensures steps { pass.new.steps ≤ pass.old.steps + round_steps self.now.layout }
         ensures round { HasCollected self.now untold (pass.old, tt) (pass.new, tt) result.nodes result.leaves }
     {
         self.collect_with(pass, &mut NoGate)
@@ -200,6 +415,7 @@ impl Index {
         ensures own { Owns self.now pass.new }
         ensures call { IsUnnoted self.now.layout pass.old pass.new }
         ensures front { pass.new.front ≡ pass.old.front }
+        ensures steps { pass.new.steps ≤ pass.old.steps + round_steps self.now.layout }
         ensures round { HasCollected self.now G.becomes (pass.old, gate.old) (pass.new, gate.new) result.nodes result.leaves }
     {
         collect_round(&self.table, &mut pass.seat, gate)
@@ -220,18 +436,27 @@ fn made(alloc: Global, layout: Layout) -> Result<(Index, Vec<Pass>), AllocError>
 /// The passes of the new seats of this table, in their order.
 fn passes_of(
     alloc: Global,
-    _table: &HotTable,
+    table: &HotTable,
     seats: Vec<TableSeat>,
 ) -> Result<Vec<Pass>, AllocError>
-    requires { (q : ℕ) (s : SeatView) → get_elem? seats.items q ≡ some s → IsNewSeatOf _table.now q s }
+    requires { (q : ℕ) (s : SeatView) → get_elem? seats.items q ≡ some s → IsNewSeatOf table.now q s }
     ensures count { IfOk result (λ passes. length passes.items ≡ length seats.items) }
-    ensures each { IfOk result (λ passes. (q : ℕ) (p : PassView) → slice_get passes.items q ≡ Some p → Owns _table.now p × IsNewPass q p) }
+    ensures each { IfOk result (λ passes. (q : ℕ) (p : PassView) → slice_get passes.items q ≡ Some p → Owns table.now p × IsNewPass q p) }
 {
     let mut passes = Vec::new(alloc);
     for seat in seats {
-        passes.push(Pass { seat })?;
+        passes.push(new_pass(alloc, table, seat)?)?;
     }
     Ok(passes)
+}
+
+/// The pass of a seat of this table, with a room of its own.
+pub(crate) fn new_pass(alloc: Global, table: &HotTable, seat: TableSeat) -> Result<Pass, AllocError>
+    requires { IsSettled seat.known }
+    ensures { IfOk result (λ pass. pass ≡ pass_of seat) }
+{
+    let room = new_room(alloc, table.layout(), seat.number())?;
+    Ok(Pass { seat, room })
 }
 
 /// Clears the pin at the end of a get that looked for this key and found this. The get's note comes with this step.

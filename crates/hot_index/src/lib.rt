@@ -2,7 +2,9 @@
 //! SIGMOD 2018) whose readers take no lock (ROWEX, Leis and others, DaMoN 2016).
 #![tactic(auto)]
 
+mod changing;
 mod index;
+mod room;
 mod scanning;
 
 pub use epochs::Given;
@@ -10,6 +12,7 @@ pub use hot_model::{Reply, Scan};
 pub use index::{Index, IndexFault, Pass, create};
 pub use key_bits::Key;
 pub use rowex_core::{Event, Gate, NoGate};
+pub use rowex_writing::{Full, TryFault};
 
 #[cfg(test)]
 mod tests;

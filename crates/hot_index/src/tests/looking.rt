@@ -7,7 +7,7 @@ ghost use Rattle.rowex_table.specs.Rights.{Has};
 ghost use Rattle.rowex_table.specs.Seats.{IsPassOf, IsNewSeat};
 ghost use Rattle.hot_index.specs.Passes.{Owns};
 
-use crate::index::{Index, Pass};
+use crate::index::{Index, Pass, new_pass};
 use crate::{Event, Gate, Key, NoGate};
 use record_words::{Layout, pack_leaf};
 use rowex_core::{Act, Rec, Spot, Target};
@@ -122,7 +122,9 @@ pub(super) fn index_of_one(
         Err("a free leaf")?;
     }
     link_leaf(&table, &mut first);
-    Ok((Index { table }, Pass { seat: second }, Pass { seat: third }))
+    let second = new_pass(alloc, &table, second)?;
+    let third = new_pass(alloc, &table, third)?;
+    Ok((Index { table }, second, third))
 }
 
 /// The acts of a get of pass 1 or 2 that finds this root, and then makes these loads.

@@ -1,5 +1,5 @@
 -- No pass yet, and one pass more.
-use Rattle.std.proofs.Common.{rules, ◌≡◌, ℕ, suc, ◌∷◌, [], ◌++◌, List, length, Some, sym, ap, subst, arith, length-append}
+use Rattle.std.proofs.Common.{rules, ◌≡◌, ℕ, suc, ◌∷◌, [], ◌++◌, List, length, Some, ◌∙◌, sym, ap, subst, arith, length-append}
 use Rattle.std.specs.List.{slice_get}
 use Rattle.std.specs.Vec.Iter.{into_iter_items}
 use Rattle.hot_index.specs.Passes.{PassView, Owns, IsNewPass, IsSettled, pass_of}
@@ -13,23 +13,23 @@ loop-seat-init c =
     record {
       long = search rules;
       count = search rules;
-      left = all_left c.args._table.now _ _ _ same (ap length none) c.requires;
-      each = each_of_none (λ q (p : PassView). Owns c.args._table.now p × IsNewPass q p) _ none;
+      left = all_left c.args.table.now _ _ _ same (ap length none) c.requires;
+      each = each_of_none (λ q (p : PassView). Owns c.args.table.now p × IsNewPass q p) _ none;
     }
 
-pub invariant_of-push : goal.invariant_of-push
-invariant_of-push c =
+pub new_pass-requires : goal.new_pass-requires
+new_pass-requires c =
     let steps : into_iter_items c.loop-seat.seat-iterator ≡ c.in-Some.seat ∷ into_iter_items c.next.new.self = c.in-Some.ensures.steps.0 in
-    let first = first_of c.args._table.now _ c.in-Some.seat _ (subst (AreFrom c.args._table.now (length c.loop-seat.passes.items)) steps c.loop-seat.invariant.left) in
+    let first = first_of c.args.table.now _ c.in-Some.seat _ (subst (AreFrom c.args.table.now (length c.loop-seat.passes.items)) steps c.loop-seat.invariant.left) in
     subst IsSettled (sym first.1) (search rules)
 
 pub loop-seat-preserved : goal.loop-seat-preserved
 loop-seat-preserved c =
-    let table = c.args._table.now in
+    let table = c.args.table.now in
     let seat = c.in-Some.seat in
     let steps : into_iter_items c.loop-seat.seat-iterator ≡ seat ∷ into_iter_items c.next.new.self = c.in-Some.ensures.steps.0 in
     let left : AreFrom table (length c.loop-seat.passes.items) (seat ∷ into_iter_items c.next.new.self) = subst (AreFrom table (length c.loop-seat.passes.items)) steps c.loop-seat.invariant.left in
-    let pushed : c.push.new.self.items ≡ c.loop-seat.passes.items ++ pass_of seat ∷ [] = c.in_ok-push.ensures.items in
+    let pushed : c.push.new.self.items ≡ c.loop-seat.passes.items ++ pass_of seat ∷ [] = c.in_ok-push.ensures.items ∙ ap (λ (p : PassView). c.loop-seat.passes.items ++ p ∷ []) c.in_ok-new_pass.ensures in
     let longer : suc (length c.loop-seat.passes.items) ≡ length c.push.new.self.items = let e = ap length pushed in grind (arith, length-append, e) in
     let shorter = ap length steps in
     let long = c.loop-seat.invariant.long in

@@ -9,6 +9,6 @@ abbrev pub invariant-loop-seat : goal.invariant-loop-seat
 invariant-loop-seat l = record {
   long : into_iter_len l.seat-iterator ≡ length (into_iter_items l.seat-iterator);
   count : length l.passes.items + length (into_iter_items l.seat-iterator) ≡ length l.fn.seats.items;
-  left : AreFrom l._table (length l.passes.items) (into_iter_items l.seat-iterator);
-  each : (q : ℕ) (p : PassView) → slice_get l.passes.items q ≡ Some p → Owns l._table p × IsNewPass q p;
+  left : AreFrom l.table (length l.passes.items) (into_iter_items l.seat-iterator);
+  each : (q : ℕ) (p : PassView) → slice_get l.passes.items q ≡ Some p → Owns l.table p × IsNewPass q p;
 }

@@ -1,5 +1,6 @@
 -- What the seats have seen, the passes have.
-use Rattle.std.proofs.Common.{subst}
+use Rattle.std.proofs.Common.{subst, ap, ◌∙◌}
+use Rattle.rowex_core.specs.declared.known.Known.{Known}
 use Rattle.rowex_table.specs.Seats.{TableView}
 use Rattle.hot_index.specs.Answers.{HaveMet}
 use Rattle.hot_index.specs.Passes.{PassView, pass_of}
@@ -20,3 +21,8 @@ returns-clause-met c =
     (subst (λ (z : PassView). HaveMet c.self.inside.table.layout z c.args.second (pass_of one) (pass_of other)) c.first.view_is
     (subst (λ (z : PassView). HaveMet c.self.inside.table.layout (pass_of c.first.inside.seat) z (pass_of one) (pass_of other)) c.second.view_is
     (passes_met c.self.inside.table.layout c.first.inside.seat c.second.inside.seat one other c.meet_seats-first.ensures.met c.first.invariant c.second.invariant)))
+
+pub returns-clause-steps : goal.returns-clause-steps
+returns-clause-steps c =
+    let met = c.meet_seats-first.ensures.met in
+    (ap (λ (z : Known). z.steps) met.1 ∙ ap (λ (z : PassView). z.steps) c.first.view_is, ap (λ (z : Known). z.steps) met.2 ∙ ap (λ (z : PassView). z.steps) c.second.view_is)

@@ -1,0 +1,334 @@
+-- What an attempt to change the map leaves: it is noted where it was answered, and has changed nothing where it was refused.
+use Rattle.std.proofs.Common.{◌≡◌, ◌⊎◌, inl, inr, ℕ, ◌+◌, ◌-◌, ◌≤◌, List, [], ◌∷◌, ◌++◌, length, take, true, false, Option, Some, None, IsSome, Result, Ok, Err, refl, sym, ap, subst, ◌∙◌, arith, le_trans, length-append}
+use Rattle.std.specs.Prelude.{All, Contains, IfOk, IfErr, is_some}
+use Rattle.std.proofs.lemmas.List.Elements.{All-head, All-tail}
+use Rattle.hot_model.specs.declared.Call.{Call}
+use Rattle.hot_model.specs.declared.Call.TheVariants.{Insert as InsertCall, Upsert as UpsertCall, Remove as RemoveCall}
+use Rattle.hot_model.specs.declared.Change.{Change}
+use Rattle.hot_model.specs.declared.Note.{Note}
+use Rattle.hot_model.specs.declared.Reply.{Reply}
+use Rattle.hot_model.specs.declared.Reply.TheVariants.{Inserted, Exists, New, Was, Absent, Removed}
+use Rattle.hot_model.specs.Calls.{LegalCalls, change_of, effect_of}
+use Rattle.hot_model.specs.Fronts.{BeginsWith, LegalFront, OthersGoOn, map_of}
+use Rattle.hot_model.specs.Maps.{Map, reply_of, step_where, value_at}
+use Rattle.hot_model.proofs.Growth.{begins_on, legal_front_part}
+use Rattle.hot_model.proofs.Legal.{legal_change, legal_longer}
+use Rattle.record_words.specs.declared.layout.Layout.{Layout}
+use Rattle.tries.specs.Keys.{Key}
+use Rattle.moments.specs.declared.Rec.{Rec}
+use Rattle.moments.specs.declared.Rec.TheVariants.{Node as a_node, Leaf as a_leaf}
+use Rattle.rowex_core.specs.declared.event.Act.{Act}
+use Rattle.rowex_core.specs.declared.event.Act.TheVariants.{ClearPin}
+use Rattle.rowex_core.specs.declared.event.Event.{Event}
+use Rattle.rowex_core.specs.declared.known.Failed.{Failed}
+use Rattle.rowex_core.specs.declared.known.Known.{Known}
+use Rattle.rowex_core.specs.Cores.{Core, IsLawful}
+use Rattle.rowex_core.specs.Knowing.{IsEvent, Recalls}
+use Rattle.rowex_table.specs.Runs.{Runs, StepsWith}
+use Rattle.rowex_table.specs.Seats.{IsSame, SeatView, TableView}
+use Rattle.rowex_table.specs.Stays.{LeavesPin}
+use Rattle.rowex_table.proofs.ActsLeave.{act_leaves}
+use Rattle.rowex_table.proofs.Running.{runs_same}
+use Rattle.rowex_records.specs.Claims.{AllMissed, HasMissed}
+use Rattle.rowex_rights.specs.Ending.{IsAtRest}
+use Rattle.epochs.specs.Runs.{Pins}
+use Rattle.rowex_writing.specs.Attempts as tries
+use Rattle.rowex_writing.specs.Attempts.{HasAnswered, HasLoadedRoot, HasRefused, IsChangeOf, call_of}
+use Rattle.rowex_writing.specs.Changes.{HasChanged, HasRun}
+use Rattle.rowex_writing.specs.declared.plan.Ask.{Ask}
+use Rattle.rowex_writing.specs.declared.plan.Ask.TheVariants.{Insert, Upsert, Remove}
+use Rattle.rowex_writing.specs.declared.attempts.TryFault.{TryFault}
+use Rattle.rowex_writing.specs.declared.attempts.TryFault.TheVariants.{Busy, FullNodes, FullLeaves}
+use Rattle.epochs.specs.Rounds.{IsRound}
+use Rattle.hot_index.specs.Answers.{IsCause, IsNoted, IsRefused, IsUnnoted}
+use Rattle.hot_index.specs.Noting.{note_of, notes_of, place_by}
+use Rattle.hot_index.specs.Passes.{IsSettled, PassView, pass_of}
+use Rattle.hot_index.proofs.Noting.{HasGoneOn, HasLooked, WasRight, found_had, goes_on, legal_front, longer, noted, settles}
+use Rattle.hot_index.proofs.Collected.{round_unnoted}
+use Rattle.hot_index.proofs.Scanned.{scan_refused, scan_settled}
+
+-- Replies
+
+-- what an attempt found that changed nothing was right
+looked_right : (j : Known) (ask : Ask) (key : Key) (value : ℕ) (reply : Reply) → tries.HasLooked j ask key reply → (c : Core) → IsLawful c → Recalls c j →
+    WasRight j (call_of ask key value) reply
+looked_right j Insert key value (Exists held) h c l r =
+    let f = found_had j key (Some held) h c l r in (f.0, f.1, f.2, ap (λ z. (step_where z (map_of (take f.0 j.front)) (InsertCall key value)).1) f.3)
+looked_right j Remove key value Absent h c l r =
+    let f = found_had j key None h c l r in (f.0, f.1, f.2, ap (λ z. (step_where z (map_of (take f.0 j.front)) (RemoveCall key)).1) f.3)
+looked_right j _ key value _ h c l r = absurd h
+
+-- and its call told of no change
+looked_quiet : (j : Known) (ask : Ask) (key : Key) (value : ℕ) (reply : Reply) → tries.HasLooked j ask key reply → is_some (effect_of (call_of ask key value) reply) ≡ false
+looked_quiet j Insert key value (Exists held) h = refl
+looked_quiet j Remove key value Absent h = refl
+looked_quiet j _ key value _ h = absurd h
+
+-- The call with this reply tells of the change x, and a map where the key has this value, or none, replies so.
+record Tells (q : ℕ) (call : Call) (reply : Reply) (x : Change) (was : Option ℕ) : Type 0 where
+  changed : is_some (effect_of call reply) ≡ true
+  change : (n : ℕ) → change_of q (record { place = n; call = call; reply = reply }) ≡ Some x
+  right : (m : Map) → value_at m x.key ≡ was → reply ≡ reply_of m call
+
+-- where the map holds this for the change's key, it holds it for the call's
+held_for : (m : Map) (x : Change) (key : Key) (was held : Option ℕ) → x.key ≡ key → was ≡ held → value_at m x.key ≡ was → value_at m key ≡ held
+held_for m x key was held same is e = ap (λ (k : Key). value_at m k) (sym same) ∙ (e ∙ is)
+
+change_told : (q : ℕ) (ask : Ask) (key : Key) (value : ℕ) (reply : Reply) (x : Change) (was : Option ℕ) → IsChangeOf q ask key value reply x was → Tells q (call_of ask key value) reply x was
+change_told q Insert key value Inserted x was h = record {
+  changed = refl;
+  change = λ n. ap Some (sym h.0);
+  right = λ m e. sym (ap (λ z. (step_where z m (InsertCall key value)).1) (held_for m x key was None (ap (λ (z : Change). z.key) h.0) h.1 e));
+}
+change_told q Upsert key value New x was h = record {
+  changed = refl;
+  change = λ n. ap Some (sym h.0);
+  right = λ m e. sym (ap (λ z. (step_where z m (UpsertCall key value)).1) (held_for m x key was None (ap (λ (z : Change). z.key) h.0) h.1 e));
+}
+change_told q Upsert key value (Was held) x was h = record {
+  changed = refl;
+  change = λ n. ap Some (sym h.0);
+  right = λ m e. sym (ap (λ z. (step_where z m (UpsertCall key value)).1) (held_for m x key was (Some held) (ap (λ (z : Change). z.key) h.0) h.1 e));
+}
+change_told q Remove key value (Removed held) x was h = record {
+  changed = refl;
+  change = λ n. ap Some (sym h.0);
+  right = λ m e. sym (ap (λ z. (step_where z m (RemoveCall key)).1) (held_for m x key was (Some held) (ap (λ (z : Change). z.key) h.0) h.1 e));
+}
+change_told q _ key value _ x was h = absurd h
+
+-- The note of a change
+
+-- the note of a call whose change is the last of the front
+abbrev note_last : Call → Reply → Known → List Note
+note_last call reply k = record { place = length k.front - 1; call = call; reply = reply } ∷ []
+
+-- a call that changed the map is noted as its pass clears the pin
+change_noted : (layout : Layout) (call : Call) (reply : Reply) (s : SeatView) (i : Known) (t : SeatView) (x : Change) (was : Option ℕ) (before : List Change) → IsSettled s.known → HasGoneOn s.known i →
+    IsEvent layout ClearPin (note_last call reply) i t.known → OthersGoOn s.known.pass s.known.front before → i.front ≡ before ++ x ∷ [] → BeginsWith before i.fresh.front →
+    value_at (map_of before) x.key ≡ was → Tells s.known.pass call reply x was → IsNoted layout (pass_of s) (pass_of t) call reply × IsSettled t.known
+change_noted layout call reply s i t x was before settled gone event others front fresh held tells = (told, settles s t gone event legal)
+  where
+    place : ℕ
+    place = length i.front - 1
+
+    note : Note
+    note = record { place = place; call = call; reply = reply }
+
+    at : place ≡ length before
+    at = let l = ap length front ∙ length-append before (x ∷ []) in omega arith
+
+    low : length i.fresh.front ≤ place
+    low = let l = longer before i.fresh.front fresh in omega (arith, at)
+
+    high : place ≤ length i.front
+    high = omega arith
+
+    earlier : LegalFront before
+    earlier = legal_front_part before i.front (x ∷ [], front) (legal_front s t gone event)
+
+    calls : LegalCalls (before ++ x ∷ []) s.known.pass (s.known.notes ++ note ∷ [])
+    calls = legal_change before s.known.pass s.known.notes note x (legal_longer s.known.front before s.known.pass s.known.notes settled.legal others earlier) at (tells.right (map_of before) held) (tells.change place)
+
+    legal : LegalCalls i.front i.pass (i.notes ++ note ∷ [])
+    legal = subst (λ (z : List Change). LegalCalls z i.pass (i.notes ++ note ∷ [])) (sym front)
+        (subst (λ (z : ℕ × List Note). LegalCalls (before ++ x ∷ []) z.0 (z.1 ++ note ∷ [])) (λ e. (sym gone.pass e, sym gone.notes e)) calls)
+
+    told : IsNoted layout (pass_of s) (pass_of t) call reply
+    told = record {
+      on = goes_on s t gone event;
+      place = place;
+      notes = ap (λ (z : Known). z.notes) event.learned_is ∙ ap (λ (z : List Note). z ++ note ∷ []) gone.notes;
+      low = subst (λ (z : Known). length z.fresh.front ≤ place) (sym event.learned_is) low;
+      high = subst (λ (z : Known). place ≤ length z.front) (sym event.learned_is) high;
+      legal = subst (λ (z : Known). LegalCalls z.front z.pass z.notes) (sym event.learned_is) legal;
+    }
+
+-- Causes
+
+-- what holds of some step of these, from one on, holds of some from an earlier one on
+missed_on : (kind : ℕ → Rec) (n : ℕ) (tried more : List Failed) (since later : ℕ) → since ≤ later → more ≡ tried → AllMissed kind n tried later → AllMissed kind n more since
+missed_on kind n tried more since later le same all q low =
+    let one = all q low in (one.0, le_trans le one.1, subst (λ (z : List Failed). HasMissed z (kind q) one.0) (sym same) one.2)
+
+-- a cause of a part of a call, after which the pass had no further failed step and saw no further change, is one of the call
+pub cause_on : (layout : Layout) (k j h i : PassView) (fault : TryFault) → k.steps ≤ j.steps → length k.front ≤ length j.front → i.failed ≡ h.failed → i.front ≡ h.front →
+    IsCause layout j h fault → IsCause layout k i fault
+cause_on layout k j h i Busy steps fronts failed front (inl met) = inl (record {
+  target = met.target;
+  failed = met.failed;
+  is = subst (λ (z : List Failed). Contains z met.failed) (sym failed) met.is;
+  place = met.place;
+  word = met.word;
+  now = le_trans steps met.now;
+})
+cause_on layout k j h i Busy steps fronts failed front (inr more) = inr (let l = ap length front in omega arith)
+cause_on layout k j h i FullNodes steps fronts failed front all = missed_on a_node layout.nodes h.failed i.failed k.steps j.steps steps failed all
+cause_on layout k j h i FullLeaves steps fronts failed front all = missed_on a_leaf layout.leaves h.failed i.failed k.steps j.steps steps failed all
+
+-- A part of a call that was not noted, and the rest of the call
+
+module _ (layout : Layout) (k j i : PassView) (first : IsUnnoted layout k j) (steps : k.steps ≤ j.steps) where
+  pub unnoted_then : IsUnnoted layout j i → IsUnnoted layout k i
+  unnoted_then n = record {
+    number = n.number ∙ first.number;
+    front = begins_on k.front j.front i.front first.front n.front;
+    notes = n.notes ∙ first.notes;
+    legal = n.legal;
+    makers = n.makers;
+  }
+
+  refused_then : (fault : TryFault) → IsRefused layout j i fault → IsRefused layout k i fault
+  refused_then fault r = record { unnoted = unnoted_then r.unnoted; cause = cause_on layout k j i i fault steps (longer j.front k.front first.front) refl refl r.cause }
+
+  noted_then : (call : Call) (reply : Reply) → IsNoted layout j i call reply → IsNoted layout k i call reply
+  noted_then call reply n = record {
+    on = record {
+      number = n.on.number ∙ first.number;
+      front = begins_on k.front j.front i.front first.front n.on.front;
+      fresh = begins_on k.front j.front i.fresh.front first.front n.on.fresh;
+      seen = n.on.seen;
+      now = (le_trans steps n.on.now.0, n.on.now.1);
+      makers = n.on.makers;
+    };
+    place = n.place;
+    notes = n.notes ∙ ap (λ (z : List Note). z ++ record { place = n.place; call = call; reply = reply } ∷ []) first.notes;
+    low = n.low;
+    high = n.high;
+    legal = n.legal;
+  }
+
+  pub outcome_then : (call : Call) (r : Result Reply TryFault) → IfOk r (IsNoted layout j i call) → IfErr r (IsRefused layout j i) → IfOk r (IsNoted layout k i call) × IfErr r (IsRefused layout k i)
+  outcome_then call (Ok reply) told refused = (noted_then call reply told, tt)
+  outcome_then call (Err fault) told refused = (tt, refused_then fault refused)
+
+-- A part that was refused, and a round of collection, together are not noted.
+module _ {G : Type 0} {table : TableView} {becomes : G → Event → G → Type 0} {nodes leaves : ℕ} (k : PassView) (b c : SeatView × G) (first : IsUnnoted table.layout k (pass_of b.0)) (steps : k.steps ≤ b.0.known.steps)
+    (settled : IsSettled b.0.known) (round : IsRound table becomes b c nodes leaves) where
+  pub round_later : k.steps ≤ c.0.known.steps
+  round_later = let s = ap (λ (z : Known). z.steps) round.does.rest in omega arith
+
+  pub then_collected : IsUnnoted table.layout k (pass_of c.0)
+  then_collected = unnoted_then table.layout k (pass_of b.0) (pass_of c.0) first steps (round_unnoted round settled)
+
+-- a call has not tried yet, or each try was refused
+abbrev pub HasWaited : Layout → PassView → PassView → Type 0
+HasWaited layout k j = (j ≡ k) ⊎ (IsUnnoted layout k j × (k.steps ≤ j.steps))
+
+-- it has been refused once more
+pub waited_on : (layout : Layout) (k j i : PassView) → HasWaited layout k j → IsUnnoted layout j i → j.steps ≤ i.steps → HasWaited layout k i
+waited_on layout k j i (inl none) next steps = inr (subst (λ (z : PassView). IsUnnoted layout z i × (z.steps ≤ i.steps)) none (next, steps))
+waited_on layout k j i (inr some) next steps = inr (unnoted_then layout k j i some.0 some.1 next, le_trans some.1 steps)
+
+-- the outcome of the last try is that of the call
+pub waited_out : (layout : Layout) (k j i : PassView) (call : Call) (r : Result Reply TryFault) → HasWaited layout k j → IfOk r (IsNoted layout j i call) → IfErr r (IsRefused layout j i) →
+    IfOk r (IsNoted layout k i call) × IfErr r (IsRefused layout k i)
+waited_out layout k j i call r (inl none) told refused =
+    (subst (λ (z : PassView). IfOk r (IsNoted layout z i call)) none told, subst (λ (z : PassView). IfErr r (IsRefused layout z i)) none refused)
+waited_out layout k j i call r (inr some) told refused = outcome_then layout k j i some.0 some.1 call r told refused
+
+-- the cause of an attempt is one by what contracts see
+cause_seen : (layout : Layout) (s t : SeatView) (fault : TryFault) → tries.IsCause layout s.known t.known fault → IsCause layout (pass_of s) (pass_of t) fault
+cause_seen layout s t Busy h = h
+cause_seen layout s t FullNodes h = h
+cause_seen layout s t FullLeaves h = h
+
+-- An attempt
+
+module _ {G : Type 0} (table : TableView) (becomes : G → Event → G → Type 0) where
+  -- steps that set and clear no pin leave it, and add no note
+  pin_stays : (acts : List Act) (a b : SeatView × G) → All LeavesPin acts → Runs table becomes acts a b → b.0.known.pin ≡ a.0.known.pin
+  pin_stays [] a b leave e = ap (λ (z : SeatView × G). z.0.known.pin) e
+  pin_stays (act ∷ acts) a b leave (m, s, more) =
+      pin_stays acts m b (All-tail LeavesPin act acts leave) more ∙ (act_leaves table.layout a.0.known m.0.known act s.event).pin (All-head LeavesPin act acts leave)
+
+  notes_stay : (acts : List Act) (a b : SeatView × G) → Runs table becomes acts a b → b.0.known.notes ≡ a.0.known.notes
+  notes_stay [] a b e = ap (λ (z : SeatView × G). z.0.known.notes) e
+  notes_stay (act ∷ acts) a b (m, s, more) = notes_stay acts m b more ∙ (act_leaves table.layout a.0.known m.0.known act s.event).notes
+
+  pub run_pinned : (a b : SeatView × G) → HasRun table becomes a b → IsSome a.0.known.pin → IsSome b.0.known.pin
+  run_pinned a b run pinned = subst IsSome (sym (pin_stays run.acts a b run.pinned run.steps)) pinned
+
+  pub run_same : (a b : SeatView × G) → HasRun table becomes a b → IsSame a.0 b.0
+  run_same a b run = runs_same table becomes run.acts a b run.steps
+
+-- A pass that was settled is pinned, makes an attempt, has nothing then, and clears its pin.
+module _ {G : Type 0} {table : TableView} {becomes : G → Event → G → Type 0} {a b c : SeatView × G} (d : SeatView × G) (settled : IsSettled a.0.known) (pins : Pins table becomes a b) (run : HasRun table becomes b c)
+    (loaded : HasLoadedRoot b.0.known c.0.known) (rest : IsAtRest c.0.known) where
+  pinned : b.0.known ≡ record a.0.known { pin = b.0.known.pin; round = b.0.known.round; steps = a.0.known.steps + 2 }
+  pinned = pins.1.rest
+
+  same_pass : b.0.known.pass ≡ a.0.known.pass
+  same_pass = ap (λ (z : Known). z.pass) pinned
+
+  same_front : b.0.known.front ≡ a.0.known.front
+  same_front = ap (λ (z : Known). z.front) pinned
+
+  counted : a.0.known.steps ≤ b.0.known.steps
+  counted = let s = ap (λ (z : Known). z.steps) pinned in omega arith
+
+  gone_on : HasGoneOn a.0.known c.0.known
+  gone_on = record {
+    pass = (run_same table becomes b c run).2 ∙ same_pass;
+    notes = notes_stay table becomes run.acts b c run.steps ∙ ap (λ (z : Known). z.notes) pinned;
+    own = rest.own;
+    locks = rest.locks;
+    anchor = rest.anchor;
+    front = begins_on a.0.known.front c.0.known.fresh.front c.0.known.front fresh loaded.new;
+    fresh = fresh;
+    now = le_trans counted loaded.from;
+  }
+    where
+      fresh : BeginsWith c.0.known.fresh.front a.0.known.front
+      fresh = subst (λ (z : List Change). BeginsWith c.0.known.fresh.front z) same_front loaded.old
+
+  others_since : (later : List Change) → OthersGoOn b.0.known.pass b.0.known.front later → OthersGoOn a.0.known.pass a.0.known.front later
+  others_since later h = subst (λ (z : ℕ × List Change). OthersGoOn z.0 z.1 later) (λ x. (same_pass x, same_front x)) h
+
+  quiet : OthersGoOn b.0.known.pass b.0.known.front c.0.known.front → HasLooked a.0.known c.0.known
+  quiet h = record { on = gone_on; others = others_since c.0.known.front h }
+
+  -- what the call leaves that had this outcome
+  abbrev Leaves : Call → Result Reply TryFault → Type 0
+  Leaves call r = (IfOk r (IsNoted table.layout (pass_of a.0) (pass_of d.0) call) × IfErr r (IsRefused table.layout (pass_of a.0) (pass_of d.0))) × IsSettled d.0.known
+
+  -- it found that nothing was to change
+  when_looked : (ask : Ask) (key : Key) (value : ℕ) (reply : Reply) → tries.HasLooked c.0.known ask key reply → OthersGoOn b.0.known.pass b.0.known.front c.0.known.front →
+      IsEvent table.layout ClearPin (notes_of {F = TryFault} (call_of ask key value) (Ok reply)) c.0.known d.0.known → Leaves (call_of ask key value) (Ok reply)
+  when_looked ask key value reply found h event =
+      let call = call_of ask key value in
+      let no = looked_quiet c.0.known ask key value reply found in
+      let silent : notes_of {F = TryFault} call (Ok reply) ≡ note_of call reply = ap (λ t k. record { place = place_by t call reply k; call = call; reply = reply } ∷ []) no in
+      let n =
+      noted table.layout call reply a.0 c.0.known d.0 settled (quiet h) (subst (λ s. IsEvent table.layout ClearPin s c.0.known d.0.known) silent event)
+      (looked_right c.0.known ask key value reply found) (λ p. no) in
+      ((n.0, tt), n.1)
+
+  -- it made its change
+  when_changed : (ask : Ask) (key : Key) (value : ℕ) (reply : Reply) (x : Change) (was : Option ℕ) → IsChangeOf b.0.known.pass ask key value reply x was → HasChanged b.0.known c.0.known x was →
+      IsEvent table.layout ClearPin (notes_of {F = TryFault} (call_of ask key value) (Ok reply)) c.0.known d.0.known → Leaves (call_of ask key value) (Ok reply)
+  when_changed ask key value reply x was is changed event =
+      let call = call_of ask key value in
+      let tells = change_told a.0.known.pass ask key value reply x was (subst (λ q. IsChangeOf q ask key value reply x was) same_pass is) in
+      let last : notes_of {F = TryFault} call (Ok reply) ≡ note_last call reply = ap (λ t k. record { place = place_by t call reply k; call = call; reply = reply } ∷ []) tells.changed in
+      let n =
+      change_noted table.layout call reply a.0 c.0.known d.0 x was changed.before settled gone_on (subst (λ s. IsEvent table.layout ClearPin s c.0.known d.0.known) last event)
+      (others_since changed.before changed.others) changed.front changed.fresh changed.was_held tells in
+      ((n.0, tt), n.1)
+
+  -- it was refused
+  when_refused : (call : Call) (fault : TryFault) → HasRefused table.layout b.0.known c.0.known fault → IsEvent table.layout ClearPin (notes_of call (Err fault)) c.0.known d.0.known → Leaves call (Err fault)
+  when_refused call fault h event = ((tt, record { unnoted = scan_refused a.0 d.0 settled (quiet h.others) event; cause = cause }), scan_settled a.0 d.0 settled (quiet h.others) event)
+    where
+      cause : IsCause table.layout (pass_of a.0) (pass_of d.0) fault
+      cause =
+          let l = ap length same_front in
+          cause_on table.layout (pass_of a.0) (pass_of b.0) (pass_of c.0) (pass_of d.0) fault counted (omega arith) (ap (λ (z : Known). z.failed) event.learned_is) (ap (λ (z : Known). z.front) event.learned_is)
+          (cause_seen table.layout b.0 c.0 fault h.cause)
+
+  -- whatever came of it
+  pub tried : (ask : Ask) (key : Key) (value : ℕ) (r : Result Reply TryFault) → IfOk r (HasAnswered b.0.known c.0.known ask key value) → IfErr r (HasRefused table.layout b.0.known c.0.known) →
+      StepsWith table becomes ClearPin (notes_of (call_of ask key value) r) c d → Leaves (call_of ask key value) r
+  tried ask key value (Ok reply) (inl looked) refused step = when_looked ask key value reply looked.0 looked.1 step.event
+  tried ask key value (Ok reply) (inr (x, was, is, changed)) refused step = when_changed ask key value reply x was is changed step.event
+  tried ask key value (Err fault) answered refused step = when_refused (call_of ask key value) fault refused step.event

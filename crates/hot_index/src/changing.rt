@@ -1,0 +1,138 @@
+//! A call that may change the index, on the seat of a pass and with its room: its attempts, and what is noted of them.
+
+ghost use Rattle.std.specs.Prelude.{◌+◌, ◌≡◌, ◌≢◌, ◌≤◌, List, Err, IfOk, IfErr, IsSome};
+ghost use Rattle.hot_model.specs.declared.Note.{Note};
+ghost use Rattle.rowex_core.specs.declared.event.Act.TheVariants.{ClearPin};
+ghost use Rattle.rowex_core.specs.declared.known.Known.{Known};
+ghost use Rattle.rowex_table.specs.Runs.{StepsWith};
+ghost use Rattle.rowex_table.specs.Seats.{IsPassOf, IsSeatOf};
+ghost use Rattle.rowex_writing.specs.Attempts.{call_of};
+ghost use Rattle.hot_index.specs.Answers.{IsNoted, IsRefused, fault_of};
+ghost use Rattle.hot_index.specs.Noting.{notes_of};
+ghost use Rattle.hot_index.specs.Counts.{once_steps, try_steps};
+ghost use Rattle.hot_index.specs.Passes.{IsSettled, pass_of};
+ghost use Rattle.hot_index.specs.Traces.{HasEnded};
+
+use crate::room::Room;
+use epochs::{collect_round, pin, unpin};
+use hot_model::Reply;
+use key_bits::Key;
+use rowex_core::{Gate, NoGate};
+use rowex_table::{HotTable, TableSeat};
+use rowex_writing::{Ask, Full, TryFault, attempt};
+use std::sync::Wait;
+use std::thread;
+
+/// Asks for a change, at most twice: where no record was free, it makes a round of collection before it tries again, and that
+/// answer stands.
+pub fn try_change<G: Gate>(
+    table: &HotTable,
+    seat: &mut TableSeat,
+    gate: &mut G,
+    room: &mut Room,
+    ask: Ask,
+    key: &Key,
+    value: u64,
+) -> Result<Reply, TryFault>
+    requires own { IsSeatOf table.now seat.old }
+    requires settled { IsSettled seat.old.known }
+    ensures own { IsSeatOf table.now seat.new }
+    ensures settled { IsSettled seat.new.known }
+    ensures later { seat.old.known.steps ≤ seat.new.known.steps }
+    ensures noted { IfOk result (IsNoted table.now.layout (pass_of seat.old) (pass_of seat.new) (call_of ask key.now value)) }
+    ensures refused { IfErr result (IsRefused table.now.layout (pass_of seat.old) (pass_of seat.new)) }
+    ensures leafless { ask ≡ Ask.Remove → result ≢ Err TryFault.FullLeaves }
+    ensures ended { HasEnded table.now G.becomes (notes_of (call_of ask key.now value) result) (seat.old, gate.old) (seat.new, gate.new) }
+    ensures few { seat.new.known.steps ≤ seat.old.known.steps + try_steps table.now.layout }
+{
+    match try_once(table, seat, gate, room, ask, key, value) {
+        Err(TryFault::FullNodes | TryFault::FullLeaves) => {
+            collect_round(table, seat, gate);
+            try_once(table, seat, gate, room, ask, key, value)
+        }
+        outcome => outcome,
+    }
+}
+
+/// Asks for a change until no other pass stands in its way.
+pub fn change<R: Wait>(
+    rt: &R,
+    table: &HotTable,
+    seat: &mut TableSeat,
+    room: &mut Room,
+    ask: Ask,
+    key: &Key,
+    value: u64,
+) -> Result<Reply, Full>
+    requires own { IsSeatOf table.now seat.old }
+    requires settled { IsSettled seat.old.known }
+    ensures own { IsSeatOf table.now seat.new }
+    ensures settled { IsSettled seat.new.known }
+    ensures noted { IfOk result (IsNoted table.now.layout (pass_of seat.old) (pass_of seat.new) (call_of ask key.now value)) }
+    ensures refused { IfErr result (λ full. IsRefused table.now.layout (pass_of seat.old) (pass_of seat.new) (fault_of full)) }
+    ensures leafless { ask ≡ Ask.Remove → result ≢ Err Full.Leaves }
+{
+    for _ in rt.forever() {
+        match try_change(table, seat, &mut NoGate, room, ask, key, value) {
+            Ok(reply) => return Ok(reply),
+            Err(TryFault::Busy) => thread::yield_now(),
+            Err(TryFault::FullNodes) => return Err(Full::Nodes),
+            Err(TryFault::FullLeaves) => return Err(Full::Leaves),
+        }
+    }
+    unreachable!()
+}
+
+/// Makes one attempt, with the pass pinned, and notes it where it was answered.
+fn try_once<G: Gate>(
+    table: &HotTable,
+    seat: &mut TableSeat,
+    gate: &mut G,
+    room: &mut Room,
+    ask: Ask,
+    key: &Key,
+    value: u64,
+) -> Result<Reply, TryFault>
+    requires own { IsSeatOf table.now seat.old }
+    requires settled { IsSettled seat.old.known }
+    ensures own { IsSeatOf table.now seat.new }
+    ensures settled { IsSettled seat.new.known }
+    ensures later { seat.old.known.steps ≤ seat.new.known.steps }
+    ensures noted { IfOk result (IsNoted table.now.layout (pass_of seat.old) (pass_of seat.new) (call_of ask key.now value)) }
+    ensures refused { IfErr result (IsRefused table.now.layout (pass_of seat.old) (pass_of seat.new)) }
+    ensures leafless { ask ≡ Ask.Remove → result ≢ Err TryFault.FullLeaves }
+    ensures ended { HasEnded table.now G.becomes (notes_of (call_of ask key.now value) result) (seat.old, gate.old) (seat.new, gate.new) }
+    ensures few { seat.new.known.steps ≤ seat.old.known.steps + once_steps table.now.layout }
+{
+    pin(table, seat, gate);
+    let outcome = attempt(
+        table,
+        seat,
+        gate,
+        &mut room.way,
+        &mut room.build,
+        ask,
+        key,
+        value,
+    );
+    end_try(table, seat, gate, ask, key, value, outcome);
+    outcome
+}
+
+/// Clears the pin at the end of an attempt for this call with this outcome. The note of an answered one comes with this step.
+fn end_try<G: Gate>(
+    table: &HotTable,
+    seat: &mut TableSeat,
+    gate: &mut G,
+    _ask: Ask,
+    _key: &Key,
+    _value: u64,
+    _outcome: Result<Reply, TryFault>,
+)
+    ghost said: { Known → List Note }
+    requires fits { IsPassOf table.now seat.old }
+    requires pinned { IsSome seat.old.known.pin }
+    ensures step { StepsWith table.now G.becomes ClearPin said (seat.old, gate.old) (seat.new, gate.new) }
+{
+    unpin(table, seat, gate);
+}

@@ -1,0 +1,40 @@
+//! Where a pass builds what it puts into the index.
+
+use arrayvec::ArrayVec;
+use insert_cases::Step;
+use record_words::Layout;
+use rowex_writing::{Build, MOST_NODES};
+use std::alloc::{AllocError, Global};
+
+/// The lists of a pass's changes. They are wide: they are made once, with the pass, and each change uses them again.
+#[derive(Drop)]
+pub struct Room {
+    /// The nodes on the way of the last search.
+    pub way: ArrayVec<Step, MOST_NODES>,
+    /// What the last change was made of, and where the next claims begin.
+    pub build: Build,
+}
+
+/// A room with empty lists for the pass of this number. Its claims begin at the pass's own part of the records, so that
+/// passes begin apart.
+pub fn new_room(alloc: Global, layout: Layout, number: u16) -> Result<Box<Room>, AllocError> {
+    let build = Build {
+        made: ArrayVec::new(),
+        gone: ArrayVec::new(),
+        next_node: first_claim(number, layout.passes, layout.nodes),
+        next_leaf: first_claim(number, layout.passes, layout.leaves),
+    };
+    let room = Room {
+        way: ArrayVec::new(),
+        build,
+    };
+    Ok(Box::new(alloc, room)?)
+}
+
+/// Where the claims of the pass of this number begin, of so many passes and records.
+fn first_claim(number: u16, passes: u32, records: u32) -> u32 {
+    let first = (u64::from(number) * u64::from(records))
+        .checked_div(u64::from(passes))
+        .unwrap_or(0);
+    u32::try_from(first).unwrap_or(0)
+}
