@@ -60,7 +60,8 @@ module _ (front : List Change) (from upto : List ℕ) where
   abbrev range : Map
   range = range_of m from upto
 
-  rising : IsRising range
+  -- the keys of a range rise
+  pub rising : IsRising range
   rising = subst (IsStrictlySortedBy key_order) (sym (keys_of-filter (is_within from upto) m)) (IsStrictlySortedBy-filter key_order (is_within from upto) (keys_of m) (map_of-rising front))
 
   within : All (λ e. IsTrue (is_within from upto e.0)) range

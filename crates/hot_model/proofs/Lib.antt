@@ -6,7 +6,9 @@ pub mod Held
 pub mod Growth
 pub mod Legal
 pub mod Weaving
+pub mod Alone
 pub mod AtOnce
+pub mod Firsts
 pub mod Deciding
 pub mod InOrder
 pub mod Together

@@ -1,8 +1,9 @@
 -- The laws of histories, as the functions of the module `laws` promise them.
-use Rattle.std.specs.Prelude.{◌≡◌, ◌≢◌, ℕ, List, ◌++◌}
+use Rattle.std.specs.Prelude.{◌≡◌, ◌≢◌, ℕ, List, [], ◌++◌, All, map}
 use Rattle.hot_model.specs.declared.Change.{Change}
 use Rattle.hot_model.specs.declared.Note.{Note}
 use Rattle.hot_model.specs.declared.Scan.{Scan}
+use Rattle.hot_model.specs.Maps.{Map, replies_of, map_after_all}
 use Rattle.hot_model.specs.Fronts.{map_of, LegalFront, OthersGoOn}
 use Rattle.hot_model.specs.Calls.{LegalCalls}
 use Rattle.hot_model.specs.Weaves.{LegalHistory, weave, notes_of, AllLegal, calls_in, calls_of, AreWoven, CallsAreWoven}
@@ -41,3 +42,17 @@ ScansAtOnce =
 -- The weave of one pass's legal calls has each of them once, in the order in which the pass made them.
 abbrev pub InOrder : Type 0
 InOrder = (front : List Change) (q : ℕ) (notes : List Note) → LegalCalls front q notes → calls_in (weave front notes) ≡ calls_of notes
+
+-- The scan of a front that stays as it is gives the first pairs of its map's range, and says whether there is a further one.
+abbrev pub StillScans : Type 0
+StillScans =
+    (front : List Change) (from upto : List ℕ) (limit : ℕ) (scan : Scan) → IsLawfulScan front front from upto limit scan → IsScanOf (map_of front) from upto limit scan
+
+-- The calls of the notes, one after the other from the map m, have the notes' replies and lead to the map n.
+pub record IsRun (m : Map) (notes : List Note) (n : Map) : Type 0 where
+  pub replies : map (λ x. x.reply) notes ≡ replies_of m (map (λ x. x.call) notes)
+  pub map : n ≡ map_after_all m (map (λ x. x.call) notes)
+
+-- The legal calls of a pass that made all changes of the front are a run of the finite map, from the empty one on.
+abbrev pub Alone : Type 0
+Alone = (front : List Change) (q : ℕ) (notes : List Note) → LegalCalls front q notes → All (λ c. c.pass ≡ q) front → IsRun [] notes (map_of front)

@@ -1,5 +1,5 @@
 //! Laws of histories, over their definitions alone. The functions do nothing: their contracts are the laws.
-ghost use Rattle.hot_model.specs.Statements.{InOrder, Longer, Woven, WovenTwo, WovenInOrder, WovenInOrderTwo, ScansAtOnce};
+ghost use Rattle.hot_model.specs.Statements.{InOrder, Longer, Woven, WovenTwo, WovenInOrder, WovenInOrderTwo, ScansAtOnce, StillScans, Alone};
 
 /// A pass's calls stay legal while other passes make changes.
 pub fn longer()
@@ -21,6 +21,16 @@ pub fn woven_in_order()
 /// The first pairs of a map's range are a lawful scan while nothing changes.
 pub fn scans_at_once()
     ensures { ScansAtOnce }
+{}
+
+/// A lawful scan while nothing changes gives the first pairs of the map's range.
+pub fn still_scans()
+    ensures { StillScans }
+{}
+
+/// The legal calls of a pass that made all changes are a run of the finite map, one call after the other.
+pub fn alone()
+    ensures { Alone }
 {}
 
 /// A pass's legal calls stand in their weave each once, in the order in which the pass made them.
