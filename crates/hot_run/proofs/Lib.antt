@@ -1,4 +1,5 @@
 -- The lemmas of the crate.
+pub mod Alone
 pub mod Answering
 pub mod Commands
 pub mod Cuts

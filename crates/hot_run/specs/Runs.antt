@@ -1,37 +1,91 @@
--- What an engine answers to commands, and what a run reads, writes and answers.
-use Rattle.std.specs.Prelude.{◌≡◌, ℕ, ◌<◌, ◌++◌, List, [], ◌∷◌, length, Bool, true, Option, Result, Ok, Err, IsOk, Vec, codes}
+-- What an index with one pass answers to commands, and what a run reads, writes and answers.
+use Rattle.std.specs.Prelude.{◌≡◌, ℕ, ◌<◌, ◌≤◌, ◌++◌, List, [], ◌∷◌, length, map, All, Option, None, Some, Result, Ok, Err, IsOk, Vec, codes}
 use Rattle.std.specs.Io.KnownBytes.{Consumes, IsAtEnd}
 use Rattle.hot_model.specs.declared.Call.{Call}
+use Rattle.hot_model.specs.declared.Call.TheVariants.{Insert, Upsert, Get, Remove}
+use Rattle.hot_model.specs.declared.Reply.{Reply as Replied}
+use Rattle.hot_model.specs.Calls.{LegalCalls}
 use Rattle.hot_model.specs.Maps.{Map, map_after, reply_of}
+use Rattle.rowex_table.specs.Seats.{TableView}
+use Rattle.rowex_writing.specs.declared.plan.Full.{Full}
+use Rattle.rowex_writing.specs.declared.plan.Full.TheVariants.{Nodes, Leaves}
+use Rattle.hot_index.specs.Passes.{PassView, AreByPasses}
 use Rattle.hot_run.specs.declared.command.Command.{Command}
 use Rattle.hot_run.specs.declared.command.Command.TheVariants.{Call as Asks, Scan}
 use Rattle.hot_run.specs.declared.engine.Answer.{Answer}
-use Rattle.hot_run.specs.declared.engine.Answer.TheVariants.{Reply, Full}
-use Rattle.hot_run.specs.declared.engine.Arena.TheVariants.{Nodes, Leaves}
+use Rattle.hot_run.specs.declared.engine.Answer.TheVariants.{Reply, Full as Refused}
 use Rattle.hot_run.specs.declared.fault.Reason.{Reason}
 use Rattle.hot_run.specs.declared.fault.RunFault.{RunFault}
 use Rattle.hot_run.specs.declared.fault.RunFault.TheVariants.{Read, Write, Memory, Script, Large}
-use Rattle.hot_run.specs.Grammar.{most_bytes}
+use Rattle.hot_run.specs.Grammar.{commands_of, most_bytes}
 use Rattle.hot_run.specs.Meaning.{line, reply_text, scan_text, script_meaning}
 
--- an answer to a call is the map's reply, or, of an engine with arenas, that one is full, and then the map stays
-abbrev pub IsAnswer : Bool → Map → Call → Map → Answer → Type 0
-IsAnswer has_arenas old call new (Reply reply) = (reply ≡ reply_of old call) × (new ≡ map_after old call)
-IsAnswer has_arenas old call new (Full arena) = (has_arenas ≡ true) × (new ≡ old)
+-- The index has one pass, and this is it: all that it knows of are its own changes, and its calls are legal.
+pub record IsAlone (index : TableView) (pass : PassView) : Type 0 where
+  pub one : index.layout.passes ≡ 1
+  pub number : pass.number ≡ 0
+  pub makers : AreByPasses index.layout pass.front
+  pub legal : LegalCalls pass.front pass.number pass.notes
+
+-- the records of this kind may all be taken when this call asks for one
+abbrev pub MayLack : Call → Full → Type 0
+MayLack (Insert key value) full = Unit {0}
+MayLack (Upsert key value) full = Unit {0}
+MayLack (Get key) full = ⊥
+MayLack (Remove key) Nodes = Unit {0}
+MayLack (Remove key) Leaves = ⊥
+
+-- an answer to a call is the map's reply, or that records were lacking, and then the map stays
+abbrev pub IsAnswer : Map → Call → Map → Answer → Type 0
+IsAnswer old call new (Reply reply) = (reply ≡ reply_of old call) × (new ≡ map_after old call)
+IsAnswer old call new (Refused full) = MayLack call full × (new ≡ old)
+
+-- what a call that may find no room is answered
+abbrev pub answer_of : Result Replied Full → Answer
+answer_of (Ok reply) = Reply reply
+answer_of (Err full) = Refused full
+
+abbrev pub full_text : Full → List ℕ
+full_text Nodes = codes "full nodes"
+full_text Leaves = codes "full leaves"
 
 abbrev pub answer_text : Answer → List ℕ
 answer_text (Reply reply) = reply_text reply
-answer_text (Full Nodes) = codes "full nodes"
-answer_text (Full Leaves) = codes "full leaves"
+answer_text (Refused full) = full_text full
 
--- the text has an engine's answers to the commands, each on the map that the earlier ones left, m at first
-abbrev pub Answers : Bool → Map → List Command → List ℕ → Type 0
-Answers has_arenas m [] text = text ≡ []
-Answers has_arenas m (Asks call ∷ commands) text =
-    (answer : Answer) × (after : Map) × (rest : List ℕ) × IsAnswer has_arenas m call after answer
-    × (text ≡ line (answer_text answer) ++ rest) × Answers has_arenas after commands rest
-Answers has_arenas m (Scan range ∷ commands) text =
-    (rest : List ℕ) × (text ≡ scan_text m range ++ rest) × Answers has_arenas m commands rest
+-- a command of a run, and which records were lacking, if it was refused for that
+abbrev pub Told : Type 0
+Told = Command × Option Full
+
+-- only a call that wants records may be refused
+abbrev pub MayBeTold : Told → Type 0
+MayBeTold (command, None) = Unit {0}
+MayBeTold (Asks call, Some full) = MayLack call full
+MayBeTold (Scan range, Some full) = ⊥
+
+-- The answers to commands, on the map as each finds it: a refusal leaves it as it was, so that the others are answered as if the
+-- refused commands weren't there.
+abbrev pub text_told : Map → List Told → List ℕ
+text_told m [] = []
+text_told m ((command, Some full) ∷ told) = line (full_text full) ++ text_told m told
+text_told m ((Asks call, None) ∷ told) = line (reply_text (reply_of m call)) ++ text_told (map_after m call) told
+text_told m ((Scan range, None) ∷ told) = scan_text m range ++ text_told m told
+
+-- the text has the answers to the commands, each on the map that the earlier ones left, m at first
+pub record Answers (m : Map) (commands : List Command) (text : List ℕ) : Type 0 where
+  pub told : List Told
+  pub commands_are : map (λ t. t.0) told ≡ commands
+  pub refusals : All MayBeTold told
+  pub text_is : text ≡ text_told m told
+
+-- The text answers the script, from the empty map on: it is what the script means, if no command was refused.
+pub record IsAnswered (script text : List ℕ) : Type 0 where
+  pub short : length script ≤ most_bytes
+  pub told : List Told
+  pub commands : commands_of script ≡ Ok (map (λ t. t.0) told)
+  pub refusals : All MayBeTold told
+  pub text_is : text ≡ text_told [] told
+  pub meaning : All (λ t. t.1 ≡ None) told → script_meaning script ≡ Ok text
 
 -- the script is all that a reader had left, and it has nothing left now
 abbrev pub TakesAll : Option (List ℕ) → Option (List ℕ) → List ℕ → Type 0

@@ -4,7 +4,8 @@ ghost use Rattle.std.specs.Prelude.{◌≡◌, ◌++◌, OnOk, string_bytes};
 ghost use Rattle.hot_run.specs.Meaning.{key_text, line, pair_line, scan_lines};
 ghost use Rattle.hot_run.specs.Runs.{answer_text};
 
-use crate::engine::{Answer, Arena};
+use crate::engine::Answer;
+use hot_index::Full;
 use hot_model::{Reply, Scan};
 use key_bits::Key;
 use std::alloc::{AllocError, Global};
@@ -21,8 +22,8 @@ pub fn push_answer(text: &mut String, answer: Answer) -> Result<(), AllocError>
         Answer::Reply(Reply::Value(value)) => write!(text, "value {value}\n"),
         Answer::Reply(Reply::Absent) => text.push_str("none\n"),
         Answer::Reply(Reply::Removed(value)) => write!(text, "removed {value}\n"),
-        Answer::Full(Arena::Nodes) => text.push_str("full nodes\n"),
-        Answer::Full(Arena::Leaves) => text.push_str("full leaves\n"),
+        Answer::Full(Full::Nodes) => text.push_str("full nodes\n"),
+        Answer::Full(Full::Leaves) => text.push_str("full leaves\n"),
     }
 }
 

@@ -1,92 +1,84 @@
-//! What answers the commands.
+//! What answers the commands: the only pass of an index.
 
-ghost use Rattle.std.specs.Prelude.{◌≡◌, Bool, false, IfOk, string_bytes};
-ghost use Rattle.hot_model.specs.Maps.{Map};
-ghost use Rattle.hot_model.specs.Scans.{IsScanOf};
-ghost use Rattle.hot_run.specs.Runs.{IsAnswer, Answers};
+ghost use Rattle.std.specs.Prelude.{◌≡◌, IfOk, string_bytes};
+ghost use Rattle.hot_model.specs.Fronts.{map_of};
+ghost use Rattle.hot_index.specs.Answers.{got};
+ghost use Rattle.hot_index.specs.Passes.{Owns};
+ghost use Rattle.hot_run.specs.Runs.{Answers, IsAlone, IsAnswer, answer_of};
 
 use crate::answer::{push_answer, push_scan};
 use crate::command::Command;
-use hot_model::{Call, PlainIndex, Reply, Scan};
-use key_bits::Key;
+use hot_index::{Full, Index, Pass};
+use hot_model::{Call, Reply};
 use std::alloc::{AllocError, Global};
+use std::sync::Wait;
 
-/// The arenas that may be full.
-#[derive(Clone, Copy, Debug, PartialEq, Eq)]
-pub enum Arena {
-    Nodes,
-    Leaves,
-}
-
-/// What an engine answers to a call.
+/// What a call is answered.
 #[derive(Clone, Copy, Debug, PartialEq, Eq)]
 pub enum Answer {
+    /// What the map answers.
     Reply(Reply),
-    Full(Arena),
+    /// There was no room for the call, which did nothing.
+    Full(Full),
 }
 
-/// An ordered map that answers calls.
-pub trait Engine {
-    // The map that it holds.
-    ghost map: { Self → Map };
-
-    // Whether it has arenas, which may be full.
-    ghost has_arenas: { Bool };
-
-    /// Answers a call. The answer `Full` leaves the map as it was.
-    fn apply(&mut self, call: Call) -> Result<Answer, AllocError>
-        ensures { IfOk result (IsAnswer has_arenas (map self.old) call (map self.new)) };
-
-    /// The first `limit` pairs of the keys from `from` to `upto`.
-    fn scan(
-        &mut self,
-        alloc: Global,
-        from: &Key,
-        upto: &Key,
-        limit: usize,
-    ) -> Result<Scan, AllocError>
-        ensures found { IfOk result (IsScanOf (map self.old) from.now upto.now limit) }
-        ensures same { map self.new ≡ map self.old };
-}
-
-impl Engine for PlainIndex {
-    ghost map = { λ index. index };
-
-    ghost has_arenas = { false };
-
-    fn apply(&mut self, call: Call) -> Result<Answer, AllocError> {
-        let reply = PlainIndex::apply(self, call)?;
-        Ok(Answer::Reply(reply))
-    }
-
-    fn scan(
-        &mut self,
-        alloc: Global,
-        from: &Key,
-        upto: &Key,
-        limit: usize,
-    ) -> Result<Scan, AllocError> {
-        PlainIndex::scan(self, alloc, from, upto, limit)
+/// What a call that may find no room is answered.
+fn answer_of(outcome: Result<Reply, Full>) -> Answer
+    ensures { result ≡ answer_of outcome }
+{
+    match outcome {
+        Ok(reply) => Answer::Reply(reply),
+        Err(full) => Answer::Full(full),
     }
 }
 
-/// The answers to the commands, one after another.
-pub fn run<E: Engine>(
+/// The reply to a get that found this.
+fn reply_of(found: Option<u64>) -> Reply
+    ensures { result ≡ got found }
+{
+    match found {
+        Some(value) => Reply::Value(value),
+        None => Reply::Absent,
+    }
+}
+
+/// Makes a call on an index that has no other pass.
+fn make_call<T: Wait>(rt: &T, index: &Index, pass: &mut Pass, call: Call) -> Answer
+    requires own { Owns index.now pass.old }
+    requires alone { IsAlone index.now pass.old }
+    ensures own { Owns index.now pass.new }
+    ensures alone { IsAlone index.now pass.new }
+    ensures answer { IsAnswer (map_of pass.old.front) call (map_of pass.new.front) result }
+{
+    match call {
+        Call::Insert(key, value) => answer_of(index.insert(rt, pass, &key, value)),
+        Call::Upsert(key, value) => answer_of(index.upsert(rt, pass, &key, value)),
+        Call::Get(key) => Answer::Reply(reply_of(index.get(pass, &key))),
+        Call::Remove(key) => answer_of(index.remove(rt, pass, &key)),
+    }
+}
+
+/// The answers to the commands, one after another, of an index that has no other pass.
+pub fn run<T: Wait>(
+    rt: &T,
     alloc: Global,
-    engine: &mut E,
+    index: &Index,
+    pass: &mut Pass,
     commands: Vec<Command>,
 ) -> Result<String, AllocError>
-    ensures { IfOk result (λ text. Answers E.has_arenas (E.map engine.old) commands.items (string_bytes text)) }
+    requires own { Owns index.now pass.old }
+    requires alone { IsAlone index.now pass.old }
+    ensures { IfOk result (λ text. Answers (map_of pass.old.front) commands.items (string_bytes text)) }
 {
     let mut text = String::new(alloc);
     for command in commands {
         match command {
             Command::Call(call) => {
-                let answer = engine.apply(call)?;
+                let answer = make_call(rt, index, pass, call);
                 push_answer(&mut text, answer)?;
             }
             Command::Scan(range) => {
-                let scan = engine.scan(alloc, &range.from, &range.upto, range.limit)?;
+                let scan = index.scan(alloc, pass, &range.from, &range.upto, range.limit)?;
                 push_scan(alloc, &mut text, &scan)?;
             }
         }

@@ -1,11 +1,11 @@
 //! Scripts of commands on an ordered index: their grammar, their answers and their run.
 #![tactic(auto)]
 
-ghost use Rattle.std.specs.Prelude.{◌≡◌, ◌≢◌, ◌≤◌, ◌<◌, List, ℕ, Ok, OnOk, IfErr};
+ghost use Rattle.std.specs.Prelude.{◌≡◌, ◌≢◌, List, ℕ, [], IfOk, OnOk, IfErr};
 ghost use Rattle.std.specs.Io.KnownBytes.{Appends};
 ghost use Rattle.record_words.specs.Limits.{IsLeafCount, IsNodeCount};
-ghost use Rattle.hot_run.specs.Meaning.{script_meaning};
-ghost use Rattle.hot_run.specs.Runs.{TakesAll, MayEndBy};
+ghost use Rattle.hot_index.specs.Passes.{Owns};
+ghost use Rattle.hot_run.specs.Runs.{IsAlone, IsAnswered, TakesAll, MayEndBy};
 
 mod answer;
 mod command;
@@ -17,14 +17,16 @@ mod streams;
 mod word;
 
 pub use fault::{Reason, RunFault};
-use hot_model::PlainIndex;
+use hot_index::{Index, IndexFault, Pass, create};
 pub use record_words::{MAX_LEAVES, MAX_NODES};
 pub use script::MAX_SCRIPT;
 use std::alloc::Global;
 use std::io::{Read, Write};
+use std::sync::Wait;
 
-/// Runs one script on an empty index.
-pub fn run_one<R: Read, W: Write>(
+/// Runs one script on a new index of so many node and leaf records, which has one pass.
+pub fn run_one<T: Wait, R: Read, W: Write>(
+    rt: &T,
     alloc: Global,
     nodes: u32,
     leaves: u32,
@@ -34,10 +36,10 @@ pub fn run_one<R: Read, W: Write>(
     requires nodes { IsNodeCount nodes }
     requires leaves { IsLeafCount leaves }
 
-    // What was written is what the script means, and nothing else.
+    // What was written are the answers to the script, and nothing else: what it means, where no arena was full.
     ensures ok { OnOk result ((script : List ℕ) × (text : List ℕ)
         × TakesAll (R.remaining reader.old) (R.remaining reader.new) script
-        × (script_meaning script ≡ Ok text)
+        × IsAnswered script text
         × Appends (W.contents writer.old) (W.contents writer.new) text) }
 
     // A fault of the script's own is what the script means.
@@ -48,9 +50,29 @@ pub fn run_one<R: Read, W: Write>(
 {
     let bytes = streams::read_script(alloc, reader)?;
     let commands = script::parse(alloc, &bytes)?;
-    let mut index = PlainIndex::new(alloc);
-    let text = engine::run(alloc, &mut index, commands)?;
+    let (index, mut pass) = new_index(alloc, nodes, leaves)?;
+    let text = engine::run(rt, alloc, &index, &mut pass, commands)?;
     streams::write_answers(writer, text.as_str())
+}
+
+/// An empty index, and its only pass.
+fn new_index(alloc: Global, nodes: u32, leaves: u32) -> Result<(Index, Pass), RunFault>
+    requires nodes { IsNodeCount nodes }
+    requires leaves { IsLeafCount leaves }
+    ensures own { IfOk result (λ made. Owns made.0 made.1) }
+    ensures alone { IfOk result (λ made. IsAlone made.0 made.1) }
+    ensures empty { IfOk result (λ made. made.1.front ≡ []) }
+    ensures fault { IfErr result (λ fault. fault ≡ RunFault.Memory) }
+{
+    let (index, mut passes) = match create(alloc, 1, nodes, leaves) {
+        Ok(made) => made,
+        Err(IndexFault::Memory) => return Err(RunFault::Memory),
+        Err(IndexFault::Layout(_)) => unreachable!(),
+    };
+    match passes.pop() {
+        Some(pass) => Ok((index, pass)),
+        None => unreachable!(),
+    }
 }
 
 #[cfg(test)]

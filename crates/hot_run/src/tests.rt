@@ -7,10 +7,10 @@ use std::test::Fail;
 const LIMITS: (u32, u32) = (16, 128);
 
 /// What a run of the script writes.
-fn answers(alloc: Global, script: &[u8]) -> Result<Vec<u8>, RunFault> {
+fn answers<T: Wait>(rt: &T, alloc: Global, script: &[u8]) -> Result<Vec<u8>, RunFault> {
     let mut out = Vec::new(alloc);
     let mut reader = script;
-    run_one(alloc, LIMITS.0, LIMITS.1, &mut reader, &mut out)?;
+    run_one(rt, alloc, LIMITS.0, LIMITS.1, &mut reader, &mut out)?;
     Ok(out)
 }
 
@@ -47,8 +47,33 @@ fn answers_of_scripts(rt: HostRuntime) -> Result<(), Fail> {
         ),
     ];
     for (script, want) in cases {
-        let got = answers(rt.alloc(), script.as_bytes())?;
+        let got = answers(&rt, rt.alloc(), script.as_bytes())?;
         assert!(rt; got.as_slice() == want.as_bytes(), "{script}");
+    }
+    Ok(())
+}
+
+#[test]
+fn answers_without_room(rt: HostRuntime) -> Result<(), Fail> {
+    let cases: [(u32, u32, &str, &str); 2] = [
+        (
+            1,
+            1,
+            "insert 61 5\ninsert 62 6\nget 61\nget 62\nscan - ff 9\n",
+            "inserted\nfull leaves\nvalue 5\nnone\npair 61 5\nend 1\n",
+        ),
+        (
+            1,
+            3,
+            "insert 61 5\ninsert 62 6\ninsert 63 7\nget 62\nscan 62 ff 9\n",
+            "inserted\ninserted\nfull nodes\nvalue 6\npair 62 6\nend 1\n",
+        ),
+    ];
+    for (nodes, leaves, script, want) in cases {
+        let mut out = Vec::new(rt.alloc());
+        let mut reader = script.as_bytes();
+        run_one(&rt, rt.alloc(), nodes, leaves, &mut reader, &mut out)?;
+        assert!(rt; out.as_slice() == want.as_bytes(), "{script}");
     }
     Ok(())
 }
@@ -82,7 +107,7 @@ fn first_bad_lines(rt: HostRuntime) {
         ("# hot 2\n\nupsert 6 x\n", 3, Reason::Key),
     ];
     for (script, line, reason) in cases {
-        let got = answers(rt.alloc(), script.as_bytes());
+        let got = answers(&rt, rt.alloc(), script.as_bytes());
         let want = RunFault::Script { line, reason };
         assert!(rt; matches!(&got, Err(fault) if *fault == want), "{script}");
     }
@@ -109,12 +134,12 @@ fn digits_of_both_versions(rt: HostRuntime) -> Result<(), Fail> {
         script.extend_from_slice(first.as_bytes())?;
         push_line(&mut script, "insert ", digits, " 1\n")?;
         push_line(&mut script, "get ", digits, "\n")?;
-        let got = answers(rt.alloc(), &script)?;
+        let got = answers(&rt, rt.alloc(), &script)?;
         assert!(rt; got.as_slice() == b"inserted\nvalue 1\n".as_slice());
         push_line(&mut script, "scan - ", digits, " 1")?;
         let mut want = Vec::from_slice(rt.alloc(), b"inserted\nvalue 1\n")?;
         push_line(&mut want, "pair ", digits, " 1\nend 1\n")?;
-        let got = answers(rt.alloc(), &script)?;
+        let got = answers(&rt, rt.alloc(), &script)?;
         assert!(rt; got.as_slice() == want.as_slice());
         let mut long = Vec::new(rt.alloc());
         long.extend_from_slice(first.as_bytes())?;
@@ -123,7 +148,7 @@ fn digits_of_both_versions(rt: HostRuntime) -> Result<(), Fail> {
             line,
             reason: Reason::Key,
         };
-        assert!(rt; matches!(answers(rt.alloc(), &long), Err(fault) if fault == want));
+        assert!(rt; matches!(answers(&rt, rt.alloc(), &long), Err(fault) if fault == want));
     }
     Ok(())
 }
@@ -173,7 +198,7 @@ fn reads_that_fail(rt: HostRuntime) -> Result<(), Fail> {
             reads,
         };
         let mut out = Vec::new(rt.alloc());
-        let got = run_one(rt.alloc(), 1, 1, &mut reader, &mut out);
+        let got = run_one(&rt, rt.alloc(), 1, 1, &mut reader, &mut out);
         if reads < 10 {
             assert!(rt; got == Err(RunFault::Read));
             assert!(rt; out.is_empty());
@@ -188,12 +213,13 @@ fn reads_that_fail(rt: HostRuntime) -> Result<(), Fail> {
 #[test]
 fn scripts_of_the_greatest_length(rt: HostRuntime) -> Result<(), Fail> {
     let mut script = vec![in rt.alloc(); b'\n'; MAX_SCRIPT]?;
-    let got = answers(rt.alloc(), &script)?;
+    let got = answers(&rt, rt.alloc(), &script)?;
     assert!(rt; got.is_empty());
     script.push(b'\n')?;
-    assert!(rt; matches!(answers(rt.alloc(), &script), Err(RunFault::Large)));
+    assert!(rt; matches!(answers(&rt, rt.alloc(), &script), Err(RunFault::Large)));
     let mut out = Vec::new(rt.alloc());
     let got = run_one(
+        &rt,
         rt.alloc(),
         MAX_NODES,
         MAX_LEAVES,
@@ -239,7 +265,7 @@ fn writes_that_fail(rt: HostRuntime) -> Result<(), Fail> {
             writes,
         };
         let mut reader = b"get 61".as_slice();
-        let got = run_one(rt.alloc(), 1, 1, &mut reader, &mut writer);
+        let got = run_one(&rt, rt.alloc(), 1, 1, &mut reader, &mut writer);
         assert!(rt;
             got == (if writes < 4 {
                 Err(RunFault::Write)

@@ -11,6 +11,7 @@ use std::io;
 use std::io::ErrorKind;
 use std::process::ExitCode;
 use std::rt::Env;
+use std::sync::Wait;
 
 /// The words of the command line, the program's name first.
 fn words<R: Env + AllocGlobal>(rt: &R) -> Result<Vec<String>, Ending> {
@@ -22,12 +23,13 @@ fn words<R: Env + AllocGlobal>(rt: &R) -> Result<Vec<String>, Ending> {
 }
 
 /// Answers standard input on standard output.
-fn run<R: Env + Input + Print + AllocGlobal>(rt: &R) -> Result<(), Ending> {
+fn run<R: Env + Input + Print + AllocGlobal + Wait>(rt: &R) -> Result<(), Ending> {
     let words = words(rt)?;
     let sizes = arguments::parse(rt.alloc(), words.as_slice())?;
     let mut reader = rt.reader();
     let mut writer = io::writer(rt);
     run_one(
+        rt,
         rt.alloc(),
         sizes.nodes,
         sizes.leaves,

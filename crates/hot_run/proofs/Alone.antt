@@ -1,0 +1,113 @@
+-- What the only pass of an index knows: the map of its front is the one that its calls lead to.
+use Rattle.std.proofs.Common.{◌≡◌, ◌≢◌, ℕ, ◌<◌, List, [], ◌∷◌, ◌++◌, map, Result, Ok, Err, refl, sym, ap, subst, ◌∙◌, arith}
+use Rattle.std.specs.List.{All}
+use Rattle.std.specs.Result.{MatchResult}
+use Rattle.std.proofs.lemmas.List.{map-append, append_cancel_left}
+use Rattle.std.proofs.lemmas.List.Elements.{All-nil}
+use Rattle.hot_model.specs.declared.Call.{Call}
+use Rattle.hot_model.specs.declared.Call.TheVariants.{Remove}
+use Rattle.hot_model.specs.declared.Note.{Note}
+use Rattle.hot_model.specs.declared.Reply.{Reply as Replied}
+use Rattle.hot_model.specs.declared.Scan.{Scan}
+use Rattle.hot_model.specs.Calls.{changes_of}
+use Rattle.hot_model.specs.Fronts.{map_of, BeginsWith}
+use Rattle.hot_model.specs.Maps.{reply_of, replies_of, map_after, map_after_all}
+use Rattle.hot_model.specs.Scans.{IsScanOf, IsLawfulScan}
+use Rattle.hot_model.specs.Statements.{IsRun}
+use Rattle.hot_model.proofs.Alone.{alone-run, own_changes-all}
+use Rattle.hot_model.proofs.Firsts.{lawful-scan_of}
+use Rattle.hot_model.proofs.Growth.{begins_same}
+use Rattle.hot_model.proofs.Legal.{legal_at_first}
+use Rattle.hot_model.proofs.Steps.{map_after_all-push, replies_of-push}
+use Rattle.rowex_table.specs.Seats.{TableView}
+use Rattle.rowex_writing.specs.declared.plan.Full.{Full}
+use Rattle.rowex_writing.specs.declared.plan.Full.TheVariants.{Nodes, Leaves}
+use Rattle.hot_index.specs.Answers.{IsNoted, IsRefused, IsScanned, IsUnnoted, fault_of}
+use Rattle.hot_index.specs.Passes.{PassView, IsNewPass}
+use Rattle.hot_run.specs.Runs.{IsAlone, IsAnswer, MayLack, answer_of}
+
+one_value : (x y : Replied) → x ∷ [] ≡ y ∷ [] → x ≡ y
+one_value x y e = cc
+
+module _ (index : TableView) where
+  -- all changes are the pass's own
+  own : (p : PassView) → IsAlone index p → All (λ c. c.pass ≡ p.number) p.front
+  own p h k d l = let below = h.makers k d l in omega (arith, below, h.one, h.number)
+
+  run_of : (p : PassView) → IsAlone index p → IsRun [] p.notes (map_of p.front)
+  run_of p h = alone-run p.front p.number p.notes h.legal (own p h)
+
+  -- the changes are those that its notes tell of
+  front_of : (p : PassView) → IsAlone index p → p.front ≡ changes_of 0 p.notes
+  front_of p h = sym (own_changes-all p.number p.front (own p h)) ∙ h.legal.own ∙ ap (λ q. changes_of q p.notes) h.number
+
+  -- a pass that has made no call
+  pub alone_at_first : (p : PassView) → index.layout.passes ≡ 1 → IsNewPass 0 p → IsAlone index p
+  alone_at_first p one new = record {
+    one = one;
+    number = new.0;
+    makers = rw new.1 (All-nil (λ x. x.pass < index.layout.passes));
+    legal = rw (new.1, new.2) (legal_at_first p.number);
+  }
+
+  module _ (k j : PassView) (h : IsAlone index k) where
+    -- after an answered call
+    pub alone_noted : (call : Call) (reply : Replied) → IsNoted index.layout k j call reply → IsAlone index j
+    alone_noted call reply n = record { one = h.one; number = n.on.number ∙ h.number; makers = n.on.makers; legal = n.legal }
+
+    -- the call was answered as the map answers
+    pub replied_alone : (call : Call) (reply : Replied) → IsNoted index.layout k j call reply →
+        (reply ≡ reply_of (map_of k.front) call) × (map_of j.front ≡ map_after (map_of k.front) call)
+    replied_alone call reply n =
+        let note : Note = record { place = n.place; call = call; reply = reply } in
+        let before = run_of k h in
+        let after : IsRun [] (k.notes ++ note ∷ []) (map_of j.front) = subst (λ ns. IsRun [] ns (map_of j.front)) n.notes (run_of j (alone_noted call reply n)) in
+        let made : map (λ (x : Note). x.call) (k.notes ++ note ∷ []) ≡ map (λ x. x.call) k.notes ++ call ∷ [] = map-append (λ x. x.call) k.notes (note ∷ []) in
+        let replies : replies_of [] (map (λ x. x.call) k.notes) ++ reply ∷ [] ≡ replies_of [] (map (λ x. x.call) k.notes) ++ reply_of (map_after_all [] (map (λ x. x.call) k.notes)) call ∷ [] =
+        ap (λ rs. rs ++ reply ∷ []) (sym before.replies) ∙ sym (map-append (λ x. x.reply) k.notes (note ∷ [])) ∙ after.replies ∙ ap (replies_of []) made
+        ∙ replies_of-push [] (map (λ x. x.call) k.notes) call in
+        let last = append_cancel_left (replies_of [] (map (λ x. x.call) k.notes)) (reply ∷ []) _ replies in (
+          one_value reply _ last ∙ ap (λ m. reply_of m call) (sym before.map),
+          after.map ∙ ap (map_after_all []) made ∙ map_after_all-push [] (map (λ x. x.call) k.notes) call ∙ ap (λ m. map_after m call) (sym before.map),
+        )
+
+    -- after a call that was not noted
+    pub alone_unnoted : IsUnnoted index.layout k j → IsAlone index j
+    alone_unnoted n = record { one = h.one; number = n.number ∙ h.number; makers = n.makers; legal = n.legal }
+
+    -- the map is as it was
+    pub same_unnoted : IsUnnoted index.layout k j → map_of j.front ≡ map_of k.front
+    same_unnoted n = ap map_of (front_of j (alone_unnoted n) ∙ ap (changes_of 0) n.notes ∙ sym (front_of k h))
+
+    -- what a call was answered that may be refused
+    pub answer_alone : (call : Call) (outcome : Result Replied Full) →
+        MatchResult outcome (IsNoted index.layout k j call) (λ full. IsRefused index.layout k j (fault_of full)) →
+        ((full : Full) → outcome ≡ Err full → MayLack call full) → IsAnswer (map_of k.front) call (map_of j.front) (answer_of outcome)
+    answer_alone call (Ok reply) told may = replied_alone call reply told
+    answer_alone call (Err full) told may = (may full refl, same_unnoted told.unnoted)
+
+    module _ (from upto : List ℕ) (limit : ℕ) (scan : Scan) (n : IsScanned index.layout k j from upto limit scan) where
+      pub alone_scanned : IsAlone index j
+      alone_scanned = record { one = h.one; number = n.on.number ∙ h.number; makers = n.on.makers; legal = n.legal }
+
+      same_front : j.front ≡ k.front
+      same_front = front_of j alone_scanned ∙ ap (changes_of 0) n.notes ∙ sym (front_of k h)
+
+      -- nothing was changed since the last load of the root
+      still : j.fresh.front ≡ j.front
+      still = begins_same j.fresh.front j.front (subst (λ f. BeginsWith j.fresh.front f) (sym same_front) n.on.fresh) n.on.seen
+
+      -- the map is as it was
+      pub same_scanned : map_of j.front ≡ map_of k.front
+      same_scanned = ap map_of same_front
+
+      -- the scan gives the first pairs of the map's range
+      pub first_alone : IsScanOf (map_of k.front) from upto limit scan
+      first_alone =
+          subst (λ f. IsScanOf (map_of f) from upto limit scan) same_front
+          (lawful-scan_of j.front from upto limit scan (subst (λ f. IsLawfulScan f j.front from upto limit scan) still n.lawful))
+
+-- a removal lacks no leaf
+pub may_lack : (key : List ℕ) (outcome : Result Replied Full) → outcome ≢ Err Leaves → (full : Full) → outcome ≡ Err full → MayLack (Remove key) full
+may_lack key outcome never Nodes is = tt
+may_lack key outcome never Leaves is = absurd (never is)
