@@ -9,22 +9,23 @@ use Rattle.compound_node.specs.Nodes.{NodeView, piece, IsLawful, height_of}
 use Rattle.compound_node.specs.declared.entries.Entry.{Entry}
 use Rattle.compound_node.specs.declared.entries.Entry.TheVariants.{Leaf, Node}
 use Rattle.tries.specs.Keys.{Key, bit}
-use Rattle.tries.specs.Search.{child, seek}
+use Rattle.tries.specs.Search.{child, seek, found}
 use Rattle.tries.specs.Tree.{Page, Fixed, Tree, leaf, node, fork, page, Has, IsTrie, IsFork, Within, here, inside}
 use Rattle.tries.proofs.Tries.{rises, within_trans, within_child, trie_within, built_within, page_child}
 use Rattle.insert_cases.specs.declared.plain.LeafRecord.{LeafRecord}
 use Rattle.insert_cases.specs.declared.raising.Risen.{Risen}
 use Rattle.insert_cases.specs.Adding.{IsStanding, IsBehind, EndsAt, IsAbsentFrom, HasRisen, with_leaf}
 use Rattle.insert_cases.specs.Risen.{page_of}
-use Rattle.insert_cases.specs.Rising.{IsAddable, IsRaised, item}
-use Rattle.insert_cases.specs.Searches.{found}
+use Rattle.insert_cases.specs.Rising.{IsAddable, IsRaised}
 use Rattle.insert_cases.specs.Store.{record_of}
 use Rattle.insert_cases.specs.Ways.{WayBelow}
-use Rattle.insert_cases.proofs.Choosing.{found-child, has_found}
+use Rattle.insert_cases.proofs.Choosing.{has_found}
 use Rattle.insert_cases.proofs.Climbing.{IsHere}
 use Rattle.insert_cases.proofs.Keeping.{shown_more}
 use Rattle.insert_cases.proofs.Searching.{IsNodeOf, node_of_page, read_at, sought_entry, shown_within, leaf_of_page, lower_child}
 use Rattle.insert_cases.proofs.Storing.{push_old, push_new}
+use Rattle.tries.specs.Content.{item}
+use Rattle.tries.proofs.Contents.{found_child}
 
 -- ---- positions
 -- a fork of the child that is before the position is below those above the child, so all of these are before it
@@ -84,7 +85,7 @@ module _ {ns : List NodeView} {ls : List LeafRecord} {n h : ℕ} {t : Tree} (s :
     child_lower = let l = lower_child w.fixed.height k w.body w.built.1 in omega (arith, ap height_of is, w.high)
 
   found_below : (k : Key) → found k (child k w.body) ≡ found k t
-  found_below k = found-child k w.body ∙ ap (found k) (sym w.is)
+  found_below k = found_child k w.body ∙ ap (found k) (sym w.is)
 
   pub ends_above : (k : Key) (m : ℕ) → EndsAt ls k (child k w.body) m → EndsAt ls k t m
   ends_above k m o = record {
@@ -121,8 +122,8 @@ module _ {ns : List NodeView} {ls : List LeafRecord} {n h : ℕ} {t : Tree} (s :
       trie = body_trie;
       built = w.built;
       shown = (w.stored, shown_more ns ns ls us w.body (λ j y at. at) more w.below);
-      differ = subst (λ y. IsFirstDifference k y.key p) (found-child k w.body) i.differ;
-      has = subst (λ y. Has (child k w.body) y.key) (found-child k w.body) (has_found k (child k w.body));
+      differ = subst (λ y. IsFirstDifference k y.key p) (found_child k w.body) i.differ;
+      has = subst (λ y. Has (child k w.body) y.key) (found_child k w.body) (has_found k (child k w.body));
     }
 
     pub way_above : IsBehind p (child k w.body) → WayBelow p k w.body

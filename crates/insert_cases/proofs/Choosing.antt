@@ -11,7 +11,7 @@ use Rattle.pieces.specs.Piece.{size}
 use Rattle.tries.specs.Affected.{affected, IsPart}
 use Rattle.tries.specs.Keys.{Key, bit, AgreeBelow}
 use Rattle.tries.specs.Place.{spot}
-use Rattle.tries.specs.Search.{child}
+use Rattle.tries.specs.Search.{child, found}
 use Rattle.tries.specs.Tree.{Tree, leaf, node, fork, Fixed, page, first_position, Has, IsTrie, IsBuilt, IsTip, IsFork, Within, here, inside}
 use Rattle.tries.proofs.Affected.{IsAway, part_away, part_place, affected_page}
 use Rattle.tries.proofs.Places.{spot_below}
@@ -21,19 +21,13 @@ use Rattle.insert_cases.specs.declared.choice.Case.{Case}
 use Rattle.insert_cases.specs.declared.choice.Choice.{Choice}
 use Rattle.insert_cases.specs.declared.choice.Step.{Step}
 use Rattle.insert_cases.specs.Levels.{IsLevel, IsChosen}
-use Rattle.insert_cases.specs.Searches.{found}
 use Rattle.insert_cases.specs.Ways.{below, stage, IsStep, IsStepAt, IsLeaf, IsWay, WayBelow, body, is_leaf, case_of, IsAffectedNode}
 use Rattle.insert_cases.proofs.Affecting.{RootNot, key_part}
+use Rattle.tries.proofs.Contents.{found_child}
+use Rattle.tries.proofs.Building.{fork_of}
 
 pub same_some : {A : Type 0} {a b : A} → Some a ≡ Some b → a ≡ b
 same_some e = cc
-
--- a search goes on where its entry is
-pub found-child : (k : Key) (b : Tree) → found k (child k b) ≡ found k b
-found-child k (leaf n l v) = refl
-found-child k (node n x b) = refl
-found-child k (fork p a b) =
-    elim (bit k p) as (λ u. found k (if u then child k b else child k a) ≡ (if u then found k b else found k a)) [ true ↦ found-child k b | false ↦ found-child k a ]
 
 -- ---- stages of a way
 pub some_at : (ss : List Step) (l : ℕ) → l < length ss → (s : Step) × (slice_get ss l ≡ Some s)
@@ -65,7 +59,7 @@ stage_within k t (suc l) = within_trans (stage_within k (below k t) l) (below_wi
 
 found-below : (k : Key) (u : Tree) → found k (below k u) ≡ found k u
 found-below k (leaf n l v) = refl
-found-below k (node n x b) = found-child k b
+found-below k (node n x b) = found_child k b
 found-below k (fork p a b) = refl
 
 found-stage : (k : Key) (t : Tree) (l : ℕ) → found k (stage k t l) ≡ found k t
@@ -222,11 +216,6 @@ is_whole k p (fork q a c) f h =
       fresh = λ n. rw e n;
     }
 
-fork_of : (b : Tree) → IsFork b → (q : ℕ) × (a : Tree) × (c : Tree) × (b ≡ fork q a c)
-fork_of (leaf n l v) f = elim f [ ]
-fork_of (node n x b) f = elim f [ ]
-fork_of (fork q a c) f = (q, a, c, refl)
-
 -- ---- the choice
 module _ (k : Key) (t : Tree) (p : ℕ) (way : List Step) (trie : IsTrie t) (built : IsBuilt t) (w : IsWay k t way) (d : IsFirstDifference k (found k t).key p)
     (level : ℕ) (at : IsLevel way p level) where
@@ -242,7 +231,7 @@ module _ (k : Key) (t : Tree) (p : ℕ) (way : List Step) (trie : IsTrie t) (bui
 
   has_here : (l : ℕ) (n : ℕ) (x : Fixed) (b : Tree) → stage k t l ≡ node n x b → Has (child k b) (found k t).key
   has_here l n x b e =
-      subst (λ y. Has (child k b) y.key) (found-child k b ∙ (sym (ap (found k) e) ∙ found-stage k t l)) (has_found k (child k b))
+      subst (λ y. Has (child k b) y.key) (found_child k b ∙ (sym (ap (found k) e) ∙ found-stage k t l)) (has_found k (child k b))
 
   -- the forks above the level are before p
   above_level : (l : ℕ) → l < level → WayBelow p k (body (stage k t l))

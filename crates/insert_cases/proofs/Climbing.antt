@@ -15,7 +15,7 @@ use Rattle.tries.specs.Changes.{put, IsPathBelow}
 use Rattle.tries.specs.Content.{Item, first}
 use Rattle.tries.specs.Keys.{bit}
 use Rattle.tries.specs.Place.{spot}
-use Rattle.tries.specs.Search.{child, seek}
+use Rattle.tries.specs.Search.{child, seek, found}
 use Rattle.tries.specs.Tree.{Page, Fixed, Tree, leaf, node, fork, page, Has, IsTrie, IsBuilt, IsLower, first_position, Within, here, inside, zero_side, one_side}
 use Rattle.tries.proofs.Adding.{added_here}
 use Rattle.tries.proofs.Affected.{grown_page, part_place}
@@ -28,17 +28,17 @@ use Rattle.insert_cases.specs.declared.raising.Risen.{Risen}
 use Rattle.pieces.specs.Grafts.{grafted, IsAbovePath}
 use Rattle.insert_cases.specs.Rising.{IsRaised, IsAddable, IsLifting, IsNew}
 use Rattle.insert_cases.specs.Risen.{page_of, IsNamed, RisenShows, OthersStay}
-use Rattle.insert_cases.specs.Searches.{found}
 use Rattle.insert_cases.specs.Store.{IsShown}
 use Rattle.insert_cases.specs.Ways.{WayBelow}
 use Rattle.insert_cases.proofs.Affecting.{key_part}
 use Rattle.tries.proofs.Building.{bit_below, lower_to, node_built_from}
-use Rattle.insert_cases.proofs.Choosing.{found-child, has_found, all_away, affected_range, part_big, tip_small, tip_child, size_affected}
+use Rattle.insert_cases.proofs.Choosing.{has_found, all_away, affected_range, part_big, tip_small, tip_child, size_affected}
 use Rattle.insert_cases.proofs.Keeping.{shown_more}
 use Rattle.insert_cases.proofs.Lifting.{grow_raised, lower_part, old_stays, body_adds, pulled_raised}
 use Rattle.insert_cases.proofs.Raised.{child_spot}
 use Rattle.insert_cases.proofs.Searching.{node_of_page, read_at, shown_within, lower_child, sought_entry}
 use Rattle.insert_cases.proofs.Storing.{push_old, push_new}
+use Rattle.tries.proofs.Contents.{found_child}
 
 -- ---- tips and forks of tips
 tip_entry : (e : Entry) (t : Tree) → page t ≡ Place e → IsBuilt t → IsEntry e
@@ -167,7 +167,7 @@ node_here {ns} {ls} {x} {p} {n} {h} {t} i =
       built = u.built;
       shown = (u.stored, u.below);
       differ = subst (λ y. IsFirstDifference x.key (found x.key y).key p) u.is i.differ;
-      has = subst (λ (y : Item). Has (child x.key u.body) y.key) (found-child x.key u.body) (has_found x.key (child x.key u.body));
+      has = subst (λ (y : Item). Has (child x.key u.body) y.key) (found_child x.key u.body) (has_found x.key (child x.key u.body));
     }
 
 module _ {ns : List NodeView} {ls : List LeafRecord} {x : Item} {p n h : ℕ} {t : Tree} (i : IsAddable ns ls x p (Node n h) t) (u : IsHere ns ls x p n h t) (first last : ℕ)
@@ -236,7 +236,7 @@ child_addable {ns} {ls} {x} {p} {n} {h} {t} i u e is = record {
   built = built_within (within_child x.key u.body) u.built.2;
   shown = shown_within ns ls (within_child x.key u.body) u.shown.1;
   key = i.key;
-  differ = subst (λ (y : Item). IsFirstDifference x.key y.key p) (sym (found-child x.key u.body)) u.differ;
+  differ = subst (λ (y : Item). IsFirstDifference x.key y.key p) (sym (found_child x.key u.body)) u.differ;
   new = i.new;
 }
 

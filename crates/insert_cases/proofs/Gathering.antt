@@ -13,12 +13,11 @@ use Rattle.hot_model.specs.Maps.{Map, key_order}
 use Rattle.hot_model.specs.Scans.{is_within, range_of, IsScanOf}
 use Rattle.tries.specs.Content.{Item, pairs, Each, IsRising, IsIn}
 use Rattle.tries.specs.Keys.{IsBefore}
-use Rattle.tries.proofs.Contents.{each_in}
+use Rattle.tries.proofs.Contents.{each_in, in_append_left, in_append_right}
 use Rattle.tries.proofs.Maps.{AreKeys, before_less}
 use Rattle.insert_cases.specs.declared.plain.scan.Range.{Range}
 use Rattle.insert_cases.specs.declared.plain.scan.Progress.{Progress}
 use Rattle.insert_cases.specs.declared.plain.scan.Progress.TheVariants.{On, Past, Full}
-use Rattle.insert_cases.proofs.Values.{in_left, in_right}
 use Rattle.insert_cases.specs.Gathered.{in_range, IsBeyond, IsGiven, IsPast, IsCut, IsGathered}
 
 pairs-append : (xs ys : List Item) → pairs (xs ++ ys) ≡ pairs xs ++ pairs ys
@@ -133,7 +132,7 @@ module _ (r : Range) where
 
       go : (p : Progress) → IsGathered r old ys new p → IsGathered r old (xs ++ ys) new p
       go On g = given_same old new ys (xs ++ ys) same g
-      go Past g = (given_same old new ys (xs ++ ys) same g.0, record { item = g.1.item; among = in_right g.1.item xs ys g.1.among; above = g.1.above })
+      go Past g = (given_same old new ys (xs ++ ys) same g.0, record { item = g.1.item; among = in_append_right g.1.item xs ys g.1.among; above = g.1.above })
       go Full g = cut_same old new ys (xs ++ ys) same g
 
   -- further leaves
@@ -148,7 +147,7 @@ module _ (r : Range) where
 
       go : (p : Progress) → IsGathered r mid ys new p → IsGathered r old (xs ++ ys) new p
       go On g = given g
-      go Past g = (given g.0, record { item = g.1.item; among = in_right g.1.item xs ys g.1.among; above = g.1.above })
+      go Past g = (given g.0, record { item = g.1.item; among = in_append_right g.1.item xs ys g.1.among; above = g.1.above })
       go Full g = record { pairs = g.pairs ∙ ap (take r.limit) joined; more = subst (λ (m : Map). r.limit < length m) joined g.more }
 
   -- leaves after an end
@@ -167,7 +166,7 @@ module _ (r : Range) where
 
       go : (p : Progress) → p ≢ On → IsGathered r old xs new p → IsGathered r old (xs ++ ys) new p
       go On n g = absurd (n refl)
-      go Past n g = (given_same old new xs (xs ++ ys) (same g.1) g.0, record { item = g.1.item; among = in_left g.1.item xs ys g.1.among; above = g.1.above })
+      go Past n g = (given_same old new xs (xs ++ ys) (same g.1) g.0, record { item = g.1.item; among = in_append_left g.1.item xs ys g.1.among; above = g.1.above })
       go Full n g = record {
         pairs = g.pairs ∙ (sym (take-append-le r.limit (old ++ in_range r xs) (in_range r ys) (let m = g.more in omega arith)) ∙ ap (take r.limit) (sym joined));
         more = subst (λ (m : Map). r.limit < length m) (sym joined) (let m = g.more in omega (arith, length-append (old ++ in_range r xs) (in_range r ys)));

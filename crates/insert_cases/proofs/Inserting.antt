@@ -13,7 +13,7 @@ use Rattle.hot_model.specs.Maps.{Map, with_value, value_at, step_where, reply_of
 use Rattle.hot_model.specs.declared.Call.TheVariants.{Insert, Upsert}
 use Rattle.hot_model.specs.declared.Reply.TheVariants.{Inserted, Exists, New, Was}
 use Rattle.tries.specs.Changes.{put, IsExchanged}
-use Rattle.tries.specs.Content.{Item, items, pairs}
+use Rattle.tries.specs.Content.{Item, items, pairs, item}
 use Rattle.tries.specs.Keys.{Key, bit}
 use Rattle.tries.specs.Tree.{Tree, leaf, node, fork, page, Has, IsTrie, IsBuilt, IsFit, IsFork, Within, here, inside, zero_side, one_side}
 use Rattle.tries.proofs.Adding.{exchanged_put, exchanged_leaf}
@@ -23,14 +23,14 @@ use Rattle.tries.proofs.Tries.{has_within, trie_within}
 use Rattle.tries.proofs.Puts.{page_put}
 use Rattle.insert_cases.specs.declared.plain.LeafRecord.{LeafRecord}
 use Rattle.insert_cases.specs.Adding.{IsStanding, IsAbsentFrom}
-use Rattle.insert_cases.specs.Rising.{IsRaised, item}
-use Rattle.insert_cases.specs.Searches.{found}
+use Rattle.insert_cases.specs.Rising.{IsRaised}
 use Rattle.insert_cases.specs.Store.{PlainView, IsShown, IsSound, IsPlain, IsHeldInLeaf, tree_of, map_of, read, record_of}
 use Rattle.tries.proofs.Building.{lower_from, lower_to}
 use Rattle.insert_cases.proofs.Choosing.{same_some}
 use Rattle.insert_cases.proofs.Reading.{IsTree, plain_tree, tree_is, tree_plain}
 use Rattle.insert_cases.proofs.Storing.{set_same, set_other}
 use Rattle.insert_cases.proofs.Values.{map_is, map_none, value_found, value_missed}
+use Rattle.tries.specs.Search.{found}
 
 -- a trie with this map
 abbrev pub Becomes : PlainView → PlainView → Key → ℕ → Type 0

@@ -11,16 +11,16 @@ use Rattle.compound_node.specs.declared.entries.Entry.{Entry}
 use Rattle.compound_node.specs.declared.entries.Entry.TheVariants.{Leaf, Node}
 use Rattle.tries.specs.Content.{Item}
 use Rattle.tries.specs.Keys.{Key, bit}
-use Rattle.tries.specs.Search.{child, seek}
+use Rattle.tries.specs.Search.{child, seek, found}
 use Rattle.tries.specs.Place.{spot}
 use Rattle.tries.specs.Tree.{Page, Fixed, Tree, leaf, node, fork, page, IsBuilt, IsLower, Within, here, inside, zero_side, one_side}
 use Rattle.tries.proofs.Tries.{page_child, within_child, built_within}
 use Rattle.tries.proofs.Places.{leads_spot, spot_below}
 use Rattle.insert_cases.specs.declared.plain.LeafRecord.{LeafRecord}
-use Rattle.insert_cases.proofs.Choosing.{found-child, same_some}
-use Rattle.insert_cases.specs.Searches.{found}
+use Rattle.insert_cases.proofs.Choosing.{same_some}
 use Rattle.insert_cases.specs.Store.{PlainView, IsNodeStored, IsShown, record_of, tree_of, IsPlain}
 use Rattle.insert_cases.proofs.Reading.{plain_tree}
+use Rattle.tries.proofs.Contents.{found_child}
 
 -- what stands there
 pub spot_entry : (k : Key) (x : Page) (d : Entry) → get_or (places x) (spot k x) d ≡ seek k x
@@ -111,7 +111,7 @@ on_way_down ns ls k t n h w v e at sought =
         head = page_child k u.body ∙ ap (λ z. let y : Page = Place z in y) (sym is);
         shown = shown_within ns ls (within_child k u.body) u.below;
         built = built_within (within_child k u.body) u.built.2;
-        same = found-child k u.body ∙ (sym (ap (found k) u.is) ∙ w.same);
+        same = found_child k u.body ∙ (sym (ap (found k) u.is) ∙ w.same);
       },
       let l = lower_child u.fixed.height k u.body u.built.1 in omega (arith, ap height_of is, u.high),
     )

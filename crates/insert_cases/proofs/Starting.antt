@@ -9,7 +9,7 @@ use Rattle.pieces.specs.Piece.{size}
 use Rattle.tries.specs.Content.{Item, items, IsRising}
 use Rattle.tries.specs.Keys.{Key, bit}
 use Rattle.tries.specs.Place.{spot}
-use Rattle.tries.specs.Search.{child}
+use Rattle.tries.specs.Search.{child, found}
 use Rattle.tries.specs.Tree.{Tree, leaf, node, fork, page, IsTrie}
 use Rattle.tries.proofs.Maps.{AreKeys}
 use Rattle.tries.proofs.Places.{spot_below}
@@ -17,10 +17,9 @@ use Rattle.insert_cases.specs.declared.plain.scan.Range.{Range}
 use Rattle.insert_cases.specs.declared.plain.scan.Progress.{Progress}
 use Rattle.insert_cases.specs.declared.plain.scan.Progress.TheVariants.{On}
 use Rattle.insert_cases.specs.Gathered.{parts, leaves_of, items_from, IsBeyond, IsGathered, IsMismatch}
-use Rattle.insert_cases.specs.Searches.{found}
-use Rattle.insert_cases.proofs.Choosing.{found-child}
 use Rattle.insert_cases.proofs.Gathering.{gathered_end, gathered_skip, gathered_then}
 use Rattle.insert_cases.proofs.Parts.{length-parts, items_split, leaves_around, leaves_none, from_rises, from_keys}
+use Rattle.tries.proofs.Contents.{found_child}
 
 -- the part at the place to which a search leads
 pub part_child : (k : Key) (b : Tree) (d : Tree) → get_or (parts b) (spot k (page b)) d ≡ child k b
@@ -35,7 +34,7 @@ part_child k (fork p a b) d =
 -- in which the search ends at the same leaf
 pub part_mismatch : (k : Key) (b : Tree) (j : ℕ) (d : Tree) (o : Option ℕ) → j ≡ spot k (page b) → IsMismatch k b o → IsMismatch k (get_or (parts b) j d) o
 part_mismatch k b j d o e m =
-    let same : found k (get_or (parts b) j d) ≡ found k b = ap (λ i. found k (get_or (parts b) i d)) e ∙ (ap (found k) (part_child k b d) ∙ found-child k b) in
+    let same : found k (get_or (parts b) j d) ≡ found k b = ap (λ i. found k (get_or (parts b) i d)) e ∙ (ap (found k) (part_child k b d) ∙ found_child k b) in
     subst (λ (x : Item). IsKey k × MatchOption o (k ≡ x.key) (IsFirstDifference k x.key)) (sym same) m
 
 from_part : (b : Tree) (j : ℕ) (d : Tree) → j < length (parts b) → items_from j b ≡ items (get_or (parts b) j d) ++ items_from (j + 1) b

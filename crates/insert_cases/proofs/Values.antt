@@ -1,24 +1,15 @@
 -- What a search tells of the map.
-use Rattle.std.proofs.Common.{◌≡◌, ◌≢◌, inl, inr, ℕ, List, [], ◌∷◌, ◌++◌, true, false, if◌then◌else◌, refl, ap, sym, ◌∙◌, subst, Option, Some, None}
+use Rattle.std.proofs.Common.{◌≡◌, ◌≢◌, inl, inr, ℕ, [], ◌++◌, true, false, if◌then◌else◌, refl, ap, sym, ◌∙◌, subst, Option, Some, None}
 use Rattle.std.specs.Prelude.{option_and_then}
 use Rattle.hot_model.specs.Maps.{value_at}
 use Rattle.compound_node.specs.Nodes.{height_of}
 use Rattle.tries.specs.Keys.{Key, bit}
-use Rattle.tries.specs.Tree.{Tree, leaf, node, fork, Has, Holds, IsTrie}
-use Rattle.tries.specs.Content.{Item, items, pairs, IsIn}
-use Rattle.tries.proofs.Contents.{content_rises}
+use Rattle.tries.specs.Tree.{Tree, leaf, node, fork, Has, IsTrie}
+use Rattle.tries.specs.Content.{items, pairs, IsIn}
+use Rattle.tries.proofs.Contents.{content_rises, in_append_left, in_append_right, holds_has}
 use Rattle.tries.proofs.Maps.{are_keys, lookup_in, value_holds}
-use Rattle.insert_cases.specs.Searches.{found}
 use Rattle.insert_cases.specs.Store.{PlainView, tree_of, map_read, map_of, read}
-
-pub in_left : (x : Item) (xs ys : List Item) → IsIn x xs → IsIn x (xs ++ ys)
-in_left x [] ys h = elim h [ ]
-in_left x (y ∷ xs) ys (inl e) = inl e
-in_left x (y ∷ xs) ys (inr h) = inr (in_left x xs ys h)
-
-pub in_right : (x : Item) (xs ys : List Item) → IsIn x ys → IsIn x (xs ++ ys)
-in_right x [] ys h = h
-in_right x (y ∷ xs) ys h = inr (in_right x xs ys h)
+use Rattle.tries.specs.Search.{found}
 
 -- a search ends at a leaf of the tree
 pub found_in : (k : Key) (t : Tree) → IsIn (found k t) (items t)
@@ -26,8 +17,8 @@ found_in k (leaf n l v) = inl refl
 found_in k (node n x b) = found_in k b
 found_in k (fork p a b) =
     elim (bit k p) as (λ u. IsIn (if u then found k b else found k a) (items a ++ items b)) [
-      | true ↦ in_right (found k b) (items a) (items b) (found_in k b)
-      | false ↦ in_left (found k a) (items a) (items b) (found_in k a)
+      | true ↦ in_append_right (found k b) (items a) (items b) (found_in k b)
+      | false ↦ in_append_left (found k a) (items a) (items b) (found_in k a)
     ]
 
 -- and at the key's own leaf, where the tree has the key
@@ -36,12 +27,6 @@ found_key k (leaf n l v) i h = sym h
 found_key k (node n x b) i h = found_key k b i h
 found_key k (fork p a b) i (inl h) = ap (λ u. (if u then found k b else found k a).key) (i.3 k h) ∙ found_key k a i.0 h
 found_key k (fork p a b) i (inr h) = ap (λ u. (if u then found k b else found k a).key) (i.4 k h) ∙ found_key k b i.1 h
-
-holds_has : (t : Tree) (k : Key) (v : ℕ) → Holds t k v → Has t k
-holds_has (leaf n l w) k v h = h.0
-holds_has (node n g b) k v h = holds_has b k v h
-holds_has (fork p a b) k v (inl h) = inl (holds_has a k v h)
-holds_has (fork p a b) k v (inr h) = inr (holds_has b k v h)
 
 -- so the search decides what the map has for the key
 pub value_found : (k : Key) (t : Tree) → IsTrie t → (found k t).key ≡ k → value_at (pairs (items t)) k ≡ Some (found k t).value

@@ -11,9 +11,10 @@ use Rattle.insert_cases.specs.declared.plain.adding.Addition.{Addition}
 use Rattle.insert_cases.specs.declared.plain.adding.Addition.TheVariants.{Held, Refused, Above, Below}
 use Rattle.insert_cases.specs.declared.raising.Risen.{Risen}
 use Rattle.insert_cases.specs.Risen.{page_of}
-use Rattle.insert_cases.specs.Rising.{IsRaised, IsAddable, item}
-use Rattle.insert_cases.specs.Searches.{found}
+use Rattle.insert_cases.specs.Rising.{IsRaised, IsAddable}
 use Rattle.insert_cases.specs.Store.{IsShown, record_of}
+use Rattle.tries.specs.Search.{found}
+use Rattle.tries.specs.Content.{item}
 
 -- the records show a bit trie at an entry
 pub record IsStanding (nodes : List NodeView) (leaves : List LeafRecord) (e : Entry) (t : Tree) : Type 0 where

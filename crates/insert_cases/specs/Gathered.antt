@@ -14,8 +14,8 @@ use Rattle.insert_cases.specs.declared.plain.scan.Progress.TheVariants.{On, Past
 use Rattle.insert_cases.specs.declared.plain.scan.Start.{Start}
 use Rattle.insert_cases.specs.declared.plain.scan.Start.TheVariants.{Before, Within}
 use Rattle.tries.specs.Place.{spot}
-use Rattle.insert_cases.specs.Searches.{found}
 use Rattle.insert_cases.specs.Store.{PlainView, IsShown, IsSound}
+use Rattle.tries.specs.Search.{found}
 
 -- what stands at the places of a body, in order
 abbrev pub parts : Tree → List Tree

@@ -1,6 +1,5 @@
 -- The definitions of the crate.
 pub mod Grown
-pub mod Searches
 pub mod Ways
 pub mod Levels
 pub mod Store

@@ -8,12 +8,10 @@ use Rattle.compound_node.specs.declared.entries.Entry.{Entry}
 use Rattle.compound_node.specs.declared.entries.Entry.TheVariants.{Node}
 use Rattle.tries.specs.Changes.{IsAdded}
 use Rattle.tries.specs.Content.{Item}
-use Rattle.tries.specs.Keys.{Key}
 use Rattle.tries.specs.Place.{spot}
-use Rattle.tries.specs.Search.{child}
+use Rattle.tries.specs.Search.{child, found}
 use Rattle.tries.specs.Tree.{Page, Fixed, Tree, leaf, node, fork, page, IsTrie, IsBuilt, IsLower}
 use Rattle.insert_cases.specs.declared.plain.LeafRecord.{LeafRecord}
-use Rattle.insert_cases.specs.Searches.{found}
 use Rattle.insert_cases.specs.Store.{IsShown, record_of}
 use Rattle.insert_cases.specs.Ways.{WayBelow}
 
@@ -37,9 +35,6 @@ pub record IsRaised (old new : List NodeView) (leaves : List LeafRecord) (x : It
   pub lower : IsLower h tree
   pub shown : IsShown new leaves tree
   pub kept : StaysStored old new s
-
-abbrev pub item : ℕ → Key → ℕ → Item
-item n k v = record { number = n; key = k; value = v }
 
 -- The records show a tree at an entry, and a new leaf besides, whose key differs first at p from that of the leaf where
 -- its search in the tree ends.

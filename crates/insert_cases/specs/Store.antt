@@ -9,8 +9,8 @@ use Rattle.tries.specs.Content.{Item, items, pairs}
 use Rattle.tries.specs.Read.{join_node, read_page}
 use Rattle.tries.specs.Tree.{Page, Fixed, Tree, leaf, node, fork, page, IsTrie, IsBuilt}
 use Rattle.tries.specs.Keys.{Key}
-use Rattle.insert_cases.specs.Searches.{found}
 use Rattle.insert_cases.specs.declared.plain.LeafRecord.{LeafRecord}
+use Rattle.tries.specs.Search.{found}
 
 -- what contracts see of a trie: its records, the root's entry, and for how many records the two vectors have memory
 pub record PlainView : Type 0 where

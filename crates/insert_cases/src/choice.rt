@@ -7,7 +7,7 @@ ghost use Rattle.tries.specs.Keys.{Key as KeyBytes};
 ghost use Rattle.tries.specs.Place.{spot};
 ghost use Rattle.tries.specs.Tree.{Tree, IsTrie, IsBuilt, page};
 ghost use Rattle.insert_cases.specs.Levels.{IsLevel, IsChosen, IsChainEnd};
-ghost use Rattle.insert_cases.specs.Searches.{found};
+ghost use Rattle.tries.specs.Search.{found};
 ghost use Rattle.insert_cases.specs.Ways.{IsWay, IsAffectedNode, case_of, stage, body};
 
 /// A node on the way of a search, topmost first, and the entry that the search took there.

@@ -5,7 +5,7 @@ ghost use Rattle.std.specs.Vec.{vec_capacity};
 ghost use Rattle.compound_node.specs.Nodes.{piece};
 ghost use Rattle.hot_model.specs.Maps.{value_at, with_value, map_after, reply_of, AddsKey};
 ghost use Rattle.hot_model.specs.declared.Call.TheVariants.{Insert, Upsert};
-ghost use Rattle.tries.specs.Search.{seek};
+ghost use Rattle.tries.specs.Search.{seek, found};
 
 mod adding;
 mod scan;
@@ -51,7 +51,6 @@ impl Model for PlainTrie {
 impl PlainTrie {
     ghost use Rattle.insert_cases.specs.Heights.{KeepsHeights};
     ghost use Rattle.insert_cases.specs.Room.{LacksRoom, KeepsRoom, IsUnchanged};
-    ghost use Rattle.insert_cases.specs.Searches.{found};
     ghost use Rattle.insert_cases.specs.Store.{map_of, ShowsTrie, IsHeldInLeaf, tree_of, record_of};
     ghost use Rattle.tries.specs.Tree.{Tree};
     ghost use Rattle.compound_node.specs.Nodes.{height_of};

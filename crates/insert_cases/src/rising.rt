@@ -6,11 +6,11 @@ ghost use Rattle.pieces.specs.Growth.{grown, IsAffected};
 ghost use Rattle.pieces.specs.Piece.{Fork, Place as At, size};
 ghost use Rattle.compound_node.specs.Nodes.{NodeView, piece, IsEntry, StandsBelow, height_of};
 ghost use Rattle.tries.specs.Affected.{page_forked};
-ghost use Rattle.tries.specs.Content.{Item};
+ghost use Rattle.tries.specs.Content.{Item, item};
 ghost use Rattle.tries.specs.Tree.{Tree, Fixed, node as tree_node};
 ghost use Rattle.pieces.specs.Grafts.{grafted, IsAbovePath};
 ghost use Rattle.insert_cases.specs.Heights.{KeepsHeights};
-ghost use Rattle.insert_cases.specs.Rising.{IsRaised, IsAddable, IsLifting, item};
+ghost use Rattle.insert_cases.specs.Rising.{IsRaised, IsAddable, IsLifting};
 ghost use Rattle.insert_cases.specs.Risen.{page_of, IsNamed, RisenShows, OthersStay, AllStay};
 ghost use Rattle.insert_cases.specs.declared.plain.LeafRecord.{LeafRecord};
 

@@ -4,7 +4,7 @@ use Rattle.tries.specs.Keys.{Key}
 use Rattle.compound_node.specs.declared.entries.Entry.{Entry}
 use Rattle.tries.specs.Tree.{Tree, leaf, node, fork, page}
 use Rattle.moments.specs.Heap.{NodeWords, IsCopied}
-use Rattle.moments.specs.State.{rec_of, Spans, last_of, IsLived, Past, Stands, IsLawful, IsMarked}
+use Rattle.moments.specs.State.{rec_of, Spans, last_of, IsLived, Past, Stands, IsLawful, StoodWithKeys}
 use Rattle.moments.specs.declared.Rec.{Rec}
 use Rattle.moments.specs.declared.Rec.TheVariants.{Node as a_node, Leaf as a_leaf}
 use Rattle.moments.specs.Frames.{IsGrown}
@@ -19,7 +19,7 @@ pub stands_grown : (a b : Past) → IsGrown a b → (n : ℕ) (r : Rec) (u : Tre
 stands_grown a b g n r u h st =
     record { tree = st.tree; is_moment = g.kept n h ∙ st.is_moment; within = st.within; is_record = st.is_record }
 
-pub marked_grown : (a b : Past) → IsGrown a b → (m : ℕ) (P : Key → Type 0) (e : Entry) → IsMarked a m P e → IsMarked b m P e
+pub marked_grown : (a b : Past) → IsGrown a b → (m : ℕ) (P : Key → Type 0) (e : Entry) → StoodWithKeys a m P e → StoodWithKeys b m P e
 marked_grown a b g m P e (n, u, lo, hi, st, pg, f) = (n, u, lo, le_trans hi g.longer, stands_grown a b g n (rec_of e) u hi st, pg, f)
 
 -- A record that may be given back was linked at no moment since a pass's pin.

@@ -20,10 +20,10 @@ copied_if_shown m (leaf n k v) h = h
 copied_if_shown m (node n h b) x = x.0
 copied_if_shown m (fork p a b) h = tt
 
-leaf_parts : {n o : ℕ} → Place (Leaf n) ≡ Place (Leaf o) → n ≡ o
+pub leaf_parts : {n o : ℕ} → Place (Leaf n) ≡ Place (Leaf o) → n ≡ o
 leaf_parts e = cc
 
-node_parts : {n o h g : ℕ} → Place (Node n h) ≡ Place (Node o g) → (n ≡ o) × (h ≡ g)
+pub node_parts : {n o h g : ℕ} → Place (Node n h) ≡ Place (Node o g) → (n ≡ o) × (h ≡ g)
 node_parts e = (cc, cc)
 
 part_parts : {p q : ℕ} {a b c d : Page} → Fork p a b ≡ Fork q c d → (p ≡ q) × (a ≡ c) × (b ≡ d)

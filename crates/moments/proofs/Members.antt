@@ -3,7 +3,7 @@ use Rattle.std.proofs.Common.{◌≡◌, ◌⊎◌, inl, inr, List, [], ◌∷�
 use Rattle.std.specs.Prelude.{All}
 use Rattle.std.proofs.lemmas.Bool.{cases_Bool, false≢true}
 use Rattle.std.proofs.lemmas.List.Elements.{All-head, All-tail}
-use Rattle.moments.specs.Trades.{IsOf}
+use Rattle.moments.specs.Trades.{IsOf, AreApart}
 
 pub of_append : {X : Type 0} (x : X) (xs ys : List X) → IsOf x (xs ++ ys) → IsOf x xs ⊎ IsOf x ys
 of_append x [] ys h = inr h
@@ -56,3 +56,11 @@ all_of P x (z ∷ xs) a (inr h) = all_of P x xs (All-tail P z xs a) h
 pub none_of : {X : Type 0} (xs : List X) → ((x : X) → IsOf x xs → ⊥) → xs ≡ []
 none_of [] h = refl
 none_of (x ∷ xs) h = absurd (h x (inl refl))
+
+-- a list with one more at its end that it has not
+pub apart_push : {X : Type 0} (xs : List X) (x : X) → AreApart xs → (IsOf x xs → ⊥) → AreApart (xs ++ x ∷ [])
+apart_push [] x apart none = (λ h. h, tt)
+apart_push (y ∷ xs) x apart none = (
+  λ h. elim (of_append y xs (x ∷ []) h) [ inl i ↦ apart.0 i | inr i ↦ elim i [ inl e ↦ none (inl (sym e)) | inr j ↦ absurd j ] ],
+  apart_push xs x apart.1 (λ h. none (inr h)),
+)

@@ -4,7 +4,7 @@ use Rattle.std.proofs.lemmas.Bool.{cond-true, cond-false, eq-eqb, ne_eqb, cases_
 use Rattle.compound_node.specs.declared.entries.Entry.{Entry}
 use Rattle.tries.specs.Tree.{Tree, leaf, node, fork, IsTrie, IsBuilt, Within, here, inside, zero_side, one_side}
 use Rattle.moments.specs.Heap.{NodeWords, LeafWords, Heap, IsCopied, IsShown, IsNear}
-use Rattle.moments.specs.State.{IsRecord, Links, Life, Out, Linked, Retired, Spans, last_of, State, Stands, IsSame, IsTop, IsReach, IsLawful, IsLived, with_moment, IsLinked}
+use Rattle.moments.specs.State.{IsRecord, Links, Life, Out, Linked, Retired, Spans, last_of, State, Stands, IsSameRecord, IsTop, IsReach, IsLawful, IsLived, with_moment, IsLinked}
 use Rattle.moments.specs.declared.Rec.{Rec}
 use Rattle.moments.specs.declared.Rec.TheVariants.{Node as a_node, Leaf as a_leaf}
 use Rattle.tries.proofs.Tries.{trie_within, built_within, kin_trans}
@@ -114,7 +114,7 @@ node_number e = cc
 
 -- One record in two heaps, the second of which differs by one entry a page.
 same_step : (m o : Heap) → IsNear m o → (r : Rec) (u v : Tree) → IsRecord r u → IsRecord r v → IsBuilt u → IsTrie u → IsTrie v →
-    IsShown m u → IsShown o v → IsSame u v
+    IsShown m u → IsShown o v → IsSameRecord u v
 same_step m o near r (fork p a b) v x y c l k i j = elim x [ ]
 same_step m o near r (leaf n a b) (fork q e f) x y c l k i j = elim y [ ]
 same_step m o near r (node n a b) (fork q e f) x y c l k i j = elim y [ ]
@@ -130,7 +130,7 @@ same_step m o near r (node n a b) (node q e f) x y c l k i j =
       kin_step m o near b f c.2 l k i.1 j.1 (near_page m o near z i.0 j.0),
     )
 
-same_trans : (a b c : Tree) → IsSame a b → IsSame b c → IsSame a c
+same_trans : (a b c : Tree) → IsSameRecord a b → IsSameRecord b c → IsSameRecord a c
 same_trans (leaf n k v) (leaf m l w) (leaf o x y) e f = (e.0 ∙ f.0, e.1 ∙ f.1)
 same_trans (node n h b) (node m i c) (node o j d) e f = (e.0 ∙ f.0, kin_trans e.1 f.1)
 same_trans (leaf n k v) (leaf m l w) (node o x y) e f = elim f [ ]
@@ -261,7 +261,7 @@ module _ (s : State) (law : IsLawful s) (heap : Heap) (root : Option Entry) (lif
           (subst (λ i. Stands s.past i r u) x.1 (down (last_of (suc s.now) (life r)) r u y.1 st)))
 
   -- a record that stood before, and stands in the new moment
-  across : (r : Rec) (n : ℕ) (u v : Tree) → IsLinked t r → Spans s.now (s.life r) n → n ≤ s.now → Stands s.past n r u → Stands o.past (suc s.now) r v → IsSame u v
+  across : (r : Rec) (n : ℕ) (u v : Tree) → IsLinked t r → Spans s.now (s.life r) n → n ≤ s.now → Stands s.past n r u → Stands o.past (suc s.now) r v → IsSameRecord u v
   across r n u v l h b su sv =
       let x = next_stays s.now (IsLinked t r) (s.life r) (life r) n (p.lives r) l h b in
       let w = law.alive r s.now x.1 in
@@ -272,20 +272,20 @@ module _ (s : State) (law : IsLawful s) (heap : Heap) (root : Option Entry) (lif
       (shown_within s.heap w.1.within (top_shown s.heap s.root (s.moment s.now) w.1.tree law.top w.1.is_moment))
       (tree_new r v sv).2)
 
-  both_new : (r : Rec) (u v : Tree) → Stands o.past (suc s.now) r u → Stands o.past (suc s.now) r v → IsSame u v
+  both_new : (r : Rec) (u v : Tree) → Stands o.past (suc s.now) r u → Stands o.past (suc s.now) r v → IsSameRecord u v
   both_new r u v su sv =
       let x = tree_new r u su in
       let y = tree_new r v sv in
       same_step heap heap (near_refl heap) r u v su.is_record sv.is_record x.1 x.0 y.0 x.2 y.2
 
-  now_same : (r : Rec) (n : ℕ) (u v : Tree) → Spans (suc s.now) (life r) n → Stands o.past n r u → Stands o.past (last_of (suc s.now) (life r)) r v → IsSame u v
+  now_same : (r : Rec) (n : ℕ) (u v : Tree) → Spans (suc s.now) (life r) n → Stands o.past n r u → Stands o.past (last_of (suc s.now) (life r)) r v → IsSameRecord u v
   now_same r n u v h su sv = go (now_last r (spans_last (suc s.now) (life r) n (next_lived s.now (IsLinked t r) (s.life r) (life r) (law.lived r) (p.lives r)) h))
     where
-      there : (w : Tree) → IsLinked t r → Stands o.past (suc s.now) r w → (Spans s.now (s.life r) n × (n ≤ s.now)) ⊎ ((n ≡ suc s.now) × IsLinked t r) → IsSame u w
+      there : (w : Tree) → IsLinked t r → Stands o.past (suc s.now) r w → (Spans s.now (s.life r) n × (n ≤ s.now)) ⊎ ((n ≡ suc s.now) × IsLinked t r) → IsSameRecord u w
       there w l st (inl x) = across r n u w l x.0 x.1 (down n r u x.1 su) st
       there w l st (inr x) = both_new r u w (subst (λ i. Stands o.past i r u) x.0 su) st
 
-      go : (IsLinked t r × (last_of (suc s.now) (life r) ≡ suc s.now)) ⊎ ((¬ (IsLinked t r)) × (last_of (suc s.now) (life r) ≡ last_of s.now (s.life r))) → IsSame u v
+      go : (IsLinked t r × (last_of (suc s.now) (life r) ≡ suc s.now)) ⊎ ((¬ (IsLinked t r)) × (last_of (suc s.now) (life r) ≡ last_of s.now (s.life r))) → IsSameRecord u v
       go (inl x) =
           there v x.0 (subst (λ i. Stands o.past i r v) x.1 sv)
           (next_down s.now (IsLinked t r) (s.life r) (life r) n (law.lived r) (p.lives r) h)

@@ -3,7 +3,7 @@ use Rattle.std.proofs.Common.{◌≡◌, ◌≢◌, ◌⊎◌, inl, inr, ℕ, re
 use Rattle.compound_node.specs.declared.entries.Entry.{Entry}
 use Rattle.tries.specs.Tree.{Tree, leaf, node, fork, page}
 use Rattle.moments.specs.Heap.{Heap, IsCopied, IsShown}
-use Rattle.moments.specs.State.{IsRecord, Links, Life, Out, Spans, last_of, State, Stands, IsSame, IsTop, IsReach, IsLawful, IsLived}
+use Rattle.moments.specs.State.{IsRecord, Links, Life, Out, Spans, last_of, State, Stands, IsSameRecord, IsTop, IsReach, IsLawful, IsLived}
 use Rattle.moments.specs.declared.Rec.{Rec}
 use Rattle.moments.specs.declared.Rec.TheVariants.{Node as a_node, Leaf as a_leaf}
 use Rattle.moments.proofs.Publish.{links_within}
@@ -123,7 +123,7 @@ module _ (s : State) (law : IsLawful s) (heap : Heap) (life : Rec → Life) (pin
       copied r u (last_of s.now (s.life r)) g st.is_record
       (law.frozen r u g (subst (λ l. Stands s.past (last_of s.now l) r u) e (down (last_of s.now (life r)) r u st)))
 
-  quiet_same : (r : Rec) (n : ℕ) (u v : Tree) → Spans s.now (life r) n → Stands o.past n r u → Stands o.past (last_of s.now (life r)) r v → IsSame u v
+  quiet_same : (r : Rec) (n : ℕ) (u v : Tree) → Spans s.now (life r) n → Stands o.past n r u → Stands o.past (last_of s.now (life r)) r v → IsSameRecord u v
   quiet_same r n u v h su sv =
       let e = same_life r n h in
       law.same r n u v (subst (λ l. Spans s.now l n) e h) (down n r u su)

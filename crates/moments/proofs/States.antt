@@ -7,7 +7,7 @@ use Rattle.compound_node.specs.declared.entries.Entry.TheVariants.{Leaf, Node}
 use Rattle.pieces.specs.Piece.{Place, Fork}
 use Rattle.tries.specs.Search.{Follows, child, seek, Kin, tips, forks, between, IsUnder}
 use Rattle.moments.specs.Heap.{NodeWords, IsCopied}
-use Rattle.moments.specs.State.{rec_of, IsRecord, Life, Out, Linked, Retired, Spans, last_of, State, Stands, IsSame, IsReach, IsLawful, IsMissed, IsLed, IsLived, IsFrom, IsMarked, IsSteady}
+use Rattle.moments.specs.State.{rec_of, IsRecord, Life, Out, Linked, Retired, Spans, last_of, State, Stands, IsSameRecord, IsReach, IsLawful, IsMissed, IsLed, IsLived, IsFrom, StoodWithKeys, IsSteady}
 use Rattle.moments.specs.declared.Rec.{Rec}
 use Rattle.moments.specs.declared.Rec.TheVariants.{Node as a_node}
 use Rattle.tries.proofs.Tries.{has_within, within_trans, trie_within, built_within, has_first, descend, within_child, page_child, follows_kin, kin_trans, kin_sym, parting}
@@ -84,7 +84,7 @@ led_last s law m k n x g o b lo hi spans st f u t =
     go u t (law.same (a_node n) o (node x g b) u spans st t)
     (law.frozen (a_node n) u (spans_last s.now (s.life (a_node n)) o (law.lived (a_node n)) spans) t)
   where
-    go : (u : Tree) → Stands s.past (last_of s.now (s.life (a_node n))) (a_node n) u → IsSame (node x g b) u → IsCopied s.heap u →
+    go : (u : Tree) → Stands s.past (last_of s.now (s.life (a_node n))) (a_node n) u → IsSameRecord (node x g b) u → IsCopied s.heap u →
         IsLed s.past m k (seek k (s.heap.nodes n).page)
     go (leaf y l v) t i c = elim i [ ]
     go (fork y l v) t i c = elim i [ ]
@@ -119,7 +119,7 @@ state_parting s law r n o x y g h b c bn bo sn so tn tp i j lt k l u v =
     last : (w : Tree) × Stands s.past (last_of s.now (s.life r)) r w
     last = law.alive r (last_of s.now (s.life r)) (spans_last s.now (s.life r) n (law.lived r) sn)
 
-    go : (w : Tree) → Stands s.past (last_of s.now (s.life r)) r w → IsSame (node x g b) w → IsSame (node y h c) w → IsParted (between (page b) i j) k l
+    go : (w : Tree) → Stands s.past (last_of s.now (s.life r)) r w → IsSameRecord (node x g b) w → IsSameRecord (node y h c) w → IsParted (between (page b) i j) k l
     go (leaf a d e) t f z = elim f [ ]
     go (fork a d e) t f z = elim f [ ]
     go (node a d e) t f z =
@@ -150,8 +150,8 @@ taken_child k (fork p a b) i y h = taken_fork k p a b i (taken_child k a i.0) (t
 
 -- What the keys of a node have, and what turns on the bits before its first fork, the keys of the search's child have too.
 pub stem_down : (s : State) → IsLawful s → (m : ℕ) → IsReach s m → (p : ℕ) (P : Key → Type 0) → TurnsBelow p P → (k : Key) (n h : ℕ) →
-    IsFrom p (s.heap.nodes n).page → IsMarked s.past m P (Node n h) →
-    IsMarked s.past m (λ y. P y × IsTaken k (s.heap.nodes n).page y) (seek k (s.heap.nodes n).page)
+    IsFrom p (s.heap.nodes n).page → StoodWithKeys s.past m P (Node n h) →
+    StoodWithKeys s.past m (λ y. P y × IsTaken k (s.heap.nodes n).page y) (seek k (s.heap.nodes n).page)
 stem_down s law m reach p P local k n h from (o, leaf y l v, a, b, st, e, f) = absurd cc
 stem_down s law m reach p P local k n h from (o, fork y l v, a, b, st, e, f) = absurd cc
 stem_down s law m reach p P local k n h from (o, node y g b, lo, hi, st, e, f) =
@@ -162,14 +162,14 @@ stem_down s law m reach p P local k n h from (o, node y g b, lo, hi, st, e, f) =
     spans : Spans s.now (s.life (a_node n)) o
     spans = reach o lo hi (a_node n) (node y g b) st
 
-    go : (u : Tree) → Stands s.past (last_of s.now (s.life (a_node n))) (a_node n) u → IsSame (node y g b) u → IsCopied s.heap u →
-        IsMarked s.past m (λ y. P y × IsTaken k (s.heap.nodes n).page y) (seek k (s.heap.nodes n).page)
+    go : (u : Tree) → Stands s.past (last_of s.now (s.life (a_node n))) (a_node n) u → IsSameRecord (node y g b) u → IsCopied s.heap u →
+        StoodWithKeys s.past m (λ y. P y × IsTaken k (s.heap.nodes n).page y) (seek k (s.heap.nodes n).page)
     go (leaf a l v) t i c = elim i [ ]
     go (fork a l v) t i c = elim i [ ]
     go (node a j d) t i c =
         let bounds = spans_ended s.now (s.life (a_node n)) o (law.lived (a_node n)) spans in
         let e : (s.heap.nodes n).page ≡ page d = ap (λ (z : NodeWords). z.page) (ap s.heap.nodes (node_number t.is_record) ∙ c) in
-        subst (λ z. IsMarked s.past m (λ y. P y × IsTaken k z y) (seek k z)) (sym e) (
+        subst (λ z. StoodWithKeys s.past m (λ y. P y × IsTaken k z y) (seek k z)) (sym e) (
           last_of s.now (s.life (a_node n)),
           child k d,
           le_trans lo bounds.0,
@@ -186,7 +186,7 @@ stem_down s law m reach p P local k n h from (o, node y g b, lo, hi, st, e, f) =
         )
 
 -- Two trees that are the same as a third are the same.
-same_join : (u v w : Tree) → IsSame u w → IsSame v w → IsSame u v
+same_join : (u v w : Tree) → IsSameRecord u w → IsSameRecord v w → IsSameRecord u v
 same_join (leaf n k v) (leaf m l w) (leaf o x y) f g = (f.0 ∙ sym g.0, f.1 ∙ sym g.1)
 same_join (node n h b) (node m i c) (node o j d) f g = (f.0 ∙ sym g.0, kin_trans f.1 (kin_sym g.1))
 same_join (leaf n k v) (leaf m l w) (node o x y) f g = absurd f

@@ -5,12 +5,12 @@ use Rattle.hot_model.specs.declared.Change.{Change}
 use Rattle.compound_node.specs.declared.entries.Entry.{Entry}
 use Rattle.tries.specs.Tree.{Tree}
 use Rattle.moments.specs.Heap.{Heap}
-use Rattle.moments.specs.State.{Out, IsLinked, Stands, IsSame}
+use Rattle.moments.specs.State.{Out, IsLinked, Stands, IsSameRecord}
 use Rattle.moments.specs.declared.Rec.{Rec}
 use Rattle.moments.specs.declared.Rec.TheVariants.{Node as a_node, Leaf as a_leaf}
 use Rattle.moments.specs.Core.{Fate, Free, Held, Ready, InTree, Unlinked, Marked, life_of, Core, view, pin_moment}
 use Rattle.moments.specs.declared.Pin.{Pin}
-use Rattle.moments.specs.Steps.{opening, same_rec, with_fate, is_linked, next_fate, IsMomentPublish, with_lock, unlocked, after_mark, IsFilled, IsLockable, IsLawfulCore, IsStep, claims, fills, readies, releases, locks_anchor, unlocks_anchor, locks, unlocks, publishes, marks, loads_epoch, advances, pins, unpins, loads_pin, gives_back}
+use Rattle.moments.specs.Steps.{opening, same_rec, with_fate, is_linked, next_fate, IsMomentPublish, with_lock, unlocked, after_mark, FillsOnly, IsLockable, IsLawfulCore, IsStep, claims, fills, readies, releases, locks_anchor, unlocks_anchor, locks, unlocks, publishes, marks, loads_epoch, advances, pins, unpins, loads_pin, gives_back}
 use Rattle.moments.proofs.Legal.{same_rec_refl, same_rec_true, linked_cases, legal_publish_lawful, fate_lawful, give_back_lawful, fill_lawful, set_pin_lawful, clear_pin_lawful}
 use Rattle.moments.proofs.Pace.{set_pin_paced, load_epoch_paced, load_pin_paced, mark_paced, publish_paced, fate_paced, lock_paced, anchor_paced, advance_paced, clear_pin_paced, reach_kept}
 use Rattle.moments.proofs.Telling.{publish_told, content_in_order}
@@ -46,7 +46,7 @@ module _ (c : Core) (q : ℕ) (law : IsLawfulCore c) where
     locked = fate_locked c r f g law e none;
   }
 
-  fill_step : (r : Rec) (heap : Heap) → c.fate r ≡ Held q → IsFilled c.heap heap r → IsLawfulCore (record c { heap = heap })
+  fill_step : (r : Rec) (heap : Heap) → c.fate r ≡ Held q → FillsOnly c.heap heap r → IsLawfulCore (record c { heap = heap })
   fill_step r heap e f = record {
     state = fill_lawful c heap law.state
         (λ n. either (a_node n) (λ h. f.nodes n h)) (λ n. either (a_leaf n) (λ h. f.leaves n h));
@@ -168,5 +168,5 @@ core_reach c law = reach_kept c law.state
 
 -- What is in reach keeps its fixed words and stems.
 pub core_steady : (c : Core) → IsLawfulCore c → (q : ℕ) (p : Pin) → c.pins q ≡ Some p → (r : Rec) (n o : ℕ) (u v : Tree) →
-    p.moment ≤ n → n ≤ c.past.now → p.moment ≤ o → o ≤ c.past.now → Stands c.past n r u → Stands c.past o r v → IsSame u v
+    p.moment ≤ n → n ≤ c.past.now → p.moment ≤ o → o ≤ c.past.now → Stands c.past n r u → Stands c.past o r v → IsSameRecord u v
 core_steady c law q p e = (steady (view c) law.state p.moment (law.state.reach q p.moment (ap pin_moment e))).same

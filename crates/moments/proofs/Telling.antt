@@ -1,12 +1,12 @@
 -- A legal publish tells its one change.
-use Rattle.std.proofs.Common.{◌≡◌, ◌⊎◌, inl, inr, ℕ, suc, ◌<◌, ◌≤◌, List, [], ◌∷◌, ◌++◌, length, take, fold, refl, ap, sym, ◌∙◌, subst, arith, Option, Some, None, le_refl}
+use Rattle.std.proofs.Common.{◌≡◌, ◌⊎◌, inl, inr, ℕ, suc, ◌<◌, ◌≤◌, List, [], ◌∷◌, ◌++◌, length, take, refl, ap, sym, ◌∙◌, subst, arith, Option, Some, None, le_refl}
 use Rattle.std.proofs.lemmas.Bool.{cases_lt}
 use Rattle.std.proofs.lemmas.List.{take-append-le, take_all, length-append}
 use Rattle.hot_model.specs.declared.Change.{Change}
 use Rattle.hot_model.specs.declared.Kind.{Kind}
 use Rattle.hot_model.specs.declared.Kind.TheVariants.{Added, Replaced, Removed}
-use Rattle.hot_model.specs.Maps.{Map, value_at, IsRising as IsInOrder}
-use Rattle.hot_model.specs.Fronts.{map_of, changed, changed_by, FitsKind, Fits, LegalFrom}
+use Rattle.hot_model.specs.Maps.{value_at, IsRising as IsInOrder}
+use Rattle.hot_model.specs.Fronts.{map_of, changed, changed_by, FitsKind, Fits}
 use Rattle.compound_node.specs.declared.entries.Entry.{Entry}
 use Rattle.tries.specs.Tree.{Tree, IsTrie}
 use Rattle.tries.specs.Content.{Item, pairs, IsRising}
@@ -15,9 +15,10 @@ use Rattle.tries.proofs.Maps.{AreKeys, are_keys, pairs_rise, more_inserts, more_
 use Rattle.moments.specs.Heap.{Heap}
 use Rattle.moments.specs.State.{IsLawful}
 use Rattle.moments.specs.Core.{Core, view}
-use Rattle.moments.specs.Told.{items_of, content, item_of, IsChanged, IsChange, IsTold}
+use Rattle.moments.specs.Told.{items_of, content, item_of, IsChanged, IsChange, TellChanges}
 use Rattle.moments.specs.Steps.{after_publish, IsMomentPublish}
 use Rattle.moments.proofs.Publish.{moment_old, moment_new}
+use Rattle.hot_model.proofs.Growth.{map_of-push, legal_front_push}
 
 -- A change of the leaves is the change of the map, and is legal on it.
 changed_pairs : (k : Kind) (x : Item) (xs ys : List Item) → IsChanged k x xs ys → IsRising xs → AreKeys xs → IsRising ys → AreKeys ys →
@@ -46,21 +47,13 @@ changed_content : (s : Option Tree) (x : Change) (t : Option Tree) → AreTries 
 changed_content s x t i j (n, m) =
     changed_pairs x.kind (item_of n x) (items_of s) (items_of t) m (items_rise s i) (items_are_keys s i) (items_rise t j) (items_are_keys t j)
 
-map_of_end : (m : Map) (xs : List Change) (x : Change) → fold changed m (xs ++ x ∷ []) ≡ changed (fold changed m xs) x
-map_of_end m [] x = refl
-map_of_end m (y ∷ xs) x = map_of_end (changed m y) xs x
-
-legal_end : (m : Map) (xs : List Change) (x : Change) → LegalFrom m xs → Fits (fold changed m xs) x → LegalFrom m (xs ++ x ∷ [])
-legal_end m [] x l f = (f, tt)
-legal_end m (y ∷ xs) x l f = (l.0, legal_end (changed m y) xs x l.1 f)
-
 -- After a legal publish the moments tell the changes, with this one at the end.
-pub publish_told : (c : Core) (q : ℕ) (heap : Heap) (root : Option Entry) (t : Option Tree) (x : Change) → IsLawful (view c) → IsTold c.past c.changes →
-    IsMomentPublish c q heap root t x → IsTold (after_publish c q heap root t x).past (after_publish c q heap root t x).changes
+pub publish_told : (c : Core) (q : ℕ) (heap : Heap) (root : Option Entry) (t : Option Tree) (x : Change) → IsLawful (view c) → TellChanges c.past c.changes →
+    IsMomentPublish c q heap root t x → TellChanges (after_publish c q heap root t x).past (after_publish c q heap root t x).changes
 publish_told c q heap root t x law told l = record {
   count = rw length-append (let e = told.count in omega arith);
   content_is = λ n h. go n h (cases_lt c.past.now n);
-  legal = legal_end [] c.changes x told.legal (subst (λ m. Fits m x) all step.1);
+  legal = legal_front_push c.changes x told.legal (subst (λ m. Fits m x) all step.1);
 }
   where
     whole : take c.past.now c.changes ≡ c.changes
@@ -85,4 +78,4 @@ publish_told c q heap root t x law told l = record {
         let z : n ≡ suc c.past.now = omega arith in
         ap (λ m. content ((after_publish c q heap root t x).past.moment m)) z ∙
         (ap content (moment_new c.past.moment (suc c.past.now) t) ∙
-        (sym step.0 ∙ (ap (λ m. changed m x) all ∙ (sym (map_of_end [] c.changes x) ∙ ap map_of (sym (take_all n (c.changes ++ x ∷ []) (longest n z)))))))
+        (sym step.0 ∙ (ap (λ m. changed m x) all ∙ (sym (map_of-push c.changes x) ∙ ap map_of (sym (take_all n (c.changes ++ x ∷ []) (longest n z)))))))

@@ -71,10 +71,10 @@ pub record Stands (s : Past) (n : ℕ) (r : Rec) (u : Tree) : Type 0 where
   pub is_record : IsRecord r u
 
 -- Two trees of one record: the same fixed words and kin bodies, or the same key and value.
-abbrev pub IsSame : Tree → Tree → Type 0
-IsSame (leaf n k v) (leaf m l w) = (k ≡ l) × (v ≡ w)
-IsSame (node n h b) (node m i c) = (h ≡ i) × Kin b c
-IsSame s t = ⊥
+abbrev pub IsSameRecord : Tree → Tree → Type 0
+IsSameRecord (leaf n k v) (leaf m l w) = (k ≡ l) × (v ≡ w)
+IsSameRecord (node n h b) (node m i c) = (h ≡ i) × Kin b c
+IsSameRecord s t = ⊥
 
 -- What the root entry says.
 abbrev pub IsTop : Heap → Option Entry → Option Tree → Type 0
@@ -98,7 +98,7 @@ pub record IsLawful (s : State) : Type 0 where
   -- a record's words are those of the last moment of its life
   pub frozen : (r : Rec) (u : Tree) → Spans s.now (s.life r) (last_of s.now (s.life r)) → Stands s.past (last_of s.now (s.life r)) r u → IsCopied s.heap u
   -- and its fixed words and stems are those of each moment of its life
-  pub same : (r : Rec) (n : ℕ) (u v : Tree) → Spans s.now (s.life r) n → Stands s.past n r u → Stands s.past (last_of s.now (s.life r)) r v → IsSame u v
+  pub same : (r : Rec) (n : ℕ) (u v : Tree) → Spans s.now (s.life r) n → Stands s.past n r u → Stands s.past (last_of s.now (s.life r)) r v → IsSameRecord u v
   -- what was linked at a moment since a pass's pin is still in the life of that moment
   pub reach : (q m : ℕ) → s.pin q ≡ Some m → IsReach s m
 
@@ -122,8 +122,8 @@ IsFrom p (Place e) = Unit {0}
 IsFrom p (Fork q x y) = p ≤ q
 
 -- Of the entry `e` it is known that its record was linked at a moment since `m`, with keys that have `P`.
-abbrev pub IsMarked : Past → ℕ → (Key → Type 0) → Entry → Type 0
-IsMarked s m P e =
+abbrev pub StoodWithKeys : Past → ℕ → (Key → Type 0) → Entry → Type 0
+StoodWithKeys s m P e =
     (n : ℕ) × (u : Tree) × (m ≤ n) × (n ≤ s.now) × Stands s n (rec_of e) u × (page u ≡ Place e) × ((y : Key) → Has u y → P y)
 
 -- The record is linked in the moment, which may be empty.
@@ -136,14 +136,14 @@ abbrev pub with_moment : (ℕ → Option Tree) → ℕ → Option Tree → ℕ �
 with_moment f n t i = if nat_eq i n then t else f i
 
 -- The key had the value at a moment since `m`.
-abbrev pub IsHeld : Past → ℕ → Key → ℕ → Type 0
-IsHeld s m k v = (n : ℕ) × (t : Tree) × (m ≤ n) × (n ≤ s.now) × (s.moment n ≡ Some t) × Holds t k v
+abbrev pub IsHeldSince : Past → ℕ → Key → ℕ → Type 0
+IsHeldSince s m k v = (n : ℕ) × (t : Tree) × (m ≤ n) × (n ≤ s.now) × (s.moment n ≡ Some t) × Holds t k v
 
 -- The key was held at each moment since `m`.
-abbrev pub IsKept : Past → ℕ → Key → Type 0
-IsKept s m k = (n : ℕ) → m ≤ n → n ≤ s.now → (t : Tree) × (s.moment n ≡ Some t) × Has t k
+abbrev pub IsKeptSince : Past → ℕ → Key → Type 0
+IsKeptSince s m k = (n : ℕ) → m ≤ n → n ≤ s.now → (t : Tree) × (s.moment n ≡ Some t) × Has t k
 
 -- The records keep their fixed words and stems from moment `m` on: what the lawful state says of a pass's reach.
 pub record IsSteady (s : Past) (m : ℕ) : Type 0 where
   pub trees : (n : ℕ) (t : Tree) → n ≤ s.now → s.moment n ≡ Some t → IsTrie t × IsBuilt t
-  pub same : (r : Rec) (n o : ℕ) (u v : Tree) → m ≤ n → n ≤ s.now → m ≤ o → o ≤ s.now → Stands s n r u → Stands s o r v → IsSame u v
+  pub same : (r : Rec) (n o : ℕ) (u v : Tree) → m ≤ n → n ≤ s.now → m ≤ o → o ≤ s.now → Stands s n r u → Stands s o r v → IsSameRecord u v

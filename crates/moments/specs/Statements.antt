@@ -5,7 +5,7 @@ use Rattle.tries.specs.Tree.{Fixed, Tree, node, page}
 use Rattle.compound_node.specs.declared.entries.Entry.TheVariants.{Node}
 use Rattle.tries.specs.Search.{seek, between, IsUnder}
 use Rattle.moments.specs.Heap.{Heap}
-use Rattle.moments.specs.State.{Spans, State, Stands, IsSame, IsLawful, IsReach, IsLed}
+use Rattle.moments.specs.State.{Spans, State, Stands, IsSameRecord, IsLawful, IsReach, IsLed}
 use Rattle.moments.specs.declared.Rec.{Rec}
 use Rattle.moments.specs.Core.{Core, Free, Held}
 use Rattle.moments.specs.declared.Pin.{Pin}
@@ -50,4 +50,4 @@ ReachIsKept =
 abbrev pub ReachIsSteady : Type 0
 ReachIsSteady =
     (c : Core) → IsLawfulCore c → (q : ℕ) (p : Pin) → c.pins q ≡ Some p → (r : Rec) (n o : ℕ) (u v : Tree) →
-    p.moment ≤ n → n ≤ c.past.now → p.moment ≤ o → o ≤ c.past.now → Stands c.past n r u → Stands c.past o r v → IsSame u v
+    p.moment ≤ n → n ≤ c.past.now → p.moment ≤ o → o ≤ c.past.now → Stands c.past n r u → Stands c.past o r v → IsSameRecord u v

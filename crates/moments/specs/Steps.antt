@@ -7,7 +7,7 @@ use Rattle.moments.specs.State.{IsLinked, IsTop, with_moment, IsLawful}
 use Rattle.moments.specs.declared.Rec.{Rec}
 use Rattle.moments.specs.declared.Rec.TheVariants.{Node as a_node, Leaf as a_leaf}
 use Rattle.hot_model.specs.declared.Change.{Change}
-use Rattle.moments.specs.Told.{IsChange, IsTold}
+use Rattle.moments.specs.Told.{IsChange, TellChanges}
 use Rattle.moments.specs.Core.{Fate, Free, Held, Ready, InTree, Unlinked, Marked, has_seen, view, IsPaced, Shared, Core}
 use Rattle.moments.specs.declared.Pin.{Pin}
 use Rattle.moments.specs.declared.Round.{Round}
@@ -127,7 +127,7 @@ abbrev pub after_publish : Core → ℕ → Heap → Option Entry → Option Tre
 after_publish c q heap root t x = record { heap = heap; shared = published_by c.shared q root t x }
 
 -- From one heap to the next the words of record `r` alone change.
-pub record IsFilled (m o : Heap) (r : Rec) : Type 0 where
+pub record FillsOnly (m o : Heap) (r : Rec) : Type 0 where
   pub nodes : (n : ℕ) → r ≢ a_node n → m.nodes n ≡ o.nodes n
   pub leaves : (n : ℕ) → r ≢ a_leaf n → m.leaves n ≡ o.leaves n
 
@@ -139,7 +139,7 @@ HasSeenAll c o = (i : ℕ) (p : Pin) → c.pins i ≡ Some p → has_seen o.seen
 -- which change nothing.
 pub data IsStep (c : Core) (q : ℕ) : Core → Type 0 where
   claims : (r : Rec) → c.fate r ≡ Free → IsStep c q (record c { shared = with_fate c.shared r (Held q) })
-  fills : (r : Rec) (heap : Heap) → c.fate r ≡ Held q → IsFilled c.heap heap r → IsStep c q (record c { heap = heap })
+  fills : (r : Rec) (heap : Heap) → c.fate r ≡ Held q → FillsOnly c.heap heap r → IsStep c q (record c { heap = heap })
   readies : (r : Rec) → c.fate r ≡ Held q → IsStep c q (record c { shared = with_fate c.shared r (Ready q) })
   releases : (r : Rec) → c.fate r ≡ Held q → IsStep c q (record c { shared = with_fate c.shared r Free })
   locks_anchor : c.anchor ≡ None → IsStep c q (record c { shared = with_anchor c.shared (Some q) })
@@ -167,7 +167,7 @@ IsLockable q f = ⊥
 pub record IsLawfulCore (c : Core) : Type 0 where
   pub state : IsLawful (view c)
   pub paced : IsPaced c.shared
-  pub told : IsTold c.past c.changes
+  pub told : TellChanges c.past c.changes
   pub locked : (n q : ℕ) → c.lock n ≡ Some q → IsLockable q (c.fate (a_node n))
 
 -- Before the first step: no record is claimed, the index is empty and nothing is locked or pinned, and no pass has loaded the epoch.

@@ -43,7 +43,7 @@ IsChange s x t = (n : ℕ) × IsChanged x.kind (item_of n x) (items_of s) (items
 
 -- There is a moment after each number of changes, its content is the map of these, and each change is legal on the
 -- map of those before it.
-pub record IsTold (s : Past) (changes : List Change) : Type 0 where
+pub record TellChanges (s : Past) (changes : List Change) : Type 0 where
   pub count : length changes ≡ s.now
   pub content_is : (n : ℕ) → n ≤ s.now → content (s.moment n) ≡ map_of (take n changes)
   pub legal : LegalFront changes

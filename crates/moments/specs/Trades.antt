@@ -1,7 +1,7 @@
 -- Which records a publish links anew, and which it unlinks, by lists.
 use Rattle.std.specs.Prelude.{◌≡◌, ◌⊎◌, List, [], ◌∷◌, Option}
 use Rattle.tries.specs.Tree.{Tree}
-use Rattle.moments.specs.State.{Links, IsLinked}
+use Rattle.moments.specs.State.{IsLinked}
 use Rattle.moments.specs.declared.Rec.{Rec}
 
 -- one of the list
@@ -13,13 +13,6 @@ IsOf x (y ∷ ys) = (x ≡ y) ⊎ IsOf x ys
 abbrev pub AreApart : {X : Type 0} → List X → Type 0
 AreApart [] = Unit {0}
 AreApart (x ∷ xs) = (¬ (IsOf x xs)) × AreApart xs
-
--- Where `s` was is `r`: it links what `s` linked and the records `new`, but for just the records `gone`.
-pub record IsTraded (s r : Tree) (new gone : List Rec) : Type 0 where
-  pub comes : (i : Rec) → Links r i → Links s i ⊎ IsOf i new
-  pub came : (i : Rec) → IsOf i new → Links r i
-  pub goes : (i : Rec) → Links s i → Links r i ⊎ IsOf i gone
-  pub went : (i : Rec) → IsOf i gone → Links s i × (Links r i → ⊥)
 
 -- From the moment `s`, which may be empty, to the next one, `t`: just the records `new` are linked anew, and just the
 -- records `gone`, each listed once, are linked no more.

@@ -11,8 +11,9 @@ use Rattle.tries.specs.Content.{Item, IsMore, added, behind, IsExchange, exchang
 use Rattle.moments.specs.Told.{item_of, IsChanged, added_change, replaced_change, removed_change}
 use Rattle.rowex_core.specs.Events.{AreSame, change_between, change_at}
 use Rattle.replay_trees.specs.declared.trees.Item.{Item as ReadItem}
-use Rattle.replay_trees.specs.Moments.{item_of as leaf_item}
-use Rattle.replay_trees.specs.Changed.{AreApart, numbers, Changes, IsFoundChange, IsMade}
+use Rattle.replay_trees.specs.Moments.{read_item}
+use Rattle.replay_trees.specs.Changed.{BeginApart, numbers, Changes, IsFoundChange, IsMade}
+use Rattle.rowex_core.proofs.Publishing.{no_change}
 
 -- Lists of the same numbers are the same lists
 same_lists : (xs ys : List Item) → AreSame xs ys → numbers xs ≡ numbers ys → xs ≡ ys
@@ -45,12 +46,8 @@ changed_behind Removed z x xs ys m = behind m
 changed_behind Replaced z x xs ys m = (m.0, m.1, past_one m.2)
 
 -- Between equal lists the change is none
-self_removed : (q : ℕ) (xs : List Item) → (change_between q xs xs).kind ≡ Removed
-self_removed q [] = refl
-self_removed q (x ∷ xs) = rw eq-eqb (self_removed q xs)
-
-no_change : (q : ℕ) (xs ys : List Item) → xs ≡ ys → (change_between q xs ys).kind ≡ Removed
-no_change q xs ys e = subst (λ z. (change_between q xs z).kind ≡ Removed) e (self_removed q xs)
+same_removed : (q : ℕ) (xs ys : List Item) → xs ≡ ys → (change_between q xs ys).kind ≡ Removed
+same_removed q xs ys e = subst (λ z. (change_between q xs z).kind ≡ Removed) e (no_change q xs)
 
 -- a first leaf of the same number is passed over
 passed : (q : ℕ) (x y : Item) (xs ys : List Item) → x.number ≡ y.number → change_between q (x ∷ xs) (y ∷ ys) ≡ change_between q xs ys
@@ -61,7 +58,7 @@ found_step q x xs ys None none =
     λ c. none (subst (λ z. Changes z xs ys) (passed q x x xs ys refl) (
       c.0,
       changed_cons (change_between q (x ∷ xs) (x ∷ ys)).kind (item_of c.0 (change_between q (x ∷ xs) (x ∷ ys))) x xs ys
-          (λ e. ap (λ (z : Change). z.kind) (passed q x x xs ys refl) ∙ no_change q xs ys e) c.1,
+          (λ e. ap (λ (z : Change). z.kind) (passed q x x xs ys refl) ∙ same_removed q xs ys e) c.1,
     ))
 found_step q x xs ys (Some c) f = (f.0 ∙ sym (passed q x x xs ys refl), (f.1.0, changed_behind c.kind (item_of f.1.0 c) x xs ys f.1.1))
 
@@ -83,22 +80,22 @@ made_found : (q : ℕ) (xs ys us vs : List Item) (c : Change) (o : Option Change
 made_found q xs ys us vs c None e into back made = λ m. made (back (subst (λ z. Changes z xs ys) e m))
 made_found q xs ys us vs c (Some d) e into back made = (made.0 ∙ sym e, subst (λ z. Changes z xs ys) (sym made.0) (into made.1))
 
-rest_of_more : (z x : Item) (xs ys : List Item) → AreApart (x ∷ xs) ys → IsMore z ys (x ∷ xs) → ys ≡ xs
+rest_of_more : (z x : Item) (xs ys : List Item) → BeginApart (x ∷ xs) ys → IsMore z ys (x ∷ xs) → ys ≡ xs
 rest_of_more z x xs ys a added = refl
 rest_of_more z x xs ys a (behind m) = absurd (a refl)
 
-rest_of_less : (z y : Item) (xs ys : List Item) → AreApart xs (y ∷ ys) → IsMore z xs (y ∷ ys) → xs ≡ ys
+rest_of_less : (z y : Item) (xs ys : List Item) → BeginApart xs (y ∷ ys) → IsMore z xs (y ∷ ys) → xs ≡ ys
 rest_of_less z y xs ys a added = refl
 rest_of_less z y xs ys a (behind m) = absurd (a refl)
 
-pub removal_found : (q : ℕ) (x : Item) (xs ys : List Item) (o : Option Change) → AreApart (x ∷ xs) ys → AreSame (x ∷ xs) ys → change_between q (x ∷ xs) ys ≡ removed_change q x →
+pub removal_found : (q : ℕ) (x : Item) (xs ys : List Item) (o : Option Change) → BeginApart (x ∷ xs) ys → AreSame (x ∷ xs) ys → change_between q (x ∷ xs) ys ≡ removed_change q x →
     IsMade xs ys (removed_change q x) o → IsFoundChange q (x ∷ xs) ys o
 removal_found q x xs ys o a s e made =
     made_found q (x ∷ xs) ys xs ys (removed_change q x) o e
     (λ i. (x.number, subst (λ z. IsMore x z (x ∷ xs)) (same_lists xs ys (λ u v h g. s u v (inr h) g) i) added))
     (λ m. ap numbers (sym (rest_of_more (item_of m.0 (removed_change q x)) x xs ys a m.1))) made
 
-pub addition_found : (q : ℕ) (y : Item) (xs ys : List Item) (o : Option Change) → AreApart xs (y ∷ ys) → AreSame xs (y ∷ ys) → change_between q xs (y ∷ ys) ≡ added_change q y →
+pub addition_found : (q : ℕ) (y : Item) (xs ys : List Item) (o : Option Change) → BeginApart xs (y ∷ ys) → AreSame xs (y ∷ ys) → change_between q xs (y ∷ ys) ≡ added_change q y →
     IsMade xs ys (added_change q y) o → IsFoundChange q xs (y ∷ ys) o
 addition_found q y xs ys o a s e made =
     made_found q xs (y ∷ ys) xs ys (added_change q y) o e
@@ -121,7 +118,7 @@ pub apart_change : (q : ℕ) (x y : Item) (xs ys : List Item) (o : Ordering) →
 apart_change q x y xs ys o a e = let t : eqb x.number y.number ≡ false = ne_eqb x.number y.number a in rw t (ap (λ z. change_at q z x y) e)
 
 -- Behind the common front the heads are apart.
-pub apart_from : (xs ys : List Item) (n : ℕ) → n ≤ length xs → n ≤ length ys → (n < length xs → n < length ys → get_or (numbers xs) n 0 ≡ get_or (numbers ys) n 0 → ⊥) → AreApart (drop n xs) (drop n ys)
+pub apart_from : (xs ys : List Item) (n : ℕ) → n ≤ length xs → n ≤ length ys → (n < length xs → n < length ys → get_or (numbers xs) n 0 ≡ get_or (numbers ys) n 0 → ⊥) → BeginApart (drop n xs) (drop n ys)
 apart_from [] [] zero h g f = tt
 apart_from [] (y ∷ ys) zero h g f = tt
 apart_from (x ∷ xs) [] zero h g f = tt
@@ -132,23 +129,23 @@ apart_from (x ∷ xs) (y ∷ ys) (suc n) h g f = apart_from xs ys n (omega arith
 
 -- Lists of leaves as they were read
 
-number_at : (xs : List ReadItem) (i : ℕ) (x : ReadItem) → i < length xs → get_or (numbers (map leaf_item xs)) i 0 ≡ (get_or xs i x).number
+number_at : (xs : List ReadItem) (i : ℕ) (x : ReadItem) → i < length xs → get_or (numbers (map read_item xs)) i 0 ≡ (get_or xs i x).number
 number_at xs i x h =
-    get_or-map (λ (z : Item). z.number) (map leaf_item xs) i (leaf_item x) 0 (let l = length-map xs leaf_item in omega arith) ∙ ap (λ (z : Item). z.number) (get_or-map leaf_item xs i x (leaf_item x) h)
+    get_or-map (λ (z : Item). z.number) (map read_item xs) i (read_item x) 0 (let l = length-map xs read_item in omega arith) ∙ ap (λ (z : Item). z.number) (get_or-map read_item xs i x (read_item x) h)
 
-pub same_number : (xs ys : List ReadItem) (i : ℕ) (x y : ReadItem) → i < length xs → i < length ys → (get_or xs i x).number ≡ (get_or ys i y).number → get_or (numbers (map leaf_item xs)) i 0 ≡ get_or (numbers (map leaf_item ys)) i 0
+pub same_number : (xs ys : List ReadItem) (i : ℕ) (x y : ReadItem) → i < length xs → i < length ys → (get_or xs i x).number ≡ (get_or ys i y).number → get_or (numbers (map read_item xs)) i 0 ≡ get_or (numbers (map read_item ys)) i 0
 same_number xs ys i x y h g e = number_at xs i x h ∙ (e ∙ sym (number_at ys i y g))
 
-pub other_number : (xs ys : List ReadItem) (i : ℕ) (x y : ReadItem) → (get_or xs i x).number ≢ (get_or ys i y).number → i < length xs → i < length ys → get_or (numbers (map leaf_item xs)) i 0 ≡ get_or (numbers (map leaf_item ys)) i 0 → ⊥
+pub other_number : (xs ys : List ReadItem) (i : ℕ) (x y : ReadItem) → (get_or xs i x).number ≢ (get_or ys i y).number → i < length xs → i < length ys → get_or (numbers (map read_item xs)) i 0 ≡ get_or (numbers (map read_item ys)) i 0 → ⊥
 other_number xs ys i x y n h g e = n (sym (number_at xs i x h) ∙ (e ∙ number_at ys i y g))
 
 -- what is found of lists is found of those that are the same
-pub found_at : (q : ℕ) (gone come xs ys : List ReadItem) (o : Option Change) → gone ≡ xs → come ≡ ys → AreApart (map leaf_item gone) (map leaf_item come) →
-    (AreApart (map leaf_item xs) (map leaf_item ys) → AreSame (map leaf_item xs) (map leaf_item ys) → IsFoundChange q (map leaf_item xs) (map leaf_item ys) o) →
-    AreSame (map leaf_item gone) (map leaf_item come) → IsFoundChange q (map leaf_item gone) (map leaf_item come) o
+pub found_at : (q : ℕ) (gone come xs ys : List ReadItem) (o : Option Change) → gone ≡ xs → come ≡ ys → BeginApart (map read_item gone) (map read_item come) →
+    (BeginApart (map read_item xs) (map read_item ys) → AreSame (map read_item xs) (map read_item ys) → IsFoundChange q (map read_item xs) (map read_item ys) o) →
+    AreSame (map read_item gone) (map read_item come) → IsFoundChange q (map read_item gone) (map read_item come) o
 found_at q gone come xs ys o e f a k =
-    subst (λ u. AreApart (map leaf_item u) (map leaf_item come) → AreSame (map leaf_item u) (map leaf_item come) → IsFoundChange q (map leaf_item u) (map leaf_item come) o) (sym e)
-    (subst (λ v. AreApart (map leaf_item xs) (map leaf_item v) → AreSame (map leaf_item xs) (map leaf_item v) → IsFoundChange q (map leaf_item xs) (map leaf_item v) o) (sym f) k) a
+    subst (λ u. BeginApart (map read_item u) (map read_item come) → AreSame (map read_item u) (map read_item come) → IsFoundChange q (map read_item u) (map read_item come) o) (sym e)
+    (subst (λ v. BeginApart (map read_item xs) (map read_item v) → AreSame (map read_item xs) (map read_item v) → IsFoundChange q (map read_item xs) (map read_item v) o) (sym f) k) a
 
 pub no_items : (xs : List ReadItem) → length xs ≡ 0 → xs ≡ []
 no_items [] e = refl

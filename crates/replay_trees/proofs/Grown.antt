@@ -10,8 +10,8 @@ use Rattle.moments.specs.declared.Rec.TheVariants.{Node as a_node, Leaf as a_lea
 use Rattle.moments.specs.State.{Links}
 use Rattle.replay_trees.specs.declared.trees.Item.{Item as ReadItem}
 use Rattle.replay_trees.specs.declared.trees.Linked.{Linked}
-use Rattle.replay_trees.specs.Moments.{item_of}
-use Rattle.replay_trees.specs.Parts.{IsGrown}
+use Rattle.replay_trees.specs.Moments.{read_item}
+use Rattle.replay_trees.specs.Parts.{GrowsBy}
 
 -- a mark set
 marked : (xs : List Bool) (n m : ℕ) → n < length xs → (get_or (set xs n true) m false ≡ true) ↔ ((get_or xs m false ≡ true) ⊎ (m ≡ n))
@@ -32,9 +32,9 @@ same_node : {n m : ℕ} → a_node n ≡ a_node m → n ≡ m
 same_node e = cc
 
 pub leaf_grown : (old new : Linked) (n : ℕ) (k : Key) (v : ℕ) → new.items.items ≡ old.items.items ++ record { number = n; key = k; value = v } ∷ [] → new.nodes ≡ old.nodes →
-    new.leaves.items ≡ set old.leaves.items n true → n < length old.leaves.items → IsGrown (leaf n k v) old new
+    new.leaves.items ≡ set old.leaves.items n true → n < length old.leaves.items → GrowsBy (leaf n k v) old new
 leaf_grown old new n k v items_are nodes_are leaves_are h = record {
-  items_are = ap (map item_of) items_are ∙ map-append item_of old.items.items (record { number = n; key = k; value = v } ∷ []);
+  items_are = ap (map read_item) items_are ∙ map-append read_item old.items.items (record { number = n; key = k; value = v } ∷ []);
   nodes_are = λ m. (λ x. inl (subst (λ z. get_or z.items m false ≡ true) nodes_are x), elim_node m);
   leaves_are = λ m. subst (λ z. (get_or z m false ≡ true) ↔ ((get_or old.leaves.items m false ≡ true) ⊎ (a_leaf m ≡ a_leaf n))) (sym leaves_are) (leaf_mark m);
 }
@@ -52,9 +52,9 @@ leaf_grown old new n k v items_are nodes_are leaves_are h = record {
 
 -- The mark of a node, and then what its body links.
 pub node_grown : (old mid new : Linked) (n : ℕ) (x : HeadView) (b : Tree) → mid.items ≡ old.items → mid.nodes.items ≡ set old.nodes.items n true → mid.leaves ≡ old.leaves →
-    n < length old.nodes.items → IsGrown b mid new → IsGrown (node n x b) old new
+    n < length old.nodes.items → GrowsBy b mid new → GrowsBy (node n x b) old new
 node_grown old mid new n x b items_are nodes_are leaves_are h g = record {
-  items_are = g.items_are ∙ ap (λ z. map item_of z.items ++ items b) items_are;
+  items_are = g.items_are ∙ ap (λ z. map read_item z.items ++ items b) items_are;
   nodes_are = λ m. (λ y. into m ((g.nodes_are m).0 y), λ y. (g.nodes_are m).1 (back m y));
   leaves_are = λ m. (λ y. leaf_into m ((g.leaves_are m).0 y), λ y. (g.leaves_are m).1 (leaf_back m y));
 }
@@ -90,9 +90,9 @@ both_ways {A} {B} {C} {P} {Q} f g = (λ c. into (g.0 c), λ y. g.1 (back y))
     back (inr (inl p)) = inl (f.1 (inr p))
     back (inr (inr q)) = inr q
 
-pub fork_grown : (old mid new : Linked) (p : ℕ) (a b : Tree) → IsGrown a old mid → IsGrown b mid new → IsGrown (fork p a b) old new
+pub fork_grown : (old mid new : Linked) (p : ℕ) (a b : Tree) → GrowsBy a old mid → GrowsBy b mid new → GrowsBy (fork p a b) old new
 fork_grown old mid new p a b f g = record {
-  items_are = g.items_are ∙ (ap (λ z. z ++ items b) f.items_are ∙ append_assoc (map item_of old.items.items) (items a) (items b));
+  items_are = g.items_are ∙ (ap (λ z. z ++ items b) f.items_are ∙ append_assoc (map read_item old.items.items) (items a) (items b));
   nodes_are = λ n. both_ways (f.nodes_are n) (g.nodes_are n);
   leaves_are = λ n. both_ways (f.leaves_are n) (g.leaves_are n);
 }
@@ -104,10 +104,10 @@ starts (node n x b) = starts b
 starts (fork p a b) = let s = starts a in (s.0, s.1 ++ items b, ap (λ z. z ++ items b) s.2, s.3)
 
 -- The item after those of before is the first of the tree.
-pub first_read : (t : Tree) (us vs : List Item) (zs : List ReadItem) (n : ℕ) (z : ReadItem) → map item_of zs ≡ us ++ (items t ++ vs) → length us ≡ n → get_or zs n z ≡ z → n < length zs → z.key ≡ first t
+pub first_read : (t : Tree) (us vs : List Item) (zs : List ReadItem) (n : ℕ) (z : ReadItem) → map read_item zs ≡ us ++ (items t ++ vs) → length us ≡ n → get_or zs n z ≡ z → n < length zs → z.key ≡ first t
 first_read t us vs zs n z all long at inside =
     let s = starts t in
-    let there : get_or (map item_of zs) n (item_of z) ≡ item_of z = get_or-map item_of zs n z (item_of z) inside ∙ ap item_of at in
-    let here : get_or (us ++ (items t ++ vs)) n (item_of z) ≡ s.0 =
-    get_or-append_right us (items t ++ vs) n n (item_of z) long (omega arith) ∙ (ap (λ i. get_or (items t ++ vs) i (item_of z)) (let e : n - n ≡ 0 = omega arith in e) ∙ ap (λ y. get_or (y ++ vs) 0 (item_of z)) s.2) in
-    ap (λ (y : Item). y.key) (sym there ∙ (ap (λ y. get_or y n (item_of z)) all ∙ here)) ∙ s.3
+    let there : get_or (map read_item zs) n (read_item z) ≡ read_item z = get_or-map read_item zs n z (read_item z) inside ∙ ap read_item at in
+    let here : get_or (us ++ (items t ++ vs)) n (read_item z) ≡ s.0 =
+    get_or-append_right us (items t ++ vs) n n (read_item z) long (omega arith) ∙ (ap (λ i. get_or (items t ++ vs) i (read_item z)) (let e : n - n ≡ 0 = omega arith in e) ∙ ap (λ y. get_or (y ++ vs) 0 (read_item z)) s.2) in
+    ap (λ (y : Item). y.key) (sym there ∙ (ap (λ y. get_or y n (read_item z)) all ∙ here)) ∙ s.3

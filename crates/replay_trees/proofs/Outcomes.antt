@@ -14,8 +14,8 @@ use Rattle.tries.specs.Content.{items, first}
 use Rattle.moments.specs.declared.Rec.{Rec}
 use Rattle.replay_trees.specs.declared.trees.Item.{Item as ReadItem}
 use Rattle.replay_trees.specs.declared.trees.Linked.{Linked}
-use Rattle.replay_trees.specs.Moments.{AreWordsOf, item_of}
-use Rattle.replay_trees.specs.Parts.{IsPart, HasRoom, IsGrown, IsPartRead, IsLeafTaken, IsNodeOf}
+use Rattle.replay_trees.specs.Moments.{AreWordsOf, read_item}
+use Rattle.replay_trees.specs.Parts.{ShowsPart, HasMarks, GrowsBy, IsPartRead, IsLeafTaken, IsNodeOf}
 use Rattle.replay_trees.proofs.Grown.{leaf_grown, node_grown, fork_grown, first_read}
 use Rattle.replay_trees.proofs.Shown.{leaf_part, no_leaf, node_part, node_back, fork_part, fork_back, one_tree}
 
@@ -31,7 +31,7 @@ is_fork cut (fork p a b) s = tt
 module _ (nodes leaves : List (List ℕ)) (words : Rec → List ℕ) (are : AreWordsOf nodes leaves words) (least : ℕ) where
   -- Entries
 
-  pub leaf_read : (n : ℕ) (good : Bool) (old new : Linked) → HasRoom nodes leaves old → IsLeafTaken leaves n good old new → IsPartRead nodes leaves words least (Place (Leaf n)) good old new
+  pub leaf_read : (n : ℕ) (good : Bool) (old new : Linked) → HasMarks nodes leaves old → IsLeafTaken leaves n good old new → IsPartRead nodes leaves words least (Place (Leaf n)) good old new
   leaf_read n true old new room taken = (
     leaf n taken.0.0 taken.0.1,
     leaf_part nodes leaves words are least n taken.0 taken.1,
@@ -40,14 +40,14 @@ module _ (nodes leaves : List (List ℕ)) (words : Rec → List ℕ) (are : AreW
   leaf_read n false old new room taken = λ t. no_leaf nodes leaves words are least n t taken.0
 
   module _ (n h : ℕ) (view : NodeView) (cut : Cut) (at : IsNodeOf nodes n h view) (cuts : CutShows cut (piece view)) where
-    pub no_height : 9 * MAX_BYTES < h + cut.position → (t : Tree) → ¬ (IsPart nodes leaves words least (Place (Node n h)) t)
+    pub no_height : 9 * MAX_BYTES < h + cut.position → (t : Tree) → ¬ (ShowsPart nodes leaves words least (Place (Node n h)) t)
     no_height over t part =
         let b = node_back nodes leaves words are least n h view t at part in
         let m : MAX_BYTES ≡ 240 = refl in
         omega (arith, over, b.2, cut_first cut (piece view) cuts)
 
     pub node_read : h + cut.position ≤ 9 * MAX_BYTES → (good : Bool) (old mid new : Linked) → mid.items ≡ old.items → mid.nodes.items ≡ set old.nodes.items n true → mid.leaves ≡ old.leaves →
-        HasRoom nodes leaves old → IsPartRead nodes leaves words least (piece view) good mid new → IsPartRead nodes leaves words least (Place (Node n h)) good old new
+        HasMarks nodes leaves old → IsPartRead nodes leaves words least (piece view) good mid new → IsPartRead nodes leaves words least (Place (Node n h)) good old new
     node_read bound true old mid new i j k room read =
         let b = read.0 in (
           node n (head_of view) b,
@@ -60,23 +60,23 @@ module _ (nodes leaves : List (List ℕ)) (words : Rec → List ℕ) (are : AreW
 
   -- No part is there where a side is none.
   module _ (cut : Cut) where
-    pub no_low : cut.position < least → (p : Page) → CutShows cut p → (t : Tree) → ¬ (IsPart nodes leaves words least p t)
+    pub no_low : cut.position < least → (p : Page) → CutShows cut p → (t : Tree) → ¬ (ShowsPart nodes leaves words least p t)
     no_low low (Place e) s t part = elim s [ ]
     no_low low (Fork q x y) s t part = let f = fork_back nodes leaves words are least q x y t part in omega (arith, low, f.low, s.0)
 
-    pub no_zero : (next : ℕ) → next ≡ cut.position + 1 → ((p : Page) → HalfShows cut.zero p → (t : Tree) → ¬ (IsPart nodes leaves words next p t)) →
-        (p : Page) → CutShows cut p → (t : Tree) → ¬ (IsPart nodes leaves words least p t)
+    pub no_zero : (next : ℕ) → next ≡ cut.position + 1 → ((p : Page) → HalfShows cut.zero p → (t : Tree) → ¬ (ShowsPart nodes leaves words next p t)) →
+        (p : Page) → CutShows cut p → (t : Tree) → ¬ (ShowsPart nodes leaves words least p t)
     no_zero next e none (Place f) s t part = elim s [ ]
     no_zero next e none (Fork q x y) s t part =
         let f = fork_back nodes leaves words are least q x y t part in
-        none x s.1 f.zero (subst (λ z. IsPart nodes leaves words z x f.zero) (let i : q + 1 ≡ next = omega (arith, e, s.0) in i) f.zero_part)
+        none x s.1 f.zero (subst (λ z. ShowsPart nodes leaves words z x f.zero) (let i : q + 1 ≡ next = omega (arith, e, s.0) in i) f.zero_part)
 
-    pub no_one : (next : ℕ) → next ≡ cut.position + 1 → ((p : Page) → HalfShows cut.one p → (t : Tree) → ¬ (IsPart nodes leaves words next p t)) →
-        (p : Page) → CutShows cut p → (t : Tree) → ¬ (IsPart nodes leaves words least p t)
+    pub no_one : (next : ℕ) → next ≡ cut.position + 1 → ((p : Page) → HalfShows cut.one p → (t : Tree) → ¬ (ShowsPart nodes leaves words next p t)) →
+        (p : Page) → CutShows cut p → (t : Tree) → ¬ (ShowsPart nodes leaves words least p t)
     no_one next e none (Place f) s t part = elim s [ ]
     no_one next e none (Fork q x y) s t part =
         let f = fork_back nodes leaves words are least q x y t part in
-        none y s.2 f.one (subst (λ z. IsPart nodes leaves words z y f.one) (let i : q + 1 ≡ next = omega (arith, e, s.0) in i) f.one_part)
+        none y s.2 f.one (subst (λ z. ShowsPart nodes leaves words z y f.one) (let i : q + 1 ≡ next = omega (arith, e, s.0) in i) f.one_part)
 
     -- Two sides are a part where their first keys part.
     pub cut_read : (next next' : ℕ) → next ≡ cut.position + 1 → next' ≡ cut.position + 1 → least ≤ cut.position → (old mid new : Linked) →
@@ -88,26 +88,26 @@ module _ (nodes leaves : List (List ℕ)) (words : Rec → List ℕ) (are : AreW
     cut_read next next' e e' low old mid new zero one z o i j first_at second_at first_in second_in first_is second_is good parted (Fork q x y) s =
         go good parted
       where
-        a : (t : Tree) × IsPart nodes leaves words next x t × IsGrown t old mid
+        a : (t : Tree) × ShowsPart nodes leaves words next x t × GrowsBy t old mid
         a = zero x s.1
 
-        b : (t : Tree) × IsPart nodes leaves words next' y t × IsGrown t mid new
+        b : (t : Tree) × ShowsPart nodes leaves words next' y t × GrowsBy t mid new
         b = one y s.2
 
-        all_items : map item_of new.items.items ≡ map item_of old.items.items ++ (items a.0 ++ items b.0)
-        all_items = b.2.items_are ∙ (ap (λ u. u ++ items b.0) a.2.items_are ∙ append_assoc (map item_of old.items.items) (items a.0) (items b.0))
+        all_items : map read_item new.items.items ≡ map read_item old.items.items ++ (items a.0 ++ items b.0)
+        all_items = b.2.items_are ∙ (ap (λ u. u ++ items b.0) a.2.items_are ∙ append_assoc (map read_item old.items.items) (items a.0) (items b.0))
 
         zero_key : z.key ≡ first a.0
-        zero_key = first_read a.0 (map item_of old.items.items) (items b.0) new.items.items i z all_items (length-map old.items.items item_of ∙ sym first_at) first_is first_in
+        zero_key = first_read a.0 (map read_item old.items.items) (items b.0) new.items.items i z all_items (length-map old.items.items read_item ∙ sym first_at) first_is first_in
 
         one_key : o.key ≡ first b.0
-        one_key = first_read b.0 (map item_of mid.items.items) [] new.items.items j o (b.2.items_are ∙ ap (λ u. map item_of mid.items.items ++ u) (sym (append-nil (items b.0)))) (length-map mid.items.items item_of ∙ sym second_at) second_is second_in
+        one_key = first_read b.0 (map read_item mid.items.items) [] new.items.items j o (b.2.items_are ∙ ap (λ u. map read_item mid.items.items ++ u) (sym (append-nil (items b.0)))) (length-map mid.items.items read_item ∙ sym second_at) second_is second_in
 
-        zero_part : IsPart nodes leaves words (q + 1) x a.0
-        zero_part = subst (λ u. IsPart nodes leaves words u x a.0) (let k : next ≡ q + 1 = omega (arith, e, s.0) in k) a.1
+        zero_part : ShowsPart nodes leaves words (q + 1) x a.0
+        zero_part = subst (λ u. ShowsPart nodes leaves words u x a.0) (let k : next ≡ q + 1 = omega (arith, e, s.0) in k) a.1
 
-        one_part : IsPart nodes leaves words (q + 1) y b.0
-        one_part = subst (λ u. IsPart nodes leaves words u y b.0) (let k : next' ≡ q + 1 = omega (arith, e', s.0) in k) b.1
+        one_part : ShowsPart nodes leaves words (q + 1) y b.0
+        one_part = subst (λ u. ShowsPart nodes leaves words u y b.0) (let k : next' ≡ q + 1 = omega (arith, e', s.0) in k) b.1
 
         go : (g : Bool) → IsTrue g ↔ IsParted cut.position z.key o.key → IsPartRead nodes leaves words least (Fork q x y) g old new
         go true f = (

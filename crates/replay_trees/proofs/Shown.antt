@@ -15,14 +15,14 @@ use Rattle.moments.specs.declared.Rec.{Rec}
 use Rattle.moments.specs.declared.Rec.TheVariants.{Node as a_node, Leaf as a_leaf}
 use Rattle.moments.specs.Heap.{NodeWords}
 use Rattle.moments.specs.State.{Links}
-use Rattle.moments.proofs.Heaps.{determined}
+use Rattle.moments.proofs.Heaps.{determined, leaf_parts, node_parts}
 use Rattle.rowex_core.specs.Reading.{node_of, leaf_of, IsPacked}
 use Rattle.rowex_core.specs.Cores.{heap_of}
 use Rattle.rowex_core.proofs.Reading.{node_is, leaf_is}
 use Rattle.replay_trees.proofs.Lists.{all_parts}
 use Rattle.replay_trees.proofs.Small.{leaf_small, node_small}
 use Rattle.replay_trees.specs.Moments.{AreWordsOf, IsSpelled}
-use Rattle.replay_trees.specs.Parts.{IsForkedFrom, IsPart, IsLeafAt, IsNodeOf}
+use Rattle.replay_trees.specs.Parts.{IsForkedFrom, ShowsPart, IsLeafAt, IsNodeOf}
 
 -- Where a first fork stands
 above_from : (p : ℕ) (t : Tree) → IsForkedFrom (p + 1) t → IsAbove p t
@@ -53,7 +53,7 @@ module _ (nodes leaves : List (List ℕ)) (words : Rec → List ℕ) (are : AreW
   unfolding IsPacked
   leaf_packed n pair at = (pair, at.has, at.spelling ∙ sym (are.leaves_are n at.in_table))
 
-  pub leaf_part : (least n : ℕ) (pair : List ℕ × ℕ) → IsLeafAt leaves n pair → IsPart nodes leaves words least (Place (Leaf n)) (leaf n pair.0 pair.1)
+  pub leaf_part : (least n : ℕ) (pair : List ℕ × ℕ) → IsLeafAt leaves n pair → ShowsPart nodes leaves words least (Place (Leaf n)) (leaf n pair.0 pair.1)
   leaf_part least n pair at = record {
     page_is = refl;
     shown = ap leaf_of (are.leaves_are n at.in_table) ∙ leaf_is pair (get_or leaves n []) (leaf_small pair (get_or leaves n []) at.has at.spelling) at.has at.spelling;
@@ -63,16 +63,13 @@ module _ (nodes leaves : List (List ℕ)) (words : Rec → List ℕ) (are : AreW
     spelled = λ r e. subst (IsSpelled nodes leaves words) (sym e) (at.in_table, leaf_packed n pair at);
   }
 
-  same_number : {n o : ℕ} → Place (Leaf n) ≡ Place (Leaf o) → n ≡ o
-  same_number e = cc
-
   leaf_spelled : (n : ℕ) → IsSpelled nodes leaves words (a_leaf n) → (pair : List ℕ × ℕ) × IsLeafAt leaves n pair
   unfolding IsPacked
   leaf_spelled n s = (s.1.0, record { in_table = s.0; has = s.1.1; spelling = s.1.2 ∙ are.leaves_are n s.0 })
 
-  pub no_leaf : (least n : ℕ) (t : Tree) → ((pair : List ℕ × ℕ) → ¬ (IsLeafAt leaves n pair)) → ¬ (IsPart nodes leaves words least (Place (Leaf n)) t)
+  pub no_leaf : (least n : ℕ) (t : Tree) → ((pair : List ℕ × ℕ) → ¬ (IsLeafAt leaves n pair)) → ¬ (ShowsPart nodes leaves words least (Place (Leaf n)) t)
   no_leaf least n (leaf o k v) none part =
-      let e : o ≡ n = same_number part.page_is in
+      let e : o ≡ n = leaf_parts part.page_is in
       let found = leaf_spelled n (subst (λ z. IsSpelled nodes leaves words (a_leaf z)) e (part.spelled (a_leaf o) refl)) in
       none found.0 found.1
   no_leaf least n (node o x b) none part = let e = part.page_is in absurd cc
@@ -97,7 +94,7 @@ module _ (nodes leaves : List (List ℕ)) (words : Rec → List ℕ) (are : AreW
   })
 
   pub node_part : (least n h : ℕ) (view : NodeView) (b : Tree) → IsNodeOf nodes n h view → h + first_position (piece view) ≤ 9 * MAX_BYTES → IsFork b →
-      IsPart nodes leaves words least (piece view) b → IsPart nodes leaves words least (Place (Node n h)) (node n (head_of view) b)
+      ShowsPart nodes leaves words least (piece view) b → ShowsPart nodes leaves words least (Place (Node n h)) (node n (head_of view) b)
   node_part least n h view b at bound two part = record {
     page_is = ap (λ z. Place (Node n z)) at.height_is;
     shown = (words_are n view at.in_table at.has at.spelling ∙ ap (λ z. let w : NodeWords = record { fixed = head_of view; page = z } in w) (sym part.page_is), part.shown);
@@ -116,28 +113,25 @@ module _ (nodes leaves : List (List ℕ)) (words : Rec → List ℕ) (are : AreW
       of r (inl e) = subst (IsSpelled nodes leaves words) (sym e) (at.in_table, node_packed n h view at)
       of r (inr l) = part.spelled r l
 
-  node_number : {n o h i : ℕ} → Place (Node n h) ≡ Place (Node o i) → (n ≡ o) × (h ≡ i)
-  node_number e = (cc, cc)
-
   node_spelled : (n : ℕ) → IsSpelled nodes leaves words (a_node n) → (view : NodeView) × (n < length nodes) × HasNodeWords view × (node_words view ≡ get_or nodes n [])
   unfolding IsPacked
   node_spelled n s = (s.1.0, s.0, s.1.1, s.1.2 ∙ are.nodes_are n s.0)
 
-  pub no_node : (least n h : ℕ) (t : Tree) → ((view : NodeView) → ¬ (IsNodeOf nodes n h view)) → ¬ (IsPart nodes leaves words least (Place (Node n h)) t)
+  pub no_node : (least n h : ℕ) (t : Tree) → ((view : NodeView) → ¬ (IsNodeOf nodes n h view)) → ¬ (ShowsPart nodes leaves words least (Place (Node n h)) t)
   no_node least n h (leaf o k v) none part = let e = part.page_is in absurd cc
   no_node least n h (fork p a b) none part = let e = part.page_is in absurd cc
   no_node least n h (node o x b) none part =
-      let e = node_number part.page_is in
+      let e = node_parts part.page_is in
       let s = node_spelled n (subst (λ z. IsSpelled nodes leaves words (a_node z)) e.0 (part.spelled (a_node o) (inl refl))) in
       let w : record { fixed = x; page = page b } ≡ record { fixed = head_of s.0; page = piece s.0 } = sym part.shown.0 ∙ (ap (λ z. node_of (words (a_node z))) e.0 ∙ words_are n s.0 s.1 s.2 s.3) in
       none s.0 (record { in_table = s.1; has = s.2; spelling = s.3; height_is = sym (ap (λ (z : NodeWords). z.fixed.height) w) ∙ e.1 })
 
-  pub node_back : (least n h : ℕ) (view : NodeView) (t : Tree) → IsNodeOf nodes n h view → IsPart nodes leaves words least (Place (Node n h)) t →
-      (b : Tree) × IsPart nodes leaves words least (piece view) b × (h + first_position (piece view) ≤ 9 * MAX_BYTES)
+  pub node_back : (least n h : ℕ) (view : NodeView) (t : Tree) → IsNodeOf nodes n h view → ShowsPart nodes leaves words least (Place (Node n h)) t →
+      (b : Tree) × ShowsPart nodes leaves words least (piece view) b × (h + first_position (piece view) ≤ 9 * MAX_BYTES)
   node_back least n h view (leaf o k v) at part = let e = part.page_is in absurd cc
   node_back least n h view (fork p a b) at part = let e = part.page_is in absurd cc
   node_back least n h view (node o x b) at part =
-      let e = node_number part.page_is in
+      let e = node_parts part.page_is in
       let w : record { fixed = x; page = page b } ≡ record { fixed = head_of view; page = piece view } = sym part.shown.0 ∙ (ap (λ z. node_of (words (a_node z))) e.0 ∙ words_are n view at.in_table at.has at.spelling) in
       let p : page b ≡ piece view = ap (λ (z : NodeWords). z.page) w in (
         b,
@@ -147,8 +141,8 @@ module _ (nodes leaves : List (List ℕ)) (words : Rec → List ℕ) (are : AreW
 
   -- Forks
 
-  pub fork_part : (least p : ℕ) (x y : Page) (a b : Tree) → least ≤ p → IsPart nodes leaves words (p + 1) x a → IsPart nodes leaves words (p + 1) y b → IsParted p (first a) (first b) →
-      IsPart nodes leaves words least (Fork p x y) (fork p a b)
+  pub fork_part : (least p : ℕ) (x y : Page) (a b : Tree) → least ≤ p → ShowsPart nodes leaves words (p + 1) x a → ShowsPart nodes leaves words (p + 1) y b → IsParted p (first a) (first b) →
+      ShowsPart nodes leaves words least (Fork p x y) (fork p a b)
   fork_part least p x y a b low zero one parted = record {
     page_is = let e = zero.page_is in let f = one.page_is in cc;
     shown = (zero.shown, one.shown);
@@ -166,15 +160,15 @@ module _ (nodes leaves : List (List ℕ)) (words : Rec → List ℕ) (are : AreW
   pub record IsForkPart (least p : ℕ) (x y : Page) : Type 0 where
     pub low : least ≤ p
     pub zero : Tree
-    pub zero_part : IsPart nodes leaves words (p + 1) x zero
+    pub zero_part : ShowsPart nodes leaves words (p + 1) x zero
     pub one : Tree
-    pub one_part : IsPart nodes leaves words (p + 1) y one
+    pub one_part : ShowsPart nodes leaves words (p + 1) y one
     pub parted : IsParted p (first zero) (first one)
 
   fork_parts : {p q : ℕ} {a b x y : Page} → Fork p a b ≡ Fork q x y → (p ≡ q) × (a ≡ x) × (b ≡ y)
   fork_parts e = (cc, cc, cc)
 
-  pub fork_back : (least p : ℕ) (x y : Page) (t : Tree) → IsPart nodes leaves words least (Fork p x y) t → IsForkPart least p x y
+  pub fork_back : (least p : ℕ) (x y : Page) (t : Tree) → ShowsPart nodes leaves words least (Fork p x y) t → IsForkPart least p x y
   fork_back least p x y (leaf o k v) part = let e = part.page_is in absurd cc
   fork_back least p x y (node o z b) part = let e = part.page_is in absurd cc
   fork_back least p x y (fork q a b) part =
@@ -189,5 +183,5 @@ module _ (nodes leaves : List (List ℕ)) (words : Rec → List ℕ) (are : AreW
       }
 
   -- A page shows one tree.
-  pub one_tree : (least least' : ℕ) (p : Page) (s t : Tree) → IsPart nodes leaves words least p s → IsPart nodes leaves words least' p t → s ≡ t
+  pub one_tree : (least least' : ℕ) (p : Page) (s t : Tree) → ShowsPart nodes leaves words least p s → ShowsPart nodes leaves words least' p t → s ≡ t
   one_tree least least' p s t i j = determined (heap_of words) s t i.shown j.shown (i.page_is ∙ sym j.page_is)

@@ -3,7 +3,6 @@ use Rattle.std.proofs.Common.{◌≡◌, ◌⊎◌, inl, inr, ⊎_elim, ℕ, ◌
 use Rattle.std.specs.Prelude.{All, slice_get}
 use Rattle.std.specs.Int.{from_be_bytes, w64}
 use Rattle.std.proofs.lemmas.Bool.{cases_lt}
-use Rattle.std.proofs.lemmas.Grind.{get_or_default_zero}
 use Rattle.std.proofs.lemmas.List.{get_or_past}
 use Rattle.std.proofs.lemmas.List.Elements.{All-from_get_or, All-get_or, All-append}
 use Rattle.key_bits.specs.declared.TheConstants.{MAX_BYTES}
@@ -17,6 +16,7 @@ use Rattle.record_words.proofs.Fixing.{AreFixed, fixed_words_parts}
 use Rattle.record_words.proofs.Lawful.{column-lt, row-lt}
 use Rattle.rowex_core.proofs.Published.{entry_small}
 use Rattle.record_words.proofs.Leaves.{IsLeafOf, leaf_words_parts}
+use Rattle.record_words.proofs.Packings.{position_at-lt, row_at-lt}
 
 eight_bytes : (a b c d e f g h : ℕ) → a < 256 → b < 256 → c < 256 → d < 256 → e < 256 → f < 256 → g < 256 → h < 256 →
     a * 256 ^ 7 + b * 256 ^ 6 + c * 256 ^ 5 + d * 256 ^ 4 + e * 256 ^ 3 + f * 256 ^ 2 + g * 256 ^ 1 + h < 2 ^ 64
@@ -47,20 +47,14 @@ leaf_small pair words has e = All-from_get_or (λ w. w < 2 ^ 64) words 0 (λ i h
 
 -- Nodes
 
-position_small : (columns : List ℕ) (i : ℕ) → ((k : ℕ) → get_or columns k 0 < 2 ^ 16) → position_at columns i < 2 ^ 16
-position_small columns i s = ⊎_elim (λ (h : i < length columns). subst (λ z. z < 2 ^ 16) (sym (get_or_default_zero columns i 65535 h)) (s i)) (λ (h : length columns ≤ i). subst (λ z. z < 2 ^ 16) (sym (get_or_past columns i 65535 h)) (lit< tt)) (cases_lt i (length columns))
-
-row_small : (rows : List ℕ) (i : ℕ) → ((k : ℕ) → get_or rows k 0 < 2 ^ 32) → row_at rows i < 2 ^ 32
-row_small rows i s = ⊎_elim (λ (h : i < length rows). subst (λ z. z < 2 ^ 32) (sym (get_or_default_zero rows i 4294967295 h)) (s i)) (λ (h : length rows ≤ i). subst (λ z. z < 2 ^ 32) (sym (get_or_past rows i 4294967295 h)) (lit< tt)) (cases_lt i (length rows))
-
 position_word_small : (columns : List ℕ) (j : ℕ) → ((k : ℕ) → get_or columns k 0 < 2 ^ 16) → position_word columns j < 2 ^ 64
 unfolding position_word
 position_word_small columns j s =
-    let a = position_small columns (4 * j) s in let b = position_small columns (4 * j + 1) s in let c = position_small columns (4 * j + 2) s in let d = position_small columns (4 * j + 3) s in omega arith
+    let a = position_at-lt columns (4 * j) s in let b = position_at-lt columns (4 * j + 1) s in let c = position_at-lt columns (4 * j + 2) s in let d = position_at-lt columns (4 * j + 3) s in omega arith
 
 row_word_small : (rows : List ℕ) (j : ℕ) → ((k : ℕ) → get_or rows k 0 < 2 ^ 32) → row_word rows j < 2 ^ 64
 unfolding row_word
-row_word_small rows j s = let a = row_small rows (2 * j) s in let b = row_small rows (2 * j + 1) s in omega arith
+row_word_small rows j s = let a = row_at-lt rows (2 * j) s in let b = row_at-lt rows (2 * j + 1) s in omega arith
 
 module _ (view : NodeView) (has : HasNodeWords view) where
   head_small : All (λ w. w < 2 ^ 64) (head_words (head_of view))

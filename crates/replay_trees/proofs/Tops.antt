@@ -17,8 +17,8 @@ use Rattle.moments.proofs.Reading.{read_exact}
 use Rattle.rowex_core.specs.Cores.{heap_of}
 use Rattle.rowex_core.specs.Events.{tree_of}
 use Rattle.replay_trees.specs.declared.trees.Linked.{Linked}
-use Rattle.replay_trees.specs.Moments.{IsSpelled, IsReadMoment, item_of}
-use Rattle.replay_trees.specs.Parts.{IsPart, HasRoom, IsPartRead}
+use Rattle.replay_trees.specs.Moments.{IsSpelled, IsReadMoment, read_item}
+use Rattle.replay_trees.specs.Parts.{ShowsPart, HasMarks, IsPartRead}
 use Rattle.replay_trees.proofs.Shown.{from_start}
 
 -- Nothing is told yet.
@@ -37,7 +37,7 @@ unmarked n m e = go (cases_lt m n)
 no_mark : (marks : List Bool) (n m : ℕ) → marks ≡ replicate n false → get_or marks m false ≡ true → ⊥
 no_mark marks n m i e = unmarked n m (subst (λ z. get_or z m false ≡ true) i e)
 
-pub empty_room : (nodes leaves : List (List ℕ)) (linked : Linked) → IsEmpty nodes leaves linked → HasRoom nodes leaves linked
+pub empty_room : (nodes leaves : List (List ℕ)) (linked : Linked) → IsEmpty nodes leaves linked → HasMarks nodes leaves linked
 empty_room nodes leaves linked e = record {
   all_nodes = ap length e.nodes_are ∙ length-replicate (length nodes) false;
   all_leaves = ap length e.leaves_are ∙ length-replicate (length leaves) false;
@@ -48,7 +48,7 @@ pub empty_read : (nodes leaves : List (List ℕ)) (words : Rec → List ℕ) (li
 empty_read nodes leaves words linked e = (
   record { top = tt; tree = λ t i. absurd cc; spelled = λ r l. absurd l },
   record {
-    items_are = ap (map item_of) e.no_items;
+    items_are = ap (map read_item) e.no_items;
     all_nodes = (empty_room nodes leaves linked e).all_nodes;
     all_leaves = (empty_room nodes leaves linked e).all_leaves;
     nodes_are = λ n. (no_mark linked.nodes.items (length nodes) n e.nodes_are, λ l. absurd l);
@@ -57,10 +57,10 @@ empty_read nodes leaves words linked e = (
 )
 
 module _ (nodes leaves : List (List ℕ)) (words : Rec → List ℕ) (e : Entry) where
-  read_of : (t : Tree) → IsPart nodes leaves words 0 (Place e) t → tree_of (heap_of words) (Some e) ≡ Some t
+  read_of : (t : Tree) → ShowsPart nodes leaves words 0 (Place e) t → tree_of (heap_of words) (Some e) ≡ Some t
   read_of t part = read_exact (heap_of words) e t part.built part.shown part.page_is
 
-  moment_of : (o : Option Tree) (t : Tree) → o ≡ Some t → IsPart nodes leaves words 0 (Place e) t → IsTop (heap_of words) (Some e) o × ((u : Tree) → o ≡ Some u → IsTrie u × IsBuilt u) × ((r : Rec) → IsLinked o r → IsSpelled nodes leaves words r)
+  moment_of : (o : Option Tree) (t : Tree) → o ≡ Some t → ShowsPart nodes leaves words 0 (Place e) t → IsTop (heap_of words) (Some e) o × ((u : Tree) → o ≡ Some u → IsTrie u × IsBuilt u) × ((r : Rec) → IsLinked o r → IsSpelled nodes leaves words r)
   moment_of None t i part = absurd cc
   moment_of (Some u) t i part =
       let s : t ≡ u = cc in (
@@ -76,14 +76,14 @@ module _ (nodes leaves : List (List ℕ)) (words : Rec → List ℕ) (e : Entry)
   from_none : (o : Option Tree) (t : Tree) (r : Rec) (before after : Bool) → o ≡ Some t → (before ≡ true → ⊥) → (after ≡ true) ↔ ((before ≡ true) ⊎ Links t r) → (after ≡ true) ↔ IsLinked o r
   from_none o t r before after i none f = (λ h. (linked_in o t r i).0 (elim (f.0 h) [ inl x ↦ absurd (none x) | inr x ↦ x ]), λ l. f.1 (inr ((linked_in o t r i).1 l)))
 
-  pub top_read : (old new : Linked) → IsEmpty nodes leaves old → HasRoom nodes leaves new → IsPartRead nodes leaves words 0 (Place e) true old new → IsReadMoment nodes leaves words (Some e) (Some new)
+  pub top_read : (old new : Linked) → IsEmpty nodes leaves old → HasMarks nodes leaves new → IsPartRead nodes leaves words 0 (Place e) true old new → IsReadMoment nodes leaves words (Some e) (Some new)
   top_read old new empty room read =
       let t = read.0 in
       let i = read_of t read.1 in
       let m = moment_of (tree_of (heap_of words) (Some e)) t i read.1 in (
         record { top = m.0; tree = m.1; spelled = m.2 },
         record {
-          items_are = read.2.items_are ∙ (ap (λ u. map item_of u ++ items t) empty.no_items ∙ sym (ap items_of i));
+          items_are = read.2.items_are ∙ (ap (λ u. map read_item u ++ items t) empty.no_items ∙ sym (ap items_of i));
           all_nodes = room.all_nodes;
           all_leaves = room.all_leaves;
           nodes_are = λ n. from_none (tree_of (heap_of words) (Some e)) t (a_node n) (get_or old.nodes.items n false) (get_or new.nodes.items n false) i (no_mark old.nodes.items (length nodes) n empty.nodes_are) (read.2.nodes_are n);
@@ -92,7 +92,7 @@ module _ (nodes leaves : List (List ℕ)) (words : Rec → List ℕ) (e : Entry)
       )
 
   part_of : (o : Option Tree) → IsTop (heap_of words) (Some e) o → ((u : Tree) → o ≡ Some u → IsTrie u × IsBuilt u) → ((r : Rec) → IsLinked o r → IsSpelled nodes leaves words r) →
-      (t : Tree) × IsPart nodes leaves words 0 (Place e) t
+      (t : Tree) × ShowsPart nodes leaves words 0 (Place e) t
   part_of None top tree spelled = absurd top
   part_of (Some t) top tree spelled =
       (t, record { page_is = top.0; shown = top.1; local = local_if_trie t (tree t refl).0; built = (tree t refl).1; from = from_start t; spelled = spelled })

@@ -6,9 +6,9 @@ use Rattle.moments.specs.Told.{item_of, IsChanged}
 use Rattle.rowex_core.specs.Events.{change_between}
 
 -- the first leaves of the lists, if both have one, have different numbers
-abbrev pub AreApart : List Item → List Item → Type 0
-AreApart (x ∷ xs) (y ∷ ys) = x.number ≢ y.number
-AreApart xs ys = Unit {0}
+abbrev pub BeginApart : List Item → List Item → Type 0
+BeginApart (x ∷ xs) (y ∷ ys) = x.number ≢ y.number
+BeginApart xs ys = Unit {0}
 
 abbrev pub numbers : List Item → List ℕ
 numbers xs = map (λ x. x.number) xs

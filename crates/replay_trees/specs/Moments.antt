@@ -18,13 +18,13 @@ pub record AreWordsOf (nodes leaves : List (List ℕ)) (words : Rec → List ℕ
   pub nodes_are : (n : ℕ) → n < length nodes → words (a_node n) ≡ slice_index_or nodes n []
   pub leaves_are : (n : ℕ) → n < length leaves → words (a_leaf n) ≡ slice_index_or leaves n []
 
-abbrev pub IsInTable : List (List ℕ) → List (List ℕ) → Rec → Type 0
-IsInTable nodes leaves (a_node n) = n < length nodes
-IsInTable nodes leaves (a_leaf n) = n < length leaves
+abbrev pub HasRecordIn : List (List ℕ) → List (List ℕ) → Rec → Type 0
+HasRecordIn nodes leaves (a_node n) = n < length nodes
+HasRecordIn nodes leaves (a_leaf n) = n < length leaves
 
 -- the record is in the table, and its words spell a value
 abbrev pub IsSpelled : List (List ℕ) → List (List ℕ) → (Rec → List ℕ) → Rec → Type 0
-IsSpelled nodes leaves words r = IsInTable nodes leaves r × IsPacked r (words r)
+IsSpelled nodes leaves words r = HasRecordIn nodes leaves r × IsPacked r (words r)
 
 -- The words show a lawful tree from this root, or none where the root is empty, and each record that it links is spelled.
 pub record IsMoment (nodes leaves : List (List ℕ)) (words : Rec → List ℕ) (root : Option Entry) : Type 0 where
@@ -32,12 +32,12 @@ pub record IsMoment (nodes leaves : List (List ℕ)) (words : Rec → List ℕ) 
   pub tree : (t : Tree) → tree_of (heap_of words) root ≡ Some t → IsTrie t × IsBuilt t
   pub spelled : (r : Rec) → IsLinked (tree_of (heap_of words) root) r → IsSpelled nodes leaves words r
 
-abbrev pub item_of : ReadItem → Item
-item_of x = record { number = x.number; key = x.key; value = x.value }
+abbrev pub read_item : ReadItem → Item
+read_item x = record { number = x.number; key = x.key; value = x.value }
 
 -- What is told of a tree: its leaves in order, and of each record of the table whether the tree links it.
 pub record Tells (nodes leaves : List (List ℕ)) (t : Option Tree) (linked : Linked) : Type 0 where
-  pub items_are : map item_of linked.items.items ≡ items_of t
+  pub items_are : map read_item linked.items.items ≡ items_of t
   pub all_nodes : length linked.nodes.items ≡ length nodes
   pub all_leaves : length linked.leaves.items ≡ length leaves
   pub nodes_are : (n : ℕ) → (slice_index_or linked.nodes.items n false ≡ true) ↔ IsLinked t (a_node n)

@@ -16,7 +16,7 @@ use Rattle.moments.specs.Heap.{IsShown}
 use Rattle.moments.specs.State.{Links}
 use Rattle.rowex_core.specs.Cores.{heap_of}
 use Rattle.replay_trees.specs.declared.trees.Linked.{Linked}
-use Rattle.replay_trees.specs.Moments.{AreWordsOf, IsSpelled, item_of}
+use Rattle.replay_trees.specs.Moments.{AreWordsOf, IsSpelled, read_item}
 
 -- the tree's first fork is at `least` or later; a leaf has none
 abbrev pub IsForkedFrom : ℕ → Tree → Type 0
@@ -25,7 +25,7 @@ IsForkedFrom least (node n x b) = IsForkedFrom least b
 IsForkedFrom least (fork p a b) = least ≤ p
 
 -- The words show a lawful tree for the page, of records of the table that spell values.
-pub record IsPart (nodes leaves : List (List ℕ)) (words : Rec → List ℕ) (least : ℕ) (p : Page) (t : Tree) : Type 0 where
+pub record ShowsPart (nodes leaves : List (List ℕ)) (words : Rec → List ℕ) (least : ℕ) (p : Page) (t : Tree) : Type 0 where
   pub page_is : page t ≡ p
   pub shown : IsShown (heap_of words) t
   pub local : IsLocal t
@@ -34,20 +34,20 @@ pub record IsPart (nodes leaves : List (List ℕ)) (words : Rec → List ℕ) (l
   pub spelled : (r : Rec) → Links t r → IsSpelled nodes leaves words r
 
 -- there is a mark for each record of the table
-pub record HasRoom (nodes leaves : List (List ℕ)) (linked : Linked) : Type 0 where
+pub record HasMarks (nodes leaves : List (List ℕ)) (linked : Linked) : Type 0 where
   pub all_nodes : length linked.nodes.items ≡ length nodes
   pub all_leaves : length linked.leaves.items ≡ length leaves
 
 -- What is told grows by what a tree links.
-pub record IsGrown (t : Tree) (old new : Linked) : Type 0 where
-  pub items_are : map item_of new.items.items ≡ map item_of old.items.items ++ items t
+pub record GrowsBy (t : Tree) (old new : Linked) : Type 0 where
+  pub items_are : map read_item new.items.items ≡ map read_item old.items.items ++ items t
   pub nodes_are : (n : ℕ) → (slice_index_or new.nodes.items n false ≡ true) ↔ ((slice_index_or old.nodes.items n false ≡ true) ⊎ Links t (a_node n))
   pub leaves_are : (n : ℕ) → (slice_index_or new.leaves.items n false ≡ true) ↔ ((slice_index_or old.leaves.items n false ≡ true) ⊎ Links t (a_leaf n))
 
 -- A part was read exactly where the words show one.
 abbrev pub IsPartRead : List (List ℕ) → List (List ℕ) → (Rec → List ℕ) → ℕ → Page → Bool → Linked → Linked → Type 0
-IsPartRead nodes leaves words least p true old new = (t : Tree) × IsPart nodes leaves words least p t × IsGrown t old new
-IsPartRead nodes leaves words least p false old new = (t : Tree) → ¬ (IsPart nodes leaves words least p t)
+IsPartRead nodes leaves words least p true old new = (t : Tree) × ShowsPart nodes leaves words least p t × GrowsBy t old new
+IsPartRead nodes leaves words least p false old new = (t : Tree) → ¬ (ShowsPart nodes leaves words least p t)
 
 -- So it is for all words that the records of the table may be part of: of an entry, of a half, of a cut.
 abbrev pub IsEntryRead : List (List ℕ) → List (List ℕ) → ℕ → Entry → Bool → Linked → Linked → Type 0

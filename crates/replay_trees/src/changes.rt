@@ -1,9 +1,9 @@
 //! By which change one list of leaves became another.
 
 ghost use Rattle.std.specs.Prelude.{ℕ, ◌≡◌, ◌↔◌, ◌<◌, ◌≤◌, IsTrue, Some, None, if◌then◌else◌, length, map, slice_index};
-ghost use Rattle.replay_trees.specs.Moments.{item_of};
+ghost use Rattle.replay_trees.specs.Moments.{read_item};
 ghost use Rattle.rowex_core.specs.Events.{AreSame};
-ghost use Rattle.replay_trees.specs.Changed.{AreApart, IsFoundChange, IsMade, numbers};
+ghost use Rattle.replay_trees.specs.Changed.{BeginApart, IsFoundChange, IsMade, numbers};
 
 use crate::trees::Item;
 use hot_model::{Change, Kind};
@@ -13,7 +13,7 @@ use std::cmp::Ordering;
 /// another of its key; `None` exactly where it was no such change. The lists are in the order of the keys, and leaves
 /// of one number are one leaf.
 pub fn change_between(pass: u16, before: &[Item], after: &[Item]) -> Option<Change>
-    ensures { AreSame (map item_of before.now) (map item_of after.now) → IsFoundChange pass (map item_of before.now) (map item_of after.now) result }
+    ensures { AreSame (map read_item before.now) (map read_item after.now) → IsFoundChange pass (map read_item before.now) (map read_item after.now) result }
 {
     let front = same_front(before, after);
     change_at(pass, &before[front..], &after[front..])
@@ -21,8 +21,8 @@ pub fn change_between(pass: u16, before: &[Item], after: &[Item]) -> Option<Chan
 
 /// As `change_between`, of lists whose first leaves are not the same.
 fn change_at(pass: u16, gone: &[Item], come: &[Item]) -> Option<Change>
-    requires { AreApart (map item_of gone.now) (map item_of come.now) }
-    ensures { AreSame (map item_of gone.now) (map item_of come.now) → IsFoundChange pass (map item_of gone.now) (map item_of come.now) result }
+    requires { BeginApart (map read_item gone.now) (map read_item come.now) }
+    ensures { AreSame (map read_item gone.now) (map read_item come.now) → IsFoundChange pass (map read_item gone.now) (map read_item come.now) result }
 {
     match (gone.split_first(), come.split_first()) {
         (None, None) => None,
@@ -38,7 +38,7 @@ fn change_at(pass: u16, gone: &[Item], come: &[Item]) -> Option<Change>
 
 /// The change that a leaf tells, where the other leaves are the same before and after.
 fn made(pass: u16, item: &Item, kind: Kind, before: &[Item], after: &[Item]) -> Option<Change>
-    ensures { IsMade (map item_of before.now) (map item_of after.now) (record { pass = pass; key = item.now.key; value = item.now.value; kind = kind }) result }
+    ensures { IsMade (map read_item before.now) (map read_item after.now) (record { pass = pass; key = item.now.key; value = item.now.value; kind = kind }) result }
 {
     if before.len() == after.len() && same_front(before, after) == before.len() {
         Some(Change {
@@ -56,8 +56,8 @@ fn made(pass: u16, item: &Item, kind: Kind, before: &[Item], after: &[Item]) -> 
 fn same_front(before: &[Item], after: &[Item]) -> usize
     ensures within { result ≤ length before.now }
     ensures within_both { result ≤ length after.now }
-    ensures same { (k : ℕ) → k < result → slice_index (numbers (map item_of before.now)) k ≡ slice_index (numbers (map item_of after.now)) k }
-    ensures apart { result < length before.now → result < length after.now → slice_index (numbers (map item_of before.now)) result ≡ slice_index (numbers (map item_of after.now)) result → ⊥ }
+    ensures same { (k : ℕ) → k < result → slice_index (numbers (map read_item before.now)) k ≡ slice_index (numbers (map read_item after.now)) k }
+    ensures apart { result < length before.now → result < length after.now → slice_index (numbers (map read_item before.now)) result ≡ slice_index (numbers (map read_item after.now)) result → ⊥ }
 {
     let common = before.len().min(after.len());
     for i in 0..common {

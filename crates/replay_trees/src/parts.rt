@@ -2,7 +2,7 @@
 
 ghost use Rattle.std.specs.Prelude.{IfOk, IsTrue, length, true, ◌≡◌, ◌↔◌};
 ghost use Rattle.tries.specs.Keys.{IsParted};
-ghost use Rattle.replay_trees.specs.Parts.{HasRoom, IsCutRead, IsEntryRead, IsHalfRead, IsLeafTaken, IsLonger, IsNodeAt};
+ghost use Rattle.replay_trees.specs.Parts.{HasMarks, IsCutRead, IsEntryRead, IsHalfRead, IsLeafTaken, IsLonger, IsNodeAt};
 
 use crate::trees::{Item, Linked};
 use compound_node::{Cut, Entry, Half, Node};
@@ -20,8 +20,8 @@ pub(crate) fn read_entry(
     entry: Entry,
     linked: &mut Linked,
 ) -> Result<bool, AllocError>
-    requires { HasRoom nodes.now leaves.now linked.old }
-    ensures room { IfOk result (λ good. HasRoom nodes.now leaves.now linked.new) }
+    requires { HasMarks nodes.now leaves.now linked.old }
+    ensures room { IfOk result (λ good. HasMarks nodes.now leaves.now linked.new) }
     ensures longer { IfOk result (λ good. good ≡ true → IsLonger linked.old linked.new) }
     ensures read { IfOk result (λ good. IsEntryRead nodes.now leaves.now least entry good linked.old linked.new) }
 {
@@ -50,8 +50,8 @@ fn read_half(
     half: Half,
     linked: &mut Linked,
 ) -> Result<bool, AllocError>
-    requires { HasRoom nodes.now leaves.now linked.old }
-    ensures room { IfOk result (λ good. HasRoom nodes.now leaves.now linked.new) }
+    requires { HasMarks nodes.now leaves.now linked.old }
+    ensures room { IfOk result (λ good. HasMarks nodes.now leaves.now linked.new) }
     ensures longer { IfOk result (λ good. good ≡ true → IsLonger linked.old linked.new) }
     ensures read { IfOk result (λ good. IsHalfRead nodes.now leaves.now least half good linked.old linked.new) }
 {
@@ -71,8 +71,8 @@ fn read_cut(
     cut: Cut,
     linked: &mut Linked,
 ) -> Result<bool, AllocError>
-    requires { HasRoom nodes.now leaves.now linked.old }
-    ensures room { IfOk result (λ good. HasRoom nodes.now leaves.now linked.new) }
+    requires { HasMarks nodes.now leaves.now linked.old }
+    ensures room { IfOk result (λ good. HasMarks nodes.now leaves.now linked.new) }
     ensures longer { IfOk result (λ good. good ≡ true → IsLonger linked.old linked.new) }
     ensures read { IfOk result (λ good. IsCutRead nodes.now leaves.now least cut good linked.old linked.new) }
 {

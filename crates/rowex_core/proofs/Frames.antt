@@ -1,8 +1,7 @@
 -- Each legal step of one pass leaves to another what it knows.
-use Rattle.std.proofs.Common.{◌≡◌, ◌≢◌, ◌⊎◌, inl, inr, ℕ, suc, List, [], ◌∷◌, true, false, if◌then◌else◌, nat_eq, eqb, Option, Some, None, refl, sym, ap, ◌∙◌, subst, arith, le_refl, append-nil}
+use Rattle.std.proofs.Common.{◌≡◌, ◌≢◌, ◌⊎◌, inl, inr, ℕ, suc, List, [], ◌∷◌, true, false, if◌then◌else◌, nat_eq, eqb, Option, Some, None, refl, sym, ap, ◌∙◌, subst, arith, le_refl}
 use Rattle.std.proofs.lemmas.Bool.{eqb-true, cases_Bool}
 use Rattle.std.proofs.lemmas.List.Elements.{All-from_recursion}
-use Rattle.hot_model.specs.declared.Change.{Change}
 use Rattle.hot_model.specs.Fronts.{OthersGoOn}
 use Rattle.tries.specs.Content.{Item}
 use Rattle.moments.specs.declared.Rec.{Rec}
@@ -29,16 +28,14 @@ use Rattle.rowex_core.specs.Sharing.{share, holding_of, is_by, is_in_tree, ancho
 use Rattle.rowex_core.proofs.Publishing.{publish_share}
 use Rattle.rowex_core.proofs.Sharing.{same_share, same_fate, same_word, same_lock, same_unlocked, by_another}
 use Rattle.moments.specs.Frames.{IsGrown}
-
-others_stay : (q : ℕ) (xs : List Change) → OthersGoOn q xs xs
-others_stay q xs = ([], sym (append-nil xs), All-from_recursion (λ z. z.pass ≢ q) [] tt)
+use Rattle.hot_model.proofs.Growth.{others_none}
 
 -- nothing that pass q knows has changed
 quiet : (q : ℕ) (c d : Core) → d.layout ≡ c.layout → d.past ≡ c.past → d.changes ≡ c.changes → share q d ≡ share q c → IsFrame q c d
 quiet q c d layout past changes own = record {
   layout = layout;
   past = subst (IsGrown c.past) (sym past) (record { longer = le_refl c.past.now; kept = λ i h. refl });
-  changes = subst (OthersGoOn q c.changes) (sym changes) (others_stay q c.changes);
+  changes = subst (OthersGoOn q c.changes) (sym changes) (others_none q c.changes);
   own = own;
 }
 

@@ -1,8 +1,6 @@
 -- What a pass knows stays true while other passes make their steps.
-use Rattle.std.proofs.Common.{◌≡◌, ◌≢◌, inl, inr, ℕ, ◌<◌, ◌≤◌, List, ◌++◌, sym, ap, ◌∙◌, subst, le_trans, append_assoc}
+use Rattle.std.proofs.Common.{◌≡◌, ◌≢◌, inl, inr, ℕ, ◌<◌, ◌≤◌, sym, ap, ◌∙◌, subst, le_trans}
 use Rattle.std.proofs.lemmas.List.Elements.{All-append, All-weaker}
-use Rattle.hot_model.specs.declared.Change.{Change}
-use Rattle.hot_model.specs.Fronts.{OthersGoOn}
 use Rattle.tries.specs.Tree.{Tree}
 use Rattle.moments.specs.declared.Rec.{Rec}
 use Rattle.moments.specs.declared.Rec.TheVariants.{Node as a_node}
@@ -22,6 +20,7 @@ use Rattle.rowex_core.specs.Events.{Legal, after}
 use Rattle.rowex_core.specs.Frames.{IsFrame}
 use Rattle.rowex_core.specs.Knowing.{StoodBetween, StoodAs, HoldsIfStood, IsFact, Knows, NoChangeBy, IsUntouched, Knowing, Owns}
 use Rattle.rowex_core.proofs.Frames.{frame}
+use Rattle.hot_model.proofs.Growth.{others_on}
 
 -- Facts of the past
 
@@ -45,9 +44,6 @@ fact_grown a b g (Fixed since at r offset w) (hi, h) = (le_trans hi g.longer, fo
 
 -- Fronts
 
-pub others_trans : (q : ℕ) (a b c : List Change) → OthersGoOn q a b → OthersGoOn q b c → OthersGoOn q a c
-others_trans q a b c x y = (x.0 ++ y.0, y.1 ∙ (ap (λ (z : List Change). z ++ y.0) x.1 ∙ append_assoc a x.0 y.0), All-append (λ z. z.pass ≢ q) x.0 y.0 x.2 y.2)
-
 -- The whole
 
 pub knows_kept : (c d : Core) (k : Known) → IsFrame k.pass c d → Knows c k → Knows d k
@@ -55,7 +51,7 @@ knows_kept c d k f h = record {
   pass = subst (λ (z : Layout). k.pass < z.passes) (sym f.layout) h.pass;
   counted = h.counted;
   seen = record {
-    front = others_trans k.pass k.front c.changes d.changes h.seen.front f.changes;
+    front = others_on k.pass k.front c.changes d.changes h.seen.front f.changes;
     fresh = h.seen.fresh;
     facts = All-weaker (IsFact c.past) (IsFact d.past) (fact_grown c.past d.past f.past) k.facts h.seen.facts;
   };

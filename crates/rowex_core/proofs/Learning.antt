@@ -29,7 +29,7 @@ use Rattle.rowex_core.specs.declared.known.Owned.{Owned}
 use Rattle.rowex_core.specs.declared.known.Locked.{Locked}
 use Rattle.rowex_core.specs.declared.known.Known.{Known}
 use Rattle.rowex_core.specs.Reading.{entry_of, head_entry, root_of}
-use Rattle.rowex_core.specs.Cores.{Core, IsLawful, view, heap_of}
+use Rattle.rowex_core.specs.Cores.{Core, IsLawful, heap_of}
 use Rattle.rowex_core.specs.Words.{record_word}
 use Rattle.moments.proofs.Publish.{moment_old}
 use Rattle.rowex_core.specs.declared.event.Spot.{Spot}
@@ -38,7 +38,7 @@ use Rattle.rowex_core.specs.Knowing.{IsFact, HasSeen, facts_with, AreCounted, Kn
 use Rattle.record_words.specs.declared.layout.Location.{Location}
 use Rattle.rowex_core.proofs.Frames.{advance_frame, give_back_frame, unlocked_node}
 use Rattle.rowex_core.proofs.Keeping.{fact_grown, knows_kept}
-use Rattle.rowex_core.proofs.Loading.{slot_fact, fixed_fact}
+use Rattle.rowex_core.proofs.Loading.{slot_fact, fixed_fact, view}
 use Rattle.rowex_core.proofs.Publishing.{once, Linking, stays, comes, out, linking, listed_once}
 use Rattle.rowex_core.proofs.Lists.{filter_mapped, filter_swapped}
 use Rattle.rowex_core.specs.Sharing.{Share, share, known_share, holding_of, is_by, is_in_tree, owned, locked, anchored_at, of_record, of_node}

@@ -9,16 +9,20 @@ use Rattle.tries.specs.Place.{entry_at}
 use Rattle.moments.specs.declared.Rec.{Rec}
 use Rattle.moments.specs.declared.Rec.TheVariants.{Node as a_node, Leaf as a_leaf}
 use Rattle.moments.specs.Heap.{NodeWords, LeafWords, IsCopied}
-use Rattle.moments.specs.State.{Stands, IsReach, last_of, Spans, IsRecord}
-use Rattle.moments.specs.Core.{Fate, Free, Held as HeldBy, Ready as ReadyBy, InTree, Unlinked as UnlinkedBy, Marked, life_of}
+use Rattle.moments.specs.State.{Stands, IsReach, last_of, Spans, IsRecord, State}
+use Rattle.moments.specs.Core.{Fate, Free, Held as HeldBy, Ready as ReadyBy, InTree, Unlinked as UnlinkedBy, Marked, life_of, view as moments_of}
 use Rattle.moments.proofs.States.{spans_last, spans_ended, reach_later}
 use Rattle.rowex_core.specs.declared.known.Fact.TheVariants.{Placed, Fixed as FixedWord}
 use Rattle.rowex_core.specs.Reading.{entry_of, node_of, leaf_of, IsPacked, entry_in, word_in}
-use Rattle.rowex_core.specs.Cores.{Core, IsLawful, IsWhole, view, heap_of}
+use Rattle.rowex_core.specs.Cores.{Core, IsLawful, IsWhole, heap_of, bare}
 use Rattle.rowex_core.specs.Words.{record_word}
 use Rattle.rowex_core.specs.Events.{IsFixedOffset}
 use Rattle.rowex_core.specs.Knowing.{StoodBetween, IsFact}
 use Rattle.rowex_core.proofs.Reading.{node_is, entry_at_is, fixed_word_is, leaf_is}
+
+-- the core without the words: moments, lives and pins
+abbrev pub view : Core → State
+view c = moments_of (bare c)
 
 -- The last moment of the life of a record that stood since a pass's pin: its words are those of now, and they spell a value.
 pub record LastOf (c : Core) (since : ℕ) (r : Rec) : Type 0 where

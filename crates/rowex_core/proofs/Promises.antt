@@ -19,7 +19,7 @@ use Rattle.tries.specs.Keys.{Key}
 use Rattle.tries.specs.Tree.{Fixed, Tree, leaf, node, fork}
 use Rattle.moments.specs.declared.Rec.{Rec}
 use Rattle.moments.specs.declared.Rec.TheVariants.{Node as a_node, Leaf as a_leaf}
-use Rattle.moments.specs.State.{IsSame}
+use Rattle.moments.specs.State.{IsSameRecord}
 use Rattle.moments.specs.Core.{Free, Unlinked, Marked, pin_moment}
 use Rattle.moments.specs.Told.{content, items_of}
 use Rattle.moments.proofs.States.{hindsight as state_hindsight, state_parting, reach_later}
@@ -27,14 +27,15 @@ use Rattle.moments.proofs.Stepping.{opening_core, core_reach, core_steady}
 use Rattle.rowex_core.specs.declared.event.Act.TheVariants.{Lock, Publish}
 use Rattle.rowex_core.specs.declared.event.Target.TheVariants.{Node as NodeTarget}
 use Rattle.rowex_core.specs.Reading.{word_in}
-use Rattle.rowex_core.specs.Cores.{IsLawful, bare, heap_of, view, word_count_of}
+use Rattle.rowex_core.specs.Cores.{IsLawful, bare, heap_of, word_count_of}
 use Rattle.rowex_core.specs.Words.{record_word, word_at, Shows}
 use Rattle.rowex_core.specs.Events.{IsFixedOffset, after, next_change, next_tree}
 use Rattle.rowex_core.specs.Opening.{opening, opening_words}
 use Rattle.rowex_core.specs.Statements.{OpeningIsLawful, Hindsight, Parting, InReach, EntriesInReach, PublishIsAStep, LocksApart, call_for, call_of}
 use Rattle.rowex_core.proofs.Frames.{change_pass}
-use Rattle.rowex_core.proofs.Loading.{LastOf, last, entry_of_last, fixed_fact}
+use Rattle.rowex_core.proofs.Loading.{LastOf, last, entry_of_last, fixed_fact, view}
 use Rattle.rowex_core.proofs.Staying.{stays_lawful}
+use Rattle.hot_model.proofs.Growth.{map_of-push}
 
 -- The opening core
 
@@ -93,7 +94,7 @@ hindsight c law q p e m low k n h = state_hindsight (view c) law.core.state m (r
 pub parting : Parting
 parting c law = state_parting (view c) law.core.state
 
-same_word : (offset : ℕ) (u v : Tree) → IsSame u v → word_in u offset ≡ word_in v offset
+same_word : (offset : ℕ) (u v : Tree) → IsSameRecord u v → word_in u offset ≡ word_in v offset
 same_word offset (leaf n k v) (leaf m l w) (e, f) = ap₂ (λ x y. get_or (leaf_words (x, y)) (offset - 1) 0) e f
 same_word offset (leaf n k v) (node m x b) h = absurd h
 same_word offset (leaf n k v) (fork p a b) h = absurd h
@@ -126,10 +127,6 @@ entries_in_reach c law q p e m n u lo hi st = (
 
 -- A publish is a step of the map
 
-map_of_end : (m : Map) (xs : List Change) (x : Change) → fold changed m (xs ++ x ∷ []) ≡ changed (fold changed m xs) x
-map_of_end m [] x = refl
-map_of_end m (y ∷ xs) x = map_of_end (changed m y) xs x
-
 last_fits : (m : Map) (xs : List Change) (x : Change) → LegalFrom m (xs ++ x ∷ []) → Fits (fold changed m xs) x
 last_fits m [] x l = l.0
 last_fits m (y ∷ xs) x l = last_fits (changed m y) xs x l.1
@@ -153,7 +150,7 @@ publish_is_a_step c q spot w law l = (refl, change_pass q (items_of (c.past.mome
     fits = last_fits [] c.changes (next_change c q spot w) then_lawful.core.told.legal
 
     held : map_after (map_of c.changes) (call_of (next_change c q spot w)) ≡ map_of (c.changes ++ next_change c q spot w ∷ [])
-    held = one_call (next_change c q spot w).kind (map_of c.changes) (next_change c q spot w).key (next_change c q spot w).value fits ∙ sym (map_of_end [] c.changes (next_change c q spot w))
+    held = one_call (next_change c q spot w).kind (map_of c.changes) (next_change c q spot w).key (next_change c q spot w).value fits ∙ sym (map_of-push c.changes (next_change c q spot w))
 
     told_then : content ((after c q (Publish spot w)).past.moment (suc c.past.now)) ≡ map_of (c.changes ++ next_change c q spot w ∷ [])
     told_then = then_lawful.core.told.content_is (suc c.past.now) (le_refl (suc c.past.now)) ∙

@@ -40,7 +40,7 @@ leaf_number e = cc
 
 -- From a list of leaves to itself there is no change.
 
-no_change : (q : ℕ) (xs : List Item) → (change_between q xs xs).kind ≡ Removed
+pub no_change : (q : ℕ) (xs : List Item) → (change_between q xs xs).kind ≡ Removed
 no_change q [] = refl
 no_change q (x ∷ xs) = rw (eq-eqb x.number x.number refl) (no_change q xs)
 

@@ -7,10 +7,9 @@ use Rattle.moments.specs.declared.Rec.TheVariants.{Node as a_node, Leaf as a_lea
 use Rattle.moments.specs.declared.Pin.{Pin}
 use Rattle.moments.specs.declared.Round.{Round}
 use Rattle.moments.specs.Heap.{Heap}
-use Rattle.moments.specs.State.{State}
 use Rattle.moments.specs.Steps.{IsLawfulCore}
 use Rattle.record_words.specs.Entry.{HasEntryWord}
-use Rattle.moments.specs.Core.{Core as Moments, Shared, Fate, Free, Held, Unlinked, Marked, view as moments_of}
+use Rattle.moments.specs.Core.{Core as Moments, Shared, Fate, Free, Held, Unlinked, Marked}
 use Rattle.rowex_core.specs.Reading.{node_of, leaf_of, IsPacked}
 
 -- The words of each record but its state, and all else that passes share.
@@ -31,10 +30,6 @@ bare c = record { heap = heap_of c.words; shared = c.shared }
 abbrev pub HasRecord : Layout → Rec → Type 0
 HasRecord layout (a_node n) = n < layout.nodes
 HasRecord layout (a_leaf n) = n < layout.leaves
-
--- the core without the words: moments, lives and pins
-abbrev pub view : Core → State
-view c = moments_of (bare c)
 
 -- a record has this many words, each of 64 bits
 abbrev pub word_count_of : Rec → ℕ

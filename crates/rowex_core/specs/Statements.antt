@@ -19,7 +19,7 @@ use Rattle.tries.specs.Search.{seek, between, IsUnder}
 use Rattle.moments.specs.declared.Rec.{Rec}
 use Rattle.moments.specs.declared.Rec.TheVariants.{Node as a_node}
 use Rattle.moments.specs.declared.Pin.{Pin}
-use Rattle.moments.specs.State.{Past, Spans, Stands, IsSame, IsLed, IsTop}
+use Rattle.moments.specs.State.{Past, Spans, Stands, IsSameRecord, IsLed, IsTop}
 use Rattle.moments.specs.Core.{Free, Held, life_of}
 use Rattle.moments.specs.Told.{content, items_of, IsChange}
 use Rattle.rowex_core.specs.declared.event.Act.{Act}
@@ -121,7 +121,7 @@ pub record StoodLast (s : Past) (n : ℕ) (r : Rec) (u : Tree) : Type 0 where
 abbrev pub EntriesInReach : Type 0
 EntriesInReach =
     (c : Core) → IsLawful c → (q : ℕ) (p : Pin) → c.pins q ≡ Some p → (m n : ℕ) (u : Tree) → p.moment ≤ m → m ≤ c.past.now → Stands c.past m (a_node n) u →
-    (o : ℕ) × (v : Tree) × (m ≤ o) × StoodLast c.past o (a_node n) v × IsSame u v ×
+    (o : ℕ) × (v : Tree) × (m ≤ o) × StoodLast c.past o (a_node n) v × IsSameRecord u v ×
     ((j : ℕ) → j < MAX_ENTRIES → entry_of (record_word c (a_node n) (FIRST_ENTRY + j)) ≡ entry_in v j)
 
 -- the call that makes the change

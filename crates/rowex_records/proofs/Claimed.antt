@@ -18,17 +18,17 @@ use Rattle.rowex_core.specs.Events.{word_of}
 use Rattle.rowex_core.specs.Sharing.{IsOwned, fate_of}
 use Rattle.rowex_core.specs.Knowing.{Knows, claim_learned}
 use Rattle.rowex_core.proofs.Owning.{knows_all}
-use Rattle.rowex_table.specs.Rights.{Has, IsClaimed}
+use Rattle.rowex_table.specs.Rights.{OwnsAs, IsClaimed}
 use Rattle.rowex_table.specs.Runs.{Steps}
 use Rattle.rowex_table.specs.Seats.{TableView, SeatView}
 use Rattle.rowex_table.proofs.Rights.{free_tag}
 use Rattle.rowex_table.proofs.Running.{in_turn_more, does_count}
-use Rattle.rowex_records.specs.Claims.{claiming, turned, Misses, HasMissed, FindsNone, Claims, AllMissed}
+use Rattle.rowex_records.specs.Claims.{claiming, wrapped, Misses, HasMissed, FindsNone, Claims, AllMissed}
 use Rattle.rowex_records.proofs.Making.{claims_nothing, claims_one, claims_append}
 
 -- Numbers in turn
 
-pub turned_low : (n from m : ℕ) → from < n → m < n → turned n from m < n
+pub turned_low : (n from m : ℕ) → from < n → m < n → wrapped n from m < n
 turned_low n from m low below = go (nat_lt (from + m) n) refl
   where
     go : (b : Bool) → nat_lt (from + m) n ≡ b → (if b then from + m else from + m - n) < n
@@ -36,10 +36,10 @@ turned_low n from m low below = go (nat_lt (from + m) n) refl
     go false is = let high = ltb-false (from + m) n is in omega arith
 
 -- each number is the one of some turn
-pub turned_to : (n from q : ℕ) → from < n → q < n → (m : ℕ) × (m < n) × (turned n from m ≡ q)
+pub turned_to : (n from q : ℕ) → from < n → q < n → (m : ℕ) × (m < n) × (wrapped n from m ≡ q)
 turned_to n from q low below = go (nat_lt q from) refl
   where
-    go : (b : Bool) → nat_lt q from ≡ b → (m : ℕ) × (m < n) × (turned n from m ≡ q)
+    go : (b : Bool) → nat_lt q from ≡ b → (m : ℕ) × (m < n) × (wrapped n from m ≡ q)
     go true is =
         let before = ltb-true q from is in
         let past : nat_lt (from + (q + n - from)) n ≡ false = le-ltb (from + (q + n - from)) n (omega arith) in
@@ -103,11 +103,11 @@ module _ {G : Type 0} (table : TableView) (becomes : G → Event → G → Type 
   }
 
   -- one more record, which was not free either
-  pub finds_more : (kind : ℕ → Rec) (n from m number found : ℕ) (a i b : SeatView × G) → number ≡ turned n from m → FindsNone table becomes kind n from m a i → 1 ≤ found
+  pub finds_more : (kind : ℕ → Rec) (n from m number found : ℕ) (a i b : SeatView × G) → number ≡ wrapped n from m → FindsNone table becomes kind n from m a i → 1 ≤ found
       → Steps table becomes (Claim (kind number) found) i b → FindsNone table becomes kind n from (m + 1) a b
   finds_more kind n from m number found a i b is none low step = record {
     claims = none.claims ++ Claim r found ∷ [];
-    in_turn = in_turn_more (λ z. Misses (kind (turned n from z))) m none.claims (Claim r found ∷ []) none.in_turn (found, low, ap (λ z. Claim (kind z) found ∷ []) is);
+    in_turn = in_turn_more (λ z. Misses (kind (wrapped n from z))) m none.claims (Claim r found ∷ []) none.in_turn (found, low, ap (λ z. Claim (kind z) found ∷ []) is);
     count = let count = none.count in omega (arith, length-append none.claims (Claim r found ∷ []));
     does = claims_append table becomes none.claims (Claim r found ∷ []) a i b none.does (claims_one table becomes r found i b step);
     own = learns.0 ∙ none.own;
@@ -129,16 +129,16 @@ module _ {G : Type 0} (table : TableView) (becomes : G → Event → G → Type 
       at : i.0.known.steps ≡ a.0.known.steps + m
       at = let count = none.count in let steps = does_count table becomes claiming none.claims a i none.does in omega arith
 
-      each : (z : ℕ) → z < m + 1 → HasMissed (last ∷ none.missed) (kind (turned n from z)) (a.0.known.steps + z)
+      each : (z : ℕ) → z < m + 1 → HasMissed (last ∷ none.missed) (kind (wrapped n from z)) (a.0.known.steps + z)
       each z below = go (nat_lt z m) refl
         where
-          go : (t : Bool) → nat_lt z m ≡ t → HasMissed (last ∷ none.missed) (kind (turned n from z)) (a.0.known.steps + z)
-          go true e = further none.missed last (kind (turned n from z)) (a.0.known.steps + z) (none.each z (ltb-true z m e))
+          go : (t : Bool) → nat_lt z m ≡ t → HasMissed (last ∷ none.missed) (kind (wrapped n from z)) (a.0.known.steps + z)
+          go true e = further none.missed last (kind (wrapped n from z)) (a.0.known.steps + z) (none.each z (ltb-true z m e))
           go false e =
               let high = ltb-false z m e in
               let same : m ≡ z = omega arith in
-              subst (λ y. HasMissed (last ∷ none.missed) (kind (turned n from y)) (a.0.known.steps + y)) same
-              (subst (λ step. HasMissed (last ∷ none.missed) (kind (turned n from m)) step) at
+              subst (λ y. HasMissed (last ∷ none.missed) (kind (wrapped n from y)) (a.0.known.steps + y)) same
+              (subst (λ step. HasMissed (last ∷ none.missed) (kind (wrapped n from m)) step) at
               (subst (λ y. HasMissed (last ∷ none.missed) (kind y) i.0.known.steps) is (found, low, (0, omega arith, refl))))
 
   -- all have been tried
@@ -161,7 +161,7 @@ module _ {G : Type 0} (table : TableView) (becomes : G → Event → G → Type 
       )
 
   -- some that were not free, and then one that was
-  pub claims_next : (kind : ℕ → Rec) (n from begin m number found : ℕ) (a i b : SeatView × G) → from ≡ begin → m < n → number ≡ turned n from m → FindsNone table becomes kind n from m a i → found ≡ 0
+  pub claims_next : (kind : ℕ → Rec) (n from begin m number found : ℕ) (a i b : SeatView × G) → from ≡ begin → m < n → number ≡ wrapped n from m → FindsNone table becomes kind n from m a i → found ≡ 0
       → Steps table becomes (Claim (kind number) found) i b → Claims table becomes kind n begin number a b
   claims_next kind n from begin m number found a i b same low is none free_word step = subst (λ z. Claims table becomes kind n z number a b) same (
       let r : Rec = kind number in
@@ -192,7 +192,7 @@ module _ {G : Type 0} (table : TableView) (becomes : G → Event → G → Type 
   )
 
   -- beside what the pass had
-  pub claims_keeps : (kind : ℕ → Rec) (n from number : ℕ) (s : Rec) (h : Holding) (words : List ℕ) (a b : SeatView × G) → Claims table becomes kind n from number a b → Has a.0.known s h words → Has b.0.known s h words
+  pub claims_keeps : (kind : ℕ → Rec) (n from number : ℕ) (s : Rec) (h : Holding) (words : List ℕ) (a b : SeatView × G) → Claims table becomes kind n from number a b → OwnsAs a.0.known s h words → OwnsAs b.0.known s h words
   claims_keeps kind n from number s h words a b claims has =
       let low = has.1 in
       subst (λ l. Contains l (record { rec = s; holding = h; words = words })) (sym claims.own) (suc has.0, omega arith, has.2)

@@ -20,11 +20,11 @@ use Rattle.rowex_core.specs.Sharing.{IsOwned}
 use Rattle.rowex_core.specs.Knowing.{Knows, fill_in, hold_as}
 use Rattle.rowex_core.proofs.Lists.{kept}
 use Rattle.rowex_core.proofs.Owning.{knows_all}
-use Rattle.rowex_table.specs.Rights.{Has, HasFilled, IsClaimed}
+use Rattle.rowex_table.specs.Rights.{OwnsAs, IsClaimed}
 use Rattle.rowex_table.specs.Runs.{silent, Steps, Does, InTurn}
 use Rattle.rowex_table.specs.Seats.{TableView, SeatView}
 use Rattle.rowex_core.proofs.Having.{other_rec}
-use Rattle.rowex_table.proofs.Rights.{fill_more, mapped}
+use Rattle.rowex_table.proofs.Rights.{fill_more, mapped, HasFilled}
 use Rattle.rowex_table.proofs.Running.{in_turn_more, does_count}
 use Rattle.rowex_records.specs.Records.{owning, StoresWord, fill_with, Fills, Readies, GivesUp}
 use Rattle.rowex_records.proofs.Making.{owns_none, owns_one, owns_append}
@@ -42,7 +42,7 @@ each_mapped P f g e [] all = refl
 each_mapped P f g e (o ∷ own) all = λ i. e o (All-head P o own all) i ∷ each_mapped P f g e own (All-tail P o own all) i
 
 -- what a pass has of one record stays where a change is of another
-pub stays_mapped : (k j : Known) (f : Owned → Owned) (s : Rec) (h : Holding) (words : List ℕ) → j.own ≡ map f k.own → f (record { rec = s; holding = h; words = words }) ≡ record { rec = s; holding = h; words = words } → Has k s h words → Has j s h words
+pub stays_mapped : (k j : Known) (f : Owned → Owned) (s : Rec) (h : Holding) (words : List ℕ) → j.own ≡ map f k.own → f (record { rec = s; holding = h; words = words }) ≡ record { rec = s; holding = h; words = words } → OwnsAs k s h words → OwnsAs j s h words
 stays_mapped k j f s h words is same has =
     let o : Owned = record { rec = s; holding = h; words = words } in
     subst (λ l. Contains l o) (sym is) (subst (Contains (map f k.own)) same (mapped f k.own o has))
@@ -179,13 +179,13 @@ module _ {G : Type 0} (table : TableView) (becomes : G → Event → G → Type 
   fills_count r words a b fills = does_count table becomes owning fills.stores a b fills.does ∙ ap (λ n. a.0.known.steps + n) fills.count
 
   -- what a pass has of one record, filling another leaves to it, and so do making another ready and giving up another
-  pub fills_keeps : (r s : Rec) (filling : List ℕ) (h : Holding) (words : List ℕ) (a b : SeatView × G) → s ≢ r → Fills table becomes r filling a b → Has a.0.known s h words → Has b.0.known s h words
+  pub fills_keeps : (r s : Rec) (filling : List ℕ) (h : Holding) (words : List ℕ) (a b : SeatView × G) → s ≢ r → Fills table becomes r filling a b → OwnsAs a.0.known s h words → OwnsAs b.0.known s h words
   fills_keeps r s filling h words a b ne fills has = stays_mapped a.0.known b.0.known (fill_with r filling) s h words fills.own (rw (other_rec s r ne) refl) has
 
-  pub readies_keeps : (r s : Rec) (h : Holding) (words : List ℕ) (a b : SeatView × G) → s ≢ r → Readies table becomes r a b → Has a.0.known s h words → Has b.0.known s h words
+  pub readies_keeps : (r s : Rec) (h : Holding) (words : List ℕ) (a b : SeatView × G) → s ≢ r → Readies table becomes r a b → OwnsAs a.0.known s h words → OwnsAs b.0.known s h words
   readies_keeps r s h words a b ne readies has = stays_mapped a.0.known b.0.known (hold_as r IsReady) s h words readies.own (rw (other_rec s r ne) refl) has
 
-  pub gives_up_keeps : (r s : Rec) (h : Holding) (words : List ℕ) (a b : SeatView × G) → s ≢ r → GivesUp table becomes r a b → Has a.0.known s h words → Has b.0.known s h words
+  pub gives_up_keeps : (r s : Rec) (h : Holding) (words : List ℕ) (a b : SeatView × G) → s ≢ r → GivesUp table becomes r a b → OwnsAs a.0.known s h words → OwnsAs b.0.known s h words
   gives_up_keeps r s h words a b ne gives has =
       let o : Owned = record { rec = s; holding = h; words = words } in
       subst (λ l. Contains l o) (sym gives.own) (kept (λ x. not (same_rec x.rec r)) a.0.known.own o (passes_beside r s ne) has)
@@ -196,7 +196,7 @@ module _ {G : Type 0} (table : TableView) (becomes : G → Event → G → Type 
   readies_of r a b step = record { does = owns_one table becomes (Ready r) a b tt step; own = ap (λ (z : Known). z.own) step.event.learned_is }
 
   -- what it makes ready is ready
-  pub readies_gives : (r : Rec) (words : List ℕ) (a b : SeatView × G) → Readies table becomes r a b → Has a.0.known r Held words → Has b.0.known r IsReady words
+  pub readies_gives : (r : Rec) (words : List ℕ) (a b : SeatView × G) → Readies table becomes r a b → OwnsAs a.0.known r Held words → OwnsAs b.0.known r IsReady words
   readies_gives r words a b readies has =
       let held : hold_as r IsReady (record { rec = r; holding = Held; words = words }) ≡ record { rec = r; holding = IsReady; words = words } = rw (same_rec_refl r) refl in
       subst (λ l. Contains l (record { rec = r; holding = IsReady; words = words })) (sym readies.own)

@@ -1,5 +1,5 @@
 -- The records that a pass holds, and giving up all of them, one after the other.
-use Rattle.std.proofs.Common.{◌≡◌, ◌≢◌, ℕ, zero, suc, ◌+◌, ◌<◌, List, [], ◌∷◌, ◌++◌, length, map, take, drop, get_or, Bool, true, false, if◌then◌else◌, refl, sym, ap, subst, ◌∙◌, arith, add-one}
+use Rattle.std.proofs.Common.{◌≡◌, ◌≢◌, inl, inr, ℕ, zero, suc, ◌+◌, ◌<◌, List, [], ◌∷◌, ◌++◌, length, map, take, drop, get_or, Bool, true, false, if◌then◌else◌, refl, sym, ap, subst, ◌∙◌, arith, add-one}
 use Rattle.std.specs.Prelude.{All, Contains}
 use Rattle.std.proofs.lemmas.List.{drop_all, map-append, take_all, take_more}
 use Rattle.std.proofs.Math.Seq.{drop-cons}
@@ -19,10 +19,12 @@ use Rattle.rowex_table.specs.Runs.{Does}
 use Rattle.rowex_table.specs.Seats.{TableView, SeatView}
 use Rattle.rowex_table.proofs.Rights.{mapped}
 use Rattle.rowex_records.specs.Claims.{Claims}
-use Rattle.rowex_records.specs.Records.{owning, fill_with, Fills, HasNone, AreApart, HoldsJust, GivesUp, GivesUpAll}
+use Rattle.rowex_records.specs.Records.{owning, fill_with, Fills, HoldsJust, GivesUp, GivesUpAll}
 use Rattle.rowex_records.proofs.Claimed.{claims_gives, claims_keeps}
 use Rattle.rowex_records.proofs.Filled.{gives_up_keeps, stays_mapped}
 use Rattle.rowex_records.proofs.Making.{owns_none, owns_append}
+use Rattle.moments.specs.Trades.{IsOf}
+use Rattle.moments.proofs.Members.{all_of, apart_push}
 
 -- a pass that has just no records has none
 held_none : (k : Known) → HoldsJust k [] → k.own ≡ []
@@ -59,13 +61,13 @@ module _ {G : Type 0} (table : TableView) (becomes : G → Event → G → Type 
     apart = holds.apart.1;
   }
     where
-      both : (rest : List Rec) → HasNone r rest → All (IsClaimed a.0.known) rest → All (IsClaimed b.0.known) rest
+      both : (rest : List Rec) → (IsOf r rest → ⊥) → All (IsClaimed a.0.known) rest → All (IsClaimed b.0.known) rest
       both [] none held = All-nil (IsClaimed b.0.known)
       both (s ∷ rest) none held =
           let h = All-head (IsClaimed a.0.known) s rest held in
           All-cons (IsClaimed b.0.known) s rest
-          (h.0, h.1, gives_up_keeps table becomes r s Held h.0 a b (All-head (λ z. z ≢ r) s rest none) gives h.2)
-          (both rest (All-tail (λ z. z ≢ r) s rest none) (All-tail (IsClaimed a.0.known) s rest held))
+          (h.0, h.1, gives_up_keeps table becomes r s Held h.0 a b (λ e. none (inl (sym e))) gives h.2)
+          (both rest (λ h. none (inr h)) (All-tail (IsClaimed a.0.known) s rest held))
 
   -- The first i records are given up, and the pass has just the others.
   pub record GivesUpSome (recs : List Rec) (i : ℕ) (a b : SeatView × G) : Type 0 where
@@ -109,13 +111,6 @@ at_end : {X : Type 0} (xs : List X) (x : X) → Contains (xs ++ x ∷ []) x
 at_end [] x = (0, omega arith, refl)
 at_end (y ∷ xs) x = let rest = at_end xs x in let below = rest.1 in (suc rest.0, omega arith, rest.2)
 
-apart_push : (recs : List Rec) (r : Rec) → AreApart recs → HasNone r recs → AreApart (recs ++ r ∷ [])
-apart_push [] r apart none = (All-nil (λ s. s ≢ r), tt)
-apart_push (s ∷ recs) r apart none = (
-  All-push (λ z. z ≢ s) recs r apart.0 (λ e. All-head (λ z. z ≢ r) s recs none (sym e)),
-  apart_push recs r apart.1 (All-tail (λ z. z ≢ r) s recs none),
-)
-
 pub holds_nothing : (k : Known) → k.own ≡ [] → HoldsJust k []
 holds_nothing k is = record { only = subst (λ own. All (λ o. (o.holding ≡ Held) × Contains [] o.rec) own) (sym is) (All-nil (λ o. (o.holding ≡ Held) × Contains [] o.rec)); each = All-nil (IsClaimed k); apart = tt }
 
@@ -129,8 +124,8 @@ module _ {G : Type 0} (table : TableView) (becomes : G → Event → G → Type 
     each = All-push (IsClaimed b.0.known) recs r
         (All-weaker (IsClaimed a.0.known) (IsClaimed b.0.known) (λ s h. (h.0, h.1, claims_keeps table becomes kind n from number s Held h.0 a b claims h.2)) recs holds.each)
         (claims_gives table becomes kind n from number a b claims);
-    apart = apart_push recs r holds.apart
-        (All-weaker (IsClaimed a.0.known) (λ s. s ≢ r) (λ s h. All-contains (λ o. o.rec ≢ r) a.0.known.own (record { rec = s; holding = Held; words = h.0 }) claims.apart h.2) recs holds.each);
+    apart = apart_push recs r holds.apart (λ h. all_of (λ s. s ≢ r) r recs
+        (All-weaker (IsClaimed a.0.known) (λ s. s ≢ r) (λ s h. All-contains (λ o. o.rec ≢ r) a.0.known.own (record { rec = s; holding = Held; words = h.0 }) claims.apart h.2) recs holds.each) h refl);
   }
     where
       r : Rec

@@ -21,8 +21,8 @@ abbrev pub begin_of : ℕ → ℕ → ℕ
 begin_of n from = if nat_lt from n then from else 0
 
 -- of n numbers the one that is m after this one, where 0 comes after the last
-abbrev pub turned : ℕ → ℕ → ℕ → ℕ
-turned n from m = if nat_lt (from + m) n then from + m else from + m - n
+abbrev pub wrapped : ℕ → ℕ → ℕ → ℕ
+wrapped n from m = if nat_lt (from + m) n then from + m else from + m - n
 
 -- a claim that finds the record not free
 abbrev pub Misses : Rec → List Act → Type 0
@@ -36,21 +36,21 @@ HasMissed failed r step = (word : ℕ) × (1 ≤ word) × Contains failed (recor
 -- failed claims more, and its own records as they were.
 pub record FindsNone {G : Type 0} (table : TableView) (becomes : G → Event → G → Type 0) (kind : ℕ → Rec) (n from m : ℕ) (a b : SeatView × G) : Type 0 where
   pub claims : List Act
-  pub in_turn : InTurn (λ i. Misses (kind (turned n from i))) m claims
+  pub in_turn : InTurn (λ i. Misses (kind (wrapped n from i))) m claims
   pub count : length claims ≡ m
   pub does : Does table becomes claiming claims a b
   pub own : b.0.known.own ≡ a.0.known.own
   pub missed : List Failed
   pub failed : b.0.known.failed ≡ missed ++ a.0.known.failed
   pub size : length missed ≡ m
-  pub each : (i : ℕ) → i < m → HasMissed missed (kind (turned n from i)) (a.0.known.steps + i)
+  pub each : (i : ℕ) → i < m → HasMissed missed (kind (wrapped n from i)) (a.0.known.steps + i)
 
 -- The pass finds some of the n records of the kind not free, from this one on, and then claims the one of this number. It holds
 -- this one then, beside the records that it had, of which none is this one.
 pub record Claims {G : Type 0} (table : TableView) (becomes : G → Event → G → Type 0) (kind : ℕ → Rec) (n from number : ℕ) (a b : SeatView × G) : Type 0 where
   pub tried : ℕ
   pub low : tried < n
-  pub number_is : number ≡ turned n from tried
+  pub number_is : number ≡ wrapped n from tried
   pub before : SeatView × G
   pub none : FindsNone table becomes kind n from tried a before
   pub does : Does table becomes claiming (Claim (kind number) 0 ∷ []) before b

@@ -1,5 +1,5 @@
 -- Steps on records of a pass's own that are not in the tree: filled, made ready, given up.
-use Rattle.std.specs.Prelude.{◌≡◌, ◌≢◌, ℕ, ◌+◌, List, [], ◌∷◌, length, map, get_or, All, Contains, if◌then◌else◌}
+use Rattle.std.specs.Prelude.{◌≡◌, ℕ, ◌+◌, List, [], ◌∷◌, length, map, get_or, All, Contains, if◌then◌else◌}
 use Rattle.moments.specs.declared.Rec.{Rec}
 use Rattle.moments.specs.Steps.{same_rec}
 use Rattle.rowex_core.specs.declared.event.Act.{Act}
@@ -11,9 +11,10 @@ use Rattle.rowex_core.specs.declared.known.Owned.{Owned}
 use Rattle.rowex_core.specs.Cores.{word_count_of}
 use Rattle.rowex_core.specs.Knowing.{hold_as, without_record}
 use Rattle.rowex_core.specs.Reading.{IsPacked}
-use Rattle.rowex_table.specs.Rights.{Has, IsClaimed}
+use Rattle.rowex_table.specs.Rights.{OwnsAs, IsClaimed}
 use Rattle.rowex_table.specs.Runs.{Does, InTurn}
 use Rattle.rowex_table.specs.Seats.{TableView, SeatView}
+use Rattle.moments.specs.Trades.{AreApart}
 
 -- of what a pass knows, its own records may change
 abbrev pub owning : Known → Known → Known
@@ -21,7 +22,7 @@ owning k j = record k { own = j.own }
 
 -- the pass has claimed the record and not made it ready, and its words, which are these, spell a value
 abbrev pub IsFilled : Known → Rec → List ℕ → Type 0
-IsFilled k r words = Has k r Held words × IsPacked r words
+IsFilled k r words = OwnsAs k r Held words × IsPacked r words
 
 -- the word of this index is stored; the first stands at offset 1
 abbrev pub StoresWord : Rec → List ℕ → ℕ → List Act → Type 0
@@ -50,15 +51,6 @@ pub record Readies {G : Type 0} (table : TableView) (becomes : G → Event → G
 pub record GivesUp {G : Type 0} (table : TableView) (becomes : G → Event → G → Type 0) (r : Rec) (a b : SeatView × G) : Type 0 where
   pub does : Does table becomes owning (Release r ∷ []) a b
   pub own : b.0.known.own ≡ without_record r a.0.known.own
-
--- none of these is the record
-abbrev pub HasNone : Rec → List Rec → Type 0
-HasNone r recs = All (λ s. s ≢ r) recs
-
--- none is listed twice
-abbrev pub AreApart : List Rec → Type 0
-AreApart [] = Unit {0}
-AreApart (r ∷ recs) = HasNone r recs × AreApart recs
 
 -- The pass has just these records, each once, and all of them claimed and not made ready.
 pub record HoldsJust (k : Known) (recs : List Rec) : Type 0 where

@@ -5,7 +5,7 @@ ghost use Rattle.moments.specs.declared.Rec.TheVariants.{Node as a_node, Leaf as
 ghost use Rattle.rowex_core.specs.Cores.{HasRecord};
 ghost use Rattle.rowex_table.specs.Rights.{IsClaimed};
 ghost use Rattle.rowex_table.specs.Seats.{IsSeatOf};
-ghost use Rattle.rowex_records.specs.Claims.{AllMissed, Claims, FindsNone, begin_of, turned};
+ghost use Rattle.rowex_records.specs.Claims.{AllMissed, Claims, FindsNone, begin_of, wrapped};
 ghost use Rattle.rowex_records.specs.Records.{GivesUp, GivesUpAll, HoldsJust};
 
 use rowex_core::{Gate, Rec};
@@ -78,7 +78,7 @@ fn first(from: u32, all: u32) -> u32
 /// Of `all` numbers the one that is `tried` after `begin`, where 0 comes after the last.
 fn turn(begin: u32, tried: u32, all: u32) -> u32
     requires { (begin < all) × (tried < all) }
-    ensures turned { result ≡ turned all begin tried }
+    ensures wrapped { result ≡ wrapped all begin tried }
     ensures low { result < all }
 {
     let left = all - begin;

@@ -13,14 +13,14 @@ use Rattle.rowex_core.specs.Cores.{Core, IsLawful}
 use Rattle.rowex_core.specs.Words.{pin_word}
 use Rattle.rowex_core.specs.Events.{LegalAct, after}
 use Rattle.rowex_replay.specs.declared.passes.PassState.{PassState}
-use Rattle.rowex_replay.specs.Passes.{ArePassesOf, IsPassOf, in_round, with_pin_seen, lowered_by}
+use Rattle.rowex_replay.specs.Passes.{ArePassesOf, IsPassStateOf, in_round, with_pin_seen, lowered_by}
 use Rattle.rowex_replay.specs.States.{StateView, IsStateOf}
 use Rattle.rowex_replay.proofs.Tables.{slice_get-replicate, slice_get-set, slice_get_there, within, at_number, other_number}
 use Rattle.rowex_replay.proofs.Sound.{count}
 
 -- the stored passes with one of them changed
 pub pass_set : (passes : List PassState) (layout : Layout) (pins : ℕ → Option Pin) (rounds : ℕ → Round) → ArePassesOf passes layout pins rounds →
-    (q : ℕ) (p : PassState) (pin : Option Pin) (round : Round) → IsPassOf layout p pin round →
+    (q : ℕ) (p : PassState) (pin : Option Pin) (round : Round) → IsPassStateOf layout p pin round →
     ArePassesOf (set passes q p) layout (λ i. if nat_eq i q then pin else pins i) (λ i. if nat_eq i q then round else rounds i)
 pass_set passes layout pins rounds a q p pin round is = record {
   count = length-set passes q p ∙ a.count;
@@ -39,7 +39,7 @@ pub passes_are : (s : StateView) (c : Core) → IsStateOf s c → (passes : List
 passes_are s c h passes pins rounds a = record { records = h.records; passes = a; anchor = h.anchor; root = h.root; epoch = h.epoch; changes = h.changes; items = h.items }
 
 -- the pass itself
-pub own_at : (s : StateView) (c : Core) → IsStateOf s c → (q : ℕ) (p : PassState) → slice_get s.passes q ≡ Some p → IsPassOf c.layout p (c.pins q) (c.rounds q)
+pub own_at : (s : StateView) (c : Core) → IsStateOf s c → (q : ℕ) (p : PassState) → slice_get s.passes q ≡ Some p → IsPassStateOf c.layout p (c.pins q) (c.rounds q)
 own_at s c h q p e = h.passes.each q p e
 
 pub pass_in : (s t : StateView) → s ≡ t → (q : ℕ) (p : PassState) → slice_get t.passes q ≡ Some p → slice_get s.passes q ≡ Some p
@@ -60,8 +60,8 @@ fresh_seen layout o h =
     let x = slice_get_there {X = Bool} (replicate 64 false) 64 o (length-replicate {A = Bool} 64 false) (let limit = layout.passes_in_range in omega (arith, limit)) in
     x.1 ∙ ap Some (slice_get-replicate {X = Bool} 64 false o x.0 x.1)
 
-round_begun : (p : PassState) (layout : Layout) (pin : Option Pin) (round : Round) (e m : ℕ) → IsPassOf layout p pin round →
-    IsPassOf layout (in_round p e m) pin (record { epoch = e; moment = m; bound = e; seen = [] })
+round_begun : (p : PassState) (layout : Layout) (pin : Option Pin) (round : Round) (e m : ℕ) → IsPassStateOf layout p pin round →
+    IsPassStateOf layout (in_round p e m) pin (record { epoch = e; moment = m; bound = e; seen = [] })
 round_begun p layout pin round e m is = record { pin_is = is.pin_is; epoch_is = refl; moment_is = refl; bound_is = refl; seen_are = fresh_seen layout }
 
 pub epoch_loads : (s : StateView) (q w : ℕ) (p : PassState) → w ≡ s.epoch → slice_get s.passes q ≡ Some p → (c : Core) → ∥ IsLawful c ∥₁ → IsStateOf s c →
@@ -73,11 +73,11 @@ epoch_loads s q w p is at c lawful h = (
       (passes_are s c h (set s.passes q (in_round p c.epoch c.past.now)) c.pins (after c q (LoadEpoch w)).rounds (same_pins (own_at s c h q p at)))),
 )
   where
-    same_pins : IsPassOf c.layout p (c.pins q) (c.rounds q) → ArePassesOf (set s.passes q (in_round p c.epoch c.past.now)) c.layout c.pins (after c q (LoadEpoch w)).rounds
+    same_pins : IsPassStateOf c.layout p (c.pins q) (c.rounds q) → ArePassesOf (set s.passes q (in_round p c.epoch c.past.now)) c.layout c.pins (after c q (LoadEpoch w)).rounds
     same_pins own = record {
       count = length-set s.passes q (in_round p c.epoch c.past.now) ∙ h.passes.count;
       each = λ i x e.
-          subst (λ pin. IsPassOf c.layout x pin ((after c q (LoadEpoch w)).rounds i)) (own_value c.pins q i)
+          subst (λ pin. IsPassStateOf c.layout x pin ((after c q (LoadEpoch w)).rounds i)) (own_value c.pins q i)
           ((pass_set s.passes c.layout c.pins c.rounds h.passes q (in_round p c.epoch c.past.now) (c.pins q) (record { epoch = c.epoch; moment = c.past.now; bound = c.epoch; seen = [] })
           (round_begun p c.layout (c.pins q) (c.rounds q) c.epoch c.past.now own)).each i x e);
     }
@@ -92,17 +92,17 @@ pub pin_set : (s : StateView) (c : Core) → IsStateOf s c → (q : ℕ) (p : Pa
     IsStateOf (record s { passes = set s.passes q (record p { pin = option_map (λ (x : Pin). x.word) pin }) }) (record c { shared = with_pin c.shared q pin })
 pin_set s c h q p pin at = passes_are s c h (set s.passes q (record p { pin = option_map (λ (x : Pin). x.word) pin })) (λ i. if nat_eq i q then pin else c.pins i) c.rounds same_rounds
   where
-    own : IsPassOf c.layout p (c.pins q) (c.rounds q)
+    own : IsPassStateOf c.layout p (c.pins q) (c.rounds q)
     own = h.passes.each q p at
 
-    now : IsPassOf c.layout (record p { pin = option_map (λ (x : Pin). x.word) pin }) pin (c.rounds q)
+    now : IsPassStateOf c.layout (record p { pin = option_map (λ (x : Pin). x.word) pin }) pin (c.rounds q)
     now = let o = h.passes.each q p at in record { pin_is = refl; epoch_is = o.epoch_is; moment_is = o.moment_is; bound_is = o.bound_is; seen_are = o.seen_are }
 
     same_rounds : ArePassesOf (set s.passes q (record p { pin = option_map (λ (x : Pin). x.word) pin })) c.layout (λ i. if nat_eq i q then pin else c.pins i) c.rounds
     same_rounds = record {
       count = length-set s.passes q (record p { pin = option_map (λ (x : Pin). x.word) pin }) ∙ h.passes.count;
       each = λ i x e.
-          subst (λ round. IsPassOf c.layout x (if nat_eq i q then pin else c.pins i) round) (own_value c.rounds q i)
+          subst (λ round. IsPassStateOf c.layout x (if nat_eq i q then pin else c.pins i) round) (own_value c.rounds q i)
           ((pass_set s.passes c.layout c.pins c.rounds h.passes q (record p { pin = option_map (λ (x : Pin). x.word) pin }) pin (c.rounds q) now).each i x e);
     }
 
@@ -138,7 +138,7 @@ lowered_is : (bound : ℕ) (o : Option Pin) → lowered bound o ≡ lowered_by b
 lowered_is bound None = refl
 lowered_is bound (Some x) = refl
 
-seen_more : (layout : Layout) (p : PassState) (pin : Option Pin) (round : Round) (o i : ℕ) → IsPassOf layout p pin round → i < layout.passes →
+seen_more : (layout : Layout) (p : PassState) (pin : Option Pin) (round : Round) (o i : ℕ) → IsPassStateOf layout p pin round → i < layout.passes →
     slice_get (set p.seen o true) i ≡ Some (has_seen (o ∷ round.seen) i)
 seen_more layout p pin round o i is there =
     let x = slice_get_there (set p.seen o true) (length p.seen) i (length-set p.seen o true) (slice_get_within p.seen i (has_seen round.seen i) (is.seen_are i there)) in
@@ -158,7 +158,7 @@ pin_loads s q o w p x at other is c lawful h =
     round : Round
     round = record { epoch = (c.rounds q).epoch; moment = (c.rounds q).moment; bound = lowered (c.rounds q).bound (c.pins o); seen = o ∷ (c.rounds q).seen }
 
-    now : IsPassOf c.layout (with_pin_seen p o (option_map (λ (y : Pin). y.word) (c.pins o))) (c.pins q)
+    now : IsPassStateOf c.layout (with_pin_seen p o (option_map (λ (y : Pin). y.word) (c.pins o))) (c.pins q)
         (record { epoch = (c.rounds q).epoch; moment = (c.rounds q).moment; bound = lowered (c.rounds q).bound (c.pins o); seen = o ∷ (c.rounds q).seen })
     now =
         let own = h.passes.each q p at in
@@ -174,7 +174,7 @@ pin_loads s q o w p x at other is c lawful h =
     same_pins = record {
       count = length-set s.passes q (with_pin_seen p o (option_map (λ (y : Pin). y.word) (c.pins o))) ∙ h.passes.count;
       each = λ i y e.
-          subst (λ pin. IsPassOf c.layout y pin ((after c q (LoadPin o w)).rounds i)) (own_value c.pins q i)
+          subst (λ pin. IsPassStateOf c.layout y pin ((after c q (LoadPin o w)).rounds i)) (own_value c.pins q i)
           ((pass_set s.passes c.layout c.pins c.rounds h.passes q (with_pin_seen p o (option_map (λ (y : Pin). y.word) (c.pins o))) (c.pins q)
           (record { epoch = (c.rounds q).epoch; moment = (c.rounds q).moment; bound = lowered (c.rounds q).bound (c.pins o); seen = o ∷ (c.rounds q).seen }) now).each i y e);
     }

@@ -19,15 +19,15 @@ use Rattle.rowex_core.specs.Reading.{leaf_of}
 use Rattle.rowex_core.specs.Cores.{Core, HasRecord, IsWhole, heap_of}
 use Rattle.rowex_core.specs.Events.{AreSame, tree_of}
 use Rattle.rowex_core.proofs.Finding.{by_number, top_items}
-use Rattle.replay_trees.specs.Moments.{AreWordsOf, IsInTable, IsMoment, Tells}
+use Rattle.replay_trees.specs.Moments.{AreWordsOf, HasRecordIn, IsMoment, Tells}
 use Rattle.replay_trees.specs.declared.trees.Linked.{Linked}
 use Rattle.rowex_replay.specs.declared.fate.Fate.{Fate as Stored}
 use Rattle.rowex_replay.specs.declared.fate.Fate.TheVariants.{Free as IsFree, Held as IsHeld, Ready as IsReady, InTree as IsTree, Unlinked as IsUnlinked, Marked as IsMarked}
-use Rattle.rowex_replay.specs.Fates.{fate_of}
+use Rattle.rowex_replay.specs.Fates.{stored_fate}
 use Rattle.rowex_replay.specs.Links.{AllMayCome, AllMayGo}
 use Rattle.rowex_replay.specs.Records.{RecordsView, AreRecordsOf, MayLink}
 use Rattle.rowex_replay.specs.States.{StateView}
-use Rattle.rowex_replay.specs.Publishing.{IsWordStored, ArePacked, MayPublish}
+use Rattle.rowex_replay.specs.Publishing.{IsWordStored, ArePacked, MayMakeMoment}
 use Rattle.rowex_replay.proofs.Reading.{tree_stored}
 use Rattle.rowex_replay.proofs.Sound.{used}
 
@@ -49,11 +49,11 @@ words_read s layout words fate lock a = record {
   leaves_are = λ n h. a.words_are (a_leaf n) (get_or s.leaves n []) (slice_get-get_or s.leaves n [] h);
 }
 
-in_table : (s : RecordsView) (layout : Layout) (words : Rec → List ℕ) (fate : Rec → Fate) (lock : ℕ → Option ℕ) → AreRecordsOf s layout words fate lock → (r : Rec) → HasRecord layout r → IsInTable s.nodes s.leaves r
+in_table : (s : RecordsView) (layout : Layout) (words : Rec → List ℕ) (fate : Rec → Fate) (lock : ℕ → Option ℕ) → AreRecordsOf s layout words fate lock → (r : Rec) → HasRecord layout r → HasRecordIn s.nodes s.leaves r
 in_table s layout words fate lock a (a_node n) h = subst (λ z. n < z) (sym a.node_count.0) h
 in_table s layout words fate lock a (a_leaf n) h = subst (λ z. n < z) (sym a.leaf_count.0) h
 
-pub of_table : (s : RecordsView) (layout : Layout) (words : Rec → List ℕ) (fate : Rec → Fate) (lock : ℕ → Option ℕ) → AreRecordsOf s layout words fate lock → (r : Rec) → IsInTable s.nodes s.leaves r → HasRecord layout r
+pub of_table : (s : RecordsView) (layout : Layout) (words : Rec → List ℕ) (fate : Rec → Fate) (lock : ℕ → Option ℕ) → AreRecordsOf s layout words fate lock → (r : Rec) → HasRecordIn s.nodes s.leaves r → HasRecord layout r
 of_table s layout words fate lock a (a_node n) h = subst (λ z. n < z) a.node_count.0 h
 of_table s layout words fate lock a (a_leaf n) h = subst (λ z. n < z) a.leaf_count.0 h
 
@@ -62,7 +62,7 @@ whole : (q : ℕ) (f : Fate) → ((since : ℕ) × (f ≡ InTreeSince since)) �
 whole q f (inl (since, e)) = rw e (tt, λ x. cc)
 whole q f (inr e) = rw e (tt, λ x. cc)
 
-pub is_moment : (s : StateView) (c : Core) (words : Rec → List ℕ) (q : ℕ) (root : Option Entry) → IsWordStored s c words → ArePacked c words → MayPublish c q words root → IsMoment s.records.nodes s.records.leaves words root
+pub is_moment : (s : StateView) (c : Core) (words : Rec → List ℕ) (q : ℕ) (root : Option Entry) → IsWordStored s c words → ArePacked c words → MayMakeMoment c q words root → IsMoment s.records.nodes s.records.leaves words root
 is_moment s c words q root st packed may = record {
   top = may.top;
   tree = may.tree;
@@ -105,7 +105,7 @@ unfolding flag
 linked_flag nodes leaves t linked tells (a_node n) = ((tells.nodes_are n).0, (tells.nodes_are n).1)
 linked_flag nodes leaves t linked tells (a_leaf n) = ((tells.leaves_are n).0, (tells.leaves_are n).1)
 
-pub came : (q : ℕ) (f : Stored) → ((since : ℕ) × (fate_of f ≡ InTreeSince since)) ⊎ (fate_of f ≡ ReadyBy q) → ((since : ℕ) × (f ≡ IsTree since)) ⊎ (f ≡ IsReady q)
+pub came : (q : ℕ) (f : Stored) → ((since : ℕ) × (stored_fate f ≡ InTreeSince since)) ⊎ (stored_fate f ≡ ReadyBy q) → ((since : ℕ) × (f ≡ IsTree since)) ⊎ (f ≡ IsReady q)
 came q f (inl (since, e)) = inl (since, tree_stored f since e)
 came q (IsReady p) (inr e) = inr (let x : ReadyBy p ≡ ReadyBy q = e in cc)
 came q IsFree (inr e) = absurd (let x : Free ≡ ReadyBy q = e in cc)
@@ -114,6 +114,6 @@ came q (IsTree i) (inr e) = absurd (let x : InTreeSince i ≡ ReadyBy q = e in c
 came q (IsUnlinked i l p) (inr e) = absurd (let x : Unlinked i l p ≡ ReadyBy q = e in cc)
 came q (IsMarked i l p) (inr e) = absurd (let x : Marked i l p ≡ ReadyBy q = e in cc)
 
-pub comes : (q : ℕ) (f : Stored) → ((since : ℕ) × (f ≡ IsTree since)) ⊎ (f ≡ IsReady q) → ((since : ℕ) × (fate_of f ≡ InTreeSince since)) ⊎ (fate_of f ≡ ReadyBy q)
-comes q f (inl (since, e)) = inl (since, ap fate_of e)
-comes q f (inr e) = inr (ap fate_of e)
+pub comes : (q : ℕ) (f : Stored) → ((since : ℕ) × (f ≡ IsTree since)) ⊎ (f ≡ IsReady q) → ((since : ℕ) × (stored_fate f ≡ InTreeSince since)) ⊎ (stored_fate f ≡ ReadyBy q)
+comes q f (inl (since, e)) = inl (since, ap stored_fate e)
+comes q f (inr e) = inr (ap stored_fate e)

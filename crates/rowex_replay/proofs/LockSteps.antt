@@ -10,19 +10,11 @@ use Rattle.rowex_replay.specs.declared.fate.Fate.TheVariants.{InTree as IsStored
 use Rattle.rowex_replay.specs.Records.{RecordsView, HasState, fate_in, lock_in, with_lock_in}
 use Rattle.rowex_replay.specs.States.{StateView, IsStateOf}
 use Rattle.rowex_replay.proofs.Tables as table
-use Rattle.rowex_replay.proofs.Reading.{state_from, fate_at, tree_from}
+use Rattle.rowex_replay.proofs.Reading.{state_from, fate_at, tree_from, with_records_is}
 use Rattle.moments.specs.Steps.{with_lock}
 
 pub lock_is : (s : StateView) (c : Core) → IsStateOf s c → (n : ℕ) (o : Option ℕ) → IsStateOf (record s { records = with_lock_in s.records n o }) (record c { shared = with_lock c.shared n o })
-lock_is s c h n o = record {
-  records = table.lock_set s.records c.layout c.words c.fate c.lock h.records n o;
-  passes = h.passes;
-  anchor = h.anchor;
-  root = h.root;
-  epoch = h.epoch;
-  changes = h.changes;
-  items = h.items;
-}
+lock_is s c h n o = with_records_is s c h (with_lock_in s.records n o) c.words c.fate _ (table.lock_set s.records c.layout c.words c.fate c.lock h.records n o)
 
 -- the node is in the tree of records that are stored
 abbrev pub IsTreeNode : RecordsView → ℕ → Type 0

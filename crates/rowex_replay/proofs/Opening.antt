@@ -9,7 +9,7 @@ use Rattle.replay_trees.specs.declared.trees.Item.{Item as Stored}
 use Rattle.rowex_replay.specs.Passes.{ArePassesOf, fresh_pass}
 use Rattle.rowex_replay.specs.Records.{AreRecordsOf}
 use Rattle.rowex_replay.specs.States.{StateView, IsStateOf}
-use Rattle.replay_trees.specs.Moments.{item_of}
+use Rattle.replay_trees.specs.Moments.{read_item}
 use Rattle.rowex_replay.proofs.Tables.{slice_get-replicate}
 use Rattle.rowex_replay.proofs.EpochSteps.{fresh_seen}
 
@@ -31,7 +31,7 @@ opening_replay s layout records passes anchor root epoch changes items = record 
   items = rw items refl;
 }
 
-pairs_stored : (xs : List Stored) → map (λ (x : Stored). (x.key, x.value)) xs ≡ pairs (map item_of xs)
+pairs_stored : (xs : List Stored) → map (λ (x : Stored). (x.key, x.value)) xs ≡ pairs (map read_item xs)
 pairs_stored [] = refl
 pairs_stored (x ∷ xs) = ap (λ z. (x.key, x.value) ∷ z) (pairs_stored xs)
 

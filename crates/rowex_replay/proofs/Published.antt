@@ -13,15 +13,15 @@ use Rattle.moments.specs.Steps.{is_linked, next_fate}
 use Rattle.rowex_core.specs.Cores.{Core, HasRecord, heap_of}
 use Rattle.rowex_core.specs.Events.{AreSame, IsInTree, tree_of, change_between}
 use Rattle.replay_trees.specs.Changed.{IsFoundChange}
-use Rattle.replay_trees.specs.Moments.{AreWordsOf, IsMoment, IsReadMoment, Tells, item_of}
+use Rattle.replay_trees.specs.Moments.{AreWordsOf, IsMoment, IsReadMoment, Tells, read_item}
 use Rattle.replay_trees.specs.declared.trees.Item.{Item as ReadItem}
 use Rattle.replay_trees.specs.declared.trees.Linked.{Linked}
 use Rattle.rowex_replay.specs.declared.fate.Fate.{Fate as Stored}
 use Rattle.rowex_replay.specs.declared.fate.Fate.TheVariants.{Ready as IsReady, InTree as IsTree}
-use Rattle.rowex_replay.specs.Fates.{fate_of}
-use Rattle.rowex_replay.specs.Records.{RecordsView, MayLink, IsNext, words_in, fate_in}
+use Rattle.rowex_replay.specs.Fates.{stored_fate}
+use Rattle.rowex_replay.specs.Records.{RecordsView, MayLink, AreNextRecords, words_in, fate_in}
 use Rattle.rowex_replay.specs.States.{StateView, IsStateOf}
-use Rattle.rowex_replay.specs.Publishing.{IsWordStored, ArePacked, MayPublish, published}
+use Rattle.rowex_replay.specs.Publishing.{IsWordStored, ArePacked, MayMakeMoment, published}
 use Rattle.rowex_replay.proofs.Tables as table
 use Rattle.rowex_replay.proofs.Reading.{tree_stored}
 use Rattle.rowex_replay.proofs.Sound.{count, used}
@@ -55,7 +55,7 @@ module _ (s : StateView) (c : Core) (words : Rec → List ℕ) (q : ℕ) (root :
       let off = not_true (get_or linked.nodes.items n false) (λ on. out ((tells.nodes_are n).0 on)) in
       st.at.records.locks_are n y.0 y.1 ∙ (sym (get_or_from_slice_get s.records.locks n y.0 None y.1) ∙ m.nodes_go n x.0 x.1 off (since, tree_stored x.0 since (sym (st.at.records.fates_are (a_node n) x.0 x.1) ∙ e)))
 
-  pub may_link_from : MayPublish c q words root → MayLink s.records q linked.nodes.items linked.leaves.items
+  pub may_link_from : MayMakeMoment c q words root → MayLink s.records q linked.nodes.items linked.leaves.items
   may_link_from may = record {
     nodes_come = λ i f e on. came q f (subst (λ z. ((since : ℕ) × (z ≡ InTreeSince since)) ⊎ (z ≡ ReadyBy q)) (st.at.records.fates_are (a_node i) f e) (may.comes (a_node i) ((tells.nodes_are i).0 on)));
     leaves_come = λ i f e on. came q f (subst (λ z. ((since : ℕ) × (z ≡ InTreeSince since)) ⊎ (z ≡ ReadyBy q)) (st.at.records.fates_are (a_leaf i) f e) (may.comes (a_leaf i) ((tells.leaves_are i).0 on)));
@@ -63,16 +63,16 @@ module _ (s : StateView) (c : Core) (words : Rec → List ℕ) (q : ℕ) (root :
         let there = table.has_fate s.records c.layout words c.fate c.lock st.at.records (a_node i) f e in
         let y = table.lock_there s.records c.layout words c.fate c.lock st.at.records (a_node i) there in
         get_or_from_slice_get s.records.locks i y.0 None y.1 ∙ (sym (st.at.records.locks_are i y.0 y.1) ∙
-        may.goes i since (st.at.records.fates_are (a_node i) f e ∙ ap fate_of is) (λ l. false≢true (sym off ∙ (tells.nodes_are i).1 l)));
+        may.goes i since (st.at.records.fates_are (a_node i) f e ∙ ap stored_fate is) (λ l. false≢true (sym off ∙ (tells.nodes_are i).1 l)));
   }
 
   -- the change that is found is the one that the publish makes
-  pub found : (o : Option Change) → IsMoment s.records.nodes s.records.leaves words root → (AreSame (map item_of s.items) (map item_of linked.items.items) → IsFoundChange q (map item_of s.items) (map item_of linked.items.items) o) →
+  pub found : (o : Option Change) → IsMoment s.records.nodes s.records.leaves words root → (AreSame (map read_item s.items) (map read_item linked.items.items) → IsFoundChange q (map read_item s.items) (map read_item linked.items.items) o) →
       IsFoundChange q (items_of (c.past.moment c.past.now)) (items_of (tree_of (heap_of words) root)) o
   found o moment h =
       subst (λ xs. IsFoundChange q xs (items_of (tree_of (heap_of words) root)) o) (sym st.at.items)
-      (subst (λ ys. IsFoundChange q (map item_of s.items) ys o) tells.items_are
-      (h (subst (λ xs. AreSame xs (map item_of linked.items.items)) st.at.items
+      (subst (λ ys. IsFoundChange q (map read_item s.items) ys o) tells.items_are
+      (h (subst (λ xs. AreSame xs (map read_item linked.items.items)) st.at.items
       (subst (λ ys. AreSame (items_of (c.past.moment c.past.now)) ys) (sym tells.items_are) (same_leaves s c words root st moment.top)))))
 
   -- the records after it
@@ -80,19 +80,19 @@ module _ (s : StateView) (c : Core) (words : Rec → List ℕ) (q : ℕ) (root :
   next_words t (a, b) (a_node n) x e = st.at.records.words_are (a_node n) x (subst (λ z. slice_get z n ≡ Some x) a e)
   next_words t (a, b) (a_leaf n) x e = st.at.records.words_are (a_leaf n) x (subst (λ z. slice_get z n ≡ Some x) b e)
 
-  next_is : (now : ℕ) (r : Rec) (f e : Stored) → now ≡ c.past.now → fate_in s.records r ≡ Some e → fate_of f ≡ next_fate now q (flag linked r) (fate_of e) →
-      next_fate c.past.now q (is_linked (tree_of (heap_of words) root) r) (c.fate r) ≡ fate_of f
+  next_is : (now : ℕ) (r : Rec) (f e : Stored) → now ≡ c.past.now → fate_in s.records r ≡ Some e → stored_fate f ≡ next_fate now q (flag linked r) (stored_fate e) →
+      next_fate c.past.now q (is_linked (tree_of (heap_of words) root) r) (c.fate r) ≡ stored_fate f
   next_is now r f e same there is =
-      sym (is ∙ ap (λ z. next_fate z q (flag linked r) (fate_of e)) same ∙ ap (λ z. next_fate c.past.now q z (fate_of e)) (flag_is s.records.nodes s.records.leaves (tree_of (heap_of words) root) linked tells r)
+      sym (is ∙ ap (λ z. next_fate z q (flag linked r) (stored_fate e)) same ∙ ap (λ z. next_fate c.past.now q z (stored_fate e)) (flag_is s.records.nodes s.records.leaves (tree_of (heap_of words) root) linked tells r)
       ∙ ap (next_fate c.past.now q (is_linked (tree_of (heap_of words) root) r)) (sym (st.at.records.fates_are r e there)))
 
-  next_fates : (now : ℕ) (t : RecordsView) → now ≡ c.past.now → IsNext now q linked.nodes.items linked.leaves.items s.records t → (r : Rec) (f : Stored) → fate_in t r ≡ Some f →
-      next_fate c.past.now q (is_linked (tree_of (heap_of words) root) r) (c.fate r) ≡ fate_of f
+  next_fates : (now : ℕ) (t : RecordsView) → now ≡ c.past.now → AreNextRecords now q linked.nodes.items linked.leaves.items s.records t → (r : Rec) (f : Stored) → fate_in t r ≡ Some f →
+      next_fate c.past.now q (is_linked (tree_of (heap_of words) root) r) (c.fate r) ≡ stored_fate f
   unfolding flag
   next_fates now t same next (a_node n) f e = let x = next.node_fates n f e in next_is now (a_node n) f x.0 same x.1 x.2
   next_fates now t same next (a_leaf n) f e = let x = next.leaf_fates n f e in next_is now (a_leaf n) f x.0 same x.1 x.2
 
-  pub published_is : (now : ℕ) (t : RecordsView) (x : Change) → now ≡ length s.changes → IsNext now q linked.nodes.items linked.leaves.items s.records t →
+  pub published_is : (now : ℕ) (t : RecordsView) (x : Change) → now ≡ length s.changes → AreNextRecords now q linked.nodes.items linked.leaves.items s.records t →
       x ≡ change_between q (items_of (c.past.moment c.past.now)) (items_of (tree_of (heap_of words) root)) →
       IsStateOf (record s { records = t; root = root; changes = s.changes ++ x ∷ []; items = linked.items.items }) (published c q words root)
   published_is now t x same next is = record {
@@ -114,19 +114,19 @@ module _ (s : StateView) (c : Core) (words : Rec → List ℕ) (q : ℕ) (root :
 -- ---- the answers
 
 pub none_read : (s : StateView) (q : ℕ) (root : Option Entry) → ((words : Rec → List ℕ) → AreWordsOf s.records.nodes s.records.leaves words → IsReadMoment s.records.nodes s.records.leaves words root None) →
-    (c : Core) (words : Rec → List ℕ) → IsWordStored s c words → ArePacked c words → ¬ (MayPublish c q words root)
+    (c : Core) (words : Rec → List ℕ) → IsWordStored s c words → ArePacked c words → ¬ (MayMakeMoment c q words root)
 none_read s q root read c words st packed may = read words (words_read s.records c.layout words c.fate c.lock st.at.records) (is_moment s c words q root st packed may)
 
 pub not_linked : (s : StateView) (q : ℕ) (root : Option Entry) (linked : Linked) →
     ((words : Rec → List ℕ) → AreWordsOf s.records.nodes s.records.leaves words → IsReadMoment s.records.nodes s.records.leaves words root (Some linked)) →
-    ¬ (MayLink s.records q linked.nodes.items linked.leaves.items) → (c : Core) (words : Rec → List ℕ) → IsWordStored s c words → ArePacked c words → ¬ (MayPublish c q words root)
+    ¬ (MayLink s.records q linked.nodes.items linked.leaves.items) → (c : Core) (words : Rec → List ℕ) → IsWordStored s c words → ArePacked c words → ¬ (MayMakeMoment c q words root)
 not_linked s q root linked read fails c words st packed may =
     fails (may_link_from s c words q root st linked (read words (words_read s.records c.layout words c.fate c.lock st.at.records)).1 may)
 
 pub not_changed : (s : StateView) (q : ℕ) (root : Option Entry) (linked : Linked) →
     ((words : Rec → List ℕ) → AreWordsOf s.records.nodes s.records.leaves words → IsReadMoment s.records.nodes s.records.leaves words root (Some linked)) →
-    (AreSame (map item_of s.items) (map item_of linked.items.items) → IsFoundChange q (map item_of s.items) (map item_of linked.items.items) None) →
-    (c : Core) (words : Rec → List ℕ) → IsWordStored s c words → ArePacked c words → ¬ (MayPublish c q words root)
+    (AreSame (map read_item s.items) (map read_item linked.items.items) → IsFoundChange q (map read_item s.items) (map read_item linked.items.items) None) →
+    (c : Core) (words : Rec → List ℕ) → IsWordStored s c words → ArePacked c words → ¬ (MayMakeMoment c q words root)
 not_changed s q root linked read none c words st packed may =
     let x = read words (words_read s.records c.layout words c.fate c.lock st.at.records) in
     found s c words q root st linked x.1 None x.0 none may.change
@@ -134,9 +134,9 @@ not_changed s q root linked read none c words st packed may =
 pub publishes : (s : StateView) (q : ℕ) (root : Option Entry) (linked : Linked) (x : Change) (now : ℕ) (t : RecordsView) →
     ((words : Rec → List ℕ) → AreWordsOf s.records.nodes s.records.leaves words → IsReadMoment s.records.nodes s.records.leaves words root (Some linked)) →
     MayLink s.records q linked.nodes.items linked.leaves.items →
-    (AreSame (map item_of s.items) (map item_of linked.items.items) → IsFoundChange q (map item_of s.items) (map item_of linked.items.items) (Some x)) →
-    now ≡ length s.changes → IsNext now q linked.nodes.items linked.leaves.items s.records t → (c : Core) (words : Rec → List ℕ) → IsWordStored s c words →
-    MayPublish c q words root × IsStateOf (record s { records = t; root = root; changes = s.changes ++ x ∷ []; items = linked.items.items }) (published c q words root)
+    (AreSame (map read_item s.items) (map read_item linked.items.items) → IsFoundChange q (map read_item s.items) (map read_item linked.items.items) (Some x)) →
+    now ≡ length s.changes → AreNextRecords now q linked.nodes.items linked.leaves.items s.records t → (c : Core) (words : Rec → List ℕ) → IsWordStored s c words →
+    MayMakeMoment c q words root × IsStateOf (record s { records = t; root = root; changes = s.changes ++ x ∷ []; items = linked.items.items }) (published c q words root)
 publishes s q root linked x now t read m one same next c words st =
     let y = read words (words_read s.records c.layout words c.fate c.lock st.at.records) in
     let z = found s c words q root st linked y.1 (Some x) y.0 one in (
@@ -156,9 +156,9 @@ pub read_is : (a b x y : List (List ℕ)) (root : Option Entry) (o p : Option Li
     ((words : Rec → List ℕ) → AreWordsOf a b words → IsReadMoment a b words root o) → (words : Rec → List ℕ) → AreWordsOf x y words → IsReadMoment x y words root p
 read_is a b x y root o p e f g h = rw (← e, ← f, ← g) h
 
-pub found_is : (q : ℕ) (a b x y : List ReadItem) (o p : Option Change) → a ≡ x → b ≡ y → o ≡ p → (AreSame (map item_of a) (map item_of b) → IsFoundChange q (map item_of a) (map item_of b) o) →
-    AreSame (map item_of x) (map item_of y) → IsFoundChange q (map item_of x) (map item_of y) p
+pub found_is : (q : ℕ) (a b x y : List ReadItem) (o p : Option Change) → a ≡ x → b ≡ y → o ≡ p → (AreSame (map read_item a) (map read_item b) → IsFoundChange q (map read_item a) (map read_item b) o) →
+    AreSame (map read_item x) (map read_item y) → IsFoundChange q (map read_item x) (map read_item y) p
 found_is q a b x y o p e f g h = rw (← e, ← f, ← g) h
 
-pub next_of : (now q : ℕ) (a b x y : List Bool) (s t : RecordsView) → a ≡ x → b ≡ y → IsNext now q a b s t → IsNext now q x y s t
+pub next_of : (now q : ℕ) (a b x y : List Bool) (s t : RecordsView) → a ≡ x → b ≡ y → AreNextRecords now q a b s t → AreNextRecords now q x y s t
 next_of now q a b x y s t e f h = rw (← e, ← f) h

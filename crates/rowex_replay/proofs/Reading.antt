@@ -1,5 +1,5 @@
 -- What a replay stores, and what the core says that it is at.
-use Rattle.std.proofs.Common.{◌≡◌, ◌+◌, ◌*◌, ◌^◌, ◌<◌, ◌≤◌, ℕ, Option, Some, None, option_map, option_and_then, refl, sym, ap, ◌∙◌, arith}
+use Rattle.std.proofs.Common.{◌≡◌, ◌+◌, ◌*◌, ◌^◌, ◌<◌, ◌≤◌, ℕ, Option, Some, None, option_map, option_and_then, refl, sym, ap, ◌∙◌, arith, List}
 use Rattle.std.proofs.lemmas.Option.{same_Some, none-some}
 use Rattle.record_words.specs.declared.state.Tag.{Tag}
 use Rattle.record_words.specs.State.{HasStateWord, state_word}
@@ -10,14 +10,14 @@ use Rattle.rowex_core.specs.Cores.{Core, IsLawful, HasRecord}
 use Rattle.rowex_core.specs.Words.{tag_of, lock_of, state_at}
 use Rattle.rowex_replay.specs.declared.fate.Fate.{Fate as Stored}
 use Rattle.rowex_replay.specs.declared.fate.Fate.TheVariants.{Free as IsFree, Held as IsHeld, Ready as IsReady, InTree as IsInTree, Unlinked as IsUnlinked, Marked as IsMarked}
-use Rattle.rowex_replay.specs.Fates.{fate_of}
-use Rattle.rowex_replay.specs.Records.{HasState, words_in, fate_in, lock_in}
+use Rattle.rowex_replay.specs.Fates.{stored_fate}
+use Rattle.rowex_replay.specs.Records.{HasState, words_in, fate_in, lock_in, AreRecordsOf, RecordsView}
 use Rattle.rowex_replay.specs.States.{StateView, IsStateOf}
 use Rattle.rowex_replay.proofs.Tables as table
 
 -- ---- a stored fate is that of one fate
 
-pub tree_stored : (f : Stored) (since : ℕ) → fate_of f ≡ InTree since → f ≡ IsInTree since
+pub tree_stored : (f : Stored) (since : ℕ) → stored_fate f ≡ InTree since → f ≡ IsInTree since
 tree_stored IsFree since e = absurd (let x : Free ≡ InTree since = e in cc)
 tree_stored (IsHeld q) since e = absurd (let x : Held q ≡ InTree since = e in cc)
 tree_stored (IsReady q) since e = absurd (let x : Ready q ≡ InTree since = e in cc)
@@ -25,7 +25,7 @@ tree_stored (IsInTree i) since e = let x : InTree i ≡ InTree since = e in cc
 tree_stored (IsUnlinked i l q) since e = absurd (let x : Unlinked i l q ≡ InTree since = e in cc)
 tree_stored (IsMarked i l s) since e = absurd (let x : Marked i l s ≡ InTree since = e in cc)
 
-pub marked_stored : (f : Stored) (since last epoch : ℕ) → fate_of f ≡ Marked since last epoch → f ≡ IsMarked since last epoch
+pub marked_stored : (f : Stored) (since last epoch : ℕ) → stored_fate f ≡ Marked since last epoch → f ≡ IsMarked since last epoch
 marked_stored IsFree since last p e = absurd (let x : Free ≡ Marked since last p = e in cc)
 marked_stored (IsHeld q) since last p e = absurd (let x : Held q ≡ Marked since last p = e in cc)
 marked_stored (IsReady q) since last p e = absurd (let x : Ready q ≡ Marked since last p = e in cc)
@@ -35,10 +35,10 @@ marked_stored (IsMarked i l s) since last p e = let x : Marked i l s ≡ Marked 
 
 -- ---- fates, locks and words at a core
 
-pub fate_at : (s : StateView) (c : Core) → IsStateOf s c → (r : Rec) (f : Stored) → fate_in s.records r ≡ Some f → HasRecord c.layout r × (c.fate r ≡ fate_of f)
+pub fate_at : (s : StateView) (c : Core) → IsStateOf s c → (r : Rec) (f : Stored) → fate_in s.records r ≡ Some f → HasRecord c.layout r × (c.fate r ≡ stored_fate f)
 fate_at s c h r f e = (table.has_fate s.records c.layout c.words c.fate c.lock h.records r f e, h.records.fates_are r f e)
 
-pub fate_from : (s : StateView) (c : Core) → IsStateOf s c → (r : Rec) → HasRecord c.layout r → (f : Stored) × (fate_in s.records r ≡ Some f) × (c.fate r ≡ fate_of f)
+pub fate_from : (s : StateView) (c : Core) → IsStateOf s c → (r : Rec) → HasRecord c.layout r → (f : Stored) × (fate_in s.records r ≡ Some f) × (c.fate r ≡ stored_fate f)
 fate_from s c h r there = let x = table.fate_there s.records c.layout c.words c.fate c.lock h.records r there in (x.0, x.1, h.records.fates_are r x.0 x.1)
 
 pub lock_at : (s : StateView) (c : Core) → IsStateOf s c → (r : Rec) (o : Option ℕ) → lock_in s.records r ≡ Some o → lock_of c r ≡ o
@@ -61,9 +61,9 @@ tree_from s c h n since there e = let x = fate_from s c h (a_node n) there in x.
 
 -- ---- states
 
-tag_parts : (fo : Option Stored) (lo : Option (Option ℕ)) (t : Tag) → option_and_then (λ f. option_map (λ o. tag_of o (fate_of f)) lo) fo ≡ Some t →
-    (f : Stored) × (o : Option ℕ) × (fo ≡ Some f) × (lo ≡ Some o) × (tag_of o (fate_of f) ≡ t)
-tag_parts (Some f) (Some o) t e = (f, o, refl, refl, same_Some (tag_of o (fate_of f)) t e)
+tag_parts : (fo : Option Stored) (lo : Option (Option ℕ)) (t : Tag) → option_and_then (λ f. option_map (λ o. tag_of o (stored_fate f)) lo) fo ≡ Some t →
+    (f : Stored) × (o : Option ℕ) × (fo ≡ Some f) × (lo ≡ Some o) × (tag_of o (stored_fate f) ≡ t)
+tag_parts (Some f) (Some o) t e = (f, o, refl, refl, same_Some (tag_of o (stored_fate f)) t e)
 tag_parts (Some f) None t e = absurd (none-some t e)
 tag_parts None lo t e = absurd (none-some t e)
 
@@ -83,7 +83,7 @@ pub state_from : (s : StateView) (c : Core) → IsStateOf s c → (r : Rec) (w :
 state_from s c h r w (t, e, fits, is) =
     let (f, o, a, b, x) = tag_parts (fate_in s.records r) (lock_in s.records r) t e in
     let y = fate_at s c h r f a in
-    (y.0, sym is ∙ ap state_word (sym x) ∙ ap (λ z. state_word (tag_of z (fate_of f))) (sym (lock_at s c h r o b)) ∙ ap (λ z. state_word (tag_of (lock_of c r) z)) (sym y.1))
+    (y.0, sym is ∙ ap state_word (sym x) ∙ ap (λ z. state_word (tag_of z (stored_fate f))) (sym (lock_at s c h r o b)) ∙ ap (λ z. state_word (tag_of (lock_of c r) z)) (sym y.1))
 
 pub state_is : (s : StateView) (c : Core) → IsLawful c → IsStateOf s c → (r : Rec) (w : ℕ) → HasRecord c.layout r → w ≡ state_at c r → HasState s.records r w
 state_is s c lawful h r w there is =
@@ -106,3 +106,8 @@ word_0 (Some p) (InTree i) e = absurd (let x : 0 ≡ 3 = e in omega (arith, x))
 word_0 None (Unlinked i l q) e = absurd (let x : 0 ≡ 2 = e in omega (arith, x))
 word_0 (Some p) (Unlinked i l q) e = absurd (let x : 0 ≡ 3 = e in omega (arith, x))
 word_0 o (Marked i l s) e = absurd (let x : 0 ≡ 8 * s + 4 = e in omega (arith, x))
+
+-- the replay with other records is at the core with what these stand for
+pub with_records_is : (s : StateView) (c : Core) → IsStateOf s c → (t : RecordsView) (words : Rec → List ℕ) (fate : Rec → Fate) (lock : ℕ → Option ℕ) →
+    AreRecordsOf t c.layout words fate lock → IsStateOf (record s { records = t }) (record c { words = words; shared = record c.shared { fate = fate; lock = lock } })
+with_records_is s c h t words fate lock are = record { records = are; passes = h.passes; anchor = h.anchor; root = h.root; epoch = h.epoch; changes = h.changes; items = h.items }

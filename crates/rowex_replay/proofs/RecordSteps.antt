@@ -9,24 +9,16 @@ use Rattle.rowex_core.specs.Words.{tag_of, lock_of, state_at}
 use Rattle.rowex_core.specs.Events.{LegalAct, after, claimed, IsOffset}
 use Rattle.rowex_replay.specs.declared.fate.Fate.{Fate as Stored}
 use Rattle.rowex_replay.specs.declared.fate.Fate.TheVariants.{Free as IsFree, Held as IsHeld, Ready as IsReady}
-use Rattle.rowex_replay.specs.Fates.{fate_of}
+use Rattle.rowex_replay.specs.Fates.{stored_fate}
 use Rattle.rowex_replay.specs.Records.{RecordsView, HasState, IsPackedIn, words_in, fate_in, with_fate_in, with_words_in}
 use Rattle.rowex_replay.specs.States.{StateView, IsStateOf}
 use Rattle.rowex_replay.proofs.Tables as table
-use Rattle.rowex_replay.proofs.Reading.{held_at, state_from, state_is, word_0, words_from}
+use Rattle.rowex_replay.proofs.Reading.{held_at, state_from, state_is, word_0, words_from, with_records_is}
 use Rattle.moments.specs.Steps.{with_fate}
 
 -- the replay with one fate changed is at the core with that fate changed
-pub with_fate_is : (s : StateView) (c : Core) → IsStateOf s c → (r : Rec) (g : Stored) → IsStateOf (record s { records = with_fate_in s.records r g }) (record c { shared = with_fate c.shared r (fate_of g) })
-with_fate_is s c h r g = record {
-  records = table.fate_set s.records c.layout c.words c.fate c.lock h.records r g;
-  passes = h.passes;
-  anchor = h.anchor;
-  root = h.root;
-  epoch = h.epoch;
-  changes = h.changes;
-  items = h.items;
-}
+pub with_fate_is : (s : StateView) (c : Core) → IsStateOf s c → (r : Rec) (g : Stored) → IsStateOf (record s { records = with_fate_in s.records r g }) (record c { shared = with_fate c.shared r (stored_fate g) })
+with_fate_is s c h r g = with_records_is s c h (with_fate_in s.records r g) c.words _ c.lock (table.fate_set s.records c.layout c.words c.fate c.lock h.records r g)
 
 -- ---- claim
 
@@ -64,15 +56,8 @@ pub fills : (s : StateView) (q : ℕ) (r : Rec) (offset w : ℕ) (t : RecordsVie
 fills s q r offset w t held offset_is small put c lawful h =
     let x = held_at s c h r q held in (
       (x.0, x.1, offset_is, small),
-      rw (put (c.words r) (words_from s c h r x.0)) record {
-        records = table.words_set s.records c.layout c.words c.fate c.lock h.records r (set (c.words r) (offset - 1) w);
-        passes = h.passes;
-        anchor = h.anchor;
-        root = h.root;
-        epoch = h.epoch;
-        changes = h.changes;
-        items = h.items;
-      },
+      rw (put (c.words r) (words_from s c h r x.0))
+          (with_records_is s c h _ _ c.fate c.lock (table.words_set s.records c.layout c.words c.fate c.lock h.records r (set (c.words r) (offset - 1) w))),
     )
 
 pub readies : (s : StateView) (q : ℕ) (r : Rec) → fate_in s.records r ≡ Some (IsHeld q) → IsPackedIn s.records r → (c : Core) → ∥ IsLawful c ∥₁ → IsStateOf s c →

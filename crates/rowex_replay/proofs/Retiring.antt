@@ -12,7 +12,7 @@ use Rattle.rowex_core.specs.Events.{LegalAct, after, marked, given_back}
 use Rattle.rowex_replay.specs.declared.fate.Fate.{Fate as Stored}
 use Rattle.rowex_replay.specs.declared.fate.Fate.TheVariants.{Free as IsFree, Unlinked as IsUnlinked, Marked as IsMarked}
 use Rattle.rowex_replay.specs.declared.passes.PassState.{PassState}
-use Rattle.rowex_replay.specs.Fates.{fate_of}
+use Rattle.rowex_replay.specs.Fates.{stored_fate}
 use Rattle.rowex_replay.specs.Passes.{IsPast}
 use Rattle.rowex_replay.specs.Records.{HasState, fate_in, marked_in, with_fate_in, with_lock_in}
 use Rattle.rowex_replay.specs.States.{StateView, IsStateOf}
@@ -23,7 +23,7 @@ use Rattle.moments.specs.Steps.{with_fate, with_lock, unlocked}
 
 -- ---- marks
 
-marked_is : (s : StateView) (c : Core) → IsStateOf s c → (r : Rec) (g : Stored) → IsStateOf (record s { records = marked_in s.records r g }) (record c { shared = with_fate (unlocked c.shared r) r (fate_of g) })
+marked_is : (s : StateView) (c : Core) → IsStateOf s c → (r : Rec) (g : Stored) → IsStateOf (record s { records = marked_in s.records r g }) (record c { shared = with_fate (unlocked c.shared r) r (stored_fate g) })
 marked_is s c h (a_node n) g = with_fate_is (record s { records = with_lock_in s.records n None }) (record c { shared = with_lock c.shared n None }) (lock_is s c h n None) (a_node n) g
 marked_is s c h (a_leaf n) g = with_fate_is s c h (a_leaf n) g
 

@@ -17,8 +17,9 @@ use Rattle.rowex_core.specs.Events.{LegalAct, after, stored_words}
 use Rattle.rowex_core.proofs.Reading.{entry_of_word}
 use Rattle.rowex_replay.specs.Records.{RecordsView, AreRecordsOf, lock_in, with_words_in}
 use Rattle.rowex_replay.specs.States.{StateView, IsStateOf, IsStepped}
-use Rattle.rowex_replay.specs.Publishing.{IsWordStored, ArePacked, MayPublish, IsPublished, published}
+use Rattle.rowex_replay.specs.Publishing.{IsWordStored, ArePacked, MayMakeMoment, IsPublished, published}
 use Rattle.rowex_replay.proofs.Tables as table
+use Rattle.rowex_replay.proofs.Reading.{with_records_is}
 
 pub entry_is : (e : Option Entry) (w : ℕ) → HasEntryWord e → entry_word e ≡ w → entry_of w ≡ e
 entry_is e w fits is = subst (λ z. entry_of z ≡ e) is (entry_of_word e fits)
@@ -43,16 +44,9 @@ pub entry_stored : (s : StateView) (c : Core) (n j w : ℕ) (x y : List ℕ) →
     IsWordStored (record s { records = with_words_in s.records (a_node n) y }) c (stored_words c (Slot n j) w)
 entry_stored s c n j w x y lawful h at is = record {
   lawful = lawful;
-  at = record {
-    records = subst (λ z. AreRecordsOf (with_words_in s.records (a_node n) y) c.layout (λ i. if same_rec i (a_node n) then z else c.words i) c.fate c.lock) (sym new)
-        (table.words_set s.records c.layout c.words c.fate c.lock h.records (a_node n) y);
-    passes = h.passes;
-    anchor = h.anchor;
-    root = h.root;
-    epoch = h.epoch;
-    changes = h.changes;
-    items = h.items;
-  };
+  at = with_records_is s c h (with_words_in s.records (a_node n) y) (stored_words c (Slot n j) w) c.fate c.lock
+      (subst (λ z. AreRecordsOf (with_words_in s.records (a_node n) y) c.layout (λ i. if same_rec i (a_node n) then z else c.words i) c.fate c.lock) (sym new)
+      (table.words_set s.records c.layout c.words c.fate c.lock h.records (a_node n) y));
   leaves = λ m. refl;
 }
   where
@@ -72,7 +66,7 @@ pub entry_publishes : (s t : StateView) (q n j w : ℕ) (x y : List ℕ) → j <
     HasEntryWord (entry_of w) × (entry_word (entry_of w) ≡ w) → IsPublished true (record s { records = with_words_in s.records (a_node n) y }) t q s.root → (c : Core) → ∥ IsLawful c ∥₁ → IsStateOf s c →
     LegalAct c q (Publish (Slot n j) w) × IsStateOf t (after c q (Publish (Slot n j) w))
 entry_publishes s t q n j w x y few own at is packed entry p c lawful h =
-    let z = subst (λ o. MayPublish c q (stored_words c (Slot n j) w) o × IsStateOf t (published c q (stored_words c (Slot n j) w) o)) (sym h.root)
+    let z = subst (λ o. MayMakeMoment c q (stored_words c (Slot n j) w) o × IsStateOf t (published c q (stored_words c (Slot n j) w) o)) (sym h.root)
     (p c (stored_words c (Slot n j) w) (entry_stored s c n j w x y lawful h at is)) in (
       record {
         locked = (table.has_words s.records c.layout c.words c.fate c.lock h.records (a_node n) x at, few, h.records.locks_are n (Some q) own);
@@ -87,7 +81,7 @@ pub entry_refused : (s t : StateView) (q n j w : ℕ) (x y : List ℕ) → slice
     IsPublished false (record s { records = with_words_in s.records (a_node n) y }) t q s.root → (c : Core) → IsLawful c → IsStateOf s c → ¬ (LegalAct c q (Publish (Slot n j) w))
 entry_refused s t q n j w x y at is packed (same, p) c lawful h legal =
     p c (stored_words c (Slot n j) w) (entry_stored s c n j w x y ∣ lawful ∣₁ h at is) (entry_packed s c n j w x y lawful h at is packed)
-    (subst (MayPublish c q (stored_words c (Slot n j) w)) h.root legal.next)
+    (subst (MayMakeMoment c q (stored_words c (Slot n j) w)) h.root legal.next)
 
 pub entry_unpacked : (s : StateView) (q n j w : ℕ) (x y : List ℕ) → slice_get s.records.nodes n ≡ Some x → y ≡ set x (25 + j) w → ¬ (IsPacked (a_node n) y) → (c : Core) → IsLawful c → IsStateOf s c →
     ¬ (LegalAct c q (Publish (Slot n j) w))

@@ -11,7 +11,7 @@ use Rattle.moments.specs.Steps.{same_rec}
 use Rattle.moments.proofs.Legal.{same_rec_refl, same_rec_true}
 use Rattle.rowex_core.specs.Cores.{HasRecord}
 use Rattle.rowex_replay.specs.declared.fate.Fate.{Fate as Stored}
-use Rattle.rowex_replay.specs.Fates.{fate_of}
+use Rattle.rowex_replay.specs.Fates.{stored_fate}
 use Rattle.rowex_replay.specs.Records.{RecordsView, AreRecordsOf, words_in, fate_in, lock_in, with_fate_in, with_lock_in, with_words_in}
 
 -- ---- lists
@@ -82,21 +82,21 @@ pub other_number : {X : Type 0} (f : ℕ → X) (i n : ℕ) (x : X) → i ≢ n 
 other_number f i n x ne = at_other (λ r. elim r [ a_node i ↦ f i | a_leaf i ↦ f i ]) (a_node i) (a_node n) x (λ e. ne (cc))
 
 -- the records with one fate changed
-fates_set : (s : RecordsView) (fate : Rec → Fate) → ((r : Rec) (f : Stored) → fate_in s r ≡ Some f → fate r ≡ fate_of f) → (r : Rec) (g : Stored) →
-    (i : Rec) (f : Stored) → fate_in (with_fate_in s r g) i ≡ Some f → (if same_rec i r then fate_of g else fate i) ≡ fate_of f
+fates_set : (s : RecordsView) (fate : Rec → Fate) → ((r : Rec) (f : Stored) → fate_in s r ≡ Some f → fate r ≡ stored_fate f) → (r : Rec) (g : Stored) →
+    (i : Rec) (f : Stored) → fate_in (with_fate_in s r g) i ≡ Some f → (if same_rec i r then stored_fate g else fate i) ≡ stored_fate f
 fates_set s fate h (a_node n) g (a_node i) f e =
-    ⊎_elim (λ (a, b). rw a (at_same fate (a_node n) (fate_of g) ∙ ap fate_of (sym b)))
-    (λ (a, b). at_other fate (a_node i) (a_node n) (fate_of g) (λ x. a (cc)) ∙ h (a_node i) f b)
+    ⊎_elim (λ (a, b). rw a (at_same fate (a_node n) (stored_fate g) ∙ ap stored_fate (sym b)))
+    (λ (a, b). at_other fate (a_node i) (a_node n) (stored_fate g) (λ x. a (cc)) ∙ h (a_node i) f b)
     (slice_get-set s.node_fates n i g f e)
 fates_set s fate h (a_node n) g (a_leaf i) f e = h (a_leaf i) f e
 fates_set s fate h (a_leaf n) g (a_node i) f e = h (a_node i) f e
 fates_set s fate h (a_leaf n) g (a_leaf i) f e =
-    ⊎_elim (λ (a, b). rw a (at_same fate (a_leaf n) (fate_of g) ∙ ap fate_of (sym b)))
-    (λ (a, b). at_other fate (a_leaf i) (a_leaf n) (fate_of g) (λ x. a (cc)) ∙ h (a_leaf i) f b)
+    ⊎_elim (λ (a, b). rw a (at_same fate (a_leaf n) (stored_fate g) ∙ ap stored_fate (sym b)))
+    (λ (a, b). at_other fate (a_leaf i) (a_leaf n) (stored_fate g) (λ x. a (cc)) ∙ h (a_leaf i) f b)
     (slice_get-set s.leaf_fates n i g f e)
 
 pub fate_set : (s : RecordsView) (layout : Layout) (words : Rec → List ℕ) (fate : Rec → Fate) (lock : ℕ → Option ℕ) → AreRecordsOf s layout words fate lock →
-    (r : Rec) (g : Stored) → AreRecordsOf (with_fate_in s r g) layout words (λ i. if same_rec i r then fate_of g else fate i) lock
+    (r : Rec) (g : Stored) → AreRecordsOf (with_fate_in s r g) layout words (λ i. if same_rec i r then stored_fate g else fate i) lock
 fate_set s layout words fate lock a (a_node n) g = record {
   node_count = (a.node_count.0, length-set s.node_fates n g ∙ a.node_count.1, a.node_count.2);
   leaf_count = a.leaf_count;

@@ -4,10 +4,10 @@ use Rattle.rowex_replay.specs.declared.fate.Fate.TheVariants.{Free as IsFree, He
 use Rattle.moments.specs.Core.{Fate, Free, Held, Ready, InTree, Unlinked, Marked}
 
 -- the fate that is stored so
-abbrev pub fate_of : Stored → Fate
-fate_of IsFree = Free
-fate_of (IsHeld by) = Held by
-fate_of (IsReady by) = Ready by
-fate_of (IsInTree since) = InTree since
-fate_of (IsUnlinked since last by) = Unlinked since last by
-fate_of (IsMarked since last epoch) = Marked since last epoch
+abbrev pub stored_fate : Stored → Fate
+stored_fate IsFree = Free
+stored_fate (IsHeld by) = Held by
+stored_fate (IsReady by) = Ready by
+stored_fate (IsInTree since) = InTree since
+stored_fate (IsUnlinked since last by) = Unlinked since last by
+stored_fate (IsMarked since last epoch) = Marked since last epoch

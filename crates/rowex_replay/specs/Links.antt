@@ -3,7 +3,7 @@ use Rattle.std.specs.Prelude.{◌≡◌, ◌⊎◌, ℕ, List, get_or, slice_get
 use Rattle.moments.specs.Steps.{next_fate}
 use Rattle.rowex_replay.specs.declared.fate.Fate.{Fate as Stored}
 use Rattle.rowex_replay.specs.declared.fate.Fate.TheVariants.{Ready, InTree}
-use Rattle.rowex_replay.specs.Fates.{fate_of}
+use Rattle.rowex_replay.specs.Fates.{stored_fate}
 
 -- the record is in the tree
 abbrev pub IsInTree : Stored → Type 0
@@ -28,4 +28,5 @@ AllMayGo q linked locks fates =
 -- the fates after a publish by pass q at moment `now`
 abbrev pub AreNextFates : ℕ → ℕ → List Bool → List Stored → List Stored → Type 0
 AreNextFates now q linked old new =
-    (i : ℕ) (f : Stored) → slice_get new i ≡ Some f → (e : Stored) × (slice_get old i ≡ Some e) × (fate_of f ≡ next_fate now q (get_or linked i false) (fate_of e))
+    (i : ℕ) (f : Stored) → slice_get new i ≡ Some f →
+    (e : Stored) × (slice_get old i ≡ Some e) × (stored_fate f ≡ next_fate now q (get_or linked i false) (stored_fate e))

@@ -36,7 +36,7 @@ abbrev pub IsPast : PassState → ℕ → ℕ → Type 0
 IsPast p epoch n = (1 ≤ epoch) × (epoch < p.bound) × HasSeenAll p n
 
 -- the word of its pin, and its round
-pub record IsPassOf (layout : Layout) (p : PassState) (pin : Option Pin) (round : Round) : Type 0 where
+pub record IsPassStateOf (layout : Layout) (p : PassState) (pin : Option Pin) (round : Round) : Type 0 where
   pub pin_is : p.pin ≡ option_map (λ (x : Pin). x.word) pin
   pub epoch_is : round.epoch ≡ p.epoch
   pub moment_is : round.moment ≡ p.moment
@@ -46,4 +46,4 @@ pub record IsPassOf (layout : Layout) (p : PassState) (pin : Option Pin) (round 
 -- The data are those of the passes of this layout, with these pins and rounds.
 pub record ArePassesOf (passes : List PassState) (layout : Layout) (pins : ℕ → Option Pin) (rounds : ℕ → Round) : Type 0 where
   pub count : length passes ≡ layout.passes
-  pub each : (q : ℕ) (p : PassState) → slice_get passes q ≡ Some p → IsPassOf layout p (pins q) (rounds q)
+  pub each : (q : ℕ) (p : PassState) → slice_get passes q ≡ Some p → IsPassStateOf layout p (pins q) (rounds q)

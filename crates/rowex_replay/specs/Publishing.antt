@@ -26,8 +26,8 @@ abbrev pub change_to : Core → ℕ → (Rec → List ℕ) → Option Entry → 
 change_to c q words root = change_between q (items_of (c.past.moment c.past.now)) (items_of (tree_of (heap_of words) root))
 
 -- Pass q may make that tree the newest moment, its locks on words aside,
-abbrev pub MayPublish : Core → ℕ → (Rec → List ℕ) → Option Entry → Type 0
-MayPublish c q words root = IsNextMoment c.shared q (heap_of words) root (tree_of (heap_of words) root) (change_to c q words root)
+abbrev pub MayMakeMoment : Core → ℕ → (Rec → List ℕ) → Option Entry → Type 0
+MayMakeMoment c q words root = IsNextMoment c.shared q (heap_of words) root (tree_of (heap_of words) root) (change_to c q words root)
 
 -- and the core when it has.
 abbrev pub published : Core → ℕ → (Rec → List ℕ) → Option Entry → Core
@@ -35,5 +35,5 @@ published c q words root = record { layout = c.layout; words = words; shared = p
 
 -- That was done, and may be done in each core whose state it was; or it wasn't, and may be in none.
 abbrev pub IsPublished : Bool → StateView → StateView → ℕ → Option Entry → Type 0
-IsPublished true s t q root = (c : Core) (words : Rec → List ℕ) → IsWordStored s c words → MayPublish c q words root × IsStateOf t (published c q words root)
-IsPublished false s t q root = (t ≡ s) × ((c : Core) (words : Rec → List ℕ) → IsWordStored s c words → ArePacked c words → ¬ (MayPublish c q words root))
+IsPublished true s t q root = (c : Core) (words : Rec → List ℕ) → IsWordStored s c words → MayMakeMoment c q words root × IsStateOf t (published c q words root)
+IsPublished false s t q root = (t ≡ s) × ((c : Core) (words : Rec → List ℕ) → IsWordStored s c words → ArePacked c words → ¬ (MayMakeMoment c q words root))

@@ -9,7 +9,7 @@ use Rattle.moments.specs.Core.{Fate}
 use Rattle.rowex_core.specs.Reading.{IsPacked}
 use Rattle.rowex_core.specs.Words.{tag_of}
 use Rattle.rowex_replay.specs.declared.fate.Fate.{Fate as Stored}
-use Rattle.rowex_replay.specs.Fates.{fate_of}
+use Rattle.rowex_replay.specs.Fates.{stored_fate}
 use Rattle.rowex_replay.specs.Links.{AllMayCome, AllMayGo, AreNextFates}
 
 -- of each node its words but the state, its fate and its lock; of each leaf its words but the state, and its fate
@@ -36,7 +36,7 @@ lock_in s (a_leaf n) = Some None
 
 -- its state
 abbrev pub tag_in : RecordsView → Rec → Option Tag
-tag_in s r = option_and_then (λ f. option_map (λ o. tag_of o (fate_of f)) (lock_in s r)) (fate_in s r)
+tag_in s r = option_and_then (λ f. option_map (λ o. tag_of o (stored_fate f)) (lock_in s r)) (fate_in s r)
 
 -- its state has this word
 abbrev pub HasState : RecordsView → Rec → ℕ → Type 0
@@ -75,7 +75,7 @@ pub record MayLink (s : RecordsView) (q : ℕ) (nodes leaves : List Bool) : Type
   pub nodes_go : AllMayGo q nodes s.locks s.node_fates
 
 -- from the first records to the second fates alone have changed, as a publish changes them
-pub record IsNext (now q : ℕ) (nodes leaves : List Bool) (s t : RecordsView) : Type 0 where
+pub record AreNextRecords (now q : ℕ) (nodes leaves : List Bool) (s t : RecordsView) : Type 0 where
   pub words : (t.nodes ≡ s.nodes) × (t.leaves ≡ s.leaves)
   pub locks : t.locks ≡ s.locks
   pub node_count : length t.node_fates ≡ length s.node_fates
@@ -88,5 +88,5 @@ pub record AreRecordsOf (s : RecordsView) (layout : Layout) (words : Rec → Lis
   pub node_count : (length s.nodes ≡ layout.nodes) × (length s.node_fates ≡ layout.nodes) × (length s.locks ≡ layout.nodes)
   pub leaf_count : (length s.leaves ≡ layout.leaves) × (length s.leaf_fates ≡ layout.leaves)
   pub words_are : (r : Rec) (x : List ℕ) → words_in s r ≡ Some x → words r ≡ x
-  pub fates_are : (r : Rec) (f : Stored) → fate_in s r ≡ Some f → fate r ≡ fate_of f
+  pub fates_are : (r : Rec) (f : Stored) → fate_in s r ≡ Some f → fate r ≡ stored_fate f
   pub locks_are : (n : ℕ) (o : Option ℕ) → slice_get s.locks n ≡ Some o → lock n ≡ o

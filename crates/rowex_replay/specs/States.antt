@@ -12,7 +12,7 @@ use Rattle.record_words.specs.declared.TheConstants.{MAX_ENTRIES}
 use Rattle.rowex_core.specs.Cores.{Core, IsLawful}
 use Rattle.rowex_core.specs.Events.{IsLockedAt, LegalAct, after}
 use Rattle.replay_trees.specs.declared.trees.Item.{Item as ReadItem}
-use Rattle.replay_trees.specs.Moments.{item_of}
+use Rattle.replay_trees.specs.Moments.{read_item}
 use Rattle.rowex_replay.specs.declared.passes.PassState.{PassState}
 use Rattle.rowex_replay.specs.Passes.{ArePassesOf}
 use Rattle.rowex_replay.specs.Records.{RecordsView, AreRecordsOf, lock_in}
@@ -37,7 +37,7 @@ pub record IsStateOf (s : StateView) (c : Core) : Type 0 where
   pub root : c.root ≡ s.root
   pub epoch : c.epoch ≡ s.epoch
   pub changes : c.changes ≡ s.changes
-  pub items : items_of (c.past.moment c.past.now) ≡ map item_of s.items
+  pub items : items_of (c.past.moment c.past.now) ≡ map read_item s.items
 
 -- The act of pass q was made, and is legal in each lawful core whose state it was; or it wasn't, and is legal in none.
 abbrev pub IsStepped : Bool → StateView → StateView → ℕ → Act → Type 0

@@ -23,11 +23,11 @@ pub(crate) enum Fate {
 }
 
 impl Fate {
-    ghost use Rattle.rowex_replay.specs.Fates.{fate_of};
+    ghost use Rattle.rowex_replay.specs.Fates.{stored_fate};
 
     /// The state of a record of this fate, by who has locked it.
     pub(crate) fn tag(self, lock: Option<u16>) -> Tag
-        ensures { result ≡ tag_of lock (fate_of self) }
+        ensures { result ≡ tag_of lock (stored_fate self) }
     {
         match self {
             Fate::Free => Tag::Free,

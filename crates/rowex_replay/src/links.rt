@@ -2,7 +2,7 @@
 
 ghost use Rattle.std.specs.Prelude.{◌≡◌, ◌↔◌, ◌+◌, ◌<◌, ◌^◌, IsTrue, None, false, get_or};
 ghost use Rattle.moments.specs.Steps.{next_fate};
-ghost use Rattle.rowex_replay.specs.Fates.{fate_of};
+ghost use Rattle.rowex_replay.specs.Fates.{stored_fate};
 ghost use Rattle.rowex_replay.specs.Links.{AllMayCome, AllMayGo, AreNextFates, MayCome, MayGo};
 
 use crate::fate::Fate;
@@ -32,7 +32,7 @@ impl Fate {
     /// The fate of a record after a publish by the pass, which makes the moment after `now`.
     fn next(self, now: u64, pass: u16, is_linked: bool) -> Fate
         requires { now + 1 < 2 ^ 64 }
-        ensures { fate_of result ≡ next_fate now pass is_linked (fate_of self) }
+        ensures { stored_fate result ≡ next_fate now pass is_linked (stored_fate self) }
     {
         match self {
             Fate::Ready { .. } if is_linked => Fate::InTree { since: now + 1 },

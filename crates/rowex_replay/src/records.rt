@@ -32,7 +32,7 @@ impl Model for Records {
 
 impl Records {
     ghost use Rattle.rowex_core.specs.Opening.{opening};
-    ghost use Rattle.rowex_replay.specs.Records.{AreRecordsOf, HasState, IsNext, MayLink, HasWord, IsPackedIn, fate_in, lock_in, marked_in, tag_in, words_in, with_fate_in, with_lock_in, with_words_in};
+    ghost use Rattle.rowex_replay.specs.Records.{AreRecordsOf, HasState, AreNextRecords, MayLink, HasWord, IsPackedIn, fate_in, lock_in, marked_in, tag_in, words_in, with_fate_in, with_lock_in, with_words_in};
 
     /// Free records of a layout: all words are 0, and nothing is locked.
     pub(crate) fn new(alloc: Global, layout: Layout) -> Result<Records, AllocError>
@@ -123,7 +123,7 @@ impl Records {
     /// moment after `now`.
     pub(crate) fn link(&mut self, now: u64, pass: u16, nodes: &[bool], leaves: &[bool])
         requires { now + 1 < 2 ^ 64 }
-        ensures { IsNext now pass nodes.now leaves.now self.old self.new }
+        ensures { AreNextRecords now pass nodes.now leaves.now self.old self.new }
     {
         link_all(&mut self.node_fates, now, pass, nodes);
         link_all(&mut self.leaf_fates, now, pass, leaves);

@@ -15,8 +15,7 @@ use Rattle.rowex_core.specs.Cores.{bare, heap_of}
 use Rattle.rowex_core.specs.Events.{stored_words}
 use Rattle.rowex_core.proofs.Owning.{knows_all}
 use Rattle.rowex_table.specs.Made.{Made, recs_of}
-use Rattle.rowex_table.specs.Publishes.{MayPublish}
-use Rattle.rowex_table.proofs.ActsAfter.{publishes_made}
+use Rattle.rowex_table.proofs.ActsAfter.{publishes_made, MayPublish}
 use Rattle.rowex_rights.specs.Rises.{of_view, of_leaf}
 use Rattle.rowex_rights.proofs.Stages.{node_fixed, locked_node, upper_in, slot_store, made_leaf, made_node, stage_of}
 use Rattle.rowex_rights.proofs.Publishing.{publish_words, publish_root}

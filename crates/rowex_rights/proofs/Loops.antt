@@ -1,9 +1,7 @@
 -- The loops before a publish.
 use Rattle.std.proofs.Common.{◌≡◌, inl, inr, ℕ, ◌+◌, ◌-◌, List, [], ◌∷◌, ◌++◌, length, set, map, refl, sym, ap, subst, ◌∙◌, arith, append_assoc, length-append}
-use Rattle.std.specs.Prelude.{All}
 use Rattle.std.proofs.lemmas.List.{append-nil, map-append}
 use Rattle.std.proofs.Math.Seq.{set-append_seam}
-use Rattle.hot_model.specs.Fronts.{OthersGoOn}
 use Rattle.record_words.specs.declared.layout.Layout.{Layout}
 use Rattle.moments.specs.declared.Rec.{Rec}
 use Rattle.rowex_core.specs.declared.event.Act.TheVariants.{Claim, Fill, Ready, Release}
@@ -11,7 +9,7 @@ use Rattle.rowex_core.specs.declared.known.Holding.TheVariants.{Held, Ready as I
 use Rattle.rowex_core.specs.declared.known.Known.{Known}
 use Rattle.rowex_core.specs.Cores.{Core}
 use Rattle.rowex_core.specs.Reading.{IsPacked}
-use Rattle.rowex_core.specs.Knowing.{Knows, IsEvent, IsFact}
+use Rattle.rowex_core.specs.Knowing.{Knows, IsEvent}
 use Rattle.rowex_core.specs.declared.event.Act.{Act}
 use Rattle.rowex_table.specs.Stays.{KeepsRecall, LeavesLocks, LeavesAnchor}
 use Rattle.rowex_table.proofs.ActsLeave.{act_leaves}
@@ -20,8 +18,7 @@ use Rattle.rowex_core.proofs.Owning.{knows_all}
 use Rattle.rowex_core.proofs.Having.{owned_used}
 use Rattle.moments.specs.Trades.{IsOf, AreApart}
 use Rattle.moments.proofs.Members.{of_map, map_of, of_right, all_of}
-use Rattle.rowex_table.proofs.ActsBefore.{claim_gives_one, fill_gives_first, ready_gives_next, release_gives_rest, recalls_on, claim_leaves}
-use Rattle.rowex_rights.proofs.Sure.{others_on}
+use Rattle.rowex_table.proofs.ActsBefore.{claim_gives_one, fill_gives_first, ready_gives_next, release_gives_rest, recalls_on, claim_leaves, later_trans, same_later}
 use Rattle.rowex_table.specs.Runs.{silent}
 use Rattle.rowex_table.specs.Made.{HasReadied, IsLater, Made, held_as, recs_of}
 use Rattle.rowex_rights.specs.Loops.{FillsEach, HoldsRights, MakesOne, ReadiesAll, ReadiesEach, ReleasesAll, StaysLocked}
@@ -29,20 +26,10 @@ use Rattle.rowex_rights.specs.Loops.{FillsEach, HoldsRights, MakesOne, ReadiesAl
 -- What is recalled on and on
 
 pub later_same : (k j : Known) → j ≡ k → IsLater k j
-later_same k j e = record {
-  pass = ap (λ (z : Known). z.pass) e;
-  pin = ap (λ (z : Known). z.pin) e;
-  front = ([], ap (λ (z : Known). z.front) e ∙ sym (append-nil k.front), λ i d low. absurd (omega (arith, low)));
-  facts = λ s a. subst (λ (z : Known). All (IsFact s) z.facts) e a;
-}
+later_same k j e = same_later k j (ap (λ (z : Known). z.pass) e) (ap (λ (z : Known). z.pin) e) (ap (λ (z : Known). z.front) e) (ap (λ (z : Known). z.facts) e)
 
 pub later_on : (k i j : Known) → IsLater k i → IsLater i j → IsLater k j
-later_on k i j a b = record {
-  pass = b.pass ∙ a.pass;
-  pin = b.pin ∙ a.pin;
-  front = others_on k.pass k.front i.front j.front a.front (subst (λ q. OthersGoOn q i.front j.front) a.pass b.front);
-  facts = λ s x. a.facts s (b.facts s x);
-}
+later_on k i j a b = later_trans a b
 
 -- Claim and fills
 
@@ -76,7 +63,7 @@ makes_one layout k i j news r words holds size claim fills =
 
 -- All made ready, or given up
 
-recs_append : (us vs : List Made) → recs_of (us ++ vs) ≡ recs_of us ++ recs_of vs
+pub recs_append : (us vs : List Made) → recs_of (us ++ vs) ≡ recs_of us ++ recs_of vs
 recs_append us vs = map-append (λ (m : Made). m.rec) us vs
 
 -- of lists that are apart, the one in the middle is on neither side

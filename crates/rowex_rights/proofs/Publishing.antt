@@ -22,7 +22,7 @@ use Rattle.rowex_core.specs.Events.{IsLockedAt, IsPackedAt, stored_words, stored
 use Rattle.rowex_core.proofs.Reading.{entry_of_word}
 use Rattle.rowex_core.proofs.Promises.{publish_is_a_step}
 use Rattle.rowex_core.proofs.Bridging.{publish_is_legal}
-use Rattle.rowex_table.specs.Publishes.{IsPublishOf}
+use Rattle.rowex_table.proofs.ActsAfter.{IsPublishOf}
 
 pub publish_words : (c : Core) (q : ℕ) → IsLawful c → q < c.layout.passes → (spot : Spot) (w : ℕ) (e : Option Entry) → IsLockedAt c q spot → HasEntryWord e → entry_word e ≡ w → IsPackedAt c spot w →
     (x : Change) (was : Option ℕ) (new gone : List Rec) → IsPublished (bare c) q (heap_of (stored_words c spot w)) (stored_root c spot w) x new gone →

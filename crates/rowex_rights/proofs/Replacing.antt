@@ -8,18 +8,17 @@ use Rattle.tries.specs.Tree.{leaf, Within, here, inside}
 use Rattle.tries.proofs.Tries.{within_trans, within_child}
 use Rattle.moments.specs.declared.Rec.TheVariants.{Node as a_node, Leaf as a_leaf}
 use Rattle.moments.specs.Heap.{NodeWords, LeafWords}
-use Rattle.rowex_walks.specs.Writer.{item, replaced_change, removed_change}
+use Rattle.rowex_walks.specs.Writer.{replaced_change, removed_change}
 use Rattle.rowex_walks.specs.Rise.{IsLeafOf, IsOver, entry_news}
 use Rattle.rowex_walks.specs.Statements.{IsPublished}
 use Rattle.rowex_walks.proofs.Standing.{stands_now, now_standing, now_rooted, entry_leaf, root_leaf}
 use Rattle.rowex_core.specs.declared.event.Spot.TheVariants.{Root, Slot}
 use Rattle.rowex_core.specs.Reading.{node_of}
-use Rattle.rowex_core.specs.Cores.{bare, heap_of, view as state_of}
+use Rattle.rowex_core.specs.Cores.{bare, heap_of}
 use Rattle.rowex_core.specs.Events.{stored_words}
 use Rattle.rowex_core.proofs.Owning.{knows_all}
 use Rattle.rowex_table.specs.Made.{Made, recs_of}
-use Rattle.rowex_table.specs.Publishes.{MayPublish}
-use Rattle.rowex_table.proofs.ActsAfter.{publishes_made}
+use Rattle.rowex_table.proofs.ActsAfter.{publishes_made, MayPublish}
 use Rattle.rowex_rights.specs.Rises.{of_leaf}
 use Rattle.rowex_rights.proofs.Stages.{locked_node, slot_store, made_leaf, stage_of}
 use Rattle.rowex_rights.proofs.Sure.{reach_since}
@@ -29,6 +28,8 @@ use Rattle.rowex_walks.proofs.Leaves.{upsert_slot, upsert_root}
 use Rattle.rowex_walks.proofs.Taking.{left_tree, same_entry, remove_slot, remove_root, remove_only}
 use Rattle.rowex_walks.proofs.Search.{leaf_now}
 use Rattle.rowex_rights.specs.Cases.{LeafStays, UpsertInSlot, UpsertAtRoot, RemoveInSlot, RemoveAtRoot, RemoveLast}
+use Rattle.rowex_core.proofs.Loading.{view as state_of}
+use Rattle.tries.specs.Content.{item}
 
 pub leaf_stays : LeafStays
 leaf_stays layout k held news since j key value pinned sure c stage =

@@ -24,7 +24,7 @@ use Rattle.rowex_walks.proofs.Rising.{fork_parts}
 use Rattle.rowex_walks.proofs.Upwards.{upper_goes_on}
 use Rattle.rowex_rights.proofs.Bounding.{bound_of, tree_risen, bound_risen}
 use Rattle.rowex_rights.specs.Sure.{LeafThereStays}
-use Rattle.rowex_rights.proofs.Sure.{reach_since, recalls_earlier}
+use Rattle.rowex_rights.proofs.Sure.{reach_since}
 use Rattle.rowex_rights.proofs.Stages.{node_fixed, locked_node, upper_in, made_node}
 use Rattle.tries.specs.Affected.{page_affected, page_forked, page_grown, IsPartPage, IsFirstBelow}
 use Rattle.moments.specs.State.{IsFrom}
@@ -32,6 +32,8 @@ use Rattle.rowex_walks.specs.Writer.{IsWayBelow, IsFoundBelow}
 use Rattle.rowex_table.specs.Made.{IsLater, Made, held_as, recs_of}
 use Rattle.rowex_rights.specs.Stages.{IsStage}
 use Rattle.rowex_rights.specs.Rises.{AboveGoesOn, HasFoundBelow, IsSide, RiseGrows, RiseWhole, RisenStays, RisesCopied, RisesHalved, RisesPulled, RisesWrapped, anew, of_leaf, of_view, one}
+use Rattle.rowex_rights.proofs.Loops.{recs_append}
+use Rattle.rowex_table.proofs.ActsBefore.{recalls_before}
 
 -- What stays
 
@@ -39,7 +41,7 @@ pub stage_earlier : (layout : Layout) (k j : Known) → IsLater k j → (held : 
 stage_earlier layout k j later held news c s = record {
   lawful = s.lawful;
   layout_is = s.layout_is;
-  recalls = recalls_earlier k j later c s.recalls;
+  recalls = recalls_before later s.recalls;
   locks = λ l i. subst (λ q. IsLocked q c l) later.pass (s.locks l i);
   made = λ m i. subst (λ q. IsOwned q c (held_as Ready m)) later.pass (s.made m i);
 }
@@ -84,10 +86,6 @@ pub side_in : (layout : Layout) (k : Known) (held : List Locked) (news : List Ma
 side_in layout k held news c stage x e us (one d is) has s pg trie built = (alone d is, refl)
 side_in layout k held news c stage x e us (anew m view may is) has s pg trie built =
     (in_node m (node_fixed view) (subst (IsNewPage (bare c) k.pass m (node_fixed view)) is (made_node layout k held news c stage m view (has (of_view m view) (inl refl)) may.0 (bound_of view s may (is ∙ sym pg) trie built))), refl)
-
-recs_append : (us vs : List Made) → recs_of (us ++ vs) ≡ recs_of us ++ recs_of vs
-recs_append [] vs = refl
-recs_append (u ∷ us) vs = ap (λ z. u.rec ∷ z) (recs_append us vs)
 
 pub rises_halved : RisesHalved
 rises_halved layout k held news gone since x p l leaf n words at f a b d e us vs lower upper risen c stage =

@@ -1,8 +1,5 @@
 -- What a pass is sure of.
-use Rattle.std.proofs.Common.{◌≡◌, ◌≢◌, ℕ, ◌+◌, List, ◌++◌, length, refl, sym, ap, subst, ◌∙◌, arith, append_assoc, length-append}
-use Rattle.std.proofs.lemmas.List.Elements.{All-append}
-use Rattle.hot_model.specs.declared.Change.{Change}
-use Rattle.hot_model.specs.Fronts.{OthersGoOn}
+use Rattle.std.proofs.Common.{◌≡◌, ℕ, ◌+◌, length, refl, ap, ◌∙◌, arith, length-append}
 use Rattle.moments.specs.State.{Past, IsReach, IsSteady}
 use Rattle.moments.specs.Core.{pin_moment}
 use Rattle.moments.specs.Frames.{IsGrown}
@@ -11,11 +8,13 @@ use Rattle.rowex_walks.specs.Writer.{IsWayBelow}
 use Rattle.rowex_walks.proofs.Ways.{way_begins, way_goes_on, way_ends, way_is_below}
 use Rattle.rowex_core.specs.declared.known.Known.{Known}
 use Rattle.rowex_core.specs.Reading.{node_of}
-use Rattle.rowex_core.specs.Cores.{Core, IsLawful, view}
+use Rattle.rowex_core.specs.Cores.{Core, IsLawful}
 use Rattle.rowex_core.specs.Knowing.{Recalls, IsSince}
 use Rattle.rowex_table.specs.Made.{IsLater}
 use Rattle.rowex_rights.specs.Stages.{IsSure}
 use Rattle.rowex_rights.specs.Sure.{DescentBegins, DescentGoesOn, DescentEnds, DescentFinds, FoundStays}
+use Rattle.rowex_core.proofs.Loading.{view}
+use Rattle.rowex_table.proofs.ActsBefore.{recalls_before}
 
 -- what stood since a pass's pin is still in that life, in each core in which it recalls its pin
 pub reach_since : (k : Known) (m : ℕ) → IsSince k m → (c : Core) → IsLawful c → Recalls c k → IsReach (view c) m
@@ -23,17 +22,6 @@ reach_since k m (pin, pinned, early) c law recalls n le = law.core.state.reach k
 
 steady_since : (k : Known) (m : ℕ) → IsSince k m → (c : Core) → IsLawful c → Recalls c k → IsSteady c.past m
 steady_since k m since c law recalls = steady (view c) law.core.state m (reach_since k m since c law recalls)
-
-pub others_on : (q : ℕ) (a b c : List Change) → OthersGoOn q a b → OthersGoOn q b c → OthersGoOn q a c
-others_on q a b c (x, e, f) (y, g, h) = (x ++ y, g ∙ (ap (λ z. z ++ y) e ∙ append_assoc a x y), All-append (λ (z : Change). z.pass ≢ q) x y f h)
-
--- a core in which a pass recalls what it does is one in which it recalled what it did
-pub recalls_earlier : (k j : Known) → IsLater k j → (c : Core) → Recalls c j → Recalls c k
-recalls_earlier k j later c r = record {
-  front = others_on k.pass k.front j.front c.changes later.front (subst (λ q. OthersGoOn q j.front c.changes) later.pass r.front);
-  facts = later.facts c.past r.facts;
-  pin = ap c.pins (sym later.pass) ∙ (r.pin ∙ later.pin);
-}
 
 -- What holds of the moments that a pass has seen, in each lawful core in which what it recalls is true, and holds of each longer past
 -- then, it is sure of.
@@ -47,7 +35,7 @@ seen_is_sure k P stable seen c law recalls =
 
 -- What it was sure of it still is, while it goes on.
 pub sure_stays : (k j : Known) (P : Past → Type 0) → IsLater k j → IsSure k P → IsSure j P
-sure_stays k j P later sure c law recalls = sure c law (recalls_earlier k j later c recalls)
+sure_stays k j P later sure c law recalls = sure c law (recalls_before later recalls)
 
 pub descent_begins : DescentBegins
 descent_begins k m a h r x since led shaped first c law recalls = way_begins c.past m (steady_since k m since c law recalls) a h r x (led c law recalls) (shaped c law recalls) first

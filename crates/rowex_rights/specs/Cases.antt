@@ -10,13 +10,13 @@ use Rattle.record_words.specs.Leaf.{HasLeafWords}
 use Rattle.tries.specs.Keys.{Key, bit, AgreeBelow}
 use Rattle.tries.specs.Search.{seek}
 use Rattle.tries.specs.Place.{spot, page_without}
-use Rattle.tries.specs.Content.{Item}
+use Rattle.tries.specs.Content.{Item, item}
 use Rattle.tries.specs.Affected.{page_affected, page_forked, IsLowerPage}
 use Rattle.moments.specs.declared.Rec.{Rec}
 use Rattle.moments.specs.declared.Rec.TheVariants.{Node as a_node, Leaf as a_leaf}
 use Rattle.moments.specs.Trades.{IsOf}
 use Rattle.rowex_walks.specs.Scan.{IsRead}
-use Rattle.rowex_walks.specs.Writer.{item, added_change, replaced_change, removed_change}
+use Rattle.rowex_walks.specs.Writer.{added_change, replaced_change, removed_change}
 use Rattle.rowex_walks.specs.Rise.{entry}
 use Rattle.rowex_core.specs.declared.event.Spot.TheVariants.{Root, Slot}
 use Rattle.rowex_core.specs.declared.known.Known.{Known}

@@ -17,20 +17,34 @@ use Rattle.rowex_core.specs.declared.event.Target.TheVariants.{Anchor, Node as N
 use Rattle.rowex_core.specs.declared.known.Known.{Known}
 use Rattle.rowex_core.specs.declared.known.Locked.{Locked}
 use Rattle.rowex_core.specs.declared.known.Owned.{Owned}
-use Rattle.rowex_core.specs.Cores.{Core, HasRecord}
+use Rattle.rowex_core.specs.Cores.{Core, HasRecord, IsLawful}
 use Rattle.rowex_core.specs.Knowing.{Knows, IsEvent}
 use Rattle.rowex_core.specs.Sharing.{IsOwned, IsLocked, fate_of}
 use Rattle.rowex_core.proofs.Owning.{knows_all, round_is}
 use Rattle.rowex_core.proofs.Promises.{publish_is_a_step}
 use Rattle.rowex_table.specs.Rule.{MayStep}
-use Rattle.moments.specs.Trades.{IsOf, AreApart}
+use Rattle.moments.specs.Trades.{IsOf, AreApart, HasTraded}
 use Rattle.rowex_core.specs.Having.{OwnsJust, LocksJust, AreKept, IsAny, IsUnlinked, IsDue}
-use Rattle.rowex_table.specs.Publishes.{MayPublish, HasPublished, Publishes}
+use Rattle.rowex_table.specs.Publishes.{HasPublished, Publishes}
 use Rattle.rowex_table.specs.Runs.{silent}
 use Rattle.rowex_table.specs.Made.{Made, held_as, recs_of, nodes_of}
 use Rattle.rowex_core.specs.declared.known.Holding.TheVariants.{Ready}
 use Rattle.moments.proofs.Members.{all_of, of_map, map_of as has_mapped}
 use Rattle.rowex_core.proofs.Having.{owned_used, node_used, publish_leaves, mark_owns, unlock_locks}
+use Rattle.hot_model.specs.Maps.{value_at}
+use Rattle.rowex_core.specs.Events.{IsLegalPublish, next_tree, next_change}
+
+-- In this core the store of the word at the spot is a legal publish by pass q of the change x: `was` is what the key's value was
+-- before; just the records `new` are linked anew, and just the records `gone` are linked no more.
+pub record IsPublishOf (c : Core) (q : ℕ) (spot : Spot) (w : ℕ) (x : Change) (was : Option ℕ) (new gone : List Rec) : Type 0 where
+  pub legal : IsLegalPublish c q spot w
+  pub change : next_change c q spot w ≡ x
+  pub was_held : value_at (map_of c.changes) x.key ≡ was
+  pub trade : HasTraded (c.past.moment c.past.now) (next_tree c spot w) new gone
+
+-- So in each core of which what the pass knows is true.
+abbrev pub MayPublish : Layout → Known → Spot → ℕ → Change → Option ℕ → List Rec → List Rec → Type 0
+MayPublish layout k spot w x was new gone = (c : Core) → IsLawful c → c.layout ≡ layout → Knows c k → IsPublishOf c k.pass spot w x was new gone
 
 -- what a core says of one of the pass's own records, and of one of its locks
 owned_in : (c : Core) (k : Known) → Knows c k → (o : Owned) → IsOf o k.own → IsOwned k.pass c o

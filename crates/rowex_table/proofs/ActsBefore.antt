@@ -1,11 +1,10 @@
 -- What the acts before a publish leave a pass, on the whole lists of what it has: locks, claims, fills, readies, releases, loads.
-use Rattle.std.proofs.Common.{◌≡◌, ◌≢◌, inl, inr, ℕ, suc, ◌+◌, ◌-◌, List, [], ◌∷◌, ◌++◌, length, get_or, map, set, nat_eq, Bool, true, false, Option, Some, None, refl, sym, ap, ap₂, subst, ◌∙◌, arith, append_assoc}
+use Rattle.std.proofs.Common.{◌≡◌, inl, inr, ℕ, suc, ◌+◌, ◌-◌, List, [], ◌∷◌, ◌++◌, length, get_or, map, set, nat_eq, Bool, true, false, Option, Some, None, refl, sym, ap, ap₂, subst, ◌∙◌, arith, append_assoc}
 use Rattle.std.specs.Prelude.{All, if◌then◌else◌}
 use Rattle.std.proofs.lemmas.Bool.{eqb-true}
 use Rattle.std.proofs.lemmas.List.{map-append, append-nil}
-use Rattle.std.proofs.lemmas.List.Elements.{All-nil, All-tail}
+use Rattle.std.proofs.lemmas.List.Elements.{All-tail}
 use Rattle.compound_node.specs.declared.entries.Entry.{Entry}
-use Rattle.hot_model.specs.declared.Change.{Change}
 use Rattle.hot_model.specs.declared.Note.{Note}
 use Rattle.hot_model.specs.Fronts.{OthersGoOn}
 use Rattle.record_words.specs.declared.layout.Layout.{Layout}
@@ -32,7 +31,7 @@ use Rattle.rowex_core.specs.Words.{lock_of, lock_tag, tag_of, record_word}
 use Rattle.rowex_core.specs.Events.{target_word, word_of}
 use Rattle.rowex_core.specs.declared.event.Target.{Target}
 use Rattle.record_words.specs.declared.layout.Location.{Location}
-use Rattle.rowex_core.specs.Knowing.{Knows, failed_with, IsFact, IsEvent, facts_with, fill_in, hold_as, without_record, claim_learned, anchor_learned, node_learned, learned_by, learned}
+use Rattle.rowex_core.specs.Knowing.{Knows, failed_with, IsFact, IsEvent, facts_with, fill_in, hold_as, without_record, claim_learned, anchor_learned, node_learned, learned_by, learned, Recalls}
 use Rattle.rowex_core.specs.Sharing.{IsOwned, IsLocked}
 use Rattle.rowex_core.proofs.Owning.{knows_all}
 use Rattle.rowex_table.proofs.Rights.{free_tag, anchor_free}
@@ -42,6 +41,33 @@ use Rattle.moments.specs.Trades.{IsOf}
 use Rattle.rowex_core.proofs.Having.{not_free, other_rec}
 use Rattle.rowex_table.specs.Made.{Made, held_as, recs_of, nodes_of, IsLater}
 use Rattle.moments.proofs.Members.{of_map, map_of, all_of}
+use Rattle.hot_model.proofs.Growth.{others_on, others_none}
+
+-- the front, the facts and the pin are as before
+pub same_later : (k j : Known) → j.pass ≡ k.pass → j.pin ≡ k.pin → j.front ≡ k.front → j.facts ≡ k.facts → IsLater k j
+same_later k j pass pin front facts = record {
+  pass = pass;
+  pin = pin;
+  front = subst (OthersGoOn k.pass k.front) (sym front) (others_none k.pass k.front);
+  facts = λ s h. subst (All (IsFact s)) facts h;
+}
+
+-- later than what is later is later
+pub later_trans : {k i j : Known} → IsLater k i → IsLater i j → IsLater k j
+later_trans {k} {i} {j} x y = record {
+  pass = y.pass ∙ x.pass;
+  pin = y.pin ∙ x.pin;
+  front = others_on k.pass k.front i.front j.front x.front (subst (λ z. OthersGoOn z i.front j.front) x.pass y.front);
+  facts = λ s h. x.facts s (y.facts s h);
+}
+
+-- a core in which a pass recalls what it does is one in which it recalled what it did
+pub recalls_before : {k j : Known} {c : Core} → IsLater k j → Recalls c j → Recalls c k
+recalls_before {k} {j} {c} l h = record {
+  front = others_on k.pass k.front j.front c.changes l.front (subst (λ z. OthersGoOn z j.front c.changes) l.pass h.front);
+  facts = l.facts c.past h.facts;
+  pin = subst (λ z. c.pins z ≡ j.pin) l.pass h.pin ∙ l.pin;
+}
 
 -- Lists in which one record is changed
 
@@ -172,15 +198,12 @@ module _ (layout : Layout) (said : Known → List Note) (k j : Known) where
   abbrev AreSeen : Core → Known → Type 0
   AreSeen c i = (i.pass ≡ k.pass) × (i.pin ≡ k.pin) × OthersGoOn k.pass k.front i.front × ((s : Past) → All (IsFact s) i.facts → All (IsFact s) k.facts)
 
-  no_more : (q : ℕ) (front : List Change) → OthersGoOn q front front
-  no_more q front = ([], sym (append-nil front), All-nil (λ (x : Change). x.pass ≢ q))
-
   facts_kept : (o : Option Pin) (f : ℕ → Fact) (s : Past) → All (IsFact s) (facts_with o f k.facts) → All (IsFact s) k.facts
   facts_kept None f s a = a
   facts_kept (Some p) f s a = All-tail (IsFact s) (f p.moment) k.facts a
 
   same : (c : Core) → AreSeen c k
-  same c = (refl, refl, no_more k.pass k.front, λ s x. x)
+  same c = (refl, refl, others_none k.pass k.front, λ s x. x)
 
   one_of : (b : Bool) (c : Core) (x y : Known) → AreSeen c x → AreSeen c y → AreSeen c (if b then x else y)
   one_of true c x y f g = f

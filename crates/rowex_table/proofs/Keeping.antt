@@ -72,7 +72,7 @@ pub event_pass : (layout : Layout) (act : Act) (said : Known → List Note) (k j
 event_pass layout act said k j e = ap (λ (z : Known). z.pass) e.learned_is ∙ learned_pass e.core act k
 
 -- notes are outside the rule
-renoted : (c : Core) (k : Known) (notes : List Note) → Knows c k → Knows c (record k { notes = notes })
+pub renoted : (c : Core) (k : Known) (notes : List Note) → Knows c k → Knows c (record k { notes = notes })
 renoted c k notes h = record { pass = h.pass; counted = h.counted; seen = h.seen; own = h.own }
 
 -- The word that an act finds changes neither its place nor what it writes

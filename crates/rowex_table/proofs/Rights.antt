@@ -28,7 +28,11 @@ use Rattle.rowex_core.proofs.Owning.{knows_all}
 use Rattle.rowex_core.specs.Knowing.{Knows, IsEvent, anchor_learned, claim_learned, fill_in, hold_as, learned_by}
 use Rattle.rowex_table.specs.Rule.{MayStep}
 use Rattle.rowex_table.specs.Stays.{LeavesOwn}
-use Rattle.rowex_table.specs.Rights.{Has, HasFilled, IsClaimed}
+use Rattle.rowex_table.specs.Rights.{OwnsAs, IsClaimed}
+
+-- the pass has claimed the record, and filled it with the first i of these words
+abbrev pub HasFilled : Known → Rec → List ℕ → ℕ → Type 0
+HasFilled k r words i = (own : List ℕ) × (length own ≡ length words) × (take i own ≡ take i words) × OwnsAs k r Held own
 
 -- A record whose state word is 0 is free
 
@@ -55,22 +59,22 @@ next_word own words i word m low same is = subst (λ j. (length (set own j word)
     at = omega arith
 
 -- a record that is filled with all of the words has these
-pub filled : (k : Known) (r : Rec) (words : List ℕ) (i : ℕ) → length words ≤ i → HasFilled k r words i → Has k r Held words
-filled k r words i all (own, size, same, has) = subst (λ z. Has k r Held z) (sym (take_all i own (omega arith)) ∙ (same ∙ take_all i words all)) has
+pub filled : (k : Known) (r : Rec) (words : List ℕ) (i : ℕ) → length words ≤ i → HasFilled k r words i → OwnsAs k r Held words
+filled k r words i all (own, size, same, has) = subst (λ z. OwnsAs k r Held z) (sym (take_all i own (omega arith)) ∙ (same ∙ take_all i words all)) has
 
 module _ (layout : Layout) (k : Known) where
   -- Records of the pass's own
 
-  pub own_is : (r : Rec) (h : Holding) (words : List ℕ) → Has k r h words → (c : Core) → Knows c k → IsOwned k.pass c (record { rec = r; holding = h; words = words })
+  pub own_is : (r : Rec) (h : Holding) (words : List ℕ) → OwnsAs k r h words → (c : Core) → Knows c k → IsOwned k.pass c (record { rec = r; holding = h; words = words })
   own_is r h words has c known = All-contains (IsOwned k.pass c) k.own (record { rec = r; holding = h; words = words }) (knows_all c k known).own has
 
-  pub releases : (r : Rec) (words : List ℕ) → HasRecord layout r → Has k r Held words → MayStep layout (λ w. Release r) k
+  pub releases : (r : Rec) (words : List ℕ) → HasRecord layout r → OwnsAs k r Held words → MayStep layout (λ w. Release r) k
   releases r words h has c law at known = (known.pass, (subst (λ z. HasRecord z r) (sym at) h, (own_is r Held words has c known).0))
 
-  pub fills : (r : Rec) (offset word : ℕ) (words : List ℕ) → HasRecord layout r → IsOffset r offset → word < 2 ^ 64 → Has k r Held words → MayStep layout (λ w. Fill r offset word) k
+  pub fills : (r : Rec) (offset word : ℕ) (words : List ℕ) → HasRecord layout r → IsOffset r offset → word < 2 ^ 64 → OwnsAs k r Held words → MayStep layout (λ w. Fill r offset word) k
   fills r offset word words h o low has c law at known = (known.pass, (subst (λ z. HasRecord z r) (sym at) h, (own_is r Held words has c known).0, o, low))
 
-  pub readies : (r : Rec) (words : List ℕ) → HasRecord layout r → Has k r Held words → IsPacked r words → MayStep layout (λ w. Ready r) k
+  pub readies : (r : Rec) (words : List ℕ) → HasRecord layout r → OwnsAs k r Held words → IsPacked r words → MayStep layout (λ w. Ready r) k
   readies r words h has packed c law at known =
       let owned = own_is r Held words has c known in
       (known.pass, (subst (λ z. HasRecord z r) (sym at) h, owned.0, subst (IsPacked r) (sym owned.1) packed))
@@ -98,7 +102,7 @@ module _ (layout : Layout) (said : Known → List Note) (k j : Known) where
       (e.core.words r, (e.lawful.records.sized r).0, subst (λ l. Contains l o) (sym own) (0, omega arith, refl))
 
   -- what it fills has the word then
-  pub fill_gives : (r : Rec) (offset word : ℕ) (words : List ℕ) → IsEvent layout (Fill r offset word) said k j → Has k r Held words → Has j r Held (set words (offset - 1) word)
+  pub fill_gives : (r : Rec) (offset word : ℕ) (words : List ℕ) → IsEvent layout (Fill r offset word) said k j → OwnsAs k r Held words → OwnsAs j r Held (set words (offset - 1) word)
   fill_gives r offset word words e has =
       let o : Owned = record { rec = r; holding = Held; words = words } in
       let filled : fill_in r offset word o ≡ record { rec = r; holding = Held; words = set words (offset - 1) word } = rw (same_rec_refl r) refl in
@@ -112,7 +116,7 @@ module _ (layout : Layout) (said : Known → List Note) (k j : Known) where
       (set own (i + 1 - 1) word, next.0, next.1, fill_gives r (i + 1) word own e has)
 
   -- and what it makes ready is ready
-  pub ready_gives : (r : Rec) (words : List ℕ) → IsEvent layout (Ready r) said k j → Has k r Held words → Has j r IsReady words
+  pub ready_gives : (r : Rec) (words : List ℕ) → IsEvent layout (Ready r) said k j → OwnsAs k r Held words → OwnsAs j r IsReady words
   ready_gives r words e has =
       let o : Owned = record { rec = r; holding = Held; words = words } in
       let held : hold_as r IsReady o ≡ record { rec = r; holding = IsReady; words = words } = rw (same_rec_refl r) refl in
@@ -164,17 +168,17 @@ module _ (layout : Layout) (said : Known → List Note) (k j : Known) where
   claimed_own c r found (UnlinkedBy s l q) o h = h
   claimed_own c r found (Marked s l epoch) o h = h
 
-  pub claim_keeps : (r s : Rec) (found : ℕ) (h : Holding) (words : List ℕ) → IsEvent layout (Claim r found) said k j → Has k s h words → Has j s h words
+  pub claim_keeps : (r s : Rec) (found : ℕ) (h : Holding) (words : List ℕ) → IsEvent layout (Claim r found) said k j → OwnsAs k s h words → OwnsAs j s h words
   claim_keeps r s found h words e has = subst (λ l. Contains l (record { rec = s; holding = h; words = words })) (sym (ap (λ (z : Known). z.own) e.learned_is))
       (claimed_own e.core r found (e.core.fate r) (record { rec = s; holding = h; words = words }) has)
 
-  pub fill_keeps : (r s : Rec) (offset word : ℕ) (h : Holding) (words : List ℕ) → s ≢ r → IsEvent layout (Fill r offset word) said k j → Has k s h words → Has j s h words
+  pub fill_keeps : (r s : Rec) (offset word : ℕ) (h : Holding) (words : List ℕ) → s ≢ r → IsEvent layout (Fill r offset word) said k j → OwnsAs k s h words → OwnsAs j s h words
   fill_keeps r s offset word h words ne e has =
       let o : Owned = record { rec = s; holding = h; words = words } in
       let same : fill_in r offset word o ≡ o = rw (other_rec s r ne) refl in
       subst (λ l. Contains l o) (sym (ap (λ (z : Known). z.own) e.learned_is)) (subst (Contains (map (fill_in r offset word) k.own)) same (mapped (fill_in r offset word) k.own o has))
 
-  pub ready_keeps : (r s : Rec) (h : Holding) (words : List ℕ) → s ≢ r → IsEvent layout (Ready r) said k j → Has k s h words → Has j s h words
+  pub ready_keeps : (r s : Rec) (h : Holding) (words : List ℕ) → s ≢ r → IsEvent layout (Ready r) said k j → OwnsAs k s h words → OwnsAs j s h words
   ready_keeps r s h words ne e has =
       let o : Owned = record { rec = s; holding = h; words = words } in
       let same : hold_as r IsReady o ≡ o = rw (other_rec s r ne) refl in

@@ -33,7 +33,7 @@ use Rattle.rowex_core.proofs.Owning.{knows_all, round_is}
 use Rattle.rowex_core.proofs.Reading.{entry_of_word, leaf_is}
 use Rattle.rowex_core.proofs.Publishing.{linked_now}
 use Rattle.rowex_table.specs.Rule.{MayStep}
-use Rattle.rowex_table.specs.Rights.{Has}
+use Rattle.rowex_table.specs.Rights.{OwnsAs}
 use Rattle.rowex_table.proofs.Rights.{own_is}
 
 -- What the root shows
@@ -81,7 +81,7 @@ module _ (layout : Layout) (k : Known) where
   -- Steps that a pass may make
 
   -- under the anchor's lock, where the root is empty, a pass may link a leaf that it has made ready
-  pub links_first : (n w : ℕ) (words : List ℕ) → n < 2 ^ 32 → w ≡ entry_word (Some (Leaf n)) → Has k (a_leaf n) IsReady words → k.anchor ≡ Some None →
+  pub links_first : (n w : ℕ) (words : List ℕ) → n < 2 ^ 32 → w ≡ entry_word (Some (Leaf n)) → OwnsAs k (a_leaf n) IsReady words → k.anchor ≡ Some None →
       MayStep layout (λ found. Publish Root w) k
   links_first n w words low is has empty c law at known = (
     known.pass,
@@ -135,7 +135,7 @@ module _ (layout : Layout) (k : Known) where
       now = leaf_moment c law n ((knows_all c k known).anchor (Some (Leaf n)) root).1
 
   -- what it has unlinked before it loaded the epoch it may mark with that epoch
-  pub marks : (r : Rec) (since last epoch : ℕ) (words : List ℕ) → HasRecord layout r → Has k r (Unlinked since last) words → last < k.round.moment → epoch ≡ k.round.epoch →
+  pub marks : (r : Rec) (since last epoch : ℕ) (words : List ℕ) → HasRecord layout r → OwnsAs k r (Unlinked since last) words → last < k.round.moment → epoch ≡ k.round.epoch →
       MayStep layout (λ found. Mark r epoch) k
   marks r since last epoch words h has before is c law at known = (
     known.pass,
@@ -161,7 +161,7 @@ module _ (layout : Layout) (said : Known → List Note) (k j : Known) where
       go (Some was) is some = ap (λ (z : Known). z.anchor) e.learned_is ∙ (is ∙ ap Some (sym ((knows_all e.core k e.knows).anchor was is).1 ∙ shown))
 
   -- the leaf that it unlinks is its own
-  pub removal_gives : (n : ℕ) → k.anchor ≡ Some (Some (Leaf n)) → IsEvent layout (Publish Root 0) said k j → (since : ℕ) × (last : ℕ) × (words : List ℕ) × Has j (a_leaf n) (Unlinked since last) words
+  pub removal_gives : (n : ℕ) → k.anchor ≡ Some (Some (Leaf n)) → IsEvent layout (Publish Root 0) said k j → (since : ℕ) × (last : ℕ) × (words : List ℕ) × OwnsAs j (a_leaf n) (Unlinked since last) words
   unfolding entry_of
   removal_gives n root e =
       let c = e.core in
@@ -175,8 +175,8 @@ module _ (layout : Layout) (said : Known → List Note) (k j : Known) where
   pub epoch_gives : (w : ℕ) → IsEvent layout (LoadEpoch w) said k j → (w < 2 ^ 60) × (w ≡ j.round.epoch)
   epoch_gives w e = (subst (λ z. z < 2 ^ 60) (sym e.legal.1) e.lawful.epochs.now.1, e.legal.1 ∙ sym (ap (λ (z : Known). z.round.epoch) e.learned_is))
 
-  pub epoch_keeps : (w : ℕ) (r : Rec) (since last : ℕ) (words : List ℕ) → IsEvent layout (LoadEpoch w) said k j → Has k r (Unlinked since last) words →
-      Has j r (Unlinked since last) words × (last < j.round.moment)
+  pub epoch_keeps : (w : ℕ) (r : Rec) (since last : ℕ) (words : List ℕ) → IsEvent layout (LoadEpoch w) said k j → OwnsAs k r (Unlinked since last) words →
+      OwnsAs j r (Unlinked since last) words × (last < j.round.moment)
   epoch_keeps w r since last words e has =
       let owned = own_is layout k r (Unlinked since last) words has e.core e.knows in
       let lived = subst (λ f. IsLived e.core.past.now (life_of f)) owned.0 (e.lawful.core.state.lived r) in (

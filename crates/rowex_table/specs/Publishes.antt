@@ -5,29 +5,15 @@ use Rattle.hot_model.specs.Maps.{value_at}
 use Rattle.hot_model.specs.Fronts.{OthersGoOn, map_of, Fits}
 use Rattle.record_words.specs.declared.layout.Layout.{Layout}
 use Rattle.moments.specs.declared.Rec.{Rec}
-use Rattle.moments.specs.Trades.{AreApart, HasTraded}
+use Rattle.moments.specs.Trades.{AreApart}
 use Rattle.rowex_core.specs.declared.event.Act.TheVariants.{Publish}
 use Rattle.rowex_core.specs.declared.event.Spot.{Spot}
 use Rattle.rowex_core.specs.declared.known.Known.{Known}
-use Rattle.rowex_core.specs.Cores.{Core, IsLawful}
-use Rattle.rowex_core.specs.Events.{IsLegalPublish, next_tree, next_change}
 use Rattle.rowex_core.specs.Having.{OwnsJust, LocksJust, AreKept, IsUnlinked}
-use Rattle.rowex_core.specs.Knowing.{Knows, IsEvent}
+use Rattle.rowex_core.specs.Knowing.{IsEvent}
 use Rattle.rowex_table.specs.Rule.{MayStep}
 use Rattle.rowex_table.specs.Made.{nodes_of}
 use Rattle.rowex_table.specs.Runs.{silent}
-
--- In this core the store of the word at the spot is a legal publish by pass q of the change x: `was` is what the key's value was
--- before; just the records `new` are linked anew, and just the records `gone` are linked no more.
-pub record IsPublishOf (c : Core) (q : ℕ) (spot : Spot) (w : ℕ) (x : Change) (was : Option ℕ) (new gone : List Rec) : Type 0 where
-  pub legal : IsLegalPublish c q spot w
-  pub change : next_change c q spot w ≡ x
-  pub was_held : value_at (map_of c.changes) x.key ≡ was
-  pub trade : HasTraded (c.past.moment c.past.now) (next_tree c spot w) new gone
-
--- So in each core of which what the pass knows is true.
-abbrev pub MayPublish : Layout → Known → Spot → ℕ → Change → Option ℕ → List Rec → List Rec → Type 0
-MayPublish layout k spot w x was new gone = (c : Core) → IsLawful c → c.layout ≡ layout → Knows c k → IsPublishOf c k.pass spot w x was new gone
 
 -- The pass knew k and has published the change x. It has seen all changes now: `before` are those before its own one, which fits
 -- them; `was` is what the key's value was then. Just the records `gone` are its own, unlinked by it; just the nodes `kept`, and the

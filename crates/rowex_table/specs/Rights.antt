@@ -1,5 +1,5 @@
 -- What a pass has to know for a step that not every pass may make.
-use Rattle.std.specs.Prelude.{◌≡◌, ℕ, List, length, take, Contains}
+use Rattle.std.specs.Prelude.{◌≡◌, ℕ, List, length, Contains}
 use Rattle.record_words.specs.declared.layout.Layout.{Layout}
 use Rattle.record_words.specs.declared.state.Tag.TheVariants.{Live}
 use Rattle.record_words.specs.State.{state_word}
@@ -16,16 +16,12 @@ use Rattle.rowex_core.specs.Events.{IsInTree}
 use Rattle.rowex_core.specs.Knowing.{Knows}
 
 -- the record is the pass's own, held this way, and these are its words but the state
-abbrev pub Has : Known → Rec → Holding → List ℕ → Type 0
-Has k r h words = Contains k.own (record { rec = r; holding = h; words = words })
+abbrev pub OwnsAs : Known → Rec → Holding → List ℕ → Type 0
+OwnsAs k r h words = Contains k.own (record { rec = r; holding = h; words = words })
 
 -- the pass has claimed the record, and not made it ready
 abbrev pub IsClaimed : Known → Rec → Type 0
-IsClaimed k r = (words : List ℕ) × (length words ≡ word_count_of r) × Has k r Held words
-
--- the pass has claimed the record, and filled it with the first i of these words
-abbrev pub HasFilled : Known → Rec → List ℕ → ℕ → Type 0
-HasFilled k r words i = (own : List ℕ) × (length own ≡ length words) × (take i own ≡ take i words) × Has k r Held own
+IsClaimed k r = (words : List ℕ) × (length words ≡ word_count_of r) × OwnsAs k r Held words
 
 -- The pass may lock: the anchor always, and a node of which it knows that it stands in the tree, if it is live.
 abbrev pub MayLock : Layout → Target → Known → Type 0

@@ -62,14 +62,14 @@ abbrev pub IsOfPass : {S : Type 0} → Me S View → ℕ → Type 0
 IsOfPass me q = (me ≡ (Pass (known_of me.0), [])) × ((known_of me.0).pass ≡ q)
 
 -- the root, or one of the entries that a node may have
-abbrev pub HasPlace : Spot → Type 0
-HasPlace Root = Unit {0}
-HasPlace (Slot n j) = j < MAX_ENTRIES
+abbrev pub HasEntryPlace : Spot → Type 0
+HasEntryPlace Root = Unit {0}
+HasEntryPlace (Slot n j) = j < MAX_ENTRIES
 
 -- the root, or such an entry of a node of the table
-abbrev pub IsEntry : Layout → Spot → Type 0
-IsEntry layout Root = Unit {0}
-IsEntry layout (Slot n j) = (n < layout.nodes) × (j < MAX_ENTRIES)
+abbrev pub HasSpot : Layout → Spot → Type 0
+HasSpot layout Root = Unit {0}
+HasSpot layout (Slot n j) = (n < layout.nodes) × (j < MAX_ENTRIES)
 
 -- Events
 

@@ -4,7 +4,7 @@ ghost use Rattle.std.specs.Prelude.{◌≡◌, ◌^◌, ◌<◌};
 ghost use Rattle.record_words.specs.declared.state.Tag.TheVariants.{Obsolete};
 ghost use Rattle.record_words.specs.State.{state_word};
 ghost use Rattle.rowex_core.specs.Events.{word_of as word_location, spot_word as spot_location, target_word as target_location};
-ghost use Rattle.rowex_table.specs.Rule.{HasPlace};
+ghost use Rattle.rowex_table.specs.Rule.{HasEntryPlace};
 
 use record_words::{EPOCHS, FIRST_ENTRY, Location};
 use rowex_core::{Rec, Spot, Target};
@@ -21,7 +21,7 @@ pub(crate) fn record_place(rec: Rec, offset: u8) -> Location
 
 /// The word of the root, or of an entry.
 pub(crate) fn spot_place(spot: Spot) -> Location
-    requires { HasPlace spot }
+    requires { HasEntryPlace spot }
     ensures { result ≡ spot_location spot }
 {
     match spot {

@@ -4,7 +4,7 @@ ghost use Rattle.std.specs.Prelude.{◌≡◌, ◌<◌, ◌+◌, ◌*◌, ◌^�
 ghost use Rattle.record_words.specs.Layout.{IsInTable};
 ghost use Rattle.rowex_core.specs.declared.event.Act.TheVariants.{LoadRef, Lock, Unlock, Publish};
 ghost use Rattle.rowex_core.specs.Events.{target_word};
-ghost use Rattle.rowex_table.specs.Rule.{IsEntry, MayStep};
+ghost use Rattle.rowex_table.specs.Rule.{HasSpot, MayStep};
 ghost use Rattle.rowex_table.specs.Rights.{MayLock};
 ghost use Rattle.rowex_table.specs.Runs.{Steps};
 ghost use Rattle.rowex_table.specs.Seats.{IsSeatOf};
@@ -19,7 +19,7 @@ impl HotTable {
     /// Loads the root or an entry word.
     pub fn load_ref<G: Gate>(&self, seat: &mut TableSeat, gate: &mut G, spot: Spot) -> u64
         requires own { IsSeatOf self.now seat.old }
-        requires range { IsEntry self.now.layout spot }
+        requires range { HasSpot self.now.layout spot }
         ensures { Steps self.now G.becomes (LoadRef spot result) (seat.old, gate.old) (seat.new, gate.new) }
     {
         self.load_as::<Brand, G>(seat, gate, Act::LoadRef { spot, word: 0 }, spot_place(spot))
@@ -51,7 +51,7 @@ impl HotTable {
     /// Stores the root or an entry word under its lock: the one step that changes the map.
     pub fn publish<G: Gate>(&self, seat: &mut TableSeat, gate: &mut G, spot: Spot, word: u64)
         requires own { IsSeatOf self.now seat.old }
-        requires range { IsEntry self.now.layout spot }
+        requires range { HasSpot self.now.layout spot }
         requires may { MayStep self.now.layout (λ _. Publish spot word) seat.old.known }
         ensures { Steps self.now G.becomes (Publish spot word) (seat.old, gate.old) (seat.new, gate.new) }
     {

@@ -1,5 +1,5 @@
 -- What a tree holds is a finite map in strict order; a change at one place.
-use Rattle.std.proofs.Common.{◌≡◌, ◌⊎◌, inl, inr, ℕ, suc, List, [], ◌∷◌, ◌++◌, Bool, true, false, refl, ap, sym, ◌∙◌, subst, arith, lt_trans}
+use Rattle.std.proofs.Common.{◌≡◌, ◌⊎◌, inl, inr, ℕ, suc, List, [], ◌∷◌, ◌++◌, Bool, true, false, refl, ap, sym, ◌∙◌, subst, arith, lt_trans, if◌then◌else◌}
 use Rattle.std.proofs.lemmas.Bool.{false≢true}
 use Rattle.tries.specs.Keys.{Key, bit, AgreeBelow, IsParted, IsBefore}
 use Rattle.tries.specs.Tree.{Tree, leaf, node, fork, Has, Holds, IsTrie, Within, here, inside, zero_side, one_side}
@@ -7,6 +7,7 @@ use Rattle.tries.specs.Content.{Item, items, Each, IsRising, IsIn, IsMore, added
 use Rattle.tries.specs.Changes.{put, IsPathBelow}
 use Rattle.tries.proofs.Tries.{rises, has_first}
 use Rattle.tries.specs.Statements.{LocalIsTrie}
+use Rattle.tries.specs.Search.{child, found}
 
 pub each_append : (P : Item → Type 0) (xs ys : List Item) → Each P xs → Each P ys → Each P (xs ++ ys)
 each_append P [] ys e f = f
@@ -170,12 +171,12 @@ local_if_trie (fork p a b) i = (
   (i.2 (first a) (first b) (inl (has_first a)) (inr (has_first b)), i.3 (first a) (has_first a), i.4 (first b) (has_first b)),
 )
 
-in_append_left : (x : Item) (xs ys : List Item) → IsIn x xs → IsIn x (xs ++ ys)
+pub in_append_left : (x : Item) (xs ys : List Item) → IsIn x xs → IsIn x (xs ++ ys)
 in_append_left x (y ∷ xs) ys (inl e) = inl e
 in_append_left x (y ∷ xs) ys (inr h) = inr (in_append_left x xs ys h)
 in_append_left x [] ys h = elim h [ ]
 
-in_append_right : (x : Item) (xs ys : List Item) → IsIn x ys → IsIn x (xs ++ ys)
+pub in_append_right : (x : Item) (xs ys : List Item) → IsIn x ys → IsIn x (xs ++ ys)
 in_append_right x [] ys h = h
 in_append_right x (y ∷ xs) ys h = inr (in_append_right x xs ys h)
 
@@ -208,3 +209,10 @@ each_in P [] z e h = elim h [ ]
 
 pub local_is_trie : LocalIsTrie
 local_is_trie t = (trie_if_local t, local_if_trie t)
+
+-- a search goes on where its entry is
+pub found_child : (k : Key) (b : Tree) → found k (child k b) ≡ found k b
+found_child k (leaf n l v) = refl
+found_child k (node n x b) = refl
+found_child k (fork p a b) =
+    elim (bit k p) as (λ u. found k (if u then child k b else child k a) ≡ (if u then found k b else found k a)) [ true ↦ found_child k b | false ↦ found_child k a ]

@@ -116,7 +116,7 @@ abbrev pub grown : Bool → ℕ → Tree → Item → Tree
 grown false p s x = fork p (leaf x.number x.key x.value) s
 grown true p s x = fork p s (leaf x.number x.key x.value)
 
-more_after : (x : Item) (xs : List Item) → IsMore x xs (xs ++ x ∷ [])
+pub more_after : (x : Item) (xs : List Item) → IsMore x xs (xs ++ x ∷ [])
 more_after x [] = added
 more_after x (y ∷ xs) = behind (more_after x xs)
 

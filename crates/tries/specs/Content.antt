@@ -10,6 +10,9 @@ pub record Item : Type 0 where
   pub key : Key
   pub value : ℕ
 
+abbrev pub item : ℕ → Key → ℕ → Item
+item n k v = record { number = n; key = k; value = v }
+
 abbrev pub items : Tree → List Item
 items (leaf n k v) = record { number = n; key = k; value = v } ∷ []
 items (node n h b) = items b

@@ -4,6 +4,7 @@ use Rattle.tries.specs.Keys.{Key, bit, AgreeBelow}
 use Rattle.tries.specs.Tree.{Page, Tree, leaf, node, fork, page, Has, IsTip}
 use Rattle.pieces.specs.Piece.{Place, Fork, size}
 use Rattle.compound_node.specs.declared.entries.Entry.{Entry}
+use Rattle.tries.specs.Content.{Item}
 
 -- The key agrees with the tree's stem: with all the keys of it before its first fork, or with a leaf's whole key.
 abbrev pub Follows : Key → Tree → Type 0
@@ -16,6 +17,12 @@ abbrev pub child : Key → Tree → Tree
 child k (leaf n l v) = leaf n l v
 child k (node n h b) = node n h b
 child k (fork p a b) = if bit k p then child k b else child k a
+
+-- the leaf at which a key's search ends
+abbrev pub found : Key → Tree → Item
+found k (leaf n l v) = record { number = n; key = l; value = v }
+found k (node n x b) = found k b
+found k (fork p a b) = if bit k p then found k b else found k a
 
 -- The same search in what a node shows.
 abbrev pub seek : Key → Page → Entry

@@ -9,12 +9,13 @@ use Rattle.tries.specs.Search.{child}
 use Rattle.pieces.specs.Piece.{Place}
 use Rattle.tries.specs.Tree.{Tree, Fixed, node}
 use Rattle.insert_cases.specs.declared.plain.LeafRecord.{LeafRecord}
-use Rattle.insert_cases.specs.Rising.{IsAddable, IsLifting, IsRaised, item}
+use Rattle.insert_cases.specs.Rising.{IsAddable, IsLifting, IsRaised}
 use Rattle.insert_cases.specs.Risen.{page_of, RisenShows}
 use Rattle.insert_cases.proofs.Heights.{heights_over}
 use Rattle.insert_cases.proofs.Climbing.{old_at, addable_to, node_here, here_positive, here_within, here_high, here_spot, here_from, here_upto, here_entry, here_raised, here_lifting, part, range, way_below, child_addable, child_low, beside_raised}
 use Rattle.insert_cases.proofs.rising.+raised.Goals as goal
 use Rattle.insert_cases.proofs.rising.+raised.Goals.{After-height}
+use Rattle.tries.specs.Content.{item}
 
 pub index-node-requires : goal.index-node-requires
 index-node-requires t c =

@@ -1,33 +1,33 @@
 -- Behind the common front the first leaves differ.
 use Rattle.std.proofs.Common.{ℕ, ◌-◌, List, length, take, drop, map, sym, ◌∙◌, ap, subst, ◌≡◌, arith}
 use Rattle.std.proofs.lemmas.List.{length-map, drop-map, take_rest}
-use Rattle.replay_trees.specs.Moments.{item_of}
+use Rattle.replay_trees.specs.Moments.{read_item}
 use Rattle.replay_trees.specs.declared.trees.Item.{Item}
 use Rattle.rowex_core.specs.Events.{AreSame}
-use Rattle.replay_trees.specs.Changed.{AreApart, IsFoundChange}
+use Rattle.replay_trees.specs.Changed.{BeginApart, IsFoundChange}
 use Rattle.replay_trees.proofs.Between.{found_from, apart_from}
 use Rattle.replay_trees.proofs.changes.change_between.Goals as goal
 
-rest_is : (xs : List Item) (n : ℕ) → drop n (map item_of xs) ≡ map item_of (take (length xs - n) (drop n xs))
-rest_is xs n = drop-map item_of n xs ∙ ap (map item_of) (sym (take_rest xs n))
+rest_is : (xs : List Item) (n : ℕ) → drop n (map read_item xs) ≡ map read_item (take (length xs - n) (drop n xs))
+rest_is xs n = drop-map read_item n xs ∙ ap (map read_item) (sym (take_rest xs n))
 
 pub change_at-requires : goal.change_at-requires
 change_at-requires c =
     let n = c.same_front-front.result in
-    let l = length-map c.args.before.now item_of in
-    let r = length-map c.args.after.now item_of in
-    subst (λ x. AreApart x (map item_of (take (length c.args.after.now - n) (drop n c.args.after.now)))) (rest_is c.args.before.now n)
-    (subst (AreApart (drop n (map item_of c.args.before.now))) (rest_is c.args.after.now n)
-    (apart_from (map item_of c.args.before.now) (map item_of c.args.after.now) n (omega (arith, c.same_front-front.ensures.within)) (omega (arith, c.same_front-front.ensures.within_both))
+    let l = length-map c.args.before.now read_item in
+    let r = length-map c.args.after.now read_item in
+    subst (λ x. BeginApart x (map read_item (take (length c.args.after.now - n) (drop n c.args.after.now)))) (rest_is c.args.before.now n)
+    (subst (BeginApart (drop n (map read_item c.args.before.now))) (rest_is c.args.after.now n)
+    (apart_from (map read_item c.args.before.now) (map read_item c.args.after.now) n (omega (arith, c.same_front-front.ensures.within)) (omega (arith, c.same_front-front.ensures.within_both))
     (λ h g. c.same_front-front.ensures.apart (omega arith) (omega arith))))
 
 pub returns : goal.returns
 returns c s =
     let n = c.same_front-front.result in
-    let l = length-map c.args.before.now item_of in
-    let r = length-map c.args.after.now item_of in
-    found_from c.args.pass (map item_of c.args.before.now) (map item_of c.args.after.now) n c.change_at.result s
+    let l = length-map c.args.before.now read_item in
+    let r = length-map c.args.after.now read_item in
+    found_from c.args.pass (map read_item c.args.before.now) (map read_item c.args.after.now) n c.change_at.result s
     (omega (arith, c.same_front-front.ensures.within)) (omega (arith, c.same_front-front.ensures.within_both)) c.same_front-front.ensures.same
-    (subst (λ x. AreSame x (drop n (map item_of c.args.after.now)) → IsFoundChange c.args.pass x (drop n (map item_of c.args.after.now)) c.change_at.result) (sym (rest_is c.args.before.now n))
-    (subst (λ y. AreSame (map item_of (take (length c.args.before.now - n) (drop n c.args.before.now))) y → IsFoundChange c.args.pass (map item_of (take (length c.args.before.now - n) (drop n c.args.before.now))) y c.change_at.result) (sym (rest_is c.args.after.now n))
+    (subst (λ x. AreSame x (drop n (map read_item c.args.after.now)) → IsFoundChange c.args.pass x (drop n (map read_item c.args.after.now)) c.change_at.result) (sym (rest_is c.args.before.now n))
+    (subst (λ y. AreSame (map read_item (take (length c.args.before.now - n) (drop n c.args.before.now))) y → IsFoundChange c.args.pass (map read_item (take (length c.args.before.now - n) (drop n c.args.before.now))) y c.change_at.result) (sym (rest_is c.args.after.now n))
     c.change_at.ensures))

@@ -4,7 +4,7 @@ use Rattle.std.specs.Vec.{with_item}
 use Rattle.std.proofs.lemmas.Result.{IfOk-weaker}
 use Rattle.compound_node.specs.Nodes.{piece}
 use Rattle.pieces.specs.Piece.{Place}
-use Rattle.replay_trees.specs.Parts.{IsPartRead, IsPart}
+use Rattle.replay_trees.specs.Parts.{IsPartRead, ShowsPart}
 use Rattle.replay_trees.proofs.Steps.{cut_steps, node_steps, steps}
 use Rattle.replay_trees.proofs.Shown.{no_node}
 use Rattle.replay_trees.proofs.Outcomes.{leaf_read, no_height, node_read, no_low, no_zero, no_one, cut_read}
@@ -36,12 +36,12 @@ read_cut-returns-clause-read t c words are p s =
 
 pub read_entry-returns-in_default-clause-read : goal.read_entry-returns-in_default-clause-read
 read_entry-returns-in_default-clause-read t c words are s =
-    subst (λ e. IsPart c.args.nodes.now c.args.leaves.now words c.args.least (Place e) s → ⊥) (sym c.in-Node.is)
+    subst (λ e. ShowsPart c.args.nodes.now c.args.leaves.now words c.args.least (Place e) s → ⊥) (sym c.in-Node.is)
     (no_node c.args.nodes.now c.args.leaves.now words are c.args.least c.in-Node.number c.in-Node.height s c.in_default.ensures)
 
 pub read_entry-returns-then-from-clause-read : goal.read_entry-returns-then-from-clause-read
 read_entry-returns-then-from-clause-read t c words are s =
-    subst (λ e. IsPart c.args.nodes.now c.args.leaves.now words c.args.least (Place e) s → ⊥) (sym c.in-Node.is)
+    subst (λ e. ShowsPart c.args.nodes.now c.args.leaves.now words c.args.least (Place e) s → ⊥) (sym c.in-Node.is)
     (no_height c.args.nodes.now c.args.leaves.now words are c.args.least c.in-Node.number c.in-Node.height c.in-Some.node c.cut-cut.result c.in-Some.ensures c.cut-cut.ensures
     (omega (arith, c.if-from.true, c.from.ensures, c.from-in-Node.ensures)) s)
 

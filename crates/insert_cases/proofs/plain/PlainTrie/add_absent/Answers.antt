@@ -4,7 +4,7 @@ use Rattle.std.specs.Vec.{vec_capacity}
 use Rattle.compound_node.specs.Nodes.{height_of}
 use Rattle.hot_model.specs.Maps.{with_value, value_at}
 use Rattle.insert_cases.specs.Heights.{KeepsHeights}
-use Rattle.insert_cases.specs.Rising.{IsAddable, item}
+use Rattle.insert_cases.specs.Rising.{IsAddable}
 use Rattle.insert_cases.specs.Store.{PlainView, IsHeldInLeaf, map_of}
 use Rattle.insert_cases.specs.declared.plain.PlainTrie.TheInside.{Inside}
 use Rattle.insert_cases.proofs.Heights.{heights_then}
@@ -12,6 +12,7 @@ use Rattle.insert_cases.proofs.Inserting.{Becomes, tree_standing, kept_plain, sa
 use Rattle.insert_cases.proofs.Reading.{plain_tree}
 use Rattle.insert_cases.proofs.plain.PlainTrie.add_absent.Goals as goal
 use Rattle.insert_cases.proofs.plain.PlainTrie.add_absent.Goals.{After-rooted, After-rooted-in-Below}
+use Rattle.tries.specs.Content.{item}
 
 -- what the contract sees of a trie
 abbrev view : Inside → PlainView

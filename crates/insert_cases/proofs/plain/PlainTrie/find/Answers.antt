@@ -2,10 +2,10 @@
 use Rattle.std.proofs.Common.{◌≡◌, ◌∙◌, ap, sym, subst, arith, Some}
 use Rattle.std.specs.Vec.{vec_capacity}
 use Rattle.compound_node.specs.Nodes.{height_of}
-use Rattle.insert_cases.specs.Searches.{found}
 use Rattle.insert_cases.specs.Store.{PlainView, tree_of, record_of}
 use Rattle.insert_cases.proofs.Searching.{IsOnWay, on_way_start, on_way_down, on_way_within, on_way_end, on_way_number, tree_once}
 use Rattle.insert_cases.proofs.plain.PlainTrie.find.Goals as goal
+use Rattle.tries.specs.Search.{found}
 
 pub loop-entry-init : goal.loop-entry-init
 loop-entry-init c =

@@ -5,13 +5,13 @@ use Rattle.std.proofs.lemmas.Option.{slice_get_within}
 use Rattle.tries.specs.Tree.{Tree}
 use Rattle.hot_model.specs.Maps.{value_at}
 use Rattle.insert_cases.specs.declared.plain.LeafRecord.{LeafRecord}
-use Rattle.insert_cases.specs.Searches.{found}
 use Rattle.insert_cases.specs.Store.{PlainView, record_of}
 use Rattle.insert_cases.proofs.Reading.{IsTree, plain_tree}
 use Rattle.insert_cases.proofs.Searching.{read_at}
 use Rattle.insert_cases.proofs.Values.{value_found, value_missed, map_is}
 use Rattle.insert_cases.proofs.plain.PlainTrie.get.Goals as goal
 use Rattle.insert_cases.proofs.plain.PlainTrie.get.Goals.{After-find}
+use Rattle.tries.specs.Search.{found}
 
 -- the tree, as the search's contract needs it
 tree : (c : After-find) → (t : Tree) × IsTree c.args.self.now c.in-Some.entry t

@@ -1,11 +1,11 @@
 -- An absent key was added, and a held one keeps its value.
 use Rattle.std.proofs.Common.{ap, ◌∙◌, subst}
-use Rattle.insert_cases.specs.Searches.{found}
 use Rattle.insert_cases.specs.Store.{IsPlain, map_of, record_of}
 use Rattle.insert_cases.proofs.Inserting.{added_reply, held_reply, held_value}
 use Rattle.insert_cases.proofs.Searching.{read_at}
 use Rattle.insert_cases.proofs.plain.PlainTrie.insert.Goals as goal
 use Rattle.insert_cases.proofs.plain.PlainTrie.insert.Goals.{in-None, in-Some}
+use Rattle.tries.specs.Search.{found}
 
 pub returns-clause-reply : goal.returns-clause-reply
 returns-clause-reply c = elim c.match-branch-2.branch [

@@ -14,7 +14,6 @@ use Rattle.insert_cases.specs.declared.plain.LeafRecord.{LeafRecord}
 use Rattle.insert_cases.specs.declared.plain.scan.Range.{Range}
 use Rattle.insert_cases.specs.declared.plain.scan.Progress.TheVariants.{Full}
 use Rattle.insert_cases.specs.Gathered.{IsGathered, IsMismatch, StandsIn}
-use Rattle.insert_cases.specs.Searches.{found}
 use Rattle.insert_cases.specs.Store.{PlainView, record_of}
 use Rattle.insert_cases.proofs.Gathering.{gathered_scan}
 use Rattle.insert_cases.proofs.Reading.{IsTree, plain_tree}
@@ -22,6 +21,7 @@ use Rattle.insert_cases.proofs.Searching.{read_at}
 use Rattle.insert_cases.proofs.Values.{map_is}
 use Rattle.insert_cases.proofs.plain.PlainTrie.scan.Goals as goal
 use Rattle.insert_cases.proofs.plain.PlainTrie.scan.Goals.{After-find, in-Full, in_default-matches}
+use Rattle.tries.specs.Search.{found}
 
 -- the tree, as the search's contract needs it
 tree : (c : After-find) → (t : Tree) × IsTree c.args.self.now c.in-Some.top t

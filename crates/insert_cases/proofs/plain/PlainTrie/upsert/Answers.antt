@@ -1,10 +1,10 @@
 -- A held key has another value.
 use Rattle.std.proofs.Common.{◌∙◌, subst}
-use Rattle.insert_cases.specs.Searches.{found}
 use Rattle.insert_cases.specs.Store.{IsPlain, map_of, record_of}
 use Rattle.insert_cases.proofs.Inserting.{held_reply, held_value}
 use Rattle.insert_cases.proofs.Searching.{read_at}
 use Rattle.insert_cases.proofs.plain.PlainTrie.upsert.Goals as goal
+use Rattle.tries.specs.Search.{found}
 
 pub returns-in-Some-clause-reply : goal.returns-in-Some-clause-reply
 returns-in-Some-clause-reply c =

@@ -9,7 +9,7 @@ use Rattle.tries.specs.Search.{child}
 use Rattle.tries.specs.Tree.{Tree}
 use Rattle.insert_cases.specs.Adding.{IsStanding, IsBehind}
 use Rattle.insert_cases.specs.Heights.{KeepsHeights}
-use Rattle.insert_cases.specs.Rising.{IsRaised, IsAddable, item}
+use Rattle.insert_cases.specs.Rising.{IsRaised, IsAddable}
 use Rattle.insert_cases.specs.Risen.{page_of}
 use Rattle.insert_cases.proofs.Adding.{IsAt, search_at, standing_to, standing_node, child_lower, within_standing, ends_above, absent_above, addable_above, here_above, way_above, behind_within, behind_first, risen_here}
 use Rattle.insert_cases.proofs.Climbing.{addable_to, here_lifting, here_spot, old_at}
@@ -17,6 +17,7 @@ use Rattle.insert_cases.proofs.Heights.{heights_same, heights_over}
 use Rattle.insert_cases.proofs.Searching.{read_at}
 use Rattle.insert_cases.proofs.plain.adding.+added.Goals as goal
 use Rattle.insert_cases.proofs.plain.adding.+added.Goals.{After-entry-child}
+use Rattle.tries.specs.Content.{item}
 
 pub index-node-requires : goal.index-node-requires
 index-node-requires t c =

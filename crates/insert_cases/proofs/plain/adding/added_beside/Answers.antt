@@ -5,11 +5,11 @@ use Rattle.key_bits.specs.Bits.{IsFirstDifference}
 use Rattle.compound_node.specs.declared.entries.Entry.TheVariants.{Leaf}
 use Rattle.insert_cases.specs.declared.plain.LeafRecord.{LeafRecord}
 use Rattle.insert_cases.specs.Adding.{with_leaf}
-use Rattle.insert_cases.specs.Searches.{found}
 use Rattle.insert_cases.specs.Store.{record_of}
 use Rattle.insert_cases.proofs.Adding.{standing_leaf, leaf_addable}
 use Rattle.insert_cases.proofs.Searching.{read_at, leaf_number}
 use Rattle.insert_cases.proofs.plain.adding.added_beside.Goals as goal
+use Rattle.tries.specs.Search.{found}
 
 pub index-requires : goal.index-requires
 index-requires c =

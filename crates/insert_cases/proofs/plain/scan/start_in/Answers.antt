@@ -10,22 +10,22 @@ use Rattle.compound_node.specs.Nodes.{piece}
 use Rattle.tries.specs.Affected.{affected, IsPart}
 use Rattle.tries.specs.Keys.{Key, bit}
 use Rattle.tries.specs.Place.{spot}
-use Rattle.tries.specs.Search.{child}
+use Rattle.tries.specs.Search.{child, found}
 use Rattle.tries.specs.Tree.{Page, Tree, IsTrie, Has, page}
 use Rattle.tries.proofs.Places.{spot_below}
 use Rattle.insert_cases.specs.Gathered.{IsMismatch}
-use Rattle.insert_cases.specs.Searches.{found}
-use Rattle.insert_cases.proofs.Choosing.{agrees, found-child, has_found, part_big, size_affected, tip_small}
+use Rattle.insert_cases.proofs.Choosing.{agrees, has_found, part_big, size_affected, tip_small}
 use Rattle.insert_cases.proofs.Cutting.{IsCutAround, alone, cut_around, part_beyond_of, part_floor_of, start_before, start_behind, start_within}
 use Rattle.insert_cases.proofs.plain.scan.start_in.Goals as goal
 use Rattle.insert_cases.proofs.plain.scan.start_in.Goals.{After-affected-first}
+use Rattle.tries.proofs.Contents.{found_child}
 
 bit_is : (k : Key) (p : ℕ) → bit k p ≡ bit_of k p
 unfolding bit
 bit_is k p = refl
 
 has_end : (k : Key) (b : Tree) → Has (child k b) (found k b).key
-has_end k b = subst (λ x. Has (child k b) x.key) (found-child k b) (has_found k (child k b))
+has_end k b = subst (λ x. Has (child k b) x.key) (found_child k b) (has_found k (child k b))
 
 none_is : (k : Key) (b : Tree) (o : Option ℕ) → o ≡ None → IsMismatch k b o → k ≡ (found k b).key
 none_is k b o e m = subst (λ z. MatchOption z (k ≡ (found k b).key) (IsFirstDifference k (found k b).key)) e m.1
