@@ -9,7 +9,7 @@ use Rattle.insert_cases.specs.declared.choice.Case.{Case}
 use Rattle.insert_cases.specs.declared.choice.Case.TheVariants.{LeafPushdown, NormalInsert, Overflow}
 use Rattle.insert_cases.specs.declared.choice.Step.{Step}
 use Rattle.tries.specs.Keys.{Key}
-use Rattle.moments.specs.State.{IsHeld, IsMissed}
+use Rattle.moments.specs.State.{IsHeldSince, IsMissed}
 use Rattle.std.proofs.lemmas.List.{length-append}
 use Rattle.record_words.specs.declared.layout.Layout.{Layout}
 use Rattle.moments.specs.declared.Rec.{Rec}
@@ -54,7 +54,7 @@ pub found_later : (k j : Known) (key : Key) (value : Option ℕ) → IsLater k j
 found_later k j key None later same sure =
     subst (λ m. Sure j (λ s. IsMissed s m key)) (sym same) (sure_later {P = λ s. IsMissed s (since k) key} (missed_stable (since k) key) later sure)
 found_later k j key (Some value) later same sure =
-    subst (λ m. Sure j (λ s. IsHeld s m key value)) (sym same) (sure_later {P = λ s. IsHeld s (since k) key value} (held_stable (since k) key value) later sure)
+    subst (λ m. Sure j (λ s. IsHeldSince s m key value)) (sym same) (sure_later {P = λ s. IsHeldSince s (since k) key value} (held_stable (since k) key value) later sure)
 
 affected_later : (k j : Known) (m : ℕ) (key : Key) (way : List Step) (found : Found) (first last : ℕ) → IsLater k j → AreAffected k m key way found first last →
     AreAffected j m key way found first last

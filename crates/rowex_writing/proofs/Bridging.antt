@@ -40,7 +40,6 @@ use Rattle.rowex_rights.proofs.Rising.{above_goes_on}
 use Rattle.rowex_rights.proofs.Sure.{descent_begins, descent_ends, descent_finds, descent_goes_on, seen_is_sure}
 use Rattle.rowex_walks.specs.Scan.{IsSeen, IsPlaced, IsShaped, IsRead}
 use Rattle.rowex_walks.specs.Ways.{IsOnWay, IsWayFrom}
-use Rattle.rowex_walks.specs.Writer.{item}
 use Rattle.rowex_walks.proofs.Persist.{placed_on, shaped_on, read_on}
 use Rattle.rowex_walks.proofs.Ways.{way_of_leaf}
 use Rattle.tries.specs.Affected.{page_affected, IsFirstBelow, IsLowerPage, IsPartPage, IsTipPage}
@@ -66,6 +65,7 @@ use Rattle.rowex_writing.specs.declared.plan.Span.{Span}
 use Rattle.rowex_writing.proofs.Planning.{chosen_within}
 use Rattle.rowex_writing.proofs.Shapes.{IsStepOf, locked_shape, shape_affects, way_node_locked}
 use Rattle.rowex_writing.proofs.Staging.{stage_of_held}
+use Rattle.tries.specs.Content.{item}
 
 -- ---- the plan
 -- a plan by which a node gets the new leaf

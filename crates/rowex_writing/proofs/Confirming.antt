@@ -46,10 +46,9 @@ use Rattle.rowex_reading.proofs.Rooting.{root_fresh}
 use Rattle.rowex_reading.proofs.Seeing.{seen_steady, since_later, sure_later, blank_stable, placed_stable, rooted_stable, seen_stable, shaped_stable}
 use Rattle.rowex_rights.specs.Loops.{StaysLocked}
 use Rattle.std.proofs.lemmas.List.Elements.{All-cons, All-nil}
-use Rattle.rowex_table.specs.Stays.{KeepsRecall}
 use Rattle.rowex_rights.proofs.Loops.{still_locked}
 use Rattle.rowex_writing.specs.Checks.{EntriesStand}
-use Rattle.rowex_writing.specs.Going.{HasLocked, IsLockedBy, ReadsOn}
+use Rattle.rowex_writing.specs.Going.{HasLocked, IsLockedBy, ReadsOn, IsQuiet}
 use Rattle.rowex_writing.specs.Locks.{HasLockedSpan, span_numbers}
 use Rattle.rowex_writing.specs.Ways.{IsWayOf, RootWas, named}
 use Rattle.rowex_writing.specs.declared.plan.Found.{Found}
@@ -114,7 +113,7 @@ module _ {G : Type 0} (table : TableView) (becomes : G → Event → G → Type 
   reads_root a b (w, s) = record {
     goes = record {
       acts = LoadRef Root w ∷ [];
-      plain = All-cons KeepsRecall (LoadRef Root w) [] tt (All-nil KeepsRecall);
+      plain = All-cons IsQuiet (LoadRef Root w) [] tt (All-nil IsQuiet);
       steps = runs_one table becomes (LoadRef Root w) a b s;
       stays = still_locked table.layout a.0.known b.0.known (LoadRef Root w) tt tt tt s.event;
     };

@@ -16,7 +16,7 @@ use Rattle.moments.proofs.Members.{map_of, of_append, of_left, of_map, of_right}
 use Rattle.pieces.specs.Piece.{Place, places}
 use Rattle.record_words.specs.Entry.{HasEntryWord, entry_word}
 use Rattle.record_words.specs.declared.layout.Layout.{Layout}
-use Rattle.tries.specs.Content.{Item}
+use Rattle.tries.specs.Content.{Item, item}
 use Rattle.tries.specs.Keys.{Key}
 use Rattle.tries.specs.Tree.{Tree, page, IsBuilt}
 use Rattle.tries.proofs.Fitting.{children_are}
@@ -33,7 +33,7 @@ use Rattle.rowex_rights.proofs.Insertions.{insertion}
 use Rattle.rowex_rights.proofs.Rising.{risen_stays}
 use Rattle.rowex_table.specs.Made.{IsLater, nodes_of}
 use Rattle.rowex_table.specs.Publishes.{Publishes}
-use Rattle.rowex_table.specs.Rule.{IsEntry as IsSlotOf}
+use Rattle.rowex_table.specs.Rule.{HasSpot}
 use Rattle.record_words.specs.Leaf.{HasLeafWords}
 use Rattle.hot_model.specs.Fronts.{OthersGoOn}
 use Rattle.hot_model.proofs.Growth.{others_on}
@@ -52,7 +52,7 @@ use Rattle.rowex_writing.specs.declared.plan.Found.{Found}
 use Rattle.rowex_writing.specs.declared.plan.Full.{Full}
 use Rattle.rowex_table.specs.Seats.{TableView, SeatView}
 use Rattle.rowex_walks.specs.Rise.{entry}
-use Rattle.rowex_walks.specs.Writer.{added_change, item}
+use Rattle.rowex_walks.specs.Writer.{added_change}
 use Rattle.rowex_core.specs.declared.event.Event.{Event}
 use Rattle.rowex_records.specs.Claims.{AllMissed}
 use Rattle.rowex_rights.specs.Ending.{IsAtRest}
@@ -321,7 +321,7 @@ may_grow table a b made m key value way found span ask position first last leaf 
         plan.chosen.level s words (omega (arith, upto)) (omega (arith, len_is)) at held
 
     place : (u : Step) (us : List ℕ) (e : Entry) → slice_get way span.end ≡ Some u → HasLocked a.known u.number us → FitsAbove us e → (spot : Spot) → IsSpotAbove way span.end spot →
-        IsSpotOf a.known a.known.locks key position u.number e spot × IsSlotOf table.layout spot
+        IsSpotOf a.known a.known.locks key position u.number e spot × HasSpot table.layout spot
     place u us e there locked fits Root none = (spot_at_root table.layout a.known m key way found span t.possible t.own w t.locked t.checked position first last plan u e none there, tt)
     place u us e there locked fits (Slot n i) (above, low, at_above, n_is, i_is) =
         let node = (w.nodes (span.end - 1) above at_above).2 in

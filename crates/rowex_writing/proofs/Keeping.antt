@@ -1,5 +1,5 @@
 -- What each change under the locks of a span needs: failed steps that are remembered, records that are given up, nodes that are unlocked.
-use Rattle.std.proofs.Common.{◌≡◌, ◌≢◌, inl, inr, ℕ, suc, ◌-◌, ◌<◌, List, [], ◌∷◌, ◌++◌, length, get_or, drop, Bool, true, false, nat_eq, Option, Some, None, refl, sym, ap, subst, ◌∙◌, arith}
+use Rattle.std.proofs.Common.{◌≡◌, inl, inr, ℕ, suc, ◌-◌, ◌<◌, List, [], ◌∷◌, ◌++◌, length, get_or, drop, Bool, true, false, nat_eq, Option, Some, None, refl, sym, ap, subst, ◌∙◌, arith}
 use Rattle.std.specs.Prelude.{if◌then◌else◌, All, Contains, reverse, slice_range}
 use Rattle.std.proofs.lemmas.Grind.{reverse_onto}
 use Rattle.std.proofs.lemmas.List.Elements.{All-cons, All-drop, All-head, All-nil, All-push, All-tail, All-take, Contains-push, Contains-append_left}
@@ -13,7 +13,7 @@ use Rattle.moments.specs.declared.Rec.{Rec}
 use Rattle.moments.specs.declared.Rec.TheVariants.{Node as a_node}
 use Rattle.moments.specs.Core.{Fate, Free}
 use Rattle.moments.specs.Trades.{IsOf, AreApart}
-use Rattle.moments.proofs.Members.{all_of, map_of, of_map}
+use Rattle.moments.proofs.Members.{all_of, map_of, of_map, of_append, apart_push}
 use Rattle.rowex_core.specs.declared.event.Act.{Act}
 use Rattle.rowex_core.specs.declared.event.Act.TheVariants.{Claim, Lock}
 use Rattle.rowex_core.specs.declared.event.Event.{Event}
@@ -36,14 +36,14 @@ use Rattle.rowex_table.specs.Runs.{Runs, silent}
 use Rattle.rowex_table.specs.Seats.{TableView, SeatView}
 use Rattle.rowex_table.proofs.ActsLeave.{act_leaves}
 use Rattle.rowex_records.specs.Claims.{AllMissed}
-use Rattle.rowex_records.specs.Records.{HoldsJust, HasNone, AreApart as AreApartRecs}
-use Rattle.rowex_rights.proofs.Sure.{others_on}
+use Rattle.rowex_records.specs.Records.{HoldsJust}
 use Rattle.rowex_writing.specs.Building.{IsBuilding}
 use Rattle.rowex_writing.specs.Changes.{HasRun, HasChanged}
 use Rattle.rowex_writing.specs.Locks.{HasJustLocked, AreNodes}
 use Rattle.rowex_writing.specs.Retiring.{AreRecords}
 use Rattle.rowex_writing.specs.Ways.{IsWayOf}
 use Rattle.rowex_writing.specs.declared.plan.Found.{Found}
+use Rattle.hot_model.proofs.Growth.{others_on}
 
 -- ---- steps that failed are remembered
 one_more : {X : Type 0} (xs : List X) (y x : X) → Contains xs x → Contains (y ∷ xs) x
@@ -97,18 +97,14 @@ all_ofs : {X : Type 0} (P : X → Type 0) (xs : List X) → ((x : X) → IsOf x 
 all_ofs P [] f = All-nil P
 all_ofs P (x ∷ xs) f = All-cons P x xs (f x (inl refl)) (all_ofs P xs (λ y h. f y (inr h)))
 
-apart_pushed : (recs : List Rec) (r : Rec) → AreApartRecs recs → HasNone r recs → AreApartRecs (recs ++ r ∷ [])
-apart_pushed [] r apart none = (All-nil (λ s. s ≢ r), tt)
-apart_pushed (s ∷ recs) r apart none = (
-  All-push (λ z. z ≢ s) recs r apart.0 (λ e. All-head (λ z. z ≢ r) s recs none (sym e)),
-  apart_pushed recs r apart.1 (All-tail (λ z. z ≢ r) s recs none),
-)
+of_reversed : {X : Type 0} (x : X) (xs : List X) → IsOf x (reverse xs) → IsOf x xs
+of_reversed x [] h = h
+of_reversed x (y ∷ xs) h =
+    elim (of_append x (reverse xs) (y ∷ []) (subst (IsOf x) (reverse_more y xs) h)) [ inl i ↦ inr (of_reversed x xs i) | inr i ↦ elim i [ inl e ↦ inl e | inr j ↦ absurd j ] ]
 
-apart_reversed : (recs : List Rec) → AreApart recs → AreApartRecs (reverse recs)
+apart_reversed : {X : Type 0} (xs : List X) → AreApart xs → AreApart (reverse xs)
 apart_reversed [] apart = tt
-apart_reversed (r ∷ recs) apart =
-    subst AreApartRecs (sym (reverse_more r recs))
-    (apart_pushed (reverse recs) r (apart_reversed recs apart.1) (all_reversed (λ s. s ≢ r) recs (all_ofs (λ s. s ≢ r) recs (λ s h e. apart.0 (subst (λ z. IsOf z recs) e h)))))
+apart_reversed (x ∷ xs) apart = subst AreApart (sym (reverse_more x xs)) (apart_push (reverse xs) x (apart_reversed xs apart.1) (λ h. apart.0 (of_reversed x xs h)))
 
 module _ (table : TableView) (a : SeatView) (made : List Rec) (news : List Made) (b : IsBuilding table a made news) where
   owned : (m : Made) → IsOf m news → IsOf (held_as Held m) a.known.own

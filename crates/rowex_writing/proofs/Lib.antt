@@ -11,6 +11,7 @@ pub mod Readying
 pub mod Storing
 pub mod Works
 pub mod Spans
+pub mod Tried
 pub mod Retiring
 pub mod Shapes
 pub mod Ways

@@ -19,14 +19,13 @@ use Rattle.rowex_core.specs.Reading.{IsPacked, node_of}
 use Rattle.rowex_core.specs.Sharing.{IsLocked}
 use Rattle.rowex_core.proofs.Owning.{knows_all}
 use Rattle.rowex_table.specs.Runs.{Steps, silent}
-use Rattle.rowex_table.specs.Stays.{KeepsRecall}
 use Rattle.rowex_table.specs.Seats.{TableView, SeatView, IsSeatOf}
 use Rattle.rowex_table.proofs.Running.{runs_one, runs_append, runs_same}
 use Rattle.moments.specs.Trades.{IsOf}
 use Rattle.rowex_table.proofs.ActsBefore.{entry_of_locked, fixed_of_locked}
 use Rattle.rowex_rights.proofs.Loops.{later_same, later_on, still_locked}
 use Rattle.moments.proofs.Members.{all_of}
-use Rattle.rowex_writing.specs.Going.{WorksOn, ReadsOn, HasLocked, IsNodeOf}
+use Rattle.rowex_writing.specs.Going.{WorksOn, ReadsOn, HasLocked, IsNodeOf, IsQuiet}
 
 -- ---- one after the other
 module _ {G : Type 0} (table : TableView) (becomes : G → Event → G → Type 0) where
@@ -36,7 +35,7 @@ module _ {G : Type 0} (table : TableView) (becomes : G → Event → G → Type 
   pub goes_more : (a m b : SeatView × G) → WorksOn table becomes a m → WorksOn table becomes m b → WorksOn table becomes a b
   goes_more a m b first second = record {
     acts = first.acts ++ second.acts;
-    plain = All-append KeepsRecall first.acts second.acts first.plain second.plain;
+    plain = All-append IsQuiet first.acts second.acts first.plain second.plain;
     steps = runs_append table becomes first.acts second.acts a m b first.steps second.steps;
     stays = (later_on a.0.known m.0.known b.0.known first.stays.0 second.stays.0, second.stays.1 ∙ first.stays.1, second.stays.2 ∙ first.stays.2);
   }
@@ -56,7 +55,7 @@ module _ {G : Type 0} (table : TableView) (becomes : G → Event → G → Type 
   reads_fixed n offset w a b s = record {
     goes = record {
       acts = LoadFixed (a_node n) offset w ∷ [];
-      plain = All-cons KeepsRecall (LoadFixed (a_node n) offset w) [] tt (λ i d low. absurd (omega arith));
+      plain = All-cons IsQuiet (LoadFixed (a_node n) offset w) [] tt (λ i d low. absurd (omega arith));
       steps = runs_one table becomes (LoadFixed (a_node n) offset w) a b s;
       stays = still_locked table.layout a.0.known b.0.known (LoadFixed (a_node n) offset w) tt tt tt s.event;
     };
@@ -67,7 +66,7 @@ module _ {G : Type 0} (table : TableView) (becomes : G → Event → G → Type 
   reads_entry n i w a b s = record {
     goes = record {
       acts = LoadRef (Slot n i) w ∷ [];
-      plain = All-cons KeepsRecall (LoadRef (Slot n i) w) [] tt (λ i d low. absurd (omega arith));
+      plain = All-cons IsQuiet (LoadRef (Slot n i) w) [] tt (λ i d low. absurd (omega arith));
       steps = runs_one table becomes (LoadRef (Slot n i) w) a b s;
       stays = still_locked table.layout a.0.known b.0.known (LoadRef (Slot n i) w) tt tt tt s.event;
     };

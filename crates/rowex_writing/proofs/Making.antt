@@ -3,8 +3,6 @@ use Rattle.std.proofs.Common.{◌≡◌, ◌≢◌, ℕ, zero, suc, ◌+◌, ◌
 use Rattle.std.specs.Prelude.{All, MatchOption}
 use Rattle.std.proofs.lemmas.Grind.{reverse_onto}
 use Rattle.std.proofs.lemmas.List.Elements.{All-append, All-cons}
-use Rattle.hot_model.specs.Fronts.{OthersGoOn}
-use Rattle.hot_model.proofs.Growth.{others_none}
 use Rattle.compound_node.specs.Nodes.{NodeView}
 use Rattle.compound_node.specs.declared.entries.Entry.{Entry}
 use Rattle.compound_node.specs.declared.entries.Entry.TheVariants.{Node}
@@ -23,46 +21,37 @@ use Rattle.rowex_core.specs.declared.event.Event.{Event}
 use Rattle.rowex_core.specs.declared.known.Holding.TheVariants.{Held}
 use Rattle.rowex_core.specs.declared.known.Known.{Known}
 use Rattle.rowex_core.specs.declared.known.Owned.{Owned}
-use Rattle.rowex_core.specs.Knowing.{IsFact}
 use Rattle.rowex_core.specs.Reading.{IsPacked}
-use Rattle.rowex_table.specs.Made.{Made, held_as, recs_of, IsLater}
+use Rattle.rowex_table.specs.Made.{Made, held_as, recs_of}
 use Rattle.rowex_table.specs.Runs.{Runs, Does, InTurn}
-use Rattle.rowex_table.specs.Stays.{KeepsRecall}
 use Rattle.rowex_table.specs.Seats.{TableView, SeatView, IsSeatOf}
 use Rattle.rowex_table.proofs.Running.{runs_same}
-use Rattle.rowex_records.specs.Claims.{claiming, turned, Misses, FindsNone, Claims, AllMissed}
+use Rattle.rowex_records.specs.Claims.{claiming, wrapped, Misses, FindsNone, Claims, AllMissed}
 use Rattle.rowex_records.specs.Records.{owning, fill_with, Fills, StoresWord}
 use Rattle.rowex_records.proofs.Filled.{fill_beside}
 use Rattle.rowex_rights.specs.Rises.{of_view}
 use Rattle.rowex_reading.specs.Possible.{IsPossible}
 use Rattle.rowex_reading.proofs.Later.{event_possible}
 use Rattle.rowex_writing.specs.Building.{IsBuilding, IsHalfMade, HasNotMade}
-use Rattle.rowex_writing.specs.Going.{WorksOn}
+use Rattle.rowex_writing.specs.Going.{WorksOn, IsQuiet}
 use Rattle.rowex_writing.proofs.Locking.{goes_more}
+use Rattle.rowex_table.proofs.ActsBefore.{same_later}
 
 -- ---- steps that change what the pass owns
-same_later : (k j : Known) → j.pass ≡ k.pass → j.pin ≡ k.pin → j.front ≡ k.front → j.facts ≡ k.facts → IsLater k j
-same_later k j pass pin front facts = record {
-  pass = pass;
-  pin = pin;
-  front = subst (OthersGoOn k.pass k.front) (sym front) (others_none k.pass k.front);
-  facts = λ s h. subst (All (IsFact s)) facts h;
-}
-
 -- steps in turn, each part of which is plain
-in_turn_plain : (Parts : ℕ → List Act → Type 0) → ((i : ℕ) (acts : List Act) → Parts i acts → All KeepsRecall acts) → (n : ℕ) (acts : List Act) → InTurn Parts n acts → All KeepsRecall acts
-in_turn_plain Parts each zero acts none = subst (All KeepsRecall) (sym none) (λ i d low. absurd (omega arith))
+pub in_turn_plain : (Parts : ℕ → List Act → Type 0) → ((i : ℕ) (acts : List Act) → Parts i acts → All IsQuiet acts) → (n : ℕ) (acts : List Act) → InTurn Parts n acts → All IsQuiet acts
+in_turn_plain Parts each zero acts none = subst (All IsQuiet) (sym none) (λ i d low. absurd (omega arith))
 in_turn_plain Parts each (suc n) acts (before, last, first, second, is) =
-    subst (All KeepsRecall) (sym is) (All-append KeepsRecall before last (in_turn_plain Parts each n before first) (each n last second))
+    subst (All IsQuiet) (sym is) (All-append IsQuiet before last (in_turn_plain Parts each n before first) (each n last second))
 
-misses_plain : (kind : ℕ → Rec) (n from m : ℕ) (acts : List Act) → InTurn (λ i. Misses (kind (turned n from i))) m acts → All KeepsRecall acts
-misses_plain kind n from m acts turn = in_turn_plain (λ i. Misses (kind (turned n from i))) (λ i acts (word, low, is). subst (All KeepsRecall) (sym is) (All-cons KeepsRecall (Claim (kind (turned n from i)) word) [] tt (λ i d low. absurd (omega arith)))) m acts turn
+misses_plain : (kind : ℕ → Rec) (n from m : ℕ) (acts : List Act) → InTurn (λ i. Misses (kind (wrapped n from i))) m acts → All IsQuiet acts
+misses_plain kind n from m acts turn = in_turn_plain (λ i. Misses (kind (wrapped n from i))) (λ i acts (word, low, is). subst (All IsQuiet) (sym is) (All-cons IsQuiet (Claim (kind (wrapped n from i)) word) [] tt (λ i d low. absurd (omega arith)))) m acts turn
 
-stores_plain : (r : Rec) (words : List ℕ) (n : ℕ) (acts : List Act) → InTurn (StoresWord r words) n acts → All KeepsRecall acts
-stores_plain r words n acts turn = in_turn_plain (StoresWord r words) (λ i acts is. subst (All KeepsRecall) (sym is) (All-cons KeepsRecall (Fill r (i + 1) (get_or words i 0)) [] tt (λ i d low. absurd (omega arith)))) n acts turn
+stores_plain : (r : Rec) (words : List ℕ) (n : ℕ) (acts : List Act) → InTurn (StoresWord r words) n acts → All IsQuiet acts
+stores_plain r words n acts turn = in_turn_plain (StoresWord r words) (λ i acts is. subst (All IsQuiet) (sym is) (All-cons IsQuiet (Fill r (i + 1) (get_or words i 0)) [] tt (λ i d low. absurd (omega arith)))) n acts turn
 
 module _ {G : Type 0} (table : TableView) (becomes : G → Event → G → Type 0) where
-  pub claims_on : (acts : List Act) (a b : SeatView × G) → All KeepsRecall acts → Does table becomes claiming acts a b → WorksOn table becomes a b
+  pub claims_on : (acts : List Act) (a b : SeatView × G) → All IsQuiet acts → Does table becomes claiming acts a b → WorksOn table becomes a b
   claims_on acts a b plain does = let r = does.rest in record {
     acts = acts;
     plain = plain;
@@ -70,7 +59,7 @@ module _ {G : Type 0} (table : TableView) (becomes : G → Event → G → Type 
     stays = (same_later a.0.known b.0.known (ap (λ (z : Known). z.pass) r) (ap (λ (z : Known). z.pin) r) (ap (λ (z : Known). z.front) r) (ap (λ (z : Known). z.facts) r), ap (λ (z : Known). z.locks) r, ap (λ (z : Known). z.anchor) r);
   }
 
-  pub owns_on : (acts : List Act) (a b : SeatView × G) → All KeepsRecall acts → Does table becomes owning acts a b → WorksOn table becomes a b
+  pub owns_on : (acts : List Act) (a b : SeatView × G) → All IsQuiet acts → Does table becomes owning acts a b → WorksOn table becomes a b
   owns_on acts a b plain does = let r = does.rest in record {
     acts = acts;
     plain = plain;
@@ -92,7 +81,7 @@ module _ {G : Type 0} (table : TableView) (becomes : G → Event → G → Type 
 
   pub claim_on : (kind : ℕ → Rec) (n from m : ℕ) (a b : SeatView × G) → Claims table becomes kind n from m a b → WorksOn table becomes a b
   claim_on kind n from m a b claim = goes_more table becomes a claim.before b (none_on kind n from claim.tried a claim.before claim.none)
-      (claims_on (Claim (kind m) 0 ∷ []) claim.before b (All-cons KeepsRecall (Claim (kind m) 0) [] tt (λ i d low. absurd (omega arith))) claim.does)
+      (claims_on (Claim (kind m) 0 ∷ []) claim.before b (All-cons IsQuiet (Claim (kind m) 0) [] tt (λ i d low. absurd (omega arith))) claim.does)
 
   pub fill_on : (r : Rec) (words : List ℕ) (a b : SeatView × G) → Fills table becomes r words a b → WorksOn table becomes a b
   fill_on r words a b fills = owns_on fills.stores a b (stores_plain r words (length words) fills.stores fills.in_turn) fills.does

@@ -7,6 +7,7 @@ use Rattle.rowex_core.specs.declared.event.Act.{Act}
 use Rattle.rowex_core.specs.declared.event.Act.TheVariants.{LoadRef, LoadFixed}
 use Rattle.rowex_core.specs.declared.event.Event.{Event}
 use Rattle.rowex_core.specs.declared.event.Spot.TheVariants.{Root, Slot}
+use Rattle.rowex_core.specs.declared.event.Target.{Target}
 use Rattle.rowex_core.specs.declared.known.Known.{Known}
 use Rattle.rowex_reading.specs.Possible.{IsPossible}
 use Rattle.rowex_reading.specs.Reads.{IsBelowRoot, Looks, Reads}
@@ -15,7 +16,9 @@ use Rattle.rowex_table.specs.Runs.{Runs}
 use Rattle.rowex_table.specs.Seats.{TableView, SeatView, IsSeatOf}
 use Rattle.rowex_table.specs.Stays.{LeavesPin}
 use Rattle.rowex_table.proofs.Running.{runs_same}
-use Rattle.rowex_writing.specs.Changes.{HasRun}
+use Rattle.rowex_writing.specs.Changes.{HasRun, HasTried}
+use Rattle.rowex_writing.specs.Going.{IsQuiet}
+use Rattle.rowex_writing.proofs.Tried.{quiet_tries_none}
 use Rattle.rowex_table.specs.Made.{IsLater}
 
 -- a load below the root leaves the pin
@@ -25,6 +28,13 @@ below_pin (LoadRef (Slot n i) w) below = tt
 below_pin (LoadFixed r offset w) below = tt
 below_pin _ below = absurd below
 
+-- and tries no lock
+below_quiet : (act : Act) → IsBelowRoot act → IsQuiet act
+below_quiet (LoadRef Root w) below = absurd below
+below_quiet (LoadRef (Slot n i) w) below = tt
+below_quiet (LoadFixed r offset w) below = tt
+below_quiet _ below = absurd below
+
 module _ {G : Type 0} (table : TableView) (becomes : G → Event → G → Type 0) where
   runs_possible : (acts : List Act) (a b : SeatView × G) → Runs table becomes acts a b → IsPossible table.layout a.0.known → IsPossible table.layout b.0.known
   runs_possible [] a b e p = subst (λ (z : SeatView × G). IsPossible table.layout z.0.known) (sym e) p
@@ -32,19 +42,20 @@ module _ {G : Type 0} (table : TableView) (becomes : G → Event → G → Type 
 
   -- ---- runs
   pub reads_run : (n : ℕ) (a b : SeatView × G) → Reads table becomes n a b → HasRun table becomes a b
-  reads_run n a b r = record { acts = r.acts; pinned = All-weaker IsBelowRoot LeavesPin below_pin r.acts r.below; steps = r.steps }
+  reads_run n a b r = record { acts = r.acts; pinned = All-weaker IsBelowRoot LeavesPin below_pin r.acts r.below; tried_are = quiet_tries_none r.acts (All-weaker IsBelowRoot IsQuiet below_quiet r.acts r.below); steps = r.steps }
 
   pub looks_run : (n : ℕ) (a b : SeatView × G) → Looks table becomes n a b → HasRun table becomes a b
   looks_run n a b l = record {
     acts = LoadRef Root l.root.0 ∷ l.rest.acts;
     pinned = All-cons LeavesPin (LoadRef Root l.root.0) l.rest.acts tt (All-weaker IsBelowRoot LeavesPin below_pin l.rest.acts l.rest.below);
+    tried_are = quiet_tries_none l.rest.acts (All-weaker IsBelowRoot IsQuiet below_quiet l.rest.acts l.rest.below);
     steps = (l.at, l.root.1, l.rest.steps);
   }
 
-  pub run_seat : (a b : SeatView × G) → HasRun table becomes a b → IsSeatOf table a.0 → IsSeatOf table b.0
+  pub run_seat : {tried : List Target} (a b : SeatView × G) → HasTried table becomes tried a b → IsSeatOf table a.0 → IsSeatOf table b.0
   run_seat a b r is = (runs_same table becomes r.acts a b r.steps).0 ∙ is
 
-  pub run_possible : (a b : SeatView × G) → HasRun table becomes a b → IsPossible table.layout a.0.known → IsPossible table.layout b.0.known
+  pub run_possible : {tried : List Target} (a b : SeatView × G) → HasTried table becomes tried a b → IsPossible table.layout a.0.known → IsPossible table.layout b.0.known
   run_possible a b r p = runs_possible r.acts a b r.steps p
 
 -- the front is no shorter later on

@@ -21,7 +21,7 @@ use Rattle.pieces.proofs.Paths.{size_pos}
 use Rattle.record_words.specs.Entry.{entry_word}
 use Rattle.record_words.specs.Leaf.{HasLeafWords}
 use Rattle.tries.specs.Affected.{page_affected, page_forked}
-use Rattle.tries.specs.Content.{Item}
+use Rattle.tries.specs.Content.{Item, item}
 use Rattle.tries.specs.Keys.{Key, bit, AgreeBelow}
 use Rattle.tries.specs.Place.{spot, shape}
 use Rattle.tries.specs.Search.{seek}
@@ -34,7 +34,7 @@ use Rattle.moments.specs.declared.Rec.{Rec}
 use Rattle.moments.specs.declared.Rec.TheVariants.{Node as a_node, Leaf as a_leaf}
 use Rattle.moments.specs.Trades.{IsOf}
 use Rattle.rowex_walks.specs.Scan.{IsRead, IsShaped}
-use Rattle.rowex_walks.specs.Writer.{item, added_change, replaced_change}
+use Rattle.rowex_walks.specs.Writer.{added_change, replaced_change}
 use Rattle.rowex_walks.specs.Ways.{IsWayFrom}
 use Rattle.rowex_walks.proofs.Ways.{way_of_leaf}
 use Rattle.rowex_core.specs.declared.event.Spot.{Spot}
@@ -46,7 +46,7 @@ use Rattle.rowex_core.specs.Reading.{node_of}
 use Rattle.rowex_core.proofs.Owning.{recalls}
 use Rattle.rowex_table.specs.Made.{Made, IsLater}
 use Rattle.rowex_table.specs.Publishes.{Publishes}
-use Rattle.rowex_table.specs.Rule.{IsEntry}
+use Rattle.rowex_table.specs.Rule.{HasSpot}
 use Rattle.rowex_table.specs.Seats.{TableView, SeatView}
 use Rattle.rowex_reading.specs.Seen.{Sure}
 use Rattle.rowex_reading.proofs.Seeing.{read_stable, seen_within, since_later, stands_in}
@@ -378,7 +378,7 @@ module _ (table : TableView) (a : SeatView) (m : ℕ) (key : Key) (way : List St
       }
 
   -- the spot is one of the table
-  pub spot_there : (spot : Spot) → span.end ≤ length way → IsSpotAbove way span.end spot → IsEntry table.layout spot
+  pub spot_there : (spot : Spot) → span.end ≤ length way → IsSpotAbove way span.end spot → HasSpot table.layout spot
   spot_there Root upto is = tt
   spot_there (Slot n i) upto (s, low, at, number, place) =
       let (e, named_e, node) = t.way_of.nodes (span.end - 1) s at in

@@ -20,13 +20,12 @@ use Rattle.rowex_core.proofs.Owning.{knows_all}
 use Rattle.rowex_table.specs.Made.{Made, held_as, recs_of, HasReadied}
 use Rattle.rowex_table.specs.Runs.{silent}
 use Rattle.rowex_table.specs.Seats.{TableView, SeatView}
-use Rattle.rowex_table.specs.Stays.{KeepsRecall}
 use Rattle.rowex_records.specs.Records.{IsFilled, Readies}
 use Rattle.rowex_rights.specs.Stages.{HasReady}
 use Rattle.rowex_rights.proofs.Loops.{ready_next}
 use Rattle.rowex_reading.specs.Possible.{IsPossible}
 use Rattle.rowex_writing.specs.Building.{ArePacked, IsBuilding}
-use Rattle.rowex_writing.specs.Going.{WorksOn}
+use Rattle.rowex_writing.specs.Going.{WorksOn, IsQuiet}
 use Rattle.rowex_writing.proofs.Locking.{goes_more}
 use Rattle.rowex_writing.proofs.Making.{goes_possible, owns_on}
 
@@ -97,7 +96,7 @@ module _ {G : Type 0} (table : TableView) (becomes : G → Event → G → Type 
     -- it is made ready
     module _ (e : SeatView × G) (made_ready : Readies table becomes (get_or made (left - 1) d) b e) where
       pub readied_goes : WorksOn table becomes a e
-      readied_goes = goes_more table becomes a b e goes (owns_on table becomes (Ready (get_or made (left - 1) d) ∷ []) b e (All-cons KeepsRecall (Ready (get_or made (left - 1) d)) [] tt (λ i d low. absurd (omega arith))) made_ready.does)
+      readied_goes = goes_more table becomes a b e goes (owns_on table becomes (Ready (get_or made (left - 1) d) ∷ []) b e (All-cons IsQuiet (Ready (get_or made (left - 1) d)) [] tt (λ i d low. absurd (omega arith))) made_ready.does)
 
       pub readied_more : AreReadied a.0 e.0 made (left - 1)
       readied_more news i =

@@ -15,7 +15,7 @@ use Rattle.tries.specs.Affected.{page_affected, page_forked, page_grown}
 use Rattle.tries.specs.Content.{first}
 use Rattle.tries.specs.Keys.{Key, bit}
 use Rattle.tries.specs.Place.{spot, with_page, joined, page_without}
-use Rattle.tries.specs.Tree.{Page, Tree, leaf, node, fork, page, IsTrie, Within, here, zero_side, one_side}
+use Rattle.tries.specs.Tree.{Page, Tree, fork, page, IsTrie, Within, here, zero_side, one_side}
 use Rattle.tries.proofs.Building.{bit_below, greatest-append}
 use Rattle.tries.proofs.Places.{spot_below}
 use Rattle.tries.proofs.Ranges.{has_key}
@@ -29,15 +29,7 @@ use Rattle.insert_cases.proofs.Choosing.{root_not}
 use Rattle.insert_cases.proofs.Climbing.{IsPairOf, pair_facts}
 use Rattle.insert_cases.proofs.NodeFacts.{height_positive}
 use Rattle.rowex_writing.specs.Remaking.{IsTreePage, AffectsJust, IsLowHalf, IsNoHigher}
-
--- ---- a tree by its page
-abbrev IsForkOf : ℕ → Page → Page → Tree → Type 0
-IsForkOf q a b t = (s : Tree) × (r : Tree) × (t ≡ fork q s r) × (page s ≡ a) × (page r ≡ b)
-
-fork_parts : (t : Tree) (q : ℕ) (a b : Page) → page t ≡ Fork q a b → IsForkOf q a b t
-fork_parts (leaf n k v) q a b e = absurd cc
-fork_parts (node n x c) q a b e = absurd cc
-fork_parts (fork p s r) q a b e = let z : p ≡ q = cc in (s, r, ap (λ n. fork n s r) z, cc, cc)
+use Rattle.rowex_walks.proofs.Rising.{fork_parts}
 
 -- ---- a new leaf
 -- the position is one of keys, and it is not that of the part's first fork

@@ -33,10 +33,10 @@ use Rattle.rowex_core.specs.Sharing.{IsLocked}
 use Rattle.rowex_core.proofs.Owning.{knows_all}
 use Rattle.rowex_core.proofs.Reading.{node_is}
 use Rattle.rowex_walks.specs.Scan.{IsRead}
-use Rattle.rowex_walks.specs.Writer.{item, removed_change}
+use Rattle.rowex_walks.specs.Writer.{removed_change}
 use Rattle.rowex_table.specs.Made.{IsLater, Made, nodes_of}
 use Rattle.rowex_table.specs.Publishes.{Publishes}
-use Rattle.rowex_table.specs.Rule.{IsEntry as IsEntrySpot}
+use Rattle.rowex_table.specs.Rule.{HasSpot}
 use Rattle.rowex_table.specs.Seats.{TableView, SeatView}
 use Rattle.rowex_reading.specs.Possible.{IsPossible}
 use Rattle.rowex_reading.specs.Seen.{Sure}
@@ -71,6 +71,7 @@ use Rattle.rowex_writing.specs.declared.plan.Span.{Span}
 use Rattle.rowex_writing.proofs.Spared.{kept_above, range_split, span_same}
 use Rattle.rowex_writing.proofs.Shapes.{way_node_locked}
 use Rattle.rowex_writing.proofs.Spans.{slice_more, slice_none}
+use Rattle.tries.specs.Content.{item}
 
 -- ---- the leaf
 -- in each stage it has the key and the value
@@ -318,7 +319,7 @@ module _ (table : TableView) (a : SeatView) (m : ℕ) (key : Key) (way : List St
       goes n (inr (inr none)) = absurd none
 
   -- the spot is one of the table's
-  pub spot_in : (spot : Spot) → IsSpotAbove way span.end spot → IsEntrySpot table.layout spot
+  pub spot_in : (spot : Spot) → IsSpotAbove way span.end spot → HasSpot table.layout spot
   spot_in Root is = tt
   spot_in (Slot n i) (u, some, there, n_is, i_is) =
       let node = (w.nodes (span.end - 1) u there).2 in

@@ -1,5 +1,5 @@
 -- Records to mark, one less and none; from a publish to the first of them.
-use Rattle.std.proofs.Common.{◌≡◌, ℕ, ◌+◌, ◌<◌, ◌≤◌, ◌^◌, List, [], ◌∷◌, length, get_or, drop, map, sym, ap, subst, ◌∙◌, arith}
+use Rattle.std.proofs.Common.{◌≡◌, ℕ, ◌+◌, ◌<◌, ◌≤◌, ◌^◌, List, [], ◌∷◌, length, get_or, drop, map, refl, sym, ap, subst, ◌∙◌, arith}
 use Rattle.std.specs.Prelude.{All}
 use Rattle.std.proofs.lemmas.List.{drop_more, drop_all}
 use Rattle.std.proofs.lemmas.List.Elements.{All-cons}
@@ -19,7 +19,7 @@ use Rattle.rowex_table.proofs.ActsAfter.{epoch_owns, mark_gives}
 use Rattle.rowex_table.proofs.ActsLeave.{act_leaves}
 use Rattle.rowex_records.specs.Records.{GivesUpAll}
 use Rattle.rowex_writing.proofs.Spans.{locked_same}
-use Rattle.rowex_writing.specs.Locks.{HasJustLocked, IsPlain, Works}
+use Rattle.rowex_writing.specs.Locks.{HasJustLocked, IsPlain, Works, targets_of}
 use Rattle.rowex_writing.specs.Retiring.{HasJustPublished, HasToMark}
 
 pub first_due : (k : Known) (epoch : ℕ) (recs : List Rec) (i : ℕ) (d : Rec) → i < length recs → HasToMark k epoch (drop i recs) → HasToMark k epoch (get_or recs i d ∷ drop (i + 1) recs)
@@ -55,9 +55,13 @@ all_plain : (recs : List Rec) → All IsPlain (map (λ r. Release r) recs)
 all_plain [] = λ i d low. absurd (omega arith)
 all_plain (r ∷ recs) = All-cons IsPlain (Release r) (map (λ r. Release r) recs) tt (all_plain recs)
 
+none_tried : (recs : List Rec) → targets_of (map (λ r. Release r) recs) ≡ []
+none_tried [] = refl
+none_tried (r ∷ recs) = none_tried recs
+
 module _ {G : Type 0} (table : TableView) (becomes : G → Event → G → Type 0) (recs : List Rec) (a b : SeatView × G) (g : GivesUpAll table becomes recs a b) where
   pub given_works : Works table becomes a b
-  given_works = record { acts = map (λ r. Release r) recs; plain = all_plain recs; steps = g.does.steps }
+  given_works = record { acts = map (λ r. Release r) recs; plain = all_plain recs; tried_are = none_tried recs; steps = g.does.steps }
 
   pub given_locks : (ns : List ℕ) → HasJustLocked a.0.known ns → HasJustLocked b.0.known ns
   given_locks ns h = locked_same a.0.known b.0.known ns (ap (λ (z : Known). z.locks) g.does.rest) h

@@ -5,10 +5,12 @@ use Rattle.std.proofs.lemmas.List.Elements.{All-append, All-cons, All-head, All-
 use Rattle.hot_model.specs.Fronts.{BeginsWith}
 use Rattle.hot_model.proofs.Growth.{begins_itself, begins_on, begins_push}
 use Rattle.record_words.specs.declared.layout.Layout.{Layout}
+use Rattle.moments.specs.Trades.{AreApart}
 use Rattle.rowex_core.specs.declared.event.Act.{Act}
 use Rattle.rowex_core.specs.declared.event.Act.TheVariants.{Claim, Fill, Ready, Release, LoadRef, LoadFixed, Lock, Unlock, Publish, Mark, LoadEpoch, Advance, SetPin, ClearPin, LoadPin, LoadState, GiveBack}
 use Rattle.rowex_core.specs.declared.event.Event.{Event}
 use Rattle.rowex_core.specs.declared.event.Spot.TheVariants.{Root, Slot}
+use Rattle.rowex_core.specs.declared.event.Target.{Target}
 use Rattle.rowex_core.specs.declared.known.Fresh.{Fresh}
 use Rattle.rowex_core.specs.declared.known.Known.{Known}
 use Rattle.rowex_core.specs.Events.{next_change}
@@ -19,69 +21,28 @@ use Rattle.rowex_table.specs.Stays.{KeepsRecall, LeavesFresh, LeavesFront, Leave
 use Rattle.rowex_table.proofs.ActsLeave.{act_leaves}
 use Rattle.rowex_table.proofs.Running.{runs_one, runs_append, runs_same}
 use Rattle.rowex_writing.specs.Attempts.{HasLoadedRoot}
-use Rattle.rowex_writing.specs.Changes.{HasRun}
-use Rattle.rowex_writing.specs.Going.{WorksOn}
-use Rattle.rowex_writing.specs.Locks.{Works, IsPlain}
+use Rattle.rowex_writing.specs.Changes.{HasRun, HasTried, HasTriedOnce}
+use Rattle.rowex_writing.specs.Going.{IsQuiet, WorksOn}
+use Rattle.rowex_writing.specs.Locks.{IsPlain, Tries, TriesOnce, Works, targets_of}
+use Rattle.rowex_writing.proofs.Tried.{once_after, once_before, quiet_tries_none, targets_append}
 
 -- ---- kinds of steps
 pub plain_recalls : (act : Act) → IsPlain act → KeepsRecall act
-plain_recalls (Claim r found) t = t
-plain_recalls (Fill r offset w) t = t
-plain_recalls (Ready r) t = t
-plain_recalls (Release r) t = t
 plain_recalls (LoadRef Root w) t = absurd t
-plain_recalls (LoadRef (Slot n i) w) t = t
-plain_recalls (LoadFixed r offset w) t = t
-plain_recalls (Lock target found) t = t
-plain_recalls (Unlock target) t = t
-plain_recalls (Publish spot w) t = t
-plain_recalls (Mark r epoch) t = t
-plain_recalls (LoadEpoch w) t = t
-plain_recalls (Advance expected found) t = t
-plain_recalls (SetPin w) t = t
-plain_recalls ClearPin t = t
-plain_recalls (LoadPin o w) t = t
-plain_recalls (LoadState r w) t = t
-plain_recalls (GiveBack r epoch found) t = t
+plain_recalls _ t = t
 
 plain_fresh : (act : Act) → IsPlain act → LeavesFresh act
-plain_fresh (Claim r found) t = tt
-plain_fresh (Fill r offset w) t = tt
-plain_fresh (Ready r) t = tt
-plain_fresh (Release r) t = tt
 plain_fresh (LoadRef Root w) t = t
-plain_fresh (LoadRef (Slot n i) w) t = tt
-plain_fresh (LoadFixed r offset w) t = tt
-plain_fresh (Lock target found) t = tt
-plain_fresh (Unlock target) t = tt
-plain_fresh (Publish spot w) t = tt
-plain_fresh (Mark r epoch) t = tt
-plain_fresh (LoadEpoch w) t = tt
-plain_fresh (Advance expected found) t = tt
-plain_fresh (SetPin w) t = tt
-plain_fresh ClearPin t = tt
-plain_fresh (LoadPin o w) t = tt
-plain_fresh (LoadState r w) t = tt
-plain_fresh (GiveBack r epoch found) t = tt
+plain_fresh _ t = tt
 
 pub recalls_pin : (act : Act) → KeepsRecall act → LeavesPin act
-recalls_pin (Claim r found) t = tt
-recalls_pin (Fill r offset w) t = tt
-recalls_pin (Ready r) t = tt
-recalls_pin (Release r) t = tt
-recalls_pin (LoadRef spot w) t = tt
-recalls_pin (LoadFixed r offset w) t = tt
-recalls_pin (Lock target found) t = tt
-recalls_pin (Unlock target) t = tt
-recalls_pin (Publish spot w) t = tt
-recalls_pin (Mark r epoch) t = tt
-recalls_pin (LoadEpoch w) t = tt
-recalls_pin (Advance expected found) t = tt
 recalls_pin (SetPin w) t = absurd t
 recalls_pin ClearPin t = absurd t
-recalls_pin (LoadPin o w) t = tt
-recalls_pin (LoadState r w) t = tt
-recalls_pin (GiveBack r epoch found) t = tt
+recalls_pin _ t = tt
+
+pub quiet_recalls : (act : Act) → IsQuiet act → KeepsRecall act
+quiet_recalls (Lock target found) t = absurd t
+quiet_recalls _ t = t
 
 -- ---- one step
 module _ (layout : Layout) (k j : Known) where
@@ -186,38 +147,58 @@ module _ {G : Type 0} (table : TableView) (becomes : G → Event → G → Type 
 
   -- ---- as runs of a call
   pub run_none : (a : SeatView × G) → HasRun table becomes a a
-  run_none a = record { acts = []; pinned = λ i d low. absurd (omega arith); steps = refl }
+  run_none a = record { acts = []; pinned = λ i d low. absurd (omega arith); tried_are = refl; steps = refl }
 
-  pub run_one : (act : Act) (a b : SeatView × G) → LeavesPin act → Steps table becomes act a b → HasRun table becomes a b
-  run_one act a b leaves s = record { acts = act ∷ []; pinned = All-cons LeavesPin act [] leaves (λ i d low. absurd (omega arith)); steps = runs_one table becomes act a b s }
+  pub run_one : (act : Act) (a b : SeatView × G) → LeavesPin act → Steps table becomes act a b → HasTried table becomes (targets_of (act ∷ [])) a b
+  run_one act a b leaves s = record { acts = act ∷ []; pinned = All-cons LeavesPin act [] leaves (λ i d low. absurd (omega arith)); tried_are = refl; steps = runs_one table becomes act a b s }
 
-  pub runs_trans : (a m b : SeatView × G) → HasRun table becomes a m → HasRun table becomes m b → HasRun table becomes a b
-  runs_trans a m b first second = record {
+  tried_trans : {s t : List Target} (a m b : SeatView × G) → HasTried table becomes s a m → HasTried table becomes t m b → HasTried table becomes (s ++ t) a b
+  tried_trans {s} {t} a m b first second = record {
     acts = first.acts ++ second.acts;
     pinned = All-append LeavesPin first.acts second.acts first.pinned second.pinned;
+    tried_are = targets_append first.acts second.acts ∙ (ap (λ z. z ++ targets_of second.acts) first.tried_are ∙ ap (λ z. s ++ z) second.tried_are);
     steps = runs_append table becomes first.acts second.acts a m b first.steps second.steps;
   }
 
-  pub works_run : (a b : SeatView × G) → Works table becomes a b → HasRun table becomes a b
-  works_run a b w = record { acts = w.acts; pinned = All-weaker IsPlain LeavesPin (λ act t. recalls_pin act (plain_recalls act t)) w.acts w.plain; steps = w.steps }
+  pub runs_trans : (a m b : SeatView × G) → HasRun table becomes a m → HasRun table becomes m b → HasRun table becomes a b
+  runs_trans a m b first second = tried_trans {s = []} {t = []} a m b first second
+
+  -- each lock is tried once at most, where none is tried after it or before
+  pub once_run : (a m b : SeatView × G) → HasTriedOnce table becomes a m → HasRun table becomes m b → HasTriedOnce table becomes a b
+  unfolding tried_trans
+  once_run a m b (tried, first, once) second = (tried ++ [], tried_trans a m b first second, once_before first.acts second.acts once second.tried_are)
+
+  pub run_once : (a m b : SeatView × G) → HasRun table becomes a m → HasTriedOnce table becomes m b → HasTriedOnce table becomes a b
+  unfolding tried_trans
+  run_once a m b first (tried, second, once) = (tried, tried_trans {s = []} a m b first second, once_after first.acts second.acts first.tried_are once)
+
+  pub none_once : (a b : SeatView × G) → HasRun table becomes a b → HasTriedOnce table becomes a b
+  none_once a b r = ([], r, subst AreApart (sym r.tried_are) tt)
+
+  pub works_run : {tried : List Target} (a b : SeatView × G) → Tries table becomes tried a b → HasTried table becomes tried a b
+  works_run a b w = record { acts = w.acts; pinned = All-weaker IsPlain LeavesPin (λ act t. recalls_pin act (plain_recalls act t)) w.acts w.plain; tried_are = w.tried_are; steps = w.steps }
+
+  pub tries_once : (a b : SeatView × G) → TriesOnce table becomes a b → HasTriedOnce table becomes a b
+  unfolding works_run
+  tries_once a b (tried, run, once) = (tried, works_run a b run, once)
 
   pub goes_run : (a b : SeatView × G) → WorksOn table becomes a b → HasRun table becomes a b
-  goes_run a b w = record { acts = w.acts; pinned = All-weaker KeepsRecall LeavesPin recalls_pin w.acts w.plain; steps = w.steps }
+  goes_run a b w = record { acts = w.acts; pinned = All-weaker IsQuiet LeavesPin (λ act t. recalls_pin act (quiet_recalls act t)) w.acts w.plain; tried_are = quiet_tries_none w.acts w.plain; steps = w.steps }
 
   -- what they leave
   pub works_fresh : (a b : SeatView × G) → Works table becomes a b → b.0.known.fresh ≡ a.0.known.fresh
   works_fresh a b w = runs_fresh w.acts a b (All-weaker IsPlain LeavesFresh plain_fresh w.acts w.plain) w.steps
 
-  pub run_pass : (a b : SeatView × G) → HasRun table becomes a b → b.0.known.pass ≡ a.0.known.pass
+  pub run_pass : {tried : List Target} (a b : SeatView × G) → HasTried table becomes tried a b → b.0.known.pass ≡ a.0.known.pass
   run_pass a b r = (runs_same table becomes r.acts a b r.steps).2
 
-  pub run_pin : (a b : SeatView × G) → HasRun table becomes a b → b.0.known.pin ≡ a.0.known.pin
+  pub run_pin : {tried : List Target} (a b : SeatView × G) → HasTried table becomes tried a b → b.0.known.pin ≡ a.0.known.pin
   run_pin a b r = runs_pin r.acts a b r.pinned r.steps
 
-  pub run_count : (a b : SeatView × G) → HasRun table becomes a b → a.0.known.steps ≤ b.0.known.steps
+  pub run_count : {tried : List Target} (a b : SeatView × G) → HasTried table becomes tried a b → a.0.known.steps ≤ b.0.known.steps
   run_count a b r = runs_count r.acts a b r.steps
 
-  pub run_front : (a b : SeatView × G) → HasRun table becomes a b → BeginsWith b.0.known.front a.0.known.front
+  pub run_front : {tried : List Target} (a b : SeatView × G) → HasTried table becomes tried a b → BeginsWith b.0.known.front a.0.known.front
   run_front a b r = runs_front r.acts a b r.steps
 
   -- a load of the root by which the call goes is not forgotten, nor is one that comes later older
@@ -225,5 +206,5 @@ module _ {G : Type 0} (table : TableView) (becomes : G → Event → G → Type 
   runs_loaded [] first a b h e = subst (λ (z : SeatView × G). HasLoadedRoot first z.0.known) (sym e) h
   runs_loaded (act ∷ acts) first a b h (m, s, more) = runs_loaded acts first m b (act_loaded table.layout a.0.known m.0.known first h act s.event) more
 
-  pub run_loaded : (first : Known) (a b : SeatView × G) → HasLoadedRoot first a.0.known → HasRun table becomes a b → HasLoadedRoot first b.0.known
+  pub run_loaded : {tried : List Target} (first : Known) (a b : SeatView × G) → HasLoadedRoot first a.0.known → HasTried table becomes tried a b → HasLoadedRoot first b.0.known
   run_loaded first a b h r = runs_loaded r.acts first a b h r.steps

@@ -16,7 +16,7 @@ use Rattle.moments.specs.State.{Past, Stands, IsSteady}
 use Rattle.moments.proofs.Growth.{in_tree_now}
 use Rattle.moments.proofs.Members.{all_of}
 use Rattle.rowex_core.specs.declared.known.Known.{Known}
-use Rattle.rowex_core.specs.Cores.{bare, view}
+use Rattle.rowex_core.specs.Cores.{bare}
 use Rattle.rowex_core.specs.Knowing.{IsSince}
 use Rattle.rowex_core.specs.Reading.{node_of}
 use Rattle.rowex_core.specs.Sharing.{IsLocked}
@@ -31,6 +31,7 @@ use Rattle.moments.proofs.States.{steady}
 use Rattle.rowex_writing.specs.Going.{HasLocked}
 use Rattle.rowex_writing.specs.Remaking.{AffectsJust}
 use Rattle.rowex_writing.specs.Ways.{IsWayNode}
+use Rattle.rowex_core.proofs.Loading.{view}
 
 -- A node that stands now has the forks and the height of before.
 now_shaped : (s : Past) (m n h : ℕ) (x : Page) (w : NodeWords) (b : Tree) → IsSteady s m → m ≤ s.now → IsSeen s m (Node n h) → IsShaped s m n x →

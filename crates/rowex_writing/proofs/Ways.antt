@@ -1,18 +1,32 @@
 -- What a search has found stays known while its pass goes on.
-use Rattle.std.proofs.Common.{ℕ, List, get_or, Option, Some, None}
+use Rattle.std.proofs.Common.{◌≡◌, inl, inr, ℕ, suc, ◌+◌, ◌≤◌, List, [], ◌∷◌, get_or, Option, Some, None, refl, sym, ap, subst, ◌∙◌, arith}
+use Rattle.std.specs.Prelude.{slice_get}
 use Rattle.std.proofs.lemmas.Option.{slice_get-get_or}
 use Rattle.insert_cases.specs.declared.choice.Step.{Step}
+use Rattle.compound_node.specs.Nodes.{height_of}
 use Rattle.compound_node.specs.declared.entries.Entry.{Entry}
 use Rattle.compound_node.specs.declared.entries.Entry.TheVariants.{Node}
 use Rattle.record_words.specs.declared.layout.Layout.{Layout}
 use Rattle.tries.specs.Keys.{Key}
+use Rattle.tries.specs.Tree.{Fixed, node as node_tree}
+use Rattle.moments.specs.declared.Rec.TheVariants.{Node as a_node}
+use Rattle.moments.specs.State.{Stands}
+use Rattle.moments.specs.Trades.{AreApart, IsOf}
+use Rattle.moments.proofs.Members.{of_map}
+use Rattle.moments.proofs.States.{steady}
+use Rattle.rowex_core.proofs.Loading.{view}
+use Rattle.rowex_core.specs.Knowing.{IsSince}
+use Rattle.rowex_core.proofs.Owning.{recalls}
 use Rattle.rowex_core.specs.declared.known.Known.{Known}
 use Rattle.rowex_table.specs.Made.{IsLater}
 use Rattle.rowex_walks.specs.Scan.{IsSeen, IsRooted, IsBlank, IsPlaced, IsShaped, IsRead}
-use Rattle.rowex_reading.proofs.Seeing.{sure_later, since_later, seen_stable, rooted_stable, placed_stable, shaped_stable, read_stable, blank_stable}
+use Rattle.rowex_walks.proofs.Scans.{node_of as node_named}
+use Rattle.rowex_reading.specs.Possible.{IsPossible}
+use Rattle.rowex_reading.specs.Seen.{Sure, seen}
+use Rattle.rowex_reading.proofs.Seeing.{seen_past, sure_later, since_later, seen_stable, rooted_stable, placed_stable, shaped_stable, read_stable, blank_stable}
 use Rattle.rowex_rights.specs.Stages.{IsSure}
-use Rattle.rowex_rights.proofs.Sure.{seen_is_sure}
-use Rattle.rowex_writing.specs.Locks.{AreLed}
+use Rattle.rowex_rights.proofs.Sure.{reach_since, seen_is_sure}
+use Rattle.rowex_writing.specs.Locks.{AreLed, numbers_of}
 use Rattle.rowex_writing.specs.Ways.{IsWayOf, IsWayNode, IsFoundAt, RootWas, named}
 use Rattle.rowex_writing.specs.declared.plan.Found.{Found}
 use Rattle.rowex_writing.specs.declared.plan.Found.TheVariants.{Nothing, Leaf}
@@ -50,6 +64,58 @@ way_later layout k j m key way found later w = record {
   found_at = found_later layout k j m key later found w.found_at;
   depth = w.depth;
 }
+
+-- ---- the nodes of a way are different ones
+-- a record to which the pass was led since its pin has one height
+one_height : (layout : Layout) (k : Known) (m n g h : ℕ) → IsPossible layout k → IsSince k m → Sure k (λ past. IsSeen past m (Node n g)) → Sure k (λ past. IsSeen past m (Node n h)) → g ≡ h
+one_height layout k m n g h possible since one other =
+    let c = possible.core in
+    let law = possible.lawful in
+    let known = recalls c k possible.knows in
+    let grown = seen_past law known in
+    let (o, u, lo, hi, stands, page_is) = seen_stable m (Node n g) (seen c k) c.past grown (one c law known) in
+    let (p, v, low, high, there, same) = seen_stable m (Node n h) (seen c k) c.past grown (other c law known) in
+    let (x, d, is, first) = node_named n g u page_is in
+    let (y, e, eq, second) = node_named n h v same in
+    let fixed = (steady (view c) law.core.state m (reach_since k m since c law known)).same (a_node n) o p (node_tree n x d) (node_tree n y e) lo hi low high
+    (subst (λ z. Stands c.past o (a_node n) z) is stands) (subst (λ z. Stands c.past p (a_node n) z) eq there) in
+    sym first ∙ (ap (λ (z : Fixed). z.height) fixed.0 ∙ second)
+
+module _ (layout : Layout) (k : Known) (m : ℕ) (key : Key) (found : Found) where
+  -- each node, with the entry that the search took there
+  abbrev AreNamed : List Step → Type 0
+  AreNamed way = (i : ℕ) (s : Step) → slice_get way i ≡ Some s → (e : Entry) × (named way found (suc i) ≡ Some e) × IsWayNode layout k m key s e
+
+  named_rest : (s : Step) (way : List Step) → AreNamed (s ∷ way) → AreNamed way
+  named_rest s way nodes i t at = nodes (suc i) t at
+
+  -- below an entry the nodes are no higher than it
+  lower : (way : List Step) (e : Entry) → AreNamed way → named way found 0 ≡ Some e → (t : Step) → IsOf t way → (t.height ≤ height_of e) × Sure k (λ past. IsSeen past m (Node t.number t.height))
+  lower [] e nodes first t i = absurd i
+  lower (s ∷ way) e nodes first t (inl is) =
+      let (f, next, node) = nodes 0 s refl in
+      let high : s.height ≡ height_of e = cc in
+      subst (λ (z : Step). (z.height ≤ height_of e) × Sure k (λ past. IsSeen past m (Node z.number z.height))) (sym is) (omega (arith, high), node.seen)
+  lower (s ∷ way) e nodes first t (inr i) =
+      let (f, next, node) = nodes 0 s refl in
+      let high : s.height ≡ height_of e = cc in
+      let rest = lower way f (named_rest s way nodes) next t i in
+      (omega (arith, rest.0, node.below, high), rest.1)
+
+  way_differs : IsPossible layout k → IsSince k m → (way : List Step) → AreNamed way → AreApart (numbers_of way)
+  way_differs possible since [] nodes = tt
+  way_differs possible since (s ∷ way) nodes = (new, way_differs possible since way (named_rest s way nodes))
+    where
+      new : IsOf s.number (numbers_of way) → ⊥
+      new i =
+          let (t, there, same) = of_map (λ (z : Step). z.number) s.number way i in
+          let (e, next, node) = nodes 0 s refl in
+          let below = lower way e (named_rest s way nodes) next t there in
+          let high = one_height layout k m s.number t.height s.height possible since (subst (λ n. Sure k (λ past. IsSeen past m (Node n t.height))) (sym same) below.1) node.seen in
+          omega (arith, below.0, node.below, high)
+
+  pub way_apart : (way : List Step) → IsPossible layout k → IsWayOf layout k m key way found → AreApart (numbers_of way)
+  way_apart way possible w = way_differs possible w.since way (λ i s at. subst (λ n. (e : Entry) × (named way found n ≡ Some e) × IsWayNode layout k m key s e) (let q : i + 1 ≡ suc i = omega arith in q) (w.nodes i s at))
 
 -- the pass was led to each node of a way that it has found
 pub way_led : (layout : Layout) (k : Known) (m : ℕ) (key : Key) (way : List Step) (found : Found) → IsWayOf layout k m key way found → AreLed layout k way

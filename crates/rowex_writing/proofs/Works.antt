@@ -32,24 +32,21 @@ use Rattle.rowex_table.proofs.Running.{runs_one, runs_append, runs_same}
 use Rattle.rowex_rights.specs.Stages.{IsSure}
 use Rattle.rowex_rights.proofs.Loops.{later_same, later_on}
 use Rattle.rowex_writing.proofs.Runs.{plain_recalls}
-use Rattle.rowex_writing.specs.Locks.{Works, IsPlain, IsTakenWord, LocksOne, LocksAnchor, IsRefusedLock}
+use Rattle.rowex_writing.proofs.Tried.{tries_more}
+use Rattle.rowex_writing.specs.Locks.{Tries, Works, IsPlain, IsTakenWord, LocksOne, LocksAnchor, IsRefusedLock, targets_of}
 
 module _ {G : Type 0} (table : TableView) (becomes : G → Event → G → Type 0) where
   pub works_none : (a : SeatView × G) → Works table becomes a a
-  works_none a = record { acts = []; plain = λ i d low. absurd (omega arith); steps = refl }
+  works_none a = record { acts = []; plain = λ i d low. absurd (omega arith); tried_are = refl; steps = refl }
 
-  pub works_one : (act : Act) (a b : SeatView × G) → IsPlain act → Steps table becomes act a b → Works table becomes a b
-  works_one act a b plain s = record { acts = act ∷ []; plain = All-cons IsPlain act [] plain (λ i d low. absurd (omega arith)); steps = runs_one table becomes act a b s }
+  pub works_one : (act : Act) (a b : SeatView × G) → IsPlain act → Steps table becomes act a b → Tries table becomes (targets_of (act ∷ [])) a b
+  works_one act a b plain s = record { acts = act ∷ []; plain = All-cons IsPlain act [] plain (λ i d low. absurd (omega arith)); tried_are = refl; steps = runs_one table becomes act a b s }
 
   pub works_more : (a m b : SeatView × G) → Works table becomes a m → Works table becomes m b → Works table becomes a b
-  works_more a m b first second = record {
-    acts = first.acts ++ second.acts;
-    plain = All-append IsPlain first.acts second.acts first.plain second.plain;
-    steps = runs_append table becomes first.acts second.acts a m b first.steps second.steps;
-  }
+  works_more a m b first second = tries_more table becomes {s = []} {t = []} a m b first second
 
   -- the seat is one of the table still
-  pub works_seat : (a b : SeatView × G) → Works table becomes a b → IsSeatOf table a.0 → IsSeatOf table b.0
+  pub works_seat : {tried : List Target} (a b : SeatView × G) → Tries table becomes tried a b → IsSeatOf table a.0 → IsSeatOf table b.0
   works_seat a b w is = (runs_same table becomes w.acts a b w.steps).0 ∙ is
 
   later_runs : (acts : List Act) (a b : SeatView × G) → All KeepsRecall acts → Runs table becomes acts a b → IsLater a.0.known b.0.known
@@ -58,7 +55,7 @@ module _ {G : Type 0} (table : TableView) (becomes : G → Event → G → Type 
       later_on a.0.known m.0.known b.0.known (before.recalls_on table.layout silent a.0.known m.0.known act (All-head KeepsRecall act acts plain) s.event)
       (later_runs acts m b (All-tail KeepsRecall act acts plain) more)
 
-  pub works_later : (a b : SeatView × G) → Works table becomes a b → IsLater a.0.known b.0.known
+  pub works_later : {tried : List Target} (a b : SeatView × G) → Tries table becomes tried a b → IsLater a.0.known b.0.known
   works_later a b w = later_runs w.acts a b (All-weaker IsPlain KeepsRecall plain_recalls w.acts w.plain) w.steps
 
   count_runs : (acts : List Act) (a b : SeatView × G) → Runs table becomes acts a b → a.0.known.steps ≤ b.0.known.steps
@@ -66,7 +63,7 @@ module _ {G : Type 0} (table : TableView) (becomes : G → Event → G → Type 
   count_runs (act ∷ acts) a b (m, s, more) =
       let one = (leave.act_leaves table.layout a.0.known m.0.known act s.event).steps in let rest = count_runs acts m b more in omega (arith, one, rest)
 
-  pub works_count : (a b : SeatView × G) → Works table becomes a b → a.0.known.steps ≤ b.0.known.steps
+  pub works_count : {tried : List Target} (a b : SeatView × G) → Tries table becomes tried a b → a.0.known.steps ≤ b.0.known.steps
   works_count a b w = count_runs w.acts a b w.steps
 
 -- ---- a lock that is refused

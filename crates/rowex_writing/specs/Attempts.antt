@@ -9,7 +9,7 @@ use Rattle.hot_model.specs.declared.Reply.TheVariants.{Inserted, Exists, New, Wa
 use Rattle.hot_model.specs.Fronts.{BeginsWith, OthersGoOn}
 use Rattle.record_words.specs.declared.layout.Layout.{Layout}
 use Rattle.tries.specs.Keys.{Key}
-use Rattle.moments.specs.State.{IsHeld, IsMissed}
+use Rattle.moments.specs.State.{IsHeldSince, IsMissed}
 use Rattle.rowex_core.specs.declared.known.Known.{Known}
 use Rattle.rowex_reading.specs.Seen.{Sure, since}
 use Rattle.rowex_writing.specs.Changes.{HasChanged, HasStored, HasTaken, IsFull}
@@ -39,7 +39,7 @@ pub record HasLoadedRoot (k j : Known) : Type 0 where
 
 -- what a call found that changed nothing, at a moment since its last load of the root
 abbrev pub HasLooked : Known → Ask → Key → Reply → Type 0
-HasLooked j Insert key (Exists held) = Sure j (λ past. IsHeld past (since j) key held)
+HasLooked j Insert key (Exists held) = Sure j (λ past. IsHeldSince past (since j) key held)
 HasLooked j Remove key Absent = Sure j (λ past. IsMissed past (since j) key)
 HasLooked j ask key reply = ⊥
 

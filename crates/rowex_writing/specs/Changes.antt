@@ -15,6 +15,7 @@ use Rattle.moments.specs.declared.Rec.TheVariants.{Node as a_node, Leaf as a_lea
 use Rattle.rowex_core.specs.declared.event.Act.{Act}
 use Rattle.rowex_core.specs.declared.event.Event.{Event}
 use Rattle.rowex_core.specs.declared.event.Spot.{Spot}
+use Rattle.rowex_core.specs.declared.event.Target.{Target}
 use Rattle.rowex_core.specs.declared.known.Known.{Known}
 use Rattle.rowex_core.specs.Reading.{node_of}
 use Rattle.rowex_walks.specs.Scan.{IsShaped}
@@ -30,7 +31,7 @@ use Rattle.rowex_rights.specs.Ending.{IsAtRest}
 use Rattle.rowex_rights.specs.Stages.{HasReady}
 use Rattle.rowex_writing.specs.Building.{IsBuilding}
 use Rattle.rowex_writing.specs.Going.{HasLocked}
-use Rattle.rowex_writing.specs.Locks.{HasLockedSpan}
+use Rattle.rowex_writing.specs.Locks.{HasLockedSpan, TriesLocksOnce, targets_of}
 use Rattle.rowex_writing.specs.Plans.{change, IsPlan}
 use Rattle.rowex_writing.specs.Remaking.{AffectsJust}
 use Rattle.rowex_writing.specs.Ways.{IsWayOf, named}
@@ -44,11 +45,20 @@ use Rattle.rowex_writing.specs.declared.plan.Plan.{Plan}
 use Rattle.rowex_writing.specs.declared.plan.Span.{Span}
 
 -- ---- steps
--- The pass makes steps of which the gate is told, and none of them sets or clears its pin.
-pub record HasRun {G : Type 0} (table : TableView) (becomes : G → Event → G → Type 0) (a b : SeatView × G) : Type 0 where
+-- The pass makes steps of which the gate is told, and none of them sets or clears its pin. These are the locks that it tries.
+pub record HasTried {G : Type 0} (table : TableView) (becomes : G → Event → G → Type 0) (tried : List Target) (a b : SeatView × G) : Type 0 where
   pub acts : List Act
   pub pinned : All LeavesPin acts
+  pub tried_are : targets_of acts ≡ tried
   pub steps : Runs table becomes acts a b
+
+-- it tries none
+abbrev pub HasRun : {G : Type 0} → TableView → (G → Event → G → Type 0) → SeatView × G → SeatView × G → Type 0
+HasRun table becomes a b = HasTried table becomes [] a b
+
+-- it tries each once at most
+abbrev pub HasTriedOnce : {G : Type 0} → TableView → (G → Event → G → Type 0) → SeatView × G → SeatView × G → Type 0
+HasTriedOnce table becomes a b = (tried : List Target) × (run : HasTried table becomes tried a b) × TriesLocksOnce run.acts
 
 -- ---- the plan
 -- where a new leaf goes into a node of the way, these are the entries that its position affects there, by the forks that were read

@@ -5,6 +5,7 @@ use Rattle.record_words.specs.Node.{HasNodeWords, node_words}
 use Rattle.moments.specs.Trades.{IsOf}
 use Rattle.rowex_core.specs.Reading.{node_of}
 use Rattle.rowex_core.specs.declared.event.Act.{Act}
+use Rattle.rowex_core.specs.declared.event.Act.TheVariants.{Lock}
 use Rattle.rowex_core.specs.declared.event.Event.{Event}
 use Rattle.rowex_core.specs.declared.known.Known.{Known}
 use Rattle.rowex_table.specs.Runs.{Runs}
@@ -12,10 +13,15 @@ use Rattle.rowex_table.specs.Seats.{TableView, SeatView}
 use Rattle.rowex_table.specs.Stays.{KeepsRecall}
 use Rattle.rowex_rights.specs.Loops.{StaysLocked}
 
--- The pass makes steps of which the gate is told; it recalls all that it did, and has locked what it had locked.
+-- a step that tries no lock, and after which the pass recalls all that it did before
+abbrev pub IsQuiet : Act → Type 0
+IsQuiet (Lock target found) = ⊥
+IsQuiet act = KeepsRecall act
+
+-- The pass makes steps of which the gate is told, and tries no lock; it recalls all that it did, and has locked what it had locked.
 pub record WorksOn {G : Type 0} (table : TableView) (becomes : G → Event → G → Type 0) (a b : SeatView × G) : Type 0 where
   pub acts : List Act
-  pub plain : All KeepsRecall acts
+  pub plain : All IsQuiet acts
   pub steps : Runs table becomes acts a b
   pub stays : StaysLocked a.0.known b.0.known
 

@@ -8,14 +8,14 @@ use Rattle.moments.specs.declared.Rec.{Rec}
 use Rattle.tries.specs.Keys.{Key}
 use Rattle.rowex_core.specs.declared.event.Spot.{Spot}
 use Rattle.rowex_rights.specs.Insertions.{IsSpotOf}
-use Rattle.rowex_table.specs.Rule.{IsEntry}
+use Rattle.rowex_table.specs.Rule.{HasSpot}
 use Rattle.rowex_table.specs.Seats.{TableView, SeatView}
-use Rattle.rowex_walks.specs.Writer.{item}
 use Rattle.rowex_writing.specs.Building.{FitsAbove, IsGrowing}
 use Rattle.rowex_writing.specs.Going.{HasLocked}
 use Rattle.rowex_writing.specs.Locks.{AreNodes, HasLockedSpan}
 use Rattle.rowex_writing.specs.Putting.{IsSpotAbove}
 use Rattle.rowex_writing.specs.declared.plan.Span.{Span}
+use Rattle.tries.specs.Content.{item}
 
 -- the number of the entry's record has 32 bits
 abbrev pub HasNumber : Entry → Type 0
@@ -32,4 +32,4 @@ pub record MayGrow (table : TableView) (a : SeatView) (made : List Rec) (way : L
   pub growing : IsGrowing table a made way key span.end (span.len - 1) position first last leaf
   pub item_is : growing.lowest.item ≡ item leaf key value
   pub place : (s : Step) (words : List ℕ) (e : Entry) (spot : Spot) → slice_get way span.end ≡ Some s → HasLocked a.known s.number words → FitsAbove words e → IsSpotAbove way span.end spot →
-      IsSpotOf a.known a.known.locks key position s.number e spot × IsEntry table.layout spot
+      IsSpotOf a.known a.known.locks key position s.number e spot × HasSpot table.layout spot

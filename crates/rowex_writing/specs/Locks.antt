@@ -8,7 +8,7 @@ use Rattle.record_words.specs.State.{state_word}
 use Rattle.moments.specs.Trades.{IsOf, AreApart}
 use Rattle.rowex_walks.specs.Scan.{IsSeen}
 use Rattle.rowex_core.specs.declared.event.Act.{Act}
-use Rattle.rowex_core.specs.declared.event.Act.TheVariants.{LoadRef}
+use Rattle.rowex_core.specs.declared.event.Act.TheVariants.{LoadRef, Lock}
 use Rattle.rowex_core.specs.declared.event.Event.{Event}
 use Rattle.rowex_core.specs.declared.event.Spot.TheVariants.{Root}
 use Rattle.rowex_core.specs.declared.event.Target.{Target}
@@ -29,11 +29,31 @@ abbrev pub IsPlain : Act → Type 0
 IsPlain (LoadRef Root w) = ⊥
 IsPlain act = KeepsRecall act
 
--- The pass makes steps of which the gate is told, and recalls after each all that it did before; none of them loads the root.
-pub record Works {G : Type 0} (table : TableView) (becomes : G → Event → G → Type 0) (a b : SeatView × G) : Type 0 where
+-- what these acts try to lock, in order
+abbrev pub targets_of : List Act → List Target
+targets_of [] = []
+targets_of (Lock target found ∷ acts) = target ∷ targets_of acts
+targets_of (act ∷ acts) = targets_of acts
+
+-- they try each lock once at most
+abbrev pub TriesLocksOnce : List Act → Type 0
+TriesLocksOnce acts = AreApart (targets_of acts)
+
+-- The pass makes steps of which the gate is told, and recalls after each all that it did before; none of them loads the root. These
+-- are the locks that it tries.
+pub record Tries {G : Type 0} (table : TableView) (becomes : G → Event → G → Type 0) (tried : List Target) (a b : SeatView × G) : Type 0 where
   pub acts : List Act
   pub plain : All IsPlain acts
+  pub tried_are : targets_of acts ≡ tried
   pub steps : Runs table becomes acts a b
+
+-- it tries none
+abbrev pub Works : {G : Type 0} → TableView → (G → Event → G → Type 0) → SeatView × G → SeatView × G → Type 0
+Works table becomes a b = Tries table becomes [] a b
+
+-- it tries each once at most
+abbrev pub TriesOnce : {G : Type 0} → TableView → (G → Event → G → Type 0) → SeatView × G → SeatView × G → Type 0
+TriesOnce table becomes a b = (tried : List Target) × (run : Tries table becomes tried a b) × TriesLocksOnce run.acts
 
 -- no node is locked by the pass, and the anchor is not
 abbrev pub HasNoLock : Known → Type 0

@@ -9,7 +9,7 @@ ghost use Rattle.rowex_rights.specs.Ending.{IsAtRest};
 ghost use Rattle.rowex_table.specs.Made.{IsLater};
 ghost use Rattle.rowex_table.specs.Seats.{IsSeatOf};
 ghost use Rattle.rowex_writing.specs.Attempts.{HasAnswered, HasDone, HasLoadedRoot, HasRefused, reply_to as the_reply};
-ghost use Rattle.rowex_writing.specs.Changes.{HasNoRoom, HasRun, HasTakenPlan, HasTakenSpan};
+ghost use Rattle.rowex_writing.specs.Changes.{HasNoRoom, HasRun, HasTakenPlan, HasTakenSpan, HasTriedOnce};
 ghost use Rattle.rowex_writing.specs.Locks.{HasMetLock};
 ghost use Rattle.rowex_writing.specs.Ways.{IsWayOf, value_of};
 ghost use Rattle.rowex_writing.specs.Counts.{attempt_steps, change_steps};
@@ -63,7 +63,7 @@ pub fn attempt<G: Gate>(
     requires own { IsSeatOf table.now seat.old }
     requires pinned { IsSome seat.old.known.pin }
     requires rest { IsAtRest seat.old.known }
-    ensures run { HasRun table.now G.becomes (seat.old, gate.old) (seat.new, gate.new) }
+    ensures run { HasTriedOnce table.now G.becomes (seat.old, gate.old) (seat.new, gate.new) }
     ensures loaded { HasLoadedRoot seat.old.known seat.new.known }
     ensures rest { IsAtRest seat.new.known }
     ensures answered { IfOk result (HasAnswered seat.old.known seat.new.known ask key.now value) }
@@ -102,7 +102,7 @@ fn act_on<G: Gate>(
     requires way { IsWayOf table.now.layout seat.old.known (since seat.old.known) key.now way.now found }
     requires found { HasFound seat.old.known key.now (value_of found) }
     requires rest { IsAtRest seat.old.known }
-    ensures run { HasRun table.now G.becomes (seat.old, gate.old) (seat.new, gate.new) }
+    ensures run { HasTriedOnce table.now G.becomes (seat.old, gate.old) (seat.new, gate.new) }
     ensures rest { IsAtRest seat.new.known }
     ensures answered { IfOk result (λ reply. (k : Known) → IsLater k seat.old.known → HasAnswered k seat.new.known ask key.now value reply) }
     ensures refused { IfErr result (λ fault. (k : Known) → HasLoadedRoot k seat.old.known → IsLater k seat.old.known →
@@ -141,7 +141,7 @@ fn take_span<G: Gate>(
     requires span { (span.end ≤ span.len) × (span.len ≤ length way.now) }
     requires way { (m : ℕ) × IsWayOf table.now.layout seat.old.known m key.now way.now found }
     requires rest { IsAtRest seat.old.known }
-    ensures run { HasRun table.now G.becomes (seat.old, gate.old) (seat.new, gate.new) }
+    ensures run { HasTriedOnce table.now G.becomes (seat.old, gate.old) (seat.new, gate.new) }
     ensures later { IsLater seat.old.known seat.new.known }
     ensures taken { result ≡ true → (m : ℕ) → IsWayOf table.now.layout seat.old.known m key.now way.now found →
         HasTakenSpan table.now seat.new m key.now way.now found span }

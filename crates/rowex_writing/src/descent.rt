@@ -59,8 +59,8 @@ pub fn search_way<G: Gate>(
     }
 }
 
-/// The step of a way at a node with this head, where the search takes this entry.
-fn step_of(head: &Head, number: u32, at: u8) -> Step
+/// The step of a way at a node with this head, where the way takes this entry.
+pub fn step_of(head: &Head, number: u32, at: u8) -> Step
     ensures { result ≡ step_at head.now number at }
 {
     Step {

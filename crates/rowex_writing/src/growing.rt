@@ -3,7 +3,8 @@
 ghost use Rattle.std.specs.Prelude.{◌≡◌, ◌-◌, ◌+◌, ◌<◌, ◌≤◌, ◌++◌, ℕ, IfErr, Ok, None, length, map, slice_range, ◌*◌};
 ghost use Rattle.insert_cases.specs.declared.choice.Step.{Step as StepView};
 ghost use Rattle.moments.specs.declared.Rec.TheVariants.{Node as a_node};
-ghost use Rattle.rowex_walks.specs.Writer.{added_change, item};
+ghost use Rattle.tries.specs.Content.{item};
+ghost use Rattle.rowex_walks.specs.Writer.{added_change};
 ghost use Rattle.rowex_writing.specs.Changes.{HasChanged, HasNoRoom, HasRun, HasStored, HasTakenPlan};
 ghost use Rattle.rowex_writing.specs.Growths.{HasNumber, MayGrow};
 ghost use Rattle.rowex_writing.specs.declared.plan.Deed.TheVariants.{Grow};

@@ -20,7 +20,7 @@ mod taking;
 pub use attempts::{TryFault, attempt};
 pub use building::{Build, MOST_GONE, MOST_MADE, raise_grown, raise_pair, raise_without};
 pub use checking::check_span;
-pub use descent::{MOST_NODES, search_way};
+pub use descent::{MOST_NODES, search_way, step_of};
 pub use ending::{retire, undo};
 pub use finding::find_plan;
 pub use growing::grow_node;

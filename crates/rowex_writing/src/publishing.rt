@@ -10,13 +10,13 @@ ghost use Rattle.moments.specs.Trades.{AreApart};
 ghost use Rattle.rowex_core.specs.Having.{AreKept};
 ghost use Rattle.rowex_core.specs.Reading.{entry_of};
 ghost use Rattle.rowex_table.specs.Made.{Made, nodes_of};
-ghost use Rattle.rowex_table.specs.Rule.{IsEntry};
+ghost use Rattle.rowex_table.specs.Rule.{HasSpot};
 ghost use Rattle.rowex_table.specs.Seats.{IsSeatOf};
 ghost use Rattle.rowex_reading.specs.Possible.{IsPossible};
 ghost use Rattle.rowex_records.specs.Claims.{AllMissed};
 ghost use Rattle.rowex_rights.specs.Rises.{of_leaf};
 ghost use Rattle.rowex_rights.specs.Stages.{HasReady};
-ghost use Rattle.rowex_walks.specs.Writer.{item};
+ghost use Rattle.tries.specs.Content.{item};
 ghost use Rattle.rowex_writing.specs.Building.{IsBuilding};
 ghost use Rattle.rowex_writing.specs.Changes.{HasChanged, HasRun, MayEnd};
 ghost use Rattle.rowex_writing.specs.Going.{WorksOn};
@@ -101,7 +101,7 @@ pub fn publish_change<G: Gate>(
     anchor: bool,
 )
     requires own { IsSeatOf table.now seat.old }
-    requires range { IsEntry table.now.layout spot }
+    requires range { HasSpot table.now.layout spot }
     requires may { (x : Change) × (was : Option ℕ) × MayEnd table.now seat.old build.old.made.items spot (entry_word entry) x was build.old.gone.items }
     requires records { AreRecords table.now.layout build.old.gone.items }
     requires nodes { AreNodes table.now.layout kept.now }

@@ -7,7 +7,7 @@ use Rattle.rowex_reading.proofs.Seeing.{later_trans}
 use Rattle.rowex_reading.specs.Seen.{since}
 use Rattle.rowex_writing.proofs.Attempting.{answered_change, answered_look, found_later, loaded_reads, looked, planned_later, refused_busy, refused_leaves, refused_nodes, removal_takes, rest_reads}
 use Rattle.rowex_writing.proofs.Onward.{reads_run}
-use Rattle.rowex_writing.proofs.Runs.{run_loaded, runs_trans}
+use Rattle.rowex_writing.proofs.Runs.{none_once, once_run, run_loaded, run_once}
 use Rattle.rowex_writing.proofs.Ways.{way_later}
 use Rattle.rowex_writing.proofs.attempts.act_on.Goals as goal
 
@@ -24,7 +24,7 @@ pub take_span-requires-clause-rest : goal.take_span-requires-clause-rest
 take_span-requires-clause-rest g c = rest_reads c.args.table.now g.G.Gate.becomes c.find_plan.ensures.reads.0 _ _ c.find_plan.ensures.reads.1 c.requires.rest
 
 pub returns-in-Answer-clause-run : goal.returns-in-Answer-clause-run
-returns-in-Answer-clause-run g c = reads_run c.args.table.now g.G.Gate.becomes c.find_plan.ensures.reads.0 _ _ c.find_plan.ensures.reads.1
+returns-in-Answer-clause-run g c = none_once c.args.table.now g.G.Gate.becomes _ _ (reads_run c.args.table.now g.G.Gate.becomes c.find_plan.ensures.reads.0 _ _ c.find_plan.ensures.reads.1)
 
 pub returns-in-Answer-clause-rest : goal.returns-in-Answer-clause-rest
 returns-in-Answer-clause-rest g c = rest_reads c.args.table.now g.G.Gate.becomes c.find_plan.ensures.reads.0 _ _ c.find_plan.ensures.reads.1 c.requires.rest
@@ -38,7 +38,7 @@ returns-in-Answer-clause-answered g c k later =
 
 pub returns-then-not-take_span-clause-run : goal.returns-then-not-take_span-clause-run
 returns-then-not-take_span-clause-run g c =
-    runs_trans c.args.table.now g.G.Gate.becomes _ _ _ (reads_run c.args.table.now g.G.Gate.becomes c.find_plan.ensures.reads.0 _ _ c.find_plan.ensures.reads.1) c.take_span.ensures.run
+    run_once c.args.table.now g.G.Gate.becomes _ _ _ (reads_run c.args.table.now g.G.Gate.becomes c.find_plan.ensures.reads.0 _ _ c.find_plan.ensures.reads.1) c.take_span.ensures.run
 
 pub returns-then-not-take_span-clause-refused : goal.returns-then-not-take_span-clause-refused
 returns-then-not-take_span-clause-refused g c k loaded later =
@@ -63,7 +63,7 @@ make_change-requires g c =
 
 pub returns-in-Ok-clause-run : goal.returns-in-Ok-clause-run
 returns-in-Ok-clause-run g c =
-    runs_trans c.args.table.now g.G.Gate.becomes _ _ _ (runs_trans c.args.table.now g.G.Gate.becomes _ _ _ (reads_run c.args.table.now g.G.Gate.becomes c.find_plan.ensures.reads.0 _ _ c.find_plan.ensures.reads.1) c.take_span.ensures.run)
+    once_run c.args.table.now g.G.Gate.becomes _ _ _ (run_once c.args.table.now g.G.Gate.becomes _ _ _ (reads_run c.args.table.now g.G.Gate.becomes c.find_plan.ensures.reads.0 _ _ c.find_plan.ensures.reads.1) c.take_span.ensures.run)
     c.make_change.ensures.run
 
 pub returns-in-Ok-clause-answered : goal.returns-in-Ok-clause-answered
@@ -74,24 +74,24 @@ returns-in-Ok-clause-answered g c k later =
 
 pub returns-in-Err-Nodes-clause-run : goal.returns-in-Err-Nodes-clause-run
 returns-in-Err-Nodes-clause-run g c =
-    runs_trans c.args.table.now g.G.Gate.becomes _ _ _ (runs_trans c.args.table.now g.G.Gate.becomes _ _ _ (reads_run c.args.table.now g.G.Gate.becomes c.find_plan.ensures.reads.0 _ _ c.find_plan.ensures.reads.1) c.take_span.ensures.run)
+    once_run c.args.table.now g.G.Gate.becomes _ _ _ (run_once c.args.table.now g.G.Gate.becomes _ _ _ (reads_run c.args.table.now g.G.Gate.becomes c.find_plan.ensures.reads.0 _ _ c.find_plan.ensures.reads.1) c.take_span.ensures.run)
     c.make_change.ensures.run
 
 pub returns-in-Err-Nodes-clause-refused : goal.returns-in-Err-Nodes-clause-refused
 returns-in-Err-Nodes-clause-refused g c k loaded later =
     let r = c.find_plan.ensures.reads.1 in
-    let there = run_loaded c.args.table.now g.G.Gate.becomes k _ _ (loaded_reads c.args.table.now g.G.Gate.becomes k c.find_plan.ensures.reads.0 _ _ r loaded) c.take_span.ensures.run in
+    let there = run_loaded c.args.table.now g.G.Gate.becomes k _ _ (loaded_reads c.args.table.now g.G.Gate.becomes k c.find_plan.ensures.reads.0 _ _ r loaded) c.take_span.ensures.run.1 in
     refused_nodes c.args.table.now.layout k _ _ there (later_trans (later_trans later (reads_later r)) c.take_span.ensures.later) (subst (HasNoRoom _ _ _) c.in-Err-Nodes.field-0-is c.in-Err-Nodes.ensures.full)
 
 pub returns-in-Err-Leaves-clause-run : goal.returns-in-Err-Leaves-clause-run
 returns-in-Err-Leaves-clause-run g c =
-    runs_trans c.args.table.now g.G.Gate.becomes _ _ _ (runs_trans c.args.table.now g.G.Gate.becomes _ _ _ (reads_run c.args.table.now g.G.Gate.becomes c.find_plan.ensures.reads.0 _ _ c.find_plan.ensures.reads.1) c.take_span.ensures.run)
+    once_run c.args.table.now g.G.Gate.becomes _ _ _ (run_once c.args.table.now g.G.Gate.becomes _ _ _ (reads_run c.args.table.now g.G.Gate.becomes c.find_plan.ensures.reads.0 _ _ c.find_plan.ensures.reads.1) c.take_span.ensures.run)
     c.make_change.ensures.run
 
 pub returns-in-Err-Leaves-clause-refused : goal.returns-in-Err-Leaves-clause-refused
 returns-in-Err-Leaves-clause-refused g c k loaded later =
     let r = c.find_plan.ensures.reads.1 in
-    let there = run_loaded c.args.table.now g.G.Gate.becomes k _ _ (loaded_reads c.args.table.now g.G.Gate.becomes k c.find_plan.ensures.reads.0 _ _ r loaded) c.take_span.ensures.run in
+    let there = run_loaded c.args.table.now g.G.Gate.becomes k _ _ (loaded_reads c.args.table.now g.G.Gate.becomes k c.find_plan.ensures.reads.0 _ _ r loaded) c.take_span.ensures.run.1 in
     refused_leaves c.args.table.now.layout k _ _ there (later_trans (later_trans later (reads_later r)) c.take_span.ensures.later) (subst (HasNoRoom _ _ _) c.in-Err-Leaves.field-0-is c.in-Err-Leaves.ensures.full)
 
 pub returns-in-Err-Leaves-clause-leafless : goal.returns-in-Err-Leaves-clause-leafless

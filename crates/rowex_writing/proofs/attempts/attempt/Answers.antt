@@ -4,7 +4,7 @@ use Rattle.std.proofs.lemmas.Result.{IfErr-weaker, IfOk-weaker}
 use Rattle.rowex_reading.specs.Seen.{since}
 use Rattle.rowex_writing.specs.Ways.{IsWayOf}
 use Rattle.rowex_writing.proofs.Attempting.{searched}
-use Rattle.rowex_writing.proofs.Runs.{run_loaded, runs_trans}
+use Rattle.rowex_writing.proofs.Runs.{run_loaded, run_once}
 use Rattle.rowex_writing.proofs.Counting.{looks_count}
 use Rattle.rowex_writing.proofs.attempts.attempt.Goals as goal
 
@@ -22,12 +22,12 @@ act_on-requires-clause-rest g c = (searched c.args.table.now g.G.Gate.becomes _ 
 pub returns-clause-run : goal.returns-clause-run
 returns-clause-run g c =
     let b = searched c.args.table.now g.G.Gate.becomes _ _ c.search_way-found.ensures.searched c.search_way-found.ensures.possible c.requires.own c.requires.rest in
-    runs_trans c.args.table.now g.G.Gate.becomes _ _ _ b.run c.act_on.ensures.run
+    run_once c.args.table.now g.G.Gate.becomes _ _ _ b.run c.act_on.ensures.run
 
 pub returns-clause-loaded : goal.returns-clause-loaded
 returns-clause-loaded g c =
     let b = searched c.args.table.now g.G.Gate.becomes _ _ c.search_way-found.ensures.searched c.search_way-found.ensures.possible c.requires.own c.requires.rest in
-    run_loaded c.args.table.now g.G.Gate.becomes _ _ _ b.loaded c.act_on.ensures.run
+    run_loaded c.args.table.now g.G.Gate.becomes _ _ _ b.loaded c.act_on.ensures.run.1
 
 pub returns-clause-answered : goal.returns-clause-answered
 returns-clause-answered g c =

@@ -3,9 +3,9 @@ use Rattle.std.proofs.Common.{inr, ◌∙◌, arith}
 use Rattle.rowex_reading.proofs.Seeing.{later_trans}
 use Rattle.rowex_writing.proofs.Onward.{longer, run_possible, run_seat}
 use Rattle.rowex_writing.proofs.Confirming.{span_later}
-use Rattle.rowex_writing.proofs.Runs.{goes_run, runs_trans, works_run}
+use Rattle.rowex_writing.proofs.Runs.{goes_run, once_run, tries_once, works_run}
 use Rattle.rowex_writing.proofs.Spans.{led_nodes}
-use Rattle.rowex_writing.proofs.Ways.{way_later, way_led}
+use Rattle.rowex_writing.proofs.Ways.{way_apart, way_later, way_led}
 use Rattle.rowex_writing.proofs.Works.{works_later, works_seat}
 use Rattle.rowex_writing.proofs.Counting.{slice_few}
 use Rattle.rowex_writing.proofs.attempts.take_span.Goals as goal
@@ -13,40 +13,46 @@ use Rattle.rowex_writing.proofs.attempts.take_span.Goals as goal
 pub lock_span-requires-clause-led : goal.lock_span-requires-clause-led
 lock_span-requires-clause-led g c = way_led c.args.table.now.layout c.args.seat.now.known c.requires.way.0 c.args.key.now c.args.way.now c.args.found c.requires.way.1
 
+pub lock_span-requires-clause-apart : goal.lock_span-requires-clause-apart
+lock_span-requires-clause-apart g c = way_apart c.args.table.now.layout c.args.seat.now.known c.requires.way.0 c.args.key.now c.args.found c.args.way.now c.requires.possible c.requires.way.1
+
+pub returns-then-not-lock_span-clause-run : goal.returns-then-not-lock_span-clause-run
+returns-then-not-lock_span-clause-run g c = tries_once c.args.table.now g.G.Gate.becomes _ _ c.lock_span.ensures.tries
+
 pub returns-then-not-lock_span-clause-later : goal.returns-then-not-lock_span-clause-later
-returns-then-not-lock_span-clause-later g c = works_later c.args.table.now g.G.Gate.becomes _ _ c.lock_span.ensures.works
+returns-then-not-lock_span-clause-later g c = works_later c.args.table.now g.G.Gate.becomes _ _ c.lock_span.ensures.tries.1
 
 pub check_span-requires-clause-own : goal.check_span-requires-clause-own
-check_span-requires-clause-own g c = works_seat c.args.table.now g.G.Gate.becomes _ _ c.lock_span.ensures.works c.requires.own
+check_span-requires-clause-own g c = works_seat c.args.table.now g.G.Gate.becomes _ _ c.lock_span.ensures.tries.1 c.requires.own
 
 pub check_span-requires-clause-possible : goal.check_span-requires-clause-possible
 check_span-requires-clause-possible g c =
-    run_possible c.args.table.now g.G.Gate.becomes _ _ (works_run c.args.table.now g.G.Gate.becomes _ _ c.lock_span.ensures.works) c.requires.possible
+    run_possible c.args.table.now g.G.Gate.becomes _ _ (works_run c.args.table.now g.G.Gate.becomes _ _ c.lock_span.ensures.tries.1) c.requires.possible
 
 pub check_span-requires-clause-way : goal.check_span-requires-clause-way
 check_span-requires-clause-way g c =
-    let later = works_later c.args.table.now g.G.Gate.becomes _ _ c.lock_span.ensures.works in
+    let later = works_later c.args.table.now g.G.Gate.becomes _ _ c.lock_span.ensures.tries.1 in
     (c.requires.way.0, way_later c.args.table.now.layout c.args.seat.now.known c.lock_span.new.seat.known c.requires.way.0 c.args.key.now c.args.way.now c.args.found later c.requires.way.1)
 
 pub returns-then-check_span-clause-run : goal.returns-then-check_span-clause-run
 returns-then-check_span-clause-run g c =
     let table = c.args.table.now in
-    runs_trans table g.G.Gate.becomes _ _ _ (works_run table g.G.Gate.becomes _ _ c.lock_span.ensures.works) (goes_run table g.G.Gate.becomes _ _ c.check_span.ensures.reads.goes)
+    once_run table g.G.Gate.becomes _ _ _ (tries_once table g.G.Gate.becomes _ _ c.lock_span.ensures.tries) (goes_run table g.G.Gate.becomes _ _ c.check_span.ensures.reads.goes)
 
 pub returns-then-check_span-clause-later : goal.returns-then-check_span-clause-later
 returns-then-check_span-clause-later g c =
-    later_trans (works_later c.args.table.now g.G.Gate.becomes _ _ c.lock_span.ensures.works)
+    later_trans (works_later c.args.table.now g.G.Gate.becomes _ _ c.lock_span.ensures.tries.1)
     c.check_span.ensures.reads.goes.stays.0
 
 pub returns-then-check_span-clause-taken : goal.returns-then-check_span-clause-taken
 returns-then-check_span-clause-taken g c e m w =
     let table = c.args.table.now in
     record {
-      seat = run_seat table g.G.Gate.becomes _ _ (goes_run table g.G.Gate.becomes _ _ c.check_span.ensures.reads.goes) (works_seat table g.G.Gate.becomes _ _ c.lock_span.ensures.works c.requires.own);
+      seat = run_seat table g.G.Gate.becomes _ _ (goes_run table g.G.Gate.becomes _ _ c.check_span.ensures.reads.goes) (works_seat table g.G.Gate.becomes _ _ c.lock_span.ensures.tries.1 c.requires.own);
       possible = c.check_span.ensures.possible;
       own = c.check_span.ensures.reads.own ∙ (c.lock_span.ensures.same ∙ c.requires.rest.own);
       way_of = way_later table.layout c.args.seat.now.known c.check_span.new.seat.known m c.args.key.now c.args.way.now c.args.found
-          (later_trans (works_later table g.G.Gate.becomes _ _ c.lock_span.ensures.works) c.check_span.ensures.reads.goes.stays.0) w;
+          (later_trans (works_later table g.G.Gate.becomes _ _ c.lock_span.ensures.tries.1) c.check_span.ensures.reads.goes.stays.0) w;
       locked = span_later _ _ c.args.way.now c.args.span c.check_span.ensures.reads.goes.stays (c.lock_span.ensures.locked c.if-not-lock_span.false);
       checked = c.check_span.ensures.checked c.if-check_span.true;
     }
@@ -54,7 +60,7 @@ returns-then-check_span-clause-taken g c e m w =
 pub undo-requires-clause-own : goal.undo-requires-clause-own
 undo-requires-clause-own g c =
     let table = c.args.table.now in
-    run_seat table g.G.Gate.becomes _ _ (goes_run table g.G.Gate.becomes _ _ c.check_span.ensures.reads.goes) (works_seat table g.G.Gate.becomes _ _ c.lock_span.ensures.works c.requires.own)
+    run_seat table g.G.Gate.becomes _ _ (goes_run table g.G.Gate.becomes _ _ c.check_span.ensures.reads.goes) (works_seat table g.G.Gate.becomes _ _ c.lock_span.ensures.tries.1 c.requires.own)
 
 pub undo-requires-clause-nodes : goal.undo-requires-clause-nodes
 undo-requires-clause-nodes g c =
@@ -64,20 +70,20 @@ undo-requires-clause-nodes g c =
 pub returns-clause-run : goal.returns-clause-run
 returns-clause-run g c =
     let table = c.args.table.now in
-    runs_trans table g.G.Gate.becomes _ _ _
-    (runs_trans table g.G.Gate.becomes _ _ _ (works_run table g.G.Gate.becomes _ _ c.lock_span.ensures.works) (goes_run table g.G.Gate.becomes _ _ c.check_span.ensures.reads.goes))
+    once_run table g.G.Gate.becomes _ _ _
+    (once_run table g.G.Gate.becomes _ _ _ (tries_once table g.G.Gate.becomes _ _ c.lock_span.ensures.tries) (goes_run table g.G.Gate.becomes _ _ c.check_span.ensures.reads.goes))
     (works_run table g.G.Gate.becomes _ _ c.undo.ensures.works)
 
 pub returns-clause-later : goal.returns-clause-later
 returns-clause-later g c =
     let table = c.args.table.now in
-    later_trans (later_trans (works_later table g.G.Gate.becomes _ _ c.lock_span.ensures.works) c.check_span.ensures.reads.goes.stays.0) (works_later table g.G.Gate.becomes _ _ c.undo.ensures.works)
+    later_trans (later_trans (works_later table g.G.Gate.becomes _ _ c.lock_span.ensures.tries.1) c.check_span.ensures.reads.goes.stays.0) (works_later table g.G.Gate.becomes _ _ c.undo.ensures.works)
 
 pub returns-clause-busy : goal.returns-clause-busy
 returns-clause-busy g c t m w =
     let table = c.args.table.now in
     let there = way_later table.layout c.args.seat.now.known c.lock_span.new.seat.known m c.args.key.now c.args.way.now c.args.found
-    (works_later table g.G.Gate.becomes _ _ c.lock_span.ensures.works) w in
+    (works_later table g.G.Gate.becomes _ _ c.lock_span.ensures.tries.1) w in
     let moved = c.check_span.ensures.changed m there c.if-check_span.false in
     let more = longer c.check_span.new.seat.known c.undo.new.seat.known (works_later table g.G.Gate.becomes _ _ c.undo.ensures.works) in
     inr (omega (arith, moved, more))

@@ -2,7 +2,7 @@
 use Rattle.std.proofs.Common.{◌≡◌, ◌-◌, ◌++◌, Some, None, if◌then◌else◌, sym, subst, ◌∙◌, arith, ◌+◌}
 use Rattle.std.specs.Prelude.{slice_range}
 use Rattle.record_words.specs.Entry.{entry_word}
-use Rattle.rowex_walks.specs.Writer.{added_change, item}
+use Rattle.rowex_walks.specs.Writer.{added_change}
 use Rattle.rowex_records.specs.Records.{HoldsJust}
 use Rattle.rowex_writing.specs.Changes.{MayEnd}
 use Rattle.rowex_writing.specs.Locks.{AreNodes}
@@ -16,6 +16,7 @@ use Rattle.rowex_writing.proofs.Counting.{slice_few, times_few}
 use Rattle.rowex_writing.specs.Counts.{level_steps}
 use Rattle.rowex_writing.proofs.growing.grow_with.Goals as goal
 use Rattle.rowex_writing.proofs.growing.grow_with.Goals.{then-stays, else-stays}
+use Rattle.tries.specs.Content.{item}
 
 pub undo-requires-clause-own : goal.undo-requires-clause-own
 undo-requires-clause-own g c = seat_of c.args.table.now g.G.Gate.becomes (c.args.seat.now, c.args.gate.now) (c.raise_grown.new.seat, c.raise_grown.new.gate) c.in_default.ensures.goes c.requires.may.1.growing.lowest.building.seat

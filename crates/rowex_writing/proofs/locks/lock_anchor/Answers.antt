@@ -5,8 +5,8 @@ use Rattle.rowex_writing.proofs.Works.{works_one, anchor_locked, anchor_met, is_
 use Rattle.rowex_writing.proofs.Counting.{step_few}
 use Rattle.rowex_writing.proofs.locks.lock_anchor.Goals as goal
 
-pub returns-clause-works : goal.returns-clause-works
-returns-clause-works g c =
+pub returns-clause-tries : goal.returns-clause-tries
+returns-clause-tries g c =
     works_one c.args.table.now g.G.Gate.becomes (Lock Anchor c.lock-found.result) (c.args.seat.now, c.args.gate.now) (c.lock-found.new.seat, c.lock-found.new.gate) tt c.lock-found.ensures
 
 pub returns-clause-locked : goal.returns-clause-locked

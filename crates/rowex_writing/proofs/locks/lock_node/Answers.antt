@@ -15,8 +15,8 @@ lock-found-requires-clause-may g c =
     let (m, h, since, sure) = led.1 in
     led_may_lock c.args.table.now.layout c.args.seat.now.known m c.args.step.number h since sure
 
-pub returns-clause-works : goal.returns-clause-works
-returns-clause-works g c =
+pub returns-clause-tries : goal.returns-clause-tries
+returns-clause-tries g c =
     works_one c.args.table.now g.G.Gate.becomes (Lock (NodeTarget c.args.step.number) c.lock-found.result) (c.args.seat.now, c.args.gate.now) (c.lock-found.new.seat, c.lock-found.new.gate) tt c.lock-found.ensures
 
 pub returns-clause-locked : goal.returns-clause-locked

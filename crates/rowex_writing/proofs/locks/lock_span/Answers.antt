@@ -3,7 +3,9 @@ use Rattle.std.proofs.Common.{◌≡◌, ◌∷◌, ◌+◌, ◌-◌, refl, sym,
 use Rattle.std.specs.Prelude.{slice_range}
 use Rattle.insert_cases.specs.declared.choice.Step.{Step}
 use Rattle.rowex_writing.specs.Locks.{HasJustLocked, numbers_of}
-use Rattle.rowex_writing.proofs.Works.{works_none, works_more, works_seat, works_later, works_count}
+use Rattle.moments.specs.Trades.{IsOf}
+use Rattle.rowex_writing.proofs.Tried.{TriesNodes, anchor_more, nodes_more, nodes_none, nodes_once, number_new, once_then}
+use Rattle.rowex_writing.proofs.Works.{works_seat, works_later, works_count}
 use Rattle.rowex_writing.proofs.Spans.{slice_more, slice_none, none_taken, locked_more, locked_same, led_one, led_nodes, met_since}
 use Rattle.rowex_writing.proofs.locks.lock_span.Goals as goal
 
@@ -13,7 +15,8 @@ loop-index-init g c = record {
   own = c.requires.own;
   top = c.saturating_sub-first.ensures;
   range = (let e = c.saturating_sub-first.ensures in omega (arith, c.requires.span.0), omega arith);
-  works = works_none c.args.table.now g.G.Gate.becomes (c.args.seat.now, c.args.gate.now);
+  tries = subst (λ z. TriesNodes c.args.table.now g.G.Gate.becomes (numbers_of z) (c.args.seat.now, c.args.gate.now) (c.args.seat.now, c.args.gate.now)) (sym (slice_none c.args.way.now c.args.span.len))
+      (nodes_none c.args.table.now g.G.Gate.becomes (c.args.seat.now, c.args.gate.now));
   locked = subst (λ z. HasJustLocked c.args.seat.now.known (numbers_of z)) (sym (slice_none c.args.way.now c.args.span.len)) (none_taken c.args.seat.now.known c.requires.free.0);
   anchor = c.requires.free.1;
   same = refl;
@@ -23,11 +26,11 @@ pub lock_node-requires-clause-led : goal.lock_node-requires-clause-led
 lock_node-requires-clause-led g c =
     let i = c.loop-index.invariant in
     led_one c.args.table.now.layout c.args.seat.now.known c.loop-index.seat.known c.args.way.now (c.loop-index.index - 1) _ (omega (arith, c.loop-index-test.true, i.range.1, c.requires.span.1))
-    (works_later c.args.table.now g.G.Gate.becomes (c.args.seat.now, c.args.gate.now) (c.loop-index.seat, c.loop-index.gate) i.works) c.requires.led
+    (works_later c.args.table.now g.G.Gate.becomes (c.args.seat.now, c.args.gate.now) (c.loop-index.seat, c.loop-index.gate) i.tries.run) c.requires.led
 
 pub unlock_nodes-requires-clause-own : goal.unlock_nodes-requires-clause-own
 unlock_nodes-requires-clause-own g c =
-    works_seat c.args.table.now g.G.Gate.becomes (c.loop-index.seat, c.loop-index.gate) (c.lock_node.new.seat, c.lock_node.new.gate) c.lock_node.ensures.works c.loop-index.invariant.own
+    works_seat c.args.table.now g.G.Gate.becomes (c.loop-index.seat, c.loop-index.gate) (c.lock_node.new.seat, c.lock_node.new.gate) c.lock_node.ensures.tries c.loop-index.invariant.own
 
 pub unlock_nodes-requires-clause-nodes : goal.unlock_nodes-requires-clause-nodes
 unlock_nodes-requires-clause-nodes g c = led_nodes c.args.table.now.layout c.args.seat.now.known c.args.way.now (c.loop-index.index - 1 + 1) c.args.span.len c.requires.led
@@ -39,9 +42,14 @@ unlock_nodes-requires-clause-locked g c =
     let at : c.loop-index.index ≡ c.loop-index.index - 1 + 1 = omega (arith, c.loop-index-test.true) in
     locked_same c.loop-index.seat.known c.lock_node.new.seat.known _ r.1 (subst (λ n. HasJustLocked c.loop-index.seat.known (numbers_of (slice_range c.args.way.now n c.args.span.len))) at i.locked)
 
-pub returns-then-not-lock_node-clause-works : goal.returns-then-not-lock_node-clause-works
-returns-then-not-lock_node-clause-works g c =
-    works_more c.args.table.now g.G.Gate.becomes _ _ _ (works_more c.args.table.now g.G.Gate.becomes _ _ _ c.loop-index.invariant.works c.lock_node.ensures.works) c.unlock_nodes.ensures.works
+pub returns-then-not-lock_node-clause-tries : goal.returns-then-not-lock_node-clause-tries
+returns-then-not-lock_node-clause-tries g c =
+    let i = c.loop-index.invariant in
+    let at : c.loop-index.index ≡ c.loop-index.index - 1 + 1 = omega (arith, c.loop-index-test.true) in
+    let table = c.args.table.now in
+    let so_far = subst (λ n. TriesNodes table g.G.Gate.becomes (numbers_of (slice_range c.args.way.now n c.args.span.len)) (c.args.seat.now, c.args.gate.now) (c.loop-index.seat, c.loop-index.gate)) at i.tries in
+    let one_more = nodes_more table g.G.Gate.becomes _ _ _ _ _ (number_new c.args.way.now (c.loop-index.index - 1) c.args.span.len _ (omega (arith, c.loop-index-test.true, i.range.1)) c.requires.span.1 c.requires.apart) so_far c.lock_node.ensures.tries in
+    once_then table g.G.Gate.becomes _ _ _ (nodes_once table g.G.Gate.becomes _ _ _ one_more) c.unlock_nodes.ensures.works
 
 pub returns-then-not-lock_node-clause-same : goal.returns-then-not-lock_node-clause-same
 returns-then-not-lock_node-clause-same g c = c.unlock_nodes.ensures.rest.0 ∙ ((c.lock_node.ensures.refused c.if-not-lock_node.true).3 ∙ c.loop-index.invariant.same)
@@ -53,7 +61,7 @@ returns-then-not-lock_node-clause-refused g c e =
     let u = c.unlock_nodes.ensures in (
       (u.free, u.rest.1 ∙ (r.2 ∙ i.anchor)),
       met_since c.args.seat.now.known c.loop-index.seat.known c.lock_node.new.seat.known c.unlock_nodes.new.seat.known
-          (works_count c.args.table.now g.G.Gate.becomes (c.args.seat.now, c.args.gate.now) (c.loop-index.seat, c.loop-index.gate) i.works) u.rest.4 r.0,
+          (works_count c.args.table.now g.G.Gate.becomes (c.args.seat.now, c.args.gate.now) (c.loop-index.seat, c.loop-index.gate) i.tries.run) u.rest.4 r.0,
     )
 
 pub loop-index-preserved : goal.loop-index-preserved
@@ -64,16 +72,22 @@ loop-index-preserved g c =
     let d : Step = record { number = 0; height = 0; first_position = 0; count = 0; at = 0 } in
     let part = slice_more c.args.way.now (c.loop-index.index - 1) c.args.span.len d (omega (arith, c.loop-index-test.true, i.range.1)) c.requires.span.1 ∙
     ap (λ n. get_or c.args.way.now (c.loop-index.index - 1) d ∷ slice_range c.args.way.now n c.args.span.len) at in
+    let fresh = number_new c.args.way.now (c.loop-index.index - 1) c.args.span.len d (omega (arith, c.loop-index-test.true, i.range.1)) c.requires.span.1 c.requires.apart in
+    let new = subst (λ n. IsOf (get_or c.args.way.now (c.loop-index.index - 1) d).number (numbers_of (slice_range c.args.way.now n c.args.span.len)) → ⊥) at fresh in
     record {
       few = omega (arith, i.few, i.range.1, c.loop-index-test.true, c.lock_node.ensures.few);
-      own = works_seat c.args.table.now g.G.Gate.becomes (c.loop-index.seat, c.loop-index.gate) (c.lock_node.new.seat, c.lock_node.new.gate) c.lock_node.ensures.works i.own;
+      own = works_seat c.args.table.now g.G.Gate.becomes (c.loop-index.seat, c.loop-index.gate) (c.lock_node.new.seat, c.lock_node.new.gate) c.lock_node.ensures.tries i.own;
       top = i.top;
       range = (omega (arith, c.loop-index-test.true), omega (arith, i.range.1));
-      works = works_more c.args.table.now g.G.Gate.becomes _ _ _ i.works c.lock_node.ensures.works;
+      tries = subst (λ z. TriesNodes c.args.table.now g.G.Gate.becomes (numbers_of z) (c.args.seat.now, c.args.gate.now) (c.lock_node.new.seat, c.lock_node.new.gate)) (sym part)
+          (nodes_more c.args.table.now g.G.Gate.becomes _ _ _ _ _ new i.tries c.lock_node.ensures.tries);
       locked = subst (λ z. HasJustLocked c.lock_node.new.seat.known (numbers_of z)) (sym part) (locked_more c.loop-index.seat.known c.lock_node.new.seat.known _ _ l i.locked);
       anchor = l.3 ∙ i.anchor;
       same = l.2 ∙ i.same;
     }
+
+pub returns-then-span-gt0-clause-tries : goal.returns-then-span-gt0-clause-tries
+returns-then-span-gt0-clause-tries g c = nodes_once c.args.table.now g.G.Gate.becomes _ _ _ c.loop-index.invariant.tries
 
 pub returns-then-span-gt0-clause-locked : goal.returns-then-span-gt0-clause-locked
 returns-then-span-gt0-clause-locked g c e =
@@ -85,8 +99,8 @@ returns-then-span-gt0-clause-locked g c e =
       below = λ z. i.anchor;
     }
 
-pub returns-then-lock_anchor-clause-works : goal.returns-then-lock_anchor-clause-works
-returns-then-lock_anchor-clause-works g c = works_more c.args.table.now g.G.Gate.becomes _ _ _ c.loop-index.invariant.works c.lock_anchor.ensures.works
+pub returns-then-lock_anchor-clause-tries : goal.returns-then-lock_anchor-clause-tries
+returns-then-lock_anchor-clause-tries g c = anchor_more c.args.table.now g.G.Gate.becomes _ _ _ _ c.loop-index.invariant.tries c.lock_anchor.ensures.tries
 
 pub returns-then-lock_anchor-clause-locked : goal.returns-then-lock_anchor-clause-locked
 returns-then-lock_anchor-clause-locked g c e =
@@ -102,7 +116,7 @@ returns-then-lock_anchor-clause-locked g c e =
 
 pub unlock_nodes-requires-2-clause-own : goal.unlock_nodes-requires-2-clause-own
 unlock_nodes-requires-2-clause-own g c =
-    works_seat c.args.table.now g.G.Gate.becomes (c.loop-index.seat, c.loop-index.gate) (c.lock_anchor.new.seat, c.lock_anchor.new.gate) c.lock_anchor.ensures.works c.loop-index.invariant.own
+    works_seat c.args.table.now g.G.Gate.becomes (c.loop-index.seat, c.loop-index.gate) (c.lock_anchor.new.seat, c.lock_anchor.new.gate) c.lock_anchor.ensures.tries c.loop-index.invariant.own
 
 pub unlock_nodes-requires-2-clause-nodes : goal.unlock_nodes-requires-2-clause-nodes
 unlock_nodes-requires-2-clause-nodes g c = led_nodes c.args.table.now.layout c.args.seat.now.known c.args.way.now c.loop-index.index c.args.span.len c.requires.led
@@ -111,9 +125,9 @@ pub unlock_nodes-requires-2-clause-locked : goal.unlock_nodes-requires-2-clause-
 unlock_nodes-requires-2-clause-locked g c =
     locked_same c.loop-index.seat.known c.lock_anchor.new.seat.known _ (c.lock_anchor.ensures.refused c.if-lock_anchor.false).1 c.loop-index.invariant.locked
 
-pub returns-clause-works : goal.returns-clause-works
-returns-clause-works g c =
-    works_more c.args.table.now g.G.Gate.becomes _ _ _ (works_more c.args.table.now g.G.Gate.becomes _ _ _ c.loop-index.invariant.works c.lock_anchor.ensures.works) c.unlock_nodes-2.ensures.works
+pub returns-clause-tries : goal.returns-clause-tries
+returns-clause-tries g c =
+    once_then c.args.table.now g.G.Gate.becomes _ _ _ (anchor_more c.args.table.now g.G.Gate.becomes _ _ _ _ c.loop-index.invariant.tries c.lock_anchor.ensures.tries) c.unlock_nodes-2.ensures.works
 
 pub returns-clause-refused : goal.returns-clause-refused
 returns-clause-refused g c e =
@@ -122,5 +136,5 @@ returns-clause-refused g c e =
     let u = c.unlock_nodes-2.ensures in (
       (u.free, u.rest.1 ∙ (r.2 ∙ i.anchor)),
       met_since c.args.seat.now.known c.loop-index.seat.known c.lock_anchor.new.seat.known c.unlock_nodes-2.new.seat.known
-          (works_count c.args.table.now g.G.Gate.becomes (c.args.seat.now, c.args.gate.now) (c.loop-index.seat, c.loop-index.gate) i.works) u.rest.4 r.0,
+          (works_count c.args.table.now g.G.Gate.becomes (c.args.seat.now, c.args.gate.now) (c.loop-index.seat, c.loop-index.gate) i.tries.run) u.rest.4 r.0,
     )

@@ -2,7 +2,8 @@
 use Rattle.std.proofs.Common.{◌-◌, ◌≡◌, ◌≤◌, None, ◌+◌}
 use Rattle.std.specs.Prelude.{slice_range}
 use Rattle.rowex_table.specs.Seats.{IsSeatOf}
-use Rattle.rowex_writing.specs.Locks.{HasJustLocked, Works, numbers_of}
+use Rattle.rowex_writing.specs.Locks.{HasJustLocked, numbers_of}
+use Rattle.rowex_writing.proofs.Tried.{TriesNodes}
 use Rattle.rowex_writing.proofs.locks.lock_span.Given as goal
 
 abbrev pub invariant-loop-index : goal.invariant-loop-index
@@ -10,7 +11,7 @@ invariant-loop-index g l = record {
   own : IsSeatOf l.table l.seat;
   top : l.first ≡ l.span.end - 1;
   range : (l.first ≤ l.index) × (l.index ≤ l.span.len);
-  works : Works l.table g.G.Gate.becomes (l.fn.seat, l.fn.gate) (l.seat, l.gate);
+  tries : TriesNodes l.table g.G.Gate.becomes (numbers_of (slice_range l.way l.index l.span.len)) (l.fn.seat, l.fn.gate) (l.seat, l.gate);
   locked : HasJustLocked l.seat.known (numbers_of (slice_range l.way l.index l.span.len));
   anchor : l.seat.known.anchor ≡ None;
   same : l.seat.known.own ≡ l.fn.seat.known.own;

@@ -8,7 +8,7 @@ use Rattle.rowex_table.specs.Made.{nodes_of}
 use Rattle.rowex_records.specs.Records.{HoldsJust}
 use Rattle.rowex_rights.specs.Rises.{of_leaf}
 use Rattle.rowex_rights.proofs.Loops.{later_on}
-use Rattle.rowex_walks.specs.Writer.{item, added_change}
+use Rattle.rowex_walks.specs.Writer.{added_change}
 use Rattle.rowex_writing.specs.Changes.{IsStored, MayEnd}
 use Rattle.rowex_writing.specs.Locks.{AreNodes, HasJustLocked, numbers_of}
 use Rattle.rowex_writing.specs.Retiring.{AreRecords}
@@ -20,6 +20,7 @@ use Rattle.rowex_writing.proofs.Keeping.{missed_on, made_held, made_records, all
 use Rattle.rowex_writing.proofs.Placing.{pair_here, pair_len, pair_tree, leaf_at, found_is_key, above_locked, above_nodes, above_anchor, spot_there, pair_may}
 use Rattle.rowex_writing.proofs.Counting.{slice_few}
 use Rattle.rowex_writing.proofs.pairing.pair_leaf.Goals as goal
+use Rattle.tries.specs.Content.{item}
 
 pub node_above-above-requires : goal.node_above-above-requires
 node_above-above-requires g c =

@@ -3,12 +3,12 @@ use Rattle.std.proofs.Common.{◌∷◌, [], ◌++◌, subst, sym, ap, ◌∙◌
 use Rattle.record_words.specs.Leaf.{leaf_words}
 use Rattle.moments.specs.declared.Rec.TheVariants.{Leaf as a_leaf}
 use Rattle.rowex_rights.specs.Rises.{of_leaf}
-use Rattle.rowex_walks.specs.Writer.{item}
 use Rattle.rowex_writing.specs.Building.{IsBuilding}
 use Rattle.rowex_writing.proofs.Locking.{goes_more}
 use Rattle.rowex_writing.proofs.Making.{none_on, claim_on, fill_on, building_none, building_more}
 use Rattle.rowex_writing.proofs.Counting.{claim_few, none_count}
 use Rattle.rowex_writing.proofs.publishing.make_leaf.Goals as goal
+use Rattle.tries.specs.Content.{item}
 
 pub returns-in_err-number-clause-goes : goal.returns-in_err-number-clause-goes
 returns-in_err-number-clause-goes g c = none_on c.args.table.now g.G.Gate.becomes _ _ _ _ _ _ c.in_err-number.ensures.claims

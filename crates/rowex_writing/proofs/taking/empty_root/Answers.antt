@@ -2,11 +2,12 @@
 use Rattle.std.proofs.Common.{[], ◌∷◌, ◌∙◌, ap, sym, subst, Some, refl, ◌++◌}
 use Rattle.moments.specs.declared.Rec.TheVariants.{Leaf as a_leaf}
 use Rattle.rowex_core.specs.declared.event.Spot.TheVariants.{Root}
-use Rattle.rowex_walks.specs.Writer.{item, removed_change}
+use Rattle.rowex_walks.specs.Writer.{removed_change}
 use Rattle.rowex_writing.specs.Changes.{MayEnd}
 use Rattle.rowex_writing.specs.Retiring.{AreRecords}
 use Rattle.rowex_writing.proofs.Removing.{may_empty, only_records}
 use Rattle.rowex_writing.proofs.taking.empty_root.Goals as goal
+use Rattle.tries.specs.Content.{item}
 
 pub publish_change-requires-clause-may : goal.publish_change-requires-clause-may
 publish_change-requires-clause-may g c =

@@ -10,7 +10,7 @@ use Rattle.rowex_core.specs.Having.{AreKept}
 use Rattle.rowex_records.specs.Records.{HoldsJust}
 use Rattle.rowex_rights.proofs.Loops.{later_on}
 use Rattle.rowex_table.specs.Made.{nodes_of}
-use Rattle.rowex_walks.specs.Writer.{item, removed_change}
+use Rattle.rowex_walks.specs.Writer.{removed_change}
 use Rattle.rowex_writing.specs.Changes.{MayEnd}
 use Rattle.rowex_writing.specs.Locks.{numbers_of}
 use Rattle.rowex_writing.specs.Retiring.{AreRecords}
@@ -21,6 +21,7 @@ use Rattle.rowex_writing.proofs.Runs.{goes_run, runs_trans, works_run}
 use Rattle.rowex_writing.proofs.Works.{works_later}
 use Rattle.rowex_writing.proofs.Counting.{slice_few}
 use Rattle.rowex_writing.proofs.taking.remake_without.Goals as goal
+use Rattle.tries.specs.Content.{item}
 
 pub raise_without-requires-clause-locked : goal.raise_without-requires-clause-locked
 raise_without-requires-clause-locked g c =

@@ -1,0 +1,125 @@
+-- The locks that steps try: each once at most.
+use Rattle.std.proofs.Common.{◌≡◌, ◌⊎◌, inl, inr, ℕ, zero, suc, ◌+◌, ◌-◌, ◌<◌, ◌≤◌, List, [], ◌∷◌, ◌++◌, length, get_or, take, drop, map, refl, sym, ap, subst, ◌∙◌, arith}
+use Rattle.std.specs.Prelude.{All, slice_range}
+use Rattle.std.proofs.lemmas.List.{append-nil}
+use Rattle.std.proofs.lemmas.List.Elements.{All-append, All-head, All-tail}
+use Rattle.insert_cases.specs.declared.choice.Step.{Step}
+use Rattle.moments.specs.Trades.{AreApart, IsOf}
+use Rattle.moments.proofs.Members.{of_append, of_map, map_of}
+use Rattle.rowex_core.specs.declared.event.Act.{Act}
+use Rattle.rowex_core.specs.declared.event.Act.TheVariants.{Lock}
+use Rattle.rowex_core.specs.declared.event.Event.{Event}
+use Rattle.rowex_core.specs.declared.event.Target.{Target}
+use Rattle.rowex_core.specs.declared.event.Target.TheVariants.{Anchor, Node as NodeTarget}
+use Rattle.rowex_table.specs.Seats.{TableView, SeatView}
+use Rattle.rowex_table.proofs.Running.{runs_append}
+use Rattle.rowex_writing.specs.Going.{IsQuiet}
+use Rattle.rowex_writing.specs.Locks.{IsPlain, Tries, TriesLocksOnce, TriesOnce, Works, numbers_of, targets_of}
+use Rattle.rowex_writing.proofs.Spans.{slice_more}
+
+-- ---- of two lists
+pub targets_append : (xs ys : List Act) → targets_of (xs ++ ys) ≡ targets_of xs ++ targets_of ys
+targets_append [] ys = refl
+targets_append (Lock target found ∷ xs) ys = ap (λ z. target ∷ z) (targets_append xs ys)
+targets_append (act ∷ xs) ys = targets_append xs ys
+
+-- no lock is tried after the first
+pub once_before : (xs ys : List Act) → TriesLocksOnce xs → targets_of ys ≡ [] → TriesLocksOnce (xs ++ ys)
+once_before xs ys once none = subst AreApart (sym (targets_append xs ys ∙ (ap (λ z. targets_of xs ++ z) none ∙ append-nil (targets_of xs)))) once
+
+-- or before the second
+pub once_after : (xs ys : List Act) → targets_of xs ≡ [] → TriesLocksOnce ys → TriesLocksOnce (xs ++ ys)
+once_after xs ys none once = subst AreApart (sym (targets_append xs ys ∙ ap (λ z. z ++ targets_of ys) none)) once
+
+pub quiet_tries_none : (acts : List Act) → All IsQuiet acts → targets_of acts ≡ []
+quiet_tries_none [] all = refl
+quiet_tries_none (Lock target found ∷ acts) all = absurd (All-head IsQuiet (Lock target found) acts all)
+quiet_tries_none (act ∷ acts) all = quiet_tries_none acts (All-tail IsQuiet act acts all)
+
+-- ---- lists in which none stands twice
+apart_end : {X : Type 0} (x : X) (xs : List X) → AreApart xs → (IsOf x xs → ⊥) → AreApart (xs ++ x ∷ [])
+apart_end x [] apart new = ((λ i. i), tt)
+apart_end x (y ∷ xs) apart new = (
+  λ i. elim (of_append y xs (x ∷ []) i) [ inl older ↦ apart.0 older | inr last ↦ elim last [ inl e ↦ new (inl (sym e)) | inr none ↦ none ] ],
+  apart_end x xs apart.1 (λ i. new (inr i)),
+)
+
+of_take : (n number : ℕ) (way : List Step) → IsOf number (numbers_of (take n way)) → IsOf number (numbers_of way)
+of_take zero number way i = absurd i
+of_take (suc n) number [] i = i
+of_take (suc n) number (s ∷ way) (inl e) = inl e
+of_take (suc n) number (s ∷ way) (inr i) = inr (of_take n number way i)
+
+apart_take : (n : ℕ) (way : List Step) → AreApart (numbers_of way) → AreApart (numbers_of (take n way))
+apart_take zero way apart = tt
+apart_take (suc n) [] apart = tt
+apart_take (suc n) (s ∷ way) apart = (λ i. apart.0 (of_take n s.number way i), apart_take n way apart.1)
+
+apart_drop : (n : ℕ) (way : List Step) → AreApart (numbers_of way) → AreApart (numbers_of (drop n way))
+apart_drop zero way apart = apart
+apart_drop (suc n) [] apart = tt
+apart_drop (suc n) (s ∷ way) apart = apart_drop n way apart.1
+
+-- a node of a way is none of those that follow
+pub number_new : (way : List Step) (i j : ℕ) (d : Step) → i < j → j ≤ length way → AreApart (numbers_of way) → IsOf (get_or way i d).number (numbers_of (slice_range way (i + 1) j)) → ⊥
+number_new way i j d low high apart =
+    (subst (λ z. AreApart (numbers_of z)) (slice_more way i j d low high) (apart_take (j - i) (drop i way) (apart_drop i way apart))).0
+
+-- ---- steps of a pass
+same_number : (n m : ℕ) → NodeTarget n ≡ NodeTarget m → n ≡ m
+same_number n m e = ap number_of e
+  where
+    number_of : Target → ℕ
+    number_of (NodeTarget i) = i
+    number_of Anchor = 0
+
+module _ {G : Type 0} (table : TableView) (becomes : G → Event → G → Type 0) where
+  pub tries_more : {s t : List Target} (a m b : SeatView × G) → Tries table becomes s a m → Tries table becomes t m b → Tries table becomes (s ++ t) a b
+  tries_more {s} {t} a m b first second = record {
+    acts = first.acts ++ second.acts;
+    plain = All-append IsPlain first.acts second.acts first.plain second.plain;
+    tried_are = targets_append first.acts second.acts ∙ (ap (λ z. z ++ targets_of second.acts) first.tried_are ∙ ap (λ z. s ++ z) second.tried_are);
+    steps = runs_append table becomes first.acts second.acts a m b first.steps second.steps;
+  }
+
+  -- Each is tried once, and these are locks of these nodes.
+  pub record TriesNodes (nodes : List ℕ) (a b : SeatView × G) : Type 0 where
+    pub tried : List Target
+    pub run : Tries table becomes tried a b
+    pub once : TriesLocksOnce run.acts
+    pub among : (t : Target) → IsOf t tried → IsOf t (map NodeTarget nodes)
+
+  pub nodes_none : (a : SeatView × G) → TriesNodes [] a a
+  nodes_none a = record { tried = []; run = record { acts = []; plain = λ i d low. absurd (omega arith); tried_are = refl; steps = refl }; once = tt; among = λ t i. i }
+
+  pub nodes_once : (ns : List ℕ) (a b : SeatView × G) → TriesNodes ns a b → TriesOnce table becomes a b
+  nodes_once ns a b h = (h.tried, h.run, h.once)
+
+  -- a lock more, which is none of those before
+  apart_more : (target : Target) (tried : List Target) (a b : SeatView × G) (run : Tries table becomes tried a b) → TriesLocksOnce run.acts → (IsOf target tried → ⊥) → AreApart (tried ++ target ∷ [])
+  apart_more target tried a b run once new = apart_end target tried (subst AreApart run.tried_are once) new
+
+  -- of a node
+  pub nodes_more : (n : ℕ) (ns : List ℕ) (a m b : SeatView × G) → (IsOf n ns → ⊥) → TriesNodes ns a m → Tries table becomes (NodeTarget n ∷ []) m b → TriesNodes (n ∷ ns) a b
+  nodes_more n ns a m b new h lock =
+      let all = tries_more a m b h.run lock in
+      record { tried = h.tried ++ NodeTarget n ∷ []; run = all; once = subst AreApart (sym all.tried_are) (apart_more (NodeTarget n) h.tried a m h.run h.once none); among = within }
+    where
+      none : IsOf (NodeTarget n) h.tried → ⊥
+      none i = let (x, there, e) = of_map NodeTarget (NodeTarget n) ns (h.among (NodeTarget n) i) in new (subst (λ z. IsOf z ns) (sym (same_number n x e)) there)
+
+      within : (t : Target) → IsOf t (h.tried ++ NodeTarget n ∷ []) → IsOf t (map NodeTarget (n ∷ ns))
+      within t i = elim (of_append t h.tried (NodeTarget n ∷ []) i) [ inl older ↦ inr (h.among t older) | inr last ↦ elim last [ inl e ↦ inl e | inr nothing ↦ absurd nothing ] ]
+
+  -- of the anchor
+  pub anchor_more : (ns : List ℕ) (a m b : SeatView × G) → TriesNodes ns a m → Tries table becomes (Anchor ∷ []) m b → TriesOnce table becomes a b
+  anchor_more ns a m b h lock =
+      let all = tries_more a m b h.run lock in (h.tried ++ Anchor ∷ [], all, subst AreApart (sym all.tried_are) (apart_more Anchor h.tried a m h.run h.once none))
+    where
+      none : IsOf Anchor h.tried → ⊥
+      none i = let (x, there, e) = of_map NodeTarget Anchor ns (h.among Anchor i) in cc
+
+  -- and then none
+  pub once_then : (a m b : SeatView × G) → TriesOnce table becomes a m → Works table becomes m b → TriesOnce table becomes a b
+  unfolding tries_more
+  once_then a m b (tried, run, once) works = (tried ++ [], tries_more a m b run works, once_before run.acts works.acts once works.tried_are)
