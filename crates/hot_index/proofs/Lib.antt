@@ -2,6 +2,7 @@
 pub mod Tracing
 pub mod Noting
 pub mod Walking
+pub mod Starting
 pub mod Scanned
 pub mod Collected
 pub mod Trying

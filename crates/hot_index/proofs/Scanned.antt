@@ -1,7 +1,7 @@
 -- How a scan ends: its pass clears the pin, and adds no note.
 use Rattle.std.specs.Prelude.{IsSome, IfOk, OnErr, Result, Ok, Err}
 use Rattle.std.specs.declared.alloc.AllocError.{AllocError}
-use Rattle.std.proofs.Common.{◌≡◌, ℕ, List, [], ◌++◌, Bool, true, false, Some, refl, sym, ap, subst, ◌∙◌, le_refl}
+use Rattle.std.proofs.Common.{◌≡◌, ℕ, List, [], ◌++◌, Bool, true, false, Some, refl, sym, ap, subst, ◌∙◌, le_refl, ◌+◌, ◌≤◌, arith}
 use Rattle.std.proofs.lemmas.List.{append-nil}
 use Rattle.hot_model.specs.declared.Change.{Change}
 use Rattle.hot_model.specs.declared.Note.{Note}
@@ -13,12 +13,14 @@ use Rattle.key_bits.specs.Key.{IsKey}
 use Rattle.record_words.specs.declared.layout.Layout.{Layout}
 use Rattle.moments.specs.declared.Pin.{Pin}
 use Rattle.moments.specs.State.{IsSteady}
-use Rattle.moments.specs.Told.{IsTold}
+use Rattle.moments.specs.Told.{TellChanges}
 use Rattle.rowex_core.specs.declared.event.Act.TheVariants.{ClearPin}
 use Rattle.rowex_core.specs.declared.known.Known.{Known}
 use Rattle.rowex_core.specs.Knowing.{IsEvent}
-use Rattle.rowex_table.specs.Runs.{silent}
-use Rattle.rowex_table.specs.Seats.{SeatView}
+use Rattle.rowex_table.specs.Runs.{StepsWith, silent}
+use Rattle.epochs.specs.Runs.{Pins}
+use Rattle.rowex_core.specs.declared.event.Event.{Event}
+use Rattle.rowex_table.specs.Seats.{SeatView, TableView}
 use Rattle.rowex_walks.specs.Scan.{Range}
 use Rattle.rowex_walks.proofs.Fronts.{complete_lawful, cut_lawful}
 use Rattle.hot_index.specs.Passes.{IsSettled, pass_of}
@@ -46,8 +48,8 @@ lawful_scan : (k : Known) (g : Range) (scan : Scan) (layout : Layout) (said : Kn
 lawful_scan k g scan layout said j kf ku p pin h event =
     subst (λ (z : List Change). IsLawfulScan k.fresh.front z g.from g.upto g.limit scan) (sym event.knows.seen.fresh.1) (go scan.more refl (h.answer event.core event.lawful (event_recalls event)))
   where
-    told : IsTold (seen event.core k) (k.fresh.front ++ event.knows.seen.fresh.0)
-    told = subst (λ (z : List Change). IsTold (seen event.core k) z) event.knows.seen.fresh.1 (seen_told event.lawful (event_recalls event))
+    told : TellChanges (seen event.core k) (k.fresh.front ++ event.knows.seen.fresh.0)
+    told = subst (λ (z : List Change). TellChanges (seen event.core k) z) event.knows.seen.fresh.1 (seen_told event.lawful (event_recalls event))
 
     steady : IsSteady (seen event.core k) p.moment
     steady = seen_steady event.lawful (event_recalls event) (p, pin, le_refl p.moment)
@@ -91,3 +93,11 @@ module _ {layout : Layout} {i : Known} (s t : SeatView) (settled : IsSettled s.k
         subst (λ (z : Known). IsLawfulScan z.fresh.front z.front g.from g.upto g.limit scan) (sym event.learned_is) (lawful_scan i g scan layout silent t.known keys.0 keys.1 p.0 p.1 h event);
     legal = legal_then;
   }
+
+-- The steps of a scan: pinned by two, unpinned by one.
+pub scan_counted : {G : Type 0} {table : TableView} {becomes : G → Event → G → Type 0} {a b c d : SeatView × G} {said : Known → List Note} (loads : ℕ) → Pins table becomes a b →
+    c.0.known.steps ≤ b.0.known.steps + (1 + loads) → StepsWith table becomes ClearPin said c d → d.0.known.steps ≤ a.0.known.steps + (4 + loads)
+scan_counted {a = a} {b = b} {c = c} {d = d} loads pins few end =
+    let first : b.0.known.steps ≡ a.0.known.steps + 2 = ap (λ (z : Known). z.steps) pins.1.rest in
+    let third : d.0.known.steps ≡ c.0.known.steps + 1 = ap (λ (z : Known). z.steps) end.event.learned_is in
+    omega (arith, first, few, third)

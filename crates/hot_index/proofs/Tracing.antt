@@ -1,20 +1,60 @@
 -- The steps of a call, and what its gate was told.
-use Rattle.std.proofs.Common.{ℕ, List, [], ◌∷◌, ◌++◌, refl, sym, ap, subst}
+use Rattle.std.proofs.Common.{ℕ, ◌+◌, ◌≤◌, List, [], ◌∷◌, ◌++◌, Bool, true, false, nat_lt, if◌then◌else◌, inl, inr, refl, sym, ap, subst}
+use Rattle.std.specs.Prelude.{All}
+use Rattle.std.proofs.lemmas.List.Elements.{All-append, All-cons, All-nil, All-weaker}
+use Rattle.record_words.specs.declared.TheConstants.{EPOCHS}
+use Rattle.record_words.specs.declared.state.Tag.TheVariants.{Obsolete}
+use Rattle.record_words.specs.State.{state_word}
+use Rattle.moments.specs.declared.Rec.{Rec}
+use Rattle.moments.specs.declared.Rec.TheVariants.{Node as a_node, Leaf as a_leaf}
 use Rattle.hot_model.specs.declared.Note.{Note}
 use Rattle.rowex_core.specs.declared.event.Act.{Act}
-use Rattle.rowex_core.specs.declared.event.Act.TheVariants.{ClearPin, LoadEpoch, LoadRef, SetPin}
+use Rattle.rowex_core.specs.declared.event.Act.TheVariants.{Advance, ClearPin, GiveBack, LoadEpoch, LoadPin, LoadRef, LoadState, SetPin}
 use Rattle.rowex_core.specs.declared.event.Event.{Event}
 use Rattle.rowex_core.specs.declared.event.Spot.TheVariants.{Root}
 use Rattle.rowex_core.specs.declared.known.Known.{Known}
 use Rattle.rowex_table.specs.Runs.{Ends, IsTold, Runs, StepsWith, events_of, silent}
 use Rattle.rowex_table.specs.Seats.{TableView, SeatView}
+use Rattle.rowex_table.specs.Stays.{LeavesPin}
 use Rattle.rowex_table.proofs.Running.{ends_told, runs_append, runs_one}
-use Rattle.epochs.specs.Rounds.{IsRound, advance_steps}
+use Rattle.epochs.specs.Rounds.{IsRound, LoadsPin, Visits, advance_steps}
 use Rattle.epochs.specs.Runs.{Pins}
 use Rattle.rowex_reading.specs.Reads.{Looks}
-use Rattle.rowex_writing.specs.Changes.{HasRun}
+use Rattle.rowex_writing.specs.Changes.{HasTriedOnce}
+use Rattle.rowex_writing.specs.Going.{IsQuiet}
+use Rattle.rowex_writing.proofs.Making.{in_turn_plain}
+use Rattle.rowex_writing.proofs.Runs.{quiet_recalls, recalls_pin}
+use Rattle.rowex_writing.proofs.Tried.{quiet_tries_none}
+use Rattle.hot_index.specs.Counts.{try_steps}
 use Rattle.hot_index.specs.Passes.{PassView, pass_of}
-use Rattle.hot_index.specs.Traces.{HasCollected, HasEnded, HasMade, HasRead, reading, untold}
+use Rattle.hot_index.specs.Traces.{AreAttempts, HasCollected, HasEnded, HasGot, HasMade, HasRead, IsAttempt, reading, untold}
+
+-- No step of a round sets or clears the pin, and none tries a lock.
+advance_quiet : (epoch found : ℕ) → All IsQuiet (advance_steps epoch found)
+advance_quiet epoch found = cases (nat_lt (epoch + 1) EPOCHS)
+  where
+    cases : (t : Bool) → All IsQuiet (if t then Advance epoch found ∷ [] else [])
+    cases true = All-cons IsQuiet (Advance epoch found) [] tt (All-nil IsQuiet)
+    cases false = All-nil IsQuiet
+
+visit_quiet : (bound : ℕ) (r : Rec) (acts : List Act) → Visits bound r acts → All IsQuiet acts
+visit_quiet bound r _ (Visits.passes word not) = All-cons IsQuiet (LoadState r word) [] tt (All-nil IsQuiet)
+visit_quiet bound r _ (Visits.tries epoch found low below) =
+    All-cons IsQuiet (LoadState r (state_word (Obsolete epoch))) (GiveBack r epoch found ∷ []) tt (All-cons IsQuiet (GiveBack r epoch found) [] tt (All-nil IsQuiet))
+
+pin_quiet : (o : ℕ) (acts : List Act) → LoadsPin o acts → All IsQuiet acts
+pin_quiet o acts (word, is) = subst (All IsQuiet) (sym is) (All-cons IsQuiet (LoadPin o word) [] tt (All-nil IsQuiet))
+
+module _ {G : Type 0} {table : TableView} {becomes : G → Event → G → Type 0} {a b : SeatView × G} {nodes leaves : ℕ} (r : IsRound table becomes a b nodes leaves) where
+  round_quiet : All IsQuiet (LoadEpoch r.epoch ∷ advance_steps r.epoch r.found ++ LoadEpoch r.next ∷ r.pins ++ r.nodes ++ r.leaves)
+  round_quiet =
+      let pins = in_turn_plain LoadsPin pin_quiet table.layout.passes r.pins r.loads_pins in
+      let visits = in_turn_plain (λ n. Visits b.0.known.round.bound (a_node n)) (λ n. visit_quiet b.0.known.round.bound (a_node n)) table.layout.nodes r.nodes r.visits_nodes in
+      let leaf_visits = in_turn_plain (λ n. Visits b.0.known.round.bound (a_leaf n)) (λ n. visit_quiet b.0.known.round.bound (a_leaf n)) table.layout.leaves r.leaves r.visits_leaves in
+      All-append IsQuiet (LoadEpoch r.epoch ∷ advance_steps r.epoch r.found ++ LoadEpoch r.next ∷ r.pins ++ r.nodes) r.leaves
+      (All-append IsQuiet (LoadEpoch r.epoch ∷ advance_steps r.epoch r.found ++ LoadEpoch r.next ∷ r.pins) r.nodes
+      (All-append IsQuiet (LoadEpoch r.epoch ∷ advance_steps r.epoch r.found) (LoadEpoch r.next ∷ r.pins) (All-cons IsQuiet (LoadEpoch r.epoch) (advance_steps r.epoch r.found) tt (advance_quiet r.epoch r.found))
+      (All-cons IsQuiet (LoadEpoch r.next) r.pins tt pins)) visits) leaf_visits
 
 module _ {G : Type 0} (table : TableView) (becomes : G → Event → G → Type 0) where
   -- a call that pinned its pass, looked and cleared the pin
@@ -68,17 +108,23 @@ module _ {G : Type 0} (table : TableView) (becomes : G → Event → G → Type 
       all : Ends table untold (reading x.epoch x.root x.loads) ClearPin x.said (x.before, tt) (x.after, tt)
       all = ((x.steps.0.0, tt), runs_untold (reading x.epoch x.root x.loads) (x.before, a.1) x.steps.0 x.steps.1, step_untold ClearPin x.said x.steps.0 (x.after, b.1) x.steps.2)
 
+  pub got_untold : (a b : PassView × G) → HasGot table becomes a b → HasGot table untold (a.0, tt) (b.0, tt)
+  got_untold a b x = record { read = read_untold a b x.read; visited = x.visited; depth = x.depth; few = x.few }
+
   -- a call that ended on its seat
-  pub has_made : {said : Known → List Note} (a b : SeatView × G) → HasEnded table becomes said a b → HasMade table becomes (pass_of a.0, a.1) (pass_of b.0, b.1)
-  has_made {said = said} a b (acts, ends) = record {
+  pub has_made : {said : Known → List Note} (a b : SeatView × G) → HasEnded table becomes AreAttempts said a b → b.0.known.steps ≤ a.0.known.steps + try_steps table.layout →
+      HasMade table becomes (pass_of a.0, a.1) (pass_of b.0, b.1)
+  has_made {said = said} a b (acts, tries, ends) few = record {
     before = a.0;
     after = b.0;
     acts = acts;
     said = said;
     begins = refl;
     ends = refl;
+    tries = tries;
     steps = ends;
     told = ends_told table becomes acts ClearPin said a b ends;
+    few = few;
   }
 
   pub made_untold : (a b : PassView × G) → HasMade table becomes a b → HasMade table untold (a.0, tt) (b.0, tt)
@@ -89,8 +135,10 @@ module _ {G : Type 0} (table : TableView) (becomes : G → Event → G → Type 
     said = x.said;
     begins = x.begins;
     ends = x.ends;
+    tries = x.tries;
     steps = all;
     told = subst (λ (z : PassView). IsTold untold (events_of z.number (x.acts ++ ClearPin ∷ [])) tt tt) (sym x.begins) (ends_told table untold x.acts ClearPin x.said (x.before, tt) (x.after, tt) all);
+    few = x.few;
   }
     where
       all : Ends table untold x.acts ClearPin x.said (x.before, tt) (x.after, tt)
@@ -99,21 +147,37 @@ module _ {G : Type 0} (table : TableView) (becomes : G → Event → G → Type 
   -- Calls one after the other
 
   -- an attempt: the pin, the steps of the attempt, and the step that clears the pin
-  pub attempt_ended : {said : Known → List Note} (a b c d : SeatView × G) → Pins table becomes a b → HasRun table becomes b c → StepsWith table becomes ClearPin said c d → HasEnded table becomes said a d
-  attempt_ended a b c d pins run end =
-      let acts = LoadEpoch pins.0 ∷ SetPin pins.0 ∷ [] in (acts ++ run.acts, (c, runs_append table becomes acts run.acts a b c pins.1.steps run.steps, end))
+  pub attempt_ended : {said : Known → List Note} (a b c d : SeatView × G) → Pins table becomes a b → HasTriedOnce table becomes b c → StepsWith table becomes ClearPin said c d →
+      HasEnded table becomes IsAttempt said a d
+  attempt_ended a b c d pins (tried, run, once) end =
+      let acts = LoadEpoch pins.0 ∷ SetPin pins.0 ∷ [] in (
+        acts ++ run.acts,
+        record { epoch = pins.0; rest = run.acts; acts_are = refl; pinned = run.pinned; once = once },
+        (c, runs_append table becomes acts run.acts a b c pins.1.steps run.steps, end),
+      )
 
-  -- what ended without a note, and goes on
-  ended_run : (a b : SeatView × G) → HasEnded table becomes silent a b → (acts : List Act) × Runs table becomes acts a b
-  ended_run a b (acts, (m, steps, last)) = (acts ++ ClearPin ∷ [], runs_append table becomes acts (ClearPin ∷ []) a m b steps (runs_one table becomes ClearPin m b last))
+  -- the call is over
+  pub ended_once : {said : Known → List Note} (a b : SeatView × G) → HasEnded table becomes IsAttempt said a b → HasEnded table becomes AreAttempts said a b
+  ended_once a b (acts, tries, ends) = (acts, inl tries, ends)
 
-  -- an attempt without a note, a round of collection, and an attempt more
-  pub ended_again : {said : Known → List Note} {nodes leaves : ℕ} (a b c d : SeatView × G) → HasEnded table becomes silent a b → IsRound table becomes b c nodes leaves → HasEnded table becomes said c d → HasEnded table becomes said a d
-  ended_again a b c d first round (acts, (m, steps, last)) =
-      let one = ended_run a b first in
-      let between = LoadEpoch round.epoch ∷ advance_steps round.epoch round.found ++ LoadEpoch round.next ∷ round.pins ++ round.nodes ++ round.leaves in (
-        one.0 ++ (between ++ acts),
-        (m, runs_append table becomes one.0 (between ++ acts) a b m one.1 (runs_append table becomes between acts b c m round.does.steps steps), last),
+  -- or it was not noted; and there follow a round of collection and an attempt more
+  pub ended_again : {said : Known → List Note} {nodes leaves : ℕ} (a b c d : SeatView × G) → HasEnded table becomes IsAttempt silent a b → IsRound table becomes b c nodes leaves →
+      HasEnded table becomes IsAttempt said c d → HasEnded table becomes AreAttempts said a d
+  ended_again a b c d (acts, tries, (m, steps, last)) round (more, tries_again, (n, rest, end)) =
+      let between = LoadEpoch round.epoch ∷ advance_steps round.epoch round.found ++ LoadEpoch round.next ∷ round.pins ++ round.nodes ++ round.leaves in
+      let quiet = round_quiet round in (
+        acts ++ (ClearPin ∷ between ++ more),
+        inr (record {
+          first = acts;
+          between = between;
+          second = more;
+          acts_are = refl;
+          tries = tries;
+          unpinned = All-weaker IsQuiet LeavesPin (λ act t. recalls_pin act (quiet_recalls act t)) between quiet;
+          lockless = quiet_tries_none between quiet;
+          tries_again = tries_again;
+        }),
+        (n, runs_append table becomes acts (ClearPin ∷ between ++ more) a m n steps (b, last, runs_append table becomes between more b c n round.does.steps rest), end),
       )
 
   pub collected_untold : (a b : PassView × G) (nodes leaves : ℕ) → HasCollected table becomes a b nodes leaves → HasCollected table untold (a.0, tt) (b.0, tt) nodes leaves
@@ -138,4 +202,6 @@ module _ {G : Type 0} (table : TableView) (becomes : G → Event → G → Type 
           nodes_given = r.nodes_given;
           leaves_given = r.leaves_given;
         };
+        front = x.front;
+        few = x.few;
       }

@@ -1,6 +1,6 @@
 -- What an attempt to change the map leaves: it is noted where it was answered, and has changed nothing where it was refused.
 use Rattle.std.proofs.Common.{◌≡◌, ◌⊎◌, inl, inr, ℕ, ◌+◌, ◌-◌, ◌≤◌, List, [], ◌∷◌, ◌++◌, length, take, true, false, Option, Some, None, IsSome, Result, Ok, Err, refl, sym, ap, subst, ◌∙◌, arith, le_trans, length-append}
-use Rattle.std.specs.Prelude.{All, Contains, IfOk, IfErr, is_some}
+use Rattle.std.specs.Prelude.{All, Contains, IfOk, IfErr, MatchResult, is_some}
 use Rattle.std.proofs.lemmas.List.Elements.{All-head, All-tail}
 use Rattle.hot_model.specs.declared.Call.{Call}
 use Rattle.hot_model.specs.declared.Call.TheVariants.{Insert as InsertCall, Upsert as UpsertCall, Remove as RemoveCall}
@@ -20,6 +20,7 @@ use Rattle.moments.specs.declared.Rec.TheVariants.{Node as a_node, Leaf as a_lea
 use Rattle.rowex_core.specs.declared.event.Act.{Act}
 use Rattle.rowex_core.specs.declared.event.Act.TheVariants.{ClearPin}
 use Rattle.rowex_core.specs.declared.event.Event.{Event}
+use Rattle.rowex_core.specs.declared.event.Target.{Target}
 use Rattle.rowex_core.specs.declared.known.Failed.{Failed}
 use Rattle.rowex_core.specs.declared.known.Known.{Known}
 use Rattle.rowex_core.specs.Cores.{Core, IsLawful}
@@ -34,18 +35,23 @@ use Rattle.rowex_rights.specs.Ending.{IsAtRest}
 use Rattle.epochs.specs.Runs.{Pins}
 use Rattle.rowex_writing.specs.Attempts as tries
 use Rattle.rowex_writing.specs.Attempts.{HasAnswered, HasLoadedRoot, HasRefused, IsChangeOf, call_of}
-use Rattle.rowex_writing.specs.Changes.{HasChanged, HasRun}
+use Rattle.rowex_writing.specs.Changes.{HasChanged, HasTried}
 use Rattle.rowex_writing.specs.declared.plan.Ask.{Ask}
+use Rattle.rowex_writing.specs.declared.plan.Full.{Full}
 use Rattle.rowex_writing.specs.declared.plan.Ask.TheVariants.{Insert, Upsert, Remove}
 use Rattle.rowex_writing.specs.declared.attempts.TryFault.{TryFault}
 use Rattle.rowex_writing.specs.declared.attempts.TryFault.TheVariants.{Busy, FullNodes, FullLeaves}
 use Rattle.epochs.specs.Rounds.{IsRound}
-use Rattle.hot_index.specs.Answers.{IsCause, IsNoted, IsRefused, IsUnnoted}
+use Rattle.hot_index.specs.Answers.{IsCause, IsNoted, IsRefused, IsUnnoted, fault_of}
+use Rattle.hot_index.specs.Asked.{HasAsked, HasReplied, last_try}
+use Rattle.hot_index.specs.Counts.{try_steps}
 use Rattle.hot_index.specs.Noting.{note_of, notes_of, place_by}
-use Rattle.hot_index.specs.Passes.{IsSettled, PassView, pass_of}
+use Rattle.hot_index.specs.Passes.{IsSettled, Owns, PassView, pass_of}
+use Rattle.hot_index.specs.Traces.{AreAttempts, HasMade}
 use Rattle.hot_index.proofs.Noting.{HasGoneOn, HasLooked, WasRight, found_had, goes_on, legal_front, longer, noted, settles}
 use Rattle.hot_index.proofs.Collected.{round_unnoted}
 use Rattle.hot_index.proofs.Scanned.{scan_refused, scan_settled}
+use Rattle.hot_index.proofs.Tracing.{has_made}
 
 -- Replies
 
@@ -221,11 +227,14 @@ waited_on layout k j i (inl none) next steps = inr (subst (λ (z : PassView). Is
 waited_on layout k j i (inr some) next steps = inr (unnoted_then layout k j i some.0 some.1 next, le_trans some.1 steps)
 
 -- the outcome of the last try is that of the call
-pub waited_out : (layout : Layout) (k j i : PassView) (call : Call) (r : Result Reply TryFault) → HasWaited layout k j → IfOk r (IsNoted layout j i call) → IfErr r (IsRefused layout j i) →
-    IfOk r (IsNoted layout k i call) × IfErr r (IsRefused layout k i)
-waited_out layout k j i call r (inl none) told refused =
-    (subst (λ (z : PassView). IfOk r (IsNoted layout z i call)) none told, subst (λ (z : PassView). IfErr r (IsRefused layout z i)) none refused)
-waited_out layout k j i call r (inr some) told refused = outcome_then layout k j i some.0 some.1 call r told refused
+pub waited_out : (table : TableView) (s m t : SeatView) (call : Call) (r : Result Reply TryFault) → HasWaited table.layout (pass_of s) (pass_of m) → HasReplied table call r m t → HasReplied table call r s t
+waited_out table s m t call r (inl none) last = record {
+  idle = last.idle;
+  noted = subst (λ (z : PassView). IfOk r (IsNoted table.layout z (pass_of t) call)) none last.noted;
+  refused = subst (λ (z : PassView). IfErr r (IsRefused table.layout z (pass_of t))) none last.refused;
+}
+waited_out table s m t call r (inr some) last =
+    let both = outcome_then table.layout (pass_of s) (pass_of m) (pass_of t) some.0 some.1 call r last.noted last.refused in record { idle = last.idle; noted = both.0; refused = both.1 }
 
 -- the cause of an attempt is one by what contracts see
 cause_seen : (layout : Layout) (s t : SeatView) (fault : TryFault) → tries.IsCause layout s.known t.known fault → IsCause layout (pass_of s) (pass_of t) fault
@@ -246,14 +255,14 @@ module _ {G : Type 0} (table : TableView) (becomes : G → Event → G → Type 
   notes_stay [] a b e = ap (λ (z : SeatView × G). z.0.known.notes) e
   notes_stay (act ∷ acts) a b (m, s, more) = notes_stay acts m b more ∙ (act_leaves table.layout a.0.known m.0.known act s.event).notes
 
-  pub run_pinned : (a b : SeatView × G) → HasRun table becomes a b → IsSome a.0.known.pin → IsSome b.0.known.pin
+  pub run_pinned : {locks : List Target} (a b : SeatView × G) → HasTried table becomes locks a b → IsSome a.0.known.pin → IsSome b.0.known.pin
   run_pinned a b run pinned = subst IsSome (sym (pin_stays run.acts a b run.pinned run.steps)) pinned
 
-  pub run_same : (a b : SeatView × G) → HasRun table becomes a b → IsSame a.0 b.0
+  pub run_same : {locks : List Target} (a b : SeatView × G) → HasTried table becomes locks a b → IsSame a.0 b.0
   run_same a b run = runs_same table becomes run.acts a b run.steps
 
 -- A pass that was settled is pinned, makes an attempt, has nothing then, and clears its pin.
-module _ {G : Type 0} {table : TableView} {becomes : G → Event → G → Type 0} {a b c : SeatView × G} (d : SeatView × G) (settled : IsSettled a.0.known) (pins : Pins table becomes a b) (run : HasRun table becomes b c)
+module _ {G : Type 0} {table : TableView} {becomes : G → Event → G → Type 0} {locks : List Target} {a b c : SeatView × G} (d : SeatView × G) (settled : IsSettled a.0.known) (pins : Pins table becomes a b) (run : HasTried table becomes locks b c)
     (loaded : HasLoadedRoot b.0.known c.0.known) (rest : IsAtRest c.0.known) where
   pinned : b.0.known ≡ record a.0.known { pin = b.0.known.pin; round = b.0.known.round; steps = a.0.known.steps + 2 }
   pinned = pins.1.rest
@@ -332,3 +341,32 @@ module _ {G : Type 0} {table : TableView} {becomes : G → Event → G → Type 
   tried ask key value (Ok reply) (inl looked) refused step = when_looked ask key value reply looked.0 looked.1 step.event
   tried ask key value (Ok reply) (inr (x, was, is, changed)) refused step = when_changed ask key value reply x was is changed step.event
   tried ask key value (Err fault) answered refused step = when_refused (call_of ask key value) fault refused step.event
+
+  -- it has made no fewer steps
+  pub tried_later : {said : Known → List Note} → StepsWith table becomes ClearPin said c d → a.0.known.steps ≤ d.0.known.steps
+  tried_later step =
+      let cleared : d.0.known.steps ≡ c.0.known.steps + 1 = ap (λ (z : Known). z.steps) step.event.learned_is in
+      omega (arith, counted, loaded.from, loaded.upto, cleared)
+
+-- A call on the seat of a pass of an index, as the index and the pass see it.
+module _ {table index : TableView} {k : PassView} {s t : SeatView} {call : Call} (index_is : table ≡ index) (pass_is : pass_of s ≡ k) where
+  pub replied_own : {r : Result Reply TryFault} → HasReplied table call r s t → Owns index (pass_of t)
+  replied_own h = h.idle.0 ∙ ap (λ (z : TableView). z.id) index_is
+
+  pub replied_call : (r : Result Reply TryFault) → HasReplied table call r s t → MatchResult r (IsNoted index.layout k (pass_of t) call) (IsRefused index.layout k (pass_of t))
+  replied_call r h = subst (λ (x : TableView × PassView). MatchResult r (IsNoted x.0.layout x.1 (pass_of t) call) (IsRefused x.0.layout x.1 (pass_of t))) (λ e. (index_is e, pass_is e)) (both r h.noted h.refused)
+    where
+      both : (r : Result Reply TryFault) → IfOk r (IsNoted table.layout (pass_of s) (pass_of t) call) → IfErr r (IsRefused table.layout (pass_of s) (pass_of t)) →
+          MatchResult r (IsNoted table.layout (pass_of s) (pass_of t) call) (IsRefused table.layout (pass_of s) (pass_of t))
+      both (Ok reply) noted refused = noted
+      both (Err fault) noted refused = refused
+
+  pub waited_call : (r : Result Reply Full) → HasReplied table call (last_try r) s t →
+      MatchResult r (IsNoted index.layout k (pass_of t) call) (λ full. IsRefused index.layout k (pass_of t) (fault_of full))
+  waited_call (Ok reply) h = replied_call (Ok reply) h
+  waited_call (Err full) h = replied_call (Err (fault_of full)) h
+
+  pub asked_made : {G : Type 0} {becomes : G → Event → G → Type 0} {g h : G} {r : Result Reply TryFault} → HasAsked table becomes AreAttempts (try_steps table.layout) call r (s, g) (t, h) →
+      HasMade index becomes (k, g) (pass_of t, h)
+  asked_made {becomes = becomes} {g = g} {h = h} asked =
+      subst (λ (x : TableView × PassView). HasMade x.0 becomes (x.1, g) (pass_of t, h)) (λ e. (index_is e, pass_is e)) (has_made table becomes (s, g) (t, h) asked.ended asked.few)

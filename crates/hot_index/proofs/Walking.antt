@@ -1,5 +1,7 @@
 -- The steps of a walk, over what its pass knows.
-use Rattle.std.proofs.Common.{◌≡◌, ◌≢◌, inl, inr, ℕ, suc, ◌+◌, ◌-◌, ◌*◌, ◌^◌, ◌<◌, ◌≤◌, List, [], ◌∷◌, ◌++◌, length, refl, ap, sym, ◌∙◌, subst, arith, Bool, true, false, length-append}
+use Rattle.std.proofs.Common.{◌≡◌, ◌≢◌, inl, inr, ℕ, suc, ◌+◌, ◌-◌, ◌*◌, ◌^◌, ◌<◌, ◌≤◌, List, [], ◌∷◌, ◌++◌, length, refl, ap, sym, ◌∙◌, subst, arith, Bool, true, false, length-append, le_refl, Option, Some, None, ⊎_elim}
+use Rattle.std.specs.Prelude.{◌↔◌, IsSome, option_to_list}
+use Rattle.std.proofs.lemmas.Bool.{cases_lt}
 use Rattle.std.proofs.lemmas.List.{length-replicate}
 use Rattle.key_bits.specs.Bits.{bit_of, IsFirstDifference}
 use Rattle.hot_model.specs.declared.Scan.{Scan}
@@ -13,21 +15,27 @@ use Rattle.moments.specs.State.{Past, IsSteady}
 use Rattle.rowex_core.specs.declared.known.Known.{Known}
 use Rattle.rowex_core.specs.Cores.{Core, IsLawful}
 use Rattle.rowex_core.specs.Knowing.{Recalls, IsSince}
-use Rattle.rowex_walks.specs.Scan.{Pair, Range, IsScan, IsRooted, IsPlaced, IsRead, IsSeen, IsBlank, IsStart, MayStandAt, IsReached, placed, further, turned, next, remaining, rest_after, Frame as Stage}
-use Rattle.rowex_walks.proofs.Scans.{never_before, before_most, fit_first}
-use Rattle.rowex_walks.proofs.Walk.{stack_shape, scan_begin, scan_push, scan_pop, scan_end, scan_skip, scan_take, scan_past, scan_cut}
-use Rattle.rowex_walks.proofs.Ends.{scan_blank, scan_one, scan_nought, scan_outside, stack_seen}
-use Rattle.rowex_walks.proofs.Loads.{placed_seen}
-use Rattle.rowex_walks.proofs.Persist.{rooted_on, placed_on, scan_on, reached_on, start_on}
+use Rattle.rowex_walks.specs.Scan.{Pair, Range, IsScan, IsRooted, IsPlaced, IsRead, IsBlank, IsShaped, IsOver, turned, next, remaining, rest_after, Frame as Stage}
+use Rattle.rowex_walks.proofs.Scans.{never_before, before_most, fit_leaf, shaped_several}
+use Rattle.rowex_walks.proofs.Walk.{stack_shape, scan_push, scan_pop, scan_end, scan_take, scan_past, scan_cut}
+use Rattle.rowex_walks.proofs.Ends.{scan_blank, scan_one, scan_nought, scan_outside, stack_depth, stack_high, stack_seen, stack_low}
+use Rattle.rowex_walks.proofs.Persist.{rooted_on, placed_on, scan_on}
 use Rattle.rowex_walks.proofs.Measure.{push_less, next_less, pop_less}
-use Rattle.hot_index.specs.declared.scanning.Frame.{Frame}
+use Rattle.insert_cases.specs.declared.choice.Step.{Step}
 use Rattle.hot_index.specs.declared.scanning.Verdict.{Verdict}
 use Rattle.hot_index.specs.declared.scanning.Verdict.TheVariants.{Further, Past as IsPast, Full}
-use Rattle.rowex_reading.specs.Seen.{seen, Sure, IsAtRoot, IsLedTo, HasPlace, HasShape, since, shape_of}
+use Rattle.rowex_reading.specs.Seen.{seen, Sure, IsAtRoot, HasPlace, HasShape, since, shape_of}
 use Rattle.rowex_table.specs.Made.{IsLater}
-use Rattle.hot_index.specs.Scanning.{HasScanned, IsAnswer, IsPairTaken, frame, frames_of, IsEntered, AreInside, IsWalk, rest_of_frames, rest_of}
+use Rattle.hot_index.specs.Scanning.{HasScanned, IsAnswer, IsPairTaken, frame, frames_of, IsEntered, AreInside, AreOver, IsFloor, IsPaid, IsWalk, rest_of_frames, rest_of, spare_of}
+use Rattle.hot_index.specs.Counts.{walk_loads}
+use Rattle.rowex_core.proofs.Owning.{recalls}
+use Rattle.rowex_walks.proofs.Starts.{over_on, over_later, over_down}
+use Rattle.rowex_reading.specs.Possible.{IsPossible}
+use Rattle.rowex_writing.specs.Ways.{step_at}
+use Rattle.record_words.specs.declared.layout.Layout.{Layout}
+use Rattle.key_bits.specs.declared.TheConstants.{MAX_BYTES}
 use Rattle.rowex_reading.proofs.Led.{shape_place}
-use Rattle.rowex_reading.proofs.Seeing.{recalls_before, seen_grown, seen_steady, since_later}
+use Rattle.rowex_reading.proofs.Seeing.{recalls_before, seen_grown, seen_steady, since_later, sure_later, IsStable}
 
 -- Keys
 
@@ -71,9 +79,13 @@ length_turned : (xs : List Pair) → length (turned xs) ≡ length xs
 length_turned [] = refl
 length_turned (x ∷ xs) = let e = length-append (turned xs) ((x.key, x.value) ∷ []) in let h = length_turned xs in omega arith
 
+length_frames : (fs : List Stage) → length (frames_of fs) ≡ length fs
+length_frames [] = refl
+length_frames (f ∷ fs) = let e = length-append (frames_of fs) (frame f ∷ []) in let h = length_frames fs in omega (arith, e, h)
+
 -- The measure
 
-rest_append : (xs : List Frame) (x : Frame) → rest_of_frames (xs ++ x ∷ []) ≡ (x.count - suc x.place) * 34 ^ x.height + 1 + rest_of_frames xs
+rest_append : (xs : List Step) (x : Step) → rest_of_frames (xs ++ x ∷ []) ≡ (x.count - suc x.at) * 34 ^ x.height + 1 + rest_of_frames xs
 rest_append [] x = omega arith
 rest_append (y ∷ xs) x = let e = rest_append xs x in omega arith
 
@@ -84,15 +96,15 @@ rest_is (f ∷ fs) = rest_append (frames_of fs) (frame f) ∙ ap (λ z. (size f.
 whole_is : (f : Stage) (fs : List Stage) → rest_of (frame f) (frames_of fs) ≡ remaining (f ∷ fs)
 whole_is f fs = ap (λ z. (size f.shape - f.place) * 34 ^ f.height + 1 + z) (rest_is fs)
 
-at_next : (f : Stage) → (record (frame f) { place = f.place + 1 }) ≡ frame (next f)
-at_next f = let e : f.place + 1 ≡ suc f.place = omega arith in ap (λ z. let x : Frame = record { number = f.number; height = f.height; count = size f.shape; place = z } in x) e
+at_next : (f : Stage) → (record (frame f) { at = f.place + 1 }) ≡ frame (next f)
+at_next f = let e : f.place + 1 ≡ suc f.place = omega arith in ap (λ z. let x : Step = record (frame f) { at = z } in x) e
 
 -- The walk
 
 -- what the pass knows of its topmost node
-pub walk_top : {k : Known} {m : ℕ} {g : Range} {top : Frame} {frames : List Frame} {pairs : List (Key × ℕ)} → (w : IsWalk k m g top frames pairs) →
+pub walk_top : {k : Known} {m : ℕ} {g : Range} {top : Step} {frames : List Step} {pairs : List (Key × ℕ)} → (w : IsWalk k m g top frames pairs) →
     HasShape k m top.number top.height w.lowest.shape × (top.count ≡ size w.lowest.shape)
-walk_top {k} {m} w = subst (λ (z : Frame). HasShape k m z.number z.height w.lowest.shape × (z.count ≡ size w.lowest.shape)) (sym w.top_is) (
+walk_top {k} {m} w = subst (λ (z : Step). HasShape k m z.number z.height w.lowest.shape × (z.count ≡ size w.lowest.shape)) (sym w.top_is) (
   (
     (w.pinned, λ c lawful recalls. stack_seen (seen c k) m w.lowest w.others (w.scan c lawful recalls).stack),
     λ c lawful recalls. stack_shape (seen c k) m w.lowest w.others (w.scan c lawful recalls).stack,
@@ -101,32 +113,15 @@ walk_top {k} {m} w = subst (λ (z : Frame). HasShape k m z.number z.height w.low
 )
 
 -- there is an entry at its place
-pub walk_place : {k : Known} {m : ℕ} {g : Range} {top : Frame} {frames : List Frame} {pairs : List (Key × ℕ)} → IsWalk k m g top frames pairs → top.place < top.count →
-    HasPlace k m top.number top.height top.place
-walk_place {top = top} w low = let t = walk_top w in shape_place t.0 (subst (λ z. top.place < z) t.1 low)
+pub walk_place : {k : Known} {m : ℕ} {g : Range} {top : Step} {frames : List Step} {pairs : List (Key × ℕ)} → IsWalk k m g top frames pairs → top.at < top.count →
+    HasPlace k m top.number top.height top.at
+walk_place {top = top} w low = let t = walk_top w in shape_place t.0 (subst (λ z. top.at < z) t.1 low)
 
-pub walk_room : {k : Known} {m : ℕ} {g : Range} {top : Frame} {frames : List Frame} {pairs : List (Key × ℕ)} → IsWalk k m g top frames pairs → top.count ≤ 32
-walk_room w = subst (λ (z : Frame). z.count ≤ 32) (sym w.top_is) w.room
-
-pub walk_begin : {k j : Known} (g : Range) (number height : ℕ) (top : Frame) (frames : List Frame) (pairs : List (Key × ℕ)) → frames ≡ [] → pairs ≡ [] →
-    IsLater k j → IsAtRoot k (Node number height) → IsEntered j (since k) g number height top → IsWalk j (since k) g top frames pairs
-walk_begin {k} {j} g number height top frames pairs ef ep l (pinned, root) e = record {
-  lowest = record { number = number; height = height; shape = e.forks; place = top.place };
-  others = [];
-  taken = [];
-  top_is = e.top_is;
-  frames_are = ef;
-  pairs_are = ep;
-  room = e.room;
-  inside = tt;
-  pinned = since_later l pinned;
-  scan = λ c lawful recalls.
-      scan_begin (seen c j) (since k) (seen_steady lawful recalls (since_later l pinned)) g number height top.place e.forks
-      (rooted_on (seen c k) (seen c j) (seen_grown c l) (since k) (Node number height) (root c lawful (recalls_before l recalls))) (e.shaped c lawful recalls) (e.start c lawful recalls);
-}
+pub walk_room : {k : Known} {m : ℕ} {g : Range} {top : Step} {frames : List Step} {pairs : List (Key × ℕ)} → IsWalk k m g top frames pairs → top.count ≤ 32
+walk_room w = subst (λ (z : Step). z.count ≤ 32) (sym w.top_is) w.room
 
 -- The scan's invariant after more loads.
-scan_later : {k j : Known} {m : ℕ} {g : Range} {top : Frame} {frames : List Frame} {pairs : List (Key × ℕ)} → (w : IsWalk k m g top frames pairs) → IsLater k j →
+scan_later : {k j : Known} {m : ℕ} {g : Range} {top : Step} {frames : List Step} {pairs : List (Key × ℕ)} → (w : IsWalk k m g top frames pairs) → IsLater k j →
     Sure j (λ s. IsScan s m g (w.lowest ∷ w.others) w.taken)
 scan_later {k} {j} {m} {g} w l c lawful recalls =
     scan_on (seen c k) (seen c j) (seen_grown c l) m g (w.lowest ∷ w.others) w.taken (w.scan c lawful (recalls_before l recalls))
@@ -134,10 +129,10 @@ scan_later {k} {j} {m} {g} w l c lawful recalls =
 placed_later : {k j : Known} (m r i : ℕ) (e : Entry) → IsLater k j → Sure k (λ s. IsPlaced s m r i e) → Sure j (λ s. IsPlaced s m r i e)
 placed_later {k} {j} m r i e l sure c lawful recalls = placed_on (seen c k) (seen c j) (seen_grown c l) m r i e (sure c lawful (recalls_before l recalls))
 
-module _ {k i j : Known} {m : ℕ} {g : Range} {top : Frame} {frames : List Frame} {pairs : List (Key × ℕ)} (w : IsWalk k m g top frames pairs) (l : IsLater k i) (o : IsLater i j)
-    (inside : top.place < top.count) where
+module _ {k i j : Known} {m : ℕ} {g : Range} {top : Step} {frames : List Step} {pairs : List (Key × ℕ)} (w : IsWalk k m g top frames pairs) (l : IsLater k i) (o : IsLater i j)
+    (inside : top.at < top.count) where
   lowest_inside : w.lowest.place < size w.lowest.shape
-  lowest_inside = subst (λ (z : Frame). z.place < z.count) w.top_is inside
+  lowest_inside = subst (λ (z : Step). z.at < z.count) w.top_is inside
 
   later : (c : Core) → IsLawful c → Recalls c j → IsScan (seen c j) m g (w.lowest ∷ w.others) w.taken
   later c lawful recalls = scan_on (seen c i) (seen c j) (seen_grown c o) m g (w.lowest ∷ w.others) w.taken (scan_later w l c lawful (recalls_before o recalls))
@@ -146,13 +141,13 @@ module _ {k i j : Known} {m : ℕ} {g : Range} {top : Frame} {frames : List Fram
   steady c lawful recalls = seen_steady lawful recalls (since_later o (since_later l w.pinned))
 
   -- the entry there, as the pass knows it in the end
-  there : (e : Entry) → Sure i (λ s. IsPlaced s m top.number top.place e) → Sure j (λ s. IsPlaced s m w.lowest.number w.lowest.place e)
-  there e at = placed_later m w.lowest.number w.lowest.place e o (subst (λ (z : Frame). Sure i (λ s. IsPlaced s m z.number z.place e)) w.top_is at)
+  there : (e : Entry) → Sure i (λ s. IsPlaced s m top.number top.at e) → Sure j (λ s. IsPlaced s m w.lowest.number w.lowest.place e)
+  there e at = placed_later m w.lowest.number w.lowest.place e o (subst (λ (z : Step). Sure i (λ s. IsPlaced s m z.number z.at e)) w.top_is at)
 
-  pub walk_push : (number height : ℕ) → Sure i (λ s. IsPlaced s m top.number top.place (Node number height)) → (into : Frame) → IsEntered j m g number height into →
-      (more : List Frame) → more ≡ frames ++ top ∷ [] → IsWalk j m g into more pairs
+  pub walk_push : (number height : ℕ) → Sure i (λ s. IsPlaced s m top.number top.at (Node number height)) → (into : Step) → IsEntered j m number height into →
+      (more : List Step) → more ≡ frames ++ top ∷ [] → IsWalk j m g into more pairs
   walk_push number height at into e more q = record {
-    lowest = record { number = number; height = height; shape = e.forks; place = into.place };
+    lowest = record { number = number; height = height; shape = e.forks; place = 0 };
     others = w.lowest ∷ w.others;
     taken = w.taken;
     top_is = e.top_is;
@@ -162,44 +157,30 @@ module _ {k i j : Known} {m : ℕ} {g : Range} {top : Frame} {frames : List Fram
     inside = (lowest_inside, w.room, w.inside);
     pinned = since_later o (since_later l w.pinned);
     scan = λ c lawful recalls.
-        scan_push (seen c j) m (steady c lawful recalls) g w.lowest w.others w.taken (later c lawful recalls) number height into.place e.forks
-        (there (Node number height) at c lawful recalls) (e.shaped c lawful recalls) (e.start c lawful recalls);
+        scan_push (seen c j) m (steady c lawful recalls) g w.lowest w.others w.taken (later c lawful recalls) number height e.forks
+        (there (Node number height) at c lawful recalls) (e.shaped c lawful recalls);
   }
 
-  pub walk_push_less : (number height : ℕ) → height < top.height → (into : Frame) → IsEntered j m g number height into →
-      (more : List Frame) → more ≡ frames ++ top ∷ [] → rest_of into more < rest_of top frames
+  pub walk_push_less : (number height : ℕ) → height < top.height → (into : Step) → IsEntered j m number height into →
+      (more : List Step) → more ≡ frames ++ top ∷ [] → rest_of into more < rest_of top frames
   walk_push_less number height falls into e more q =
-      let c : Stage = record { number = number; height = height; shape = e.forks; place = into.place } in
-      let low : height < w.lowest.height = subst (λ (z : Frame). height < z.height) w.top_is falls in
+      let c : Stage = record { number = number; height = height; shape = e.forks; place = 0 } in
+      let low : height < w.lowest.height = subst (λ (z : Step). height < z.height) w.top_is falls in
       let less : remaining (c ∷ w.lowest ∷ w.others) < remaining (w.lowest ∷ w.others) = push_less w.lowest w.others c lowest_inside low e.room in
       let before : rest_of into more ≡ remaining (c ∷ w.lowest ∷ w.others) =
-      ap (λ (z : Frame). rest_of z more) e.top_is ∙
+      ap (λ (z : Step). rest_of z more) e.top_is ∙
       (ap (λ z. rest_of (frame c) z) (q ∙ (ap (λ z. z ++ top ∷ []) w.frames_are ∙ ap (λ z. frames_of w.others ++ z ∷ []) w.top_is)) ∙ whole_is c (w.lowest ∷ w.others)) in
       let after : rest_of top frames ≡ remaining (w.lowest ∷ w.others) =
-      ap (λ (z : Frame). rest_of z frames) w.top_is ∙ (ap (λ z. rest_of (frame w.lowest) z) w.frames_are ∙ whole_is w.lowest w.others) in
+      ap (λ (z : Step). rest_of z frames) w.top_is ∙ (ap (λ z. rest_of (frame w.lowest) z) w.frames_are ∙ whole_is w.lowest w.others) in
       subst (λ z. z < rest_of top frames) (sym before) (subst (λ z. remaining (c ∷ w.lowest ∷ w.others) < z) (sym after) less)
 
-  module _ (number : ℕ) (at : Sure i (λ s. IsPlaced s m top.number top.place (Leaf number))) (key : Key) (value : ℕ) (read : Sure j (λ s. IsRead s m number key value)) where
-    pub walk_further : (more : List (Key × ℕ)) → IsPairTaken g pairs key value more Further → IsWalk j m g (record top { place = top.place + 1 }) frames more
-    walk_further more (inl (low, e)) = record {
-      lowest = next w.lowest;
-      others = w.others;
-      taken = w.taken;
-      top_is = ap (λ (z : Frame). let x : Frame = record z { place = z.place + 1 } in x) w.top_is ∙ at_next w.lowest;
-      frames_are = w.frames_are;
-      pairs_are = e ∙ w.pairs_are;
-      room = w.room;
-      inside = w.inside;
-      pinned = since_later o (since_later l w.pinned);
-      scan = λ c lawful recalls.
-          scan_skip (seen c j) m (steady c lawful recalls) g w.lowest w.others w.taken (later c lawful recalls) number key value
-          (there (Leaf number) at c lawful recalls) (read c lawful recalls) low;
-    }
-    walk_further more (inr (within, room, e)) = record {
+  module _ (number : ℕ) (at : Sure i (λ s. IsPlaced s m top.number top.at (Leaf number))) (key : Key) (value : ℕ) (read : Sure j (λ s. IsRead s m number key value)) where
+    pub walk_further : (more : List (Key × ℕ)) → IsPairTaken g pairs key value more Further → IsWalk j m g (record top { at = top.at + 1 }) frames more
+    walk_further more (within, room, e) = record {
       lowest = next w.lowest;
       others = w.others;
       taken = record { key = key; value = value } ∷ w.taken;
-      top_is = ap (λ (z : Frame). let x : Frame = record z { place = z.place + 1 } in x) w.top_is ∙ at_next w.lowest;
+      top_is = ap (λ (z : Step). let x : Step = record z { at = z.at + 1 } in x) w.top_is ∙ at_next w.lowest;
       frames_are = w.frames_are;
       pairs_are = e ∙ ap (λ z. z ++ (key, value) ∷ []) w.pairs_are;
       room = w.room;
@@ -231,29 +212,29 @@ module _ {k i j : Known} {m : ℕ} {g : Range} {top : Frame} {frames : List Fram
     }
 
 -- A place further is less.
-pub walk_next_less : {k : Known} {m : ℕ} {g : Range} {top : Frame} {frames : List Frame} {pairs : List (Key × ℕ)} → IsWalk k m g top frames pairs → top.place < top.count →
-    rest_of (record top { place = top.place + 1 }) frames < rest_of top frames
+pub walk_next_less : {k : Known} {m : ℕ} {g : Range} {top : Step} {frames : List Step} {pairs : List (Key × ℕ)} → IsWalk k m g top frames pairs → top.at < top.count →
+    rest_of (record top { at = top.at + 1 }) frames < rest_of top frames
 walk_next_less {k} {m} {g} {top} {frames} w inside =
-    let low : w.lowest.place < size w.lowest.shape = subst (λ (z : Frame). z.place < z.count) w.top_is inside in
+    let low : w.lowest.place < size w.lowest.shape = subst (λ (z : Step). z.at < z.count) w.top_is inside in
     let less = next_less w.lowest w.others low in
     let after : rest_of top frames ≡ remaining (w.lowest ∷ w.others) =
-    ap (λ (z : Frame). rest_of z frames) w.top_is ∙ (ap (λ z. rest_of (frame w.lowest) z) w.frames_are ∙ whole_is w.lowest w.others) in
-    let before : rest_of (record top { place = top.place + 1 }) frames ≡ remaining (next w.lowest ∷ w.others) =
-    ap (λ (z : Frame). rest_of (record z { place = z.place + 1 }) frames) w.top_is ∙
-    (ap (λ (z : Frame). rest_of z frames) (at_next w.lowest) ∙ (ap (λ z. rest_of (frame (next w.lowest)) z) w.frames_are ∙ whole_is (next w.lowest) w.others)) in
+    ap (λ (z : Step). rest_of z frames) w.top_is ∙ (ap (λ z. rest_of (frame w.lowest) z) w.frames_are ∙ whole_is w.lowest w.others) in
+    let before : rest_of (record top { at = top.at + 1 }) frames ≡ remaining (next w.lowest ∷ w.others) =
+    ap (λ (z : Step). rest_of (record z { at = z.at + 1 }) frames) w.top_is ∙
+    (ap (λ (z : Step). rest_of z frames) (at_next w.lowest) ∙ (ap (λ z. rest_of (frame (next w.lowest)) z) w.frames_are ∙ whole_is (next w.lowest) w.others)) in
     subst (λ z. z < rest_of top frames) (sym before) (subst (λ z. remaining (next w.lowest ∷ w.others) < z) (sym after) less)
 
 -- The topmost node is done.
-module _ {k : Known} {m : ℕ} {g : Range} {top : Frame} {frames : List Frame} {pairs : List (Key × ℕ)} (w : IsWalk k m g top frames pairs) where
+module _ {k : Known} {m : ℕ} {g : Range} {top : Step} {frames : List Step} {pairs : List (Key × ℕ)} (w : IsWalk k m g top frames pairs) where
   -- the frame below
-  pub record IsBelow (below : Frame) (rest : List Frame) : Type 0 where
+  pub record IsBelow (below : Step) (rest : List Step) : Type 0 where
     pub stage : Stage
     pub stages : List Stage
     pub others : w.others ≡ stage ∷ stages
     pub below_is : below ≡ frame stage
     pub rest_are : rest ≡ frames_of stages
 
-  below : (lower : Frame) (rest : List Frame) → frames ≡ rest ++ lower ∷ [] → IsBelow lower rest
+  below : (lower : Step) (rest : List Step) → frames ≡ rest ++ lower ∷ [] → IsBelow lower rest
   below lower rest e = go w.others refl
     where
       go : (fs : List Stage) → w.others ≡ fs → IsBelow lower rest
@@ -262,13 +243,13 @@ module _ {k : Known} {m : ℕ} {g : Range} {top : Frame} {frames : List Frame} {
           let x = last_is rest (frames_of fs) lower (frame f) (sym e ∙ (w.frames_are ∙ ap frames_of q)) in
           record { stage = f; stages = fs; others = q; below_is = x.1; rest_are = x.0 }
 
-  pub walk_inside : (lower : Frame) (rest : List Frame) → frames ≡ rest ++ lower ∷ [] → (lower.place < 32) × (lower.count ≤ 32)
+  pub walk_inside : (lower : Step) (rest : List Step) → frames ≡ rest ++ lower ∷ [] → (lower.at < 32) × (lower.count ≤ 32)
   walk_inside lower rest e =
       let b = below lower rest e in
       let i : AreInside (b.stage ∷ b.stages) = subst AreInside b.others w.inside in
-      subst (λ (z : Frame). (z.place < 32) × (z.count ≤ 32)) (sym b.below_is) (let x = i.0 in let y = i.1 in (omega arith, y))
+      subst (λ (z : Step). (z.at < 32) × (z.count ≤ 32)) (sym b.below_is) (let x = i.0 in let y = i.1 in (omega arith, y))
 
-  pub walk_pop : (lower : Frame) (rest : List Frame) → frames ≡ rest ++ lower ∷ [] → top.count ≤ top.place → IsWalk k m g (record lower { place = lower.place + 1 }) rest pairs
+  pub walk_pop : (lower : Step) (rest : List Step) → frames ≡ rest ++ lower ∷ [] → top.count ≤ top.at → IsWalk k m g (record lower { at = lower.at + 1 }) rest pairs
   walk_pop lower rest e done =
       let b = below lower rest e in
       let i : AreInside (b.stage ∷ b.stages) = subst AreInside b.others w.inside in
@@ -276,7 +257,7 @@ module _ {k : Known} {m : ℕ} {g : Range} {top : Frame} {frames : List Frame} {
         lowest = next b.stage;
         others = b.stages;
         taken = w.taken;
-        top_is = ap (λ (z : Frame). let x : Frame = record z { place = z.place + 1 } in x) b.below_is ∙ at_next b.stage;
+        top_is = ap (λ (z : Step). let x : Step = record z { at = z.at + 1 } in x) b.below_is ∙ at_next b.stage;
         frames_are = b.rest_are;
         pairs_are = w.pairs_are;
         room = i.1;
@@ -284,34 +265,177 @@ module _ {k : Known} {m : ℕ} {g : Range} {top : Frame} {frames : List Frame} {
         pinned = w.pinned;
         scan = λ c lawful recalls.
             scan_pop (seen c k) m (seen_steady lawful recalls w.pinned) g w.lowest b.stage b.stages w.taken
-            (subst (λ z. IsScan (seen c k) m g (w.lowest ∷ z) w.taken) b.others (w.scan c lawful recalls)) (subst (λ (z : Frame). z.count ≤ z.place) w.top_is done);
+            (subst (λ z. IsScan (seen c k) m g (w.lowest ∷ z) w.taken) b.others (w.scan c lawful recalls)) (subst (λ (z : Step). z.count ≤ z.at) w.top_is done);
       }
 
-  pub walk_pop_less : (lower : Frame) (rest : List Frame) → frames ≡ rest ++ lower ∷ [] → rest_of (record lower { place = lower.place + 1 }) rest < rest_of top frames
+  pub walk_pop_less : (lower : Step) (rest : List Step) → frames ≡ rest ++ lower ∷ [] → rest_of (record lower { at = lower.at + 1 }) rest < rest_of top frames
   walk_pop_less lower rest e =
       let b = below lower rest e in
       let less = pop_less w.lowest b.stage b.stages in
       let after : rest_of top frames ≡ remaining (w.lowest ∷ b.stage ∷ b.stages) =
-      ap (λ (z : Frame). rest_of z frames) w.top_is ∙
+      ap (λ (z : Step). rest_of z frames) w.top_is ∙
       (ap (λ z. rest_of (frame w.lowest) z) (w.frames_are ∙ ap frames_of b.others) ∙ whole_is w.lowest (b.stage ∷ b.stages)) in
-      let before : rest_of (record lower { place = lower.place + 1 }) rest ≡ remaining (next b.stage ∷ b.stages) =
-      ap (λ (z : Frame). rest_of (record z { place = z.place + 1 }) rest) b.below_is ∙
-      (ap (λ (z : Frame). rest_of z rest) (at_next b.stage) ∙ (ap (λ z. rest_of (frame (next b.stage)) z) b.rest_are ∙ whole_is (next b.stage) b.stages)) in
+      let before : rest_of (record lower { at = lower.at + 1 }) rest ≡ remaining (next b.stage ∷ b.stages) =
+      ap (λ (z : Step). rest_of (record z { at = z.at + 1 }) rest) b.below_is ∙
+      (ap (λ (z : Step). rest_of z rest) (at_next b.stage) ∙ (ap (λ z. rest_of (frame (next b.stage)) z) b.rest_are ∙ whole_is (next b.stage) b.stages)) in
       subst (λ z. z < rest_of top frames) (sym before) (subst (λ z. remaining (next b.stage ∷ b.stages) < z) (sym after) less)
 
-  pub walk_end : frames ≡ [] → top.count ≤ top.place → since k ≡ m → (scan : Scan) → scan.pairs.items ≡ pairs → scan.more ≡ false → HasScanned k g scan
+  pub walk_end : frames ≡ [] → top.count ≤ top.at → since k ≡ m → (scan : Scan) → scan.pairs.items ≡ pairs → scan.more ≡ false → HasScanned k g scan
   walk_end none done e scan same more = record {
     taken = w.taken;
     pairs = same ∙ w.pairs_are;
     answer = subst (λ z. Sure k (λ s. IsAnswer s z g w.taken scan.more)) (sym e) (subst (λ z. Sure k (λ s. IsAnswer s m g w.taken z)) (sym more) (λ c lawful recalls.
         scan_end (seen c k) m (seen_steady lawful recalls w.pinned) g w.lowest w.taken
         (subst (λ z. IsScan (seen c k) m g (w.lowest ∷ z) w.taken) (no_stages w.others (sym w.frames_are ∙ none)) (w.scan c lawful recalls))
-        (subst (λ (z : Frame). z.count ≤ z.place) w.top_is done)));
+        (subst (λ (z : Step). z.count ≤ z.at) w.top_is done)));
   }
     where
       no_stages : (fs : List Stage) → frames_of fs ≡ [] → fs ≡ []
       no_stages [] q = refl
       no_stages (f ∷ fs) q = absurd (not_empty (frames_of fs) (frame f) q)
+
+-- What a walk comes to
+
+module _ {layout : Layout} {k : Known} {m : ℕ} {g : Range} {top : Step} {frames : List Step} {pairs : List (Key × ℕ)} (w : IsWalk k m g top frames pairs) (possible : IsPossible layout k) where
+  known : Recalls possible.core k
+  known = recalls possible.core k possible.knows
+
+  now : Past
+  now = seen possible.core k
+
+  fixed_now : IsSteady (seen possible.core k) m
+  fixed_now = seen_steady possible.lawful known w.pinned
+
+  scan_now : IsScan (seen possible.core k) m g (w.lowest ∷ w.others) w.taken
+  scan_now = w.scan possible.core possible.lawful known
+
+  -- each node has two entries or more
+  pub walk_several : 2 ≤ top.count
+  walk_several = subst (λ (z : Step). 2 ≤ z.count) (sym w.top_is)
+      (shaped_several (seen possible.core k) m fixed_now w.lowest.number w.lowest.shape (stack_shape (seen possible.core k) m w.lowest w.others scan_now.stack))
+
+  -- the way is no longer than a tree can be high
+  pub walk_depth : length frames + top.height ≤ 9 * MAX_BYTES
+  walk_depth =
+      let deep = stack_depth (seen possible.core k) m fixed_now w.lowest w.others scan_now.stack in
+      let low = stack_low (seen possible.core k) m fixed_now w.lowest w.others scan_now.stack in
+      let high : top.height ≡ w.lowest.height = ap (λ (z : Step). z.height) w.top_is in
+      let many : length frames ≡ length w.others = ap length w.frames_are ∙ length_frames w.others in
+      omega (arith, deep, low, high, many)
+
+  -- so it has room for one node more, since a node is higher than nothing
+  pub way_short : length frames < 9 * MAX_BYTES
+  way_short =
+      let deep = walk_depth in
+      let high : 0 < top.height = subst (λ (z : Step). 0 < z.height) (sym w.top_is)
+      (stack_high (seen possible.core k) m fixed_now w.lowest w.others scan_now.stack) in
+      omega (arith, deep, high)
+
+  -- it has no more pairs than the limit
+  pub walk_short : length pairs ≤ g.limit
+  walk_short = let short = scan_now.short in let n = ap length w.pairs_are ∙ length_turned w.taken in omega (arith, short, n)
+
+-- The loads of a walk
+
+spare_append : (xs : List Step) (x : Step) → spare_of (xs ++ x ∷ []) ≡ (2 - x.at) + spare_of xs
+spare_append [] x = refl
+spare_append (y ∷ xs) x = let e = spare_append xs x in omega (arith, e)
+
+spare_most : (xs : List Step) → spare_of xs ≤ 2 * length xs
+spare_most [] = omega arith
+spare_most (x ∷ xs) = let e = spare_most xs in omega (arith, e)
+
+pub paid_first : (pairs : ℕ) (top : Step) (frames : List Step) → length frames < 9 * MAX_BYTES → IsPaid 0 pairs top frames
+paid_first pairs top frames short = omega (arith, short)
+
+pub paid_push : (loads pairs : ℕ) (top : Step) (frames : List Step) (into : Step) (more : List Step) → IsPaid loads pairs top frames → into.at ≡ 0 → more ≡ frames ++ top ∷ [] →
+    IsPaid (loads + 26) pairs into more
+paid_push loads pairs top frames into more paid first e =
+    let n = ap length e ∙ length-append frames (top ∷ []) in let spare = ap spare_of e ∙ spare_append frames top in omega (arith, paid, first, n, spare)
+
+pub paid_pop : (loads pairs : ℕ) (top : Step) (frames : List Step) (lower : Step) (rest : List Step) → IsPaid loads pairs top frames → 2 ≤ top.at → frames ≡ rest ++ lower ∷ [] →
+    IsPaid loads pairs (record lower { at = lower.at + 1 }) rest
+paid_pop loads pairs top frames lower rest paid done e =
+    let n = ap length e ∙ length-append rest (lower ∷ []) in let spare = ap spare_of e ∙ spare_append rest lower in omega (arith, paid, done, n, spare)
+
+pub paid_leaf : (loads more pairs : ℕ) (top : Step) (frames : List Step) → IsPaid loads pairs top frames → more ≤ 33 → IsPaid (loads + more) (pairs + 1) (record top { at = top.at + 1 }) frames
+paid_leaf loads more pairs top frames paid few = omega (arith, paid, few)
+
+-- at one leaf more
+pub paid_most : (loads more pairs limit : ℕ) (top : Step) (frames : List Step) → IsPaid loads pairs top frames → more ≤ 33 → length frames < 9 * MAX_BYTES → pairs ≤ limit → loads + more ≤ walk_loads limit
+paid_most loads more pairs limit top frames paid few short within = let most = spare_most frames in omega (arith, paid, few, short, within, most)
+
+-- at the end of the way
+pub paid_end : (loads pairs limit : ℕ) (top : Step) (frames : List Step) → IsPaid loads pairs top frames → frames ≡ [] → pairs ≤ limit → loads ≤ walk_loads limit
+paid_end loads pairs limit top frames paid none within = let n = ap length none in let spare = ap spare_of none in omega (arith, paid, n, spare, within)
+
+-- What is above the first key
+
+module _ (m : ℕ) (key : Key) where
+  over_stable : (r i : ℕ) → IsStable (λ s. IsOver s m key r i)
+  over_stable r i a b g h = over_on a b g m r i key h
+
+  pub over_append : {k : Known} (xs : List Step) (x : Step) → AreOver k m key xs → Sure k (λ s. IsOver s m key x.number (x.at + 1)) → AreOver k m key (xs ++ x ∷ [])
+  over_append [] x over last = (last, tt)
+  over_append (y ∷ xs) x (first, over) last = (first, over_append xs x over last)
+
+  over_parts : {k : Known} (xs : List Step) (x : Step) → AreOver k m key (xs ++ x ∷ []) → AreOver k m key xs × Sure k (λ s. IsOver s m key x.number (x.at + 1))
+  over_parts [] x (last, over) = (tt, last)
+  over_parts (y ∷ xs) x (first, over) = let o = over_parts xs x over in ((first, o.0), o.1)
+
+  are_over_later : {k j : Known} → IsLater k j → (xs : List Step) → AreOver k m key xs → AreOver j m key xs
+  are_over_later l [] over = tt
+  are_over_later l (x ∷ xs) (first, over) = (sure_later {P = λ s. IsOver s m key x.number (x.at + 1)} (over_stable x.number (x.at + 1)) l first, are_over_later l xs over)
+
+  pub floor_later : {k j : Known} {top : Step} {frames : List Step} → IsLater k j → IsFloor k m key top frames → IsFloor j m key top frames
+  floor_later {top = top} {frames = frames} l f = record {
+    there = sure_later {P = λ s. IsOver s m key top.number top.at} (over_stable top.number top.at) l f.there;
+    right = are_over_later l frames f.right;
+  }
+
+  module _ {k : Known} {top : Step} {frames : List Step} (f : IsFloor k m key top frames) where
+    right_there : Sure k (λ s. IsOver s m key top.number (top.at + 1))
+    right_there c lawful known = over_later (seen c k) m top.number top.at (top.at + 1) key (omega arith) (f.there c lawful known)
+
+    pub floor_next : IsFloor k m key (record top { at = top.at + 1 }) frames
+    floor_next = record { there = right_there; right = f.right }
+
+    pub floor_push : (number height : ℕ) → Sure k (λ s. IsPlaced s m top.number top.at (Node number height)) → (into : Step) → into.number ≡ number → into.at ≡ 0 → (more : List Step) →
+        more ≡ frames ++ top ∷ [] → IsFloor k m key into more
+    floor_push number height placed into same first more e = record {
+      there = λ c lawful known. subst (λ n. IsOver (seen c k) m key n into.at) (sym same) (subst (λ n. IsOver (seen c k) m key number n) (sym first)
+          (over_down (seen c k) m top.number top.at number height key (placed c lawful known) (f.there c lawful known)));
+      right = subst (AreOver k m key) (sym e) (over_append frames top f.right right_there);
+    }
+
+    pub floor_pop : (lower : Step) (rest : List Step) → frames ≡ rest ++ lower ∷ [] → IsFloor k m key (record lower { at = lower.at + 1 }) rest
+    floor_pop lower rest e = let o = over_parts rest lower (subst (AreOver k m key) e f.right) in record { there = o.1; right = o.0 }
+
+    -- a leaf that was read there
+    pub floor_leaf : {layout : Layout} (number : ℕ) (l : Key) (value : ℕ) → IsPossible layout k → IsSince k m → Sure k (λ s. IsPlaced s m top.number top.at (Leaf number)) →
+        Sure k (λ s. IsRead s m number l value) → IsAtMost key l
+    floor_leaf number l value possible pinned placed read =
+        let c = possible.core in let r = recalls c k possible.knows in
+        let steady = seen_steady possible.lawful r pinned in
+        inr (f.there c possible.lawful r (seen c k) (record { longer = le_refl (length k.front); kept = λ n lo. refl }) steady top.at l (le_refl top.at)
+        (fit_leaf (seen c k) m steady top.number top.at number l value (placed c possible.lawful r) (read c possible.lawful r)))
+
+-- What a step of a walk leaves
+
+pub entered_first : {k : Known} {m n h : ℕ} {top : Step} → IsEntered k m n h top → top.at ≡ 0
+entered_first e = ap (λ (z : Step). z.at) e.top_is
+
+pub entered_number : {k : Known} {m n h : ℕ} {top : Step} → IsEntered k m n h top → top.number ≡ n
+entered_number e = ap (λ (z : Step). z.number) e.top_is
+
+pub taken_more : (g : Range) (xs ys : List (Key × ℕ)) (k : Key) (v : ℕ) → IsPairTaken g xs k v ys Further → length ys ≡ length xs + 1
+taken_more g xs ys k v (within, room, e) = ap length e ∙ length-append xs ((k, v) ∷ [])
+
+pub popped_is : {frames : List Step} {popped : Option Step} {lower : Step} (rest : List Step) → frames ≡ rest ++ option_to_list popped → popped ≡ Some lower → frames ≡ rest ++ lower ∷ []
+popped_is rest e is = e ∙ ap (λ z. rest ++ option_to_list z) is
+
+pub none_popped : {frames : List Step} {popped : Option Step} → IsSome popped ↔ (0 < length frames) → popped ≡ None → frames ≡ []
+none_popped {frames} some is = empty_is frames (⊎_elim (λ lt. absurd (let z : IsSome {T = Step} None = subst IsSome is (some.1 lt) in cc)) (λ le. omega (arith, le)) (cases_lt 0 (length frames)))
 
 -- Scans without a walk
 
@@ -353,10 +477,12 @@ module _ {k j : Known} (g : Range) (number : ℕ) (key : Key) (value : ℕ) (l :
     answer = subst (λ z. Sure j (λ s. IsAnswer s z g taken scan.more)) (sym same) (subst (λ z. Sure j (λ s. IsAnswer s (since k) g taken z)) (sym e) answer);
   }
 
-  pub leaf_further : IsPairTaken g [] key value scan.pairs.items Further → scan.more ≡ false → HasScanned j g scan
-  leaf_further (inl (low, e)) more =
+  pub leaf_below : IsBefore key g.from → scan.pairs.items ≡ [] → scan.more ≡ false → HasScanned j g scan
+  leaf_below low e more =
       answered [] e false more (λ c lawful recalls. scan_outside (seen c j) (since k) (fixed c lawful recalls) g number key value (rooted c lawful recalls) (read c lawful recalls) (inl low))
-  leaf_further (inr (within, room, e)) more =
+
+  pub leaf_further : IsPairTaken g [] key value scan.pairs.items Further → scan.more ≡ false → HasScanned j g scan
+  leaf_further (within, room, e) more =
       answered (record { key = key; value = value } ∷ []) e false more
       (λ c lawful recalls. scan_one (seen c j) (since k) (fixed c lawful recalls) g number key value (rooted c lawful recalls) (read c lawful recalls) within (let ne : 0 ≢ g.limit = room in omega arith))
 
@@ -367,26 +493,6 @@ module _ {k j : Known} (g : Range) (number : ℕ) (key : Key) (value : ℕ) (l :
   pub leaf_full : IsPairTaken g [] key value scan.pairs.items Full → scan.more ≡ true → HasScanned j g scan
   leaf_full (within, full, e) more =
       answered [] e true more (λ c lawful recalls. scan_nought (seen c j) (since k) g number key value (read c lawful recalls) within (sym full))
-
--- The first leaf below a place
-
-reached_seen : (s : Past) (m r j : ℕ) (e : Entry) → IsReached s m r j e → IsSeen s m e
-reached_seen s m r j e (placed p) = placed_seen s m r j e p
-reached_seen s m r j e (further {c = c} {i = i} q p) = placed_seen s m c i e p
-
-pub reached_led : {k : Known} {m : ℕ} (r j : ℕ) (e : Entry) → IsSince k m → Sure k (λ s. IsReached s m r j e) → IsLedTo k m e
-reached_led {k} {m} r j e pinned reached = (pinned, λ c lawful recalls. reached_seen (seen c k) m r j e (reached c lawful recalls))
-
-pub reached_further : {k i : Known} {m : ℕ} (r j c h o : ℕ) (e : Entry) → IsLater k i → Sure k (λ s. IsReached s m r j (Node c h)) → Sure i (λ s. IsPlaced s m c o e) →
-    Sure i (λ s. IsReached s m r j e)
-reached_further {k} {i} {m} r j c h o e l reached at core lawful recalls =
-    further (reached_on (seen core k) (seen core i) (seen_grown core l) m r j (reached core lawful (recalls_before l recalls))) (at core lawful recalls)
-
-pub first_fits : {k i : Known} {m : ℕ} (r j number : ℕ) (key : Key) (value : ℕ) → IsLater k i → IsSince k m → Sure k (λ s. IsReached s m r j (Leaf number)) →
-    Sure i (λ s. IsRead s m number key value) → Sure i (λ s. MayStandAt s m r j key)
-first_fits {k} {i} {m} r j number key value l pinned reached read c lawful recalls =
-    fit_first (seen c i) m (seen_steady lawful recalls (since_later l pinned)) r j number key value
-    (reached_on (seen c k) (seen c i) (seen_grown c l) m r j (reached c lawful (recalls_before l recalls))) (read c lawful recalls)
 
 -- A head's forks
 
@@ -400,33 +506,13 @@ module _ (head : HeadView) (lawful : IsLawfulNode (node_of head (leaves (length 
   pub head_room : (1 ≤ length head.rows) × (length head.rows ≤ 32)
   head_room = let a = lawful.several in let b = lawful.room in let e = length_leaves in (omega arith, omega arith)
 
-  pub entered : {k : Known} (m : ℕ) (g : Range) (number h height count place : ℕ) → height ≡ h → count ≡ length head.rows → HasShape k m number h (shape_of head) →
-      Sure k (λ s. IsStart s m g number place) → IsEntered k m g number h (record { number = number; height = height; count = count; place = place })
-  entered {k} m g number h height count place eh ec shape start = record {
+  pub entered : {k : Known} (m number h : ℕ) (top : Step) → head.height ≡ h → top ≡ step_at head number 0 → Sure k (λ s. IsShaped s m number (shape_of head)) → IsEntered k m number h top
+  entered {k} m number h top high is shaped = record {
     forks = shape_of head;
-    top_is = ap (λ z. let x : Frame = record { number = number; height = z; count = count; place = place } in x) eh ∙
-        ap (λ z. let x : Frame = record { number = number; height = h; count = z; place = place } in x) (ec ∙ sym head_size);
+    top_is = is ∙ ap (λ z. let x : Step = record (step_at head number 0) { height = z } in x) high;
     room = subst (λ z. z ≤ 32) (sym head_size) head_room.1;
-    shaped = shape.1;
-    start = start;
+    shaped = shaped;
   }
 
 pub taken_as : (g : Range) (xs zs : List (Key × ℕ)) (k : Key) (v : ℕ) (ys : List (Key × ℕ)) (a b : Verdict) → xs ≡ zs → a ≡ b → IsPairTaken g xs k v ys a → IsPairTaken g zs k v ys b
 taken_as g xs zs k v ys a b e f h = subst (λ z. IsPairTaken g z k v ys b) e (subst (λ z. IsPairTaken g xs k v ys z) f h)
-
-pub reached_placed : {k : Known} {m : ℕ} (r j : ℕ) (e : Entry) → Sure k (λ s. IsPlaced s m r j e) → Sure k (λ s. IsReached s m r j e)
-reached_placed {k} {m} r j e at c lawful recalls = placed (at c lawful recalls)
-
-pub reached_at : {k : Known} {m : ℕ} (r j : ℕ) (d e : Entry) → d ≡ e → Sure k (λ s. IsReached s m r j d) → Sure k (λ s. IsReached s m r j e)
-reached_at {k} {m} r j d e is reached = subst (λ z. Sure k (λ s. IsReached s m r j z)) is reached
-
--- The place to begin at
-
-pub start_later : {k j : Known} (m : ℕ) (g : Range) (c i : ℕ) → IsLater k j → Sure k (λ s. IsStart s m g c i) → Sure j (λ s. IsStart s m g c i)
-start_later {k} {j} m g c i l start core lawful recalls = start_on (seen core k) (seen core j) (seen_grown core l) m g c i (start core lawful (recalls_before l recalls))
-
-pub start_first : {k : Known} (m : ℕ) (g : Range) (c : ℕ) → Sure k (λ s. IsStart s m g c 0)
-start_first m g c core lawful recalls = inl refl
-
-pub start_fits : {k : Known} (m : ℕ) (g : Range) (c i : ℕ) (key : Key) → Sure k (λ s. MayStandAt s m c i key) → IsAtMost key g.from → Sure k (λ s. IsStart s m g c i)
-start_fits m g c i key fits low core lawful recalls = inr (key, fits core lawful recalls, low)

@@ -1,13 +1,16 @@
 -- What a scan knows on its way, and of what it answers.
-use Rattle.std.specs.Prelude.{◌≡◌, ◌≢◌, ◌⊎◌, ℕ, suc, ◌+◌, ◌-◌, ◌*◌, ◌^◌, ◌<◌, ◌≤◌, List, [], ◌∷◌, ◌++◌, length, Bool, false, true}
+use Rattle.std.specs.Prelude.{◌≡◌, ◌≢◌, ℕ, suc, ◌+◌, ◌-◌, ◌*◌, ◌^◌, ◌<◌, ◌≤◌, List, [], ◌∷◌, ◌++◌, length, take, Bool, false, true}
+use Rattle.key_bits.specs.declared.TheConstants.{MAX_BYTES}
 use Rattle.hot_model.specs.declared.Scan.{Scan}
+use Rattle.compound_node.specs.declared.entries.Entry.TheVariants.{Leaf}
+use Rattle.insert_cases.specs.declared.choice.Step.{Step}
 use Rattle.pieces.specs.Piece.{size}
-use Rattle.tries.specs.Keys.{Key, IsBefore}
-use Rattle.tries.specs.Tree.{Page}
+use Rattle.tries.specs.Keys.{Key, IsAtMost, IsBefore}
+use Rattle.tries.specs.Tree.{Page, first_position}
 use Rattle.moments.specs.State.{Past}
 use Rattle.rowex_core.specs.declared.known.Known.{Known}
-use Rattle.rowex_walks.specs.Scan.{Pair, Range, IsInRange, IsComplete, IsCut, IsScan, IsShaped, IsStart, turned, Frame as Stage}
-use Rattle.hot_index.specs.declared.scanning.Frame.{Frame}
+use Rattle.rowex_walks.specs.Scan.{Pair, Range, IsInRange, IsComplete, IsCut, IsScan, IsOver, IsPlaced, IsRead, IsShaped, turned, Frame as Stage}
+use Rattle.hot_index.specs.declared.scanning.Start.{Start}
 use Rattle.hot_index.specs.declared.scanning.Range.{Range as Asked}
 use Rattle.hot_index.specs.declared.scanning.Verdict.{Verdict}
 use Rattle.hot_index.specs.declared.scanning.Verdict.TheVariants.{Further, Past as IsPast, Full}
@@ -28,30 +31,28 @@ pub record HasScanned (k : Known) (g : Range) (scan : Scan) : Type 0 where
   pub pairs : scan.pairs.items ≡ turned taken
   pub answer : Sure k (λ s. IsAnswer s (since k) g taken scan.more)
 
--- What became of the pairs at one with this key and value: it was below the range, or it came to their end; or it was above
+-- What became of the pairs at one with this key and value, which is not below the range: it belonged to the range; or it was above
 -- the range; or it belonged to the range and there was no room.
 abbrev pub IsPairTaken : Range → List (Key × ℕ) → Key → ℕ → List (Key × ℕ) → Verdict → Type 0
-IsPairTaken g xs k v ys Further =
-    (IsBefore k g.from × (ys ≡ xs)) ⊎ (IsInRange g k × (length xs ≢ g.limit) × (ys ≡ xs ++ (k, v) ∷ []))
+IsPairTaken g xs k v ys Further = IsInRange g k × (length xs ≢ g.limit) × (ys ≡ xs ++ (k, v) ∷ [])
 IsPairTaken g xs k v ys IsPast = IsBefore g.upto k × (ys ≡ xs)
 IsPairTaken g xs k v ys Full = IsInRange g k × (length xs ≡ g.limit) × (ys ≡ xs)
 
 -- a node on the way of a walk, without its forks
-abbrev pub frame : Stage → Frame
-frame f = record { number = f.number; height = f.height; count = size f.shape; place = f.place }
+abbrev pub frame : Stage → Step
+frame f = record { number = f.number; height = f.height; first_position = first_position f.shape; count = size f.shape; at = f.place }
 
 -- the way, from the root on
-abbrev pub frames_of : List Stage → List Frame
+abbrev pub frames_of : List Stage → List Step
 frames_of [] = []
 frames_of (f ∷ fs) = frames_of fs ++ frame f ∷ []
 
--- The pass went to a node of this height: it has read its forks, and begins at a lawful place.
-pub record IsEntered (k : Known) (m : ℕ) (g : Range) (n h : ℕ) (top : Frame) : Type 0 where
+-- The pass went to a node of this height: it has read its forks, and begins at its first place.
+pub record IsEntered (k : Known) (m : ℕ) (n h : ℕ) (top : Step) : Type 0 where
   pub forks : Page
-  pub top_is : top ≡ record { number = n; height = h; count = size forks; place = top.place }
+  pub top_is : top ≡ frame (record { number = n; height = h; shape = forks; place = 0 })
   pub room : size forks ≤ 32
   pub shaped : Sure k (λ s. IsShaped s m n forks)
-  pub start : Sure k (λ s. IsStart s m g n top.place)
 
 -- each node of the way has at most 32 entries, and the scan is at one of them
 abbrev pub AreInside : List Stage → Type 0
@@ -59,7 +60,7 @@ AreInside [] = Unit {0}
 AreInside (f ∷ fs) = (f.place < size f.shape) × (size f.shape ≤ 32) × AreInside fs
 
 -- Where a scan is: at the topmost of the frames, with these pairs so far.
-pub record IsWalk (k : Known) (m : ℕ) (g : Range) (top : Frame) (frames : List Frame) (pairs : List (Key × ℕ)) : Type 0 where
+pub record IsWalk (k : Known) (m : ℕ) (g : Range) (top : Step) (frames : List Step) (pairs : List (Key × ℕ)) : Type 0 where
   pub lowest : Stage
   pub others : List Stage
   pub taken : List Pair
@@ -71,10 +72,51 @@ pub record IsWalk (k : Known) (m : ℕ) (g : Range) (top : Frame) (frames : List
   pub pinned : IsSince k m
   pub scan : Sure k (λ s. IsScan s m g (lowest ∷ others) taken)
 
--- What a walk has still to do, at most: its measure.
-abbrev pub rest_of_frames : List Frame → ℕ
-rest_of_frames [] = 0
-rest_of_frames (x ∷ xs) = (x.count - suc x.place) * 34 ^ x.height + 1 + rest_of_frames xs
+-- The pass is sure that all keys that stand right of the places of these frames are above this one,
+abbrev pub AreOver : Known → ℕ → Key → List Step → Type 0
+AreOver k m key [] = Unit {0}
+AreOver k m key (f ∷ fs) = Sure k (λ s. IsOver s m key f.number (f.at + 1)) × AreOver k m key fs
 
-abbrev pub rest_of : Frame → List Frame → ℕ
-rest_of top frames = (top.count - top.place) * 34 ^ top.height + 1 + rest_of_frames frames
+-- and those that stand at the place of the topmost frame.
+pub record IsFloor (k : Known) (m : ℕ) (key : Key) (top : Step) (frames : List Step) : Type 0 where
+  pub there : Sure k (λ s. IsOver s m key top.number top.at)
+  pub right : AreOver k m key frames
+
+-- The leaf at which the search has ended stands at the place, with a key that is not below this one; all that is right of it is
+-- above.
+pub record IsFirst (k : Known) (m : ℕ) (key : Key) (number : ℕ) (top : Step) (frames : List Step) : Type 0 where
+  pub found : Key
+  pub value : ℕ
+  pub inside : top.at < top.count
+  pub placed : Sure k (λ s. IsPlaced s m top.number top.at (Leaf number))
+  pub read : Sure k (λ s. IsRead s m number found value)
+  pub above : IsAtMost key found
+  pub floor : IsFloor k m key (record top { at = top.at + 1 }) frames
+
+abbrev pub IsBegun : Bool → Known → ℕ → Key → ℕ → Step → List Step → Type 0
+IsBegun true k m key number top frames = IsFirst k m key number top frames
+IsBegun false k m key number top frames = IsFloor k m key top frames
+
+-- Where a scan from the key starts on the way of the key's search, which has ended at this leaf.
+pub record IsStart (k : Known) (m : ℕ) (key : Key) (way : List Step) (number : ℕ) (start : Start) : Type 0 where
+  pub within : start.level < length way
+  pub walk : (g : Range) → g.from ≡ key → IsWalk k m g start.top (take start.level way) []
+  pub begun : IsBegun start.leaf k m key number start.top (take start.level way)
+
+-- What a walk has still to do, at most: its measure.
+abbrev pub rest_of_frames : List Step → ℕ
+rest_of_frames [] = 0
+rest_of_frames (x ∷ xs) = (x.count - suc x.at) * 34 ^ x.height + 1 + rest_of_frames xs
+
+abbrev pub rest_of : Step → List Step → ℕ
+rest_of top frames = (top.count - top.at) * 34 ^ top.height + 1 + rest_of_frames frames
+
+-- How many entries of the nodes on a way have yet to be passed until each has passed two.
+abbrev pub spare_of : List Step → ℕ
+spare_of [] = 0
+spare_of (x ∷ xs) = (2 - x.at) + spare_of xs
+
+-- So many loads are paid for: 59 for each of so many pairs, and 26 for each node of the way beyond what it has yet to pass, over those of
+-- the longest way.
+abbrev pub IsPaid : ℕ → ℕ → Step → List Step → Type 0
+IsPaid loads pairs top frames = loads + 26 * suc (length frames) ≤ 26 * (9 * MAX_BYTES) + 59 * pairs + 26 * ((2 - top.at) + spare_of frames)

@@ -1,5 +1,6 @@
 -- What a call does, step by step, and what its gate is told.
-use Rattle.std.specs.Prelude.{◌≡◌, ℕ, All, List, [], ◌∷◌, ◌++◌}
+use Rattle.std.specs.Prelude.{◌≡◌, ◌⊎◌, ◌+◌, ◌*◌, ◌≤◌, ℕ, All, List, [], ◌∷◌, ◌++◌}
+use Rattle.key_bits.specs.declared.TheConstants.{MAX_BYTES}
 use Rattle.hot_model.specs.declared.Note.{Note}
 use Rattle.rowex_core.specs.declared.event.Act.{Act}
 use Rattle.rowex_core.specs.declared.event.Act.TheVariants.{LoadEpoch, SetPin, LoadRef, ClearPin}
@@ -8,8 +9,11 @@ use Rattle.rowex_core.specs.declared.event.Spot.TheVariants.{Root}
 use Rattle.rowex_core.specs.declared.known.Known.{Known}
 use Rattle.rowex_table.specs.Runs.{Ends, IsTold, events_of}
 use Rattle.rowex_table.specs.Seats.{TableView, SeatView}
+use Rattle.rowex_table.specs.Stays.{LeavesPin}
 use Rattle.rowex_reading.specs.Reads.{IsBelowRoot}
 use Rattle.epochs.specs.Rounds.{IsRound}
+use Rattle.rowex_writing.specs.Locks.{TriesLocksOnce, targets_of}
+use Rattle.hot_index.specs.Counts.{round_steps, try_steps}
 use Rattle.hot_index.specs.Passes.{PassView, pass_of}
 
 -- nobody is told
@@ -35,12 +39,43 @@ pub record HasRead {G : Type 0} (index : TableView) (becomes : G → Event → G
   pub steps : Ends index becomes (reading epoch root loads) ClearPin said (before, a.1) (after, b.1)
   pub told : IsTold becomes (events_of a.0.number (reading epoch root loads ++ ClearPin ∷ [])) a.1 b.1
 
--- On a seat: the call makes some steps, and then clears the pin of its pass, with these notes.
-abbrev pub HasEnded : {G : Type 0} → TableView → (G → Event → G → Type 0) → (Known → List Note) → SeatView × G → SeatView × G → Type 0
-HasEnded table becomes said a b = (acts : List Act) × Ends table becomes acts ClearPin said a b
+-- A get visits so many nodes on the way of its key: it makes 26 steps at each, and at most 36 beside.
+pub record HasGot {G : Type 0} (index : TableView) (becomes : G → Event → G → Type 0) (a b : PassView × G) : Type 0 where
+  pub read : HasRead index becomes a b
+  pub visited : ℕ
+  pub depth : visited ≤ 9 * MAX_BYTES
+  pub few : b.0.steps ≤ a.0.steps + 36 + 26 * visited
 
--- The call makes some steps and no others, and the last of them clears its pin; with it come the call's notes. The gate is told
--- each of them, in order, and nothing else.
+-- An attempt, but for its last step, which clears the pin: it pins the pass, leaves the pin, and tries each lock once at most.
+pub record IsAttempt (acts : List Act) : Type 0 where
+  pub epoch : ℕ
+  pub rest : List Act
+  pub acts_are : acts ≡ LoadEpoch epoch ∷ SetPin epoch ∷ rest
+  pub pinned : All LeavesPin rest
+  pub once : TriesLocksOnce rest
+
+-- Two attempts, and steps between them that leave the pin and try no lock.
+pub record AreTwoAttempts (acts : List Act) : Type 0 where
+  pub first : List Act
+  pub between : List Act
+  pub second : List Act
+  pub acts_are : acts ≡ first ++ (ClearPin ∷ between ++ second)
+  pub tries : IsAttempt first
+  pub unpinned : All LeavesPin between
+  pub lockless : targets_of between ≡ []
+  pub tries_again : IsAttempt second
+
+-- at most two attempts
+abbrev pub AreAttempts : List Act → Type 0
+AreAttempts acts = IsAttempt acts ⊎ AreTwoAttempts acts
+
+-- On a seat: the call makes such steps, and then clears the pin of its pass, with these notes.
+abbrev pub HasEnded : {G : Type 0} → TableView → (G → Event → G → Type 0) → (List Act → Type 0) → (Known → List Note) → SeatView × G → SeatView × G → Type 0
+HasEnded table becomes Are said a b = (acts : List Act) × Are acts × Ends table becomes acts ClearPin said a b
+
+-- The call makes at most two attempts, each of which tries each lock once, and no steps but theirs and a round of collection between
+-- them; the last step clears its pin, and with it come the call's notes. The gate is told each of them, in order, and nothing else.
+-- So many they are at most.
 pub record HasMade {G : Type 0} (index : TableView) (becomes : G → Event → G → Type 0) (a b : PassView × G) : Type 0 where
   pub before : SeatView
   pub after : SeatView
@@ -48,14 +83,18 @@ pub record HasMade {G : Type 0} (index : TableView) (becomes : G → Event → G
   pub said : Known → List Note
   pub begins : a.0 ≡ pass_of before
   pub ends : b.0 ≡ pass_of after
+  pub tries : AreAttempts acts
   pub steps : Ends index becomes acts ClearPin said (before, a.1) (after, b.1)
   pub told : IsTold becomes (events_of a.0.number (acts ++ ClearPin ∷ [])) a.1 b.1
+  pub few : b.0.steps ≤ a.0.steps + try_steps index.layout
 
--- The pass makes one round of collection, whose own exchanges give back so many nodes and so many leaves; and the gate is told
--- each of its steps.
+-- The pass makes one round of collection, whose own exchanges give back so many nodes and so many leaves; it sees no change by it.
+-- The gate is told each of its steps, and so many they are at most.
 pub record HasCollected {G : Type 0} (index : TableView) (becomes : G → Event → G → Type 0) (a b : PassView × G) (nodes leaves : ℕ) : Type 0 where
   pub before : SeatView
   pub after : SeatView
   pub begins : a.0 ≡ pass_of before
   pub ends : b.0 ≡ pass_of after
   pub round : IsRound index becomes (before, a.1) (after, b.1) nodes leaves
+  pub front : b.0.front ≡ a.0.front
+  pub few : b.0.steps ≤ a.0.steps + round_steps index.layout

@@ -1,17 +1,15 @@
 //! A call that may change the index, on the seat of a pass and with its room: its attempts, and what is noted of them.
 
-ghost use Rattle.std.specs.Prelude.{◌+◌, ◌≡◌, ◌≢◌, ◌≤◌, List, Err, IfOk, IfErr, IsSome};
+ghost use Rattle.std.specs.Prelude.{◌≡◌, ◌≢◌, List, Err, IsSome};
 ghost use Rattle.hot_model.specs.declared.Note.{Note};
 ghost use Rattle.rowex_core.specs.declared.event.Act.TheVariants.{ClearPin};
 ghost use Rattle.rowex_core.specs.declared.known.Known.{Known};
 ghost use Rattle.rowex_table.specs.Runs.{StepsWith};
-ghost use Rattle.rowex_table.specs.Seats.{IsPassOf, IsSeatOf};
+ghost use Rattle.rowex_table.specs.Seats.{IsPassOf};
 ghost use Rattle.rowex_writing.specs.Attempts.{call_of};
-ghost use Rattle.hot_index.specs.Answers.{IsNoted, IsRefused, fault_of};
-ghost use Rattle.hot_index.specs.Noting.{notes_of};
+ghost use Rattle.hot_index.specs.Asked.{HasAsked, HasReplied, IsIdle, last_try};
 ghost use Rattle.hot_index.specs.Counts.{once_steps, try_steps};
-ghost use Rattle.hot_index.specs.Passes.{IsSettled, pass_of};
-ghost use Rattle.hot_index.specs.Traces.{HasEnded};
+ghost use Rattle.hot_index.specs.Traces.{AreAttempts, IsAttempt};
 
 use crate::room::Room;
 use epochs::{collect_round, pin, unpin};
@@ -34,16 +32,9 @@ pub fn try_change<G: Gate>(
     key: &Key,
     value: u64,
 ) -> Result<Reply, TryFault>
-    requires own { IsSeatOf table.now seat.old }
-    requires settled { IsSettled seat.old.known }
-    ensures own { IsSeatOf table.now seat.new }
-    ensures settled { IsSettled seat.new.known }
-    ensures later { seat.old.known.steps ≤ seat.new.known.steps }
-    ensures noted { IfOk result (IsNoted table.now.layout (pass_of seat.old) (pass_of seat.new) (call_of ask key.now value)) }
-    ensures refused { IfErr result (IsRefused table.now.layout (pass_of seat.old) (pass_of seat.new)) }
+    requires idle { IsIdle table.now seat.old }
+    ensures asked { HasAsked table.now G.becomes AreAttempts (try_steps table.now.layout) (call_of ask key.now value) result (seat.old, gate.old) (seat.new, gate.new) }
     ensures leafless { ask ≡ Ask.Remove → result ≢ Err TryFault.FullLeaves }
-    ensures ended { HasEnded table.now G.becomes (notes_of (call_of ask key.now value) result) (seat.old, gate.old) (seat.new, gate.new) }
-    ensures few { seat.new.known.steps ≤ seat.old.known.steps + try_steps table.now.layout }
 {
     match try_once(table, seat, gate, room, ask, key, value) {
         Err(TryFault::FullNodes | TryFault::FullLeaves) => {
@@ -64,12 +55,8 @@ pub fn change<R: Wait>(
     key: &Key,
     value: u64,
 ) -> Result<Reply, Full>
-    requires own { IsSeatOf table.now seat.old }
-    requires settled { IsSettled seat.old.known }
-    ensures own { IsSeatOf table.now seat.new }
-    ensures settled { IsSettled seat.new.known }
-    ensures noted { IfOk result (IsNoted table.now.layout (pass_of seat.old) (pass_of seat.new) (call_of ask key.now value)) }
-    ensures refused { IfErr result (λ full. IsRefused table.now.layout (pass_of seat.old) (pass_of seat.new) (fault_of full)) }
+    requires idle { IsIdle table.now seat.old }
+    ensures replied { HasReplied table.now (call_of ask key.now value) (last_try result) seat.old seat.new }
     ensures leafless { ask ≡ Ask.Remove → result ≢ Err Full.Leaves }
 {
     for _ in rt.forever() {
@@ -93,16 +80,9 @@ fn try_once<G: Gate>(
     key: &Key,
     value: u64,
 ) -> Result<Reply, TryFault>
-    requires own { IsSeatOf table.now seat.old }
-    requires settled { IsSettled seat.old.known }
-    ensures own { IsSeatOf table.now seat.new }
-    ensures settled { IsSettled seat.new.known }
-    ensures later { seat.old.known.steps ≤ seat.new.known.steps }
-    ensures noted { IfOk result (IsNoted table.now.layout (pass_of seat.old) (pass_of seat.new) (call_of ask key.now value)) }
-    ensures refused { IfErr result (IsRefused table.now.layout (pass_of seat.old) (pass_of seat.new)) }
+    requires idle { IsIdle table.now seat.old }
+    ensures asked { HasAsked table.now G.becomes IsAttempt (once_steps table.now.layout) (call_of ask key.now value) result (seat.old, gate.old) (seat.new, gate.new) }
     ensures leafless { ask ≡ Ask.Remove → result ≢ Err TryFault.FullLeaves }
-    ensures ended { HasEnded table.now G.becomes (notes_of (call_of ask key.now value) result) (seat.old, gate.old) (seat.new, gate.new) }
-    ensures few { seat.new.known.steps ≤ seat.old.known.steps + once_steps table.now.layout }
 {
     pin(table, seat, gate);
     let outcome = attempt(

@@ -1,9 +1,8 @@
 //! The index and the passes by which threads use it: how it is made, and all calls on it.
 
-ghost use Rattle.std.specs.Prelude.{◌≡◌, ◌↔◌, ◌+◌, ◌*◌, ◌≤◌, ℕ, List, ◌≢◌, Some, Err, IfOk, IsSome, MatchResult, OnErr, length, slice_get};
+ghost use Rattle.std.specs.Prelude.{◌≡◌, ◌↔◌, ◌+◌, ◌≤◌, ℕ, List, ◌≢◌, Some, Err, IfOk, IsSome, MatchResult, OnErr, length, slice_get};
 ghost use mathlib.Core.Option.{some};
 ghost use lib.ListN.{get_elem?};
-ghost use Rattle.key_bits.specs.declared.TheConstants.{MAX_BYTES};
 ghost use Rattle.hot_model.specs.declared.Call.TheVariants.{Get, Insert, Remove, Upsert};
 ghost use Rattle.hot_model.specs.declared.Note.{Note};
 ghost use Rattle.record_words.specs.Limits.{IsPassCount, IsNodeCount, IsLeafCount};
@@ -12,9 +11,9 @@ ghost use Rattle.rowex_core.specs.declared.known.Known.{Known};
 ghost use Rattle.rowex_table.specs.Runs.{StepsWith};
 ghost use Rattle.rowex_table.specs.Seats.{IsPassOf, IsNewSeatOf, SeatView};
 ghost use Rattle.hot_index.specs.Passes.{PassView, Owns, IsNewPass, IsSettled, pass_of};
-ghost use Rattle.hot_index.specs.Counts.{round_steps, try_steps};
+ghost use Rattle.hot_index.specs.Counts.{scan_steps};
 ghost use Rattle.hot_index.specs.Answers.{IsNoted, IsRefused, IsScanned, IsUnnoted, HaveMet, fault_of, got};
-ghost use Rattle.hot_index.specs.Traces.{HasCollected, HasMade, HasRead, untold};
+ghost use Rattle.hot_index.specs.Traces.{HasCollected, HasGot, HasMade, HasRead, untold};
 
 use crate::changing::{change, try_change};
 use crate::room::{Room, new_room};
@@ -46,7 +45,7 @@ pub enum IndexFault {
 /// An ordered index from byte keys to 64-bit values, which passes use at the same time through a `&`.
 #[derive(Drop)]
 pub struct Index {
-    pub(crate) table: HotTable,
+    table: HotTable,
 }
 
 impl Model for Index {
@@ -61,8 +60,8 @@ impl Model for Index {
 /// seen, and its answered calls.
 #[derive(Drop)]
 pub struct Pass {
-    pub(crate) seat: TableSeat,
-    pub(crate) room: Box<Room>,
+    seat: TableSeat,
+    room: Box<Room>,
 }
 
 impl Model for Pass {
@@ -111,8 +110,7 @@ impl Index {
         requires { Owns self.now pass.old }
         ensures own { Owns self.now pass.new }
         ensures call { IsNoted self.now.layout pass.old pass.new (Get key.now) (got result) }
-        ensures steps { (v : ℕ) × (v ≤ 9 * MAX_BYTES) × (pass.new.steps ≤ pass.old.steps + 36 + 26 * v) }
-        ensures read { HasRead self.now untold (pass.old, tt) (pass.new, tt) }
+        ensures made { HasGot self.now untold (pass.old, tt) (pass.new, tt) }
     {
         self.get_with(pass, key, &mut NoGate)
     }
@@ -122,8 +120,7 @@ impl Index {
         requires { Owns self.now pass.old }
         ensures own { Owns self.now pass.new }
         ensures call { IsNoted self.now.layout pass.old pass.new (Get key.now) (got result) }
-        ensures steps { (v : ℕ) × (v ≤ 9 * MAX_BYTES) × (pass.new.steps ≤ pass.old.steps + 36 + 26 * v) }
-        ensures read { HasRead self.now G.becomes (pass.old, gate.old) (pass.new, gate.new) }
+        ensures made { HasGot self.now G.becomes (pass.old, gate.old) (pass.new, gate.new) }
     {
         pin(&self.table, &mut pass.seat, gate);
         let found = look_up(&self.table, &mut pass.seat, key, gate);
@@ -142,7 +139,6 @@ impl Index {
         ensures own { Owns self.now pass.new }
         ensures call { MatchResult result (IsNoted self.now.layout pass.old pass.new (Insert key.now value)) (IsRefused self.now.layout pass.old pass.new) }
         ensures made { HasMade self.now untold (pass.old, tt) (pass.new, tt) }
-        ensures steps { pass.new.steps ≤ pass.old.steps + try_steps self.now.layout }
     {
         self.try_insert_with(pass, key, value, &mut NoGate)
     }
@@ -159,7 +155,6 @@ impl Index {
         ensures own { Owns self.now pass.new }
         ensures call { MatchResult result (IsNoted self.now.layout pass.old pass.new (Insert key.now value)) (IsRefused self.now.layout pass.old pass.new) }
         ensures made { HasMade self.now G.becomes (pass.old, gate.old) (pass.new, gate.new) }
-        ensures steps { pass.new.steps ≤ pass.old.steps + try_steps self.now.layout }
     {
         try_change(
             &self.table,
@@ -180,7 +175,6 @@ impl Index {
         ensures own { Owns self.now pass.new }
         ensures call { MatchResult result (IsNoted self.now.layout pass.old pass.new (Upsert key.now value)) (IsRefused self.now.layout pass.old pass.new) }
         ensures made { HasMade self.now untold (pass.old, tt) (pass.new, tt) }
-        ensures steps { pass.new.steps ≤ pass.old.steps + try_steps self.now.layout }
     {
         self.try_upsert_with(pass, key, value, &mut NoGate)
     }
@@ -197,7 +191,6 @@ impl Index {
         ensures own { Owns self.now pass.new }
         ensures call { MatchResult result (IsNoted self.now.layout pass.old pass.new (Upsert key.now value)) (IsRefused self.now.layout pass.old pass.new) }
         ensures made { HasMade self.now G.becomes (pass.old, gate.old) (pass.new, gate.new) }
-        ensures steps { pass.new.steps ≤ pass.old.steps + try_steps self.now.layout }
     {
         try_change(
             &self.table,
@@ -220,7 +213,6 @@ impl Index {
         ensures call { MatchResult result (IsNoted self.now.layout pass.old pass.new (Remove key.now)) (IsRefused self.now.layout pass.old pass.new) }
         ensures made { HasMade self.now untold (pass.old, tt) (pass.new, tt) }
         ensures leafless { result ≢ Err TryFault.FullLeaves }
-        ensures steps { pass.new.steps ≤ pass.old.steps + try_steps self.now.layout }
     {
         self.try_remove_with(pass, key, &mut NoGate)
     }
@@ -237,7 +229,6 @@ impl Index {
         ensures call { MatchResult result (IsNoted self.now.layout pass.old pass.new (Remove key.now)) (IsRefused self.now.layout pass.old pass.new) }
         ensures made { HasMade self.now G.becomes (pass.old, gate.old) (pass.new, gate.new) }
         ensures leafless { result ≢ Err TryFault.FullLeaves }
-        ensures steps { pass.new.steps ≤ pass.old.steps + try_steps self.now.layout }
     {
         try_change(
             &self.table,
@@ -329,7 +320,8 @@ impl Index {
     /// The keys from `from` to `upto`, both included, with their values, in the order of the keys: the first `limit` of
     /// them, and whether there is a further one.
     ///
-    /// It takes no lock and waits for nobody. It is no picture of one moment: each pair was held at some moment of the
+    /// It takes no lock and waits for nobody: it makes at most 168,606 atomic steps, and 59 more for each pair of the limit,
+    /// whatever others add meanwhile. It is no picture of one moment: each pair was held at some moment of the
     /// call, and each key that was there all along is listed, where there is a further one up to the last pair's. Where
     /// memory ends, it answers nothing.
     pub fn scan(
@@ -344,6 +336,7 @@ impl Index {
         ensures own { Owns self.now pass.new }
         ensures ok { IfOk result (IsScanned self.now.layout pass.old pass.new from.now upto.now limit) }
         ensures err { OnErr result (IsUnnoted self.now.layout pass.old pass.new) }
+        ensures steps { pass.new.steps ≤ pass.old.steps + scan_steps limit }
         ensures read { HasRead self.now untold (pass.old, tt) (pass.new, tt) }
     {
         self.scan_with(alloc, pass, from, upto, limit, &mut NoGate)
@@ -363,11 +356,19 @@ impl Index {
         ensures own { Owns self.now pass.new }
         ensures ok { IfOk result (IsScanned self.now.layout pass.old pass.new from.now upto.now limit) }
         ensures err { OnErr result (IsUnnoted self.now.layout pass.old pass.new) }
+        ensures steps { pass.new.steps ≤ pass.old.steps + scan_steps limit }
         ensures read { HasRead self.now G.becomes (pass.old, gate.old) (pass.new, gate.new) }
     {
         let range = Range { from, upto, limit };
         pin(&self.table, &mut pass.seat, gate);
-        let scan = scan_root(alloc, &self.table, &mut pass.seat, gate, &range);
+        let scan = scan_root(
+            alloc,
+            &self.table,
+            &mut pass.seat,
+            gate,
+            &mut pass.room.way,
+            &range,
+        );
         unpin(&self.table, &mut pass.seat, gate);
         scan
     }
@@ -402,9 +403,7 @@ impl Index {
         requires { Owns self.now pass.old }
         ensures own { Owns self.now pass.new }
         ensures call { IsUnnoted self.now.layout pass.old pass.new }
-        ensures front { pass.new.front ≡ pass.old.front }
-        ensures steps { pass.new.steps ≤ pass.old.steps + round_steps self.now.layout }
-        ensures round { HasCollected self.now untold (pass.old, tt) (pass.new, tt) result.nodes result.leaves }
+        ensures made { HasCollected self.now untold (pass.old, tt) (pass.new, tt) result.nodes result.leaves }
     {
         self.collect_with(pass, &mut NoGate)
     }
@@ -414,9 +413,7 @@ impl Index {
         requires { Owns self.now pass.old }
         ensures own { Owns self.now pass.new }
         ensures call { IsUnnoted self.now.layout pass.old pass.new }
-        ensures front { pass.new.front ≡ pass.old.front }
-        ensures steps { pass.new.steps ≤ pass.old.steps + round_steps self.now.layout }
-        ensures round { HasCollected self.now G.becomes (pass.old, gate.old) (pass.new, gate.new) result.nodes result.leaves }
+        ensures made { HasCollected self.now G.becomes (pass.old, gate.old) (pass.new, gate.new) result.nodes result.leaves }
     {
         collect_round(&self.table, &mut pass.seat, gate)
     }
@@ -451,7 +448,7 @@ fn passes_of(
 }
 
 /// The pass of a seat of this table, with a room of its own.
-pub(crate) fn new_pass(alloc: Global, table: &HotTable, seat: TableSeat) -> Result<Pass, AllocError>
+fn new_pass(alloc: Global, table: &HotTable, seat: TableSeat) -> Result<Pass, AllocError>
     requires { IsSettled seat.known }
     ensures { IfOk result (λ pass. pass ≡ pass_of seat) }
 {

@@ -13,6 +13,3 @@ pub use index::{Index, IndexFault, Pass, create};
 pub use key_bits::Key;
 pub use rowex_core::{Event, Gate, NoGate};
 pub use rowex_writing::{Full, TryFault};
-
-#[cfg(test)]
-mod tests;

@@ -6,10 +6,10 @@ use record_words::Layout;
 use rowex_writing::{Build, MOST_NODES};
 use std::alloc::{AllocError, Global};
 
-/// The lists of a pass's changes. They are wide: they are made once, with the pass, and each change uses them again.
+/// The lists of a pass's scans and changes. They are wide: they are made once, with the pass, and each call uses them again.
 #[derive(Drop)]
 pub struct Room {
-    /// The nodes on the way of the last search.
+    /// The nodes on the way of the last search or scan.
     pub way: ArrayVec<Step, MOST_NODES>,
     /// What the last change was made of, and where the next claims begin.
     pub build: Build,

@@ -1,23 +1,28 @@
 //! The walk of a scan: the pairs of a range of keys, in the order of the keys, as a pinned pass reads them.
 
-ghost use Rattle.std.specs.Prelude.{◌≡◌, ◌≤◌, ℕ, IfOk, IsSome, IsTrue, false};
+ghost use Rattle.std.specs.Prelude.{◌≡◌, ◌≢◌, ◌≤◌, ◌<◌, ◌+◌, ℕ, [], IfOk, IsSome, IsTrue, false, length};
 ghost use Rattle.compound_node.specs.declared.entries.Entry.TheVariants.{Leaf as LeafEntry, Node as NodeEntry};
-ghost use Rattle.pieces.specs.Piece.{size};
 ghost use Rattle.key_bits.specs.Key.{IsKey};
+ghost use Rattle.record_words.specs.declared.TheConstants.{HEAD_WORDS, LEAF_FIELDS};
 ghost use Rattle.tries.specs.Keys.{IsAtMost, IsBefore};
-ghost use Rattle.tries.specs.Tree.{Page};
 ghost use Rattle.rowex_table.specs.Seats.{IsSeatOf};
-ghost use Rattle.rowex_walks.specs.Scan.{MayStandAt, IsStart};
-ghost use Rattle.rowex_reading.specs.Reads.{IsReader, Looks, ReadsSome};
-ghost use Rattle.rowex_reading.specs.Seen.{Sure, IsAtRoot, IsLedTo, HasPlace, HasShape};
-ghost use Rattle.hot_index.specs.Scanning.{HasScanned, IsEntered, IsPairTaken, range_of};
+ghost use Rattle.rowex_reading.specs.Possible.{IsPossible};
+ghost use Rattle.rowex_reading.specs.Reads.{IsReader, Looks, Reads, ReadsSome};
+ghost use Rattle.rowex_reading.specs.Seen.{IsAtRoot, IsLedTo, since};
+ghost use Rattle.rowex_writing.specs.Ways.{IsWayOf};
+ghost use Rattle.rowex_writing.specs.declared.plan.Found.TheVariants.{Leaf as FoundLeaf};
+ghost use Rattle.hot_index.specs.Counts.{scan_loads, walk_loads};
+ghost use Rattle.hot_index.specs.Scanning.{HasScanned, IsEntered, IsFloor, IsPairTaken, IsStart, IsWalk, range_of};
 
+use arrayvec::ArrayVec;
 use compound_node::Entry;
 use hot_model::Scan;
+use insert_cases::{Step, choose, level_below};
 use key_bits::{Key, mismatch};
 use rowex_core::Gate;
 use rowex_reading::{load_entry, load_head, load_leaf, load_root};
 use rowex_table::{HotTable, TableSeat};
+use rowex_writing::{Found, MOST_NODES, search_way, step_of};
 use std::alloc::{AllocError, Global};
 
 /// What a scan asks for.
@@ -28,13 +33,16 @@ pub(crate) struct Range<'a> {
     pub(crate) limit: usize,
 }
 
-/// A node on the way of a scan. The place is the one where the scan is; in the lowest node of the way, the next one.
+/// Where a scan starts on the way of the search for its first key.
 #[derive(Clone, Copy)]
-struct Frame {
-    number: u32,
-    height: u16,
-    count: u8,
-    place: u8,
+struct Start {
+    /// The level of the node in which it starts.
+    level: usize,
+    /// That node, with the place at which the scan starts.
+    top: Step,
+    /// Whether the leaf at which the search ended comes first. It stands at the place, and is not looked for there again: by
+    /// now there may be another entry, with keys below the range.
+    leaf: bool,
 }
 
 /// What becomes of a scan at a pair.
@@ -54,6 +62,7 @@ pub(crate) fn scan_root<G: Gate>(
     table: &HotTable,
     seat: &mut TableSeat,
     gate: &mut G,
+    way: &mut ArrayVec<Step, MOST_NODES>,
     range: &Range,
 ) -> Result<Scan, AllocError>
     requires own { IsSeatOf table.now seat.old }
@@ -61,21 +70,25 @@ pub(crate) fn scan_root<G: Gate>(
     ensures looks { (n : ℕ) × Looks table.now G.becomes n (seat.old, gate.old) (seat.new, gate.new) }
     ensures keys { IsKey range.now.from.now × IsKey range.now.upto.now }
     ensures scanned { IfOk result (HasScanned seat.new.known (range_of range.now)) }
+    ensures few { seat.new.known.steps ≤ seat.old.known.steps + (1 + scan_loads range.now.limit) }
 {
-    let root = load_root(table, seat, gate);
     if is_before(range.upto, range.from) {
-        return Ok(Scan {
-            pairs: Vec::new(alloc),
-            more: false,
-        });
+        load_root(table, seat, gate);
+        return Ok(nothing(alloc));
     }
-    match root {
-        Some(Entry::Leaf(number)) => scan_leaf(alloc, table, seat, gate, range, number),
-        Some(Entry::Node { number, .. }) => scan_node(alloc, table, seat, gate, range, number),
-        None => Ok(Scan {
-            pairs: Vec::new(alloc),
-            more: false,
-        }),
+    match search_way(table, seat, gate, range.from, way) {
+        Found::Nothing => Ok(nothing(alloc)),
+        Found::Leaf {
+            number,
+            mismatch,
+            ..
+        } => {
+            if way.len() == 0 {
+                scan_leaf(alloc, table, seat, gate, range, number)
+            } else {
+                scan_node(alloc, table, seat, gate, way, range, number, mismatch)
+            }
+        }
     }
 }
 
@@ -90,10 +103,13 @@ fn scan_leaf<G: Gate>(
 ) -> Result<Scan, AllocError>
     requires reader { IsReader table.now seat.old }
     requires root { IsAtRoot seat.old.known (LeafEntry number) }
-    ensures reads { ReadsSome table.now G.becomes (seat.old, gate.old) (seat.new, gate.new) }
+    ensures reads { (n : ℕ) × (n ≤ LEAF_FIELDS) × Reads table.now G.becomes n (seat.old, gate.old) (seat.new, gate.new) }
     ensures scanned { IfOk result (HasScanned seat.new.known (range_of range.now)) }
 {
     let (key, value) = load_leaf(table, seat, gate, number);
+    if is_before(&key, range.from) {
+        return Ok(nothing(alloc));
+    }
     let mut pairs = Vec::new(alloc);
     match take_pair(&mut pairs, range, key, value)? {
         Verdict::Full => Ok(Scan { pairs, more: true }),
@@ -101,49 +117,117 @@ fn scan_leaf<G: Gate>(
     }
 }
 
-/// The scan from a root that is a node: a walk over the places of the nodes on its way, from left to right. On the left
-/// edge of the walk a node is entered at the first place that matters.
+/// The scan from a root that is a node, below which the search for the range's first key has ended at this leaf.
 fn scan_node<G: Gate>(
     alloc: Global,
     table: &HotTable,
     seat: &mut TableSeat,
     gate: &mut G,
+    way: &mut ArrayVec<Step, MOST_NODES>,
     range: &Range,
     number: u32,
+    mismatch: Option<u16>,
 ) -> Result<Scan, AllocError>
     requires reader { IsReader table.now seat.old }
-    requires root { (h : ℕ) × IsAtRoot seat.old.known (NodeEntry number h) }
-    ensures reads { ReadsSome table.now G.becomes (seat.old, gate.old) (seat.new, gate.new) }
+    requires nodes { 0 < length way.old.items }
+    requires way { (v : ℕ) × IsWayOf table.now.layout seat.old.known (since seat.old.known) range.now.from.now way.old.items (FoundLeaf number v mismatch) }
+    ensures reads { (n : ℕ) × (n ≤ HEAD_WORDS + LEAF_FIELDS + walk_loads range.now.limit) × Reads table.now G.becomes n (seat.old, gate.old) (seat.new, gate.new) }
     ensures scanned { IfOk result (HasScanned seat.new.known (range_of range.now)) }
 {
+    let start = start_at(table, seat, gate, way, range.from, number, mismatch);
+    let mut top = start.top;
+    way.truncate(start.level);
     let mut pairs = Vec::new(alloc);
-    let mut frames = Vec::new(alloc);
-    let mut at_edge = true;
-    let mut top = enter(table, seat, gate, range, number, at_edge);
+    if start.leaf {
+        let (key, value) = load_leaf(table, seat, gate, number);
+        match take_pair(&mut pairs, range, key, value)? {
+            Verdict::Further => top.at += 1,
+            Verdict::Past => return Ok(Scan { pairs, more: false }),
+            Verdict::Full => return Ok(Scan { pairs, more: true }),
+        }
+    }
+    walk(table, seat, gate, way, range, top, pairs)
+}
+
+/// Where a scan from a key starts on the way of the key's search, which ended at this leaf. The position at which the leaf's
+/// key differs first parts the range's first key from those of the entries that it affects, and these from all others: so the
+/// scan starts at the first of them, or behind the last.
+fn start_at<G: Gate>(
+    table: &HotTable,
+    seat: &mut TableSeat,
+    gate: &mut G,
+    way: &[Step],
+    from: &Key,
+    _number: u32,
+    mismatch: Option<u16>,
+) -> Start
+    requires reader { IsReader table.now seat.old }
+    requires nodes { 0 < length way.now }
+    requires way { (m v : ℕ) × IsWayOf table.now.layout seat.old.known m from.now way.now (FoundLeaf _number v mismatch) }
+    ensures reads { (n : ℕ) × (n ≤ HEAD_WORDS) × Reads table.now G.becomes n (seat.old, gate.old) (seat.new, gate.new) }
+    ensures start { (m v : ℕ) → IsWayOf table.now.layout seat.old.known m from.now way.now (FoundLeaf _number v mismatch) → IsStart seat.new.known m from.now way.now _number result }
+{
+    let lowest = way.len() - 1;
+    let Some(position) = mismatch else {
+        return Start {
+            level: lowest,
+            top: way[lowest],
+            leaf: true,
+        };
+    };
+    let below = from.bit(position);
+    let level = level_below(way, position);
+    let head = load_head(table, seat, gate, way[level].number);
+    let (first, last) = head.affected(way[level].at, position);
+    let part = choose(way, level, first, last);
+    let mut top = way[part.level];
+    top.at = if below { part.last + 1 } else { part.first };
+    Start {
+        level: part.level,
+        top,
+        leaf: !below && part.first == part.last,
+    }
+}
+
+/// The walk over the places of the nodes on the way, from left to right, from the lowest of them on.
+fn walk<G: Gate>(
+    table: &HotTable,
+    seat: &mut TableSeat,
+    gate: &mut G,
+    way: &mut ArrayVec<Step, MOST_NODES>,
+    range: &Range,
+    lowest: Step,
+    taken: Vec<(Key, u64)>,
+) -> Result<Scan, AllocError>
+    requires reader { IsReader table.now seat.old }
+    requires walk { IsWalk seat.old.known (since seat.old.known) (range_of range.now) lowest way.old.items taken.items }
+    requires floor { IsFloor seat.old.known (since seat.old.known) range.now.from.now lowest way.old.items }
+    ensures reads { (n : ℕ) × (n ≤ walk_loads range.now.limit) × Reads table.now G.becomes n (seat.old, gate.old) (seat.new, gate.new) }
+    ensures scanned { IfOk result (HasScanned seat.new.known (range_of range.now)) }
+{
+    let mut top = lowest;
+    let mut pairs = taken;
     loop {
-        if top.place < top.count {
-            match load_entry(table, seat, gate, top.number, top.place) {
+        if top.at < top.count {
+            match load_entry(table, seat, gate, top.number, top.at) {
                 Entry::Node { number, .. } => {
-                    frames.push(top)?;
-                    top = enter(table, seat, gate, range, number, at_edge);
+                    way.push(top);
+                    top = enter(table, seat, gate, number);
                 }
                 Entry::Leaf(number) => {
                     let (key, value) = load_leaf(table, seat, gate, number);
                     match take_pair(&mut pairs, range, key, value)? {
-                        Verdict::Further => {
-                            top.place += 1;
-                            at_edge = false;
-                        }
+                        Verdict::Further => top.at += 1,
                         Verdict::Past => return Ok(Scan { pairs, more: false }),
                         Verdict::Full => return Ok(Scan { pairs, more: true }),
                     }
                 }
             }
         } else {
-            match frames.pop() {
-                Some(below) => {
-                    top = below;
-                    top.place += 1;
+            match way.pop() {
+                Some(above) => {
+                    top = above;
+                    top.at += 1;
                 }
                 None => return Ok(Scan { pairs, more: false }),
             }
@@ -151,100 +235,27 @@ fn scan_node<G: Gate>(
     }
 }
 
-/// Goes to a node: reads its head, and begins at its first place, or on the left edge at the first that matters.
-fn enter<G: Gate>(
-    table: &HotTable,
-    seat: &mut TableSeat,
-    gate: &mut G,
-    range: &Range,
-    number: u32,
-    at_edge: bool,
-) -> Frame
+/// Goes to a node: reads its head, and begins at its first place.
+fn enter<G: Gate>(table: &HotTable, seat: &mut TableSeat, gate: &mut G, number: u32) -> Step
     requires reader { IsReader table.now seat.old }
     requires led { (m h : ℕ) × IsLedTo seat.old.known m (NodeEntry number h) }
-    ensures reads { ReadsSome table.now G.becomes (seat.old, gate.old) (seat.new, gate.new) }
-    ensures entered { (m h : ℕ) → IsLedTo seat.old.known m (NodeEntry number h) → IsEntered seat.new.known m (range_of range.now) number h result }
+    ensures reads { Reads table.now G.becomes HEAD_WORDS (seat.old, gate.old) (seat.new, gate.new) }
+    ensures entered { (m h : ℕ) → IsLedTo seat.old.known m (NodeEntry number h) → IsEntered seat.new.known m number h result }
 {
     let head = load_head(table, seat, gate, number);
-    let count = head.count();
-    let place = if at_edge {
-        start_place(table, seat, gate, range, number, count)
-    } else {
-        0
-    };
-    Frame {
-        number,
-        height: head.height(),
-        count,
-        place,
-    }
+    step_of(&head, number, 0)
 }
 
-/// The last place of a node whose first leaf has a key that is not above the range's first, or 0 where there is none: such
-/// keys rise with the places, and the search halves the places that are left.
-fn start_place<G: Gate>(
-    table: &HotTable,
-    seat: &mut TableSeat,
-    gate: &mut G,
-    range: &Range,
-    number: u32,
-    count: u8,
-) -> u8
-    requires reader { IsReader table.now seat.old }
-    requires shape { (m h : ℕ) × (x : Page) × HasShape seat.old.known m number h x × (count ≤ size x) × (1 ≤ count) × (count ≤ 32) }
-    ensures reads { ReadsSome table.now G.becomes (seat.old, gate.old) (seat.new, gate.new) }
-    ensures start { (m h : ℕ) (x : Page) → HasShape seat.old.known m number h x → count ≤ size x → Sure seat.new.known (λ s. IsStart s m (range_of range.now) number result) }
-{
-    let mut low = 0;
-    let mut high = count;
-    while low + 1 < high {
-        let middle = (low + high) / 2;
-        let key = first_key(table, seat, gate, number, middle);
-        if is_before(range.from, &key) {
-            high = middle;
-        } else {
-            low = middle;
-        }
-    }
-    low
-}
-
-/// The key of the first leaf below a place of a node.
-fn first_key<G: Gate>(
-    table: &HotTable,
-    seat: &mut TableSeat,
-    gate: &mut G,
-    number: u32,
-    place: u8,
-) -> Key
-    requires reader { IsReader table.now seat.old }
-    requires place { (m h : ℕ) × HasPlace seat.old.known m number h place }
-    ensures reads { ReadsSome table.now G.becomes (seat.old, gate.old) (seat.new, gate.new) }
-    ensures key { (m h : ℕ) → HasPlace seat.old.known m number h place → Sure seat.new.known (λ s. MayStandAt s m number place result) }
-{
-    let mut entry = load_entry(table, seat, gate, number, place);
-    loop {
-        match entry {
-            Entry::Leaf(leaf) => return load_leaf(table, seat, gate, leaf).0,
-            Entry::Node { number, .. } => {
-                entry = load_entry(table, seat, gate, number, 0);
-            }
-        }
-    }
-}
-
-/// Takes a pair, if it belongs to the range and there is room for it.
+/// Takes a pair whose key is not below the range, if it belongs to the range and there is room for it.
 fn take_pair(
     pairs: &mut Vec<(Key, u64)>,
     range: &Range,
     key: Key,
     value: u64,
 ) -> Result<Verdict, AllocError>
+    requires above { IsAtMost range.now.from.now key }
     ensures { IfOk result (IsPairTaken (range_of range.now) pairs.old.items key value pairs.new.items) }
 {
-    if is_before(&key, range.from) {
-        return Ok(Verdict::Further);
-    }
     if is_before(range.upto, &key) {
         return Ok(Verdict::Past);
     }
@@ -253,6 +264,17 @@ fn take_pair(
     }
     pairs.push((key, value))?;
     Ok(Verdict::Further)
+}
+
+/// The scan of no pairs.
+fn nothing(alloc: Global) -> Scan
+    ensures pairs { result.pairs.items ≡ [] }
+    ensures more { result.more ≡ false }
+{
+    Scan {
+        pairs: Vec::new(alloc),
+        more: false,
+    }
 }
 
 /// Whether the first key is before the second, by their first different bit.

@@ -3,10 +3,12 @@
 ghost use Rattle.std.specs.Prelude.{IfOk, All};
 ghost use Rattle.hot_index.specs.Passes.{Owns};
 
+use crate::gates::Recorder;
 use crate::made::key;
-use hot_index::{Given, Index, IndexFault, Pass, create};
+use hot_index::{Given, Index, IndexFault, Pass, Reply, create};
 use key_bits::Key;
-use record_words::LayoutFault;
+use record_words::{LayoutFault, pack_leaf};
+use rowex_core::{Act, Rec, Spot};
 use std::alloc::{AllocError, Global};
 use std::process::Abort;
 use std::test::*;
@@ -106,6 +108,63 @@ fn ranges_turned_round_have_no_pairs(rt: HostRuntime) -> Result<(), Fail> {
     assert!(rt; gives_nothing(rt.alloc(), &index, &mut pass, &high, &low, 0)?);
     assert!(rt; gives_nothing(rt.alloc(), &index, &mut pass, &high, &low, 10_000)?);
     assert!(rt; gives_nothing(rt.alloc(), &index, &mut pass, &high, &high, 0)?);
+    Ok(())
+}
+
+#[test]
+fn events_of_gets(rt: HostRuntime) -> Result<(), Fail> {
+    let (index, mut passes) = index_of(&rt, rt.alloc(), 1)?;
+    let mut pass = last_pass(&rt, &index, &mut passes);
+    let mut gate = Recorder::new(rt.alloc());
+    let key = key(&rt, b"ab");
+    assert!(rt; index.get_with(&mut pass, &key, &mut gate) == None);
+    assert!(rt; gate.was_told(0, &acts_of_get(rt.alloc(), 0, &[])?));
+    assert!(rt; index.try_insert(&mut pass, &key, 77) == Ok(Reply::Inserted));
+    assert!(rt; index.get_with(&mut pass, &key, &mut gate) == Some(77));
+    assert!(rt; gate.was_told(0, &acts_of_get(rt.alloc(), 1, &pack_leaf(&key, 77))?));
+    Ok(())
+}
+
+/// The acts of a get of pass 0 that finds this root, and then loads these words of leaf 0.
+fn acts_of_get(alloc: Global, root: u64, words: &[u64]) -> Result<Vec<Act>, AllocError> {
+    let mut acts = Vec::new(alloc);
+    acts.push(Act::LoadEpoch { word: 1 })?;
+    acts.push(Act::SetPin { word: 1 })?;
+    acts.push(Act::LoadRef {
+        spot: Spot::Root,
+        word: root,
+    })?;
+    for (offset, word) in (1..=u8::MAX).zip(words.iter()) {
+        acts.push(Act::LoadFixed {
+            rec: Rec::Leaf(0),
+            offset,
+            word: *word,
+        })?;
+    }
+    acts.push(Act::ClearPin)?;
+    Ok(acts)
+}
+
+#[test]
+fn one_pair_is_listed_where_it_is_in_range(rt: HostRuntime) -> Result<(), Fail> {
+    let (index, mut passes) = index_of(&rt, rt.alloc(), 1)?;
+    let mut pass = last_pass(&rt, &index, &mut passes);
+    assert!(rt; index.try_insert(&mut pass, &key(&rt, b"ab"), 77) == Ok(Reply::Inserted));
+    for row in [
+        ("a", "b", 1),
+        ("ab", "b", 1),
+        ("a", "ab", 1),
+        ("ab", "ab", 1),
+        ("a", "a", 0),
+        ("b", "b", 0),
+        ("b", "a", 0),
+    ] {
+        let (from, upto) = (key(&rt, row.0.as_bytes()), key(&rt, row.1.as_bytes()));
+        let none = index.scan(rt.alloc(), &mut pass, &from, &upto, 0)?;
+        assert!(rt; none.pairs.is_empty() && none.more == (row.2 == 1));
+        let all = index.scan(rt.alloc(), &mut pass, &from, &upto, usize::MAX)?;
+        assert!(rt; all.pairs.len() == row.2 && !all.more);
+    }
     Ok(())
 }
 

@@ -5,7 +5,7 @@ ghost use Rattle.moments.specs.declared.Rec.TheVariants.{Leaf as a_leaf};
 ghost use Rattle.rowex_core.specs.declared.known.Holding.TheVariants.{Ready as IsReady};
 ghost use Rattle.rowex_core.specs.Cores.{HasRecord};
 ghost use Rattle.rowex_core.specs.Events.{IsFixedOffset};
-ghost use Rattle.rowex_table.specs.Rights.{Has, IsClaimed};
+ghost use Rattle.rowex_table.specs.Rights.{OwnsAs, IsClaimed};
 ghost use Rattle.rowex_table.specs.Seats.{IsPassOf, IsNewSeat};
 
 use key_bits::Key;
@@ -70,7 +70,7 @@ pub fn make_leaf(table: &HotTable, seat: &mut TableSeat, leaf: u32, key: &Key, v
     requires { IsPassOf table.now seat.old × (leaf < table.now.layout.leaves) }
     ensures fits { IsPassOf table.now seat.new }
     ensures pin { seat.new.known.pin ≡ seat.old.known.pin }
-    ensures has { result ≡ true → (words : List ℕ) × Has seat.new.known (a_leaf leaf) IsReady words }
+    ensures has { result ≡ true → (words : List ℕ) × OwnsAs seat.new.known (a_leaf leaf) IsReady words }
 {
     if claim(table, seat, leaf) != 0 {
         return false;

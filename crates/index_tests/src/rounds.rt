@@ -3,7 +3,7 @@
 ghost use Rattle.std.specs.Prelude.{◌≡◌, ◌<◌, ℕ, List};
 ghost use Rattle.moments.specs.declared.Rec.TheVariants.{Leaf as a_leaf};
 ghost use Rattle.rowex_core.specs.declared.known.Holding.TheVariants.{Ready as IsReady};
-ghost use Rattle.rowex_table.specs.Rights.{Has};
+ghost use Rattle.rowex_table.specs.Rights.{OwnsAs};
 ghost use Rattle.rowex_table.specs.Seats.{IsPassOf, IsNewSeat};
 
 use crate::gates::{AdvanceCount, Recorder};
@@ -45,7 +45,7 @@ fn a_round_leaves_held_records(rt: HostRuntime) -> Result<(), Fail> {
 /// Links leaf 0 at the root; answers whether the anchor was not locked and the root was empty.
 fn link_leaf(table: &HotTable, seat: &mut TableSeat) -> bool
     requires fits { IsPassOf table.now seat.old × (0 < table.now.layout.leaves) }
-    requires has { (words : List ℕ) × Has seat.old.known (a_leaf 0) IsReady words }
+    requires has { (words : List ℕ) × OwnsAs seat.old.known (a_leaf 0) IsReady words }
     ensures fits { IsPassOf table.now seat.new }
     ensures pin { seat.new.known.pin ≡ seat.old.known.pin }
 {

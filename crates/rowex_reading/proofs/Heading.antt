@@ -18,10 +18,10 @@ use Rattle.tries.specs.Tree.{Tree, leaf, node, fork, page, Page, Fixed}
 use Rattle.tries.specs.Place.{shape}
 use Rattle.moments.specs.declared.Rec.TheVariants.{Node as a_node}
 use Rattle.moments.specs.Heap.{Heap, NodeWords, IsCopied}
-use Rattle.moments.specs.State.{Stands, IsRecord, IsSame, IsReach}
+use Rattle.moments.specs.State.{Stands, IsRecord, IsSameRecord, IsReach}
 use Rattle.moments.proofs.States.{steady}
 use Rattle.rowex_core.specs.declared.known.Known.{Known}
-use Rattle.rowex_core.specs.Cores.{Core, IsLawful, heap_of, view}
+use Rattle.rowex_core.specs.Cores.{Core, IsLawful, heap_of}
 use Rattle.rowex_core.specs.Knowing.{Recalls}
 use Rattle.rowex_core.proofs.Owning.{recalls}
 use Rattle.rowex_core.specs.Reading.{IsPacked}
@@ -36,6 +36,7 @@ use Rattle.rowex_reading.proofs.Seeing.{recalls_before, seen_within, seen_past, 
 use Rattle.rowex_reading.proofs.Standing.{reach, is_packed}
 use Rattle.rowex_reading.proofs.Placing.{to_stood}
 use Rattle.rowex_reading.proofs.Wording.{AreLoaded, led_stood, words_now}
+use Rattle.rowex_core.proofs.Loading.{view}
 
 -- The forks of a node are those of one with its head and leaves at its places
 
@@ -65,7 +66,7 @@ pub shape_is : (v : NodeView) → IsLawfulNode v → shape (piece v) ≡ shape_o
 shape_is v lawful = shape_map (piece v) ∙ sym (piece_of_shown (Leaf 0) v.columns v.rows (leaves (length v.rows)) (map_places a_leaf (piece v)) (shows_leaves v lawful))
 
 -- the fixed words of a node that stood are those that it has
-same_fixed : (heap : Heap) (n : ℕ) (x : Fixed) (b w : Tree) → IsRecord (a_node n) w → IsSame (node n x b) w → IsCopied heap w → (heap.nodes n).fixed ≡ x
+same_fixed : (heap : Heap) (n : ℕ) (x : Fixed) (b w : Tree) → IsRecord (a_node n) w → IsSameRecord (node n x b) w → IsCopied heap w → (heap.nodes n).fixed ≡ x
 same_fixed heap n x b (leaf m k v) r i f = absurd i
 same_fixed heap n x b (fork p y z) r i f = absurd i
 same_fixed heap n x b (node m y d) r i f = ap (λ z. (heap.nodes z).fixed) (number r) ∙ (ap (λ (z : NodeWords). z.fixed) f ∙ sym i.0)

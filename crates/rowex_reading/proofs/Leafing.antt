@@ -12,7 +12,7 @@ use Rattle.moments.specs.declared.Rec.TheVariants.{Leaf as a_leaf}
 use Rattle.moments.specs.Heap.{LeafWords}
 use Rattle.moments.specs.State.{Stands}
 use Rattle.rowex_core.specs.declared.known.Known.{Known}
-use Rattle.rowex_core.specs.Cores.{Core, IsLawful, heap_of, view}
+use Rattle.rowex_core.specs.Cores.{Core, IsLawful, heap_of}
 use Rattle.rowex_core.specs.Knowing.{Recalls}
 use Rattle.rowex_core.proofs.Owning.{recalls}
 use Rattle.rowex_core.specs.Reading.{IsPacked}
@@ -25,6 +25,7 @@ use Rattle.rowex_reading.specs.Seen.{seen, Sure, IsLedTo}
 use Rattle.rowex_reading.proofs.Seeing.{recalls_before, seen_within, seen_grown, stands_in, stands_seen}
 use Rattle.rowex_reading.proofs.Standing.{reach, is_packed}
 use Rattle.rowex_reading.proofs.Wording.{AreLoaded, led_stood, words_now}
+use Rattle.rowex_core.proofs.Loading.{view}
 
 module _ (layout : Layout) (k j : Known) (n i : ℕ) (words : List ℕ) (possible : IsPossible layout j) (loaded : AreLoaded k j (a_leaf n) i words) (all : i ≡ LEAF_FIELDS)
     (long : length words ≡ LEAF_FIELDS) (m : ℕ) (led : IsLedTo k m (Leaf n)) where

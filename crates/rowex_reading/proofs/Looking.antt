@@ -11,7 +11,7 @@ use Rattle.tries.specs.Search.{Follows}
 use Rattle.tries.specs.Place.{spot}
 use Rattle.tries.proofs.Places.{spot_below}
 use Rattle.tries.proofs.Tries.{has?, follows_if_has}
-use Rattle.moments.specs.State.{Past, IsSteady, IsLed, IsMissed, IsHeld}
+use Rattle.moments.specs.State.{Past, IsSteady, IsLed, IsMissed, IsHeldSince}
 use Rattle.moments.specs.declared.Rec.TheVariants.{Leaf as a_leaf}
 use Rattle.moments.proofs.States.{record_of_page}
 use Rattle.rowex_walks.specs.Scan.{IsSeen, IsRooted, IsBlank, IsPlaced, IsShaped, IsRead}
@@ -160,8 +160,8 @@ module _ {G : Type 0} {table : TableView} {becomes : G → Event → G → Type 
       }
 
       pub leaf_held : l ≡ key → HasFound c.0.known key (Some v)
-      leaf_held e = subst (λ o. Sure c.0.known (λ s. IsHeld s o key v)) (sym (same_since reads))
-          (λ o lawful recalls. subst (λ z. IsHeld (seen o c.0.known) m z v) e (read_held (seen o c.0.known) m n l v (read o lawful recalls)))
+      leaf_held e = subst (λ o. Sure c.0.known (λ s. IsHeldSince s o key v)) (sym (same_since reads))
+          (λ o lawful recalls. subst (λ z. IsHeldSince (seen o c.0.known) m z v) e (read_held (seen o c.0.known) m n l v (read o lawful recalls)))
 
       pub leaf_absent : l ≢ key → HasFound c.0.known key None
       leaf_absent ne = subst (λ o. Sure c.0.known (λ s. IsMissed s o key)) (sym (same_since reads))

@@ -24,7 +24,7 @@ use Rattle.rowex_core.proofs.Owning.{recalls}
 use Rattle.rowex_core.specs.Reading.{entry_of, entry_in}
 use Rattle.rowex_core.specs.Words.{record_word}
 use Rattle.rowex_core.proofs.Reading.{entry_of_word}
-use Rattle.rowex_table.specs.Rule.{IsEntry}
+use Rattle.rowex_table.specs.Rule.{HasSpot}
 use Rattle.rowex_table.specs.Runs.{silent}
 use Rattle.rowex_walks.specs.Scan.{Stood, IsPlaced}
 use Rattle.rowex_walks.proofs.Ends.{placed_falls}
@@ -51,7 +51,7 @@ few_places layout k m n h i possible (led, room) =
     let low = r.2 in
     omega arith
 
-pub is_entry : (layout : Layout) (k : Known) (m n h i : ℕ) → IsPossible layout k → HasPlace k m n h i → IsEntry layout (Slot n i)
+pub is_entry : (layout : Layout) (k : Known) (m n h i : ℕ) → IsPossible layout k → HasPlace k m n h i → HasSpot layout (Slot n i)
 is_entry layout k m n h i possible has = (led_in_table layout k m (Node n h) possible has.0, few_places layout k m n h i possible has)
 
 pub to_stood : (s : Past) (m r at : ℕ) (u : Tree) (x : Fixed) (b : Tree) → u ≡ node r x b → m ≤ at → at ≤ s.now → Stands s at (a_node r) u → Stood s m r b

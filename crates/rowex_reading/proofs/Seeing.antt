@@ -1,58 +1,48 @@
 -- What a pass is sure of, and what stays so while it loads.
-use Rattle.std.proofs.Common.{◌≡◌, inl, inr, ℕ, suc, zero, ◌≤◌, List, [], ◌∷◌, ◌++◌, length, take, refl, ap, sym, ◌∙◌, subst, arith, le_trans}
+use Rattle.std.proofs.Common.{◌≡◌, inl, inr, ℕ, suc, zero, ◌≤◌, List, [], ◌∷◌, ◌++◌, length, take, refl, ap, sym, ◌∙◌, arith, le_trans}
 use Rattle.std.proofs.lemmas.List.{length-append}
 use Rattle.key_bits.specs.Bits.{bit_of}
 use Rattle.pieces.specs.Piece.{leads_to}
 use Rattle.compound_node.specs.Nodes.{HeadView, NodeView, IsLawful as IsLawfulNode, head_of, leaves, node_of, piece}
 use Rattle.compound_node.specs.declared.entries.Entry.{Entry}
 use Rattle.hot_model.specs.declared.Change.{Change}
-use Rattle.hot_model.specs.Fronts.{OthersGoOn, map_of}
-use Rattle.hot_model.proofs.Growth.{legal_front_part, others_none, others_on}
+use Rattle.hot_model.specs.Fronts.{map_of}
+use Rattle.hot_model.proofs.Growth.{legal_front_part, others_none}
 use Rattle.tries.specs.Keys.{Key}
 use Rattle.tries.specs.Place.{spot}
 use Rattle.tries.proofs.Places.{leads_spot}
 use Rattle.tries.specs.Tree.{Page, Tree}
 use Rattle.moments.specs.declared.Rec.{Rec}
-use Rattle.moments.specs.State.{Past, Stands, IsHeld, IsMissed, IsLed, IsSteady, rec_of}
+use Rattle.moments.specs.State.{Past, Stands, IsHeldSince, IsMissed, IsLed, IsSteady, rec_of}
 use Rattle.moments.specs.Core.{pin_moment}
 use Rattle.moments.specs.Frames.{IsGrown}
-use Rattle.moments.specs.Told.{IsTold}
+use Rattle.moments.specs.Told.{TellChanges}
 use Rattle.moments.proofs.Growth.{stands_grown}
 use Rattle.moments.proofs.States.{steady, reach_later}
 use Rattle.rowex_core.specs.declared.known.Known.{Known}
-use Rattle.rowex_core.specs.Cores.{Core, IsLawful, view}
+use Rattle.rowex_core.specs.Cores.{Core, IsLawful}
 use Rattle.rowex_core.specs.Knowing.{Recalls, IsSince}
 use Rattle.rowex_walks.specs.Scan.{IsSeen, IsRooted, IsPlaced, IsShaped, IsRead, IsBlank}
 use Rattle.rowex_walks.proofs.Persist.{rooted_on, placed_on, shaped_on, read_on}
-use Rattle.rowex_reading.specs.Seen.{seen, shape_of, Sure, IsStable, HasRoom}
+use Rattle.rowex_reading.specs.Seen.{seen, shape_of, Sure, HasRoom}
 use Rattle.rowex_table.specs.Made.{IsLater}
+pub use Rattle.rowex_table.proofs.ActsBefore.{later_trans, recalls_before}
+use Rattle.rowex_core.proofs.Loading.{view}
 
 -- Later on
 
-pub later_trans : {k i j : Known} → IsLater k i → IsLater i j → IsLater k j
-later_trans {k} {i} {j} x y = record {
-  pass = y.pass ∙ x.pass;
-  pin = y.pin ∙ x.pin;
-  front = others_on k.pass k.front i.front j.front x.front (subst (λ z. OthersGoOn z i.front j.front) x.pass y.front);
-  facts = λ s h. x.facts s (y.facts s h);
-}
-
 pub later_none : (k : Known) → IsLater k k
 later_none k = record { pass = refl; pin = refl; front = others_none k.pass k.front; facts = λ s h. h }
-
--- what is true later on was true before
-pub recalls_before : {k j : Known} {c : Core} → IsLater k j → Recalls c j → Recalls c k
-recalls_before {k} {j} {c} l h = record {
-  front = others_on k.pass k.front j.front c.changes l.front (subst (λ z. OthersGoOn z j.front c.changes) l.pass h.front);
-  facts = l.facts c.past h.facts;
-  pin = subst (λ z. c.pins z ≡ j.pin) l.pass h.pin ∙ l.pin;
-}
 
 -- the moments that it has seen become more
 pub seen_grown : {k j : Known} (c : Core) → IsLater k j → IsGrown (seen c k) (seen c j)
 seen_grown {k} {j} c l = record { longer = omega (arith, ap length l.front.1, length-append k.front l.front.0); kept = λ n a. refl }
 
 -- What a pass is sure of
+
+-- what holds of a past holds of each longer one
+abbrev pub IsStable : (Past → Type 0) → Type 0
+IsStable P = (a b : Past) → IsGrown a b → P a → P b
 
 pub sure_later : {P : Past → Type 0} {k j : Known} → IsStable P → IsLater k j → Sure k P → Sure j P
 sure_later {P} {k} {j} stable l sure c lawful recalls = stable (seen c k) (seen c j) (seen_grown c l) (sure c lawful (recalls_before l recalls))
@@ -83,7 +73,7 @@ take_front (suc n) [] ys h = absurd (omega arith)
 take_front (suc n) (x ∷ xs) ys h = ap (λ z. x ∷ z) (take_front n xs ys (omega arith))
 
 -- its front tells them
-pub seen_told : {c : Core} {k : Known} → IsLawful c → Recalls c k → IsTold (seen c k) k.front
+pub seen_told : {c : Core} {k : Known} → IsLawful c → Recalls c k → TellChanges (seen c k) k.front
 seen_told {c} {k} lawful recalls = record {
   count = refl;
   content_is = λ n h. lawful.core.told.content_is n (le_trans h (seen_within lawful recalls)) ∙
@@ -127,7 +117,7 @@ read_stable m r k v a b g h = read_on a b g m r k v h
 pub blank_stable : (m : ℕ) → IsStable (λ s. IsBlank s m)
 blank_stable m a b g (n, lo, hi, e) = (n, lo, le_trans hi g.longer, g.kept n hi ∙ e)
 
-pub held_stable : (m : ℕ) (k : Key) (v : ℕ) → IsStable (λ s. IsHeld s m k v)
+pub held_stable : (m : ℕ) (k : Key) (v : ℕ) → IsStable (λ s. IsHeldSince s m k v)
 held_stable m k v a b g (n, t, lo, hi, e, h) = (n, t, lo, le_trans hi g.longer, g.kept n hi ∙ e, h)
 
 pub missed_stable : (m : ℕ) (k : Key) → IsStable (λ s. IsMissed s m k)

@@ -16,7 +16,7 @@ use Rattle.moments.specs.State.{Stands, IsReach, rec_of}
 use Rattle.moments.specs.Core.{Fate, Free, Held, Ready, InTree, Unlinked, Marked, pin_moment}
 use Rattle.moments.proofs.States.{reach_later}
 use Rattle.rowex_core.specs.declared.known.Known.{Known}
-use Rattle.rowex_core.specs.Cores.{Core, IsLawful, IsWhole, HasRecord, view}
+use Rattle.rowex_core.specs.Cores.{Core, IsLawful, IsWhole, HasRecord}
 use Rattle.rowex_core.specs.Events.{IsFixedOffset}
 use Rattle.rowex_core.specs.Knowing.{Recalls, IsSince}
 use Rattle.rowex_core.proofs.Owning.{recalls}
@@ -27,6 +27,7 @@ use Rattle.rowex_walks.specs.Scan.{IsSeen}
 use Rattle.rowex_reading.specs.Possible.{IsPossible}
 use Rattle.rowex_reading.specs.Seen.{seen, IsLedTo}
 use Rattle.rowex_reading.proofs.Seeing.{seen_within, stands_in}
+use Rattle.rowex_core.proofs.Loading.{view}
 
 whole : (f : Fate) → f ≢ Free → ((o : ℕ) → f ≢ Held o) → IsWhole f
 whole Free a b = absurd (a refl)

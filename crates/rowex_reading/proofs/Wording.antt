@@ -16,9 +16,9 @@ use Rattle.rowex_core.specs.Events.{IsFixedOffset}
 use Rattle.rowex_core.specs.Knowing.{Recalls, IsEvent, StoodAs, StoodBetween, IsSince}
 use Rattle.rowex_core.specs.Reading.{word_in}
 use Rattle.rowex_table.specs.Runs.{silent}
-use Rattle.rowex_reading.specs.Seen.{seen, Sure, IsStable, IsLedTo}
+use Rattle.rowex_reading.specs.Seen.{seen, Sure, IsLedTo}
 use Rattle.rowex_table.specs.Made.{IsLater}
-use Rattle.rowex_reading.proofs.Seeing.{later_none, later_trans, recalls_before, sure_later, since_later, seen_within, stands_in}
+use Rattle.rowex_reading.proofs.Seeing.{later_none, later_trans, recalls_before, sure_later, since_later, seen_within, stands_in, IsStable}
 use Rattle.rowex_reading.proofs.Loading.{IsTaught, fixed_taught, taught_now, found_seen}
 use Rattle.rowex_reading.proofs.Standing.{word_stays, later_word}
 

@@ -6,7 +6,6 @@ use Rattle.compound_node.specs.declared.entries.Entry.TheVariants.{Node}
 use Rattle.pieces.specs.Piece.{size}
 use Rattle.tries.specs.Tree.{Page}
 use Rattle.moments.specs.State.{Past}
-use Rattle.moments.specs.Frames.{IsGrown}
 use Rattle.rowex_core.specs.declared.known.Known.{Known}
 use Rattle.rowex_core.specs.Cores.{Core, IsLawful}
 use Rattle.rowex_core.specs.Knowing.{IsSince, Recalls}
@@ -19,10 +18,6 @@ seen c k = record { now = length k.front; moment = c.past.moment }
 -- the pass can be sure of it: it holds of the moments seen in each lawful core of which what the pass recalls is true
 abbrev pub Sure : Known → (Past → Type 0) → Type 0
 Sure k P = (c : Core) → IsLawful c → Recalls c k → P (seen c k)
-
--- what holds of a past holds of each longer one
-abbrev pub IsStable : (Past → Type 0) → Type 0
-IsStable P = (a b : Past) → IsGrown a b → P a → P b
 
 -- the moment at which it loaded the root last
 abbrev pub since : Known → ℕ

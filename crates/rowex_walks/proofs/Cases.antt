@@ -9,12 +9,13 @@ use Rattle.moments.specs.Core.{Core, view}
 use Rattle.moments.specs.Steps.{IsMomentPublish}
 use Rattle.tries.specs.Content.{Item}
 use Rattle.tries.specs.Changes.{put, IsPathBelow, IsFlat, IsAdded, IsExchanged}
-use Rattle.rowex_walks.specs.Writer.{added_change, replaced_change, IsAtHand, IsPageStored}
+use Rattle.rowex_walks.specs.Writer.{added_change, replaced_change, IsPageStored}
 use Rattle.tries.proofs.Tries.{trie_within, built_within, within_trans, rises}
 use Rattle.tries.proofs.Adding.{added_put, exchanged_put}
 use Rattle.rowex_walks.proofs.Now.{built_now, trie_now}
 use Rattle.rowex_walks.proofs.Hands.{added_around, added_open}
 use Rattle.rowex_walks.proofs.Replaced.{slot_legal, root_legal}
+use Rattle.rowex_walks.proofs.AtHand.{IsAtHand}
 
 -- The forks above a node are before its first one.
 pub path_rises_node : {n q p : ℕ} {x : Fixed} {a b t : Tree} (w : Within (node n x (fork q a b)) t) → IsTrie t → q ≤ p → IsPathBelow p w

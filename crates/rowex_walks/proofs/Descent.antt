@@ -7,7 +7,7 @@ use Rattle.compound_node.specs.declared.entries.Entry.TheVariants.{Leaf, Node}
 use Rattle.pieces.specs.Piece.{Place}
 use Rattle.tries.specs.Search.{seek, Follows, child, Kin, tips, forks}
 use Rattle.moments.specs.Heap.{NodeWords, LeafWords, IsCopied}
-use Rattle.moments.specs.State.{IsRecord, Life, Out, Linked, Retired, Spans, last_of, IsLived, State, Stands, IsSame, IsReach, IsLawful, IsFrom, IsMarked}
+use Rattle.moments.specs.State.{IsRecord, Life, Out, Linked, Retired, Spans, last_of, IsLived, State, Stands, IsSameRecord, IsReach, IsLawful, IsFrom, StoodWithKeys}
 use Rattle.moments.specs.declared.Rec.TheVariants.{Node as a_node}
 use Rattle.moments.specs.Core.{Core, view}
 use Rattle.rowex_walks.specs.Writer.{IsBegun, IsWayBelow, at_leaf, below}
@@ -15,7 +15,7 @@ use Rattle.tries.proofs.Tries.{has_first, trie_within, built_within, within_tran
 use Rattle.moments.proofs.States.{stem_down, is_trie, is_built}
 use Rattle.rowex_walks.proofs.Now.{built_now, shown_now}
 use Rattle.rowex_walks.proofs.Search.{now_same, leaf_now}
-use Rattle.moments.proofs.Heaps.{shown_within}
+use Rattle.moments.proofs.Heaps.{shown_within, leaf_parts, node_parts}
 use Rattle.tries.specs.Content.{first}
 
 -- Where all keys agree with one before `r`, the first fork is not before `r`, at any moment of the record's life.
@@ -33,14 +33,14 @@ node_number : {n o : ℕ} → a_node n ≡ a_node o → n ≡ o
 node_number e = cc
 
 near_from : (s : State) → IsLawful s → (m : ℕ) → IsReach s m → (r : ℕ) (like : Key) (n h : ℕ) (P : Key → Type 0) →
-    ((y : Key) → P y → AgreeBelow r like y) → IsMarked s.past m P (Node n h) → IsFrom r (s.heap.nodes n).page
+    ((y : Key) → P y → AgreeBelow r like y) → StoodWithKeys s.past m P (Node n h) → IsFrom r (s.heap.nodes n).page
 near_from s law m reach r like n h P only (o, leaf a l w, lo, hi, st, e, f) = absurd cc
 near_from s law m reach r like n h P only (o, fork a l w, lo, hi, st, e, f) = absurd cc
 near_from s law m reach r like n h P only (o, node a x b, lo, hi, st, e, f) =
     let v = now_same s law (a_node n) o (node a x b) (reach o lo hi (a_node n) (node a x b) st) st in
     go v.0 v.1.is_record v.2 v.3
   where
-    go : (v : Tree) → IsRecord (a_node n) v → IsSame (node a x b) v → IsCopied s.heap v → IsFrom r (s.heap.nodes n).page
+    go : (v : Tree) → IsRecord (a_node n) v → IsSameRecord (node a x b) v → IsCopied s.heap v → IsFrom r (s.heap.nodes n).page
     go (leaf c y d) i z g = elim z [ ]
     go (fork c y d) i z g = elim z [ ]
     go (node c y d) i z g =
@@ -50,8 +50,8 @@ near_from s law m reach r like n h P only (o, node a x b, lo, hi, st, e, f) =
 
 -- One step of the descent: the keys of the child still agree with `like` before `r`, the first fork of the topmost.
 pub near_down : (s : State) → IsLawful s → (m : ℕ) → IsReach s m → (r : ℕ) (like k : Key) (n h : ℕ) →
-    IsMarked s.past m (λ y. AgreeBelow r like y × Unit {0}) (Node n h) →
-    IsMarked s.past m (λ y. AgreeBelow r like y × Unit {0}) (seek k (s.heap.nodes n).page)
+    StoodWithKeys s.past m (λ y. AgreeBelow r like y × Unit {0}) (Node n h) →
+    StoodWithKeys s.past m (λ y. AgreeBelow r like y × Unit {0}) (seek k (s.heap.nodes n).page)
 near_down s law m reach r like k n h x =
     let z = stem_down s law m reach r (λ y. AgreeBelow r like y × Unit {0}) (λ a b e f. ((λ q i. f.0 q i ∙ e q i), tt)) k n h
     (near_from s law m reach r like n h (λ y. AgreeBelow r like y × Unit {0}) (λ y i. i.0) x) x in
@@ -59,7 +59,7 @@ near_down s law m reach r like k n h x =
 
 -- The start of the descent: what the locked node's entry names, as it stood at a moment since.
 pub near_start : (s : State) → IsLawful s → (m r : ℕ) (like : Key) (a : ℕ) → IsBegun s.past m r like a →
-    (h : ℕ) × IsMarked s.past m (λ y. AgreeBelow r like y × Unit {0}) (Node a h)
+    (h : ℕ) × StoodWithKeys s.past m (λ y. AgreeBelow r like y × Unit {0}) (Node a h)
 near_start s law m r like a (n, x, b, d, lo, hi, st, has) =
     let i : IsTrie (fork r b d) = trie_within (within_trans (inside here) st.within) (is_trie s law n (a_node a) (node a x (fork r b d)) hi st) in
     (x.height, (n, node a x (fork r b d), lo, hi, st, refl, λ y h. (i.2 like y has h, tt)))
@@ -71,17 +71,11 @@ spans_now now (Retired f e) i h = absurd (omega arith)
 
 -- The end of the descent: the leaf's key agrees with `like` too.
 pub near_end : (s : State) → IsLawful s → (m : ℕ) → IsReach s m → (r : ℕ) (like : Key) (j : ℕ) →
-    IsMarked s.past m (λ y. AgreeBelow r like y × Unit {0}) (Leaf j) → AgreeBelow r like (s.heap.leaves j).key
+    StoodWithKeys s.past m (λ y. AgreeBelow r like y × Unit {0}) (Leaf j) → AgreeBelow r like (s.heap.leaves j).key
 near_end s law m reach r like j (o, node z l w, lo, hi, so, e, f) = absurd cc
 near_end s law m reach r like j (o, fork z l w, lo, hi, so, e, f) = absurd cc
 near_end s law m reach r like j (o, leaf z l w, lo, hi, so, e, f) =
     λ q i. (f l refl).0 q i ∙ ap (λ (y : LeafWords). bit y.key q) (sym (leaf_now s law m reach o j z l w lo hi so))
-
-leaf_entry : {n m : ℕ} → Place (Leaf n) ≡ Place (Leaf m) → n ≡ m
-leaf_entry e = cc
-
-node_entry : {n m h g : ℕ} → Place (Node n h) ≡ Place (Node m g) → (n ≡ m) × (h ≡ g)
-node_entry e = (cc, cc)
 
 fork_position : {p q : ℕ} {a b c d : Tree} → fork p a b ≡ fork q c d → p ≡ q
 fork_position e = cc
@@ -98,14 +92,14 @@ kin_root (forks {p = z} w x y) r b d e like h p f g i =
 
 -- The way below a locked node tells of the present: the key that was found follows the stem of the node's child.
 module _ (c : Core) (law : IsLawful (view c)) (since : ℕ) (reach : IsReach (view c) since) (t : Tree) (now : c.past.moment c.past.now ≡ Some t) where
-  leaf_follows : (u : Tree) → Within u t → (j : ℕ) (l : Key) → page u ≡ Place (Leaf j) → IsMarked c.past since (λ y. y ≡ l) (Leaf j) → Follows l u
+  leaf_follows : (u : Tree) → Within u t → (j : ℕ) (l : Key) → page u ≡ Place (Leaf j) → StoodWithKeys c.past since (λ y. y ≡ l) (Leaf j) → Follows l u
   leaf_follows (node n x b) w j l e f = absurd cc
   leaf_follows (fork n x b) w j l e f = absurd cc
   leaf_follows (leaf n m v) w j l e f =
       let s = shown_within c.heap w (shown_now c law t now) in
-      sym (key_now f) ∙ (ap (λ z. (c.heap.leaves z).key) (sym (leaf_entry e)) ∙ ap (λ (z : LeafWords). z.key) s)
+      sym (key_now f) ∙ (ap (λ z. (c.heap.leaves z).key) (sym (leaf_parts e)) ∙ ap (λ (z : LeafWords). z.key) s)
     where
-      key_now : IsMarked c.past since (λ y. y ≡ l) (Leaf j) → (c.heap.leaves j).key ≡ l
+      key_now : StoodWithKeys c.past since (λ y. y ≡ l) (Leaf j) → (c.heap.leaves j).key ≡ l
       key_now (o, node z q w, lo, hi, so, e, f) = absurd cc
       key_now (o, fork z q w, lo, hi, so, e, f) = absurd cc
       key_now (o, leaf z q w, lo, hi, so, e, f) = ap (λ (y : LeafWords). y.key) (leaf_now (view c) law since reach o j z q w lo hi so) ∙ f q refl
@@ -119,7 +113,7 @@ module _ (c : Core) (law : IsLawful (view c)) (since : ℕ) (reach : IsReach (vi
       λ m hm s j. sym (g s (subst (λ v. s < v) root.0 j)) ∙ root.1 m hm s (subst (λ v. s < v) root.0 j)
     where
       stands : Stands c.past c.past.now (a_node a) (node a x (fork p d o))
-      stands = record { tree = t; is_moment = now; within = subst (λ z. Within (node z x (fork p d o)) t) (node_entry e).0 w; is_record = refl }
+      stands = record { tree = t; is_moment = now; within = subst (λ z. Within (node z x (fork p d o)) t) (node_parts e).0 w; is_record = refl }
 
       last : last_of c.past.now ((view c).life (a_node a)) ≡ c.past.now
       last = spans_now c.past.now ((view c).life (a_node a)) (law.lived (a_node a))

@@ -1,11 +1,12 @@
 -- A scan of an empty map, or of one leaf; the depth of the way.
-use Rattle.std.proofs.Common.{◌≡◌, ◌⊎◌, inl, inr, ℕ, ◌+◌, ◌<◌, ◌≤◌, List, [], ◌∷◌, length, refl, ap, sym, ◌∙◌, subst, arith, Some, None, Option, le_refl}
+use Rattle.std.proofs.Common.{◌≡◌, ◌⊎◌, inl, inr, ℕ, ◌+◌, ◌*◌, ◌<◌, ◌≤◌, List, [], ◌∷◌, length, refl, ap, sym, ◌∙◌, subst, arith, Some, None, Option, le_refl}
+use Rattle.key_bits.specs.declared.TheConstants.{MAX_BYTES}
 use Rattle.tries.specs.Keys.{IsAtMost, Key, IsBefore}
-use Rattle.tries.specs.Tree.{Fixed, Tree, node, page, IsBuilt}
+use Rattle.tries.specs.Tree.{Fixed, Tree, leaf, node, fork, page, IsBuilt, IsLower}
 use Rattle.compound_node.specs.declared.entries.Entry.{Entry}
 use Rattle.compound_node.specs.declared.entries.Entry.TheVariants.{Leaf, Node}
 use Rattle.pieces.specs.Piece.{Place, size}
-use Rattle.moments.specs.State.{Past, State, IsLawful, IsTop, IsSame, IsSteady}
+use Rattle.moments.specs.State.{Past, State, IsLawful, IsTop, IsSameRecord, IsSteady}
 use Rattle.moments.specs.declared.Rec.TheVariants.{Node as a_node}
 use Rattle.compound_node.specs.Nodes.{height_of}
 use Rattle.tries.specs.Place.{entry_at}
@@ -14,7 +15,7 @@ use Rattle.tries.proofs.Tries.{built_within}
 use Rattle.rowex_walks.proofs.Scans.{shaped, node_of, on_root, on_leaf, read_held, never_before}
 use Rattle.rowex_walks.proofs.Walk.{stack_shape}
 use Rattle.tries.proofs.Places.{shape_tips}
-use Rattle.rowex_walks.proofs.Loads.{lower_at, page_at, rooted_seen, placed_seen}
+use Rattle.rowex_walks.proofs.Loads.{lower_at, page_at, rooted_seen, placed_seen, fixed_height}
 
 pub loads_blank : (s : State) → IsLawful s → (m : ℕ) → m ≤ s.now → s.root ≡ None → IsBlank s.past m
 loads_blank s law m lo h = (s.now, lo, le_refl s.now, go s.root (s.moment s.now) h law.top)
@@ -75,14 +76,11 @@ scan_outside s m law g n l v root is out = record {
     go k q e (inr y) = never_before g.upto l y (subst (λ z. IsAtMost z g.upto) e q.1)
 
 -- The heights fall along the way.
-fixed_height : {a b : Fixed} → a ≡ b → a.height ≡ b.height
-fixed_height e = ap (λ (z : Fixed). z.height) e
-
 pub placed_falls : (s : Past) (m : ℕ) → IsSteady s m → (r h j : ℕ) (e : Entry) → IsSeen s m (Node r h) → IsPlaced s m r j e → height_of e < h
 placed_falls s m law r h j e (n, u, lo, hi, sn, pg) (b, st, lt, pe) =
     let o = node_of r h u pg in
-    let same : IsSame (node r st.fixed b) u = law.same (a_node r) st.at n (node r st.fixed b) u st.since st.until lo hi st.stands sn in
-    let q : st.fixed ≡ o.0 = (subst (λ z. IsSame (node r st.fixed b) z) o.2 same).0 in
+    let same : IsSameRecord (node r st.fixed b) u = law.same (a_node r) st.at n (node r st.fixed b) u st.since st.until lo hi st.stands sn in
+    let q : st.fixed ≡ o.0 = (subst (λ z. IsSameRecord (node r st.fixed b) z) o.2 same).0 in
     let built : IsBuilt (node r st.fixed b) = built_within st.stands.within (law.trees st.at st.stands.tree st.until st.stands.is_moment).1 in
     let f : Place (entry_at (page b) j) ≡ Place e = sym (page_at b j lt) ∙ pe in
     subst (λ z. height_of z < h) (tip_same f) (subst (λ z. height_of (entry_at (page b) j) < z) (fixed_height q ∙ o.3) (lower_at st.fixed.height b j built.1))
@@ -101,6 +99,29 @@ stack_depth s m law f (g ∷ gs) h =
     let a = stack_depth s m law g gs h.2 in
     let b : f.height < g.height = placed_falls s m law g.number g.height g.place (Node f.number f.height) (stack_seen s m g gs h.2) h.0 in
     omega arith
+
+some_height : (h : ℕ) (b : Tree) → IsLower h b → 0 < h
+some_height h (leaf n k v) l = l
+some_height h (node n x b) l = omega (arith, l)
+some_height h (fork p a b) l = some_height h a l.0
+
+-- Each node on it is higher than nothing.
+pub stack_high : (s : Past) (m : ℕ) → IsSteady s m → (f : Frame) (fs : List Frame) → IsStack s m (f ∷ fs) → 0 < f.height
+stack_high s m law f fs h = go (stack_seen s m f fs h)
+  where
+    go : IsSeen s m (Node f.number f.height) → 0 < f.height
+    go (n, u, lo, hi, st, pg) =
+        let o = node_of f.number f.height u pg in
+        let built : IsBuilt (node f.number o.0 o.1) = subst IsBuilt o.2 (built_within st.within (law.trees n st.tree hi st.is_moment).1) in
+        subst (λ z. 0 < z) o.3 (some_height o.0.height o.1 built.1)
+
+-- And that is as high as a tree can be.
+pub stack_low : (s : Past) (m : ℕ) → IsSteady s m → (f : Frame) (fs : List Frame) → IsStack s m (f ∷ fs) → top_height f.height fs ≤ 9 * MAX_BYTES
+stack_low s m law f [] ((n, t, lo, hi, is, pg), shape) =
+    let o = node_of f.number f.height t pg in
+    let built : IsBuilt (node f.number o.0 o.1) = subst IsBuilt o.2 (law.trees n t hi is).1 in
+    let fit = built.3.bound in let high = o.3 in omega (arith, fit, high)
+stack_low s m law f (g ∷ gs) h = stack_low s m law g gs h.2
 
 -- A frame below another stands at one of its node's places.
 pub stack_inside : (s : Past) (m : ℕ) → IsSteady s m → (f g : Frame) (fs : List Frame) → IsStack s m (f ∷ g ∷ fs) → g.place < size g.shape

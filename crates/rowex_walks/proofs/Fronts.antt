@@ -25,9 +25,10 @@ use Rattle.tries.proofs.Contents.{holds_has}
 use Rattle.tries.proofs.Maps.{before_less, holds_value, value_holds}
 use Rattle.tries.proofs.Ranges.{has_key, at_most_le, at_most_not_lt, le_at_most, not_lt_at_most, HoldsKey, held_inserted, held_removed}
 use Rattle.rowex_walks.proofs.Scans.{before_trans}
-use Rattle.moments.specs.State.{Past, IsHeld, IsKept, IsSteady}
-use Rattle.moments.specs.Told.{content, IsTold}
+use Rattle.moments.specs.State.{Past, IsHeldSince, IsKeptSince, IsSteady}
+use Rattle.moments.specs.Told.{content, TellChanges}
 use Rattle.rowex_walks.specs.Scan.{Pair, Every, IsListed, IsFalling, IsUpTo, Range, IsInRange, IsComplete, IsCut, turned}
+use Rattle.rowex_walks.proofs.Walk.{every_map}
 
 -- The range by bits is the range by bytes.
 module _ (g : Range) (kf : IsKey g.from) (ku : IsKey g.upto) where
@@ -71,18 +72,18 @@ drop_front [] ys = refl
 drop_front (x ∷ xs) ys = drop_front xs ys
 
 -- What moments say of a key, and what the fronts say.
-module _ (s : Past) (before rest : List Change) (m : ℕ) (steady : IsSteady s m) (told : IsTold s (before ++ rest)) where
-  held_key : (o : ℕ) (k : Key) (v : ℕ) → IsHeld s o k v → IsKey k
+module _ (s : Past) (before rest : List Change) (m : ℕ) (steady : IsSteady s m) (told : TellChanges s (before ++ rest)) where
+  held_key : (o : ℕ) (k : Key) (v : ℕ) → IsHeldSince s o k v → IsKey k
   held_key o k v (n, t, lo, hi, e, h) = has_key t (steady.trees n t hi e).0 k (holds_has t k v h)
 
   -- What was held at a moment is held after so many changes.
-  held_between : (k : Key) (v : ℕ) → IsHeld s (length before) k v → IsHeldBetween before (before ++ rest) k v
+  held_between : (k : Key) (v : ℕ) → IsHeldSince s (length before) k v → IsHeldBetween before (before ++ rest) k v
   held_between k v (n, t, lo, hi, e, h) =
       let c = told.count in
       (n, lo, omega arith, subst (λ (z : Map). value_at z k ≡ Some v) (ap content (sym e) ∙ told.content_is n hi) (holds_value t (steady.trees n t hi e).0 k v h))
 
   -- A key of the front's map that nothing removes since was held at each moment since.
-  front_kept : (k : Key) → IsKeptBetween before (before ++ rest) k → IsKept s (length before) k
+  front_kept : (k : Key) → IsKeptBetween before (before ++ rest) k → IsKeptSince s (length before) k
   front_kept k h n lo hi = go (s.moment n) (subst (HoldsKey k) (sym (told.content_is n hi)) in_map)
     where
       unremoved : IsUnremoved k rest
@@ -106,10 +107,6 @@ module _ (P : Key × ℕ → Type 0) where
   all_turned : (xs : List Pair) → Every (λ x. P (x.key, x.value)) xs → All P (turned xs)
   all_turned [] a = All-from_recursion P [] tt
   all_turned (x ∷ xs) a = All-append P (turned xs) ((x.key, x.value) ∷ []) (all_turned xs a.1) (All-from_recursion P ((x.key, x.value) ∷ []) (a.0, tt))
-
-every_map : (P Q : Pair → Type 0) (xs : List Pair) → ((x : Pair) → P x → Q x) → Every P xs → Every Q xs
-every_map P Q [] f h = tt
-every_map P Q (x ∷ xs) f h = (f x h.0, every_map P Q xs f h.1)
 
 length_turned : (xs : List Pair) → length (turned xs) ≡ length xs
 length_turned [] = refl
@@ -175,10 +172,10 @@ up_to_newest k (x ∷ xs) i a f (n, e, lt, at, h) =
     every_both [] b c = tt
     every_both (y ∷ ys) b c = ((b.0, inr c.0), every_both ys b.1 c.1)
 
-module _ (s : Past) (before rest : List Change) (m : ℕ) (steady : IsSteady s m) (told : IsTold s (before ++ rest)) (g : Range) (kf : IsKey g.from) (ku : IsKey g.upto)
+module _ (s : Past) (before rest : List Change) (m : ℕ) (steady : IsSteady s m) (told : TellChanges s (before ++ rest)) (g : Range) (kf : IsKey g.from) (ku : IsKey g.upto)
     (xs : List Pair) (scan : Scan) (items : scan.pairs.items ≡ turned xs) where
-  are_keys : Every (λ x. IsHeld s (length before) x.key x.value) xs → Every (λ x. IsKey x.key) xs
-  are_keys h = every_map (λ x. IsHeld s (length before) x.key x.value) (λ x. IsKey x.key) xs
+  are_keys : Every (λ x. IsHeldSince s (length before) x.key x.value) xs → Every (λ x. IsKey x.key) xs
+  are_keys h = every_map (λ x. IsHeldSince s (length before) x.key x.value) (λ x. IsKey x.key) xs
       (λ x. held_key s before rest m steady told (length before) x.key x.value) h
 
   all_within : Every (λ x. IsKey x.key) xs → Every (λ x. IsInRange g x.key) xs → All (λ e. IsTrue (is_within g.from g.upto e.0)) (turned xs)
@@ -188,9 +185,9 @@ module _ (s : Past) (before rest : List Change) (m : ℕ) (steady : IsSteady s m
       go [] b c = tt
       go (y ∷ ys) b c = (within g kf ku y.key b.0 c.0, go ys b.1 c.1)
 
-  all_held : Every (λ x. IsHeld s (length before) x.key x.value) xs → All (λ e. IsHeldBetween before (before ++ rest) e.0 e.1) (turned xs)
+  all_held : Every (λ x. IsHeldSince s (length before) x.key x.value) xs → All (λ e. IsHeldBetween before (before ++ rest) e.0 e.1) (turned xs)
   all_held h = all_turned (λ e. IsHeldBetween before (before ++ rest) e.0 e.1) xs
-      (every_map (λ x. IsHeld s (length before) x.key x.value) (λ x. IsHeldBetween before (before ++ rest) x.key x.value) xs
+      (every_map (λ x. IsHeldSince s (length before) x.key x.value) (λ x. IsHeldBetween before (before ++ rest) x.key x.value) xs
       (λ x. held_between s before rest m steady told x.key x.value) h)
 
   -- A key of the range that was there all along was held at each moment.

@@ -13,7 +13,7 @@ use Rattle.moments.specs.Steps.{IsMomentPublish}
 use Rattle.tries.specs.Content.{Item}
 use Rattle.tries.specs.Changes.{put, IsPathBelow, IsFlat}
 use Rattle.tries.specs.Place.{bare}
-use Rattle.rowex_walks.specs.Writer.{added_change, IsPageStored, IsNewNode, IsNewLeaf, IsFoundBelow, IsHalf, one, many, IsGrowth}
+use Rattle.rowex_walks.specs.Writer.{added_change, IsPageStored, IsNewLeaf, IsFoundBelow}
 use Rattle.tries.specs.Affected.{affected, IsPart}
 use Rattle.tries.proofs.Tries.{trie_within, built_within, within_trans}
 use Rattle.moments.proofs.Heaps.{shown_within}
@@ -23,6 +23,7 @@ use Rattle.rowex_walks.proofs.Now.{built_now, shown_now, trie_now}
 use Rattle.rowex_walks.proofs.Hands.{hand_stay, hand_around, hand_open, hand_put, hand_grown, added_around, added_open}
 use Rattle.rowex_walks.proofs.Cases.{slot_added, root_added}
 use Rattle.rowex_walks.proofs.Insertions.{found_added, found_away, hand_leaf_in, with_leaf}
+use Rattle.rowex_walks.proofs.AtHand.{IsNewNode, IsHalf, one, many, IsGrowth}
 
 half_bare : (c : Core) (q : ℕ) (r s : Tree) → IsHalf c q r s → bare s ≡ bare r
 half_bare c q r s (one i) = refl

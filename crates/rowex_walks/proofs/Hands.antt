@@ -9,10 +9,10 @@ use Rattle.moments.specs.declared.Rec.TheVariants.{Node as a_node, Leaf as a_lea
 use Rattle.moments.specs.Core.{Ready, Core}
 use Rattle.tries.specs.Content.{Item}
 use Rattle.tries.specs.Changes.{put, IsFlat, IsAdded}
-use Rattle.rowex_walks.specs.Writer.{IsAtHand, IsNewNode}
 use Rattle.tries.proofs.Places.{grown}
 use Rattle.tries.proofs.Puts.{built_flat}
 use Rattle.rowex_walks.proofs.Replaced.{links_put, put_links, links_new, links_old, shown_flat}
+use Rattle.rowex_walks.proofs.AtHand.{IsAtHand, IsNewNode}
 
 leaf_node : {n m : ℕ} → a_node n ≡ a_leaf m → ⊥
 leaf_node e = cc

@@ -13,7 +13,7 @@ use Rattle.tries.specs.Content.{Item, added}
 use Rattle.tries.specs.Changes.{put, IsFlat, IsAdded, IsExchanged}
 use Rattle.tries.specs.Place.{bare}
 use Rattle.moments.specs.Told.{IsChange}
-use Rattle.rowex_walks.specs.Writer.{added_change, replaced_change, IsAtHand, IsPageStored, IsNewNode, IsNewLeaf, IsFoundBelow}
+use Rattle.rowex_walks.specs.Writer.{added_change, replaced_change, IsPageStored, IsNewLeaf, IsFoundBelow}
 use Rattle.tries.specs.Affected.{affected, IsPart}
 use Rattle.tries.proofs.Tries.{trie_within, built_within, within_trans}
 use Rattle.moments.proofs.Heaps.{shown_within, near_refl}
@@ -25,6 +25,7 @@ use Rattle.rowex_walks.proofs.Now.{built_now, shown_now, trie_now}
 use Rattle.rowex_walks.proofs.Descent.{way_follows}
 use Rattle.rowex_walks.proofs.Hands.{hand_stay, hand_around, hand_put, hand_leaf, hand_grown, added_around}
 use Rattle.rowex_walks.proofs.Cases.{slot_exchanged, root_added, root_exchanged}
+use Rattle.rowex_walks.proofs.AtHand.{IsAtHand, IsNewNode}
 
 -- The body with the new leaf at the affected part.
 abbrev pub with_leaf : Item → ℕ → Tree → Tree

@@ -1,5 +1,6 @@
 -- The lemmas of the crate.
 pub mod Now
+pub mod AtHand
 pub mod Search
 pub mod Replaced
 pub mod Hands
@@ -19,6 +20,7 @@ pub mod Leaves
 pub mod Taking
 pub mod Scans
 pub mod Walk
+pub mod Starts
 pub mod Loads
 pub mod Persist
 pub mod Fronts

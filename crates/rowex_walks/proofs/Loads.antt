@@ -6,7 +6,7 @@ use Rattle.compound_node.specs.declared.entries.Entry.{Entry}
 use Rattle.compound_node.specs.declared.entries.Entry.TheVariants.{Node}
 use Rattle.pieces.specs.Piece.{Place, size}
 use Rattle.moments.specs.Heap.{NodeWords, LeafWords, IsCopied}
-use Rattle.moments.specs.State.{Past, State, Stands, IsSame, IsTop, IsReach, IsLawful, last_of}
+use Rattle.moments.specs.State.{Past, State, Stands, IsSameRecord, IsTop, IsReach, IsLawful, last_of}
 use Rattle.moments.specs.declared.Rec.TheVariants.{Node as a_node, Leaf as a_leaf}
 use Rattle.tries.specs.Place.{entry_at, shape}
 use Rattle.compound_node.specs.Nodes.{height_of}
@@ -32,7 +32,7 @@ record Last (s : State) (m c h : ℕ) : Type 0 where
   words : (s.heap.nodes c).page ≡ page body
   height : stood.fixed.height ≡ h
 
-fixed_height : {a b : Fixed} → a ≡ b → a.height ≡ b.height
+pub fixed_height : {a b : Fixed} → a ≡ b → a.height ≡ b.height
 fixed_height e = ap (λ (z : Fixed). z.height) e
 
 last_stood : (s : State) → IsLawful s → (m : ℕ) → IsReach s m → (c h : ℕ) → IsSeen s.past m (Node c h) → Last s m c h
@@ -42,7 +42,7 @@ last_stood s law m reach c h (n, u, lo, hi, st, pg) =
     let w = now_same s law (a_node c) n u spans st in
     let o = node_of c h u pg in
     let x = record_node c w.0 w.1.is_record in
-    let same : IsSame (node c o.0 o.1) (node c x.0 x.1) = subst (λ z. IsSame (node c o.0 o.1) z) x.2 (subst (λ z. IsSame z w.0) o.2 w.2) in
+    let same : IsSameRecord (node c o.0 o.1) (node c x.0 x.1) = subst (λ z. IsSameRecord (node c o.0 o.1) z) x.2 (subst (λ z. IsSameRecord z w.0) o.2 w.2) in
     let copied : IsCopied s.heap (node c x.0 x.1) = subst (λ z. IsCopied s.heap z) x.2 w.3 in
     record {
       body = x.1;

@@ -1,17 +1,16 @@
 -- What a scan knows stays true while the past grows.
-use Rattle.std.proofs.Common.{◌⊎◌, inl, inr, ℕ, ◌≤◌, List, [], ◌∷◌, sym, ◌∙◌, le_trans}
+use Rattle.std.proofs.Common.{◌⊎◌, inl, inr, ℕ, List, [], ◌∷◌, sym, ◌∙◌, le_trans}
 use Rattle.tries.specs.Keys.{Key}
 use Rattle.compound_node.specs.declared.entries.Entry.{Entry}
 use Rattle.compound_node.specs.declared.entries.Entry.TheVariants.{Node}
 use Rattle.tries.specs.Tree.{Page, Tree}
-use Rattle.moments.specs.State.{Past, Stands, IsHeld, IsKept}
+use Rattle.moments.specs.State.{Past, IsHeldSince, IsKeptSince}
 use Rattle.moments.specs.declared.Rec.{Rec}
 use Rattle.moments.specs.declared.Rec.TheVariants.{Node as a_node, Leaf as a_leaf}
 use Rattle.moments.specs.Frames.{IsGrown}
-use Rattle.rowex_walks.specs.Scan.{Stood, IsRooted, IsPlaced, IsShaped, IsRead, MayStandAt, IsReached, placed, further, IsOn, Frame, IsStack, IsPassed, IsRight, IsAhead, Pair, Every, IsListed, Range, IsScan, IsStart}
-
-stands_on : (a b : Past) → IsGrown a b → (n : ℕ) (r : Rec) (u : Tree) → n ≤ a.now → Stands a n r u → Stands b n r u
-stands_on a b g n r u h st = record { tree = st.tree; is_moment = g.kept n h ∙ st.is_moment; within = st.within; is_record = st.is_record }
+use Rattle.rowex_walks.specs.Scan.{Stood, IsRooted, IsPlaced, IsShaped, IsRead, MayStandAt, IsOn, Frame, IsStack, IsPassed, IsRight, IsAhead, Pair, IsListed, Range, IsScan}
+use Rattle.rowex_walks.proofs.Walk.{every_map}
+use Rattle.moments.proofs.Growth.{stands_grown}
 
 stood_on : (a b : Past) → IsGrown a b → (m r : ℕ) (t : Tree) → Stood a m r t → Stood b m r t
 stood_on a b g m r t st = record {
@@ -19,7 +18,7 @@ stood_on a b g m r t st = record {
   since = st.since;
   until = le_trans st.until g.longer;
   fixed = st.fixed;
-  stands = stands_on a b g st.at (a_node r) _ st.until st.stands;
+  stands = stands_grown a b g st.at (a_node r) _ st.until st.stands;
 }
 
 pub rooted_on : (a b : Past) → IsGrown a b → (m : ℕ) (e : Entry) → IsRooted a m e → IsRooted b m e
@@ -32,21 +31,13 @@ pub shaped_on : (a b : Past) → IsGrown a b → (m r : ℕ) (p : Page) → IsSh
 shaped_on a b g m r p (t, st, e) = (t, stood_on a b g m r t st, e)
 
 pub read_on : (a b : Past) → IsGrown a b → (m r : ℕ) (k : Key) (v : ℕ) → IsRead a m r k v → IsRead b m r k v
-read_on a b g m r k v (n, lo, hi, st) = (n, lo, le_trans hi g.longer, stands_on a b g n (a_leaf r) _ hi st)
+read_on a b g m r k v (n, lo, hi, st) = (n, lo, le_trans hi g.longer, stands_grown a b g n (a_leaf r) _ hi st)
 
 pub fit_on : (a b : Past) → IsGrown a b → (m r i : ℕ) (y : Key) → MayStandAt a m r i y → MayStandAt b m r i y
 fit_on a b g m r i y (t, k, st, u, f) = (t, k, stood_on a b g m r t st, u, f)
 
-pub reached_on : (a b : Past) → IsGrown a b → (m r j : ℕ) {e : Entry} → IsReached a m r j e → IsReached b m r j e
-reached_on a b g m r j (placed {e = e} p) = placed (placed_on a b g m r j e p)
-reached_on a b g m r j (further {c = c} {i = i} {e = e} q p) = further (reached_on a b g m r j q) (placed_on a b g m c i e p)
-
-pub start_on : (a b : Past) → IsGrown a b → (m : ℕ) (x : Range) (c i : ℕ) → IsStart a m x c i → IsStart b m x c i
-start_on a b g m x c i (inl e) = inl e
-start_on a b g m x c i (inr (k, f, le)) = inr (k, fit_on a b g m c i k f, le)
-
 on_on : (a b : Past) → IsGrown a b → (m : ℕ) (k : Key) (r : Rec) → IsOn a m k r → IsOn b m k r
-on_on a b g m k r (n, u, lo, hi, st, h) = (n, u, lo, le_trans hi g.longer, stands_on a b g n r u hi st, h)
+on_on a b g m k r (n, u, lo, hi, st, h) = (n, u, lo, le_trans hi g.longer, stands_grown a b g n r u hi st, h)
 
 pub stack_on : (a b : Past) → IsGrown a b → (m : ℕ) (fs : List Frame) → IsStack a m fs → IsStack b m fs
 stack_on a b g m [] h = h
@@ -72,15 +63,11 @@ ahead_on a b g m k [] h = h
 ahead_on a b g m k (f ∷ fs) (inl (x, lt)) = inl (on_on a b g m k (a_node f.number) x, lt)
 ahead_on a b g m k (f ∷ fs) (inr x) = inr (right_on a b g m k fs x)
 
-kept_back : (a b : Past) → IsGrown a b → (m : ℕ) (k : Key) → IsKept b m k → IsKept a m k
+kept_back : (a b : Past) → IsGrown a b → (m : ℕ) (k : Key) → IsKeptSince b m k → IsKeptSince a m k
 kept_back a b g m k h n lo hi = let o = h n lo (le_trans hi g.longer) in (o.0, sym (g.kept n hi) ∙ o.1, o.2)
 
-held_on : (a b : Past) → IsGrown a b → (m : ℕ) (k : Key) (v : ℕ) → IsHeld a m k v → IsHeld b m k v
+held_on : (a b : Past) → IsGrown a b → (m : ℕ) (k : Key) (v : ℕ) → IsHeldSince a m k v → IsHeldSince b m k v
 held_on a b g m k v (n, t, lo, hi, e, h) = (n, t, lo, le_trans hi g.longer, g.kept n hi ∙ e, h)
-
-every_on : (P Q : Pair → Type 0) (xs : List Pair) → ((x : Pair) → P x → Q x) → Every P xs → Every Q xs
-every_on P Q [] f h = tt
-every_on P Q (x ∷ xs) f h = (f x h.0, every_on P Q xs f h.1)
 
 -- The scan's invariant is stable.
 pub scan_on : (a b : Past) → IsGrown a b → (m : ℕ) (x : Range) (fs : List Frame) (xs : List Pair) → IsScan a m x fs xs → IsScan b m x fs xs
@@ -88,8 +75,8 @@ scan_on a b g m x fs xs w = record {
   stack = stack_on a b g m fs w.stack;
   falling = w.falling;
   within = w.within;
-  held = every_on (λ y. IsHeld a m y.key y.value) (λ y. IsHeld b m y.key y.value) xs (λ y h. held_on a b g m y.key y.value h) w.held;
-  passed = every_on (λ y. IsPassed a m y.key fs) (λ y. IsPassed b m y.key fs) xs (λ y h. passed_on a b g m y.key fs h) w.passed;
+  held = every_map (λ y. IsHeldSince a m y.key y.value) (λ y. IsHeldSince b m y.key y.value) xs (λ y h. held_on a b g m y.key y.value h) w.held;
+  passed = every_map (λ y. IsPassed a m y.key fs) (λ y. IsPassed b m y.key fs) xs (λ y h. passed_on a b g m y.key fs h) w.passed;
   short = w.short;
   covered = λ k kept r. go k (w.covered k (kept_back a b g m k kept) r);
 }

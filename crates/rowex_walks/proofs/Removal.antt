@@ -1,6 +1,6 @@
 -- Removal of one entry.
 use Rattle.moments.specs.Told.{IsChange}
-use Rattle.std.proofs.Common.{◌≡◌, inl, inr, ℕ, List, [], ◌∷◌, ◌++◌, refl, sym, subst, Some, None}
+use Rattle.std.proofs.Common.{◌≡◌, inl, inr, ℕ, [], refl, sym, subst, Some, None}
 use Rattle.tries.specs.Keys.{Key}
 use Rattle.tries.specs.Tree.{Fixed, Tree, leaf, node, fork, page, IsTrie, IsTip, IsLower, IsBuilt, Within, here, inside, zero_side, one_side}
 use Rattle.compound_node.specs.declared.entries.Entry.{Entry}
@@ -10,26 +10,24 @@ use Rattle.moments.specs.State.{Links, IsLawful}
 use Rattle.moments.specs.declared.Rec.TheVariants.{Node as a_node, Leaf as a_leaf}
 use Rattle.moments.specs.Core.{Core, view}
 use Rattle.moments.specs.Steps.{IsMomentPublish, at_root}
-use Rattle.tries.specs.Content.{Item, items, IsMore, added, behind}
+use Rattle.tries.specs.Content.{Item, items, IsMore, added, item}
 use Rattle.tries.specs.Changes.{put, IsFlat, IsRemoved}
-use Rattle.rowex_walks.specs.Writer.{item, removed_change, IsAtHand, IsPageStored}
+use Rattle.rowex_walks.specs.Writer.{removed_change, IsPageStored}
 use Rattle.tries.proofs.Tries.{trie_within, within_trans}
 use Rattle.moments.proofs.Heaps.{near_refl}
 use Rattle.tries.proofs.Contents.{more_left, more_right}
 use Rattle.tries.proofs.Adding.{put_less, has_less}
 use Rattle.rowex_walks.proofs.Now.{trie_now}
 use Rattle.rowex_walks.proofs.Replaced.{slot_legal, root_legal, fate_linked}
-
-more_end : (x : Item) (xs : List Item) → IsMore x xs (xs ++ x ∷ [])
-more_end x [] = added
-more_end x (y ∷ xs) = behind (more_end x xs)
+use Rattle.rowex_walks.proofs.AtHand.{IsAtHand}
+use Rattle.tries.proofs.Places.{more_after}
 
 -- A fork loses the leaf on one of its sides, and the other side is left.
 pub removed_zero : (p n : ℕ) (k : Key) (v : ℕ) (b : Tree) → IsTrie b → IsRemoved (item n k v) (fork p (leaf n k v) b) b
 removed_zero p n k v b i = record { trie = i; less = added; keys = λ l h. inr h }
 
 pub removed_one : (p n : ℕ) (k : Key) (v : ℕ) (a : Tree) → IsTrie a → IsRemoved (item n k v) (fork p a (leaf n k v)) a
-removed_one p n k v a i = record { trie = i; less = more_end (item n k v) (items a); keys = λ l h. inl h }
+removed_one p n k v a i = record { trie = i; less = more_after (item n k v) (items a); keys = λ l h. inl h }
 
 pub less_put : {s t : Tree} (w : Within s t) (r : Tree) (x : Item) → IsMore x (items r) (items s) → IsMore x (items (put w r)) (items t)
 less_put here r x m = m

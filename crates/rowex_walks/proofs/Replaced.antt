@@ -14,7 +14,7 @@ use Rattle.hot_model.specs.declared.Change.{Change}
 use Rattle.moments.specs.Core.{Fate, Free, Held, Ready, InTree, Unlinked, Marked, life_of, Core, view}
 use Rattle.moments.specs.Steps.{at_root, at_slot, IsMomentPublish}
 use Rattle.tries.specs.Changes.{put, IsFlat}
-use Rattle.rowex_walks.specs.Writer.{IsAtHand, IsPageStored}
+use Rattle.rowex_walks.specs.Writer.{IsPageStored}
 use Rattle.moments.proofs.Publish.{links_within, within_links}
 use Rattle.moments.proofs.Quiet.{shown_ext}
 use Rattle.moments.proofs.Heaps.{shown_within, near_refl}
@@ -24,6 +24,7 @@ use Rattle.tries.proofs.Tries.{built_within}
 use Rattle.tries.proofs.Fitting.{fit_swap}
 use Rattle.tries.proofs.Puts.{page_put, lower_flat, built_flat}
 use Rattle.rowex_walks.proofs.Now.{built_now, shown_now, trie_now}
+use Rattle.rowex_walks.proofs.AtHand.{IsAtHand}
 
 -- What is linked in the tree with another part in one place.
 pub links_put : {s t : Tree} (w : Within s t) (r : Tree) (i : Rec) → Links (put w r) i → Links t i ⊎ Links r i

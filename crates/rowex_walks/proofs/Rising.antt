@@ -15,7 +15,7 @@ use Rattle.moments.specs.Heap.{NodeWords, Heap, IsShown}
 use Rattle.moments.specs.State.{IsFrom, IsLawful, Links}
 use Rattle.moments.specs.Core.{Core, view, Ready}
 use Rattle.moments.specs.Steps.{IsMomentPublish}
-use Rattle.rowex_walks.specs.Writer.{added_change, IsPageStored, IsNewNode, IsNewLeaf, IsFoundBelow, IsHalf, one, many, IsGrowth}
+use Rattle.rowex_walks.specs.Writer.{added_change, IsPageStored, IsNewLeaf, IsFoundBelow}
 use Rattle.rowex_walks.specs.Rise.{IsNewPage, IsEntryFor, alone, in_node, IsUpper, Side, body, entry, IsRise, grows, pulls, copies, halves, stays_whole, wraps, IsSlotStore, IsBelowNode, entry_news, news_of, gone_of}
 use Rattle.tries.proofs.Tries.{trie_within, built_within, within_trans}
 use Rattle.tries.proofs.Affected.{affected_page, part_page, part_place, lower_page, place_page, grown_page}
@@ -34,6 +34,7 @@ use Rattle.moments.proofs.Members.{of_append, of_left, of_right}
 use Rattle.rowex_walks.proofs.Trading.{IsTrade, old_now, traded_put, grown_trade, open_trade, around_trade, slot_trade}
 use Rattle.rowex_walks.proofs.Differing.{published}
 use Rattle.rowex_walks.specs.Statements.{InsertInSlot, InsertAtRoot}
+use Rattle.rowex_walks.proofs.AtHand.{IsNewNode, IsHalf, one, many, IsGrowth}
 
 -- A page's shape is that of its tree.
 fork_of_page : (u : Tree) → (IsTipPage (page u) → ⊥) → IsFork u

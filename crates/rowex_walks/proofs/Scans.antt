@@ -2,20 +2,22 @@
 use Rattle.std.proofs.Common.{◌≡◌, ◌⊎◌, inl, inr, ℕ, suc, ◌+◌, ◌-◌, ◌<◌, ◌≤◌, true, false, refl, ap, ap₂, sym, ◌∙◌, subst, arith, Some, if◌then◌else◌, ltb}
 use Rattle.std.proofs.lemmas.Bool.{cases_order, cases_lt, cond-true, cond-false, lt-ltb, le-ltb, false≢true}
 use Rattle.tries.specs.Keys.{IsAtMost, Key, bit, AgreeBelow, IsParted, IsBefore}
-use Rattle.tries.specs.Tree.{Fixed, Page, Tree, leaf, node, fork, page, Has, Holds, IsTrie, IsFork, IsBuilt, Within, here, inside, zero_side, one_side}
+use Rattle.tries.specs.Tree.{Fixed, Page, Tree, leaf, node, fork, page, Has, IsTrie, IsFork, IsBuilt, Within, here, inside, zero_side, one_side, first_position}
 use Rattle.compound_node.specs.declared.entries.Entry.{Entry}
 use Rattle.compound_node.specs.declared.entries.Entry.TheVariants.{Leaf, Node}
+use Rattle.pieces.proofs.Paths.{size_pos}
 use Rattle.pieces.specs.Piece.{Place, Fork, size}
 use Rattle.tries.specs.Search.{Follows, child, Kin, tips, forks, between, IsUnder}
-use Rattle.moments.specs.State.{rec_of, IsRecord, Past, Stands, IsHeld, IsKept, IsMissed, IsLed, IsSteady}
+use Rattle.moments.specs.State.{rec_of, IsRecord, Past, Stands, IsHeldSince, IsKeptSince, IsMissed, IsLed, IsSteady}
 use Rattle.moments.specs.declared.Rec.TheVariants.{Node as a_node, Leaf as a_leaf}
 use Rattle.tries.specs.Place.{spot, shape}
-use Rattle.rowex_walks.specs.Scan.{at_place, IsAlike, Stood, IsRooted, IsPlaced, IsShaped, IsRead, MayStandAt, IsReached, placed, further, IsOn}
+use Rattle.rowex_walks.specs.Scan.{at_place, IsAlike, Stood, IsRooted, IsPlaced, IsShaped, IsRead, MayStandAt, IsOn}
 use Rattle.tries.proofs.Tries.{has_first, has_within, within_trans, trie_within, built_within, rises, has_if_follows, follows_if_has, follows_kin, descend, has_child, has_under, under_below, between_low, between_mid, between_high, parting, kin_tips}
 use Rattle.moments.proofs.States.{record_of_page}
 use Rattle.tries.proofs.Contents.{before_irrefl}
 use Rattle.tries.proofs.Places.{spot_below, shape_tips, spot_shape}
 use Rattle.tries.specs.Content.{first}
+use Rattle.rowex_walks.proofs.Search.{holds_within}
 
 -- Places of a body.
 at_low : (p : ℕ) (a b : Tree) (i : ℕ) → i < size (page a) → at_place (fork p a b) i ≡ at_place a i
@@ -59,6 +61,15 @@ under_spot b k i h = under_at b (spot k (page b)) k (spot_below k (page b)) (sub
 pub alike_refl : (x : Page) (i : ℕ) (k : Key) → IsAlike x i k k
 alike_refl (Place e) i k = tt
 alike_refl (Fork p a b) i k = ((λ q z. refl), (λ h. alike_refl a i k), (λ h. alike_refl b (i - size a) k))
+
+-- They agree before the first fork.
+alike_first : (x : Page) (i : ℕ) (k y : Key) → IsAlike x i k y → AgreeBelow (first_position x) k y
+alike_first (Place e) i k y f q b = absurd (omega arith)
+alike_first (Fork p a c) i k y f q b = f.0 q (omega arith)
+
+first_shape : (x : Page) → first_position (shape x) ≡ first_position x
+first_shape (Place e) = refl
+first_shape (Fork p a b) = refl
 
 alike_left : (x : Page) (i j : ℕ) → i < j → j < size x → (k y : Key) → IsAlike x i k y → AgreeBelow (suc (between x i j)) k y
 alike_left (Place e) i j h b k y f = absurd (omega arith)
@@ -132,15 +143,18 @@ alike_deep (fork q a b) j p c d i w x y f = (
     ]
 
 -- What is known of bodies of one record at two moments.
-stood_trie : (s : Past) (m : ℕ) → IsSteady s m → (r : ℕ) (b : Tree) → Stood s m r b → IsTrie b
+pub stood_trie : (s : Past) (m : ℕ) → IsSteady s m → (r : ℕ) (b : Tree) → Stood s m r b → IsTrie b
 stood_trie s m law r b st = trie_within (within_trans (inside here) st.stands.within) (law.trees st.at st.stands.tree st.until st.stands.is_moment).0
 
 stood_built : (s : Past) (m : ℕ) → IsSteady s m → (r : ℕ) (b : Tree) → (st : Stood s m r b) → IsBuilt (node r st.fixed b)
 stood_built s m law r b st = built_within st.stands.within (law.trees st.at st.stands.tree st.until st.stands.is_moment).1
 
-stood_kin : (s : Past) (m : ℕ) → IsSteady s m → (r : ℕ) (b c : Tree) → Stood s m r b → Stood s m r c → Kin b c
+pub stood_kin : (s : Past) (m : ℕ) → IsSteady s m → (r : ℕ) (b c : Tree) → Stood s m r b → Stood s m r c → Kin b c
 stood_kin s m law r b c st su =
     (law.same (a_node r) st.at su.at (node r st.fixed b) (node r su.fixed c) st.since st.until su.since su.until st.stands su.stands).1
+
+pub shaped : (s : Past) (m : ℕ) → IsSteady s m → (r : ℕ) (p : Page) (b : Tree) → IsShaped s m r p → Stood s m r b → shape (page b) ≡ p
+shaped s m law r p b (c, st, e) su = sym (kin_shape (stood_kin s m law r c b st su)) ∙ e
 
 -- A key left of the place of another is before it.
 pub fit_order : (s : Past) (m : ℕ) → IsSteady s m → (r i j : ℕ) → i < j → (y z : Key) → MayStandAt s m r i y → MayStandAt s m r j z → IsBefore y z
@@ -185,9 +199,9 @@ placed_stands s m r j b st e pg = record {
   is_record = record_of_page e (at_place b j) pg;
 }
 
--- A key that may stand in a child may stand at the child's place.
+-- A key that agrees before a child's first fork with one that may stand in the child may stand at the child's place.
 fit_kin : (s : Past) (m r j i : ℕ) (b : Tree) (l z : Key) → Stood s m r b → IsTrie b → j < size (page b) → {d e : Tree} → Kin d e → IsFork d →
-    Within d (at_place b j) → IsUnder e i l → IsAlike (page e) i l z → MayStandAt s m r j z
+    Within d (at_place b j) → IsUnder e i l → AgreeBelow (first_position (page e)) l z → MayStandAt s m r j z
 fit_kin s m r j i b l z st t lt (tips {a = fork p a c} x y) f w u g = elim x [ ]
 fit_kin s m r j i b l z st t lt (tips {a = leaf n k v} x y) f w u g = elim f [ ]
 fit_kin s m r j i b l z st t lt (tips {a = node n k v} x y) f w u g = elim f [ ]
@@ -196,11 +210,12 @@ fit_kin s m r j i b l z st t lt (forks {p = p} {a = a} {b = a'} {c = c} {d = d} 
   first a,
   st,
   under_at b j (first a) lt (has_within w (first a) (inl (has_first a))),
-  alike_deep b j p a a' t w (first a) z (λ q h. e (first a) l (inl (has_first a)) (has_under (fork p c d) i l u) q h ∙ g.0 q (omega arith)),
+  alike_deep b j p a a' t w (first a) z (λ q h. e (first a) l (inl (has_first a)) (has_under (fork p c d) i l u) q h ∙ g q h),
 )
 
-pub fit_down : (s : Past) (m : ℕ) → IsSteady s m → (r j c h i : ℕ) (z : Key) → IsPlaced s m r j (Node c h) → MayStandAt s m c i z → MayStandAt s m r j z
-fit_down s m law r j c h i z (b, st, lt, pg) (d, l, su, v, g) =
+fit_body : (s : Past) (m : ℕ) → IsSteady s m → (r j c h i : ℕ) (l z : Key) → IsPlaced s m r j (Node c h) → (d : Tree) → Stood s m c d → IsUnder d i l →
+    AgreeBelow (first_position (page d)) l z → MayStandAt s m r j z
+fit_body s m law r j c h i l z (b, st, lt, pg) d su v g =
     let o = node_of c h (at_place b j) pg in
     let sd = placed_stands s m r j b st (Node c h) pg in
     let here_stands : Stands s st.at (a_node c) (node c o.0 o.1) = subst (λ u. Stands s st.at (a_node c) u) o.2 sd in
@@ -208,21 +223,23 @@ fit_down s m law r j c h i z (b, st, lt, pg) (d, l, su, v, g) =
     fit_kin s m r j i b l z st (stood_trie s m law r b st) lt (stood_kin s m law c o.1 d sc su) (stood_built s m law c o.1 sc).0
     (subst (λ u. Within o.1 u) (sym o.2) (inside here)) v g
 
+-- A key that may stand in a child may stand at the child's place.
+pub fit_down : (s : Past) (m : ℕ) → IsSteady s m → (r j c h i : ℕ) (z : Key) → IsPlaced s m r j (Node c h) → MayStandAt s m c i z → MayStandAt s m r j z
+fit_down s m law r j c h i z at (d, l, su, v, g) = fit_body s m law r j c h i l z at d su v (alike_first (page d) i l z g)
+
+-- And so may one that agrees with it before the child's first fork.
+pub fit_near : (s : Past) (m : ℕ) → IsSteady s m → (r j c h i : ℕ) (p : Page) (y z : Key) → IsPlaced s m r j (Node c h) → IsShaped s m c p → MayStandAt s m c i y →
+    AgreeBelow (first_position p) y z → MayStandAt s m r j z
+fit_near s m law r j c h i p y z at sh (d, l, su, v, g) near =
+    let e : first_position (page d) ≡ first_position p = sym (first_shape (page d)) ∙ ap first_position (shaped s m law c p d sh su) in
+    fit_body s m law r j c h i l z at d su v (λ q b. alike_first (page d) i l y g q b ∙ near q (subst (λ n. q < n) e b))
+
 pub fit_leaf : (s : Past) (m : ℕ) → IsSteady s m → (r j n : ℕ) (k : Key) (v : ℕ) → IsPlaced s m r j (Leaf n) → IsRead s m n k v → MayStandAt s m r j k
 fit_leaf s m law r j n k v (b, st, lt, pg) (o, lo, hi, sn) =
     let w = leaf_of n (at_place b j) pg in
     let sd : Stands s st.at (a_leaf n) (leaf n w.0 w.1) = subst (λ u. Stands s st.at (a_leaf n) u) w.2 (placed_stands s m r j b st (Leaf n) pg) in
     let e : k ≡ w.0 = (law.same (a_leaf n) o st.at (leaf n k v) (leaf n w.0 w.1) lo hi st.since st.until sn sd).0 in
     (b, k, st, under_at b j k lt (subst (λ u. Has u k) (sym w.2) e), alike_refl (page b) j k)
-
--- A key that may stand in a record that was reached from a place may stand at the place.
-pub fit_reached : (s : Past) (m : ℕ) → IsSteady s m → (r j c h i : ℕ) (z : Key) → IsReached s m r j (Node c h) → MayStandAt s m c i z → MayStandAt s m r j z
-fit_reached s m law r j c h i z (placed p) f = fit_down s m law r j c h i z p f
-fit_reached s m law r j c h i z (further {c = d} {h = g} {i = o} q p) f = fit_reached s m law r j d g o z q (fit_down s m law d o c h i z p f)
-
-pub fit_first : (s : Past) (m : ℕ) → IsSteady s m → (r j n : ℕ) (k : Key) (v : ℕ) → IsReached s m r j (Leaf n) → IsRead s m n k v → MayStandAt s m r j k
-fit_first s m law r j n k v (placed p) f = fit_leaf s m law r j n k v p f
-fit_first s m law r j n k v (further {c = d} {h = g} {i = o} q p) f = fit_reached s m law r j d g o k q (fit_leaf s m law d o n k v p f)
 
 -- What is known of a key that was held all the time.
 on_stood : (s : Past) (m r : ℕ) (k : Key) → IsOn s m k (a_node r) → (b : Tree) × Stood s m r b × Has b k
@@ -233,8 +250,14 @@ on_stood s m r k (n, u, lo, hi, st, h) =
       subst (λ z. Has z k) o.2 h,
     )
 
-pub shaped : (s : Past) (m : ℕ) → IsSteady s m → (r : ℕ) (p : Page) (b : Tree) → IsShaped s m r p → Stood s m r b → shape (page b) ≡ p
-shaped s m law r p b (c, st, e) su = sym (kin_shape (stood_kin s m law r c b st su)) ∙ e
+-- It has two places or more.
+pub shaped_several : (s : Past) (m : ℕ) → IsSteady s m → (r : ℕ) (p : Page) → IsShaped s m r p → 2 ≤ size p
+shaped_several s m law r p (b, st, e) = subst (λ x. 2 ≤ size x) e (subst (λ n. 2 ≤ n) (sym (shape_tips (page b))) (several b (stood_built s m law r b st).0))
+  where
+    several : (b : Tree) → IsFork b → 2 ≤ size (page b)
+    several (leaf n k v) f = elim f [ ]
+    several (node n x c) f = elim f [ ]
+    several (fork q a c) f = let x = size_pos (page a) in let y = size_pos (page c) in omega (arith, x, y)
 
 shaped_spot : (s : Past) (m : ℕ) → IsSteady s m → (r : ℕ) (p : Page) (b : Tree) (k : Key) → IsShaped s m r p → Stood s m r b → spot k (page b) ≡ spot k p
 shaped_spot s m law r p b k sh st = sym (spot_shape k (page b)) ∙ ap (spot k) (shaped s m law r p b sh st)
@@ -248,10 +271,10 @@ on_fit s m law r p k sh on =
 some_same : {a b : Tree} → Some a ≡ Some b → a ≡ b
 some_same e = cc
 
-kept_has : (s : Past) (m : ℕ) (k : Key) → IsKept s m k → (n : ℕ) (t : Tree) → m ≤ n → n ≤ s.now → s.moment n ≡ Some t → Has t k
+kept_has : (s : Past) (m : ℕ) (k : Key) → IsKeptSince s m k → (n : ℕ) (t : Tree) → m ≤ n → n ≤ s.now → s.moment n ≡ Some t → Has t k
 kept_has s m k kept n t lo hi e = let o = kept n lo hi in subst (λ z. Has z k) (some_same (sym o.1 ∙ e)) o.2
 
-pub on_down : (s : Past) (m : ℕ) → IsSteady s m → (k : Key) → IsKept s m k → (r j : ℕ) (p : Page) (e : Entry) → IsShaped s m r p →
+pub on_down : (s : Past) (m : ℕ) → IsSteady s m → (k : Key) → IsKeptSince s m k → (r j : ℕ) (p : Page) (e : Entry) → IsShaped s m r p →
     IsOn s m k (a_node r) → spot k p ≡ j → IsPlaced s m r j e → IsOn s m k (rec_of e)
 on_down s m law k kept r j p e sh on at (b, st, lt, pg) =
     let o = on_stood s m r k on in
@@ -269,7 +292,7 @@ on_down s m law k kept r j p e sh on at (b, st, lt, pg) =
       subst (λ z. Has (at_place b z) k) (shaped_spot s m law r p b k sh st ∙ at) (subst (λ z. Has z k) (at_spot k b) (has_child b t k h)),
     )
 
-pub on_root : (s : Past) (m : ℕ) (k : Key) → IsKept s m k → (e : Entry) → IsRooted s m e → IsOn s m k (rec_of e)
+pub on_root : (s : Past) (m : ℕ) (k : Key) → IsKeptSince s m k → (e : Entry) → IsRooted s m e → IsOn s m k (rec_of e)
 on_root s m k kept e (n, t, lo, hi, g, pg) =
     (n, t, lo, hi, record { tree = t; is_moment = g; within = here; is_record = record_of_page e t pg }, kept_has s m k kept n t lo hi g)
 
@@ -279,14 +302,8 @@ on_leaf s m law n k l v (o, u, lo, hi, st, h) (a, la, ha, sa) =
     let e : l ≡ w.0 = (law.same (a_leaf n) a o (leaf n l v) (leaf n w.0 w.1) la ha lo hi sa (subst (λ z. Stands s o (a_leaf n) z) w.2 st)).0 in
     (let g : k ≡ w.0 = subst (λ z. Has z k) w.2 h in g ∙ sym e)
 
-pub read_held : (s : Past) (m n : ℕ) (k : Key) (v : ℕ) → IsRead s m n k v → IsHeld s m k v
-read_held s m n k v (o, lo, hi, st) = (o, st.tree, lo, hi, st.is_moment, holds_within st.within v (refl, refl))
-  where
-    holds_within : {u t : Tree} → Within u t → (v : ℕ) → Holds u k v → Holds t k v
-    holds_within here v h = h
-    holds_within (inside w) v h = holds_within w v h
-    holds_within (zero_side w) v h = inl (holds_within w v h)
-    holds_within (one_side w) v h = inr (holds_within w v h)
+pub read_held : (s : Past) (m n : ℕ) (k : Key) (v : ℕ) → IsRead s m n k v → IsHeldSince s m k v
+read_held s m n k v (o, lo, hi, st) = (o, st.tree, lo, hi, st.is_moment, holds_within st.within k v (refl, refl))
 
 -- A search that goes by placed entries is led: `hindsight` without the state.
 pub led_placed : (s : Past) (m : ℕ) → IsSteady s m → (k : Key) (r h j : ℕ) (p : Page) (e : Entry) → IsShaped s m r p → spot k p ≡ j → IsPlaced s m r j e →

@@ -7,7 +7,7 @@ use Rattle.compound_node.specs.declared.entries.Entry.TheVariants.{Leaf, Node}
 use Rattle.pieces.specs.Piece.{Place}
 use Rattle.tries.specs.Search.{Follows, seek}
 use Rattle.moments.specs.Heap.{NodeWords, LeafWords, IsCopied}
-use Rattle.moments.specs.State.{IsRecord, Spans, last_of, State, Stands, IsSame, IsTop, IsReach, IsLawful, IsMissed, IsLed, IsHeld}
+use Rattle.moments.specs.State.{IsRecord, Spans, last_of, State, Stands, IsSameRecord, IsTop, IsReach, IsLawful, IsMissed, IsLed, IsHeldSince}
 use Rattle.moments.specs.declared.Rec.{Rec}
 use Rattle.moments.specs.declared.Rec.TheVariants.{Node as a_node, Leaf as a_leaf}
 use Rattle.compound_node.specs.Nodes.{height_of}
@@ -16,7 +16,7 @@ use Rattle.moments.proofs.States.{record_of_page, spans_last, spans_ended}
 
 -- What a record that stood at a moment of its life says of the words as they are now.
 pub now_same : (s : State) → IsLawful s → (r : Rec) (n : ℕ) (u : Tree) → Spans s.now (s.life r) n → Stands s.past n r u →
-    (v : Tree) × Stands s.past (last_of s.now (s.life r)) r v × IsSame u v × IsCopied s.heap v
+    (v : Tree) × Stands s.past (last_of s.now (s.life r)) r v × IsSameRecord u v × IsCopied s.heap v
 now_same s law r n u h st =
     let g = spans_last s.now (s.life r) n (law.lived r) h in
     let v = law.alive r (last_of s.now (s.life r)) g in
@@ -35,7 +35,7 @@ fixed_now s law m reach n o a x b lo hi st =
     let v = now_same s law (a_node o) n (node a x b) (reach n lo hi (a_node o) (node a x b) st) st in
     go v.0 v.1.is_record v.2 v.3
   where
-    go : (v : Tree) → IsRecord (a_node o) v → IsSame (node a x b) v → IsCopied s.heap v → (s.heap.nodes o).fixed ≡ x
+    go : (v : Tree) → IsRecord (a_node o) v → IsSameRecord (node a x b) v → IsCopied s.heap v → (s.heap.nodes o).fixed ≡ x
     go (leaf c k w) i e f = elim e [ ]
     go (fork c k w) i e f = elim e [ ]
     go (node c y d) i e f = ap (λ (z : NodeWords). z.fixed) (ap s.heap.nodes (node_number i) ∙ f) ∙ sym e.0
@@ -47,7 +47,7 @@ leaf_now s law m reach n o a k w lo hi st =
     let v = now_same s law (a_leaf o) n (leaf a k w) (reach n lo hi (a_leaf o) (leaf a k w) st) st in
     go v.0 v.1.is_record v.2 v.3
   where
-    go : (v : Tree) → IsRecord (a_leaf o) v → IsSame (leaf a k w) v → IsCopied s.heap v → s.heap.leaves o ≡ record { key = k; value = w }
+    go : (v : Tree) → IsRecord (a_leaf o) v → IsSameRecord (leaf a k w) v → IsCopied s.heap v → s.heap.leaves o ≡ record { key = k; value = w }
     go (node c y d) i e f = elim e [ ]
     go (fork c y d) i e f = elim e [ ]
     go (leaf c l y) i e f = ap s.heap.leaves (leaf_number i) ∙ (f ∙ sym (ap₂ (λ a b. let z : LeafWords = record { key = a; value = b } in z) e.0 e.1))
@@ -79,23 +79,24 @@ begin_empty s law m lo k h = (s.now, lo, le_refl s.now, go s.root (s.moment s.no
     go None (Some u) h i t e x = elim i [ ]
     go (Some y) f h i t e x = absurd cc
 
+-- what a part of a tree holds the tree holds
+pub holds_within : {u t : Tree} → Within u t → (k : Key) (v : ℕ) → Holds u k v → Holds t k v
+holds_within here k v h = h
+holds_within (inside w) k v h = holds_within w k v h
+holds_within (zero_side w) k v h = inl (holds_within w k v h)
+holds_within (one_side w) k v h = inr (holds_within w k v h)
+
 -- At a leaf the key was held with the leaf's value, or it was absent.
 pub end : (s : State) → IsLawful s → (m : ℕ) → IsReach s m → (k : Key) (n : ℕ) → IsLed s.past m k (Leaf n) →
-    ((k ≡ (s.heap.leaves n).key) × IsHeld s.past m k (s.heap.leaves n).value) ⊎ ((k ≢ (s.heap.leaves n).key) × IsMissed s.past m k)
+    ((k ≡ (s.heap.leaves n).key) × IsHeldSince s.past m k (s.heap.leaves n).value) ⊎ ((k ≢ (s.heap.leaves n).key) × IsMissed s.past m k)
 end s law m reach k n (o, node a x b, lo, hi, st, e, f) = absurd cc
 end s law m reach k n (o, fork a x b, lo, hi, st, e, f) = absurd cc
 end s law m reach k n (o, leaf a l w, lo, hi, st, e, f) =
-    subst (λ (z : LeafWords). ((k ≡ z.key) × IsHeld s.past m k z.value) ⊎ ((k ≢ z.key) × IsMissed s.past m k))
+    subst (λ (z : LeafWords). ((k ≡ z.key) × IsHeldSince s.past m k z.value) ⊎ ((k ≢ z.key) × IsMissed s.past m k))
     (sym (leaf_now s law m reach o n a l w lo hi st)) (go (same_key k l) f)
   where
-    holds_within : {u t : Tree} → Within u t → (v : ℕ) → Holds u k v → Holds t k v
-    holds_within here v h = h
-    holds_within (inside w) v h = holds_within w v h
-    holds_within (zero_side w) v h = inl (holds_within w v h)
-    holds_within (one_side w) v h = inr (holds_within w v h)
-
-    go : Dec (k ≡ l) → (Follows k (leaf a l w) ⊎ IsMissed s.past m k) → ((k ≡ l) × IsHeld s.past m k w) ⊎ ((k ≢ l) × IsMissed s.past m k)
-    go (yes y) f = inl (y, (o, st.tree, lo, hi, st.is_moment, holds_within st.within w (y, refl)))
+    go : Dec (k ≡ l) → (Follows k (leaf a l w) ⊎ IsMissed s.past m k) → ((k ≡ l) × IsHeldSince s.past m k w) ⊎ ((k ≢ l) × IsMissed s.past m k)
+    go (yes y) f = inl (y, (o, st.tree, lo, hi, st.is_moment, holds_within st.within k w (y, refl)))
     go (no y) (inl z) = absurd (y z)
     go (no y) (inr z) = inr (y, z)
 
@@ -118,7 +119,7 @@ height_falls s law m reach k n h (o, node a x b, lo, hi, st, e, f) =
     height : Place (Node a x.height) ≡ Place (Node n h) → x.height ≡ h
     height e = cc
 
-    go : (v : Tree) → IsRecord (a_node n) v → IsSame (node a x b) v → IsCopied s.heap v → IsBuilt v → height_of (seek k (s.heap.nodes n).page) < h
+    go : (v : Tree) → IsRecord (a_node n) v → IsSameRecord (node a x b) v → IsCopied s.heap v → IsBuilt v → height_of (seek k (s.heap.nodes n).page) < h
     go (leaf c y d) i e f g = elim e [ ]
     go (fork c y d) i e f g = elim e [ ]
     go (node c y d) i z f g =

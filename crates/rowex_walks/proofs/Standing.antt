@@ -10,16 +10,13 @@ use Rattle.moments.specs.State.{IsLawful, IsTop}
 use Rattle.moments.specs.declared.Rec.TheVariants.{Node as a_node}
 use Rattle.moments.specs.Core.{InTree, Core, view}
 use Rattle.tries.proofs.Tries.{within_trans, page_child, within_child}
-use Rattle.moments.proofs.Heaps.{shown_within}
+use Rattle.moments.proofs.Heaps.{shown_within, leaf_parts}
 use Rattle.moments.proofs.Growth.{in_tree_now}
 use Rattle.compound_node.specs.declared.entries.Entry.{Entry}
 use Rattle.rowex_walks.proofs.Now.{shown_now}
 
 node_parts : {n m h g : ℕ} → Place (Node n h) ≡ Place (Node m g) → n ≡ m
 node_parts e = cc
-
-leaf_parts : {n m : ℕ} → Place (Leaf n) ≡ Place (Leaf m) → n ≡ m
-leaf_parts e = cc
 
 some_same : {a b : Tree} → Some a ≡ Some b → a ≡ b
 some_same e = cc

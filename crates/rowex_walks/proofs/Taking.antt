@@ -15,7 +15,7 @@ use Rattle.moments.specs.Core.{Core, Ready, InTree, view}
 use Rattle.moments.specs.declared.Rec.{Rec}
 use Rattle.moments.specs.declared.Rec.TheVariants.{Node as a_node, Leaf as a_leaf}
 use Rattle.moments.specs.Steps.{IsMomentPublish}
-use Rattle.rowex_walks.specs.Writer.{item, removed_change, IsAtHand, IsPageStored}
+use Rattle.rowex_walks.specs.Writer.{removed_change, IsPageStored}
 use Rattle.rowex_walks.specs.Rise.{IsNewPage, IsEntryFor, alone, in_node, IsOver, IsLeafOf, IsSlotStore, IsBelowNode, entry_news}
 use Rattle.tries.proofs.Tries.{trie_within, built_within, within_trans}
 use Rattle.tries.proofs.Affected.{lower_page}
@@ -25,11 +25,13 @@ use Rattle.rowex_walks.proofs.Now.{built_now, shown_now, trie_now}
 use Rattle.rowex_walks.proofs.Hands.{hand_around, hand_open, hand_put}
 use Rattle.rowex_walks.proofs.Removal.{removed_zero, removed_one, removed_put, removed_marks, removed_open, hand_zero, hand_one, slot_removed, root_removed, remove_last}
 use Rattle.rowex_walks.proofs.Standing.{stands_now, entry_node, entry_leaf, root_node, root_leaf, now_standing, now_rooted}
-use Rattle.moments.specs.Trades.{IsTraded, HasTraded}
-use Rattle.rowex_walks.proofs.Trading.{IsTrade, old_now, not_beside, traded_put, traded_around, traded_open, slot_trade}
+use Rattle.moments.specs.Trades.{HasTraded}
+use Rattle.rowex_walks.proofs.Trading.{IsTrade, old_now, not_beside, traded_put, traded_around, traded_open, slot_trade, IsTraded}
 use Rattle.rowex_walks.proofs.Rising.{is_tip, new_node}
 use Rattle.rowex_walks.proofs.Differing.{published, trade_differs}
 use Rattle.rowex_walks.specs.Statements.{RemoveInSlot, RemoveAtRoot, RemoveLast}
+use Rattle.rowex_walks.proofs.AtHand.{IsAtHand}
+use Rattle.tries.specs.Content.{item}
 
 -- A body without one of its leaves: what is left, its page, that the pass has it at hand, and that the leaf alone goes.
 abbrev IsWithout : Core → ℕ → Key → ℕ → ℕ → Tree → Type 0

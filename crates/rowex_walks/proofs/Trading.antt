@@ -1,5 +1,5 @@
 -- What a publish links anew and unlinks, put together step by step.
-use Rattle.std.proofs.Common.{◌≡◌, inl, inr, ℕ, List, [], ◌∷◌, Bool, true, false, refl, ap, ap₂, sym, ◌∙◌, subst, Some}
+use Rattle.std.proofs.Common.{◌≡◌, inl, inr, ℕ, List, [], ◌∷◌, Bool, true, false, refl, ap, ap₂, sym, ◌∙◌, subst, Some, ◌⊎◌}
 use Rattle.std.proofs.lemmas.Bool.{false≢true}
 use Rattle.tries.specs.Tree.{Fixed, Tree, leaf, node, fork, IsTrie, IsBuilt, Within, here, inside, zero_side, one_side, Has}
 use Rattle.tries.specs.Changes.{put}
@@ -16,11 +16,18 @@ use Rattle.moments.proofs.Heaps.{shown_within, determined}
 use Rattle.compound_node.specs.declared.entries.Entry.TheVariants.{Node}
 use Rattle.pieces.specs.Piece.{Place}
 use Rattle.rowex_walks.proofs.Replaced.{links_put, put_links, links_new, links_old, linked_fate}
-use Rattle.moments.specs.Trades.{IsOf, IsTraded, AreApart}
+use Rattle.moments.specs.Trades.{IsOf, AreApart}
 use Rattle.tries.specs.Keys.{Key, bit}
 use Rattle.moments.specs.Core.{Core, Ready, InTree, view}
 use Rattle.rowex_walks.specs.Writer.{IsNewLeaf}
 use Rattle.rowex_walks.proofs.Now.{built_now, shown_now, trie_now}
+
+-- Where `s` was is `r`: it links what `s` linked and the records `new`, but for just the records `gone`.
+pub record IsTraded (s r : Tree) (new gone : List Rec) : Type 0 where
+  pub comes : (i : Rec) → Links r i → Links s i ⊎ IsOf i new
+  pub came : (i : Rec) → IsOf i new → Links r i
+  pub goes : (i : Rec) → Links s i → Links r i ⊎ IsOf i gone
+  pub went : (i : Rec) → IsOf i gone → Links s i × (Links r i → ⊥)
 
 -- A record is linked at one place
 

@@ -5,14 +5,14 @@ use Rattle.tries.specs.Keys.{Key, IsBefore}
 use Rattle.compound_node.specs.declared.entries.Entry.TheVariants.{Leaf, Node}
 use Rattle.tries.specs.Tree.{Page}
 use Rattle.pieces.specs.Piece.{size}
-use Rattle.moments.specs.State.{Past, IsKept, IsSteady}
+use Rattle.moments.specs.State.{Past, IsKeptSince, IsSteady}
 use Rattle.moments.specs.declared.Rec.TheVariants.{Node as a_node}
 use Rattle.tries.specs.Place.{spot}
-use Rattle.rowex_walks.specs.Scan.{IsRooted, IsPlaced, IsShaped, IsRead, MayStandAt, IsOn, Frame, IsStack, IsPassed, IsRight, IsAhead, Pair, Every, IsListed, Range, IsInRange, IsScan, IsComplete, IsUpTo, IsCut, IsStart, next}
+use Rattle.rowex_walks.specs.Scan.{IsPlaced, IsShaped, IsRead, MayStandAt, IsOn, Frame, IsStack, IsPassed, IsRight, IsAhead, Pair, Every, IsListed, Range, IsInRange, IsScan, IsComplete, IsUpTo, IsCut, next}
 use Rattle.tries.proofs.Places.{spot_below}
-use Rattle.rowex_walks.proofs.Scans.{fit_order, fit_down, fit_leaf, on_fit, on_down, on_root, on_leaf, read_held, before_trans, never_before, before_most}
+use Rattle.rowex_walks.proofs.Scans.{fit_order, fit_down, fit_leaf, on_fit, on_down, on_leaf, read_held, before_trans, never_before}
 
-every_map : (P Q : Pair → Type 0) (xs : List Pair) → ((x : Pair) → P x → Q x) → Every P xs → Every Q xs
+pub every_map : (P Q : Pair → Type 0) (xs : List Pair) → ((x : Pair) → P x → Q x) → Every P xs → Every Q xs
 every_map P Q [] f h = tt
 every_map P Q (x ∷ xs) f h = (f x h.0, every_map P Q xs f h.1)
 
@@ -22,7 +22,7 @@ stack_shape s m f [] h = h.1
 stack_shape s m f (g ∷ gs) h = h.1
 
 -- What is said of the stack doesn't turn on the topmost frame's place.
-stack_place : (s : Past) (m : ℕ) (f : Frame) (i : ℕ) (fs : List Frame) → IsStack s m (f ∷ fs) → IsStack s m (record f { place = i } ∷ fs)
+pub stack_place : (s : Past) (m : ℕ) (f : Frame) (i : ℕ) (fs : List Frame) → IsStack s m (f ∷ fs) → IsStack s m (record f { place = i } ∷ fs)
 stack_place s m f i [] h = h
 stack_place s m f i (g ∷ gs) h = h
 
@@ -73,34 +73,11 @@ ahead_next s m k f fs (inl (on, le)) = elim (cases_lt f.place (spot k f.shape)) 
       | inr h ↦ inl (on, omega arith)
     ]
 
--- Nothing in the range is left of a start.
-start_covers : (s : Past) (m : ℕ) → IsSteady s m → (g : Range) (c i : ℕ) (p : Page) (k : Key) → IsStart s m g c i → IsShaped s m c p →
-    IsOn s m k (a_node c) → IsInRange g k → i ≤ spot k p
-start_covers s m law g c i p k (inl e) sh on r = omega arith
-start_covers s m law g c i p k (inr (f, x, le)) sh on r = elim (cases_lt (spot k p) i) as (λ z. i ≤ spot k p) [
-  | inl h ↦ absurd (never_before k g.from (before_most k f g.from (fit_order s m law c (spot k p) i h k f (on_fit s m law c p k sh on) x) le) r.0)
-  | inr h ↦ h
-]
-
--- The root is a node: the first frame.
-pub scan_begin : (s : Past) (m : ℕ) → IsSteady s m → (g : Range) (c h i : ℕ) (p : Page) → IsRooted s m (Node c h) → IsShaped s m c p →
-    IsStart s m g c i → IsScan s m g (record { number = c; height = h; shape = p; place = i } ∷ []) []
-scan_begin s m law g c h i p root sh start = record {
-  stack = (root, sh);
-  falling = tt;
-  within = tt;
-  held = tt;
-  passed = tt;
-  short = omega arith;
-  covered = λ k kept r.
-      let on = on_root s m k kept (Node c h) root in inr (inl (on, start_covers s m law g c i p k start sh on r));
-}
-
 -- A node is loaded at the topmost frame's place: one frame more.
 pub scan_push : (s : Past) (m : ℕ) → IsSteady s m → (g : Range) (f : Frame) (fs : List Frame) (xs : List Pair) → IsScan s m g (f ∷ fs) xs →
-    (c h i : ℕ) (p : Page) → IsPlaced s m f.number f.place (Node c h) → IsShaped s m c p → IsStart s m g c i →
-    IsScan s m g (record { number = c; height = h; shape = p; place = i } ∷ f ∷ fs) xs
-scan_push s m law g f fs xs w c h i p at sh start = record {
+    (c h : ℕ) (p : Page) → IsPlaced s m f.number f.place (Node c h) → IsShaped s m c p →
+    IsScan s m g (record { number = c; height = h; shape = p; place = 0 } ∷ f ∷ fs) xs
+scan_push s m law g f fs xs w c h p at sh = record {
   stack = (at, sh, w.stack);
   falling = w.falling;
   within = w.within;
@@ -111,21 +88,21 @@ scan_push s m law g f fs xs w c h i p at sh start = record {
 }
   where
     top : Frame
-    top = record { number = c; height = h; shape = p; place = i }
+    top = record { number = c; height = h; shape = p; place = 0 }
 
-    ahead : (k : Key) → IsKept s m k → IsInRange g k → IsAhead s m k (f ∷ fs) → IsAhead s m k (record { number = c; height = h; shape = p; place = i } ∷ f ∷ fs)
+    ahead : (k : Key) → IsKeptSince s m k → IsInRange g k → IsAhead s m k (f ∷ fs) → IsAhead s m k (record { number = c; height = h; shape = p; place = 0 } ∷ f ∷ fs)
     ahead k kept r (inr y) = inr (inr y)
     ahead k kept r (inl (on, le)) = elim (cases_lt f.place (spot k f.shape)) as
-        (λ z. IsAhead s m k (record { number = c; height = h; shape = p; place = i } ∷ f ∷ fs)) [
+        (λ z. IsAhead s m k (record { number = c; height = h; shape = p; place = 0 } ∷ f ∷ fs)) [
           | inl h ↦ inr (inl (on, h))
           | inr d ↦
               let there : IsOn s m k (a_node c) =
               on_down s m law k kept f.number f.place f.shape (Node c h) (stack_shape s m f fs w.stack) on (omega arith) at in
-              inl (there, start_covers s m law g c i p k start sh there r)
+              inl (there, omega arith)
         ]
 
-    go : (k : Key) → IsKept s m k → IsInRange g k → IsListed k xs ⊎ IsAhead s m k (f ∷ fs) →
-        IsListed k xs ⊎ IsAhead s m k (record { number = c; height = h; shape = p; place = i } ∷ f ∷ fs)
+    go : (k : Key) → IsKeptSince s m k → IsInRange g k → IsListed k xs ⊎ IsAhead s m k (f ∷ fs) →
+        IsListed k xs ⊎ IsAhead s m k (record { number = c; height = h; shape = p; place = 0 } ∷ f ∷ fs)
     go k kept r (inl y) = inl y
     go k kept r (inr y) = inr (ahead k kept r y)
 
@@ -171,7 +148,7 @@ scan_end s m law g f xs w over = record {
 
 -- A leaf is loaded at the place. The keys that were there all the time are its own, or still ahead.
 leaf_covers : (s : Past) (m : ℕ) → IsSteady s m → (g : Range) (f : Frame) (fs : List Frame) (xs : List Pair) → IsScan s m g (f ∷ fs) xs →
-    (n : ℕ) (l : Key) (v : ℕ) → IsPlaced s m f.number f.place (Leaf n) → IsRead s m n l v → (k : Key) → IsKept s m k → IsInRange g k →
+    (n : ℕ) (l : Key) (v : ℕ) → IsPlaced s m f.number f.place (Leaf n) → IsRead s m n l v → (k : Key) → IsKeptSince s m k → IsInRange g k →
     IsListed k xs ⊎ ((k ≡ l) ⊎ IsAhead s m k (next f ∷ fs))
 leaf_covers s m law g f fs xs w n l v at is k kept r = go (w.covered k kept r)
   where

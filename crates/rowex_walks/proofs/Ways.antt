@@ -6,18 +6,19 @@ use Rattle.compound_node.specs.declared.entries.Entry.TheVariants.{Node}
 use Rattle.pieces.specs.Piece.{Place}
 use Rattle.tries.specs.Keys.{Key, bit, AgreeBelow}
 use Rattle.tries.specs.Tree.{Fixed, Page, Tree, leaf, node, fork, page, Has, IsTrie, IsFork, IsBuilt, Within, here, inside, zero_side, one_side, first_position}
-use Rattle.tries.specs.Search.{child, seek, Kin, tips, forks}
+use Rattle.tries.specs.Search.{child, seek, Kin, tips, forks, found}
 use Rattle.tries.specs.Content.{Item, first}
 use Rattle.tries.specs.Place.{spot, shape}
 use Rattle.tries.proofs.Tries.{has_first, has_within, within_trans, trie_within, built_within, rises, within_child}
-use Rattle.moments.specs.State.{Past, Stands, IsMarked, IsSteady}
+use Rattle.moments.specs.State.{Past, Stands, StoodWithKeys, IsSteady}
 use Rattle.moments.specs.declared.Rec.TheVariants.{Node as a_node, Leaf as a_leaf}
 use Rattle.moments.proofs.Stored.{lower_within}
 use Rattle.rowex_walks.specs.Scan.{IsRooted, IsBlank, at_place, IsPlaced}
-use Rattle.rowex_walks.specs.Ways.{IsOnWay, IsWayFrom, from_leaf, from_node, found, WayBegins, WayGoesOn, WayEnds, WayOfLeaf, WayIsBelow, StillRooted, StillPlaced, StillGrows, OneBody, RootedSame, PlacedSame, FoundSame}
+use Rattle.rowex_walks.specs.Ways.{IsOnWay, IsWayFrom, from_leaf, from_node, WayBegins, WayGoesOn, WayEnds, WayOfLeaf, WayIsBelow, StillRooted, StillPlaced, StillGrows, OneBody, RootedSame, PlacedSame, FoundSame}
 use Rattle.rowex_walks.specs.Writer.{IsBegun, IsWayBelow, at_leaf, below}
 use Rattle.rowex_walks.proofs.Scans.{node_of, leaf_of, within_at, placed_stands, at_spot, shaped}
 use Rattle.tries.proofs.Places.{spot_shape}
+use Rattle.tries.proofs.Contents.{found_child}
 
 -- keys of a body that is kin to one whose keys agree with `like` before r agree with it too
 kin_like : (r : ℕ) (like : Key) {b d : Tree} → Kin b d → IsFork b → IsTrie b → ((y : Key) → Has b y → AgreeBelow r like y) → (y : Key) → Has d y → AgreeBelow r like y
@@ -31,10 +32,10 @@ kin_like r like (forks {p = p} {a = a} {b = b} e x y) i t f z h = λ q low. f (f
     go (inl h) = absurd (false≢true (sym (t.3 (first a) (has_first a)) ∙ (sym (f (first a) (inl (has_first a)) p h) ∙ (f (first b) (inr (has_first b)) p h ∙ t.4 (first b) (has_first b)))))
 
 near_placed : (s : Past) (m : ℕ) → IsSteady s m → (r : ℕ) (like : Key) (n h j : ℕ) (e : Entry) →
-    IsMarked s m (λ y. AgreeBelow r like y) (Node n h) → IsPlaced s m n j e → IsMarked s m (λ y. AgreeBelow r like y) e
+    StoodWithKeys s m (λ y. AgreeBelow r like y) (Node n h) → IsPlaced s m n j e → StoodWithKeys s m (λ y. AgreeBelow r like y) e
 near_placed s m steady r like n h j e (o, u, lo, hi, st, pg, f) (b, stood, low, pe) = go (node_of n h u pg)
   where
-    go : (x : Fixed) × (d : Tree) × (u ≡ node n x d) × (x.height ≡ h) → IsMarked s m (λ y. AgreeBelow r like y) e
+    go : (x : Fixed) × (d : Tree) × (u ≡ node n x d) × (x.height ≡ h) → StoodWithKeys s m (λ y. AgreeBelow r like y) e
     go (x, d, is, high) =
         let su : Stands s o (a_node n) (node n x d) = subst (λ z. Stands s o (a_node n) z) is st in
         let built : IsBuilt (node n x d) = built_within su.within (steady.trees o su.tree hi su.is_moment).1 in
@@ -140,11 +141,6 @@ same_body n x b c e q (one_side {p = p} {a = a} {b = d} v) (zero_side w) i g kin
     absurd (false≢true (sym (i.3 (first c) (has_within w' (first c) (has_first c))) ∙ kin_apart p true v' (built_within v' g.1).0 i.1 (λ k l y z. i.2 k l (inr y) (inr z)) i.4 kin (first c) (has_first c)))
 
 -- If nothing has changed since m, the search is at the entry
-
-found_child : (k : Key) (b : Tree) → found k (child k b) ≡ found k b
-found_child k (leaf n l v) = refl
-found_child k (node n x b) = refl
-found_child k (fork p a b) = elim (bit k p) as (λ u. found k (if u then child k b else child k a) ≡ (if u then found k b else found k a)) [ true ↦ found_child k b | false ↦ found_child k a ]
 
 pub still_grows : StillGrows
 still_grows a b g m k e low f same =

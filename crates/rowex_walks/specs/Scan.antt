@@ -1,12 +1,14 @@
 -- What a scan knows: facts of the past alone.
 use Rattle.std.specs.Prelude.{◌≡◌, ◌⊎◌, ℕ, suc, ◌<◌, ◌≤◌, ◌-◌, ◌+◌, ◌*◌, ◌^◌, List, [], ◌∷◌, ◌++◌, length, Some, None, if◌then◌else◌, nat_lt}
-use Rattle.tries.specs.Keys.{IsAtMost, Key, AgreeBelow, IsBefore}
+use Rattle.tries.specs.Affected.{page_affected}
+use Rattle.tries.specs.Keys.{IsAtMost, Key, bit, AgreeBelow, IsBefore}
 use Rattle.tries.specs.Tree.{Fixed, Page, Tree, leaf, node, fork, page, Has}
 use Rattle.compound_node.specs.declared.entries.Entry.{Entry}
 use Rattle.compound_node.specs.declared.entries.Entry.TheVariants.{Node}
 use Rattle.pieces.specs.Piece.{Place, Fork, size}
 use Rattle.tries.specs.Search.{IsUnder}
-use Rattle.moments.specs.State.{rec_of, Past, Stands, IsHeld, IsKept}
+use Rattle.moments.specs.State.{rec_of, Past, Stands, IsHeldSince, IsKeptSince, IsSteady}
+use Rattle.moments.specs.Frames.{IsGrown}
 use Rattle.moments.specs.declared.Rec.{Rec}
 use Rattle.moments.specs.declared.Rec.TheVariants.{Node as a_node, Leaf as a_leaf}
 use Rattle.tries.specs.Place.{spot, shape}
@@ -55,11 +57,6 @@ MayStandAt s m r i y = (b : Tree) × (k : Key) × Stood s m r b × IsUnder b i k
 -- It may stand left of the place.
 abbrev pub IsLeft : Past → ℕ → ℕ → ℕ → Key → Type 0
 IsLeft s m r i y = (j : ℕ) × (j < i) × MayStandAt s m r j y
-
--- The entry was reached from the record's place, by places taken one after the other.
-pub data IsReached (s : Past) (m r j : ℕ) : Entry → Type 0 where
-  placed : {e : Entry} → IsPlaced s m r j e → IsReached s m r j e
-  further : {c h i : ℕ} {e : Entry} → IsReached s m r j (Node c h) → IsPlaced s m c i e → IsReached s m r j e
 
 -- The record had the key below it.
 abbrev pub IsOn : Past → ℕ → Key → Rec → Type 0
@@ -126,18 +123,18 @@ pub record IsScan (s : Past) (m : ℕ) (g : Range) (fs : List Frame) (xs : List 
   pub stack : IsStack s m fs
   pub falling : IsFalling xs
   pub within : Every (λ x. IsInRange g x.key) xs
-  pub held : Every (λ x. IsHeld s m x.key x.value) xs
+  pub held : Every (λ x. IsHeldSince s m x.key x.value) xs
   pub passed : Every (λ x. IsPassed s m x.key fs) xs
   pub short : length xs ≤ g.limit
-  pub covered : (k : Key) → IsKept s m k → IsInRange g k → IsListed k xs ⊎ IsAhead s m k fs
+  pub covered : (k : Key) → IsKeptSince s m k → IsInRange g k → IsListed k xs ⊎ IsAhead s m k fs
 
 -- What a scan promises, by moments: complete, or cut at the limit.
 pub record IsComplete (s : Past) (m : ℕ) (g : Range) (xs : List Pair) : Type 0 where
   pub falling : IsFalling xs
   pub within : Every (λ x. IsInRange g x.key) xs
-  pub held : Every (λ x. IsHeld s m x.key x.value) xs
+  pub held : Every (λ x. IsHeldSince s m x.key x.value) xs
   pub short : length xs ≤ g.limit
-  pub covered : (k : Key) → IsKept s m k → IsInRange g k → IsListed k xs
+  pub covered : (k : Key) → IsKeptSince s m k → IsInRange g k → IsListed k xs
 
 -- The key is that of one of the pairs, or below one of them.
 abbrev pub IsUpTo : Key → List Pair → Type 0
@@ -147,14 +144,29 @@ IsUpTo k (x ∷ xs) = IsAtMost k x.key
 pub record IsCut (s : Past) (m : ℕ) (g : Range) (xs : List Pair) : Type 0 where
   pub falling : IsFalling xs
   pub within : Every (λ x. IsInRange g x.key) xs
-  pub held : Every (λ x. IsHeld s m x.key x.value) xs
+  pub held : Every (λ x. IsHeldSince s m x.key x.value) xs
   pub full : length xs ≡ g.limit
-  pub further : (k : Key) × (v : ℕ) × IsInRange g k × IsHeld s m k v × Every (λ x. IsBefore x.key k) xs
-  pub covered : (k : Key) → IsKept s m k → IsInRange g k → IsUpTo k xs → IsListed k xs
+  pub further : (k : Key) × (v : ℕ) × IsInRange g k × IsHeldSince s m k v × Every (λ x. IsBefore x.key k) xs
+  pub covered : (k : Key) → IsKeptSince s m k → IsInRange g k → IsUpTo k xs → IsListed k xs
 
--- A place at which the scan may begin in a node: the first, or one below which a key was read that isn't above `from`.
-abbrev pub IsStart : Past → ℕ → Range → ℕ → ℕ → Type 0
-IsStart s m g c i = (i ≡ 0) ⊎ ((k : Key) × MayStandAt s m c i k × IsAtMost k g.from)
+-- Each key that may stand at this place of the record, or right of it, is above the key, and stays so while the past grows.
+abbrev pub IsOver : Past → ℕ → Key → ℕ → ℕ → Type 0
+IsOver s m k r i = (t : Past) → IsGrown s t → IsSteady t m → (j : ℕ) (z : Key) → i ≤ j → MayStandAt t m r j z → IsBefore k z
+
+-- The key may stand at the place of each frame.
+abbrev pub AreAt : Past → ℕ → Key → List Frame → Type 0
+AreAt s m k [] = Unit {0}
+AreAt s m k (f ∷ fs) = MayStandAt s m f.number f.place k × AreAt s m k fs
+
+-- The first place of the part of a page that an insertion of the key with first mismatch `p` affects.
+abbrev pub affected_from : ℕ → Key → Page → ℕ
+affected_from p k (Place e) = 0
+affected_from p k (Fork q x y) = if nat_lt q p then (if bit k q then size x + affected_from p k y else affected_from p k x) else 0
+
+-- The place from which on a page has the keys above this one, where a key that differs from it first at `p` was found in it: before
+-- the affected part, or behind it.
+abbrev pub start_place : ℕ → Key → Page → ℕ
+start_place p k x = if bit k p then affected_from p k x + size (page_affected p k x) else affected_from p k x
 
 -- The frame one place further.
 abbrev pub next : Frame → Frame

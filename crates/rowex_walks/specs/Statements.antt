@@ -10,19 +10,19 @@ use Rattle.pieces.specs.Piece.{Place, size}
 use Rattle.tries.specs.Keys.{Key, bit, AgreeBelow}
 use Rattle.tries.specs.Tree.{Fixed, Tree, Page}
 use Rattle.tries.specs.Search.{seek}
-use Rattle.tries.specs.Content.{Item}
+use Rattle.tries.specs.Content.{Item, item}
 use Rattle.tries.specs.Place.{page_without, spot, entry_at, shape}
 use Rattle.tries.specs.Affected.{page_affected, page_forked, IsFirstBelow}
 use Rattle.moments.specs.Heap.{Heap}
-use Rattle.moments.specs.State.{State, Past, IsLawful, IsReach, IsSteady, IsLed, IsMissed, IsHeld}
+use Rattle.moments.specs.State.{State, Past, IsLawful, IsReach, IsSteady, IsLed, IsMissed, IsHeldSince}
 use Rattle.moments.specs.declared.Rec.{Rec}
 use Rattle.moments.specs.declared.Rec.TheVariants.{Node as a_node, Leaf as a_leaf}
 use Rattle.moments.specs.Trades.{HasTraded}
 use Rattle.moments.specs.Core.{Core, view}
 use Rattle.moments.specs.declared.Pin.{Pin}
-use Rattle.moments.specs.Told.{IsTold, items_of}
+use Rattle.moments.specs.Told.{TellChanges, items_of}
 use Rattle.moments.specs.Steps.{IsMomentPublish}
-use Rattle.rowex_walks.specs.Writer.{item, added_change, replaced_change, removed_change, IsFoundBelow, IsNewLeaf}
+use Rattle.rowex_walks.specs.Writer.{added_change, replaced_change, removed_change, IsFoundBelow, IsNewLeaf}
 use Rattle.rowex_walks.specs.Rise.{IsNewPage, IsEntryFor, IsLockedNode, IsOver, IsUpper, IsLeafOf, entry, IsRise, entry_news, news_of, gone_of, IsSlotStore, IsBelowNode}
 use Rattle.rowex_walks.specs.Scan.{Pair, Range, IsComplete, IsCut, turned, IsRooted, IsPlaced, IsShaped, IsRead, IsSeen}
 use Rattle.compound_node.specs.Nodes.{height_of}
@@ -114,19 +114,19 @@ RemoveLast =
 abbrev pub GetEnds : Type 0
 GetEnds =
     (s : State) → IsLawful s → (m : ℕ) → IsReach s m → (k : Key) (n : ℕ) → IsLed s.past m k (Leaf n) →
-    ((k ≡ (s.heap.leaves n).key) × IsHeld s.past m k (s.heap.leaves n).value) ⊎ ((k ≢ (s.heap.leaves n).key) × IsMissed s.past m k)
+    ((k ≡ (s.heap.leaves n).key) × IsHeldSince s.past m k (s.heap.leaves n).value) ⊎ ((k ≢ (s.heap.leaves n).key) × IsMissed s.past m k)
 
 -- A scan that came to its end is lawful in the fronts.
 abbrev pub ScanCompletes : Type 0
 ScanCompletes =
-    (s : Past) (before rest : List Change) (m : ℕ) → IsSteady s m → IsTold s (before ++ rest) → (g : Range) → IsKey g.from → IsKey g.upto →
+    (s : Past) (before rest : List Change) (m : ℕ) → IsSteady s m → TellChanges s (before ++ rest) → (g : Range) → IsKey g.from → IsKey g.upto →
     (xs : List Pair) (scan : Answer) → scan.pairs.items ≡ turned xs → scan.more ≡ false → IsComplete s (length before) g xs →
     IsLawfulScan before (before ++ rest) g.from g.upto g.limit scan
 
 -- And so is one that was cut at the limit.
 abbrev pub ScanIsCut : Type 0
 ScanIsCut =
-    (s : Past) (before rest : List Change) (m : ℕ) → IsSteady s m → IsTold s (before ++ rest) → (g : Range) → IsKey g.from → IsKey g.upto →
+    (s : Past) (before rest : List Change) (m : ℕ) → IsSteady s m → TellChanges s (before ++ rest) → (g : Range) → IsKey g.from → IsKey g.upto →
     (xs : List Pair) (scan : Answer) → scan.pairs.items ≡ turned xs → scan.more ≡ true → IsCut s (length before) g xs →
     IsLawfulScan before (before ++ rest) g.from g.upto g.limit scan
 

@@ -3,12 +3,11 @@ use Rattle.std.specs.Prelude.{◌≡◌, ℕ, ◌≤◌, Some, if◌then◌else�
 use Rattle.compound_node.specs.declared.entries.Entry.{Entry}
 use Rattle.compound_node.specs.declared.entries.Entry.TheVariants.{Leaf, Node}
 use Rattle.pieces.specs.Piece.{Place}
-use Rattle.tries.specs.Keys.{Key, bit, AgreeBelow}
-use Rattle.tries.specs.Tree.{Fixed, Page, Tree, leaf, node, fork, page, IsTrie, IsBuilt, Within, first_position}
-use Rattle.tries.specs.Search.{Kin, seek}
-use Rattle.tries.specs.Content.{Item}
+use Rattle.tries.specs.Keys.{Key, AgreeBelow}
+use Rattle.tries.specs.Tree.{Fixed, Page, Tree, node, page, IsTrie, IsBuilt, Within, first_position}
+use Rattle.tries.specs.Search.{Kin, seek, found}
 use Rattle.tries.specs.Place.{spot}
-use Rattle.moments.specs.State.{Past, IsMarked, IsSteady}
+use Rattle.moments.specs.State.{Past, StoodWithKeys, IsSteady}
 use Rattle.moments.specs.Frames.{IsGrown}
 use Rattle.rowex_walks.specs.Scan.{IsSeen, IsRooted, IsBlank, IsPlaced, IsShaped, IsRead}
 use Rattle.rowex_walks.specs.Writer.{IsBegun, IsWayBelow}
@@ -16,18 +15,12 @@ use Rattle.rowex_walks.specs.Writer.{IsBegun, IsWayBelow}
 -- From node `a`, whose first fork is at `r`, the descent has come to the entry: before `r` the keys there agree with a key that
 -- the node had.
 abbrev pub IsOnWay : Past → ℕ → ℕ → ℕ → Entry → Type 0
-IsOnWay s m r a e = (like : Key) × IsBegun s m r like a × IsMarked s m (λ y. AgreeBelow r like y) e
+IsOnWay s m r a e = (like : Key) × IsBegun s m r like a × StoodWithKeys s m (λ y. AgreeBelow r like y) e
 
 -- What began at this entry ended at a leaf with the key `l`.
 pub data IsWayFrom (s : Past) (m : ℕ) (l : Key) : Entry → Type 0 where
-  from_leaf : (j : ℕ) → IsMarked s m (λ y. y ≡ l) (Leaf j) → IsWayFrom s m l (Leaf j)
+  from_leaf : (j : ℕ) → StoodWithKeys s m (λ y. y ≡ l) (Leaf j) → IsWayFrom s m l (Leaf j)
   from_node : (a h r : ℕ) (like : Key) → IsBegun s m r like a → AgreeBelow r like l → IsWayFrom s m l (Node a h)
-
--- The leaf at which a search of the tree for the key ends.
-abbrev pub found : Key → Tree → Item
-found k (leaf n l v) = record { number = n; key = l; value = v }
-found k (node n x b) = found k b
-found k (fork p a b) = if bit k p then found k b else found k a
 
 -- Where no change has been made since moment `m`, the search for the key is at this entry in the newest tree: it stands there, and
 -- the search below it ends where that of the whole tree does.

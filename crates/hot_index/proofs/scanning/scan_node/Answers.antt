@@ -1,144 +1,145 @@
--- The steps of the walk.
-use Rattle.std.proofs.Common.{◌+◌, refl, arith}
-use Rattle.compound_node.specs.declared.entries.Entry.TheVariants.{Leaf, Node}
+-- The start, the leaf that comes first, and the walk from there on.
+use Rattle.std.proofs.Common.{◌+◌, ◌≤◌, ℕ, [], take, refl, ap, sym, subst, ◌∙◌, arith}
+use Rattle.compound_node.specs.declared.entries.Entry.TheVariants.{Leaf}
 use Rattle.hot_index.specs.declared.scanning.Verdict.TheVariants.{Further, Past, Full}
 use Rattle.record_words.specs.declared.TheConstants.{LEAF_FIELDS}
+use Rattle.rowex_reading.specs.Reads.{Reads}
 use Rattle.rowex_reading.specs.Seen.{since}
-use Rattle.hot_index.specs.Scanning.{range_of}
-use Rattle.rowex_reading.proofs.Led.{placed_led, reader_then, reads_later, reads_trans, rooted_led, same_since}
-use Rattle.rowex_reading.proofs.Seeing.{since_later}
-use Rattle.hot_index.proofs.Walking.{empty_is, taken_as, walk_place, walk_begin, walk_push, walk_push_less, walk_further, walk_past, walk_full, walk_next_less, walk_inside, walk_pop, walk_pop_less, walk_end}
+use Rattle.rowex_reading.proofs.Led.{placed_led, reader_then, reads_later, reads_trans, same_since}
+use Rattle.rowex_reading.proofs.Seeing.{later_none}
+use Rattle.rowex_writing.specs.Ways.{IsWayOf}
+use Rattle.rowex_writing.specs.declared.plan.Found.TheVariants.{Leaf as FoundLeaf}
+use Rattle.hot_index.specs.Scanning.{range_of, IsFloor, IsWalk}
+use Rattle.hot_index.proofs.Starting.{first_above, start_first, start_floor, start_walk}
+use Rattle.hot_index.proofs.Walking.{floor_later, taken_as, walk_full, walk_further, walk_past, walk_room}
 use Rattle.hot_index.proofs.scanning.scan_node.Goals as goal
-
-pub enter-top-requires-clause-led : goal.enter-top-requires-clause-led
-enter-top-requires-clause-led g c =
-    (since c.args.seat.now.known, c.requires.root.0, rooted_led (Node c.args.number c.requires.root.0) c.requires.root.1)
-
-pub loop-top-init : goal.loop-top-init
-loop-top-init g c =
-    let e = c.enter-top.ensures in let m = since c.args.seat.now.known in let h = c.requires.root.0 in
-    record {
-      reader = reader_then c.requires.reader e.reads.1;
-      reads = e.reads;
-      walk = walk_begin (range_of c.args.range.now) c.args.number h c.enter-top.result c.new-frames.result.items c.new-pairs.result.items
-          c.new-frames.ensures.items c.new-pairs.ensures.items (reads_later e.reads.1) c.requires.root.1
-          (e.entered m h (rooted_led (Node c.args.number h) c.requires.root.1));
-    }
-
-pub load_entry-requires-clause-place : goal.load_entry-requires-clause-place
-load_entry-requires-clause-place g c = (since c.args.seat.now.known, c.loop-top.top.height, walk_place c.loop-top.invariant.walk c.if-top.true)
-
-pub returns-in_err-push-in-Node-clause-reads : goal.returns-in_err-push-in-Node-clause-reads
-returns-in_err-push-in-Node-clause-reads g c = (c.loop-top.invariant.reads.0 + 1, reads_trans c.loop-top.invariant.reads.1 c.load_entry.ensures.reads)
-
-pub enter-top-requires-in-Node-clause-reader : goal.enter-top-requires-in-Node-clause-reader
-enter-top-requires-in-Node-clause-reader g c = reader_then c.loop-top.invariant.reader c.load_entry.ensures.reads
+use Rattle.hot_index.proofs.scanning.scan_node.Goals.{then-start+in_ok-take_pair+in-Further, else-start}
 
 pub load_leaf-key-requires-clause-reader : goal.load_leaf-key-requires-clause-reader
-load_leaf-key-requires-clause-reader g c = reader_then c.loop-top.invariant.reader c.load_entry.ensures.reads
-
-pub enter-top-requires-in-Node-clause-led : goal.enter-top-requires-in-Node-clause-led
-enter-top-requires-in-Node-clause-led g c =
-    let w = c.loop-top.invariant.walk in let m = since c.args.seat.now.known in
-    let at = c.in-Node.ensures.entry m c.loop-top.top.height (walk_place w c.if-top.true) in
-    (m, c.in-Node.height, placed_led c.loop-top.top.number c.loop-top.top.place (Node c.in-Node.number c.in-Node.height) (since_later (reads_later c.load_entry.ensures.reads) w.pinned) at.1)
-
-pub loop-top-smaller-in-Node : goal.loop-top-smaller-in-Node
-loop-top-smaller-in-Node g c =
-    let w = c.loop-top.invariant.walk in let m = since c.args.seat.now.known in
-    let at = c.in-Node.ensures.entry m c.loop-top.top.height (walk_place w c.if-top.true) in
-    let led = placed_led c.loop-top.top.number c.loop-top.top.place (Node c.in-Node.number c.in-Node.height) (since_later (reads_later c.load_entry.ensures.reads) w.pinned) at.1 in
-    let e = c.enter-top-in-Node.ensures in
-    walk_push_less w (reads_later c.load_entry.ensures.reads) (reads_later e.reads.1) c.if-top.true c.in-Node.number c.in-Node.height at.0 c.enter-top-in-Node.result
-    (e.entered m c.in-Node.height led) c.push.new.self.items c.in_ok-push-in-Node.ensures.items
-
-pub loop-top-preserved-in-Node : goal.loop-top-preserved-in-Node
-loop-top-preserved-in-Node g c =
-    let i = c.loop-top.invariant in let w = i.walk in let m = since c.args.seat.now.known in
-    let at = c.in-Node.ensures.entry m c.loop-top.top.height (walk_place w c.if-top.true) in
-    let led = placed_led c.loop-top.top.number c.loop-top.top.place (Node c.in-Node.number c.in-Node.height) (since_later (reads_later c.load_entry.ensures.reads) w.pinned) at.1 in
-    let e = c.enter-top-in-Node.ensures in
-    record {
-      reader = reader_then (reader_then i.reader c.load_entry.ensures.reads) e.reads.1;
-      reads = (i.reads.0 + 1 + e.reads.0, reads_trans (reads_trans i.reads.1 c.load_entry.ensures.reads) e.reads.1);
-      walk = walk_push w (reads_later c.load_entry.ensures.reads) (reads_later e.reads.1) c.if-top.true c.in-Node.number c.in-Node.height at.1 c.enter-top-in-Node.result
-          (e.entered m c.in-Node.height led) c.push.new.self.items c.in_ok-push-in-Node.ensures.items;
-    }
+load_leaf-key-requires-clause-reader g c = reader_then c.requires.reader c.start_at-start.ensures.reads.2
 
 pub load_leaf-key-requires-clause-led : goal.load_leaf-key-requires-clause-led
 load_leaf-key-requires-clause-led g c =
-    let w = c.loop-top.invariant.walk in let m = since c.args.seat.now.known in
-    let at = c.in-Leaf.ensures.entry m c.loop-top.top.height (walk_place w c.if-top.true) in
-    (m, placed_led c.loop-top.top.number c.loop-top.top.place (Leaf c.in-Leaf.number) (since_later (reads_later c.load_entry.ensures.reads) w.pinned) at.1)
+    let m = since c.args.seat.now.known in let from = c.args.range.now.from.now in
+    let w = subst (λ z. IsWayOf c.args.table.now.layout c.args.seat.now.known m from z (FoundLeaf c.args.number c.requires.way.0 c.args.mismatch)) (sym c.deref.ensures.0) c.requires.way.1 in
+    let s = c.start_at-start.ensures.start m c.requires.way.0 w in
+    let same = ap (take c.start_at-start.result.level) c.deref.ensures.0 ∙ sym c.truncate.ensures.items in
+    let walk = start_walk _ m from c.deref.result.now c.truncate.new.self.items c.args.number c.start_at-start.result s same (range_of c.args.range.now) refl in
+    let first = start_first _ m from c.deref.result.now c.truncate.new.self.items c.args.number c.start_at-start.result s same c.if-start.true in
+    (m, placed_led c.start_at-start.result.top.number c.start_at-start.result.top.at (Leaf c.args.number) walk.pinned first.placed)
 
-pub returns-in_err-take_pair-in-Leaf-clause-reads : goal.returns-in_err-take_pair-in-Leaf-clause-reads
-returns-in_err-take_pair-in-Leaf-clause-reads g c =
-    (c.loop-top.invariant.reads.0 + 1 + LEAF_FIELDS, reads_trans (reads_trans c.loop-top.invariant.reads.1 c.load_entry.ensures.reads) c.load_leaf-key.ensures.reads)
-
-pub loop-top-smaller-in-Further : goal.loop-top-smaller-in-Further
-loop-top-smaller-in-Further g c = walk_next_less c.loop-top.invariant.walk c.if-top.true
-
-pub loop-top-preserved-in-Further : goal.loop-top-preserved-in-Further
-loop-top-preserved-in-Further g c =
-    let i = c.loop-top.invariant in let w = i.walk in let m = since c.args.seat.now.known in
-    let at = c.in-Leaf.ensures.entry m c.loop-top.top.height (walk_place w c.if-top.true) in
-    let led = placed_led c.loop-top.top.number c.loop-top.top.place (Leaf c.in-Leaf.number) (since_later (reads_later c.load_entry.ensures.reads) w.pinned) at.1 in
+pub take_pair-requires : goal.take_pair-requires
+take_pair-requires g c =
+    let m = since c.args.seat.now.known in let from = c.args.range.now.from.now in
+    let w = subst (λ z. IsWayOf c.args.table.now.layout c.args.seat.now.known m from z (FoundLeaf c.args.number c.requires.way.0 c.args.mismatch)) (sym c.deref.ensures.0) c.requires.way.1 in
+    let s = c.start_at-start.ensures.start m c.requires.way.0 w in
+    let same = ap (take c.start_at-start.result.level) c.deref.ensures.0 ∙ sym c.truncate.ensures.items in
+    let walk = start_walk _ m from c.deref.result.now c.truncate.new.self.items c.args.number c.start_at-start.result s same (range_of c.args.range.now) refl in
+    let first = start_first _ m from c.deref.result.now c.truncate.new.self.items c.args.number c.start_at-start.result s same c.if-start.true in
     let e = c.load_leaf-key.ensures in
+    let led = placed_led c.start_at-start.result.top.number c.start_at-start.result.top.at (Leaf c.args.number) walk.pinned first.placed in
     record {
-      reader = reader_then (reader_then i.reader c.load_entry.ensures.reads) e.reads;
-      reads = (i.reads.0 + 1 + LEAF_FIELDS, reads_trans (reads_trans i.reads.1 c.load_entry.ensures.reads) e.reads);
-      walk = walk_further w (reads_later c.load_entry.ensures.reads) (reads_later e.reads) c.if-top.true c.in-Leaf.number at.1 c.load_leaf-key.result.0 c.load_leaf-key.result.1 (e.leaf m led) c.take_pair.new.pairs.items
-          (taken_as (range_of c.args.range.now) c.loop-top.pairs.items c.loop-top.pairs.items c.load_leaf-key.result.0 c.load_leaf-key.result.1 c.take_pair.new.pairs.items
-          c.in_ok-take_pair-in-Leaf.field-0 Further refl c.in-Further.is c.in_ok-take_pair-in-Leaf.ensures);
+      above = first_above c.args.table.now.layout m from c.args.number c.start_at-start.result.top c.truncate.new.self.items first walk.pinned (reads_later e.reads)
+          (reader_then (reader_then c.requires.reader c.start_at-start.ensures.reads.2) e.reads).1 c.load_leaf-key.result.0 c.load_leaf-key.result.1 (e.leaf m (walk.pinned, led.1));
     }
 
+pub returns-in_err-take_pair-clause-reads : goal.returns-in_err-take_pair-clause-reads
+returns-in_err-take_pair-clause-reads g c = let r = c.start_at-start.ensures.reads in let few = r.1 in (r.0 + LEAF_FIELDS, omega (arith, few), reads_trans r.2 c.load_leaf-key.ensures.reads)
+
+pub overflow_add-top : goal.overflow_add-top
+overflow_add-top g c =
+    let m = since c.args.seat.now.known in let from = c.args.range.now.from.now in
+    let w = subst (λ z. IsWayOf c.args.table.now.layout c.args.seat.now.known m from z (FoundLeaf c.args.number c.requires.way.0 c.args.mismatch)) (sym c.deref.ensures.0) c.requires.way.1 in
+    let s = c.start_at-start.ensures.start m c.requires.way.0 w in
+    let same = ap (take c.start_at-start.result.level) c.deref.ensures.0 ∙ sym c.truncate.ensures.items in
+    let walk = start_walk _ m from c.deref.result.now c.truncate.new.self.items c.args.number c.start_at-start.result s same (range_of c.args.range.now) refl in
+    let first = start_first _ m from c.deref.result.now c.truncate.new.self.items c.args.number c.start_at-start.result s same c.if-start.true in
+    let low = first.inside in let room = walk_room walk in omega (arith, low, room)
+
 pub returns-in-Past-clause-reads : goal.returns-in-Past-clause-reads
-returns-in-Past-clause-reads g c =
-    (c.loop-top.invariant.reads.0 + 1 + LEAF_FIELDS, reads_trans (reads_trans c.loop-top.invariant.reads.1 c.load_entry.ensures.reads) c.load_leaf-key.ensures.reads)
+returns-in-Past-clause-reads g c = let r = c.start_at-start.ensures.reads in let few = r.1 in (r.0 + LEAF_FIELDS, omega (arith, few), reads_trans r.2 c.load_leaf-key.ensures.reads)
 
 pub returns-in-Past-clause-scanned : goal.returns-in-Past-clause-scanned
 returns-in-Past-clause-scanned g c =
-    let i = c.loop-top.invariant in let w = i.walk in let m = since c.args.seat.now.known in
-    let at = c.in-Leaf.ensures.entry m c.loop-top.top.height (walk_place w c.if-top.true) in
-    let led = placed_led c.loop-top.top.number c.loop-top.top.place (Leaf c.in-Leaf.number) (since_later (reads_later c.load_entry.ensures.reads) w.pinned) at.1 in
+    let m = since c.args.seat.now.known in let from = c.args.range.now.from.now in
+    let w = subst (λ z. IsWayOf c.args.table.now.layout c.args.seat.now.known m from z (FoundLeaf c.args.number c.requires.way.0 c.args.mismatch)) (sym c.deref.ensures.0) c.requires.way.1 in
+    let s = c.start_at-start.ensures.start m c.requires.way.0 w in
+    let same = ap (take c.start_at-start.result.level) c.deref.ensures.0 ∙ sym c.truncate.ensures.items in
+    let walk = start_walk _ m from c.deref.result.now c.truncate.new.self.items c.args.number c.start_at-start.result s same (range_of c.args.range.now) refl in
+    let first = start_first _ m from c.deref.result.now c.truncate.new.self.items c.args.number c.start_at-start.result s same c.if-start.true in
     let e = c.load_leaf-key.ensures in
-    walk_past w (reads_later c.load_entry.ensures.reads) (reads_later e.reads) c.if-top.true c.in-Leaf.number at.1 c.load_leaf-key.result.0 c.load_leaf-key.result.1 (e.leaf m led)
-    (same_since (reads_trans (reads_trans i.reads.1 c.load_entry.ensures.reads) e.reads)) _
-    (taken_as (range_of c.args.range.now) c.loop-top.pairs.items c.loop-top.pairs.items c.load_leaf-key.result.0 c.load_leaf-key.result.1 c.take_pair.new.pairs.items
-    c.in_ok-take_pair-in-Leaf.field-0 Past refl c.in-Past.is c.in_ok-take_pair-in-Leaf.ensures) refl
+    let led = placed_led c.start_at-start.result.top.number c.start_at-start.result.top.at (Leaf c.args.number) walk.pinned first.placed in
+    walk_past walk (later_none c.start_at-start.new.seat.known) (reads_later e.reads) first.inside c.args.number first.placed c.load_leaf-key.result.0 c.load_leaf-key.result.1 (e.leaf m led)
+    (same_since (reads_trans c.start_at-start.ensures.reads.2 e.reads)) _
+    (taken_as (range_of c.args.range.now) c.new-pairs.result.items [] c.load_leaf-key.result.0 c.load_leaf-key.result.1 c.take_pair.new.pairs.items c.in_ok-take_pair.field-0 Past
+    c.new-pairs.ensures.items c.in-Past.is c.in_ok-take_pair.ensures) refl
 
 pub returns-in-Full-clause-reads : goal.returns-in-Full-clause-reads
-returns-in-Full-clause-reads g c =
-    (c.loop-top.invariant.reads.0 + 1 + LEAF_FIELDS, reads_trans (reads_trans c.loop-top.invariant.reads.1 c.load_entry.ensures.reads) c.load_leaf-key.ensures.reads)
+returns-in-Full-clause-reads g c = let r = c.start_at-start.ensures.reads in let few = r.1 in (r.0 + LEAF_FIELDS, omega (arith, few), reads_trans r.2 c.load_leaf-key.ensures.reads)
 
 pub returns-in-Full-clause-scanned : goal.returns-in-Full-clause-scanned
 returns-in-Full-clause-scanned g c =
-    let i = c.loop-top.invariant in let w = i.walk in let m = since c.args.seat.now.known in
-    let at = c.in-Leaf.ensures.entry m c.loop-top.top.height (walk_place w c.if-top.true) in
-    let led = placed_led c.loop-top.top.number c.loop-top.top.place (Leaf c.in-Leaf.number) (since_later (reads_later c.load_entry.ensures.reads) w.pinned) at.1 in
+    let m = since c.args.seat.now.known in let from = c.args.range.now.from.now in
+    let w = subst (λ z. IsWayOf c.args.table.now.layout c.args.seat.now.known m from z (FoundLeaf c.args.number c.requires.way.0 c.args.mismatch)) (sym c.deref.ensures.0) c.requires.way.1 in
+    let s = c.start_at-start.ensures.start m c.requires.way.0 w in
+    let same = ap (take c.start_at-start.result.level) c.deref.ensures.0 ∙ sym c.truncate.ensures.items in
+    let walk = start_walk _ m from c.deref.result.now c.truncate.new.self.items c.args.number c.start_at-start.result s same (range_of c.args.range.now) refl in
+    let first = start_first _ m from c.deref.result.now c.truncate.new.self.items c.args.number c.start_at-start.result s same c.if-start.true in
     let e = c.load_leaf-key.ensures in
-    walk_full w (reads_later c.load_entry.ensures.reads) (reads_later e.reads) c.if-top.true c.in-Leaf.number at.1 c.load_leaf-key.result.0 c.load_leaf-key.result.1 (e.leaf m led)
-    (same_since (reads_trans (reads_trans i.reads.1 c.load_entry.ensures.reads) e.reads)) _
-    (taken_as (range_of c.args.range.now) c.loop-top.pairs.items c.loop-top.pairs.items c.load_leaf-key.result.0 c.load_leaf-key.result.1 c.take_pair.new.pairs.items
-    c.in_ok-take_pair-in-Leaf.field-0 Full refl c.in-Full.is c.in_ok-take_pair-in-Leaf.ensures) refl
+    let led = placed_led c.start_at-start.result.top.number c.start_at-start.result.top.at (Leaf c.args.number) walk.pinned first.placed in
+    walk_full walk (later_none c.start_at-start.new.seat.known) (reads_later e.reads) first.inside c.args.number first.placed c.load_leaf-key.result.0 c.load_leaf-key.result.1 (e.leaf m led)
+    (same_since (reads_trans c.start_at-start.ensures.reads.2 e.reads)) _
+    (taken_as (range_of c.args.range.now) c.new-pairs.result.items [] c.load_leaf-key.result.0 c.load_leaf-key.result.1 c.take_pair.new.pairs.items c.in_ok-take_pair.field-0 Full
+    c.new-pairs.ensures.items c.in-Full.is c.in_ok-take_pair.ensures) refl
 
-pub overflow_add-top-in-Some : goal.overflow_add-top-in-Some
-overflow_add-top-in-Some g c = let h = walk_inside c.loop-top.invariant.walk c.in-Some.below c.pop.new.self.items c.in-Some.ensures.items in let a = h.0 in omega arith
+pub walk-requires-clause-reader : goal.walk-requires-clause-reader
+walk-requires-clause-reader g c =
+    let r = reader_then c.requires.reader c.start_at-start.ensures.reads.2 in
+    elim c.if-start.branch [ then-start+in_ok-take_pair+in-Further w ↦ rw w.seat-is (reader_then r w.load_leaf-key.ensures.reads) | else-start w ↦ rw w.seat-is r ]
 
-pub loop-top-smaller : goal.loop-top-smaller
-loop-top-smaller g c = walk_pop_less c.loop-top.invariant.walk c.in-Some.below c.pop.new.self.items c.in-Some.ensures.items
+pub walk-requires-clause-walk : goal.walk-requires-clause-walk
+walk-requires-clause-walk g c =
+    let m = since c.args.seat.now.known in let from = c.args.range.now.from.now in
+    let v = subst (λ z. IsWayOf c.args.table.now.layout c.args.seat.now.known m from z (FoundLeaf c.args.number c.requires.way.0 c.args.mismatch)) (sym c.deref.ensures.0) c.requires.way.1 in
+    let s = c.start_at-start.ensures.start m c.requires.way.0 v in
+    let same = ap (take c.start_at-start.result.level) c.deref.ensures.0 ∙ sym c.truncate.ensures.items in
+    let walk = start_walk _ m from c.deref.result.now c.truncate.new.self.items c.args.number c.start_at-start.result s same (range_of c.args.range.now) refl in
+    elim c.if-start.branch [
+      | then-start+in_ok-take_pair+in-Further w ↦
+          let first = start_first _ m from c.deref.result.now c.truncate.new.self.items c.args.number c.start_at-start.result s same w.if-start.true in
+          let e = w.load_leaf-key.ensures in
+          let led = placed_led c.start_at-start.result.top.number c.start_at-start.result.top.at (Leaf c.args.number) walk.pinned first.placed in
+          rw (w.seat-is, w.top-is, w.pairs-is) (subst (λ z. IsWalk w.load_leaf-key.new.seat.known z (range_of c.args.range.now) (record c.start_at-start.result.top { at = c.start_at-start.result.top.at + 1 }) c.truncate.new.self.items w.take_pair.new.pairs.items)
+          (sym (same_since (reads_trans c.start_at-start.ensures.reads.2 e.reads)))
+          (walk_further walk (later_none c.start_at-start.new.seat.known) (reads_later e.reads) first.inside c.args.number first.placed w.load_leaf-key.result.0 w.load_leaf-key.result.1 (e.leaf m led) w.take_pair.new.pairs.items
+          (taken_as (range_of c.args.range.now) c.new-pairs.result.items [] w.load_leaf-key.result.0 w.load_leaf-key.result.1 w.take_pair.new.pairs.items w.in_ok-take_pair.field-0 Further
+          c.new-pairs.ensures.items w.in-Further.is w.in_ok-take_pair.ensures)))
+      | else-start w ↦ rw (w.seat-is, w.top-is, w.pairs-is, c.new-pairs.ensures.items) (subst (λ z. IsWalk c.start_at-start.new.seat.known z (range_of c.args.range.now) c.start_at-start.result.top c.truncate.new.self.items [])
+          (sym (same_since c.start_at-start.ensures.reads.2)) walk)
+    ]
 
-pub loop-top-preserved : goal.loop-top-preserved
-loop-top-preserved g c =
-    let i = c.loop-top.invariant in
-    record {
-      reader = i.reader;
-      reads = i.reads;
-      walk = walk_pop i.walk c.in-Some.below c.pop.new.self.items c.in-Some.ensures.items c.if-top.false;
-    }
+pub walk-requires-clause-floor : goal.walk-requires-clause-floor
+walk-requires-clause-floor g c =
+    let m = since c.args.seat.now.known in let from = c.args.range.now.from.now in
+    let v = subst (λ z. IsWayOf c.args.table.now.layout c.args.seat.now.known m from z (FoundLeaf c.args.number c.requires.way.0 c.args.mismatch)) (sym c.deref.ensures.0) c.requires.way.1 in
+    let s = c.start_at-start.ensures.start m c.requires.way.0 v in
+    let same = ap (take c.start_at-start.result.level) c.deref.ensures.0 ∙ sym c.truncate.ensures.items in
+    elim c.if-start.branch [
+      | then-start+in_ok-take_pair+in-Further w ↦
+          let first = start_first _ m from c.deref.result.now c.truncate.new.self.items c.args.number c.start_at-start.result s same w.if-start.true in
+          let e = w.load_leaf-key.ensures in
+          rw (w.seat-is, w.top-is) (subst (λ z. IsFloor w.load_leaf-key.new.seat.known z from (record c.start_at-start.result.top { at = c.start_at-start.result.top.at + 1 }) c.truncate.new.self.items)
+          (sym (same_since (reads_trans c.start_at-start.ensures.reads.2 e.reads))) (floor_later m from (reads_later e.reads) first.floor))
+      | else-start w ↦ rw (w.seat-is, w.top-is) (subst (λ z. IsFloor c.start_at-start.new.seat.known z from c.start_at-start.result.top c.truncate.new.self.items)
+          (sym (same_since c.start_at-start.ensures.reads.2)) (start_floor _ m from c.deref.result.now c.truncate.new.self.items c.args.number c.start_at-start.result s same w.if-start.false))
+    ]
 
-pub returns-in-None-clause-scanned : goal.returns-in-None-clause-scanned
-returns-in-None-clause-scanned g c =
-    let i = c.loop-top.invariant in
-    walk_end i.walk (empty_is c.loop-top.frames.items (let a = c.loop-top.frames.ok in let b = c.in-None.ensures.cases.0 in omega arith)) c.if-top.false
-    (same_since i.reads.1) _ refl refl
+pub returns-clause-reads : goal.returns-clause-reads
+returns-clause-reads g c =
+    let r = c.start_at-start.ensures.reads in let few = r.1 in
+    let before : (n : ℕ) × (n ≤ 57) × Reads c.args.table.now g.G.Gate.becomes n (c.args.seat.now, c.args.gate.now) (c.if-start.seat, c.if-start.gate) = elim c.if-start.branch [
+      | then-start+in_ok-take_pair+in-Further w ↦ rw (w.seat-is, w.gate-is) (r.0 + LEAF_FIELDS, omega (arith, few), reads_trans r.2 w.load_leaf-key.ensures.reads)
+      | else-start w ↦ rw (w.seat-is, w.gate-is) (r.0, omega (arith, few), r.2)
+    ] in
+    let some = before.1 in let more = c.walk.ensures.reads.1 in
+    (before.0 + c.walk.ensures.reads.0, omega (arith, some, more), reads_trans before.2 c.walk.ensures.reads.2)

@@ -1,36 +1,70 @@
--- The root's entry, or none; and a range without keys.
-use Rattle.std.proofs.Common.{rules, ◌+◌, refl}
-use Rattle.rowex_reading.proofs.Led.{looks_first, looks_on, root_pinned, root_reader}
+-- A range without keys; an empty root; and a search that has ended at a leaf.
+use Rattle.std.proofs.Common.{◌+◌, subst, ◌∙◌, arith}
+use Rattle.rowex_reading.specs.Seen.{since}
+use Rattle.rowex_reading.proofs.Led.{looks_first, looks_on, looks_same}
+use Rattle.rowex_writing.proofs.Counting.{looks_count}
+use Rattle.rowex_writing.specs.Ways.{IsWayOf}
 use Rattle.hot_index.specs.Scanning.{range_of}
-use Rattle.hot_index.proofs.Walking.{nothing_scanned, blank_scanned}
+use Rattle.hot_index.proofs.Starting.{leaf_rooted, nothing_blank}
+use Rattle.hot_index.proofs.Walking.{empty_is, nothing_scanned, blank_scanned}
 use Rattle.hot_index.proofs.scanning.scan_root.Goals as goal
 
 pub returns-then-is_before-clause-looks : goal.returns-then-is_before-clause-looks
-returns-then-is_before-clause-looks g c = (0, looks_first c.load_root-root.ensures.reads)
+returns-then-is_before-clause-looks g c = (0, looks_first c.load_root.ensures.reads)
 
 pub returns-then-is_before-clause-scanned : goal.returns-then-is_before-clause-scanned
-returns-then-is_before-clause-scanned g c = nothing_scanned (range_of c.args.range.now) _ (c.is_before.ensures.before c.if-is_before.true) c.new.ensures.items refl
+returns-then-is_before-clause-scanned g c = nothing_scanned (range_of c.args.range.now) _ (c.is_before.ensures.before c.if-is_before.true) c.nothing.ensures.pairs c.nothing.ensures.more
+
+pub returns-then-is_before-clause-few : goal.returns-then-is_before-clause-few
+returns-then-is_before-clause-few g c =
+    let n = looks_count c.args.table.now g.G.Gate.becomes _ (c.args.seat.now, c.args.gate.now) (c.load_root.new.seat, c.load_root.new.gate) (looks_first c.load_root.ensures.reads) in omega (arith, n)
+
+pub returns-in-Nothing-clause-looks : goal.returns-in-Nothing-clause-looks
+returns-in-Nothing-clause-looks g c = (c.search_way.ensures.searched.loaded, c.search_way.ensures.searched.looks)
+
+pub returns-in-Nothing-clause-scanned : goal.returns-in-Nothing-clause-scanned
+returns-in-Nothing-clause-scanned g c =
+    let w = subst (IsWayOf c.args.table.now.layout c.search_way.new.seat.known (since c.search_way.new.seat.known) c.args.range.now.from.now c.search_way.new.way.items) c.in-Nothing.is c.search_way.ensures.way in
+    blank_scanned (range_of c.args.range.now) _ (nothing_blank _ _ _ _ c.search_way.new.way.items w) c.nothing-in-Nothing.ensures.pairs c.nothing-in-Nothing.ensures.more
+
+pub returns-in-Nothing-clause-few : goal.returns-in-Nothing-clause-few
+returns-in-Nothing-clause-few g c =
+    let s = c.search_way.ensures.searched in
+    let n = looks_count c.args.table.now g.G.Gate.becomes _ (c.args.seat.now, c.args.gate.now) (c.search_way.new.seat, c.search_way.new.gate) s.looks in
+    let few = s.few in let low = s.low in omega (arith, n, few, low)
 
 pub scan_leaf-requires-clause-reader : goal.scan_leaf-requires-clause-reader
-scan_leaf-requires-clause-reader g c = root_reader c.requires.own c.load_root-root.ensures.reads
+scan_leaf-requires-clause-reader g c = ((looks_same c.search_way.ensures.searched.looks).0 ∙ c.requires.own, c.search_way.ensures.possible)
 
 pub scan_leaf-requires-clause-root : goal.scan_leaf-requires-clause-root
-scan_leaf-requires-clause-root g c = (root_pinned c.requires.pinned c.load_root-root.ensures.reads, search rules)
+scan_leaf-requires-clause-root g c =
+    let w = subst (IsWayOf c.args.table.now.layout c.search_way.new.seat.known (since c.search_way.new.seat.known) c.args.range.now.from.now c.search_way.new.way.items) c.in-Leaf.is c.search_way.ensures.way in
+    leaf_rooted _ _ _ c.search_way.new.way.items c.in-Leaf.number _ _ (empty_is c.search_way.new.way.items (let n = c.len.ensures.value in let e = c.if-len-eq0.true in omega (arith, n, e))) w
 
-pub returns-in-Some-Leaf-clause-looks : goal.returns-in-Some-Leaf-clause-looks
-returns-in-Some-Leaf-clause-looks g c = let r = c.scan_leaf.ensures.reads in (0 + r.0, looks_on (looks_first c.load_root-root.ensures.reads) r.1)
+pub returns-then-len-eq0-clause-looks : goal.returns-then-len-eq0-clause-looks
+returns-then-len-eq0-clause-looks g c = let r = c.scan_leaf.ensures.reads in (c.search_way.ensures.searched.loaded + r.0, looks_on c.search_way.ensures.searched.looks r.2)
+
+pub returns-then-len-eq0-clause-few : goal.returns-then-len-eq0-clause-few
+returns-then-len-eq0-clause-few g c =
+    let s = c.search_way.ensures.searched in let r = c.scan_leaf.ensures.reads in
+    let n = looks_count c.args.table.now g.G.Gate.becomes _ (c.args.seat.now, c.args.gate.now) (c.scan_leaf.new.seat, c.scan_leaf.new.gate) (looks_on s.looks r.2) in
+    let few = s.few in let low = s.low in let more = r.1 in omega (arith, n, few, low, more)
 
 pub scan_node-requires-clause-reader : goal.scan_node-requires-clause-reader
-scan_node-requires-clause-reader g c = root_reader c.requires.own c.load_root-root.ensures.reads
+scan_node-requires-clause-reader g c = ((looks_same c.search_way.ensures.searched.looks).0 ∙ c.requires.own, c.search_way.ensures.possible)
 
-pub scan_node-requires-clause-root : goal.scan_node-requires-clause-root
-scan_node-requires-clause-root g c = (c.in-Some-Node.field-0-1, (root_pinned c.requires.pinned c.load_root-root.ensures.reads, search rules))
+pub scan_node-requires-clause-nodes : goal.scan_node-requires-clause-nodes
+scan_node-requires-clause-nodes g c = let n = c.len.ensures.value in let e = c.if-len-eq0.false in omega (arith, n, e)
 
-pub returns-in-Some-Node-clause-looks : goal.returns-in-Some-Node-clause-looks
-returns-in-Some-Node-clause-looks g c = let r = c.scan_node.ensures.reads in (0 + r.0, looks_on (looks_first c.load_root-root.ensures.reads) r.1)
+pub scan_node-requires-clause-way : goal.scan_node-requires-clause-way
+scan_node-requires-clause-way g c =
+    (_, subst (IsWayOf c.args.table.now.layout c.search_way.new.seat.known (since c.search_way.new.seat.known) c.args.range.now.from.now c.search_way.new.way.items) c.in-Leaf.is c.search_way.ensures.way)
 
-pub returns-in-None-clause-looks : goal.returns-in-None-clause-looks
-returns-in-None-clause-looks g c = (0, looks_first c.load_root-root.ensures.reads)
+pub returns-else-len-eq0-clause-looks : goal.returns-else-len-eq0-clause-looks
+returns-else-len-eq0-clause-looks g c = let r = c.scan_node.ensures.reads in (c.search_way.ensures.searched.loaded + r.0, looks_on c.search_way.ensures.searched.looks r.2)
 
-pub returns-in-None-clause-scanned : goal.returns-in-None-clause-scanned
-returns-in-None-clause-scanned g c = blank_scanned (range_of c.args.range.now) _ c.in-None.ensures.root c.new-in-None.ensures.items refl
+pub returns-else-len-eq0-clause-few : goal.returns-else-len-eq0-clause-few
+returns-else-len-eq0-clause-few g c =
+    let s = c.search_way.ensures.searched in let r = c.scan_node.ensures.reads in
+    let n = looks_count c.args.table.now g.G.Gate.becomes _ (c.args.seat.now, c.args.gate.now) (c.scan_node.new.seat, c.scan_node.new.gate) (looks_on s.looks r.2) in
+    let few = s.few in let low = s.low in let more = r.1 in omega (arith, n, few, low, more)

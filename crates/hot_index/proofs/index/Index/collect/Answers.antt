@@ -2,5 +2,5 @@
 use Rattle.hot_index.proofs.Tracing.{collected_untold}
 use Rattle.hot_index.proofs.index.Index.collect.Goals as goal
 
-pub returns-clause-round : goal.returns-clause-round
-returns-clause-round c = collected_untold _ _ _ _ _ _ c.collect_with.ensures.round
+pub returns-clause-made : goal.returns-clause-made
+returns-clause-made c = collected_untold _ _ _ _ _ _ c.collect_with.ensures.made

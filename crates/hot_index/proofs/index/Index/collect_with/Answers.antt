@@ -1,8 +1,8 @@
 -- A round changes nothing that a call tells, and what it gives back is its own.
-use Rattle.std.proofs.Common.{refl, subst, ◌+◌, ◌≤◌}
+use Rattle.std.proofs.Common.{refl, ap, subst}
+use Rattle.rowex_core.specs.declared.known.Known.{Known}
 use Rattle.rowex_table.specs.Seats.{TableView}
 use Rattle.hot_index.specs.Answers.{IsUnnoted}
-use Rattle.hot_index.specs.Counts.{round_steps}
 use Rattle.hot_index.specs.Passes.{PassView, pass_of}
 use Rattle.hot_index.specs.Traces.{HasCollected}
 use Rattle.hot_index.proofs.Collected.{round_few, round_settled, round_unnoted}
@@ -17,14 +17,17 @@ returns-clause-call g c =
     (subst (λ (z : PassView). IsUnnoted c.self.inside.table.layout z (pass_of c.collect_round.new.seat)) c.pass.view_is
     (round_unnoted c.collect_round.ensures.round c.pass.invariant))
 
-pub returns-clause-round : goal.returns-clause-round
-returns-clause-round g c =
+pub returns-clause-made : goal.returns-clause-made
+returns-clause-made g c =
+    let round = c.collect_round.ensures.round in
     subst (λ (x : TableView). HasCollected x g.G.Gate.becomes (c.args.pass.now, c.args.gate.now) (pass_of c.collect_round.new.seat, c.collect_round.new.gate) c.collect_round.result.nodes c.collect_round.result.leaves) c.self.view_is
     (subst (λ (z : PassView). HasCollected c.self.inside.table g.G.Gate.becomes (z, c.args.gate.now) (pass_of c.collect_round.new.seat, c.collect_round.new.gate) c.collect_round.result.nodes c.collect_round.result.leaves) c.pass.view_is
-    (record { before = c.pass.inside.seat; after = c.collect_round.new.seat; begins = refl; ends = refl; round = c.collect_round.ensures.round }))
-
-pub returns-clause-steps : goal.returns-clause-steps
-returns-clause-steps g c =
-    subst (λ (x : TableView). c.collect_round.new.seat.known.steps ≤ c.args.pass.now.steps + round_steps x.layout) c.self.view_is
-    (subst (λ (z : PassView). c.collect_round.new.seat.known.steps ≤ z.steps + round_steps c.self.inside.table.layout) c.pass.view_is
-    (round_few c.collect_round.ensures.round))
+    (record {
+      before = c.pass.inside.seat;
+      after = c.collect_round.new.seat;
+      begins = refl;
+      ends = refl;
+      round = round;
+      front = ap (λ (z : Known). z.front) round.does.rest;
+      few = round_few round;
+    }))

@@ -1,6 +1,6 @@
 -- The same steps, of which nobody is told.
-use Rattle.hot_index.proofs.Tracing.{read_untold}
+use Rattle.hot_index.proofs.Tracing.{got_untold}
 use Rattle.hot_index.proofs.index.Index.get.Goals as goal
 
-pub returns-clause-read : goal.returns-clause-read
-returns-clause-read c = read_untold _ _ _ _ c.get_with.ensures.read
+pub returns-clause-made : goal.returns-clause-made
+returns-clause-made c = got_untold _ _ _ _ c.get_with.ensures.made

@@ -4,7 +4,7 @@ use Rattle.hot_model.specs.declared.Call.TheVariants.{Get}
 use Rattle.rowex_table.specs.Seats.{TableView}
 use Rattle.hot_index.specs.Passes.{PassView, pass_of}
 use Rattle.hot_index.specs.Answers.{IsNoted, got}
-use Rattle.hot_index.specs.Traces.{HasRead}
+use Rattle.hot_index.specs.Traces.{HasGot}
 use Rattle.rowex_reading.proofs.Led.{looked_at, looks_same}
 use Rattle.hot_index.proofs.Noting.{fits_then, get_noted, get_steps}
 use Rattle.hot_index.proofs.Tracing.{has_read}
@@ -32,13 +32,14 @@ returns-clause-call g c =
     (subst (λ (z : PassView). IsNoted c.self.inside.table.layout z (pass_of c.end_get.new.seat) (Get c.args.key.now) (got c.look_up-found.result)) c.pass.view_is
     (get_noted c.args.key.now c.look_up-found.result c.pin.ensures.steps s.searched c.end_get.ensures.step c.pass.invariant s.found).0)
 
-pub returns-clause-steps : goal.returns-clause-steps
-returns-clause-steps g c =
-    let s = c.look_up-found.ensures in
-    rw (← c.pass.view_is) (get_steps c.args.key.now c.look_up-found.result c.pin.ensures.steps s.searched c.end_get.ensures.step)
-
-pub returns-clause-read : goal.returns-clause-read
-returns-clause-read g c =
-    subst (λ (x : TableView). HasRead x g.G.Gate.becomes (c.args.pass.now, c.args.gate.now) (pass_of c.end_get.new.seat, c.end_get.new.gate)) c.self.view_is
-    (subst (λ (z : PassView). HasRead c.self.inside.table g.G.Gate.becomes (z, c.args.gate.now) (pass_of c.end_get.new.seat, c.end_get.new.gate)) c.pass.view_is
-    (has_read c.self.inside.table g.G.Gate.becomes c.pin.ensures.steps c.look_up-found.ensures.searched.looks c.end_get.ensures.step))
+pub returns-clause-made : goal.returns-clause-made
+returns-clause-made g c =
+    subst (λ (x : TableView). HasGot x g.G.Gate.becomes (c.args.pass.now, c.args.gate.now) (pass_of c.end_get.new.seat, c.end_get.new.gate)) c.self.view_is
+    (subst (λ (z : PassView). HasGot c.self.inside.table g.G.Gate.becomes (z, c.args.gate.now) (pass_of c.end_get.new.seat, c.end_get.new.gate)) c.pass.view_is
+    (let steps = get_steps c.args.key.now c.look_up-found.result c.pin.ensures.steps c.look_up-found.ensures.searched c.end_get.ensures.step in
+    record {
+      read = has_read c.self.inside.table g.G.Gate.becomes c.pin.ensures.steps c.look_up-found.ensures.searched.looks c.end_get.ensures.step;
+      visited = steps.0;
+      depth = steps.1;
+      few = steps.2;
+    }))

@@ -6,10 +6,11 @@ use Rattle.rowex_walks.specs.Scan.{Range}
 use Rattle.rowex_reading.proofs.Led.{looked_at, looks_same}
 use Rattle.hot_index.specs.Passes.{PassView, pass_of}
 use Rattle.hot_index.specs.Answers.{IsScanned, IsUnnoted}
+use Rattle.hot_index.specs.Counts.{scan_loads}
 use Rattle.hot_index.specs.Scanning.{HasScanned}
 use Rattle.hot_index.specs.Traces.{HasRead}
 use Rattle.hot_index.proofs.Noting.{fits_then, looked}
-use Rattle.hot_index.proofs.Scanned.{if_answered, if_refused, scan_settled, scan_refused, scan_answered}
+use Rattle.hot_index.proofs.Scanned.{if_answered, if_refused, scan_counted, scan_settled, scan_refused, scan_answered}
 use Rattle.hot_index.proofs.Tracing.{has_read}
 use Rattle.hot_index.proofs.index.Index.scan_with.Goals as goal
 
@@ -49,6 +50,9 @@ returns-clause-err g c =
     (if_refused c.scan_root-scan.result (IsUnnoted layout c.args.pass.now later)
     (subst (λ (z : PassView). IsUnnoted layout z later) c.pass.view_is
     (scan_refused c.pass.inside.seat c.unpin.new.seat c.pass.invariant (looked c.pass.invariant c.pin.ensures.steps s.looks.1) c.unpin.ensures.step.event)))
+
+pub returns-clause-steps : goal.returns-clause-steps
+returns-clause-steps g c = rw (← c.pass.view_is) (scan_counted (scan_loads c.args.limit) c.pin.ensures.steps c.scan_root-scan.ensures.few c.unpin.ensures.step)
 
 pub returns-clause-read : goal.returns-clause-read
 returns-clause-read g c =

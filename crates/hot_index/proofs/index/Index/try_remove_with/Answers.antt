@@ -1,19 +1,15 @@
--- The steps of the seat are those of the pass.
-use Rattle.std.proofs.Common.{subst, ◌+◌, ◌≤◌}
-use Rattle.rowex_table.specs.Seats.{TableView}
-use Rattle.hot_index.specs.Counts.{try_steps}
-use Rattle.hot_index.specs.Passes.{PassView, pass_of}
-use Rattle.hot_index.specs.Traces.{HasMade}
-use Rattle.hot_index.proofs.Tracing.{has_made}
+-- What the call leaves on the seat, as the pass sees it.
+use Rattle.hot_index.proofs.Trying.{asked_made, replied_call, replied_own}
 use Rattle.hot_index.proofs.index.Index.try_remove_with.Goals as goal
 
-pub returns-clause-made : goal.returns-clause-made
-returns-clause-made g c =
-    subst (λ (x : TableView). HasMade x g.G.Gate.becomes (c.args.pass.now, c.args.gate.now) (pass_of c.try_change.new.seat, c.try_change.new.gate)) c.self.view_is
-    (subst (λ (z : PassView). HasMade c.self.inside.table g.G.Gate.becomes (z, c.args.gate.now) (pass_of c.try_change.new.seat, c.try_change.new.gate)) c.pass.view_is
-    (has_made c.self.inside.table g.G.Gate.becomes (c.pass.inside.seat, c.args.gate.now) (c.try_change.new.seat, c.try_change.new.gate) c.try_change.ensures.ended))
+pub invariant_of-pass : goal.invariant_of-pass
+invariant_of-pass g c = c.try_change.ensures.asked.replied.idle.1
 
-pub returns-clause-steps : goal.returns-clause-steps
-returns-clause-steps g c =
-    subst (λ (x : TableView). c.try_change.new.seat.known.steps ≤ c.args.pass.now.steps + try_steps x.layout) c.self.view_is
-    (subst (λ (z : PassView). c.try_change.new.seat.known.steps ≤ z.steps + try_steps c.self.inside.table.layout) c.pass.view_is c.try_change.ensures.few)
+pub returns-clause-own : goal.returns-clause-own
+returns-clause-own g c = replied_own c.self.view_is c.pass.view_is c.try_change.ensures.asked.replied
+
+pub returns-clause-call : goal.returns-clause-call
+returns-clause-call g c = replied_call c.self.view_is c.pass.view_is c.try_change.result c.try_change.ensures.asked.replied
+
+pub returns-clause-made : goal.returns-clause-made
+returns-clause-made g c = asked_made c.self.view_is c.pass.view_is c.try_change.ensures.asked

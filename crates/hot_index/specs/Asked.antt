@@ -1,0 +1,36 @@
+-- What a call that may change the map leaves, on the seat of its pass.
+use Rattle.std.specs.Prelude.{ℕ, ◌+◌, ◌≤◌, List, Result, Ok, Err, IfOk, IfErr}
+use Rattle.hot_model.specs.declared.Call.{Call}
+use Rattle.hot_model.specs.declared.Reply.{Reply}
+use Rattle.rowex_core.specs.declared.event.Act.{Act}
+use Rattle.rowex_core.specs.declared.event.Event.{Event}
+use Rattle.rowex_table.specs.Seats.{TableView, SeatView, IsSeatOf}
+use Rattle.rowex_writing.specs.declared.attempts.TryFault.{TryFault}
+use Rattle.rowex_writing.specs.declared.plan.Full.{Full}
+use Rattle.hot_index.specs.Answers.{IsNoted, IsRefused, fault_of}
+use Rattle.hot_index.specs.Noting.{notes_of}
+use Rattle.hot_index.specs.Passes.{IsSettled, pass_of}
+use Rattle.hot_index.specs.Traces.{HasEnded}
+
+-- the seat is one of the table's, and its pass is between two calls
+abbrev pub IsIdle : TableView → SeatView → Type 0
+IsIdle table s = IsSeatOf table s × IsSettled s.known
+
+-- The pass is between two calls again: this one was answered and noted, or refused.
+pub record HasReplied (table : TableView) (call : Call) (result : Result Reply TryFault) (s t : SeatView) : Type 0 where
+  pub idle : IsIdle table t
+  pub noted : IfOk result (IsNoted table.layout (pass_of s) (pass_of t) call)
+  pub refused : IfErr result (IsRefused table.layout (pass_of s) (pass_of t))
+
+-- And it has made such steps, so many at most.
+pub record HasAsked {G : Type 0} (table : TableView) (becomes : G → Event → G → Type 0) (Are : List Act → Type 0)
+    (most : ℕ) (call : Call) (result : Result Reply TryFault) (a b : SeatView × G) : Type 0 where
+  pub replied : HasReplied table call result a.0 b.0
+  pub ended : HasEnded table becomes Are (notes_of call result) a b
+  pub later : a.0.known.steps ≤ b.0.known.steps
+  pub few : b.0.known.steps ≤ a.0.known.steps + most
+
+-- a call that waits for others ends as its last try
+abbrev pub last_try : Result Reply Full → Result Reply TryFault
+last_try (Ok reply) = Ok reply
+last_try (Err full) = Err (fault_of full)
