@@ -1,15 +1,13 @@
 -- What the only pass of an index knows: the map of its front is the one that its calls lead to.
-use Rattle.std.proofs.Common.{◌≡◌, ◌≢◌, ℕ, ◌<◌, List, [], ◌∷◌, ◌++◌, map, Result, Ok, Err, refl, sym, ap, subst, ◌∙◌, arith}
+use Rattle.std.proofs.Common.{◌≡◌, ℕ, ◌<◌, List, [], ◌∷◌, ◌++◌, map, flat_map, refl, sym, ap, subst, ◌∙◌, arith}
 use Rattle.std.specs.List.{All}
-use Rattle.std.specs.Result.{MatchResult}
 use Rattle.std.proofs.lemmas.List.{map-append, append_cancel_left}
 use Rattle.std.proofs.lemmas.List.Elements.{All-nil}
 use Rattle.hot_model.specs.declared.Call.{Call}
-use Rattle.hot_model.specs.declared.Call.TheVariants.{Remove}
 use Rattle.hot_model.specs.declared.Note.{Note}
 use Rattle.hot_model.specs.declared.Reply.{Reply as Replied}
 use Rattle.hot_model.specs.declared.Scan.{Scan}
-use Rattle.hot_model.specs.Calls.{changes_of}
+use Rattle.hot_model.specs.Calls.{LegalCalls, changes_of}
 use Rattle.hot_model.specs.Fronts.{map_of, BeginsWith}
 use Rattle.hot_model.specs.Maps.{reply_of, replies_of, map_after, map_after_all}
 use Rattle.hot_model.specs.Scans.{IsScanOf, IsLawfulScan}
@@ -20,11 +18,19 @@ use Rattle.hot_model.proofs.Growth.{begins_same}
 use Rattle.hot_model.proofs.Legal.{legal_at_first}
 use Rattle.hot_model.proofs.Steps.{map_after_all-push, replies_of-push}
 use Rattle.rowex_table.specs.Seats.{TableView}
-use Rattle.rowex_writing.specs.declared.plan.Full.{Full}
-use Rattle.rowex_writing.specs.declared.plan.Full.TheVariants.{Nodes, Leaves}
-use Rattle.hot_index.specs.Answers.{IsNoted, IsRefused, IsScanned, IsUnnoted, fault_of}
-use Rattle.hot_index.specs.Passes.{PassView, IsNewPass}
-use Rattle.hot_run.specs.Runs.{IsAlone, IsAnswer, MayLack, answer_of}
+use Rattle.hot_index.specs.Answers.{IsScanned, IsUnnoted}
+use Rattle.hot_index.specs.Passes.{PassView, AreByPasses, IsNewPass}
+use Rattle.hot_run.specs.declared.engine.Answer.TheVariants.{Reply, Full as Refused}
+use Rattle.hot_run.specs.Progress.{AreTold, IsCalled}
+use Rattle.hot_run.specs.Scripts.{Answered, called, refused, listed, command_of, lines_of_answer}
+use Rattle.hot_run.proofs.Answering.{Answers, Answers-none, Answers-call, Answers-scan}
+
+-- The index has one pass, and this is it: all that it knows of are its own changes, and its calls are legal.
+pub record IsAlone (index : TableView) (pass : PassView) : Type 0 where
+  pub one : index.layout.passes ≡ 1
+  pub number : pass.number ≡ 0
+  pub makers : AreByPasses index.layout pass.front
+  pub legal : LegalCalls pass.front pass.number pass.notes
 
 one_value : (x y : Replied) → x ∷ [] ≡ y ∷ [] → x ≡ y
 one_value x y e = cc
@@ -52,16 +58,17 @@ module _ (index : TableView) where
 
   module _ (k j : PassView) (h : IsAlone index k) where
     -- after an answered call
-    pub alone_noted : (call : Call) (reply : Replied) → IsNoted index.layout k j call reply → IsAlone index j
-    alone_noted call reply n = record { one = h.one; number = n.on.number ∙ h.number; makers = n.on.makers; legal = n.legal }
+    alone_called : (note : Note) → IsCalled index.layout k j note → IsAlone index j
+    alone_called note n = record { one = h.one; number = n.number ∙ h.number; makers = n.makers; legal = n.legal }
 
     -- the call was answered as the map answers
-    pub replied_alone : (call : Call) (reply : Replied) → IsNoted index.layout k j call reply →
-        (reply ≡ reply_of (map_of k.front) call) × (map_of j.front ≡ map_after (map_of k.front) call)
-    replied_alone call reply n =
-        let note : Note = record { place = n.place; call = call; reply = reply } in
+    replied_alone : (note : Note) → IsCalled index.layout k j note →
+        (note.reply ≡ reply_of (map_of k.front) note.call) × (map_of j.front ≡ map_after (map_of k.front) note.call)
+    replied_alone note n =
+        let call = note.call in
+        let reply = note.reply in
         let before = run_of k h in
-        let after : IsRun [] (k.notes ++ note ∷ []) (map_of j.front) = subst (λ ns. IsRun [] ns (map_of j.front)) n.notes (run_of j (alone_noted call reply n)) in
+        let after : IsRun [] (k.notes ++ note ∷ []) (map_of j.front) = subst (λ ns. IsRun [] ns (map_of j.front)) n.notes (run_of j (alone_called note n)) in
         let made : map (λ (x : Note). x.call) (k.notes ++ note ∷ []) ≡ map (λ x. x.call) k.notes ++ call ∷ [] = map-append (λ x. x.call) k.notes (note ∷ []) in
         let replies : replies_of [] (map (λ x. x.call) k.notes) ++ reply ∷ [] ≡ replies_of [] (map (λ x. x.call) k.notes) ++ reply_of (map_after_all [] (map (λ x. x.call) k.notes)) call ∷ [] =
         ap (λ rs. rs ++ reply ∷ []) (sym before.replies) ∙ sym (map-append (λ x. x.reply) k.notes (note ∷ [])) ∙ after.replies ∙ ap (replies_of []) made
@@ -72,22 +79,15 @@ module _ (index : TableView) where
         )
 
     -- after a call that was not noted
-    pub alone_unnoted : IsUnnoted index.layout k j → IsAlone index j
+    alone_unnoted : IsUnnoted index.layout k j → IsAlone index j
     alone_unnoted n = record { one = h.one; number = n.number ∙ h.number; makers = n.makers; legal = n.legal }
 
     -- the map is as it was
-    pub same_unnoted : IsUnnoted index.layout k j → map_of j.front ≡ map_of k.front
+    same_unnoted : IsUnnoted index.layout k j → map_of j.front ≡ map_of k.front
     same_unnoted n = ap map_of (front_of j (alone_unnoted n) ∙ ap (changes_of 0) n.notes ∙ sym (front_of k h))
 
-    -- what a call was answered that may be refused
-    pub answer_alone : (call : Call) (outcome : Result Replied Full) →
-        MatchResult outcome (IsNoted index.layout k j call) (λ full. IsRefused index.layout k j (fault_of full)) →
-        ((full : Full) → outcome ≡ Err full → MayLack call full) → IsAnswer (map_of k.front) call (map_of j.front) (answer_of outcome)
-    answer_alone call (Ok reply) told may = replied_alone call reply told
-    answer_alone call (Err full) told may = (may full refl, same_unnoted told.unnoted)
-
     module _ (from upto : List ℕ) (limit : ℕ) (scan : Scan) (n : IsScanned index.layout k j from upto limit scan) where
-      pub alone_scanned : IsAlone index j
+      alone_scanned : IsAlone index j
       alone_scanned = record { one = h.one; number = n.on.number ∙ h.number; makers = n.on.makers; legal = n.legal }
 
       same_front : j.front ≡ k.front
@@ -98,16 +98,23 @@ module _ (index : TableView) where
       still = begins_same j.fresh.front j.front (subst (λ f. BeginsWith j.fresh.front f) (sym same_front) n.on.fresh) n.on.seen
 
       -- the map is as it was
-      pub same_scanned : map_of j.front ≡ map_of k.front
+      same_scanned : map_of j.front ≡ map_of k.front
       same_scanned = ap map_of same_front
 
       -- the scan gives the first pairs of the map's range
-      pub first_alone : IsScanOf (map_of k.front) from upto limit scan
+      first_alone : IsScanOf (map_of k.front) from upto limit scan
       first_alone =
           subst (λ f. IsScanOf (map_of f) from upto limit scan) same_front
           (lawful-scan_of j.front from upto limit scan (subst (λ f. IsLawfulScan f j.front from upto limit scan) still n.lawful))
 
--- a removal lacks no leaf
-pub may_lack : (key : List ℕ) (outcome : Result Replied Full) → outcome ≢ Err Leaves → (full : Full) → outcome ≡ Err full → MayLack (Remove key) full
-may_lack key outcome never Nodes is = tt
-may_lack key outcome never Leaves is = absurd (never is)
+  -- what its commands are answered
+  pub told_alone : (k j : PassView) → IsAlone index k → (answers : List Answered) → AreTold index.layout k answers j
+      → Answers (map_of k.front) (map command_of answers) (flat_map lines_of_answer answers)
+  told_alone k j h [] told = Answers-none (map_of k.front)
+  told_alone k j h (called note ∷ answers) (m, c, rest) =
+      Answers-call _ _ note.call (Reply note.reply) _ _ (replied_alone k m h note c) (told_alone m j (alone_called k m h note c) answers rest)
+  told_alone k j h (refused call full ∷ answers) (m, (may, u), rest) =
+      Answers-call _ _ call (Refused full) _ _ (may, same_unnoted k m h u) (told_alone m j (alone_unnoted k m h u) answers rest)
+  told_alone k j h (listed range scan before after ∷ answers) (m, (s, first, last), rest) =
+      Answers-scan _ _ range scan _ _ (first_alone k m h range.from range.upto range.limit scan s) (same_scanned k m h range.from range.upto range.limit scan s)
+      (told_alone m j (alone_scanned k m h range.from range.upto range.limit scan s) answers rest)

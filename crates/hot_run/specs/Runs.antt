@@ -1,9 +1,8 @@
--- What an index with one pass answers to commands, and what a run reads, writes and answers.
+-- What a run of a script reads, writes and answers.
 use Rattle.std.specs.Prelude.{◌≡◌, ℕ, ◌<◌, ◌≤◌, ◌++◌, List, [], ◌∷◌, length, map, All, Option, None, Some, Result, Ok, Err, IsOk, Vec, codes}
 use Rattle.std.specs.Io.KnownBytes.{Consumes, IsAtEnd}
 use Rattle.hot_model.specs.declared.Call.{Call}
 use Rattle.hot_model.specs.declared.Call.TheVariants.{Insert, Upsert, Get, Remove}
-use Rattle.hot_model.specs.declared.Reply.{Reply as Replied}
 use Rattle.hot_model.specs.Calls.{LegalCalls}
 use Rattle.hot_model.specs.Maps.{Map, map_after, reply_of}
 use Rattle.rowex_table.specs.Seats.{TableView}
@@ -20,13 +19,6 @@ use Rattle.hot_run.specs.declared.fault.RunFault.TheVariants.{Read, Write, Memor
 use Rattle.hot_run.specs.Grammar.{commands_of, most_bytes}
 use Rattle.hot_run.specs.Meaning.{line, reply_text, scan_text, script_meaning}
 
--- The index has one pass, and this is it: all that it knows of are its own changes, and its calls are legal.
-pub record IsAlone (index : TableView) (pass : PassView) : Type 0 where
-  pub one : index.layout.passes ≡ 1
-  pub number : pass.number ≡ 0
-  pub makers : AreByPasses index.layout pass.front
-  pub legal : LegalCalls pass.front pass.number pass.notes
-
 -- the records of this kind may all be taken when this call asks for one
 abbrev pub MayLack : Call → Full → Type 0
 MayLack (Insert key value) full = Unit {0}
@@ -34,16 +26,6 @@ MayLack (Upsert key value) full = Unit {0}
 MayLack (Get key) full = ⊥
 MayLack (Remove key) Nodes = Unit {0}
 MayLack (Remove key) Leaves = ⊥
-
--- an answer to a call is the map's reply, or that records were lacking, and then the map stays
-abbrev pub IsAnswer : Map → Call → Map → Answer → Type 0
-IsAnswer old call new (Reply reply) = (reply ≡ reply_of old call) × (new ≡ map_after old call)
-IsAnswer old call new (Refused full) = MayLack call full × (new ≡ old)
-
--- what a call that may find no room is answered
-abbrev pub answer_of : Result Replied Full → Answer
-answer_of (Ok reply) = Reply reply
-answer_of (Err full) = Refused full
 
 abbrev pub full_text : Full → List ℕ
 full_text Nodes = codes "full nodes"
@@ -70,13 +52,6 @@ text_told m [] = []
 text_told m ((command, Some full) ∷ told) = line (full_text full) ++ text_told m told
 text_told m ((Asks call, None) ∷ told) = line (reply_text (reply_of m call)) ++ text_told (map_after m call) told
 text_told m ((Scan range, None) ∷ told) = scan_text m range ++ text_told m told
-
--- the text has the answers to the commands, each on the map that the earlier ones left, m at first
-pub record Answers (m : Map) (commands : List Command) (text : List ℕ) : Type 0 where
-  pub told : List Told
-  pub commands_are : map (λ t. t.0) told ≡ commands
-  pub refusals : All MayBeTold told
-  pub text_is : text ≡ text_told m told
 
 -- The text answers the script, from the empty map on: it is what the script means, if no command was refused.
 pub record IsAnswered (script text : List ℕ) : Type 0 where

@@ -1,10 +1,13 @@
 //! The lines of the answers.
 
-ghost use Rattle.std.specs.Prelude.{◌≡◌, ◌++◌, OnOk, string_bytes};
+ghost use Rattle.std.specs.Prelude.{◌≡◌, ◌≤◌, ◌++◌, IfOk, OnOk, codes, length, map, string_bytes};
+ghost use Rattle.hot_run.specs.declared.scripts.TheConstants.{MAX_FILES};
 ghost use Rattle.hot_run.specs.Meaning.{key_text, line, pair_line, scan_lines};
 ghost use Rattle.hot_run.specs.Runs.{answer_text};
+ghost use Rattle.hot_run.specs.Scripts.{sections};
 
 use crate::engine::Answer;
+use crate::together::Done;
 use hot_index::Full;
 use hot_model::{Reply, Scan};
 use key_bits::Key;
@@ -61,4 +64,22 @@ pub fn push_scan(alloc: Global, text: &mut String, scan: &Scan) -> Result<(), Al
     } else {
         write!(text, "end {count}\n")
     }
+}
+
+/// The answers to scripts of files, each below its heading, and then those to the last script.
+pub fn join_answers(alloc: Global, files: Vec<Done>, last: String) -> Result<String, AllocError>
+    requires { length files.items ≤ MAX_FILES }
+    ensures { IfOk result (λ text. string_bytes text
+        ≡ sections 1 (map (λ f. string_bytes f.text) files.items) ++ line (codes "last") ++ string_bytes last) }
+{
+    let mut text = String::new(alloc);
+    let mut number = 1u32;
+    for file in files {
+        write!(text, "file {number}\n")?;
+        text.push_str(file.text.as_str())?;
+        number += 1;
+    }
+    text.push_str("last\n")?;
+    text.push_str(last.as_str())?;
+    Ok(text)
 }

@@ -1,11 +1,12 @@
 //! Scripts of commands on an ordered index: their grammar, their answers and their run.
 #![tactic(auto)]
 
-ghost use Rattle.std.specs.Prelude.{◌≡◌, ◌≢◌, List, ℕ, [], IfOk, OnOk, IfErr};
+ghost use Rattle.std.specs.Prelude.{◌≡◌, ◌≢◌, ◌+◌, ◌≤◌, List, ℕ, IfOk, OnOk, IfErr, length};
 ghost use Rattle.std.specs.Io.KnownBytes.{Appends};
 ghost use Rattle.record_words.specs.Limits.{IsLeafCount, IsNodeCount};
-ghost use Rattle.hot_index.specs.Passes.{Owns};
-ghost use Rattle.hot_run.specs.Runs.{IsAlone, IsAnswered, TakesAll, MayEndBy};
+ghost use Rattle.hot_run.specs.Progress.{IsFirst};
+ghost use Rattle.hot_run.specs.Runs.{IsAnswered, TakesAll, MayEndBy};
+ghost use Rattle.hot_run.specs.Scripts.{AllFrom};
 
 mod answer;
 mod command;
@@ -13,13 +14,16 @@ mod engine;
 mod fault;
 mod line;
 mod script;
+mod scripts;
 mod streams;
+mod together;
 mod word;
 
 pub use fault::{Reason, RunFault};
-use hot_index::{Index, IndexFault, Pass, create};
+use hot_index::{Index, IndexFault, NoGate, Pass, create};
 pub use record_words::{MAX_LEAVES, MAX_NODES};
 pub use script::MAX_SCRIPT;
+pub use scripts::{MAX_FILES, run_scripts, run_scripts_with};
 use std::alloc::Global;
 use std::io::{Read, Write};
 use std::sync::Wait;
@@ -50,27 +54,34 @@ pub fn run_one<T: Wait, R: Read, W: Write>(
 {
     let bytes = streams::read_script(alloc, reader)?;
     let commands = script::parse(alloc, &bytes)?;
-    let (index, mut pass) = new_index(alloc, nodes, leaves)?;
-    let text = engine::run(rt, alloc, &index, &mut pass, commands)?;
+    let (index, _, mut pass) = new_index(alloc, 0, nodes, leaves)?;
+    let text = engine::run(rt, alloc, &index, &mut pass, commands, &mut NoGate)?;
     streams::write_answers(writer, text.as_str())
 }
 
-/// An empty index, and its only pass.
-fn new_index(alloc: Global, nodes: u32, leaves: u32) -> Result<(Index, Pass), RunFault>
+/// An empty index, the passes for so many files, in the order of their numbers from 0 on, and the pass of the last script.
+fn new_index(
+    alloc: Global,
+    files: u32,
+    nodes: u32,
+    leaves: u32,
+) -> Result<(Index, Vec<Pass>, Pass), RunFault>
+    requires files { files ≤ MAX_FILES }
     requires nodes { IsNodeCount nodes }
     requires leaves { IsLeafCount leaves }
-    ensures own { IfOk result (λ made. Owns made.0 made.1) }
-    ensures alone { IfOk result (λ made. IsAlone made.0 made.1) }
-    ensures empty { IfOk result (λ made. made.1.front ≡ []) }
+    ensures passes { IfOk result (λ made. made.0.layout.passes ≡ files + 1) }
+    ensures count { IfOk result (λ made. length made.1.items ≡ files) }
+    ensures each { IfOk result (λ made. AllFrom 0 (IsFirst made.0) made.1.items) }
+    ensures last { IfOk result (λ made. IsFirst made.0 files made.2) }
     ensures fault { IfErr result (λ fault. fault ≡ RunFault.Memory) }
 {
-    let (index, mut passes) = match create(alloc, 1, nodes, leaves) {
+    let (index, mut passes) = match create(alloc, files + 1, nodes, leaves) {
         Ok(made) => made,
         Err(IndexFault::Memory) => return Err(RunFault::Memory),
         Err(IndexFault::Layout(_)) => unreachable!(),
     };
     match passes.pop() {
-        Some(pass) => Ok((index, pass)),
+        Some(last) => Ok((index, passes, last)),
         None => unreachable!(),
     }
 }

@@ -1,0 +1,82 @@
+-- Lists whose items are numbered, and three lists side by side.
+use Rattle.std.proofs.Common.{◌≡◌, ℕ, zero, suc, ◌+◌, List, [], ◌∷◌, ◌++◌, length, map, Some, refl, ap, subst, arith}
+use Rattle.std.specs.List.{All, AllZip, slice_get}
+use Rattle.std.proofs.lemmas.List.Elements.{All-nil, All-cons}
+use Rattle.hot_index.specs.Passes.{PassView, Owns}
+use Rattle.rowex_table.specs.Seats.{TableView}
+use Rattle.hot_run.specs.declared.command.Command.{Command}
+use Rattle.hot_run.specs.declared.together.Done.{Done}
+use Rattle.hot_run.specs.declared.together.Order.{Order}
+use Rattle.hot_run.specs.Progress.{AllThree, IsDone, IsFirst, IsOrderOf}
+use Rattle.hot_run.specs.Scripts.{AllFrom}
+
+module _ {A : Type 0} (p : ℕ → A → Type 0) where
+  AllFrom-each : (first : ℕ) (xs : List A) → ((q : ℕ) (x : A) → slice_get xs q ≡ Some x → p (first + q) x) → AllFrom first p xs
+  AllFrom-each first [] h = tt
+  AllFrom-each first (x ∷ xs) h =
+      let now : first + 0 ≡ first = omega arith in (
+        subst (λ n. p n x) now (h 0 x refl),
+        AllFrom-each (first + 1) xs (λ q y is. let next : first + suc q ≡ (first + 1) + q = omega arith in subst (λ n. p n y) next (h (suc q) y is)),
+      )
+
+  pub AllFrom-zero : (xs : List A) → ((q : ℕ) (x : A) → slice_get xs q ≡ Some x → p q x) → AllFrom 0 p xs
+  AllFrom-zero xs h = AllFrom-each 0 xs (λ q x is. let same : q ≡ 0 + q = omega arith in subst (λ n. p n x) same (h q x is))
+
+  pub AllFrom-append : (first : ℕ) (xs ys : List A) → AllFrom first p xs → AllFrom (first + length xs) p ys → AllFrom first p (xs ++ ys)
+  AllFrom-append first [] ys h l = let none : first + 0 ≡ first = omega arith in subst (λ n. AllFrom n p ys) none l
+  AllFrom-append first (x ∷ xs) ys h l =
+      let next : first + suc (length xs) ≡ (first + 1) + length xs = omega arith in
+      (h.0, AllFrom-append (first + 1) xs ys h.1 (subst (λ n. AllFrom n p ys) next l))
+
+  pub AllFrom-left : (first : ℕ) (xs ys : List A) → AllFrom first p (xs ++ ys) → AllFrom first p xs
+  AllFrom-left first [] ys h = tt
+  AllFrom-left first (x ∷ xs) ys h = (h.0, AllFrom-left (first + 1) xs ys h.1)
+
+  pub AllFrom-right : (first : ℕ) (xs ys : List A) → AllFrom first p (xs ++ ys) → AllFrom (first + length xs) p ys
+  AllFrom-right first [] ys h = let none : first ≡ first + 0 = omega arith in subst (λ n. AllFrom n p ys) none h
+  AllFrom-right first (x ∷ xs) ys h =
+      let next : (first + 1) + length xs ≡ first + suc (length xs) = omega arith in
+      subst (λ n. AllFrom n p ys) next (AllFrom-right (first + 1) xs ys h.1)
+
+module _ (index : TableView) where
+  -- new passes are the index's
+  pub owns_first : (first : ℕ) (passes : List PassView) → AllFrom first (IsFirst index) passes → All (Owns index) passes
+  owns_first first [] h = All-nil (Owns index)
+  owns_first first (p ∷ passes) h = All-cons (Owns index) p passes h.0.0 (owns_first (first + 1) passes h.1)
+
+  -- and so are those of scripts that have run
+  pub owns_done : (passes : List PassView) (scripts : List (List Command)) (done : List Done) → AllThree (IsDone index) passes scripts done
+      → All (λ d. Owns index d.pass) done
+  owns_done [] [] [] h = All-nil (λ d. Owns index d.pass)
+  owns_done [] [] (x ∷ done) h = absurd h
+  owns_done [] (x ∷ scripts) done h = absurd h
+  owns_done (x ∷ passes) [] done h = absurd h
+  owns_done (x ∷ passes) (y ∷ scripts) [] h = absurd h
+  owns_done (p ∷ passes) (s ∷ scripts) (d ∷ done) h = All-cons (λ d. Owns index d.pass) d done h.0.0 (owns_done passes scripts done h.1)
+
+  pub done_long : (passes : List PassView) (scripts : List (List Command)) (done : List Done) → AllThree (IsDone index) passes scripts done
+      → length done ≡ length passes
+  done_long [] [] [] h = refl
+  done_long [] [] (x ∷ done) h = absurd h
+  done_long [] (x ∷ scripts) done h = absurd h
+  done_long (x ∷ passes) [] done h = absurd h
+  done_long (x ∷ passes) (y ∷ scripts) [] h = absurd h
+  done_long (p ∷ passes) (s ∷ scripts) (d ∷ done) h = ap suc (done_long passes scripts done h.1)
+
+  -- the thread kept its order
+  abbrev pub HasKeptTo : Order → Done → Type 0
+  HasKeptTo order done = IsDone order.index.value order.pass.value order.commands.value.items done
+
+  -- what the threads did is what they were started for
+  pub all_joined : (passes : List PassView) (scripts : List (List Command)) (orders : List Order) (done : List Done)
+      → AllThree (IsOrderOf index) passes scripts orders → AllZip HasKeptTo orders done → AllThree (IsDone index) passes scripts done
+  all_joined [] [] [] [] h kept = tt
+  all_joined [] [] [] (x ∷ done) h kept = absurd kept
+  all_joined [] [] (x ∷ orders) done h kept = absurd h
+  all_joined [] (x ∷ scripts) orders done h kept = absurd h
+  all_joined (x ∷ passes) [] orders done h kept = absurd h
+  all_joined (x ∷ passes) (y ∷ scripts) [] done h kept = absurd h
+  all_joined (x ∷ passes) (y ∷ scripts) (z ∷ orders) [] h kept = absurd kept
+  all_joined (p ∷ passes) (s ∷ scripts) (o ∷ orders) (d ∷ done) h kept =
+      let first : IsDone index p s d = subst (λ i. IsDone i p s d) h.0.0 (subst (λ p. IsDone o.index.value p s d) h.0.1 (subst (λ s. IsDone o.index.value o.pass.value s d) h.0.2 kept.0)) in
+      (first, all_joined passes scripts orders done h.1 kept.1)

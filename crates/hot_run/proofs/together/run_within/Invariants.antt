@@ -1,0 +1,26 @@
+-- What stays true while threads are started, and while they are joined.
+use Rattle.std.proofs.Common.{◌≡◌, ◌++◌, List, length, map}
+use Rattle.std.specs.List.{All, AllZip}
+use Rattle.std.specs.Vec.Iter.{into_iter_items}
+use Rattle.hot_index.specs.Passes.{Owns}
+use Rattle.hot_run.specs.declared.together.Done.{Done}
+use Rattle.hot_run.specs.declared.together.Order.{Order}
+use Rattle.hot_run.specs.Progress.{AllThree, IsDone, IsOrderOf}
+use Rattle.hot_run.proofs.Numbered.{HasKeptTo}
+use Rattle.hot_run.proofs.together.run_within.Given as goal
+
+-- there are as many scripts and gates as passes, and the orders of the threads to come complete those of the threads that run
+abbrev pub invariant-loop-pass : goal.invariant-loop-pass
+invariant-loop-pass g l = record {
+  own : All (Owns l.index) (into_iter_items l.pass-iterator);
+  scripts : length (into_iter_items l.scripts) ≡ length (into_iter_items l.pass-iterator);
+  gates : length (into_iter_items l.gates) ≡ length (into_iter_items l.pass-iterator);
+  completes : (rest : List Order) → AllThree (IsOrderOf l.index) (into_iter_items l.pass-iterator) (map (λ s. s.items) (into_iter_items l.scripts)) rest
+      → AllThree (IsOrderOf l.index) l.fn.passes.items (map (λ s. s.items) l.fn.scripts.items) (map (λ t. t.promise) l.running.items ++ rest);
+}
+
+-- what the threads that are left will have done completes what was done
+abbrev pub invariant-loop-thread : goal.invariant-loop-thread
+invariant-loop-thread g l =
+    (rest : List Done) → AllZip (HasKeptTo l.index) (map (λ t. t.promise) (into_iter_items l.thread-iterator)) rest
+    → AllThree (IsDone l.index) l.fn.passes.items (map (λ s. s.items) l.fn.scripts.items) (l.done.items ++ rest)

@@ -1,0 +1,150 @@
+-- Scripts that run on one index, each with a pass of its own: what they may be answered, and how such a run may end.
+use Rattle.std.specs.Prelude.{◌≡◌, ◌⊎◌, ℕ, ◌+◌, ◌≤◌, ◌++◌, List, [], ◌∷◌, length, map, filter_map, flat_map, take, nat_lt, All, Option, None, Some, Result, Ok, Err, IsOk, if◌then◌else◌, codes, decimal}
+use Rattle.hot_model.specs.declared.Call.{Call}
+use Rattle.hot_model.specs.declared.Change.{Change}
+use Rattle.hot_model.specs.declared.Note.{Note}
+use Rattle.hot_model.specs.declared.Scan.{Scan}
+use Rattle.hot_model.specs.Calls.{LegalCalls, place_after}
+use Rattle.hot_model.specs.Fronts.{BeginsWith}
+use Rattle.hot_model.specs.Scans.{IsLawfulScan}
+use Rattle.hot_model.specs.Weaves.{AllLegal}
+use Rattle.rowex_writing.specs.declared.plan.Full.{Full}
+use Rattle.hot_run.specs.declared.command.Command.{Command}
+use Rattle.hot_run.specs.declared.command.Command.TheVariants.{Call as Asks, Scan as Lists}
+use Rattle.hot_run.specs.declared.command.Range.{Range}
+use Rattle.hot_run.specs.declared.fault.Reason.{Reason}
+use Rattle.hot_run.specs.declared.fault.RunFault.{RunFault}
+use Rattle.hot_run.specs.declared.fault.RunFault.TheVariants.{Memory, FileScript, Large}
+use Rattle.hot_run.specs.Grammar.{commands_of, most_bytes}
+use Rattle.hot_run.specs.Meaning.{line, reply_text, scan_lines, with_number}
+use Rattle.hot_run.specs.Runs.{MayEndBy, MayLack, full_text}
+
+-- A command with what it was answered: a call with its note; a call that lacked these records; or a scan, made while its pass's
+-- front grew from the one length to the other.
+pub data Answered : Type 0 where
+  called : Note → Answered
+  refused : Call → Full → Answered
+  listed : Range → Scan → ℕ → ℕ → Answered
+
+-- the command
+abbrev pub command_of : Answered → Command
+command_of (called note) = Asks note.call
+command_of (refused call full) = Asks call
+command_of (listed range scan before after) = Lists range
+
+-- the lines of the answer
+abbrev pub lines_of_answer : Answered → List ℕ
+lines_of_answer (called note) = line (reply_text note.reply)
+lines_of_answer (refused call full) = line (full_text full)
+lines_of_answer (listed range scan before after) = scan_lines scan.pairs.items scan.more
+
+-- the note of an answered call
+abbrev pub note_of : Answered → Option Note
+note_of (called note) = Some note
+note_of (refused call full) = None
+note_of (listed range scan before after) = None
+
+-- A script that was run: its commands with their answers, in their order, and the changes that its pass had seen at the end.
+pub record Ran : Type 0 where
+  pub answers : List Answered
+  pub front : List Change
+
+abbrev pub commands_in : Ran → List Command
+commands_in ran = map command_of ran.answers
+
+abbrev pub notes_in : Ran → List Note
+notes_in ran = filter_map note_of ran.answers
+
+abbrev pub text_in : Ran → List ℕ
+text_in ran = flat_map lines_of_answer ran.answers
+
+-- The answers stand in the front in their order, none before the place `low`. A scan is lawful between two prefixes of the front:
+-- the shorter has the changes of all commands before it, and no later command stands before the end of the longer.
+abbrev pub StandFrom : List Change → ℕ → List Answered → Type 0
+StandFrom front low [] = Unit {0}
+StandFrom front low (called note ∷ rest) = (low ≤ note.place) × StandFrom front (place_after note) rest
+StandFrom front low (refused call full ∷ rest) = MayLack call full × StandFrom front low rest
+StandFrom front low (listed range scan before after ∷ rest) =
+    (low ≤ before) × (before ≤ after) × (after ≤ length front)
+    × IsLawfulScan (take before front) (take after front) range.from range.upto range.limit scan
+    × StandFrom front after rest
+
+-- The calls of pass q that the script made are legal in its front, and all its commands stand there from the place `low` on.
+pub record IsLegalRun (q low : ℕ) (ran : Ran) : Type 0 where
+  pub legal : LegalCalls ran.front q (notes_in ran)
+  pub stand : StandFrom ran.front low ran.answers
+
+-- each has the property, with its number, the first that of `first`
+abbrev pub AllFrom : {A : Type 0} → ℕ → (ℕ → A → Type 0) → List A → Type 0
+AllFrom first p [] = Unit {0}
+AllFrom first p (x ∷ xs) = p first x × AllFrom (first + 1) p xs
+
+-- each script's notes with the number of its pass, the first that of `first`
+abbrev pub by_pass : ℕ → List Ran → List (ℕ × List Note)
+by_pass first [] = []
+by_pass first (ran ∷ more) = (first, notes_in ran) ∷ by_pass (first + 1) more
+
+-- the commands of a file, or its fault
+abbrev pub in_file : ℕ → Result (List Command) (ℕ × Reason) → Result (List Command) RunFault
+in_file file (Ok commands) = Ok commands
+in_file file (Err (number, reason)) = Err (FileScript file number reason)
+
+abbrev pub commands_of_file : ℕ → List ℕ → Result (List Command) RunFault
+commands_of_file file script = if nat_lt most_bytes (length script) then Err Large else in_file file (commands_of script)
+
+-- the first fault, or both
+abbrev pub both_or_fault : Result (List Command) RunFault → Result (List (List Command)) RunFault → Result (List (List Command)) RunFault
+both_or_fault (Err fault) others = Err fault
+both_or_fault (Ok commands) (Err fault) = Err fault
+both_or_fault (Ok commands) (Ok others) = Ok (commands ∷ others)
+
+-- the commands of files, the first having the number `first`, or the fault of the first that has one
+abbrev pub commands_of_files : ℕ → List (List ℕ) → Result (List (List Command)) RunFault
+commands_of_files first [] = Ok []
+commands_of_files first (file ∷ files) = both_or_fault (commands_of_file first file) (commands_of_files (first + 1) files)
+
+-- the answers to files, each below its heading, the first having the number `first`
+abbrev pub sections : ℕ → List (List ℕ) → List ℕ
+sections first [] = []
+sections first (text ∷ texts) = line (with_number (codes "file ") first) ++ text ++ sections (first + 1) texts
+
+-- The text has the answers to the scripts of files and then those to the last script, all run at the same time but the last one.
+-- Each script has a pass of its own, numbered in this order.
+pub record LawfulAnswers (scripts : List (List Command)) (last : List Command) (text : List ℕ) : Type 0 where
+  pub files_ran : List Ran
+  pub last_ran : Ran
+  -- what all passes had seen when they met, before the last script's first command
+  pub met : List Change
+  pub commands : map commands_in files_ran ≡ scripts
+  pub last_commands : commands_in last_ran ≡ last
+  -- each file's calls are legal in what its own pass had seen
+  pub each : AllFrom 0 (λ q ran. IsLegalRun q 0 ran) files_ran
+  -- the last script had seen all that the files' passes had seen, and its commands stand after that
+  pub begins : All (λ ran. BeginsWith met ran.front) files_ran
+  pub last_begins : BeginsWith last_ran.front met
+  pub last_legal : IsLegalRun (length scripts) (length met) last_ran
+  -- all calls of all scripts are legal in one front, whose changes are all theirs
+  pub shared : AllLegal last_ran.front (by_pass 0 (files_ran ++ last_ran ∷ []))
+  pub makers : All (λ c. c.pass ≤ length scripts) last_ran.front
+  pub text_is : text ≡ sections 1 (map text_in files_ran) ++ line (codes "last") ++ text_in last_ran
+
+-- Several scripts, after Herlihy and Wing: these files and the last script have commands, and the text answers them lawfully.
+pub record LawfulScripts (files : List (List ℕ)) (script text : List ℕ) : Type 0 where
+  pub scripts : List (List Command)
+  pub last : List Command
+  pub files_are : commands_of_files 1 files ≡ Ok scripts
+  pub short : length script ≤ most_bytes
+  pub last_is : commands_of script ≡ Ok last
+  pub answers : LawfulAnswers scripts last text
+
+-- this was parsed, or there is this fault, unless memory was refused
+abbrev pub IsParsed : {A B : Type 0} → (A → B) → Result A RunFault → Result B RunFault → Type 0
+IsParsed view (Ok parsed) script = script ≡ Ok (view parsed)
+IsParsed view (Err Memory) script = Unit {0}
+IsParsed view (Err fault) script = script ≡ Err fault
+
+-- A run of several scripts may end by want of memory; by the fault of the first file that has one; or, where none has, as a run of
+-- the last script alone may end.
+abbrev pub MayEndScriptsBy : List (List ℕ) → Option (List ℕ) → Option (List ℕ) → RunFault → Type 0
+MayEndScriptsBy files old new Memory = Unit {0}
+MayEndScriptsBy files old new fault = (commands_of_files 1 files ≡ Err fault) ⊎ (IsOk (commands_of_files 1 files) × MayEndBy old new fault)

@@ -1,0 +1,124 @@
+//! Runs of several scripts at the same time: those of files, and then a last one.
+
+ghost use Rattle.std.specs.Prelude.{◌≡◌, ◌≢◌, ◌≤◌, List, ℕ, IfOk, OnOk, IfErr, length, map};
+ghost use Rattle.std.specs.Io.KnownBytes.{Appends};
+ghost use Rattle.record_words.specs.Limits.{IsLeafCount, IsNodeCount};
+ghost use Rattle.hot_run.specs.Runs.{TakesAll};
+ghost use Rattle.hot_run.specs.Scripts.{IsParsed, LawfulScripts, MayEndScriptsBy, commands_of_file, commands_of_files};
+
+use crate::command::Command;
+use crate::fault::RunFault;
+use crate::script::{MAX_SCRIPT, parse};
+use crate::streams::{read_script, write_answers};
+use crate::together::answer_all;
+use hot_index::{Gate, NoGate};
+use std::alloc::Global;
+use std::io::{Read, Write};
+use std::sync::Wait;
+use std::thread::Threads;
+
+/// The most files that a run may have.
+pub const MAX_FILES: usize = 63;
+
+/// Runs the scripts of these files, at most `MAX_FILES`, at the same time, each in a thread of its own, on a new index of so many
+/// node and leaf records; and then, when all of them have ended, the reader's. All of them are read and parsed before the first
+/// command. The answers are written at the end, each file's below the line `file I`, the last script's below the line `last`.
+///
+/// Where a thread can't be started, the run ends as `Memory`.
+pub fn run_scripts<T: Threads + Wait + Sync, R: Read, W: Write>(
+    rt: &T,
+    alloc: Global,
+    nodes: u32,
+    leaves: u32,
+    files: Vec<Vec<u8>>,
+    reader: &mut R,
+    writer: &mut W,
+) -> Result<(), RunFault>
+    requires nodes { IsNodeCount nodes }
+    requires leaves { IsLeafCount leaves }
+    requires few { length files.items ≤ MAX_FILES }
+
+    // What was written are lawful answers to the scripts, and nothing else.
+    ensures ok { OnOk result ((script : List ℕ) × (text : List ℕ)
+        × TakesAll (R.remaining reader.old) (R.remaining reader.new) script
+        × LawfulScripts (map (λ f. f.items) files.items) script text
+        × Appends (W.contents writer.old) (W.contents writer.new) text) }
+
+    // A fault of a script is that of the first script that has one.
+    ensures fault { IfErr result (MayEndScriptsBy (map (λ f. f.items) files.items) (R.remaining reader.old) (R.remaining reader.new)) }
+
+    // Nothing was written but where a write failed.
+    ensures nothing { IfErr result (λ fault. fault ≢ RunFault.Write → writer.new ≡ writer.old) }
+{
+    let gates = vec![in alloc; NoGate; files.len()]?;
+    run_scripts_with(rt, alloc, nodes, leaves, files, gates, reader, writer)
+}
+
+/// `run_scripts`, with a gate for each file, which is told each atomic step of that file's commands.
+pub fn run_scripts_with<T: Threads + Wait + Sync, G: Gate + Send + Drop, R: Read, W: Write>(
+    rt: &T,
+    alloc: Global,
+    nodes: u32,
+    leaves: u32,
+    files: Vec<Vec<u8>>,
+    gates: Vec<G>,
+    reader: &mut R,
+    writer: &mut W,
+) -> Result<(), RunFault>
+    requires nodes { IsNodeCount nodes }
+    requires leaves { IsLeafCount leaves }
+    requires few { length files.items ≤ MAX_FILES }
+    requires gates { length gates.items ≡ length files.items }
+
+    // What was written are lawful answers to the scripts, and nothing else.
+    ensures ok { OnOk result ((script : List ℕ) × (text : List ℕ)
+        × TakesAll (R.remaining reader.old) (R.remaining reader.new) script
+        × LawfulScripts (map (λ f. f.items) files.items) script text
+        × Appends (W.contents writer.old) (W.contents writer.new) text) }
+
+    // A fault of a script is that of the first script that has one.
+    ensures fault { IfErr result (MayEndScriptsBy (map (λ f. f.items) files.items) (R.remaining reader.old) (R.remaining reader.new)) }
+
+    // Nothing was written but where a write failed.
+    ensures nothing { IfErr result (λ fault. fault ≢ RunFault.Write → writer.new ≡ writer.old) }
+{
+    let scripts = parse_files(alloc, files)?;
+    let bytes = read_script(alloc, reader)?;
+    let last = parse(alloc, &bytes)?;
+    let text = answer_all(rt, alloc, nodes, leaves, scripts, gates, last)?;
+    write_answers(writer, text.as_str())
+}
+
+/// The commands of each file, or the fault of the first that has one.
+fn parse_files(alloc: Global, files: Vec<Vec<u8>>) -> Result<Vec<Vec<Command>>, RunFault>
+    requires { length files.items ≤ MAX_FILES }
+    ensures count { IfOk result (λ v. length v.items ≡ length files.items) }
+    ensures parsed { IsParsed (λ v. map (λ s. s.items) v.items) result (commands_of_files 1 (map (λ f. f.items) files.items)) }
+{
+    let mut scripts = Vec::new(alloc);
+    let mut number = 1u32;
+    for file in files {
+        scripts.push(parse_file(alloc, number, &file)?)?;
+        number += 1;
+    }
+    Ok(scripts)
+}
+
+/// The commands of the file of this number, or its fault.
+fn parse_file(alloc: Global, number: u32, file: &[u8]) -> Result<Vec<Command>, RunFault>
+    ensures { IsParsed (λ s. s.items) result (commands_of_file number file.now) }
+{
+    if file.len() > MAX_SCRIPT {
+        return Err(RunFault::Large);
+    }
+    match parse(alloc, file) {
+        Err(RunFault::Script { line, reason }) => {
+            Err(RunFault::FileScript {
+                file: number,
+                line,
+                reason,
+            })
+        }
+        outcome => outcome,
+    }
+}

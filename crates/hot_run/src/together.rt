@@ -1,0 +1,190 @@
+//! Scripts that run at the same time: a thread and a pass for each, and the meetings of their passes.
+
+ghost use Rattle.std.specs.Prelude.{◌≡◌, ◌≤◌, All, IfOk, IfErr, length, map, string_bytes};
+ghost use Rattle.record_words.specs.Limits.{IsLeafCount, IsNodeCount};
+ghost use Rattle.hot_index.specs.Passes.{Owns};
+ghost use Rattle.hot_run.specs.declared.scripts.TheConstants.{MAX_FILES};
+ghost use Rattle.hot_run.specs.Progress.{AllThree, AreReady, IsDone, IsOrderOf, MeetInTurn};
+ghost use Rattle.hot_run.specs.Scripts.{LawfulAnswers};
+
+use crate::answer::join_answers;
+use crate::command::Command;
+use crate::engine::run;
+use crate::fault::RunFault;
+use crate::new_index;
+use hot_index::{Gate, Index, NoGate, Pass};
+use std::alloc::{AllocError, Global};
+use std::snapshot::Snapshot;
+use std::sync::Wait;
+use std::thread::{Promise, PromisedHandle, Scope, Threads, scope, scope_env};
+
+/// A script that has run: its pass, and the answers to its commands.
+#[derive(Drop)]
+pub struct Done {
+    pub pass: Pass,
+    pub text: String,
+}
+
+/// What a thread is to run, for contracts alone.
+#[derive(Drop)]
+struct Order {
+    index: Snapshot<Index>,
+    pass: Snapshot<Pass>,
+    commands: Snapshot<Vec<Command>>,
+}
+
+impl Promise<Result<Done, AllocError>> for Order {
+    ghost use Rattle.std.specs.Prelude.{IfOk};
+    ghost use Rattle.hot_run.specs.Progress.{IsDone};
+
+    ghost kept_by = { λ order result. IfOk result (IsDone order.index.value order.pass.value order.commands.value.items) };
+}
+
+/// Answers the scripts of files, each in a thread of its own, and then the last one.
+pub fn answer_all<T: Threads + Wait + Sync, G: Gate + Send + Drop>(
+    rt: &T,
+    alloc: Global,
+    nodes: u32,
+    leaves: u32,
+    scripts: Vec<Vec<Command>>,
+    gates: Vec<G>,
+    last: Vec<Command>,
+) -> Result<String, RunFault>
+    requires nodes { IsNodeCount nodes }
+    requires leaves { IsLeafCount leaves }
+    requires few { length scripts.items ≤ MAX_FILES }
+    requires gates { length gates.items ≡ length scripts.items }
+    ensures ok { IfOk result (λ text. LawfulAnswers (map (λ s. s.items) scripts.items) last.items (string_bytes text)) }
+    ensures fault { IfErr result (λ fault. fault ≡ RunFault.Memory) }
+{
+    let (index, passes, pass) = new_index(alloc, scripts.len() as u32, nodes, leaves)?;
+    let ran = run_files(rt, alloc, &index, passes, scripts, gates)?;
+    let (mut pass, met) = meet_all(alloc, &index, pass, ran)?;
+    let text = run(rt, alloc, &index, &mut pass, last, &mut NoGate)?;
+    let (_, again) = meet_all(alloc, &index, pass, met)?;
+    let all = join_answers(alloc, again, text)?;
+    Ok(all)
+}
+
+/// Runs each script in a thread with its own pass and gate, all at the same time, and joins them.
+fn run_files<T: Threads + Wait + Sync, G: Gate + Send + Drop>(
+    rt: &T,
+    alloc: Global,
+    index: &Index,
+    passes: Vec<Pass>,
+    scripts: Vec<Vec<Command>>,
+    gates: Vec<G>,
+) -> Result<Vec<Done>, AllocError>
+    requires own { All (Owns index.now) passes.items }
+    requires scripts { length scripts.items ≡ length passes.items }
+    requires gates { length gates.items ≡ length passes.items }
+    ensures { IfOk result (λ done. AllThree (IsDone index.now) passes.items (map (λ s. s.items) scripts.items) done.items) }
+{
+    scope(
+        scope_env(),
+        rt,
+        |threads| -> Result<Vec<Done>, AllocError>
+            requires { AreReady index.now passes.items scripts.items gates.items }
+            ensures { IfOk result (λ done. AllThree (IsDone index.entry.now) passes.items (map (λ s. s.items) scripts.items) done.items) }
+        { run_within(threads, rt, alloc, index, passes, scripts, gates) },
+    )
+}
+
+/// `run_files`, by threads of this scope.
+fn run_within<'s, E, T: Threads + Wait + Sync + 's, G: Gate + Send + Drop + 's>(
+    threads: &Scope<'s, E>,
+    rt: &'s T,
+    alloc: Global,
+    index: &'s Index,
+    passes: Vec<Pass>,
+    scripts: Vec<Vec<Command>>,
+    gates: Vec<G>,
+) -> Result<Vec<Done>, AllocError>
+    requires { AreReady index.now passes.items scripts.items gates.items }
+    ensures { IfOk result (λ done. AllThree (IsDone index.now) passes.items (map (λ s. s.items) scripts.items) done.items) }
+{
+    let mut scripts = scripts.into_iter();
+    let mut gates = gates.into_iter();
+    let mut running = Vec::new(alloc);
+    for pass in passes {
+        let (Some(commands), Some(gate)) = (scripts.next(), gates.next()) else {
+            unreachable!();
+        };
+        running.push(start(threads, rt, alloc, index, pass, commands, gate)?)?;
+    }
+    let mut done = Vec::new(alloc);
+    for thread in running {
+        done.push(thread.join(rt)?)?;
+    }
+    Ok(done)
+}
+
+/// Starts the thread of a script.
+fn start<'s, E, T: Threads + Wait + Sync + 's, G: Gate + Send + Drop + 's>(
+    threads: &Scope<'s, E>,
+    rt: &'s T,
+    alloc: Global,
+    index: &'s Index,
+    pass: Pass,
+    commands: Vec<Command>,
+    gate: G,
+) -> Result<PromisedHandle<Result<Done, AllocError>, Order>, AllocError>
+    requires { Owns index.now pass }
+    ensures { IfOk result (λ thread. IsOrderOf index.now pass commands.items thread.promise) }
+{
+    let order = Order {
+        index: Snapshot::of(index),
+        pass: Snapshot::of(&pass),
+        commands: Snapshot::of(&commands),
+    };
+    let thread = threads.spawn_with(
+        order,
+        move || -> Result<Done, AllocError>
+            requires { Owns index.now pass }
+            ensures { IfOk result (IsDone index.entry.now pass commands.items) }
+        { run_file(rt, alloc, index, pass, commands, gate) },
+    )?;
+    Ok(thread)
+}
+
+/// What the thread of a script does.
+fn run_file<T: Wait, G: Gate + Drop>(
+    rt: &T,
+    alloc: Global,
+    index: &Index,
+    pass: Pass,
+    commands: Vec<Command>,
+    gate: G,
+) -> Result<Done, AllocError>
+    requires { Owns index.now pass }
+    ensures { IfOk result (IsDone index.now pass commands.items) }
+{
+    let (mut pass, mut gate) = (pass, gate);
+    let text = run(rt, alloc, index, &mut pass, commands, &mut gate)?;
+    Ok(Done { pass, text })
+}
+
+/// The pass meets those of the scripts that have run, one after another.
+fn meet_all(
+    alloc: Global,
+    index: &Index,
+    pass: Pass,
+    done: Vec<Done>,
+) -> Result<(Pass, Vec<Done>), AllocError>
+    requires own { Owns index.now pass }
+    requires each { All (λ d. Owns index.now d.pass) done.items }
+    ensures own { IfOk result (λ met. Owns index.now met.0 × All (λ d. Owns index.now d.pass) met.1.items) }
+    ensures met { IfOk result (λ met. MeetInTurn index.now pass done.items met.0 met.1.items) }
+{
+    let mut last = pass;
+    let mut met = Vec::new(alloc);
+    for script in done {
+        let (again, pass) = index.meet(last, script.pass);
+        last = again;
+        met.push(Done {
+            pass,
+            text: script.text,
+        })?;
+    }
+    Ok((last, met))
+}
