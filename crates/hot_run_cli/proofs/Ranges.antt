@@ -23,6 +23,7 @@ use Rattle.clap.specs.declared.parser.matches.Found.{Found}
 use Rattle.clap.specs.declared.parser.matches.MatchedArg.{MatchedArg}
 use Rattle.clap.proofs.CallerLemmas.{added_plain, entry_by_id}
 use Rattle.clap.proofs.CallerReads.{signed_reads}
+use Rattle.hot_run_cli.specs.Options.{IsArgument}
 
 -- an argument of this id takes a number from 1 to high
 abbrev pub InRange : List ℕ → ℕ → Arg → Type 0
@@ -122,28 +123,43 @@ module _ (E : Type 0) (gives : List ℕ → Result ℕ E → Type 0) (width : �
           rw left tt
       go (Some x) found = with_entry x found (entry_by_id (EntryPasses c) f.entries.items id x values found)
 
--- what a parse of a plain command promises of it
+-- a command that shuts out nothing and has no global argument, whose argument of this id takes a number from 1 to high
+pub record IsOpen (id : List ℕ) (high : ℕ) (command : Command) : Type 0 where
+  pub plain : IsPlain command
+  pub local : (out-Command command).has_globals ≡ false
+  pub ranged : All (InRange id high) (args_of command)
+
+-- a command without arguments
+pub IsOpen-new : (command : Command) (id : List ℕ) (high : ℕ) → args_of command ≡ [] → groups_of command ≡ [] → (out-Command command).has_globals ≡ false
+    → IsOpen id high command
+IsOpen-new command id high args groups local = record {
+  plain = (rw args (All-nil IsPlainArg), groups);
+  local = local;
+  ranged = rw args (All-nil (InRange id high));
+}
+
+-- one with an argument more
+pub IsOpen-added : (old new : Command) (name : List ℕ) (a : Arg) (id : List ℕ) (high : ℕ) → IsOpen id high old → AddsArg old a new → IsArgument name a
+    → InRange id high a → IsOpen id high new
+IsOpen-added old new name a id high opened added is ranged = record {
+  plain = added_plain old new a added opened.plain is.plain;
+  local = rw (added.globals, opened.local, is.local) refl;
+  ranged = InRange-added old new a id high added opened.ranged ranged;
+}
+
+-- an argument of another name
+pub InRange-other : (name : List ℕ) (a : Arg) (id : List ℕ) (high : ℕ) → IsArgument name a → (name ≡ id → ⊥) → InRange id high a
+InRange-other name a id high is other same = absurd (other (sym is.id ∙ same))
+
+-- what a parse of such a command promises of it
 pub option_parsed : (E : Type 0) (gives : List ℕ → Result ℕ E → Type 0) (width : ℕ) → ((u : List ℕ) (x : Result ℕ E) → gives u x → ParsesUnsigned width 10 u x)
-    → (command : Command) (m : ArgMatches) (id : List ℕ) (high : ℕ) → IsParsedFrom command m → IsPlain command → (out-Command command).has_globals ≡ false
-    → All (InRange id high) (args_of command) → high < 2 ^ width → (id ≡ [] → ⊥) → (id ≡ codes "help" → ⊥) → (id ≡ codes "version" → ⊥) → (r : Option ℕ)
+    → (command : Command) (m : ArgMatches) (id : List ℕ) (high : ℕ) → IsParsedFrom command m → IsOpen id high command
+    → high < 2 ^ width → (id ≡ [] → ⊥) → (id ≡ codes "help" → ⊥) → (id ≡ codes "version" → ⊥) → (r : Option ℕ)
     → (one_text (found_of m) id ≡ None → r ≡ None) → ((t : List ℕ) → one_text (found_of m) id ≡ Some t → ReadsOne gives t r)
     → IfSome r (λ n. (1 ≤ n) × (n ≤ high))
-option_parsed E gives width only command m id high p plain globals all fits named no_help no_version r none value =
-    let built = InRange-built command p.built id high p.from no_help no_version all in
-    optional_in_range E gives width only p.built (found_of m) id high built fits (p.parsed (p.from.globals ∙ globals)).values (p.from.plain plain).1 named r none value
-
--- a command of two options
-pub two_options : (start middle command : Command) (a b : Arg) → AddsArg start a middle → AddsArg middle b command
-    → args_of start ≡ [] → groups_of start ≡ [] → (out-Command start).has_globals ≡ false
-    → IsPlainArg a → IsPlainArg b → a.global ≡ false → b.global ≡ false
-    → IsPlain command × ((out-Command command).has_globals ≡ false)
-    × ((id : List ℕ) (high : ℕ) → InRange id high a → InRange id high b → All (InRange id high) (args_of command))
-two_options start middle command a b first second args groups globals plain_a plain_b local_a local_b =
-    let empty : IsPlain start = (rw args (All-nil IsPlainArg), groups) in (
-      added_plain middle command b second (added_plain start middle a first empty plain_a) plain_b,
-      rw (second.globals, first.globals, globals, local_a, local_b) refl,
-      (λ id high is_a is_b. InRange-added middle command b id high second (InRange-added start middle a id high first (rw args (All-nil (InRange id high))) is_a) is_b),
-    )
+option_parsed E gives width only command m id high p opened fits named no_help no_version r none value =
+    let built = InRange-built command p.built id high p.from no_help no_version opened.ranged in
+    optional_in_range E gives width only p.built (found_of m) id high built fits (p.parsed (p.from.globals ∙ opened.local)).values (p.from.plain opened.plain).1 named r none value
 
 -- the number, or another one in its range
 pub or_in_range : (r : Option ℕ) (default high : ℕ) → IfSome r (λ n. (1 ≤ n) × (n ≤ high)) → 1 ≤ default → default ≤ high

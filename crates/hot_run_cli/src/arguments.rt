@@ -1,26 +1,31 @@
 //! The command line.
 
-ghost use Rattle.std.specs.Prelude.{◌≡◌, ◌⊎◌, ◌≤◌, IfErr};
+ghost use Rattle.std.specs.Prelude.{◌≡◌, ◌⊎◌, ◌≤◌, IfErr, length};
 ghost use Rattle.clap.specs.Words.{kind_of};
 ghost use Rattle.record_words.specs.Limits.{IsLeafCount, IsNodeCount};
 ghost use Rattle.hot_run.specs.declared.fault.RunFault.TheVariants.{Memory};
 ghost use Rattle.hot_run_cli.specs.declared.ending.Ending.TheVariants.{Usage, Fault};
 ghost use Rattle.hot_run_cli.specs.Endings.{ending_of};
-ghost use Rattle.hot_run_cli.specs.Options.{IsCountOption};
+ghost use Rattle.hot_run_cli.specs.Options.{IsArgument, IsCountOption};
 
 use crate::ending::Ending;
 use clap::error::ErrorKind;
 use clap::{Arg, ArgAction, Command, value_parser};
-use hot_run::{MAX_LEAVES, MAX_NODES, RunFault};
+use hot_run::{MAX_FILES, MAX_LEAVES, MAX_NODES, RunFault};
 use std::alloc::Global;
 
-/// How many records the index may have.
-#[derive(Clone, Copy, Debug)]
-pub struct Sizes {
+/// What the command line asks for.
+#[derive(Debug, Drop)]
+pub struct Request<'a> {
+    /// How many node records the index may have.
     pub nodes: u32,
+    /// How many leaf records it may have.
     pub leaves: u32,
+    /// The names of the files that have scripts, in order.
+    pub files: Vec<&'a str>,
     ghost nodes_fit: { IsNodeCount nodes },
     ghost leaves_fit: { IsLeafCount leaves },
+    ghost files_fit: { length files.items ≤ 63 },
 }
 
 impl From<clap::Error> for Ending {
@@ -45,18 +50,38 @@ fn count_option<'a>(alloc: Global, name: &'a str, most: u32) -> Arg<'a>
         .value_parser(value_parser!(u32).range(1..=i64::from(most)))
 }
 
-/// The sizes that the command line asks for: 4,096 nodes and 16,384 leaves where it doesn't say. It is refused by the usage
-/// line, or for want of memory.
-pub fn parse(alloc: Global, words: &[String]) -> Result<Sizes, Ending>
+/// The words that are no options: any number of them.
+fn file_names<'a>(alloc: Global, name: &'a str) -> Arg<'a>
+    ensures { IsArgument name.now result }
+{
+    Arg::new(alloc, name).action(ArgAction::Append)
+}
+
+/// What the command line asks for: 4,096 nodes and 16,384 leaves where it doesn't say, and at most `MAX_FILES` files. It is
+/// refused by the usage line, or for want of memory.
+pub fn parse<'a>(alloc: Global, words: &'a [String]) -> Result<Request<'a>, Ending>
     ensures { IfErr result (λ ending. (ending ≡ Usage) ⊎ (ending ≡ Fault Memory)) }
 {
     let nodes = count_option(alloc, "nodes", MAX_NODES);
     let leaves = count_option(alloc, "leaves", MAX_LEAVES);
-    let command = Command::new(alloc, "hot-run").arg(nodes)?.arg(leaves)?;
+    let names = file_names(alloc, "FILE");
+    let command = Command::new(alloc, "hot-run")
+        .arg(nodes)?
+        .arg(leaves)?
+        .arg(names)?;
     let matches = command.try_get_matches_from(words)?;
     let nodes = matches.get_one::<u32>("nodes").unwrap_or(4096);
     let leaves = matches.get_one::<u32>("leaves").unwrap_or(16_384);
-    Ok(Sizes { nodes, leaves })
+    let names = matches.get_strs("FILE").unwrap_or(&[]);
+    if names.len() > MAX_FILES {
+        return Err(Ending::Usage);
+    }
+    let files = Vec::from_slice(alloc, names)?;
+    Ok(Request {
+        nodes,
+        leaves,
+        files,
+    })
 }
 
 #[cfg(test)]

@@ -4,51 +4,80 @@ use super::*;
 use std::alloc::AllocError;
 use std::test::Fail;
 
-/// The sizes that the words of the text ask for.
-fn asked(alloc: Global, text: &str) -> Result<Sizes, Ending> {
+/// The words of the text.
+fn words_of(alloc: Global, text: &str) -> Result<Vec<String>, AllocError> {
     let mut words = Vec::new(alloc);
     for word in text.split(' ') {
         let word = String::from_str(alloc, word)?;
         words.push(word).map_err(AllocError::from)?;
     }
-    parse(alloc, words.as_slice())
+    Ok(words)
 }
 
 #[test]
-fn sizes_in_range(rt: HostRuntime) {
-    let cases = [
-        ("hot-run", 4096, 16_384),
-        ("hot-run --nodes 1 --leaves 1", 1, 1),
-        ("hot-run --leaves=262143 --nodes=65535", 65_535, 262_143),
+fn sizes_and_files(rt: HostRuntime) -> Result<(), Fail> {
+    let cases: [(&str, u32, u32, &[&str]); 6] = [
+        ("hot-run", 4096, 16_384, &[]),
+        ("hot-run --nodes 1 --leaves 1", 1, 1, &[]),
+        (
+            "hot-run --leaves=262143 a --nodes=65535 b",
+            65_535,
+            262_143,
+            &["a", "b"],
+        ),
+        ("hot-run script", 4096, 16_384, &["script"]),
+        ("hot-run - ", 4096, 16_384, &["-", ""]),
+        (
+            "hot-run -- --nodes 0 -- --help",
+            4096,
+            16_384,
+            &["--nodes", "0", "--", "--help"],
+        ),
     ];
-    for (text, nodes, leaves) in cases {
-        let got = asked(rt.alloc(), text);
+    for (text, nodes, leaves, files) in cases {
+        let words = words_of(rt.alloc(), text)?;
+        let got = parse(rt.alloc(), &words);
         assert!(rt;
-            matches!(got, Ok(sizes) if sizes.nodes == nodes && sizes.leaves == leaves),
+            matches!(&got, Ok(asked) if asked.nodes == nodes && asked.leaves == leaves && asked.files.as_slice() == files),
             "{text}"
         );
     }
+    Ok(())
 }
 
 #[test]
-fn refused(rt: HostRuntime) {
-    let cases: [&str; 11] = [
-        "hot-run script",
-        "hot-run -",
-        "hot-run -- script",
+fn refused(rt: HostRuntime) -> Result<(), Fail> {
+    let cases: [&str; 9] = [
         "hot-run --help",
-        "hot-run --version",
+        "hot-run script --version",
         "hot-run --nodes",
         "hot-run --nodes 0",
         "hot-run --nodes 65536",
         "hot-run --leaves 0",
         "hot-run --leaves 262144",
-        "hot-run --nodes 1 --nodes 2",
+        "hot-run --nodes 1 script --nodes 2",
+        "hot-run -n",
     ];
     for text in cases {
-        let got = asked(rt.alloc(), text);
-        assert!(rt; matches!(got, Err(Ending::Usage)), "{text}");
+        let words = words_of(rt.alloc(), text)?;
+        assert!(rt;
+            matches!(parse(rt.alloc(), &words), Err(Ending::Usage)),
+            "{text}"
+        );
     }
+    Ok(())
+}
+
+#[test]
+fn as_many_files_as_passes_but_one(rt: HostRuntime) -> Result<(), Fail> {
+    let mut words = words_of(rt.alloc(), "hot-run")?;
+    for _ in 0..63 {
+        words.push(String::from_str(rt.alloc(), "script")?)?;
+    }
+    assert!(rt; matches!(parse(rt.alloc(), &words), Ok(asked) if asked.files.len() == 63));
+    words.push(String::from_str(rt.alloc(), "script")?)?;
+    assert!(rt; matches!(parse(rt.alloc(), &words), Err(Ending::Usage)));
+    Ok(())
 }
 
 #[test]
