@@ -11,11 +11,11 @@ use Rattle.key_bits.proofs.Gathering.{code-lt}
 use Rattle.partial_keys.proofs.Reading.{row, row-set, row-skip}
 use Rattle.partial_keys.specs.Shown.{shown}
 use Rattle.pieces.proofs.Paths.{length-paths, none_before, RisesFrom-weaker, size_pos}
-use Rattle.pieces.proofs.Positions.{has_after}
+use Rattle.pieces.proofs.Positions.{has_after, IsPlaceOf}
 use Rattle.pieces.proofs.Tests.{map_same}
 use Rattle.pieces.proofs.Using.{later_columns, UsesOnly-more}
 use Rattle.pieces.specs.Piece.{Piece, Place, Fork, paths, places, RisesFrom, size, UsesOnly}
-use Rattle.pieces.specs.Positions.{Ascends, front_below, has, IsPlaceOf}
+use Rattle.pieces.specs.Positions.{Ascends, front_below, has}
 use Rattle.pieces.proofs.Positions.{front_below-place}
 use Rattle.compound_node.specs.Ladders.{AreSparseKeys, IsLadder, IsNext}
 use Rattle.key_bits.specs.Gather.{code}

@@ -21,9 +21,9 @@ use Rattle.pieces.proofs.Paths.{length-paths, length-places, size_pos}
 use Rattle.pieces.specs.Piece.{Fork, Piece, Place, leads_to, paths, size}
 use Rattle.partial_keys.proofs.Affected.{affected_is}
 use Rattle.partial_keys.specs.Runs.{IsRunEnd, IsRunStart}
-use Rattle.pieces.proofs.Positions.{front_below-place}
+use Rattle.pieces.proofs.Positions.{front_below-place, IsPlaceOf}
 use Rattle.pieces.specs.Growth.{affected_count, affected_first}
-use Rattle.pieces.specs.Positions.{IsPlaceOf, front_below, has}
+use Rattle.pieces.specs.Positions.{front_below, has}
 
 pub length-leaves : (n : ℕ) → length (leaves n) ≡ n
 length-leaves n = length-replicate n (Leaf 0)

@@ -12,8 +12,8 @@ use Rattle.compound_node.specs.Nodes.{AgreeBefore, HeadView, IsLawful, NodeView,
 use Rattle.compound_node.specs.declared.entries.Entry.TheVariants.{Leaf}
 use Rattle.partial_keys.specs.Runs.{IsRunEnd, IsRunStart}
 use Rattle.pieces.specs.Growth.{affected_count, affected_first}
-use Rattle.pieces.proofs.Positions.{ascends_back, front_below-place}
-use Rattle.pieces.specs.Positions.{Ascends, IsPlaceOf, front_below}
+use Rattle.pieces.proofs.Positions.{ascends_back, front_below-place, IsPlaceOf}
+use Rattle.pieces.specs.Positions.{Ascends, front_below}
 
 -- ---- the first columns of rows
 shr_bit : (n k i : ℕ) → k ≤ i → bit_at n i ≡ bit_at (n / 2 ^ k) (i - k)

@@ -66,8 +66,10 @@ FindsBound table becomes n a b = (next : ℕ) × (pins : List Act) × InTurn Loa
 
 -- a visit of a record, which gives it back or not
 abbrev pub VisitsOne : {G : Type 0} → TableView → (G → Event → G → Type 0) → ℕ → Rec → Bool → SeatView × G → SeatView × G → Type 0
-VisitsOne table becomes bound r given a b = (acts : List Act) × Visits bound r acts × Does table becomes paced acts a b × (count_by has_given acts ≡ if given then 1 else 0)
+VisitsOne table becomes bound r given a b =
+    (acts : List Act) × Visits bound r acts × Does table becomes paced acts a b × (count_by has_given acts ≡ if given then 1 else 0)
 
 -- visits of the first n records of a kind, which give so many of them back
 abbrev pub VisitsAll : {G : Type 0} → TableView → (G → Event → G → Type 0) → ℕ → (ℕ → Rec) → ℕ → ℕ → SeatView × G → SeatView × G → Type 0
-VisitsAll table becomes bound kind n given a b = (acts : List Act) × InTurn (λ m. Visits bound (kind m)) n acts × Does table becomes paced acts a b × (given ≡ count_by has_given acts)
+VisitsAll table becomes bound kind n given a b =
+    (acts : List Act) × InTurn (λ m. Visits bound (kind m)) n acts × Does table becomes paced acts a b × (given ≡ count_by has_given acts)

@@ -17,12 +17,14 @@ use Rattle.epochs.specs.Reach.{IsInReach, IsReachKept}
 
 -- before and after each step of any pass, no record of a pinned pass's reach is free or held
 abbrev pub ReachIsKept : Type 0
-ReachIsKept = (layout : Layout) (act : Act) (said : Known → List Note) (k j : Known) (event : IsEvent layout act said k j) → IsReachKept event.core × IsReachKept (after event.core k.pass act)
+ReachIsKept = (layout : Layout) (act : Act) (said : Known → List Note) (k j : Known) (event : IsEvent layout act said k j) →
+    IsReachKept event.core × IsReachKept (after event.core k.pass act)
 
 -- and so for each step of a run
 abbrev pub KeepsReach : {G : Type 0} (table : TableView) (becomes : G → Event → G → Type 0) (acts : List Act) (a b : SeatView × G) → Runs table becomes acts a b → Type 0
 KeepsReach table becomes [] a b run = Unit {0}
-KeepsReach table becomes (act ∷ acts) a b run = IsReachKept run.1.event.core × IsReachKept (after run.1.event.core a.0.known.pass act) × KeepsReach table becomes acts run.0 b run.2
+KeepsReach table becomes (act ∷ acts) a b run =
+    IsReachKept run.1.event.core × IsReachKept (after run.1.event.core a.0.known.pass act) × KeepsReach table becomes acts run.0 b run.2
 
 abbrev pub RunsKeepReach : {G : Type 0} → (G → Event → G → Type 0) → Type 0
 RunsKeepReach {G = G} becomes = (table : TableView) (acts : List Act) (a b : SeatView × G) (run : Runs table becomes acts a b) → KeepsReach table becomes acts a b run

@@ -128,7 +128,8 @@ fn visit<G: Gate>(
 
 /// The epoch in which a record of this state was retired, if it is below the bound.
 fn epoch_below(word: u64, bound: u64) -> Option<u64>
-    ensures { MatchOption result ((epoch : ℕ) → 1 ≤ epoch → epoch < EPOCHS → epoch < bound → word ≢ state_word (Obsolete epoch)) (λ epoch. (1 ≤ epoch) × (epoch < EPOCHS) × (epoch < bound) × (word ≡ state_word (Obsolete epoch))) }
+    ensures { MatchOption result ((epoch : ℕ) → 1 ≤ epoch → epoch < EPOCHS → epoch < bound → word ≢ state_word (Obsolete epoch))
+        (λ epoch. (1 ≤ epoch) × (epoch < EPOCHS) × (epoch < bound) × (word ≡ state_word (Obsolete epoch))) }
 {
     match unpack_state(word) {
         Ok(Tag::Obsolete(epoch)) if epoch < bound => Some(epoch),

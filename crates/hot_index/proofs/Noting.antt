@@ -39,7 +39,11 @@ use Rattle.rowex_reading.proofs.Led.{HasLookedAt, looked_at}
 use Rattle.rowex_reading.proofs.Seeing.{seen_told, seen_within}
 use Rattle.hot_index.specs.Passes.{AreByPasses, IsSettled, pass_of}
 use Rattle.hot_index.specs.Answers.{GoesOn, IsNoted, got}
-use Rattle.hot_index.specs.Noting.{same_reply, first_from, answers_so, place_of, note_of}
+use Rattle.hot_index.specs.Noting.{same_reply, first_from, answers_so, place_of}
+
+-- the note of a call that changed nothing: its place is the first right one since the pass's last load of the root
+abbrev pub note_of : Call → Reply → Known → List Note
+note_of call reply k = record { place = place_of k.front (since k) call reply; call = call; reply = reply } ∷ []
 
 -- Replies
 

@@ -27,9 +27,9 @@ use Rattle.rowex_core.specs.Cores.{Core, IsLawful}
 use Rattle.rowex_core.specs.Knowing.{IsSince, Recalls}
 use Rattle.rowex_core.specs.declared.known.Known.{Known}
 use Rattle.rowex_core.proofs.Owning.{recalls}
-use Rattle.rowex_walks.specs.Scan.{Range, IsBlank, IsRooted, IsPlaced, IsShaped, IsRead, IsStack, IsScan, IsOver, AreAt, MayStandAt, affected_from, start_place, Frame as Stage}
+use Rattle.rowex_walks.specs.Scan.{Range, IsBlank, IsRooted, IsPlaced, IsShaped, IsRead, IsStack, IsScan, IsOver, MayStandAt, Frame as Stage}
 use Rattle.rowex_walks.proofs.Scans.{fit_down, fit_leaf, fit_near, fit_order, shaped_several}
-use Rattle.rowex_walks.proofs.Starts.{at_over, fit_sole, scan_start, sides, sides_over, stack_at}
+use Rattle.rowex_walks.proofs.Starts.{at_over, fit_sole, scan_start, sides, sides_over, stack_at, AreAt, affected_from, start_place}
 use Rattle.rowex_walks.proofs.Walk.{scan_skip, stack_place}
 use Rattle.rowex_reading.specs.Possible.{IsPossible}
 use Rattle.compound_node.specs.Nodes.{HeadView}

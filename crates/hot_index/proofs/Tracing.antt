@@ -16,7 +16,7 @@ use Rattle.rowex_core.specs.declared.known.Known.{Known}
 use Rattle.rowex_table.specs.Runs.{Ends, IsTold, Runs, StepsWith, events_of, silent}
 use Rattle.rowex_table.specs.Seats.{TableView, SeatView}
 use Rattle.rowex_table.specs.Stays.{LeavesPin}
-use Rattle.rowex_table.proofs.Running.{ends_told, runs_append, runs_one}
+use Rattle.rowex_table.proofs.Running.{ends_told, runs_append}
 use Rattle.epochs.specs.Rounds.{IsRound, LoadsPin, Visits, advance_steps}
 use Rattle.epochs.specs.Runs.{Pins}
 use Rattle.rowex_reading.specs.Reads.{Looks}

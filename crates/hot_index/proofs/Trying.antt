@@ -45,10 +45,10 @@ use Rattle.epochs.specs.Rounds.{IsRound}
 use Rattle.hot_index.specs.Answers.{IsCause, IsNoted, IsRefused, IsUnnoted, fault_of}
 use Rattle.hot_index.specs.Asked.{HasAsked, HasReplied, last_try}
 use Rattle.hot_index.specs.Counts.{try_steps}
-use Rattle.hot_index.specs.Noting.{note_of, notes_of, place_by}
+use Rattle.hot_index.specs.Noting.{notes_of, place_by}
 use Rattle.hot_index.specs.Passes.{IsSettled, Owns, PassView, pass_of}
 use Rattle.hot_index.specs.Traces.{AreAttempts, HasMade}
-use Rattle.hot_index.proofs.Noting.{HasGoneOn, HasLooked, WasRight, found_had, goes_on, legal_front, longer, noted, settles}
+use Rattle.hot_index.proofs.Noting.{HasGoneOn, HasLooked, WasRight, found_had, goes_on, legal_front, longer, noted, settles, note_of}
 use Rattle.hot_index.proofs.Collected.{round_unnoted}
 use Rattle.hot_index.proofs.Scanned.{scan_refused, scan_settled}
 use Rattle.hot_index.proofs.Tracing.{has_made}

@@ -15,18 +15,18 @@ use Rattle.moments.specs.State.{Past, IsSteady}
 use Rattle.rowex_core.specs.declared.known.Known.{Known}
 use Rattle.rowex_core.specs.Cores.{Core, IsLawful}
 use Rattle.rowex_core.specs.Knowing.{Recalls, IsSince}
-use Rattle.rowex_walks.specs.Scan.{Pair, Range, IsScan, IsRooted, IsPlaced, IsRead, IsBlank, IsShaped, IsOver, turned, next, remaining, rest_after, Frame as Stage}
+use Rattle.rowex_walks.specs.Scan.{Pair, Range, IsScan, IsRooted, IsPlaced, IsRead, IsBlank, IsShaped, IsOver, turned, Frame as Stage}
 use Rattle.rowex_walks.proofs.Scans.{never_before, before_most, fit_leaf, shaped_several}
 use Rattle.rowex_walks.proofs.Walk.{stack_shape, scan_push, scan_pop, scan_end, scan_take, scan_past, scan_cut}
 use Rattle.rowex_walks.proofs.Ends.{scan_blank, scan_one, scan_nought, scan_outside, stack_depth, stack_high, stack_seen, stack_low}
 use Rattle.rowex_walks.proofs.Persist.{rooted_on, placed_on, scan_on}
-use Rattle.rowex_walks.proofs.Measure.{push_less, next_less, pop_less}
+use Rattle.rowex_walks.proofs.Measure.{push_less, next_less, pop_less, next, remaining, rest_after}
 use Rattle.insert_cases.specs.declared.choice.Step.{Step}
 use Rattle.hot_index.specs.declared.scanning.Verdict.{Verdict}
 use Rattle.hot_index.specs.declared.scanning.Verdict.TheVariants.{Further, Past as IsPast, Full}
-use Rattle.rowex_reading.specs.Seen.{seen, Sure, IsAtRoot, HasPlace, HasShape, since, shape_of}
+use Rattle.rowex_reading.specs.Seen.{seen, Sure, IsAtRoot, HasPlace, since, shape_of}
 use Rattle.rowex_table.specs.Made.{IsLater}
-use Rattle.hot_index.specs.Scanning.{HasScanned, IsAnswer, IsPairTaken, frame, frames_of, IsEntered, AreInside, AreOver, IsFloor, IsPaid, IsWalk, rest_of_frames, rest_of, spare_of}
+use Rattle.hot_index.specs.Scanning.{HasScanned, IsAnswer, IsPairTaken, frame, frames_of, IsEntered, AreInside, AreOver, IsFloor, IsWalk}
 use Rattle.hot_index.specs.Counts.{walk_loads}
 use Rattle.rowex_core.proofs.Owning.{recalls}
 use Rattle.rowex_walks.proofs.Starts.{over_on, over_later, over_down}
@@ -34,8 +34,26 @@ use Rattle.rowex_reading.specs.Possible.{IsPossible}
 use Rattle.rowex_writing.specs.Ways.{step_at}
 use Rattle.record_words.specs.declared.layout.Layout.{Layout}
 use Rattle.key_bits.specs.declared.TheConstants.{MAX_BYTES}
-use Rattle.rowex_reading.proofs.Led.{shape_place}
+use Rattle.rowex_reading.proofs.Led.{shape_place, HasShape}
 use Rattle.rowex_reading.proofs.Seeing.{recalls_before, seen_grown, seen_steady, since_later, sure_later, IsStable}
+
+-- What a walk has still to do, at most: its measure.
+abbrev pub rest_of_frames : List Step → ℕ
+rest_of_frames [] = 0
+rest_of_frames (x ∷ xs) = (x.count - suc x.at) * 34 ^ x.height + 1 + rest_of_frames xs
+
+abbrev pub rest_of : Step → List Step → ℕ
+rest_of top frames = (top.count - top.at) * 34 ^ top.height + 1 + rest_of_frames frames
+
+-- How many entries of the nodes on a way have yet to be passed until each has passed two.
+abbrev pub spare_of : List Step → ℕ
+spare_of [] = 0
+spare_of (x ∷ xs) = (2 - x.at) + spare_of xs
+
+-- So many loads are paid for: 59 for each of so many pairs, and 26 for each node of the way beyond what it has yet to pass, over those of
+-- the longest way.
+abbrev pub IsPaid : ℕ → ℕ → Step → List Step → Type 0
+IsPaid loads pairs top frames = loads + 26 * suc (length frames) ≤ 26 * (9 * MAX_BYTES) + 59 * pairs + 26 * ((2 - top.at) + spare_of frames)
 
 -- Keys
 

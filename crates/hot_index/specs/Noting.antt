@@ -35,10 +35,6 @@ answers_so front call reply n = same_reply (reply_of (map_of (take n front)) cal
 unfoldable pub place_of : List Change → ℕ → Call → Reply → ℕ
 place_of front low call reply = first_from (answers_so front call reply) low (length front - low)
 
--- the note of a call that changed nothing: its place is the first right one since the pass's last load of the root
-abbrev pub note_of : Call → Reply → Known → List Note
-note_of call reply k = record { place = place_of k.front (since k) call reply; call = call; reply = reply } ∷ []
-
 -- the place of a call by what it is, where the pass knows k: one that changed the map stands at its own change, the last that was
 -- seen
 abbrev pub place_by : Bool → Call → Reply → Known → ℕ

@@ -1,6 +1,5 @@
 -- What a scan knows on its way, and of what it answers.
-use Rattle.std.specs.Prelude.{◌≡◌, ◌≢◌, ℕ, suc, ◌+◌, ◌-◌, ◌*◌, ◌^◌, ◌<◌, ◌≤◌, List, [], ◌∷◌, ◌++◌, length, take, Bool, false, true}
-use Rattle.key_bits.specs.declared.TheConstants.{MAX_BYTES}
+use Rattle.std.specs.Prelude.{◌≡◌, ◌≢◌, ℕ, ◌+◌, ◌<◌, ◌≤◌, List, [], ◌∷◌, ◌++◌, length, take, Bool, false, true}
 use Rattle.hot_model.specs.declared.Scan.{Scan}
 use Rattle.compound_node.specs.declared.entries.Entry.TheVariants.{Leaf}
 use Rattle.insert_cases.specs.declared.choice.Step.{Step}
@@ -102,21 +101,3 @@ pub record IsStart (k : Known) (m : ℕ) (key : Key) (way : List Step) (number :
   pub within : start.level < length way
   pub walk : (g : Range) → g.from ≡ key → IsWalk k m g start.top (take start.level way) []
   pub begun : IsBegun start.leaf k m key number start.top (take start.level way)
-
--- What a walk has still to do, at most: its measure.
-abbrev pub rest_of_frames : List Step → ℕ
-rest_of_frames [] = 0
-rest_of_frames (x ∷ xs) = (x.count - suc x.at) * 34 ^ x.height + 1 + rest_of_frames xs
-
-abbrev pub rest_of : Step → List Step → ℕ
-rest_of top frames = (top.count - top.at) * 34 ^ top.height + 1 + rest_of_frames frames
-
--- How many entries of the nodes on a way have yet to be passed until each has passed two.
-abbrev pub spare_of : List Step → ℕ
-spare_of [] = 0
-spare_of (x ∷ xs) = (2 - x.at) + spare_of xs
-
--- So many loads are paid for: 59 for each of so many pairs, and 26 for each node of the way beyond what it has yet to pass, over those of
--- the longest way.
-abbrev pub IsPaid : ℕ → ℕ → Step → List Step → Type 0
-IsPaid loads pairs top frames = loads + 26 * suc (length frames) ≤ 26 * (9 * MAX_BYTES) + 59 * pairs + 26 * ((2 - top.at) + spare_of frames)

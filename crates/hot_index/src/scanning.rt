@@ -165,7 +165,8 @@ fn start_at<G: Gate>(
     requires nodes { 0 < length way.now }
     requires way { (m v : ℕ) × IsWayOf table.now.layout seat.old.known m from.now way.now (FoundLeaf _number v mismatch) }
     ensures reads { (n : ℕ) × (n ≤ HEAD_WORDS) × Reads table.now G.becomes n (seat.old, gate.old) (seat.new, gate.new) }
-    ensures start { (m v : ℕ) → IsWayOf table.now.layout seat.old.known m from.now way.now (FoundLeaf _number v mismatch) → IsStart seat.new.known m from.now way.now _number result }
+    ensures start { (m v : ℕ) → IsWayOf table.now.layout seat.old.known m from.now way.now (FoundLeaf _number v mismatch) →
+        IsStart seat.new.known m from.now way.now _number result }
 {
     let lowest = way.len() - 1;
     let Some(position) = mismatch else {

@@ -11,7 +11,7 @@ use Rattle.compound_node.specs.Nodes.{NodeView, piece, IsEntry, IsLawful, IsBuil
 use Rattle.compound_node.specs.declared.entries.Entry.{Entry}
 use Rattle.compound_node.specs.declared.entries.Entry.TheVariants.{Leaf, Node}
 use Rattle.tries.specs.Affected.{affected, IsPart, page_grown, page_forked}
-use Rattle.tries.specs.Changes.{put, IsPathBelow}
+use Rattle.tries.proofs.Changes.{put, IsPathBelow}
 use Rattle.tries.specs.Content.{Item, first}
 use Rattle.tries.specs.Keys.{bit}
 use Rattle.tries.specs.Place.{spot}

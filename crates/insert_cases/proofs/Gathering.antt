@@ -11,9 +11,9 @@ use Rattle.key_bits.specs.Key.{IsKey}
 use Rattle.hot_model.specs.declared.Scan.{Scan}
 use Rattle.hot_model.specs.Maps.{Map, key_order}
 use Rattle.hot_model.specs.Scans.{is_within, range_of, IsScanOf}
-use Rattle.tries.specs.Content.{Item, pairs, Each, IsRising, IsIn}
+use Rattle.tries.specs.Content.{Item, pairs, Each, IsIn}
 use Rattle.tries.specs.Keys.{IsBefore}
-use Rattle.tries.proofs.Contents.{each_in, in_append_left, in_append_right}
+use Rattle.tries.proofs.Contents.{each_in, in_append_left, in_append_right, IsRising}
 use Rattle.tries.proofs.Maps.{AreKeys, before_less}
 use Rattle.insert_cases.specs.declared.plain.scan.Range.{Range}
 use Rattle.insert_cases.specs.declared.plain.scan.Progress.{Progress}

@@ -12,7 +12,7 @@ use Rattle.compound_node.specs.declared.entries.Entry.TheVariants.{Leaf}
 use Rattle.hot_model.specs.Maps.{Map, with_value, value_at, step_where, reply_of, map_after}
 use Rattle.hot_model.specs.declared.Call.TheVariants.{Insert, Upsert}
 use Rattle.hot_model.specs.declared.Reply.TheVariants.{Inserted, Exists, New, Was}
-use Rattle.tries.specs.Changes.{put, IsExchanged}
+use Rattle.tries.proofs.Changes.{put, IsExchanged}
 use Rattle.tries.specs.Content.{Item, items, pairs, item}
 use Rattle.tries.specs.Keys.{Key, bit}
 use Rattle.tries.specs.Tree.{Tree, leaf, node, fork, page, Has, IsTrie, IsBuilt, IsFit, IsFork, Within, here, inside, zero_side, one_side}

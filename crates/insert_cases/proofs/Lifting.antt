@@ -6,7 +6,8 @@ use Rattle.key_bits.specs.declared.TheConstants.{MAX_BYTES}
 use Rattle.compound_node.specs.Nodes.{NodeView, piece}
 use Rattle.compound_node.specs.declared.entries.Entry.TheVariants.{Leaf}
 use Rattle.tries.specs.Affected.{affected, page_grown}
-use Rattle.tries.specs.Changes.{put, IsFlat, IsAdded}
+use Rattle.tries.specs.Changes.{IsAdded}
+use Rattle.tries.proofs.Changes.{put, IsFlat}
 use Rattle.tries.specs.Content.{Item}
 use Rattle.tries.specs.Keys.{Key, bit}
 use Rattle.tries.specs.Place.{spot}

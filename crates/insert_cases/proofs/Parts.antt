@@ -9,10 +9,10 @@ use Rattle.compound_node.specs.declared.entries.Entry.{Entry}
 use Rattle.std.specs.declared.cmp.Ordering.TheVariants.{Greater}
 use Rattle.key_bits.specs.Key.{IsKey}
 use Rattle.hot_model.specs.Maps.{key_order}
-use Rattle.tries.specs.Content.{Item, items, IsRising}
+use Rattle.tries.specs.Content.{Item, items}
 use Rattle.tries.specs.Keys.{Key}
 use Rattle.tries.specs.Tree.{Page, Tree, leaf, node, fork, page, IsTrie, Within, here, zero_side, one_side}
-use Rattle.tries.proofs.Contents.{content_rises}
+use Rattle.tries.proofs.Contents.{content_rises, IsRising}
 use Rattle.tries.proofs.Maps.{AreKeys, are_keys}
 use Rattle.insert_cases.specs.Gathered.{parts, leaves_of, items_from, IsFloor}
 use Rattle.insert_cases.proofs.Gathering.{each_left, each_right}

@@ -6,10 +6,12 @@ use Rattle.pieces.specs.Piece.{Place, Fork, places, size}
 use Rattle.compound_node.specs.Nodes.{NodeView, piece, greatest_height, head_of}
 use Rattle.compound_node.specs.declared.entries.Entry.{Entry}
 use Rattle.tries.specs.Affected.{affected}
-use Rattle.tries.specs.Changes.{put, IsFlat, IsPathBelow, IsAdded}
+use Rattle.tries.specs.Changes.{IsAdded}
+use Rattle.tries.proofs.Changes.{put, IsFlat, IsPathBelow}
 use Rattle.tries.specs.Content.{Item}
 use Rattle.tries.specs.Keys.{Key, bit}
-use Rattle.tries.specs.Place.{bare, spot}
+use Rattle.tries.specs.Place.{spot}
+use Rattle.tries.proofs.Places.{bare}
 use Rattle.tries.specs.Search.{child}
 use Rattle.tries.specs.Tree.{Page, Fixed, Tree, leaf, node, fork, page, IsTrie, IsBuilt, IsLower, first_position, Within, here, inside, zero_side, one_side, IsTip}
 use Rattle.tries.proofs.Spots.{path_spot, grafted_spot}

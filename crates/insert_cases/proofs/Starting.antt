@@ -6,7 +6,7 @@ use Rattle.key_bits.specs.Bits.{IsFirstDifference}
 use Rattle.key_bits.specs.Key.{IsKey}
 use Rattle.hot_model.specs.Maps.{Map}
 use Rattle.pieces.specs.Piece.{size}
-use Rattle.tries.specs.Content.{Item, items, IsRising}
+use Rattle.tries.specs.Content.{Item, items}
 use Rattle.tries.specs.Keys.{Key, bit}
 use Rattle.tries.specs.Place.{spot}
 use Rattle.tries.specs.Search.{child, found}
@@ -19,7 +19,7 @@ use Rattle.insert_cases.specs.declared.plain.scan.Progress.TheVariants.{On}
 use Rattle.insert_cases.specs.Gathered.{parts, leaves_of, items_from, IsBeyond, IsGathered, IsMismatch}
 use Rattle.insert_cases.proofs.Gathering.{gathered_end, gathered_skip, gathered_then}
 use Rattle.insert_cases.proofs.Parts.{length-parts, items_split, leaves_around, leaves_none, from_rises, from_keys}
-use Rattle.tries.proofs.Contents.{found_child}
+use Rattle.tries.proofs.Contents.{found_child, IsRising}
 
 -- the part at the place to which a search leads
 pub part_child : (k : Key) (b : Tree) (d : Tree) → get_or (parts b) (spot k (page b)) d ≡ child k b

@@ -13,8 +13,10 @@ pub record IsLevel (way : List Step) (p level : ℕ) : Type 0 where
 -- the node at the level, or the next one with all its entries
 pub record IsChosen (way : List Step) (level first last : ℕ) (c : Choice) : Type 0 where
   pub several : first < last → (s : Step) → slice_get way level ≡ Some s → c ≡ record { level = level; first = first; last = last; case = case_of s.height s.count false }
-  pub next : last ≤ first → (s : Step) → slice_get way (level + 1) ≡ Some s → c ≡ record { level = level + 1; first = 0; last = s.count - 1; case = case_of s.height s.count false }
-  pub leaf : last ≤ first → length way ≤ level + 1 → (s : Step) → slice_get way level ≡ Some s → c ≡ record { level = level; first = first; last = last; case = case_of s.height s.count true }
+  pub next : last ≤ first → (s : Step) → slice_get way (level + 1) ≡ Some s →
+      c ≡ record { level = level + 1; first = 0; last = s.count - 1; case = case_of s.height s.count false }
+  pub leaf : last ≤ first → length way ≤ level + 1 → (s : Step) → slice_get way level ≡ Some s →
+      c ≡ record { level = level; first = first; last = last; case = case_of s.height s.count true }
 
 -- The end of the chain of pull ups that begins at a full node: each node below the end is full, and its parent is one
 -- higher; the end is topmost, or has room, or its parent is higher still.

@@ -43,9 +43,21 @@ impl Model for PlainTrie {
 
     ghost Value = { PlainView };
 
-    ghost view = { λ a. record { nodes = a.nodes.items; leaves = a.leaves.items; top = a.top; node_capacity = vec_capacity a.nodes; leaf_capacity = vec_capacity a.leaves } };
+    ghost view = { λ a. record {
+      nodes = a.nodes.items;
+      leaves = a.leaves.items;
+      top = a.top;
+      node_capacity = vec_capacity a.nodes;
+      leaf_capacity = vec_capacity a.leaves;
+    } };
 
-    ghost invariant = { λ a. IsPlain (record { nodes = a.nodes.items; leaves = a.leaves.items; top = a.top; node_capacity = vec_capacity a.nodes; leaf_capacity = vec_capacity a.leaves }) };
+    ghost invariant = { λ a. IsPlain (record {
+      nodes = a.nodes.items;
+      leaves = a.leaves.items;
+      top = a.top;
+      node_capacity = vec_capacity a.nodes;
+      leaf_capacity = vec_capacity a.leaves;
+    }) };
 }
 
 impl PlainTrie {

@@ -158,7 +158,8 @@ fn forked_at(
     zero: Entry,
     one: Entry,
 ) -> Risen
-    requires place { (old : NodeView) × (slice_get nodes.old.items number ≡ Some old) × (old.height ≡ height) × (at < size (piece old)) × IsAbovePath position at (piece old) }
+    requires place { (old : NodeView) × (slice_get nodes.old.items number ≡ Some old) × (old.height ≡ height) ×
+        (at < size (piece old)) × IsAbovePath position at (piece old) }
     requires position { position < 65535 }
     requires zero { IsEntry zero }
     requires one { IsEntry one }

@@ -7,7 +7,7 @@ use Rattle.pieces.specs.Piece.{Place}
 use Rattle.moments.specs.Heap.{NodeWords, Heap, IsShown}
 use Rattle.moments.specs.State.{IsRecord, Links, Out, IsLawful}
 use Rattle.moments.specs.declared.Rec.TheVariants.{Node as a_node}
-use Rattle.tries.specs.Changes.{put}
+use Rattle.tries.proofs.Changes.{put}
 use Rattle.tries.proofs.Tries.{has_first, has_within}
 use Rattle.moments.proofs.Heaps.{shown_within, determined}
 use Rattle.moments.proofs.Publish.{links_within}

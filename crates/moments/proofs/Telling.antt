@@ -9,8 +9,8 @@ use Rattle.hot_model.specs.Maps.{value_at, IsRising as IsInOrder}
 use Rattle.hot_model.specs.Fronts.{map_of, changed, changed_by, FitsKind, Fits}
 use Rattle.compound_node.specs.declared.entries.Entry.{Entry}
 use Rattle.tries.specs.Tree.{Tree, IsTrie}
-use Rattle.tries.specs.Content.{Item, pairs, IsRising}
-use Rattle.tries.proofs.Contents.{content_rises}
+use Rattle.tries.specs.Content.{Item, pairs}
+use Rattle.tries.proofs.Contents.{content_rises, IsRising}
 use Rattle.tries.proofs.Maps.{AreKeys, are_keys, pairs_rise, more_inserts, more_was_absent, more_removes, more_was_held, exchange_inserts, exchange_was_held}
 use Rattle.moments.specs.Heap.{Heap}
 use Rattle.moments.specs.State.{IsLawful}

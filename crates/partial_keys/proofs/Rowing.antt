@@ -10,11 +10,11 @@ use Rattle.partial_keys.proofs.Codes.{code-join, code-or}
 use Rattle.partial_keys.specs.Rows.{row_of, rows_of}
 use Rattle.partial_keys.specs.Spread.{spread_row, forked_rows}
 use Rattle.pieces.proofs.Edits.{edited-map}
-use Rattle.pieces.proofs.Growing.{affected_fits, paths-grown}
+use Rattle.pieces.proofs.Growing.{affected_fits, paths-grown, forked_paths}
 use Rattle.pieces.proofs.Paths.{NoneHas, length-paths}
 use Rattle.pieces.proofs.Positions.{has_after, has-with_position}
 use Rattle.pieces.proofs.Tests.{map_same}
-use Rattle.pieces.specs.Growth.{affected_first, affected_count, grown, edited, forked_paths}
+use Rattle.pieces.specs.Growth.{affected_first, affected_count, grown, edited}
 use Rattle.pieces.specs.Piece.{Piece, size, paths, RisesFrom}
 use Rattle.pieces.specs.Positions.{has, Ascends, with_position}
 

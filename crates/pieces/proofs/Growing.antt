@@ -1,13 +1,18 @@
 -- What a new fork does to paths, places and positions.
-use Rattle.std.proofs.Common.{Bool, List, [], ap, arith, cond, drop, eqb, false, length, map, nat_lt, refl, sym, take, true, ℕ, ⊎_elim, ◌++◌, ◌+◌, ◌-◌, ◌<◌, ◌||◌, ◌∙◌, ◌∷◌, ◌≡◌, ◌≢◌, ◌≤◌}
+use Rattle.std.proofs.Common.{Bool, List, [], ap, arith, cond, drop, eqb, false, length, map, nat_lt, refl, slice_index_or, sym, take, true, ℕ, ⊎_elim, ◌++◌, ◌+◌, ◌-◌, ◌<◌, ◌||◌, ◌∙◌, ◌∷◌, ◌≡◌, ◌≢◌, ◌≤◌}
 use Rattle.std.proofs.lemmas.Bool.{cases_Bool, false≢true, le-ltb, ltb-false, ltb-true}
 use Rattle.std.proofs.lemmas.List.{length-drop, length-take-le, map-append}
 use Rattle.std.proofs.lemmas.Simd.{map-map}
 use Rattle.pieces.proofs.Edits.{edited-left, edited-right, edited-map, edited_whole}
 use Rattle.pieces.proofs.Paths.{size_pos, length-places, length-paths, RisesFrom-weaker, first_path}
-use Rattle.pieces.specs.Growth.{affected_first, affected_count, IsFresh, forked, grown, edited, forked_paths, forked_places}
+use Rattle.pieces.specs.Growth.{affected_first, affected_count, IsFresh, forked, grown, edited, forked_places}
 use Rattle.pieces.specs.Piece.{Piece, Place, Fork, places, size, paths, RisesFrom, UsesOnly, uses}
 use Rattle.pieces.specs.Positions.{has, with_position}
+
+-- what becomes of the affected paths
+abbrev pub forked_paths : ℕ → Bool → List (List ℕ) → List (List ℕ)
+forked_paths position bit paths =
+    let first = slice_index_or paths 0 [] in cond bit (paths ++ with_position position first ∷ []) (first ∷ map (with_position position) paths)
 
 -- a fork before the position does not stand in the way
 forked_paths-map : (position : ℕ) (bit : Bool) (p : ℕ) (zs : List (List ℕ)) → nat_lt p position ≡ true → 0 < length zs →

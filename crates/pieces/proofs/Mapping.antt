@@ -1,7 +1,12 @@
 -- The same forks with other things at the places.
 use Rattle.std.proofs.Common.{Bool, List, map, refl, ℕ, ◌+◌, ◌≡◌}
 use Rattle.std.proofs.lemmas.List.{map-append}
-use Rattle.pieces.specs.Piece.{Piece, Place, Fork, places, size, paths, leads_to, RisesFrom, UsesOnly, uses, map_places}
+use Rattle.pieces.specs.Piece.{Piece, Place, Fork, places, size, paths, leads_to, RisesFrom, UsesOnly, uses}
+
+-- the same forks, with other things at the places
+abbrev pub map_places : {A B : Type 0} → (A → B) → Piece A → Piece B
+map_places f (Place x) = Place (f x)
+map_places f (Fork p a b) = Fork p (map_places f a) (map_places f b)
 
 module _ {A B : Type 0} (f : A → B) where
   pub places-map_places : (P : Piece A) → places (map_places f P) ≡ map f (places P)

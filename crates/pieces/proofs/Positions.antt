@@ -1,9 +1,15 @@
 -- Positions in rising lists.
-use Rattle.std.proofs.Common.{Bool, List, [], ap, arith, cond, drop, eqb, false, get_or, length, map, nat_lt, refl, replicate, suc, sym, take, true, zero, ℕ, ⊎_elim, ◌++◌, ◌+◌, ◌<◌, ◌||◌, ◌∙◌, ◌∷◌, ◌≡◌, ◌≢◌, ◌≤◌}
+use Rattle.std.proofs.Common.{Bool, List, [], ap, arith, cond, drop, eqb, false, get_or, length, map, nat_lt, refl, replicate, slice_index, suc, sym, take, true, zero, ℕ, ⊎_elim, ◌++◌, ◌+◌, ◌<◌, ◌||◌, ◌∙◌, ◌∷◌, ◌≡◌, ◌≢◌, ◌≤◌}
 use Rattle.std.proofs.lemmas.Bool.{cases_Bool, eq-eqb, eqb-true, false_from_ne_true, false≢true, le-ltb, lt-ltb, ltb-false, ltb-true, ne_eqb, or_cases, or_left, or_parts, or_right}
 use Rattle.pieces.proofs.Tests.{same_bools}
 use Rattle.pieces.specs.Kept.{kept}
-use Rattle.pieces.specs.Positions.{has, Ascends, AllBelow, front_below, with_position, IsPlaceOf}
+use Rattle.pieces.specs.Positions.{has, Ascends, AllBelow, front_below, with_position}
+
+-- j of the positions are below this one, and the next is not
+pub record IsPlaceOf (columns : List ℕ) (position j : ℕ) : Type 0 where
+  pub in_range : j ≤ length columns
+  pub below : (k : ℕ) → k < j → slice_index columns k < position
+  pub above : j < length columns → position ≤ slice_index columns j
 
 pub has-bigger : (xs ys : List ℕ) (p c : ℕ) → has (xs ++ ys) c ≡ true → has (xs ++ p ∷ ys) c ≡ true
 has-bigger [] ys p c h = or_right (eqb p c) (has ys c) h

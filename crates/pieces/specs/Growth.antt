@@ -1,8 +1,7 @@
 -- A new fork in a piece.
 use Rattle.std.specs.Bool.{MatchBool}
-use Rattle.std.specs.Prelude.{Bool, List, [], cond, drop, map, nat_lt, slice_index_or, take, ℕ, ◌++◌, ◌+◌, ◌-◌, ◌∷◌, ◌≡◌, ◌≢◌}
-use Rattle.pieces.specs.Piece.{Piece, Place, Fork, size, paths}
-use Rattle.pieces.specs.Positions.{with_position}
+use Rattle.std.specs.Prelude.{Bool, List, [], cond, drop, nat_lt, take, ℕ, ◌++◌, ◌+◌, ◌-◌, ◌∷◌, ◌≡◌, ◌≢◌}
+use Rattle.pieces.specs.Piece.{Piece, Place, Fork, size}
 
 module _ {A : Type 0} where
   -- The affected part for a position: go down towards place i through the forks before the position, and stop.
@@ -36,16 +35,13 @@ module _ {A : Type 0} where
   abbrev pub grown : ℕ → Bool → A → ℕ → Piece A → Piece A
   grown position bit x i (Place y) = forked position bit x (Place y)
   grown position bit x i (Fork p a b) =
-      cond (nat_lt p position) (cond (nat_lt i (size a)) (Fork p (grown position bit x i a) b) (Fork p a (grown position bit x (i - size a) b))) (forked position bit x (Fork p a b))
+      cond (nat_lt p position) (cond (nat_lt i (size a)) (Fork p (grown position bit x i a) b) (Fork p a (grown position bit x (i - size a) b)))
+      (forked position bit x (Fork p a b))
 
 -- xs with the n elements from f on replaced by what h makes of them
 abbrev pub edited : {X : Type 0} → ℕ → ℕ → (List X → List X) → List X → List X
 edited f n h xs = take f xs ++ (h (take n (drop f xs)) ++ drop (f + n) xs)
 
--- what becomes of the affected paths, and of the affected places
-abbrev pub forked_paths : ℕ → Bool → List (List ℕ) → List (List ℕ)
-forked_paths position bit paths =
-    let first = slice_index_or paths 0 [] in cond bit (paths ++ with_position position first ∷ []) (first ∷ map (with_position position) paths)
-
+-- what becomes of the affected places
 abbrev pub forked_places : {A : Type 0} → Bool → A → List A → List A
 forked_places bit x xs = cond bit (xs ++ x ∷ []) (x ∷ xs)

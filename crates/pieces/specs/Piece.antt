@@ -45,8 +45,3 @@ module _ {A : Type 0} where
   -- of these columns the ones that the piece uses
   abbrev pub used_columns : Piece A → List ℕ → List ℕ
   used_columns piece columns = kept (map (uses piece) columns) columns
-
--- the same forks, with other things at the places
-abbrev pub map_places : {A B : Type 0} → (A → B) → Piece A → Piece B
-map_places f (Place x) = Place (f x)
-map_places f (Fork p a b) = Fork p (map_places f a) (map_places f b)

@@ -1,5 +1,5 @@
 -- Lists of positions: tests on them, their order, and where one stands or is put.
-use Rattle.std.specs.Prelude.{Bool, List, [], cond, eqb, false, length, nat_lt, slice_index, suc, true, ℕ, ◌&&◌, ◌+◌, ◌<◌, ◌||◌, ◌∷◌, ◌≤◌}
+use Rattle.std.specs.Prelude.{Bool, List, [], cond, eqb, false, nat_lt, suc, true, ℕ, ◌&&◌, ◌+◌, ◌<◌, ◌||◌, ◌∷◌}
 
 -- whether q is among the positions
 abbrev pub has : List ℕ → ℕ → Bool
@@ -33,9 +33,3 @@ front_below m (n ∷ ns) = cond (nat_lt n m) (suc (front_below m ns)) 0
 abbrev pub with_position : ℕ → List ℕ → List ℕ
 with_position p [] = p ∷ []
 with_position p (q ∷ qs) = cond (nat_lt q p) (q ∷ with_position p qs) (p ∷ q ∷ qs)
-
--- j of the positions are below this one, and the next is not
-pub record IsPlaceOf (columns : List ℕ) (position j : ℕ) : Type 0 where
-  pub in_range : j ≤ length columns
-  pub below : (k : ℕ) → k < j → slice_index columns k < position
-  pub above : j < length columns → position ≤ slice_index columns j

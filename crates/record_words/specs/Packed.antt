@@ -13,7 +13,8 @@ position_at columns i = slice_index_or columns i 65535
 
 -- four positions, from the lowest bits up
 unfoldable pub position_word : List ℕ → ℕ → ℕ
-position_word columns j = position_at columns (4 * j) + 2 ^ 16 * position_at columns (4 * j + 1) + 2 ^ 32 * position_at columns (4 * j + 2) + 2 ^ 48 * position_at columns (4 * j + 3)
+position_word columns j =
+    position_at columns (4 * j) + 2 ^ 16 * position_at columns (4 * j + 1) + 2 ^ 32 * position_at columns (4 * j + 2) + 2 ^ 48 * position_at columns (4 * j + 3)
 
 -- the sparse partial key of an entry, and past the last one the greatest number of 32 bits
 abbrev pub row_at : List ℕ → ℕ → ℕ

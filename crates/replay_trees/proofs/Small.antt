@@ -10,7 +10,7 @@ use Rattle.compound_node.specs.Nodes.{NodeView, head_of}
 use Rattle.compound_node.proofs.Lawful.{same_count}
 use Rattle.record_words.specs.Leaf.{HasLeafWords, key_word, leaf_words}
 use Rattle.record_words.specs.Node.{HasNodeWords, entry_words, head_words, node_words}
-use Rattle.record_words.specs.Packed.{position_at, position_word, row_at, row_word}
+use Rattle.record_words.specs.Packed.{position_word, row_word}
 use Rattle.record_words.proofs.Entries.{length-entry_words, entry_words_at}
 use Rattle.record_words.proofs.Fixing.{AreFixed, fixed_words_parts}
 use Rattle.record_words.proofs.Lawful.{column-lt, row-lt}

@@ -57,7 +57,8 @@ fn same_front(before: &[Item], after: &[Item]) -> usize
     ensures within { result ≤ length before.now }
     ensures within_both { result ≤ length after.now }
     ensures same { (k : ℕ) → k < result → slice_index (numbers (map read_item before.now)) k ≡ slice_index (numbers (map read_item after.now)) k }
-    ensures apart { result < length before.now → result < length after.now → slice_index (numbers (map read_item before.now)) result ≡ slice_index (numbers (map read_item after.now)) result → ⊥ }
+    ensures apart { result < length before.now → result < length after.now →
+        slice_index (numbers (map read_item before.now)) result ≡ slice_index (numbers (map read_item after.now)) result → ⊥ }
 {
     let common = before.len().min(after.len());
     for i in 0..common {

@@ -6,9 +6,9 @@ use Rattle.hot_model.specs.declared.Change.{Change}
 use Rattle.hot_model.specs.declared.Kind.{Kind}
 use Rattle.hot_model.specs.declared.Kind.TheVariants.{Added, Replaced, Removed}
 use Rattle.tries.specs.Tree.{Tree, leaf, node, fork, IsTrie, IsBuilt}
-use Rattle.tries.specs.Content.{Item, items, Each, IsRising, IsIn, IsMore, added, behind, IsExchange, exchanged, past_one}
+use Rattle.tries.specs.Content.{Item, items, Each, IsIn, IsMore, added, behind, IsExchange, exchanged, past_one}
 use Rattle.tries.specs.Keys.{IsBefore}
-use Rattle.tries.proofs.Contents.{content_rises, before_irrefl, each_append, each_in}
+use Rattle.tries.proofs.Contents.{content_rises, before_irrefl, each_append, each_in, IsRising}
 use Rattle.tries.proofs.Maps.{AreKeys, are_keys, before_less, before_greater, same_order}
 use Rattle.moments.specs.Heap.{Heap, LeafWords, IsShown}
 use Rattle.moments.specs.State.{IsTop}

@@ -4,8 +4,8 @@ use Rattle.compound_node.specs.declared.entries.Entry.{Entry}
 use Rattle.compound_node.specs.declared.entries.Entry.TheVariants.{Leaf, Node}
 use Rattle.compound_node.specs.Nodes.{NodeView, HeadView, IsLawful as IsLawfulNode, head_of, leaves, piece}
 use Rattle.compound_node.proofs.Lawful.{same_count}
-use Rattle.pieces.specs.Piece.{Place, Fork, places, uses, map_places}
-use Rattle.pieces.proofs.Mapping.{places-map_places, paths-map_places, uses-map_places, UsesOnly-map_places, RisesFrom-map_places}
+use Rattle.pieces.specs.Piece.{Place, Fork, places, uses}
+use Rattle.pieces.proofs.Mapping.{places-map_places, paths-map_places, uses-map_places, UsesOnly-map_places, RisesFrom-map_places, map_places}
 use Rattle.pieces.proofs.Tests.{all_weaker}
 use Rattle.partial_keys.specs.Rows.{row_of}
 use Rattle.partial_keys.specs.Shows.{Shows}

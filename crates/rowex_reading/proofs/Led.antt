@@ -9,11 +9,8 @@ use Rattle.hot_model.specs.declared.Change.{Change}
 use Rattle.hot_model.specs.declared.Note.{Note}
 use Rattle.hot_model.specs.Fronts.{BeginsWith}
 use Rattle.pieces.specs.Piece.{size}
-use Rattle.pieces.proofs.Paths.{size_pos}
 use Rattle.record_words.specs.declared.layout.Layout.{Layout}
-use Rattle.tries.specs.Tree.{Page, page}
-use Rattle.tries.specs.Place.{shape}
-use Rattle.moments.specs.State.{Past}
+use Rattle.tries.specs.Tree.{Page}
 use Rattle.rowex_core.specs.declared.event.Act.{Act}
 use Rattle.rowex_core.specs.declared.event.Act.TheVariants.{LoadRef, LoadFixed}
 use Rattle.rowex_core.specs.declared.event.Event.{Event}
@@ -27,16 +24,18 @@ use Rattle.rowex_table.specs.Seats.{TableView, SeatView, IsSame, IsSeatOf}
 use Rattle.rowex_table.proofs.Running.{runs_append, runs_one, runs_same, same_more}
 use Rattle.rowex_walks.specs.Scan.{IsSeen, IsPlaced, IsShaped}
 use Rattle.rowex_walks.proofs.Loads.{placed_seen, rooted_seen}
-use Rattle.rowex_walks.proofs.Scans.{node_of}
 use Rattle.rowex_reading.specs.Possible.{IsPossible}
 use Rattle.rowex_reading.specs.Reads.{IsBelowRoot, IsReader, Reads, ReadsRoot, Looks}
-use Rattle.rowex_reading.specs.Seen.{seen, Sure, since, IsAtRoot, IsLedTo, HasRoom, HasPlace, HasShape}
+use Rattle.rowex_reading.specs.Seen.{seen, Sure, since, IsAtRoot, IsLedTo, HasPlace}
 use Rattle.rowex_table.specs.Made.{IsLater}
 use Rattle.rowex_reading.proofs.Later.{event_later, event_possible}
 use Rattle.rowex_reading.proofs.Loading.{pinned_by}
-use Rattle.rowex_reading.proofs.Placing.{to_stood}
 use Rattle.rowex_reading.proofs.Rooting.{root_since}
 use Rattle.rowex_reading.proofs.Seeing.{later_none, later_trans, since_later, sure_later, seen_stable, shaped_stable}
+
+-- it was led to the node, and has read its forks
+abbrev pub HasShape : Known → ℕ → ℕ → ℕ → Page → Type 0
+HasShape k m n h x = IsLedTo k m (Node n h) × Sure k (λ s. IsShaped s m n x)
 
 -- One load
 
@@ -199,12 +198,3 @@ placed_led {k} {m} r j e pinned at = (pinned, λ c lawful known. placed_seen (se
 
 pub shape_place : {k : Known} {m n h i : ℕ} {x : Page} → HasShape k m n h x → i < size x → HasPlace k m n h i
 shape_place {x = x} (led, shaped) low = (led, λ c lawful known. (x, shaped c lawful known, low))
-
--- each node has a first place
-room_first : (s : Past) (m n h : ℕ) → IsSeen s m (Node n h) → HasRoom s m n 0
-room_first s m n h (o, u, lo, hi, st, pg) =
-    let v = node_of n h u pg in
-    (shape (page v.1), (v.1, to_stood s m n o u v.0 v.1 v.2 lo hi st, refl), size_pos (shape (page v.1)))
-
-pub first_place : {k : Known} {m n h : ℕ} → IsLedTo k m (Node n h) → HasPlace k m n h 0
-first_place {k} {m} {n} {h} led = (led, λ c lawful known. room_first (seen c k) m n h (led.1 c lawful known))

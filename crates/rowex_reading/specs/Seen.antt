@@ -47,7 +47,3 @@ HasRoom s m n i = (x : Page) × IsShaped s m n x × (i < size x)
 -- it was led to the node, which has an entry at this place
 abbrev pub HasPlace : Known → ℕ → ℕ → ℕ → ℕ → Type 0
 HasPlace k m n h i = IsLedTo k m (Node n h) × Sure k (λ s. HasRoom s m n i)
-
--- it was led to the node, and has read its forks
-abbrev pub HasShape : Known → ℕ → ℕ → ℕ → Page → Type 0
-HasShape k m n h x = IsLedTo k m (Node n h) × Sure k (λ s. IsShaped s m n x)

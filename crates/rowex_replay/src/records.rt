@@ -27,7 +27,13 @@ impl Model for Records {
 
     ghost Value = { RecordsView };
 
-    ghost view = { λ a. record { nodes = a.nodes.items; leaves = a.leaves.items; node_fates = a.node_fates.items; leaf_fates = a.leaf_fates.items; locks = a.locks.items } };
+    ghost view = { λ a. record {
+      nodes = a.nodes.items;
+      leaves = a.leaves.items;
+      node_fates = a.node_fates.items;
+      leaf_fates = a.leaf_fates.items;
+      locks = a.locks.items;
+    } };
 }
 
 impl Records {

@@ -32,7 +32,15 @@ impl Model for State {
 
     ghost Value = { StateView };
 
-    ghost view = { λ a. record { records = a.records; passes = a.passes.items; anchor = a.anchor; root = a.root; epoch = a.epoch; changes = a.changes.items; items = a.items.items } };
+    ghost view = { λ a. record {
+      records = a.records;
+      passes = a.passes.items;
+      anchor = a.anchor;
+      root = a.root;
+      epoch = a.epoch;
+      changes = a.changes.items;
+      items = a.items.items;
+    } };
 }
 
 impl State {

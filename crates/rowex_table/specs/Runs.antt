@@ -41,7 +41,8 @@ Ends {G = G} table becomes acts act said a b = (m : SeatView × G) × Runs table
 
 -- The seat stays one seat; its pass makes these steps, and no others, and the gate is told each. Of what the pass knew before,
 -- `changed` takes what they may change from what it knows after; the rest stays, but that they are counted.
-pub record Does {G : Type 0} (table : TableView) (becomes : G → Event → G → Type 0) (changed : Known → Known → Known) (acts : List Act) (a b : SeatView × G) : Type 0 where
+pub record Does {G : Type 0} (table : TableView) (becomes : G → Event → G → Type 0) (changed : Known → Known → Known)
+    (acts : List Act) (a b : SeatView × G) : Type 0 where
   pub seat : IsSame a.0 b.0
   pub steps : Runs table becomes acts a b
   pub rest : b.0.known ≡ record (changed a.0.known b.0.known) { steps = a.0.known.steps + length acts }

@@ -8,7 +8,8 @@ use Rattle.moments.specs.State.{IsLawful}
 use Rattle.moments.specs.Core.{Core, view}
 use Rattle.moments.specs.Steps.{IsMomentPublish}
 use Rattle.tries.specs.Content.{Item}
-use Rattle.tries.specs.Changes.{put, IsPathBelow, IsFlat, IsAdded, IsExchanged}
+use Rattle.tries.specs.Changes.{IsAdded}
+use Rattle.tries.proofs.Changes.{put, IsPathBelow, IsFlat, IsExchanged}
 use Rattle.rowex_walks.specs.Writer.{added_change, replaced_change, IsPageStored}
 use Rattle.tries.proofs.Tries.{trie_within, built_within, within_trans, rises}
 use Rattle.tries.proofs.Adding.{added_put, exchanged_put}

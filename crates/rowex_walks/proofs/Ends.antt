@@ -2,7 +2,7 @@
 use Rattle.std.proofs.Common.{◌≡◌, ◌⊎◌, inl, inr, ℕ, ◌+◌, ◌*◌, ◌<◌, ◌≤◌, List, [], ◌∷◌, length, refl, ap, sym, ◌∙◌, subst, arith, Some, None, Option, le_refl}
 use Rattle.key_bits.specs.declared.TheConstants.{MAX_BYTES}
 use Rattle.tries.specs.Keys.{IsAtMost, Key, IsBefore}
-use Rattle.tries.specs.Tree.{Fixed, Tree, leaf, node, fork, page, IsBuilt, IsLower}
+use Rattle.tries.specs.Tree.{Tree, leaf, node, fork, page, IsBuilt, IsLower}
 use Rattle.compound_node.specs.declared.entries.Entry.{Entry}
 use Rattle.compound_node.specs.declared.entries.Entry.TheVariants.{Leaf, Node}
 use Rattle.pieces.specs.Piece.{Place, size}
@@ -10,12 +10,17 @@ use Rattle.moments.specs.State.{Past, State, IsLawful, IsTop, IsSameRecord, IsSt
 use Rattle.moments.specs.declared.Rec.TheVariants.{Node as a_node}
 use Rattle.compound_node.specs.Nodes.{height_of}
 use Rattle.tries.specs.Place.{entry_at}
-use Rattle.rowex_walks.specs.Scan.{IsRooted, IsPlaced, IsShaped, IsRead, IsSeen, IsBlank, Frame, IsStack, Range, IsInRange, IsComplete, IsCut, top_height}
+use Rattle.rowex_walks.specs.Scan.{IsRooted, IsPlaced, IsShaped, IsRead, IsSeen, IsBlank, Frame, IsStack, Range, IsInRange, IsComplete, IsCut}
 use Rattle.tries.proofs.Tries.{built_within}
 use Rattle.rowex_walks.proofs.Scans.{shaped, node_of, on_root, on_leaf, read_held, never_before}
 use Rattle.rowex_walks.proofs.Walk.{stack_shape}
 use Rattle.tries.proofs.Places.{shape_tips}
 use Rattle.rowex_walks.proofs.Loads.{lower_at, page_at, rooted_seen, placed_seen, fixed_height}
+
+-- The height of the lowest frame: that of the root's node.
+abbrev pub top_height : ℕ → List Frame → ℕ
+top_height h [] = h
+top_height h (f ∷ fs) = top_height f.height fs
 
 pub loads_blank : (s : State) → IsLawful s → (m : ℕ) → m ≤ s.now → s.root ≡ None → IsBlank s.past m
 loads_blank s law m lo h = (s.now, lo, le_refl s.now, go s.root (s.moment s.now) h law.top)

@@ -11,13 +11,12 @@ use Rattle.moments.specs.declared.Rec.TheVariants.{Node as a_node}
 use Rattle.moments.specs.Core.{Ready, Core, view}
 use Rattle.moments.specs.Steps.{IsMomentPublish}
 use Rattle.tries.specs.Content.{Item}
-use Rattle.tries.specs.Changes.{put, IsPathBelow, IsFlat}
-use Rattle.tries.specs.Place.{bare}
+use Rattle.tries.proofs.Changes.{put, IsPathBelow, IsFlat}
 use Rattle.rowex_walks.specs.Writer.{added_change, IsPageStored, IsNewLeaf, IsFoundBelow}
 use Rattle.tries.specs.Affected.{affected, IsPart}
 use Rattle.tries.proofs.Tries.{trie_within, built_within, within_trans}
 use Rattle.moments.proofs.Heaps.{shown_within}
-use Rattle.tries.proofs.Places.{grown}
+use Rattle.tries.proofs.Places.{grown, bare}
 use Rattle.tries.proofs.Adding.{added_put, added_bare, added_here}
 use Rattle.rowex_walks.proofs.Now.{built_now, shown_now, trie_now}
 use Rattle.rowex_walks.proofs.Hands.{hand_stay, hand_around, hand_open, hand_put, hand_grown, added_around, added_open}

@@ -8,7 +8,8 @@ use Rattle.moments.specs.declared.Rec.{Rec}
 use Rattle.moments.specs.declared.Rec.TheVariants.{Node as a_node, Leaf as a_leaf}
 use Rattle.moments.specs.Core.{Ready, Core}
 use Rattle.tries.specs.Content.{Item}
-use Rattle.tries.specs.Changes.{put, IsFlat, IsAdded}
+use Rattle.tries.specs.Changes.{IsAdded}
+use Rattle.tries.proofs.Changes.{put, IsFlat}
 use Rattle.tries.proofs.Places.{grown}
 use Rattle.tries.proofs.Puts.{built_flat}
 use Rattle.rowex_walks.proofs.Replaced.{links_put, put_links, links_new, links_old, shown_flat}

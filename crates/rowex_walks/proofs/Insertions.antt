@@ -10,14 +10,14 @@ use Rattle.moments.specs.declared.Rec.TheVariants.{Node as a_node}
 use Rattle.moments.specs.Core.{InTree, Core, view}
 use Rattle.moments.specs.Steps.{IsMomentPublish, at_root}
 use Rattle.tries.specs.Content.{Item, added}
-use Rattle.tries.specs.Changes.{put, IsFlat, IsAdded, IsExchanged}
-use Rattle.tries.specs.Place.{bare}
+use Rattle.tries.specs.Changes.{IsAdded}
+use Rattle.tries.proofs.Changes.{put, IsFlat, IsExchanged}
 use Rattle.moments.specs.Told.{IsChange}
 use Rattle.rowex_walks.specs.Writer.{added_change, replaced_change, IsPageStored, IsNewLeaf, IsFoundBelow}
 use Rattle.tries.specs.Affected.{affected, IsPart}
 use Rattle.tries.proofs.Tries.{trie_within, built_within, within_trans}
 use Rattle.moments.proofs.Heaps.{shown_within, near_refl}
-use Rattle.tries.proofs.Places.{grown}
+use Rattle.tries.proofs.Places.{grown, bare}
 use Rattle.moments.proofs.Growth.{in_tree_now}
 use Rattle.tries.proofs.Adding.{added_here, added as added_at, exchanged_leaf}
 use Rattle.tries.proofs.Affected.{IsAway, away, part_away, part_place}

@@ -6,7 +6,7 @@ use Rattle.pieces.specs.Piece.{Place}
 use Rattle.tries.specs.Tree.{Fixed, Tree, leaf, node, page, IsTrie, IsBuilt, Within, here, inside}
 use Rattle.tries.specs.Search.{child, seek}
 use Rattle.tries.specs.Content.{Item}
-use Rattle.tries.specs.Changes.{put}
+use Rattle.tries.proofs.Changes.{put}
 use Rattle.tries.specs.Place.{with_page}
 use Rattle.tries.specs.Affected.{page_forked}
 use Rattle.moments.specs.Heap.{Heap}

@@ -1,8 +1,21 @@
 -- The scan's walk ends.
-use Rattle.std.proofs.Common.{◌≡◌, ℕ, suc, ◌+◌, ◌-◌, ◌*◌, ◌^◌, ◌<◌, ◌≤◌, List, ◌∷◌, subst, arith}
+use Rattle.std.proofs.Common.{◌≡◌, ℕ, suc, ◌+◌, ◌-◌, ◌*◌, ◌^◌, ◌<◌, ◌≤◌, List, [], ◌∷◌, subst, arith}
 use Rattle.std.proofs.Math.Nat.{pow-suc, pow-le-pow_right, one-le-pow, mul-le-mul_right}
 use Rattle.pieces.specs.Piece.{size}
-use Rattle.rowex_walks.specs.Scan.{Frame, next, remaining}
+use Rattle.rowex_walks.specs.Scan.{Frame}
+
+-- The frame one place further.
+abbrev pub next : Frame → Frame
+next f = record f { place = suc f.place }
+
+-- What the scan has still to walk, at most, where a node has at most 32 entries: the loop's measure.
+abbrev pub rest_after : List Frame → ℕ
+rest_after [] = 0
+rest_after (f ∷ fs) = (size f.shape - suc f.place) * 34 ^ f.height + 1 + rest_after fs
+
+abbrev pub remaining : List Frame → ℕ
+remaining [] = 0
+remaining (f ∷ fs) = (size f.shape - f.place) * 34 ^ f.height + 1 + rest_after fs
 
 power_step : (i j : ℕ) → i < j → 34 ^ i * 34 ≤ 34 ^ j
 power_step i j h = subst (λ z. z ≤ 34 ^ j) (pow-suc 34 i) (pow-le-pow_right {n = 34} (omega arith) {i = suc i} {j = j} (omega arith))

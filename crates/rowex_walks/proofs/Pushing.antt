@@ -5,7 +5,7 @@ use Rattle.compound_node.specs.declared.entries.Entry.TheVariants.{Leaf, Node}
 use Rattle.pieces.specs.Piece.{Place}
 use Rattle.tries.specs.Tree.{Fixed, Tree, node, page, IsTip, IsTrie, IsBuilt, here, inside}
 use Rattle.tries.specs.Content.{Item}
-use Rattle.tries.specs.Changes.{put}
+use Rattle.tries.proofs.Changes.{put}
 use Rattle.tries.specs.Place.{with_page}
 use Rattle.tries.specs.Affected.{affected, IsPart, page_affected, page_forked, IsPartPage, IsTipPage}
 use Rattle.moments.specs.Heap.{Heap}

@@ -11,7 +11,7 @@ use Rattle.moments.specs.declared.Rec.TheVariants.{Node as a_node, Leaf as a_lea
 use Rattle.moments.specs.Core.{Core, view}
 use Rattle.moments.specs.Steps.{IsMomentPublish, at_root}
 use Rattle.tries.specs.Content.{Item, items, IsMore, added, item}
-use Rattle.tries.specs.Changes.{put, IsFlat, IsRemoved}
+use Rattle.tries.proofs.Changes.{put, IsFlat, IsRemoved}
 use Rattle.rowex_walks.specs.Writer.{removed_change, IsPageStored}
 use Rattle.tries.proofs.Tries.{trie_within, within_trans}
 use Rattle.moments.proofs.Heaps.{near_refl}

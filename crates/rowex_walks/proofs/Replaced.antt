@@ -13,7 +13,7 @@ use Rattle.moments.specs.declared.Rec.TheVariants.{Node as a_node}
 use Rattle.hot_model.specs.declared.Change.{Change}
 use Rattle.moments.specs.Core.{Fate, Free, Held, Ready, InTree, Unlinked, Marked, life_of, Core, view}
 use Rattle.moments.specs.Steps.{at_root, at_slot, IsMomentPublish}
-use Rattle.tries.specs.Changes.{put, IsFlat}
+use Rattle.tries.proofs.Changes.{put, IsFlat}
 use Rattle.rowex_walks.specs.Writer.{IsPageStored}
 use Rattle.moments.proofs.Publish.{links_within, within_links}
 use Rattle.moments.proofs.Quiet.{shown_ext}

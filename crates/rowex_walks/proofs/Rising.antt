@@ -8,7 +8,7 @@ use Rattle.pieces.specs.Piece.{Place, Fork}
 use Rattle.tries.specs.Tree.{Fixed, Page, Tree, leaf, node, fork, page, Has, IsTrie, IsTip, IsFork, Within, here, inside, IsFit, IsBuilt}
 use Rattle.tries.specs.Search.{child}
 use Rattle.tries.specs.Content.{Item}
-use Rattle.tries.specs.Changes.{put, IsPathBelow, IsFlat}
+use Rattle.tries.proofs.Changes.{put, IsPathBelow, IsFlat}
 use Rattle.tries.specs.Place.{with_page}
 use Rattle.tries.specs.Affected.{affected, IsPart, page_affected, page_forked, page_grown, IsPartPage, IsLowerPage, IsFirstBelow, IsTipPage}
 use Rattle.moments.specs.Heap.{NodeWords, Heap, IsShown}

@@ -14,10 +14,25 @@ use Rattle.tries.proofs.Tries.{has_under, under_below, kin_tips}
 use Rattle.moments.specs.Frames.{IsGrown}
 use Rattle.moments.specs.State.{Past, IsKeptSince, IsSteady}
 use Rattle.moments.specs.declared.Rec.TheVariants.{Node as a_node}
-use Rattle.rowex_walks.specs.Scan.{IsAlike, IsPlaced, IsShaped, MayStandAt, IsOn, IsOver, AreAt, affected_from, start_place, Frame, IsStack, IsRight, Range, IsInRange, IsScan}
+use Rattle.rowex_walks.specs.Scan.{IsAlike, IsPlaced, IsShaped, MayStandAt, IsOn, IsOver, Frame, IsStack, IsRight, Range, IsInRange, IsScan}
 use Rattle.rowex_walks.proofs.Persist.{fit_on, placed_on, shaped_on}
 use Rattle.rowex_walks.proofs.Scans.{fit_order, fit_down, on_fit, on_down, on_root, never_before, shaped, stood_kin, stood_trie}
 use Rattle.rowex_walks.proofs.Walk.{stack_shape}
+
+-- The key may stand at the place of each frame.
+abbrev pub AreAt : Past → ℕ → Key → List Frame → Type 0
+AreAt s m k [] = Unit {0}
+AreAt s m k (f ∷ fs) = MayStandAt s m f.number f.place k × AreAt s m k fs
+
+-- The first place of the part of a page that an insertion of the key with first mismatch `p` affects.
+abbrev pub affected_from : ℕ → Key → Page → ℕ
+affected_from p k (Place e) = 0
+affected_from p k (Fork q x y) = if ltb q p then (if bit k q then size x + affected_from p k y else affected_from p k x) else 0
+
+-- The place from which on a page has the keys above this one, where a key that differs from it first at `p` was found in it: before
+-- the affected part, or behind it.
+abbrev pub start_place : ℕ → Key → Page → ℕ
+start_place p k x = if bit k p then affected_from p k x + size (page_affected p k x) else affected_from p k x
 
 -- ---- the affected part of a page, by the key
 part_fits : (d : ℕ) (v : Key) (x : Page) → affected_from d v x + size (page_affected d v x) ≤ size x

@@ -6,7 +6,7 @@ use Rattle.compound_node.specs.declared.entries.Entry.TheVariants.{Leaf, Node}
 use Rattle.pieces.specs.Piece.{Place, Fork}
 use Rattle.tries.specs.Tree.{Fixed, Tree, leaf, node, fork, page, IsTrie, IsFork, IsBuilt, Page, Within, here, inside, zero_side, one_side}
 use Rattle.tries.specs.Search.{child}
-use Rattle.tries.specs.Changes.{put, IsRemoved}
+use Rattle.tries.proofs.Changes.{put, IsRemoved}
 use Rattle.tries.specs.Place.{with_page, page_without}
 use Rattle.tries.specs.Affected.{IsLowerPage, IsTipPage}
 use Rattle.moments.specs.Heap.{NodeWords, Heap, IsShown}

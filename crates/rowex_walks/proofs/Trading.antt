@@ -2,7 +2,7 @@
 use Rattle.std.proofs.Common.{◌≡◌, inl, inr, ℕ, List, [], ◌∷◌, Bool, true, false, refl, ap, ap₂, sym, ◌∙◌, subst, Some, ◌⊎◌}
 use Rattle.std.proofs.lemmas.Bool.{false≢true}
 use Rattle.tries.specs.Tree.{Fixed, Tree, leaf, node, fork, IsTrie, IsBuilt, Within, here, inside, zero_side, one_side, Has}
-use Rattle.tries.specs.Changes.{put}
+use Rattle.tries.proofs.Changes.{put}
 use Rattle.tries.specs.Content.{Item, first}
 use Rattle.tries.proofs.Places.{grown}
 use Rattle.tries.proofs.Tries.{has_first, has_within, trie_within, built_within}

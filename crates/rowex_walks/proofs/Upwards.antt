@@ -6,7 +6,7 @@ use Rattle.compound_node.specs.declared.entries.Entry.TheVariants.{Node}
 use Rattle.pieces.specs.Piece.{Fork}
 use Rattle.tries.specs.Tree.{Fixed, Page, Tree, leaf, node, fork, page, IsTrie, IsFork, Within, here, inside, zero_side, one_side}
 use Rattle.tries.specs.Search.{seek}
-use Rattle.tries.specs.Changes.{IsPathBelow}
+use Rattle.tries.proofs.Changes.{IsPathBelow}
 use Rattle.tries.specs.Affected.{page_affected, IsFirstBelow, IsTipPage}
 use Rattle.moments.specs.Heap.{NodeWords}
 use Rattle.moments.specs.State.{IsLawful}

@@ -8,7 +8,8 @@ use Rattle.pieces.specs.Piece.{size}
 use Rattle.moments.specs.State.{Past, IsKeptSince, IsSteady}
 use Rattle.moments.specs.declared.Rec.TheVariants.{Node as a_node}
 use Rattle.tries.specs.Place.{spot}
-use Rattle.rowex_walks.specs.Scan.{IsPlaced, IsShaped, IsRead, MayStandAt, IsOn, Frame, IsStack, IsPassed, IsRight, IsAhead, Pair, Every, IsListed, Range, IsInRange, IsScan, IsComplete, IsUpTo, IsCut, next}
+use Rattle.rowex_walks.specs.Scan.{IsPlaced, IsShaped, IsRead, MayStandAt, IsOn, Frame, IsStack, IsPassed, IsRight, IsAhead, Pair, Every, IsListed, Range, IsInRange, IsScan, IsComplete, IsUpTo, IsCut}
+use Rattle.rowex_walks.proofs.Measure.{next}
 use Rattle.tries.proofs.Places.{spot_below}
 use Rattle.rowex_walks.proofs.Scans.{fit_order, fit_down, fit_leaf, on_fit, on_down, on_leaf, read_held, before_trans, never_before}
 

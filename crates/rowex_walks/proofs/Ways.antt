@@ -1,5 +1,5 @@
 -- The descent of a writer below its lock; and where nothing has changed since.
-use Rattle.std.proofs.Common.{◌≡◌, ◌⊎◌, inl, inr, ℕ, ◌<◌, ◌≤◌, false, true, refl, ap, sym, ◌∙◌, subst, arith, Some, if◌then◌else◌, Bool, None}
+use Rattle.std.proofs.Common.{◌≡◌, ◌⊎◌, inl, inr, ℕ, ◌<◌, ◌≤◌, false, true, refl, ap, sym, ◌∙◌, subst, arith, Some, Bool, None}
 use Rattle.std.proofs.lemmas.Bool.{false≢true, cases_lt}
 use Rattle.compound_node.specs.declared.entries.Entry.{Entry}
 use Rattle.compound_node.specs.declared.entries.Entry.TheVariants.{Node}

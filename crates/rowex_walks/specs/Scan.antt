@@ -1,7 +1,6 @@
 -- What a scan knows: facts of the past alone.
-use Rattle.std.specs.Prelude.{◌≡◌, ◌⊎◌, ℕ, suc, ◌<◌, ◌≤◌, ◌-◌, ◌+◌, ◌*◌, ◌^◌, List, [], ◌∷◌, ◌++◌, length, Some, None, if◌then◌else◌, nat_lt}
-use Rattle.tries.specs.Affected.{page_affected}
-use Rattle.tries.specs.Keys.{IsAtMost, Key, bit, AgreeBelow, IsBefore}
+use Rattle.std.specs.Prelude.{◌≡◌, ◌⊎◌, ℕ, suc, ◌<◌, ◌≤◌, ◌-◌, List, [], ◌∷◌, ◌++◌, length, Some, None, if◌then◌else◌, nat_lt}
+use Rattle.tries.specs.Keys.{IsAtMost, Key, AgreeBelow, IsBefore}
 use Rattle.tries.specs.Tree.{Fixed, Page, Tree, leaf, node, fork, page, Has}
 use Rattle.compound_node.specs.declared.entries.Entry.{Entry}
 use Rattle.compound_node.specs.declared.entries.Entry.TheVariants.{Node}
@@ -153,25 +152,6 @@ pub record IsCut (s : Past) (m : ℕ) (g : Range) (xs : List Pair) : Type 0 wher
 abbrev pub IsOver : Past → ℕ → Key → ℕ → ℕ → Type 0
 IsOver s m k r i = (t : Past) → IsGrown s t → IsSteady t m → (j : ℕ) (z : Key) → i ≤ j → MayStandAt t m r j z → IsBefore k z
 
--- The key may stand at the place of each frame.
-abbrev pub AreAt : Past → ℕ → Key → List Frame → Type 0
-AreAt s m k [] = Unit {0}
-AreAt s m k (f ∷ fs) = MayStandAt s m f.number f.place k × AreAt s m k fs
-
--- The first place of the part of a page that an insertion of the key with first mismatch `p` affects.
-abbrev pub affected_from : ℕ → Key → Page → ℕ
-affected_from p k (Place e) = 0
-affected_from p k (Fork q x y) = if nat_lt q p then (if bit k q then size x + affected_from p k y else affected_from p k x) else 0
-
--- The place from which on a page has the keys above this one, where a key that differs from it first at `p` was found in it: before
--- the affected part, or behind it.
-abbrev pub start_place : ℕ → Key → Page → ℕ
-start_place p k x = if bit k p then affected_from p k x + size (page_affected p k x) else affected_from p k x
-
--- The frame one place further.
-abbrev pub next : Frame → Frame
-next f = record f { place = suc f.place }
-
 -- The entry's record stood at a moment since `m`, with the entry's height.
 abbrev pub IsSeen : Past → ℕ → Entry → Type 0
 IsSeen s m e = (n : ℕ) × (u : Tree) × (m ≤ n) × (n ≤ s.now) × Stands s n (rec_of e) u × (page u ≡ Place e)
@@ -179,20 +159,6 @@ IsSeen s m e = (n : ℕ) × (u : Tree) × (m ≤ n) × (n ≤ s.now) × Stands s
 -- The root was None at a moment since `m`.
 abbrev pub IsBlank : Past → ℕ → Type 0
 IsBlank s m = (n : ℕ) × (m ≤ n) × (n ≤ s.now) × (s.moment n ≡ None)
-
--- The height of the lowest frame: that of the root's node.
-abbrev pub top_height : ℕ → List Frame → ℕ
-top_height h [] = h
-top_height h (f ∷ fs) = top_height f.height fs
-
--- What the scan has still to walk, at most, where a node has at most 32 entries: the loop's measure.
-abbrev pub rest_after : List Frame → ℕ
-rest_after [] = 0
-rest_after (f ∷ fs) = (size f.shape - suc f.place) * 34 ^ f.height + 1 + rest_after fs
-
-abbrev pub remaining : List Frame → ℕ
-remaining [] = 0
-remaining (f ∷ fs) = (size f.shape - f.place) * 34 ^ f.height + 1 + rest_after fs
 
 -- The pairs in the order in which they were taken.
 abbrev pub turned : List Pair → List (Key × ℕ)

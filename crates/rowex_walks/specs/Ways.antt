@@ -1,5 +1,5 @@
 -- A writer's descent below its lock, by facts of the past alone; and what it knows where nothing has changed since.
-use Rattle.std.specs.Prelude.{◌≡◌, ℕ, ◌≤◌, Some, if◌then◌else◌}
+use Rattle.std.specs.Prelude.{◌≡◌, ℕ, ◌≤◌, Some}
 use Rattle.compound_node.specs.declared.entries.Entry.{Entry}
 use Rattle.compound_node.specs.declared.entries.Entry.TheVariants.{Leaf, Node}
 use Rattle.pieces.specs.Piece.{Place}

@@ -2,7 +2,7 @@
 use Rattle.key_bits.specs.Key.{IsKey}
 use Rattle.std.specs.Prelude.{◌≤◌, ◌≡◌, ◌≢◌, ℕ, Some}
 use Rattle.tries.specs.Keys.{Key, bit, AgreeBelow}
-use Rattle.tries.specs.Tree.{Fixed, Page, Tree, node, fork, page, Has}
+use Rattle.tries.specs.Tree.{Fixed, Page, Tree, node, fork, Has}
 use Rattle.tries.specs.Search.{seek}
 use Rattle.compound_node.specs.declared.entries.Entry.TheVariants.{Leaf, Node}
 use Rattle.moments.specs.Heap.{Heap}

@@ -4,10 +4,10 @@ use Rattle.std.proofs.Common.{◌≡◌, ◌⊎◌, inl, inr, ℕ, suc, ◌+◌,
 use Rattle.tries.specs.Keys.{Key, bit, AgreeBelow}
 use Rattle.tries.specs.Tree.{Tree, leaf, Has, IsTrie, Within, here, inside, zero_side, one_side}
 use Rattle.tries.specs.Content.{Item, items, IsMore, exchanged, first}
-use Rattle.tries.specs.Changes.{put, IsPathBelow, IsAdded, IsExchanged}
-use Rattle.tries.specs.Place.{bare}
+use Rattle.tries.specs.Changes.{IsAdded}
+use Rattle.tries.proofs.Changes.{put, IsPathBelow, IsExchanged}
 use Rattle.tries.proofs.Contents.{put_more, put_exchange, put_trie, put_has, within_has}
-use Rattle.tries.proofs.Places.{has_bare, items_bare, trie_bare, bare_trie, grown, grown_more, grown_trie}
+use Rattle.tries.proofs.Places.{has_bare, items_bare, trie_bare, bare_trie, grown, grown_more, grown_trie, bare}
 use Rattle.tries.proofs.Tries.{has_first, trie_within}
 
 -- One leaf more at a place is one leaf more in the whole.

@@ -8,7 +8,7 @@ use Rattle.pieces.specs.Piece.{Fork}
 use Rattle.tries.specs.Tree.{page, IsLower, Tree, leaf, node, fork, Has, IsTrie, Within, here, inside, zero_side, one_side}
 use Rattle.tries.specs.Search.{Follows, child}
 use Rattle.tries.specs.Content.{Item, first}
-use Rattle.tries.specs.Changes.{put, IsPathBelow, IsFlat}
+use Rattle.tries.proofs.Changes.{put, IsPathBelow, IsFlat}
 use Rattle.tries.proofs.Places.{grown}
 use Rattle.tries.specs.Affected.{affected, IsPart, page_affected, page_forked, page_grown, IsPartPage, IsLowerPage}
 use Rattle.tries.proofs.Tries.{has_first, has_within, within_trans, within_child, rises}

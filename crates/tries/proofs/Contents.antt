@@ -3,11 +3,16 @@ use Rattle.std.proofs.Common.{◌≡◌, ◌⊎◌, inl, inr, ℕ, suc, List, []
 use Rattle.std.proofs.lemmas.Bool.{false≢true}
 use Rattle.tries.specs.Keys.{Key, bit, AgreeBelow, IsParted, IsBefore}
 use Rattle.tries.specs.Tree.{Tree, leaf, node, fork, Has, Holds, IsTrie, Within, here, inside, zero_side, one_side}
-use Rattle.tries.specs.Content.{Item, items, Each, IsRising, IsIn, IsMore, added, behind, IsExchange, exchanged, past_one, IsAbove, first, IsLocal}
-use Rattle.tries.specs.Changes.{put, IsPathBelow}
+use Rattle.tries.specs.Content.{Item, items, Each, IsIn, IsMore, added, behind, IsExchange, exchanged, past_one, IsAbove, first, IsLocal}
+use Rattle.tries.proofs.Changes.{put, IsPathBelow}
 use Rattle.tries.proofs.Tries.{rises, has_first}
 use Rattle.tries.specs.Statements.{LocalIsTrie}
 use Rattle.tries.specs.Search.{child, found}
+
+-- The keys rise strictly.
+abbrev pub IsRising : List Item → Type 0
+IsRising [] = Unit {0}
+IsRising (x ∷ xs) = Each (λ y. IsBefore x.key y.key) xs × IsRising xs
 
 pub each_append : (P : Item → Type 0) (xs ys : List Item) → Each P xs → Each P ys → Each P (xs ++ ys)
 each_append P [] ys e f = f

@@ -4,6 +4,7 @@ pub mod Contents
 pub mod Maps
 pub mod Ranges
 pub mod Places
+pub mod Changes
 pub mod Puts
 pub mod Adding
 pub mod Affected

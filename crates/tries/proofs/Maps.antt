@@ -15,8 +15,8 @@ use Rattle.key_bits.specs.Key.{IsKey}
 use Rattle.key_bits.proofs.Order.{less_by_first, greater_by_first}
 use Rattle.tries.specs.Keys.{Key, bit, IsBefore}
 use Rattle.tries.specs.Tree.{Tree, leaf, node, fork, Holds, IsTrie}
-use Rattle.tries.specs.Content.{Item, items, pairs, Each, IsRising, IsIn, IsMore, added, behind, IsExchange, exchanged, past_one}
-use Rattle.tries.proofs.Contents.{each_append, each_in, content_rises, in_if_holds, holds_if_in, more_here}
+use Rattle.tries.specs.Content.{Item, items, pairs, Each, IsIn, IsMore, added, behind, IsExchange, exchanged, past_one}
+use Rattle.tries.proofs.Contents.{each_append, each_in, content_rises, in_if_holds, holds_if_in, more_here, IsRising}
 use Rattle.tries.specs.Statements.{ContentRises, AddingInserts, ExchangeReplaces, TakingRemoves}
 
 abbrev order : Key → Key → Ordering

@@ -8,8 +8,14 @@ use Rattle.compound_node.specs.declared.entries.Entry.{Entry}
 use Rattle.tries.specs.Tree.{Page, Tree, leaf, node, fork, Has, IsTrie}
 use Rattle.pieces.specs.Piece.{Place, Fork, size, leads_to}
 use Rattle.tries.specs.Search.{seek}
-use Rattle.tries.specs.Place.{Swap, swap, in_zero, in_one, spot, entry_at, with_entry, shape, bare}
+use Rattle.tries.specs.Place.{Swap, swap, in_zero, in_one, spot, entry_at, with_entry, shape}
 use Rattle.tries.specs.Content.{Item, items, IsMore, added, behind}
+
+-- The tree without the marks of its nodes: the bit trie alone.
+abbrev pub bare : Tree → Tree
+bare (leaf n k v) = leaf n k v
+bare (node n x b) = bare b
+bare (fork p a b) = fork p (bare a) (bare b)
 
 pub spot_below : (k : Key) (x : Page) → spot k x < size x
 spot_below k (Place e) = omega arith

@@ -2,7 +2,7 @@
 use Rattle.std.proofs.Common.{◌≡◌, ℕ, refl, ap}
 use Rattle.pieces.specs.Piece.{Fork}
 use Rattle.tries.specs.Tree.{Tree, page, IsLower, IsBuilt, Within, here, inside, zero_side, one_side}
-use Rattle.tries.specs.Changes.{put, IsFlat}
+use Rattle.tries.proofs.Changes.{put, IsFlat}
 
 -- One that begins with the same page leaves the page.
 pub page_put : {s t : Tree} (w : Within s t) (r : Tree) → page r ≡ page s → page (put w r) ≡ page t

@@ -8,7 +8,7 @@ use Rattle.pieces.specs.Piece.{Place, Fork, size}
 use Rattle.tries.specs.Keys.{Key, bit}
 use Rattle.tries.specs.Tree.{Page, Tree, leaf, node, fork, page, IsTip, Within, here, zero_side, one_side}
 use Rattle.tries.specs.Search.{child}
-use Rattle.tries.specs.Changes.{put, IsPathBelow, IsFlat}
+use Rattle.tries.proofs.Changes.{put, IsPathBelow, IsFlat}
 use Rattle.tries.specs.Place.{spot, with_entry, with_page, joined, page_without}
 use Rattle.tries.specs.Affected.{affected}
 use Rattle.tries.proofs.Places.{spot_below}

@@ -1,7 +1,7 @@
 -- What a tree holds, in order; one leaf more, or one for another; a form of `IsTrie` that is quick to decide.
 use Rattle.key_bits.specs.Key.{IsKey}
 use Rattle.std.specs.Prelude.{◌≡◌, ◌⊎◌, ℕ, ◌<◌, List, [], ◌∷◌, ◌++◌}
-use Rattle.tries.specs.Keys.{Key, IsParted, IsBefore}
+use Rattle.tries.specs.Keys.{Key, IsParted}
 use Rattle.tries.specs.Tree.{Tree, leaf, node, fork}
 
 -- A leaf record as it stands in a tree.
@@ -26,11 +26,6 @@ pairs (x ∷ xs) = (x.key, x.value) ∷ pairs xs
 abbrev pub Each : (Item → Type 0) → List Item → Type 0
 Each P [] = Unit {0}
 Each P (x ∷ xs) = P x × Each P xs
-
--- The keys rise strictly.
-abbrev pub IsRising : List Item → Type 0
-IsRising [] = Unit {0}
-IsRising (x ∷ xs) = Each (λ y. IsBefore x.key y.key) xs × IsRising xs
 
 abbrev pub IsIn : Item → List Item → Type 0
 IsIn x [] = ⊥

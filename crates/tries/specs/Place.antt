@@ -3,7 +3,7 @@ use Rattle.std.specs.Prelude.{ℕ, ◌+◌, ◌-◌, if◌then◌else◌, nat_lt
 use Rattle.tries.specs.Keys.{Key, bit}
 use Rattle.compound_node.specs.declared.entries.Entry.{Entry}
 use Rattle.compound_node.specs.declared.entries.Entry.TheVariants.{Leaf}
-use Rattle.tries.specs.Tree.{Page, Tree, leaf, node, fork}
+use Rattle.tries.specs.Tree.{Page}
 use Rattle.pieces.specs.Piece.{Place, Fork, size}
 
 -- The place to which a key's search leads.
@@ -24,12 +24,6 @@ with_entry (Fork p x y) i f = if nat_lt i (size x) then Fork p (with_entry x i f
 abbrev pub shape : Page → Page
 shape (Place e) = Place (Leaf 0)
 shape (Fork p x y) = Fork p (shape x) (shape y)
-
--- The tree without the marks of its nodes: the bit trie alone.
-abbrev pub bare : Tree → Tree
-bare (leaf n k v) = leaf n k v
-bare (node n x b) = bare b
-bare (fork p a b) = fork p (bare a) (bare b)
 
 -- The two pages differ in the entry at one place at most.
 pub data Swap : Page → Page → Type 0 where

@@ -74,7 +74,8 @@ impl PlainTrie {
         pairs: &mut Vec<(Key, u64)>,
     ) -> Result<Progress, AllocError>
         requires shown { (t : Tree) × (page t ≡ At entry) × StandsIn self.now t }
-        ensures gathered { (t : Tree) → page t ≡ At entry → StandsIn self.now t → IsMismatch range.entry.from.now t difference → length pairs.old.items ≤ range.entry.limit →
+        ensures gathered { (t : Tree) → page t ≡ At entry → StandsIn self.now t → IsMismatch range.entry.from.now t difference →
+            length pairs.old.items ≤ range.entry.limit →
             IfOk result (IsGathered range.entry pairs.old.items (items t) pairs.new.items) }
     {
         match entry {
@@ -109,7 +110,8 @@ impl PlainTrie {
         pairs: &mut Vec<(Key, u64)>,
     ) -> Result<Progress, AllocError>
         requires shown { (x : Fixed) × (b : Tree) × StandsIn self.now (node number x b) }
-        ensures gathered { (x : Fixed) (b : Tree) → StandsIn self.now (node number x b) → start ≤ length (parts b) → IsFloor range.entry.from.now (items_from start b) → length pairs.old.items ≤ range.entry.limit →
+        ensures gathered { (x : Fixed) (b : Tree) → StandsIn self.now (node number x b) → start ≤ length (parts b) →
+            IsFloor range.entry.from.now (items_from start b) → length pairs.old.items ≤ range.entry.limit →
             IfOk result (IsGathered range.entry pairs.old.items (items_from start b) pairs.new.items) }
     {
         let node = &self.nodes[number as usize];
@@ -134,7 +136,8 @@ impl PlainTrie {
         pairs: &mut Vec<(Key, u64)>,
     ) -> Result<Progress, AllocError>
         requires within { number < length self.now.leaves }
-        ensures gathered { (x : Item) → slice_get self.now.leaves number ≡ Some (record_of x) → key_order range.entry.from.now x.key ≢ Greater → length pairs.old.items ≤ range.entry.limit →
+        ensures gathered { (x : Item) → slice_get self.now.leaves number ≡ Some (record_of x) →
+            key_order range.entry.from.now x.key ≢ Greater → length pairs.old.items ≤ range.entry.limit →
             IfOk result (IsGathered range.entry pairs.old.items (x ∷ []) pairs.new.items) }
     {
         let leaf = &self.leaves[number as usize];

@@ -9,8 +9,8 @@ use Rattle.partial_keys.proofs.Reading.{piece_of_shown}
 use Rattle.partial_keys.proofs.Showing.{shown_columns}
 use Rattle.partial_keys.specs.Shown.{piece_of}
 use Rattle.partial_keys.specs.Spread.{spread_row}
-use Rattle.pieces.proofs.Positions.{front_below-place}
-use Rattle.pieces.specs.Positions.{IsPlaceOf, front_below}
+use Rattle.pieces.proofs.Positions.{front_below-place, IsPlaceOf}
+use Rattle.pieces.specs.Positions.{front_below}
 use Rattle.compound_node.proofs.building.with_fork.Goals as goal
 use Rattle.compound_node.proofs.building.with_fork.Goals.{After-add_position-at, After-shared_slice_known-1}
 

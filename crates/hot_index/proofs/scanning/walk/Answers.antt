@@ -4,10 +4,10 @@ use Rattle.compound_node.specs.declared.entries.Entry.TheVariants.{Leaf, Node}
 use Rattle.hot_index.specs.declared.scanning.Verdict.TheVariants.{Further, Past, Full}
 use Rattle.record_words.specs.declared.TheConstants.{HEAD_WORDS, LEAF_FIELDS}
 use Rattle.rowex_reading.specs.Seen.{since}
-use Rattle.hot_index.specs.Scanning.{range_of, IsPaid}
+use Rattle.hot_index.specs.Scanning.{range_of}
 use Rattle.rowex_reading.proofs.Led.{placed_led, reader_then, reads_later, reads_none, reads_trans, same_since}
 use Rattle.rowex_reading.proofs.Seeing.{placed_stable, since_later, sure_later}
-use Rattle.hot_index.proofs.Walking.{taken_as, walk_place, walk_push, walk_push_less, walk_further, walk_past, walk_full, walk_next_less, walk_inside, walk_pop, walk_pop_less, walk_end, walk_several, walk_short, paid_first, paid_push, paid_pop, paid_leaf, paid_most, paid_end, floor_later, floor_next, floor_push, floor_pop, floor_leaf, way_short, entered_first, entered_number, taken_more, popped_is, none_popped}
+use Rattle.hot_index.proofs.Walking.{taken_as, walk_place, walk_push, walk_push_less, walk_further, walk_past, walk_full, walk_next_less, walk_inside, walk_pop, walk_pop_less, walk_end, walk_several, walk_short, paid_first, paid_push, paid_pop, paid_leaf, paid_most, paid_end, floor_later, floor_next, floor_push, floor_pop, floor_leaf, way_short, entered_first, entered_number, taken_more, popped_is, none_popped, IsPaid}
 use Rattle.hot_index.proofs.scanning.walk.Goals as goal
 
 pub loop-top-init : goal.loop-top-init

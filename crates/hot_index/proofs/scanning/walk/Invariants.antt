@@ -2,7 +2,8 @@
 use Rattle.std.proofs.Common.{ℕ, length}
 use Rattle.rowex_reading.specs.Reads.{IsReader, Reads}
 use Rattle.rowex_reading.specs.Seen.{since}
-use Rattle.hot_index.specs.Scanning.{range_of, IsFloor, IsPaid, IsWalk, rest_of}
+use Rattle.hot_index.specs.Scanning.{range_of, IsFloor, IsWalk}
+use Rattle.hot_index.proofs.Walking.{IsPaid, rest_of}
 use Rattle.hot_index.proofs.scanning.walk.Given as goal
 
 abbrev pub invariant-loop-top : goal.invariant-loop-top

@@ -6,7 +6,8 @@ use Rattle.key_bits.specs.declared.Key.{Key}
 use Rattle.pieces.specs.Piece.{Place}
 use Rattle.compound_node.specs.declared.entries.Entry.{Entry}
 use Rattle.compound_node.specs.declared.entries.Entry.TheVariants.{Leaf, Node}
-use Rattle.tries.specs.Content.{Item, items, IsRising}
+use Rattle.tries.specs.Content.{Item, items}
+use Rattle.tries.proofs.Contents.{IsRising}
 use Rattle.tries.specs.Tree.{Page, Fixed, Tree, node, page}
 use Rattle.tries.proofs.Maps.{AreKeys}
 use Rattle.insert_cases.specs.declared.plain.scan.Progress.TheVariants.{On}

@@ -3,7 +3,7 @@ use Rattle.std.proofs.Common.{◌≡◌, ℕ, suc, ap, length, sym, ◌∙◌, s
 use Rattle.std.proofs.lemmas.Option.{slice_get_within}
 use Rattle.std.specs.Prelude.{slice_get}
 use Rattle.pieces.specs.Changes.{AtRootFork}
-use Rattle.compound_node.specs.Nodes.{IsLawful, piece, height_of}
+use Rattle.compound_node.specs.Nodes.{piece, height_of}
 use Rattle.compound_node.specs.declared.entries.Entry.TheVariants.{Node}
 use Rattle.tries.specs.Search.{child}
 use Rattle.tries.specs.Tree.{Tree}
