@@ -9,7 +9,7 @@ use compound_node::{Entry, Node};
 use key_bits::Key;
 use rowex_core::{Act, Gate, NoGate, Rec, Spot};
 use rowex_records::{
-    claim_leaf, claim_node, fill_leaf, fill_node, give_up, give_up_all, make_ready,
+    RecordKind, claim_record, fill_leaf, fill_node, give_up, give_up_all, make_ready,
 };
 use rowex_table::{HotTable, TableSeat};
 use std::test::*;
@@ -21,13 +21,15 @@ fn leaves_are_claimed_in_rising_order(rt: HostRuntime) -> Result<(), Fail> {
     let table = &made;
     let mut seat = last_seat(&rt, table, &mut seats);
     for number in 0..7u32 {
-        assert!(rt; claim_leaf(table, &mut seat, &mut NoGate, 0) == Some(number));
+        assert!(rt;
+            claim_record(table, &mut seat, &mut NoGate, RecordKind::Leaf, 0) == Some(number)
+        );
     }
-    let last = claim_leaf(table, &mut seat, &mut NoGate, 0).ok_or("a leaf")?;
+    let last = claim_record(table, &mut seat, &mut NoGate, RecordKind::Leaf, 0).ok_or("a leaf")?;
     assert!(rt; last == 7);
     give_up(table, &mut seat, &mut NoGate, Rec::Leaf(last));
-    assert!(rt; claim_leaf(table, &mut seat, &mut NoGate, 0) == Some(7));
-    assert!(rt; claim_leaf(table, &mut seat, &mut NoGate, 0) == None);
+    assert!(rt; claim_record(table, &mut seat, &mut NoGate, RecordKind::Leaf, 0) == Some(7));
+    assert!(rt; claim_record(table, &mut seat, &mut NoGate, RecordKind::Leaf, 0) == None);
     Ok(())
 }
 
@@ -37,11 +39,13 @@ fn claims_go_on_from_0_after_the_last(rt: HostRuntime) -> Result<(), Fail> {
     let table = &made;
     let mut seat = last_seat(&rt, table, &mut seats);
     for number in [6, 7, 0, 1] {
-        assert!(rt; claim_leaf(table, &mut seat, &mut NoGate, 6) == Some(number));
+        assert!(rt;
+            claim_record(table, &mut seat, &mut NoGate, RecordKind::Leaf, 6) == Some(number)
+        );
     }
-    assert!(rt; claim_leaf(table, &mut seat, &mut NoGate, 8) == Some(2));
-    assert!(rt; claim_node(table, &mut seat, &mut NoGate, 7) == Some(7));
-    assert!(rt; claim_node(table, &mut seat, &mut NoGate, 7) == Some(0));
+    assert!(rt; claim_record(table, &mut seat, &mut NoGate, RecordKind::Leaf, 8) == Some(2));
+    assert!(rt; claim_record(table, &mut seat, &mut NoGate, RecordKind::Node, 7) == Some(7));
+    assert!(rt; claim_record(table, &mut seat, &mut NoGate, RecordKind::Node, 7) == Some(0));
     Ok(())
 }
 
@@ -50,14 +54,16 @@ fn nodes_are_claimed_in_rising_order(rt: HostRuntime) -> Result<(), Fail> {
     let (made, mut seats) = table_of(&rt, rt.alloc(), 1, 8, 8)?;
     let table = &made;
     let mut seat = last_seat(&rt, table, &mut seats);
-    let first = claim_node(table, &mut seat, &mut NoGate, 0).ok_or("a node")?;
+    let first = claim_record(table, &mut seat, &mut NoGate, RecordKind::Node, 0).ok_or("a node")?;
     assert!(rt; first == 0);
     give_up(table, &mut seat, &mut NoGate, Rec::Node(first));
     for number in 0..8u32 {
-        assert!(rt; claim_node(table, &mut seat, &mut NoGate, 0) == Some(number));
+        assert!(rt;
+            claim_record(table, &mut seat, &mut NoGate, RecordKind::Node, 0) == Some(number)
+        );
     }
-    assert!(rt; claim_node(table, &mut seat, &mut NoGate, 0) == None);
-    assert!(rt; claim_leaf(table, &mut seat, &mut NoGate, 0) == Some(0));
+    assert!(rt; claim_record(table, &mut seat, &mut NoGate, RecordKind::Node, 0) == None);
+    assert!(rt; claim_record(table, &mut seat, &mut NoGate, RecordKind::Leaf, 0) == Some(0));
     Ok(())
 }
 
@@ -72,7 +78,7 @@ fn add_leaf<G: Gate>(
     requires { IsPassOf table.now seat.old }
     ensures { IsPassOf table.now seat.new }
 {
-    let number = claim_leaf(table, seat, gate, 0)?;
+    let number = claim_record(table, seat, gate, RecordKind::Leaf, 0)?;
     fill_leaf(table, seat, gate, number, key, value);
     make_ready(table, seat, gate, Rec::Leaf(number));
     Some(number)
@@ -88,7 +94,7 @@ fn add_node<G: Gate>(
     requires { IsPassOf table.now seat.old }
     ensures { IsPassOf table.now seat.new }
 {
-    let number = claim_node(table, seat, gate, 0)?;
+    let number = claim_record(table, seat, gate, RecordKind::Node, 0)?;
     fill_node(table, seat, gate, number, node);
     make_ready(table, seat, gate, Rec::Node(number));
     Some(number)
@@ -152,9 +158,9 @@ fn claim_in_vain<G: Gate>(
     requires { IsPassOf table.now seat.old × (seat.old.known.own ≡ []) }
     ensures { IsPassOf table.now seat.new }
 {
-    let leaf = claim_leaf(table, seat, gate, 3)?;
+    let leaf = claim_record(table, seat, gate, RecordKind::Leaf, 3)?;
     fill_leaf(table, seat, gate, leaf, key, 5);
-    let node = claim_node(table, seat, gate, 4)?;
+    let node = claim_record(table, seat, gate, RecordKind::Node, 4)?;
     give_up_all(table, seat, gate, &[Rec::Leaf(leaf), Rec::Node(node)]);
     Some((leaf, node))
 }
@@ -178,7 +184,7 @@ fn claim_all(table: &HotTable, mut seat: TableSeat) -> u64
 {
     let mut claimed = 0;
     for _round in 0..8u32 {
-        if let Some(number) = claim_leaf(table, &mut seat, &mut NoGate, 0) {
+        if let Some(number) = claim_record(table, &mut seat, &mut NoGate, RecordKind::Leaf, 0) {
             claimed |= 1u64 << number;
         }
     }
@@ -227,9 +233,9 @@ fn events_of_a_leaf(rt: HostRuntime) -> Result<(), Fail> {
     let mut first = last_seat(&rt, &table, &mut seats);
     let mut gate = Recorder::new(rt.alloc());
     let claim = |rec: Rec, found: u64| Act::Claim { rec, found };
-    let held = claim_leaf(&table, &mut first, &mut gate, 0).ok_or("a leaf")?;
+    let held = claim_record(&table, &mut first, &mut gate, RecordKind::Leaf, 0).ok_or("a leaf")?;
     assert!(rt; gate.was_told(0, &[claim(Rec::Leaf(0), 0)]));
-    let number = claim_leaf(&table, &mut second, &mut gate, 0).ok_or("a leaf")?;
+    let number = claim_record(&table, &mut second, &mut gate, RecordKind::Leaf, 0).ok_or("a leaf")?;
     assert!(rt; gate.was_told(1, &[claim(Rec::Leaf(0), 1), claim(Rec::Leaf(1), 0)]));
     fill_leaf(&table, &mut second, &mut gate, number, &key(&rt, b"a"), 5);
     make_ready(&table, &mut second, &mut gate, Rec::Leaf(number));

@@ -1,6 +1,8 @@
 -- Claims of the records of a kind, from one number on and then from 0.
 use Rattle.std.specs.Prelude.{◌≡◌, ◌≢◌, ℕ, ◌+◌, ◌-◌, ◌<◌, ◌≤◌, List, [], ◌∷◌, ◌++◌, length, nat_lt, All, Contains, if◌then◌else◌}
+use Rattle.record_words.specs.declared.layout.Layout.{Layout}
 use Rattle.moments.specs.declared.Rec.{Rec}
+use Rattle.moments.specs.declared.Rec.TheVariants.{Node as a_node, Leaf as a_leaf}
 use Rattle.rowex_core.specs.declared.event.Act.{Act}
 use Rattle.rowex_core.specs.declared.event.Act.TheVariants.{Claim}
 use Rattle.rowex_core.specs.declared.event.Event.{Event}
@@ -11,6 +13,17 @@ use Rattle.rowex_core.specs.Cores.{word_count_of}
 use Rattle.rowex_core.specs.Events.{word_of}
 use Rattle.rowex_table.specs.Runs.{Does, InTurn}
 use Rattle.rowex_table.specs.Seats.{TableView, SeatView}
+use Rattle.rowex_records.specs.declared.claiming.RecordKind.{RecordKind}
+use Rattle.rowex_records.specs.declared.claiming.RecordKind.TheVariants.{Node, Leaf}
+
+-- the record of a kind that has this number, and how many of them there are
+abbrev pub record_of : RecordKind → ℕ → Rec
+record_of Node = a_node
+record_of Leaf = a_leaf
+
+abbrev pub count_of : RecordKind → Layout → ℕ
+count_of Node layout = layout.nodes
+count_of Leaf layout = layout.leaves
 
 -- of what a pass knows, its own records and its failed claims may change
 abbrev pub claiming : Known → Known → Known

@@ -1,66 +1,68 @@
 //! Records claimed, and given up again.
 
 ghost use Rattle.std.specs.Prelude.{◌≡◌, ◌<◌, IfNone, IfSome, MatchOption, All};
-ghost use Rattle.moments.specs.declared.Rec.TheVariants.{Node as a_node, Leaf as a_leaf};
 ghost use Rattle.rowex_core.specs.Cores.{HasRecord};
 ghost use Rattle.rowex_table.specs.Rights.{IsClaimed};
 ghost use Rattle.rowex_table.specs.Seats.{IsSeatOf};
-ghost use Rattle.rowex_records.specs.Claims.{AllMissed, Claims, FindsNone, begin_of, wrapped};
+ghost use Rattle.rowex_records.specs.Claims.{AllMissed, Claims, FindsNone, begin_of, count_of, record_of, wrapped};
 ghost use Rattle.rowex_records.specs.Records.{GivesUp, GivesUpAll, HoldsJust};
 
+use record_words::Layout;
 use rowex_core::{Gate, Rec};
 use rowex_table::{HotTable, TableSeat};
 
-/// Claims the first leaf record that it finds free; answers its number.
-///
-/// Each record is tried once, from number `from` on, and from 0 on after the last; `None` if no try found one free. A `from` that
-/// is out of range counts as 0.
-pub fn claim_leaf<G: Gate>(
-    table: &HotTable,
-    seat: &mut TableSeat,
-    gate: &mut G,
-    from: u32,
-) -> Option<u32>
-    requires own { IsSeatOf table.now seat.old }
-    ensures claims { MatchOption result
-        (let n = table.now.layout.leaves in FindsNone table.now G.becomes a_leaf n (begin_of n from) n (seat.old, gate.old) (seat.new, gate.new))
-        (λ number. let n = table.now.layout.leaves in Claims table.now G.becomes a_leaf n (begin_of n from) number (seat.old, gate.old) (seat.new, gate.new)) }
-    ensures none { IfNone result (AllMissed a_leaf table.now.layout.leaves seat.new.known.failed seat.old.known.steps) }
-    ensures held { IfSome result (λ number. (number < table.now.layout.leaves) × IsClaimed seat.new.known (a_leaf number)) }
-{
-    let leaves = table.layout().leaves;
-    let begin = first(from, leaves);
-    for tried in 0..leaves {
-        let number = turn(begin, tried, leaves);
-        if table.claim(seat, gate, Rec::Leaf(number)) == 0 {
-            return Some(number);
-        }
-    }
-    None
+/// A kind of records.
+#[derive(Clone, Copy)]
+pub enum RecordKind {
+    Node,
+    Leaf,
 }
 
-/// Claims the first node record that it finds free; answers its number.
+impl RecordKind {
+    /// The record of this kind that has the number.
+    pub fn record_at(self, number: u32) -> Rec
+        ensures { result ≡ record_of self number }
+    {
+        match self {
+            RecordKind::Node => Rec::Node(number),
+            RecordKind::Leaf => Rec::Leaf(number),
+        }
+    }
+
+    /// How many records of this kind a table has.
+    fn count(self, layout: Layout) -> u32
+        ensures { result ≡ count_of self layout }
+    {
+        match self {
+            RecordKind::Node => layout.nodes,
+            RecordKind::Leaf => layout.leaves,
+        }
+    }
+}
+
+/// Claims the first record of a kind that it finds free; answers its number.
 ///
 /// Each record is tried once, from number `from` on, and from 0 on after the last; `None` if no try found one free. A `from` that
 /// is out of range counts as 0.
-pub fn claim_node<G: Gate>(
+pub fn claim_record<G: Gate>(
     table: &HotTable,
     seat: &mut TableSeat,
     gate: &mut G,
+    kind: RecordKind,
     from: u32,
 ) -> Option<u32>
     requires own { IsSeatOf table.now seat.old }
     ensures claims { MatchOption result
-        (let n = table.now.layout.nodes in FindsNone table.now G.becomes a_node n (begin_of n from) n (seat.old, gate.old) (seat.new, gate.new))
-        (λ number. let n = table.now.layout.nodes in Claims table.now G.becomes a_node n (begin_of n from) number (seat.old, gate.old) (seat.new, gate.new)) }
-    ensures none { IfNone result (AllMissed a_node table.now.layout.nodes seat.new.known.failed seat.old.known.steps) }
-    ensures held { IfSome result (λ number. (number < table.now.layout.nodes) × IsClaimed seat.new.known (a_node number)) }
+        (let n = count_of kind table.now.layout in FindsNone table.now G.becomes (record_of kind) n (begin_of n from) n (seat.old, gate.old) (seat.new, gate.new))
+        (λ number. let n = count_of kind table.now.layout in Claims table.now G.becomes (record_of kind) n (begin_of n from) number (seat.old, gate.old) (seat.new, gate.new)) }
+    ensures none { IfNone result (AllMissed (record_of kind) (count_of kind table.now.layout) seat.new.known.failed seat.old.known.steps) }
+    ensures held { IfSome result (λ number. (number < count_of kind table.now.layout) × IsClaimed seat.new.known (record_of kind number)) }
 {
-    let nodes = table.layout().nodes;
-    let begin = first(from, nodes);
-    for tried in 0..nodes {
-        let number = turn(begin, tried, nodes);
-        if table.claim(seat, gate, Rec::Node(number)) == 0 {
+    let all = kind.count(table.layout());
+    let begin = first(from, all);
+    for tried in 0..all {
+        let number = turn(begin, tried, all);
+        if table.claim(seat, gate, kind.record_at(number)) == 0 {
             return Some(number);
         }
     }

@@ -4,5 +4,5 @@
 mod claiming;
 mod filling;
 
-pub use claiming::{claim_leaf, claim_node, give_up, give_up_all};
+pub use claiming::{RecordKind, claim_record, give_up, give_up_all};
 pub use filling::{fill_leaf, fill_node, make_ready};

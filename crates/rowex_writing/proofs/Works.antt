@@ -1,8 +1,8 @@
 -- Steps after which a pass recalls what it did, one after the other; locks that are taken and refused.
-use Rattle.std.proofs.Common.{◌≡◌, ◌≢◌, inl, inr, ℕ, ◌≤◌, List, [], ◌∷◌, ◌++◌, true, false, nat_eq, Option, Some, None, IsSome, refl, sym, ap, subst, ◌∙◌, arith}
+use Rattle.std.proofs.Common.{◌≡◌, ◌≢◌, inl, inr, ℕ, ◌≤◌, List, [], ◌∷◌, true, false, nat_eq, Option, Some, None, IsSome, refl, sym, ap, subst, ◌∙◌, arith}
 use Rattle.std.specs.Prelude.{All, Contains}
 use Rattle.std.proofs.lemmas.Bool.{eqb-true}
-use Rattle.std.proofs.lemmas.List.Elements.{All-append, All-cons, All-head, All-tail, All-weaker}
+use Rattle.std.proofs.lemmas.List.Elements.{All-cons, All-head, All-tail, All-weaker}
 use Rattle.record_words.specs.declared.state.Tag.TheVariants.{Live}
 use Rattle.record_words.specs.State.{state_word}
 use Rattle.record_words.specs.declared.layout.Layout.{Layout}
@@ -28,7 +28,7 @@ use Rattle.rowex_table.specs.Runs.{Runs, Steps, silent}
 use Rattle.rowex_table.specs.Seats.{TableView, SeatView, IsSeatOf}
 use Rattle.rowex_table.proofs.ActsBefore as before
 use Rattle.rowex_table.proofs.ActsLeave as leave
-use Rattle.rowex_table.proofs.Running.{runs_one, runs_append, runs_same}
+use Rattle.rowex_table.proofs.Running.{runs_one, runs_same}
 use Rattle.rowex_rights.specs.Stages.{IsSure}
 use Rattle.rowex_rights.proofs.Loops.{later_same, later_on}
 use Rattle.rowex_writing.proofs.Runs.{plain_recalls}

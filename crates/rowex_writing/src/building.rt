@@ -27,7 +27,7 @@ use compound_node::{Entry, Half, Node};
 use insert_cases::{Grown, Risen, Step};
 use key_bits::Key;
 use rowex_core::{Gate, Rec};
-use rowex_records::{claim_node, fill_node};
+use rowex_records::{RecordKind, claim_record, fill_node};
 use rowex_table::{HotTable, TableSeat};
 
 /// The most records that one change makes: a leaf, two nodes for each node of the longest way, and one above them.
@@ -67,7 +67,7 @@ fn make_node<G: Gate>(
     ensures more { length build.new.made.items ≤ length build.old.made.items + 1 }
     ensures few { seat.new.known.steps ≤ seat.old.known.steps + node_steps table.now.layout }
 {
-    let number = claim_node(table, seat, gate, build.next_node)?;
+    let number = claim_record(table, seat, gate, RecordKind::Node, build.next_node)?;
     build.next_node = number.wrapping_add(1);
     fill_node(table, seat, gate, number, node);
     build.made.push(Rec::Node(number));

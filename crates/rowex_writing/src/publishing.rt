@@ -31,7 +31,7 @@ use insert_cases::Step;
 use key_bits::Key;
 use record_words::pack_entry;
 use rowex_core::{Gate, Rec, Spot};
-use rowex_records::{claim_leaf, fill_leaf, make_ready};
+use rowex_records::{RecordKind, claim_record, fill_leaf, make_ready};
 use rowex_table::{HotTable, TableSeat};
 
 /// Makes a record for the new leaf, the first one of a change; answers its number, or nothing where no leaf record was free.
@@ -55,7 +55,7 @@ pub fn make_leaf<G: Gate>(
     ensures few { seat.new.known.steps ≤ seat.old.known.steps + table.now.layout.leaves + LEAF_FIELDS }
 {
     build.made.clear();
-    let number = claim_leaf(table, seat, gate, build.next_leaf)?;
+    let number = claim_record(table, seat, gate, RecordKind::Leaf, build.next_leaf)?;
     build.next_leaf = number.wrapping_add(1);
     fill_leaf(table, seat, gate, number, key, value);
     build.made.push(Rec::Leaf(number));

@@ -59,7 +59,8 @@ fn empty_root<G: Gate>(
     requires only { (key : KeyView) × (value : ℕ) × HasOnlyLeaf table.now seat.old number key value }
     requires made { build.old.made.items ≡ [] }
     ensures run { HasRun table.now G.becomes (seat.old, gate.old) (seat.new, gate.new) }
-    ensures taken { (key : KeyView) (value : ℕ) → HasOnlyLeaf table.now seat.old number key value → HasTaken seat.old.known seat.new.known key (LeafFound number value None) }
+    ensures taken { (key : KeyView) (value : ℕ) → HasOnlyLeaf table.now seat.old number key value →
+        HasTaken seat.old.known seat.new.known key (LeafFound number value None) }
     ensures few { seat.new.known.steps ≤ seat.old.known.steps + 6500 }
 {
     build.gone.clear();

@@ -15,7 +15,7 @@ returns-in_err-number-clause-goes g c = none_on c.args.table.now g.G.Gate.become
 
 pub returns-in_err-number-clause-made : goal.returns-in_err-number-clause-made
 returns-in_err-number-clause-made g c = λ news b. rw c.from_residual.ensures
-    (not_made c.args.table.now g.G.Gate.becomes _ _ (c.args.seat.now, c.args.gate.now) (c.claim_node.new.seat, c.claim_node.new.gate) c.args.build.now.made.items news c.in_err-number.ensures.claims c.in_err-number.ensures.none b)
+    (not_made c.args.table.now g.G.Gate.becomes _ _ (c.args.seat.now, c.args.gate.now) (c.claim_record.new.seat, c.claim_record.new.gate) c.args.build.now.made.items news c.in_err-number.ensures.claims c.in_err-number.ensures.none b)
 
 pub returns-clause-goes : goal.returns-clause-goes
 returns-clause-goes g c =
@@ -32,8 +32,8 @@ returns-clause-made g c = λ news b. (
 
 pub returns-in_err-number-clause-few : goal.returns-in_err-number-clause-few
 returns-in_err-number-clause-few g c =
-    let z = none_count c.args.table.now g.G.Gate.becomes _ _ _ _ (c.args.seat.now, c.args.gate.now) (c.claim_node.new.seat, c.claim_node.new.gate) c.in_err-number.ensures.claims in omega (arith, z)
+    let z = none_count c.args.table.now g.G.Gate.becomes _ _ _ _ (c.args.seat.now, c.args.gate.now) (c.claim_record.new.seat, c.claim_record.new.gate) c.in_err-number.ensures.claims in omega (arith, z)
 
 pub returns-clause-few : goal.returns-clause-few
 returns-clause-few g c =
-    let z = claim_few c.args.table.now g.G.Gate.becomes _ _ _ _ (c.args.seat.now, c.args.gate.now) (c.claim_node.new.seat, c.claim_node.new.gate) c.in_ok-number.ensures.claims in omega (arith, z, c.fill_node.ensures.steps)
+    let z = claim_few c.args.table.now g.G.Gate.becomes _ _ _ _ (c.args.seat.now, c.args.gate.now) (c.claim_record.new.seat, c.claim_record.new.gate) c.in_ok-number.ensures.claims in omega (arith, z, c.fill_node.ensures.steps)

@@ -35,8 +35,8 @@ returns-clause-made g c =
 
 pub returns-in_err-number-clause-few : goal.returns-in_err-number-clause-few
 returns-in_err-number-clause-few g c =
-    let z = none_count c.args.table.now g.G.Gate.becomes _ _ _ _ (c.args.seat.now, c.args.gate.now) (c.claim_leaf.new.seat, c.claim_leaf.new.gate) c.in_err-number.ensures.claims in omega (arith, z)
+    let z = none_count c.args.table.now g.G.Gate.becomes _ _ _ _ (c.args.seat.now, c.args.gate.now) (c.claim_record.new.seat, c.claim_record.new.gate) c.in_err-number.ensures.claims in omega (arith, z)
 
 pub returns-clause-few : goal.returns-clause-few
 returns-clause-few g c =
-    let z = claim_few c.args.table.now g.G.Gate.becomes _ _ _ _ (c.args.seat.now, c.args.gate.now) (c.claim_leaf.new.seat, c.claim_leaf.new.gate) c.in_ok-number.ensures.claims in omega (arith, z, c.fill_leaf.ensures.steps)
+    let z = claim_few c.args.table.now g.G.Gate.becomes _ _ _ _ (c.args.seat.now, c.args.gate.now) (c.claim_record.new.seat, c.claim_record.new.gate) c.in_ok-number.ensures.claims in omega (arith, z, c.fill_leaf.ensures.steps)
