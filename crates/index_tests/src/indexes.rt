@@ -150,6 +150,19 @@ fn one_pair_is_listed_where_it_is_in_range(rt: HostRuntime) -> Result<(), Fail> 
     let (index, mut passes) = index_of(&rt, rt.alloc(), 1)?;
     let mut pass = last_pass(&rt, &index, &mut passes);
     assert!(rt; index.try_insert(&mut pass, &key(&rt, b"ab"), 77) == Ok(Reply::Inserted));
+    ranges_are_listed(&rt, rt.alloc(), &index, &mut pass)?;
+    Ok(())
+}
+
+/// Lists ranges about the one pair of an index: whether the pair is in a range, and whether a limit leaves it out.
+fn ranges_are_listed(
+    rt: &impl Abort,
+    alloc: Global,
+    index: &Index,
+    pass: &mut Pass,
+) -> Result<(), AllocError>
+    requires { Owns index.now pass.old }
+{
     for row in [
         ("a", "b", 1),
         ("ab", "b", 1),
@@ -159,10 +172,10 @@ fn one_pair_is_listed_where_it_is_in_range(rt: HostRuntime) -> Result<(), Fail> 
         ("b", "b", 0),
         ("b", "a", 0),
     ] {
-        let (from, upto) = (key(&rt, row.0.as_bytes()), key(&rt, row.1.as_bytes()));
-        let none = index.scan(rt.alloc(), &mut pass, &from, &upto, 0)?;
+        let (from, upto) = (key(rt, row.0.as_bytes()), key(rt, row.1.as_bytes()));
+        let none = index.scan(alloc, pass, &from, &upto, 0)?;
         assert!(rt; none.pairs.is_empty() && none.more == (row.2 == 1));
-        let all = index.scan(rt.alloc(), &mut pass, &from, &upto, usize::MAX)?;
+        let all = index.scan(alloc, pass, &from, &upto, usize::MAX)?;
         assert!(rt; all.pairs.len() == row.2 && !all.more);
     }
     Ok(())
