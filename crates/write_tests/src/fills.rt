@@ -92,7 +92,7 @@ fn a_round_gives_room_to_inserts(rt: HostRuntime) -> Result<(), Fail> {
     Ok(())
 }
 
-/// Whether an index with so many nodes takes the keys, refuses the last one for want of a node, and goes on.
+/// Whether an index with so many nodes takes the keys, refuses the last one for want of a node a thousand times, and goes on.
 fn refuses(
     rt: &impl Abort,
     alloc: Global,
@@ -102,7 +102,10 @@ fn refuses(
 ) -> Result<bool, AllocError> {
     let (index, mut passes) = index_of(rt, alloc, 1, nodes, 2_048)?;
     let mut pass = next_guest(rt, &index, &mut passes);
-    let has_refused = pass.inserts(keys) && pass.insert(last, 0) == Err(TryFault::FullNodes);
+    let mut has_refused = pass.inserts(keys);
+    for _ in 0..1_000u32 {
+        has_refused = has_refused && pass.insert(last, 0) == Err(TryFault::FullNodes);
+    }
     let has_left = pass.collect() == (0, 0) && pass.finds(keys) && pass.get(last).is_none();
     let Some(first) = keys.first() else {
         return Ok(false);

@@ -2,6 +2,10 @@
 #![tactic(auto)]
 
 #[cfg(test)]
+mod crowds;
+#[cfg(test)]
+mod every;
+#[cfg(test)]
 mod fills;
 #[cfg(test)]
 mod gates;
@@ -21,3 +25,5 @@ mod scans;
 mod stops;
 #[cfg(test)]
 mod threads;
+#[cfg(test)]
+mod turns;

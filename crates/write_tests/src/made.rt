@@ -32,6 +32,19 @@ pub fn byte_keys(
     Ok(keys)
 }
 
+/// The key of no bytes, below which there is none.
+pub fn lowest() -> Key {
+    Key::of_places([0; 240], 0)
+}
+
+/// The key of 240 bytes 255, above which there is none.
+pub fn highest() -> Key {
+    match Key::from_bytes(&[255; 240]) {
+        Ok(key) => key,
+        Err(_) => lowest(),
+    }
+}
+
 /// The first `count` keys of two bytes, in order.
 pub fn pair_keys(rt: &impl Abort, alloc: Global, count: u16) -> Result<Vec<Key>, AllocError> {
     let mut keys = Vec::new(alloc);
@@ -80,6 +93,14 @@ pub struct Guest<'a> {
     pub index: &'a Index,
     pub pass: Pass,
     ghost owns: { Owns index.now pass },
+}
+
+/// What a pass may do: make a call, list so many keys from the lowest on, or make a round of collection.
+#[derive(Drop)]
+pub enum Deed {
+    Make(Call),
+    List(usize),
+    Collect,
 }
 
 /// The last of the passes that are left, at its index.
@@ -186,6 +207,37 @@ impl<'a> Guest<'a> {
     ) -> Result<Scan, AllocError> {
         self.index
             .scan_with(alloc, &mut self.pass, from, upto, limit, gate)
+    }
+
+    /// Does something, with a gate that is told each step.
+    pub fn does_with<G: Gate>(
+        &mut self,
+        alloc: Global,
+        deed: &Deed,
+        gate: &mut G,
+    ) -> Result<(), AllocError> {
+        match deed {
+            Deed::Make(call) => {
+                let _ = self.make_with(call, gate);
+            }
+            Deed::List(limit) => {
+                self.scan_with(alloc, &lowest(), &highest(), *limit, gate)?;
+            }
+            Deed::Collect => {
+                self.collect_with(gate);
+            }
+        }
+        Ok(())
+    }
+
+    /// All keys with their values, with a gate that is told each step.
+    pub fn lists_with<G: Gate>(
+        &mut self,
+        alloc: Global,
+        gate: &mut G,
+    ) -> Result<Vec<(Key, u64)>, AllocError> {
+        let scan = self.scan_with(alloc, &lowest(), &highest(), usize::MAX, gate)?;
+        Ok(scan.pairs)
     }
 
     /// How many nodes and leaves are not free, after two rounds of collection.

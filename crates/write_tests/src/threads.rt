@@ -1,5 +1,6 @@
 //! Calls of several threads at the same time.
 
+ghost use Rattle.std.specs.Prelude.{All};
 ghost use Rattle.hot_index.specs.Passes.{Owns};
 
 use crate::made::*;
@@ -60,71 +61,79 @@ fn two_threads_find_each_others_key(rt: HostRuntime) -> Result<(), Fail> {
     Ok(())
 }
 
-/// What a thread counts of its calls.
-#[derive(Clone, Copy)]
+/// How many keys four threads share.
+const KEYS: usize = 500;
+
+/// What calls were answered.
+#[derive(Drop)]
 struct Tally {
-    added: u64,
-    removed: u64,
+    /// How often each key was added, less how often it was removed.
+    held: [u64; KEYS],
+    /// How many values were found that no call wrote for the key.
     wrong: u64,
-    busy: u64,
-    full: u64,
 }
 
 impl Tally {
-    /// Counts an answer to a call with the key of this number. A value is wrong where it was written for another key.
-    fn count(&mut self, number: u64, told: Result<Reply, TryFault>) {
+    fn new() -> Tally {
+        Tally {
+            held: [0; KEYS],
+            wrong: 0,
+        }
+    }
+
+    /// Counts an answer to a call with the key of this number.
+    fn count(&mut self, number: usize, told: Result<Reply, TryFault>) {
         match told {
-            Ok(Reply::Inserted | Reply::New) => self.added = self.added.wrapping_add(1),
+            Ok(Reply::Inserted | Reply::New) => self.add(number, 1),
             Ok(Reply::Exists(value) | Reply::Was(value) | Reply::Value(value)) => self.check(
                 number, value,
             ),
             Ok(Reply::Removed(value)) => {
-                self.removed = self.removed.wrapping_add(1);
+                self.add(number, u64::MAX);
                 self.check(number, value);
             }
-            Ok(Reply::Absent) => {}
-            Err(TryFault::Busy) => self.busy = self.busy.wrapping_add(1),
-            Err(_) => self.full = self.full.wrapping_add(1),
+            Ok(Reply::Absent) | Err(_) => {}
         }
     }
 
-    fn add(&mut self, other: Tally) {
-        self.added = self.added.wrapping_add(other.added);
-        self.removed = self.removed.wrapping_add(other.removed);
-        self.wrong = self.wrong.wrapping_add(other.wrong);
-        self.busy = self.busy.wrapping_add(other.busy);
-        self.full = self.full.wrapping_add(other.full);
+    fn add(&mut self, number: usize, change: u64) {
+        if let Some(held) = self.held.get_mut(number) {
+            *held = held.wrapping_add(change);
+        }
     }
 
-    fn check(&mut self, number: u64, value: u64) {
-        if value >> 32 != number {
+    fn check(&mut self, number: usize, value: u64) {
+        if value >> 32 != number as u64 {
             self.wrong = self.wrong.wrapping_add(1);
         }
     }
+
+    /// Adds what other calls were answered.
+    fn merge(&mut self, other: &Tally) {
+        for (number, change) in other.held.iter().enumerate() {
+            self.add(number, *change);
+        }
+        self.wrong = self.wrong.wrapping_add(other.wrong);
+    }
 }
 
-/// Makes so many calls by chance, and counts what they are answered. The value of a key has the key's number as its high part.
-fn work(index: &Index, mut pass: Pass, keys: &[Key], calls: u64) -> Tally
+/// Makes so many calls by chance, and tells what they were answered. The value of a key has the key's number as its high part.
+fn work(index: &Index, mut pass: Pass, keys: &[Key], calls: u64) -> (Tally, Pass)
     requires { Owns index.now pass }
+    ensures { Owns index.now result.1 }
 {
     let mut chance = Chance(u64::from(pass.number()));
-    let mut tally = Tally {
-        added: 0,
-        removed: 0,
-        wrong: 0,
-        busy: 0,
-        full: 0,
-    };
+    let mut tally = Tally::new();
     for turn in 0..calls {
         let number = chance.below(keys.len() as u64);
         let Some(key) = keys.get(number as usize) else {
-            return tally;
+            return (tally, pass);
         };
         let value = (number << 32) | (turn & 0xffff_ffff);
         let told = ask(index, &mut pass, chance.below(8), key, value);
-        tally.count(number, told);
+        tally.count(number as usize, told);
     }
-    tally
+    (tally, pass)
 }
 
 /// Makes a call of this kind.
@@ -143,36 +152,57 @@ fn ask(index: &Index, pass: &mut Pass, kind: u64, key: &Key, value: u64) -> Resu
     }
 }
 
-/// What all of them counted.
-fn sum_of(done: Vec<Tally>) -> Tally {
-    let mut sum = Tally {
-        added: 0,
-        removed: 0,
-        wrong: 0,
-        busy: 0,
-        full: 0,
-    };
-    for tally in done {
-        sum.add(tally);
+/// A further pass meets those of the threads, one after another. Gives what all their calls were answered, and that pass.
+fn gather(index: &Index, judge: Pass, done: Vec<(Tally, Pass)>) -> (Tally, Pass)
+    requires judge { Owns index.now judge }
+    requires each { All (λ d. Owns index.now d.1) done.items }
+    ensures { Owns index.now result.1 }
+{
+    let mut judge = judge;
+    let mut sum = Tally::new();
+    for counted in done {
+        let (tally, pass) = counted;
+        sum.merge(&tally);
+        let (again, _) = index.meet(judge, pass);
+        judge = again;
     }
-    sum
+    (sum, judge)
 }
 
-/// Four threads make 5,000 calls each with 500 keys, where few records are to spare.
+/// Removes the keys that are there, and counts the answers.
+fn clear(judge: &mut Guest, keys: &[Key], sum: &mut Tally) {
+    for (number, key) in keys.iter().enumerate() {
+        let told = judge.remove(key);
+        sum.count(number, told);
+    }
+}
+
+/// Four threads make 5,000 calls each with 500 keys, where few records are to spare. Then a key is there just where it was added
+/// once more than it was removed; and once all are removed, no record is in use.
 #[test]
 fn four_threads_leave_what_their_answers_say(rt: HostRuntime) -> Result<(), Fail> {
-    let keys = pair_keys(&rt, rt.alloc(), 500)?;
+    let keys = pair_keys(&rt, rt.alloc(), KEYS as u16)?;
     let (index, mut passes) = index_of(&rt, rt.alloc(), 5, 60, 520)?;
-    let mut last = next_guest(&rt, &index, &mut passes);
-    let work = |pass: Pass| -> Tally
+    let judge = last_pass(&rt, &index, &mut passes);
+    let work = |pass: Pass| -> (Tally, Pass)
         requires { Owns index pass }
+        ensures { Owns index result.1 }
     { work(&index, pass, &keys, 5_000) };
     let done = map_vec(&rt, passes, &work)?;
-    let sum = sum_of(done);
-    assert!(rt; sum.wrong == 0);
-    let held = sum.added.wrapping_sub(sum.removed);
-    assert!(rt; last.counts(&rt, rt.alloc())? as u64 == held);
-    assert!(rt; u64::from(last.taken().1) == held);
+    let (mut sum, pass) = gather(&index, judge, done);
+    let mut judge = Guest {
+        index: &index,
+        pass,
+    };
+    let count = judge.counts(&rt, rt.alloc())?;
+    assert!(rt; judge.taken().1 as usize == count);
+    for (number, key) in keys.iter().enumerate() {
+        let held = if judge.get(key).is_some() { 1 } else { 0 };
+        assert!(rt; sum.held.get(number) == Some(&held));
+    }
+    clear(&mut judge, &keys, &mut sum);
+    assert!(rt; sum.wrong == 0 && sum.held == [0; KEYS]);
+    assert!(rt; judge.taken() == (0, 0));
     Ok(())
 }
 
