@@ -85,6 +85,3 @@ fn new_index(
         None => unreachable!(),
     }
 }
-
-#[cfg(test)]
-mod tests;
