@@ -1,0 +1,118 @@
+/* An ordered index from byte keys to 64-bit values, in memory, which threads use at the same time.
+ *
+ * hot_create makes an index and opens handles on it, 1 to 64. A handle is the right to use the index. Calls with different
+ * handles may run at the same time. Calls with one handle may not: give each thread a handle, or pass a handle on by a lock, by a
+ * thread's start or join, or by a sequentially consistent atomic. A call's effect is visible to all others at once or not at all.
+ *
+ * A key is 0 to HOT_MAX_KEY bytes, of any value; keys are ordered as memcmp orders bytes, and a key comes after each shorter one
+ * that it begins with. The index keeps copies: a key's memory is yours again when the call returns.
+ *
+ * What the library trusts its caller with: no pointer is NULL (of a key neither where its length is 0), each points to what its type
+ * says, and what a call writes overlaps nothing else that it is given. A handle is zeroed before hot_create, and the program never
+ * copies, moves or writes its bytes. malloc, realloc and free are those of one allocator. No call is made from a signal handler, nor
+ * in the child of a fork of a process with threads.
+ *
+ * No call fails otherwise than by its status, and none waits for another. Link with libhot_c.a, liblibc_c.a and -pthread.
+ */
+#ifndef HOT_H
+#define HOT_H
+
+#include <stddef.h>
+#include <stdint.h>
+
+#ifdef __cplusplus
+extern "C" {
+#endif
+
+/* The most bytes of a key. */
+#define HOT_MAX_KEY 240
+
+/* What became of a call. Each call says which of these it answers; up to HOT_REMOVED it was made, and from HOT_BUSY on it changed
+ * nothing. */
+typedef uint32_t hot_status;
+enum {
+    HOT_DONE = 0,          /* it was made, and has no other answer */
+    HOT_FOUND = 1,         /* the key has this value */
+    HOT_ABSENT = 2,        /* the key is not there */
+    HOT_INSERTED = 3,      /* the key was absent, and has the new value */
+    HOT_EXISTS = 4,        /* the key has this value, and keeps it */
+    HOT_NEW = 5,           /* the key was absent, and has the new value */
+    HOT_WAS = 6,           /* the key had this value, and has the new one */
+    HOT_REMOVED = 7,       /* the key had this value, and is gone */
+    HOT_BUSY = 8,          /* another call stood in the way: try again */
+    HOT_FULL_NODES = 9,    /* no node record was free, also after a collection; while other calls run they hold some: try again then */
+    HOT_FULL_LEAVES = 10,  /* the same of leaf records */
+    HOT_KEY_TOO_LONG = 11, /* a key has more than HOT_MAX_KEY bytes */
+    HOT_CLOSED = 12,       /* the handle is closed */
+    HOT_OPEN = 13,         /* a handle that was to be opened is open */
+    HOT_OUT_OF_RANGE = 14, /* a number of handles, nodes or leaves is out of range */
+    HOT_NO_MEMORY = 15
+};
+
+/* A handle. Its fields are the library's. */
+typedef struct hot_handle {
+    uint32_t tag;
+    struct {
+        void *at;
+    } slot;
+} hot_handle;
+
+/* A handle before hot_create: hot_handle handles[2] = { HOT_HANDLE, HOT_HANDLE }; */
+#define HOT_HANDLE { 0, { NULL } }
+
+/* A key with its value. The first `length` bytes of `key` are the key. */
+typedef struct hot_pair {
+    uint8_t key[HOT_MAX_KEY];
+    uint32_t length;
+    uint64_t value;
+} hot_pair;
+
+/* Makes an empty index and opens `count` handles on it, 1 to 64, which all have to be closed. The index has room for `nodes` node
+ * records, 1 to 65535, and `leaves` leaf records, 1 to 262143. Each key takes a leaf; a node takes up to 32 keys or nodes, and as few
+ * as two. Some more of both are good to have: a change builds the new before it gives the old back.
+ * HOT_DONE; HOT_OPEN, HOT_OUT_OF_RANGE or HOT_NO_MEMORY, and no handle was opened then. */
+hot_status hot_create(uint32_t nodes, uint32_t leaves, hot_handle *handles, size_t count);
+
+/* Writes a handle's number, which is its place among those that hot_create opened with it.
+ * HOT_DONE; HOT_CLOSED. */
+hot_status hot_number(hot_handle *handle, uint16_t *number);
+
+/* Looks a key up, and writes its value where it has one.
+ * HOT_FOUND, HOT_ABSENT; HOT_KEY_TOO_LONG, HOT_CLOSED. It is never busy. */
+hot_status hot_get(hot_handle *handle, const uint8_t *key, size_t length, uint64_t *value);
+
+/* Gives a key a value if it is absent. Where it is there it keeps the value that it has, which is written to `had`.
+ * HOT_INSERTED, HOT_EXISTS; HOT_BUSY, HOT_FULL_NODES, HOT_FULL_LEAVES, HOT_KEY_TOO_LONG, HOT_CLOSED. */
+hot_status hot_try_insert(hot_handle *handle, const uint8_t *key, size_t length, uint64_t value, uint64_t *had);
+
+/* Gives a key a value. Where it had one, that is written to `had`.
+ * HOT_NEW, HOT_WAS; HOT_BUSY, HOT_FULL_NODES, HOT_FULL_LEAVES, HOT_KEY_TOO_LONG, HOT_CLOSED. */
+hot_status hot_try_upsert(hot_handle *handle, const uint8_t *key, size_t length, uint64_t value, uint64_t *had);
+
+/* Makes a key absent. Where it had a value, that is written to `had`.
+ * HOT_REMOVED, HOT_ABSENT; HOT_BUSY, HOT_FULL_NODES, HOT_KEY_TOO_LONG, HOT_CLOSED. */
+hot_status hot_try_remove(hot_handle *handle, const uint8_t *key, size_t length, uint64_t *had);
+
+/* Lists the keys from `from` to `upto`, both included, with their values, in the order of the keys: the first ones, as many as the
+ * array `pairs` has places, which is `limit`. Writes how many these are to `count`, and to `more` 1 where there is a further one, else 0.
+ * Other calls may change the index meanwhile: each pair was there at some moment of the call, and each key that was there all along is
+ * listed, where there is a further one up to the last pair's. To go on, begin at the last key with a byte 0 after it.
+ * HOT_DONE; HOT_KEY_TOO_LONG, HOT_CLOSED, HOT_NO_MEMORY, and nothing was written then. */
+hot_status hot_scan(hot_handle *handle, const uint8_t *from, size_t from_length, const uint8_t *upto, size_t upto_length,
+                    hot_pair *pairs, size_t limit, size_t *count, uint32_t *more);
+
+/* Gives records back that changes have unlinked and that no call can reach any more, and writes how many. A change that finds no record
+ * free does so itself before it gives up, so a program need not.
+ * HOT_DONE; HOT_CLOSED. */
+hot_status hot_collect(hot_handle *handle, uint32_t *nodes, uint32_t *leaves);
+
+/* Closes a handle, in any order and from any thread. The last one that is closed frees the index. A closed handle may be given to
+ * hot_create again.
+ * HOT_DONE; HOT_CLOSED where it is closed already. */
+hot_status hot_destroy(hot_handle *handle);
+
+#ifdef __cplusplus
+}
+#endif
+
+#endif

@@ -1,0 +1,242 @@
+/* Tests of the library from C: each call and each status, two threads on one index, handles closed in any order. */
+#include "hot.h"
+#include <pthread.h>
+#include <stdio.h>
+#include <string.h>
+#include <sys/resource.h>
+
+static int failures;
+
+#define CHECK(that)                                                    \
+    do {                                                               \
+        if (!(that)) {                                                 \
+            fprintf(stderr, "test.c:%d: not so: %s\n", __LINE__, #that); \
+            __atomic_store_n(&failures, 1, __ATOMIC_SEQ_CST);          \
+        }                                                              \
+    } while (0)
+
+static const uint8_t *bytes(const char *text) {
+    return (const uint8_t *)text;
+}
+
+/* One handle: what each call answers. */
+static void test_calls(void) {
+    hot_handle handle = HOT_HANDLE;
+    uint64_t value = 7;
+    CHECK(hot_create(100, 100, &handle, 1) == HOT_DONE);
+    CHECK(hot_get(&handle, bytes("b"), 1, &value) == HOT_ABSENT && value == 7);
+    CHECK(hot_try_insert(&handle, bytes("b"), 1, 20, &value) == HOT_INSERTED && value == 7);
+    CHECK(hot_try_insert(&handle, bytes("b"), 1, 21, &value) == HOT_EXISTS && value == 20);
+    CHECK(hot_try_upsert(&handle, bytes(""), 0, 10, &value) == HOT_NEW && value == 20);
+    CHECK(hot_try_upsert(&handle, bytes("b"), 1, 22, &value) == HOT_WAS && value == 20);
+    CHECK(hot_get(&handle, bytes("b"), 1, &value) == HOT_FOUND && value == 22);
+    CHECK(hot_get(&handle, bytes(""), 0, &value) == HOT_FOUND && value == 10);
+    CHECK(hot_try_remove(&handle, bytes("b"), 1, &value) == HOT_REMOVED && value == 22);
+    CHECK(hot_try_remove(&handle, bytes("b"), 1, &value) == HOT_ABSENT && value == 22);
+    CHECK(hot_destroy(&handle) == HOT_DONE);
+}
+
+/* Scans: the order of keys, the limit, and the places that are left as they were. */
+static void test_scan(void) {
+    hot_handle handle = HOT_HANDLE;
+    hot_pair pairs[3];
+    uint64_t had;
+    size_t count = 9;
+    uint32_t more = 9;
+    CHECK(hot_create(100, 100, &handle, 1) == HOT_DONE);
+    CHECK(hot_try_insert(&handle, bytes("b"), 1, 2, &had) == HOT_INSERTED);
+    CHECK(hot_try_insert(&handle, bytes("aa"), 2, 1, &had) == HOT_INSERTED);
+    CHECK(hot_try_insert(&handle, bytes("c"), 1, 3, &had) == HOT_INSERTED);
+    memset(pairs, 0xee, sizeof pairs);
+    CHECK(hot_scan(&handle, bytes("a"), 1, bytes("z"), 1, pairs, 2, &count, &more) == HOT_DONE);
+    CHECK(count == 2 && more == 1);
+    CHECK(pairs[0].length == 2 && !memcmp(pairs[0].key, "aa", 2) && pairs[0].value == 1);
+    CHECK(pairs[1].length == 1 && pairs[1].key[0] == 'b' && pairs[1].value == 2);
+    CHECK(pairs[2].length == 0xeeeeeeee && pairs[2].value == 0xeeeeeeeeeeeeeeee);
+    CHECK(hot_scan(&handle, bytes("b"), 1, bytes("c"), 1, pairs, 3, &count, &more) == HOT_DONE);
+    CHECK(count == 2 && more == 0 && pairs[1].value == 3);
+    CHECK(hot_scan(&handle, bytes("x"), 1, bytes("z"), 1, pairs, 0, &count, &more) == HOT_DONE);
+    CHECK(count == 0 && more == 0);
+    CHECK(hot_destroy(&handle) == HOT_DONE);
+}
+
+/* Keys of the greatest length and beyond. */
+static void test_long_keys(void) {
+    hot_handle handle = HOT_HANDLE;
+    uint8_t key[HOT_MAX_KEY + 1];
+    hot_pair pair;
+    uint64_t value = 7;
+    size_t count = 9;
+    uint32_t more = 9;
+    memset(key, 0xff, sizeof key);
+    CHECK(hot_create(10, 10, &handle, 1) == HOT_DONE);
+    CHECK(hot_try_insert(&handle, key, HOT_MAX_KEY, 5, &value) == HOT_INSERTED);
+    CHECK(hot_get(&handle, key, HOT_MAX_KEY, &value) == HOT_FOUND && value == 5);
+    CHECK(hot_scan(&handle, key, 0, key, HOT_MAX_KEY, &pair, 1, &count, &more) == HOT_DONE);
+    CHECK(count == 1 && pair.length == HOT_MAX_KEY && !memcmp(pair.key, key, HOT_MAX_KEY));
+    CHECK(hot_get(&handle, key, sizeof key, &value) == HOT_KEY_TOO_LONG && value == 5);
+    CHECK(hot_try_insert(&handle, key, sizeof key, 6, &value) == HOT_KEY_TOO_LONG);
+    CHECK(hot_try_upsert(&handle, key, sizeof key, 6, &value) == HOT_KEY_TOO_LONG);
+    CHECK(hot_try_remove(&handle, key, sizeof key, &value) == HOT_KEY_TOO_LONG);
+    CHECK(hot_scan(&handle, key, 0, key, sizeof key, &pair, 1, &count, &more) == HOT_KEY_TOO_LONG && count == 1);
+    CHECK(hot_destroy(&handle) == HOT_DONE);
+}
+
+/* An index with few records: refused changes change nothing, and removals give room. */
+static void test_full(void) {
+    hot_handle handle = HOT_HANDLE;
+    uint64_t had = 7;
+    uint32_t nodes, leaves;
+    CHECK(hot_create(10, 1, &handle, 1) == HOT_DONE);
+    CHECK(hot_try_insert(&handle, bytes("a"), 1, 1, &had) == HOT_INSERTED);
+    CHECK(hot_try_insert(&handle, bytes("b"), 1, 2, &had) == HOT_FULL_LEAVES && had == 7);
+    CHECK(hot_try_remove(&handle, bytes("a"), 1, &had) == HOT_REMOVED && had == 1);
+    CHECK(hot_try_insert(&handle, bytes("b"), 1, 2, &had) == HOT_INSERTED);
+    CHECK(hot_try_remove(&handle, bytes("b"), 1, &had) == HOT_REMOVED && had == 2);
+    CHECK(hot_collect(&handle, &nodes, &leaves) == HOT_DONE && nodes == 0 && leaves == 1);
+    CHECK(hot_destroy(&handle) == HOT_DONE);
+    CHECK(hot_create(1, 10, &handle, 1) == HOT_DONE);
+    CHECK(hot_try_insert(&handle, bytes("a"), 1, 1, &had) == HOT_INSERTED);
+    CHECK(hot_try_insert(&handle, bytes("b"), 1, 2, &had) == HOT_INSERTED);
+    CHECK(hot_try_insert(&handle, bytes("c"), 1, 3, &had) == HOT_FULL_NODES);
+    CHECK(hot_get(&handle, bytes("c"), 1, &had) == HOT_ABSENT);
+    CHECK(hot_destroy(&handle) == HOT_DONE);
+}
+
+/* What a closed handle answers. */
+static void check_closed(hot_handle *handle) {
+    uint64_t value = 7;
+    uint16_t number = 7;
+    uint32_t nodes = 7, leaves = 7, more = 7;
+    size_t count = 7;
+    hot_pair pair;
+    CHECK(hot_number(handle, &number) == HOT_CLOSED && number == 7);
+    CHECK(hot_get(handle, bytes("a"), 1, &value) == HOT_CLOSED && value == 7);
+    CHECK(hot_try_insert(handle, bytes("a"), 1, 1, &value) == HOT_CLOSED);
+    CHECK(hot_try_upsert(handle, bytes("a"), 1, 1, &value) == HOT_CLOSED);
+    CHECK(hot_try_remove(handle, bytes("a"), 1, &value) == HOT_CLOSED && value == 7);
+    CHECK(hot_scan(handle, bytes("a"), 1, bytes("b"), 1, &pair, 1, &count, &more) == HOT_CLOSED && count == 7);
+    CHECK(hot_collect(handle, &nodes, &leaves) == HOT_CLOSED && nodes == 7);
+    CHECK(hot_destroy(handle) == HOT_CLOSED);
+}
+
+/* Making and closing: numbers out of range, handles that are open, any order of closing, and opening again. */
+static void test_handles(void) {
+    hot_handle handles[65];
+    uint16_t number = 7;
+    uint64_t value;
+    memset(handles, 0, sizeof handles);
+    check_closed(&handles[0]);
+    CHECK(hot_create(10, 10, handles, 0) == HOT_OUT_OF_RANGE);
+    CHECK(hot_create(10, 10, handles, 65) == HOT_OUT_OF_RANGE);
+    CHECK(hot_create(0, 10, handles, 2) == HOT_OUT_OF_RANGE);
+    CHECK(hot_create(10, 262144, handles, 2) == HOT_OUT_OF_RANGE);
+    check_closed(&handles[0]);
+    CHECK(hot_create(10, 10, &handles[1], 1) == HOT_DONE);
+    CHECK(hot_create(10, 10, handles, 3) == HOT_OPEN);
+    CHECK(hot_destroy(&handles[1]) == HOT_DONE);
+    CHECK(hot_create(10, 10, handles, 3) == HOT_DONE);
+    CHECK(hot_number(&handles[2], &number) == HOT_DONE && number == 2);
+    CHECK(hot_try_insert(&handles[0], bytes("a"), 1, 1, &value) == HOT_INSERTED);
+    CHECK(hot_destroy(&handles[0]) == HOT_DONE);
+    check_closed(&handles[0]);
+    CHECK(hot_destroy(&handles[2]) == HOT_DONE);
+    CHECK(hot_get(&handles[1], bytes("a"), 1, &value) == HOT_FOUND && value == 1);
+    CHECK(hot_destroy(&handles[1]) == HOT_DONE);
+    CHECK(hot_create(10, 10, handles, 64) == HOT_DONE);
+    for (int i = 0; i < 64; i++)
+        CHECK(hot_destroy(&handles[i]) == HOT_DONE);
+}
+
+/* An index that memory does not hold: no handle is opened. */
+static void test_memory(void) {
+    hot_handle handle = HOT_HANDLE;
+    struct rlimit all, little;
+    CHECK(getrlimit(RLIMIT_AS, &all) == 0);
+    little = all;
+    little.rlim_cur = 64 << 20;
+    CHECK(setrlimit(RLIMIT_AS, &little) == 0);
+    CHECK(hot_create(65535, 262143, &handle, 1) == HOT_NO_MEMORY);
+    CHECK(setrlimit(RLIMIT_AS, &all) == 0);
+    check_closed(&handle);
+}
+
+enum { KEYS = 300, ROUNDS = 40 };
+
+/* What a thread does in an index that it shares. */
+typedef struct worker {
+    hot_handle *handle;
+    uint8_t name;
+    long busy;
+} worker;
+
+/* Whether a call is to be made again: another stood in its way, or holds what a collection would have given back. */
+static int again(worker *me, hot_status status) {
+    me->busy += status == HOT_BUSY;
+    return status == HOT_BUSY || status == HOT_FULL_NODES || status == HOT_FULL_LEAVES;
+}
+
+/* Puts keys of its own and one that all threads put, looks them up, and removes them. */
+static void *work(void *given) {
+    worker *me = given;
+    uint64_t value;
+    for (int round = 0; round < ROUNDS; round++) {
+        for (int i = 0; i < KEYS; i++) {
+            uint8_t key[3] = {(uint8_t)(i % 7), (uint8_t)i, me->name};
+            uint64_t mine = (uint64_t)round * KEYS + i;
+            hot_status status;
+            do
+                status = hot_try_insert(me->handle, key, 3, mine, &value);
+            while (again(me, status));
+            CHECK(status == HOT_INSERTED);
+            CHECK(hot_get(me->handle, key, 3, &value) == HOT_FOUND && value == mine);
+            do
+                status = hot_try_upsert(me->handle, bytes("shared"), 6, me->name, &value);
+            while (again(me, status));
+            CHECK(status == HOT_NEW || status == HOT_WAS);
+        }
+        for (int i = 0; i < KEYS; i++) {
+            uint8_t key[3] = {(uint8_t)(i % 7), (uint8_t)i, me->name};
+            hot_status status;
+            do
+                status = hot_try_remove(me->handle, key, 3, &value);
+            while (again(me, status));
+            CHECK(status == HOT_REMOVED && value == (uint64_t)round * KEYS + i);
+        }
+    }
+    return NULL;
+}
+
+/* Two threads on one index. Rounds go on until a call met another's, which makes it busy. */
+static void test_threads(void) {
+    hot_handle handles[2] = {HOT_HANDLE, HOT_HANDLE};
+    worker workers[2] = {{&handles[0], 1, 0}, {&handles[1], 2, 0}};
+    hot_pair pairs[2];
+    size_t count;
+    uint32_t more;
+    CHECK(hot_create(2000, 3000, handles, 2) == HOT_DONE);
+    for (int tries = 0; tries < 50 && !workers[0].busy && !workers[1].busy && !failures; tries++) {
+        pthread_t other;
+        CHECK(pthread_create(&other, NULL, work, &workers[1]) == 0);
+        work(&workers[0]);
+        CHECK(pthread_join(other, NULL) == 0);
+    }
+    CHECK(workers[0].busy || workers[1].busy);
+    CHECK(hot_scan(&handles[0], bytes(""), 0, bytes("z"), 1, pairs, 2, &count, &more) == HOT_DONE);
+    CHECK(count == 1 && more == 0 && (pairs[0].value == 1 || pairs[0].value == 2));
+    CHECK(hot_destroy(&handles[0]) == HOT_DONE);
+    CHECK(hot_destroy(&handles[1]) == HOT_DONE);
+}
+
+int main(void) {
+    CHECK(sizeof(hot_handle) == 16 && sizeof(hot_pair) == 256);
+    test_calls();
+    test_scan();
+    test_long_keys();
+    test_full();
+    test_handles();
+    test_memory();
+    test_threads();
+    puts(failures ? "the C test failed" : "the C test passed");
+    return failures;
+}

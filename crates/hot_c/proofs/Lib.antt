@@ -1,0 +1,8 @@
+-- The lemmas of the crate.
+pub mod Steps
+pub mod Content
+pub mod Boxes
+pub mod Shares
+pub mod Listed
+pub mod Places
+pub mod Answered

@@ -1,0 +1,9 @@
+-- The look-up is made on the handle's pass.
+use Rattle.std.proofs.Common.{refl, Ok}
+use Rattle.hot_model.specs.declared.Call.TheVariants.{Get}
+use Rattle.hot_c.proofs.Answered.{answered, of_key}
+use Rattle.hot_c.proofs.exports.hot_get.Goals as goal
+
+pub returns-in-Ok-clause-call : goal.returns-in-Ok-clause-call
+returns-in-Ok-clause-call c = answered Get c.args.key.now _ _ _ _ _ _ _ _ (Ok c.get.result) c.lend.ensures.value refl c.get.ensures.index c.get.ensures.call
+    (of_key c.args.key.now _ _ c.in-Ok.is c.from_bytes.ensures.fits c.from_bytes.ensures.ok) c.tell.ensures.status c.tell.ensures.value

@@ -1,0 +1,87 @@
+-- What the calls of a program in C say.
+use Rattle.std.specs.Prelude.{◌≡◌, ◌⊎◌, ℕ, ◌≤◌, List, length, drop, map, All, slice_get, Option, Some, None, IsSome, Result, MatchResult}
+use Rattle.std.specs.Int.{from_bool}
+use Rattle.key_bits.specs.declared.TheConstants.{MAX_BYTES}
+use Rattle.hot_model.specs.declared.Call.{Call}
+use Rattle.hot_model.specs.declared.Reply.{Reply}
+use Rattle.hot_model.specs.declared.Scan.{Scan}
+use Rattle.record_words.specs.Limits.{IsPassCount, IsNodeCount, IsLeafCount}
+use Rattle.rowex_table.specs.Seats.{TableView}
+use Rattle.rowex_writing.specs.declared.attempts.TryFault.{TryFault}
+use Rattle.hot_index.specs.Answers.{IsNoted, IsRefused, IsScanned, IsUnnoted}
+use Rattle.hot_index.specs.Passes.{PassView, IsNewPass}
+use Rattle.hot_index.specs.Traces.{HasCollected, untold}
+use Rattle.hot_c.specs.Pairs.{AreSpelled}
+use Rattle.hot_c.specs.Statuses.{status_of, value_after}
+use Rattle.hot_c.specs.declared.handle.Handle.{Handle}
+use Rattle.hot_c.specs.declared.opened.Opened.{Opened}
+use Rattle.hot_c.specs.declared.pairs.Pair.{Pair}
+use Rattle.hot_c.specs.declared.status.TheConstants.{DONE, KEY_TOO_LONG, CLOSED, NO_MEMORY}
+
+-- the key is short enough
+abbrev pub IsFit : List ℕ → Type 0
+IsFit key = length key ≤ MAX_BYTES
+
+-- An open handle stays open, on the same index, and this became of its pass.
+pub record StaysOpen (Became : TableView → PassView → PassView → Type 0) (old new : Option Opened) : Type 0 where
+  pub before : Opened
+  pub after : Opened
+  pub was : old ≡ Some before
+  pub is : new ≡ Some after
+  pub index : after.index ≡ before.index
+  pub became : Became before.index.value before.pass after.pass
+
+-- A call for a key had this outcome: it was noted with the reply, or refused for the cause.
+abbrev pub HasOutcome : Call → Result Reply TryFault → TableView → PassView → PassView → Type 0
+HasOutcome call outcome index k j = MatchResult outcome (IsNoted index.layout k j call) (IsRefused index.layout k j)
+
+-- A call for a key through a handle, which finds `before` where C wants a value and leaves `after`. A closed handle and a key that
+-- is too long are told as such, and nothing has changed; else the call is made, and its outcome told.
+pub record Answers (key : List ℕ) (call : Call) (old new : Option Opened) (before after status : ℕ) : Type 0 where
+  pub closed : old ≡ None → (status ≡ CLOSED) × (new ≡ old) × (after ≡ before)
+  pub long : IsSome old → ¬ IsFit key → (status ≡ KEY_TOO_LONG) × (new ≡ old) × (after ≡ before)
+  pub made : IsSome old → IsFit key → (outcome : Result Reply TryFault) × StaysOpen (HasOutcome call outcome) old new × (status ≡ status_of outcome) × (after ≡ value_after before outcome)
+
+-- what C sees of a scan's answer: its array, the count of pairs, and whether there is a further one
+pub record Listing : Type 0 where
+  pub room : List Pair
+  pub count : ℕ
+  pub more : ℕ
+
+-- the array begins with the scan's pairs, and is otherwise as it was
+pub record IsListed (scan : Scan) (before after : Listing) : Type 0 where
+  pub pairs : AreSpelled scan.pairs.items after.room
+  pub others : drop (length scan.pairs.items) after.room ≡ drop (length scan.pairs.items) before.room
+  pub count : after.count ≡ length scan.pairs.items
+  pub more : after.more ≡ from_bool scan.more
+
+-- A scan through a handle, of as many pairs as the array has places. A closed handle and a key that is too long are told as
+-- such, and nothing has changed; else the scan is made and listed, or there is no memory and nothing is listed.
+pub record Lists (from upto : List ℕ) (old new : Option Opened) (before after : Listing) (status : ℕ) : Type 0 where
+  pub closed : old ≡ None → (status ≡ CLOSED) × (new ≡ old) × (after ≡ before)
+  pub long : IsSome old → ¬ (IsFit from × IsFit upto) → (status ≡ KEY_TOO_LONG) × (new ≡ old) × (after ≡ before)
+  pub made : IsSome old → IsFit from → IsFit upto →
+      ((status ≡ DONE) × (scan : Scan) × StaysOpen (λ index k j. IsScanned index.layout k j from upto (length before.room) scan) old new × IsListed scan before after)
+      ⊎ ((status ≡ NO_MEMORY) × StaysOpen (λ index k j. IsUnnoted index.layout k j) old new × (after ≡ before))
+
+-- a round of collection, which gave back so many nodes and leaves
+abbrev pub HasGivenBack : ℕ → ℕ → TableView → PassView → PassView → Type 0
+HasGivenBack nodes leaves index k j = IsUnnoted index.layout k j × HasCollected index untold (k, tt) (j, tt) nodes leaves
+
+abbrev pub AreClosed : List Handle → Type 0
+AreClosed handles = All (λ h. h.slot.opened ≡ None) handles
+
+-- an index can have so many passes, nodes and leaves
+abbrev pub IsSize : ℕ → ℕ → ℕ → Type 0
+IsSize passes nodes leaves = IsPassCount passes × IsNodeCount nodes × IsLeafCount leaves
+
+-- New passes of one index with so many passes, nodes and leaves, each at the place of its number, and with a share of the index.
+pub record AreNew (passes nodes leaves : ℕ) (opened : List Opened) : Type 0 where
+  pub index : TableView
+  pub layout : (index.layout.passes ≡ passes) × (index.layout.nodes ≡ nodes) × (index.layout.leaves ≡ leaves)
+  pub count : length opened ≡ passes
+  pub each : (q : ℕ) (o : Opened) → slice_get opened q ≡ Some o → (o.index.value ≡ index) × IsNewPass q o.pass
+
+-- the handles are open, on one new index, each with the pass of its place
+abbrev pub HaveOpened : ℕ → ℕ → List Handle → Type 0
+HaveOpened nodes leaves handles = (opened : List Opened) × (map (λ h. h.slot.opened) handles ≡ map Some opened) × AreNew (length handles) nodes leaves opened

@@ -1,0 +1,173 @@
+//! The calls of a program in C.
+
+ghost use Rattle.std.specs.Prelude.{◌≡◌, ◌≢◌, ◌⊎◌, IsSome, None, Some, length};
+ghost use Rattle.hot_model.specs.declared.Call.TheVariants.{Get, Insert, Remove, Upsert};
+ghost use Rattle.rowex_writing.specs.Attempts.{call_of};
+ghost use Rattle.hot_c.specs.declared.opened.Opened.{Opened};
+ghost use Rattle.hot_c.specs.Calls.{Answers, AreClosed, HasGivenBack, HaveOpened, IsSize, Lists, StaysOpen};
+
+use crate::handle::Handle;
+use crate::opening::{are_closed, make_passes, open_all};
+use crate::pairs::{Pair, write_pairs};
+use crate::status::{
+    BUSY, CLOSED, DONE, FULL_LEAVES, FULL_NODES, KEY_TOO_LONG, NO_MEMORY, OPEN, OUT_OF_RANGE, tell,
+};
+use hot_index::IndexFault;
+use key_bits::Key;
+use rowex_writing::Ask;
+use std::alloc::Global;
+
+/// Makes an empty index with so many node and leaf records and a pass for each handle, and opens the handles, or none of them.
+/// All have to be closed.
+#[unsafe(no_mangle)]
+pub extern "C" fn hot_create(alloc: Global, nodes: u32, leaves: u32, handles: &mut [Handle]) -> u32
+    ensures open { ¬ AreClosed handles.old → (result ≡ OPEN) × (handles.new ≡ handles.old) }
+    ensures range { AreClosed handles.old → ¬ IsSize (length handles.old) nodes leaves → (result ≡ OUT_OF_RANGE) × (handles.new ≡ handles.old) }
+    ensures made { AreClosed handles.old → IsSize (length handles.old) nodes leaves →
+        ((result ≡ DONE) × HaveOpened nodes leaves handles.new) ⊎ ((result ≡ NO_MEMORY) × (handles.new ≡ handles.old)) }
+{
+    if !are_closed(handles) {
+        return OPEN;
+    }
+    let Ok(passes) = u32::try_from(handles.len()) else {
+        return OUT_OF_RANGE;
+    };
+    match make_passes(alloc, passes, nodes, leaves) {
+        Ok(passes) => {
+            open_all(handles, passes);
+            DONE
+        }
+        Err(IndexFault::Layout(_)) => OUT_OF_RANGE,
+        Err(IndexFault::Memory) => NO_MEMORY,
+    }
+}
+
+/// Writes the number of a handle's pass: the handle's place among those that were opened with it.
+#[unsafe(no_mangle)]
+pub extern "C" fn hot_number(handle: &mut Handle, number: &mut u16) -> u32
+    ensures closed { handle.old.slot.opened ≡ None → (result ≡ CLOSED) × (number.new ≡ number.old) }
+    ensures number { (was : Opened) → handle.old.slot.opened ≡ Some was → (result ≡ DONE) × (number.new ≡ was.pass.number) }
+    ensures kept { handle.new.slot.opened ≡ handle.old.slot.opened }
+{
+    if !handle.is_open() {
+        return CLOSED;
+    }
+    *number = handle.slot.lend().pass.number();
+    DONE
+}
+
+/// Looks a key up: `FOUND`, with its value, or `ABSENT`. It is never refused.
+#[unsafe(no_mangle)]
+pub extern "C" fn hot_get(handle: &mut Handle, key: &[u8], value: &mut u64) -> u32
+    ensures call { Answers key.now (Get key.now) handle.old.slot.opened handle.new.slot.opened value.old value.new result }
+    ensures unrefused { (result ≢ BUSY) × (result ≢ FULL_NODES) × (result ≢ FULL_LEAVES) }
+{
+    if !handle.is_open() {
+        return CLOSED;
+    }
+    match &Key::from_bytes(key) {
+        Ok(key) => tell(Ok(handle.slot.lend().get(key)), value),
+        Err(_) => KEY_TOO_LONG,
+    }
+}
+
+/// Gives a key a value if it is absent: `INSERTED`, or `EXISTS` with the value that it has and keeps.
+#[unsafe(no_mangle)]
+pub extern "C" fn hot_try_insert(handle: &mut Handle, key: &[u8], value: u64, had: &mut u64) -> u32
+    ensures call { Answers key.now (Insert key.now value) handle.old.slot.opened handle.new.slot.opened had.old had.new result }
+{
+    change(handle, Ask::Insert, key, value, had)
+}
+
+/// Gives a key a value: `NEW`, or `WAS` with the value that it had.
+#[unsafe(no_mangle)]
+pub extern "C" fn hot_try_upsert(handle: &mut Handle, key: &[u8], value: u64, had: &mut u64) -> u32
+    ensures call { Answers key.now (Upsert key.now value) handle.old.slot.opened handle.new.slot.opened had.old had.new result }
+{
+    change(handle, Ask::Upsert, key, value, had)
+}
+
+/// Makes a key absent: `REMOVED` with the value that it had, or `ABSENT`. It needs no leaf, and is never full of leaves.
+#[unsafe(no_mangle)]
+pub extern "C" fn hot_try_remove(handle: &mut Handle, key: &[u8], had: &mut u64) -> u32
+    ensures call { Answers key.now (Remove key.now) handle.old.slot.opened handle.new.slot.opened had.old had.new result }
+    ensures leafless { result ≢ FULL_LEAVES }
+{
+    change(handle, Ask::Remove, key, 0, had)
+}
+
+/// Asks for a change of a key's value.
+fn change(handle: &mut Handle, ask: Ask, key: &[u8], value: u64, had: &mut u64) -> u32
+    ensures call { Answers key.now (call_of ask key.now value) handle.old.slot.opened handle.new.slot.opened had.old had.new result }
+    ensures leafless { ask ≡ Ask.Remove → result ≢ FULL_LEAVES }
+{
+    if !handle.is_open() {
+        return CLOSED;
+    }
+    match &Key::from_bytes(key) {
+        Ok(key) => tell(handle.slot.lend().change(ask, key, value), had),
+        Err(_) => KEY_TOO_LONG,
+    }
+}
+
+/// Lists the keys from `from` to `upto`, both included, with their values, in the order of the keys: as many as there is room
+/// for. `more` becomes 1 where there is a further one, else 0.
+#[unsafe(no_mangle)]
+pub extern "C" fn hot_scan(
+    alloc: Global,
+    handle: &mut Handle,
+    from: &[u8],
+    upto: &[u8],
+    room: &mut [Pair],
+    count: &mut usize,
+    more: &mut u32,
+) -> u32
+    ensures call { Lists from.now upto.now handle.old.slot.opened handle.new.slot.opened
+        (record { room = room.old; count = count.old; more = more.old }) (record { room = room.new; count = count.new; more = more.new }) result }
+{
+    if !handle.is_open() {
+        return CLOSED;
+    }
+    let (Ok(from), Ok(upto)) = (&Key::from_bytes(from), &Key::from_bytes(upto)) else {
+        return KEY_TOO_LONG;
+    };
+    match handle.slot.lend().scan(alloc, from, upto, room.len()) {
+        Ok(scan) => {
+            write_pairs(&scan.pairs, room);
+            *count = scan.pairs.len();
+            *more = u32::from(scan.more);
+            DONE
+        }
+        Err(_) => NO_MEMORY,
+    }
+}
+
+/// Makes one round of collection, and writes how many nodes and leaves it gave back.
+#[unsafe(no_mangle)]
+pub extern "C" fn hot_collect(handle: &mut Handle, nodes: &mut u32, leaves: &mut u32) -> u32
+    ensures closed { handle.old.slot.opened ≡ None → (result ≡ CLOSED) × (handle.new.slot.opened ≡ None) × (nodes.new ≡ nodes.old) × (leaves.new ≡ leaves.old) }
+    ensures round { IsSome handle.old.slot.opened → (result ≡ DONE) × StaysOpen (HasGivenBack nodes.new leaves.new) handle.old.slot.opened handle.new.slot.opened }
+{
+    if !handle.is_open() {
+        return CLOSED;
+    }
+    let given = handle.slot.lend().collect();
+    *nodes = given.nodes;
+    *leaves = given.leaves;
+    DONE
+}
+
+/// Closes a handle. The last one of an index that is closed gives back the memory of the index.
+#[unsafe(no_mangle)]
+pub extern "C" fn hot_destroy(alloc: Global, handle: &mut Handle) -> u32
+    ensures closed { handle.old.slot.opened ≡ None → result ≡ CLOSED }
+    ensures done { IsSome handle.old.slot.opened → result ≡ DONE }
+    ensures gone { handle.new.slot.opened ≡ None }
+{
+    if handle.is_open() {
+        drop(handle.close(alloc));
+        DONE
+    } else {
+        CLOSED
+    }
+}

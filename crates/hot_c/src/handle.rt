@@ -1,0 +1,55 @@
+//! Handles, by which a program in C uses an index.
+
+ghost use Rattle.std.specs.Prelude.{◌≡◌, ◌↔◌, IsSome, IsTrue, None, Some};
+
+use crate::opened::Opened;
+use crate::slot::Slot;
+use std::alloc::Global;
+use std::mem::replace;
+
+/// The tag of an open handle. No handle that was zeroed has it.
+const TAG: u32 = 0x544f_4821;
+
+/// The right of one thread at a time to use an index, or nothing.
+#[repr(C)]
+pub struct Handle {
+    tag: u32,
+    pub slot: Slot,
+    pub ghost tagged: { (tag ≡ 0x544f_4821) ↔ IsSome slot.opened },
+}
+
+impl Handle {
+    /// Whether the handle is open.
+    pub fn is_open(&self) -> bool
+        ensures { IsTrue result ↔ IsSome self.now.slot.opened }
+    {
+        self.tag == TAG
+    }
+
+    /// Closes an open handle, and gives what it held.
+    pub fn close(&mut self, alloc: Global) -> Box<Opened, Global>
+        requires { IsSome self.old.slot.opened }
+        ensures value { self.old.slot.opened ≡ Some result.value }
+        ensures gone { self.new.slot.opened ≡ None }
+    {
+        self.tag = 0;
+        let slot = replace(&mut self.slot, Slot::empty());
+        slot.into_box(alloc)
+    }
+
+    /// Opens a closed handle.
+    pub fn open(&mut self, opened: Box<Opened, Global>)
+        requires { self.old.slot.opened ≡ None }
+        ensures { self.new.slot.opened ≡ Some opened.value }
+    {
+        self.tag = TAG;
+        self.slot = Slot::of(opened);
+    }
+}
+
+fn needs_send<T: Send>(_value: &T) {}
+
+/// A handle may go to another thread: only then is this function proved.
+pub fn may_go_to_another_thread(handle: &Handle) {
+    needs_send(handle);
+}

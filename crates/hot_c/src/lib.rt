@@ -1,0 +1,11 @@
+//! The index for programs in C: a static library, whose header is `c/hot.h`.
+#![tactic(auto)]
+
+mod exports;
+mod handle;
+mod lending;
+mod opened;
+mod opening;
+mod pairs;
+mod slot;
+mod status;

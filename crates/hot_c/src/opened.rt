@@ -1,0 +1,73 @@
+//! What an open handle holds.
+
+ghost use Rattle.std.specs.Prelude.{◌≡◌, ◌≢◌, Err, IfOk, MatchResult, OnErr};
+ghost use Rattle.hot_model.specs.declared.Call.TheVariants.{Get};
+ghost use Rattle.rowex_writing.specs.Attempts.{call_of};
+ghost use Rattle.hot_index.specs.Answers.{IsNoted, IsRefused, IsScanned, IsUnnoted, got};
+ghost use Rattle.hot_index.specs.Passes.{Owns};
+ghost use Rattle.hot_index.specs.Traces.{HasCollected, untold};
+
+use hot_index::{Given, Index, Pass, Reply, Scan, TryFault};
+use key_bits::Key;
+use rowex_writing::Ask;
+use std::alloc::{AllocError, Global};
+use std::sync::Arc;
+
+/// A pass, with a share of its index.
+#[derive(Drop)]
+pub struct Opened {
+    pub index: Arc<Index, Global>,
+    pub pass: Pass,
+    pub ghost owned: { Owns index.value pass },
+}
+
+impl Opened {
+    /// The value of a key, as a reply.
+    pub fn get(&mut self, key: &Key) -> Reply
+        ensures index { self.new.index ≡ self.old.index }
+        ensures call { IsNoted self.old.index.value.layout self.old.pass self.new.pass (Get key.now) result }
+    {
+        match self.index.get(&mut self.pass, key) {
+            Some(value) => Reply::Value(value),
+            None => Reply::Absent,
+        }
+    }
+
+    /// Asks for a change of a key's value. A removal does not use the value here.
+    pub fn change(&mut self, ask: Ask, key: &Key, value: u64) -> Result<Reply, TryFault>
+        ensures index { self.new.index ≡ self.old.index }
+        ensures call { MatchResult result (IsNoted self.old.index.value.layout self.old.pass self.new.pass (call_of ask key.now value))
+            (IsRefused self.old.index.value.layout self.old.pass self.new.pass) }
+        ensures leafless { ask ≡ Ask.Remove → result ≢ Err TryFault.FullLeaves }
+    {
+        match ask {
+            Ask::Insert => self.index.try_insert(&mut self.pass, key, value),
+            Ask::Upsert => self.index.try_upsert(&mut self.pass, key, value),
+            Ask::Remove => self.index.try_remove(&mut self.pass, key),
+        }
+    }
+
+    /// The pairs of the keys from `from` to `upto`, the first `limit` of them.
+    pub fn scan(
+        &mut self,
+        alloc: Global,
+        from: &Key,
+        upto: &Key,
+        limit: usize,
+    ) -> Result<Scan, AllocError>
+        ensures index { self.new.index ≡ self.old.index }
+        ensures ok { IfOk result (IsScanned self.old.index.value.layout self.old.pass self.new.pass from.now upto.now limit) }
+        ensures err { OnErr result (IsUnnoted self.old.index.value.layout self.old.pass self.new.pass) }
+    {
+        self.index.scan(alloc, &mut self.pass, from, upto, limit)
+    }
+
+    /// Makes a round of collection.
+    pub fn collect(&mut self) -> Given
+        ensures index { self.new.index ≡ self.old.index }
+        ensures call { IsUnnoted self.old.index.value.layout self.old.pass self.new.pass }
+        ensures round { HasCollected self.old.index.value untold (self.old.pass, tt) (self.new.pass, tt) result.nodes result.leaves }
+    {
+        self.index.collect(&mut self.pass)
+    }
+}

@@ -1,0 +1,65 @@
+//! How handles are opened: a new index, and a pass of it for each.
+
+ghost use Rattle.std.specs.Prelude.{◌≡◌, ◌≢◌, ◌↔◌, ℕ, Err, IfErr, IfOk, IsErr, IsTrue, Some, length, map, slice_get};
+ghost use Rattle.hot_index.specs.Passes.{IsNewPass, Owns, PassView};
+ghost use Rattle.hot_c.specs.Calls.{AreClosed, AreNew, IsSize};
+
+use crate::handle::Handle;
+use crate::opened::Opened;
+use hot_index::{Index, IndexFault, Pass, create};
+use std::alloc::{AllocError, Global};
+use std::sync::Arc;
+
+/// Whether all handles are closed.
+pub fn are_closed(handles: &[Handle]) -> bool
+    ensures { IsTrue result ↔ AreClosed handles.now }
+{
+    handles.iter().all(|handle| !handle.is_open())
+}
+
+/// Opens closed handles, each with the pass of its place.
+pub fn open_all(handles: &mut [Handle], passes: Vec<Box<Opened, Global>>)
+    requires closed { AreClosed handles.old }
+    requires count { length passes.items ≡ length handles.old }
+    ensures { map (λ h. h.slot.opened) handles.new ≡ map (λ b. Some b.value) passes.items }
+{
+    let mut place = 0;
+    for opened in passes {
+        handles[place].open(opened);
+        place += 1;
+    }
+}
+
+/// The passes of a new index, each with its share.
+pub fn make_passes(
+    alloc: Global,
+    passes: u32,
+    nodes: u32,
+    leaves: u32,
+) -> Result<Vec<Box<Opened, Global>>, IndexFault>
+    ensures size { IsSize passes nodes leaves → IfErr result (λ fault. fault ≡ IndexFault.Memory) }
+    ensures range { ¬ IsSize passes nodes leaves → IsErr result × result ≢ Err IndexFault.Memory }
+    ensures made { IfOk result (λ made. AreNew passes nodes leaves (map (λ b. b.value) made.items)) }
+{
+    let (index, passes) = create(alloc, passes, nodes, leaves)?;
+    share(alloc, index, passes).map_err(|_| IndexFault::Memory)
+}
+
+/// The passes of an index, each with its share.
+fn share(
+    alloc: Global,
+    index: Index,
+    passes: Vec<Pass>,
+) -> Result<Vec<Box<Opened, Global>>, AllocError>
+    requires { (q : ℕ) (p : PassView) → slice_get passes.items q ≡ Some p → Owns index p × IsNewPass q p }
+    ensures count { IfOk result (λ shared. length shared.items ≡ length passes.items) }
+    ensures each { IfOk result (λ shared. (q : ℕ) (b : _) → slice_get shared.items q ≡ Some b → (b.value.index.value ≡ index) × IsNewPass q b.value.pass) }
+{
+    let index = Arc::new(alloc, index)?;
+    let mut shared = Vec::new(alloc);
+    for pass in passes {
+        let index = Arc::try_clone(&index)?;
+        shared.push(Box::new(alloc, Opened { index, pass })?)?;
+    }
+    Ok(shared)
+}
