@@ -1,0 +1,97 @@
+//! A B-tree under a lock as a map that is measured: readers share the lock, and a writer has it alone.
+
+use crate::load::{Load, THREADS};
+use crate::map::{Change, OrderedMap};
+use crate::measure::measure;
+use crate::work::Rate;
+use hot_index::Key;
+use std::alloc::{AllocError, Global};
+use std::collections::BTreeMap;
+use std::collections::btree_map::Entry;
+use std::io::ErrorKind;
+use std::rt::Clock;
+use std::sync::{RwLock, Wait};
+use std::thread::Threads;
+use std::{io, mem};
+
+/// The map that all threads share.
+pub type Tree = RwLock<BTreeMap<Vec<u8>, u64>>;
+
+/// The tree in the hands of one thread.
+#[derive(Drop)]
+struct Handle<'a> {
+    tree: &'a Tree,
+    alloc: Global,
+}
+
+impl OrderedMap for Handle<'_> {
+    fn get<R: Wait>(&mut self, rt: &R, key: &Key) -> Option<u64> {
+        self.tree.read(rt).get(key.as_bytes()).copied()
+    }
+
+    fn change<R: Wait>(
+        &mut self,
+        rt: &R,
+        change: Change,
+        key: &Key,
+        value: u64,
+    ) -> io::Result<Option<u64>> {
+        match change {
+            Change::Insert => self.insert(rt, key, value),
+            Change::Upsert => self.upsert(rt, key, value),
+            Change::Remove => Ok(self.tree.write(rt).remove(key.as_bytes())),
+        }
+    }
+
+    fn scan<R: Wait>(&mut self, rt: &R, from: &Key, limit: usize) -> io::Result<Vec<(Key, u64)>> {
+        let from = Vec::from_slice(self.alloc, from.as_bytes())?;
+        let tree = self.tree.read(rt);
+        let mut pairs = Vec::new(self.alloc);
+        for (bytes, value) in tree.range(from..).take(limit) {
+            let key = Key::from_bytes(bytes).map_err(|_| io::Error::from(ErrorKind::InvalidData))?;
+            pairs.push((key, *value))?;
+        }
+        Ok(pairs)
+    }
+}
+
+impl Handle<'_> {
+    fn insert<R: Wait>(&self, rt: &R, key: &Key, value: u64) -> io::Result<Option<u64>> {
+        let bytes = Vec::from_slice(self.alloc, key.as_bytes())?;
+        let mut tree = self.tree.write(rt);
+        match tree.entry(bytes).map_err(AllocError::from)? {
+            Entry::Occupied(entry) => Ok(Some(*entry.get())),
+            Entry::Vacant(entry) => {
+                entry.insert(value);
+                Ok(None)
+            }
+        }
+    }
+
+    fn upsert<R: Wait>(&self, rt: &R, key: &Key, value: u64) -> io::Result<Option<u64>> {
+        let mut tree = self.tree.write(rt);
+        if let Some(place) = tree.get_mut(key.as_bytes()) {
+            return Ok(Some(mem::replace(place, value)));
+        }
+        let bytes = Vec::from_slice(self.alloc, key.as_bytes())?;
+        Ok(tree.insert(bytes, value).map_err(AllocError::from)?)
+    }
+}
+
+/// Measures the tree: a new one in each round.
+pub fn measure_tree<R>(rt: &R, alloc: Global, load: &Load) -> io::Result<Vec<Rate>>
+where
+    R: Clock + Threads + Wait + Sync,
+{
+    let mut rates = Vec::new(alloc);
+    for _ in 0..load.rounds {
+        let tree = RwLock::new(BTreeMap::new(alloc));
+        let mut first = Handle { tree: &tree, alloc };
+        let mut others = Vec::new(alloc);
+        for _ in 0..THREADS {
+            others.push(Handle { tree: &tree, alloc })?;
+        }
+        measure(rt, &mut rates, &mut first, others, load)?;
+    }
+    Ok(rates)
+}
