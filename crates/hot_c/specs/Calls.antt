@@ -40,7 +40,8 @@ HasOutcome call outcome index k j = MatchResult outcome (IsNoted index.layout k 
 pub record Answers (key : List ℕ) (call : Call) (old new : Option Opened) (before after status : ℕ) : Type 0 where
   pub closed : old ≡ None → (status ≡ CLOSED) × (new ≡ old) × (after ≡ before)
   pub long : IsSome old → ¬ IsFit key → (status ≡ KEY_TOO_LONG) × (new ≡ old) × (after ≡ before)
-  pub made : IsSome old → IsFit key → (outcome : Result Reply TryFault) × StaysOpen (HasOutcome call outcome) old new × (status ≡ status_of outcome) × (after ≡ value_after before outcome)
+  pub made : IsSome old → IsFit key →
+      (outcome : Result Reply TryFault) × StaysOpen (HasOutcome call outcome) old new × (status ≡ status_of outcome) × (after ≡ value_after before outcome)
 
 -- what C sees of a scan's answer: its array, the count of pairs, and whether there is a further one
 pub record Listing : Type 0 where

@@ -53,8 +53,10 @@ pub fn claim_record<G: Gate>(
 ) -> Option<u32>
     requires own { IsSeatOf table.now seat.old }
     ensures claims { MatchOption result
-        (let n = count_of kind table.now.layout in FindsNone table.now G.becomes (record_of kind) n (begin_of n from) n (seat.old, gate.old) (seat.new, gate.new))
-        (λ number. let n = count_of kind table.now.layout in Claims table.now G.becomes (record_of kind) n (begin_of n from) number (seat.old, gate.old) (seat.new, gate.new)) }
+        (let n = count_of kind table.now.layout in
+        FindsNone table.now G.becomes (record_of kind) n (begin_of n from) n (seat.old, gate.old) (seat.new, gate.new))
+        (λ number. let n = count_of kind table.now.layout in
+        Claims table.now G.becomes (record_of kind) n (begin_of n from) number (seat.old, gate.old) (seat.new, gate.new)) }
     ensures none { IfNone result (AllMissed (record_of kind) (count_of kind table.now.layout) seat.new.known.failed seat.old.known.steps) }
     ensures held { IfSome result (λ number. (number < count_of kind table.now.layout) × IsClaimed seat.new.known (record_of kind number)) }
 {
