@@ -13,3 +13,4 @@ pub mod Parts
 pub mod Readings
 pub mod Spelled
 pub mod Spellings
+pub mod Unused

@@ -1,5 +1,5 @@
 -- The words of a leaf record.
-use Rattle.std.specs.Prelude.{ℕ, ◌≡◌, ◌-◌, ◌*◌, ◌^◌, ◌<◌, cond, nat_eq, List, length, map, drop, slice_index}
+use Rattle.std.specs.Prelude.{ℕ, ◌≡◌, ◌+◌, ◌-◌, ◌*◌, ◌/◌, ◌^◌, ◌<◌, cond, nat_eq, List, length, map, drop, slice_index}
 use Rattle.std.specs.List.{range_with_len}
 use Rattle.std.specs.Int.{from_be_bytes, w64}
 use Rattle.record_words.specs.declared.TheConstants.{KEY_WORDS, LEAF_FIELDS}
@@ -9,6 +9,10 @@ use Rattle.key_bits.specs.declared.TheConstants.{MAX_BYTES}
 -- a key's eight bytes from byte 8j on, the first of them highest; past its end they are 0
 unfoldable pub key_word : List ℕ → ℕ → ℕ
 key_word key j = from_be_bytes w64 (drop (8 * j) key)
+
+-- how many words the bytes of a key of this length take
+abbrev pub words_of_key : ℕ → ℕ
+words_of_key n = (n + 7) / 8
 
 -- the word at an offset of a leaf record, after that of the state
 abbrev pub leaf_word : List ℕ × ℕ → ℕ → ℕ

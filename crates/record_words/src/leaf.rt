@@ -1,12 +1,21 @@
 //! The words of a leaf record.
 
 ghost use Rattle.std.specs.Prelude.{List, ℕ, ◌≡◌, ◌≢◌, ◌+◌, ◌*◌, ◌<◌, ◌≤◌, ◌↔◌, length, slice_index, take, drop, IsTrue, EachIndex};
+ghost use Rattle.key_bits.specs.declared.TheConstants.{MAX_BYTES};
 ghost use Rattle.record_words.specs.declared.TheConstants.{KEY_WORDS};
-ghost use Rattle.record_words.specs.Leaf.{HasLeafWords, IsBytesOf, key_word, leaf_words};
+ghost use Rattle.record_words.specs.Leaf.{HasLeafWords, IsBytesOf, key_word, leaf_words, words_of_key};
 ghost use Rattle.record_words.specs.Reading.{IsReading, IsSpelledBy, IsSpelling};
 
 use crate::{KEY_WORDS, LEAF_FIELDS, WordFault};
 use key_bits::{Key, MAX_BYTES};
+
+/// How many words of a leaf have bytes of its key, which has this length; the words after them are 0.
+pub fn key_words(length: u64) -> usize
+    requires { length ≤ MAX_BYTES }
+    ensures { result ≡ words_of_key length }
+{
+    (length as usize + 7) / 8
+}
 
 /// The words of a leaf record from offset 1 on: the value, the key's length and its bytes.
 pub fn pack_leaf(key: &Key, value: u64) -> [u64; LEAF_FIELDS]

@@ -11,8 +11,8 @@ mod state;
 pub use entry::{pack_entry, read_entry, unpack_entry};
 use key_bits::MAX_BYTES;
 pub use layout::{Layout, LayoutFault, Location};
-pub use leaf::{pack_leaf, read_leaf, unpack_leaf};
-pub use node::{pack_node, read_head, read_node, unpack_head, unpack_node};
+pub use leaf::{key_words, pack_leaf, read_leaf, unpack_leaf};
+pub use node::{pack_node, position_words, read_head, read_node, row_words, unpack_head, unpack_node};
 pub use state::{Tag, pack_state, unpack_state};
 
 /// Epochs are below this number, and at least 1.
@@ -41,6 +41,9 @@ pub const FIRST_PIN: usize = 3;
 
 /// How many words a node's head has, from offset 1 on: the numbers, the positions and the sparse partial keys.
 pub const HEAD_WORDS: usize = 25;
+
+/// The index among a head's words of the first with sparse partial keys: the numbers and the positions stand before them.
+pub const FIRST_ROWS: usize = 9;
 
 /// The offset at which a node record has its first entry: its state and its head stand before the entries.
 pub const FIRST_ENTRY: usize = 1 + HEAD_WORDS;

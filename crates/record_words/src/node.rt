@@ -1,9 +1,10 @@
 //! The words of a node record.
 
-ghost use Rattle.std.specs.Prelude.{◌≡◌, ℕ, List, ◌<◌, ◌≤◌, length, slice_get, slice_index};
+ghost use Rattle.std.specs.Prelude.{◌≡◌, ℕ, List, ◌<◌, ◌≤◌, ◌/◌, ◌%◌, length, slice_get, slice_index};
 ghost use Rattle.partial_keys.specs.Rows.{with_unused};
 ghost use Rattle.record_words.specs.Entry.{HasEntryWord};
 ghost use Rattle.record_words.specs.Node.{HasHeadWords, HasNodeWords, HaveEntryWords, entry_words, head_words, node_words};
+ghost use Rattle.record_words.specs.Packed.{words_of_positions, words_of_rows};
 ghost use Rattle.record_words.specs.Reading.{IsReading, IsSpelledBy, IsSpelling};
 ghost use Rattle.compound_node.specs.declared.entries.Entry.{Entry as NodeEntry};
 
@@ -61,6 +62,21 @@ pub fn unpack_head(words: &[u64; HEAD_WORDS]) -> Result<Head, WordFault>
         Some(head) => Ok(head),
         None => Err(WordFault::Bad),
     }
+}
+
+/// How many words of a head have positions, by its first word; the words between them and the first with sparse partial keys
+/// have all bits set.
+pub fn position_words(numbers: u64) -> usize
+    ensures { result ≡ words_of_positions (numbers / 256 % 256) }
+{
+    ((numbers / 256 % 256) as usize + 3) / 4
+}
+
+/// How many words of a head have sparse partial keys, by its first word; the words after them have all bits set.
+pub fn row_words(numbers: u64) -> usize
+    ensures { result ≡ words_of_rows (numbers % 256) }
+{
+    ((numbers % 256) as usize + 1) / 2
 }
 
 /// The head that a node record has, of its words from offset 1 on; some node has it.

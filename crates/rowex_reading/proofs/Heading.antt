@@ -1,5 +1,7 @@
 -- What the loads of a node's head tell.
-use Rattle.std.proofs.Common.{◌≡◌, ℕ, ◌≤◌, List, [], ◌∷◌, length, map, take, refl, ap, ap₂, sym, ◌∙◌, subst, arith, le_trans}
+use Rattle.std.proofs.Common.{◌≡◌, inl, inr, ◌⊎◌, ℕ, ◌+◌, ◌-◌, ◌/◌, ◌%◌, ◌^◌, ◌<◌, ◌≤◌, List, [], ◌∷◌, length, get_or, get_or-take, map, set, take, replicate, refl, ap, ap₂, sym, ◌∙◌, subst, arith, le_trans, lit<, lit≤}
+use Rattle.std.proofs.lemmas.Bool.{cases_lt}
+use Rattle.std.proofs.lemmas.List.{length-set, length-replicate, get_or-set_same, get_or-set_other, get_or-replicate}
 use Rattle.compound_node.specs.declared.entries.Entry.{Entry}
 use Rattle.compound_node.specs.declared.entries.Entry.TheVariants.{Leaf, Node}
 use Rattle.compound_node.specs.Nodes.{NodeView, HeadView, IsLawful as IsLawfulNode, head_of, leaves, piece}
@@ -13,7 +15,10 @@ use Rattle.partial_keys.proofs.Reading.{piece_of_shown}
 use Rattle.record_words.specs.declared.layout.Layout.{Layout}
 use Rattle.record_words.specs.Node.{HasHeadWords, head_words}
 use Rattle.record_words.specs.Reading.{IsSpelling, IsSpelledBy}
-use Rattle.record_words.specs.declared.TheConstants.{HEAD_WORDS}
+use Rattle.record_words.specs.declared.TheConstants.{FIRST_ROWS, HEAD_WORDS, MAX_ENTRIES}
+use Rattle.record_words.specs.Packed.{words_of_positions, words_of_rows}
+use Rattle.record_words.proofs.Fixing.{fixed_words_parts}
+use Rattle.record_words.proofs.Unused.{positions_past, rows_past}
 use Rattle.tries.specs.Tree.{Tree, leaf, node, fork, page, Page, Fixed}
 use Rattle.tries.specs.Place.{shape}
 use Rattle.moments.specs.declared.Rec.TheVariants.{Node as a_node}
@@ -21,8 +26,10 @@ use Rattle.moments.specs.Heap.{Heap, NodeWords, IsCopied}
 use Rattle.moments.specs.State.{Stands, IsRecord, IsSameRecord, IsReach}
 use Rattle.moments.proofs.States.{steady}
 use Rattle.rowex_core.specs.declared.known.Known.{Known}
-use Rattle.rowex_core.specs.Cores.{Core, IsLawful, heap_of}
-use Rattle.rowex_core.specs.Knowing.{Recalls}
+use Rattle.rowex_core.specs.declared.event.Act.TheVariants.{LoadFixed}
+use Rattle.rowex_core.specs.Cores.{Core, IsLawful, IsSized, heap_of}
+use Rattle.rowex_core.specs.Knowing.{IsEvent, Recalls}
+use Rattle.rowex_table.specs.Runs.{silent}
 use Rattle.rowex_core.proofs.Owning.{recalls}
 use Rattle.rowex_core.specs.Reading.{IsPacked}
 use Rattle.rowex_core.proofs.Reading.{head_is, node_is}
@@ -35,7 +42,7 @@ use Rattle.rowex_reading.specs.Seen.{seen, IsLedTo, shape_of}
 use Rattle.rowex_reading.proofs.Seeing.{recalls_before, seen_within, seen_past, seen_grown, seen_stable, stands_in, stands_seen}
 use Rattle.rowex_reading.proofs.Standing.{reach, is_packed}
 use Rattle.rowex_reading.proofs.Placing.{to_stood}
-use Rattle.rowex_reading.proofs.Wording.{AreLoaded, led_stood, words_now}
+use Rattle.rowex_reading.proofs.Wording.{AreLoaded, led_stood, next_loaded, none_loaded, word_now, words_now}
 use Rattle.rowex_core.proofs.Loading.{view}
 
 -- The forks of a node are those of one with its head and leaves at its places
@@ -74,8 +81,69 @@ same_fixed heap n x b (node m y d) r i f = ap (λ z. (heap.nodes z).fixed) (numb
     number : {a b : ℕ} → a_node a ≡ a_node b → a ≡ b
     number e = cc
 
-module _ (layout : Layout) (k j : Known) (n i : ℕ) (words : List ℕ) (possible : IsPossible layout j) (loaded : AreLoaded k j (a_node n) i words) (all : i ≡ HEAD_WORDS)
-    (long : length words ≡ HEAD_WORDS) (m h : ℕ) (led : IsLedTo k m (Node n h)) where
+-- the numbers, in the place of the first of as many words with all bits set as a head has
+abbrev pub first_words : ℕ → List ℕ
+first_words numbers = set (replicate HEAD_WORDS (2 ^ 64 - 1)) 0 numbers
+
+pub first_long : (numbers : ℕ) → length (first_words numbers) ≡ HEAD_WORDS
+first_long numbers = length-set (replicate HEAD_WORDS (2 ^ 64 - 1)) 0 numbers ∙ length-replicate {A = ℕ} HEAD_WORDS (2 ^ 64 - 1)
+
+pub first_numbers : (numbers : ℕ) → get_or (first_words numbers) 0 0 ≡ numbers
+first_numbers numbers = get_or-set_same (replicate HEAD_WORDS (2 ^ 64 - 1)) 0 numbers 0 (omega (arith, length-replicate {A = ℕ} HEAD_WORDS (2 ^ 64 - 1)))
+
+pub first_rest : (numbers o : ℕ) → 1 ≤ o → o < HEAD_WORDS → get_or (first_words numbers) o 0 ≡ 2 ^ 64 - 1
+first_rest numbers o past low = get_or-set_other (replicate HEAD_WORDS (2 ^ 64 - 1)) 0 o numbers 0 (λ e. omega (arith, e, past)) ∙ get_or-replicate {A = ℕ} HEAD_WORDS o (2 ^ 64 - 1) 0 low
+
+-- they have been loaded
+pub first_loaded : (layout : Layout) (k j : Known) (n numbers : ℕ) → IsEvent layout (LoadFixed (a_node n) 1 numbers) silent k j → (m h : ℕ) → IsLedTo k m (Node n h) →
+    AreLoaded k j (a_node n) (λ o. o < 1) (first_words numbers)
+first_loaded layout k j n numbers one m h led =
+    next_loaded layout k k j (a_node n) 0 numbers (replicate HEAD_WORDS (2 ^ 64 - 1)) (none_loaded k (a_node n) (replicate HEAD_WORDS (2 ^ 64 - 1)))
+    (omega (arith, length-replicate {A = ℕ} HEAD_WORDS (2 ^ 64 - 1))) one m (led_stood k m (Node n h) led)
+
+-- the numbers of entries and of columns of a head with these words
+pub record HaveNumbers (head : HeadView) (numbers : ℕ) : Type 0 where
+  pub columns : numbers / 256 % 256 ≡ length head.columns
+  pub rows : numbers % 256 ≡ length head.rows
+  pub few_columns : length head.columns ≤ 31
+  pub few_rows : length head.rows ≤ MAX_ENTRIES
+
+pub numbers_of : (v : NodeView) (words : List ℕ) → IsLawfulNode v → head_words (head_of v) ≡ words → HaveNumbers (head_of v) (get_or words 0 0)
+numbers_of v words lawful same =
+    let meta = (fixed_words_parts (length v.rows) v.height v.columns v.rows words same).numbers in
+    let few : length v.columns ≤ 31 = lawful.positions.few in
+    let room : length v.rows ≤ 32 = omega (arith, same_count v lawful, lawful.room) in
+    record {
+      columns = omega (arith, meta, few, room);
+      rows = omega (arith, meta, few, room);
+      few_columns = few;
+      few_rows = room;
+    }
+
+-- The word of the numbers has been loaded: they are those of a head.
+pub numbers_low : (layout : Layout) (k j : Known) (n : ℕ) (words : List ℕ) → IsPossible layout j → AreLoaded k j (a_node n) (λ o. o < 1) words → (m h : ℕ) → IsLedTo k m (Node n h) →
+    (get_or words 0 0 / 256 % 256 ≤ 31) × (get_or words 0 0 % 256 ≤ MAX_ENTRIES)
+unfolding IsPacked
+numbers_low layout k j n words possible loaded m h led =
+    let c = possible.core in
+    let known = recalls c j possible.knows in
+    let before = recalls_before loaded.later known in
+    let packed = is_packed c k possible.lawful before m led.0 (Node n h) (led.1 c possible.lawful before) in
+    let now = word_now k j (a_node n) (λ o. o < 1) words loaded m (led_stood k m (Node n h) led) c possible.lawful known 0 (lit< tt) (lit≤ tt, lit≤ tt) in
+    let sized = possible.lawful.records.sized (a_node n) in
+    let head = head_is packed.0 (c.words (a_node n)) sized.1 packed.1 packed.2 in
+    let numbers = numbers_of packed.0 (take HEAD_WORDS (c.words (a_node n))) packed.1.lawful head in
+    let same = get_or-take HEAD_WORDS (c.words (a_node n)) 0 0 (lit< tt) in
+    (omega (arith, now, same, numbers.columns, numbers.few_columns), omega (arith, now, same, numbers.rows, numbers.few_rows))
+
+-- the words of a head up to some of those with positions, and up to some of those with rows
+abbrev pub IsHeadWord : ℕ → ℕ → ℕ → Type 0
+IsHeadWord positions rows o = (o < positions) ⊎ ((FIRST_ROWS ≤ o) × (o < rows))
+
+-- The words of a head have been loaded that have something, and all bits of the others are set.
+module _ (layout : Layout) (k j : Known) (n p i : ℕ) (words : List ℕ) (possible : IsPossible layout j) (loaded : AreLoaded k j (a_node n) (IsHeadWord p i) words)
+    (positions : p ≡ 1 + words_of_positions (get_or words 0 0 / 256 % 256)) (rows : i ≡ FIRST_ROWS + words_of_rows (get_or words 0 0 % 256))
+    (rest : (o : ℕ) → p ≤ o → (o < FIRST_ROWS) ⊎ (i ≤ o) → o < HEAD_WORDS → get_or words o 0 ≡ 2 ^ 64 - 1) (long : length words ≡ HEAD_WORDS) (m h : ℕ) (led : IsLedTo k m (Node n h)) where
   -- in each core of which j is true, the words are those of a node's head
   record HeadNow (c : Core) : Type 0 where
     view_now : NodeView
@@ -91,14 +159,40 @@ module _ (layout : Layout) (k j : Known) (n i : ℕ) (words : List ℕ) (possibl
     where
       go : IsPacked (a_node n) (c.words (a_node n)) → HeadNow c
       go (v, has, same) =
-          let sized = lawful.records.sized (a_node n) in
-          let are = words_now k j (a_node n) i words loaded (long ∙ sym all) (λ o low. (omega arith, omega arith)) m (led_stood k m (Node n h) led) c lawful known (omega (arith, sized.0)) in
+          let are = words_now HEAD_WORDS words (c.words (a_node n)) long (omega (arith, sized.0)) (λ o low. word o low (cases_lt o p) (cases_lt o FIRST_ROWS) (cases_lt o i)) in
           record {
             view_now = v;
             lawful_now = has.lawful;
-            spelled = head_is v (c.words (a_node n)) sized.1 has same ∙ (ap (λ z. take z (c.words (a_node n))) (sym all) ∙ sym are);
+            spelled = spelled ∙ sym are;
             nodes_are = node_is v (c.words (a_node n)) sized.1 has same;
           }
+        where
+          now : List ℕ
+          now = c.words (a_node n)
+
+          sized : IsSized (a_node n) (c.words (a_node n))
+          sized = lawful.records.sized (a_node n)
+
+          spelled : head_words (head_of v) ≡ take HEAD_WORDS (c.words (a_node n))
+          spelled = head_is v (c.words (a_node n)) sized.1 has same
+
+          is_loaded : (o : ℕ) → IsHeadWord p i o → o < HEAD_WORDS → get_or words o 0 ≡ get_or (c.words (a_node n)) o 0
+          is_loaded o has low = word_now k j (a_node n) (IsHeadWord p i) words loaded m (led_stood k m (Node n h) led) c lawful known o has (omega arith, omega (arith, low))
+
+          numbers : HaveNumbers (head_of v) (get_or words 0 0)
+          numbers = subst (HaveNumbers (head_of v)) (get_or-take HEAD_WORDS (c.words (a_node n)) 0 0 (lit< tt) ∙ sym (is_loaded 0 (inl (omega (arith, positions))) (lit< tt)))
+              (numbers_of v (take HEAD_WORDS (c.words (a_node n))) has.lawful spelled)
+
+          unloaded : (o : ℕ) → o < HEAD_WORDS → get_or words o 0 ≡ 2 ^ 64 - 1 → get_or (head_words (head_of v)) o 0 ≡ 2 ^ 64 - 1 → get_or words o 0 ≡ get_or (c.words (a_node n)) o 0
+          unloaded o low mine its = mine ∙ (sym its ∙ (ap (λ z. get_or z o 0) spelled ∙ get_or-take HEAD_WORDS (c.words (a_node n)) o 0 low))
+
+          word : (o : ℕ) → o < HEAD_WORDS → (o < p) ⊎ (p ≤ o) → (o < FIRST_ROWS) ⊎ (FIRST_ROWS ≤ o) → (o < i) ⊎ (i ≤ o) → get_or words o 0 ≡ get_or (c.words (a_node n)) o 0
+          word o low (inl position) a b = is_loaded o (inl position) low
+          word o low (inr past) (inl before) b = unloaded o low (rest o past (inl before) low)
+              (positions_past (length v.rows) v.height v.columns v.rows o (omega (arith, past, positions, numbers.columns)) before)
+          word o low (inr past) (inr after) (inl row) = is_loaded o (inr (after, row)) low
+          word o low (inr past) (inr after) (inr end) = unloaded o low (rest o past (inr end) low)
+              (rows_past (length v.rows) v.height v.columns v.rows o (omega (arith, end, rows, numbers.rows)) low)
 
   -- the words spell a head
   pub head_spelled : IsSpelling HasHeadWords head_words words

@@ -104,7 +104,7 @@ module _ {G : Type 0} {table : TableView} {becomes : G → Event → G → Type 
     at_led e is = subst (IsLedTo b.0.known m) is (at.pinned, sure_map (λ s h. led_seen s m key d h) at.led)
 
     -- It is a node, whose head has been read: there is an entry at the key's place.
-    module _ {c : SeatView × G} (n height : ℕ) (head : HeadView) (place : ℕ) (is : d ≡ Node n height) (reads : Reads table becomes HEAD_WORDS b c)
+    module _ {c : SeatView × G} (n height : ℕ) (head : HeadView) (place : ℕ) (is : d ≡ Node n height) {loads : ℕ} (few : loads ≤ HEAD_WORDS) (reads : Reads table becomes loads b c)
         (told : (m h : ℕ) → IsLedTo b.0.known m (Node n h) → (head.height ≡ h) × Sure c.0.known (λ s. IsShaped s m n (shape_of head))) (leads : place ≡ spot key (shape_of head)) where
       shaped : Sure c.0.known (λ s. IsShaped s m n (shape_of head))
       shaped = (told m height (at_led (Node n height) is)).1
@@ -118,10 +118,10 @@ module _ {G : Type 0} {table : TableView} {becomes : G → Event → G → Type 
       at_next {i} e one entry = record {
         height = at.height;
         passed = at.passed + 1;
-        loaded = at.loaded + 26;
+        loaded = at.loaded + (loads + 1);
         falls = let f : at.passed + height ≤ at.height = subst (λ z. at.passed + height_of z ≤ at.height) is at.falls in let lower = entry.0 in omega arith;
         low = at.low;
-        few = let f = at.few in omega arith;
+        few = let f = at.few in omega (arith, f, few);
         looks = looks_on at.looks both;
         pinned = subst (IsSince i.0.known) (sym kept) pinned;
         led = subst (λ o. Sure i.0.known (λ s. IsLed s o key e)) (sym kept)
@@ -129,7 +129,7 @@ module _ {G : Type 0} {table : TableView} {becomes : G → Event → G → Type 
             (shapes o lawful recalls) (sym leads) (entry.1 o lawful recalls) (leads_on o lawful recalls));
       }
         where
-          both : Reads table becomes 26 b i
+          both : Reads table becomes (loads + 1) b i
           both = reads_trans reads one
 
           kept : since i.0.known ≡ m
@@ -145,7 +145,7 @@ module _ {G : Type 0} {table : TableView} {becomes : G → Event → G → Type 
           leads_on = sure_later (led_stable m key (Node n height)) (reads_later both) (subst (λ z. Sure b.0.known (λ s. IsLed s m key z)) is at.led)
 
     -- it is a leaf, which has been read
-    module _ {c : SeatView × G} (n : ℕ) (is : d ≡ Leaf n) (reads : Reads table becomes LEAF_FIELDS b c) (l : Key) (v : ℕ)
+    module _ {c : SeatView × G} (n : ℕ) (is : d ≡ Leaf n) {loads : ℕ} (few : loads ≤ LEAF_FIELDS) (reads : Reads table becomes loads b c) (l : Key) (v : ℕ)
         (told : (m : ℕ) → IsLedTo b.0.known m (Leaf n) → Sure c.0.known (λ s. IsRead s m n l v)) where
       read : Sure c.0.known (λ s. IsRead s m n l v)
       read = told m (at_led (Leaf n) is)
@@ -153,9 +153,9 @@ module _ {G : Type 0} {table : TableView} {becomes : G → Event → G → Type 
       pub leaf_searched : HasSearched table becomes a c
       leaf_searched = record {
         nodes = at.passed;
-        loaded = at.loaded + 32;
+        loaded = at.loaded + loads;
         low = let f = at.falls in let b = at.low in omega arith;
-        few = let f = at.few in omega arith;
+        few = let f = at.few in omega (arith, f, few);
         looks = looks_on at.looks reads;
       }
 

@@ -1,5 +1,5 @@
 -- The words of a record, loaded one after the other.
-use Rattle.std.proofs.Common.{◌≡◌, inl, inr, ◌⊎◌, ℕ, ◌+◌, ◌<◌, ◌≤◌, List, length, get_or, set, take, Some, sym, ◌∙◌, subst, arith, le_trans}
+use Rattle.std.proofs.Common.{◌≡◌, ◌≢◌, inl, inr, ◌⊎◌, ⊎_elim, ℕ, ◌+◌, ◌<◌, ◌≤◌, List, length, get_or, set, take, Some, sym, ◌∙◌, subst, arith, le_trans}
 use Rattle.std.proofs.lemmas.Bool.{cases_lt}
 use Rattle.std.proofs.lemmas.List.{ext_get_or, get_or-set_same, get_or-set_other, get_or-take, length-take-le}
 use Rattle.compound_node.specs.declared.entries.Entry.{Entry}
@@ -36,24 +36,24 @@ IsStood k m r = IsSince k m × Sure k (λ s. StoodBetween s m s.now r)
 pub led_stood : (k : Known) (m : ℕ) (e : Entry) → IsLedTo k m e → IsStood k m (rec_of e)
 led_stood k m e led = (led.0, λ c lawful recalls. (let s = led.1 c lawful recalls in (s.0, s.1, s.2, s.3, s.4)))
 
--- the first n words of the record have been loaded, of a pass that knew k and knows j
-pub record AreLoaded (k j : Known) (r : Rec) (n : ℕ) (words : List ℕ) : Type 0 where
+-- these words of the record have been loaded, of a pass that knew k and knows j
+pub record AreLoaded (k j : Known) (r : Rec) (IsLoaded : ℕ → Type 0) (words : List ℕ) : Type 0 where
   pub later : IsLater k j
-  pub each : (m : ℕ) → IsStood k m r → (o : ℕ) → o < n → Sure j (λ s. HasWord s m r (o + 1) (get_or words o 0))
+  pub each : (m : ℕ) → IsStood k m r → (o : ℕ) → IsLoaded o → Sure j (λ s. HasWord s m r (o + 1) (get_or words o 0))
 
-pub none_loaded : (k : Known) (r : Rec) (words : List ℕ) → AreLoaded k k r 0 words
+pub none_loaded : (k : Known) (r : Rec) (words : List ℕ) → AreLoaded k k r (λ o. o < 0) words
 none_loaded k r words = record { later = later_none k; each = λ m led o low. absurd (omega arith) }
 
 -- one word more
-module _ (layout : Layout) (k j i : Known) (r : Rec) (n w : ℕ) (words : List ℕ) (so_far : AreLoaded k j r n words) (room : n < length words)
-    (event : IsEvent layout (LoadFixed r (n + 1) w) silent j i) where
+module _ (layout : Layout) (k j i : Known) (r : Rec) (IsLoaded IsNow : ℕ → Type 0) (n w : ℕ) (words : List ℕ) (so_far : AreLoaded k j r IsLoaded words) (room : n < length words)
+    (older : (o : ℕ) → IsNow o → (IsLoaded o × (o ≢ n)) ⊎ (o ≡ n)) (event : IsEvent layout (LoadFixed r (n + 1) w) silent j i) where
   is : (p : Pin) → j.pin ≡ Some p → IsTaught event.core (Fixed p.moment event.core.past.now r (n + 1) w) j i
   is p pinned = fixed_taught layout j i p pinned r (n + 1) w event
 
-  pub one_loaded : (m : ℕ) → IsStood k m r → AreLoaded k i r (n + 1) (set words n w)
+  pub one_loaded : (m : ℕ) → IsStood k m r → AreLoaded k i r IsNow (set words n w)
   one_loaded m stood = record {
     later = both;
-    each = λ o from a low. word_at o from a (cases_lt a n) low;
+    each = λ o from a now. word_at o from a (older a now);
   }
     where
       still : IsSince j m
@@ -71,22 +71,31 @@ module _ (layout : Layout) (k j i : Known) (r : Rec) (n w : ℕ) (words : List �
           let taught = is since.0 since.1 in
           found_seen event.core c k i since.0.moment o r (λ u. word_in u (n + 1) ≡ w) (taught_now event.lawful taught) both since.2 (from.1 c lawful (recalls_before both recalls)) (taught.fact c recalls).1
 
-      word_at : (o : ℕ) → IsStood k o r → (a : ℕ) → (a < n) ⊎ (n ≤ a) → a < n + 1 → Sure i (λ s. HasWord s o r (a + 1) (get_or (set words n w) a 0))
-      word_at o from a (inl older) low =
-          subst (λ z. Sure i (λ s. HasWord s o r (a + 1) z)) (sym (get_or-set_other words n a w 0 (λ e. omega arith))) (sure_later (word_stable o r (a + 1) (get_or words a 0)) now.later (so_far.each o from a older))
-      word_at o from a (inr newest) low =
-          let e : n ≡ a = omega arith in
-          subst (λ z. Sure i (λ s. HasWord s o r (z + 1) (get_or (set words n w) z 0))) e
+      word_at : (o : ℕ) → IsStood k o r → (a : ℕ) → (IsLoaded a × (a ≢ n)) ⊎ (a ≡ n) → Sure i (λ s. HasWord s o r (a + 1) (get_or (set words n w) a 0))
+      word_at o from a (inl (loaded, other)) =
+          subst (λ z. Sure i (λ s. HasWord s o r (a + 1) z)) (sym (get_or-set_other words n a w 0 other)) (sure_later (word_stable o r (a + 1) (get_or words a 0)) now.later (so_far.each o from a loaded))
+      word_at o from a (inr newest) =
+          subst (λ z. Sure i (λ s. HasWord s o r (z + 1) (get_or (set words n w) z 0))) (sym newest)
           (subst (λ z. Sure i (λ s. HasWord s o r (n + 1) z)) (sym (get_or-set_same words n w 0 room)) (new_word o from))
 
--- in each core of which it knows true things, the words are those of the record now
-module _ (k j : Known) (r : Rec) (n : ℕ) (words : List ℕ) (loaded : AreLoaded k j r n words) (long : length words ≡ n)
-    (fixed : (o : ℕ) → o < n → IsFixedOffset r (o + 1)) (m : ℕ) (stood : IsStood k m r) (c : Core) (lawful : IsLawful c) (known : Recalls c j) where
-  word_now : (o : ℕ) → o < n → get_or words o 0 ≡ get_or (c.words r) o 0
-  word_now o low =
-      let h : HasWord (seen c j) m r (o + 1) (get_or words o 0) = loaded.each m stood o low c lawful known in
-      sym h.5 ∙ (sym (word_stays c j lawful known m (since_later loaded.later stood.0) h.0 r h.1 h.2 (le_trans h.3 (seen_within lawful known)) (stands_in c j h.4) (o + 1) (fixed o low)) ∙ later_word c r o)
+-- fewer of them
+pub fewer_loaded : (k j : Known) (r : Rec) (IsLoaded IsNow : ℕ → Type 0) (words : List ℕ) → ((o : ℕ) → IsNow o → IsLoaded o) → AreLoaded k j r IsLoaded words → AreLoaded k j r IsNow words
+fewer_loaded k j r IsLoaded IsNow words fewer loaded = record { later = loaded.later; each = λ m stood o now. loaded.each m stood o (fewer o now) }
 
-  pub words_now : n ≤ length (c.words r) → words ≡ take n (c.words r)
-  words_now room = ext_get_or 0 words (take n (c.words r)) (long ∙ sym (length-take-le n (c.words r) room))
-      (λ o low. word_now o (omega arith) ∙ sym (get_or-take n (c.words r) o 0 (omega arith)))
+-- the next word after the first n
+pub next_loaded : (layout : Layout) (k j i : Known) (r : Rec) (n w : ℕ) (words : List ℕ) → AreLoaded k j r (λ o. o < n) words → n < length words → IsEvent layout (LoadFixed r (n + 1) w) silent j i →
+    (m : ℕ) → IsStood k m r → AreLoaded k i r (λ o. o < n + 1) (set words n w)
+next_loaded layout k j i r n w words so_far room event =
+    one_loaded layout k j i r (λ o. o < n) (λ o. o < n + 1) n w words so_far room (λ o low. ⊎_elim (λ (before : o < n). inl (before, (λ e. omega (arith, e, before)))) (λ (after : n ≤ o). inr (omega (arith, low, after))) (cases_lt o n)) event
+
+-- in each core of which it knows true things, what was loaded is the record now
+module _ (k j : Known) (r : Rec) (IsLoaded : ℕ → Type 0) (words : List ℕ) (loaded : AreLoaded k j r IsLoaded words) (m : ℕ) (stood : IsStood k m r) (c : Core) (lawful : IsLawful c) (known : Recalls c j) where
+  pub word_now : (o : ℕ) → IsLoaded o → IsFixedOffset r (o + 1) → get_or words o 0 ≡ get_or (c.words r) o 0
+  word_now o has fixed =
+      let h : HasWord (seen c j) m r (o + 1) (get_or words o 0) = loaded.each m stood o has c lawful known in
+      sym h.5 ∙ (sym (word_stays c j lawful known m (since_later loaded.later stood.0) h.0 r h.1 h.2 (le_trans h.3 (seen_within lawful known)) (stands_in c j h.4) (o + 1) fixed) ∙ later_word c r o)
+
+-- words that are the record's, one by one
+pub words_now : (n : ℕ) (words now : List ℕ) → length words ≡ n → n ≤ length now → ((o : ℕ) → o < n → get_or words o 0 ≡ get_or now o 0) → words ≡ take n now
+words_now n words now long room same = ext_get_or 0 words (take n now) (long ∙ sym (length-take-le n now room))
+    (λ o low. same o (omega (arith, long, low)) ∙ sym (get_or-take n now o 0 (omega (arith, long, low))))

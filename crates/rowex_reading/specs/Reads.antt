@@ -1,5 +1,9 @@
 -- What a pass reads of the tree, as steps of its seat of which a gate is told.
-use Rattle.std.specs.Prelude.{◌≡◌, ℕ, List, length, All}
+use Rattle.std.specs.Prelude.{◌≡◌, ℕ, ◌+◌, List, length, All}
+use Rattle.compound_node.specs.Nodes.{HeadView}
+use Rattle.record_words.specs.Leaf.{words_of_key}
+use Rattle.record_words.specs.Packed.{words_of_positions, words_of_rows}
+use Rattle.tries.specs.Keys.{Key}
 use Rattle.rowex_core.specs.declared.event.Act.{Act}
 use Rattle.rowex_core.specs.declared.event.Act.TheVariants.{LoadRef, LoadFixed}
 use Rattle.rowex_core.specs.declared.event.Event.{Event}
@@ -25,7 +29,15 @@ pub record Reads {G : Type 0} (table : TableView) (becomes : G → Event → G �
   pub count : length acts ≡ n
   pub steps : Runs table becomes acts a b
 
--- the same, of some number of loads
+-- the loads of a node's head: the word of its numbers, and those that have positions and sparse partial keys
+abbrev pub head_loads : HeadView → ℕ
+head_loads head = 1 + words_of_positions (length head.columns) + words_of_rows (length head.rows)
+
+-- the loads of a leaf with this key: its value, the key's length, and the words that have bytes of the key
+abbrev pub leaf_loads : Key → ℕ
+leaf_loads key = 2 + words_of_key (length key)
+
+-- the pass makes some number of such loads
 abbrev pub ReadsSome : {G : Type 0} → TableView → (G → Event → G → Type 0) → SeatView × G → SeatView × G → Type 0
 ReadsSome table becomes a b = (n : ℕ) × Reads table becomes n a b
 

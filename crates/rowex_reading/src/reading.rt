@@ -6,13 +6,16 @@ ghost use Rattle.compound_node.specs.Nodes.{IsLawful, height_of, leaves, node_of
 ghost use Rattle.compound_node.specs.declared.entries.Entry.TheVariants.{Leaf as LeafEntry, Node as NodeEntry};
 ghost use Rattle.record_words.specs.declared.TheConstants.{HEAD_WORDS, LEAF_FIELDS};
 ghost use Rattle.rowex_walks.specs.Scan.{IsShaped, IsPlaced, IsRead};
-ghost use Rattle.rowex_reading.specs.Reads.{IsReader, Reads, ReadsRoot};
+ghost use Rattle.rowex_reading.specs.Reads.{IsReader, Reads, ReadsRoot, head_loads, leaf_loads};
 ghost use Rattle.rowex_reading.specs.Seen.{Sure, RootIs, IsLedTo, HasPlace, shape_of};
 ghost use Rattle.rowex_table.specs.Seats.{IsSeatOf};
 
 use compound_node::{Entry, Head};
 use key_bits::Key;
-use record_words::{HEAD_WORDS, LEAF_FIELDS, read_entry, read_head, read_leaf};
+use record_words::{
+    FIRST_ROWS, HEAD_WORDS, LEAF_FIELDS, key_words, position_words, read_entry, read_head, read_leaf,
+    row_words,
+};
 use rowex_core::{Gate, Rec, Spot};
 use rowex_table::{HotTable, TableSeat};
 
@@ -28,18 +31,28 @@ pub fn load_root<G: Gate>(table: &HotTable, seat: &mut TableSeat, gate: &mut G) 
     read_entry(word)
 }
 
-/// Loads the words of a node that are fixed, its head.
+/// Loads the head of a node: its numbers, and then the words that have positions and sparse partial keys. All bits of the others
+/// are set, and they are not loaded.
 pub fn load_head<G: Gate>(table: &HotTable, seat: &mut TableSeat, gate: &mut G, number: u32) -> Head
     requires reader { IsReader table.now seat.old }
     requires led { (m h : ℕ) × IsLedTo seat.old.known m (NodeEntry number h) }
-    ensures reads { Reads table.now G.becomes HEAD_WORDS (seat.old, gate.old) (seat.new, gate.new) }
+    ensures reads { Reads table.now G.becomes (head_loads result) (seat.old, gate.old) (seat.new, gate.new) }
+    ensures few { head_loads result ≤ HEAD_WORDS }
     ensures head { (m h : ℕ) → IsLedTo seat.old.known m (NodeEntry number h) →
         (result.height ≡ h) × Sure seat.new.known (λ s. IsShaped s m number (shape_of result)) }
     ensures lawful { IsLawful (node_of result (leaves (length result.rows))) }
 {
-    let mut words = [0; HEAD_WORDS];
-    for index in 0..HEAD_WORDS {
-        words[index] = table.load_fixed(seat, gate, Rec::Node(number), index as u8 + 1);
+    let rec = Rec::Node(number);
+    let numbers = table.load_fixed(seat, gate, rec, 1);
+    let mut words = [u64::MAX; HEAD_WORDS];
+    words[0] = numbers;
+    let positions = 1 + position_words(numbers);
+    for index in 1..positions {
+        words[index] = table.load_fixed(seat, gate, rec, index as u8 + 1);
+    }
+    let rows = FIRST_ROWS + row_words(numbers);
+    for index in FIRST_ROWS..rows {
+        words[index] = table.load_fixed(seat, gate, rec, index as u8 + 1);
     }
     read_head(&words)
 }
@@ -66,7 +79,8 @@ pub fn load_entry<G: Gate>(
     read_entry(word).unwrap()
 }
 
-/// Loads the words of a leaf: its key and its value. Inline, so that a caller has the key where it was read.
+/// Loads the key and the value of a leaf: its value, the key's length, and the words that have bytes of the key. The others are
+/// 0, and are not loaded. Inline, so that a caller has the key where it was read.
 #[inline(always)]
 pub fn load_leaf<G: Gate>(
     table: &HotTable,
@@ -76,12 +90,19 @@ pub fn load_leaf<G: Gate>(
 ) -> (Key, u64)
     requires reader { IsReader table.now seat.old }
     requires led { (m : ℕ) × IsLedTo seat.old.known m (LeafEntry number) }
-    ensures reads { Reads table.now G.becomes LEAF_FIELDS (seat.old, gate.old) (seat.new, gate.new) }
+    ensures reads { Reads table.now G.becomes (leaf_loads result.0) (seat.old, gate.old) (seat.new, gate.new) }
+    ensures few { leaf_loads result.0 ≤ LEAF_FIELDS }
     ensures leaf { (m : ℕ) → IsLedTo seat.old.known m (LeafEntry number) → Sure seat.new.known (λ s. IsRead s m number result.0 result.1) }
 {
+    let rec = Rec::Leaf(number);
+    let value = table.load_fixed(seat, gate, rec, 1);
+    let length = table.load_fixed(seat, gate, rec, 2);
     let mut words = [0; LEAF_FIELDS];
-    for index in 0..LEAF_FIELDS {
-        words[index] = table.load_fixed(seat, gate, Rec::Leaf(number), index as u8 + 1);
+    words[0] = value;
+    words[1] = length;
+    let used = 2 + key_words(length);
+    for index in 2..used {
+        words[index] = table.load_fixed(seat, gate, rec, index as u8 + 1);
     }
     read_leaf(&words)
 }

@@ -31,14 +31,14 @@ load_entry-entry-requires-clause-place g c =
     let e = c.load_head-head.ensures in (
       since c.loop-entry.seat.known,
       c.in-Node.height,
-      at_place c.loop-entry.invariant.at c.in-Node.number c.in-Node.height c.load_head-head.result c.search-place.result c.in-Node.is e.reads e.head leads,
+      at_place c.loop-entry.invariant.at c.in-Node.number c.in-Node.height c.load_head-head.result c.search-place.result c.in-Node.is e.few e.reads e.head leads,
     )
 
 pub loop-entry-smaller : goal.loop-entry-smaller
 loop-entry-smaller g c =
     let leads = search_spot c.load_head-head.result c.args.key.now c.search-place.result c.load_head-head.ensures.lawful c.search-place.ensures.leads in
     let e = c.load_head-head.ensures in
-    let place = at_place c.loop-entry.invariant.at c.in-Node.number c.in-Node.height c.load_head-head.result c.search-place.result c.in-Node.is e.reads e.head leads in
+    let place = at_place c.loop-entry.invariant.at c.in-Node.number c.in-Node.height c.load_head-head.result c.search-place.result c.in-Node.is e.few e.reads e.head leads in
     let entry = c.load_entry-entry.ensures.entry (since c.loop-entry.seat.known) c.in-Node.height place in
     subst (λ z. height_of c.load_entry-entry.result < height_of z) (sym c.in-Node.is) entry.0
 
@@ -46,11 +46,11 @@ pub loop-entry-preserved : goal.loop-entry-preserved
 loop-entry-preserved g c =
     let leads = search_spot c.load_head-head.result c.args.key.now c.search-place.result c.load_head-head.ensures.lawful c.search-place.ensures.leads in
     let e = c.load_head-head.ensures in let i = c.loop-entry.invariant in
-    let place = at_place i.at c.in-Node.number c.in-Node.height c.load_head-head.result c.search-place.result c.in-Node.is e.reads e.head leads in
+    let place = at_place i.at c.in-Node.number c.in-Node.height c.load_head-head.result c.search-place.result c.in-Node.is e.few e.reads e.head leads in
     let entry = c.load_entry-entry.ensures.entry (since c.loop-entry.seat.known) c.in-Node.height place in
     record {
       reader = reader_then (reader_then i.reader e.reads) c.load_entry-entry.ensures.reads;
-      at = at_next i.at c.in-Node.number c.in-Node.height c.load_head-head.result c.search-place.result c.in-Node.is e.reads e.head leads c.load_entry-entry.result c.load_entry-entry.ensures.reads entry;
+      at = at_next i.at c.in-Node.number c.in-Node.height c.load_head-head.result c.search-place.result c.in-Node.is e.few e.reads e.head leads c.load_entry-entry.result c.load_entry-entry.ensures.reads entry;
     }
 
 pub load_leaf-leaf-requires-clause-led : goal.load_leaf-leaf-requires-clause-led
@@ -60,14 +60,14 @@ pub returns-then-eq : goal.returns-then-eq
 returns-then-eq g c =
     let e = c.load_leaf-leaf.ensures in let l = c.load_leaf-leaf.result in
     record {
-      searched = leaf_searched c.loop-entry.invariant.at c.in-Leaf.number c.in-Leaf.is e.reads l.0 l.1 e.leaf;
-      found = leaf_held c.loop-entry.invariant.at c.in-Leaf.number c.in-Leaf.is e.reads l.0 l.1 e.leaf (c.if-eq.ensures.same.0 refl);
+      searched = leaf_searched c.loop-entry.invariant.at c.in-Leaf.number c.in-Leaf.is e.few e.reads l.0 l.1 e.leaf;
+      found = leaf_held c.loop-entry.invariant.at c.in-Leaf.number c.in-Leaf.is e.few e.reads l.0 l.1 e.leaf (c.if-eq.ensures.same.0 refl);
     }
 
 pub returns-else-eq : goal.returns-else-eq
 returns-else-eq g c =
     let e = c.load_leaf-leaf.ensures in let l = c.load_leaf-leaf.result in
     record {
-      searched = leaf_searched c.loop-entry.invariant.at c.in-Leaf.number c.in-Leaf.is e.reads l.0 l.1 e.leaf;
-      found = leaf_absent c.loop-entry.invariant.at c.in-Leaf.number c.in-Leaf.is e.reads l.0 l.1 e.leaf (λ e. false≢true (c.if-eq.ensures.same.1 e));
+      searched = leaf_searched c.loop-entry.invariant.at c.in-Leaf.number c.in-Leaf.is e.few e.reads l.0 l.1 e.leaf;
+      found = leaf_absent c.loop-entry.invariant.at c.in-Leaf.number c.in-Leaf.is e.few e.reads l.0 l.1 e.leaf (λ e. false≢true (c.if-eq.ensures.same.1 e));
     }

@@ -1,24 +1,63 @@
 -- What the loads of a leaf tell.
-use Rattle.std.proofs.Common.{rules, ◌≡◌, ◌+◌, ◌∙◌, subst, arith}
-use Rattle.std.proofs.lemmas.List.{length-set}
+use Rattle.std.proofs.Common.{◌≡◌, ◌+◌, ◌∙◌, get_or, sym, ap, subst, arith, lit≤}
+use Rattle.std.proofs.lemmas.List.{length-set, get_or-set_other}
 use Rattle.compound_node.specs.declared.entries.Entry.TheVariants.{Leaf}
 use Rattle.moments.specs.declared.Rec.TheVariants.{Leaf as a_leaf}
-use Rattle.record_words.specs.declared.TheConstants.{LEAF_FIELDS}
+use Rattle.record_words.specs.Leaf.{words_of_key}
+use Rattle.record_words.proofs.Leaves.{leaf_words_parts}
 use Rattle.rowex_core.specs.declared.event.Act.TheVariants.{LoadFixed}
 use Rattle.rowex_reading.specs.Reads.{Reads}
-use Rattle.rowex_reading.proofs.Led.{reader_then, reads_none, reads_one, reads_trans}
+use Rattle.rowex_reading.proofs.Led.{reader_then, reads_one, reads_trans}
 use Rattle.rowex_reading.proofs.Standing.{led_in_table}
-use Rattle.rowex_reading.proofs.Wording.{none_loaded, one_loaded, led_stood}
-use Rattle.rowex_reading.proofs.Leafing.{leaf_spelled, leaf_read}
+use Rattle.rowex_reading.proofs.Wording.{next_loaded, led_stood}
+use Rattle.rowex_reading.proofs.Leafing.{first_loaded, first_long, first_rest, first_size, leaf_read, leaf_spelled, length_low}
 use Rattle.rowex_reading.proofs.reading.load_leaf.Goals as goal
 
+pub load_fixed-value-requires : goal.load_fixed-value-requires
+load_fixed-value-requires g c = let l = c.requires.led in record {
+  own = c.requires.reader.0;
+  range = (led_in_table c.args.table.now.layout c.args.seat.now.known l.0 (Leaf c.args.number) c.requires.reader.1 l.1, (lit≤ tt, lit≤ tt));
+}
+
+pub load_fixed-length-requires : goal.load_fixed-length-requires
+load_fixed-length-requires g c = let l = c.requires.led in record {
+  own = (reader_then c.requires.reader (reads_one (LoadFixed (a_leaf c.args.number) 1 c.load_fixed-value.result) tt c.load_fixed-value.ensures)).0;
+  range = (led_in_table c.args.table.now.layout c.args.seat.now.known l.0 (Leaf c.args.number) c.requires.reader.1 l.1, (lit≤ tt, lit≤ tt));
+}
+
+pub key_words-used-requires : goal.key_words-used-requires
+key_words-used-requires g c =
+    let l = c.requires.led in
+    let one = reads_one (LoadFixed (a_leaf c.args.number) 1 c.load_fixed-value.result) tt c.load_fixed-value.ensures in
+    let two = reads_one (LoadFixed (a_leaf c.args.number) 2 c.load_fixed-length.result) tt c.load_fixed-length.ensures in
+    let reader = reader_then (reader_then c.requires.reader one) two in
+    let loaded = first_loaded _ _ _ _ c.args.number _ _ c.load_fixed-value.ensures.event c.load_fixed-length.ensures.event l.0 l.1 in
+    let low = length_low _ _ _ c.args.number _ reader.1 loaded l.0 l.1 in
+    let same = first_size c.load_fixed-value.result c.load_fixed-length.result in omega (arith, low, same)
+
 pub loop-index-init : goal.loop-index-init
-loop-index-init g c = record { reader = c.requires.reader; long = search rules; reads = reads_none (c.args.seat.now, c.args.gate.now); loaded = none_loaded c.args.seat.now.known (a_leaf c.args.number) _ }
+loop-index-init g c =
+    let l = c.requires.led in
+    let one = reads_one (LoadFixed (a_leaf c.args.number) 1 c.load_fixed-value.result) tt c.load_fixed-value.ensures in
+    let two = reads_one (LoadFixed (a_leaf c.args.number) 2 c.load_fixed-length.result) tt c.load_fixed-length.ensures in
+    let reader = reader_then (reader_then c.requires.reader one) two in
+    let loaded = first_loaded _ _ _ _ c.args.number _ _ c.load_fixed-value.ensures.event c.load_fixed-length.ensures.event l.0 l.1 in
+    let low = length_low _ _ _ c.args.number _ reader.1 loaded l.0 l.1 in
+    let same = first_size c.load_fixed-value.result c.load_fixed-length.result in
+    record {
+      reader = reader;
+      long = first_long c.load_fixed-value.result c.load_fixed-length.result;
+      used_is = omega (arith, c.key_words-used.ensures, same);
+      fits = omega (arith, c.key_words-used.ensures, low, same);
+      reads = reads_trans one two;
+      loaded = loaded;
+      rest = first_rest c.load_fixed-value.result c.load_fixed-length.result;
+    }
 
 pub load_fixed-requires : goal.load_fixed-requires
-load_fixed-requires g c = let l = c.requires.led in record {
-  own = c.loop-index.invariant.reader.0;
-  range = (led_in_table c.args.table.now.layout c.args.seat.now.known l.0 (Leaf c.args.number) c.requires.reader.1 l.1, (omega arith, omega (arith, c.loop-index-test.true)));
+load_fixed-requires g c = let l = c.requires.led in let i = c.loop-index.invariant in record {
+  own = i.reader.0;
+  range = (led_in_table c.args.table.now.layout c.args.seat.now.known l.0 (Leaf c.args.number) c.requires.reader.1 l.1, (omega arith, omega (arith, i.fits, c.loop-index-test.true)));
 }
 
 pub loop-index-preserved : goal.loop-index-preserved
@@ -28,23 +67,27 @@ loop-index-preserved g c =
     record {
       reader = reader_then i.reader one;
       long = length-set c.loop-index.words c.loop-index.index c.load_fixed.result ∙ i.long;
+      used_is = i.used_is ∙ ap (λ n. 2 + words_of_key n) (sym (get_or-set_other c.loop-index.words c.loop-index.index 1 c.load_fixed.result 0 (λ e. omega (arith, e, c.loop-index.auto.index))));
+      fits = i.fits;
       reads = reads_trans i.reads one;
-      loaded = one_loaded _ _ _ _ (a_leaf c.args.number) _ _ c.loop-index.words i.loaded (omega (arith, i.long, c.loop-index-test.true)) e.event l.0 (led_stood c.args.seat.now.known l.0 (Leaf c.args.number) l.1);
+      loaded = next_loaded _ _ _ _ (a_leaf c.args.number) _ _ c.loop-index.words i.loaded (omega (arith, i.long, i.fits, c.loop-index-test.true)) e.event l.0 (led_stood c.args.seat.now.known l.0 (Leaf c.args.number) l.1);
+      rest = λ o past. get_or-set_other c.loop-index.words c.loop-index.index o c.load_fixed.result 0 (λ e. omega (arith, e, past)) ∙ i.rest o (omega (arith, past));
     }
 
 pub read_leaf-requires : goal.read_leaf-requires
 read_leaf-requires g c =
     let l = c.requires.led in let i = c.loop-index.invariant in
-    let at_end : c.loop-index.index ≡ LEAF_FIELDS = omega (arith, c.loop-index-test.false, c.loop-index.auto.index-end) in
-    leaf_spelled _ _ _ c.args.number _ c.loop-index.words i.reader.1 i.loaded at_end i.long l.0 l.1
+    let at_end : c.loop-index.index ≡ 2 + words_of_key (get_or c.loop-index.words 1 0) = omega (arith, i.used_is, c.loop-index-test.false, c.loop-index.auto.index-end) in
+    leaf_spelled _ _ _ c.args.number _ c.loop-index.words i.reader.1 i.loaded at_end i.rest i.long l.0 l.1
 
 pub returns-clause-reads : goal.returns-clause-reads
 returns-clause-reads g c =
-    let at_end : c.loop-index.index ≡ LEAF_FIELDS = omega (arith, c.loop-index-test.false, c.loop-index.auto.index-end) in
-    subst (λ n. Reads c.args.table.now g.G.Gate.becomes n (c.args.seat.now, c.args.gate.now) (c.loop-index.seat, c.loop-index.gate)) at_end c.loop-index.invariant.reads
+    let i = c.loop-index.invariant in
+    let size = (leaf_words_parts c.read_leaf.result c.loop-index.words (sym c.read_leaf.ensures.spells)).size in
+    subst (λ n. Reads c.args.table.now g.G.Gate.becomes n (c.args.seat.now, c.args.gate.now) (c.loop-index.seat, c.loop-index.gate)) (omega (arith, size, i.used_is, c.loop-index-test.false, c.loop-index.auto.index-end)) i.reads
 
 pub returns-clause-leaf : goal.returns-clause-leaf
 returns-clause-leaf g c = λ m led.
     let i = c.loop-index.invariant in
-    let at_end : c.loop-index.index ≡ LEAF_FIELDS = omega (arith, c.loop-index-test.false, c.loop-index.auto.index-end) in
-    leaf_read _ _ _ c.args.number _ c.loop-index.words i.reader.1 i.loaded at_end i.long m led c.read_leaf.result c.read_leaf.ensures
+    let at_end : c.loop-index.index ≡ 2 + words_of_key (get_or c.loop-index.words 1 0) = omega (arith, i.used_is, c.loop-index-test.false, c.loop-index.auto.index-end) in
+    leaf_read _ _ _ c.args.number _ c.loop-index.words i.reader.1 i.loaded at_end i.rest i.long m led c.read_leaf.result c.read_leaf.ensures
