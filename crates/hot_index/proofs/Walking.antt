@@ -366,10 +366,10 @@ spare_most (x ∷ xs) = let e = spare_most xs in omega (arith, e)
 pub paid_first : (pairs : ℕ) (top : Step) (frames : List Step) → length frames < 9 * MAX_BYTES → IsPaid 0 pairs top frames
 paid_first pairs top frames short = omega (arith, short)
 
-pub paid_push : (loads pairs : ℕ) (top : Step) (frames : List Step) (into : Step) (more : List Step) → IsPaid loads pairs top frames → into.at ≡ 0 → more ≡ frames ++ top ∷ [] →
-    IsPaid (loads + 26) pairs into more
-paid_push loads pairs top frames into more paid first e =
-    let n = ap length e ∙ length-append frames (top ∷ []) in let spare = ap spare_of e ∙ spare_append frames top in omega (arith, paid, first, n, spare)
+pub paid_push : (loads head pairs : ℕ) (top : Step) (frames : List Step) (into : Step) (more : List Step) → IsPaid loads pairs top frames → head ≤ 26 → into.at ≡ 0 → more ≡ frames ++ top ∷ [] →
+    IsPaid (loads + head) pairs into more
+paid_push loads head pairs top frames into more paid few first e =
+    let n = ap length e ∙ length-append frames (top ∷ []) in let spare = ap spare_of e ∙ spare_append frames top in omega (arith, paid, few, first, n, spare)
 
 pub paid_pop : (loads pairs : ℕ) (top : Step) (frames : List Step) (lower : Step) (rest : List Step) → IsPaid loads pairs top frames → 2 ≤ top.at → frames ≡ rest ++ lower ∷ [] →
     IsPaid loads pairs (record lower { at = lower.at + 1 }) rest

@@ -240,7 +240,7 @@ fn walk<G: Gate>(
 fn enter<G: Gate>(table: &HotTable, seat: &mut TableSeat, gate: &mut G, number: u32) -> Step
     requires reader { IsReader table.now seat.old }
     requires led { (m h : ℕ) × IsLedTo seat.old.known m (NodeEntry number h) }
-    ensures reads { Reads table.now G.becomes HEAD_WORDS (seat.old, gate.old) (seat.new, gate.new) }
+    ensures reads { (n : ℕ) × (n ≤ HEAD_WORDS) × Reads table.now G.becomes n (seat.old, gate.old) (seat.new, gate.new) }
     ensures entered { (m h : ℕ) → IsLedTo seat.old.known m (NodeEntry number h) → IsEntered seat.new.known m number h result }
 {
     let head = load_head(table, seat, gate, number);

@@ -151,14 +151,14 @@ module _ (head : HeadView) (lawful : IsLawfulNode (node_of head (leaves (length 
 module _ {G : Type 0} {table : TableView} {becomes : G → Event → G → Type 0} {a b c : SeatView × G} {key : Key} {d : Entry} (at : IsAt table becomes a b key d)
     (way : List Step) (going : IsGoing table.layout b.0.known (since b.0.known) key way d) where
   -- It is a node, of which the head was read: there is an entry at the key's place.
-  module _ (n height : ℕ) (head : HeadView) (place : ℕ) (is : d ≡ Node n height) (reads : Reads table becomes HEAD_WORDS b c)
+  module _ (n height : ℕ) (head : HeadView) (place : ℕ) (is : d ≡ Node n height) {loads : ℕ} (few : loads ≤ HEAD_WORDS) (reads : Reads table becomes loads b c)
       (told : (m h : ℕ) → IsLedTo b.0.known m (Node n h) → (head.height ≡ h) × Sure c.0.known (λ s. IsShaped s m n (shape_of head)))
       (lawful : IsLawfulNode (node_of head (leaves (length head.rows)))) (leads : InEachNode head (λ node. place ≡ leads_to (bit_of key) (piece node))) where
     spot_is : place ≡ spot key (shape_of head)
     spot_is = search_spot head key place lawful leads
 
     pub there : HasPlace c.0.known (since b.0.known) n height place
-    there = at_place at n height head place is reads told spot_is
+    there = at_place at n height head place is few reads told spot_is
 
     -- The entry was read.
     module _ {i : SeatView × G} (e : Entry) (one : Reads table becomes 1 c i)
@@ -166,7 +166,7 @@ module _ {G : Type 0} {table : TableView} {becomes : G → Event → G → Type 
       stood : (height_of e < height) × Sure i.0.known (λ s. IsPlaced s (since b.0.known) n place e)
       stood = entry (since b.0.known) height there
 
-      both : Reads table becomes 26 b i
+      both : Reads table becomes (loads + 1) b i
       both = reads_trans reads one
 
       -- it is lower
@@ -175,7 +175,7 @@ module _ {G : Type 0} {table : TableView} {becomes : G → Event → G → Type 
 
       -- the search has been led to it
       pub led_down : IsAt table becomes a i key e
-      led_down = at_next at n height head place is reads told spot_is e one stood
+      led_down = at_next at n height head place is few reads told spot_is e one stood
 
       -- the way has room for the node
       pub way_room : length way < 9 * MAX_BYTES
@@ -209,7 +209,7 @@ module _ {G : Type 0} {table : TableView} {becomes : G → Event → G → Type 
           (going_on table.layout b.0.known i.0.known (since b.0.known) key (reads_later both) way t e here (way_node possible)))
 
   -- It is a leaf, which has been read.
-  module _ (n : ℕ) (is : d ≡ LeafEntry n) (reads : Reads table becomes LEAF_FIELDS b c) (l : Key) (v : ℕ) (told : (m : ℕ) → IsLedTo b.0.known m (LeafEntry n) → Sure c.0.known (λ s. IsRead s m n l v))
+  module _ (n : ℕ) (is : d ≡ LeafEntry n) {loads : ℕ} (few : loads ≤ LEAF_FIELDS) (reads : Reads table becomes loads b c) (l : Key) (v : ℕ) (told : (m : ℕ) → IsLedTo b.0.known m (LeafEntry n) → Sure c.0.known (λ s. IsRead s m n l v))
       (is_key : IsKey key) (differ : Option ℕ) (none : IsNone differ ↔ (key ≡ l)) where
     pub way_ends : IfSome differ (IsFirstDifference key l) → IsWayOf table.layout c.0.known (since c.0.known) key way (Leaf n v differ)
     way_ends first =
@@ -222,5 +222,5 @@ module _ {G : Type 0} {table : TableView} {becomes : G → Event → G → Type 
     end_found = go differ none
       where
         go : (o : Option ℕ) → (IsNone o ↔ (key ≡ l)) → HasFound c.0.known key (value_of (Leaf n v o))
-        go None none = leaf_held at n is reads l v told (sym (none.0 refl))
-        go (Some p) none = leaf_absent at n is reads l v told (λ e. absurd (let z = none.1 (sym e) in cc))
+        go None none = leaf_held at n is few reads l v told (sym (none.0 refl))
+        go (Some p) none = leaf_absent at n is few reads l v told (λ e. absurd (let z = none.1 (sym e) in cc))

@@ -1,8 +1,8 @@
 -- A scan of one leaf.
-use Rattle.std.proofs.Common.{inl, inr, refl, [], le_refl}
+use Rattle.std.proofs.Common.{inl, inr, refl, []}
 use Rattle.compound_node.specs.declared.entries.Entry.TheVariants.{Leaf}
 use Rattle.hot_index.specs.declared.scanning.Verdict.TheVariants.{Further, Past, Full}
-use Rattle.record_words.specs.declared.TheConstants.{LEAF_FIELDS}
+use Rattle.rowex_reading.specs.Reads.{leaf_loads}
 use Rattle.rowex_reading.specs.Seen.{since}
 use Rattle.rowex_reading.proofs.Led.{reads_later, rooted_led, same_since}
 use Rattle.hot_index.specs.Scanning.{range_of}
@@ -13,7 +13,7 @@ pub load_leaf-key-requires-clause-led : goal.load_leaf-key-requires-clause-led
 load_leaf-key-requires-clause-led g c = (since c.args.seat.now.known, rooted_led (Leaf c.args.number) c.requires.root)
 
 pub returns-then-is_before-clause-reads : goal.returns-then-is_before-clause-reads
-returns-then-is_before-clause-reads g c = (LEAF_FIELDS, le_refl LEAF_FIELDS, c.load_leaf-key.ensures.reads)
+returns-then-is_before-clause-reads g c = (leaf_loads c.load_leaf-key.result.0, c.load_leaf-key.ensures.few, c.load_leaf-key.ensures.reads)
 
 pub returns-then-is_before-clause-scanned : goal.returns-then-is_before-clause-scanned
 returns-then-is_before-clause-scanned g c =
@@ -26,13 +26,13 @@ pub take_pair-requires : goal.take_pair-requires
 take_pair-requires g c = record { above = c.is_before.ensures.at_most c.if-is_before.false }
 
 pub returns-in_err-take_pair-clause-reads : goal.returns-in_err-take_pair-clause-reads
-returns-in_err-take_pair-clause-reads g c = (LEAF_FIELDS, le_refl LEAF_FIELDS, c.load_leaf-key.ensures.reads)
+returns-in_err-take_pair-clause-reads g c = (leaf_loads c.load_leaf-key.result.0, c.load_leaf-key.ensures.few, c.load_leaf-key.ensures.reads)
 
 pub returns-in-Full : goal.returns-in-Full
 returns-in-Full g c =
     let e = c.load_leaf-key.ensures in
     record {
-      reads = (LEAF_FIELDS, le_refl LEAF_FIELDS, e.reads);
+      reads = (leaf_loads c.load_leaf-key.result.0, e.few, e.reads);
       scanned =
           leaf_full (range_of c.args.range.now) c.args.number c.load_leaf-key.result.0 c.load_leaf-key.result.1 (reads_later e.reads) c.requires.root
           (same_since e.reads) (e.leaf (since c.args.seat.now.known) (rooted_led (Leaf c.args.number) c.requires.root)) _
@@ -44,7 +44,7 @@ pub returns-in-Further : goal.returns-in-Further
 returns-in-Further g c =
     let e = c.load_leaf-key.ensures in
     record {
-      reads = (LEAF_FIELDS, le_refl LEAF_FIELDS, e.reads);
+      reads = (leaf_loads c.load_leaf-key.result.0, e.few, e.reads);
       scanned = elim c.in-Further.is [
         | inl is ↦
             leaf_further (range_of c.args.range.now) c.args.number c.load_leaf-key.result.0 c.load_leaf-key.result.1 (reads_later e.reads) c.requires.root

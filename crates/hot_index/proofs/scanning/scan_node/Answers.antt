@@ -2,7 +2,7 @@
 use Rattle.std.proofs.Common.{◌+◌, ◌≤◌, ℕ, [], take, refl, ap, sym, subst, ◌∙◌, arith}
 use Rattle.compound_node.specs.declared.entries.Entry.TheVariants.{Leaf}
 use Rattle.hot_index.specs.declared.scanning.Verdict.TheVariants.{Further, Past, Full}
-use Rattle.record_words.specs.declared.TheConstants.{LEAF_FIELDS}
+use Rattle.rowex_reading.specs.Reads.{leaf_loads}
 use Rattle.rowex_reading.specs.Reads.{Reads}
 use Rattle.rowex_reading.specs.Seen.{since}
 use Rattle.rowex_reading.proofs.Led.{placed_led, reader_then, reads_later, reads_trans, same_since}
@@ -44,7 +44,7 @@ take_pair-requires g c =
     }
 
 pub returns-in_err-take_pair-clause-reads : goal.returns-in_err-take_pair-clause-reads
-returns-in_err-take_pair-clause-reads g c = let r = c.start_at-start.ensures.reads in let few = r.1 in (r.0 + LEAF_FIELDS, omega (arith, few), reads_trans r.2 c.load_leaf-key.ensures.reads)
+returns-in_err-take_pair-clause-reads g c = let r = c.start_at-start.ensures.reads in let few = r.1 in (r.0 + leaf_loads c.load_leaf-key.result.0, omega (arith, few, c.load_leaf-key.ensures.few), reads_trans r.2 c.load_leaf-key.ensures.reads)
 
 pub overflow_add-top : goal.overflow_add-top
 overflow_add-top g c =
@@ -57,7 +57,7 @@ overflow_add-top g c =
     let low = first.inside in let room = walk_room walk in omega (arith, low, room)
 
 pub returns-in-Past-clause-reads : goal.returns-in-Past-clause-reads
-returns-in-Past-clause-reads g c = let r = c.start_at-start.ensures.reads in let few = r.1 in (r.0 + LEAF_FIELDS, omega (arith, few), reads_trans r.2 c.load_leaf-key.ensures.reads)
+returns-in-Past-clause-reads g c = let r = c.start_at-start.ensures.reads in let few = r.1 in (r.0 + leaf_loads c.load_leaf-key.result.0, omega (arith, few, c.load_leaf-key.ensures.few), reads_trans r.2 c.load_leaf-key.ensures.reads)
 
 pub returns-in-Past-clause-scanned : goal.returns-in-Past-clause-scanned
 returns-in-Past-clause-scanned g c =
@@ -75,7 +75,7 @@ returns-in-Past-clause-scanned g c =
     c.new-pairs.ensures.items c.in-Past.is c.in_ok-take_pair.ensures) refl
 
 pub returns-in-Full-clause-reads : goal.returns-in-Full-clause-reads
-returns-in-Full-clause-reads g c = let r = c.start_at-start.ensures.reads in let few = r.1 in (r.0 + LEAF_FIELDS, omega (arith, few), reads_trans r.2 c.load_leaf-key.ensures.reads)
+returns-in-Full-clause-reads g c = let r = c.start_at-start.ensures.reads in let few = r.1 in (r.0 + leaf_loads c.load_leaf-key.result.0, omega (arith, few, c.load_leaf-key.ensures.few), reads_trans r.2 c.load_leaf-key.ensures.reads)
 
 pub returns-in-Full-clause-scanned : goal.returns-in-Full-clause-scanned
 returns-in-Full-clause-scanned g c =
@@ -138,7 +138,7 @@ pub returns-clause-reads : goal.returns-clause-reads
 returns-clause-reads g c =
     let r = c.start_at-start.ensures.reads in let few = r.1 in
     let before : (n : ℕ) × (n ≤ 57) × Reads c.args.table.now g.G.Gate.becomes n (c.args.seat.now, c.args.gate.now) (c.if-start.seat, c.if-start.gate) = elim c.if-start.branch [
-      | then-start+in_ok-take_pair+in-Further w ↦ rw (w.seat-is, w.gate-is) (r.0 + LEAF_FIELDS, omega (arith, few), reads_trans r.2 w.load_leaf-key.ensures.reads)
+      | then-start+in_ok-take_pair+in-Further w ↦ rw (w.seat-is, w.gate-is) (r.0 + leaf_loads w.load_leaf-key.result.0, omega (arith, few, w.load_leaf-key.ensures.few), reads_trans r.2 w.load_leaf-key.ensures.reads)
       | else-start w ↦ rw (w.seat-is, w.gate-is) (r.0, omega (arith, few), r.2)
     ] in
     let some = before.1 in let more = c.walk.ensures.reads.1 in

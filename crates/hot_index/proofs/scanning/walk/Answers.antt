@@ -2,7 +2,7 @@
 use Rattle.std.proofs.Common.{◌+◌, refl, length, subst, sym, arith}
 use Rattle.compound_node.specs.declared.entries.Entry.TheVariants.{Leaf, Node}
 use Rattle.hot_index.specs.declared.scanning.Verdict.TheVariants.{Further, Past, Full}
-use Rattle.record_words.specs.declared.TheConstants.{HEAD_WORDS, LEAF_FIELDS}
+use Rattle.rowex_reading.specs.Reads.{leaf_loads}
 use Rattle.rowex_reading.specs.Seen.{since}
 use Rattle.hot_index.specs.Scanning.{range_of}
 use Rattle.rowex_reading.proofs.Led.{placed_led, reader_then, reads_later, reads_none, reads_trans, same_since}
@@ -41,7 +41,7 @@ loop-top-smaller-in-Node g c =
     let at = c.in-Node.ensures.entry m c.loop-top.top.height (walk_place w c.if-top.true) in
     let led = placed_led c.loop-top.top.number c.loop-top.top.at (Node c.in-Node.number c.in-Node.height) (since_later (reads_later c.load_entry.ensures.reads) w.pinned) at.1 in
     let e = c.enter-top.ensures in
-    walk_push_less w (reads_later c.load_entry.ensures.reads) (reads_later e.reads) c.if-top.true c.in-Node.number c.in-Node.height at.0 c.enter-top.result
+    walk_push_less w (reads_later c.load_entry.ensures.reads) (reads_later e.reads.2) c.if-top.true c.in-Node.number c.in-Node.height at.0 c.enter-top.result
     (e.entered m c.in-Node.height led) c.push.new.self.items c.push.ensures.items
 
 pub loop-top-preserved-in-Node : goal.loop-top-preserved-in-Node
@@ -52,16 +52,16 @@ loop-top-preserved-in-Node g c =
     let led = placed_led c.loop-top.top.number c.loop-top.top.at (Node c.in-Node.number c.in-Node.height) (since_later (reads_later o.reads) w.pinned) at.1 in
     let e = c.enter-top.ensures in
     let entered = e.entered m c.in-Node.height led in
-    let placed = sure_later (placed_stable m c.loop-top.top.number c.loop-top.top.at (Node c.in-Node.number c.in-Node.height)) (reads_later e.reads) at.1 in
+    let placed = sure_later (placed_stable m c.loop-top.top.number c.loop-top.top.at (Node c.in-Node.number c.in-Node.height)) (reads_later e.reads.2) at.1 in
     record {
-      reader = reader_then (reader_then i.reader o.reads) e.reads;
+      reader = reader_then (reader_then i.reader o.reads) e.reads.2;
       reads = (
-        i.reads.0 + (1 + HEAD_WORDS),
-        paid_push i.reads.0 (length c.loop-top.pairs.items) c.loop-top.top c.loop-top.way.items c.enter-top.result c.push.new.self.items i.reads.1 (entered_first entered) c.push.ensures.items,
-        reads_trans i.reads.2 (reads_trans o.reads e.reads),
+        i.reads.0 + (1 + e.reads.0),
+        paid_push i.reads.0 (1 + e.reads.0) (length c.loop-top.pairs.items) c.loop-top.top c.loop-top.way.items c.enter-top.result c.push.new.self.items i.reads.1 (let few = e.reads.1 in omega (arith, few)) (entered_first entered) c.push.ensures.items,
+        reads_trans i.reads.2 (reads_trans o.reads e.reads.2),
       );
-      walk = walk_push w (reads_later o.reads) (reads_later e.reads) c.if-top.true c.in-Node.number c.in-Node.height at.1 c.enter-top.result entered c.push.new.self.items c.push.ensures.items;
-      floor = floor_push m c.args.range.now.from.now (floor_later m c.args.range.now.from.now (reads_later (reads_trans o.reads e.reads)) i.floor) c.in-Node.number c.in-Node.height placed c.enter-top.result
+      walk = walk_push w (reads_later o.reads) (reads_later e.reads.2) c.if-top.true c.in-Node.number c.in-Node.height at.1 c.enter-top.result entered c.push.new.self.items c.push.ensures.items;
+      floor = floor_push m c.args.range.now.from.now (floor_later m c.args.range.now.from.now (reads_later (reads_trans o.reads e.reads.2)) i.floor) c.in-Node.number c.in-Node.height placed c.enter-top.result
           (entered_number entered) (entered_first entered) c.push.new.self.items c.push.ensures.items;
     }
 
@@ -91,8 +91,8 @@ take_pair-requires g c =
 pub returns-in_err-take_pair-in-Leaf-clause-reads : goal.returns-in_err-take_pair-in-Leaf-clause-reads
 returns-in_err-take_pair-in-Leaf-clause-reads g c =
     let i = c.loop-top.invariant in (
-      i.reads.0 + (1 + LEAF_FIELDS),
-      paid_most i.reads.0 (1 + LEAF_FIELDS) (length c.loop-top.pairs.items) c.args.range.now.limit c.loop-top.top c.loop-top.way.items i.reads.1 (omega arith) (way_short i.walk i.reader.1) (walk_short i.walk i.reader.1),
+      i.reads.0 + (1 + leaf_loads c.load_leaf-key.result.0),
+      paid_most i.reads.0 (1 + leaf_loads c.load_leaf-key.result.0) (length c.loop-top.pairs.items) c.args.range.now.limit c.loop-top.top c.loop-top.way.items i.reads.1 (omega (arith, c.load_leaf-key.ensures.few)) (way_short i.walk i.reader.1) (walk_short i.walk i.reader.1),
       reads_trans i.reads.2 (reads_trans c.load_entry.ensures.reads c.load_leaf-key.ensures.reads),
     )
 
@@ -111,9 +111,9 @@ loop-top-preserved-in-Further g c =
     record {
       reader = reader_then (reader_then i.reader o.reads) e.reads;
       reads = (
-        i.reads.0 + (1 + LEAF_FIELDS),
-        subst (λ n. IsPaid (i.reads.0 + (1 + LEAF_FIELDS)) n (record c.loop-top.top { at = c.loop-top.top.at + 1 }) c.loop-top.way.items) (sym (taken_more (range_of c.args.range.now) c.loop-top.pairs.items c.take_pair.new.pairs.items c.load_leaf-key.result.0 c.load_leaf-key.result.1 taken))
-            (paid_leaf i.reads.0 (1 + LEAF_FIELDS) (length c.loop-top.pairs.items) c.loop-top.top c.loop-top.way.items i.reads.1 (omega arith)),
+        i.reads.0 + (1 + leaf_loads c.load_leaf-key.result.0),
+        subst (λ n. IsPaid (i.reads.0 + (1 + leaf_loads c.load_leaf-key.result.0)) n (record c.loop-top.top { at = c.loop-top.top.at + 1 }) c.loop-top.way.items) (sym (taken_more (range_of c.args.range.now) c.loop-top.pairs.items c.take_pair.new.pairs.items c.load_leaf-key.result.0 c.load_leaf-key.result.1 taken))
+            (paid_leaf i.reads.0 (1 + leaf_loads c.load_leaf-key.result.0) (length c.loop-top.pairs.items) c.loop-top.top c.loop-top.way.items i.reads.1 (omega (arith, c.load_leaf-key.ensures.few))),
         reads_trans i.reads.2 (reads_trans o.reads e.reads),
       );
       walk = walk_further w (reads_later o.reads) (reads_later e.reads) c.if-top.true c.in-Leaf.number at.1 c.load_leaf-key.result.0 c.load_leaf-key.result.1 (e.leaf m led) c.take_pair.new.pairs.items taken;
@@ -123,8 +123,8 @@ loop-top-preserved-in-Further g c =
 pub returns-in-Past-clause-reads : goal.returns-in-Past-clause-reads
 returns-in-Past-clause-reads g c =
     let i = c.loop-top.invariant in (
-      i.reads.0 + (1 + LEAF_FIELDS),
-      paid_most i.reads.0 (1 + LEAF_FIELDS) (length c.loop-top.pairs.items) c.args.range.now.limit c.loop-top.top c.loop-top.way.items i.reads.1 (omega arith) (way_short i.walk i.reader.1) (walk_short i.walk i.reader.1),
+      i.reads.0 + (1 + leaf_loads c.load_leaf-key.result.0),
+      paid_most i.reads.0 (1 + leaf_loads c.load_leaf-key.result.0) (length c.loop-top.pairs.items) c.args.range.now.limit c.loop-top.top c.loop-top.way.items i.reads.1 (omega (arith, c.load_leaf-key.ensures.few)) (way_short i.walk i.reader.1) (walk_short i.walk i.reader.1),
       reads_trans i.reads.2 (reads_trans c.load_entry.ensures.reads c.load_leaf-key.ensures.reads),
     )
 
@@ -142,8 +142,8 @@ returns-in-Past-clause-scanned g c =
 pub returns-in-Full-clause-reads : goal.returns-in-Full-clause-reads
 returns-in-Full-clause-reads g c =
     let i = c.loop-top.invariant in (
-      i.reads.0 + (1 + LEAF_FIELDS),
-      paid_most i.reads.0 (1 + LEAF_FIELDS) (length c.loop-top.pairs.items) c.args.range.now.limit c.loop-top.top c.loop-top.way.items i.reads.1 (omega arith) (way_short i.walk i.reader.1) (walk_short i.walk i.reader.1),
+      i.reads.0 + (1 + leaf_loads c.load_leaf-key.result.0),
+      paid_most i.reads.0 (1 + leaf_loads c.load_leaf-key.result.0) (length c.loop-top.pairs.items) c.args.range.now.limit c.loop-top.top c.loop-top.way.items i.reads.1 (omega (arith, c.load_leaf-key.ensures.few)) (way_short i.walk i.reader.1) (walk_short i.walk i.reader.1),
       reads_trans i.reads.2 (reads_trans c.load_entry.ensures.reads c.load_leaf-key.ensures.reads),
     )
 

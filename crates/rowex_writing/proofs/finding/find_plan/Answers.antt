@@ -53,4 +53,4 @@ returns-in-Beside-clause-within g c = beside_within c.args.way.now c.in-Beside.p
 
 pub returns-in-Beside-clause-few : goal.returns-in-Beside-clause-few
 returns-in-Beside-clause-few g c =
-    let z = reads_count c.args.table.now g.G.Gate.becomes _ (c.args.seat.now, c.args.gate.now) (c.load_head-head.new.seat, c.load_head-head.new.gate) c.load_head-head.ensures.reads in omega (arith, z)
+    let z = reads_count c.args.table.now g.G.Gate.becomes _ (c.args.seat.now, c.args.gate.now) (c.load_head-head.new.seat, c.load_head-head.new.gate) c.load_head-head.ensures.reads in omega (arith, z, c.load_head-head.ensures.few)
