@@ -1,6 +1,8 @@
 -- The words of a leaf and of a head behind those that have something.
-use Rattle.std.proofs.Common.{ℕ, ◌≡◌, ◌+◌, ◌-◌, ◌*◌, ◌^◌, ◌<◌, ◌≤◌, arith, List, get_or, length, sym, ap, ◌∙◌, refl, []}
-use Rattle.std.proofs.lemmas.List.{get_or_past}
+use Rattle.std.proofs.Common.{ℕ, ◌≡◌, ◌+◌, ◌-◌, ◌*◌, ◌^◌, ◌<◌, ◌≤◌, arith, List, get_or, set, replicate, length, ⊎_elim, sym, ap, ◌∙◌, refl, []}
+use Rattle.std.proofs.lemmas.Bool.{cases_lt}
+use Rattle.std.proofs.lemmas.List.{get_or_past, get_or-replicate, get_or-set_other, get_or-set_same, length-replicate, length-set}
+use Rattle.record_words.specs.declared.TheConstants.{LEAF_FIELDS}
 use Rattle.record_words.specs.Leaf.{key_word, leaf_words, words_of_key}
 use Rattle.record_words.specs.Packed.{position_at, position_word, row_at, row_word, fixed_words, words_of_positions, words_of_rows}
 use Rattle.record_words.proofs.Bytes.{same_key_word}
@@ -12,7 +14,7 @@ no_bytes : key_word [] 0 ≡ 0
 unfolding key_word
 no_bytes = refl
 
-key_word_past : (key : List ℕ) (j : ℕ) → length key ≤ 8 * j → key_word key j ≡ 0
+pub key_word_past : (key : List ℕ) (j : ℕ) → length key ≤ 8 * j → key_word key j ≡ 0
 key_word_past key j past = same_key_word key [] j 0 (λ i small. get_or_past key (8 * j + i) 0 (omega (arith, past)) ∙ sym (get_or_past {X = ℕ} [] (8 * 0 + i) 0 (omega arith))) ∙ no_bytes
 
 pub leaf_word_past : (leaf : List ℕ × ℕ) (i : ℕ) → 2 + words_of_key (length leaf.0) ≤ i → i < 32 → get_or (leaf_words leaf) i 0 ≡ 0
@@ -20,6 +22,25 @@ leaf_word_past leaf i past low =
     let j : ℕ = i - 2 in
     ap (λ n. get_or (leaf_words leaf) n 0) (let e : i ≡ 2 + j = omega (arith, past) in e) ∙
         ((leaf_words_parts leaf (leaf_words leaf) refl).bytes j (omega (arith, low, past)) ∙ key_word_past leaf.0 j (omega (arith, past)))
+
+zero_at : (o : ℕ) → get_or (replicate {A = ℕ} LEAF_FIELDS 0) o 0 ≡ 0
+zero_at o = ⊎_elim (λ (inside : o < LEAF_FIELDS). get_or-replicate {A = ℕ} LEAF_FIELDS o 0 0 inside)
+    (λ (past : LEAF_FIELDS ≤ o). get_or_past (replicate LEAF_FIELDS 0) o 0 (omega (arith, past, length-replicate {A = ℕ} LEAF_FIELDS 0))) (cases_lt o LEAF_FIELDS)
+
+-- the value and the length, in the place of two of as many zeros as a leaf has words
+abbrev pub first_words : ℕ → ℕ → List ℕ
+first_words value size = set (set (replicate LEAF_FIELDS 0) 0 value) 1 size
+
+pub first_long : (value size : ℕ) → length (first_words value size) ≡ LEAF_FIELDS
+first_long value size = length-set (set (replicate LEAF_FIELDS 0) 0 value) 1 size ∙ (length-set (replicate LEAF_FIELDS 0) 0 value ∙ length-replicate {A = ℕ} LEAF_FIELDS 0)
+
+pub first_size : (value size : ℕ) → get_or (first_words value size) 1 0 ≡ size
+first_size value size = get_or-set_same (set (replicate LEAF_FIELDS 0) 0 value) 1 size 0 (omega (arith, length-set (replicate LEAF_FIELDS 0) 0 value, length-replicate {A = ℕ} LEAF_FIELDS 0))
+
+pub first_rest : (value size o : ℕ) → 2 ≤ o → get_or (first_words value size) o 0 ≡ 0
+first_rest value size o past =
+    get_or-set_other (set (replicate LEAF_FIELDS 0) 0 value) 1 o size 0 (λ e. omega (arith, e, past)) ∙
+        (get_or-set_other (replicate LEAF_FIELDS 0) 0 o value 0 (λ e. omega (arith, e, past)) ∙ zero_at o)
 
 -- where no position stands, all bits are set
 position_past : (columns : List ℕ) (i : ℕ) → length columns ≤ i → position_at columns i ≡ 65535

@@ -26,7 +26,7 @@ pub fn pack_leaf(key: &Key, value: u64) -> [u64; LEAF_FIELDS]
     let mut words = [0; LEAF_FIELDS];
     words[0] = value;
     words[1] = bytes.len() as u64;
-    for j in 0..KEY_WORDS {
+    for j in 0..key_words(bytes.len() as u64) {
         words[2 + j] = word_of_bytes(bytes, j);
     }
     words

@@ -8,7 +8,7 @@ use Rattle.record_words.specs.declared.layout.Layout.{Layout}
 use Rattle.key_bits.specs.declared.TheConstants.{MAX_BYTES}
 use Rattle.record_words.specs.Leaf.{HasLeafWords, leaf_words, words_of_key}
 use Rattle.record_words.proofs.Leaves.{leaf_words_parts}
-use Rattle.record_words.proofs.Unused.{leaf_word_past}
+use Rattle.record_words.proofs.Unused.{first_words, leaf_word_past}
 use Rattle.record_words.specs.Reading.{IsSpelling, IsSpelledBy}
 use Rattle.record_words.specs.declared.TheConstants.{LEAF_FIELDS}
 use Rattle.tries.specs.Tree.{leaf}
@@ -33,25 +33,6 @@ use Rattle.rowex_reading.proofs.Seeing.{recalls_before, seen_within, seen_grown,
 use Rattle.rowex_reading.proofs.Standing.{reach, is_packed}
 use Rattle.rowex_reading.proofs.Wording.{AreLoaded, none_loaded, next_loaded, led_stood, word_now, words_now}
 use Rattle.rowex_core.proofs.Loading.{view}
-
-zero_at : (o : ℕ) → get_or (replicate {A = ℕ} LEAF_FIELDS 0) o 0 ≡ 0
-zero_at o = ⊎_elim (λ (inside : o < LEAF_FIELDS). get_or-replicate {A = ℕ} LEAF_FIELDS o 0 0 inside)
-    (λ (past : LEAF_FIELDS ≤ o). get_or_past (replicate LEAF_FIELDS 0) o 0 (omega (arith, past, length-replicate {A = ℕ} LEAF_FIELDS 0))) (cases_lt o LEAF_FIELDS)
-
--- the value and the length, in the place of two of as many zeros as a leaf has words
-abbrev pub first_words : ℕ → ℕ → List ℕ
-first_words value size = set (set (replicate LEAF_FIELDS 0) 0 value) 1 size
-
-pub first_long : (value size : ℕ) → length (first_words value size) ≡ LEAF_FIELDS
-first_long value size = length-set (set (replicate LEAF_FIELDS 0) 0 value) 1 size ∙ (length-set (replicate LEAF_FIELDS 0) 0 value ∙ length-replicate {A = ℕ} LEAF_FIELDS 0)
-
-pub first_size : (value size : ℕ) → get_or (first_words value size) 1 0 ≡ size
-first_size value size = get_or-set_same (set (replicate LEAF_FIELDS 0) 0 value) 1 size 0 (omega (arith, length-set (replicate LEAF_FIELDS 0) 0 value, length-replicate {A = ℕ} LEAF_FIELDS 0))
-
-pub first_rest : (value size o : ℕ) → 2 ≤ o → get_or (first_words value size) o 0 ≡ 0
-first_rest value size o past =
-    get_or-set_other (set (replicate LEAF_FIELDS 0) 0 value) 1 o size 0 (λ e. omega (arith, e, past)) ∙
-        (get_or-set_other (replicate LEAF_FIELDS 0) 0 o value 0 (λ e. omega (arith, e, past)) ∙ zero_at o)
 
 -- they have been loaded
 pub first_loaded : (layout : Layout) (k i j : Known) (n value size : ℕ) → IsEvent layout (LoadFixed (a_leaf n) 1 value) silent k i → IsEvent layout (LoadFixed (a_leaf n) 2 size) silent i j →

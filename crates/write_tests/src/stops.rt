@@ -36,7 +36,7 @@ fn steps_of_get(rt: &impl Abort, alloc: Global) -> Result<u32, AllocError> {
 #[test]
 fn a_stopped_get_answers_what_was_there(rt: HostRuntime) -> Result<(), Fail> {
     let steps = steps_of_get(&rt, rt.alloc())?;
-    assert!(rt; steps > 30);
+    assert!(rt; steps == 11);
     for step in 1..=steps {
         let (index, mut passes) = index_of(&rt, rt.alloc(), 2, 8, 8)?;
         let mut reader = next_guest(&rt, &index, &mut passes);

@@ -10,7 +10,8 @@ use Rattle.rowex_reading.specs.Reads.{Reads}
 use Rattle.rowex_reading.proofs.Led.{reader_then, reads_one, reads_trans}
 use Rattle.rowex_reading.proofs.Standing.{led_in_table}
 use Rattle.rowex_reading.proofs.Wording.{next_loaded, led_stood}
-use Rattle.rowex_reading.proofs.Leafing.{first_loaded, first_long, first_rest, first_size, leaf_read, leaf_spelled, length_low}
+use Rattle.record_words.proofs.Unused.{first_long, first_rest, first_size}
+use Rattle.rowex_reading.proofs.Leafing.{first_loaded, leaf_read, leaf_spelled, length_low}
 use Rattle.rowex_reading.proofs.reading.load_leaf.Goals as goal
 
 pub load_fixed-value-requires : goal.load_fixed-value-requires
