@@ -16,7 +16,7 @@ once_steps layout = attempt_steps layout + 3
 abbrev pub try_steps : Layout → ℕ
 try_steps layout = 2 * once_steps layout + round_steps layout
 
--- The loads of the walk of a scan: 26 for each node that it enters, 33 for each leaf that it reads. A node has two entries or more, so it
+-- The loads of the walk of a scan: at most 26 for each node that it enters, 33 for each leaf that it reads. A node has two entries or more, so it
 -- enters as many nodes as it reads leaves, and at most two more for each node on its way.
 abbrev pub walk_loads : ℕ → ℕ
 walk_loads limit = 52 * (9 * MAX_BYTES) + 59 * limit + 33

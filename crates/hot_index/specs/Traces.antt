@@ -39,7 +39,7 @@ pub record HasRead {G : Type 0} (index : TableView) (becomes : G → Event → G
   pub steps : Ends index becomes (reading epoch root loads) ClearPin said (before, a.1) (after, b.1)
   pub told : IsTold becomes (events_of a.0.number (reading epoch root loads ++ ClearPin ∷ [])) a.1 b.1
 
--- A get visits so many nodes on the way of its key: it makes 26 steps at each, and at most 36 beside.
+-- A get visits so many nodes on the way of its key: it makes at most 26 steps at each, and 36 beside.
 pub record HasGot {G : Type 0} (index : TableView) (becomes : G → Event → G → Type 0) (a b : PassView × G) : Type 0 where
   pub read : HasRead index becomes a b
   pub visited : ℕ

@@ -1,8 +1,8 @@
 -- Loads under a lock, and steps one after the other.
-use Rattle.std.proofs.Common.{◌≡◌, ℕ, ◌+◌, ◌-◌, ◌<◌, ◌≤◌, List, [], ◌∷◌, ◌++◌, length, get_or, set, refl, sym, ap, subst, ◌∙◌, arith, add-one, inl, inr, ◌⊎◌}
+use Rattle.std.proofs.Common.{◌≡◌, ℕ, ◌+◌, ◌-◌, ◌<◌, ◌≤◌, List, [], ◌∷◌, ◌++◌, length, get_or, set, replicate, refl, sym, ap, subst, ◌∙◌, arith, add-one, inl, inr, ◌⊎◌}
 use Rattle.std.proofs.lemmas.Bool.{cases_lt}
 use Rattle.std.proofs.lemmas.List.Elements.{All-append, All-cons}
-use Rattle.std.proofs.lemmas.List.{ext_get_or, get_or-set_same, get_or-set_other}
+use Rattle.std.proofs.lemmas.List.{ext_get_or, get_or-set_same, get_or-set_other, length-replicate, length-set}
 use Rattle.record_words.specs.declared.layout.Layout.{Layout}
 use Rattle.compound_node.specs.Nodes.{NodeView}
 use Rattle.rowex_core.proofs.Reading.{node_is}
@@ -115,3 +115,33 @@ all_those loaded words long those =
 -- what was locked is
 pub locked_on : (k j : Known) (n : ℕ) (words : List ℕ) → j.locks ≡ k.locks → HasLocked k n words → HasLocked j n words
 locked_on k j n words same h = subst (λ locks. IsOf (record { node = n; words = words }) locks) (sym same) h
+
+-- The first n of a locked node's words have been read, each by one load.
+pub record AreRead {G : Type 0} (table : TableView) (becomes : G → Event → G → Type 0) (a b : SeatView × G) (number : ℕ) (loaded : List ℕ) (n : ℕ) : Type 0 where
+  pub own : IsSeatOf table b.0
+  pub reads : ReadsOn table becomes a b
+  pub long : length loaded ≡ 57
+  pub those : (words : List ℕ) → HasLocked a.0.known number words → AreThose loaded words n
+  pub few : b.0.known.steps ≤ a.0.known.steps + n
+
+module _ {G : Type 0} (table : TableView) (becomes : G → Event → G → Type 0) (a : SeatView × G) where
+  pub none_read : (number : ℕ) → IsSeatOf table a.0 → AreRead table becomes a a number (replicate 57 0) 0
+  none_read number own = record {
+    own = own;
+    reads = reads_none table becomes a;
+    long = length-replicate {A = ℕ} 57 0;
+    those = λ words h. none_those (replicate 57 0) words;
+    few = omega arith;
+  }
+
+  pub one_read : (b c : SeatView × G) (number : ℕ) (loaded : List ℕ) (n w : ℕ) → AreRead table becomes a b number loaded n → n < 57 → ReadsOn table becomes b c →
+      ((words : List ℕ) → HasLocked b.0.known number words → w ≡ get_or words n 0) → ((words : List ℕ) → HasLocked b.0.known number words → (view : NodeView) × IsNodeOf words view) →
+      c.0.known.steps ≤ b.0.known.steps + 1 → AreRead table becomes a c number (set loaded n w) (n + 1)
+  one_read b c number loaded n w i low reads word spelled few = record {
+    own = seat_of table becomes b c reads.goes i.own;
+    reads = reads_more table becomes a b c i.reads reads;
+    long = length-set loaded n w ∙ i.long;
+    those = λ words h. (let there = locked_on a.0.known b.0.known number words i.reads.goes.stays.1 h in
+        more_those loaded words n w (omega (arith, i.long, low)) (i.those words h) (word words there) (spelled words there));
+    few = let before = i.few in omega (arith, before, few);
+  }

@@ -25,13 +25,17 @@ pub fn read_locked<G: Gate>(
     ensures few { seat.new.known.steps ≤ seat.old.known.steps + NODE_FIELDS }
 {
     let mut words = [0; NODE_FIELDS];
-    for index in 0..NODE_FIELDS {
+    for index in 0..HEAD_WORDS {
+        words[index] = load_word(table, seat, gate, number, index);
+    }
+    for index in HEAD_WORDS..NODE_FIELDS {
         words[index] = load_word(table, seat, gate, number, index);
     }
     read_node(&words)
 }
 
-/// One word of a locked node, of those after its state.
+/// One word of a locked node, of those after its state. Inline, so that neither loop over the words tests which they are.
+#[inline(always)]
 fn load_word<G: Gate>(
     table: &HotTable,
     seat: &mut TableSeat,
