@@ -55,7 +55,7 @@ same_bytes xs ys small_xs small_ys same i inside =
     let this = same_key_bytes xs ys (i / 8) (i / 8) small_xs small_ys (same (i / 8) (omega arith)) (i % 8) (omega arith) in
     rw at at this
 
-key_part : (words : List ℕ) (j : ℕ) → j < 30 → get_or (take 30 (drop 2 words)) j 0 ≡ get_or words (2 + j) 0
+pub key_part : (words : List ℕ) (j : ℕ) → j < 30 → get_or (take 30 (drop 2 words)) j 0 ≡ get_or words (2 + j) 0
 key_part words j small = get_or-take 30 (drop 2 words) j 0 small ∙ get_or-drop 2 words j 0
 
 -- the bytes of a leaf's words are those of the key, and then 0

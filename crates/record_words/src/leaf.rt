@@ -36,7 +36,7 @@ pub fn pack_leaf(key: &Key, value: u64) -> [u64; LEAF_FIELDS]
 pub fn unpack_leaf(words: &[u64; LEAF_FIELDS]) -> Result<(Key, u64), WordFault>
     ensures { IsReading HasLeafWords leaf_words words.now result }
 {
-    unpack_with(words, &bytes_of_words(&words[2..]))
+    unpack_with(words, &bytes_of_words(&words[2..], KEY_WORDS))
 }
 
 /// The key and the value that a leaf record has, of its words from offset 1 on; there are some.
@@ -44,7 +44,7 @@ pub fn read_leaf(words: &[u64; LEAF_FIELDS]) -> (Key, u64)
     requires { IsSpelling HasLeafWords leaf_words words.now }
     ensures { IsSpelledBy HasLeafWords leaf_words words.now result }
 {
-    let bytes = bytes_of_words(&words[2..]);
+    let bytes = bytes_of_words(&words[2..], key_words(words[1]));
     (key_of_bytes(words, &bytes), words[0])
 }
 
@@ -101,13 +101,15 @@ fn byte_at(bytes: &[u8], at: usize) -> u8
     bytes.get(at).copied().unwrap_or(0)
 }
 
-/// The bytes whose words these are.
-fn bytes_of_words(words: &[u64]) -> [u8; MAX_BYTES]
-    requires { length words.now ≡ KEY_WORDS }
+/// The bytes whose words these are, of which only the first `used` can be other than 0.
+fn bytes_of_words(words: &[u64], used: usize) -> [u8; MAX_BYTES]
+    requires count { length words.now ≡ KEY_WORDS }
+    requires few { used ≤ KEY_WORDS }
+    requires rest { (j : ℕ) → used ≤ j → j < KEY_WORDS → slice_index words.now j ≡ 0 }
     ensures { IsBytesOf result words.now }
 {
     let mut bytes = [0; MAX_BYTES];
-    for j in 0..KEY_WORDS {
+    for j in 0..used {
         write_word(&mut bytes, j, words[j]);
     }
     bytes

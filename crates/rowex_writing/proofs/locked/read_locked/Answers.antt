@@ -1,5 +1,5 @@
 -- One word more, of the head and then of the entries; all of them.
-use Rattle.std.proofs.Common.{◌≡◌, ℕ, List, ◌+◌, ◌≤◌, sym, ◌∙◌, subst, arith}
+use Rattle.std.proofs.Common.{◌≡◌, sym, ◌∙◌, subst, arith}
 use Rattle.rowex_writing.specs.Going.{IsNodeOf}
 use Rattle.rowex_writing.proofs.Locking.{AreRead, AreThose, none_read, one_read, all_those}
 use Rattle.rowex_writing.proofs.locked.read_locked.Goals as goal
