@@ -13,7 +13,7 @@ use std::thread::{join, map_vec};
 
 #[test]
 fn a_table_has_a_seat_for_each_pass(rt: HostRuntime) -> Result<(), Fail> {
-    for (passes, words) in [(1, 732), (2, 733), (64, 795)] {
+    for (passes, words) in [(1, 760), (2, 768), (64, 1264)] {
         let (table, seats) = table_of(&rt, rt.alloc(), passes, 8, 8)?;
         assert!(rt; seats.len() == passes as usize);
         assert!(rt; table.layout().words() == words);

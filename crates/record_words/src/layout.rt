@@ -3,8 +3,8 @@
 ghost use Rattle.record_words.specs.Limits.{IsPassCount, IsNodeCount, IsLeafCount};
 
 use crate::{
-    ANCHOR_WORD, EPOCH_WORD, FIRST_PIN, LEAF_WORDS, MAX_LEAVES, MAX_NODES, MAX_PASSES, NODE_WORDS,
-    ROOT_WORD,
+    ANCHOR_WORD, EPOCH_WORD, FIRST_PIN, LEAF_WORDS, LINE_WORDS, MAX_LEAVES, MAX_NODES, MAX_PASSES,
+    NODE_WORDS, ROOT_WORD,
 };
 
 /// Which number of records is out of range; they are tested in this order.
@@ -17,7 +17,8 @@ pub enum LayoutFault {
 
 /// How many passes, node records and leaf records a table has.
 ///
-/// Its words are the epoch, the root, the anchor, a pin for each pass, the node records and the leaf records.
+/// Its words are the epoch, the root, the anchor, a pin for each pass, the node records and the leaf records. Words between
+/// these keep apart what different threads write, and have no location.
 #[derive(Clone, Copy, Debug, PartialEq, Eq)]
 pub struct Layout {
     /// 1 to `MAX_PASSES`.
@@ -46,9 +47,9 @@ pub enum Location {
 }
 
 impl Layout {
-    ghost use Rattle.std.specs.Prelude.{◌≡◌, ◌≢◌, ◌↔◌, ◌<◌, ◌+◌, IfOk, Err};
+    ghost use Rattle.std.specs.Prelude.{◌≡◌, ◌≢◌, ◌↔◌, ◌<◌, ◌+◌, ◌*◌, IfOk, Err};
     ghost use Rattle.record_words.specs.Limits.{IsPassCount, IsNodeCount, IsLeafCount};
-    ghost use Rattle.record_words.specs.Layout.{node_start, leaf_start, word_count, address, IsOnlyAt};
+    ghost use Rattle.record_words.specs.Layout.{node_start, leaf_start, word_count, address, IsLocationOf};
 
     /// The layout with these numbers of records.
     pub fn of(passes: u32, nodes: u32, leaves: u32) -> Result<Layout, LayoutFault>
@@ -75,16 +76,16 @@ impl Layout {
 
     /// The word of a pass's pin.
     pub fn pin(&self, pass: u16) -> usize
-        ensures { result ≡ FIRST_PIN + pass }
+        ensures { result ≡ FIRST_PIN + LINE_WORDS * pass }
     {
-        FIRST_PIN + pass as usize
+        FIRST_PIN + LINE_WORDS * pass as usize
     }
 
     /// The first word of a node record.
     pub fn node(&self, number: u32) -> usize
         ensures { result ≡ node_start self.now number }
     {
-        FIRST_PIN + self.passes as usize + NODE_WORDS * number as usize
+        FIRST_PIN + LINE_WORDS * self.passes as usize + NODE_WORDS * number as usize
     }
 
     /// The first word of a leaf record.
@@ -115,30 +116,35 @@ impl Layout {
         }
     }
 
-    /// The one location of the table that has this word.
-    pub fn location(&self, word: usize) -> Location
-        requires { word < word_count self.now }
-        ensures { IsOnlyAt self.now word result }
+    /// The one location of the table that has this word, or none: no location has the words that keep others apart, nor one past
+    /// the table.
+    pub fn location(&self, word: usize) -> Option<Location>
+        ensures { IsLocationOf self.now word result }
     {
         match word {
-            EPOCH_WORD => Location::Epoch,
-            ROOT_WORD => Location::Root,
-            ANCHOR_WORD => Location::Anchor,
-            _ if word < self.node(0) => Location::Pin((word - FIRST_PIN) as u16),
+            EPOCH_WORD => Some(Location::Epoch),
+            ROOT_WORD => Some(Location::Root),
+            ANCHOR_WORD => Some(Location::Anchor),
+            _ if word < FIRST_PIN => None,
+            _ if word < self.node(0) => {
+                let within = word - FIRST_PIN;
+                (within % LINE_WORDS == 0).then_some(Location::Pin((within / LINE_WORDS) as u16))
+            }
             _ if word < self.leaf(0) => {
                 let within = word - self.node(0);
-                Location::NodeWord {
+                Some(Location::NodeWord {
                     node: (within / NODE_WORDS) as u32,
                     offset: (within % NODE_WORDS) as u8,
-                }
+                })
             }
-            _ => {
+            _ if word < self.words() => {
                 let within = word - self.leaf(0);
-                Location::LeafWord {
+                Some(Location::LeafWord {
                     leaf: (within / LEAF_WORDS) as u32,
                     offset: (within % LEAF_WORDS) as u8,
-                }
+                })
             }
+            _ => None,
         }
     }
 }

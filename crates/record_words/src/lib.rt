@@ -27,17 +27,21 @@ pub const MAX_NODES: u32 = 65_535;
 /// How many leaf records a table has at most.
 pub const MAX_LEAVES: u32 = 262_143;
 
-/// The word of the epoch.
+/// How many words a cache line has. Words that different threads write often stand at least so far apart: then no two share
+/// a line, wherever in memory the table begins, and no thread's writes slow down what another does.
+pub const LINE_WORDS: usize = 8;
+
+/// The word of the epoch. Each call loads it and the root, so these two may share a line.
 pub const EPOCH_WORD: usize = 0;
 
 /// The word of the root.
 pub const ROOT_WORD: usize = 1;
 
-/// The word of the anchor.
-pub const ANCHOR_WORD: usize = 2;
+/// The word of the anchor, more than a line's words behind the root.
+pub const ANCHOR_WORD: usize = 2 * LINE_WORDS;
 
-/// The word of the first pin: the epoch, the root and the anchor stand before the pins.
-pub const FIRST_PIN: usize = 3;
+/// The word of the first pin. Each further pin stands `LINE_WORDS` behind the one before, and the first record behind the last.
+pub const FIRST_PIN: usize = 3 * LINE_WORDS;
 
 /// How many words a node's head has, from offset 1 on: the numbers, the positions and the sparse partial keys.
 pub const HEAD_WORDS: usize = 25;

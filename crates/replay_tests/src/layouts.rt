@@ -6,11 +6,11 @@ use std::test::Fail;
 #[test]
 fn places_of_records(rt: HostRuntime) -> Result<(), Fail> {
     let layout = Layout::of(2, 8, 8)?;
-    assert!(rt; layout.pin(1) == 4);
-    assert!(rt; layout.node(0) == 5);
-    assert!(rt; layout.node(1) == 63);
-    assert!(rt; layout.leaf(0) == 469);
-    assert!(rt; layout.words() == 733);
+    assert!(rt; layout.pin(1) == 32);
+    assert!(rt; layout.node(0) == 40);
+    assert!(rt; layout.node(1) == 98);
+    assert!(rt; layout.leaf(0) == 504);
+    assert!(rt; layout.words() == 768);
     Ok(())
 }
 
@@ -20,19 +20,20 @@ fn places_and_addresses(rt: HostRuntime) -> Result<(), Fail> {
     let places = [
         (0, Location::Epoch),
         (1, Location::Root),
-        (2, Location::Anchor),
-        (4, Location::Pin(1)),
-        (5, Location::NodeWord { node: 0, offset: 0 }),
+        (16, Location::Anchor),
+        (24, Location::Pin(0)),
+        (32, Location::Pin(1)),
+        (40, Location::NodeWord { node: 0, offset: 0 }),
         (
-            120,
+            155,
             Location::NodeWord {
                 node: 1,
                 offset: 57,
             },
         ),
-        (469, Location::LeafWord { leaf: 0, offset: 0 }),
+        (504, Location::LeafWord { leaf: 0, offset: 0 }),
         (
-            732,
+            767,
             Location::LeafWord {
                 leaf: 7,
                 offset: 32,
@@ -42,7 +43,16 @@ fn places_and_addresses(rt: HostRuntime) -> Result<(), Fail> {
     for (word, location) in places {
         assert!(rt; layout.address(location) == word);
         assert!(rt; word < layout.words());
-        assert!(rt; layout.location(word) == location);
+        assert!(rt; layout.location(word) == Some(location));
+    }
+    Ok(())
+}
+
+#[test]
+fn words_without_a_place(rt: HostRuntime) -> Result<(), Fail> {
+    let layout = Layout::of(2, 8, 8)?;
+    for word in [2, 8, 15, 17, 23, 25, 31, 33, 39, 768, 1_000_000] {
+        assert!(rt; layout.location(word).is_none());
     }
     Ok(())
 }

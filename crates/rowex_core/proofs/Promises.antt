@@ -1,7 +1,7 @@
 -- The laws that follow: the opening core, records in reach, a publish as a step of the map, locks of two passes.
-use Rattle.std.proofs.Common.{◌≡◌, ◌≢◌, inl, ⊎_elim, ℕ, zero, suc, ◌+◌, ◌-◌, ◌*◌, ◌^◌, ◌<◌, ◌≤◌, List, [], ◌∷◌, ◌++◌, length, get_or, replicate, fold, Option, Some, None, IsSome, refl, sym, ap, ap₂, ◌∙◌, arith, le_refl, le_trans, lit<}
+use Rattle.std.proofs.Common.{◌≡◌, ◌≢◌, inl, ⊎_elim, ℕ, zero, suc, ◌+◌, ◌-◌, ◌*◌, ◌^◌, ◌<◌, ◌≤◌, List, [], ◌∷◌, ◌++◌, length, get_or, set, replicate, fold, Option, Some, None, IsSome, refl, sym, ap, ap₂, ◌∙◌, arith, le_refl, le_trans, lit<}
 use Rattle.std.proofs.lemmas.Bool.{eq-eqb, ne_eqb, false≢true, cases_lt}
-use Rattle.std.proofs.lemmas.List.{length-replicate, get_or-replicate, get_or_past, take_all}
+use Rattle.std.proofs.lemmas.List.{length-replicate, length-set, get_or-replicate, get_or-set_same, get_or-set_other, get_or_past, take_all}
 use Rattle.std.proofs.lemmas.List.Elements.{All-replicate, All-from_recursion}
 use Rattle.hot_model.specs.declared.Change.{Change}
 use Rattle.hot_model.specs.declared.Kind.{Kind}
@@ -9,7 +9,7 @@ use Rattle.hot_model.specs.declared.Kind.TheVariants.{Added, Replaced, Removed}
 use Rattle.hot_model.specs.Maps.{Map, map_after, step_where, value_at}
 use Rattle.hot_model.specs.declared.Call.TheVariants.{Upsert, Remove}
 use Rattle.hot_model.specs.Fronts.{map_of, changed, changed_by, FitsKind, Fits, LegalFrom}
-use Rattle.record_words.specs.Layout.{address, IsInTable}
+use Rattle.record_words.specs.Layout.{address, word_count, IsInTable}
 use Rattle.record_words.specs.declared.layout.Layout.{Layout}
 use Rattle.record_words.specs.declared.layout.Location.{Location}
 use Rattle.record_words.specs.declared.layout.Location.TheVariants.{Epoch, Root as RootWord, Anchor as AnchorWord, Pin as PinOf, NodeWord, LeafWord}
@@ -42,31 +42,33 @@ use Rattle.hot_model.proofs.Growth.{map_of-push}
 zeros : (n i : ℕ) → ◌≡◌ {A = ℕ} (get_or (replicate n 0) i 0) 0
 zeros n i = ⊎_elim (λ (h : i < n). get_or-replicate {A = ℕ} n i 0 0 h) (λ (h : n ≤ i). get_or_past {X = ℕ} (replicate n 0) i 0 (omega (arith, length-replicate {A = ℕ} n 0))) (cases_lt i n)
 
-later_zero : (n i a : ℕ) → a ≡ 3 + i → ◌≡◌ {A = ℕ} (get_or (1 ∷ 0 ∷ 2 ∷ replicate n 0) a 0) 0
-later_zero n i zero e = absurd (omega arith)
-later_zero n i (suc zero) e = absurd (omega arith)
-later_zero n i (suc (suc zero)) e = absurd (omega arith)
-later_zero n i (suc (suc (suc a))) e = zeros n a
+-- all words are 0 but those of the epoch and of the anchor
+other_zero : (layout : Layout) (i : ℕ) → i ≢ 0 → i ≢ 16 → get_or (opening_words layout) i 0 ≡ 0
+other_zero layout i no_epoch no_anchor = get_or-set_other _ 16 i 2 0 no_anchor ∙ (get_or-set_other _ 0 i 1 0 no_epoch ∙ zeros (word_count layout) i)
 
 opening_record : (layout : Layout) (r : Rec) (offset : ℕ) → record_word (opening layout) r offset ≡ 0
 opening_record layout r zero = refl
 opening_record layout r (suc offset) = zeros (word_count_of r) offset
 
 opening_shows : (layout : Layout) → Shows (opening layout) (opening_words layout)
-opening_shows layout = record {
-  size = let l = length-replicate {A = ℕ} (layout.passes + 58 * layout.nodes + 33 * layout.leaves) 0 in omega arith;
-  each = each;
-}
+opening_shows layout = record { size = size; each = each }
   where
+    words : List ℕ
+    words = replicate (word_count layout) 0
+
+    long : length words ≡ word_count layout
+    long = length-replicate {A = ℕ} (word_count layout) 0
+
+    size : length (opening_words layout) ≡ word_count layout
+    size = length-set (set words 0 1) 16 2 ∙ (length-set words 0 1 ∙ long)
+
     each : (location : Location) → IsInTable layout location → get_or (opening_words layout) (address layout location) 0 ≡ word_at (opening layout) location
-    each Epoch h = refl
-    each RootWord h = refl
-    each AnchorWord h = refl
-    each (PinOf q) h = later_zero (layout.passes + 58 * layout.nodes + 33 * layout.leaves) q (3 + q) (omega arith)
-    each (NodeWord n offset) h =
-        later_zero (layout.passes + 58 * layout.nodes + 33 * layout.leaves) (layout.passes + 58 * n + offset) (address layout (NodeWord n offset)) (omega arith) ∙ sym (opening_record layout (a_node n) offset)
-    each (LeafWord n offset) h =
-        later_zero (layout.passes + 58 * layout.nodes + 33 * layout.leaves) (layout.passes + 58 * layout.nodes + 33 * n + offset) (address layout (LeafWord n offset)) (omega arith) ∙ sym (opening_record layout (a_leaf n) offset)
+    each Epoch h = get_or-set_other (set words 0 1) 16 0 2 0 (omega arith) ∙ get_or-set_same words 0 1 0 (omega (arith, long))
+    each RootWord h = other_zero layout 1 (omega arith) (omega arith)
+    each AnchorWord h = get_or-set_same (set words 0 1) 16 2 0 (omega (arith, length-set words 0 1, long))
+    each (PinOf q) h = other_zero layout (address layout (PinOf q)) (omega arith) (omega arith)
+    each (NodeWord n offset) h = other_zero layout (address layout (NodeWord n offset)) (omega arith) (omega arith) ∙ sym (opening_record layout (a_node n) offset)
+    each (LeafWord n offset) h = other_zero layout (address layout (LeafWord n offset)) (omega arith) (omega arith) ∙ sym (opening_record layout (a_leaf n) offset)
 
 pub opening_is_lawful : OpeningIsLawful
 opening_is_lawful layout = (

@@ -1,10 +1,10 @@
 -- The core of a table that was just made.
-use Rattle.std.specs.Prelude.{ℕ, ◌+◌, ◌*◌, List, ◌∷◌, replicate, None}
-use Rattle.record_words.specs.declared.TheConstants.{NODE_WORDS, LEAF_WORDS}
+use Rattle.std.specs.Prelude.{ℕ, List, set, replicate}
+use Rattle.record_words.specs.declared.TheConstants.{EPOCH_WORD, ANCHOR_WORD}
 use Rattle.record_words.specs.declared.layout.Layout.{Layout}
 use Rattle.record_words.specs.declared.state.Tag.TheVariants.{Live}
+use Rattle.record_words.specs.Layout.{word_count}
 use Rattle.record_words.specs.State.{state_word}
-use Rattle.record_words.specs.Entry.{entry_word}
 use Rattle.moments.specs.Steps.{at_first}
 use Rattle.rowex_core.specs.Cores.{Core, word_count_of}
 
@@ -12,6 +12,6 @@ use Rattle.rowex_core.specs.Cores.{Core, word_count_of}
 abbrev pub opening : Layout → Core
 opening layout = record { layout = layout; words = λ r. replicate (word_count_of r) 0; shared = at_first }
 
--- the epoch is 1, the root has no entry, the anchor is live, and all other words are 0
+-- the epoch is 1, the anchor is live, and all other words are 0, the root's too: it has no entry
 abbrev pub opening_words : Layout → List ℕ
-opening_words layout = 1 ∷ entry_word None ∷ state_word Live ∷ replicate (layout.passes + NODE_WORDS * layout.nodes + LEAF_WORDS * layout.leaves) 0
+opening_words layout = set (set (replicate (word_count layout) 0) EPOCH_WORD 1) ANCHOR_WORD (state_word Live)

@@ -1,5 +1,5 @@
 -- The opening, and how seats are split and joined.
-use Rattle.std.proofs.Common.{◌≡◌, ◌≢◌, ◌⊎◌, ℕ, zero, suc, ◌+◌, ◌*◌, ◌<◌, ◌≤◌, List, [], ◌∷◌, ◌++◌, length, set, get_or, replicate, Bool, true, false, eqb, Option, Some, None, refl, sym, ap, subst, ◌∙◌, arith, inl, inr, ⊎_elim}
+use Rattle.std.proofs.Common.{◌≡◌, ◌≢◌, ◌⊎◌, ℕ, zero, suc, ◌+◌, ◌<◌, ◌≤◌, List, [], ◌∷◌, ◌++◌, length, set, get_or, Bool, true, false, eqb, Option, Some, None, refl, sym, ap, subst, ◌∙◌, arith, inl, inr, ⊎_elim}
 use Rattle.std.proofs.lemmas.List.{set-get_or}
 use Rattle.std.proofs.lemmas.List.Elements.{All-from_recursion, All-nil, All-cons, All-weaker}
 use Rattle.std.specs.Prelude.{All}
@@ -12,7 +12,6 @@ use Rattle.std.proofs.lemmas.Bool.{cases_lt}
 use Rattle.std.proofs.lemmas.Bool.Decides.{eqb_tells}
 use Rattle.hot_model.specs.declared.Change.{Change}
 use Rattle.hot_model.specs.Fronts.{BeginsWith, OthersGoOn}
-use Rattle.record_words.specs.Layout.{word_count}
 use Rattle.record_words.specs.declared.layout.Layout.{Layout}
 use Rattle.rowex_core.specs.declared.known.Known.{Known}
 use Rattle.rowex_core.specs.declared.known.View.{View}
@@ -43,18 +42,12 @@ all_new table items long h = All-weaker (λ s. (q : ℕ) × (q < 0 + length item
 
 -- The opening
 
-first_words : (layout : Layout) → set (set (replicate (word_count layout) 0) 0 1) 2 2 ≡ opening_words layout
-first_words layout = ap (λ z. set (set (replicate z 0) 0 1) 2 2) count
-  where
-    count : word_count layout ≡ suc (suc (suc (layout.passes + 58 * layout.nodes + 33 * layout.leaves)))
-    count = omega arith
-
-pub opens : {S : Type 0} (layout : Layout) (words : List ℕ) → words ≡ set (set (replicate (word_count layout) 0) 0 1) 2 2 → Ruled {S = S} layout (first_state words [] (Dealer 0))
+pub opens : {S : Type 0} (layout : Layout) (words : List ℕ) → words ≡ opening_words layout → Ruled {S = S} layout (first_state words [] (Dealer 0))
 opens {S = S} layout words is = record {
   core = opening layout;
   lawful = (opening_is_lawful layout).0;
   layout_is = refl;
-  shows = subst (Shows (opening layout)) (sym (is ∙ first_words layout)) (opening_is_lawful layout).1;
+  shows = subst (Shows (opening layout)) (sym is) (opening_is_lawful layout).1;
   knows = λ i v e. only (λ v. Knowing (opening layout) v) (opening_is_lawful layout).2 i v e;
   apart = λ i j q v w a b ov ow. first i v a ∙ sym (first j w b);
   each = λ q low. (0, Dealer 0, refl, omega arith);
