@@ -206,22 +206,34 @@ fn two_threads_share_out_the_leaves(rt: HostRuntime) -> Result<(), Fail> {
     Ok(())
 }
 
-/// The acts of a leaf 1 that is filled with the key "a" and the value 5.
+/// The acts of a new leaf 1 that is filled with the key "a" and the value 5.
 fn acts_of_leaf() -> [Act; 33] {
     let rec = Rec::Leaf(1);
     let mut acts = [Act::Ready { rec }; 33];
-    for index in 0..32u8 {
-        let word = match index {
-            0 => 5,
-            1 => 1,
-            2 => 0x6100_0000_0000_0000,
-            _ => 0,
-        };
-        acts[index as usize] = Act::Fill {
-            rec,
-            offset: index + 1,
-            word,
-        };
+    for (offset, word) in [(1, 5), (2, 1), (3, 0x6100_0000_0000_0000)] {
+        acts[offset as usize - 1] = Act::Fill { rec, offset, word };
+    }
+    for offset in 4..33u8 {
+        let word = 0;
+        acts[offset as usize - 1] = Act::LoadFixed { rec, offset, word };
+    }
+    acts
+}
+
+/// The acts of a leaf 3 that is filled so, where it had a key of 20 bytes before.
+fn acts_of_used_leaf() -> [Act; 34] {
+    let rec = Rec::Leaf(3);
+    let load = |offset: u8, word: u64| Act::LoadFixed { rec, offset, word };
+    let fill = |offset: u8, word: u64| Act::Fill { rec, offset, word };
+    let mut acts = [fill(1, 5); 34];
+    acts[1] = fill(2, 1);
+    acts[2] = fill(3, 0x6100_0000_0000_0000);
+    acts[3] = load(4, 0x696a_6b6c_6d6e_6f70);
+    acts[4] = fill(4, 0);
+    acts[5] = load(5, 0x7172_7374_0000_0000);
+    acts[6] = fill(5, 0);
+    for offset in 6..33u8 {
+        acts[offset as usize + 1] = load(offset, 0);
     }
     acts
 }
@@ -243,6 +255,20 @@ fn events_of_a_leaf(rt: HostRuntime) -> Result<(), Fail> {
     let rec = Rec::Leaf(held);
     give_up(&table, &mut first, &mut gate, rec);
     assert!(rt; held == 0 && gate.was_told(0, &[Act::Release { rec }]));
+    Ok(())
+}
+
+#[test]
+fn words_of_a_longer_key_are_cleared(rt: HostRuntime) -> Result<(), Fail> {
+    let (table, mut seats) = table_of(&rt, rt.alloc(), 1, 8, 8)?;
+    let mut seat = last_seat(&rt, &table, &mut seats);
+    let mut gate = Recorder::new(rt.alloc());
+    let long = key(&rt, b"abcdefghijklmnopqrst");
+    assert!(rt; claim_in_vain(&table, &mut seat, &mut gate, &long) == Some((3, 4)));
+    let number = claim_record(&table, &mut seat, &mut gate, RecordKind::Leaf, 3).ok_or("a leaf")?;
+    gate.events.clear();
+    fill_leaf(&table, &mut seat, &mut gate, number, &key(&rt, b"a"), 5);
+    assert!(rt; number == 3 && gate.was_told(0, &acts_of_used_leaf()));
     Ok(())
 }
 

@@ -32,12 +32,12 @@ use Rattle.rowex_records.proofs.Making.{owns_none, owns_one, owns_append}
 -- Lists of records
 
 -- two changes, one after the other
-twice : (f g h : Owned → Owned) → ((o : Owned) → f (g o) ≡ h o) → (own : List Owned) → map f (map g own) ≡ map h own
+pub twice : (f g h : Owned → Owned) → ((o : Owned) → f (g o) ≡ h o) → (own : List Owned) → map f (map g own) ≡ map h own
 twice f g h e [] = refl
 twice f g h e (o ∷ own) = λ i. e o i ∷ twice f g h e own i
 
 -- a change is what it is to each
-each_mapped : (P : Owned → Type 0) (f g : Owned → Owned) → ((o : Owned) → P o → f o ≡ g o) → (own : List Owned) → All P own → map f own ≡ map g own
+pub each_mapped : (P : Owned → Type 0) (f g : Owned → Owned) → ((o : Owned) → P o → f o ≡ g o) → (own : List Owned) → All P own → map f own ≡ map g own
 each_mapped P f g e [] all = refl
 each_mapped P f g e (o ∷ own) all = λ i. e o (All-head P o own all) i ∷ each_mapped P f g e own (All-tail P o own all) i
 
@@ -67,7 +67,11 @@ stored_none r words o = go (same_rec o.rec r)
     go true = refl
     go false = refl
 
-stored_more : (r : Rec) (words : List ℕ) (i : ℕ) (o : Owned) → fill_in r (i + 1) (get_or words i 0) (stored_in r words i o) ≡ stored_in r words (i + 1) o
+pub stored_nothing : (r : Rec) (words : List ℕ) (own : List Owned) → map (stored_in r words 0) own ≡ own
+stored_nothing r words [] = refl
+stored_nothing r words (o ∷ own) = λ i. stored_none r words o i ∷ stored_nothing r words own i
+
+pub stored_more : (r : Rec) (words : List ℕ) (i : ℕ) (o : Owned) → fill_in r (i + 1) (get_or words i 0) (stored_in r words i o) ≡ stored_in r words (i + 1) o
 stored_more r words i o = rw (add-one i) (go (same_rec o.rec r) refl)
   where
     at : suc i - 1 ≡ i
@@ -95,10 +99,10 @@ stored_all words old size =
 abbrev pub AreSized : List Owned → Type 0
 AreSized own = All (λ o. length o.words ≡ word_count_of o.rec) own
 
-own_sized : (c : Core) (k : Known) → IsLawful c → Knows c k → AreSized k.own
+pub own_sized : (c : Core) (k : Known) → IsLawful c → Knows c k → AreSized k.own
 own_sized c k lawful known = All-weaker (IsOwned k.pass c) (λ o. length o.words ≡ word_count_of o.rec) (λ o is. ap length (sym is.1) ∙ (lawful.records.sized o.rec).0) k.own (knows_all c k known).own
 
-filled_with : (r : Rec) (words : List ℕ) → length words ≡ word_count_of r → (o : Owned) → length o.words ≡ word_count_of o.rec → stored_in r words (length words) o ≡ fill_with r words o
+pub filled_with : (r : Rec) (words : List ℕ) → length words ≡ word_count_of r → (o : Owned) → length o.words ≡ word_count_of o.rec → stored_in r words (length words) o ≡ fill_with r words o
 filled_with r words size o sized = go (same_rec o.rec r) refl
   where
     go : (b : Bool) → same_rec o.rec r ≡ b → stored_in r words (length words) o ≡ fill_with r words o
@@ -123,13 +127,9 @@ module _ {G : Type 0} (table : TableView) (becomes : G → Event → G → Type 
     count = refl;
     does = owns_none table becomes a;
     has = (held.0, held.1 ∙ sym size, refl, held.2);
-    own = sym (unchanged a.0.known.own);
+    own = sym (stored_nothing r words a.0.known.own);
     sized = λ low. absurd (omega arith);
   }
-    where
-      unchanged : (own : List Owned) → map (stored_in r words 0) own ≡ own
-      unchanged [] = refl
-      unchanged (o ∷ own) = λ i. stored_none r words o i ∷ unchanged own i
 
   pub fills_more : (r : Rec) (words : List ℕ) (i word : ℕ) (a m b : SeatView × G) → FillsSome r words i a m → i < length words → word ≡ get_or words i 0
       → Steps table becomes (Fill r (i + 1) word) m b → FillsSome r words (i + 1) a b
@@ -151,12 +151,8 @@ module _ {G : Type 0} (table : TableView) (becomes : G → Event → G → Type 
       now : AreSized m.0.known.own
       now = own_sized step.event.core m.0.known step.event.lawful step.event.knows
 
-      unchanged : (own : List Owned) → map (stored_in r words 0) own ≡ own
-      unchanged [] = refl
-      unchanged (o ∷ own) = λ i. stored_none r words o i ∷ unchanged own i
-
       sized : (n : ℕ) → m.0.known.own ≡ map (stored_in r words n) a.0.known.own → (1 ≤ n → AreSized a.0.known.own) → AreSized a.0.known.own
-      sized zero own before = subst AreSized (own ∙ unchanged a.0.known.own) now
+      sized zero own before = subst AreSized (own ∙ stored_nothing r words a.0.known.own) now
       sized (suc n) own before = before (omega arith)
 
   pub fills_all : (r : Rec) (words : List ℕ) (i : ℕ) (a b : SeatView × G) → length words ≡ word_count_of r → FillsSome r words i a b → i ≡ length words → Fills table becomes r words a b

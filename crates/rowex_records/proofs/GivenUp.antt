@@ -19,7 +19,7 @@ use Rattle.rowex_table.specs.Runs.{Does}
 use Rattle.rowex_table.specs.Seats.{TableView, SeatView}
 use Rattle.rowex_table.proofs.Rights.{mapped}
 use Rattle.rowex_records.specs.Claims.{Claims}
-use Rattle.rowex_records.specs.Records.{owning, fill_with, Fills, HoldsJust, GivesUp, GivesUpAll}
+use Rattle.rowex_records.specs.Records.{owning, fill_with, HoldsJust, GivesUp, GivesUpAll}
 use Rattle.rowex_records.proofs.Claimed.{claims_gives, claims_keeps}
 use Rattle.rowex_records.proofs.Filled.{gives_up_keeps, stays_mapped}
 use Rattle.rowex_records.proofs.Making.{owns_none, owns_append}
@@ -134,25 +134,26 @@ module _ {G : Type 0} (table : TableView) (becomes : G → Event → G → Type 
       more : List Rec
       more = recs ++ r ∷ []
 
-  pub holds_filled : (r : Rec) (words : List ℕ) (recs : List Rec) (a b : SeatView × G) → HoldsJust a.0.known recs → Fills table becomes r words a b → HoldsJust b.0.known recs
-  holds_filled r words recs a b holds fills = record {
-    only = subst (λ own. All (λ o. (o.holding ≡ Held) × Contains recs o.rec) own) (sym fills.own)
-        (All-map (λ o. (o.holding ≡ Held) × Contains recs o.rec) (fill_with r words) a.0.known.own
-        (All-weaker (λ o. (o.holding ≡ Held) × Contains recs o.rec) (λ o. ((fill_with r words o).holding ≡ Held) × Contains recs (fill_with r words o).rec) (λ o h. same o (same_rec o.rec r) h) a.0.known.own holds.only));
-    each = All-weaker (IsClaimed a.0.known) (IsClaimed b.0.known) (λ s h. held s h (same_rec s r) refl) recs holds.each;
-    apart = holds.apart;
-  }
-    where
-      same : (o : Owned) (t : Bool) → (o.holding ≡ Held) × Contains recs o.rec → ((if t then record o { words = words } else o).holding ≡ Held) × Contains recs (if t then record o { words = words } else o).rec
-      same o true h = h
-      same o false h = h
+-- However they are told: of the pass's own records the filled one has these words, and the others are as they were
+pub holds_filled : (r : Rec) (words : List ℕ) (recs : List Rec) (k j : Known) → HoldsJust k recs → length words ≡ word_count_of r → j.own ≡ map (fill_with r words) k.own → HoldsJust j recs
+holds_filled r words recs k j holds sized filled = record {
+  only = subst (λ own. All (λ o. (o.holding ≡ Held) × Contains recs o.rec) own) (sym filled)
+      (All-map (λ o. (o.holding ≡ Held) × Contains recs o.rec) (fill_with r words) k.own
+      (All-weaker (λ o. (o.holding ≡ Held) × Contains recs o.rec) (λ o. ((fill_with r words o).holding ≡ Held) × Contains recs (fill_with r words o).rec) (λ o h. same o (same_rec o.rec r) h) k.own holds.only));
+  each = All-weaker (IsClaimed k) (IsClaimed j) (λ s h. held s h (same_rec s r) refl) recs holds.each;
+  apart = holds.apart;
+}
+  where
+    same : (o : Owned) (t : Bool) → (o.holding ≡ Held) × Contains recs o.rec → ((if t then record o { words = words } else o).holding ≡ Held) × Contains recs (if t then record o { words = words } else o).rec
+    same o true h = h
+    same o false h = h
 
-      held : (s : Rec) → IsClaimed a.0.known s → (t : Bool) → same_rec s r ≡ t → IsClaimed b.0.known s
-      held s h true e =
-          let o : Owned = record { rec = s; holding = Held; words = words } in
-          let with : fill_with r words (record { rec = s; holding = Held; words = h.0 }) ≡ o = rw e refl in (
-            words,
-            fills.sized ∙ ap word_count_of (sym (same_rec_true s r e)),
-            subst (λ l. Contains l o) (sym fills.own) (subst (Contains (map (fill_with r words) a.0.known.own)) with (mapped (fill_with r words) a.0.known.own (record { rec = s; holding = Held; words = h.0 }) h.2)),
-          )
-      held s h false e = (h.0, h.1, stays_mapped a.0.known b.0.known (fill_with r words) s Held h.0 fills.own (rw e refl) h.2)
+    held : (s : Rec) → IsClaimed k s → (t : Bool) → same_rec s r ≡ t → IsClaimed j s
+    held s h true e =
+        let o : Owned = record { rec = s; holding = Held; words = words } in
+        let with : fill_with r words (record { rec = s; holding = Held; words = h.0 }) ≡ o = rw e refl in (
+          words,
+          sized ∙ ap word_count_of (sym (same_rec_true s r e)),
+          subst (λ l. Contains l o) (sym filled) (subst (Contains (map (fill_with r words) k.own)) with (mapped (fill_with r words) k.own (record { rec = s; holding = Held; words = h.0 }) h.2)),
+        )
+    held s h false e = (h.0, h.1, stays_mapped k j (fill_with r words) s Held h.0 filled (rw e refl) h.2)

@@ -3,3 +3,4 @@ pub mod Claimed
 pub mod Filled
 pub mod GivenUp
 pub mod Making
+pub mod SetAll

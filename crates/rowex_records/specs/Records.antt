@@ -1,16 +1,17 @@
 -- Steps on records of a pass's own that are not in the tree: filled, made ready, given up.
-use Rattle.std.specs.Prelude.{◌≡◌, ℕ, ◌+◌, List, [], ◌∷◌, length, map, get_or, All, Contains, if◌then◌else◌}
+use Rattle.std.specs.Prelude.{◌≡◌, ◌≤◌, ◌⊎◌, ℕ, zero, suc, ◌+◌, List, [], ◌∷◌, length, map, get_or, All, Contains, if◌then◌else◌}
 use Rattle.moments.specs.declared.Rec.{Rec}
 use Rattle.moments.specs.Steps.{same_rec}
 use Rattle.rowex_core.specs.declared.event.Act.{Act}
-use Rattle.rowex_core.specs.declared.event.Act.TheVariants.{Fill, Ready, Release}
+use Rattle.rowex_core.specs.declared.event.Act.TheVariants.{Fill, LoadFixed, Ready, Release}
 use Rattle.rowex_core.specs.declared.event.Event.{Event}
 use Rattle.rowex_core.specs.declared.known.Holding.TheVariants.{Held, Ready as IsReady}
 use Rattle.rowex_core.specs.declared.known.Known.{Known}
 use Rattle.rowex_core.specs.declared.known.Owned.{Owned}
 use Rattle.rowex_core.specs.Cores.{word_count_of}
-use Rattle.rowex_core.specs.Knowing.{hold_as, without_record}
+use Rattle.rowex_core.specs.Knowing.{fill_in, hold_as, without_record}
 use Rattle.rowex_core.specs.Reading.{IsPacked}
+use Rattle.rowex_table.specs.Made.{IsLater}
 use Rattle.rowex_table.specs.Rights.{OwnsAs, IsClaimed}
 use Rattle.rowex_table.specs.Runs.{Does, InTurn}
 use Rattle.rowex_table.specs.Seats.{TableView, SeatView}
@@ -40,6 +41,39 @@ pub record Fills {G : Type 0} (table : TableView) (becomes : G → Event → G �
   pub in_turn : InTurn (StoresWord r words) (length words) stores
   pub count : length stores ≡ length words
   pub does : Does table becomes owning stores a b
+  pub own : b.0.known.own ≡ map (fill_with r words) a.0.known.own
+
+-- Filling what may stand there already
+
+-- its own records may change, and loads of theirs show it more of the past
+abbrev pub filling : Known → Known → Known
+filling k j = record k { own = j.own; front = j.front; facts = j.facts }
+
+-- where a load found 0 nothing is stored, and else a 0
+abbrev pub clearing : Rec → ℕ → ℕ → List Act
+clearing r offset zero = []
+clearing r offset (suc w) = Fill r offset 0 ∷ []
+
+-- the word comes to stand at the offset: one that is not 0 is stored, and for a 0 the word there is loaded first
+abbrev pub SetsWord : Rec → ℕ → ℕ → List Act → Type 0
+SetsWord r offset word acts = ((1 ≤ word) × (acts ≡ Fill r offset word ∷ [])) ⊎ ((word ≡ 0) × (found : ℕ) × (acts ≡ LoadFixed r offset found ∷ clearing r offset found))
+
+-- The pass goes on so for one word. Of its own records this one has the word then, and the others are as they were.
+pub record Sets {G : Type 0} (table : TableView) (becomes : G → Event → G → Type 0) (r : Rec) (offset word : ℕ) (a b : SeatView × G) : Type 0 where
+  pub acts : List Act
+  pub sets : SetsWord r offset word acts
+  pub does : Does table becomes filling acts a b
+  pub later : IsLater a.0.known b.0.known
+  pub own : b.0.known.own ≡ map (fill_in r offset word) a.0.known.own
+
+-- The words, all that the record has but its state, come to stand from offset 1 on, one after the other; a 0 that stands there already
+-- is not stored again. Of the pass's own records this one has them then, and the others are as they were.
+pub record SetsAll {G : Type 0} (table : TableView) (becomes : G → Event → G → Type 0) (r : Rec) (words : List ℕ) (a b : SeatView × G) : Type 0 where
+  pub sized : length words ≡ word_count_of r
+  pub acts : List Act
+  pub in_turn : InTurn (λ i. SetsWord r (i + 1) (get_or words i 0)) (length words) acts
+  pub does : Does table becomes filling acts a b
+  pub later : IsLater a.0.known b.0.known
   pub own : b.0.known.own ≡ map (fill_with r words) a.0.known.own
 
 -- The record is made ready. Of the pass's own records this one is ready then, and the others are as they were.

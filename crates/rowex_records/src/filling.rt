@@ -1,14 +1,15 @@
 //! Records filled with the words of a leaf or of a node, and made ready.
 
-ghost use Rattle.std.specs.Prelude.{◌≡◌, ◌<◌, ◌+◌, ℕ, List, length};
+ghost use Rattle.std.specs.Prelude.{◌≡◌, ◌<◌, ◌≤◌, ◌+◌, ◌*◌, ℕ, List, length};
 ghost use Rattle.moments.specs.declared.Rec.TheVariants.{Node as a_node, Leaf as a_leaf};
 ghost use Rattle.record_words.specs.Leaf.{leaf_words};
 ghost use Rattle.record_words.specs.Node.{HasNodeWords, node_words};
 ghost use Rattle.rowex_core.specs.Cores.{HasRecord, word_count_of};
+ghost use Rattle.rowex_core.specs.Events.{IsOffset};
 ghost use Rattle.rowex_core.specs.Reading.{IsPacked};
 ghost use Rattle.rowex_table.specs.Rights.{IsClaimed};
 ghost use Rattle.rowex_table.specs.Seats.{IsSeatOf};
-ghost use Rattle.rowex_records.specs.Records.{Fills, IsFilled, Readies};
+ghost use Rattle.rowex_records.specs.Records.{Fills, IsFilled, Readies, Sets, SetsAll};
 
 use compound_node::Node;
 use key_bits::Key;
@@ -16,7 +17,8 @@ use record_words::{LEAF_FIELDS, NODE_FIELDS, pack_leaf, pack_node};
 use rowex_core::{Gate, Rec};
 use rowex_table::{HotTable, TableSeat};
 
-/// Fills a claimed leaf record with a key and a value, in a step for each word but the state.
+/// Fills a claimed leaf record with a key and a value, in a step or two for each word but the state: a word that is to be 0 is
+/// loaded, and stored only where another stands, as most words of a short key's leaf are 0 before and after.
 pub fn fill_leaf<G: Gate>(
     table: &HotTable,
     seat: &mut TableSeat,
@@ -28,12 +30,36 @@ pub fn fill_leaf<G: Gate>(
     requires own { IsSeatOf table.now seat.old }
     requires range { number < table.now.layout.leaves }
     requires held { IsClaimed seat.old.known (a_leaf number) }
-    ensures fills { Fills table.now G.becomes (a_leaf number) (leaf_words (key.now, value)) (seat.old, gate.old) (seat.new, gate.new) }
+    ensures fills { SetsAll table.now G.becomes (a_leaf number) (leaf_words (key.now, value)) (seat.old, gate.old) (seat.new, gate.new) }
     ensures filled { IsFilled seat.new.known (a_leaf number) (leaf_words (key.now, value)) }
-    ensures steps { seat.new.known.steps ≡ seat.old.known.steps + LEAF_FIELDS }
+    ensures steps { (seat.old.known.steps + LEAF_FIELDS ≤ seat.new.known.steps) × (seat.new.known.steps ≤ seat.old.known.steps + 2 * LEAF_FIELDS) }
 {
     let words = pack_leaf(key, value);
-    fill_words(table, seat, gate, Rec::Leaf(number), &words);
+    for index in 0..LEAF_FIELDS {
+        set_leaf_word(table, seat, gate, number, index as u8 + 1, words[index]);
+    }
+}
+
+/// Sees to it that a word of a claimed leaf record is this one.
+fn set_leaf_word<G: Gate>(
+    table: &HotTable,
+    seat: &mut TableSeat,
+    gate: &mut G,
+    number: u32,
+    offset: u8,
+    word: u64,
+)
+    requires own { IsSeatOf table.now seat.old }
+    requires range { (number < table.now.layout.leaves) × IsOffset (a_leaf number) offset }
+    requires held { IsClaimed seat.old.known (a_leaf number) }
+    ensures { Sets table.now G.becomes (a_leaf number) offset word (seat.old, gate.old) (seat.new, gate.new) }
+{
+    let rec = Rec::Leaf(number);
+    if word != 0 {
+        table.fill(seat, gate, rec, offset, word);
+    } else if table.load_fixed(seat, gate, rec, offset) != 0 {
+        table.fill(seat, gate, rec, offset, 0);
+    }
 }
 
 /// Fills a claimed node record with a node, in a step for each word but the state.

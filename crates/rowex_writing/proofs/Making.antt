@@ -1,5 +1,5 @@
 -- One record more for a change, or none.
-use Rattle.std.proofs.Common.{◌≡◌, ◌≢◌, ℕ, zero, suc, ◌+◌, ◌≤◌, List, [], ◌∷◌, ◌++◌, length, get_or, map, refl, sym, ap, ap₂, subst, ◌∙◌, arith, le_trans, Option, Some, None}
+use Rattle.std.proofs.Common.{◌≡◌, ◌≢◌, inl, inr, ℕ, zero, suc, ◌+◌, ◌≤◌, List, [], ◌∷◌, ◌++◌, length, get_or, map, refl, sym, ap, ap₂, subst, ◌∙◌, arith, le_trans, Option, Some, None}
 use Rattle.std.specs.Prelude.{All, MatchOption}
 use Rattle.std.proofs.lemmas.Grind.{reverse_onto}
 use Rattle.std.proofs.lemmas.List.Elements.{All-append, All-cons}
@@ -16,7 +16,7 @@ use Rattle.moments.specs.declared.Rec.TheVariants.{Node as a_node}
 use Rattle.moments.proofs.Legal.{same_rec_refl}
 use Rattle.moments.proofs.Members.{all_of, of_map, map_of}
 use Rattle.rowex_core.specs.declared.event.Act.{Act}
-use Rattle.rowex_core.specs.declared.event.Act.TheVariants.{Claim, Fill}
+use Rattle.rowex_core.specs.declared.event.Act.TheVariants.{Claim, Fill, LoadFixed}
 use Rattle.rowex_core.specs.declared.event.Event.{Event}
 use Rattle.rowex_core.specs.declared.known.Holding.TheVariants.{Held}
 use Rattle.rowex_core.specs.declared.known.Known.{Known}
@@ -27,7 +27,7 @@ use Rattle.rowex_table.specs.Runs.{Runs, Does, InTurn}
 use Rattle.rowex_table.specs.Seats.{TableView, SeatView, IsSeatOf}
 use Rattle.rowex_table.proofs.Running.{runs_same}
 use Rattle.rowex_records.specs.Claims.{claiming, wrapped, Misses, FindsNone, Claims, AllMissed}
-use Rattle.rowex_records.specs.Records.{owning, fill_with, Fills, StoresWord}
+use Rattle.rowex_records.specs.Records.{clearing, owning, fill_with, Fills, SetsAll, SetsWord, StoresWord}
 use Rattle.rowex_records.proofs.Filled.{fill_beside}
 use Rattle.rowex_rights.specs.Rises.{of_view}
 use Rattle.rowex_reading.specs.Possible.{IsPossible}
@@ -49,6 +49,20 @@ misses_plain kind n from m acts turn = in_turn_plain (λ i. Misses (kind (wrappe
 
 stores_plain : (r : Rec) (words : List ℕ) (n : ℕ) (acts : List Act) → InTurn (StoresWord r words) n acts → All IsQuiet acts
 stores_plain r words n acts turn = in_turn_plain (StoresWord r words) (λ i acts is. subst (All IsQuiet) (sym is) (All-cons IsQuiet (Fill r (i + 1) (get_or words i 0)) [] tt (λ i d low. absurd (omega arith)))) n acts turn
+
+sets_plain : (r : Rec) (words : List ℕ) (n : ℕ) (acts : List Act) → InTurn (λ i. SetsWord r (i + 1) (get_or words i 0)) n acts → All IsQuiet acts
+sets_plain r words n acts turn = in_turn_plain (λ i. SetsWord r (i + 1) (get_or words i 0)) (λ i. plain (i + 1) (get_or words i 0)) n acts turn
+  where
+    stored : (offset word : ℕ) → All IsQuiet (Fill r offset word ∷ [])
+    stored offset word = All-cons IsQuiet (Fill r offset word) [] tt (λ i d low. absurd (omega arith))
+
+    cleared : (offset found : ℕ) → All IsQuiet (clearing r offset found)
+    cleared offset zero = λ i d low. absurd (omega arith)
+    cleared offset (suc found) = stored offset 0
+
+    plain : (offset word : ℕ) (acts : List Act) → SetsWord r offset word acts → All IsQuiet acts
+    plain offset word acts (inl (some, is)) = subst (All IsQuiet) (sym is) (stored offset word)
+    plain offset word acts (inr (none, found, is)) = subst (All IsQuiet) (sym is) (All-cons IsQuiet (LoadFixed r offset found) (clearing r offset found) tt (cleared offset found))
 
 module _ {G : Type 0} (table : TableView) (becomes : G → Event → G → Type 0) where
   pub claims_on : (acts : List Act) (a b : SeatView × G) → All IsQuiet acts → Does table becomes claiming acts a b → WorksOn table becomes a b
@@ -86,6 +100,14 @@ module _ {G : Type 0} (table : TableView) (becomes : G → Event → G → Type 
   pub fill_on : (r : Rec) (words : List ℕ) (a b : SeatView × G) → Fills table becomes r words a b → WorksOn table becomes a b
   fill_on r words a b fills = owns_on fills.stores a b (stores_plain r words (length words) fills.stores fills.in_turn) fills.does
 
+  pub set_on : (r : Rec) (words : List ℕ) (a b : SeatView × G) → SetsAll table becomes r words a b → WorksOn table becomes a b
+  set_on r words a b sets = record {
+    acts = sets.acts;
+    plain = sets_plain r words (length words) sets.acts sets.in_turn;
+    steps = sets.does.steps;
+    stays = (sets.later, ap (λ (z : Known). z.locks) sets.does.rest, ap (λ (z : Known). z.anchor) sets.does.rest);
+  }
+
   -- the same records, after steps that leave them
   pub building_on : (a b : SeatView × G) (made : List Rec) (news : List Made) → WorksOn table becomes a b → b.0.known.own ≡ a.0.known.own → IsBuilding table a.0 made news → IsBuilding table b.0 made news
   building_on a b made news goes own i = record {
@@ -98,14 +120,14 @@ module _ {G : Type 0} (table : TableView) (becomes : G → Event → G → Type 
 
   -- one record more, a node's or a leaf's
   pub building_more : (kind : ℕ → Rec) (n from m : ℕ) (words : List ℕ) (a i b : SeatView × G) (made : List Rec) (news : List Made) → Claims table becomes kind n from m a i →
-      Fills table becomes (kind m) words i b → IsPacked (kind m) words → IsBuilding table a.0 made news → IsBuilding table b.0 (made ++ kind m ∷ []) (record { rec = kind m; words = words } ∷ news)
-  building_more kind n from m words a i b made news claim fills packed was =
+      WorksOn table becomes i b → b.0.known.own ≡ map (fill_with (kind m) words) i.0.known.own → IsPacked (kind m) words → IsBuilding table a.0 made news → IsBuilding table b.0 (made ++ kind m ∷ []) (record { rec = kind m; words = words } ∷ news)
+  building_more kind n from m words a i b made news claim on filled packed was =
       let newest : Made = record { rec = kind m; words = words } in
-      let goes = goes_more table becomes a i b (claim_on kind n from m a i claim) (fill_on (kind m) words i b fills) in
+      let goes = goes_more table becomes a i b (claim_on kind n from m a i claim) on in
       let first : fill_with (kind m) words (record { rec = kind m; holding = Held; words = claim.words }) ≡ held_as Held newest = rw (same_rec_refl (kind m)) refl in
       let others : map (fill_with (kind m) words) a.0.known.own ≡ a.0.known.own = fill_beside (kind m) words a.0.known.own claim.apart in
       let own : b.0.known.own ≡ held_as Held newest ∷ map (held_as Held) news =
-      fills.own ∙ (ap (map (fill_with (kind m) words)) claim.own ∙ ap₂ (λ y ys. y ∷ ys) first (others ∙ was.holds.0)) in
+      filled ∙ (ap (map (fill_with (kind m) words)) claim.own ∙ ap₂ (λ y ys. y ∷ ys) first (others ∙ was.holds.0)) in
       record {
         seat = (runs_same table becomes goes.acts a b goes.steps).0 ∙ was.seat;
         possible = goes_possible a b goes was.possible;

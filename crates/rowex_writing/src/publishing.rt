@@ -1,6 +1,6 @@
 //! The first and the last part of each change: the new leaf's record, and the one store with what comes after it.
 
-ghost use Rattle.std.specs.Prelude.{◌≡◌, ℕ, List, [], ◌∷◌, Option, MatchOption, ◌≤◌, ◌+◌, length};
+ghost use Rattle.std.specs.Prelude.{◌≡◌, ℕ, List, [], ◌∷◌, Option, MatchOption, ◌≤◌, ◌+◌, ◌*◌, length};
 ghost use Rattle.hot_model.specs.declared.Change.{Change};
 ghost use Rattle.key_bits.specs.Key.{IsKey};
 ghost use Rattle.record_words.specs.Entry.{HasEntryWord, entry_word};
@@ -52,7 +52,7 @@ pub fn make_leaf<G: Gate>(
     ensures made { MatchOption result
         ((seat.new.known.own ≡ []) × AllMissed a_leaf table.now.layout.leaves seat.new.known.failed seat.old.known.steps)
         (λ n. IsBuilding table.now seat.new build.new.made.items (of_leaf (item n key.now value) ∷ [])) }
-    ensures few { seat.new.known.steps ≤ seat.old.known.steps + table.now.layout.leaves + LEAF_FIELDS }
+    ensures few { seat.new.known.steps ≤ seat.old.known.steps + table.now.layout.leaves + 2 * LEAF_FIELDS }
 {
     build.made.clear();
     let number = claim_record(table, seat, gate, RecordKind::Leaf, build.next_leaf)?;

@@ -7,5 +7,6 @@ use Rattle.index_tests.proofs.records.claim_in_vain.Goals as goal
 pub give_up_all-requires-clause-held : goal.give_up_all-requires-clause-held
 give_up_all-requires-clause-held g c =
     let first = holds_claimed _ _ a_leaf _ _ _ [] _ _ (holds_nothing c.args.seat.now.known c.requires.1) c.in_ok-leaf.ensures.claims in
-    let second = holds_filled _ _ (a_leaf c.in_ok-leaf.leaf) _ _ _ _ first c.fill_leaf.ensures.fills in
+    let fills = c.fill_leaf.ensures.fills in
+    let second = holds_filled (a_leaf c.in_ok-leaf.leaf) _ _ _ _ first fills.sized fills.own in
     holds_claimed _ _ a_node _ _ _ _ _ _ second c.in_ok-node.ensures.claims

@@ -27,7 +27,8 @@ returns-clause-made g c = λ news b. (
   ap (Node c.in_ok-number.number) c.height.ensures,
   c.fill_node.ensures.fits,
   subst (λ z. IsBuilding c.args.table.now c.fill_node.new.seat z (of_view c.in_ok-number.number c.args.node.now ∷ news)) (sym c.push.ensures.items)
-      (building_more c.args.table.now g.G.Gate.becomes a_node _ _ c.in_ok-number.number (node_words c.args.node.now) _ _ _ c.args.build.now.made.items news c.in_ok-number.ensures.claims c.fill_node.ensures.fills c.fill_node.ensures.filled.1 b),
+      (building_more c.args.table.now g.G.Gate.becomes a_node _ _ c.in_ok-number.number (node_words c.args.node.now) _ _ _ c.args.build.now.made.items news c.in_ok-number.ensures.claims
+      (fill_on c.args.table.now g.G.Gate.becomes _ _ _ _ c.fill_node.ensures.fills) c.fill_node.ensures.fills.own c.fill_node.ensures.filled.1 b),
 )
 
 pub returns-in_err-number-clause-few : goal.returns-in_err-number-clause-few

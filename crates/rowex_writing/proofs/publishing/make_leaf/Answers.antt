@@ -5,7 +5,7 @@ use Rattle.moments.specs.declared.Rec.TheVariants.{Leaf as a_leaf}
 use Rattle.rowex_rights.specs.Rises.{of_leaf}
 use Rattle.rowex_writing.specs.Building.{IsBuilding}
 use Rattle.rowex_writing.proofs.Locking.{goes_more}
-use Rattle.rowex_writing.proofs.Making.{none_on, claim_on, fill_on, building_none, building_more}
+use Rattle.rowex_writing.proofs.Making.{none_on, claim_on, set_on, building_none, building_more}
 use Rattle.rowex_writing.proofs.Counting.{claim_few, none_count}
 use Rattle.rowex_writing.proofs.publishing.make_leaf.Goals as goal
 use Rattle.tries.specs.Content.{item}
@@ -24,13 +24,14 @@ returns-in_err-number-clause-made g c = rw c.from_residual.ensures (c.in_err-num
 
 pub returns-clause-goes : goal.returns-clause-goes
 returns-clause-goes g c =
-    goes_more c.args.table.now g.G.Gate.becomes _ _ _ (claim_on c.args.table.now g.G.Gate.becomes _ _ _ _ _ _ c.in_ok-number.ensures.claims) (fill_on c.args.table.now g.G.Gate.becomes _ _ _ _ c.fill_leaf.ensures.fills)
+    goes_more c.args.table.now g.G.Gate.becomes _ _ _ (claim_on c.args.table.now g.G.Gate.becomes _ _ _ _ _ _ c.in_ok-number.ensures.claims) (set_on c.args.table.now g.G.Gate.becomes _ _ _ _ c.fill_leaf.ensures.fills)
 
 pub returns-clause-made : goal.returns-clause-made
 returns-clause-made g c =
     let n = c.in_ok-number.number in
     subst (λ z. IsBuilding c.args.table.now c.fill_leaf.new.seat z (of_leaf (item n c.args.key.now c.args.value) ∷ [])) (sym (c.push.ensures.items ∙ ap (λ z. z ++ a_leaf n ∷ []) c.clear.ensures))
-    (building_more c.args.table.now g.G.Gate.becomes a_leaf _ _ n (leaf_words (c.args.key.now, c.args.value)) _ _ _ [] [] c.in_ok-number.ensures.claims c.fill_leaf.ensures.fills c.fill_leaf.ensures.filled.1
+    (building_more c.args.table.now g.G.Gate.becomes a_leaf _ _ n (leaf_words (c.args.key.now, c.args.value)) _ _ _ [] [] c.in_ok-number.ensures.claims
+    (set_on c.args.table.now g.G.Gate.becomes _ _ _ _ c.fill_leaf.ensures.fills) c.fill_leaf.ensures.fills.own c.fill_leaf.ensures.filled.1
     (building_none c.args.table.now c.args.seat.now c.requires.own c.requires.possible c.requires.none))
 
 pub returns-in_err-number-clause-few : goal.returns-in_err-number-clause-few
@@ -39,4 +40,4 @@ returns-in_err-number-clause-few g c =
 
 pub returns-clause-few : goal.returns-clause-few
 returns-clause-few g c =
-    let z = claim_few c.args.table.now g.G.Gate.becomes _ _ _ _ (c.args.seat.now, c.args.gate.now) (c.claim_record.new.seat, c.claim_record.new.gate) c.in_ok-number.ensures.claims in omega (arith, z, c.fill_leaf.ensures.steps)
+    let z = claim_few c.args.table.now g.G.Gate.becomes _ _ _ _ (c.args.seat.now, c.args.gate.now) (c.claim_record.new.seat, c.claim_record.new.gate) c.in_ok-number.ensures.claims in omega (arith, z, c.fill_leaf.ensures.steps.1)
