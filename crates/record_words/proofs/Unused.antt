@@ -30,7 +30,7 @@ pub leaf_word_past : (leaf : List ℕ × ℕ) (i : ℕ) → 2 + words_of_key (le
 leaf_word_past leaf i past low =
     let j : ℕ = i - 2 in
     ap (λ n. get_or (leaf_words leaf) n 0) (let e : i ≡ 2 + j = omega (arith, past) in e) ∙
-        ((leaf_words_parts leaf (leaf_words leaf) refl).bytes j (omega (arith, low, past)) ∙ key_word_past leaf.0 j (omega (arith, past)))
+    ((leaf_words_parts leaf (leaf_words leaf) refl).bytes j (omega (arith, low, past)) ∙ key_word_past leaf.0 j (omega (arith, past)))
 
 -- the value and the length, in the place of two of as many zeros as a leaf has words
 abbrev pub first_words : ℕ → ℕ → List ℕ
@@ -45,7 +45,7 @@ first_size value size = get_or-set_same (set (replicate LEAF_FIELDS 0) 0 value) 
 pub first_rest : (value size o : ℕ) → 2 ≤ o → get_or (first_words value size) o 0 ≡ 0
 first_rest value size o past =
     get_or-set_other (set (replicate LEAF_FIELDS 0) 0 value) 1 o size 0 (λ e. omega (arith, e, past)) ∙
-        (get_or-set_other (replicate LEAF_FIELDS 0) 0 o value 0 (λ e. omega (arith, e, past)) ∙ zero_in LEAF_FIELDS o)
+    (get_or-set_other (replicate LEAF_FIELDS 0) 0 o value 0 (λ e. omega (arith, e, past)) ∙ zero_in LEAF_FIELDS o)
 
 -- where no position stands, all bits are set
 position_past : (columns : List ℕ) (i : ℕ) → length columns ≤ i → position_at columns i ≡ 65535
@@ -68,10 +68,10 @@ module _ (count height : ℕ) (columns rows : List ℕ) where
   positions_past i past low =
       let j : ℕ = i - 1 in
       ap (λ n. get_or (fixed_words count height columns rows) n 0) (let e : i ≡ 1 + j = omega (arith, past) in e) ∙
-          (sym ((fixed_words_parts count height columns rows (fixed_words count height columns rows) refl).positions j (omega (arith, low, past))) ∙ position_word_past columns j (omega (arith, past)))
+      (sym ((fixed_words_parts count height columns rows (fixed_words count height columns rows) refl).positions j (omega (arith, low, past))) ∙ position_word_past columns j (omega (arith, past)))
 
   pub rows_past : (i : ℕ) → 9 + words_of_rows (length rows) ≤ i → i < 25 → get_or (fixed_words count height columns rows) i 0 ≡ 2 ^ 64 - 1
   rows_past i past low =
       let j : ℕ = i - 9 in
       ap (λ n. get_or (fixed_words count height columns rows) n 0) (let e : i ≡ 9 + j = omega (arith, past) in e) ∙
-          (sym ((fixed_words_parts count height columns rows (fixed_words count height columns rows) refl).rows_are j (omega (arith, low, past))) ∙ row_word_past rows j (omega (arith, past)))
+      (sym ((fixed_words_parts count height columns rows (fixed_words count height columns rows) refl).rows_are j (omega (arith, low, past))) ∙ row_word_past rows j (omega (arith, past)))

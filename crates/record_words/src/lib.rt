@@ -12,7 +12,9 @@ pub use entry::{pack_entry, read_entry, unpack_entry};
 use key_bits::MAX_BYTES;
 pub use layout::{Layout, LayoutFault, Location};
 pub use leaf::{key_words, pack_leaf, read_leaf, unpack_leaf};
-pub use node::{pack_node, position_words, read_head, read_node, row_words, unpack_head, unpack_node};
+pub use node::{
+    pack_node, position_words, read_head, read_node, row_words, unpack_head, unpack_node,
+};
 pub use state::{Tag, pack_state, unpack_state};
 
 /// Epochs are below this number, and at least 1.

@@ -13,8 +13,8 @@ ghost use Rattle.rowex_table.specs.Seats.{IsSeatOf};
 use compound_node::{Entry, Head};
 use key_bits::Key;
 use record_words::{
-    FIRST_ROWS, HEAD_WORDS, LEAF_FIELDS, key_words, position_words, read_entry, read_head, read_leaf,
-    row_words,
+    FIRST_ROWS, HEAD_WORDS, LEAF_FIELDS, key_words, position_words, read_entry, read_head,
+    read_leaf, row_words,
 };
 use rowex_core::{Gate, Rec, Spot};
 use rowex_table::{HotTable, TableSeat};
