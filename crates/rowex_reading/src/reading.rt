@@ -43,16 +43,17 @@ pub fn load_head<G: Gate>(table: &HotTable, seat: &mut TableSeat, gate: &mut G, 
     ensures lawful { IsLawful (node_of result (leaves (length result.rows))) }
 {
     let rec = Rec::Node(number);
-    let numbers = table.load_fixed(seat, gate, rec, 1);
+    let start = table.start_of(rec);
+    let numbers = table.load_fixed_from(seat, gate, rec, start, 1);
     let mut words = [u64::MAX; HEAD_WORDS];
     words[0] = numbers;
     let positions = 1 + position_words(numbers);
     for index in 1..positions {
-        words[index] = table.load_fixed(seat, gate, rec, index as u8 + 1);
+        words[index] = table.load_fixed_from(seat, gate, rec, start, index as u8 + 1);
     }
     let rows = FIRST_ROWS + row_words(numbers);
     for index in FIRST_ROWS..rows {
-        words[index] = table.load_fixed(seat, gate, rec, index as u8 + 1);
+        words[index] = table.load_fixed_from(seat, gate, rec, start, index as u8 + 1);
     }
     read_head(&words)
 }
@@ -95,14 +96,15 @@ pub fn load_leaf<G: Gate>(
     ensures leaf { (m : ℕ) → IsLedTo seat.old.known m (LeafEntry number) → Sure seat.new.known (λ s. IsRead s m number result.0 result.1) }
 {
     let rec = Rec::Leaf(number);
-    let value = table.load_fixed(seat, gate, rec, 1);
-    let length = table.load_fixed(seat, gate, rec, 2);
+    let start = table.start_of(rec);
+    let value = table.load_fixed_from(seat, gate, rec, start, 1);
+    let length = table.load_fixed_from(seat, gate, rec, start, 2);
     let mut words = [0; LEAF_FIELDS];
     words[0] = value;
     words[1] = length;
     let used = 2 + key_words(length);
     for index in 2..used {
-        words[index] = table.load_fixed(seat, gate, rec, index as u8 + 1);
+        words[index] = table.load_fixed_from(seat, gate, rec, start, index as u8 + 1);
     }
     read_leaf(&words)
 }

@@ -8,6 +8,7 @@ ghost use Rattle.rowex_core.specs.Cores.{HasRecord, word_count_of};
 ghost use Rattle.rowex_core.specs.Events.{IsOffset};
 ghost use Rattle.rowex_core.specs.Reading.{IsPacked};
 ghost use Rattle.rowex_table.specs.Rights.{IsClaimed};
+ghost use Rattle.rowex_table.specs.Rule.{IsStartOf};
 ghost use Rattle.rowex_table.specs.Seats.{IsSeatOf};
 ghost use Rattle.rowex_records.specs.Records.{Fills, IsFilled, Readies, Sets, SetsAll};
 
@@ -35,30 +36,41 @@ pub fn fill_leaf<G: Gate>(
     ensures steps { (seat.old.known.steps + LEAF_FIELDS ≤ seat.new.known.steps) × (seat.new.known.steps ≤ seat.old.known.steps + 2 * LEAF_FIELDS) }
 {
     let words = pack_leaf(key, value);
+    let start = table.start_of(Rec::Leaf(number));
     for index in 0..LEAF_FIELDS {
-        set_leaf_word(table, seat, gate, number, index as u8 + 1, words[index]);
+        set_leaf_word(
+            table,
+            seat,
+            gate,
+            number,
+            start,
+            index as u8 + 1,
+            words[index],
+        );
     }
 }
 
-/// Sees to it that a word of a claimed leaf record is this one.
+/// Sees to it that a word of a claimed leaf record, which begins at `start`, is this one.
 fn set_leaf_word<G: Gate>(
     table: &HotTable,
     seat: &mut TableSeat,
     gate: &mut G,
     number: u32,
+    start: usize,
     offset: u8,
     word: u64,
 )
     requires own { IsSeatOf table.now seat.old }
     requires range { (number < table.now.layout.leaves) × IsOffset (a_leaf number) offset }
+    requires start { IsStartOf table.now.layout (a_leaf number) start }
     requires held { IsClaimed seat.old.known (a_leaf number) }
     ensures { Sets table.now G.becomes (a_leaf number) offset word (seat.old, gate.old) (seat.new, gate.new) }
 {
     let rec = Rec::Leaf(number);
     if word != 0 {
-        table.fill(seat, gate, rec, offset, word);
-    } else if table.load_fixed(seat, gate, rec, offset) != 0 {
-        table.fill(seat, gate, rec, offset, 0);
+        table.fill_from(seat, gate, rec, start, offset, word);
+    } else if table.load_fixed_from(seat, gate, rec, start, offset) != 0 {
+        table.fill_from(seat, gate, rec, start, offset, 0);
     }
 }
 
@@ -98,8 +110,9 @@ fn fill_words<G: Gate>(
     ensures filled { IsFilled seat.new.known rec words.now }
     ensures steps { seat.new.known.steps ≡ seat.old.known.steps + length words.now }
 {
+    let start = table.start_of(rec);
     for index in 0..words.len() {
-        table.fill(seat, gate, rec, index as u8 + 1, words[index]);
+        table.fill_from(seat, gate, rec, start, index as u8 + 1, words[index]);
     }
 }
 

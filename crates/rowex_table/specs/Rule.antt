@@ -8,6 +8,8 @@ use Rattle.hot_model.specs.declared.Note.{Note}
 use Rattle.hot_model.specs.Fronts.{LegalFront, OthersGoOn}
 use Rattle.record_words.specs.declared.TheConstants.{MAX_ENTRIES}
 use Rattle.record_words.specs.declared.layout.Layout.{Layout}
+use Rattle.record_words.specs.Layout.{address}
+use Rattle.moments.specs.declared.Rec.{Rec}
 use Rattle.rowex_core.specs.declared.event.Act.{Act}
 use Rattle.rowex_core.specs.declared.event.Act.TheVariants.{Claim, LoadRef, LoadFixed, Lock, LoadEpoch, Advance, LoadPin, LoadState, GiveBack}
 use Rattle.rowex_core.specs.declared.event.Spot.{Spot}
@@ -15,9 +17,9 @@ use Rattle.rowex_core.specs.declared.event.Spot.TheVariants.{Root, Slot}
 use Rattle.rowex_core.specs.declared.known.Known.{Known}
 use Rattle.rowex_core.specs.declared.known.View.{View}
 use Rattle.rowex_core.specs.declared.known.View.TheVariants.{Spent, Dealer, Pass, Pair}
-use Rattle.rowex_core.specs.Cores.{Core, IsLawful}
+use Rattle.rowex_core.specs.Cores.{Core, HasRecord, IsLawful}
 use Rattle.rowex_core.specs.Words.{Shows, word_at}
-use Rattle.rowex_core.specs.Events.{Legal, location_of}
+use Rattle.rowex_core.specs.Events.{Legal, location_of, word_of}
 use Rattle.rowex_core.specs.Knowing.{Knows, Knowing, Owns, IsEvent}
 
 -- some seat has this number
@@ -70,6 +72,10 @@ HasEntryPlace (Slot n j) = j < MAX_ENTRIES
 abbrev pub HasSpot : Layout → Spot → Type 0
 HasSpot layout Root = Unit {0}
 HasSpot layout (Slot n j) = (n < layout.nodes) × (j < MAX_ENTRIES)
+
+-- the record is one of the table's, and begins at this word
+abbrev pub IsStartOf : Layout → Rec → ℕ → Type 0
+IsStartOf layout r word = HasRecord layout r × (word ≡ address layout (word_of r 0))
 
 -- Events
 

@@ -4,7 +4,7 @@ ghost use Rattle.std.specs.Prelude.{◌≡◌, ◌<◌, ◌+◌, ◌*◌, ◌^�
 ghost use Rattle.rowex_core.specs.declared.event.Act.TheVariants.{Claim, Fill, Ready, Release, LoadFixed, Mark, LoadState, GiveBack};
 ghost use Rattle.rowex_core.specs.Cores.{HasRecord};
 ghost use Rattle.rowex_core.specs.Events.{IsOffset, IsFixedOffset};
-ghost use Rattle.rowex_table.specs.Rule.{MayStep};
+ghost use Rattle.rowex_table.specs.Rule.{IsStartOf, MayStep};
 ghost use Rattle.rowex_table.specs.Runs.{Steps};
 ghost use Rattle.rowex_table.specs.Seats.{IsSeatOf};
 
@@ -15,6 +15,14 @@ use rowex_core::{Act, Gate, Rec};
 use std::marker::Brand;
 
 impl HotTable {
+    /// The word at which a record begins.
+    pub fn start_of(&self, rec: Rec) -> usize
+        requires { HasRecord self.now.layout rec }
+        ensures { IsStartOf self.now.layout rec result }
+    {
+        self.layout.address(record_place(rec, 0))
+    }
+
     /// Claims a record, if it finds it free; answers the state word that it found.
     pub fn claim<G: Gate>(&self, seat: &mut TableSeat, gate: &mut G, rec: Rec) -> u64
         requires own { IsSeatOf self.now seat.old }
@@ -38,13 +46,28 @@ impl HotTable {
         requires may { MayStep self.now.layout (λ _. Fill rec offset word) seat.old.known }
         ensures { Steps self.now G.becomes (Fill rec offset word) (seat.old, gate.old) (seat.new, gate.new) }
     {
-        self.store_as::<Brand, G>(
-            seat,
-            gate,
-            Act::Fill { rec, offset, word },
-            record_place(rec, offset),
-            word,
-        );
+        self.fill_from(seat, gate, rec, self.start_of(rec), offset, word);
+    }
+
+    /// Stores as `fill` does, in a record that begins at this word.
+    #[inline(always)]
+    pub fn fill_from<G: Gate>(
+        &self,
+        seat: &mut TableSeat,
+        gate: &mut G,
+        rec: Rec,
+        start: usize,
+        offset: u8,
+        word: u64,
+    )
+        requires own { IsSeatOf self.now seat.old }
+        requires range { HasRecord self.now.layout rec × IsOffset rec offset }
+        requires start { IsStartOf self.now.layout rec start }
+        requires may { MayStep self.now.layout (λ _. Fill rec offset word) seat.old.known }
+        ensures { Steps self.now G.becomes (Fill rec offset word) (seat.old, gate.old) (seat.new, gate.new) }
+    {
+        let act = Act::Fill { rec, offset, word };
+        self.store_at::<Brand, G>(seat, gate, act, start + offset as usize, word);
     }
 
     /// Makes a held record live.
@@ -91,9 +114,27 @@ impl HotTable {
         requires range { HasRecord self.now.layout rec × IsFixedOffset rec offset }
         ensures { Steps self.now G.becomes (LoadFixed rec offset result) (seat.old, gate.old) (seat.new, gate.new) }
     {
-        let location = record_place(rec, offset);
+        self.load_fixed_from(seat, gate, rec, self.start_of(rec), offset)
+    }
+
+    /// Loads as `load_fixed` does, of a record that begins at this word: for several loads its place is found once.
+    #[inline(always)]
+    pub fn load_fixed_from<G: Gate>(
+        &self,
+        seat: &mut TableSeat,
+        gate: &mut G,
+        rec: Rec,
+        start: usize,
+        offset: u8,
+    ) -> u64
+        requires own { IsSeatOf self.now seat.old }
+        requires range { HasRecord self.now.layout rec × IsFixedOffset rec offset }
+        requires start { IsStartOf self.now.layout rec start }
+        ensures { Steps self.now G.becomes (LoadFixed rec offset result) (seat.old, gate.old) (seat.new, gate.new) }
+    {
         let word = 0;
-        self.load_as::<Brand, G>(seat, gate, Act::LoadFixed { rec, offset, word }, location)
+        let act = Act::LoadFixed { rec, offset, word };
+        self.load_at::<Brand, G>(seat, gate, act, start + offset as usize)
     }
 
     /// Makes a record obsolete that the pass has unlinked, in the epoch that the pass loaded last.

@@ -1,7 +1,7 @@
 //! The one form of all steps: a load, a store or an exchange, as an event of which the gate is told.
 
 ghost use Rattle.std.specs.Prelude.{◌≡◌, ℕ, Some};
-ghost use Rattle.record_words.specs.Layout.{IsInTable};
+ghost use Rattle.record_words.specs.Layout.{IsInTable, address as address_of};
 ghost use Rattle.rowex_core.specs.Events.{exchanged, location_of, writes};
 ghost use Rattle.rowex_table.specs.Rule.{MayStep, found_by};
 ghost use Rattle.rowex_table.specs.Runs.{StepsWith};
@@ -27,10 +27,27 @@ impl HotTable {
         requires apt { (Q.layout ≡ Some self.now.layout) × (act ≡ Q.act) × MayStep self.now.layout (found_by Q.act) seat.old.known }
         ensures { StepsWith self.now G.becomes (found_by Q.act result) Q.said (seat.old, gate.old) (seat.new, gate.new) }
     {
+        self.load_at::<Q, G>(seat, gate, act, self.layout.address(location))
+    }
+
+    /// The same of the word at this address.
+    pub(crate) fn load_at<Q: Step, G: Gate>(
+        &self,
+        seat: &mut TableSeat,
+        gate: &mut G,
+        act: Act,
+        address: usize,
+    ) -> u64
+        requires own { IsSeatOf self.now seat.old }
+        requires place { (address ≡ address_of self.now.layout (location_of seat.old.known.pass Q.act)) × IsInTable self.now.layout (location_of seat.old.known.pass Q.act) }
+        requires load { (w : ℕ) → w ≡ writes Q.act w }
+        requires apt { (Q.layout ≡ Some self.now.layout) × (act ≡ Q.act) × MayStep self.now.layout (found_by Q.act) seat.old.known }
+        ensures { StepsWith self.now G.becomes (found_by Q.act result) Q.said (seat.old, gate.old) (seat.new, gate.new) }
+    {
         let word = self
             .table
             .shared
-            .load::<Stepping<Q>>(&mut seat.seat, self.layout.address(location));
+            .load::<Stepping<Q>>(&mut seat.seat, address);
         tell(gate, seat, finding(act, word));
         word
     }
@@ -50,9 +67,27 @@ impl HotTable {
         requires apt { (Q.layout ≡ Some self.now.layout) × (act ≡ Q.act) × MayStep self.now.layout (found_by Q.act) seat.old.known }
         ensures { StepsWith self.now G.becomes (found_by Q.act new) Q.said (seat.old, gate.old) (seat.new, gate.new) }
     {
+        self.store_at::<Q, G>(seat, gate, act, self.layout.address(location), new);
+    }
+
+    /// The same to the word at this address.
+    pub(crate) fn store_at<Q: Step, G: Gate>(
+        &self,
+        seat: &mut TableSeat,
+        gate: &mut G,
+        act: Act,
+        address: usize,
+        new: u64,
+    )
+        requires own { IsSeatOf self.now seat.old }
+        requires place { (address ≡ address_of self.now.layout (location_of seat.old.known.pass Q.act)) × IsInTable self.now.layout (location_of seat.old.known.pass Q.act) }
+        requires store { ((w : ℕ) → new ≡ writes Q.act w) × ((w : ℕ) → found_by Q.act w ≡ Q.act) }
+        requires apt { (Q.layout ≡ Some self.now.layout) × (act ≡ Q.act) × MayStep self.now.layout (found_by Q.act) seat.old.known }
+        ensures { StepsWith self.now G.becomes (found_by Q.act new) Q.said (seat.old, gate.old) (seat.new, gate.new) }
+    {
         self.table
             .shared
-            .store::<Stepping<Q>>(&mut seat.seat, self.layout.address(location), new);
+            .store::<Stepping<Q>>(&mut seat.seat, address, new);
         tell(gate, seat, act);
     }
 

@@ -14,65 +14,71 @@ use Rattle.record_words.proofs.Unused.{first_long, first_rest, first_size}
 use Rattle.rowex_reading.proofs.Leafing.{first_loaded, leaf_read, leaf_spelled, length_low}
 use Rattle.rowex_reading.proofs.reading.load_leaf.Goals as goal
 
-pub load_fixed-value-requires : goal.load_fixed-value-requires
-load_fixed-value-requires g c = let l = c.requires.led in record {
+pub start_of-start-requires : goal.start_of-start-requires
+start_of-start-requires g c = let l = c.requires.led in led_in_table c.args.table.now.layout c.args.seat.now.known l.0 (Leaf c.args.number) c.requires.reader.1 l.1
+
+pub load_fixed_from-value-requires : goal.load_fixed_from-value-requires
+load_fixed_from-value-requires g c = record {
   own = c.requires.reader.0;
-  range = (led_in_table c.args.table.now.layout c.args.seat.now.known l.0 (Leaf c.args.number) c.requires.reader.1 l.1, (lit≤ tt, lit≤ tt));
+  range = (c.start_of-start.ensures.0, (lit≤ tt, lit≤ tt));
+  start = c.start_of-start.ensures;
 }
 
-pub load_fixed-length-requires : goal.load_fixed-length-requires
-load_fixed-length-requires g c = let l = c.requires.led in record {
-  own = (reader_then c.requires.reader (reads_one (LoadFixed (a_leaf c.args.number) 1 c.load_fixed-value.result) tt c.load_fixed-value.ensures)).0;
-  range = (led_in_table c.args.table.now.layout c.args.seat.now.known l.0 (Leaf c.args.number) c.requires.reader.1 l.1, (lit≤ tt, lit≤ tt));
+pub load_fixed_from-length-requires : goal.load_fixed_from-length-requires
+load_fixed_from-length-requires g c = record {
+  own = (reader_then c.requires.reader (reads_one (LoadFixed (a_leaf c.args.number) 1 c.load_fixed_from-value.result) tt c.load_fixed_from-value.ensures)).0;
+  range = (c.start_of-start.ensures.0, (lit≤ tt, lit≤ tt));
+  start = c.start_of-start.ensures;
 }
 
 pub key_words-used-requires : goal.key_words-used-requires
 key_words-used-requires g c =
     let l = c.requires.led in
-    let one = reads_one (LoadFixed (a_leaf c.args.number) 1 c.load_fixed-value.result) tt c.load_fixed-value.ensures in
-    let two = reads_one (LoadFixed (a_leaf c.args.number) 2 c.load_fixed-length.result) tt c.load_fixed-length.ensures in
+    let one = reads_one (LoadFixed (a_leaf c.args.number) 1 c.load_fixed_from-value.result) tt c.load_fixed_from-value.ensures in
+    let two = reads_one (LoadFixed (a_leaf c.args.number) 2 c.load_fixed_from-length.result) tt c.load_fixed_from-length.ensures in
     let reader = reader_then (reader_then c.requires.reader one) two in
-    let loaded = first_loaded _ _ _ _ c.args.number _ _ c.load_fixed-value.ensures.event c.load_fixed-length.ensures.event l.0 l.1 in
+    let loaded = first_loaded _ _ _ _ c.args.number _ _ c.load_fixed_from-value.ensures.event c.load_fixed_from-length.ensures.event l.0 l.1 in
     let low = length_low _ _ _ c.args.number _ reader.1 loaded l.0 l.1 in
-    let same = first_size c.load_fixed-value.result c.load_fixed-length.result in omega (arith, low, same)
+    let same = first_size c.load_fixed_from-value.result c.load_fixed_from-length.result in omega (arith, low, same)
 
 pub loop-index-init : goal.loop-index-init
 loop-index-init g c =
     let l = c.requires.led in
-    let one = reads_one (LoadFixed (a_leaf c.args.number) 1 c.load_fixed-value.result) tt c.load_fixed-value.ensures in
-    let two = reads_one (LoadFixed (a_leaf c.args.number) 2 c.load_fixed-length.result) tt c.load_fixed-length.ensures in
+    let one = reads_one (LoadFixed (a_leaf c.args.number) 1 c.load_fixed_from-value.result) tt c.load_fixed_from-value.ensures in
+    let two = reads_one (LoadFixed (a_leaf c.args.number) 2 c.load_fixed_from-length.result) tt c.load_fixed_from-length.ensures in
     let reader = reader_then (reader_then c.requires.reader one) two in
-    let loaded = first_loaded _ _ _ _ c.args.number _ _ c.load_fixed-value.ensures.event c.load_fixed-length.ensures.event l.0 l.1 in
+    let loaded = first_loaded _ _ _ _ c.args.number _ _ c.load_fixed_from-value.ensures.event c.load_fixed_from-length.ensures.event l.0 l.1 in
     let low = length_low _ _ _ c.args.number _ reader.1 loaded l.0 l.1 in
-    let same = first_size c.load_fixed-value.result c.load_fixed-length.result in
+    let same = first_size c.load_fixed_from-value.result c.load_fixed_from-length.result in
     record {
       reader = reader;
-      long = first_long c.load_fixed-value.result c.load_fixed-length.result;
+      long = first_long c.load_fixed_from-value.result c.load_fixed_from-length.result;
       used_is = omega (arith, c.key_words-used.ensures, same);
       fits = omega (arith, c.key_words-used.ensures, low, same);
       reads = reads_trans one two;
       loaded = loaded;
-      rest = first_rest c.load_fixed-value.result c.load_fixed-length.result;
+      rest = first_rest c.load_fixed_from-value.result c.load_fixed_from-length.result;
     }
 
-pub load_fixed-requires : goal.load_fixed-requires
-load_fixed-requires g c = let l = c.requires.led in let i = c.loop-index.invariant in record {
+pub load_fixed_from-requires : goal.load_fixed_from-requires
+load_fixed_from-requires g c = let i = c.loop-index.invariant in record {
   own = i.reader.0;
-  range = (led_in_table c.args.table.now.layout c.args.seat.now.known l.0 (Leaf c.args.number) c.requires.reader.1 l.1, (omega arith, omega (arith, i.fits, c.loop-index-test.true)));
+  range = (c.start_of-start.ensures.0, (omega arith, omega (arith, i.fits, c.loop-index-test.true)));
+  start = c.start_of-start.ensures;
 }
 
 pub loop-index-preserved : goal.loop-index-preserved
 loop-index-preserved g c =
-    let l = c.requires.led in let i = c.loop-index.invariant in let e = c.load_fixed.ensures in
-    let one = reads_one (LoadFixed (a_leaf c.args.number) (c.loop-index.index + 1) c.load_fixed.result) tt e in
+    let l = c.requires.led in let i = c.loop-index.invariant in let e = c.load_fixed_from.ensures in
+    let one = reads_one (LoadFixed (a_leaf c.args.number) (c.loop-index.index + 1) c.load_fixed_from.result) tt e in
     record {
       reader = reader_then i.reader one;
-      long = length-set c.loop-index.words c.loop-index.index c.load_fixed.result ∙ i.long;
-      used_is = i.used_is ∙ ap (λ n. 2 + words_of_key n) (sym (get_or-set_other c.loop-index.words c.loop-index.index 1 c.load_fixed.result 0 (λ e. omega (arith, e, c.loop-index.auto.index))));
+      long = length-set c.loop-index.words c.loop-index.index c.load_fixed_from.result ∙ i.long;
+      used_is = i.used_is ∙ ap (λ n. 2 + words_of_key n) (sym (get_or-set_other c.loop-index.words c.loop-index.index 1 c.load_fixed_from.result 0 (λ e. omega (arith, e, c.loop-index.auto.index))));
       fits = i.fits;
       reads = reads_trans i.reads one;
       loaded = next_loaded _ _ _ _ (a_leaf c.args.number) _ _ c.loop-index.words i.loaded (omega (arith, i.long, i.fits, c.loop-index-test.true)) e.event l.0 (led_stood c.args.seat.now.known l.0 (Leaf c.args.number) l.1);
-      rest = λ o past. get_or-set_other c.loop-index.words c.loop-index.index o c.load_fixed.result 0 (λ e. omega (arith, e, past)) ∙ i.rest o (omega (arith, past));
+      rest = λ o past. get_or-set_other c.loop-index.words c.loop-index.index o c.load_fixed_from.result 0 (λ e. omega (arith, e, past)) ∙ i.rest o (omega (arith, past));
     }
 
 pub read_leaf-requires : goal.read_leaf-requires

@@ -7,14 +7,14 @@ use Rattle.rowex_records.proofs.filling.fill_words.Goals as goal
 pub loop-index-init : goal.loop-index-init
 loop-index-init g c = fills_none _ _ c.args.rec _ _ c.requires.words.0 c.requires.held
 
-pub fill-requires : goal.fill-requires
-fill-requires g c =
+pub fill_from-requires : goal.fill_from-requires
+fill_from-requires g c =
     let offset = offset_of c.args.rec c.loop-index.index (search rules) in
     let has = c.loop-index.invariant.has in
-    record { own = search rules; range = (c.requires.range, offset); may = fills c.args.table.now.layout _ c.args.rec _ _ has.0 c.requires.range offset (search rules) has.3 }
+    record { own = search rules; range = (c.requires.range, offset); start = c.start_of-start.ensures; may = fills c.args.table.now.layout _ c.args.rec _ _ has.0 c.requires.range offset (search rules) has.3 }
 
 pub loop-index-preserved : goal.loop-index-preserved
-loop-index-preserved g c = fills_more _ _ c.args.rec c.args.words.now c.loop-index.index _ _ _ _ c.loop-index.invariant (search rules) (search rules) c.fill.ensures
+loop-index-preserved g c = fills_more _ _ c.args.rec c.args.words.now c.loop-index.index _ _ _ _ c.loop-index.invariant (search rules) (search rules) c.fill_from.ensures
 
 pub returns-clause-fills : goal.returns-clause-fills
 returns-clause-fills g c = fills_all _ _ c.args.rec c.args.words.now c.loop-index.index _ _ c.requires.words.0 c.loop-index.invariant (search rules)

@@ -1,0 +1,19 @@
+-- A step as an event.
+use Rattle.std.proofs.Common.{rules, ◌≡◌, ◌<◌, refl, sym, ap, subst, ◌∙◌}
+use Rattle.record_words.specs.declared.layout.Layout.{Layout}
+use Rattle.record_words.specs.Layout.{IsInTable, address, word_count}
+use Rattle.record_words.proofs.Locations.{address-below}
+use Rattle.rowex_core.specs.Events.{location_of}
+use Rattle.rowex_table.specs.Seats.{TableView, SeatView}
+use Rattle.rowex_table.proofs.Keeping.{allows_me}
+use Rattle.rowex_table.proofs.table.HotTable.load_at.Goals as goal
+
+pub load-word-requires : goal.load-word-requires
+load-word-requires g c =
+    let layout : c.self.inside.layout ≡ c.args.self.now.layout = ap (λ (z : TableView). z.layout) c.self.view_is in
+    let low : c.args.address < word_count c.self.inside.layout =
+    rw (c.requires.place.0, layout) (address-below c.args.self.now.layout (location_of c.args.seat.now.known.pass g.Q.Step.act) c.requires.place.1) in (
+      search rules,
+      search rules,
+      allows_me _ _ _ _ _ _ _ _ _ _ _ _ (c.self.invariant.1 ∙ layout) c.requires.apt.0 c.seat.invariant.0 (sym (ap (λ (z : SeatView). z.known) c.seat.view_is)) c.requires.place.0 c.requires.load (λ w. refl) c.requires.apt.2,
+    )
