@@ -3,15 +3,17 @@
 ghost use Rattle.std.specs.Prelude.{◌≡◌, ◌<◌, ◌+◌, ◌*◌, ◌^◌, ℕ, List};
 ghost use Rattle.record_words.specs.Layout.{IsInTable};
 ghost use Rattle.rowex_core.specs.declared.event.Act.TheVariants.{LoadRef, Lock, Unlock, Publish};
+ghost use Rattle.moments.specs.declared.Rec.TheVariants.{Node as a_node};
+ghost use Rattle.rowex_core.specs.declared.event.Spot.TheVariants.{Slot};
 ghost use Rattle.rowex_core.specs.Events.{target_word};
-ghost use Rattle.rowex_table.specs.Rule.{HasSpot, MayStep};
+ghost use Rattle.rowex_table.specs.Rule.{HasSpot, IsStartOf, MayStep};
 ghost use Rattle.rowex_table.specs.Rights.{MayLock};
 ghost use Rattle.rowex_table.specs.Runs.{Steps};
 ghost use Rattle.rowex_table.specs.Seats.{IsSeatOf};
 
 use crate::places::{spot_place, target_place};
 use crate::table::{HotTable, TableSeat};
-use record_words::{Tag, pack_state};
+use record_words::{FIRST_ENTRY, Tag, pack_state};
 use rowex_core::{Act, Gate, Spot, Target};
 use std::marker::Brand;
 
@@ -23,6 +25,26 @@ impl HotTable {
         ensures { Steps self.now G.becomes (LoadRef spot result) (seat.old, gate.old) (seat.new, gate.new) }
     {
         self.load_as::<Brand, G>(seat, gate, Act::LoadRef { spot, word: 0 }, spot_place(spot))
+    }
+
+    /// Loads an entry word of a node's record, which begins at this word.
+    #[inline(always)]
+    pub fn load_slot_from<G: Gate>(
+        &self,
+        seat: &mut TableSeat,
+        gate: &mut G,
+        node: u32,
+        start: usize,
+        entry: u8,
+    ) -> u64
+        requires own { IsSeatOf self.now seat.old }
+        requires range { HasSpot self.now.layout (Slot node entry) }
+        requires start { IsStartOf self.now.layout (a_node node) start }
+        ensures { Steps self.now G.becomes (LoadRef (Slot node entry) result) (seat.old, gate.old) (seat.new, gate.new) }
+    {
+        let spot = Spot::Slot { node, entry };
+        let address = start + FIRST_ENTRY + entry as usize;
+        self.load_at::<Brand, G>(seat, gate, Act::LoadRef { spot, word: 0 }, address)
     }
 
     /// Locks the anchor or a node, if it finds it live; answers the state word that it found.

@@ -2,12 +2,14 @@
 
 ghost use Rattle.std.specs.Prelude.{◌≡◌, ◌<◌, ℕ, List, get_or, ◌≤◌, ◌+◌};
 ghost use Rattle.compound_node.specs.Nodes.{NodeView};
+ghost use Rattle.moments.specs.declared.Rec.TheVariants.{Node as a_node};
+ghost use Rattle.rowex_table.specs.Rule.{IsStartOf};
 ghost use Rattle.rowex_table.specs.Seats.{IsSeatOf};
 ghost use Rattle.rowex_writing.specs.Going.{ReadsOn, HasLocked, IsLockedBy, IsNodeOf};
 
 use compound_node::Node;
 use record_words::{HEAD_WORDS, NODE_FIELDS, read_node};
-use rowex_core::{Gate, Rec, Spot};
+use rowex_core::{Gate, Rec};
 use rowex_table::{HotTable, TableSeat};
 
 /// The node in a record that the pass has locked: its words are those of the lock.
@@ -24,27 +26,29 @@ pub fn read_locked<G: Gate>(
     ensures node { (words : List ℕ) → HasLocked seat.old.known number words → IsNodeOf words result }
     ensures few { seat.new.known.steps ≤ seat.old.known.steps + NODE_FIELDS }
 {
+    let start = table.start_of(Rec::Node(number));
     let mut words = [0; NODE_FIELDS];
     for index in 0..HEAD_WORDS {
-        words[index] = load_word(table, seat, gate, number, index);
+        words[index] = load_word(table, seat, gate, number, start, index);
     }
     for index in HEAD_WORDS..NODE_FIELDS {
-        words[index] = load_word(table, seat, gate, number, index);
+        words[index] = load_word(table, seat, gate, number, start, index);
     }
     read_node(&words)
 }
 
-/// One word of a locked node, of those after its state. Inline, so that neither loop over the words tests which they are.
+/// One word of a locked node, of those after its state; its record begins at `start`. Inline, so that neither loop over the words tests which they are.
 #[inline(always)]
 fn load_word<G: Gate>(
     table: &HotTable,
     seat: &mut TableSeat,
     gate: &mut G,
     number: u32,
+    start: usize,
     index: usize,
 ) -> u64
     requires own { IsSeatOf table.now seat.old }
-    requires range { number < table.now.layout.nodes }
+    requires start { IsStartOf table.now.layout (a_node number) start }
     requires index { index < 57 }
     ensures reads { ReadsOn table.now G.becomes (seat.old, gate.old) (seat.new, gate.new) }
     ensures word { (words : List ℕ) → HasLocked seat.old.known number words → result ≡ get_or words index 0 }
@@ -52,12 +56,8 @@ fn load_word<G: Gate>(
     ensures few { seat.new.known.steps ≤ seat.old.known.steps + 1 }
 {
     if index < HEAD_WORDS {
-        table.load_fixed(seat, gate, Rec::Node(number), index as u8 + 1)
+        table.load_fixed_from(seat, gate, Rec::Node(number), start, index as u8 + 1)
     } else {
-        let spot = Spot::Slot {
-            node: number,
-            entry: (index - HEAD_WORDS) as u8,
-        };
-        table.load_ref(seat, gate, spot)
+        table.load_slot_from(seat, gate, number, start, (index - HEAD_WORDS) as u8)
     }
 }
