@@ -83,6 +83,14 @@ impl Key {
         &self.bytes[..self.count]
     }
 
+    /// The key's bytes, with 0 at the unused ones of `MAX_BYTES` places.
+    pub fn places(&self) -> &[u8; MAX_BYTES]
+        ensures places { result.now ≡ with_zeros self.now }
+        ensures key { IsKey self.now }
+    {
+        &self.bytes
+    }
+
     /// A second key of the same bytes.
     pub fn copy(&self) -> Key
         ensures same { result ≡ self.now }

@@ -17,17 +17,27 @@ pub fn key_words(length: u64) -> usize
     (length as usize + 7) / 8
 }
 
+/// The word that a leaf has of its key's eight bytes from byte `8 * j` on.
+pub fn key_word_at(key: &Key, j: usize) -> u64
+    requires { j < KEY_WORDS }
+    ensures { result ≡ key_word key.now j }
+{
+    let mut eight = [0; 8];
+    eight.copy_from_slice(&key.places()[8 * j..8 * j + 8]);
+    u64::from_be_bytes(eight)
+}
+
 /// The words of a leaf record from offset 1 on: the value, the key's length and its bytes.
 pub fn pack_leaf(key: &Key, value: u64) -> [u64; LEAF_FIELDS]
     ensures words { result ≡ leaf_words (key.now, value) }
     ensures fits { HasLeafWords (key.now, value) }
 {
-    let bytes = key.as_bytes();
+    let length = key.as_bytes().len() as u64;
     let mut words = [0; LEAF_FIELDS];
     words[0] = value;
-    words[1] = bytes.len() as u64;
-    for j in 0..key_words(bytes.len() as u64) {
-        words[2 + j] = word_of_bytes(bytes, j);
+    words[1] = length;
+    for j in 0..key_words(length) {
+        words[2 + j] = key_word_at(key, j);
     }
     words
 }
@@ -80,25 +90,6 @@ fn is_zero(bytes: &[u8]) -> bool
     ensures { IsTrue result ↔ EachIndex bytes.now (λ i. slice_index bytes.now i ≡ 0) }
 {
     bytes.iter().all(|byte| *byte == 0)
-}
-
-/// The word of the eight bytes from byte `8 * j` on.
-fn word_of_bytes(bytes: &[u8], j: usize) -> u64
-    requires { j < KEY_WORDS }
-    ensures { result ≡ key_word bytes.now j }
-{
-    let mut eight = [0; 8];
-    for i in 0..8 {
-        eight[i] = byte_at(bytes, 8 * j + i);
-    }
-    u64::from_be_bytes(eight)
-}
-
-/// The byte at a place, or 0 past the end.
-fn byte_at(bytes: &[u8], at: usize) -> u8
-    ensures { result ≡ slice_index bytes.now at }
-{
-    bytes.get(at).copied().unwrap_or(0)
 }
 
 /// The bytes whose words these are, of which only the first `used` can be other than 0.
