@@ -20,6 +20,7 @@ use Rattle.rowex_core.specs.declared.known.Known.{Known}
 use Rattle.rowex_core.specs.Cores.{Core, IsLawful, heap_of}
 use Rattle.rowex_core.specs.declared.event.Act.TheVariants.{LoadFixed}
 use Rattle.rowex_core.specs.Knowing.{IsEvent, Recalls}
+use Rattle.rowex_table.specs.Made.{IsLater}
 use Rattle.rowex_table.specs.Runs.{silent}
 use Rattle.rowex_core.proofs.Owning.{recalls}
 use Rattle.rowex_core.specs.Reading.{IsPacked}
@@ -56,6 +57,27 @@ length_low layout k j n words possible loaded m led =
     let size = (leaf_words_parts packed.0 (c.words (a_leaf n)) (sym packed.2)).size in
     let short = packed.1.key.short in omega (arith, now, size, short)
 
+-- In a core of which j is true, a record to which the pass was led has the words of a leaf, and that leaf stood.
+module _ (k j : Known) (later : IsLater k j) (n m : ℕ) (led : IsLedTo k m (Leaf n)) (c : Core) (lawful : IsLawful c) (known : Recalls c j) where
+  before : Recalls c k
+  before = recalls_before later known
+
+  led_there : IsSeen (seen c k) m (Leaf n)
+  led_there = led.1 c lawful before
+
+  pub leaf_packed : IsPacked (a_leaf n) (c.words (a_leaf n))
+  leaf_packed = is_packed c k lawful before m led.0 (Leaf n) led_there
+
+  pub leaf_stood : (pair : List ℕ × ℕ) → HasLeafWords pair → leaf_words pair ≡ c.words (a_leaf n) → IsRead (seen c j) m n pair.0 pair.1
+  leaf_stood pair has same = go (leaf_of n led_there.1 led_there.5)
+    where
+      go : (key : Key) × (value : ℕ) × (led_there.1 ≡ leaf n key value) → IsRead (seen c j) m n pair.0 pair.1
+      go (key, value, is_leaf) =
+          let st : Stands c.past led_there.0 (a_leaf n) (leaf n key value) = subst (λ z. Stands c.past led_there.0 (a_leaf n) z) is_leaf (stands_in c k led_there.4) in
+          let now = leaf_now (view c) lawful.core.state m (reach c k lawful before m led.0) led_there.0 n n key value led_there.2 (le_trans led_there.3 (seen_within lawful before)) st in
+          subst (λ (z : LeafWords). IsRead (seen c j) m n z.key z.value) (sym now ∙ leaf_is pair (c.words (a_leaf n)) (lawful.records.sized (a_leaf n)).1 has same)
+          (led_there.0, led_there.2, le_trans led_there.3 (seen_grown c later).longer, stands_seen c j st)
+
 -- The first words of a leaf have been loaded, with all that have bytes of its key, and the others are 0.
 module _ (layout : Layout) (k j : Known) (n i : ℕ) (words : List ℕ) (possible : IsPossible layout j) (loaded : AreLoaded k j (a_leaf n) (λ o. o < i) words)
     (all : i ≡ 2 + words_of_key (get_or words 1 0)) (rest : (o : ℕ) → i ≤ o → get_or words o 0 ≡ 0) (long : length words ≡ LEAF_FIELDS) (m : ℕ) (led : IsLedTo k m (Leaf n)) where
@@ -64,13 +86,11 @@ module _ (layout : Layout) (k j : Known) (n i : ℕ) (words : List ℕ) (possibl
     pair : List ℕ × ℕ
     has : HasLeafWords pair
     spelled : leaf_words pair ≡ words
-    leaves_are : (heap_of c.words).leaves n ≡ record { key = pair.0; value = pair.1 }
+    there : leaf_words pair ≡ c.words (a_leaf n)
 
   leaf_there : (c : Core) → IsLawful c → Recalls c j → LeafNow c
   unfolding IsPacked
-  leaf_there c lawful known =
-      let before = recalls_before loaded.later known in
-      go (is_packed c k lawful before m led.0 (Leaf n) (led.1 c lawful before))
+  leaf_there c lawful known = go (leaf_packed k j loaded.later n m led c lawful known)
     where
       go : IsPacked (a_leaf n) (c.words (a_leaf n)) → LeafNow c
       go (pair, has, same) =
@@ -80,7 +100,7 @@ module _ (layout : Layout) (k j : Known) (n i : ℕ) (words : List ℕ) (possibl
             pair = pair;
             has = has;
             spelled = same ∙ (sym (take_all LEAF_FIELDS (c.words (a_leaf n)) (omega (arith, sized.0))) ∙ sym are);
-            leaves_are = leaf_is pair (c.words (a_leaf n)) sized.1 has same;
+            there = same;
           }
         where
           loaded_now : (o : ℕ) → o < i → o < LEAF_FIELDS → get_or words o 0 ≡ get_or (c.words (a_leaf n)) o 0
@@ -99,20 +119,6 @@ module _ (layout : Layout) (k j : Known) (n i : ℕ) (words : List ℕ) (possibl
 
   -- and it is the record's
   pub leaf_read : (pair : List ℕ × ℕ) → IsSpelledBy HasLeafWords leaf_words words pair → Sure j (λ s. IsRead s m n pair.0 pair.1)
-  leaf_read pair read c lawful known = go (leaf_of n led_there.1 led_there.5)
-    where
-      there : LeafNow c
-      there = leaf_there c lawful known
-
-      before : Recalls c k
-      before = recalls_before loaded.later known
-
-      led_there : IsSeen (seen c k) m (Leaf n)
-      led_there = led.1 c lawful before
-
-      go : (key : Key) × (value : ℕ) × (led_there.1 ≡ leaf n key value) → IsRead (seen c j) m n pair.0 pair.1
-      go (key, value, is_leaf) =
-          let st : Stands c.past led_there.0 (a_leaf n) (leaf n key value) = subst (λ z. Stands c.past led_there.0 (a_leaf n) z) is_leaf (stands_in c k led_there.4) in
-          let now = leaf_now (view c) lawful.core.state m (reach c k lawful before m led.0) led_there.0 n n key value led_there.2 (le_trans led_there.3 (seen_within lawful before)) st in
-          subst (λ (z : List ℕ × ℕ). IsRead (seen c j) m n z.0 z.1) (sym (read.only there.pair there.has there.spelled))
-          (subst (λ (z : LeafWords). IsRead (seen c j) m n z.key z.value) (sym now ∙ there.leaves_are) (led_there.0, led_there.2, le_trans led_there.3 (seen_grown c loaded.later).longer, stands_seen c j st))
+  leaf_read pair read c lawful known =
+      let now = leaf_there c lawful known in
+      subst (λ (z : List ℕ × ℕ). IsRead (seen c j) m n z.0 z.1) (sym (read.only now.pair now.has now.spelled)) (leaf_stood k j loaded.later n m led c lawful known now.pair now.has now.there)

@@ -8,5 +8,6 @@ pub mod Placing
 pub mod Wording
 pub mod Heading
 pub mod Leafing
+pub mod Comparing
 pub mod Led
 pub mod Looking

@@ -1,5 +1,5 @@
 -- A search from the root down to a leaf: what it is sure of at each entry that it is led to.
-use Rattle.std.proofs.Common.{◌≡◌, ◌≢◌, ◌⊎◌, inl, inr, ℕ, ◌+◌, ◌*◌, ◌<◌, ◌≤◌, Some, None, IsSome, sym, subst, ◌∙◌, arith}
+use Rattle.std.proofs.Common.{◌≡◌, ◌≢◌, ◌⊎◌, inl, inr, ℕ, ◌+◌, ◌*◌, ◌<◌, ◌≤◌, Option, Some, None, IsSome, sym, subst, ◌∙◌, arith}
 use Rattle.key_bits.specs.declared.TheConstants.{MAX_BYTES}
 use Rattle.compound_node.specs.Nodes.{HeadView, height_of}
 use Rattle.compound_node.specs.declared.entries.Entry.{Entry}
@@ -21,7 +21,7 @@ use Rattle.rowex_core.specs.declared.event.Event.{Event}
 use Rattle.rowex_table.specs.Seats.{TableView, SeatView}
 use Rattle.rowex_reading.specs.Lookups.{HasFound, HasSearched}
 use Rattle.rowex_reading.specs.Reads.{Looks, Reads, ReadsRoot}
-use Rattle.rowex_reading.specs.Seen.{seen, Sure, since, IsLedTo, HasPlace, shape_of}
+use Rattle.rowex_reading.specs.Seen.{seen, Sure, since, IsCompared, IsLedTo, HasPlace, shape_of}
 use Rattle.rowex_core.specs.Knowing.{IsSince}
 use Rattle.rowex_reading.proofs.Led.{led_shape, looks_first, looks_on, reads_later, reads_trans, root_pinned, same_since, shape_place}
 use Rattle.rowex_reading.proofs.Seeing.{sure_later, sure_map, since_later, seen_steady, led_stable, shaped_stable}
@@ -144,12 +144,8 @@ module _ {G : Type 0} {table : TableView} {becomes : G → Event → G → Type 
           leads_on : Sure i.0.known (λ s. IsLed s m key (Node n height))
           leads_on = sure_later (led_stable m key (Node n height)) (reads_later both) (subst (λ z. Sure b.0.known (λ s. IsLed s m key z)) is at.led)
 
-    -- it is a leaf, which has been read
-    module _ {c : SeatView × G} (n : ℕ) (is : d ≡ Leaf n) {loads : ℕ} (few : loads ≤ LEAF_FIELDS) (reads : Reads table becomes loads b c) (l : Key) (v : ℕ)
-        (told : (m : ℕ) → IsLedTo b.0.known m (Leaf n) → Sure c.0.known (λ s. IsRead s m n l v)) where
-      read : Sure c.0.known (λ s. IsRead s m n l v)
-      read = told m (at_led (Leaf n) is)
-
+    -- it is a leaf, which has been compared
+    module _ {c : SeatView × G} (n : ℕ) (is : d ≡ Leaf n) {loads : ℕ} (few : loads ≤ LEAF_FIELDS) (reads : Reads table becomes loads b c) where
       pub leaf_searched : HasSearched table becomes a c
       leaf_searched = record {
         nodes = at.passed;
@@ -159,14 +155,12 @@ module _ {G : Type 0} {table : TableView} {becomes : G → Event → G → Type 
         looks = looks_on at.looks reads;
       }
 
-      pub leaf_held : l ≡ key → HasFound c.0.known key (Some v)
-      leaf_held e = subst (λ o. Sure c.0.known (λ s. IsHeldSince s o key v)) (sym (same_since reads))
-          (λ o lawful recalls. subst (λ z. IsHeldSince (seen o c.0.known) m z v) e (read_held (seen o c.0.known) m n l v (read o lawful recalls)))
-
-      pub leaf_absent : l ≢ key → HasFound c.0.known key None
-      leaf_absent ne = subst (λ o. Sure c.0.known (λ s. IsMissed s o key)) (sym (same_since reads))
-          (λ o lawful recalls. leaf_missed (seen o c.0.known) m (seen_steady lawful recalls (since_later (reads_later reads) at.pinned)) key n l v
-          (led_there o lawful recalls) (read o lawful recalls) (λ e. ne (sym e)))
+      pub leaf_found : (found : Option ℕ) → ((m : ℕ) → IsLedTo b.0.known m (Leaf n) → Sure c.0.known (λ s. IsCompared s m n key found)) → HasFound c.0.known key found
+      leaf_found (Some v) told = subst (λ o. Sure c.0.known (λ s. IsHeldSince s o key v)) (sym (same_since reads))
+          (λ o lawful recalls. read_held (seen o c.0.known) m n key v (told m (at_led (Leaf n) is) o lawful recalls))
+      leaf_found None told = subst (λ o. Sure c.0.known (λ s. IsMissed s o key)) (sym (same_since reads))
+          (λ o lawful recalls. (let other = told m (at_led (Leaf n) is) o lawful recalls in
+          leaf_missed (seen o c.0.known) m (seen_steady lawful recalls (since_later (reads_later reads) at.pinned)) key n other.0 other.1 (led_there o lawful recalls) other.2 other.3))
         where
           led_there : Sure c.0.known (λ s. IsLed s m key (Leaf n))
           led_there = sure_later (led_stable m key (Leaf n)) (reads_later reads) (subst (λ z. Sure b.0.known (λ s. IsLed s m key z)) is at.led)

@@ -1,15 +1,16 @@
 -- What a pass may conclude of the moments that it has seen, and what loads teach it.
-use Rattle.std.specs.Prelude.{ℕ, ◌<◌, length, Option, Some, None}
+use Rattle.std.specs.Prelude.{◌≢◌, ℕ, ◌<◌, length, Option, Some, None}
 use Rattle.compound_node.specs.Nodes.{HeadView, piece, node_of, leaves}
 use Rattle.compound_node.specs.declared.entries.Entry.{Entry}
 use Rattle.compound_node.specs.declared.entries.Entry.TheVariants.{Node}
 use Rattle.pieces.specs.Piece.{size}
+use Rattle.tries.specs.Keys.{Key}
 use Rattle.tries.specs.Tree.{Page}
 use Rattle.moments.specs.State.{Past}
 use Rattle.rowex_core.specs.declared.known.Known.{Known}
 use Rattle.rowex_core.specs.Cores.{Core, IsLawful}
 use Rattle.rowex_core.specs.Knowing.{IsSince, Recalls}
-use Rattle.rowex_walks.specs.Scan.{IsSeen, IsRooted, IsBlank, IsShaped}
+use Rattle.rowex_walks.specs.Scan.{IsSeen, IsRooted, IsBlank, IsRead, IsShaped}
 
 -- the moments that the pass has seen, of those of a core: up to the one after the changes of its front
 abbrev pub seen : Core → Known → Past
@@ -47,3 +48,8 @@ HasRoom s m n i = (x : Page) × IsShaped s m n x × (i < size x)
 -- it was led to the node, which has an entry at this place
 abbrev pub HasPlace : Known → ℕ → ℕ → ℕ → ℕ → Type 0
 HasPlace k m n h i = IsLedTo k m (Node n h) × Sure k (λ s. HasRoom s m n i)
+
+-- The leaf stood with this key and this value; where there is no value, with another key.
+abbrev pub IsCompared : Past → ℕ → ℕ → Key → Option ℕ → Type 0
+IsCompared s m n key (Some value) = IsRead s m n key value
+IsCompared s m n key None = (other : Key) × (value : ℕ) × IsRead s m n other value × (key ≢ other)

@@ -4,7 +4,7 @@ ghost use Rattle.std.specs.Prelude.{IsSome};
 ghost use Rattle.rowex_table.specs.Seats.{IsSeatOf};
 ghost use Rattle.rowex_reading.specs.Lookups.{HasFound, HasSearched};
 
-use crate::reading::{load_entry, load_head, load_leaf, load_root};
+use crate::reading::{load_entry, load_head, load_root, load_value};
 use compound_node::Entry;
 use key_bits::Key;
 use rowex_core::Gate;
@@ -25,10 +25,7 @@ pub fn look_up<G: Gate>(
     let mut entry = load_root(table, seat, gate)?;
     loop {
         match entry {
-            Entry::Leaf(number) => {
-                let leaf = load_leaf(table, seat, gate, number);
-                return if leaf.0 == *key { Some(leaf.1) } else { None };
-            }
+            Entry::Leaf(number) => return load_value(table, seat, gate, number, key),
             Entry::Node { number, .. } => {
                 let head = load_head(table, seat, gate, number);
                 let place = head.search(key);

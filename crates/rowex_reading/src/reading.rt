@@ -7,14 +7,14 @@ ghost use Rattle.compound_node.specs.declared.entries.Entry.TheVariants.{Leaf as
 ghost use Rattle.record_words.specs.declared.TheConstants.{HEAD_WORDS, LEAF_FIELDS};
 ghost use Rattle.rowex_walks.specs.Scan.{IsShaped, IsPlaced, IsRead};
 ghost use Rattle.rowex_reading.specs.Reads.{IsReader, Reads, ReadsRoot, head_loads, leaf_loads};
-ghost use Rattle.rowex_reading.specs.Seen.{Sure, RootIs, IsLedTo, HasPlace, shape_of};
+ghost use Rattle.rowex_reading.specs.Seen.{Sure, RootIs, IsCompared, IsLedTo, HasPlace, shape_of};
 ghost use Rattle.rowex_table.specs.Seats.{IsSeatOf};
 
 use compound_node::{Entry, Head};
 use key_bits::Key;
 use record_words::{
-    FIRST_ROWS, HEAD_WORDS, LEAF_FIELDS, key_words, position_words, read_entry, read_head,
-    read_leaf, row_words,
+    FIRST_ROWS, HEAD_WORDS, LEAF_FIELDS, key_word_at, key_words, position_words, read_entry,
+    read_head, read_leaf, row_words,
 };
 use rowex_core::{Gate, Rec, Spot};
 use rowex_table::{HotTable, TableSeat};
@@ -107,4 +107,34 @@ pub fn load_leaf<G: Gate>(
         words[index] = table.load_fixed_from(seat, gate, rec, start, index as u8 + 1);
     }
     read_leaf(&words)
+}
+
+/// Loads the value of a leaf that has this key: the length of its key first, the words with bytes of that as long as they are
+/// the key's own, and then the value. None where one of them is not, for the leaf has another key then.
+pub fn load_value<G: Gate>(
+    table: &HotTable,
+    seat: &mut TableSeat,
+    gate: &mut G,
+    number: u32,
+    key: &Key,
+) -> Option<u64>
+    requires reader { IsReader table.now seat.old }
+    requires led { (m : ℕ) × IsLedTo seat.old.known m (LeafEntry number) }
+    ensures reads { (n : ℕ) × (n ≤ LEAF_FIELDS) × Reads table.now G.becomes n (seat.old, gate.old) (seat.new, gate.new) }
+    ensures leaf { (m : ℕ) → IsLedTo seat.old.known m (LeafEntry number) → Sure seat.new.known (λ s. IsCompared s m number key.now result) }
+{
+    let rec = Rec::Leaf(number);
+    let start = table.start_of(rec);
+    let length = key.as_bytes().len() as u64;
+    if table.load_fixed_from(seat, gate, rec, start, 2) != length {
+        return None;
+    }
+    let end = 2 + key_words(length);
+    for index in 2..end {
+        let word = table.load_fixed_from(seat, gate, rec, start, index as u8 + 1);
+        if word != key_word_at(key, index - 2) {
+            return None;
+        }
+    }
+    Some(table.load_fixed_from(seat, gate, rec, start, 1))
 }

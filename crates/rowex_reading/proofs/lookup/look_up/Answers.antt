@@ -1,9 +1,8 @@
 -- The empty root, the root's entry, one node down, and the leaf.
 use Rattle.std.proofs.Common.{◌<◌, refl, sym, subst}
-use Rattle.std.proofs.lemmas.Bool.{false≢true}
 use Rattle.compound_node.specs.Nodes.{height_of}
 use Rattle.rowex_reading.specs.Seen.{since}
-use Rattle.rowex_reading.proofs.Looking.{none_searched, none_found, at_root, at_led, at_place, at_next, leaf_searched, leaf_held, leaf_absent}
+use Rattle.rowex_reading.proofs.Looking.{none_searched, none_found, at_root, at_led, at_place, at_next, leaf_searched, leaf_found}
 use Rattle.rowex_reading.proofs.Led.{reader_then, root_reader}
 use Rattle.rowex_reading.proofs.Seeing.{search_spot}
 use Rattle.rowex_reading.proofs.lookup.look_up.Goals as goal
@@ -53,21 +52,13 @@ loop-entry-preserved g c =
       at = at_next i.at c.in-Node.number c.in-Node.height c.load_head-head.result c.search-place.result c.in-Node.is e.few e.reads e.head leads c.load_entry-entry.result c.load_entry-entry.ensures.reads entry;
     }
 
-pub load_leaf-leaf-requires-clause-led : goal.load_leaf-leaf-requires-clause-led
-load_leaf-leaf-requires-clause-led g c = (since c.loop-entry.seat.known, at_led c.loop-entry.invariant.at _ c.in-Leaf.is)
+pub load_value-requires-clause-led : goal.load_value-requires-clause-led
+load_value-requires-clause-led g c = (since c.loop-entry.seat.known, at_led c.loop-entry.invariant.at _ c.in-Leaf.is)
 
-pub returns-then-eq : goal.returns-then-eq
-returns-then-eq g c =
-    let e = c.load_leaf-leaf.ensures in let l = c.load_leaf-leaf.result in
+pub returns-in-Leaf : goal.returns-in-Leaf
+returns-in-Leaf g c =
+    let e = c.load_value.ensures in
     record {
-      searched = leaf_searched c.loop-entry.invariant.at c.in-Leaf.number c.in-Leaf.is e.few e.reads l.0 l.1 e.leaf;
-      found = leaf_held c.loop-entry.invariant.at c.in-Leaf.number c.in-Leaf.is e.few e.reads l.0 l.1 e.leaf (c.if-eq.ensures.same.0 refl);
-    }
-
-pub returns-else-eq : goal.returns-else-eq
-returns-else-eq g c =
-    let e = c.load_leaf-leaf.ensures in let l = c.load_leaf-leaf.result in
-    record {
-      searched = leaf_searched c.loop-entry.invariant.at c.in-Leaf.number c.in-Leaf.is e.few e.reads l.0 l.1 e.leaf;
-      found = leaf_absent c.loop-entry.invariant.at c.in-Leaf.number c.in-Leaf.is e.few e.reads l.0 l.1 e.leaf (λ e. false≢true (c.if-eq.ensures.same.1 e));
+      searched = leaf_searched c.loop-entry.invariant.at c.in-Leaf.number c.in-Leaf.is e.reads.1 e.reads.2;
+      found = leaf_found c.loop-entry.invariant.at c.in-Leaf.number c.in-Leaf.is e.reads.1 e.reads.2 c.load_value.result e.leaf;
     }

@@ -1,0 +1,79 @@
+-- The length, one word more, a word that is another key's, and the value.
+use Rattle.std.proofs.Common.{◌≡◌, ◌+◌, ◌-◌, ◌<◌, ◌≤◌, ◌∙◌, length, ap, sym, subst, arith, lit≤, rules}
+use Rattle.compound_node.specs.declared.entries.Entry.TheVariants.{Leaf}
+use Rattle.moments.specs.declared.Rec.TheVariants.{Leaf as a_leaf}
+use Rattle.record_words.specs.declared.TheConstants.{LEAF_FIELDS}
+use Rattle.record_words.specs.Leaf.{words_of_key}
+use Rattle.rowex_core.specs.declared.event.Act.TheVariants.{LoadFixed}
+use Rattle.rowex_reading.specs.Reads.{Reads}
+use Rattle.rowex_reading.proofs.Comparing.{IsKeyWord, byte_word, first_same, length_word, next_same, other_key, same_key}
+use Rattle.rowex_reading.proofs.Led.{reader_then, reads_one, reads_trans}
+use Rattle.rowex_reading.proofs.Standing.{led_in_table}
+use Rattle.rowex_reading.proofs.Wording.{none_loaded}
+use Rattle.rowex_reading.proofs.reading.load_value.Goals as goal
+
+pub start_of-start-requires : goal.start_of-start-requires
+start_of-start-requires g c = let l = c.requires.led in led_in_table c.args.table.now.layout c.args.seat.now.known l.0 (Leaf c.args.number) c.requires.reader.1 l.1
+
+pub returns-then-load_fixed_from-length-clause-reads : goal.returns-then-load_fixed_from-length-clause-reads
+returns-then-load_fixed_from-length-clause-reads g c = (1, omega arith, reads_one (LoadFixed (a_leaf c.args.number) 2 c.load_fixed_from.result) tt c.load_fixed_from.ensures)
+
+pub returns-then-load_fixed_from-length-clause-leaf : goal.returns-then-load_fixed_from-length-clause-leaf
+returns-then-load_fixed_from-length-clause-leaf g c = λ m led.
+    other_key _ _ c.args.number c.args.key.now m led _ _ 1 c.load_fixed_from.result _ (none_loaded c.args.seat.now.known (a_leaf c.args.number) _) (omega arith) (omega arith) c.load_fixed_from.ensures.event
+    (λ e. c.if-load_fixed_from-length.true (e ∙ (length_word c.args.key.now ∙ sym (ap length c.as_bytes.ensures.bytes))))
+
+pub loop-index-init : goal.loop-index-init
+loop-index-init g c =
+    let l = c.requires.led in
+    let one = reads_one (LoadFixed (a_leaf c.args.number) 2 c.load_fixed_from.result) tt c.load_fixed_from.ensures in
+    let size = ap length c.as_bytes.ensures.bytes in
+    let short = c.as_bytes.ensures.key.short in
+    record {
+      reader = reader_then c.requires.reader one;
+      end_is = omega (arith, c.key_words-end.ensures, size);
+      fits = omega (arith, c.key_words-end.ensures, size, short);
+      reads = one;
+      loaded = first_same _ _ c.args.number c.args.key.now l.0 l.1 _ c.load_fixed_from.result c.load_fixed_from.ensures.event (omega (arith, size, c.if-load_fixed_from-length.false));
+    }
+
+pub returns-then-word-key_word_at-clause-reads : goal.returns-then-word-key_word_at-clause-reads
+returns-then-word-key_word_at-clause-reads g c =
+    let i = c.loop-index.invariant in
+    let one = reads_one (LoadFixed (a_leaf c.args.number) (c.loop-index.index + 1) c.load_fixed_from-word.result) tt c.load_fixed_from-word.ensures in
+    (c.loop-index.index - 1 + 1, omega (arith, i.fits, c.loop-index-test.true, c.loop-index.auto.index), reads_trans i.reads one)
+
+pub returns-then-word-key_word_at-clause-leaf : goal.returns-then-word-key_word_at-clause-leaf
+returns-then-word-key_word_at-clause-leaf g c = λ m led.
+    let i = c.loop-index.invariant in
+    let low : c.loop-index.index < LEAF_FIELDS = omega (arith, i.fits, c.loop-index-test.true) in
+    other_key _ _ c.args.number c.args.key.now m led _ _ c.loop-index.index c.load_fixed_from-word.result _ i.loaded (omega (arith, c.loop-index.auto.index)) low c.load_fixed_from-word.ensures.event
+    (λ e. c.if-word-key_word_at.true (e ∙ (byte_word c.args.key.now c.loop-index.index c.loop-index.auto.index low ∙ sym c.key_word_at.ensures)))
+
+pub loop-index-preserved : goal.loop-index-preserved
+loop-index-preserved g c =
+    let l = c.requires.led in
+    let i = c.loop-index.invariant in
+    let one = reads_one (LoadFixed (a_leaf c.args.number) (c.loop-index.index + 1) c.load_fixed_from-word.result) tt c.load_fixed_from-word.ensures in
+    let low : c.loop-index.index < LEAF_FIELDS = omega (arith, i.fits, c.loop-index-test.true) in
+    record {
+      reader = reader_then i.reader one;
+      end_is = i.end_is;
+      fits = i.fits;
+      reads = subst (λ n. Reads c.args.table.now g.G.Gate.becomes n (c.args.seat.now, c.args.gate.now) (c.load_fixed_from-word.new.seat, c.load_fixed_from-word.new.gate)) (omega (arith, c.loop-index.auto.index)) (reads_trans i.reads one);
+      loaded = next_same _ _ c.args.number c.args.key.now l.0 l.1 _ _ c.loop-index.index c.load_fixed_from-word.result i.loaded low c.load_fixed_from-word.ensures.event
+          (c.if-word-key_word_at.false ∙ (c.key_word_at.ensures ∙ sym (byte_word c.args.key.now c.loop-index.index c.loop-index.auto.index low)));
+    }
+
+pub returns-clause-reads : goal.returns-clause-reads
+returns-clause-reads g c =
+    let i = c.loop-index.invariant in
+    let one = reads_one (LoadFixed (a_leaf c.args.number) 1 c.load_fixed_from-2.result) tt c.load_fixed_from-2.ensures in
+    (c.loop-index.index - 1 + 1, omega (arith, i.fits, c.loop-index-test.false, c.loop-index.auto.index, c.loop-index.auto.index-end), reads_trans i.reads one)
+
+pub returns-clause-leaf : goal.returns-clause-leaf
+returns-clause-leaf g c = λ m led.
+    let i = c.loop-index.invariant in
+    let one = reads_one (LoadFixed (a_leaf c.args.number) 1 c.load_fixed_from-2.result) tt c.load_fixed_from-2.ensures in
+    same_key _ _ c.args.number c.args.key.now m led _ _ c.loop-index.index c.load_fixed_from-2.result (reader_then i.reader one).1 i.loaded
+    (omega (arith, i.end_is, c.loop-index-test.false, c.loop-index.auto.index-end)) c.load_fixed_from-2.ensures.event (record { key = c.as_bytes.ensures.key; value = search rules })

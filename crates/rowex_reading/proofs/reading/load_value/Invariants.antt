@@ -1,0 +1,18 @@
+-- The words so far are those of the key.
+use Rattle.std.proofs.Common.{◌≡◌, ℕ, ◌+◌, ◌-◌, ◌≤◌, length}
+use Rattle.moments.specs.declared.Rec.TheVariants.{Leaf as a_leaf}
+use Rattle.record_words.specs.declared.TheConstants.{LEAF_FIELDS}
+use Rattle.record_words.specs.Leaf.{words_of_key}
+use Rattle.rowex_reading.specs.Reads.{IsReader, Reads}
+use Rattle.rowex_reading.proofs.Comparing.{IsKeyWord, words_with}
+use Rattle.rowex_reading.proofs.Wording.{AreLoaded}
+use Rattle.rowex_reading.proofs.reading.load_value.Given as goal
+
+abbrev pub invariant-loop-index : goal.invariant-loop-index
+invariant-loop-index g l = record {
+  reader : IsReader l.table l.seat;
+  end_is : l.end ≡ 2 + words_of_key (length l.key);
+  fits : l.end ≤ LEAF_FIELDS;
+  reads : Reads l.table g.G.Gate.becomes (l.index - 1) (l.fn.seat, l.fn.gate) (l.seat, l.gate);
+  loaded : AreLoaded l.fn.seat.known l.seat.known (a_leaf l.number) (IsKeyWord l.index) (words_with l.key);
+}
