@@ -7,7 +7,7 @@ use crate::gates::Recorder;
 use crate::made::key;
 use hot_index::{Given, Index, IndexFault, Pass, Reply, create};
 use key_bits::Key;
-use record_words::{LayoutFault, pack_leaf};
+use record_words::LayoutFault;
 use rowex_core::{Act, Rec, Spot};
 use std::alloc::{AllocError, Global};
 use std::process::Abort;
@@ -121,12 +121,13 @@ fn events_of_gets(rt: HostRuntime) -> Result<(), Fail> {
     assert!(rt; gate.was_told(0, &acts_of_get(rt.alloc(), 0, &[])?));
     assert!(rt; index.try_insert(&mut pass, &key, 77) == Ok(Reply::Inserted));
     assert!(rt; index.get_with(&mut pass, &key, &mut gate) == Some(77));
-    assert!(rt; gate.was_told(0, &acts_of_get(rt.alloc(), 1, &pack_leaf(&key, 77)[..3])?));
+    let words = [(2, 2), (3, 0x6162 << 48), (1, 77)];
+    assert!(rt; gate.was_told(0, &acts_of_get(rt.alloc(), 1, &words)?));
     Ok(())
 }
 
-/// The acts of a get of pass 0 that finds this root, and then loads these words of leaf 0.
-fn acts_of_get(alloc: Global, root: u64, words: &[u64]) -> Result<Vec<Act>, AllocError> {
+/// The acts of a get of pass 0 that finds this root, and then loads these words of leaf 0, each with its offset.
+fn acts_of_get(alloc: Global, root: u64, words: &[(u8, u64)]) -> Result<Vec<Act>, AllocError> {
     let mut acts = Vec::new(alloc);
     acts.push(Act::LoadEpoch { word: 1 })?;
     acts.push(Act::SetPin { word: 1 })?;
@@ -134,10 +135,10 @@ fn acts_of_get(alloc: Global, root: u64, words: &[u64]) -> Result<Vec<Act>, Allo
         spot: Spot::Root,
         word: root,
     })?;
-    for (offset, word) in (1..=u8::MAX).zip(words.iter()) {
+    for (offset, word) in words {
         acts.push(Act::LoadFixed {
             rec: Rec::Leaf(0),
-            offset,
+            offset: *offset,
             word: *word,
         })?;
     }
