@@ -34,6 +34,7 @@ impl Head {
     ghost use Rattle.std.specs.Prelude.{◌≡◌, ℕ, ◌↔◌, ◌+◌, ◌<◌, ◌≤◌, IsSome, IfSome, length, slice_index, take};
     ghost use Rattle.compound_node.specs.Nodes.{AgreeBefore, InEachNode, IsHead, IsLawful, leaves, node_of, piece};
     ghost use Rattle.key_bits.specs.Bits.{bit_of};
+    ghost use Rattle.partial_keys.specs.Rows.{with_unused};
     ghost use Rattle.pieces.specs.Changes.{AtRootFork};
     ghost use Rattle.pieces.specs.Growth.{affected_count, affected_first};
     ghost use Rattle.pieces.specs.Piece.{leads_to};
@@ -154,6 +155,13 @@ impl Head {
         ensures { result.now ≡ self.now.rows }
     {
         &self.sparse[..self.count as usize]
+    }
+
+    /// The rows at the first of 32 places, and 4,294,967,295 at the unused ones.
+    pub(crate) fn places(&self) -> &[u32; 32]
+        ensures { result.now ≡ with_unused self.now.rows }
+    {
+        &self.sparse
     }
 
     /// The word at a place, used or unused.

@@ -34,6 +34,7 @@ impl Node {
     ghost use Rattle.compound_node.specs.Halves.{CutShows, HalfShows};
     ghost use Rattle.compound_node.specs.Nodes.{AgreeBefore, IsBuiltFrom, IsEntry, IsLawful, IsNode, StandsBelow, head_of, node_from, node_of, piece};
     ghost use Rattle.key_bits.specs.Bits.{bit_of};
+    ghost use Rattle.partial_keys.specs.Rows.{with_unused};
     ghost use Rattle.pieces.specs.Changes.{AtRootFork, without};
     ghost use Rattle.pieces.specs.Changes.{replaced as replaced_place};
     ghost use Rattle.pieces.specs.Growth.{IsAffected, affected_count, affected_first, grown};
@@ -108,6 +109,13 @@ impl Node {
         ensures unused { length self.now.rows ≤ i → result ≡ 4294967295 }
     {
         self.head.word(i)
+    }
+
+    /// The sparse partial keys at the first of 32 places, and 4,294,967,295 at the unused ones.
+    pub fn sparse_places(&self) -> &[u32; 32]
+        ensures { result.now ≡ with_unused self.now.rows }
+    {
+        self.head.places()
     }
 
     /// What the node has at a place.

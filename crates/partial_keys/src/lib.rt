@@ -46,7 +46,7 @@ impl Columns {
     ghost use Rattle.key_bits.specs.Bits.{bit_of};
     ghost use Rattle.pieces.specs.Kept.{kept};
     ghost use Rattle.pieces.specs.Positions.{front_below, has, with_position};
-    ghost use Rattle.partial_keys.specs.Columns.{HoldsColumns, IsColumns};
+    ghost use Rattle.partial_keys.specs.Columns.{HoldsColumns, IsColumns, with_free};
     ghost use Rattle.partial_keys.specs.Rows.{dense_of};
     ghost use Rattle.partial_keys.specs.Squeezed.{used_bits};
 
@@ -75,6 +75,13 @@ impl Columns {
         ensures columns { IsColumns self.now }
     {
         &self.positions[..self.count as usize]
+    }
+
+    /// The positions at the first of 31 places, and 65,535 at the unused ones.
+    pub fn places(&self) -> &[u16; 31]
+        ensures { result.now ≡ with_free self.now }
+    {
+        &self.positions
     }
 
     /// How many columns there are, 1 to 31.
