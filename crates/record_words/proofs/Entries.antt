@@ -38,13 +38,6 @@ pub entry_words_made : (entries : List Entry) (words : List ℕ) → length word
 unfolding entry_words
 entry_words_made entries words whole same = sym (fill_by_all (λ i. entry_word (slice_get entries i)) words 32 0 whole same)
 
--- up to 32 entries have words where each of 32 places has one
-pub entries_fit : (entries : List Entry) → length entries ≤ 32 → ((i : ℕ) → i < 32 → HasEntryWord (slice_get entries i)) → HaveEntryWords entries
-entries_fit entries room fit = record {
-  room = room;
-  each = λ i. ⊎_elim (fit i) (λ (past : 32 ≤ i). rw (slice_get_past entries i (omega (arith, room))) tt) (cases_lt i 32);
-}
-
 -- the words decide the entries
 pub same_entries : (xs ys : List Entry) (words : List ℕ) → HaveEntryWords xs → HaveEntryWords ys → entry_words xs ≡ words → entry_words ys ≡ words → xs ≡ ys
 same_entries xs ys words has_x has_y same_x same_y = same_elements xs ys (λ i. ⊎_elim

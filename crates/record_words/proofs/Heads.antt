@@ -109,9 +109,3 @@ head_read fixed words head reading is same_head =
     let its_head : head_of node ≡ head = ap (λ n. head_from (record fixed { count = n })) is.1 ∙ sym same_head in
     reads_one head (node, is.2.lawful, its_head) (ap head_words same_head ∙ (words_from fixed reading.spelling.0 is ∙ reading.spelling.1))
     (λ other has same. same_head ∙ (ap head_from (numbers_read fixed words has.0 reading has.1 (ap head_words has.2 ∙ same)) ∙ (head_from-numbers has.0 ∙ has.2)))
-
--- ---- packing a head
-pub head_packed : (node : NodeView) (count height : ℕ) (columns sparse : List ℕ) → IsLawful node → count ≡ length node.entries → height ≡ node.height → columns ≡ node.columns → sparse ≡ with_unused node.rows →
-    fixed_words count height columns sparse ≡ head_words (head_of node)
-head_packed node count height columns sparse lawful counts heights columns_are sparse_is =
-    rw (counts ∙ sym (same_count node lawful), heights, columns_are, sparse_is) (words_of-numbers node)

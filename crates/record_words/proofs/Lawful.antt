@@ -1,7 +1,7 @@
 -- What the fixed words need of a lawful node.
 use Rattle.std.proofs.Common.{ℕ, ◌≡◌, ◌-◌, ◌^◌, ◌<◌, ◌≤◌, ◌++◌, ⊎_elim, arith, List, [], ◌∷◌, get_or, length, replicate, lit<, sym, ◌∙◌, refl, zero, suc, length-append}
 use Rattle.std.proofs.lemmas.Bool.{cases_lt}
-use Rattle.std.proofs.lemmas.List.{length-map, length-replicate, get_or-map, get_or_past, ext_get_or, get_or_append_left, get_or-append_right, get_or-replicate}
+use Rattle.std.proofs.lemmas.List.{length-map, length-replicate, get_or-map, get_or_past, get_or_append_left, get_or-append_right, get_or-replicate}
 use Rattle.key_bits.proofs.Gathering.{code-lt}
 use Rattle.pieces.specs.Positions.{AllBelow}
 use Rattle.pieces.specs.Piece.{paths}
@@ -39,12 +39,3 @@ row_at-with_unused rows i = get_or-padded rows (32 - length rows) 4294967295 i
 
 pub length-with_unused : (rows : List ℕ) → length rows ≤ 32 → length (with_unused rows) ≡ 32
 length-with_unused rows room = length-append rows _ ∙ omega (arith, length-replicate {A = ℕ} (32 - length rows) 4294967295)
-
--- 32 rows are those of a node with the unused places, where they are so at each place
-pub with_unused_made : (rows sparse : List ℕ) → length rows ≤ 32 → length sparse ≡ 32 → ((i : ℕ) → i < length rows → get_or sparse i 0 ≡ get_or rows i 0) → ((i : ℕ) → length rows ≤ i → i < 32 → get_or sparse i 0 ≡ 4294967295) → sparse ≡ with_unused rows
-with_unused_made rows sparse room whole used unused =
-    ext_get_or 0 sparse (with_unused rows) (whole ∙ sym (length-with_unused rows room))
-    (λ i h. ⊎_elim (λ (inside : i < length rows). used i inside ∙ sym (get_or_append_left rows _ 0 i inside))
-    (λ (past : length rows ≤ i). unused i past (omega (arith, whole))
-    ∙ sym (get_or-append_right rows _ (length rows) i 0 refl past ∙ get_or-replicate (32 - length rows) (i - length rows) 4294967295 0 (omega (arith, whole))))
-    (cases_lt i (length rows)))

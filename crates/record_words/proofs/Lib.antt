@@ -14,3 +14,4 @@ pub mod Readings
 pub mod Spelled
 pub mod Spellings
 pub mod Unused
+pub mod Written

@@ -1,8 +1,7 @@
 -- A node against its words.
 use Rattle.std.proofs.Common.{ℕ, ◌≡◌, ◌+◌, ◌<◌, ◌++◌, arith, List, Ok, Err, get_or, length, take, drop, ◌≢◌, refl, sym, ap, ◌∙◌, length-append}
 use Rattle.std.specs.Prelude.{Result, IsErr, slice_get}
-use Rattle.std.proofs.lemmas.List.{take_at, drop_at, take_all, drop_all, append-nil, take-append-drop, length-drop, get_or_append_left, get_or-append_right}
-use borrow.Rule.Slice.PartMut.{put_mid}
+use Rattle.std.proofs.lemmas.List.{take_at, drop_at, take_all, take-append-drop, length-drop, get_or_append_left, get_or-append_right}
 use Rattle.arrayvec.specs.ArrayVec.{ArrayVec}
 use Rattle.compound_node.specs.declared.entries.Entry.{Entry}
 use Rattle.compound_node.specs.Nodes.{NodeView, HeadView, IsLawful, IsNode, head_of, node_of, node_from}
@@ -34,13 +33,6 @@ entry_part node words same =
 
 both_parts : (words : List ℕ) → length words ≡ 57 → take 25 words ++ take 32 (drop 25 words) ≡ words
 both_parts words whole = ap (λ rest. take 25 words ++ rest) (take_all 32 (drop 25 words) (omega (arith, length-drop 25 words))) ∙ take-append-drop 25 words
-
--- the words of both parts, written one after the other
-pub parts_written : (head free entries : List ℕ) → length head ≡ 25 → length free ≡ 32 → put_mid 25 32 (head ++ free) entries ≡ head ++ entries
-parts_written head free entries long wide =
-    ap (λ front. front ++ (entries ++ drop 32 (drop 25 (head ++ free)))) (take_at head free 25 long)
-    ∙ (ap (λ rest. head ++ (entries ++ drop 32 rest)) (drop_at head free 25 long)
-    ∙ (ap (λ rest. head ++ (entries ++ rest)) (drop_all 32 free (omega arith)) ∙ ap (λ all. head ++ all) (append-nil entries)))
 
 -- ---- what stands at each offset
 pub length-node_words : (node : NodeView) → length (node_words node) ≡ 57

@@ -10,7 +10,7 @@ use Rattle.record_words.proofs.Fixing.{fixed_words_parts}
 use Rattle.record_words.proofs.Leaves.{leaf_words_parts}
 
 -- each of a list of zeros is 0, and so is what stands past them
-zero_in : (n i : ℕ) → get_or (replicate {A = ℕ} n 0) i 0 ≡ 0
+pub zero_in : (n i : ℕ) → get_or (replicate {A = ℕ} n 0) i 0 ≡ 0
 zero_in n i = ⊎_elim (λ (inside : i < n). get_or-replicate {A = ℕ} n i 0 0 inside)
     (λ (past : n ≤ i). get_or_past (replicate n 0) i 0 (omega (arith, past, length-replicate {A = ℕ} n 0))) (cases_lt i n)
 

@@ -1,7 +1,7 @@
 //! The fixed words of a node: all but its state and its entries.
 
 ghost use Rattle.std.specs.Prelude.{◌≡◌, ℕ, ◌+◌, ◌*◌, ◌<◌, ◌≤◌, ◌↔◌, IsTrue, EachIndex, length, slice_index, slice_index_or};
-ghost use Rattle.record_words.specs.Packed.{ArePositionsOf, AreRowsOf, fixed_word, fixed_words, position_at, position_word, row_at, row_word};
+ghost use Rattle.record_words.specs.Packed.{ArePositionsOf, AreRowsOf, meta_word, position_at, position_word, row_word};
 ghost use Rattle.record_words.specs.Node.{InNodesOf};
 ghost use Rattle.partial_keys.specs.Columns.{with_free};
 ghost use Rattle.partial_keys.specs.Rows.{with_unused};
@@ -71,61 +71,36 @@ pub(crate) fn read_rows(words: &[u64]) -> [u32; MAX_ENTRIES]
     rows
 }
 
-/// The fixed words of these numbers, in the order of their offsets.
-pub(crate) fn pack_fixed(count: u8, height: u16, columns: &[u16], rows: &[u32]) -> [u64; HEAD_WORDS]
-    requires { length columns.now ≤ 31 }
-    ensures { result ≡ fixed_words count height columns.now rows.now }
+/// The number of entries, the number of columns and the stored height in a word.
+pub(crate) fn word_of_numbers(count: u8, columns: u8, height: u16) -> u64
+    ensures { result ≡ meta_word count columns height }
 {
-    let mut words = [0; HEAD_WORDS];
-    for i in 0..HEAD_WORDS {
-        words[i] = word_at(count, height, columns, rows, i + 1);
-    }
-    words
-}
-
-/// The fixed word at an offset.
-fn word_at(count: u8, height: u16, columns: &[u16], rows: &[u32], offset: usize) -> u64
-    requires few { length columns.now ≤ 31 }
-    requires in_range { offset ≤ HEAD_WORDS }
-    ensures { result ≡ fixed_word count height columns.now rows.now offset }
-{
-    match offset {
-        0 | 1 => count as u64 + 256 * columns.len() as u64 + 65_536 * height as u64,
-        2..=9 => word_of_positions(columns, offset - 2),
-        _ => word_of_rows(rows, offset - 10),
-    }
+    count as u64 + 256 * columns as u64 + 65_536 * height as u64
 }
 
 /// Four positions in a word, the first in its lowest bits.
-fn word_of_positions(columns: &[u16], j: usize) -> u64
+pub(crate) fn word_of_places(places: &[u16; 31], j: usize) -> u64
     requires { j < 8 }
-    ensures { result ≡ position_word columns.now j }
+    ensures { result ≡ position_word places.now j }
 {
-    let low = position(columns, 4 * j) as u64 + ((position(columns, 4 * j + 1) as u64) << 16);
-    let high = position(columns, 4 * j + 2) as u64 + ((position(columns, 4 * j + 3) as u64) << 16);
+    let low = place(places, 4 * j) as u64 + ((place(places, 4 * j + 1) as u64) << 16);
+    let high = place(places, 4 * j + 2) as u64 + ((place(places, 4 * j + 3) as u64) << 16);
     low + (high << 32)
 }
 
+/// The position at a place, or what stands past the last one.
+fn place(places: &[u16; 31], at: usize) -> u16
+    ensures { result ≡ position_at places.now at }
+{
+    if at < 31 { places[at] } else { u16::MAX }
+}
+
 /// Two sparse partial keys in a word, the first in its low half.
-fn word_of_rows(rows: &[u32], j: usize) -> u64
+pub(crate) fn word_of_rows(rows: &[u32; MAX_ENTRIES], j: usize) -> u64
     requires { j < 16 }
     ensures { result ≡ row_word rows.now j }
 {
-    row(rows, 2 * j) as u64 + ((row(rows, 2 * j + 1) as u64) << 32)
-}
-
-/// The position of a column, or what stands past the last one.
-fn position(columns: &[u16], at: usize) -> u16
-    ensures { result ≡ position_at columns.now at }
-{
-    columns.get(at).copied().unwrap_or(u16::MAX)
-}
-
-/// The sparse partial key of an entry, or what stands past the last one.
-fn row(rows: &[u32], at: usize) -> u32
-    ensures { result ≡ row_at rows.now at }
-{
-    rows.get(at).copied().unwrap_or(u32::MAX)
+    rows[2 * j] as u64 + ((rows[2 * j + 1] as u64) << 32)
 }
 
 /// The positions that have these words.

@@ -1,16 +1,15 @@
 //! The words of a node record.
 
 ghost use Rattle.std.specs.Prelude.{◌≡◌, ℕ, List, ◌<◌, ◌≤◌, ◌/◌, ◌%◌, length, slice_get, slice_index};
-ghost use Rattle.partial_keys.specs.Rows.{with_unused};
-ghost use Rattle.record_words.specs.Entry.{HasEntryWord};
+ghost use Rattle.record_words.specs.Entry.{HasEntryWord, entry_word};
 ghost use Rattle.record_words.specs.Node.{HasHeadWords, HasNodeWords, HaveEntryWords, entry_words, head_words, node_words};
 ghost use Rattle.record_words.specs.Packed.{words_of_positions, words_of_rows};
 ghost use Rattle.record_words.specs.Reading.{IsReading, IsSpelledBy, IsSpelling};
 ghost use Rattle.compound_node.specs.declared.entries.Entry.{Entry as NodeEntry};
 
 use crate::entry::{pack_entry, read_entry, unpack_entry};
-use crate::fixed::{Fixed, pack_fixed, read_places, read_rows};
-use crate::{HEAD_WORDS, MAX_ENTRIES, NODE_FIELDS, WordFault};
+use crate::fixed::{Fixed, read_places, read_rows, word_of_numbers, word_of_places, word_of_rows};
+use crate::{FIRST_ROWS, HEAD_WORDS, MAX_ENTRIES, NODE_FIELDS, WordFault};
 use arrayvec::ArrayVec;
 use compound_node::{Entry, Head, Node};
 use partial_keys::Columns;
@@ -20,11 +19,20 @@ pub fn pack_node(node: &Node) -> [u64; NODE_FIELDS]
     ensures words { result ≡ node_words node.now }
     ensures fits { HasNodeWords node.now }
 {
-    let columns = node.columns().as_slice();
-    let head = pack_fixed(node.count(), node.height(), columns, &sparse_of(node));
+    let columns = node.columns();
+    let places = columns.places();
+    let rows = node.sparse_places();
     let mut words = [0; NODE_FIELDS];
-    words[..HEAD_WORDS].copy_from_slice(&head);
-    words[HEAD_WORDS..].copy_from_slice(&entry_words_of(node));
+    words[0] = word_of_numbers(node.count(), columns.count(), node.height());
+    for j in 0..8 {
+        words[1 + j] = word_of_places(places, j);
+    }
+    for k in 0..16 {
+        words[FIRST_ROWS + k] = word_of_rows(rows, k);
+    }
+    for i in 0..node.count() {
+        words[HEAD_WORDS + i as usize] = entry_word_at(node, i);
+    }
     words
 }
 
@@ -124,39 +132,13 @@ fn read_entries(words: &[u64], count: u8) -> ArrayVec<Entry, MAX_ENTRIES>
     entries
 }
 
-/// A node's sparse partial keys, with the unused places.
-fn sparse_of(node: &Node) -> [u32; MAX_ENTRIES]
-    ensures { result ≡ with_unused node.now.rows }
+/// The word of an entry of a node.
+fn entry_word_at(node: &Node, i: u8) -> u64
+    requires { i < length node.now.entries }
+    ensures word { result ≡ entry_word (slice_get node.now.entries i) }
+    ensures fits { HasEntryWord (slice_get node.now.entries i) }
 {
-    let mut sparse = [u32::MAX; MAX_ENTRIES];
-    for i in 0..node.count() {
-        sparse[i as usize] = node.sparse(i);
-    }
-    sparse
-}
-
-/// The entry words of a node.
-fn entry_words_of(node: &Node) -> [u64; MAX_ENTRIES]
-    ensures words { result ≡ entry_words node.now.entries }
-    ensures fit { (i : ℕ) → i < MAX_ENTRIES → HasEntryWord (slice_get node.now.entries i) }
-{
-    let mut words = [0; MAX_ENTRIES];
-    for i in 0..MAX_ENTRIES {
-        words[i] = pack_entry(entry_at(node, i as u8));
-    }
-    words
-}
-
-/// The entry at a place, or none past the last one.
-fn entry_at(node: &Node, at: u8) -> Option<Entry>
-    ensures value { result ≡ slice_get node.now.entries at }
-    ensures fits { HasEntryWord result }
-{
-    if at < node.count() {
-        Some(node.entry(at))
-    } else {
-        None
-    }
+    pack_entry(Some(node.entry(i)))
 }
 
 /// The entries that have these words.
