@@ -1,25 +1,23 @@
 -- What is read of words that spell a value.
-use Rattle.std.proofs.Common.{ℕ, ◌≡◌, ◌+◌, ◌-◌, ◌*◌, ◌/◌, ◌%◌, ◌^◌, ◌<◌, ◌≤◌, ◌++◌, List, [], ◌∷◌, Option, Some, suc, arith, get_or, length, take, drop, refl, sym, ap, ◌∙◌, length-append}
-use Rattle.std.specs.Prelude.{slice_get, IsSome}
+use Rattle.std.proofs.Common.{ℕ, ◌≡◌, ◌+◌, ◌-◌, ◌*◌, ◌/◌, ◌%◌, ◌^◌, ◌<◌, ◌≤◌, ◌++◌, List, [], ◌∷◌, Option, Some, suc, arith, get_or, length, take, refl, sym, ap, ◌∙◌, length-append, get_or-take, lit<}
 use Rattle.std.proofs.Math.Seq.{take-suc}
-use Rattle.std.proofs.lemmas.Option.{same_Some, slice_get-get_or}
+use Rattle.std.proofs.lemmas.Option.{slice_get-get_or}
 use Rattle.compound_node.specs.declared.entries.Entry.{Entry}
 use Rattle.compound_node.specs.declared.entries.Entry.TheVariants.{Leaf}
 use Rattle.record_words.specs.Entry.{HasEntryWord, entry_word}
-use Rattle.record_words.proofs.Entries.{entry_words_at, same_entries}
 use Rattle.std.proofs.lemmas.List.{ext_get_or, get_or_default, length-replicate, take_at}
 use Rattle.partial_keys.specs.Columns.{HoldsColumns, IsColumns, with_free}
 use Rattle.partial_keys.specs.Rows.{with_unused}
 use Rattle.compound_node.specs.Nodes.{NodeView, HeadView, IsHead, IsLawful, head_of, node_of}
 use Rattle.compound_node.proofs.Lawful.{same_count}
-use Rattle.record_words.specs.Node.{HasHeadWords, HasNodeWords, HaveEntryWords, entry_words, head_words, node_words}
+use Rattle.record_words.specs.Node.{HasHeadWords, HasNodeWords, head_words, node_words}
 use Rattle.record_words.specs.Leaf.{HasLeafWords, leaf_words}
 use Rattle.record_words.specs.Reading.{IsSpelledBy}
 use Rattle.record_words.proofs.Fixing.{AreFixed, fixed_words_parts}
 use Rattle.record_words.proofs.Heads.{head_from-numbers, is_head}
 use Rattle.record_words.proofs.Lawful.{column-lt, get_or-padded, length-with_unused, row-lt}
 use Rattle.record_words.proofs.Leaves.{same_leaf}
-use Rattle.record_words.proofs.Nodes.{entry_part, head_part, same_head, same_node}
+use Rattle.record_words.proofs.Nodes.{head_part, node_words-entry, same_head, same_node}
 use Rattle.record_words.proofs.Parts.{position_in_word, row_in_word}
 
 length-with_free : (columns : List ℕ) → length columns ≤ 31 → length (with_free columns) ≡ 31
@@ -97,31 +95,28 @@ spells_leaf leaf read words has same is = record {
 }
 
 -- ---- entries
--- the word at a place is read as the entry there
-pub entry_read : (entries : List Entry) (words : List ℕ) (i : ℕ) (read : Option Entry) → HaveEntryWords entries → entry_words entries ≡ words → i < length entries → IsSpelledBy HasEntryWord entry_word (get_or words i 0) read → read ≡ Some (get_or entries i (Leaf 0))
-entry_read entries words i read has same inside spelled =
-    spelled.only (slice_get entries i) (has.each i) (sym (entry_words_at entries words same i (omega (arith, has.room)))) ∙ slice_get-get_or entries i (Leaf 0) inside
-
-pub some_read : (read : Option Entry) (entry : Entry) → read ≡ Some entry → IsSome read
-some_read read entry same = rw same refl
+-- an entry of a node has the word at its place
+pub entry_spelled : (node : NodeView) (words : List ℕ) (i : ℕ) → HasNodeWords node → node_words node ≡ words → i < length node.entries →
+    HasEntryWord (Some (get_or node.entries i (Leaf 0))) × (entry_word (Some (get_or node.entries i (Leaf 0))) ≡ get_or words (25 + i) 0)
+entry_spelled node words i has same inside =
+    let here = slice_get-get_or node.entries i (Leaf 0) inside in (
+      rw here at (has.entries.each i),
+      sym (ap (λ all. get_or all (25 + i) 0) (sym same) ∙ (node_words-entry node i (omega (arith, has.entries.room)) ∙ ap (λ (o : Option Entry). entry_word o) here)),
+    )
 
 -- and it joins those before
-pub one_more_read : (entries before after : List Entry) (i : ℕ) (entry : Entry) (read : Option Entry) → read ≡ Some (get_or entries i (Leaf 0)) → read ≡ Some entry → i < length entries → before ≡ take i entries → after ≡ before ++ entry ∷ [] → after ≡ take (i + 1) entries
-one_more_read entries before after i entry read is unwrapped inside so_far pushed =
-    let this : entry ≡ get_or entries i (Leaf 0) = same_Some entry (get_or entries i (Leaf 0)) (sym unwrapped ∙ is) in
+pub one_more_read : (entries before after : List Entry) (i : ℕ) (entry : Entry) → entry ≡ get_or entries i (Leaf 0) → i < length entries → before ≡ take i entries → after ≡ before ++ entry ∷ [] → after ≡ take (i + 1) entries
+one_more_read entries before after i entry this inside so_far pushed =
     pushed ∙ (ap (λ front. front ++ entry ∷ []) so_far ∙ (ap (λ x. take i entries ++ x ∷ []) this ∙ (sym (take-suc entries i (Leaf 0) inside) ∙ ap (λ n. take n entries) (let e : suc i ≡ i + 1 = omega arith in e))))
 
--- entries with the same words are as many
-pub same_counted : (entries others : List Entry) (words : List ℕ) (n : ℕ) → HaveEntryWords entries → entry_words entries ≡ words → HaveEntryWords others → entry_words others ≡ words → length others ≡ n → length entries ≡ n
-same_counted entries others words n has same other_has other_same counted = ap length (same_entries entries others words has other_has same other_same) ∙ counted
+-- the first word says how many there are
+pub entries_counted : (node : NodeView) (words : List ℕ) → HasNodeWords node → node_words node ≡ words → get_or words 0 0 % 256 ≡ length node.entries
+entries_counted node words has same =
+    ap (λ word. word % 256) (sym (get_or-take 25 words 0 0 (lit< tt))) ∙ (count_read node has.lawful (take 25 words) (head_part node words same) ∙ same_count node has.lawful)
 
 -- ---- a node of its two parts
-pub head_read : (node : NodeView) (words : List ℕ) (head : HeadView) → HasNodeWords node → node_words node ≡ words → IsSpelledBy HasHeadWords head_words (take 25 words) head → head ≡ head_of node
+head_read : (node : NodeView) (words : List ℕ) (head : HeadView) → HasNodeWords node → node_words node ≡ words → IsSpelledBy HasHeadWords head_words (take 25 words) head → head ≡ head_of node
 head_read node words head has same spelled = spelled.only (head_of node) (node, has.lawful, refl) (head_part node words same)
 
-pub both_read : (node : NodeView) (words : List ℕ) (head : HeadView) (entries : List Entry) → HasNodeWords node → node_words node ≡ words → IsSpelledBy HasHeadWords head_words (take 25 words) head →
-    ((others : List Entry) → HaveEntryWords others → entry_words others ≡ take 32 (drop 25 words) → entries ≡ others) → node_of head entries ≡ node
-both_read node words head entries has same spelled read =
-    let heads = head_read node words head has same spelled in
-    let same_entries = read node.entries has.entries (entry_part node words same) in
-    rw (heads, same_entries) refl
+pub both_read : (node : NodeView) (words : List ℕ) (head : HeadView) (entries : List Entry) → HasNodeWords node → node_words node ≡ words → IsSpelledBy HasHeadWords head_words (take 25 words) head → entries ≡ node.entries → node_of head entries ≡ node
+both_read node words head entries has same spelled entries_are = rw (head_read node words head has same spelled, entries_are) refl

@@ -1,6 +1,6 @@
 //! The word of an entry.
 
-ghost use Rattle.std.specs.Prelude.{◌≡◌};
+ghost use Rattle.std.specs.Prelude.{◌≡◌, Some};
 ghost use Rattle.record_words.specs.Entry.{HasEntryWord, entry_word};
 ghost use Rattle.record_words.specs.Reading.{IsReading, IsSpelledBy, IsSpelling};
 
@@ -43,13 +43,20 @@ pub fn read_entry(word: u64) -> Option<Entry>
     requires { IsSpelling HasEntryWord entry_word word }
     ensures { IsSpelledBy HasEntryWord entry_word word result }
 {
-    let number = (word % (1 << HEIGHT_BIT) / 4) as u32;
-    match word % 4 {
+    match word {
         0 => None,
-        1 => Some(Entry::Leaf(number)),
-        _ => Some(Entry::Node {
-            number,
-            height: (word >> HEIGHT_BIT) as u16,
-        }),
+        _ => Some(read_some(word)),
+    }
+}
+
+/// The entry that has this word; one has it. A leaf's word has no height.
+pub(crate) fn read_some(word: u64) -> Entry
+    requires { IsSpelling (λ entry. HasEntryWord (Some entry)) (λ entry. entry_word (Some entry)) word }
+    ensures { IsSpelledBy (λ entry. HasEntryWord (Some entry)) (λ entry. entry_word (Some entry)) word result }
+{
+    let number = (word % (1 << HEIGHT_BIT) / 4) as u32;
+    match (word >> HEIGHT_BIT) as u16 {
+        0 => Entry::Leaf(number),
+        height => Entry::Node { number, height },
     }
 }

@@ -1,6 +1,6 @@
 //! The fixed words of a node: all but its state and its entries.
 
-ghost use Rattle.std.specs.Prelude.{◌≡◌, ℕ, ◌+◌, ◌*◌, ◌<◌, ◌≤◌, ◌↔◌, IsTrue, EachIndex, length, slice_index, slice_index_or};
+ghost use Rattle.std.specs.Prelude.{◌≡◌, ◌<◌, ◌≤◌, ◌↔◌, IsTrue, EachIndex, length, slice_index};
 ghost use Rattle.record_words.specs.Packed.{ArePositionsOf, AreRowsOf, meta_word, position_at, position_word, row_word};
 ghost use Rattle.record_words.specs.Node.{InNodesOf};
 ghost use Rattle.partial_keys.specs.Columns.{with_free};

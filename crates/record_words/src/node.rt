@@ -1,13 +1,12 @@
 //! The words of a node record.
 
-ghost use Rattle.std.specs.Prelude.{◌≡◌, ℕ, List, ◌<◌, ◌≤◌, ◌/◌, ◌%◌, length, slice_get, slice_index};
+ghost use Rattle.std.specs.Prelude.{◌≡◌, ◌<◌, ◌/◌, ◌%◌, length, slice_get};
 ghost use Rattle.record_words.specs.Entry.{HasEntryWord, entry_word};
 ghost use Rattle.record_words.specs.Node.{HasHeadWords, HasNodeWords, HaveEntryWords, entry_words, head_words, node_words};
 ghost use Rattle.record_words.specs.Packed.{words_of_positions, words_of_rows};
 ghost use Rattle.record_words.specs.Reading.{IsReading, IsSpelledBy, IsSpelling};
-ghost use Rattle.compound_node.specs.declared.entries.Entry.{Entry as NodeEntry};
 
-use crate::entry::{pack_entry, read_entry, unpack_entry};
+use crate::entry::{pack_entry, read_some, unpack_entry};
 use crate::fixed::{Fixed, read_places, read_rows, word_of_numbers, word_of_places, word_of_rows};
 use crate::{FIRST_ROWS, HEAD_WORDS, MAX_ENTRIES, NODE_FIELDS, WordFault};
 use arrayvec::ArrayVec;
@@ -100,9 +99,11 @@ pub fn read_node(words: &[u64; NODE_FIELDS]) -> Node
     requires { IsSpelling HasNodeWords node_words words.now }
     ensures { IsSpelledBy HasNodeWords node_words words.now result }
 {
-    let head = head_of_words(&words[..HEAD_WORDS]);
-    let entries = read_entries(&words[HEAD_WORDS..], head.count());
-    Node::of(head, entries)
+    let mut entries = ArrayVec::new();
+    for i in 0..(words[0] % 256) as u8 {
+        entries.push(read_some(words[HEAD_WORDS + i as usize]));
+    }
+    Node::of(head_of_words(&words[..HEAD_WORDS]), entries)
 }
 
 /// The head that has these words.
@@ -118,18 +119,6 @@ fn head_of_words(words: &[u64]) -> Head
         columns,
         read_rows(words),
     )
-}
-
-/// The entries that have these words, of which there are so many.
-fn read_entries(words: &[u64], count: u8) -> ArrayVec<Entry, MAX_ENTRIES>
-    requires { (entries : List NodeEntry) × HaveEntryWords entries × (entry_words entries ≡ words.now) × (length entries ≡ count) }
-    ensures { (entries : List NodeEntry) → HaveEntryWords entries → entry_words entries ≡ words.now → result.items ≡ entries }
-{
-    let mut entries = ArrayVec::new();
-    for i in 0..count {
-        entries.push(read_entry(words[i as usize]).unwrap());
-    }
-    entries
 }
 
 /// The word of an entry of a node.

@@ -1,31 +1,44 @@
 -- The two parts of the words are those of the node.
-use Rattle.std.proofs.Common.{length, ap, refl, sym, ◌∙◌}
-use Rattle.compound_node.proofs.Lawful.{same_count}
-use Rattle.compound_node.specs.Nodes.{HeadView, head_of}
-use Rattle.record_words.proofs.Nodes.{entry_part, head_part}
-use Rattle.record_words.proofs.Spelled.{both_read, head_read, spells_node}
+use Rattle.std.proofs.Common.{◌≡◌, ◌<◌, get_or, length, refl, ◌∙◌, arith}
+use Rattle.std.proofs.lemmas.List.{take_all}
+use Rattle.compound_node.specs.declared.entries.Entry.TheVariants.{Leaf}
+use Rattle.compound_node.specs.Nodes.{head_of}
+use Rattle.record_words.proofs.Nodes.{head_part}
+use Rattle.record_words.proofs.Spelled.{both_read, spells_node, entry_spelled, one_more_read, entries_counted}
 use Rattle.record_words.proofs.node.read_node.Goals as goal
+use Rattle.record_words.proofs.node.read_node.Goals.{After-loop-i}
 
-pub head_of_words-head-requires : goal.head_of_words-head-requires
-head_of_words-head-requires c = (head_of c.requires.0, (c.requires.0, c.requires.1.lawful, refl), head_part c.requires.0 c.args.words.now c.requires.2)
+pub bounds-words-i : goal.bounds-words-i
+bounds-words-i c = omega (arith, entries_counted c.requires.0 c.args.words.now c.requires.1 c.requires.2, c.requires.1.entries.room)
 
-pub read_entries-entries-requires : goal.read_entries-entries-requires
-read_entries-entries-requires c =
+pub read_some-requires : goal.read_some-requires
+read_some-requires c =
     let node = c.requires.0 in
-    let head = head_read node c.args.words.now c.head_of_words-head.result c.requires.1 c.requires.2 c.head_of_words-head.ensures in (
-      node.entries,
-      c.requires.1.entries,
-      entry_part node c.args.words.now c.requires.2,
-      sym (same_count node c.requires.1.lawful) ∙ (sym (ap (λ (h : HeadView). length h.rows) head) ∙ sym c.count.ensures.count),
-    )
+    let words = c.args.words.now in
+    let spelled = entry_spelled node words c.loop-i.i c.requires.1 c.requires.2 (omega (arith, entries_counted node words c.requires.1 c.requires.2)) in
+    (get_or node.entries c.loop-i.i (Leaf 0), spelled.0, spelled.1)
+
+pub loop-i-preserved : goal.loop-i-preserved
+loop-i-preserved c = λ node has same.
+    let inside : c.loop-i.i < length node.entries = omega (arith, entries_counted node c.args.words.now has same) in
+    let spelled = entry_spelled node c.args.words.now c.loop-i.i has same inside in
+    one_more_read node.entries c.loop-i.entries.items _ c.loop-i.i c.read_some.result
+    (c.read_some.ensures.only (get_or node.entries c.loop-i.i (Leaf 0)) spelled.0 spelled.1) inside (c.loop-i.invariant node has same) c.push.ensures.items
+
+pub head_of_words-requires : goal.head_of_words-requires
+head_of_words-requires c = (head_of c.requires.0, (c.requires.0, c.requires.1.lawful, refl), head_part c.requires.0 c.args.words.now c.requires.2)
+
+-- all entries have been read
+all_read : (c : After-loop-i) → c.loop-i.entries.items ≡ c.requires.0.entries
+all_read c =
+    let node = c.requires.0 in
+    c.loop-i.invariant node c.requires.1 c.requires.2 ∙ take_all c.loop-i.i node.entries (omega (arith, entries_counted node c.args.words.now c.requires.1 c.requires.2))
 
 pub of-requires : goal.of-requires
 of-requires c =
-    let words = c.args.words.now in
-    rw (both_read c.requires.0 words c.head_of_words-head.result c.read_entries-entries.result.items c.requires.1 c.requires.2 c.head_of_words-head.ensures c.read_entries-entries.ensures) c.requires.1.lawful
+    rw (both_read c.requires.0 c.args.words.now c.head_of_words.result c.loop-i.entries.items c.requires.1 c.requires.2 c.head_of_words.ensures (all_read (goal.at.of-requires c).After-loop-i)) c.requires.1.lawful
 
 pub returns : goal.returns
 returns c =
-    let words = c.args.words.now in
-    spells_node c.requires.0 c.of.result words c.requires.1 c.requires.2
-    (c.of.ensures ∙ both_read c.requires.0 words c.head_of_words-head.result c.read_entries-entries.result.items c.requires.1 c.requires.2 c.head_of_words-head.ensures c.read_entries-entries.ensures)
+    spells_node c.requires.0 c.of.result c.args.words.now c.requires.1 c.requires.2
+    (c.of.ensures ∙ both_read c.requires.0 c.args.words.now c.head_of_words.result c.loop-i.entries.items c.requires.1 c.requires.2 c.head_of_words.ensures (all_read (goal.at.returns c).After-loop-i))
