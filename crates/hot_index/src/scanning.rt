@@ -25,6 +25,10 @@ use rowex_table::{HotTable, TableSeat};
 use rowex_writing::{Found, MOST_NODES, search_way, step_of};
 use std::alloc::{AllocError, Global};
 
+/// For how many pairs a scan makes room at its first pair, at most; later the room doubles. So a short scan asks for memory once,
+/// and one with few pairs and a great limit takes no more than 16 KiB.
+const FIRST_ROOM: usize = 64;
+
 /// What a scan asks for.
 #[derive(Drop)]
 pub(crate) struct Range<'a> {
@@ -106,12 +110,12 @@ fn scan_leaf<G: Gate>(
     ensures reads { (n : ℕ) × (n ≤ LEAF_FIELDS) × Reads table.now G.becomes n (seat.old, gate.old) (seat.new, gate.new) }
     ensures scanned { IfOk result (HasScanned seat.new.known (range_of range.now)) }
 {
-    let (key, value) = load_leaf(table, seat, gate, number);
-    if is_before(&key, range.from) {
+    let pair = load_leaf(table, seat, gate, number);
+    if is_before(&pair.0, range.from) {
         return Ok(nothing(alloc));
     }
     let mut pairs = Vec::new(alloc);
-    match take_pair(&mut pairs, range, key, value)? {
+    match take_pair(&mut pairs, range, pair)? {
         Verdict::Full => Ok(Scan { pairs, more: true }),
         Verdict::Further | Verdict::Past => Ok(Scan { pairs, more: false }),
     }
@@ -139,8 +143,8 @@ fn scan_node<G: Gate>(
     way.truncate(start.level);
     let mut pairs = Vec::new(alloc);
     if start.leaf {
-        let (key, value) = load_leaf(table, seat, gate, number);
-        match take_pair(&mut pairs, range, key, value)? {
+        let pair = load_leaf(table, seat, gate, number);
+        match take_pair(&mut pairs, range, pair)? {
             Verdict::Further => top.at += 1,
             Verdict::Past => return Ok(Scan { pairs, more: false }),
             Verdict::Full => return Ok(Scan { pairs, more: true }),
@@ -216,8 +220,8 @@ fn walk<G: Gate>(
                     top = enter(table, seat, gate, number);
                 }
                 Entry::Leaf(number) => {
-                    let (key, value) = load_leaf(table, seat, gate, number);
-                    match take_pair(&mut pairs, range, key, value)? {
+                    let pair = load_leaf(table, seat, gate, number);
+                    match take_pair(&mut pairs, range, pair)? {
                         Verdict::Further => top.at += 1,
                         Verdict::Past => return Ok(Scan { pairs, more: false }),
                         Verdict::Full => return Ok(Scan { pairs, more: true }),
@@ -247,23 +251,30 @@ fn enter<G: Gate>(table: &HotTable, seat: &mut TableSeat, gate: &mut G, number: 
     step_of(&head, number, 0)
 }
 
-/// Takes a pair whose key is not below the range, if it belongs to the range and there is room for it.
+/// Takes a pair whose key is not below the range, if it belongs to the range and there is room for it. The first pair makes room
+/// for those that are asked for. Inline, so that a pair goes at once from where it was read to its place.
+#[inline(always)]
 fn take_pair(
     pairs: &mut Vec<(Key, u64)>,
     range: &Range,
-    key: Key,
-    value: u64,
+    pair: (Key, u64),
 ) -> Result<Verdict, AllocError>
-    requires above { IsAtMost range.now.from.now key }
-    ensures { IfOk result (IsPairTaken (range_of range.now) pairs.old.items key value pairs.new.items) }
+    requires above { IsAtMost range.now.from.now pair.0 }
+    ensures { IfOk result (IsPairTaken (range_of range.now) pairs.old.items pair.0 pair.1 pairs.new.items) }
 {
-    if is_before(range.upto, &key) {
+    if is_before(range.upto, &pair.0) {
         return Ok(Verdict::Past);
     }
     if pairs.len() == range.limit {
         return Ok(Verdict::Full);
     }
-    pairs.push((key, value))?;
+    let more = if pairs.is_empty() {
+        range.limit.min(FIRST_ROOM)
+    } else {
+        1
+    };
+    pairs.reserve(more)?;
+    pairs.push_reserved(pair);
     Ok(Verdict::Further)
 }
 
