@@ -47,7 +47,7 @@ fn half_of(columns: &Columns, rows: &[u32], entries: &[Entry]) -> Half
         let used = joined(rows);
         let mut used_columns = *columns;
         used_columns.drop_unused(used);
-        let used_rows = squeeze_all(rows, used);
+        let used_rows = squeeze_all(rows, used, columns.count());
         Half::Many(built(used_columns, used_rows.as_slice(), listed(entries)))
     }
 }

@@ -1,14 +1,13 @@
 //! Sparse partial keys as rows of 32 bits, the column of the lowest position as the highest bit.
 
+ghost use Rattle.std.specs.List.{All};
 ghost use Rattle.std.specs.Prelude.{◌≡◌, ◌+◌, ◌-◌, ◌%◌, ◌^◌, ◌<◌, ◌≤◌, ◌↔◌, ◌++◌, IsTrue, map, length, take, bit_or};
 ghost use Rattle.arrayvec.specs.ArrayVec.{array_vec_len};
-ghost use Rattle.key_bits.specs.Gather.{code};
 ghost use Rattle.partial_keys.specs.Rows.{with_unused};
 ghost use Rattle.partial_keys.specs.Runs.{agree_in, IsRunStart, IsRunEnd};
 ghost use Rattle.partial_keys.specs.Spread.{spread_row, forked_rows};
-ghost use Rattle.partial_keys.specs.Squeezed.{bits_of, squeezed, or_all};
+ghost use Rattle.partial_keys.specs.Squeezed.{IsRowOver, closed_row, or_all, squeezed};
 ghost use Rattle.pieces.specs.Growth.{edited};
-ghost use Rattle.pieces.specs.Kept.{kept};
 ghost use Rattle.pieces.specs.Positions.{front_below};
 ghost use Rattle.compound_node.specs.Ladders.{AreSparseKeys, IsLadder};
 ghost use Rattle.compound_node.specs.Removal.{lowest, bit_after, cleared_front, removed_row};
@@ -206,34 +205,39 @@ pub(crate) fn cleared(rows: &[u32]) -> ArrayVec<u32, 32>
     out
 }
 
-/// The `width` low bits of the row at which `used` has a 1, put side by side below bit `place`.
-fn squeeze(row: u32, used: u32, width: u32, place: u32) -> u32
-    requires low { width ≤ place }
-    requires high { place ≤ 32 }
-    ensures { result ≡ code place (kept (bits_of width used) (bits_of width row)) }
+/// A row without column `j`: the later ones move up by one.
+fn close(row: u32, j: u8) -> u32
+    requires { j ≤ 31 }
+    ensures { result ≡ closed_row j row }
 {
-    if width == 0 {
-        0
-    } else if used >> (width - 1) & 1 == 0 {
-        squeeze(row, used, width - 1, place)
-    } else {
-        let rest = squeeze(row, used, width - 1, place - 1);
-        if row >> (width - 1) & 1 == 0 {
-            rest
-        } else {
-            1 << (place - 1) | rest
-        }
+    let low = u32::MAX >> j;
+    row & !low | (row & low >> 1) << 1
+}
+
+/// Takes column `j` out of each row.
+fn close_all(rows: &mut [u32], j: u8)
+    requires { j ≤ 31 }
+    ensures { rows.new ≡ map (closed_row j) rows.old }
+{
+    for row in rows.iter_mut() {
+        *row = close(*row, j);
     }
 }
 
-/// The rows over the columns at which `used` has a 1.
-pub(crate) fn squeeze_all(rows: &[u32], used: u32) -> ArrayVec<u32, 32>
-    requires { length rows.now ≤ 32 }
+/// The rows over the columns at which `used` has a 1, out of so many.
+pub(crate) fn squeeze_all(rows: &[u32], used: u32, columns: u8) -> ArrayVec<u32, 32>
+    requires room { length rows.now ≤ 32 }
+    requires few { columns ≤ 31 }
+    requires used { IsRowOver columns used }
+    requires rows { All (IsRowOver columns) rows.now }
     ensures { result.items ≡ map (squeezed used) rows.now }
 {
     let mut out = ArrayVec::new();
-    for row in rows {
-        out.push(squeeze(*row, used, 32, 32));
+    append(&mut out, rows);
+    for j in (0..columns).rev() {
+        if used >> (31 - j) & 1 == 0 {
+            close_all(out.as_mut_slice(), j);
+        }
     }
     out
 }

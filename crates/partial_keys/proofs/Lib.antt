@@ -10,4 +10,5 @@ pub mod Growing
 pub mod Affected
 pub mod Squeezing
 pub mod Cutting
+pub mod Closing
 pub mod Worked

@@ -14,10 +14,10 @@ use Rattle.partial_keys.specs.Squeezed.{bits_of, used_bits, or_all}
 use Rattle.pieces.proofs.Positions.{kept_suc, kept_over}
 use Rattle.pieces.specs.Kept.{kept}
 
-is_one : (n v : ℕ) → bit_and (n / 2 ^ v) 1 ≢ 0 → eqb (bit_at n v) 1 ≡ true
+pub is_one : (n v : ℕ) → bit_and (n / 2 ^ v) 1 ≢ 0 → eqb (bit_at n v) 1 ≡ true
 is_one n v h = let e : bit_and (n / 2 ^ v) 1 ≡ bit_at n v = shr_and_one n v in eq-eqb (bit_at n v) 1 (omega (arith, e, h, bit_at-lt n v))
 
-is_zero : (n v : ℕ) → bit_and (n / 2 ^ v) 1 ≡ 0 → eqb (bit_at n v) 1 ≡ false
+pub is_zero : (n v : ℕ) → bit_and (n / 2 ^ v) 1 ≡ 0 → eqb (bit_at n v) 1 ≡ false
 is_zero n v h = let e : bit_and (n / 2 ^ v) 1 ≡ bit_at n v = shr_and_one n v in ne_eqb (bit_at n v) 1 (λ f. omega (arith, e, h, f))
 
 pub squeeze_zero : (w place used row rest : ℕ) → 0 < w → w ≤ place → bit_and (used / 2 ^ (w - 1)) 1 ≢ 0 → bit_and (row / 2 ^ (w - 1)) 1 ≡ 0 →

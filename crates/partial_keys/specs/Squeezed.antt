@@ -1,6 +1,6 @@
 -- Rows and columns of which some are kept.
 use Rattle.std.specs.Int.{bit_at}
-use Rattle.std.specs.Prelude.{Bool, List, [], bit_or, eqb, suc, zero, ℕ, ◌∷◌}
+use Rattle.std.specs.Prelude.{Bool, List, [], bit_or, eqb, length, suc, zero, ℕ, ◌%◌, ◌*◌, ◌+◌, ◌-◌, ◌/◌, ◌^◌, ◌∷◌, ◌≡◌}
 use Rattle.key_bits.specs.Gather.{code}
 use Rattle.pieces.specs.Kept.{kept}
 
@@ -21,3 +21,11 @@ squeezed used row = code 32 (kept (bits_of 32 used) (bits_of 32 row))
 abbrev pub or_all : List ℕ → ℕ
 or_all [] = 0
 or_all (row ∷ rows) = bit_or row (or_all rows)
+
+-- a row from which column j was taken out: the later columns moved up by one
+abbrev pub closed_row : ℕ → ℕ → ℕ
+closed_row j row = row / 2 ^ (32 - j) * 2 ^ (32 - j) + row % 2 ^ (31 - j) * 2
+
+-- a row over n columns: it has no 1 behind them
+abbrev pub IsRowOver : ℕ → ℕ → Type 0
+IsRowOver n row = (bits : List Bool) × (length bits ≡ n) × (row ≡ code 32 bits)

@@ -1,7 +1,7 @@
--- The rows so far, squeezed.
-use Rattle.std.proofs.Common.{◌≡◌, take, map}
-use Rattle.partial_keys.specs.Squeezed.{squeezed}
+-- The rows without those later columns that `used` has not got.
+use Rattle.std.proofs.Common.{◌≡◌, map}
+use Rattle.partial_keys.proofs.Closing.{squeezed_from}
 use Rattle.compound_node.proofs.rows.squeeze_all.Given as goal
 
-abbrev pub invariant-loop-row : goal.invariant-loop-row
-invariant-loop-row l = l.out.items ≡ map (squeezed l.used) (take l.row-index l.rows)
+abbrev pub invariant-loop-j : goal.invariant-loop-j
+invariant-loop-j l = l.out.items ≡ map (squeezed_from l.used l.j) l.rows
