@@ -1,5 +1,5 @@
 -- Columns taken out of rows one by one.
-use Rattle.std.proofs.Common.{Bool, List, [], ap, arith, bit_and, cond, drop, false, get_or, length, map, refl, replicate, suc, sym, take, true, ℕ, ◌%◌, ◌*◌, ◌++◌, ◌+◌, ◌-◌, ◌/◌, ◌<◌, ◌^◌, ◌∙◌, ◌∷◌, ◌≡◌, ◌≢◌, ◌≤◌}
+use Rattle.std.proofs.Common.{Bool, List, [], ap, arith, bit_and, drop, false, get_or, length, map, refl, replicate, suc, sym, take, true, ℕ, ◌%◌, ◌*◌, ◌++◌, ◌+◌, ◌-◌, ◌/◌, ◌<◌, ◌^◌, ◌∙◌, ◌∷◌, ◌≡◌, ◌≢◌, ◌≤◌}
 use Rattle.std.proofs.Math.Nat.{pow-suc}
 use Rattle.std.proofs.lemmas.List.{append-nil, append_assoc, drop_at, drop_more, get_or-map, length-drop, length-map, length-take-le, take_at, take_more}
 use Rattle.std.proofs.lemmas.Nat.{mod_low, shr_high}

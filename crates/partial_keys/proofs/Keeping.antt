@@ -1,9 +1,12 @@
 -- Positions that stay the columns of a node.
-use Rattle.std.proofs.Common.{Bool, List, arith, false, length, ℕ, ◌<◌, ◌≡◌, ◌≤◌}
-use Rattle.partial_keys.specs.Columns.{IsColumns}
-use Rattle.pieces.proofs.Positions.{Ascends-kept, AllBelow-kept, length-with_position, AllBelow-with_position, Ascends-with_position, length-kept}
+use Rattle.std.proofs.Common.{Bool, List, ap, arith, drop, false, length, replicate, subst, sym, take, ℕ, ◌++◌, ◌+◌, ◌-◌, ◌<◌, ◌∙◌, ◌≡◌, ◌≤◌}
+use Rattle.std.proofs.lemmas.List.{take_at}
+use Rattle.std.specs.List.{insert}
+use Rattle.partial_keys.proofs.Putting.{drop_pad}
+use Rattle.partial_keys.specs.Columns.{HoldsColumns, IsColumns, with_free}
+use Rattle.pieces.proofs.Positions.{Ascends-kept, AllBelow-kept, length-with_position, AllBelow-with_position, Ascends-with_position, length-kept, with_position-split}
 use Rattle.pieces.specs.Kept.{kept}
-use Rattle.pieces.specs.Positions.{has, with_position}
+use Rattle.pieces.specs.Positions.{front_below, has, with_position}
 
 pub IsColumns-with_position : (p : ℕ) (cs : List ℕ) → IsColumns cs → length cs < 31 → p < 65535 → has cs p ≡ false → IsColumns (with_position p cs)
 IsColumns-with_position p cs h room below new = record {
@@ -20,3 +23,31 @@ IsColumns-kept us cs h some = record {
   rise = Ascends-kept 0 us cs h.rise;
   below = AllBelow-kept 65535 us cs h.below;
 }
+
+-- places of columns, with a position put in as a column
+module _ (places : List ℕ) (count p : ℕ) (h : HoldsColumns places count) (room : length (take count places) < 31) (below : p < 65535) (new : has (take count places) p ≡ false) where
+  abbrev put : List ℕ
+  put = insert (take count places) (front_below p (take count places)) p ++ drop (count + 1) places
+
+  put_is : put ≡ with_position p (take count places) ++ drop (count + 1) places
+  put_is = ap (λ cs. cs ++ drop (count + 1) places) (sym (with_position-split p (take count places)))
+
+  longer : length (with_position p (take count places)) ≡ count + 1
+  longer = length-with_position p (take count places) ∙ omega (arith, h.counted)
+
+  pub put_shown : take (count + 1) put ≡ with_position p (take count places)
+  put_shown = ap (take (count + 1)) put_is ∙ take_at (with_position p (take count places)) (drop (count + 1) places) (count + 1) longer
+
+  put_behind : drop (count + 1) places ≡ replicate (31 - (count + 1)) 65535
+  put_behind =
+      ap (drop (count + 1)) h.filled
+      ∙ ap (λ n. drop (count + 1) (take count places ++ replicate (31 - n) 65535)) h.counted
+      ∙ drop_pad 31 count (take count places) 65535 h.counted
+
+  pub put_holds : HoldsColumns put (count + 1)
+  put_holds = record {
+    columns = subst IsColumns (sym put_shown) (IsColumns-with_position p (take count places) h.columns room below new);
+    counted = ap length put_shown ∙ longer;
+    filled = put_is ∙ ap (λ xs. with_position p (take count places) ++ xs) put_behind
+        ∙ sym (ap with_free put_shown ∙ ap (λ n. with_position p (take count places) ++ replicate (31 - n) 65535) longer);
+  }

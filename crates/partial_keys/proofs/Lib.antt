@@ -1,4 +1,5 @@
 -- The lemmas of the crate.
+pub mod Putting
 pub mod Codes
 pub mod Keeping
 pub mod Search

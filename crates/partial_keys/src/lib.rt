@@ -1,7 +1,7 @@
 //! Columns of a compound node, and the search of its sparse partial keys (Binna and others, "HOT", SIGMOD 2018).
 #![tactic(auto)]
 
-ghost use Rattle.std.specs.Prelude.{◌≡◌, ◌%◌, ◌≤◌, length, map, slice_index};
+ghost use Rattle.std.specs.Prelude.{◌≡◌, ◌%◌, ◌+◌, ◌++◌, ◌<◌, ◌≤◌, drop, insert, length, map, slice_index, take};
 ghost use Rattle.pieces.specs.Kept.{kept};
 ghost use Rattle.pieces.specs.Highest.{highest};
 ghost use Rattle.pieces.specs.Positions.{front_below};
@@ -118,9 +118,15 @@ impl Columns {
     pub fn contains(&self, position: u16) -> bool
         ensures { result ≡ has self.now position }
     {
-        let positions = self.as_slice();
-        let at = count_below(positions, position);
-        at < positions.len() && positions[at] == position
+        self.is_column_at(self.below(position), position)
+    }
+
+    /// Whether the position is a column, where so many columns are below it.
+    pub fn is_column_at(&self, below: u8, position: u16) -> bool
+        requires { below ≡ front_below position self.now }
+        ensures { result ≡ has self.now position }
+    {
+        below < self.count && self.positions[below as usize] == position
     }
 
     /// The key's bits at the columns: the bit of column j is bit 31-j.
@@ -139,10 +145,21 @@ impl Columns {
         ensures columns { self.new ≡ with_position position self.old }
     {
         let at = self.below(position);
-        let mut longer = listed(self.as_slice());
-        longer.insert(at as usize, position);
-        *self = Columns::of(longer.as_slice());
+        self.put(at, position);
         at
+    }
+
+    /// Puts a position in as a column, where so many columns are below it.
+    pub fn put(&mut self, below: u8, position: u16)
+        requires room { length self.old < 31 }
+        requires small { position < 65535 }
+        requires new { has self.old position ≡ false }
+        requires place { below ≡ front_below position self.old }
+        ensures { self.new ≡ with_position position self.old }
+    {
+        let count = self.count as usize;
+        put_in(&mut self.positions, count, below as usize, position);
+        self.count += 1;
     }
 
     /// Keeps the columns j whose bit 31-j is set in `used`.
@@ -179,15 +196,18 @@ fn count_below(positions: &[u16], bound: u16) -> usize
     positions.len()
 }
 
-fn listed(positions: &[u16]) -> ArrayVec<u16, 31>
-    requires { length positions.now ≤ 31 }
-    ensures { result.items ≡ positions.now }
+/// Puts an element in among the first `count`: those from its place on move up by one, over the element behind them.
+pub fn put_in<T: Copy>(places: &mut [T], count: usize, at: usize, element: T)
+    requires place { at ≤ count }
+    requires room { count < length places.old }
+    ensures { places.new ≡ insert (take count places.old) at element ++ drop (count + 1) places.old }
 {
-    let mut list = ArrayVec::new();
-    for position in positions {
-        list.push(*position);
+    let mut moved = element;
+    for i in at..count + 1 {
+        let next = places[i];
+        places[i] = moved;
+        moved = next;
     }
-    list
 }
 
 fn kept_positions(positions: &[u16], used: u32) -> ArrayVec<u16, 31>
