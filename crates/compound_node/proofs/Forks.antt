@@ -1,19 +1,26 @@
 -- The parts of a node with a new fork fit together.
-use Rattle.std.proofs.Common.{Bool, List, [], arith, cond, drop, false, length, length-append, map, take, true, ℕ, ◌++◌, ◌+◌, ◌-◌, ◌<◌, ◌∷◌, ◌≡◌, ◌≤◌}
+use Rattle.std.proofs.Common.{Bool, List, [], ap, arith, cond, drop, false, length, length-append, map, refl, subst, sym, take, true, ℕ, ⊎_elim, ◌++◌, ◌+◌, ◌-◌, ◌<◌, ◌^◌, ◌∙◌, ◌∷◌, ◌≡◌, ◌≤◌}
+use Rattle.std.proofs.lemmas.Bool.{cases_Bool}
 use Rattle.std.proofs.lemmas.List.Elements.{All-append, All-drop, All-push, All-take}
 use Rattle.std.proofs.lemmas.List.{length-drop, length-take-le}
+use Rattle.std.proofs.lemmas.Nat.{one_shl}
 use Rattle.std.specs.List.{All}
-use Rattle.compound_node.specs.Nodes.{FitTogether, IsEntry}
+use Rattle.compound_node.proofs.Editing.{put-before, put-behind}
+use Rattle.compound_node.proofs.Heights.{greatest_height-insert}
+use Rattle.compound_node.proofs.Lawful.{built_lawful, parts_fit, same_count, with_leaves}
+use Rattle.compound_node.specs.Forking.{forked_head}
+use Rattle.compound_node.specs.Nodes.{FitTogether, HeadView, IsBuiltFrom, IsEntry, IsLawful, NodeView, greatest_height, head_of, height_of, leaves, node_of, piece}
 use Rattle.compound_node.specs.declared.entries.Entry.TheVariants.{Leaf}
 use Rattle.compound_node.specs.declared.entries.Entry.{Entry}
 use Rattle.partial_keys.proofs.Growing.{shows-at_column, shows-at_new, weight}
 use Rattle.partial_keys.proofs.Keeping.{IsColumns-with_position}
-use Rattle.partial_keys.proofs.Reading.{shown_self}
+use Rattle.partial_keys.proofs.Reading.{piece_of_shown, shown_self}
 use Rattle.partial_keys.proofs.Showing.{affected_range, same_length, shown_columns}
 use Rattle.partial_keys.specs.Columns.{IsColumns}
 use Rattle.partial_keys.specs.Shown.{piece_of}
 use Rattle.partial_keys.specs.Shows.{Shows}
 use Rattle.partial_keys.specs.Spread.{forked_rows, spread_row}
+use Rattle.pieces.proofs.Positions.{IsPlaceOf, front_below-place}
 use Rattle.pieces.specs.Growth.{IsAffected, affected_count, edited, forked_places, grown}
 use Rattle.pieces.specs.Piece.{Piece}
 use Rattle.pieces.specs.Positions.{front_below, has, with_position}
@@ -80,3 +87,82 @@ module _ (columns rows : List ℕ) (entries : List Entry) (fit : FitTogether col
     fit_at_new below off = put_together (with_position position columns) _
         (IsColumns-with_position position columns fit.positions (omega (arith, shown_columns columns rows entries (piece_of (Leaf 0) columns rows entries) fit.shows)) below off)
         (shows-at_new columns rows entries (piece_of (Leaf 0) columns rows entries) position first last bit entry fit.shows range room off)
+
+-- ---- a node with a new fork
+module _ (node : NodeView) (lawful : IsLawful node) (position first last : ℕ) (bit : Bool) (entry : Entry)
+    (range : IsAffected (piece node) position first last) (room : length node.entries < 32) (below : position < 65535) (stands : IsEntry entry) where
+  abbrev new_entries : List Entry
+  new_entries = edited first (last + 1 - first) (forked_places bit entry) node.entries
+
+  abbrev new_head : HeadView
+  new_head = forked_head (1 + greatest_height new_entries) position first last bit (head_of node)
+
+  new_range : (first ≤ last) × (last < length node.entries)
+  new_range = fork_range node.columns node.rows node.entries (parts_fit node lawful) position first last bit entry range
+
+  new_length : length new_entries ≡ length node.entries + 1
+  new_length = length-put bit entry first (last + 1 - first) node.entries (omega (arith, new_range.0, new_range.1))
+
+  new_children : All IsEntry new_entries
+  new_children = All-put bit entry first (last + 1 - first) node.entries IsEntry lawful.children stands
+
+  -- among leaves alone the new entry is the highest
+  new_greatest : node.height ≡ 1 → greatest_height new_entries ≡ height_of entry
+  new_greatest e =
+      let low : All (λ entry. height_of entry < 1) node.entries = subst (λ h. All (λ entry. height_of entry < h) node.entries) e lawful.above in
+      elim bit as (λ b. greatest_height (edited first (last + 1 - first) (forked_places b entry) node.entries) ≡ height_of entry) [
+        | true ↦ ap greatest_height (sym (put-behind first (last + 1 - first) entry node.entries)) ∙ greatest_height-insert node.entries (first + (last + 1 - first)) entry low
+        | false ↦ ap greatest_height (sym (put-before first (last + 1 - first) entry node.entries)) ∙ greatest_height-insert node.entries first entry low
+      ]
+
+  weight_is : weight (front_below position node.columns) ≡ 2 ^ (31 - front_below position node.columns)
+  weight_is =
+      let place : IsPlaceOf node.columns position (front_below position node.columns) = front_below-place position node.columns in
+      one_shl (31 - front_below position node.columns) 32 (omega arith)
+
+  -- it is built from the piece with the fork
+  forked_built : IsBuiltFrom (node_of new_head new_entries) (grown position bit entry first (piece node))
+  forked_built = ⊎_elim
+      (λ (e : has node.columns position ≡ true). rw e (built_from node.columns (edited first (last + 1 - first) (forked_rows (2 ^ (31 - front_below position node.columns)) bit) node.rows)
+      (rw weight_is at (fit_at_column node.columns node.rows node.entries (parts_fit node lawful) position first last bit entry range room stands e))
+      (rw weight_is at (shows-at_column node.columns node.rows node.entries (piece node) position first last bit entry lawful.shows range e))))
+      (λ (e : has node.columns position ≡ false). rw e (built_from (with_position position node.columns)
+      (edited first (last + 1 - first) (forked_rows (2 ^ (31 - front_below position node.columns)) bit) (map (spread_row (front_below position node.columns)) node.rows))
+      (rw weight_is at (fit_at_new node.columns node.rows node.entries (parts_fit node lawful) position first last bit entry range room stands below e))
+      (rw weight_is at (shows-at_new node.columns node.rows node.entries (piece node) position first last bit entry lawful.shows range room e))))
+      (cases_Bool (has node.columns position))
+    where
+      built_from : (columns rows : List ℕ) → FitTogether columns rows new_entries → Shows columns rows new_entries (grown position bit entry first (piece node)) →
+          IsBuiltFrom (record { height = 1 + greatest_height new_entries; columns = columns; rows = rows; entries = new_entries }) (grown position bit entry first (piece node))
+      built_from columns rows fit sh = record {
+        lawful = built_lawful columns rows new_entries fit;
+        shows_it = piece_of_shown (Leaf 0) columns rows new_entries (grown position bit entry first (piece node)) sh;
+        height_is = refl;
+      }
+
+  new_leaves : IsLawful (node_of new_head (leaves (length node.rows + 1)))
+  new_leaves = with_leaves (node_of new_head new_entries) forked_built.lawful (length node.rows + 1) (omega (arith, same_count node lawful, new_length))
+
+-- what a node with a new fork needs
+pub record NewFork (node : NodeView) (position first last : ℕ) (bit : Bool) (entry : Entry) : Type 0 where
+  pub ordered : first ≤ last
+  pub in_range : last < length node.entries
+  pub children : All IsEntry (edited first (last + 1 - first) (forked_places bit entry) node.entries)
+  pub greatest : node.height ≡ 1 → greatest_height (edited first (last + 1 - first) (forked_places bit entry) node.entries) ≡ height_of entry
+  pub leaves_fit : IsLawful (node_of (forked_head (1 + greatest_height (edited first (last + 1 - first) (forked_places bit entry) node.entries)) position first last bit (head_of node)) (leaves (length node.rows + 1)))
+  pub built : IsBuiltFrom (node_of (forked_head (1 + greatest_height (edited first (last + 1 - first) (forked_places bit entry) node.entries)) position first last bit (head_of node))
+      (edited first (last + 1 - first) (forked_places bit entry) node.entries)) (grown position bit entry first (piece node))
+
+pub new_fork : (node : NodeView) (lawful : IsLawful node) (self : NodeView) (same : node ≡ self) (position first last : ℕ) (bit : Bool) (entry : Entry) →
+    IsAffected (piece self) position first last → length self.entries < 32 → position < 65535 → IsEntry entry → NewFork node position first last bit entry
+new_fork node lawful self same position first last bit entry at has_room below stands =
+    let range : IsAffected (piece node) position first last = subst (λ v. IsAffected (piece v) position first last) (sym same) at in
+    let room : length node.entries < 32 = subst (λ (v : NodeView). length v.entries < 32) (sym same) has_room in
+    record {
+      ordered = (new_range node lawful position first last bit entry range room below stands).0;
+      in_range = (new_range node lawful position first last bit entry range room below stands).1;
+      children = new_children node lawful position first last bit entry range room below stands;
+      greatest = new_greatest node lawful position first last bit entry range room below stands;
+      leaves_fit = new_leaves node lawful position first last bit entry range room below stands;
+      built = forked_built node lawful position first last bit entry range room below stands;
+    }

@@ -1,4 +1,5 @@
 -- The lemmas, lowest first.
+pub mod Editing
 pub mod Ladders
 pub mod Heights
 pub mod Lawful
@@ -7,3 +8,4 @@ pub mod Forks
 pub mod Sides
 pub mod Removing
 pub mod Roots
+pub mod Forked

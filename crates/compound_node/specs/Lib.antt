@@ -2,4 +2,5 @@
 pub mod Ladders
 pub mod Removal
 pub mod Nodes
+pub mod Forking
 pub mod Halves

@@ -4,7 +4,7 @@ ghost use Rattle.std.specs.List.{All};
 ghost use Rattle.std.specs.Prelude.{◌≡◌, ◌↔◌, ◌+◌, ◌-◌, ◌<◌, ◌≤◌, ◌++◌, IsTrue, length, remove, slice_set};
 ghost use Rattle.arrayvec.specs.ArrayVec.{array_vec_len};
 ghost use Rattle.pieces.specs.Growth.{edited, forked_places};
-ghost use Rattle.compound_node.specs.Nodes.{IsEntry, StandsBelow, greatest_height};
+ghost use Rattle.compound_node.specs.Nodes.{IsEntry, StandsBelow, greatest_height, height_of};
 
 use arrayvec::ArrayVec;
 
@@ -53,6 +53,19 @@ pub(crate) fn height_over(entries: &[Entry]) -> u16
     1 + greatest
 }
 
+/// The height of a new node over these entries, of which all but one stood in a node of this height.
+pub(crate) fn height_with(entries: &[Entry], entry: Entry, height: u16) -> u16
+    requires children { All IsEntry entries.now }
+    requires leaves { height ≡ 1 → greatest_height entries.now ≡ height_of entry }
+    ensures { result ≡ 1 + greatest_height entries.now }
+{
+    if height == 1 {
+        1 + entry.height()
+    } else {
+        height_over(entries)
+    }
+}
+
 /// Whether an entry can stand in a node of this height.
 fn stands_below(entry: Entry, height: u16) -> bool
     ensures { IsTrue result ↔ StandsBelow height entry }
@@ -85,30 +98,21 @@ pub(crate) fn listed(entries: &[Entry]) -> ArrayVec<Entry, 32>
     list
 }
 
-/// The entries with a new one straight after `last` or straight before `first`.
-pub(crate) fn inserted(
-    entries: &[Entry],
+/// Puts a new entry in straight after `last` or straight before `first`.
+pub(crate) fn insert_beside(
+    entries: &mut ArrayVec<Entry, 32>,
     first: usize,
     last: usize,
     bit: bool,
     entry: Entry,
-) -> ArrayVec<Entry, 32>
-    requires room { length entries.now < 32 }
+)
+    requires room { array_vec_len entries.old < 32 }
     requires range { first ≤ last }
-    requires in_range { last < length entries.now }
-    ensures { result.items ≡ edited first (last + 1 - first) (forked_places bit entry) entries.now }
+    requires in_range { last < array_vec_len entries.old }
+    ensures { entries.new.items ≡ edited first (last + 1 - first) (forked_places bit entry) entries.old.items }
 {
-    let mut list = ArrayVec::new();
-    append(&mut list, &entries[..first]);
-    if bit {
-        append(&mut list, &entries[first..last + 1]);
-        list.push(entry);
-    } else {
-        list.push(entry);
-        append(&mut list, &entries[first..last + 1]);
-    }
-    append(&mut list, &entries[last + 1..]);
-    list
+    let at = if bit { last + 1 } else { first };
+    entries.insert(at, entry);
 }
 
 /// The entries without the one at a place.

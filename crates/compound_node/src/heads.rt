@@ -1,10 +1,12 @@
 //! Nodes without their entries.
 
-ghost use Rattle.std.specs.Prelude.{◌↔◌, IsTrue};
+ghost use Rattle.std.specs.Prelude.{◌≡◌, ◌↔◌, ◌<◌, ◌≤◌, ◌++◌, IsTrue, drop, false, if◌then◌else◌, length, map, take};
 ghost use Rattle.compound_node.specs.Nodes.{FitsWords};
 ghost use Rattle.partial_keys.specs.Columns.{IsColumns};
+ghost use Rattle.partial_keys.specs.Spread.{spread_row};
+ghost use Rattle.pieces.specs.Positions.{front_below, has, with_position};
 
-use super::rows::{are_sparse_keys, is_padded, padded, run_end, run_start};
+use super::rows::{are_sparse_keys, fork_rows, is_padded, padded, run_end, run_start, spread_all};
 use key_bits::Key;
 use partial_keys::{Columns, search_lanes};
 use std::marker::Model;
@@ -32,6 +34,7 @@ impl Model for Head {
 
 impl Head {
     ghost use Rattle.std.specs.Prelude.{◌≡◌, ℕ, ◌↔◌, ◌+◌, ◌<◌, ◌≤◌, IsSome, IfSome, length, slice_index, take};
+    ghost use Rattle.compound_node.specs.Forking.{forked_head};
     ghost use Rattle.compound_node.specs.Nodes.{AgreeBefore, InEachNode, IsHead, IsLawful, leaves, node_of, piece};
     ghost use Rattle.key_bits.specs.Bits.{bit_of};
     ghost use Rattle.partial_keys.specs.Rows.{with_unused};
@@ -134,6 +137,22 @@ impl Head {
         }
     }
 
+    /// Puts a new fork in over the entries from `first` to `last`; the height is this one then.
+    pub(crate) fn add(&mut self, height: u16, position: u16, first: usize, last: usize, bit: bool)
+        requires room { length self.old.rows < 32 }
+        requires range { first ≤ last }
+        requires in_range { last < length self.old.rows }
+        requires below { position < 65535 }
+        requires lawful { IsLawful (node_of (forked_head height position first last bit self.old) (leaves (length self.old.rows + 1))) }
+        ensures { self.new ≡ forked_head height position first last bit self.old }
+    {
+        let count = self.count as usize;
+        let below = make_column(&mut self.columns, &mut self.sparse, count, position);
+        fork_rows(&mut self.sparse, count, first, last, 1 << (31 - below), bit);
+        self.count += 1;
+        self.height = height;
+    }
+
     pub(crate) fn copy(&self) -> Head
         ensures { result ≡ self.now }
     {
@@ -172,6 +191,25 @@ impl Head {
     {
         self.sparse[at as usize]
     }
+}
+
+/// Makes a position a column, where it is none: the first `count` rows have 0 in it. Answers how many columns are below it.
+fn make_column(columns: &mut Columns, rows: &mut [u32; 32], count: usize, position: u16) -> u8
+    requires columns { length columns.old ≤ 31 }
+    requires room { has columns.old position ≡ false → length columns.old < 31 }
+    requires few { count ≤ 32 }
+    requires small { position < 65535 }
+    ensures below { result ≡ front_below position columns.old }
+    ensures few { result ≤ 31 }
+    ensures columns { columns.new ≡ (if has columns.old position then columns.old else with_position position columns.old) }
+    ensures rows { rows.new ≡ (if has columns.old position then rows.old else map (spread_row result) (take count rows.old) ++ drop count rows.old) }
+{
+    let below = columns.below(position);
+    if !columns.is_column_at(below, position) {
+        columns.put(below, position);
+        spread_all(rows, count, below);
+    }
+    below
 }
 
 /// Whether a head of some height has these fields.

@@ -1,7 +1,7 @@
 //! Compound nodes.
 
-use super::building::{built, with_fork};
-use super::entries::{Entry, all_stand_below, listed, replaced};
+use super::building::built;
+use super::entries::{Entry, all_stand_below, height_with, insert_beside, listed, replaced};
 use super::halves::{Cut, Half, cut_of, rest_of};
 use super::heads::Head;
 use arrayvec::ArrayVec;
@@ -173,16 +173,32 @@ impl Node {
         requires entry { IsEntry entry }
         ensures { IsBuiltFrom result (grown position bit entry first (piece self.now)) }
     {
-        with_fork(
-            *self.head.columns(),
-            self.head.rows(),
-            self.entries.as_slice(),
-            first as usize,
-            last as usize,
-            position,
-            bit,
-            entry,
-        )
+        let mut node = self.copy();
+        node.add(first, last, position, bit, entry);
+        node
+    }
+
+    /// Puts a new fork in, as `insert` does.
+    pub fn add(&mut self, first: u8, last: u8, position: u16, bit: bool, entry: Entry)
+        requires room { length self.old.entries < 32 }
+        requires range { IsAffected (piece self.old) position first last }
+        requires below { position < 65535 }
+        requires entry { IsEntry entry }
+        ensures { IsBuiltFrom self.new (grown position bit entry first (piece self.old)) }
+    {
+        let (first, last) = (first as usize, last as usize);
+        insert_beside(&mut self.entries, first, last, bit, entry);
+        let height = height_with(self.entries.as_slice(), entry, self.head.height());
+        self.head.add(height, position, first, last, bit);
+    }
+
+    fn copy(&self) -> Node
+        ensures { result ≡ self.now }
+    {
+        Node {
+            head: self.head.copy(),
+            entries: listed(self.entries.as_slice()),
+        }
     }
 
     /// The node with another entry at a place. The stored height stays.

@@ -1,7 +1,7 @@
 //! Sparse partial keys as rows of 32 bits, the column of the lowest position as the highest bit.
 
 ghost use Rattle.std.specs.List.{All};
-ghost use Rattle.std.specs.Prelude.{◌≡◌, ◌+◌, ◌-◌, ◌%◌, ◌^◌, ◌<◌, ◌≤◌, ◌↔◌, ◌++◌, IsTrue, map, length, take, bit_or};
+ghost use Rattle.std.specs.Prelude.{◌≡◌, ◌+◌, ◌-◌, ◌%◌, ◌^◌, ◌<◌, ◌≤◌, ◌↔◌, ◌++◌, IsTrue, drop, map, length, take, bit_or};
 ghost use Rattle.arrayvec.specs.ArrayVec.{array_vec_len};
 ghost use Rattle.partial_keys.specs.Rows.{with_unused};
 ghost use Rattle.partial_keys.specs.Runs.{agree_in, IsRunStart, IsRunEnd};
@@ -13,6 +13,7 @@ ghost use Rattle.compound_node.specs.Ladders.{AreSparseKeys, IsLadder};
 ghost use Rattle.compound_node.specs.Removal.{lowest, bit_after, cleared_front, removed_row};
 
 use arrayvec::ArrayVec;
+use partial_keys::put_in;
 
 /// The rows, with the unused places filled.
 pub(crate) fn padded(rows: &[u32]) -> [u32; 32]
@@ -93,51 +94,49 @@ fn spread(row: u32, j: u8) -> u32
     row & !low | (row & low) >> 1
 }
 
-pub(crate) fn spread_all(rows: &[u32], j: u8) -> ArrayVec<u32, 32>
+/// Puts a new column in at place `j` of the first `count` rows, which have 0 in it.
+pub(crate) fn spread_all(rows: &mut [u32; 32], count: usize, j: u8)
     requires column { j ≤ 31 }
-    requires room { length rows.now ≤ 32 }
-    ensures { result.items ≡ map (spread_row j) rows.now }
+    requires room { count ≤ 32 }
+    ensures { rows.new ≡ map (spread_row j) (take count rows.old) ++ drop count rows.old }
 {
-    let mut out = ArrayVec::new();
-    for row in rows {
-        out.push(spread(*row, j));
-    }
-    out
-}
-
-fn append_with(out: &mut ArrayVec<u32, 32>, rows: &[u32], bits: u32)
-    requires { array_vec_len out.old + length rows.now ≤ 32 }
-    ensures { out.new.items ≡ out.old.items ++ map (λ row. bit_or row bits) rows.now }
-{
-    for row in rows {
-        out.push(*row | bits);
+    for i in 0..count {
+        rows[i] = spread(rows[i], j);
     }
 }
 
-/// The rows with a new fork over those from `first` to `last`.
-pub(crate) fn forked(
-    rows: &[u32],
+/// Joins bits to the rows from `first` up to `end`.
+fn join_bits(rows: &mut [u32; 32], first: usize, end: usize, bits: u32)
+    requires ordered { first ≤ end }
+    requires in_range { end ≤ 32 }
+    ensures { rows.new ≡ edited first (end - first) (map (λ row. bit_or row bits)) rows.old }
+{
+    for i in first..end {
+        rows[i] |= bits;
+    }
+}
+
+/// Puts a new fork in over those from `first` to `last` of the first `count` rows.
+pub(crate) fn fork_rows(
+    rows: &mut [u32; 32],
+    count: usize,
     first: usize,
     last: usize,
     weight: u32,
     bit: bool,
-) -> ArrayVec<u32, 32>
-    requires room { length rows.now < 32 }
+)
+    requires room { count < 32 }
     requires range { first ≤ last }
-    requires in_range { last < length rows.now }
-    ensures { result.items ≡ edited first (last + 1 - first) (forked_rows weight bit) rows.now }
+    requires in_range { last < count }
+    ensures { rows.new ≡ edited first (last + 1 - first) (forked_rows weight bit) (take count rows.old) ++ drop (count + 1) rows.old }
 {
-    let mut out = ArrayVec::new();
-    append(&mut out, &rows[..first]);
+    let row = rows[first];
     if bit {
-        append(&mut out, &rows[first..last + 1]);
-        out.push(rows[first] | weight);
+        put_in(rows, count, last + 1, row | weight);
     } else {
-        out.push(rows[first]);
-        append_with(&mut out, &rows[first..last + 1], weight);
+        join_bits(rows, first, last + 1, weight);
+        put_in(rows, count, first, row);
     }
-    append(&mut out, &rows[last + 1..]);
-    out
 }
 
 // ---- the rows round one

@@ -1,0 +1,17 @@
+-- What a new fork does to a head.
+use Rattle.std.specs.Prelude.{Bool, if◌then◌else◌, map, ℕ, ◌+◌, ◌-◌, ◌^◌}
+use Rattle.compound_node.specs.Nodes.{HeadView}
+use Rattle.partial_keys.specs.Spread.{forked_rows, spread_row}
+use Rattle.pieces.specs.Growth.{edited}
+use Rattle.pieces.specs.Positions.{front_below, has, with_position}
+
+-- the head with a fork at the position over the rows from first to last, and with this height
+abbrev pub forked_head : ℕ → ℕ → ℕ → ℕ → Bool → HeadView → HeadView
+forked_head height position first last bit head =
+    let at = front_below position head.columns in
+    let is_column = has head.columns position in
+    record {
+      height = height;
+      columns = if is_column then head.columns else with_position position head.columns;
+      rows = edited first (last + 1 - first) (forked_rows (2 ^ (31 - at)) bit) (if is_column then head.rows else map (spread_row at) head.rows);
+    }
