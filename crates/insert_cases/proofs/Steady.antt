@@ -9,7 +9,7 @@ use Rattle.pieces.specs.Growth.{IsAffected, IsFresh, forked, grown}
 use Rattle.pieces.specs.Piece.{Piece, Place, Fork, size, paths, RisesFrom}
 use Rattle.partial_keys.specs.Rows.{row_of}
 use Rattle.compound_node.specs.Halves.{HalfShows}
-use Rattle.compound_node.specs.Nodes.{NodeView, piece, IsLawful}
+use Rattle.compound_node.specs.Nodes.{NodeView, piece, IsBuiltFrom, IsLawful}
 use Rattle.compound_node.specs.declared.entries.Entry.{Entry}
 use Rattle.compound_node.specs.declared.halves.Cut.{Cut}
 use Rattle.compound_node.specs.declared.halves.Half.{Half}
@@ -150,9 +150,13 @@ module _ (u : NodeView) (lawful : IsLawful u) where
         kept_steady cut (grown position bit x first (piece u)) shows (keeps (subst (AtRootFork (λ p zero one. position < p)) (sym is) low)))
         (cases_Bool (nat_lt q position))
 
+    -- the node with the entry
+    pub add_steady : (v : NodeView) → IsBuiltFrom v (grown position bit x first (piece u)) → KeepsHeight u v
+    add_steady v built = steady_longer u v lawful built.lawful (ap size built.shows_it ∙ size-grown position bit x first (piece u))
+
     pub grow_steady : (g : Grown) → GrownShows u g (grown position bit x first (piece u)) → (IsTrue (is_whole g) ↔ (length u.entries < 32)) →
         (IsTrue (keeps_node g) ↔ ((length u.entries ≡ 32) × AtRootFork (λ p zero one. position < p) (piece u))) → IsGrownSteady u g
-    grow_steady (Whole v) shows whole same = steady_longer u v lawful shows.lawful (ap size shows.shows_it ∙ size-grown position bit x first (piece u))
+    grow_steady (Whole v) shows whole same = add_steady v shows
     grow_steady (Two cut) shows whole same =
         let full : length u.entries ≡ 32 = ⊎_elim
         (λ e. absurd (false≢true (whole.1 (ltb-true (length u.entries) 32 e))))

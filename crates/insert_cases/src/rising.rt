@@ -104,9 +104,16 @@ fn grown_at(
     ensures capacity { vec_capacity nodes.new ≡ vec_capacity nodes.old }
 {
     let (first, last) = range;
-    let node = &nodes[number as usize];
-    prove!(node.count() <= 32);
-    let grown = grow(node, first, last, position, bit, Entry::Leaf(leaf));
+    let new = Entry::Leaf(leaf);
+    if nodes[number as usize].count() < 32 {
+        let node = &mut nodes[number as usize];
+        node.add(first, last, position, bit, new);
+        return Risen::Whole(Entry::Node {
+            number,
+            height: node.height(),
+        });
+    }
+    let grown = grow(&nodes[number as usize], first, last, position, bit, new);
     stored(nodes, number, height, grown)
 }
 
