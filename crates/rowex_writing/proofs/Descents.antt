@@ -28,9 +28,9 @@ use Rattle.rowex_walks.specs.Scan.{IsSeen, IsRooted, IsPlaced, IsShaped, IsRead}
 use Rattle.rowex_reading.specs.Lookups.{HasFound}
 use Rattle.rowex_reading.specs.Possible.{IsPossible}
 use Rattle.rowex_reading.specs.Reads.{Reads}
-use Rattle.rowex_reading.specs.Seen.{Sure, since, HasPlace, IsLedTo, shape_of}
+use Rattle.rowex_reading.specs.Seen.{Sure, seen, since, HasPlace, IsLedTo, shape_of}
 use Rattle.rowex_reading.proofs.Led.{reads_later, reads_trans, same_since}
-use Rattle.rowex_reading.proofs.Looking.{IsAt, at_led, at_next, at_place, leaf_held, leaf_absent}
+use Rattle.rowex_reading.proofs.Looking.{IsAt, at_led, at_next, at_place, leaf_found}
 use Rattle.rowex_reading.proofs.Seeing.{search_spot, sure_later, since_later, seen_stable, rooted_stable, shaped_stable}
 use Rattle.rowex_reading.proofs.Standing.{led_in_table}
 use Rattle.rowex_writing.specs.Ways.{IsWayOf, IsWayNode, IsFoundAt, IsMismatch, RootWas, named, step_at, value_of}
@@ -222,5 +222,5 @@ module _ {G : Type 0} {table : TableView} {becomes : G → Event → G → Type 
     end_found = go differ none
       where
         go : (o : Option ℕ) → (IsNone o ↔ (key ≡ l)) → HasFound c.0.known key (value_of (Leaf n v o))
-        go None none = leaf_held at n is few reads l v told (sym (none.0 refl))
-        go (Some p) none = leaf_absent at n is few reads l v told (λ e. absurd (let z = none.1 (sym e) in cc))
+        go None none = leaf_found at n is few reads (Some v) (λ m led o lawful recalls. subst (λ z. IsRead (seen o c.0.known) m n z v) (sym (none.0 refl)) (told m led o lawful recalls))
+        go (Some p) none = leaf_found at n is few reads None (λ m led o lawful recalls. (l, v, told m led o lawful recalls, (λ e. absurd (let z = none.1 e in cc))))

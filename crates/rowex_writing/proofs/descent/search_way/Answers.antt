@@ -41,8 +41,7 @@ load_leaf-leaf-requires-clause-led g c = (since c.loop-entry.seat.known, at_led 
 
 pub returns-in-Leaf-clause-searched : goal.returns-in-Leaf-clause-searched
 returns-in-Leaf-clause-searched g c =
-    let e = c.load_leaf-leaf.ensures in let l = c.load_leaf-leaf.result in
-    leaf_searched c.loop-entry.invariant.at c.in-Leaf.number c.in-Leaf.is e.few e.reads l.0 l.1 e.leaf
+    let e = c.load_leaf-leaf.ensures in leaf_searched c.loop-entry.invariant.at c.in-Leaf.number c.in-Leaf.is e.few e.reads
 
 pub returns-in-Leaf-clause-possible : goal.returns-in-Leaf-clause-possible
 returns-in-Leaf-clause-possible g c = (reader_then c.loop-entry.invariant.reader c.load_leaf-leaf.ensures.reads).1
