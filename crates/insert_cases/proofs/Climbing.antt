@@ -32,7 +32,7 @@ use Rattle.insert_cases.specs.Store.{IsShown}
 use Rattle.insert_cases.specs.Ways.{WayBelow}
 use Rattle.insert_cases.proofs.Affecting.{key_part}
 use Rattle.tries.proofs.Building.{bit_below, lower_to, node_built_from}
-use Rattle.insert_cases.proofs.Choosing.{has_found, all_away, affected_range, part_big, tip_small, tip_child, size_affected}
+use Rattle.insert_cases.proofs.Choosing.{has_found, same_some, all_away, affected_range, part_big, tip_small, tip_child, size_affected}
 use Rattle.insert_cases.proofs.Keeping.{shown_more}
 use Rattle.insert_cases.proofs.Lifting.{grow_raised, lower_part, old_stays, body_adds, pulled_raised}
 use Rattle.insert_cases.proofs.Raised.{child_spot}
@@ -351,3 +351,10 @@ replaced_named us n at e old view stands lawful high shows = record {
   shows = shows ∙ replaced_grafted at e (piece old);
   height = inr (high, ap first_position shows ∙ first_replaced at e (piece old));
 }
+
+-- the entry that was read stands there still, where the node stayed
+pub child_held : (ns ms : List NodeView) (n at : ℕ) (u v old : NodeView) (e : Entry) → slice_get ns n ≡ Some u → v ≡ get_or ns n v → slice_get ms n ≡ Some u → slice_get ms n ≡ Some old →
+    IsLawful v → slice_get v.entries at ≡ Some e → IsLawful old × (slice_get old.entries at ≡ Some e)
+child_held ns ms n at u v old e there read still now lawful held =
+    let same : v ≡ old = read_at ns n u v there read ∙ same_some (sym still ∙ now) in
+    (subst IsLawful same lawful, ap (λ (w : NodeView). slice_get w.entries at) (sym same) ∙ held)

@@ -4,7 +4,7 @@ ghost use Rattle.std.specs.Prelude.{◌≡◌, ℕ, suc, ◌+◌, ◌^◌, ◌<�
 ghost use Rattle.std.specs.Vec.{vec_len, vec_capacity};
 ghost use Rattle.pieces.specs.Growth.{grown, IsAffected};
 ghost use Rattle.pieces.specs.Piece.{Fork, Place as At, size};
-ghost use Rattle.compound_node.specs.Nodes.{NodeView, piece, IsEntry, StandsBelow, height_of};
+ghost use Rattle.compound_node.specs.Nodes.{NodeView, piece, IsEntry, IsLawful, StandsBelow, height_of};
 ghost use Rattle.tries.specs.Affected.{page_forked};
 ghost use Rattle.tries.specs.Content.{Item, item};
 ghost use Rattle.tries.specs.Tree.{Tree, Fixed, node as tree_node};
@@ -58,7 +58,7 @@ pub fn raised(nodes: &mut Vec<Node>, entry: Entry, key: &Key, position: u16, lea
                 );
             }
             let risen = raised(nodes, child, key, position, leaf);
-            lifted(nodes, number, height, at, child.height(), risen)
+            lifted(nodes, number, height, at, child, risen)
         }
     }
 }
@@ -117,22 +117,23 @@ fn grown_at(
     stored(nodes, number, height, grown)
 }
 
-/// What takes a node's place when the child at `at`, which had the height `low`, gave way. A fork goes into the node
-/// where the node is one higher than the child, and into a new child otherwise.
+/// What takes a node's place when its child at `at` gave way. Where that is the child's own entry, the node stays as it
+/// is. A fork goes into the node where the node is one higher than the child, and into a new child otherwise.
 pub fn lifted(
     nodes: &mut Vec<Node>,
     number: u32,
     height: u16,
     at: u8,
-    low: u16,
+    child: Entry,
     risen: Risen,
 ) -> Risen
     requires place { (ns : List NodeView) × (leaves : List LeafRecord) × (x : Item) × (p : ℕ) × (y : Fixed) × (b : Tree) ×
-        IsLifting ns nodes.old.items leaves x p number height at low y b (page_of risen) }
+        IsLifting ns nodes.old.items leaves x p number height at (height_of child) y b (page_of risen) }
+    requires child { (old : NodeView) → slice_get nodes.old.items number ≡ Some old → IsLawful old × (slice_get old.entries at ≡ Some child) }
     requires room { vec_len nodes.old < vec_capacity nodes.old }
     requires small { vec_len nodes.old < 2 ^ 32 }
     ensures raised { (ns : List NodeView) (leaves : List LeafRecord) (x : Item) (p : ℕ) (y : Fixed) (b : Tree) →
-        IsLifting ns nodes.old.items leaves x p number height at low y b (page_of risen) →
+        IsLifting ns nodes.old.items leaves x p number height at (height_of child) y b (page_of risen) →
         IsRaised ns nodes.new.items leaves x p (tree_node number y b) (suc height) (page_of result) }
     ensures others { OthersStay nodes.old.items nodes.new.items number }
     ensures heights { KeepsHeights nodes.old.items nodes.new.items }
@@ -140,12 +141,17 @@ pub fn lifted(
     ensures capacity { vec_capacity nodes.new ≡ vec_capacity nodes.old }
 {
     match risen {
-        Risen::Whole(entry) => Risen::Whole(replaced(nodes, number, at, entry)),
+        Risen::Whole(entry) => {
+            if entry == child {
+                return Risen::Whole(Entry::Node { number, height });
+            }
+            Risen::Whole(replaced(nodes, number, at, entry))
+        }
         Risen::Split {
             position,
             zero,
             one,
-        } => match place(low, Some(height)) {
+        } => match place(child.height(), Some(height)) {
             Place::PullUp => forked_at(nodes, number, height, at, position, zero, one),
             _ => {
                 let entry = settled(nodes, position, zero, one);
@@ -207,7 +213,7 @@ pub fn rooted(nodes: &mut Vec<Node>, risen: Risen) -> Entry
     }
 }
 
-/// A node with an entry at a place, in its own record, which stays as it is where the entry stands there already.
+/// A node with another entry at a place, in its own record.
 fn replaced(nodes: &mut Vec<Node>, number: u32, at: u8, entry: Entry) -> Entry
     requires { (old : NodeView) × (slice_get nodes.old.items number ≡ Some old) × (at < size (piece old)) × StandsBelow old.height entry }
     ensures shows { (old : NodeView) → slice_get nodes.old.items number ≡ Some old → IsNamed nodes.new.items old result (grafted at (At entry) (piece old)) }
@@ -218,12 +224,6 @@ fn replaced(nodes: &mut Vec<Node>, number: u32, at: u8, entry: Entry) -> Entry
 {
     let node = &nodes[number as usize];
     prove!(at < node.count());
-    if node.entry(at) == entry {
-        return Entry::Node {
-            number,
-            height: node.height(),
-        };
-    }
     let node = node.replace(at, entry);
     kept(nodes, number, node)
 }

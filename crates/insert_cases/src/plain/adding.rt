@@ -70,7 +70,7 @@ pub(super) fn added(
                     }
                 }
                 Addition::Below(risen) => {
-                    Addition::Below(lifted(nodes, number, height, at, child.height(), risen))
+                    Addition::Below(lifted(nodes, number, height, at, child, risen))
                 }
                 Addition::Held(leaf) => Addition::Held(leaf),
                 Addition::Refused => Addition::Refused,

@@ -1,5 +1,5 @@
 -- The search goes down to the affected node, and the new leaf rises from there.
-use Rattle.std.proofs.Common.{◌≡◌, inl, inr, ℕ, List, suc, ap, sym, ◌∙◌, subst, arith}
+use Rattle.std.proofs.Common.{◌≡◌, inl, inr, ℕ, List, refl, suc, ap, sym, ◌∙◌, subst, arith}
 use Rattle.pieces.specs.Growth.{grown, IsAffected}
 use Rattle.compound_node.specs.Nodes.{piece, height_of}
 use Rattle.compound_node.specs.declared.entries.Entry.TheVariants.{Leaf}
@@ -12,9 +12,9 @@ use Rattle.insert_cases.specs.declared.plain.LeafRecord.{LeafRecord}
 use Rattle.insert_cases.specs.Rising.{IsAddable, IsLifting, IsRaised}
 use Rattle.insert_cases.specs.Risen.{page_of, RisenShows}
 use Rattle.insert_cases.proofs.Heights.{heights_over}
-use Rattle.insert_cases.proofs.Climbing.{old_at, addable_to, node_here, here_positive, here_within, here_high, here_spot, here_from, here_upto, here_entry, here_raised, here_lifting, part, range, way_below, child_addable, child_low, beside_raised}
+use Rattle.insert_cases.proofs.Climbing.{old_at, addable_to, node_here, here_positive, here_within, here_high, here_spot, here_from, here_upto, here_entry, here_raised, here_lifting, part, range, way_below, child_addable, child_low, beside_raised, child_held}
 use Rattle.insert_cases.proofs.rising.+raised.Goals as goal
-use Rattle.insert_cases.proofs.rising.+raised.Goals.{After-height}
+use Rattle.insert_cases.proofs.rising.+raised.Goals.{After-raised-risen}
 use Rattle.tries.specs.Content.{item}
 
 pub index-node-requires : goal.index-node-requires
@@ -74,10 +74,10 @@ raised-risen-requires t c =
     (omega (arith, c.decreases), ((q.0, q.1, child c.args.key.now u.body, child_addable i u c.entry-child.result is), (c.requires.position, (omega (arith, c.requires.room), omega (arith, c.requires.small)))))
 
 -- what took the child's place, where the search goes on there
-lifts : (t : ℕ) (c : After-height t) (leaves : List LeafRecord) (value : ℕ) (s : Tree) →
+lifts : (t : ℕ) (c : After-raised-risen t) (leaves : List LeafRecord) (value : ℕ) (s : Tree) →
     IsAddable c.args.nodes.now.items leaves (item c.args.leaf c.args.key.now value) c.args.position c.args.entry s →
     (y : Fixed) × (b : Tree) × (s ≡ node c.in-Node.number y b) × IsLifting c.args.nodes.now.items c.raised-risen.new.nodes.items leaves (item c.args.leaf c.args.key.now value) c.args.position
-    c.in-Node.number c.in-Node.height c.search-at.result c.height.result y b (page_of c.raised-risen.result)
+    c.in-Node.number c.in-Node.height c.search-at.result (height_of c.entry-child.result) y b (page_of c.raised-risen.result)
 lifts t c leaves value s a =
     let i = addable_to c.in-Node.is a in
     let u = node_here i in
@@ -90,15 +90,22 @@ lifts t c leaves value s a =
     let upto = here_upto u v c.index-node.ensures at first last leads c.affected-first.ensures.upto in
     let is = here_entry u v c.index-node.ensures at c.entry-child.result c.count.ensures.lawful leads c.entry-child.ensures.entry in
     let up = c.raised-risen.ensures.raised leaves value _ (child_addable i u c.entry-child.result is) in
-    let l = here_lifting u at c.height.result c.entry-child.result c.raised-risen.new.nodes.items (page_of c.raised-risen.result) (way_below i u first last from upto c.if-first-last.false)
-    (here_spot u v c.index-node.ensures at leads) is c.height.ensures up in
+    let l = here_lifting u at (height_of c.entry-child.result) c.entry-child.result c.raised-risen.new.nodes.items (page_of c.raised-risen.result) (way_below i u first last from upto c.if-first-last.false)
+    (here_spot u v c.index-node.ensures at leads) is refl up in
     (u.fixed, u.body, u.is, l)
 
 pub lifted-requires-clause-place : goal.lifted-requires-clause-place
 lifted-requires-clause-place t c =
     let (leaves, value, s, a) = c.requires.place in
-    let (y, b, is, l) = lifts t (goal.at.lifted-requires-clause-place t c).After-height leaves value s a in
+    let (y, b, is, l) = lifts t (goal.at.lifted-requires-clause-place t c).After-raised-risen leaves value s a in
     (c.args.nodes.now.items, leaves, item c.args.leaf c.args.key.now value, c.args.position, y, b, l)
+
+pub lifted-requires-clause-child : goal.lifted-requires-clause-child
+lifted-requires-clause-child t c = λ old at.
+    let (leaves, value, s, a) = c.requires.place in
+    let (y, b, is, l) = lifts t (goal.at.lifted-requires-clause-child t c).After-raised-risen leaves value s a in
+    child_held c.args.nodes.now.items c.raised-risen.new.nodes.items c.in-Node.number c.search-at.result l.shown.0.view c.index-node.result.now old c.entry-child.result
+    l.shown.0.at c.index-node.ensures (old_at l) at c.count.ensures.lawful c.entry-child.ensures.entry
 
 pub lifted-requires-clause-room : goal.lifted-requires-clause-room
 lifted-requires-clause-room t c =
@@ -127,7 +134,7 @@ returns-in-Leaf-clause-raised t c = λ leaves value s a.
 pub returns-else-height-eq1-clause-raised : goal.returns-else-height-eq1-clause-raised
 returns-else-height-eq1-clause-raised t c = λ leaves value s a.
     let x = item c.args.leaf c.args.key.now value in
-    let (y, b, is, l) = lifts t (goal.at.returns-else-height-eq1-clause-raised t c).After-height leaves value s a in
+    let (y, b, is, l) = lifts t (goal.at.returns-else-height-eq1-clause-raised t c).After-raised-risen leaves value s a in
     let r = c.lifted.ensures.raised c.args.nodes.now.items leaves x c.args.position y b l in
     subst (λ h. IsRaised c.args.nodes.now.items c.lifted.new.nodes.items leaves x c.args.position s (suc h) (page_of c.lifted.result)) (sym (ap height_of c.in-Node.is))
     (subst (λ z. IsRaised c.args.nodes.now.items c.lifted.new.nodes.items leaves x c.args.position z (suc c.in-Node.height) (page_of c.lifted.result)) (sym is) r)
@@ -135,7 +142,7 @@ returns-else-height-eq1-clause-raised t c = λ leaves value s a.
 pub returns-else-height-eq1-clause-heights : goal.returns-else-height-eq1-clause-heights
 returns-else-height-eq1-clause-heights t c =
     let (leaves, value, s, a) = c.requires.place in
-    let (y, b, is, l) = lifts t (goal.at.returns-else-height-eq1-clause-heights t c).After-height leaves value s a in
+    let (y, b, is, l) = lifts t (goal.at.returns-else-height-eq1-clause-heights t c).After-raised-risen leaves value s a in
     heights_over c.args.nodes.now.items c.raised-risen.new.nodes.items c.lifted.new.nodes.items c.raised-risen.ensures.heights c.lifted.ensures.heights
     c.in-Node.number l.shown.0.view l.shown.0.at (old_at l) c.lifted.ensures.others
 

@@ -1,5 +1,5 @@
 -- The node that is named gets the entry.
-use Rattle.std.proofs.Common.{rules, ◌≡◌, inl, inr, ap, sym, ◌∙◌, arith}
+use Rattle.std.proofs.Common.{◌≡◌, inl, inr, ap, sym, ◌∙◌, arith}
 use Rattle.std.specs.Prelude.{slice_get, Some}
 use Rattle.std.proofs.lemmas.Option.{slice_get_within}
 use Rattle.pieces.specs.Changes.{replaced}
@@ -8,7 +8,6 @@ use Rattle.compound_node.specs.Nodes.{NodeView, piece}
 use Rattle.insert_cases.proofs.Climbing.{replaced_named}
 use Rattle.insert_cases.proofs.Heights.{heights_set}
 use Rattle.tries.proofs.Building.{size-piece}
-use Rattle.insert_cases.proofs.NodeFacts.{piece-same}
 use Rattle.insert_cases.proofs.Searching.{read_at}
 use Rattle.insert_cases.proofs.Storing.{set_same, set_other}
 use Rattle.insert_cases.proofs.rising.replaced.Goals as goal
@@ -53,14 +52,3 @@ returns-clause-heights c =
     let v = c.index-node.result.now in
     let same : v ≡ o.0 = read_at c.args.nodes.now.items c.args.number o.0 v o.1 c.index-node.ensures in
     rw c.kept.ensures.nodes (heights_set c.args.nodes.now.items c.args.number v c.replace-node.result (o.1 ∙ ap Some (sym same)) (inl (inr (c.args.at, c.args.entry, c.replace-node.ensures.fields))))
-
--- where it stands there already, nothing changes
-pub returns-then-eq-clause-shows : goal.returns-then-eq-clause-shows
-returns-then-eq-clause-shows c = λ old at.
-    let v = c.index-node.result.now in
-    let same : v ≡ old = read_at c.args.nodes.now.items c.args.number old v at c.index-node.ensures in
-    let stands : slice_get c.args.nodes.now.items c.args.number ≡ Some v = at ∙ ap Some (sym same) in
-    let there : slice_get v.entries c.args.at ≡ Some c.args.entry = c.entry.ensures.entry ∙ ap Some (search (rules, c.if-eq.ensures)) in
-    let shows : piece v ≡ replaced c.args.at c.args.entry (piece old) =
-    sym (piece-same v c.args.at c.args.entry c.count.ensures.lawful there) ∙ ap (λ (u : NodeView). replaced c.args.at c.args.entry (piece u)) same in
-    rw c.height.ensures (replaced_named c.args.nodes.now.items c.args.number c.args.at c.args.entry old v stands c.count.ensures.lawful (ap (λ (u : NodeView). u.height) same) shows)

@@ -1,5 +1,5 @@
 -- A search goes down to a leaf, and what becomes of it rises from there.
-use Rattle.std.proofs.Common.{◌≡◌, ℕ, suc, ap, length, sym, ◌∙◌, subst, arith}
+use Rattle.std.proofs.Common.{◌≡◌, ℕ, refl, suc, ap, length, sym, ◌∙◌, subst, arith}
 use Rattle.std.proofs.lemmas.Option.{slice_get_within}
 use Rattle.std.specs.Prelude.{slice_get}
 use Rattle.pieces.specs.Changes.{AtRootFork}
@@ -12,7 +12,7 @@ use Rattle.insert_cases.specs.Heights.{KeepsHeights}
 use Rattle.insert_cases.specs.Rising.{IsRaised, IsAddable}
 use Rattle.insert_cases.specs.Risen.{page_of}
 use Rattle.insert_cases.proofs.Adding.{IsAt, search_at, standing_to, standing_node, child_lower, within_standing, ends_above, absent_above, addable_above, here_above, way_above, behind_within, behind_first, risen_here}
-use Rattle.insert_cases.proofs.Climbing.{addable_to, here_lifting, here_spot, old_at}
+use Rattle.insert_cases.proofs.Climbing.{addable_to, here_lifting, child_held, here_spot, old_at}
 use Rattle.insert_cases.proofs.Heights.{heights_same, heights_over}
 use Rattle.insert_cases.proofs.Searching.{read_at}
 use Rattle.insert_cases.proofs.plain.adding.+added.Goals as goal
@@ -73,9 +73,23 @@ lifted-requires-clause-place t c =
       r.position,
       u.fixed,
       u.body,
-      here_lifting u c.search-at.result c.height.result c.entry-child.result c.added.new.nodes.items (page_of c.in-Below.risen)
-          (way_above a.whole a.node us k c.args.value (length ls) r.position r.leaves c.entry-child.result r.addable r.behind) (here_spot u v c.index-node.ensures c.search-at.result c.search-at.ensures.leads) a.is c.height.ensures r.raised,
+      here_lifting u c.search-at.result (height_of c.entry-child.result) c.entry-child.result c.added.new.nodes.items (page_of c.in-Below.risen)
+          (way_above a.whole a.node us k c.args.value (length ls) r.position r.leaves c.entry-child.result r.addable r.behind) (here_spot u v c.index-node.ensures c.search-at.result c.search-at.ensures.leads) a.is refl r.raised,
     )
+
+pub lifted-requires-clause-child : goal.lifted-requires-clause-child
+lifted-requires-clause-child t c = λ old at.
+    let a = here t (goal.at.lifted-requires-clause-child t c).After-entry-child c.requires.place.0 c.requires.place.1 in
+    let k = c.args.key.now in
+    let v = c.index-node.result.now in
+    let us = c.added.new.leaves.items in
+    let n = length c.args.leaves.now.items in
+    let r = c.in-Below.ensures.adds _ a.below in
+    let u = here_above a.whole a.node us k c.args.value n r.position r.leaves c.entry-child.result r.addable in
+    let l = here_lifting u c.search-at.result (height_of c.entry-child.result) c.entry-child.result c.added.new.nodes.items (page_of c.in-Below.risen)
+    (way_above a.whole a.node us k c.args.value n r.position r.leaves c.entry-child.result r.addable r.behind) (here_spot u v c.index-node.ensures c.search-at.result c.search-at.ensures.leads) a.is refl r.raised in
+    child_held c.args.nodes.now.items c.added.new.nodes.items c.in-Node.number c.search-at.result l.shown.0.view v old c.entry-child.result
+    l.shown.0.at c.index-node.ensures (old_at l) at c.count.ensures.lawful c.entry-child.ensures.entry
 
 pub lifted-requires-clause-room : goal.lifted-requires-clause-room
 lifted-requires-clause-room t c =
@@ -137,8 +151,8 @@ returns-in-Below-clause-adds t c = λ tree stands.
     let r = c.in-Below.ensures.adds _ a.below in
     let x = item n k c.args.value in
     let u = here_above a.whole a.node us k c.args.value n r.position r.leaves c.entry-child.result r.addable in
-    let l = here_lifting u c.search-at.result c.height.result c.entry-child.result c.added.new.nodes.items (page_of c.in-Below.risen)
-    (way_above a.whole a.node us k c.args.value n r.position r.leaves c.entry-child.result r.addable r.behind) (here_spot u v c.index-node.ensures c.search-at.result c.search-at.ensures.leads) a.is c.height.ensures r.raised in
+    let l = here_lifting u c.search-at.result (height_of c.entry-child.result) c.entry-child.result c.added.new.nodes.items (page_of c.in-Below.risen)
+    (way_above a.whole a.node us k c.args.value n r.position r.leaves c.entry-child.result r.addable r.behind) (here_spot u v c.index-node.ensures c.search-at.result c.search-at.ensures.leads) a.is refl r.raised in
     let up = c.lifted.ensures.raised ns us x r.position u.fixed u.body l in
     record {
       leaves = r.leaves;
@@ -158,8 +172,8 @@ returns-in-Below-clause-heights t c =
     let n = length c.args.leaves.now.items in
     let r = c.in-Below.ensures.adds _ a.below in
     let u = here_above a.whole a.node us k c.args.value n r.position r.leaves c.entry-child.result r.addable in
-    let l = here_lifting u c.search-at.result c.height.result c.entry-child.result c.added.new.nodes.items (page_of c.in-Below.risen)
-    (way_above a.whole a.node us k c.args.value n r.position r.leaves c.entry-child.result r.addable r.behind) (here_spot u v c.index-node.ensures c.search-at.result c.search-at.ensures.leads) a.is c.height.ensures r.raised in
+    let l = here_lifting u c.search-at.result (height_of c.entry-child.result) c.entry-child.result c.added.new.nodes.items (page_of c.in-Below.risen)
+    (way_above a.whole a.node us k c.args.value n r.position r.leaves c.entry-child.result r.addable r.behind) (here_spot u v c.index-node.ensures c.search-at.result c.search-at.ensures.leads) a.is refl r.raised in
     heights_over c.args.nodes.now.items c.added.new.nodes.items c.lifted.new.nodes.items c.added.ensures.heights c.lifted.ensures.heights
     c.in-Node.number l.shown.0.view l.shown.0.at (old_at l) c.lifted.ensures.others
 
