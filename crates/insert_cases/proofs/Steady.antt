@@ -154,15 +154,10 @@ module _ (u : NodeView) (lawful : IsLawful u) where
     pub add_steady : (v : NodeView) → IsBuiltFrom v (grown position bit x first (piece u)) → KeepsHeight u v
     add_steady v built = steady_longer u v lawful built.lawful (ap size built.shows_it ∙ size-grown position bit x first (piece u))
 
-    pub grow_steady : (g : Grown) → GrownShows u g (grown position bit x first (piece u)) → (IsTrue (is_whole g) ↔ (length u.entries < 32)) →
-        (IsTrue (keeps_node g) ↔ ((length u.entries ≡ 32) × AtRootFork (λ p zero one. position < p) (piece u))) → IsGrownSteady u g
-    grow_steady (Whole v) shows whole same = add_steady v shows
-    grow_steady (Two cut) shows whole same =
-        let full : length u.entries ≡ 32 = ⊎_elim
-        (λ e. absurd (false≢true (whole.1 (ltb-true (length u.entries) 32 e))))
-        (λ e. let l = ltb-false (length u.entries) 32 e in omega (arith, lawful.room))
-        (cases_Bool (nat_lt (length u.entries) 32)) in
-        full_cut cut shows (λ low. same.1 (full, low)) (piece u) refl
+    -- and what a full node becomes
+    pub full_steady : (g : Grown) → GrownShows u g (grown position bit x first (piece u)) → is_whole g ≡ false → (IsTrue (keeps_node g) ↔ AtRootFork (λ p zero one. position < p) (piece u)) → IsGrownSteady u g
+    full_steady (Whole v) shows whole same = absurd (false≢true (sym whole))
+    full_steady (Two cut) shows whole same = full_cut cut shows same.1 (piece u) refl
 
   -- ---- a fork for an entry
   module _ (position at : ℕ) (z o : Entry) (path : IsAbovePath position at (piece u)) where

@@ -14,7 +14,7 @@ ghost use Rattle.insert_cases.specs.Rising.{IsRaised, IsAddable, IsLifting};
 ghost use Rattle.insert_cases.specs.Risen.{page_of, IsNamed, RisenShows, OthersStay, AllStay};
 ghost use Rattle.insert_cases.specs.declared.plain.LeafRecord.{LeafRecord};
 
-use crate::growth::{Place, grow, pull_up};
+use crate::growth::{Place, grow_full, pull_up};
 use crate::overflow::place;
 use crate::raising::{Risen, kept, settled, stored};
 use compound_node::{Entry, Node};
@@ -113,7 +113,7 @@ fn grown_at(
             height: node.height(),
         });
     }
-    let grown = grow(&nodes[number as usize], first, last, position, bit, new);
+    let grown = grow_full(&nodes[number as usize], first, last, position, bit, new);
     stored(nodes, number, height, grown)
 }
 

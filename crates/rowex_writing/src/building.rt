@@ -201,11 +201,11 @@ fn raise_lowest<G: Gate>(
     ensures few { seat.new.known.steps ≤ seat.old.known.steps + level_steps table.now.layout }
 {
     let node = read_locked(table, seat, gate, number);
-    let grown = with_leaf(&node, key, position, first, last, leaf);
     let old = Entry::Node {
         number,
         height: node.height(),
     };
+    let grown = with_leaf(node, key, position, first, last, leaf);
     let stays = stays_whole(&grown);
     let risen = make_risen(table, seat, gate, build, old, &grown)?;
     Some((risen, stays))

@@ -17,13 +17,13 @@ use key_bits::Key;
 
 /// The node with a new leaf for the key, beside the entries from `first` to `last`: those that the position affects. A
 /// full node gives the two sides of its first fork; where the position is before that fork, it is one of them as it is.
-pub fn with_leaf(node: &Node, key: &Key, position: u16, first: u8, last: u8, leaf: u32) -> Grown
-    requires affects { AffectsJust key.now position first last (piece node.now) }
-    requires tree { IsTreePage (page_grown position key.now (Entry.Leaf leaf) (piece node.now)) }
-    ensures shows { GrownShows node.now result (page_grown position key.now (Entry.Leaf leaf) (piece node.now)) }
-    ensures whole { IsTrue (is_whole result) ↔ (length node.now.entries < 32) }
-    ensures same { IsTrue (keeps_node result) ↔ ((length node.now.entries ≡ 32) × AtRootFork (λ p zero one. position < p) (piece node.now)) }
-    ensures low { IsNoHigher node.now.height result }
+pub fn with_leaf(node: Node, key: &Key, position: u16, first: u8, last: u8, leaf: u32) -> Grown
+    requires affects { AffectsJust key.now position first last (piece node) }
+    requires tree { IsTreePage (page_grown position key.now (Entry.Leaf leaf) (piece node)) }
+    ensures shows { GrownShows node result (page_grown position key.now (Entry.Leaf leaf) (piece node)) }
+    ensures whole { IsTrue (is_whole result) ↔ (length node.entries < 32) }
+    ensures same { IsTrue (keeps_node result) ↔ ((length node.entries ≡ 32) × AtRootFork (λ p zero one. position < p) (piece node)) }
+    ensures low { IsNoHigher node.height result }
 {
     prove!(node.count() <= 32);
     let bit = key.bit(position);

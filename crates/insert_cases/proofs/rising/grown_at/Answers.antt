@@ -8,7 +8,7 @@ use Rattle.insert_cases.specs.Grown.{GrownShows}
 use Rattle.insert_cases.proofs.Choosing.{same_some}
 use Rattle.insert_cases.proofs.Heights.{heights_whole}
 use Rattle.insert_cases.proofs.Searching.{read_at}
-use Rattle.insert_cases.proofs.Steady.{add_steady, grow_steady}
+use Rattle.insert_cases.proofs.Steady.{add_steady, full_steady}
 use Rattle.insert_cases.proofs.rising.grown_at.Goals as goal
 
 pub returns-then-count-lt32-clause-heights : goal.returns-then-count-lt32-clause-heights
@@ -26,8 +26,8 @@ index-requires-2 c =
     let o = c.requires.place in
     omega (arith, slice_get_within c.args.nodes.now.items c.args.number o.0 o.1, c.args.nodes.now.ok.0)
 
-pub grow-grown-requires-clause-range : goal.grow-grown-requires-clause-range
-grow-grown-requires-clause-range c =
+pub grow_full-grown-requires-clause-range : goal.grow_full-grown-requires-clause-range
+grow_full-grown-requires-clause-range c =
     let o = c.requires.place in
     let same : c.index-2.result.now ≡ o.0 = read_at c.args.nodes.now.items c.args.number o.0 c.index-2.result.now o.1 c.index-2.ensures in
     subst (λ (w : NodeView). IsAffected (piece w) c.args.position c.args.range.0 c.args.range.1) (sym same) o.3
@@ -43,17 +43,17 @@ returns-clause-shows c = λ old at.
     let same : c.index-2.result.now ≡ old = read_at c.args.nodes.now.items c.args.number old c.index-2.result.now at c.index-2.ensures in
     let counted : c.index.result.now ≡ old = read_at c.args.nodes.now.items c.args.number old c.index.result.now at c.index.ensures in
     let high : old.height ≡ c.args.height = ap (λ (w : NodeView). w.height) (same_some (sym at ∙ o.1)) ∙ o.2 in
-    c.stored.ensures.shows old _ at high (subst IsLawful counted c.count.ensures.lawful) (rw same at c.grow-grown.ensures.shows)
+    c.stored.ensures.shows old _ at high (subst IsLawful counted c.count.ensures.lawful) (rw same at c.grow_full-grown.ensures.shows)
 
 pub returns-clause-heights : goal.returns-clause-heights
 returns-clause-heights c =
     let o = c.requires.place in
     let v = c.index-2.result.now in
-    let g = c.grow-grown.result in
+    let g = c.grow_full-grown.result in
     let first = c.args.range.0 in
     let same : v ≡ o.0 = read_at c.args.nodes.now.items c.args.number o.0 v o.1 c.index-2.ensures in
     let counted : c.index.result.now ≡ o.0 = read_at c.args.nodes.now.items c.args.number o.0 c.index.result.now o.1 c.index.ensures in
     let lawful = subst IsLawful counted c.count.ensures.lawful in
-    let shows : GrownShows o.0 g (grown c.args.position c.args.bit (Leaf c.args.leaf) first (piece o.0)) = rw same at c.grow-grown.ensures.shows in
+    let shows : GrownShows o.0 g (grown c.args.position c.args.bit (Leaf c.args.leaf) first (piece o.0)) = rw same at c.grow_full-grown.ensures.shows in
     c.stored.ensures.heights o.0 _ o.1 shows
-    (grow_steady o.0 lawful c.args.position c.args.bit (Leaf c.args.leaf) first c.args.range.1 o.3 g shows (rw same at c.grow-grown.ensures.whole) (rw same at c.grow-grown.ensures.same))
+    (full_steady o.0 lawful c.args.position c.args.bit (Leaf c.args.leaf) first c.args.range.1 o.3 g shows c.grow_full-grown.ensures.whole (rw same at c.grow_full-grown.ensures.same))
