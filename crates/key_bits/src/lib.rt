@@ -249,9 +249,10 @@ pub fn extract(key: &Key, positions: &[u16]) -> u32
 fn bit_in(bytes: &[u8], position: u16) -> u32
     ensures { result ≡ (if bit_of bytes.now position then 1 else 0) }
 {
-    let nine_bits = match bytes.get((position / 9) as usize) {
-        Some(byte) => 256 + *byte as u32,
+    let position = position as u32;
+    let at = position / 9;
+    match bytes.get(at as usize) {
+        Some(byte) => (256 + *byte as u32) >> (9 * at + 8 - position) & 1,
         None => 0,
-    };
-    nine_bits >> (8 - position % 9) & 1
+    }
 }
