@@ -44,8 +44,8 @@ pub fn load_head<G: Gate>(table: &HotTable, seat: &mut TableSeat, gate: &mut G, 
 {
     let rec = Rec::Node(number);
     let start = table.start_of(rec);
-    let numbers = table.load_fixed_from(seat, gate, rec, start, 1);
     let mut words = [u64::MAX; HEAD_WORDS];
+    let numbers = table.load_fixed_from(seat, gate, rec, start, 1);
     words[0] = numbers;
     let positions = 1 + position_words(numbers);
     for index in 1..positions {
