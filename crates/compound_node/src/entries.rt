@@ -121,8 +121,9 @@ pub(crate) fn removed(entries: &[Entry], at: usize) -> ArrayVec<Entry, 32>
     requires in_range { at < length entries.now }
     ensures { result.items ≡ remove entries.now at }
 {
-    let mut list = listed(entries);
-    list.remove(at);
+    let mut list = ArrayVec::new();
+    append(&mut list, &entries[..at]);
+    append(&mut list, &entries[at + 1..]);
     list
 }
 
@@ -143,7 +144,5 @@ fn append(list: &mut ArrayVec<Entry, 32>, entries: &[Entry])
     requires { array_vec_len list.old + length entries.now ≤ 32 }
     ensures { list.new.items ≡ list.old.items ++ entries.now }
 {
-    for entry in entries {
-        list.push(*entry);
-    }
+    let _ = list.try_extend_from_slice(entries);
 }

@@ -13,7 +13,8 @@ ghost use Rattle.pieces.specs.Changes.{without};
 use super::building::built;
 use super::entries::{Entry, listed, removed};
 use super::nodes::Node;
-use super::rows::{cleared, front_len, joined, squeeze_all, without_row};
+use super::rows::{cleared, front_len, joined, listed_rows, squeeze_all, without_row};
+use arrayvec::ArrayVec;
 use partial_keys::Columns;
 
 /// What is left of a node: one entry, many entries in a new node, or the same node as before.
@@ -33,23 +34,23 @@ pub struct Cut {
 }
 
 /// What these rows show, without the columns that none of them uses.
-fn half_of(columns: &Columns, rows: &[u32], entries: &[Entry]) -> Half
-    requires some { 0 < length entries.now }
-    requires room { length entries.now ≤ 32 }
+fn half_of(columns: &Columns, rows: ArrayVec<u32, 32>, entries: ArrayVec<Entry, 32>) -> Half
+    requires some { 0 < length entries.items }
+    requires room { length entries.items ≤ 32 }
     requires positions { IsColumns columns.now }
-    requires children { All IsEntry entries.now }
-    requires covers { Covers columns.now rows.now entries.now (piece_of (LeafEntry 0) columns.now rows.now entries.now) }
-    ensures { HalfShows result (piece_of (LeafEntry 0) columns.now rows.now entries.now) }
+    requires children { All IsEntry entries.items }
+    requires covers { Covers columns.now rows.items entries.items (piece_of (LeafEntry 0) columns.now rows.items entries.items) }
+    ensures { HalfShows result (piece_of (LeafEntry 0) columns.now rows.items entries.items) }
 {
     if entries.len() == 1 {
-        Half::One(entries[0])
-    } else {
-        let used = joined(rows);
-        let mut used_columns = *columns;
-        used_columns.drop_unused(used);
-        let used_rows = squeeze_all(rows, used, columns.count());
-        Half::Many(built(used_columns, used_rows.as_slice(), listed(entries)))
+        return Half::One(entries[0]);
     }
+    let mut rows = rows;
+    let mut used_columns = *columns;
+    let used = joined(rows.as_slice());
+    used_columns.drop_unused(used);
+    squeeze_all(rows.as_mut_slice(), used, columns.count());
+    Half::Many(built(used_columns, rows.as_slice(), entries))
 }
 
 /// The two sides of the root fork.
@@ -59,8 +60,12 @@ pub(crate) fn cut_of(columns: &Columns, rows: &[u32], entries: &[Entry]) -> Cut
 {
     let front = front_len(rows);
     let rest = cleared(&rows[front..]);
-    let zero = half_of(columns, &rows[..front], &entries[..front]);
-    let one = half_of(columns, rest.as_slice(), &entries[front..]);
+    let zero = half_of(
+        columns,
+        listed_rows(&rows[..front]),
+        listed(&entries[..front]),
+    );
+    let one = half_of(columns, rest, listed(&entries[front..]));
     Cut {
         position: columns.first(),
         zero,
@@ -76,5 +81,5 @@ pub(crate) fn rest_of(columns: &Columns, rows: &[u32], entries: &[Entry], at: us
 {
     let rest_rows = without_row(rows, at);
     let rest_entries = removed(entries, at);
-    half_of(columns, rest_rows.as_slice(), rest_entries.as_slice())
+    half_of(columns, rest_rows, rest_entries)
 }

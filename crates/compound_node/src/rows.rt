@@ -78,9 +78,7 @@ fn append(out: &mut ArrayVec<u32, 32>, rows: &[u32])
     requires { array_vec_len out.old + length rows.now ≤ 32 }
     ensures { out.new.items ≡ out.old.items ++ rows.now }
 {
-    for row in rows {
-        out.push(*row);
-    }
+    let _ = out.try_extend_from_slice(rows);
 }
 
 // ---- a new column and a new fork
@@ -192,6 +190,16 @@ pub(crate) fn front_len(rows: &[u32]) -> usize
     rows.len()
 }
 
+/// The list of these rows.
+pub(crate) fn listed_rows(rows: &[u32]) -> ArrayVec<u32, 32>
+    requires { length rows.now ≤ 32 }
+    ensures { result.items ≡ rows.now }
+{
+    let mut list = ArrayVec::new();
+    append(&mut list, rows);
+    list
+}
+
 /// The rows with 0 in the first column.
 pub(crate) fn cleared(rows: &[u32]) -> ArrayVec<u32, 32>
     requires { length rows.now ≤ 32 }
@@ -223,22 +231,18 @@ fn close_all(rows: &mut [u32], j: u8)
     }
 }
 
-/// The rows over the columns at which `used` has a 1, out of so many.
-pub(crate) fn squeeze_all(rows: &[u32], used: u32, columns: u8) -> ArrayVec<u32, 32>
-    requires room { length rows.now ≤ 32 }
+/// Leaves the rows the columns at which `used` has a 1, out of so many.
+pub(crate) fn squeeze_all(rows: &mut [u32], used: u32, columns: u8)
     requires few { columns ≤ 31 }
     requires used { IsRowOver columns used }
-    requires rows { All (IsRowOver columns) rows.now }
-    ensures { result.items ≡ map (squeezed used) rows.now }
+    requires rows { All (IsRowOver columns) rows.old }
+    ensures { rows.new ≡ map (squeezed used) rows.old }
 {
-    let mut out = ArrayVec::new();
-    append(&mut out, rows);
     for j in (0..columns).rev() {
         if used >> (31 - j) & 1 == 0 {
-            close_all(out.as_mut_slice(), j);
+            close_all(rows, j);
         }
     }
-    out
 }
 
 // ---- a row less

@@ -6,28 +6,27 @@ use Rattle.compound_node.specs.declared.entries.Entry.TheVariants.{Leaf}
 use Rattle.partial_keys.specs.Shown.{piece_of}
 use Rattle.pieces.specs.Positions.{front_below}
 use Rattle.compound_node.proofs.halves.cut_of.Goals as goal
-use Rattle.compound_node.proofs.halves.cut_of.Goals.{After-cleared-rest}
-
-sides : (c : After-cleared-rest) → Parts c.args.columns.now c.args.rows.now c.args.entries.now (piece_of (Leaf 0) c.args.columns.now c.args.rows.now c.args.entries.now)
-sides c = parts c.args.columns.now c.args.rows.now c.args.entries.now (piece_of (Leaf 0) c.args.columns.now c.args.rows.now c.args.entries.now) c.requires.shows c.requires.several
 
 pub half_of-zero-requires-clause-some : goal.half_of-zero-requires-clause-some
-half_of-zero-requires-clause-some c = rw (c.front_len-front.ensures.value, length-take-le (front_below (2 ^ 31) c.args.rows.now) c.args.entries.now (omega (arith, (sides c).front_within))) (sides c).front_some
+half_of-zero-requires-clause-some c =
+    let p : Parts c.args.columns.now c.args.rows.now c.args.entries.now (piece_of (Leaf 0) c.args.columns.now c.args.rows.now c.args.entries.now) = parts c.args.columns.now c.args.rows.now c.args.entries.now _ c.requires.shows c.requires.several in
+    rw (c.listed.ensures, c.front_len-front.ensures.value, length-take-le (front_below (2 ^ 31) c.args.rows.now) c.args.entries.now (omega (arith, p.front_within))) p.front_some
 
 pub half_of-zero-requires-clause-covers : goal.half_of-zero-requires-clause-covers
-half_of-zero-requires-clause-covers c = rw c.front_len-front.ensures.value (sides c).zero_covers
+half_of-zero-requires-clause-covers c = rw (c.listed_rows.ensures, c.listed.ensures, c.front_len-front.ensures.value)
+    (parts c.args.columns.now c.args.rows.now c.args.entries.now (piece_of (Leaf 0) c.args.columns.now c.args.rows.now c.args.entries.now) c.requires.shows c.requires.several).zero_covers
 
 pub half_of-one-requires-clause-some : goal.half_of-one-requires-clause-some
 half_of-one-requires-clause-some c =
     let p : Parts c.args.columns.now c.args.rows.now c.args.entries.now (piece_of (Leaf 0) c.args.columns.now c.args.rows.now c.args.entries.now) = parts c.args.columns.now c.args.rows.now c.args.entries.now _ c.requires.shows c.requires.several in
-    rw (c.front_len-front.ensures.value, take_rest c.args.entries.now (front_below (2 ^ 31) c.args.rows.now), length-drop (front_below (2 ^ 31) c.args.rows.now) c.args.entries.now) (omega (arith, p.front_within))
+    rw (c.listed-2.ensures, c.front_len-front.ensures.value, take_rest c.args.entries.now (front_below (2 ^ 31) c.args.rows.now), length-drop (front_below (2 ^ 31) c.args.rows.now) c.args.entries.now) (omega (arith, p.front_within))
 
 pub half_of-one-requires-clause-covers : goal.half_of-one-requires-clause-covers
 half_of-one-requires-clause-covers c =
-    rw (c.as_slice.ensures.value, c.cleared-rest.ensures, c.front_len-front.ensures.value, take_rest c.args.entries.now (front_below (2 ^ 31) c.args.rows.now), take_rest c.args.rows.now (front_below (2 ^ 31) c.args.rows.now))
+    rw (c.cleared-rest.ensures, c.listed-2.ensures, c.front_len-front.ensures.value, take_rest c.args.entries.now (front_below (2 ^ 31) c.args.rows.now), take_rest c.args.rows.now (front_below (2 ^ 31) c.args.rows.now))
     (parts c.args.columns.now c.args.rows.now c.args.entries.now _ c.requires.shows c.requires.several).one_covers
 
 pub returns : goal.returns
 returns c = rw c.first.ensures ((parts c.args.columns.now c.args.rows.now c.args.entries.now (piece_of (Leaf 0) c.args.columns.now c.args.rows.now c.args.entries.now) c.requires.shows c.requires.several).shows c.half_of-zero.result c.half_of-one.result
-    (rw c.front_len-front.ensures.value at c.half_of-zero.ensures)
-    (rw (c.as_slice.ensures.value, c.cleared-rest.ensures, c.front_len-front.ensures.value, take_rest c.args.entries.now (front_below (2 ^ 31) c.args.rows.now), take_rest c.args.rows.now (front_below (2 ^ 31) c.args.rows.now)) at c.half_of-one.ensures))
+    (rw (c.listed_rows.ensures, c.listed.ensures, c.front_len-front.ensures.value) at c.half_of-zero.ensures)
+    (rw (c.cleared-rest.ensures, c.listed-2.ensures, c.front_len-front.ensures.value, take_rest c.args.entries.now (front_below (2 ^ 31) c.args.rows.now), take_rest c.args.rows.now (front_below (2 ^ 31) c.args.rows.now)) at c.half_of-one.ensures))

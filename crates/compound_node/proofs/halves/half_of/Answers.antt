@@ -1,42 +1,54 @@
 -- The used columns and the squeezed rows fit together.
-use Rattle.std.proofs.Common.{arith, subst}
+use Rattle.std.proofs.Common.{List, ap, arith, length, map, subst, ℕ, ◌∙◌, ◌≡◌}
+use Rattle.std.proofs.lemmas.List.{append-nil, drop_all, length-map, take_all}
+use Rattle.std.specs.List.{refill}
 use Rattle.compound_node.proofs.Sides.{fit_used, some_used}
 use Rattle.compound_node.specs.Nodes.{IsBuiltFrom}
 use Rattle.compound_node.specs.declared.entries.Entry.TheVariants.{Leaf}
 use Rattle.partial_keys.proofs.Closing.{rows_over, used_over}
 use Rattle.partial_keys.proofs.Cutting.{half_shows}
 use Rattle.partial_keys.proofs.Reading.{piece_of_shown}
-use Rattle.partial_keys.proofs.Showing.{covered_length}
+use Rattle.partial_keys.specs.Squeezed.{or_all, squeezed}
 use Rattle.pieces.proofs.Paths.{one_place}
 use Rattle.compound_node.proofs.halves.half_of.Goals as goal
+use Rattle.compound_node.proofs.halves.half_of.Goals.{After-as_slice-2}
+
+-- what fills a whole list anew
+refill_same : (xs ws : List ℕ) → length ws ≡ length xs → refill (length xs) xs ws ≡ ws
+refill_same xs ws e = rw (drop_all (length ws) xs (omega arith), append-nil ws) (take_all (length xs) ws (omega arith))
 
 pub drop_unused-requires : goal.drop_unused-requires
 drop_unused-requires c = record {
-  some = rw c.joined-used.ensures (some_used c.args.columns.now c.args.rows.now c.args.entries.now _ c.requires.covers (omega (arith, c.requires.some, c.if-entries-eq1.false)));
+  some = rw (c.joined-used.ensures, c.as_slice.ensures.value) (some_used c.args.columns.now c.args.rows.items c.args.entries.items _ c.requires.covers (omega (arith, c.requires.some, c.if-len-eq1.false, c.len.ensures.value)));
 }
 
-pub squeeze_all-used_rows-requires-clause-room : goal.squeeze_all-used_rows-requires-clause-room
-squeeze_all-used_rows-requires-clause-room c = omega (arith, covered_length c.args.columns.now c.args.rows.now c.args.entries.now _ c.requires.covers, c.requires.room)
+pub squeeze_all-requires-clause-used : goal.squeeze_all-requires-clause-used
+squeeze_all-requires-clause-used c = rw (c.count.ensures, c.joined-used.ensures, c.as_slice.ensures.value) (used_over c.args.columns.now c.args.rows.items c.args.entries.items _ c.requires.covers)
 
-pub squeeze_all-used_rows-requires-clause-few : goal.squeeze_all-used_rows-requires-clause-few
-squeeze_all-used_rows-requires-clause-few c = omega (arith, c.count.ensures, c.requires.positions.few)
+pub squeeze_all-requires-clause-rows : goal.squeeze_all-requires-clause-rows
+squeeze_all-requires-clause-rows c = rw (c.count.ensures, c.as_mut_slice.ensures.value) (rows_over c.args.columns.now c.args.rows.items c.args.entries.items _ c.requires.covers)
 
-pub squeeze_all-used_rows-requires-clause-used : goal.squeeze_all-used_rows-requires-clause-used
-squeeze_all-used_rows-requires-clause-used c = rw (c.count.ensures, c.joined-used.ensures) (used_over c.args.columns.now c.args.rows.now c.args.entries.now _ c.requires.covers)
-
-pub squeeze_all-used_rows-requires-clause-rows : goal.squeeze_all-used_rows-requires-clause-rows
-squeeze_all-used_rows-requires-clause-rows c = rw c.count.ensures (rows_over c.args.columns.now c.args.rows.now c.args.entries.now _ c.requires.covers)
+-- the rows that are left
+left : (c : After-as_slice-2) → c.as_slice-2.result.now ≡ map (squeezed (or_all c.args.rows.items)) c.args.rows.items
+left c =
+    let used : c.joined-used.result ≡ or_all c.args.rows.items = c.joined-used.ensures ∙ ap or_all c.as_slice.ensures.value in
+    let all : c.squeeze_all.new.rows ≡ map (squeezed c.joined-used.result) c.args.rows.items = c.squeeze_all.ensures ∙ ap (map (squeezed c.joined-used.result)) c.as_mut_slice.ensures.value in
+    let long : length c.squeeze_all.new.rows ≡ length c.args.rows.items = ap length all ∙ length-map c.args.rows.items (squeezed c.joined-used.result) in
+    c.as_slice-2.ensures.value ∙ refill_same c.args.rows.items c.squeeze_all.new.rows long ∙ all ∙ ap (λ u. map (squeezed u) c.args.rows.items) used
 
 pub built-requires : goal.built-requires
-built-requires c = rw (c.drop_unused.ensures, c.as_slice.ensures.value, c.squeeze_all-used_rows.ensures, c.listed.ensures, c.joined-used.ensures)
-    (fit_used c.args.columns.now c.args.rows.now c.args.entries.now _ c.requires.covers (omega (arith, c.requires.some, c.if-entries-eq1.false)) c.requires.room c.requires.positions c.requires.children)
+built-requires c = rw (c.drop_unused.ensures, left c, c.joined-used.ensures, c.as_slice.ensures.value)
+    (fit_used c.args.columns.now c.args.rows.items c.args.entries.items _ c.requires.covers (omega (arith, c.requires.some, c.if-len-eq1.false, c.len.ensures.value)) c.requires.room c.requires.positions c.requires.children)
 
-pub returns-then-entries-eq1 : goal.returns-then-entries-eq1
-returns-then-entries-eq1 c = (one_place c.args.entries.now _ (Leaf 0) c.requires.covers.entries_are (omega arith), c.requires.children 0 (Leaf 0) (omega arith))
+pub returns-then-len-eq1 : goal.returns-then-len-eq1
+returns-then-len-eq1 c = rw c.deref.ensures.0 (
+  one_place c.args.entries.items _ (Leaf 0) c.requires.covers.entries_are (omega (arith, c.len.ensures.value, c.if-len-eq1.true)),
+  c.requires.children 0 (Leaf 0) (omega (arith, c.len.ensures.value, c.if-len-eq1.true)),
+)
 
-pub returns-else-entries-eq1 : goal.returns-else-entries-eq1
-returns-else-entries-eq1 c =
+pub returns : goal.returns
+returns c =
     subst (IsBuiltFrom c.built.result)
-    (rw (c.drop_unused.ensures, c.as_slice.ensures.value, c.squeeze_all-used_rows.ensures, c.listed.ensures, c.joined-used.ensures)
-    (piece_of_shown (Leaf 0) _ _ _ _ (half_shows c.args.columns.now c.args.rows.now c.args.entries.now _ c.requires.covers)))
+    (rw (c.drop_unused.ensures, left (goal.at.returns c).After-as_slice-2, c.joined-used.ensures, c.as_slice.ensures.value)
+    (piece_of_shown (Leaf 0) _ _ _ _ (half_shows c.args.columns.now c.args.rows.items c.args.entries.items _ c.requires.covers)))
     c.built.ensures

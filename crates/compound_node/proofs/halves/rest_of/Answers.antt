@@ -1,5 +1,5 @@
 -- The rows that are left cover the piece without the place.
-use Rattle.std.proofs.Common.{subst, sym, take, drop, suc, ◌∙◌}
+use Rattle.std.proofs.Common.{subst, sym, take, drop, suc}
 use Rattle.std.proofs.lemmas.List.Elements.{All-append, All-drop, All-take}
 use Rattle.std.specs.List.{All}
 use Rattle.compound_node.proofs.Ladders.{shown-sparse_keys}
@@ -14,16 +14,16 @@ pub without_row-rest_rows-requires-clause-ladder : goal.without_row-rest_rows-re
 without_row-rest_rows-requires-clause-ladder c = (shown-sparse_keys c.args.columns.now c.args.rows.now c.args.entries.now _ c.requires.fit.shows).ladder
 
 pub half_of-requires-clause-children : goal.half_of-requires-clause-children
-half_of-requires-clause-children c = subst (All IsEntry) (sym (c.as_slice-2.ensures.value ∙ c.removed-rest_entries.ensures))
+half_of-requires-clause-children c = subst (All IsEntry) (sym c.removed-rest_entries.ensures)
     (All-append IsEntry (take c.args.at c.args.entries.now) (drop (suc c.args.at) c.args.entries.now) (All-take IsEntry c.args.at c.args.entries.now c.requires.fit.children)
     (All-drop IsEntry (suc c.args.at) c.args.entries.now c.requires.fit.children))
 
 pub half_of-requires-clause-covers : goal.half_of-requires-clause-covers
-half_of-requires-clause-covers c = rw (c.as_slice.ensures.value, c.without_row-rest_rows.ensures, c.as_slice-2.ensures.value, c.removed-rest_entries.ensures)
+half_of-requires-clause-covers c = rw (c.without_row-rest_rows.ensures, c.removed-rest_entries.ensures)
     (covers_self (Leaf 0) _ _ _ _ (covers_without c.args.columns.now c.args.rows.now c.args.entries.now _ c.args.at c.requires.fit.shows c.requires.fit.several c.requires.in_range))
 
 pub returns : goal.returns
 returns c = subst (HalfShows c.half_of.result)
-    (rw (c.as_slice.ensures.value, c.without_row-rest_rows.ensures, c.as_slice-2.ensures.value, c.removed-rest_entries.ensures)
+    (rw (c.without_row-rest_rows.ensures, c.removed-rest_entries.ensures)
     (piece_of_covered (Leaf 0) _ _ _ _ (covers_without c.args.columns.now c.args.rows.now c.args.entries.now _ c.args.at c.requires.fit.shows c.requires.fit.several c.requires.in_range)))
     c.half_of.ensures

@@ -4,4 +4,4 @@ use Rattle.partial_keys.proofs.Closing.{squeezed_from}
 use Rattle.compound_node.proofs.rows.squeeze_all.Given as goal
 
 abbrev pub invariant-loop-j : goal.invariant-loop-j
-invariant-loop-j l = l.out.items ≡ map (squeezed_from l.used l.j) l.rows
+invariant-loop-j l = l.rows ≡ map (squeezed_from l.used l.j) l.initial.rows
