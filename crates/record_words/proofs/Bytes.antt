@@ -1,8 +1,8 @@
 -- A word of a key against its eight bytes.
-use Rattle.std.proofs.Common.{ℕ, ◌≡◌, ◌+◌, ◌-◌, ◌*◌, ◌^◌, ◌<◌, ◌≤◌, arith, List, get_or, drop, length, sym, ◌∙◌, ◌⊎◌, ⊎_elim, inl, inr, ◌≢◌, ap, take, get_or-take, lit<, rules, get_or-drop, below_more}
+use Rattle.std.proofs.Common.{ℕ, ◌≡◌, ◌+◌, ◌-◌, ◌*◌, ◌^◌, ◌<◌, ◌≤◌, arith, List, get_or, drop, length, sym, ◌∙◌, ◌⊎◌, ⊎_elim, inl, inr, ◌≢◌, ap, take, get_or-take, lit<, rules, get_or-drop, below_more, subst}
 use borrow.Author.Count.{below_none}
 use borrow.Rule.Slice.PartMut.{put_mid}
-use Rattle.std.proofs.lemmas.List.{places, get_or_append_left, length-take-le, get_or-append_right}
+use Rattle.std.proofs.lemmas.List.{get_or_past, places, get_or_append_left, length-take-le, get_or-append_right}
 use Rattle.std.proofs.lemmas.Bool.{cases_lt}
 use Rattle.std.specs.Int.{from_be_bytes, to_be_bytes, w64}
 use Rattle.std.proofs.lemmas.Nat.{from_be_bytes-to_be_bytes_8}
@@ -67,3 +67,23 @@ written_other xs ys a k n within all outside =
 -- byte i of one word is no byte of another
 pub outside : (k j i : ℕ) → i < 8 → k ≢ j → (8 * k + i < 8 * j) ⊎ (8 * j + (8 * j + 8 - 8 * j) ≤ 8 * k + i)
 outside k j i small other = ⊎_elim (λ (below : k < j). inl (omega arith)) (λ (above : j ≤ k). inr (omega arith)) (cases_lt k j)
+
+-- a number's bytes are bytes
+pub small_byte : (n i : ℕ) → get_or (to_be_bytes w64 n) i 0 < 256
+small_byte n i =
+    ⊎_elim (λ (low : i < 8). below_eight (λ k. get_or (to_be_bytes w64 n) k 0 < 256) (omega arith) (omega arith) (omega arith) (omega arith) (omega arith) (omega arith) (omega arith) (omega arith) i low)
+    (λ (past : 8 ≤ i). rw (get_or_past (to_be_bytes w64 n) i 0 past) (lit< tt)) (cases_lt i 8)
+
+-- and so are those of a list of bytes a part of which was written with bytes
+pub small_written : (xs ys : List ℕ) (a k : ℕ) → a + k ≤ length xs → length ys ≡ k → ((i : ℕ) → get_or xs i 0 < 256) → ((i : ℕ) → get_or ys i 0 < 256) → (n : ℕ) → get_or (put_mid a k xs ys) n 0 < 256
+small_written xs ys a k within all small_xs small_ys n =
+    ⊎_elim (λ (before : n < a). other (inl before)) (λ (after : a ≤ n). ⊎_elim (λ (inside : n < a + k). at after inside) (λ (past : a + k ≤ n). other (inr past)) (cases_lt n (a + k))) (cases_lt n a)
+  where
+    other : (n < a) ⊎ (a + k ≤ n) → get_or (put_mid a k xs ys) n 0 < 256
+    other beside = rw (written_other xs ys a k n within all beside) (small_xs n)
+
+    at : a ≤ n → n < a + k → get_or (put_mid a k xs ys) n 0 < 256
+    at after inside =
+        let e : a + (n - a) ≡ n = omega (arith, after) in
+        subst (λ z. get_or (put_mid a k xs ys) z 0 < 256) e
+        (rw (written_at xs ys a k (n - a) within all (omega (arith, after, inside))) (small_ys (n - a)))

@@ -106,11 +106,12 @@ fn bytes_of_words(words: &[u64], used: usize) -> [u8; MAX_BYTES]
     bytes
 }
 
-/// Writes the eight bytes of a word from byte `8 * j` on.
-fn write_word(bytes: &mut [u8; MAX_BYTES], j: usize, word: u64)
+/// Writes the eight bytes of a word from byte `8 * j` on, the highest first: so those of a key's word where it has them.
+pub fn write_word(bytes: &mut [u8; MAX_BYTES], j: usize, word: u64)
     requires { j < KEY_WORDS }
     ensures written { key_word bytes.new j ≡ word }
     ensures others { (k : ℕ) → k ≢ j → key_word bytes.new k ≡ key_word bytes.old k }
+    ensures small { (i : ℕ) → slice_index bytes.new i < 256 }
 {
     bytes[8 * j..8 * j + 8].copy_from_slice(&word.to_be_bytes());
 }

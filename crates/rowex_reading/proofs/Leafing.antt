@@ -1,14 +1,16 @@
 -- What the loads of a leaf tell.
-use Rattle.std.proofs.Common.{◌≡◌, inl, inr, ◌⊎◌, ℕ, ◌+◌, ◌<◌, ◌≤◌, List, length, get_or, set, replicate, ⊎_elim, ap, sym, ◌∙◌, subst, arith, le_trans, lit<}
+use Rattle.std.proofs.Common.{◌≡◌, ◌≢◌, inl, inr, ◌⊎◌, ℕ, ◌+◌, ◌-◌, ◌<◌, ◌≤◌, List, length, get_or, set, replicate, take, drop, ⊎_elim, ap, sym, refl, ◌∙◌, subst, arith, le_trans, lit<}
 use Rattle.std.proofs.Math.Dec.{lit≤}
-use Rattle.std.proofs.lemmas.Bool.{cases_lt}
+use Rattle.std.proofs.lemmas.Bool.{cases_eq, cases_lt}
 use Rattle.std.proofs.lemmas.List.{take_all, length-set, length-replicate, get_or-set_same, get_or-set_other, get_or-replicate, get_or_past}
 use Rattle.compound_node.specs.declared.entries.Entry.TheVariants.{Leaf}
 use Rattle.record_words.specs.declared.layout.Layout.{Layout}
 use Rattle.key_bits.specs.declared.TheConstants.{MAX_BYTES}
-use Rattle.record_words.specs.Leaf.{HasLeafWords, leaf_words, words_of_key}
-use Rattle.record_words.proofs.Leaves.{leaf_words_parts}
-use Rattle.record_words.proofs.Unused.{first_words, leaf_word_past}
+use Rattle.key_bits.specs.Key.{HoldsKey}
+use Rattle.record_words.specs.Leaf.{HasLeafWords, IsBytesOf, key_word, leaf_words, words_of_key}
+use Rattle.record_words.proofs.Leaves.{key_of_bytes, key_part, leaf_words_parts, places_of_leaf, same_pair}
+use Rattle.record_words.proofs.Spelled.{spells_leaf}
+use Rattle.record_words.proofs.Unused.{first_long, first_rest, first_size, first_words, leaf_word_past, zero_word}
 use Rattle.record_words.specs.Reading.{IsSpelling, IsSpelledBy}
 use Rattle.record_words.specs.declared.TheConstants.{LEAF_FIELDS}
 use Rattle.tries.specs.Tree.{leaf}
@@ -122,3 +124,87 @@ module _ (layout : Layout) (k j : Known) (n i : ℕ) (words : List ℕ) (possibl
   leaf_read pair read c lawful known =
       let now = leaf_there c lawful known in
       subst (λ (z : List ℕ × ℕ). IsRead (seen c j) m n z.0 z.1) (sym (read.only now.pair now.has now.spelled)) (leaf_stood k j loaded.later n m led c lawful known now.pair now.has now.there)
+
+-- Of a leaf with this value, whose key has this length, so many words have been loaded, and all that have bytes of the key stand
+-- in the bytes.
+pub record AreSoFar (k j : Known) (n i value size : ℕ) (bytes : List ℕ) : Type 0 where
+  pub words : List ℕ
+  pub long : length words ≡ LEAF_FIELDS
+  pub value_is : get_or words 0 0 ≡ value
+  pub size_is : get_or words 1 0 ≡ size
+  pub loaded : AreLoaded k j (a_leaf n) (λ o. o < i) words
+  pub rest : (o : ℕ) → i ≤ o → get_or words o 0 ≡ 0
+  pub count : length bytes ≡ MAX_BYTES
+  pub bytes_are : (b : ℕ) → b < 30 → key_word bytes b ≡ get_or words (2 + b) 0
+
+first_value : (value size : ℕ) → get_or (first_words value size) 0 0 ≡ value
+first_value value size =
+    get_or-set_other (set (replicate LEAF_FIELDS 0) 0 value) 1 0 size 0 (λ e. omega (arith, e)) ∙
+    get_or-set_same (replicate LEAF_FIELDS 0) 0 value 0 (omega (arith, length-replicate {A = ℕ} LEAF_FIELDS 0))
+
+pub so_far_first : (k j : Known) (n value size : ℕ) → AreLoaded k j (a_leaf n) (λ o. o < 2) (first_words value size) → AreSoFar k j n 2 value size (replicate MAX_BYTES 0)
+so_far_first k j n value size loaded = record {
+  words = first_words value size;
+  long = first_long value size;
+  value_is = first_value value size;
+  size_is = first_size value size;
+  loaded = loaded;
+  rest = first_rest value size;
+  count = length-replicate {A = ℕ} MAX_BYTES 0;
+  bytes_are = λ b low. zero_word MAX_BYTES b ∙ sym (first_rest value size (2 + b) (omega arith));
+}
+
+-- zeros are bytes
+pub zero_small : (n i : ℕ) → get_or (replicate {A = ℕ} n 0) i 0 < 256
+zero_small n i =
+    ⊎_elim (λ (inside : i < n). rw (get_or-replicate {A = ℕ} n i 0 0 inside) (lit< tt))
+    (λ (past : n ≤ i). rw (get_or_past (replicate {A = ℕ} n 0) i 0 (omega (arith, past, length-replicate {A = ℕ} n 0))) (lit< tt)) (cases_lt i n)
+
+-- a word more, whose eight bytes were written
+pub so_far_next : (layout : Layout) (k j h : Known) (n i value size w : ℕ) (bytes more : List ℕ) → AreSoFar k j n i value size bytes → 2 ≤ i → i < LEAF_FIELDS →
+    IsEvent layout (LoadFixed (a_leaf n) (i + 1) w) silent j h → (m : ℕ) → IsLedTo k m (Leaf n) →
+    length more ≡ MAX_BYTES → key_word more (i - 2) ≡ w → ((b : ℕ) → b ≢ i - 2 → key_word more b ≡ key_word bytes b) → AreSoFar k h n (i + 1) value size more
+so_far_next layout k j h n i value size w bytes more so_far past low event m led count written others = record {
+  words = set so_far.words i w;
+  long = length-set so_far.words i w ∙ so_far.long;
+  value_is = get_or-set_other so_far.words i 0 w 0 (λ e. omega (arith, e, past)) ∙ so_far.value_is;
+  size_is = get_or-set_other so_far.words i 1 w 0 (λ e. omega (arith, e, past)) ∙ so_far.size_is;
+  loaded = next_loaded layout k j h (a_leaf n) i w so_far.words so_far.loaded inside event m (led_stood k m (Leaf n) led);
+  rest = λ o behind. get_or-set_other so_far.words i o w 0 (λ e. omega (arith, e, behind)) ∙ so_far.rest o (omega (arith, behind));
+  count = count;
+  bytes_are = λ b few. ⊎_elim (λ (same : b ≡ i - 2). at_word b same) (λ (other : b ≢ i - 2).
+      others b other ∙ (so_far.bytes_are b few ∙ sym (get_or-set_other so_far.words i (2 + b) w 0 (λ e. other (omega (arith, e)))))) (cases_eq b (i - 2));
+}
+  where
+    inside : i < length so_far.words
+    inside = let long = so_far.long in omega (arith, low, long)
+
+    at_word : (b : ℕ) → b ≡ i - 2 → key_word more b ≡ get_or (set so_far.words i w) (2 + b) 0
+    at_word b same =
+        let at : 2 + b ≡ i = omega (arith, same, past) in
+        ap (key_word more) same ∙ (written ∙ (sym (get_or-set_same so_far.words i w 0 inside) ∙ ap (λ o. get_or (set so_far.words i w) o 0) (sym at)))
+
+-- all that have bytes of the key: these are the key's bytes, and the pair is the leaf
+module _ (layout : Layout) (k j : Known) (n i value size : ℕ) (bytes : List ℕ) (possible : IsPossible layout j) (so_far : AreSoFar k j n i value size bytes)
+    (all : i ≡ 2 + words_of_key size) (small : (b : ℕ) → get_or bytes b 0 < 256) (m : ℕ) (led : IsLedTo k m (Leaf n)) where
+  at_end : i ≡ 2 + words_of_key (get_or so_far.words 1 0)
+  at_end = all ∙ ap (λ z. 2 + words_of_key z) (sym so_far.size_is)
+
+  given : IsSpelling HasLeafWords leaf_words so_far.words
+  given = leaf_spelled layout k j n i so_far.words possible so_far.loaded at_end so_far.rest so_far.long m led
+
+  are_bytes : IsBytesOf bytes (take 30 (drop 2 so_far.words))
+  are_bytes = record { count = so_far.count; words_are = λ b few. so_far.bytes_are b few ∙ sym (key_part so_far.words b few) }
+
+  pub all_places : HoldsKey bytes size
+  all_places = places_of_leaf bytes so_far.words given.0 size are_bytes small given.1 (sym given.2) (sym so_far.size_is)
+
+  pub all_counted : (key : List ℕ) → key ≡ take size bytes → i ≡ 2 + words_of_key (length key)
+  all_counted key is = all ∙ ap (λ z. 2 + words_of_key z) (sym (ap length is ∙ all_places.counted))
+
+  pub all_read : (key : List ℕ) → key ≡ take size bytes → Sure j (λ s. IsRead s m n key value)
+  all_read key is =
+      leaf_read layout k j n i so_far.words possible so_far.loaded at_end so_far.rest so_far.long m led (key, value)
+      (spells_leaf given.0 (key, value) so_far.words given.1 given.2 (same_pair key given.0.0 value given.0.1
+      (is ∙ key_of_bytes bytes so_far.words given.0 size are_bytes small given.1 (sym given.2) (sym so_far.size_is))
+      (sym so_far.value_is ∙ (leaf_words_parts given.0 so_far.words (sym given.2)).value)))

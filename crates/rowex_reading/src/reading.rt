@@ -11,10 +11,10 @@ ghost use Rattle.rowex_reading.specs.Seen.{Sure, RootIs, IsCompared, IsLedTo, Ha
 ghost use Rattle.rowex_table.specs.Seats.{IsSeatOf};
 
 use compound_node::{Entry, Head};
-use key_bits::Key;
+use key_bits::{Key, MAX_BYTES};
 use record_words::{
-    FIRST_ROWS, HEAD_WORDS, LEAF_FIELDS, key_word_at, key_words, position_words, read_entry,
-    read_head, read_leaf, row_words,
+    FIRST_ROWS, HEAD_WORDS, key_word_at, key_words, position_words, read_entry, read_head,
+    row_words, write_word,
 };
 use rowex_core::{Gate, Rec, Spot};
 use rowex_table::{HotTable, TableSeat};
@@ -80,8 +80,8 @@ pub fn load_entry<G: Gate>(
     read_entry(word).unwrap()
 }
 
-/// Loads the key and the value of a leaf: its value, the key's length, and the words that have bytes of the key. The others are
-/// 0, and are not loaded. Inline, so that a caller has the key where it was read.
+/// Loads the key and the value of a leaf: its value, the key's length, and the words that have bytes of the key, each of which
+/// goes at once to its place. The others are 0, and are not loaded. Inline, so that a caller has the key where it was read.
 #[inline(always)]
 pub fn load_leaf<G: Gate>(
     table: &HotTable,
@@ -99,14 +99,13 @@ pub fn load_leaf<G: Gate>(
     let start = table.start_of(rec);
     let value = table.load_fixed_from(seat, gate, rec, start, 1);
     let length = table.load_fixed_from(seat, gate, rec, start, 2);
-    let mut words = [0; LEAF_FIELDS];
-    words[0] = value;
-    words[1] = length;
+    let mut bytes = [0; MAX_BYTES];
     let used = 2 + key_words(length);
     for index in 2..used {
-        words[index] = table.load_fixed_from(seat, gate, rec, start, index as u8 + 1);
+        let word = table.load_fixed_from(seat, gate, rec, start, index as u8 + 1);
+        write_word(&mut bytes, index - 2, word);
     }
-    read_leaf(&words)
+    (Key::of_places(bytes, length as usize), value)
 }
 
 /// Loads the value of a leaf that has this key: the length of its key first, the words with bytes of that as long as they are
