@@ -1,10 +1,10 @@
 //! The words of a leaf record.
 
-ghost use Rattle.std.specs.Prelude.{List, ℕ, ◌≡◌, ◌≢◌, ◌+◌, ◌*◌, ◌<◌, ◌≤◌, ◌↔◌, length, slice_index, take, drop, IsTrue, EachIndex};
+ghost use Rattle.std.specs.Prelude.{ℕ, ◌≡◌, ◌≢◌, ◌+◌, ◌*◌, ◌<◌, ◌≤◌, ◌↔◌, length, slice_index, take, drop, IsTrue, EachIndex};
 ghost use Rattle.key_bits.specs.declared.TheConstants.{MAX_BYTES};
 ghost use Rattle.record_words.specs.declared.TheConstants.{KEY_WORDS};
 ghost use Rattle.record_words.specs.Leaf.{HasLeafWords, IsBytesOf, key_word, leaf_words, words_of_key};
-ghost use Rattle.record_words.specs.Reading.{IsReading, IsSpelledBy, IsSpelling};
+ghost use Rattle.record_words.specs.Reading.{IsReading};
 
 use crate::{KEY_WORDS, LEAF_FIELDS, WordFault};
 use key_bits::{Key, MAX_BYTES};
@@ -46,25 +46,7 @@ pub fn pack_leaf(key: &Key, value: u64) -> [u64; LEAF_FIELDS]
 pub fn unpack_leaf(words: &[u64; LEAF_FIELDS]) -> Result<(Key, u64), WordFault>
     ensures { IsReading HasLeafWords leaf_words words.now result }
 {
-    unpack_with(words, &bytes_of_words(&words[2..], KEY_WORDS))
-}
-
-/// The key and the value that a leaf record has, of its words from offset 1 on; there are some.
-pub fn read_leaf(words: &[u64; LEAF_FIELDS]) -> (Key, u64)
-    requires { IsSpelling HasLeafWords leaf_words words.now }
-    ensures { IsSpelledBy HasLeafWords leaf_words words.now result }
-{
-    let bytes = bytes_of_words(&words[2..], key_words(words[1]));
-    (key_of_bytes(words, &bytes), words[0])
-}
-
-/// The key of a leaf whose words of key bytes are those of `bytes`.
-fn key_of_bytes(words: &[u64; LEAF_FIELDS], bytes: &[u8; MAX_BYTES]) -> Key
-    requires bytes { IsBytesOf bytes.now (take KEY_WORDS (drop 2 words.now)) }
-    requires words { IsSpelling HasLeafWords leaf_words words.now }
-    ensures { (leaf : List ℕ × ℕ) → HasLeafWords leaf → leaf_words leaf ≡ words.now → result ≡ leaf.0 }
-{
-    Key::of_places(*bytes, words[1] as usize)
+    unpack_with(words, &bytes_of_words(&words[2..]))
 }
 
 /// Unpacks a leaf whose words of key bytes are those of `bytes`.
@@ -92,15 +74,13 @@ fn is_zero(bytes: &[u8]) -> bool
     bytes.iter().all(|byte| *byte == 0)
 }
 
-/// The bytes whose words these are, of which only the first `used` can be other than 0.
-fn bytes_of_words(words: &[u64], used: usize) -> [u8; MAX_BYTES]
-    requires count { length words.now ≡ KEY_WORDS }
-    requires few { used ≤ KEY_WORDS }
-    requires rest { (j : ℕ) → used ≤ j → j < KEY_WORDS → slice_index words.now j ≡ 0 }
+/// The bytes whose words these are.
+fn bytes_of_words(words: &[u64]) -> [u8; MAX_BYTES]
+    requires { length words.now ≡ KEY_WORDS }
     ensures { IsBytesOf result words.now }
 {
     let mut bytes = [0; MAX_BYTES];
-    for j in 0..used {
+    for j in 0..KEY_WORDS {
         write_word(&mut bytes, j, words[j]);
     }
     bytes

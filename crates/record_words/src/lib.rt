@@ -11,7 +11,7 @@ mod state;
 pub use entry::{pack_entry, read_entry, unpack_entry};
 use key_bits::MAX_BYTES;
 pub use layout::{Layout, LayoutFault, Location};
-pub use leaf::{key_word_at, key_words, pack_leaf, read_leaf, unpack_leaf, write_word};
+pub use leaf::{key_word_at, key_words, pack_leaf, unpack_leaf, write_word};
 pub use node::{
     pack_node, position_words, read_head, read_node, row_words, unpack_head, unpack_node,
 };

@@ -6,7 +6,6 @@ ghost use Rattle.record_words.specs.Entry.{HasEntryWord};
 
 use crate::made::{key, node_of_three, words_of_three};
 use compound_node::{Entry, Head, Node};
-use key_bits::Key;
 use record_words::*;
 
 /// An entry packed and read.
@@ -15,13 +14,6 @@ fn entry_read(entry: Option<Entry>) -> Option<Entry>
     ensures { result ≡ entry }
 {
     read_entry(pack_entry(entry))
-}
-
-/// A leaf packed and read.
-fn leaf_read(key: &Key, value: u64) -> (Key, u64)
-    ensures { result ≡ (key.now, value) }
-{
-    read_leaf(&pack_leaf(key, value))
 }
 
 /// A node packed and read.
@@ -51,23 +43,6 @@ fn entries_read(rt: HostRuntime) {
         assert!(rt; entry_read(entry) == entry);
     }
     assert!(rt; entry_read(Some(node)) == Some(node));
-}
-
-#[test]
-fn leaves_read(rt: HostRuntime) {
-    let mut bytes = [0; 240];
-    for i in 0..240u8 {
-        bytes[i as usize] = 255 - i;
-    }
-    for count in [0, 1, 7, 8, 9, 239, 240] {
-        let key = key(&rt, &bytes[..count]);
-        let (same, value) = leaf_read(&key, u64::MAX - count as u64);
-        assert!(rt;
-            same == key && value == u64::MAX - count as u64,
-            "at {count}"
-        );
-        assert!(rt; same.as_bytes() == &bytes[..count], "at {count}");
-    }
 }
 
 #[test]
