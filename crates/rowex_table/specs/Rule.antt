@@ -8,7 +8,8 @@ use Rattle.hot_model.specs.declared.Note.{Note}
 use Rattle.hot_model.specs.Fronts.{LegalFront, OthersGoOn}
 use Rattle.record_words.specs.declared.TheConstants.{MAX_ENTRIES}
 use Rattle.record_words.specs.declared.layout.Layout.{Layout}
-use Rattle.record_words.specs.Layout.{address}
+use Rattle.record_words.specs.declared.layout.Location.{Location}
+use Rattle.record_words.specs.Layout.{address, IsInTable}
 use Rattle.moments.specs.declared.Rec.{Rec}
 use Rattle.rowex_core.specs.declared.event.Act.{Act}
 use Rattle.rowex_core.specs.declared.event.Act.TheVariants.{Claim, LoadRef, LoadFixed, Lock, LoadEpoch, Advance, LoadPin, LoadState, GiveBack}
@@ -72,6 +73,10 @@ HasEntryPlace (Slot n j) = j < MAX_ENTRIES
 abbrev pub HasSpot : Layout → Spot → Type 0
 HasSpot layout Root = Unit {0}
 HasSpot layout (Slot n j) = (n < layout.nodes) × (j < MAX_ENTRIES)
+
+-- the location is one of the table's, and stands at this word
+abbrev pub IsAddressOf : Layout → Location → ℕ → Type 0
+IsAddressOf layout location word = (word ≡ address layout location) × IsInTable layout location
 
 -- the record is one of the table's, and begins at this word
 abbrev pub IsStartOf : Layout → Rec → ℕ → Type 0

@@ -1,9 +1,9 @@
 //! The one form of all steps: a load, a store or an exchange, as an event of which the gate is told.
 
 ghost use Rattle.std.specs.Prelude.{◌≡◌, ℕ, Some};
-ghost use Rattle.record_words.specs.Layout.{IsInTable, address as address_of};
+ghost use Rattle.record_words.specs.Layout.{IsInTable};
 ghost use Rattle.rowex_core.specs.Events.{exchanged, location_of, writes};
-ghost use Rattle.rowex_table.specs.Rule.{MayStep, found_by};
+ghost use Rattle.rowex_table.specs.Rule.{IsAddressOf, MayStep, found_by};
 ghost use Rattle.rowex_table.specs.Runs.{StepsWith};
 ghost use Rattle.rowex_table.specs.Seats.{IsSeatOf};
 
@@ -39,7 +39,7 @@ impl HotTable {
         address: usize,
     ) -> u64
         requires own { IsSeatOf self.now seat.old }
-        requires place { (address ≡ address_of self.now.layout (location_of seat.old.known.pass Q.act)) × IsInTable self.now.layout (location_of seat.old.known.pass Q.act) }
+        requires place { IsAddressOf self.now.layout (location_of seat.old.known.pass Q.act) address }
         requires load { (w : ℕ) → w ≡ writes Q.act w }
         requires apt { (Q.layout ≡ Some self.now.layout) × (act ≡ Q.act) × MayStep self.now.layout (found_by Q.act) seat.old.known }
         ensures { StepsWith self.now G.becomes (found_by Q.act result) Q.said (seat.old, gate.old) (seat.new, gate.new) }
@@ -80,7 +80,7 @@ impl HotTable {
         new: u64,
     )
         requires own { IsSeatOf self.now seat.old }
-        requires place { (address ≡ address_of self.now.layout (location_of seat.old.known.pass Q.act)) × IsInTable self.now.layout (location_of seat.old.known.pass Q.act) }
+        requires place { IsAddressOf self.now.layout (location_of seat.old.known.pass Q.act) address }
         requires store { ((w : ℕ) → new ≡ writes Q.act w) × ((w : ℕ) → found_by Q.act w ≡ Q.act) }
         requires apt { (Q.layout ≡ Some self.now.layout) × (act ≡ Q.act) × MayStep self.now.layout (found_by Q.act) seat.old.known }
         ensures { StepsWith self.now G.becomes (found_by Q.act new) Q.said (seat.old, gate.old) (seat.new, gate.new) }
