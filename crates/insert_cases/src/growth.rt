@@ -103,14 +103,14 @@ fn cut_grown(node: &Node, first: u8, last: u8, position: u16, bit: bool, entry: 
     } = node.cut();
     let front = half_count(&zero);
     if first < front {
-        let zero = Half::Many(half_grown(&zero, first, last, position, bit, entry));
+        let zero = Half::Many(half_grown(zero, first, last, position, bit, entry));
         Cut {
             position: root,
             zero,
             one,
         }
     } else {
-        let one = Half::Many(half_grown(&one, first - front, last - front, position, bit, entry));
+        let one = Half::Many(half_grown(one, first - front, last - front, position, bit, entry));
         Cut {
             position: root,
             zero,
@@ -132,21 +132,24 @@ fn half_count(half: &Half) -> u8
 }
 
 /// A half of a cut with a new entry.
-fn half_grown(half: &Half, first: u8, last: u8, position: u16, bit: bool, entry: Entry) -> Node
-    requires half { HalfShows half.now (half_piece half.now) }
-    requires room { size (half_piece half.now) < 32 }
-    requires range { IsAffected (half_piece half.now) position first last }
+fn half_grown(half: Half, first: u8, last: u8, position: u16, bit: bool, entry: Entry) -> Node
+    requires half { HalfShows half (half_piece half) }
+    requires room { size (half_piece half) < 32 }
+    requires range { IsAffected (half_piece half) position first last }
     requires position { position < 65535 }
     requires entry { IsEntry entry }
-    ensures { IsBuiltFrom result (grown position bit entry first (half_piece half.now)) }
+    ensures { IsBuiltFrom result (grown position bit entry first (half_piece half)) }
 {
     match half {
-        Half::Many(node) => node.insert(first, last, position, bit, entry),
+        Half::Many(mut node) => {
+            node.add(first, last, position, bit, entry);
+            node
+        }
         Half::One(other) => {
             if bit {
-                Node::pair(position, *other, entry)
+                Node::pair(position, other, entry)
             } else {
-                Node::pair(position, entry, *other)
+                Node::pair(position, entry, other)
             }
         }
         Half::Same => unreachable!(),
@@ -221,12 +224,12 @@ fn forked(node: &Node, at: u8, position: u16, zero: Entry, one: Entry) -> Node
     requires one { IsEntry one }
     ensures { IsBuiltFrom result (grafted at (Fork position (At zero) (At one)) (piece node.now)) }
 {
-    let cleared = node.replace(at, Entry::Leaf(0));
+    let mut grown = node.replace(at, Entry::Leaf(0));
     if zero.height() <= one.height() {
-        let grown = cleared.insert(at, at, position, true, one);
+        grown.add(at, at, position, true, one);
         grown.replace(at, zero)
     } else {
-        let grown = cleared.insert(at, at, position, false, zero);
+        grown.add(at, at, position, false, zero);
         grown.replace(at + 1, one)
     }
 }

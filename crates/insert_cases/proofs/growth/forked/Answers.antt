@@ -47,57 +47,57 @@ module _ (n d : NodeView) (i : ℕ) (lawful_n : IsLawful n) (lawful_d : IsLawful
         sym (ap greatest_height (grew.lawful.shows.entries_are ∙ ap places (grew.shows_it ∙ ap (grown position bit x i) cleared)))) in
         record { lawful = lawful_r; shows_it = shows; height_is = same_height ∙ (grew.height_is ∙ ap (λ m. 1 + m) (sym tall)) }
 
-pub replace-cleared-requires-clause-stands : goal.replace-cleared-requires-clause-stands
-replace-cleared-requires-clause-stands c = (tt, height_positive c.args.node.now c.requires.lawful)
+pub replace-grown-requires-clause-stands : goal.replace-grown-requires-clause-stands
+replace-grown-requires-clause-stands c = (tt, height_positive c.args.node.now c.requires.lawful)
 
-pub insert-grown-requires-clause-room : goal.insert-grown-requires-clause-room
-insert-grown-requires-clause-room c =
-    let e = same_length c.args.node.now c.replace-cleared.result c.args.at c.requires.lawful c.replace-cleared.ensures.lawful c.replace-cleared.ensures.piece in omega (arith, c.requires.room)
+pub add-requires-clause-room : goal.add-requires-clause-room
+add-requires-clause-room c =
+    let e = same_length c.args.node.now c.replace-grown.result c.args.at c.requires.lawful c.replace-grown.ensures.lawful c.replace-grown.ensures.piece in omega (arith, c.requires.room)
 
-pub insert-grown-requires-clause-range : goal.insert-grown-requires-clause-range
-insert-grown-requires-clause-range c =
-    alone c.args.node.now c.replace-cleared.result c.args.at c.requires.lawful c.replace-cleared.ensures.lawful c.replace-cleared.ensures.piece c.args.position c.requires.place c.requires.path
+pub add-requires-clause-range : goal.add-requires-clause-range
+add-requires-clause-range c =
+    alone c.args.node.now c.replace-grown.result c.args.at c.requires.lawful c.replace-grown.ensures.lawful c.replace-grown.ensures.piece c.args.position c.requires.place c.requires.path
 
 pub replace-requires-clause-in_range : goal.replace-requires-clause-in_range
 replace-requires-clause-in_range c =
-    let e = longer c.args.node.now c.replace-cleared.result c.args.at c.requires.lawful c.replace-cleared.ensures.lawful c.replace-cleared.ensures.piece
-    c.args.position true c.args.one c.args.zero c.insert-grown.result c.insert-grown.ensures in omega (arith, c.requires.place)
+    let e = longer c.args.node.now c.replace-grown.result c.args.at c.requires.lawful c.replace-grown.ensures.lawful c.replace-grown.ensures.piece
+    c.args.position true c.args.one c.args.zero c.add.new.self c.add.ensures in omega (arith, c.requires.place)
 
 pub replace-requires-clause-stands : goal.replace-requires-clause-stands
 replace-requires-clause-stands c = (
   c.requires.zero,
-  taller c.args.node.now c.replace-cleared.result c.args.at c.requires.lawful c.replace-cleared.ensures.lawful c.replace-cleared.ensures.piece
-      c.args.position true c.args.one c.args.zero c.insert-grown.result c.insert-grown.ensures (omega arith),
+  taller c.args.node.now c.replace-grown.result c.args.at c.requires.lawful c.replace-grown.ensures.lawful c.replace-grown.ensures.piece
+      c.args.position true c.args.one c.args.zero c.add.new.self c.add.ensures (omega arith),
 )
 
-pub insert-grown-requires-else-height-clause-room : goal.insert-grown-requires-else-height-clause-room
-insert-grown-requires-else-height-clause-room c =
-    let e = same_length c.args.node.now c.replace-cleared.result c.args.at c.requires.lawful c.replace-cleared.ensures.lawful c.replace-cleared.ensures.piece in omega (arith, c.requires.room)
+pub add-requires-else-height-clause-room : goal.add-requires-else-height-clause-room
+add-requires-else-height-clause-room c =
+    let e = same_length c.args.node.now c.replace-grown.result c.args.at c.requires.lawful c.replace-grown.ensures.lawful c.replace-grown.ensures.piece in omega (arith, c.requires.room)
 
-pub insert-grown-requires-else-height-clause-range : goal.insert-grown-requires-else-height-clause-range
-insert-grown-requires-else-height-clause-range c =
-    alone c.args.node.now c.replace-cleared.result c.args.at c.requires.lawful c.replace-cleared.ensures.lawful c.replace-cleared.ensures.piece c.args.position c.requires.place c.requires.path
+pub add-requires-else-height-clause-range : goal.add-requires-else-height-clause-range
+add-requires-else-height-clause-range c =
+    alone c.args.node.now c.replace-grown.result c.args.at c.requires.lawful c.replace-grown.ensures.lawful c.replace-grown.ensures.piece c.args.position c.requires.place c.requires.path
 
 pub replace-requires-else-height-clause-in_range : goal.replace-requires-else-height-clause-in_range
 replace-requires-else-height-clause-in_range c =
-    let e = longer c.args.node.now c.replace-cleared.result c.args.at c.requires.lawful c.replace-cleared.ensures.lawful c.replace-cleared.ensures.piece
-    c.args.position false c.args.zero c.args.one c.insert-grown-else-height.result c.insert-grown-else-height.ensures in omega (arith, c.requires.place)
+    let e = longer c.args.node.now c.replace-grown.result c.args.at c.requires.lawful c.replace-grown.ensures.lawful c.replace-grown.ensures.piece
+    c.args.position false c.args.zero c.args.one c.add-else-height.new.self c.add-else-height.ensures in omega (arith, c.requires.place)
 
 pub replace-requires-else-height-clause-stands : goal.replace-requires-else-height-clause-stands
 replace-requires-else-height-clause-stands c = (
   c.requires.one,
-  taller c.args.node.now c.replace-cleared.result c.args.at c.requires.lawful c.replace-cleared.ensures.lawful c.replace-cleared.ensures.piece
-      c.args.position false c.args.zero c.args.one c.insert-grown-else-height.result c.insert-grown-else-height.ensures (omega arith),
+  taller c.args.node.now c.replace-grown.result c.args.at c.requires.lawful c.replace-grown.ensures.lawful c.replace-grown.ensures.piece
+      c.args.position false c.args.zero c.args.one c.add-else-height.new.self c.add-else-height.ensures (omega arith),
 )
 
 pub returns-then-height : goal.returns-then-height
 returns-then-height c =
-    whole c.args.node.now c.replace-cleared.result c.args.at c.requires.lawful c.replace-cleared.ensures.lawful c.replace-cleared.ensures.piece
-    c.args.position true c.args.one c.args.zero c.insert-grown.result c.insert-grown.ensures
+    whole c.args.node.now c.replace-grown.result c.args.at c.requires.lawful c.replace-grown.ensures.lawful c.replace-grown.ensures.piece
+    c.args.position true c.args.one c.args.zero c.add.new.self c.add.ensures
     c.replace.result c.replace.ensures.lawful c.replace.ensures.piece (ap (λ (n : NodeView). n.height) c.replace.ensures.fields) (omega arith) c.requires.place c.requires.path
 
 pub returns-else-height : goal.returns-else-height
 returns-else-height c =
-    whole c.args.node.now c.replace-cleared.result c.args.at c.requires.lawful c.replace-cleared.ensures.lawful c.replace-cleared.ensures.piece
-    c.args.position false c.args.zero c.args.one c.insert-grown-else-height.result c.insert-grown-else-height.ensures
+    whole c.args.node.now c.replace-grown.result c.args.at c.requires.lawful c.replace-grown.ensures.lawful c.replace-grown.ensures.piece
+    c.args.position false c.args.zero c.args.one c.add-else-height.new.self c.add-else-height.ensures
     c.replace-else-height.result c.replace-else-height.ensures.lawful c.replace-else-height.ensures.piece (ap (λ (n : NodeView). n.height) c.replace-else-height.ensures.fields) (omega arith) c.requires.place c.requires.path

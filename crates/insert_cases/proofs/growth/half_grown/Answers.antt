@@ -3,8 +3,8 @@ use Rattle.std.proofs.Common.{arith}
 use Rattle.tries.proofs.Building.{size-piece}
 use Rattle.insert_cases.proofs.growth.half_grown.Goals as goal
 
-pub insert-requires-clause-room : goal.insert-requires-clause-room
-insert-requires-clause-room c =
+pub add-requires-clause-room : goal.add-requires-clause-room
+add-requires-clause-room c =
     let half = rw c.in-Many.is at c.requires.half in
     let room = rw c.in-Many.is at c.requires.room in
     omega (arith, room, size-piece c.in-Many.node half.lawful)
