@@ -95,11 +95,11 @@ pub fn load_leaf<G: Gate>(
     ensures few { leaf_loads result.0 ≤ LEAF_FIELDS }
     ensures leaf { (m : ℕ) → IsLedTo seat.old.known m (LeafEntry number) → Sure seat.new.known (λ s. IsRead s m number result.0 result.1) }
 {
+    let mut bytes = [0; MAX_BYTES];
     let rec = Rec::Leaf(number);
     let start = table.start_of(rec);
     let value = table.load_fixed_from(seat, gate, rec, start, 1);
     let length = table.load_fixed_from(seat, gate, rec, start, 2);
-    let mut bytes = [0; MAX_BYTES];
     let used = 2 + key_words(length);
     for index in 2..used {
         let word = table.load_fixed_from(seat, gate, rec, start, index as u8 + 1);
