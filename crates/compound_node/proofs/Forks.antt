@@ -60,7 +60,7 @@ module _ {X : Type 0} (bit : Bool) (x : X) (f n : ℕ) (xs : List X) where
 
 module _ (columns rows : List ℕ) (entries : List Entry) (fit : FitTogether columns rows entries) (position first last : ℕ) (bit : Bool) (entry : Entry)
     (range : IsAffected (piece_of (Leaf 0) columns rows entries) position first last) where
-  pub fork_range : (first ≤ last) × (last < length entries)
+  fork_range : (first ≤ last) × (last < length entries)
   fork_range =
       let r : (first ≤ last) × (last < length entries) × (last + 1 - first ≡ affected_count position first (piece_of (Leaf 0) columns rows entries)) =
       affected_range columns rows entries (piece_of (Leaf 0) columns rows entries) position first last fit.shows range in
@@ -76,12 +76,12 @@ module _ (columns rows : List ℕ) (entries : List Entry) (fit : FitTogether col
         (omega (arith, long, fit.several)) (omega (arith, long)) positions (All-put bit entry first (last + 1 - first) entries IsEntry fit.children stands)
 
     -- the position is a column
-    pub fit_at_column : has columns position ≡ true →
+    fit_at_column : has columns position ≡ true →
         FitTogether columns (edited first (last + 1 - first) (forked_rows (weight (front_below position columns)) bit) rows) (edited first (last + 1 - first) (forked_places bit entry) entries)
     fit_at_column here = put_together columns _ fit.positions (shows-at_column columns rows entries (piece_of (Leaf 0) columns rows entries) position first last bit entry fit.shows range here)
 
     -- the position becomes a column
-    pub fit_at_new : position < 65535 → has columns position ≡ false →
+    fit_at_new : position < 65535 → has columns position ≡ false →
         FitTogether (with_position position columns) (edited first (last + 1 - first) (forked_rows (weight (front_below position columns)) bit) (map (spread_row (front_below position columns)) rows))
         (edited first (last + 1 - first) (forked_places bit entry) entries)
     fit_at_new below off = put_together (with_position position columns) _

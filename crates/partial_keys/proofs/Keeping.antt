@@ -1,6 +1,7 @@
 -- Positions that stay the columns of a node.
-use Rattle.std.proofs.Common.{Bool, List, ap, arith, drop, false, length, replicate, subst, sym, take, ℕ, ◌++◌, ◌+◌, ◌-◌, ◌<◌, ◌∙◌, ◌≡◌, ◌≤◌}
-use Rattle.std.proofs.lemmas.List.{take_at}
+use Rattle.std.proofs.Common.{Bool, List, ap, arith, drop, false, get_or, length, replicate, subst, sym, take, ℕ, ◌++◌, ◌+◌, ◌-◌, ◌<◌, ◌∙◌, ◌≡◌, ◌≤◌}
+use Rattle.std.proofs.lemmas.List.{append_assoc, drop-drop, get_or-drop, length-replicate, replicate-append-replicate, take_all, take_at}
+use lib.Seq.{paste}
 use Rattle.std.specs.List.{insert}
 use Rattle.partial_keys.proofs.Putting.{drop_pad}
 use Rattle.partial_keys.specs.Columns.{HoldsColumns, IsColumns, with_free}
@@ -51,3 +52,32 @@ module _ (places : List ℕ) (count p : ℕ) (h : HoldsColumns places count) (ro
     filled = put_is ∙ ap (λ xs. with_position p (take count places) ++ xs) put_behind
         ∙ sym (ap with_free put_shown ∙ ap (λ n. with_position p (take count places) ++ replicate (31 - n) 65535) longer);
   }
+
+-- ---- positions that are moved to the front
+-- lists with the same end have the same element there
+pub same_behind : (xs ys : List ℕ) (j d : ℕ) → drop j xs ≡ drop j ys → get_or xs j d ≡ get_or ys j d
+same_behind xs ys j d e =
+    let z : j + 0 ≡ j = omega arith in
+    sym (get_or-drop j xs 0 d ∙ ap (λ k. get_or xs k d) z) ∙ ap (λ zs. get_or zs 0 d) e ∙ get_or-drop j ys 0 d ∙ ap (λ k. get_or ys k d) z
+
+pub more_behind : (xs ys : List ℕ) (j : ℕ) → drop j xs ≡ drop j ys → drop (j + 1) xs ≡ drop (j + 1) ys
+more_behind xs ys j e = sym (drop-drop 1 j xs) ∙ ap (drop 1) e ∙ drop-drop 1 j ys
+
+-- unused places behind those that are kept
+pub filled_behind : (places front : List ℕ) (found count : ℕ) → found ≤ count → count ≤ 31 → take found places ≡ front → found ≡ length front → drop count places ≡ replicate (31 - count) 65535 →
+    paste places found (replicate (count - found) 65535) (count - found) ≡ with_free front
+filled_behind places front found count l few at_front counted behind =
+    let n : found + (count - found) ≡ count = omega arith in
+    let m : count - found + (31 - count) ≡ 31 - length front = omega arith in
+    append_assoc (take found places) (take (count - found) (replicate (count - found) 65535)) (drop (found + (count - found)) places)
+    ∙ ap (λ xs. xs ++ (take (count - found) (replicate (count - found) 65535) ++ drop (found + (count - found)) places)) at_front
+    ∙ ap (λ xs. front ++ (xs ++ drop (found + (count - found)) places)) (take_all (count - found) (replicate (count - found) 65535) (omega (arith, length-replicate {A = ℕ} (count - found) 65535)))
+    ∙ ap (λ k. front ++ (replicate (count - found) 65535 ++ drop k places)) n
+    ∙ ap (λ xs. front ++ (replicate (count - found) 65535 ++ xs)) behind
+    ∙ ap (λ xs. front ++ xs) (replicate-append-replicate (count - found) (31 - count) 65535 ∙ ap (λ k. replicate k 65535) m)
+
+-- columns in front of unused places
+pub holds_front : (cs places : List ℕ) (count : ℕ) → IsColumns cs → count ≡ length cs → places ≡ with_free cs → HoldsColumns places count
+holds_front cs places count columns counted filled =
+    let shown : take count places ≡ cs = ap (take count) filled ∙ take_at cs (replicate (31 - length cs) 65535) count (sym counted) in
+    record { columns = subst IsColumns (sym shown) columns; counted = ap length shown ∙ sym counted; filled = filled ∙ sym (ap with_free shown) }

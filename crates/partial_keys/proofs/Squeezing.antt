@@ -1,15 +1,13 @@
 -- The steps of the functions that keep some columns and join rows.
-use Rattle.std.proofs.Common.{Bool, List, [], ap, arith, bit_and, bit_or, cond, drop, eqb, false, get_or, length, refl, replicate, suc, sym, take, true, zero, ℕ, ◌%◌, ◌*◌, ◌++◌, ◌+◌, ◌-◌, ◌/◌, ◌<◌, ◌^◌, ◌∙◌, ◌∷◌, ◌≡◌, ◌≢◌, ◌≤◌}
+use Rattle.std.proofs.Common.{Bool, List, [], ap, arith, bit_and, bit_or, cond, drop, eqb, false, get_or, length, refl, replicate, sym, take, true, ℕ, ◌++◌, ◌+◌, ◌-◌, ◌/◌, ◌<◌, ◌^◌, ◌∙◌, ◌∷◌, ◌≡◌, ◌≢◌, ◌≤◌}
 use Rattle.std.proofs.Math.Numerals.{add-one}
 use Rattle.std.proofs.lemmas.Bool.{eq-eqb, ne_eqb}
 use Rattle.std.proofs.lemmas.List.{append-nil, drop_more}
-use Rattle.std.proofs.lemmas.Nat.{one_shl, or_comm, or_shifted}
+use Rattle.std.proofs.lemmas.Nat.{or_comm}
 use Rattle.std.proofs.lemmas.Nat.Bits.{bit_at-lt, shr_and_one}
 use Rattle.std.specs.Int.{bit_at}
-use Rattle.key_bits.proofs.Gathering.{code-lt}
 use Rattle.key_bits.specs.Gather.{code}
 use Rattle.partial_keys.proofs.Codes.{bits_of-code, get_or-bits_of}
-use Rattle.partial_keys.proofs.Reading.{row}
 use Rattle.partial_keys.specs.Squeezed.{bits_of, used_bits, or_all}
 use Rattle.pieces.proofs.Positions.{kept_suc, kept_over}
 use Rattle.pieces.specs.Kept.{kept}
@@ -19,26 +17,6 @@ is_one n v h = let e : bit_and (n / 2 ^ v) 1 ≡ bit_at n v = shr_and_one n v in
 
 pub is_zero : (n v : ℕ) → bit_and (n / 2 ^ v) 1 ≡ 0 → eqb (bit_at n v) 1 ≡ false
 is_zero n v h = let e : bit_and (n / 2 ^ v) 1 ≡ bit_at n v = shr_and_one n v in ne_eqb (bit_at n v) 1 (λ f. omega (arith, e, h, f))
-
-pub squeeze_zero : (w place used row rest : ℕ) → 0 < w → w ≤ place → bit_and (used / 2 ^ (w - 1)) 1 ≢ 0 → bit_and (row / 2 ^ (w - 1)) 1 ≡ 0 →
-    rest ≡ code (place - 1) (kept (bits_of (w - 1) used) (bits_of (w - 1) row)) → rest ≡ code place (kept (bits_of w used) (bits_of w row))
-squeeze_zero zero place used row rest p l u r e = absurd (omega arith)
-squeeze_zero (suc v) zero used row rest p l u r e = absurd (omega arith)
-squeeze_zero (suc v) (suc q) used row rest p l u r e =
-    let a : suc v - 1 ≡ v = omega arith in let b : suc q - 1 ≡ q = omega arith in
-    let f : rest ≡ code q (kept (bits_of v used) (bits_of v row)) = rw (a, b) at e in
-    rw (is_one used v (rw a at u), is_zero row v (rw a at r)) (f ∙ omega arith)
-
-pub squeeze_one : (w place used row rest : ℕ) → 0 < w → w ≤ place → place ≤ 32 → bit_and (used / 2 ^ (w - 1)) 1 ≢ 0 → bit_and (row / 2 ^ (w - 1)) 1 ≢ 0 →
-    rest ≡ code (place - 1) (kept (bits_of (w - 1) used) (bits_of (w - 1) row)) → bit_or (1 * 2 ^ (place - 1) % 2 ^ 32) rest ≡ code place (kept (bits_of w used) (bits_of w row))
-squeeze_one zero place used row rest p l m u r e = absurd (omega arith)
-squeeze_one (suc v) zero used row rest p l m u r e = absurd (omega arith)
-squeeze_one (suc v) (suc q) used row rest p l m u r e =
-    let a : suc v - 1 ≡ v = omega arith in let b : suc q - 1 ≡ q = omega arith in
-    let f : rest ≡ code q (kept (bits_of v used) (bits_of v row)) = rw (a, b) at e in
-    let g : rest < 2 ^ q = rw f (code-lt q (kept (bits_of v used) (bits_of v row))) in
-    let h : 1 * 2 ^ q % 2 ^ 32 ≡ 1 * 2 ^ q = one_shl q 32 (omega arith) ∙ omega arith in
-    rw (is_one used v (rw a at u), is_one row v (rw a at r), b) (ap (λ n. bit_or n rest) h ∙ or_shifted 1 q rest g ∙ (rw f (omega arith)))
 
 pub or_all_step : (rows : List ℕ) (i : ℕ) → 0 < i → i ≤ length rows → bit_or (or_all (drop i rows)) (get_or rows (i - 1) 0) ≡ or_all (drop (i - 1) rows)
 or_all_step rows i p l =

@@ -1,7 +1,7 @@
 //! Columns of a compound node, and the search of its sparse partial keys (Binna and others, "HOT", SIGMOD 2018).
 #![tactic(auto)]
 
-ghost use Rattle.std.specs.Prelude.{◌≡◌, ◌%◌, ◌+◌, ◌++◌, ◌<◌, ◌≤◌, drop, insert, length, map, slice_index, take};
+ghost use Rattle.std.specs.Prelude.{◌≡◌, ◌%◌, ◌+◌, ◌-◌, ◌++◌, ◌<◌, ◌≤◌, drop, insert, length, map, replicate, slice_index, take};
 ghost use Rattle.pieces.specs.Kept.{kept};
 ghost use Rattle.pieces.specs.Highest.{highest};
 ghost use Rattle.pieces.specs.Positions.{front_below};
@@ -11,7 +11,6 @@ ghost use Rattle.partial_keys.specs.Rows.{IsHighest, complies};
 ghost use Rattle.partial_keys.specs.Squeezed.{used_bits};
 ghost use lib.Lanes.{mask_l};
 
-use arrayvec::ArrayVec;
 use key_bits::{Key, extract};
 use std::marker::Model;
 use std::simd::prelude::*;
@@ -167,8 +166,8 @@ impl Columns {
         requires some { 0 < length (kept (used_bits used) self.old) }
         ensures { self.new ≡ kept (used_bits used) self.old }
     {
-        let shorter = kept_positions(self.as_slice(), used);
-        *self = Columns::of(shorter.as_slice());
+        let count = self.count as usize;
+        self.count = keep_used(&mut self.positions, count, used) as u8;
     }
 }
 
@@ -210,17 +209,25 @@ pub fn put_in<T: Copy>(places: &mut [T], count: usize, at: usize, element: T)
     }
 }
 
-fn kept_positions(positions: &[u16], used: u32) -> ArrayVec<u16, 31>
-    requires { length positions.now ≤ 31 }
-    ensures { result.items ≡ kept (used_bits used) positions.now }
+/// Keeps of the first `count` positions those j whose bit 31-j is set in `used`, in front of unused places, and answers how
+/// many these are.
+fn keep_used(places: &mut [u16; 31], count: usize, used: u32) -> usize
+    requires few { count ≤ 31 }
+    requires unused { drop count places.old ≡ replicate (31 - count) 65535 }
+    ensures count { result ≡ length (kept (used_bits used) (take count places.old)) }
+    ensures places { places.new ≡ with_free (kept (used_bits used) (take count places.old)) }
 {
-    let mut list = ArrayVec::new();
-    for (j, position) in positions.iter().enumerate() {
+    let mut found = 0;
+    for j in 0..count {
         if used >> (31 - j) & 1 == 1 {
-            list.push(*position);
+            places[found] = places[j];
+            found += 1;
         }
     }
-    list
+    for j in found..count {
+        places[j] = u16::MAX;
+    }
+    found
 }
 
 /// The highest entry whose sparse partial key complies with the dense one: `dense & sparse[i] == sparse[i]`.

@@ -1,6 +1,13 @@
 -- Why `drop_unused` meets its contract.
-use Rattle.partial_keys.proofs.Keeping.{IsColumns-kept}
+use Rattle.std.proofs.Common.{List, length, subst, sym, take, ℕ, ◌<◌}
+use Rattle.partial_keys.proofs.Keeping.{IsColumns-kept, holds_front}
+use Rattle.partial_keys.specs.Squeezed.{used_bits}
+use Rattle.pieces.specs.Kept.{kept}
 use Rattle.partial_keys.proofs.Columns.drop_unused.Goals as goal
 
-pub of-requires : goal.of-requires
-of-requires c = rw (c.as_slice-2.ensures.value, c.kept_positions-shorter.ensures, c.as_slice.ensures.positions) (IsColumns-kept _ _ c.as_slice.ensures.columns c.requires.some)
+pub invariant_of-self : goal.invariant_of-self
+invariant_of-self c =
+    let some : 0 < length (kept (used_bits c.args.used) (take c.self.inside.count c.self.inside.positions)) =
+    subst (λ (cs : List ℕ). 0 < length (kept (used_bits c.args.used) cs)) (sym c.self.view_is) c.requires.some in
+    holds_front (kept (used_bits c.args.used) (take c.self.inside.count c.self.inside.positions)) c.keep_used.new.places c.keep_used.result
+    (IsColumns-kept (used_bits c.args.used) (take c.self.inside.count c.self.inside.positions) c.self.invariant.columns some) c.keep_used.ensures.count c.keep_used.ensures.places
