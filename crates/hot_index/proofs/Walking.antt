@@ -1,9 +1,17 @@
 -- The steps of a walk, over what its pass knows.
 use Rattle.std.proofs.Common.{◌≡◌, ◌≢◌, inl, inr, ℕ, suc, ◌+◌, ◌-◌, ◌*◌, ◌^◌, ◌<◌, ◌≤◌, List, [], ◌∷◌, ◌++◌, length, refl, ap, sym, ◌∙◌, subst, arith, Bool, true, false, length-append, le_refl, Option, Some, None, ⊎_elim}
-use Rattle.std.specs.Prelude.{◌↔◌, IsSome, option_to_list}
+use Rattle.std.specs.Prelude.{◌↔◌, IsSome, IsTrue, option_to_list}
 use Rattle.std.proofs.lemmas.Bool.{cases_lt}
 use Rattle.std.proofs.lemmas.List.{length-replicate}
+use Rattle.std.proofs.lemmas.Cmp.{tied_itself}
+use Rattle.std.proofs.lemmas.Map.Lookups.{exact_bytes}
+use Rattle.std.specs.Cmp.Lexicographic.{slice_cmp, nat_list_cmp_total}
+use Rattle.std.specs.Ordering.{is_lt, nat_cmp}
+use Rattle.std.specs.declared.cmp.Ordering.{Ordering}
+use Rattle.std.specs.declared.cmp.Ordering.TheVariants.{Less, Equal, Greater}
 use Rattle.key_bits.specs.Bits.{bit_of, IsFirstDifference}
+use Rattle.key_bits.specs.Key.{IsKey}
+use Rattle.key_bits.proofs.Order.{first_difference, greater_by_first, less_iff_first}
 use Rattle.hot_model.specs.declared.Scan.{Scan}
 use Rattle.compound_node.specs.Nodes.{HeadView, IsLawful as IsLawfulNode, node_of, leaves}
 use Rattle.compound_node.specs.declared.entries.Entry.{Entry}
@@ -72,6 +80,36 @@ parted_after a b p h e = (p, (λ q lt. sym (h.agree q lt), e, other (bit_of a p)
     other : (v : Bool) → (v ≡ false → ⊥) → v ≡ true
     other true n = refl
     other false n = absurd (n refl)
+
+-- the order of their bytes is that of two keys
+module _ (a b : Key) (ka : IsKey a) (kb : IsKey b) where
+  pub less_before : slice_cmp nat_cmp a b ≡ Less → IsBefore a b
+  less_before less =
+      let d = (less_iff_first a b ka kb).0 less in parted_before a b d.0 d.1 (other (bit_of b d.0) (λ e. d.1.differ (d.2 ∙ sym e)))
+    where
+      other : (v : Bool) → (v ≡ false → ⊥) → v ≡ true
+      other true n = refl
+      other false n = absurd (n refl)
+
+  pub not_less_after : slice_cmp nat_cmp a b ≢ Less → IsAtMost b a
+  not_less_after not_less = go (slice_cmp nat_cmp a b) refl
+    where
+      go : (o : Ordering) → slice_cmp nat_cmp a b ≡ o → IsAtMost b a
+      go Less e = absurd (not_less e)
+      go Equal e = inl (sym (exact_bytes a b e))
+      go Greater e =
+          let d = first_difference a b ka kb (λ same. let x : slice_cmp nat_cmp a b ≡ Equal = rw same (tied_itself nat_list_cmp_total b) in cc) in
+          let high = (greater_by_first a b ka kb d.0 d.1).0 e in
+          inr (parted_after a b d.0 d.1 (low (bit_of b d.0) (λ f. d.1.differ (high ∙ sym f))))
+        where
+          low : (v : Bool) → (v ≡ true → ⊥) → v ≡ false
+          low true n = absurd (n refl)
+          low false n = refl
+
+pub is_less : (o : Ordering) → IsTrue (is_lt o) → o ≡ Less
+is_less Less h = refl
+is_less Equal h = cc
+is_less Greater h = cc
 
 -- Lists
 

@@ -18,7 +18,7 @@ use arrayvec::ArrayVec;
 use compound_node::Entry;
 use hot_model::Scan;
 use insert_cases::{Step, choose, level_below};
-use key_bits::{Key, mismatch};
+use key_bits::Key;
 use rowex_core::Gate;
 use rowex_reading::{load_entry, load_head, load_leaf, load_root};
 use rowex_table::{HotTable, TableSeat};
@@ -289,14 +289,11 @@ fn nothing(alloc: Global) -> Scan
     }
 }
 
-/// Whether the first key is before the second, by their first different bit.
+/// Whether the first key is before the second: their first different byte says what their first different bit does.
 fn is_before(first: &Key, second: &Key) -> bool
     ensures keys { IsKey first.now × IsKey second.now }
     ensures before { IsTrue result → IsBefore first.now second.now }
     ensures at_most { result ≡ false → IsAtMost second.now first.now }
 {
-    match mismatch(first, second) {
-        Some(position) => second.bit(position),
-        None => false,
-    }
+    first.as_bytes().cmp(second.as_bytes()).is_lt()
 }

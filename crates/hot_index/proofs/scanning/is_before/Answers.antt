@@ -1,10 +1,18 @@
--- The second key has the bit at the first difference, or the first key.
-use Rattle.std.proofs.Common.{inr, sym, ◌∙◌}
-use Rattle.hot_index.proofs.Walking.{parted_before, parted_after}
+-- The order of the bytes is that of the first different bit.
+use Rattle.std.proofs.Common.{◌≡◌, true, false, ap, sym, subst, ◌∙◌}
+use Rattle.std.specs.Prelude.{IsTrue}
+use Rattle.std.specs.Cmp.Lexicographic.{slice_cmp}
+use Rattle.std.specs.Ordering.{is_lt, nat_cmp}
+use Rattle.hot_index.proofs.Walking.{is_less, less_before, not_less_after}
 use Rattle.hot_index.proofs.scanning.is_before.Goals as goal
 
-pub returns-in-Some-clause-before : goal.returns-in-Some-clause-before
-returns-in-Some-clause-before c h = parted_before c.args.first.now c.args.second.now c.in-Some.position c.in-Some.ensures.first (sym c.bit.ensures ∙ h)
+pub returns-clause-before : goal.returns-clause-before
+returns-clause-before c h =
+    let order : c.cmp.result ≡ slice_cmp nat_cmp c.args.first.now c.args.second.now = rw (c.as_bytes.ensures.bytes, c.as_bytes-2.ensures.bytes) at c.cmp.ensures in
+    less_before c.args.first.now c.args.second.now c.as_bytes.ensures.key c.as_bytes-2.ensures.key (sym order ∙ is_less c.cmp.result (subst IsTrue c.is_lt.ensures h))
 
-pub returns-in-Some-clause-at_most : goal.returns-in-Some-clause-at_most
-returns-in-Some-clause-at_most c h = inr (parted_after c.args.first.now c.args.second.now c.in-Some.position c.in-Some.ensures.first (sym c.bit.ensures ∙ h))
+pub returns-clause-at_most : goal.returns-clause-at_most
+returns-clause-at_most c h =
+    let order : c.cmp.result ≡ slice_cmp nat_cmp c.args.first.now c.args.second.now = rw (c.as_bytes.ensures.bytes, c.as_bytes-2.ensures.bytes) at c.cmp.ensures in
+    not_less_after c.args.first.now c.args.second.now c.as_bytes.ensures.key c.as_bytes-2.ensures.key
+    (λ less. let x : true ≡ false = sym (ap is_lt (order ∙ less)) ∙ (sym c.is_lt.ensures ∙ h) in cc)
