@@ -178,7 +178,7 @@ impl Node {
         node
     }
 
-    /// Puts a new fork in, as `insert` does.
+    /// Puts a new fork in over the entries from `first` to `last`, as `insert` does in a copy.
     pub fn add(&mut self, first: u8, last: u8, position: u16, bit: bool, entry: Entry)
         requires room { length self.old.entries < 32 }
         requires range { IsAffected (piece self.old) position first last }
