@@ -21,8 +21,9 @@ use std::marker::Model;
 /// A leaf's record: a key with its value.
 #[derive(Drop)]
 pub struct LeafRecord {
-    key: Key,
+    // The value stands first, beside the key's count and first bytes: so one line of memory has all of a short key's record.
     value: u64,
+    key: Key,
 }
 
 /// A height optimized trie for one thread. Contracts see its records, the entry of its root, and for how many records its
