@@ -1,5 +1,6 @@
 -- The leaves at a body's places, and what a scan has given after some leaves.
-use Rattle.std.specs.Prelude.{◌≡◌, ◌≢◌, ℕ, ◌+◌, ◌≤◌, ◌<◌, List, [], ◌∷◌, ◌++◌, length, take, drop, Option, MatchOption}
+use Rattle.std.specs.Prelude.{◌≡◌, ◌≢◌, ℕ, ◌+◌, ◌≤◌, ◌<◌, List, [], ◌∷◌, ◌++◌, length, map, take, drop, Option, MatchOption}
+use Rattle.std.specs.Borrow.{Bor}
 use Rattle.std.specs.declared.cmp.Ordering.TheVariants.{Less, Greater}
 use Rattle.key_bits.specs.Bits.{IsFirstDifference}
 use Rattle.key_bits.specs.Key.{IsKey}
@@ -8,6 +9,7 @@ use Rattle.hot_model.specs.Scans.{range_of}
 use Rattle.tries.specs.Content.{Item, items, pairs, Each, IsIn}
 use Rattle.tries.specs.Keys.{Key}
 use Rattle.tries.specs.Tree.{Tree, leaf, node, fork, page}
+use Rattle.insert_cases.specs.declared.plain.LeafRecord.{LeafRecord}
 use Rattle.insert_cases.specs.declared.plain.scan.Range.{Range}
 use Rattle.insert_cases.specs.declared.plain.scan.Progress.{Progress}
 use Rattle.insert_cases.specs.declared.plain.scan.Progress.TheVariants.{On, Past, Full}
@@ -38,6 +40,10 @@ IsFloor k xs = Each (λ x. key_order k x.key ≢ Greater) xs
 -- the key is above all of these leaves' keys
 abbrev pub IsBeyond : Key → List Item → Type 0
 IsBeyond k xs = Each (λ x. key_order k x.key ≡ Greater) xs
+
+-- the pairs that leaves' records hold
+abbrev pub pairs_read : List (Bor LeafRecord) → Map
+pairs_read ls = map (λ l. (l.now.key, l.now.value)) ls
 
 -- the pairs of leaves in a range
 abbrev pub in_range : Range → List Item → Map

@@ -16,7 +16,7 @@ use Rattle.tries.specs.Tree.{Page, Fixed, Tree, node, page}
 use Rattle.tries.proofs.Places.{leads_spot}
 use Rattle.insert_cases.specs.declared.plain.LeafRecord.{LeafRecord}
 use Rattle.insert_cases.specs.declared.plain.scan.Progress.TheVariants.{On}
-use Rattle.insert_cases.specs.Gathered.{IsBeyond, IsFloor, IsGathered, IsMismatch, StandsIn, items_from, leaves_of, parts}
+use Rattle.insert_cases.specs.Gathered.{IsBeyond, IsFloor, IsGathered, IsMismatch, StandsIn, items_from, leaves_of, pairs_read, parts}
 use Rattle.insert_cases.specs.Store.{PlainView, record_of}
 use Rattle.insert_cases.proofs.Gathering.{gathered_none, gathered_skip, less_beyond, not_less_floor}
 use Rattle.insert_cases.proofs.Searching.{read_at}
@@ -60,10 +60,10 @@ index-requires t c =
     let h = slice_get_within c.args.self.now.leaves c.in-Leaf.number (record_of l.item) l.at in
     omega (arith, h, ap (λ (v : PlainView). length v.leaves) c.self.view_is, c.self.inside.leaves.ok.0)
 
-pub give-requires : goal.give-requires
-give-requires t c =
+pub list_leaf-requires : goal.list_leaf-requires
+list_leaf-requires t c =
     let s = c.requires.shown in
-    let l = leaf_of t (goal.at.give-requires t c).In-Leaf s.0 s.1 s.2 in
+    let l = leaf_of t (goal.at.list_leaf-requires t c).In-Leaf s.0 s.1 s.2 in
     record { within = slice_get_within c.args.self.now.leaves c.in-Leaf.number (record_of l.item) l.at }
 
 pub index-node-requires : goal.index-node-requires
@@ -101,8 +101,8 @@ returns-then-lt t c = record {
       let l = leaf_of t (goal.at.returns-then-lt t c).In-Leaf u e i in
       let b : key_order c.args.range.from.now l.item.key ≡ Greater =
       less_beyond c.args.range.from.now c.args.range.upto.now l.item.key (order_is t (goal.at.returns-then-lt t c).After-lt l.item l.at ∙ c.if-lt.true) in
-      subst (λ xs. IsGathered c.args.range c.args.pairs.now.items xs c.args.pairs.now.items On) (sym l.alone)
-      (gathered_skip c.args.range c.args.pairs.now.items c.args.pairs.now.items (l.item ∷ []) [] On (b, tt) (gathered_none c.args.range c.args.pairs.now.items r));
+      subst (λ xs. IsGathered c.args.range (pairs_read c.args.leaves.now.items) xs (pairs_read c.args.leaves.now.items) On) (sym l.alone)
+      (gathered_skip c.args.range (pairs_read c.args.leaves.now.items) (pairs_read c.args.leaves.now.items) (l.item ∷ []) [] On (b, tt) (gathered_none c.args.range (pairs_read c.args.leaves.now.items) r));
 }
 
 pub returns-else-lt : goal.returns-else-lt
@@ -110,8 +110,8 @@ returns-else-lt t c = record {
   gathered = λ u e i m r.
       let l = leaf_of t (goal.at.returns-else-lt t c).In-Leaf u e i in
       let n = not_less_floor c.args.range.from.now c.args.range.upto.now l.item.key (order_is t (goal.at.returns-else-lt t c).After-lt l.item l.at ∙ c.if-lt.false) in
-      IfOk-weaker c.give.result (IsGathered c.args.range c.args.pairs.now.items (l.item ∷ []) c.give.new.pairs.items) (IsGathered c.args.range c.args.pairs.now.items (items u) c.give.new.pairs.items)
-      (λ p g. subst (λ xs. IsGathered c.args.range c.args.pairs.now.items xs c.give.new.pairs.items p) (sym l.alone) g) (c.give.ensures.gathered l.item l.at n r);
+      IfOk-weaker c.list_leaf.result (IsGathered c.args.range (pairs_read c.args.leaves.now.items) (l.item ∷ []) (pairs_read c.list_leaf.new.leaves.items)) (IsGathered c.args.range (pairs_read c.args.leaves.now.items) (items u) (pairs_read c.list_leaf.new.leaves.items))
+      (λ p g. subst (λ xs. IsGathered c.args.range (pairs_read c.args.leaves.now.items) xs (pairs_read c.list_leaf.new.leaves.items) p) (sym l.alone) g) (c.list_leaf.ensures.gathered l.item l.at n r);
 }
 
 pub returns-in-Before : goal.returns-in-Before
@@ -120,10 +120,10 @@ returns-in-Before t c = record {
       let l = node_of t (goal.at.returns-in-Before t c).In-Node u e i in
       let z = starts t (goal.at.returns-in-Before t c).After-start_in l.fixed l.body l.stands in
       let s = c.in-Before.ensures l.body l.stands.sound.trie z.0 z.1 (subst (λ w. IsMismatch c.args.range.from.now w c.args.difference) l.is m) in
-      IfOk-weaker c.gather_from.result (IsGathered c.args.range c.args.pairs.now.items (items_from c.in-Before.place l.body) c.gather_from.new.pairs.items)
-      (IsGathered c.args.range c.args.pairs.now.items (items u) c.gather_from.new.pairs.items)
-      (λ p g. subst (λ w. IsGathered c.args.range c.args.pairs.now.items (items w) c.gather_from.new.pairs.items p) (sym l.is)
-      (gathered_from c.args.range l.body c.in-Before.place s.1 c.args.pairs.now.items c.gather_from.new.pairs.items p g)) (c.gather_from.ensures.gathered l.fixed l.body l.stands s.0 s.2 r);
+      IfOk-weaker c.gather_from.result (IsGathered c.args.range (pairs_read c.args.leaves.now.items) (items_from c.in-Before.place l.body) (pairs_read c.gather_from.new.leaves.items))
+      (IsGathered c.args.range (pairs_read c.args.leaves.now.items) (items u) (pairs_read c.gather_from.new.leaves.items))
+      (λ p g. subst (λ w. IsGathered c.args.range (pairs_read c.args.leaves.now.items) (items w) (pairs_read c.gather_from.new.leaves.items) p) (sym l.is)
+      (gathered_from c.args.range l.body c.in-Before.place s.1 (pairs_read c.args.leaves.now.items) (pairs_read c.gather_from.new.leaves.items) p g)) (c.gather_from.ensures.gathered l.fixed l.body l.stands s.0 s.2 r);
 }
 
 pub returns-in-On : goal.returns-in-On
@@ -139,13 +139,13 @@ returns-in-On t c = record {
       let s = c.in-Within.ensures b l.stands.sound.trie z.0 z.1 n in
       let low : IsBeyond k (leaves_of (take j (parts b))) = subst (λ i. IsBeyond k (leaves_of (take i (parts b)))) (sym z.1) s.0 in
       let mid = c.in_ok-end-in-Within.ensures.gathered (get_or (parts b) j no_tree) p.head p.stands (part_mismatch k b j no_tree c.args.difference z.1 n) r in
-      let f : IsGathered c.args.range c.args.pairs.now.items (items (get_or (parts b) j no_tree)) c.gather.new.pairs.items On =
-      subst (IsGathered c.args.range c.args.pairs.now.items (items (get_or (parts b) j no_tree)) c.gather.new.pairs.items) c.in-On.is mid in
+      let f : IsGathered c.args.range (pairs_read c.args.leaves.now.items) (items (get_or (parts b) j no_tree)) (pairs_read c.gather.new.leaves.items) On =
+      subst (IsGathered c.args.range (pairs_read c.args.leaves.now.items) (items (get_or (parts b) j no_tree)) (pairs_read c.gather.new.leaves.items)) c.in-On.is mid in
       let floor : IsFloor k (items_from (j + 1) b) = subst (λ i. IsFloor k (items_from (i + 1) b)) (sym z.1) s.1 in
-      IfOk-weaker c.gather_from-in-On.result (IsGathered c.args.range c.gather.new.pairs.items (items_from (j + 1) b) c.gather_from-in-On.new.pairs.items)
-      (IsGathered c.args.range c.args.pairs.now.items (items u) c.gather_from-in-On.new.pairs.items)
-      (λ q g. subst (λ w. IsGathered c.args.range c.args.pairs.now.items (items w) c.gather_from-in-On.new.pairs.items q) (sym l.is)
-      (gathered_on c.args.range b j low no_tree p.in_range c.args.pairs.now.items c.gather.new.pairs.items c.gather_from-in-On.new.pairs.items q f g))
+      IfOk-weaker c.gather_from-in-On.result (IsGathered c.args.range (pairs_read c.gather.new.leaves.items) (items_from (j + 1) b) (pairs_read c.gather_from-in-On.new.leaves.items))
+      (IsGathered c.args.range (pairs_read c.args.leaves.now.items) (items u) (pairs_read c.gather_from-in-On.new.leaves.items))
+      (λ q g. subst (λ w. IsGathered c.args.range (pairs_read c.args.leaves.now.items) (items w) (pairs_read c.gather_from-in-On.new.leaves.items) q) (sym l.is)
+      (gathered_on c.args.range b j low no_tree p.in_range (pairs_read c.args.leaves.now.items) (pairs_read c.gather.new.leaves.items) (pairs_read c.gather_from-in-On.new.leaves.items) q f g))
       (c.gather_from-in-On.ensures.gathered l.fixed b l.stands (let h = p.in_range in omega arith) floor f.room);
 }
 
@@ -162,6 +162,6 @@ returns-in_default t c = record {
       let s = c.in-Within.ensures b l.stands.sound.trie z.0 z.1 n in
       let low : IsBeyond k (leaves_of (take j (parts b))) = subst (λ i. IsBeyond k (leaves_of (take i (parts b)))) (sym z.1) s.0 in
       let mid = c.in_ok-end-in-Within.ensures.gathered (get_or (parts b) j no_tree) p.head p.stands (part_mismatch k b j no_tree c.args.difference z.1 n) r in
-      subst (λ w. IsGathered c.args.range c.args.pairs.now.items (items w) c.gather.new.pairs.items c.in_ok-end-in-Within.end) (sym l.is)
-      (gathered_ended c.args.range b j low no_tree p.in_range c.args.pairs.now.items c.gather.new.pairs.items c.in_ok-end-in-Within.end l.stands.sound.trie c.in_default.not-On mid);
+      subst (λ w. IsGathered c.args.range (pairs_read c.args.leaves.now.items) (items w) (pairs_read c.gather.new.leaves.items) c.in_ok-end-in-Within.end) (sym l.is)
+      (gathered_ended c.args.range b j low no_tree p.in_range (pairs_read c.args.leaves.now.items) (pairs_read c.gather.new.leaves.items) c.in_ok-end-in-Within.end l.stands.sound.trie c.in_default.not-On mid);
 }

@@ -2,7 +2,7 @@
 use Rattle.std.proofs.Common.{◌≤◌, length}
 use Rattle.std.specs.Prelude.{slice_get, take, drop}
 use Rattle.tries.specs.Tree.{Fixed, Tree, node}
-use Rattle.insert_cases.specs.Gathered.{IsFloor, IsGiven, StandsIn, items_from, leaves_of, parts}
+use Rattle.insert_cases.specs.Gathered.{IsFloor, IsGiven, StandsIn, items_from, leaves_of, pairs_read, parts}
 use Rattle.insert_cases.proofs.Standing.{height_some}
 use Rattle.insert_cases.proofs.plain.PlainTrie.+gather_from.Given as goal
 
@@ -11,5 +11,5 @@ decreases-gather_from l = height_some (slice_get l.self.now.nodes l.number)
 
 abbrev pub invariant-loop-place : goal.invariant-loop-place
 invariant-loop-place l =
-    (x : Fixed) (b : Tree) → StandsIn l.fn.self (node l.number x b) → l.start ≤ length (parts b) → IsFloor l.range.from.now (items_from l.start b) → length l.fn.pairs.items ≤ l.range.limit →
-    IsGiven l.range l.fn.pairs.items (leaves_of (drop l.start (take l.place (parts b)))) l.pairs.items
+    (x : Fixed) (b : Tree) → StandsIn l.fn.self (node l.number x b) → l.start ≤ length (parts b) → IsFloor l.range.from.now (items_from l.start b) → length (pairs_read l.fn.leaves.items) ≤ l.range.limit →
+    IsGiven l.range (pairs_read l.fn.leaves.items) (leaves_of (drop l.start (take l.place (parts b)))) (pairs_read l.leaves.items)

@@ -13,7 +13,7 @@ use Rattle.tries.specs.Tree.{Tree}
 use Rattle.insert_cases.specs.declared.plain.LeafRecord.{LeafRecord}
 use Rattle.insert_cases.specs.declared.plain.scan.Range.{Range}
 use Rattle.insert_cases.specs.declared.plain.scan.Progress.TheVariants.{Full}
-use Rattle.insert_cases.specs.Gathered.{IsGathered, IsMismatch, StandsIn}
+use Rattle.insert_cases.specs.Gathered.{IsGathered, IsMismatch, StandsIn, pairs_read}
 use Rattle.insert_cases.specs.Store.{PlainView, record_of}
 use Rattle.insert_cases.proofs.Gathering.{gathered_scan}
 use Rattle.insert_cases.proofs.Reading.{IsTree, plain_tree}
@@ -60,14 +60,15 @@ returns c =
       subst (λ (l : LeafRecord). MatchOption c.mismatch-difference.result (k ≡ l.key) (IsFirstDifference k l.key)) same
           (where_parted k c.index.result.now.key c.mismatch-difference.result c.mismatch-difference.ensures.none c.mismatch-difference.ensures.first),
     ) in
-    let none : c.new-pairs.result.items ≡ [] = c.new-pairs.ensures.items in
-    let g : IsGathered r [] (items t) c.gather.new.pairs.items c.in_ok-progress.progress =
-    subst (λ (old : Map). IsGathered r old (items t) c.gather.new.pairs.items c.in_ok-progress.progress) none
-    (c.in_ok-progress.ensures.gathered t (tree d).1.head (stands d) m (subst (λ (old : Map). length old ≤ c.args.limit) (sym none) (omega arith))) in
+    let none : pairs_read c.new-leaves.result.items ≡ [] = ap pairs_read c.new-leaves.ensures.items in
+    let given : c.in_ok-pairs.pairs.items ≡ pairs_read c.gather.new.leaves.items = c.in_ok-pairs.ensures ∙ ap pairs_read c.deref.ensures.value in
+    let g : IsGathered r [] (items t) c.in_ok-pairs.pairs.items c.in_ok-progress.progress =
+    rw given (subst (λ (old : Map). IsGathered r old (items t) (pairs_read c.gather.new.leaves.items) c.in_ok-progress.progress) none
+    (c.in_ok-progress.ensures.gathered t (tree d).1.head (stands d) m (subst (λ (old : Map). length old ≤ c.args.limit) (sym none) (omega arith)))) in
     let more : IsTrue c.match-matches.matches ↔ (c.in_ok-progress.progress ≡ Full) =
     elim c.match-matches.branch [
       | in-Full w ↦ ((λ h. w.in-Full.is), (λ h. w.matches-is))
       | in_default-matches w ↦ ((λ h. absurd (false≢true (sym w.matches-is ∙ h))), (λ h. absurd (w.in_default-matches.not-Full h)))
     ] in
-    let scan : Scan = record { pairs = c.gather.new.pairs; more = c.match-matches.matches } in
+    let scan : Scan = record { pairs = c.in_ok-pairs.pairs; more = c.match-matches.matches } in
     record { scan = subst (λ (n : Map). IsScanOf n k c.args.upto.now c.args.limit scan) (sym (map_is c.args.self.now t (tree d).1.is)) (gathered_scan r (items t) scan c.in_ok-progress.progress more g) }
