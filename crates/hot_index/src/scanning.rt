@@ -1,8 +1,8 @@
 //! The walk of a scan: the pairs of a range of keys, in the order of the keys, as a pinned pass reads them.
 
-ghost use Rattle.std.specs.Prelude.{◌≡◌, ◌≢◌, ◌≤◌, ◌<◌, ◌+◌, ℕ, [], IfOk, IsSome, IsTrue, false, length};
+ghost use Rattle.std.specs.Prelude.{◌≡◌, ◌≢◌, ◌≤◌, ◌<◌, ◌+◌, ℕ, [], IfOk, IsSome, IsTrue, false, length, take};
 ghost use Rattle.compound_node.specs.declared.entries.Entry.TheVariants.{Leaf as LeafEntry, Node as NodeEntry};
-ghost use Rattle.key_bits.specs.Key.{IsKey};
+ghost use Rattle.key_bits.specs.Key.{HoldsKey, IsKey};
 ghost use Rattle.record_words.specs.declared.TheConstants.{HEAD_WORDS, LEAF_FIELDS};
 ghost use Rattle.tries.specs.Keys.{IsAtMost, IsBefore};
 ghost use Rattle.rowex_table.specs.Seats.{IsSeatOf};
@@ -18,9 +18,9 @@ use arrayvec::ArrayVec;
 use compound_node::Entry;
 use hot_model::Scan;
 use insert_cases::{Step, choose, level_below};
-use key_bits::Key;
+use key_bits::{Key, MAX_BYTES};
 use rowex_core::Gate;
-use rowex_reading::{load_entry, load_head, load_leaf, load_root};
+use rowex_reading::{load_entry, load_head, load_places, load_root};
 use rowex_table::{HotTable, TableSeat};
 use rowex_writing::{Found, MOST_NODES, search_way, step_of};
 use std::alloc::{AllocError, Global};
@@ -76,7 +76,7 @@ pub(crate) fn scan_root<G: Gate>(
     ensures scanned { IfOk result (HasScanned seat.new.known (range_of range.now)) }
     ensures few { seat.new.known.steps ≤ seat.old.known.steps + (1 + scan_loads range.now.limit) }
 {
-    if is_before(range.upto, range.from) {
+    if is_before(range.upto.as_bytes(), range.from.as_bytes()) {
         load_root(table, seat, gate);
         return Ok(nothing(alloc));
     }
@@ -110,12 +110,13 @@ fn scan_leaf<G: Gate>(
     ensures reads { (n : ℕ) × (n ≤ LEAF_FIELDS) × Reads table.now G.becomes n (seat.old, gate.old) (seat.new, gate.new) }
     ensures scanned { IfOk result (HasScanned seat.new.known (range_of range.now)) }
 {
-    let pair = load_leaf(table, seat, gate, number);
-    if is_before(&pair.0, range.from) {
+    let mut places = [0; MAX_BYTES];
+    let (length, value) = load_places(table, seat, gate, number, &mut places);
+    if is_before(&places[..length], range.from.as_bytes()) {
         return Ok(nothing(alloc));
     }
     let mut pairs = Vec::new(alloc);
-    match take_pair(&mut pairs, range, pair)? {
+    match take_pair(&mut pairs, range, &places, length, value)? {
         Verdict::Full => Ok(Scan { pairs, more: true }),
         Verdict::Further | Verdict::Past => Ok(Scan { pairs, more: false }),
     }
@@ -143,8 +144,9 @@ fn scan_node<G: Gate>(
     way.truncate(start.level);
     let mut pairs = Vec::new(alloc);
     if start.leaf {
-        let pair = load_leaf(table, seat, gate, number);
-        match take_pair(&mut pairs, range, pair)? {
+        let mut places = [0; MAX_BYTES];
+        let (length, value) = load_places(table, seat, gate, number, &mut places);
+        match take_pair(&mut pairs, range, &places, length, value)? {
             Verdict::Further => top.at += 1,
             Verdict::Past => return Ok(Scan { pairs, more: false }),
             Verdict::Full => return Ok(Scan { pairs, more: true }),
@@ -220,8 +222,9 @@ fn walk<G: Gate>(
                     top = enter(table, seat, gate, number);
                 }
                 Entry::Leaf(number) => {
-                    let pair = load_leaf(table, seat, gate, number);
-                    match take_pair(&mut pairs, range, pair)? {
+                    let mut places = [0; MAX_BYTES];
+                    let (length, value) = load_places(table, seat, gate, number, &mut places);
+                    match take_pair(&mut pairs, range, &places, length, value)? {
                         Verdict::Further => top.at += 1,
                         Verdict::Past => return Ok(Scan { pairs, more: false }),
                         Verdict::Full => return Ok(Scan { pairs, more: true }),
@@ -251,18 +254,22 @@ fn enter<G: Gate>(table: &HotTable, seat: &mut TableSeat, gate: &mut G, number: 
     step_of(&head, number, 0)
 }
 
-/// Takes a pair whose key is not below the range, if it belongs to the range and there is room for it. The first pair makes room
-/// for those that are asked for. Inline, so that a pair goes at once from where it was read to its place.
+/// Takes a pair whose key is not below the range, if it belongs to the range and there is room for it. The key has these places.
+/// The first pair makes room for those that are asked for. Inline, and over places, so that the key is copied once: from where it
+/// was read to its place among the pairs.
 #[inline(always)]
 fn take_pair(
     pairs: &mut Vec<(Key, u64)>,
     range: &Range,
-    pair: (Key, u64),
+    places: &[u8; MAX_BYTES],
+    length: usize,
+    value: u64,
 ) -> Result<Verdict, AllocError>
-    requires above { IsAtMost range.now.from.now pair.0 }
-    ensures { IfOk result (IsPairTaken (range_of range.now) pairs.old.items pair.0 pair.1 pairs.new.items) }
+    requires places { HoldsKey places.now length }
+    requires above { IsAtMost range.now.from.now (take length places.now) }
+    ensures { IfOk result (IsPairTaken (range_of range.now) pairs.old.items (take length places.now) value pairs.new.items) }
 {
-    if is_before(range.upto, &pair.0) {
+    if is_before(range.upto.as_bytes(), &places[..length]) {
         return Ok(Verdict::Past);
     }
     if pairs.len() == range.limit {
@@ -274,7 +281,7 @@ fn take_pair(
         1
     };
     pairs.reserve(more)?;
-    pairs.push_reserved(pair);
+    pairs.push_reserved((Key::of_places(*places, length), value));
     Ok(Verdict::Further)
 }
 
@@ -289,11 +296,12 @@ fn nothing(alloc: Global) -> Scan
     }
 }
 
-/// Whether the first key is before the second: their first different byte says what their first different bit does.
-fn is_before(first: &Key, second: &Key) -> bool
-    ensures keys { IsKey first.now × IsKey second.now }
+/// Whether the key with the first bytes is before that with the second: their first different byte says what their first different
+/// bit does.
+fn is_before(first: &[u8], second: &[u8]) -> bool
+    requires keys { IsKey first.now × IsKey second.now }
     ensures before { IsTrue result → IsBefore first.now second.now }
     ensures at_most { result ≡ false → IsAtMost second.now first.now }
 {
-    first.as_bytes().cmp(second.as_bytes()).is_lt()
+    first.cmp(second).is_lt()
 }

@@ -6,4 +6,4 @@ mod lookup;
 mod reading;
 
 pub use lookup::look_up;
-pub use reading::{load_entry, load_head, load_leaf, load_root, load_value};
+pub use reading::{load_entry, load_head, load_leaf, load_places, load_root, load_value};

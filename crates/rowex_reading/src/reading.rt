@@ -1,6 +1,7 @@
 //! What a pinned pass reads of the tree: the root's entry, the head and the entries of a node, and a leaf.
 
-ghost use Rattle.std.specs.Prelude.{◌≡◌, ◌*◌, ◌<◌, ◌≤◌, ℕ, length, IfSome, IsSome};
+ghost use Rattle.std.specs.Prelude.{◌≡◌, ◌*◌, ◌<◌, ◌≤◌, ℕ, length, replicate, take, IfSome, IsSome};
+ghost use Rattle.key_bits.specs.Key.{HoldsKey};
 ghost use Rattle.key_bits.specs.declared.TheConstants.{MAX_BYTES};
 ghost use Rattle.compound_node.specs.Nodes.{IsLawful, height_of, leaves, node_of};
 ghost use Rattle.compound_node.specs.declared.entries.Entry.TheVariants.{Leaf as LeafEntry, Node as NodeEntry};
@@ -80,8 +81,7 @@ pub fn load_entry<G: Gate>(
     read_entry(word).unwrap()
 }
 
-/// Loads the key and the value of a leaf: its value, the key's length, and the words that have bytes of the key, each of which
-/// goes at once to its place. The others are 0, and are not loaded. Inline, so that a caller has the key where it was read.
+/// Loads the key and the value of a leaf. Inline, so that a caller has the key where it was made.
 #[inline(always)]
 pub fn load_leaf<G: Gate>(
     table: &HotTable,
@@ -95,7 +95,31 @@ pub fn load_leaf<G: Gate>(
     ensures few { leaf_loads result.0 ≤ LEAF_FIELDS }
     ensures leaf { (m : ℕ) → IsLedTo seat.old.known m (LeafEntry number) → Sure seat.new.known (λ s. IsRead s m number result.0 result.1) }
 {
-    let mut bytes = [0; MAX_BYTES];
+    let mut places = [0; MAX_BYTES];
+    let (length, value) = load_places(table, seat, gate, number, &mut places);
+    (Key::of_places(places, length), value)
+}
+
+/// Loads the value of a leaf, the length of its key, and the words that have bytes of the key, each of which goes at once to its
+/// place among a key's places. The others are 0, and are not loaded. Gives the length and the value; the places are the key's
+/// then (`Key::of_places`). Inline, so that a caller has them where they were read.
+#[inline(always)]
+pub fn load_places<G: Gate>(
+    table: &HotTable,
+    seat: &mut TableSeat,
+    gate: &mut G,
+    number: u32,
+    places: &mut [u8; MAX_BYTES],
+) -> (usize, u64)
+    requires reader { IsReader table.now seat.old }
+    requires led { (m : ℕ) × IsLedTo seat.old.known m (LeafEntry number) }
+    requires zeros { places.old ≡ replicate MAX_BYTES 0 }
+    ensures reads { Reads table.now G.becomes (leaf_loads (take result.0 places.new)) (seat.old, gate.old) (seat.new, gate.new) }
+    ensures few { leaf_loads (take result.0 places.new) ≤ LEAF_FIELDS }
+    ensures places { HoldsKey places.new result.0 }
+    ensures leaf { (m : ℕ) → IsLedTo seat.old.known m (LeafEntry number) →
+        Sure seat.new.known (λ s. IsRead s m number (take result.0 places.new) result.1) }
+{
     let rec = Rec::Leaf(number);
     let start = table.start_of(rec);
     let value = table.load_fixed_from(seat, gate, rec, start, 1);
@@ -103,9 +127,9 @@ pub fn load_leaf<G: Gate>(
     let used = 2 + key_words(length);
     for index in 2..used {
         let word = table.load_fixed_from(seat, gate, rec, start, index as u8 + 1);
-        write_word(&mut bytes, index - 2, word);
+        write_word(places, index - 2, word);
     }
-    (Key::of_places(bytes, length as usize), value)
+    (length as usize, value)
 }
 
 /// Loads the value of a leaf that has this key: the length of its key first, the words with bytes of that as long as they are

@@ -7,12 +7,9 @@ use Rattle.hot_index.proofs.Walking.{is_less, less_before, not_less_after}
 use Rattle.hot_index.proofs.scanning.is_before.Goals as goal
 
 pub returns-clause-before : goal.returns-clause-before
-returns-clause-before c h =
-    let order : c.cmp.result ≡ slice_cmp nat_cmp c.args.first.now c.args.second.now = rw (c.as_bytes.ensures.bytes, c.as_bytes-2.ensures.bytes) at c.cmp.ensures in
-    less_before c.args.first.now c.args.second.now c.as_bytes.ensures.key c.as_bytes-2.ensures.key (sym order ∙ is_less c.cmp.result (subst IsTrue c.is_lt.ensures h))
+returns-clause-before c h = less_before c.args.first.now c.args.second.now c.requires.keys.0 c.requires.keys.1 (sym c.cmp.ensures ∙ is_less c.cmp.result (subst IsTrue c.is_lt.ensures h))
 
 pub returns-clause-at_most : goal.returns-clause-at_most
 returns-clause-at_most c h =
-    let order : c.cmp.result ≡ slice_cmp nat_cmp c.args.first.now c.args.second.now = rw (c.as_bytes.ensures.bytes, c.as_bytes-2.ensures.bytes) at c.cmp.ensures in
-    not_less_after c.args.first.now c.args.second.now c.as_bytes.ensures.key c.as_bytes-2.ensures.key
-    (λ less. let x : true ≡ false = sym (ap is_lt (order ∙ less)) ∙ (sym c.is_lt.ensures ∙ h) in cc)
+    not_less_after c.args.first.now c.args.second.now c.requires.keys.0 c.requires.keys.1
+    (λ less. let x : true ≡ false = sym (ap is_lt (c.cmp.ensures ∙ less)) ∙ (sym c.is_lt.ensures ∙ h) in cc)

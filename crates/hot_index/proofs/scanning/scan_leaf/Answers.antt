@@ -1,7 +1,8 @@
 -- A scan of one leaf.
-use Rattle.std.proofs.Common.{inl, inr, refl, []}
+use Rattle.std.proofs.Common.{inl, inr, refl, subst, [], take}
 use Rattle.compound_node.specs.declared.entries.Entry.TheVariants.{Leaf}
 use Rattle.hot_index.specs.declared.scanning.Verdict.TheVariants.{Further, Past, Full}
+use Rattle.tries.specs.Keys.{IsAtMost, IsBefore}
 use Rattle.rowex_reading.specs.Reads.{leaf_loads}
 use Rattle.rowex_reading.specs.Seen.{since}
 use Rattle.rowex_reading.proofs.Led.{reads_later, rooted_led, same_since}
@@ -9,52 +10,52 @@ use Rattle.hot_index.specs.Scanning.{range_of}
 use Rattle.hot_index.proofs.Walking.{leaf_below, leaf_further, leaf_past, leaf_full, taken_as}
 use Rattle.hot_index.proofs.scanning.scan_leaf.Goals as goal
 
-pub load_leaf-pair-requires-clause-led : goal.load_leaf-pair-requires-clause-led
-load_leaf-pair-requires-clause-led g c = (since c.args.seat.now.known, rooted_led (Leaf c.args.number) c.requires.root)
+pub load_places-length-requires-clause-led : goal.load_places-length-requires-clause-led
+load_places-length-requires-clause-led g c = (since c.args.seat.now.known, rooted_led (Leaf c.args.number) c.requires.root)
 
 pub returns-then-is_before-clause-reads : goal.returns-then-is_before-clause-reads
-returns-then-is_before-clause-reads g c = (leaf_loads c.load_leaf-pair.result.0, c.load_leaf-pair.ensures.few, c.load_leaf-pair.ensures.reads)
+returns-then-is_before-clause-reads g c = (leaf_loads (take c.load_places-length.result.0 c.load_places-length.new.places), c.load_places-length.ensures.few, c.load_places-length.ensures.reads)
 
 pub returns-then-is_before-clause-scanned : goal.returns-then-is_before-clause-scanned
 returns-then-is_before-clause-scanned g c =
-    let e = c.load_leaf-pair.ensures in
-    leaf_below (range_of c.args.range.now) c.args.number c.load_leaf-pair.result.0 c.load_leaf-pair.result.1 (reads_later e.reads) c.requires.root
+    let e = c.load_places-length.ensures in
+    leaf_below (range_of c.args.range.now) c.args.number (take c.load_places-length.result.0 c.load_places-length.new.places) c.load_places-length.result.1 (reads_later e.reads) c.requires.root
     (same_since e.reads) (e.leaf (since c.args.seat.now.known) (rooted_led (Leaf c.args.number) c.requires.root)) _
-    (c.is_before.ensures.before c.if-is_before.true) c.nothing.ensures.pairs c.nothing.ensures.more
+    (subst (IsBefore (take c.load_places-length.result.0 c.load_places-length.new.places)) c.as_bytes.ensures.bytes (c.is_before.ensures.before c.if-is_before.true)) c.nothing.ensures.pairs c.nothing.ensures.more
 
 pub take_pair-requires : goal.take_pair-requires
-take_pair-requires g c = record { above = c.is_before.ensures.at_most c.if-is_before.false }
+take_pair-requires g c = record { places = c.load_places-length.ensures.places; above = subst (λ z. IsAtMost z (take c.load_places-length.result.0 c.load_places-length.new.places)) c.as_bytes.ensures.bytes (c.is_before.ensures.at_most c.if-is_before.false) }
 
 pub returns-in_err-take_pair-clause-reads : goal.returns-in_err-take_pair-clause-reads
-returns-in_err-take_pair-clause-reads g c = (leaf_loads c.load_leaf-pair.result.0, c.load_leaf-pair.ensures.few, c.load_leaf-pair.ensures.reads)
+returns-in_err-take_pair-clause-reads g c = (leaf_loads (take c.load_places-length.result.0 c.load_places-length.new.places), c.load_places-length.ensures.few, c.load_places-length.ensures.reads)
 
 pub returns-in-Full : goal.returns-in-Full
 returns-in-Full g c =
-    let e = c.load_leaf-pair.ensures in
+    let e = c.load_places-length.ensures in
     record {
-      reads = (leaf_loads c.load_leaf-pair.result.0, e.few, e.reads);
+      reads = (leaf_loads (take c.load_places-length.result.0 c.load_places-length.new.places), e.few, e.reads);
       scanned =
-          leaf_full (range_of c.args.range.now) c.args.number c.load_leaf-pair.result.0 c.load_leaf-pair.result.1 (reads_later e.reads) c.requires.root
+          leaf_full (range_of c.args.range.now) c.args.number (take c.load_places-length.result.0 c.load_places-length.new.places) c.load_places-length.result.1 (reads_later e.reads) c.requires.root
           (same_since e.reads) (e.leaf (since c.args.seat.now.known) (rooted_led (Leaf c.args.number) c.requires.root)) _
-          (taken_as (range_of c.args.range.now) c.new-pairs.result.items [] c.load_leaf-pair.result.0 c.load_leaf-pair.result.1 c.take_pair.new.pairs.items c.in_ok-take_pair.field-0 Full
+          (taken_as (range_of c.args.range.now) c.new-pairs.result.items [] (take c.load_places-length.result.0 c.load_places-length.new.places) c.load_places-length.result.1 c.take_pair.new.pairs.items c.in_ok-take_pair.field-0 Full
           c.new-pairs.ensures.items c.in-Full.is c.in_ok-take_pair.ensures) refl;
     }
 
 pub returns-in-Further : goal.returns-in-Further
 returns-in-Further g c =
-    let e = c.load_leaf-pair.ensures in
+    let e = c.load_places-length.ensures in
     record {
-      reads = (leaf_loads c.load_leaf-pair.result.0, e.few, e.reads);
+      reads = (leaf_loads (take c.load_places-length.result.0 c.load_places-length.new.places), e.few, e.reads);
       scanned = elim c.in-Further.is [
         | inl is ↦
-            leaf_further (range_of c.args.range.now) c.args.number c.load_leaf-pair.result.0 c.load_leaf-pair.result.1 (reads_later e.reads) c.requires.root
+            leaf_further (range_of c.args.range.now) c.args.number (take c.load_places-length.result.0 c.load_places-length.new.places) c.load_places-length.result.1 (reads_later e.reads) c.requires.root
             (same_since e.reads) (e.leaf (since c.args.seat.now.known) (rooted_led (Leaf c.args.number) c.requires.root)) _
-            (taken_as (range_of c.args.range.now) c.new-pairs.result.items [] c.load_leaf-pair.result.0 c.load_leaf-pair.result.1 c.take_pair.new.pairs.items c.in_ok-take_pair.field-0 Further
+            (taken_as (range_of c.args.range.now) c.new-pairs.result.items [] (take c.load_places-length.result.0 c.load_places-length.new.places) c.load_places-length.result.1 c.take_pair.new.pairs.items c.in_ok-take_pair.field-0 Further
             c.new-pairs.ensures.items is c.in_ok-take_pair.ensures) refl
         | inr is ↦
-            leaf_past (range_of c.args.range.now) c.args.number c.load_leaf-pair.result.0 c.load_leaf-pair.result.1 (reads_later e.reads) c.requires.root
+            leaf_past (range_of c.args.range.now) c.args.number (take c.load_places-length.result.0 c.load_places-length.new.places) c.load_places-length.result.1 (reads_later e.reads) c.requires.root
             (same_since e.reads) (e.leaf (since c.args.seat.now.known) (rooted_led (Leaf c.args.number) c.requires.root)) _
-            (taken_as (range_of c.args.range.now) c.new-pairs.result.items [] c.load_leaf-pair.result.0 c.load_leaf-pair.result.1 c.take_pair.new.pairs.items c.in_ok-take_pair.field-0 Past
+            (taken_as (range_of c.args.range.now) c.new-pairs.result.items [] (take c.load_places-length.result.0 c.load_places-length.new.places) c.load_places-length.result.1 c.take_pair.new.pairs.items c.in_ok-take_pair.field-0 Past
             c.new-pairs.ensures.items is c.in_ok-take_pair.ensures) refl
       ];
     }

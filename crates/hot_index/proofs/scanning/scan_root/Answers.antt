@@ -4,6 +4,7 @@ use Rattle.rowex_reading.specs.Seen.{since}
 use Rattle.rowex_reading.proofs.Led.{looks_first, looks_on, looks_same}
 use Rattle.rowex_writing.proofs.Counting.{looks_count}
 use Rattle.rowex_writing.specs.Ways.{IsWayOf}
+use Rattle.tries.specs.Keys.{IsBefore}
 use Rattle.hot_index.specs.Scanning.{range_of}
 use Rattle.hot_index.proofs.Starting.{leaf_rooted, nothing_blank}
 use Rattle.hot_index.proofs.Walking.{empty_is, nothing_scanned, blank_scanned}
@@ -13,7 +14,10 @@ pub returns-then-is_before-clause-looks : goal.returns-then-is_before-clause-loo
 returns-then-is_before-clause-looks g c = (0, looks_first c.load_root.ensures.reads)
 
 pub returns-then-is_before-clause-scanned : goal.returns-then-is_before-clause-scanned
-returns-then-is_before-clause-scanned g c = nothing_scanned (range_of c.args.range.now) _ (c.is_before.ensures.before c.if-is_before.true) c.nothing.ensures.pairs c.nothing.ensures.more
+returns-then-is_before-clause-scanned g c =
+    let before : IsBefore c.args.range.now.upto.now c.args.range.now.from.now =
+    subst (λ z. IsBefore z c.args.range.now.from.now) c.as_bytes.ensures.bytes (subst (IsBefore c.as_bytes.result.now) c.as_bytes-2.ensures.bytes (c.is_before.ensures.before c.if-is_before.true)) in
+    nothing_scanned (range_of c.args.range.now) _ before c.nothing.ensures.pairs c.nothing.ensures.more
 
 pub returns-then-is_before-clause-few : goal.returns-then-is_before-clause-few
 returns-then-is_before-clause-few g c =

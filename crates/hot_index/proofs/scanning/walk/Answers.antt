@@ -1,5 +1,5 @@
 -- The steps of the walk.
-use Rattle.std.proofs.Common.{◌+◌, refl, length, subst, sym, arith}
+use Rattle.std.proofs.Common.{◌+◌, refl, length, subst, sym, arith, take}
 use Rattle.compound_node.specs.declared.entries.Entry.TheVariants.{Leaf, Node}
 use Rattle.hot_index.specs.declared.scanning.Verdict.TheVariants.{Further, Past, Full}
 use Rattle.rowex_reading.specs.Reads.{leaf_loads}
@@ -65,11 +65,11 @@ loop-top-preserved-in-Node g c =
           (entered_number entered) (entered_first entered) c.push.new.self.items c.push.ensures.items;
     }
 
-pub load_leaf-pair-requires-clause-reader : goal.load_leaf-pair-requires-clause-reader
-load_leaf-pair-requires-clause-reader g c = reader_then c.loop-top.invariant.reader c.load_entry.ensures.reads
+pub load_places-length-requires-clause-reader : goal.load_places-length-requires-clause-reader
+load_places-length-requires-clause-reader g c = reader_then c.loop-top.invariant.reader c.load_entry.ensures.reads
 
-pub load_leaf-pair-requires-clause-led : goal.load_leaf-pair-requires-clause-led
-load_leaf-pair-requires-clause-led g c =
+pub load_places-length-requires-clause-led : goal.load_places-length-requires-clause-led
+load_places-length-requires-clause-led g c =
     let w = c.loop-top.invariant.walk in let m = since c.args.seat.now.known in
     let at = c.in-Leaf.ensures.entry m c.loop-top.top.height (walk_place w c.if-top.true) in
     (m, placed_led c.loop-top.top.number c.loop-top.top.at (Leaf c.in-Leaf.number) (since_later (reads_later c.load_entry.ensures.reads) w.pinned) at.1)
@@ -78,12 +78,13 @@ load_leaf-pair-requires-clause-led g c =
 pub take_pair-requires : goal.take_pair-requires
 take_pair-requires g c =
     let i = c.loop-top.invariant in let w = i.walk in let m = since c.args.seat.now.known in
-    let o = c.load_entry.ensures in let e = c.load_leaf-pair.ensures in
+    let o = c.load_entry.ensures in let e = c.load_places-length.ensures in
     let at = c.in-Leaf.ensures.entry m c.loop-top.top.height (walk_place w c.if-top.true) in
     let pinned = since_later (reads_later o.reads) w.pinned in
     let led = placed_led c.loop-top.top.number c.loop-top.top.at (Leaf c.in-Leaf.number) pinned at.1 in
     record {
-      above = floor_leaf m c.args.range.now.from.now (floor_later m c.args.range.now.from.now (reads_later (reads_trans o.reads e.reads)) i.floor) c.in-Leaf.number c.load_leaf-pair.result.0 c.load_leaf-pair.result.1
+      places = e.places;
+      above = floor_leaf m c.args.range.now.from.now (floor_later m c.args.range.now.from.now (reads_later (reads_trans o.reads e.reads)) i.floor) c.in-Leaf.number (take c.load_places-length.result.0 c.load_places-length.new.places) c.load_places-length.result.1
           (reader_then (reader_then i.reader o.reads) e.reads).1 (since_later (reads_later e.reads) pinned)
           (sure_later (placed_stable m c.loop-top.top.number c.loop-top.top.at (Leaf c.in-Leaf.number)) (reads_later e.reads) at.1) (e.leaf m led);
     }
@@ -91,9 +92,9 @@ take_pair-requires g c =
 pub returns-in_err-take_pair-in-Leaf-clause-reads : goal.returns-in_err-take_pair-in-Leaf-clause-reads
 returns-in_err-take_pair-in-Leaf-clause-reads g c =
     let i = c.loop-top.invariant in (
-      i.reads.0 + (1 + leaf_loads c.load_leaf-pair.result.0),
-      paid_most i.reads.0 (1 + leaf_loads c.load_leaf-pair.result.0) (length c.loop-top.pairs.items) c.args.range.now.limit c.loop-top.top c.loop-top.way.items i.reads.1 (omega (arith, c.load_leaf-pair.ensures.few)) (way_short i.walk i.reader.1) (walk_short i.walk i.reader.1),
-      reads_trans i.reads.2 (reads_trans c.load_entry.ensures.reads c.load_leaf-pair.ensures.reads),
+      i.reads.0 + (1 + leaf_loads (take c.load_places-length.result.0 c.load_places-length.new.places)),
+      paid_most i.reads.0 (1 + leaf_loads (take c.load_places-length.result.0 c.load_places-length.new.places)) (length c.loop-top.pairs.items) c.args.range.now.limit c.loop-top.top c.loop-top.way.items i.reads.1 (omega (arith, c.load_places-length.ensures.few)) (way_short i.walk i.reader.1) (walk_short i.walk i.reader.1),
+      reads_trans i.reads.2 (reads_trans c.load_entry.ensures.reads c.load_places-length.ensures.reads),
     )
 
 pub loop-top-smaller-in-Further : goal.loop-top-smaller-in-Further
@@ -105,27 +106,27 @@ loop-top-preserved-in-Further g c =
     let o = c.load_entry.ensures in
     let at = c.in-Leaf.ensures.entry m c.loop-top.top.height (walk_place w c.if-top.true) in
     let led = placed_led c.loop-top.top.number c.loop-top.top.at (Leaf c.in-Leaf.number) (since_later (reads_later o.reads) w.pinned) at.1 in
-    let e = c.load_leaf-pair.ensures in
-    let taken = taken_as (range_of c.args.range.now) c.loop-top.pairs.items c.loop-top.pairs.items c.load_leaf-pair.result.0 c.load_leaf-pair.result.1 c.take_pair.new.pairs.items
+    let e = c.load_places-length.ensures in
+    let taken = taken_as (range_of c.args.range.now) c.loop-top.pairs.items c.loop-top.pairs.items (take c.load_places-length.result.0 c.load_places-length.new.places) c.load_places-length.result.1 c.take_pair.new.pairs.items
     c.in_ok-take_pair-in-Leaf.field-0 Further refl c.in-Further.is c.in_ok-take_pair-in-Leaf.ensures in
     record {
       reader = reader_then (reader_then i.reader o.reads) e.reads;
       reads = (
-        i.reads.0 + (1 + leaf_loads c.load_leaf-pair.result.0),
-        subst (λ n. IsPaid (i.reads.0 + (1 + leaf_loads c.load_leaf-pair.result.0)) n (record c.loop-top.top { at = c.loop-top.top.at + 1 }) c.loop-top.way.items) (sym (taken_more (range_of c.args.range.now) c.loop-top.pairs.items c.take_pair.new.pairs.items c.load_leaf-pair.result.0 c.load_leaf-pair.result.1 taken))
-            (paid_leaf i.reads.0 (1 + leaf_loads c.load_leaf-pair.result.0) (length c.loop-top.pairs.items) c.loop-top.top c.loop-top.way.items i.reads.1 (omega (arith, c.load_leaf-pair.ensures.few))),
+        i.reads.0 + (1 + leaf_loads (take c.load_places-length.result.0 c.load_places-length.new.places)),
+        subst (λ n. IsPaid (i.reads.0 + (1 + leaf_loads (take c.load_places-length.result.0 c.load_places-length.new.places))) n (record c.loop-top.top { at = c.loop-top.top.at + 1 }) c.loop-top.way.items) (sym (taken_more (range_of c.args.range.now) c.loop-top.pairs.items c.take_pair.new.pairs.items (take c.load_places-length.result.0 c.load_places-length.new.places) c.load_places-length.result.1 taken))
+            (paid_leaf i.reads.0 (1 + leaf_loads (take c.load_places-length.result.0 c.load_places-length.new.places)) (length c.loop-top.pairs.items) c.loop-top.top c.loop-top.way.items i.reads.1 (omega (arith, c.load_places-length.ensures.few))),
         reads_trans i.reads.2 (reads_trans o.reads e.reads),
       );
-      walk = walk_further w (reads_later o.reads) (reads_later e.reads) c.if-top.true c.in-Leaf.number at.1 c.load_leaf-pair.result.0 c.load_leaf-pair.result.1 (e.leaf m led) c.take_pair.new.pairs.items taken;
+      walk = walk_further w (reads_later o.reads) (reads_later e.reads) c.if-top.true c.in-Leaf.number at.1 (take c.load_places-length.result.0 c.load_places-length.new.places) c.load_places-length.result.1 (e.leaf m led) c.take_pair.new.pairs.items taken;
       floor = floor_next m c.args.range.now.from.now (floor_later m c.args.range.now.from.now (reads_later (reads_trans o.reads e.reads)) i.floor);
     }
 
 pub returns-in-Past-clause-reads : goal.returns-in-Past-clause-reads
 returns-in-Past-clause-reads g c =
     let i = c.loop-top.invariant in (
-      i.reads.0 + (1 + leaf_loads c.load_leaf-pair.result.0),
-      paid_most i.reads.0 (1 + leaf_loads c.load_leaf-pair.result.0) (length c.loop-top.pairs.items) c.args.range.now.limit c.loop-top.top c.loop-top.way.items i.reads.1 (omega (arith, c.load_leaf-pair.ensures.few)) (way_short i.walk i.reader.1) (walk_short i.walk i.reader.1),
-      reads_trans i.reads.2 (reads_trans c.load_entry.ensures.reads c.load_leaf-pair.ensures.reads),
+      i.reads.0 + (1 + leaf_loads (take c.load_places-length.result.0 c.load_places-length.new.places)),
+      paid_most i.reads.0 (1 + leaf_loads (take c.load_places-length.result.0 c.load_places-length.new.places)) (length c.loop-top.pairs.items) c.args.range.now.limit c.loop-top.top c.loop-top.way.items i.reads.1 (omega (arith, c.load_places-length.ensures.few)) (way_short i.walk i.reader.1) (walk_short i.walk i.reader.1),
+      reads_trans i.reads.2 (reads_trans c.load_entry.ensures.reads c.load_places-length.ensures.reads),
     )
 
 pub returns-in-Past-clause-scanned : goal.returns-in-Past-clause-scanned
@@ -133,18 +134,18 @@ returns-in-Past-clause-scanned g c =
     let i = c.loop-top.invariant in let w = i.walk in let m = since c.args.seat.now.known in
     let at = c.in-Leaf.ensures.entry m c.loop-top.top.height (walk_place w c.if-top.true) in
     let led = placed_led c.loop-top.top.number c.loop-top.top.at (Leaf c.in-Leaf.number) (since_later (reads_later c.load_entry.ensures.reads) w.pinned) at.1 in
-    let e = c.load_leaf-pair.ensures in
-    walk_past w (reads_later c.load_entry.ensures.reads) (reads_later e.reads) c.if-top.true c.in-Leaf.number at.1 c.load_leaf-pair.result.0 c.load_leaf-pair.result.1 (e.leaf m led)
+    let e = c.load_places-length.ensures in
+    walk_past w (reads_later c.load_entry.ensures.reads) (reads_later e.reads) c.if-top.true c.in-Leaf.number at.1 (take c.load_places-length.result.0 c.load_places-length.new.places) c.load_places-length.result.1 (e.leaf m led)
     (same_since (reads_trans i.reads.2 (reads_trans c.load_entry.ensures.reads e.reads))) _
-    (taken_as (range_of c.args.range.now) c.loop-top.pairs.items c.loop-top.pairs.items c.load_leaf-pair.result.0 c.load_leaf-pair.result.1 c.take_pair.new.pairs.items
+    (taken_as (range_of c.args.range.now) c.loop-top.pairs.items c.loop-top.pairs.items (take c.load_places-length.result.0 c.load_places-length.new.places) c.load_places-length.result.1 c.take_pair.new.pairs.items
     c.in_ok-take_pair-in-Leaf.field-0 Past refl c.in-Past.is c.in_ok-take_pair-in-Leaf.ensures) refl
 
 pub returns-in-Full-clause-reads : goal.returns-in-Full-clause-reads
 returns-in-Full-clause-reads g c =
     let i = c.loop-top.invariant in (
-      i.reads.0 + (1 + leaf_loads c.load_leaf-pair.result.0),
-      paid_most i.reads.0 (1 + leaf_loads c.load_leaf-pair.result.0) (length c.loop-top.pairs.items) c.args.range.now.limit c.loop-top.top c.loop-top.way.items i.reads.1 (omega (arith, c.load_leaf-pair.ensures.few)) (way_short i.walk i.reader.1) (walk_short i.walk i.reader.1),
-      reads_trans i.reads.2 (reads_trans c.load_entry.ensures.reads c.load_leaf-pair.ensures.reads),
+      i.reads.0 + (1 + leaf_loads (take c.load_places-length.result.0 c.load_places-length.new.places)),
+      paid_most i.reads.0 (1 + leaf_loads (take c.load_places-length.result.0 c.load_places-length.new.places)) (length c.loop-top.pairs.items) c.args.range.now.limit c.loop-top.top c.loop-top.way.items i.reads.1 (omega (arith, c.load_places-length.ensures.few)) (way_short i.walk i.reader.1) (walk_short i.walk i.reader.1),
+      reads_trans i.reads.2 (reads_trans c.load_entry.ensures.reads c.load_places-length.ensures.reads),
     )
 
 pub returns-in-Full-clause-scanned : goal.returns-in-Full-clause-scanned
@@ -152,10 +153,10 @@ returns-in-Full-clause-scanned g c =
     let i = c.loop-top.invariant in let w = i.walk in let m = since c.args.seat.now.known in
     let at = c.in-Leaf.ensures.entry m c.loop-top.top.height (walk_place w c.if-top.true) in
     let led = placed_led c.loop-top.top.number c.loop-top.top.at (Leaf c.in-Leaf.number) (since_later (reads_later c.load_entry.ensures.reads) w.pinned) at.1 in
-    let e = c.load_leaf-pair.ensures in
-    walk_full w (reads_later c.load_entry.ensures.reads) (reads_later e.reads) c.if-top.true c.in-Leaf.number at.1 c.load_leaf-pair.result.0 c.load_leaf-pair.result.1 (e.leaf m led)
+    let e = c.load_places-length.ensures in
+    walk_full w (reads_later c.load_entry.ensures.reads) (reads_later e.reads) c.if-top.true c.in-Leaf.number at.1 (take c.load_places-length.result.0 c.load_places-length.new.places) c.load_places-length.result.1 (e.leaf m led)
     (same_since (reads_trans i.reads.2 (reads_trans c.load_entry.ensures.reads e.reads))) _
-    (taken_as (range_of c.args.range.now) c.loop-top.pairs.items c.loop-top.pairs.items c.load_leaf-pair.result.0 c.load_leaf-pair.result.1 c.take_pair.new.pairs.items
+    (taken_as (range_of c.args.range.now) c.loop-top.pairs.items c.loop-top.pairs.items (take c.load_places-length.result.0 c.load_places-length.new.places) c.load_places-length.result.1 c.take_pair.new.pairs.items
     c.in_ok-take_pair-in-Leaf.field-0 Full refl c.in-Full.is c.in_ok-take_pair-in-Leaf.ensures) refl
 
 pub overflow_add-top-in-Some : goal.overflow_add-top-in-Some

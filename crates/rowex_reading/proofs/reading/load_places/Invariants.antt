@@ -4,7 +4,7 @@ use Rattle.record_words.specs.declared.TheConstants.{LEAF_FIELDS}
 use Rattle.record_words.specs.Leaf.{words_of_key}
 use Rattle.rowex_reading.specs.Reads.{IsReader, Reads}
 use Rattle.rowex_reading.proofs.Leafing.{AreSoFar}
-use Rattle.rowex_reading.proofs.reading.load_leaf.Given as goal
+use Rattle.rowex_reading.proofs.reading.load_places.Given as goal
 
 abbrev pub invariant-loop-index : goal.invariant-loop-index
 invariant-loop-index g l = record {
@@ -12,6 +12,6 @@ invariant-loop-index g l = record {
   used_is : l.used ≡ 2 + words_of_key l.length;
   fits : l.used ≤ LEAF_FIELDS;
   reads : Reads l.table g.G.Gate.becomes l.index (l.fn.seat, l.fn.gate) (l.seat, l.gate);
-  small : (b : ℕ) → get_or l.bytes b 0 < 256;
-  so_far : AreSoFar l.fn.seat.known l.seat.known l.fn.number l.index l.value l.length l.bytes;
+  small : (b : ℕ) → get_or l.places b 0 < 256;
+  so_far : AreSoFar l.fn.seat.known l.seat.known l.fn.number l.index l.value l.length l.places;
 }

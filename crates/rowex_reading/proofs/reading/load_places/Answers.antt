@@ -1,0 +1,105 @@
+-- What the loads of a leaf tell.
+use Rattle.std.proofs.Common.{rules, ◌≡◌, ◌+◌, subst, arith, lit≤, refl, take}
+use Rattle.compound_node.specs.declared.entries.Entry.TheVariants.{Leaf}
+use Rattle.moments.specs.declared.Rec.TheVariants.{Leaf as a_leaf}
+use Rattle.key_bits.specs.declared.TheConstants.{MAX_BYTES}
+use Rattle.record_words.specs.Leaf.{words_of_key}
+use Rattle.rowex_core.specs.declared.event.Act.TheVariants.{LoadFixed}
+use Rattle.rowex_reading.specs.Reads.{Reads}
+use Rattle.rowex_reading.proofs.Led.{reader_then, reads_one, reads_trans}
+use Rattle.rowex_reading.proofs.Standing.{led_in_table}
+use Rattle.record_words.proofs.Unused.{first_size}
+use Rattle.rowex_reading.proofs.Leafing.{all_counted, all_places, all_read, first_loaded, length_low, so_far_first, so_far_next, zero_small}
+use Rattle.rowex_reading.proofs.reading.load_places.Goals as goal
+
+pub start_of-start-requires : goal.start_of-start-requires
+start_of-start-requires g c = let l = c.requires.led in led_in_table c.args.table.now.layout c.args.seat.now.known l.0 (Leaf c.args.number) c.requires.reader.1 l.1
+
+pub load_fixed_from-value-requires : goal.load_fixed_from-value-requires
+load_fixed_from-value-requires g c = record {
+  own = c.requires.reader.0;
+  range = (c.start_of-start.ensures.0, (lit≤ tt, lit≤ tt));
+  start = c.start_of-start.ensures;
+}
+
+pub load_fixed_from-length-requires : goal.load_fixed_from-length-requires
+load_fixed_from-length-requires g c = record {
+  own = (reader_then c.requires.reader (reads_one (LoadFixed (a_leaf c.args.number) 1 c.load_fixed_from-value.result) tt c.load_fixed_from-value.ensures)).0;
+  range = (c.start_of-start.ensures.0, (lit≤ tt, lit≤ tt));
+  start = c.start_of-start.ensures;
+}
+
+pub key_words-used-requires : goal.key_words-used-requires
+key_words-used-requires g c =
+    let l = c.requires.led in
+    let one = reads_one (LoadFixed (a_leaf c.args.number) 1 c.load_fixed_from-value.result) tt c.load_fixed_from-value.ensures in
+    let two = reads_one (LoadFixed (a_leaf c.args.number) 2 c.load_fixed_from-length.result) tt c.load_fixed_from-length.ensures in
+    let reader = reader_then (reader_then c.requires.reader one) two in
+    let loaded = first_loaded _ _ _ _ c.args.number _ _ c.load_fixed_from-value.ensures.event c.load_fixed_from-length.ensures.event l.0 l.1 in
+    let low = length_low _ _ _ c.args.number _ reader.1 loaded l.0 l.1 in
+    let same = first_size c.load_fixed_from-value.result c.load_fixed_from-length.result in omega (arith, low, same)
+
+pub loop-index-init : goal.loop-index-init
+loop-index-init g c =
+    let l = c.requires.led in
+    let one = reads_one (LoadFixed (a_leaf c.args.number) 1 c.load_fixed_from-value.result) tt c.load_fixed_from-value.ensures in
+    let two = reads_one (LoadFixed (a_leaf c.args.number) 2 c.load_fixed_from-length.result) tt c.load_fixed_from-length.ensures in
+    let reader = reader_then (reader_then c.requires.reader one) two in
+    let loaded = first_loaded _ _ _ _ c.args.number _ _ c.load_fixed_from-value.ensures.event c.load_fixed_from-length.ensures.event l.0 l.1 in
+    let low = length_low _ _ _ c.args.number _ reader.1 loaded l.0 l.1 in
+    let same = first_size c.load_fixed_from-value.result c.load_fixed_from-length.result in
+    record {
+      reader = reader;
+      used_is = omega (arith, c.key_words-used.ensures);
+      fits = omega (arith, c.key_words-used.ensures, low, same);
+      reads = reads_trans one two;
+      small = rw c.requires.zeros (zero_small MAX_BYTES);
+      so_far = rw c.requires.zeros (so_far_first _ _ c.args.number c.load_fixed_from-value.result c.load_fixed_from-length.result loaded);
+    }
+
+pub load_fixed_from-word-requires : goal.load_fixed_from-word-requires
+load_fixed_from-word-requires g c = let i = c.loop-index.invariant in record {
+  own = i.reader.0;
+  range = (c.start_of-start.ensures.0, (omega arith, omega (arith, i.fits, c.loop-index-test.true)));
+  start = c.start_of-start.ensures;
+}
+
+pub loop-index-preserved : goal.loop-index-preserved
+loop-index-preserved g c =
+    let l = c.requires.led in let i = c.loop-index.invariant in let e = c.load_fixed_from-word.ensures in
+    let one = reads_one (LoadFixed (a_leaf c.args.number) (c.loop-index.index + 1) c.load_fixed_from-word.result) tt e in
+    record {
+      reader = reader_then i.reader one;
+      used_is = i.used_is;
+      fits = i.fits;
+      reads = reads_trans i.reads one;
+      small = c.write_word.ensures.small;
+      so_far = so_far_next _ _ _ _ c.args.number c.loop-index.index _ _ _ _ c.write_word.new.bytes i.so_far c.loop-index.auto.index (omega (arith, i.fits, c.loop-index-test.true)) e.event l.0 l.1
+          (search rules) c.write_word.ensures.written c.write_word.ensures.others;
+    }
+
+pub returns-clause-places : goal.returns-clause-places
+returns-clause-places g c =
+    let l = c.requires.led in let i = c.loop-index.invariant in
+    let at_end : c.loop-index.index ≡ 2 + words_of_key c.load_fixed_from-length.result = omega (arith, i.used_is, c.loop-index-test.false, c.loop-index.auto.index-end) in
+    all_places _ _ _ c.args.number _ _ _ c.loop-index.places i.reader.1 i.so_far at_end i.small l.0 l.1
+
+pub returns-clause-reads : goal.returns-clause-reads
+returns-clause-reads g c =
+    let l = c.requires.led in let i = c.loop-index.invariant in
+    let at_end : c.loop-index.index ≡ 2 + words_of_key c.load_fixed_from-length.result = omega (arith, i.used_is, c.loop-index-test.false, c.loop-index.auto.index-end) in
+    let counted = all_counted _ _ _ c.args.number _ _ _ c.loop-index.places i.reader.1 i.so_far at_end i.small l.0 l.1 (take c.load_fixed_from-length.result c.loop-index.places) refl in
+    subst (λ n. Reads c.args.table.now g.G.Gate.becomes n (c.args.seat.now, c.args.gate.now) (c.loop-index.seat, c.loop-index.gate)) counted i.reads
+
+pub returns-clause-few : goal.returns-clause-few
+returns-clause-few g c =
+    let l = c.requires.led in let i = c.loop-index.invariant in
+    let at_end : c.loop-index.index ≡ 2 + words_of_key c.load_fixed_from-length.result = omega (arith, i.used_is, c.loop-index-test.false, c.loop-index.auto.index-end) in
+    let counted = all_counted _ _ _ c.args.number _ _ _ c.loop-index.places i.reader.1 i.so_far at_end i.small l.0 l.1 (take c.load_fixed_from-length.result c.loop-index.places) refl in
+    omega (arith, counted, i.fits, c.loop-index-test.false, c.loop-index.auto.index-end)
+
+pub returns-clause-leaf : goal.returns-clause-leaf
+returns-clause-leaf g c = λ m led.
+    let i = c.loop-index.invariant in
+    let at_end : c.loop-index.index ≡ 2 + words_of_key c.load_fixed_from-length.result = omega (arith, i.used_is, c.loop-index-test.false, c.loop-index.auto.index-end) in
+    all_read _ _ _ c.args.number _ _ _ c.loop-index.places i.reader.1 i.so_far at_end i.small m led (take c.load_fixed_from-length.result c.loop-index.places) refl
