@@ -31,25 +31,25 @@ pub enum Grown {
     Two(Cut),
 }
 
-/// The node with a new entry beside the entries from `first` to `last`, as `Node::add` puts it there. A full node
-/// is cut, and the entry goes into one of the halves; where the position is below the node's first one, the whole
-/// node is one side and the entry the other.
-pub fn grow(mut node: Node, first: u8, last: u8, position: u16, bit: bool, entry: Entry) -> Grown
-    requires range { IsAffected (piece node) position first last }
+/// The node with a new entry beside the entries from `first` to `last`, as `Node::insert` gives it; of a full node what
+/// `grow_full` makes.
+pub fn grow(node: &Node, first: u8, last: u8, position: u16, bit: bool, entry: Entry) -> Grown
+    requires range { IsAffected (piece node.now) position first last }
     requires position { position < 65535 }
     requires entry { IsEntry entry }
-    ensures shows { GrownShows node result (grown position bit entry first (piece node)) }
-    ensures whole { IsTrue (is_whole result) ↔ (length node.entries < 32) }
-    ensures same { IsTrue (keeps_node result) ↔ ((length node.entries ≡ 32) × AtRootFork (λ p zero one. position < p) (piece node)) }
+    ensures shows { GrownShows node.now result (grown position bit entry first (piece node.now)) }
+    ensures whole { IsTrue (is_whole result) ↔ (length node.now.entries < 32) }
+    ensures same { IsTrue (keeps_node result) ↔ ((length node.now.entries ≡ 32) × AtRootFork (λ p zero one. position < p) (piece node.now)) }
 {
     if node.count() == 32 {
-        return grow_full(&node, first, last, position, bit, entry);
+        return grow_full(node, first, last, position, bit, entry);
     }
-    node.add(first, last, position, bit, entry);
-    Grown::One(node)
+    Grown::One(node.insert(first, last, position, bit, entry))
 }
 
-/// What `grow` makes of a full node.
+/// A full node with a new entry beside the entries from `first` to `last`, where `Node::add` would put it: the node is
+/// cut, and the entry goes into one of the halves; where the position is below the node's first one, the whole node is
+/// one side and the entry the other.
 pub fn grow_full(node: &Node, first: u8, last: u8, position: u16, bit: bool, entry: Entry) -> Grown
     requires full { length node.now.entries ≡ 32 }
     requires range { IsAffected (piece node.now) position first last }

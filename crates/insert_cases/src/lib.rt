@@ -10,7 +10,7 @@ mod raising;
 mod rising;
 
 pub use choice::{Case, Choice, Step, chain_end, choose, level_below};
-pub use growth::{Grown, Place, grow, pull_up};
+pub use growth::{Grown, Place, grow, grow_full, pull_up};
 pub use overflow::place;
 pub use plain::{LeafRecord, PlainTrie};
 pub use raising::Risen;

@@ -38,7 +38,7 @@ use Rattle.rowex_table.specs.Seats.{TableView, SeatView}
 use Rattle.rowex_rights.specs.Stages.{HasLeaf, HasRisen, IsAbove}
 use Rattle.rowex_rights.proofs.Rising.{risen_stays, rises_pulled, rises_wrapped, rise_grows}
 use Rattle.rowex_rights.specs.Rises.{of_view, of_leaf, IsSide, anew, HasFoundBelow}
-use Rattle.rowex_writing.specs.Building.{IsBuilding, IsHalfMade, IsMadeFrom, IsRaising, IsBelow, IsLowest, IsLowRisen, IsNextTo, IsRisenAt, IsSingle, IsSplit, FitsAbove, IsChain, IsUp, IsGrowing, HasNotMade, HasRisenTo, gone_unless, gone_with}
+use Rattle.rowex_writing.specs.Building.{IsBuilding, IsHalfMade, IsMadeFrom, IsRaising, IsBelow, IsLowest, IsLowRisen, IsNextTo, IsRisenAt, IsSingle, IsSplit, FitsAbove, IsChain, IsUp, IsGrowing, IsGrownFrom, HasNotMade, HasRisenTo, gone_unless, gone_with}
 use Rattle.rowex_writing.specs.Going.{WorksOn, ReadsOn, HasLocked, IsNodeOf}
 use Rattle.rowex_writing.specs.Remaking.{IsTreePage, AffectsJust, IsLowHalf, IsNoHigher}
 use Rattle.rowex_writing.proofs.Remade.{built_low}
@@ -228,6 +228,14 @@ module _ {G : Type 0} (table : TableView) (becomes : G → Event → G → Type 
                 (page_grown position b.item.key (Leaf b.item.number) (piece node)) here fresh made low_grown);
           })
 
+  -- the same, or no record for it
+  pub lowest_made : (c : SeatView × G) (after_made : List Rec) (answer : Option (Risen × Bool)) → WorksOn table becomes m c →
+      MatchOption answer (HasNotMade table m.0 c.0 after_made)
+      (λ r. (after : List Made) × IsGrownFrom (Node number node.height) node (page_grown position key (Leaf leaf) (piece node)) position r.0 r.1 (of_leaf b.item ∷ []) after × IsBuilding table c.0 after_made after) →
+      MatchOption answer (HasNotMade table a.0 c.0 after_made) (λ r. (after : List Made) × IsRaising table c.0 after_made after (gone_unless r.1 number) b.since b.item position b.like entry number (page_of r.0))
+  lowest_made c after_made None goes made = not_made_since table becomes a m c after_made reads.goes made
+  lowest_made c after_made (Some r) goes (after, grown, building) = (after, lowered c after_made grown.grown r.1 r.0 grown.shows grown.keeps grown.above goes after grown.made building)
+
 -- ---- without a leaf
 pub left_over : {G : Type 0} (table : TableView) (becomes : G → Event → G → Type 0) (a m c : SeatView × G) (after_made : List Rec) (key : Key) (words : List ℕ) (node : NodeView) (half : Half) (old : Entry) (answer : Option Entry) →
     WorksOn table becomes a m → IsNodeOf words node → HalfShows half (page_without key (piece node)) →
@@ -316,6 +324,17 @@ single_level words node was g None none before Q is whole room made = tt
 single_level words node was g (Some risen) none before Q is whole room (after, made, rest) =
     let long : length node.entries ≡ size (node_of words).page = sym (size-piece node is.has.lawful) ∙ ap size (sym (ap (λ (z : NodeWords). z.page) is.shows)) in
     single_made was g risen before after (whole.1 (omega (arith, long))) made
+
+-- all three, of a node that gets a leaf
+pub leaf_level : (words : List ℕ) (node : NodeView) (n : ℕ) (shown : Page) (p : ℕ) (answer : Option (Risen × Bool)) (None_made : Type 0) (before : List Made) (Q : List Made → Type 0) → IsNodeOf words node →
+    MatchOption answer None_made (λ r. (after : List Made) × IsGrownFrom (Node n node.height) node shown p r.0 r.1 before after × Q after) →
+    IfSome answer (λ r. IsLowRisen (node_of words).fixed.height r.0) × (size (node_of words).page ≡ 32 → IfSome answer (λ r. IsSplit r.0)) × (size (node_of words).page < 32 → IfSome answer (λ r. IsSingle r.0))
+leaf_level words node n shown p None none before Q is made = (tt, λ full. tt, λ room. tt)
+leaf_level words node n shown p (Some r) none before Q is (after, grown, rest) = (
+  low_level words node n grown.grown (Some r.0) none before (λ risen more. Q more) is grown.low (after, grown.made, rest),
+  λ full. split_level words node (Node n node.height) grown.grown (Some r.0) none before (λ risen more. Q more) is grown.whole full (after, grown.made, rest),
+  λ room. single_level words node (Node n node.height) grown.grown (Some r.0) none before (λ risen more. Q more) is grown.whole room (after, grown.made, rest),
+)
 
 -- ---- the height of what has risen, as one entry
 pub whole_height : (h : ℕ) (e : Entry) (risen : Risen) → risen ≡ Whole e → IsLowRisen h risen → IsNextTo h risen e

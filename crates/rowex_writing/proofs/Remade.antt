@@ -3,7 +3,7 @@ use Rattle.std.proofs.Common.{◌≡◌, inl, inr, ℕ, suc, ◌+◌, ◌*◌, �
 use Rattle.std.specs.Prelude.{All}
 use Rattle.key_bits.specs.declared.TheConstants.{MAX_BYTES}
 use Rattle.pieces.specs.Grafts.{IsAbovePath}
-use Rattle.pieces.specs.Growth.{affected_first, affected_count, IsAffected, IsFresh}
+use Rattle.pieces.specs.Growth.{affected_first, affected_count, grown, IsAffected, IsFresh}
 use Rattle.pieces.specs.Piece.{Place, Fork, places, size}
 use Rattle.pieces.proofs.Affected.{affected_again}
 use Rattle.compound_node.specs.Halves.{HalfShows}
@@ -74,6 +74,10 @@ leaf_range k p first last e x a (t, is, trie, built) =
 
 pub leaf_position : (k : Key) (p : ℕ) (e : Entry) (x : Page) → IsTreePage (page_grown p k e x) → p < 9 * MAX_BYTES
 leaf_position k p e x (t, is, trie, built) = (grown_facts p k e x t is trie).0
+
+-- the leaf goes to the side of its bit at the position
+pub leaf_page : (k : Key) (p first last : ℕ) (e : Entry) (x : Page) → AffectsJust k p first last x → (u : Bool) → u ≡ bit k p → grown p u e first x ≡ page_grown p k e x
+leaf_page k p first last e x affects u is = ap (λ o. grown p o e first x) is ∙ (ap (λ j. grown p (bit k p) e j x) (sym affects.from) ∙ (key_part k p x).grows e)
 
 -- ---- a fork in the place of an entry
 -- the tree that the fork begins

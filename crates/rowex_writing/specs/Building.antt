@@ -1,15 +1,17 @@
 -- Records made for what a node becomes.
-use Rattle.std.specs.Prelude.{◌≡◌, ◌<◌, ◌≤◌, ◌+◌, ℕ, List, [], ◌∷◌, ◌++◌, map, drop, take, slice_get, Some, reverse, Bool, if◌then◌else◌}
-use Rattle.compound_node.specs.Nodes.{height_of}
+use Rattle.std.specs.Prelude.{◌≡◌, ◌<◌, ◌≤◌, ◌+◌, ◌↔◌, ℕ, List, [], ◌∷◌, ◌++◌, map, drop, take, length, slice_get, Some, reverse, Bool, true, IsTrue, if◌then◌else◌}
+use Rattle.compound_node.specs.Nodes.{NodeView, height_of, piece}
 use Rattle.compound_node.specs.declared.entries.Entry.{Entry}
 use Rattle.compound_node.specs.declared.entries.Entry.TheVariants.{Node}
 use Rattle.compound_node.specs.declared.halves.Half.{Half}
 use Rattle.compound_node.specs.declared.halves.Half.TheVariants.{One, Many, Same}
 use Rattle.insert_cases.specs.declared.growth.Grown.{Grown}
 use Rattle.insert_cases.specs.declared.growth.Grown.TheVariants.{One as Single, Two}
+use Rattle.insert_cases.specs.Grown.{GrownShows, is_whole, keeps_node}
 use Rattle.insert_cases.specs.Risen.{page_of}
 use Rattle.insert_cases.specs.declared.raising.Risen.{Risen}
 use Rattle.insert_cases.specs.declared.raising.Risen.TheVariants.{Whole, Split}
+use Rattle.pieces.specs.Changes.{AtRootFork}
 use Rattle.pieces.specs.Piece.{Place, Fork, size}
 use Rattle.insert_cases.specs.declared.choice.Step.{Step}
 use Rattle.moments.specs.Trades.{IsOf}
@@ -30,7 +32,7 @@ use Rattle.rowex_reading.specs.Possible.{IsPossible}
 use Rattle.rowex_rights.specs.Rises.{of_view, of_leaf, HasFoundBelow}
 use Rattle.rowex_rights.specs.Stages.{HasLeaf, HasRisen, IsAbove}
 use Rattle.rowex_writing.specs.Going.{HasLocked}
-use Rattle.rowex_writing.specs.Remaking.{AffectsJust}
+use Rattle.rowex_writing.specs.Remaking.{AffectsJust, IsNoHigher}
 
 -- each of the records spells a value
 abbrev pub ArePacked : List Made → Type 0
@@ -52,6 +54,17 @@ IsMadeFrom old (Two cut) (Split position zero one) before after =
     (lower : List Made) × (upper : List Made) × (position ≡ cut.position) × IsHalfMade old cut.zero zero lower × IsHalfMade old cut.one one upper ×
     (after ≡ lower ++ (upper ++ before))
 IsMadeFrom old grown risen before after = ⊥
+
+-- What comes in the place of a node that gets a new leaf at the position, and the records made for it: one entry where the node
+-- has room. It stays whole, as told, only where the position is before its first fork.
+pub record IsGrownFrom (old : Entry) (was : NodeView) (shown : Page) (position : ℕ) (risen : Risen) (stays : Bool) (before after : List Made) : Type 0 where
+  pub grown : Grown
+  pub shows : GrownShows was grown shown
+  pub whole : IsTrue (is_whole grown) ↔ (length was.entries < 32)
+  pub keeps : stays ≡ keeps_node grown
+  pub above : keeps_node grown ≡ true → AtRootFork (λ p zero one. position < p) (piece was)
+  pub low : IsNoHigher was.height grown
+  pub made : IsMadeFrom old grown risen before after
 
 -- Of a change that a pass is making: these are the records that it has made, the last one first, and it has no others of its own;
 -- they are listed by number, the first one first.

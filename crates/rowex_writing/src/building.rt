@@ -5,13 +5,13 @@ ghost use Rattle.insert_cases.specs.declared.choice.Step.{Step as StepView};
 ghost use Rattle.record_words.specs.Node.{HasNodeWords};
 ghost use Rattle.rowex_table.specs.Made.{Made};
 ghost use Rattle.rowex_rights.specs.Rises.{of_view, IsSide};
-ghost use Rattle.rowex_writing.specs.Building.{IsBelow, IsBuilding, IsGrowing, IsHalfMade, IsLowest, IsLowRisen, IsMadeFrom, IsNextTo, IsRaising, IsRisenAt, IsSingle, IsSplit, IsUp, FitsAbove, HasNotMade, HasRisenTo, gone_unless, gone_with};
+ghost use Rattle.rowex_writing.specs.Building.{IsBelow, IsBuilding, IsGrowing, IsGrownFrom, IsHalfMade, IsLowest, IsLowRisen, IsMadeFrom, IsNextTo, IsRaising, IsRisenAt, IsSingle, IsSplit, IsUp, FitsAbove, HasNotMade, HasRisenTo, gone_unless, gone_with};
 ghost use Rattle.rowex_writing.specs.Going.{WorksOn, HasLocked, IsLockedBy};
-ghost use Rattle.rowex_writing.specs.Remaking.{IsTreePage};
-ghost use Rattle.compound_node.specs.Nodes.{height_of};
+ghost use Rattle.rowex_writing.specs.Remaking.{AffectsJust, IsTreePage};
+ghost use Rattle.compound_node.specs.Nodes.{height_of, piece};
 ghost use Rattle.insert_cases.specs.Grown.{keeps_node, is_same as is_the_same};
 ghost use Rattle.pieces.specs.Piece.{Place as At, size};
-ghost use Rattle.tries.specs.Affected.{page_forked};
+ghost use Rattle.tries.specs.Affected.{page_forked, page_grown};
 ghost use Rattle.tries.specs.Keys.{bit};
 ghost use Rattle.tries.specs.Place.{page_without};
 ghost use Rattle.insert_cases.specs.Risen.{page_of};
@@ -21,7 +21,7 @@ ghost use Rattle.rowex_walks.specs.Rise.{entry};
 ghost use Rattle.rowex_writing.specs.Counts.{level_steps, node_steps};
 
 use crate::locked::read_locked;
-use crate::remaking::{pair_with_leaf, with_fork, with_leaf, without_leaf};
+use crate::remaking::{add_leaf, full_with_leaf, pair_with_leaf, with_fork, without_leaf};
 use arrayvec::ArrayVec;
 use compound_node::{Entry, Half, Node};
 use insert_cases::{Grown, Risen, Step};
@@ -173,6 +173,76 @@ fn raise_level<G: Gate>(
     make_risen(table, seat, gate, build, old, &grown)
 }
 
+/// What comes in the place of a node that gets a new leaf, and whether the node stays whole. A node with room gets the leaf
+/// where it stands, so that no whole node is moved.
+fn make_grown<G: Gate>(
+    table: &HotTable,
+    seat: &mut TableSeat,
+    gate: &mut G,
+    build: &mut Build,
+    old: Entry,
+    node: &mut Node,
+    key: &Key,
+    position: u16,
+    first: u8,
+    last: u8,
+    leaf: u32,
+) -> Option<(Risen, bool)>
+    requires building { (news : List Made) × IsBuilding table.now seat.old build.old.made.items news }
+    requires affects { AffectsJust key.now position first last (piece node.old) }
+    requires tree { IsTreePage (page_grown position key.now (Entry.Leaf leaf) (piece node.old)) }
+    requires room { length build.old.made.items + 1 < MOST_MADE }
+    ensures goes { WorksOn table.now G.becomes (seat.old, gate.old) (seat.new, gate.new) }
+    ensures made { (news : List Made) → IsBuilding table.now seat.old build.old.made.items news → MatchOption result
+        (HasNotMade table.now seat.old seat.new build.new.made.items)
+        (λ r. (after : List Made) × IsGrownFrom old node.old (page_grown position key.now (Entry.Leaf leaf) (piece node.old)) position r.0 r.1 news after ×
+        IsBuilding table.now seat.new build.new.made.items after) }
+    ensures more { length build.new.made.items ≤ length build.old.made.items + 2 }
+    ensures few { seat.new.known.steps ≤ seat.old.known.steps + 2 * node_steps table.now.layout }
+{
+    if node.count() == 32 {
+        return make_halves(
+            table, seat, gate, build, old, node, key, position, first, last, leaf,
+        );
+    }
+    add_leaf(node, key, position, first, last, leaf);
+    let entry = make_node(table, seat, gate, build, node)?;
+    Some((Risen::Whole(entry), false))
+}
+
+/// What comes in the place of a full node that gets a new leaf, and whether the node stays whole.
+fn make_halves<G: Gate>(
+    table: &HotTable,
+    seat: &mut TableSeat,
+    gate: &mut G,
+    build: &mut Build,
+    old: Entry,
+    node: &Node,
+    key: &Key,
+    position: u16,
+    first: u8,
+    last: u8,
+    leaf: u32,
+) -> Option<(Risen, bool)>
+    requires full { length node.now.entries ≡ 32 }
+    requires building { (news : List Made) × IsBuilding table.now seat.old build.old.made.items news }
+    requires affects { AffectsJust key.now position first last (piece node.now) }
+    requires tree { IsTreePage (page_grown position key.now (Entry.Leaf leaf) (piece node.now)) }
+    requires room { length build.old.made.items + 1 < MOST_MADE }
+    ensures goes { WorksOn table.now G.becomes (seat.old, gate.old) (seat.new, gate.new) }
+    ensures made { (news : List Made) → IsBuilding table.now seat.old build.old.made.items news → MatchOption result
+        (HasNotMade table.now seat.old seat.new build.new.made.items)
+        (λ r. (after : List Made) × IsGrownFrom old node.now (page_grown position key.now (Entry.Leaf leaf) (piece node.now)) position r.0 r.1 news after ×
+        IsBuilding table.now seat.new build.new.made.items after) }
+    ensures more { length build.new.made.items ≤ length build.old.made.items + 2 }
+    ensures few { seat.new.known.steps ≤ seat.old.known.steps + 2 * node_steps table.now.layout }
+{
+    let grown = full_with_leaf(node, key, position, first, last, leaf);
+    let stays = stays_whole(&grown);
+    let risen = make_risen(table, seat, gate, build, old, &grown)?;
+    Some((risen, stays))
+}
+
 /// What comes in the place of the lowest node, which gets a new leaf; and whether the node stays whole.
 fn raise_lowest<G: Gate>(
     table: &HotTable,
@@ -200,15 +270,14 @@ fn raise_lowest<G: Gate>(
     ensures more { length build.new.made.items ≤ length build.old.made.items + 2 }
     ensures few { seat.new.known.steps ≤ seat.old.known.steps + level_steps table.now.layout }
 {
-    let node = read_locked(table, seat, gate, number);
+    let mut node = read_locked(table, seat, gate, number);
     let old = Entry::Node {
         number,
         height: node.height(),
     };
-    let grown = with_leaf(node, key, position, first, last, leaf);
-    let stays = stays_whole(&grown);
-    let risen = make_risen(table, seat, gate, build, old, &grown)?;
-    Some((risen, stays))
+    make_grown(
+        table, seat, gate, build, old, &mut node, key, position, first, last, leaf,
+    )
 }
 
 /// Whether one half is the old node as it stands.

@@ -1,6 +1,6 @@
 //! What a node becomes: with a new leaf, with a fork in the place of an entry, or without a leaf.
 
-ghost use Rattle.std.specs.Prelude.{◌≡◌, ◌↔◌, ◌<◌, IsTrue, length, false};
+ghost use Rattle.std.specs.Prelude.{◌≡◌, ◌↔◌, ◌<◌, ◌≤◌, IsTrue, length, false};
 ghost use Rattle.pieces.specs.Changes.{AtRootFork};
 ghost use Rattle.pieces.specs.Piece.{Fork, Place as At};
 ghost use Rattle.compound_node.specs.Halves.{HalfShows};
@@ -12,22 +12,44 @@ ghost use Rattle.insert_cases.specs.Grown.{GrownShows, is_whole, keeps_node};
 ghost use Rattle.rowex_writing.specs.Remaking.{IsTreePage, AffectsJust, IsLowHalf, IsNoHigher};
 
 use compound_node::{Entry, Half, Node};
-use insert_cases::{Grown, grow, pull_up};
+use insert_cases::{Grown, grow_full, pull_up};
 use key_bits::Key;
 
-/// The node with a new leaf for the key, beside the entries from `first` to `last`: those that the position affects. A
-/// full node gives the two sides of its first fork; where the position is before that fork, it is one of them as it is.
-pub fn with_leaf(node: Node, key: &Key, position: u16, first: u8, last: u8, leaf: u32) -> Grown
-    requires affects { AffectsJust key.now position first last (piece node) }
-    requires tree { IsTreePage (page_grown position key.now (Entry.Leaf leaf) (piece node)) }
-    ensures shows { GrownShows node result (page_grown position key.now (Entry.Leaf leaf) (piece node)) }
-    ensures whole { IsTrue (is_whole result) ↔ (length node.entries < 32) }
-    ensures same { IsTrue (keeps_node result) ↔ ((length node.entries ≡ 32) × AtRootFork (λ p zero one. position < p) (piece node)) }
-    ensures low { IsNoHigher node.height result }
+/// Puts a new leaf for the key into a node with room, beside the entries from `first` to `last`: those that the position
+/// affects.
+pub fn add_leaf(node: &mut Node, key: &Key, position: u16, first: u8, last: u8, leaf: u32)
+    requires room { length node.old.entries < 32 }
+    requires affects { AffectsJust key.now position first last (piece node.old) }
+    requires tree { IsTreePage (page_grown position key.now (Entry.Leaf leaf) (piece node.old)) }
+    ensures shows { IsBuiltFrom node.new (page_grown position key.now (Entry.Leaf leaf) (piece node.old)) }
+    ensures low { node.new.height ≤ node.old.height }
 {
-    prove!(node.count() <= 32);
+    prove!(node.count() < 32);
     let bit = key.bit(position);
-    grow(node, first, last, position, bit, Entry::Leaf(leaf))
+    node.add(first, last, position, bit, Entry::Leaf(leaf));
+}
+
+/// The two sides of a full node's first fork, with a new leaf for the key beside the entries from `first` to `last`: those
+/// that the position affects. Where the position is before that fork, the node is one side as it is.
+pub fn full_with_leaf(
+    node: &Node,
+    key: &Key,
+    position: u16,
+    first: u8,
+    last: u8,
+    leaf: u32,
+) -> Grown
+    requires full { length node.now.entries ≡ 32 }
+    requires affects { AffectsJust key.now position first last (piece node.now) }
+    requires tree { IsTreePage (page_grown position key.now (Entry.Leaf leaf) (piece node.now)) }
+    ensures shows { GrownShows node.now result (page_grown position key.now (Entry.Leaf leaf) (piece node.now)) }
+    ensures whole { is_whole result ≡ false }
+    ensures same { IsTrue (keeps_node result) ↔ AtRootFork (λ p zero one. position < p) (piece node.now) }
+    ensures low { IsNoHigher node.now.height result }
+{
+    prove!(node.count() == 32);
+    let bit = key.bit(position);
+    grow_full(node, first, last, position, bit, Entry::Leaf(leaf))
 }
 
 /// The node with a fork of two entries in the place of the one to which the key's search leads. A full node gives the

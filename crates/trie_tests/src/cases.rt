@@ -69,7 +69,7 @@ fn leaf_is_pushed_down(rt: HostRuntime) {
 #[test]
 fn nodes_grow(rt: HostRuntime) {
     let node = Node::pair(8, Entry::Leaf(0), Entry::Leaf(1));
-    match grow(node, 0, 1, 7, true, Entry::Leaf(2)) {
+    match grow(&node, 0, 1, 7, true, Entry::Leaf(2)) {
         Grown::One(grown) => {
             assert!(rt; grown.count() == 3);
             assert!(rt; grown.columns().as_slice() == [7, 8].as_slice());
