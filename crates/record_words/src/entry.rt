@@ -50,7 +50,7 @@ pub fn read_entry(word: u64) -> Option<Entry>
 }
 
 /// The entry that has this word; one has it. A leaf's word has no height.
-pub(crate) fn read_some(word: u64) -> Entry
+pub fn read_some(word: u64) -> Entry
     requires { IsSpelling (λ entry. HasEntryWord (Some entry)) (λ entry. entry_word (Some entry)) word }
     ensures { IsSpelledBy (λ entry. HasEntryWord (Some entry)) (λ entry. entry_word (Some entry)) word result }
 {

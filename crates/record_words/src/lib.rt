@@ -8,7 +8,7 @@ mod leaf;
 mod node;
 mod state;
 
-pub use entry::{pack_entry, read_entry, unpack_entry};
+pub use entry::{pack_entry, read_entry, read_some, unpack_entry};
 use key_bits::MAX_BYTES;
 pub use layout::{Layout, LayoutFault, Location};
 pub use leaf::{key_word_at, key_words, pack_leaf, unpack_leaf, write_word};

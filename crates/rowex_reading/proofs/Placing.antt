@@ -7,6 +7,7 @@ use Rattle.compound_node.specs.Nodes.{height_of}
 use Rattle.pieces.specs.Piece.{Place, size}
 use Rattle.record_words.specs.declared.layout.Layout.{Layout}
 use Rattle.record_words.specs.Entry.{HasEntryWord, entry_word}
+use Rattle.record_words.specs.Reading.{IsSpelling}
 use Rattle.tries.specs.Tree.{Tree, node, page, Page, Fixed, IsBuilt}
 use Rattle.tries.specs.Place.{entry_at, shape}
 use Rattle.tries.proofs.Places.{shape_tips}
@@ -62,6 +63,11 @@ place_below i p x same low = subst (λ z. i < z) (ap size (sym same) ∙ shape_t
 
 entry_of_node : (n : ℕ) (x : Fixed) (b u : Tree) (i : ℕ) (o : Option Entry) → u ≡ node n x b → i < size (page b) → entry_in u i ≡ o → Some (entry_at (page b) i) ≡ o
 entry_of_node n x b u i o is inside e = sym (ap (λ t. if t then Some (entry_at (page b) i) else None) (lt-ltb i (size (page b)) inside)) ∙ (sym (ap (λ (z : Tree). entry_in z i) is) ∙ e)
+
+-- the word of some entry spells it
+pub some_spelled : {w : ℕ} (o : Option Entry) → IsSome o → HasEntryWord o → entry_word o ≡ w → IsSpelling (λ (e : Entry). HasEntryWord (Some e)) (λ (e : Entry). entry_word (Some e)) w
+some_spelled None some word spells = absurd cc
+some_spelled (Some entry) some word spells = (entry, word, spells)
 
 module _ (layout : Layout) (k j : Known) (n i w : ℕ) (event : IsEvent layout (LoadRef (Slot n i) w) silent k j) where
   abbrev core : Core

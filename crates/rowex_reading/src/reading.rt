@@ -15,7 +15,7 @@ use compound_node::{Entry, Head};
 use key_bits::{Key, MAX_BYTES};
 use record_words::{
     FIRST_ROWS, HEAD_WORDS, key_word_at, key_words, position_words, read_entry, read_head,
-    row_words, write_word,
+    read_some, row_words, write_word,
 };
 use rowex_core::{Gate, Rec, Spot};
 use rowex_table::{HotTable, TableSeat};
@@ -78,7 +78,7 @@ pub fn load_entry<G: Gate>(
         entry: place,
     };
     let word = table.load_ref(seat, gate, spot);
-    read_entry(word).unwrap()
+    read_some(word)
 }
 
 /// Loads the key and the value of a leaf. Inline, so that a caller has the key where it was made.
