@@ -1,5 +1,5 @@
 -- Loads under a lock, and steps one after the other.
-use Rattle.std.proofs.Common.{◌≡◌, ℕ, ◌+◌, ◌-◌, ◌<◌, ◌≤◌, List, [], ◌∷◌, ◌++◌, length, get_or, set, replicate, refl, sym, ap, subst, ◌∙◌, arith, add-one, inl, inr, ◌⊎◌}
+use Rattle.std.proofs.Common.{◌≡◌, ℕ, ◌+◌, ◌-◌, ◌%◌, ◌<◌, ◌≤◌, List, [], ◌∷◌, ◌++◌, length, get_or, set, replicate, refl, sym, ap, subst, ◌∙◌, arith, add-one, inl, inr, ◌⊎◌}
 use Rattle.std.proofs.lemmas.Bool.{cases_lt}
 use Rattle.std.proofs.lemmas.List.Elements.{All-append, All-cons}
 use Rattle.std.proofs.lemmas.List.{ext_get_or, get_or-set_same, get_or-set_other, length-replicate, length-set}
@@ -7,6 +7,9 @@ use Rattle.record_words.specs.declared.layout.Layout.{Layout}
 use Rattle.compound_node.specs.Nodes.{NodeView}
 use Rattle.rowex_core.proofs.Reading.{node_is}
 use Rattle.record_words.proofs.Nodes.{length-node_words}
+use Rattle.record_words.proofs.Spelled.{entries_counted}
+use Rattle.record_words.proofs.Unused.{zero_in}
+use Rattle.record_words.proofs.Written.{no_entry_word}
 use Rattle.moments.specs.declared.Rec.TheVariants.{Node as a_node}
 use Rattle.rowex_core.specs.declared.event.Act.{Act}
 use Rattle.rowex_core.specs.declared.event.Act.TheVariants.{LoadRef, LoadFixed}
@@ -106,23 +109,38 @@ more_those loaded words n w long those is spelled = record { each = λ o l. at o
     at o l (inl older) = get_or-set_other loaded n o w 0 (λ e. omega arith) ∙ those.each o older
     at o l (inr newest) = let e : n ≡ o = omega arith in subst (λ z. get_or (set loaded n w) z 0 ≡ get_or words z 0) e (get_or-set_same loaded n w 0 long ∙ is)
 
-pub all_those : (loaded words : List ℕ) → length loaded ≡ 57 → AreThose loaded words 57 → (loaded ≡ words) × ((view : NodeView) × IsNodeOf words view)
-all_those loaded words long those =
+-- the first of them tells how many have entries
+pub slots_told : (loaded words : List ℕ) → AreThose loaded words 25 → (view : NodeView) × IsNodeOf words view × (get_or loaded 0 0 % 256 ≡ length view.entries)
+slots_told loaded words those =
     let (view, is) = those.spelled (omega arith) in
+    (view, is, ap (λ z. z % 256) (those.each 0 (omega arith)) ∙ entries_counted view words is.has is.spells)
+
+pub slots_fit : (loaded words : List ℕ) → AreThose loaded words 25 → get_or loaded 0 0 % 256 ≤ 32
+slots_fit loaded words those = let (view, is, told) = slots_told loaded words those in omega (arith, told, is.has.lawful.room)
+
+pub all_those : (first loaded words : List ℕ) (n : ℕ) → length loaded ≡ 57 → AreThose first words 25 → n ≡ 25 + get_or first 0 0 % 256 → AreThose loaded words n → ((o : ℕ) → n ≤ o → get_or loaded o 0 ≡ 0) →
+    (loaded ≡ words) × ((view : NodeView) × IsNodeOf words view)
+all_those first loaded words n long head upto those rest =
+    let (view, is, told) = slots_told first words head in
     let size : length words ≡ 57 = ap length (sym is.spells) ∙ length-node_words view in
-    (ext_get_or 0 loaded words (long ∙ sym size) (λ o l. those.each o (omega arith)), (view, is))
+    (ext_get_or 0 loaded words (long ∙ sym size) (λ o l. at view is told o (omega (arith, l, long)) (cases_lt o n)), (view, is))
+  where
+    at : (view : NodeView) → IsNodeOf words view → get_or first 0 0 % 256 ≡ length view.entries → (o : ℕ) → o < 57 → (o < n) ⊎ (n ≤ o) → get_or loaded o 0 ≡ get_or words o 0
+    at view is told o low (inl read) = those.each o read
+    at view is told o low (inr past) = rest o past ∙ sym (ap (λ all. get_or all o 0) (sym is.spells) ∙ no_entry_word view (length view.entries) o (omega arith) (omega (arith, told, upto, past)) low)
 
 -- what was locked is
 pub locked_on : (k j : Known) (n : ℕ) (words : List ℕ) → j.locks ≡ k.locks → HasLocked k n words → HasLocked j n words
 locked_on k j n words same h = subst (λ locks. IsOf (record { node = n; words = words }) locks) (sym same) h
 
--- The first n of a locked node's words have been read, each by one load.
+-- The first n of a locked node's words have been read, each by one load, and 0 stands in the places of the others.
 pub record AreRead {G : Type 0} (table : TableView) (becomes : G → Event → G → Type 0) (a b : SeatView × G) (number : ℕ) (loaded : List ℕ) (n : ℕ) : Type 0 where
   pub own : IsSeatOf table b.0
   pub reads : ReadsOn table becomes a b
   pub long : length loaded ≡ 57
   pub those : (words : List ℕ) → HasLocked a.0.known number words → AreThose loaded words n
   pub few : b.0.known.steps ≤ a.0.known.steps + n
+  pub rest : (o : ℕ) → n ≤ o → get_or loaded o 0 ≡ 0
 
 module _ {G : Type 0} (table : TableView) (becomes : G → Event → G → Type 0) (a : SeatView × G) where
   pub none_read : (number : ℕ) → IsSeatOf table a.0 → AreRead table becomes a a number (replicate 57 0) 0
@@ -132,6 +150,7 @@ module _ {G : Type 0} (table : TableView) (becomes : G → Event → G → Type 
     long = length-replicate {A = ℕ} 57 0;
     those = λ words h. none_those (replicate 57 0) words;
     few = omega arith;
+    rest = λ o l. zero_in 57 o;
   }
 
   pub one_read : (b c : SeatView × G) (number : ℕ) (loaded : List ℕ) (n w : ℕ) → AreRead table becomes a b number loaded n → n < 57 → ReadsOn table becomes b c →
@@ -144,4 +163,5 @@ module _ {G : Type 0} (table : TableView) (becomes : G → Event → G → Type 
     those = λ words h. (let there = locked_on a.0.known b.0.known number words i.reads.goes.stays.1 h in
         more_those loaded words n w (omega (arith, i.long, low)) (i.those words h) (word words there) (spelled words there));
     few = let before = i.few in omega (arith, before, few);
+    rest = λ o l. get_or-set_other loaded n o w 0 (λ e. omega (arith, l, e)) ∙ i.rest o (omega (arith, l));
   }

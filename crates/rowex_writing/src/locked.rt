@@ -12,7 +12,8 @@ use record_words::{HEAD_WORDS, NODE_FIELDS, read_node};
 use rowex_core::{Gate, Rec};
 use rowex_table::{HotTable, TableSeat};
 
-/// The node in a record that the pass has locked: its words are those of the lock.
+/// The node in a record that the pass has locked: its words are those of the lock. Those past its last entry are 0, and are
+/// not loaded.
 pub fn read_locked<G: Gate>(
     table: &HotTable,
     seat: &mut TableSeat,
@@ -31,7 +32,8 @@ pub fn read_locked<G: Gate>(
     for index in 0..HEAD_WORDS {
         words[index] = load_word(table, seat, gate, number, start, index);
     }
-    for index in HEAD_WORDS..NODE_FIELDS {
+    let end = HEAD_WORDS + (words[0] % 256) as usize;
+    for index in HEAD_WORDS..end {
         words[index] = load_word(table, seat, gate, number, start, index);
     }
     read_node(&words)

@@ -1,5 +1,5 @@
 -- The lowest node gets the leaf.
-use Rattle.std.proofs.Common.{List, [], ◌∷◌, ℕ, subst}
+use Rattle.std.proofs.Common.{List, [], ◌∷◌, subst}
 use Rattle.std.specs.Prelude.{MatchOption}
 use Rattle.compound_node.specs.Nodes.{piece}
 use Rattle.compound_node.specs.declared.entries.Entry.TheVariants.{Leaf, Node}
