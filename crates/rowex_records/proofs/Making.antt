@@ -1,13 +1,12 @@
 -- Steps on records of the pass's own: what they leave of what it knows, and how they follow one another.
-use Rattle.std.proofs.Common.{◌≡◌, ℕ, ◌+◌, List, [], ◌∷◌, ◌++◌, length, refl, sym, ap, ap₂, ◌∙◌}
-use Rattle.std.proofs.lemmas.List.{append-nil, length_push}
-use Rattle.std.proofs.lemmas.List.Elements.{All-append, All-cons, All-nil}
+use Rattle.std.proofs.Common.{◌≡◌, ℕ, ◌+◌, List, [], ◌∷◌, ◌++◌, length, refl, sym, ap, ◌∙◌}
+use Rattle.std.proofs.lemmas.List.{append-nil}
 use Rattle.hot_model.specs.declared.Note.{Note}
 use Rattle.record_words.specs.declared.layout.Layout.{Layout}
 use Rattle.moments.specs.declared.Rec.{Rec}
 use Rattle.moments.specs.Core.{Fate, Free, Held, Ready as ReadyBy, InTree, Unlinked, Marked}
 use Rattle.rowex_core.specs.declared.event.Act.{Act}
-use Rattle.rowex_core.specs.declared.event.Act.TheVariants.{Claim, Fill, LoadState, Ready, Release}
+use Rattle.rowex_core.specs.declared.event.Act.TheVariants.{Claim, Fill, Ready, Release}
 use Rattle.rowex_core.specs.declared.event.Event.{Event}
 use Rattle.rowex_core.specs.declared.known.Failed.{Failed}
 use Rattle.rowex_core.specs.declared.known.Owned.{Owned}
@@ -17,7 +16,7 @@ use Rattle.rowex_core.specs.Knowing.{IsEvent, claim_learned}
 use Rattle.rowex_table.specs.Runs.{silent, Steps, Does}
 use Rattle.rowex_table.specs.Seats.{TableView, SeatView}
 use Rattle.rowex_table.proofs.Running as running
-use Rattle.rowex_records.specs.Claims.{IsStateLoad, LoadsStates, claiming}
+use Rattle.rowex_records.specs.Claims.{claiming}
 use Rattle.rowex_records.specs.Records.{owning}
 
 -- One step
@@ -57,10 +56,6 @@ claim_rest c r found (InTree s) k j e = settled k j _ _ e
 claim_rest c r found (Unlinked s l q) k j e = settled k j _ _ e
 claim_rest c r found (Marked s l epoch) k j e = settled k j _ _ e
 
--- a load of a state teaches nothing
-state_rest : (k j : Known) → j ≡ counted k k → j ≡ record k { steps = k.steps + 1 }
-state_rest k j e = e ∙ ap (λ (notes : List Note). let z : Known = record k { steps = k.steps + 1; notes = notes } in z) (append-nil k.notes)
-
 module _ {G : Type 0} (table : TableView) (becomes : G → Event → G → Type 0) where
   -- Steps on held records, one after the other
 
@@ -83,30 +78,6 @@ module _ {G : Type 0} (table : TableView) (becomes : G → Event → G → Type 
 
   pub claims_append : (acts more : List Act) (a m b : SeatView × G) → Does table becomes claiming acts a m → Does table becomes claiming more m b → Does table becomes claiming (acts ++ more) a b
   claims_append acts more a m b first second = running.does_append table becomes claiming (λ k i j n o. refl) acts more a m b first second
-
-  -- Loads of states, one after the other
-
-  pub loads_none : (a : SeatView × G) → LoadsStates table becomes 0 a a
-  loads_none a = record { loads = []; are = All-nil IsStateLoad; count = refl; does = running.does_none table becomes (λ k j. k) a (λ k. refl) }
-
-  pub loads_more : (n : ℕ) (r : Rec) (word : ℕ) (a m b : SeatView × G) → LoadsStates table becomes n a m → Steps table becomes (LoadState r word) m b → LoadsStates table becomes (n + 1) a b
-  loads_more n r word a m b before step =
-      let last : Does table becomes (λ k j. k) (LoadState r word ∷ []) m b = running.does_one table becomes (λ k j. k) (LoadState r word) m b step (state_rest m.0.known b.0.known step.event.learned_is) in
-      record {
-        loads = before.loads ++ LoadState r word ∷ [];
-        are = All-append IsStateLoad before.loads (LoadState r word ∷ []) before.are (All-cons IsStateLoad (LoadState r word) [] tt (All-nil IsStateLoad));
-        count = length_push before.loads (LoadState r word) ∙ ap (λ k. k + 1) before.count;
-        does = running.does_append table becomes (λ k j. k) (λ k i j n o. refl) before.loads (LoadState r word ∷ []) a m b before.does last;
-      }
-
-  -- they are among the steps that may change the own records and the failed claims
-  pub states_claiming : (loads : List Act) (a b : SeatView × G) → Does table becomes (λ k j. k) loads a b → Does table becomes claiming loads a b
-  states_claiming loads a b does = record {
-    seat = does.seat;
-    steps = does.steps;
-    rest = does.rest ∙ ap₂ (λ (own : List Owned) (failed : List Failed). let z : Known = record a.0.known { own = own; failed = failed; steps = a.0.known.steps + length loads } in z)
-        (sym (ap (λ (z : Known). z.own) does.rest)) (sym (ap (λ (z : Known). z.failed) does.rest));
-  }
 
   -- steps on held records are among those that may change the failed claims too
   pub owns_claiming : (acts : List Act) (a b : SeatView × G) → Does table becomes owning acts a b → Does table becomes claiming acts a b

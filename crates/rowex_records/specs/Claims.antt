@@ -4,7 +4,7 @@ use Rattle.record_words.specs.declared.layout.Layout.{Layout}
 use Rattle.moments.specs.declared.Rec.{Rec}
 use Rattle.moments.specs.declared.Rec.TheVariants.{Node as a_node, Leaf as a_leaf}
 use Rattle.rowex_core.specs.declared.event.Act.{Act}
-use Rattle.rowex_core.specs.declared.event.Act.TheVariants.{Claim, LoadState}
+use Rattle.rowex_core.specs.declared.event.Act.TheVariants.{Claim}
 use Rattle.rowex_core.specs.declared.event.Event.{Event}
 use Rattle.rowex_core.specs.declared.known.Failed.{Failed}
 use Rattle.rowex_core.specs.declared.known.Holding.TheVariants.{Held}
@@ -24,18 +24,6 @@ record_of Leaf = a_leaf
 abbrev pub count_of : RecordKind → Layout → ℕ
 count_of Node layout = layout.nodes
 count_of Leaf layout = layout.leaves
-
--- a load of the state of a record
-abbrev pub IsStateLoad : Act → Type 0
-IsStateLoad (LoadState r word) = Unit {0}
-IsStateLoad act = ⊥
-
--- The pass loads n states, and keeps nothing of what it sees: it knows what it knew, but that the loads are counted.
-pub record LoadsStates {G : Type 0} (table : TableView) (becomes : G → Event → G → Type 0) (n : ℕ) (a b : SeatView × G) : Type 0 where
-  pub loads : List Act
-  pub are : All IsStateLoad loads
-  pub count : length loads ≡ n
-  pub does : Does table becomes (λ k j. k) loads a b
 
 -- of what a pass knows, its own records and its failed claims may change
 abbrev pub claiming : Known → Known → Known

@@ -1,10 +1,10 @@
 //! Records claimed, and given up again.
 
-ghost use Rattle.std.specs.Prelude.{◌≡◌, ◌<◌, ◌≤◌, ℕ, IfNone, IfSome, MatchOption, All};
+ghost use Rattle.std.specs.Prelude.{◌≡◌, ◌<◌, IfNone, IfSome, MatchOption, All};
 ghost use Rattle.rowex_core.specs.Cores.{HasRecord};
 ghost use Rattle.rowex_table.specs.Rights.{IsClaimed};
 ghost use Rattle.rowex_table.specs.Seats.{IsSeatOf};
-ghost use Rattle.rowex_records.specs.Claims.{AllMissed, Claims, FindsNone, LoadsStates, begin_of, count_of, record_of, wrapped};
+ghost use Rattle.rowex_records.specs.Claims.{AllMissed, Claims, FindsNone, begin_of, count_of, record_of, wrapped};
 ghost use Rattle.rowex_records.specs.Records.{GivesUp, GivesUpAll, HoldsJust};
 
 use record_words::Layout;
@@ -38,33 +38,6 @@ impl RecordKind {
             RecordKind::Leaf => layout.leaves,
         }
     }
-}
-
-/// The most records whose states are loaded to find a number at which a claim had better begin.
-pub const MOST_LOOKED_AT: u32 = 1_024;
-
-/// Where a claim of a kind had better begin: at the first record that is free, of at most `MOST_LOOKED_AT` from number `from` on, or
-/// behind those. A load of a taken record's state costs less than a claim that fails, which waits for its cache line. A `from` that is
-/// out of range counts as 0. No more than the loads is promised: a claim tries each record, wherever it begins.
-pub fn find_free<G: Gate>(
-    table: &HotTable,
-    seat: &mut TableSeat,
-    gate: &mut G,
-    kind: RecordKind,
-    from: u32,
-) -> u32
-    requires own { IsSeatOf table.now seat.old }
-    ensures loads { (n : ℕ) × (n ≤ MOST_LOOKED_AT) × LoadsStates table.now G.becomes n (seat.old, gate.old) (seat.new, gate.new) }
-{
-    let all = kind.count(table.layout());
-    let begin = first(from, all);
-    let end = begin.saturating_add(MOST_LOOKED_AT).min(all);
-    for number in begin..end {
-        if table.load_state(seat, gate, kind.record_at(number)) == 0 {
-            return number;
-        }
-    }
-    end
 }
 
 /// Claims the first record of a kind that it finds free; answers its number.

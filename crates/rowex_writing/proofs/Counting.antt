@@ -9,7 +9,7 @@ use Rattle.rowex_table.specs.Runs.{Runs, Steps}
 use Rattle.rowex_table.specs.Seats.{TableView, SeatView}
 use Rattle.rowex_table.proofs.ActsLeave.{act_leaves}
 use Rattle.rowex_reading.specs.Reads.{Looks, Reads}
-use Rattle.rowex_records.specs.Claims.{Claims, FindsNone, LoadsStates}
+use Rattle.rowex_records.specs.Claims.{Claims, FindsNone}
 
 -- ---- parts of a list
 take_few : {X : Type 0} (n : ℕ) (xs : List X) → length (take n xs) ≤ n
@@ -44,9 +44,6 @@ module _ {G : Type 0} (table : TableView) (becomes : G → Event → G → Type 
 
   pub looks_count : (n : ℕ) (a b : SeatView × G) → Looks table becomes n a b → b.0.known.steps ≡ a.0.known.steps + 1 + n
   looks_count n a b l = let one = step_count _ a l.at l.root.1 in let rest = reads_count n l.at b l.rest in omega (arith, one, rest)
-
-  pub states_count : (n : ℕ) (a b : SeatView × G) → LoadsStates table becomes n a b → b.0.known.steps ≡ a.0.known.steps + n
-  states_count n a b l = let z = runs_count l.loads a b l.does.steps in omega (arith, z, l.count)
 
   -- claims
   pub none_count : (kind : ℕ → Rec) (n from m : ℕ) (a b : SeatView × G) → FindsNone table becomes kind n from m a b → b.0.known.steps ≡ a.0.known.steps + m

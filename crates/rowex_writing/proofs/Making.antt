@@ -2,7 +2,7 @@
 use Rattle.std.proofs.Common.{◌≡◌, ◌≢◌, inl, inr, ℕ, zero, suc, ◌+◌, ◌≤◌, List, [], ◌∷◌, ◌++◌, length, get_or, map, refl, sym, ap, ap₂, subst, ◌∙◌, arith, le_trans, Option, Some, None}
 use Rattle.std.specs.Prelude.{All, MatchOption}
 use Rattle.std.proofs.lemmas.Grind.{reverse_onto}
-use Rattle.std.proofs.lemmas.List.Elements.{All-append, All-cons, All-weaker}
+use Rattle.std.proofs.lemmas.List.Elements.{All-append, All-cons}
 use Rattle.compound_node.specs.Nodes.{NodeView}
 use Rattle.compound_node.specs.declared.entries.Entry.{Entry}
 use Rattle.compound_node.specs.declared.entries.Entry.TheVariants.{Node}
@@ -16,7 +16,7 @@ use Rattle.moments.specs.declared.Rec.TheVariants.{Node as a_node}
 use Rattle.moments.proofs.Legal.{same_rec_refl}
 use Rattle.moments.proofs.Members.{all_of, of_map, map_of}
 use Rattle.rowex_core.specs.declared.event.Act.{Act}
-use Rattle.rowex_core.specs.declared.event.Act.TheVariants.{Claim, Fill, LoadFixed, LoadState}
+use Rattle.rowex_core.specs.declared.event.Act.TheVariants.{Claim, Fill, LoadFixed}
 use Rattle.rowex_core.specs.declared.event.Event.{Event}
 use Rattle.rowex_core.specs.declared.known.Holding.TheVariants.{Held}
 use Rattle.rowex_core.specs.declared.known.Known.{Known}
@@ -26,15 +26,14 @@ use Rattle.rowex_table.specs.Made.{Made, held_as, recs_of}
 use Rattle.rowex_table.specs.Runs.{Runs, Does, InTurn}
 use Rattle.rowex_table.specs.Seats.{TableView, SeatView, IsSeatOf}
 use Rattle.rowex_table.proofs.Running.{runs_same}
-use Rattle.rowex_records.specs.Claims.{claiming, wrapped, Misses, FindsNone, Claims, AllMissed, IsStateLoad, LoadsStates}
+use Rattle.rowex_records.specs.Claims.{claiming, wrapped, Misses, FindsNone, Claims, AllMissed}
 use Rattle.rowex_records.specs.Records.{clearing, owning, fill_with, Fills, SetsAll, SetsWord, StoresWord}
 use Rattle.rowex_records.proofs.Filled.{fill_beside}
-use Rattle.rowex_records.proofs.Making.{owns_claiming, states_claiming}
 use Rattle.rowex_rights.specs.Rises.{of_view}
 use Rattle.rowex_reading.specs.Possible.{IsPossible}
 use Rattle.rowex_reading.proofs.Later.{event_possible}
 use Rattle.rowex_writing.specs.Building.{IsBuilding, IsHalfMade, HasNotMade}
-use Rattle.rowex_writing.specs.Going.{ReadsOn, WorksOn, IsQuiet}
+use Rattle.rowex_writing.specs.Going.{WorksOn, IsQuiet}
 use Rattle.rowex_writing.proofs.Locking.{goes_more}
 use Rattle.rowex_table.proofs.ActsBefore.{same_later}
 
@@ -65,10 +64,6 @@ sets_plain r words n acts turn = in_turn_plain (λ i. SetsWord r (i + 1) (get_or
     plain offset word acts (inl (some, is)) = subst (All IsQuiet) (sym is) (stored offset word)
     plain offset word acts (inr (none, found, is)) = subst (All IsQuiet) (sym is) (All-cons IsQuiet (LoadFixed r offset found) (clearing r offset found) tt (cleared offset found))
 
-state_load_plain : (act : Act) → IsStateLoad act → IsQuiet act
-state_load_plain (LoadState r word) is = tt
-state_load_plain _ is = absurd is
-
 module _ {G : Type 0} (table : TableView) (becomes : G → Event → G → Type 0) where
   pub claims_on : (acts : List Act) (a b : SeatView × G) → All IsQuiet acts → Does table becomes claiming acts a b → WorksOn table becomes a b
   claims_on acts a b plain does = let r = does.rest in record {
@@ -79,12 +74,11 @@ module _ {G : Type 0} (table : TableView) (becomes : G → Event → G → Type 
   }
 
   pub owns_on : (acts : List Act) (a b : SeatView × G) → All IsQuiet acts → Does table becomes owning acts a b → WorksOn table becomes a b
-  owns_on acts a b plain does = claims_on acts a b plain (owns_claiming table becomes acts a b does)
-
-  pub loads_on : (n : ℕ) (a b : SeatView × G) → LoadsStates table becomes n a b → ReadsOn table becomes a b
-  loads_on n a b loads = record {
-    goes = claims_on loads.loads a b (All-weaker IsStateLoad IsQuiet state_load_plain loads.loads loads.are) (states_claiming table becomes loads.loads a b loads.does);
-    own = ap (λ (z : Known). z.own) loads.does.rest;
+  owns_on acts a b plain does = let r = does.rest in record {
+    acts = acts;
+    plain = plain;
+    steps = does.steps;
+    stays = (same_later a.0.known b.0.known (ap (λ (z : Known). z.pass) r) (ap (λ (z : Known). z.pin) r) (ap (λ (z : Known). z.front) r) (ap (λ (z : Known). z.facts) r), ap (λ (z : Known). z.locks) r, ap (λ (z : Known). z.anchor) r);
   }
 
   -- what a pass knows stays possible
