@@ -1,6 +1,7 @@
 -- What the page of a lawful tree tells of the fork that it got, and how high the nodes of a page are.
 use Rattle.std.proofs.Common.{◌≡◌, inl, inr, ℕ, suc, ◌+◌, ◌*◌, ◌<◌, ◌≤◌, Bool, true, false, List, [], ◌∷◌, ◌++◌, max, ap, sym, ◌∙◌, subst, arith, if◌then◌else◌, nat_lt}
 use Rattle.std.specs.Prelude.{All}
+use Rattle.key_bits.specs.Bits.{bit_of}
 use Rattle.key_bits.specs.declared.TheConstants.{MAX_BYTES}
 use Rattle.pieces.specs.Grafts.{IsAbovePath}
 use Rattle.pieces.specs.Growth.{affected_first, affected_count, grown, IsAffected, IsFresh}
@@ -9,6 +10,7 @@ use Rattle.pieces.proofs.Affected.{affected_again}
 use Rattle.compound_node.specs.Halves.{HalfShows}
 use Rattle.compound_node.specs.Nodes.{NodeView, piece, IsLawful, IsBuiltFrom, IsEntry, height_of, greatest_height}
 use Rattle.compound_node.specs.declared.entries.Entry.{Entry}
+use Rattle.compound_node.specs.declared.entries.Entry.TheVariants.{Leaf}
 use Rattle.compound_node.specs.declared.halves.Half.{Half}
 use Rattle.compound_node.specs.declared.halves.Half.TheVariants.{One, Many, Same}
 use Rattle.tries.specs.Affected.{page_affected, page_forked, page_grown}
@@ -62,7 +64,7 @@ grown_facts p k e (Fork q x y) t is trie = go (nat_lt q p) (bit k q) (grown_fact
     go false o f g is = forked_facts (bit k p) p e (Fork q x y) t is trie
 
 -- the range of the new leaf's place
-pub leaf_range : (k : Key) (p first last : ℕ) (e : Entry) (x : Page) → AffectsJust k p first last x → IsTreePage (page_grown p k e x) → IsAffected x p first last
+leaf_range : (k : Key) (p first last : ℕ) (e : Entry) (x : Page) → AffectsJust k p first last x → IsTreePage (page_grown p k e x) → IsAffected x p first last
 leaf_range k p first last e x a (t, is, trie, built) =
     let again = affected_again p x (spot k x) (spot_below k x) in
     let apart = grown_facts p k e x t is trie in
@@ -72,12 +74,13 @@ leaf_range k p first last e x a (t, is, trie, built) =
       fresh = subst (λ j. IsFresh p j x) a.from ((key_part k p x).fresh apart.1);
     }
 
-pub leaf_position : (k : Key) (p : ℕ) (e : Entry) (x : Page) → IsTreePage (page_grown p k e x) → p < 9 * MAX_BYTES
+leaf_position : (k : Key) (p : ℕ) (e : Entry) (x : Page) → IsTreePage (page_grown p k e x) → p < 9 * MAX_BYTES
 leaf_position k p e x (t, is, trie, built) = (grown_facts p k e x t is trie).0
 
 -- the leaf goes to the side of its bit at the position
-pub leaf_page : (k : Key) (p first last : ℕ) (e : Entry) (x : Page) → AffectsJust k p first last x → (u : Bool) → u ≡ bit k p → grown p u e first x ≡ page_grown p k e x
-leaf_page k p first last e x affects u is = ap (λ o. grown p o e first x) is ∙ (ap (λ j. grown p (bit k p) e j x) (sym affects.from) ∙ (key_part k p x).grows e)
+pub leaf_page : {k : Key} {p first last : ℕ} {x : Page} {u : Bool} (e : Entry) → AffectsJust k p first last x → u ≡ bit_of k p → grown p u e first x ≡ page_grown p k e x
+unfolding bit
+leaf_page {k} {p} {first} {last} {x} {u} e affects is = ap (λ o. grown p o e first x) is ∙ (ap (λ j. grown p (bit k p) e j x) (sym affects.from) ∙ (key_part k p x).grows e)
 
 -- ---- a fork in the place of an entry
 -- the tree that the fork begins
@@ -136,7 +139,7 @@ greatest_forked : (u : Bool) (p : ℕ) (e : Entry) (x : Page) → greatest_heigh
 greatest_forked true p e x = omega (arith, greatest-append (places x) (e ∷ []))
 greatest_forked false p e x = omega arith
 
-pub greatest_leaf : (p : ℕ) (k : Key) (e : Entry) (x : Page) → greatest_height (places (page_grown p k e x)) ≤ max (height_of e) (greatest_height (places x))
+greatest_leaf : (p : ℕ) (k : Key) (e : Entry) (x : Page) → greatest_height (places (page_grown p k e x)) ≤ max (height_of e) (greatest_height (places x))
 greatest_leaf p k e (Place d) = greatest_forked (bit k p) p e (Place d)
 greatest_leaf p k e (Fork q x y) = go (nat_lt q p) (bit k q) (greatest_leaf p k e x) (greatest_leaf p k e y)
   where
@@ -147,6 +150,19 @@ greatest_leaf p k e (Fork q x y) = go (nat_lt q p) (bit k q) (greatest_leaf p k 
     go true true f g = omega (arith, g, greatest-append (places x) (places y), greatest-append (places x) (places (page_grown p k e y)))
     go true false f g = omega (arith, f, greatest-append (places x) (places y), greatest-append (places (page_grown p k e x)) (places y))
     go false o f g = greatest_forked (bit k p) p e (Fork q x y)
+
+-- a new leaf's range and position at a node, and that all entries of the page with it are lower than the node
+pub record FitsLeaf (k : Key) (p first last n : ℕ) (v : NodeView) : Type 0 where
+  pub range : IsAffected (piece v) p first last
+  pub position : p < 9 * MAX_BYTES
+  pub low : greatest_height (places (page_grown p k (Leaf n) (piece v))) < v.height
+
+pub fits_leaf : {k : Key} {p first last : ℕ} {v : NodeView} (n : ℕ) → IsLawful v → AffectsJust k p first last (piece v) → IsTreePage (page_grown p k (Leaf n) (piece v)) → FitsLeaf k p first last n v
+fits_leaf {k} {p} {first} {last} {v} n l affects tree = record {
+  range = leaf_range k p first last (Leaf n) (piece v) affects tree;
+  position = leaf_position k p (Leaf n) (piece v) tree;
+  low = omega (arith, greatest_leaf p k (Leaf n) (piece v), entries_under v l, height_positive v l);
+}
 
 pub greatest_put : (k : Key) (r x : Page) → greatest_height (places (with_page k r x)) ≤ max (greatest_height (places r)) (greatest_height (places x))
 greatest_put k r (Place d) = omega arith

@@ -30,5 +30,4 @@ pub use pairing::pair_leaf;
 pub use plan::{Ask, Deed, Found, Full, Outline, Plan, Span, plan_beside, plan_call};
 pub use publishing::{make_leaf, publish_change};
 pub use putting::put_leaf;
-pub use remaking::{add_leaf, full_with_leaf, pair_with_leaf, with_fork, without_leaf};
 pub use taking::take_leaf;

@@ -17,7 +17,7 @@ use key_bits::Key;
 
 /// Puts a new leaf for the key into a node with room, beside the entries from `first` to `last`: those that the position
 /// affects.
-pub fn add_leaf(node: &mut Node, key: &Key, position: u16, first: u8, last: u8, leaf: u32)
+pub(crate) fn add_leaf(node: &mut Node, key: &Key, position: u16, first: u8, last: u8, leaf: u32)
     requires room { length node.old.entries < 32 }
     requires affects { AffectsJust key.now position first last (piece node.old) }
     requires tree { IsTreePage (page_grown position key.now (Entry.Leaf leaf) (piece node.old)) }
@@ -31,7 +31,7 @@ pub fn add_leaf(node: &mut Node, key: &Key, position: u16, first: u8, last: u8, 
 
 /// The two sides of a full node's first fork, with a new leaf for the key beside the entries from `first` to `last`: those
 /// that the position affects. Where the position is before that fork, the node is one side as it is.
-pub fn full_with_leaf(
+pub(crate) fn full_with_leaf(
     node: &Node,
     key: &Key,
     position: u16,
@@ -54,7 +54,7 @@ pub fn full_with_leaf(
 
 /// The node with a fork of two entries in the place of the one to which the key's search leads. A full node gives the
 /// two sides of its first fork.
-pub fn with_fork(node: &Node, key: &Key, position: u16, zero: Entry, one: Entry) -> Grown
+pub(crate) fn with_fork(node: &Node, key: &Key, position: u16, zero: Entry, one: Entry) -> Grown
     requires tree { IsTreePage (with_page key.now (Fork position (At zero) (At one)) (piece node.now)) }
     requires zero { height_of zero < node.now.height }
     requires one { height_of one < node.now.height }
@@ -69,7 +69,7 @@ pub fn with_fork(node: &Node, key: &Key, position: u16, zero: Entry, one: Entry)
 }
 
 /// The node without the entry to which the key's search leads.
-pub fn without_leaf(node: &Node, key: &Key) -> Half
+pub(crate) fn without_leaf(node: &Node, key: &Key) -> Half
     ensures shows { HalfShows result (page_without key.now (piece node.now)) }
     ensures low { IsLowHalf node.now.height result }
 {
@@ -79,7 +79,7 @@ pub fn without_leaf(node: &Node, key: &Key) -> Half
 }
 
 /// A node of an entry and a new leaf for the key, with a fork at the position.
-pub fn pair_with_leaf(key: &Key, position: u16, old: Entry, leaf: u32) -> Node
+pub(crate) fn pair_with_leaf(key: &Key, position: u16, old: Entry, leaf: u32) -> Node
     requires { IsTreePage (page_forked (bit key.now position) position (Entry.Leaf leaf) (At old)) }
     ensures { IsBuiltFrom result (page_forked (bit key.now position) position (Entry.Leaf leaf) (At old)) }
 {
