@@ -201,46 +201,14 @@ fn make_grown<G: Gate>(
     ensures few { seat.new.known.steps ≤ seat.old.known.steps + 2 * node_steps table.now.layout }
 {
     if node.count() == 32 {
-        return make_halves(
-            table, seat, gate, build, old, node, key, position, first, last, leaf,
-        );
+        let grown = full_with_leaf(node, key, position, first, last, leaf);
+        let stays = stays_whole(&grown);
+        let risen = make_risen(table, seat, gate, build, old, &grown)?;
+        return Some((risen, stays));
     }
     add_leaf(node, key, position, first, last, leaf);
     let entry = make_node(table, seat, gate, build, node)?;
     Some((Risen::Whole(entry), false))
-}
-
-/// What comes in the place of a full node that gets a new leaf, and whether the node stays whole.
-fn make_halves<G: Gate>(
-    table: &HotTable,
-    seat: &mut TableSeat,
-    gate: &mut G,
-    build: &mut Build,
-    old: Entry,
-    node: &Node,
-    key: &Key,
-    position: u16,
-    first: u8,
-    last: u8,
-    leaf: u32,
-) -> Option<(Risen, bool)>
-    requires full { length node.now.entries ≡ 32 }
-    requires building { (news : List Made) × IsBuilding table.now seat.old build.old.made.items news }
-    requires affects { AffectsJust key.now position first last (piece node.now) }
-    requires tree { IsTreePage (page_grown position key.now (Entry.Leaf leaf) (piece node.now)) }
-    requires room { length build.old.made.items + 1 < MOST_MADE }
-    ensures goes { WorksOn table.now G.becomes (seat.old, gate.old) (seat.new, gate.new) }
-    ensures made { (news : List Made) → IsBuilding table.now seat.old build.old.made.items news → MatchOption result
-        (HasNotMade table.now seat.old seat.new build.new.made.items)
-        (λ r. (after : List Made) × IsGrownFrom old node.now (page_grown position key.now (Entry.Leaf leaf) (piece node.now)) position r.0 r.1 news after ×
-        IsBuilding table.now seat.new build.new.made.items after) }
-    ensures more { length build.new.made.items ≤ length build.old.made.items + 2 }
-    ensures few { seat.new.known.steps ≤ seat.old.known.steps + 2 * node_steps table.now.layout }
-{
-    let grown = full_with_leaf(node, key, position, first, last, leaf);
-    let stays = stays_whole(&grown);
-    let risen = make_risen(table, seat, gate, build, old, &grown)?;
-    Some((risen, stays))
 }
 
 /// What comes in the place of the lowest node, which gets a new leaf; and whether the node stays whole.

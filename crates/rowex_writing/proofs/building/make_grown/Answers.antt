@@ -1,7 +1,24 @@
--- A node with room is stored anew with the leaf in it.
-use Rattle.std.proofs.Common.{◌≡◌, ◌<◌, false, true, refl, length, arith}
+-- A full node gives its two sides; a node with room is stored anew with the leaf in it.
+use Rattle.std.proofs.Common.{◌≡◌, ◌<◌, false, true, refl, sym, ◌∙◌, length, arith}
 use Rattle.insert_cases.specs.declared.growth.Grown.TheVariants.{One as Single}
 use Rattle.rowex_writing.proofs.building.make_grown.Goals as goal
+
+pub returns-then-count-eq32-clause-made : goal.returns-then-count-eq32-clause-made
+returns-then-count-eq32-clause-made g c = λ news b.
+    let (after, made, now) = c.in_ok-risen.ensures.made news b in
+    let e = c.full_with_leaf-grown.ensures in (
+      after,
+      record {
+        grown = c.full_with_leaf-grown.result;
+        shows = e.shows;
+        whole = (λ t. absurd (let z : false ≡ true = sym e.whole ∙ t in cc), λ room. absurd (omega (arith, c.if-count-eq32.true, c.count.ensures.count, room)));
+        keeps = c.stays_whole-stays.ensures;
+        above = e.same.0;
+        low = e.low;
+        made = made;
+      },
+      now,
+    )
 
 pub returns-clause-made : goal.returns-clause-made
 returns-clause-made g c = λ news b.
