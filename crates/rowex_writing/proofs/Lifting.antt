@@ -38,7 +38,7 @@ use Rattle.rowex_table.specs.Seats.{TableView, SeatView}
 use Rattle.rowex_rights.specs.Stages.{HasLeaf, HasRisen, IsAbove}
 use Rattle.rowex_rights.proofs.Rising.{risen_stays, rises_pulled, rises_wrapped, rise_grows}
 use Rattle.rowex_rights.specs.Rises.{of_view, of_leaf, IsSide, anew, HasFoundBelow}
-use Rattle.rowex_writing.specs.Building.{IsBuilding, IsHalfMade, IsMadeFrom, IsRaising, IsBelow, IsLowest, IsLowRisen, IsNextTo, IsRisenAt, IsSingle, IsSplit, FitsAbove, IsChain, IsUp, IsGrowing, IsGrownFrom, HasNotMade, HasRisenTo, gone_unless, gone_with}
+use Rattle.rowex_writing.specs.Building.{IsBuilding, IsHalfMade, IsMadeFrom, IsRaising, IsBelow, IsLevelRisen, IsLowest, IsLowRisen, IsNextTo, IsRisenAt, IsSingle, IsSplit, FitsAbove, IsChain, IsUp, IsGrowing, IsGrownFrom, HasNotMade, HasRisenTo, gone_unless, gone_with}
 use Rattle.rowex_writing.specs.Going.{WorksOn, ReadsOn, HasLocked, IsNodeOf}
 use Rattle.rowex_writing.specs.Remaking.{IsTreePage, AffectsJust, IsLowHalf, IsNoHigher}
 use Rattle.rowex_writing.proofs.Remade.{built_low}
@@ -49,22 +49,16 @@ use Rattle.rowex_writing.proofs.Staging.{risen_page}
 use Rattle.insert_cases.proofs.Climbing.{IsPairOf, pair_facts}
 
 -- ---- heights
-half_made_low : (n h : ℕ) (half : Half) (e : Entry) (news : List Made) → IsLowHalf h half → IsHalfMade (Node n h) half e news → height_of e ≤ h
-half_made_low n h (One x) e news low made = let same = ap height_of made.0 in omega (arith, low)
-half_made_low n h (Many v) e news low made = let same = ap height_of made.1 in omega (arith, low)
-half_made_low n h Same e news low made = let same = ap height_of made.0 in omega arith
+half_made_low : (old : Entry) (h : ℕ) (half : Half) (e : Entry) (news : List Made) → height_of old ≡ h → IsLowHalf h half → IsHalfMade old half e news → height_of e ≤ h
+half_made_low old h (One x) e news tall low made = let same = ap height_of made.0 in omega (arith, low)
+half_made_low old h (Many v) e news tall low made = let same = ap height_of made.1 in omega (arith, low)
+half_made_low old h Same e news tall low made = let same = ap height_of made.0 in omega arith
 
-made_low : (n h : ℕ) (g : Grown) (risen : Risen) (before after : List Made) → IsNoHigher h g → IsMadeFrom (Node n h) g risen before after → IsLowRisen h risen
-made_low n h (Single v) (Whole e) before after low made = let same = ap height_of made.1 in omega (arith, low)
-made_low n h (Single v) (Split q z o) before after low made = elim made [ ]
-made_low n h (Two cut) (Whole e) before after low made = elim made [ ]
-made_low n h (Two cut) (Split q z o) before after low made = (half_made_low n h cut.zero z made.0 low.0 made.3, half_made_low n h cut.one o made.1 low.1 made.4)
-
-pub low_level : (words : List ℕ) (node : NodeView) (n : ℕ) (g : Grown) (answer : Option Risen) (None_made : Type 0) (before : List Made) (Q : Risen → List Made → Type 0) → IsNodeOf words node → IsNoHigher node.height g →
-    MatchOption answer None_made (λ risen. (after : List Made) × IsMadeFrom (Node n node.height) g risen before after × Q risen after) → IfSome answer (IsLowRisen (node_of words).fixed.height)
-low_level words node n g None none before Q is low made = tt
-low_level words node n g (Some risen) none before Q is low (after, made, rest) =
-    subst (λ z. IsLowRisen z risen) (sym (ap (λ (z : NodeWords). z.fixed.height) is.shows)) (made_low n node.height g risen before after low made)
+made_low : (was : Entry) (h : ℕ) (g : Grown) (risen : Risen) (before after : List Made) → height_of was ≡ h → IsNoHigher h g → IsMadeFrom was g risen before after → IsLowRisen h risen
+made_low was h (Single v) (Whole e) before after tall low made = let same = ap height_of made.1 in omega (arith, low)
+made_low was h (Single v) (Split q z o) before after tall low made = elim made [ ]
+made_low was h (Two cut) (Whole e) before after tall low made = elim made [ ]
+made_low was h (Two cut) (Split q z o) before after tall low made = (half_made_low was h cut.zero z made.0 tall low.0 made.3, half_made_low was h cut.one o made.1 tall low.1 made.4)
 
 -- what was made before stays made
 pub made_keeps : (was : Entry) (g : Grown) (risen : Risen) (before after : List Made) → IsMadeFrom was g risen before after → (y : Made) → IsOf y before → IsOf y after
@@ -90,8 +84,8 @@ module _ {G : Type 0} (table : TableView) (becomes : G → Event → G → Type 
   }
 
   -- ---- a fork in the node above
-  module _ (a m : SeatView × G) (made : List Rec) (key : Key) (above position : ℕ) (zero one : Entry) (b : IsBelow table a.0 made key above position zero one) (reads : ReadsOn table becomes a m)
-      (node : NodeView) (shown : (words : List ℕ) → HasLocked a.0.known above words → IsNodeOf words node) where
+  module _ {a m : SeatView × G} {made : List Rec} {key : Key} {above position : ℕ} {zero one : Entry} {node : NodeView} (reads : ReadsOn table becomes a m)
+      (b : IsBelow table a.0 made key above position zero one) (shown : (words : List ℕ) → HasLocked a.0.known above words → IsNodeOf words node) where
     is_node : IsNodeOf b.over.upper node
     is_node = shown b.over.upper b.over.has_upper
 
@@ -104,13 +98,13 @@ module _ {G : Type 0} (table : TableView) (becomes : G → Event → G → Type 
     fork : Page
     fork = Fork position (Place zero) (Place one)
 
-    now : IsRaising table m.0 made b.news b.gone b.since b.item b.mismatch b.like entry b.lower (Fork position (Place zero) (Place one))
-    now = raising_on a m made b.news b.gone b.since b.item b.mismatch b.like entry b.lower (Fork position (Place zero) (Place one)) reads b.raising
+    now : IsRaising table m.0 made b.here.news b.here.gone b.here.since b.here.item b.here.mismatch b.here.like entry b.lower (Fork position (Place zero) (Place one))
+    now = raising_on a m made b.here.news b.here.gone b.here.since b.here.item b.here.mismatch b.here.like entry b.lower (Fork position (Place zero) (Place one)) reads b.here.raising
 
     upper_locked : IsOf (record { node = above; words = b.over.upper }) m.0.known.locks
     upper_locked = subst (IsOf (record { node = above; words = b.over.upper })) (sym reads.goes.stays.1) b.over.has_upper
 
-    still_over : IsAbove m.0.known.locks b.item.key b.mismatch above b.lower
+    still_over : IsAbove m.0.known.locks b.here.item.key b.here.mismatch above b.lower
     still_over = record {
       upper = b.over.upper;
       lower = b.over.lower;
@@ -121,16 +115,16 @@ module _ {G : Type 0} (table : TableView) (becomes : G → Event → G → Type 
       path = b.over.path;
     }
 
-    body_risen : HasRisen table.layout m.0.known m.0.known.locks b.news b.since b.item b.mismatch b.like body above (with_page b.item.key (Fork position (Place zero) (Place one)) (piece node)) b.gone
+    body_risen : HasRisen table.layout m.0.known m.0.known.locks b.here.news b.here.since b.here.item b.here.mismatch b.here.like body above (with_page b.here.item.key (Fork position (Place zero) (Place one)) (piece node)) b.here.gone
     unfolding still_over
     body_risen =
-        subst (λ y. HasRisen table.layout m.0.known m.0.known.locks b.news b.since b.item b.mismatch b.like body above (with_page b.item.key (Fork position (Place zero) (Place one)) y) b.gone) page_is
-        (rises_pulled table.layout m.0.known m.0.known.locks b.news b.gone b.since b.item b.mismatch b.like above b.lower (Fork position (Place zero) (Place one)) still_over now.risen)
+        subst (λ y. HasRisen table.layout m.0.known m.0.known.locks b.here.news b.here.since b.here.item b.here.mismatch b.here.like body above (with_page b.here.item.key (Fork position (Place zero) (Place one)) y) b.here.gone) page_is
+        (rises_pulled table.layout m.0.known m.0.known.locks b.here.news b.here.gone b.here.since b.here.item b.here.mismatch b.here.like above b.lower (Fork position (Place zero) (Place one)) still_over now.risen)
 
     pub lift_tree : IsTreePage (with_page key (Fork position (Place zero) (Place one)) (piece node))
     lift_tree =
         subst (λ k. IsTreePage (with_page k (Fork position (Place zero) (Place one)) (piece node))) (sym b.key_is)
-        (risen_page table.layout m.0.known b.news b.gone b.since b.item b.mismatch b.like body above b.over.upper (with_page b.item.key (Fork position (Place zero) (Place one)) (piece node))
+        (risen_page table.layout m.0.known b.here.news b.here.gone b.here.since b.here.item b.here.mismatch b.here.like body above b.over.upper (with_page b.here.item.key (Fork position (Place zero) (Place one)) (piece node))
         now.building.possible now.building.holds now.building.packed now.leaf upper_locked body_risen)
 
     pub lift_zero : height_of zero < node.height
@@ -139,24 +133,24 @@ module _ {G : Type 0} (table : TableView) (becomes : G → Event → G → Type 
     pub lift_one : height_of one < node.height
     lift_one = let l = b.one_low in omega (arith, height_is)
 
-    pub lift_building : IsBuilding table m.0 made b.news
+    pub lift_building : IsBuilding table m.0 made b.here.news
     lift_building = now.building
 
     -- the node's own records
-    pub lifted : (c : SeatView × G) (after_made : List Rec) (g : Grown) (answer : Option Risen) → GrownShows node g (with_page key (Fork position (Place zero) (Place one)) (piece node)) → keeps_node g ≡ false →
+    pub lifted : (c : SeatView × G) (after_made : List Rec) (was : Entry) (g : Grown) (answer : Option Risen) → GrownShows node g (with_page key (Fork position (Place zero) (Place one)) (piece node)) → keeps_node g ≡ false →
         WorksOn table becomes m c →
-        MatchOption answer (HasNotMade table m.0 c.0 after_made) (λ risen. (after : List Made) × IsMadeFrom (Node above node.height) g risen b.news after × IsBuilding table c.0 after_made after) →
+        MatchOption answer (HasNotMade table m.0 c.0 after_made) (λ risen. (after : List Made) × IsMadeFrom was g risen b.here.news after × IsBuilding table c.0 after_made after) →
         MatchOption answer (HasNotMade table a.0 c.0 after_made)
-        (λ risen. (after : List Made) × IsRaising table c.0 after_made after (a_node above ∷ b.gone) b.since b.item b.mismatch b.like entry above (page_of risen))
-    lifted c after_made g None shows fresh goes made = not_made_since table becomes a m c after_made reads.goes made
-    lifted c after_made g (Some risen) shows fresh goes (after, made, building) = (
+        (λ risen. (after : List Made) × IsRaising table c.0 after_made after (a_node above ∷ b.here.gone) b.here.since b.here.item b.here.mismatch b.here.like entry above (page_of risen))
+    lifted c after_made was g None shows fresh goes made = not_made_since table becomes a m c after_made reads.goes made
+    lifted c after_made was g (Some risen) shows fresh goes (after, made, building) = (
       after,
       record {
         building = building;
-        leaf = (made_keeps (Node above node.height) g risen b.news after made _ now.leaf.0, now.leaf.1);
-        risen = risen_on m c after (a_node above ∷ b.gone) b.since b.item b.mismatch b.like entry above (page_of risen) goes
-            (rises_made table.layout m.0.known m.0.known.locks b.news after b.gone b.since b.item b.mismatch b.like now.leaf above b.over.upper upper_locked node (Node above node.height) g risen
-            (with_page b.item.key (Fork position (Place zero) (Place one)) (piece node))
+        leaf = (made_keeps was g risen b.here.news after made _ now.leaf.0, now.leaf.1);
+        risen = risen_on m c after (a_node above ∷ b.here.gone) b.here.since b.here.item b.here.mismatch b.here.like entry above (page_of risen) goes
+            (rises_made table.layout m.0.known m.0.known.locks b.here.news after b.here.gone b.here.since b.here.item b.here.mismatch b.here.like now.leaf above b.over.upper upper_locked node was g risen
+            (with_page b.here.item.key (Fork position (Place zero) (Place one)) (piece node))
             (subst (λ k. GrownShows node g (with_page k (Fork position (Place zero) (Place one)) (piece node))) b.key_is shows) fresh made body_risen);
       },
     )
@@ -166,8 +160,8 @@ kept_or_not : (stays : Bool) → (stays ≡ true) ⊎ (stays ≡ false)
 kept_or_not true = inl refl
 kept_or_not false = inr refl
 
-module _ {G : Type 0} (table : TableView) (becomes : G → Event → G → Type 0) (a m : SeatView × G) (made : List Rec) (key : Key) (number position first last leaf : ℕ)
-    (b : IsLowest table a.0 made key number position first last leaf) (reads : ReadsOn table becomes a m) (node : NodeView) (shown : (words : List ℕ) → HasLocked a.0.known number words → IsNodeOf words node) where
+module _ {G : Type 0} (table : TableView) (becomes : G → Event → G → Type 0) {a m : SeatView × G} {made : List Rec} {key : Key} {number position first last leaf : ℕ} {node : NodeView}
+    (reads : ReadsOn table becomes a m) (b : IsLowest table a.0 made key number position first last leaf) (shown : (words : List ℕ) → HasLocked a.0.known number words → IsNodeOf words node) where
   low_node : IsNodeOf b.words node
   low_node = shown b.words b.found.locked
 
@@ -229,12 +223,13 @@ module _ {G : Type 0} (table : TableView) (becomes : G → Event → G → Type 
           })
 
   -- the same, or no record for it
-  pub lowest_made : (c : SeatView × G) (after_made : List Rec) (answer : Option (Risen × Bool)) → WorksOn table becomes m c →
+  pub lowest_made : (c : SeatView × G) (after_made : List Rec) (h : ℕ) → h ≡ node.height → (answer : Option (Risen × Bool)) → WorksOn table becomes m c →
       MatchOption answer (HasNotMade table m.0 c.0 after_made)
-      (λ r. (after : List Made) × IsGrownFrom (Node number node.height) node (page_grown position key (Leaf leaf) (piece node)) position r.0 r.1 (of_leaf b.item ∷ []) after × IsBuilding table c.0 after_made after) →
+      (λ r. (after : List Made) × IsGrownFrom (Node number h) node (page_grown position key (Leaf leaf) (piece node)) position r.0 r.1 (of_leaf b.item ∷ []) after × IsBuilding table c.0 after_made after) →
       MatchOption answer (HasNotMade table a.0 c.0 after_made) (λ r. (after : List Made) × IsRaising table c.0 after_made after (gone_unless r.1 number) b.since b.item position b.like entry number (page_of r.0))
-  lowest_made c after_made None goes made = not_made_since table becomes a m c after_made reads.goes made
-  lowest_made c after_made (Some r) goes (after, grown, building) = (after, lowered c after_made grown.grown r.1 r.0 grown.shows grown.keeps grown.above goes after grown.made building)
+  lowest_made c after_made h tall None goes made = not_made_since table becomes a m c after_made reads.goes made
+  lowest_made c after_made h tall (Some r) goes (after, grown, building) =
+      (after, lowered c after_made grown.grown r.1 r.0 grown.shows grown.keeps grown.above goes after (subst (λ z. IsMadeFrom (Node number z) grown.grown r.0 (of_leaf b.item ∷ []) after) tall grown.made) building)
 
 -- ---- without a leaf
 pub left_over : {G : Type 0} (table : TableView) (becomes : G → Event → G → Type 0) (a m c : SeatView × G) (after_made : List Rec) (key : Key) (words : List ℕ) (node : NodeView) (half : Half) (old : Entry) (answer : Option Entry) →
@@ -248,10 +243,10 @@ left_over table becomes a m c after_made key words node half old (Some e) goes i
   subst (IsBuilding table c.0 after_made) (append-nil more) building,
 )
 
-pub left_low : (words : List ℕ) (node : NodeView) (n : ℕ) (half : Half) (answer : Option Entry) (None_made : Type 0) (Q : Entry → List Made → Type 0) → IsNodeOf words node → IsLowHalf node.height half →
-    MatchOption answer None_made (λ e. (more : List Made) × IsHalfMade (Node n node.height) half e more × Q e more) → IfSome answer (λ e. height_of e ≤ (node_of words).fixed.height)
-left_low words node n half None none Q is low made = tt
-left_low words node n half (Some e) none Q is low (more, made, rest) = let same = ap (λ (z : NodeWords). z.fixed.height) is.shows in omega (arith, half_made_low n node.height half e more low made)
+pub left_low : (words : List ℕ) (node : NodeView) (old : Entry) (half : Half) (answer : Option Entry) (None_made : Type 0) (Q : List Made → Type 0) → IsNodeOf words node → height_of old ≡ node.height → IsLowHalf node.height half →
+    MatchOption answer None_made (λ e. (more : List Made) × IsHalfMade old half e more × Q more) → IfSome answer (λ e. height_of e ≤ (node_of words).fixed.height)
+left_low words node old half None none Q is tall low made = tt
+left_low words node old half (Some e) none Q is tall low (more, made, rest) = let same = ap (λ (z : NodeWords). z.fixed.height) is.shows in omega (arith, half_made_low old node.height half e more tall low made)
 
 -- ---- a pair
 pub paired : (table : TableView) (a c : SeatView) (after_made : List Rec) (news : List Made) (view : NodeView) (shown : Page) (answer : Option Entry) → IsBuiltFrom view shown →
@@ -303,38 +298,32 @@ split_made was (Single v) risen before after cut made = absurd (cut refl)
 split_made was (Two cut) (Whole e) before after two made = elim made [ ]
 split_made was (Two cut) (Split q z o) before after two made = tt
 
-pub split_level : (words : List ℕ) (node : NodeView) (was : Entry) (g : Grown) (answer : Option Risen) (None_made : Type 0) (before : List Made) (Q : Risen → List Made → Type 0) → IsNodeOf words node →
-    (IsTrue (is_whole g) ↔ (length node.entries < 32)) → size (node_of words).page ≡ 32 →
-    MatchOption answer None_made (λ risen. (after : List Made) × IsMadeFrom was g risen before after × Q risen after) → IfSome answer IsSplit
-split_level words node was g None none before Q is whole full made = tt
-split_level words node was g (Some risen) none before Q is whole full (after, made, rest) =
-    let long : length node.entries ≡ 32 = sym (size-piece node is.has.lawful) ∙ (ap size (sym (ap (λ (z : NodeWords). z.page) is.shows)) ∙ full) in
-    split_made was g risen before after (λ t. absurd (let l = whole.0 t in omega (arith, long))) made
-
 -- and a node with room gives one entry
 single_made : (was : Entry) (g : Grown) (risen : Risen) (before after : List Made) → IsTrue (is_whole g) → IsMadeFrom was g risen before after → IsSingle risen
 single_made was (Single v) (Whole e) before after whole made = tt
 single_made was (Single v) (Split q z o) before after whole made = elim made [ ]
 single_made was (Two cut) risen before after whole made = absurd (let z : false ≡ true = whole in cc)
 
-pub single_level : (words : List ℕ) (node : NodeView) (was : Entry) (g : Grown) (answer : Option Risen) (None_made : Type 0) (before : List Made) (Q : Risen → List Made → Type 0) → IsNodeOf words node →
-    (IsTrue (is_whole g) ↔ (length node.entries < 32)) → size (node_of words).page < 32 →
-    MatchOption answer None_made (λ risen. (after : List Made) × IsMadeFrom was g risen before after × Q risen after) → IfSome answer IsSingle
-single_level words node was g None none before Q is whole room made = tt
-single_level words node was g (Some risen) none before Q is whole room (after, made, rest) =
+-- so what has risen from the node with these words; and the same where a claim may have failed, of a fork and of a leaf
+level_made : (words : List ℕ) (node : NodeView) (was : Entry) (g : Grown) (risen : Risen) (before after : List Made) → IsNodeOf words node → height_of was ≡ node.height → IsNoHigher node.height g →
+    (IsTrue (is_whole g) ↔ (length node.entries < 32)) → IsMadeFrom was g risen before after → IsLevelRisen words risen
+level_made words node was g risen before after is tall low whole made =
     let long : length node.entries ≡ size (node_of words).page = sym (size-piece node is.has.lawful) ∙ ap size (sym (ap (λ (z : NodeWords). z.page) is.shows)) in
-    single_made was g risen before after (whole.1 (omega (arith, long))) made
+    record {
+      low = subst (λ h. IsLowRisen h risen) (sym (ap (λ (z : NodeWords). z.fixed.height) is.shows)) (made_low was node.height g risen before after tall low made);
+      split = λ full. split_made was g risen before after (λ t. absurd (let l = whole.0 t in omega (arith, long, full))) made;
+      single = λ room. single_made was g risen before after (whole.1 (omega (arith, long, room))) made;
+    }
 
--- all three, of a node that gets a leaf
-pub leaf_level : (words : List ℕ) (node : NodeView) (n : ℕ) (shown : Page) (p : ℕ) (answer : Option (Risen × Bool)) (None_made : Type 0) (before : List Made) (Q : List Made → Type 0) → IsNodeOf words node →
-    MatchOption answer None_made (λ r. (after : List Made) × IsGrownFrom (Node n node.height) node shown p r.0 r.1 before after × Q after) →
-    IfSome answer (λ r. IsLowRisen (node_of words).fixed.height r.0) × (size (node_of words).page ≡ 32 → IfSome answer (λ r. IsSplit r.0)) × (size (node_of words).page < 32 → IfSome answer (λ r. IsSingle r.0))
-leaf_level words node n shown p None none before Q is made = (tt, λ full. tt, λ room. tt)
-leaf_level words node n shown p (Some r) none before Q is (after, grown, rest) = (
-  low_level words node n grown.grown (Some r.0) none before (λ risen more. Q more) is grown.low (after, grown.made, rest),
-  λ full. split_level words node (Node n node.height) grown.grown (Some r.0) none before (λ risen more. Q more) is grown.whole full (after, grown.made, rest),
-  λ room. single_level words node (Node n node.height) grown.grown (Some r.0) none before (λ risen more. Q more) is grown.whole room (after, grown.made, rest),
-)
+pub fork_level : (words : List ℕ) (node : NodeView) (was : Entry) (g : Grown) (answer : Option Risen) (None_made : Type 0) (before : List Made) (Q : List Made → Type 0) → IsNodeOf words node → height_of was ≡ node.height → IsNoHigher node.height g →
+    (IsTrue (is_whole g) ↔ (length node.entries < 32)) → MatchOption answer None_made (λ risen. (after : List Made) × IsMadeFrom was g risen before after × Q after) → IfSome answer (IsLevelRisen words)
+fork_level words node was g None none before Q is tall low whole made = tt
+fork_level words node was g (Some risen) none before Q is tall low whole (after, made, rest) = level_made words node was g risen before after is tall low whole made
+
+pub leaf_level : (words : List ℕ) (node : NodeView) (was : Entry) (shown : Page) (p : ℕ) (answer : Option (Risen × Bool)) (None_made : Type 0) (before : List Made) (Q : List Made → Type 0) → IsNodeOf words node → height_of was ≡ node.height →
+    MatchOption answer None_made (λ r. (after : List Made) × IsGrownFrom was node shown p r.0 r.1 before after × Q after) → IfSome answer (λ r. IsLevelRisen words r.0)
+leaf_level words node was shown p None none before Q is tall made = tt
+leaf_level words node was shown p (Some r) none before Q is tall (after, grown, rest) = level_made words node was grown.grown r.0 before after is tall grown.low grown.whole grown.made
 
 -- ---- the height of what has risen, as one entry
 pub whole_height : (h : ℕ) (e : Entry) (risen : Risen) → risen ≡ Whole e → IsLowRisen h risen → IsNextTo h risen e
@@ -355,57 +344,72 @@ fits_above words risen None single low = tt
 fits_above words risen (Some e) single low = (low.0, λ room. low.1 (single room))
 
 -- ---- on upwards
+-- under another name for the node, or for what has risen
+abbrev risen_as : (table : TableView) (a : SeatView) (made : List Rec) (n m : ℕ) (risen then : Risen) → n ≡ m → risen ≡ then → IsRisenAt table a made n risen → IsRisenAt table a made m then
+risen_as table a made n m risen then same is here = record {
+  news = here.news;
+  gone = here.gone;
+  since = here.since;
+  item = here.item;
+  mismatch = here.mismatch;
+  like = here.like;
+  words = here.words;
+  locked = subst (λ k. HasLocked a.known k here.words) same here.locked;
+  raising = subst (λ (y : Risen). IsRaising table a made here.news here.gone here.since here.item here.mismatch here.like entry m (page_of y)) is
+      (subst (λ k. IsRaising table a made here.news here.gone here.since here.item here.mismatch here.like entry k (page_of risen)) same here.raising);
+}
+
 module _ (table : TableView) (a : SeatView) (made : List Rec) (way : List Step) (key : Key) (end level : ℕ) (risen : Risen) (up : IsUp table a made way key end level risen) (above : ℕ) (next : above + 1 ≡ level)
     (upto : end ≤ above) (s : Step) (at : slice_get way above ≡ Some s) where
-  abbrev pub up_over : (over : IsAbove a.known.locks up.item.key up.mismatch s.number up.step.number) × ((node_of over.lower).fixed.height < (node_of over.upper).fixed.height)
+  abbrev pub up_over : (over : IsAbove a.known.locks up.here.item.key up.here.mismatch s.number up.step.number) × ((node_of over.lower).fixed.height < (node_of over.upper).fixed.height)
   up_over = up.chain.above above s up.step upto (omega arith) at (ap (slice_get way) next ∙ up.at)
 
   pub up_there : s.number < table.layout.nodes
   up_there = up.chain.there above s (omega arith) at
 
   abbrev pub up_below : (q : ℕ) (z o : Entry) → risen ≡ Split q z o → IsBelow table a made key s.number q z o
-  up_below q z o is = record {
-    news = up.news;
-    gone = up.gone;
-    since = up.since;
-    item = up.item;
-    mismatch = up.mismatch;
-    like = up.like;
-    lower = up.step.number;
-    key_is = up.key_is;
-    raising = subst (λ (y : Risen). IsRaising table a made up.news up.gone up.since up.item up.mismatch up.like entry up.step.number (page_of y)) is up.raising;
-    over = up_over.0;
-    zero_low = let l : IsLowRisen (node_of up_over.0.lower).fixed.height (Split q z o) = subst (IsLowRisen (node_of up_over.0.lower).fixed.height) is (up.low up_over.0.lower up_over.0.has_lower) in let h = up_over.1 in omega (arith, l.0);
-    one_low = let l : IsLowRisen (node_of up_over.0.lower).fixed.height (Split q z o) = subst (IsLowRisen (node_of up_over.0.lower).fixed.height) is (up.low up_over.0.lower up_over.0.has_lower) in let h = up_over.1 in omega (arith, l.1);
-  }
+  up_below q z o is =
+      let sides : IsLowRisen (node_of up_over.0.lower).fixed.height (Split q z o) = subst (IsLowRisen (node_of up_over.0.lower).fixed.height) is (up.low up_over.0.lower up_over.0.has_lower) in
+      let h = up_over.1 in
+      record {
+        lower = up.step.number;
+        here = risen_as table a made up.step.number up.step.number risen (Split q z o) refl is up.here;
+        key_is = up.key_is;
+        over = up_over.0;
+        zero_low = omega (arith, sides.0);
+        one_low = omega (arith, sides.1);
+      }
 
-  abbrev pub up_next : (m : SeatView) (made_then : List Rec) (then : Risen) → m.known.locks ≡ a.known.locks → (after : List Made) → IsRaising table m made_then after (a_node s.number ∷ up.gone) up.since up.item up.mismatch up.like entry s.number (page_of then) →
-      ((words : List ℕ) → HasLocked a.known s.number words → IsLowRisen (node_of words).fixed.height then) → ((words : List ℕ) → HasLocked a.known s.number words → size (node_of words).page ≡ 32 → IsSplit then) →
-      ((words : List ℕ) → HasLocked a.known s.number words → size (node_of words).page < 32 → IsSingle then) →
-      IsUp table m made_then way key end above then
-  up_next m made_then then locks after raising low split single = record {
-    news = after;
-    gone = a_node s.number ∷ up.gone;
-    since = up.since;
-    item = up.item;
-    mismatch = up.mismatch;
-    like = up.like;
-    key_is = up.key_is;
-    step = s;
-    at = at;
-    upto = upto;
-    words = up_over.0.upper;
-    locked = subst (IsOf (record { node = s.number; words = up_over.0.upper })) (sym locks) up_over.0.has_upper;
-    raising = raising;
-    low = λ other h. low other (subst (IsOf (record { node = s.number; words = other })) locks h);
-    single = λ other h. single other (subst (IsOf (record { node = s.number; words = other })) locks h);
-    split = λ more. split up_over.0.upper up_over.0.has_upper (up.chain.full above s more (omega arith) at up_over.0.upper up_over.0.has_upper);
-    chain = subst (λ held. IsChain table.layout.nodes held way up.item.key up.mismatch end above) (sym locks) (record {
-      there = λ i u l e. up.chain.there i u (omega arith) e;
-      above = λ i u v l h e f. up.chain.above i u v l (omega arith) e f;
-      full = λ i u l h e. up.chain.full i u l (omega arith) e;
-    });
-  }
+  abbrev pub up_next : (m : SeatView) (made_then : List Rec) (then : Risen) → m.known.locks ≡ a.known.locks → (after : List Made) →
+      IsRaising table m made_then after (a_node s.number ∷ up.here.gone) up.here.since up.here.item up.here.mismatch up.here.like entry s.number (page_of then) →
+      ((words : List ℕ) → HasLocked a.known s.number words → IsLevelRisen words then) → IsUp table m made_then way key end above then
+  up_next m made_then then locks after raising rises =
+      let before : (words : List ℕ) → HasLocked m.known s.number words → HasLocked a.known s.number words = λ words. subst (IsOf (record { node = s.number; words = words })) locks in
+      record {
+        step = s;
+        at = at;
+        upto = upto;
+        here = record {
+          news = after;
+          gone = a_node s.number ∷ up.here.gone;
+          since = up.here.since;
+          item = up.here.item;
+          mismatch = up.here.mismatch;
+          like = up.here.like;
+          words = up_over.0.upper;
+          locked = subst (IsOf (record { node = s.number; words = up_over.0.upper })) (sym locks) up_over.0.has_upper;
+          raising = raising;
+        };
+        key_is = up.key_is;
+        low = λ other h. (rises other (before other h)).low;
+        split = λ more. (rises up_over.0.upper up_over.0.has_upper).split (up.chain.full above s more (omega arith) at up_over.0.upper up_over.0.has_upper);
+        single = λ other h. (rises other (before other h)).single;
+        chain = subst (λ held. IsChain table.layout.nodes held way up.here.item.key up.here.mismatch end above) (sym locks) (record {
+          there = λ i u l e. up.chain.there i u (omega arith) e;
+          above = λ i u v l h e f. up.chain.above i u v l (omega arith) e f;
+          full = λ i u l h e. up.chain.full i u l (omega arith) e;
+        });
+      }
 
 -- the nodes that go, one more
 pub gone_more : (way : List Step) (end above level : ℕ) (gone : List Rec) (s : Step) → above + 1 ≡ level → end ≤ above → slice_get way above ≡ Some s → gone_with way end above (a_node s.number ∷ gone) ≡ gone_with way end level gone
@@ -423,20 +427,9 @@ gone_none way end gone =
     ap (λ z. map (λ (s : Step). a_node s.number) z ++ gone) (ap (λ n. drop end (take n way)) (sym zero) ∙ drop-take end 0 way)
 
 -- the end of the way up, and one level of it
-abbrev pub up_end : (table : TableView) (a : SeatView) (made : List Rec) (way : List Step) (key : Key) (end level number : ℕ) (risen : Risen) → level ≡ end → (up : IsUp table a made way key end level risen) → number ≡ up.step.number →
+abbrev pub up_end : (table : TableView) (a : SeatView) (made : List Rec) (way : List Step) (key : Key) (end level number : ℕ) (risen : Risen) → (up : IsUp table a made way key end level risen) → number ≡ up.step.number →
     IsRisenAt table a made number risen
-up_end table a made way key end level number risen same up is =
-    record {
-      news = up.news;
-      gone = up.gone;
-      since = up.since;
-      item = up.item;
-      mismatch = up.mismatch;
-      like = up.like;
-      words = up.words;
-      locked = subst (λ n. HasLocked a.known n up.words) (sym is) up.locked;
-      raising = subst (λ n. IsRaising table a made up.news up.gone up.since up.item up.mismatch up.like entry n (page_of risen)) (sym is) up.raising;
-    }
+up_end table a made way key end level number risen up is = risen_as table a made up.step.number number risen risen (sym is) refl up.here
 
 pub up_done : {G : Type 0} (table : TableView) (becomes : G → Event → G → Type 0) (a m c : SeatView × G) (made : List Rec) (way : List Step) (since : ℕ) (x : Item) (p : ℕ) (l : Key) (end above level : ℕ) (gone : List Rec) (s : Step) →
     above + 1 ≡ level → end ≤ above → slice_get way above ≡ Some s → WorksOn table becomes a m → (answer : Option Entry) →
@@ -447,16 +440,16 @@ up_done table becomes a m c made way since x p l end above level gone s next upt
     subst (λ g. HasRisenTo table c.0 made way since x p l end g e) (gone_more way end above level gone s next upto at) answer
 
 pub settled_up : (table : TableView) (a c : SeatView) (made after_made : List Rec) (way : List Step) (key : Key) (end level number : ℕ) (risen : Risen) (same : level ≡ end) (up : IsUp table a made way key end level risen) (is : number ≡ up.step.number) → (answer : Option Entry) →
-    MatchOption answer (HasNotMade table a c after_made) (λ e. (after : List Made) × IsRaising table c after_made after up.gone up.since up.item up.mismatch up.like entry number (Place e)) →
-    MatchOption answer (HasNotMade table a c after_made) (HasRisenTo table c after_made way up.since up.item up.mismatch up.like end (gone_with way end level up.gone))
+    MatchOption answer (HasNotMade table a c after_made) (λ e. (after : List Made) × IsRaising table c after_made after up.here.gone up.here.since up.here.item up.here.mismatch up.here.like entry number (Place e)) →
+    MatchOption answer (HasNotMade table a c after_made) (HasRisenTo table c after_made way up.here.since up.here.item up.here.mismatch up.here.like end (gone_with way end level up.here.gone))
 settled_up table a c made after_made way key end level number risen same up is None answer = answer
 settled_up table a c made after_made way key end level number risen same up is (Some e) (after, raising) =
-    let gone : gone_with way end level up.gone ≡ up.gone = ap (λ n. gone_with way end n up.gone) same ∙ gone_none way end up.gone in (
+    let gone : gone_with way end level up.here.gone ≡ up.here.gone = ap (λ n. gone_with way end n up.here.gone) same ∙ gone_none way end up.here.gone in (
       after,
       up.step,
       ap (slice_get way) (sym same) ∙ up.at,
-      subst (λ n. IsRaising table c after_made after (gone_with way end level up.gone) up.since up.item up.mismatch up.like entry n (Place e)) is
-          (subst (λ y. IsRaising table c after_made after y up.since up.item up.mismatch up.like entry number (Place e)) (sym gone) raising),
+      subst (λ n. IsRaising table c after_made after (gone_with way end level up.here.gone) up.here.since up.here.item up.here.mismatch up.here.like entry n (Place e)) is
+          (subst (λ y. IsRaising table c after_made after y up.here.since up.here.item up.here.mismatch up.here.like entry number (Place e)) (sym gone) raising),
     )
 
 -- ---- all of a span
@@ -477,25 +470,28 @@ module _ (table : TableView) (a : SeatView) (made : List Rec) (way : List Step) 
 
   abbrev pub up_first : (m : SeatView) (made_then : List Rec) (then : Risen) (stays : Bool) → m.known.locks ≡ a.known.locks → (after : List Made) →
       IsRaising table m made_then after (gone_unless stays number) b.lowest.since b.lowest.item position b.lowest.like entry number (page_of then) →
-      ((words : List ℕ) → HasLocked a.known number words → IsLowRisen (node_of words).fixed.height then) → ((words : List ℕ) → HasLocked a.known number words → size (node_of words).page ≡ 32 → IsSplit then) →
-      ((words : List ℕ) → HasLocked a.known number words → size (node_of words).page < 32 → IsSingle then) →
-      IsUp table m made_then way key end top then
-  up_first m made_then then stays locks after raising low split single = record {
-    news = after;
-    gone = gone_unless stays number;
-    since = b.lowest.since;
-    item = b.lowest.item;
-    mismatch = position;
-    like = b.lowest.like;
-    key_is = b.lowest.key_is;
-    step = b.step;
-    at = b.at;
-    upto = b.upto;
-    words = b.lowest.words;
-    locked = subst (IsOf (record { node = b.step.number; words = b.lowest.words })) (sym locks) b.lowest.found.locked;
-    raising = subst (λ n. IsRaising table m made_then after (gone_unless stays number) b.lowest.since b.lowest.item position b.lowest.like entry n (page_of then)) is raising;
-    low = λ other h. low other (subst (λ n. HasLocked a.known n other) (sym is) (subst (IsOf (record { node = b.step.number; words = other })) locks h));
-    single = λ other h. single other (subst (λ n. HasLocked a.known n other) (sym is) (subst (IsOf (record { node = b.step.number; words = other })) locks h));
-    split = λ more. split b.lowest.words (subst (λ n. HasLocked a.known n b.lowest.words) (sym is) b.lowest.found.locked) (b.full more);
-    chain = subst (λ held. IsChain table.layout.nodes held way b.lowest.item.key position end top) (sym locks) b.chain;
-  }
+      ((words : List ℕ) → HasLocked a.known number words → IsLevelRisen words then) → IsUp table m made_then way key end top then
+  up_first m made_then then stays locks after raising rises =
+      let before : (words : List ℕ) → HasLocked m.known b.step.number words → HasLocked a.known number words =
+      λ words h. subst (λ n. HasLocked a.known n words) (sym is) (subst (IsOf (record { node = b.step.number; words = words })) locks h) in
+      record {
+        step = b.step;
+        at = b.at;
+        upto = b.upto;
+        here = record {
+          news = after;
+          gone = gone_unless stays number;
+          since = b.lowest.since;
+          item = b.lowest.item;
+          mismatch = position;
+          like = b.lowest.like;
+          words = b.lowest.words;
+          locked = subst (IsOf (record { node = b.step.number; words = b.lowest.words })) (sym locks) b.lowest.found.locked;
+          raising = subst (λ n. IsRaising table m made_then after (gone_unless stays number) b.lowest.since b.lowest.item position b.lowest.like entry n (page_of then)) is raising;
+        };
+        key_is = b.lowest.key_is;
+        low = λ other h. (rises other (before other h)).low;
+        split = λ more. (rises b.lowest.words (subst (λ n. HasLocked a.known n b.lowest.words) (sym is) b.lowest.found.locked)).split (b.full more);
+        single = λ other h. (rises other (before other h)).single;
+        chain = subst (λ held. IsChain table.layout.nodes held way b.lowest.item.key position end top) (sym locks) b.chain;
+      }

@@ -12,7 +12,7 @@ use Rattle.insert_cases.specs.Risen.{page_of}
 use Rattle.insert_cases.specs.declared.raising.Risen.{Risen}
 use Rattle.insert_cases.specs.declared.raising.Risen.TheVariants.{Whole, Split}
 use Rattle.pieces.specs.Changes.{AtRootFork}
-use Rattle.pieces.specs.Piece.{Place, Fork, size}
+use Rattle.pieces.specs.Piece.{Place, size}
 use Rattle.insert_cases.specs.declared.choice.Step.{Step}
 use Rattle.moments.specs.Trades.{IsOf}
 use Rattle.rowex_core.specs.declared.known.Locked.{Locked}
@@ -89,19 +89,25 @@ pub record IsRaising (table : TableView) (a : SeatView) (made : List Rec) (news 
   pub leaf : HasLeaf news x
   pub risen : HasRisen table.layout a.known a.known.locks news since x p l d n r gone
 
--- What has risen so far, a fork of two entries, is to take the place of the entry that names the node below, in the locked node
--- above, which is higher than both.
-pub record IsBelow (table : TableView) (a : SeatView) (made : List Rec) (key : Key) (above position : ℕ) (zero one : Entry) : Type 0 where
+-- What has risen comes in the place of the locked node's entry.
+pub record IsRisenAt (table : TableView) (a : SeatView) (made : List Rec) (number : ℕ) (risen : Risen) : Type 0 where
   pub news : List Made
   pub gone : List Rec
   pub since : ℕ
   pub item : Item
   pub mismatch : ℕ
   pub like : Key
+  pub words : List ℕ
+  pub locked : HasLocked a.known number words
+  pub raising : IsRaising table a made news gone since item mismatch like entry number (page_of risen)
+
+-- What has risen so far, a fork of two entries, is to take the place of the entry that names the node below, in the locked node
+-- above, which is higher than both.
+pub record IsBelow (table : TableView) (a : SeatView) (made : List Rec) (key : Key) (above position : ℕ) (zero one : Entry) : Type 0 where
   pub lower : ℕ
-  pub key_is : key ≡ item.key
-  pub raising : IsRaising table a made news gone since item mismatch like entry lower (Fork position (Place zero) (Place one))
-  pub over : IsAbove a.known.locks item.key mismatch above lower
+  pub here : IsRisenAt table a made lower (Split position zero one)
+  pub key_is : key ≡ here.item.key
+  pub over : IsAbove a.known.locks here.item.key here.mismatch above lower
   pub zero_low : height_of zero < (node_of over.upper).fixed.height
   pub one_low : height_of one < (node_of over.upper).fixed.height
 
@@ -118,6 +124,12 @@ IsSplit (Split position zero one) = Unit {0}
 abbrev pub IsSingle : Risen → Type 0
 IsSingle (Whole e) = Unit {0}
 IsSingle (Split position zero one) = ⊥
+
+-- What has risen from the node with these words: no higher than it, a fork where it was full, one entry where it had room.
+pub record IsLevelRisen (words : List ℕ) (risen : Risen) : Type 0 where
+  pub low : IsLowRisen (node_of words).fixed.height risen
+  pub split : size (node_of words).page ≡ 32 → IsSplit risen
+  pub single : size (node_of words).page < 32 → IsSingle risen
 
 -- the entry is at most one higher than this, and no higher where what has risen is one entry
 abbrev pub IsNextTo : ℕ → Risen → Entry → Type 0
@@ -145,19 +157,6 @@ pub record IsLowest (table : TableView) (a : SeatView) (made : List Rec) (key : 
 abbrev pub gone_unless : Bool → ℕ → List Rec
 gone_unless stays n = if stays then [] else a_node n ∷ []
 
--- ---- at the upper end
--- What has risen comes in the place of the locked node's entry.
-pub record IsRisenAt (table : TableView) (a : SeatView) (made : List Rec) (number : ℕ) (risen : Risen) : Type 0 where
-  pub news : List Made
-  pub gone : List Rec
-  pub since : ℕ
-  pub item : Item
-  pub mismatch : ℕ
-  pub like : Key
-  pub words : List ℕ
-  pub locked : HasLocked a.known number words
-  pub raising : IsRaising table a made news gone since item mismatch like entry number (page_of risen)
-
 -- ---- a span
 -- Of the locked nodes of the way from `end` to `level` each is named by the one above it, which is higher, and an insertion at p
 -- affects no more than that place; those between the two are full.
@@ -170,23 +169,15 @@ pub record IsChain (nodes : ℕ) (held : List Locked) (way : List Step) (key : K
 
 -- What has risen comes in the place of the entry of the node at this level, and it is to rise on to `end`.
 pub record IsUp (table : TableView) (a : SeatView) (made : List Rec) (way : List Step) (key : Key) (end level : ℕ) (risen : Risen) : Type 0 where
-  pub news : List Made
-  pub gone : List Rec
-  pub since : ℕ
-  pub item : Item
-  pub mismatch : ℕ
-  pub like : Key
-  pub key_is : key ≡ item.key
   pub step : Step
   pub at : slice_get way level ≡ Some step
   pub upto : end ≤ level
-  pub words : List ℕ
-  pub locked : HasLocked a.known step.number words
-  pub raising : IsRaising table a made news gone since item mismatch like entry step.number (page_of risen)
+  pub here : IsRisenAt table a made step.number risen
+  pub key_is : key ≡ here.item.key
   pub low : (other : List ℕ) → HasLocked a.known step.number other → IsLowRisen (node_of other).fixed.height risen
   pub split : end < level → IsSplit risen
   pub single : (other : List ℕ) → HasLocked a.known step.number other → size (node_of other).page < 32 → IsSingle risen
-  pub chain : IsChain table.layout.nodes a.known.locks way item.key mismatch end level
+  pub chain : IsChain table.layout.nodes a.known.locks way here.item.key here.mismatch end level
 
 -- the nodes of the way from `end` on, before `level`, go too
 abbrev pub gone_with : List Step → (end level : ℕ) → List Rec → List Rec

@@ -5,12 +5,12 @@ ghost use Rattle.insert_cases.specs.declared.choice.Step.{Step as StepView};
 ghost use Rattle.record_words.specs.Node.{HasNodeWords};
 ghost use Rattle.rowex_table.specs.Made.{Made};
 ghost use Rattle.rowex_rights.specs.Rises.{of_view, IsSide};
-ghost use Rattle.rowex_writing.specs.Building.{IsBelow, IsBuilding, IsGrowing, IsGrownFrom, IsHalfMade, IsLowest, IsLowRisen, IsMadeFrom, IsNextTo, IsRaising, IsRisenAt, IsSingle, IsSplit, IsUp, FitsAbove, HasNotMade, HasRisenTo, gone_unless, gone_with};
+ghost use Rattle.rowex_writing.specs.Building.{IsBelow, IsBuilding, IsGrowing, IsGrownFrom, IsHalfMade, IsLevelRisen, IsLowest, IsLowRisen, IsMadeFrom, IsNextTo, IsRaising, IsRisenAt, IsUp, FitsAbove, HasNotMade, HasRisenTo, gone_unless, gone_with};
 ghost use Rattle.rowex_writing.specs.Going.{WorksOn, HasLocked, IsLockedBy};
 ghost use Rattle.rowex_writing.specs.Remaking.{AffectsJust, IsTreePage};
 ghost use Rattle.compound_node.specs.Nodes.{height_of, piece};
 ghost use Rattle.insert_cases.specs.Grown.{keeps_node, is_same as is_the_same};
-ghost use Rattle.pieces.specs.Piece.{Place as At, size};
+ghost use Rattle.pieces.specs.Piece.{Place as At};
 ghost use Rattle.tries.specs.Affected.{page_forked, page_grown};
 ghost use Rattle.tries.specs.Keys.{bit};
 ghost use Rattle.tries.specs.Place.{page_without};
@@ -157,10 +157,8 @@ fn raise_level<G: Gate>(
     ensures made { (b : IsBelow table.now seat.old build.old.made.items key.now number position zero one) → MatchOption result
         (HasNotMade table.now seat.old seat.new build.new.made.items)
         (λ risen. (after : List Made) ×
-        IsRaising table.now seat.new build.new.made.items after (a_node number ∷ b.gone) b.since b.item b.mismatch b.like entry number (page_of risen)) }
-    ensures low { (words : List ℕ) → HasLocked seat.old.known number words → IfSome result (IsLowRisen (node_of words).fixed.height) }
-    ensures split { (words : List ℕ) → HasLocked seat.old.known number words → size (node_of words).page ≡ 32 → IfSome result IsSplit }
-    ensures single { (words : List ℕ) → HasLocked seat.old.known number words → size (node_of words).page < 32 → IfSome result IsSingle }
+        IsRaising table.now seat.new build.new.made.items after (a_node number ∷ b.here.gone) b.here.since b.here.item b.here.mismatch b.here.like entry number (page_of risen)) }
+    ensures level { (words : List ℕ) → HasLocked seat.old.known number words → IfSome result (IsLevelRisen words) }
     ensures more { length build.new.made.items ≤ length build.old.made.items + 2 }
     ensures few { seat.new.known.steps ≤ seat.old.known.steps + level_steps table.now.layout }
 {
@@ -232,9 +230,7 @@ fn raise_lowest<G: Gate>(
         (HasNotMade table.now seat.old seat.new build.new.made.items)
         (λ r. (after : List Made) ×
         IsRaising table.now seat.new build.new.made.items after (gone_unless r.1 number) b.since b.item position b.like entry number (page_of r.0)) }
-    ensures low { (words : List ℕ) → HasLocked seat.old.known number words → IfSome result (λ r. IsLowRisen (node_of words).fixed.height r.0) }
-    ensures split { (words : List ℕ) → HasLocked seat.old.known number words → size (node_of words).page ≡ 32 → IfSome result (λ r. IsSplit r.0) }
-    ensures single { (words : List ℕ) → HasLocked seat.old.known number words → size (node_of words).page < 32 → IfSome result (λ r. IsSingle r.0) }
+    ensures level { (words : List ℕ) → HasLocked seat.old.known number words → IfSome result (λ r. IsLevelRisen words r.0) }
     ensures more { length build.new.made.items ≤ length build.old.made.items + 2 }
     ensures few { seat.new.known.steps ≤ seat.old.known.steps + level_steps table.now.layout }
 {
@@ -371,7 +367,7 @@ fn raise_on<G: Gate>(
     ensures goes { WorksOn table.now G.becomes (seat.old, gate.old) (seat.new, gate.new) }
     ensures made { (b : IsUp table.now seat.old build.old.made.items way.now key.now end level risen) → MatchOption result
         (HasNotMade table.now seat.old seat.new build.new.made.items)
-        (HasRisenTo table.now seat.new build.new.made.items way.now b.since b.item b.mismatch b.like end (gone_with way.now end level b.gone)) }
+        (HasRisenTo table.now seat.new build.new.made.items way.now b.here.since b.here.item b.here.mismatch b.here.like end (gone_with way.now end level b.here.gone)) }
     ensures low { (s : StepView) (words : List ℕ) → slice_get way.now end ≡ Some s → HasLocked seat.old.known s.number words → IfSome result (FitsAbove words) }
     ensures few { seat.new.known.steps ≤ seat.old.known.steps + (level - end + 1) * level_steps table.now.layout }
 {

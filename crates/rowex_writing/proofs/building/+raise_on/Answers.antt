@@ -33,14 +33,14 @@ upto level end ne le = omega (arith, ne)
 pub settle-requires-clause-risen : goal.settle-requires-clause-risen
 settle-requires-clause-risen g t c =
     let up = c.requires.up in
-    up_end c.args.table.now c.args.seat.now c.args.build.now.made.items c.args.way.now c.args.key.now c.args.end c.args.level _ c.args.risen c.if-level-end.true up
+    up_end c.args.table.now c.args.seat.now c.args.build.now.made.items c.args.way.now c.args.key.now c.args.end c.args.level _ c.args.risen up
     (ap (λ (z : Step). z.number) (get_or_from_slice_get c.args.way.now c.args.level up.step no_step up.at))
 
 pub returns-then-level-end-clause-made : goal.returns-then-level-end-clause-made
 returns-then-level-end-clause-made g t c = λ b.
     settled_up c.args.table.now c.args.seat.now c.settle.new.seat c.args.build.now.made.items c.settle.new.build.made.items c.args.way.now c.args.key.now c.args.end c.args.level _ c.args.risen c.if-level-end.true b
     (ap (λ (z : Step). z.number) (get_or_from_slice_get c.args.way.now c.args.level b.step no_step b.at)) c.settle.result
-    (c.settle.ensures.made (up_end c.args.table.now c.args.seat.now c.args.build.now.made.items c.args.way.now c.args.key.now c.args.end c.args.level _ c.args.risen c.if-level-end.true b
+    (c.settle.ensures.made (up_end c.args.table.now c.args.seat.now c.args.build.now.made.items c.args.way.now c.args.key.now c.args.end c.args.level _ c.args.risen b
     (ap (λ (z : Step). z.number) (get_or_from_slice_get c.args.way.now c.args.level b.step no_step b.at))))
 
 pub offset_bounds-way-above : goal.offset_bounds-way-above
@@ -79,7 +79,7 @@ raise_on-requires g t c =
         le,
         (
           up_next c.args.table.now c.args.seat.now c.args.build.now.made.items c.args.way.now c.args.key.now c.args.end c.args.level c.args.risen up (c.args.level - 1)
-              (next c.args.level c.args.end c.if-level-end.false up.upto) (upto c.args.level c.args.end c.if-level-end.false up.upto) (step_at c.args.way.now (c.args.level - 1)) (there c.args.way.now c.args.level c.args.end up.step up.at) c.raise_level.new.seat c.raise_level.new.build.made.items c.in_ok-next-in-Split.next c.in_ok-next-in-Split.ensures.goes.stays.1 after raising c.in_ok-next-in-Split.ensures.low c.in_ok-next-in-Split.ensures.split c.in_ok-next-in-Split.ensures.single,
+              (next c.args.level c.args.end c.if-level-end.false up.upto) (upto c.args.level c.args.end c.if-level-end.false up.upto) (step_at c.args.way.now (c.args.level - 1)) (there c.args.way.now c.args.level c.args.end up.step up.at) c.raise_level.new.seat c.raise_level.new.build.made.items c.in_ok-next-in-Split.next c.in_ok-next-in-Split.ensures.goes.stays.1 after raising c.in_ok-next-in-Split.ensures.level,
           omega (arith, c.requires.room, c.in_ok-next-in-Split.ensures.more),
         ),
       ),
@@ -92,11 +92,11 @@ pub returns-clause-made : goal.returns-clause-made
 returns-clause-made g t c = λ up.
     let (after, raising) = c.in_ok-next-in-Split.ensures.made (up_below c.args.table.now c.args.seat.now c.args.build.now.made.items c.args.way.now c.args.key.now c.args.end c.args.level c.args.risen up (c.args.level - 1)
     (next c.args.level c.args.end c.if-level-end.false up.upto) (upto c.args.level c.args.end c.if-level-end.false up.upto) (step_at c.args.way.now (c.args.level - 1)) (there c.args.way.now c.args.level c.args.end up.step up.at) c.in-Split.position c.in-Split.zero c.in-Split.one c.in-Split.is) in
-    up_done c.args.table.now g.G.Gate.becomes (c.args.seat.now, c.args.gate.now) (c.raise_level.new.seat, c.raise_level.new.gate) (c.raise_on.new.seat, c.raise_on.new.gate) c.raise_on.new.build.made.items c.args.way.now up.since up.item up.mismatch up.like c.args.end
-    (c.args.level - 1) c.args.level up.gone (step_at c.args.way.now (c.args.level - 1)) (next c.args.level c.args.end c.if-level-end.false up.upto) (upto c.args.level c.args.end c.if-level-end.false up.upto)
+    up_done c.args.table.now g.G.Gate.becomes (c.args.seat.now, c.args.gate.now) (c.raise_level.new.seat, c.raise_level.new.gate) (c.raise_on.new.seat, c.raise_on.new.gate) c.raise_on.new.build.made.items c.args.way.now up.here.since up.here.item up.here.mismatch up.here.like c.args.end
+    (c.args.level - 1) c.args.level up.here.gone (step_at c.args.way.now (c.args.level - 1)) (next c.args.level c.args.end c.if-level-end.false up.upto) (upto c.args.level c.args.end c.if-level-end.false up.upto)
     (there c.args.way.now c.args.level c.args.end up.step up.at) c.in_ok-next-in-Split.ensures.goes c.raise_on.result
     (c.raise_on.ensures.made (up_next c.args.table.now c.args.seat.now c.args.build.now.made.items c.args.way.now c.args.key.now c.args.end c.args.level c.args.risen up (c.args.level - 1)
-    (next c.args.level c.args.end c.if-level-end.false up.upto) (upto c.args.level c.args.end c.if-level-end.false up.upto) (step_at c.args.way.now (c.args.level - 1)) (there c.args.way.now c.args.level c.args.end up.step up.at) c.raise_level.new.seat c.raise_level.new.build.made.items c.in_ok-next-in-Split.next c.in_ok-next-in-Split.ensures.goes.stays.1 after raising c.in_ok-next-in-Split.ensures.low c.in_ok-next-in-Split.ensures.split c.in_ok-next-in-Split.ensures.single))
+    (next c.args.level c.args.end c.if-level-end.false up.upto) (upto c.args.level c.args.end c.if-level-end.false up.upto) (step_at c.args.way.now (c.args.level - 1)) (there c.args.way.now c.args.level c.args.end up.step up.at) c.raise_level.new.seat c.raise_level.new.build.made.items c.in_ok-next-in-Split.next c.in_ok-next-in-Split.ensures.goes.stays.1 after raising c.in_ok-next-in-Split.ensures.level))
 
 pub returns-then-level-end-clause-low : goal.returns-then-level-end-clause-low
 returns-then-level-end-clause-low g t c = λ s words at h.

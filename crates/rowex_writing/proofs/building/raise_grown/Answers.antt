@@ -29,7 +29,7 @@ raise_on-requires-clause-up g c =
     let (after, raising) = c.in_ok-risen.ensures.made (low_at c.args.table.now c.args.seat.now c.args.build.now.made.items c.args.way.now c.args.key.now c.args.end c.args.top c.args.position c.args.first c.args.last c.args.leaf b (step_at c.args.way.now c.args.top).number
     (number_is c.args.way.now c.args.top b.step b.at)) in
     up_first c.args.table.now c.args.seat.now c.args.build.now.made.items c.args.way.now c.args.key.now c.args.end c.args.top c.args.position c.args.first c.args.last c.args.leaf b (step_at c.args.way.now c.args.top).number
-    (number_is c.args.way.now c.args.top b.step b.at) c.raise_lowest.new.seat c.raise_lowest.new.build.made.items c.in_ok-risen.risen c.in_ok-risen.stays c.in_ok-risen.ensures.goes.stays.1 after raising c.in_ok-risen.ensures.low c.in_ok-risen.ensures.split c.in_ok-risen.ensures.single
+    (number_is c.args.way.now c.args.top b.step b.at) c.raise_lowest.new.seat c.raise_lowest.new.build.made.items c.in_ok-risen.risen c.in_ok-risen.stays c.in_ok-risen.ensures.goes.stays.1 after raising c.in_ok-risen.ensures.level
 
 pub returns-in_err-entry-clause-goes : goal.returns-in_err-entry-clause-goes
 returns-in_err-entry-clause-goes g c = goes_more c.args.table.now g.G.Gate.becomes _ _ _ c.in_ok-risen.ensures.goes c.in_err-entry.ensures.goes
@@ -41,7 +41,7 @@ returns-in_err-entry-clause-made g c = λ b.
     rw c.from_residual-in_err-entry.ensures
     (not_made_since c.args.table.now g.G.Gate.becomes (c.args.seat.now, c.args.gate.now) (c.raise_lowest.new.seat, c.raise_lowest.new.gate) (c.raise_on.new.seat, c.raise_on.new.gate) c.raise_on.new.build.made.items c.in_ok-risen.ensures.goes
     (c.in_err-entry.ensures.made (up_first c.args.table.now c.args.seat.now c.args.build.now.made.items c.args.way.now c.args.key.now c.args.end c.args.top c.args.position c.args.first c.args.last c.args.leaf b (step_at c.args.way.now c.args.top).number
-    (number_is c.args.way.now c.args.top b.step b.at) c.raise_lowest.new.seat c.raise_lowest.new.build.made.items c.in_ok-risen.risen c.in_ok-risen.stays c.in_ok-risen.ensures.goes.stays.1 after raising c.in_ok-risen.ensures.low c.in_ok-risen.ensures.split c.in_ok-risen.ensures.single)))
+    (number_is c.args.way.now c.args.top b.step b.at) c.raise_lowest.new.seat c.raise_lowest.new.build.made.items c.in_ok-risen.risen c.in_ok-risen.stays c.in_ok-risen.ensures.goes.stays.1 after raising c.in_ok-risen.ensures.level)))
 
 pub returns-clause-goes : goal.returns-clause-goes
 returns-clause-goes g c = goes_more c.args.table.now g.G.Gate.becomes _ _ _ c.in_ok-risen.ensures.goes c.in_ok-entry.ensures.goes
@@ -53,7 +53,7 @@ returns-clause-made g c = λ b.
     subst (λ n. HasRisenTo c.args.table.now c.raise_on.new.seat c.raise_on.new.build.made.items c.args.way.now b.lowest.since b.lowest.item c.args.position b.lowest.like c.args.end (gone_with c.args.way.now c.args.end c.args.top (gone_unless c.in_ok-risen.stays n)) c.in_ok-entry.entry)
     (number_is c.args.way.now c.args.top b.step b.at)
     (c.in_ok-entry.ensures.made (up_first c.args.table.now c.args.seat.now c.args.build.now.made.items c.args.way.now c.args.key.now c.args.end c.args.top c.args.position c.args.first c.args.last c.args.leaf b (step_at c.args.way.now c.args.top).number
-    (number_is c.args.way.now c.args.top b.step b.at) c.raise_lowest.new.seat c.raise_lowest.new.build.made.items c.in_ok-risen.risen c.in_ok-risen.stays c.in_ok-risen.ensures.goes.stays.1 after raising c.in_ok-risen.ensures.low c.in_ok-risen.ensures.split c.in_ok-risen.ensures.single))
+    (number_is c.args.way.now c.args.top b.step b.at) c.raise_lowest.new.seat c.raise_lowest.new.build.made.items c.in_ok-risen.risen c.in_ok-risen.stays c.in_ok-risen.ensures.goes.stays.1 after raising c.in_ok-risen.ensures.level))
 
 pub returns-clause-low : goal.returns-clause-low
 returns-clause-low g c = λ s words at h. c.in_ok-entry.ensures.low s words at (subst (IsOf (record { node = s.number; words = words })) (sym c.in_ok-risen.ensures.goes.stays.1) h)

@@ -1,9 +1,7 @@
 -- What is left is a side.
-use Rattle.std.proofs.Common.{List, [], ◌++◌, subst}
-use Rattle.std.specs.Prelude.{MatchOption}
+use Rattle.std.proofs.Common.{[], ◌++◌}
 use Rattle.compound_node.specs.declared.entries.Entry.TheVariants.{Node}
-use Rattle.rowex_table.specs.Made.{Made}
-use Rattle.rowex_writing.specs.Building.{IsBuilding, IsHalfMade, HasNotMade}
+use Rattle.rowex_writing.specs.Building.{IsBuilding}
 use Rattle.rowex_writing.proofs.Locking.{goes_more}
 use Rattle.rowex_writing.proofs.Lifting.{left_over, left_low}
 use Rattle.rowex_writing.proofs.Making.{building_on}
@@ -25,6 +23,5 @@ returns-clause-made g c = λ words h.
 pub returns-clause-low : goal.returns-clause-low
 returns-clause-low g c = λ words h.
     let b = building_on c.args.table.now g.G.Gate.becomes (c.args.seat.now, c.args.gate.now) (c.read_locked-node.new.seat, c.read_locked-node.new.gate) c.args.build.now.made.items [] c.read_locked-node.ensures.reads.goes c.read_locked-node.ensures.reads.own c.requires.building in
-    left_low words c.read_locked-node.result c.args.number c.without_leaf-half.result c.make_half.result _ (λ e more. IsBuilding c.args.table.now c.make_half.new.seat c.make_half.new.build.made.items (more ++ [])) (c.read_locked-node.ensures.node words h) c.without_leaf-half.ensures.low
-    (subst (λ z. MatchOption c.make_half.result (HasNotMade c.args.table.now c.read_locked-node.new.seat c.make_half.new.seat c.make_half.new.build.made.items)
-    (λ e. (more : List Made) × IsHalfMade (Node c.args.number z) c.without_leaf-half.result e more × IsBuilding c.args.table.now c.make_half.new.seat c.make_half.new.build.made.items (more ++ []))) c.height.ensures (c.make_half.ensures.made [] b))
+    left_low words c.read_locked-node.result (Node c.args.number c.height.result) c.without_leaf-half.result c.make_half.result _ (λ more. IsBuilding c.args.table.now c.make_half.new.seat c.make_half.new.build.made.items (more ++ [])) (c.read_locked-node.ensures.node words h)
+    c.height.ensures c.without_leaf-half.ensures.low (c.make_half.ensures.made [] b)
