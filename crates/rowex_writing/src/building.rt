@@ -86,8 +86,8 @@ fn make_half<G: Gate>(
     old: Entry,
     half: &Half,
 ) -> Option<Entry>
-    requires building { (news : List Made) × IsBuilding table.now seat.old build.old.made.items news }
     requires room { length build.old.made.items < MOST_MADE }
+    requires building { (news : List Made) × IsBuilding table.now seat.old build.old.made.items news }
     ensures goes { WorksOn table.now G.becomes (seat.old, gate.old) (seat.new, gate.new) }
     ensures made { (news : List Made) → IsBuilding table.now seat.old build.old.made.items news → MatchOption result
         (HasNotMade table.now seat.old seat.new build.new.made.items)
@@ -144,8 +144,8 @@ fn raise_level<G: Gate>(
     seat: &mut TableSeat,
     gate: &mut G,
     build: &mut Build,
-    key: &Key,
     number: u32,
+    key: &Key,
     position: u16,
     zero: Entry,
     one: Entry,
@@ -215,11 +215,11 @@ fn raise_lowest<G: Gate>(
     seat: &mut TableSeat,
     gate: &mut G,
     build: &mut Build,
-    key: &Key,
     number: u32,
     position: u16,
     first: u8,
     last: u8,
+    key: &Key,
     leaf: u32,
 ) -> Option<(Risen, bool)>
     requires range { number < table.now.layout.nodes }
@@ -262,6 +262,111 @@ fn is_same(half: &Half) -> bool
         Half::Same => true,
         _ => false,
     }
+}
+
+/// The one entry for what has risen: a fork of two gets a node of its own.
+fn settle<G: Gate>(
+    table: &HotTable,
+    seat: &mut TableSeat,
+    gate: &mut G,
+    build: &mut Build,
+    number: u32,
+    risen: Risen,
+) -> Option<Entry>
+    requires risen { IsRisenAt table.now seat.old build.old.made.items number risen }
+    requires room { length build.old.made.items < MOST_MADE }
+    ensures goes { WorksOn table.now G.becomes (seat.old, gate.old) (seat.new, gate.new) }
+    ensures made { (b : IsRisenAt table.now seat.old build.old.made.items number risen) → MatchOption result
+        (HasNotMade table.now seat.old seat.new build.new.made.items)
+        (λ e. (after : List Made) × IsRaising table.now seat.new build.new.made.items after b.gone b.since b.item b.mismatch b.like entry number (At e)) }
+    ensures low { (height : ℕ) → IsLowRisen height risen → IfSome result (IsNextTo height risen) }
+    ensures more { length build.new.made.items ≤ length build.old.made.items + 1 }
+    ensures few { seat.new.known.steps ≤ seat.old.known.steps + node_steps table.now.layout }
+{
+    match risen {
+        Risen::Whole(entry) => Some(entry),
+        Risen::Split {
+            position,
+            zero,
+            one,
+        } => {
+            let node = Node::pair(position, zero, one);
+            make_node(table, seat, gate, build, &node)
+        }
+    }
+}
+
+/// The one entry that comes in the place of the node at `end`, when this has risen to the node at `level`.
+fn raise_on<G: Gate>(
+    table: &HotTable,
+    seat: &mut TableSeat,
+    gate: &mut G,
+    build: &mut Build,
+    way: &[Step],
+    end: usize,
+    level: usize,
+    key: &Key,
+    risen: Risen,
+) -> Option<Entry>
+    requires up { IsUp table.now seat.old build.old.made.items way.now key.now end level risen }
+    requires room { length build.old.made.items + 2 * (level - end) < MOST_MADE }
+    ensures goes { WorksOn table.now G.becomes (seat.old, gate.old) (seat.new, gate.new) }
+    ensures made { (b : IsUp table.now seat.old build.old.made.items way.now key.now end level risen) → MatchOption result
+        (HasNotMade table.now seat.old seat.new build.new.made.items)
+        (HasRisenTo table.now seat.new build.new.made.items way.now b.here.since b.here.item b.here.mismatch b.here.like end (gone_with way.now end level b.here.gone)) }
+    ensures low { (s : StepView) (words : List ℕ) → slice_get way.now end ≡ Some s → HasLocked seat.old.known s.number words → IfSome result (FitsAbove words) }
+    ensures few { seat.new.known.steps ≤ seat.old.known.steps + (level - end + 1) * level_steps table.now.layout }
+{
+    if level == end {
+        return settle(table, seat, gate, build, way[level].number, risen);
+    }
+    match risen {
+        Risen::Whole(_) => unreachable!(),
+        Risen::Split {
+            position,
+            zero,
+            one,
+        } => {
+            let above = level - 1;
+            let number = way[above].number;
+            let next = raise_level(table, seat, gate, build, number, key, position, zero, one)?;
+            raise_on(table, seat, gate, build, way, end, above, key, next)
+        }
+    }
+}
+
+/// The one entry that comes in the place of the node at `end` of a way, when the node at `top` gets a new leaf; and whether
+/// that node stays whole.
+pub fn raise_grown<G: Gate>(
+    table: &HotTable,
+    seat: &mut TableSeat,
+    gate: &mut G,
+    build: &mut Build,
+    key: &Key,
+    way: &[Step],
+    end: usize,
+    top: usize,
+    position: u16,
+    first: u8,
+    last: u8,
+    leaf: u32,
+) -> Option<(Entry, bool)>
+    requires growing { IsGrowing table.now seat.old build.old.made.items way.now key.now end top position first last leaf }
+    requires room { length build.old.made.items + 2 * (top - end) + 2 < MOST_MADE }
+    ensures goes { WorksOn table.now G.becomes (seat.old, gate.old) (seat.new, gate.new) }
+    ensures made { (b : IsGrowing table.now seat.old build.old.made.items way.now key.now end top position first last leaf) → MatchOption result
+        (HasNotMade table.now seat.old seat.new build.new.made.items)
+        (λ r. HasRisenTo table.now seat.new build.new.made.items way.now b.lowest.since b.lowest.item position b.lowest.like end
+        (gone_with way.now end top (gone_unless r.1 b.step.number)) r.0) }
+    ensures low { (s : StepView) (words : List ℕ) → slice_get way.now end ≡ Some s → HasLocked seat.old.known s.number words → IfSome result (λ r. FitsAbove words r.0) }
+    ensures few { seat.new.known.steps ≤ seat.old.known.steps + (top - end + 2) * level_steps table.now.layout }
+{
+    let number = way[top].number;
+    let (risen, stays) = raise_lowest(
+        table, seat, gate, build, number, position, first, last, key, leaf,
+    )?;
+    let entry = raise_on(table, seat, gate, build, way, end, top, key, risen)?;
+    Some((entry, stays))
 }
 
 /// The entry for what is left of a locked node without the leaf to which the key's search leads.
@@ -316,109 +421,4 @@ pub fn raise_pair<G: Gate>(
 {
     let node = pair_with_leaf(key, position, old, leaf);
     make_node(table, seat, gate, build, &node)
-}
-
-/// The one entry for what has risen: a fork of two gets a node of its own.
-fn settle<G: Gate>(
-    table: &HotTable,
-    seat: &mut TableSeat,
-    gate: &mut G,
-    build: &mut Build,
-    number: u32,
-    risen: Risen,
-) -> Option<Entry>
-    requires risen { IsRisenAt table.now seat.old build.old.made.items number risen }
-    requires room { length build.old.made.items < MOST_MADE }
-    ensures goes { WorksOn table.now G.becomes (seat.old, gate.old) (seat.new, gate.new) }
-    ensures made { (b : IsRisenAt table.now seat.old build.old.made.items number risen) → MatchOption result
-        (HasNotMade table.now seat.old seat.new build.new.made.items)
-        (λ e. (after : List Made) × IsRaising table.now seat.new build.new.made.items after b.gone b.since b.item b.mismatch b.like entry number (At e)) }
-    ensures low { (height : ℕ) → IsLowRisen height risen → IfSome result (IsNextTo height risen) }
-    ensures more { length build.new.made.items ≤ length build.old.made.items + 1 }
-    ensures few { seat.new.known.steps ≤ seat.old.known.steps + node_steps table.now.layout }
-{
-    match risen {
-        Risen::Whole(entry) => Some(entry),
-        Risen::Split {
-            position,
-            zero,
-            one,
-        } => {
-            let node = Node::pair(position, zero, one);
-            make_node(table, seat, gate, build, &node)
-        }
-    }
-}
-
-/// The one entry that comes in the place of the node at `end`, when this has risen to the node at `level`.
-fn raise_on<G: Gate>(
-    table: &HotTable,
-    seat: &mut TableSeat,
-    gate: &mut G,
-    build: &mut Build,
-    key: &Key,
-    way: &[Step],
-    end: usize,
-    level: usize,
-    risen: Risen,
-) -> Option<Entry>
-    requires up { IsUp table.now seat.old build.old.made.items way.now key.now end level risen }
-    requires room { length build.old.made.items + 2 * (level - end) < MOST_MADE }
-    ensures goes { WorksOn table.now G.becomes (seat.old, gate.old) (seat.new, gate.new) }
-    ensures made { (b : IsUp table.now seat.old build.old.made.items way.now key.now end level risen) → MatchOption result
-        (HasNotMade table.now seat.old seat.new build.new.made.items)
-        (HasRisenTo table.now seat.new build.new.made.items way.now b.here.since b.here.item b.here.mismatch b.here.like end (gone_with way.now end level b.here.gone)) }
-    ensures low { (s : StepView) (words : List ℕ) → slice_get way.now end ≡ Some s → HasLocked seat.old.known s.number words → IfSome result (FitsAbove words) }
-    ensures few { seat.new.known.steps ≤ seat.old.known.steps + (level - end + 1) * level_steps table.now.layout }
-{
-    if level == end {
-        return settle(table, seat, gate, build, way[level].number, risen);
-    }
-    match risen {
-        Risen::Whole(_) => unreachable!(),
-        Risen::Split {
-            position,
-            zero,
-            one,
-        } => {
-            let above = level - 1;
-            let number = way[above].number;
-            let next = raise_level(table, seat, gate, build, key, number, position, zero, one)?;
-            raise_on(table, seat, gate, build, key, way, end, above, next)
-        }
-    }
-}
-
-/// The one entry that comes in the place of the node at `end` of a way, when the node at `top` gets a new leaf; and whether
-/// that node stays whole.
-pub fn raise_grown<G: Gate>(
-    table: &HotTable,
-    seat: &mut TableSeat,
-    gate: &mut G,
-    build: &mut Build,
-    key: &Key,
-    way: &[Step],
-    end: usize,
-    top: usize,
-    position: u16,
-    first: u8,
-    last: u8,
-    leaf: u32,
-) -> Option<(Entry, bool)>
-    requires growing { IsGrowing table.now seat.old build.old.made.items way.now key.now end top position first last leaf }
-    requires room { length build.old.made.items + 2 * (top - end) + 2 < MOST_MADE }
-    ensures goes { WorksOn table.now G.becomes (seat.old, gate.old) (seat.new, gate.new) }
-    ensures made { (b : IsGrowing table.now seat.old build.old.made.items way.now key.now end top position first last leaf) → MatchOption result
-        (HasNotMade table.now seat.old seat.new build.new.made.items)
-        (λ r. HasRisenTo table.now seat.new build.new.made.items way.now b.lowest.since b.lowest.item position b.lowest.like end
-        (gone_with way.now end top (gone_unless r.1 b.step.number)) r.0) }
-    ensures low { (s : StepView) (words : List ℕ) → slice_get way.now end ≡ Some s → HasLocked seat.old.known s.number words → IfSome result (λ r. FitsAbove words r.0) }
-    ensures few { seat.new.known.steps ≤ seat.old.known.steps + (top - end + 2) * level_steps table.now.layout }
-{
-    let number = way[top].number;
-    let (risen, stays) = raise_lowest(
-        table, seat, gate, build, key, number, position, first, last, leaf,
-    )?;
-    let entry = raise_on(table, seat, gate, build, key, way, end, top, risen)?;
-    Some((entry, stays))
 }
