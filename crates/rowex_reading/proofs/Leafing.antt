@@ -1,5 +1,5 @@
 -- What the loads of a leaf tell.
-use Rattle.std.proofs.Common.{◌≡◌, ◌≢◌, inl, inr, ◌⊎◌, ℕ, ◌+◌, ◌-◌, ◌<◌, ◌≤◌, List, length, get_or, set, replicate, take, drop, ⊎_elim, ap, sym, refl, ◌∙◌, subst, arith, le_trans, lit<}
+use Rattle.std.proofs.Common.{◌≡◌, ◌≢◌, inl, inr, ◌⊎◌, ℕ, ◌+◌, ◌-◌, ◌<◌, ◌≤◌, List, length, get_or, set, replicate, take, drop, ⊎_elim, ap, sym, ◌∙◌, subst, arith, le_trans, lit<}
 use Rattle.std.proofs.Math.Dec.{lit≤}
 use Rattle.std.proofs.lemmas.Bool.{cases_eq, cases_lt}
 use Rattle.std.proofs.lemmas.List.{take_all, length-set, length-replicate, get_or-set_same, get_or-set_other, get_or-replicate, get_or_past}
@@ -19,11 +19,13 @@ use Rattle.moments.specs.declared.Rec.TheVariants.{Leaf as a_leaf}
 use Rattle.moments.specs.Heap.{LeafWords}
 use Rattle.moments.specs.State.{Stands}
 use Rattle.rowex_core.specs.declared.known.Known.{Known}
-use Rattle.rowex_core.specs.Cores.{Core, IsLawful, heap_of}
+use Rattle.rowex_core.specs.Cores.{Core, IsLawful}
 use Rattle.rowex_core.specs.declared.event.Act.TheVariants.{LoadFixed}
+use Rattle.rowex_core.specs.declared.event.Event.{Event}
 use Rattle.rowex_core.specs.Knowing.{IsEvent, Recalls}
 use Rattle.rowex_table.specs.Made.{IsLater}
-use Rattle.rowex_table.specs.Runs.{silent}
+use Rattle.rowex_table.specs.Runs.{Steps, silent}
+use Rattle.rowex_table.specs.Seats.{SeatView, TableView}
 use Rattle.rowex_core.proofs.Owning.{recalls}
 use Rattle.rowex_core.specs.Reading.{IsPacked}
 use Rattle.rowex_core.proofs.Reading.{leaf_is}
@@ -31,14 +33,16 @@ use Rattle.rowex_walks.specs.Scan.{IsSeen, IsRead}
 use Rattle.rowex_walks.proofs.Search.{leaf_now}
 use Rattle.rowex_walks.proofs.Scans.{leaf_of}
 use Rattle.rowex_reading.specs.Possible.{IsPossible}
+use Rattle.rowex_reading.specs.Reads.{IsReader, Reads}
 use Rattle.rowex_reading.specs.Seen.{seen, Sure, IsLedTo}
+use Rattle.rowex_reading.proofs.Led.{reader_then, reads_one, reads_trans}
 use Rattle.rowex_reading.proofs.Seeing.{recalls_before, seen_within, seen_grown, stands_in, stands_seen}
 use Rattle.rowex_reading.proofs.Standing.{reach, is_packed}
 use Rattle.rowex_reading.proofs.Wording.{AreLoaded, none_loaded, next_loaded, led_stood, word_now, words_now}
 use Rattle.rowex_core.proofs.Loading.{view}
 
 -- they have been loaded
-pub first_loaded : (layout : Layout) (k i j : Known) (n value size : ℕ) → IsEvent layout (LoadFixed (a_leaf n) 1 value) silent k i → IsEvent layout (LoadFixed (a_leaf n) 2 size) silent i j →
+first_loaded : (layout : Layout) (k i j : Known) (n value size : ℕ) → IsEvent layout (LoadFixed (a_leaf n) 1 value) silent k i → IsEvent layout (LoadFixed (a_leaf n) 2 size) silent i j →
     (m : ℕ) → IsLedTo k m (Leaf n) → AreLoaded k j (a_leaf n) (λ o. o < 2) (first_words value size)
 first_loaded layout k i j n value size one two m led =
     let stood = led_stood k m (Leaf n) led in
@@ -48,7 +52,7 @@ first_loaded layout k i j n value size one two m led =
     (omega (arith, long, length-set (replicate LEAF_FIELDS 0) 0 value)) two m stood
 
 -- the length that was loaded is that of a key
-pub length_low : (layout : Layout) (k j : Known) (n : ℕ) (words : List ℕ) → IsPossible layout j → AreLoaded k j (a_leaf n) (λ o. o < 2) words → (m : ℕ) → IsLedTo k m (Leaf n) → get_or words 1 0 ≤ MAX_BYTES
+length_low : (layout : Layout) (k j : Known) (n : ℕ) (words : List ℕ) → IsPossible layout j → AreLoaded k j (a_leaf n) (λ o. o < 2) words → (m : ℕ) → IsLedTo k m (Leaf n) → get_or words 1 0 ≤ MAX_BYTES
 unfolding IsPacked
 length_low layout k j n words possible loaded m led =
     let c = possible.core in
@@ -58,6 +62,22 @@ length_low layout k j n words possible loaded m led =
     let now = word_now k j (a_leaf n) (λ o. o < 2) words loaded m (led_stood k m (Leaf n) led) c possible.lawful known 1 (lit< tt) (lit≤ tt, lit≤ tt) in
     let size = (leaf_words_parts packed.0 (c.words (a_leaf n)) (sym packed.2)).size in
     let short = packed.1.key.short in omega (arith, now, size, short)
+
+-- The value of a leaf and the length of its key have been loaded, the first words of it.
+pub record HasFirst {G : Type 0} (table : TableView) (becomes : G → Event → G → Type 0) (a b : SeatView × G) (n value size : ℕ) : Type 0 where
+  pub reads : Reads table becomes 2 a b
+  pub reader : IsReader table b.0
+  pub loaded : AreLoaded a.0.known b.0.known (a_leaf n) (λ o. o < 2) (first_words value size)
+  pub short : size ≤ MAX_BYTES
+
+pub first_read : {G : Type 0} {table : TableView} {becomes : G → Event → G → Type 0} {a i b : SeatView × G} {n value size : ℕ} → IsReader table a.0 → (m : ℕ) × IsLedTo a.0.known m (Leaf n) →
+    Steps table becomes (LoadFixed (a_leaf n) 1 value) a i → Steps table becomes (LoadFixed (a_leaf n) 2 size) i b → HasFirst table becomes a b n value size
+first_read {table = table} {a = a} {i = i} {b = b} {n = n} {value = value} {size = size} before led one two =
+    let x = reads_one (LoadFixed (a_leaf n) 1 value) tt one in let y = reads_one (LoadFixed (a_leaf n) 2 size) tt two in
+    let reader = reader_then (reader_then before x) y in
+    let loaded = first_loaded table.layout a.0.known i.0.known b.0.known n value size one.event two.event led.0 led.1 in
+    let low = length_low table.layout a.0.known b.0.known n (first_words value size) reader.1 loaded led.0 led.1 in
+    record { reads = reads_trans x y; reader = reader; loaded = loaded; short = omega (arith, low, first_size value size) }
 
 -- In a core of which j is true, a record to which the pass was led has the words of a leaf, and that leaf stood.
 module _ (k j : Known) (later : IsLater k j) (n m : ℕ) (led : IsLedTo k m (Leaf n)) (c : Core) (lawful : IsLawful c) (known : Recalls c j) where

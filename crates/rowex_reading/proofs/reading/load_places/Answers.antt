@@ -8,8 +8,7 @@ use Rattle.rowex_core.specs.declared.event.Act.TheVariants.{LoadFixed}
 use Rattle.rowex_reading.specs.Reads.{Reads}
 use Rattle.rowex_reading.proofs.Led.{reader_then, reads_one, reads_trans}
 use Rattle.rowex_reading.proofs.Standing.{led_in_table}
-use Rattle.record_words.proofs.Unused.{first_size}
-use Rattle.rowex_reading.proofs.Leafing.{all_counted, all_places, all_read, first_loaded, length_low, so_far_first, so_far_next, zero_small}
+use Rattle.rowex_reading.proofs.Leafing.{all_counted, all_places, all_read, first_read, so_far_first, so_far_next, zero_small}
 use Rattle.rowex_reading.proofs.reading.load_places.Goals as goal
 
 pub start_of-start-requires : goal.start_of-start-requires
@@ -31,30 +30,20 @@ load_fixed_from-length-requires g c = record {
 
 pub key_words-used-requires : goal.key_words-used-requires
 key_words-used-requires g c =
-    let l = c.requires.led in
-    let one = reads_one (LoadFixed (a_leaf c.args.number) 1 c.load_fixed_from-value.result) tt c.load_fixed_from-value.ensures in
-    let two = reads_one (LoadFixed (a_leaf c.args.number) 2 c.load_fixed_from-length.result) tt c.load_fixed_from-length.ensures in
-    let reader = reader_then (reader_then c.requires.reader one) two in
-    let loaded = first_loaded _ _ _ _ c.args.number _ _ c.load_fixed_from-value.ensures.event c.load_fixed_from-length.ensures.event l.0 l.1 in
-    let low = length_low _ _ _ c.args.number _ reader.1 loaded l.0 l.1 in
-    let same = first_size c.load_fixed_from-value.result c.load_fixed_from-length.result in omega (arith, low, same)
+    let f = first_read c.requires.reader c.requires.led c.load_fixed_from-value.ensures c.load_fixed_from-length.ensures in
+    let short = f.short in omega (arith, short)
 
 pub loop-index-init : goal.loop-index-init
 loop-index-init g c =
-    let l = c.requires.led in
-    let one = reads_one (LoadFixed (a_leaf c.args.number) 1 c.load_fixed_from-value.result) tt c.load_fixed_from-value.ensures in
-    let two = reads_one (LoadFixed (a_leaf c.args.number) 2 c.load_fixed_from-length.result) tt c.load_fixed_from-length.ensures in
-    let reader = reader_then (reader_then c.requires.reader one) two in
-    let loaded = first_loaded _ _ _ _ c.args.number _ _ c.load_fixed_from-value.ensures.event c.load_fixed_from-length.ensures.event l.0 l.1 in
-    let low = length_low _ _ _ c.args.number _ reader.1 loaded l.0 l.1 in
-    let same = first_size c.load_fixed_from-value.result c.load_fixed_from-length.result in
+    let f = first_read c.requires.reader c.requires.led c.load_fixed_from-value.ensures c.load_fixed_from-length.ensures in
+    let short = f.short in
     record {
-      reader = reader;
+      reader = f.reader;
       used_is = omega (arith, c.key_words-used.ensures);
-      fits = omega (arith, c.key_words-used.ensures, low, same);
-      reads = reads_trans one two;
+      fits = omega (arith, c.key_words-used.ensures, short);
+      reads = f.reads;
       small = rw c.requires.zeros (zero_small MAX_BYTES);
-      so_far = rw c.requires.zeros (so_far_first _ _ c.args.number c.load_fixed_from-value.result c.load_fixed_from-length.result loaded);
+      so_far = rw c.requires.zeros (so_far_first _ _ c.args.number c.load_fixed_from-value.result c.load_fixed_from-length.result f.loaded);
     }
 
 pub load_fixed_from-word-requires : goal.load_fixed_from-word-requires
