@@ -42,9 +42,9 @@ use Rattle.rowex_writing.proofs.Ways.{way_later}
 use Rattle.rowex_writing.specs.Ways.{IsMismatch, IsWayOf, IsWayNode, RootWas, end_of, named}
 use Rattle.rowex_writing.specs.declared.plan.Found.{Found}
 use Rattle.rowex_writing.specs.declared.plan.Found.TheVariants.{Leaf, Nothing}
-use Rattle.hot_index.specs.Scanning.{AreInside, AreOver, IsBegun, IsFirst, IsFloor, IsStart, IsWalk, frame, frames_of}
+use Rattle.hot_index.specs.Scanning.{AreInside, AreOver, IsBegun, IsFirst, IsFloor, IsNotBelow, IsStart, IsWalk, frame, frames_of}
 use Rattle.hot_index.specs.declared.scanning.Start.{Start}
-use Rattle.hot_index.proofs.Walking.{over_append}
+use Rattle.hot_index.proofs.Walking.{over_append, IsAtEntry}
 
 -- ---- what names a node of a way
 named_at : (way : List Step) (found : Found) (i : ℕ) (s : Step) → slice_get way i ≡ Some s → named way found i ≡ Some (Node s.number s.height)
@@ -490,10 +490,9 @@ nothing_blank layout k m key (s ∷ ss) w =
 pub leaf_rooted : (layout : Layout) (k : Known) (key : Key) (way : List Step) (number value : ℕ) (differ : Option ℕ) → way ≡ [] → IsWayOf layout k (since k) key way (Leaf number value differ) → IsAtRoot k (LeafEntry number)
 leaf_rooted layout k key way number value differ none w = (w.since, subst (λ z. RootWas k (since k) (named z (Leaf number value differ) 0)) none w.root)
 
--- The leaf that was found has been read once more: it is not below the first key.
-pub first_above : (layout : Layout) {k j : Known} (m : ℕ) (from : Key) (number : ℕ) (top : Step) (frames : List Step) → IsFirst k m from number top frames → IsSince k m → IsLater k j → IsPossible layout j →
-    (key : Key) (value : ℕ) → Sure j (λ s. IsRead s m number key value) → IsAtMost from key
-first_above layout {k} {j} m from number top frames f pinned l possible key value read =
+-- The leaf that was found is not below the first key.
+first_above : (layout : Layout) {k : Known} (m : ℕ) (from : Key) (number : ℕ) (top : Step) (frames : List Step) → IsFirst k m from number top frames → IsSince k m → IsNotBelow layout k m from number
+first_above layout {k} m from number top frames f pinned j l possible key value read =
     let c = possible.core in let known = recalls c j possible.knows in
     let steady = seen_steady possible.lawful known (since_later l pinned) in
     let old = sure_later {P = λ s. IsRead s m number f.found f.value} (read_stable m number f.found f.value) l f.read in
@@ -502,13 +501,40 @@ first_above layout {k} {j} m from number top frames f pinned l possible key valu
     read_same : (s : Past) (m : ℕ) → IsSteady s m → (n : ℕ) (a b : Key) (v u : ℕ) → IsRead s m n a v → IsRead s m n b u → a ≡ b
     read_same s m steady n a b v u (o, lo, hi, st) (p, lo2, hi2, su) = (steady.same (a_leaf n) o p (leaf n a v) (leaf n b u) lo hi lo2 hi2 st su).0
 
--- ---- where a start leaves the walk
-module _ (k : Known) (m : ℕ) (key : Key) (way frames : List Step) (number : ℕ) (start : Start) (s : IsStart k m key way number start) (same : take start.level way ≡ frames) where
-  pub start_walk : (g : Range) → g.from ≡ key → IsWalk k m g start.top frames []
-  start_walk g from = subst (λ z. IsWalk k m g start.top z []) same (s.walk g from)
+-- ---- where a scan begins, with no pairs yet
+pub record HasBegun (layout : Layout) (k : Known) (m : ℕ) (g : Range) (number : ℕ) (start : Start) (frames : List Step) (pairs : List (Key × ℕ)) : Type 0 where
+  pub walk : IsWalk k m g start.top frames pairs
+  -- the leaf of the search may come first,
+  pub entry : start.leaf ≡ true → IsAtEntry k m g start.top frames pairs (LeafEntry number)
+  pub above : start.leaf ≡ true → IsNotBelow layout k m g.from number
+  pub behind : start.leaf ≡ true → IsFloor k m g.from (record start.top { at = start.top.at + 1 }) frames
+  -- or what stands at the place
+  pub floor : start.leaf ≡ false → IsFloor k m g.from start.top frames
 
-  pub start_first : start.leaf ≡ true → IsFirst k m key number start.top frames
-  start_first is = subst (λ z. IsFirst k m key number start.top z) same (subst (λ b. IsBegun b k m key number start.top (take start.level way)) is s.begun)
+-- From a start on the search's way, of which the nodes above the start are left.
+pub begun : {layout : Layout} {j k : Known} {m : ℕ} {way steps frames : List Step} {number value : ℕ} {differ : Option ℕ} {start : Start} {pairs : List (Key × ℕ)} (g : Range) →
+    IsWayOf layout j m g.from way (Leaf number value differ) → steps ≡ way →
+    ((n v : ℕ) → IsWayOf layout j n g.from steps (Leaf number v differ) → IsStart k n g.from steps number start) → frames ≡ take start.level way → pairs ≡ [] →
+    HasBegun layout k m g number start frames pairs
+begun {layout} {j} {k} {m} {way} {steps} {frames} {number} {value} {differ} {start} {pairs} g w same starts left none = record {
+  walk = walk;
+  entry = λ is. record { walk = walk; inside = (first is).inside; placed = (first is).placed };
+  above = λ is. first_above layout m g.from number start.top frames (first is) walk.pinned;
+  behind = λ is. (first is).floor;
+  floor = λ is. begins is;
+}
+  where
+    s : IsStart k m g.from steps number start
+    s = starts m value (subst (λ z. IsWayOf layout j m g.from z (Leaf number value differ)) (sym same) w)
 
-  pub start_floor : start.leaf ≡ false → IsFloor k m key start.top frames
-  start_floor is = subst (λ z. IsFloor k m key start.top z) same (subst (λ b. IsBegun b k m key number start.top (take start.level way)) is s.begun)
+    above_are : take start.level steps ≡ frames
+    above_are = ap (take start.level) same ∙ sym left
+
+    walk : IsWalk k m g start.top frames pairs
+    walk = subst (λ z. IsWalk k m g start.top frames z) (sym none) (subst (λ z. IsWalk k m g start.top z []) above_are (s.walk g refl))
+
+    begins : {b : Bool} → start.leaf ≡ b → IsBegun b k m g.from number start.top frames
+    begins {b} is = subst (λ z. IsBegun b k m g.from number start.top z) above_are (subst (λ z. IsBegun z k m g.from number start.top (take start.level steps)) is s.begun)
+
+    first : start.leaf ≡ true → IsFirst k m g.from number start.top frames
+    first is = begins is

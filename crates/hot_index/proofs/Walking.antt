@@ -13,7 +13,7 @@ use Rattle.key_bits.specs.Bits.{bit_of, IsFirstDifference}
 use Rattle.key_bits.specs.Key.{IsKey}
 use Rattle.key_bits.proofs.Order.{first_difference, greater_by_first, less_iff_first}
 use Rattle.hot_model.specs.declared.Scan.{Scan}
-use Rattle.compound_node.specs.Nodes.{HeadView, IsLawful as IsLawfulNode, node_of, leaves}
+use Rattle.compound_node.specs.Nodes.{HeadView, IsLawful as IsLawfulNode, height_of, node_of, leaves}
 use Rattle.compound_node.specs.declared.entries.Entry.{Entry}
 use Rattle.compound_node.specs.declared.entries.Entry.TheVariants.{Leaf, Node}
 use Rattle.pieces.specs.Piece.{size}
@@ -27,23 +27,29 @@ use Rattle.rowex_walks.specs.Scan.{Pair, Range, IsScan, IsRooted, IsPlaced, IsRe
 use Rattle.rowex_walks.proofs.Scans.{never_before, before_most, fit_leaf, shaped_several}
 use Rattle.rowex_walks.proofs.Walk.{stack_shape, scan_push, scan_pop, scan_end, scan_take, scan_past, scan_cut}
 use Rattle.rowex_walks.proofs.Ends.{scan_blank, scan_one, scan_nought, scan_outside, stack_depth, stack_high, stack_seen, stack_low}
-use Rattle.rowex_walks.proofs.Persist.{rooted_on, placed_on, scan_on}
+use Rattle.rowex_walks.proofs.Persist.{rooted_on, scan_on}
 use Rattle.rowex_walks.proofs.Measure.{push_less, next_less, pop_less, next, remaining, rest_after}
 use Rattle.insert_cases.specs.declared.choice.Step.{Step}
 use Rattle.hot_index.specs.declared.scanning.Verdict.{Verdict}
 use Rattle.hot_index.specs.declared.scanning.Verdict.TheVariants.{Further, Past as IsPast, Full}
-use Rattle.rowex_reading.specs.Seen.{seen, Sure, IsAtRoot, HasPlace, since, shape_of}
+use Rattle.rowex_reading.specs.Seen.{seen, Sure, IsAtRoot, IsLedTo, HasPlace, since, shape_of}
 use Rattle.rowex_table.specs.Made.{IsLater}
-use Rattle.hot_index.specs.Scanning.{HasScanned, IsAnswer, IsPairTaken, frame, frames_of, IsEntered, AreInside, AreOver, IsFloor, IsWalk}
-use Rattle.hot_index.specs.Counts.{walk_loads}
+use Rattle.hot_index.specs.Scanning.{HasScanned, IsAnswer, IsLeafTaken, IsNotBelow, IsPairTaken, frame, frames_of, IsEntered, AreInside, AreOver, IsFloor, IsWalk}
+use Rattle.hot_index.specs.Counts.{scan_loads, walk_loads}
 use Rattle.rowex_core.proofs.Owning.{recalls}
 use Rattle.rowex_walks.proofs.Starts.{over_on, over_later, over_down}
+use Rattle.rowex_core.specs.declared.event.Event.{Event}
+use Rattle.rowex_table.specs.Seats.{SeatView, TableView}
+use Rattle.rowex_reading.specs.Lookups.{HasSearched}
 use Rattle.rowex_reading.specs.Possible.{IsPossible}
+use Rattle.rowex_reading.specs.Reads.{Reads}
 use Rattle.rowex_writing.specs.Ways.{step_at}
 use Rattle.record_words.specs.declared.layout.Layout.{Layout}
 use Rattle.key_bits.specs.declared.TheConstants.{MAX_BYTES}
-use Rattle.rowex_reading.proofs.Led.{shape_place, HasShape}
-use Rattle.rowex_reading.proofs.Seeing.{recalls_before, seen_grown, seen_steady, since_later, sure_later, IsStable}
+use Rattle.rowex_reading.proofs.Led.{looks_on, placed_led, reads_trans, shape_place, HasShape}
+use Rattle.rowex_writing.proofs.Counting.{looks_count}
+use Rattle.record_words.specs.declared.TheConstants.{LEAF_FIELDS}
+use Rattle.rowex_reading.proofs.Seeing.{placed_stable, recalls_before, seen_grown, seen_steady, since_later, sure_later, IsStable}
 
 -- What a walk has still to do, at most: its measure.
 abbrev pub rest_of_frames : List Step → ℕ
@@ -182,90 +188,131 @@ scan_later : {k j : Known} {m : ℕ} {g : Range} {top : Step} {frames : List Ste
 scan_later {k} {j} {m} {g} w l c lawful recalls =
     scan_on (seen c k) (seen c j) (seen_grown c l) m g (w.lowest ∷ w.others) w.taken (w.scan c lawful (recalls_before l recalls))
 
-placed_later : {k j : Known} (m r i : ℕ) (e : Entry) → IsLater k j → Sure k (λ s. IsPlaced s m r i e) → Sure j (λ s. IsPlaced s m r i e)
-placed_later {k} {j} m r i e l sure c lawful recalls = placed_on (seen c k) (seen c j) (seen_grown c l) m r i e (sure c lawful (recalls_before l recalls))
+-- The walk after more loads.
+pub walk_later : {k j : Known} {m : ℕ} {g : Range} {top : Step} {frames : List Step} {pairs : List (Key × ℕ)} → IsWalk k m g top frames pairs → IsLater k j → IsWalk j m g top frames pairs
+walk_later w l = record {
+  lowest = w.lowest;
+  others = w.others;
+  taken = w.taken;
+  top_is = w.top_is;
+  frames_are = w.frames_are;
+  pairs_are = w.pairs_are;
+  room = w.room;
+  inside = w.inside;
+  pinned = since_later l w.pinned;
+  scan = scan_later w l;
+}
 
-module _ {k i j : Known} {m : ℕ} {g : Range} {top : Step} {frames : List Step} {pairs : List (Key × ℕ)} (w : IsWalk k m g top frames pairs) (l : IsLater k i) (o : IsLater i j)
-    (inside : top.at < top.count) where
-  lowest_inside : w.lowest.place < size w.lowest.shape
-  lowest_inside = subst (λ (z : Step). z.at < z.count) w.top_is inside
+-- from the last load of the root on
+pub walk_since : {k : Known} {m : ℕ} {g : Range} {top : Step} {frames : List Step} {pairs : List (Key × ℕ)} → since k ≡ m → IsWalk k m g top frames pairs → IsWalk k (since k) g top frames pairs
+walk_since {k = k} {g = g} {top = top} {frames = frames} {pairs = pairs} e = subst (λ z. IsWalk k z g top frames pairs) (sym e)
 
-  later : (c : Core) → IsLawful c → Recalls c j → IsScan (seen c j) m g (w.lowest ∷ w.others) w.taken
-  later c lawful recalls = scan_on (seen c i) (seen c j) (seen_grown c o) m g (w.lowest ∷ w.others) w.taken (scan_later w l c lawful (recalls_before o recalls))
+-- Where a walk is, and the entry that the pass knows at its place.
+pub record IsAtEntry (k : Known) (m : ℕ) (g : Range) (top : Step) (frames : List Step) (pairs : List (Key × ℕ)) (e : Entry) : Type 0 where
+  pub walk : IsWalk k m g top frames pairs
+  pub inside : top.at < top.count
+  pub placed : Sure k (λ s. IsPlaced s m top.number top.at e)
 
-  steady : (c : Core) → IsLawful c → Recalls c j → IsSteady (seen c j) m
-  steady c lawful recalls = seen_steady lawful recalls (since_later o (since_later l w.pinned))
+-- the entry has been loaded
+pub entry_at : {k j : Known} {m : ℕ} {g : Range} {top : Step} {frames : List Step} {pairs : List (Key × ℕ)} (e : Entry) → IsWalk k m g top frames pairs → top.at < top.count → IsLater k j →
+    ((n h : ℕ) → HasPlace k n top.number h top.at → (height_of e < h) × Sure j (λ s. IsPlaced s n top.number top.at e)) → IsAtEntry j m g top frames pairs e
+entry_at {m = m} {top = top} e w inside l loaded = record { walk = walk_later w l; inside = inside; placed = (loaded m top.height (walk_place w inside)).1 }
 
-  -- the entry there, as the pass knows it in the end
-  there : (e : Entry) → Sure i (λ s. IsPlaced s m top.number top.at e) → Sure j (λ s. IsPlaced s m w.lowest.number w.lowest.place e)
-  there e at = placed_later m w.lowest.number w.lowest.place e o (subst (λ (z : Step). Sure i (λ s. IsPlaced s m z.number z.at e)) w.top_is at)
+module _ {k : Known} {m : ℕ} {g : Range} {top : Step} {frames : List Step} {pairs : List (Key × ℕ)} {e : Entry} (a : IsAtEntry k m g top frames pairs e) where
+  pub entry_led : IsLedTo k m e
+  entry_led = placed_led top.number top.at e a.walk.pinned a.placed
 
-  pub walk_push : (number height : ℕ) → Sure i (λ s. IsPlaced s m top.number top.at (Node number height)) → (into : Step) → IsEntered j m number height into →
-      (more : List Step) → more ≡ frames ++ top ∷ [] → IsWalk j m g into more pairs
-  walk_push number height at into e more q = record {
+  lowest_inside : a.walk.lowest.place < size a.walk.lowest.shape
+  lowest_inside = subst (λ (z : Step). z.at < z.count) a.walk.top_is a.inside
+
+  module _ {j : Known} (l : IsLater k j) where
+    steady : (c : Core) → IsLawful c → Recalls c j → IsSteady (seen c j) m
+    steady c lawful recalls = seen_steady lawful recalls (since_later l a.walk.pinned)
+
+    -- the entry, by the frame
+    there : Sure j (λ s. IsPlaced s m a.walk.lowest.number a.walk.lowest.place e)
+    there = sure_later (placed_stable m a.walk.lowest.number a.walk.lowest.place e) l (subst (λ (z : Step). Sure k (λ s. IsPlaced s m z.number z.at e)) a.walk.top_is a.placed)
+
+-- At a node, which was entered.
+module _ {k j : Known} {m : ℕ} {g : Range} {top : Step} {frames : List Step} {pairs : List (Key × ℕ)} {number height : ℕ} (a : IsAtEntry k m g top frames pairs (Node number height)) (l : IsLater k j) {into : Step}
+    (e : IsEntered j m number height into) {more : List Step} (q : more ≡ frames ++ top ∷ []) where
+  more_are : more ≡ frames_of (a.walk.lowest ∷ a.walk.others)
+  more_are = q ∙ (ap (λ z. z ++ top ∷ []) a.walk.frames_are ∙ ap (λ z. frames_of a.walk.others ++ z ∷ []) a.walk.top_is)
+
+  pub walk_push : IsWalk j m g into more pairs
+  walk_push = record {
     lowest = record { number = number; height = height; shape = e.forks; place = 0 };
-    others = w.lowest ∷ w.others;
-    taken = w.taken;
+    others = a.walk.lowest ∷ a.walk.others;
+    taken = a.walk.taken;
     top_is = e.top_is;
-    frames_are = q ∙ (ap (λ z. z ++ top ∷ []) w.frames_are ∙ ap (λ z. frames_of w.others ++ z ∷ []) w.top_is);
-    pairs_are = w.pairs_are;
+    frames_are = more_are;
+    pairs_are = a.walk.pairs_are;
     room = e.room;
-    inside = (lowest_inside, w.room, w.inside);
-    pinned = since_later o (since_later l w.pinned);
+    inside = (lowest_inside a, a.walk.room, a.walk.inside);
+    pinned = since_later l a.walk.pinned;
     scan = λ c lawful recalls.
-        scan_push (seen c j) m (steady c lawful recalls) g w.lowest w.others w.taken (later c lawful recalls) number height e.forks
-        (there (Node number height) at c lawful recalls) (e.shaped c lawful recalls);
+        scan_push (seen c j) m (steady a l c lawful recalls) g a.walk.lowest a.walk.others a.walk.taken (scan_later a.walk l c lawful recalls) number height e.forks
+        (there a l c lawful recalls) (e.shaped c lawful recalls);
   }
 
-  pub walk_push_less : (number height : ℕ) → height < top.height → (into : Step) → IsEntered j m number height into →
-      (more : List Step) → more ≡ frames ++ top ∷ [] → rest_of into more < rest_of top frames
-  walk_push_less number height falls into e more q =
+  pub walk_push_less : height < top.height → rest_of into more < rest_of top frames
+  walk_push_less falls =
       let c : Stage = record { number = number; height = height; shape = e.forks; place = 0 } in
-      let low : height < w.lowest.height = subst (λ (z : Step). height < z.height) w.top_is falls in
-      let less : remaining (c ∷ w.lowest ∷ w.others) < remaining (w.lowest ∷ w.others) = push_less w.lowest w.others c lowest_inside low e.room in
-      let before : rest_of into more ≡ remaining (c ∷ w.lowest ∷ w.others) =
-      ap (λ (z : Step). rest_of z more) e.top_is ∙
-      (ap (λ z. rest_of (frame c) z) (q ∙ (ap (λ z. z ++ top ∷ []) w.frames_are ∙ ap (λ z. frames_of w.others ++ z ∷ []) w.top_is)) ∙ whole_is c (w.lowest ∷ w.others)) in
-      let after : rest_of top frames ≡ remaining (w.lowest ∷ w.others) =
-      ap (λ (z : Step). rest_of z frames) w.top_is ∙ (ap (λ z. rest_of (frame w.lowest) z) w.frames_are ∙ whole_is w.lowest w.others) in
-      subst (λ z. z < rest_of top frames) (sym before) (subst (λ z. remaining (c ∷ w.lowest ∷ w.others) < z) (sym after) less)
+      let low : height < a.walk.lowest.height = subst (λ (z : Step). height < z.height) a.walk.top_is falls in
+      let less : remaining (c ∷ a.walk.lowest ∷ a.walk.others) < remaining (a.walk.lowest ∷ a.walk.others) = push_less a.walk.lowest a.walk.others c (lowest_inside a) low e.room in
+      let before : rest_of into more ≡ remaining (c ∷ a.walk.lowest ∷ a.walk.others) =
+      ap (λ (z : Step). rest_of z more) e.top_is ∙ (ap (λ z. rest_of (frame c) z) more_are ∙ whole_is c (a.walk.lowest ∷ a.walk.others)) in
+      let after : rest_of top frames ≡ remaining (a.walk.lowest ∷ a.walk.others) =
+      ap (λ (z : Step). rest_of z frames) a.walk.top_is ∙ (ap (λ z. rest_of (frame a.walk.lowest) z) a.walk.frames_are ∙ whole_is a.walk.lowest a.walk.others) in
+      subst (λ z. z < rest_of top frames) (sym before) (subst (λ z. remaining (c ∷ a.walk.lowest ∷ a.walk.others) < z) (sym after) less)
 
-  module _ (number : ℕ) (at : Sure i (λ s. IsPlaced s m top.number top.at (Leaf number))) (key : Key) (value : ℕ) (read : Sure j (λ s. IsRead s m number key value)) where
-    pub walk_further : (more : List (Key × ℕ)) → IsPairTaken g pairs key value more Further → IsWalk j m g (record top { at = top.at + 1 }) frames more
-    walk_further more (within, room, e) = record {
-      lowest = next w.lowest;
-      others = w.others;
-      taken = record { key = key; value = value } ∷ w.taken;
-      top_is = ap (λ (z : Step). let x : Step = record z { at = z.at + 1 } in x) w.top_is ∙ at_next w.lowest;
-      frames_are = w.frames_are;
-      pairs_are = e ∙ ap (λ z. z ++ (key, value) ∷ []) w.pairs_are;
-      room = w.room;
-      inside = w.inside;
-      pinned = since_later o (since_later l w.pinned);
-      scan = λ c lawful recalls.
-          let s = later c lawful recalls in let short = s.short in
-          let n = ap length w.pairs_are ∙ length_turned w.taken in
-          scan_take (seen c j) m (steady c lawful recalls) g w.lowest w.others w.taken s number key value
-          (there (Leaf number) at c lawful recalls) (read c lawful recalls) within (omega arith);
+-- At a leaf, which was read.
+module _ {k j : Known} {m : ℕ} {g : Range} {top : Step} {frames : List Step} {pairs : List (Key × ℕ)} {number : ℕ} (a : IsAtEntry k m g top frames pairs (Leaf number)) (l : IsLater k j) {more : List (Key × ℕ)}
+    {verdict : Verdict} (t : IsLeafTaken k j g number pairs more verdict) where
+  read : Sure j (λ s. IsRead s m number t.key t.value)
+  read = t.read m (entry_led a)
+
+  taken : {v : Verdict} → verdict ≡ v → IsPairTaken g pairs t.key t.value more v
+  taken e = subst (λ z. IsPairTaken g pairs t.key t.value more z) e t.taken
+
+  pub walk_further : verdict ≡ Further → IsWalk j m g (record top { at = top.at + 1 }) frames more
+  walk_further is = let (within, room, e) = taken is in record {
+    lowest = next a.walk.lowest;
+    others = a.walk.others;
+    taken = record { key = t.key; value = t.value } ∷ a.walk.taken;
+    top_is = ap (λ (z : Step). let x : Step = record z { at = z.at + 1 } in x) a.walk.top_is ∙ at_next a.walk.lowest;
+    frames_are = a.walk.frames_are;
+    pairs_are = e ∙ ap (λ z. z ++ (t.key, t.value) ∷ []) a.walk.pairs_are;
+    room = a.walk.room;
+    inside = a.walk.inside;
+    pinned = since_later l a.walk.pinned;
+    scan = λ c lawful recalls.
+        let s = scan_later a.walk l c lawful recalls in let short = s.short in
+        let n = ap length a.walk.pairs_are ∙ length_turned a.walk.taken in
+        scan_take (seen c j) m (steady a l c lawful recalls) g a.walk.lowest a.walk.others a.walk.taken s number t.key t.value
+        (there a l c lawful recalls) (read c lawful recalls) within (omega arith);
+  }
+
+  pub taken_more : verdict ≡ Further → length more ≡ length pairs + 1
+  taken_more is = ap length (taken is).2 ∙ length-append pairs ((t.key, t.value) ∷ [])
+
+  module _ (e : since j ≡ m) (scan : Scan) (same : scan.pairs.items ≡ more) where
+    ends : (b : Bool) → scan.more ≡ b → more ≡ pairs → Sure j (λ s. IsAnswer s m g a.walk.taken b) → HasScanned j g scan
+    ends b is stay answer = record {
+      taken = a.walk.taken;
+      pairs = same ∙ (stay ∙ a.walk.pairs_are);
+      answer = subst (λ z. Sure j (λ s. IsAnswer s z g a.walk.taken scan.more)) (sym e) (subst (λ z. Sure j (λ s. IsAnswer s m g a.walk.taken z)) (sym is) answer);
     }
 
-    pub walk_past : since j ≡ m → (scan : Scan) → IsPairTaken g pairs key value scan.pairs.items IsPast → scan.more ≡ false → HasScanned j g scan
-    walk_past e scan (high, same) more = record {
-      taken = w.taken;
-      pairs = same ∙ w.pairs_are;
-      answer = subst (λ z. Sure j (λ s. IsAnswer s z g w.taken scan.more)) (sym e) (subst (λ z. Sure j (λ s. IsAnswer s m g w.taken z)) (sym more) (λ c lawful recalls.
-          scan_past (seen c j) m (steady c lawful recalls) g w.lowest w.others w.taken (later c lawful recalls) number key value
-          (there (Leaf number) at c lawful recalls) (read c lawful recalls) high));
-    }
+    pub walk_past : verdict ≡ IsPast → scan.more ≡ false → HasScanned j g scan
+    walk_past is last = let (high, stay) = taken is in ends false last stay (λ c lawful recalls.
+        scan_past (seen c j) m (steady a l c lawful recalls) g a.walk.lowest a.walk.others a.walk.taken (scan_later a.walk l c lawful recalls) number t.key t.value
+        (there a l c lawful recalls) (read c lawful recalls) high)
 
-    pub walk_full : since j ≡ m → (scan : Scan) → IsPairTaken g pairs key value scan.pairs.items Full → scan.more ≡ true → HasScanned j g scan
-    walk_full e scan (within, full, same) more = record {
-      taken = w.taken;
-      pairs = same ∙ w.pairs_are;
-      answer = subst (λ z. Sure j (λ s. IsAnswer s z g w.taken scan.more)) (sym e) (subst (λ z. Sure j (λ s. IsAnswer s m g w.taken z)) (sym more) (λ c lawful recalls.
-          scan_cut (seen c j) m (steady c lawful recalls) g w.lowest w.others w.taken (later c lawful recalls) number key value
-          (there (Leaf number) at c lawful recalls) (read c lawful recalls) within (sym (length_turned w.taken) ∙ (sym (ap length w.pairs_are) ∙ full))));
-    }
+    pub walk_full : verdict ≡ Full → scan.more ≡ true → HasScanned j g scan
+    walk_full is further = let (within, full, stay) = taken is in ends true further stay (λ c lawful recalls.
+        scan_cut (seen c j) m (steady a l c lawful recalls) g a.walk.lowest a.walk.others a.walk.taken (scan_later a.walk l c lawful recalls) number t.key t.value
+        (there a l c lawful recalls) (read c lawful recalls) within (sym (length_turned a.walk.taken) ∙ (sym (ap length a.walk.pairs_are) ∙ full)))
 
 -- A place further is less.
 pub walk_next_less : {k : Known} {m : ℕ} {g : Range} {top : Step} {frames : List Step} {pairs : List (Key × ℕ)} → IsWalk k m g top frames pairs → top.at < top.count →
@@ -414,16 +461,38 @@ pub paid_pop : (loads pairs : ℕ) (top : Step) (frames : List Step) (lower : St
 paid_pop loads pairs top frames lower rest paid done e =
     let n = ap length e ∙ length-append rest (lower ∷ []) in let spare = ap spare_of e ∙ spare_append rest lower in omega (arith, paid, done, n, spare)
 
-pub paid_leaf : (loads more pairs : ℕ) (top : Step) (frames : List Step) → IsPaid loads pairs top frames → more ≤ 33 → IsPaid (loads + more) (pairs + 1) (record top { at = top.at + 1 }) frames
-paid_leaf loads more pairs top frames paid few = omega (arith, paid, few)
+pub paid_leaf : (loads leaf pairs more : ℕ) (top : Step) (frames : List Step) → more ≡ pairs + 1 → IsPaid loads pairs top frames → leaf ≤ 33 → IsPaid (loads + leaf) more (record top { at = top.at + 1 }) frames
+paid_leaf loads leaf pairs more top frames one paid few = omega (arith, one, paid, few)
 
 -- at one leaf more
-pub paid_most : (loads more pairs limit : ℕ) (top : Step) (frames : List Step) → IsPaid loads pairs top frames → more ≤ 33 → length frames < 9 * MAX_BYTES → pairs ≤ limit → loads + more ≤ walk_loads limit
+paid_most : (loads more pairs limit : ℕ) (top : Step) (frames : List Step) → IsPaid loads pairs top frames → more ≤ 33 → length frames < 9 * MAX_BYTES → pairs ≤ limit → loads + more ≤ walk_loads limit
 paid_most loads more pairs limit top frames paid few short within = let most = spare_most frames in omega (arith, paid, few, short, within, most)
+
+-- with which the walk ends
+pub paid_last : {G : Type 0} {table : TableView} {becomes : G → Event → G → Type 0} {a b d e : SeatView × G} {m : ℕ} {g : Range} {top : Step} {frames : List Step} {pairs : List (Key × ℕ)} →
+    (n : ℕ) × IsPaid n (length pairs) top frames × Reads table becomes n a b → IsWalk b.0.known m g top frames pairs → IsPossible table.layout b.0.known → Reads table becomes 1 b d →
+    (n : ℕ) × (n ≤ LEAF_FIELDS) × Reads table becomes n d e → (n : ℕ) × (n ≤ walk_loads g.limit) × Reads table becomes n a e
+paid_last {g = g} {top = top} {frames = frames} {pairs = pairs} (loads, paid, before) w possible entry (leaf, few, read) = (
+  loads + (1 + leaf),
+  paid_most loads (1 + leaf) (length pairs) g.limit top frames paid (omega (arith, few)) (way_short w possible) (walk_short w possible),
+  reads_trans before (reads_trans entry read),
+)
 
 -- at the end of the way
 pub paid_end : (loads pairs limit : ℕ) (top : Step) (frames : List Step) → IsPaid loads pairs top frames → frames ≡ [] → pairs ≤ limit → loads ≤ walk_loads limit
 paid_end loads pairs limit top frames paid none within = let n = ap length none in let spare = ap spare_of none in omega (arith, paid, n, spare, within)
+
+-- some loads, and then some more
+pub reads_both : {G : Type 0} {table : TableView} {becomes : G → Event → G → Type 0} {a b d : SeatView × G} {x y most : ℕ} → (n : ℕ) × (n ≤ x) × Reads table becomes n a b →
+    (n : ℕ) × (n ≤ y) × Reads table becomes n b d → x + y ≤ most → (n : ℕ) × (n ≤ most) × Reads table becomes n a d
+reads_both (n, few, first) (p, less, rest) within = (n + p, omega (arith, few, less, within), reads_trans first rest)
+
+-- a search, and then some loads: the steps of a scan
+pub searched_few : {G : Type 0} {table : TableView} {becomes : G → Event → G → Type 0} {a b d : SeatView × G} {x : ℕ} (limit : ℕ) → HasSearched table becomes a b →
+    (n : ℕ) × (n ≤ x) × Reads table becomes n b d → x ≤ 57 + walk_loads limit → d.0.known.steps ≤ a.0.known.steps + (1 + scan_loads limit)
+searched_few {table = table} {becomes = becomes} {a = a} {d = d} limit s (n, less, rest) within =
+    let count = looks_count table becomes (s.loaded + n) a d (looks_on s.looks rest) in
+    let few = s.few in let low = s.low in omega (arith, count, few, low, less, within)
 
 -- What is above the first key
 
@@ -449,6 +518,9 @@ module _ (m : ℕ) (key : Key) where
     right = are_over_later l frames f.right;
   }
 
+  pub floor_since : {k : Known} {top : Step} {frames : List Step} → since k ≡ m → IsFloor k m key top frames → IsFloor k (since k) key top frames
+  floor_since {k} {top} {frames} e = subst (λ z. IsFloor k z key top frames) (sym e)
+
   module _ {k : Known} {top : Step} {frames : List Step} (f : IsFloor k m key top frames) where
     right_there : Sure k (λ s. IsOver s m key top.number (top.at + 1))
     right_there c lawful known = over_later (seen c k) m top.number top.at (top.at + 1) key (omega arith) (f.there c lawful known)
@@ -467,14 +539,14 @@ module _ (m : ℕ) (key : Key) where
     pub floor_pop : (lower : Step) (rest : List Step) → frames ≡ rest ++ lower ∷ [] → IsFloor k m key (record lower { at = lower.at + 1 }) rest
     floor_pop lower rest e = let o = over_parts rest lower (subst (AreOver k m key) e f.right) in record { there = o.1; right = o.0 }
 
-    -- a leaf that was read there
-    pub floor_leaf : {layout : Layout} (number : ℕ) (l : Key) (value : ℕ) → IsPossible layout k → IsSince k m → Sure k (λ s. IsPlaced s m top.number top.at (Leaf number)) →
-        Sure k (λ s. IsRead s m number l value) → IsAtMost key l
-    floor_leaf number l value possible pinned placed read =
-        let c = possible.core in let r = recalls c k possible.knows in
-        let steady = seen_steady possible.lawful r pinned in
-        inr (f.there c possible.lawful r (seen c k) (record { longer = le_refl (length k.front); kept = λ n lo. refl }) steady top.at l (le_refl top.at)
-        (fit_leaf (seen c k) m steady top.number top.at number l value (placed c possible.lawful r) (read c possible.lawful r)))
+    -- a leaf that stands there
+    pub floor_leaf : {layout : Layout} (number : ℕ) → IsSince k m → Sure k (λ s. IsPlaced s m top.number top.at (Leaf number)) → IsNotBelow layout k m key number
+    floor_leaf number pinned placed j l possible z value read =
+        let c = possible.core in let r = recalls c j possible.knows in
+        let steady = seen_steady possible.lawful r (since_later l pinned) in
+        let placed_then = sure_later (placed_stable m top.number top.at (Leaf number)) l placed in
+        inr (f.there c possible.lawful (recalls_before l r) (seen c j) (seen_grown c l) steady top.at z (le_refl top.at)
+        (fit_leaf (seen c j) m steady top.number top.at number z value (placed_then c possible.lawful r) (read c possible.lawful r)))
 
 -- What a step of a walk leaves
 
@@ -483,9 +555,6 @@ entered_first e = ap (λ (z : Step). z.at) e.top_is
 
 pub entered_number : {k : Known} {m n h : ℕ} {top : Step} → IsEntered k m n h top → top.number ≡ n
 entered_number e = ap (λ (z : Step). z.number) e.top_is
-
-pub taken_more : (g : Range) (xs ys : List (Key × ℕ)) (k : Key) (v : ℕ) → IsPairTaken g xs k v ys Further → length ys ≡ length xs + 1
-taken_more g xs ys k v (within, room, e) = ap length e ∙ length-append xs ((k, v) ∷ [])
 
 pub popped_is : {frames : List Step} {popped : Option Step} {lower : Step} (rest : List Step) → frames ≡ rest ++ option_to_list popped → popped ≡ Some lower → frames ≡ rest ++ lower ∷ []
 popped_is rest e is = e ∙ ap (λ z. rest ++ option_to_list z) is

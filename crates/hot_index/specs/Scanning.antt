@@ -8,12 +8,15 @@ use Rattle.tries.specs.Keys.{Key, IsAtMost, IsBefore}
 use Rattle.tries.specs.Tree.{Page, first_position}
 use Rattle.moments.specs.State.{Past}
 use Rattle.rowex_core.specs.declared.known.Known.{Known}
+use Rattle.record_words.specs.declared.layout.Layout.{Layout}
 use Rattle.rowex_walks.specs.Scan.{Pair, Range, IsInRange, IsComplete, IsCut, IsScan, IsOver, IsPlaced, IsRead, IsShaped, turned, Frame as Stage}
 use Rattle.hot_index.specs.declared.scanning.Start.{Start}
 use Rattle.hot_index.specs.declared.scanning.Range.{Range as Asked}
 use Rattle.hot_index.specs.declared.scanning.Verdict.{Verdict}
 use Rattle.hot_index.specs.declared.scanning.Verdict.TheVariants.{Further, Past as IsPast, Full}
-use Rattle.rowex_reading.specs.Seen.{Sure, since}
+use Rattle.rowex_table.specs.Made.{IsLater}
+use Rattle.rowex_reading.specs.Possible.{IsPossible}
+use Rattle.rowex_reading.specs.Seen.{IsLedTo, Sure, since}
 use Rattle.rowex_core.specs.Knowing.{IsSince}
 
 abbrev pub range_of : Asked → Range
@@ -36,6 +39,18 @@ abbrev pub IsPairTaken : Range → List (Key × ℕ) → Key → ℕ → List (K
 IsPairTaken g xs k v ys Further = IsInRange g k × (length xs ≢ g.limit) × (ys ≡ xs ++ (k, v) ∷ [])
 IsPairTaken g xs k v ys IsPast = IsBefore g.upto k × (ys ≡ xs)
 IsPairTaken g xs k v ys Full = IsInRange g k × (length xs ≡ g.limit) × (ys ≡ xs)
+
+-- The leaf has been read; and what became of the pairs at its key and value.
+pub record IsLeafTaken (k j : Known) (g : Range) (number : ℕ) (xs ys : List (Key × ℕ)) (verdict : Verdict) : Type 0 where
+  pub key : Key
+  pub value : ℕ
+  pub read : (m : ℕ) → IsLedTo k m (Leaf number) → Sure j (λ s. IsRead s m number key value)
+  pub taken : IsPairTaken g xs key value ys verdict
+
+-- The leaf's key, whenever the pass reads it, is not below this one.
+abbrev pub IsNotBelow : Layout → Known → ℕ → Key → ℕ → Type 0
+IsNotBelow layout k m from number =
+    (j : Known) → IsLater k j → IsPossible layout j → (key : Key) (value : ℕ) → Sure j (λ s. IsRead s m number key value) → IsAtMost from key
 
 -- a node on the way of a walk, without its forks
 abbrev pub frame : Stage → Step

@@ -12,7 +12,7 @@ ghost use Rattle.rowex_reading.specs.Seen.{IsAtRoot, IsLedTo, since};
 ghost use Rattle.rowex_writing.specs.Ways.{IsWayOf};
 ghost use Rattle.rowex_writing.specs.declared.plan.Found.TheVariants.{Leaf as FoundLeaf};
 ghost use Rattle.hot_index.specs.Counts.{scan_loads, walk_loads};
-ghost use Rattle.hot_index.specs.Scanning.{HasScanned, IsEntered, IsFloor, IsPairTaken, IsStart, IsWalk, range_of};
+ghost use Rattle.hot_index.specs.Scanning.{HasScanned, IsEntered, IsFloor, IsLeafTaken, IsNotBelow, IsPairTaken, IsStart, IsWalk, range_of};
 
 use arrayvec::ArrayVec;
 use compound_node::Entry;
@@ -144,9 +144,7 @@ fn scan_node<G: Gate>(
     way.truncate(start.level);
     let mut pairs = Vec::new(alloc);
     if start.leaf {
-        let mut places = [0; MAX_BYTES];
-        let (length, value) = load_places(table, seat, gate, number, &mut places);
-        match take_pair(&mut pairs, range, &places, length, value)? {
+        match take_leaf(table, seat, gate, range, number, &mut pairs)? {
             Verdict::Further => top.at += 1,
             Verdict::Past => return Ok(Scan { pairs, more: false }),
             Verdict::Full => return Ok(Scan { pairs, more: true }),
@@ -222,9 +220,7 @@ fn walk<G: Gate>(
                     top = enter(table, seat, gate, number);
                 }
                 Entry::Leaf(number) => {
-                    let mut places = [0; MAX_BYTES];
-                    let (length, value) = load_places(table, seat, gate, number, &mut places);
-                    match take_pair(&mut pairs, range, &places, length, value)? {
+                    match take_leaf(table, seat, gate, range, number, &mut pairs)? {
                         Verdict::Further => top.at += 1,
                         Verdict::Past => return Ok(Scan { pairs, more: false }),
                         Verdict::Full => return Ok(Scan { pairs, more: true }),
@@ -252,6 +248,26 @@ fn enter<G: Gate>(table: &HotTable, seat: &mut TableSeat, gate: &mut G, number: 
 {
     let head = load_head(table, seat, gate, number);
     step_of(&head, number, 0)
+}
+
+/// Loads a leaf whose key is not below the range, and takes its pair. Inline, as what it calls.
+#[inline(always)]
+fn take_leaf<G: Gate>(
+    table: &HotTable,
+    seat: &mut TableSeat,
+    gate: &mut G,
+    range: &Range,
+    number: u32,
+    pairs: &mut Vec<(Key, u64)>,
+) -> Result<Verdict, AllocError>
+    requires reader { IsReader table.now seat.old }
+    requires leaf { (m : ℕ) × IsLedTo seat.old.known m (LeafEntry number) × IsNotBelow table.now.layout seat.old.known m range.now.from.now number }
+    ensures reads { (n : ℕ) × (n ≤ LEAF_FIELDS) × Reads table.now G.becomes n (seat.old, gate.old) (seat.new, gate.new) }
+    ensures taken { IfOk result (IsLeafTaken seat.old.known seat.new.known (range_of range.now) number pairs.old.items pairs.new.items) }
+{
+    let mut places = [0; MAX_BYTES];
+    let (length, value) = load_places(table, seat, gate, number, &mut places);
+    take_pair(pairs, range, &places, length, value)
 }
 
 /// Takes a pair whose key is not below the range, if it belongs to the range and there is room for it. The key has these places.

@@ -1,13 +1,13 @@
 -- A range without keys; an empty root; and a search that has ended at a leaf.
 use Rattle.std.proofs.Common.{◌+◌, subst, ◌∙◌, arith}
 use Rattle.rowex_reading.specs.Seen.{since}
-use Rattle.rowex_reading.proofs.Led.{looks_first, looks_on, looks_same}
+use Rattle.rowex_reading.proofs.Led.{looks_first, looks_on, looks_same, reads_none}
 use Rattle.rowex_writing.proofs.Counting.{looks_count}
 use Rattle.rowex_writing.specs.Ways.{IsWayOf}
 use Rattle.tries.specs.Keys.{IsBefore}
 use Rattle.hot_index.specs.Scanning.{range_of}
 use Rattle.hot_index.proofs.Starting.{leaf_rooted, nothing_blank}
-use Rattle.hot_index.proofs.Walking.{empty_is, nothing_scanned, blank_scanned}
+use Rattle.hot_index.proofs.Walking.{blank_scanned, empty_is, nothing_scanned, searched_few}
 use Rattle.hot_index.proofs.scanning.scan_root.Goals as goal
 
 pub returns-then-is_before-clause-looks : goal.returns-then-is_before-clause-looks
@@ -32,10 +32,7 @@ returns-in-Nothing-clause-scanned g c =
     blank_scanned (range_of c.args.range.now) _ (nothing_blank _ _ _ _ c.search_way.new.way.items w) c.nothing-in-Nothing.ensures.pairs c.nothing-in-Nothing.ensures.more
 
 pub returns-in-Nothing-clause-few : goal.returns-in-Nothing-clause-few
-returns-in-Nothing-clause-few g c =
-    let s = c.search_way.ensures.searched in
-    let n = looks_count c.args.table.now g.G.Gate.becomes _ (c.args.seat.now, c.args.gate.now) (c.search_way.new.seat, c.search_way.new.gate) s.looks in
-    let few = s.few in let low = s.low in omega (arith, n, few, low)
+returns-in-Nothing-clause-few g c = searched_few {x = 0} c.args.range.now.limit c.search_way.ensures.searched (0, omega arith, reads_none (c.search_way.new.seat, c.search_way.new.gate)) (omega arith)
 
 pub scan_leaf-requires-clause-reader : goal.scan_leaf-requires-clause-reader
 scan_leaf-requires-clause-reader g c = ((looks_same c.search_way.ensures.searched.looks).0 ∙ c.requires.own, c.search_way.ensures.possible)
@@ -49,10 +46,7 @@ pub returns-then-len-eq0-clause-looks : goal.returns-then-len-eq0-clause-looks
 returns-then-len-eq0-clause-looks g c = let r = c.scan_leaf.ensures.reads in (c.search_way.ensures.searched.loaded + r.0, looks_on c.search_way.ensures.searched.looks r.2)
 
 pub returns-then-len-eq0-clause-few : goal.returns-then-len-eq0-clause-few
-returns-then-len-eq0-clause-few g c =
-    let s = c.search_way.ensures.searched in let r = c.scan_leaf.ensures.reads in
-    let n = looks_count c.args.table.now g.G.Gate.becomes _ (c.args.seat.now, c.args.gate.now) (c.scan_leaf.new.seat, c.scan_leaf.new.gate) (looks_on s.looks r.2) in
-    let few = s.few in let low = s.low in let more = r.1 in omega (arith, n, few, low, more)
+returns-then-len-eq0-clause-few g c = searched_few c.args.range.now.limit c.search_way.ensures.searched c.scan_leaf.ensures.reads (omega arith)
 
 pub scan_node-requires-clause-reader : goal.scan_node-requires-clause-reader
 scan_node-requires-clause-reader g c = ((looks_same c.search_way.ensures.searched.looks).0 ∙ c.requires.own, c.search_way.ensures.possible)
@@ -68,7 +62,4 @@ pub returns-else-len-eq0-clause-looks : goal.returns-else-len-eq0-clause-looks
 returns-else-len-eq0-clause-looks g c = let r = c.scan_node.ensures.reads in (c.search_way.ensures.searched.loaded + r.0, looks_on c.search_way.ensures.searched.looks r.2)
 
 pub returns-else-len-eq0-clause-few : goal.returns-else-len-eq0-clause-few
-returns-else-len-eq0-clause-few g c =
-    let s = c.search_way.ensures.searched in let r = c.scan_node.ensures.reads in
-    let n = looks_count c.args.table.now g.G.Gate.becomes _ (c.args.seat.now, c.args.gate.now) (c.scan_node.new.seat, c.scan_node.new.gate) (looks_on s.looks r.2) in
-    let few = s.few in let low = s.low in let more = r.1 in omega (arith, n, few, low, more)
+returns-else-len-eq0-clause-few g c = searched_few c.args.range.now.limit c.search_way.ensures.searched c.scan_node.ensures.reads (omega arith)

@@ -1,14 +1,28 @@
 -- The steps of the walk.
-use Rattle.std.proofs.Common.{◌+◌, refl, length, subst, sym, arith, take}
+use Rattle.std.proofs.Common.{◌≡◌, ◌+◌, refl, length, arith}
 use Rattle.compound_node.specs.declared.entries.Entry.TheVariants.{Leaf, Node}
-use Rattle.hot_index.specs.declared.scanning.Verdict.TheVariants.{Further, Past, Full}
-use Rattle.rowex_reading.specs.Reads.{leaf_loads}
 use Rattle.rowex_reading.specs.Seen.{since}
+use Rattle.rowex_reading.proofs.Led.{reader_then, reads_later, reads_none, reads_trans, same_since}
+use Rattle.rowex_reading.proofs.Seeing.{placed_stable, sure_later}
 use Rattle.hot_index.specs.Scanning.{range_of}
-use Rattle.rowex_reading.proofs.Led.{placed_led, reader_then, reads_later, reads_none, reads_trans, same_since}
-use Rattle.rowex_reading.proofs.Seeing.{placed_stable, since_later, sure_later}
-use Rattle.hot_index.proofs.Walking.{taken_as, walk_place, walk_push, walk_push_less, walk_further, walk_past, walk_full, walk_next_less, walk_inside, walk_pop, walk_pop_less, walk_end, walk_several, walk_short, paid_first, paid_push, paid_pop, paid_leaf, paid_most, paid_end, floor_later, floor_next, floor_push, floor_pop, floor_leaf, way_short, entered_first, entered_number, taken_more, popped_is, none_popped, IsPaid}
+use Rattle.hot_index.proofs.Walking.{IsAtEntry, entered_first, entered_number, entry_at, entry_led, floor_later, floor_leaf, floor_next, floor_pop, floor_push, none_popped, paid_end, paid_first, paid_last, paid_leaf, paid_pop, paid_push, popped_is, taken_more, walk_end, walk_full, walk_further, walk_inside, walk_next_less, walk_past, walk_place, walk_pop, walk_pop_less, walk_push, walk_push_less, walk_several, walk_short, way_short}
+use Rattle.hot_index.proofs.scanning.walk.Given as given
 use Rattle.hot_index.proofs.scanning.walk.Goals as goal
+use Rattle.hot_index.proofs.scanning.walk.Goals.{After-take_leaf, In-Leaf, In-Node}
+
+-- The pass knows the entry at the place: a node,
+node : (g : given.Over) (c : In-Node g) →
+    IsAtEntry c.load_entry.new.seat.known (since c.args.seat.now.known) (range_of c.args.range.now) c.loop-top.top c.loop-top.way.items c.loop-top.pairs.items (Node c.in-Node.number c.in-Node.height)
+node g c = entry_at (Node c.in-Node.number c.in-Node.height) c.loop-top.invariant.walk c.if-top.true (reads_later c.load_entry.ensures.reads) c.in-Node.ensures.entry
+
+-- or a leaf.
+leaf : (g : given.Over) (c : In-Leaf g) →
+    IsAtEntry c.load_entry.new.seat.known (since c.args.seat.now.known) (range_of c.args.range.now) c.loop-top.top c.loop-top.way.items c.loop-top.pairs.items (Leaf c.in-Leaf.number)
+leaf g c = entry_at (Leaf c.in-Leaf.number) c.loop-top.invariant.walk c.if-top.true (reads_later c.load_entry.ensures.reads) c.in-Leaf.ensures.entry
+
+-- When the leaf has been read, the root has not been loaded again.
+same : (g : given.Over) (c : After-take_leaf g) → since c.take_leaf.new.seat.known ≡ since c.args.seat.now.known
+same g c = same_since (reads_trans c.loop-top.invariant.reads.2 (reads_trans c.load_entry.ensures.reads c.take_leaf.ensures.reads.2))
 
 pub loop-top-init : goal.loop-top-init
 loop-top-init g c =
@@ -31,28 +45,21 @@ enter-top-requires-clause-reader g c = reader_then c.loop-top.invariant.reader c
 
 pub enter-top-requires-clause-led : goal.enter-top-requires-clause-led
 enter-top-requires-clause-led g c =
-    let w = c.loop-top.invariant.walk in let m = since c.args.seat.now.known in
-    let at = c.in-Node.ensures.entry m c.loop-top.top.height (walk_place w c.if-top.true) in
-    (m, c.in-Node.height, placed_led c.loop-top.top.number c.loop-top.top.at (Node c.in-Node.number c.in-Node.height) (since_later (reads_later c.load_entry.ensures.reads) w.pinned) at.1)
+    let a = node g (goal.at.enter-top-requires-clause-led g c).In-Node in
+    (since c.args.seat.now.known, c.in-Node.height, entry_led a)
 
 pub loop-top-smaller-in-Node : goal.loop-top-smaller-in-Node
 loop-top-smaller-in-Node g c =
-    let w = c.loop-top.invariant.walk in let m = since c.args.seat.now.known in
-    let at = c.in-Node.ensures.entry m c.loop-top.top.height (walk_place w c.if-top.true) in
-    let led = placed_led c.loop-top.top.number c.loop-top.top.at (Node c.in-Node.number c.in-Node.height) (since_later (reads_later c.load_entry.ensures.reads) w.pinned) at.1 in
-    let e = c.enter-top.ensures in
-    walk_push_less w (reads_later c.load_entry.ensures.reads) (reads_later e.reads.2) c.if-top.true c.in-Node.number c.in-Node.height at.0 c.enter-top.result
-    (e.entered m c.in-Node.height led) c.push.new.self.items c.push.ensures.items
+    let w = c.loop-top.invariant.walk in let m = since c.args.seat.now.known in let e = c.enter-top.ensures in
+    let a = node g (goal.at.loop-top-smaller-in-Node g c).In-Node in
+    walk_push_less a (reads_later e.reads.2) (e.entered m c.in-Node.height (entry_led a)) c.push.ensures.items (c.in-Node.ensures.entry m c.loop-top.top.height (walk_place w c.if-top.true)).0
 
 pub loop-top-preserved-in-Node : goal.loop-top-preserved-in-Node
 loop-top-preserved-in-Node g c =
-    let i = c.loop-top.invariant in let w = i.walk in let m = since c.args.seat.now.known in
-    let o = c.load_entry.ensures in
-    let at = c.in-Node.ensures.entry m c.loop-top.top.height (walk_place w c.if-top.true) in
-    let led = placed_led c.loop-top.top.number c.loop-top.top.at (Node c.in-Node.number c.in-Node.height) (since_later (reads_later o.reads) w.pinned) at.1 in
-    let e = c.enter-top.ensures in
-    let entered = e.entered m c.in-Node.height led in
-    let placed = sure_later (placed_stable m c.loop-top.top.number c.loop-top.top.at (Node c.in-Node.number c.in-Node.height)) (reads_later e.reads.2) at.1 in
+    let i = c.loop-top.invariant in let m = since c.args.seat.now.known in let o = c.load_entry.ensures in let e = c.enter-top.ensures in
+    let a = node g (goal.at.loop-top-preserved-in-Node g c).In-Node in
+    let entered = e.entered m c.in-Node.height (entry_led a) in
+    let placed = sure_later (placed_stable m c.loop-top.top.number c.loop-top.top.at (Node c.in-Node.number c.in-Node.height)) (reads_later e.reads.2) a.placed in
     record {
       reader = reader_then (reader_then i.reader o.reads) e.reads.2;
       reads = (
@@ -60,104 +67,57 @@ loop-top-preserved-in-Node g c =
         paid_push i.reads.0 (1 + e.reads.0) (length c.loop-top.pairs.items) c.loop-top.top c.loop-top.way.items c.enter-top.result c.push.new.self.items i.reads.1 (let few = e.reads.1 in omega (arith, few)) (entered_first entered) c.push.ensures.items,
         reads_trans i.reads.2 (reads_trans o.reads e.reads.2),
       );
-      walk = walk_push w (reads_later o.reads) (reads_later e.reads.2) c.if-top.true c.in-Node.number c.in-Node.height at.1 c.enter-top.result entered c.push.new.self.items c.push.ensures.items;
+      walk = walk_push a (reads_later e.reads.2) entered c.push.ensures.items;
       floor = floor_push m c.args.range.now.from.now (floor_later m c.args.range.now.from.now (reads_later (reads_trans o.reads e.reads.2)) i.floor) c.in-Node.number c.in-Node.height placed c.enter-top.result
           (entered_number entered) (entered_first entered) c.push.new.self.items c.push.ensures.items;
     }
 
-pub load_places-length-requires-clause-reader : goal.load_places-length-requires-clause-reader
-load_places-length-requires-clause-reader g c = reader_then c.loop-top.invariant.reader c.load_entry.ensures.reads
-
-pub load_places-length-requires-clause-led : goal.load_places-length-requires-clause-led
-load_places-length-requires-clause-led g c =
-    let w = c.loop-top.invariant.walk in let m = since c.args.seat.now.known in
-    let at = c.in-Leaf.ensures.entry m c.loop-top.top.height (walk_place w c.if-top.true) in
-    (m, placed_led c.loop-top.top.number c.loop-top.top.at (Leaf c.in-Leaf.number) (since_later (reads_later c.load_entry.ensures.reads) w.pinned) at.1)
+pub take_leaf-requires-clause-reader : goal.take_leaf-requires-clause-reader
+take_leaf-requires-clause-reader g c = reader_then c.loop-top.invariant.reader c.load_entry.ensures.reads
 
 -- it is not below the range
-pub take_pair-requires : goal.take_pair-requires
-take_pair-requires g c =
-    let i = c.loop-top.invariant in let w = i.walk in let m = since c.args.seat.now.known in
-    let o = c.load_entry.ensures in let e = c.load_places-length.ensures in
-    let at = c.in-Leaf.ensures.entry m c.loop-top.top.height (walk_place w c.if-top.true) in
-    let pinned = since_later (reads_later o.reads) w.pinned in
-    let led = placed_led c.loop-top.top.number c.loop-top.top.at (Leaf c.in-Leaf.number) pinned at.1 in
-    record {
-      places = e.places;
-      above = floor_leaf m c.args.range.now.from.now (floor_later m c.args.range.now.from.now (reads_later (reads_trans o.reads e.reads)) i.floor) c.in-Leaf.number (take c.load_places-length.result.0 c.load_places-length.new.places) c.load_places-length.result.1
-          (reader_then (reader_then i.reader o.reads) e.reads).1 (since_later (reads_later e.reads) pinned)
-          (sure_later (placed_stable m c.loop-top.top.number c.loop-top.top.at (Leaf c.in-Leaf.number)) (reads_later e.reads) at.1) (e.leaf m led);
-    }
+pub take_leaf-requires-clause-leaf : goal.take_leaf-requires-clause-leaf
+take_leaf-requires-clause-leaf g c =
+    let i = c.loop-top.invariant in let m = since c.args.seat.now.known in let later = reads_later c.load_entry.ensures.reads in
+    let a = leaf g (goal.at.take_leaf-requires-clause-leaf g c).In-Leaf in
+    (m, entry_led a, floor_leaf m c.args.range.now.from.now (floor_later m c.args.range.now.from.now later i.floor) c.in-Leaf.number a.walk.pinned a.placed)
 
-pub returns-in_err-take_pair-in-Leaf-clause-reads : goal.returns-in_err-take_pair-in-Leaf-clause-reads
-returns-in_err-take_pair-in-Leaf-clause-reads g c =
-    let i = c.loop-top.invariant in (
-      i.reads.0 + (1 + leaf_loads (take c.load_places-length.result.0 c.load_places-length.new.places)),
-      paid_most i.reads.0 (1 + leaf_loads (take c.load_places-length.result.0 c.load_places-length.new.places)) (length c.loop-top.pairs.items) c.args.range.now.limit c.loop-top.top c.loop-top.way.items i.reads.1 (omega (arith, c.load_places-length.ensures.few)) (way_short i.walk i.reader.1) (walk_short i.walk i.reader.1),
-      reads_trans i.reads.2 (reads_trans c.load_entry.ensures.reads c.load_places-length.ensures.reads),
-    )
+pub returns-in_err-take_leaf-in-Leaf-clause-reads : goal.returns-in_err-take_leaf-in-Leaf-clause-reads
+returns-in_err-take_leaf-in-Leaf-clause-reads g c =
+    let i = c.loop-top.invariant in paid_last i.reads i.walk i.reader.1 c.load_entry.ensures.reads c.take_leaf.ensures.reads
 
 pub loop-top-smaller-in-Further : goal.loop-top-smaller-in-Further
 loop-top-smaller-in-Further g c = walk_next_less c.loop-top.invariant.walk c.if-top.true
 
 pub loop-top-preserved-in-Further : goal.loop-top-preserved-in-Further
 loop-top-preserved-in-Further g c =
-    let i = c.loop-top.invariant in let w = i.walk in let m = since c.args.seat.now.known in
-    let o = c.load_entry.ensures in
-    let at = c.in-Leaf.ensures.entry m c.loop-top.top.height (walk_place w c.if-top.true) in
-    let led = placed_led c.loop-top.top.number c.loop-top.top.at (Leaf c.in-Leaf.number) (since_later (reads_later o.reads) w.pinned) at.1 in
-    let e = c.load_places-length.ensures in
-    let taken = taken_as (range_of c.args.range.now) c.loop-top.pairs.items c.loop-top.pairs.items (take c.load_places-length.result.0 c.load_places-length.new.places) c.load_places-length.result.1 c.take_pair.new.pairs.items
-    c.in_ok-take_pair-in-Leaf.field-0 Further refl c.in-Further.is c.in_ok-take_pair-in-Leaf.ensures in
+    let i = c.loop-top.invariant in let m = since c.args.seat.now.known in let o = c.load_entry.ensures in let e = c.take_leaf.ensures in
+    let a = leaf g (goal.at.loop-top-preserved-in-Further g c).In-Leaf in
+    let taken = c.in_ok-take_leaf-in-Leaf.ensures.taken in
     record {
-      reader = reader_then (reader_then i.reader o.reads) e.reads;
+      reader = reader_then (reader_then i.reader o.reads) e.reads.2;
       reads = (
-        i.reads.0 + (1 + leaf_loads (take c.load_places-length.result.0 c.load_places-length.new.places)),
-        subst (λ n. IsPaid (i.reads.0 + (1 + leaf_loads (take c.load_places-length.result.0 c.load_places-length.new.places))) n (record c.loop-top.top { at = c.loop-top.top.at + 1 }) c.loop-top.way.items) (sym (taken_more (range_of c.args.range.now) c.loop-top.pairs.items c.take_pair.new.pairs.items (take c.load_places-length.result.0 c.load_places-length.new.places) c.load_places-length.result.1 taken))
-            (paid_leaf i.reads.0 (1 + leaf_loads (take c.load_places-length.result.0 c.load_places-length.new.places)) (length c.loop-top.pairs.items) c.loop-top.top c.loop-top.way.items i.reads.1 (omega (arith, c.load_places-length.ensures.few))),
-        reads_trans i.reads.2 (reads_trans o.reads e.reads),
+        i.reads.0 + (1 + e.reads.0),
+        paid_leaf i.reads.0 (1 + e.reads.0) _ _ c.loop-top.top c.loop-top.way.items (taken_more a (reads_later e.reads.2) taken c.in-Further.is) i.reads.1 (let few = e.reads.1 in omega (arith, few)),
+        reads_trans i.reads.2 (reads_trans o.reads e.reads.2),
       );
-      walk = walk_further w (reads_later o.reads) (reads_later e.reads) c.if-top.true c.in-Leaf.number at.1 (take c.load_places-length.result.0 c.load_places-length.new.places) c.load_places-length.result.1 (e.leaf m led) c.take_pair.new.pairs.items taken;
-      floor = floor_next m c.args.range.now.from.now (floor_later m c.args.range.now.from.now (reads_later (reads_trans o.reads e.reads)) i.floor);
+      walk = walk_further a (reads_later e.reads.2) taken c.in-Further.is;
+      floor = floor_next m c.args.range.now.from.now (floor_later m c.args.range.now.from.now (reads_later (reads_trans o.reads e.reads.2)) i.floor);
     }
 
 pub returns-in-Past-clause-reads : goal.returns-in-Past-clause-reads
-returns-in-Past-clause-reads g c =
-    let i = c.loop-top.invariant in (
-      i.reads.0 + (1 + leaf_loads (take c.load_places-length.result.0 c.load_places-length.new.places)),
-      paid_most i.reads.0 (1 + leaf_loads (take c.load_places-length.result.0 c.load_places-length.new.places)) (length c.loop-top.pairs.items) c.args.range.now.limit c.loop-top.top c.loop-top.way.items i.reads.1 (omega (arith, c.load_places-length.ensures.few)) (way_short i.walk i.reader.1) (walk_short i.walk i.reader.1),
-      reads_trans i.reads.2 (reads_trans c.load_entry.ensures.reads c.load_places-length.ensures.reads),
-    )
+returns-in-Past-clause-reads g c = let i = c.loop-top.invariant in paid_last i.reads i.walk i.reader.1 c.load_entry.ensures.reads c.take_leaf.ensures.reads
 
 pub returns-in-Past-clause-scanned : goal.returns-in-Past-clause-scanned
 returns-in-Past-clause-scanned g c =
-    let i = c.loop-top.invariant in let w = i.walk in let m = since c.args.seat.now.known in
-    let at = c.in-Leaf.ensures.entry m c.loop-top.top.height (walk_place w c.if-top.true) in
-    let led = placed_led c.loop-top.top.number c.loop-top.top.at (Leaf c.in-Leaf.number) (since_later (reads_later c.load_entry.ensures.reads) w.pinned) at.1 in
-    let e = c.load_places-length.ensures in
-    walk_past w (reads_later c.load_entry.ensures.reads) (reads_later e.reads) c.if-top.true c.in-Leaf.number at.1 (take c.load_places-length.result.0 c.load_places-length.new.places) c.load_places-length.result.1 (e.leaf m led)
-    (same_since (reads_trans i.reads.2 (reads_trans c.load_entry.ensures.reads e.reads))) _
-    (taken_as (range_of c.args.range.now) c.loop-top.pairs.items c.loop-top.pairs.items (take c.load_places-length.result.0 c.load_places-length.new.places) c.load_places-length.result.1 c.take_pair.new.pairs.items
-    c.in_ok-take_pair-in-Leaf.field-0 Past refl c.in-Past.is c.in_ok-take_pair-in-Leaf.ensures) refl
+    let at = goal.at.returns-in-Past-clause-scanned g c in walk_past (leaf g at.In-Leaf) (reads_later c.take_leaf.ensures.reads.2) c.in_ok-take_leaf-in-Leaf.ensures.taken (same g at.After-take_leaf) _ refl c.in-Past.is refl
 
 pub returns-in-Full-clause-reads : goal.returns-in-Full-clause-reads
-returns-in-Full-clause-reads g c =
-    let i = c.loop-top.invariant in (
-      i.reads.0 + (1 + leaf_loads (take c.load_places-length.result.0 c.load_places-length.new.places)),
-      paid_most i.reads.0 (1 + leaf_loads (take c.load_places-length.result.0 c.load_places-length.new.places)) (length c.loop-top.pairs.items) c.args.range.now.limit c.loop-top.top c.loop-top.way.items i.reads.1 (omega (arith, c.load_places-length.ensures.few)) (way_short i.walk i.reader.1) (walk_short i.walk i.reader.1),
-      reads_trans i.reads.2 (reads_trans c.load_entry.ensures.reads c.load_places-length.ensures.reads),
-    )
+returns-in-Full-clause-reads g c = let i = c.loop-top.invariant in paid_last i.reads i.walk i.reader.1 c.load_entry.ensures.reads c.take_leaf.ensures.reads
 
 pub returns-in-Full-clause-scanned : goal.returns-in-Full-clause-scanned
 returns-in-Full-clause-scanned g c =
-    let i = c.loop-top.invariant in let w = i.walk in let m = since c.args.seat.now.known in
-    let at = c.in-Leaf.ensures.entry m c.loop-top.top.height (walk_place w c.if-top.true) in
-    let led = placed_led c.loop-top.top.number c.loop-top.top.at (Leaf c.in-Leaf.number) (since_later (reads_later c.load_entry.ensures.reads) w.pinned) at.1 in
-    let e = c.load_places-length.ensures in
-    walk_full w (reads_later c.load_entry.ensures.reads) (reads_later e.reads) c.if-top.true c.in-Leaf.number at.1 (take c.load_places-length.result.0 c.load_places-length.new.places) c.load_places-length.result.1 (e.leaf m led)
-    (same_since (reads_trans i.reads.2 (reads_trans c.load_entry.ensures.reads e.reads))) _
-    (taken_as (range_of c.args.range.now) c.loop-top.pairs.items c.loop-top.pairs.items (take c.load_places-length.result.0 c.load_places-length.new.places) c.load_places-length.result.1 c.take_pair.new.pairs.items
-    c.in_ok-take_pair-in-Leaf.field-0 Full refl c.in-Full.is c.in_ok-take_pair-in-Leaf.ensures) refl
+    let at = goal.at.returns-in-Full-clause-scanned g c in walk_full (leaf g at.In-Leaf) (reads_later c.take_leaf.ensures.reads.2) c.in_ok-take_leaf-in-Leaf.ensures.taken (same g at.After-take_leaf) _ refl c.in-Full.is refl
 
 pub overflow_add-top-in-Some : goal.overflow_add-top-in-Some
 overflow_add-top-in-Some g c = let h = walk_inside c.loop-top.invariant.walk c.in-Some.above c.pop.new.self.items (popped_is c.pop.new.self.items c.pop.ensures.items c.in-Some.is) in let a = h.0 in omega (arith, a)
