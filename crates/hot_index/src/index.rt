@@ -359,10 +359,14 @@ impl Index {
         ensures steps { pass.new.steps ≤ pass.old.steps + scan_steps limit }
         ensures read { HasRead self.now G.becomes (pass.old, gate.old) (pass.new, gate.new) }
     {
-        let range = Range { from, upto, limit };
+        let range = Range {
+            alloc,
+            from,
+            upto,
+            limit,
+        };
         pin(&self.table, &mut pass.seat, gate);
         let scan = scan_root(
-            alloc,
             &self.table,
             &mut pass.seat,
             gate,

@@ -29,9 +29,10 @@ use std::alloc::{AllocError, Global};
 /// and one with few pairs and a great limit takes no more than 16 KiB.
 const FIRST_ROOM: usize = 64;
 
-/// What a scan asks for.
+/// What a scan asks for, and where it takes the memory for its pairs.
 #[derive(Drop)]
 pub(crate) struct Range<'a> {
+    pub(crate) alloc: Global,
     pub(crate) from: &'a Key,
     pub(crate) upto: &'a Key,
     pub(crate) limit: usize,
@@ -62,7 +63,6 @@ enum Verdict {
 
 /// The scan of a pinned pass.
 pub(crate) fn scan_root<G: Gate>(
-    alloc: Global,
     table: &HotTable,
     seat: &mut TableSeat,
     gate: &mut G,
@@ -78,19 +78,19 @@ pub(crate) fn scan_root<G: Gate>(
 {
     if is_before(range.upto.as_bytes(), range.from.as_bytes()) {
         load_root(table, seat, gate);
-        return Ok(nothing(alloc));
+        return Ok(nothing(range.alloc));
     }
     match search_way(table, seat, gate, range.from, way) {
-        Found::Nothing => Ok(nothing(alloc)),
+        Found::Nothing => Ok(nothing(range.alloc)),
         Found::Leaf {
             number,
             mismatch,
             ..
         } => {
             if way.len() == 0 {
-                scan_leaf(alloc, table, seat, gate, range, number)
+                scan_leaf(table, seat, gate, range, number)
             } else {
-                scan_node(alloc, table, seat, gate, way, range, number, mismatch)
+                scan_node(table, seat, gate, way, range, number, mismatch)
             }
         }
     }
@@ -98,7 +98,6 @@ pub(crate) fn scan_root<G: Gate>(
 
 /// The scan from a root that is a leaf.
 fn scan_leaf<G: Gate>(
-    alloc: Global,
     table: &HotTable,
     seat: &mut TableSeat,
     gate: &mut G,
@@ -113,9 +112,9 @@ fn scan_leaf<G: Gate>(
     let mut places = [0; MAX_BYTES];
     let (length, value) = load_places(table, seat, gate, number, &mut places);
     if is_before(&places[..length], range.from.as_bytes()) {
-        return Ok(nothing(alloc));
+        return Ok(nothing(range.alloc));
     }
-    let mut pairs = Vec::new(alloc);
+    let mut pairs = Vec::new(range.alloc);
     match take_pair(&mut pairs, range, &places, length, value)? {
         Verdict::Full => Ok(Scan { pairs, more: true }),
         Verdict::Further | Verdict::Past => Ok(Scan { pairs, more: false }),
@@ -124,7 +123,6 @@ fn scan_leaf<G: Gate>(
 
 /// The scan from a root that is a node, below which the search for the range's first key has ended at this leaf.
 fn scan_node<G: Gate>(
-    alloc: Global,
     table: &HotTable,
     seat: &mut TableSeat,
     gate: &mut G,
@@ -142,7 +140,7 @@ fn scan_node<G: Gate>(
     let start = start_at(table, seat, gate, way, range.from, number, mismatch);
     let mut top = start.top;
     way.truncate(start.level);
-    let mut pairs = Vec::new(alloc);
+    let mut pairs = Vec::new(range.alloc);
     if start.leaf {
         match take_leaf(table, seat, gate, range, number, &mut pairs)? {
             Verdict::Further => top.at += 1,
