@@ -1,5 +1,5 @@
 -- What the map is after a key was added, or got another value.
-use Rattle.std.proofs.Common.{◌≡◌, ◌≢◌, inl, inr, ℕ, ◌<◌, List, true, false, refl, ap, sym, ◌∙◌, subst, Option, Some, None, if◌then◌else◌, set}
+use Rattle.std.proofs.Common.{◌≡◌, ◌≢◌, inl, inr, ℕ, ◌<◌, List, true, false, refl, ap, sym, ◌∙◌, subst, Option, Some, None, if◌then◌else◌, set, get_or}
 use Rattle.std.specs.Prelude.{slice_get, option_and_then}
 use Rattle.std.proofs.lemmas.Bool.{false≢true}
 use Rattle.std.proofs.lemmas.Option.{slice_get_within}
@@ -28,6 +28,7 @@ use Rattle.insert_cases.specs.Store.{PlainView, IsShown, IsSound, IsPlain, IsHel
 use Rattle.tries.proofs.Building.{lower_from, lower_to}
 use Rattle.insert_cases.proofs.Choosing.{same_some}
 use Rattle.insert_cases.proofs.Reading.{IsTree, plain_tree, tree_is, tree_plain}
+use Rattle.insert_cases.proofs.Searching.{read_at}
 use Rattle.insert_cases.proofs.Storing.{set_same, set_other}
 use Rattle.insert_cases.proofs.Values.{map_is, map_none, value_found, value_missed}
 use Rattle.tries.specs.Search.{found}
@@ -167,12 +168,14 @@ held_becomes v w k n x plain held nodes leaves top =
     exchange = exchanged_put place (leaf n k x) (item n k (found k held.tree).value) (item n k x) trie (exchanged_leaf n n k (found k held.tree).value x (trie_within place trie))
 
 -- ---- what the map has for the key
-pub held_value : (v : PlainView) (k : Key) (n : ℕ) → IsPlain v → (held : IsHeldInLeaf v k n) → value_at (map_of v) k ≡ Some (found k held.tree).value
-held_value v k n plain held =
+-- the value that stands in the leaf of a held key
+pub held_value : (u v : PlainView) (k : Key) (n : ℕ) (l : LeafRecord) → IsPlain u → u ≡ v → IsHeldInLeaf v k n → l ≡ get_or u.leaves n l → value_at (map_of v) k ≡ Some l.value
+held_value u v k n l plain same held at =
     let e = top_of v held.tree held.is in
-    let t = plain_tree v e.0 e.1 plain in
-    let same : t.0 ≡ held.tree = same_some (sym t.1.is ∙ held.is) in
-    ap (λ m. value_at m k) (map_is v held.tree held.is) ∙ value_found k held.tree (subst IsTrie same t.1.sound.trie) held.key
+    let t = plain_tree v e.0 e.1 (subst IsPlain same plain) in
+    let trie = subst IsTrie (same_some (sym t.1.is ∙ held.is)) t.1.sound.trie in
+    let leaf = read_at v.leaves n (record_of (found k held.tree)) l held.at (rw (← same) at) in
+    ap (λ m. value_at m k) (map_is v held.tree held.is) ∙ (value_found k held.tree trie held.key ∙ ap (λ (r : LeafRecord). Some r.value) (sym leaf))
 
 pub absent_value : (v : PlainView) (k : Key) (e : Entry) (t : Tree) → IsTree v e t → IsAbsentFrom k t → value_at (map_of v) k ≡ None
 absent_value v k e t i o = ap (λ m. value_at m k) (map_is v t i.is) ∙ value_missed k t i.sound.trie (λ same. o.differ.differ (ap (λ l. bit_of l o.position) (sym same)))
@@ -185,9 +188,10 @@ added_reply m k x e = (
   sym (ap (λ o. (step_where o m (Insert k x)).0) e),
 )
 
-pub held_reply : (m : Map) (k : Key) (x y : ℕ) → value_at m k ≡ Some y → (Exists y ≡ reply_of m (Insert k x)) × (Was y ≡ reply_of m (Upsert k x)) × (m ≡ map_after m (Insert k x))
+pub held_reply : (m : Map) (k : Key) (x y : ℕ) → value_at m k ≡ Some y → (Exists y ≡ reply_of m (Insert k x)) × (Was y ≡ reply_of m (Upsert k x)) × (m ≡ map_after m (Insert k x)) × (with_value m k x ≡ map_after m (Upsert k x))
 held_reply m k x y e = (
   sym (ap (λ o. (step_where o m (Insert k x)).1) e),
   sym (ap (λ o. (step_where o m (Upsert k x)).1) e),
   sym (ap (λ o. (step_where o m (Insert k x)).0) e),
+  sym (ap (λ o. (step_where o m (Upsert k x)).0) e),
 )

@@ -3,7 +3,7 @@
 ghost use Rattle.std.specs.Prelude.{◌≡◌, ◌<◌, ◌+◌, Some, None, [], IfOk, OnOk, OnErr, MatchOption, slice_get};
 ghost use Rattle.std.specs.Vec.{vec_capacity};
 ghost use Rattle.compound_node.specs.Nodes.{piece};
-ghost use Rattle.hot_model.specs.Maps.{value_at, with_value, map_after, reply_of, AddsKey};
+ghost use Rattle.hot_model.specs.Maps.{value_at, with_value};
 ghost use Rattle.hot_model.specs.declared.Call.TheVariants.{Insert, Upsert};
 ghost use Rattle.tries.specs.Search.{seek, found};
 
@@ -63,7 +63,7 @@ impl Model for PlainTrie {
 
 impl PlainTrie {
     ghost use Rattle.insert_cases.specs.Heights.{KeepsHeights};
-    ghost use Rattle.insert_cases.specs.Room.{LacksRoom, KeepsRoom, IsUnchanged};
+    ghost use Rattle.insert_cases.specs.Room.{KeepsRoom, IsAnswered, IsRefused};
     ghost use Rattle.insert_cases.specs.Store.{map_of, ShowsTrie, IsHeldInLeaf, tree_of, record_of};
     ghost use Rattle.tries.specs.Tree.{Tree};
     ghost use Rattle.compound_node.specs.Nodes.{height_of};
@@ -132,11 +132,8 @@ impl PlainTrie {
     /// add fewer nodes than room is made for, so one can be refused that would have found room for its own, and the last
     /// few numbers of nodes stay unused. A refused call leaves all records and the root as they were.
     pub fn insert(&mut self, key: &Key, value: u64) -> Result<Reply, AllocError>
-        ensures reply { IfOk result (λ reply. reply ≡ reply_of (map_of self.old) (Insert key.now value)) }
-        ensures map { OnOk result (map_of self.new ≡ map_after (map_of self.old) (Insert key.now value)) }
-        ensures memory { OnErr result (AddsKey (map_of self.old) (Insert key.now value)) }
-        ensures refused { OnErr result (LacksRoom self.old) }
-        ensures err { OnErr result (IsUnchanged self.old self.new) }
+        ensures ok { IfOk result (IsAnswered (Insert key.now value) self.old self.new) }
+        ensures err { OnErr result (IsRefused (Insert key.now value) self.old self.new) }
         ensures room { KeepsRoom self.old self.new }
         ensures heights { KeepsHeights self.old.nodes self.new.nodes }
     {
@@ -149,22 +146,17 @@ impl PlainTrie {
     /// Gives the key the value, and answers `New`, or `Was` with the value that it had. Only a key that was absent takes
     /// memory. When the answer is `AllocError`, and what it leaves, is as for `insert`.
     pub fn upsert(&mut self, key: &Key, value: u64) -> Result<Reply, AllocError>
-        ensures reply { IfOk result (λ reply. reply ≡ reply_of (map_of self.old) (Upsert key.now value)) }
-        ensures map { OnOk result (map_of self.new ≡ map_after (map_of self.old) (Upsert key.now value)) }
-        ensures memory { OnErr result (AddsKey (map_of self.old) (Upsert key.now value)) }
-        ensures refused { OnErr result (LacksRoom self.old) }
-        ensures err { OnErr result (IsUnchanged self.old self.new) }
+        ensures ok { IfOk result (IsAnswered (Upsert key.now value) self.old self.new) }
+        ensures err { OnErr result (IsRefused (Upsert key.now value) self.old self.new) }
         ensures room { KeepsRoom self.old self.new }
         ensures heights { KeepsHeights self.old.nodes self.new.nodes }
     {
-        match self.add_absent(key, value)? {
-            None => Ok(Reply::New),
-            Some(leaf) => {
-                let held = self.leaves[leaf].value;
-                self.set(leaf, key, value);
-                Ok(Reply::Was(held))
-            }
-        }
+        let Some(leaf) = self.add_absent(key, value)? else {
+            return Ok(Reply::New);
+        };
+        let held = self.leaves[leaf].value;
+        self.set(leaf, key, value);
+        Ok(Reply::Was(held))
     }
 
     /// Adds a key with its value where it is absent, and answers its leaf where it is not. At the end of the search room is
@@ -174,9 +166,7 @@ impl PlainTrie {
         ensures ok { IfOk result (λ held. MatchOption held
             ((value_at (map_of self.old) key.now ≡ None) × (map_of self.new ≡ with_value (map_of self.old) key.now value))
             (λ leaf. IsHeldInLeaf self.old key.now leaf × (self.new ≡ self.old))) }
-        ensures memory { OnErr result (value_at (map_of self.old) key.now ≡ None) }
-        ensures refused { OnErr result (LacksRoom self.old) }
-        ensures err { OnErr result (IsUnchanged self.old self.new) }
+        ensures err { OnErr result (IsRefused (Insert key.now value) self.old self.new) }
         ensures room { KeepsRoom self.old self.new }
         ensures heights { KeepsHeights self.old.nodes self.new.nodes }
     {
@@ -204,8 +194,7 @@ impl PlainTrie {
     fn plant(&mut self, key: &Key, value: u64) -> Result<(), AllocError>
         requires { self.old.top ≡ None }
         ensures map { OnOk result (map_of self.new ≡ with_value (map_of self.old) key.now value) }
-        ensures refused { OnErr result (LacksRoom self.old) }
-        ensures err { OnErr result (IsUnchanged self.old self.new) }
+        ensures err { OnErr result (IsRefused (Insert key.now value) self.old self.new) }
         ensures room { KeepsRoom self.old self.new }
         ensures heights { KeepsHeights self.old.nodes self.new.nodes }
     {

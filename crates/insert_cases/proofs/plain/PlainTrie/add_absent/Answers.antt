@@ -1,5 +1,5 @@
 -- The search ends at the key's own leaf, or the key is absent and gets one, which rises to the root.
-use Rattle.std.proofs.Common.{◌≡◌, suc, length, refl, ap, sym, ◌∙◌, subst, Some, None}
+use Rattle.std.proofs.Common.{◌≡◌, suc, length, refl, ap, sym, ◌∙◌, subst, Some, None, rules}
 use Rattle.std.specs.Vec.{vec_capacity}
 use Rattle.compound_node.specs.Nodes.{height_of}
 use Rattle.hot_model.specs.Maps.{with_value, value_at}
@@ -52,20 +52,16 @@ invariant_of-self-in-Refused c =
     let refused = c.in-Refused.ensures.adds t (tree_standing v c.in-Some.top t i) in
     kept_plain v.nodes c.added.new.nodes.items v.leaves c.added.new.leaves.items v.top v.node_capacity v.leaf_capacity (vec_capacity c.added.new.nodes) (vec_capacity c.added.new.leaves) refused.0 refused.1 c.self.invariant
 
-pub returns-in-Refused-clause-memory : goal.returns-in-Refused-clause-memory
-returns-in-Refused-clause-memory c =
-    let v = view c.self.inside in
-    let (t, i) = plain_tree v c.in-Some.top c.in-Some.is c.self.invariant in
-    let refused = c.in-Refused.ensures.adds t (tree_standing v c.in-Some.top t i) in
-    subst (λ u. value_at (map_of u) c.args.key.now ≡ None) c.self.view_is (absent_value v c.args.key.now c.in-Some.top t i refused.2)
-
 pub returns-in-Refused-clause-err : goal.returns-in-Refused-clause-err
 returns-in-Refused-clause-err c =
     let v = view c.self.inside in
     let (t, i) = plain_tree v c.in-Some.top c.in-Some.is c.self.invariant in
-    let refused = c.in-Refused.ensures.adds t (tree_standing v c.in-Some.top t i) in
-    same_view v.nodes c.added.new.nodes.items v.leaves c.added.new.leaves.items v.top v.node_capacity (vec_capacity c.added.new.leaves) (vec_capacity c.added.new.nodes) refused.0 refused.1 c.in-Refused.ensures.memory.0 ∙
-    ap (λ (u : PlainView). let w : PlainView = record u { leaf_capacity = vec_capacity c.added.new.leaves } in w) c.self.view_is
+    let refused = c.in-Refused.ensures.adds t (tree_standing v c.in-Some.top t i) in (
+      subst (λ u. value_at (map_of u) c.args.key.now ≡ None) c.self.view_is (absent_value v c.args.key.now c.in-Some.top t i refused.2),
+      search rules,
+      same_view v.nodes c.added.new.nodes.items v.leaves c.added.new.leaves.items v.top v.node_capacity (vec_capacity c.added.new.leaves) (vec_capacity c.added.new.nodes) refused.0 refused.1 c.in-Refused.ensures.memory.0 ∙
+          ap (λ (u : PlainView). let w : PlainView = record u { leaf_capacity = vec_capacity c.added.new.leaves } in w) c.self.view_is,
+    )
 
 -- ---- the new leaf belongs to the root, or above it
 pub raised-risen-requires-clause-place : goal.raised-risen-requires-clause-place

@@ -1,15 +1,15 @@
 -- A held key has another value.
-use Rattle.std.proofs.Common.{◌∙◌, subst}
-use Rattle.insert_cases.specs.Store.{IsPlain, map_of, record_of}
+use Rattle.std.proofs.Common.{ap, ◌∙◌}
+use Rattle.hot_model.specs.Maps.{with_value}
+use Rattle.insert_cases.specs.Store.{PlainView, map_of}
 use Rattle.insert_cases.proofs.Inserting.{held_reply, held_value}
-use Rattle.insert_cases.proofs.Searching.{read_at}
 use Rattle.insert_cases.proofs.plain.PlainTrie.upsert.Goals as goal
-use Rattle.tries.specs.Search.{found}
 
-pub returns-in-Some-clause-reply : goal.returns-in-Some-clause-reply
-returns-in-Some-clause-reply c =
-    let a = rw c.in-Some.is at c.in_ok-add_absent.ensures.ok in
-    let v = c.args.self.now in
-    let e = c.self.view_is ∙ a.1 in
-    let leaf = read_at v.leaves c.in-Some.leaf (record_of (found c.args.key.now a.0.tree)) c.index.result.now a.0.at (rw (← e) c.index.ensures) in
-    rw leaf (held_reply (map_of v) c.args.key.now c.args.value (found c.args.key.now a.0.tree).value (held_value v c.args.key.now c.in-Some.leaf (subst IsPlain e c.self.invariant) a.0)).1
+pub returns-clause-ok : goal.returns-clause-ok
+returns-clause-ok c =
+    let a = rw c.in-Some.is at c.in_ok-leaf.ensures.ok in
+    let k = c.args.key.now in
+    let l = c.index.result.now in
+    let held = held_value _ c.args.self.now k c.in-Some.leaf l c.self.invariant (c.self.view_is ∙ a.1) a.0 c.index.ensures in
+    let r = held_reply (map_of c.args.self.now) k c.args.value l.value held in
+    (r.1, c.set.ensures.map ∙ (ap (λ (u : PlainView). with_value (map_of u) k c.args.value) a.1 ∙ r.3))
