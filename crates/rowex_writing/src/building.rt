@@ -157,7 +157,8 @@ fn raise_level<G: Gate>(
     ensures made { (b : IsBelow table.now seat.old build.old.made.items key.now number position zero one) → MatchOption result
         (HasNotMade table.now seat.old seat.new build.new.made.items)
         (λ risen. (after : List Made) ×
-        IsRaising table.now seat.new build.new.made.items after (a_node number ∷ b.here.gone) b.here.since b.here.item b.here.mismatch b.here.like entry number (page_of risen)) }
+        IsRaising table.now seat.new build.new.made.items after (a_node number ∷ b.here.gone)
+        b.here.since b.here.item b.here.mismatch b.here.like entry number (page_of risen)) }
     ensures level { (words : List ℕ) → HasLocked seat.old.known number words → IfSome result (IsLevelRisen words) }
     ensures more { length build.new.made.items ≤ length build.old.made.items + 2 }
     ensures few { seat.new.known.steps ≤ seat.old.known.steps + level_steps table.now.layout }
