@@ -1,6 +1,10 @@
 //! Worked ways and nodes.
 
-use compound_node::{Entry, Node};
+ghost use Rattle.compound_node.specs.Nodes.{piece};
+ghost use Rattle.pieces.specs.Growth.{IsAffected};
+
+use crate::nodes::{consists_of, is_node, is_one};
+use compound_node::{Entry, Half, Node};
 use insert_cases::{
     Case, Choice, Grown, Place, Step, chain_end, choose, grow, level_below, place, pull_up,
 };
@@ -66,16 +70,68 @@ fn leaf_is_pushed_down(rt: HostRuntime) {
     assert!(rt; choose(&way, 0, 1, 1) == choice(0, (1, 1), Case::LeafPushdown));
 }
 
+/// A full node: leaf 31 parts from the others at 10, leaf 30 from those before it at 11, and so on to leaf 1 at 40.
+fn full() -> Node
+    ensures all { IsAffected (piece result) 9 0 31 }
+    ensures last { IsAffected (piece result) 50 31 31 }
+{
+    let mut node = Node::pair(40, Entry::Leaf(0), Entry::Leaf(1));
+    for i in 2..32u8 {
+        node.add(0, i - 1, 41 - u16::from(i), true, Entry::Leaf(u32::from(i)));
+    }
+    node
+}
+
 #[test]
 fn nodes_grow(rt: HostRuntime) {
     let node = Node::pair(8, Entry::Leaf(0), Entry::Leaf(1));
     match grow(&node, 0, 1, 7, true, Entry::Leaf(2)) {
-        Grown::One(grown) => {
-            assert!(rt; grown.count() == 3);
-            assert!(rt; grown.columns().as_slice() == [7, 8].as_slice());
-            assert!(rt; grown.sparse(2) == 0x8000_0000);
-        }
+        Grown::One(grown) => assert!(rt;
+            consists_of(&grown, &[7, 8], &[0, 0x4000_0000, 0x8000_0000], &[0, 1, 2])
+        ),
         Grown::Two(_) => assert!(rt; false),
+    }
+}
+
+// A new leaf that parts from all others, on either side: the full node is the other side as it stands.
+#[test]
+fn full_nodes_stay_whole(rt: HostRuntime) {
+    let node = full();
+    for bit in [false, true] {
+        match grow(&node, 0, 31, 9, bit, Entry::Leaf(32)) {
+            Grown::Two(cut) => {
+                let (old, new) = if bit {
+                    (&cut.zero, &cut.one)
+                } else {
+                    (&cut.one, &cut.zero)
+                };
+                assert!(rt; cut.position == 9 && is_one(new, Entry::Leaf(32)));
+                assert!(rt; matches!(old, Half::Same));
+            }
+            Grown::One(_) => assert!(rt; false),
+        }
+    }
+}
+
+// A new leaf that parts from leaf 31 alone: the node is cut at its root fork, and these two are its one side.
+#[test]
+fn full_nodes_are_cut(rt: HostRuntime) {
+    let (mut rows, mut leaves) = ([0; 31], [0; 31]);
+    for i in 1..31u8 {
+        rows[i as usize] = 2 << i;
+        leaves[i as usize] = u32::from(i);
+    }
+    match grow(&full(), 31, 31, 50, true, Entry::Leaf(32)) {
+        Grown::Two(cut) => {
+            assert!(rt; cut.position == 10);
+            let positions = [
+                11, 12, 13, 14, 15, 16, 17, 18, 19, 20, 21, 22, 23, 24, 25, 26, 27, 28, 29, 30, 31,
+                32, 33, 34, 35, 36, 37, 38, 39, 40,
+            ];
+            assert!(rt; is_node(&cut.zero, &positions, &rows, &leaves));
+            assert!(rt; is_node(&cut.one, &[50], &[0, 0x8000_0000], &[31, 32]));
+        }
+        Grown::One(_) => assert!(rt; false),
     }
 }
 

@@ -22,7 +22,8 @@ fn four() -> Node
     three().insert(0, 2, 6, true, Entry::Leaf(3))
 }
 
-fn consists_of(node: &Node, positions: &[u16], rows: &[u32], leaves: &[u32]) -> bool {
+/// Whether the node has these positions, for each entry this row and this leaf, and no rows behind.
+pub fn consists_of(node: &Node, positions: &[u16], rows: &[u32], leaves: &[u32]) -> bool {
     if node.columns().as_slice() != positions
         || node.count() as usize != rows.len()
         || node.count() as usize != leaves.len()
@@ -43,7 +44,7 @@ fn consists_of(node: &Node, positions: &[u16], rows: &[u32], leaves: &[u32]) -> 
 }
 
 /// Whether this half is a node that consists of these.
-fn is_node(half: &Half, positions: &[u16], rows: &[u32], leaves: &[u32]) -> bool {
+pub fn is_node(half: &Half, positions: &[u16], rows: &[u32], leaves: &[u32]) -> bool {
     match half {
         Half::Many(node) => consists_of(node, positions, rows, leaves),
         _ => false,
@@ -51,7 +52,7 @@ fn is_node(half: &Half, positions: &[u16], rows: &[u32], leaves: &[u32]) -> bool
 }
 
 /// Whether this half is this one entry.
-fn is_one(half: &Half, entry: Entry) -> bool {
+pub fn is_one(half: &Half, entry: Entry) -> bool {
     match half {
         Half::One(one) => *one == entry,
         _ => false,
