@@ -457,16 +457,23 @@ module _ (layout : Layout) (k j : Known) (m : ℕ) (key : Key) (way : List Step)
   room = subst (λ x. size x ≤ 32) (same_shape layout j m s.number (then_found.nodes level s there).2.forks (shape_of head) possible then_found.since (then_found.nodes level s there).2.shaped shapes)
       (then_found.nodes level s there).2.room
 
-  pub chosen_fits : (c.level < length way) × (c.last ≤ 31)
+  chosen_fits : (c.level < length way) × (c.last ≤ 31)
   chosen_fits = chosen_low layout j m key way number value differ then_found possible d differs level is s there (shape_of head) shapes first last from upto c chosen
       (let low = affected_low d s.at first last (shape_of head) from upto in let r = room in omega (arith, low, r))
 
-  pub started : (u : Bool) → bit_of key d ≡ u → (t : Step) → slice_get way c.level ≡ Some t → (place : ℕ) → place ≡ (if u then c.last + 1 else c.first) → (comes : Bool) →
+  abbrev StartsThere : Type 0
+  StartsThere = (u : Bool) → bit_of key d ≡ u → (t : Step) → slice_get way c.level ≡ Some t → (place : ℕ) → place ≡ (if u then c.last + 1 else c.first) → (comes : Bool) →
       comes ≡ (if u then false else nat_eq c.first c.last) → IsStart j m key way number (record { level = c.level; top = record t { at = place }; leaf = comes })
+
+  started : StartsThere
   started u b t at place place_eq comes comes_eq =
       subst (λ z. IsStart j m key way number (record { level = c.level; top = record t { at = place }; leaf = z })) (sym comes_eq)
       (starts_apart layout j m key way number value differ then_found possible d differs level is s there (shape_of head) shapes first last from upto u b c chosen (record t { at = place }) t at
       (ap (λ z. let y : Step = record t { at = z } in y) place_eq))
+
+  -- the choice is of a place in a node of the way, and there the scan starts
+  pub chosen_starts : (c.level < length way) × (c.last ≤ 31) × StartsThere
+  chosen_starts = (chosen_fits.0, chosen_fits.1, started)
 
 pub is_below : (u a : Bool) → u ≡ true → not u ≡ (if u then false else a)
 is_below true a e = refl
