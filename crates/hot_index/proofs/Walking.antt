@@ -155,11 +155,14 @@ rest_is : (fs : List Stage) → rest_of_frames (frames_of fs) ≡ rest_after fs
 rest_is [] = refl
 rest_is (f ∷ fs) = rest_append (frames_of fs) (frame f) ∙ ap (λ z. (size f.shape - suc f.place) * 34 ^ f.height + 1 + z) (rest_is fs)
 
-whole_is : (f : Stage) (fs : List Stage) → rest_of (frame f) (frames_of fs) ≡ remaining (f ∷ fs)
-whole_is f fs = ap (λ z. (size f.shape - f.place) * 34 ^ f.height + 1 + z) (rest_is fs)
+whole_is : {top : Step} {frames : List Step} (f : Stage) (fs : List Stage) → top ≡ frame f → frames ≡ frames_of fs → rest_of top frames ≡ remaining (f ∷ fs)
+whole_is {frames = frames} f fs first rest =
+    ap (λ (z : Step). rest_of z frames) first ∙ (ap (λ z. rest_of (frame f) z) rest ∙ ap (λ z. (size f.shape - f.place) * 34 ^ f.height + 1 + z) (rest_is fs))
 
-at_next : (f : Stage) → (record (frame f) { at = f.place + 1 }) ≡ frame (next f)
-at_next f = let e : f.place + 1 ≡ suc f.place = omega arith in ap (λ z. let x : Step = record (frame f) { at = z } in x) e
+at_next : {top : Step} (f : Stage) → top ≡ frame f → record top { at = top.at + 1 } ≡ frame (next f)
+at_next f is =
+    let e : f.place + 1 ≡ suc f.place = omega arith in
+    ap (λ (z : Step). let x : Step = record z { at = z.at + 1 } in x) is ∙ ap (λ z. let x : Step = record (frame f) { at = z } in x) e
 
 -- The walk
 
@@ -260,10 +263,8 @@ module _ {k j : Known} {m : ℕ} {g : Range} {top : Step} {frames : List Step} {
       let c : Stage = record { number = number; height = height; shape = e.forks; place = 0 } in
       let low : height < a.walk.lowest.height = subst (λ (z : Step). height < z.height) a.walk.top_is falls in
       let less : remaining (c ∷ a.walk.lowest ∷ a.walk.others) < remaining (a.walk.lowest ∷ a.walk.others) = push_less a.walk.lowest a.walk.others c (lowest_inside a) low e.room in
-      let before : rest_of into more ≡ remaining (c ∷ a.walk.lowest ∷ a.walk.others) =
-      ap (λ (z : Step). rest_of z more) e.top_is ∙ (ap (λ z. rest_of (frame c) z) more_are ∙ whole_is c (a.walk.lowest ∷ a.walk.others)) in
-      let after : rest_of top frames ≡ remaining (a.walk.lowest ∷ a.walk.others) =
-      ap (λ (z : Step). rest_of z frames) a.walk.top_is ∙ (ap (λ z. rest_of (frame a.walk.lowest) z) a.walk.frames_are ∙ whole_is a.walk.lowest a.walk.others) in
+      let before : rest_of into more ≡ remaining (c ∷ a.walk.lowest ∷ a.walk.others) = whole_is c (a.walk.lowest ∷ a.walk.others) e.top_is more_are in
+      let after : rest_of top frames ≡ remaining (a.walk.lowest ∷ a.walk.others) = whole_is a.walk.lowest a.walk.others a.walk.top_is a.walk.frames_are in
       subst (λ z. z < rest_of top frames) (sym before) (subst (λ z. remaining (c ∷ a.walk.lowest ∷ a.walk.others) < z) (sym after) less)
 
 -- At a leaf, which was read.
@@ -280,7 +281,7 @@ module _ {k j : Known} {m : ℕ} {g : Range} {top : Step} {frames : List Step} {
     lowest = next a.walk.lowest;
     others = a.walk.others;
     taken = record { key = t.key; value = t.value } ∷ a.walk.taken;
-    top_is = ap (λ (z : Step). let x : Step = record z { at = z.at + 1 } in x) a.walk.top_is ∙ at_next a.walk.lowest;
+    top_is = at_next a.walk.lowest a.walk.top_is;
     frames_are = a.walk.frames_are;
     pairs_are = e ∙ ap (λ z. z ++ (t.key, t.value) ∷ []) a.walk.pairs_are;
     room = a.walk.room;
@@ -320,11 +321,8 @@ pub walk_next_less : {k : Known} {m : ℕ} {g : Range} {top : Step} {frames : Li
 walk_next_less {k} {m} {g} {top} {frames} w inside =
     let low : w.lowest.place < size w.lowest.shape = subst (λ (z : Step). z.at < z.count) w.top_is inside in
     let less = next_less w.lowest w.others low in
-    let after : rest_of top frames ≡ remaining (w.lowest ∷ w.others) =
-    ap (λ (z : Step). rest_of z frames) w.top_is ∙ (ap (λ z. rest_of (frame w.lowest) z) w.frames_are ∙ whole_is w.lowest w.others) in
-    let before : rest_of (record top { at = top.at + 1 }) frames ≡ remaining (next w.lowest ∷ w.others) =
-    ap (λ (z : Step). rest_of (record z { at = z.at + 1 }) frames) w.top_is ∙
-    (ap (λ (z : Step). rest_of z frames) (at_next w.lowest) ∙ (ap (λ z. rest_of (frame (next w.lowest)) z) w.frames_are ∙ whole_is (next w.lowest) w.others)) in
+    let after : rest_of top frames ≡ remaining (w.lowest ∷ w.others) = whole_is w.lowest w.others w.top_is w.frames_are in
+    let before : rest_of (record top { at = top.at + 1 }) frames ≡ remaining (next w.lowest ∷ w.others) = whole_is (next w.lowest) w.others (at_next w.lowest w.top_is) w.frames_are in
     subst (λ z. z < rest_of top frames) (sym before) (subst (λ z. remaining (next w.lowest ∷ w.others) < z) (sym after) less)
 
 -- The topmost node is done.
@@ -360,7 +358,7 @@ module _ {k : Known} {m : ℕ} {g : Range} {top : Step} {frames : List Step} {pa
         lowest = next b.stage;
         others = b.stages;
         taken = w.taken;
-        top_is = ap (λ (z : Step). let x : Step = record z { at = z.at + 1 } in x) b.below_is ∙ at_next b.stage;
+        top_is = at_next b.stage b.below_is;
         frames_are = b.rest_are;
         pairs_are = w.pairs_are;
         room = i.1;
@@ -375,12 +373,8 @@ module _ {k : Known} {m : ℕ} {g : Range} {top : Step} {frames : List Step} {pa
   walk_pop_less lower rest e =
       let b = below lower rest e in
       let less = pop_less w.lowest b.stage b.stages in
-      let after : rest_of top frames ≡ remaining (w.lowest ∷ b.stage ∷ b.stages) =
-      ap (λ (z : Step). rest_of z frames) w.top_is ∙
-      (ap (λ z. rest_of (frame w.lowest) z) (w.frames_are ∙ ap frames_of b.others) ∙ whole_is w.lowest (b.stage ∷ b.stages)) in
-      let before : rest_of (record lower { at = lower.at + 1 }) rest ≡ remaining (next b.stage ∷ b.stages) =
-      ap (λ (z : Step). rest_of (record z { at = z.at + 1 }) rest) b.below_is ∙
-      (ap (λ (z : Step). rest_of z rest) (at_next b.stage) ∙ (ap (λ z. rest_of (frame (next b.stage)) z) b.rest_are ∙ whole_is (next b.stage) b.stages)) in
+      let after : rest_of top frames ≡ remaining (w.lowest ∷ b.stage ∷ b.stages) = whole_is w.lowest (b.stage ∷ b.stages) w.top_is (w.frames_are ∙ ap frames_of b.others) in
+      let before : rest_of (record lower { at = lower.at + 1 }) rest ≡ remaining (next b.stage ∷ b.stages) = whole_is (next b.stage) b.stages (at_next b.stage b.below_is) b.rest_are in
       subst (λ z. z < rest_of top frames) (sym before) (subst (λ z. remaining (next b.stage ∷ b.stages) < z) (sym after) less)
 
   pub walk_end : frames ≡ [] → top.count ≤ top.at → since k ≡ m → (scan : Scan) → scan.pairs.items ≡ pairs → scan.more ≡ false → HasScanned k g scan

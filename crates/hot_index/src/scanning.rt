@@ -248,7 +248,7 @@ fn enter<G: Gate>(table: &HotTable, seat: &mut TableSeat, gate: &mut G, number: 
     step_of(&head, number, 0)
 }
 
-/// Loads a leaf whose key is not below the range, and takes its pair. Inline, as what it calls.
+/// Loads a leaf whose key is not below the range, and takes its pair. Inline, as the two that it calls are.
 #[inline(always)]
 fn take_leaf<G: Gate>(
     table: &HotTable,
