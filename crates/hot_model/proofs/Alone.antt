@@ -1,14 +1,14 @@
 -- The calls of a pass that makes all changes of its front: one after the other, each on the map that those before it led to.
-use Rattle.std.proofs.Common.{◌≡◌, ℕ, suc, ◌+◌, ◌≤◌, List, [], ◌∷◌, ◌++◌, length, take, map, true, false, cond, Bool, Some, None, refl, sym, ap, ap₂, subst, ◌∙◌, arith, append-nil, append_assoc, length-append}
+use Rattle.std.proofs.Common.{◌≡◌, ℕ, suc, ◌+◌, ◌≤◌, List, [], ◌∷◌, ◌++◌, length, take, map, true, false, cond, Bool, refl, sym, ap, ap₂, subst, ◌∙◌, arith, append-nil, append_assoc, length-append}
 use Rattle.std.specs.List.{All, cons_option}
 use Rattle.std.proofs.lemmas.Bool.{eq-eqb}
 use Rattle.std.proofs.lemmas.List.Elements.{All-head, All-tail}
 use Rattle.std.proofs.Math.Seq.{take-append_seam}
 use Rattle.hot_model.specs.declared.Change.{Change}
 use Rattle.hot_model.specs.declared.Note.{Note}
-use Rattle.hot_model.specs.Maps.{Map, map_after, reply_of, replies_of, map_after_all}
-use Rattle.hot_model.specs.Fronts.{map_of, changed}
-use Rattle.hot_model.specs.Calls.{is_change, change_of, place_after, StandsIn, RisesFrom, changes_of, own_changes, LegalCalls}
+use Rattle.hot_model.specs.Maps.{map_after, reply_of, replies_of, map_after_all}
+use Rattle.hot_model.specs.Fronts.{map_of}
+use Rattle.hot_model.specs.Calls.{is_change, place_after, StandsIn, RisesFrom, changes_of, own_changes, LegalCalls}
 use Rattle.hot_model.specs.Statements.{IsRun}
 use Rattle.hot_model.proofs.Growth.{map_of-push}
 use Rattle.hot_model.proofs.Legal.{change_of-quiet, change_of-change, map_after-quiet, makes_change, place_after-within}

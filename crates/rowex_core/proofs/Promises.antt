@@ -1,5 +1,5 @@
 -- The laws that follow: the opening core, records in reach, a publish as a step of the map, locks of two passes.
-use Rattle.std.proofs.Common.{◌≡◌, ◌≢◌, inl, ⊎_elim, ℕ, zero, suc, ◌+◌, ◌-◌, ◌*◌, ◌^◌, ◌<◌, ◌≤◌, List, [], ◌∷◌, ◌++◌, length, get_or, set, replicate, fold, Option, Some, None, IsSome, refl, sym, ap, ap₂, ◌∙◌, arith, le_refl, le_trans, lit<}
+use Rattle.std.proofs.Common.{◌≡◌, ◌≢◌, inl, ⊎_elim, ℕ, zero, suc, ◌-◌, ◌^◌, ◌<◌, ◌≤◌, List, [], ◌∷◌, ◌++◌, length, get_or, set, replicate, fold, Option, Some, None, IsSome, refl, sym, ap, ap₂, ◌∙◌, arith, le_refl, le_trans, lit<}
 use Rattle.std.proofs.lemmas.Bool.{eq-eqb, ne_eqb, false≢true, cases_lt}
 use Rattle.std.proofs.lemmas.List.{length-replicate, length-set, get_or-replicate, get_or-set_same, get_or-set_other, get_or_past, take_all}
 use Rattle.std.proofs.lemmas.List.Elements.{All-replicate, All-from_recursion}

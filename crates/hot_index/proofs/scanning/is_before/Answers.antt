@@ -1,8 +1,7 @@
 -- The order of the bytes is that of the first different bit.
 use Rattle.std.proofs.Common.{◌≡◌, true, false, ap, sym, subst, ◌∙◌}
 use Rattle.std.specs.Prelude.{IsTrue}
-use Rattle.std.specs.Cmp.Lexicographic.{slice_cmp}
-use Rattle.std.specs.Ordering.{is_lt, nat_cmp}
+use Rattle.std.specs.Ordering.{is_lt}
 use Rattle.hot_index.proofs.Walking.{is_less, less_before, not_less_after}
 use Rattle.hot_index.proofs.scanning.is_before.Goals as goal
 

@@ -1,5 +1,5 @@
 -- Each word's bytes are written.
-use Rattle.std.proofs.Common.{◌<◌, ◌≤◌, arith, refl}
+use Rattle.std.proofs.Common.{arith, refl}
 use Rattle.record_words.proofs.leaf.bytes_of_words.Goals as goal
 
 pub loop-j-init : goal.loop-j-init

@@ -1,7 +1,6 @@
 -- The eight bytes are those of the key's word.
 use Rattle.std.proofs.Common.{◌∙◌, ◌+◌, ◌-◌, ◌*◌, arith, ap, drop, take, get_or, get_or-take, get_or-drop}
 use Rattle.key_bits.specs.Key.{with_zeros}
-use Rattle.key_bits.specs.declared.TheConstants.{MAX_BYTES}
 use Rattle.record_words.proofs.Bytes.{key_word-eight}
 use Rattle.record_words.proofs.Lawful.{get_or-padded}
 use Rattle.record_words.proofs.leaf.key_word_at.Goals as goal

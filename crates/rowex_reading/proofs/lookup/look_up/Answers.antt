@@ -1,5 +1,5 @@
 -- The empty root, the root's entry, one node down, and the leaf.
-use Rattle.std.proofs.Common.{◌<◌, refl, sym, subst}
+use Rattle.std.proofs.Common.{◌<◌, sym, subst}
 use Rattle.compound_node.specs.Nodes.{height_of}
 use Rattle.rowex_reading.specs.Seen.{since}
 use Rattle.rowex_reading.proofs.Looking.{none_searched, none_found, at_root, at_led, at_place, at_next, leaf_searched, leaf_found}

@@ -1,12 +1,11 @@
 -- The length, one word more, a word that is another key's, and the value.
-use Rattle.std.proofs.Common.{◌≡◌, ◌+◌, ◌-◌, ◌<◌, ◌≤◌, ◌∙◌, length, ap, sym, subst, arith, lit≤, rules}
+use Rattle.std.proofs.Common.{◌+◌, ◌-◌, ◌<◌, ◌∙◌, length, ap, sym, subst, arith, rules}
 use Rattle.compound_node.specs.declared.entries.Entry.TheVariants.{Leaf}
 use Rattle.moments.specs.declared.Rec.TheVariants.{Leaf as a_leaf}
 use Rattle.record_words.specs.declared.TheConstants.{LEAF_FIELDS}
-use Rattle.record_words.specs.Leaf.{words_of_key}
 use Rattle.rowex_core.specs.declared.event.Act.TheVariants.{LoadFixed}
 use Rattle.rowex_reading.specs.Reads.{Reads}
-use Rattle.rowex_reading.proofs.Comparing.{IsKeyWord, byte_word, first_same, length_word, next_same, other_key, same_key}
+use Rattle.rowex_reading.proofs.Comparing.{byte_word, first_same, length_word, next_same, other_key, same_key}
 use Rattle.rowex_reading.proofs.Led.{reader_then, reads_one, reads_trans}
 use Rattle.rowex_reading.proofs.Standing.{led_in_table}
 use Rattle.rowex_reading.proofs.Wording.{none_loaded}

@@ -1,7 +1,6 @@
 -- A step as an event.
-use Rattle.std.proofs.Common.{rules, ◌≡◌, ◌<◌, refl, sym, ap, subst, ◌∙◌}
-use Rattle.record_words.specs.declared.layout.Layout.{Layout}
-use Rattle.record_words.specs.Layout.{IsInTable, address, word_count}
+use Rattle.std.proofs.Common.{rules, ◌≡◌, ◌<◌, refl, sym, ap, ◌∙◌}
+use Rattle.record_words.specs.Layout.{word_count}
 use Rattle.record_words.proofs.Locations.{address-below}
 use Rattle.rowex_core.specs.Events.{location_of}
 use Rattle.rowex_table.specs.Seats.{TableView, SeatView}
