@@ -1,5 +1,5 @@
 #!/usr/bin/env python3
-"""Times ./hot-run on scripts of 1,048,576 bytes, beside a sorted map in Python that answers the same scripts."""
+"""Times the proved hot-run on scripts of 1,048,576 bytes, beside a sorted map in Python that answers the same scripts."""
 import bisect
 import os
 import random
@@ -96,10 +96,11 @@ def scripts(rand):
 
 def main():
     rand = random.Random(1)
-    subprocess.run([os.path.join(ROOT, "hot-run")], input=b"", check=True)
+    subprocess.run([os.path.join(ROOT, "tools/prove")], check=True)
+    program = os.path.join(ROOT, "crates/hot_run_cli/out/hot_run_cli")
     for name, script in scripts(rand):
         begin = time.perf_counter()
-        run = subprocess.run([os.path.join(ROOT, "hot-run")], input=script.encode(), capture_output=True, check=True)
+        run = subprocess.run([program], input=script.encode(), capture_output=True, check=True)
         middle = time.perf_counter()
         want = reference(script)
         end = time.perf_counter()
