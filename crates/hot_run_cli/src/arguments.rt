@@ -83,6 +83,3 @@ pub fn parse<'a>(alloc: Global, words: &'a [String]) -> Result<Request<'a>, Endi
         files,
     })
 }
-
-#[cfg(test)]
-mod tests;

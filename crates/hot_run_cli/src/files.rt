@@ -41,6 +41,3 @@ pub fn read_files<R: Files>(rt: &R, alloc: Global, names: &[&str]) -> Result<Vec
     }
     Ok(files)
 }
-
-#[cfg(test)]
-mod tests;
