@@ -1,6 +1,6 @@
 -- A leaf against its words.
 use Rattle.std.proofs.Common.{ℕ, ◌≡◌, ◌+◌, ◌-◌, ◌*◌, ◌<◌, ◌≤◌, arith, List, ◌/◌, ◌%◌, get_or, length, take, drop, sym, ap, ◌∙◌, ⊎_elim, refl, lit<, length-take, get_or-take, get_or-drop}
-use Rattle.std.specs.Prelude.{All, EachIndex}
+use Rattle.std.specs.Prelude.{All}
 use Rattle.std.proofs.lemmas.Bool.{cases_lt}
 use Rattle.std.proofs.lemmas.List.Elements.{All-get_or}
 use Rattle.std.proofs.lemmas.List.{ext_get_or, get_or_past, length-take-le}
@@ -10,7 +10,7 @@ use Rattle.record_words.specs.Leaf.{key_word, leaf_word, leaf_words, HasLeafWord
 use Rattle.key_bits.specs.Key.{HoldsKey, with_zeros}
 use Rattle.key_bits.proofs.Holding.{holds, length-with_zeros}
 use Rattle.record_words.proofs.Lawful.{get_or-padded}
-use Rattle.record_words.proofs.Bytes.{same_key_word, same_key_bytes}
+use Rattle.record_words.proofs.Bytes.{same_key_bytes}
 use Rattle.record_words.proofs.Offsets.{words_by_offset, word_by_offset}
 
 -- the three parts of a leaf's words
@@ -37,17 +37,6 @@ byte-lt : (key : List ℕ) → All (λ byte. byte < 256) key → (i : ℕ) → g
 byte-lt key bytes i =
     ⊎_elim (λ (inside : i < length key). All-get_or (λ byte. byte < 256) key i 0 inside bytes) (λ (past : length key ≤ i). rw (get_or_past key i 0 past) (lit< tt)) (cases_lt i (length key))
 
--- a front followed by zeros has the same elements
-front_or_zero : (xs : List ℕ) (n i : ℕ) → ((k : ℕ) → get_or (drop n xs) k 0 ≡ 0) → get_or (take n xs) i 0 ≡ get_or xs i 0
-front_or_zero xs n i rest =
-    ⊎_elim (λ (before : i < n). get_or-take n xs i 0 before)
-    (λ (after : n ≤ i).
-    get_or_past (take n xs) i 0 (omega (arith, length-take n xs)) ∙ (sym (rest (i - n)) ∙ (get_or-drop n xs (i - n) 0 ∙ ap (λ k. get_or xs k 0) (omega arith))))
-    (cases_lt i n)
-
-each_zero : (xs : List ℕ) → EachIndex xs (λ i. get_or xs i 0 ≡ 0) → (i : ℕ) → get_or xs i 0 ≡ 0
-each_zero xs zeros i = ⊎_elim (λ (inside : i < length xs). zeros i inside) (λ (past : length xs ≤ i). get_or_past xs i 0 past) (cases_lt i (length xs))
-
 -- the words decide the bytes
 same_bytes : (xs ys : List ℕ) → ((i : ℕ) → get_or xs i 0 < 256) → ((i : ℕ) → get_or ys i 0 < 256) → ((j : ℕ) → j < 30 → key_word xs j ≡ key_word ys j) → (i : ℕ) → i < 240 → get_or xs i 0 ≡ get_or ys i 0
 same_bytes xs ys small_xs small_ys same i inside =
@@ -73,27 +62,12 @@ key_of_bytes bytes words leaf n of small has same is =
     ext_get_or 0 (take n bytes) leaf.0 (length-take-le n bytes (omega (arith, of.count, has.key.short)) ∙ n_is)
     (λ i h. get_or-take n bytes i 0 (omega (arith, length-take n bytes)) ∙ bytes_of_leaf bytes words leaf of small has same i)
 
-pub rest_of_bytes : (bytes words : List ℕ) (leaf : List ℕ × ℕ) (n : ℕ) → IsBytesOf bytes (take 30 (drop 2 words)) → ((i : ℕ) → get_or bytes i 0 < 256) → HasLeafWords leaf → words ≡ leaf_words leaf → n ≡ get_or words 1 0 → EachIndex (drop n bytes) (λ i. get_or (drop n bytes) i 0 ≡ 0)
-rest_of_bytes bytes words leaf n of small has same is i inside =
-    get_or-drop n bytes i 0 ∙ (bytes_of_leaf bytes words leaf of small has same (n + i)
-    ∙ get_or_past leaf.0 (n + i) 0 (omega (arith, is, (leaf_words_parts leaf words same).size)))
-
 -- the bytes are the places of the key
 pub places_of_leaf : (bytes words : List ℕ) (leaf : List ℕ × ℕ) (n : ℕ) → IsBytesOf bytes (take 30 (drop 2 words)) → ((i : ℕ) → get_or bytes i 0 < 256) → HasLeafWords leaf → words ≡ leaf_words leaf → n ≡ get_or words 1 0 → HoldsKey bytes n
 places_of_leaf bytes words leaf n of small has same is =
     let counted : n ≡ length leaf.0 = is ∙ (leaf_words_parts leaf words same).size in
     rw counted (holds leaf.0 bytes has.key (ext_get_or 0 bytes (with_zeros leaf.0) (of.count ∙ sym (length-with_zeros leaf.0 has.key.short))
     (λ i inside. bytes_of_leaf bytes words leaf of small has same i ∙ sym (get_or-padded leaf.0 (240 - length leaf.0) 0 i))))
-
--- where the other bytes are 0, the front of the bytes is a key of these words
-pub leaf_of_bytes : (bytes words : List ℕ) (n : ℕ) → IsBytesOf bytes (take 30 (drop 2 words)) → ((i : ℕ) → get_or bytes i 0 < 256) → length words ≡ 32 → n ≡ get_or words 1 0 → n ≤ 240 → EachIndex (drop n bytes) (λ i. get_or (drop n bytes) i 0 ≡ 0) → leaf_words (take n bytes, get_or words 0 0) ≡ words
-leaf_of_bytes bytes words n of small count is few rest =
-    sym (leaf_words_made (take n bytes, get_or words 0 0) words record {
-      count = count;
-      value = refl;
-      size = sym is ∙ sym (length-take-le n bytes (omega (arith, of.count)));
-      bytes = λ j h. sym (of.words_are j h ∙ key_part words j h) ∙ same_key_word bytes (take n bytes) j j (λ i h. sym (front_or_zero bytes n (8 * j + i) (each_zero (drop n bytes) rest)));
-    })
 
 pub same_pair : (key other : List ℕ) (value held : ℕ) → key ≡ other → value ≡ held → ◌≡◌ {A = List ℕ × ℕ} (key, value) (other, held)
 same_pair key other value held keys values = rw (keys, values)

@@ -10,7 +10,6 @@ pub mod Nodes
 pub mod Offsets
 pub mod Packings
 pub mod Parts
-pub mod Readings
 pub mod Spelled
 pub mod Spellings
 pub mod Unused

@@ -14,7 +14,7 @@ use Rattle.record_words.specs.Node.{HasHeadWords, HasNodeWords, head_words, node
 use Rattle.record_words.specs.Leaf.{HasLeafWords, leaf_words}
 use Rattle.record_words.specs.Reading.{IsSpelledBy}
 use Rattle.record_words.proofs.Fixing.{AreFixed, fixed_words_parts}
-use Rattle.record_words.proofs.Heads.{head_from-numbers, is_head}
+use Rattle.record_words.proofs.Heads.{head_used, is_head}
 use Rattle.record_words.proofs.Lawful.{column-lt, get_or-padded, length-with_unused, row-lt}
 use Rattle.record_words.proofs.Leaves.{same_leaf}
 use Rattle.record_words.proofs.Nodes.{head_part, node_words-entry, same_head, same_node}
@@ -70,7 +70,7 @@ module _ (node : NodeView) (lawful : IsLawful node) (words : List ℕ) (same : h
 
   pub head_is : (count height : ℕ) (columns rows : List ℕ) → count ≡ length node.rows → height ≡ node.height → columns ≡ node.columns → rows ≡ with_unused node.rows →
       ◌≡◌ {A = HeadView} (record { height = height; columns = columns; rows = take count rows }) (head_of node)
-  head_is count height columns rows counts heights columns_are rows_are = rw (counts, heights, columns_are, rows_are) (head_from-numbers node)
+  head_is count height columns rows counts heights columns_are rows_are = rw (counts, heights, columns_are, rows_are) (head_used node)
 
   -- its head is the one that the words spell
   pub spells_head : (head : HeadView) → head ≡ head_of node → IsSpelledBy HasHeadWords head_words words head

@@ -1,6 +1,5 @@
 -- The definitions of the crate.
 pub mod Entry
-pub mod Fixed
 pub mod Layout
 pub mod Leaf
 pub mod Limits

@@ -2,9 +2,9 @@
 
 ghost use Rattle.std.specs.Prelude.{◌≡◌, Some};
 ghost use Rattle.record_words.specs.Entry.{HasEntryWord, entry_word};
-ghost use Rattle.record_words.specs.Reading.{IsReading, IsSpelledBy, IsSpelling};
+ghost use Rattle.record_words.specs.Reading.{IsSpelledBy, IsSpelling};
 
-use crate::{HEIGHT_BIT, WordFault};
+use crate::HEIGHT_BIT;
 use compound_node::Entry;
 
 /// The word of an entry, or of none; a node's height is at least 1.
@@ -18,23 +18,6 @@ pub fn pack_entry(entry: Option<Entry>) -> u64
         Some(Entry::Node { number, height }) => ((height as u64) << HEIGHT_BIT)
             + 4 * number as u64
             + 2,
-    }
-}
-
-/// The entry, or none, that has this word.
-pub fn unpack_entry(word: u64) -> Result<Option<Entry>, WordFault>
-    ensures { IsReading HasEntryWord entry_word word result }
-{
-    let number = (word % (1 << HEIGHT_BIT) / 4) as u32;
-    let height = word >> HEIGHT_BIT;
-    match word % 4 {
-        0 if word == 0 => Ok(None),
-        1 if height == 0 => Ok(Some(Entry::Leaf(number))),
-        2 if height != 0 && height < 1 << 16 => Ok(Some(Entry::Node {
-            number,
-            height: height as u16,
-        })),
-        _ => Err(WordFault::Bad),
     }
 }
 

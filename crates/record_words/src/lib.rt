@@ -8,13 +8,11 @@ mod leaf;
 mod node;
 mod state;
 
-pub use entry::{pack_entry, read_entry, read_some, unpack_entry};
+pub use entry::{pack_entry, read_entry, read_some};
 use key_bits::MAX_BYTES;
 pub use layout::{Layout, LayoutFault, Location};
-pub use leaf::{key_word_at, key_words, pack_leaf, unpack_leaf, write_word};
-pub use node::{
-    pack_node, position_words, read_head, read_node, row_words, unpack_head, unpack_node,
-};
+pub use leaf::{key_word_at, key_words, pack_leaf, write_word};
+pub use node::{pack_node, position_words, read_head, read_node, row_words};
 pub use state::{Tag, pack_state, unpack_state};
 
 /// Epochs are below this number, and at least 1.

@@ -2,15 +2,15 @@
 
 ghost use Rattle.std.specs.Prelude.{◌≡◌, ◌<◌, ◌/◌, ◌%◌, length, slice_get};
 ghost use Rattle.record_words.specs.Entry.{HasEntryWord, entry_word};
-ghost use Rattle.record_words.specs.Node.{HasHeadWords, HasNodeWords, HaveEntryWords, entry_words, head_words, node_words};
+ghost use Rattle.record_words.specs.Node.{HasHeadWords, HasNodeWords, head_words, node_words};
 ghost use Rattle.record_words.specs.Packed.{words_of_positions, words_of_rows};
-ghost use Rattle.record_words.specs.Reading.{IsReading, IsSpelledBy, IsSpelling};
+ghost use Rattle.record_words.specs.Reading.{IsSpelledBy, IsSpelling};
 
-use crate::entry::{pack_entry, read_some, unpack_entry};
-use crate::fixed::{Fixed, read_places, read_rows, word_of_numbers, word_of_places, word_of_rows};
-use crate::{FIRST_ROWS, HEAD_WORDS, MAX_ENTRIES, NODE_FIELDS, WordFault};
+use crate::entry::{pack_entry, read_some};
+use crate::fixed::{read_places, read_rows, word_of_numbers, word_of_places, word_of_rows};
+use crate::{FIRST_ROWS, HEAD_WORDS, NODE_FIELDS};
 use arrayvec::ArrayVec;
-use compound_node::{Entry, Head, Node};
+use compound_node::{Head, Node};
 use partial_keys::Columns;
 
 /// The words of a node record from offset 1 on.
@@ -33,42 +33,6 @@ pub fn pack_node(node: &Node) -> [u64; NODE_FIELDS]
         words[HEAD_WORDS + i as usize] = entry_word_at(node, i);
     }
     words
-}
-
-/// The node that a node record has, of its words from offset 1 on.
-pub fn unpack_node(words: &[u64; NODE_FIELDS]) -> Result<Node, WordFault>
-    ensures { IsReading HasNodeWords node_words words.now result }
-{
-    let fixed = Fixed::unpack(&words[..HEAD_WORDS])?;
-    let entries = unpack_entries(&words[HEAD_WORDS..])?;
-    if entries.len() != fixed.count as usize {
-        return Err(WordFault::Bad);
-    }
-    match Node::from_parts(
-        fixed.height,
-        fixed.columns.as_slice(),
-        &fixed.sparse,
-        entries.as_slice(),
-    ) {
-        Some(node) => Ok(node),
-        None => Err(WordFault::Bad),
-    }
-}
-
-/// The head that a node record has, of its words from offset 1 on, whatever its entries are.
-pub fn unpack_head(words: &[u64; HEAD_WORDS]) -> Result<Head, WordFault>
-    ensures { IsReading HasHeadWords head_words words.now result }
-{
-    let fixed = Fixed::unpack(words)?;
-    match Head::from_parts(
-        fixed.count,
-        fixed.height,
-        fixed.columns.as_slice(),
-        &fixed.sparse,
-    ) {
-        Some(head) => Ok(head),
-        None => Err(WordFault::Bad),
-    }
 }
 
 /// How many words of a head have positions, by its first word; the words between them and the first with sparse partial keys
@@ -128,20 +92,4 @@ fn entry_word_at(node: &Node, i: u8) -> u64
     ensures fits { HasEntryWord (slice_get node.now.entries i) }
 {
     pack_entry(Some(node.entry(i)))
-}
-
-/// The entries that have these words.
-fn unpack_entries(words: &[u64]) -> Result<ArrayVec<Entry, MAX_ENTRIES>, WordFault>
-    requires { length words.now ≡ MAX_ENTRIES }
-    ensures { IsReading (λ entries. HaveEntryWords entries.items) (λ entries. entry_words entries.items) words.now result }
-{
-    let mut entries = ArrayVec::new();
-    for (i, word) in words.iter().enumerate() {
-        match unpack_entry(*word)? {
-            Some(entry) if entries.len() == i => entries.push(entry),
-            Some(_) => return Err(WordFault::Bad),
-            None => {}
-        }
-    }
-    Ok(entries)
 }

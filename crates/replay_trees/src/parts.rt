@@ -7,8 +7,9 @@ ghost use Rattle.replay_trees.specs.Parts.{HasMarks, IsCutRead, IsEntryRead, IsH
 use crate::trees::{Item, Linked};
 use compound_node::{Cut, Entry, Half, Node};
 use key_bits::{Key, MAX_BYTES, mismatch};
-use record_words::{LEAF_FIELDS, NODE_FIELDS, unpack_leaf, unpack_node};
+use record_words::{LEAF_FIELDS, NODE_FIELDS};
 use std::alloc::AllocError;
+use unpacking::{unpack_leaf, unpack_node};
 
 /// Reads what stands below an entry, and answers whether that is lawful, with no fork before position `least`. What it
 /// links is added to `linked`.

@@ -9,8 +9,9 @@ ghost use Rattle.rowex_replay.specs.States.{IsStepped};
 use crate::record_steps::is_fixed_offset;
 use crate::state::State;
 use compound_node::Entry;
-use record_words::{HEAD_WORDS, MAX_ENTRIES, unpack_entry};
+use record_words::{HEAD_WORDS, MAX_ENTRIES};
 use rowex_core::{Rec, Spot};
+use unpacking::unpack_entry;
 
 impl State {
     /// Loads the root or an entry word.

@@ -11,10 +11,11 @@ ghost use Rattle.rowex_replay.specs.States.{HasLock, IsStepped};
 use crate::records::{filled, is_node};
 use crate::state::State;
 use compound_node::Entry;
-use record_words::{HEAD_WORDS, MAX_ENTRIES, unpack_entry};
+use record_words::{HEAD_WORDS, MAX_ENTRIES};
 use replay_trees::{Linked, change_between, read_tree};
 use rowex_core::Spot;
 use std::alloc::AllocError;
+use unpacking::unpack_entry;
 
 impl State {
     /// Stores the root or an entry word under its lock.

@@ -7,10 +7,11 @@ ghost use Rattle.moments.specs.declared.Rec.TheVariants.{Node as a_node, Leaf as
 
 use crate::fate::Fate;
 use crate::links::{all_may_come, all_may_go, link_all};
-use record_words::{LEAF_FIELDS, Layout, NODE_FIELDS, Tag, unpack_leaf, unpack_node, unpack_state};
+use record_words::{LEAF_FIELDS, Layout, NODE_FIELDS, Tag, unpack_state};
 use rowex_core::Rec;
 use std::alloc::{AllocError, Global};
 use std::marker::Model;
+use unpacking::{unpack_leaf, unpack_node};
 
 /// The records of a table: of each its words but the state, and its fate; of each node who has locked it.
 #[derive(Drop)]

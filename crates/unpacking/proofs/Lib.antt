@@ -1,0 +1,7 @@
+-- The lemmas of the crate.
+mod Entries
+mod Heads
+mod Leaves
+mod Nodes
+mod Numbers
+mod Readings

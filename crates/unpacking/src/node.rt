@@ -1,0 +1,64 @@
+//! A node and a head of their words.
+
+ghost use Rattle.std.specs.Prelude.{◌≡◌, length};
+ghost use Rattle.record_words.specs.declared.TheConstants.{MAX_ENTRIES};
+ghost use Rattle.record_words.specs.Node.{HasHeadWords, HasNodeWords, HaveEntryWords, entry_words, head_words, node_words};
+ghost use Rattle.record_words.specs.Reading.{IsReading};
+
+use crate::entry::unpack_entry;
+use crate::fixed::Fixed;
+use arrayvec::ArrayVec;
+use compound_node::{Entry, Head, Node};
+use record_words::{HEAD_WORDS, MAX_ENTRIES, NODE_FIELDS, WordFault};
+
+/// The node that a node record has, of its words from offset 1 on.
+pub fn unpack_node(words: &[u64; NODE_FIELDS]) -> Result<Node, WordFault>
+    ensures { IsReading HasNodeWords node_words words.now result }
+{
+    let fixed = Fixed::unpack(&words[..HEAD_WORDS])?;
+    let entries = unpack_entries(&words[HEAD_WORDS..])?;
+    if entries.len() != fixed.count as usize {
+        return Err(WordFault::Bad);
+    }
+    match Node::from_parts(
+        fixed.height,
+        fixed.columns.as_slice(),
+        &fixed.sparse,
+        entries.as_slice(),
+    ) {
+        Some(node) => Ok(node),
+        None => Err(WordFault::Bad),
+    }
+}
+
+/// The head that a node record has, of its words from offset 1 on, whatever its entries are.
+pub fn unpack_head(words: &[u64; HEAD_WORDS]) -> Result<Head, WordFault>
+    ensures { IsReading HasHeadWords head_words words.now result }
+{
+    let fixed = Fixed::unpack(words)?;
+    match Head::from_parts(
+        fixed.count,
+        fixed.height,
+        fixed.columns.as_slice(),
+        &fixed.sparse,
+    ) {
+        Some(head) => Ok(head),
+        None => Err(WordFault::Bad),
+    }
+}
+
+/// The entries that have these words.
+fn unpack_entries(words: &[u64]) -> Result<ArrayVec<Entry, MAX_ENTRIES>, WordFault>
+    requires { length words.now ≡ MAX_ENTRIES }
+    ensures { IsReading (λ entries. HaveEntryWords entries.items) (λ entries. entry_words entries.items) words.now result }
+{
+    let mut entries = ArrayVec::new();
+    for (i, word) in words.iter().enumerate() {
+        match unpack_entry(*word)? {
+            Some(entry) if entries.len() == i => entries.push(entry),
+            Some(_) => return Err(WordFault::Bad),
+            None => {}
+        }
+    }
+    Ok(entries)
+}
