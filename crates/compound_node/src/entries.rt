@@ -10,7 +10,7 @@ use arrayvec::ArrayVec;
 
 /// What a node has at a place: a leaf record by its number, or a child node by its number and its
 /// stored height. In a node the height of a child is from 1 to 65,534.
-#[derive(Clone, Copy, Debug, PartialEq, Eq)]
+#[derive(Clone, Copy, PartialEq, Eq)]
 pub enum Entry {
     Leaf(u32),
     Node { number: u32, height: u16 },

@@ -13,7 +13,7 @@ use rowex_core::{Gate, Rec};
 use rowex_table::{HotTable, TableSeat};
 
 /// How many records a round of collection gave back.
-#[derive(Clone, Copy, Debug, PartialEq, Eq)]
+#[derive(Clone, Copy, PartialEq, Eq)]
 pub struct Given {
     pub nodes: u32,
     pub leaves: u32,

@@ -22,7 +22,7 @@ pub enum Command {
 }
 
 /// The version of a script.
-#[derive(Clone, Copy, Debug, PartialEq, Eq)]
+#[derive(Clone, Copy, PartialEq, Eq)]
 pub enum Version {
     First,
     Second,

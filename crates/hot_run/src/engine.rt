@@ -15,7 +15,7 @@ use std::sync::Wait;
 use std::thread;
 
 /// What a call is answered.
-#[derive(Clone, Copy, Debug, PartialEq, Eq)]
+#[derive(Clone, Copy, PartialEq, Eq)]
 pub enum Answer {
     /// What the map answers.
     Reply(Reply),

@@ -15,7 +15,7 @@ use hot_run::{MAX_FILES, MAX_LEAVES, MAX_NODES, RunFault};
 use std::alloc::Global;
 
 /// What the command line asks for.
-#[derive(Debug, Drop)]
+#[derive(Drop)]
 pub struct Request<'a> {
     /// How many node records the index may have.
     pub nodes: u32,

@@ -10,7 +10,7 @@ use std::alloc::AllocError;
 use std::fmt;
 
 /// What the program says in place of its answers.
-#[derive(Clone, Copy, Debug)]
+#[derive(Clone, Copy)]
 pub enum Ending {
     /// The command line was refused.
     Usage,

@@ -17,7 +17,7 @@ use std::marker::Model;
 pub const MAX_BYTES: usize = 240;
 
 /// Why bytes are no key.
-#[derive(Clone, Copy, Debug, PartialEq, Eq)]
+#[derive(Clone, Copy, PartialEq, Eq)]
 pub enum KeyFault {
     /// There are more than `MAX_BYTES` of them.
     TooLong = 1,
@@ -26,7 +26,7 @@ pub enum KeyFault {
 /// A key of an ordered index: 0 to `MAX_BYTES` bytes, which lie in the value itself.
 ///
 /// Keys are ordered by bytes, a prefix first. Contracts see a key as the list of its bytes.
-#[derive(Debug, Drop)]
+#[derive(Drop)]
 pub struct Key {
     // The count stands first: in a `Result` a fault then shares no byte with the key's own, so that these move in one piece.
     count: usize,

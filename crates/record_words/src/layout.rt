@@ -19,7 +19,7 @@ pub enum LayoutFault {
 ///
 /// Its words are the epoch, the root, the anchor, a pin for each pass, the node records and the leaf records. Words between
 /// these keep apart what different threads write, and have no location.
-#[derive(Clone, Copy, Debug, PartialEq, Eq)]
+#[derive(Clone, Copy, PartialEq, Eq)]
 pub struct Layout {
     /// 1 to `MAX_PASSES`.
     pub passes: u32,
@@ -33,7 +33,7 @@ pub struct Layout {
 }
 
 /// What stands at a word of a table.
-#[derive(Clone, Copy, Debug, PartialEq, Eq)]
+#[derive(Clone, Copy, PartialEq, Eq)]
 pub enum Location {
     Epoch,
     Root,

@@ -7,7 +7,7 @@ ghost use Rattle.record_words.specs.Reading.{IsReading};
 use crate::{EPOCHS, WordFault};
 
 /// What a record's state word says of it.
-#[derive(Clone, Copy, Debug, PartialEq, Eq)]
+#[derive(Clone, Copy, PartialEq, Eq)]
 pub enum Tag {
     /// Any pass may claim it.
     Free,
