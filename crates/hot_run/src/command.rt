@@ -22,7 +22,7 @@ pub enum Command {
 }
 
 /// The version of a script.
-#[derive(Clone, Copy, PartialEq, Eq)]
+#[derive(Clone, Copy)]
 pub enum Version {
     First,
     Second,

@@ -15,7 +15,7 @@ use std::sync::Wait;
 use std::thread;
 
 /// What a call is answered.
-#[derive(Clone, Copy, PartialEq, Eq)]
+#[derive(Clone, Copy)]
 pub enum Answer {
     /// What the map answers.
     Reply(Reply),

@@ -6,7 +6,7 @@ pub mod laws;
 use std::collections::LinkedList;
 
 /// A record of the table.
-#[derive(Clone, Copy, PartialEq, Eq)]
+#[derive(Clone, Copy)]
 pub enum Rec {
     Node(u32),
     Leaf(u32),

@@ -17,7 +17,7 @@ use std::simd::prelude::*;
 
 /// The columns of a compound node: 1 to 31 bit positions, strictly rising, each below 65,535. Column j is bit 31-j of a
 /// dense or sparse partial key.
-#[derive(Clone, Copy, PartialEq, Eq)]
+#[derive(Clone, Copy)]
 pub struct Columns {
     positions: [u16; 31],
     count: u8,

@@ -8,7 +8,7 @@ use crate::{
 };
 
 /// Which number of records is out of range; they are tested in this order.
-#[derive(Clone, Copy, Debug, PartialEq, Eq)]
+#[derive(Clone, Copy, Debug)]
 pub enum LayoutFault {
     Passes = 1,
     Nodes = 2,
@@ -19,7 +19,7 @@ pub enum LayoutFault {
 ///
 /// Its words are the epoch, the root, the anchor, a pin for each pass, the node records and the leaf records. Words between
 /// these keep apart what different threads write, and have no location.
-#[derive(Clone, Copy, PartialEq, Eq)]
+#[derive(Clone, Copy)]
 pub struct Layout {
     /// 1 to `MAX_PASSES`.
     pub passes: u32,
@@ -33,7 +33,7 @@ pub struct Layout {
 }
 
 /// What stands at a word of a table.
-#[derive(Clone, Copy, PartialEq, Eq)]
+#[derive(Clone, Copy)]
 pub enum Location {
     Epoch,
     Root,

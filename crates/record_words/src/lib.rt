@@ -74,7 +74,7 @@ pub const LEAF_WORDS: usize = 3 + KEY_WORDS;
 pub const LEAF_FIELDS: usize = LEAF_WORDS - 1;
 
 /// Why words are no packing of any value.
-#[derive(Clone, Copy, PartialEq, Eq)]
+#[derive(Clone, Copy)]
 pub enum WordFault {
     Bad = 1,
 }

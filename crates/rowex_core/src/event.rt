@@ -3,7 +3,7 @@
 use moments::Rec;
 
 /// What a writer locks.
-#[derive(Clone, Copy, PartialEq, Eq)]
+#[derive(Clone, Copy)]
 pub enum Target {
     /// The word that stands for the root.
     Anchor,
@@ -12,7 +12,7 @@ pub enum Target {
 }
 
 /// Where an entry word stands.
-#[derive(Clone, Copy, PartialEq, Eq)]
+#[derive(Clone, Copy)]
 pub enum Spot {
     Root,
     /// Entry 0 to 31 of a node record.
@@ -21,7 +21,7 @@ pub enum Spot {
 
 /// One load, store or compare-exchange on one word. In a compare-exchange `found` is the word that stood there; where it
 /// is not the expected one, the word stays.
-#[derive(Clone, Copy, PartialEq, Eq)]
+#[derive(Clone, Copy)]
 pub enum Act {
     /// Exchanges the state of a record from free to held.
     Claim { rec: Rec, found: u64 },
@@ -60,7 +60,7 @@ pub enum Act {
 }
 
 /// An atomic step of the pass of this number.
-#[derive(Clone, Copy, PartialEq, Eq)]
+#[derive(Clone, Copy)]
 pub struct Event {
     pub pass: u16,
     pub act: Act,
@@ -78,7 +78,7 @@ pub trait Gate {
 }
 
 /// A gate that does nothing.
-#[derive(Clone, Copy, PartialEq, Eq)]
+#[derive(Clone, Copy)]
 pub struct NoGate;
 
 impl Gate for NoGate {

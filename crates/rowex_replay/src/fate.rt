@@ -6,7 +6,7 @@ ghost use Rattle.rowex_core.specs.Words.{lock_tag, tag_of};
 use record_words::Tag;
 
 /// What has become of a record. Moments are counted by changes, passes by their numbers.
-#[derive(Clone, Copy, PartialEq, Eq)]
+#[derive(Clone, Copy)]
 pub(crate) enum Fate {
     /// Any pass may claim it.
     Free,

@@ -7,7 +7,7 @@ use std::error::Error;
 use std::fmt;
 
 /// Why an event is not replayed. The replay is then as it was.
-#[derive(Clone, Copy, Debug, PartialEq, Eq)]
+#[derive(Clone, Copy, Debug)]
 pub enum ReplayFault {
     /// The event is not legal where it comes.
     Illegal = 1,

@@ -176,7 +176,10 @@ impl Records {
     pub(crate) fn is_held(&self, rec: Rec, pass: u16) -> bool
         ensures { IsTrue result ↔ (fate_in self.now rec ≡ Some (Held pass)) }
     {
-        self.fate(rec) == Some(Fate::Held { by: pass })
+        match self.fate(rec) {
+            Some(Fate::Held { by }) => by == pass,
+            _ => false,
+        }
     }
 
     /// Whether the record is marked with this epoch.

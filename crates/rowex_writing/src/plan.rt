@@ -9,7 +9,7 @@ use insert_cases::{Case, Step, chain_end, choose, level_below};
 use thiserror::Error;
 
 /// What a call asks for.
-#[derive(Clone, Copy, PartialEq, Eq)]
+#[derive(Clone, Copy)]
 pub enum Ask {
     /// The key with the value, if it is absent.
     Insert,
@@ -20,7 +20,7 @@ pub enum Ask {
 }
 
 /// Where the key's search ended.
-#[derive(Clone, Copy, PartialEq, Eq)]
+#[derive(Clone, Copy)]
 pub enum Found {
     /// At an empty root.
     Nothing,
@@ -37,14 +37,14 @@ pub enum Found {
 
 /// The nodes of the way that get others in their place: those from `end` on, before `len`. The topmost of the others goes
 /// into the entry that the search took in the node at `end - 1`, or to the root where `end` is 0.
-#[derive(Clone, Copy, PartialEq, Eq)]
+#[derive(Clone, Copy)]
 pub struct Span {
     pub len: usize,
     pub end: usize,
 }
 
 /// What is done at the lower end of a span.
-#[derive(Clone, Copy, PartialEq, Eq)]
+#[derive(Clone, Copy)]
 pub enum Deed {
     /// The new leaf takes the place of what stands there.
     Put,
@@ -57,7 +57,7 @@ pub enum Deed {
 }
 
 /// What a call does.
-#[derive(Clone, Copy, PartialEq, Eq)]
+#[derive(Clone, Copy)]
 pub enum Plan {
     /// It answers, and changes nothing.
     Answer(Reply),
@@ -77,7 +77,7 @@ pub enum Full {
 }
 
 /// What a call does, as far as the way and the search's end tell it.
-#[derive(Clone, Copy, PartialEq, Eq)]
+#[derive(Clone, Copy)]
 pub enum Outline {
     /// All is told.
     Known(Plan),
