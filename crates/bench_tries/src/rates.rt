@@ -1,9 +1,10 @@
 //! How fast a map takes keys, finds them, and scans from them.
 
 use crate::keys::KEYS;
-use hot_model::{Call, PlainIndex, Reply, Scan};
+use hot_model::{Call, Reply, Scan};
 use insert_cases::PlainTrie;
 use key_bits::Key;
+use plain_index::PlainIndex;
 use std::alloc::Global;
 use std::io;
 use std::rt::Clock;

@@ -1,8 +1,9 @@
 //! The maps for one thread.
 
-use hot_model::{Call, PlainIndex, Reply};
+use hot_model::{Call, Reply};
 use insert_cases::PlainTrie;
 use key_bits::Key;
+use plain_index::PlainIndex;
 use std::test::*;
 
 /// The key of no bytes, and that of 240 bytes 255.

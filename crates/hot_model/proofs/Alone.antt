@@ -8,8 +8,7 @@ use Rattle.hot_model.specs.declared.Change.{Change}
 use Rattle.hot_model.specs.declared.Note.{Note}
 use Rattle.hot_model.specs.Maps.{map_after, reply_of, replies_of, map_after_all}
 use Rattle.hot_model.specs.Fronts.{map_of}
-use Rattle.hot_model.specs.Calls.{is_change, place_after, StandsIn, RisesFrom, changes_of, own_changes, LegalCalls}
-use Rattle.hot_model.specs.Statements.{IsRun}
+use Rattle.hot_model.specs.Calls.{is_change, place_after, StandsIn, RisesFrom, changes_of, own_changes, LegalCalls, IsRun}
 use Rattle.hot_model.proofs.Growth.{map_of-push}
 use Rattle.hot_model.proofs.Legal.{change_of-quiet, change_of-change, map_after-quiet, makes_change, place_after-within}
 

@@ -23,7 +23,7 @@ use Rattle.hot_model.specs.Maps.{Map, key_order, IsRising, value_at}
 use Rattle.hot_model.specs.Fronts.{map_of}
 use Rattle.hot_model.specs.Scans.{is_within, range_of, IsScanOf, IsHeldBetween, IsUpToLast, IsLawfulScan}
 use Rattle.hot_model.proofs.Held.{same_from_at, at_itself}
-use Rattle.hot_model.proofs.AtOnce.{rising}
+use Rattle.hot_model.proofs.Ranges.{range-rising}
 
 -- Look-ups in rising maps
 
@@ -225,7 +225,7 @@ module _ (front : List Change) (from upto : List ℕ) (limit : ℕ) (scan : Scan
 
   -- what the range has beyond the pairs
   beyond : (more : Map) × (range ≡ pairs ++ more)
-  beyond = begins pairs range h.rising (rising front from upto) first
+  beyond = begins pairs range h.rising (range-rising front from upto) first
 
   -- the pairs are the range's first ones
   first_pairs : (more : Map) → range ≡ pairs ++ more → (length pairs ≡ limit) ⊎ (more ≡ []) → pairs ≡ take limit range
@@ -243,7 +243,7 @@ module _ (front : List Change) (from upto : List ℕ) (limit : ℕ) (scan : Scan
       let k = kept q.0 held in
       let removed : All (λ c. c.kind ≡ Removed → c.key ≢ q.0) (drop (length front) front) = rw none_removed (All-nil _) in
       let there = IsSome-lookup_from_Contains (eq_by_cmp_equiv nat_list_cmp_total) q.0 pairs (h.whole ends q.0 k.0 (k.1, removed)) in
-      let no = rw (none_earlier pairs q qs (subst IsRising split (rising front from upto))) at there in cc
+      let no = rw (none_earlier pairs q qs (subst IsRising split (range-rising front from upto))) at there in cc
 
   -- a scan with `more` has less than the range
   part_range : (more : Map) → range ≡ pairs ++ more → scan.more ≡ true → limit < length range

@@ -7,8 +7,4 @@ pub mod Growth
 pub mod Legal
 pub mod Weaving
 pub mod Alone
-pub mod AtOnce
 pub mod Firsts
-pub mod Deciding
-pub mod InOrder
-pub mod Together

@@ -1,35 +1,25 @@
 -- The part of a map in a range.
-use Rattle.std.proofs.Common.{◌≡◌, ℕ, List, [], ◌∷◌, true, false, cond, ◌&&◌, not, refl, sym, ap, ◌∙◌, arith}
-use Rattle.std.specs.declared.cmp.Ordering.{Ordering}
-use Rattle.std.specs.declared.cmp.Ordering.TheVariants.{Less, Equal, Greater}
-use Rattle.std.specs.Ordering.{is_gt, is_le, is_lt, ordering_reverse}
-use Rattle.std.specs.Cmp.Lexicographic.{nat_list_cmp_total}
-use Rattle.std.proofs.Math.Seq.{take-nil}
-use Rattle.hot_model.specs.declared.Scan.{Scan}
-use Rattle.hot_model.specs.Maps.{Map, key_order}
-use Rattle.hot_model.specs.Scans.{range_of, IsScanOf}
+use Rattle.std.proofs.Common.{◌≡◌, ℕ, List, [], ◌∷◌, Bool, true, false, cond, refl, sym, ap, subst, ◌∙◌}
+use Rattle.std.specs.List.{filter}
+use Rattle.std.specs.List.Sorted.{IsStrictlySortedBy}
+use Rattle.std.specs.Map.{keys_of}
+use Rattle.std.proofs.lemmas.List.Kept.{IsStrictlySortedBy-filter}
+use Rattle.hot_model.specs.declared.Change.{Change}
+use Rattle.hot_model.specs.Maps.{Map, key_order, IsRising}
+use Rattle.hot_model.specs.Fronts.{map_of}
+use Rattle.hot_model.specs.Scans.{is_within, range_of}
+use Rattle.hot_model.proofs.Growth.{map_of-rising}
 
-above : (o : Ordering) → is_gt o ≡ true → o ≡ Greater
-above Less h = cc
-above Equal h = cc
-above Greater h = refl
+keys_of-filter : (p : List ℕ → Bool) (m : Map) → keys_of (filter (λ e. p e.0) m) ≡ filter p (keys_of m)
+keys_of-filter p [] = refl
+keys_of-filter p (e ∷ es) = by (p e.0) ∙ ap (λ ks. cond (p e.0) (e.0 ∷ ks) ks) (keys_of-filter p es)
+  where
+    by : (b : Bool) → keys_of (cond b (e ∷ filter (λ e. p e.0) es) (filter (λ e. p e.0) es)) ≡ cond b (e.0 ∷ keys_of (filter (λ e. p e.0) es)) (keys_of (filter (λ e. p e.0) es))
+    by true = refl
+    by false = refl
 
--- the lower bound is above the upper one
-module _ (from upto : List ℕ) (backwards : key_order from upto ≡ Greater) where
-  no_key : (key : List ℕ) (o : Ordering) → key_order from key ≡ o → (is_le o && not (is_lt (key_order upto key))) ≡ false
-  no_key key Greater e = refl
-  no_key key Less e =
-      let below : key_order upto from ≡ Less = nat_list_cmp_total.antisymm upto from ∙ ap ordering_reverse backwards in
-      ap (λ o. not (is_lt o)) (nat_list_cmp_total.trans upto from key below e)
-  no_key key Equal e =
-      let over : key_order key upto ≡ Greater = sym (nat_list_cmp_total.congr from key upto e) ∙ backwards in
-      ap (λ o. not (is_lt o)) (nat_list_cmp_total.antisymm upto key ∙ ap ordering_reverse over)
-
-  pub range_of-backwards : (m : Map) → range_of m from upto ≡ []
-  range_of-backwards [] = refl
-  range_of-backwards (e ∷ es) = ap (λ b. cond b (e ∷ range_of es from upto) (range_of es from upto)) (no_key e.0 _ refl) ∙ range_of-backwards es
-
-pub scan_of-backwards : (m : Map) (from upto : List ℕ) (limit : ℕ) (scan : Scan) → is_gt (key_order from upto) ≡ true → scan.pairs.items ≡ [] → scan.more ≡ false → IsScanOf m from upto limit scan
-scan_of-backwards m from upto limit scan backwards none ends =
-    let empty : range_of m from upto ≡ [] = range_of-backwards from upto (above _ backwards) m in
-    record { pairs = rw empty (none ∙ sym (take-nil limit)); more = rw (empty, ends) ((λ h. cc), (λ h. absurd (omega arith))) }
+-- the keys of a range rise
+pub range-rising : (front : List Change) (from upto : List ℕ) → IsRising (range_of (map_of front) from upto)
+range-rising front from upto =
+    subst (IsStrictlySortedBy key_order) (sym (keys_of-filter (is_within from upto) (map_of front)))
+    (IsStrictlySortedBy-filter key_order (is_within from upto) (keys_of (map_of front)) (map_of-rising front))

@@ -1,5 +1,5 @@
 -- Legal calls of a pass, after Herlihy and Wing: where its answered calls stand in a front, and that each was answered as a finite map would.
-use Rattle.std.specs.Prelude.{◌≡◌, ℕ, ◌+◌, ◌≤◌, List, [], ◌∷◌, length, take, slice_get, filter, filter_map, All, Option, Some, None, Bool, is_some, option_map, nat_eq, if◌then◌else◌}
+use Rattle.std.specs.Prelude.{◌≡◌, ℕ, ◌+◌, ◌≤◌, List, [], ◌∷◌, length, take, slice_get, filter, filter_map, map, All, Option, Some, None, Bool, is_some, option_map, nat_eq, if◌then◌else◌}
 use Rattle.hot_model.specs.declared.Call.{Call}
 use Rattle.hot_model.specs.declared.Call.TheVariants.{Insert, Upsert, Remove}
 use Rattle.hot_model.specs.declared.Reply.{Reply}
@@ -8,7 +8,7 @@ use Rattle.hot_model.specs.declared.Kind.{Kind}
 use Rattle.hot_model.specs.declared.Kind.TheVariants.{Added, Replaced, Removed as TakenAway}
 use Rattle.hot_model.specs.declared.Change.{Change}
 use Rattle.hot_model.specs.declared.Note.{Note}
-use Rattle.hot_model.specs.Maps.{key_of, reply_of}
+use Rattle.hot_model.specs.Maps.{Map, key_of, reply_of, replies_of, map_after_all}
 use Rattle.hot_model.specs.Fronts.{map_of, LegalFront}
 
 -- what a call with this reply did to its key, if it changed the map: the kind and the value of its change
@@ -61,3 +61,8 @@ pub record LegalCalls (front : List Change) (q : ℕ) (notes : List Note) : Type
   pub rising : RisesFrom 0 notes
   -- the pass's changes are those of its calls, in order, each once
   pub own : own_changes q front ≡ changes_of q notes
+
+-- The calls of the notes, one after the other from the map m, have the notes' replies and lead to the map n.
+pub record IsRun (m : Map) (notes : List Note) (n : Map) : Type 0 where
+  pub replies : map (λ x. x.reply) notes ≡ replies_of m (map (λ x. x.call) notes)
+  pub map : n ≡ map_after_all m (map (λ x. x.call) notes)

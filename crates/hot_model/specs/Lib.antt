@@ -1,7 +1,6 @@
--- A finite map, histories of it, scans, and the laws of histories.
+-- A finite map, histories of it, and scans.
 pub mod Maps
 pub mod Fronts
 pub mod Calls
 pub mod Weaves
 pub mod Scans
-pub mod Statements

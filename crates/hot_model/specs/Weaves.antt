@@ -39,23 +39,6 @@ weave_from place (c ∷ cs) notes = calls_of (quiet_at place notes) ++ (made_by 
 abbrev pub weave : List Change → List Note → List Event
 weave front notes = weave_from 0 front notes
 
--- the calls that stand in a history, in order
-abbrev pub calls_in : List Event → List Event
-calls_in [] = []
-calls_in (answered call reply ∷ es) = answered call reply ∷ calls_in es
-calls_in (only c ∷ es) = calls_in es
-
--- a list that two lists make together: it has each element of both once, those of each list in their order
-pub data AreWoven : List Event → List Event → List Event → Type 0 where
-  empty : AreWoven [] [] []
-  of_first : {x : Event} {xs ys zs : List Event} → AreWoven xs ys zs → AreWoven (x ∷ xs) ys (x ∷ zs)
-  of_second : {y : Event} {xs ys zs : List Event} → AreWoven xs ys zs → AreWoven xs (y ∷ ys) (y ∷ zs)
-
--- and so for the calls of any number of passes
-abbrev pub CallsAreWoven : List (ℕ × List Note) → List Event → Type 0
-CallsAreWoven [] es = es ≡ []
-CallsAreWoven (pass ∷ passes) es = (others : List Event) × CallsAreWoven passes others × AreWoven (calls_of pass.1) others es
-
 -- in turn from the map m, each call has the map's reply
 abbrev pub LegalHistoryFrom : Map → List Event → Type 0
 LegalHistoryFrom m [] = Unit {0}

@@ -1,16 +1,10 @@
 //! A finite map from keys to numbers, and histories of it: the calls, what they answer, and what makes the calls of many passes legal together.
 #![tactic(auto)]
 
-mod histories;
-pub mod laws;
-mod plain;
-
-pub use histories::are_legal;
 use key_bits::Key;
-pub use plain::PlainIndex;
 
 /// A call on the map.
-#[derive(Debug, PartialEq, Eq, Drop)]
+#[derive(Drop)]
 pub enum Call {
     /// Gives the key the value where it has none.
     Insert(Key, u64),
@@ -23,7 +17,7 @@ pub enum Call {
 }
 
 /// What a call answers.
-#[derive(Clone, Copy, Debug, PartialEq, Eq)]
+#[derive(Clone, Copy, PartialEq, Eq)]
 pub enum Reply {
     /// Of `Insert`: the key was absent and has the value now.
     Inserted,
@@ -42,7 +36,7 @@ pub enum Reply {
 }
 
 /// What a change does to its key.
-#[derive(Clone, Copy, Debug, PartialEq, Eq)]
+#[derive(Clone, Copy, PartialEq, Eq)]
 pub enum Kind {
     /// The absent key got the value.
     Added,
@@ -53,7 +47,7 @@ pub enum Kind {
 }
 
 /// A change of the map, by the pass of this number.
-#[derive(Debug, PartialEq, Eq, Drop)]
+#[derive(Drop)]
 pub struct Change {
     pub pass: u16,
     pub key: Key,
@@ -63,7 +57,7 @@ pub struct Change {
 
 /// A call of a pass that was answered, and where it stands in a front: after the first `place` changes.
 /// In contracts a place is a whole number without bound.
-#[derive(Debug, PartialEq, Eq, Drop)]
+#[derive(Drop)]
 pub struct Note {
     pub place: u64,
     pub call: Call,

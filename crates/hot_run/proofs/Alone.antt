@@ -7,11 +7,10 @@ use Rattle.hot_model.specs.declared.Call.{Call}
 use Rattle.hot_model.specs.declared.Note.{Note}
 use Rattle.hot_model.specs.declared.Reply.{Reply as Replied}
 use Rattle.hot_model.specs.declared.Scan.{Scan}
-use Rattle.hot_model.specs.Calls.{LegalCalls, changes_of}
+use Rattle.hot_model.specs.Calls.{LegalCalls, changes_of, IsRun}
 use Rattle.hot_model.specs.Fronts.{map_of, BeginsWith}
 use Rattle.hot_model.specs.Maps.{reply_of, replies_of, map_after, map_after_all}
 use Rattle.hot_model.specs.Scans.{IsScanOf, IsLawfulScan}
-use Rattle.hot_model.specs.Statements.{IsRun}
 use Rattle.hot_model.proofs.Alone.{alone-run, own_changes-all}
 use Rattle.hot_model.proofs.Firsts.{lawful-scan_of}
 use Rattle.hot_model.proofs.Growth.{begins_same}

@@ -1,9 +1,10 @@
 //! A sequential trie beside a plain index: the same calls on both, which are to answer the same.
 
 use crate::made::{get, insert, key, upsert};
-use hot_model::{PlainIndex, Reply};
+use hot_model::Reply;
 use insert_cases::PlainTrie;
 use key_bits::Key;
+use plain_index::PlainIndex;
 use std::alloc::{AllocError, Global};
 use std::process::Abort;
 

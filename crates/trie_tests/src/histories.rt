@@ -1,8 +1,9 @@
 //! The plain index and the decision on histories, by value.
 
 use crate::made::{expect_scan, get, insert, key, remove, upsert};
-use hot_model::{Call, Change, Kind, Note, PlainIndex, Reply, are_legal, laws};
+use hot_model::{Call, Change, Kind, Note, Reply};
 use key_bits::Key;
+use plain_index::{PlainIndex, are_legal, laws};
 use std::alloc::{AllocError, Global};
 use std::process::Abort;
 use std::test::Fail;

@@ -2,8 +2,9 @@
 
 use crate::made::*;
 use hot_index::{Reply, TryFault};
-use hot_model::{Call, PlainIndex};
+use hot_model::Call;
 use key_bits::Key;
+use plain_index::PlainIndex;
 use std::alloc::{AllocError, Global};
 use std::process::Abort;
 use std::test::*;

@@ -4,8 +4,9 @@ ghost use Rattle.std.specs.Prelude.{All};
 ghost use Rattle.hot_index.specs.Passes.{Owns};
 
 use crate::made::*;
-use hot_model::{Call, PlainIndex};
+use hot_model::Call;
 use key_bits::Key;
+use plain_index::PlainIndex;
 use std::alloc::{AllocError, Global};
 use std::process::Abort;
 use std::test::*;

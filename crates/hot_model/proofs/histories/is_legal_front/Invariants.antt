@@ -1,7 +1,0 @@
--- The changes so far are legal.
-use Rattle.std.proofs.Common.{take}
-use Rattle.hot_model.specs.Fronts.{LegalFront}
-use Rattle.hot_model.proofs.histories.is_legal_front.Given as goal
-
-abbrev pub invariant-loop-i : goal.invariant-loop-i
-invariant-loop-i l = LegalFront (take l.i l.front)

@@ -1,6 +1,0 @@
--- The law is a lemma on legal calls.
-use Rattle.hot_model.proofs.Legal.{legal_longer}
-use Rattle.hot_model.proofs.laws.longer.Goals as goal
-
-pub returns : goal.returns
-returns c = legal_longer

@@ -1,6 +1,0 @@
--- The law is a lemma on scans.
-use Rattle.hot_model.proofs.AtOnce.{scan_of-lawful}
-use Rattle.hot_model.proofs.laws.scans_at_once.Goals as goal
-
-pub returns : goal.returns
-returns c = scan_of-lawful

@@ -1,6 +1,0 @@
--- The laws are lemmas on the weave.
-use Rattle.hot_model.proofs.Together.{woven-in_order, woven-in_order_two}
-use Rattle.hot_model.proofs.laws.woven_in_order.Goals as goal
-
-pub returns : goal.returns
-returns c = record { any = woven-in_order; two = woven-in_order_two }

@@ -1,0 +1,18 @@
+-- The change at `i` fits the map of those before it, or the front is not legal.
+use Rattle.std.proofs.Common.{true, sym, subst, ◌≡◌}
+use Rattle.hot_model.specs.Fronts.{FitsKind}
+use Rattle.plain_index.proofs.Deciding.{legal_take_more, legal_front-fits}
+use Rattle.plain_index.proofs.histories.is_legal_front.Goals as goal
+
+pub returns-then-not-fits : goal.returns-then-not-fits
+returns-then-not-fits c = (
+  (λ h. cc),
+  (λ legal.
+      let fits = legal_front-fits _ _ _ c.loop-i-test.true c.index-front-i.is legal in
+      let yes : c.fits.result ≡ true = c.fits.ensures.1 (subst (λ o. FitsKind c.index-front-i.result.kind o c.index-front-i.result.value) (sym c.held_value.ensures) fits) in
+      let no = c.if-not-fits.true in cc),
+)
+
+pub loop-i-preserved : goal.loop-i-preserved
+loop-i-preserved c = legal_take_more _ _ _ c.loop-i-test.true c.index-front-i.is c.loop-i.invariant
+    (subst (λ o. FitsKind c.index-front-i.result.kind o c.index-front-i.result.value) c.held_value.ensures (c.fits.ensures.0 c.if-not-fits.false))

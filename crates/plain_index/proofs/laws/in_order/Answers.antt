@@ -1,0 +1,6 @@
+-- The law is a lemma on the weave.
+use Rattle.plain_index.proofs.InOrder.{weave-in_order}
+use Rattle.plain_index.proofs.laws.in_order.Goals as goal
+
+pub returns : goal.returns
+returns c = weave-in_order

@@ -1,0 +1,53 @@
+-- The laws of histories, as the functions of the module `laws` promise them.
+use Rattle.std.specs.Prelude.{◌≡◌, ◌≢◌, ℕ, List, [], ◌++◌, All}
+use Rattle.hot_model.specs.declared.Change.{Change}
+use Rattle.hot_model.specs.declared.Note.{Note}
+use Rattle.hot_model.specs.declared.Scan.{Scan}
+use Rattle.hot_model.specs.Fronts.{map_of, LegalFront, OthersGoOn}
+use Rattle.hot_model.specs.Calls.{LegalCalls, IsRun}
+use Rattle.hot_model.specs.Weaves.{LegalHistory, weave, notes_of, AllLegal, calls_of}
+use Rattle.hot_model.specs.Scans.{IsScanOf, IsLawfulScan}
+use Rattle.plain_index.specs.Orders.{calls_in, AreWoven, CallsAreWoven}
+
+-- Calls that are legal in a front are legal in each legal front that goes on from it by changes of other passes alone.
+abbrev pub Longer : Type 0
+Longer = (front later : List Change) (q : ℕ) (notes : List Note) → LegalCalls front q notes → OthersGoOn q front later → LegalFront later → LegalCalls later q notes
+
+-- Where the calls of passes of different numbers are each legal in a front, they are answered as by a finite map in one sequential
+-- history: the weave of all their notes into the front.
+abbrev pub Woven : Type 0
+Woven = (front : List Change) (passes : List (ℕ × List Note)) → AllLegal front passes → LegalHistory (weave front (notes_of passes))
+
+-- The same for two passes.
+abbrev pub WovenTwo : Type 0
+WovenTwo =
+    (front : List Change) (p q : ℕ) (notes_p notes_q : List Note) → p ≢ q → LegalCalls front p notes_p → LegalCalls front q notes_q →
+    LegalHistory (weave front (notes_p ++ notes_q))
+
+-- In the weave of the calls of several passes, those of each pass stand each once, in the order in which it made them.
+abbrev pub WovenInOrder : Type 0
+WovenInOrder = (front : List Change) (passes : List (ℕ × List Note)) → AllLegal front passes → CallsAreWoven passes (calls_in (weave front (notes_of passes)))
+
+-- The same for two passes.
+abbrev pub WovenInOrderTwo : Type 0
+WovenInOrderTwo =
+    (front : List Change) (p q : ℕ) (notes_p notes_q : List Note) → LegalCalls front p notes_p → LegalCalls front q notes_q →
+    AreWoven (calls_of notes_p) (calls_of notes_q) (calls_in (weave front (notes_p ++ notes_q)))
+
+-- A scan of the map of a front is lawful where the front stays as it is.
+abbrev pub ScansAtOnce : Type 0
+ScansAtOnce =
+    (front : List Change) (from upto : List ℕ) (limit : ℕ) (scan : Scan) → IsScanOf (map_of front) from upto limit scan → IsLawfulScan front front from upto limit scan
+
+-- The weave of one pass's legal calls has each of them once, in the order in which the pass made them.
+abbrev pub InOrder : Type 0
+InOrder = (front : List Change) (q : ℕ) (notes : List Note) → LegalCalls front q notes → calls_in (weave front notes) ≡ calls_of notes
+
+-- The scan of a front that stays as it is gives the first pairs of its map's range, and says whether there is a further one.
+abbrev pub StillScans : Type 0
+StillScans =
+    (front : List Change) (from upto : List ℕ) (limit : ℕ) (scan : Scan) → IsLawfulScan front front from upto limit scan → IsScanOf (map_of front) from upto limit scan
+
+-- The legal calls of a pass that made all changes of the front are a run of the finite map, from the empty one on.
+abbrev pub Alone : Type 0
+Alone = (front : List Change) (q : ℕ) (notes : List Note) → LegalCalls front q notes → All (λ c. c.pass ≡ q) front → IsRun [] notes (map_of front)

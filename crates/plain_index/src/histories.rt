@@ -1,0 +1,175 @@
+//! Whether calls are legal in a front, decided from the values.
+ghost use Rattle.std.specs.Prelude.{◌≡◌, ◌↔◌, IsTrue, slice_get};
+ghost use Rattle.hot_model.specs.declared.Change.{Change};
+ghost use Rattle.hot_model.specs.Maps.{Map, key_of, step_where, value_at};
+ghost use Rattle.hot_model.specs.Fronts.{FitsKind, LegalFront, map_of};
+ghost use Rattle.hot_model.specs.Calls.{LegalCalls, RisesFrom, StandsIn, change_of, changes_of, effect_of, is_change, own_changes};
+
+use hot_model::{Call, Change, Kind, Note, Reply};
+use key_bits::Key;
+
+/// Whether answered calls of the pass are legal in the front. Its time is the square of the lengths.
+pub fn are_legal(front: &[Change], pass: u16, notes: &[Note]) -> bool
+    ensures { IsTrue result ↔ LegalCalls front.now pass notes.now }
+{
+    is_legal_front(front)
+        && notes.iter().all(|note| stands_in(front, pass, note))
+        && rises_from(0, notes)
+        && owns(front, pass, notes)
+}
+
+/// The key that a call is about.
+fn key_in(call: &Call) -> &Key
+    ensures { result.now ≡ key_of call.now }
+{
+    match call {
+        Call::Insert(key, _) => key,
+        Call::Upsert(key, _) => key,
+        Call::Get(key) => key,
+        Call::Remove(key) => key,
+    }
+}
+
+/// What a map answers a call that holds this value for its key, or none.
+fn reply_where(call: &Call, held: Option<u64>) -> Reply
+    ensures { (m : Map) → result ≡ (step_where held m call.now).1 }
+{
+    match (call, held) {
+        (Call::Insert(..), None) => Reply::Inserted,
+        (Call::Insert(..), Some(value)) => Reply::Exists(value),
+        (Call::Upsert(..), None) => Reply::New,
+        (Call::Upsert(..), Some(value)) => Reply::Was(value),
+        (Call::Get(_), None) => Reply::Absent,
+        (Call::Get(_), Some(value)) => Reply::Value(value),
+        (Call::Remove(_), None) => Reply::Absent,
+        (Call::Remove(_), Some(value)) => Reply::Removed(value),
+    }
+}
+
+/// The kind and the value of the change that a call made, if it has this reply.
+fn effect(call: &Call, reply: Reply) -> Option<(Kind, u64)>
+    ensures { result ≡ effect_of call.now reply }
+{
+    match (call, reply) {
+        (Call::Insert(_, value), Reply::Inserted) => Some((Kind::Added, *value)),
+        (Call::Upsert(_, value), Reply::New) => Some((Kind::Added, *value)),
+        (Call::Upsert(_, value), Reply::Was(_)) => Some((Kind::Replaced, *value)),
+        (Call::Remove(_), Reply::Removed(held)) => Some((Kind::Removed, held)),
+        _ => None,
+    }
+}
+
+/// The value that the map of the front holds for the key.
+fn held_value(front: &[Change], key: &Key) -> Option<u64>
+    ensures { result ≡ value_at (map_of front.now) key.now }
+{
+    let mut held = None;
+    for change in front {
+        if change.key == *key {
+            held = match change.kind {
+                Kind::Added | Kind::Replaced => Some(change.value),
+                Kind::Removed => None,
+            };
+        }
+    }
+    held
+}
+
+/// Whether a change of this kind and value is legal where this value is held.
+fn fits(kind: Kind, held: Option<u64>, value: u64) -> bool
+    ensures { IsTrue result ↔ FitsKind kind held value }
+{
+    match kind {
+        Kind::Added => held.is_none(),
+        Kind::Replaced => held.is_some(),
+        Kind::Removed => held == Some(value),
+    }
+}
+
+fn is_legal_front(front: &[Change]) -> bool
+    ensures { IsTrue result ↔ LegalFront front.now }
+{
+    for (i, change) in front.iter().enumerate() {
+        if !fits(
+            change.kind,
+            held_value(&front[..i], &change.key),
+            change.value,
+        ) {
+            return false;
+        }
+    }
+    true
+}
+
+/// Whether a note's call changed the map.
+fn changes_map(note: &Note) -> bool
+    ensures { result ≡ is_change note.now }
+{
+    effect(&note.call, note.reply).is_some()
+}
+
+/// Whether this is the change that a note's call made, as one of the pass.
+fn tells_of(note: &Note, pass: u16, change: &Change) -> bool
+    ensures { IsTrue result ↔ (change_of pass note.now ≡ Some change.now) }
+{
+    match effect(&note.call, note.reply) {
+        None => false,
+        Some((kind, value)) => {
+            change.pass == pass
+                && change.key == *key_in(&note.call)
+                && change.value == value
+                && change.kind == kind
+        }
+    }
+}
+
+/// Whether the note's change, if it tells of one, is the front's change of its place.
+fn names_change(front: &[Change], pass: u16, note: &Note) -> bool
+    ensures { IsTrue result ↔ ((c : Change) → change_of pass note.now ≡ Some c → slice_get front.now note.now.place ≡ Some c) }
+{
+    if !changes_map(note) {
+        return true;
+    }
+    match front.get(note.place as usize) {
+        Some(change) => tells_of(note, pass, change),
+        None => false,
+    }
+}
+
+/// Whether the note stands in the front as one of the pass.
+fn stands_in(front: &[Change], pass: u16, note: &Note) -> bool
+    ensures { IsTrue result ↔ StandsIn front.now pass note.now }
+{
+    if note.place > front.len() as u64 {
+        return false;
+    }
+    let held = held_value(&front[..note.place as usize], key_in(&note.call));
+    note.reply == reply_where(&note.call, held) && names_change(front, pass, note)
+}
+
+/// Whether the places are in order from `low` on.
+fn rises_from(low: u128, notes: &[Note]) -> bool
+    ensures { IsTrue result ↔ RisesFrom low notes.now }
+{
+    let Some((note, later)) = notes.split_first() else {
+        return true;
+    };
+    let place = u128::from(note.place);
+    let next = if changes_map(note) { place + 1 } else { place };
+    low <= place && rises_from(next, later)
+}
+
+/// Whether the front's changes of the pass are those of the notes, in order, each once.
+fn owns(front: &[Change], pass: u16, notes: &[Note]) -> bool
+    ensures { IsTrue result ↔ (own_changes pass front.now ≡ changes_of pass notes.now) }
+{
+    match (front.split_first(), notes.split_first()) {
+        (Some((change, rest)), _) if change.pass != pass => owns(rest, pass, notes),
+        (_, Some((note, later))) if !changes_map(note) => owns(front, pass, later),
+        (Some((change, rest)), Some((note, later))) => {
+            tells_of(note, pass, change) && owns(rest, pass, later)
+        }
+        (None, None) => true,
+        _ => false,
+    }
+}

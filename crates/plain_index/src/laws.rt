@@ -1,0 +1,39 @@
+//! Laws of histories, over their definitions alone. The functions do nothing: their contracts are the laws.
+ghost use Rattle.plain_index.specs.Statements.{InOrder, Longer, Woven, WovenTwo, WovenInOrder, WovenInOrderTwo, ScansAtOnce, StillScans, Alone};
+
+/// A pass's calls stay legal while other passes make changes.
+pub fn longer()
+    ensures { Longer }
+{}
+
+/// The calls of passes of different numbers, each legal in one front, stand together in one legal sequential history.
+pub fn woven()
+    ensures any { Woven }
+    ensures two { WovenTwo }
+{}
+
+/// In the one history of several passes' legal calls, the calls of each pass stand each once, in the order in which it made them.
+pub fn woven_in_order()
+    ensures any { WovenInOrder }
+    ensures two { WovenInOrderTwo }
+{}
+
+/// The first pairs of a map's range are a lawful scan while nothing changes.
+pub fn scans_at_once()
+    ensures { ScansAtOnce }
+{}
+
+/// A lawful scan while nothing changes gives the first pairs of the map's range.
+pub fn still_scans()
+    ensures { StillScans }
+{}
+
+/// The legal calls of a pass that made all changes are a run of the finite map, one call after the other.
+pub fn alone()
+    ensures { Alone }
+{}
+
+/// A pass's legal calls stand in their weave each once, in the order in which the pass made them.
+pub fn in_order()
+    ensures { InOrder }
+{}

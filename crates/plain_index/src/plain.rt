@@ -1,0 +1,103 @@
+//! An index of one thread, over a sorted map.
+ghost use Rattle.std.specs.Prelude.{◌≡◌, ℕ, List, [], ◌≤◌, length, take, IfOk, OnOk, OnErr};
+ghost use Rattle.hot_model.specs.Maps.{map_after, reply_of, map_after_all, replies_of, AddsKey};
+ghost use Rattle.hot_model.specs.Scans.{IsScanOf};
+
+use hot_model::{Call, Reply, Scan};
+use key_bits::Key;
+use std::alloc::{AllocError, Global};
+use std::collections::BTreeMap;
+use std::marker::Model;
+use std::ops::Bound;
+
+/// A finite map from keys to numbers. Contracts see it as the list of its keys with their values, in the order of the keys.
+#[derive(Drop)]
+pub struct PlainIndex {
+    entries: BTreeMap<Key, u64>,
+}
+
+impl Model for PlainIndex {
+    ghost Value = { List (List ℕ × ℕ) };
+
+    ghost view = { λ index. index.entries.entries };
+}
+
+impl PlainIndex {
+    /// An index without a key.
+    pub fn new(alloc: Global) -> PlainIndex
+        ensures { result ≡ [] }
+    {
+        PlainIndex {
+            entries: BTreeMap::new(alloc),
+        }
+    }
+
+    /// Makes one call. Only a call that adds a key takes memory, and where there is none, nothing changes.
+    pub fn apply(&mut self, call: Call) -> Result<Reply, AllocError>
+        ensures reply { IfOk result (λ reply. reply ≡ reply_of self.old call) }
+        ensures map { OnOk result (self.new ≡ map_after self.old call) }
+        ensures memory { OnErr result (AddsKey self.old call) }
+        ensures err { OnErr result (self.new ≡ self.old) }
+    {
+        match call {
+            Call::Insert(key, value) => match self.entries.get(&key) {
+                Some(held) => Ok(Reply::Exists(*held)),
+                None => {
+                    self.entries.insert(key, value)?;
+                    Ok(Reply::Inserted)
+                }
+            },
+            Call::Upsert(key, value) => match self.entries.insert(key, value)? {
+                Some(held) => Ok(Reply::Was(held)),
+                None => Ok(Reply::New),
+            },
+            Call::Get(key) => match self.entries.get(&key) {
+                Some(held) => Ok(Reply::Value(*held)),
+                None => Ok(Reply::Absent),
+            },
+            Call::Remove(key) => match self.entries.remove(&key) {
+                Some(held) => Ok(Reply::Removed(held)),
+                None => Ok(Reply::Absent),
+            },
+        }
+    }
+
+    /// The keys from `from` to `upto`, both included, with their values: the first `limit` of them, in the order of the keys.
+    /// Its cost is that of finding `from` and of the pairs given.
+    pub fn scan(
+        &self,
+        alloc: Global,
+        from: &Key,
+        upto: &Key,
+        limit: usize,
+    ) -> Result<Scan, AllocError>
+        ensures scan { IfOk result (IsScanOf self.now from.now upto.now limit) }
+    {
+        let mut pairs = Vec::new(alloc);
+        if from > upto {
+            return Ok(Scan { pairs, more: false });
+        }
+        let range = (Bound::Included(from), Bound::Included(upto));
+        for (key, value) in self.entries.range(range) {
+            if pairs.len() == limit {
+                return Ok(Scan { pairs, more: true });
+            }
+            pairs.push((key.copy(), *value))?;
+        }
+        Ok(Scan { pairs, more: false })
+    }
+
+    /// Makes the calls one after the other. Where memory ends, the first of them were made, and no other.
+    pub fn run(&mut self, alloc: Global, calls: Vec<Call>) -> Result<Vec<Reply>, AllocError>
+        ensures replies { IfOk result (λ replies. replies.items ≡ replies_of self.old calls.items) }
+        ensures map { OnOk result (self.new ≡ map_after_all self.old calls.items) }
+        ensures err { OnErr result ((n : ℕ) × (n ≤ length calls.items)
+            × (self.new ≡ map_after_all self.old (take n calls.items))) }
+    {
+        let mut replies = Vec::with_capacity(alloc, calls.len())?;
+        for call in calls {
+            replies.push(self.apply(call)?)?;
+        }
+        Ok(replies)
+    }
+}
