@@ -2,9 +2,9 @@
 
 use crate::keys::KEYS;
 use hot_model::{Call, Reply, Scan};
-use insert_cases::PlainTrie;
 use key_bits::Key;
 use plain_index::PlainIndex;
+use plain_trie::PlainTrie;
 use std::alloc::Global;
 use std::io;
 use std::rt::Clock;

@@ -1,9 +1,9 @@
 //! The maps for one thread.
 
 use hot_model::{Call, Reply};
-use insert_cases::PlainTrie;
 use key_bits::Key;
 use plain_index::PlainIndex;
+use plain_trie::PlainTrie;
 use std::test::*;
 
 /// The key of no bytes, and that of 240 bytes 255.

@@ -1,29 +1,20 @@
 -- Facts of nodes and of the halves of a cut.
-use Rattle.std.proofs.Common.{Bool, [], ◌∷◌, ap, arith, false, nat_lt, refl, sym, true, ℕ, ⊎_elim, ◌++◌, ◌-◌, ◌<◌, ◌∙◌, ◌≡◌, ◌≤◌, max, get_or, subst}
+use Rattle.std.proofs.Common.{Bool, [], ◌∷◌, ap, arith, false, nat_lt, refl, sym, true, ℕ, ⊎_elim, ◌++◌, ◌-◌, ◌<◌, ◌∙◌, ◌≡◌, ◌≤◌, max, subst}
 use Rattle.std.proofs.lemmas.Bool.{cond-true, cond-false, cases_Bool, lt-ltb}
-use Rattle.std.proofs.lemmas.Option.{get_or_from_slice_get, slice_get_within}
-use Rattle.std.specs.Prelude.{slice_get, Some}
 use Rattle.compound_node.specs.Halves.{HalfShows, CutShows}
-use Rattle.compound_node.specs.Nodes.{NodeView, piece, IsLawful, height_of, greatest_height}
+use Rattle.compound_node.specs.Nodes.{NodeView, IsLawful, height_of, greatest_height}
 use Rattle.compound_node.specs.declared.entries.Entry.{Entry}
 use Rattle.compound_node.specs.declared.entries.Entry.TheVariants.{Leaf}
 use Rattle.compound_node.specs.declared.halves.Cut.{Cut}
 use Rattle.compound_node.specs.declared.halves.Half.{Half}
 use Rattle.compound_node.specs.declared.halves.Half.TheVariants.{One, Many, Same}
-use Rattle.tries.proofs.Building.{size-piece, greatest-append}
-use Rattle.pieces.proofs.Replacing.{replaced-same}
+use Rattle.tries.proofs.Building.{greatest-append}
 use Rattle.pieces.specs.Changes.{replaced}
 use Rattle.pieces.specs.Growth.{forked, grown}
 use Rattle.pieces.specs.Piece.{Piece, Place, Fork, places, size}
 use Rattle.pieces.specs.Grafts.{grafted, IsAbovePath}
 use Rattle.insert_cases.specs.Grown.{is_same, half_piece}
 use Rattle.pieces.proofs.Grafting.{size-replaced}
-
--- the entry that stands at a place, put there
-pub piece-same : (n : NodeView) (i : ℕ) (e : Entry) → IsLawful n → slice_get n.entries i ≡ Some e → replaced i e (piece n) ≡ piece n
-piece-same n i e l h =
-    replaced-same e i e (piece n) (omega (arith, slice_get_within n.entries i e h, size-piece n l))
-    (ap (λ es. get_or es i e) (sym l.shows.entries_are) ∙ get_or_from_slice_get n.entries i e e h)
 
 pub height_positive : (n : NodeView) → IsLawful n → 0 < n.height
 height_positive n l = let several = l.several in omega (arith, l.above 0 (Leaf 0) (omega arith))

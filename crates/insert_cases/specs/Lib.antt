@@ -2,10 +2,4 @@
 pub mod Grown
 pub mod Ways
 pub mod Levels
-pub mod Store
-pub mod Room
-pub mod Heights
-pub mod Gathered
 pub mod Risen
-pub mod Rising
-pub mod Adding

@@ -11,7 +11,7 @@ ghost use Rattle.tries.specs.Search.{found};
 ghost use Rattle.insert_cases.specs.Ways.{IsWay, IsAffectedNode, case_of, stage, body};
 
 /// A node on the way of a search, topmost first, and the entry that the search took there.
-#[derive(Clone, Copy, Debug, Default, PartialEq, Eq)]
+#[derive(Clone, Copy, Default)]
 pub struct Step {
     /// The node's record number.
     pub number: u32,
@@ -26,7 +26,7 @@ pub struct Step {
 }
 
 /// What is done at the affected node.
-#[derive(Clone, Copy, Debug, PartialEq, Eq)]
+#[derive(Clone, Copy)]
 pub enum Case {
     /// A new node of two entries takes the place of the one affected leaf.
     LeafPushdown,
@@ -43,7 +43,7 @@ pub enum Case {
 /// `Overflow`, but for a full node that stays whole as one half. The last two store into the entry at `at` of the node
 /// above the uppermost of these, or at the root. So these nodes and the one that is stored into are those that a
 /// writer locks.
-#[derive(Clone, Copy, Debug, PartialEq, Eq)]
+#[derive(Clone, Copy)]
 pub struct Choice {
     pub level: usize,
     pub first: u8,

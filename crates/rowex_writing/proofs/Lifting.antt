@@ -46,7 +46,7 @@ use Rattle.rowex_writing.proofs.Making.{building_on, not_made_since}
 use Rattle.rowex_writing.proofs.Raising.{rises_made, rises_kept, side_made}
 use Rattle.rowex_writing.proofs.Locking.{goes_more}
 use Rattle.rowex_writing.proofs.Staging.{risen_page}
-use Rattle.insert_cases.proofs.Climbing.{IsPairOf, pair_facts}
+use Rattle.insert_cases.proofs.Pairs.{IsPairOf, pair_facts}
 
 -- ---- heights
 half_made_low : (old : Entry) (h : ℕ) (half : Half) (e : Entry) (news : List Made) → height_of old ≡ h → IsLowHalf h half → IsHalfMade old half e news → height_of e ≤ h

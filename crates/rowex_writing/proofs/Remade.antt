@@ -28,7 +28,7 @@ use Rattle.insert_cases.specs.declared.growth.Grown.{Grown}
 use Rattle.insert_cases.specs.declared.growth.Grown.TheVariants.{One as Whole, Two}
 use Rattle.insert_cases.proofs.Affecting.{RootNot, key_part}
 use Rattle.insert_cases.proofs.Choosing.{root_not}
-use Rattle.insert_cases.proofs.Climbing.{IsPairOf, pair_facts}
+use Rattle.insert_cases.proofs.Pairs.{IsPairOf, pair_facts}
 use Rattle.insert_cases.proofs.NodeFacts.{height_positive}
 use Rattle.rowex_writing.specs.Remaking.{IsTreePage, AffectsJust, IsLowHalf, IsNoHigher}
 use Rattle.rowex_walks.proofs.Rising.{fork_parts}

@@ -2,9 +2,9 @@
 
 use crate::made::{get, insert, key, upsert};
 use hot_model::Reply;
-use insert_cases::PlainTrie;
 use key_bits::Key;
 use plain_index::PlainIndex;
+use plain_trie::PlainTrie;
 use std::alloc::{AllocError, Global};
 use std::process::Abort;
 

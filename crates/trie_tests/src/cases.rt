@@ -5,9 +5,8 @@ ghost use Rattle.pieces.specs.Growth.{IsAffected};
 
 use crate::nodes::{consists_of, is_node, is_one};
 use compound_node::{Entry, Half, Node};
-use insert_cases::{
-    Case, Choice, Grown, Place, Step, chain_end, choose, grow, level_below, place, pull_up,
-};
+use insert_cases::{Case, Choice, Grown, Step, chain_end, choose, level_below, pull_up};
+use plain_trie::{Place, grow, place};
 
 fn step(number: u32, height: u16, first_position: u16, count: u8, at: u8) -> Step {
     Step {

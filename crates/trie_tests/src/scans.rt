@@ -2,8 +2,8 @@
 
 use crate::beside::Both;
 use crate::made::{expect_scan, key};
-use insert_cases::PlainTrie;
 use key_bits::Key;
+use plain_trie::PlainTrie;
 use std::alloc::{AllocError, Global};
 use std::process::Abort;
 use std::test::Fail;

@@ -1,8 +1,0 @@
--- From the root's entry down the records show the tree that reading finds.
-use Rattle.std.proofs.Common.{subst}
-use Rattle.insert_cases.specs.Store.{IsPlain}
-use Rattle.insert_cases.proofs.Reading.{shows_trie}
-use Rattle.insert_cases.proofs.plain.PlainTrie.top.Goals as goal
-
-pub returns-clause-shows : goal.returns-clause-shows
-returns-clause-shows c = shows_trie c.args.self.now (subst IsPlain c.self.view_is c.self.invariant)

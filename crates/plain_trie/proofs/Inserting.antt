@@ -1,0 +1,197 @@
+-- What the map is after a key was added, or got another value.
+use Rattle.std.proofs.Common.{◌≡◌, ◌≢◌, inl, inr, ℕ, ◌<◌, List, true, false, refl, ap, sym, ◌∙◌, subst, Option, Some, None, if◌then◌else◌, set, get_or}
+use Rattle.std.specs.Prelude.{slice_get, option_and_then}
+use Rattle.std.proofs.lemmas.Bool.{false≢true}
+use Rattle.std.proofs.lemmas.Option.{slice_get_within}
+use Rattle.key_bits.specs.Key.{IsKey}
+use Rattle.key_bits.specs.Bits.{bit_of}
+use Rattle.pieces.specs.Piece.{Place, places}
+use Rattle.compound_node.specs.Nodes.{NodeView, height_of, greatest_height}
+use Rattle.compound_node.specs.declared.entries.Entry.{Entry}
+use Rattle.compound_node.specs.declared.entries.Entry.TheVariants.{Leaf}
+use Rattle.hot_model.specs.Maps.{Map, with_value, value_at, step_where, reply_of, map_after}
+use Rattle.hot_model.specs.declared.Call.TheVariants.{Insert, Upsert}
+use Rattle.hot_model.specs.declared.Reply.TheVariants.{Inserted, Exists, New, Was}
+use Rattle.tries.proofs.Changes.{put, IsExchanged}
+use Rattle.tries.specs.Content.{Item, items, pairs, item}
+use Rattle.tries.specs.Keys.{Key, bit}
+use Rattle.tries.specs.Tree.{Tree, leaf, node, fork, page, Has, IsTrie, IsBuilt, IsFit, IsFork, Within, here, inside, zero_side, one_side}
+use Rattle.tries.proofs.Adding.{exchanged_put, exchanged_leaf}
+use Rattle.tries.proofs.Contents.{content_rises}
+use Rattle.tries.proofs.Maps.{are_keys, more_inserts, exchange_inserts}
+use Rattle.tries.proofs.Tries.{has_within, trie_within}
+use Rattle.tries.proofs.Puts.{page_put}
+use Rattle.plain_trie.specs.declared.plain.LeafRecord.{LeafRecord}
+use Rattle.plain_trie.specs.Adding.{IsStanding, IsAbsentFrom}
+use Rattle.plain_trie.specs.Rising.{IsRaised}
+use Rattle.plain_trie.specs.Store.{PlainView, IsShown, IsSound, IsPlain, IsHeldInLeaf, tree_of, map_of, read, record_of}
+use Rattle.tries.proofs.Building.{lower_from, lower_to}
+use Rattle.insert_cases.proofs.Choosing.{same_some}
+use Rattle.plain_trie.proofs.Reading.{IsTree, plain_tree, tree_is, tree_plain}
+use Rattle.plain_trie.proofs.Searching.{read_at}
+use Rattle.plain_trie.proofs.Storing.{set_same, set_other}
+use Rattle.plain_trie.proofs.Values.{map_is, map_none, value_found, value_missed}
+use Rattle.tries.specs.Search.{found}
+
+-- a trie with this map
+abbrev pub Becomes : PlainView → PlainView → Key → ℕ → Type 0
+Becomes v w k x = IsPlain w × (map_of w ≡ with_value (map_of v) k x)
+
+becomes : (v w : PlainView) (e : Entry) (t : Tree) (k : Key) (x : ℕ) → w.top ≡ Some e → page t ≡ Place e → IsTrie t → IsBuilt t → IsShown w.nodes w.leaves t →
+    with_value (map_of v) k x ≡ pairs (items t) → Becomes v w k x
+becomes v w e t k x top head trie built shown same =
+    let sound : IsSound t = record { trie = trie; built = built } in
+    (tree_plain w e t top head sound shown, map_is w t (tree_is w e t top head sound shown) ∙ sym same)
+
+-- ---- the first key
+pub first_becomes : (v w : PlainView) (n : ℕ) (k : Key) (x : ℕ) → v.top ≡ None → w.top ≡ Some (Leaf n) → IsKey k → slice_get w.leaves n ≡ Some (record { key = k; value = x }) →
+    Becomes v w k x
+first_becomes v w n k x none top key at =
+    becomes v w (Leaf n) (leaf n k x) k x top refl key tt at (ap (λ m. with_value m k x) (map_none v none))
+
+-- ---- one key more
+pub tree_standing : (v : PlainView) (e : Entry) (t : Tree) → IsTree v e t → IsStanding v.nodes v.leaves e t
+tree_standing v e t i = record { head = i.head; trie = i.sound.trie; built = i.sound.built; shown = i.shown }
+
+-- the root with the same records, whatever the vectors have room for
+pub kept_plain : (ns ms : List NodeView) (ls us : List LeafRecord) (o : Option Entry) (a b c d : ℕ) → ms ≡ ns → us ≡ ls →
+    IsPlain (record { nodes = ns; leaves = ls; top = o; node_capacity = a; leaf_capacity = b }) → IsPlain (record { nodes = ms; leaves = us; top = o; node_capacity = c; leaf_capacity = d })
+kept_plain ns ms ls us o a b c d e f i =
+    subst (λ xs. IsPlain (record { nodes = xs; leaves = us; top = o; node_capacity = c; leaf_capacity = d })) (sym e)
+    (subst (λ ys. IsPlain (record { nodes = ns; leaves = ys; top = o; node_capacity = c; leaf_capacity = d })) (sym f) i)
+
+pub same_view : (ns ms : List NodeView) (ls us : List LeafRecord) (o : Option Entry) (a b c : ℕ) → ms ≡ ns → us ≡ ls → c ≡ a →
+    ◌≡◌ {A = PlainView} (record { nodes = ms; leaves = us; top = o; node_capacity = c; leaf_capacity = b }) (record { nodes = ns; leaves = ls; top = o; node_capacity = a; leaf_capacity = b })
+same_view ns ms ls us o a b c e f g = rw (e, f, g) refl
+
+pub raised_becomes : (v w : PlainView) (ns : List NodeView) (e f : Entry) (t : Tree) (x : Item) (p h : ℕ) → IsTree v e t → w.top ≡ Some f →
+    IsRaised ns w.nodes w.leaves x p t h (Place f) → Becomes v w x.key x.value
+raised_becomes v w ns e f t x p h i top u =
+    becomes v w f u.tree x.key x.value top u.begins u.adds.trie u.built u.shown
+    (ap (λ m. with_value m x.key x.value) (map_is v t i.is) ∙ more_inserts x (items t) (items u.tree) u.adds.more (content_rises u.tree u.adds.trie) (are_keys u.tree u.adds.trie))
+
+-- ---- another value
+-- the leaf at which a search ends
+found_place : (k : Key) (t : Tree) → Within (leaf (found k t).number (found k t).key (found k t).value) t
+found_place k (leaf n l v) = here
+found_place k (node n x b) = inside (found_place k b)
+found_place k (fork p a b) =
+    elim (bit k p) as (λ u. let y : Item = if u then found k b else found k a in Within (leaf y.number y.key y.value) (fork p a b)) [ true ↦ one_side (found_place k b) | false ↦ zero_side (found_place k a) ]
+
+fork_page : (s t : Tree) → page s ≡ page t → IsFork t → IsFork s
+fork_page s (leaf n l v) e f = elim f [ ]
+fork_page s (node n x b) e f = elim f [ ]
+fork_page (leaf n l v) (fork p a b) e f = absurd cc
+fork_page (node n x c) (fork p a b) e f = absurd cc
+fork_page (fork q c d) (fork p a b) e f = tt
+
+put_same : {s t : Tree} (w : Within s t) (r : Tree) → page r ≡ page s → IsBuilt r → IsBuilt t → IsBuilt (put w r)
+put_same here r e b i = b
+put_same (inside {n = n} {x = x} {b = d} w) r e b i =
+    let same = page_put w r e in (
+      fork_page (put w r) d same i.0,
+      lower_from x.height (put w r) (subst (λ f. greatest_height (places f) < x.height) (sym same) (lower_to x.height d i.1)),
+      put_same w r e b i.2,
+      subst (IsFit x) (sym same) i.3,
+    )
+put_same (zero_side w) r e b i = (put_same w r e b i.0, i.1)
+put_same (one_side w) r e b i = (i.0, put_same w r e b i.1)
+
+-- a tree without the key stays shown where that key's leaf changes
+shown_else : (ns : List NodeView) (ls : List LeafRecord) (n : ℕ) (l m : LeafRecord) (t : Tree) → slice_get ls n ≡ Some l → ((k : Key) → Has t k → k ≢ l.key) →
+    IsShown ns ls t → IsShown ns (set ls n m) t
+shown_else ns ls n l m (leaf o k v) at other i =
+    set_other ls n o m _ (λ e. other k refl (ap (λ (r : LeafRecord). r.key) (same_some (sym i ∙ (ap (slice_get ls) (sym e) ∙ at))))) i
+shown_else ns ls n l m (node o x b) at other i = (i.0, shown_else ns ls n l m b at other i.1)
+shown_else ns ls n l m (fork p a b) at other i =
+    (shown_else ns ls n l m a at (λ k h. other k (inl h)) i.0, shown_else ns ls n l m b at (λ k h. other k (inr h)) i.1)
+
+shown_put : (ns : List NodeView) (ls : List LeafRecord) (n : ℕ) (k : Key) (v x : ℕ) {t : Tree} (w : Within (leaf n k v) t) → IsTrie t → slice_get ls n ≡ Some (record { key = k; value = v }) →
+    IsShown ns ls t → IsShown ns (set ls n (record { key = k; value = x })) (put w (leaf n k x))
+shown_put ns ls n k v x here trie at i = set_same ls n _ (slice_get_within ls n _ at)
+shown_put ns ls n k v x (inside {b = d} w) trie at i =
+    (record { view = i.0.view; at = i.0.at; fixed = i.0.fixed; shows = i.0.shows ∙ sym (page_put w (leaf n k x) refl) }, shown_put ns ls n k v x w trie at i.1)
+shown_put ns ls n k v x (zero_side {p = p} {a = a} {b = d} w) trie at i = (
+  shown_put ns ls n k v x w trie.0 at i.0,
+  shown_else ns ls n (record { key = k; value = v }) (record { key = k; value = x }) d at
+      (λ l h e. false≢true (sym (trie.3 k (has_within w k refl)) ∙ (ap (λ y. bit y p) (sym e) ∙ trie.4 l h))) i.1,
+)
+shown_put ns ls n k v x (one_side {p = p} {a = a} {b = d} w) trie at i = (
+  shown_else ns ls n (record { key = k; value = v }) (record { key = k; value = x }) a at
+      (λ l h e. false≢true (sym (trie.3 l h) ∙ (ap (λ y. bit y p) e ∙ trie.4 k (has_within w k refl)))) i.0,
+  shown_put ns ls n k v x w trie.1 at i.1,
+)
+
+-- a trie with a tree has a root
+top_of : (v : PlainView) (t : Tree) → tree_of v ≡ Some t → (e : Entry) × (v.top ≡ Some e)
+top_of v t e = go v.top refl
+  where
+    go : (o : Option Entry) → v.top ≡ o → (d : Entry) × (v.top ≡ Some d)
+    go None i = absurd (let z : None ≡ Some t = sym (ap (option_and_then (λ z. read v.nodes v.leaves (height_of z) z)) i) ∙ e in cc)
+    go (Some d) i = (d, i)
+
+pub held_becomes : (v w : PlainView) (k : Key) (n x : ℕ) → IsPlain v → IsHeldInLeaf v k n → w.nodes ≡ v.nodes → w.leaves ≡ set v.leaves n (record { key = k; value = x }) → w.top ≡ v.top →
+    Becomes v w k x
+held_becomes v w k n x plain held nodes leaves top =
+    becomes v w e.0 (put place new) k x (top ∙ e.1) (page_put place new refl ∙ (ap page (sym same) ∙ t.1.head)) exchange.trie (put_same place new refl tt (subst IsBuilt same t.1.sound.built))
+    (subst (λ ns. IsShown ns w.leaves (put place new)) (sym nodes) (subst (λ ls. IsShown v.nodes ls (put place new)) (sym leaves)
+    (shown_put v.nodes v.leaves n k y.value x place trie at (subst (IsShown v.nodes v.leaves) same t.1.shown))))
+    (ap (λ m. with_value m k x) (map_is v held.tree held.is) ∙
+    exchange_inserts (item n k y.value) (item n k x) (items held.tree) (items (put place new)) exchange.exchange refl (content_rises held.tree trie) (are_keys held.tree trie))
+  where
+    e : (d : Entry) × (v.top ≡ Some d)
+    e = top_of v held.tree held.is
+
+    t : (u : Tree) × IsTree v e.0 u
+    t = plain_tree v e.0 e.1 plain
+
+    same : t.0 ≡ held.tree
+    same = same_some (sym t.1.is ∙ held.is)
+
+    y : Item
+    y = found k held.tree
+
+    new : Tree
+    new = leaf n k x
+
+    trie : IsTrie held.tree
+    trie = subst IsTrie same t.1.sound.trie
+
+    place : Within (leaf n k (found k held.tree).value) held.tree
+    place = subst (λ m. Within (leaf m k (found k held.tree).value) held.tree) held.number
+        (subst (λ l. Within (leaf (found k held.tree).number l (found k held.tree).value) held.tree) held.key (found_place k held.tree))
+
+    at : slice_get v.leaves n ≡ Some (record { key = k; value = (found k held.tree).value })
+    at = held.at ∙ ap (λ l. Some (record_of (item n l (found k held.tree).value))) held.key
+
+    exchange : IsExchanged (item n k (found k held.tree).value) (item n k x) held.tree (put place (leaf n k x))
+    exchange = exchanged_put place (leaf n k x) (item n k (found k held.tree).value) (item n k x) trie (exchanged_leaf n n k (found k held.tree).value x (trie_within place trie))
+
+-- ---- what the map has for the key
+-- the value that stands in the leaf of a held key
+pub held_value : (u v : PlainView) (k : Key) (n : ℕ) (l : LeafRecord) → IsPlain u → u ≡ v → IsHeldInLeaf v k n → l ≡ get_or u.leaves n l → value_at (map_of v) k ≡ Some l.value
+held_value u v k n l plain same held at =
+    let e = top_of v held.tree held.is in
+    let t = plain_tree v e.0 e.1 (subst IsPlain same plain) in
+    let trie = subst IsTrie (same_some (sym t.1.is ∙ held.is)) t.1.sound.trie in
+    let leaf = read_at v.leaves n (record_of (found k held.tree)) l held.at (rw (← same) at) in
+    ap (λ m. value_at m k) (map_is v held.tree held.is) ∙ (value_found k held.tree trie held.key ∙ ap (λ (r : LeafRecord). Some r.value) (sym leaf))
+
+pub absent_value : (v : PlainView) (k : Key) (e : Entry) (t : Tree) → IsTree v e t → IsAbsentFrom k t → value_at (map_of v) k ≡ None
+absent_value v k e t i o = ap (λ m. value_at m k) (map_is v t i.is) ∙ value_missed k t i.sound.trie (λ same. o.differ.differ (ap (λ l. bit_of l o.position) (sym same)))
+
+-- ---- what the calls answer
+pub added_reply : (m : Map) (k : Key) (x : ℕ) → value_at m k ≡ None → (Inserted ≡ reply_of m (Insert k x)) × (New ≡ reply_of m (Upsert k x)) × (with_value m k x ≡ map_after m (Insert k x))
+added_reply m k x e = (
+  sym (ap (λ o. (step_where o m (Insert k x)).1) e),
+  sym (ap (λ o. (step_where o m (Upsert k x)).1) e),
+  sym (ap (λ o. (step_where o m (Insert k x)).0) e),
+)
+
+pub held_reply : (m : Map) (k : Key) (x y : ℕ) → value_at m k ≡ Some y → (Exists y ≡ reply_of m (Insert k x)) × (Was y ≡ reply_of m (Upsert k x)) × (m ≡ map_after m (Insert k x)) × (with_value m k x ≡ map_after m (Upsert k x))
+held_reply m k x y e = (
+  sym (ap (λ o. (step_where o m (Insert k x)).1) e),
+  sym (ap (λ o. (step_where o m (Upsert k x)).1) e),
+  sym (ap (λ o. (step_where o m (Insert k x)).0) e),
+  sym (ap (λ o. (step_where o m (Upsert k x)).0) e),
+)

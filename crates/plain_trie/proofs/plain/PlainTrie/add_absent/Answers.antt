@@ -1,0 +1,156 @@
+-- The search ends at the key's own leaf, or the key is absent and gets one, which rises to the root.
+use Rattle.std.proofs.Common.{◌≡◌, ℕ, List, suc, length, refl, ap, sym, ◌∙◌, subst, Some, None, rules}
+use Rattle.std.specs.Vec.{vec_capacity}
+use Rattle.compound_node.specs.Nodes.{NodeView, height_of}
+use Rattle.compound_node.specs.declared.entries.Entry.{Entry}
+use Rattle.hot_model.specs.Maps.{with_value, value_at}
+use Rattle.plain_trie.specs.Adding.{IsStanding}
+use Rattle.plain_trie.specs.Heights.{KeepsHeights}
+use Rattle.plain_trie.specs.Rising.{IsAddable}
+use Rattle.plain_trie.specs.Store.{PlainView, IsPlain, IsHeldInLeaf, map_of}
+use Rattle.plain_trie.specs.declared.plain.LeafRecord.{LeafRecord}
+use Rattle.plain_trie.specs.declared.plain.PlainTrie.TheInside.{Inside}
+use Rattle.plain_trie.proofs.Heights.{heights_then}
+use Rattle.plain_trie.proofs.Inserting.{Becomes, tree_standing, kept_plain, same_view, absent_value, raised_becomes}
+use Rattle.plain_trie.proofs.Reading.{IsTree, plain_tree}
+use Rattle.plain_trie.proofs.plain.PlainTrie.add_absent.Goals as goal
+use Rattle.plain_trie.proofs.plain.PlainTrie.add_absent.Goals.{After-rooted, After-rooted-in-Below}
+use Rattle.tries.specs.Content.{item}
+use Rattle.tries.specs.Tree.{Tree}
+
+-- what the contract sees of a trie
+abbrev view : Inside → PlainView
+view i = record { nodes = i.nodes.items; leaves = i.leaves.items; top = i.top; node_capacity = vec_capacity i.nodes; leaf_capacity = vec_capacity i.leaves }
+
+module _ (i : Inside) (e : Entry) (is : i.top ≡ Some e) (plain : IsPlain (view i)) where
+  -- the tree that it shows, and what holds of each tree that stands in the records
+  tree_with : {P : Tree → Type 0} → ((t : Tree) → IsStanding i.nodes.items i.leaves.items e t → P t) → (t : Tree) × IsTree (view i) e t × P t
+  tree_with holds = let (t, tree) = plain_tree (view i) e is plain in (t, tree, holds t (tree_standing (view i) e t tree))
+
+  -- where a search changed no record it is a trie as before, whatever the vectors have room for
+  still : {P : Tree → Type 0} {ms : List NodeView} {us : List LeafRecord} (a b : ℕ) →
+      ((t : Tree) → IsStanding i.nodes.items i.leaves.items e t → (ms ≡ i.nodes.items) × (us ≡ i.leaves.items) × P t) →
+      IsPlain (record { nodes = ms; leaves = us; top = i.top; node_capacity = a; leaf_capacity = b })
+  still a b same = let (t, tree, s) = tree_with same in kept_plain i.nodes.items _ i.leaves.items _ i.top (vec_capacity i.nodes) (vec_capacity i.leaves) a b s.0 s.1 plain
+
+pub added-requires-clause-place : goal.added-requires-clause-place
+added-requires-clause-place c =
+    let (t, i, s) = tree_with c.self.inside c.in-Some.top c.in-Some.is c.self.invariant (λ t s. s) in (t, s)
+
+-- ---- no record changed
+pub invariant_of-self : goal.invariant_of-self
+invariant_of-self c = still c.self.inside c.in-Some.top c.in-Some.is c.self.invariant (vec_capacity c.added.new.nodes) (vec_capacity c.added.new.leaves) c.in-Held.ensures.adds
+
+pub invariant_of-self-in-Refused : goal.invariant_of-self-in-Refused
+invariant_of-self-in-Refused c = still c.self.inside c.in-Some.top c.in-Some.is c.self.invariant (vec_capacity c.added.new.nodes) (vec_capacity c.added.new.leaves) c.in-Refused.ensures.adds
+
+-- ---- the key is there
+pub returns-in-Held-clause-ok : goal.returns-in-Held-clause-ok
+returns-in-Held-clause-ok c =
+    let v = view c.self.inside in
+    let k = c.args.key.now in
+    let n = c.in-Held.leaf in
+    let (t, i, held) = tree_with c.self.inside c.in-Some.top c.in-Some.is c.self.invariant c.in-Held.ensures.adds in
+    let is : IsHeldInLeaf v k n = record { tree = t; is = i.is; number = held.2.number; key = held.2.key; at = held.2.at } in (
+      subst (λ u. IsHeldInLeaf u k n) c.self.view_is is,
+      same_view _ _ _ _ _ _ _ _ held.0 held.1 c.in-Held.ensures.memory.0 ∙
+          (ap (λ m. let w : PlainView = record v { leaf_capacity = m } in w) c.in-Held.ensures.memory.1 ∙ c.self.view_is),
+    )
+
+-- ---- there is no room for it
+pub returns-in-Refused-clause-err : goal.returns-in-Refused-clause-err
+returns-in-Refused-clause-err c =
+    let v = view c.self.inside in
+    let (t, i, refused) = tree_with c.self.inside c.in-Some.top c.in-Some.is c.self.invariant c.in-Refused.ensures.adds in (
+      subst (λ u. value_at (map_of u) c.args.key.now ≡ None) c.self.view_is (absent_value v c.args.key.now c.in-Some.top t i refused.2),
+      search rules,
+      same_view _ _ _ _ _ _ _ _ refused.0 refused.1 c.in-Refused.ensures.memory.0 ∙
+          ap (λ (u : PlainView). let w : PlainView = record u { leaf_capacity = vec_capacity c.added.new.leaves } in w) c.self.view_is,
+    )
+
+-- ---- the new leaf belongs to the root, or above it
+pub raised-risen-requires-clause-place : goal.raised-risen-requires-clause-place
+raised-risen-requires-clause-place c =
+    let (t, i, left) = tree_with c.self.inside c.in-Some.top c.in-Some.is c.self.invariant c.in-Above.ensures.adds in
+    let us = c.added.new.leaves.items in
+    (us, c.args.value, t, subst (λ xs. IsAddable xs us (item c.in-Above.leaf c.args.key.now c.args.value) c.in-Above.position c.in-Some.top t) (sym left.nodes) left.addable)
+
+pub raised-risen-requires-clause-position : goal.raised-risen-requires-clause-position
+raised-risen-requires-clause-position c =
+    let (t, i, left) = tree_with c.self.inside c.in-Some.top c.in-Some.is c.self.invariant c.in-Above.ensures.adds in left.bound
+
+pub rooted-requires-clause-place : goal.rooted-requires-clause-place
+rooted-requires-clause-place c =
+    let (t, i, left) = tree_with c.self.inside c.in-Some.top c.in-Some.is c.self.invariant c.in-Above.ensures.adds in
+    let us = c.added.new.leaves.items in
+    let x = item c.in-Above.leaf c.args.key.now c.args.value in
+    let up = c.raised-risen.ensures.raised us c.args.value t (subst (λ xs. IsAddable xs us x c.in-Above.position c.in-Some.top t) (sym left.nodes) left.addable) in
+    (c.added.new.nodes.items, us, x, c.in-Above.position, t, suc (height_of c.in-Some.top), up)
+
+above : (c : After-rooted) → Becomes (view c.self.inside) (record { nodes = c.rooted.new.nodes.items; leaves = c.added.new.leaves.items; top = Some c.rooted.result; node_capacity = vec_capacity c.rooted.new.nodes; leaf_capacity = vec_capacity c.added.new.leaves }) c.args.key.now c.args.value ×
+    (value_at (map_of (view c.self.inside)) c.args.key.now ≡ None)
+above c =
+    let v = view c.self.inside in
+    let (t, i, left) = tree_with c.self.inside c.in-Some.top c.in-Some.is c.self.invariant c.in-Above.ensures.adds in
+    let ns = c.added.new.nodes.items in
+    let us = c.added.new.leaves.items in
+    let x = item c.in-Above.leaf c.args.key.now c.args.value in
+    let up = c.raised-risen.ensures.raised us c.args.value t (subst (λ xs. IsAddable xs us x c.in-Above.position c.in-Some.top t) (sym left.nodes) left.addable) in
+    let w : PlainView = record { nodes = c.rooted.new.nodes.items; leaves = us; top = Some c.rooted.result; node_capacity = vec_capacity c.rooted.new.nodes; leaf_capacity = vec_capacity c.added.new.leaves } in (
+      raised_becomes v w ns c.in-Some.top c.rooted.result t x c.in-Above.position (suc (suc (height_of c.in-Some.top))) i refl
+          (c.rooted.ensures.raised ns us x c.in-Above.position t (suc (height_of c.in-Some.top)) up),
+      absent_value v c.args.key.now c.in-Some.top t i (record { position = c.in-Above.position; differ = left.addable.differ }),
+    )
+
+pub invariant_of-self-in-Above : goal.invariant_of-self-in-Above
+invariant_of-self-in-Above c = (above (goal.at.invariant_of-self-in-Above c).After-rooted).0.0
+
+pub returns-in-Above-clause-ok : goal.returns-in-Above-clause-ok
+returns-in-Above-clause-ok c =
+    let a = above (goal.at.returns-in-Above-clause-ok c).After-rooted in (
+      subst (λ u. value_at (map_of u) c.args.key.now ≡ None) c.self.view_is a.1,
+      a.0.1 ∙ ap (λ (u : PlainView). with_value (map_of u) c.args.key.now c.args.value) c.self.view_is,
+    )
+
+pub returns-in-Above-clause-heights : goal.returns-in-Above-clause-heights
+returns-in-Above-clause-heights c =
+    let (t, i, left) = tree_with c.self.inside c.in-Some.top c.in-Some.is c.self.invariant c.in-Above.ensures.adds in
+    let us = c.rooted.new.nodes.items in
+    subst (λ vs. KeepsHeights vs us) (left.nodes ∙ ap (λ (u : PlainView). u.nodes) c.self.view_is)
+    (heights_then c.added.new.nodes.items c.raised-risen.new.nodes.items us c.raised-risen.ensures.heights c.rooted.ensures.heights c.rooted.ensures.all)
+
+-- ---- the new leaf has risen to the root
+pub rooted-requires-in-Below-clause-place : goal.rooted-requires-in-Below-clause-place
+rooted-requires-in-Below-clause-place c =
+    let v = view c.self.inside in
+    let (t, i, r) = tree_with c.self.inside c.in-Some.top c.in-Some.is c.self.invariant c.in-Below.ensures.adds in
+    (v.nodes, c.added.new.leaves.items, item (length v.leaves) c.args.key.now c.args.value, r.position, t, suc (height_of c.in-Some.top), r.raised)
+
+below : (c : After-rooted-in-Below) → Becomes (view c.self.inside) (record { nodes = c.rooted-in-Below.new.nodes.items; leaves = c.added.new.leaves.items; top = Some c.rooted-in-Below.result; node_capacity = vec_capacity c.rooted-in-Below.new.nodes; leaf_capacity = vec_capacity c.added.new.leaves }) c.args.key.now c.args.value ×
+    (value_at (map_of (view c.self.inside)) c.args.key.now ≡ None)
+below c =
+    let v = view c.self.inside in
+    let (t, i, r) = tree_with c.self.inside c.in-Some.top c.in-Some.is c.self.invariant c.in-Below.ensures.adds in
+    let us = c.added.new.leaves.items in
+    let x = item (length v.leaves) c.args.key.now c.args.value in
+    let w : PlainView = record { nodes = c.rooted-in-Below.new.nodes.items; leaves = us; top = Some c.rooted-in-Below.result; node_capacity = vec_capacity c.rooted-in-Below.new.nodes; leaf_capacity = vec_capacity c.added.new.leaves } in (
+      raised_becomes v w v.nodes c.in-Some.top c.rooted-in-Below.result t x r.position (suc (suc (height_of c.in-Some.top))) i refl
+          (c.rooted-in-Below.ensures.raised v.nodes us x r.position t (suc (height_of c.in-Some.top)) r.raised),
+      absent_value v c.args.key.now c.in-Some.top t i (record { position = r.position; differ = r.addable.differ }),
+    )
+
+pub invariant_of-self-in-Below : goal.invariant_of-self-in-Below
+invariant_of-self-in-Below c = (below (goal.at.invariant_of-self-in-Below c).After-rooted-in-Below).0.0
+
+pub returns-in-Below-clause-ok : goal.returns-in-Below-clause-ok
+returns-in-Below-clause-ok c =
+    let a = below (goal.at.returns-in-Below-clause-ok c).After-rooted-in-Below in (
+      subst (λ u. value_at (map_of u) c.args.key.now ≡ None) c.self.view_is a.1,
+      a.0.1 ∙ ap (λ (u : PlainView). with_value (map_of u) c.args.key.now c.args.value) c.self.view_is,
+    )
+
+pub returns-in-Below-clause-heights : goal.returns-in-Below-clause-heights
+returns-in-Below-clause-heights c =
+    let us = c.rooted-in-Below.new.nodes.items in
+    subst (λ vs. KeepsHeights vs us) (ap (λ (u : PlainView). u.nodes) c.self.view_is)
+    (heights_then c.self.inside.nodes.items c.added.new.nodes.items us c.added.ensures.heights c.rooted-in-Below.ensures.heights c.rooted-in-Below.ensures.all)

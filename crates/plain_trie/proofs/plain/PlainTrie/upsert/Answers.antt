@@ -1,0 +1,15 @@
+-- A held key has another value.
+use Rattle.std.proofs.Common.{ap, ◌∙◌}
+use Rattle.hot_model.specs.Maps.{with_value}
+use Rattle.plain_trie.specs.Store.{PlainView, map_of}
+use Rattle.plain_trie.proofs.Inserting.{held_reply, held_value}
+use Rattle.plain_trie.proofs.plain.PlainTrie.upsert.Goals as goal
+
+pub returns-clause-ok : goal.returns-clause-ok
+returns-clause-ok c =
+    let a = rw c.in-Some.is at c.in_ok-leaf.ensures.ok in
+    let k = c.args.key.now in
+    let l = c.index.result.now in
+    let held = held_value _ c.args.self.now k c.in-Some.leaf l c.self.invariant (c.self.view_is ∙ a.1) a.0 c.index.ensures in
+    let r = held_reply (map_of c.args.self.now) k c.args.value l.value held in
+    (r.1, c.set.ensures.map ∙ (ap (λ (u : PlainView). with_value (map_of u) k c.args.value) a.1 ∙ r.3))

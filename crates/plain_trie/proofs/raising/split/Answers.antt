@@ -1,0 +1,22 @@
+-- The second half gets a new record, the first one the old one's.
+use Rattle.std.proofs.Common.{◌≡◌, arith, length}
+use Rattle.std.specs.Vec.{vec_len}
+use Rattle.plain_trie.specs.Risen.{pushed_nodes}
+use Rattle.plain_trie.proofs.Heights.{heights_double}
+use Rattle.plain_trie.proofs.Storing.{double_shows, others_kept, others_pushed}
+use Rattle.plain_trie.proofs.raising.split.Goals as goal
+
+pub returns-in_default-clause-shows : goal.returns-in_default-clause-shows
+returns-in_default-clause-shows c = λ old P at high lawful s.
+    let long : vec_len c.args.nodes.now ≡ length c.args.nodes.now.items = omega (arith, c.args.nodes.now.ok.0) in
+    rw (c.half_kept-zero.ensures.nodes, c.half_kept-zero.ensures.entry, c.half_pushed-one.ensures.nodes, c.half_pushed-one.ensures.entry, long)
+    (double_shows old c.args.nodes.now.items c.args.number c.args.height at high lawful c.args.cut.position c.args.cut.zero c.args.cut.one P c.in_default.not-One s)
+
+pub returns-in_default-clause-others : goal.returns-in_default-clause-others
+returns-in_default-clause-others c = λ m v ne at.
+    rw (c.half_kept-zero.ensures.nodes, c.half_pushed-one.ensures.nodes)
+    (others_kept (pushed_nodes c.args.nodes.now.items c.args.cut.one) c.args.number c.args.cut.zero m v ne (others_pushed c.args.nodes.now.items c.args.cut.one m v at))
+
+pub returns-in_default-clause-heights : goal.returns-in_default-clause-heights
+returns-in_default-clause-heights c = λ old P at s steady.
+    rw (c.half_kept-zero.ensures.nodes, c.half_pushed-one.ensures.nodes) (heights_double c.args.nodes.now.items c.args.number old P at c.args.cut s steady)

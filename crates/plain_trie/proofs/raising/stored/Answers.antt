@@ -1,0 +1,11 @@
+-- A whole node takes the old one's record.
+use Rattle.plain_trie.proofs.Heights.{heights_whole}
+use Rattle.plain_trie.proofs.Storing.{set_other}
+use Rattle.plain_trie.proofs.raising.stored.Goals as goal
+
+pub returns-in-One-clause-heights : goal.returns-in-One-clause-heights
+returns-in-One-clause-heights c = λ old P at s steady.
+    rw c.kept.ensures.nodes (heights_whole c.args.nodes.now.items c.args.number old P at c.in-One.node (rw c.in-One.is at s) (rw c.in-One.is at steady))
+
+pub returns-in-One-clause-others : goal.returns-in-One-clause-others
+returns-in-One-clause-others c = λ m v ne at. rw c.kept.ensures.nodes (set_other c.args.nodes.now.items c.args.number m c.in-One.node v ne at)

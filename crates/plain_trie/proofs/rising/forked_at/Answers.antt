@@ -1,0 +1,50 @@
+-- The node that is named gets the fork.
+use Rattle.std.proofs.Common.{◌≡◌, ap, sym, ◌∙◌, subst, arith}
+use Rattle.std.proofs.lemmas.Option.{slice_get_within}
+use Rattle.pieces.specs.Piece.{Place, Fork, size}
+use Rattle.compound_node.specs.Nodes.{NodeView, piece, IsLawful}
+use Rattle.pieces.specs.Grafts.{grafted, IsAbovePath}
+use Rattle.insert_cases.specs.Grown.{GrownShows}
+use Rattle.insert_cases.proofs.Choosing.{same_some}
+use Rattle.tries.proofs.Building.{size-piece}
+use Rattle.plain_trie.proofs.Searching.{read_at}
+use Rattle.plain_trie.proofs.Steady.{pull_steady}
+use Rattle.plain_trie.proofs.rising.forked_at.Goals as goal
+
+pub prove-unreachable-requires : goal.prove-unreachable-requires
+prove-unreachable-requires c =
+    let o = c.requires.place in
+    let v = c.index-node.result.now in
+    let same : v ≡ o.0 = read_at c.args.nodes.now.items c.args.number o.0 v o.1 c.index-node.ensures in
+    let e : size (piece v) ≡ size (piece o.0) = ap (λ (w : NodeView). size (piece w)) same in
+    omega (arith, o.3, size-piece v c.count.ensures.lawful, c.count.ensures.count)
+
+pub pull_up-grown-requires-clause-path : goal.pull_up-grown-requires-clause-path
+pull_up-grown-requires-clause-path c =
+    let o = c.requires.place in
+    let v = c.index-node.result.now in
+    let same : v ≡ o.0 = read_at c.args.nodes.now.items c.args.number o.0 v o.1 c.index-node.ensures in
+    subst (λ (w : NodeView). IsAbovePath c.args.position c.args.at (piece w)) (sym same) o.4
+
+pub stored-requires-clause-number : goal.stored-requires-clause-number
+stored-requires-clause-number c =
+    let o = c.requires.place in
+    omega (arith, slice_get_within c.args.nodes.now.items c.args.number o.0 o.1, c.args.nodes.now.ok.0)
+
+pub returns-clause-shows : goal.returns-clause-shows
+returns-clause-shows c = λ old at.
+    let o = c.requires.place in
+    let v = c.index-node.result.now in
+    let same : v ≡ old = read_at c.args.nodes.now.items c.args.number old v at c.index-node.ensures in
+    let high : old.height ≡ c.args.height = ap (λ (w : NodeView). w.height) (same_some (sym at ∙ o.1)) ∙ o.2 in
+    c.stored.ensures.shows old _ at high (subst IsLawful same c.count.ensures.lawful) (rw same at c.pull_up-grown.ensures.shows)
+
+pub returns-clause-heights : goal.returns-clause-heights
+returns-clause-heights c =
+    let o = c.requires.place in
+    let v = c.index-node.result.now in
+    let g = c.pull_up-grown.result in
+    let same : v ≡ o.0 = read_at c.args.nodes.now.items c.args.number o.0 v o.1 c.index-node.ensures in
+    let lawful = subst IsLawful same c.count.ensures.lawful in
+    let shows : GrownShows o.0 g (grafted c.args.at (Fork c.args.position (Place c.args.zero) (Place c.args.one)) (piece o.0)) = rw same at c.pull_up-grown.ensures.shows in
+    c.stored.ensures.heights o.0 _ o.1 shows (pull_steady o.0 lawful c.args.position c.args.at c.args.zero c.args.one o.4 g shows)

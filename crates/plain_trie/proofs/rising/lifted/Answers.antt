@@ -1,0 +1,89 @@
+-- What gave way in the child's place is put there.
+use Rattle.std.proofs.Common.{rules, sym, ◌≡◌, ◌≢◌, suc, ◌+◌, ◌<◌, List, refl, ap, ◌∙◌, arith, Some}
+use Rattle.std.specs.Prelude.{slice_get}
+use Rattle.compound_node.specs.Nodes.{NodeView, height_of, piece}
+use Rattle.compound_node.specs.declared.entries.Entry.TheVariants.{Node}
+use Rattle.pieces.specs.Changes.{replaced}
+use Rattle.insert_cases.specs.Risen.{page_of}
+use Rattle.insert_cases.specs.declared.raising.Risen.TheVariants.{Whole}
+use Rattle.plain_trie.proofs.Climbing.{old_at, old_high, at_within, above_path, pair_here, stands_here, lift, between, piece-same, replaced_named}
+use Rattle.insert_cases.proofs.Choosing.{same_some}
+use Rattle.plain_trie.proofs.Heights.{heights_new, heights_over}
+use Rattle.plain_trie.proofs.Storing.{push_old}
+use Rattle.plain_trie.proofs.rising.lifted.Goals as goal
+
+pub replaced-requires : goal.replaced-requires
+replaced-requires c =
+    let i = c.requires.place.6 in
+    (i.shown.0.view, old_at i, at_within i, stands_here i c.in-Whole.entry (ap page_of c.in-Whole.is))
+
+pub forked_at-requires-clause-place : goal.forked_at-requires-clause-place
+forked_at-requires-clause-place c =
+    let i = c.requires.place.6 in
+    (i.shown.0.view, old_at i, old_high i, at_within i, above_path i c.in-Split.position c.in-Split.zero c.in-Split.one (ap page_of c.in-Split.is))
+
+pub forked_at-requires-clause-position : goal.forked_at-requires-clause-position
+forked_at-requires-clause-position c =
+    let p = pair_here c.requires.place.6 c.in-Split.position c.in-Split.zero c.in-Split.one (ap page_of c.in-Split.is) in omega (arith, p.position)
+
+pub forked_at-requires-clause-zero : goal.forked_at-requires-clause-zero
+forked_at-requires-clause-zero c = (pair_here c.requires.place.6 c.in-Split.position c.in-Split.zero c.in-Split.one (ap page_of c.in-Split.is)).zero
+
+pub forked_at-requires-clause-one : goal.forked_at-requires-clause-one
+forked_at-requires-clause-one c = (pair_here c.requires.place.6 c.in-Split.position c.in-Split.zero c.in-Split.one (ap page_of c.in-Split.is)).one
+
+pub settled-entry-requires : goal.settled-entry-requires
+settled-entry-requires c =
+    let p = pair_here c.requires.place.6 c.in-Split.position c.in-Split.zero c.in-Split.one (ap page_of c.in-Split.is) in
+    record { room = c.requires.room; small = c.requires.small; position = omega (arith, p.position); zero = p.zero; one = p.one }
+
+pub replaced-requires-in_default : goal.replaced-requires-in_default
+replaced-requires-in_default c =
+    let i = c.requires.place.6 in
+    let ne : c.args.height ≢ height_of c.args.child + 1 = λ e. c.in_default.not-PullUp (c.place.ensures.pull_up.1 (ap Some (e ∙ ap (λ h. h + 1) (sym c.height.ensures)))) in
+    let far : suc (height_of c.args.child) < c.args.height = omega (arith, i.lower) in
+    let o = between i c.settled-entry.new.nodes.items c.in-Split.position c.in-Split.zero c.in-Split.one c.settled-entry.result (ap page_of c.in-Split.is) c.settled-entry.ensures.new far in
+    (o.shown.0.view, old_at o, at_within o, stands_here o c.settled-entry.result refl)
+
+pub returns-else-eq-clause-raised : goal.returns-else-eq-clause-raised
+returns-else-eq-clause-raised c = λ ns leaves x p y b i.
+    lift i c.replaced.new.nodes.items (Whole c.replaced.result) c.replaced.ensures.others
+    (λ old at. rw c.in-Whole.is (c.replaced.ensures.shows old at))
+
+-- where the child stayed
+pub returns-then-eq-clause-raised : goal.returns-then-eq-clause-raised
+returns-then-eq-clause-raised c = λ ns leaves x p y b i.
+    let nodes = c.args.nodes.now.items in
+    let same : c.args.child ≡ c.in-Whole.entry = search (rules, c.if-eq.ensures) in
+    lift i nodes (Whole (Node c.args.number c.args.height)) (λ m v ne at. at)
+    (λ old at.
+    let held = c.requires.child old at in
+    let shows : piece old ≡ replaced c.args.at c.in-Whole.entry (piece old) = sym (piece-same old c.args.at c.in-Whole.entry held.0 (held.1 ∙ ap Some same)) in
+    let high : old.height ≡ c.args.height = ap (λ (v : NodeView). v.height) (same_some (sym at ∙ old_at i)) ∙ old_high i in
+    rw (c.in-Whole.is, ← high) (replaced_named nodes c.args.number c.args.at c.in-Whole.entry old old at held.0 refl shows))
+
+pub returns-in-PullUp-clause-raised : goal.returns-in-PullUp-clause-raised
+returns-in-PullUp-clause-raised c = λ ns leaves x p y b i.
+    lift i c.forked_at.new.nodes.items c.forked_at.result c.forked_at.ensures.others
+    (λ old at. rw c.in-Split.is (c.forked_at.ensures.shows old at))
+
+pub returns-in_default-clause-raised : goal.returns-in_default-clause-raised
+returns-in_default-clause-raised c = λ ns leaves x p y b i.
+    let ne : c.args.height ≢ height_of c.args.child + 1 = λ e. c.in_default.not-PullUp (c.place.ensures.pull_up.1 (ap Some (e ∙ ap (λ h. h + 1) (sym c.height.ensures)))) in
+    let far : suc (height_of c.args.child) < c.args.height = omega (arith, i.lower) in
+    lift (between i c.settled-entry.new.nodes.items c.in-Split.position c.in-Split.zero c.in-Split.one c.settled-entry.result (ap page_of c.in-Split.is) c.settled-entry.ensures.new far)
+    c.replaced-in_default.new.nodes.items (Whole c.replaced-in_default.result) c.replaced-in_default.ensures.others c.replaced-in_default.ensures.shows
+
+pub returns-in_default-clause-heights : goal.returns-in_default-clause-heights
+returns-in_default-clause-heights c =
+    let i = c.requires.place.6 in
+    let ms = c.args.nodes.now.items in
+    let us = c.settled-entry.new.nodes.items in
+    let new = c.settled-entry.ensures.new in
+    let still : slice_get us c.args.number ≡ Some i.shown.0.view = ap (λ (vs : List NodeView). slice_get vs c.args.number) new.added ∙ push_old ms _ c.args.number i.shown.0.view (old_at i) in
+    heights_over ms us c.replaced-in_default.new.nodes.items (heights_new ms us c.settled-entry.result _ new) c.replaced-in_default.ensures.heights c.args.number i.shown.0.view (old_at i) still
+    c.replaced-in_default.ensures.others
+
+pub returns-in_default-clause-others : goal.returns-in_default-clause-others
+returns-in_default-clause-others c = λ m v ne at.
+    c.replaced-in_default.ensures.others m v ne (ap (λ (vs : List NodeView). slice_get vs m) c.settled-entry.ensures.new.added ∙ push_old c.args.nodes.now.items _ m v at)

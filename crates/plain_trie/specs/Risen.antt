@@ -1,0 +1,60 @@
+-- What records show where a node gave way to what an entry added below it has made.
+use Rattle.std.specs.Prelude.{◌≡◌, ◌≢◌, ◌⊎◌, ℕ, ◌+◌, List, [], ◌∷◌, ◌++◌, slice_get, slice_set, Some}
+use Rattle.pieces.specs.Changes.{AtRootFork}
+use Rattle.pieces.specs.Piece.{Place, places}
+use Rattle.compound_node.specs.Nodes.{NodeView, piece, IsLawful, greatest_height}
+use Rattle.compound_node.specs.declared.entries.Entry.{Entry}
+use Rattle.compound_node.specs.declared.entries.Entry.TheVariants.{Node}
+use Rattle.compound_node.specs.declared.halves.Half.{Half}
+use Rattle.compound_node.specs.declared.halves.Half.TheVariants.{One, Many, Same}
+use Rattle.tries.specs.Tree.{Page, first_position}
+use Rattle.insert_cases.specs.declared.raising.Risen.{Risen}
+use Rattle.insert_cases.specs.declared.raising.Risen.TheVariants.{Whole, Split}
+
+-- the entry names a node that shows the page: its height is built anew, or it has the old one's height and first position
+pub record IsNamed (nodes : List NodeView) (old : NodeView) (entry : Entry) (shown : Page) : Type 0 where
+  pub number : ℕ
+  pub view : NodeView
+  pub at : slice_get nodes number ≡ Some view
+  pub is : entry ≡ Node number view.height
+  pub lawful : IsLawful view
+  pub shows : piece view ≡ shown
+  pub height : (view.height ≡ 1 + greatest_height (places shown)) ⊎ ((view.height ≡ old.height) × (first_position (piece view) ≡ first_position (piece old)))
+
+-- the entry stands for the page: it alone is its place, or it names a node
+abbrev pub IsFor : List NodeView → NodeView → Entry → Page → Type 0
+IsFor nodes old entry shown = (shown ≡ Place entry) ⊎ IsNamed nodes old entry shown
+
+abbrev pub RisenShows : List NodeView → NodeView → Risen → Page → Type 0
+RisenShows nodes old (Whole entry) shown = IsNamed nodes old entry shown
+RisenShows nodes old (Split position zero one) shown = AtRootFork (λ p a b. (position ≡ p) × IsFor nodes old zero a × IsFor nodes old one b) shown
+
+-- all nodes but one stay, and new ones may come
+abbrev pub OthersStay : List NodeView → List NodeView → ℕ → Type 0
+OthersStay old new n = (m : ℕ) (v : NodeView) → n ≢ m → slice_get old m ≡ Some v → slice_get new m ≡ Some v
+
+-- all nodes stay, and new ones may come
+abbrev pub AllStay : List NodeView → List NodeView → Type 0
+AllStay old new = (m : ℕ) (v : NodeView) → slice_get old m ≡ Some v → slice_get new m ≡ Some v
+
+-- the nodes with a half behind them, and the half's entry
+abbrev pub pushed_nodes : List NodeView → Half → List NodeView
+pushed_nodes nodes (One entry) = nodes
+pushed_nodes nodes (Many node) = nodes ++ node ∷ []
+pushed_nodes nodes Same = nodes
+
+abbrev pub pushed_entry : ℕ → Entry → Half → Entry
+pushed_entry number old (One entry) = entry
+pushed_entry number old (Many node) = Node number node.height
+pushed_entry number old Same = old
+
+-- the nodes with a half in place of one, and the half's entry
+abbrev pub kept_nodes : List NodeView → ℕ → Half → List NodeView
+kept_nodes nodes number (One entry) = nodes
+kept_nodes nodes number (Many node) = slice_set nodes number node
+kept_nodes nodes number Same = nodes
+
+abbrev pub kept_entry : ℕ → Entry → Half → Entry
+kept_entry number old (One entry) = entry
+kept_entry number old (Many node) = Node number node.height
+kept_entry number old Same = old

@@ -1,0 +1,40 @@
+-- What a call answers and leaves, and when a trie has no room for one key more.
+use Rattle.std.specs.Prelude.{◌≡◌, ◌⊎◌, ℕ, ◌+◌, ◌^◌, ◌<◌, ◌≤◌, length, Option, Some, None}
+use Rattle.compound_node.specs.Nodes.{height_of}
+use Rattle.compound_node.specs.declared.entries.Entry.{Entry}
+use Rattle.hot_model.specs.Maps.{map_after, reply_of, AddsKey}
+use Rattle.hot_model.specs.declared.Call.{Call}
+use Rattle.hot_model.specs.declared.Reply.{Reply}
+use Rattle.plain_trie.specs.Store.{PlainView, map_of}
+
+-- the most nodes that one insertion adds: one for each level, and one above the root; the first key adds none
+abbrev pub most_new_nodes : Option Entry → ℕ
+most_new_nodes None = 0
+most_new_nodes (Some root) = height_of root + 1
+
+-- no number of 32 bits is left for one leaf more, or too few are left for the most nodes that can come
+abbrev pub IsAtLimit : PlainView → Type 0
+IsAtLimit v = (2 ^ 32 ≤ length v.leaves) ⊎ (2 ^ 32 < length v.nodes + most_new_nodes v.top)
+
+-- the vector of the leaves is full, or that of the nodes has no room for the most nodes that can come
+abbrev pub MustGrow : PlainView → Type 0
+MustGrow v = (v.leaf_capacity ≤ length v.leaves) ⊎ (v.node_capacity < length v.nodes + most_new_nodes v.top)
+
+abbrev pub LacksRoom : PlainView → Type 0
+LacksRoom v = IsAtLimit v ⊎ MustGrow v
+
+-- no vector has less room than before
+abbrev pub KeepsRoom : PlainView → PlainView → Type 0
+KeepsRoom old new = (old.node_capacity ≤ new.node_capacity) × (old.leaf_capacity ≤ new.leaf_capacity)
+
+-- nothing has changed but that the vector of the leaves may have got more room
+abbrev pub IsUnchanged : PlainView → PlainView → Type 0
+IsUnchanged old new = new ≡ record old { leaf_capacity = new.leaf_capacity }
+
+-- the call was answered as on the finite map, and the trie is the map after it
+abbrev pub IsAnswered : Call → PlainView → PlainView → Reply → Type 0
+IsAnswered call old new reply = (reply ≡ reply_of (map_of old) call) × (map_of new ≡ map_after (map_of old) call)
+
+-- the call would have added its key, for which there was no room, and the trie is unchanged
+abbrev pub IsRefused : Call → PlainView → PlainView → Type 0
+IsRefused call old new = AddsKey (map_of old) call × LacksRoom old × IsUnchanged old new

@@ -1,0 +1,25 @@
+//! Where the halves of a cut node go.
+
+ghost use Rattle.std.specs.Prelude.{◌≡◌, ◌↔◌, ◌+◌, ◌<◌, Some, IsNone};
+ghost use Rattle.std.specs.Option.{ForSome};
+
+use crate::growing::Place;
+
+/// Where the halves of a cut node of this height go: into the parent where the parent is one higher, into a node
+/// between where it is higher still, and into a new topmost node where there is no parent.
+pub fn place(child_height: u16, parent_height: Option<u16>) -> Place
+    requires { ForSome parent_height (λ h. child_height < h) }
+    ensures pull_up { (result ≡ Place.PullUp) ↔ (parent_height ≡ Some (child_height + 1)) }
+    ensures new_root { (result ≡ Place.NewRoot) ↔ IsNone parent_height }
+{
+    match parent_height {
+        None => Place::NewRoot,
+        Some(height) => {
+            if child_height + 1 == height {
+                Place::PullUp
+            } else {
+                Place::Intermediate
+            }
+        }
+    }
+}

@@ -1,0 +1,248 @@
+//! A sequential trie, with its records in vectors.
+
+ghost use Rattle.std.specs.Prelude.{◌≡◌, ◌<◌, ◌+◌, Some, None, [], IfOk, OnOk, OnErr, MatchOption, slice_get};
+ghost use Rattle.std.specs.Vec.{vec_capacity};
+ghost use Rattle.compound_node.specs.Nodes.{piece};
+ghost use Rattle.hot_model.specs.Maps.{value_at, with_value};
+ghost use Rattle.hot_model.specs.declared.Call.TheVariants.{Insert, Upsert};
+ghost use Rattle.tries.specs.Search.{seek, found};
+
+mod adding;
+mod scan;
+
+use crate::rising::{raised, rooted};
+use adding::{Addition, added, make_room};
+use compound_node::{Entry, Node};
+use hot_model::Reply;
+use key_bits::Key;
+use std::alloc::{AllocError, Global};
+use std::marker::Model;
+
+/// A leaf's record: a key with its value.
+#[derive(Drop)]
+pub struct LeafRecord {
+    // The value stands first, beside the key's count and first bytes: so one line of memory has all of a short key's record.
+    value: u64,
+    key: Key,
+}
+
+/// A height optimized trie for one thread. Contracts see its records, the entry of its root, and for how many records its
+/// two vectors have memory.
+///
+/// A node's stored height is one above the greatest of its entries when the node is built, and stays as it is while the
+/// node keeps its forks. So where an entry gives way to a lower one, it can be more than one above the greatest.
+#[derive(Drop)]
+pub struct PlainTrie {
+    nodes: Vec<Node>,
+    leaves: Vec<LeafRecord>,
+    top: Option<Entry>,
+}
+
+impl Model for PlainTrie {
+    ghost use Rattle.std.specs.Vec.{vec_capacity};
+    ghost use Rattle.plain_trie.specs.Store.{PlainView, IsPlain};
+
+    ghost Value = { PlainView };
+
+    ghost view = { λ a. record {
+      nodes = a.nodes.items;
+      leaves = a.leaves.items;
+      top = a.top;
+      node_capacity = vec_capacity a.nodes;
+      leaf_capacity = vec_capacity a.leaves;
+    } };
+
+    ghost invariant = { λ a. IsPlain (record {
+      nodes = a.nodes.items;
+      leaves = a.leaves.items;
+      top = a.top;
+      node_capacity = vec_capacity a.nodes;
+      leaf_capacity = vec_capacity a.leaves;
+    }) };
+}
+
+impl PlainTrie {
+    ghost use Rattle.plain_trie.specs.Heights.{KeepsHeights};
+    ghost use Rattle.plain_trie.specs.Room.{KeepsRoom, IsAnswered, IsRefused};
+    ghost use Rattle.plain_trie.specs.Store.{map_of, ShowsTrie, IsHeldInLeaf, tree_of, record_of};
+    ghost use Rattle.tries.specs.Tree.{Tree};
+    ghost use Rattle.compound_node.specs.Nodes.{height_of};
+
+    /// A trie without a key. It takes no memory yet.
+    pub fn new(alloc: Global) -> PlainTrie
+        ensures map { map_of result ≡ [] }
+        ensures memory { (result.node_capacity ≡ 0) × (result.leaf_capacity ≡ 0) }
+    {
+        PlainTrie {
+            nodes: Vec::new(alloc),
+            leaves: Vec::new(alloc),
+            top: None,
+        }
+    }
+
+    /// The root's entry: none without a key.
+    pub fn top(&self) -> Option<Entry>
+        ensures top { result ≡ self.now.top }
+        ensures shows { ShowsTrie self.now }
+    {
+        self.top
+    }
+
+    /// The height of the trie: that of the root's entry, so 0 for one key or none.
+    pub fn height(&self) -> u16
+        ensures { MatchOption self.now.top (result ≡ 0) (λ entry. result ≡ height_of entry) }
+    {
+        match self.top {
+            None => 0,
+            Some(entry) => entry.height(),
+        }
+    }
+
+    /// The node whose record has this number: none where no record has it.
+    pub fn node(&self, number: u32) -> Option<&Node>
+        ensures { MatchOption result (slice_get self.now.nodes number ≡ None) (λ node. slice_get self.now.nodes number ≡ Some node.now) }
+    {
+        self.nodes.get(number as usize)
+    }
+
+    /// The value of a key: none where the trie has not got the key. The search reads one record a level, and compares the
+    /// key with that of the one leaf at which it ends.
+    pub fn get(&self, key: &Key) -> Option<u64>
+        ensures { result ≡ value_at (map_of self.now) key.now }
+    {
+        match self.top {
+            None => None,
+            Some(entry) => {
+                let leaf = &self.leaves[self.find(key, entry)];
+                if leaf.key == *key {
+                    Some(leaf.value)
+                } else {
+                    None
+                }
+            }
+        }
+    }
+
+    /// Gives the key the value where it has none, and answers `Inserted`, or `Exists` with the value that it has and
+    /// keeps. Only a key that was absent takes memory. Room is made for its leaf and for the most nodes that one insertion
+    /// can add: `height() + 1`, one for each level and one above the root, and none for the first key.
+    ///
+    /// The answer is `AllocError` only where a vector had to grow for that many and got no memory, or where too few numbers
+    /// of 32 bits are left: with 4,294,967,296 leaves, or with more than 4,294,967,295 - `height()` nodes. Most insertions
+    /// add fewer nodes than room is made for, so one can be refused that would have found room for its own, and the last
+    /// few numbers of nodes stay unused. A refused call leaves all records and the root as they were.
+    pub fn insert(&mut self, key: &Key, value: u64) -> Result<Reply, AllocError>
+        ensures ok { IfOk result (IsAnswered (Insert key.now value) self.old self.new) }
+        ensures err { OnErr result (IsRefused (Insert key.now value) self.old self.new) }
+        ensures room { KeepsRoom self.old self.new }
+        ensures heights { KeepsHeights self.old.nodes self.new.nodes }
+    {
+        match self.add_absent(key, value)? {
+            None => Ok(Reply::Inserted),
+            Some(leaf) => Ok(Reply::Exists(self.leaves[leaf].value)),
+        }
+    }
+
+    /// Gives the key the value, and answers `New`, or `Was` with the value that it had. Only a key that was absent takes
+    /// memory. When the answer is `AllocError`, and what it leaves, is as for `insert`.
+    pub fn upsert(&mut self, key: &Key, value: u64) -> Result<Reply, AllocError>
+        ensures ok { IfOk result (IsAnswered (Upsert key.now value) self.old self.new) }
+        ensures err { OnErr result (IsRefused (Upsert key.now value) self.old self.new) }
+        ensures room { KeepsRoom self.old self.new }
+        ensures heights { KeepsHeights self.old.nodes self.new.nodes }
+    {
+        let Some(leaf) = self.add_absent(key, value)? else {
+            return Ok(Reply::New);
+        };
+        let held = self.leaves[leaf].value;
+        self.set(leaf, key, value);
+        Ok(Reply::Was(held))
+    }
+
+    /// Adds a key with its value where it is absent, and answers its leaf where it is not. At the end of the search room is
+    /// made for the leaf and for the most nodes that can come: one for each height, and a new root. So a refusal changes
+    /// nothing.
+    fn add_absent(&mut self, key: &Key, value: u64) -> Result<Option<usize>, AllocError>
+        ensures ok { IfOk result (λ held. MatchOption held
+            ((value_at (map_of self.old) key.now ≡ None) × (map_of self.new ≡ with_value (map_of self.old) key.now value))
+            (λ leaf. IsHeldInLeaf self.old key.now leaf × (self.new ≡ self.old))) }
+        ensures err { OnErr result (IsRefused (Insert key.now value) self.old self.new) }
+        ensures room { KeepsRoom self.old self.new }
+        ensures heights { KeepsHeights self.old.nodes self.new.nodes }
+    {
+        let Some(top) = self.top else {
+            self.plant(key, value)?;
+            return Ok(None);
+        };
+        let count = usize::from(top.height()) + 1;
+        match added(&mut self.nodes, &mut self.leaves, top, key, value, count) {
+            Addition::Held(leaf) => Ok(Some(leaf as usize)),
+            Addition::Refused => Err(AllocError),
+            Addition::Above { position, leaf } => {
+                let risen = raised(&mut self.nodes, top, key, position, leaf);
+                self.top = Some(rooted(&mut self.nodes, risen));
+                Ok(None)
+            }
+            Addition::Below(risen) => {
+                self.top = Some(rooted(&mut self.nodes, risen));
+                Ok(None)
+            }
+        }
+    }
+
+    /// Adds the first key.
+    fn plant(&mut self, key: &Key, value: u64) -> Result<(), AllocError>
+        requires { self.old.top ≡ None }
+        ensures map { OnOk result (map_of self.new ≡ with_value (map_of self.old) key.now value) }
+        ensures err { OnErr result (IsRefused (Insert key.now value) self.old self.new) }
+        ensures room { KeepsRoom self.old self.new }
+        ensures heights { KeepsHeights self.old.nodes self.new.nodes }
+    {
+        let number = make_room(&mut self.nodes, &mut self.leaves, 0)?;
+        self.leaves.push_reserved(LeafRecord {
+            key: key.copy(),
+            value,
+        });
+        self.top = Some(Entry::Leaf(number));
+        Ok(())
+    }
+
+    /// Gives a key that the trie has another value.
+    fn set(&mut self, leaf: usize, key: &Key, value: u64)
+        requires { IsHeldInLeaf self.old key.now leaf }
+        ensures map { map_of self.new ≡ with_value (map_of self.old) key.now value }
+        ensures room { KeepsRoom self.old self.new }
+        ensures nodes { self.new.nodes ≡ self.old.nodes }
+    {
+        self.leaves[leaf] = LeafRecord {
+            key: key.copy(),
+            value,
+        };
+    }
+
+    /// The leaf at which the key's search ends.
+    fn find(&self, key: &Key, top: Entry) -> usize
+        requires { self.now.top ≡ Some top }
+        ensures number { (t : Tree) → tree_of self.now ≡ Some t → (found key.now t).number ≡ result }
+        ensures record { (t : Tree) → tree_of self.now ≡ Some t → slice_get self.now.leaves result ≡ Some (record_of (found key.now t)) }
+    {
+        let mut entry = top;
+        loop {
+            match entry {
+                Entry::Leaf(number) => return number as usize,
+                Entry::Node { number, .. } => {
+                    entry = sought(&self.nodes[number as usize], key);
+                }
+            }
+        }
+    }
+}
+
+/// The entry to which the key's search leads.
+fn sought(node: &Node, key: &Key) -> Entry
+    ensures { result ≡ seek key.now (piece node.now) }
+{
+    let at = node.search(key);
+    prove!(at < node.count());
+    node.entry(at)
+}
