@@ -1,0 +1,9 @@
+//! Tests by values that were worked out by hand: of keys and nodes, of the maps for one thread, of words and replays.
+#![tactic(auto)]
+
+#[cfg(test)]
+mod maps;
+#[cfg(test)]
+mod nodes;
+#[cfg(test)]
+mod replays;

@@ -1,0 +1,386 @@
+//! The maps for one thread and the decision on histories, by value.
+
+use crate::nodes::key;
+use compound_node::{Entry, Node};
+use hot_model::{Call, Change, Kind, Note, Reply, Scan};
+use insert_cases::{Case, Step, chain_end, choose, level_below};
+use key_bits::Key;
+use plain_index::{PlainIndex, are_legal};
+use plain_trie::{Place, PlainTrie, place};
+use std::alloc::{AllocError, Global};
+use std::process::Abort;
+
+/// The call that a letter names, of the key of one byte.
+fn call(rt: &impl Abort, letter: u8, byte: u8, value: u64) -> Call {
+    let key = key(rt, &[byte]);
+    match letter {
+        b'i' => Call::Insert(key, value),
+        b'u' => Call::Upsert(key, value),
+        b'g' => Call::Get(key),
+        _ => Call::Remove(key),
+    }
+}
+
+#[test]
+fn calls_answer_as_a_map(rt: HostRuntime) {
+    let cases = [
+        (b'i', b'a', 5, Reply::Inserted),
+        (b'i', b'a', 6, Reply::Exists(5)),
+        (b'g', b'a', 0, Reply::Value(5)),
+        (b'u', b'b', 1, Reply::New),
+        (b'u', b'b', u64::MAX, Reply::Was(1)),
+        (b'g', b'b', 0, Reply::Value(18_446_744_073_709_551_615)),
+        (b'r', b'a', 0, Reply::Removed(5)),
+        (b'r', b'a', 0, Reply::Absent),
+        (b'g', b'a', 0, Reply::Absent),
+    ];
+    let mut calls = Vec::new(rt.alloc());
+    let mut want = Vec::new(rt.alloc());
+    for (letter, byte, value, reply) in cases {
+        assert!(rt; calls.push(call(&rt, letter, byte, value)).is_ok());
+        assert!(rt; want.push(reply).is_ok());
+    }
+    let mut index = PlainIndex::new(rt.alloc());
+    match index.run(rt.alloc(), calls) {
+        Ok(replies) => assert!(rt; replies.as_slice() == want.as_slice()),
+        Err(_) => panic!(rt; "no memory"),
+    }
+}
+
+/// Changes of the key a, each by its pass, its value and its kind.
+fn front_of(rt: &impl Abort, alloc: Global, rows: &[(u16, u64, Kind)]) -> Vec<Change> {
+    let mut changes = Vec::new(alloc);
+    for (pass, value, kind) in rows {
+        let change = Change {
+            pass: *pass,
+            key: key(rt, b"a"),
+            value: *value,
+            kind: *kind,
+        };
+        assert!(rt; changes.push(change).is_ok());
+    }
+    changes
+}
+
+/// A note by its place, its call's letter, the byte of its key and its value, and the reply.
+type Row = (u64, u8, u8, u64, Reply);
+
+/// The notes of these rows.
+fn notes_of(rt: &impl Abort, alloc: Global, rows: &[Row]) -> Vec<Note> {
+    let mut notes = Vec::new(alloc);
+    for (place, letter, byte, value, reply) in rows {
+        let note = Note {
+            place: *place,
+            call: call(rt, *letter, *byte, *value),
+            reply: *reply,
+        };
+        assert!(rt; notes.push(note).is_ok());
+    }
+    notes
+}
+
+const FIRST: Row = (0, b'i', b'a', 5, Reply::Inserted);
+
+const LAST: Row = (2, b'r', b'a', 0, Reply::Removed(6));
+
+// The first three are legal. What is wrong with the others: a reply of another map, a place that falls, one past the front, a change
+// without its note, a note without its change, a change noted twice, one of another pass, and a removal of an absent key.
+#[test]
+fn histories_are_told_legal_or_not(rt: HostRuntime) {
+    let front: [(u16, u64, Kind); 3] = [
+        (1, 5, Kind::Added),
+        (2, 6, Kind::Replaced),
+        (1, 6, Kind::Removed),
+    ];
+    let (before, held) = (
+        (0, b'g', b'a', 0, Reply::Absent),
+        (1, b'g', b'a', 0, Reply::Value(5)),
+    );
+    let (after, own) = (
+        (3, b'g', b'a', 0, Reply::Absent),
+        (1, b'u', b'a', 6, Reply::Was(5)),
+    );
+    let (later, none) = (
+        (2, b'g', b'a', 0, Reply::Value(6)),
+        (2, b'g', b'b', 0, Reply::Absent),
+    );
+    let other = (1, b'g', b'a', 0, Reply::Value(6));
+    let past = (4, b'g', b'a', 0, Reply::Absent);
+    let without = (3, b'i', b'b', 7, Reply::Inserted);
+    let cases: [(usize, u16, &[Row], bool); 11] = [
+        (0, 1, &[before, FIRST, held, LAST, after], true),
+        (0, 2, &[own, none], true),
+        (0, 3, &[held, later], true),
+        (0, 1, &[FIRST, other, LAST], false),
+        (0, 3, &[later, held], false),
+        (0, 3, &[past], false),
+        (0, 1, &[FIRST], false),
+        (0, 3, &[without], false),
+        (0, 1, &[FIRST, FIRST, LAST], false),
+        (0, 3, &[FIRST, LAST], false),
+        (2, 3, &[], false),
+    ];
+    for (i, (from, pass, rows, legal)) in cases.iter().enumerate() {
+        assert!(rt; *from < 3);
+        let changes = front_of(&rt, rt.alloc(), &front[*from..]);
+        let notes = notes_of(&rt, rt.alloc(), rows);
+        assert!(rt;
+            are_legal(changes.as_slice(), *pass, notes.as_slice()) == *legal,
+            "at {i}"
+        );
+    }
+}
+
+/// The scan has these pairs.
+fn expect_scan(rt: &impl Abort, scan: Result<Scan, AllocError>, want: &[(&[u8], u64)], more: bool) {
+    match scan {
+        Ok(scan) => {
+            assert!(rt; scan.more == more && scan.pairs.len() == want.len());
+            for ((key, value), (bytes, number)) in scan.pairs.iter().zip(want) {
+                assert!(rt; key.as_bytes() == *bytes && *value == *number);
+            }
+        }
+        Err(_) => panic!(rt; "no memory"),
+    }
+}
+
+// With no key, with a = 5 alone, and with b = 6 beside it.
+#[test]
+fn scans_give_the_first_pairs(rt: HostRuntime) {
+    let pairs: [(&[u8], u64); 2] = [(b"a", 5), (b"b", 6)];
+    let cases: [(usize, &[u8], &[u8], usize, &[(&[u8], u64)], bool); 11] = [
+        (0, b"", b"\xff", 10, &[], false),
+        (0, b"a", b"b", 0, &[], false),
+        (1, b"", b"\xff", 1, &pairs[..1], false),
+        (1, b"b", b"\xff", 1, &[], false),
+        (2, b"a", b"b", 1, &pairs[..1], true),
+        (2, b"a", b"b", 2, &pairs, false),
+        (2, b"a", b"b", 0, &[], true),
+        (2, b"b", b"a", 5, &[], false),
+        (2, b"b", b"b", 2, &pairs[1..], false),
+        (2, b"", b"a", 1, &pairs[..1], false),
+        (2, b"", b"", 2, &[], false),
+    ];
+    for (held, from, upto, limit, want, more) in cases.iter() {
+        let (mut trie, mut index) = (PlainTrie::new(rt.alloc()), PlainIndex::new(rt.alloc()));
+        for (bytes, value) in pairs.iter().take(*held) {
+            let key = key(&rt, bytes);
+            assert!(rt; trie.insert(&key, *value).is_ok());
+            assert!(rt; index.apply(Call::Insert(key, *value)).is_ok());
+        }
+        let (from, upto) = (key(&rt, from), key(&rt, upto));
+        expect_scan(
+            &rt,
+            trie.scan(rt.alloc(), &from, &upto, *limit),
+            want,
+            *more,
+        );
+        expect_scan(
+            &rt,
+            index.scan(rt.alloc(), &from, &upto, *limit),
+            want,
+            *more,
+        );
+    }
+}
+
+/// A trie of so many keys of one byte or of two in rising order, and of one more if it is not empty.
+fn trie_of(rt: &impl Abort, alloc: Global, wide: bool, count: u16, further: &[u8]) -> PlainTrie {
+    let mut trie = PlainTrie::new(alloc);
+    for number in 0..count {
+        let bytes = number.to_be_bytes();
+        let key = if wide {
+            key(rt, &bytes)
+        } else {
+            key(rt, &bytes[1..])
+        };
+        assert!(rt; trie.insert(&key, u64::from(number)).is_ok());
+    }
+    if !further.is_empty() {
+        assert!(rt; trie.insert(&key(rt, further), 7).is_ok());
+    }
+    trie
+}
+
+fn node_of<'a>(rt: &impl Abort, trie: &'a PlainTrie, entry: Option<Entry>) -> &'a Node {
+    let number = match entry {
+        Some(Entry::Node { number, .. }) => number,
+        _ => panic!(rt; "no node"),
+    };
+    match trie.node(number) {
+        Some(node) => node,
+        None => panic!(rt; "no record"),
+    }
+}
+
+/// A trie as `trie_of` makes it, the places on the way to a node, and that node's height, positions and entries.
+type Shape = (
+    bool,
+    u16,
+    &'static [u8],
+    &'static [u8],
+    u16,
+    &'static [u16],
+    u8,
+);
+
+const SHAPES: [Shape; 15] = [
+    (false, 32, &[], &[], 1, &[4, 5, 6, 7, 8], 32),
+    (false, 33, &[], &[], 2, &[3], 2),
+    (false, 33, &[], &[0], 1, &[4, 5, 6, 7, 8], 32),
+    (false, 34, &[], &[1], 1, &[8], 2),
+    (false, 64, &[], &[1], 1, &[4, 5, 6, 7, 8], 32),
+    (false, 64, &[0x20, 0], &[], 2, &[3, 4], 3),
+    (false, 64, &[0x20, 0], &[0], 1, &[4, 5, 6, 7, 8], 32),
+    (false, 64, &[0x20, 0], &[1], 1, &[5, 6, 7, 8, 9], 17),
+    (false, 64, &[0x20, 0], &[2], 1, &[5, 6, 7, 8], 16),
+    (true, 1056, &[], &[], 3, &[6], 2),
+    (true, 1056, &[], &[0], 2, &[7, 8, 10, 11, 12], 32),
+    (true, 1056, &[], &[1], 1, &[13, 14, 15, 16, 17], 32),
+    (true, 1056, &[4, 0, 0], &[1], 2, &[13], 2),
+    (
+        true,
+        1056,
+        &[4, 0, 0],
+        &[1, 0],
+        1,
+        &[14, 15, 16, 17, 18],
+        17,
+    ),
+    (true, 1056, &[4, 0, 0], &[1, 1], 1, &[14, 15, 16, 17], 16),
+];
+
+#[test]
+fn tries_have_their_shapes(rt: HostRuntime) {
+    for (i, (wide, count, further, path, height, positions, entries)) in SHAPES.iter().enumerate() {
+        let trie = trie_of(&rt, rt.alloc(), *wide, *count, further);
+        let mut node = node_of(&rt, &trie, trie.top());
+        for at in path.iter() {
+            assert!(rt; *at < node.count());
+            node = node_of(&rt, &trie, Some(node.entry(*at)));
+        }
+        assert!(rt;
+            node.height() == *height && node.count() == *entries,
+            "at {i}"
+        );
+        assert!(rt; node.columns().as_slice() == *positions, "at {i}");
+        assert!(rt; !path.is_empty() || trie.height() == *height);
+    }
+}
+
+/// A key of a kind, by a number: of two bytes, of eight that share few of them, or of 66 that differ in one byte or end before it.
+fn key_by_chance(rt: &impl Abort, kind: u8, number: u64) -> Key {
+    if kind == 0 {
+        return key(rt, &((number % 1024) as u16).to_be_bytes());
+    }
+    if kind == 1 {
+        return key(
+            rt,
+            &(number % 512)
+                .wrapping_mul(6_364_136_223_846_793_005)
+                .to_be_bytes(),
+        );
+    }
+    let mut bytes = [7; 66];
+    let at = (number % 66) as usize;
+    bytes[at] = (number / 66 % 16) as u8;
+    let end = if number / 1056 % 2 == 0 { 66 } else { at };
+    key(rt, first_bytes(&bytes, end))
+}
+
+/// The first bytes, or all where there are no more.
+fn first_bytes(bytes: &[u8], count: usize) -> &[u8] {
+    if count < bytes.len() {
+        &bytes[..count]
+    } else {
+        bytes
+    }
+}
+
+/// A trie and a plain index answer one call alike; which call, a number says.
+fn call_both(
+    rt: &impl Abort,
+    alloc: Global,
+    trie: &mut PlainTrie,
+    index: &mut PlainIndex,
+    key: Key,
+    number: u64,
+) {
+    let value = number / 4;
+    if number % 4 == 0 {
+        assert!(rt; trie.insert(&key, value).ok() == index.apply(Call::Insert(key, value)).ok());
+    } else if number % 4 == 1 {
+        assert!(rt; trie.upsert(&key, value).ok() == index.apply(Call::Upsert(key, value)).ok());
+    } else if number % 4 == 2 {
+        let found = match trie.get(&key) {
+            Some(value) => Reply::Value(value),
+            None => Reply::Absent,
+        };
+        assert!(rt; index.apply(Call::Get(key)).ok() == Some(found));
+    } else {
+        let last = crate::nodes::key(rt, &[0xff; 240]);
+        let limit = (value % 4) as usize;
+        match (
+            trie.scan(alloc, &key, &last, limit),
+            index.scan(alloc, &key, &last, limit),
+        ) {
+            (Ok(found), Ok(want)) => {
+                assert!(rt; found.more == want.more);
+                assert!(rt; found.pairs.as_slice() == want.pairs.as_slice());
+            }
+            _ => panic!(rt; "no memory"),
+        }
+    }
+}
+
+#[test]
+fn calls_by_chance_are_answered_alike(rt: HostRuntime) {
+    for kind in 0..3u8 {
+        let (mut trie, mut index) = (PlainTrie::new(rt.alloc()), PlainIndex::new(rt.alloc()));
+        let (mut state, mut number) = (u64::from(kind), 0);
+        for _ in 0..2000u16 {
+            state = state
+                .wrapping_mul(6_364_136_223_846_793_005)
+                .wrapping_add(1_442_695_040_888_963_407);
+            let key = key_by_chance(&rt, kind, number);
+            call_both(&rt, rt.alloc(), &mut trie, &mut index, key, state >> 33);
+            number = state >> 40;
+        }
+    }
+}
+
+/// A node on a way: its height, its first position, its count, and the place that is taken there.
+type Passed = (u16, u16, u8, u8);
+
+// The keys 00 to 21, and then 22: the root's entry 1 alone is affected, a node, which gets the key. 00 to 3f, and then 2000: the full
+// node's halves go into the root. 0000 to 041f, and then 040000: the root is two higher. 00 to 20, and then 21: a leaf is pushed down.
+#[test]
+fn insertions_have_their_cases(rt: HostRuntime) {
+    let pushed: [Passed; 1] = [(2, 3, 2, 1)];
+    let normal: [Passed; 2] = [(2, 3, 2, 1), (1, 8, 2, 0)];
+    let pulled: [Passed; 2] = [(2, 3, 2, 1), (1, 4, 32, 0)];
+    let between: [Passed; 2] = [(3, 6, 2, 1), (1, 13, 32, 0)];
+    let cases: [(&[Passed], u16, usize, u8, (usize, u8, u8, u8), usize); 4] = [
+        (&normal, 7, 0, 1, (1, 0, 1, Case::NormalInsert as u8), 1),
+        (&pulled, 9, 1, 0, (1, 0, 0, Case::Overflow as u8), 0),
+        (&between, 18, 1, 0, (1, 0, 0, Case::Overflow as u8), 1),
+        (&pushed, 8, 0, 1, (0, 1, 1, Case::LeafPushdown as u8), 0),
+    ];
+    for (passed, position, level, entry, want, end) in cases.iter() {
+        let mut steps = [Step::default(); 2];
+        for (step, (height, first_position, count, at)) in steps.iter_mut().zip(passed.iter()) {
+            step.height = *height;
+            step.first_position = *first_position;
+            step.count = *count;
+            step.at = *at;
+        }
+        let way = &steps[..passed.len().min(2)];
+        assert!(rt; *level < way.len() && level_below(way, *position) == *level);
+        let choice = choose(way, *level, *entry, *entry);
+        assert!(rt; (choice.level, choice.first, choice.last, choice.case as u8) == *want);
+        assert!(rt; choice.level < way.len() && chain_end(way, choice.level) == *end);
+    }
+    assert!(rt; matches!(place(1, Some(3)), Place::Intermediate));
+    assert!(rt; matches!(place(1, Some(2)), Place::PullUp));
+    assert!(rt; matches!(place(1, None), Place::NewRoot));
+}

@@ -1,0 +1,319 @@
+//! Keys, nodes and their words by value. The keys a, b and c fork at the positions 7 and 8, as e, f and g do; d parts from a, b, c at 6.
+
+ghost use Rattle.std.specs.Prelude.{◌≡◌};
+ghost use Rattle.compound_node.specs.Nodes.{piece};
+ghost use Rattle.compound_node.specs.declared.entries.Entry.TheVariants.{Leaf as LeafEntry};
+ghost use Rattle.pieces.specs.Piece.{Fork, Place};
+
+use compound_node::{Entry, Half, Node};
+use key_bits::{Key, KeyFault, extract, mismatch};
+use partial_keys::{search_lanes, search_plain};
+use record_words::{
+    HEAD_WORDS, LEAF_FIELDS, Layout, LayoutFault, Location, NODE_FIELDS, Tag, pack_entry,
+    pack_leaf, pack_node, pack_state, unpack_state,
+};
+use std::process::Abort;
+use unpacking::{unpack_entry, unpack_head, unpack_leaf, unpack_node};
+
+/// The key of these bytes, which are few enough.
+pub fn key(rt: &impl Abort, bytes: &[u8]) -> Key {
+    match Key::from_bytes(bytes) {
+        Ok(key) => key,
+        Err(_) => panic!(rt; "over 240 bytes"),
+    }
+}
+
+#[test]
+fn keys_differ_first(rt: HostRuntime) {
+    let low = [0x7e; 240];
+    let mut high = low;
+    high[239] = 0x7f;
+    let cases: [(&[u8], &[u8], Option<u16>); 6] = [
+        (b"a", b"b", Some(7)),
+        (b"", b"a", Some(0)),
+        (b"a", b"aa", Some(9)),
+        (b"a", b"a", None),
+        (&low[..239], &low, Some(2151)),
+        (&low, &high, Some(2159)),
+    ];
+    for (a, b, want) in cases.iter() {
+        let (a, b) = (key(&rt, a), key(&rt, b));
+        assert!(rt; mismatch(&a, &b) == *want && mismatch(&b, &a) == *want);
+        assert!(rt; (a < b) == want.is_some());
+    }
+    assert!(rt; Key::from_bytes(&[0x61; 241]).err() == Some(KeyFault::TooLong));
+}
+
+#[test]
+fn bits_are_gathered_from_the_highest(rt: HostRuntime) {
+    let mut front = [0; 31];
+    for (j, position) in front.iter_mut().enumerate() {
+        *position = j as u16;
+    }
+    let ones = [0xff; 4];
+    let cases: [(&[u8], &[u16], u32); 7] = [
+        (b"a", &[7, 8], 0x4000_0000),
+        (b"b", &[7, 8], 0x8000_0000),
+        (b"c", &[7, 8], 0xc000_0000),
+        (b"a", &[0, 1, 2, 3, 4, 5, 6, 7, 8, 9], 0xb080_0000),
+        (&ones, &front, 0xffff_fffe),
+        (&ones, &[35, 36, 2159], 0x8000_0000),
+        (&ones, &[], 0),
+    ];
+    for (bytes, positions, want) in cases.iter() {
+        assert!(rt; positions.len() <= 31);
+        assert!(rt; extract(&key(&rt, bytes), positions) == *want);
+    }
+}
+
+#[test]
+fn searches_find_the_highest_complying_entry(rt: HostRuntime) {
+    let mut sparse = [u32::MAX; 32];
+    sparse[0] = 0;
+    sparse[1] = 0x8000_0000;
+    sparse[2] = 0xc000_0000;
+    let cases = [
+        (0x4000_0000, 0),
+        (0x8000_0000, 1),
+        (0xc000_0000, 2),
+        (0, 0),
+        (u32::MAX, 31),
+    ];
+    for (dense, want) in cases.iter() {
+        assert!(rt; search_plain(&sparse, *dense) == *want, "at {dense}");
+        assert!(rt; search_lanes(&sparse, *dense) == *want, "at {dense}");
+    }
+}
+
+/// The node of three keys, of which the last two part at 8 and the first from both at 7.
+pub fn three() -> Node
+    ensures { piece result ≡ Fork 7 (Place (LeafEntry 0)) (Fork 8 (Place (LeafEntry 1)) (Place (LeafEntry 2))) }
+{
+    Node::pair(7, Entry::Leaf(0), Entry::Leaf(1)).insert(1, 1, 8, true, Entry::Leaf(2))
+}
+
+/// The node of three keys with one more behind, which parts from them at 6.
+fn four() -> Node
+    ensures { piece result ≡ Fork 6 (Fork 7 (Place (LeafEntry 0)) (Fork 8 (Place (LeafEntry 1)) (Place (LeafEntry 2)))) (Place (LeafEntry 3)) }
+{
+    three().insert(0, 2, 6, true, Entry::Leaf(3))
+}
+
+#[test]
+fn nodes_are_searched(rt: HostRuntime) {
+    let node = three();
+    let head = node.head();
+    for (byte, dense, place) in [
+        (b'a', 0x4000_0000, 0),
+        (b'b', 0x8000_0000, 1),
+        (b'c', 0xc000_0000, 2),
+        (b'd', 0, 0),
+    ] {
+        let key = key(&rt, &[byte]);
+        assert!(rt; node.columns().dense(&key) == dense);
+        assert!(rt; node.search(&key) == place && head.search(&key) == place);
+    }
+    assert!(rt; node.affected(0, 6) == (0, 2));
+}
+
+/// The node of a half that is one.
+fn many(rt: &impl Abort, half: Half) -> Node {
+    match half {
+        Half::Many(node) => node,
+        _ => panic!(rt; "no node"),
+    }
+}
+
+// The nodes of a, b, c and of a, b, c, d, one before e, f, g, a, b, c, d without d and without a, and its front half.
+#[test]
+fn nodes_grow_and_shrink(rt: HostRuntime) {
+    let three_rows = [0, 0x8000_0000, 0xc000_0000];
+    let four_rows = [0, 0x4000_0000, 0x6000_0000, 0x8000_0000];
+    let first_rows = [0, 0x8000_0000, 0xc000_0000, 0xe000_0000];
+    let first = three().insert(0, 2, 6, false, Entry::Leaf(9));
+    let (last_out, first_out) = (many(&rt, four().without(3)), many(&rt, four().without(0)));
+    let front = many(&rt, four().cut().zero);
+    let cases: [(Node, &[u16], &[u32], &[u32]); 6] = [
+        (three(), &[7, 8], &three_rows, &[0, 1, 2]),
+        (four(), &[6, 7, 8], &four_rows, &[0, 1, 2, 3]),
+        (first, &[6, 7, 8], &first_rows, &[9, 0, 1, 2]),
+        (last_out, &[7, 8], &three_rows, &[0, 1, 2]),
+        (
+            first_out,
+            &[6, 8],
+            &[0, 0x4000_0000, 0x8000_0000],
+            &[1, 2, 3],
+        ),
+        (front, &[7, 8], &three_rows, &[0, 1, 2]),
+    ];
+    for (node, positions, rows, leaves) in cases.iter() {
+        let count = node.count() as usize;
+        assert!(rt; node.height() == 1 && node.columns().as_slice() == *positions);
+        assert!(rt; rows.len() == count && leaves.len() == count);
+        for i in 0..node.count() {
+            assert!(rt; node.sparse(i) == rows[i as usize]);
+            assert!(rt; node.entry(i) == Entry::Leaf(leaves[i as usize]));
+        }
+        for i in node.count()..32 {
+            assert!(rt; node.sparse(i) == u32::MAX);
+        }
+    }
+}
+
+#[test]
+fn heights_and_single_entries(rt: HostRuntime) {
+    let child = Entry::Node {
+        number: 4,
+        height: 3,
+    };
+    let node = Node::pair(7, child, Entry::Leaf(1));
+    assert!(rt; node.height() == 4 && node.replace(0, Entry::Leaf(5)).height() == 4);
+    assert!(rt; matches!(node.without(0), Half::One(Entry::Leaf(1))));
+    let cut = four().cut();
+    assert!(rt; cut.position == 6 && matches!(cut.one, Half::One(Entry::Leaf(3))));
+}
+
+/// The words of the node of the keys a, b and c over the leaves 0, 1 and 2, from offset 1 on.
+pub fn words_of_three() -> [u64; NODE_FIELDS] {
+    let mut words = [u64::MAX; NODE_FIELDS];
+    words[0] = 0x1_0203;
+    words[1] = 0xffff_ffff_0008_0007;
+    words[9] = 0x8000_0000_0000_0000;
+    words[10] = 0xffff_ffff_c000_0000;
+    for i in 25..NODE_FIELDS {
+        words[i] = 0;
+    }
+    words[25] = 1;
+    words[26] = 5;
+    words[27] = 9;
+    words
+}
+
+/// The words of the leaf of a key of one byte, from offset 1 on.
+pub fn words_of_leaf(byte: u8, value: u64) -> [u64; LEAF_FIELDS] {
+    let mut words = [0; LEAF_FIELDS];
+    words[0] = value;
+    words[1] = 1;
+    words[2] = u64::from(byte) << 56;
+    words
+}
+
+#[test]
+fn layouts_have_their_places(rt: HostRuntime) {
+    for (passes, nodes, leaves, want) in [
+        (0, 0, 0, LayoutFault::Passes as u8),
+        (65, 1, 1, LayoutFault::Passes as u8),
+        (1, 0, 0, LayoutFault::Nodes as u8),
+        (1, 65_536, 1, LayoutFault::Nodes as u8),
+        (1, 1, 262_144, LayoutFault::Leaves as u8),
+        (64, 65_535, 262_143, 0),
+    ] {
+        let told = match Layout::of(passes, nodes, leaves) {
+            Ok(_) => 0,
+            Err(fault) => fault as u8,
+        };
+        assert!(rt; told == want);
+    }
+    let Ok(layout) = Layout::of(2, 8, 8) else {
+        panic!(rt; "no layout");
+    };
+    for (word, location) in [
+        (0, Location::Epoch),
+        (1, Location::Root),
+        (16, Location::Anchor),
+        (24, Location::Pin(0)),
+        (32, Location::Pin(1)),
+        (40, Location::NodeWord { node: 0, offset: 0 }),
+        (98, Location::NodeWord { node: 1, offset: 0 }),
+        (504, Location::LeafWord { leaf: 0, offset: 0 }),
+    ] {
+        assert!(rt; layout.address(location) == word && layout.location(word).is_some());
+    }
+    for word in [2, 8, 15, 17, 23, 25, 31, 33, 39, 768, 1_000_000] {
+        assert!(rt; layout.location(word).is_none(), "at {word}");
+    }
+    assert!(rt; layout.words() == 768);
+}
+
+#[test]
+fn states_and_entries_have_their_words(rt: HostRuntime) {
+    for (word, want) in [
+        (0, Some(Tag::Free)),
+        (1, Some(Tag::Held)),
+        (2, Some(Tag::Live)),
+        (3, Some(Tag::Locked)),
+        (4, None),
+        (12, Some(Tag::Obsolete(1))),
+        (
+            9_223_372_036_854_775_804,
+            Some(Tag::Obsolete((1 << 60) - 1)),
+        ),
+        (9_223_372_036_854_775_820, None),
+    ] {
+        let tag = unpack_state(word);
+        assert!(rt; tag.ok() == want, "at {word}");
+        if let Ok(tag) = tag {
+            assert!(rt; pack_state(tag) == word, "at {word}");
+        }
+    }
+    let node = Entry::Node {
+        number: 3,
+        height: 2,
+    };
+    for (word, want) in [
+        (0, Some(None)),
+        (3, None),
+        (21, Some(Some(Entry::Leaf(5)))),
+        (0x4_0000_0001, None),
+        (34_359_738_382, Some(Some(node))),
+    ] {
+        let entry = unpack_entry(word);
+        assert!(rt; entry.ok() == want, "at {word}");
+        if let Ok(entry) = entry {
+            assert!(rt; pack_entry(entry) == word, "at {word}");
+        }
+    }
+}
+
+#[test]
+fn leaves_and_nodes_have_their_words(rt: HostRuntime) {
+    let leaf = words_of_leaf(b'a', 5);
+    assert!(rt; pack_leaf(&key(&rt, b"a"), 5) == leaf);
+    assert!(rt; unpack_leaf(&leaf).ok() == Some((key(&rt, b"a"), 5)));
+    assert!(rt; pack_leaf(&key(&rt, &[0xab; 240]), u64::MAX)[31] == 0xabab_abab_abab_abab);
+    let node = words_of_three();
+    assert!(rt; pack_node(&three()) == node);
+    match unpack_node(&node) {
+        Ok(same) => assert!(rt; pack_node(&same) == node),
+        Err(_) => panic!(rt; "no node"),
+    }
+}
+
+// Of a node: a number, an unused position, an unused sparse partial key, an unused entry and a lower bit that are off. Of a leaf: a
+// byte behind the key and a length.
+#[test]
+fn other_words_are_refused(rt: HostRuntime) {
+    for (at, word) in [
+        (0, 0x1_0204),
+        (2, 0),
+        (24, 0),
+        (56, 1),
+        (9, 0x8000_0000_0000_0001),
+    ] {
+        let mut words = words_of_three();
+        words[at] = word;
+        assert!(rt; unpack_node(&words).is_err(), "at {at}");
+    }
+    for (at, word) in [(31, 1), (1, 241)] {
+        let mut words = words_of_leaf(b'a', 5);
+        words[at] = word;
+        assert!(rt; unpack_leaf(&words).is_err(), "at {at}");
+    }
+    let mut head = [0; HEAD_WORDS];
+    assert!(rt; unpack_head(&head).is_err());
+    let words = words_of_three();
+    for i in 0..HEAD_WORDS {
+        head[i] = words[i];
+    }
+    assert!(rt; unpack_head(&head).is_ok());
+}

@@ -1,0 +1,342 @@
+//! The trees that words show, and runs that a replay checks event by event.
+
+use crate::nodes::{key, words_of_leaf, words_of_three};
+use compound_node::{Entry, Node};
+use record_words::{LEAF_FIELDS, Layout, NODE_FIELDS, pack_node};
+use replay_trees::{Linked, read_tree};
+use rowex_core::{Act, Event, Rec, Spot, Target};
+use rowex_replay::{Replay, ReplayFault};
+use std::alloc::Global;
+use std::process::Abort;
+
+/// What the leaves a, b, c and q show below these nodes, with one leaf that is not linked and spells no key.
+fn tree(
+    rt: &impl Abort,
+    alloc: Global,
+    nodes: &[[u64; NODE_FIELDS]],
+    root: Option<Entry>,
+) -> Option<Linked> {
+    let leaves = [
+        words_of_leaf(b'a', 10),
+        words_of_leaf(b'b', 20),
+        words_of_leaf(b'c', 30),
+        words_of_leaf(b'q', 40),
+        [7; LEAF_FIELDS],
+    ];
+    match read_tree(alloc, nodes, &leaves, root) {
+        Ok(linked) => linked,
+        Err(_) => panic!(rt; "no memory"),
+    }
+}
+
+#[test]
+fn words_show_a_tree_of_three_leaves(rt: HostRuntime) {
+    let nodes = [words_of_three(), [9; NODE_FIELDS]];
+    let (number, height) = (0, 1);
+    match tree(
+        &rt,
+        rt.alloc(),
+        &nodes,
+        Some(Entry::Node { number, height }),
+    ) {
+        Some(linked) => {
+            assert!(rt; linked.items.len() == 3);
+            for (i, item) in linked.items.iter().enumerate() {
+                assert!(rt; item.key == key(&rt, &[b'a' + i as u8]));
+                assert!(rt; item.number as usize == i && item.value == 10 * (i as u64 + 1));
+            }
+            assert!(rt; linked.nodes.as_slice() == [true, false].as_slice());
+            assert!(rt; linked.leaves.as_slice() == [true, true, true, false, false].as_slice());
+        }
+        None => panic!(rt; "no tree"),
+    }
+}
+
+// The root is a leaf where its height is 0. Lawful are a leaf, the tree of three leaves, and that with a node of the greatest height.
+// The others have a leaf twice, one outside the table, one without a key, one that parts elsewhere, two in the other order, a root of
+// another height, one outside the table, a root leaf without a key, one outside the table, and a node of too great a height.
+#[test]
+fn other_words_show_other_trees_or_none(rt: HostRuntime) {
+    for (i, (below, second, third, number, height, want)) in [
+        (1, 5, 9, 3, 0, Some(1)),
+        (1, 5, 9, 0, 1, Some(3)),
+        (2153, 5, 9, 0, 2153, Some(3)),
+        (1, 1, 9, 0, 1, None),
+        (1, 5, 21, 0, 1, None),
+        (1, 5, 17, 0, 1, None),
+        (1, 5, 13, 0, 1, None),
+        (1, 9, 5, 0, 1, None),
+        (1, 5, 9, 0, 2, None),
+        (1, 5, 9, 1, 1, None),
+        (1, 5, 9, 4, 0, None),
+        (1, 5, 9, 5, 0, None),
+        (2154, 5, 9, 0, 2154, None),
+    ]
+    .iter()
+    .enumerate()
+    {
+        let mut words = words_of_three();
+        words[0] = 0x203 | *below << 16;
+        words[26] = *second;
+        words[27] = *third;
+        let (number, height) = (*number, *height);
+        let root = if height == 0 {
+            Entry::Leaf(number)
+        } else {
+            Entry::Node { number, height }
+        };
+        let found = tree(&rt, rt.alloc(), &[words], Some(root));
+        assert!(rt; found.map(|linked| linked.items.len()) == *want, "at {i}");
+    }
+    assert!(rt; tree(&rt, rt.alloc(), &[], None).is_some());
+}
+
+/// An event of a pass: the act, and what its words and numbers are.
+#[derive(Drop)]
+enum Step {
+    Claim(Rec, u64),
+    Fill(Rec, u8, u64),
+    Ready(Rec),
+    Release(Rec),
+    LoadRef(Spot, u64),
+    Lock(Target, u64),
+    Unlock(Target),
+    Publish(Spot, u64),
+    Mark(Rec, u64),
+    LoadEpoch(u64),
+    Advance(u64, u64),
+    SetPin(u64),
+    ClearPin,
+    LoadPin(u16, u64),
+    LoadState(Rec, u64),
+    GiveBack(Rec, u64, u64),
+}
+
+fn act_of(step: &Step) -> Act {
+    match *step {
+        Step::Claim(rec, found) => Act::Claim { rec, found },
+        Step::Fill(rec, offset, word) => Act::Fill { rec, offset, word },
+        Step::Ready(rec) => Act::Ready { rec },
+        Step::Release(rec) => Act::Release { rec },
+        Step::LoadRef(spot, word) => Act::LoadRef { spot, word },
+        Step::Lock(target, found) => Act::Lock { target, found },
+        Step::Unlock(target) => Act::Unlock { target },
+        Step::Publish(spot, word) => Act::Publish { spot, word },
+        Step::Mark(rec, epoch) => Act::Mark { rec, epoch },
+        Step::LoadEpoch(word) => Act::LoadEpoch { word },
+        Step::Advance(expected, found) => Act::Advance { expected, found },
+        Step::SetPin(word) => Act::SetPin { word },
+        Step::ClearPin => Act::ClearPin,
+        Step::LoadPin(of, word) => Act::LoadPin { of, word },
+        Step::LoadState(rec, word) => Act::LoadState { rec, word },
+        Step::GiveBack(rec, epoch, found) => Act::GiveBack { rec, epoch, found },
+    }
+}
+
+/// A pass's event, and whether it is legal where it comes.
+type Line = (u16, Step, bool);
+
+/// Each event is accepted where it is legal, and refused where it is not.
+fn expect_all(rt: &impl Abort, replay: &mut Replay, lines: &[Line]) {
+    for (i, (pass, step, legal)) in lines.iter().enumerate() {
+        let (pass, act) = (*pass, act_of(step));
+        let answer = replay.step(Event { pass, act });
+        assert!(rt; answer.is_ok() == *legal, "at {i}");
+        assert!(rt;
+            matches!(answer, Err(ReplayFault::Illegal)) != *legal,
+            "at {i}"
+        );
+    }
+}
+
+/// A record is claimed, filled and made ready.
+fn make(rt: &impl Abort, replay: &mut Replay, pass: u16, rec: Rec, words: &[u64]) {
+    expect_all(rt, replay, &[(pass, Step::Claim(rec, 0), true)]);
+    for (offset, word) in (1..64u8).zip(words.iter()) {
+        expect_all(rt, replay, &[(pass, Step::Fill(rec, offset, *word), true)]);
+    }
+    expect_all(rt, replay, &[(pass, Step::Ready(rec), true)]);
+}
+
+/// So many changes were made, and these keys of one byte have these values.
+fn expect_pairs(rt: &impl Abort, alloc: Global, replay: &Replay, changes: u64, want: &[(u8, u64)]) {
+    assert!(rt; replay.changes() == changes);
+    match replay.content(alloc) {
+        Ok(pairs) => {
+            assert!(rt; pairs.len() == want.len());
+            for ((key, value), (byte, number)) in pairs.iter().zip(want) {
+                assert!(rt; key.as_bytes() == [*byte].as_slice() && *value == *number);
+            }
+        }
+        Err(_) => panic!(rt; "no memory"),
+    }
+}
+
+/// A replay of no event yet.
+fn begun(rt: &impl Abort, alloc: Global, passes: u32, nodes: u32, leaves: u32) -> Replay {
+    let Ok(layout) = Layout::of(passes, nodes, leaves) else {
+        panic!(rt; "no layout");
+    };
+    match Replay::new(alloc, layout) {
+        Ok(replay) => replay,
+        Err(_) => panic!(rt; "no memory"),
+    }
+}
+
+const LEAF: Rec = Rec::Leaf(0);
+
+const NO_RECORD: [Line; 24] = [
+    (0, Step::Claim(LEAF, 0), true),
+    (0, Step::Claim(LEAF, 0), false),
+    (0, Step::Claim(LEAF, 1), true),
+    (0, Step::Release(LEAF), true),
+    (0, Step::Release(LEAF), false),
+    (1, Step::Claim(LEAF, 0), false),
+    (0, Step::Claim(Rec::Leaf(1), 0), false),
+    (0, Step::Lock(Target::Node(0), 0), true),
+    (0, Step::Unlock(Target::Node(0)), false),
+    (0, Step::SetPin(1), false),
+    (0, Step::LoadEpoch(1), true),
+    (0, Step::SetPin(1), true),
+    (0, Step::SetPin(1), false),
+    (0, Step::ClearPin, true),
+    (0, Step::Advance(1, 1), true),
+    (0, Step::LoadEpoch(2), true),
+    (0, Step::GiveBack(LEAF, 1, 0), false),
+    (0, Step::LoadPin(0, 0), true),
+    (0, Step::GiveBack(LEAF, 2, 0), false),
+    (0, Step::GiveBack(LEAF, 1, 0), true),
+    (0, Step::LoadState(LEAF, 0), true),
+    (0, Step::Publish(Spot::Root, 1), false),
+    (0, Step::Lock(Target::Anchor, 2), true),
+    (0, Step::Publish(Spot::Root, 1), false),
+];
+
+const ONE_LEAF: [Line; 6] = [
+    (0, Step::Publish(Spot::Root, 1), true),
+    (0, Step::Unlock(Target::Anchor), true),
+    (0, Step::Unlock(Target::Anchor), false),
+    (0, Step::LoadRef(Spot::Root, 1), true),
+    (0, Step::LoadRef(Spot::Root, 5), false),
+    (0, Step::Mark(LEAF, 1), false),
+];
+
+#[test]
+fn one_leaf_is_published(rt: HostRuntime) {
+    let mut replay = begun(&rt, rt.alloc(), 1, 1, 1);
+    expect_all(&rt, &mut replay, &NO_RECORD);
+    expect_pairs(&rt, rt.alloc(), &replay, 0, &[]);
+    make(&rt, &mut replay, 0, LEAF, &words_of_leaf(b'a', 5));
+    expect_all(&rt, &mut replay, &ONE_LEAF);
+    expect_pairs(&rt, rt.alloc(), &replay, 1, &[(b'a', 5)]);
+}
+
+/// The words of a reference to node 0 and to node 1, each of height 1.
+const NODE_0: u64 = 17_179_869_186;
+
+const NODE_1: u64 = 17_179_869_190;
+
+const OLD: Rec = Rec::Node(0);
+
+// Two keys at once are refused, and one after the other they are not.
+const TWO_KEYS: [Line; 10] = [
+    (0, Step::Publish(Spot::Root, 1), false),
+    (0, Step::Lock(Target::Anchor, 2), true),
+    (0, Step::Publish(Spot::Root, NODE_0), false),
+    (0, Step::Publish(Spot::Root, 1), true),
+    (0, Step::Publish(Spot::Root, NODE_0), true),
+    (0, Step::Unlock(Target::Anchor), true),
+    (1, Step::LoadEpoch(1), true),
+    (1, Step::SetPin(1), true),
+    (1, Step::Lock(Target::Node(0), 2), true),
+    (1, Step::Lock(Target::Anchor, 2), true),
+];
+
+// Node 1 takes the place of node 0, which is marked after the epoch was loaded.
+const GROWN: [Line; 8] = [
+    (0, Step::Publish(Spot::Root, NODE_1), false),
+    (1, Step::Mark(OLD, 1), false),
+    (1, Step::Publish(Spot::Root, NODE_1), true),
+    (1, Step::Mark(OLD, 1), false),
+    (1, Step::Unlock(Target::Node(0)), false),
+    (1, Step::LoadEpoch(1), true),
+    (1, Step::Mark(OLD, 1), true),
+    (1, Step::Unlock(Target::Anchor), true),
+];
+
+// Pass 1 is pinned by the epoch of the mark: pass 0 gives the node back once it has found no pin in a round that began later.
+const GIVEN_BACK: [Line; 14] = [
+    (0, Step::Advance(1, 1), true),
+    (0, Step::LoadEpoch(2), true),
+    (0, Step::LoadPin(0, 0), true),
+    (0, Step::LoadPin(1, 1), true),
+    (0, Step::GiveBack(OLD, 1, 12), false),
+    (1, Step::ClearPin, true),
+    (0, Step::LoadPin(1, 0), true),
+    (0, Step::GiveBack(OLD, 1, 12), false),
+    (0, Step::LoadEpoch(2), true),
+    (0, Step::LoadPin(0, 0), true),
+    (0, Step::GiveBack(OLD, 1, 12), false),
+    (0, Step::LoadPin(1, 0), true),
+    (0, Step::GiveBack(OLD, 1, 12), true),
+    (0, Step::LoadState(OLD, 0), true),
+];
+
+const FIRST: Spot = Spot::Slot { node: 1, entry: 0 };
+
+// Leaf 3 takes the place of leaf 0 under the lock of its node.
+const REPLACED: [Line; 8] = [
+    (0, Step::Publish(FIRST, 13), false),
+    (0, Step::Lock(Target::Node(1), 2), true),
+    (1, Step::Lock(Target::Node(1), 3), true),
+    (1, Step::Publish(FIRST, 13), false),
+    (0, Step::Publish(FIRST, 13), true),
+    (0, Step::LoadEpoch(2), true),
+    (0, Step::Mark(LEAF, 2), true),
+    (0, Step::Unlock(Target::Node(1)), true),
+];
+
+// Node 0 without c takes the place of node 1, which is to be locked for that.
+const REMOVED: [Line; 8] = [
+    (0, Step::Lock(Target::Anchor, 2), true),
+    (0, Step::Publish(Spot::Root, NODE_0), false),
+    (0, Step::Lock(Target::Node(1), 2), true),
+    (0, Step::Publish(Spot::Root, NODE_0), true),
+    (0, Step::LoadEpoch(2), true),
+    (0, Step::Mark(Rec::Leaf(2), 2), true),
+    (0, Step::Mark(Rec::Node(1), 2), true),
+    (0, Step::Unlock(Target::Anchor), true),
+];
+
+#[test]
+fn a_node_grows_and_shrinks(rt: HostRuntime) {
+    let mut replay = begun(&rt, rt.alloc(), 2, 2, 4);
+    let two = Node::pair(7, Entry::Leaf(0), Entry::Leaf(1));
+    make(&rt, &mut replay, 0, LEAF, &words_of_leaf(b'a', 5));
+    make(&rt, &mut replay, 0, Rec::Leaf(1), &words_of_leaf(b'b', 6));
+    make(&rt, &mut replay, 0, OLD, &pack_node(&two));
+    expect_all(&rt, &mut replay, &TWO_KEYS);
+    expect_pairs(&rt, rt.alloc(), &replay, 2, &[(b'a', 5), (b'b', 6)]);
+    make(&rt, &mut replay, 1, Rec::Leaf(2), &words_of_leaf(b'c', 7));
+    make(&rt, &mut replay, 1, Rec::Node(1), &words_of_three());
+    expect_all(&rt, &mut replay, &GROWN);
+    expect_all(&rt, &mut replay, &GIVEN_BACK);
+    expect_pairs(
+        &rt,
+        rt.alloc(),
+        &replay,
+        3,
+        &[(b'a', 5), (b'b', 6), (b'c', 7)],
+    );
+    make(&rt, &mut replay, 0, Rec::Leaf(3), &words_of_leaf(b'a', 9));
+    expect_all(&rt, &mut replay, &REPLACED);
+    make(
+        &rt,
+        &mut replay,
+        0,
+        OLD,
+        &pack_node(&two.replace(0, Entry::Leaf(3))),
+    );
+    expect_all(&rt, &mut replay, &REMOVED);
+    expect_pairs(&rt, rt.alloc(), &replay, 5, &[(b'a', 9), (b'b', 6)]);
+}
