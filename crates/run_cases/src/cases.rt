@@ -1,0 +1,153 @@
+//! What the lines of a case say.
+
+use hot_model::Call;
+use key_bits::{Key, MAX_BYTES};
+use std::alloc::Global;
+use std::io;
+use std::io::ErrorKind;
+
+/// What a pass may do: make a call, list so many pairs from the lowest key on, or make a round of collection.
+#[derive(Drop)]
+pub enum Deed {
+    Make(Call),
+    List(usize),
+    Collect,
+}
+
+/// A small index, and what is done on it.
+#[derive(Drop)]
+pub struct Case<'a> {
+    pub alloc: Global,
+    pub nodes: u32,
+    pub leaves: u32,
+    /// What pass 0 does beforehand.
+    pub before: Vec<Deed>,
+    /// What another pass does at a stop: each of these lines once.
+    pub others: Vec<&'a str>,
+    /// The keys of what is done by chance.
+    pub keys: Vec<Key>,
+}
+
+impl<'a> Case<'a> {
+    pub fn new(alloc: Global) -> Case<'a> {
+        Case {
+            alloc,
+            nodes: 1,
+            leaves: 1,
+            before: Vec::new(alloc),
+            others: Vec::new(alloc),
+            keys: Vec::new(alloc),
+        }
+    }
+
+    /// Begins a new case, on an index of so many nodes and leaves.
+    pub fn begin(&mut self, text: &str) -> io::Result<()> {
+        (self.nodes, self.leaves) = two_of(text)?;
+        self.before.clear();
+        self.others.clear();
+        self.keys.clear();
+        Ok(())
+    }
+}
+
+/// Why a case isn't run: a line that says nothing.
+pub fn bad_line() -> io::Error {
+    io::Error::from(ErrorKind::InvalidInput)
+}
+
+/// The two numbers of a text.
+pub fn two_of(text: &str) -> io::Result<(u32, u32)> {
+    match text.split_once(' ') {
+        Some((first, second)) => Ok((count(first)?, count(second)?)),
+        None => Err(bad_line()),
+    }
+}
+
+/// The number that a word stands for.
+fn number(word: &str) -> io::Result<u64> {
+    word.parse::<u64>().map_err(|_| bad_line())
+}
+
+/// The number that a word stands for, if it is of 32 bits.
+fn count(word: &str) -> io::Result<u32> {
+    word.parse::<u32>().map_err(|_| bad_line())
+}
+
+/// Adds the deeds of a line, which commas part.
+pub fn deeds_of(deeds: &mut Vec<Deed>, text: &str) -> io::Result<()> {
+    let alloc = *deeds.allocator();
+    for part in text.split(',') {
+        let words: Vec<&str> = part.split_whitespace().collect(alloc)?;
+        push_deeds(deeds, &words)?;
+    }
+    Ok(())
+}
+
+/// Adds the deed that these words stand for: of a call, one for each of its keys.
+fn push_deeds(deeds: &mut Vec<Deed>, words: &[&str]) -> io::Result<()> {
+    let (name, word, value) = match *words {
+        ["collect"] => return Ok(deeds.push(Deed::Collect)?),
+        ["scan", limit] => return Ok(deeds.push(Deed::List(count(limit)? as usize))?),
+        [name, word] => (name, word, 0),
+        [name, word, value] => (name, word, number(value)?),
+        _ => return Err(bad_line()),
+    };
+    let mut keys = Vec::new(*deeds.allocator());
+    push_keys(&mut keys, word)?;
+    for key in keys {
+        deeds.push(Deed::Make(call_of(name, key, value)?))?;
+    }
+    Ok(())
+}
+
+/// The call of this name.
+fn call_of(name: &str, key: Key, value: u64) -> io::Result<Call> {
+    match name {
+        "insert" => Ok(Call::Insert(key, value)),
+        "upsert" => Ok(Call::Upsert(key, value)),
+        "remove" => Ok(Call::Remove(key)),
+        "get" => Ok(Call::Get(key)),
+        _ => Err(bad_line()),
+    }
+}
+
+/// Adds the keys that these words stand for, each in hexadecimal digits, or a dash where it is empty. Two bytes with two dots
+/// between them stand for all keys of one byte from the first to the last.
+pub fn push_keys(keys: &mut Vec<Key>, text: &str) -> io::Result<()> {
+    for word in text.split_whitespace() {
+        match word.split_once("..") {
+            Some((first, last)) => {
+                let (first, last) = (byte_of(first)?, byte_of(last)?);
+                for byte in first..=last {
+                    keys.push(key_of(&[byte])?)?;
+                }
+            }
+            None => keys.push(key(word)?)?,
+        }
+    }
+    Ok(())
+}
+
+fn byte_of(word: &str) -> io::Result<u8> {
+    let mut room = [0u8; 1];
+    hex::decode_to_slice(word, &mut room).map_err(|_| bad_line())?;
+    Ok(room[0])
+}
+
+/// The key of a word of hexadecimal digits.
+fn key(word: &str) -> io::Result<Key> {
+    if word == "-" {
+        return key_of(&[]);
+    }
+    if word.len() > 2 * MAX_BYTES {
+        return Err(bad_line());
+    }
+    let mut room = [0u8; MAX_BYTES];
+    let bytes = &mut room[..word.len() / 2];
+    hex::decode_to_slice(word, bytes).map_err(|_| bad_line())?;
+    key_of(bytes)
+}
+
+fn key_of(bytes: &[u8]) -> io::Result<Key> {
+    Key::from_bytes(bytes).map_err(|_| bad_line())
+}

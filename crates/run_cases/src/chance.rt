@@ -1,0 +1,79 @@
+//! Runs of two passes by chance, the deeds of one in the middle of the other's.
+
+ghost use Rattle.std.specs.Prelude.{All};
+ghost use Rattle.hot_index.specs.Passes.{Owns};
+
+use crate::cases::{Case, Deed, two_of};
+use crate::guests::{Guest, lowest, open};
+use crate::judge::{Stopper, seated, verdict};
+use hot_model::Call;
+use key_bits::Key;
+use std::alloc::AllocError;
+use std::io;
+
+/// Numbers that follow no plan, always the same from the same seed.
+#[derive(Drop)]
+pub struct Chance(pub u64);
+
+impl Chance {
+    /// A number below the bound, or 0 where that is 0.
+    pub fn below(&mut self, bound: u64) -> u64 {
+        self.0 = self
+            .0
+            .wrapping_mul(6_364_136_223_846_793_005)
+            .wrapping_add(1_442_695_040_888_963_407);
+        (self.0 >> 33).checked_rem(bound).unwrap_or(0)
+    }
+
+    /// A deed with one of the keys, and with this value where it takes one.
+    pub fn deed(&mut self, keys: &[Key], value: u64) -> Deed {
+        let kind = self.below(16);
+        let key = match keys.get(self.below(keys.len() as u64) as usize) {
+            Some(key) => key.copy(),
+            None => lowest(),
+        };
+        match kind {
+            0..=4 => Deed::Make(Call::Insert(key, value)),
+            5..=8 => Deed::Make(Call::Upsert(key, value)),
+            9..=12 => Deed::Make(Call::Remove(key)),
+            13 => Deed::Make(Call::Get(key)),
+            14 => Deed::List(4),
+            _ => Deed::Collect,
+        }
+    }
+}
+
+/// Runs turns on the index of a case: from a seed, so many.
+pub fn run_turns<R: Print + AllocGlobal>(rt: &R, case: &Case, text: &str) -> io::Result<()> {
+    let (seed, turns) = two_of(text)?;
+    let (index, passes) = open(case.alloc, 2, case.nodes, case.leaves)?;
+    let (mut guest, mut gate) = seated(case, &index, passes)?;
+    let mut chance = Chance(u64::from(seed));
+    for turn in 0..u64::from(turns) {
+        take_turn(case, &mut guest, &mut gate, &mut chance, turn)?;
+    }
+    println!(rt; "{turns} turns from {seed}: {}", verdict(gate.judge.wrong))
+}
+
+/// A deed by chance, in the middle of which the other pass makes another one. Now and then the index is compared with the replay.
+fn take_turn(
+    case: &Case,
+    guest: &mut Guest,
+    gate: &mut Stopper,
+    chance: &mut Chance,
+    turn: u64,
+) -> Result<(), AllocError> {
+    let deed = chance.deed(&case.keys, turn);
+    gate.deeds.clear();
+    gate.deeds.push(chance.deed(&case.keys, turn))?;
+    gate.left = chance.below(160).wrapping_add(1);
+    let mut said = String::new(case.alloc);
+    guest.does(&[deed], gate, &mut said)?;
+    if turn % 32 == 0 {
+        gate.left = 0;
+        gate.said.clear();
+        gate.judge.told.clear();
+        gate.judge.compare(case.alloc, guest)?;
+    }
+    Ok(())
+}

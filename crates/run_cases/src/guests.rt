@@ -1,0 +1,134 @@
+//! Passes at their index.
+
+ghost use Rattle.std.specs.Prelude.{IfOk, All};
+ghost use Rattle.hot_index.specs.Passes.{Owns};
+
+use crate::cases::{Deed, bad_line};
+use hot_index::{Gate, Index, Pass, Reply, Scan, TryFault, create};
+use hot_model::Call;
+use key_bits::Key;
+use std::alloc::{AllocError, Global};
+use std::io;
+
+/// An index of so many passes, nodes and leaves, and its passes.
+pub fn open(alloc: Global, passes: u32, nodes: u32, leaves: u32) -> io::Result<(Index, Vec<Pass>)>
+    ensures { IfOk result (λ made. All (Owns made.0) made.1.items) }
+{
+    match create(alloc, passes, nodes, leaves) {
+        Ok(made) => Ok(made),
+        Err(_) => Err(bad_line()),
+    }
+}
+
+/// A pass at its index.
+#[derive(Drop)]
+pub struct Guest<'a> {
+    index: &'a Index,
+    pass: Pass,
+    ghost owns: { Owns index.now pass },
+}
+
+/// The last of the passes that are left, at its index.
+pub fn next_guest<'a>(index: &'a Index, passes: &mut Vec<Pass>) -> io::Result<Guest<'a>>
+    requires { All (Owns index.now) passes.old.items }
+    ensures { All (Owns index.now) passes.new.items }
+{
+    match passes.pop() {
+        Some(pass) => Ok(Guest { index, pass }),
+        None => Err(bad_line()),
+    }
+}
+
+/// A pass at its index.
+pub fn guest_of(index: &Index, pass: Pass) -> Guest<'_>
+    requires { Owns index.now pass }
+{
+    Guest { index, pass }
+}
+
+impl<'a> Guest<'a> {
+    /// The number of the pass.
+    pub fn number(&self) -> u16 {
+        self.pass.number()
+    }
+
+    /// Does all this, with a gate that is told each step, and adds what was answered, each time behind a semicolon.
+    pub fn does<G: Gate>(
+        &mut self,
+        deeds: &[Deed],
+        gate: &mut G,
+        said: &mut String,
+    ) -> Result<(), AllocError> {
+        for deed in deeds.iter() {
+            said.push_str("; ")?;
+            match deed {
+                Deed::Make(call) => say(said, self.make(call, gate))?,
+                Deed::List(limit) => {
+                    let scan = self.list(*said.allocator(), *limit, gate)?;
+                    for (_, value) in scan.pairs.iter() {
+                        write!(said, "{value} ")?;
+                    }
+                    said.push_str(if scan.more { "and more" } else { "listed" })?;
+                }
+                Deed::Collect => {
+                    let given = self.index.collect_with(&mut self.pass, gate);
+                    write!(said, "given {} {}", given.nodes, given.leaves)?;
+                }
+            }
+        }
+        Ok(())
+    }
+
+    /// So many pairs from the lowest key on.
+    pub fn list<G: Gate>(
+        &mut self,
+        alloc: Global,
+        limit: usize,
+        gate: &mut G,
+    ) -> Result<Scan, AllocError> {
+        self.index
+            .scan_with(alloc, &mut self.pass, &lowest(), &highest(), limit, gate)
+    }
+
+    fn make<G: Gate>(&mut self, call: &Call, gate: &mut G) -> Result<Reply, TryFault> {
+        let (index, pass) = (self.index, &mut self.pass);
+        match call {
+            Call::Insert(key, value) => index.try_insert_with(pass, key, *value, gate),
+            Call::Upsert(key, value) => index.try_upsert_with(pass, key, *value, gate),
+            Call::Remove(key) => index.try_remove_with(pass, key, gate),
+            Call::Get(key) => Ok(match index.get_with(pass, key, gate) {
+                Some(value) => Reply::Value(value),
+                None => Reply::Absent,
+            }),
+        }
+    }
+}
+
+/// The key of no bytes, below which there is none.
+pub fn lowest() -> Key {
+    Key::of_places([0; 240], 0)
+}
+
+/// The key of 240 bytes 255, above which there is none.
+fn highest() -> Key {
+    match Key::from_bytes(&[255; 240]) {
+        Ok(key) => key,
+        Err(_) => lowest(),
+    }
+}
+
+/// Adds what a call was answered.
+fn say(said: &mut String, told: Result<Reply, TryFault>) -> Result<(), AllocError> {
+    match told {
+        Ok(Reply::Inserted) => said.push_str("inserted"),
+        Ok(Reply::Exists(value)) => write!(said, "exists {value}"),
+        Ok(Reply::New) => said.push_str("new"),
+        Ok(Reply::Was(value)) => write!(said, "was {value}"),
+        Ok(Reply::Value(value)) => write!(said, "value {value}"),
+        Ok(Reply::Absent) => said.push_str("none"),
+        Ok(Reply::Removed(value)) => write!(said, "removed {value}"),
+        Err(TryFault::Busy) => said.push_str("busy"),
+        Err(TryFault::FullNodes) => said.push_str("full nodes"),
+        Err(TryFault::FullLeaves) => said.push_str("full leaves"),
+    }
+}

@@ -1,0 +1,110 @@
+//! Gates that judge each step of a run: one alone, and one that stops the run for another pass.
+
+ghost use Rattle.std.specs.Prelude.{All};
+ghost use Rattle.hot_index.specs.Passes.{Owns};
+
+use crate::cases::{Case, Deed, bad_line};
+use crate::guests::{Guest, next_guest};
+use hot_index::{Event, Gate, Index, Pass};
+use record_words::Layout;
+use rowex_replay::Replay;
+use std::alloc::{AllocError, Global};
+use std::io;
+
+/// Judges each step that it is told by a replay, and keeps it. It counts what was wrong.
+#[derive(Drop)]
+pub struct Judge {
+    replay: Replay,
+    pub told: Vec<Event>,
+    pub wrong: u64,
+}
+
+impl Judge {
+    /// A judge of an index that was just made, of so many passes, nodes and leaves.
+    pub fn new(alloc: Global, passes: u32, nodes: u32, leaves: u32) -> io::Result<Judge> {
+        let layout = Layout::of(passes, nodes, leaves).map_err(|_| bad_line())?;
+        Ok(Judge {
+            replay: Replay::new(alloc, layout)?,
+            told: Vec::new(alloc),
+            wrong: 0,
+        })
+    }
+
+    /// Holds what a scan of all keys finds against what the steps so far have made.
+    pub fn compare(&mut self, alloc: Global, guest: &mut Guest) -> Result<(), AllocError> {
+        let scan = guest.list(alloc, usize::MAX, self)?;
+        if scan.more || scan.pairs != self.replay.content(alloc)? {
+            self.wrong = self.wrong.wrapping_add(1);
+        }
+        Ok(())
+    }
+}
+
+impl Gate for Judge {
+    ghost becomes = { λ _ _ _. Unit {0} };
+
+    fn at(&mut self, event: &Event) {
+        if self.replay.step(*event).is_err() || self.told.push(*event).is_err() {
+            self.wrong = self.wrong.wrapping_add(1);
+        }
+    }
+}
+
+/// How the runs of a line went.
+pub fn verdict(wrong: u64) -> &'static str {
+    if wrong == 0 { "lawful" } else { "WRONG" }
+}
+
+/// Judges each step of a pass, and after one of them lets another pass do something, whose steps it judges too.
+#[derive(Drop)]
+pub struct Stopper<'a> {
+    pub judge: Judge,
+    other: Guest<'a>,
+    /// What the other pass does.
+    pub deeds: Vec<Deed>,
+    /// After how many steps from now on it does so; never, where that is 0.
+    pub left: u64,
+    /// What the other pass was answered.
+    pub said: String,
+}
+
+impl<'a> Gate for Stopper<'a> {
+    ghost becomes = { λ _ _ _. Unit {0} };
+
+    fn at(&mut self, event: &Event) {
+        self.judge.at(event);
+        if self.left == 1 {
+            let done = self
+                .other
+                .does(&self.deeds, &mut self.judge, &mut self.said);
+            if done.is_err() {
+                self.judge.wrong = self.judge.wrong.wrapping_add(1);
+            }
+        }
+        self.left = self.left.saturating_sub(1);
+    }
+}
+
+/// Pass 0 of an index of two passes that was just made for a case, once it has done what is done beforehand; and its gate, which
+/// stops it for pass 1.
+pub fn seated<'a>(
+    case: &Case,
+    index: &'a Index,
+    mut passes: Vec<Pass>,
+) -> io::Result<(Guest<'a>, Stopper<'a>)>
+    requires { All (Owns index.now) passes.items }
+{
+    let alloc = case.alloc;
+    let other = next_guest(index, &mut passes)?;
+    let mut guest = next_guest(index, &mut passes)?;
+    let mut gate = Stopper {
+        judge: Judge::new(alloc, 2, case.nodes, case.leaves)?,
+        other,
+        deeds: Vec::new(alloc),
+        left: 0,
+        said: String::new(alloc),
+    };
+    let mut said = String::new(alloc);
+    guest.does(&case.before, &mut gate, &mut said)?;
+    Ok((guest, gate))
+}

@@ -1,0 +1,75 @@
+//! Runs of several passes on small indexes, as cases in files ask for them: each step is judged by a replay, and what happened is
+//! printed. A line of a case is one of these; a deed is a call (`insert 61 5`), `scan 9` or `collect`, and commas part deeds.
+//!
+//! - `index NODES LEAVES` begins a new case, `before DEEDS` says what pass 0 does on each new index, `other DEEDS` what pass 1 may
+//!   do at a stop, and `keys KEY ..` with which keys deeds are made by chance
+//! - `steps DEEDS` prints each step of what pass 0 does
+//! - `stop DEEDS` stops pass 0 after each of its steps, for each of the `other` lines; `tell DEEDS` also prints what both were
+//!   answered, for each range of stops
+//! - `chance SEED TURNS` makes deeds by chance in the middle of others
+//! - `threads COUNT ORDERS` lets threads step one at a time, in orders made from seeds
+#![tactic(auto)]
+
+mod acts;
+mod cases;
+mod chance;
+mod guests;
+mod judge;
+mod stops;
+mod turns;
+
+use crate::cases::{Case, deeds_of, push_keys};
+use std::rt::{Env, Files};
+use std::thread::Threads;
+use std::{fs, io};
+
+/// Runs the cases in files of the names that the command line has.
+fn run<R>(rt: &R) -> io::Result<()>
+where
+    R: Env + Files + Print + AllocGlobal + Threads + Sync,
+{
+    for name in std::env::args(rt)?.skip(1) {
+        println!(rt; "{name}")?;
+        let text = fs::read_to_string(rt, name.as_str())?;
+        run_file(rt, text.as_str())?;
+    }
+    Ok(())
+}
+
+/// Runs the cases of a file, line by line.
+fn run_file<R>(rt: &R, text: &str) -> io::Result<()>
+where
+    R: Print + AllocGlobal + Threads + Sync,
+{
+    let mut case = Case::new(rt.alloc());
+    for line in text.lines() {
+        run_line(rt, &mut case, line)?;
+    }
+    Ok(())
+}
+
+/// Notes what a line says of the case, or makes the runs that it asks for.
+fn run_line<'a, R>(rt: &R, case: &mut Case<'a>, line: &'a str) -> io::Result<()>
+where
+    R: Print + AllocGlobal + Threads + Sync,
+{
+    let (word, rest) = line.split_once(' ').unwrap_or((line, ""));
+    match word {
+        "" | "#" => {}
+        "index" => case.begin(rest)?,
+        "before" => deeds_of(&mut case.before, rest)?,
+        "other" => case.others.push(rest)?,
+        "keys" => push_keys(&mut case.keys, rest)?,
+        "steps" => stops::print_steps(rt, case, rest)?,
+        "stop" => stops::stop_for_each(rt, case, rest, false)?,
+        "tell" => stops::stop_for_each(rt, case, rest, true)?,
+        "chance" => chance::run_turns(rt, case, rest)?,
+        "threads" => turns::run_seeds(rt, case, rest)?,
+        _ => return Err(cases::bad_line()),
+    }
+    Ok(())
+}
+
+fn main(rt: HostRuntime) -> io::Result<()> {
+    run(&rt)
+}

@@ -1,0 +1,180 @@
+//! Threads that step one at a time, in an order made from a seed: so the list of their steps is the order in which they were made.
+
+ghost use Rattle.std.specs.Prelude.{All};
+ghost use Rattle.hot_index.specs.Passes.{Owns};
+
+use crate::cases::{Case, two_of};
+use crate::chance::Chance;
+use crate::guests::{guest_of, next_guest, open};
+use crate::judge::{Judge, verdict};
+use hot_index::{Event, Gate, Index, Pass};
+use std::alloc::{AllocError, Global};
+use std::sync::atomic::{AtomicU64, Ordering};
+use std::thread::{Threads, map_vec};
+use std::{io, thread};
+
+/// Nobody's turn.
+const FREE: u64 = u64::MAX;
+/// How often a thread looks whether it is its turn before it gives up.
+const MAX_LOOKS: u32 = 50_000_000;
+/// How much a thread does.
+const DEEDS: u64 = 12;
+
+/// Whose turn it is to step, how many steps there were, which threads have begun and not ended, each a bit, and how many gave up.
+#[derive(Drop)]
+struct Rota {
+    seed: u64,
+    turn: AtomicU64,
+    steps: AtomicU64,
+    begun: AtomicU64,
+    lost: AtomicU64,
+}
+
+impl Rota {
+    /// Waits until it is this thread's turn.
+    fn wait(&self, number: u64) {
+        for _ in 0..MAX_LOOKS {
+            if self.turn.load(Ordering::SeqCst) == number
+                || self
+                    .turn
+                    .compare_exchange(FREE, number, Ordering::SeqCst, Ordering::SeqCst)
+                    .is_ok()
+            {
+                return;
+            }
+            thread::yield_now();
+        }
+        self.lost.fetch_add(1, Ordering::SeqCst);
+    }
+
+    /// Gives the turn to a thread by chance, of those that have begun and not ended; answers to which.
+    fn pass_on(&self, step: u64) -> u64 {
+        let begun = self.begun.load(Ordering::SeqCst);
+        let mut next = Chance(self.seed ^ step).below(4);
+        for _ in 0..3 {
+            if begun & bit(next) == 0 {
+                next = next.wrapping_add(1) & 3;
+            }
+        }
+        let turn = if begun & bit(next) == 0 { FREE } else { next };
+        self.turn.store(turn, Ordering::SeqCst);
+        turn
+    }
+}
+
+/// The bit of a thread, of which there are four.
+fn bit(number: u64) -> u64 {
+    1 << (number & 3)
+}
+
+/// Tells a thread's steps, each with its number among those of all threads, and lets another thread step now and then.
+#[derive(Drop)]
+struct Turns<'a> {
+    rota: &'a Rota,
+    number: u64,
+    told: Vec<(u64, Event)>,
+}
+
+impl<'a> Gate for Turns<'a> {
+    ghost becomes = { λ _ _ _. Unit {0} };
+
+    fn at(&mut self, event: &Event) {
+        let step = self.rota.steps.fetch_add(1, Ordering::SeqCst);
+        let _ = self.told.push((step, *event));
+        if Chance(self.rota.seed.wrapping_add(step)).below(4) == 0
+            && self.rota.pass_on(step) != self.number
+        {
+            self.rota.wait(self.number);
+        }
+    }
+}
+
+/// What a thread does, by chance. Answers its steps.
+fn work(case: &Case, rota: &Rota, index: &Index, pass: Pass) -> Vec<(u64, Event)>
+    requires { Owns index.now pass }
+{
+    let mut guest = guest_of(index, pass);
+    let number = u64::from(guest.number());
+    let mut chance = Chance(rota.seed.wrapping_add(number << 40));
+    let told = Vec::new(case.alloc);
+    let mut gate = Turns { rota, number, told };
+    let mut said = String::new(case.alloc);
+    rota.begun.fetch_add(bit(number), Ordering::SeqCst);
+    rota.wait(number);
+    for turn in 0..DEEDS {
+        let deed = chance.deed(&case.keys, turn);
+        if guest.does(&[deed], &mut gate, &mut said).is_err() {
+            rota.lost.fetch_add(1, Ordering::SeqCst);
+        }
+    }
+    rota.begun.fetch_sub(bit(number), Ordering::SeqCst);
+    rota.pass_on(rota.steps.load(Ordering::SeqCst));
+    gate.told
+}
+
+/// Has the steps of all threads judged, each at its number.
+fn judge_all(
+    alloc: Global,
+    judge: &mut Judge,
+    told: &[Vec<(u64, Event)>],
+) -> Result<(), AllocError> {
+    let mut total = 0usize;
+    for steps in told.iter() {
+        total = total.wrapping_add(steps.len());
+    }
+    let mut order = vec![in alloc; None; total]?;
+    for steps in told.iter() {
+        for (step, event) in steps.iter() {
+            if let Some(place) = order.get_mut(*step as usize) {
+                *place = Some(*event);
+            }
+        }
+    }
+    for event in order {
+        match event {
+            Some(event) => judge.at(&event),
+            None => judge.wrong = judge.wrong.wrapping_add(1),
+        }
+    }
+    Ok(())
+}
+
+/// Lets so many threads step in an order made from the seed. Answers how often something was wrong.
+fn run_seed<R: AllocGlobal + Threads + Sync>(
+    rt: &R,
+    case: &Case,
+    threads: u32,
+    seed: u64,
+) -> io::Result<u64> {
+    let passes = threads.wrapping_add(1);
+    let (index, mut seats) = open(case.alloc, passes, case.nodes, case.leaves)?;
+    let mut last = next_guest(&index, &mut seats)?;
+    let mut judge = Judge::new(case.alloc, passes, case.nodes, case.leaves)?;
+    let rota = Rota {
+        seed,
+        turn: AtomicU64::new(FREE),
+        steps: AtomicU64::new(0),
+        begun: AtomicU64::new(0),
+        lost: AtomicU64::new(0),
+    };
+    let step_in_turn = |pass: Pass| -> Vec<(u64, Event)>
+        requires { Owns index pass }
+    { work(case, &rota, &index, pass) };
+    let told = map_vec(rt, seats, &step_in_turn)?;
+    judge_all(case.alloc, &mut judge, &told)?;
+    judge.compare(case.alloc, &mut last)?;
+    Ok(judge.wrong.wrapping_add(rota.lost.load(Ordering::SeqCst)))
+}
+
+/// Lets so many threads, two to four, step in turns on the index of a case, in so many orders.
+pub fn run_seeds<R>(rt: &R, case: &Case, text: &str) -> io::Result<()>
+where
+    R: Print + AllocGlobal + Threads + Sync,
+{
+    let (threads, orders) = two_of(text)?;
+    let mut wrong = 0u64;
+    for seed in 0..u64::from(orders) {
+        wrong = wrong.wrapping_add(run_seed(rt, case, threads, seed << 20)?);
+    }
+    println!(rt; "{orders} orders of {threads} threads: {}", verdict(wrong))
+}
