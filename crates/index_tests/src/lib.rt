@@ -1,15 +1,20 @@
-//! Tests of the shared table, of pins and rounds, of new records and of the index, by what their crates make public.
+//! Tests of the index and of scripts by what no contract says: that calls are made where there is room, threads that really run at
+//! once, streams that fail, and memory that is refused.
 #![tactic(auto)]
 
 #[cfg(test)]
-mod gates;
+mod calls;
 #[cfg(test)]
-mod indexes;
+mod crowds;
+#[cfg(test)]
+mod gates;
 #[cfg(test)]
 mod made;
 #[cfg(test)]
-mod records;
+mod orders;
 #[cfg(test)]
-mod rounds;
+mod refused;
 #[cfg(test)]
-mod steps;
+mod streams;
+#[cfg(test)]
+mod threads;

@@ -1,19 +1,13 @@
-//! What the tests share: small tables with their seats, keys, and leaves that are claimed and filled.
+//! What the tests share: keys, numbers that follow no plan, an index, and its passes, each of which knows where it belongs.
 
-ghost use Rattle.std.specs.Prelude.{◌≡◌, ◌<◌, ◌≤◌, ℕ, List, All, IfOk, true};
-ghost use Rattle.moments.specs.declared.Rec.TheVariants.{Leaf as a_leaf};
-ghost use Rattle.rowex_core.specs.declared.known.Holding.TheVariants.{Ready as IsReady};
-ghost use Rattle.rowex_core.specs.Cores.{HasRecord};
-ghost use Rattle.rowex_core.specs.Events.{IsFixedOffset};
-ghost use Rattle.rowex_table.specs.Rights.{OwnsAs, IsClaimed};
-ghost use Rattle.rowex_table.specs.Seats.{IsPassOf, IsNewSeat};
+ghost use Rattle.std.specs.Prelude.{All};
+ghost use Rattle.hot_index.specs.Passes.{Owns};
 
-use key_bits::Key;
-use record_words::{Layout, pack_leaf};
-use rowex_core::{NoGate, Rec};
-use rowex_table::{HotTable, TableSeat};
+use crate::gates::Rounds;
+use hot_index::{Full, Gate, Index, Key, Pass, Reply, Scan, TryFault, create};
 use std::alloc::{AllocError, Global};
 use std::process::Abort;
+use std::sync::Wait;
 
 /// The key of these bytes, which are few enough.
 pub fn key(rt: &impl Abort, bytes: &[u8]) -> Key {
@@ -23,94 +17,140 @@ pub fn key(rt: &impl Abort, bytes: &[u8]) -> Key {
     }
 }
 
-/// A table of so many passes, nodes and leaves, and the seats of its passes.
-pub fn table_of(
+/// The first `count` keys of two bytes, in order.
+pub fn pair_keys(rt: &impl Abort, alloc: Global, count: u16) -> Vec<Key> {
+    let mut keys = Vec::new(alloc);
+    for number in 0..count {
+        let key = key(rt, &number.to_be_bytes());
+        assert!(rt; keys.push(key).is_ok());
+    }
+    keys
+}
+
+/// Numbers that follow no plan, always the same from the same seed.
+#[derive(Drop)]
+pub struct Chance(pub u64);
+
+impl Chance {
+    /// A number below the bound, or 0 where that is 0.
+    pub fn below(&mut self, bound: u64) -> u64 {
+        self.0 = self
+            .0
+            .wrapping_mul(6_364_136_223_846_793_005)
+            .wrapping_add(1_442_695_040_888_963_407);
+        (self.0 >> 33).checked_rem(bound).unwrap_or(0)
+    }
+}
+
+/// An index of so many passes, nodes and leaves, and its passes.
+pub fn index_of(
     rt: &impl Abort,
     alloc: Global,
     passes: u32,
     nodes: u32,
     leaves: u32,
-) -> Result<(HotTable, Vec<TableSeat>), AllocError>
-    ensures passes { IfOk result (λ made. made.0.layout.passes ≡ passes) }
-    ensures nodes { IfOk result (λ made. made.0.layout.nodes ≡ nodes) }
-    ensures leaves { IfOk result (λ made. made.0.layout.leaves ≡ leaves) }
-    ensures seats { IfOk result (λ made. All (IsNewSeat made.0) made.1.items) }
+) -> (Index, Vec<Pass>)
+    ensures { All (Owns result.0) result.1.items }
 {
-    match Layout::of(passes, nodes, leaves) {
-        Ok(layout) => HotTable::new(alloc, layout),
-        Err(_) => panic!(rt; "no layout"),
+    match create(alloc, passes, nodes, leaves) {
+        Ok(made) => made,
+        Err(_) => panic!(rt; "no index"),
     }
 }
 
-/// The last of the seats that are left.
-pub fn last_seat(rt: &impl Abort, table: &HotTable, seats: &mut Vec<TableSeat>) -> TableSeat
-    requires { All (IsNewSeat table.now) seats.old.items }
-    ensures rest { All (IsNewSeat table.now) seats.new.items }
-    ensures last { IsNewSeat table.now result }
+/// A pass at its index.
+#[derive(Drop)]
+pub struct Guest<'a> {
+    pub index: &'a Index,
+    pub pass: Pass,
+    ghost owns: { Owns index.now pass },
+}
+
+/// The last of the passes that are left, at its index.
+pub fn next_guest<'a>(rt: &impl Abort, index: &'a Index, passes: &mut Vec<Pass>) -> Guest<'a>
+    requires { All (Owns index.now) passes.old.items }
+    ensures { All (Owns index.now) passes.new.items }
 {
-    let _ = table;
-    match seats.pop() {
-        Some(seat) => seat,
-        None => panic!(rt; "no seat"),
+    match passes.pop() {
+        Some(pass) => Guest { index, pass },
+        None => panic!(rt; "no pass"),
     }
 }
 
-/// Claims a leaf; answers the state word that it found.
-pub fn claim(table: &HotTable, seat: &mut TableSeat, leaf: u32) -> u64
-    requires { IsPassOf table.now seat.old × (leaf < table.now.layout.leaves) }
-    ensures fits { IsPassOf table.now seat.new }
-    ensures has { result ≡ 0 → IsClaimed seat.new.known (a_leaf leaf) }
-    ensures pin { seat.new.known.pin ≡ seat.old.known.pin }
+/// The passes of an index, each at it, the last of them first.
+pub fn guests_of<'a>(
+    rt: &impl Abort,
+    alloc: Global,
+    index: &'a Index,
+    mut passes: Vec<Pass>,
+) -> Vec<Guest<'a>>
+    requires { All (Owns index.now) passes.items }
 {
-    table.claim(seat, &mut NoGate, Rec::Leaf(leaf))
-}
-
-/// Claims a leaf, fills it with a pair and makes it ready; answers whether it was free.
-pub fn make_leaf(table: &HotTable, seat: &mut TableSeat, leaf: u32, key: &Key, value: u64) -> bool
-    requires { IsPassOf table.now seat.old × (leaf < table.now.layout.leaves) }
-    ensures fits { IsPassOf table.now seat.new }
-    ensures pin { seat.new.known.pin ≡ seat.old.known.pin }
-    ensures has { result ≡ true → (words : List ℕ) × OwnsAs seat.new.known (a_leaf leaf) IsReady words }
-{
-    if claim(table, seat, leaf) != 0 {
-        return false;
+    let mut guests = Vec::new(alloc);
+    let count = passes.len();
+    for number in 0..count {
+        let _ = number;
+        let guest = next_guest(rt, index, &mut passes);
+        assert!(rt; guests.push(guest).is_ok());
     }
-    let words = pack_leaf(key, value);
-    for index in 0..32u8 {
-        table.fill(
-            seat,
-            &mut NoGate,
-            Rec::Leaf(leaf),
-            index + 1,
-            words[index as usize],
-        );
+    guests
+}
+
+impl<'a> Guest<'a> {
+    /// Makes a call, of a kind from 0 on: two of them insert, two upsert, two remove, and any further one gets.
+    pub fn ask<G: Gate>(
+        &mut self,
+        kind: u64,
+        key: &Key,
+        value: u64,
+        gate: &mut G,
+    ) -> Result<Reply, TryFault> {
+        let (index, pass) = (self.index, &mut self.pass);
+        match kind {
+            0 | 1 => index.try_insert_with(pass, key, value, gate),
+            2 | 3 => index.try_upsert_with(pass, key, value, gate),
+            4 | 5 => index.try_remove_with(pass, key, gate),
+            _ => Ok(match index.get_with(pass, key, gate) {
+                Some(value) => Reply::Value(value),
+                None => Reply::Absent,
+            }),
+        }
     }
-    table.ready(seat, &mut NoGate, Rec::Leaf(leaf));
-    true
-}
 
-/// Loads a word of a record that does not change while the record is live.
-pub fn load_word(table: &HotTable, seat: &mut TableSeat, rec: Rec, offset: u8) -> u64
-    requires fits { IsPassOf table.now seat.old × HasRecord table.now.layout rec }
-    requires offset { IsFixedOffset rec offset }
-    ensures { IsPassOf table.now seat.new }
-{
-    table.load_fixed(seat, &mut NoGate, rec, offset)
-}
+    /// Inserts a key by the call that waits.
+    pub fn insert<R: Wait>(&mut self, rt: &R, key: &Key, value: u64) -> Result<Reply, Full> {
+        self.index.insert(rt, &mut self.pass, key, value)
+    }
 
-/// Loads the state of a record.
-pub fn load_state(table: &HotTable, seat: &mut TableSeat, rec: Rec) -> u64
-    requires { IsPassOf table.now seat.old × HasRecord table.now.layout rec }
-    ensures fits { IsPassOf table.now seat.new }
-    ensures pin { seat.new.known.pin ≡ seat.old.known.pin }
-{
-    table.load_state(seat, &mut NoGate, rec)
-}
+    pub fn scan(
+        &mut self,
+        alloc: Global,
+        from: &Key,
+        upto: &Key,
+        limit: usize,
+    ) -> Result<Scan, AllocError> {
+        self.index.scan(alloc, &mut self.pass, from, upto, limit)
+    }
 
-/// Loads the epoch.
-pub fn load_epoch(table: &HotTable, seat: &mut TableSeat) -> u64
-    requires { IsPassOf table.now seat.old }
-    ensures { IsPassOf table.now seat.new }
-{
-    table.load_epoch(seat, &mut NoGate)
+    /// All keys with their values.
+    pub fn list(&mut self, rt: &impl Abort, alloc: Global) -> Vec<(Key, u64)> {
+        let (low, high) = (key(rt, b""), key(rt, &[255; 240]));
+        match self
+            .index
+            .scan(alloc, &mut self.pass, &low, &high, usize::MAX)
+        {
+            Ok(scan) => scan.pairs,
+            Err(_) => panic!(rt; "no memory"),
+        }
+    }
+
+    /// How many nodes and leaves are not free, after two rounds of collection.
+    pub fn taken(&mut self, rounds: &mut Rounds) -> (u32, u32) {
+        self.index.collect_with(&mut self.pass, rounds);
+        self.index.collect_with(&mut self.pass, rounds);
+        rounds.nodes = 0;
+        rounds.leaves = 0;
+        self.index.collect_with(&mut self.pass, rounds);
+        (rounds.nodes, rounds.leaves)
+    }
 }

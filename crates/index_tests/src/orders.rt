@@ -1,10 +1,17 @@
 //! Scripts by chance that run at the same time: one order of their commands explains all their answers.
 
-use crate::meetings::answers_of_meeting;
+use crate::gates::Meeting;
+use crate::made::Chance;
+use crate::streams::files_of;
+use hot_run::run_scripts_with;
 use std::alloc::{AllocError, Global};
+use std::process::Abort;
 use std::str;
 use std::str::Lines;
-use std::test::Fail;
+use std::sync::Wait;
+use std::sync::atomic::{AtomicU64, Ordering};
+use std::test::*;
+use std::thread::Threads;
 
 /// What a command has found and left at its key, if anything.
 #[derive(Clone, Copy)]
@@ -54,21 +61,6 @@ fn steps_of(
     Ok(Some(steps))
 }
 
-/// The steps of each script at this key.
-fn steps_at(alloc: Global, steps: &[Vec<Step>], key: u64) -> Result<Vec<Vec<Step>>, AllocError> {
-    let mut at_key = Vec::new(alloc);
-    for script in steps {
-        at_key.push(
-            script
-                .iter()
-                .copied()
-                .filter(|step| step.key == key)
-                .collect(alloc)?,
-        )?;
-    }
-    Ok(at_key)
-}
-
 /// How many steps of each of three scripts were made, and what they have left at their key. That is the same for each order that
 /// explains them, since each step says what it has found.
 #[derive(Clone, Copy, PartialEq)]
@@ -95,12 +87,21 @@ impl Front {
     }
 }
 
-/// What is left at the key after all steps in one order, where there is one that explains them.
-fn left_by(alloc: Global, steps: &[Vec<Step>]) -> Result<Option<Option<u64>>, AllocError> {
-    let count = steps
-        .iter()
-        .map(|steps| steps.len())
-        .fold(0usize, |sum, n| sum.wrapping_add(n));
+/// What is left at the key after all steps at it in one order, where there is one that explains them.
+fn left_by(
+    alloc: Global,
+    scripts: &[Vec<Step>],
+    key: u64,
+) -> Result<Option<Option<u64>>, AllocError> {
+    let (mut steps, mut count) = (Vec::new(alloc), 0usize);
+    for script in scripts {
+        let mut at_key = Vec::new(alloc);
+        for step in script.iter().copied().filter(|step| step.key == key) {
+            at_key.push(step)?;
+        }
+        count = count.wrapping_add(at_key.len());
+        steps.push(at_key)?;
+    }
     let mut fronts = vec![in alloc;
         Front {
             made: [0; 3],
@@ -111,7 +112,7 @@ fn left_by(alloc: Global, steps: &[Vec<Step>]) -> Result<Option<Option<u64>>, Al
         let mut later = Vec::new(alloc);
         for front in fronts.iter() {
             for script in 0..3usize {
-                if let Some(next) = front.after(steps, script)
+                if let Some(next) = front.after(&steps, script)
                     && !later.contains(&next)
                 {
                     later.push(next)?;
@@ -137,34 +138,23 @@ fn is_explained(alloc: Global, scripts: &[&str], output: &str) -> Result<bool, A
         return Ok(false);
     };
     for get in last.iter() {
-        let at_key = steps_at(alloc, &steps, get.key)?;
-        if left_by(alloc, &at_key)? != Some(get.found) {
+        if left_by(alloc, &steps, get.key)? != Some(get.found) {
             return Ok(false);
         }
     }
     Ok(lines.next().is_none())
 }
 
-/// Numbers that follow no plan, always the same from the same seed.
-#[derive(Drop)]
-struct Chance(u64);
+/// A get of each key.
+const LAST: &str =
+    "get 10\nget 11\nget 12\nget 13\nget 14\nget 15\nget 16\nget 17\nget 18\nget 19\nget 20\nget 21\nget 22\nget 23\n\
+    get 24\nget 25\nget 26\nget 27\nget 28\nget 29\n";
 
-impl Chance {
-    /// A number below the bound, or 0 where that is 0.
-    fn below(&mut self, bound: u64) -> u64 {
-        self.0 = self
-            .0
-            .wrapping_mul(6_364_136_223_846_793_005)
-            .wrapping_add(1_442_695_040_888_963_407);
-        (self.0 >> 33).checked_rem(bound).unwrap_or(0)
-    }
-}
-
-/// So many commands on keys from 10 to 59.
+/// So many commands on the keys from 10 to 29.
 fn script_of(alloc: Global, chance: &mut Chance, commands: u32) -> Result<String, AllocError> {
     let mut script = String::new(alloc);
     for _ in 0..commands {
-        let (key, value) = (chance.below(50).wrapping_add(10), chance.below(1_000_000));
+        let (key, value) = (chance.below(20).wrapping_add(10), chance.below(1_000_000));
         match chance.below(8) {
             0..=2 => write!(script, "insert {key} {value}\n")?,
             3..=4 => write!(script, "upsert {key} {value}\n")?,
@@ -175,17 +165,66 @@ fn script_of(alloc: Global, chance: &mut Chance, commands: u32) -> Result<String
     Ok(script)
 }
 
-/// A get of each of these keys.
-fn all_keys(alloc: Global) -> Result<String, AllocError> {
-    let mut script = String::new(alloc);
-    for key in 10..60u32 {
-        write!(script, "get {key}\n")?;
-    }
-    Ok(script)
+/// What a run of these scripts in files, which meet at their first steps, and then of a last one, writes.
+fn answers_of_meeting<T: Threads + Wait + Sync + Abort>(
+    rt: &T,
+    alloc: Global,
+    scripts: &[&str],
+    last: &str,
+) -> Vec<u8> {
+    let meeting = Meeting {
+        guests: scripts.len() as u64,
+        arrived: AtomicU64::new(0),
+        alone: AtomicU64::new(0),
+    };
+    let gates = meeting.gates(rt, alloc);
+    let files = files_of(rt, alloc, scripts);
+    assert!(rt; gates.len() == files.len());
+    let mut out = Vec::new(alloc);
+    let mut reader = last.as_bytes();
+    let ran = run_scripts_with(
+        rt,
+        alloc,
+        12_000,
+        10_000,
+        files,
+        gates,
+        &mut reader,
+        &mut out,
+    );
+    assert!(rt; ran.is_ok() && meeting.alone.load(Ordering::SeqCst) == 0);
+    assert!(rt; meeting.arrived.load(Ordering::SeqCst) == meeting.guests);
+    out
+}
+
+/// Three scripts of 1,000 commands on 20 keys.
+fn explain_three<T: Threads + Wait + Sync + Abort>(rt: &T, alloc: Global, seed: u64) {
+    let mut chance = Chance(seed);
+    let (Ok(first), Ok(second), Ok(third)) = (
+        script_of(alloc, &mut chance, 1_000),
+        script_of(alloc, &mut chance, 1_000),
+        script_of(alloc, &mut chance, 1_000),
+    ) else {
+        panic!(rt; "no memory")
+    };
+    let scripts = [first.as_str(), second.as_str(), third.as_str(), LAST];
+    let output = answers_of_meeting(rt, alloc, &scripts[..3], LAST);
+    let Ok(text) = str::from_utf8(&output) else {
+        panic!(rt; "no text")
+    };
+    let is_explained = is_explained(alloc, &scripts, text);
+    assert!(rt; matches!(is_explained, Ok(true)), "with seed {seed}");
 }
 
 #[test]
-fn an_order_that_is_none_explains_nothing(rt: HostRuntime) -> Result<(), Fail> {
+fn one_order_explains_the_answers_of_three_scripts(rt: HostRuntime) {
+    for seed in 1..=3 {
+        explain_three(&rt, rt.alloc(), seed);
+    }
+}
+
+#[test]
+fn an_order_that_is_none_explains_nothing(rt: HostRuntime) {
     let scripts = ["insert 61 1", "insert 61 2", "remove 61", "get 61"];
     for (output, want) in [
         (
@@ -210,30 +249,7 @@ fn an_order_that_is_none_explains_nothing(rt: HostRuntime) -> Result<(), Fail> {
         ),
         ("file 1\ninserted\n", false),
     ] {
-        assert!(rt;
-            is_explained(rt.alloc(), &scripts, output)? == want,
-            "{output}"
-        );
+        let is_explained = is_explained(rt.alloc(), &scripts, output);
+        assert!(rt; is_explained.is_ok_and(|is| is == want), "{output}");
     }
-    Ok(())
-}
-
-/// Three scripts of 2,000 commands on 50 keys, five times.
-#[test]
-fn one_order_explains_the_answers_of_three_scripts(rt: HostRuntime) -> Result<(), Fail> {
-    let mut chance = Chance(1);
-    let last = all_keys(rt.alloc())?;
-    for round in 0..5 {
-        let first = script_of(rt.alloc(), &mut chance, 2_000)?;
-        let second = script_of(rt.alloc(), &mut chance, 2_000)?;
-        let third = script_of(rt.alloc(), &mut chance, 2_000)?;
-        let files = [first.as_str(), second.as_str(), third.as_str()];
-        let output = answers_of_meeting(&rt, rt.alloc(), &files, &last)?;
-        let scripts = [files[0], files[1], files[2], last.as_str()];
-        assert!(rt;
-            is_explained(rt.alloc(), &scripts, str::from_utf8(&output)?)?,
-            "in round {round}"
-        );
-    }
-    Ok(())
 }
