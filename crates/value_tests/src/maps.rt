@@ -83,15 +83,17 @@ const FIRST: Row = (0, b'i', b'a', 5, Reply::Inserted);
 
 const LAST: Row = (2, b'r', b'a', 0, Reply::Removed(6));
 
+/// Three changes of one key: their passes, values and kinds.
+const FRONT: [(u16, u64, Kind); 3] = [
+    (1, 5, Kind::Added),
+    (2, 6, Kind::Replaced),
+    (1, 6, Kind::Removed),
+];
+
 // The first three are legal. What is wrong with the others: a reply of another map, a place that falls, one past the front, a change
 // without its note, a note without its change, a change noted twice, one of another pass, and a removal of an absent key.
 #[test]
 fn histories_are_told_legal_or_not(rt: HostRuntime) {
-    let front: [(u16, u64, Kind); 3] = [
-        (1, 5, Kind::Added),
-        (2, 6, Kind::Replaced),
-        (1, 6, Kind::Removed),
-    ];
     let (before, held) = (
         (0, b'g', b'a', 0, Reply::Absent),
         (1, b'g', b'a', 0, Reply::Value(5)),
@@ -122,7 +124,7 @@ fn histories_are_told_legal_or_not(rt: HostRuntime) {
     ];
     for (i, (from, pass, rows, legal)) in cases.iter().enumerate() {
         assert!(rt; *from < 3);
-        let changes = front_of(&rt, rt.alloc(), &front[*from..]);
+        let changes = front_of(&rt, rt.alloc(), &FRONT[*from..]);
         let notes = notes_of(&rt, rt.alloc(), rows);
         assert!(rt;
             are_legal(changes.as_slice(), *pass, notes.as_slice()) == *legal,
