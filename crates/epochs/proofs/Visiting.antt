@@ -16,9 +16,9 @@ use Rattle.rowex_core.specs.declared.event.Event.{Event}
 use Rattle.rowex_table.specs.Runs.{silent, Steps}
 use Rattle.rowex_table.specs.Seats.{TableView, SeatView}
 use Rattle.rowex_table.proofs.Running.{in_turn_more, does_none}
-use Rattle.epochs.specs.Runs.{paced}
+use Rattle.epochs.specs.Runs.{collecting}
 use Rattle.epochs.specs.Rounds.{Visits, has_given, VisitsOne, VisitsAll}
-use Rattle.epochs.proofs.Doing.{does_one, does_append}
+use Rattle.epochs.proofs.Doing.{does_one, collects, collects_look, collects_append}
 
 -- One visit
 
@@ -34,16 +34,16 @@ module _ {G : Type 0} (table : TableView) (becomes : G → Event → G → Type 
       → ((epoch : ℕ) → 1 ≤ epoch → epoch < 2 ^ 60 → epoch < bound → word ≢ state_word (Obsolete epoch)) → VisitsOne table becomes bound r false a b
   visit_passes bound r word a b e least none =
       let top = bound_top table.layout (LoadState r word) a.0.known b.0.known e.event in
-      (LoadState r word ∷ [], Visits.passes word (λ epoch low below. none epoch low (omega arith) below), does_one table becomes (LoadState r word) a b tt e, refl)
+      (LoadState r word ∷ [], Visits.passes word (λ epoch low below. none epoch low (omega arith) below), collects_look table becomes r word a b e, refl)
 
   pub visit_tries : (bound epoch found : ℕ) (r : Rec) (word : ℕ) (a m b : SeatView × G) → word ≡ state_word (Obsolete epoch) → 1 ≤ epoch → epoch < bound
       → Steps table becomes (LoadState r word) a m → Steps table becomes (GiveBack r epoch found) m b → VisitsOne table becomes bound r (nat_eq found word) a b
   visit_tries bound epoch found r word a m b is low below load give = subst (λ w. VisitsOne table becomes bound r (nat_eq found w) a b) (sym is) (
     LoadState r (state_word (Obsolete epoch)) ∷ GiveBack r epoch found ∷ [],
     Visits.tries epoch found low below,
-    does_append table becomes (LoadState r (state_word (Obsolete epoch)) ∷ []) (GiveBack r epoch found ∷ []) a m b
-        (does_one table becomes (LoadState r (state_word (Obsolete epoch))) a m tt (subst (λ w. Steps table becomes (LoadState r w) a m) is load))
-        (does_one table becomes (GiveBack r epoch found) m b tt give),
+    collects_append table becomes (LoadState r (state_word (Obsolete epoch)) ∷ []) (GiveBack r epoch found ∷ []) a m b
+        (collects_look table becomes r (state_word (Obsolete epoch)) a m (subst (λ w. Steps table becomes (LoadState r w) a m) is load))
+        (collects table becomes (GiveBack r epoch found ∷ []) m b (does_one table becomes (GiveBack r epoch found) m b tt give)),
     given (nat_eq found (state_word (Obsolete epoch))) refl,
   )
     where
@@ -54,7 +54,7 @@ module _ {G : Type 0} (table : TableView) (becomes : G → Event → G → Type 
   -- Visits in turn
 
   pub visits_none : (bound : ℕ) (kind : ℕ → Rec) (a : SeatView × G) → VisitsAll table becomes bound kind 0 0 a a
-  visits_none bound kind a = ([], refl, does_none table becomes paced a (λ k. refl), refl)
+  visits_none bound kind a = ([], refl, does_none table becomes collecting a (λ k. refl), refl)
 
   -- one more record, given back or not
   pub visits_more : (bound : ℕ) (kind : ℕ → Rec) (n given more : ℕ) (t : Bool) (a m b : SeatView × G) → VisitsAll table becomes bound kind n given a m → VisitsOne table becomes bound (kind n) t m b
@@ -62,6 +62,6 @@ module _ {G : Type 0} (table : TableView) (becomes : G → Event → G → Type 
   visits_more bound kind n given more t a m b all one is = (
     all.0 ++ one.0,
     in_turn_more (λ m. Visits bound (kind m)) n all.0 one.0 all.1 one.1,
-    does_append table becomes all.0 one.0 a m b all.2 one.2,
+    collects_append table becomes all.0 one.0 a m b all.2 one.2,
     is ∙ (ap (λ z. z + (if t then 1 else 0)) all.3 ∙ (ap (λ z. count_by has_given all.0 + z) (sym one.3) ∙ sym (sum_by-append (λ x. if has_given x then 1 else 0) all.0 one.0))),
   )

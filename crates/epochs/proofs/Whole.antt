@@ -7,7 +7,7 @@ use Rattle.rowex_core.specs.declared.event.Event.{Event}
 use Rattle.rowex_table.specs.Runs.{InTurn}
 use Rattle.rowex_table.specs.Seats.{TableView, SeatView}
 use Rattle.epochs.specs.Rounds.{Visits, advance_steps, AdvancesEpoch, FindsBound, HasBound, VisitsAll, IsRound}
-use Rattle.epochs.proofs.Doing.{does_append}
+use Rattle.epochs.proofs.Doing.{does_append, collects, collects_append}
 
 pub round_of : {G : Type 0} (table : TableView) (becomes : G → Event → G → Type 0) (bound nodes leaves : ℕ) (a b c d e : SeatView × G) → AdvancesEpoch table becomes a b
     → FindsBound table becomes table.layout.passes b c → HasBound table.layout.passes bound c.0.known
@@ -24,8 +24,8 @@ round_of table becomes bound nodes leaves a b c d e begins finds has of_nodes sa
       pins = finds.1;
       nodes = of_nodes.0;
       leaves = of_leaves.0;
-      does = does_append table becomes (first ++ second ++ of_nodes.0) of_leaves.0 a d e
-          (does_append table becomes (first ++ second) of_nodes.0 a c d (does_append table becomes first second a b c begins.2 finds.3) of_nodes.2) of_leaves.2;
+      does = collects_append table becomes (first ++ second ++ of_nodes.0) of_leaves.0 a d e
+          (collects_append table becomes (first ++ second) of_nodes.0 a c d (collects table becomes (first ++ second) a c (does_append table becomes first second a b c begins.2 finds.3)) of_nodes.2) of_leaves.2;
       loads_pins = finds.2;
       visits_nodes = subst (λ m. InTurn (λ n. Visits m (a_node n)) table.layout.nodes of_nodes.0) is of_nodes.1;
       visits_leaves = subst (λ m. InTurn (λ n. Visits m (a_leaf n)) table.layout.leaves of_leaves.0) is of_leaves.1;

@@ -12,7 +12,7 @@ use Rattle.rowex_core.specs.declared.event.Act.TheVariants.{LoadEpoch, Advance, 
 use Rattle.rowex_core.specs.declared.known.Known.{Known}
 use Rattle.rowex_table.specs.Runs.{Does, InTurn}
 use Rattle.rowex_table.specs.Seats.{TableView, SeatView}
-use Rattle.epochs.specs.Runs.{paced}
+use Rattle.epochs.specs.Runs.{collecting, paced}
 
 -- the exchange that makes an epoch the next one; at the last epoch there is none
 abbrev pub advance_steps : ℕ → ℕ → List Act
@@ -41,7 +41,7 @@ pub record IsRound {G : Type 0} (table : TableView) (becomes : G → Event → G
   pub pins : List Act
   pub nodes : List Act
   pub leaves : List Act
-  pub does : Does table becomes paced (LoadEpoch epoch ∷ advance_steps epoch found ++ LoadEpoch next ∷ pins ++ nodes ++ leaves) a b
+  pub does : Does table becomes collecting (LoadEpoch epoch ∷ advance_steps epoch found ++ LoadEpoch next ∷ pins ++ nodes ++ leaves) a b
   pub loads_pins : InTurn LoadsPin table.layout.passes pins
   pub visits_nodes : InTurn (λ n. Visits b.0.known.round.bound (a_node n)) table.layout.nodes nodes
   pub visits_leaves : InTurn (λ n. Visits b.0.known.round.bound (a_leaf n)) table.layout.leaves leaves
@@ -67,9 +67,9 @@ FindsBound table becomes n a b = (next : ℕ) × (pins : List Act) × InTurn Loa
 -- a visit of a record, which gives it back or not
 abbrev pub VisitsOne : {G : Type 0} → TableView → (G → Event → G → Type 0) → ℕ → Rec → Bool → SeatView × G → SeatView × G → Type 0
 VisitsOne table becomes bound r given a b =
-    (acts : List Act) × Visits bound r acts × Does table becomes paced acts a b × (count_by has_given acts ≡ if given then 1 else 0)
+    (acts : List Act) × Visits bound r acts × Does table becomes collecting acts a b × (count_by has_given acts ≡ if given then 1 else 0)
 
 -- visits of the first n records of a kind, which give so many of them back
 abbrev pub VisitsAll : {G : Type 0} → TableView → (G → Event → G → Type 0) → ℕ → (ℕ → Rec) → ℕ → ℕ → SeatView × G → SeatView × G → Type 0
 VisitsAll table becomes bound kind n given a b =
-    (acts : List Act) × InTurn (λ m. Visits bound (kind m)) n acts × Does table becomes paced acts a b × (given ≡ count_by has_given acts)
+    (acts : List Act) × InTurn (λ m. Visits bound (kind m)) n acts × Does table becomes collecting acts a b × (given ≡ count_by has_given acts)

@@ -10,6 +10,10 @@ use Rattle.rowex_table.specs.Seats.{TableView, SeatView}
 abbrev pub paced : Known → Known → Known
 paced k j = record k { pin = j.pin; round = j.round }
 
+-- and its failed steps too: loads of states that were not free are among them
+abbrev pub collecting : Known → Known → Known
+collecting k j = record (paced k j) { failed = j.failed }
+
 -- the pass loads the epoch, and stores what it found as its pin
 abbrev pub Pins : {G : Type 0} → TableView → (G → Event → G → Type 0) → SeatView × G → SeatView × G → Type 0
 Pins table becomes a b = (epoch : ℕ) × Does table becomes paced (LoadEpoch epoch ∷ SetPin epoch ∷ []) a b

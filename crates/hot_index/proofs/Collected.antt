@@ -50,7 +50,7 @@ visits_few bound kind (suc n) acts (before, last, first, visit, all) =
     omega (arith, z, length-append before last, visit_few bound (kind n) last visit, visits_few bound kind n before first)
 
 module _ {G : Type 0} {table : TableView} {becomes : G → Event → G → Type 0} {a b : SeatView × G} {nodes leaves : ℕ} (r : IsRound table becomes a b nodes leaves) where
-  -- of what the pass knows its pin, its round and its steps alone have changed
+  -- of what the pass knows its pin, its round, its steps and those that failed alone have changed
   pub round_settled : b.0.known.pin ≡ None → IsSettled a.0.known → IsSettled b.0.known
   round_settled free s = record {
     own = ap (λ (z : Known). z.own) r.does.rest ∙ s.own;

@@ -164,6 +164,7 @@ cause_on layout k j h i Busy steps fronts failed front (inl met) = inl (record {
   target = met.target;
   failed = met.failed;
   is = subst (λ (z : List Failed). Contains z met.failed) (sym failed) met.is;
+  act = met.act;
   place = met.place;
   word = met.word;
   now = le_trans steps met.now;

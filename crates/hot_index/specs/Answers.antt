@@ -59,7 +59,7 @@ pub record IsUnnoted (layout : Layout) (k j : PassView) : Type 0 where
   pub makers : AreByPasses layout j.front
 
 -- Why a call was refused: a lock of it met another's, or another's change was seen since it began; or of each record of a kind a
--- claim of it failed.
+-- claim of it failed or a load of it found the state not free.
 abbrev pub IsCause : Layout → PassView → PassView → TryFault → Type 0
 IsCause layout k j Busy = HasMetTaken k.steps j.failed ⊎ (length k.front < length j.front)
 IsCause layout k j FullNodes = AllMissed a_node layout.nodes j.failed k.steps

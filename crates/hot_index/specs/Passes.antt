@@ -12,7 +12,7 @@ use Rattle.rowex_core.specs.declared.known.Known.{Known}
 use Rattle.rowex_table.specs.Seats.{TableView, SeatView}
 
 -- A pass: the table of its index, its number, the changes that it has seen, those at its last load of the root, its answered
--- calls, the number of its next atomic step, and what its failed claims and locks found.
+-- calls, the number of its next atomic step, and what its failed claims and locks and its loads of states found.
 pub record PassView : Type 0 where
   pub table : TableId
   pub number : ℕ

@@ -27,6 +27,8 @@ use Rattle.rowex_core.specs.declared.known.Holding.{Holding}
 use Rattle.rowex_core.specs.declared.known.Holding.TheVariants.{Held, Ready as IsReady}
 use Rattle.rowex_core.specs.declared.known.Owned.{Owned}
 use Rattle.rowex_core.specs.declared.known.Locked.{Locked}
+use Rattle.rowex_core.specs.declared.known.FailedAct.{FailedAct}
+use Rattle.rowex_core.specs.declared.known.FailedAct.TheVariants.{Claim as a_claim, Lock as a_lock, LoadState as a_load}
 use Rattle.rowex_core.specs.declared.known.Known.{Known}
 use Rattle.rowex_core.specs.Reading.{entry_of, head_entry, root_of}
 use Rattle.rowex_core.specs.Cores.{Core, IsLawful, heap_of}
@@ -34,7 +36,7 @@ use Rattle.rowex_core.specs.Words.{record_word}
 use Rattle.moments.proofs.Publish.{moment_old}
 use Rattle.rowex_core.specs.declared.event.Spot.{Spot}
 use Rattle.rowex_core.specs.Events.{IsLegalPublish, IsLockedAt, stored_words, stored_root, next_tree, next_change, Legal, after, with_word, claimed, marked, anchored, word_of, target_word, IsInTree}
-use Rattle.rowex_core.specs.Knowing.{IsFact, HasSeen, facts_with, AreCounted, Knows, learned_by, learned, entry_learned, hold_as, fill_in, without_record, failed_with, claim_learned, anchor_learned, node_learned, without_lock, records_in, unlinked_as, own_after, relocked, locks_after, anchor_after, publish_learned}
+use Rattle.rowex_core.specs.Knowing.{IsFact, HasSeen, facts_with, AreCounted, Knows, learned_by, learned, entry_learned, hold_as, fill_in, without_record, failed_with, claim_learned, anchor_learned, node_learned, state_learned, without_lock, records_in, unlinked_as, own_after, relocked, locks_after, anchor_after, publish_learned}
 use Rattle.record_words.specs.declared.layout.Location.{Location}
 use Rattle.rowex_core.proofs.Frames.{advance_frame, give_back_frame, unlocked_node}
 use Rattle.rowex_core.proofs.Keeping.{fact_grown, knows_kept}
@@ -54,8 +56,8 @@ is_true : {c : Core} {k : Known} → Knows c k → IsTrue c k
 is_true h = record { pass = h.pass; seen = h.seen; own = h.own }
 
 -- what failed is a fact of no core
-with_failed : (c : Core) (k : Known) (location : Location) (w : ℕ) → Knows c k → IsTrue c (failed_with k location w)
-with_failed c k location w h = record { pass = h.pass; seen = h.seen; own = h.own }
+with_failed : (c : Core) (k : Known) (act : FailedAct) (location : Location) (w : ℕ) → Knows c k → IsTrue c (failed_with k act location w)
+with_failed c k act location w h = record { pass = h.pass; seen = h.seen; own = h.own }
 
 -- Facts of loads
 
@@ -183,7 +185,7 @@ module _ (c : Core) (k : Known) (h : Knows c k) where
   claim_learns r found Free e = fate_learns r (HeldBy k.pass) _ (ap is_in_tree e) refl
       (rw (by_itself k.pass, same_rec_refl r) (ap (λ (z : List Owned). record { rec = r; holding = Held; words = c.words r } ∷ z) (ap (λ f. owned r (c.words r) (holding_of k.pass f)) (sym e) ∙ had r)))
       (λ i o. rw o (had i))
-  claim_learns r found _ e = with_failed c k (word_of r 0) found h
+  claim_learns r found _ e = with_failed c k a_claim (word_of r 0) found h
 
   fill_learns : (r : Rec) (offset w : ℕ) → c.fate r ≡ HeldBy k.pass → IsTrue (record c { words = with_word c.words r offset w }) (record k { own = map (fill_in r offset w) k.own })
   fill_learns r offset w e = record {
@@ -238,7 +240,7 @@ module _ (c : Core) (k : Known) (h : Knows c k) where
 
   anchor_learns : (found : ℕ) (o : Option ℕ) → c.anchor ≡ o → IsTrue (record c { shared = anchored c.shared k.pass o }) (anchor_learned c found o k)
   anchor_learns found None e = record { pass = h.pass; seen = h.seen; own = λ i. record (h.own i) { anchor = ap (anchored_at c.root) (by_itself k.pass) i } }
-  anchor_learns found (Some p) e = with_failed c k (target_word Anchor) found h
+  anchor_learns found (Some p) e = with_failed c k a_lock (target_word Anchor) found h
 
   anchor_given : IsTrue (record c { shared = with_anchor c.shared None }) (record k { anchor = None })
   anchor_given = record { pass = h.pass; seen = h.seen; own = λ i. record (h.own i) { anchor = None } }
@@ -374,7 +376,7 @@ learns_by c k (Lock (NodeTarget n) found) law h (a, b) = go (cases_Bool (eqb fou
   where
     go : ((eqb found 2 ≡ true) ⊎ (eqb found 2 ≡ false)) → IsTrue (after c k.pass (Lock (NodeTarget n) found)) (node_learned c n found k)
     go (inl e) = rw e (lock_taken c k h n (b.2 (eqb-true found 2 e)) (unlocked_node c law n (sym b.1 ∙ eqb-true found 2 e)))
-    go (inr e) = rw e (with_failed c k (target_word (NodeTarget n)) found h)
+    go (inr e) = rw e (with_failed c k a_lock (target_word (NodeTarget n)) found h)
 learns_by c k (Unlock Anchor) law h l = anchor_given c k h
 learns_by c k (Unlock (NodeTarget n)) law h l = lock_given c k h n
 learns_by c k (Publish spot w) law h (a, b) = publish_learns c k spot w law h b
@@ -384,7 +386,11 @@ learns_by c k (Advance expected found) law h l = is_true (knows_kept c _ k (adva
 learns_by c k (SetPin w) law h l = pin_learns c k h _
 learns_by c k ClearPin law h l = pin_learns c k h None
 learns_by c k (LoadPin o w) law h l = round_learns c k h _ _ (ap (λ (s : Share). let z = s.round in let x : Round = record { epoch = z.epoch; moment = z.moment; bound = lowered z.bound (c.pins o); seen = o ∷ z.seen } in x) h.own)
-learns_by c k (LoadState r w) law h l = is_true h
+learns_by c k (LoadState r w) law h l = go (cases_Bool (eqb w 0))
+  where
+    go : ((eqb w 0 ≡ true) ⊎ (eqb w 0 ≡ false)) → IsTrue c (state_learned r w k)
+    go (inl e) = rw e (is_true h)
+    go (inr e) = rw e (with_failed c k a_load (word_of r 0) w h)
 learns_by c k (GiveBack r epoch found) law h l = is_true (knows_kept c _ k (give_back_frame c k.pass r epoch (c.fate r) refl) h)
 
 -- The step is counted, and with it the last load of the root and what failed.
@@ -399,16 +405,16 @@ module _ (c : Core) (k : Known) (h : AreCounted k.steps k.fresh.step k.failed) w
   same_next : AreCounted (k.steps + 1) k.fresh.step k.failed
   same_next = before k.fresh.step (let l = h.loaded in omega arith)
 
-  failed_next : (location : Location) (w : ℕ) → IsNext (failed_with k location w)
-  failed_next location w = record { loaded = same_next.loaded; failed = All-cons (λ f. f.step < k.steps + 1) _ k.failed (omega arith) same_next.failed }
+  failed_next : (act : FailedAct) (location : Location) (w : ℕ) → IsNext (failed_with k act location w)
+  failed_next act location w = record { loaded = same_next.loaded; failed = All-cons (λ f. f.step < k.steps + 1) _ k.failed (omega arith) same_next.failed }
 
   claim_next : (r : Rec) (found : ℕ) (f : Fate) → IsNext (claim_learned c r found f k)
   claim_next r found Free = same_next
-  claim_next r found _ = failed_next (word_of r 0) found
+  claim_next r found _ = failed_next a_claim (word_of r 0) found
 
   anchor_next : (found : ℕ) (o : Option ℕ) → IsNext (anchor_learned c found o k)
   anchor_next found None = same_next
-  anchor_next found (Some p) = failed_next (target_word Anchor) found
+  anchor_next found (Some p) = failed_next a_lock (target_word Anchor) found
 
   either_next : (b : Bool) (i j : Known) → IsNext i → IsNext j → IsNext (if b then i else j)
   either_next true i j x y = x
@@ -417,7 +423,8 @@ module _ (c : Core) (k : Known) (h : AreCounted k.steps k.fresh.step k.failed) w
   next_by : (act : Act) → IsNext (learned_by c act k)
   next_by (Claim r found) = claim_next r found (c.fate r)
   next_by (Lock Anchor found) = anchor_next found c.anchor
-  next_by (Lock (NodeTarget n) found) = either_next (nat_eq found 2) _ _ same_next (failed_next (target_word (NodeTarget n)) found)
+  next_by (Lock (NodeTarget n) found) = either_next (nat_eq found 2) _ _ same_next (failed_next a_lock (target_word (NodeTarget n)) found)
+  next_by (LoadState r w) = either_next (nat_eq w 0) _ _ same_next (failed_next a_load (word_of r 0) w)
   next_by (LoadRef Root w) = before k.steps (omega arith)
   next_by (LoadRef (Slot n j) w) = same_next
   next_by (Unlock Anchor) = same_next

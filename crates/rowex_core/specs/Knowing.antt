@@ -7,7 +7,7 @@ use Rattle.hot_model.specs.Fronts.{BeginsWith, OthersGoOn}
 use Rattle.record_words.specs.declared.TheConstants.{FIRST_ENTRY}
 use Rattle.record_words.specs.declared.layout.Location.{Location}
 use Rattle.record_words.specs.declared.layout.Layout.{Layout}
-use Rattle.record_words.specs.declared.state.Tag.TheVariants.{Live}
+use Rattle.record_words.specs.declared.state.Tag.TheVariants.{Live, Free as FreeTag}
 use Rattle.record_words.specs.State.{state_word}
 use Rattle.tries.specs.Tree.{Tree, node, leaf, fork}
 use Rattle.moments.specs.declared.Rec.{Rec}
@@ -28,6 +28,8 @@ use Rattle.rowex_core.specs.declared.known.Holding.TheVariants.{Held, Ready as I
 use Rattle.rowex_core.specs.declared.known.Owned.{Owned}
 use Rattle.rowex_core.specs.declared.known.Locked.{Locked}
 use Rattle.rowex_core.specs.declared.known.Failed.{Failed}
+use Rattle.rowex_core.specs.declared.known.FailedAct.{FailedAct}
+use Rattle.rowex_core.specs.declared.known.FailedAct.TheVariants.{Claim as a_claim, Lock as a_lock, LoadState as a_load}
 use Rattle.rowex_core.specs.declared.known.Known.{Known}
 use Rattle.rowex_core.specs.declared.known.View.{View}
 use Rattle.rowex_core.specs.declared.known.View.TheVariants.{Spent, Dealer, Pass, Pair}
@@ -63,8 +65,7 @@ pub record HasSeen (q : ℕ) (past : Past) (changes : List Change) (seen last : 
   pub fresh : BeginsWith seen last
   pub facts : All (IsFact past) known
 
--- The steps whose numbers it remembers, its last load of the root and the locks and claims that failed, came before step
--- number `next`.
+-- The steps whose numbers it remembers, its last load of the root and those that failed, came before step number `next`.
 pub record AreCounted (next last : ℕ) (failures : List Failed) : Type 0 where
   pub loaded : last < next
   pub failed : All (λ f. f.step < next) failures
@@ -114,8 +115,8 @@ abbrev pub facts_with : Option Pin → (ℕ → Fact) → List Fact → List Fac
 facts_with None f facts = facts
 facts_with (Some p) f facts = f p.moment ∷ facts
 
-abbrev pub failed_with : Known → Location → ℕ → Known
-failed_with k location w = record k { failed = record { location = location; word = w; step = k.steps } ∷ k.failed }
+abbrev pub failed_with : Known → FailedAct → Location → ℕ → Known
+failed_with k act location w = record k { failed = record { act = act; location = location; word = w; step = k.steps } ∷ k.failed }
 
 abbrev pub hold_as : Rec → Holding → Owned → Owned
 hold_as r h o = if same_rec o.rec r then record o { holding = h } else o
@@ -131,16 +132,20 @@ without_lock n locks = filter (λ l. not (nat_eq l.node n)) locks
 
 abbrev pub claim_learned : Core → Rec → ℕ → Fate → Known → Known
 claim_learned c r found Free k = record k { own = record { rec = r; holding = Held; words = c.words r } ∷ k.own }
-claim_learned c r found _ k = failed_with k (state_of r) found
+claim_learned c r found _ k = failed_with k a_claim (state_of r) found
 
 abbrev pub anchor_learned : Core → ℕ → Option ℕ → Known → Known
 anchor_learned c found None k = record k { anchor = Some c.root }
-anchor_learned c found (Some q) k = failed_with k (target_word Anchor) found
+anchor_learned c found (Some q) k = failed_with k a_lock (target_word Anchor) found
 
 abbrev pub node_learned : Core → ℕ → ℕ → Known → Known
 node_learned c n found k =
     if nat_eq found (state_word Live) then record k { locks = record { node = n; words = c.words (a_node n) } ∷ k.locks }
-    else failed_with k (target_word (NodeTarget n)) found
+    else failed_with k a_lock (target_word (NodeTarget n)) found
+
+-- a load finds the record not free
+abbrev pub state_learned : Rec → ℕ → Known → Known
+state_learned r w k = if nat_eq w (state_word FreeTag) then k else failed_with k a_load (state_of r) w
 
 abbrev pub entry_learned : Core → Spot → Known → Known
 entry_learned c Root k = record k {
@@ -211,7 +216,7 @@ learned_by c (Advance expected found) k = k
 learned_by c (SetPin w) k = record k { pin = Some (record { word = w; moment = c.past.now; floor = c.epoch }) }
 learned_by c ClearPin k = record k { pin = None }
 learned_by c (LoadPin o w) k = record k { round = with_seen k.round o (c.pins o) }
-learned_by c (LoadState r w) k = k
+learned_by c (LoadState r w) k = state_learned r w k
 learned_by c (GiveBack r epoch found) k = k
 
 -- and it counts the step

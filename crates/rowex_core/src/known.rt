@@ -56,8 +56,18 @@ pub struct Locked {
     pub words: LinkedList<u64>,
 }
 
-/// A lock or a claim that failed: the word that it found, and the number of the step.
+/// What kind of step it was that failed.
+pub enum FailedAct {
+    Claim,
+    Lock,
+    /// A load that found a state other than free.
+    LoadState,
+}
+
+/// A claim or a lock that failed, or a load of a state that was not free: the word that it found, and the number of the
+/// step.
 pub struct Failed {
+    pub act: FailedAct,
     pub location: Location,
     pub word: u64,
     pub step: u64,

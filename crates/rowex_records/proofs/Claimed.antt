@@ -9,6 +9,7 @@ use Rattle.moments.specs.Core.{Fate, Free, Held as HeldBy, Ready as ReadyBy, InT
 use Rattle.rowex_core.specs.declared.event.Act.TheVariants.{Claim}
 use Rattle.rowex_core.specs.declared.event.Event.{Event}
 use Rattle.rowex_core.specs.declared.known.Failed.{Failed}
+use Rattle.rowex_core.specs.declared.known.FailedAct.TheVariants.{Claim as a_claim}
 use Rattle.rowex_core.specs.declared.known.Holding.{Holding}
 use Rattle.rowex_core.specs.declared.known.Holding.TheVariants.{Held, Ready as IsReady, Unlinked as IsUnlinked}
 use Rattle.rowex_core.specs.declared.known.Known.{Known}
@@ -53,7 +54,7 @@ turned_to n from q low below = go (nat_lt q from) refl
 
 -- what a claim teaches that finds another word
 abbrev pub Learns : Rec → ℕ → Known → Known → Type 0
-Learns r found k l = (l.own ≡ k.own) × (l.failed ≡ record { location = word_of r 0; word = found; step = k.steps } ∷ k.failed)
+Learns r found k l = (l.own ≡ k.own) × (l.failed ≡ record { act = a_claim; location = word_of r 0; word = found; step = k.steps } ∷ k.failed)
 
 learns_of : (c : Core) (r : Rec) (found : ℕ) (lock : Option ℕ) (f : Fate) (k : Known) → found ≡ state_word (tag_of lock f) → 1 ≤ found → Learns r found k (claim_learned c r found f k)
 learns_of c r found lock Free k e low = absurd (omega arith)
@@ -73,12 +74,15 @@ free_apart c k r known free = All-weaker (IsOwned k.pass c) (λ o. o.rec ≢ r) 
     owned (IsUnlinked since last) e = cc
 
 further : (missed : List Failed) (x : Failed) (r : Rec) (step : ℕ) → HasMissed missed r step → HasMissed (x ∷ missed) r step
-further missed x r step h = let low = h.2.1 in (h.0, h.1, (suc h.2.0, omega arith, h.2.2))
+further missed x r step (act, word, tells, one, (at, low, is)) = (act, word, tells, one, (suc at, omega arith, is))
 
 at_front : (missed failed : List Failed) (x : Failed) → Contains missed x → Contains (missed ++ failed) x
 at_front [] failed x (i, low, is) = absurd (omega arith)
 at_front (y ∷ missed) failed x (zero, low, is) = (0, omega arith, is)
 at_front (y ∷ missed) failed x (suc i, low, is) = let rest = at_front missed failed x (i, omega arith, is) in let below = rest.1 in (suc rest.0, omega arith, rest.2)
+
+missed_before : (missed failed : List Failed) (r : Rec) (step : ℕ) → HasMissed missed r step → HasMissed (missed ++ failed) r step
+missed_before missed failed r step (act, word, tells, one, has) = (act, word, tells, one, at_front missed failed _ has)
 
 module _ {G : Type 0} (table : TableView) (becomes : G → Event → G → Type 0) where
   claim_misses : (r : Rec) (found : ℕ) (a b : SeatView × G) → 1 ≤ found → Steps table becomes (Claim r found) a b → Learns r found a.0.known b.0.known
@@ -124,7 +128,7 @@ module _ {G : Type 0} (table : TableView) (becomes : G → Event → G → Type 
       learns = claim_misses r found i b low step
 
       last : Failed
-      last = record { location = word_of r 0; word = found; step = i.0.known.steps }
+      last = record { act = a_claim; location = word_of r 0; word = found; step = i.0.known.steps }
 
       at : i.0.known.steps ≡ a.0.known.steps + m
       at = let count = none.count in let steps = does_count table becomes claiming none.claims a i none.does in omega arith
@@ -139,7 +143,7 @@ module _ {G : Type 0} (table : TableView) (becomes : G → Event → G → Type 
               let same : m ≡ z = omega arith in
               subst (λ y. HasMissed (last ∷ none.missed) (kind (wrapped n from y)) (a.0.known.steps + y)) same
               (subst (λ step. HasMissed (last ∷ none.missed) (kind (wrapped n from m)) step) at
-              (subst (λ y. HasMissed (last ∷ none.missed) (kind y) i.0.known.steps) is (found, low, (0, omega arith, refl))))
+              (subst (λ y. HasMissed (last ∷ none.missed) (kind y) i.0.known.steps) is (a_claim, found, tt, low, (0, omega arith, refl))))
 
   -- all have been tried
   pub finds_all : (kind : ℕ → Rec) (n from begin m : ℕ) (a b : SeatView × G) → from ≡ begin → m ≡ n → FindsNone table becomes kind n from m a b → FindsNone table becomes kind n begin n a b
@@ -152,12 +156,7 @@ module _ {G : Type 0} (table : TableView) (becomes : G → Event → G → Type 
       let missed = subst (λ z. HasMissed none.missed (kind z) (a.0.known.steps + turn.0)) turn.2 (none.each turn.0 turn.1) in (
         a.0.known.steps + turn.0,
         omega arith,
-        (
-          missed.0,
-          missed.1,
-          subst (λ l. Contains l (record { location = word_of (kind q) 0; word = missed.0; step = a.0.known.steps + turn.0 })) (sym none.failed)
-              (at_front none.missed a.0.known.failed (record { location = word_of (kind q) 0; word = missed.0; step = a.0.known.steps + turn.0 }) missed.2),
-        ),
+        subst (λ l. HasMissed l (kind q) (a.0.known.steps + turn.0)) (sym none.failed) (missed_before none.missed a.0.known.failed (kind q) (a.0.known.steps + turn.0) missed),
       )
 
   -- some that were not free, and then one that was

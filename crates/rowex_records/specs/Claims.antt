@@ -7,6 +7,8 @@ use Rattle.rowex_core.specs.declared.event.Act.{Act}
 use Rattle.rowex_core.specs.declared.event.Act.TheVariants.{Claim}
 use Rattle.rowex_core.specs.declared.event.Event.{Event}
 use Rattle.rowex_core.specs.declared.known.Failed.{Failed}
+use Rattle.rowex_core.specs.declared.known.FailedAct.{FailedAct}
+use Rattle.rowex_core.specs.declared.known.FailedAct.TheVariants.{Lock as a_lock}
 use Rattle.rowex_core.specs.declared.known.Holding.TheVariants.{Held}
 use Rattle.rowex_core.specs.declared.known.Known.{Known}
 use Rattle.rowex_core.specs.Cores.{word_count_of}
@@ -41,9 +43,15 @@ wrapped n from m = if nat_lt (from + m) n then from + m else from + m - n
 abbrev pub Misses : Rec → List Act → Type 0
 Misses r acts = (word : ℕ) × (1 ≤ word) × (acts ≡ Claim r word ∷ [])
 
--- among these is a claim of the record at this step, which found it not free
+-- a failed step of this kind finds that a record is not free
+abbrev pub TellsState : FailedAct → Type 0
+TellsState a_lock = ⊥
+TellsState act = Unit {0}
+
+-- among these is a claim of the record, or a load of its state, at this step, which found it not free
 abbrev pub HasMissed : List Failed → Rec → ℕ → Type 0
-HasMissed failed r step = (word : ℕ) × (1 ≤ word) × Contains failed (record { location = word_of r 0; word = word; step = step })
+HasMissed failed r step =
+    (act : FailedAct) × (word : ℕ) × TellsState act × (1 ≤ word) × Contains failed (record { act = act; location = word_of r 0; word = word; step = step })
 
 -- Of the n records of the kind the pass claims m, from this one on, each once, and finds none of them free. It has these m
 -- failed claims more, and its own records as they were.
@@ -73,6 +81,6 @@ pub record Claims {G : Type 0} (table : TableView) (becomes : G → Event → G 
   pub own : b.0.known.own ≡ record { rec = kind number; holding = Held; words = words } ∷ a.0.known.own
   pub apart : All (λ o. o.rec ≢ kind number) a.0.known.own
 
--- each of the n records of the kind has a failed claim among these, at this step or a later one
+-- each of the n records of the kind was found not free by one of these, at this step or a later one
 abbrev pub AllMissed : (ℕ → Rec) → ℕ → List Failed → ℕ → Type 0
 AllMissed kind n failed since = (q : ℕ) → q < n → (step : ℕ) × (since ≤ step) × HasMissed failed (kind q) step

@@ -13,6 +13,7 @@ use Rattle.rowex_core.specs.declared.event.Act.TheVariants.{Claim, LoadRef, Load
 use Rattle.rowex_core.specs.declared.event.Spot.TheVariants.{Root, Slot}
 use Rattle.rowex_core.specs.declared.event.Target.{Target}
 use Rattle.rowex_core.specs.declared.event.Target.TheVariants.{Anchor, Node as NodeTarget}
+use Rattle.rowex_core.specs.declared.known.FailedAct.TheVariants.{Claim as a_claim, Lock as a_lock}
 use Rattle.rowex_core.specs.declared.known.Known.{Known}
 use Rattle.rowex_core.specs.Events.{target_word, word_of}
 use Rattle.rowex_core.specs.Knowing.{IsEvent, failed_with, IsSince}
@@ -54,13 +55,13 @@ LoadOfRoot =
 abbrev pub LockFails : Type 0
 LockFails =
     (layout : Layout) (k j : Known) (target : Target) (found : ℕ) → IsEvent layout (Lock target found) silent k j → found ≢ 2 →
-    j ≡ record (failed_with k (target_word target) found) { steps = k.steps + 1 }
+    j ≡ record (failed_with k a_lock (target_word target) found) { steps = k.steps + 1 }
 
 -- and so does a claim that finds another word than 0.
 abbrev pub ClaimFails : Type 0
 ClaimFails =
     (layout : Layout) (k j : Known) (r : Rec) (found : ℕ) → IsEvent layout (Claim r found) silent k j → found ≢ 0 →
-    j ≡ record (failed_with k (word_of r 0) found) { steps = k.steps + 1 }
+    j ≡ record (failed_with k a_claim (word_of r 0) found) { steps = k.steps + 1 }
 
 -- Each act leaves what it is not about.
 abbrev pub ActLeaves : Type 0

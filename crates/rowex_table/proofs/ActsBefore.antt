@@ -23,6 +23,8 @@ use Rattle.rowex_core.specs.declared.event.Target.TheVariants.{Anchor, Node as N
 use Rattle.rowex_core.specs.declared.known.Fact.{Fact}
 use Rattle.rowex_core.specs.declared.known.Holding.{Holding}
 use Rattle.rowex_core.specs.declared.known.Holding.TheVariants.{Held, Ready as IsReady}
+use Rattle.rowex_core.specs.declared.known.FailedAct.{FailedAct}
+use Rattle.rowex_core.specs.declared.known.FailedAct.TheVariants.{Claim as a_claim, Lock as a_lock, LoadState as a_load}
 use Rattle.rowex_core.specs.declared.known.Known.{Known}
 use Rattle.rowex_core.specs.declared.known.Locked.{Locked}
 use Rattle.rowex_core.specs.declared.known.Owned.{Owned}
@@ -230,14 +232,14 @@ module _ (layout : Layout) (said : Known → List Note) (k j : Known) where
   act_seen c (LoadRef (Slot n i) w) o t = (refl, refl, o, facts_kept k.pin _)
   act_seen c (LoadFixed r offset w) o t = (refl, refl, o, facts_kept k.pin _)
   act_seen c (Lock Anchor found) o t = anchor_seen c found c.anchor
-  act_seen c (Lock (NodeTarget n) found) o t = one_of (nat_eq found 2) c (record k { locks = record { node = n; words = c.words (a_node n) } ∷ k.locks }) (failed_with k (target_word (NodeTarget n)) found) (same c) (same c)
+  act_seen c (Lock (NodeTarget n) found) o t = one_of (nat_eq found 2) c (record k { locks = record { node = n; words = c.words (a_node n) } ∷ k.locks }) (failed_with k a_lock (target_word (NodeTarget n)) found) (same c) (same c)
   act_seen c (Unlock Anchor) o t = same c
   act_seen c (Unlock (NodeTarget n)) o t = same c
   act_seen c (Mark r epoch) o t = same c
   act_seen c (LoadEpoch w) o t = same c
   act_seen c (Advance expected found) o t = same c
   act_seen c (LoadPin p w) o t = same c
-  act_seen c (LoadState r w) o t = same c
+  act_seen c (LoadState r w) o t = one_of (nat_eq w 0) c k (failed_with k a_load (word_of r 0) w) (same c) (same c)
   act_seen c (GiveBack r epoch found) o t = same c
   act_seen c (Publish spot w) o t = absurd t
   act_seen c (SetPin w) o t = absurd t
@@ -259,10 +261,10 @@ module _ (layout : Layout) (k j : Known) where
   noted : (i : Known) → record i { notes = i.notes ++ [] } ≡ i
   noted i = ap (λ n. record i { notes = n }) (append-nil i.notes)
 
-  failed_step : (c : Core) (act : Act) (location : Location) (found : ℕ) → j ≡ record (learned c act k) { notes = k.notes ++ [] } → learned_by c act k ≡ failed_with k location found →
-      j ≡ record (failed_with k location found) { steps = k.steps + 1 }
-  failed_step c act location found e is =
-      e ∙ (ap (λ (z : Known). record z { steps = k.steps + 1; notes = k.notes ++ [] }) is ∙ noted (record (failed_with k location found) { steps = k.steps + 1 }))
+  failed_step : (c : Core) (act : Act) (kind : FailedAct) (location : Location) (found : ℕ) → j ≡ record (learned c act k) { notes = k.notes ++ [] } → learned_by c act k ≡ failed_with k kind location found →
+      j ≡ record (failed_with k kind location found) { steps = k.steps + 1 }
+  failed_step c act kind location found e is =
+      e ∙ (ap (λ (z : Known). record z { steps = k.steps + 1; notes = k.notes ++ [] }) is ∙ noted (record (failed_with k kind location found) { steps = k.steps + 1 }))
 
   dead : (found n : ℕ) → (found ≡ n → ⊥) → nat_eq found n ≡ false
   dead found n ne = go (nat_eq found n) refl
@@ -271,15 +273,15 @@ module _ (layout : Layout) (k j : Known) where
       go true e = absurd (ne (eqb-true found n e))
       go false e = refl
 
-  anchor_held : (c : Core) (found : ℕ) (o : Option ℕ) → found ≡ state_word (lock_tag o) → (found ≡ 2 → ⊥) → anchor_learned c found o k ≡ failed_with k (target_word Anchor) found
+  anchor_held : (c : Core) (found : ℕ) (o : Option ℕ) → found ≡ state_word (lock_tag o) → (found ≡ 2 → ⊥) → anchor_learned c found o k ≡ failed_with k a_lock (target_word Anchor) found
   anchor_held c found None e ne = absurd (ne e)
   anchor_held c found (Some q) e ne = refl
 
-  pub lock_fails : (target : Target) (found : ℕ) → IsEvent layout (Lock target found) silent k j → (found ≡ 2 → ⊥) → j ≡ record (failed_with k (target_word target) found) { steps = k.steps + 1 }
-  lock_fails Anchor found e ne = failed_step e.core (Lock Anchor found) (target_word Anchor) found e.learned_is (anchor_held e.core found e.core.anchor e.legal.1 ne)
-  lock_fails (NodeTarget n) found e ne = failed_step e.core (Lock (NodeTarget n) found) (target_word (NodeTarget n)) found e.learned_is (rw (dead found 2 ne) refl)
+  pub lock_fails : (target : Target) (found : ℕ) → IsEvent layout (Lock target found) silent k j → (found ≡ 2 → ⊥) → j ≡ record (failed_with k a_lock (target_word target) found) { steps = k.steps + 1 }
+  lock_fails Anchor found e ne = failed_step e.core (Lock Anchor found) a_lock (target_word Anchor) found e.learned_is (anchor_held e.core found e.core.anchor e.legal.1 ne)
+  lock_fails (NodeTarget n) found e ne = failed_step e.core (Lock (NodeTarget n) found) a_lock (target_word (NodeTarget n)) found e.learned_is (rw (dead found 2 ne) refl)
 
-  claim_held : (c : Core) (r : Rec) (found : ℕ) (f : Fate) → found ≡ state_word (tag_of (lock_of c r) f) → (found ≡ 0 → ⊥) → claim_learned c r found f k ≡ failed_with k (word_of r 0) found
+  claim_held : (c : Core) (r : Rec) (found : ℕ) (f : Fate) → found ≡ state_word (tag_of (lock_of c r) f) → (found ≡ 0 → ⊥) → claim_learned c r found f k ≡ failed_with k a_claim (word_of r 0) found
   claim_held c r found Free e ne = absurd (ne e)
   claim_held c r found (HeldBy q) e ne = refl
   claim_held c r found (ReadyBy q) e ne = refl
@@ -287,8 +289,8 @@ module _ (layout : Layout) (k j : Known) where
   claim_held c r found (UnlinkedBy s l q) e ne = refl
   claim_held c r found (Marked s l epoch) e ne = refl
 
-  pub claim_fails : (r : Rec) (found : ℕ) → IsEvent layout (Claim r found) silent k j → (found ≡ 0 → ⊥) → j ≡ record (failed_with k (word_of r 0) found) { steps = k.steps + 1 }
-  claim_fails r found e ne = failed_step e.core (Claim r found) (word_of r 0) found e.learned_is (claim_held e.core r found (e.core.fate r) e.legal.1.1 ne)
+  pub claim_fails : (r : Rec) (found : ℕ) → IsEvent layout (Claim r found) silent k j → (found ≡ 0 → ⊥) → j ≡ record (failed_with k a_claim (word_of r 0) found) { steps = k.steps + 1 }
+  claim_fails r found e ne = failed_step e.core (Claim r found) a_claim (word_of r 0) found e.learned_is (claim_held e.core r found (e.core.fate r) e.legal.1.1 ne)
 
 -- The root, under the anchor's lock
 

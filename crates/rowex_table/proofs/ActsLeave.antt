@@ -66,7 +66,9 @@ module _ (layout : Layout) (k j : Known) where
   as_before c (SetPin w) = record { pass = refl; front = λ t. refl; fresh = λ t. refl; failed = λ t. refl; own = λ t. refl; locks = λ t. refl; anchor = λ t. refl; pin = λ t. absurd t; round = λ t. refl }
   as_before c ClearPin = record { pass = refl; front = λ t. refl; fresh = λ t. refl; failed = λ t. refl; own = λ t. refl; locks = λ t. refl; anchor = λ t. refl; pin = λ t. absurd t; round = λ t. refl }
   as_before c (LoadPin o w) = record { pass = refl; front = λ t. refl; fresh = λ t. refl; failed = λ t. refl; own = λ t. refl; locks = λ t. refl; anchor = λ t. refl; pin = λ t. refl; round = λ t. absurd t }
-  as_before c (LoadState r w) = record { pass = refl; front = λ t. refl; fresh = λ t. refl; failed = λ t. refl; own = λ t. refl; locks = λ t. refl; anchor = λ t. refl; pin = λ t. refl; round = λ t. refl }
+  as_before c (LoadState r w) = one_of (LoadState r w) (nat_eq w 0) _ _
+      (record { pass = refl; front = λ t. refl; fresh = λ t. refl; failed = λ t. absurd t; own = λ t. refl; locks = λ t. refl; anchor = λ t. refl; pin = λ t. refl; round = λ t. refl })
+      (record { pass = refl; front = λ t. refl; fresh = λ t. refl; failed = λ t. absurd t; own = λ t. refl; locks = λ t. refl; anchor = λ t. refl; pin = λ t. refl; round = λ t. refl })
   as_before c (GiveBack r epoch found) = record { pass = refl; front = λ t. refl; fresh = λ t. refl; failed = λ t. refl; own = λ t. refl; locks = λ t. refl; anchor = λ t. refl; pin = λ t. refl; round = λ t. refl }
 
   pub act_leaves : (act : Act) → IsEvent layout act silent k j → IsNext act k j

@@ -65,7 +65,7 @@ learned_pass c (Advance expected found) k = refl
 learned_pass c (SetPin w) k = refl
 learned_pass c ClearPin k = refl
 learned_pass c (LoadPin o w) k = refl
-learned_pass c (LoadState r w) k = refl
+learned_pass c (LoadState r w) k = either_pass (nat_eq w 0) _ _ k refl refl
 learned_pass c (GiveBack r epoch found) k = refl
 
 pub event_pass : (layout : Layout) (act : Act) (said : Known → List Note) (k j : Known) → IsEvent layout act said k j → j.pass ≡ k.pass

@@ -152,7 +152,7 @@ module _ (layout : Layout) (said : Known → List Note) (k j : Known) where
   learned_own c (SetPin w) t = refl
   learned_own c ClearPin t = refl
   learned_own c (LoadPin o w) t = refl
-  learned_own c (LoadState r w) t = refl
+  learned_own c (LoadState r w) t = both_own (nat_eq w 0) _ _ refl refl
   learned_own c (GiveBack r epoch found) t = refl
   learned_own c _ t = absurd t
 

@@ -1,7 +1,7 @@
 -- What each act leaves its pass of what it knew.
 use Rattle.std.specs.Prelude.{◌≡◌, ◌+◌}
 use Rattle.rowex_core.specs.declared.event.Act.{Act}
-use Rattle.rowex_core.specs.declared.event.Act.TheVariants.{Claim, Fill, Ready, Release, LoadRef, LoadFixed, Lock, Unlock, Publish, Mark, LoadEpoch, SetPin, ClearPin, LoadPin}
+use Rattle.rowex_core.specs.declared.event.Act.TheVariants.{Claim, Fill, Ready, Release, LoadRef, LoadFixed, Lock, Unlock, Publish, Mark, LoadEpoch, SetPin, ClearPin, LoadPin, LoadState}
 use Rattle.rowex_core.specs.declared.event.Spot.TheVariants.{Root}
 use Rattle.rowex_core.specs.declared.event.Target.TheVariants.{Anchor, Node as NodeTarget}
 use Rattle.rowex_core.specs.declared.known.Known.{Known}
@@ -22,6 +22,7 @@ LeavesFresh act = Unit {0}
 abbrev pub LeavesFailed : Act → Type 0
 LeavesFailed (Claim r found) = ⊥
 LeavesFailed (Lock target found) = ⊥
+LeavesFailed (LoadState r w) = ⊥
 LeavesFailed act = Unit {0}
 
 -- a step that leaves the records that its pass owns

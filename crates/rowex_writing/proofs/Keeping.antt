@@ -15,18 +15,19 @@ use Rattle.moments.specs.Core.{Fate, Free}
 use Rattle.moments.specs.Trades.{IsOf, AreApart}
 use Rattle.moments.proofs.Members.{all_of, map_of, of_map, of_append, apart_push}
 use Rattle.rowex_core.specs.declared.event.Act.{Act}
-use Rattle.rowex_core.specs.declared.event.Act.TheVariants.{Claim, Lock}
+use Rattle.rowex_core.specs.declared.event.Act.TheVariants.{Claim, Lock, LoadState}
 use Rattle.rowex_core.specs.declared.event.Event.{Event}
 use Rattle.rowex_core.specs.declared.event.Target.TheVariants.{Anchor, Node as NodeTarget}
 use Rattle.rowex_core.specs.declared.known.Failed.{Failed}
+use Rattle.rowex_core.specs.declared.known.FailedAct.TheVariants.{Lock as a_lock, LoadState as a_load}
 use Rattle.rowex_core.specs.declared.known.Holding.TheVariants.{Held}
 use Rattle.rowex_core.specs.declared.known.Known.{Known}
 use Rattle.rowex_core.specs.declared.known.Locked.{Locked}
 use Rattle.rowex_core.specs.declared.known.Owned.{Owned}
 use Rattle.rowex_core.specs.Cores.{Core, HasRecord}
-use Rattle.rowex_core.specs.Events.{target_word}
+use Rattle.rowex_core.specs.Events.{target_word, word_of}
 use Rattle.rowex_core.specs.Having.{AreKept}
-use Rattle.rowex_core.specs.Knowing.{IsEvent, failed_with, claim_learned, anchor_learned, node_learned}
+use Rattle.rowex_core.specs.Knowing.{IsEvent, failed_with, claim_learned, anchor_learned, node_learned, state_learned}
 use Rattle.rowex_core.specs.Sharing.{IsOwned}
 use Rattle.rowex_core.proofs.Having.{owned_used}
 use Rattle.rowex_core.proofs.Owning.{knows_all}
@@ -61,7 +62,14 @@ module _ (c : Core) (k : Known) (x : Failed) (h : Contains k.failed x) where
   node_failed : (n found : ℕ) → Contains (node_learned c n found k).failed x
   node_failed n found = go (nat_eq found 2)
     where
-      go : (b : Bool) → Contains (if b then record k { locks = record { node = n; words = c.words (a_node n) } ∷ k.locks } else failed_with k (target_word (NodeTarget n)) found).failed x
+      go : (b : Bool) → Contains (if b then record k { locks = record { node = n; words = c.words (a_node n) } ∷ k.locks } else failed_with k a_lock (target_word (NodeTarget n)) found).failed x
+      go true = h
+      go false = one_more k.failed _ x h
+
+  state_failed : (r : Rec) (w : ℕ) → Contains (state_learned r w k).failed x
+  state_failed r w = go (nat_eq w 0)
+    where
+      go : (b : Bool) → Contains (if b then k else failed_with k a_load (word_of r 0) w).failed x
       go true = h
       go false = one_more k.failed _ x h
 
@@ -69,6 +77,7 @@ failed_on : (layout : Layout) (k j : Known) (act : Act) (x : Failed) → IsEvent
 failed_on layout k j (Claim r found) x e h = subst (λ (z : Known). Contains z.failed x) (sym e.learned_is) (claim_failed e.core k x h r found (e.core.fate r))
 failed_on layout k j (Lock Anchor found) x e h = subst (λ (z : Known). Contains z.failed x) (sym e.learned_is) (anchor_failed e.core k x h found e.core.anchor)
 failed_on layout k j (Lock (NodeTarget n) found) x e h = subst (λ (z : Known). Contains z.failed x) (sym e.learned_is) (node_failed e.core k x h n found)
+failed_on layout k j (LoadState r w) x e h = subst (λ (z : Known). Contains z.failed x) (sym e.learned_is) (state_failed e.core k x h r w)
 failed_on layout k j act x e h = subst (λ z. Contains z x) (sym ((act_leaves layout k j act e).failed tt)) h
 
 module _ {G : Type 0} (table : TableView) (becomes : G → Event → G → Type 0) where
@@ -78,7 +87,7 @@ module _ {G : Type 0} (table : TableView) (becomes : G → Event → G → Type 
 
   -- none was free still
   pub missed_on : (kind : ℕ → Rec) (n since : ℕ) (a b : SeatView × G) → HasRun table becomes a b → AllMissed kind n a.0.known.failed since → AllMissed kind n b.0.known.failed since
-  missed_on kind n since a b run missed = λ q low. (let (step, late, (word, one, has)) = missed q low in (step, late, (word, one, run_failed run.acts a b run.steps _ has)))
+  missed_on kind n since a b run missed = λ q low. (let (step, late, (act, word, tells, one, has)) = missed q low in (step, late, (act, word, tells, one, run_failed run.acts a b run.steps _ has)))
 
 -- ---- records that are given up
 reverse_more : {X : Type 0} (x : X) (xs : List X) → reverse (x ∷ xs) ≡ reverse xs ++ x ∷ []

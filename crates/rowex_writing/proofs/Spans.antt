@@ -75,6 +75,7 @@ met_since k i j h count same m = record {
   target = m.target;
   failed = m.failed;
   is = subst (λ z. Contains z m.failed) (sym same) m.is;
+  act = m.act;
   place = m.place;
   word = m.word;
   now = let l = m.now in omega arith;

@@ -17,6 +17,7 @@ use Rattle.rowex_core.specs.declared.event.Event.{Event}
 use Rattle.rowex_core.specs.declared.event.Target.{Target}
 use Rattle.rowex_core.specs.declared.event.Target.TheVariants.{Anchor, Node as NodeTarget}
 use Rattle.rowex_core.specs.declared.known.Failed.{Failed}
+use Rattle.rowex_core.specs.declared.known.FailedAct.TheVariants.{Lock as a_lock}
 use Rattle.rowex_core.specs.declared.known.Known.{Known}
 use Rattle.rowex_core.specs.Events.{target_word}
 use Rattle.rowex_core.specs.Knowing.{IsEvent, IsSince}
@@ -85,8 +86,8 @@ module _ (layout : Layout) (k j : Known) where
   met : (target : Target) (found : ℕ) → IsEvent layout (Lock target found) silent k j → found ≢ 2 → IsTakenWord found → IsRefusedLock k j
   met target found e ne taken =
       let is = before.lock_fails layout k j target found e ne in
-      let here : Failed = record { location = target_word target; word = found; step = k.steps } in (
-        record { target = target; failed = here; is = subst (λ (z : Known). Contains z.failed here) (sym is) (0, omega arith, refl); place = refl; word = taken; now = omega arith },
+      let here : Failed = record { act = a_lock; location = target_word target; word = found; step = k.steps } in (
+        record { target = target; failed = here; is = subst (λ (z : Known). Contains z.failed here) (sym is) (0, omega arith, refl); act = refl; place = refl; word = taken; now = omega arith },
         ap (λ (z : Known). z.locks) is,
         ap (λ (z : Known). z.anchor) is,
         ap (λ (z : Known). z.own) is,

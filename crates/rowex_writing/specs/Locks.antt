@@ -13,6 +13,7 @@ use Rattle.rowex_core.specs.declared.event.Event.{Event}
 use Rattle.rowex_core.specs.declared.event.Spot.TheVariants.{Root}
 use Rattle.rowex_core.specs.declared.event.Target.{Target}
 use Rattle.rowex_core.specs.declared.known.Failed.{Failed}
+use Rattle.rowex_core.specs.declared.known.FailedAct.TheVariants.{Lock as a_lock}
 use Rattle.rowex_core.specs.declared.known.Known.{Known}
 use Rattle.rowex_core.specs.Events.{target_word}
 use Rattle.rowex_core.specs.Having.{LocksJust}
@@ -96,6 +97,7 @@ pub record HasMetTaken (since : ℕ) (tried : List Failed) : Type 0 where
   pub target : Target
   pub failed : Failed
   pub is : Contains tried failed
+  pub act : failed.act ≡ a_lock
   pub place : failed.location ≡ target_word target
   pub word : IsTakenWord failed.word
   pub now : since ≤ failed.step
