@@ -1,15 +1,17 @@
 -- What claims of records come to.
-use Rattle.std.proofs.Common.{◌≡◌, ◌≢◌, ℕ, zero, suc, ◌+◌, ◌-◌, ◌<◌, ◌≤◌, List, [], ◌∷◌, ◌++◌, Option, Bool, true, false, nat_lt, if◌then◌else◌, refl, sym, ap, subst, ◌∙◌, arith, length-append}
+use Rattle.std.proofs.Common.{◌≡◌, ◌≢◌, ℕ, zero, suc, ◌+◌, ◌-◌, ◌<◌, ◌≤◌, ◌*◌, inl, inr, List, [], ◌∷◌, ◌++◌, length, Option, Bool, true, false, nat_lt, nat_eq, if◌then◌else◌, refl, sym, ap, subst, ◌∙◌, arith, length-append}
 use Rattle.std.specs.Prelude.{All, Contains}
-use Rattle.std.proofs.lemmas.Bool.{ltb-true, ltb-false, lt-ltb, le-ltb}
+use Rattle.std.proofs.lemmas.Bool.{eqb-true, ltb-true, ltb-false, lt-ltb, le-ltb}
 use Rattle.std.proofs.lemmas.List.Elements.{All-weaker}
 use Rattle.record_words.specs.State.{state_word}
 use Rattle.moments.specs.declared.Rec.{Rec}
 use Rattle.moments.specs.Core.{Fate, Free, Held as HeldBy, Ready as ReadyBy, InTree, Unlinked, Marked}
-use Rattle.rowex_core.specs.declared.event.Act.TheVariants.{Claim}
+use Rattle.rowex_core.specs.declared.event.Act.{Act}
+use Rattle.rowex_core.specs.declared.event.Act.TheVariants.{Claim, LoadState}
 use Rattle.rowex_core.specs.declared.event.Event.{Event}
 use Rattle.rowex_core.specs.declared.known.Failed.{Failed}
-use Rattle.rowex_core.specs.declared.known.FailedAct.TheVariants.{Claim as a_claim}
+use Rattle.rowex_core.specs.declared.known.FailedAct.{FailedAct}
+use Rattle.rowex_core.specs.declared.known.FailedAct.TheVariants.{Claim as a_claim, LoadState as a_load}
 use Rattle.rowex_core.specs.declared.known.Holding.{Holding}
 use Rattle.rowex_core.specs.declared.known.Holding.TheVariants.{Held, Ready as IsReady, Unlinked as IsUnlinked}
 use Rattle.rowex_core.specs.declared.known.Known.{Known}
@@ -17,15 +19,15 @@ use Rattle.rowex_core.specs.Cores.{Core}
 use Rattle.rowex_core.specs.Words.{lock_of, tag_of}
 use Rattle.rowex_core.specs.Events.{word_of}
 use Rattle.rowex_core.specs.Sharing.{IsOwned, fate_of}
-use Rattle.rowex_core.specs.Knowing.{Knows, claim_learned}
+use Rattle.rowex_core.specs.Knowing.{Knows, claim_learned, failed_with}
 use Rattle.rowex_core.proofs.Owning.{knows_all}
 use Rattle.rowex_table.specs.Rights.{OwnsAs, IsClaimed}
-use Rattle.rowex_table.specs.Runs.{Steps}
+use Rattle.rowex_table.specs.Runs.{Steps, Does}
 use Rattle.rowex_table.specs.Seats.{TableView, SeatView}
 use Rattle.rowex_table.proofs.Rights.{free_tag}
 use Rattle.rowex_table.proofs.Running.{in_turn_more, does_count}
-use Rattle.rowex_records.specs.Claims.{claiming, wrapped, Misses, HasMissed, FindsNone, Claims, AllMissed}
-use Rattle.rowex_records.proofs.Making.{claims_nothing, claims_one, claims_append}
+use Rattle.rowex_records.specs.Claims.{claiming, wrapped, Misses, HasMissedSince, MissesOne, HoldsOneMore, ClaimsOne, FindsNone, Claims, AllMissed}
+use Rattle.rowex_records.proofs.Making.{counted, claims_nothing, claims_one, looks_one, claims_append}
 
 -- Numbers in turn
 
@@ -50,13 +52,13 @@ turned_to n from q low below = go (nat_lt q from) refl
         let here : nat_lt (from + (q - from)) n ≡ true = lt-ltb (from + (q - from)) n (omega arith) in
         (q - from, omega arith, rw here (omega arith))
 
--- One claim
+-- One try
 
--- what a claim teaches that finds another word
-abbrev pub Learns : Rec → ℕ → Known → Known → Type 0
-Learns r found k l = (l.own ≡ k.own) × (l.failed ≡ record { act = a_claim; location = word_of r 0; word = found; step = k.steps } ∷ k.failed)
+-- what a step teaches that finds the record not free
+abbrev pub Learns : FailedAct → Rec → ℕ → Known → Known → Type 0
+Learns act r found k l = (l.own ≡ k.own) × (l.failed ≡ record { act = act; location = word_of r 0; word = found; step = k.steps } ∷ k.failed)
 
-learns_of : (c : Core) (r : Rec) (found : ℕ) (lock : Option ℕ) (f : Fate) (k : Known) → found ≡ state_word (tag_of lock f) → 1 ≤ found → Learns r found k (claim_learned c r found f k)
+learns_of : (c : Core) (r : Rec) (found : ℕ) (lock : Option ℕ) (f : Fate) (k : Known) → found ≡ state_word (tag_of lock f) → 1 ≤ found → Learns a_claim r found k (claim_learned c r found f k)
 learns_of c r found lock Free k e low = absurd (omega arith)
 learns_of c r found lock (HeldBy q) k e low = (refl, refl)
 learns_of c r found lock (ReadyBy q) k e low = (refl, refl)
@@ -73,31 +75,107 @@ free_apart c k r known free = All-weaker (IsOwned k.pass c) (λ o. o.rec ≢ r) 
     owned IsReady e = cc
     owned (IsUnlinked since last) e = cc
 
-further : (missed : List Failed) (x : Failed) (r : Rec) (step : ℕ) → HasMissed missed r step → HasMissed (x ∷ missed) r step
-further missed x r step (act, word, tells, one, (at, low, is)) = (act, word, tells, one, (suc at, omega arith, is))
+further : (missed : List Failed) (x : Failed) (r : Rec) (since : ℕ) → HasMissedSince missed r since → HasMissedSince (x ∷ missed) r since
+further missed x r since (step, late, (act, word, tells, one, (at, low, is))) = (step, late, (act, word, tells, one, (suc at, omega arith, is)))
 
 at_front : (missed failed : List Failed) (x : Failed) → Contains missed x → Contains (missed ++ failed) x
 at_front [] failed x (i, low, is) = absurd (omega arith)
 at_front (y ∷ missed) failed x (zero, low, is) = (0, omega arith, is)
 at_front (y ∷ missed) failed x (suc i, low, is) = let rest = at_front missed failed x (i, omega arith, is) in let below = rest.1 in (suc rest.0, omega arith, rest.2)
 
-missed_before : (missed failed : List Failed) (r : Rec) (step : ℕ) → HasMissed missed r step → HasMissed (missed ++ failed) r step
-missed_before missed failed r step (act, word, tells, one, has) = (act, word, tells, one, at_front missed failed _ has)
+missed_among : (missed failed : List Failed) (r : Rec) (since : ℕ) → HasMissedSince missed r since → HasMissedSince (missed ++ failed) r since
+missed_among missed failed r since (step, late, (act, word, tells, one, has)) = (step, late, (act, word, tells, one, at_front missed failed _ has))
+
+missed_earlier : (missed : List Failed) (r : Rec) (since later : ℕ) → since ≤ later → HasMissedSince missed r later → HasMissedSince missed r since
+missed_earlier missed r since later low (step, late, has) = (step, omega arith, has)
+
+-- where each was found not free since a later step, it was since an earlier one
+pub all_earlier : (kind : ℕ → Rec) (n : ℕ) (failed : List Failed) (since later : ℕ) → since ≤ later → AllMissed kind n failed later → AllMissed kind n failed since
+all_earlier kind n failed since later low all q below = missed_earlier failed (kind q) since later low (all q below)
+
+-- a record that is claimed is held,
+pub more_is_claimed : (r : Rec) (k j : Known) → HoldsOneMore r k j → IsClaimed j r
+more_is_claimed r k j holds = (holds.words, holds.sized, subst (λ l. Contains l (record { rec = r; holding = Held; words = holds.words })) (sym holds.own) (0, omega arith, refl))
+
+-- beside what the pass had
+pub more_keeps : (r s : Rec) (h : Holding) (words : List ℕ) (k j : Known) → HoldsOneMore r k j → OwnsAs k s h words → OwnsAs j s h words
+more_keeps r s h words k j holds has =
+    let low = has.1 in
+    subst (λ l. Contains l (record { rec = s; holding = h; words = words })) (sym holds.own) (suc has.0, omega arith, has.2)
 
 module _ {G : Type 0} (table : TableView) (becomes : G → Event → G → Type 0) where
-  claim_misses : (r : Rec) (found : ℕ) (a b : SeatView × G) → 1 ≤ found → Steps table becomes (Claim r found) a b → Learns r found a.0.known b.0.known
+  load_misses : (r : Rec) (word : ℕ) (a b : SeatView × G) → 1 ≤ word → Steps table becomes (LoadState r word) a b → Learns a_load r word a.0.known b.0.known
+  load_misses r word a b low step = go (nat_eq word 0) refl step.event.learned_is
+    where
+      go : (free : Bool) → nat_eq word 0 ≡ free → b.0.known ≡ counted a.0.known (if free then a.0.known else failed_with a.0.known a_load (word_of r 0) word) → Learns a_load r word a.0.known b.0.known
+      go true e is = absurd (let zero_word = eqb-true word 0 e in omega arith)
+      go false e is = (ap (λ (z : Known). z.own) is, ap (λ (z : Known). z.failed) is)
+
+  claim_misses : (r : Rec) (found : ℕ) (a b : SeatView × G) → 1 ≤ found → Steps table becomes (Claim r found) a b → Learns a_claim r found a.0.known b.0.known
   claim_misses r found a b low step =
       let e = step.event in
       let learns = learns_of e.core r found (lock_of e.core r) (e.core.fate r) a.0.known e.legal.1.1 low in
       (ap (λ (z : Known). z.own) e.learned_is ∙ learns.0, ap (λ (z : Known). z.failed) e.learned_is ∙ learns.1)
 
-  -- Claims in turn
+  -- the load found the record not free,
+  pub missed_by_load : (r : Rec) (word : ℕ) (a b : SeatView × G) → 1 ≤ word → Steps table becomes (LoadState r word) a b → MissesOne table becomes r a b
+  missed_by_load r word a b low step = record {
+    acts = LoadState r word ∷ [];
+    misses = (word, low, inl refl);
+    does = looks_one table becomes r word a b step;
+    own = (load_misses r word a b low step).0;
+    failed = record { act = a_load; location = word_of r 0; word = word; step = a.0.known.steps };
+    failed_is = (load_misses r word a b low step).1;
+    tells = (a.0.known.steps, omega arith, (a_load, word, tt, low, (0, omega arith, refl)));
+  }
+
+  -- or found it free, and teaches nothing,
+  looked : (r : Rec) (a b : SeatView × G) → Steps table becomes (LoadState r 0) a b → (b.0.known.own ≡ a.0.known.own) × (b.0.known.failed ≡ a.0.known.failed) × (b.0.known.steps ≡ a.0.known.steps + 1)
+  looked r a b step = let is = step.event.learned_is in (ap (λ (z : Known). z.own) is, ap (λ (z : Known). z.failed) is, ap (λ (z : Known). z.steps) is)
+
+  tries_two : (r : Rec) (found : ℕ) (a i b : SeatView × G) → Steps table becomes (LoadState r 0) a i → Steps table becomes (Claim r found) i b → Does table becomes claiming (LoadState r 0 ∷ Claim r found ∷ []) a b
+  tries_two r found a i b load claim = claims_append table becomes (LoadState r 0 ∷ []) (Claim r found ∷ []) a i b (looks_one table becomes r 0 a i load) (claims_one table becomes r found i b claim)
+
+  -- and the claim found it taken meanwhile,
+  pub missed_by_claim : (r : Rec) (found : ℕ) (a i b : SeatView × G) → 1 ≤ found → Steps table becomes (LoadState r 0) a i → Steps table becomes (Claim r found) i b → MissesOne table becomes r a b
+  missed_by_claim r found a i b low load claim =
+      let first = looked r a i load in
+      let learns = claim_misses r found i b low claim in record {
+        acts = LoadState r 0 ∷ Claim r found ∷ [];
+        misses = (found, low, inr refl);
+        does = tries_two r found a i b load claim;
+        own = learns.0 ∙ first.0;
+        failed = record { act = a_claim; location = word_of r 0; word = found; step = i.0.known.steps };
+        failed_is = learns.1 ∙ ap (λ l. record { act = a_claim; location = word_of r 0; word = found; step = i.0.known.steps } ∷ l) first.1;
+        tells = (i.0.known.steps, let next = first.2 in omega arith, (a_claim, found, tt, low, (0, omega arith, refl)));
+      }
+
+  -- or took it
+  pub claimed_free : (r : Rec) (found : ℕ) (a i b : SeatView × G) → found ≡ 0 → Steps table becomes (LoadState r 0) a i → Steps table becomes (Claim r found) i b → ClaimsOne table becomes r a b
+  claimed_free r found a i b free_word load claim =
+      let first = looked r a i load in
+      let event = subst (λ w. Steps table becomes (Claim r w) i b) free_word claim in
+      let e = event.event in
+      let c : Core = e.core in
+      let free : c.fate r ≡ Free = free_tag (lock_of c r) (c.fate r) (sym e.legal.1.1) in
+      record {
+        does = tries_two r 0 a i b load event;
+        failed = ap (λ (z : Known). z.failed) e.learned_is ∙ (ap (λ f. (claim_learned c r 0 f i.0.known).failed) free ∙ first.1);
+        holds = record {
+          words = c.words r;
+          sized = (e.lawful.records.sized r).0;
+          own = ap (λ (z : Known). z.own) e.learned_is ∙ (ap (λ f. (claim_learned c r 0 f i.0.known).own) free ∙ ap (λ l. record { rec = r; holding = Held; words = c.words r } ∷ l) first.0);
+          apart = subst (λ l. All (λ o. o.rec ≢ r) l) first.0 (free_apart c i.0.known r e.knows free);
+        };
+      }
+
+  -- Tries in turn
 
   pub finds_none : (kind : ℕ → Rec) (n from : ℕ) (a : SeatView × G) → FindsNone table becomes kind n from 0 a a
   finds_none kind n from a = record {
-    claims = [];
+    tries = [];
     in_turn = refl;
-    count = refl;
+    few = omega arith;
     does = claims_nothing table becomes a;
     own = refl;
     missed = [];
@@ -106,92 +184,64 @@ module _ {G : Type 0} (table : TableView) (becomes : G → Event → G → Type 
     each = λ i low. absurd (omega arith);
   }
 
+  misses_few : (r : Rec) (acts : List Act) → Misses r acts → length acts ≤ 2
+  misses_few r acts (word, low, inl is) = let n = ap length is in omega arith
+  misses_few r acts (word, low, inr is) = let n = ap length is in omega arith
+
   -- one more record, which was not free either
-  pub finds_more : (kind : ℕ → Rec) (n from m number found : ℕ) (a i b : SeatView × G) → number ≡ wrapped n from m → FindsNone table becomes kind n from m a i → 1 ≤ found
-      → Steps table becomes (Claim (kind number) found) i b → FindsNone table becomes kind n from (m + 1) a b
-  finds_more kind n from m number found a i b is none low step = record {
-    claims = none.claims ++ Claim r found ∷ [];
-    in_turn = in_turn_more (λ z. Misses (kind (wrapped n from z))) m none.claims (Claim r found ∷ []) none.in_turn (found, low, ap (λ z. Claim (kind z) found ∷ []) is);
-    count = let count = none.count in omega (arith, length-append none.claims (Claim r found ∷ []));
-    does = claims_append table becomes none.claims (Claim r found ∷ []) a i b none.does (claims_one table becomes r found i b step);
-    own = learns.0 ∙ none.own;
-    missed = last ∷ none.missed;
-    failed = learns.1 ∙ ap (λ l. last ∷ l) none.failed;
+  pub finds_more : (kind : ℕ → Rec) (n from m number : ℕ) (a i b : SeatView × G) → number ≡ wrapped n from m → FindsNone table becomes kind n from m a i
+      → MissesOne table becomes (kind number) i b → FindsNone table becomes kind n from (m + 1) a b
+  finds_more kind n from m number a i b is none one = record {
+    tries = none.tries ++ one.acts;
+    in_turn = in_turn_more (λ z. Misses (kind (wrapped n from z))) m none.tries one.acts none.in_turn (subst (λ z. Misses (kind z) one.acts) is one.misses);
+    few = let few = none.few in let two = misses_few (kind number) one.acts one.misses in omega (arith, length-append none.tries one.acts);
+    does = claims_append table becomes none.tries one.acts a i b none.does one.does;
+    own = one.own ∙ none.own;
+    missed = one.failed ∷ none.missed;
+    failed = one.failed_is ∙ ap (λ l. one.failed ∷ l) none.failed;
     size = let size = none.size in omega arith;
     each = each;
   }
     where
-      r : Rec
-      r = kind number
+      at : a.0.known.steps ≤ i.0.known.steps
+      at = let steps = does_count table becomes claiming none.tries a i none.does in omega arith
 
-      learns : Learns r found i.0.known b.0.known
-      learns = claim_misses r found i b low step
-
-      last : Failed
-      last = record { act = a_claim; location = word_of r 0; word = found; step = i.0.known.steps }
-
-      at : i.0.known.steps ≡ a.0.known.steps + m
-      at = let count = none.count in let steps = does_count table becomes claiming none.claims a i none.does in omega arith
-
-      each : (z : ℕ) → z < m + 1 → HasMissed (last ∷ none.missed) (kind (wrapped n from z)) (a.0.known.steps + z)
+      each : (z : ℕ) → z < m + 1 → HasMissedSince (one.failed ∷ none.missed) (kind (wrapped n from z)) a.0.known.steps
       each z below = go (nat_lt z m) refl
         where
-          go : (t : Bool) → nat_lt z m ≡ t → HasMissed (last ∷ none.missed) (kind (wrapped n from z)) (a.0.known.steps + z)
-          go true e = further none.missed last (kind (wrapped n from z)) (a.0.known.steps + z) (none.each z (ltb-true z m e))
+          go : (t : Bool) → nat_lt z m ≡ t → HasMissedSince (one.failed ∷ none.missed) (kind (wrapped n from z)) a.0.known.steps
+          go true e = further none.missed one.failed (kind (wrapped n from z)) a.0.known.steps (none.each z (ltb-true z m e))
           go false e =
               let high = ltb-false z m e in
               let same : m ≡ z = omega arith in
-              subst (λ y. HasMissed (last ∷ none.missed) (kind (wrapped n from y)) (a.0.known.steps + y)) same
-              (subst (λ step. HasMissed (last ∷ none.missed) (kind (wrapped n from m)) step) at
-              (subst (λ y. HasMissed (last ∷ none.missed) (kind y) i.0.known.steps) is (a_claim, found, tt, low, (0, omega arith, refl))))
+              subst (λ y. HasMissedSince (one.failed ∷ none.missed) (kind (wrapped n from y)) a.0.known.steps) same
+              (subst (λ y. HasMissedSince (one.failed ∷ none.missed) (kind y) a.0.known.steps) is
+              (missed_among (one.failed ∷ []) none.missed (kind number) a.0.known.steps (missed_earlier (one.failed ∷ []) (kind number) a.0.known.steps i.0.known.steps at one.tells)))
 
   -- all have been tried
   pub finds_all : (kind : ℕ → Rec) (n from begin m : ℕ) (a b : SeatView × G) → from ≡ begin → m ≡ n → FindsNone table becomes kind n from m a b → FindsNone table becomes kind n begin n a b
   finds_all kind n from begin m a b is all none = subst (λ z. FindsNone table becomes kind n z n a b) is (subst (λ z. FindsNone table becomes kind n from z a b) all none)
 
-  -- where all have been tried, each has a failed claim since the first
+  -- where all have been tried, each was found not free since the first
   pub all_missed : (kind : ℕ → Rec) (n from : ℕ) (a b : SeatView × G) → from < n → FindsNone table becomes kind n from n a b → AllMissed kind n b.0.known.failed a.0.known.steps
   all_missed kind n from a b low none q below =
       let turn = turned_to n from q low below in
-      let missed = subst (λ z. HasMissed none.missed (kind z) (a.0.known.steps + turn.0)) turn.2 (none.each turn.0 turn.1) in (
-        a.0.known.steps + turn.0,
-        omega arith,
-        subst (λ l. HasMissed l (kind q) (a.0.known.steps + turn.0)) (sym none.failed) (missed_before none.missed a.0.known.failed (kind q) (a.0.known.steps + turn.0) missed),
-      )
+      subst (λ l. HasMissedSince l (kind q) a.0.known.steps) (sym none.failed) (missed_among none.missed a.0.known.failed (kind q) a.0.known.steps
+      (subst (λ z. HasMissedSince none.missed (kind z) a.0.known.steps) turn.2 (none.each turn.0 turn.1)))
 
   -- some that were not free, and then one that was
-  pub claims_next : (kind : ℕ → Rec) (n from begin m number found : ℕ) (a i b : SeatView × G) → from ≡ begin → m < n → number ≡ wrapped n from m → FindsNone table becomes kind n from m a i → found ≡ 0
-      → Steps table becomes (Claim (kind number) found) i b → Claims table becomes kind n begin number a b
-  claims_next kind n from begin m number found a i b same low is none free_word step = subst (λ z. Claims table becomes kind n z number a b) same (
-      let r : Rec = kind number in
-      let event = subst (λ w. Steps table becomes (Claim r w) i b) free_word step in
-      let e = event.event in
-      let c : Core = e.core in
-      let free : c.fate r ≡ Free = free_tag (lock_of c r) (c.fate r) (sym e.legal.1.1) in
-      record {
-        tried = m;
-        low = low;
-        number_is = is;
-        before = i;
-        none = none;
-        does = claims_one table becomes r 0 i b event;
-        failed = ap (λ (z : Known). z.failed) e.learned_is ∙ ap (λ f. (claim_learned c r 0 f i.0.known).failed) free;
-        words = c.words r;
-        sized = (e.lawful.records.sized r).0;
-        own = ap (λ (z : Known). z.own) e.learned_is ∙ (ap (λ f. (claim_learned c r 0 f i.0.known).own) free ∙ ap (λ l. record { rec = r; holding = Held; words = c.words r } ∷ l) none.own);
-        apart = subst (λ l. All (λ o. o.rec ≢ r) l) none.own (free_apart c i.0.known r e.knows free);
-      })
+  pub claims_next : (kind : ℕ → Rec) (n from begin m number : ℕ) (a i b : SeatView × G) → from ≡ begin → m < n → number ≡ wrapped n from m → FindsNone table becomes kind n from m a i
+      → ClaimsOne table becomes (kind number) i b → Claims table becomes kind n begin number a b
+  claims_next kind n from begin m number a i b same low is none one =
+      subst (λ z. Claims table becomes kind n z number a b) same (record { tried = m; low = low; number_is = is; before = i; none = none; one = one })
 
-  -- a record that is claimed is held
+  pub claims_holds : (kind : ℕ → Rec) (n from number : ℕ) (a b : SeatView × G) → Claims table becomes kind n from number a b → HoldsOneMore (kind number) a.0.known b.0.known
+  claims_holds kind n from number a b claims = let holds = claims.one.holds in record {
+    words = holds.words;
+    sized = holds.sized;
+    own = holds.own ∙ ap (λ l. record { rec = kind number; holding = Held; words = holds.words } ∷ l) claims.none.own;
+    apart = subst (λ l. All (λ o. o.rec ≢ kind number) l) claims.none.own holds.apart;
+  }
+
   pub claims_gives : (kind : ℕ → Rec) (n from number : ℕ) (a b : SeatView × G) → Claims table becomes kind n from number a b → IsClaimed b.0.known (kind number)
-  claims_gives kind n from number a b claims = (
-    claims.words,
-    claims.sized,
-    subst (λ l. Contains l (record { rec = kind number; holding = Held; words = claims.words })) (sym claims.own) (0, omega arith, refl),
-  )
-
-  -- beside what the pass had
-  pub claims_keeps : (kind : ℕ → Rec) (n from number : ℕ) (s : Rec) (h : Holding) (words : List ℕ) (a b : SeatView × G) → Claims table becomes kind n from number a b → OwnsAs a.0.known s h words → OwnsAs b.0.known s h words
-  claims_keeps kind n from number s h words a b claims has =
-      let low = has.1 in
-      subst (λ l. Contains l (record { rec = s; holding = h; words = words })) (sym claims.own) (suc has.0, omega arith, has.2)
+  claims_gives kind n from number a b claims = more_is_claimed (kind number) claims.before.0.known b.0.known claims.one.holds

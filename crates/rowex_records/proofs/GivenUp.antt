@@ -18,9 +18,9 @@ use Rattle.rowex_table.specs.Rights.{IsClaimed}
 use Rattle.rowex_table.specs.Runs.{Does}
 use Rattle.rowex_table.specs.Seats.{TableView, SeatView}
 use Rattle.rowex_table.proofs.Rights.{mapped}
-use Rattle.rowex_records.specs.Claims.{Claims}
+use Rattle.rowex_records.specs.Claims.{Claims, HoldsOneMore}
 use Rattle.rowex_records.specs.Records.{owning, fill_with, HoldsJust, GivesUp, GivesUpAll}
-use Rattle.rowex_records.proofs.Claimed.{claims_gives, claims_keeps}
+use Rattle.rowex_records.proofs.Claimed.{claims_holds, more_is_claimed, more_keeps}
 use Rattle.rowex_records.proofs.Filled.{gives_up_keeps, stays_mapped}
 use Rattle.rowex_records.proofs.Making.{owns_none, owns_append}
 use Rattle.moments.specs.Trades.{IsOf}
@@ -118,18 +118,21 @@ module _ {G : Type 0} (table : TableView) (becomes : G → Event → G → Type 
   pub holds_claimed : (kind : ℕ → Rec) (n from number : ℕ) (recs : List Rec) (a b : SeatView × G) → HoldsJust a.0.known recs → Claims table becomes kind n from number a b
       → HoldsJust b.0.known (recs ++ kind number ∷ [])
   holds_claimed kind n from number recs a b holds claims = record {
-    only = subst (λ own. All (λ o. (o.holding ≡ Held) × Contains more o.rec) own) (sym claims.own)
+    only = subst (λ own. All (λ o. (o.holding ≡ Held) × Contains more o.rec) own) (sym one.own)
         (All-cons (λ o. (o.holding ≡ Held) × Contains more o.rec) _ a.0.known.own (refl, at_end recs r)
         (All-weaker (λ o. (o.holding ≡ Held) × Contains recs o.rec) (λ o. (o.holding ≡ Held) × Contains more o.rec) (λ o h. (h.0, in_front recs (r ∷ []) o.rec h.1)) a.0.known.own holds.only));
     each = All-push (IsClaimed b.0.known) recs r
-        (All-weaker (IsClaimed a.0.known) (IsClaimed b.0.known) (λ s h. (h.0, h.1, claims_keeps table becomes kind n from number s Held h.0 a b claims h.2)) recs holds.each)
-        (claims_gives table becomes kind n from number a b claims);
+        (All-weaker (IsClaimed a.0.known) (IsClaimed b.0.known) (λ s h. (h.0, h.1, more_keeps r s Held h.0 a.0.known b.0.known one h.2)) recs holds.each)
+        (more_is_claimed r a.0.known b.0.known one);
     apart = apart_push recs r holds.apart (λ h. all_of (λ s. s ≢ r) r recs
-        (All-weaker (IsClaimed a.0.known) (λ s. s ≢ r) (λ s h. All-contains (λ o. o.rec ≢ r) a.0.known.own (record { rec = s; holding = Held; words = h.0 }) claims.apart h.2) recs holds.each) h refl);
+        (All-weaker (IsClaimed a.0.known) (λ s. s ≢ r) (λ s h. All-contains (λ o. o.rec ≢ r) a.0.known.own (record { rec = s; holding = Held; words = h.0 }) one.apart h.2) recs holds.each) h refl);
   }
     where
       r : Rec
       r = kind number
+
+      one : HoldsOneMore r a.0.known b.0.known
+      one = claims_holds table becomes kind n from number a b claims
 
       more : List Rec
       more = recs ++ r ∷ []

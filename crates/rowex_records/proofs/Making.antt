@@ -1,18 +1,21 @@
 -- Steps on records of the pass's own: what they leave of what it knows, and how they follow one another.
-use Rattle.std.proofs.Common.{◌≡◌, ℕ, ◌+◌, List, [], ◌∷◌, ◌++◌, length, refl, sym, ap, ◌∙◌}
+use Rattle.std.proofs.Common.{◌≡◌, ℕ, ◌+◌, List, [], ◌∷◌, ◌++◌, Bool, true, false, nat_eq, length, refl, sym, ap, ◌∙◌}
+use Rattle.std.specs.Prelude.{if◌then◌else◌}
 use Rattle.std.proofs.lemmas.List.{append-nil}
 use Rattle.hot_model.specs.declared.Note.{Note}
 use Rattle.record_words.specs.declared.layout.Layout.{Layout}
 use Rattle.moments.specs.declared.Rec.{Rec}
 use Rattle.moments.specs.Core.{Fate, Free, Held, Ready as ReadyBy, InTree, Unlinked, Marked}
 use Rattle.rowex_core.specs.declared.event.Act.{Act}
-use Rattle.rowex_core.specs.declared.event.Act.TheVariants.{Claim, Fill, Ready, Release}
+use Rattle.rowex_core.specs.declared.event.Act.TheVariants.{Claim, LoadState, Fill, Ready, Release}
 use Rattle.rowex_core.specs.declared.event.Event.{Event}
 use Rattle.rowex_core.specs.declared.known.Failed.{Failed}
+use Rattle.rowex_core.specs.declared.known.FailedAct.TheVariants.{LoadState as a_load}
 use Rattle.rowex_core.specs.declared.known.Owned.{Owned}
 use Rattle.rowex_core.specs.declared.known.Known.{Known}
 use Rattle.rowex_core.specs.Cores.{Core}
-use Rattle.rowex_core.specs.Knowing.{IsEvent, claim_learned}
+use Rattle.rowex_core.specs.Events.{word_of}
+use Rattle.rowex_core.specs.Knowing.{IsEvent, claim_learned, failed_with}
 use Rattle.rowex_table.specs.Runs.{silent, Steps, Does}
 use Rattle.rowex_table.specs.Seats.{TableView, SeatView}
 use Rattle.rowex_table.proofs.Running as running
@@ -56,6 +59,10 @@ claim_rest c r found (InTree s) k j e = settled k j _ _ e
 claim_rest c r found (Unlinked s l q) k j e = settled k j _ _ e
 claim_rest c r found (Marked s l epoch) k j e = settled k j _ _ e
 
+look_rest : (r : Rec) (word : ℕ) (free : Bool) (k j : Known) → j ≡ counted k (if free then k else failed_with k a_load (word_of r 0) word) → j ≡ record (claiming k j) { steps = k.steps + 1 }
+look_rest r word true k j e = settled k j _ _ e
+look_rest r word false k j e = settled k j _ _ e
+
 module _ {G : Type 0} (table : TableView) (becomes : G → Event → G → Type 0) where
   -- Steps on held records, one after the other
 
@@ -68,7 +75,7 @@ module _ {G : Type 0} (table : TableView) (becomes : G → Event → G → Type 
   pub owns_append : (acts more : List Act) (a m b : SeatView × G) → Does table becomes owning acts a m → Does table becomes owning more m b → Does table becomes owning (acts ++ more) a b
   owns_append acts more a m b first second = running.does_append table becomes owning (λ k i j n o. refl) acts more a m b first second
 
-  -- Claims, one after the other
+  -- Claims and loads of states, one after the other
 
   pub claims_nothing : (a : SeatView × G) → Does table becomes claiming [] a a
   claims_nothing a = running.does_none table becomes claiming a (λ k. refl)
@@ -76,10 +83,14 @@ module _ {G : Type 0} (table : TableView) (becomes : G → Event → G → Type 
   pub claims_one : (r : Rec) (found : ℕ) (a b : SeatView × G) → Steps table becomes (Claim r found) a b → Does table becomes claiming (Claim r found ∷ []) a b
   claims_one r found a b step = running.does_one table becomes claiming (Claim r found) a b step (claim_rest step.event.core r found (step.event.core.fate r) a.0.known b.0.known step.event.learned_is)
 
+  -- a load of a state teaches nothing else than a claim may
+  pub looks_one : (r : Rec) (word : ℕ) (a b : SeatView × G) → Steps table becomes (LoadState r word) a b → Does table becomes claiming (LoadState r word ∷ []) a b
+  looks_one r word a b step = running.does_one table becomes claiming (LoadState r word) a b step (look_rest r word (nat_eq word 0) a.0.known b.0.known step.event.learned_is)
+
   pub claims_append : (acts more : List Act) (a m b : SeatView × G) → Does table becomes claiming acts a m → Does table becomes claiming more m b → Does table becomes claiming (acts ++ more) a b
   claims_append acts more a m b first second = running.does_append table becomes claiming (λ k i j n o. refl) acts more a m b first second
 
-  -- steps on held records are among those that may change the failed claims too
+  -- steps on held records are among those that may change the failed steps too
   pub owns_claiming : (acts : List Act) (a b : SeatView × G) → Does table becomes owning acts a b → Does table becomes claiming acts a b
   owns_claiming acts a b does = record {
     seat = does.seat;

@@ -1,10 +1,10 @@
--- Claims of the records of a kind, from one number on and then from 0.
-use Rattle.std.specs.Prelude.{◌≡◌, ◌≢◌, ℕ, ◌+◌, ◌-◌, ◌<◌, ◌≤◌, List, [], ◌∷◌, ◌++◌, length, nat_lt, All, Contains, if◌then◌else◌}
+-- Tries of the records of a kind, from one number on and then from 0.
+use Rattle.std.specs.Prelude.{◌≡◌, ◌≢◌, ℕ, ◌+◌, ◌-◌, ◌<◌, ◌≤◌, ◌*◌, ◌⊎◌, List, [], ◌∷◌, ◌++◌, length, nat_lt, All, Contains, if◌then◌else◌}
 use Rattle.record_words.specs.declared.layout.Layout.{Layout}
 use Rattle.moments.specs.declared.Rec.{Rec}
 use Rattle.moments.specs.declared.Rec.TheVariants.{Node as a_node, Leaf as a_leaf}
 use Rattle.rowex_core.specs.declared.event.Act.{Act}
-use Rattle.rowex_core.specs.declared.event.Act.TheVariants.{Claim}
+use Rattle.rowex_core.specs.declared.event.Act.TheVariants.{Claim, LoadState}
 use Rattle.rowex_core.specs.declared.event.Event.{Event}
 use Rattle.rowex_core.specs.declared.known.Failed.{Failed}
 use Rattle.rowex_core.specs.declared.known.FailedAct.{FailedAct}
@@ -27,7 +27,7 @@ abbrev pub count_of : RecordKind → Layout → ℕ
 count_of Node layout = layout.nodes
 count_of Leaf layout = layout.leaves
 
--- of what a pass knows, its own records and its failed claims may change
+-- of what a pass knows, its own records and its failed steps may change
 abbrev pub claiming : Known → Known → Known
 claiming k j = record k { own = j.own; failed = j.failed }
 
@@ -39,9 +39,10 @@ begin_of n from = if nat_lt from n then from else 0
 abbrev pub wrapped : ℕ → ℕ → ℕ → ℕ
 wrapped n from m = if nat_lt (from + m) n then from + m else from + m - n
 
--- a claim that finds the record not free
+-- A try of a record loads its state, and claims it where that is free. These are the steps of one that finds it not free, by the
+-- load or by the claim.
 abbrev pub Misses : Rec → List Act → Type 0
-Misses r acts = (word : ℕ) × (1 ≤ word) × (acts ≡ Claim r word ∷ [])
+Misses r acts = (word : ℕ) × (1 ≤ word) × ((acts ≡ LoadState r word ∷ []) ⊎ (acts ≡ LoadState r 0 ∷ Claim r word ∷ []))
 
 -- a failed step of this kind finds that a record is not free
 abbrev pub TellsState : FailedAct → Type 0
@@ -53,34 +54,55 @@ abbrev pub HasMissed : List Failed → Rec → ℕ → Type 0
 HasMissed failed r step =
     (act : FailedAct) × (word : ℕ) × TellsState act × (1 ≤ word) × Contains failed (record { act = act; location = word_of r 0; word = word; step = step })
 
--- Of the n records of the kind the pass claims m, from this one on, each once, and finds none of them free. It has these m
--- failed claims more, and its own records as they were.
+-- and so at this step or a later one
+abbrev pub HasMissedSince : List Failed → Rec → ℕ → Type 0
+HasMissedSince failed r since = (step : ℕ) × (since ≤ step) × HasMissed failed r step
+
+-- The pass tries the record and finds it not free. It has one failed step more, which tells so, and its own records as they were.
+pub record MissesOne {G : Type 0} (table : TableView) (becomes : G → Event → G → Type 0) (r : Rec) (a b : SeatView × G) : Type 0 where
+  pub acts : List Act
+  pub misses : Misses r acts
+  pub does : Does table becomes claiming acts a b
+  pub own : b.0.known.own ≡ a.0.known.own
+  pub failed : Failed
+  pub failed_is : b.0.known.failed ≡ failed ∷ a.0.known.failed
+  pub tells : HasMissedSince (failed ∷ []) r a.0.known.steps
+
+-- From k to j the pass has come to hold this record, beside those that it had, of which none is this one.
+pub record HoldsOneMore (r : Rec) (k j : Known) : Type 0 where
+  pub words : List ℕ
+  pub sized : length words ≡ word_count_of r
+  pub own : j.own ≡ record { rec = r; holding = Held; words = words } ∷ k.own
+  pub apart : All (λ o. o.rec ≢ r) k.own
+
+-- The pass tries the record, finds it free and claims it.
+pub record ClaimsOne {G : Type 0} (table : TableView) (becomes : G → Event → G → Type 0) (r : Rec) (a b : SeatView × G) : Type 0 where
+  pub does : Does table becomes claiming (LoadState r 0 ∷ Claim r 0 ∷ []) a b
+  pub failed : b.0.known.failed ≡ a.0.known.failed
+  pub holds : HoldsOneMore r a.0.known b.0.known
+
+-- Of the n records of the kind the pass tries m, from this one on, each once, and finds none of them free. It has m failed steps
+-- more, one for each, and its own records as they were.
 pub record FindsNone {G : Type 0} (table : TableView) (becomes : G → Event → G → Type 0) (kind : ℕ → Rec) (n from m : ℕ) (a b : SeatView × G) : Type 0 where
-  pub claims : List Act
-  pub in_turn : InTurn (λ i. Misses (kind (wrapped n from i))) m claims
-  pub count : length claims ≡ m
-  pub does : Does table becomes claiming claims a b
+  pub tries : List Act
+  pub in_turn : InTurn (λ i. Misses (kind (wrapped n from i))) m tries
+  pub few : length tries ≤ 2 * m
+  pub does : Does table becomes claiming tries a b
   pub own : b.0.known.own ≡ a.0.known.own
   pub missed : List Failed
   pub failed : b.0.known.failed ≡ missed ++ a.0.known.failed
   pub size : length missed ≡ m
-  pub each : (i : ℕ) → i < m → HasMissed missed (kind (wrapped n from i)) (a.0.known.steps + i)
+  pub each : (i : ℕ) → i < m → HasMissedSince missed (kind (wrapped n from i)) a.0.known.steps
 
--- The pass finds some of the n records of the kind not free, from this one on, and then claims the one of this number. It holds
--- this one then, beside the records that it had, of which none is this one.
+-- The pass finds some of the n records of the kind not free, from this one on, and then claims the one of this number.
 pub record Claims {G : Type 0} (table : TableView) (becomes : G → Event → G → Type 0) (kind : ℕ → Rec) (n from number : ℕ) (a b : SeatView × G) : Type 0 where
   pub tried : ℕ
   pub low : tried < n
   pub number_is : number ≡ wrapped n from tried
   pub before : SeatView × G
   pub none : FindsNone table becomes kind n from tried a before
-  pub does : Does table becomes claiming (Claim (kind number) 0 ∷ []) before b
-  pub failed : b.0.known.failed ≡ before.0.known.failed
-  pub words : List ℕ
-  pub sized : length words ≡ word_count_of (kind number)
-  pub own : b.0.known.own ≡ record { rec = kind number; holding = Held; words = words } ∷ a.0.known.own
-  pub apart : All (λ o. o.rec ≢ kind number) a.0.known.own
+  pub one : ClaimsOne table becomes (kind number) before b
 
 -- each of the n records of the kind was found not free by one of these, at this step or a later one
 abbrev pub AllMissed : (ℕ → Rec) → ℕ → List Failed → ℕ → Type 0
-AllMissed kind n failed since = (q : ℕ) → q < n → (step : ℕ) × (since ≤ step) × HasMissed failed (kind q) step
+AllMissed kind n failed since = (q : ℕ) → q < n → HasMissedSince failed (kind q) since

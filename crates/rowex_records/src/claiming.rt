@@ -1,10 +1,10 @@
 //! Records claimed, and given up again.
 
-ghost use Rattle.std.specs.Prelude.{◌≡◌, ◌<◌, IfNone, IfSome, MatchOption, All};
+ghost use Rattle.std.specs.Prelude.{◌≡◌, ◌<◌, true, false, IfNone, IfSome, MatchOption, All};
 ghost use Rattle.rowex_core.specs.Cores.{HasRecord};
 ghost use Rattle.rowex_table.specs.Rights.{IsClaimed};
 ghost use Rattle.rowex_table.specs.Seats.{IsSeatOf};
-ghost use Rattle.rowex_records.specs.Claims.{AllMissed, Claims, FindsNone, begin_of, count_of, record_of, wrapped};
+ghost use Rattle.rowex_records.specs.Claims.{AllMissed, Claims, ClaimsOne, FindsNone, MissesOne, begin_of, count_of, record_of, wrapped};
 ghost use Rattle.rowex_records.specs.Records.{GivesUp, GivesUpAll, HoldsJust};
 
 use record_words::Layout;
@@ -42,8 +42,8 @@ impl RecordKind {
 
 /// Claims the first record of a kind that it finds free; answers its number.
 ///
-/// Each record is tried once, from number `from` on, and from 0 on after the last; `None` if no try found one free. A `from` that
-/// is out of range counts as 0.
+/// Each record is tried once, from number `from` on, and from 0 on after the last; `None` if no try found one free. A try loads the
+/// state, and claims only what it saw free. A `from` that is out of range counts as 0.
 pub fn claim_record<G: Gate>(
     table: &HotTable,
     seat: &mut TableSeat,
@@ -64,11 +64,24 @@ pub fn claim_record<G: Gate>(
     let begin = first(from, all);
     for tried in 0..all {
         let number = turn(begin, tried, all);
-        if table.claim(seat, gate, kind.record_at(number)) == 0 {
+        if try_record(table, seat, gate, kind.record_at(number)) {
             return Some(number);
         }
     }
     None
+}
+
+/// Loads the state of a record and claims it, if that is free; answers whether the pass has it now.
+fn try_record<G: Gate>(table: &HotTable, seat: &mut TableSeat, gate: &mut G, rec: Rec) -> bool
+    requires own { IsSeatOf table.now seat.old }
+    requires range { HasRecord table.now.layout rec }
+    ensures missed { result ≡ false → MissesOne table.now G.becomes rec (seat.old, gate.old) (seat.new, gate.new) }
+    ensures claimed { result ≡ true → ClaimsOne table.now G.becomes rec (seat.old, gate.old) (seat.new, gate.new) }
+{
+    if table.load_state(seat, gate, rec) != 0 {
+        return false;
+    }
+    table.claim(seat, gate, rec) == 0
 }
 
 /// The number to begin at, of `all`.

@@ -15,10 +15,9 @@ use Rattle.record_words.specs.declared.layout.Layout.{Layout}
 use Rattle.moments.specs.declared.Rec.{Rec}
 use Rattle.moments.specs.declared.Rec.TheVariants.{Node as a_node, Leaf as a_leaf}
 use Rattle.rowex_core.specs.declared.event.Event.{Event}
-use Rattle.rowex_core.specs.declared.known.Failed.{Failed}
 use Rattle.rowex_core.specs.declared.known.Known.{Known}
 use Rattle.rowex_table.specs.Seats.{TableView, SeatView, IsSeatOf}
-use Rattle.rowex_records.specs.Claims.{AllMissed}
+use Rattle.rowex_records.proofs.Claimed.{all_earlier}
 use Rattle.rowex_reading.specs.Possible.{IsPossible}
 use Rattle.rowex_reading.specs.Reads.{Looks, Reads}
 use Rattle.rowex_reading.proofs.Led.{looked_at, looks_same, reads_sees}
@@ -220,12 +219,9 @@ refused_busy layout k i j m same loaded first next why = record {
   cause = elim why [ inl met ↦ inl (met_before k i j (loaded_steps k i loaded) met) | inr moved ↦ inr (let low = loaded_from k i loaded in omega (arith, low, moved, same)) ];
 }
 
-missed_before : (kind : ℕ → Rec) (n : ℕ) (failed : List Failed) (early late : ℕ) → early ≤ late → AllMissed kind n failed late → AllMissed kind n failed early
-missed_before kind n failed early late low missed = λ q within. let (step, from, at) = missed q within in (step, (omega (arith, low, from)), at)
-
 full_before : (layout : Layout) (k i j : Known) (full : Full) → k.steps ≤ i.steps → IsFull layout i j full → IsFull layout k j full
-full_before layout k i j Nodes low f = missed_before a_node layout.nodes j.failed k.steps i.steps low f
-full_before layout k i j Leaves low f = missed_before a_leaf layout.leaves j.failed k.steps i.steps low f
+full_before layout k i j Nodes low f = all_earlier a_node layout.nodes j.failed k.steps i.steps low f
+full_before layout k i j Leaves low f = all_earlier a_leaf layout.leaves j.failed k.steps i.steps low f
 
 others_since : (k i j : Known) → IsLater k i → OthersGoOn i.pass i.front j.front → OthersGoOn k.pass k.front j.front
 others_since k i j later others = others_on k.pass k.front i.front j.front later.front (subst (λ q. OthersGoOn q i.front j.front) later.pass others)

@@ -3,7 +3,7 @@ use Rattle.std.proofs.Common.{◌≡◌, ℕ, zero, suc, ◌+◌, ◌-◌, ◌*�
 use Rattle.std.specs.Prelude.{slice_range}
 use Rattle.moments.specs.declared.Rec.{Rec}
 use Rattle.rowex_core.specs.declared.event.Act.{Act}
-use Rattle.rowex_core.specs.declared.event.Act.TheVariants.{Claim}
+use Rattle.rowex_core.specs.declared.event.Act.TheVariants.{Claim, LoadState}
 use Rattle.rowex_core.specs.declared.event.Event.{Event}
 use Rattle.rowex_table.specs.Runs.{Runs, Steps}
 use Rattle.rowex_table.specs.Seats.{TableView, SeatView}
@@ -45,12 +45,12 @@ module _ {G : Type 0} (table : TableView) (becomes : G → Event → G → Type 
   pub looks_count : (n : ℕ) (a b : SeatView × G) → Looks table becomes n a b → b.0.known.steps ≡ a.0.known.steps + 1 + n
   looks_count n a b l = let one = step_count _ a l.at l.root.1 in let rest = reads_count n l.at b l.rest in omega (arith, one, rest)
 
-  -- claims
-  pub none_count : (kind : ℕ → Rec) (n from m : ℕ) (a b : SeatView × G) → FindsNone table becomes kind n from m a b → b.0.known.steps ≡ a.0.known.steps + m
-  none_count kind n from m a b f = let z = runs_count f.claims a b f.does.steps in omega (arith, z, f.count)
+  -- tries
+  pub none_count : (kind : ℕ → Rec) (n from m : ℕ) (a b : SeatView × G) → FindsNone table becomes kind n from m a b → b.0.known.steps ≤ a.0.known.steps + 2 * m
+  none_count kind n from m a b f = let z = runs_count f.tries a b f.does.steps in omega (arith, z, f.few)
 
-  pub claim_few : (kind : ℕ → Rec) (n from number : ℕ) (a b : SeatView × G) → Claims table becomes kind n from number a b → b.0.known.steps ≤ a.0.known.steps + n
+  pub claim_few : (kind : ℕ → Rec) (n from number : ℕ) (a b : SeatView × G) → Claims table becomes kind n from number a b → b.0.known.steps ≤ a.0.known.steps + 2 * n
   claim_few kind n from number a b c =
       let before = none_count kind n from c.tried a c.before c.none in
-      let one = runs_count (Claim (kind number) 0 ∷ []) c.before b c.does.steps in
+      let one = runs_count (LoadState (kind number) 0 ∷ Claim (kind number) 0 ∷ []) c.before b c.one.does.steps in
       omega (arith, before, one, c.low)

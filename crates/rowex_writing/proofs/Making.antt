@@ -1,5 +1,5 @@
 -- One record more for a change, or none.
-use Rattle.std.proofs.Common.{◌≡◌, ◌≢◌, inl, inr, ℕ, zero, suc, ◌+◌, ◌≤◌, List, [], ◌∷◌, ◌++◌, length, get_or, map, refl, sym, ap, ap₂, subst, ◌∙◌, arith, le_trans, Option, Some, None}
+use Rattle.std.proofs.Common.{◌≡◌, ◌≢◌, inl, inr, ℕ, zero, suc, ◌+◌, ◌≤◌, List, [], ◌∷◌, ◌++◌, length, get_or, map, refl, sym, ap, ap₂, subst, ◌∙◌, arith, Option, Some, None}
 use Rattle.std.specs.Prelude.{All, MatchOption}
 use Rattle.std.proofs.lemmas.Grind.{reverse_onto}
 use Rattle.std.proofs.lemmas.List.Elements.{All-append, All-cons}
@@ -16,7 +16,7 @@ use Rattle.moments.specs.declared.Rec.TheVariants.{Node as a_node}
 use Rattle.moments.proofs.Legal.{same_rec_refl}
 use Rattle.moments.proofs.Members.{all_of, of_map, map_of}
 use Rattle.rowex_core.specs.declared.event.Act.{Act}
-use Rattle.rowex_core.specs.declared.event.Act.TheVariants.{Claim, Fill, LoadFixed}
+use Rattle.rowex_core.specs.declared.event.Act.TheVariants.{Claim, Fill, LoadFixed, LoadState}
 use Rattle.rowex_core.specs.declared.event.Event.{Event}
 use Rattle.rowex_core.specs.declared.known.Holding.TheVariants.{Held}
 use Rattle.rowex_core.specs.declared.known.Known.{Known}
@@ -28,6 +28,7 @@ use Rattle.rowex_table.specs.Seats.{TableView, SeatView, IsSeatOf}
 use Rattle.rowex_table.proofs.Running.{runs_same}
 use Rattle.rowex_records.specs.Claims.{claiming, wrapped, Misses, FindsNone, Claims, AllMissed}
 use Rattle.rowex_records.specs.Records.{clearing, owning, fill_with, Fills, SetsAll, SetsWord, StoresWord}
+use Rattle.rowex_records.proofs.Claimed.{all_earlier, claims_holds}
 use Rattle.rowex_records.proofs.Filled.{fill_beside}
 use Rattle.rowex_rights.specs.Rises.{of_view}
 use Rattle.rowex_reading.specs.Possible.{IsPossible}
@@ -44,8 +45,19 @@ in_turn_plain Parts each zero acts none = subst (All IsQuiet) (sym none) (λ i d
 in_turn_plain Parts each (suc n) acts (before, last, first, second, is) =
     subst (All IsQuiet) (sym is) (All-append IsQuiet before last (in_turn_plain Parts each n before first) (each n last second))
 
+-- a load of a state, and a claim after it
+look_plain : (r : Rec) (word : ℕ) → All IsQuiet (LoadState r word ∷ [])
+look_plain r word = All-cons IsQuiet (LoadState r word) [] tt (λ i d low. absurd (omega arith))
+
+try_plain : (r : Rec) (word : ℕ) → All IsQuiet (LoadState r 0 ∷ Claim r word ∷ [])
+try_plain r word = All-cons IsQuiet (LoadState r 0) (Claim r word ∷ []) tt (All-cons IsQuiet (Claim r word) [] tt (λ i d low. absurd (omega arith)))
+
+miss_plain : (r : Rec) (acts : List Act) → Misses r acts → All IsQuiet acts
+miss_plain r acts (word, low, inl is) = subst (All IsQuiet) (sym is) (look_plain r word)
+miss_plain r acts (word, low, inr is) = subst (All IsQuiet) (sym is) (try_plain r word)
+
 misses_plain : (kind : ℕ → Rec) (n from m : ℕ) (acts : List Act) → InTurn (λ i. Misses (kind (wrapped n from i))) m acts → All IsQuiet acts
-misses_plain kind n from m acts turn = in_turn_plain (λ i. Misses (kind (wrapped n from i))) (λ i acts (word, low, is). subst (All IsQuiet) (sym is) (All-cons IsQuiet (Claim (kind (wrapped n from i)) word) [] tt (λ i d low. absurd (omega arith)))) m acts turn
+misses_plain kind n from m acts turn = in_turn_plain (λ i. Misses (kind (wrapped n from i))) (λ i. miss_plain (kind (wrapped n from i))) m acts turn
 
 stores_plain : (r : Rec) (words : List ℕ) (n : ℕ) (acts : List Act) → InTurn (StoresWord r words) n acts → All IsQuiet acts
 stores_plain r words n acts turn = in_turn_plain (StoresWord r words) (λ i acts is. subst (All IsQuiet) (sym is) (All-cons IsQuiet (Fill r (i + 1) (get_or words i 0)) [] tt (λ i d low. absurd (omega arith)))) n acts turn
@@ -91,11 +103,11 @@ module _ {G : Type 0} (table : TableView) (becomes : G → Event → G → Type 
 
   -- ---- a claim
   pub none_on : (kind : ℕ → Rec) (n from m : ℕ) (a b : SeatView × G) → FindsNone table becomes kind n from m a b → WorksOn table becomes a b
-  none_on kind n from m a b none = claims_on none.claims a b (misses_plain kind n from m none.claims none.in_turn) none.does
+  none_on kind n from m a b none = claims_on none.tries a b (misses_plain kind n from m none.tries none.in_turn) none.does
 
   pub claim_on : (kind : ℕ → Rec) (n from m : ℕ) (a b : SeatView × G) → Claims table becomes kind n from m a b → WorksOn table becomes a b
   claim_on kind n from m a b claim = goes_more table becomes a claim.before b (none_on kind n from claim.tried a claim.before claim.none)
-      (claims_on (Claim (kind m) 0 ∷ []) claim.before b (All-cons IsQuiet (Claim (kind m) 0) [] tt (λ i d low. absurd (omega arith))) claim.does)
+      (claims_on (LoadState (kind m) 0 ∷ Claim (kind m) 0 ∷ []) claim.before b (try_plain (kind m) 0) claim.one.does)
 
   pub fill_on : (r : Rec) (words : List ℕ) (a b : SeatView × G) → Fills table becomes r words a b → WorksOn table becomes a b
   fill_on r words a b fills = owns_on fills.stores a b (stores_plain r words (length words) fills.stores fills.in_turn) fills.does
@@ -123,11 +135,12 @@ module _ {G : Type 0} (table : TableView) (becomes : G → Event → G → Type 
       WorksOn table becomes i b → b.0.known.own ≡ map (fill_with (kind m) words) i.0.known.own → IsPacked (kind m) words → IsBuilding table a.0 made news → IsBuilding table b.0 (made ++ kind m ∷ []) (record { rec = kind m; words = words } ∷ news)
   building_more kind n from m words a i b made news claim on filled packed was =
       let newest : Made = record { rec = kind m; words = words } in
+      let held = claims_holds table becomes kind n from m a i claim in
       let goes = goes_more table becomes a i b (claim_on kind n from m a i claim) on in
-      let first : fill_with (kind m) words (record { rec = kind m; holding = Held; words = claim.words }) ≡ held_as Held newest = rw (same_rec_refl (kind m)) refl in
-      let others : map (fill_with (kind m) words) a.0.known.own ≡ a.0.known.own = fill_beside (kind m) words a.0.known.own claim.apart in
+      let first : fill_with (kind m) words (record { rec = kind m; holding = Held; words = held.words }) ≡ held_as Held newest = rw (same_rec_refl (kind m)) refl in
+      let others : map (fill_with (kind m) words) a.0.known.own ≡ a.0.known.own = fill_beside (kind m) words a.0.known.own held.apart in
       let own : b.0.known.own ≡ held_as Held newest ∷ map (held_as Held) news =
-      filled ∙ (ap (map (fill_with (kind m) words)) claim.own ∙ ap₂ (λ y ys. y ∷ ys) first (others ∙ was.holds.0)) in
+      filled ∙ (ap (map (fill_with (kind m) words)) held.own ∙ ap₂ (λ y ys. y ∷ ys) first (others ∙ was.holds.0)) in
       record {
         seat = (runs_same table becomes goes.acts a b goes.steps).0 ∙ was.seat;
         possible = goes_possible a b goes was.possible;
@@ -135,7 +148,7 @@ module _ {G : Type 0} (table : TableView) (becomes : G → Event → G → Type 
           own,
           (
             λ h. (let (y, at, is) = of_map (λ (y : Made). y.rec) (kind m) news h in
-                all_of (λ (o : Owned). o.rec ≢ kind m) (held_as Held y) a.0.known.own claim.apart (subst (IsOf (held_as Held y)) (sym was.holds.0) (map_of (held_as Held) y news at)) (sym is)),
+                all_of (λ (o : Owned). o.rec ≢ kind m) (held_as Held y) a.0.known.own held.apart (subst (IsOf (held_as Held y)) (sym was.holds.0) (map_of (held_as Held) y news at)) (sym is)),
             was.holds.1,
           ),
         );
@@ -164,7 +177,7 @@ pub not_made_since : {G : Type 0} (table : TableView) (becomes : G → Event →
 not_made_since table becomes a m b made goes none = record {
   news = none.news;
   building = none.building;
-  missed = λ q low. (let (step, since, missed) = none.missed q low in (step, le_trans (steps_rise table becomes goes.acts a m goes.steps) since, missed));
+  missed = all_earlier a_node table.layout.nodes b.0.known.failed a.0.known.steps m.0.known.steps (steps_rise table becomes goes.acts a m goes.steps) none.missed;
 }
 
 -- ---- halves

@@ -75,7 +75,7 @@ pub record IsBuilding (table : TableView) (a : SeatView) (made : List Rec) (news
   pub packed : ArePacked news
   pub listed : made ≡ reverse (recs_of news)
 
--- A node record was wanted and none was free: each has a failed claim since then. The pass has those that it has made so far.
+-- A node record was wanted and none was free: each was found not free since then. The pass has those that it has made so far.
 pub record HasNotMade (table : TableView) (a b : SeatView) (made : List Rec) : Type 0 where
   pub news : List Made
   pub building : IsBuilding table b made news

@@ -52,7 +52,7 @@ pub fn make_leaf<G: Gate>(
     ensures made { MatchOption result
         ((seat.new.known.own ≡ []) × AllMissed a_leaf table.now.layout.leaves seat.new.known.failed seat.old.known.steps)
         (λ n. IsBuilding table.now seat.new build.new.made.items (of_leaf (item n key.now value) ∷ [])) }
-    ensures few { seat.new.known.steps ≤ seat.old.known.steps + table.now.layout.leaves + 2 * LEAF_FIELDS }
+    ensures few { seat.new.known.steps ≤ seat.old.known.steps + 2 * table.now.layout.leaves + 2 * LEAF_FIELDS }
 {
     build.made.clear();
     let number = claim_record(table, seat, gate, RecordKind::Leaf, build.next_leaf)?;

@@ -7,16 +7,15 @@ use Rattle.rowex_records.proofs.claiming.claim_record.Goals as goal
 pub loop-tried-preserved : goal.loop-tried-preserved
 loop-tried-preserved g c =
     let all : c.count-all.result ≡ count_of c.args.kind c.args.table.now.layout = rw c.layout.ensures at c.count-all.ensures in
-    let busy = c.if-claim-eq0.false in
-    finds_more _ _ (record_of c.args.kind) _ _ _ _ _ _ _ _ (rw all at c.turn-number.ensures.wrapped) c.loop-tried.invariant (omega arith) (rw c.record_at.ensures at c.claim.ensures)
+    finds_more _ _ (record_of c.args.kind) _ _ _ _ _ _ _ (rw all at c.turn-number.ensures.wrapped) c.loop-tried.invariant (rw c.record_at.ensures at (c.try_record.ensures.missed c.if-try_record.false))
 
-pub returns-then-claim-eq0-clause-claims : goal.returns-then-claim-eq0-clause-claims
-returns-then-claim-eq0-clause-claims g c =
+pub returns-then-try_record-clause-claims : goal.returns-then-try_record-clause-claims
+returns-then-try_record-clause-claims g c =
     let all : c.count-all.result ≡ count_of c.args.kind c.args.table.now.layout = rw c.layout.ensures at c.count-all.ensures in
     let begin = rw all at c.first-begin.ensures.begin in
     let low : c.loop-tried.tried < count_of c.args.kind c.args.table.now.layout = omega (arith, all) in
-    claims_next _ _ (record_of c.args.kind) _ _ _ _ _ _ _ _ _ begin low (rw all at c.turn-number.ensures.wrapped) c.loop-tried.invariant c.if-claim-eq0.true
-    (rw c.record_at.ensures at c.claim.ensures)
+    claims_next _ _ (record_of c.args.kind) _ _ _ _ _ _ _ _ begin low (rw all at c.turn-number.ensures.wrapped) c.loop-tried.invariant
+    (rw c.record_at.ensures at (c.try_record.ensures.claimed c.if-try_record.true))
 
 pub returns-clause-none : goal.returns-clause-none
 returns-clause-none g c = λ q low.
