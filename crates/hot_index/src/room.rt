@@ -23,6 +23,8 @@ pub fn new_room(alloc: Global, layout: Layout, number: u16) -> Result<Box<Room>,
         gone: ArrayVec::new(),
         next_node: first_claim(number, layout.passes, layout.nodes),
         next_leaf: first_claim(number, layout.passes, layout.leaves),
+        spare_nodes: ArrayVec::new(),
+        spare_leaves: ArrayVec::new(),
     };
     let room = Room {
         way: ArrayVec::new(),

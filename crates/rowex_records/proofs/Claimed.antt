@@ -97,6 +97,15 @@ all_earlier kind n failed since later low all q below = missed_earlier failed (k
 pub more_is_claimed : (r : Rec) (k j : Known) → HoldsOneMore r k j → IsClaimed j r
 more_is_claimed r k j holds = (holds.words, holds.sized, subst (λ l. Contains l (record { rec = r; holding = Held; words = holds.words })) (sym holds.own) (0, omega arith, refl))
 
+-- and it is one more than the pass had before, where it had the same then
+pub more_since : (r : Rec) (k i j : Known) → i.own ≡ k.own → HoldsOneMore r i j → HoldsOneMore r k j
+more_since r k i j same holds = record {
+  words = holds.words;
+  sized = holds.sized;
+  own = holds.own ∙ ap (λ l. record { rec = r; holding = Held; words = holds.words } ∷ l) same;
+  apart = subst (λ l. All (λ o. o.rec ≢ r) l) same holds.apart;
+}
+
 -- beside what the pass had
 pub more_keeps : (r s : Rec) (h : Holding) (words : List ℕ) (k j : Known) → HoldsOneMore r k j → OwnsAs k s h words → OwnsAs j s h words
 more_keeps r s h words k j holds has =
@@ -236,12 +245,7 @@ module _ {G : Type 0} (table : TableView) (becomes : G → Event → G → Type 
       subst (λ z. Claims table becomes kind n z number a b) same (record { tried = m; low = low; number_is = is; before = i; none = none; one = one })
 
   pub claims_holds : (kind : ℕ → Rec) (n from number : ℕ) (a b : SeatView × G) → Claims table becomes kind n from number a b → HoldsOneMore (kind number) a.0.known b.0.known
-  claims_holds kind n from number a b claims = let holds = claims.one.holds in record {
-    words = holds.words;
-    sized = holds.sized;
-    own = holds.own ∙ ap (λ l. record { rec = kind number; holding = Held; words = holds.words } ∷ l) claims.none.own;
-    apart = subst (λ l. All (λ o. o.rec ≢ kind number) l) claims.none.own holds.apart;
-  }
+  claims_holds kind n from number a b claims = more_since (kind number) a.0.known claims.before.0.known b.0.known claims.none.own claims.one.holds
 
   pub claims_gives : (kind : ℕ → Rec) (n from number : ℕ) (a b : SeatView × G) → Claims table becomes kind n from number a b → IsClaimed b.0.known (kind number)
   claims_gives kind n from number a b claims = more_is_claimed (kind number) claims.before.0.known b.0.known claims.one.holds

@@ -81,6 +81,10 @@ pub record ClaimsOne {G : Type 0} (table : TableView) (becomes : G → Event →
   pub failed : b.0.known.failed ≡ a.0.known.failed
   pub holds : HoldsOneMore r a.0.known b.0.known
 
+-- The number is none of the n records', and nothing is done; or the pass tries its record and finds it not free.
+abbrev pub MissesNumber : {G : Type 0} → TableView → (G → Event → G → Type 0) → (ℕ → Rec) → (n number : ℕ) → SeatView × G → SeatView × G → Type 0
+MissesNumber table becomes kind n number a b = ((n ≤ number) × (b ≡ a)) ⊎ ((number < n) × MissesOne table becomes (kind number) a b)
+
 -- Of the n records of the kind the pass tries m, from this one on, each once, and finds none of them free. It has m failed steps
 -- more, one for each, and its own records as they were.
 pub record FindsNone {G : Type 0} (table : TableView) (becomes : G → Event → G → Type 0) (kind : ℕ → Rec) (n from m : ℕ) (a b : SeatView × G) : Type 0 where

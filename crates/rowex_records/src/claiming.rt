@@ -4,7 +4,7 @@ ghost use Rattle.std.specs.Prelude.{◌≡◌, ◌<◌, true, false, IfNone, IfS
 ghost use Rattle.rowex_core.specs.Cores.{HasRecord};
 ghost use Rattle.rowex_table.specs.Rights.{IsClaimed};
 ghost use Rattle.rowex_table.specs.Seats.{IsSeatOf};
-ghost use Rattle.rowex_records.specs.Claims.{AllMissed, Claims, ClaimsOne, FindsNone, MissesOne, begin_of, count_of, record_of, wrapped};
+ghost use Rattle.rowex_records.specs.Claims.{AllMissed, Claims, ClaimsOne, FindsNone, MissesNumber, MissesOne, begin_of, count_of, record_of, wrapped};
 ghost use Rattle.rowex_records.specs.Records.{GivesUp, GivesUpAll, HoldsJust};
 
 use record_words::Layout;
@@ -69,6 +69,26 @@ pub fn claim_record<G: Gate>(
         }
     }
     None
+}
+
+/// Claims the record of a kind that has the number, if it finds that free; answers whether the pass has it now. A number that is
+/// out of range is no record's.
+pub fn claim_numbered<G: Gate>(
+    table: &HotTable,
+    seat: &mut TableSeat,
+    gate: &mut G,
+    kind: RecordKind,
+    number: u32,
+) -> bool
+    requires own { IsSeatOf table.now seat.old }
+    ensures missed { result ≡ false → MissesNumber table.now G.becomes (record_of kind) (count_of kind table.now.layout) number (seat.old, gate.old) (seat.new, gate.new) }
+    ensures claimed { result ≡ true → (number < count_of kind table.now.layout) ×
+        ClaimsOne table.now G.becomes (record_of kind number) (seat.old, gate.old) (seat.new, gate.new) }
+{
+    if number >= kind.count(table.layout()) {
+        return false;
+    }
+    try_record(table, seat, gate, kind.record_at(number))
 }
 
 /// Loads the state of a record and claims it, if that is free; answers whether the pass has it now.

@@ -26,16 +26,16 @@ use Rattle.rowex_table.specs.Made.{Made, held_as, recs_of}
 use Rattle.rowex_table.specs.Runs.{Runs, Does, InTurn}
 use Rattle.rowex_table.specs.Seats.{TableView, SeatView, IsSeatOf}
 use Rattle.rowex_table.proofs.Running.{runs_same}
-use Rattle.rowex_records.specs.Claims.{claiming, wrapped, Misses, FindsNone, Claims, AllMissed}
+use Rattle.rowex_records.specs.Claims.{claiming, wrapped, Misses, MissesOne, MissesNumber, HoldsOneMore, ClaimsOne, FindsNone, Claims, AllMissed}
 use Rattle.rowex_records.specs.Records.{clearing, owning, fill_with, Fills, SetsAll, SetsWord, StoresWord}
-use Rattle.rowex_records.proofs.Claimed.{all_earlier, claims_holds}
+use Rattle.rowex_records.proofs.Claimed.{all_earlier}
 use Rattle.rowex_records.proofs.Filled.{fill_beside}
 use Rattle.rowex_rights.specs.Rises.{of_view}
 use Rattle.rowex_reading.specs.Possible.{IsPossible}
 use Rattle.rowex_reading.proofs.Later.{event_possible}
 use Rattle.rowex_writing.specs.Building.{IsBuilding, IsHalfMade, HasNotMade}
 use Rattle.rowex_writing.specs.Going.{WorksOn, IsQuiet}
-use Rattle.rowex_writing.proofs.Locking.{goes_more}
+use Rattle.rowex_writing.proofs.Locking.{goes_none, goes_more}
 use Rattle.rowex_table.proofs.ActsBefore.{same_later}
 
 -- ---- steps that change what the pass owns
@@ -105,9 +105,18 @@ module _ {G : Type 0} (table : TableView) (becomes : G → Event → G → Type 
   pub none_on : (kind : ℕ → Rec) (n from m : ℕ) (a b : SeatView × G) → FindsNone table becomes kind n from m a b → WorksOn table becomes a b
   none_on kind n from m a b none = claims_on none.tries a b (misses_plain kind n from m none.tries none.in_turn) none.does
 
+  pub miss_on : (r : Rec) (a b : SeatView × G) → MissesOne table becomes r a b → WorksOn table becomes a b
+  miss_on r a b one = claims_on one.acts a b (miss_plain r one.acts one.misses) one.does
+
+  pub number_on : (kind : ℕ → Rec) (n number : ℕ) (a b : SeatView × G) → MissesNumber table becomes kind n number a b → WorksOn table becomes a b
+  number_on kind n number a b (inl (out, same)) = subst (λ (z : SeatView × G). WorksOn table becomes a z) (sym same) (goes_none table becomes a)
+  number_on kind n number a b (inr (low, one)) = miss_on (kind number) a b one
+
+  pub one_on : (r : Rec) (a b : SeatView × G) → ClaimsOne table becomes r a b → WorksOn table becomes a b
+  one_on r a b one = claims_on (LoadState r 0 ∷ Claim r 0 ∷ []) a b (try_plain r 0) one.does
+
   pub claim_on : (kind : ℕ → Rec) (n from m : ℕ) (a b : SeatView × G) → Claims table becomes kind n from m a b → WorksOn table becomes a b
-  claim_on kind n from m a b claim = goes_more table becomes a claim.before b (none_on kind n from claim.tried a claim.before claim.none)
-      (claims_on (LoadState (kind m) 0 ∷ Claim (kind m) 0 ∷ []) claim.before b (try_plain (kind m) 0) claim.one.does)
+  claim_on kind n from m a b claim = goes_more table becomes a claim.before b (none_on kind n from claim.tried a claim.before claim.none) (one_on (kind m) claim.before b claim.one)
 
   pub fill_on : (r : Rec) (words : List ℕ) (a b : SeatView × G) → Fills table becomes r words a b → WorksOn table becomes a b
   fill_on r words a b fills = owns_on fills.stores a b (stores_plain r words (length words) fills.stores fills.in_turn) fills.does
@@ -131,29 +140,28 @@ module _ {G : Type 0} (table : TableView) (becomes : G → Event → G → Type 
   }
 
   -- one record more, a node's or a leaf's
-  pub building_more : (kind : ℕ → Rec) (n from m : ℕ) (words : List ℕ) (a i b : SeatView × G) (made : List Rec) (news : List Made) → Claims table becomes kind n from m a i →
-      WorksOn table becomes i b → b.0.known.own ≡ map (fill_with (kind m) words) i.0.known.own → IsPacked (kind m) words → IsBuilding table a.0 made news → IsBuilding table b.0 (made ++ kind m ∷ []) (record { rec = kind m; words = words } ∷ news)
-  building_more kind n from m words a i b made news claim on filled packed was =
-      let newest : Made = record { rec = kind m; words = words } in
-      let held = claims_holds table becomes kind n from m a i claim in
-      let goes = goes_more table becomes a i b (claim_on kind n from m a i claim) on in
-      let first : fill_with (kind m) words (record { rec = kind m; holding = Held; words = held.words }) ≡ held_as Held newest = rw (same_rec_refl (kind m)) refl in
-      let others : map (fill_with (kind m) words) a.0.known.own ≡ a.0.known.own = fill_beside (kind m) words a.0.known.own held.apart in
+  pub building_more : (r : Rec) (words : List ℕ) (a i b : SeatView × G) (made : List Rec) (news : List Made) → WorksOn table becomes a i → HoldsOneMore r a.0.known i.0.known →
+      WorksOn table becomes i b → b.0.known.own ≡ map (fill_with r words) i.0.known.own → IsPacked r words → IsBuilding table a.0 made news → IsBuilding table b.0 (made ++ r ∷ []) (record { rec = r; words = words } ∷ news)
+  building_more r words a i b made news claim held on filled packed was =
+      let newest : Made = record { rec = r; words = words } in
+      let goes = goes_more table becomes a i b claim on in
+      let first : fill_with r words (record { rec = r; holding = Held; words = held.words }) ≡ held_as Held newest = rw (same_rec_refl r) refl in
+      let others : map (fill_with r words) a.0.known.own ≡ a.0.known.own = fill_beside r words a.0.known.own held.apart in
       let own : b.0.known.own ≡ held_as Held newest ∷ map (held_as Held) news =
-      filled ∙ (ap (map (fill_with (kind m) words)) held.own ∙ ap₂ (λ y ys. y ∷ ys) first (others ∙ was.holds.0)) in
+      filled ∙ (ap (map (fill_with r words)) held.own ∙ ap₂ (λ y ys. y ∷ ys) first (others ∙ was.holds.0)) in
       record {
         seat = (runs_same table becomes goes.acts a b goes.steps).0 ∙ was.seat;
         possible = goes_possible a b goes was.possible;
         holds = (
           own,
           (
-            λ h. (let (y, at, is) = of_map (λ (y : Made). y.rec) (kind m) news h in
-                all_of (λ (o : Owned). o.rec ≢ kind m) (held_as Held y) a.0.known.own held.apart (subst (IsOf (held_as Held y)) (sym was.holds.0) (map_of (held_as Held) y news at)) (sym is)),
+            λ h. (let (y, at, is) = of_map (λ (y : Made). y.rec) r news h in
+                all_of (λ (o : Owned). o.rec ≢ r) (held_as Held y) a.0.known.own held.apart (subst (IsOf (held_as Held y)) (sym was.holds.0) (map_of (held_as Held) y news at)) (sym is)),
             was.holds.1,
           ),
         );
         packed = (packed, was.packed);
-        listed = ap (λ z. z ++ kind m ∷ []) was.listed ∙ sym (reverse_onto (recs_of news) (kind m) []);
+        listed = ap (λ z. z ++ r ∷ []) was.listed ∙ sym (reverse_onto (recs_of news) r []);
       }
 
 -- a pass that has nothing has made none yet
@@ -161,16 +169,15 @@ pub building_none : (table : TableView) (a : SeatView) → IsSeatOf table a → 
 building_none table a seat possible none = record { seat = seat; possible = possible; holds = (none, tt); packed = tt; listed = refl }
 
 -- each step is counted
-steps_rise : {G : Type 0} (table : TableView) (becomes : G → Event → G → Type 0) (acts : List Act) (a b : SeatView × G) → Runs table becomes acts a b → a.0.known.steps ≤ b.0.known.steps
+pub steps_rise : {G : Type 0} (table : TableView) (becomes : G → Event → G → Type 0) (acts : List Act) (a b : SeatView × G) → Runs table becomes acts a b → a.0.known.steps ≤ b.0.known.steps
 steps_rise table becomes [] a b run = let e = ap (λ (z : SeatView × _). z.0.known.steps) run in omega arith
 steps_rise table becomes (act ∷ acts) a b run =
     let next = (act_leaves table.layout a.0.known run.0.0.known act run.1.event).steps in omega (arith, next, steps_rise table becomes acts run.0 b run.2)
 
 -- ---- none was free
-pub not_made : {G : Type 0} (table : TableView) (becomes : G → Event → G → Type 0) (from m : ℕ) (a b : SeatView × G) (made : List Rec) (news : List Made) →
-    FindsNone table becomes a_node table.layout.nodes from m a b → AllMissed a_node table.layout.nodes b.0.known.failed a.0.known.steps → IsBuilding table a.0 made news → HasNotMade table a.0 b.0 made
-not_made table becomes from m a b made news none missed was =
-    record { news = news; building = building_on table becomes a b made news (none_on table becomes a_node table.layout.nodes from m a b none) none.own was; missed = missed }
+pub not_made : {G : Type 0} (table : TableView) (becomes : G → Event → G → Type 0) (a b : SeatView × G) (made : List Rec) (news : List Made) → WorksOn table becomes a b →
+    b.0.known.own ≡ a.0.known.own → AllMissed a_node table.layout.nodes b.0.known.failed a.0.known.steps → IsBuilding table a.0 made news → HasNotMade table a.0 b.0 made
+not_made table becomes a b made news goes own missed was = record { news = news; building = building_on table becomes a b made news goes own was; missed = missed }
 
 -- nor since an earlier step
 pub not_made_since : {G : Type 0} (table : TableView) (becomes : G → Event → G → Type 0) (a m b : SeatView × G) (made : List Rec) → WorksOn table becomes a m → HasNotMade table m.0 b.0 made → HasNotMade table a.0 b.0 made

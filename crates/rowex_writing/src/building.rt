@@ -20,6 +20,7 @@ ghost use Rattle.rowex_core.specs.Reading.{node_of};
 ghost use Rattle.rowex_walks.specs.Rise.{entry};
 ghost use Rattle.rowex_writing.specs.Counts.{level_steps, node_steps};
 
+use crate::claims::{MOST_SPARE, claim_next};
 use crate::locked::read_locked;
 use crate::remaking::{add_leaf, full_with_leaf, pair_with_leaf, with_fork, without_leaf};
 use arrayvec::ArrayVec;
@@ -27,7 +28,7 @@ use compound_node::{Entry, Half, Node};
 use insert_cases::{Grown, Risen, Step};
 use key_bits::Key;
 use rowex_core::{Gate, Rec};
-use rowex_records::{RecordKind, claim_record, fill_node};
+use rowex_records::{RecordKind, fill_node};
 use rowex_table::{HotTable, TableSeat};
 
 /// The most records that one change makes: a leaf, two nodes for each node of the longest way, and one above them.
@@ -43,10 +44,14 @@ pub struct Build {
     pub made: ArrayVec<Rec, MOST_MADE>,
     /// The records that the change unlinks, as it lists them.
     pub gone: ArrayVec<Rec, MOST_GONE>,
-    /// The number after that of the node record that was claimed last.
+    /// The number after that of the node record that was claimed last, but for spare ones.
     pub next_node: u32,
-    /// The number after that of the leaf record that was claimed last.
+    /// The number after that of the leaf record that was claimed last, but for spare ones.
     pub next_leaf: u32,
+    /// Numbers of node records that the pass has given back: claims begin with these.
+    pub spare_nodes: ArrayVec<u32, MOST_SPARE>,
+    /// Numbers of leaf records that the pass has given back: claims begin with these.
+    pub spare_leaves: ArrayVec<u32, MOST_SPARE>,
 }
 
 /// Makes a record for a node; answers its entry, or nothing where no node record was free.
@@ -67,8 +72,14 @@ fn make_node<G: Gate>(
     ensures more { length build.new.made.items ≤ length build.old.made.items + 1 }
     ensures few { seat.new.known.steps ≤ seat.old.known.steps + node_steps table.now.layout }
 {
-    let number = claim_record(table, seat, gate, RecordKind::Node, build.next_node)?;
-    build.next_node = number.wrapping_add(1);
+    let number = claim_next(
+        table,
+        seat,
+        gate,
+        RecordKind::Node,
+        &mut build.spare_nodes,
+        &mut build.next_node,
+    )?;
     fill_node(table, seat, gate, number, node);
     build.made.push(Rec::Node(number));
     Some(Entry::Node {

@@ -4,6 +4,7 @@
 mod attempts;
 mod building;
 mod checking;
+mod claims;
 mod descent;
 mod ending;
 mod finding;
@@ -20,6 +21,7 @@ mod taking;
 pub use attempts::{TryFault, attempt};
 pub use building::{Build, MOST_GONE, MOST_MADE, raise_grown, raise_pair, raise_without};
 pub use checking::check_span;
+pub use claims::MOST_SPARE;
 pub use descent::{MOST_NODES, search_way, step_of};
 pub use ending::{retire, undo};
 pub use finding::find_plan;

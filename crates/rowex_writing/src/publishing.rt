@@ -25,13 +25,14 @@ ghost use Rattle.rowex_writing.specs.Retiring.{AreRecords, IsAnchored};
 ghost use Rattle.record_words.specs.declared.TheConstants.{LEAF_FIELDS};
 
 use crate::building::Build;
+use crate::claims::claim_next;
 use crate::ending::retire;
 use compound_node::Entry;
 use insert_cases::Step;
 use key_bits::Key;
 use record_words::pack_entry;
 use rowex_core::{Gate, Rec, Spot};
-use rowex_records::{RecordKind, claim_record, fill_leaf, make_ready};
+use rowex_records::{RecordKind, fill_leaf, make_ready};
 use rowex_table::{HotTable, TableSeat};
 
 /// Makes a record for the new leaf, the first one of a change; answers its number, or nothing where no leaf record was free.
@@ -52,11 +53,17 @@ pub fn make_leaf<G: Gate>(
     ensures made { MatchOption result
         ((seat.new.known.own ≡ []) × AllMissed a_leaf table.now.layout.leaves seat.new.known.failed seat.old.known.steps)
         (λ n. IsBuilding table.now seat.new build.new.made.items (of_leaf (item n key.now value) ∷ [])) }
-    ensures few { seat.new.known.steps ≤ seat.old.known.steps + 2 * table.now.layout.leaves + 2 * LEAF_FIELDS }
+    ensures few { seat.new.known.steps ≤ seat.old.known.steps + 2 * table.now.layout.leaves + 2 + 2 * LEAF_FIELDS }
 {
     build.made.clear();
-    let number = claim_record(table, seat, gate, RecordKind::Leaf, build.next_leaf)?;
-    build.next_leaf = number.wrapping_add(1);
+    let number = claim_next(
+        table,
+        seat,
+        gate,
+        RecordKind::Leaf,
+        &mut build.spare_leaves,
+        &mut build.next_leaf,
+    )?;
     fill_leaf(table, seat, gate, number, key, value);
     build.made.push(Rec::Leaf(number));
     Some(number)

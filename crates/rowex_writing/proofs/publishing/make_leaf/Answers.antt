@@ -4,14 +4,13 @@ use Rattle.record_words.specs.Leaf.{leaf_words}
 use Rattle.moments.specs.declared.Rec.TheVariants.{Leaf as a_leaf}
 use Rattle.rowex_rights.specs.Rises.{of_leaf}
 use Rattle.rowex_writing.specs.Building.{IsBuilding}
-use Rattle.rowex_writing.proofs.Locking.{goes_more}
-use Rattle.rowex_writing.proofs.Making.{none_on, claim_on, set_on, building_none, building_more}
-use Rattle.rowex_writing.proofs.Counting.{claim_few, none_count}
+use Rattle.rowex_writing.proofs.Locking.{goes_more, seat_of}
+use Rattle.rowex_writing.proofs.Making.{set_on, building_none, building_more}
 use Rattle.rowex_writing.proofs.publishing.make_leaf.Goals as goal
 use Rattle.tries.specs.Content.{item}
 
-pub returns-in_err-number-clause-goes : goal.returns-in_err-number-clause-goes
-returns-in_err-number-clause-goes g c = none_on c.args.table.now g.G.Gate.becomes _ _ _ _ _ _ c.in_err-number.ensures.claims
+pub fill_leaf-requires-clause-own : goal.fill_leaf-requires-clause-own
+fill_leaf-requires-clause-own g c = seat_of c.args.table.now g.G.Gate.becomes (c.args.seat.now, c.args.gate.now) (c.claim_next.new.seat, c.claim_next.new.gate) c.claim_next.ensures.goes c.requires.own
 
 pub returns-in_err-number-clause-leaf : goal.returns-in_err-number-clause-leaf
 returns-in_err-number-clause-leaf g c = record { key = c.requires.key; value = c.ranges.value.fits }
@@ -20,24 +19,20 @@ pub returns-clause-leaf : goal.returns-clause-leaf
 returns-clause-leaf g c = record { key = c.requires.key; value = c.ranges.value.fits }
 
 pub returns-in_err-number-clause-made : goal.returns-in_err-number-clause-made
-returns-in_err-number-clause-made g c = rw c.from_residual.ensures (c.in_err-number.ensures.claims.own ∙ c.requires.none, c.in_err-number.ensures.none)
+returns-in_err-number-clause-made g c = rw c.from_residual.ensures (c.in_err-number.ensures.claims.0 ∙ c.requires.none, c.in_err-number.ensures.claims.1)
 
 pub returns-clause-goes : goal.returns-clause-goes
 returns-clause-goes g c =
-    goes_more c.args.table.now g.G.Gate.becomes _ _ _ (claim_on c.args.table.now g.G.Gate.becomes _ _ _ _ _ _ c.in_ok-number.ensures.claims) (set_on c.args.table.now g.G.Gate.becomes _ _ _ _ c.fill_leaf.ensures.fills)
+    goes_more c.args.table.now g.G.Gate.becomes _ _ _ c.claim_next.ensures.goes (set_on c.args.table.now g.G.Gate.becomes _ _ _ _ c.fill_leaf.ensures.fills)
 
 pub returns-clause-made : goal.returns-clause-made
 returns-clause-made g c =
     let n = c.in_ok-number.number in
     subst (λ z. IsBuilding c.args.table.now c.fill_leaf.new.seat z (of_leaf (item n c.args.key.now c.args.value) ∷ [])) (sym (c.push.ensures.items ∙ ap (λ z. z ++ a_leaf n ∷ []) c.clear.ensures))
-    (building_more c.args.table.now g.G.Gate.becomes a_leaf _ _ n (leaf_words (c.args.key.now, c.args.value)) _ _ _ [] [] c.in_ok-number.ensures.claims
+    (building_more c.args.table.now g.G.Gate.becomes (a_leaf n) (leaf_words (c.args.key.now, c.args.value)) (c.args.seat.now, c.args.gate.now) (c.claim_next.new.seat, c.claim_next.new.gate) _ [] []
+    c.claim_next.ensures.goes c.in_ok-number.ensures.claims.1
     (set_on c.args.table.now g.G.Gate.becomes _ _ _ _ c.fill_leaf.ensures.fills) c.fill_leaf.ensures.fills.own c.fill_leaf.ensures.filled.1
     (building_none c.args.table.now c.args.seat.now c.requires.own c.requires.possible c.requires.none))
 
-pub returns-in_err-number-clause-few : goal.returns-in_err-number-clause-few
-returns-in_err-number-clause-few g c =
-    let z = none_count c.args.table.now g.G.Gate.becomes _ _ _ _ (c.args.seat.now, c.args.gate.now) (c.claim_record.new.seat, c.claim_record.new.gate) c.in_err-number.ensures.claims in omega (arith, z)
-
 pub returns-clause-few : goal.returns-clause-few
-returns-clause-few g c =
-    let z = claim_few c.args.table.now g.G.Gate.becomes _ _ _ _ (c.args.seat.now, c.args.gate.now) (c.claim_record.new.seat, c.claim_record.new.gate) c.in_ok-number.ensures.claims in omega (arith, z, c.fill_leaf.ensures.steps.1)
+returns-clause-few g c = omega (arith, c.claim_next.ensures.few, c.fill_leaf.ensures.steps.1)

@@ -1,0 +1,7 @@
+-- The record is one of the table's, and was claimed.
+use Rattle.std.proofs.Common.{arith, ◌<◌}
+use Rattle.rowex_records.specs.Claims.{count_of}
+use Rattle.rowex_records.proofs.claiming.claim_numbered.Goals as goal
+
+pub returns-clause-claimed : goal.returns-clause-claimed
+returns-clause-claimed g c = λ taken. (rw c.layout.ensures at (rw c.count.ensures at c.if-number-count.false), rw c.record_at.ensures at (c.try_record.ensures.claimed taken))

@@ -1,0 +1,32 @@
+-- The spare record was not free, or there was none; then one of all records is claimed, or none was free.
+use Rattle.std.proofs.Common.{◌∙◌}
+use Rattle.rowex_records.specs.Claims.{count_of, record_of}
+use Rattle.rowex_records.proofs.Claimed.{all_earlier, claims_holds, more_since}
+use Rattle.rowex_writing.proofs.Locking.{goes_more, seat_of}
+use Rattle.rowex_writing.proofs.Making.{none_on, claim_on, steps_rise}
+use Rattle.rowex_writing.proofs.claims.claim_next.Goals as goal
+
+pub claim_record-requires : goal.claim_record-requires
+claim_record-requires g c = record { own = seat_of c.args.table.now g.G.Gate.becomes (c.args.seat.now, c.args.gate.now) (c.claim_spare.new.seat, c.claim_spare.new.gate) c.claim_spare.ensures.goes c.requires.own }
+
+pub returns-in_err-number-clause-goes : goal.returns-in_err-number-clause-goes
+returns-in_err-number-clause-goes g c =
+    goes_more c.args.table.now g.G.Gate.becomes _ _ _ c.claim_spare.ensures.goes (none_on c.args.table.now g.G.Gate.becomes (record_of c.args.kind) _ _ _ _ _ c.in_err-number.ensures.claims)
+
+pub returns-in_err-number-clause-claims : goal.returns-in_err-number-clause-claims
+returns-in_err-number-clause-claims g c = rw c.from_residual.ensures (
+  c.in_err-number.ensures.claims.own ∙ c.in_default.ensures.claims,
+  all_earlier (record_of c.args.kind) (count_of c.args.kind c.args.table.now.layout) c.claim_record.new.seat.known.failed c.args.seat.now.known.steps c.claim_spare.new.seat.known.steps
+      (steps_rise c.args.table.now g.G.Gate.becomes c.claim_spare.ensures.goes.acts (c.args.seat.now, c.args.gate.now) (c.claim_spare.new.seat, c.claim_spare.new.gate) c.claim_spare.ensures.goes.steps) c.in_err-number.ensures.none,
+)
+
+pub returns-clause-goes : goal.returns-clause-goes
+returns-clause-goes g c =
+    goes_more c.args.table.now g.G.Gate.becomes _ _ _ c.claim_spare.ensures.goes (claim_on c.args.table.now g.G.Gate.becomes (record_of c.args.kind) _ _ _ _ _ c.in_ok-number.ensures.claims)
+
+pub returns-clause-claims : goal.returns-clause-claims
+returns-clause-claims g c = (
+  c.in_ok-number.ensures.held.0,
+  more_since (record_of c.args.kind c.in_ok-number.number) c.args.seat.now.known c.claim_spare.new.seat.known c.claim_record.new.seat.known c.in_default.ensures.claims
+      (claims_holds c.args.table.now g.G.Gate.becomes (record_of c.args.kind) _ _ c.in_ok-number.number (c.claim_spare.new.seat, c.claim_spare.new.gate) (c.claim_record.new.seat, c.claim_record.new.gate) c.in_ok-number.ensures.claims),
+)

@@ -1,0 +1,13 @@
+-- The record is claimed, or was not free, or there is none of the number.
+use Rattle.rowex_records.specs.Claims.{count_of, record_of}
+use Rattle.rowex_writing.proofs.Making.{number_on, one_on}
+use Rattle.rowex_writing.proofs.claims.claim_spare.Goals as goal
+
+pub returns-then-claim_numbered-clause-goes : goal.returns-then-claim_numbered-clause-goes
+returns-then-claim_numbered-clause-goes g c =
+    one_on c.args.table.now g.G.Gate.becomes (record_of c.args.kind c.in_ok-number.number) _ _ (c.claim_numbered.ensures.claimed c.if-claim_numbered.true).1
+
+pub returns-clause-goes : goal.returns-clause-goes
+returns-clause-goes g c =
+    number_on c.args.table.now g.G.Gate.becomes (record_of c.args.kind) (count_of c.args.kind c.args.table.now.layout) c.in_ok-number.number (c.args.seat.now, c.args.gate.now) (c.claim_numbered.new.seat, c.claim_numbered.new.gate)
+    (c.claim_numbered.ensures.missed c.if-claim_numbered.false)
