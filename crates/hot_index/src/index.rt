@@ -130,7 +130,7 @@ impl Index {
 
     /// Gives a key a value if it is absent: `Inserted`, or `Exists` with the value that it has, which stays.
     ///
-    /// It waits for nobody: it makes at most 900,009 atomic steps, one more for each pass, 8,646 for each node record and 4 for
+    /// It waits for nobody: it makes at most 920,009 atomic steps, one more for each pass, 17,290 for each node record and 6 for
     /// each leaf record. It is refused as `Busy` where another pass holds what it wants to lock, or has made a change since the
     /// call began; and as full where each record of a kind was taken when it asked for one, also after a round of collection.
     /// Refused, it has changed nothing, and it holds no lock and no record.
