@@ -16,7 +16,7 @@ use Rattle.rowex_core.specs.declared.known.Known.{Known}
 use Rattle.rowex_table.specs.Runs.{Ends, IsTold, Runs, StepsWith, events_of, silent}
 use Rattle.rowex_table.specs.Seats.{TableView, SeatView}
 use Rattle.rowex_table.specs.Stays.{LeavesPin}
-use Rattle.rowex_table.proofs.Running.{ends_told, runs_append}
+use Rattle.rowex_table.proofs.Running.{ends_told, runs_append, runs_one}
 use Rattle.epochs.specs.Rounds.{IsRound, LoadsPin, Visits, advance_steps}
 use Rattle.epochs.specs.Runs.{Pins}
 use Rattle.rowex_reading.specs.Reads.{Looks}
@@ -27,7 +27,7 @@ use Rattle.rowex_writing.proofs.Runs.{quiet_recalls, recalls_pin}
 use Rattle.rowex_writing.proofs.Tried.{quiet_tries_none}
 use Rattle.hot_index.specs.Counts.{try_steps}
 use Rattle.hot_index.specs.Passes.{PassView, pass_of}
-use Rattle.hot_index.specs.Traces.{AreAttempts, HasCollected, HasEnded, HasGot, HasMade, HasRead, IsAttempt, reading, untold}
+use Rattle.hot_index.specs.Traces.{AreAttempts, HasCollected, HasEnded, HasGot, HasMade, HasRead, HasStepped, HasTold, IsAttempt, reading, untold}
 
 -- No step of a round sets or clears the pin, and none tries a lock.
 advance_quiet : (epoch found : ℕ) → All IsQuiet (advance_steps epoch found)
@@ -57,6 +57,10 @@ module _ {G : Type 0} {table : TableView} {becomes : G → Event → G → Type 
       (All-cons IsQuiet (LoadEpoch r.next) r.pins tt pins)) visits) leaf_visits
 
 module _ {G : Type 0} (table : TableView) (becomes : G → Event → G → Type 0) where
+  -- some steps, with no note
+  abbrev pub HasSteps : SeatView × G → SeatView × G → Type 0
+  HasSteps a b = (acts : List Act) × Runs table becomes acts a b
+
   -- a call that pinned its pass, looked and cleared the pin
   pub has_read : {n : ℕ} {said : Known → List Note} {a b c d : SeatView × G} → Pins table becomes a b → Looks table becomes n b c → StepsWith table becomes ClearPin said c d →
       HasRead table becomes (pass_of a.0, a.1) (pass_of d.0, d.1)
@@ -143,6 +147,44 @@ module _ {G : Type 0} (table : TableView) (becomes : G → Event → G → Type 
     where
       all : Ends table untold x.acts ClearPin x.said (x.before, tt) (x.after, tt)
       all = ((x.steps.0.0, tt), runs_untold x.acts (x.before, a.1) x.steps.0 x.steps.1, step_untold ClearPin x.said x.steps.0 (x.after, b.1) x.steps.2)
+
+  -- Calls that wait
+
+  -- a run, and one more that ended with no note
+  pub ran_on : {Are : List Act → Type 0} (a b c : SeatView × G) → HasSteps a b → HasEnded table becomes Are silent b c → HasSteps a c
+  ran_on a b c (acts, run) (more, are, (m, rest, end)) =
+      (acts ++ (more ++ ClearPin ∷ []), runs_append table becomes acts (more ++ ClearPin ∷ []) a b c run (runs_append table becomes more (ClearPin ∷ []) b m c rest (runs_one table becomes ClearPin m c end)))
+
+  -- a run, and the last try
+  pub ran_out : {Are : List Act → Type 0} {said : Known → List Note} (a b c : SeatView × G) → HasSteps a b → HasEnded table becomes Are said b c → HasStepped table becomes said a c
+  ran_out a b c (acts, run) (more, are, (m, rest, end)) = (acts ++ more, ClearPin, (m, runs_append table becomes acts more a b m run rest, end))
+
+  pub has_told : {said : Known → List Note} (a b : SeatView × G) → HasStepped table becomes said a b → HasTold table becomes (pass_of a.0, a.1) (pass_of b.0, b.1)
+  has_told {said = said} a b (acts, last, steps) = record {
+    before = a.0;
+    after = b.0;
+    acts = acts;
+    last = last;
+    said = said;
+    begins = refl;
+    ends = refl;
+    steps = steps;
+    told = ends_told table becomes acts last said a b steps;
+  }
+
+  -- a call that only read
+  pub read_told : (a b : PassView × G) → HasRead table becomes a b → HasTold table becomes a b
+  read_told a b x = record {
+    before = x.before;
+    after = x.after;
+    acts = reading x.epoch x.root x.loads;
+    last = ClearPin;
+    said = x.said;
+    begins = x.begins;
+    ends = x.ends;
+    steps = x.steps;
+    told = x.told;
+  }
 
   -- Calls one after the other
 

@@ -47,11 +47,11 @@ use Rattle.hot_index.specs.Asked.{HasAsked, HasReplied, last_try}
 use Rattle.hot_index.specs.Counts.{try_steps}
 use Rattle.hot_index.specs.Noting.{notes_of, place_by}
 use Rattle.hot_index.specs.Passes.{IsSettled, Owns, PassView, pass_of}
-use Rattle.hot_index.specs.Traces.{AreAttempts, HasMade}
+use Rattle.hot_index.specs.Traces.{AreAttempts, HasMade, HasStepped, HasTold}
 use Rattle.hot_index.proofs.Noting.{HasGoneOn, HasLooked, WasRight, found_had, goes_on, legal_front, longer, noted, settles, note_of}
 use Rattle.hot_index.proofs.Collected.{round_unnoted}
 use Rattle.hot_index.proofs.Scanned.{scan_refused, scan_settled}
-use Rattle.hot_index.proofs.Tracing.{has_made}
+use Rattle.hot_index.proofs.Tracing.{has_made, has_told}
 
 -- Replies
 
@@ -371,3 +371,9 @@ module _ {table index : TableView} {k : PassView} {s t : SeatView} {call : Call}
       HasMade index becomes (k, g) (pass_of t, h)
   asked_made {becomes = becomes} {g = g} {h = h} asked =
       subst (λ (x : TableView × PassView). HasMade x.0 becomes (x.1, g) (pass_of t, h)) (λ e. (index_is e, pass_is e)) (has_made table becomes (s, g) (t, h) asked.ended asked.few)
+
+-- and its steps, as the index and the pass see them
+pub stepped_told : {table index : TableView} {k : PassView} {s t : SeatView} {G : Type 0} {becomes : G → Event → G → Type 0} {g h : G} {said : Known → List Note} → table ≡ index → pass_of s ≡ k →
+    HasStepped table becomes said (s, g) (t, h) → HasTold index becomes (k, g) (pass_of t, h)
+stepped_told {table = table} {s = s} {t = t} {becomes = becomes} {g = g} {h = h} index_is pass_is stepped =
+    subst (λ (x : TableView × PassView). HasTold x.0 becomes (x.1, g) (pass_of t, h)) (λ e. (index_is e, pass_is e)) (has_told table becomes (s, g) (t, h) stepped)

@@ -1,6 +1,7 @@
 -- What calls of an index say.
 use Rattle.std.specs.Prelude.{◌≡◌, ◌≢◌, ◌⊎◌, ℕ, ◌<◌, ◌≤◌, [], ◌∷◌, ◌++◌, length, Option, Some, None}
 use Rattle.hot_model.specs.declared.Call.{Call}
+use Rattle.hot_model.specs.declared.Call.TheVariants.{Insert, Upsert, Get, Remove}
 use Rattle.hot_model.specs.declared.Reply.{Reply}
 use Rattle.hot_model.specs.declared.Reply.TheVariants.{Value, Absent}
 use Rattle.hot_model.specs.declared.Scan.{Scan}
@@ -74,6 +75,14 @@ pub record IsRefused (layout : Layout) (k j : PassView) (fault : TryFault) : Typ
 abbrev pub fault_of : Full → TryFault
 fault_of Nodes = FullNodes
 fault_of Leaves = FullLeaves
+
+-- the records of this kind may all be taken when this call asks for one
+abbrev pub MayLack : Call → Full → Type 0
+MayLack (Insert key value) full = Unit {0}
+MayLack (Upsert key value) full = Unit {0}
+MayLack (Get key) full = ⊥
+MayLack (Remove key) Nodes = Unit {0}
+MayLack (Remove key) Leaves = ⊥
 
 -- Two passes have met: both have seen one list of changes, which begins with what each had seen; the calls of both are legal
 -- in it, and stand together in one sequential history.

@@ -88,6 +88,23 @@ pub record HasMade {G : Type 0} (index : TableView) (becomes : G → Event → G
   pub told : IsTold becomes (events_of a.0.number (acts ++ ClearPin ∷ [])) a.1 b.1
   pub few : b.0.steps ≤ a.0.steps + try_steps index.layout
 
+-- On a seat: the call makes steps, one after the other, and these notes come with the last.
+abbrev pub HasStepped : {G : Type 0} → TableView → (G → Event → G → Type 0) → (Known → List Note) → SeatView × G → SeatView × G → Type 0
+HasStepped table becomes said a b = (acts : List Act) × (last : Act) × Ends table becomes acts last said a b
+
+-- The pass makes these steps, one after the other, and no other; with the last one come the call's notes. The gate is told each of
+-- them, in order, and nothing else.
+pub record HasTold {G : Type 0} (index : TableView) (becomes : G → Event → G → Type 0) (a b : PassView × G) : Type 0 where
+  pub before : SeatView
+  pub after : SeatView
+  pub acts : List Act
+  pub last : Act
+  pub said : Known → List Note
+  pub begins : a.0 ≡ pass_of before
+  pub ends : b.0 ≡ pass_of after
+  pub steps : Ends index becomes acts last said (before, a.1) (after, b.1)
+  pub told : IsTold becomes (events_of a.0.number (acts ++ last ∷ [])) a.1 b.1
+
 -- The pass makes one round of collection, whose own exchanges give back so many nodes and so many leaves; it sees no change by it.
 -- The gate is told each of its steps, and so many they are at most.
 pub record HasCollected {G : Type 0} (index : TableView) (becomes : G → Event → G → Type 0) (a b : PassView × G) (nodes leaves : ℕ) : Type 0 where

@@ -9,13 +9,14 @@ ghost use Rattle.rowex_table.specs.Seats.{IsPassOf};
 ghost use Rattle.rowex_writing.specs.Attempts.{call_of};
 ghost use Rattle.hot_index.specs.Asked.{HasAsked, HasReplied, IsIdle, last_try};
 ghost use Rattle.hot_index.specs.Counts.{once_steps, try_steps};
-ghost use Rattle.hot_index.specs.Traces.{AreAttempts, IsAttempt};
+ghost use Rattle.hot_index.specs.Noting.{notes_of};
+ghost use Rattle.hot_index.specs.Traces.{AreAttempts, HasStepped, IsAttempt};
 
 use crate::room::Room;
 use epochs::{collect_round, pin, unpin};
 use hot_model::Reply;
 use key_bits::Key;
-use rowex_core::{Gate, NoGate};
+use rowex_core::Gate;
 use rowex_table::{HotTable, TableSeat};
 use rowex_writing::{Ask, Full, TryFault, attempt};
 use std::sync::Wait;
@@ -46,10 +47,11 @@ pub fn try_change<G: Gate>(
 }
 
 /// Asks for a change until no other pass stands in its way.
-pub fn change<R: Wait>(
+pub fn change<R: Wait, G: Gate>(
     rt: &R,
     table: &HotTable,
     seat: &mut TableSeat,
+    gate: &mut G,
     room: &mut Room,
     ask: Ask,
     key: &Key,
@@ -57,10 +59,11 @@ pub fn change<R: Wait>(
 ) -> Result<Reply, Full>
     requires idle { IsIdle table.now seat.old }
     ensures replied { HasReplied table.now (call_of ask key.now value) (last_try result) seat.old seat.new }
+    ensures stepped { HasStepped table.now G.becomes (notes_of (call_of ask key.now value) (last_try result)) (seat.old, gate.old) (seat.new, gate.new) }
     ensures leafless { ask ≡ Ask.Remove → result ≢ Err Full.Leaves }
 {
     for _ in rt.forever() {
-        match try_change(table, seat, &mut NoGate, room, ask, key, value) {
+        match try_change(table, seat, gate, room, ask, key, value) {
             Ok(reply) => return Ok(reply),
             Err(TryFault::Busy) => thread::yield_now(),
             Err(TryFault::FullNodes) => return Err(Full::Nodes),

@@ -1,6 +1,6 @@
 //! The index and the passes by which threads use it: how it is made, and all calls on it.
 
-ghost use Rattle.std.specs.Prelude.{◌≡◌, ◌↔◌, ◌+◌, ◌≤◌, ℕ, List, ◌≢◌, Some, Err, IfOk, IsSome, MatchResult, OnErr, length, slice_get};
+ghost use Rattle.std.specs.Prelude.{◌≡◌, ◌↔◌, ◌+◌, ◌≤◌, ℕ, List, ◌≢◌, Some, Err, IfErr, IfOk, IsSome, MatchResult, OnErr, length, slice_get};
 ghost use mathlib.Core.Option.{some};
 ghost use lib.ListN.{get_elem?};
 ghost use Rattle.hot_model.specs.declared.Call.TheVariants.{Get, Insert, Remove, Upsert};
@@ -10,16 +10,17 @@ ghost use Rattle.rowex_core.specs.declared.event.Act.TheVariants.{ClearPin};
 ghost use Rattle.rowex_core.specs.declared.known.Known.{Known};
 ghost use Rattle.rowex_table.specs.Runs.{StepsWith};
 ghost use Rattle.rowex_table.specs.Seats.{IsPassOf, IsNewSeatOf, SeatView};
+ghost use Rattle.rowex_writing.specs.Attempts.{call_of};
 ghost use Rattle.hot_index.specs.Passes.{PassView, Owns, IsNewPass, IsSettled, pass_of};
 ghost use Rattle.hot_index.specs.Counts.{scan_steps};
-ghost use Rattle.hot_index.specs.Answers.{IsNoted, IsRefused, IsScanned, IsUnnoted, HaveMet, fault_of, got};
-ghost use Rattle.hot_index.specs.Traces.{HasCollected, HasGot, HasMade, HasRead, untold};
+ghost use Rattle.hot_index.specs.Answers.{IsNoted, IsRefused, IsScanned, IsUnnoted, HaveMet, MayLack, fault_of, got};
+ghost use Rattle.hot_index.specs.Traces.{HasCollected, HasGot, HasMade, HasRead, HasTold, untold};
 
 use crate::changing::{change, try_change};
 use crate::room::{Room, new_room};
 use crate::scanning::{Range, scan_root};
 use epochs::{Given, collect_round, pin, unpin};
-use hot_model::{Reply, Scan};
+use hot_model::{Call, Reply, Scan};
 use key_bits::Key;
 use record_words::{Layout, LayoutFault};
 use rowex_core::{Gate, NoGate};
@@ -241,6 +242,64 @@ impl Index {
         )
     }
 
+    /// Makes a call of the map, as `get`, `insert`, `upsert` or `remove` does, with a gate that is told each of its steps.
+    ///
+    /// A get is never refused, and a remove never as full of leaves.
+    pub fn call_with<R: Wait, G: Gate>(
+        &self,
+        rt: &R,
+        pass: &mut Pass,
+        call: &Call,
+        gate: &mut G,
+    ) -> Result<Reply, Full>
+        requires { Owns self.now pass.old }
+        ensures own { Owns self.now pass.new }
+        ensures call { MatchResult result (IsNoted self.now.layout pass.old pass.new call.now)
+            (λ full. IsRefused self.now.layout pass.old pass.new (fault_of full)) }
+        ensures lacks { IfErr result (MayLack call.now) }
+        ensures told { HasTold self.now G.becomes (pass.old, gate.old) (pass.new, gate.new) }
+    {
+        match call {
+            Call::Get(key) => Ok(reply_of(self.get_with(pass, key, gate))),
+            Call::Insert(key, value) => {
+                self.change_with(rt, pass, gate, Ask::Insert, key, *value)
+            }
+            Call::Upsert(key, value) => {
+                self.change_with(rt, pass, gate, Ask::Upsert, key, *value)
+            }
+            Call::Remove(key) => self.change_with(rt, pass, gate, Ask::Remove, key, 0),
+        }
+    }
+
+    /// Asks for a change, and begins again as often as another pass stands in its way.
+    fn change_with<R: Wait, G: Gate>(
+        &self,
+        rt: &R,
+        pass: &mut Pass,
+        gate: &mut G,
+        ask: Ask,
+        key: &Key,
+        value: u64,
+    ) -> Result<Reply, Full>
+        requires { Owns self.now pass.old }
+        ensures own { Owns self.now pass.new }
+        ensures call { MatchResult result (IsNoted self.now.layout pass.old pass.new (call_of ask key.now value))
+            (λ full. IsRefused self.now.layout pass.old pass.new (fault_of full)) }
+        ensures leafless { ask ≡ Ask.Remove → result ≢ Err Full.Leaves }
+        ensures told { HasTold self.now G.becomes (pass.old, gate.old) (pass.new, gate.new) }
+    {
+        change(
+            rt,
+            &self.table,
+            &mut pass.seat,
+            gate,
+            &mut pass.room,
+            ask,
+            key,
+            value,
+        )
+    }
+
     /// Gives a key a value if it is absent: `Inserted`, or `Exists` with the value that it has, which stays.
     ///
     /// Where `try_insert` would be `Busy` it begins again, as often as need be: it ends once no other pass stands in its way.
@@ -258,15 +317,7 @@ impl Index {
         ensures call { MatchResult result (IsNoted self.now.layout pass.old pass.new (Insert key.now value))
             (λ full. IsRefused self.now.layout pass.old pass.new (fault_of full)) }
     {
-        change(
-            rt,
-            &self.table,
-            &mut pass.seat,
-            &mut pass.room,
-            Ask::Insert,
-            key,
-            value,
-        )
+        self.change_with(rt, pass, &mut NoGate, Ask::Insert, key, value)
     }
 
     /// Gives a key a value: `New`, or `Was` with the value that it had.
@@ -284,15 +335,7 @@ impl Index {
         ensures call { MatchResult result (IsNoted self.now.layout pass.old pass.new (Upsert key.now value))
             (λ full. IsRefused self.now.layout pass.old pass.new (fault_of full)) }
     {
-        change(
-            rt,
-            &self.table,
-            &mut pass.seat,
-            &mut pass.room,
-            Ask::Upsert,
-            key,
-            value,
-        )
+        self.change_with(rt, pass, &mut NoGate, Ask::Upsert, key, value)
     }
 
     /// Makes a key absent: `Removed` with the value that it had, or `Absent`.
@@ -306,15 +349,7 @@ impl Index {
             (λ full. IsRefused self.now.layout pass.old pass.new (fault_of full)) }
         ensures leafless { result ≢ Err Full.Leaves }
     {
-        change(
-            rt,
-            &self.table,
-            &mut pass.seat,
-            &mut pass.room,
-            Ask::Remove,
-            key,
-            0,
-        )
+        self.change_with(rt, pass, &mut NoGate, Ask::Remove, key, 0)
     }
 
     /// The keys from `from` to `upto`, both included, with their values, in the order of the keys: the first `limit` of
@@ -458,6 +493,16 @@ fn new_pass(alloc: Global, table: &HotTable, seat: TableSeat) -> Result<Pass, Al
 {
     let room = new_room(alloc, table.layout(), seat.number())?;
     Ok(Pass { seat, room })
+}
+
+/// The reply to a get that found this.
+fn reply_of(found: Option<u64>) -> Reply
+    ensures { result ≡ got found }
+{
+    match found {
+        Some(value) => Reply::Value(value),
+        None => Reply::Absent,
+    }
 }
 
 /// Clears the pin at the end of a get that looked for this key and found this. The get's note comes with this step.

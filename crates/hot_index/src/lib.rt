@@ -8,7 +8,7 @@ mod room;
 mod scanning;
 
 pub use epochs::Given;
-pub use hot_model::{Reply, Scan};
+pub use hot_model::{Call, Reply, Scan};
 pub use index::{Index, IndexFault, Pass, create};
 pub use key_bits::Key;
 pub use rowex_core::{Event, Gate, NoGate};

@@ -1,9 +1,10 @@
 -- The tries before were refused; what the last one leaves is what the whole call leaves.
-use Rattle.std.proofs.Common.{Ok, Err, subst}
+use Rattle.std.proofs.Common.{[], inl, Ok, Err, refl, subst}
 use Rattle.rowex_writing.specs.Attempts.{call_of}
 use Rattle.rowex_writing.specs.declared.attempts.TryFault.TheVariants.{FullNodes, FullLeaves}
 use Rattle.hot_index.specs.Asked.{HasReplied}
 use Rattle.hot_index.specs.Passes.{pass_of}
+use Rattle.hot_index.proofs.Tracing.{ran_on, ran_out}
 use Rattle.hot_index.proofs.Trying.{waited_on, waited_out}
 use Rattle.hot_index.proofs.changing.change.Goals as goal
 
@@ -11,12 +12,25 @@ pub returns-in-Ok-clause-replied : goal.returns-in-Ok-clause-replied
 returns-in-Ok-clause-replied g c =
     waited_out c.args.table.now c.args.seat.now c.loop.seat c.try_change.new.seat (call_of c.args.ask c.args.key.now c.args.value) (Ok c.in-Ok.reply) c.loop.invariant.waited c.in-Ok.ensures.asked.replied
 
+pub loop-init : goal.loop-init
+loop-init g c = record { idle = c.requires.idle; waited = inl refl; ran = ([], refl) }
+
+pub returns-in-Ok-clause-stepped : goal.returns-in-Ok-clause-stepped
+returns-in-Ok-clause-stepped g c = ran_out c.args.table.now g.G.Gate.becomes _ _ _ c.loop.invariant.ran c.in-Ok.ensures.asked.ended
+
+pub returns-in-Err-FullNodes-clause-stepped : goal.returns-in-Err-FullNodes-clause-stepped
+returns-in-Err-FullNodes-clause-stepped g c = ran_out c.args.table.now g.G.Gate.becomes _ _ _ c.loop.invariant.ran c.in-Err-FullNodes.ensures.asked.ended
+
+pub returns-in-Err-FullLeaves-clause-stepped : goal.returns-in-Err-FullLeaves-clause-stepped
+returns-in-Err-FullLeaves-clause-stepped g c = ran_out c.args.table.now g.G.Gate.becomes _ _ _ c.loop.invariant.ran c.in-Err-FullLeaves.ensures.asked.ended
+
 pub loop-preserved : goal.loop-preserved
 loop-preserved g c =
     let o = c.in-Err-Busy.ensures.asked in
     record {
       idle = o.replied.idle;
       waited = waited_on c.args.table.now.layout (pass_of c.args.seat.now) (pass_of c.loop.seat) (pass_of c.try_change.new.seat) c.loop.invariant.waited o.replied.refused.unnoted o.later;
+      ran = ran_on c.args.table.now g.G.Gate.becomes _ _ _ c.loop.invariant.ran o.ended;
     }
 
 pub returns-in-Err-FullNodes-clause-replied : goal.returns-in-Err-FullNodes-clause-replied

@@ -1,0 +1,6 @@
+-- A get's steps are those of a call that only reads.
+use Rattle.hot_index.proofs.Tracing.{read_told}
+use Rattle.hot_index.proofs.index.Index.call_with.Goals as goal
+
+pub returns-in-Get-clause-told : goal.returns-in-Get-clause-told
+returns-in-Get-clause-told g c = read_told _ _ _ _ c.get_with.ensures.made.read
