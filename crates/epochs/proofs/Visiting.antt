@@ -1,6 +1,7 @@
 -- What visits of records come to.
-use Rattle.std.proofs.Common.{◌≡◌, ◌≢◌, ℕ, ◌+◌, ◌^◌, ◌<◌, ◌≤◌, [], ◌∷◌, ◌++◌, Bool, true, false, nat_eq, if◌then◌else◌, refl, sym, ap, subst, ◌∙◌, arith}
+use Rattle.std.proofs.Common.{◌≡◌, ◌≢◌, ℕ, ◌+◌, ◌^◌, ◌<◌, ◌≤◌, [], ◌∷◌, ◌++◌, Bool, true, false, nat_eq, if◌then◌else◌, refl, sym, ap, subst, ◌∙◌, arith, List, length, length-append}
 use Rattle.std.specs.Prelude.{count_by}
+use Rattle.std.proofs.lemmas.List.{append_assoc, append-nil}
 use Rattle.std.proofs.lemmas.List.Sums.{sum_by-append}
 use Rattle.record_words.specs.declared.layout.Layout.{Layout}
 use Rattle.record_words.specs.declared.state.Tag.TheVariants.{Obsolete}
@@ -17,10 +18,15 @@ use Rattle.rowex_table.specs.Runs.{silent, Steps}
 use Rattle.rowex_table.specs.Seats.{TableView, SeatView}
 use Rattle.rowex_table.proofs.Running.{in_turn_more, does_none}
 use Rattle.epochs.specs.Runs.{collecting}
-use Rattle.epochs.specs.Rounds.{Visits, has_given, VisitsOne, VisitsAll}
+use Rattle.epochs.specs.Rounds.{Visits, VisitEach, has_given, VisitsOne, VisitsAll, VisitsSome}
 use Rattle.epochs.proofs.Doing.{does_one, collects, collects_look, collects_append}
 
 -- One visit
+
+-- a visit gives back one record at most
+pub one_most : (t : Bool) → (if t then 1 else 0) ≤ 1
+one_most true = omega arith
+one_most false = omega arith
 
 -- the bound of a round is a number of an epoch
 bound_top : (layout : Layout) (act : Act) (k j : Known) → IsEvent layout act silent k j → k.round.bound < 2 ^ 60
@@ -64,4 +70,26 @@ module _ {G : Type 0} (table : TableView) (becomes : G → Event → G → Type 
     in_turn_more (λ m. Visits bound (kind m)) n all.0 one.0 all.1 one.1,
     collects_append table becomes all.0 one.0 a m b all.2 one.2,
     is ∙ (ap (λ z. z + (if t then 1 else 0)) all.3 ∙ (ap (λ z. count_by has_given all.0 + z) (sym one.3) ∙ sym (sum_by-append (λ x. if has_given x then 1 else 0) all.0 one.0))),
+  )
+
+  -- Visits of a list
+
+  pub some_none : (bound most : ℕ) (a : SeatView × G) → VisitsSome table becomes bound most a a
+  some_none bound most a = ([], [], refl, does_none table becomes collecting a (λ k. refl), omega arith)
+
+  pub some_one : (bound : ℕ) (r : Rec) (t : Bool) (a b : SeatView × G) → VisitsOne table becomes bound r t a b → VisitsSome table becomes bound 1 a b
+  some_one bound r t a b one = (r ∷ [], one.0, (one.0, [], one.1, refl, sym (append-nil one.0)), one.2, omega arith)
+
+  each_append : (bound : ℕ) (recs rest : List Rec) (acts more : List Act) → VisitEach bound recs acts → VisitEach bound rest more → VisitEach bound (recs ++ rest) (acts ++ more)
+  each_append bound [] rest acts more none each = subst (λ l. VisitEach bound rest (l ++ more)) (sym none) each
+  each_append bound (r ∷ recs) rest acts more (first, last, visit, visits, all) each =
+      (first, last ++ more, visit, each_append bound recs rest last more visits each, ap (λ (l : List Act). l ++ more) all ∙ append_assoc first last more)
+
+  pub some_append : (bound n m most : ℕ) (a b c : SeatView × G) → VisitsSome table becomes bound n a b → VisitsSome table becomes bound m b c → n + m ≤ most → VisitsSome table becomes bound most a c
+  some_append bound n m most a b c (recs, acts, each, does, few) (rest, more, each', does', few') le = (
+    recs ++ rest,
+    acts ++ more,
+    each_append bound recs rest acts more each each',
+    collects_append table becomes acts more a b c does does',
+    omega (arith, few, few', le, length-append recs rest),
   )

@@ -1,5 +1,5 @@
 -- Rounds of collection.
-use Rattle.std.specs.Prelude.{◌≡◌, ◌≢◌, ℕ, ◌<◌, ◌≤◌, ◌+◌, List, [], ◌∷◌, ◌++◌, Bool, true, false, nat_eq, nat_lt, if◌then◌else◌, count_by}
+use Rattle.std.specs.Prelude.{◌≡◌, ◌≢◌, ℕ, ◌<◌, ◌≤◌, ◌+◌, List, [], ◌∷◌, ◌++◌, Bool, true, false, nat_eq, nat_lt, if◌then◌else◌, count_by, length}
 use Rattle.record_words.specs.declared.TheConstants.{EPOCHS}
 use Rattle.record_words.specs.declared.state.Tag.TheVariants.{Obsolete}
 use Rattle.record_words.specs.State.{state_word}
@@ -13,6 +13,8 @@ use Rattle.rowex_core.specs.declared.known.Known.{Known}
 use Rattle.rowex_table.specs.Runs.{Does, InTurn}
 use Rattle.rowex_table.specs.Seats.{TableView, SeatView}
 use Rattle.epochs.specs.Runs.{collecting, paced}
+use Rattle.epochs.specs.declared.collection.Visited.{Visited}
+use Rattle.epochs.specs.declared.collection.Visited.TheVariants.{Given}
 
 -- the exchange that makes an epoch the next one; at the last epoch there is none
 abbrev pub advance_steps : ℕ → ℕ → List Act
@@ -25,6 +27,11 @@ LoadsPin o acts = (word : ℕ) × (acts ≡ LoadPin o word ∷ [])
 pub data Visits (bound : ℕ) (r : Rec) : List Act → Type 0 where
   passes : (word : ℕ) → ((epoch : ℕ) → 1 ≤ epoch → epoch < bound → word ≢ state_word (Obsolete epoch)) → Visits bound r (LoadState r word ∷ [])
   tries : (epoch found : ℕ) → 1 ≤ epoch → epoch < bound → Visits bound r (LoadState r (state_word (Obsolete epoch)) ∷ GiveBack r epoch found ∷ [])
+
+-- visits of these records, one after the other
+abbrev pub VisitEach : ℕ → List Rec → List Act → Type 0
+VisitEach bound [] acts = acts ≡ []
+VisitEach bound (r ∷ recs) acts = (first : List Act) × (rest : List Act) × Visits bound r first × VisitEach bound recs rest × (acts ≡ first ++ rest)
 
 -- the step gives a record back: its exchange found the state that it expected
 abbrev pub has_given : Act → Bool
@@ -48,6 +55,19 @@ pub record IsRound {G : Type 0} (table : TableView) (becomes : G → Event → G
   pub nodes_given : given_nodes ≡ count_by has_given nodes
   pub leaves_given : given_leaves ≡ count_by has_given leaves
 
+-- A small round: it begins as a round does, and then the pass visits some records alone, so many at most.
+pub record IsSmallRound {G : Type 0} (table : TableView) (becomes : G → Event → G → Type 0) (most : ℕ) (a b : SeatView × G) : Type 0 where
+  pub epoch : ℕ
+  pub found : ℕ
+  pub next : ℕ
+  pub pins : List Act
+  pub recs : List Rec
+  pub visits : List Act
+  pub does : Does table becomes collecting (LoadEpoch epoch ∷ advance_steps epoch found ++ LoadEpoch next ∷ pins ++ visits) a b
+  pub loads_pins : InTurn LoadsPin table.layout.passes pins
+  pub visits_each : VisitEach b.0.known.round.bound recs visits
+  pub few : length recs ≤ most
+
 -- The parts of a round
 
 -- the pass has loaded the first n pins since it last loaded the epoch, and this is the least of that epoch and of those pins
@@ -64,6 +84,15 @@ AdvancesEpoch table becomes a b = (epoch : ℕ) × (found : ℕ) × Does table b
 abbrev pub FindsBound : {G : Type 0} → TableView → (G → Event → G → Type 0) → ℕ → SeatView × G → SeatView × G → Type 0
 FindsBound table becomes n a b = (next : ℕ) × (pins : List Act) × InTurn LoadsPin n pins × Does table becomes paced (LoadEpoch next ∷ pins) a b
 
+-- and both, as each round begins
+abbrev pub BeginsRound : {G : Type 0} → TableView → (G → Event → G → Type 0) → SeatView × G → SeatView × G → Type 0
+BeginsRound {G = G} table becomes a b = (m : SeatView × G) × AdvancesEpoch table becomes a m × FindsBound table becomes table.layout.passes m b
+
+-- the visit gave its record back
+abbrev pub is_given : Visited → Bool
+is_given Given = true
+is_given seen = false
+
 -- a visit of a record, which gives it back or not
 abbrev pub VisitsOne : {G : Type 0} → TableView → (G → Event → G → Type 0) → ℕ → Rec → Bool → SeatView × G → SeatView × G → Type 0
 VisitsOne table becomes bound r given a b =
@@ -73,3 +102,8 @@ VisitsOne table becomes bound r given a b =
 abbrev pub VisitsAll : {G : Type 0} → TableView → (G → Event → G → Type 0) → ℕ → (ℕ → Rec) → ℕ → ℕ → SeatView × G → SeatView × G → Type 0
 VisitsAll table becomes bound kind n given a b =
     (acts : List Act) × InTurn (λ m. Visits bound (kind m)) n acts × Does table becomes collecting acts a b × (given ≡ count_by has_given acts)
+
+-- visits of some records, so many at most
+abbrev pub VisitsSome : {G : Type 0} → TableView → (G → Event → G → Type 0) → ℕ → ℕ → SeatView × G → SeatView × G → Type 0
+VisitsSome table becomes bound most a b =
+    (recs : List Rec) × (acts : List Act) × VisitEach bound recs acts × Does table becomes collecting acts a b × (length recs ≤ most)

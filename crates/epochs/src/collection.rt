@@ -1,14 +1,15 @@
 //! Rounds of collection: records that no pinned pass can reach are given back.
 
-ghost use Rattle.std.specs.Prelude.{◌≡◌, ◌≢◌, ℕ, ◌+◌, ◌^◌, ◌<◌, ◌≤◌, None, min, MatchOption};
+ghost use Rattle.std.specs.Prelude.{◌≡◌, ◌≢◌, ℕ, ◌+◌, ◌^◌, ◌<◌, ◌≤◌, List, None, true, false, length, min, if◌then◌else◌, MatchOption};
 ghost use Rattle.record_words.specs.declared.state.Tag.TheVariants.{Obsolete};
 ghost use Rattle.record_words.specs.State.{state_word};
 ghost use Rattle.moments.specs.declared.Rec.TheVariants.{Node as a_node, Leaf as a_leaf};
 ghost use Rattle.rowex_core.specs.Cores.{HasRecord};
 ghost use Rattle.rowex_table.specs.Seats.{IsSeatOf};
-ghost use Rattle.epochs.specs.Rounds.{AdvancesEpoch, FindsBound, HasBound, IsRound, VisitsAll, VisitsOne};
+ghost use Rattle.epochs.specs.Rounds.{AdvancesEpoch, BeginsRound, FindsBound, HasBound, IsRound, IsSmallRound, VisitsAll, VisitsOne, VisitsSome, is_given};
 
-use record_words::{EPOCHS, Tag, unpack_state};
+use crate::limbo::{Limbo, MOST_VISITED};
+use record_words::{EPOCHS, Layout, Tag, unpack_state};
 use rowex_core::{Gate, Rec};
 use rowex_table::{HotTable, TableSeat};
 
@@ -19,20 +20,84 @@ pub struct Given {
     pub leaves: u32,
 }
 
+/// What a round of collection came to.
+#[derive(Clone, Copy)]
+pub struct Collected {
+    /// How many records it gave back.
+    pub given: Given,
+    /// Whether it saw a retired record that was not to be given back yet, since a pass may still reach it.
+    pub held_back: bool,
+}
+
+/// What a visit of a record came to.
+#[derive(Clone, Copy)]
+pub enum Visited {
+    /// The visit gave the record back.
+    Given,
+    /// The record is retired, in an epoch that isn't below the bound of the round.
+    Waits,
+    /// The record is in another state.
+    Other,
+}
+
+/// What visits of records of one kind came to.
+#[derive(Clone, Copy)]
+struct Tally {
+    given: u32,
+    held_back: bool,
+}
+
 /// Makes the epoch the next one, and gives back each record that was retired in an epoch below all pins.
 ///
 /// At the last epoch, 2^60 - 1, the epoch stays, and what is below it is still given back.
-pub fn collect_round<G: Gate>(table: &HotTable, seat: &mut TableSeat, gate: &mut G) -> Given
+pub fn collect_round<G: Gate>(table: &HotTable, seat: &mut TableSeat, gate: &mut G) -> Collected
     requires own { IsSeatOf table.now seat.old }
     requires free { seat.old.known.pin ≡ None }
     ensures free { seat.new.known.pin ≡ None }
-    ensures round { IsRound table.now G.becomes (seat.old, gate.old) (seat.new, gate.new) result.nodes result.leaves }
+    ensures round { IsRound table.now G.becomes (seat.old, gate.old) (seat.new, gate.new) result.given.nodes result.given.leaves }
 {
-    advance_epoch(table, seat, gate);
-    let bound = find_bound(table, seat, gate);
+    let bound = begin_round(table, seat, gate);
     let nodes = visit_nodes(table, seat, gate, bound);
     let leaves = visit_leaves(table, seat, gate, bound);
-    Given { nodes, leaves }
+    Collected {
+        given: Given {
+            nodes: nodes.given,
+            leaves: leaves.given,
+        },
+        held_back: nodes.held_back | leaves.held_back,
+    }
+}
+
+/// Makes a small round: makes the epoch the next one, and visits the oldest records of the pass's limbo list, at most
+/// `MOST_VISITED` and up to the first that has to wait. Each that was retired in an epoch below all pins is given back, and stands
+/// in the list's `given` then.
+///
+/// It costs by what the pass has retired, however many records the table has.
+pub fn collect_small<G: Gate>(
+    table: &HotTable,
+    seat: &mut TableSeat,
+    gate: &mut G,
+    limbo: &mut Limbo,
+)
+    requires own { IsSeatOf table.now seat.old }
+    requires free { seat.old.known.pin ≡ None }
+    ensures free { seat.new.known.pin ≡ None }
+    ensures round { IsSmallRound table.now G.becomes MOST_VISITED (seat.old, gate.old) (seat.new, gate.new) }
+{
+    limbo.begin();
+    let bound = begin_round(table, seat, gate);
+    visit_limbo(table, seat, gate, limbo, bound);
+}
+
+/// Makes the epoch the next one, and finds the bound of the round: the least of that epoch and of the pins that are set.
+fn begin_round<G: Gate>(table: &HotTable, seat: &mut TableSeat, gate: &mut G) -> u64
+    requires { IsSeatOf table.now seat.old }
+    ensures pin { seat.new.known.pin ≡ seat.old.known.pin }
+    ensures bound { HasBound table.now.layout.passes result seat.new.known }
+    ensures steps { BeginsRound table.now G.becomes (seat.old, gate.old) (seat.new, gate.new) }
+{
+    advance_epoch(table, seat, gate);
+    find_bound(table, seat, gate)
 }
 
 /// Loads the epoch and, unless it is the last, makes it the next one.
@@ -72,58 +137,156 @@ fn lowered(bound: u64, word: u64) -> u64
 }
 
 /// Visits each node record in rising number; answers how many it gave back.
-fn visit_nodes<G: Gate>(table: &HotTable, seat: &mut TableSeat, gate: &mut G, bound: u64) -> u32
+fn visit_nodes<G: Gate>(table: &HotTable, seat: &mut TableSeat, gate: &mut G, bound: u64) -> Tally
     requires own { IsSeatOf table.now seat.old }
     requires bound { HasBound table.now.layout.passes bound seat.old.known }
     ensures same { (seat.new.known.pin ≡ seat.old.known.pin) × (seat.new.known.round ≡ seat.old.known.round) }
-    ensures steps { VisitsAll table.now G.becomes bound a_node table.now.layout.nodes result (seat.old, gate.old) (seat.new, gate.new) }
+    ensures steps { VisitsAll table.now G.becomes bound a_node table.now.layout.nodes result.given (seat.old, gate.old) (seat.new, gate.new) }
 {
-    let mut given = 0;
+    let mut tally = Tally {
+        given: 0,
+        held_back: false,
+    };
     for number in 0..table.layout().nodes {
-        if visit(table, seat, gate, Rec::Node(number), bound) {
-            given += 1;
-        }
+        let seen = visit(table, seat, gate, Rec::Node(number), bound);
+        tally = counted(tally, seen);
     }
-    given
+    tally
 }
 
 /// Visits each leaf record in rising number; answers how many it gave back.
-fn visit_leaves<G: Gate>(table: &HotTable, seat: &mut TableSeat, gate: &mut G, bound: u64) -> u32
+fn visit_leaves<G: Gate>(table: &HotTable, seat: &mut TableSeat, gate: &mut G, bound: u64) -> Tally
     requires own { IsSeatOf table.now seat.old }
     requires bound { HasBound table.now.layout.passes bound seat.old.known }
     ensures same { (seat.new.known.pin ≡ seat.old.known.pin) × (seat.new.known.round ≡ seat.old.known.round) }
-    ensures steps { VisitsAll table.now G.becomes bound a_leaf table.now.layout.leaves result (seat.old, gate.old) (seat.new, gate.new) }
+    ensures steps { VisitsAll table.now G.becomes bound a_leaf table.now.layout.leaves result.given (seat.old, gate.old) (seat.new, gate.new) }
 {
-    let mut given = 0;
+    let mut tally = Tally {
+        given: 0,
+        held_back: false,
+    };
     for number in 0..table.layout().leaves {
-        if visit(table, seat, gate, Rec::Leaf(number), bound) {
-            given += 1;
-        }
+        let seen = visit(table, seat, gate, Rec::Leaf(number), bound);
+        tally = counted(tally, seen);
     }
-    given
+    tally
 }
 
-/// Loads the state of a record and, where it is obsolete in an epoch below the bound, tries to make it free; answers
-/// whether that did.
+/// The tally after a visit more.
+fn counted(tally: Tally, seen: Visited) -> Tally
+    requires { tally.given + 1 < 2 ^ 32 }
+    ensures given { result.given ≡ tally.given + (if is_given seen then 1 else 0) }
+{
+    match seen {
+        Visited::Given => Tally {
+            given: tally.given + 1,
+            held_back: tally.held_back,
+        },
+        Visited::Waits => Tally {
+            given: tally.given,
+            held_back: true,
+        },
+        Visited::Other => tally,
+    }
+}
+
+/// Visits the oldest records of a limbo list, at most `MOST_VISITED` and up to the first that has to wait.
+fn visit_limbo<G: Gate>(
+    table: &HotTable,
+    seat: &mut TableSeat,
+    gate: &mut G,
+    limbo: &mut Limbo,
+    bound: u64,
+)
+    requires own { IsSeatOf table.now seat.old }
+    requires bound { HasBound table.now.layout.passes bound seat.old.known }
+    ensures same { (seat.new.known.pin ≡ seat.old.known.pin) × (seat.new.known.round ≡ seat.old.known.round) }
+    ensures steps { VisitsSome table.now G.becomes bound MOST_VISITED (seat.old, gate.old) (seat.new, gate.new) }
+{
+    for _visited in 0..MOST_VISITED {
+        if !visit_oldest(table, seat, gate, limbo, bound) {
+            return;
+        }
+    }
+}
+
+/// Visits the oldest record of a limbo list; answers whether the next one is to be visited too. One that the table hasn't is
+/// dropped without a visit.
+fn visit_oldest<G: Gate>(
+    table: &HotTable,
+    seat: &mut TableSeat,
+    gate: &mut G,
+    limbo: &mut Limbo,
+    bound: u64,
+) -> bool
+    requires own { IsSeatOf table.now seat.old }
+    requires bound { HasBound table.now.layout.passes bound seat.old.known }
+    ensures same { (seat.new.known.pin ≡ seat.old.known.pin) × (seat.new.known.round ≡ seat.old.known.round) }
+    ensures steps { VisitsSome table.now G.becomes bound 1 (seat.old, gate.old) (seat.new, gate.new) }
+{
+    let Some(rec) = limbo.oldest() else {
+        return false;
+    };
+    if !has_record(table.layout(), rec) {
+        limbo.settle(rec, Visited::Other);
+        return true;
+    }
+    let seen = visit(table, seat, gate, rec, bound);
+    limbo.settle(rec, seen)
+}
+
+/// Whether a table of this layout has the record.
+fn has_record(layout: Layout, rec: Rec) -> bool
+    ensures { result ≡ true → HasRecord layout rec }
+{
+    match rec {
+        Rec::Node(number) => number < layout.nodes,
+        Rec::Leaf(number) => number < layout.leaves,
+    }
+}
+
+/// Loads the state of a record and, where it is obsolete in an epoch below the bound, tries to make it free; answers what that
+/// came to.
 fn visit<G: Gate>(
     table: &HotTable,
     seat: &mut TableSeat,
     gate: &mut G,
     rec: Rec,
     bound: u64,
-) -> bool
+) -> Visited
     requires own { IsSeatOf table.now seat.old }
     requires range { HasRecord table.now.layout rec }
     requires bound { HasBound table.now.layout.passes bound seat.old.known }
     ensures same { (seat.new.known.pin ≡ seat.old.known.pin) × (seat.new.known.round ≡ seat.old.known.round) }
-    ensures steps { VisitsOne table.now G.becomes bound rec result (seat.old, gate.old) (seat.new, gate.new) }
+    ensures steps { VisitsOne table.now G.becomes bound rec (is_given result) (seat.old, gate.old) (seat.new, gate.new) }
 {
     let word = table.load_state(seat, gate, rec);
     let Some(epoch) = epoch_below(word, bound) else {
-        return false;
+        return unripe(word);
     };
     let found = table.give_back(seat, gate, rec, epoch);
-    found == word
+    given_if(found == word)
+}
+
+/// What a visit came to that gave back its record, or another pass did.
+fn given_if(given: bool) -> Visited
+    ensures { is_given result ≡ given }
+{
+    if given {
+        Visited::Given
+    } else {
+        Visited::Other
+    }
+}
+
+/// What a visit came to of a record of this state that was not to be given back.
+fn unripe(word: u64) -> Visited
+    ensures { is_given result ≡ false }
+{
+    match unpack_state(word) {
+        Ok(Tag::Obsolete(_)) => Visited::Waits,
+        _ => Visited::Other,
+    }
 }
 
 /// The epoch in which a record of this state was retired, if it is below the bound.

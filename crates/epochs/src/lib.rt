@@ -3,7 +3,9 @@
 
 mod collection;
 pub mod laws;
+mod limbo;
 mod pinning;
 
-pub use collection::{Given, collect_round};
+pub use collection::{Collected, Given, collect_round, collect_small};
+pub use limbo::{Limbo, MOST_VISITED};
 pub use pinning::{pin, unpin};

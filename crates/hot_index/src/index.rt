@@ -454,7 +454,8 @@ impl Index {
         ensures call { IsUnnoted self.now.layout pass.old pass.new }
         ensures made { HasCollected self.now G.becomes (pass.old, gate.old) (pass.new, gate.new) result.nodes result.leaves }
     {
-        collect_round(&self.table, &mut pass.seat, gate)
+        let round = collect_round(&self.table, &mut pass.seat, gate);
+        round.given
     }
 }
 

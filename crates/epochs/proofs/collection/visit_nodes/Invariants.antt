@@ -7,6 +7,6 @@ use Rattle.epochs.proofs.collection.visit_nodes.Given as goal
 abbrev pub invariant-loop-number : goal.invariant-loop-number
 invariant-loop-number g l = record {
   same : (l.seat.known.pin ≡ l.fn.seat.known.pin) × (l.seat.known.round ≡ l.fn.seat.known.round);
-  few : l.given ≤ l.number;
-  steps : VisitsAll l.table g.G.Gate.becomes l.bound a_node l.number l.given (l.fn.seat, l.fn.gate) (l.seat, l.gate);
+  few : l.tally.given ≤ l.number;
+  steps : VisitsAll l.table g.G.Gate.becomes l.bound a_node l.number l.tally.given (l.fn.seat, l.fn.gate) (l.seat, l.gate);
 }

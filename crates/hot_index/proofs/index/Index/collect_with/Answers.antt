@@ -9,22 +9,22 @@ use Rattle.hot_index.proofs.Collected.{round_few, round_settled, round_unnoted}
 use Rattle.hot_index.proofs.index.Index.collect_with.Goals as goal
 
 pub invariant_of-pass : goal.invariant_of-pass
-invariant_of-pass g c = round_settled c.collect_round.ensures.round c.collect_round.ensures.free c.pass.invariant
+invariant_of-pass g c = round_settled c.collect_round-round.ensures.round c.collect_round-round.ensures.free c.pass.invariant
 
 pub returns-clause-call : goal.returns-clause-call
 returns-clause-call g c =
-    subst (λ (x : TableView). IsUnnoted x.layout c.args.pass.now (pass_of c.collect_round.new.seat)) c.self.view_is
-    (subst (λ (z : PassView). IsUnnoted c.self.inside.table.layout z (pass_of c.collect_round.new.seat)) c.pass.view_is
-    (round_unnoted c.collect_round.ensures.round c.pass.invariant))
+    subst (λ (x : TableView). IsUnnoted x.layout c.args.pass.now (pass_of c.collect_round-round.new.seat)) c.self.view_is
+    (subst (λ (z : PassView). IsUnnoted c.self.inside.table.layout z (pass_of c.collect_round-round.new.seat)) c.pass.view_is
+    (round_unnoted c.collect_round-round.ensures.round c.pass.invariant))
 
 pub returns-clause-made : goal.returns-clause-made
 returns-clause-made g c =
-    let round = c.collect_round.ensures.round in
-    subst (λ (x : TableView). HasCollected x g.G.Gate.becomes (c.args.pass.now, c.args.gate.now) (pass_of c.collect_round.new.seat, c.collect_round.new.gate) c.collect_round.result.nodes c.collect_round.result.leaves) c.self.view_is
-    (subst (λ (z : PassView). HasCollected c.self.inside.table g.G.Gate.becomes (z, c.args.gate.now) (pass_of c.collect_round.new.seat, c.collect_round.new.gate) c.collect_round.result.nodes c.collect_round.result.leaves) c.pass.view_is
+    let round = c.collect_round-round.ensures.round in
+    subst (λ (x : TableView). HasCollected x g.G.Gate.becomes (c.args.pass.now, c.args.gate.now) (pass_of c.collect_round-round.new.seat, c.collect_round-round.new.gate) c.collect_round-round.result.given.nodes c.collect_round-round.result.given.leaves) c.self.view_is
+    (subst (λ (z : PassView). HasCollected c.self.inside.table g.G.Gate.becomes (z, c.args.gate.now) (pass_of c.collect_round-round.new.seat, c.collect_round-round.new.gate) c.collect_round-round.result.given.nodes c.collect_round-round.result.given.leaves) c.pass.view_is
     (record {
       before = c.pass.inside.seat;
-      after = c.collect_round.new.seat;
+      after = c.collect_round-round.new.seat;
       begins = refl;
       ends = refl;
       round = round;

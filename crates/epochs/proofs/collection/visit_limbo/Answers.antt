@@ -1,0 +1,19 @@
+-- One visit more, and the end of them.
+use Rattle.std.proofs.Common.{rules, arith}
+use Rattle.epochs.proofs.Visiting.{some_append, some_none}
+use Rattle.epochs.proofs.collection.visit_limbo.Goals as goal
+
+pub loop-visited-init : goal.loop-visited-init
+loop-visited-init g c = record { same = search rules; steps = some_none _ _ _ _ _ }
+
+pub loop-visited-preserved : goal.loop-visited-preserved
+loop-visited-preserved g c = record {
+  same = search rules;
+  steps = some_append _ _ _ _ 1 _ _ _ _ c.loop-visited.invariant.steps c.visit_oldest.ensures.steps (omega arith);
+}
+
+pub returns-then-not-visit_oldest-clause-steps : goal.returns-then-not-visit_oldest-clause-steps
+returns-then-not-visit_oldest-clause-steps g c = some_append _ _ _ _ 1 _ _ _ _ c.loop-visited.invariant.steps c.visit_oldest.ensures.steps (omega arith)
+
+pub returns-clause-steps : goal.returns-clause-steps
+returns-clause-steps g c = some_append _ _ _ _ 0 _ _ _ _ c.loop-visited.invariant.steps (some_none _ _ _ 0 _) (omega arith)

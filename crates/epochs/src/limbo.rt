@@ -1,0 +1,85 @@
+//! Limbo: the records that a pass has retired and not given back yet.
+
+use crate::collection::Visited;
+use arrayvec::ArrayVec;
+use rowex_core::Rec;
+
+/// How many records a limbo list keeps at most.
+const MOST_WAITING: usize = 4_096;
+
+/// When the pass has retired so many records since its last small round, the next one is due.
+const DUE: u32 = 32;
+
+/// How many records a small round visits at most.
+pub const MOST_VISITED: usize = 128;
+
+/// The limbo list of a pass: the records that it has retired and not given back yet, the oldest first.
+///
+/// These are plain numbers, which promise nothing: a record of the list may have been given back by another pass's round, and
+/// what finds no place in it is left to full rounds.
+#[derive(Drop)]
+pub struct Limbo {
+    /// The ring of the records that wait.
+    waiting: [Rec; MOST_WAITING],
+    /// Where the oldest stands.
+    first: usize,
+    /// How many wait.
+    count: usize,
+    /// How many the pass has retired since its last small round.
+    retired: u32,
+    /// What the last small round has given back.
+    pub given: ArrayVec<Rec, MOST_VISITED>,
+}
+
+impl Limbo {
+    /// An empty list.
+    pub fn new() -> Limbo {
+        Limbo {
+            waiting: [Rec::Node(0); MOST_WAITING],
+            first: 0,
+            count: 0,
+            retired: 0,
+            given: ArrayVec::new(),
+        }
+    }
+
+    /// Puts a record that the pass has just retired at the end of the list, if there is a place for it.
+    pub fn push(&mut self, rec: Rec) {
+        self.retired = self.retired.saturating_add(1);
+        if self.count < MOST_WAITING {
+            self.waiting[self.first.wrapping_add(self.count) % MOST_WAITING] = rec;
+            self.count += 1;
+        }
+    }
+
+    /// Whether a small round is due.
+    pub fn is_due(&self) -> bool {
+        self.retired >= DUE
+    }
+
+    /// Begins a small round: nothing is given back yet.
+    pub(crate) fn begin(&mut self) {
+        self.retired = 0;
+        self.given.clear();
+    }
+
+    /// The oldest record that waits.
+    pub(crate) fn oldest(&self) -> Option<Rec> {
+        if self.count == 0 {
+            return None;
+        }
+        Some(self.waiting[self.first % MOST_WAITING])
+    }
+
+    /// After a visit of the oldest record: unless it has to wait, it leaves the list. Answers whether it did.
+    pub(crate) fn settle(&mut self, rec: Rec, seen: Visited) -> bool {
+        match seen {
+            Visited::Waits => return false,
+            Visited::Given if !self.given.is_full() => self.given.push(rec),
+            _ => {}
+        }
+        self.first = self.first.wrapping_add(1) % MOST_WAITING;
+        self.count = self.count.saturating_sub(1);
+        true
+    }
+}
