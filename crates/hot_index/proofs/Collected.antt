@@ -8,11 +8,12 @@ use Rattle.rowex_core.specs.declared.event.Act.{Act}
 use Rattle.rowex_core.specs.declared.event.Act.TheVariants.{Advance, LoadEpoch}
 use Rattle.rowex_core.specs.declared.event.Event.{Event}
 use Rattle.rowex_core.specs.declared.known.Known.{Known}
-use Rattle.rowex_table.specs.Runs.{InTurn}
+use Rattle.rowex_table.specs.Runs.{Does, InTurn}
 use Rattle.rowex_table.specs.Seats.{TableView, SeatView}
 use Rattle.hot_model.specs.Calls.{LegalCalls}
 use Rattle.hot_model.specs.Fronts.{BeginsWith}
-use Rattle.epochs.specs.Rounds.{IsRound, LoadsPin, Visits, advance_steps}
+use Rattle.epochs.specs.Rounds.{IsRound, IsSmallRound, LoadsPin, VisitEach, Visits, advance_steps}
+use Rattle.epochs.specs.Runs.{collecting}
 use Rattle.hot_index.specs.Answers.{IsUnnoted}
 use Rattle.hot_index.specs.Counts.{round_steps}
 use Rattle.hot_index.specs.Passes.{AreByPasses, IsSettled, pass_of}
@@ -49,31 +50,45 @@ visits_few bound kind (suc n) acts (before, last, first, visit, all) =
     let z : length acts ≡ length (before ++ last) = ap (λ (l : List Act). length l) all in
     omega (arith, z, length-append before last, visit_few bound (kind n) last visit, visits_few bound kind n before first)
 
-module _ {G : Type 0} {table : TableView} {becomes : G → Event → G → Type 0} {a b : SeatView × G} {nodes leaves : ℕ} (r : IsRound table becomes a b nodes leaves) where
+each_few : (bound : ℕ) (recs : List Rec) (acts : List Act) → VisitEach bound recs acts → length acts ≤ 2 * length recs
+each_few bound [] acts none = let z : length acts ≡ 0 = ap (λ (l : List Act). length l) none in omega (arith, z)
+each_few bound (r ∷ recs) acts (first, rest, visit, visits, all) =
+    let z : length acts ≡ length (first ++ rest) = ap (λ (l : List Act). length l) all in
+    omega (arith, z, length-append first rest, visit_few bound r first visit, each_few bound recs rest visits)
+
+-- Steps of a round, of which there is a first
+module _ {G : Type 0} {table : TableView} {becomes : G → Event → G → Type 0} {first : Act} {acts : List Act} {a b : SeatView × G} (does : Does table becomes collecting (first ∷ acts) a b) where
   -- of what the pass knows its pin, its round, its steps and those that failed alone have changed
-  pub round_settled : b.0.known.pin ≡ None → IsSettled a.0.known → IsSettled b.0.known
-  round_settled free s = record {
-    own = ap (λ (z : Known). z.own) r.does.rest ∙ s.own;
-    locks = ap (λ (z : Known). z.locks) r.does.rest ∙ s.locks;
-    anchor = ap (λ (z : Known). z.anchor) r.does.rest ∙ s.anchor;
+  pub does_settled : b.0.known.pin ≡ None → IsSettled a.0.known → IsSettled b.0.known
+  does_settled free s = record {
+    own = ap (λ (z : Known). z.own) does.rest ∙ s.own;
+    locks = ap (λ (z : Known). z.locks) does.rest ∙ s.locks;
+    anchor = ap (λ (z : Known). z.anchor) does.rest ∙ s.anchor;
     pin = free;
-    fresh = subst (λ (z : Known). BeginsWith z.front z.fresh.front) (sym r.does.rest) s.fresh;
-    loaded = subst (λ (z : Known). z.fresh.step < z.steps) (sym r.does.rest) (let l = s.loaded in omega arith);
-    legal = subst (λ (z : Known). LegalCalls z.front z.pass z.notes) (sym r.does.rest) s.legal;
+    fresh = subst (λ (z : Known). BeginsWith z.front z.fresh.front) (sym does.rest) s.fresh;
+    loaded = subst (λ (z : Known). z.fresh.step < z.steps) (sym does.rest) (let l = s.loaded in omega arith);
+    legal = subst (λ (z : Known). LegalCalls z.front z.pass z.notes) (sym does.rest) s.legal;
   }
 
-  -- the first step is a load of the epoch: the pass's front is of a lawful core
+  -- before the first step the pass's front is of a lawful core
   makers : AreByPasses table.layout a.0.known.front
-  makers = event_makers r.does.steps.1.event
+  makers = event_makers does.steps.1.event
+
+  pub does_unnoted : IsSettled a.0.known → IsUnnoted table.layout (pass_of a.0) (pass_of b.0)
+  does_unnoted s = record {
+    number = ap (λ (z : Known). z.pass) does.rest;
+    front = subst (λ (z : Known). BeginsWith z.front a.0.known.front) (sym does.rest) ([], sym (append-nil a.0.known.front));
+    notes = ap (λ (z : Known). z.notes) does.rest;
+    legal = subst (λ (z : Known). LegalCalls z.front z.pass z.notes) (sym does.rest) s.legal;
+    makers = subst (λ (z : Known). AreByPasses table.layout z.front) (sym does.rest) makers;
+  }
+
+module _ {G : Type 0} {table : TableView} {becomes : G → Event → G → Type 0} {a b : SeatView × G} {nodes leaves : ℕ} (r : IsRound table becomes a b nodes leaves) where
+  pub round_settled : b.0.known.pin ≡ None → IsSettled a.0.known → IsSettled b.0.known
+  round_settled = does_settled r.does
 
   pub round_unnoted : IsSettled a.0.known → IsUnnoted table.layout (pass_of a.0) (pass_of b.0)
-  round_unnoted s = record {
-    number = ap (λ (z : Known). z.pass) r.does.rest;
-    front = subst (λ (z : Known). BeginsWith z.front a.0.known.front) (sym r.does.rest) ([], sym (append-nil a.0.known.front));
-    notes = ap (λ (z : Known). z.notes) r.does.rest;
-    legal = subst (λ (z : Known). LegalCalls z.front z.pass z.notes) (sym r.does.rest) s.legal;
-    makers = subst (λ (z : Known). AreByPasses table.layout z.front) (sym r.does.rest) makers;
-  }
+  round_unnoted = does_unnoted r.does
 
   -- the epoch twice and its exchange, each pin, and each record in at most two steps
   pub round_few : b.0.known.steps ≤ a.0.known.steps + round_steps table.layout
@@ -87,4 +102,29 @@ module _ {G : Type 0} {table : TableView} {becomes : G → Event → G → Type 
         pins_few table.layout.passes r.pins r.loads_pins,
         visits_few b.0.known.round.bound a_node table.layout.nodes r.nodes r.visits_nodes,
         visits_few b.0.known.round.bound a_leaf table.layout.leaves r.leaves r.visits_leaves,
+      )
+
+module _ {G : Type 0} {table : TableView} {becomes : G → Event → G → Type 0} {most : ℕ} {a b : SeatView × G} (r : IsSmallRound table becomes most a b) where
+  pub small_settled : b.0.known.pin ≡ None → IsSettled a.0.known → IsSettled b.0.known
+  small_settled = does_settled r.does
+
+  pub small_unnoted : IsSettled a.0.known → IsUnnoted table.layout (pass_of a.0) (pass_of b.0)
+  small_unnoted = does_unnoted r.does
+
+  pub small_later : a.0.known.steps ≤ b.0.known.steps
+  small_later = let s = ap (λ (z : Known). z.steps) r.does.rest in omega arith
+
+  -- the epoch twice and its exchange, each pin, and each record that is visited in at most two steps
+  pub small_few : b.0.known.steps ≤ a.0.known.steps + (3 + table.layout.passes + 2 * most)
+  small_few =
+      let count : b.0.known.steps ≡ a.0.known.steps + (2 + length (advance_steps r.epoch r.found) + length r.pins + length r.visits + 0) =
+      ap (λ (z : Known). z.steps) r.does.rest ∙ ap (λ n. a.0.known.steps + n) (ap (λ (l : List Act). length l) (sym (append-nil (LoadEpoch r.epoch ∷ advance_steps r.epoch r.found ++ LoadEpoch r.next ∷ r.pins ++ r.visits)))
+      ∙ parts_count (LoadEpoch r.epoch) (LoadEpoch r.next) (advance_steps r.epoch r.found) r.pins r.visits []) in
+      omega (
+        arith,
+        count,
+        advance_few r.epoch r.found,
+        pins_few table.layout.passes r.pins r.loads_pins,
+        each_few b.0.known.round.bound r.recs r.visits r.visits_each,
+        r.few,
       )

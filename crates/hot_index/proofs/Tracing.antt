@@ -17,7 +17,7 @@ use Rattle.rowex_table.specs.Runs.{Ends, IsTold, Runs, StepsWith, events_of, sil
 use Rattle.rowex_table.specs.Seats.{TableView, SeatView}
 use Rattle.rowex_table.specs.Stays.{LeavesPin}
 use Rattle.rowex_table.proofs.Running.{ends_told, runs_append, runs_one}
-use Rattle.epochs.specs.Rounds.{IsRound, LoadsPin, Visits, advance_steps}
+use Rattle.epochs.specs.Rounds.{IsRound, IsSmallRound, LoadsPin, VisitEach, Visits, advance_steps}
 use Rattle.epochs.specs.Runs.{Pins}
 use Rattle.rowex_reading.specs.Reads.{Looks}
 use Rattle.rowex_writing.specs.Changes.{HasTriedOnce}
@@ -27,7 +27,7 @@ use Rattle.rowex_writing.proofs.Runs.{quiet_recalls, recalls_pin}
 use Rattle.rowex_writing.proofs.Tried.{quiet_tries_none}
 use Rattle.hot_index.specs.Counts.{try_steps}
 use Rattle.hot_index.specs.Passes.{PassView, pass_of}
-use Rattle.hot_index.specs.Traces.{AreAttempts, HasCollected, HasEnded, HasGot, HasMade, HasRead, HasStepped, HasTold, IsAttempt, reading, untold}
+use Rattle.hot_index.specs.Traces.{AreAttempts, AreTries, HasCollected, HasEnded, HasGot, HasMade, HasRead, HasStepped, HasTold, IsAttempt, Tidies, reading, untold}
 
 -- No step of a round sets or clears the pin, and none tries a lock.
 advance_quiet : (epoch found : ℕ) → All IsQuiet (advance_steps epoch found)
@@ -55,6 +55,18 @@ module _ {G : Type 0} {table : TableView} {becomes : G → Event → G → Type 
       (All-append IsQuiet (LoadEpoch r.epoch ∷ advance_steps r.epoch r.found ++ LoadEpoch r.next ∷ r.pins) r.nodes
       (All-append IsQuiet (LoadEpoch r.epoch ∷ advance_steps r.epoch r.found) (LoadEpoch r.next ∷ r.pins) (All-cons IsQuiet (LoadEpoch r.epoch) (advance_steps r.epoch r.found) tt (advance_quiet r.epoch r.found))
       (All-cons IsQuiet (LoadEpoch r.next) r.pins tt pins)) visits) leaf_visits
+
+each_quiet : (bound : ℕ) (recs : List Rec) (acts : List Act) → VisitEach bound recs acts → All IsQuiet acts
+each_quiet bound [] acts none = subst (All IsQuiet) (sym none) (All-nil IsQuiet)
+each_quiet bound (r ∷ recs) acts (first, rest, visit, visits, all) =
+    subst (All IsQuiet) (sym all) (All-append IsQuiet first rest (visit_quiet bound r first visit) (each_quiet bound recs rest visits))
+
+small_quiet : {G : Type 0} {table : TableView} {becomes : G → Event → G → Type 0} {most : ℕ} {a b : SeatView × G} (r : IsSmallRound table becomes most a b) →
+    All IsQuiet (LoadEpoch r.epoch ∷ advance_steps r.epoch r.found ++ LoadEpoch r.next ∷ r.pins ++ r.visits)
+small_quiet {table = table} {b = b} r =
+    All-append IsQuiet (LoadEpoch r.epoch ∷ advance_steps r.epoch r.found ++ LoadEpoch r.next ∷ r.pins) r.visits
+    (All-append IsQuiet (LoadEpoch r.epoch ∷ advance_steps r.epoch r.found) (LoadEpoch r.next ∷ r.pins) (All-cons IsQuiet (LoadEpoch r.epoch) (advance_steps r.epoch r.found) tt (advance_quiet r.epoch r.found))
+    (All-cons IsQuiet (LoadEpoch r.next) r.pins tt (in_turn_plain LoadsPin pin_quiet table.layout.passes r.pins r.loads_pins))) (each_quiet b.0.known.round.bound r.recs r.visits r.visits_each)
 
 module _ {G : Type 0} (table : TableView) (becomes : G → Event → G → Type 0) where
   -- some steps, with no note
@@ -199,12 +211,12 @@ module _ {G : Type 0} (table : TableView) (becomes : G → Event → G → Type 
       )
 
   -- the call is over
-  pub ended_once : {said : Known → List Note} (a b : SeatView × G) → HasEnded table becomes IsAttempt said a b → HasEnded table becomes AreAttempts said a b
+  pub ended_once : {said : Known → List Note} (a b : SeatView × G) → HasEnded table becomes IsAttempt said a b → HasEnded table becomes AreTries said a b
   ended_once a b (acts, tries, ends) = (acts, inl tries, ends)
 
   -- or it was not noted; and there follow a round of collection and an attempt more
   pub ended_again : {said : Known → List Note} {nodes leaves : ℕ} (a b c d : SeatView × G) → HasEnded table becomes IsAttempt silent a b → IsRound table becomes b c nodes leaves →
-      HasEnded table becomes IsAttempt said c d → HasEnded table becomes AreAttempts said a d
+      HasEnded table becomes IsAttempt said c d → HasEnded table becomes AreTries said a d
   ended_again a b c d (acts, tries, (m, steps, last)) round (more, tries_again, (n, rest, end)) =
       let between = LoadEpoch round.epoch ∷ advance_steps round.epoch round.found ++ LoadEpoch round.next ∷ round.pins ++ round.nodes ++ round.leaves in
       let quiet = round_quiet round in (
@@ -220,6 +232,28 @@ module _ {G : Type 0} (table : TableView) (becomes : G → Event → G → Type 
           tries_again = tries_again;
         }),
         (n, runs_append table becomes acts (ClearPin ∷ between ++ more) a m n steps (b, last, runs_append table becomes between more b c n round.does.steps rest), end),
+      )
+
+  -- before them, a small round or nothing
+  pub ended_tidied : {said : Known → List Note} (a b c : SeatView × G) → Tidies table becomes a b → HasEnded table becomes AreTries said b c → HasEnded table becomes AreAttempts said a c
+  ended_tidied {said = said} a b c (inl none) (acts, tries, ends) = (
+    acts,
+    record { before = []; rest = acts; acts_are = refl; unpinned = All-nil LeavesPin; lockless = refl; tries = tries },
+    subst (λ (z : SeatView × G). Ends table becomes acts ClearPin said z c) none ends,
+  )
+  ended_tidied a b c (inr r) (acts, tries, (m, run, end)) =
+      let before = LoadEpoch r.epoch ∷ advance_steps r.epoch r.found ++ LoadEpoch r.next ∷ r.pins ++ r.visits in
+      let quiet = small_quiet r in (
+        before ++ acts,
+        record {
+          before = before;
+          rest = acts;
+          acts_are = refl;
+          unpinned = All-weaker IsQuiet LeavesPin (λ act t. recalls_pin act (quiet_recalls act t)) before quiet;
+          lockless = quiet_tries_none before quiet;
+          tries = tries;
+        },
+        (m, runs_append table becomes before acts a b m r.does.steps run, end),
       )
 
   pub collected_untold : (a b : PassView × G) (nodes leaves : ℕ) → HasCollected table becomes a b nodes leaves → HasCollected table untold (a.0, tt) (b.0, tt) nodes leaves

@@ -44,14 +44,14 @@ use Rattle.rowex_writing.specs.declared.attempts.TryFault.TheVariants.{Busy, Ful
 use Rattle.epochs.specs.Rounds.{IsRound}
 use Rattle.hot_index.specs.Answers.{IsCause, IsNoted, IsRefused, IsUnnoted, fault_of}
 use Rattle.hot_index.specs.Asked.{HasAsked, HasReplied, last_try}
-use Rattle.hot_index.specs.Counts.{try_steps}
+use Rattle.hot_index.specs.Counts.{try_steps, twice_steps}
 use Rattle.hot_index.specs.Noting.{notes_of, place_by}
 use Rattle.hot_index.specs.Passes.{IsSettled, Owns, PassView, pass_of}
-use Rattle.hot_index.specs.Traces.{AreAttempts, HasMade, HasStepped, HasTold}
+use Rattle.hot_index.specs.Traces.{AreAttempts, AreTries, HasMade, HasStepped, HasTold, Tidies}
 use Rattle.hot_index.proofs.Noting.{HasGoneOn, HasLooked, WasRight, found_had, goes_on, legal_front, longer, noted, settles, note_of}
-use Rattle.hot_index.proofs.Collected.{round_unnoted}
+use Rattle.hot_index.proofs.Collected.{round_unnoted, small_few, small_later, small_unnoted}
 use Rattle.hot_index.proofs.Scanned.{scan_refused, scan_settled}
-use Rattle.hot_index.proofs.Tracing.{has_made, has_told}
+use Rattle.hot_index.proofs.Tracing.{ended_tidied, has_made, has_told}
 
 -- Replies
 
@@ -217,6 +217,29 @@ module _ {G : Type 0} {table : TableView} {becomes : G → Event → G → Type 
 
   pub then_collected : IsUnnoted table.layout k (pass_of c.0)
   then_collected = unnoted_then table.layout k (pass_of b.0) (pass_of c.0) first steps (round_unnoted round settled)
+
+-- a small round or nothing, and then the tries
+module _ {G : Type 0} {table : TableView} {becomes : G → Event → G → Type 0} (a b c : SeatView × G) (call : Call) (r : Result Reply TryFault) (settled : IsSettled a.0.known)
+    (asked : HasAsked table becomes AreTries (twice_steps table.layout) call r b c) where
+  pub tidied_asked : Tidies table becomes a b → HasAsked table becomes AreAttempts (try_steps table.layout) call r a c
+  tidied_asked (inl none) =
+      let seats : b.0 ≡ a.0 = ap (λ (z : SeatView × G). z.0) none in
+      record {
+        replied = subst (λ (z : SeatView). HasReplied table call r z c.0) seats asked.replied;
+        ended = ended_tidied table becomes a b c (inl none) asked.ended;
+        later = subst (λ (z : SeatView). z.known.steps ≤ c.0.known.steps) seats asked.later;
+        few = (let s = ap (λ (z : SeatView). z.known.steps) seats in omega (arith, asked.few, s));
+      }
+  tidied_asked (inr small) =
+      let count = small_few small in
+      let later = small_later small in
+      let both = outcome_then table.layout (pass_of a.0) (pass_of b.0) (pass_of c.0) (small_unnoted small settled) later call r asked.replied.noted asked.replied.refused in
+      record {
+        replied = record { idle = asked.replied.idle; noted = both.0; refused = both.1 };
+        ended = ended_tidied table becomes a b c (inr small) asked.ended;
+        later = le_trans later asked.later;
+        few = omega (arith, asked.few, count);
+      }
 
 -- a call has not tried yet, or each try was refused
 abbrev pub HasWaited : Layout → PassView → PassView → Type 0

@@ -1,6 +1,7 @@
 -- How many atomic steps a call makes at most.
 use Rattle.std.specs.Prelude.{ℕ, ◌+◌, ◌*◌}
 use Rattle.key_bits.specs.declared.TheConstants.{MAX_BYTES}
+use Rattle.epochs.specs.declared.limbo.TheConstants.{MOST_VISITED}
 use Rattle.record_words.specs.declared.layout.Layout.{Layout}
 use Rattle.rowex_writing.specs.Counts.{attempt_steps}
 
@@ -12,9 +13,17 @@ round_steps layout = 3 + layout.passes + 2 * (layout.nodes + layout.leaves)
 abbrev pub once_steps : Layout → ℕ
 once_steps layout = attempt_steps layout + 3
 
--- a call that tries twice, with a round of collection between
+-- two attempts, with a round of collection between
+abbrev pub twice_steps : Layout → ℕ
+twice_steps layout = 2 * once_steps layout + round_steps layout
+
+-- a small round: three on the epoch, one for each pin, and two for each record that it visits
+abbrev pub small_steps : Layout → ℕ
+small_steps layout = 3 + layout.passes + 2 * MOST_VISITED
+
+-- a call that tries twice, and makes a small round before
 abbrev pub try_steps : Layout → ℕ
-try_steps layout = 2 * once_steps layout + round_steps layout
+try_steps layout = small_steps layout + twice_steps layout
 
 -- The loads of the walk of a scan: at most 26 for each node that it enters, 33 for each leaf that it reads. A node has two entries or more, so it
 -- enters as many nodes as it reads leaves, and at most two more for each node on its way.

@@ -11,7 +11,8 @@ use Rattle.rowex_table.specs.Runs.{Ends, IsTold, events_of}
 use Rattle.rowex_table.specs.Seats.{TableView, SeatView}
 use Rattle.rowex_table.specs.Stays.{LeavesPin}
 use Rattle.rowex_reading.specs.Reads.{IsBelowRoot}
-use Rattle.epochs.specs.Rounds.{IsRound}
+use Rattle.epochs.specs.Rounds.{IsRound, IsSmallRound}
+use Rattle.epochs.specs.declared.limbo.TheConstants.{MOST_VISITED}
 use Rattle.rowex_writing.specs.Locks.{TriesLocksOnce, targets_of}
 use Rattle.hot_index.specs.Counts.{round_steps, try_steps}
 use Rattle.hot_index.specs.Passes.{PassView, pass_of}
@@ -66,15 +67,28 @@ pub record AreTwoAttempts (acts : List Act) : Type 0 where
   pub tries_again : IsAttempt second
 
 -- at most two attempts
-abbrev pub AreAttempts : List Act → Type 0
-AreAttempts acts = IsAttempt acts ⊎ AreTwoAttempts acts
+abbrev pub AreTries : List Act → Type 0
+AreTries acts = IsAttempt acts ⊎ AreTwoAttempts acts
+
+-- At most two attempts, and steps before them that leave the pin and try no lock.
+pub record AreAttempts (acts : List Act) : Type 0 where
+  pub before : List Act
+  pub rest : List Act
+  pub acts_are : acts ≡ before ++ rest
+  pub unpinned : All LeavesPin before
+  pub lockless : targets_of before ≡ []
+  pub tries : AreTries rest
+
+-- On a seat: the pass makes a small round, or no step.
+abbrev pub Tidies : {G : Type 0} → TableView → (G → Event → G → Type 0) → SeatView × G → SeatView × G → Type 0
+Tidies table becomes a b = (b ≡ a) ⊎ IsSmallRound table becomes MOST_VISITED a b
 
 -- On a seat: the call makes such steps, and then clears the pin of its pass, with these notes.
 abbrev pub HasEnded : {G : Type 0} → TableView → (G → Event → G → Type 0) → (List Act → Type 0) → (Known → List Note) → SeatView × G → SeatView × G → Type 0
 HasEnded table becomes Are said a b = (acts : List Act) × Are acts × Ends table becomes acts ClearPin said a b
 
--- The call makes at most two attempts, each of which tries each lock once, and no steps but theirs and a round of collection between
--- them; the last step clears its pin, and with it come the call's notes. The gate is told each of them, in order, and nothing else.
+-- The call makes at most two attempts, each of which tries each lock once, and no steps but theirs, a round of collection between
+-- them and a small round before them; the last step clears its pin, and with it come the call's notes. The gate is told each of them, in order, and nothing else.
 -- So many they are at most.
 pub record HasMade {G : Type 0} (index : TableView) (becomes : G → Event → G → Type 0) (a b : PassView × G) : Type 0 where
   pub before : SeatView

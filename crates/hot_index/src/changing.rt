@@ -1,19 +1,20 @@
 //! A call that may change the index, on the seat of a pass and with its room: its attempts, and what is noted of them.
 
-ghost use Rattle.std.specs.Prelude.{◌≡◌, ◌≢◌, List, Err, IsSome};
+ghost use Rattle.std.specs.Prelude.{◌≡◌, ◌≢◌, List, Err, IfSome, IsSome};
 ghost use Rattle.hot_model.specs.declared.Note.{Note};
 ghost use Rattle.rowex_core.specs.declared.event.Act.TheVariants.{ClearPin};
 ghost use Rattle.rowex_core.specs.declared.known.Known.{Known};
 ghost use Rattle.rowex_table.specs.Runs.{StepsWith};
 ghost use Rattle.rowex_table.specs.Seats.{IsPassOf};
 ghost use Rattle.rowex_writing.specs.Attempts.{call_of};
+ghost use Rattle.hot_index.specs.Answers.{fault_of};
 ghost use Rattle.hot_index.specs.Asked.{HasAsked, HasReplied, IsIdle, last_try};
-ghost use Rattle.hot_index.specs.Counts.{once_steps, try_steps};
+ghost use Rattle.hot_index.specs.Counts.{once_steps, try_steps, twice_steps};
 ghost use Rattle.hot_index.specs.Noting.{notes_of};
-ghost use Rattle.hot_index.specs.Traces.{AreAttempts, HasStepped, IsAttempt};
+ghost use Rattle.hot_index.specs.Traces.{AreAttempts, AreTries, HasStepped, IsAttempt, Tidies};
 
 use crate::room::Room;
-use epochs::{collect_round, pin, unpin};
+use epochs::{collect_round, collect_small, pin, unpin};
 use hot_model::Reply;
 use key_bits::Key;
 use rowex_core::Gate;
@@ -22,8 +23,7 @@ use rowex_writing::{Ask, Full, TryFault, attempt};
 use std::sync::Wait;
 use std::thread;
 
-/// Asks for a change, at most twice: where no record was free, it makes a round of collection before it tries again, and that
-/// answer stands.
+/// Asks for a change, at most twice, after a small round where one is due.
 pub fn try_change<G: Gate>(
     table: &HotTable,
     seat: &mut TableSeat,
@@ -37,16 +37,48 @@ pub fn try_change<G: Gate>(
     ensures asked { HasAsked table.now G.becomes AreAttempts (try_steps table.now.layout) (call_of ask key.now value) result (seat.old, gate.old) (seat.new, gate.new) }
     ensures leafless { ask ≡ Ask.Remove → result ≢ Err TryFault.FullLeaves }
 {
+    tidy(table, seat, gate, room);
+    try_twice(table, seat, gate, room, ask, key, value)
+}
+
+/// Makes a small round, where one is due.
+fn tidy<G: Gate>(table: &HotTable, seat: &mut TableSeat, gate: &mut G, room: &mut Room)
+    requires idle { IsIdle table.now seat.old }
+    ensures idle { IsIdle table.now seat.new }
+    ensures tidied { Tidies table.now G.becomes (seat.old, gate.old) (seat.new, gate.new) }
+{
+    if room.limbo.is_due() {
+        collect_small(table, seat, gate, &mut room.limbo);
+        room.spare_given();
+    }
+}
+
+/// Asks for a change, at most twice: where no record was free, it makes a round of collection before it tries again, and that
+/// answer stands.
+fn try_twice<G: Gate>(
+    table: &HotTable,
+    seat: &mut TableSeat,
+    gate: &mut G,
+    room: &mut Room,
+    ask: Ask,
+    key: &Key,
+    value: u64,
+) -> Result<Reply, TryFault>
+    requires idle { IsIdle table.now seat.old }
+    ensures asked { HasAsked table.now G.becomes AreTries (twice_steps table.now.layout) (call_of ask key.now value) result (seat.old, gate.old) (seat.new, gate.new) }
+    ensures leafless { ask ≡ Ask.Remove → result ≢ Err TryFault.FullLeaves }
+{
     match try_once(table, seat, gate, room, ask, key, value) {
         Err(TryFault::FullNodes | TryFault::FullLeaves) => {
-            collect_round(table, seat, gate);
+            let round = collect_round(table, seat, gate);
+            room.held_back = round.held_back;
             try_once(table, seat, gate, room, ask, key, value)
         }
         outcome => outcome,
     }
 }
 
-/// Asks for a change until no other pass stands in its way.
+/// Asks for a change until no other pass stands in its way, or holds back the records that it lacks.
 pub fn change<R: Wait, G: Gate>(
     rt: &R,
     table: &HotTable,
@@ -65,12 +97,26 @@ pub fn change<R: Wait, G: Gate>(
     for _ in rt.forever() {
         match try_change(table, seat, gate, room, ask, key, value) {
             Ok(reply) => return Ok(reply),
-            Err(TryFault::Busy) => thread::yield_now(),
-            Err(TryFault::FullNodes) => return Err(Full::Nodes),
-            Err(TryFault::FullLeaves) => return Err(Full::Leaves),
+            Err(fault) => {
+                if let Some(full) = refusal(fault, room.held_back) {
+                    return Err(full);
+                }
+                thread::yield_now();
+            }
         }
     }
     unreachable!()
+}
+
+/// The refusal that stands of a call that waits: none where another pass stands in its way, or holds records back.
+fn refusal(fault: TryFault, held_back: bool) -> Option<Full>
+    ensures { IfSome result (λ full. fault ≡ fault_of full) }
+{
+    match fault {
+        TryFault::FullNodes if !held_back => Some(Full::Nodes),
+        TryFault::FullLeaves if !held_back => Some(Full::Leaves),
+        _ => None,
+    }
 }
 
 /// Makes one attempt, with the pass pinned, and notes it where it was answered.
@@ -87,6 +133,7 @@ fn try_once<G: Gate>(
     ensures asked { HasAsked table.now G.becomes IsAttempt (once_steps table.now.layout) (call_of ask key.now value) result (seat.old, gate.old) (seat.new, gate.new) }
     ensures leafless { ask ≡ Ask.Remove → result ≢ Err TryFault.FullLeaves }
 {
+    room.build.gone.clear();
     pin(table, seat, gate);
     let outcome = attempt(
         table,
@@ -99,6 +146,7 @@ fn try_once<G: Gate>(
         value,
     );
     end_try(table, seat, gate, ask, key, value, outcome);
+    room.keep_gone(outcome.is_ok());
     outcome
 }
 

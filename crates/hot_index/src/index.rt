@@ -131,7 +131,7 @@ impl Index {
 
     /// Gives a key a value if it is absent: `Inserted`, or `Exists` with the value that it has, which stays.
     ///
-    /// It waits for nobody: it makes at most 920,009 atomic steps, one more for each pass, 17,290 for each node record and 6 for
+    /// It waits for nobody: it makes at most 920,268 atomic steps, two more for each pass, 17,290 for each node record and 6 for
     /// each leaf record. It is refused as `Busy` where another pass holds what it wants to lock, or has made a change since the
     /// call began; and as full where each record of a kind was taken when it asked for one, also after a round of collection.
     /// Refused, it has changed nothing, and it holds no lock and no record.
@@ -302,9 +302,10 @@ impl Index {
 
     /// Gives a key a value if it is absent: `Inserted`, or `Exists` with the value that it has, which stays.
     ///
-    /// Where `try_insert` would be `Busy` it begins again, as often as need be: it ends once no other pass stands in its way.
-    /// It is refused where each record of a kind was taken when it asked for one, also after a round of collection. Refused, it
-    /// has changed nothing, and it holds no lock and no record.
+    /// Where `try_insert` would be `Busy` it begins again, as often as need be, and so it does where a call of another pass holds
+    /// back retired records, and none is free: it ends once no other pass stands in its way. It is refused where each record of a
+    /// kind was taken when it asked for one, also after a round of collection. Refused, it has changed nothing, and it holds no
+    /// lock and no record.
     pub fn insert<R: Wait>(
         &self,
         rt: &R,

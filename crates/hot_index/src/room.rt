@@ -1,8 +1,10 @@
 //! Where a pass builds what it puts into the index.
 
 use arrayvec::ArrayVec;
+use epochs::Limbo;
 use insert_cases::Step;
 use record_words::Layout;
+use rowex_core::Rec;
 use rowex_writing::{Build, MOST_NODES};
 use std::alloc::{AllocError, Global};
 
@@ -13,6 +15,37 @@ pub struct Room {
     pub way: ArrayVec<Step, MOST_NODES>,
     /// What the last change was made of, and where the next claims begin.
     pub build: Build,
+    /// What the pass has retired and not given back yet.
+    pub limbo: Limbo,
+    /// Whether the last full round saw a retired record that a pass may still reach.
+    pub held_back: bool,
+}
+
+impl Room {
+    /// After an attempt: if it was answered, puts what it has unlinked, and so retired, at the end of the limbo list.
+    pub fn keep_gone(&mut self, answered: bool) {
+        if answered {
+            for rec in self.build.gone.as_slice() {
+                self.limbo.push(*rec);
+            }
+        }
+    }
+
+    /// Lets claims begin with what the last small round has given back.
+    pub fn spare_given(&mut self) {
+        for rec in self.limbo.given.as_slice() {
+            spare(&mut self.build, *rec);
+        }
+    }
+}
+
+/// Lets claims begin with this record, if there is a place for its number.
+fn spare(build: &mut Build, rec: Rec) {
+    match rec {
+        Rec::Node(number) if !build.spare_nodes.is_full() => build.spare_nodes.push(number),
+        Rec::Leaf(number) if !build.spare_leaves.is_full() => build.spare_leaves.push(number),
+        _ => {}
+    }
 }
 
 /// A room with empty lists for the pass of this number. Its claims begin at the pass's own part of the records, so that
@@ -29,6 +62,8 @@ pub fn new_room(alloc: Global, layout: Layout, number: u16) -> Result<Box<Room>,
     let room = Room {
         way: ArrayVec::new(),
         build,
+        limbo: Limbo::new(),
+        held_back: false,
     };
     Ok(Box::new(alloc, room)?)
 }

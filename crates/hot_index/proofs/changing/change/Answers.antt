@@ -1,7 +1,7 @@
 -- The tries before were refused; what the last one leaves is what the whole call leaves.
 use Rattle.std.proofs.Common.{[], inl, Ok, Err, refl, subst}
 use Rattle.rowex_writing.specs.Attempts.{call_of}
-use Rattle.rowex_writing.specs.declared.attempts.TryFault.TheVariants.{FullNodes, FullLeaves}
+use Rattle.hot_index.specs.Answers.{fault_of}
 use Rattle.hot_index.specs.Asked.{HasReplied}
 use Rattle.hot_index.specs.Passes.{pass_of}
 use Rattle.hot_index.proofs.Tracing.{ran_on, ran_out}
@@ -18,27 +18,19 @@ loop-init g c = record { idle = c.requires.idle; waited = inl refl; ran = ([], r
 pub returns-in-Ok-clause-stepped : goal.returns-in-Ok-clause-stepped
 returns-in-Ok-clause-stepped g c = ran_out c.args.table.now g.G.Gate.becomes _ _ _ c.loop.invariant.ran c.in-Ok.ensures.asked.ended
 
-pub returns-in-Err-FullNodes-clause-stepped : goal.returns-in-Err-FullNodes-clause-stepped
-returns-in-Err-FullNodes-clause-stepped g c = ran_out c.args.table.now g.G.Gate.becomes _ _ _ c.loop.invariant.ran c.in-Err-FullNodes.ensures.asked.ended
-
-pub returns-in-Err-FullLeaves-clause-stepped : goal.returns-in-Err-FullLeaves-clause-stepped
-returns-in-Err-FullLeaves-clause-stepped g c = ran_out c.args.table.now g.G.Gate.becomes _ _ _ c.loop.invariant.ran c.in-Err-FullLeaves.ensures.asked.ended
+pub returns-in-Some-refusal-clause-stepped : goal.returns-in-Some-refusal-clause-stepped
+returns-in-Some-refusal-clause-stepped g c = ran_out c.args.table.now g.G.Gate.becomes _ _ _ c.loop.invariant.ran c.in-Err.ensures.asked.ended
 
 pub loop-preserved : goal.loop-preserved
 loop-preserved g c =
-    let o = c.in-Err-Busy.ensures.asked in
+    let o = c.in-Err.ensures.asked in
     record {
       idle = o.replied.idle;
       waited = waited_on c.args.table.now.layout (pass_of c.args.seat.now) (pass_of c.loop.seat) (pass_of c.try_change.new.seat) c.loop.invariant.waited o.replied.refused.unnoted o.later;
       ran = ran_on c.args.table.now g.G.Gate.becomes _ _ _ c.loop.invariant.ran o.ended;
     }
 
-pub returns-in-Err-FullNodes-clause-replied : goal.returns-in-Err-FullNodes-clause-replied
-returns-in-Err-FullNodes-clause-replied g c =
-    waited_out c.args.table.now c.args.seat.now c.loop.seat c.try_change.new.seat (call_of c.args.ask c.args.key.now c.args.value) (Err FullNodes) c.loop.invariant.waited
-    (subst (λ fault. HasReplied c.args.table.now (call_of c.args.ask c.args.key.now c.args.value) (Err fault) c.loop.seat c.try_change.new.seat) c.in-Err-FullNodes.field-0-is c.in-Err-FullNodes.ensures.asked.replied)
-
-pub returns-in-Err-FullLeaves-clause-replied : goal.returns-in-Err-FullLeaves-clause-replied
-returns-in-Err-FullLeaves-clause-replied g c =
-    waited_out c.args.table.now c.args.seat.now c.loop.seat c.try_change.new.seat (call_of c.args.ask c.args.key.now c.args.value) (Err FullLeaves) c.loop.invariant.waited
-    (subst (λ fault. HasReplied c.args.table.now (call_of c.args.ask c.args.key.now c.args.value) (Err fault) c.loop.seat c.try_change.new.seat) c.in-Err-FullLeaves.field-0-is c.in-Err-FullLeaves.ensures.asked.replied)
+pub returns-in-Some-refusal-clause-replied : goal.returns-in-Some-refusal-clause-replied
+returns-in-Some-refusal-clause-replied g c =
+    waited_out c.args.table.now c.args.seat.now c.loop.seat c.try_change.new.seat (call_of c.args.ask c.args.key.now c.args.value) (Err (fault_of c.in-Some-refusal.full)) c.loop.invariant.waited
+    (subst (λ fault. HasReplied c.args.table.now (call_of c.args.ask c.args.key.now c.args.value) (Err fault) c.loop.seat c.try_change.new.seat) c.in-Some-refusal.ensures c.in-Err.ensures.asked.replied)

@@ -1,32 +1,7 @@
--- Where the first attempt was refused, what the second leaves is what the whole call leaves.
-use Rattle.std.proofs.Common.{le_trans, arith}
+-- A small round or nothing, and then the tries.
 use Rattle.rowex_writing.specs.Attempts.{call_of}
-use Rattle.hot_index.specs.Passes.{pass_of}
-use Rattle.hot_index.proofs.Collected.{round_few}
-use Rattle.hot_index.proofs.Tracing.{ended_again, ended_once}
-use Rattle.hot_index.proofs.Trying.{outcome_then, round_later, then_collected}
+use Rattle.hot_index.proofs.Trying.{tidied_asked}
 use Rattle.hot_index.proofs.changing.try_change.Goals as goal
 
-pub returns-in-Err-FullNodes-clause-asked : goal.returns-in-Err-FullNodes-clause-asked
-returns-in-Err-FullNodes-clause-asked g c =
-    let first = c.in-Err-FullNodes.ensures.asked in
-    let again = c.try_once-in-Err-FullNodes.ensures.asked in
-    let k = pass_of c.args.seat.now in
-    let round = c.collect_round.ensures.round in
-    let unnoted = first.replied.refused.unnoted in
-    let later = round_later k (c.try_once.new.seat, c.try_once.new.gate) (c.collect_round.new.seat, c.collect_round.new.gate) unnoted first.later first.replied.idle.1 round in
-    let both =
-    outcome_then c.args.table.now.layout k (pass_of c.collect_round.new.seat) (pass_of c.try_once-in-Err-FullNodes.new.seat) (then_collected k (c.try_once.new.seat, c.try_once.new.gate) (c.collect_round.new.seat, c.collect_round.new.gate) unnoted first.later first.replied.idle.1 round) later
-    (call_of c.args.ask c.args.key.now c.args.value) c.try_once-in-Err-FullNodes.result again.replied.noted again.replied.refused
-    in
-    record {
-      replied = record { idle = again.replied.idle; noted = both.0; refused = both.1 };
-      ended = ended_again c.args.table.now g.G.Gate.becomes (c.args.seat.now, c.args.gate.now) (c.try_once.new.seat, c.try_once.new.gate) (c.collect_round.new.seat, c.collect_round.new.gate) _ first.ended round again.ended;
-      later = le_trans later again.later;
-      few = (let count = round_few round in omega (arith, first.few, count, again.few));
-    }
-
-pub returns-in_default-clause-asked : goal.returns-in_default-clause-asked
-returns-in_default-clause-asked g c =
-    let once = c.in_default.ensures.asked in
-    record { replied = once.replied; ended = ended_once c.args.table.now g.G.Gate.becomes _ _ once.ended; later = once.later; few = omega (arith, once.few) }
+pub returns-clause-asked : goal.returns-clause-asked
+returns-clause-asked g c = tidied_asked _ _ _ (call_of c.args.ask c.args.key.now c.args.value) c.try_twice.result c.requires.idle.1 c.try_twice.ensures.asked c.tidy.ensures.tidied
