@@ -1,8 +1,6 @@
 -- The lemmas of the crate.
 pub mod Tracing
 pub mod Noting
-pub mod Walking
-pub mod Starting
 pub mod Scanned
 pub mod Collected
 pub mod Trying

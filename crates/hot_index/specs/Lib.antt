@@ -2,7 +2,6 @@
 pub mod Passes
 pub mod Answers
 pub mod Noting
-pub mod Scanning
 pub mod Traces
 pub mod Counts
 pub mod Asked

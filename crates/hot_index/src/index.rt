@@ -18,13 +18,13 @@ ghost use Rattle.hot_index.specs.Traces.{HasCollected, HasGot, HasMade, HasRead,
 
 use crate::changing::{change, try_change};
 use crate::room::{Room, new_room};
-use crate::scanning::{Range, scan_root};
 use epochs::{Given, collect_round, pin, unpin};
 use hot_model::{Call, Reply, Scan};
 use key_bits::Key;
 use record_words::{Layout, LayoutFault};
 use rowex_core::{Gate, NoGate};
 use rowex_reading::look_up;
+use rowex_scanning::{Range, scan_root};
 use rowex_table::{HotTable, TableSeat};
 use rowex_writing::{Ask, Full, TryFault};
 use std::alloc::{AllocError, Global};

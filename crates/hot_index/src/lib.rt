@@ -5,7 +5,6 @@
 mod changing;
 mod index;
 mod room;
-mod scanning;
 
 pub use epochs::Given;
 pub use hot_model::{Call, Reply, Scan};

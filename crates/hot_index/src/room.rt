@@ -5,7 +5,8 @@ use epochs::Limbo;
 use insert_cases::Step;
 use record_words::Layout;
 use rowex_core::Rec;
-use rowex_writing::{Build, MOST_NODES};
+use rowex_reading::MOST_NODES;
+use rowex_writing::Build;
 use std::alloc::{AllocError, Global};
 
 /// The lists of a pass's scans and changes. They are wide: they are made once, with the pass, and each call uses them again.

@@ -11,3 +11,7 @@ pub mod Leafing
 pub mod Comparing
 pub mod Led
 pub mod Looking
+pub mod Shapes
+pub mod Ways
+pub mod Descents
+pub mod Counting

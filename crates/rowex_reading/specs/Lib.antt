@@ -3,3 +3,4 @@ pub mod Seen
 pub mod Possible
 pub mod Reads
 pub mod Lookups
+pub mod Ways

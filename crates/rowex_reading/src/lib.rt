@@ -2,8 +2,10 @@
 //! be sure of then, whatever other passes publish meanwhile.
 #![tactic(auto)]
 
+mod descent;
 mod lookup;
 mod reading;
 
+pub use descent::{Found, MOST_NODES, search_way, step_of};
 pub use lookup::look_up;
 pub use reading::{load_entry, load_head, load_leaf, load_places, load_root, load_value};

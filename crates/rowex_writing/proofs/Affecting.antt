@@ -1,39 +1,33 @@
--- The entries that a new leaf's position affects, by the forks that were read; and a node's forks that were read twice.
+-- The entries that a new leaf's position affects, by the forks that were read.
 use Rattle.std.proofs.Common.{◌≡◌, ℕ, zero, suc, ◌+◌, ◌-◌, ◌<◌, ◌≤◌, List, length, Some, None, refl, sym, ap, subst, ◌∙◌, arith, ⊎_elim}
 use Rattle.std.proofs.lemmas.Bool.{cases_lt}
 use Rattle.std.proofs.lemmas.Option.{slice_get_within}
 use Rattle.std.specs.Prelude.{slice_get}
-use Rattle.compound_node.specs.Nodes.{HeadView, node_of, leaves, IsLawful as IsLawfulNode}
-use Rattle.compound_node.proofs.Lawful.{same_count}
+use Rattle.compound_node.specs.Nodes.{HeadView}
 use Rattle.insert_cases.specs.declared.choice.Step.{Step}
 use Rattle.insert_cases.specs.Levels.{IsLevel}
 use Rattle.insert_cases.proofs.Choosing.{some_at}
-use Rattle.pieces.specs.Piece.{size}
 use Rattle.pieces.specs.Growth.{affected_first, affected_count}
 use Rattle.pieces.proofs.Growing.{affected_fits}
 use Rattle.record_words.specs.declared.layout.Layout.{Layout}
-use Rattle.tries.proofs.Building.{size-piece}
-use Rattle.tries.proofs.Places.{spot_below}
 use Rattle.tries.specs.Keys.{Key}
 use Rattle.tries.specs.Place.{spot}
 use Rattle.tries.specs.Tree.{Page}
 use Rattle.rowex_core.specs.declared.known.Known.{Known}
-use Rattle.rowex_core.specs.Knowing.{IsSince}
-use Rattle.rowex_core.proofs.Owning.{recalls}
 use Rattle.rowex_walks.specs.Scan.{IsShaped}
-use Rattle.rowex_walks.proofs.Scans.{shaped}
 use Rattle.rowex_table.specs.Made.{IsLater}
 use Rattle.rowex_reading.specs.Possible.{IsPossible}
-use Rattle.rowex_reading.specs.Seen.{Sure, seen, shape_of}
-use Rattle.rowex_reading.proofs.Seeing.{seen_steady, shaped_stable, since_later, sure_later}
+use Rattle.rowex_reading.specs.Seen.{Sure, shape_of}
+use Rattle.rowex_reading.proofs.Shapes.{same_shape}
+use Rattle.rowex_reading.proofs.Seeing.{shaped_stable, since_later, sure_later}
 use Rattle.rowex_writing.specs.Changes.{AreAffected, IsPlanned}
 use Rattle.rowex_writing.specs.Plans.{DiffersAt, IsPlan}
 use Rattle.rowex_writing.specs.declared.plan.Ask.{Ask}
 use Rattle.rowex_writing.specs.declared.plan.Plan.{Plan}
 use Rattle.rowex_writing.specs.Remaking.{AffectsJust}
-use Rattle.rowex_writing.specs.Ways.{IsWayOf}
-use Rattle.rowex_writing.specs.declared.plan.Found.{Found}
-use Rattle.rowex_writing.specs.declared.plan.Found.TheVariants.{Nothing, Leaf}
+use Rattle.rowex_reading.specs.Ways.{IsWayOf}
+use Rattle.rowex_reading.specs.declared.descent.Found.{Found}
+use Rattle.rowex_reading.specs.declared.descent.Found.TheVariants.{Nothing, Leaf}
 
 -- ---- levels of a way
 same_step : (way : List Step) (i : ℕ) (s t : Step) → slice_get way i ≡ Some s → slice_get way i ≡ Some t → t ≡ s
@@ -64,22 +58,6 @@ no_higher way p a b x y = ⊎_elim (λ less. let s = some_at way b y.within in l
 
 pub one_level : (way : List Step) (p a b : ℕ) → IsLevel way p a → IsLevel way p b → a ≡ b
 one_level way p a b x y = let u = no_higher way p a b x y in let v = no_higher way p b a y x in omega (arith, u, v)
-
--- ---- forks that were read twice
-pub same_shape : (layout : Layout) (k : Known) (m n : ℕ) (x y : Page) → IsPossible layout k → IsSince k m → Sure k (λ past. IsShaped past m n x) → Sure k (λ past. IsShaped past m n y) → x ≡ y
-same_shape layout k m n x y possible since one two =
-    let c = possible.core in
-    let known = recalls c k possible.knows in
-    let a = one c possible.lawful known in
-    sym a.2 ∙ shaped (seen c k) m (seen_steady possible.lawful known since) n y a.0 (two c possible.lawful known) a.1
-
--- a head has as many rows as its forks have places
-pub rows_are : (head : HeadView) → IsLawfulNode (node_of head (leaves (length head.rows))) → length head.rows ≡ size (shape_of head)
-rows_are head lawful = let v = node_of head (leaves (length head.rows)) in same_count v lawful ∙ sym (size-piece v lawful)
-
--- so the place on the key's way is one of them
-pub row_below : (head : HeadView) (key : Key) (x : Page) (at : ℕ) → IsLawfulNode (node_of head (leaves (length head.rows))) → at ≡ spot key x → x ≡ shape_of head → at < length head.rows
-row_below head key x at lawful is same = subst (λ z. at < z) (sym (rows_are head lawful)) (subst (λ z. at < size z) same (subst (λ z. z < size x) (sym is) (spot_below key x)))
 
 -- ---- the affected entries
 some_affected : (key : Key) (p : ℕ) (x : Page) → (first : ℕ) × (last : ℕ) × AffectsJust key p first last x

@@ -31,16 +31,16 @@ use Rattle.rowex_writing.specs.Attempts.{HasAnswered, HasDone, HasLoadedRoot, Ha
 use Rattle.rowex_writing.specs.Changes.{AreAffected, HasChanged, HasNoRoom, HasRun, HasStored, IsFull, IsPlanned}
 use Rattle.rowex_writing.specs.Locks.{HasMetLock}
 use Rattle.rowex_writing.specs.Plans.{change, IsCase, IsNewLeafPlan}
-use Rattle.rowex_writing.specs.Ways.{value_of}
+use Rattle.rowex_reading.specs.Ways.{value_of}
 use Rattle.rowex_writing.specs.declared.plan.Ask.{Ask}
 use Rattle.rowex_writing.specs.declared.plan.Ask.TheVariants.{Insert, Upsert, Remove}
 use Rattle.rowex_writing.specs.declared.plan.Deed.{Deed}
 use Rattle.rowex_writing.specs.declared.plan.Deed.TheVariants.{Put, Pair, Grow, Take}
 use Rattle.rowex_writing.specs.declared.attempts.TryFault.TheVariants.{Busy, FullNodes, FullLeaves}
-use Rattle.rowex_writing.specs.declared.plan.Found.{Found}
+use Rattle.rowex_reading.specs.declared.descent.Found.{Found}
 use Rattle.rowex_writing.specs.declared.plan.Full.{Full}
 use Rattle.rowex_writing.specs.declared.plan.Full.TheVariants.{Nodes, Leaves}
-use Rattle.rowex_writing.specs.declared.plan.Found.TheVariants.{Nothing, Leaf}
+use Rattle.rowex_reading.specs.declared.descent.Found.TheVariants.{Nothing, Leaf}
 use Rattle.rowex_writing.specs.declared.plan.Plan.{Plan}
 use Rattle.rowex_writing.specs.declared.plan.Plan.TheVariants.{Answer, Change as a_change}
 use Rattle.rowex_writing.specs.declared.plan.Span.{Span}

@@ -53,12 +53,13 @@ use Rattle.rowex_writing.specs.Going.{HasLocked}
 use Rattle.rowex_writing.specs.Locks.{HasLockedSpan}
 use Rattle.rowex_writing.specs.Plans.{change, IsCase, IsNewLeafPlan}
 use Rattle.rowex_writing.specs.Remaking.{AffectsJust}
-use Rattle.rowex_writing.specs.Ways.{IsWayNode, IsWayOf, end_of, named}
+use Rattle.rowex_reading.specs.Ways.{IsWayNode, IsWayOf, end_of, named}
+use Rattle.rowex_reading.proofs.Ways.{named_at, named_end}
 use Rattle.rowex_writing.specs.declared.plan.Ask.{Ask}
 use Rattle.rowex_writing.specs.declared.plan.Ask.TheVariants.{Insert, Upsert, Remove}
 use Rattle.rowex_writing.specs.declared.plan.Deed.TheVariants.{Grow, Pair, Put, Take}
-use Rattle.rowex_writing.specs.declared.plan.Found.{Found}
-use Rattle.rowex_writing.specs.declared.plan.Found.TheVariants.{Nothing, Leaf}
+use Rattle.rowex_reading.specs.declared.descent.Found.{Found}
+use Rattle.rowex_reading.specs.declared.descent.Found.TheVariants.{Nothing, Leaf}
 use Rattle.rowex_writing.specs.declared.plan.Plan.{Plan}
 use Rattle.rowex_writing.specs.declared.plan.Plan.TheVariants.{Answer, Change}
 use Rattle.rowex_writing.specs.declared.plan.Span.{Span}
@@ -302,16 +303,6 @@ in_range (x ∷ xs) zero (suc n) zero s at low high = inl (sym (same_some at))
 in_range (x ∷ xs) zero (suc n) (suc i) s at low high = inr (in_range xs zero n i s at (omega arith) (omega arith))
 in_range (x ∷ xs) (suc b) n zero s at low high = absurd (omega arith)
 in_range (x ∷ xs) (suc b) n (suc i) s at low high = in_range xs b n i s at (omega arith) (omega arith)
-
-named_at : (way : List Step) (found : Found) (i : ℕ) (s : Step) → slice_get way i ≡ Some s → named way found i ≡ Some (Node s.number s.height)
-named_at [] found i s at = absurd (let z : None ≡ Some s = at in cc)
-named_at (x ∷ way) found zero s at = ap (λ (z : Step). Some (Node z.number z.height)) (same_some at)
-named_at (x ∷ way) found (suc i) s at = named_at way found i s at
-
-named_end : (way : List Step) (found : Found) (i : ℕ) → length way ≤ i → named way found i ≡ end_of found
-named_end [] found i h = refl
-named_end (x ∷ way) found zero h = absurd (omega arith)
-named_end (x ∷ way) found (suc i) h = named_end way found i (omega arith)
 
 lower_entry : (h : ℕ) (e : Entry) → height_of e < h → IsLowerPage h (Place e)
 lower_entry h (LeafEntry n) l = l

@@ -50,8 +50,8 @@ use Rattle.rowex_rights.proofs.Loops.{still_locked}
 use Rattle.rowex_writing.specs.Checks.{EntriesStand}
 use Rattle.rowex_writing.specs.Going.{HasLocked, IsLockedBy, ReadsOn, IsQuiet}
 use Rattle.rowex_writing.specs.Locks.{HasLockedSpan, span_numbers}
-use Rattle.rowex_writing.specs.Ways.{IsWayOf, RootWas, named}
-use Rattle.rowex_writing.specs.declared.plan.Found.{Found}
+use Rattle.rowex_reading.specs.Ways.{IsWayOf, RootWas, named}
+use Rattle.rowex_reading.specs.declared.descent.Found.{Found}
 use Rattle.rowex_writing.specs.declared.plan.Span.{Span}
 use Rattle.rowex_writing.proofs.Locking.{locked_spells}
 use Rattle.rowex_writing.proofs.Shapes.{way_node_locked}

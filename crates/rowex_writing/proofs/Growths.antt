@@ -45,10 +45,10 @@ use Rattle.tries.specs.Affected.{page_affected, IsPartPage}
 use Rattle.tries.proofs.Places.{spot_below}
 use Rattle.rowex_writing.specs.Remaking.{AffectsJust}
 use Rattle.rowex_writing.specs.Plans.{change}
-use Rattle.rowex_writing.specs.Ways.{IsWayOf}
+use Rattle.rowex_reading.specs.Ways.{IsWayOf}
 use Rattle.rowex_writing.specs.declared.plan.Ask.{Ask}
 use Rattle.rowex_writing.specs.declared.plan.Deed.TheVariants.{Grow}
-use Rattle.rowex_writing.specs.declared.plan.Found.{Found}
+use Rattle.rowex_reading.specs.declared.descent.Found.{Found}
 use Rattle.rowex_writing.specs.declared.plan.Full.{Full}
 use Rattle.rowex_table.specs.Seats.{TableView, SeatView}
 use Rattle.rowex_walks.specs.Rise.{entry}

@@ -42,8 +42,8 @@ use Rattle.rowex_writing.specs.Building.{IsBuilding}
 use Rattle.rowex_writing.specs.Changes.{HasRun, HasChanged}
 use Rattle.rowex_writing.specs.Locks.{HasJustLocked, AreNodes}
 use Rattle.rowex_writing.specs.Retiring.{AreRecords}
-use Rattle.rowex_writing.specs.Ways.{IsWayOf}
-use Rattle.rowex_writing.specs.declared.plan.Found.{Found}
+use Rattle.rowex_reading.specs.Ways.{IsWayOf}
+use Rattle.rowex_reading.specs.declared.descent.Found.{Found}
 use Rattle.hot_model.proofs.Growth.{others_on}
 
 -- ---- steps that failed are remembered

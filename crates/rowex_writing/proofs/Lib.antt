@@ -18,7 +18,6 @@ pub mod Ways
 pub mod Onward
 pub mod Attempting
 pub mod Affecting
-pub mod Descents
 pub mod Bridging
 pub mod Confirming
 pub mod Spared

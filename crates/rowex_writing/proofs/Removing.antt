@@ -1,5 +1,5 @@
 -- From what a pass knows under its locks to the publish of a removal.
-use Rattle.std.proofs.Common.{◌≡◌, inl, inr, ℕ, zero, suc, ◌+◌, ◌-◌, ◌<◌, ◌≤◌, Bool, true, false, List, [], ◌∷◌, ◌++◌, length, take, drop, Option, Some, None, refl, sym, ap, subst, ◌∙◌, arith}
+use Rattle.std.proofs.Common.{◌≡◌, inl, inr, ℕ, ◌+◌, ◌-◌, ◌<◌, ◌≤◌, Bool, true, false, List, [], ◌∷◌, ◌++◌, length, take, drop, Option, Some, None, refl, sym, ap, subst, ◌∙◌, arith}
 use Rattle.std.specs.Prelude.{All, if◌then◌else◌, slice_get, slice_range}
 use Rattle.std.proofs.lemmas.List.Elements.{All-cons}
 use Rattle.std.proofs.lemmas.Option.{get_or_from_slice_get}
@@ -64,9 +64,10 @@ use Rattle.rowex_writing.specs.Locks.{HasLockedSpan, numbers_of}
 use Rattle.rowex_writing.specs.Putting.{IsSpotAbove}
 use Rattle.rowex_writing.specs.Retiring.{AreRecords}
 use Rattle.rowex_writing.specs.Taking.{HasLeafBelow, HasOnlyLeaf, HasRead}
-use Rattle.rowex_writing.specs.Ways.{IsWayOf, end_of, named}
-use Rattle.rowex_writing.specs.declared.plan.Found.{Found}
-use Rattle.rowex_writing.specs.declared.plan.Found.TheVariants.{Nothing, Leaf}
+use Rattle.rowex_reading.specs.Ways.{IsWayOf, named}
+use Rattle.rowex_reading.proofs.Ways.{named_at, named_end}
+use Rattle.rowex_reading.specs.declared.descent.Found.{Found}
+use Rattle.rowex_reading.specs.declared.descent.Found.TheVariants.{Nothing, Leaf}
 use Rattle.rowex_writing.specs.declared.plan.Span.{Span}
 use Rattle.rowex_writing.proofs.Spared.{kept_above, range_split, span_same}
 use Rattle.rowex_writing.proofs.Shapes.{way_node_locked}
@@ -102,16 +103,6 @@ module _ (table : TableView) (a : SeatView) (number : ℕ) (key : Key) (value : 
 -- what stands past its end
 abbrev pub no_step : Step
 no_step = record { number = 0; height = 0; first_position = 0; count = 0; at = 0 }
-
-named_at : (way : List Step) (found : Found) (i : ℕ) (s : Step) → slice_get way i ≡ Some s → named way found i ≡ Some (Node s.number s.height)
-named_at [] found i s at = absurd (let z : None ≡ Some s = at in cc)
-named_at (x ∷ way) found zero s at = ap (λ (z : Step). Some (Node z.number z.height)) (let z : Some x ≡ Some s = at in (let y : x ≡ s = cc in y))
-named_at (x ∷ way) found (suc i) s at = named_at way found i s at
-
-named_end : (way : List Step) (found : Found) (i : ℕ) → i ≡ length way → named way found i ≡ end_of found
-named_end [] found i h = refl
-named_end (x ∷ way) found zero h = absurd (omega (arith, h))
-named_end (x ∷ way) found (suc i) h = named_end way found i (omega (arith, h))
 
 -- ---- the plan
 -- a plan by which a leaf goes
@@ -199,7 +190,7 @@ module _ (table : TableView) (a : SeatView) (m : ℕ) (key : Key) (way : List St
         possible = t.possible;
         own = t.own;
         locks = none_of a.known.locks (λ l there. no_locks l.node low (t.locked.nodes.0.only l there));
-        anchor = t.checked.root top ∙ ap Some (named_end way (Leaf number value None) 0 (sym empty));
+        anchor = t.checked.root top ∙ ap Some (named_end way (Leaf number value None) 0 (omega (arith, empty)));
         read = (m, t.way_of.since, subst (λ z. Sure a.known (λ past. IsRead past m number z value)) (sym same) read);
       }
 

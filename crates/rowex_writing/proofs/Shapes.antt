@@ -30,7 +30,7 @@ use Rattle.rowex_rights.proofs.Sure.{reach_since}
 use Rattle.moments.proofs.States.{steady}
 use Rattle.rowex_writing.specs.Going.{HasLocked}
 use Rattle.rowex_writing.specs.Remaking.{AffectsJust}
-use Rattle.rowex_writing.specs.Ways.{IsWayNode}
+use Rattle.rowex_reading.specs.Ways.{IsWayNode}
 use Rattle.rowex_core.proofs.Loading.{view}
 
 -- A node that stands now has the forks and the height of before.

@@ -1,5 +1,5 @@
--- What a search has found stays known while its pass goes on.
-use Rattle.std.proofs.Common.{◌≡◌, inl, inr, ℕ, suc, ◌+◌, ◌≤◌, List, [], ◌∷◌, get_or, Option, Some, None, refl, sym, ap, subst, ◌∙◌, arith}
+-- The nodes on the way of a search are different ones, and the pass was led to each.
+use Rattle.std.proofs.Common.{◌≡◌, inl, inr, ℕ, suc, ◌+◌, ◌≤◌, List, [], ◌∷◌, get_or, Some, refl, sym, ap, subst, ◌∙◌, arith}
 use Rattle.std.specs.Prelude.{slice_get}
 use Rattle.std.proofs.lemmas.Option.{slice_get-get_or}
 use Rattle.insert_cases.specs.declared.choice.Step.{Step}
@@ -18,54 +18,17 @@ use Rattle.rowex_core.proofs.Loading.{view}
 use Rattle.rowex_core.specs.Knowing.{IsSince}
 use Rattle.rowex_core.proofs.Owning.{recalls}
 use Rattle.rowex_core.specs.declared.known.Known.{Known}
-use Rattle.rowex_table.specs.Made.{IsLater}
-use Rattle.rowex_walks.specs.Scan.{IsSeen, IsRooted, IsBlank, IsPlaced, IsShaped, IsRead}
+use Rattle.rowex_walks.specs.Scan.{IsSeen}
 use Rattle.rowex_walks.proofs.Scans.{node_of as node_named}
 use Rattle.rowex_reading.specs.Possible.{IsPossible}
 use Rattle.rowex_reading.specs.Seen.{Sure, seen}
-use Rattle.rowex_reading.proofs.Seeing.{seen_past, sure_later, since_later, seen_stable, rooted_stable, placed_stable, shaped_stable, read_stable, blank_stable}
+use Rattle.rowex_reading.proofs.Seeing.{seen_past, seen_stable}
 use Rattle.rowex_rights.specs.Stages.{IsSure}
 use Rattle.rowex_rights.proofs.Sure.{reach_since, seen_is_sure}
 use Rattle.rowex_writing.specs.Locks.{AreLed, numbers_of}
-use Rattle.rowex_writing.specs.Ways.{IsWayOf, IsWayNode, IsFoundAt, RootWas, named}
-use Rattle.rowex_writing.specs.declared.plan.Found.{Found}
-use Rattle.rowex_writing.specs.declared.plan.Found.TheVariants.{Nothing, Leaf}
+use Rattle.rowex_reading.specs.Ways.{IsWayOf, IsWayNode, named}
+use Rattle.rowex_reading.specs.declared.descent.Found.{Found}
 
-module _ (layout : Layout) (k j : Known) (m : ℕ) (key : Key) (later : IsLater k j) where
-  root_later : (e : Option Entry) → RootWas k m e → RootWas j m e
-  root_later None h = sure_later {P = λ s. IsBlank s m} (blank_stable m) later h
-  root_later (Some e) h = sure_later {P = λ s. IsRooted s m e} (rooted_stable m e) later h
-
-  pub node_later : (s : Step) (e : Entry) → IsWayNode layout k m key s e → IsWayNode layout j m key s e
-  node_later s e w = record {
-    forks = w.forks;
-    range = w.range;
-    seen = sure_later {P = λ p. IsSeen p m (Node s.number s.height)} (seen_stable m (Node s.number s.height)) later w.seen;
-    shaped = sure_later {P = λ p. IsShaped p m s.number w.forks} (shaped_stable m s.number w.forks) later w.shaped;
-    placed = sure_later {P = λ p. IsPlaced p m s.number s.at e} (placed_stable m s.number s.at e) later w.placed;
-    at = w.at;
-    below = w.below;
-    count = w.count;
-    room = w.room;
-    first = w.first;
-  }
-
-  found_later : (found : Found) → IsFoundAt k m key found → IsFoundAt j m key found
-  found_later Nothing h = h
-  found_later (Leaf number value mismatch) (l, read, differ) = (l, sure_later {P = λ p. IsRead p m number l value} (read_stable m number l value) later read, differ)
-
--- what a search has found is known later on
-pub way_later : (layout : Layout) (k j : Known) (m : ℕ) (key : Key) (way : List Step) (found : Found) → IsLater k j → IsWayOf layout k m key way found → IsWayOf layout j m key way found
-way_later layout k j m key way found later w = record {
-  is_key = w.is_key;
-  since = since_later later w.since;
-  root = root_later layout k j m key later (named way found 0) w.root;
-  nodes = λ i s at. let (e, is, node) = w.nodes i s at in (e, is, node_later layout k j m key later s e node);
-  found_at = found_later layout k j m key later found w.found_at;
-  depth = w.depth;
-}
-
--- ---- the nodes of a way are different ones
 -- a record to which the pass was led since its pin has one height
 one_height : (layout : Layout) (k : Known) (m n g h : ℕ) → IsPossible layout k → IsSince k m → Sure k (λ past. IsSeen past m (Node n g)) → Sure k (λ past. IsSeen past m (Node n h)) → g ≡ h
 one_height layout k m n g h possible since one other =

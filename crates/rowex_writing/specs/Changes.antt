@@ -34,11 +34,11 @@ use Rattle.rowex_writing.specs.Going.{HasLocked}
 use Rattle.rowex_writing.specs.Locks.{HasLockedSpan, TriesLocksOnce, targets_of}
 use Rattle.rowex_writing.specs.Plans.{change, IsPlan}
 use Rattle.rowex_writing.specs.Remaking.{AffectsJust}
-use Rattle.rowex_writing.specs.Ways.{IsWayOf, named}
+use Rattle.rowex_reading.specs.Ways.{IsWayOf, named}
 use Rattle.rowex_writing.specs.declared.plan.Ask.{Ask}
 use Rattle.rowex_writing.specs.declared.plan.Deed.{Deed}
-use Rattle.rowex_writing.specs.declared.plan.Found.{Found}
-use Rattle.rowex_writing.specs.declared.plan.Found.TheVariants.{Leaf}
+use Rattle.rowex_reading.specs.declared.descent.Found.{Found}
+use Rattle.rowex_reading.specs.declared.descent.Found.TheVariants.{Leaf}
 use Rattle.rowex_writing.specs.declared.plan.Full.{Full}
 use Rattle.rowex_writing.specs.declared.plan.Full.TheVariants.{Nodes, Leaves}
 use Rattle.rowex_writing.specs.declared.plan.Plan.{Plan}

@@ -6,8 +6,8 @@ use Rattle.tries.specs.Search.{seek}
 use Rattle.rowex_core.specs.declared.known.Known.{Known}
 use Rattle.rowex_core.specs.Reading.{node_of}
 use Rattle.rowex_writing.specs.Going.{HasLocked}
-use Rattle.rowex_writing.specs.Ways.{named}
-use Rattle.rowex_writing.specs.declared.plan.Found.{Found}
+use Rattle.rowex_reading.specs.Ways.{named}
+use Rattle.rowex_reading.specs.declared.descent.Found.{Found}
 use Rattle.rowex_writing.specs.declared.plan.Span.{Span}
 
 -- each node that is locked for the span has on the key's way, by the words under its lock, the entry that the search took there

@@ -5,7 +5,6 @@ pub mod Going
 pub mod Building
 pub mod Locks
 pub mod Retiring
-pub mod Ways
 pub mod Checks
 pub mod Changes
 pub mod Taking

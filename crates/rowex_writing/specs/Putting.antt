@@ -5,8 +5,8 @@ use Rattle.moments.specs.declared.Rec.{Rec}
 use Rattle.moments.specs.declared.Rec.TheVariants.{Leaf as a_leaf}
 use Rattle.rowex_core.specs.declared.event.Spot.{Spot}
 use Rattle.rowex_core.specs.declared.event.Spot.TheVariants.{Root, Slot}
-use Rattle.rowex_writing.specs.declared.plan.Found.{Found}
-use Rattle.rowex_writing.specs.declared.plan.Found.TheVariants.{Nothing, Leaf}
+use Rattle.rowex_reading.specs.declared.descent.Found.{Found}
+use Rattle.rowex_reading.specs.declared.descent.Found.TheVariants.{Nothing, Leaf}
 
 -- the spot that names what stands below the first `end` nodes of the way: the place that the search took in the last of them
 abbrev pub IsSpotAbove : List Step → ℕ → Spot → Type 0

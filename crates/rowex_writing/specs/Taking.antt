@@ -10,7 +10,7 @@ use Rattle.rowex_reading.specs.Possible.{IsPossible}
 use Rattle.rowex_reading.specs.Seen.{Sure}
 use Rattle.rowex_walks.specs.Scan.{IsRead}
 use Rattle.rowex_writing.specs.Changes.{HasTakenSpan}
-use Rattle.rowex_writing.specs.declared.plan.Found.TheVariants.{Leaf}
+use Rattle.rowex_reading.specs.declared.descent.Found.TheVariants.{Leaf}
 use Rattle.rowex_writing.specs.declared.plan.Span.{Span}
 
 -- the pass has read the leaf since a moment to which its pin goes back: it has the key, and this value

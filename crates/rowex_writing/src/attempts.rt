@@ -11,18 +11,17 @@ ghost use Rattle.rowex_table.specs.Seats.{IsSeatOf};
 ghost use Rattle.rowex_writing.specs.Attempts.{HasAnswered, HasDone, HasLoadedRoot, HasRefused, reply_to as the_reply};
 ghost use Rattle.rowex_writing.specs.Changes.{HasNoRoom, HasRun, HasTakenPlan, HasTakenSpan, HasTriedOnce};
 ghost use Rattle.rowex_writing.specs.Locks.{HasMetLock};
-ghost use Rattle.rowex_writing.specs.Ways.{IsWayOf, value_of};
+ghost use Rattle.rowex_reading.specs.Ways.{IsWayOf, value_of};
 ghost use Rattle.rowex_writing.specs.Counts.{attempt_steps, change_steps};
 
 use crate::building::Build;
 use crate::checking::check_span;
-use crate::descent::{MOST_NODES, search_way};
 use crate::ending::undo;
 use crate::finding::find_plan;
 use crate::growing::grow_node;
 use crate::locks::lock_span;
 use crate::pairing::pair_leaf;
-use crate::plan::{Ask, Deed, Found, Full, Plan, Span};
+use crate::plan::{Ask, Deed, Full, Plan, Span};
 use crate::putting::put_leaf;
 use crate::taking::take_leaf;
 use arrayvec::ArrayVec;
@@ -30,6 +29,7 @@ use hot_model::Reply;
 use insert_cases::Step;
 use key_bits::Key;
 use rowex_core::Gate;
+use rowex_reading::{Found, MOST_NODES, search_way};
 use rowex_table::{HotTable, TableSeat};
 use thiserror::Error;
 

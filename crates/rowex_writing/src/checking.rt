@@ -13,15 +13,15 @@ ghost use Rattle.rowex_writing.specs.Changes.{IsChecked};
 ghost use Rattle.rowex_writing.specs.Checks.{EntriesStand};
 ghost use Rattle.rowex_writing.specs.Going.{HasLocked, IsLockedBy, ReadsOn};
 ghost use Rattle.rowex_writing.specs.Locks.{HasLockedSpan};
-ghost use Rattle.rowex_writing.specs.Ways.{IsWayOf, RootWas, named};
+ghost use Rattle.rowex_reading.specs.Ways.{IsWayOf, RootWas, named};
 
-use crate::plan::{Found, Span};
+use crate::plan::Span;
 use compound_node::Entry;
 use insert_cases::Step;
 use key_bits::Key;
 use record_words::read_entry;
 use rowex_core::{Gate, Spot};
-use rowex_reading::load_root;
+use rowex_reading::{Found, load_root};
 use rowex_table::{HotTable, TableSeat};
 
 /// Whether each node that is locked for the span, and the root under the anchor's lock, still names what the search found there:

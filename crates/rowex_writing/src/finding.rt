@@ -5,15 +5,15 @@ ghost use Rattle.rowex_reading.specs.Possible.{IsPossible};
 ghost use Rattle.rowex_reading.specs.Reads.{ReadsSome};
 ghost use Rattle.rowex_table.specs.Seats.{IsSeatOf};
 ghost use Rattle.rowex_writing.specs.Changes.{IsPlanned};
-ghost use Rattle.rowex_writing.specs.Ways.{IsWayOf};
+ghost use Rattle.rowex_reading.specs.Ways.{IsWayOf};
 ghost use Rattle.rowex_writing.specs.Plans.{LiesOnWay};
 ghost use Rattle.record_words.specs.declared.TheConstants.{HEAD_WORDS};
 
-use crate::plan::{Ask, Found, Outline, Plan, plan_beside, plan_call};
+use crate::plan::{Ask, Outline, Plan, plan_beside, plan_call};
 use insert_cases::Step;
 use key_bits::Key;
 use rowex_core::Gate;
-use rowex_reading::load_head;
+use rowex_reading::{Found, load_head};
 use rowex_table::{HotTable, TableSeat};
 
 /// What a call does, by the way of its search: where a new leaf goes into a node, its head is loaded once more for the entries that

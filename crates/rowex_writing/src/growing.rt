@@ -12,7 +12,7 @@ ghost use Rattle.rowex_writing.specs.Counts.{change_steps, level_steps};
 
 use crate::building::{Build, raise_grown};
 use crate::ending::undo;
-use crate::plan::{Found, Full, Span};
+use crate::plan::{Full, Span};
 use crate::publishing::{make_leaf, publish_change};
 use crate::putting::spot_above;
 use arrayvec::ArrayVec;
@@ -20,6 +20,7 @@ use compound_node::Entry;
 use insert_cases::Step;
 use key_bits::Key;
 use rowex_core::{Gate, Rec};
+use rowex_reading::Found;
 use rowex_table::{HotTable, TableSeat};
 
 /// The lowest node of the span gets the new leaf, and what comes of that takes the place of the topmost. Its nodes are locked and checked.

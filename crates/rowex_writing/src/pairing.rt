@@ -7,13 +7,14 @@ ghost use Rattle.rowex_writing.specs.Counts.{change_steps};
 
 use crate::building::{Build, raise_pair};
 use crate::ending::undo;
-use crate::plan::{Found, Full, Span};
+use crate::plan::{Full, Span};
 use crate::publishing::{make_leaf, publish_change};
 use crate::putting::{node_above, spot_above};
 use compound_node::Entry;
 use insert_cases::Step;
 use key_bits::Key;
 use rowex_core::Gate;
+use rowex_reading::Found;
 use rowex_table::{HotTable, TableSeat};
 
 /// A new node of the found leaf and the new one, with a fork at the position, takes the found leaf's place. Its nodes are locked and checked.

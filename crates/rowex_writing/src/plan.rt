@@ -6,6 +6,7 @@ ghost use Rattle.rowex_writing.specs.Plans.{change as a_change, IsOutline, IsBes
 
 use hot_model::Reply;
 use insert_cases::{Case, Step, chain_end, choose, level_below};
+use rowex_reading::Found;
 use thiserror::Error;
 
 /// What a call asks for.
@@ -17,22 +18,6 @@ pub enum Ask {
     Upsert,
     /// The key's end.
     Remove,
-}
-
-/// Where the key's search ended.
-#[derive(Clone, Copy)]
-pub enum Found {
-    /// At an empty root.
-    Nothing,
-    /// At a leaf.
-    Leaf {
-        /// The leaf's record number.
-        number: u32,
-        /// The leaf's value.
-        value: u64,
-        /// Where the leaf's key first differs from the call's; none where it is that key.
-        mismatch: Option<u16>,
-    },
 }
 
 /// The nodes of the way that get others in their place: those from `end` on, before `len`. The topmost of the others goes

@@ -8,12 +8,13 @@ ghost use Rattle.rowex_writing.specs.Counts.{change_steps};
 
 use crate::building::Build;
 use crate::ending::undo;
-use crate::plan::{Found, Full, Span};
+use crate::plan::{Full, Span};
 use crate::publishing::{make_leaf, publish_change};
 use compound_node::Entry;
 use insert_cases::Step;
 use key_bits::Key;
 use rowex_core::{Gate, Rec, Spot};
+use rowex_reading::Found;
 use rowex_table::{HotTable, TableSeat};
 
 /// The new leaf takes the place of what the search found: nothing, or the leaf that has the key. Its nodes are locked and checked.

@@ -5,17 +5,18 @@ ghost use Rattle.tries.specs.Keys.{Key as KeyView};
 ghost use Rattle.rowex_writing.specs.Changes.{HasNoRoom, HasRun, HasTaken, HasTakenPlan};
 ghost use Rattle.rowex_writing.specs.Taking.{HasLeafBelow, HasOnlyLeaf};
 ghost use Rattle.rowex_writing.specs.declared.plan.Deed.TheVariants.{Take};
-ghost use Rattle.rowex_writing.specs.declared.plan.Found.TheVariants.{Leaf as LeafFound};
+ghost use Rattle.rowex_reading.specs.declared.descent.Found.TheVariants.{Leaf as LeafFound};
 ghost use Rattle.rowex_writing.specs.Counts.{change_steps};
 
 use crate::building::{Build, raise_without};
 use crate::ending::undo;
-use crate::plan::{Found, Full, Span};
+use crate::plan::{Full, Span};
 use crate::publishing::publish_change;
 use crate::putting::spot_above;
 use insert_cases::Step;
 use key_bits::Key;
 use rowex_core::{Gate, Rec, Spot};
+use rowex_reading::Found;
 use rowex_table::{HotTable, TableSeat};
 
 /// The leaf that has the key goes: what is left of its node takes the node's place, and a root that was the leaf is empty. Its nodes are locked and checked.

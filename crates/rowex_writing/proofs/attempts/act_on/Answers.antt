@@ -8,7 +8,7 @@ use Rattle.rowex_reading.specs.Seen.{since}
 use Rattle.rowex_writing.proofs.Attempting.{answered_change, answered_look, found_later, loaded_reads, looked, planned_later, refused_busy, refused_leaves, refused_nodes, removal_takes, rest_reads}
 use Rattle.rowex_writing.proofs.Onward.{reads_run}
 use Rattle.rowex_writing.proofs.Runs.{none_once, once_run, run_loaded, run_once}
-use Rattle.rowex_writing.proofs.Ways.{way_later}
+use Rattle.rowex_reading.proofs.Ways.{way_later}
 use Rattle.rowex_writing.proofs.attempts.act_on.Goals as goal
 
 pub take_span-requires-clause-own : goal.take_span-requires-clause-own

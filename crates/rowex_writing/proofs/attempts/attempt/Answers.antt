@@ -2,10 +2,10 @@
 use Rattle.std.proofs.Common.{subst, sym, arith}
 use Rattle.std.proofs.lemmas.Result.{IfErr-weaker, IfOk-weaker}
 use Rattle.rowex_reading.specs.Seen.{since}
-use Rattle.rowex_writing.specs.Ways.{IsWayOf}
+use Rattle.rowex_reading.specs.Ways.{IsWayOf}
 use Rattle.rowex_writing.proofs.Attempting.{searched}
 use Rattle.rowex_writing.proofs.Runs.{run_loaded, run_once}
-use Rattle.rowex_writing.proofs.Counting.{looks_count}
+use Rattle.rowex_reading.proofs.Counting.{looks_count}
 use Rattle.rowex_writing.proofs.attempts.attempt.Goals as goal
 
 pub act_on-requires-clause-own : goal.act_on-requires-clause-own

@@ -5,7 +5,8 @@ use Rattle.rowex_writing.proofs.Onward.{longer, run_possible, run_seat}
 use Rattle.rowex_writing.proofs.Confirming.{span_later}
 use Rattle.rowex_writing.proofs.Runs.{goes_run, once_run, tries_once, works_run}
 use Rattle.rowex_writing.proofs.Spans.{led_nodes}
-use Rattle.rowex_writing.proofs.Ways.{way_apart, way_later, way_led}
+use Rattle.rowex_writing.proofs.Ways.{way_apart, way_led}
+use Rattle.rowex_reading.proofs.Ways.{way_later}
 use Rattle.rowex_writing.proofs.Works.{works_later, works_seat}
 use Rattle.rowex_writing.proofs.Counting.{slice_few}
 use Rattle.rowex_writing.proofs.attempts.take_span.Goals as goal

@@ -1,9 +1,9 @@
 -- The root, and then the nodes.
 use Rattle.std.proofs.Common.{◌∙◌, ap, subst, sym, Some, arith}
-use Rattle.rowex_writing.specs.Ways.{RootWas}
+use Rattle.rowex_reading.specs.Ways.{RootWas}
 use Rattle.rowex_writing.proofs.Confirming.{since_pinned, span_later}
 use Rattle.rowex_writing.proofs.Locking.{reads_more, seat_of}
-use Rattle.rowex_writing.proofs.Ways.{way_later}
+use Rattle.rowex_reading.proofs.Ways.{way_later}
 use Rattle.rowex_writing.proofs.checking.check_span.Goals as goal
 
 pub entries_stand-requires-clause-way : goal.entries_stand-requires-clause-way

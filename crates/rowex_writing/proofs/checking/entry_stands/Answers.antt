@@ -4,7 +4,7 @@ use Rattle.rowex_reading.proofs.Later.{event_possible}
 use Rattle.rowex_reading.proofs.Placing.{is_entry, slot_spelled}
 use Rattle.rowex_writing.proofs.Confirming.{entry_is, entry_changed}
 use Rattle.rowex_writing.proofs.Locking.{reads_entry}
-use Rattle.rowex_writing.proofs.Counting.{step_few}
+use Rattle.rowex_reading.proofs.Counting.{step_few}
 use Rattle.rowex_writing.proofs.checking.entry_stands.Goals as goal
 
 pub load_ref-word-requires-clause-range : goal.load_ref-word-requires-clause-range

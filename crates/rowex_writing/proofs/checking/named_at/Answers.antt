@@ -2,8 +2,8 @@
 use Rattle.std.proofs.Common.{◌≡◌, ◌<◌, ◌≤◌, ℕ, zero, suc, List, length, Some, [], ◌∷◌, get_or, refl, arith, sym, ap, ◌∙◌}
 use Rattle.compound_node.specs.declared.entries.Entry.TheVariants.{Node}
 use Rattle.insert_cases.specs.declared.choice.Step.{Step}
-use Rattle.rowex_writing.specs.Ways.{named, end_of}
-use Rattle.rowex_writing.specs.declared.plan.Found.{Found}
+use Rattle.rowex_reading.specs.Ways.{named, end_of}
+use Rattle.rowex_reading.specs.declared.descent.Found.{Found}
 use Rattle.rowex_writing.proofs.checking.named_at.Goals as goal
 
 within : (way : List Step) (found : Found) (i : ℕ) (d : Step) → i < length way → Some (Node (get_or way i d).number (get_or way i d).height) ≡ named way found i

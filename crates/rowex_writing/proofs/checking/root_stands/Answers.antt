@@ -3,7 +3,7 @@ use Rattle.std.proofs.Common.{◌∙◌, ap, Some}
 use Rattle.rowex_reading.proofs.Later.{event_possible}
 use Rattle.rowex_reading.proofs.Loading.{pinned_by}
 use Rattle.rowex_writing.proofs.Confirming.{anchor_is, reads_root, root_changed}
-use Rattle.rowex_writing.proofs.Counting.{step_few}
+use Rattle.rowex_reading.proofs.Counting.{step_few}
 use Rattle.rowex_writing.proofs.checking.root_stands.Goals as goal
 
 pub returns-clause-reads : goal.returns-clause-reads

@@ -4,7 +4,7 @@ use Rattle.rowex_table.proofs.ActsAfter.{marks_own}
 use Rattle.rowex_table.proofs.ActsLeave.{act_leaves}
 use Rattle.rowex_writing.proofs.Works.{works_none, works_one, works_more, works_seat}
 use Rattle.rowex_writing.proofs.Retiring.{first_due, none_due, due_less}
-use Rattle.rowex_writing.proofs.Counting.{step_few}
+use Rattle.rowex_reading.proofs.Counting.{step_few}
 use Rattle.rowex_writing.proofs.ending.mark_all.Goals as goal
 
 pub loop-index-init : goal.loop-index-init

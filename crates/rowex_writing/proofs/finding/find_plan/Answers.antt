@@ -4,9 +4,10 @@ use Rattle.compound_node.specs.Nodes.{node_of, leaves}
 use Rattle.std.proofs.Common.{refl, length, arith}
 use Rattle.rowex_reading.proofs.Led.{reader_then, reads_later}
 use Rattle.rowex_reading.proofs.Seeing.{shaped_stable, since_later, sure_later}
-use Rattle.rowex_writing.proofs.Affecting.{known_planned, beside_planned, row_below, same_shape}
+use Rattle.rowex_writing.proofs.Affecting.{known_planned, beside_planned}
+use Rattle.rowex_reading.proofs.Shapes.{row_below, same_shape}
 use Rattle.rowex_writing.proofs.Planning.{plan_within, beside_within}
-use Rattle.rowex_writing.proofs.Counting.{reads_count}
+use Rattle.rowex_reading.proofs.Counting.{reads_count}
 use Rattle.rowex_writing.proofs.finding.find_plan.Goals as goal
 
 pub load_head-head-requires-clause-led : goal.load_head-head-requires-clause-led

@@ -2,7 +2,7 @@
 use Rattle.rowex_core.specs.declared.event.Act.TheVariants.{Lock}
 use Rattle.rowex_core.specs.declared.event.Target.TheVariants.{Anchor}
 use Rattle.rowex_writing.proofs.Works.{works_one, anchor_locked, anchor_met, is_live, is_not_live}
-use Rattle.rowex_writing.proofs.Counting.{step_few}
+use Rattle.rowex_reading.proofs.Counting.{step_few}
 use Rattle.rowex_writing.proofs.locks.lock_anchor.Goals as goal
 
 pub returns-clause-tries : goal.returns-clause-tries

@@ -6,7 +6,7 @@ use Rattle.rowex_core.specs.declared.event.Target.TheVariants.{Node as NodeTarge
 use Rattle.rowex_rights.proofs.Acting.{led_may_lock}
 use Rattle.rowex_writing.specs.Locks.{IsLedStep}
 use Rattle.rowex_writing.proofs.Works.{works_one, node_locked, node_met, is_live, is_not_live}
-use Rattle.rowex_writing.proofs.Counting.{step_few}
+use Rattle.rowex_reading.proofs.Counting.{step_few}
 use Rattle.rowex_writing.proofs.locks.lock_node.Goals as goal
 
 pub lock-found-requires-clause-may : goal.lock-found-requires-clause-may

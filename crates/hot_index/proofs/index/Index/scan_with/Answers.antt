@@ -6,8 +6,8 @@ use Rattle.rowex_walks.specs.Scan.{Range}
 use Rattle.rowex_reading.proofs.Led.{looked_at, looks_same}
 use Rattle.hot_index.specs.Passes.{PassView, pass_of}
 use Rattle.hot_index.specs.Answers.{IsScanned, IsUnnoted}
-use Rattle.hot_index.specs.Counts.{scan_loads}
-use Rattle.hot_index.specs.Scanning.{HasScanned}
+use Rattle.rowex_scanning.specs.Counts.{scan_loads}
+use Rattle.rowex_scanning.specs.Scanning.{HasScanned}
 use Rattle.hot_index.specs.Traces.{HasRead}
 use Rattle.hot_index.proofs.Noting.{fits_then, looked}
 use Rattle.hot_index.proofs.Scanned.{if_answered, if_refused, scan_counted, scan_settled, scan_refused, scan_answered}

@@ -1,0 +1,35 @@
+-- A node's forks that were read twice, and the places that they have.
+use Rattle.std.proofs.Common.{◌≡◌, ℕ, ◌<◌, length, sym, subst, ◌∙◌}
+use Rattle.compound_node.specs.Nodes.{HeadView, node_of, leaves, IsLawful as IsLawfulNode}
+use Rattle.compound_node.proofs.Lawful.{same_count}
+use Rattle.pieces.specs.Piece.{size}
+use Rattle.record_words.specs.declared.layout.Layout.{Layout}
+use Rattle.tries.proofs.Building.{size-piece}
+use Rattle.tries.proofs.Places.{spot_below}
+use Rattle.tries.specs.Keys.{Key}
+use Rattle.tries.specs.Place.{spot}
+use Rattle.tries.specs.Tree.{Page}
+use Rattle.rowex_core.specs.declared.known.Known.{Known}
+use Rattle.rowex_core.specs.Knowing.{IsSince}
+use Rattle.rowex_core.proofs.Owning.{recalls}
+use Rattle.rowex_walks.specs.Scan.{IsShaped}
+use Rattle.rowex_walks.proofs.Scans.{shaped}
+use Rattle.rowex_reading.specs.Possible.{IsPossible}
+use Rattle.rowex_reading.specs.Seen.{Sure, seen, shape_of}
+use Rattle.rowex_reading.proofs.Seeing.{seen_steady}
+
+-- forks that were read twice
+pub same_shape : (layout : Layout) (k : Known) (m n : ℕ) (x y : Page) → IsPossible layout k → IsSince k m → Sure k (λ past. IsShaped past m n x) → Sure k (λ past. IsShaped past m n y) → x ≡ y
+same_shape layout k m n x y possible since one two =
+    let c = possible.core in
+    let known = recalls c k possible.knows in
+    let a = one c possible.lawful known in
+    sym a.2 ∙ shaped (seen c k) m (seen_steady possible.lawful known since) n y a.0 (two c possible.lawful known) a.1
+
+-- a head has as many rows as its forks have places
+pub rows_are : (head : HeadView) → IsLawfulNode (node_of head (leaves (length head.rows))) → length head.rows ≡ size (shape_of head)
+rows_are head lawful = let v = node_of head (leaves (length head.rows)) in same_count v lawful ∙ sym (size-piece v lawful)
+
+-- so the place on the key's way is one of them
+pub row_below : (head : HeadView) (key : Key) (x : Page) (at : ℕ) → IsLawfulNode (node_of head (leaves (length head.rows))) → at ≡ spot key x → x ≡ shape_of head → at < length head.rows
+row_below head key x at lawful is same = subst (λ z. at < z) (sym (rows_are head lawful)) (subst (λ z. at < size z) same (subst (λ z. z < size x) (sym is) (spot_below key x)))

@@ -1,0 +1,89 @@
+-- The empty root, the root's entry, one node down, and the leaf.
+use Rattle.std.proofs.Common.{length, sym, ap, subst, arith}
+use Rattle.rowex_reading.specs.Seen.{since, RootIs}
+use Rattle.rowex_reading.proofs.Looking.{none_searched, none_found, at_root, at_led, leaf_searched}
+use Rattle.rowex_reading.proofs.Led.{reader_then, root_reader, root_pinned}
+use Rattle.rowex_reading.proofs.Descents.{IsGoing, going_first, ends_nowhere, there, falls_on, led_down, way_on, way_room, way_ends, end_found}
+use Rattle.rowex_reading.proofs.descent.search_way.Goals as goal
+
+pub prove-unreachable-requires : goal.prove-unreachable-requires
+prove-unreachable-requires g c =
+    let low = c.as_bytes.ensures.key.short in
+    omega (arith, low, ap length c.as_bytes.ensures.bytes, c.if-prove.true)
+
+pub returns-in_default-clause-searched : goal.returns-in_default-clause-searched
+returns-in_default-clause-searched g c = none_searched c.load_root.ensures.reads
+
+pub returns-in_default-clause-possible : goal.returns-in_default-clause-possible
+returns-in_default-clause-possible g c = (root_reader c.requires.own c.load_root.ensures.reads).1
+
+pub returns-in_default-clause-way : goal.returns-in_default-clause-way
+returns-in_default-clause-way g c =
+    let r = c.load_root.ensures in
+    ends_nowhere _ _ _ _ _ c.clear.ensures c.as_bytes.ensures.key (root_pinned c.requires.pinned r.reads) (subst (RootIs c.load_root.new.seat.known) c.in_default.is r.root)
+
+pub returns-in_default-clause-found : goal.returns-in_default-clause-found
+returns-in_default-clause-found g c =
+    let r = c.load_root.ensures in
+    none_found r.reads c.args.key.now (subst (RootIs c.load_root.new.seat.known) c.in_default.is r.root)
+
+pub loop-entry-init : goal.loop-entry-init
+loop-entry-init g c =
+    let r = c.load_root.ensures.reads in let e = c.in-Some.ensures in
+    record {
+      reader = root_reader c.requires.own r;
+      at = at_root r c.requires.pinned _ c.in-Some.entry e.low e.root;
+      going = going_first _ _ _ _ _ _ c.clear.ensures e.low e.root;
+    }
+
+pub load_leaf-leaf-requires-clause-led : goal.load_leaf-leaf-requires-clause-led
+load_leaf-leaf-requires-clause-led g c = (since c.loop-entry.seat.known, at_led c.loop-entry.invariant.at _ c.in-Leaf.is)
+
+pub returns-in-Leaf-clause-searched : goal.returns-in-Leaf-clause-searched
+returns-in-Leaf-clause-searched g c =
+    let e = c.load_leaf-leaf.ensures in leaf_searched c.loop-entry.invariant.at c.in-Leaf.number c.in-Leaf.is e.few e.reads
+
+pub returns-in-Leaf-clause-possible : goal.returns-in-Leaf-clause-possible
+returns-in-Leaf-clause-possible g c = (reader_then c.loop-entry.invariant.reader c.load_leaf-leaf.ensures.reads).1
+
+pub returns-in-Leaf-clause-way : goal.returns-in-Leaf-clause-way
+returns-in-Leaf-clause-way g c =
+    let i = c.loop-entry.invariant in let e = c.load_leaf-leaf.ensures in let l = c.load_leaf-leaf.result in let p = c.mismatch.ensures in
+    way_ends i.at _ i.going c.in-Leaf.number c.in-Leaf.is e.few e.reads l.0 l.1 e.leaf p.keys.0 c.mismatch.result p.none p.first
+
+pub returns-in-Leaf-clause-found : goal.returns-in-Leaf-clause-found
+returns-in-Leaf-clause-found g c =
+    let i = c.loop-entry.invariant in let e = c.load_leaf-leaf.ensures in let l = c.load_leaf-leaf.result in let p = c.mismatch.ensures in
+    end_found i.at _ i.going c.in-Leaf.number c.in-Leaf.is e.few e.reads l.0 l.1 e.leaf p.keys.0 c.mismatch.result p.none
+
+pub load_head-head-requires-clause-led : goal.load_head-head-requires-clause-led
+load_head-head-requires-clause-led g c = (since c.loop-entry.seat.known, c.in-Node.height, at_led c.loop-entry.invariant.at _ c.in-Node.is)
+
+pub load_entry-entry-requires-clause-reader : goal.load_entry-entry-requires-clause-reader
+load_entry-entry-requires-clause-reader g c = reader_then c.loop-entry.invariant.reader c.load_head-head.ensures.reads
+
+pub load_entry-entry-requires-clause-place : goal.load_entry-entry-requires-clause-place
+load_entry-entry-requires-clause-place g c =
+    let i = c.loop-entry.invariant in let n = c.in-Node in let e = c.load_head-head.ensures in
+    (since c.loop-entry.seat.known, n.height, there i.at _ i.going n.number n.height c.load_head-head.result c.search-at.result n.is e.few e.reads e.head e.lawful c.search-at.ensures.leads)
+
+pub push-requires : goal.push-requires
+push-requires g c =
+    let i = c.loop-entry.invariant in let n = c.in-Node in let e = c.load_head-head.ensures in let o = c.load_entry-entry.ensures in
+    (omega arith, way_room i.at _ i.going n.number n.height c.load_head-head.result c.search-at.result n.is e.few e.reads e.head e.lawful c.search-at.ensures.leads _ o.reads o.entry)
+
+pub loop-entry-smaller : goal.loop-entry-smaller
+loop-entry-smaller g c =
+    let i = c.loop-entry.invariant in let n = c.in-Node in let e = c.load_head-head.ensures in let o = c.load_entry-entry.ensures in
+    falls_on i.at _ i.going n.number n.height c.load_head-head.result c.search-at.result n.is e.few e.reads e.head e.lawful c.search-at.ensures.leads _ o.reads o.entry
+
+pub loop-entry-preserved : goal.loop-entry-preserved
+loop-entry-preserved g c =
+    let i = c.loop-entry.invariant in let n = c.in-Node in let head = c.load_head-head.result in let e = c.load_head-head.ensures in let o = c.load_entry-entry.ensures in
+    let leads = c.search-at.ensures.leads in let known = c.load_entry-entry.new.seat.known in
+    record {
+      reader = reader_then (reader_then i.reader e.reads) o.reads;
+      at = led_down i.at _ i.going n.number n.height head c.search-at.result n.is e.few e.reads e.head e.lawful leads _ o.reads o.entry;
+      going = subst (λ z. IsGoing c.args.table.now.layout known (since known) c.args.key.now z c.load_entry-entry.result) (sym c.push.ensures.items)
+          (way_on i.at _ i.going n.number n.height head c.search-at.result n.is e.few e.reads e.head e.lawful leads _ o.reads o.entry i.reader.1 c.step_of.result c.step_of.ensures);
+    }

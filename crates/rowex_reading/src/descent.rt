@@ -1,0 +1,88 @@
+//! The search that keeps its way: of a scan, and of a call that may change the index.
+
+ghost use Rattle.std.specs.Prelude.{◌≡◌, ◌+◌, ◌*◌, ◌≤◌, ℕ, IsSome, length};
+ghost use Rattle.rowex_table.specs.Seats.{IsSeatOf};
+ghost use Rattle.rowex_reading.specs.Lookups.{HasFound, HasSearched};
+ghost use Rattle.rowex_reading.specs.Possible.{IsPossible};
+ghost use Rattle.rowex_reading.specs.Seen.{since};
+ghost use Rattle.rowex_reading.specs.Ways.{IsWayOf, step_at, value_of};
+
+use crate::reading::{load_entry, load_head, load_leaf, load_root};
+use arrayvec::ArrayVec;
+use compound_node::{Entry, Head};
+use insert_cases::Step;
+use key_bits::{Key, MAX_BYTES, mismatch};
+use rowex_core::Gate;
+use rowex_table::{HotTable, TableSeat};
+
+/// The most nodes on a way: a node's height is above that of the next one, and at most 2,160.
+pub const MOST_NODES: usize = 2_160;
+
+/// Where the key's search ended.
+#[derive(Clone, Copy)]
+pub enum Found {
+    /// At an empty root.
+    Nothing,
+    /// At a leaf.
+    Leaf {
+        /// The leaf's record number.
+        number: u32,
+        /// The leaf's value.
+        value: u64,
+        /// Where the leaf's key first differs from the one that is looked for; none where it is that key.
+        mismatch: Option<u16>,
+    },
+}
+
+/// Searches for a key from the root down to a leaf; leaves the nodes of its way, the topmost first, and answers what it found.
+pub fn search_way<G: Gate>(
+    table: &HotTable,
+    seat: &mut TableSeat,
+    gate: &mut G,
+    key: &Key,
+    way: &mut ArrayVec<Step, MOST_NODES>,
+) -> Found
+    requires own { IsSeatOf table.now seat.old }
+    requires pinned { IsSome seat.old.known.pin }
+    ensures searched { HasSearched table.now G.becomes (seat.old, gate.old) (seat.new, gate.new) }
+    ensures possible { IsPossible table.now.layout seat.new.known }
+    ensures way { IsWayOf table.now.layout seat.new.known (since seat.new.known) key.now way.new.items result }
+    ensures found { HasFound seat.new.known key.now (value_of result) }
+{
+    way.clear();
+    let Some(mut entry) = load_root(table, seat, gate) else {
+        prove!(key.as_bytes().len() <= MAX_BYTES);
+        return Found::Nothing;
+    };
+    loop {
+        match entry {
+            Entry::Leaf(number) => {
+                let leaf = load_leaf(table, seat, gate, number);
+                return Found::Leaf {
+                    number,
+                    value: leaf.1,
+                    mismatch: mismatch(key, &leaf.0),
+                };
+            }
+            Entry::Node { number, .. } => {
+                let head = load_head(table, seat, gate, number);
+                let at = head.search(key);
+                entry = load_entry(table, seat, gate, number, at);
+                way.push(step_of(&head, number, at));
+            }
+        }
+    }
+}
+
+/// The step of a way at a node with this head, where the way takes this entry.
+pub fn step_of(head: &Head, number: u32, at: u8) -> Step
+    ensures { result ≡ step_at head.now number at }
+{
+    Step {
+        number,
+        height: head.height(),
+        first_position: head.first_position(),
+        count: head.count(),
+        at,
+    }
+}

@@ -1,0 +1,4 @@
+-- The lemmas of the crate.
+pub mod Walking
+pub mod Starting
+pub mod Scanned

@@ -1,0 +1,8 @@
+-- The head that was loaded, and the step at it.
+use Rattle.rowex_scanning.proofs.Walking.{entered}
+use Rattle.rowex_scanning.proofs.scanning.enter.Goals as goal
+
+pub returns-clause-entered : goal.returns-clause-entered
+returns-clause-entered g c = λ m h led.
+    let o = c.load_head-head.ensures.head m h led in
+    entered c.load_head-head.result c.load_head-head.ensures.lawful m c.args.number h c.step_of.result o.0 c.step_of.ensures o.1

@@ -1,0 +1,84 @@
+-- The start, the leaf that comes first, and the walk from there on.
+use Rattle.std.proofs.Common.{◌≡◌, ◌≤◌, ℕ, refl, arith}
+use Rattle.compound_node.specs.declared.entries.Entry.TheVariants.{Leaf}
+use Rattle.rowex_reading.specs.Reads.{Reads}
+use Rattle.rowex_reading.specs.Seen.{since}
+use Rattle.rowex_reading.proofs.Led.{reader_then, reads_later, reads_trans, same_since}
+use Rattle.rowex_scanning.specs.Scanning.{range_of}
+use Rattle.rowex_scanning.proofs.Starting.{begun}
+use Rattle.rowex_scanning.proofs.Walking.{IsAtEntry, entry_led, floor_later, floor_since, reads_both, walk_full, walk_further, walk_past, walk_room, walk_since}
+use Rattle.rowex_scanning.proofs.scanning.scan_node.Given as given
+use Rattle.rowex_scanning.proofs.scanning.scan_node.Goals as goal
+use Rattle.rowex_scanning.proofs.scanning.scan_node.Goals.{After-take_leaf, then-start+in_ok-take_leaf+in-Further, else-start}
+
+-- the leaf that comes first; and since the search the root was not loaded
+first : (g : given.Over) (c : After-take_leaf g) →
+    IsAtEntry c.start_at-start.new.seat.known (since c.args.seat.now.known) (range_of c.args.range.now) c.start_at-start.result.top c.truncate.new.self.items c.new-pairs.result.items (Leaf c.args.number) ×
+    (since c.take_leaf.new.seat.known ≡ since c.args.seat.now.known)
+first g c = ((begun (range_of c.args.range.now) c.requires.way.1 c.deref.ensures.0 c.start_at-start.ensures.start c.truncate.ensures.items c.new-pairs.ensures.items).entry c.if-start.true, same_since (reads_trans c.start_at-start.ensures.reads.2 c.take_leaf.ensures.reads.2))
+
+pub take_leaf-requires-clause-reader : goal.take_leaf-requires-clause-reader
+take_leaf-requires-clause-reader g c = reader_then c.requires.reader c.start_at-start.ensures.reads.2
+
+pub take_leaf-requires-clause-leaf : goal.take_leaf-requires-clause-leaf
+take_leaf-requires-clause-leaf g c =
+    let b = begun (range_of c.args.range.now) c.requires.way.1 c.deref.ensures.0 c.start_at-start.ensures.start c.truncate.ensures.items c.new-pairs.ensures.items in
+    (since c.args.seat.now.known, entry_led (b.entry c.if-start.true), b.above c.if-start.true)
+
+pub returns-in_err-take_leaf-clause-reads : goal.returns-in_err-take_leaf-clause-reads
+returns-in_err-take_leaf-clause-reads g c = reads_both c.start_at-start.ensures.reads c.take_leaf.ensures.reads (omega arith)
+
+pub overflow_add-top : goal.overflow_add-top
+overflow_add-top g c =
+    let b = begun (range_of c.args.range.now) c.requires.way.1 c.deref.ensures.0 c.start_at-start.ensures.start c.truncate.ensures.items c.new-pairs.ensures.items in
+    let low = (b.entry c.if-start.true).inside in let room = walk_room b.walk in omega (arith, low, room)
+
+pub returns-in-Past-clause-reads : goal.returns-in-Past-clause-reads
+returns-in-Past-clause-reads g c = reads_both c.start_at-start.ensures.reads c.take_leaf.ensures.reads (omega arith)
+
+pub returns-in-Past-clause-scanned : goal.returns-in-Past-clause-scanned
+returns-in-Past-clause-scanned g c =
+    let (a, same) = first g (goal.at.returns-in-Past-clause-scanned g c).After-take_leaf in walk_past a (reads_later c.take_leaf.ensures.reads.2) c.in_ok-take_leaf.ensures.taken same _ refl c.in-Past.is refl
+
+pub returns-in-Full-clause-reads : goal.returns-in-Full-clause-reads
+returns-in-Full-clause-reads g c = reads_both c.start_at-start.ensures.reads c.take_leaf.ensures.reads (omega arith)
+
+pub returns-in-Full-clause-scanned : goal.returns-in-Full-clause-scanned
+returns-in-Full-clause-scanned g c =
+    let (a, same) = first g (goal.at.returns-in-Full-clause-scanned g c).After-take_leaf in walk_full a (reads_later c.take_leaf.ensures.reads.2) c.in_ok-take_leaf.ensures.taken same _ refl c.in-Full.is refl
+
+pub walk-requires-clause-reader : goal.walk-requires-clause-reader
+walk-requires-clause-reader g c =
+    let r = reader_then c.requires.reader c.start_at-start.ensures.reads.2 in
+    elim c.if-start.branch [ then-start+in_ok-take_leaf+in-Further w ↦ rw w.seat-is (reader_then r w.take_leaf.ensures.reads.2) | else-start w ↦ rw w.seat-is r ]
+
+pub walk-requires-clause-walk : goal.walk-requires-clause-walk
+walk-requires-clause-walk g c =
+    let b = begun (range_of c.args.range.now) c.requires.way.1 c.deref.ensures.0 c.start_at-start.ensures.start c.truncate.ensures.items c.new-pairs.ensures.items in
+    let r = c.start_at-start.ensures.reads.2 in
+    elim c.if-start.branch [
+      | then-start+in_ok-take_leaf+in-Further w ↦
+          let s = w.take_leaf.ensures.reads.2 in
+          rw (w.seat-is, w.top-is, w.pairs-is) (walk_since (same_since (reads_trans r s)) (walk_further (b.entry w.if-start.true) (reads_later s) w.in_ok-take_leaf.ensures.taken w.in-Further.is))
+      | else-start w ↦ rw (w.seat-is, w.top-is, w.pairs-is) (walk_since (same_since r) b.walk)
+    ]
+
+pub walk-requires-clause-floor : goal.walk-requires-clause-floor
+walk-requires-clause-floor g c =
+    let b = begun (range_of c.args.range.now) c.requires.way.1 c.deref.ensures.0 c.start_at-start.ensures.start c.truncate.ensures.items c.new-pairs.ensures.items in
+    let r = c.start_at-start.ensures.reads.2 in let m = since c.args.seat.now.known in let from = c.args.range.now.from.now in
+    elim c.if-start.branch [
+      | then-start+in_ok-take_leaf+in-Further w ↦
+          let s = w.take_leaf.ensures.reads.2 in
+          rw (w.seat-is, w.top-is) (floor_since m from (same_since (reads_trans r s)) (floor_later m from (reads_later s) (b.behind w.if-start.true)))
+      | else-start w ↦ rw (w.seat-is, w.top-is) (floor_since m from (same_since r) (b.floor w.if-start.false))
+    ]
+
+pub returns-clause-reads : goal.returns-clause-reads
+returns-clause-reads g c =
+    let r = c.start_at-start.ensures.reads in let few = r.1 in
+    let before : (n : ℕ) × (n ≤ 57) × Reads c.args.table.now g.G.Gate.becomes n (c.args.seat.now, c.args.gate.now) (c.if-start.seat, c.if-start.gate) = elim c.if-start.branch [
+      | then-start+in_ok-take_leaf+in-Further w ↦ rw (w.seat-is, w.gate-is) (reads_both r w.take_leaf.ensures.reads (omega arith))
+      | else-start w ↦ rw (w.seat-is, w.gate-is) (r.0, omega (arith, few), r.2)
+    ] in
+    reads_both before c.walk.ensures.reads (omega arith)

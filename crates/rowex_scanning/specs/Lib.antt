@@ -1,0 +1,3 @@
+-- The definitions of the crate.
+pub mod Scanning
+pub mod Counts

@@ -1,0 +1,327 @@
+//! The walk of a scan: the pairs of a range of keys, in the order of the keys, as a pinned pass reads them.
+
+ghost use Rattle.std.specs.Prelude.{◌≡◌, ◌≢◌, ◌≤◌, ◌<◌, ◌+◌, ℕ, [], IfOk, IsSome, IsTrue, false, length, take};
+ghost use Rattle.compound_node.specs.declared.entries.Entry.TheVariants.{Leaf as LeafEntry, Node as NodeEntry};
+ghost use Rattle.key_bits.specs.Key.{HoldsKey, IsKey};
+ghost use Rattle.record_words.specs.declared.TheConstants.{HEAD_WORDS, LEAF_FIELDS};
+ghost use Rattle.tries.specs.Keys.{IsAtMost, IsBefore};
+ghost use Rattle.rowex_table.specs.Seats.{IsSeatOf};
+ghost use Rattle.rowex_reading.specs.Possible.{IsPossible};
+ghost use Rattle.rowex_reading.specs.Reads.{IsReader, Looks, Reads, ReadsSome};
+ghost use Rattle.rowex_reading.specs.Seen.{IsAtRoot, IsLedTo, since};
+ghost use Rattle.rowex_reading.specs.Ways.{IsWayOf};
+ghost use Rattle.rowex_reading.specs.declared.descent.Found.TheVariants.{Leaf as FoundLeaf};
+ghost use Rattle.rowex_scanning.specs.Counts.{scan_loads, walk_loads};
+ghost use Rattle.rowex_scanning.specs.Scanning.{HasScanned, IsEntered, IsFloor, IsLeafTaken, IsNotBelow, IsPairTaken, IsStart, IsWalk, range_of};
+
+use arrayvec::ArrayVec;
+use compound_node::Entry;
+use hot_model::Scan;
+use insert_cases::{Step, choose, level_below};
+use key_bits::{Key, MAX_BYTES};
+use rowex_core::Gate;
+use rowex_reading::{
+    Found, MOST_NODES, load_entry, load_head, load_places, load_root, search_way, step_of,
+};
+use rowex_table::{HotTable, TableSeat};
+use std::alloc::{AllocError, Global};
+
+/// For how many pairs a scan makes room at its first pair, at most; later the room doubles. So a short scan asks for memory once,
+/// and one with few pairs and a great limit takes no more than 16 KiB.
+const FIRST_ROOM: usize = 64;
+
+/// What a scan asks for, and where it takes the memory for its pairs.
+#[derive(Drop)]
+pub struct Range<'a> {
+    /// Where the list of the pairs gets its memory.
+    pub alloc: Global,
+    /// The first key of the range, which belongs to it.
+    pub from: &'a Key,
+    /// The last key of the range, which belongs to it. Where it is before the first one, the range is empty.
+    pub upto: &'a Key,
+    /// How many pairs the scan gives at most.
+    pub limit: usize,
+}
+
+/// Where a scan starts on the way of the search for its first key.
+#[derive(Clone, Copy)]
+struct Start {
+    /// The level of the node in which it starts.
+    level: usize,
+    /// That node, with the place at which the scan starts.
+    top: Step,
+    /// Whether the leaf at which the search ended comes first. It stands at the place, and is not looked for there again: by
+    /// now there may be another entry, with keys below the range.
+    leaf: bool,
+}
+
+/// What becomes of a scan at a pair.
+#[derive(Clone, Copy)]
+enum Verdict {
+    /// It goes on.
+    Further,
+    /// The key is past the range.
+    Past,
+    /// The pair belongs to the range, and the limit is reached.
+    Full,
+}
+
+/// The scan of a pinned pass: the first pairs of the range, so many as the limit says, and whether there is a further one. An error
+/// where memory ends; the pass has made loads alone then too. The nodes of its way are left in `way`, which need not be empty.
+pub fn scan_root<G: Gate>(
+    table: &HotTable,
+    seat: &mut TableSeat,
+    gate: &mut G,
+    way: &mut ArrayVec<Step, MOST_NODES>,
+    range: &Range,
+) -> Result<Scan, AllocError>
+    requires own { IsSeatOf table.now seat.old }
+    requires pinned { IsSome seat.old.known.pin }
+    ensures looks { (n : ℕ) × Looks table.now G.becomes n (seat.old, gate.old) (seat.new, gate.new) }
+    ensures keys { IsKey range.now.from.now × IsKey range.now.upto.now }
+    ensures scanned { IfOk result (HasScanned seat.new.known (range_of range.now)) }
+    ensures few { seat.new.known.steps ≤ seat.old.known.steps + (1 + scan_loads range.now.limit) }
+{
+    if is_before(range.upto.as_bytes(), range.from.as_bytes()) {
+        load_root(table, seat, gate);
+        return Ok(nothing(range.alloc));
+    }
+    match search_way(table, seat, gate, range.from, way) {
+        Found::Nothing => Ok(nothing(range.alloc)),
+        Found::Leaf {
+            number,
+            mismatch,
+            ..
+        } => {
+            if way.len() == 0 {
+                scan_leaf(table, seat, gate, range, number)
+            } else {
+                scan_node(table, seat, gate, way, range, number, mismatch)
+            }
+        }
+    }
+}
+
+/// The scan from a root that is a leaf.
+fn scan_leaf<G: Gate>(
+    table: &HotTable,
+    seat: &mut TableSeat,
+    gate: &mut G,
+    range: &Range,
+    number: u32,
+) -> Result<Scan, AllocError>
+    requires reader { IsReader table.now seat.old }
+    requires root { IsAtRoot seat.old.known (LeafEntry number) }
+    ensures reads { (n : ℕ) × (n ≤ LEAF_FIELDS) × Reads table.now G.becomes n (seat.old, gate.old) (seat.new, gate.new) }
+    ensures scanned { IfOk result (HasScanned seat.new.known (range_of range.now)) }
+{
+    let mut places = [0; MAX_BYTES];
+    let (length, value) = load_places(table, seat, gate, number, &mut places);
+    if is_before(&places[..length], range.from.as_bytes()) {
+        return Ok(nothing(range.alloc));
+    }
+    let mut pairs = Vec::new(range.alloc);
+    match take_pair(&mut pairs, range, &places, length, value)? {
+        Verdict::Full => Ok(Scan { pairs, more: true }),
+        Verdict::Further | Verdict::Past => Ok(Scan { pairs, more: false }),
+    }
+}
+
+/// The scan from a root that is a node, below which the search for the range's first key has ended at this leaf.
+fn scan_node<G: Gate>(
+    table: &HotTable,
+    seat: &mut TableSeat,
+    gate: &mut G,
+    way: &mut ArrayVec<Step, MOST_NODES>,
+    range: &Range,
+    number: u32,
+    mismatch: Option<u16>,
+) -> Result<Scan, AllocError>
+    requires reader { IsReader table.now seat.old }
+    requires nodes { 0 < length way.old.items }
+    requires way { (v : ℕ) × IsWayOf table.now.layout seat.old.known (since seat.old.known) range.now.from.now way.old.items (FoundLeaf number v mismatch) }
+    ensures reads { (n : ℕ) × (n ≤ HEAD_WORDS + LEAF_FIELDS + walk_loads range.now.limit) × Reads table.now G.becomes n (seat.old, gate.old) (seat.new, gate.new) }
+    ensures scanned { IfOk result (HasScanned seat.new.known (range_of range.now)) }
+{
+    let start = start_at(table, seat, gate, way, range.from, number, mismatch);
+    let mut top = start.top;
+    way.truncate(start.level);
+    let mut pairs = Vec::new(range.alloc);
+    if start.leaf {
+        match take_leaf(table, seat, gate, range, number, &mut pairs)? {
+            Verdict::Further => top.at += 1,
+            Verdict::Past => return Ok(Scan { pairs, more: false }),
+            Verdict::Full => return Ok(Scan { pairs, more: true }),
+        }
+    }
+    walk(table, seat, gate, way, range, top, pairs)
+}
+
+/// Where a scan from a key starts on the way of the key's search, which ended at this leaf. The position at which the leaf's
+/// key differs first parts the range's first key from those of the entries that it affects, and these from all others: so the
+/// scan starts at the first of them, or behind the last.
+fn start_at<G: Gate>(
+    table: &HotTable,
+    seat: &mut TableSeat,
+    gate: &mut G,
+    way: &[Step],
+    from: &Key,
+    _number: u32,
+    mismatch: Option<u16>,
+) -> Start
+    requires reader { IsReader table.now seat.old }
+    requires nodes { 0 < length way.now }
+    requires way { (m v : ℕ) × IsWayOf table.now.layout seat.old.known m from.now way.now (FoundLeaf _number v mismatch) }
+    ensures reads { (n : ℕ) × (n ≤ HEAD_WORDS) × Reads table.now G.becomes n (seat.old, gate.old) (seat.new, gate.new) }
+    ensures start { (m v : ℕ) → IsWayOf table.now.layout seat.old.known m from.now way.now (FoundLeaf _number v mismatch) →
+        IsStart seat.new.known m from.now way.now _number result }
+{
+    let lowest = way.len() - 1;
+    let Some(position) = mismatch else {
+        return Start {
+            level: lowest,
+            top: way[lowest],
+            leaf: true,
+        };
+    };
+    let below = from.bit(position);
+    let level = level_below(way, position);
+    let head = load_head(table, seat, gate, way[level].number);
+    let (first, last) = head.affected(way[level].at, position);
+    let part = choose(way, level, first, last);
+    let mut top = way[part.level];
+    top.at = if below { part.last + 1 } else { part.first };
+    Start {
+        level: part.level,
+        top,
+        leaf: !below && part.first == part.last,
+    }
+}
+
+/// The walk over the places of the nodes on the way, from left to right, from the lowest of them on.
+fn walk<G: Gate>(
+    table: &HotTable,
+    seat: &mut TableSeat,
+    gate: &mut G,
+    way: &mut ArrayVec<Step, MOST_NODES>,
+    range: &Range,
+    lowest: Step,
+    taken: Vec<(Key, u64)>,
+) -> Result<Scan, AllocError>
+    requires reader { IsReader table.now seat.old }
+    requires walk { IsWalk seat.old.known (since seat.old.known) (range_of range.now) lowest way.old.items taken.items }
+    requires floor { IsFloor seat.old.known (since seat.old.known) range.now.from.now lowest way.old.items }
+    ensures reads { (n : ℕ) × (n ≤ walk_loads range.now.limit) × Reads table.now G.becomes n (seat.old, gate.old) (seat.new, gate.new) }
+    ensures scanned { IfOk result (HasScanned seat.new.known (range_of range.now)) }
+{
+    let mut top = lowest;
+    let mut pairs = taken;
+    loop {
+        if top.at < top.count {
+            match load_entry(table, seat, gate, top.number, top.at) {
+                Entry::Node { number, .. } => {
+                    way.push(top);
+                    top = enter(table, seat, gate, number);
+                }
+                Entry::Leaf(number) => {
+                    match take_leaf(table, seat, gate, range, number, &mut pairs)? {
+                        Verdict::Further => top.at += 1,
+                        Verdict::Past => return Ok(Scan { pairs, more: false }),
+                        Verdict::Full => return Ok(Scan { pairs, more: true }),
+                    }
+                }
+            }
+        } else {
+            match way.pop() {
+                Some(above) => {
+                    top = above;
+                    top.at += 1;
+                }
+                None => return Ok(Scan { pairs, more: false }),
+            }
+        }
+    }
+}
+
+/// Goes to a node: reads its head, and begins at its first place.
+fn enter<G: Gate>(table: &HotTable, seat: &mut TableSeat, gate: &mut G, number: u32) -> Step
+    requires reader { IsReader table.now seat.old }
+    requires led { (m h : ℕ) × IsLedTo seat.old.known m (NodeEntry number h) }
+    ensures reads { (n : ℕ) × (n ≤ HEAD_WORDS) × Reads table.now G.becomes n (seat.old, gate.old) (seat.new, gate.new) }
+    ensures entered { (m h : ℕ) → IsLedTo seat.old.known m (NodeEntry number h) → IsEntered seat.new.known m number h result }
+{
+    let head = load_head(table, seat, gate, number);
+    step_of(&head, number, 0)
+}
+
+/// Loads a leaf whose key is not below the range, and takes its pair. Inline, as the two that it calls are.
+#[inline(always)]
+fn take_leaf<G: Gate>(
+    table: &HotTable,
+    seat: &mut TableSeat,
+    gate: &mut G,
+    range: &Range,
+    number: u32,
+    pairs: &mut Vec<(Key, u64)>,
+) -> Result<Verdict, AllocError>
+    requires reader { IsReader table.now seat.old }
+    requires leaf { (m : ℕ) × IsLedTo seat.old.known m (LeafEntry number) × IsNotBelow table.now.layout seat.old.known m range.now.from.now number }
+    ensures reads { (n : ℕ) × (n ≤ LEAF_FIELDS) × Reads table.now G.becomes n (seat.old, gate.old) (seat.new, gate.new) }
+    ensures taken { IfOk result (IsLeafTaken seat.old.known seat.new.known (range_of range.now) number pairs.old.items pairs.new.items) }
+{
+    let mut places = [0; MAX_BYTES];
+    let (length, value) = load_places(table, seat, gate, number, &mut places);
+    take_pair(pairs, range, &places, length, value)
+}
+
+/// Takes a pair whose key is not below the range, if it belongs to the range and there is room for it. The key has these places.
+/// The first pair makes room for those that are asked for. Inline, and over places, so that the key is copied once: from where it
+/// was read to its place among the pairs.
+#[inline(always)]
+fn take_pair(
+    pairs: &mut Vec<(Key, u64)>,
+    range: &Range,
+    places: &[u8; MAX_BYTES],
+    length: usize,
+    value: u64,
+) -> Result<Verdict, AllocError>
+    requires places { HoldsKey places.now length }
+    requires above { IsAtMost range.now.from.now (take length places.now) }
+    ensures { IfOk result (IsPairTaken (range_of range.now) pairs.old.items (take length places.now) value pairs.new.items) }
+{
+    if is_before(range.upto.as_bytes(), &places[..length]) {
+        return Ok(Verdict::Past);
+    }
+    if pairs.len() == range.limit {
+        return Ok(Verdict::Full);
+    }
+    let more = if pairs.is_empty() {
+        range.limit.min(FIRST_ROOM)
+    } else {
+        1
+    };
+    pairs.reserve(more)?;
+    pairs.push_reserved((Key::of_places(*places, length), value));
+    Ok(Verdict::Further)
+}
+
+/// The scan of no pairs.
+fn nothing(alloc: Global) -> Scan
+    ensures pairs { result.pairs.items ≡ [] }
+    ensures more { result.more ≡ false }
+{
+    Scan {
+        pairs: Vec::new(alloc),
+        more: false,
+    }
+}
+
+/// Whether the key with the first bytes is before that with the second: their first different byte says what their first different
+/// bit does.
+fn is_before(first: &[u8], second: &[u8]) -> bool
+    requires keys { IsKey first.now × IsKey second.now }
+    ensures before { IsTrue result → IsBefore first.now second.now }
+    ensures at_most { result ≡ false → IsAtMost second.now first.now }
+{
+    first.cmp(second).is_lt()
+}
