@@ -77,7 +77,7 @@ later_apart : (e : List ℕ × ℕ) (es : Map) (key : List ℕ) → IsRising (e 
 later_apart e es key r h is = let none : value_at es key ≡ None = ap (value_at es) is ∙ none_below e.0 es (rising_head e es r) in let no = rw none at h in cc
 
 -- what holds of each pair holds of one that a look-up finds
-at_found : (P : List ℕ → ℕ → Type 0) (m : Map) (key : List ℕ) (value : ℕ) → All (λ e. P e.0 e.1) m → value_at m key ≡ Some value → P key value
+pub at_found : (P : List ℕ → ℕ → Type 0) (m : Map) (key : List ℕ) (value : ℕ) → All (λ e. P e.0 e.1) m → value_at m key ≡ Some value → P key value
 at_found P [] key value h found = cc
 at_found P (e ∷ es) key value h found = by (is_at (key_order key) e.0) refl found (at_found P es key value (All-tail (λ x. P x.0 x.1) e es h))
   where

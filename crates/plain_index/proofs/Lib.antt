@@ -5,3 +5,4 @@ pub mod Deciding
 pub mod InOrder
 pub mod Together
 pub mod AtOnce
+pub mod Gets

@@ -1,12 +1,13 @@
 -- The laws of histories, as the functions of the module `laws` promise them.
-use Rattle.std.specs.Prelude.{◌≡◌, ◌≢◌, ℕ, List, [], ◌++◌, All}
+use Rattle.std.specs.Prelude.{◌≡◌, ◌≢◌, ℕ, ◌≤◌, List, [], ◌++◌, All, length, take, true, IsTrue}
 use Rattle.hot_model.specs.declared.Change.{Change}
 use Rattle.hot_model.specs.declared.Note.{Note}
 use Rattle.hot_model.specs.declared.Scan.{Scan}
+use Rattle.hot_model.specs.Maps.{value_at}
 use Rattle.hot_model.specs.Fronts.{map_of, LegalFront, OthersGoOn}
 use Rattle.hot_model.specs.Calls.{LegalCalls, IsRun}
 use Rattle.hot_model.specs.Weaves.{LegalHistory, weave, notes_of, AllLegal, calls_of}
-use Rattle.hot_model.specs.Scans.{IsScanOf, IsLawfulScan}
+use Rattle.hot_model.specs.Scans.{is_within, IsScanOf, IsLawfulScan, IsUpToLast}
 use Rattle.plain_index.specs.Orders.{calls_in, AreWoven, CallsAreWoven}
 
 -- Calls that are legal in a front are legal in each legal front that goes on from it by changes of other passes alone.
@@ -51,3 +52,12 @@ StillScans =
 -- The legal calls of a pass that made all changes of the front are a run of the finite map, from the empty one on.
 abbrev pub Alone : Type 0
 Alone = (front : List Change) (q : ℕ) (notes : List Note) → LegalCalls front q notes → All (λ c. c.pass ≡ q) front → IsRun [] notes (map_of front)
+
+-- A lawful scan is a get of each key of its range, each at a moment of its own: between the scan's fronts there is one at which the
+-- map has the value of the key's pair, or, where the key has none, lacks the key. Where the scan ended at its limit, that is said
+-- of the keys up to the last pair's.
+abbrev pub ScanIsGets : Type 0
+ScanIsGets =
+    (before after : List Change) (from upto : List ℕ) (limit : ℕ) (scan : Scan) → IsLawfulScan before after from upto limit scan →
+    (key : List ℕ) → IsTrue (is_within from upto key) → (scan.more ≡ true → IsUpToLast scan.pairs.items key) →
+    (n : ℕ) × (length before ≤ n) × (n ≤ length after) × (value_at (map_of (take n after)) key ≡ value_at scan.pairs.items key)

@@ -1,5 +1,5 @@
 //! Laws of histories, over their definitions alone. The functions do nothing: their contracts are the laws.
-ghost use Rattle.plain_index.specs.Statements.{InOrder, Longer, Woven, WovenTwo, WovenInOrder, WovenInOrderTwo, ScansAtOnce, StillScans, Alone};
+ghost use Rattle.plain_index.specs.Statements.{InOrder, Longer, Woven, WovenTwo, WovenInOrder, WovenInOrderTwo, ScansAtOnce, StillScans, ScanIsGets, Alone};
 
 /// A pass's calls stay legal while other passes make changes.
 pub fn longer()
@@ -26,6 +26,11 @@ pub fn scans_at_once()
 /// A lawful scan while nothing changes gives the first pairs of the map's range.
 pub fn still_scans()
     ensures { StillScans }
+{}
+
+/// A lawful scan says of each key of its range what a get would have answered at some moment of the scan.
+pub fn scan_is_gets()
+    ensures { ScanIsGets }
 {}
 
 /// The legal calls of a pass that made all changes are a run of the finite map, one call after the other.
