@@ -1,14 +1,8 @@
--- The commands of lines, one line after another, and those of files.
+-- The commands of files, one file after another.
 use Rattle.std.proofs.Common.{◌≡◌, ℕ, List, [], ◌∷◌, ◌++◌, Result, Ok, Err, refl, ap, sym, append_assoc}
-use Rattle.hot_run.specs.declared.command.Command.{Command}
-use Rattle.hot_run.specs.declared.fault.Reason.{Reason}
-use Rattle.hot_run.specs.declared.fault.RunFault.{RunFault}
+use Rattle.hot_scripts.specs.declared.command.Command.{Command}
+use Rattle.hot_scripts.specs.declared.fault.RunFault.{RunFault}
 use Rattle.hot_run.specs.Scripts.{both_or_fault}
-
--- these commands before the others
-abbrev pub with_front : List Command → Result (List Command) (ℕ × Reason) → Result (List Command) (ℕ × Reason)
-with_front front (Ok commands) = Ok (front ++ commands)
-with_front front (Err bad) = Err bad
 
 -- these scripts before the others
 abbrev pub with_scripts : List (List Command) → Result (List (List Command)) RunFault → Result (List (List Command)) RunFault

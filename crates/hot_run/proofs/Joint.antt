@@ -14,9 +14,9 @@ use Rattle.hot_model.proofs.Growth.{begins_itself, begins_on, legal_front_part}
 use Rattle.hot_model.proofs.Legal.{legal_at_first, legal_longer}
 use Rattle.rowex_table.specs.Seats.{TableView}
 use Rattle.hot_index.specs.Passes.{PassView, AreByPasses, IsNewPass}
-use Rattle.hot_run.specs.declared.command.Command.{Command}
+use Rattle.hot_scripts.specs.declared.command.Command.{Command}
 use Rattle.hot_run.specs.declared.together.Done.{Done}
-use Rattle.hot_run.specs.Meaning.{line}
+use Rattle.hot_scripts.specs.Meaning.{line}
 use Rattle.hot_run.specs.Progress.{AllThree, HasRun, IsDone, IsFirst, MeetInTurn}
 use Rattle.hot_run.specs.Scripts.{AllFrom, IsLegalRun, LawfulAnswers, Ran, by_pass, commands_in, notes_in, sections, text_in}
 use Rattle.hot_run.proofs.Numbered.{AllFrom-append}

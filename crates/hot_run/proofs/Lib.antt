@@ -2,8 +2,6 @@
 pub mod Alone
 pub mod Answering
 pub mod Commands
-pub mod Cuts
 pub mod Joint
 pub mod Numbered
-pub mod Numbers
 pub mod Progressing

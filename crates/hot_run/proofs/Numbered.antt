@@ -4,7 +4,7 @@ use Rattle.std.specs.List.{All, AllZip, slice_get}
 use Rattle.std.proofs.lemmas.List.Elements.{All-nil, All-cons}
 use Rattle.hot_index.specs.Passes.{PassView, Owns}
 use Rattle.rowex_table.specs.Seats.{TableView}
-use Rattle.hot_run.specs.declared.command.Command.{Command}
+use Rattle.hot_scripts.specs.declared.command.Command.{Command}
 use Rattle.hot_run.specs.declared.together.Done.{Done}
 use Rattle.hot_run.specs.declared.together.Order.{Order}
 use Rattle.hot_run.specs.Progress.{AllThree, IsDone, IsFirst, IsOrderOf}

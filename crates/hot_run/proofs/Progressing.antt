@@ -15,12 +15,12 @@ use Rattle.hot_model.proofs.Legal.{place_after-within}
 use Rattle.record_words.specs.declared.layout.Layout.{Layout}
 use Rattle.hot_index.specs.Answers.{IsNoted, IsScanned, IsUnnoted}
 use Rattle.hot_index.specs.Passes.{PassView, AreByPasses}
-use Rattle.hot_run.specs.declared.command.Command.{Command}
-use Rattle.hot_run.specs.declared.command.Command.TheVariants.{Call as Asks, Scan as Lists}
-use Rattle.hot_run.specs.declared.command.Range.{Range}
+use Rattle.hot_scripts.specs.declared.command.Command.{Command}
+use Rattle.hot_scripts.specs.declared.command.Command.TheVariants.{Call as Asks, Scan as Lists}
+use Rattle.hot_scripts.specs.declared.command.Range.{Range}
 use Rattle.hot_run.specs.declared.engine.Answer.{Answer}
 use Rattle.hot_run.specs.declared.engine.Answer.TheVariants.{Reply, Full as Refused}
-use Rattle.hot_run.specs.Meaning.{line, scan_lines}
+use Rattle.hot_scripts.specs.Meaning.{line, scan_lines}
 use Rattle.hot_run.specs.Progress.{AreTold, HasRun, IsCalled, IsTold, answered_as}
 use Rattle.hot_run.specs.Runs.{answer_text}
 use Rattle.hot_run.specs.Scripts.{Answered, called, refused, listed, StandFrom, command_of, lines_of_answer, note_of}

@@ -8,7 +8,7 @@ use Rattle.record_words.specs.declared.layout.Layout.{Layout}
 use Rattle.rowex_table.specs.Seats.{TableView}
 use Rattle.hot_index.specs.Answers.{HaveMet, IsScanned, IsUnnoted}
 use Rattle.hot_index.specs.Passes.{PassView, AreByPasses, IsNewPass, Owns}
-use Rattle.hot_run.specs.declared.command.Command.{Command}
+use Rattle.hot_scripts.specs.declared.command.Command.{Command}
 use Rattle.hot_run.specs.declared.engine.Answer.{Answer}
 use Rattle.hot_run.specs.declared.engine.Answer.TheVariants.{Reply, Full as Refused}
 use Rattle.hot_run.specs.declared.together.Done.{Done}

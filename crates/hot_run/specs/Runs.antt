@@ -9,15 +9,15 @@ use Rattle.rowex_table.specs.Seats.{TableView}
 use Rattle.rowex_writing.specs.declared.plan.Full.{Full}
 use Rattle.rowex_writing.specs.declared.plan.Full.TheVariants.{Nodes, Leaves}
 use Rattle.hot_index.specs.Passes.{PassView, AreByPasses}
-use Rattle.hot_run.specs.declared.command.Command.{Command}
-use Rattle.hot_run.specs.declared.command.Command.TheVariants.{Call as Asks, Scan}
+use Rattle.hot_scripts.specs.declared.command.Command.{Command}
+use Rattle.hot_scripts.specs.declared.command.Command.TheVariants.{Call as Asks, Scan}
 use Rattle.hot_run.specs.declared.engine.Answer.{Answer}
 use Rattle.hot_run.specs.declared.engine.Answer.TheVariants.{Reply, Full as Refused}
-use Rattle.hot_run.specs.declared.fault.Reason.{Reason}
-use Rattle.hot_run.specs.declared.fault.RunFault.{RunFault}
-use Rattle.hot_run.specs.declared.fault.RunFault.TheVariants.{Read, Write, Memory, Script, Large}
-use Rattle.hot_run.specs.Grammar.{commands_of, most_bytes}
-use Rattle.hot_run.specs.Meaning.{line, reply_text, scan_text, script_meaning}
+use Rattle.hot_scripts.specs.declared.fault.Reason.{Reason}
+use Rattle.hot_scripts.specs.declared.fault.RunFault.{RunFault}
+use Rattle.hot_scripts.specs.declared.fault.RunFault.TheVariants.{Read, Write, Memory, Script, Large}
+use Rattle.hot_scripts.specs.Grammar.{commands_of, most_bytes}
+use Rattle.hot_scripts.specs.Meaning.{line, reply_text, scan_text, script_meaning}
 
 -- the records of this kind may all be taken when this call asks for one
 abbrev pub MayLack : Call → Full → Type 0
@@ -65,13 +65,6 @@ pub record IsAnswered (script text : List ℕ) : Type 0 where
 -- the script is all that a reader had left, and it has nothing left now
 abbrev pub TakesAll : Option (List ℕ) → Option (List ℕ) → List ℕ → Type 0
 TakesAll old new script = Consumes old new script × IsAtEnd new
-
--- a parse gave these commands or this bad line, unless memory was refused
-abbrev pub Parses : {Z : Type 0} → Result (Vec Command Z) RunFault → Result (List Command) (ℕ × Reason) → Type 0
-Parses (Ok commands) script = script ≡ Ok commands.items
-Parses (Err (Script number reason)) script = script ≡ Err (number, reason)
-Parses (Err Memory) script = Unit {0}
-Parses (Err _) script = ⊥
 
 -- a read failed, memory was refused, or more was read than a script may have
 abbrev pub IsReadFault : Option (List ℕ) → Option (List ℕ) → RunFault → Type 0

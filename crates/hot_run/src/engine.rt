@@ -6,10 +6,11 @@ ghost use Rattle.hot_index.specs.Passes.{Owns};
 ghost use Rattle.hot_run.specs.Runs.{MayLack};
 ghost use Rattle.hot_run.specs.Progress.{HasRun, IsTold, answered_as};
 
-use crate::answer::{push_answer, push_scan};
-use crate::command::Command;
+use crate::answer::push_answer;
 use hot_index::{Full, Gate, Index, Pass, TryFault};
 use hot_model::{Call, Reply};
+use hot_scripts::answer::push_scan;
+use hot_scripts::command::Command;
 use std::alloc::{AllocError, Global};
 use std::sync::Wait;
 use std::thread;

@@ -1,4 +1,4 @@
-//! Scripts of commands on an ordered index: their grammar, their answers and their run.
+//! Runs of scripts on an ordered index.
 #![tactic(auto)]
 
 ghost use Rattle.std.specs.Prelude.{◌≡◌, ◌≢◌, ◌+◌, ◌≤◌, List, ℕ, IfOk, OnOk, IfErr, length};
@@ -9,21 +9,17 @@ ghost use Rattle.hot_run.specs.Runs.{IsAnswered, TakesAll, MayEndBy};
 ghost use Rattle.hot_run.specs.Scripts.{AllFrom};
 
 mod answer;
-mod command;
 mod engine;
-mod fault;
-mod line;
-mod script;
 mod scripts;
 mod streams;
 mod together;
-mod word;
 
-pub use fault::{Reason, RunFault};
 use hot_index::{Index, IndexFault, NoGate, Pass, create};
+pub use hot_scripts::fault::{Reason, RunFault};
+pub use hot_scripts::script::{MAX_FILES, MAX_SCRIPT};
 pub use record_words::{MAX_LEAVES, MAX_NODES};
-pub use script::MAX_SCRIPT;
-pub use scripts::{MAX_FILES, run_scripts, run_scripts_with};
+pub use scripts::{run_scripts, run_scripts_with};
+use hot_scripts::script::parse;
 use std::alloc::Global;
 use std::io::{Read, Write};
 use std::sync::Wait;
@@ -53,7 +49,7 @@ pub fn run_one<T: Wait, R: Read, W: Write>(
     ensures nothing { IfErr result (λ fault. fault ≢ RunFault.Write → writer.new ≡ writer.old) }
 {
     let bytes = streams::read_script(alloc, reader)?;
-    let commands = script::parse(alloc, &bytes)?;
+    let commands = parse(alloc, &bytes)?;
     let (index, _, mut pass) = new_index(alloc, 0, nodes, leaves)?;
     let text = engine::run(rt, alloc, &index, &mut pass, commands, &mut NoGate)?;
     streams::write_answers(writer, text.as_str())

@@ -6,19 +6,16 @@ ghost use Rattle.record_words.specs.Limits.{IsLeafCount, IsNodeCount};
 ghost use Rattle.hot_run.specs.Runs.{TakesAll};
 ghost use Rattle.hot_run.specs.Scripts.{IsParsed, LawfulScripts, MayEndScriptsBy, commands_of_file, commands_of_files};
 
-use crate::command::Command;
-use crate::fault::RunFault;
-use crate::script::{MAX_SCRIPT, parse};
 use crate::streams::{read_script, write_answers};
 use crate::together::answer_all;
 use hot_index::{Gate, NoGate};
+use hot_scripts::command::Command;
+use hot_scripts::fault::RunFault;
+use hot_scripts::script::{MAX_FILES, MAX_SCRIPT, parse};
 use std::alloc::Global;
 use std::io::{Read, Write};
 use std::sync::Wait;
 use std::thread::Threads;
-
-/// The most files that a run may have.
-pub const MAX_FILES: usize = 63;
 
 /// Runs the scripts of these files, at most `MAX_FILES`, at the same time, each in a thread of its own, on a new index of so many
 /// node and leaf records; and then, when all of them have ended, the reader's. All of them are read and parsed before the first

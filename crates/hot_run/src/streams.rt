@@ -4,8 +4,8 @@ ghost use Rattle.std.specs.Prelude.{◌≡◌, ◌≤◌, IfOk, IfErr, OnOk, vec
 ghost use Rattle.std.specs.Io.KnownBytes.{Appends};
 ghost use Rattle.hot_run.specs.Runs.{TakesAll, IsReadFault};
 
-use crate::fault::RunFault;
-use crate::script::MAX_SCRIPT;
+use hot_scripts::fault::RunFault;
+use hot_scripts::script::MAX_SCRIPT;
 use std::alloc::Global;
 use std::io::{Read, Write};
 

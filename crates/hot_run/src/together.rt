@@ -3,16 +3,16 @@
 ghost use Rattle.std.specs.Prelude.{◌≡◌, ◌≤◌, All, IfOk, IfErr, length, map, string_bytes};
 ghost use Rattle.record_words.specs.Limits.{IsLeafCount, IsNodeCount};
 ghost use Rattle.hot_index.specs.Passes.{Owns};
-ghost use Rattle.hot_run.specs.declared.scripts.TheConstants.{MAX_FILES};
+ghost use Rattle.hot_scripts.specs.declared.script.TheConstants.{MAX_FILES};
 ghost use Rattle.hot_run.specs.Progress.{AllThree, AreReady, IsDone, IsOrderOf, MeetInTurn};
 ghost use Rattle.hot_run.specs.Scripts.{LawfulAnswers};
 
 use crate::answer::join_answers;
-use crate::command::Command;
 use crate::engine::run;
-use crate::fault::RunFault;
 use crate::new_index;
 use hot_index::{Gate, Index, NoGate, Pass};
+use hot_scripts::command::Command;
+use hot_scripts::fault::RunFault;
 use std::alloc::{AllocError, Global};
 use std::snapshot::Snapshot;
 use std::sync::Wait;

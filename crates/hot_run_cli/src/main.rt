@@ -1,12 +1,10 @@
 //! The program `hot-run`: answers the script on standard input, after those in files at the same time.
 #![tactic(auto)]
 
-mod arguments;
-mod ending;
 mod files;
 
-use crate::arguments::Request;
-use crate::ending::Ending;
+use hot_command_line::arguments::{Request, parse};
+use hot_command_line::ending::Ending;
 use hot_run::{RunFault, run_one, run_scripts};
 use std::alloc::AllocError;
 use std::io;
@@ -65,7 +63,7 @@ where
     R: Env + Files + Input + Print + AllocGlobal + Wait + Threads + Sync,
 {
     let words = words(rt)?;
-    let request = arguments::parse(rt.alloc(), &words)?;
+    let request = parse(rt.alloc(), &words)?;
     if request.files.is_empty() {
         answer_one(rt, &request)?;
     } else {

@@ -1,7 +1,7 @@
 //! Readers and writers that fail, scripts of the greatest length, and the texts of faults.
 
 ghost use Rattle.std.specs.Prelude.{◌≤◌, length};
-ghost use Rattle.hot_run.specs.declared.scripts.TheConstants.{MAX_FILES};
+ghost use Rattle.hot_scripts.specs.declared.script.TheConstants.{MAX_FILES};
 
 use hot_run::{MAX_FILES, MAX_SCRIPT, Reason, RunFault, run_one, run_scripts};
 use std::alloc::Global;

@@ -6,7 +6,7 @@
 
 ghost use Rattle.std.specs.Prelude.{◌≤◌, IfOk, IfSome, length};
 ghost use Rattle.record_words.specs.Limits.{IsLeafCount, IsNodeCount};
-ghost use Rattle.hot_run.specs.declared.scripts.TheConstants.{MAX_FILES};
+ghost use Rattle.hot_scripts.specs.declared.script.TheConstants.{MAX_FILES};
 
 use hot_run::{MAX_FILES, MAX_LEAVES, MAX_NODES, RunFault, run_one, run_scripts};
 use std::alloc::{AllocError, Global};

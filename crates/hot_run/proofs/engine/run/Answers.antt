@@ -2,8 +2,8 @@
 use Rattle.std.proofs.Common.{◌≡◌, [], ◌∷◌, ◌++◌, string_bytes, append_assoc, append-nil, arith, rules}
 use Rattle.std.specs.Vec.Iter.{into_iter_items}
 use Rattle.std.proofs.lemmas.List.{nil_from_length}
-use Rattle.hot_run.specs.declared.command.Command.TheVariants.{Call, Scan}
-use Rattle.hot_run.specs.Meaning.{line, scan_lines}
+use Rattle.hot_scripts.specs.declared.command.Command.TheVariants.{Call, Scan}
+use Rattle.hot_scripts.specs.Meaning.{line, scan_lines}
 use Rattle.hot_run.specs.Runs.{answer_text}
 use Rattle.hot_run.proofs.Progressing.{HasRun-none, HasRun-call, HasRun-scan}
 use Rattle.hot_run.proofs.engine.run.Goals as goal

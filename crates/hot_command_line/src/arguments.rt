@@ -1,0 +1,87 @@
+//! The command line.
+
+ghost use Rattle.std.specs.Prelude.{◌≡◌, ◌⊎◌, ◌≤◌, IfErr, length};
+ghost use Rattle.clap.specs.Words.{kind_of};
+ghost use Rattle.record_words.specs.Limits.{IsLeafCount, IsNodeCount};
+ghost use Rattle.hot_scripts.specs.declared.fault.RunFault.TheVariants.{Memory};
+ghost use Rattle.hot_command_line.specs.declared.ending.Ending.TheVariants.{Usage, Fault};
+ghost use Rattle.hot_command_line.specs.Endings.{ending_of};
+ghost use Rattle.hot_command_line.specs.Options.{IsArgument, IsCountOption};
+
+use crate::ending::Ending;
+use clap::error::ErrorKind;
+use clap::{Arg, ArgAction, Command, value_parser};
+use hot_scripts::fault::RunFault;
+use hot_scripts::script::MAX_FILES;
+use record_words::{MAX_LEAVES, MAX_NODES};
+use std::alloc::Global;
+
+/// What the command line asks for.
+#[derive(Drop)]
+pub struct Request<'a> {
+    /// How many node records the index may have.
+    pub nodes: u32,
+    /// How many leaf records it may have.
+    pub leaves: u32,
+    /// The names of the files that have scripts, in order.
+    pub files: Vec<&'a str>,
+    ghost nodes_fit: { IsNodeCount nodes },
+    ghost leaves_fit: { IsLeafCount leaves },
+    ghost files_fit: { length files.items ≤ 63 },
+}
+
+impl From<clap::Error> for Ending {
+    ghost from_gives = { λ error ending. ending ≡ ending_of (kind_of error) };
+
+    fn from(error: clap::Error) -> Ending {
+        if error.kind() == ErrorKind::OutOfMemory {
+            Ending::Fault(RunFault::Memory)
+        } else {
+            Ending::Usage
+        }
+    }
+}
+
+/// An option that takes a number from 1 to `most`.
+fn count_option<'a>(alloc: Global, name: &'a str, most: u32) -> Arg<'a>
+    ensures { IsCountOption name.now most result }
+{
+    Arg::new(alloc, name)
+        .long(name)
+        .action(ArgAction::Set)
+        .value_parser(value_parser!(u32).range(1..=i64::from(most)))
+}
+
+/// The words that are no options: any number of them.
+fn file_names<'a>(alloc: Global, name: &'a str) -> Arg<'a>
+    ensures { IsArgument name.now result }
+{
+    Arg::new(alloc, name).action(ArgAction::Append)
+}
+
+/// What the command line asks for: 4,096 nodes and 16,384 leaves where it doesn't say, and at most `MAX_FILES` files. It is
+/// refused by the usage line, or for want of memory.
+pub fn parse<'a>(alloc: Global, words: &'a [String]) -> Result<Request<'a>, Ending>
+    ensures { IfErr result (λ ending. (ending ≡ Usage) ⊎ (ending ≡ Fault Memory)) }
+{
+    let nodes = count_option(alloc, "nodes", MAX_NODES);
+    let leaves = count_option(alloc, "leaves", MAX_LEAVES);
+    let names = file_names(alloc, "FILE");
+    let command = Command::new(alloc, "hot-run")
+        .arg(nodes)?
+        .arg(leaves)?
+        .arg(names)?;
+    let matches = command.try_get_matches_from(words)?;
+    let nodes = matches.get_one::<u32>("nodes").unwrap_or(4096);
+    let leaves = matches.get_one::<u32>("leaves").unwrap_or(16_384);
+    let names = matches.get_strs("FILE").unwrap_or(&[]);
+    if names.len() > MAX_FILES {
+        return Err(Ending::Usage);
+    }
+    let files = Vec::from_slice(alloc, names)?;
+    Ok(Request {
+        nodes,
+        leaves,
+        files,
+    })
+}

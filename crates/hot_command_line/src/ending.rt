@@ -1,0 +1,58 @@
+//! How a run of the program ends without its answers.
+
+ghost use Rattle.std.specs.Prelude.{◌≡◌, Some};
+ghost use Rattle.hot_command_line.specs.Endings.{ending_text, status_of};
+ghost use Rattle.hot_command_line.specs.declared.ending.Ending.TheVariants.{Fault};
+ghost use Rattle.hot_scripts.specs.declared.fault.RunFault.TheVariants.{Memory};
+
+use hot_scripts::fault::RunFault;
+use std::alloc::AllocError;
+use std::fmt;
+
+/// What the program says in place of its answers.
+#[derive(Clone, Copy)]
+pub enum Ending {
+    /// The command line was refused.
+    Usage,
+    /// The run had a fault.
+    Fault(RunFault),
+}
+
+impl Ending {
+    /// The program's exit status: 1 where something outside failed, and 2 where what it was given is wrong.
+    pub fn status(self) -> u8
+        ensures { result ≡ status_of self }
+    {
+        match self {
+            Ending::Fault(RunFault::Read | RunFault::Write | RunFault::Memory) => 1,
+            _ => 2,
+        }
+    }
+}
+
+impl fmt::Display for Ending {
+    ghost output = { λ ending. Some (ending_text ending) };
+
+    fn fmt<W: fmt::Write>(&self, f: &mut fmt::Formatter<W>) -> fmt::Result {
+        match self {
+            Ending::Usage => write!(f, "usage: hot-run [--nodes N] [--leaves L] [FILE]..."),
+            Ending::Fault(fault) => write!(f, "{fault}"),
+        }
+    }
+}
+
+impl From<RunFault> for Ending {
+    ghost from_gives = { λ fault ending. ending ≡ Fault fault };
+
+    fn from(fault: RunFault) -> Ending {
+        Ending::Fault(fault)
+    }
+}
+
+impl From<AllocError> for Ending {
+    ghost from_gives = { λ _ ending. ending ≡ Fault Memory };
+
+    fn from(_error: AllocError) -> Ending {
+        Ending::Fault(RunFault::Memory)
+    }
+}

@@ -1,0 +1,4 @@
+-- The lemmas of the crate.
+pub mod Cuts
+pub mod Fronts
+pub mod Numbers

@@ -1,0 +1,20 @@
+-- The line that says why a run ended.
+use Rattle.std.specs.Prelude.{ℕ, ◌++◌, List, codes, decimal}
+use Rattle.hot_scripts.specs.declared.fault.Reason.{Reason}
+use Rattle.hot_scripts.specs.declared.fault.Reason.TheVariants.{Command, Key, Value, Limit}
+use Rattle.hot_scripts.specs.declared.fault.RunFault.{RunFault}
+use Rattle.hot_scripts.specs.declared.fault.RunFault.TheVariants.{Read, Write, Memory, Script, FileScript, Large}
+
+abbrev pub reason_text : Reason → List ℕ
+reason_text Command = codes "bad command"
+reason_text Key = codes "bad key"
+reason_text Value = codes "bad value"
+reason_text Limit = codes "bad limit"
+
+abbrev pub fault_text : RunFault → List ℕ
+fault_text Read = codes "read failed"
+fault_text Write = codes "write failed"
+fault_text Memory = codes "out of memory"
+fault_text (Script number reason) = codes "line " ++ decimal number ++ codes ": " ++ reason_text reason
+fault_text (FileScript file number reason) = codes "file " ++ decimal file ++ codes ": line " ++ decimal number ++ codes ": " ++ reason_text reason
+fault_text Large = codes "script too long"

@@ -1,0 +1,135 @@
+-- The grammar of a script: its lines, their words, and what a line asks for.
+use Rattle.std.specs.Prelude.{ℕ, ◌+◌, ◌^◌, ◌==◌, ◌&&◌, nat_lt, nat_le, Bool, List, [], ◌∷◌, length, map, filter_map, Option, Some, None, Result, Ok, Err, if◌then◌else◌, codes}
+use Rattle.std.specs.List.{slice_split, list_all}
+use Rattle.std.specs.Str.{bytes_eq}
+use Rattle.std.specs.Str.Parse.{digits_value}
+use Rattle.std.specs.Char.{is_ascii_digit}
+use Rattle.hex.specs.Hex.{decode_of}
+use Rattle.hex.specs.declared.error.FromHexError.{FromHexError}
+use Rattle.hot_model.specs.declared.Call.{Call}
+use Rattle.hot_model.specs.declared.Call.TheVariants.{Get, Remove, Insert, Upsert}
+use Rattle.hot_scripts.specs.declared.command.Command.{Command}
+use Rattle.hot_scripts.specs.declared.command.Command.TheVariants.{Call as Asks, Scan}
+use Rattle.hot_scripts.specs.declared.command.Version.{Version}
+use Rattle.hot_scripts.specs.declared.command.Version.TheVariants.{First, Second}
+use Rattle.hot_scripts.specs.declared.fault.Reason.{Reason}
+use Rattle.hot_scripts.specs.declared.fault.Reason.TheVariants as bad
+
+-- the first step's fault, or what the second makes of its value
+infixl 10 ◌>>=◌
+abbrev pub ◌>>=◌ : {A B : Type 0} → Result A Reason → (A → Result B Reason) → Result B Reason
+Ok x >>= f = f x
+Err e >>= f = Err e
+
+-- the most bytes that a script may have
+abbrev pub most_bytes : ℕ
+most_bytes = 1048576
+
+-- the lines of a script, each up to a line end; what follows the last line end is a line too, though it may be empty
+abbrev pub lines_of : List ℕ → List (List ℕ)
+lines_of script = slice_split (λ b. b == 10) script
+
+-- the words of a line, each up to a space; they may be empty
+abbrev pub words_of : List ℕ → List (List ℕ)
+words_of line = slice_split (λ b. b == 32) line
+
+-- what hexadecimal digits stand for, if they are such
+abbrev pub decoded : Result (List ℕ) FromHexError → Result (List ℕ) Reason
+decoded (Ok bytes) = Ok bytes
+decoded (Err e) = Err bad.Key
+
+-- how many digits a key may have
+abbrev pub most_digits : Version → ℕ
+most_digits First = 128
+most_digits Second = 480
+
+-- a key: a dash for the empty one, or two digits for each byte
+abbrev pub key_of : Version → List ℕ → Result (List ℕ) Reason
+key_of version word =
+    if bytes_eq word (codes "-") then Ok []
+    else if nat_le 2 (length word) && nat_le (length word) (most_digits version) then decoded (decode_of word)
+    else Err bad.Key
+
+-- 1 to 20 decimal digits
+abbrev pub is_number : List ℕ → Bool
+is_number word = nat_lt 0 (length word) && nat_le (length word) 20 && list_all is_ascii_digit word
+
+-- the number that such digits stand for, where it is below 2^64
+abbrev pub number_of : List ℕ → Option ℕ
+number_of word = if is_number word && nat_lt (digits_value 10 word) (2 ^ 64) then Some (digits_value 10 word) else None
+
+abbrev pub some_or : Reason → Option ℕ → Result ℕ Reason
+some_or reason (Some n) = Ok n
+some_or reason None = Err reason
+
+-- a value: any such number
+abbrev pub value_of : List ℕ → Result ℕ Reason
+value_of word = some_or bad.Value (number_of word)
+
+-- a limit: such a number from 1 to 1,000,000
+abbrev pub limit_of : List ℕ → Result ℕ Reason
+limit_of word = some_or bad.Limit (number_of word) >>= λ n. if nat_le 1 n && nat_le n 1000000 then Ok n else Err bad.Limit
+
+-- a call on a key
+abbrev pub with_key : Version → (List ℕ → Call) → List ℕ → Result Command Reason
+with_key version call key = key_of version key >>= λ k. Ok (Asks (call k))
+
+-- a call on a key and a value
+abbrev pub with_value : Version → (List ℕ → ℕ → Call) → List ℕ → List ℕ → Result Command Reason
+with_value version call key value = key_of version key >>= λ k. value_of value >>= λ v. Ok (Asks (call k v))
+
+-- a scan of a range
+abbrev pub with_range : Version → List ℕ → List ℕ → List ℕ → Result Command Reason
+with_range version from upto limit =
+    key_of version from >>= λ f. key_of version upto >>= λ u. limit_of limit >>= λ n. Ok (Scan (record { from = f; upto = u; limit = n }))
+
+-- The command of these words: a name, and as many words as it takes. Of several faults it is the first, that of the name and of the number of words before the others.
+abbrev pub command_of : Version → List (List ℕ) → Result Command Reason
+command_of version (name ∷ key ∷ []) =
+    if bytes_eq name (codes "get") then with_key version Get key
+    else if bytes_eq name (codes "remove") then with_key version Remove key
+    else Err bad.Command
+command_of version (name ∷ key ∷ value ∷ []) =
+    if bytes_eq name (codes "insert") then with_value version Insert key value
+    else if bytes_eq name (codes "upsert") then with_value version Upsert key value
+    else Err bad.Command
+command_of version (name ∷ from ∷ upto ∷ limit ∷ []) =
+    if bytes_eq name (codes "scan") then with_range version from upto limit
+    else Err bad.Command
+command_of version _ = Err bad.Command
+
+-- What a line asks for: nothing where it is empty or begins with #
+abbrev pub reading_of : Version → List ℕ → Result (Option Command) Reason
+reading_of version [] = Ok None
+reading_of version (b ∷ bs) = if b == 35 then Ok None else command_of version (words_of (b ∷ bs)) >>= λ c. Ok (Some c)
+
+-- What each line asks for. A first line `hot 2` asks for nothing, and says that the script is of the second version.
+abbrev pub readings_of : List (List ℕ) → List (Result (Option Command) Reason)
+readings_of [] = []
+readings_of (first ∷ rest) =
+    if bytes_eq first (codes "hot 2") then Ok None ∷ map (reading_of Second) rest
+    else map (reading_of First) (first ∷ rest)
+
+-- the commands of lines that are good
+abbrev pub asked : Result (Option Command) Reason → Option Command
+asked (Ok c) = c
+asked (Err reason) = None
+
+-- the number of the first bad line and its reason, the first of these lines having the number n
+abbrev pub first_bad : ℕ → List (Result (Option Command) Reason) → Option (ℕ × Reason)
+first_bad n [] = None
+first_bad n (Ok c ∷ readings) = first_bad (n + 1) readings
+first_bad n (Err reason ∷ readings) = Some (n, reason)
+
+-- the value, unless there is a fault
+abbrev pub unless_bad : {A : Type 0} → Option (ℕ × Reason) → A → Result A (ℕ × Reason)
+unless_bad (Some fault) x = Err fault
+unless_bad None x = Ok x
+
+-- the commands of lines, or the first bad one, the first of these lines having the number n
+abbrev pub commands_from : ℕ → List (Result (Option Command) Reason) → Result (List Command) (ℕ × Reason)
+commands_from n readings = unless_bad (first_bad n readings) (filter_map asked readings)
+
+-- the commands of a script, or its first bad line, counted from 1, and what is wrong with it
+abbrev pub commands_of : List ℕ → Result (List Command) (ℕ × Reason)
+commands_of script = commands_from 1 (readings_of (lines_of script))

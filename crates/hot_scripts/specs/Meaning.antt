@@ -1,0 +1,63 @@
+-- What a script means: the answers to its commands on a finite map, as lines.
+use Rattle.std.specs.Prelude.{ℕ, ◌++◌, List, [], ◌∷◌, length, flat_map, nat_lt, take, Bool, Result, Ok, Err, if◌then◌else◌, codes, decimal}
+use Rattle.hex.specs.Hex.{encode_lower}
+use Rattle.hot_model.specs.declared.Reply.{Reply}
+use Rattle.hot_model.specs.declared.Reply.TheVariants as reply
+use Rattle.hot_model.specs.Maps.{Map, map_after, reply_of}
+use Rattle.hot_model.specs.Scans.{range_of}
+use Rattle.hot_scripts.specs.declared.command.Command.{Command}
+use Rattle.hot_scripts.specs.declared.command.Command.TheVariants.{Call as Asks, Scan}
+use Rattle.hot_scripts.specs.declared.command.Range.{Range}
+use Rattle.hot_scripts.specs.declared.fault.RunFault.{RunFault}
+use Rattle.hot_scripts.specs.declared.fault.RunFault.TheVariants.{Script, Large}
+use Rattle.hot_scripts.specs.declared.fault.Reason.{Reason}
+use Rattle.hot_scripts.specs.Grammar.{commands_of, most_bytes}
+
+-- a text as a line, with its end
+abbrev pub line : List ℕ → List ℕ
+line text = text ++ 10 ∷ []
+
+-- a word, and a number in decimal digits without leading zeros
+abbrev pub with_number : List ℕ → ℕ → List ℕ
+with_number word n = word ++ decimal n
+
+-- a key in lower case digits, or a dash for the empty one
+abbrev pub key_text : List ℕ → List ℕ
+key_text [] = codes "-"
+key_text (b ∷ bytes) = encode_lower (b ∷ bytes)
+
+-- the answer to a call
+abbrev pub reply_text : Reply → List ℕ
+reply_text reply.Inserted = codes "inserted"
+reply_text (reply.Exists v) = with_number (codes "exists ") v
+reply_text reply.New = codes "new"
+reply_text (reply.Was v) = with_number (codes "was ") v
+reply_text (reply.Value v) = with_number (codes "value ") v
+reply_text reply.Absent = codes "none"
+reply_text (reply.Removed v) = with_number (codes "removed ") v
+
+abbrev pub pair_line : List ℕ × ℕ → List ℕ
+pair_line (key, value) = line (codes "pair " ++ key_text key ++ codes " " ++ decimal value)
+
+-- the answer to a scan: its pairs, and then how many they are, and whether there are more
+abbrev pub scan_lines : Map → Bool → List ℕ
+scan_lines pairs more = flat_map pair_line pairs ++ line (with_number (if more then codes "more " else codes "end ") (length pairs))
+
+-- a scan gives the first `limit` pairs of the map in the range
+abbrev pub scan_text : Map → Range → List ℕ
+scan_text m r =
+    let found = range_of m r.from r.upto in scan_lines (take r.limit found) (nat_lt r.limit (length found))
+
+-- the answers to commands, on the map as each finds it
+abbrev pub text_from : Map → List Command → List ℕ
+text_from m [] = []
+text_from m (Asks call ∷ commands) = line (reply_text (reply_of m call)) ++ text_from (map_after m call) commands
+text_from m (Scan range ∷ commands) = scan_text m range ++ text_from m commands
+
+abbrev pub text_or_fault : Result (List Command) (ℕ × Reason) → Result (List ℕ) RunFault
+text_or_fault (Ok commands) = Ok (text_from [] commands)
+text_or_fault (Err (number, reason)) = Err (Script number reason)
+
+-- What a script means: its answers, from the empty map on, or that it is too long, or else its first bad line.
+abbrev pub script_meaning : List ℕ → Result (List ℕ) RunFault
+script_meaning script = if nat_lt most_bytes (length script) then Err Large else text_or_fault (commands_of script)

@@ -1,0 +1,41 @@
+//! The commands of a script.
+
+ghost use Rattle.std.specs.Prelude.{◌≡◌};
+ghost use Rattle.hot_scripts.specs.Grammar.{most_digits};
+
+use hot_model::Call;
+use key_bits::Key;
+
+/// A range of keys, both ends inclusive, and the greatest number of pairs that are wanted.
+#[derive(Drop)]
+pub struct Range {
+    pub from: Key,
+    pub upto: Key,
+    pub limit: usize,
+}
+
+/// What one line of a script asks for.
+#[derive(Drop)]
+pub enum Command {
+    Call(Call),
+    Scan(Range),
+}
+
+/// The version of a script.
+#[derive(Clone, Copy)]
+pub enum Version {
+    First,
+    Second,
+}
+
+impl Version {
+    /// How many digits a key may have.
+    pub fn most_digits(self) -> usize
+        ensures { result ≡ most_digits self }
+    {
+        match self {
+            Version::First => 128,
+            Version::Second => 480,
+        }
+    }
+}

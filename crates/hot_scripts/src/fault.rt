@@ -1,0 +1,94 @@
+//! Why a run of a script ends without its answers.
+
+ghost use Rattle.std.specs.Prelude.{◌≡◌, Some};
+ghost use Rattle.hot_scripts.specs.declared.fault.RunFault.TheVariants.{Memory};
+ghost use Rattle.hot_scripts.specs.Faults.{reason_text, fault_text};
+
+use std::alloc::{AllocError, AllocFailed};
+use std::error::Error;
+use std::fmt;
+
+/// What is wrong with a line of a script.
+#[derive(Clone, Copy, Debug)]
+pub enum Reason {
+    /// An unknown first word, or a wrong number of words.
+    Command,
+    /// A word in the place of a key that is none.
+    Key,
+    /// A word in the place of a value that is none.
+    Value,
+    /// A word in the place of a limit that is none.
+    Limit,
+}
+
+/// Why a run ends without its answers.
+#[derive(Clone, Copy, Debug)]
+pub enum RunFault {
+    /// A read of a script failed.
+    Read,
+    /// A write of the answers failed.
+    Write,
+    /// Memory was refused.
+    Memory,
+    /// The script's first bad line, counted from 1.
+    Script {
+        line: u32,
+        reason: Reason,
+    },
+    /// The first bad line of a file, both counted from 1.
+    FileScript {
+        file: u32,
+        line: u32,
+        reason: Reason,
+    },
+    /// The script has more bytes than `MAX_SCRIPT`.
+    Large,
+}
+
+impl fmt::Display for Reason {
+    ghost output = { λ reason. Some (reason_text reason) };
+
+    fn fmt<W: fmt::Write>(&self, f: &mut fmt::Formatter<W>) -> fmt::Result {
+        match self {
+            Reason::Command => write!(f, "bad command"),
+            Reason::Key => write!(f, "bad key"),
+            Reason::Value => write!(f, "bad value"),
+            Reason::Limit => write!(f, "bad limit"),
+        }
+    }
+}
+
+impl fmt::Display for RunFault {
+    ghost output = { λ fault. Some (fault_text fault) };
+
+    fn fmt<W: fmt::Write>(&self, f: &mut fmt::Formatter<W>) -> fmt::Result {
+        match self {
+            RunFault::Read => write!(f, "read failed"),
+            RunFault::Write => write!(f, "write failed"),
+            RunFault::Memory => write!(f, "out of memory"),
+            RunFault::Script { line, reason } => write!(f, "line {line}: {reason}"),
+            RunFault::FileScript { file, line, reason } => {
+                write!(f, "file {file}: line {line}: {reason}")
+            }
+            RunFault::Large => write!(f, "script too long"),
+        }
+    }
+}
+
+impl Error for RunFault {}
+
+impl From<AllocError> for RunFault {
+    ghost from_gives = { λ _ fault. fault ≡ Memory };
+
+    fn from(_error: AllocError) -> RunFault {
+        RunFault::Memory
+    }
+}
+
+impl<T: Drop> From<AllocFailed<T>> for RunFault {
+    ghost from_gives = { λ _ fault. fault ≡ Memory };
+
+    fn from(_error: AllocFailed<T>) -> RunFault {
+        RunFault::Memory
+    }
+}

@@ -1,0 +1,9 @@
+//! Scripts of commands on an ordered map: their grammar, what they mean, and the texts of their answers and faults.
+#![tactic(auto)]
+
+pub mod answer;
+pub mod command;
+pub mod fault;
+mod line;
+pub mod script;
+mod word;

@@ -1,0 +1,136 @@
+//! One line of a script.
+
+ghost use Rattle.std.specs.Prelude.{◌≡◌, ◌≤◌, ◌==◌, [], ◌∷◌, length, position};
+ghost use Rattle.std.specs.List.{slice_split};
+ghost use Rattle.hot_scripts.specs.Grammar.{words_of, command_of, reading_of};
+ghost use Rattle.hot_scripts.specs.Words.{parts_left, text_len, AreWords};
+
+use crate::command::{Command, Range, Version};
+use crate::fault::Reason;
+use crate::word;
+use hot_model::Call;
+
+/// The place of the first separator.
+fn first_index(separator: u8, text: &[u8]) -> Option<usize>
+    ensures { result ≡ position (λ b. b == separator) text.now }
+{
+    text.iter().position(|byte| *byte == separator)
+}
+
+/// The text up to the first separator, and what follows that.
+pub fn cut(separator: u8, text: &[u8]) -> (&[u8], Option<&[u8]>)
+    ensures parts { slice_split (λ b. b == separator) text.now ≡ result.0.now ∷ parts_left separator result.1 }
+    ensures left { text_len result.1 ≤ length text.now }
+{
+    match first_index(separator, text) {
+        Some(at) => (&text[..at], Some(&text[at + 1..])),
+        None => (text, None),
+    }
+}
+
+/// The words of a line, where they are two, three or four.
+#[derive(Drop)]
+enum Words<'a> {
+    Two(&'a [u8], &'a [u8]),
+    Three(&'a [u8], &'a [u8], &'a [u8]),
+    Four(&'a [u8], &'a [u8], &'a [u8], &'a [u8]),
+    Other,
+}
+
+/// Cuts a line into its words.
+fn words_in(line: &[u8]) -> Words<'_>
+    ensures { AreWords result (words_of line.now) }
+{
+    let (name, rest) = cut(b' ', line);
+    let Some(rest) = rest else {
+        return Words::Other;
+    };
+    let (first, rest) = cut(b' ', rest);
+    let Some(rest) = rest else {
+        return Words::Two(name, first);
+    };
+    let (second, rest) = cut(b' ', rest);
+    let Some(rest) = rest else {
+        return Words::Three(name, first, second);
+    };
+    let (third, rest) = cut(b' ', rest);
+    match rest {
+        None => Words::Four(name, first, second, third),
+        Some(_) => Words::Other,
+    }
+}
+
+/// A command that takes a key.
+fn with_key(version: Version, name: &[u8], key: &[u8]) -> Result<Command, Reason>
+    ensures { result ≡ command_of version (name.now ∷ key.now ∷ []) }
+{
+    if name == b"get".as_slice() {
+        let key = word::key(version, key)?;
+        Ok(Command::Call(Call::Get(key)))
+    } else if name == b"remove".as_slice() {
+        let key = word::key(version, key)?;
+        Ok(Command::Call(Call::Remove(key)))
+    } else {
+        Err(Reason::Command)
+    }
+}
+
+/// A command that takes a key and a value.
+fn with_value(version: Version, name: &[u8], key: &[u8], value: &[u8]) -> Result<Command, Reason>
+    ensures { result ≡ command_of version (name.now ∷ key.now ∷ value.now ∷ []) }
+{
+    if name == b"insert".as_slice() {
+        let key = word::key(version, key)?;
+        let value = word::value(value)?;
+        Ok(Command::Call(Call::Insert(key, value)))
+    } else if name == b"upsert".as_slice() {
+        let key = word::key(version, key)?;
+        let value = word::value(value)?;
+        Ok(Command::Call(Call::Upsert(key, value)))
+    } else {
+        Err(Reason::Command)
+    }
+}
+
+/// A command that takes a range.
+fn with_range(
+    version: Version,
+    name: &[u8],
+    from: &[u8],
+    upto: &[u8],
+    limit: &[u8],
+) -> Result<Command, Reason>
+    ensures { result ≡ command_of version (name.now ∷ from.now ∷ upto.now ∷ limit.now ∷ []) }
+{
+    if name == b"scan".as_slice() {
+        let from = word::key(version, from)?;
+        let upto = word::key(version, upto)?;
+        let limit = word::limit(limit)?;
+        Ok(Command::Scan(Range { from, upto, limit }))
+    } else {
+        Err(Reason::Command)
+    }
+}
+
+/// The command of a line, or why it has none.
+fn command(version: Version, line: &[u8]) -> Result<Command, Reason>
+    ensures { result ≡ command_of version (words_of line.now) }
+{
+    match words_in(line) {
+        Words::Two(name, key) => with_key(version, name, key),
+        Words::Three(name, key, value) => with_value(version, name, key, value),
+        Words::Four(name, from, upto, limit) => with_range(version, name, from, upto, limit),
+        Words::Other => Err(Reason::Command),
+    }
+}
+
+/// What a line asks for: nothing where it is empty or a comment.
+pub fn reading(version: Version, line: &[u8]) -> Result<Option<Command>, Reason>
+    ensures { result ≡ reading_of version line.now }
+{
+    if line.is_empty() || line[0] == b'#' {
+        return Ok(None);
+    }
+    let command = command(version, line)?;
+    Ok(Some(command))
+}

@@ -1,0 +1,90 @@
+//! The words of a line that stand for keys and numbers.
+
+ghost use Rattle.std.specs.Prelude.{◌≡◌, ◌≤◌, length};
+ghost use Rattle.std.specs.List.{list_all};
+ghost use Rattle.std.specs.Char.{is_ascii_digit};
+ghost use Rattle.hot_scripts.specs.Grammar.{key_of, is_number, number_of, value_of, limit_of};
+
+use crate::command::Version;
+use crate::fault::Reason;
+use key_bits::{Key, MAX_BYTES};
+use std::str;
+
+/// The greatest number of digits in a number.
+const MAX_DIGITS: usize = 20;
+
+/// The greatest number of pairs that a scan may ask for.
+const MAX_LIMIT: u64 = 1_000_000;
+
+/// The key that a word stands for, in hexadecimal digits.
+pub fn key(version: Version, word: &[u8]) -> Result<Key, Reason>
+    ensures { result ≡ key_of version word.now }
+{
+    if word == b"-".as_slice() {
+        return from_bytes(&[]);
+    }
+    if word.len() < 2 || version.most_digits() < word.len() {
+        return Err(Reason::Key);
+    }
+    let mut room = [0u8; MAX_BYTES];
+    let bytes = &mut room[..word.len() / 2];
+    match hex::decode_to_slice(word, bytes) {
+        Ok(()) => from_bytes(bytes),
+        Err(_) => Err(Reason::Key),
+    }
+}
+
+/// The key of these bytes.
+fn from_bytes(bytes: &[u8]) -> Result<Key, Reason>
+    requires { length bytes.now ≤ MAX_BYTES }
+    ensures { result ≡ Ok bytes.now }
+{
+    match Key::from_bytes(bytes) {
+        Ok(key) => Ok(key),
+        Err(_) => Err(Reason::Key),
+    }
+}
+
+/// Whether a word is a number of decimal digits.
+fn is_number(word: &[u8]) -> bool
+    ensures { result ≡ is_number word.now }
+{
+    !word.is_empty() && word.len() <= MAX_DIGITS && are_digits(word)
+}
+
+/// Whether each byte is a decimal digit.
+fn are_digits(word: &[u8]) -> bool
+    ensures { result ≡ list_all is_ascii_digit word.now }
+{
+    word.iter().all(|byte| byte.is_ascii_digit())
+}
+
+/// The number that a word stands for.
+fn number(word: &[u8]) -> Option<u64>
+    ensures { result ≡ number_of word.now }
+{
+    if !is_number(word) {
+        return None;
+    }
+    match str::from_utf8(word) {
+        Ok(text) => text.parse().ok(),
+        Err(_) => None,
+    }
+}
+
+/// The value that a word stands for.
+pub fn value(word: &[u8]) -> Result<u64, Reason>
+    ensures { result ≡ value_of word.now }
+{
+    number(word).ok_or(Reason::Value)
+}
+
+/// The limit that a word stands for.
+pub fn limit(word: &[u8]) -> Result<usize, Reason>
+    ensures { result ≡ limit_of word.now }
+{
+    match number(word) {
+        Some(n) if 1 <= n && n <= MAX_LIMIT => Ok(n as usize),
+        _ => Err(Reason::Limit),
+    }
+}
