@@ -16,10 +16,10 @@ mod together;
 
 use hot_index::{Index, IndexFault, NoGate, Pass, create};
 pub use hot_scripts::fault::{Reason, RunFault};
+use hot_scripts::script::parse;
 pub use hot_scripts::script::{MAX_FILES, MAX_SCRIPT};
 pub use record_words::{MAX_LEAVES, MAX_NODES};
 pub use scripts::{run_scripts, run_scripts_with};
-use hot_scripts::script::parse;
 use std::alloc::Global;
 use std::io::{Read, Write};
 use std::sync::Wait;
