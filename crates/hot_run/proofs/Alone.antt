@@ -22,7 +22,8 @@ use Rattle.hot_index.specs.Passes.{PassView, AreByPasses, IsNewPass}
 use Rattle.hot_run.specs.declared.engine.Answer.TheVariants.{Reply, Full as Refused}
 use Rattle.hot_run.specs.Progress.{AreTold, IsCalled}
 use Rattle.hot_run.specs.Scripts.{Answered, called, refused, listed, command_of, lines_of_answer}
-use Rattle.hot_run.proofs.Answering.{Answers, Answers-none, Answers-call, Answers-scan}
+use Rattle.hot_run.specs.Runs.{Answers}
+use Rattle.hot_run.proofs.Answering.{Answers-none, Answers-call, Answers-scan}
 
 -- The index has one pass, and this is it: all that it knows of are its own changes, and its calls are legal.
 pub record IsAlone (index : TableView) (pass : PassView) : Type 0 where

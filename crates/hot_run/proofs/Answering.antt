@@ -14,19 +14,12 @@ use Rattle.hot_run.specs.declared.engine.Answer.{Answer}
 use Rattle.hot_run.specs.declared.engine.Answer.TheVariants.{Reply, Full as Refused}
 use Rattle.hot_scripts.specs.Grammar.{commands_of}
 use Rattle.hot_scripts.specs.Meaning.{line, reply_text, scan_lines, scan_text, script_meaning, text_from}
-use Rattle.hot_run.specs.Runs.{IsAnswered, MayBeTold, MayLack, Told, answer_text, full_text, text_told}
+use Rattle.hot_run.specs.Runs.{Answers, IsAnswered, MayBeTold, MayLack, Told, answer_text, full_text, text_told}
 
 -- an answer to a call is the map's reply, or that records were lacking, and then the map stays
 abbrev pub IsAnswer : Map → Call → Map → Answer → Type 0
 IsAnswer old call new (Reply reply) = (reply ≡ reply_of old call) × (new ≡ map_after old call)
 IsAnswer old call new (Refused full) = MayLack call full × (new ≡ old)
-
--- the text has the answers to the commands, each on the map that the earlier ones left, m at first
-pub record Answers (m : Map) (commands : List Command) (text : List ℕ) : Type 0 where
-  pub told : List Told
-  pub commands_are : map (λ t. t.0) told ≡ commands
-  pub refusals : All MayBeTold told
-  pub text_is : text ≡ text_told m told
 
 -- no command, no answer
 pub Answers-none : (m : Map) → Answers m [] []

@@ -5,3 +5,4 @@ pub mod Commands
 pub mod Joint
 pub mod Numbered
 pub mod Progressing
+pub mod Writing

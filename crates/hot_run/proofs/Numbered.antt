@@ -7,6 +7,7 @@ use Rattle.rowex_table.specs.Seats.{TableView}
 use Rattle.hot_scripts.specs.declared.command.Command.{Command}
 use Rattle.hot_run.specs.declared.together.Done.{Done}
 use Rattle.hot_run.specs.declared.together.Order.{Order}
+use Rattle.hot_scripts.specs.Parses.{script_commands}
 use Rattle.hot_run.specs.Progress.{AllThree, IsDone, IsFirst, IsOrderOf}
 use Rattle.hot_run.specs.Scripts.{AllFrom}
 
@@ -65,7 +66,7 @@ module _ (index : TableView) where
 
   -- the thread kept its order
   abbrev pub HasKeptTo : Order → Done → Type 0
-  HasKeptTo order done = IsDone order.index.value order.pass.value order.commands.value.items done
+  HasKeptTo order done = IsDone order.index.value order.pass.value (script_commands order.script.value) done
 
   -- what the threads did is what they were started for
   pub all_joined : (passes : List PassView) (scripts : List (List Command)) (orders : List Order) (done : List Done)

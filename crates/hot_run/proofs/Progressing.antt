@@ -21,7 +21,7 @@ use Rattle.hot_scripts.specs.declared.command.Range.{Range}
 use Rattle.hot_run.specs.declared.engine.Answer.{Answer}
 use Rattle.hot_run.specs.declared.engine.Answer.TheVariants.{Reply, Full as Refused}
 use Rattle.hot_scripts.specs.Meaning.{line, scan_lines}
-use Rattle.hot_run.specs.Progress.{AreTold, HasRun, IsCalled, IsTold, answered_as}
+use Rattle.hot_run.specs.Progress.{AreTold, HasAnswered, HasRun, IsCalled, IsTold, answered_as}
 use Rattle.hot_run.specs.Runs.{answer_text}
 use Rattle.hot_run.specs.Scripts.{Answered, called, refused, listed, StandFrom, command_of, lines_of_answer, note_of}
 
@@ -78,26 +78,47 @@ module _ (layout : Layout) where
   HasRun-none k = record { answers = []; commands_are = refl; text_is = refl; told = refl }
 
   module _ (k m j : PassView) (commands : List Command) (rest : List ℕ) (ran : HasRun layout m commands j rest) where
-    one_more : (answer : Answered) (command : Command) (lines : List ℕ) → IsTold layout k answer m
-        → command_of answer ≡ command → lines_of_answer answer ≡ lines
-        → HasRun layout k (command ∷ commands) j (lines ++ rest)
-    one_more answer command lines told asks says = record {
-      answers = answer ∷ ran.answers;
-      commands_are = ap₂ (λ c cs. c ∷ cs) asks ran.commands_are;
-      text_is = ap₂ (λ one more. one ++ more) (sym says) ran.text_is ∙ sym (flat_map-cons lines_of_answer answer ran.answers);
-      told = (m, told, ran.told);
-    }
+    -- a command, and then the others
+    pub HasRun-more : (command : Command) (before after : List ℕ) → HasAnswered layout k command m before after
+        → (lines : List ℕ) × (after ≡ before ++ lines) × HasRun layout k (command ∷ commands) j (lines ++ rest)
+    HasRun-more command before after is = (
+      lines_of_answer is.answer,
+      is.text_is,
+      record {
+        answers = is.answer ∷ ran.answers;
+        commands_are = ap₂ (λ c cs. c ∷ cs) is.command_is ran.commands_are;
+        text_is = ap (λ more. lines_of_answer is.answer ++ more) ran.text_is ∙ sym (flat_map-cons lines_of_answer is.answer ran.answers);
+        told = (m, is.told, ran.told);
+      },
+    )
 
-    -- a call, and then the other commands
-    pub HasRun-call : (call : Call) (answer : Answer) (place : ℕ) → IsTold layout k (answered_as call answer place) m
-        → HasRun layout k (Asks call ∷ commands) j (line (answer_text answer) ++ rest)
-    HasRun-call call (Reply reply) place told = one_more (called (record { place = place; call = call; reply = reply })) (Asks call) _ told refl refl
-    HasRun-call call (Refused full) place told = one_more (refused call full) (Asks call) _ told refl refl
+  -- a call that was answered so
+  pub HasAnswered-call : (k m : PassView) (call : Call) (answer : Answer) (place : ℕ) (before after : List ℕ)
+      → IsTold layout k (answered_as call answer place) m → after ≡ before ++ line (answer_text answer)
+      → HasAnswered layout k (Asks call) m before after
+  HasAnswered-call k m call (Reply reply) place before after told text = record {
+    answer = called (record { place = place; call = call; reply = reply });
+    command_is = refl;
+    told = told;
+    text_is = text;
+  }
+  HasAnswered-call k m call (Refused full) place before after told text = record {
+    answer = refused call full;
+    command_is = refl;
+    told = told;
+    text_is = text;
+  }
 
-    -- a scan, and then the other commands
-    pub HasRun-scan : (range : Range) (scan : Scan) → IsScanned layout k m range.from range.upto range.limit scan
-        → HasRun layout k (Lists range ∷ commands) j (scan_lines scan.pairs.items scan.more ++ rest)
-    HasRun-scan range scan told = one_more (listed range scan (length m.fresh.front) (length m.front)) (Lists range) _ (told, refl, refl) refl refl
+  -- a scan that was answered so
+  pub HasAnswered-scan : (k m : PassView) (range : Range) (scan : Scan) (before after : List ℕ)
+      → IsScanned layout k m range.from range.upto range.limit scan → after ≡ before ++ scan_lines scan.pairs.items scan.more
+      → HasAnswered layout k (Lists range) m before after
+  HasAnswered-scan k m range scan before after is text = record {
+    answer = listed range scan (length m.fresh.front) (length m.front);
+    command_is = refl;
+    told = (is, refl, refl);
+    text_is = text;
+  }
 
   -- Where answers stand
 

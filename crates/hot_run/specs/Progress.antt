@@ -9,6 +9,7 @@ use Rattle.rowex_table.specs.Seats.{TableView}
 use Rattle.hot_index.specs.Answers.{HaveMet, IsScanned, IsUnnoted}
 use Rattle.hot_index.specs.Passes.{PassView, AreByPasses, IsNewPass, Owns}
 use Rattle.hot_scripts.specs.declared.command.Command.{Command}
+use Rattle.hot_scripts.specs.Parses.{script_commands}
 use Rattle.hot_run.specs.declared.engine.Answer.{Answer}
 use Rattle.hot_run.specs.declared.engine.Answer.TheVariants.{Reply, Full as Refused}
 use Rattle.hot_run.specs.declared.together.Done.{Done}
@@ -42,6 +43,13 @@ abbrev pub answered_as : Call → Answer → ℕ → Answered
 answered_as call (Reply reply) place = called (record { place = place; call = call; reply = reply })
 answered_as call (Refused full) place = refused call full
 
+-- The pass was told the answer to this command, whose lines follow the text that stood before.
+pub record HasAnswered (layout : Layout) (k : PassView) (command : Command) (j : PassView) (before after : List ℕ) : Type 0 where
+  pub answer : Answered
+  pub command_is : command_of answer ≡ command
+  pub told : IsTold layout k answer j
+  pub text_is : after ≡ before ++ lines_of_answer answer
+
 -- The pass made these commands, one after another, and the text has the answers to them.
 pub record HasRun (layout : Layout) (k : PassView) (commands : List Command) (j : PassView) (text : List ℕ) : Type 0 where
   pub answers : List Answered
@@ -63,7 +71,7 @@ IsDone index pass commands done = Owns index done.pass × HasRun index.layout pa
 
 -- a thread was started for these commands of this pass
 abbrev pub IsOrderOf : TableView → PassView → List Command → Order → Type 0
-IsOrderOf index pass commands order = (order.index.value ≡ index) × (order.pass.value ≡ pass) × (order.commands.value.items ≡ commands)
+IsOrderOf index pass commands order = (order.index.value ≡ index) × (order.pass.value ≡ pass) × (script_commands order.script.value ≡ commands)
 
 -- R holds of the items of three lists, place by place
 abbrev pub AllThree : {A B C : Type 0} → (A → B → C → Type 0) → List A → List B → List C → Type 0

@@ -53,6 +53,13 @@ text_told m ((command, Some full) ∷ told) = line (full_text full) ++ text_told
 text_told m ((Asks call, None) ∷ told) = line (reply_text (reply_of m call)) ++ text_told (map_after m call) told
 text_told m ((Scan range, None) ∷ told) = scan_text m range ++ text_told m told
 
+-- the text has the answers to the commands, each on the map that the earlier ones left, m at first
+pub record Answers (m : Map) (commands : List Command) (text : List ℕ) : Type 0 where
+  pub told : List Told
+  pub commands_are : map (λ t. t.0) told ≡ commands
+  pub refusals : All MayBeTold told
+  pub text_is : text ≡ text_told m told
+
 -- The text answers the script, from the empty map on: it is what the script means, if no command was refused.
 pub record IsAnswered (script text : List ℕ) : Type 0 where
   pub short : length script ≤ most_bytes

@@ -1,8 +1,8 @@
 //! The lines of the answers.
 
-ghost use Rattle.std.specs.Prelude.{◌≡◌, ◌≤◌, ◌++◌, IfOk, OnOk, codes, length, map, string_bytes};
+ghost use Rattle.std.specs.Prelude.{◌≡◌, ◌≤◌, ◌++◌, IfOk, OnOk, codes, flat_map, length, map, string_bytes};
 ghost use Rattle.hot_scripts.specs.declared.script.TheConstants.{MAX_FILES};
-ghost use Rattle.hot_scripts.specs.Meaning.{line};
+ghost use Rattle.hot_scripts.specs.Meaning.{line, with_number};
 ghost use Rattle.hot_run.specs.Runs.{answer_text};
 ghost use Rattle.hot_run.specs.Scripts.{sections};
 
@@ -23,20 +23,34 @@ pub fn push_answer(text: &mut String, answer: Answer) -> Result<(), AllocError>
     }
 }
 
-/// The answers to scripts of files, each below its heading, and then those to the last script.
-pub fn join_answers(alloc: Global, files: Vec<Done>, last: String) -> Result<String, AllocError>
+/// The answers to the file of this number, below its heading, behind the texts that stand before.
+fn push_section(
+    alloc: Global,
+    texts: &mut Vec<String>,
+    number: u32,
+    text: String,
+) -> Result<(), AllocError>
+    ensures { OnOk result (flat_map string_bytes texts.new.items
+        ≡ flat_map string_bytes texts.old.items ++ line (with_number (codes "file ") number) ++ string_bytes text) }
+{
+    texts.push(format!(in alloc; "file {number}\n")?)?;
+    texts.push(text)?;
+    Ok(())
+}
+
+/// The answers to scripts of files, each below its heading, and then those to the last script: texts that follow one another.
+pub fn sections(alloc: Global, files: Vec<Done>, last: String) -> Result<Vec<String>, AllocError>
     requires { length files.items ≤ MAX_FILES }
-    ensures { IfOk result (λ text. string_bytes text
+    ensures { IfOk result (λ texts. flat_map string_bytes texts.items
         ≡ sections 1 (map (λ f. string_bytes f.text) files.items) ++ line (codes "last") ++ string_bytes last) }
 {
-    let mut text = String::new(alloc);
+    let mut texts = Vec::new(alloc);
     let mut number = 1u32;
     for file in files {
-        write!(text, "file {number}\n")?;
-        text.push_str(file.text.as_str())?;
+        push_section(alloc, &mut texts, number, file.text)?;
         number += 1;
     }
-    text.push_str("last\n")?;
-    text.push_str(last.as_str())?;
-    Ok(text)
+    texts.push(format!(in alloc; "last\n")?)?;
+    texts.push(last)?;
+    Ok(texts)
 }

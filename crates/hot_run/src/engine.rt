@@ -1,16 +1,18 @@
 //! What answers the commands of a script: a pass of an index.
 
-ghost use Rattle.std.specs.Prelude.{◌≡◌, ℕ, Err, IfOk, MatchResult, string_bytes};
+ghost use Rattle.std.specs.Prelude.{◌≡◌, ℕ, Err, IfOk, OnOk, MatchResult, string_bytes};
 ghost use Rattle.hot_index.specs.Answers.{IsNoted, IsRefused, fault_of, got};
 ghost use Rattle.hot_index.specs.Passes.{Owns};
+ghost use Rattle.hot_scripts.specs.Parses.{script_commands};
 ghost use Rattle.hot_run.specs.Runs.{MayLack};
-ghost use Rattle.hot_run.specs.Progress.{HasRun, IsTold, answered_as};
+ghost use Rattle.hot_run.specs.Progress.{HasAnswered, HasRun, IsTold, answered_as};
 
 use crate::answer::push_answer;
 use hot_index::{Full, Gate, Index, Pass, TryFault};
 use hot_model::{Call, Reply};
 use hot_scripts::answer::push_scan;
-use hot_scripts::command::Command;
+use hot_scripts::command::{Command, Range};
+use hot_scripts::script::Script;
 use std::alloc::{AllocError, Global};
 use std::sync::Wait;
 use std::thread;
@@ -77,38 +79,63 @@ fn make_call<T: Wait, G: Gate>(
     unreachable!()
 }
 
-/// Makes the commands one after another, with a gate that is told each of their steps, and gives their answers.
+/// Makes a scan, and ends the text by its lines.
+fn answer_scan<G: Gate>(
+    alloc: Global,
+    index: &Index,
+    pass: &mut Pass,
+    range: &Range,
+    gate: &mut G,
+    text: &mut String,
+) -> Result<(), AllocError>
+    requires { Owns index.now pass.old }
+    ensures own { Owns index.now pass.new }
+    ensures answered { OnOk result (HasAnswered index.now.layout pass.old (Command.Scan range.now) pass.new (string_bytes text.old) (string_bytes text.new)) }
+{
+    let scan = index.scan_with(alloc, pass, &range.from, &range.upto, range.limit, gate)?;
+    push_scan(alloc, text, &scan)
+}
+
+/// Makes a command, and ends the text by the lines of its answer.
+fn answer_command<T: Wait, G: Gate>(
+    rt: &T,
+    alloc: Global,
+    index: &Index,
+    pass: &mut Pass,
+    command: &Command,
+    gate: &mut G,
+    text: &mut String,
+) -> Result<(), AllocError>
+    requires { Owns index.now pass.old }
+    ensures own { Owns index.now pass.new }
+    ensures answered { OnOk result (HasAnswered index.now.layout pass.old command.now pass.new (string_bytes text.old) (string_bytes text.new)) }
+{
+    match command {
+        Command::Call(call) => {
+            let answer = make_call(rt, index, pass, call, gate);
+            push_answer(text, answer)
+        }
+        Command::Scan(range) => answer_scan(alloc, index, pass, range, gate, text),
+    }
+}
+
+/// Makes the commands of a script one after another, with a gate that is told each of their steps, and gives their answers.
 pub fn run<T: Wait, G: Gate>(
     rt: &T,
     alloc: Global,
     index: &Index,
     pass: &mut Pass,
-    commands: Vec<Command>,
+    script: &Script,
     gate: &mut G,
 ) -> Result<String, AllocError>
     requires { Owns index.now pass.old }
     ensures own { Owns index.now pass.new }
-    ensures ran { IfOk result (λ text. HasRun index.now.layout pass.old commands.items pass.new (string_bytes text)) }
+    ensures ran { IfOk result (λ text. HasRun index.now.layout pass.old (script_commands script.now) pass.new (string_bytes text)) }
 {
     let mut text = String::new(alloc);
-    for command in commands {
-        match command {
-            Command::Call(call) => {
-                let answer = make_call(rt, index, pass, &call, gate);
-                push_answer(&mut text, answer)?;
-            }
-            Command::Scan(range) => {
-                let scan = index.scan_with(
-                    alloc,
-                    pass,
-                    &range.from,
-                    &range.upto,
-                    range.limit,
-                    gate,
-                )?;
-                push_scan(alloc, &mut text, &scan)?;
-            }
-        }
+    let mut commands = script.commands();
+    while let Some(command) = commands.next_command() {
+        answer_command(rt, alloc, index, pass, &command, gate, &mut text)?;
     }
     Ok(text)
 }

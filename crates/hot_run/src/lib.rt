@@ -1,11 +1,12 @@
 //! Runs of scripts on an ordered index.
 #![tactic(auto)]
 
-ghost use Rattle.std.specs.Prelude.{◌≡◌, ◌≢◌, ◌+◌, ◌≤◌, List, ℕ, IfOk, OnOk, IfErr, length};
+ghost use Rattle.std.specs.Prelude.{◌≡◌, ◌≢◌, ◌+◌, ◌≤◌, List, ℕ, [], IfOk, OnOk, IfErr, length, string_bytes};
 ghost use Rattle.std.specs.Io.KnownBytes.{Appends};
 ghost use Rattle.record_words.specs.Limits.{IsLeafCount, IsNodeCount};
+ghost use Rattle.hot_scripts.specs.Parses.{script_commands};
 ghost use Rattle.hot_run.specs.Progress.{IsFirst};
-ghost use Rattle.hot_run.specs.Runs.{IsAnswered, TakesAll, MayEndBy};
+ghost use Rattle.hot_run.specs.Runs.{Answers, IsAnswered, TakesAll, MayEndBy};
 ghost use Rattle.hot_run.specs.Scripts.{AllFrom};
 
 mod answer;
@@ -16,7 +17,7 @@ mod together;
 
 use hot_index::{Index, IndexFault, NoGate, Pass, create};
 pub use hot_scripts::fault::{Reason, RunFault};
-use hot_scripts::script::parse;
+use hot_scripts::script::Script;
 pub use hot_scripts::script::{MAX_FILES, MAX_SCRIPT};
 pub use record_words::{MAX_LEAVES, MAX_NODES};
 pub use scripts::{run_scripts, run_scripts_with};
@@ -49,10 +50,27 @@ pub fn run_one<T: Wait, R: Read, W: Write>(
     ensures nothing { IfErr result (λ fault. fault ≢ RunFault.Write → writer.new ≡ writer.old) }
 {
     let bytes = streams::read_script(alloc, reader)?;
-    let commands = parse(alloc, &bytes)?;
-    let (index, _, mut pass) = new_index(alloc, 0, nodes, leaves)?;
-    let text = engine::run(rt, alloc, &index, &mut pass, commands, &mut NoGate)?;
+    let script = Script::parse(bytes)?;
+    let text = answer_one(rt, alloc, nodes, leaves, &script)?;
     streams::write_answers(writer, text.as_str())
+}
+
+/// Answers one script on a new index.
+fn answer_one<T: Wait>(
+    rt: &T,
+    alloc: Global,
+    nodes: u32,
+    leaves: u32,
+    script: &Script,
+) -> Result<String, RunFault>
+    requires nodes { IsNodeCount nodes }
+    requires leaves { IsLeafCount leaves }
+    ensures ok { IfOk result (λ text. Answers [] (script_commands script.now) (string_bytes text)) }
+    ensures fault { IfErr result (λ fault. fault ≡ RunFault.Memory) }
+{
+    let (index, _, mut pass) = new_index(alloc, 0, nodes, leaves)?;
+    let text = engine::run(rt, alloc, &index, &mut pass, script, &mut NoGate)?;
+    Ok(text)
 }
 
 /// An empty index, the passes for so many files, in the order of their numbers from 0 on, and the pass of the last script.

@@ -3,15 +3,15 @@
 ghost use Rattle.std.specs.Prelude.{◌≡◌, ◌≢◌, ◌≤◌, List, ℕ, IfOk, OnOk, IfErr, length, map};
 ghost use Rattle.std.specs.Io.KnownBytes.{Appends};
 ghost use Rattle.record_words.specs.Limits.{IsLeafCount, IsNodeCount};
+ghost use Rattle.hot_scripts.specs.Parses.{script_commands};
 ghost use Rattle.hot_run.specs.Runs.{TakesAll};
 ghost use Rattle.hot_run.specs.Scripts.{IsParsed, LawfulScripts, MayEndScriptsBy, commands_of_file, commands_of_files};
 
-use crate::streams::{read_script, write_answers};
+use crate::streams::{read_script, write_sections};
 use crate::together::answer_all;
 use hot_index::{Gate, NoGate};
-use hot_scripts::command::Command;
 use hot_scripts::fault::RunFault;
-use hot_scripts::script::{MAX_FILES, MAX_SCRIPT, parse};
+use hot_scripts::script::{MAX_FILES, MAX_SCRIPT, Script};
 use std::alloc::Global;
 use std::io::{Read, Write};
 use std::sync::Wait;
@@ -81,34 +81,34 @@ pub fn run_scripts_with<T: Threads + Wait + Sync, G: Gate + Send + Drop, R: Read
 {
     let scripts = parse_files(alloc, files)?;
     let bytes = read_script(alloc, reader)?;
-    let last = parse(alloc, &bytes)?;
-    let text = answer_all(rt, alloc, nodes, leaves, scripts, gates, last)?;
-    write_answers(writer, text.as_str())
+    let last = Script::parse(bytes)?;
+    let texts = answer_all(rt, alloc, nodes, leaves, scripts, gates, &last)?;
+    write_sections(writer, &texts)
 }
 
-/// The commands of each file, or the fault of the first that has one.
-fn parse_files(alloc: Global, files: Vec<Vec<u8>>) -> Result<Vec<Vec<Command>>, RunFault>
+/// The scripts of the files, or the fault of the first that has one.
+fn parse_files(alloc: Global, files: Vec<Vec<u8>>) -> Result<Vec<Script>, RunFault>
     requires { length files.items ≤ MAX_FILES }
     ensures count { IfOk result (λ v. length v.items ≡ length files.items) }
-    ensures parsed { IsParsed (λ v. map (λ s. s.items) v.items) result (commands_of_files 1 (map (λ f. f.items) files.items)) }
+    ensures parsed { IsParsed (λ v. map script_commands v.items) result (commands_of_files 1 (map (λ f. f.items) files.items)) }
 {
     let mut scripts = Vec::new(alloc);
     let mut number = 1u32;
     for file in files {
-        scripts.push(parse_file(alloc, number, &file)?)?;
+        scripts.push(parse_file(number, file)?)?;
         number += 1;
     }
     Ok(scripts)
 }
 
-/// The commands of the file of this number, or its fault.
-fn parse_file(alloc: Global, number: u32, file: &[u8]) -> Result<Vec<Command>, RunFault>
-    ensures { IsParsed (λ s. s.items) result (commands_of_file number file.now) }
+/// The script of the file of this number, or its fault.
+fn parse_file(number: u32, file: Vec<u8>) -> Result<Script, RunFault>
+    ensures { IsParsed script_commands result (commands_of_file number file.items) }
 {
     if file.len() > MAX_SCRIPT {
         return Err(RunFault::Large);
     }
-    match parse(alloc, file) {
+    match Script::parse(file) {
         Err(RunFault::Script { line, reason }) => {
             Err(RunFault::FileScript {
                 file: number,

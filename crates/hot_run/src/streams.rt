@@ -1,7 +1,7 @@
 //! What a run reads and writes.
 
-ghost use Rattle.std.specs.Prelude.{◌≡◌, ◌≤◌, IfOk, IfErr, OnOk, vec_len};
-ghost use Rattle.std.specs.Io.KnownBytes.{Appends};
+ghost use Rattle.std.specs.Prelude.{◌≡◌, ◌≤◌, IfOk, IfErr, OnOk, flat_map, string_bytes, vec_len};
+ghost use Rattle.std.specs.Io.KnownBytes.{Appends, Keeps};
 ghost use Rattle.hot_run.specs.Runs.{TakesAll, IsReadFault};
 
 use hot_scripts::fault::RunFault;
@@ -31,17 +31,44 @@ pub fn read_script<R: Read>(alloc: Global, reader: &mut R) -> Result<Vec<u8>, Ru
     Err(RunFault::Large)
 }
 
+/// Writes a text.
+fn write_text<W: Write>(writer: &mut W, text: &str) -> Result<(), RunFault>
+    ensures ok { OnOk result (Appends (W.contents writer.old) (W.contents writer.new) text.now) }
+    ensures fault { IfErr result (λ fault. fault ≡ RunFault.Write) }
+{
+    match writer.write_all(text.as_bytes()) {
+        Ok(()) => Ok(()),
+        Err(_) => Err(RunFault::Write),
+    }
+}
+
+/// Sees that what was written has arrived.
+fn flush<W: Write>(writer: &mut W) -> Result<(), RunFault>
+    ensures ok { OnOk result (Keeps (W.contents writer.old) (W.contents writer.new)) }
+    ensures fault { IfErr result (λ fault. fault ≡ RunFault.Write) }
+{
+    match writer.flush() {
+        Ok(()) => Ok(()),
+        Err(_) => Err(RunFault::Write),
+    }
+}
+
 /// Writes the answers.
 pub fn write_answers<W: Write>(writer: &mut W, text: &str) -> Result<(), RunFault>
     ensures ok { OnOk result (Appends (W.contents writer.old) (W.contents writer.new) text.now) }
     ensures fault { IfErr result (λ fault. fault ≡ RunFault.Write) }
 {
-    match writer.write_all(text.as_bytes()) {
-        Ok(()) => {}
-        Err(_) => return Err(RunFault::Write),
+    write_text(writer, text)?;
+    flush(writer)
+}
+
+/// Writes texts, one after another.
+pub fn write_sections<W: Write>(writer: &mut W, texts: &[String]) -> Result<(), RunFault>
+    ensures ok { OnOk result (Appends (W.contents writer.old) (W.contents writer.new) (flat_map string_bytes texts.now)) }
+    ensures fault { IfErr result (λ fault. fault ≡ RunFault.Write) }
+{
+    for text in texts {
+        write_text(writer, text.as_str())?;
     }
-    match writer.flush() {
-        Ok(()) => Ok(()),
-        Err(_) => Err(RunFault::Write),
-    }
+    flush(writer)
 }

@@ -1,18 +1,19 @@
 //! Scripts that run at the same time: a thread and a pass for each, and the meetings of their passes.
 
-ghost use Rattle.std.specs.Prelude.{◌≡◌, ◌≤◌, All, IfOk, IfErr, length, map, string_bytes};
+ghost use Rattle.std.specs.Prelude.{◌≡◌, ◌≤◌, All, IfOk, IfErr, flat_map, length, map, string_bytes};
 ghost use Rattle.record_words.specs.Limits.{IsLeafCount, IsNodeCount};
 ghost use Rattle.hot_index.specs.Passes.{Owns};
 ghost use Rattle.hot_scripts.specs.declared.script.TheConstants.{MAX_FILES};
+ghost use Rattle.hot_scripts.specs.Parses.{script_commands};
 ghost use Rattle.hot_run.specs.Progress.{AllThree, AreReady, IsDone, IsOrderOf, MeetInTurn};
 ghost use Rattle.hot_run.specs.Scripts.{LawfulAnswers};
 
-use crate::answer::join_answers;
+use crate::answer::sections;
 use crate::engine::run;
 use crate::new_index;
 use hot_index::{Gate, Index, NoGate, Pass};
-use hot_scripts::command::Command;
 use hot_scripts::fault::RunFault;
+use hot_scripts::script::Script;
 use std::alloc::{AllocError, Global};
 use std::snapshot::Snapshot;
 use std::sync::Wait;
@@ -30,14 +31,15 @@ pub struct Done {
 struct Order {
     index: Snapshot<Index>,
     pass: Snapshot<Pass>,
-    commands: Snapshot<Vec<Command>>,
+    script: Snapshot<Script>,
 }
 
 impl Promise<Result<Done, AllocError>> for Order {
     ghost use Rattle.std.specs.Prelude.{IfOk};
+    ghost use Rattle.hot_scripts.specs.Parses.{script_commands};
     ghost use Rattle.hot_run.specs.Progress.{IsDone};
 
-    ghost kept_by = { λ order result. IfOk result (IsDone order.index.value order.pass.value order.commands.value.items) };
+    ghost kept_by = { λ order result. IfOk result (IsDone order.index.value order.pass.value (script_commands order.script.value)) };
 }
 
 /// Answers the scripts of files, each in a thread of its own, and then the last one.
@@ -46,15 +48,15 @@ pub fn answer_all<T: Threads + Wait + Sync, G: Gate + Send + Drop>(
     alloc: Global,
     nodes: u32,
     leaves: u32,
-    scripts: Vec<Vec<Command>>,
+    scripts: Vec<Script>,
     gates: Vec<G>,
-    last: Vec<Command>,
-) -> Result<String, RunFault>
+    last: &Script,
+) -> Result<Vec<String>, RunFault>
     requires nodes { IsNodeCount nodes }
     requires leaves { IsLeafCount leaves }
     requires few { length scripts.items ≤ MAX_FILES }
     requires gates { length gates.items ≡ length scripts.items }
-    ensures ok { IfOk result (λ text. LawfulAnswers (map (λ s. s.items) scripts.items) last.items (string_bytes text)) }
+    ensures ok { IfOk result (λ texts. LawfulAnswers (map script_commands scripts.items) (script_commands last.now) (flat_map string_bytes texts.items)) }
     ensures fault { IfErr result (λ fault. fault ≡ RunFault.Memory) }
 {
     let (index, passes, pass) = new_index(alloc, scripts.len() as u32, nodes, leaves)?;
@@ -62,8 +64,8 @@ pub fn answer_all<T: Threads + Wait + Sync, G: Gate + Send + Drop>(
     let (mut pass, met) = meet_all(alloc, &index, pass, ran)?;
     let text = run(rt, alloc, &index, &mut pass, last, &mut NoGate)?;
     let (_, again) = meet_all(alloc, &index, pass, met)?;
-    let all = join_answers(alloc, again, text)?;
-    Ok(all)
+    let texts = sections(alloc, again, text)?;
+    Ok(texts)
 }
 
 /// Runs each script in a thread with its own pass and gate, all at the same time, and joins them.
@@ -72,20 +74,20 @@ fn run_files<T: Threads + Wait + Sync, G: Gate + Send + Drop>(
     alloc: Global,
     index: &Index,
     passes: Vec<Pass>,
-    scripts: Vec<Vec<Command>>,
+    scripts: Vec<Script>,
     gates: Vec<G>,
 ) -> Result<Vec<Done>, AllocError>
     requires own { All (Owns index.now) passes.items }
     requires scripts { length scripts.items ≡ length passes.items }
     requires gates { length gates.items ≡ length passes.items }
-    ensures { IfOk result (λ done. AllThree (IsDone index.now) passes.items (map (λ s. s.items) scripts.items) done.items) }
+    ensures { IfOk result (λ done. AllThree (IsDone index.now) passes.items (map script_commands scripts.items) done.items) }
 {
     scope(
         scope_env(),
         rt,
         |threads| -> Result<Vec<Done>, AllocError>
             requires { AreReady index.now passes.items scripts.items gates.items }
-            ensures { IfOk result (λ done. AllThree (IsDone index.entry.now) passes.items (map (λ s. s.items) scripts.items) done.items) }
+            ensures { IfOk result (λ done. AllThree (IsDone index.entry.now) passes.items (map script_commands scripts.items) done.items) }
         { run_within(threads, rt, alloc, index, passes, scripts, gates) },
     )
 }
@@ -97,20 +99,20 @@ fn run_within<'s, E, T: Threads + Wait + Sync + 's, G: Gate + Send + Drop + 's>(
     alloc: Global,
     index: &'s Index,
     passes: Vec<Pass>,
-    scripts: Vec<Vec<Command>>,
+    scripts: Vec<Script>,
     gates: Vec<G>,
 ) -> Result<Vec<Done>, AllocError>
     requires { AreReady index.now passes.items scripts.items gates.items }
-    ensures { IfOk result (λ done. AllThree (IsDone index.now) passes.items (map (λ s. s.items) scripts.items) done.items) }
+    ensures { IfOk result (λ done. AllThree (IsDone index.now) passes.items (map script_commands scripts.items) done.items) }
 {
     let mut scripts = scripts.into_iter();
     let mut gates = gates.into_iter();
     let mut running = Vec::new(alloc);
     for pass in passes {
-        let (Some(commands), Some(gate)) = (scripts.next(), gates.next()) else {
+        let (Some(script), Some(gate)) = (scripts.next(), gates.next()) else {
             unreachable!();
         };
-        running.push(start(threads, rt, alloc, index, pass, commands, gate)?)?;
+        running.push(start(threads, rt, alloc, index, pass, script, gate)?)?;
     }
     let mut done = Vec::new(alloc);
     for thread in running {
@@ -126,23 +128,23 @@ fn start<'s, E, T: Threads + Wait + Sync + 's, G: Gate + Send + Drop + 's>(
     alloc: Global,
     index: &'s Index,
     pass: Pass,
-    commands: Vec<Command>,
+    script: Script,
     gate: G,
 ) -> Result<PromisedHandle<Result<Done, AllocError>, Order>, AllocError>
     requires { Owns index.now pass }
-    ensures { IfOk result (λ thread. IsOrderOf index.now pass commands.items thread.promise) }
+    ensures { IfOk result (λ thread. IsOrderOf index.now pass (script_commands script) thread.promise) }
 {
     let order = Order {
         index: Snapshot::of(index),
         pass: Snapshot::of(&pass),
-        commands: Snapshot::of(&commands),
+        script: Snapshot::of(&script),
     };
     let thread = threads.spawn_with(
         order,
         move || -> Result<Done, AllocError>
             requires { Owns index.now pass }
-            ensures { IfOk result (IsDone index.entry.now pass commands.items) }
-        { run_file(rt, alloc, index, pass, commands, gate) },
+            ensures { IfOk result (IsDone index.entry.now pass (script_commands script)) }
+        { run_file(rt, alloc, index, pass, script, gate) },
     )?;
     Ok(thread)
 }
@@ -153,14 +155,14 @@ fn run_file<T: Wait, G: Gate + Drop>(
     alloc: Global,
     index: &Index,
     pass: Pass,
-    commands: Vec<Command>,
+    script: Script,
     gate: G,
 ) -> Result<Done, AllocError>
     requires { Owns index.now pass }
-    ensures { IfOk result (IsDone index.now pass commands.items) }
+    ensures { IfOk result (IsDone index.now pass (script_commands script)) }
 {
     let (mut pass, mut gate) = (pass, gate);
-    let text = run(rt, alloc, index, &mut pass, commands, &mut gate)?;
+    let text = run(rt, alloc, index, &mut pass, &script, &mut gate)?;
     Ok(Done { pass, text })
 }
 

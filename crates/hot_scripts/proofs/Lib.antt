@@ -1,4 +1,3 @@
 -- The lemmas of the crate.
 pub mod Cuts
-pub mod Fronts
 pub mod Numbers

@@ -1,13 +1,39 @@
--- What a parse of a script gives.
-use Rattle.std.specs.Prelude.{◌≡◌, ℕ, List, Result, Ok, Err, Vec}
+-- A script that was parsed, and its commands that are left.
+use Rattle.std.specs.Prelude.{◌≡◌, ℕ, ◌+◌, ◌≤◌, List, [], ◌∷◌, length, map, filter_map, Option, Some, None, Result, Ok, Err}
 use Rattle.hot_scripts.specs.declared.command.Command.{Command}
 use Rattle.hot_scripts.specs.declared.fault.Reason.{Reason}
 use Rattle.hot_scripts.specs.declared.fault.RunFault.{RunFault}
-use Rattle.hot_scripts.specs.declared.fault.RunFault.TheVariants.{Memory, Script}
+use Rattle.hot_scripts.specs.declared.fault.RunFault.TheVariants.{Script as Bad}
+use Rattle.hot_scripts.specs.declared.script.Commands.{Commands}
+use Rattle.hot_scripts.specs.declared.script.Script.{Script}
+use Rattle.hot_scripts.specs.Grammar.{asked, first_bad, lines_of, reading_of, readings_of}
+use Rattle.hot_scripts.specs.Words.{parts_left, text_len}
 
--- a parse gave these commands or this bad line, unless memory was refused
-abbrev pub Parses : {Z : Type 0} → Result (Vec Command Z) RunFault → Result (List Command) (ℕ × Reason) → Type 0
-Parses (Ok commands) script = script ≡ Ok commands.items
-Parses (Err (Script number reason)) script = script ≡ Err (number, reason)
-Parses (Err Memory) script = Unit {0}
-Parses (Err _) script = ⊥
+-- the commands of a script's good lines
+abbrev pub script_commands : Script → List Command
+script_commands script = filter_map asked (readings_of (lines_of script.text.items))
+
+-- a parse gave a script of these commands, or this bad line
+abbrev pub Parses : Result Script RunFault → Result (List Command) (ℕ × Reason) → Type 0
+Parses (Ok script) parsed = parsed ≡ Ok (script_commands script)
+Parses (Err (Bad number reason)) parsed = parsed ≡ Err (number, reason)
+Parses (Err _) parsed = ⊥
+
+-- what each line that is left asks for
+abbrev pub readings_left : Commands → List (Result (Option Command) Reason)
+readings_left commands = map (reading_of commands.version) (parts_left 10 commands.left)
+
+-- the commands that are left
+abbrev pub commands_left : Commands → List Command
+commands_left commands = filter_map asked (readings_left commands)
+
+-- of these commands the first was given, if there was one, and those are left
+abbrev pub Gives : List Command → Option Command → List Command → Type 0
+Gives before None after = before ≡ []
+Gives before (Some command) after = before ≡ command ∷ after
+
+-- The lines from the number `first` on ask for what the script's lines ask for, and the lines before them for nothing.
+pub record IsOpening (script : List ℕ) (first : ℕ) (commands : Commands) : Type 0 where
+  pub bad : first_bad 1 (readings_of (lines_of script)) ≡ first_bad first (readings_left commands)
+  pub asks : filter_map asked (readings_of (lines_of script)) ≡ commands_left commands
+  pub small : first + text_len commands.left ≤ length script + 2

@@ -5,6 +5,7 @@ use Rattle.std.specs.Vec.Iter.{into_iter_items}
 use Rattle.std.proofs.lemmas.List.{map-append, nil_from_length}
 use Rattle.std.proofs.lemmas.List.Elements.{All-rest}
 use Rattle.hot_index.specs.Passes.{Owns}
+use Rattle.hot_scripts.specs.Parses.{script_commands}
 use Rattle.hot_run.specs.Progress.{AllThree, IsOrderOf}
 use Rattle.hot_run.proofs.Numbered.{HasKeptTo, all_joined}
 use Rattle.hot_run.proofs.together.run_within.Goals as goal
@@ -13,8 +14,8 @@ pub loop-pass-preserved : goal.loop-pass-preserved
 loop-pass-preserved g c =
     let index = c.args.index.now in
     let left : into_iter_items c.loop-pass.pass-iterator ≡ c.in-Some.pass ∷ into_iter_items c.next.new.self = c.in-Some.ensures.steps.0 in
-    let commands = c.in-Some-Some.commands in
-    let scripts : into_iter_items c.loop-pass.scripts ≡ commands ∷ into_iter_items c.next-in-loop-pass.new.self = c.in-Some-Some.ensures.items in
+    let script = c.in-Some-Some.script in
+    let scripts : into_iter_items c.loop-pass.scripts ≡ script ∷ into_iter_items c.next-in-loop-pass.new.self = c.in-Some-Some.ensures.items in
     let gates : into_iter_items c.loop-pass.gates ≡ c.in-Some-Some.gate ∷ into_iter_items c.next-in-loop-pass-2.new.self = c.in-Some-Some.ensures'.items in
     let thread = c.in_ok-start.field-0 in
     let pushed : c.push.new.self.items ≡ c.loop-pass.running.items ++ thread ∷ [] = c.in_ok-push.ensures.items in
@@ -25,7 +26,7 @@ loop-pass-preserved g c =
       gates = omega (arith, was.gates, ap length left, ap length gates);
       completes = λ rest others.
           let whole : AllThree (IsOrderOf index) (c.in-Some.pass ∷ into_iter_items c.next.new.self)
-          (commands.items ∷ map (λ s. s.items) (into_iter_items c.next-in-loop-pass.new.self)) (thread.promise ∷ rest) = (c.in_ok-start.ensures, others) in
+          (script_commands script ∷ map script_commands (into_iter_items c.next-in-loop-pass.new.self)) (thread.promise ∷ rest) = (c.in_ok-start.ensures, others) in
           rw (pushed, map-append, append_assoc) (was.completes (thread.promise ∷ rest) (rw (left, scripts) whole));
     }
 
@@ -39,7 +40,7 @@ loop-thread-init g c = λ rest kept.
     let same : into_iter_items c.into_iter-thread-iterator.result ≡ c.loop-pass.running.items = c.into_iter-thread-iterator.ensures.into_iter_gives.0 in
     let empty : c.new-done.result.items ≡ [] = c.new-done.ensures.items in
     rw empty
-    (all_joined c.args.index.now c.args.passes.items (map (λ s. s.items) c.args.scripts.items) (map (λ t. t.promise) c.loop-pass.running.items) rest orders
+    (all_joined c.args.index.now c.args.passes.items (map script_commands c.args.scripts.items) (map (λ t. t.promise) c.loop-pass.running.items) rest orders
     (rw same at kept))
 
 pub returns : goal.returns

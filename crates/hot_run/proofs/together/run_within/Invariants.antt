@@ -5,6 +5,7 @@ use Rattle.std.specs.Vec.Iter.{into_iter_items}
 use Rattle.hot_index.specs.Passes.{Owns}
 use Rattle.hot_run.specs.declared.together.Done.{Done}
 use Rattle.hot_run.specs.declared.together.Order.{Order}
+use Rattle.hot_scripts.specs.Parses.{script_commands}
 use Rattle.hot_run.specs.Progress.{AllThree, IsDone, IsOrderOf}
 use Rattle.hot_run.proofs.Numbered.{HasKeptTo}
 use Rattle.hot_run.proofs.together.run_within.Given as goal
@@ -15,12 +16,12 @@ invariant-loop-pass g l = record {
   own : All (Owns l.index) (into_iter_items l.pass-iterator);
   scripts : length (into_iter_items l.scripts) ≡ length (into_iter_items l.pass-iterator);
   gates : length (into_iter_items l.gates) ≡ length (into_iter_items l.pass-iterator);
-  completes : (rest : List Order) → AllThree (IsOrderOf l.index) (into_iter_items l.pass-iterator) (map (λ s. s.items) (into_iter_items l.scripts)) rest
-      → AllThree (IsOrderOf l.index) l.fn.passes.items (map (λ s. s.items) l.fn.scripts.items) (map (λ t. t.promise) l.running.items ++ rest);
+  completes : (rest : List Order) → AllThree (IsOrderOf l.index) (into_iter_items l.pass-iterator) (map script_commands (into_iter_items l.scripts)) rest
+      → AllThree (IsOrderOf l.index) l.fn.passes.items (map script_commands l.fn.scripts.items) (map (λ t. t.promise) l.running.items ++ rest);
 }
 
 -- what the threads that are left will have done completes what was done
 abbrev pub invariant-loop-thread : goal.invariant-loop-thread
 invariant-loop-thread g l =
     (rest : List Done) → AllZip (HasKeptTo l.index) (map (λ t. t.promise) (into_iter_items l.thread-iterator)) rest
-    → AllThree (IsDone l.index) l.fn.passes.items (map (λ s. s.items) l.fn.scripts.items) (l.done.items ++ rest)
+    → AllThree (IsDone l.index) l.fn.passes.items (map script_commands l.fn.scripts.items) (l.done.items ++ rest)
