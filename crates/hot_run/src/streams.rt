@@ -7,12 +7,12 @@ ghost use Rattle.hot_run.specs.Runs.{TakesAll, IsReadFault};
 use hot_scripts::fault::RunFault;
 use hot_scripts::script::MAX_SCRIPT;
 use std::alloc::Global;
-use std::io::{Read, Write};
+use std::io::{ErrorKind, Read, Write};
 
 /// How many bytes one read asks for.
 const CHUNK: usize = 4096;
 
-/// The whole script.
+/// The whole script. A read that was interrupted is made again.
 pub fn read_script<R: Read>(alloc: Global, reader: &mut R) -> Result<Vec<u8>, RunFault>
     ensures whole { IfOk result (λ script. TakesAll (R.remaining reader.old) (R.remaining reader.new) script.items) }
     ensures short { IfOk result (λ script. vec_len script ≤ MAX_SCRIPT) }
@@ -20,15 +20,19 @@ pub fn read_script<R: Read>(alloc: Global, reader: &mut R) -> Result<Vec<u8>, Ru
 {
     let mut bytes = Vec::new(alloc);
     let mut chunk = [0u8; CHUNK];
-    while bytes.len() <= MAX_SCRIPT {
+    for _ in 0..u64::MAX {
+        if bytes.len() > MAX_SCRIPT {
+            return Err(RunFault::Large);
+        }
         let room = CHUNK.min(MAX_SCRIPT + 1 - bytes.len());
         match reader.read(&mut chunk[..room]) {
             Ok(0) => return Ok(bytes),
             Ok(count) => bytes.extend_from_slice(&chunk[..count])?,
+            Err(error) if error.kind() == ErrorKind::Interrupted => {}
             Err(_) => return Err(RunFault::Read),
         }
     }
-    Err(RunFault::Large)
+    Err(RunFault::Read)
 }
 
 /// Writes a text.
