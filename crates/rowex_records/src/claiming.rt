@@ -81,7 +81,8 @@ pub fn claim_numbered<G: Gate>(
     number: u32,
 ) -> bool
     requires own { IsSeatOf table.now seat.old }
-    ensures missed { result ≡ false → MissesNumber table.now G.becomes (record_of kind) (count_of kind table.now.layout) number (seat.old, gate.old) (seat.new, gate.new) }
+    ensures missed { result ≡ false →
+        MissesNumber table.now G.becomes (record_of kind) (count_of kind table.now.layout) number (seat.old, gate.old) (seat.new, gate.new) }
     ensures claimed { result ≡ true → (number < count_of kind table.now.layout) ×
         ClaimsOne table.now G.becomes (record_of kind number) (seat.old, gate.old) (seat.new, gate.new) }
 {

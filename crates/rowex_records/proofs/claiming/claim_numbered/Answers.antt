@@ -1,6 +1,4 @@
 -- The record is one of the table's, and was claimed.
-use Rattle.std.proofs.Common.{arith, ◌<◌}
-use Rattle.rowex_records.specs.Claims.{count_of}
 use Rattle.rowex_records.proofs.claiming.claim_numbered.Goals as goal
 
 pub returns-clause-claimed : goal.returns-clause-claimed
