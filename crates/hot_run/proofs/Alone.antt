@@ -114,7 +114,7 @@ module _ (index : TableView) where
   told_alone k j h (called note ∷ answers) (m, c, rest) =
       Answers-call _ _ note.call (Reply note.reply) _ _ (replied_alone k m h note c) (told_alone m j (alone_called k m h note c) answers rest)
   told_alone k j h (refused call full ∷ answers) (m, (may, u), rest) =
-      Answers-call _ _ call (Refused full) _ _ (may, same_unnoted k m h u) (told_alone m j (alone_unnoted k m h u) answers rest)
+      Answers-call _ _ call (Refused full) _ _ (may, same_unnoted k m h u.unnoted) (told_alone m j (alone_unnoted k m h u.unnoted) answers rest)
   told_alone k j h (listed range scan before after ∷ answers) (m, (s, first, last), rest) =
       Answers-scan _ _ range scan _ _ (first_alone k m h range.from range.upto range.limit scan s) (same_scanned k m h range.from range.upto range.limit scan s)
       (told_alone m j (alone_scanned k m h range.from range.upto range.limit scan s) answers rest)

@@ -7,6 +7,7 @@ use Rattle.hot_model.specs.declared.Call.{Call}
 use Rattle.hot_model.specs.declared.Scan.{Scan}
 use Rattle.hot_model.specs.Maps.{Map, map_after, reply_of}
 use Rattle.hot_model.specs.Scans.{IsScanOf}
+use Rattle.hot_index.specs.Answers.{MayLack}
 use Rattle.hot_scripts.specs.declared.command.Command.{Command}
 use Rattle.hot_scripts.specs.declared.command.Command.TheVariants.{Call as Asks, Scan as Lists}
 use Rattle.hot_scripts.specs.declared.command.Range.{Range}
@@ -14,7 +15,7 @@ use Rattle.hot_run.specs.declared.engine.Answer.{Answer}
 use Rattle.hot_run.specs.declared.engine.Answer.TheVariants.{Reply, Full as Refused}
 use Rattle.hot_scripts.specs.Grammar.{commands_of}
 use Rattle.hot_scripts.specs.Meaning.{line, reply_text, scan_lines, scan_text, script_meaning, text_from}
-use Rattle.hot_run.specs.Runs.{Answers, IsAnswered, MayBeTold, MayLack, Told, answer_text, full_text, text_told}
+use Rattle.hot_run.specs.Runs.{Answers, IsAnswered, MayBeTold, Told, answer_text, full_text, text_told}
 
 -- an answer to a call is the map's reply, or that records were lacking, and then the map stays
 abbrev pub IsAnswer : Map → Call → Map → Answer → Type 0

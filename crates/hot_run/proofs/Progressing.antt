@@ -13,7 +13,7 @@ use Rattle.hot_model.specs.Fronts.{BeginsWith}
 use Rattle.hot_model.proofs.Growth.{begins_itself, begins_on}
 use Rattle.hot_model.proofs.Legal.{place_after-within}
 use Rattle.record_words.specs.declared.layout.Layout.{Layout}
-use Rattle.hot_index.specs.Answers.{IsNoted, IsScanned, IsUnnoted}
+use Rattle.hot_index.specs.Answers.{IsNoted, IsScanned}
 use Rattle.hot_index.specs.Passes.{PassView, AreByPasses}
 use Rattle.hot_scripts.specs.declared.command.Command.{Command}
 use Rattle.hot_scripts.specs.declared.command.Command.TheVariants.{Call as Asks, Scan as Lists}
@@ -33,42 +33,21 @@ begins_length later front b = omega (arith, ap length b.1, length-append front b
 take_begins : (later front : List Change) → BeginsWith later front → take (length front) later ≡ front
 take_begins later front b = ap (take (length front)) b.1 ∙ take-append_seam front b.0
 
--- Attempts
-
--- the attempts so far were refused
-pub record HasWaited (k j : PassView) : Type 0 where
-  pub number : j.number ≡ k.number
-  pub front : BeginsWith j.front k.front
-  pub notes : j.notes ≡ k.notes
-
-pub waited_none : (k : PassView) → HasWaited k k
-waited_none k = record { number = refl; front = begins_itself k.front; notes = refl }
-
-module _ (layout : Layout) (k m j : PassView) (w : HasWaited k m) where
-  -- another attempt was refused
-  pub waited_on : IsUnnoted layout m j → HasWaited k j
-  waited_on u = record { number = u.number ∙ w.number; front = begins_on k.front m.front j.front w.front u.front; notes = u.notes ∙ w.notes }
-
-  -- and with it the call
-  pub waited_out : IsUnnoted layout m j → IsUnnoted layout k j
-  waited_out u = let h = waited_on u in record { number = h.number; front = h.front; notes = h.notes; legal = u.legal; makers = u.makers }
-
-  -- the last attempt was answered
-  pub called_out : (call : Call) (reply : Replied) → IsNoted layout m j call reply
-      → (place : ℕ) × IsCalled layout k j (record { place = place; call = call; reply = reply })
-  called_out call reply n =
-      let first = begins_length m.front k.front w.front in
-      let then = begins_length j.fresh.front m.front n.on.fresh in (
-        n.place,
-        record {
-          number = n.on.number ∙ w.number;
-          front = begins_on k.front m.front j.front w.front n.on.front;
-          notes = n.notes ∙ ap (λ ns. ns ++ record { place = n.place; call = call; reply = reply } ∷ []) w.notes;
-          low = omega (arith, first, then, n.low);
-          legal = n.legal;
-          makers = n.on.makers;
-        },
-      )
+-- a noted call
+pub called_of : (layout : Layout) (k j : PassView) (call : Call) (reply : Replied) → IsNoted layout k j call reply
+    → (place : ℕ) × IsCalled layout k j (record { place = place; call = call; reply = reply })
+called_of layout k j call reply n =
+    let first = begins_length j.fresh.front k.front n.on.fresh in (
+      n.place,
+      record {
+        number = n.on.number;
+        front = n.on.front;
+        notes = n.notes;
+        low = omega (arith, first, n.low);
+        legal = n.legal;
+        makers = n.on.makers;
+      },
+    )
 
 -- Commands
 
@@ -166,13 +145,13 @@ module _ (layout : Layout) where
         stand = (c.low, stand_lower j.front (place_after note) (length m.front) answers (note_within k m note c) later.stand);
       }
   told_stood k j (refused call full ∷ answers) legal makers (m, (may, u), rest) =
-      let later = told_stood m j answers u.legal u.makers rest in record {
-        number = later.number ∙ u.number;
-        front = begins_on k.front m.front j.front u.front later.front;
-        notes = later.notes ∙ ap (λ ns. ns ++ filter_map note_of answers) u.notes;
+      let later = told_stood m j answers u.unnoted.legal u.unnoted.makers rest in record {
+        number = later.number ∙ u.unnoted.number;
+        front = begins_on k.front m.front j.front u.unnoted.front later.front;
+        notes = later.notes ∙ ap (λ ns. ns ++ filter_map note_of answers) u.unnoted.notes;
         legal = later.legal;
         makers = later.makers;
-        stand = (may, stand_lower j.front (length k.front) (length m.front) answers (begins_length m.front k.front u.front) later.stand);
+        stand = (may, stand_lower j.front (length k.front) (length m.front) answers (begins_length m.front k.front u.unnoted.front) later.stand);
       }
   told_stood k j (listed range scan before after ∷ answers) legal makers (m, (s, first, last), rest) =
       let later = told_stood m j answers s.legal s.on.makers rest in

@@ -6,7 +6,7 @@ use Rattle.hot_model.specs.Calls.{LegalCalls}
 use Rattle.hot_model.specs.Fronts.{BeginsWith}
 use Rattle.record_words.specs.declared.layout.Layout.{Layout}
 use Rattle.rowex_table.specs.Seats.{TableView}
-use Rattle.hot_index.specs.Answers.{HaveMet, IsScanned, IsUnnoted}
+use Rattle.hot_index.specs.Answers.{HaveMet, IsRefused, IsScanned, MayLack, fault_of}
 use Rattle.hot_index.specs.Passes.{PassView, AreByPasses, IsNewPass, Owns}
 use Rattle.hot_scripts.specs.declared.command.Command.{Command}
 use Rattle.hot_scripts.specs.Parses.{script_commands}
@@ -14,7 +14,6 @@ use Rattle.hot_run.specs.declared.engine.Answer.{Answer}
 use Rattle.hot_run.specs.declared.engine.Answer.TheVariants.{Reply, Full as Refused}
 use Rattle.hot_run.specs.declared.together.Done.{Done}
 use Rattle.hot_run.specs.declared.together.Order.{Order}
-use Rattle.hot_run.specs.Runs.{MayLack}
 use Rattle.hot_run.specs.Scripts.{Answered, called, refused, listed, command_of, lines_of_answer}
 
 -- The pass has made a call, which stands behind all that it had seen before.
@@ -29,7 +28,7 @@ pub record IsCalled (layout : Layout) (k j : PassView) (note : Note) : Type 0 wh
 -- the pass was told this answer to a command
 abbrev pub IsTold : Layout → PassView → Answered → PassView → Type 0
 IsTold layout k (called note) j = IsCalled layout k j note
-IsTold layout k (refused call full) j = MayLack call full × IsUnnoted layout k j
+IsTold layout k (refused call full) j = MayLack call full × IsRefused layout k j (fault_of full)
 IsTold layout k (listed range scan before after) j =
     IsScanned layout k j range.from range.upto range.limit scan × (before ≡ length j.fresh.front) × (after ≡ length j.front)
 

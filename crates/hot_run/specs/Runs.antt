@@ -2,13 +2,12 @@
 use Rattle.std.specs.Prelude.{◌≡◌, ℕ, ◌<◌, ◌≤◌, ◌++◌, List, [], ◌∷◌, length, map, All, Option, None, Some, Result, Ok, Err, IsOk, Vec, codes}
 use Rattle.std.specs.Io.KnownBytes.{Consumes, IsAtEnd}
 use Rattle.hot_model.specs.declared.Call.{Call}
-use Rattle.hot_model.specs.declared.Call.TheVariants.{Insert, Upsert, Get, Remove}
 use Rattle.hot_model.specs.Calls.{LegalCalls}
 use Rattle.hot_model.specs.Maps.{Map, map_after, reply_of}
 use Rattle.rowex_table.specs.Seats.{TableView}
 use Rattle.rowex_writing.specs.declared.plan.Full.{Full}
 use Rattle.rowex_writing.specs.declared.plan.Full.TheVariants.{Nodes, Leaves}
-use Rattle.hot_index.specs.Passes.{PassView, AreByPasses}
+use Rattle.hot_index.specs.Answers.{MayLack}
 use Rattle.hot_scripts.specs.declared.command.Command.{Command}
 use Rattle.hot_scripts.specs.declared.command.Command.TheVariants.{Call as Asks, Scan}
 use Rattle.hot_run.specs.declared.engine.Answer.{Answer}
@@ -18,14 +17,6 @@ use Rattle.hot_scripts.specs.declared.fault.RunFault.{RunFault}
 use Rattle.hot_scripts.specs.declared.fault.RunFault.TheVariants.{Read, Write, Memory, Script, Large}
 use Rattle.hot_scripts.specs.Grammar.{commands_of, most_bytes}
 use Rattle.hot_scripts.specs.Meaning.{line, reply_text, scan_text, script_meaning}
-
--- the records of this kind may all be taken when this call asks for one
-abbrev pub MayLack : Call → Full → Type 0
-MayLack (Insert key value) full = Unit {0}
-MayLack (Upsert key value) full = Unit {0}
-MayLack (Get key) full = ⊥
-MayLack (Remove key) Nodes = Unit {0}
-MayLack (Remove key) Leaves = ⊥
 
 abbrev pub full_text : Full → List ℕ
 full_text Nodes = codes "full nodes"

@@ -9,6 +9,7 @@ use Rattle.hot_model.specs.Fronts.{BeginsWith}
 use Rattle.hot_model.specs.Scans.{IsLawfulScan}
 use Rattle.hot_model.specs.Weaves.{AllLegal}
 use Rattle.rowex_writing.specs.declared.plan.Full.{Full}
+use Rattle.hot_index.specs.Answers.{MayLack}
 use Rattle.hot_scripts.specs.declared.command.Command.{Command}
 use Rattle.hot_scripts.specs.declared.command.Command.TheVariants.{Call as Asks, Scan as Lists}
 use Rattle.hot_scripts.specs.declared.command.Range.{Range}
@@ -17,7 +18,7 @@ use Rattle.hot_scripts.specs.declared.fault.RunFault.{RunFault}
 use Rattle.hot_scripts.specs.declared.fault.RunFault.TheVariants.{Memory, FileScript, Large}
 use Rattle.hot_scripts.specs.Grammar.{commands_of, most_bytes}
 use Rattle.hot_scripts.specs.Meaning.{line, reply_text, scan_lines, with_number}
-use Rattle.hot_run.specs.Runs.{MayEndBy, MayLack, full_text}
+use Rattle.hot_run.specs.Runs.{MayEndBy, full_text}
 
 -- A command with what it was answered: a call with its note; a call that lacked these records; or a scan, made while its pass's
 -- front grew from the one length to the other.

@@ -1,21 +1,18 @@
 //! What answers the commands of a script: a pass of an index.
 
-ghost use Rattle.std.specs.Prelude.{◌≡◌, ℕ, Err, IfOk, OnOk, MatchResult, string_bytes};
-ghost use Rattle.hot_index.specs.Answers.{IsNoted, IsRefused, fault_of, got};
+ghost use Rattle.std.specs.Prelude.{ℕ, IfOk, OnOk, string_bytes};
 ghost use Rattle.hot_index.specs.Passes.{Owns};
 ghost use Rattle.hot_scripts.specs.Parses.{script_commands};
-ghost use Rattle.hot_run.specs.Runs.{MayLack};
 ghost use Rattle.hot_run.specs.Progress.{HasAnswered, HasRun, IsTold, answered_as};
 
 use crate::answer::push_answer;
-use hot_index::{Full, Gate, Index, Pass, TryFault};
+use hot_index::{Full, Gate, Index, Pass};
 use hot_model::{Call, Reply};
 use hot_scripts::answer::push_scan;
 use hot_scripts::command::{Command, Range};
 use hot_scripts::script::Script;
 use std::alloc::{AllocError, Global};
 use std::sync::Wait;
-use std::thread;
 
 /// What a call is answered.
 #[derive(Clone, Copy)]
@@ -26,37 +23,7 @@ pub enum Answer {
     Full(Full),
 }
 
-/// The reply to a get that found this.
-fn reply_of(found: Option<u64>) -> Reply
-    ensures { result ≡ got found }
-{
-    match found {
-        Some(value) => Reply::Value(value),
-        None => Reply::Absent,
-    }
-}
-
-/// Makes a call, unless another pass stands in its way.
-fn try_call<G: Gate>(
-    index: &Index,
-    pass: &mut Pass,
-    call: &Call,
-    gate: &mut G,
-) -> Result<Reply, TryFault>
-    requires { Owns index.now pass.old }
-    ensures own { Owns index.now pass.new }
-    ensures call { MatchResult result (IsNoted index.now.layout pass.old pass.new call.now) (IsRefused index.now.layout pass.old pass.new) }
-    ensures lacks { (full : Full) → result ≡ Err (fault_of full) → MayLack call.now full }
-{
-    match call {
-        Call::Insert(key, value) => index.try_insert_with(pass, key, *value, gate),
-        Call::Upsert(key, value) => index.try_upsert_with(pass, key, *value, gate),
-        Call::Get(key) => Ok(reply_of(index.get_with(pass, key, gate))),
-        Call::Remove(key) => index.try_remove_with(pass, key, gate),
-    }
-}
-
-/// Makes a call, and begins again as often as another pass stands in its way.
+/// Makes a call, and waits where another pass stands in its way.
 fn make_call<T: Wait, G: Gate>(
     rt: &T,
     index: &Index,
@@ -68,15 +35,10 @@ fn make_call<T: Wait, G: Gate>(
     ensures own { Owns index.now pass.new }
     ensures told { (place : ℕ) × IsTold index.now.layout pass.old (answered_as call.now result place) pass.new }
 {
-    for _ in rt.forever() {
-        match try_call(index, pass, call, gate) {
-            Ok(reply) => return Answer::Reply(reply),
-            Err(TryFault::Busy) => thread::yield_now(),
-            Err(TryFault::FullNodes) => return Answer::Full(Full::Nodes),
-            Err(TryFault::FullLeaves) => return Answer::Full(Full::Leaves),
-        }
+    match index.call_with(rt, pass, call, gate) {
+        Ok(reply) => Answer::Reply(reply),
+        Err(full) => Answer::Full(full),
     }
-    unreachable!()
 }
 
 /// Makes a scan, and ends the text by its lines.
