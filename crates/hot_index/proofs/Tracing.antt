@@ -1,72 +1,57 @@
 -- The steps of a call, and what its gate was told.
-use Rattle.std.proofs.Common.{ℕ, ◌+◌, ◌≤◌, List, [], ◌∷◌, ◌++◌, Bool, true, false, nat_lt, if◌then◌else◌, inl, inr, refl, sym, ap, subst}
-use Rattle.std.specs.Prelude.{All}
-use Rattle.std.proofs.lemmas.List.Elements.{All-append, All-cons, All-nil, All-weaker}
-use Rattle.record_words.specs.declared.TheConstants.{EPOCHS}
-use Rattle.record_words.specs.declared.state.Tag.TheVariants.{Obsolete}
-use Rattle.record_words.specs.State.{state_word}
-use Rattle.moments.specs.declared.Rec.{Rec}
-use Rattle.moments.specs.declared.Rec.TheVariants.{Node as a_node, Leaf as a_leaf}
+use Rattle.std.proofs.Common.{◌≡◌, ℕ, ◌+◌, ◌≤◌, List, [], ◌∷◌, ◌++◌, false, Result, inl, inr, refl, sym, ap, subst}
 use Rattle.hot_model.specs.declared.Note.{Note}
+use Rattle.hot_model.specs.declared.Reply.{Reply}
 use Rattle.rowex_core.specs.declared.event.Act.{Act}
-use Rattle.rowex_core.specs.declared.event.Act.TheVariants.{Advance, ClearPin, GiveBack, LoadEpoch, LoadPin, LoadRef, LoadState, SetPin}
+use Rattle.rowex_core.specs.declared.event.Act.TheVariants.{ClearPin, LoadEpoch, LoadRef, SetPin}
 use Rattle.rowex_core.specs.declared.event.Event.{Event}
 use Rattle.rowex_core.specs.declared.event.Spot.TheVariants.{Root}
 use Rattle.rowex_core.specs.declared.known.Known.{Known}
 use Rattle.rowex_table.specs.Runs.{Ends, IsTold, Runs, StepsWith, events_of, silent}
 use Rattle.rowex_table.specs.Seats.{TableView, SeatView}
-use Rattle.rowex_table.specs.Stays.{LeavesPin}
 use Rattle.rowex_table.proofs.Running.{ends_told, runs_append, runs_one}
-use Rattle.epochs.specs.Rounds.{IsRound, IsSmallRound, LoadsPin, VisitEach, Visits, advance_steps}
+use Rattle.epochs.specs.Rounds.{IsRound, IsSmallRound, advance_steps}
+use Rattle.epochs.specs.declared.limbo.TheConstants.{MOST_VISITED}
 use Rattle.epochs.specs.Runs.{Pins}
 use Rattle.rowex_reading.specs.Reads.{Looks}
 use Rattle.rowex_writing.specs.Changes.{HasTriedOnce}
-use Rattle.rowex_writing.specs.Going.{IsQuiet}
-use Rattle.rowex_writing.proofs.Making.{in_turn_plain}
-use Rattle.rowex_writing.proofs.Runs.{quiet_recalls, recalls_pin}
-use Rattle.rowex_writing.proofs.Tried.{quiet_tries_none}
+use Rattle.rowex_writing.specs.declared.attempts.TryFault.{TryFault}
 use Rattle.hot_index.specs.Counts.{try_steps}
 use Rattle.hot_index.specs.Passes.{PassView, pass_of}
-use Rattle.hot_index.specs.Traces.{AreAttempts, AreTries, HasCollected, HasEnded, HasGot, HasMade, HasRead, HasStepped, HasTold, IsAttempt, Tidies, reading, untold}
+use Rattle.hot_index.specs.Traces.{AreAttempts, AreRoundSteps, AreSmallSteps, AreTries, HasCollected, HasEnded, HasGot, HasMade, HasRead, HasStepped, HasTold, IsAttempt, Tidies, is_full, reading, untold}
 
--- No step of a round sets or clears the pin, and none tries a lock.
-advance_quiet : (epoch found : ℕ) → All IsQuiet (advance_steps epoch found)
-advance_quiet epoch found = cases (nat_lt (epoch + 1) EPOCHS)
-  where
-    cases : (t : Bool) → All IsQuiet (if t then Advance epoch found ∷ [] else [])
-    cases true = All-cons IsQuiet (Advance epoch found) [] tt (All-nil IsQuiet)
-    cases false = All-nil IsQuiet
+-- The steps of a round, and of a small one.
+round_steps_of : {G : Type 0} {table : TableView} {becomes : G → Event → G → Type 0} {a b : SeatView × G} {nodes leaves : ℕ} (r : IsRound table becomes a b nodes leaves) →
+    AreRoundSteps table.layout (LoadEpoch r.epoch ∷ advance_steps r.epoch r.found ++ LoadEpoch r.next ∷ r.pins ++ r.nodes ++ r.leaves)
+round_steps_of {b = b} r = record {
+  epoch = r.epoch;
+  found = r.found;
+  next = r.next;
+  bound = b.0.known.round.bound;
+  pins = r.pins;
+  nodes = r.nodes;
+  leaves = r.leaves;
+  acts_are = refl;
+  loads_pins = r.loads_pins;
+  visits_nodes = r.visits_nodes;
+  visits_leaves = r.visits_leaves;
+}
 
-visit_quiet : (bound : ℕ) (r : Rec) (acts : List Act) → Visits bound r acts → All IsQuiet acts
-visit_quiet bound r _ (Visits.passes word not) = All-cons IsQuiet (LoadState r word) [] tt (All-nil IsQuiet)
-visit_quiet bound r _ (Visits.tries epoch found low below) =
-    All-cons IsQuiet (LoadState r (state_word (Obsolete epoch))) (GiveBack r epoch found ∷ []) tt (All-cons IsQuiet (GiveBack r epoch found) [] tt (All-nil IsQuiet))
-
-pin_quiet : (o : ℕ) (acts : List Act) → LoadsPin o acts → All IsQuiet acts
-pin_quiet o acts (word, is) = subst (All IsQuiet) (sym is) (All-cons IsQuiet (LoadPin o word) [] tt (All-nil IsQuiet))
-
-module _ {G : Type 0} {table : TableView} {becomes : G → Event → G → Type 0} {a b : SeatView × G} {nodes leaves : ℕ} (r : IsRound table becomes a b nodes leaves) where
-  round_quiet : All IsQuiet (LoadEpoch r.epoch ∷ advance_steps r.epoch r.found ++ LoadEpoch r.next ∷ r.pins ++ r.nodes ++ r.leaves)
-  round_quiet =
-      let pins = in_turn_plain LoadsPin pin_quiet table.layout.passes r.pins r.loads_pins in
-      let visits = in_turn_plain (λ n. Visits b.0.known.round.bound (a_node n)) (λ n. visit_quiet b.0.known.round.bound (a_node n)) table.layout.nodes r.nodes r.visits_nodes in
-      let leaf_visits = in_turn_plain (λ n. Visits b.0.known.round.bound (a_leaf n)) (λ n. visit_quiet b.0.known.round.bound (a_leaf n)) table.layout.leaves r.leaves r.visits_leaves in
-      All-append IsQuiet (LoadEpoch r.epoch ∷ advance_steps r.epoch r.found ++ LoadEpoch r.next ∷ r.pins ++ r.nodes) r.leaves
-      (All-append IsQuiet (LoadEpoch r.epoch ∷ advance_steps r.epoch r.found ++ LoadEpoch r.next ∷ r.pins) r.nodes
-      (All-append IsQuiet (LoadEpoch r.epoch ∷ advance_steps r.epoch r.found) (LoadEpoch r.next ∷ r.pins) (All-cons IsQuiet (LoadEpoch r.epoch) (advance_steps r.epoch r.found) tt (advance_quiet r.epoch r.found))
-      (All-cons IsQuiet (LoadEpoch r.next) r.pins tt pins)) visits) leaf_visits
-
-each_quiet : (bound : ℕ) (recs : List Rec) (acts : List Act) → VisitEach bound recs acts → All IsQuiet acts
-each_quiet bound [] acts none = subst (All IsQuiet) (sym none) (All-nil IsQuiet)
-each_quiet bound (r ∷ recs) acts (first, rest, visit, visits, all) =
-    subst (All IsQuiet) (sym all) (All-append IsQuiet first rest (visit_quiet bound r first visit) (each_quiet bound recs rest visits))
-
-small_quiet : {G : Type 0} {table : TableView} {becomes : G → Event → G → Type 0} {most : ℕ} {a b : SeatView × G} (r : IsSmallRound table becomes most a b) →
-    All IsQuiet (LoadEpoch r.epoch ∷ advance_steps r.epoch r.found ++ LoadEpoch r.next ∷ r.pins ++ r.visits)
-small_quiet {table = table} {b = b} r =
-    All-append IsQuiet (LoadEpoch r.epoch ∷ advance_steps r.epoch r.found ++ LoadEpoch r.next ∷ r.pins) r.visits
-    (All-append IsQuiet (LoadEpoch r.epoch ∷ advance_steps r.epoch r.found) (LoadEpoch r.next ∷ r.pins) (All-cons IsQuiet (LoadEpoch r.epoch) (advance_steps r.epoch r.found) tt (advance_quiet r.epoch r.found))
-    (All-cons IsQuiet (LoadEpoch r.next) r.pins tt (in_turn_plain LoadsPin pin_quiet table.layout.passes r.pins r.loads_pins))) (each_quiet b.0.known.round.bound r.recs r.visits r.visits_each)
+small_steps_of : {G : Type 0} {table : TableView} {becomes : G → Event → G → Type 0} {a b : SeatView × G} (r : IsSmallRound table becomes MOST_VISITED a b) →
+    AreSmallSteps table.layout (LoadEpoch r.epoch ∷ advance_steps r.epoch r.found ++ LoadEpoch r.next ∷ r.pins ++ r.visits)
+small_steps_of {b = b} r = record {
+  epoch = r.epoch;
+  found = r.found;
+  next = r.next;
+  bound = b.0.known.round.bound;
+  pins = r.pins;
+  recs = r.recs;
+  visits = r.visits;
+  acts_are = refl;
+  loads_pins = r.loads_pins;
+  visits_each = r.visits_each;
+  few = r.few;
+}
 
 module _ {G : Type 0} (table : TableView) (becomes : G → Event → G → Type 0) where
   -- some steps, with no note
@@ -128,8 +113,8 @@ module _ {G : Type 0} (table : TableView) (becomes : G → Event → G → Type 
   got_untold a b x = record { read = read_untold a b x.read; visited = x.visited; depth = x.depth; few = x.few }
 
   -- a call that ended on its seat
-  pub has_made : {said : Known → List Note} (a b : SeatView × G) → HasEnded table becomes AreAttempts said a b → b.0.known.steps ≤ a.0.known.steps + try_steps table.layout →
-      HasMade table becomes (pass_of a.0, a.1) (pass_of b.0, b.1)
+  pub has_made : {said : Known → List Note} {r : Result Reply TryFault} (a b : SeatView × G) → HasEnded table becomes (AreAttempts table.layout r) said a b → b.0.known.steps ≤ a.0.known.steps + try_steps table.layout →
+      HasMade table becomes r (pass_of a.0, a.1) (pass_of b.0, b.1)
   has_made {said = said} a b (acts, tries, ends) few = record {
     before = a.0;
     after = b.0;
@@ -143,8 +128,8 @@ module _ {G : Type 0} (table : TableView) (becomes : G → Event → G → Type 
     few = few;
   }
 
-  pub made_untold : (a b : PassView × G) → HasMade table becomes a b → HasMade table untold (a.0, tt) (b.0, tt)
-  made_untold a b x = record {
+  pub made_untold : (r : Result Reply TryFault) (a b : PassView × G) → HasMade table becomes r a b → HasMade table untold r (a.0, tt) (b.0, tt)
+  made_untold r a b x = record {
     before = x.before;
     after = x.after;
     acts = x.acts;
@@ -211,49 +196,29 @@ module _ {G : Type 0} (table : TableView) (becomes : G → Event → G → Type 
       )
 
   -- the call is over
-  pub ended_once : {said : Known → List Note} (a b : SeatView × G) → HasEnded table becomes IsAttempt said a b → HasEnded table becomes AreTries said a b
-  ended_once a b (acts, tries, ends) = (acts, inl tries, ends)
+  pub ended_once : {said : Known → List Note} (r : Result Reply TryFault) (a b : SeatView × G) → is_full r ≡ false → HasEnded table becomes IsAttempt said a b → HasEnded table becomes (AreTries table.layout r) said a b
+  ended_once r a b stands (acts, tries, ends) = (acts, inl (tries, stands), ends)
 
   -- or it was not noted; and there follow a round of collection and an attempt more
-  pub ended_again : {said : Known → List Note} {nodes leaves : ℕ} (a b c d : SeatView × G) → HasEnded table becomes IsAttempt silent a b → IsRound table becomes b c nodes leaves →
-      HasEnded table becomes IsAttempt said c d → HasEnded table becomes AreTries said a d
-  ended_again a b c d (acts, tries, (m, steps, last)) round (more, tries_again, (n, rest, end)) =
-      let between = LoadEpoch round.epoch ∷ advance_steps round.epoch round.found ++ LoadEpoch round.next ∷ round.pins ++ round.nodes ++ round.leaves in
-      let quiet = round_quiet round in (
+  pub ended_again : {said : Known → List Note} {nodes leaves : ℕ} (r : Result Reply TryFault) (a b c d : SeatView × G) → HasEnded table becomes IsAttempt silent a b → IsRound table becomes b c nodes leaves →
+      HasEnded table becomes IsAttempt said c d → HasEnded table becomes (AreTries table.layout r) said a d
+  ended_again r a b c d (acts, tries, (m, steps, last)) round (more, tries_again, (n, rest, end)) =
+      let between = LoadEpoch round.epoch ∷ advance_steps round.epoch round.found ++ LoadEpoch round.next ∷ round.pins ++ round.nodes ++ round.leaves in (
         acts ++ (ClearPin ∷ between ++ more),
-        inr (record {
-          first = acts;
-          between = between;
-          second = more;
-          acts_are = refl;
-          tries = tries;
-          unpinned = All-weaker IsQuiet LeavesPin (λ act t. recalls_pin act (quiet_recalls act t)) between quiet;
-          lockless = quiet_tries_none between quiet;
-          tries_again = tries_again;
-        }),
+        inr (record { first = acts; between = between; second = more; acts_are = refl; tries = tries; round = round_steps_of round; tries_again = tries_again }),
         (n, runs_append table becomes acts (ClearPin ∷ between ++ more) a m n steps (b, last, runs_append table becomes between more b c n round.does.steps rest), end),
       )
 
   -- before them, a small round or nothing
-  pub ended_tidied : {said : Known → List Note} (a b c : SeatView × G) → Tidies table becomes a b → HasEnded table becomes AreTries said b c → HasEnded table becomes AreAttempts said a c
-  ended_tidied {said = said} a b c (inl none) (acts, tries, ends) = (
-    acts,
-    record { before = []; rest = acts; acts_are = refl; unpinned = All-nil LeavesPin; lockless = refl; tries = tries },
-    subst (λ (z : SeatView × G). Ends table becomes acts ClearPin said z c) none ends,
-  )
-  ended_tidied a b c (inr r) (acts, tries, (m, run, end)) =
-      let before = LoadEpoch r.epoch ∷ advance_steps r.epoch r.found ++ LoadEpoch r.next ∷ r.pins ++ r.visits in
-      let quiet = small_quiet r in (
+  pub ended_tidied : {said : Known → List Note} {r : Result Reply TryFault} (a b c : SeatView × G) → Tidies table becomes a b → HasEnded table becomes (AreTries table.layout r) said b c →
+      HasEnded table becomes (AreAttempts table.layout r) said a c
+  ended_tidied {said = said} a b c (inl none) (acts, tries, ends) =
+      (acts, record { before = []; rest = acts; acts_are = refl; tidies = inl refl; tries = tries }, subst (λ (z : SeatView × G). Ends table becomes acts ClearPin said z c) none ends)
+  ended_tidied a b c (inr small) (acts, tries, (m, run, end)) =
+      let before = LoadEpoch small.epoch ∷ advance_steps small.epoch small.found ++ LoadEpoch small.next ∷ small.pins ++ small.visits in (
         before ++ acts,
-        record {
-          before = before;
-          rest = acts;
-          acts_are = refl;
-          unpinned = All-weaker IsQuiet LeavesPin (λ act t. recalls_pin act (quiet_recalls act t)) before quiet;
-          lockless = quiet_tries_none before quiet;
-          tries = tries;
-        },
-        (m, runs_append table becomes before acts a b m r.does.steps run, end),
+        record { before = before; rest = acts; acts_are = refl; tidies = inr (small_steps_of small); tries = tries },
+        (m, runs_append table becomes before acts a b m small.does.steps run, end),
       )
 
   pub collected_untold : (a b : PassView × G) (nodes leaves : ℕ) → HasCollected table becomes a b nodes leaves → HasCollected table untold (a.0, tt) (b.0, tt) nodes leaves

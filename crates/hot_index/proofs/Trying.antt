@@ -44,14 +44,14 @@ use Rattle.rowex_writing.specs.declared.attempts.TryFault.TheVariants.{Busy, Ful
 use Rattle.epochs.specs.Rounds.{IsRound}
 use Rattle.hot_index.specs.Answers.{IsCause, IsNoted, IsRefused, IsUnnoted, fault_of}
 use Rattle.hot_index.specs.Asked.{HasAsked, HasReplied, last_try}
-use Rattle.hot_index.specs.Counts.{try_steps, twice_steps}
+use Rattle.hot_index.specs.Counts.{once_steps, try_steps, twice_steps}
 use Rattle.hot_index.specs.Noting.{notes_of, place_by}
 use Rattle.hot_index.specs.Passes.{IsSettled, Owns, PassView, pass_of}
-use Rattle.hot_index.specs.Traces.{AreAttempts, AreTries, HasMade, HasStepped, HasTold, Tidies}
+use Rattle.hot_index.specs.Traces.{AreAttempts, AreTries, HasMade, HasStepped, HasTold, IsAttempt, Tidies, is_full}
 use Rattle.hot_index.proofs.Noting.{HasGoneOn, HasLooked, WasRight, found_had, goes_on, legal_front, longer, noted, settles, note_of}
 use Rattle.hot_index.proofs.Collected.{round_unnoted, small_few, small_later, small_unnoted}
 use Rattle.hot_index.proofs.Scanned.{scan_refused, scan_settled}
-use Rattle.hot_index.proofs.Tracing.{ended_tidied, has_made, has_told}
+use Rattle.hot_index.proofs.Tracing.{ended_once, ended_tidied, has_made, has_told}
 
 -- Replies
 
@@ -218,10 +218,15 @@ module _ {G : Type 0} {table : TableView} {becomes : G → Event → G → Type 
   pub then_collected : IsUnnoted table.layout k (pass_of c.0)
   then_collected = unnoted_then table.layout k (pass_of b.0) (pass_of c.0) first steps (round_unnoted round settled)
 
+-- an attempt whose answer stands
+pub once_asked : {G : Type 0} {table : TableView} {becomes : G → Event → G → Type 0} {a b : SeatView × G} (call : Call) (r : Result Reply TryFault) → is_full r ≡ false →
+    HasAsked table becomes IsAttempt (once_steps table.layout) call r a b → HasAsked table becomes (AreTries table.layout r) (twice_steps table.layout) call r a b
+once_asked {table = table} {becomes = becomes} {a = a} {b = b} call r stands once = record { replied = once.replied; ended = ended_once table becomes r a b stands once.ended; later = once.later; few = omega (arith, once.few) }
+
 -- a small round or nothing, and then the tries
 module _ {G : Type 0} {table : TableView} {becomes : G → Event → G → Type 0} (a b c : SeatView × G) (call : Call) (r : Result Reply TryFault) (settled : IsSettled a.0.known)
-    (asked : HasAsked table becomes AreTries (twice_steps table.layout) call r b c) where
-  pub tidied_asked : Tidies table becomes a b → HasAsked table becomes AreAttempts (try_steps table.layout) call r a c
+    (asked : HasAsked table becomes (AreTries table.layout r) (twice_steps table.layout) call r b c) where
+  pub tidied_asked : Tidies table becomes a b → HasAsked table becomes (AreAttempts table.layout r) (try_steps table.layout) call r a c
   tidied_asked (inl none) =
       let seats : b.0 ≡ a.0 = ap (λ (z : SeatView × G). z.0) none in
       record {
@@ -390,10 +395,10 @@ module _ {table index : TableView} {k : PassView} {s t : SeatView} {call : Call}
   waited_call (Ok reply) h = replied_call (Ok reply) h
   waited_call (Err full) h = replied_call (Err (fault_of full)) h
 
-  pub asked_made : {G : Type 0} {becomes : G → Event → G → Type 0} {g h : G} {r : Result Reply TryFault} → HasAsked table becomes AreAttempts (try_steps table.layout) call r (s, g) (t, h) →
-      HasMade index becomes (k, g) (pass_of t, h)
-  asked_made {becomes = becomes} {g = g} {h = h} asked =
-      subst (λ (x : TableView × PassView). HasMade x.0 becomes (x.1, g) (pass_of t, h)) (λ e. (index_is e, pass_is e)) (has_made table becomes (s, g) (t, h) asked.ended asked.few)
+  pub asked_made : {G : Type 0} {becomes : G → Event → G → Type 0} {g h : G} {r : Result Reply TryFault} → HasAsked table becomes (AreAttempts table.layout r) (try_steps table.layout) call r (s, g) (t, h) →
+      HasMade index becomes r (k, g) (pass_of t, h)
+  asked_made {becomes = becomes} {g = g} {h = h} {r = r} asked =
+      subst (λ (x : TableView × PassView). HasMade x.0 becomes r (x.1, g) (pass_of t, h)) (λ e. (index_is e, pass_is e)) (has_made table becomes (s, g) (t, h) asked.ended asked.few)
 
 -- and its steps, as the index and the pass see them
 pub stepped_told : {table index : TableView} {k : PassView} {s t : SeatView} {G : Type 0} {becomes : G → Event → G → Type 0} {g h : G} {said : Known → List Note} → table ≡ index → pass_of s ≡ k →

@@ -1,19 +1,25 @@
 -- What a call does, step by step, and what its gate is told.
-use Rattle.std.specs.Prelude.{◌≡◌, ◌⊎◌, ◌+◌, ◌*◌, ◌≤◌, ℕ, All, List, [], ◌∷◌, ◌++◌}
+use Rattle.std.specs.Prelude.{◌≡◌, ◌⊎◌, ◌+◌, ◌*◌, ◌≤◌, ℕ, All, List, [], ◌∷◌, ◌++◌, length, Bool, true, false, Result, Ok, Err}
 use Rattle.key_bits.specs.declared.TheConstants.{MAX_BYTES}
 use Rattle.hot_model.specs.declared.Note.{Note}
+use Rattle.hot_model.specs.declared.Reply.{Reply}
+use Rattle.record_words.specs.declared.layout.Layout.{Layout}
+use Rattle.moments.specs.declared.Rec.{Rec}
+use Rattle.moments.specs.declared.Rec.TheVariants.{Node as a_node, Leaf as a_leaf}
 use Rattle.rowex_core.specs.declared.event.Act.{Act}
 use Rattle.rowex_core.specs.declared.event.Act.TheVariants.{LoadEpoch, SetPin, LoadRef, ClearPin}
 use Rattle.rowex_core.specs.declared.event.Event.{Event}
 use Rattle.rowex_core.specs.declared.event.Spot.TheVariants.{Root}
 use Rattle.rowex_core.specs.declared.known.Known.{Known}
-use Rattle.rowex_table.specs.Runs.{Ends, IsTold, events_of}
+use Rattle.rowex_table.specs.Runs.{Ends, InTurn, IsTold, events_of}
 use Rattle.rowex_table.specs.Seats.{TableView, SeatView}
 use Rattle.rowex_table.specs.Stays.{LeavesPin}
 use Rattle.rowex_reading.specs.Reads.{IsBelowRoot}
-use Rattle.epochs.specs.Rounds.{IsRound, IsSmallRound}
+use Rattle.epochs.specs.Rounds.{IsRound, IsSmallRound, LoadsPin, VisitEach, Visits, advance_steps}
 use Rattle.epochs.specs.declared.limbo.TheConstants.{MOST_VISITED}
-use Rattle.rowex_writing.specs.Locks.{TriesLocksOnce, targets_of}
+use Rattle.rowex_writing.specs.Locks.{TriesLocksOnce}
+use Rattle.rowex_writing.specs.declared.attempts.TryFault.{TryFault}
+use Rattle.rowex_writing.specs.declared.attempts.TryFault.TheVariants.{Busy, FullNodes, FullLeaves}
 use Rattle.hot_index.specs.Counts.{round_steps, try_steps}
 use Rattle.hot_index.specs.Passes.{PassView, pass_of}
 
@@ -55,29 +61,63 @@ pub record IsAttempt (acts : List Act) : Type 0 where
   pub pinned : All LeavesPin rest
   pub once : TriesLocksOnce rest
 
--- Two attempts, and steps between them that leave the pin and try no lock.
-pub record AreTwoAttempts (acts : List Act) : Type 0 where
+-- The steps of a round of collection: it loads the epoch, makes it the next one, loads it again and loads each pin; then it visits each
+-- record, nodes first.
+pub record AreRoundSteps (layout : Layout) (acts : List Act) : Type 0 where
+  pub epoch : ℕ
+  pub found : ℕ
+  pub next : ℕ
+  pub bound : ℕ
+  pub pins : List Act
+  pub nodes : List Act
+  pub leaves : List Act
+  pub acts_are : acts ≡ LoadEpoch epoch ∷ advance_steps epoch found ++ LoadEpoch next ∷ pins ++ nodes ++ leaves
+  pub loads_pins : InTurn LoadsPin layout.passes pins
+  pub visits_nodes : InTurn (λ n. Visits bound (a_node n)) layout.nodes nodes
+  pub visits_leaves : InTurn (λ n. Visits bound (a_leaf n)) layout.leaves leaves
+
+-- The steps of a small round: it begins in the same way, and then visits some records alone.
+pub record AreSmallSteps (layout : Layout) (acts : List Act) : Type 0 where
+  pub epoch : ℕ
+  pub found : ℕ
+  pub next : ℕ
+  pub bound : ℕ
+  pub pins : List Act
+  pub recs : List Rec
+  pub visits : List Act
+  pub acts_are : acts ≡ LoadEpoch epoch ∷ advance_steps epoch found ++ LoadEpoch next ∷ pins ++ visits
+  pub loads_pins : InTurn LoadsPin layout.passes pins
+  pub visits_each : VisitEach bound recs visits
+  pub few : length recs ≤ MOST_VISITED
+
+-- Two attempts, and a round of collection between them.
+pub record AreTwoAttempts (layout : Layout) (acts : List Act) : Type 0 where
   pub first : List Act
   pub between : List Act
   pub second : List Act
   pub acts_are : acts ≡ first ++ (ClearPin ∷ between ++ second)
   pub tries : IsAttempt first
-  pub unpinned : All LeavesPin between
-  pub lockless : targets_of between ≡ []
+  pub round : AreRoundSteps layout between
   pub tries_again : IsAttempt second
 
--- at most two attempts
-abbrev pub AreTries : List Act → Type 0
-AreTries acts = IsAttempt acts ⊎ AreTwoAttempts acts
+-- whether the call was refused as full
+abbrev pub is_full : Result Reply TryFault → Bool
+is_full (Ok reply) = false
+is_full (Err Busy) = false
+is_full (Err FullNodes) = true
+is_full (Err FullLeaves) = true
 
--- At most two attempts, and steps before them that leave the pin and try no lock.
-pub record AreAttempts (acts : List Act) : Type 0 where
+-- One attempt, whose answer stands unless it is full; or two, with a round between them.
+abbrev pub AreTries : Layout → Result Reply TryFault → List Act → Type 0
+AreTries layout result acts = (IsAttempt acts × (is_full result ≡ false)) ⊎ AreTwoAttempts layout acts
+
+-- These tries, and before them a small round or nothing.
+pub record AreAttempts (layout : Layout) (result : Result Reply TryFault) (acts : List Act) : Type 0 where
   pub before : List Act
   pub rest : List Act
   pub acts_are : acts ≡ before ++ rest
-  pub unpinned : All LeavesPin before
-  pub lockless : targets_of before ≡ []
-  pub tries : AreTries rest
+  pub tidies : (before ≡ []) ⊎ AreSmallSteps layout before
+  pub tries : AreTries layout result rest
 
 -- On a seat: the pass makes a small round, or no step.
 abbrev pub Tidies : {G : Type 0} → TableView → (G → Event → G → Type 0) → SeatView × G → SeatView × G → Type 0
@@ -87,17 +127,17 @@ Tidies table becomes a b = (b ≡ a) ⊎ IsSmallRound table becomes MOST_VISITED
 abbrev pub HasEnded : {G : Type 0} → TableView → (G → Event → G → Type 0) → (List Act → Type 0) → (Known → List Note) → SeatView × G → SeatView × G → Type 0
 HasEnded table becomes Are said a b = (acts : List Act) × Are acts × Ends table becomes acts ClearPin said a b
 
--- The call makes at most two attempts, each of which tries each lock once, and no steps but theirs, a round of collection between
--- them and a small round before them; the last step clears its pin, and with it come the call's notes. The gate is told each of them, in order, and nothing else.
--- So many they are at most.
-pub record HasMade {G : Type 0} (index : TableView) (becomes : G → Event → G → Type 0) (a b : PassView × G) : Type 0 where
+-- The call makes one attempt, or two with a round of collection between them, and a small round or nothing before; it makes no other
+-- step. An attempt tries each lock once, and the answer of a first one that is full doesn't stand. The last step clears the pin, and with
+-- it come the call's notes. The gate is told each of the steps, in order, and nothing else. So many they are at most.
+pub record HasMade {G : Type 0} (index : TableView) (becomes : G → Event → G → Type 0) (result : Result Reply TryFault) (a b : PassView × G) : Type 0 where
   pub before : SeatView
   pub after : SeatView
   pub acts : List Act
   pub said : Known → List Note
   pub begins : a.0 ≡ pass_of before
   pub ends : b.0 ≡ pass_of after
-  pub tries : AreAttempts acts
+  pub tries : AreAttempts index.layout result acts
   pub steps : Ends index becomes acts ClearPin said (before, a.1) (after, b.1)
   pub told : IsTold becomes (events_of a.0.number (acts ++ ClearPin ∷ [])) a.1 b.1
   pub few : b.0.steps ≤ a.0.steps + try_steps index.layout

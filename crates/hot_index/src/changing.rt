@@ -34,7 +34,7 @@ pub fn try_change<G: Gate>(
     value: u64,
 ) -> Result<Reply, TryFault>
     requires idle { IsIdle table.now seat.old }
-    ensures asked { HasAsked table.now G.becomes AreAttempts (try_steps table.now.layout) (call_of ask key.now value) result (seat.old, gate.old) (seat.new, gate.new) }
+    ensures asked { HasAsked table.now G.becomes (AreAttempts table.now.layout result) (try_steps table.now.layout) (call_of ask key.now value) result (seat.old, gate.old) (seat.new, gate.new) }
     ensures leafless { ask ≡ Ask.Remove → result ≢ Err TryFault.FullLeaves }
 {
     tidy(table, seat, gate, room);
@@ -65,7 +65,7 @@ fn try_twice<G: Gate>(
     value: u64,
 ) -> Result<Reply, TryFault>
     requires idle { IsIdle table.now seat.old }
-    ensures asked { HasAsked table.now G.becomes AreTries (twice_steps table.now.layout) (call_of ask key.now value) result (seat.old, gate.old) (seat.new, gate.new) }
+    ensures asked { HasAsked table.now G.becomes (AreTries table.now.layout result) (twice_steps table.now.layout) (call_of ask key.now value) result (seat.old, gate.old) (seat.new, gate.new) }
     ensures leafless { ask ≡ Ask.Remove → result ≢ Err TryFault.FullLeaves }
 {
     match try_once(table, seat, gate, room, ask, key, value) {
@@ -74,7 +74,8 @@ fn try_twice<G: Gate>(
             room.held_back = round.held_back;
             try_once(table, seat, gate, room, ask, key, value)
         }
-        outcome => outcome,
+        Err(TryFault::Busy) => Err(TryFault::Busy),
+        Ok(reply) => Ok(reply),
     }
 }
 

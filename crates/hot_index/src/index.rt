@@ -139,7 +139,7 @@ impl Index {
         requires { Owns self.now pass.old }
         ensures own { Owns self.now pass.new }
         ensures call { MatchResult result (IsNoted self.now.layout pass.old pass.new (Insert key.now value)) (IsRefused self.now.layout pass.old pass.new) }
-        ensures made { HasMade self.now untold (pass.old, tt) (pass.new, tt) }
+        ensures made { HasMade self.now untold result (pass.old, tt) (pass.new, tt) }
     {
         self.try_insert_with(pass, key, value, &mut NoGate)
     }
@@ -155,7 +155,7 @@ impl Index {
         requires { Owns self.now pass.old }
         ensures own { Owns self.now pass.new }
         ensures call { MatchResult result (IsNoted self.now.layout pass.old pass.new (Insert key.now value)) (IsRefused self.now.layout pass.old pass.new) }
-        ensures made { HasMade self.now G.becomes (pass.old, gate.old) (pass.new, gate.new) }
+        ensures made { HasMade self.now G.becomes result (pass.old, gate.old) (pass.new, gate.new) }
     {
         try_change(
             &self.table,
@@ -175,7 +175,7 @@ impl Index {
         requires { Owns self.now pass.old }
         ensures own { Owns self.now pass.new }
         ensures call { MatchResult result (IsNoted self.now.layout pass.old pass.new (Upsert key.now value)) (IsRefused self.now.layout pass.old pass.new) }
-        ensures made { HasMade self.now untold (pass.old, tt) (pass.new, tt) }
+        ensures made { HasMade self.now untold result (pass.old, tt) (pass.new, tt) }
     {
         self.try_upsert_with(pass, key, value, &mut NoGate)
     }
@@ -191,7 +191,7 @@ impl Index {
         requires { Owns self.now pass.old }
         ensures own { Owns self.now pass.new }
         ensures call { MatchResult result (IsNoted self.now.layout pass.old pass.new (Upsert key.now value)) (IsRefused self.now.layout pass.old pass.new) }
-        ensures made { HasMade self.now G.becomes (pass.old, gate.old) (pass.new, gate.new) }
+        ensures made { HasMade self.now G.becomes result (pass.old, gate.old) (pass.new, gate.new) }
     {
         try_change(
             &self.table,
@@ -212,7 +212,7 @@ impl Index {
         requires { Owns self.now pass.old }
         ensures own { Owns self.now pass.new }
         ensures call { MatchResult result (IsNoted self.now.layout pass.old pass.new (Remove key.now)) (IsRefused self.now.layout pass.old pass.new) }
-        ensures made { HasMade self.now untold (pass.old, tt) (pass.new, tt) }
+        ensures made { HasMade self.now untold result (pass.old, tt) (pass.new, tt) }
         ensures leafless { result ≢ Err TryFault.FullLeaves }
     {
         self.try_remove_with(pass, key, &mut NoGate)
@@ -228,7 +228,7 @@ impl Index {
         requires { Owns self.now pass.old }
         ensures own { Owns self.now pass.new }
         ensures call { MatchResult result (IsNoted self.now.layout pass.old pass.new (Remove key.now)) (IsRefused self.now.layout pass.old pass.new) }
-        ensures made { HasMade self.now G.becomes (pass.old, gate.old) (pass.new, gate.new) }
+        ensures made { HasMade self.now G.becomes result (pass.old, gate.old) (pass.new, gate.new) }
         ensures leafless { result ≢ Err TryFault.FullLeaves }
     {
         try_change(

@@ -3,4 +3,4 @@ use Rattle.hot_index.proofs.Tracing.{made_untold}
 use Rattle.hot_index.proofs.index.Index.try_remove.Goals as goal
 
 pub returns-clause-made : goal.returns-clause-made
-returns-clause-made c = made_untold _ _ _ _ c.try_remove_with.ensures.made
+returns-clause-made c = made_untold _ _ _ _ _ c.try_remove_with.ensures.made
