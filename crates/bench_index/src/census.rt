@@ -1,26 +1,61 @@
-//! How many node records of an index are in use.
+//! What a gate sees of the records of an index.
 
 use hot_index::{Event, Gate};
 use rowex_core::{Act, Rec};
 
-/// Counts the nodes of which it is told that they are not free.
+/// The most records that a round visits which gives back only what its own pass has retired.
+const MOST_OF_OWN: u32 = 128;
+
+/// Counts the steps that it is told, and what rounds of collection do and find.
 #[derive(Drop)]
 pub struct Census {
+    pub steps: u64,
+    /// How many rounds have visited more records than a pass visits for those that it has retired.
+    pub full_rounds: u32,
+    /// How many node records the last round has found in use.
     pub nodes: u32,
+    /// How many records the round has visited that goes on; none where none does.
+    visits: Option<u32>,
+}
+
+impl Census {
+    pub fn new() -> Census {
+        Census {
+            steps: 0,
+            full_rounds: 0,
+            nodes: 0,
+            visits: None,
+        }
+    }
+
+    /// Counts a record that the round has visited, if one goes on.
+    fn visit(&mut self, rec: Rec, word: u64) {
+        if let Some(before) = self.visits {
+            self.visits = Some(before.saturating_add(1));
+            if before == MOST_OF_OWN {
+                self.full_rounds = self.full_rounds.saturating_add(1);
+            }
+            if word != 0 && matches!(rec, Rec::Node(_)) {
+                self.nodes = self.nodes.saturating_add(1);
+            }
+        }
+    }
 }
 
 impl Gate for Census {
     ghost becomes = { λ _ _ _. Unit {0} };
 
     fn at(&mut self, event: &Event) {
-        if let Act::LoadState {
-            rec: Rec::Node(_),
-            word,
-        } = event.act
-        {
-            if word != 0 {
-                self.nodes = self.nodes.saturating_add(1);
+        self.steps = self.steps.saturating_add(1);
+        match event.act {
+            // A round looks for the least pin, and then visits records. An attempt begins with its own pin.
+            Act::LoadPin { .. } => {
+                self.visits = Some(0);
+                self.nodes = 0;
             }
+            Act::SetPin { .. } => self.visits = None,
+            Act::LoadState { rec, word } => self.visit(rec, word),
+            _ => {}
         }
     }
 }

@@ -5,11 +5,11 @@ ghost use Rattle.hot_index.specs.Passes.{Owns};
 
 use crate::census::Census;
 use crate::keys::{LAST, key_of};
-use crate::load::{Load, THREADS};
+use crate::load::{Load, Pair, THREADS};
 use crate::map::{Change, OrderedMap};
 use crate::measure::measure;
 use crate::work::Rate;
-use hot_index::{Index, IndexFault, Key, Pass, Reply, create};
+use hot_index::{Call, Index, IndexFault, Key, Pass, Reply, TryFault, create};
 use std::alloc::Global;
 use std::io;
 use std::io::ErrorKind;
@@ -19,6 +19,15 @@ use std::thread::{Threads, yield_now};
 
 /// How often a change is tried, where all records are taken.
 const TRIES: u32 = 100_000;
+
+/// How a call asks for its change.
+#[derive(Clone, Copy)]
+pub enum Form {
+    /// It waits for others.
+    Waits,
+    /// It tries, and may be refused as busy.
+    Tries,
+}
 
 /// A pass at its index.
 #[derive(Drop)]
@@ -70,9 +79,35 @@ impl Guest<'_> {
     pub fn nodes_in_use(&mut self) -> u32 {
         self.index.collect(&mut self.pass);
         self.index.collect(&mut self.pass);
-        let mut census = Census { nodes: 0 };
+        let mut census = Census::new();
         self.index.collect_with(&mut self.pass, &mut census);
         census.nodes
+    }
+
+    /// The number of its pass.
+    pub fn number(&self) -> u16 {
+        self.pass.number()
+    }
+
+    /// Gives a key a value, and tells whether that was refused as full.
+    pub fn is_refused<R: Wait>(
+        &mut self,
+        rt: &R,
+        form: Form,
+        pair: &Pair,
+        census: &mut Census,
+    ) -> bool {
+        let (index, pass) = (self.index, &mut self.pass);
+        match form {
+            Form::Waits => Key::from_bytes(pair.key.as_bytes()).is_ok_and(|key| {
+                let call = Call::Upsert(key, pair.value);
+                index.call_with(rt, pass, &call, census).is_err()
+            }),
+            Form::Tries => matches!(
+                index.try_upsert_with(pass, &pair.key, pair.value, census),
+                Err(TryFault::FullNodes | TryFault::FullLeaves)
+            ),
+        }
     }
 }
 
@@ -113,12 +148,16 @@ pub fn next_guest<'a>(
     }
 }
 
-/// Guests of an index with these passes, one for each thread.
-fn guests<'a>(alloc: Global, index: &'a Index, mut passes: Vec<Pass>) -> io::Result<Vec<Guest<'a>>>
+/// Guests of an index, one for each of these passes.
+pub fn guests<'a>(
+    alloc: Global,
+    index: &'a Index,
+    mut passes: Vec<Pass>,
+) -> io::Result<Vec<Guest<'a>>>
     requires { All (Owns index.now) passes.items }
 {
     let mut guests = Vec::new(alloc);
-    for _thread in 0..THREADS {
+    for _thread in 0..passes.len() {
         guests.push(next_guest(alloc, index, &mut passes)?)?;
     }
     Ok(guests)

@@ -12,6 +12,7 @@ mod map;
 mod measure;
 mod options;
 mod report;
+mod tight;
 mod together;
 mod tree;
 mod work;
@@ -27,6 +28,7 @@ use std::io::ErrorKind;
 use std::rt::{Clock, Env};
 use std::sync::Wait;
 use std::thread::Threads;
+use tight::measure_tight;
 use tree::measure_tree;
 use work::{mixed, same_answers};
 
@@ -80,6 +82,10 @@ where
     let mut checksum = 0;
     for kind in KINDS {
         checksum = mixed(checksum, measure_kind(rt, &options, kind)?);
+    }
+    for count in options.counts.iter() {
+        let load = Load::new(rt.alloc(), Kind::Random, *count, options.is_check)?;
+        measure_tight(rt, &load, options.is_check)?;
     }
     println!(rt; "the index and the B-tree gave the same answers, checksum {checksum:016x}")
 }
