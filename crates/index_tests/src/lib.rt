@@ -15,6 +15,8 @@ mod orders;
 #[cfg(test)]
 mod refused;
 #[cfg(test)]
+mod reuse;
+#[cfg(test)]
 mod streams;
 #[cfg(test)]
 mod threads;
