@@ -97,14 +97,16 @@ impl Guest<'_> {
         pair: &Pair,
         census: &mut Census,
     ) -> bool {
-        let (index, pass) = (self.index, &mut self.pass);
         match form {
-            Form::Waits => Key::from_bytes(pair.key.as_bytes()).is_ok_and(|key| {
-                let call = Call::Upsert(key, pair.value);
-                index.call_with(rt, pass, &call, census).is_err()
-            }),
+            Form::Waits => {
+                let call = Call::Upsert(pair.key.copy(), pair.value);
+                self.index
+                    .call_with(rt, &mut self.pass, &call, census)
+                    .is_err()
+            }
             Form::Tries => matches!(
-                index.try_upsert_with(pass, &pair.key, pair.value, census),
+                self.index
+                    .try_upsert_with(&mut self.pass, &pair.key, pair.value, census),
                 Err(TryFault::FullNodes | TryFault::FullLeaves)
             ),
         }

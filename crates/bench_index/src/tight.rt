@@ -74,12 +74,9 @@ fn print_tally<R: Print>(
         "  {:<6} keys, {threads} that {form:<4} {spare:>6} %",
         load.count
     )?;
+    let steps = tally.steps.checked_div(u64::from(tally.calls)).unwrap_or(0);
     print!(rt; "{:>15}{:>14}", tally.refused, tally.full_rounds)?;
-    println!(rt;
-        "{:>14.1}{:>14.0}",
-        tally.steps as f64 / calls,
-        time.as_secs_f64() * 1e9 / calls
-    )
+    println!(rt; "{steps:>14}{:>14.0}", time.as_secs_f64() * 1e9 / calls)
 }
 
 /// What so many threads do with a new index of the load's keys, and the time that it takes.
