@@ -1,8 +1,8 @@
 -- What claims of records come to.
 use Rattle.std.proofs.Common.{◌≡◌, ◌≢◌, ℕ, zero, suc, ◌+◌, ◌-◌, ◌<◌, ◌≤◌, ◌*◌, inl, inr, List, [], ◌∷◌, ◌++◌, length, Option, Bool, true, false, nat_lt, nat_eq, if◌then◌else◌, refl, sym, ap, subst, ◌∙◌, arith, length-append}
 use Rattle.std.specs.Prelude.{All, Contains}
-use Rattle.std.proofs.lemmas.Bool.{eqb-true, ltb-true, ltb-false, lt-ltb, le-ltb}
-use Rattle.std.proofs.lemmas.List.Elements.{All-weaker}
+use Rattle.std.proofs.lemmas.Bool.{eqb-true, eqb-false, ltb-true, ltb-false, lt-ltb, le-ltb}
+use Rattle.std.proofs.lemmas.List.Elements.{All-contains, All-weaker}
 use Rattle.record_words.specs.State.{state_word}
 use Rattle.moments.specs.declared.Rec.{Rec}
 use Rattle.moments.specs.Core.{Fate, Free, Held as HeldBy, Ready as ReadyBy, InTree, Unlinked, Marked}
@@ -178,6 +178,17 @@ module _ {G : Type 0} (table : TableView) (becomes : G → Event → G → Type 
         };
       }
 
+  -- what the pass holds is not free
+  pub held_misses : (r : Rec) (words : List ℕ) (word : ℕ) (a b : SeatView × G) → OwnsAs a.0.known r Held words → Steps table becomes (LoadState r word) a b → MissesOne table becomes r a b
+  held_misses r words word a b has step = missed_by_load r word a b (taken (nat_eq word 0) refl) step
+    where
+      taken : (free : Bool) → nat_eq word 0 ≡ free → 1 ≤ word
+      taken true is =
+          let e = step.event in
+          let none : e.core.fate r ≡ Free = free_tag (lock_of e.core r) (e.core.fate r) (sym e.legal.1.1 ∙ eqb-true word 0 is) in
+          absurd (All-contains (λ o. o.rec ≢ r) a.0.known.own (record { rec = r; holding = Held; words = words }) (free_apart e.core a.0.known r e.knows none) has refl)
+      taken false is = let some = eqb-false word 0 is in omega arith
+
   -- Tries in turn
 
   pub finds_none : (kind : ℕ → Rec) (n from : ℕ) (a : SeatView × G) → FindsNone table becomes kind n from 0 a a
@@ -227,9 +238,9 @@ module _ {G : Type 0} (table : TableView) (becomes : G → Event → G → Type 
               (subst (λ y. HasMissedSince (one.failed ∷ none.missed) (kind y) a.0.known.steps) is
               (missed_among (one.failed ∷ []) none.missed (kind number) a.0.known.steps (missed_earlier (one.failed ∷ []) (kind number) a.0.known.steps i.0.known.steps at one.tells)))
 
-  -- all have been tried
-  pub finds_all : (kind : ℕ → Rec) (n from begin m : ℕ) (a b : SeatView × G) → from ≡ begin → m ≡ n → FindsNone table becomes kind n from m a b → FindsNone table becomes kind n begin n a b
-  finds_all kind n from begin m a b is all none = subst (λ z. FindsNone table becomes kind n z n a b) is (subst (λ z. FindsNone table becomes kind n from z a b) all none)
+  -- all have been tried that may be
+  pub finds_all : (kind : ℕ → Rec) (n from begin m most : ℕ) (a b : SeatView × G) → from ≡ begin → m ≡ most → FindsNone table becomes kind n from m a b → FindsNone table becomes kind n begin most a b
+  finds_all kind n from begin m most a b is all none = subst (λ z. FindsNone table becomes kind n z most a b) is (subst (λ z. FindsNone table becomes kind n from z a b) all none)
 
   -- where all have been tried, each was found not free since the first
   pub all_missed : (kind : ℕ → Rec) (n from : ℕ) (a b : SeatView × G) → from < n → FindsNone table becomes kind n from n a b → AllMissed kind n b.0.known.failed a.0.known.steps
@@ -239,10 +250,10 @@ module _ {G : Type 0} (table : TableView) (becomes : G → Event → G → Type 
       (subst (λ z. HasMissedSince none.missed (kind z) a.0.known.steps) turn.2 (none.each turn.0 turn.1)))
 
   -- some that were not free, and then one that was
-  pub claims_next : (kind : ℕ → Rec) (n from begin m number : ℕ) (a i b : SeatView × G) → from ≡ begin → m < n → number ≡ wrapped n from m → FindsNone table becomes kind n from m a i
-      → ClaimsOne table becomes (kind number) i b → Claims table becomes kind n begin number a b
-  claims_next kind n from begin m number a i b same low is none one =
-      subst (λ z. Claims table becomes kind n z number a b) same (record { tried = m; low = low; number_is = is; before = i; none = none; one = one })
+  pub claims_next : (kind : ℕ → Rec) (n from begin m number left less : ℕ) (a i b : SeatView × G) → from ≡ begin → m < n → number ≡ wrapped n from m → less + m + 1 ≡ left → FindsNone table becomes kind n from m a i
+      → ClaimsOne table becomes (kind number) i b → (claims : Claims table becomes kind n begin number a b) × (less + claims.tried + 1 ≡ left)
+  claims_next kind n from begin m number left less a i b same low is count none one =
+      subst (λ z. (claims : Claims table becomes kind n z number a b) × (less + claims.tried + 1 ≡ left)) same (record { tried = m; low = low; number_is = is; before = i; none = none; one = one }, count)
 
   pub claims_holds : (kind : ℕ → Rec) (n from number : ℕ) (a b : SeatView × G) → Claims table becomes kind n from number a b → HoldsOneMore (kind number) a.0.known b.0.known
   claims_holds kind n from number a b claims = more_since (kind number) a.0.known claims.before.0.known b.0.known claims.none.own claims.one.holds

@@ -1,6 +1,6 @@
 //! Records claimed, and given up again.
 
-ghost use Rattle.std.specs.Prelude.{◌≡◌, ◌<◌, true, false, IfNone, IfSome, MatchOption, All};
+ghost use Rattle.std.specs.Prelude.{◌≡◌, ◌<◌, ◌≤◌, ◌+◌, ◌-◌, min, true, false, IfNone, IfSome, MatchOption, All};
 ghost use Rattle.rowex_core.specs.Cores.{HasRecord};
 ghost use Rattle.rowex_table.specs.Rights.{IsClaimed};
 ghost use Rattle.rowex_table.specs.Seats.{IsSeatOf};
@@ -42,32 +42,39 @@ impl RecordKind {
 
 /// Claims the first record of a kind that it finds free; answers its number.
 ///
-/// Each record is tried once, from number `from` on, and from 0 on after the last; `None` if no try found one free. A try loads the
-/// state, and claims only what it saw free. A `from` that is out of range counts as 0.
+/// Each record is tried once, from number `from` on, and from 0 on after the last, but no more than `left`, which is less by those
+/// that were tried; `None` if no try found one free. A try loads the state, and claims only what it saw free. A `from` that is out
+/// of range counts as 0.
 pub fn claim_record<G: Gate>(
     table: &HotTable,
     seat: &mut TableSeat,
     gate: &mut G,
     kind: RecordKind,
     from: u32,
+    left: &mut u32,
 ) -> Option<u32>
     requires own { IsSeatOf table.now seat.old }
     ensures claims { MatchOption result
-        (let n = count_of kind table.now.layout in
-        FindsNone table.now G.becomes (record_of kind) n (begin_of n from) n (seat.old, gate.old) (seat.new, gate.new))
+        (let n = count_of kind table.now.layout in let m = min n left.old in (left.new ≡ left.old - m) ×
+        FindsNone table.now G.becomes (record_of kind) n (begin_of n from) m (seat.old, gate.old) (seat.new, gate.new))
         (λ number. let n = count_of kind table.now.layout in
-        Claims table.now G.becomes (record_of kind) n (begin_of n from) number (seat.old, gate.old) (seat.new, gate.new)) }
-    ensures none { IfNone result (AllMissed (record_of kind) (count_of kind table.now.layout) seat.new.known.failed seat.old.known.steps) }
+        (claims : Claims table.now G.becomes (record_of kind) n (begin_of n from) number (seat.old, gate.old) (seat.new, gate.new)) ×
+        (left.new + claims.tried + 1 ≡ left.old)) }
+    ensures none { IfNone result (count_of kind table.now.layout ≤ left.old →
+        AllMissed (record_of kind) (count_of kind table.now.layout) seat.new.known.failed seat.old.known.steps) }
     ensures held { IfSome result (λ number. (number < count_of kind table.now.layout) × IsClaimed seat.new.known (record_of kind number)) }
 {
     let all = kind.count(table.layout());
     let begin = first(from, all);
-    for tried in 0..all {
+    let most = all.min(*left);
+    for tried in 0..most {
         let number = turn(begin, tried, all);
         if try_record(table, seat, gate, kind.record_at(number)) {
+            *left -= tried + 1;
             return Some(number);
         }
     }
+    *left -= most;
     None
 }
 

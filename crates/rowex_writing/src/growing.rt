@@ -68,11 +68,12 @@ fn grow_with<G: Gate>(
     leaf: u32,
 ) -> Result<(), Full>
     requires may { (value : ℕ) × MayGrow table.now seat.old build.old.made.items way.now key.now value span position first last leaf }
+    requires whole { build.old.left_nodes ≡ table.now.layout.nodes }
     ensures run { HasRun table.now G.becomes (seat.old, gate.old) (seat.new, gate.new) }
     ensures stored { result ≡ Ok tt → (value : ℕ) → MayGrow table.now seat.old build.old.made.items way.now key.now value span position first last leaf →
         HasChanged seat.old.known seat.new.known (added_change seat.old.known.pass (item leaf key.now value)) None }
     ensures full { IfErr result (λ full. HasNoRoom table.now.layout seat.old.known seat.new.known full) }
-    ensures few { seat.new.known.steps ≤ seat.old.known.steps + 2161 * level_steps table.now.layout + 6600 }
+    ensures few { seat.new.known.steps ≤ seat.old.known.steps + 2161 * level_steps + 2 * table.now.layout.nodes + 10922 }
 {
     let top = span.len - 1;
     let Some((entry, stays)) = raise_grown(

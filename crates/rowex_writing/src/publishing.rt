@@ -50,12 +50,15 @@ pub fn make_leaf<G: Gate>(
     requires key { IsKey key.now }
     ensures goes { WorksOn table.now G.becomes (seat.old, gate.old) (seat.new, gate.new) }
     ensures leaf { HasLeafWords (key.now, value) }
+    ensures left { build.new.left_nodes ≡ table.now.layout.nodes }
     ensures made { MatchOption result
         ((seat.new.known.own ≡ []) × AllMissed a_leaf table.now.layout.leaves seat.new.known.failed seat.old.known.steps)
         (λ n. IsBuilding table.now seat.new build.new.made.items (of_leaf (item n key.now value) ∷ [])) }
     ensures few { seat.new.known.steps ≤ seat.old.known.steps + 2 * table.now.layout.leaves + 2 + 2 * LEAF_FIELDS }
 {
     build.made.clear();
+    build.left_nodes = table.layout().nodes;
+    let mut left_leaves = table.layout().leaves;
     let number = claim_next(
         table,
         seat,
@@ -63,6 +66,7 @@ pub fn make_leaf<G: Gate>(
         RecordKind::Leaf,
         &mut build.spare_leaves,
         &mut build.next_leaf,
+        &mut left_leaves,
     )?;
     fill_leaf(table, seat, gate, number, key, value);
     build.made.push(Rec::Leaf(number));

@@ -36,6 +36,7 @@ pub fn take_leaf<G: Gate>(
     ensures few { seat.new.known.steps ≤ seat.old.known.steps + change_steps table.now.layout }
 {
     build.made.clear();
+    build.left_nodes = table.layout().nodes;
     match found {
         Found::Nothing => unreachable!(),
         Found::Leaf { number, .. } => {
@@ -81,6 +82,7 @@ fn remake_without<G: Gate>(
 ) -> Result<(), Full>
     requires below { (m : ℕ) × (value : ℕ) × HasLeafBelow table.now seat.old m key.now way.now number value span }
     requires made { build.old.made.items ≡ [] }
+    requires whole { build.old.left_nodes ≡ table.now.layout.nodes }
     ensures run { HasRun table.now G.becomes (seat.old, gate.old) (seat.new, gate.new) }
     ensures taken { (m value : ℕ) → HasLeafBelow table.now seat.old m key.now way.now number value span → result ≡ Ok tt →
         HasTaken seat.old.known seat.new.known key.now (LeafFound number value None) }

@@ -1,32 +1,64 @@
 -- The spare record was not free, or there was none; then one of all records is claimed, or none was free.
-use Rattle.std.proofs.Common.{◌∙◌}
+use Rattle.std.proofs.Common.{◌∷◌, [], ◌∙◌, arith, ap, subst, sym}
+use Rattle.std.proofs.lemmas.List.Elements.{Contains-append_left}
 use Rattle.rowex_records.specs.Claims.{count_of, record_of}
-use Rattle.rowex_records.proofs.Claimed.{all_earlier, claims_holds, more_since}
+use Rattle.rowex_records.proofs.Claimed.{claims_holds, more_since}
+use Rattle.rowex_writing.proofs.Counting.{claims_count, none_count}
 use Rattle.rowex_writing.proofs.Locking.{goes_more, seat_of}
-use Rattle.rowex_writing.proofs.Making.{none_on, claim_on, steps_rise}
+use Rattle.rowex_writing.proofs.Making.{none_on, claim_on}
+use Rattle.rowex_writing.proofs.Walking.{walk_on, walk_out, walk_claims}
 use Rattle.rowex_writing.proofs.claims.claim_next.Goals as goal
+
+pub returns-in-Some-clause-walk : goal.returns-in-Some-clause-walk
+returns-in-Some-clause-walk g c = λ since made w.
+    walk_on (record_of c.args.kind) (count_of c.args.kind c.args.table.now.layout) c.args.table.now g.G.Gate.becomes since (c.args.seat.now, c.args.gate.now) (c.claim_spare.new.seat, c.claim_spare.new.gate) made _ _ _
+    c.claim_spare.ensures.goes (λ r has. Contains-append_left made _ r has) w
 
 pub claim_record-requires : goal.claim_record-requires
 claim_record-requires g c = record { own = seat_of c.args.table.now g.G.Gate.becomes (c.args.seat.now, c.args.gate.now) (c.claim_spare.new.seat, c.claim_spare.new.gate) c.claim_spare.ensures.goes c.requires.own }
 
 pub returns-in_err-number-clause-goes : goal.returns-in_err-number-clause-goes
 returns-in_err-number-clause-goes g c =
-    goes_more c.args.table.now g.G.Gate.becomes _ _ _ c.claim_spare.ensures.goes (none_on c.args.table.now g.G.Gate.becomes (record_of c.args.kind) _ _ _ _ _ c.in_err-number.ensures.claims)
+    goes_more c.args.table.now g.G.Gate.becomes _ _ _ c.claim_spare.ensures.goes (none_on c.args.table.now g.G.Gate.becomes (record_of c.args.kind) _ _ _ _ _ c.in_err-number.ensures.claims.1)
 
 pub returns-in_err-number-clause-claims : goal.returns-in_err-number-clause-claims
-returns-in_err-number-clause-claims g c = rw c.from_residual.ensures (
-  c.in_err-number.ensures.claims.own ∙ c.in_default.ensures.claims,
-  all_earlier (record_of c.args.kind) (count_of c.args.kind c.args.table.now.layout) c.claim_record.new.seat.known.failed c.args.seat.now.known.steps c.claim_spare.new.seat.known.steps
-      (steps_rise c.args.table.now g.G.Gate.becomes c.claim_spare.ensures.goes.acts (c.args.seat.now, c.args.gate.now) (c.claim_spare.new.seat, c.claim_spare.new.gate) c.claim_spare.ensures.goes.steps) c.in_err-number.ensures.none,
-)
+returns-in_err-number-clause-claims g c = rw c.from_residual.ensures (c.in_err-number.ensures.claims.1.own ∙ c.in_default.ensures.claims)
+
+pub returns-in_err-number-clause-walk : goal.returns-in_err-number-clause-walk
+returns-in_err-number-clause-walk g c = λ since made w. rw c.from_residual.ensures
+    (let count = w.count in let less = c.in_err-number.ensures.claims.0 in (
+        omega arith,
+        walk_out (record_of c.args.kind) (count_of c.args.kind c.args.table.now.layout) c.args.table.now g.G.Gate.becomes since c.args.left.now c.claim_record.new.left (c.claim_spare.new.seat, c.claim_spare.new.gate) (c.claim_record.new.seat, c.claim_record.new.gate) made
+            c.args.next.now _ (none_on c.args.table.now g.G.Gate.becomes (record_of c.args.kind) _ _ _ _ _ c.in_err-number.ensures.claims.1) (omega arith) (omega arith) c.in_err-number.ensures.claims.1
+            (walk_on (record_of c.args.kind) (count_of c.args.kind c.args.table.now.layout) c.args.table.now g.G.Gate.becomes since (c.args.seat.now, c.args.gate.now) (c.claim_spare.new.seat, c.claim_spare.new.gate) made made c.args.next.now c.args.left.now
+            c.claim_spare.ensures.goes (λ r has. has) w),
+      ))
+
+pub returns-in_err-number-clause-few : goal.returns-in_err-number-clause-few
+returns-in_err-number-clause-few g c =
+    let few = none_count c.args.table.now g.G.Gate.becomes _ _ _ _ (c.claim_spare.new.seat, c.claim_spare.new.gate) (c.claim_record.new.seat, c.claim_record.new.gate) c.in_err-number.ensures.claims.1 in
+    omega (arith, few, c.in_err-number.ensures.claims.0, c.claim_spare.ensures.few)
 
 pub returns-clause-goes : goal.returns-clause-goes
 returns-clause-goes g c =
-    goes_more c.args.table.now g.G.Gate.becomes _ _ _ c.claim_spare.ensures.goes (claim_on c.args.table.now g.G.Gate.becomes (record_of c.args.kind) _ _ _ _ _ c.in_ok-number.ensures.claims)
+    goes_more c.args.table.now g.G.Gate.becomes _ _ _ c.claim_spare.ensures.goes (claim_on c.args.table.now g.G.Gate.becomes (record_of c.args.kind) _ _ _ _ _ c.in_ok-number.ensures.claims.0)
 
 pub returns-clause-claims : goal.returns-clause-claims
 returns-clause-claims g c = (
   c.in_ok-number.ensures.held.0,
   more_since (record_of c.args.kind c.in_ok-number.number) c.args.seat.now.known c.claim_spare.new.seat.known c.claim_record.new.seat.known c.in_default.ensures.claims
-      (claims_holds c.args.table.now g.G.Gate.becomes (record_of c.args.kind) _ _ c.in_ok-number.number (c.claim_spare.new.seat, c.claim_spare.new.gate) (c.claim_record.new.seat, c.claim_record.new.gate) c.in_ok-number.ensures.claims),
+      (claims_holds c.args.table.now g.G.Gate.becomes (record_of c.args.kind) _ _ c.in_ok-number.number (c.claim_spare.new.seat, c.claim_spare.new.gate) (c.claim_record.new.seat, c.claim_record.new.gate) c.in_ok-number.ensures.claims.0),
 )
+
+pub returns-clause-walk : goal.returns-clause-walk
+returns-clause-walk g c = λ since made w.
+    walk_claims (record_of c.args.kind) (count_of c.args.kind c.args.table.now.layout) c.args.table.now g.G.Gate.becomes since c.args.left.now c.claim_record.new.left c.in_ok-number.number (c.claim_spare.new.seat, c.claim_spare.new.gate)
+    (c.claim_record.new.seat, c.claim_record.new.gate) made c.args.next.now (claim_on c.args.table.now g.G.Gate.becomes (record_of c.args.kind) _ _ _ _ _ c.in_ok-number.ensures.claims.0) c.in_ok-number.ensures.claims.0 c.in_ok-number.ensures.claims.1
+    (walk_on (record_of c.args.kind) (count_of c.args.kind c.args.table.now.layout) c.args.table.now g.G.Gate.becomes since (c.args.seat.now, c.args.gate.now) (c.claim_spare.new.seat, c.claim_spare.new.gate) made made c.args.next.now c.args.left.now
+    c.claim_spare.ensures.goes (λ r has. has) w)
+
+pub returns-clause-few : goal.returns-clause-few
+returns-clause-few g c =
+    let claims = c.in_ok-number.ensures.claims.0 in
+    let few = claims_count c.args.table.now g.G.Gate.becomes (record_of c.args.kind) _ _ c.in_ok-number.number (c.claim_spare.new.seat, c.claim_spare.new.gate) (c.claim_record.new.seat, c.claim_record.new.gate) claims in
+    omega (arith, few, c.in_ok-number.ensures.claims.1, c.claim_spare.ensures.few)

@@ -14,6 +14,8 @@ use Rattle.rowex_writing.proofs.Runs.{goes_run, runs_trans, works_run}
 use Rattle.rowex_writing.proofs.Keeping.{changed_since, made_held, made_records}
 use Rattle.rowex_writing.proofs.Counting.{slice_few, times_few}
 use Rattle.rowex_writing.specs.Counts.{level_steps}
+use Rattle.rowex_writing.proofs.Walking.{walk_begins}
+use Rattle.moments.specs.declared.Rec.TheVariants.{Node as a_node}
 use Rattle.rowex_writing.proofs.growing.grow_with.Goals as goal
 use Rattle.rowex_writing.proofs.growing.grow_with.Goals.{then-stays, else-stays}
 use Rattle.tries.specs.Content.{item}
@@ -43,8 +45,9 @@ returns-in_default-clause-run g c =
 
 pub returns-in_default-clause-full : goal.returns-in_default-clause-full
 returns-in_default-clause-full g c =
-    no_room c.args.table.now g.G.Gate.becomes (c.args.seat.now, c.args.gate.now) (c.raise_grown.new.seat, c.raise_grown.new.gate) (c.undo.new.seat, c.undo.new.gate) c.raise_grown.new.build.made.items
-    c.in_default.ensures.goes c.undo.ensures.works c.undo.ensures.rest (c.in_default.ensures.made c.requires.may.1.growing)
+    no_room c.args.table.now g.G.Gate.becomes (c.args.seat.now, c.args.gate.now) (c.raise_grown.new.seat, c.raise_grown.new.gate) (c.undo.new.seat, c.undo.new.gate)
+    c.in_default.ensures.goes c.undo.ensures.works c.undo.ensures.rest (c.in_default.ensures.walk c.args.seat.now.known.steps
+    (walk_begins a_node c.args.table.now.layout.nodes c.args.seat.now.known c.args.build.now.made.items c.args.build.now.next_node c.args.build.now.left_nodes c.args.table.now.layout.nodes_in_range.0 c.requires.whole))
 
 pub publish_change-requires-clause-own : goal.publish_change-requires-clause-own
 publish_change-requires-clause-own g c = seat_of c.args.table.now g.G.Gate.becomes (c.args.seat.now, c.args.gate.now) (c.raise_grown.new.seat, c.raise_grown.new.gate) c.in-Some.ensures.goes c.requires.may.1.growing.lowest.building.seat
@@ -106,11 +109,11 @@ returns-clause-stored g c = λ ok value may.
 pub returns-in_default-clause-few : goal.returns-in_default-clause-few
 returns-in_default-clause-few g c =
     let may = c.requires.may.1 in
-    let levels = times_few (c.args.span.len - 1 - c.args.span.end + 2) 2161 (level_steps c.args.table.now.layout) (omega (arith, may.within.0, may.within.1, may.depth)) in
+    let levels = times_few (c.args.span.len - 1 - c.args.span.end + 2) 2161 level_steps (omega (arith, may.within.0, may.within.1, may.depth)) in
     omega (arith, levels, c.raise_grown.ensures.few, c.undo.ensures.few, c.as_slice.ensures.fits, slice_few c.args.way.now c.saturating_sub.result c.args.span.len, may.within.1, may.depth)
 
 pub returns-clause-few : goal.returns-clause-few
 returns-clause-few g c =
     let may = c.requires.may.1 in
-    let levels = times_few (c.args.span.len - 1 - c.args.span.end + 2) 2161 (level_steps c.args.table.now.layout) (omega (arith, may.within.0, may.within.1, may.depth)) in
+    let levels = times_few (c.args.span.len - 1 - c.args.span.end + 2) 2161 level_steps (omega (arith, may.within.0, may.within.1, may.depth)) in
     omega (arith, levels, c.raise_grown.ensures.few, c.publish_change.ensures.few, c.as_slice-2.ensures.fits)

@@ -4,6 +4,8 @@ use Rattle.record_words.specs.Leaf.{leaf_words}
 use Rattle.moments.specs.declared.Rec.TheVariants.{Leaf as a_leaf}
 use Rattle.rowex_rights.specs.Rises.{of_leaf}
 use Rattle.rowex_writing.specs.Building.{IsBuilding}
+use Rattle.record_words.specs.declared.layout.Layout.{Layout}
+use Rattle.rowex_writing.proofs.Walking.{walk_begins, walk_ends}
 use Rattle.rowex_writing.proofs.Locking.{goes_more, seat_of}
 use Rattle.rowex_writing.proofs.Making.{set_on, building_none, building_more}
 use Rattle.rowex_writing.proofs.publishing.make_leaf.Goals as goal
@@ -19,7 +21,14 @@ pub returns-clause-leaf : goal.returns-clause-leaf
 returns-clause-leaf g c = record { key = c.requires.key; value = c.ranges.value.fits }
 
 pub returns-in_err-number-clause-made : goal.returns-in_err-number-clause-made
-returns-in_err-number-clause-made g c = rw c.from_residual.ensures (c.in_err-number.ensures.claims.0 ∙ c.requires.none, c.in_err-number.ensures.claims.1)
+returns-in_err-number-clause-made g c = 
+    let n = c.args.table.now.layout.leaves in
+    let walk = c.in_err-number.ensures.walk c.args.seat.now.known.steps []
+    (walk_begins a_leaf n c.args.seat.now.known [] c.args.build.now.next_leaf c.layout-2.result.leaves (rw c.layout-2.ensures c.args.table.now.layout.leaves_in_range.0) (ap (λ (z : Layout). z.leaves) c.layout-2.ensures)) in
+    rw c.from_residual.ensures (
+      c.in_err-number.ensures.claims ∙ c.requires.none,
+      walk_ends a_leaf n c.args.seat.now.known.steps c.claim_next.new.seat.known [] c.claim_next.new.next c.claim_next.new.left walk.0 (λ r has. let low = has.1 in absurd (omega arith)) walk.1,
+    )
 
 pub returns-clause-goes : goal.returns-clause-goes
 returns-clause-goes g c =

@@ -15,6 +15,7 @@ use Rattle.rowex_writing.specs.Changes.{MayEnd}
 use Rattle.rowex_writing.specs.Locks.{numbers_of}
 use Rattle.rowex_writing.specs.Retiring.{AreRecords}
 use Rattle.rowex_writing.proofs.Keeping.{changed_since, made_held, made_records, missed_on, way_nodes}
+use Rattle.rowex_writing.proofs.Walking.{walk_begins}
 use Rattle.rowex_writing.proofs.Locking.{seat_of}
 use Rattle.rowex_writing.proofs.Removing.{IsRaised, gone_are, gone_records, kept_node, left_raised, lowest_locked, may_remake, no_step, spot_in}
 use Rattle.rowex_writing.proofs.Runs.{goes_run, runs_trans, works_run}
@@ -76,7 +77,8 @@ returns-in_default-clause-full g c =
         rest = c.undo.ensures.rest;
         others = later.front;
         full_of = missed_on table g.G.Gate.becomes (λ n. a_node n) table.layout.nodes c.args.seat.now.known.steps (c.raise_without.new.seat, c.raise_without.new.gate) (c.undo.new.seat, c.undo.new.gate)
-            (works_run table g.G.Gate.becomes (c.raise_without.new.seat, c.raise_without.new.gate) (c.undo.new.seat, c.undo.new.gate) c.undo.ensures.works) none.missed;
+            (works_run table g.G.Gate.becomes (c.raise_without.new.seat, c.raise_without.new.gate) (c.undo.new.seat, c.undo.new.gate) c.undo.ensures.works)
+            (c.in_default.ensures.walk c.args.seat.now.known.steps (walk_begins a_node c.args.table.now.layout.nodes c.args.seat.now.known c.args.build.now.made.items c.args.build.now.next_node c.args.build.now.left_nodes c.args.table.now.layout.nodes_in_range.0 c.requires.whole));
       },
     )
 
