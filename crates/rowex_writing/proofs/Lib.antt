@@ -20,6 +20,7 @@ pub mod Attempting
 pub mod Affecting
 pub mod Descents
 pub mod Bridging
+pub mod Classes
 pub mod Confirming
 pub mod Spared
 pub mod Removing
