@@ -42,7 +42,7 @@ fn try_call<G: Gate>(
 ) -> Result<Reply, TryFault>
     requires { Owns index.now pass.old }
     ensures own { Owns index.now pass.new }
-    ensures call { MatchResult result (IsNoted index.now.layout pass.old pass.new call.now) (IsRefused index.now.layout pass.old pass.new) }
+    ensures call { MatchResult result (IsNoted index.now.layout pass.old pass.new call.now) (IsRefused index.now.layout call.now pass.old pass.new) }
     ensures lacks { (full : Full) → result ≡ Err (fault_of full) → MayLack call.now full }
 {
     match call {
