@@ -122,6 +122,11 @@ impl<'a> Guest<'a> {
         self.index.insert(rt, &mut self.pass, key, value)
     }
 
+    /// Gives a key a value by the call that waits.
+    pub fn upsert<R: Wait>(&mut self, rt: &R, key: &Key, value: u64) -> Result<Reply, Full> {
+        self.index.upsert(rt, &mut self.pass, key, value)
+    }
+
     pub fn scan(
         &mut self,
         alloc: Global,

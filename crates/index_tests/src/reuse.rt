@@ -28,7 +28,9 @@ fn insert_all(rt: &impl Abort, guest: &mut Guest, keys: &[Key]) {
 fn use_all(rt: &impl Abort, guest: &mut Guest, further: &[Key]) {
     guest.index.collect(&mut guest.pass);
     guest.index.collect(&mut guest.pass);
-    let (fitting, last) = further.split_at(SPARE as usize);
+    let Some((fitting, last)) = further.split_at_checked(SPARE as usize) else {
+        panic!(rt; "too few keys")
+    };
     insert_all(rt, guest, fitting);
     for key in last {
         assert!(rt; guest.ask(0, key, 0, &mut NoGate) == Err(TryFault::FullLeaves));
@@ -45,7 +47,9 @@ fn use_all(rt: &impl Abort, guest: &mut Guest, further: &[Key]) {
 #[test]
 fn nothing_comes_back_while_a_get_is_stopped(rt: HostRuntime) {
     let keys = pair_keys(&rt, rt.alloc(), 101);
-    let (held, further) = keys.split_at(HELD);
+    let Some((held, further)) = keys.split_at_checked(HELD) else {
+        panic!(rt; "too few keys")
+    };
     let (index, passes) = index_of(&rt, rt.alloc(), 2, 60, 100);
     let mut guests = guests_of(&rt, rt.alloc(), &index, passes);
     let (Some(mut reader), Some(other)) = (guests.pop(), guests.pop()) else {
@@ -97,7 +101,7 @@ fn upsert_some<R: Wait>(rt: &R, mut guest: Guest, keys: &[Key]) -> bool {
     for turn in 0..5_000u64 {
         let number = chance.below(keys.len() as u64);
         if let Some(key) = keys.get(number as usize) {
-            let told = guest.index.upsert(rt, &mut guest.pass, key, turn);
+            let told = guest.upsert(rt, key, turn);
             if !matches!(told, Ok(Reply::Was(_))) {
                 return false;
             }
