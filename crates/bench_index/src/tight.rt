@@ -5,6 +5,7 @@ use crate::census::Census;
 use crate::index::{Form, Guest, guests, index_of, next_guest};
 use crate::load::{Load, THREADS};
 use crate::work::Work;
+use record_words::MAX_LEAVES;
 use std::alloc::Global;
 use std::io;
 use std::rt::Clock;
@@ -46,7 +47,10 @@ where
     }
     for (threads, form) in WAYS {
         for spare in SPARES {
-            let (tally, time) = upsert_with(rt, rt.alloc(), load, threads, form, spare)?;
+            let Some(leaves) = leaves_with(load, spare) else {
+                continue;
+            };
+            let (tally, time) = upsert_with(rt, rt.alloc(), load, threads, form, leaves)?;
             if !is_check {
                 print_tally(rt, load, threads, form, spare, &tally, time)?;
             }
@@ -79,22 +83,27 @@ fn print_tally<R: Print>(
     println!(rt; "{steps:>14}{:>14.0}", time.as_secs_f64() * 1e9 / calls)
 }
 
-/// What so many threads do with a new index of the load's keys, and the time that it takes.
+/// The leaf records of the load's keys, and so many to spare of a hundred; none where an index can't have so many.
+fn leaves_with(load: &Load, spare: u32) -> Option<u32> {
+    let more = u64::from(load.count) * u64::from(spare) / 100;
+    match u32::try_from(more.saturating_add(u64::from(load.count))) {
+        Ok(leaves) if leaves <= MAX_LEAVES => Some(leaves),
+        _ => None,
+    }
+}
+
+/// What so many threads do with a new index of the load's keys and so many leaf records, and the time that it takes.
 fn upsert_with<R>(
     rt: &R,
     alloc: Global,
     load: &Load,
     threads: u32,
     form: Form,
-    spare: u32,
+    leaves: u32,
 ) -> io::Result<(Tally, Duration)>
 where
     R: Clock + Threads + Wait + Sync,
 {
-    let more = u64::from(load.count) * u64::from(spare) / 100;
-    let leaves = load
-        .count
-        .saturating_add(u32::try_from(more).unwrap_or(u32::MAX));
     let (index, mut passes) = index_of(alloc, threads.saturating_add(1), leaves)?;
     let mut first = next_guest(alloc, &index, &mut passes)?;
     let _ = make_all(rt, &mut first, Work::Inserts, &load.stored)?;
