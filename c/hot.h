@@ -12,7 +12,9 @@
  * copies, moves or writes its bytes. malloc, realloc and free are those of one allocator. No call is made from a signal handler, nor
  * in the child of a fork of a process with threads.
  *
- * No call fails otherwise than by its status, and none waits for another. Link with libhot_c.a, liblibc_c.a and -pthread.
+ * No call fails otherwise than by its status, and none waits for another. The library starts no thread and keeps nothing
+ * outside its indexes. Link with libhot.a or libhot.so, as `pkg-config --cflags --libs hot` says; it needs a processor of x86-64-v2 or
+ * later.
  */
 #ifndef HOT_H
 #define HOT_H
@@ -23,6 +25,11 @@
 #ifdef __cplusplus
 extern "C" {
 #endif
+
+/* The version of this header. What was right with an earlier one of the same major number is right with this one. */
+#define HOT_VERSION_MAJOR 1
+#define HOT_VERSION_MINOR 0
+#define HOT_VERSION_PATCH 0
 
 /* The most bytes of a key. */
 #define HOT_MAX_KEY 240
