@@ -12,9 +12,9 @@
  * copies, moves or writes its bytes. malloc, realloc and free are those of one allocator. No call is made from a signal handler, nor
  * in the child of a fork of a process with threads.
  *
- * No call fails otherwise than by its status, and none waits for another. The library starts no thread and keeps nothing
- * outside its indexes. Link with libhot.a or libhot.so, as `pkg-config --cflags --libs hot` says; it needs a processor of x86-64-v2 or
- * later.
+ * No call fails otherwise than by its status, and none waits for another but hot_insert, hot_upsert and hot_remove. The library starts
+ * no thread and keeps nothing outside its indexes. Link with libhot.a or libhot.so, as `pkg-config --cflags --libs hot` says; it needs
+ * POSIX, and a processor of x86-64-v2 or later.
  */
 #ifndef HOT_H
 #define HOT_H
@@ -55,6 +55,9 @@ enum {
     HOT_OUT_OF_RANGE = 14, /* a number of handles, nodes or leaves is out of range */
     HOT_NO_MEMORY = 15
 };
+
+/* What a status says, in a few words of English. The text is the library's and stays; a number that is no status has one too. */
+const char *hot_status_text(hot_status status);
 
 /* A handle. Its fields are the library's. */
 typedef struct hot_handle {
@@ -100,13 +103,26 @@ hot_status hot_try_upsert(hot_handle *handle, const uint8_t *key, size_t length,
  * HOT_REMOVED, HOT_ABSENT; HOT_BUSY, HOT_FULL_NODES, HOT_KEY_TOO_LONG, HOT_CLOSED. */
 hot_status hot_try_remove(hot_handle *handle, const uint8_t *key, size_t length, uint64_t *had);
 
+/* hot_try_insert, hot_try_upsert and hot_try_remove, made again for as long as they are busy; other threads may run between two tries
+ * (sched_yield). A full index is answered at once. How long they wait is not bounded: a thread that is stopped in the middle of a change
+ * keeps those waiting that would change the same nodes.
+ * They write and answer what these do, but for HOT_BUSY. */
+hot_status hot_insert(hot_handle *handle, const uint8_t *key, size_t length, uint64_t value, uint64_t *had);
+hot_status hot_upsert(hot_handle *handle, const uint8_t *key, size_t length, uint64_t value, uint64_t *had);
+hot_status hot_remove(hot_handle *handle, const uint8_t *key, size_t length, uint64_t *had);
+
 /* Lists the keys from `from` to `upto`, both included, with their values, in the order of the keys: the first ones, as many as the
  * array `pairs` has places, which is `limit`. Writes how many these are to `count`, and to `more` 1 where there is a further one, else 0.
  * Other calls may change the index meanwhile: each pair was there at some moment of the call, and each key that was there all along is
- * listed, where there is a further one up to the last pair's. To go on, begin at the last key with a byte 0 after it.
+ * listed, where there is a further one up to the last pair's. To go on, begin at the key that hot_after gives for the last pair.
  * HOT_DONE; HOT_KEY_TOO_LONG, HOT_CLOSED, HOT_NO_MEMORY, and nothing was written then. */
 hot_status hot_scan(hot_handle *handle, const uint8_t *from, size_t from_length, const uint8_t *upto, size_t upto_length,
                     hot_pair *pairs, size_t limit, size_t *count, uint32_t *more);
+
+/* Writes the least key after a pair's to `key`, which has room for HOT_MAX_KEY bytes, and its length: where a scan goes on. It may be
+ * absent in the index.
+ * HOT_DONE; HOT_ABSENT where no key comes after the pair's, and nothing was written then. */
+hot_status hot_after(const hot_pair *pair, uint8_t *key, size_t *length);
 
 /* Gives records back that changes have unlinked and that no call can reach any more, and writes how many. A change that finds no record
  * free does so itself before it gives up, so a program need not.

@@ -1,4 +1,5 @@
-/* Tests of the library from C: each call and each status, two threads on one index, handles closed in any order. */
+/* Tests of the library from C: each call and each status, two threads on one index by calls that wait and by others, handles closed in
+ * any order. */
 #include "hot.h"
 #include <pthread.h>
 #include <stdio.h>
@@ -33,6 +34,11 @@ static void test_calls(void) {
     CHECK(hot_get(&handle, bytes(""), 0, &value) == HOT_FOUND && value == 10);
     CHECK(hot_try_remove(&handle, bytes("b"), 1, &value) == HOT_REMOVED && value == 22);
     CHECK(hot_try_remove(&handle, bytes("b"), 1, &value) == HOT_ABSENT && value == 22);
+    CHECK(hot_insert(&handle, bytes("c"), 1, 30, &value) == HOT_INSERTED && value == 22);
+    CHECK(hot_upsert(&handle, bytes("c"), 1, 31, &value) == HOT_WAS && value == 30);
+    CHECK(hot_insert(&handle, bytes("c"), 1, 32, &value) == HOT_EXISTS && value == 31);
+    CHECK(hot_remove(&handle, bytes("c"), 1, &value) == HOT_REMOVED && value == 31);
+    CHECK(hot_remove(&handle, bytes("c"), 1, &value) == HOT_ABSENT);
     CHECK(hot_destroy(&handle) == HOT_DONE);
 }
 
@@ -58,6 +64,32 @@ static void test_scan(void) {
     CHECK(hot_scan(&handle, bytes("x"), 1, bytes("z"), 1, pairs, 0, &count, &more) == HOT_DONE);
     CHECK(count == 0 && more == 0);
     CHECK(hot_destroy(&handle) == HOT_DONE);
+}
+
+/* Where a scan goes on: after a key, and after one to which no byte can be added. */
+static void test_after(void) {
+    hot_pair pair;
+    uint8_t key[HOT_MAX_KEY];
+    size_t length = 9;
+    memset(&pair, 'a', sizeof pair);
+    pair.length = 2;
+    CHECK(hot_after(&pair, key, &length) == HOT_DONE && length == 3 && !memcmp(key, "aa", 3));
+    pair.length = HOT_MAX_KEY - 1;
+    CHECK(hot_after(&pair, key, &length) == HOT_DONE && length == HOT_MAX_KEY && key[HOT_MAX_KEY - 1] == 0);
+    pair.length = HOT_MAX_KEY;
+    CHECK(hot_after(&pair, key, &length) == HOT_DONE && length == HOT_MAX_KEY && key[HOT_MAX_KEY - 1] == 'b');
+    memset(pair.key + 3, 0xff, HOT_MAX_KEY - 3);
+    CHECK(hot_after(&pair, key, &length) == HOT_DONE && length == 3 && !memcmp(key, "aab", 3));
+    memset(pair.key, 0xff, 3);
+    CHECK(hot_after(&pair, key, &length) == HOT_ABSENT && length == 3);
+}
+
+/* Each status has a text, and what is none has another. */
+static void test_texts(void) {
+    for (hot_status one = HOT_DONE; one <= HOT_NO_MEMORY + 1; one++)
+        for (hot_status other = HOT_DONE; other < one; other++)
+            CHECK(strcmp(hot_status_text(one), hot_status_text(other)));
+    CHECK(!strcmp(hot_status_text(UINT32_MAX), hot_status_text(HOT_NO_MEMORY + 1)));
 }
 
 /* Keys of the greatest length and beyond. */
@@ -90,6 +122,7 @@ static void test_full(void) {
     CHECK(hot_create(10, 1, &handle, 1) == HOT_DONE);
     CHECK(hot_try_insert(&handle, bytes("a"), 1, 1, &had) == HOT_INSERTED);
     CHECK(hot_try_insert(&handle, bytes("b"), 1, 2, &had) == HOT_FULL_LEAVES && had == 7);
+    CHECK(hot_insert(&handle, bytes("b"), 1, 2, &had) == HOT_FULL_LEAVES && had == 7);
     CHECK(hot_try_remove(&handle, bytes("a"), 1, &had) == HOT_REMOVED && had == 1);
     CHECK(hot_try_insert(&handle, bytes("b"), 1, 2, &had) == HOT_INSERTED);
     CHECK(hot_try_remove(&handle, bytes("b"), 1, &had) == HOT_REMOVED && had == 2);
@@ -115,6 +148,7 @@ static void check_closed(hot_handle *handle) {
     CHECK(hot_try_insert(handle, bytes("a"), 1, 1, &value) == HOT_CLOSED);
     CHECK(hot_try_upsert(handle, bytes("a"), 1, 1, &value) == HOT_CLOSED);
     CHECK(hot_try_remove(handle, bytes("a"), 1, &value) == HOT_CLOSED && value == 7);
+    CHECK(hot_upsert(handle, bytes("a"), 1, 1, &value) == HOT_CLOSED && value == 7);
     CHECK(hot_scan(handle, bytes("a"), 1, bytes("b"), 1, &pair, 1, &count, &more) == HOT_CLOSED && count == 7);
     CHECK(hot_collect(handle, &nodes, &leaves) == HOT_CLOSED && nodes == 7);
     CHECK(hot_destroy(handle) == HOT_CLOSED);
@@ -163,8 +197,19 @@ static void test_memory(void) {
 
 enum { KEYS = 300, ROUNDS = 40 };
 
+/* The three changes of a key: those that wait, and those that do not. */
+typedef struct changes {
+    hot_status (*insert)(hot_handle *, const uint8_t *, size_t, uint64_t, uint64_t *);
+    hot_status (*upsert)(hot_handle *, const uint8_t *, size_t, uint64_t, uint64_t *);
+    hot_status (*remove)(hot_handle *, const uint8_t *, size_t, uint64_t *);
+} changes;
+
+static const changes waiting = {hot_insert, hot_upsert, hot_remove};
+static const changes trying = {hot_try_insert, hot_try_upsert, hot_try_remove};
+
 /* What a thread does in an index that it shares. */
 typedef struct worker {
+    const changes *call;
     hot_handle *handle;
     uint8_t name;
     long busy;
@@ -186,12 +231,12 @@ static void *work(void *given) {
             uint64_t mine = (uint64_t)round * KEYS + i;
             hot_status status;
             do
-                status = hot_try_insert(me->handle, key, 3, mine, &value);
+                status = me->call->insert(me->handle, key, 3, mine, &value);
             while (again(me, status));
             CHECK(status == HOT_INSERTED);
             CHECK(hot_get(me->handle, key, 3, &value) == HOT_FOUND && value == mine);
             do
-                status = hot_try_upsert(me->handle, bytes("shared"), 6, me->name, &value);
+                status = me->call->upsert(me->handle, bytes("shared"), 6, me->name, &value);
             while (again(me, status));
             CHECK(status == HOT_NEW || status == HOT_WAS);
         }
@@ -199,7 +244,7 @@ static void *work(void *given) {
             uint8_t key[3] = {(uint8_t)(i % 7), (uint8_t)i, me->name};
             hot_status status;
             do
-                status = hot_try_remove(me->handle, key, 3, &value);
+                status = me->call->remove(me->handle, key, 3, &value);
             while (again(me, status));
             CHECK(status == HOT_REMOVED && value == (uint64_t)round * KEYS + i);
         }
@@ -207,21 +252,29 @@ static void *work(void *given) {
     return NULL;
 }
 
-/* Two threads on one index. Rounds go on until a call met another's, which makes it busy. */
+/* Two workers, at the same time. */
+static void work_together(worker workers[2]) {
+    pthread_t other;
+    CHECK(pthread_create(&other, NULL, work, &workers[1]) == 0);
+    work(&workers[0]);
+    CHECK(pthread_join(other, NULL) == 0);
+}
+
+/* Two threads on one index. Rounds go on until a call met another's, which makes it busy; calls that wait never are. */
 static void test_threads(void) {
     hot_handle handles[2] = {HOT_HANDLE, HOT_HANDLE};
-    worker workers[2] = {{&handles[0], 1, 0}, {&handles[1], 2, 0}};
+    worker tries[2] = {{&trying, &handles[0], 1, 0}, {&trying, &handles[1], 2, 0}};
+    worker waits[2] = {{&waiting, &handles[0], 1, 0}, {&waiting, &handles[1], 2, 0}};
     hot_pair pairs[2];
     size_t count;
     uint32_t more;
     CHECK(hot_create(2000, 3000, handles, 2) == HOT_DONE);
-    for (int tries = 0; tries < 50 && !workers[0].busy && !workers[1].busy && !failures; tries++) {
-        pthread_t other;
-        CHECK(pthread_create(&other, NULL, work, &workers[1]) == 0);
-        work(&workers[0]);
-        CHECK(pthread_join(other, NULL) == 0);
+    for (int times = 0; times < 50 && !tries[0].busy && !tries[1].busy && !failures; times++) {
+        work_together(tries);
+        work_together(waits);
     }
-    CHECK(workers[0].busy || workers[1].busy);
+    CHECK(tries[0].busy || tries[1].busy);
+    CHECK(!waits[0].busy && !waits[1].busy);
     CHECK(hot_scan(&handles[0], bytes(""), 0, bytes("z"), 1, pairs, 2, &count, &more) == HOT_DONE);
     CHECK(count == 1 && more == 0 && (pairs[0].value == 1 || pairs[0].value == 2));
     CHECK(hot_destroy(&handles[0]) == HOT_DONE);
@@ -232,6 +285,8 @@ int main(void) {
     CHECK(sizeof(hot_handle) == 16 && sizeof(hot_pair) == 256);
     test_calls();
     test_scan();
+    test_after();
+    test_texts();
     test_long_keys();
     test_full();
     test_handles();

@@ -1,0 +1,66 @@
+/* What of the library for C is written in C, and tested: the texts of statuses, where a scan goes on, and the calls that wait. */
+#include "hot.h"
+#include <sched.h>
+#include <string.h>
+
+const char *hot_status_text(hot_status status) {
+    switch (status) {
+    case HOT_DONE: return "done";
+    case HOT_FOUND: return "found";
+    case HOT_ABSENT: return "absent";
+    case HOT_INSERTED: return "inserted";
+    case HOT_EXISTS: return "the key exists";
+    case HOT_NEW: return "new";
+    case HOT_WAS: return "replaced";
+    case HOT_REMOVED: return "removed";
+    case HOT_BUSY: return "another call stood in the way";
+    case HOT_FULL_NODES: return "no node record is free";
+    case HOT_FULL_LEAVES: return "no leaf record is free";
+    case HOT_KEY_TOO_LONG: return "a key is too long";
+    case HOT_CLOSED: return "the handle is closed";
+    case HOT_OPEN: return "a handle is open";
+    case HOT_OUT_OF_RANGE: return "a number is out of range";
+    case HOT_NO_MEMORY: return "out of memory";
+    default: return "not a status";
+    }
+}
+
+hot_status hot_after(const hot_pair *pair, uint8_t *key, size_t *length) {
+    size_t kept = pair->length;
+    if (kept < HOT_MAX_KEY) {
+        memcpy(key, pair->key, kept);
+        key[kept] = 0;
+        *length = kept + 1;
+        return HOT_DONE;
+    }
+    /* Nothing can follow this key's bytes, so the next key is greater in one of them. */
+    while (kept > 0 && pair->key[kept - 1] == 0xff)
+        kept--;
+    if (kept == 0)
+        return HOT_ABSENT;
+    memcpy(key, pair->key, kept);
+    key[kept - 1]++;
+    *length = kept;
+    return HOT_DONE;
+}
+
+hot_status hot_insert(hot_handle *handle, const uint8_t *key, size_t length, uint64_t value, uint64_t *had) {
+    hot_status status;
+    while ((status = hot_try_insert(handle, key, length, value, had)) == HOT_BUSY)
+        sched_yield();
+    return status;
+}
+
+hot_status hot_upsert(hot_handle *handle, const uint8_t *key, size_t length, uint64_t value, uint64_t *had) {
+    hot_status status;
+    while ((status = hot_try_upsert(handle, key, length, value, had)) == HOT_BUSY)
+        sched_yield();
+    return status;
+}
+
+hot_status hot_remove(hot_handle *handle, const uint8_t *key, size_t length, uint64_t *had) {
+    hot_status status;
+    while ((status = hot_try_remove(handle, key, length, had)) == HOT_BUSY)
+        sched_yield();
+    return status;
+}
