@@ -1,0 +1,215 @@
+// The index for C++17: handles that close themselves, keys as std::string_view, and scans as ranges. hot.h has the rules.
+#ifndef HOT_HPP
+#define HOT_HPP
+
+#include "hot.h"
+#include <cstddef>
+#include <cstdint>
+#include <iterator>
+#include <memory>
+#include <new>
+#include <optional>
+#include <stdexcept>
+#include <string>
+#include <string_view>
+#include <vector>
+
+namespace hot {
+
+/// What became of a change. From `busy` on it was refused, and changed nothing.
+enum class status : hot_status {
+    inserted = HOT_INSERTED,
+    exists = HOT_EXISTS,
+    added = HOT_NEW,
+    replaced = HOT_WAS,
+    removed = HOT_REMOVED,
+    absent = HOT_ABSENT,
+    busy = HOT_BUSY,
+    full_nodes = HOT_FULL_NODES,
+    full_leaves = HOT_FULL_LEAVES
+};
+
+/// A change's status, and the value that the key had, if it had one.
+struct change {
+    status what;
+    std::optional<std::uint64_t> had;
+    bool is_refused() const { return what >= status::busy; }
+    const char *text() const { return hot_status_text(static_cast<hot_status>(what)); }
+};
+
+/// A key with its value.
+struct pair {
+    std::string_view key;
+    std::uint64_t value;
+};
+
+/// How many records a collection gave back.
+struct collected {
+    std::uint32_t nodes, leaves;
+};
+
+/// Throws what a status means that no change's `status` has: std::length_error for a key of more than HOT_MAX_KEY bytes,
+/// std::bad_alloc, std::invalid_argument for numbers out of range, std::logic_error for handles.
+inline void check(hot_status status) {
+    switch (status) {
+    case HOT_KEY_TOO_LONG: throw std::length_error(hot_status_text(status));
+    case HOT_OUT_OF_RANGE: throw std::invalid_argument(hot_status_text(status));
+    case HOT_NO_MEMORY: throw std::bad_alloc();
+    case HOT_CLOSED:
+    case HOT_OPEN: throw std::logic_error(hot_status_text(status));
+    default: break;
+    }
+}
+
+inline const std::uint8_t *bytes(std::string_view key) {
+    return reinterpret_cast<const std::uint8_t *>(key.data() ? key.data() : "");
+}
+
+/// The pairs of a scan, in the order of their keys, asked for by pages. Its handle may be used meanwhile, moved, but not closed. One
+/// iterator at a time; a pair's key stands until it goes on. Making and moving it throws as `check` says.
+class range {
+  public:
+    class iterator {
+      public:
+        using iterator_category = std::input_iterator_tag;
+        using value_type = pair;
+        using difference_type = std::ptrdiff_t;
+        using pointer = const pair *;
+        using reference = pair;
+
+        iterator() = default;
+        explicit iterator(range *of) : of_(of) {}
+        pair operator*() const {
+            const hot_pair &it = of_->page_[of_->at_];
+            return {{reinterpret_cast<const char *>(it.key), it.length}, it.value};
+        }
+        iterator &operator++() {
+            if (!of_->go_on())
+                of_ = nullptr;
+            return *this;
+        }
+        void operator++(int) { ++*this; }
+        friend bool operator==(const iterator &one, const iterator &other) { return one.of_ == other.of_; }
+        friend bool operator!=(const iterator &one, const iterator &other) { return one.of_ != other.of_; }
+
+      private:
+        range *of_ = nullptr;
+    };
+
+    range(hot_handle *handle, std::string_view from, std::string_view upto, std::size_t page)
+        : handle_(handle), from_(from), upto_(upto), page_(page ? page : 1) {}
+    iterator begin() {
+        load(from_);
+        return count_ ? iterator(this) : iterator();
+    }
+    iterator end() { return iterator(); }
+
+  private:
+    void load(std::string_view from) {
+        check(hot_scan(handle_, bytes(from), from.size(), bytes(upto_), upto_.size(), page_.data(), page_.size(), &count_, &more_));
+        at_ = 0;
+    }
+    bool go_on() {
+        if (++at_ < count_)
+            return true;
+        std::uint8_t next[HOT_MAX_KEY];
+        std::size_t length = 0;
+        if (!more_ || hot_after(&page_[count_ - 1], next, &length) != HOT_DONE)
+            return false;
+        load({reinterpret_cast<const char *>(next), length});
+        return count_ > 0;
+    }
+
+    hot_handle *handle_;
+    std::string from_, upto_;
+    std::vector<hot_pair> page_;
+    std::size_t at_ = 0, count_ = 0;
+    std::uint32_t more_ = 0;
+};
+
+/// The right to use an index, by one thread at a time. It can be moved, and closes itself; a call on one that was moved from throws
+/// std::logic_error. Other calls throw as `check` says, and nothing else.
+class handle {
+  public:
+    static constexpr std::size_t page = 64;
+
+    std::optional<std::uint64_t> get(std::string_view key) {
+        std::uint64_t value = 0;
+        const hot_status status = hot_get(it(), bytes(key), key.size(), &value);
+        check(status);
+        return status == HOT_FOUND ? std::optional(value) : std::nullopt;
+    }
+
+    /// Gives an absent key a value, gives a key a value, makes a key absent: each waits while other calls stand in its way.
+    change insert(std::string_view key, std::uint64_t value) { return put(hot_insert, key, value); }
+    change upsert(std::string_view key, std::uint64_t value) { return put(hot_upsert, key, value); }
+    change remove(std::string_view key) { return take(hot_remove, key); }
+
+    /// The same, tried once: they may be busy.
+    change try_insert(std::string_view key, std::uint64_t value) { return put(hot_try_insert, key, value); }
+    change try_upsert(std::string_view key, std::uint64_t value) { return put(hot_try_upsert, key, value); }
+    change try_remove(std::string_view key) { return take(hot_try_remove, key); }
+
+    /// The pairs from one key to another, both included; those from a key on; and those whose keys begin with some bytes.
+    range scan(std::string_view from, std::string_view upto, std::size_t pairs = page) { return range(it(), from, upto, pairs); }
+    range scan(std::string_view from = {}) { return scan(from, std::string(HOT_MAX_KEY, '\xff')); }
+    range scan_prefix(std::string_view prefix) {
+        const std::size_t left = HOT_MAX_KEY - (prefix.size() < HOT_MAX_KEY ? prefix.size() : HOT_MAX_KEY);
+        return scan(prefix, std::string(prefix).append(left, '\xff'));
+    }
+
+    collected collect() {
+        collected given{};
+        check(hot_collect(it(), &given.nodes, &given.leaves));
+        return given;
+    }
+
+  private:
+    friend std::vector<handle> create(std::uint32_t nodes, std::uint32_t leaves, std::size_t count);
+
+    // The handles of an index lie in one array, which each of them keeps, since a hot_handle is never moved.
+    struct closer {
+        std::shared_ptr<hot_handle[]> all;
+        void operator()(hot_handle *it) const { hot_destroy(it); }
+    };
+    handle(hot_handle *it, std::shared_ptr<hot_handle[]> all) : it_(it, closer{std::move(all)}) {}
+
+    hot_handle *it() const {
+        if (!it_)
+            check(HOT_CLOSED);
+        return it_.get();
+    }
+    template <class Call> change put(Call call, std::string_view key, std::uint64_t value) {
+        std::uint64_t had = 0;
+        const hot_status status = call(it(), bytes(key), key.size(), value, &had);
+        return told(status, had);
+    }
+    template <class Call> change take(Call call, std::string_view key) {
+        std::uint64_t had = 0;
+        const hot_status status = call(it(), bytes(key), key.size(), &had);
+        return told(status, had);
+    }
+    static change told(hot_status status, std::uint64_t had) {
+        check(status);
+        const bool is_held = status == HOT_EXISTS || status == HOT_WAS || status == HOT_REMOVED;
+        return {static_cast<hot::status>(status), is_held ? std::optional(had) : std::nullopt};
+    }
+
+    std::unique_ptr<hot_handle, closer> it_;
+};
+
+/// Makes an empty index with so many node and leaf records, and `count` handles on it, 1 to 64. The last one that goes frees it.
+/// std::invalid_argument, std::bad_alloc.
+inline std::vector<handle> create(std::uint32_t nodes, std::uint32_t leaves, std::size_t count = 1) {
+    std::shared_ptr<hot_handle[]> all(new hot_handle[count]());
+    std::vector<handle> handles;
+    handles.reserve(count);
+    check(hot_create(nodes, leaves, all.get(), count));
+    for (std::size_t i = 0; i < count; i++)
+        handles.push_back(handle(&all[static_cast<std::ptrdiff_t>(i)], all));
+    return handles;
+}
+
+} // namespace hot
+
+#endif

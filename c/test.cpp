@@ -1,0 +1,109 @@
+// Tests of the library from C++: what each call gives or throws, scans over several pages, moved handles, and threads that wait.
+#include "hot.hpp"
+#include <atomic>
+#include <cstdio>
+#include <thread>
+#include <type_traits>
+#if __cplusplus >= 202002L
+#include <ranges>
+static_assert(std::ranges::input_range<hot::range>);
+#endif
+
+static int failures;
+
+#define CHECK(that)                                                          \
+    do {                                                                     \
+        if (!(that)) {                                                       \
+            std::fprintf(stderr, "test.cpp:%d: not so: %s\n", __LINE__, #that); \
+            failures = 1;                                                    \
+        }                                                                    \
+    } while (0)
+
+template <class Error, class Call> static bool throws(Call call) {
+    try {
+        call();
+    } catch (const Error &) {
+        return true;
+    }
+    return false;
+}
+
+static_assert(!std::is_copy_constructible_v<hot::handle> && std::is_nothrow_move_constructible_v<hot::handle>);
+
+static void test_calls() {
+    auto handles = hot::create(100, 100, 2);
+    hot::handle first = std::move(handles[0]);
+    CHECK(!first.get("b"));
+    CHECK(first.insert("b", 20).what == hot::status::inserted && first.get("b") == 20);
+    CHECK(first.try_insert("b", 21).what == hot::status::exists && first.insert("b", 22).had == 20);
+    const auto change = first.upsert({}, 10);
+    CHECK(change.what == hot::status::added && !change.had && !change.is_refused() && first.get({}) == 10);
+    CHECK(first.try_upsert("b", 23).had == 20 && handles[1].upsert("b", 24).what == hot::status::replaced);
+    CHECK(first.try_remove("b").had == 24 && first.remove("b").what == hot::status::absent);
+    CHECK(first.collect().leaves == 3);
+    CHECK(throws<std::logic_error>([&] { handles[0].get("b"); }));
+    CHECK(throws<std::length_error>([&] { first.get(std::string(HOT_MAX_KEY + 1, 'a')); }));
+    CHECK(throws<std::invalid_argument>([] { hot::create(0, 10); }));
+    CHECK(throws<std::invalid_argument>([] { hot::create(10, 10, 65); }));
+    handles.clear();
+    CHECK(first.get({}) == 10);
+}
+
+static void test_full() {
+    auto handles = hot::create(10, 1);
+    CHECK(!handles[0].insert("a", 1).is_refused());
+    const auto change = handles[0].insert("b", 2);
+    CHECK(change.what == hot::status::full_leaves && change.is_refused() && !change.had);
+    CHECK(std::string(change.text()) == hot_status_text(HOT_FULL_LEAVES));
+}
+
+// Keys of a, aa, .. to the greatest length, and one of the greatest length with other bytes: on each page, one goes on after its last.
+static void test_scans() {
+    auto handles = hot::create(1000, 1000);
+    hot::handle &handle = handles[0];
+    for (std::size_t length = 1; length <= HOT_MAX_KEY; length++)
+        CHECK(handle.insert(std::string(length, 'a'), length).what == hot::status::inserted);
+    handle.insert(std::string(HOT_MAX_KEY, '\xff'), HOT_MAX_KEY + 1);
+    for (const std::size_t page : {1, 2, 60, 241, 500}) {
+        std::uint64_t count = 0;
+        for (const auto [key, value] : handle.scan("a", std::string(HOT_MAX_KEY, '\xff'), page)) {
+            CHECK(value == ++count && key.size() == (value <= HOT_MAX_KEY ? value : HOT_MAX_KEY));
+            handle.upsert(key, value);
+        }
+        CHECK(count == HOT_MAX_KEY + 1);
+    }
+    std::uint64_t sum = 0;
+    for (const auto it : handle.scan_prefix(std::string(238, 'a')))
+        sum += it.value;
+    CHECK(sum == 238 + 239 + 240);
+    auto none = handle.scan("b", "c");
+    CHECK(none.begin() == none.end());
+    CHECK(throws<std::length_error>([&] { handle.scan(std::string(HOT_MAX_KEY + 1, 'a')).begin(); }));
+}
+
+// Four threads that change the same keys by handles of their own: none is told that it was busy, and each key ends with a value.
+static void test_threads() {
+    auto handles = hot::create(2000, 4000, 4);
+    std::atomic<int> busy = 0;
+    std::vector<std::thread> threads;
+    for (hot::handle &handle : handles)
+        threads.emplace_back([&handle, &busy] {
+            for (std::uint64_t i = 0; i < 5000; i++)
+                busy += handle.upsert(std::to_string(i % 100), i).what == hot::status::busy;
+        });
+    for (std::thread &thread : threads)
+        thread.join();
+    std::size_t count = 0;
+    for (const auto [key, value] : handles[3].scan())
+        count += std::to_string(value % 100) == key;
+    CHECK(busy == 0 && count == 100);
+}
+
+int main() {
+    test_calls();
+    test_full();
+    test_scans();
+    test_threads();
+    std::puts(failures ? "the C++ test failed" : "the C++ test passed");
+    return failures;
+}
