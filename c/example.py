@@ -1,0 +1,127 @@
+#!/usr/bin/env python3
+"""A key-value loop by ctypes: reads commands, a line each, and answers them.
+
+    put KEY NUMBER     get KEY     del KEY     list
+
+usage: example.py [LIBRARY]     where it lies, if it is not libhot.so.1 of the loader's folders
+"""
+import ctypes
+import sys
+from ctypes import POINTER, byref, c_char_p, c_size_t, c_uint8, c_uint32, c_uint64, c_void_p
+
+MAX_KEY, PAGE = 240, 64
+FOUND, WAS, REMOVED, FIRST_REFUSAL = 1, 6, 7, 8
+
+
+class Handle(ctypes.Structure):
+    """struct hot_handle. It must not be copied: an array of them stays where it is, and calls take byref of a place."""
+
+    _fields_ = [("tag", c_uint32), ("slot", c_void_p)]
+
+
+class Pair(ctypes.Structure):
+    """struct hot_pair."""
+
+    _fields_ = [("key", c_uint8 * MAX_KEY), ("length", c_uint32), ("value", c_uint64)]
+
+
+def load(path: str) -> ctypes.CDLL:
+    """The library, with the types of the calls that are used here. A call lets Python's other threads run."""
+    hot = ctypes.CDLL(path)
+    handle, key, number = POINTER(Handle), [c_char_p, c_size_t], POINTER(c_uint64)
+    types = {
+        "create": [c_uint32, c_uint32, handle, c_size_t],
+        "destroy": [handle],
+        "get": [handle, *key, number],
+        "upsert": [handle, *key, c_uint64, number],
+        "remove": [handle, *key, number],
+        "scan": [handle, *key, *key, POINTER(Pair), c_size_t, POINTER(c_size_t), POINTER(c_uint32)],
+        "after": [POINTER(Pair), POINTER(c_uint8), POINTER(c_size_t)],
+    }
+    for name, words in types.items():
+        call = getattr(hot, f"hot_{name}")
+        call.argtypes, call.restype = words, c_uint32
+    hot.hot_status_text.argtypes, hot.hot_status_text.restype = [c_uint32], c_char_p
+    return hot
+
+
+class Index:
+    """An index with handles for so many threads. Each call is made with the handle of the number that it is given."""
+
+    def __init__(self, hot: ctypes.CDLL, nodes: int, leaves: int, threads: int = 1):
+        self.hot, self.handles = hot, (Handle * threads)()
+        self.check(hot.hot_create(nodes, leaves, self.handles, threads))
+
+    def check(self, status: int) -> int:
+        """The status, unless it is a refusal."""
+        if status >= FIRST_REFUSAL:
+            raise RuntimeError(self.hot.hot_status_text(status).decode())
+        return status
+
+    def close(self) -> None:
+        for handle in self.handles:
+            self.hot.hot_destroy(handle)
+
+    def get(self, key: bytes, thread: int = 0) -> int | None:
+        value = c_uint64()
+        status = self.check(self.hot.hot_get(self.handles[thread], key, len(key), value))
+        return value.value if status == FOUND else None
+
+    def upsert(self, key: bytes, value: int, thread: int = 0) -> int | None:
+        """Gives a key a value; the one that it had, if it had one."""
+        had = c_uint64()
+        status = self.check(self.hot.hot_upsert(self.handles[thread], key, len(key), value, had))
+        return had.value if status == WAS else None
+
+    def remove(self, key: bytes, thread: int = 0) -> int | None:
+        """Makes a key absent; the value that it had, if it had one."""
+        had = c_uint64()
+        status = self.check(self.hot.hot_remove(self.handles[thread], key, len(key), had))
+        return had.value if status == REMOVED else None
+
+    def scan(self, start: bytes = b"", end: bytes = b"\xff" * MAX_KEY, thread: int = 0):
+        """The keys from one to another, both included, with their values, in order; asked for by pages."""
+        pairs, count, more = (Pair * PAGE)(), c_size_t(), c_uint32(1)
+        key, length = (c_uint8 * MAX_KEY)(), c_size_t()
+        while more.value:
+            handle = self.handles[thread]
+            self.check(self.hot.hot_scan(handle, start, len(start), end, len(end), pairs, PAGE, byref(count), byref(more)))
+            for pair in pairs[: count.value]:
+                yield bytes(pair.key[: pair.length]), pair.value
+            if more.value:
+                self.hot.hot_after(pairs[count.value - 1], key, length)
+                start = bytes(key[: length.value])
+
+
+def shown(value: int | None) -> str:
+    return "absent" if value is None else str(value)
+
+
+def answer(index: Index, line: str) -> list:
+    """The lines that a command is answered."""
+    match line.split():
+        case ["put", key, number]:
+            had = index.upsert(key.encode(), int(number))
+            return [] if had is None else [had]
+        case ["get", key]:
+            return [shown(index.get(key.encode()))]
+        case ["del", key]:
+            return [shown(index.remove(key.encode()))]
+        case ["list"]:
+            return [f"{key.decode()} {value}" for key, value in index.scan()]
+    return ["unknown command"]
+
+
+def main() -> None:
+    index = Index(load(sys.argv[1] if len(sys.argv) > 1 else "libhot.so.1"), 4096, 16384)
+    for line in sys.stdin:
+        try:
+            for told in answer(index, line):
+                print(told)
+        except RuntimeError as refusal:
+            print(f"refused: {refusal}")
+    index.close()
+
+
+if __name__ == "__main__":
+    main()
