@@ -7,6 +7,16 @@
  * A key is 0 to HOT_MAX_KEY bytes, of any value; keys are ordered as memcmp orders bytes, and a key comes after each shorter one
  * that it begins with. The index keeps copies: a key's memory is yours again when the call returns.
  *
+ * A handle may be closed by any thread once its last call has returned; calls with other handles go on. All handles of an index are
+ * opened with it, and the last one that is closed frees it. So a thread closes its own when it is done, or joins the others first and
+ * closes all. A thread that ends leaves its handle open: another may use or close it.
+ *
+ * Full. A change writes new records before it gives up those that it replaces. These are retired then, and come back when the calls
+ * that ran at about that time have returned: the next collection finds them, and a change that finds no record free makes one itself
+ * before it answers HOT_FULL_NODES or HOT_FULL_LEAVES. Where no other call runs, that answer stands until keys are removed. Where others
+ * run it may pass by itself, as they return: have some records to spare, and make a refused change again after a while. A thread that
+ * is stopped in the middle of a call, also of a look-up or a scan, holds back all that is retired meanwhile.
+ *
  * What the library trusts its caller with: no pointer is NULL (of a key neither where its length is 0), each points to what its type
  * says, and what a call writes overlaps nothing else that it is given. A handle is zeroed before hot_create, and the program never
  * copies, moves or writes its bytes. malloc, realloc and free are those of one allocator. No call is made from a signal handler, nor
