@@ -1,5 +1,5 @@
 -- What a pass of an index goes through by the commands of a script.
-use Rattle.std.specs.Prelude.{◌≡◌, ℕ, ◌≤◌, ◌++◌, All, List, [], ◌∷◌, length, map, flat_map, string_bytes}
+use Rattle.std.specs.Prelude.{◌≡◌, ℕ, ◌≤◌, ◌++◌, All, List, [], ◌∷◌, length, map, flat_map, string_bytes, codes}
 use Rattle.hot_model.specs.declared.Call.{Call}
 use Rattle.hot_model.specs.declared.Note.{Note}
 use Rattle.hot_model.specs.Calls.{LegalCalls}
@@ -9,12 +9,13 @@ use Rattle.rowex_table.specs.Seats.{TableView}
 use Rattle.hot_index.specs.Answers.{HaveMet, IsRefused, IsScanned, MayLack, fault_of}
 use Rattle.hot_index.specs.Passes.{PassView, AreByPasses, IsNewPass, Owns}
 use Rattle.hot_scripts.specs.declared.command.Command.{Command}
+use Rattle.hot_scripts.specs.Meaning.{line}
 use Rattle.hot_scripts.specs.Parses.{script_commands}
 use Rattle.hot_run.specs.declared.engine.Answer.{Answer}
 use Rattle.hot_run.specs.declared.engine.Answer.TheVariants.{Reply, Full as Refused}
 use Rattle.hot_run.specs.declared.together.Done.{Done}
 use Rattle.hot_run.specs.declared.together.Order.{Order}
-use Rattle.hot_run.specs.Scripts.{Answered, called, refused, listed, command_of, lines_of_answer}
+use Rattle.hot_run.specs.Scripts.{Answered, called, refused, listed, command_of, lines_of_answer, sections}
 
 -- The pass has made a call, which stands behind all that it had seen before.
 pub record IsCalled (layout : Layout) (k j : PassView) (note : Note) : Type 0 where
@@ -84,3 +85,19 @@ MeetInTurn index k [] j [] = j ≡ k
 MeetInTurn index k (before ∷ befores) j (after ∷ afters) =
     (m : PassView) × HaveMet index.layout k before.pass m after.pass × (after.text ≡ before.text) × MeetInTurn index m befores j afters
 MeetInTurn index k _ j _ = ⊥
+
+-- The threads of these passes made these commands, and then the pass met theirs, one after another.
+pub record HaveRunAndMet (index : TableView) (passes : List PassView) (scripts : List (List Command)) (k j : PassView) (met : List Done) : Type 0 where
+  pub ran : List Done
+  pub have_run : AllThree (IsDone index) passes scripts ran
+  pub meet : MeetInTurn index k ran j met
+
+-- The pass made the last script's commands, and then met those of the files again. The text is what all were answered.
+pub record HasAnsweredLast (index : TableView) (k : PassView) (met : List Done) (commands : List Command) (text : List ℕ) : Type 0 where
+  pub after : PassView
+  pub last : PassView
+  pub again : List Done
+  pub answers : List ℕ
+  pub ran : HasRun index.layout k commands after answers
+  pub meet : MeetInTurn index after met last again
+  pub text_is : text ≡ sections 1 (map (λ d. string_bytes d.text) again) ++ line (codes "last") ++ answers

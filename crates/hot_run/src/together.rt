@@ -5,7 +5,7 @@ ghost use Rattle.record_words.specs.Limits.{IsLeafCount, IsNodeCount};
 ghost use Rattle.hot_index.specs.Passes.{Owns};
 ghost use Rattle.hot_scripts.specs.declared.script.TheConstants.{MAX_FILES};
 ghost use Rattle.hot_scripts.specs.Parses.{script_commands};
-ghost use Rattle.hot_run.specs.Progress.{AllThree, AreReady, IsDone, IsOrderOf, MeetInTurn};
+ghost use Rattle.hot_run.specs.Progress.{AllThree, AreReady, HasAnsweredLast, HaveRunAndMet, IsDone, IsOrderOf, MeetInTurn};
 ghost use Rattle.hot_run.specs.Scripts.{LawfulAnswers};
 
 use crate::answer::sections;
@@ -60,12 +60,50 @@ pub fn answer_all<T: Threads + Wait + Sync, G: Gate + Send + Drop>(
     ensures fault { IfErr result (λ fault. fault ≡ RunFault.Memory) }
 {
     let (index, passes, pass) = new_index(alloc, scripts.len() as u32, nodes, leaves)?;
-    let ran = run_files(rt, alloc, &index, passes, scripts, gates)?;
-    let (mut pass, met) = meet_all(alloc, &index, pass, ran)?;
-    let text = run(rt, alloc, &index, &mut pass, last, &mut NoGate)?;
-    let (_, again) = meet_all(alloc, &index, pass, met)?;
-    let texts = sections(alloc, again, text)?;
+    let (pass, met) = run_and_meet(rt, alloc, &index, passes, pass, scripts, gates)?;
+    let texts = answer_last(rt, alloc, &index, pass, met, last)?;
     Ok(texts)
+}
+
+/// Runs the scripts of files, and then has this pass meet theirs.
+fn run_and_meet<T: Threads + Wait + Sync, G: Gate + Send + Drop>(
+    rt: &T,
+    alloc: Global,
+    index: &Index,
+    passes: Vec<Pass>,
+    pass: Pass,
+    scripts: Vec<Script>,
+    gates: Vec<G>,
+) -> Result<(Pass, Vec<Done>), AllocError>
+    requires pass { Owns index.now pass }
+    requires passes { All (Owns index.now) passes.items }
+    requires scripts { length scripts.items ≡ length passes.items }
+    requires gates { length gates.items ≡ length passes.items }
+    ensures own { IfOk result (λ met. Owns index.now met.0 × All (λ d. Owns index.now d.pass) met.1.items) }
+    ensures met { IfOk result (λ met. HaveRunAndMet index.now passes.items (map script_commands scripts.items) pass met.0 met.1.items) }
+{
+    let ran = run_files(rt, alloc, index, passes, scripts, gates)?;
+    meet_all(alloc, index, pass, ran)
+}
+
+/// Answers the last script by its pass, which has met those of the others and meets them again; gives the answers of all.
+fn answer_last<T: Wait>(
+    rt: &T,
+    alloc: Global,
+    index: &Index,
+    pass: Pass,
+    met: Vec<Done>,
+    last: &Script,
+) -> Result<Vec<String>, AllocError>
+    requires own { Owns index.now pass }
+    requires each { All (λ d. Owns index.now d.pass) met.items }
+    requires few { length met.items ≤ MAX_FILES }
+    ensures { IfOk result (λ texts. HasAnsweredLast index.now pass met.items (script_commands last.now) (flat_map string_bytes texts.items)) }
+{
+    let mut pass = pass;
+    let text = run(rt, alloc, index, &mut pass, last, &mut NoGate)?;
+    let (_, again) = meet_all(alloc, index, pass, met)?;
+    sections(alloc, again, text)
 }
 
 /// Runs each script in a thread with its own pass and gate, all at the same time, and joins them.
