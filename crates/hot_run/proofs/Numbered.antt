@@ -1,5 +1,5 @@
 -- Lists whose items are numbered, and three lists side by side.
-use Rattle.std.proofs.Common.{◌≡◌, ℕ, zero, suc, ◌+◌, List, [], ◌∷◌, ◌++◌, length, map, Some, refl, ap, subst, arith}
+use Rattle.std.proofs.Common.{◌≡◌, ℕ, suc, ◌+◌, List, [], ◌∷◌, ◌++◌, length, Some, refl, ap, subst, arith}
 use Rattle.std.specs.List.{All, AllZip, slice_get}
 use Rattle.std.proofs.lemmas.List.Elements.{All-nil, All-cons}
 use Rattle.hot_index.specs.Passes.{PassView, Owns}
@@ -7,8 +7,7 @@ use Rattle.rowex_table.specs.Seats.{TableView}
 use Rattle.hot_scripts.specs.declared.command.Command.{Command}
 use Rattle.hot_run.specs.declared.together.Done.{Done}
 use Rattle.hot_run.specs.declared.together.Order.{Order}
-use Rattle.hot_scripts.specs.Parses.{script_commands}
-use Rattle.hot_run.specs.Progress.{AllThree, IsDone, IsFirst, IsOrderOf}
+use Rattle.hot_run.specs.Progress.{AllThree, HasKept, IsDone, IsFirst, IsOrderOf}
 use Rattle.hot_run.specs.Scripts.{AllFrom}
 
 module _ {A : Type 0} (p : ℕ → A → Type 0) where
@@ -64,13 +63,9 @@ module _ (index : TableView) where
   done_long (x ∷ passes) (y ∷ scripts) [] h = absurd h
   done_long (p ∷ passes) (s ∷ scripts) (d ∷ done) h = ap suc (done_long passes scripts done h.1)
 
-  -- the thread kept its order
-  abbrev pub HasKeptTo : Order → Done → Type 0
-  HasKeptTo order done = IsDone order.index.value order.pass.value (script_commands order.script.value) done
-
   -- what the threads did is what they were started for
   pub all_joined : (passes : List PassView) (scripts : List (List Command)) (orders : List Order) (done : List Done)
-      → AllThree (IsOrderOf index) passes scripts orders → AllZip HasKeptTo orders done → AllThree (IsDone index) passes scripts done
+      → AllThree (IsOrderOf index) passes scripts orders → AllZip HasKept orders done → AllThree (IsDone index) passes scripts done
   all_joined [] [] [] [] h kept = tt
   all_joined [] [] [] (x ∷ done) h kept = absurd kept
   all_joined [] [] (x ∷ orders) done h kept = absurd h

@@ -73,6 +73,10 @@ IsDone index pass commands done = Owns index done.pass × HasRun index.layout pa
 abbrev pub IsOrderOf : TableView → PassView → List Command → Order → Type 0
 IsOrderOf index pass commands order = (order.index.value ≡ index) × (order.pass.value ≡ pass) × (script_commands order.script.value ≡ commands)
 
+-- the thread kept its order
+abbrev pub HasKept : Order → Done → Type 0
+HasKept order done = IsDone order.index.value order.pass.value (script_commands order.script.value) done
+
 -- R holds of the items of three lists, place by place
 abbrev pub AllThree : {A B C : Type 0} → (A → B → C → Type 0) → List A → List B → List C → Type 0
 AllThree R [] [] [] = Unit {0}

@@ -1,11 +1,12 @@
 //! Scripts that run at the same time: a thread and a pass for each, and the meetings of their passes.
 
 ghost use Rattle.std.specs.Prelude.{◌≡◌, ◌≤◌, All, IfOk, IfErr, flat_map, length, map, string_bytes};
+ghost use Rattle.std.specs.List.{AllZip};
 ghost use Rattle.record_words.specs.Limits.{IsLeafCount, IsNodeCount};
 ghost use Rattle.hot_index.specs.Passes.{Owns};
 ghost use Rattle.hot_scripts.specs.declared.script.TheConstants.{MAX_FILES};
 ghost use Rattle.hot_scripts.specs.Parses.{script_commands};
-ghost use Rattle.hot_run.specs.Progress.{AllThree, AreReady, HasAnsweredLast, HaveRunAndMet, IsDone, IsOrderOf, MeetInTurn};
+ghost use Rattle.hot_run.specs.Progress.{AllThree, AreReady, HasAnsweredLast, HasKept, HaveRunAndMet, IsDone, IsOrderOf, MeetInTurn};
 ghost use Rattle.hot_run.specs.Scripts.{LawfulAnswers};
 
 use crate::answer::sections;
@@ -143,6 +144,23 @@ fn run_within<'s, E, T: Threads + Wait + Sync + 's, G: Gate + Send + Drop + 's>(
     requires { AreReady index.now passes.items scripts.items gates.items }
     ensures { IfOk result (λ done. AllThree (IsDone index.now) passes.items (map script_commands scripts.items) done.items) }
 {
+    let running = start_all(threads, rt, alloc, index, passes, scripts, gates)?;
+    join_all(rt, alloc, running)
+}
+
+/// Starts the thread of each script.
+fn start_all<'s, E, T: Threads + Wait + Sync + 's, G: Gate + Send + Drop + 's>(
+    threads: &Scope<'s, E>,
+    rt: &'s T,
+    alloc: Global,
+    index: &'s Index,
+    passes: Vec<Pass>,
+    scripts: Vec<Script>,
+    gates: Vec<G>,
+) -> Result<Vec<PromisedHandle<Result<Done, AllocError>, Order>>, AllocError>
+    requires { AreReady index.now passes.items scripts.items gates.items }
+    ensures { IfOk result (λ running. AllThree (IsOrderOf index.now) passes.items (map script_commands scripts.items) (map (λ t. t.promise) running.items)) }
+{
     let mut scripts = scripts.into_iter();
     let mut gates = gates.into_iter();
     let mut running = Vec::new(alloc);
@@ -152,6 +170,17 @@ fn run_within<'s, E, T: Threads + Wait + Sync + 's, G: Gate + Send + Drop + 's>(
         };
         running.push(start(threads, rt, alloc, index, pass, script, gate)?)?;
     }
+    Ok(running)
+}
+
+/// Joins the threads, one after another.
+fn join_all<T: Threads + Wait>(
+    rt: &T,
+    alloc: Global,
+    running: Vec<PromisedHandle<Result<Done, AllocError>, Order>>,
+) -> Result<Vec<Done>, AllocError>
+    ensures { IfOk result (λ done. AllZip HasKept (map (λ t. t.promise) running.items) done.items) }
+{
     let mut done = Vec::new(alloc);
     for thread in running {
         done.push(thread.join(rt)?)?;

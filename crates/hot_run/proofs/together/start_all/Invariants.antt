@@ -1,14 +1,12 @@
--- What stays true while threads are started, and while they are joined.
+-- What stays true while threads are started.
 use Rattle.std.proofs.Common.{◌≡◌, ◌++◌, List, length, map}
-use Rattle.std.specs.List.{All, AllZip}
+use Rattle.std.specs.List.{All}
 use Rattle.std.specs.Vec.Iter.{into_iter_items}
 use Rattle.hot_index.specs.Passes.{Owns}
-use Rattle.hot_run.specs.declared.together.Done.{Done}
 use Rattle.hot_run.specs.declared.together.Order.{Order}
 use Rattle.hot_scripts.specs.Parses.{script_commands}
-use Rattle.hot_run.specs.Progress.{AllThree, IsDone, IsOrderOf}
-use Rattle.hot_run.proofs.Numbered.{HasKeptTo}
-use Rattle.hot_run.proofs.together.run_within.Given as goal
+use Rattle.hot_run.specs.Progress.{AllThree, IsOrderOf}
+use Rattle.hot_run.proofs.together.start_all.Given as goal
 
 -- there are as many scripts and gates as passes, and the orders of the threads to come complete those of the threads that run
 abbrev pub invariant-loop-pass : goal.invariant-loop-pass
@@ -19,9 +17,3 @@ invariant-loop-pass g l = record {
   completes : (rest : List Order) → AllThree (IsOrderOf l.index) (into_iter_items l.pass-iterator) (map script_commands (into_iter_items l.scripts)) rest
       → AllThree (IsOrderOf l.index) l.fn.passes.items (map script_commands l.fn.scripts.items) (map (λ t. t.promise) l.running.items ++ rest);
 }
-
--- what the threads that are left will have done completes what was done
-abbrev pub invariant-loop-thread : goal.invariant-loop-thread
-invariant-loop-thread g l =
-    (rest : List Done) → AllZip (HasKeptTo l.index) (map (λ t. t.promise) (into_iter_items l.thread-iterator)) rest
-    → AllThree (IsDone l.index) l.fn.passes.items (map script_commands l.fn.scripts.items) (l.done.items ++ rest)
