@@ -1,19 +1,56 @@
 -- Where each word of a table stands.
-use Rattle.std.specs.Prelude.{ℕ, ◌≡◌, ◌≢◌, ◌+◌, ◌*◌, ◌<◌, Option, Some, None}
+use Rattle.std.specs.Prelude.{ℕ, ◌≡◌, ◌≢◌, ◌+◌, ◌-◌, ◌*◌, ◌<◌, nat_lt, if◌then◌else◌, Option, Some, None}
 use Rattle.record_words.specs.declared.layout.Layout.{Layout}
+use Rattle.record_words.specs.declared.layout.LeafClass.{LeafClass}
+use Rattle.record_words.specs.declared.layout.LeafClass.TheVariants.{Short, Medium, Large, Wide, Long}
+use Rattle.record_words.specs.declared.layout.Stock.{Stock}
 use Rattle.record_words.specs.declared.layout.Location.{Location}
 use Rattle.record_words.specs.declared.layout.Location.TheVariants.{Epoch, Root, Anchor, Pin, NodeWord, LeafWord}
-use Rattle.record_words.specs.declared.TheConstants.{EPOCH_WORD, ROOT_WORD, ANCHOR_WORD, FIRST_PIN, LINE_WORDS, NODE_WORDS, LEAF_WORDS}
+use Rattle.record_words.specs.declared.TheConstants.{EPOCH_WORD, ROOT_WORD, ANCHOR_WORD, FIRST_PIN, LINE_WORDS, NODE_WORDS, LEAF_WORDS, SHORT_WORDS, MEDIUM_WORDS, LARGE_WORDS, WIDE_WORDS}
 
--- the first word of a node record and of a leaf record; these records follow the pins, one after another
+-- the first word of a node record; these records follow the pins, one after another
 abbrev pub node_start : Layout → ℕ → ℕ
 node_start layout n = FIRST_PIN + LINE_WORDS * layout.passes + NODE_WORDS * n
 
+abbrev pub class_size : LeafClass → ℕ
+class_size Short = SHORT_WORDS
+class_size Medium = MEDIUM_WORDS
+class_size Large = LARGE_WORDS
+class_size Wide = WIDE_WORDS
+class_size Long = LEAF_WORDS
+
+-- How many words a leaf record has: its number tells its class. The short ones come first, then the medium ones,
+-- the large, the wide and the long ones.
+abbrev pub leaf_size : Layout → ℕ → ℕ
+leaf_size layout n =
+    if nat_lt n layout.medium_from then SHORT_WORDS else (if nat_lt n layout.large_from then MEDIUM_WORDS else
+    (if nat_lt n layout.wide_from then LARGE_WORDS else (if nat_lt n layout.long_from then WIDE_WORDS else LEAF_WORDS)))
+
+-- the words of the leaf records below this number: each has a short one's, and from where a class begins on so many more
+abbrev pub words_below : Layout → ℕ → ℕ
+words_below layout n =
+    SHORT_WORDS * n + (MEDIUM_WORDS - SHORT_WORDS) * (n - layout.medium_from) + (LARGE_WORDS - MEDIUM_WORDS) * (n - layout.large_from) +
+    (WIDE_WORDS - LARGE_WORDS) * (n - layout.wide_from) + (LEAF_WORDS - WIDE_WORDS) * (n - layout.long_from)
+
+-- how many leaf records a stock has, of all classes
+abbrev pub leaves_of : Stock → ℕ
+leaves_of stock = stock.short + stock.medium + stock.large + stock.wide + stock.long
+
+-- The layout has these records: a class of leaf records begins where the one before it ends.
+pub record HasStock (layout : Layout) (stock : Stock) : Type 0 where
+  pub nodes : layout.nodes ≡ stock.nodes
+  pub short : layout.medium_from ≡ stock.short
+  pub medium : layout.large_from ≡ layout.medium_from + stock.medium
+  pub large : layout.wide_from ≡ layout.large_from + stock.large
+  pub wide : layout.long_from ≡ layout.wide_from + stock.wide
+  pub long : layout.leaves ≡ layout.long_from + stock.long
+
+-- the first word of a leaf record; these records follow the nodes, one after another
 abbrev pub leaf_start : Layout → ℕ → ℕ
-leaf_start layout n = FIRST_PIN + LINE_WORDS * layout.passes + NODE_WORDS * layout.nodes + LEAF_WORDS * n
+leaf_start layout n = node_start layout layout.nodes + words_below layout n
 
 abbrev pub word_count : Layout → ℕ
-word_count layout = FIRST_PIN + LINE_WORDS * layout.passes + NODE_WORDS * layout.nodes + LEAF_WORDS * layout.leaves
+word_count layout = leaf_start layout layout.leaves
 
 abbrev pub address : Layout → Location → ℕ
 address layout Epoch = EPOCH_WORD
@@ -29,7 +66,7 @@ IsInTable layout Root = Unit {0}
 IsInTable layout Anchor = Unit {0}
 IsInTable layout (Pin pass) = pass < layout.passes
 IsInTable layout (NodeWord n offset) = (n < layout.nodes) × (offset < NODE_WORDS)
-IsInTable layout (LeafWord n offset) = (n < layout.leaves) × (offset < LEAF_WORDS)
+IsInTable layout (LeafWord n offset) = (n < layout.leaves) × (offset < leaf_size layout n)
 
 -- this location alone has the word
 pub record IsOnlyAt (layout : Layout) (word : ℕ) (location : Location) : Type 0 where

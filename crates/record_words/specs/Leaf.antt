@@ -14,6 +14,10 @@ key_word key j = from_be_bytes w64 (drop (8 * j) key)
 abbrev pub words_of_key : ℕ → ℕ
 words_of_key n = (n + 7) / 8
 
+-- how many words a leaf record needs for a key of this length: those of the state, the value and the length, and the key's own
+abbrev pub words_for : ℕ → ℕ
+words_for n = 3 + words_of_key n
+
 -- the word at an offset of a leaf record, after that of the state
 abbrev pub leaf_word : List ℕ × ℕ → ℕ → ℕ
 leaf_word (key, value) offset = cond (nat_eq offset 1) value (cond (nat_eq offset 2) (length key) (key_word key (offset - 3)))

@@ -1,10 +1,11 @@
 //! Where each record of a table stands among its words.
 
-ghost use Rattle.record_words.specs.Limits.{IsPassCount, IsNodeCount, IsLeafCount};
+ghost use Rattle.std.specs.Prelude.{◌≤◌};
+ghost use Rattle.record_words.specs.Limits.{IsPassCount, IsRecordCount};
 
 use crate::{
-    ANCHOR_WORD, EPOCH_WORD, FIRST_PIN, LEAF_WORDS, LINE_WORDS, MAX_LEAVES, MAX_NODES, MAX_PASSES,
-    NODE_WORDS, ROOT_WORD,
+    ANCHOR_WORD, EPOCH_WORD, FIRST_PIN, LARGE_WORDS, LEAF_WORDS, LINE_WORDS, MAX_LEAVES, MAX_NODES,
+    MAX_PASSES, MEDIUM_WORDS, NODE_WORDS, ROOT_WORD, SHORT_WORDS, WIDE_WORDS, WORD_BYTES,
 };
 
 /// Which number of records is out of range; they are tested in this order.
@@ -23,13 +24,85 @@ pub enum LayoutFault {
 pub struct Layout {
     /// 1 to `MAX_PASSES`.
     pub passes: u32,
-    /// 1 to `MAX_NODES`.
+    /// At least 1.
     pub nodes: u32,
-    /// 1 to `MAX_LEAVES`.
+    /// At least 1, of all classes together.
     pub leaves: u32,
+    /// The leaf records below this number are short.
+    pub medium_from: u32,
+    /// Those from there on and below this number are medium ones.
+    pub large_from: u32,
+    /// Those from there on and below this number are large ones.
+    pub wide_from: u32,
+    /// Those from there on and below this number are wide ones, and all others are long.
+    pub long_from: u32,
     ghost passes_in_range: { IsPassCount passes },
-    ghost nodes_in_range: { IsNodeCount nodes },
-    ghost leaves_in_range: { IsLeafCount leaves },
+    ghost nodes_in_range: { IsRecordCount nodes },
+    ghost leaves_in_range: { IsRecordCount leaves },
+    ghost classes_in_order: { (medium_from ≤ large_from) × (large_from ≤ wide_from) × (wide_from ≤ long_from) × (long_from ≤ leaves) },
+}
+
+/// The sizes of leaf records. A key stands in a record of the smallest class that has a free one and room for the key.
+#[derive(Clone, Copy)]
+pub enum LeafClass {
+    /// 4 words, for keys to 8 bytes.
+    Short,
+    /// 6 words, for keys to 24 bytes.
+    Medium,
+    /// 10 words, for keys to 56 bytes.
+    Large,
+    /// 14 words, for keys to 88 bytes.
+    Wide,
+    /// 33 words, for keys of any length.
+    Long,
+}
+
+impl LeafClass {
+    ghost use Rattle.std.specs.Prelude.{◌≡◌, ◌<◌};
+    ghost use Rattle.record_words.specs.Layout.{class_size};
+    ghost use Rattle.record_words.specs.declared.TheConstants.{LEAF_CLASSES};
+
+    /// How many words a leaf record of this class has.
+    pub fn words(self) -> usize
+        ensures { result ≡ class_size self }
+    {
+        match self {
+            LeafClass::Short => SHORT_WORDS,
+            LeafClass::Medium => MEDIUM_WORDS,
+            LeafClass::Large => LARGE_WORDS,
+            LeafClass::Wide => WIDE_WORDS,
+            LeafClass::Long => LEAF_WORDS,
+        }
+    }
+
+    /// Its place among the classes, the smallest first, from 0 on.
+    pub fn place(self) -> usize
+        ensures { result < LEAF_CLASSES }
+    {
+        match self {
+            LeafClass::Short => 0,
+            LeafClass::Medium => 1,
+            LeafClass::Large => 2,
+            LeafClass::Wide => 3,
+            LeafClass::Long => 4,
+        }
+    }
+}
+
+/// How many records of each kind and class a table has.
+#[derive(Clone, Copy, Debug, PartialEq, Eq)]
+pub struct Stock {
+    pub nodes: u32,
+    /// Leaf records for keys to 8 bytes.
+    pub short: u32,
+    /// Leaf records for keys to 24 bytes.
+    pub medium: u32,
+    /// Leaf records for keys to 56 bytes.
+    pub large: u32,
+    /// Leaf records for keys to 88 bytes.
+    pub wide: u32,
+    /// Leaf records for keys of any length.
+    pub long: u32,
 }
 
 /// What stands at a word of a table.
@@ -47,13 +120,13 @@ pub enum Location {
 }
 
 impl Layout {
-    ghost use Rattle.std.specs.Prelude.{◌≡◌, ◌≢◌, ◌↔◌, ◌<◌, ◌+◌, ◌*◌, IfOk, Err};
-    ghost use Rattle.record_words.specs.Limits.{IsPassCount, IsNodeCount, IsLeafCount};
-    ghost use Rattle.record_words.specs.Layout.{node_start, leaf_start, word_count, address, IsLocationOf};
+    ghost use Rattle.std.specs.Prelude.{ℕ, ◌≡◌, ◌≢◌, ◌↔◌, ◌<◌, ◌≤◌, ◌+◌, ◌*◌, IfOk, Err};
+    ghost use Rattle.record_words.specs.Limits.{IsPassCount, IsNodeCount, IsLeafCount, IsRecordCount};
+    ghost use Rattle.record_words.specs.Layout.{node_start, class_size, leaf_size, leaf_start, word_count, address, HasStock, leaves_of, IsLocationOf};
 
-    /// The layout with these numbers of records.
+    /// The layout with these numbers of records, of which all leaf records are long.
     pub fn of(passes: u32, nodes: u32, leaves: u32) -> Result<Layout, LayoutFault>
-        ensures ok { IfOk result (λ layout. (layout.passes ≡ passes) × (layout.nodes ≡ nodes) × (layout.leaves ≡ leaves)) }
+        ensures ok { IfOk result (λ layout. (layout.passes ≡ passes) × (layout.nodes ≡ nodes) × (layout.leaves ≡ leaves) × (layout.long_from ≡ 0)) }
         ensures passes { (result ≡ Err LayoutFault.Passes) ↔ ¬ IsPassCount passes }
         ensures nodes { (result ≡ Err LayoutFault.Nodes) ↔ (IsPassCount passes × ¬ IsNodeCount nodes) }
         ensures leaves { (result ≡ Err LayoutFault.Leaves) ↔ (IsPassCount passes × IsNodeCount nodes × ¬ IsLeafCount leaves) }
@@ -71,6 +144,42 @@ impl Layout {
             passes,
             nodes,
             leaves,
+            medium_from: 0,
+            large_from: 0,
+            wide_from: 0,
+            long_from: 0,
+        })
+    }
+
+    /// The layout with this stock: up to 4,294,967,295 node records, and as many leaf records of all classes together.
+    pub fn with_stock(passes: u32, stock: Stock) -> Result<Layout, LayoutFault>
+        ensures ok { IfOk result (λ layout. (layout.passes ≡ passes) × HasStock layout stock) }
+        ensures passes { (result ≡ Err LayoutFault.Passes) ↔ ¬ IsPassCount passes }
+        ensures nodes { (result ≡ Err LayoutFault.Nodes) ↔ (IsPassCount passes × ¬ IsRecordCount stock.nodes) }
+        ensures leaves { (result ≡ Err LayoutFault.Leaves) ↔ (IsPassCount passes × IsRecordCount stock.nodes × ¬ IsRecordCount (leaves_of stock)) }
+    {
+        if passes < 1 || passes > MAX_PASSES {
+            return Err(LayoutFault::Passes);
+        }
+        if stock.nodes < 1 {
+            return Err(LayoutFault::Nodes);
+        }
+        let medium_from = stock.short as u64;
+        let large_from = medium_from + stock.medium as u64;
+        let wide_from = large_from + stock.large as u64;
+        let long_from = wide_from + stock.wide as u64;
+        let leaves = long_from + stock.long as u64;
+        if leaves < 1 || leaves > u32::MAX as u64 {
+            return Err(LayoutFault::Leaves);
+        }
+        Ok(Layout {
+            passes,
+            nodes: stock.nodes,
+            leaves: leaves as u32,
+            medium_from: medium_from as u32,
+            large_from: large_from as u32,
+            wide_from: wide_from as u32,
+            long_from: long_from as u32,
         })
     }
 
@@ -88,11 +197,79 @@ impl Layout {
         FIRST_PIN + LINE_WORDS * self.passes as usize + NODE_WORDS * number as usize
     }
 
+    /// The class of a leaf record.
+    pub fn class_of(&self, number: u32) -> LeafClass
+        ensures { class_size result ≡ leaf_size self.now number }
+    {
+        if number < self.medium_from {
+            LeafClass::Short
+        } else if number < self.large_from {
+            LeafClass::Medium
+        } else if number < self.wide_from {
+            LeafClass::Large
+        } else if number < self.long_from {
+            LeafClass::Wide
+        } else {
+            LeafClass::Long
+        }
+    }
+
+    /// How many words a leaf record has.
+    pub fn leaf_size(&self, number: u32) -> usize
+        ensures size { result ≡ leaf_size self.now number }
+        ensures few { (SHORT_WORDS ≤ result) × (result ≤ LEAF_WORDS) }
+    {
+        self.class_of(number).words()
+    }
+
+    /// The number from which on each leaf record has so many words at least, where a long one has; those below have fewer.
+    pub fn first_with(&self, words: usize) -> u32
+        ensures below { (q : ℕ) → q < result → leaf_size self.now q < words }
+        ensures from { words ≤ LEAF_WORDS → (q : ℕ) → result ≤ q → words ≤ leaf_size self.now q }
+        ensures few { result ≤ self.now.leaves }
+    {
+        if words <= SHORT_WORDS {
+            0
+        } else if words <= MEDIUM_WORDS {
+            self.medium_from
+        } else if words <= LARGE_WORDS {
+            self.large_from
+        } else if words <= WIDE_WORDS {
+            self.wide_from
+        } else {
+            self.long_from
+        }
+    }
+
+    /// The number behind the last leaf record of the class of this one.
+    pub fn class_end(&self, number: u32) -> u32
+        requires { number < self.now.leaves }
+        ensures upto { (number < result) × (result ≤ self.now.leaves) }
+        ensures same { (q : ℕ) → number ≤ q → q < result → leaf_size self.now q ≡ leaf_size self.now number }
+    {
+        if number < self.medium_from {
+            self.medium_from
+        } else if number < self.large_from {
+            self.large_from
+        } else if number < self.wide_from {
+            self.wide_from
+        } else if number < self.long_from {
+            self.long_from
+        } else {
+            self.leaves
+        }
+    }
+
     /// The first word of a leaf record.
     pub fn leaf(&self, number: u32) -> usize
         ensures { result ≡ leaf_start self.now number }
     {
-        self.node(self.nodes) + LEAF_WORDS * number as usize
+        self.node(self.nodes)
+            + SHORT_WORDS * number as usize
+            + (MEDIUM_WORDS - SHORT_WORDS) * number.saturating_sub(self.medium_from) as usize
+            + (LARGE_WORDS - MEDIUM_WORDS) * number.saturating_sub(self.large_from) as usize
+            + (WIDE_WORDS - LARGE_WORDS) * number.saturating_sub(self.wide_from) as usize
+            + (LEAF_WORDS - WIDE_WORDS) * number.saturating_sub(self.long_from) as usize
     }
 
     /// How many words the table has.
@@ -100,6 +277,13 @@ impl Layout {
         ensures { result ≡ word_count self.now }
     {
         self.leaf(self.leaves)
+    }
+
+    /// How many bytes the table takes.
+    pub fn bytes(&self) -> usize
+        ensures { result ≡ WORD_BYTES * word_count self.now }
+    {
+        WORD_BYTES * self.words()
     }
 
     /// The word that stands at a location.
@@ -137,10 +321,38 @@ impl Layout {
                     offset: (within % NODE_WORDS) as u8,
                 })
             }
-            _ if word < self.words() => {
+            _ if word < self.leaf(self.medium_from) => {
                 let within = word - self.leaf(0);
                 Some(Location::LeafWord {
-                    leaf: (within / LEAF_WORDS) as u32,
+                    leaf: (within / SHORT_WORDS) as u32,
+                    offset: (within % SHORT_WORDS) as u8,
+                })
+            }
+            _ if word < self.leaf(self.large_from) => {
+                let within = word - self.leaf(self.medium_from);
+                Some(Location::LeafWord {
+                    leaf: self.medium_from + (within / MEDIUM_WORDS) as u32,
+                    offset: (within % MEDIUM_WORDS) as u8,
+                })
+            }
+            _ if word < self.leaf(self.wide_from) => {
+                let within = word - self.leaf(self.large_from);
+                Some(Location::LeafWord {
+                    leaf: self.large_from + (within / LARGE_WORDS) as u32,
+                    offset: (within % LARGE_WORDS) as u8,
+                })
+            }
+            _ if word < self.leaf(self.long_from) => {
+                let within = word - self.leaf(self.wide_from);
+                Some(Location::LeafWord {
+                    leaf: self.wide_from + (within / WIDE_WORDS) as u32,
+                    offset: (within % WIDE_WORDS) as u8,
+                })
+            }
+            _ if word < self.leaf(self.leaves) => {
+                let within = word - self.leaf(self.long_from);
+                Some(Location::LeafWord {
+                    leaf: self.long_from + (within / LEAF_WORDS) as u32,
                     offset: (within % LEAF_WORDS) as u8,
                 })
             }

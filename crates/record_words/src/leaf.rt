@@ -1,9 +1,9 @@
 //! The words of a leaf record.
 
-ghost use Rattle.std.specs.Prelude.{ℕ, ◌≡◌, ◌≢◌, ◌<◌, ◌≤◌, slice_index};
+ghost use Rattle.std.specs.Prelude.{ℕ, ◌≡◌, ◌≢◌, ◌<◌, ◌≤◌, slice_index, length};
 ghost use Rattle.key_bits.specs.declared.TheConstants.{MAX_BYTES};
-ghost use Rattle.record_words.specs.declared.TheConstants.{KEY_WORDS};
-ghost use Rattle.record_words.specs.Leaf.{HasLeafWords, key_word, leaf_words, words_of_key};
+ghost use Rattle.record_words.specs.declared.TheConstants.{KEY_WORDS, LEAF_WORDS};
+ghost use Rattle.record_words.specs.Leaf.{HasLeafWords, key_word, leaf_words, words_for, words_of_key};
 
 use crate::{KEY_WORDS, LEAF_FIELDS};
 use key_bits::{Key, MAX_BYTES};
@@ -14,6 +14,14 @@ pub fn key_words(length: u64) -> usize
     ensures { result ≡ words_of_key length }
 {
     (length as usize + 7) / 8
+}
+
+/// How many words a leaf record needs for a key: those of the state, the value and the length, and the key's own.
+pub fn words_for(key: &Key) -> usize
+    ensures words { result ≡ words_for (length key.now) }
+    ensures few { result ≤ LEAF_WORDS }
+{
+    3 + key_words(key.as_bytes().len() as u64)
 }
 
 /// The word that a leaf has of its key's eight bytes from byte `8 * j` on.

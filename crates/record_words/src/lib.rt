@@ -10,8 +10,8 @@ mod state;
 
 pub use entry::{pack_entry, read_entry, read_some};
 use key_bits::MAX_BYTES;
-pub use layout::{Layout, LayoutFault, Location};
-pub use leaf::{key_word_at, key_words, pack_leaf, write_word};
+pub use layout::{Layout, LayoutFault, LeafClass, Location, Stock};
+pub use leaf::{key_word_at, key_words, pack_leaf, words_for, write_word};
 pub use node::{pack_node, position_words, read_head, read_node, row_words};
 pub use state::{Tag, pack_state, unpack_state};
 
@@ -21,11 +21,14 @@ pub const EPOCHS: u64 = 1 << 60;
 /// How many passes a table has at most.
 pub const MAX_PASSES: u32 = 64;
 
-/// How many node records a table has at most.
+/// How many node records a table of `Layout::of` has at most.
 pub const MAX_NODES: u32 = 65_535;
 
-/// How many leaf records a table has at most.
+/// How many leaf records a table of `Layout::of` has at most.
 pub const MAX_LEAVES: u32 = 262_143;
+
+/// How many bytes a word has.
+pub const WORD_BYTES: usize = 8;
 
 /// How many words a cache line has. Words that different threads write often stand at least so far apart: then no two share
 /// a line, wherever in memory the table begins, and no thread's writes slow down what another does.
@@ -67,11 +70,26 @@ pub const NODE_FIELDS: usize = NODE_WORDS - 1;
 /// How many words the bytes of the longest key take.
 pub const KEY_WORDS: usize = (MAX_BYTES + 7) / 8;
 
-/// How many words a leaf record has: its state, the value, the key's length and its bytes.
+/// How many words a long leaf record has: its state, the value, the key's length and its bytes.
 pub const LEAF_WORDS: usize = 3 + KEY_WORDS;
 
-/// How many words a leaf record has besides its state.
+/// How many words a leaf has besides its state, whatever words its record has: those past the record's are 0.
 pub const LEAF_FIELDS: usize = LEAF_WORDS - 1;
+
+/// How many classes of leaf records there are.
+pub const LEAF_CLASSES: usize = 5;
+
+/// How many words a short leaf record has; its key has at most 8 bytes.
+pub const SHORT_WORDS: usize = 4;
+
+/// How many words a medium leaf record has; its key has at most 24 bytes.
+pub const MEDIUM_WORDS: usize = 6;
+
+/// How many words a large leaf record has; its key has at most 56 bytes.
+pub const LARGE_WORDS: usize = 10;
+
+/// How many words a wide leaf record has; its key has at most 88 bytes.
+pub const WIDE_WORDS: usize = 14;
 
 /// Why words are no packing of any value.
 #[derive(Clone, Copy)]

@@ -9,7 +9,7 @@ use compound_node::{Entry, Half, Node};
 use key_bits::{Key, KeyFault, extract, mismatch};
 use partial_keys::{search_lanes, search_plain};
 use record_words::{
-    HEAD_WORDS, LEAF_FIELDS, Layout, LayoutFault, Location, NODE_FIELDS, Tag, pack_entry,
+    HEAD_WORDS, LEAF_FIELDS, Layout, LayoutFault, Location, NODE_FIELDS, Stock, Tag, pack_entry,
     pack_leaf, pack_node, pack_state, unpack_state,
 };
 use std::process::Abort;
@@ -233,6 +233,69 @@ fn layouts_have_their_places(rt: HostRuntime) {
         assert!(rt; layout.location(word).is_none(), "at {word}");
     }
     assert!(rt; layout.words() == 768);
+}
+
+#[test]
+fn leaf_records_have_their_sizes(rt: HostRuntime) {
+    let stock = Stock {
+        nodes: 8,
+        short: 2,
+        medium: 1,
+        large: 1,
+        wide: 1,
+        long: 3,
+    };
+    let Ok(layout) = Layout::with_stock(2, stock) else {
+        panic!(rt; "no layout");
+    };
+    for (leaf, word, size) in [
+        (0, 504, 4),
+        (1, 508, 4),
+        (2, 512, 6),
+        (3, 518, 10),
+        (4, 528, 14),
+        (5, 542, 33),
+        (7, 608, 33),
+    ] {
+        assert!(rt;
+            layout.leaf(leaf) == word && layout.leaf_size(leaf) == size,
+            "leaf {leaf}"
+        );
+        let last = layout.location(word + size - 1);
+        assert!(rt;
+            matches!(last, Some(Location::LeafWord { leaf: found, offset }) if found == leaf && offset as usize == size - 1)
+        );
+    }
+    assert!(rt;
+        layout.pin(1) == 32
+            && layout.words() == 641
+            && layout.bytes() == 5_128
+            && layout.location(641).is_none()
+    );
+}
+
+#[test]
+fn stocks_are_in_range(rt: HostRuntime) {
+    for (nodes, short, long, want) in [
+        (0, 1, 0, LayoutFault::Nodes as u8),
+        (1, 0, 0, LayoutFault::Leaves as u8),
+        (1, 1, 4_294_967_295, LayoutFault::Leaves as u8),
+        (4_294_967_295, 1, 4_294_967_294, 0),
+    ] {
+        let stock = Stock {
+            nodes,
+            short,
+            medium: 0,
+            large: 0,
+            wide: 0,
+            long,
+        };
+        let told = match Layout::with_stock(64, stock) {
+            Ok(_) => 0,
+            Err(fault) => fault as u8,
+        };
+        assert!(rt; told == want);
+    }
 }
 
 #[test]
