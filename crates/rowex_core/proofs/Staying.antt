@@ -15,10 +15,10 @@ use Rattle.rowex_core.specs.declared.event.Act.{Act}
 use Rattle.rowex_core.specs.declared.event.Act.TheVariants.{Claim, Fill, Ready, Release, LoadRef, LoadFixed, Lock, Unlock, Publish, Mark, LoadEpoch, Advance, SetPin, ClearPin, LoadPin, LoadState, GiveBack}
 use Rattle.rowex_core.specs.declared.event.Target.TheVariants.{Anchor, Node as NodeTarget}
 use Rattle.rowex_core.specs.Reading.{node_of, leaf_of, IsPacked}
-use Rattle.rowex_core.specs.Cores.{Core, IsLawful, bare, heap_of, HasRecord, IsWhole}
+use Rattle.rowex_core.specs.Cores.{Core, IsLawful, bare, heap_of, HasRecord, HasWord, FitsIn, IsWhole}
 use Rattle.rowex_core.specs.Words.{tag_of}
-use Rattle.rowex_core.specs.Events.{Legal, after, with_word, claimed, marked, given_back, anchored, locked_where, advanced}
-use Rattle.rowex_core.proofs.Records.{word_at_record, sized_after}
+use Rattle.rowex_core.specs.Events.{Legal, IsOffset, after, with_word, claimed, marked, given_back, anchored, locked_where, advanced}
+use Rattle.rowex_core.proofs.Records.{word_at_record, sized_after, within_after}
 use Rattle.rowex_core.proofs.Published.{publish_stays}
 
 -- One record's fate
@@ -44,12 +44,14 @@ new_unlinked f n since last q e = subst IsNew e n
 new_marked : (f : Fate) → IsNew f → (since last epoch : ℕ) → f ≡ Marked since last epoch → ⊥
 new_marked f n since last epoch e = subst IsNew e n
 
-fate_stays : (c : Core) (r : Rec) (f : Fate) → IsLawful c → IsLawfulCore (bare (record c { shared = with_fate c.shared r f })) → HasRecord c.layout r → IsNew f → (IsWhole f → IsPacked r (c.words r)) → IsLawful (record c { shared = with_fate c.shared r f })
+fate_stays : (c : Core) (r : Rec) (f : Fate) → IsLawful c → IsLawfulCore (bare (record c { shared = with_fate c.shared r f })) → HasRecord c.layout r → IsNew f → (IsWhole f → IsPacked r (c.words r) × FitsIn c.layout r (c.words r)) → IsLawful (record c { shared = with_fate c.shared r f })
 fate_stays c r f law core has new packed = record {
   core = core;
   records = record {
     sized = law.records.sized;
-    packed = fate_at c r f (λ i g. IsWhole g → IsPacked i (c.words i)) packed (λ i e. law.records.packed i);
+    packed = fate_at c r f (λ i g. IsWhole g → IsPacked i (c.words i)) (λ w. (packed w).0) (λ i e. law.records.packed i);
+    within = law.records.within;
+    fits = fate_at c r f (λ i g. IsWhole g → FitsIn c.layout i (c.words i)) (λ w. (packed w).1) (λ i e. law.records.fits i);
     retired = λ n since last q. fate_at c r f (λ i g. i ≡ a_node n → g ≡ Unlinked since last q → c.lock n ≡ Some q)
         (λ e x. absurd (new_unlinked f new since last q x)) (λ i e x y. law.records.retired n since last q (ap c.fate (sym x) ∙ y)) (a_node n) refl;
     used = fate_at c r f (λ i g. (g ≡ Free) ⊎ HasRecord c.layout i) (inr has) (λ i e. law.records.used i);
@@ -94,6 +96,8 @@ mark_stays c q r epoch since last law has same e late = record {
   records = record {
     sized = law.records.sized;
     packed = fate_at c r (Marked since last epoch) (λ i g. IsWhole g → IsPacked i (c.words i)) (λ w. law.records.packed r (subst IsWhole (sym e) tt)) (λ i x. law.records.packed i);
+    within = law.records.within;
+    fits = fate_at c r (Marked since last epoch) (λ i g. IsWhole g → FitsIn c.layout i (c.words i)) (λ w. law.records.fits r (subst IsWhole (sym e) tt)) (λ i x. law.records.fits i);
     retired = λ n s l p. fate_at c r (Marked since last epoch) (λ i g. i ≡ a_node n → g ≡ Unlinked s l p → (unlocked c.shared r).lock n ≡ Some p)
         (λ x y. absurd cc) (λ i x y z. rw (subst (λ v. same_rec v r ≡ false) y x) (law.records.retired n s l p (ap c.fate (sym y) ∙ z))) (a_node n) refl;
     used = fate_at c r (Marked since last epoch) (λ i g. (g ≡ Free) ⊎ HasRecord c.layout i) (inr has) (λ i x. law.records.used i);
@@ -115,8 +119,8 @@ mark_stays c q r epoch since last law has same e late = record {
 
 -- The words of a held record
 
-fill_stays : (c : Core) (q : ℕ) (r : Rec) (offset w : ℕ) → IsLawful c → c.fate r ≡ Held q → w < 2 ^ 64 → IsLawful (record c { words = with_word c.words r offset w })
-fill_stays c q r offset w law e small = record {
+fill_stays : (c : Core) (q : ℕ) (r : Rec) (offset w : ℕ) → IsLawful c → c.fate r ≡ Held q → IsOffset r offset → w < 2 ^ 64 → HasWord c.layout r offset → IsLawful (record c { words = with_word c.words r offset w })
+fill_stays c q r offset w law e at small there = record {
   core = step_lawful (bare c) q _ law.core (fills r (heap_of (with_word c.words r offset w)) e (record {
     nodes = λ n ne. ap node_of (sym (other (a_node n) (λ x. ne (sym x))));
     leaves = λ n ne. ap leaf_of (sym (other (a_leaf n) (λ x. ne (sym x))));
@@ -124,6 +128,8 @@ fill_stays c q r offset w law e small = record {
   records = record {
     sized = sized_after c.words r offset w small law.records.sized;
     packed = word_at_record c.words r offset w (λ i words. IsWhole (c.fate i) → IsPacked i words) (λ x. absurd (subst IsWhole e x)) (λ i ne. law.records.packed i);
+    within = within_after c.layout c.words r offset w (low r at) there law.records.within;
+    fits = word_at_record c.words r offset w (λ i words. IsWhole (c.fate i) → FitsIn c.layout i words) (λ x. absurd (subst IsWhole e x)) (λ i ne. law.records.fits i);
     retired = law.records.retired;
     used = law.records.used;
   };
@@ -132,6 +138,10 @@ fill_stays c q r offset w law e small = record {
   makers = law.makers;
 }
   where
+    low : (r : Rec) → IsOffset r offset → 1 ≤ offset
+    low (a_node n) at = at.0
+    low (a_leaf n) at = at.0
+
     other : (i : Rec) → i ≢ r → with_word c.words r offset w i ≡ c.words i
     other i ne = word_at_record c.words r offset w (λ j words. j ≢ r → words ≡ c.words j) (λ x. absurd (x refl)) (λ j x y. refl) i ne
 
@@ -145,7 +155,7 @@ anchor_stays c q (Some p) law e = law
 lock_stays : (c : Core) (n since : ℕ) (o : Option ℕ) → IsLawful c → c.fate (a_node n) ≡ InTree since → IsLawfulCore (bare (record c { shared = with_lock c.shared n o })) → IsLawful (record c { shared = with_lock c.shared n o })
 lock_stays c n since o law e core = record {
   core = core;
-  records = record { sized = law.records.sized; packed = law.records.packed; retired = λ i s l q h. go i s l q h (cases_Bool (eqb i n)); used = law.records.used };
+  records = record { sized = law.records.sized; packed = law.records.packed; within = law.records.within; fits = law.records.fits; retired = λ i s l q h. go i s l q h (cases_Bool (eqb i n)); used = law.records.used };
   epochs = law.epochs;
   root = law.root;
   makers = law.makers;
@@ -217,8 +227,8 @@ advance_stays c q expected law low = go (cases_Bool (eqb c.epoch expected))
 -- A legal step keeps the core lawful.
 pub stays_lawful : (c : Core) (q : ℕ) (act : Act) → IsLawful c → Legal c q act → IsLawful (after c q act)
 stays_lawful c q (Claim r found) law (a, b) = claim_stays c q r (c.fate r) law b.0 refl
-stays_lawful c q (Fill r offset w) law (a, b) = fill_stays c q r offset w law b.1 b.3
-stays_lawful c q (Ready r) law (a, b) = fate_stays c r (ReadyBy q) law (step_lawful (bare c) q _ law.core (readies r b.1)) b.0 tt (λ x. b.2)
+stays_lawful c q (Fill r offset w) law (a, b) = fill_stays c q r offset w law b.1 b.2 b.3 b.4
+stays_lawful c q (Ready r) law (a, b) = fate_stays c r (ReadyBy q) law (step_lawful (bare c) q _ law.core (readies r b.1)) b.0 tt (λ x. (b.2, b.3))
 stays_lawful c q (Release r) law (a, b) = fate_stays c r Free law (step_lawful (bare c) q _ law.core (releases r b.1)) b.0 tt (λ x. absurd x)
 stays_lawful c q (LoadRef spot w) law l = law
 stays_lawful c q (LoadFixed r offset w) law l = law

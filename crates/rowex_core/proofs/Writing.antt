@@ -9,7 +9,7 @@ use Rattle.record_words.specs.declared.layout.Location.TheVariants.{Epoch, Root 
 use Rattle.record_words.specs.Layout.{address, word_count, IsInTable}
 use Rattle.record_words.specs.State.{state_word}
 use Rattle.record_words.specs.Entry.{entry_word}
-use Rattle.record_words.proofs.Locations.{address-below, same_location}
+use Rattle.record_words.proofs.Locations.{size_fits, address-below, same_location}
 use Rattle.moments.specs.declared.Rec.{Rec}
 use Rattle.moments.specs.declared.Rec.TheVariants.{Node as a_node, Leaf as a_leaf}
 use Rattle.moments.specs.declared.Pin.{Pin}
@@ -336,18 +336,18 @@ step_writes c q (GiveBack r epoch found) law l = give_back_write c r epoch (c.fa
 
 any_state : (layout : Layout) (r : Rec) → HasRecord layout r → IsInTable layout (word_of r 0)
 any_state layout (a_node n) h = (h, omega arith)
-any_state layout (a_leaf n) h = (h, omega arith)
+any_state layout (a_leaf n) h = (h, omega (arith, size_fits layout n))
 
 pub in_table : (c : Core) (q : ℕ) (act : Act) → Legal c q act → IsInTable c.layout (location_of q act)
 in_table c q (Claim r found) (a, b) = any_state c.layout r b.0
 in_table c q (Fill (a_node n) offset w) (a, b) = (b.0, b.2.1)
-in_table c q (Fill (a_leaf n) offset w) (a, b) = (b.0, b.2.1)
+in_table c q (Fill (a_leaf n) offset w) (a, b) = (b.0, b.4)
 in_table c q (Ready r) (a, b) = any_state c.layout r b.0
 in_table c q (Release r) (a, b) = any_state c.layout r b.0
 in_table c q (LoadRef Root w) l = tt
 in_table c q (LoadRef (Slot n j) w) (a, b) = (b.0, let x = b.1 in omega arith)
 in_table c q (LoadFixed (a_node n) offset w) (a, b) = (b.0, let x = b.1.1 in omega arith)
-in_table c q (LoadFixed (a_leaf n) offset w) (a, b) = (b.0, b.1.1)
+in_table c q (LoadFixed (a_leaf n) offset w) (a, b) = (b.0, b.3)
 in_table c q (Lock Anchor found) l = tt
 in_table c q (Lock (NodeTarget n) found) (a, b) = (b.0, omega arith)
 in_table c q (Unlock Anchor) l = tt

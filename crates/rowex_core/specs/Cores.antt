@@ -1,6 +1,6 @@
 -- The state of the shared words and of all moments so far.
-use Rattle.std.specs.Prelude.{◌≡◌, ◌⊎◌, ℕ, ◌<◌, ◌≤◌, ◌^◌, List, length, All, Option, Some}
-use Rattle.record_words.specs.declared.TheConstants.{EPOCHS, NODE_FIELDS, LEAF_FIELDS}
+use Rattle.std.specs.Prelude.{◌≡◌, ◌⊎◌, ℕ, ◌+◌, ◌<◌, ◌≤◌, ◌^◌, List, length, get_or, All, Option, Some}
+use Rattle.record_words.specs.declared.TheConstants.{EPOCHS, NODE_WORDS, NODE_FIELDS, LEAF_FIELDS}
 use Rattle.record_words.specs.declared.layout.Layout.{Layout}
 use Rattle.moments.specs.declared.Rec.{Rec}
 use Rattle.moments.specs.declared.Rec.TheVariants.{Node as a_node, Leaf as a_leaf}
@@ -9,6 +9,8 @@ use Rattle.moments.specs.declared.Round.{Round}
 use Rattle.moments.specs.Heap.{Heap}
 use Rattle.moments.specs.Steps.{IsLawfulCore}
 use Rattle.record_words.specs.Entry.{HasEntryWord}
+use Rattle.record_words.specs.Layout.{leaf_size}
+use Rattle.record_words.specs.Leaf.{words_for}
 use Rattle.moments.specs.Core.{Core as Moments, Shared, Fate, Free, Held, Unlinked, Marked}
 use Rattle.rowex_core.specs.Reading.{node_of, leaf_of, IsPacked}
 
@@ -31,7 +33,26 @@ abbrev pub HasRecord : Layout → Rec → Type 0
 HasRecord layout (a_node n) = n < layout.nodes
 HasRecord layout (a_leaf n) = n < layout.leaves
 
--- a record has this many words, each of 64 bits
+-- how many words the table has for a record, with its state
+abbrev pub size_of : Layout → Rec → ℕ
+size_of layout (a_node n) = NODE_WORDS
+size_of layout (a_leaf n) = leaf_size layout n
+
+-- the table has a word for this offset of the record
+abbrev pub HasWord : Layout → Rec → ℕ → Type 0
+HasWord layout r offset = offset < size_of layout r
+
+-- all words that the table has none for are 0; the words are those from offset 1 on
+abbrev pub IsWithin : Layout → Rec → List ℕ → Type 0
+IsWithin layout (a_node n) words = Unit {0}
+IsWithin layout (a_leaf n) words = (o : ℕ) → leaf_size layout n ≤ o + 1 → get_or words o 0 ≡ 0
+
+-- the table has a word for each that has bytes of the key
+abbrev pub FitsIn : Layout → Rec → List ℕ → Type 0
+FitsIn layout (a_node n) words = Unit {0}
+FitsIn layout (a_leaf n) words = words_for (get_or words 1 0) ≤ leaf_size layout n
+
+-- a record has this many words, each of 64 bits, and a leaf has as many whatever its class
 abbrev pub word_count_of : Rec → ℕ
 word_count_of (a_node n) = NODE_FIELDS
 word_count_of (a_leaf n) = LEAF_FIELDS
@@ -50,6 +71,9 @@ pub record AreRecords (layout : Layout) (words : Rec → List ℕ) (fate : Rec �
   -- each has its number of words, and those of one that is neither free nor held spell a value
   pub sized : (r : Rec) → IsSized r (words r)
   pub packed : (r : Rec) → IsWhole (fate r) → IsPacked r (words r)
+  -- a leaf has no more than the table has words for
+  pub within : (r : Rec) → IsWithin layout r (words r)
+  pub fits : (r : Rec) → IsWhole (fate r) → FitsIn layout r (words r)
   -- an unlinked node stays locked until it is marked
   pub retired : (n since last q : ℕ) → fate (a_node n) ≡ Unlinked since last q → lock n ≡ Some q
   -- only those of the table are used

@@ -29,7 +29,7 @@ use Rattle.rowex_core.specs.declared.event.Target.TheVariants.{Anchor, Node as N
 use Rattle.rowex_core.specs.declared.event.Spot.{Spot}
 use Rattle.rowex_core.specs.declared.event.Spot.TheVariants.{Root, Slot}
 use Rattle.rowex_core.specs.Reading.{entry_of, IsPacked}
-use Rattle.rowex_core.specs.Cores.{Core, heap_of, HasRecord}
+use Rattle.rowex_core.specs.Cores.{Core, heap_of, HasRecord, HasWord, FitsIn}
 use Rattle.rowex_core.specs.Words.{lock_tag, state_at, pin_word, record_word}
 
 -- What a step changes
@@ -113,12 +113,12 @@ pub record IsLegalPublish (c : Core) (q : ℕ) (spot : Spot) (w : ℕ) : Type 0 
 
 abbrev pub LegalAct : Core → ℕ → Act → Type 0
 LegalAct c q (Claim r found) = HasRecord c.layout r × (found ≡ state_at c r)
-LegalAct c q (Fill r offset w) = HasRecord c.layout r × (c.fate r ≡ Held q) × IsOffset r offset × (w < 2 ^ 64)
-LegalAct c q (Ready r) = HasRecord c.layout r × (c.fate r ≡ Held q) × IsPacked r (c.words r)
+LegalAct c q (Fill r offset w) = HasRecord c.layout r × (c.fate r ≡ Held q) × IsOffset r offset × (w < 2 ^ 64) × HasWord c.layout r offset
+LegalAct c q (Ready r) = HasRecord c.layout r × (c.fate r ≡ Held q) × IsPacked r (c.words r) × FitsIn c.layout r (c.words r)
 LegalAct c q (Release r) = HasRecord c.layout r × (c.fate r ≡ Held q)
 LegalAct c q (LoadRef Root w) = w ≡ entry_word c.root
 LegalAct c q (LoadRef (Slot n j) w) = (n < c.layout.nodes) × (j < MAX_ENTRIES) × (w ≡ record_word c (a_node n) (FIRST_ENTRY + j))
-LegalAct c q (LoadFixed r offset w) = HasRecord c.layout r × IsFixedOffset r offset × (w ≡ record_word c r offset)
+LegalAct c q (LoadFixed r offset w) = HasRecord c.layout r × IsFixedOffset r offset × (w ≡ record_word c r offset) × HasWord c.layout r offset
 LegalAct c q (Lock Anchor found) = found ≡ state_word (lock_tag c.anchor)
 LegalAct c q (Lock (NodeTarget n) found) = (n < c.layout.nodes) × (found ≡ state_at c (a_node n)) × (found ≡ state_word Live → IsInTree c n)
 LegalAct c q (Unlock Anchor) = c.anchor ≡ Some q

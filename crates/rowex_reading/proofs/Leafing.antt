@@ -7,7 +7,7 @@ use Rattle.compound_node.specs.declared.entries.Entry.TheVariants.{Leaf}
 use Rattle.record_words.specs.declared.layout.Layout.{Layout}
 use Rattle.key_bits.specs.declared.TheConstants.{MAX_BYTES}
 use Rattle.key_bits.specs.Key.{HoldsKey}
-use Rattle.record_words.specs.Leaf.{HasLeafWords, IsBytesOf, key_word, leaf_words, words_of_key}
+use Rattle.record_words.specs.Leaf.{HasLeafWords, IsBytesOf, key_word, leaf_words, words_for, words_of_key}
 use Rattle.record_words.proofs.Leaves.{key_of_bytes, key_part, leaf_words_parts, places_of_leaf, same_pair}
 use Rattle.record_words.proofs.Spelled.{spells_leaf}
 use Rattle.record_words.proofs.Unused.{first_long, first_rest, first_size, first_words, leaf_word_past, zero_word}
@@ -37,7 +37,8 @@ use Rattle.rowex_reading.specs.Reads.{IsReader, Reads}
 use Rattle.rowex_reading.specs.Seen.{seen, Sure, IsLedTo}
 use Rattle.rowex_reading.proofs.Led.{reader_then, reads_one, reads_trans}
 use Rattle.rowex_reading.proofs.Seeing.{recalls_before, seen_within, seen_grown, stands_in, stands_seen}
-use Rattle.rowex_reading.proofs.Standing.{reach, is_packed}
+use Rattle.record_words.specs.Layout.{leaf_size}
+use Rattle.rowex_reading.proofs.Standing.{reach, is_packed, fits_in}
 use Rattle.rowex_reading.proofs.Wording.{AreLoaded, none_loaded, next_loaded, led_stood, word_now, words_now}
 use Rattle.rowex_core.proofs.Loading.{view}
 
@@ -63,12 +64,24 @@ length_low layout k j n words possible loaded m led =
     let size = (leaf_words_parts packed.0 (c.words (a_leaf n)) (sym packed.2)).size in
     let short = packed.1.key.short in omega (arith, now, size, short)
 
+-- and its bytes have room in the record
+pub room_of : (layout : Layout) (k j : Known) (n : ℕ) (IsLoaded : ℕ → Type 0) (words : List ℕ) → IsPossible layout j → AreLoaded k j (a_leaf n) IsLoaded words → IsLoaded 1 → (m : ℕ) → IsLedTo k m (Leaf n) →
+    words_for (get_or words 1 0) ≤ leaf_size layout n
+room_of layout k j n IsLoaded words possible loaded here m led =
+    let c = possible.core in
+    let known = recalls c j possible.knows in
+    let before = recalls_before loaded.later known in
+    let fits = fits_in c k possible.lawful before m led.0 (Leaf n) (led.1 c possible.lawful before) in
+    let now = word_now k j (a_leaf n) IsLoaded words loaded m (led_stood k m (Leaf n) led) c possible.lawful known 1 here (lit≤ tt, lit≤ tt) in
+    subst (λ z. words_for z ≤ leaf_size layout n) (sym now) (subst (λ (z : Layout). words_for (get_or (c.words (a_leaf n)) 1 0) ≤ leaf_size z n) possible.layout_is fits)
+
 -- The value of a leaf and the length of its key have been loaded, the first words of it.
 pub record HasFirst {G : Type 0} (table : TableView) (becomes : G → Event → G → Type 0) (a b : SeatView × G) (n value size : ℕ) : Type 0 where
   pub reads : Reads table becomes 2 a b
   pub reader : IsReader table b.0
   pub loaded : AreLoaded a.0.known b.0.known (a_leaf n) (λ o. o < 2) (first_words value size)
   pub short : size ≤ MAX_BYTES
+  pub room : words_for size ≤ leaf_size table.layout n
 
 pub first_read : {G : Type 0} {table : TableView} {becomes : G → Event → G → Type 0} {a i b : SeatView × G} {n value size : ℕ} → IsReader table a.0 → (m : ℕ) × IsLedTo a.0.known m (Leaf n) →
     Steps table becomes (LoadFixed (a_leaf n) 1 value) a i → Steps table becomes (LoadFixed (a_leaf n) 2 size) i b → HasFirst table becomes a b n value size
@@ -77,7 +90,14 @@ first_read {table = table} {a = a} {i = i} {b = b} {n = n} {value = value} {size
     let reader = reader_then (reader_then before x) y in
     let loaded = first_loaded table.layout a.0.known i.0.known b.0.known n value size one.event two.event led.0 led.1 in
     let low = length_low table.layout a.0.known b.0.known n (first_words value size) reader.1 loaded led.0 led.1 in
-    record { reads = reads_trans x y; reader = reader; loaded = loaded; short = omega (arith, low, first_size value size) }
+    record {
+      reads = reads_trans x y;
+      reader = reader;
+      loaded = loaded;
+      short = omega (arith, low, first_size value size);
+      room = subst (λ z. words_for z ≤ leaf_size table.layout n) (first_size value size)
+          (room_of table.layout a.0.known b.0.known n (λ o. o < 2) (first_words value size) reader.1 loaded (lit< tt) led.0 led.1);
+    }
 
 -- In a core of which j is true, a record to which the pass was led has the words of a leaf, and that leaf stood.
 module _ (k j : Known) (later : IsLater k j) (n m : ℕ) (led : IsLedTo k m (Leaf n)) (c : Core) (lawful : IsLawful c) (known : Recalls c j) where

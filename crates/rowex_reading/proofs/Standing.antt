@@ -16,7 +16,7 @@ use Rattle.moments.specs.State.{Stands, IsReach, rec_of}
 use Rattle.moments.specs.Core.{Fate, Free, Held, Ready, InTree, Unlinked, Marked, pin_moment}
 use Rattle.moments.proofs.States.{reach_later}
 use Rattle.rowex_core.specs.declared.known.Known.{Known}
-use Rattle.rowex_core.specs.Cores.{Core, IsLawful, IsWhole, HasRecord}
+use Rattle.rowex_core.specs.Cores.{Core, IsLawful, IsWhole, HasRecord, FitsIn}
 use Rattle.rowex_core.specs.Events.{IsFixedOffset}
 use Rattle.rowex_core.specs.Knowing.{Recalls, IsSince}
 use Rattle.rowex_core.proofs.Owning.{recalls}
@@ -63,6 +63,10 @@ module _ (c : Core) (k : Known) (lawful : IsLawful c) (known : Recalls c k) (m :
     -- and its words spell a value
     pub is_packed : IsPacked (rec_of e) (c.words (rec_of e))
     is_packed = lawful.records.packed (rec_of e) (whole (c.fate (rec_of e)) fate_is.0 fate_is.1)
+
+    -- and its key has room there
+    pub fits_in : FitsIn c.layout (rec_of e) (c.words (rec_of e))
+    fits_in = lawful.records.fits (rec_of e) (whole (c.fate (rec_of e)) fate_is.0 fate_is.1)
 
 pub led_in_table : (layout : Layout) (k : Known) (m : ℕ) (e : Entry) → IsPossible layout k → IsLedTo k m e → HasRecord layout (rec_of e)
 led_in_table layout k m e x led = subst (λ (z : Layout). HasRecord z (rec_of e)) x.layout_is (let h = recalls x.core k x.knows in in_table x.core k x.lawful h m led.0 e (led.1 x.core x.lawful h))

@@ -1,8 +1,12 @@
 -- What filling a record comes to, making it ready, and giving it up.
-use Rattle.std.proofs.Common.{◌≡◌, ◌≢◌, ℕ, zero, suc, ◌+◌, ◌-◌, ◌<◌, ◌≤◌, List, [], ◌∷◌, ◌++◌, length, map, take, set, get_or, Bool, true, false, if◌then◌else◌, refl, sym, ap, subst, ◌∙◌, arith, add-one, length-append}
+use Rattle.std.proofs.Common.{◌≡◌, ◌≢◌, ℕ, zero, suc, ◌+◌, ◌-◌, ◌<◌, ◌≤◌, List, [], ◌∷◌, ◌++◌, length, map, take, set, get_or, Bool, true, false, if◌then◌else◌, refl, sym, ap, subst, ◌∙◌, ⊎_elim, arith, add-one, length-append, get_or-take}
 use Rattle.std.specs.Prelude.{All, Contains, not}
-use Rattle.std.proofs.lemmas.List.{get_or_default, length-set, take_all, take_more, take_more_set}
+use Rattle.std.proofs.lemmas.Bool.{cases_lt}
+use Rattle.std.proofs.lemmas.List.{ext_get_or, get_or_default, get_or-set_other, length-set, take_all, take_more, take_more_set}
 use Rattle.std.proofs.lemmas.List.Elements.{All-head, All-tail, All-weaker}
+use Rattle.record_words.specs.declared.layout.Layout.{Layout}
+use Rattle.record_words.specs.Layout.{leaf_size}
+use Rattle.record_words.proofs.Locations.{size_fits}
 use Rattle.moments.specs.declared.Rec.{Rec}
 use Rattle.moments.specs.declared.Rec.TheVariants.{Node as a_node, Leaf as a_leaf}
 use Rattle.moments.specs.Steps.{same_rec}
@@ -14,7 +18,7 @@ use Rattle.rowex_core.specs.declared.known.Holding.{Holding}
 use Rattle.rowex_core.specs.declared.known.Holding.TheVariants.{Held, Ready as IsReady}
 use Rattle.rowex_core.specs.declared.known.Owned.{Owned}
 use Rattle.rowex_core.specs.declared.known.Known.{Known}
-use Rattle.rowex_core.specs.Cores.{Core, IsLawful, word_count_of}
+use Rattle.rowex_core.specs.Cores.{Core, IsLawful, IsWithin, word_count_of}
 use Rattle.rowex_core.specs.Events.{IsOffset}
 use Rattle.rowex_core.specs.Sharing.{IsOwned}
 use Rattle.rowex_core.specs.Knowing.{Knows, fill_in, hold_as}
@@ -94,6 +98,40 @@ stored_all words old size =
     let all = stored_first words (length words) old size (omega arith) in
     let long = all.0 in
     sym (take_all (length words) (stored words (length words) old) (omega arith)) ∙ (all.1 ∙ take_all (length words) words (omega arith))
+
+stored_past : (words : List ℕ) (i j : ℕ) (old : List ℕ) → i ≤ j → get_or (stored words i old) j 0 ≡ get_or old j 0
+stored_past words zero j old past = refl
+stored_past words (suc i) j old past = get_or-set_other (stored words i old) i j (get_or words i 0) 0 (λ e. omega (arith, e, past)) ∙ stored_past words i j old (omega arith)
+
+-- and all that are not 0, where the others are 0 already
+stored_within : (words old : List ℕ) (i : ℕ) → length old ≡ length words → i ≤ length words → ((j : ℕ) → i ≤ j → get_or old j 0 ≡ 0) → ((j : ℕ) → i ≤ j → get_or words j 0 ≡ 0) → stored words i old ≡ words
+stored_within words old i size low was is =
+    let first = stored_first words i old size low in
+    ext_get_or 0 (stored words i old) words first.0 (λ j h. ⊎_elim
+    (λ (before : j < i). sym (get_or-take i (stored words i old) j 0 before) ∙ (ap (λ l. get_or l j 0) first.1 ∙ get_or-take i words j 0 before))
+    (λ (past : i ≤ j). stored_past words i j old past ∙ (was j past ∙ sym (is j past)))
+    (cases_lt j i))
+
+-- each record has its number of words, and 0 for those that the table has none for
+abbrev pub AreWithin : Layout → List Owned → Type 0
+AreWithin layout own = All (λ o. (length o.words ≡ word_count_of o.rec) × IsWithin layout o.rec o.words) own
+
+pub own_within : (layout : Layout) (c : Core) (k : Known) → c.layout ≡ layout → IsLawful c → Knows c k → AreWithin layout k.own
+own_within layout c k at lawful known = All-weaker (IsOwned k.pass c) (λ o. (length o.words ≡ word_count_of o.rec) × IsWithin layout o.rec o.words)
+    (λ o is. (ap length (sym is.1) ∙ (lawful.records.sized o.rec).0, subst (λ z. IsWithin z o.rec o.words) at (subst (IsWithin c.layout o.rec) is.1 (lawful.records.within o.rec)))) k.own (knows_all c k known).own
+
+pub leaf_filled_with : (layout : Layout) (n : ℕ) (words : List ℕ) → length words ≡ word_count_of (a_leaf n) → ((j : ℕ) → leaf_size layout n ≤ j + 1 → get_or words j 0 ≡ 0) → (o : Owned) →
+    (length o.words ≡ word_count_of o.rec) × IsWithin layout o.rec o.words → stored_in (a_leaf n) words (leaf_size layout n - 1) o ≡ fill_with (a_leaf n) words o
+leaf_filled_with layout n words size zeros o held = go (same_rec o.rec (a_leaf n)) refl
+  where
+    go : (b : Bool) → same_rec o.rec (a_leaf n) ≡ b → stored_in (a_leaf n) words (leaf_size layout n - 1) o ≡ fill_with (a_leaf n) words o
+    go true e =
+        let this = same_rec_true o.rec (a_leaf n) e in
+        let was : IsWithin layout (a_leaf n) o.words = subst (λ z. IsWithin layout z o.words) this held.1 in
+        let (least, most) = size_fits layout n in
+        rw e (ap (λ l. record o { words = l }) (stored_within words o.words (leaf_size layout n - 1) (held.0 ∙ (ap word_count_of this ∙ sym size)) (omega (arith, size, most))
+        (λ j past. was j (omega (arith, past))) (λ j past. zeros j (omega (arith, past)))))
+    go false e = rw e refl
 
 -- each record has its number of words
 abbrev pub AreSized : List Owned → Type 0

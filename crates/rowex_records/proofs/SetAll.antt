@@ -17,7 +17,9 @@ use Rattle.rowex_core.specs.declared.known.Fact.{Fact}
 use Rattle.rowex_core.specs.declared.known.Holding.TheVariants.{Held}
 use Rattle.rowex_core.specs.declared.known.Owned.{Owned}
 use Rattle.rowex_core.specs.declared.known.Known.{Known}
-use Rattle.rowex_core.specs.Cores.{word_count_of}
+use Rattle.record_words.specs.Layout.{leaf_size}
+use Rattle.record_words.proofs.Locations.{size_fits}
+use Rattle.rowex_core.specs.Cores.{IsWithin, word_count_of}
 use Rattle.rowex_core.specs.Events.{IsFixedOffset}
 use Rattle.rowex_core.specs.Sharing.{IsOwned}
 use Rattle.rowex_core.specs.Knowing.{IsEvent, fill_in}
@@ -32,7 +34,7 @@ use Rattle.rowex_table.proofs.Rights.{mapped}
 use Rattle.rowex_table.proofs.Running as running
 use Rattle.rowex_table.proofs.Running.{in_turn_more}
 use Rattle.rowex_records.specs.Records.{owning, filling, fill_with, Sets, SetsAll, SetsWord}
-use Rattle.rowex_records.proofs.Filled.{AreSized, each_mapped, filled_with, own_sized, stored_in, stored_more, stored_nothing, twice}
+use Rattle.rowex_records.proofs.Filled.{AreWithin, each_mapped, leaf_filled_with, own_within, stored_in, stored_more, stored_nothing, twice}
 use Rattle.rowex_records.proofs.Making.{owns_one}
 
 -- ---- one word
@@ -179,20 +181,22 @@ module _ {G : Type 0} (table : TableView) (becomes : G → Event → G → Type 
       }
 
   -- a pass that makes a step knows of each of its records as many words as it has
-  runs_sized : (acts : List Act) (a b : SeatView × G) → 1 ≤ length acts → Runs table becomes acts a b → AreSized a.0.known.own
-  runs_sized [] a b some run = absurd (omega arith)
-  runs_sized (act ∷ acts) a b some run = own_sized run.1.event.core a.0.known run.1.event.lawful run.1.event.knows
+  runs_within : (acts : List Act) (a b : SeatView × G) → 1 ≤ length acts → Runs table becomes acts a b → AreWithin table.layout a.0.known.own
+  runs_within [] a b some run = absurd (omega arith)
+  runs_within (act ∷ acts) a b some run = own_within table.layout run.1.event.core a.0.known run.1.event.layout_is run.1.event.lawful run.1.event.knows
 
-  pub sets_all : (r : Rec) (words : List ℕ) (a b : SeatView × G) → length words ≡ word_count_of r → 1 ≤ length words → SetsSome r words (length words) a b → SetsAll table becomes r words a b
-  sets_all r words a b size some_words some = record {
+  pub sets_all : (n : ℕ) (words : List ℕ) (a b : SeatView × G) → length words ≡ word_count_of (a_leaf n) → ((j : ℕ) → leaf_size table.layout n ≤ j + 1 → get_or words j 0 ≡ 0) →
+      SetsSome (a_leaf n) words (leaf_size table.layout n - 1) a b → SetsAll table becomes (a_leaf n) words a b
+  sets_all n words a b size zeros some = record {
     sized = size;
     acts = some.acts;
     in_turn = some.in_turn;
     does = some.does;
     later = some.later;
     own = some.own ∙
-        each_mapped (λ o. length o.words ≡ word_count_of o.rec) (stored_in r words (length words)) (fill_with r words) (filled_with r words size) a.0.known.own
-        (runs_sized some.acts a b (let z = some.least in omega arith) some.does.steps);
+        each_mapped (λ o. (length o.words ≡ word_count_of o.rec) × IsWithin table.layout o.rec o.words) (stored_in (a_leaf n) words (leaf_size table.layout n - 1)) (fill_with (a_leaf n) words)
+        (leaf_filled_with table.layout n words size zeros) a.0.known.own
+        (runs_within some.acts a b (let z = some.least in omega (arith, z, size_fits table.layout n)) some.does.steps);
   }
 
   -- and the record has these words then

@@ -1,5 +1,5 @@
 -- Steps on records of a pass's own that are not in the tree: filled, made ready, given up.
-use Rattle.std.specs.Prelude.{◌≡◌, ◌≤◌, ◌⊎◌, ℕ, zero, suc, ◌+◌, List, [], ◌∷◌, length, map, get_or, All, Contains, if◌then◌else◌}
+use Rattle.std.specs.Prelude.{◌≡◌, ◌≤◌, ◌⊎◌, ℕ, zero, suc, ◌+◌, ◌-◌, List, [], ◌∷◌, length, map, get_or, All, Contains, if◌then◌else◌}
 use Rattle.moments.specs.declared.Rec.{Rec}
 use Rattle.moments.specs.Steps.{same_rec}
 use Rattle.rowex_core.specs.declared.event.Act.{Act}
@@ -8,7 +8,7 @@ use Rattle.rowex_core.specs.declared.event.Event.{Event}
 use Rattle.rowex_core.specs.declared.known.Holding.TheVariants.{Held, Ready as IsReady}
 use Rattle.rowex_core.specs.declared.known.Known.{Known}
 use Rattle.rowex_core.specs.declared.known.Owned.{Owned}
-use Rattle.rowex_core.specs.Cores.{word_count_of}
+use Rattle.rowex_core.specs.Cores.{size_of, word_count_of}
 use Rattle.rowex_core.specs.Knowing.{fill_in, hold_as, without_record}
 use Rattle.rowex_core.specs.Reading.{IsPacked}
 use Rattle.rowex_table.specs.Made.{IsLater}
@@ -66,12 +66,12 @@ pub record Sets {G : Type 0} (table : TableView) (becomes : G → Event → G �
   pub later : IsLater a.0.known b.0.known
   pub own : b.0.known.own ≡ map (fill_in r offset word) a.0.known.own
 
--- The words, all that the record has but its state, come to stand from offset 1 on, one after the other; a 0 that stands there already
+-- The words come to stand from offset 1 on, as far as the table has words for the record, one after the other; a 0 that stands there already
 -- is not stored again. Of the pass's own records this one has them then, and the others are as they were.
 pub record SetsAll {G : Type 0} (table : TableView) (becomes : G → Event → G → Type 0) (r : Rec) (words : List ℕ) (a b : SeatView × G) : Type 0 where
   pub sized : length words ≡ word_count_of r
   pub acts : List Act
-  pub in_turn : InTurn (λ i. SetsWord r (i + 1) (get_or words i 0)) (length words) acts
+  pub in_turn : InTurn (λ i. SetsWord r (i + 1) (get_or words i 0)) (size_of table.layout r - 1) acts
   pub does : Does table becomes filling acts a b
   pub later : IsLater a.0.known b.0.known
   pub own : b.0.known.own ≡ map (fill_with r words) a.0.known.own

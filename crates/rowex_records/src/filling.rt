@@ -2,9 +2,11 @@
 
 ghost use Rattle.std.specs.Prelude.{◌≡◌, ◌<◌, ◌≤◌, ◌+◌, ◌*◌, ℕ, List, length};
 ghost use Rattle.moments.specs.declared.Rec.TheVariants.{Node as a_node, Leaf as a_leaf};
-ghost use Rattle.record_words.specs.Leaf.{leaf_words};
+ghost use Rattle.record_words.specs.Layout.{leaf_size};
+ghost use Rattle.record_words.specs.Leaf.{leaf_words, words_for};
 ghost use Rattle.record_words.specs.Node.{HasNodeWords, node_words};
-ghost use Rattle.rowex_core.specs.Cores.{HasRecord, word_count_of};
+ghost use Rattle.record_words.specs.declared.TheConstants.{LEAF_FIELDS};
+ghost use Rattle.rowex_core.specs.Cores.{FitsIn, HasRecord, HasWord, size_of, word_count_of};
 ghost use Rattle.rowex_core.specs.Events.{IsOffset};
 ghost use Rattle.rowex_core.specs.Reading.{IsPacked};
 ghost use Rattle.rowex_table.specs.Rights.{IsClaimed};
@@ -14,12 +16,12 @@ ghost use Rattle.rowex_records.specs.Records.{Fills, IsFilled, Readies, Sets, Se
 
 use compound_node::Node;
 use key_bits::Key;
-use record_words::{LEAF_FIELDS, NODE_FIELDS, pack_leaf, pack_node};
+use record_words::{NODE_FIELDS, pack_leaf, pack_node};
 use rowex_core::{Gate, Rec};
 use rowex_table::{HotTable, TableSeat};
 
-/// Fills a claimed leaf record with a key and a value, in a step or two for each word but the state: a word that is to be 0 is
-/// loaded, and stored only where another stands, as most words of a short key's leaf are 0 before and after.
+/// Fills a claimed leaf record with a key, which has room in it, and a value, in a step or two for each of its words but the
+/// state: a word that is to be 0 is loaded, and stored only where another stands.
 pub fn fill_leaf<G: Gate>(
     table: &HotTable,
     seat: &mut TableSeat,
@@ -31,13 +33,14 @@ pub fn fill_leaf<G: Gate>(
     requires own { IsSeatOf table.now seat.old }
     requires range { number < table.now.layout.leaves }
     requires held { IsClaimed seat.old.known (a_leaf number) }
+    requires room { words_for (length key.now) ≤ leaf_size table.now.layout number }
     ensures fills { SetsAll table.now G.becomes (a_leaf number) (leaf_words (key.now, value)) (seat.old, gate.old) (seat.new, gate.new) }
     ensures filled { IsFilled seat.new.known (a_leaf number) (leaf_words (key.now, value)) }
-    ensures steps { (seat.old.known.steps + LEAF_FIELDS ≤ seat.new.known.steps) × (seat.new.known.steps ≤ seat.old.known.steps + 2 * LEAF_FIELDS) }
+    ensures steps { seat.new.known.steps ≤ seat.old.known.steps + 2 * LEAF_FIELDS }
 {
     let words = pack_leaf(key, value);
     let start = table.start_of(Rec::Leaf(number));
-    for index in 0..LEAF_FIELDS {
+    for index in 0..table.layout().leaf_size(number) - 1 {
         set_leaf_word(
             table,
             seat,
@@ -61,7 +64,7 @@ fn set_leaf_word<G: Gate>(
     word: u64,
 )
     requires own { IsSeatOf table.now seat.old }
-    requires range { (number < table.now.layout.leaves) × IsOffset (a_leaf number) offset }
+    requires range { (number < table.now.layout.leaves) × IsOffset (a_leaf number) offset × HasWord table.now.layout (a_leaf number) offset }
     requires start { IsStartOf table.now.layout (a_leaf number) start }
     requires held { IsClaimed seat.old.known (a_leaf number) }
     ensures { Sets table.now G.becomes (a_leaf number) offset word (seat.old, gate.old) (seat.new, gate.new) }
@@ -106,6 +109,7 @@ fn fill_words<G: Gate>(
     requires range { HasRecord table.now.layout rec }
     requires held { IsClaimed seat.old.known rec }
     requires words { (length words.now ≡ word_count_of rec) × IsPacked rec words.now }
+    requires whole { word_count_of rec < size_of table.now.layout rec }
     ensures fills { Fills table.now G.becomes rec words.now (seat.old, gate.old) (seat.new, gate.new) }
     ensures filled { IsFilled seat.new.known rec words.now }
     ensures steps { seat.new.known.steps ≡ seat.old.known.steps + length words.now }
@@ -120,7 +124,7 @@ fn fill_words<G: Gate>(
 pub fn make_ready<G: Gate>(table: &HotTable, seat: &mut TableSeat, gate: &mut G, rec: Rec)
     requires own { IsSeatOf table.now seat.old }
     requires range { HasRecord table.now.layout rec }
-    requires filled { (words : List ℕ) × IsFilled seat.old.known rec words }
+    requires filled { (words : List ℕ) × IsFilled seat.old.known rec words × FitsIn table.now.layout rec words }
     ensures { Readies table.now G.becomes rec (seat.old, gate.old) (seat.new, gate.new) }
 {
     table.ready(seat, gate, rec);

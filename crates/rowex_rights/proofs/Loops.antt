@@ -7,7 +7,7 @@ use Rattle.moments.specs.declared.Rec.{Rec}
 use Rattle.rowex_core.specs.declared.event.Act.TheVariants.{Claim, Fill, Ready, Release}
 use Rattle.rowex_core.specs.declared.known.Holding.TheVariants.{Held, Ready as IsReady}
 use Rattle.rowex_core.specs.declared.known.Known.{Known}
-use Rattle.rowex_core.specs.Cores.{Core}
+use Rattle.rowex_core.specs.Cores.{Core, FitsIn, HasWord}
 use Rattle.rowex_core.specs.Reading.{IsPacked}
 use Rattle.rowex_core.specs.Knowing.{Knows, IsEvent}
 use Rattle.rowex_core.specs.declared.event.Act.{Act}
@@ -109,8 +109,18 @@ releases_all layout k j (m ∷ news) holds (i, e, rest) =
 
 pub holds_rights : HoldsRights
 holds_rights layout k done todo m has = (
-  λ offset w at low c law layout_is known. (let owned = owned_here c known in (known.pass, (owned_used c law k.pass (held_as Held m) owned, owned.0, at, low))),
-  λ packed c law layout_is known. (let owned = owned_here c known in (known.pass, (owned_used c law k.pass (held_as Held m) owned, owned.0, subst (IsPacked m.rec) (sym owned.1) packed))),
+  λ offset w at low there c law layout_is known.
+      (let owned = owned_here c known in (known.pass, (owned_used c law k.pass (held_as Held m) owned, owned.0, at, low, subst (λ (z : Layout). HasWord z m.rec offset) (sym layout_is) there))),
+  λ packed room c law layout_is known.
+      (let owned = owned_here c known in (
+        known.pass,
+        (
+          owned_used c law k.pass (held_as Held m) owned,
+          owned.0,
+          subst (IsPacked m.rec) (sym owned.1) packed,
+          subst (λ (z : Layout). FitsIn z m.rec (c.words m.rec)) (sym layout_is) (subst (FitsIn layout m.rec) (sym owned.1) room),
+        ),
+      )),
   λ c law layout_is known. (let owned = owned_here c known in (known.pass, (owned_used c law k.pass (held_as Held m) owned, owned.0))),
 )
   where

@@ -8,6 +8,7 @@ use Rattle.hot_model.specs.declared.Note.{Note}
 use Rattle.record_words.specs.declared.layout.Layout.{Layout}
 use Rattle.record_words.specs.State.{state_word}
 use Rattle.moments.specs.declared.Rec.{Rec}
+use Rattle.moments.specs.declared.Rec.TheVariants.{Node as a_node, Leaf as a_leaf}
 use Rattle.moments.proofs.Legal.{same_rec_refl}
 use Rattle.moments.specs.Core.{Fate, Free, Held as HeldBy, Ready as ReadyBy, InTree, Unlinked as UnlinkedBy, Marked}
 use Rattle.rowex_core.specs.declared.event.Act.{Act}
@@ -18,10 +19,10 @@ use Rattle.rowex_core.specs.declared.known.Holding.{Holding}
 use Rattle.rowex_core.specs.declared.known.Holding.TheVariants.{Held, Ready as IsReady}
 use Rattle.rowex_core.specs.declared.known.Owned.{Owned}
 use Rattle.rowex_core.specs.declared.known.Known.{Known}
-use Rattle.rowex_core.specs.Cores.{Core, HasRecord}
-use Rattle.rowex_core.specs.Words.{lock_of, lock_tag, tag_of}
+use Rattle.rowex_core.specs.Cores.{Core, HasRecord, HasWord, FitsIn}
+use Rattle.rowex_core.specs.Words.{lock_of, lock_tag, state_at, tag_of, word_at}
 use Rattle.rowex_core.specs.Reading.{IsPacked}
-use Rattle.rowex_core.specs.Events.{IsOffset}
+use Rattle.rowex_core.specs.Events.{IsOffset, state_of}
 use Rattle.rowex_core.specs.Sharing.{IsOwned}
 use Rattle.rowex_core.proofs.Having.{other_rec}
 use Rattle.rowex_core.proofs.Owning.{knows_all}
@@ -71,13 +72,13 @@ module _ (layout : Layout) (k : Known) where
   pub releases : (r : Rec) (words : List ℕ) → HasRecord layout r → OwnsAs k r Held words → MayStep layout (λ w. Release r) k
   releases r words h has c law at known = (known.pass, (subst (λ z. HasRecord z r) (sym at) h, (own_is r Held words has c known).0))
 
-  pub fills : (r : Rec) (offset word : ℕ) (words : List ℕ) → HasRecord layout r → IsOffset r offset → word < 2 ^ 64 → OwnsAs k r Held words → MayStep layout (λ w. Fill r offset word) k
-  fills r offset word words h o low has c law at known = (known.pass, (subst (λ z. HasRecord z r) (sym at) h, (own_is r Held words has c known).0, o, low))
+  pub fills : (r : Rec) (offset word : ℕ) (words : List ℕ) → HasRecord layout r → IsOffset r offset → word < 2 ^ 64 → HasWord layout r offset → OwnsAs k r Held words → MayStep layout (λ w. Fill r offset word) k
+  fills r offset word words h o low there has c law at known = (known.pass, (subst (λ z. HasRecord z r) (sym at) h, (own_is r Held words has c known).0, o, low, subst (λ z. HasWord z r offset) (sym at) there))
 
-  pub readies : (r : Rec) (words : List ℕ) → HasRecord layout r → OwnsAs k r Held words → IsPacked r words → MayStep layout (λ w. Ready r) k
-  readies r words h has packed c law at known =
+  pub readies : (r : Rec) (words : List ℕ) → HasRecord layout r → OwnsAs k r Held words → IsPacked r words → FitsIn layout r words → MayStep layout (λ w. Ready r) k
+  readies r words h has packed room c law at known =
       let owned = own_is r Held words has c known in
-      (known.pass, (subst (λ z. HasRecord z r) (sym at) h, owned.0, subst (IsPacked r) (sym owned.1) packed))
+      (known.pass, (subst (λ z. HasRecord z r) (sym at) h, owned.0, subst (IsPacked r) (sym owned.1) packed, subst (λ z. FitsIn z r (c.words r)) (sym at) (subst (FitsIn layout r) (sym owned.1) room)))
 
   -- The anchor
 
@@ -183,3 +184,8 @@ module _ (layout : Layout) (said : Known → List Note) (k j : Known) where
       let o : Owned = record { rec = s; holding = h; words = words } in
       let same : hold_as r IsReady o ≡ o = rw (other_rec s r ne) refl in
       subst (λ l. Contains l o) (sym (ap (λ (z : Known). z.own) e.learned_is)) (subst (Contains (map (hold_as r IsReady) k.own)) same (mapped (hold_as r IsReady) k.own o has))
+
+-- the word at which a record's state stands is its state
+pub state_there : (c : Core) (r : Rec) → word_at c (state_of r) ≡ state_at c r
+state_there c (a_node n) = refl
+state_there c (a_leaf n) = refl

@@ -2,7 +2,7 @@
 
 ghost use Rattle.std.specs.Prelude.{◌≡◌, ◌<◌, ◌+◌, ◌*◌, ◌^◌, ℕ, List};
 ghost use Rattle.rowex_core.specs.declared.event.Act.TheVariants.{Claim, Fill, Ready, Release, LoadFixed, Mark, LoadState, GiveBack};
-ghost use Rattle.rowex_core.specs.Cores.{HasRecord};
+ghost use Rattle.rowex_core.specs.Cores.{HasRecord, HasWord};
 ghost use Rattle.rowex_core.specs.Events.{IsOffset, IsFixedOffset};
 ghost use Rattle.rowex_table.specs.Rule.{IsStartOf, MayStep};
 ghost use Rattle.rowex_table.specs.Runs.{Steps};
@@ -42,7 +42,7 @@ impl HotTable {
     /// Stores a word other than the state of a record that the pass holds; offsets are from 1.
     pub fn fill<G: Gate>(&self, seat: &mut TableSeat, gate: &mut G, rec: Rec, offset: u8, word: u64)
         requires own { IsSeatOf self.now seat.old }
-        requires range { HasRecord self.now.layout rec × IsOffset rec offset }
+        requires range { HasRecord self.now.layout rec × IsOffset rec offset × HasWord self.now.layout rec offset }
         requires may { MayStep self.now.layout (λ _. Fill rec offset word) seat.old.known }
         ensures { Steps self.now G.becomes (Fill rec offset word) (seat.old, gate.old) (seat.new, gate.new) }
     {
@@ -61,7 +61,7 @@ impl HotTable {
         word: u64,
     )
         requires own { IsSeatOf self.now seat.old }
-        requires range { HasRecord self.now.layout rec × IsOffset rec offset }
+        requires range { HasRecord self.now.layout rec × IsOffset rec offset × HasWord self.now.layout rec offset }
         requires start { IsStartOf self.now.layout rec start }
         requires may { MayStep self.now.layout (λ _. Fill rec offset word) seat.old.known }
         ensures { Steps self.now G.becomes (Fill rec offset word) (seat.old, gate.old) (seat.new, gate.new) }
@@ -111,7 +111,7 @@ impl HotTable {
         offset: u8,
     ) -> u64
         requires own { IsSeatOf self.now seat.old }
-        requires range { HasRecord self.now.layout rec × IsFixedOffset rec offset }
+        requires range { HasRecord self.now.layout rec × IsFixedOffset rec offset × HasWord self.now.layout rec offset }
         ensures { Steps self.now G.becomes (LoadFixed rec offset result) (seat.old, gate.old) (seat.new, gate.new) }
     {
         self.load_fixed_from(seat, gate, rec, self.start_of(rec), offset)
@@ -128,7 +128,7 @@ impl HotTable {
         offset: u8,
     ) -> u64
         requires own { IsSeatOf self.now seat.old }
-        requires range { HasRecord self.now.layout rec × IsFixedOffset rec offset }
+        requires range { HasRecord self.now.layout rec × IsFixedOffset rec offset × HasWord self.now.layout rec offset }
         requires start { IsStartOf self.now.layout rec start }
         ensures { Steps self.now G.becomes (LoadFixed rec offset result) (seat.old, gate.old) (seat.new, gate.new) }
     {

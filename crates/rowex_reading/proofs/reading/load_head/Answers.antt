@@ -20,7 +20,7 @@ pub start_of-start-requires : goal.start_of-start-requires
 start_of-start-requires g c = let l = c.requires.led in led_in_table c.args.table.now.layout c.args.seat.now.known l.0 (Node c.args.number l.1) c.requires.reader.1 l.2
 
 pub load_fixed_from-numbers-requires-clause-range : goal.load_fixed_from-numbers-requires-clause-range
-load_fixed_from-numbers-requires-clause-range g c = (c.start_of-start.ensures.0, (lit≤ tt, lit≤ tt))
+load_fixed_from-numbers-requires-clause-range g c = (c.start_of-start.ensures.0, (lit≤ tt, lit≤ tt), lit≤ tt)
 
 pub loop-index-init : goal.loop-index-init
 loop-index-init g c =

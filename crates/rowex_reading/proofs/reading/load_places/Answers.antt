@@ -4,6 +4,7 @@ use Rattle.compound_node.specs.declared.entries.Entry.TheVariants.{Leaf}
 use Rattle.moments.specs.declared.Rec.TheVariants.{Leaf as a_leaf}
 use Rattle.key_bits.specs.declared.TheConstants.{MAX_BYTES}
 use Rattle.record_words.specs.Leaf.{words_of_key}
+use Rattle.record_words.proofs.Locations.{size_fits}
 use Rattle.rowex_core.specs.declared.event.Act.TheVariants.{LoadFixed}
 use Rattle.rowex_reading.specs.Reads.{Reads}
 use Rattle.rowex_reading.proofs.Led.{reader_then, reads_one, reads_trans}
@@ -17,14 +18,14 @@ start_of-start-requires g c = let l = c.requires.led in led_in_table c.args.tabl
 pub load_fixed_from-value-requires : goal.load_fixed_from-value-requires
 load_fixed_from-value-requires g c = record {
   own = c.requires.reader.0;
-  range = (c.start_of-start.ensures.0, (lit≤ tt, lit≤ tt));
+  range = (c.start_of-start.ensures.0, (lit≤ tt, lit≤ tt), omega (arith, size_fits c.args.table.now.layout c.args.number));
   start = c.start_of-start.ensures;
 }
 
 pub load_fixed_from-length-requires : goal.load_fixed_from-length-requires
 load_fixed_from-length-requires g c = record {
   own = (reader_then c.requires.reader (reads_one (LoadFixed (a_leaf c.args.number) 1 c.load_fixed_from-value.result) tt c.load_fixed_from-value.ensures)).0;
-  range = (c.start_of-start.ensures.0, (lit≤ tt, lit≤ tt));
+  range = (c.start_of-start.ensures.0, (lit≤ tt, lit≤ tt), omega (arith, size_fits c.args.table.now.layout c.args.number));
   start = c.start_of-start.ensures;
 }
 
@@ -41,6 +42,7 @@ loop-index-init g c =
       reader = f.reader;
       used_is = omega (arith, c.key_words-used.ensures);
       fits = omega (arith, c.key_words-used.ensures, short);
+      room = let room = f.room in omega (arith, c.key_words-used.ensures, room);
       reads = f.reads;
       small = rw c.requires.zeros (zero_small MAX_BYTES);
       so_far = rw c.requires.zeros (so_far_first _ _ c.args.number c.load_fixed_from-value.result c.load_fixed_from-length.result f.loaded);
@@ -49,7 +51,7 @@ loop-index-init g c =
 pub load_fixed_from-word-requires : goal.load_fixed_from-word-requires
 load_fixed_from-word-requires g c = let i = c.loop-index.invariant in record {
   own = i.reader.0;
-  range = (c.start_of-start.ensures.0, (omega arith, omega (arith, i.fits, c.loop-index-test.true)));
+  range = (c.start_of-start.ensures.0, (omega arith, omega (arith, i.fits, c.loop-index-test.true)), omega (arith, i.room, c.loop-index-test.true));
   start = c.start_of-start.ensures;
 }
 
@@ -61,6 +63,7 @@ loop-index-preserved g c =
       reader = reader_then i.reader one;
       used_is = i.used_is;
       fits = i.fits;
+      room = i.room;
       reads = reads_trans i.reads one;
       small = c.write_word.ensures.small;
       so_far = so_far_next _ _ _ _ c.args.number c.loop-index.index _ _ _ _ c.write_word.new.bytes i.so_far c.loop-index.auto.index (omega (arith, i.fits, c.loop-index-test.true)) e.event l.0 l.1

@@ -1,11 +1,14 @@
 -- The length, one word more, a word that is another key's, and the value.
-use Rattle.std.proofs.Common.{◌+◌, ◌-◌, ◌<◌, ◌∙◌, length, ap, sym, subst, arith, rules}
+use Rattle.std.proofs.Common.{◌+◌, ◌-◌, ◌<◌, ◌≤◌, ◌∙◌, length, ap, sym, subst, arith, rules}
 use Rattle.compound_node.specs.declared.entries.Entry.TheVariants.{Leaf}
 use Rattle.moments.specs.declared.Rec.TheVariants.{Leaf as a_leaf}
 use Rattle.record_words.specs.declared.TheConstants.{LEAF_FIELDS}
 use Rattle.rowex_core.specs.declared.event.Act.TheVariants.{LoadFixed}
 use Rattle.rowex_reading.specs.Reads.{Reads}
-use Rattle.rowex_reading.proofs.Comparing.{byte_word, first_same, length_word, next_same, other_key, same_key}
+use Rattle.record_words.specs.Layout.{leaf_size}
+use Rattle.record_words.specs.Leaf.{words_for}
+use Rattle.rowex_reading.proofs.Leafing.{room_of}
+use Rattle.rowex_reading.proofs.Comparing.{IsKeyWord, words_with, byte_word, first_same, length_word, next_same, other_key, same_key}
 use Rattle.rowex_reading.proofs.Led.{reader_then, reads_one, reads_trans}
 use Rattle.rowex_reading.proofs.Standing.{led_in_table}
 use Rattle.rowex_reading.proofs.Wording.{none_loaded}
@@ -28,12 +31,17 @@ loop-index-init g c =
     let one = reads_one (LoadFixed (a_leaf c.args.number) 2 c.load_fixed_from.result) tt c.load_fixed_from.ensures in
     let size = ap length c.as_bytes.ensures.bytes in
     let short = c.as_bytes.ensures.key.short in
+    let reader = reader_then c.requires.reader one in
+    let loaded = first_same _ _ c.args.number c.args.key.now l.0 l.1 _ c.load_fixed_from.result c.load_fixed_from.ensures.event (omega (arith, size, c.if-load_fixed_from-length.false)) in
+    let room = subst (λ z. words_for z ≤ leaf_size c.args.table.now.layout c.args.number) (length_word c.args.key.now)
+    (room_of c.args.table.now.layout _ _ c.args.number (IsKeyWord 2) (words_with c.args.key.now) reader.1 loaded (omega arith, omega arith) l.0 l.1) in
     record {
-      reader = reader_then c.requires.reader one;
+      reader = reader;
+      room = omega (arith, c.key_words-end.ensures, size, room);
       end_is = omega (arith, c.key_words-end.ensures, size);
       fits = omega (arith, c.key_words-end.ensures, size, short);
       reads = one;
-      loaded = first_same _ _ c.args.number c.args.key.now l.0 l.1 _ c.load_fixed_from.result c.load_fixed_from.ensures.event (omega (arith, size, c.if-load_fixed_from-length.false));
+      loaded = loaded;
     }
 
 pub returns-then-word-key_word_at-clause-reads : goal.returns-then-word-key_word_at-clause-reads
@@ -59,6 +67,7 @@ loop-index-preserved g c =
       reader = reader_then i.reader one;
       end_is = i.end_is;
       fits = i.fits;
+      room = i.room;
       reads = subst (λ n. Reads c.args.table.now g.G.Gate.becomes n (c.args.seat.now, c.args.gate.now) (c.load_fixed_from-word.new.seat, c.load_fixed_from-word.new.gate)) (omega (arith, c.loop-index.auto.index)) (reads_trans i.reads one);
       loaded = next_same _ _ c.args.number c.args.key.now l.0 l.1 _ _ c.loop-index.index c.load_fixed_from-word.result i.loaded low c.load_fixed_from-word.ensures.event
           (c.if-word-key_word_at.false ∙ (c.key_word_at.ensures ∙ sym (byte_word c.args.key.now c.loop-index.index c.loop-index.auto.index low)));

@@ -2,6 +2,7 @@
 use Rattle.std.proofs.Common.{◌≡◌, ◌+◌, ◌-◌, ◌≤◌, length}
 use Rattle.moments.specs.declared.Rec.TheVariants.{Leaf as a_leaf}
 use Rattle.record_words.specs.declared.TheConstants.{LEAF_FIELDS}
+use Rattle.record_words.specs.Layout.{leaf_size}
 use Rattle.record_words.specs.Leaf.{words_of_key}
 use Rattle.rowex_reading.specs.Reads.{IsReader, Reads}
 use Rattle.rowex_reading.proofs.Comparing.{IsKeyWord, words_with}
@@ -13,6 +14,7 @@ invariant-loop-index g l = record {
   reader : IsReader l.table l.seat;
   end_is : l.end ≡ 2 + words_of_key (length l.key);
   fits : l.end ≤ LEAF_FIELDS;
+  room : l.end + 1 ≤ leaf_size l.table.layout l.number;
   reads : Reads l.table g.G.Gate.becomes (l.index - 1) (l.fn.seat, l.fn.gate) (l.seat, l.gate);
   loaded : AreLoaded l.fn.seat.known l.seat.known (a_leaf l.number) (IsKeyWord l.index) (words_with l.key);
 }

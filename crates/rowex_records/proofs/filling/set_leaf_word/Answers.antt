@@ -9,12 +9,12 @@ use Rattle.rowex_records.proofs.filling.set_leaf_word.Goals as goal
 pub fill_from-requires-clause-may : goal.fill_from-requires-clause-may
 fill_from-requires-clause-may g c =
     let held = c.requires.held in
-    fills c.args.table.now.layout _ (a_leaf c.args.number) _ _ held.0 c.requires.range.0 c.requires.range.1 (search rules) held.2
+    fills c.args.table.now.layout _ (a_leaf c.args.number) _ _ held.0 c.requires.range.0 c.requires.range.1 (search rules) c.requires.range.2 held.2
 
 pub fill_from-requires-then-load_fixed_from-ne0-clause-may : goal.fill_from-requires-then-load_fixed_from-ne0-clause-may
 fill_from-requires-then-load_fixed_from-ne0-clause-may g c =
     let held = load_claimed _ _ (a_leaf c.args.number) _ _ _ _ c.load_fixed_from.ensures c.requires.held in
-    fills c.args.table.now.layout _ (a_leaf c.args.number) _ _ held.0 c.requires.range.0 c.requires.range.1 (search rules) held.2
+    fills c.args.table.now.layout _ (a_leaf c.args.number) _ _ held.0 c.requires.range.0 c.requires.range.1 (search rules) c.requires.range.2 held.2
 
 pub returns-then-word-ne0 : goal.returns-then-word-ne0
 returns-then-word-ne0 g c = sets_stored _ _ (a_leaf c.args.number) _ _ _ _ (omega (arith, c.if-word-ne0.true)) c.fill_from.ensures
