@@ -3,7 +3,7 @@
 use arrayvec::ArrayVec;
 use epochs::Limbo;
 use insert_cases::Step;
-use record_words::Layout;
+use record_words::{LEAF_CLASSES, Layout};
 use rowex_core::Rec;
 use rowex_reading::MOST_NODES;
 use rowex_writing::Build;
@@ -56,7 +56,7 @@ pub fn new_room(alloc: Global, layout: Layout, number: u16) -> Result<Box<Room>,
         made: ArrayVec::new(),
         gone: ArrayVec::new(),
         next_node: first_claim(number, layout.passes, layout.nodes),
-        next_leaf: first_claim(number, layout.passes, layout.leaves),
+        next_leaves: first_leaves(number, layout),
         spare_nodes: ArrayVec::new(),
         spare_leaves: ArrayVec::new(),
     };
@@ -67,6 +67,20 @@ pub fn new_room(alloc: Global, layout: Layout, number: u16) -> Result<Box<Room>,
         held_back: false,
     };
     Ok(Box::new(alloc, room)?)
+}
+
+/// Where the claims of leaf records of the pass of this number begin, in each class.
+fn first_leaves(number: u16, layout: Layout) -> [u32; LEAF_CLASSES] {
+    let begin = |from: u32, upto: u32| {
+        from.saturating_add(first_claim(number, layout.passes, upto.saturating_sub(from)))
+    };
+    [
+        begin(0, layout.medium_from),
+        begin(layout.medium_from, layout.large_from),
+        begin(layout.large_from, layout.wide_from),
+        begin(layout.wide_from, layout.long_from),
+        begin(layout.long_from, layout.leaves),
+    ]
 }
 
 /// Where the claims of the pass of this number begin, of so many passes and records.

@@ -1,6 +1,7 @@
 -- Tries of the records of a kind, from one number on and then from 0.
 use Rattle.std.specs.Prelude.{◌≡◌, ◌≢◌, ℕ, ◌+◌, ◌-◌, ◌<◌, ◌≤◌, ◌*◌, ◌⊎◌, List, [], ◌∷◌, ◌++◌, length, nat_lt, All, Contains, if◌then◌else◌}
 use Rattle.record_words.specs.declared.layout.Layout.{Layout}
+use Rattle.record_words.specs.Layout.{leaf_size}
 use Rattle.moments.specs.declared.Rec.{Rec}
 use Rattle.moments.specs.declared.Rec.TheVariants.{Node as a_node, Leaf as a_leaf}
 use Rattle.rowex_core.specs.declared.event.Act.{Act}
@@ -21,11 +22,21 @@ use Rattle.rowex_records.specs.declared.claiming.RecordKind.TheVariants.{Node, L
 -- the record of a kind that has this number, and how many of them there are
 abbrev pub record_of : RecordKind → ℕ → Rec
 record_of Node = a_node
-record_of Leaf = a_leaf
+record_of (Leaf first end) = λ i. a_leaf (first + i)
 
 abbrev pub count_of : RecordKind → Layout → ℕ
 count_of Node layout = layout.nodes
-count_of Leaf layout = layout.leaves
+count_of (Leaf first end) layout = end - first
+
+-- the table has these records
+abbrev pub IsKindOf : RecordKind → Layout → Type 0
+IsKindOf Node layout = Unit {0}
+IsKindOf (Leaf first end) layout = end ≤ layout.leaves
+
+-- a leaf record of the kind has this number
+abbrev pub HasIndex : RecordKind → ℕ → Type 0
+HasIndex Node i = Unit {0}
+HasIndex (Leaf first end) i = first + i < end
 
 -- of what a pass knows, its own records and its failed steps may change
 abbrev pub claiming : Known → Known → Known
@@ -110,3 +121,7 @@ pub record Claims {G : Type 0} (table : TableView) (becomes : G → Event → G 
 -- each of the n records of the kind was found not free by one of these, at this step or a later one
 abbrev pub AllMissed : (ℕ → Rec) → ℕ → List Failed → ℕ → Type 0
 AllMissed kind n failed since = (q : ℕ) → q < n → HasMissedSince failed (kind q) since
+
+-- and so was each leaf record that has so many words at least
+abbrev pub AllMissedFrom : Layout → ℕ → List Failed → ℕ → Type 0
+AllMissedFrom layout words failed since = (q : ℕ) → q < layout.leaves → words ≤ leaf_size layout q → HasMissedSince failed (a_leaf q) since

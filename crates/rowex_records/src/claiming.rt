@@ -4,7 +4,7 @@ ghost use Rattle.std.specs.Prelude.{◌≡◌, ◌<◌, true, false, IfNone, IfS
 ghost use Rattle.rowex_core.specs.Cores.{HasRecord};
 ghost use Rattle.rowex_table.specs.Rights.{IsClaimed};
 ghost use Rattle.rowex_table.specs.Seats.{IsSeatOf};
-ghost use Rattle.rowex_records.specs.Claims.{AllMissed, Claims, ClaimsOne, FindsNone, MissesNumber, MissesOne, begin_of, count_of, record_of, wrapped};
+ghost use Rattle.rowex_records.specs.Claims.{AllMissed, Claims, ClaimsOne, FindsNone, MissesNumber, MissesOne, HasIndex, IsKindOf, begin_of, count_of, record_of, wrapped};
 ghost use Rattle.rowex_records.specs.Records.{GivesUp, GivesUpAll, HoldsJust};
 
 use record_words::Layout;
@@ -15,17 +15,19 @@ use rowex_table::{HotTable, TableSeat};
 #[derive(Clone, Copy)]
 pub enum RecordKind {
     Node,
-    Leaf,
+    /// The leaf records from `first` on and below `end`.
+    Leaf { first: u32, end: u32 },
 }
 
 impl RecordKind {
-    /// The record of this kind that has the number.
-    pub fn record_at(self, number: u32) -> Rec
+    /// The record of this kind that has the number, counted from the first of the kind on.
+    fn record_at(self, number: u32) -> Rec
+        requires { HasIndex self number }
         ensures { result ≡ record_of self number }
     {
         match self {
             RecordKind::Node => Rec::Node(number),
-            RecordKind::Leaf => Rec::Leaf(number),
+            RecordKind::Leaf { first, .. } => Rec::Leaf(first + number),
         }
     }
 
@@ -35,7 +37,7 @@ impl RecordKind {
     {
         match self {
             RecordKind::Node => layout.nodes,
-            RecordKind::Leaf => layout.leaves,
+            RecordKind::Leaf { first, end } => end.saturating_sub(first),
         }
     }
 }
@@ -52,6 +54,7 @@ pub fn claim_record<G: Gate>(
     from: u32,
 ) -> Option<u32>
     requires own { IsSeatOf table.now seat.old }
+    requires kind { IsKindOf kind table.now.layout }
     ensures claims { MatchOption result
         (let n = count_of kind table.now.layout in
         FindsNone table.now G.becomes (record_of kind) n (begin_of n from) n (seat.old, gate.old) (seat.new, gate.new))
@@ -81,6 +84,7 @@ pub fn claim_numbered<G: Gate>(
     number: u32,
 ) -> bool
     requires own { IsSeatOf table.now seat.old }
+    requires kind { IsKindOf kind table.now.layout }
     ensures missed { result ≡ false →
         MissesNumber table.now G.becomes (record_of kind) (count_of kind table.now.layout) number (seat.old, gate.old) (seat.new, gate.new) }
     ensures claimed { result ≡ true → (number < count_of kind table.now.layout) ×

@@ -212,24 +212,24 @@ loaded_steps k j l = let x = l.from in let y = l.upto in omega (arith, x, y)
 met_before : (k i j : Known) → k.steps ≤ i.steps → HasMetLock i j → HasMetLock k j
 met_before k i j low m = met_since k i j j low refl m
 
-pub refused_busy : (layout : Layout) (k i j : Known) (m : ℕ) → since i ≡ m → HasLoadedRoot k i → IsLater k i → IsLater i j → HasMetLock i j ⊎ (m < length j.front) → HasRefused layout k j Busy
-refused_busy layout k i j m same loaded first next why = record {
+pub refused_busy : (layout : Layout) (key : Key) (k i j : Known) (m : ℕ) → since i ≡ m → HasLoadedRoot k i → IsLater k i → IsLater i j → HasMetLock i j ⊎ (m < length j.front) → HasRefused layout key k j Busy
+refused_busy layout key k i j m same loaded first next why = record {
   others = (later_trans first next).front;
   cause = elim why [ inl met ↦ inl (met_before k i j (loaded_steps k i loaded) met) | inr moved ↦ inr (let low = loaded_from k i loaded in omega (arith, low, moved, same)) ];
 }
 
-full_before : (layout : Layout) (k i j : Known) (full : Full) → k.steps ≤ i.steps → IsFull layout i j full → IsFull layout k j full
-full_before layout k i j Nodes low f = all_earlier a_node layout.nodes j.failed k.steps i.steps low f
-full_before layout k i j Leaves low f = all_earlier a_leaf layout.leaves j.failed k.steps i.steps low f
+full_before : (layout : Layout) (key : Key) (k i j : Known) (full : Full) → k.steps ≤ i.steps → IsFull layout key i j full → IsFull layout key k j full
+full_before layout key k i j Nodes low f = all_earlier a_node layout.nodes j.failed k.steps i.steps low f
+full_before layout key k i j Leaves low f = λ q within room. let (step, from, at) = f q within room in (step, (omega (arith, low, from)), at)
 
 others_since : (k i j : Known) → IsLater k i → OthersGoOn i.pass i.front j.front → OthersGoOn k.pass k.front j.front
 others_since k i j later others = others_on k.pass k.front i.front j.front later.front (subst (λ q. OthersGoOn q i.front j.front) later.pass others)
 
-pub refused_nodes : (layout : Layout) (k i j : Known) → HasLoadedRoot k i → IsLater k i → HasNoRoom layout i j Nodes → HasRefused layout k j FullNodes
-refused_nodes layout k i j loaded later none = record { others = others_since k i j later none.others; cause = full_before layout k i j Nodes (loaded_steps k i loaded) none.full_of }
+pub refused_nodes : (layout : Layout) (key : Key) (k i j : Known) → HasLoadedRoot k i → IsLater k i → HasNoRoom layout key i j Nodes → HasRefused layout key k j FullNodes
+refused_nodes layout key k i j loaded later none = record { others = others_since k i j later none.others; cause = full_before layout key k i j Nodes (loaded_steps k i loaded) none.full_of }
 
-pub refused_leaves : (layout : Layout) (k i j : Known) → HasLoadedRoot k i → IsLater k i → HasNoRoom layout i j Leaves → HasRefused layout k j FullLeaves
-refused_leaves layout k i j loaded later none = record { others = others_since k i j later none.others; cause = full_before layout k i j Leaves (loaded_steps k i loaded) none.full_of }
+pub refused_leaves : (layout : Layout) (key : Key) (k i j : Known) → HasLoadedRoot k i → IsLater k i → HasNoRoom layout key i j Leaves → HasRefused layout key k j FullLeaves
+refused_leaves layout key k i j loaded later none = record { others = others_since k i j later none.others; cause = full_before layout key k i j Leaves (loaded_steps k i loaded) none.full_of }
 
 -- ---- answers
 pub answered_look : (k j : Known) (ask : Ask) (key : Key) (value : ℕ) (reply : Reply) → IsLater k j → HasLooked j ask key reply → HasAnswered k j ask key value reply

@@ -34,7 +34,7 @@ use Rattle.rowex_rights.proofs.Rising.{risen_stays}
 use Rattle.rowex_table.specs.Made.{IsLater, nodes_of}
 use Rattle.rowex_table.specs.Publishes.{Publishes}
 use Rattle.rowex_table.specs.Rule.{HasSpot}
-use Rattle.record_words.specs.Leaf.{HasLeafWords}
+use Rattle.record_words.specs.Leaf.{HasLeafWords, words_for}
 use Rattle.hot_model.specs.Fronts.{OthersGoOn}
 use Rattle.hot_model.proofs.Growth.{others_on}
 use Rattle.insert_cases.proofs.Choosing.{some_at}
@@ -54,7 +54,7 @@ use Rattle.rowex_table.specs.Seats.{TableView, SeatView}
 use Rattle.rowex_walks.specs.Rise.{entry}
 use Rattle.rowex_walks.specs.Writer.{added_change}
 use Rattle.rowex_core.specs.declared.event.Event.{Event}
-use Rattle.rowex_records.specs.Claims.{AllMissed}
+use Rattle.rowex_records.specs.Claims.{AllMissedFrom}
 use Rattle.rowex_rights.specs.Ending.{IsAtRest}
 use Rattle.rowex_rights.proofs.Loops.{later_on}
 use Rattle.rowex_writing.specs.declared.plan.Full.TheVariants.{Nodes, Leaves}
@@ -69,7 +69,7 @@ use Rattle.rowex_writing.specs.declared.plan.Span.{Span}
 use Rattle.rowex_writing.proofs.Bridging.{IsGrowPlan, chain_at, found_below, grow_plan, locked_at, part_at, pulled_full, spot_at_root, spot_in_node, top_within}
 use Rattle.rowex_writing.proofs.Lifting.{gone_more}
 use Rattle.rowex_writing.proofs.Runs.{works_run}
-use Rattle.rowex_writing.proofs.Keeping.{changed_since, missed_on}
+use Rattle.rowex_writing.proofs.Keeping.{changed_since, missed_from_on, missed_on}
 use Rattle.rowex_writing.proofs.Spans.{locked_same}
 use Rattle.rowex_writing.proofs.Works.{works_later}
 use Rattle.rowex_writing.proofs.Staging.{risen_page}
@@ -201,37 +201,37 @@ pub range_records : (layout : Layout) (way : List Step) (b d : ℕ) → AreNodes
 range_records layout way b d nodes = node_records layout (slice_range way b d) (range_nodes layout way b d nodes)
 
 -- ---- none was free
-pub no_room : {G : Type 0} (table : TableView) (becomes : G → Event → G → Type 0) (a b c : SeatView × G) (made : List Rec) → WorksOn table becomes a b → Works table becomes b c → IsAtRest c.0.known → HasNotMade table a.0 b.0 made →
-    HasNoRoom table.layout a.0.known c.0.known Nodes
-no_room table becomes a b c made goes works rest none = record {
+pub no_room : {G : Type 0} (table : TableView) (becomes : G → Event → G → Type 0) (key : Key) (a b c : SeatView × G) (made : List Rec) → WorksOn table becomes a b → Works table becomes b c → IsAtRest c.0.known → HasNotMade table a.0 b.0 made →
+    HasNoRoom table.layout key a.0.known c.0.known Nodes
+no_room table becomes key a b c made goes works rest none = record {
   rest = rest;
   others = (later_on a.0.known b.0.known c.0.known goes.stays.0 (works_later table becomes b c works)).front;
   full_of = missed_on table becomes a_node table.layout.nodes a.0.known.steps b c (works_run table becomes b c works) none.missed;
 }
 
-pub no_leaf : {G : Type 0} (table : TableView) (becomes : G → Event → G → Type 0) (a b c : SeatView × G) → WorksOn table becomes a b → Works table becomes b c → IsAtRest c.0.known →
-    AllMissed a_leaf table.layout.leaves b.0.known.failed a.0.known.steps → HasNoRoom table.layout a.0.known c.0.known Leaves
-no_leaf table becomes a b c goes works rest missed = record {
+pub no_leaf : {G : Type 0} (table : TableView) (becomes : G → Event → G → Type 0) (key : Key) (a b c : SeatView × G) → WorksOn table becomes a b → Works table becomes b c → IsAtRest c.0.known →
+    AllMissedFrom table.layout (words_for (length key)) b.0.known.failed a.0.known.steps → HasNoRoom table.layout key a.0.known c.0.known Leaves
+no_leaf table becomes key a b c goes works rest missed = record {
   rest = rest;
   others = (later_on a.0.known b.0.known c.0.known goes.stays.0 (works_later table becomes b c works)).front;
-  full_of = missed_on table becomes a_leaf table.layout.leaves a.0.known.steps b c (works_run table becomes b c works) missed;
+  full_of = missed_from_on table becomes (words_for (length key)) a.0.known.steps b c (works_run table becomes b c works) missed;
 }
 
 -- nor since an earlier moment
-pub no_room_since : (layout : Layout) (a b c : Known) (full : Full) → IsLater a b → a.steps ≤ b.steps → HasNoRoom layout b c full → HasNoRoom layout a c full
-no_room_since layout a b c full later count none = record {
+pub no_room_since : (layout : Layout) (key : Key) (a b c : Known) (full : Full) → IsLater a b → a.steps ≤ b.steps → HasNoRoom layout key b c full → HasNoRoom layout key a c full
+no_room_since layout key a b c full later count none = record {
   rest = none.rest;
   others = others_on a.pass a.front b.front c.front later.front (subst (λ q. OthersGoOn q b.front c.front) later.pass none.others);
   full_of = earlier full none.full_of;
 }
   where
-    earlier : (full : Full) → IsFull layout b c full → IsFull layout a c full
+    earlier : (full : Full) → IsFull layout key b c full → IsFull layout key a c full
     earlier Nodes missed = λ q low. (let (step, late, miss) = missed q low in (step, le_trans count late, miss))
-    earlier Leaves missed = λ q low. (let (step, late, miss) = missed q low in (step, le_trans count late, miss))
+    earlier Leaves missed = λ q low room. (let (step, late, miss) = missed q low room in (step, le_trans count late, miss))
 
-pub if_full_since : (layout : Layout) (a b c : Known) (r : Result Unit Full) → IsLater a b → a.steps ≤ b.steps → IfErr r (λ full. HasNoRoom layout b c full) → IfErr r (λ full. HasNoRoom layout a c full)
-if_full_since layout a b c (Ok u) later count none = none
-if_full_since layout a b c (Err full) later count none = no_room_since layout a b c full later count none
+pub if_full_since : (layout : Layout) (key : Key) (a b c : Known) (r : Result Unit Full) → IsLater a b → a.steps ≤ b.steps → IfErr r (λ full. HasNoRoom layout key b c full) → IfErr r (λ full. HasNoRoom layout key a c full)
+if_full_since layout key a b c (Ok u) later count none = none
+if_full_since layout key a b c (Err full) later count none = no_room_since layout key a b c full later count none
 
 -- ---- the leaf's record is made
 -- the spot stays one

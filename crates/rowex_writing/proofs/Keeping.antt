@@ -36,7 +36,7 @@ use Rattle.rowex_table.specs.Rights.{IsClaimed}
 use Rattle.rowex_table.specs.Runs.{Runs, silent}
 use Rattle.rowex_table.specs.Seats.{TableView, SeatView}
 use Rattle.rowex_table.proofs.ActsLeave.{act_leaves}
-use Rattle.rowex_records.specs.Claims.{AllMissed}
+use Rattle.rowex_records.specs.Claims.{AllMissed, AllMissedFrom, HasMissedSince}
 use Rattle.rowex_records.specs.Records.{HoldsJust}
 use Rattle.rowex_writing.specs.Building.{IsBuilding}
 use Rattle.rowex_writing.specs.Changes.{HasRun, HasChanged}
@@ -86,8 +86,14 @@ module _ {G : Type 0} (table : TableView) (becomes : G → Event → G → Type 
   run_failed (act ∷ acts) a b (m, s, rest) x h = run_failed acts m b rest x (failed_on table.layout a.0.known m.0.known act x s.event h)
 
   -- none was free still
+  pub missed_there : (r : Rec) (since : ℕ) (a b : SeatView × G) → HasRun table becomes a b → HasMissedSince a.0.known.failed r since → HasMissedSince b.0.known.failed r since
+  missed_there r since a b run (step, late, (act, word, tells, one, has)) = (step, late, (act, word, tells, one, run_failed run.acts a b run.steps _ has))
+
   pub missed_on : (kind : ℕ → Rec) (n since : ℕ) (a b : SeatView × G) → HasRun table becomes a b → AllMissed kind n a.0.known.failed since → AllMissed kind n b.0.known.failed since
-  missed_on kind n since a b run missed = λ q low. (let (step, late, (act, word, tells, one, has)) = missed q low in (step, late, (act, word, tells, one, run_failed run.acts a b run.steps _ has)))
+  missed_on kind n since a b run missed = λ q low. missed_there (kind q) since a b run (missed q low)
+
+  pub missed_from_on : (words since : ℕ) (a b : SeatView × G) → HasRun table becomes a b → AllMissedFrom table.layout words a.0.known.failed since → AllMissedFrom table.layout words b.0.known.failed since
+  missed_from_on words since a b run missed = λ q low room. missed_there (a_leaf q) since a b run (missed q low room)
 
 -- ---- records that are given up
 reverse_more : {X : Type 0} (x : X) (xs : List X) → reverse (x ∷ xs) ≡ reverse xs ++ x ∷ []

@@ -19,6 +19,7 @@ pub mod Onward
 pub mod Attempting
 pub mod Affecting
 pub mod Bridging
+pub mod Classes
 pub mod Confirming
 pub mod Spared
 pub mod Removing

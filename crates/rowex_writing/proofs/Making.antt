@@ -21,6 +21,7 @@ use Rattle.rowex_core.specs.declared.event.Event.{Event}
 use Rattle.rowex_core.specs.declared.known.Holding.TheVariants.{Held}
 use Rattle.rowex_core.specs.declared.known.Known.{Known}
 use Rattle.rowex_core.specs.declared.known.Owned.{Owned}
+use Rattle.rowex_core.specs.Cores.{FitsIn, size_of}
 use Rattle.rowex_core.specs.Reading.{IsPacked}
 use Rattle.rowex_table.specs.Made.{Made, held_as, recs_of}
 use Rattle.rowex_table.specs.Runs.{Runs, Does, InTurn}
@@ -124,7 +125,7 @@ module _ {G : Type 0} (table : TableView) (becomes : G → Event → G → Type 
   pub set_on : (r : Rec) (words : List ℕ) (a b : SeatView × G) → SetsAll table becomes r words a b → WorksOn table becomes a b
   set_on r words a b sets = record {
     acts = sets.acts;
-    plain = sets_plain r words (length words) sets.acts sets.in_turn;
+    plain = sets_plain r words (size_of table.layout r - 1) sets.acts sets.in_turn;
     steps = sets.does.steps;
     stays = (sets.later, ap (λ (z : Known). z.locks) sets.does.rest, ap (λ (z : Known). z.anchor) sets.does.rest);
   }
@@ -141,8 +142,8 @@ module _ {G : Type 0} (table : TableView) (becomes : G → Event → G → Type 
 
   -- one record more, a node's or a leaf's
   pub building_more : (r : Rec) (words : List ℕ) (a i b : SeatView × G) (made : List Rec) (news : List Made) → WorksOn table becomes a i → HoldsOneMore r a.0.known i.0.known →
-      WorksOn table becomes i b → b.0.known.own ≡ map (fill_with r words) i.0.known.own → IsPacked r words → IsBuilding table a.0 made news → IsBuilding table b.0 (made ++ r ∷ []) (record { rec = r; words = words } ∷ news)
-  building_more r words a i b made news claim held on filled packed was =
+      WorksOn table becomes i b → b.0.known.own ≡ map (fill_with r words) i.0.known.own → IsPacked r words → FitsIn table.layout r words → IsBuilding table a.0 made news → IsBuilding table b.0 (made ++ r ∷ []) (record { rec = r; words = words } ∷ news)
+  building_more r words a i b made news claim held on filled packed fit was =
       let newest : Made = record { rec = r; words = words } in
       let goes = goes_more table becomes a i b claim on in
       let first : fill_with r words (record { rec = r; holding = Held; words = held.words }) ≡ held_as Held newest = rw (same_rec_refl r) refl in
@@ -160,7 +161,7 @@ module _ {G : Type 0} (table : TableView) (becomes : G → Event → G → Type 
             was.holds.1,
           ),
         );
-        packed = (packed, was.packed);
+        packed = ((packed, fit), was.packed);
         listed = ap (λ z. z ++ r ∷ []) was.listed ∙ sym (reverse_onto (recs_of news) r []);
       }
 

@@ -277,13 +277,13 @@ module _ (table : TableView) (a : SeatView) (made : List Rec) (news : List Made)
   pub leaf_word : (x : Item) → IsOf (of_leaf x) news → IsWord (LeafEntry x.number) (4 * x.number + 1)
   leaf_word x h =
       let low : x.number < table.layout.leaves = made_record table a made news b (of_leaf x) h in
-      let few : table.layout.leaves ≤ 262143 = table.layout.leaves_in_range.1 in
+      let few : table.layout.leaves < 4294967296 = table.layout.leaves_in_range.1 in
       (omega arith, refl)
 
   pub node_word : (m : ℕ) (view : NodeView) → IsOf (of_view m view) news → IsAnew view → IsWord (NodeEntry m view.height) (entry_word (Some (NodeEntry m view.height)))
   node_word m view h (has, is) =
       let low : m < table.layout.nodes = made_record table a made news b (of_view m view) h in
-      let few : table.layout.nodes ≤ 65535 = table.layout.nodes_in_range.1 in
+      let few : table.layout.nodes < 4294967296 = table.layout.nodes_in_range.1 in
       let bound = has.lawful.bound in
       ((omega arith, omega arith, omega arith), refl)
 

@@ -11,7 +11,7 @@ use Rattle.rowex_core.specs.declared.event.Act.TheVariants.{Ready}
 use Rattle.rowex_core.specs.declared.event.Event.{Event}
 use Rattle.rowex_core.specs.declared.known.Holding.TheVariants.{Held, Ready as IsReady}
 use Rattle.rowex_core.specs.declared.known.Known.{Known}
-use Rattle.rowex_core.specs.Cores.{HasRecord}
+use Rattle.rowex_core.specs.Cores.{FitsIn, HasRecord}
 use Rattle.rowex_core.specs.Knowing.{IsEvent}
 use Rattle.rowex_core.specs.Reading.{IsPacked}
 use Rattle.rowex_core.specs.Sharing.{IsOwned}
@@ -30,10 +30,10 @@ use Rattle.rowex_writing.proofs.Locking.{goes_more}
 use Rattle.rowex_writing.proofs.Making.{goes_possible, owns_on}
 
 -- ---- the records that are left
-packed_drop : (i : ℕ) (news : List Made) → ArePacked news → ArePacked (drop i news)
-packed_drop zero news p = p
-packed_drop (suc i) [] p = tt
-packed_drop (suc i) (m ∷ news) p = packed_drop i news p.1
+packed_drop : (layout : Layout) (i : ℕ) (news : List Made) → ArePacked layout news → ArePacked layout (drop i news)
+packed_drop layout zero news p = p
+packed_drop layout (suc i) [] p = tt
+packed_drop layout (suc i) (m ∷ news) p = packed_drop layout i news p.1
 
 -- of the records in the order in which they were made, the last of those that are left is the next of the new ones
 record IsNextMade (made : List Rec) (news : List Made) (left : ℕ) (r : Rec) : Type 0 where
@@ -83,14 +83,14 @@ module _ {G : Type 0} (table : TableView) (becomes : G → Event → G → Type 
 
   module _ (a b : SeatView × G) (made : List Rec) (left : ℕ) (d : Rec) (some : 0 < left) (upto : left ≤ length made) (goes : WorksOn table becomes a b) (ready : AreReadied a.0 b.0 made left) where
     -- the next one has its words, and is one of the table's
-    pub next_rights : (news : List Made) → IsBuilding table a.0 made news → HasRecord table.layout (get_or made (left - 1) d) × ((words : List ℕ) × IsFilled b.0.known (get_or made (left - 1) d) words)
+    pub next_rights : (news : List Made) → IsBuilding table a.0 made news → HasRecord table.layout (get_or made (left - 1) d) × ((words : List ℕ) × IsFilled b.0.known (get_or made (left - 1) d) words × FitsIn table.layout (get_or made (left - 1) d) words)
     next_rights news i =
         let next = next_made made news left d i.listed some upto in
         let has = subst (HasReadied b.0.known (take (length made - left) news)) next.rest (ready news i) in
-        let packed : ArePacked (next.m ∷ drop (length made - (left - 1)) news) = subst ArePacked next.rest (packed_drop (length made - left) news i.packed) in
-        subst (λ r. HasRecord table.layout r × ((words : List ℕ) × IsFilled b.0.known r words)) (sym next.is) (
+        let packed : ArePacked table.layout (next.m ∷ drop (length made - (left - 1)) news) = subst (ArePacked table.layout) next.rest (packed_drop table.layout (length made - left) news i.packed) in
+        subst (λ r. HasRecord table.layout r × ((words : List ℕ) × IsFilled b.0.known r words × FitsIn table.layout r words)) (sym next.is) (
           held_record table.layout b.0.known (take (length made - left) news) (drop (length made - (left - 1)) news) next.m has (goes_possible table becomes a b goes i.possible),
-          (next.m.words, held_filled table.layout b.0.known (take (length made - left) news) (drop (length made - (left - 1)) news) next.m has packed.0),
+          (next.m.words, held_filled table.layout b.0.known (take (length made - left) news) (drop (length made - (left - 1)) news) next.m has packed.0.0, packed.0.1),
         )
 
     -- it is made ready

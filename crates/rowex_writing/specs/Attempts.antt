@@ -69,13 +69,14 @@ abbrev pub HasAnswered : Known → Known → Ask → Key → ℕ → Reply → T
 HasAnswered k j ask key value reply = (HasLooked j ask key reply × OthersGoOn k.pass k.front j.front) ⊎
     ((x : Change) × (was : Option ℕ) × IsChangeOf k.pass ask key value reply x was × HasChanged k j x was)
 
--- why it was refused: a lock of it met another's, or another's change was seen since; or no record of a kind was free
-abbrev pub IsCause : Layout → Known → Known → TryFault → Type 0
-IsCause layout k j Busy = HasMetLock k j ⊎ (length k.front < length j.front)
-IsCause layout k j FullNodes = IsFull layout k j Nodes
-IsCause layout k j FullLeaves = IsFull layout k j Leaves
+-- why it was refused: a lock of it met another's, or another's change was seen since; or no node record was free, or no leaf
+-- record with room for its key
+abbrev pub IsCause : Layout → Key → Known → Known → TryFault → Type 0
+IsCause layout key k j Busy = HasMetLock k j ⊎ (length k.front < length j.front)
+IsCause layout key k j FullNodes = IsFull layout key k j Nodes
+IsCause layout key k j FullLeaves = IsFull layout key k j Leaves
 
 -- It was refused: no change of its own was made.
-pub record HasRefused (layout : Layout) (k j : Known) (fault : TryFault) : Type 0 where
+pub record HasRefused (layout : Layout) (key : Key) (k j : Known) (fault : TryFault) : Type 0 where
   pub others : OthersGoOn k.pass k.front j.front
-  pub cause : IsCause layout k j fault
+  pub cause : IsCause layout key k j fault

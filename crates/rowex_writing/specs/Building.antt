@@ -16,6 +16,7 @@ use Rattle.pieces.specs.Piece.{Place, size}
 use Rattle.insert_cases.specs.declared.choice.Step.{Step}
 use Rattle.moments.specs.Trades.{IsOf}
 use Rattle.rowex_core.specs.declared.known.Locked.{Locked}
+use Rattle.record_words.specs.declared.layout.Layout.{Layout}
 use Rattle.record_words.specs.Node.{HasNodeWords}
 use Rattle.tries.specs.Content.{Item}
 use Rattle.tries.specs.Affected.{page_affected, IsPartPage}
@@ -24,6 +25,7 @@ use Rattle.tries.specs.Tree.{Page}
 use Rattle.rowex_walks.specs.Rise.{Side, entry}
 use Rattle.moments.specs.declared.Rec.{Rec}
 use Rattle.moments.specs.declared.Rec.TheVariants.{Node as a_node}
+use Rattle.rowex_core.specs.Cores.{FitsIn}
 use Rattle.rowex_core.specs.Reading.{IsPacked, node_of}
 use Rattle.rowex_table.specs.Made.{Made, recs_of, HoldsMade}
 use Rattle.rowex_table.specs.Seats.{TableView, SeatView, IsSeatOf}
@@ -34,10 +36,10 @@ use Rattle.rowex_rights.specs.Stages.{HasLeaf, HasRisen, IsAbove}
 use Rattle.rowex_writing.specs.Going.{HasLocked}
 use Rattle.rowex_writing.specs.Remaking.{AffectsJust, IsNoHigher}
 
--- each of the records spells a value
-abbrev pub ArePacked : List Made → Type 0
-ArePacked [] = Unit {0}
-ArePacked (m ∷ news) = IsPacked m.rec m.words × ArePacked news
+-- each of the records spells a value, which has room in it
+abbrev pub ArePacked : Layout → List Made → Type 0
+ArePacked layout [] = Unit {0}
+ArePacked layout (m ∷ news) = (IsPacked m.rec m.words × FitsIn layout m.rec m.words) × ArePacked layout news
 
 -- The entry for a half, and the records made for it: an entry alone is its own, a node has a new record, and the node that stays
 -- whole is named as before.
@@ -72,7 +74,7 @@ pub record IsBuilding (table : TableView) (a : SeatView) (made : List Rec) (news
   pub seat : IsSeatOf table a
   pub possible : IsPossible table.layout a.known
   pub holds : HoldsMade a.known news
-  pub packed : ArePacked news
+  pub packed : ArePacked table.layout news
   pub listed : made ≡ reverse (recs_of news)
 
 -- A node record was wanted and none was free: each was found not free since then. The pass has those that it has made so far.

@@ -1,5 +1,5 @@
 -- What a call that changes the map knows under its locks, and what its change leaves.
-use Rattle.std.specs.Prelude.{◌≡◌, ℕ, ◌+◌, ◌<◌, ◌≤◌, List, [], ◌∷◌, ◌++◌, slice_get, All, Option, Some, None}
+use Rattle.std.specs.Prelude.{◌≡◌, ℕ, ◌+◌, ◌<◌, ◌≤◌, List, [], ◌∷◌, ◌++◌, slice_get, length, All, Option, Some, None}
 use Rattle.hot_model.specs.declared.Change.{Change}
 use Rattle.hot_model.specs.declared.Kind.TheVariants.{Added, Replaced, Removed}
 use Rattle.hot_model.specs.Fronts.{BeginsWith, OthersGoOn, map_of, Fits}
@@ -11,6 +11,7 @@ use Rattle.tries.specs.Keys.{Key}
 use Rattle.tries.specs.Search.{seek}
 use Rattle.tries.specs.Tree.{Page}
 use Rattle.moments.specs.declared.Rec.{Rec}
+use Rattle.record_words.specs.Leaf.{words_for}
 use Rattle.moments.specs.declared.Rec.TheVariants.{Node as a_node, Leaf as a_leaf}
 use Rattle.rowex_core.specs.declared.event.Act.{Act}
 use Rattle.rowex_core.specs.declared.event.Event.{Event}
@@ -26,7 +27,7 @@ use Rattle.rowex_table.specs.Seats.{TableView, SeatView, IsSeatOf}
 use Rattle.rowex_table.specs.Stays.{LeavesPin}
 use Rattle.rowex_reading.specs.Possible.{IsPossible}
 use Rattle.rowex_reading.specs.Seen.{Sure}
-use Rattle.rowex_records.specs.Claims.{AllMissed}
+use Rattle.rowex_records.specs.Claims.{AllMissed, AllMissedFrom}
 use Rattle.rowex_rights.specs.Ending.{IsAtRest}
 use Rattle.rowex_rights.specs.Stages.{HasReady}
 use Rattle.rowex_writing.specs.Building.{IsBuilding}
@@ -111,16 +112,16 @@ pub record HasChanged (k j : Known) (x : Change) (was : Option ℕ) : Type 0 whe
   pub fits : Fits (map_of before) x
   pub was_held : value_at (map_of before) x.key ≡ was
 
--- no record of the kind was free, when the pass wanted one
-abbrev pub IsFull : Layout → Known → Known → Full → Type 0
-IsFull layout k j Nodes = AllMissed a_node layout.nodes j.failed k.steps
-IsFull layout k j Leaves = AllMissed a_leaf layout.leaves j.failed k.steps
+-- no record was free, when the pass wanted one: of the nodes, or of the leaf records that have room for this key
+abbrev pub IsFull : Layout → Key → Known → Known → Full → Type 0
+IsFull layout key k j Nodes = AllMissed a_node layout.nodes j.failed k.steps
+IsFull layout key k j Leaves = AllMissedFrom layout (words_for (length key)) j.failed k.steps
 
 -- The pass has made no change, for want of a record; it has nothing of its own and no lock.
-pub record HasNoRoom (layout : Layout) (k j : Known) (full : Full) : Type 0 where
+pub record HasNoRoom (layout : Layout) (key : Key) (k j : Known) (full : Full) : Type 0 where
   pub rest : IsAtRest j
   pub others : OthersGoOn k.pass k.front j.front
-  pub full_of : IsFull layout k j full
+  pub full_of : IsFull layout key k j full
 
 -- the change that gives the key this value, by what was found of it
 abbrev pub IsStored : ℕ → Key → ℕ → Found → Change → Option ℕ → Type 0

@@ -67,7 +67,7 @@ pub fn attempt<G: Gate>(
     ensures loaded { HasLoadedRoot seat.old.known seat.new.known }
     ensures rest { IsAtRest seat.new.known }
     ensures answered { IfOk result (HasAnswered seat.old.known seat.new.known ask key.now value) }
-    ensures refused { IfErr result (HasRefused table.now.layout seat.old.known seat.new.known) }
+    ensures refused { IfErr result (HasRefused table.now.layout key.now seat.old.known seat.new.known) }
     ensures leafless { ask ≡ Ask.Remove → result ≢ Err TryFault.FullLeaves }
     ensures few { seat.new.known.steps ≤ seat.old.known.steps + attempt_steps table.now.layout }
 {
@@ -106,7 +106,7 @@ fn act_on<G: Gate>(
     ensures rest { IsAtRest seat.new.known }
     ensures answered { IfOk result (λ reply. (k : Known) → IsLater k seat.old.known → HasAnswered k seat.new.known ask key.now value reply) }
     ensures refused { IfErr result (λ fault. (k : Known) → HasLoadedRoot k seat.old.known → IsLater k seat.old.known →
-        HasRefused table.now.layout k seat.new.known fault) }
+        HasRefused table.now.layout key.now k seat.new.known fault) }
     ensures leafless { ask ≡ Ask.Remove → result ≢ Err TryFault.FullLeaves }
     ensures few { seat.new.known.steps ≤ seat.old.known.steps + 9000 + change_steps table.now.layout }
 {
@@ -177,7 +177,7 @@ fn make_change<G: Gate>(
     requires taken { HasTakenPlan table.now seat.old key.now way.now found span deed }
     ensures run { HasRun table.now G.becomes (seat.old, gate.old) (seat.new, gate.new) }
     ensures done { result ≡ Ok tt → HasDone seat.old.known seat.new.known deed key.now value found }
-    ensures full { IfErr result (λ full. HasNoRoom table.now.layout seat.old.known seat.new.known full) }
+    ensures full { IfErr result (λ full. HasNoRoom table.now.layout key.now seat.old.known seat.new.known full) }
     ensures leafless { deed ≡ Deed.Take → result ≢ Err Full.Leaves }
     ensures few { seat.new.known.steps ≤ seat.old.known.steps + change_steps table.now.layout }
 {

@@ -27,6 +27,7 @@ use arrayvec::ArrayVec;
 use compound_node::{Entry, Half, Node};
 use insert_cases::{Grown, Risen, Step};
 use key_bits::Key;
+use record_words::LEAF_CLASSES;
 use rowex_core::{Gate, Rec};
 use rowex_records::{RecordKind, fill_node};
 use rowex_table::{HotTable, TableSeat};
@@ -46,8 +47,8 @@ pub struct Build {
     pub gone: ArrayVec<Rec, MOST_GONE>,
     /// The number after that of the node record that was claimed last, but for spare ones.
     pub next_node: u32,
-    /// The number after that of the leaf record that was claimed last, but for spare ones.
-    pub next_leaf: u32,
+    /// For each class the number after that of the leaf record that was claimed last, but for spare ones.
+    pub next_leaves: [u32; LEAF_CLASSES],
     /// Numbers of node records that the pass has given back: claims begin with these.
     pub spare_nodes: ArrayVec<u32, MOST_SPARE>,
     /// Numbers of leaf records that the pass has given back: claims begin with these.

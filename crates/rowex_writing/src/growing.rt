@@ -41,7 +41,7 @@ pub fn grow_node<G: Gate>(
     requires taken { HasTakenPlan table.now seat.old key.now way.now found span (Grow position first last) }
     ensures run { HasRun table.now G.becomes (seat.old, gate.old) (seat.new, gate.new) }
     ensures stored { result ≡ Ok tt → HasStored seat.old.known seat.new.known key.now value found }
-    ensures full { IfErr result (λ full. HasNoRoom table.now.layout seat.old.known seat.new.known full) }
+    ensures full { IfErr result (λ full. HasNoRoom table.now.layout key.now seat.old.known seat.new.known full) }
     ensures few { seat.new.known.steps ≤ seat.old.known.steps + change_steps table.now.layout }
 {
     let Some(leaf) = make_leaf(table, seat, gate, build, key, value) else {
@@ -72,7 +72,7 @@ fn grow_with<G: Gate>(
     ensures run { HasRun table.now G.becomes (seat.old, gate.old) (seat.new, gate.new) }
     ensures stored { result ≡ Ok tt → (value : ℕ) → MayGrow table.now seat.old build.old.made.items way.now key.now value span position first last leaf →
         HasChanged seat.old.known seat.new.known (added_change seat.old.known.pass (item leaf key.now value)) None }
-    ensures full { IfErr result (λ full. HasNoRoom table.now.layout seat.old.known seat.new.known full) }
+    ensures full { IfErr result (λ full. HasNoRoom table.now.layout key.now seat.old.known seat.new.known full) }
     ensures few { seat.new.known.steps ≤ seat.old.known.steps + 2161 * level_steps table.now.layout + 6600 }
 {
     let top = span.len - 1;

@@ -4,7 +4,7 @@ ghost use Rattle.std.specs.Prelude.{◌≡◌, ℕ, List, [], ◌∷◌, Option,
 ghost use Rattle.hot_model.specs.declared.Change.{Change};
 ghost use Rattle.key_bits.specs.Key.{IsKey};
 ghost use Rattle.record_words.specs.Entry.{HasEntryWord, entry_word};
-ghost use Rattle.record_words.specs.Leaf.{HasLeafWords};
+ghost use Rattle.record_words.specs.Leaf.{HasLeafWords, words_for};
 ghost use Rattle.moments.specs.declared.Rec.TheVariants.{Leaf as a_leaf};
 ghost use Rattle.moments.specs.Trades.{AreApart};
 ghost use Rattle.rowex_core.specs.Having.{AreKept};
@@ -13,7 +13,7 @@ ghost use Rattle.rowex_table.specs.Made.{Made, nodes_of};
 ghost use Rattle.rowex_table.specs.Rule.{HasSpot};
 ghost use Rattle.rowex_table.specs.Seats.{IsSeatOf};
 ghost use Rattle.rowex_reading.specs.Possible.{IsPossible};
-ghost use Rattle.rowex_records.specs.Claims.{AllMissed};
+ghost use Rattle.rowex_records.specs.Claims.{AllMissedFrom};
 ghost use Rattle.rowex_rights.specs.Rises.{of_leaf};
 ghost use Rattle.rowex_rights.specs.Stages.{HasReady};
 ghost use Rattle.tries.specs.Content.{item};
@@ -25,17 +25,18 @@ ghost use Rattle.rowex_writing.specs.Retiring.{AreRecords, IsAnchored};
 ghost use Rattle.record_words.specs.declared.TheConstants.{LEAF_FIELDS};
 
 use crate::building::Build;
-use crate::claims::claim_next;
+use crate::claims::claim_leaf;
 use crate::ending::retire;
 use compound_node::Entry;
 use insert_cases::Step;
 use key_bits::Key;
-use record_words::pack_entry;
+use record_words::{pack_entry, words_for};
 use rowex_core::{Gate, Rec, Spot};
-use rowex_records::{RecordKind, fill_leaf, make_ready};
+use rowex_records::{fill_leaf, make_ready};
 use rowex_table::{HotTable, TableSeat};
 
-/// Makes a record for the new leaf, the first one of a change; answers its number, or nothing where no leaf record was free.
+/// Makes a record for the new leaf, the first one of a change; answers its number, or nothing where no leaf record
+/// with room for the key was free.
 pub fn make_leaf<G: Gate>(
     table: &HotTable,
     seat: &mut TableSeat,
@@ -51,18 +52,18 @@ pub fn make_leaf<G: Gate>(
     ensures goes { WorksOn table.now G.becomes (seat.old, gate.old) (seat.new, gate.new) }
     ensures leaf { HasLeafWords (key.now, value) }
     ensures made { MatchOption result
-        ((seat.new.known.own ≡ []) × AllMissed a_leaf table.now.layout.leaves seat.new.known.failed seat.old.known.steps)
+        ((seat.new.known.own ≡ []) × AllMissedFrom table.now.layout (words_for (length key.now)) seat.new.known.failed seat.old.known.steps)
         (λ n. IsBuilding table.now seat.new build.new.made.items (of_leaf (item n key.now value) ∷ [])) }
     ensures few { seat.new.known.steps ≤ seat.old.known.steps + 2 * table.now.layout.leaves + 2 + 2 * LEAF_FIELDS }
 {
     build.made.clear();
-    let number = claim_next(
+    let number = claim_leaf(
         table,
         seat,
         gate,
-        RecordKind::Leaf,
+        words_for(key),
         &mut build.spare_leaves,
-        &mut build.next_leaf,
+        &mut build.next_leaves,
     )?;
     fill_leaf(table, seat, gate, number, key, value);
     build.made.push(Rec::Leaf(number));

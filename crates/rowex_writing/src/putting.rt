@@ -32,7 +32,7 @@ pub fn put_leaf<G: Gate>(
     requires taken { HasTakenPlan table.now seat.old key.now way.now found span Put }
     ensures run { HasRun table.now G.becomes (seat.old, gate.old) (seat.new, gate.new) }
     ensures stored { result ≡ Ok tt → HasStored seat.old.known seat.new.known key.now value found }
-    ensures full { IfErr result (λ full. HasNoRoom table.now.layout seat.old.known seat.new.known full) }
+    ensures full { IfErr result (λ full. HasNoRoom table.now.layout key.now seat.old.known seat.new.known full) }
     ensures few { seat.new.known.steps ≤ seat.old.known.steps + change_steps table.now.layout }
 {
     let anchor = span.end == 0;

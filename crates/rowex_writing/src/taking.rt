@@ -33,7 +33,7 @@ pub fn take_leaf<G: Gate>(
     requires taken { HasTakenPlan table.now seat.old key.now way.now found span Take }
     ensures run { HasRun table.now G.becomes (seat.old, gate.old) (seat.new, gate.new) }
     ensures taken { result ≡ Ok tt → HasTaken seat.old.known seat.new.known key.now found }
-    ensures full { IfErr result (λ full. (full ≡ Full.Nodes) × HasNoRoom table.now.layout seat.old.known seat.new.known full) }
+    ensures full { IfErr result (λ full. (full ≡ Full.Nodes) × HasNoRoom table.now.layout key.now seat.old.known seat.new.known full) }
     ensures few { seat.new.known.steps ≤ seat.old.known.steps + change_steps table.now.layout }
 {
     build.made.clear();
@@ -85,7 +85,7 @@ fn remake_without<G: Gate>(
     ensures run { HasRun table.now G.becomes (seat.old, gate.old) (seat.new, gate.new) }
     ensures taken { (m value : ℕ) → HasLeafBelow table.now seat.old m key.now way.now number value span → result ≡ Ok tt →
         HasTaken seat.old.known seat.new.known key.now (LeafFound number value None) }
-    ensures full { IfErr result (λ full. (full ≡ Full.Nodes) × HasNoRoom table.now.layout seat.old.known seat.new.known full) }
+    ensures full { IfErr result (λ full. (full ≡ Full.Nodes) × HasNoRoom table.now.layout key.now seat.old.known seat.new.known full) }
     ensures few { seat.new.known.steps ≤ seat.old.known.steps + change_steps table.now.layout }
 {
     let anchor = span.end == 0;

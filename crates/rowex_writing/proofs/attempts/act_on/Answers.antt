@@ -44,7 +44,7 @@ pub returns-then-not-take_span-clause-refused : goal.returns-then-not-take_span-
 returns-then-not-take_span-clause-refused g c k loaded later =
     let r = c.find_plan.ensures.reads.1 in
     let way = way_later _ _ _ _ _ _ _ (reads_later r) c.requires.way in
-    refused_busy c.args.table.now.layout k _ _ (since c.args.seat.now.known) (same_since r) (loaded_reads c.args.table.now g.G.Gate.becomes k c.find_plan.ensures.reads.0 _ _ r loaded)
+    refused_busy c.args.table.now.layout c.args.key.now k _ _ (since c.args.seat.now.known) (same_since r) (loaded_reads c.args.table.now g.G.Gate.becomes k c.find_plan.ensures.reads.0 _ _ r loaded)
     (later_trans later (reads_later r)) c.take_span.ensures.later (c.take_span.ensures.busy c.if-not-take_span.true (since c.args.seat.now.known) way)
 
 pub make_change-requires : goal.make_change-requires
@@ -81,7 +81,7 @@ pub returns-in-Err-Nodes-clause-refused : goal.returns-in-Err-Nodes-clause-refus
 returns-in-Err-Nodes-clause-refused g c k loaded later =
     let r = c.find_plan.ensures.reads.1 in
     let there = run_loaded c.args.table.now g.G.Gate.becomes k _ _ (loaded_reads c.args.table.now g.G.Gate.becomes k c.find_plan.ensures.reads.0 _ _ r loaded) c.take_span.ensures.run.1 in
-    refused_nodes c.args.table.now.layout k _ _ there (later_trans (later_trans later (reads_later r)) c.take_span.ensures.later) (subst (HasNoRoom _ _ _) c.in-Err-Nodes.field-0-is c.in-Err-Nodes.ensures.full)
+    refused_nodes c.args.table.now.layout c.args.key.now k _ _ there (later_trans (later_trans later (reads_later r)) c.take_span.ensures.later) (subst (HasNoRoom _ _ _ _) c.in-Err-Nodes.field-0-is c.in-Err-Nodes.ensures.full)
 
 pub returns-in-Err-Leaves-clause-run : goal.returns-in-Err-Leaves-clause-run
 returns-in-Err-Leaves-clause-run g c =
@@ -92,7 +92,7 @@ pub returns-in-Err-Leaves-clause-refused : goal.returns-in-Err-Leaves-clause-ref
 returns-in-Err-Leaves-clause-refused g c k loaded later =
     let r = c.find_plan.ensures.reads.1 in
     let there = run_loaded c.args.table.now g.G.Gate.becomes k _ _ (loaded_reads c.args.table.now g.G.Gate.becomes k c.find_plan.ensures.reads.0 _ _ r loaded) c.take_span.ensures.run.1 in
-    refused_leaves c.args.table.now.layout k _ _ there (later_trans (later_trans later (reads_later r)) c.take_span.ensures.later) (subst (HasNoRoom _ _ _) c.in-Err-Leaves.field-0-is c.in-Err-Leaves.ensures.full)
+    refused_leaves c.args.table.now.layout c.args.key.now k _ _ there (later_trans (later_trans later (reads_later r)) c.take_span.ensures.later) (subst (HasNoRoom _ _ _ _) c.in-Err-Leaves.field-0-is c.in-Err-Leaves.ensures.full)
 
 pub returns-in-Err-Leaves-clause-leafless : goal.returns-in-Err-Leaves-clause-leafless
 returns-in-Err-Leaves-clause-leafless g c e =

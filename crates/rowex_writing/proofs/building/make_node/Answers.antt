@@ -28,7 +28,7 @@ returns-clause-made g c = λ news b. (
   subst (λ z. IsBuilding c.args.table.now c.fill_node.new.seat z (of_view c.in_ok-number.number c.args.node.now ∷ news)) (sym c.push.ensures.items)
       (building_more c.args.table.now g.G.Gate.becomes (a_node c.in_ok-number.number) (node_words c.args.node.now) (c.args.seat.now, c.args.gate.now) (c.claim_next.new.seat, c.claim_next.new.gate) _
       c.args.build.now.made.items news c.claim_next.ensures.goes c.in_ok-number.ensures.claims.1 (fill_on c.args.table.now g.G.Gate.becomes _ _ _ _ c.fill_node.ensures.fills)
-      c.fill_node.ensures.fills.own c.fill_node.ensures.filled.1 b),
+      c.fill_node.ensures.fills.own c.fill_node.ensures.filled.1 tt b),
 )
 
 pub returns-clause-few : goal.returns-clause-few

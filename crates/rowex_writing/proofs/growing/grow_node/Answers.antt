@@ -37,7 +37,7 @@ returns-in_default-clause-run g c =
 
 pub returns-in_default-clause-full : goal.returns-in_default-clause-full
 returns-in_default-clause-full g c =
-    no_leaf c.args.table.now g.G.Gate.becomes (c.args.seat.now, c.args.gate.now) (c.make_leaf.new.seat, c.make_leaf.new.gate) (c.undo.new.seat, c.undo.new.gate) c.in_default.ensures.goes c.undo.ensures.works c.undo.ensures.rest
+    no_leaf c.args.table.now g.G.Gate.becomes c.args.key.now (c.args.seat.now, c.args.gate.now) (c.make_leaf.new.seat, c.make_leaf.new.gate) (c.undo.new.seat, c.undo.new.gate) c.in_default.ensures.goes c.undo.ensures.works c.undo.ensures.rest
     c.in_default.ensures.made.1
 
 pub grow_with-requires : goal.grow_with-requires
@@ -67,7 +67,7 @@ returns-clause-stored g c = λ ok.
 
 pub returns-clause-full : goal.returns-clause-full
 returns-clause-full g c =
-    if_full_since c.args.table.now.layout c.args.seat.now.known c.make_leaf.new.seat.known c.grow_with.new.seat.known c.grow_with.result c.in-Some.ensures.goes.stays.0
+    if_full_since c.args.table.now.layout c.args.key.now c.args.seat.now.known c.make_leaf.new.seat.known c.grow_with.new.seat.known c.grow_with.result c.in-Some.ensures.goes.stays.0
     (run_count c.args.table.now g.G.Gate.becomes (c.args.seat.now, c.args.gate.now) (c.make_leaf.new.seat, c.make_leaf.new.gate)
     (goes_run c.args.table.now g.G.Gate.becomes (c.args.seat.now, c.args.gate.now) (c.make_leaf.new.seat, c.make_leaf.new.gate) c.in-Some.ensures.goes)) c.grow_with.ensures.full
 

@@ -43,7 +43,7 @@ returns-in_default-clause-run g c =
 
 pub returns-in_default-clause-full : goal.returns-in_default-clause-full
 returns-in_default-clause-full g c =
-    no_room c.args.table.now g.G.Gate.becomes (c.args.seat.now, c.args.gate.now) (c.raise_grown.new.seat, c.raise_grown.new.gate) (c.undo.new.seat, c.undo.new.gate) c.raise_grown.new.build.made.items
+    no_room c.args.table.now g.G.Gate.becomes c.args.key.now (c.args.seat.now, c.args.gate.now) (c.raise_grown.new.seat, c.raise_grown.new.gate) (c.undo.new.seat, c.undo.new.gate) c.raise_grown.new.build.made.items
     c.in_default.ensures.goes c.undo.ensures.works c.undo.ensures.rest (c.in_default.ensures.made c.requires.may.1.growing)
 
 pub publish_change-requires-clause-own : goal.publish_change-requires-clause-own

@@ -1,5 +1,6 @@
 -- What is above is kept; the new node takes the found leaf's place.
 use Rattle.std.proofs.Common.{[], ◌∷◌, Some, None, refl, sym, subst, ◌≤◌, ◌-◌, length, arith}
+use Rattle.record_words.specs.Leaf.{words_for}
 use Rattle.moments.specs.declared.Rec.TheVariants.{Node as a_node, Leaf as a_leaf}
 use Rattle.moments.specs.Trades.{AreApart}
 use Rattle.record_words.specs.Entry.{entry_word}
@@ -16,7 +17,7 @@ use Rattle.rowex_writing.proofs.Locking.{goes_more, seat_of}
 use Rattle.rowex_writing.proofs.Making.{not_made_since}
 use Rattle.rowex_writing.proofs.Works.{works_later}
 use Rattle.rowex_writing.proofs.Runs.{goes_run, works_run, runs_trans}
-use Rattle.rowex_writing.proofs.Keeping.{missed_on, made_held, made_records, all_kept, changed_since}
+use Rattle.rowex_writing.proofs.Keeping.{missed_from_on, missed_on, made_held, made_records, all_kept, changed_since}
 use Rattle.rowex_writing.proofs.Placing.{pair_here, pair_len, pair_tree, leaf_at, found_is_key, above_locked, above_nodes, above_anchor, spot_there, pair_may}
 use Rattle.rowex_writing.proofs.Counting.{slice_few}
 use Rattle.rowex_writing.proofs.pairing.pair_leaf.Goals as goal
@@ -58,7 +59,7 @@ returns-in_default-make_leaf-clause-full g c =
     record {
       rest = c.undo.ensures.rest;
       others = (later_on c.args.seat.now.known c.make_leaf.new.seat.known c.undo.new.seat.known c.make_leaf.ensures.goes.stays.0 (works_later c.args.table.now g.G.Gate.becomes (c.make_leaf.new.seat, c.make_leaf.new.gate) (c.undo.new.seat, c.undo.new.gate) c.undo.ensures.works)).front;
-      full_of = missed_on c.args.table.now g.G.Gate.becomes a_leaf c.args.table.now.layout.leaves c.args.seat.now.known.steps (c.make_leaf.new.seat, c.make_leaf.new.gate) (c.undo.new.seat, c.undo.new.gate)
+      full_of = missed_from_on c.args.table.now g.G.Gate.becomes (words_for (length c.args.key.now)) c.args.seat.now.known.steps (c.make_leaf.new.seat, c.make_leaf.new.gate) (c.undo.new.seat, c.undo.new.gate)
           (works_run c.args.table.now g.G.Gate.becomes (c.make_leaf.new.seat, c.make_leaf.new.gate) (c.undo.new.seat, c.undo.new.gate) c.undo.ensures.works) c.in_default-make_leaf.ensures.made.1;
     }
 

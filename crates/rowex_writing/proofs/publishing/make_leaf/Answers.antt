@@ -1,7 +1,11 @@
 -- A claim and its fills are the first record.
-use Rattle.std.proofs.Common.{◌∷◌, [], ◌++◌, subst, sym, ap, ◌∙◌, arith}
-use Rattle.record_words.specs.Leaf.{leaf_words}
+use Rattle.std.proofs.Common.{◌∷◌, [], ◌++◌, subst, sym, ap, ◌∙◌, ◌≤◌, length, refl, arith}
+use Rattle.record_words.specs.Layout.{leaf_size}
+use Rattle.record_words.specs.Leaf.{leaf_words, words_for}
+use Rattle.record_words.proofs.Leaves.{leaf_words_parts}
 use Rattle.moments.specs.declared.Rec.TheVariants.{Leaf as a_leaf}
+use Rattle.rowex_core.specs.Cores.{FitsIn}
+use Rattle.rowex_records.specs.Claims.{AllMissedFrom}
 use Rattle.rowex_rights.specs.Rises.{of_leaf}
 use Rattle.rowex_writing.specs.Building.{IsBuilding}
 use Rattle.rowex_writing.proofs.Locking.{goes_more, seat_of}
@@ -10,7 +14,10 @@ use Rattle.rowex_writing.proofs.publishing.make_leaf.Goals as goal
 use Rattle.tries.specs.Content.{item}
 
 pub fill_leaf-requires-clause-own : goal.fill_leaf-requires-clause-own
-fill_leaf-requires-clause-own g c = seat_of c.args.table.now g.G.Gate.becomes (c.args.seat.now, c.args.gate.now) (c.claim_next.new.seat, c.claim_next.new.gate) c.claim_next.ensures.goes c.requires.own
+fill_leaf-requires-clause-own g c = seat_of c.args.table.now g.G.Gate.becomes (c.args.seat.now, c.args.gate.now) (c.claim_leaf.new.seat, c.claim_leaf.new.gate) c.claim_leaf.ensures.goes c.requires.own
+
+pub fill_leaf-requires-clause-room : goal.fill_leaf-requires-clause-room
+fill_leaf-requires-clause-room g c = omega (arith, c.in_ok-number.ensures.claims.1, c.words_for.ensures.words)
 
 pub returns-in_err-number-clause-leaf : goal.returns-in_err-number-clause-leaf
 returns-in_err-number-clause-leaf g c = record { key = c.requires.key; value = c.ranges.value.fits }
@@ -19,20 +26,27 @@ pub returns-clause-leaf : goal.returns-clause-leaf
 returns-clause-leaf g c = record { key = c.requires.key; value = c.ranges.value.fits }
 
 pub returns-in_err-number-clause-made : goal.returns-in_err-number-clause-made
-returns-in_err-number-clause-made g c = rw c.from_residual.ensures (c.in_err-number.ensures.claims.0 ∙ c.requires.none, c.in_err-number.ensures.claims.1)
+returns-in_err-number-clause-made g c = rw c.from_residual.ensures (
+  c.in_err-number.ensures.claims.0 ∙ c.requires.none,
+  subst (λ w. AllMissedFrom c.args.table.now.layout w c.claim_leaf.new.seat.known.failed c.args.seat.now.known.steps) c.words_for.ensures.words c.in_err-number.ensures.claims.1,
+)
 
 pub returns-clause-goes : goal.returns-clause-goes
 returns-clause-goes g c =
-    goes_more c.args.table.now g.G.Gate.becomes _ _ _ c.claim_next.ensures.goes (set_on c.args.table.now g.G.Gate.becomes _ _ _ _ c.fill_leaf.ensures.fills)
+    goes_more c.args.table.now g.G.Gate.becomes _ _ _ c.claim_leaf.ensures.goes (set_on c.args.table.now g.G.Gate.becomes _ _ _ _ c.fill_leaf.ensures.fills)
 
 pub returns-clause-made : goal.returns-clause-made
 returns-clause-made g c =
     let n = c.in_ok-number.number in
+    let leaf = leaf_words (c.args.key.now, c.args.value) in
+    let size = (leaf_words_parts (c.args.key.now, c.args.value) leaf refl).size in
+    let room : words_for (length c.args.key.now) ≤ leaf_size c.args.table.now.layout n = omega (arith, c.in_ok-number.ensures.claims.1, c.words_for.ensures.words) in
+    let fit : FitsIn c.args.table.now.layout (a_leaf n) leaf = subst (λ z. words_for z ≤ leaf_size c.args.table.now.layout n) (sym size) room in
     subst (λ z. IsBuilding c.args.table.now c.fill_leaf.new.seat z (of_leaf (item n c.args.key.now c.args.value) ∷ [])) (sym (c.push.ensures.items ∙ ap (λ z. z ++ a_leaf n ∷ []) c.clear.ensures))
-    (building_more c.args.table.now g.G.Gate.becomes (a_leaf n) (leaf_words (c.args.key.now, c.args.value)) (c.args.seat.now, c.args.gate.now) (c.claim_next.new.seat, c.claim_next.new.gate) _ [] []
-    c.claim_next.ensures.goes c.in_ok-number.ensures.claims.1
-    (set_on c.args.table.now g.G.Gate.becomes _ _ _ _ c.fill_leaf.ensures.fills) c.fill_leaf.ensures.fills.own c.fill_leaf.ensures.filled.1
+    (building_more c.args.table.now g.G.Gate.becomes (a_leaf n) leaf (c.args.seat.now, c.args.gate.now) (c.claim_leaf.new.seat, c.claim_leaf.new.gate) _ [] []
+    c.claim_leaf.ensures.goes c.in_ok-number.ensures.claims.2
+    (set_on c.args.table.now g.G.Gate.becomes _ _ _ _ c.fill_leaf.ensures.fills) c.fill_leaf.ensures.fills.own c.fill_leaf.ensures.filled.1 fit
     (building_none c.args.table.now c.args.seat.now c.requires.own c.requires.possible c.requires.none))
 
 pub returns-clause-few : goal.returns-clause-few
-returns-clause-few g c = omega (arith, c.claim_next.ensures.few, c.fill_leaf.ensures.steps.1)
+returns-clause-few g c = omega (arith, c.claim_leaf.ensures.few, c.fill_leaf.ensures.steps)

@@ -1,5 +1,6 @@
 -- What is above is kept; the store is that of a first key, or of another value.
 use Rattle.std.proofs.Common.{◌*◌, ◌+◌, ◌-◌, sym, subst, ◌≤◌, length, arith}
+use Rattle.record_words.specs.Leaf.{words_for}
 use Rattle.moments.specs.declared.Rec.TheVariants.{Leaf as a_leaf}
 use Rattle.rowex_core.specs.Having.{AreKept}
 use Rattle.moments.specs.Trades.{AreApart}
@@ -11,7 +12,7 @@ use Rattle.rowex_writing.specs.Retiring.{AreRecords}
 use Rattle.rowex_writing.proofs.Locking.{seat_of}
 use Rattle.rowex_writing.proofs.Works.{works_later}
 use Rattle.rowex_writing.proofs.Runs.{goes_run, works_run, runs_trans}
-use Rattle.rowex_writing.proofs.Keeping.{missed_on, all_kept, changed_since}
+use Rattle.rowex_writing.proofs.Keeping.{missed_from_on, all_kept, changed_since}
 use Rattle.rowex_writing.proofs.Placing.{put_len, above_locked, above_nodes, spot_there, found_records, found_kept, put_may}
 use Rattle.rowex_writing.proofs.Counting.{slice_few}
 use Rattle.rowex_writing.proofs.putting.put_leaf.Goals as goal
@@ -46,7 +47,7 @@ returns-in_default-clause-full g c =
       rest = c.undo.ensures.rest;
       others = (later_on c.args.seat.now.known c.make_leaf.new.seat.known c.undo.new.seat.known c.make_leaf.ensures.goes.stays.0
           (works_later c.args.table.now g.G.Gate.becomes (c.make_leaf.new.seat, c.make_leaf.new.gate) (c.undo.new.seat, c.undo.new.gate) c.undo.ensures.works)).front;
-      full_of = missed_on c.args.table.now g.G.Gate.becomes a_leaf c.args.table.now.layout.leaves c.args.seat.now.known.steps (c.make_leaf.new.seat, c.make_leaf.new.gate) (c.undo.new.seat, c.undo.new.gate)
+      full_of = missed_from_on c.args.table.now g.G.Gate.becomes (words_for (length c.args.key.now)) c.args.seat.now.known.steps (c.make_leaf.new.seat, c.make_leaf.new.gate) (c.undo.new.seat, c.undo.new.gate)
           (works_run c.args.table.now g.G.Gate.becomes (c.make_leaf.new.seat, c.make_leaf.new.gate) (c.undo.new.seat, c.undo.new.gate) c.undo.ensures.works) c.in_default.ensures.made.1;
     }
 
