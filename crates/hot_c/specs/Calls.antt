@@ -33,7 +33,7 @@ pub record StaysOpen (Became : TableView → PassView → PassView → Type 0) (
 
 -- A call for a key had this outcome: it was noted with the reply, or refused for the cause.
 abbrev pub HasOutcome : Call → Result Reply TryFault → TableView → PassView → PassView → Type 0
-HasOutcome call outcome index k j = MatchResult outcome (IsNoted index.layout k j call) (IsRefused index.layout k j)
+HasOutcome call outcome index k j = MatchResult outcome (IsNoted index.layout k j call) (IsRefused index.layout call k j)
 
 -- A call for a key through a handle, which finds `before` where C wants a value and leaves `after`. A closed handle and a key that
 -- is too long are told as such, and nothing has changed; else the call is made, and its outcome told.

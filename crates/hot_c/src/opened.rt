@@ -37,7 +37,7 @@ impl Opened {
     pub fn change(&mut self, ask: Ask, key: &Key, value: u64) -> Result<Reply, TryFault>
         ensures index { self.new.index ≡ self.old.index }
         ensures call { MatchResult result (IsNoted self.old.index.value.layout self.old.pass self.new.pass (call_of ask key.now value))
-            (IsRefused self.old.index.value.layout self.old.pass self.new.pass) }
+            (IsRefused self.old.index.value.layout (call_of ask key.now value) self.old.pass self.new.pass) }
         ensures leafless { ask ≡ Ask.Remove → result ≢ Err TryFault.FullLeaves }
     {
         match ask {

@@ -10,7 +10,7 @@ use Rattle.hot_model.specs.declared.Reply.{Reply}
 use Rattle.hot_model.specs.declared.Reply.TheVariants.{Inserted, Exists, New, Was, Absent, Removed}
 use Rattle.hot_model.specs.Calls.{LegalCalls, change_of, effect_of}
 use Rattle.hot_model.specs.Fronts.{BeginsWith, LegalFront, OthersGoOn, map_of}
-use Rattle.hot_model.specs.Maps.{Map, reply_of, step_where, value_at}
+use Rattle.hot_model.specs.Maps.{Map, key_of, reply_of, step_where, value_at}
 use Rattle.hot_model.proofs.Growth.{begins_on, legal_front_part}
 use Rattle.hot_model.proofs.Legal.{legal_change, legal_longer}
 use Rattle.record_words.specs.declared.layout.Layout.{Layout}
@@ -158,9 +158,9 @@ missed_on kind n tried more since later le same all q low =
     let one = all q low in (one.0, le_trans le one.1, subst (λ (z : List Failed). HasMissed z (kind q) one.0) (sym same) one.2)
 
 -- a cause of a part of a call, after which the pass had no further failed step and saw no further change, is one of the call
-pub cause_on : (layout : Layout) (k j h i : PassView) (fault : TryFault) → k.steps ≤ j.steps → length k.front ≤ length j.front → i.failed ≡ h.failed → i.front ≡ h.front →
-    IsCause layout j h fault → IsCause layout k i fault
-cause_on layout k j h i Busy steps fronts failed front (inl met) = inl (record {
+pub cause_on : (layout : Layout) (key : Key) (k j h i : PassView) (fault : TryFault) → k.steps ≤ j.steps → length k.front ≤ length j.front → i.failed ≡ h.failed → i.front ≡ h.front →
+    IsCause layout key j h fault → IsCause layout key k i fault
+cause_on layout key k j h i Busy steps fronts failed front (inl met) = inl (record {
   target = met.target;
   failed = met.failed;
   is = subst (λ (z : List Failed). Contains z met.failed) (sym failed) met.is;
@@ -169,9 +169,10 @@ cause_on layout k j h i Busy steps fronts failed front (inl met) = inl (record {
   word = met.word;
   now = le_trans steps met.now;
 })
-cause_on layout k j h i Busy steps fronts failed front (inr more) = inr (let l = ap length front in omega arith)
-cause_on layout k j h i FullNodes steps fronts failed front all = missed_on a_node layout.nodes h.failed i.failed k.steps j.steps steps failed all
-cause_on layout k j h i FullLeaves steps fronts failed front all = missed_on a_leaf layout.leaves h.failed i.failed k.steps j.steps steps failed all
+cause_on layout key k j h i Busy steps fronts failed front (inr more) = inr (let l = ap length front in omega arith)
+cause_on layout key k j h i FullNodes steps fronts failed front all = missed_on a_node layout.nodes h.failed i.failed k.steps j.steps steps failed all
+cause_on layout key k j h i FullLeaves steps fronts failed front all = λ q low room.
+    let one = all q low room in (one.0, le_trans steps one.1, subst (λ (z : List Failed). HasMissed z (a_leaf q) one.0) (sym failed) one.2)
 
 -- A part of a call that was not noted, and the rest of the call
 
@@ -185,8 +186,8 @@ module _ (layout : Layout) (k j i : PassView) (first : IsUnnoted layout k j) (st
     makers = n.makers;
   }
 
-  refused_then : (fault : TryFault) → IsRefused layout j i fault → IsRefused layout k i fault
-  refused_then fault r = record { unnoted = unnoted_then r.unnoted; cause = cause_on layout k j i i fault steps (longer j.front k.front first.front) refl refl r.cause }
+  refused_then : (call : Call) (fault : TryFault) → IsRefused layout call j i fault → IsRefused layout call k i fault
+  refused_then call fault r = record { unnoted = unnoted_then r.unnoted; cause = cause_on layout (key_of call) k j i i fault steps (longer j.front k.front first.front) refl refl r.cause }
 
   noted_then : (call : Call) (reply : Reply) → IsNoted layout j i call reply → IsNoted layout k i call reply
   noted_then call reply n = record {
@@ -205,9 +206,9 @@ module _ (layout : Layout) (k j i : PassView) (first : IsUnnoted layout k j) (st
     legal = n.legal;
   }
 
-  pub outcome_then : (call : Call) (r : Result Reply TryFault) → IfOk r (IsNoted layout j i call) → IfErr r (IsRefused layout j i) → IfOk r (IsNoted layout k i call) × IfErr r (IsRefused layout k i)
+  pub outcome_then : (call : Call) (r : Result Reply TryFault) → IfOk r (IsNoted layout j i call) → IfErr r (IsRefused layout call j i) → IfOk r (IsNoted layout k i call) × IfErr r (IsRefused layout call k i)
   outcome_then call (Ok reply) told refused = (noted_then call reply told, tt)
-  outcome_then call (Err fault) told refused = (tt, refused_then fault refused)
+  outcome_then call (Err fault) told refused = (tt, refused_then call fault refused)
 
 -- A part that was refused, and a round of collection, together are not noted.
 module _ {G : Type 0} {table : TableView} {becomes : G → Event → G → Type 0} {nodes leaves : ℕ} (k : PassView) (b c : SeatView × G) (first : IsUnnoted table.layout k (pass_of b.0)) (steps : k.steps ≤ b.0.known.steps)
@@ -260,16 +261,22 @@ pub waited_out : (table : TableView) (s m t : SeatView) (call : Call) (r : Resul
 waited_out table s m t call r (inl none) last = record {
   idle = last.idle;
   noted = subst (λ (z : PassView). IfOk r (IsNoted table.layout z (pass_of t) call)) none last.noted;
-  refused = subst (λ (z : PassView). IfErr r (IsRefused table.layout z (pass_of t))) none last.refused;
+  refused = subst (λ (z : PassView). IfErr r (IsRefused table.layout call z (pass_of t))) none last.refused;
 }
 waited_out table s m t call r (inr some) last =
     let both = outcome_then table.layout (pass_of s) (pass_of m) (pass_of t) some.0 some.1 call r last.noted last.refused in record { idle = last.idle; noted = both.0; refused = both.1 }
 
+-- a call is of the key that it is asked with
+called_key : (ask : Ask) (key : Key) (value : ℕ) → key_of (call_of ask key value) ≡ key
+called_key Insert key value = refl
+called_key Upsert key value = refl
+called_key Remove key value = refl
+
 -- the cause of an attempt is one by what contracts see
-cause_seen : (layout : Layout) (s t : SeatView) (fault : TryFault) → tries.IsCause layout s.known t.known fault → IsCause layout (pass_of s) (pass_of t) fault
-cause_seen layout s t Busy h = h
-cause_seen layout s t FullNodes h = h
-cause_seen layout s t FullLeaves h = h
+cause_seen : (layout : Layout) (key : Key) (s t : SeatView) (fault : TryFault) → tries.IsCause layout key s.known t.known fault → IsCause layout key (pass_of s) (pass_of t) fault
+cause_seen layout key s t Busy h = h
+cause_seen layout key s t FullNodes h = h
+cause_seen layout key s t FullLeaves h = h
 
 -- An attempt
 
@@ -328,7 +335,7 @@ module _ {G : Type 0} {table : TableView} {becomes : G → Event → G → Type 
 
   -- what the call leaves that had this outcome
   abbrev Leaves : Call → Result Reply TryFault → Type 0
-  Leaves call r = (IfOk r (IsNoted table.layout (pass_of a.0) (pass_of d.0) call) × IfErr r (IsRefused table.layout (pass_of a.0) (pass_of d.0))) × IsSettled d.0.known
+  Leaves call r = (IfOk r (IsNoted table.layout (pass_of a.0) (pass_of d.0) call) × IfErr r (IsRefused table.layout call (pass_of a.0) (pass_of d.0))) × IsSettled d.0.known
 
   -- it found that nothing was to change
   when_looked : (ask : Ask) (key : Key) (value : ℕ) (reply : Reply) → tries.HasLooked c.0.known ask key reply → OthersGoOn b.0.known.pass b.0.known.front c.0.known.front →
@@ -355,21 +362,21 @@ module _ {G : Type 0} {table : TableView} {becomes : G → Event → G → Type 
       ((n.0, tt), n.1)
 
   -- it was refused
-  when_refused : (call : Call) (fault : TryFault) → HasRefused table.layout b.0.known c.0.known fault → IsEvent table.layout ClearPin (notes_of call (Err fault)) c.0.known d.0.known → Leaves call (Err fault)
+  when_refused : (call : Call) (fault : TryFault) → HasRefused table.layout (key_of call) b.0.known c.0.known fault → IsEvent table.layout ClearPin (notes_of call (Err fault)) c.0.known d.0.known → Leaves call (Err fault)
   when_refused call fault h event = ((tt, record { unnoted = scan_refused a.0 d.0 settled (quiet h.others) event; cause = cause }), scan_settled a.0 d.0 settled (quiet h.others) event)
     where
-      cause : IsCause table.layout (pass_of a.0) (pass_of d.0) fault
+      cause : IsCause table.layout (key_of call) (pass_of a.0) (pass_of d.0) fault
       cause =
           let l = ap length same_front in
-          cause_on table.layout (pass_of a.0) (pass_of b.0) (pass_of c.0) (pass_of d.0) fault counted (omega arith) (ap (λ (z : Known). z.failed) event.learned_is) (ap (λ (z : Known). z.front) event.learned_is)
-          (cause_seen table.layout b.0 c.0 fault h.cause)
+          cause_on table.layout (key_of call) (pass_of a.0) (pass_of b.0) (pass_of c.0) (pass_of d.0) fault counted (omega arith) (ap (λ (z : Known). z.failed) event.learned_is) (ap (λ (z : Known). z.front) event.learned_is)
+          (cause_seen table.layout (key_of call) b.0 c.0 fault h.cause)
 
   -- whatever came of it
-  pub tried : (ask : Ask) (key : Key) (value : ℕ) (r : Result Reply TryFault) → IfOk r (HasAnswered b.0.known c.0.known ask key value) → IfErr r (HasRefused table.layout b.0.known c.0.known) →
+  pub tried : (ask : Ask) (key : Key) (value : ℕ) (r : Result Reply TryFault) → IfOk r (HasAnswered b.0.known c.0.known ask key value) → IfErr r (HasRefused table.layout key b.0.known c.0.known) →
       StepsWith table becomes ClearPin (notes_of (call_of ask key value) r) c d → Leaves (call_of ask key value) r
   tried ask key value (Ok reply) (inl looked) refused step = when_looked ask key value reply looked.0 looked.1 step.event
   tried ask key value (Ok reply) (inr (x, was, is, changed)) refused step = when_changed ask key value reply x was is changed step.event
-  tried ask key value (Err fault) answered refused step = when_refused (call_of ask key value) fault refused step.event
+  tried ask key value (Err fault) answered refused step = when_refused (call_of ask key value) fault (subst (λ z. HasRefused table.layout z b.0.known c.0.known fault) (sym (called_key ask key value)) refused) step.event
 
   -- it has made no fewer steps
   pub tried_later : {said : Known → List Note} → StepsWith table becomes ClearPin said c d → a.0.known.steps ≤ d.0.known.steps
@@ -382,16 +389,16 @@ module _ {table index : TableView} {k : PassView} {s t : SeatView} {call : Call}
   pub replied_own : {r : Result Reply TryFault} → HasReplied table call r s t → Owns index (pass_of t)
   replied_own h = h.idle.0 ∙ ap (λ (z : TableView). z.id) index_is
 
-  pub replied_call : (r : Result Reply TryFault) → HasReplied table call r s t → MatchResult r (IsNoted index.layout k (pass_of t) call) (IsRefused index.layout k (pass_of t))
-  replied_call r h = subst (λ (x : TableView × PassView). MatchResult r (IsNoted x.0.layout x.1 (pass_of t) call) (IsRefused x.0.layout x.1 (pass_of t))) (λ e. (index_is e, pass_is e)) (both r h.noted h.refused)
+  pub replied_call : (r : Result Reply TryFault) → HasReplied table call r s t → MatchResult r (IsNoted index.layout k (pass_of t) call) (IsRefused index.layout call k (pass_of t))
+  replied_call r h = subst (λ (x : TableView × PassView). MatchResult r (IsNoted x.0.layout x.1 (pass_of t) call) (IsRefused x.0.layout call x.1 (pass_of t))) (λ e. (index_is e, pass_is e)) (both r h.noted h.refused)
     where
-      both : (r : Result Reply TryFault) → IfOk r (IsNoted table.layout (pass_of s) (pass_of t) call) → IfErr r (IsRefused table.layout (pass_of s) (pass_of t)) →
-          MatchResult r (IsNoted table.layout (pass_of s) (pass_of t) call) (IsRefused table.layout (pass_of s) (pass_of t))
+      both : (r : Result Reply TryFault) → IfOk r (IsNoted table.layout (pass_of s) (pass_of t) call) → IfErr r (IsRefused table.layout call (pass_of s) (pass_of t)) →
+          MatchResult r (IsNoted table.layout (pass_of s) (pass_of t) call) (IsRefused table.layout call (pass_of s) (pass_of t))
       both (Ok reply) noted refused = noted
       both (Err fault) noted refused = refused
 
   pub waited_call : (r : Result Reply Full) → HasReplied table call (last_try r) s t →
-      MatchResult r (IsNoted index.layout k (pass_of t) call) (λ full. IsRefused index.layout k (pass_of t) (fault_of full))
+      MatchResult r (IsNoted index.layout k (pass_of t) call) (λ full. IsRefused index.layout call k (pass_of t) (fault_of full))
   waited_call (Ok reply) h = replied_call (Ok reply) h
   waited_call (Err full) h = replied_call (Err (fault_of full)) h
 

@@ -6,13 +6,15 @@ use Rattle.hot_model.specs.declared.Reply.{Reply}
 use Rattle.hot_model.specs.declared.Reply.TheVariants.{Value, Absent}
 use Rattle.hot_model.specs.declared.Scan.{Scan}
 use Rattle.hot_model.specs.Calls.{LegalCalls}
+use Rattle.hot_model.specs.Maps.{key_of}
 use Rattle.hot_model.specs.Fronts.{BeginsWith}
 use Rattle.hot_model.specs.Scans.{IsLawfulScan}
 use Rattle.hot_model.specs.Weaves.{LegalHistory, weave}
 use Rattle.tries.specs.Keys.{Key}
 use Rattle.record_words.specs.declared.layout.Layout.{Layout}
+use Rattle.record_words.specs.Leaf.{words_for}
 use Rattle.moments.specs.declared.Rec.TheVariants.{Node as a_node, Leaf as a_leaf}
-use Rattle.rowex_records.specs.Claims.{AllMissed}
+use Rattle.rowex_records.specs.Claims.{AllMissed, AllMissedFrom}
 use Rattle.rowex_writing.specs.Locks.{HasMetTaken}
 use Rattle.rowex_writing.specs.declared.attempts.TryFault.{TryFault}
 use Rattle.rowex_writing.specs.declared.attempts.TryFault.TheVariants.{Busy, FullNodes, FullLeaves}
@@ -59,17 +61,17 @@ pub record IsUnnoted (layout : Layout) (k j : PassView) : Type 0 where
   pub legal : LegalCalls j.front j.number j.notes
   pub makers : AreByPasses layout j.front
 
--- Why a call was refused: a lock of it met another's, or another's change was seen since it began; or of each record of a kind a
--- claim of it failed or a load of it found the state not free.
-abbrev pub IsCause : Layout → PassView → PassView → TryFault → Type 0
-IsCause layout k j Busy = HasMetTaken k.steps j.failed ⊎ (length k.front < length j.front)
-IsCause layout k j FullNodes = AllMissed a_node layout.nodes j.failed k.steps
-IsCause layout k j FullLeaves = AllMissed a_leaf layout.leaves j.failed k.steps
+-- Why a call was refused: a lock of it met another's, or another's change was seen since it began; or of each node record, or of
+-- each leaf record with room for its key, a claim failed or a load found the state not free.
+abbrev pub IsCause : Layout → Key → PassView → PassView → TryFault → Type 0
+IsCause layout key k j Busy = HasMetTaken k.steps j.failed ⊎ (length k.front < length j.front)
+IsCause layout key k j FullNodes = AllMissed a_node layout.nodes j.failed k.steps
+IsCause layout key k j FullLeaves = AllMissedFrom layout (words_for (length key)) j.failed k.steps
 
 -- A call was refused: it has changed nothing and adds no note, and this is the cause.
-pub record IsRefused (layout : Layout) (k j : PassView) (fault : TryFault) : Type 0 where
+pub record IsRefused (layout : Layout) (call : Call) (k j : PassView) (fault : TryFault) : Type 0 where
   pub unnoted : IsUnnoted layout k j
-  pub cause : IsCause layout k j fault
+  pub cause : IsCause layout (key_of call) k j fault
 
 -- the refusal of a call that waits for others
 abbrev pub fault_of : Full → TryFault

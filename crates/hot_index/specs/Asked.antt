@@ -20,7 +20,7 @@ IsIdle table s = IsSeatOf table s × IsSettled s.known
 pub record HasReplied (table : TableView) (call : Call) (result : Result Reply TryFault) (s t : SeatView) : Type 0 where
   pub idle : IsIdle table t
   pub noted : IfOk result (IsNoted table.layout (pass_of s) (pass_of t) call)
-  pub refused : IfErr result (IsRefused table.layout (pass_of s) (pass_of t))
+  pub refused : IfErr result (IsRefused table.layout call (pass_of s) (pass_of t))
 
 -- And it has made such steps, so many at most.
 pub record HasAsked {G : Type 0} (table : TableView) (becomes : G → Event → G → Type 0) (Are : List Act → Type 0)

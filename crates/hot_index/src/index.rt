@@ -5,7 +5,8 @@ ghost use mathlib.Core.Option.{some};
 ghost use lib.ListN.{get_elem?};
 ghost use Rattle.hot_model.specs.declared.Call.TheVariants.{Get, Insert, Remove, Upsert};
 ghost use Rattle.hot_model.specs.declared.Note.{Note};
-ghost use Rattle.record_words.specs.Limits.{IsPassCount, IsNodeCount, IsLeafCount};
+ghost use Rattle.record_words.specs.Layout.{HasStock, leaves_of};
+ghost use Rattle.record_words.specs.Limits.{IsPassCount, IsNodeCount, IsLeafCount, IsRecordCount};
 ghost use Rattle.rowex_core.specs.declared.event.Act.TheVariants.{ClearPin};
 ghost use Rattle.rowex_core.specs.declared.known.Known.{Known};
 ghost use Rattle.rowex_table.specs.Runs.{StepsWith};
@@ -21,7 +22,7 @@ use crate::room::{Room, new_room};
 use epochs::{Given, collect_round, pin, unpin};
 use hot_model::{Call, Reply, Scan};
 use key_bits::Key;
-use record_words::{Layout, LayoutFault};
+use record_words::{Layout, LayoutFault, Stock};
 use rowex_core::{Gate, NoGate};
 use rowex_reading::look_up;
 use rowex_scanning::{Range, scan_root};
@@ -104,6 +105,26 @@ pub fn create(
     made(alloc, layout).map_err(|_| IndexFault::Memory)
 }
 
+/// Makes an empty index with so many passes (1 to 64) and this stock of records: up to 4,294,967,295 node records, and as many
+/// leaf records of all classes together; at least one of both. The numbers are tested first, in this order. `Layout::bytes`
+/// tells how many bytes its table takes; twice as many are in use while it is made.
+pub fn create_with(
+    alloc: Global,
+    passes: u32,
+    stock: Stock,
+) -> Result<(Index, Vec<Pass>), IndexFault>
+    ensures layout { IfOk result (λ made. (made.0.layout.passes ≡ passes) × HasStock made.0.layout stock) }
+    ensures count { IfOk result (λ made. length made.1.items ≡ passes) }
+    ensures each { IfOk result (λ made. (q : ℕ) (p : PassView) → slice_get made.1.items q ≡ Some p → Owns made.0 p × IsNewPass q p) }
+    ensures passes { (result ≡ Err (IndexFault.Layout LayoutFault.Passes)) ↔ ¬ IsPassCount passes }
+    ensures nodes { (result ≡ Err (IndexFault.Layout LayoutFault.Nodes)) ↔ (IsPassCount passes × ¬ IsRecordCount stock.nodes) }
+    ensures leaves { (result ≡ Err (IndexFault.Layout LayoutFault.Leaves)) ↔ (IsPassCount passes × IsRecordCount stock.nodes × ¬ IsRecordCount (leaves_of stock)) }
+    ensures memory { result ≡ Err IndexFault.Memory → IsPassCount passes × IsRecordCount stock.nodes × IsRecordCount (leaves_of stock) }
+{
+    let stocked = Layout::with_stock(passes, stock).map_err(IndexFault::Layout)?;
+    made(alloc, stocked).map_err(|_| IndexFault::Memory)
+}
+
 impl Index {
     /// The value of a key: none where it is absent. It takes no lock and waits for nobody: it makes at most 36 atomic steps,
     /// and 26 more for each of at most 2,160 nodes on the key's way.
@@ -138,7 +159,7 @@ impl Index {
     pub fn try_insert(&self, pass: &mut Pass, key: &Key, value: u64) -> Result<Reply, TryFault>
         requires { Owns self.now pass.old }
         ensures own { Owns self.now pass.new }
-        ensures call { MatchResult result (IsNoted self.now.layout pass.old pass.new (Insert key.now value)) (IsRefused self.now.layout pass.old pass.new) }
+        ensures call { MatchResult result (IsNoted self.now.layout pass.old pass.new (Insert key.now value)) (IsRefused self.now.layout (Insert key.now value) pass.old pass.new) }
         ensures made { HasMade self.now untold result (pass.old, tt) (pass.new, tt) }
     {
         self.try_insert_with(pass, key, value, &mut NoGate)
@@ -154,7 +175,7 @@ impl Index {
     ) -> Result<Reply, TryFault>
         requires { Owns self.now pass.old }
         ensures own { Owns self.now pass.new }
-        ensures call { MatchResult result (IsNoted self.now.layout pass.old pass.new (Insert key.now value)) (IsRefused self.now.layout pass.old pass.new) }
+        ensures call { MatchResult result (IsNoted self.now.layout pass.old pass.new (Insert key.now value)) (IsRefused self.now.layout (Insert key.now value) pass.old pass.new) }
         ensures made { HasMade self.now G.becomes result (pass.old, gate.old) (pass.new, gate.new) }
     {
         try_change(
@@ -174,7 +195,7 @@ impl Index {
     pub fn try_upsert(&self, pass: &mut Pass, key: &Key, value: u64) -> Result<Reply, TryFault>
         requires { Owns self.now pass.old }
         ensures own { Owns self.now pass.new }
-        ensures call { MatchResult result (IsNoted self.now.layout pass.old pass.new (Upsert key.now value)) (IsRefused self.now.layout pass.old pass.new) }
+        ensures call { MatchResult result (IsNoted self.now.layout pass.old pass.new (Upsert key.now value)) (IsRefused self.now.layout (Upsert key.now value) pass.old pass.new) }
         ensures made { HasMade self.now untold result (pass.old, tt) (pass.new, tt) }
     {
         self.try_upsert_with(pass, key, value, &mut NoGate)
@@ -190,7 +211,7 @@ impl Index {
     ) -> Result<Reply, TryFault>
         requires { Owns self.now pass.old }
         ensures own { Owns self.now pass.new }
-        ensures call { MatchResult result (IsNoted self.now.layout pass.old pass.new (Upsert key.now value)) (IsRefused self.now.layout pass.old pass.new) }
+        ensures call { MatchResult result (IsNoted self.now.layout pass.old pass.new (Upsert key.now value)) (IsRefused self.now.layout (Upsert key.now value) pass.old pass.new) }
         ensures made { HasMade self.now G.becomes result (pass.old, gate.old) (pass.new, gate.new) }
     {
         try_change(
@@ -211,7 +232,7 @@ impl Index {
     pub fn try_remove(&self, pass: &mut Pass, key: &Key) -> Result<Reply, TryFault>
         requires { Owns self.now pass.old }
         ensures own { Owns self.now pass.new }
-        ensures call { MatchResult result (IsNoted self.now.layout pass.old pass.new (Remove key.now)) (IsRefused self.now.layout pass.old pass.new) }
+        ensures call { MatchResult result (IsNoted self.now.layout pass.old pass.new (Remove key.now)) (IsRefused self.now.layout (Remove key.now) pass.old pass.new) }
         ensures made { HasMade self.now untold result (pass.old, tt) (pass.new, tt) }
         ensures leafless { result ≢ Err TryFault.FullLeaves }
     {
@@ -227,7 +248,7 @@ impl Index {
     ) -> Result<Reply, TryFault>
         requires { Owns self.now pass.old }
         ensures own { Owns self.now pass.new }
-        ensures call { MatchResult result (IsNoted self.now.layout pass.old pass.new (Remove key.now)) (IsRefused self.now.layout pass.old pass.new) }
+        ensures call { MatchResult result (IsNoted self.now.layout pass.old pass.new (Remove key.now)) (IsRefused self.now.layout (Remove key.now) pass.old pass.new) }
         ensures made { HasMade self.now G.becomes result (pass.old, gate.old) (pass.new, gate.new) }
         ensures leafless { result ≢ Err TryFault.FullLeaves }
     {
@@ -316,7 +337,7 @@ impl Index {
         requires { Owns self.now pass.old }
         ensures own { Owns self.now pass.new }
         ensures call { MatchResult result (IsNoted self.now.layout pass.old pass.new (Insert key.now value))
-            (λ full. IsRefused self.now.layout pass.old pass.new (fault_of full)) }
+            (λ full. IsRefused self.now.layout (Insert key.now value) pass.old pass.new (fault_of full)) }
     {
         self.change_with(rt, pass, &mut NoGate, Ask::Insert, key, value)
     }
@@ -334,7 +355,7 @@ impl Index {
         requires { Owns self.now pass.old }
         ensures own { Owns self.now pass.new }
         ensures call { MatchResult result (IsNoted self.now.layout pass.old pass.new (Upsert key.now value))
-            (λ full. IsRefused self.now.layout pass.old pass.new (fault_of full)) }
+            (λ full. IsRefused self.now.layout (Upsert key.now value) pass.old pass.new (fault_of full)) }
     {
         self.change_with(rt, pass, &mut NoGate, Ask::Upsert, key, value)
     }
@@ -347,7 +368,7 @@ impl Index {
         requires { Owns self.now pass.old }
         ensures own { Owns self.now pass.new }
         ensures call { MatchResult result (IsNoted self.now.layout pass.old pass.new (Remove key.now))
-            (λ full. IsRefused self.now.layout pass.old pass.new (fault_of full)) }
+            (λ full. IsRefused self.now.layout (Remove key.now) pass.old pass.new (fault_of full)) }
         ensures leafless { result ≢ Err Full.Leaves }
     {
         self.change_with(rt, pass, &mut NoGate, Ask::Remove, key, 0)

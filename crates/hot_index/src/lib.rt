@@ -8,7 +8,7 @@ mod room;
 
 pub use epochs::Given;
 pub use hot_model::{Call, Reply, Scan};
-pub use index::{Index, IndexFault, Pass, create};
+pub use index::{Index, IndexFault, Pass, create, create_with};
 pub use key_bits::Key;
 pub use rowex_core::{Event, Gate, NoGate};
 pub use rowex_writing::{Full, TryFault};
