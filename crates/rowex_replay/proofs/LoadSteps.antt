@@ -7,7 +7,8 @@ use Rattle.record_words.specs.Entry.{HasEntryWord, entry_word}
 use Rattle.rowex_core.specs.declared.event.Act.{Act}
 use Rattle.rowex_core.specs.declared.event.Act.TheVariants.{LoadFixed, LoadRef, LoadState}
 use Rattle.rowex_core.specs.declared.event.Spot.TheVariants.{Root, Slot}
-use Rattle.rowex_core.specs.Cores.{Core, IsLawful, HasRecord, word_count_of}
+use Rattle.record_words.specs.declared.layout.Layout.{Layout}
+use Rattle.rowex_core.specs.Cores.{Core, IsLawful, HasRecord, HasWord as HasPlace, word_count_of}
 use Rattle.rowex_core.specs.Words.{record_word}
 use Rattle.rowex_core.specs.Events.{LegalAct, after, IsFixedOffset}
 use Rattle.rowex_replay.specs.Records.{HasState, HasWord}
@@ -55,10 +56,10 @@ fixed_suc : (r : Rec) (offset : ℕ) → IsFixedOffset r offset → (offset ≡ 
 fixed_suc (a_node n) offset h = (omega (arith, h), omega (arith, h))
 fixed_suc (a_leaf n) offset h = (omega (arith, h), omega (arith, h))
 
-pub fixed_loaded : (b : Bool) (s : StateView) (q : ℕ) (r : Rec) (offset w : ℕ) → ((b ≡ true) ↔ (IsFixedOffset r offset × HasWord s.records r (offset - 1) w)) → IsStepped b s s q (LoadFixed r offset w)
+pub fixed_loaded : (b : Bool) (s : StateView) (q : ℕ) (r : Rec) (offset w : ℕ) → ((b ≡ true) ↔ (IsFixedOffset r offset × HasPlace s.records.layout r offset × HasWord s.records r (offset - 1) w)) → IsStepped b s s q (LoadFixed r offset w)
 fixed_loaded b s q r offset w test = decided b s q (LoadFixed r offset w) (λ c h. h)
-    (λ t c lawful h. let y = test.0 t in let x = word_is s c h r (offset - 1) offset w (fixed_suc r offset y.0).0 y.1 in (x.0, y.0, x.1))
-    (λ f c lawful h (there, at, is). let z = fixed_suc r offset at in let x = test.1 (at, word_from s c lawful h r (offset - 1) offset w z.0 z.1 there is) in cc)
+    (λ t c lawful h. let y = test.0 t in let x = word_is s c h r (offset - 1) offset w (fixed_suc r offset y.0).0 y.2 in (x.0, y.0, x.1, subst (λ (z : Layout). HasPlace z r offset) h.records.layout_is y.1))
+    (λ f c lawful h (there, at, is, place). let z = fixed_suc r offset at in let x = test.1 (at, subst (λ (z : Layout). HasPlace z r offset) (sym h.records.layout_is) place, word_from s c lawful h r (offset - 1) offset w z.0 z.1 there is) in cc)
 
 pub state_loaded : (b : Bool) (s : StateView) (q : ℕ) (r : Rec) (w : ℕ) → ((b ≡ true) ↔ HasState s.records r w) → IsStepped b s s q (LoadState r w)
 state_loaded b s q r w test = decided b s q (LoadState r w) (λ c h. h)

@@ -97,6 +97,7 @@ module _ (s : StateView) (c : Core) (words : Rec → List ℕ) (q : ℕ) (root :
       IsStateOf (record s { records = t; root = root; changes = s.changes ++ x ∷ []; items = linked.items.items }) (published c q words root)
   published_is now t x same next is = record {
     records = record {
+      layout_is = next.layout ∙ st.at.records.layout_is;
       node_count = (ap length next.words.0 ∙ st.at.records.node_count.0, next.node_count ∙ st.at.records.node_count.1, ap length next.locks ∙ st.at.records.node_count.2);
       leaf_count = (ap length next.words.1 ∙ st.at.records.leaf_count.0, next.leaf_count ∙ st.at.records.leaf_count.1);
       words_are = next_words t next.words;

@@ -4,7 +4,8 @@ use Rattle.moments.specs.declared.Rec.{Rec}
 use Rattle.moments.specs.Core.{Fate, Free, Held, Ready as ReadyBy, InTree, Unlinked, Marked}
 use Rattle.rowex_core.specs.declared.event.Act.TheVariants.{Claim, Fill, Ready, Release}
 use Rattle.rowex_core.specs.Reading.{IsPacked}
-use Rattle.rowex_core.specs.Cores.{Core, IsLawful, HasRecord}
+use Rattle.record_words.specs.declared.layout.Layout.{Layout}
+use Rattle.rowex_core.specs.Cores.{Core, IsLawful, FitsIn, HasRecord, HasWord as HasPlace}
 use Rattle.rowex_core.specs.Words.{tag_of, lock_of, state_at}
 use Rattle.rowex_core.specs.Events.{LegalAct, after, claimed, IsOffset}
 use Rattle.rowex_replay.specs.declared.fate.Fate.{Fate as Stored}
@@ -50,21 +51,28 @@ no_state s r w fails c lawful h (there, is) = fails (state_is s c lawful h r w t
 
 -- ---- fill, ready and release
 
-pub fills : (s : StateView) (q : ℕ) (r : Rec) (offset w : ℕ) (t : RecordsView) → fate_in s.records r ≡ Some (IsHeld q) → IsOffset r offset → w < 2 ^ 64 →
+pub fills : (s : StateView) (q : ℕ) (r : Rec) (offset w : ℕ) (t : RecordsView) → fate_in s.records r ≡ Some (IsHeld q) → IsOffset r offset → HasPlace s.records.layout r offset → w < 2 ^ 64 →
     ((words : List ℕ) → words_in s.records r ≡ Some words → t ≡ with_words_in s.records r (set words (offset - 1) w)) → (c : Core) → ∥ IsLawful c ∥₁ → IsStateOf s c →
     LegalAct c q (Fill r offset w) × IsStateOf (record s { records = t }) (after c q (Fill r offset w))
-fills s q r offset w t held offset_is small put c lawful h =
+fills s q r offset w t held offset_is there small put c lawful h =
     let x = held_at s c h r q held in (
-      (x.0, x.1, offset_is, small),
+      (x.0, x.1, offset_is, small, subst (λ (z : Layout). HasPlace z r offset) h.records.layout_is there),
       rw (put (c.words r) (words_from s c h r x.0))
           (with_records_is s c h _ _ c.fate c.lock (table.words_set s.records c.layout c.words c.fate c.lock h.records r (set (c.words r) (offset - 1) w))),
     )
 
 pub readies : (s : StateView) (q : ℕ) (r : Rec) → fate_in s.records r ≡ Some (IsHeld q) → IsPackedIn s.records r → (c : Core) → ∥ IsLawful c ∥₁ → IsStateOf s c →
     LegalAct c q (Ready r) × IsStateOf (record s { records = with_fate_in s.records r (IsReady q) }) (after c q (Ready r))
-readies s q r held (words, there, packed) c lawful h =
-    let x = held_at s c h r q held in
-    ((x.0, x.1, subst (IsPacked r) (sym (h.records.words_are r words there)) packed), with_fate_is s c h r (IsReady q))
+readies s q r held (words, there, packed, room) c lawful h =
+    let x = held_at s c h r q held in (
+      (
+        x.0,
+        x.1,
+        subst (IsPacked r) (sym (h.records.words_are r words there)) packed,
+        subst (λ (z : Layout). FitsIn z r (c.words r)) h.records.layout_is (subst (FitsIn s.records.layout r) (sym (h.records.words_are r words there)) room),
+      ),
+      with_fate_is s c h r (IsReady q),
+    )
 
 pub releases : (s : StateView) (q : ℕ) (r : Rec) → fate_in s.records r ≡ Some (IsHeld q) → (c : Core) → ∥ IsLawful c ∥₁ → IsStateOf s c →
     LegalAct c q (Release r) × IsStateOf (record s { records = with_fate_in s.records r IsFree }) (after c q (Release r))

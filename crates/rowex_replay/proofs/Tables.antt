@@ -98,6 +98,7 @@ fates_set s fate h (a_leaf n) g (a_leaf i) f e =
 pub fate_set : (s : RecordsView) (layout : Layout) (words : Rec → List ℕ) (fate : Rec → Fate) (lock : ℕ → Option ℕ) → AreRecordsOf s layout words fate lock →
     (r : Rec) (g : Stored) → AreRecordsOf (with_fate_in s r g) layout words (λ i. if same_rec i r then stored_fate g else fate i) lock
 fate_set s layout words fate lock a (a_node n) g = record {
+  layout_is = a.layout_is;
   node_count = (a.node_count.0, length-set s.node_fates n g ∙ a.node_count.1, a.node_count.2);
   leaf_count = a.leaf_count;
   words_are = λ r x e. a.words_are r x (elim r as (λ r. words_in (with_fate_in s (a_node n) g) r ≡ Some x → words_in s r ≡ Some x) [ a_node i ↦ λ e. e | a_leaf i ↦ λ e. e ] e);
@@ -105,6 +106,7 @@ fate_set s layout words fate lock a (a_node n) g = record {
   locks_are = a.locks_are;
 }
 fate_set s layout words fate lock a (a_leaf n) g = record {
+  layout_is = a.layout_is;
   node_count = a.node_count;
   leaf_count = (a.leaf_count.0, length-set s.leaf_fates n g ∙ a.leaf_count.1);
   words_are = λ r x e. a.words_are r x (elim r as (λ r. words_in (with_fate_in s (a_leaf n) g) r ≡ Some x → words_in s r ≡ Some x) [ a_node i ↦ λ e. e | a_leaf i ↦ λ e. e ] e);
@@ -116,6 +118,7 @@ fate_set s layout words fate lock a (a_leaf n) g = record {
 pub lock_set : (s : RecordsView) (layout : Layout) (words : Rec → List ℕ) (fate : Rec → Fate) (lock : ℕ → Option ℕ) → AreRecordsOf s layout words fate lock →
     (n : ℕ) (o : Option ℕ) → AreRecordsOf (with_lock_in s n o) layout words fate (λ i. if nat_eq i n then o else lock i)
 lock_set s layout words fate lock a n o = record {
+  layout_is = a.layout_is;
   node_count = (a.node_count.0, a.node_count.1, length-set s.locks n o ∙ a.node_count.2);
   leaf_count = a.leaf_count;
   words_are = λ r x e. a.words_are r x (elim r as (λ r. words_in (with_lock_in s n o) r ≡ Some x → words_in s r ≡ Some x) [ a_node i ↦ λ e. e | a_leaf i ↦ λ e. e ] e);
@@ -136,6 +139,7 @@ words_put s words h (a_leaf n) y (a_leaf i) x e =
 pub words_set : (s : RecordsView) (layout : Layout) (words : Rec → List ℕ) (fate : Rec → Fate) (lock : ℕ → Option ℕ) → AreRecordsOf s layout words fate lock →
     (r : Rec) (y : List ℕ) → AreRecordsOf (with_words_in s r y) layout (λ i. if same_rec i r then y else words i) fate lock
 words_set s layout words fate lock a (a_node n) y = record {
+  layout_is = a.layout_is;
   node_count = (length-set s.nodes n y ∙ a.node_count.0, a.node_count.1, a.node_count.2);
   leaf_count = a.leaf_count;
   words_are = words_put s words a.words_are (a_node n) y;
@@ -143,6 +147,7 @@ words_set s layout words fate lock a (a_node n) y = record {
   locks_are = a.locks_are;
 }
 words_set s layout words fate lock a (a_leaf n) y = record {
+  layout_is = a.layout_is;
   node_count = a.node_count;
   leaf_count = (length-set s.leaves n y ∙ a.leaf_count.0, a.leaf_count.1);
   words_are = words_put s words a.words_are (a_leaf n) y;

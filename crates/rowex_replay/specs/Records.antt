@@ -6,14 +6,16 @@ use Rattle.record_words.specs.State.{HasStateWord, state_word}
 use Rattle.moments.specs.declared.Rec.{Rec}
 use Rattle.moments.specs.declared.Rec.TheVariants.{Node as a_node, Leaf as a_leaf}
 use Rattle.moments.specs.Core.{Fate}
+use Rattle.rowex_core.specs.Cores.{FitsIn}
 use Rattle.rowex_core.specs.Reading.{IsPacked}
 use Rattle.rowex_core.specs.Words.{tag_of}
 use Rattle.rowex_replay.specs.declared.fate.Fate.{Fate as Stored}
 use Rattle.rowex_replay.specs.Fates.{stored_fate}
 use Rattle.rowex_replay.specs.Links.{AllMayCome, AllMayGo, AreNextFates}
 
--- of each node its words but the state, its fate and its lock; of each leaf its words but the state, and its fate
+-- the table's layout; of each node its words but the state, its fate and its lock; of each leaf its words but the state, and its fate
 pub record RecordsView : Type 0 where
+  pub layout : Layout
   pub nodes : List (List ℕ)
   pub leaves : List (List ℕ)
   pub node_fates : List Stored
@@ -46,9 +48,9 @@ HasState s r w = (t : Tag) × (tag_in s r ≡ Some t) × HasStateWord t × (stat
 abbrev pub HasWord : RecordsView → Rec → ℕ → ℕ → Type 0
 HasWord s r i w = (words : List ℕ) × (words_in s r ≡ Some words) × (slice_get words i ≡ Some w)
 
--- its words spell a value
+-- its words spell a value, which has room in it
 abbrev pub IsPackedIn : RecordsView → Rec → Type 0
-IsPackedIn s r = (words : List ℕ) × (words_in s r ≡ Some words) × IsPacked r words
+IsPackedIn s r = (words : List ℕ) × (words_in s r ≡ Some words) × IsPacked r words × FitsIn s.layout r words
 
 -- the records with one fate, one lock or the words of one record changed
 
@@ -76,6 +78,7 @@ pub record MayLink (s : RecordsView) (q : ℕ) (nodes leaves : List Bool) : Type
 
 -- from the first records to the second fates alone have changed, as a publish changes them
 pub record AreNextRecords (now q : ℕ) (nodes leaves : List Bool) (s t : RecordsView) : Type 0 where
+  pub layout : t.layout ≡ s.layout
   pub words : (t.nodes ≡ s.nodes) × (t.leaves ≡ s.leaves)
   pub locks : t.locks ≡ s.locks
   pub node_count : length t.node_fates ≡ length s.node_fates
@@ -85,6 +88,7 @@ pub record AreNextRecords (now q : ℕ) (nodes leaves : List Bool) (s t : Record
 
 -- The data are those of a table of this layout, with these words, fates and locks.
 pub record AreRecordsOf (s : RecordsView) (layout : Layout) (words : Rec → List ℕ) (fate : Rec → Fate) (lock : ℕ → Option ℕ) : Type 0 where
+  pub layout_is : s.layout ≡ layout
   pub node_count : (length s.nodes ≡ layout.nodes) × (length s.node_fates ≡ layout.nodes) × (length s.locks ≡ layout.nodes)
   pub leaf_count : (length s.leaves ≡ layout.leaves) × (length s.leaf_fates ≡ layout.leaves)
   pub words_are : (r : Rec) (x : List ℕ) → words_in s r ≡ Some x → words r ≡ x

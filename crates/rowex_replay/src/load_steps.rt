@@ -34,7 +34,7 @@ impl State {
     pub(crate) fn load_fixed(&mut self, pass: u16, rec: Rec, offset: u8, word: u64) -> bool
         ensures { IsStepped result self.old self.new pass (LoadFixed rec offset word) }
     {
-        if !is_fixed_offset(rec, offset) {
+        if !is_fixed_offset(self.records.layout(), rec, offset) {
             return false;
         }
         self.records.has_word(rec, offset as usize - 1, word)

@@ -3,12 +3,13 @@
 ghost use Rattle.std.specs.Prelude.{◌≡◌, ◌↔◌, ◌<◌, IsTrue, length};
 ghost use Rattle.rowex_core.specs.declared.event.Act.{Act};
 ghost use Rattle.rowex_core.specs.declared.event.Act.TheVariants.{Claim, Fill, GiveBack, Mark, Ready, Release};
+ghost use Rattle.rowex_core.specs.Cores.{HasWord};
 ghost use Rattle.rowex_core.specs.Events.{IsFixedOffset, IsOffset};
 ghost use Rattle.rowex_replay.specs.States.{IsStepped};
 
 use crate::fate::Fate;
 use crate::state::State;
-use record_words::{FIRST_ENTRY, LEAF_WORDS, NODE_WORDS, Tag, pack_state};
+use record_words::{FIRST_ENTRY, Layout, NODE_WORDS, Tag, pack_state};
 use rowex_core::Rec;
 
 impl State {
@@ -29,7 +30,7 @@ impl State {
     pub(crate) fn fill(&mut self, pass: u16, rec: Rec, offset: u8, word: u64) -> bool
         ensures { IsStepped result self.old self.new pass (Fill rec offset word) }
     {
-        if !self.records.is_held(rec, pass) || !is_offset(rec, offset) {
+        if !self.records.is_held(rec, pass) || !is_offset(self.records.layout(), rec, offset) {
             return false;
         }
         self.records.set_word(rec, offset as usize - 1, word);
@@ -92,22 +93,22 @@ impl State {
     }
 }
 
-/// Whether a record has a word other than its state at this offset.
-fn is_offset(rec: Rec, offset: u8) -> bool
-    ensures { IsTrue result ↔ IsOffset rec offset }
+/// Whether a record of a table of this layout has a word other than its state at this offset.
+fn is_offset(layout: Layout, rec: Rec, offset: u8) -> bool
+    ensures { IsTrue result ↔ (IsOffset rec offset × HasWord layout rec offset) }
 {
     match rec {
         Rec::Node(_) => 1 <= offset && offset < NODE_WORDS as u8,
-        Rec::Leaf(_) => 1 <= offset && offset < LEAF_WORDS as u8,
+        Rec::Leaf(number) => 1 <= offset && (offset as usize) < layout.leaf_size(number),
     }
 }
 
-/// Whether a record has a word at this offset that is neither its state nor an entry.
-pub(crate) fn is_fixed_offset(rec: Rec, offset: u8) -> bool
-    ensures { IsTrue result ↔ IsFixedOffset rec offset }
+/// Whether a record of a table of this layout has a word at this offset that is neither its state nor an entry.
+pub(crate) fn is_fixed_offset(layout: Layout, rec: Rec, offset: u8) -> bool
+    ensures { IsTrue result ↔ (IsFixedOffset rec offset × HasWord layout rec offset) }
 {
     match rec {
         Rec::Node(_) => 1 <= offset && offset < FIRST_ENTRY as u8,
-        Rec::Leaf(_) => 1 <= offset && offset < LEAF_WORDS as u8,
+        Rec::Leaf(number) => 1 <= offset && (offset as usize) < layout.leaf_size(number),
     }
 }

@@ -16,6 +16,7 @@ use unpacking::{unpack_leaf, unpack_node};
 /// The records of a table: of each its words but the state, and its fate; of each node who has locked it.
 #[derive(Drop)]
 pub(crate) struct Records {
+    layout: Layout,
     nodes: Vec<[u64; NODE_FIELDS]>,
     leaves: Vec<[u64; LEAF_FIELDS]>,
     node_fates: Vec<Fate>,
@@ -29,6 +30,7 @@ impl Model for Records {
     ghost Value = { RecordsView };
 
     ghost view = { λ a. record {
+      layout = a.layout;
       nodes = a.nodes.items;
       leaves = a.leaves.items;
       node_fates = a.node_fates.items;
@@ -46,12 +48,20 @@ impl Records {
         ensures { let c = opening layout in IfOk result (λ s. AreRecordsOf s layout c.words c.fate c.lock) }
     {
         Ok(Records {
+            layout,
             nodes: repeated(alloc, [0; NODE_FIELDS], layout.nodes)?,
             leaves: repeated(alloc, [0; LEAF_FIELDS], layout.leaves)?,
             node_fates: repeated(alloc, Fate::Free, layout.nodes)?,
             leaf_fates: repeated(alloc, Fate::Free, layout.leaves)?,
             locks: repeated(alloc, None, layout.nodes)?,
         })
+    }
+
+    /// The layout of the table.
+    pub(crate) fn layout(&self) -> Layout
+        ensures { result ≡ self.now.layout }
+    {
+        self.layout
     }
 
     /// What has become of a record, where the table has it.
@@ -166,7 +176,9 @@ impl Records {
                 None => false,
             },
             Rec::Leaf(number) => match self.leaves.get(number as usize) {
-                Some(words) => is_leaf(words),
+                Some(words) => {
+                    is_leaf(words) && words[1] <= 8 * (self.layout.leaf_size(number) as u64 - 3)
+                }
                 None => false,
             },
         }
