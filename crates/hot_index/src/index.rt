@@ -276,7 +276,7 @@ impl Index {
         requires { Owns self.now pass.old }
         ensures own { Owns self.now pass.new }
         ensures call { MatchResult result (IsNoted self.now.layout pass.old pass.new call.now)
-            (λ full. IsRefused self.now.layout pass.old pass.new (fault_of full)) }
+            (λ full. IsRefused self.now.layout call.now pass.old pass.new (fault_of full)) }
         ensures lacks { IfErr result (MayLack call.now) }
         ensures told { HasTold self.now G.becomes (pass.old, gate.old) (pass.new, gate.new) }
     {
@@ -305,7 +305,7 @@ impl Index {
         requires { Owns self.now pass.old }
         ensures own { Owns self.now pass.new }
         ensures call { MatchResult result (IsNoted self.now.layout pass.old pass.new (call_of ask key.now value))
-            (λ full. IsRefused self.now.layout pass.old pass.new (fault_of full)) }
+            (λ full. IsRefused self.now.layout (call_of ask key.now value) pass.old pass.new (fault_of full)) }
         ensures leafless { ask ≡ Ask.Remove → result ≢ Err Full.Leaves }
         ensures told { HasTold self.now G.becomes (pass.old, gate.old) (pass.new, gate.new) }
     {

@@ -29,7 +29,7 @@ pub record IsCalled (layout : Layout) (k j : PassView) (note : Note) : Type 0 wh
 -- the pass was told this answer to a command
 abbrev pub IsTold : Layout → PassView → Answered → PassView → Type 0
 IsTold layout k (called note) j = IsCalled layout k j note
-IsTold layout k (refused call full) j = MayLack call full × IsRefused layout k j (fault_of full)
+IsTold layout k (refused call full) j = MayLack call full × IsRefused layout call k j (fault_of full)
 IsTold layout k (listed range scan before after) j =
     IsScanned layout k j range.from range.upto range.limit scan × (before ≡ length j.fresh.front) × (after ≡ length j.front)
 
