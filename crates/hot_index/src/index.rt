@@ -6,7 +6,7 @@ ghost use lib.ListN.{get_elem?};
 ghost use Rattle.hot_model.specs.declared.Call.TheVariants.{Get, Insert, Remove, Upsert};
 ghost use Rattle.hot_model.specs.declared.Note.{Note};
 ghost use Rattle.record_words.specs.Layout.{HasStock, leaves_of};
-ghost use Rattle.record_words.specs.Limits.{IsPassCount, IsNodeCount, IsLeafCount, IsRecordCount};
+ghost use Rattle.record_words.specs.Limits.{IsPassCount, IsStockPassCount, IsNodeCount, IsLeafCount, IsRecordCount};
 ghost use Rattle.rowex_core.specs.declared.event.Act.TheVariants.{ClearPin};
 ghost use Rattle.rowex_core.specs.declared.known.Known.{Known};
 ghost use Rattle.rowex_table.specs.Runs.{StepsWith};
@@ -105,8 +105,8 @@ pub fn create(
     made(alloc, layout).map_err(|_| IndexFault::Memory)
 }
 
-/// Makes an empty index with so many passes (1 to 64) and this stock of records: up to 4,294,967,295 node records, and as many
-/// leaf records of all classes together; at least one of both. The numbers are tested first, in this order. `Layout::bytes`
+/// Makes an empty index with so many passes (1 to 1,024) and this stock of records: up to 4,294,967,295 node records, and as
+/// many leaf records of all classes together; at least one of both. The numbers are tested first, in this order. `Layout::bytes`
 /// tells how many bytes its table takes; twice as many are in use while it is made.
 pub fn create_with(
     alloc: Global,
@@ -116,10 +116,10 @@ pub fn create_with(
     ensures layout { IfOk result (λ made. (made.0.layout.passes ≡ passes) × HasStock made.0.layout stock) }
     ensures count { IfOk result (λ made. length made.1.items ≡ passes) }
     ensures each { IfOk result (λ made. (q : ℕ) (p : PassView) → slice_get made.1.items q ≡ Some p → Owns made.0 p × IsNewPass q p) }
-    ensures passes { (result ≡ Err (IndexFault.Layout LayoutFault.Passes)) ↔ ¬ IsPassCount passes }
-    ensures nodes { (result ≡ Err (IndexFault.Layout LayoutFault.Nodes)) ↔ (IsPassCount passes × ¬ IsRecordCount stock.nodes) }
-    ensures leaves { (result ≡ Err (IndexFault.Layout LayoutFault.Leaves)) ↔ (IsPassCount passes × IsRecordCount stock.nodes × ¬ IsRecordCount (leaves_of stock)) }
-    ensures memory { result ≡ Err IndexFault.Memory → IsPassCount passes × IsRecordCount stock.nodes × IsRecordCount (leaves_of stock) }
+    ensures passes { (result ≡ Err (IndexFault.Layout LayoutFault.Passes)) ↔ ¬ IsStockPassCount passes }
+    ensures nodes { (result ≡ Err (IndexFault.Layout LayoutFault.Nodes)) ↔ (IsStockPassCount passes × ¬ IsRecordCount stock.nodes) }
+    ensures leaves { (result ≡ Err (IndexFault.Layout LayoutFault.Leaves)) ↔ (IsStockPassCount passes × IsRecordCount stock.nodes × ¬ IsRecordCount (leaves_of stock)) }
+    ensures memory { result ≡ Err IndexFault.Memory → IsStockPassCount passes × IsRecordCount stock.nodes × IsRecordCount (leaves_of stock) }
 {
     let stocked = Layout::with_stock(passes, stock).map_err(IndexFault::Layout)?;
     made(alloc, stocked).map_err(|_| IndexFault::Memory)

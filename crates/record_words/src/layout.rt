@@ -1,11 +1,12 @@
 //! Where each record of a table stands among its words.
 
 ghost use Rattle.std.specs.Prelude.{◌≤◌};
-ghost use Rattle.record_words.specs.Limits.{IsPassCount, IsRecordCount};
+ghost use Rattle.record_words.specs.Limits.{IsStockPassCount, IsRecordCount};
 
 use crate::{
     ANCHOR_WORD, EPOCH_WORD, FIRST_PIN, LARGE_WORDS, LEAF_WORDS, LINE_WORDS, MAX_LEAVES, MAX_NODES,
-    MAX_PASSES, MEDIUM_WORDS, NODE_WORDS, ROOT_WORD, SHORT_WORDS, WIDE_WORDS, WORD_BYTES,
+    MAX_PASSES, MAX_STOCK_PASSES, MEDIUM_WORDS, NODE_WORDS, ROOT_WORD, SHORT_WORDS, WIDE_WORDS,
+    WORD_BYTES,
 };
 
 /// Which number of records is out of range; they are tested in this order.
@@ -22,7 +23,7 @@ pub enum LayoutFault {
 /// these keep apart what different threads write, and have no location.
 #[derive(Clone, Copy)]
 pub struct Layout {
-    /// 1 to `MAX_PASSES`.
+    /// 1 to `MAX_STOCK_PASSES`.
     pub passes: u32,
     /// At least 1.
     pub nodes: u32,
@@ -36,7 +37,7 @@ pub struct Layout {
     pub wide_from: u32,
     /// Those from there on and below this number are wide ones, and all others are long.
     pub long_from: u32,
-    ghost passes_in_range: { IsPassCount passes },
+    ghost passes_in_range: { IsStockPassCount passes },
     ghost nodes_in_range: { IsRecordCount nodes },
     ghost leaves_in_range: { IsRecordCount leaves },
     ghost classes_in_order: { (medium_from ≤ large_from) × (large_from ≤ wide_from) × (wide_from ≤ long_from) × (long_from ≤ leaves) },
@@ -121,7 +122,7 @@ pub enum Location {
 
 impl Layout {
     ghost use Rattle.std.specs.Prelude.{ℕ, ◌≡◌, ◌≢◌, ◌↔◌, ◌<◌, ◌≤◌, ◌+◌, ◌*◌, IfOk, Err};
-    ghost use Rattle.record_words.specs.Limits.{IsPassCount, IsNodeCount, IsLeafCount, IsRecordCount};
+    ghost use Rattle.record_words.specs.Limits.{IsPassCount, IsStockPassCount, IsNodeCount, IsLeafCount, IsRecordCount};
     ghost use Rattle.record_words.specs.Layout.{node_start, class_size, leaf_size, leaf_start, word_count, address, HasStock, leaves_of, IsLocationOf};
 
     /// The layout with these numbers of records, of which all leaf records are long.
@@ -151,14 +152,15 @@ impl Layout {
         })
     }
 
-    /// The layout with this stock: up to 4,294,967,295 node records, and as many leaf records of all classes together.
+    /// The layout with this stock: for 1 to `MAX_STOCK_PASSES` passes, with up to 4,294,967,295 node records, and as many leaf
+    /// records of all classes together.
     pub fn with_stock(passes: u32, stock: Stock) -> Result<Layout, LayoutFault>
         ensures ok { IfOk result (λ layout. (layout.passes ≡ passes) × HasStock layout stock) }
-        ensures passes { (result ≡ Err LayoutFault.Passes) ↔ ¬ IsPassCount passes }
-        ensures nodes { (result ≡ Err LayoutFault.Nodes) ↔ (IsPassCount passes × ¬ IsRecordCount stock.nodes) }
-        ensures leaves { (result ≡ Err LayoutFault.Leaves) ↔ (IsPassCount passes × IsRecordCount stock.nodes × ¬ IsRecordCount (leaves_of stock)) }
+        ensures passes { (result ≡ Err LayoutFault.Passes) ↔ ¬ IsStockPassCount passes }
+        ensures nodes { (result ≡ Err LayoutFault.Nodes) ↔ (IsStockPassCount passes × ¬ IsRecordCount stock.nodes) }
+        ensures leaves { (result ≡ Err LayoutFault.Leaves) ↔ (IsStockPassCount passes × IsRecordCount stock.nodes × ¬ IsRecordCount (leaves_of stock)) }
     {
-        if passes < 1 || passes > MAX_PASSES {
+        if passes < 1 || passes > MAX_STOCK_PASSES {
             return Err(LayoutFault::Passes);
         }
         if stock.nodes < 1 {

@@ -18,8 +18,11 @@ pub use state::{Tag, pack_state, unpack_state};
 /// Epochs are below this number, and at least 1.
 pub const EPOCHS: u64 = 1 << 60;
 
-/// How many passes a table has at most.
+/// How many passes a table of `Layout::of` has at most.
 pub const MAX_PASSES: u32 = 64;
+
+/// How many passes a table of `Layout::with_stock` has at most.
+pub const MAX_STOCK_PASSES: u32 = 1_024;
 
 /// How many node records a table of `Layout::of` has at most.
 pub const MAX_NODES: u32 = 65_535;
