@@ -1,12 +1,13 @@
 -- Where each word of a table stands.
-use Rattle.std.specs.Prelude.{ℕ, ◌≡◌, ◌≢◌, ◌+◌, ◌-◌, ◌*◌, ◌<◌, nat_lt, if◌then◌else◌, Option, Some, None}
+use Rattle.std.specs.Prelude.{ℕ, ◌≡◌, ◌≢◌, ◌+◌, ◌-◌, ◌*◌, ◌/◌, ◌^◌, ◌<◌, min, nat_lt, nat_le, if◌then◌else◌, Option, Some, None}
 use Rattle.record_words.specs.declared.layout.Layout.{Layout}
 use Rattle.record_words.specs.declared.layout.LeafClass.{LeafClass}
 use Rattle.record_words.specs.declared.layout.LeafClass.TheVariants.{Short, Medium, Large, Wide, Long}
 use Rattle.record_words.specs.declared.layout.Stock.{Stock}
 use Rattle.record_words.specs.declared.layout.Location.{Location}
 use Rattle.record_words.specs.declared.layout.Location.TheVariants.{Epoch, Root, Anchor, Pin, NodeWord, LeafWord}
-use Rattle.record_words.specs.declared.TheConstants.{EPOCH_WORD, ROOT_WORD, ANCHOR_WORD, FIRST_PIN, LINE_WORDS, NODE_WORDS, LEAF_WORDS, SHORT_WORDS, MEDIUM_WORDS, LARGE_WORDS, WIDE_WORDS}
+use Rattle.record_words.specs.declared.TheConstants.{EPOCH_WORD, ROOT_WORD, ANCHOR_WORD, FIRST_PIN, LINE_WORDS, NODE_WORDS, LEAF_WORDS, SHORT_WORDS, MEDIUM_WORDS, LARGE_WORDS, WIDE_WORDS, STOCK_SHARE, STOCK_SPARE}
+use Rattle.record_words.specs.Leaf.{words_for}
 
 -- the first word of a node record; these records follow the pins, one after another
 abbrev pub node_start : Layout → ℕ → ℕ
@@ -31,6 +32,25 @@ abbrev pub words_below : Layout → ℕ → ℕ
 words_below layout n =
     SHORT_WORDS * n + (MEDIUM_WORDS - SHORT_WORDS) * (n - layout.medium_from) + (LARGE_WORDS - MEDIUM_WORDS) * (n - layout.large_from) +
     (WIDE_WORDS - LARGE_WORDS) * (n - layout.wide_from) + (LEAF_WORDS - WIDE_WORDS) * (n - layout.long_from)
+
+-- the smallest class with room for a key of this length, where one has room for it; else the largest
+abbrev pub class_for : ℕ → LeafClass
+class_for bytes =
+    if nat_le (words_for bytes) SHORT_WORDS then Short else (if nat_le (words_for bytes) MEDIUM_WORDS then Medium else
+    (if nat_le (words_for bytes) LARGE_WORDS then Large else (if nat_le (words_for bytes) WIDE_WORDS then Wide else Long)))
+
+-- so many leaf records of this class alone
+abbrev pub stock_of : ℕ → LeafClass → ℕ → Stock
+stock_of nodes Short leaves = record { nodes = nodes; short = leaves; medium = 0; large = 0; wide = 0; long = 0 }
+stock_of nodes Medium leaves = record { nodes = nodes; short = 0; medium = leaves; large = 0; wide = 0; long = 0 }
+stock_of nodes Large leaves = record { nodes = nodes; short = 0; medium = 0; large = leaves; wide = 0; long = 0 }
+stock_of nodes Wide leaves = record { nodes = nodes; short = 0; medium = 0; large = 0; wide = leaves; long = 0 }
+stock_of nodes Long leaves = record { nodes = nodes; short = 0; medium = 0; large = 0; wide = 0; long = leaves }
+
+-- The stock for so many keys of at most so many bytes: a node record for STOCK_SHARE keys, a leaf record for each key and one more
+-- for STOCK_SHARE keys, and STOCK_SPARE of both besides; but no more leaf records than a table may have.
+abbrev pub stock_for : ℕ → ℕ → Stock
+stock_for count bytes = stock_of (count / STOCK_SHARE + STOCK_SPARE) (class_for bytes) (min (count + count / STOCK_SHARE + STOCK_SPARE) (2 ^ 32 - 1))
 
 -- how many leaf records a stock has, of all classes
 abbrev pub leaves_of : Stock → ℕ

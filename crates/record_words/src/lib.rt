@@ -7,6 +7,7 @@ mod layout;
 mod leaf;
 mod node;
 mod state;
+mod stock;
 
 pub use entry::{pack_entry, read_entry, read_some};
 use key_bits::MAX_BYTES;
@@ -93,6 +94,12 @@ pub const LARGE_WORDS: usize = 10;
 
 /// How many words a wide leaf record has; its key has at most 88 bytes.
 pub const WIDE_WORDS: usize = 14;
+
+/// In `Stock::for_keys` so many keys have one node record, and one leaf record to spare.
+pub const STOCK_SHARE: u32 = 8;
+
+/// How many more node records and leaf records `Stock::for_keys` has, however few the keys are.
+pub const STOCK_SPARE: u32 = 512;
 
 /// Why words are no packing of any value.
 #[derive(Clone, Copy)]

@@ -1,0 +1,97 @@
+//! How many records an index needs for its keys.
+
+ghost use Rattle.std.specs.Prelude.{ℕ, ◌≡◌, ◌<◌, ◌≤◌};
+ghost use Rattle.key_bits.specs.declared.TheConstants.{MAX_BYTES};
+ghost use Rattle.record_words.specs.declared.layout.Layout.{Layout};
+ghost use Rattle.record_words.specs.Layout.{class_for, stock_of, stock_for, leaves_of, leaf_size, HasStock};
+ghost use Rattle.record_words.specs.Leaf.{words_for};
+ghost use Rattle.record_words.specs.Limits.{IsRecordCount};
+
+use crate::layout::{LeafClass, Stock};
+use crate::{
+    LARGE_WORDS, MEDIUM_WORDS, SHORT_WORDS, STOCK_SHARE, STOCK_SPARE, WIDE_WORDS, key_words,
+};
+use key_bits::MAX_BYTES;
+
+impl LeafClass {
+    /// The smallest class with room for a key of so many bytes; the long one where no key has so many.
+    pub fn for_key(bytes: usize) -> LeafClass
+        ensures { result ≡ class_for bytes }
+    {
+        let words = 3 + key_words(bytes.min(MAX_BYTES) as u64);
+        if words <= SHORT_WORDS {
+            LeafClass::Short
+        } else if words <= MEDIUM_WORDS {
+            LeafClass::Medium
+        } else if words <= LARGE_WORDS {
+            LeafClass::Large
+        } else if words <= WIDE_WORDS {
+            LeafClass::Wide
+        } else {
+            LeafClass::Long
+        }
+    }
+}
+
+impl Stock {
+    /// A stock for up to `count` keys at once, of at most `longest` bytes each; more than 240 count as 240. All its leaf records
+    /// are of the smallest class with room for such keys.
+    ///
+    /// It has one node record for 8 keys, and 512 more; one leaf record for each key, one to spare for 8 keys, and 512 more. Sums
+    /// stop at 4,294,967,295. So each index of 1 to 1,024 passes can be made with it where there is memory.
+    ///
+    /// The nodes are a measured number and no bound. A node had 19 to 31 keys in indexes that were filled by inserts alone, and
+    /// 12 to 20 after half or nine tenths of the keys, taken by chance, had been removed and as many others inserted, again and
+    /// again. The worst case is not covered: keys may be such that each node has two entries, so that `count` of them take
+    /// `count - 1` nodes. What is to spare is for the records that passes have replaced and can't use again yet: count 64 of
+    /// both for each pass that changes the index, so give more where more than eight do.
+    pub fn for_keys(count: u32, longest: usize) -> Stock
+        ensures stock { result ≡ stock_for count longest }
+        ensures nodes { IsRecordCount result.nodes }
+        ensures leaves { IsRecordCount (leaves_of result) × (count ≤ leaves_of result) }
+        ensures room { (layout : Layout) (leaf bytes : ℕ) → HasStock layout result → leaf < layout.leaves → bytes ≤ longest → bytes ≤ MAX_BYTES → words_for bytes ≤ leaf_size layout leaf }
+    {
+        let shares = count / STOCK_SHARE + STOCK_SPARE;
+        Stock::of_class(
+            shares,
+            LeafClass::for_key(longest),
+            count.saturating_add(shares),
+        )
+    }
+
+    /// So many node records, and so many leaf records of one class alone.
+    pub fn of_class(nodes: u32, class: LeafClass, leaves: u32) -> Stock
+        ensures { result ≡ stock_of nodes class leaves }
+    {
+        let none = Stock {
+            nodes,
+            short: 0,
+            medium: 0,
+            large: 0,
+            wide: 0,
+            long: 0,
+        };
+        match class {
+            LeafClass::Short => Stock {
+                short: leaves,
+                ..none
+            },
+            LeafClass::Medium => Stock {
+                medium: leaves,
+                ..none
+            },
+            LeafClass::Large => Stock {
+                large: leaves,
+                ..none
+            },
+            LeafClass::Wide => Stock {
+                wide: leaves,
+                ..none
+            },
+            LeafClass::Long => Stock {
+                long: leaves,
+                ..none
+            },
+        }
+    }
+}
