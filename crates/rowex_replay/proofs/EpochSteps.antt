@@ -55,10 +55,10 @@ some_from (Some w) e = λ x. cc
 
 -- ---- the epoch
 
-pub fresh_seen : (layout : Layout) (o : ℕ) → o < layout.passes → slice_get (replicate 64 false) o ≡ Some (has_seen [] o)
+pub fresh_seen : (layout : Layout) (o : ℕ) → o < layout.passes → slice_get (replicate 1024 false) o ≡ Some (has_seen [] o)
 fresh_seen layout o h =
-    let x = slice_get_there {X = Bool} (replicate 64 false) 64 o (length-replicate {A = Bool} 64 false) (let limit = layout.passes_in_range in omega (arith, limit)) in
-    x.1 ∙ ap Some (slice_get-replicate {X = Bool} 64 false o x.0 x.1)
+    let x = slice_get_there {X = Bool} (replicate 1024 false) 1024 o (length-replicate {A = Bool} 1024 false) (let limit = layout.passes_in_range in omega (arith, limit)) in
+    x.1 ∙ ap Some (slice_get-replicate {X = Bool} 1024 false o x.0 x.1)
 
 round_begun : (p : PassState) (layout : Layout) (pin : Option Pin) (round : Round) (e m : ℕ) → IsPassStateOf layout p pin round →
     IsPassStateOf layout (in_round p e m) pin (record { epoch = e; moment = m; bound = e; seen = [] })

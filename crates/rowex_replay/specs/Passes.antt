@@ -1,6 +1,6 @@
 -- What is stored of passes, and their pins and rounds.
 use Rattle.std.specs.Prelude.{◌≡◌, ℕ, ◌<◌, ◌≤◌, min, List, length, set, take, replicate, slice_get, All, true, false, Option, Some, None, option_map}
-use Rattle.record_words.specs.declared.TheConstants.{MAX_PASSES}
+use Rattle.record_words.specs.declared.TheConstants.{MAX_STOCK_PASSES}
 use Rattle.record_words.specs.declared.layout.Layout.{Layout}
 use Rattle.moments.specs.declared.Pin.{Pin}
 use Rattle.moments.specs.declared.Round.{Round}
@@ -9,11 +9,11 @@ use Rattle.rowex_replay.specs.declared.passes.PassState.{PassState}
 
 -- a pass that has done nothing yet
 abbrev pub fresh_pass : PassState
-fresh_pass = record { pin = None; epoch = 0; moment = 0; bound = 0; seen = replicate MAX_PASSES false }
+fresh_pass = record { pin = None; epoch = 0; moment = 0; bound = 0; seen = replicate MAX_STOCK_PASSES false }
 
 -- the pass when it has loaded this epoch at this moment
 abbrev pub in_round : PassState → ℕ → ℕ → PassState
-in_round p epoch moment = record { pin = p.pin; epoch = epoch; moment = moment; bound = epoch; seen = replicate MAX_PASSES false }
+in_round p epoch moment = record { pin = p.pin; epoch = epoch; moment = moment; bound = epoch; seen = replicate MAX_STOCK_PASSES false }
 
 abbrev pub lowered_by : ℕ → Option ℕ → ℕ
 lowered_by bound None = bound

@@ -2,10 +2,10 @@
 
 ghost use Rattle.std.specs.Prelude.{◌≡◌, ◌↔◌, ◌<◌, ℕ, IsTrue, true, slice_get, set, Some, None, length, MatchOption, unwrap_or, min, replicate, false};
 
-use record_words::MAX_PASSES;
+use record_words::MAX_STOCK_PASSES;
 
 /// The most passes of an index, as a length.
-const PASSES: usize = MAX_PASSES as usize;
+const PASSES: usize = MAX_STOCK_PASSES as usize;
 
 /// The pin of a pass, and its last load of the epoch: what it found, at which moment, the least of it and of the pins
 /// loaded since, and whose they were.
