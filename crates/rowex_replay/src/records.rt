@@ -1,6 +1,7 @@
 //! The records of the table: their words, what has become of them, and who has locked them.
 
 ghost use Rattle.std.specs.Prelude.{◌≡◌, ℕ, List, Some, None, IfOk, IsTrue, ◌↔◌, ◌+◌, ◌<◌, ◌^◌, MatchOption, replicate, set};
+ghost use Rattle.rowex_core.specs.Cores.{FitsIn};
 ghost use Rattle.rowex_core.specs.Reading.{IsPacked};
 ghost use Rattle.rowex_replay.specs.declared.fate.Fate.TheVariants.{Held, InTree, Marked};
 ghost use Rattle.moments.specs.declared.Rec.TheVariants.{Node as a_node, Leaf as a_leaf};
@@ -166,7 +167,7 @@ impl Records {
         }
     }
 
-    /// Whether the words of a record spell a value.
+    /// Whether the words of a record spell a value, and the record has room for it.
     pub(crate) fn is_packed(&self, rec: Rec) -> bool
         ensures { IsTrue result ↔ IsPackedIn self.now rec }
     {
@@ -175,13 +176,18 @@ impl Records {
                 Some(words) => is_node(words),
                 None => false,
             },
-            Rec::Leaf(number) => match self.leaves.get(number as usize) {
-                Some(words) => {
-                    is_leaf(words) && words[1] <= 8 * (self.layout.leaf_size(number) as u64 - 3)
-                }
+            Rec::Leaf(number) => match self.leaf(number) {
+                Some(words) => is_leaf(&words) && self.has_room(number, &words),
                 None => false,
             },
         }
+    }
+
+    /// Whether a leaf record has room for a key of the length that these words have.
+    fn has_room(&self, number: u32, words: &[u64; LEAF_FIELDS]) -> bool
+        ensures { IsTrue result ↔ FitsIn self.now.layout (a_leaf number) words.now }
+    {
+        words[1] <= 8 * (self.layout.leaf_size(number) as u64 - 3)
     }
 
     /// Whether the pass holds the record.
@@ -241,6 +247,13 @@ impl Records {
         ensures { result ≡ words_in self.now (a_node number) }
     {
         self.nodes.get(number as usize).copied()
+    }
+
+    /// The words of a leaf but its state, where the table has it.
+    fn leaf(&self, number: u32) -> Option<[u64; LEAF_FIELDS]>
+        ensures { result ≡ words_in self.now (a_leaf number) }
+    {
+        self.leaves.get(number as usize).copied()
     }
 
     /// Gives a node these words; nothing where the table has it not.
