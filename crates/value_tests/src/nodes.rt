@@ -9,8 +9,8 @@ use compound_node::{Entry, Half, Node};
 use key_bits::{Key, KeyFault, extract, mismatch};
 use partial_keys::{search_lanes, search_plain};
 use record_words::{
-    HEAD_WORDS, LEAF_FIELDS, Layout, LayoutFault, Location, NODE_FIELDS, Stock, Tag, pack_entry,
-    pack_leaf, pack_node, pack_state, unpack_state,
+    HEAD_WORDS, LEAF_FIELDS, Layout, LayoutFault, LeafClass, Location, NODE_FIELDS, Stock, Tag,
+    pack_entry, pack_leaf, pack_node, pack_state, unpack_state,
 };
 use std::process::Abort;
 use unpacking::{unpack_entry, unpack_head, unpack_leaf, unpack_node};
@@ -261,10 +261,13 @@ fn leaf_records_have_their_sizes(rt: HostRuntime) {
             layout.leaf(leaf) == word && layout.leaf_size(leaf) == size,
             "leaf {leaf}"
         );
-        let last = layout.location(word + size - 1);
-        assert!(rt;
-            matches!(last, Some(Location::LeafWord { leaf: found, offset }) if found == leaf && offset as usize == size - 1)
-        );
+        for place in [0, size - 1] {
+            let location = layout.location(word + place);
+            assert!(rt;
+                matches!(location, Some(Location::LeafWord { leaf: found, offset }) if found == leaf && offset as usize == place),
+                "word {place} of leaf {leaf}"
+            );
+        }
     }
     assert!(rt;
         layout.pin(1) == 32
@@ -276,25 +279,52 @@ fn leaf_records_have_their_sizes(rt: HostRuntime) {
 
 #[test]
 fn stocks_are_in_range(rt: HostRuntime) {
-    for (nodes, short, long, want) in [
-        (0, 1, 0, LayoutFault::Nodes as u8),
-        (1, 0, 0, LayoutFault::Leaves as u8),
-        (1, 1, 4_294_967_295, LayoutFault::Leaves as u8),
-        (4_294_967_295, 1, 4_294_967_294, 0),
+    for (passes, nodes, short, long, want) in [
+        (0, 1, 1, 0, LayoutFault::Passes as u8),
+        (1_025, 0, 0, 0, LayoutFault::Passes as u8),
+        (1_024, 0, 1, 0, LayoutFault::Nodes as u8),
+        (65, 1, 0, 0, LayoutFault::Leaves as u8),
+        (1, 1, 1, 4_294_967_295, LayoutFault::Leaves as u8),
+        (1_024, 4_294_967_295, 1, 4_294_967_294, 0),
     ] {
         let stock = Stock {
-            nodes,
             short,
-            medium: 0,
-            large: 0,
-            wide: 0,
-            long,
+            ..Stock::of_class(nodes, LeafClass::Long, long)
         };
-        let told = match Layout::with_stock(64, stock) {
+        let told = match Layout::with_stock(passes, stock) {
             Ok(_) => 0,
             Err(fault) => fault as u8,
         };
         assert!(rt; told == want);
+    }
+}
+
+#[test]
+fn stocks_are_told_by_keys(rt: HostRuntime) {
+    for (count, longest, class, nodes, leaves) in [
+        (0, 0, LeafClass::Short, 512, 512),
+        (7, 8, LeafClass::Short, 512, 519),
+        (8, 9, LeafClass::Medium, 513, 521),
+        (1_000, 24, LeafClass::Medium, 637, 1_637),
+        (1_000, 25, LeafClass::Large, 637, 1_637),
+        (1_000, 56, LeafClass::Large, 637, 1_637),
+        (1_000, 57, LeafClass::Wide, 637, 1_637),
+        (1_000, 88, LeafClass::Wide, 637, 1_637),
+        (1_000, 89, LeafClass::Long, 637, 1_637),
+        (1_000, 1_000_000, LeafClass::Long, 637, 1_637),
+        (
+            4_294_967_295,
+            8,
+            LeafClass::Short,
+            536_871_423,
+            4_294_967_295,
+        ),
+    ] {
+        let want = Stock::of_class(nodes, class, leaves);
+        assert!(rt;
+            Stock::for_keys(count, longest) == want,
+            "{count} of {longest}"
+        );
     }
 }
 
