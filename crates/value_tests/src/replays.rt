@@ -2,7 +2,7 @@
 
 use crate::nodes::{key, words_of_leaf, words_of_three};
 use compound_node::{Entry, Node};
-use record_words::{LEAF_FIELDS, Layout, NODE_FIELDS, pack_node};
+use record_words::{LEAF_FIELDS, Layout, LayoutFault, LeafClass, NODE_FIELDS, Stock, pack_node};
 use replay_trees::{Linked, read_tree};
 use rowex_core::{Act, Event, Rec, Spot, Target};
 use rowex_replay::{Replay, ReplayFault};
@@ -99,6 +99,7 @@ enum Step {
     Ready(Rec),
     Release(Rec),
     LoadRef(Spot, u64),
+    LoadFixed(Rec, u8, u64),
     Lock(Target, u64),
     Unlock(Target),
     Publish(Spot, u64),
@@ -119,6 +120,7 @@ fn act_of(step: &Step) -> Act {
         Step::Ready(rec) => Act::Ready { rec },
         Step::Release(rec) => Act::Release { rec },
         Step::LoadRef(spot, word) => Act::LoadRef { spot, word },
+        Step::LoadFixed(rec, offset, word) => Act::LoadFixed { rec, offset, word },
         Step::Lock(target, found) => Act::Lock { target, found },
         Step::Unlock(target) => Act::Unlock { target },
         Step::Publish(spot, word) => Act::Publish { spot, word },
@@ -173,8 +175,8 @@ fn expect_pairs(rt: &impl Abort, alloc: Global, replay: &Replay, changes: u64, w
 }
 
 /// A replay of no event yet.
-fn begun(rt: &impl Abort, alloc: Global, passes: u32, nodes: u32, leaves: u32) -> Replay {
-    let Ok(layout) = Layout::of(passes, nodes, leaves) else {
+fn begun(rt: &impl Abort, alloc: Global, layout: Result<Layout, LayoutFault>) -> Replay {
+    let Ok(layout) = layout else {
         panic!(rt; "no layout");
     };
     match Replay::new(alloc, layout) {
@@ -223,12 +225,33 @@ const ONE_LEAF: [Line; 6] = [
 
 #[test]
 fn one_leaf_is_published(rt: HostRuntime) {
-    let mut replay = begun(&rt, rt.alloc(), 1, 1, 1);
+    let mut replay = begun(&rt, rt.alloc(), Layout::of(1, 1, 1));
     expect_all(&rt, &mut replay, &NO_RECORD);
     expect_pairs(&rt, rt.alloc(), &replay, 0, &[]);
     make(&rt, &mut replay, 0, LEAF, &words_of_leaf(b'a', 5));
     expect_all(&rt, &mut replay, &ONE_LEAF);
     expect_pairs(&rt, rt.alloc(), &replay, 1, &[(b'a', 5)]);
+}
+
+// A short record has no word at offset 4. With a 0 behind them, eight bytes spell a key of nine, for which it has no room.
+const SHORT: [Line; 10] = [
+    (0, Step::Claim(LEAF, 0), true),
+    (0, Step::Fill(LEAF, 4, 0), false),
+    (0, Step::LoadFixed(LEAF, 4, 0), false),
+    (0, Step::Fill(LEAF, 1, 5), true),
+    (0, Step::Fill(LEAF, 2, 9), true),
+    (0, Step::Fill(LEAF, 3, 0x6162_6364_6566_6768), true),
+    (0, Step::Ready(LEAF), false),
+    (0, Step::Fill(LEAF, 2, 8), true),
+    (0, Step::Ready(LEAF), true),
+    (0, Step::LoadFixed(LEAF, 3, 0x6162_6364_6566_6768), true),
+];
+
+#[test]
+fn a_short_record_has_room_for_eight_bytes(rt: HostRuntime) {
+    let stock = Stock::of_class(1, LeafClass::Short, 1);
+    let mut replay = begun(&rt, rt.alloc(), Layout::with_stock(1_024, stock));
+    expect_all(&rt, &mut replay, &SHORT);
 }
 
 /// The words of a reference to node 0 and to node 1, each of height 1.
@@ -310,7 +333,7 @@ const REMOVED: [Line; 8] = [
 
 #[test]
 fn a_node_grows_and_shrinks(rt: HostRuntime) {
-    let mut replay = begun(&rt, rt.alloc(), 2, 2, 4);
+    let mut replay = begun(&rt, rt.alloc(), Layout::of(2, 2, 4));
     let two = Node::pair(7, Entry::Leaf(0), Entry::Leaf(1));
     make(&rt, &mut replay, 0, LEAF, &words_of_leaf(b'a', 5));
     make(&rt, &mut replay, 0, Rec::Leaf(1), &words_of_leaf(b'b', 6));
