@@ -93,6 +93,30 @@ typedef struct hot_pair {
  * HOT_DONE; HOT_OPEN, HOT_OUT_OF_RANGE or HOT_NO_MEMORY, and no handle was opened then. */
 hot_status hot_create(uint32_t nodes, uint32_t leaves, hot_handle *handles, size_t count);
 
+/* How many records an index has, of each size. A key takes the smallest leaf that has room for it and is free. */
+typedef struct hot_stock {
+    uint32_t nodes;         /* 464 bytes each */
+    uint32_t short_leaves;  /* for keys to 8 bytes; 32 bytes each */
+    uint32_t medium_leaves; /* to 24 bytes; 48 */
+    uint32_t large_leaves;  /* to 56 bytes; 80 */
+    uint32_t wide_leaves;   /* to 88 bytes; 112 */
+    uint32_t long_leaves;   /* to HOT_MAX_KEY bytes; 264 */
+} hot_stock;
+
+/* Makes an empty index with this stock and opens `count` handles on it, 1 to 1024, which all have to be closed. There are 1 to
+ * 4294967295 nodes, and as many leaves, of all sizes together. The leaves of hot_create are long ones.
+ * HOT_DONE; HOT_OPEN, HOT_OUT_OF_RANGE or HOT_NO_MEMORY, and no handle was opened then. */
+hot_status hot_create_with(const hot_stock *stock, hot_handle *handles, size_t count);
+
+/* Writes a stock for `keys` keys at once of at most `longest` bytes each: leaves of the smallest size with room for these, one for each
+ * key and for 8 keys one more, a node for 8 keys, and 512 of both besides. That is enough for keys by chance, URLs and numbers, also
+ * after many removals, and for eight threads that change the index; keys that are long chains of prefixes may take up to a node each. */
+void hot_stock_for_keys(uint32_t keys, size_t longest, hot_stock *stock);
+
+/* Writes how many bytes the records and pins of an index with this stock and so many handles take. While it is made it takes twice that.
+ * HOT_DONE; HOT_OUT_OF_RANGE, as hot_create_with would answer. */
+hot_status hot_stock_bytes(const hot_stock *stock, size_t handles, size_t *bytes);
+
 /* Writes a handle's number, which is its place among those that hot_create opened with it.
  * HOT_DONE; HOT_CLOSED. */
 hot_status hot_number(hot_handle *handle, uint16_t *number);

@@ -136,6 +136,47 @@ static void test_full(void) {
     CHECK(hot_destroy(&handle) == HOT_DONE);
 }
 
+/* Leaves of several sizes: a key takes the smallest with room that is free. */
+static void test_stock(void) {
+    hot_handle handle = HOT_HANDLE;
+    hot_stock stock = {8, 1, 1, 0, 0, 0};
+    const uint8_t *key = bytes("0123456789012345678901234");
+    uint64_t had = 7;
+    CHECK(hot_create_with(&stock, &handle, 1) == HOT_DONE);
+    CHECK(hot_create_with(&stock, &handle, 1) == HOT_OPEN);
+    CHECK(hot_try_insert(&handle, key, 8, 1, &had) == HOT_INSERTED);
+    CHECK(hot_try_insert(&handle, key, 25, 2, &had) == HOT_FULL_LEAVES);
+    CHECK(hot_try_insert(&handle, key, 24, 2, &had) == HOT_INSERTED);
+    CHECK(hot_try_insert(&handle, key, 7, 3, &had) == HOT_FULL_LEAVES);
+    CHECK(hot_try_remove(&handle, key, 8, &had) == HOT_REMOVED && had == 1);
+    CHECK(hot_try_insert(&handle, key, 9, 3, &had) == HOT_FULL_LEAVES);
+    CHECK(hot_try_insert(&handle, key, 7, 3, &had) == HOT_INSERTED);
+    CHECK(hot_get(&handle, key, 24, &had) == HOT_FOUND && had == 2);
+    CHECK(hot_destroy(&handle) == HOT_DONE);
+}
+
+/* The stock for so many keys, what it takes, and which stocks and numbers of handles there are. */
+static void test_stock_sizes(void) {
+    enum { MANY = 1024 };
+    static hot_handle handles[MANY];
+    hot_stock stock;
+    size_t size = 7;
+    hot_stock_for_keys(7, 8, &stock);
+    CHECK(stock.nodes == 512 && stock.short_leaves == 519 && !stock.medium_leaves && !stock.large_leaves);
+    CHECK(hot_stock_bytes(&stock, 1, &size) == HOT_DONE && size == 254432);
+    CHECK(hot_stock_bytes(&stock, MANY + 1, &size) == HOT_OUT_OF_RANGE && size == 254432);
+    CHECK(hot_create_with(&stock, handles, 0) == HOT_OUT_OF_RANGE);
+    CHECK(hot_create_with(&stock, handles, MANY) == HOT_DONE);
+    for (int i = 0; i < MANY; i++)
+        CHECK(hot_destroy(&handles[i]) == HOT_DONE);
+    hot_stock_for_keys(8, 89, &stock);
+    CHECK(stock.nodes == 513 && stock.long_leaves == 521 && !stock.short_leaves && !stock.wide_leaves);
+    stock.medium_leaves = 4294967295u;
+    CHECK(hot_create_with(&stock, handles, 1) == HOT_OUT_OF_RANGE);
+    stock.medium_leaves = stock.nodes = 0;
+    CHECK(hot_create_with(&stock, handles, 1) == HOT_OUT_OF_RANGE);
+}
+
 /* What a closed handle answers. */
 static void check_closed(hot_handle *handle) {
     uint64_t value = 7;
@@ -282,13 +323,15 @@ static void test_threads(void) {
 }
 
 int main(void) {
-    CHECK(sizeof(hot_handle) == 16 && sizeof(hot_pair) == 256);
+    CHECK(sizeof(hot_handle) == 16 && sizeof(hot_pair) == 256 && sizeof(hot_stock) == 24);
     test_calls();
     test_scan();
     test_after();
     test_texts();
     test_long_keys();
     test_full();
+    test_stock();
+    test_stock_sizes();
     test_handles();
     test_memory();
     test_threads();

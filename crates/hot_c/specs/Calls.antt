@@ -5,7 +5,10 @@ use Rattle.key_bits.specs.declared.TheConstants.{MAX_BYTES}
 use Rattle.hot_model.specs.declared.Call.{Call}
 use Rattle.hot_model.specs.declared.Reply.{Reply}
 use Rattle.hot_model.specs.declared.Scan.{Scan}
-use Rattle.record_words.specs.Limits.{IsPassCount, IsNodeCount, IsLeafCount}
+use Rattle.record_words.specs.Limits.{IsPassCount, IsStockPassCount, IsNodeCount, IsLeafCount, IsRecordCount}
+use Rattle.record_words.specs.Layout.{HasStock, leaves_of}
+use Rattle.record_words.specs.declared.layout.Layout.{Layout}
+use Rattle.record_words.specs.declared.layout.Stock.{Stock}
 use Rattle.rowex_table.specs.Seats.{TableView}
 use Rattle.rowex_writing.specs.declared.attempts.TryFault.{TryFault}
 use Rattle.hot_index.specs.Answers.{IsNoted, IsRefused, IsScanned, IsUnnoted}
@@ -76,13 +79,27 @@ AreClosed handles = All (λ h. h.slot.opened ≡ None) handles
 abbrev pub IsSize : ℕ → ℕ → ℕ → Type 0
 IsSize passes nodes leaves = IsPassCount passes × IsNodeCount nodes × IsLeafCount leaves
 
--- New passes of one index with so many passes, nodes and leaves, each at the place of its number, and with a share of the index.
-pub record AreNew (passes nodes leaves : ℕ) (opened : List Opened) : Type 0 where
+-- an index can have so many passes and this stock
+abbrev pub IsStockSize : ℕ → Stock → Type 0
+IsStockSize passes stock = IsStockPassCount passes × IsRecordCount stock.nodes × IsRecordCount (leaves_of stock)
+
+-- New passes of one index, which has so many passes and such records, each at the place of its number, and with a share of the index.
+pub record AreNew (passes : ℕ) (HasRecords : Layout → Type 0) (opened : List Opened) : Type 0 where
   pub index : TableView
-  pub layout : (index.layout.passes ≡ passes) × (index.layout.nodes ≡ nodes) × (index.layout.leaves ≡ leaves)
+  pub layout : (index.layout.passes ≡ passes) × HasRecords index.layout
   pub count : length opened ≡ passes
   pub each : (q : ℕ) (o : Opened) → slice_get opened q ≡ Some o → (o.index.value ≡ index) × IsNewPass q o.pass
 
--- the handles are open, on one new index, each with the pass of its place
+-- the handles are open, on one new index with such records, each with the pass of its place
+abbrev pub HaveOpenedOn : (Layout → Type 0) → List Handle → Type 0
+HaveOpenedOn HasRecords handles = (opened : List Opened) × (map (λ h. h.slot.opened) handles ≡ map Some opened) × AreNew (length handles) HasRecords opened
+
+-- so many nodes and leaves
+abbrev pub HasCounts : ℕ → ℕ → Layout → Type 0
+HasCounts nodes leaves layout = (layout.nodes ≡ nodes) × (layout.leaves ≡ leaves)
+
 abbrev pub HaveOpened : ℕ → ℕ → List Handle → Type 0
-HaveOpened nodes leaves handles = (opened : List Opened) × (map (λ h. h.slot.opened) handles ≡ map Some opened) × AreNew (length handles) nodes leaves opened
+HaveOpened nodes leaves = HaveOpenedOn (HasCounts nodes leaves)
+
+abbrev pub HaveOpenedStock : Stock → List Handle → Type 0
+HaveOpenedStock stock = HaveOpenedOn (λ layout. HasStock layout stock)

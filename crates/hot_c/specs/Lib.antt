@@ -4,3 +4,4 @@ pub mod Lending
 pub mod Statuses
 pub mod Pairs
 pub mod Calls
+pub mod Stocks

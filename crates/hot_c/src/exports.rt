@@ -4,16 +4,20 @@ ghost use Rattle.std.specs.Prelude.{◌≡◌, ◌≢◌, ◌⊎◌, IsSome, Non
 ghost use Rattle.hot_model.specs.declared.Call.TheVariants.{Get, Insert, Remove, Upsert};
 ghost use Rattle.rowex_writing.specs.Attempts.{call_of};
 ghost use Rattle.hot_c.specs.declared.opened.Opened.{Opened};
-ghost use Rattle.hot_c.specs.Calls.{Answers, AreClosed, HasGivenBack, HaveOpened, IsSize, Lists, StaysOpen};
+ghost use Rattle.hot_c.specs.Calls.{Answers, AreClosed, HasGivenBack, HaveOpened, HaveOpenedStock, IsSize, IsStockSize, Lists, StaysOpen};
+ghost use Rattle.hot_c.specs.Stocks.{TakesBytes, stock_in};
+ghost use Rattle.record_words.specs.Layout.{stock_for};
 
 use crate::handle::Handle;
-use crate::opening::{are_closed, make_passes, open_all};
+use crate::opening::{are_closed, make_passes, make_stocked, open_all};
 use crate::pairs::{Pair, write_pairs};
 use crate::status::{
     BUSY, CLOSED, DONE, FULL_LEAVES, FULL_NODES, KEY_TOO_LONG, NO_MEMORY, OPEN, OUT_OF_RANGE, tell,
 };
+use crate::stock::HotStock;
 use hot_index::IndexFault;
 use key_bits::Key;
+use record_words::{Layout, Stock};
 use rowex_writing::Ask;
 use std::alloc::Global;
 
@@ -39,6 +43,57 @@ pub extern "C" fn hot_create(alloc: Global, nodes: u32, leaves: u32, handles: &m
         }
         Err(IndexFault::Layout(_)) => OUT_OF_RANGE,
         Err(IndexFault::Memory) => NO_MEMORY,
+    }
+}
+
+/// Makes an empty index with this stock of records and a pass for each handle, and opens the handles, or none of them. All have to
+/// be closed.
+#[unsafe(no_mangle)]
+pub extern "C" fn hot_create_with(alloc: Global, stock: &HotStock, handles: &mut [Handle]) -> u32
+    ensures open { ¬ AreClosed handles.old → (result ≡ OPEN) × (handles.new ≡ handles.old) }
+    ensures range { AreClosed handles.old → ¬ IsStockSize (length handles.old) (stock_in stock.now) → (result ≡ OUT_OF_RANGE) × (handles.new ≡ handles.old) }
+    ensures made { AreClosed handles.old → IsStockSize (length handles.old) (stock_in stock.now) →
+        ((result ≡ DONE) × HaveOpenedStock (stock_in stock.now) handles.new) ⊎ ((result ≡ NO_MEMORY) × (handles.new ≡ handles.old)) }
+{
+    if !are_closed(handles) {
+        return OPEN;
+    }
+    let Ok(passes) = u32::try_from(handles.len()) else {
+        return OUT_OF_RANGE;
+    };
+    match make_stocked(alloc, passes, stock.stock()) {
+        Ok(passes) => {
+            open_all(handles, passes);
+            DONE
+        }
+        Err(IndexFault::Layout(_)) => OUT_OF_RANGE,
+        Err(IndexFault::Memory) => NO_MEMORY,
+    }
+}
+
+/// Writes a stock for so many keys at once of at most so many bytes each: `Stock::for_keys` says which.
+#[unsafe(no_mangle)]
+pub extern "C" fn hot_stock_for_keys(count: u32, longest: usize, stock: &mut HotStock)
+    ensures { stock_in stock.new ≡ stock_for count longest }
+{
+    stock.set(Stock::for_keys(count, longest));
+}
+
+/// Writes how many bytes the table of an index with this stock and so many handles takes.
+#[unsafe(no_mangle)]
+pub extern "C" fn hot_stock_bytes(stock: &HotStock, handles: usize, bytes: &mut usize) -> u32
+    ensures range { ¬ IsStockSize handles (stock_in stock.now) → (result ≡ OUT_OF_RANGE) × (bytes.new ≡ bytes.old) }
+    ensures done { IsStockSize handles (stock_in stock.now) → (result ≡ DONE) × TakesBytes handles (stock_in stock.now) bytes.new }
+{
+    let Ok(passes) = u32::try_from(handles) else {
+        return OUT_OF_RANGE;
+    };
+    match Layout::with_stock(passes, stock.stock()) {
+        Ok(layout) => {
+            *bytes = layout.bytes();
+            DONE
+        }
+        Err(_) => OUT_OF_RANGE,
     }
 }
 

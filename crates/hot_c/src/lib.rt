@@ -9,3 +9,4 @@ mod opening;
 mod pairs;
 mod slot;
 mod status;
+mod stock;

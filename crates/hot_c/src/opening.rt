@@ -2,11 +2,13 @@
 
 ghost use Rattle.std.specs.Prelude.{◌≡◌, ◌≢◌, ◌↔◌, ℕ, Err, IfErr, IfOk, IsErr, IsTrue, Some, length, map, slice_get};
 ghost use Rattle.hot_index.specs.Passes.{IsNewPass, Owns, PassView};
-ghost use Rattle.hot_c.specs.Calls.{AreClosed, AreNew, IsSize};
+ghost use Rattle.hot_c.specs.Calls.{AreClosed, AreNew, HasCounts, IsSize, IsStockSize};
+ghost use Rattle.record_words.specs.Layout.{HasStock};
 
 use crate::handle::Handle;
 use crate::opened::Opened;
-use hot_index::{Index, IndexFault, Pass, create};
+use hot_index::{Index, IndexFault, Pass, create, create_with};
+use record_words::Stock;
 use std::alloc::{AllocError, Global};
 use std::sync::Arc;
 
@@ -39,9 +41,23 @@ pub fn make_passes(
 ) -> Result<Vec<Box<Opened, Global>>, IndexFault>
     ensures size { IsSize passes nodes leaves → IfErr result (λ fault. fault ≡ IndexFault.Memory) }
     ensures range { ¬ IsSize passes nodes leaves → IsErr result × result ≢ Err IndexFault.Memory }
-    ensures made { IfOk result (λ made. AreNew passes nodes leaves (map (λ b. b.value) made.items)) }
+    ensures made { IfOk result (λ made. AreNew passes (HasCounts nodes leaves) (map (λ b. b.value) made.items)) }
 {
     let (index, passes) = create(alloc, passes, nodes, leaves)?;
+    share(alloc, index, passes).map_err(|_| IndexFault::Memory)
+}
+
+/// The passes of a new index with this stock, each with its share.
+pub fn make_stocked(
+    alloc: Global,
+    passes: u32,
+    stock: Stock,
+) -> Result<Vec<Box<Opened, Global>>, IndexFault>
+    ensures size { IsStockSize passes stock → IfErr result (λ fault. fault ≡ IndexFault.Memory) }
+    ensures range { ¬ IsStockSize passes stock → IsErr result × result ≢ Err IndexFault.Memory }
+    ensures made { IfOk result (λ made. AreNew passes (λ layout. HasStock layout stock) (map (λ b. b.value) made.items)) }
+{
+    let (index, passes) = create_with(alloc, passes, stock)?;
     share(alloc, index, passes).map_err(|_| IndexFault::Memory)
 }
 

@@ -1,7 +1,8 @@
 -- The handles are open on the new index.
 use Rattle.std.proofs.Common.{inl, refl}
+use Rattle.hot_c.specs.Calls.{HasCounts}
 use Rattle.hot_c.proofs.Shares.{have_opened}
 use Rattle.hot_c.proofs.exports.hot_create.Goals as goal
 
 pub returns-in-Ok-make_passes-clause-made : goal.returns-in-Ok-make_passes-clause-made
-returns-in-Ok-make_passes-clause-made c = λ closed size. inl (refl, have_opened _ c.args.nodes c.args.leaves c.open_all.new.handles c.in-Ok-make_passes.passes.items c.open_all.ensures c.in-Ok-make_passes.ensures.made)
+returns-in-Ok-make_passes-clause-made c = λ closed size. inl (refl, have_opened _ (HasCounts c.args.nodes c.args.leaves) c.open_all.new.handles c.in-Ok-make_passes.passes.items c.open_all.ensures c.in-Ok-make_passes.ensures.made)

@@ -1,0 +1,9 @@
+-- The handles are open on the new index.
+use Rattle.std.proofs.Common.{inl, refl}
+use Rattle.record_words.specs.Layout.{HasStock}
+use Rattle.hot_c.specs.Stocks.{stock_in}
+use Rattle.hot_c.proofs.Shares.{have_opened}
+use Rattle.hot_c.proofs.exports.hot_create_with.Goals as goal
+
+pub returns-in-Ok-make_stocked-clause-made : goal.returns-in-Ok-make_stocked-clause-made
+returns-in-Ok-make_stocked-clause-made c = λ closed size. inl (refl, have_opened _ (λ layout. HasStock layout (stock_in c.args.stock.now)) c.open_all.new.handles c.in-Ok-make_stocked.passes.items c.open_all.ensures c.in-Ok-make_stocked.ensures.made)

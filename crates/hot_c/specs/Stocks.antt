@@ -1,0 +1,18 @@
+-- A stock as a program in C tells it.
+use Rattle.std.specs.Prelude.{◌≡◌, ℕ, ◌*◌}
+use Rattle.record_words.specs.Layout.{HasStock, word_count}
+use Rattle.record_words.specs.declared.TheConstants.{WORD_BYTES}
+use Rattle.record_words.specs.declared.layout.Layout.{Layout}
+use Rattle.record_words.specs.declared.layout.Stock.{Stock}
+use Rattle.hot_c.specs.declared.stock.HotStock.{HotStock}
+
+-- the stock with the numbers of C's
+abbrev pub stock_in : HotStock → Stock
+stock_in it = record { nodes = it.nodes; short = it.short; medium = it.medium; large = it.large; wide = it.wide; long = it.long }
+
+-- the table of so many passes and this stock takes so many bytes
+pub record TakesBytes (passes : ℕ) (stock : Stock) (bytes : ℕ) : Type 0 where
+  pub layout : Layout
+  pub passes_are : layout.passes ≡ passes
+  pub stock_is : HasStock layout stock
+  pub bytes_are : bytes ≡ WORD_BYTES * word_count layout
