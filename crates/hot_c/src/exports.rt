@@ -62,8 +62,8 @@ pub extern "C" fn hot_create_with(alloc: Global, stock: &HotStock, handles: &mut
         return OUT_OF_RANGE;
     };
     match make_stocked(alloc, passes, stock.stock()) {
-        Ok(passes) => {
-            open_all(handles, passes);
+        Ok(stocked) => {
+            open_all(handles, stocked);
             DONE
         }
         Err(IndexFault::Layout(_)) => OUT_OF_RANGE,
