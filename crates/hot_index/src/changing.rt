@@ -49,7 +49,7 @@ fn tidy<G: Gate>(table: &HotTable, seat: &mut TableSeat, gate: &mut G, room: &mu
 {
     if room.limbo.is_due() {
         collect_small(table, seat, gate, &mut room.limbo);
-        room.spare_given();
+        room.spare_given(table.layout());
     }
 }
 
@@ -72,6 +72,7 @@ fn try_twice<G: Gate>(
         Err(TryFault::FullNodes | TryFault::FullLeaves) => {
             let round = collect_round(table, seat, gate);
             room.held_back = round.held_back;
+            room.pass_none_by();
             try_once(table, seat, gate, room, ask, key, value)
         }
         Err(TryFault::Busy) => Err(TryFault::Busy),

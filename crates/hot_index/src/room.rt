@@ -3,10 +3,10 @@
 use arrayvec::ArrayVec;
 use epochs::Limbo;
 use insert_cases::Step;
-use record_words::{LEAF_CLASSES, Layout};
+use record_words::{LEAF_CLASSES, Layout, LeafClass};
 use rowex_core::Rec;
 use rowex_reading::MOST_NODES;
-use rowex_writing::Build;
+use rowex_writing::{Build, Supply};
 use std::alloc::{AllocError, Global};
 
 /// The lists of a pass's scans and changes. They are wide: they are made once, with the pass, and each call uses them again.
@@ -33,32 +33,55 @@ impl Room {
     }
 
     /// Lets claims begin with what the last small round has given back.
-    pub fn spare_given(&mut self) {
+    pub fn spare_given(&mut self, layout: Layout) {
         for rec in self.limbo.given.as_slice() {
-            spare(&mut self.build, *rec);
+            match *rec {
+                Rec::Node(number) => self.build.nodes.give_back(number),
+                Rec::Leaf(number) => {
+                    let place = layout.class_of(number).place();
+                    let first = class_begin(layout, number);
+                    self.build.leaves[place].give_back(number.saturating_sub(first));
+                }
+            }
+        }
+    }
+
+    /// Lets claims pass no class of leaf records by, after a full round.
+    pub fn pass_none_by(&mut self) {
+        for place in 0..LEAF_CLASSES {
+            self.build.leaves[place].passed_by = 0;
         }
     }
 }
 
-/// Lets claims begin with this record, if there is a place for its number.
-fn spare(build: &mut Build, rec: Rec) {
-    match rec {
-        Rec::Node(number) if !build.spare_nodes.is_full() => build.spare_nodes.push(number),
-        Rec::Leaf(number) if !build.spare_leaves.is_full() => build.spare_leaves.push(number),
-        _ => {}
+/// The number of the first leaf record of the class of this one.
+fn class_begin(layout: Layout, number: u32) -> u32 {
+    match layout.class_of(number) {
+        LeafClass::Short => 0,
+        LeafClass::Medium => layout.medium_from,
+        LeafClass::Large => layout.large_from,
+        LeafClass::Wide => layout.wide_from,
+        LeafClass::Long => layout.long_from,
     }
 }
 
 /// A room with empty lists for the pass of this number. Its claims begin at the pass's own part of the records, so that
 /// passes begin apart.
 pub fn new_room(alloc: Global, layout: Layout, number: u16) -> Result<Box<Room>, AllocError> {
+    let part = |from: u32, upto: u32| {
+        Supply::begin_at(first_claim(number, layout.passes, upto.saturating_sub(from)))
+    };
     let build = Build {
         made: ArrayVec::new(),
         gone: ArrayVec::new(),
-        next_node: first_claim(number, layout.passes, layout.nodes),
-        next_leaves: first_leaves(number, layout),
-        spare_nodes: ArrayVec::new(),
-        spare_leaves: ArrayVec::new(),
+        nodes: part(0, layout.nodes),
+        leaves: [
+            part(0, layout.medium_from),
+            part(layout.medium_from, layout.large_from),
+            part(layout.large_from, layout.wide_from),
+            part(layout.wide_from, layout.long_from),
+            part(layout.long_from, layout.leaves),
+        ],
     };
     let room = Room {
         way: ArrayVec::new(),
@@ -67,20 +90,6 @@ pub fn new_room(alloc: Global, layout: Layout, number: u16) -> Result<Box<Room>,
         held_back: false,
     };
     Ok(Box::new(alloc, room)?)
-}
-
-/// Where the claims of leaf records of the pass of this number begin, in each class.
-fn first_leaves(number: u16, layout: Layout) -> [u32; LEAF_CLASSES] {
-    let begin = |from: u32, upto: u32| {
-        from.saturating_add(first_claim(number, layout.passes, upto.saturating_sub(from)))
-    };
-    [
-        begin(0, layout.medium_from),
-        begin(layout.medium_from, layout.large_from),
-        begin(layout.large_from, layout.wide_from),
-        begin(layout.wide_from, layout.long_from),
-        begin(layout.long_from, layout.leaves),
-    ]
 }
 
 /// Where the claims of the pass of this number begin, of so many passes and records.

@@ -10,7 +10,7 @@ use Rattle.insert_cases.specs.declared.choice.Step.{Step}
 use Rattle.record_words.specs.declared.layout.Layout.{Layout}
 use Rattle.tries.specs.Keys.{Key}
 use Rattle.moments.specs.declared.Rec.{Rec}
-use Rattle.moments.specs.declared.Rec.TheVariants.{Node as a_node}
+use Rattle.moments.specs.declared.Rec.TheVariants.{Node as a_node, Leaf as a_leaf}
 use Rattle.moments.specs.Core.{Fate, Free}
 use Rattle.moments.specs.Trades.{IsOf, AreApart}
 use Rattle.moments.proofs.Members.{all_of, map_of, of_map, of_append, apart_push}

@@ -13,8 +13,8 @@ level_steps layout = NODE_FIELDS + 2 * node_steps layout
 
 -- a change, once its nodes are locked and checked: a leaf's record, those of at most 2,161 nodes made anew, and the end
 abbrev pub change_steps : Layout → ℕ
-change_steps layout = 390000 + 2 * layout.leaves + 8644 * layout.nodes
+change_steps layout = 390000 + 4 * layout.leaves + 8644 * layout.nodes
 
 -- an attempt: the search, the locks and the check of its way, and the change
 abbrev pub attempt_steps : Layout → ℕ
-attempt_steps layout = 460000 + 2 * layout.leaves + 8644 * layout.nodes
+attempt_steps layout = 460000 + 4 * layout.leaves + 8644 * layout.nodes

@@ -2,6 +2,7 @@
 pub mod Plans
 pub mod Remaking
 pub mod Going
+pub mod Classes
 pub mod Building
 pub mod Locks
 pub mod Retiring

@@ -20,9 +20,10 @@ ghost use Rattle.rowex_core.specs.Reading.{node_of};
 ghost use Rattle.rowex_walks.specs.Rise.{entry};
 ghost use Rattle.rowex_writing.specs.Counts.{level_steps, node_steps};
 
-use crate::claims::{MOST_SPARE, claim_next};
+use crate::claims::claim_next;
 use crate::locked::read_locked;
 use crate::remaking::{add_leaf, full_with_leaf, pair_with_leaf, with_fork, without_leaf};
+use crate::supply::Supply;
 use arrayvec::ArrayVec;
 use compound_node::{Entry, Half, Node};
 use insert_cases::{Grown, Risen, Step};
@@ -45,14 +46,10 @@ pub struct Build {
     pub made: ArrayVec<Rec, MOST_MADE>,
     /// The records that the change unlinks, as it lists them.
     pub gone: ArrayVec<Rec, MOST_GONE>,
-    /// The number after that of the node record that was claimed last, but for spare ones.
-    pub next_node: u32,
-    /// For each class the number after that of the leaf record that was claimed last, but for spare ones.
-    pub next_leaves: [u32; LEAF_CLASSES],
-    /// Numbers of node records that the pass has given back: claims begin with these.
-    pub spare_nodes: ArrayVec<u32, MOST_SPARE>,
-    /// Numbers of leaf records that the pass has given back: claims begin with these.
-    pub spare_leaves: ArrayVec<u32, MOST_SPARE>,
+    /// Where claims of node records begin.
+    pub nodes: Supply,
+    /// Where claims of leaf records begin, for each class, the smallest first.
+    pub leaves: [Supply; LEAF_CLASSES],
 }
 
 /// Makes a record for a node; answers its entry, or nothing where no node record was free.
@@ -73,14 +70,7 @@ fn make_node<G: Gate>(
     ensures more { length build.new.made.items ≤ length build.old.made.items + 1 }
     ensures few { seat.new.known.steps ≤ seat.old.known.steps + node_steps table.now.layout }
 {
-    let number = claim_next(
-        table,
-        seat,
-        gate,
-        RecordKind::Node,
-        &mut build.spare_nodes,
-        &mut build.next_node,
-    )?;
+    let number = claim_next(table, seat, gate, RecordKind::Node, &mut build.nodes)?;
     fill_node(table, seat, gate, number, node);
     build.made.push(Rec::Node(number));
     Some(Entry::Node {

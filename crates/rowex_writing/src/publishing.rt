@@ -54,17 +54,10 @@ pub fn make_leaf<G: Gate>(
     ensures made { MatchOption result
         ((seat.new.known.own ≡ []) × AllMissedFrom table.now.layout (words_for (length key.now)) seat.new.known.failed seat.old.known.steps)
         (λ n. IsBuilding table.now seat.new build.new.made.items (of_leaf (item n key.now value) ∷ [])) }
-    ensures few { seat.new.known.steps ≤ seat.old.known.steps + 2 * table.now.layout.leaves + 2 + 2 * LEAF_FIELDS }
+    ensures few { seat.new.known.steps ≤ seat.old.known.steps + 4 * table.now.layout.leaves + 2 * LEAF_FIELDS }
 {
     build.made.clear();
-    let number = claim_leaf(
-        table,
-        seat,
-        gate,
-        words_for(key),
-        &mut build.spare_leaves,
-        &mut build.next_leaves,
-    )?;
+    let number = claim_leaf(table, seat, gate, words_for(key), &mut build.leaves)?;
     fill_leaf(table, seat, gate, number, key, value);
     build.made.push(Rec::Leaf(number));
     Some(number)

@@ -6,8 +6,8 @@ use Rattle.rowex_writing.proofs.Locking.{goes_more, seat_of}
 use Rattle.rowex_writing.proofs.Making.{none_on, claim_on, steps_rise}
 use Rattle.rowex_writing.proofs.claims.claim_next.Goals as goal
 
-pub claim_record-requires : goal.claim_record-requires
-claim_record-requires g c = record { own = seat_of c.args.table.now g.G.Gate.becomes (c.args.seat.now, c.args.gate.now) (c.claim_spare.new.seat, c.claim_spare.new.gate) c.claim_spare.ensures.goes c.requires.own }
+pub claim_record-requires-clause-own : goal.claim_record-requires-clause-own
+claim_record-requires-clause-own g c = seat_of c.args.table.now g.G.Gate.becomes (c.args.seat.now, c.args.gate.now) (c.claim_spare.new.seat, c.claim_spare.new.gate) c.claim_spare.ensures.goes c.requires.own
 
 pub returns-in_err-number-clause-goes : goal.returns-in_err-number-clause-goes
 returns-in_err-number-clause-goes g c =

@@ -180,6 +180,14 @@ publish_change-requires-clause-kept g c =
     subst (λ z. AreKept (nodes_of k.locks) z (numbers_of c.node_above-above.result.now) × AreApart (numbers_of c.node_above-above.result.now)) (sym c.clear.ensures)
     (all_kept k (numbers_of c.node_above-above.result.now) [] (λ n h. h) (subst (λ z. HasJustLocked k (numbers_of z)) (sym c.node_above-above.ensures) (above_locked c.args.table.now c.args.seat.now m c.args.key.now c.args.way.now c.args.found c.args.span t same k goes.stays.1)))
 
+pub publish_change-requires-clause-anchored : goal.publish_change-requires-clause-anchored
+publish_change-requires-clause-anchored g c =
+    let (m, ask, t, planned) = c.requires.taken in
+    let here = pair_here c.args.seat.now.known m c.args.key.now c.args.way.now ask c.args.found c.args.span c.args.position planned c.in-Leaf.old _ _ c.in-Leaf.is in
+    let (same, upto) = pair_len c.args.seat.now.known m c.args.key.now c.args.way.now c.args.found c.args.span c.in-Leaf.old c.args.position here in
+    let goes = goes_more c.args.table.now g.G.Gate.becomes (c.args.seat.now, c.args.gate.now) (c.make_leaf.new.seat, c.make_leaf.new.gate) (c.raise_pair.new.seat, c.raise_pair.new.gate) c.make_leaf.ensures.goes c.raise_pair.ensures.goes in
+    above_anchor c.args.table.now c.args.seat.now m c.args.key.now c.args.way.now c.args.found c.args.span t same c.raise_pair.new.seat.known goes.stays.2
+
 pub returns-clause-run : goal.returns-clause-run
 returns-clause-run g c =
     let goes = goes_more c.args.table.now g.G.Gate.becomes (c.args.seat.now, c.args.gate.now) (c.make_leaf.new.seat, c.make_leaf.new.gate) (c.raise_pair.new.seat, c.raise_pair.new.gate) c.make_leaf.ensures.goes c.raise_pair.ensures.goes in

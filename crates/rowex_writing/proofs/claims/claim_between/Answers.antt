@@ -1,0 +1,33 @@
+-- No class yet; one more in which no record is free; and one in which one is.
+use Rattle.std.proofs.Common.{arith, ◌∙◌}
+use Rattle.rowex_records.specs.Claims.{record_of}
+use Rattle.rowex_records.proofs.Claimed.{more_since}
+use Rattle.rowex_writing.proofs.Classes.{missed_more}
+use Rattle.rowex_writing.proofs.Locking.{goes_more, seat_of}
+use Rattle.rowex_writing.proofs.Making.{steps_rise}
+use Rattle.rowex_writing.proofs.claims.claim_between.Goals as goal
+
+pub claim_next-requires-clause-own : goal.claim_next-requires-clause-own
+claim_next-requires-clause-own g c = seat_of c.args.table.now g.G.Gate.becomes (c.args.seat.now, c.args.gate.now) (c.loop-first.seat, c.loop-first.gate) c.loop-first.invariant.goes c.requires.own
+
+pub returns-in-Some-clause-goes : goal.returns-in-Some-clause-goes
+returns-in-Some-clause-goes g c = goes_more c.args.table.now g.G.Gate.becomes _ _ _ c.loop-first.invariant.goes c.claim_next.ensures.goes
+
+pub loop-first-preserved : goal.loop-first-preserved
+loop-first-preserved g c =
+    let table = c.args.table.now in
+    let i = c.loop-first.invariant in
+    let goes = c.claim_next.ensures.goes in
+    let rises = steps_rise table g.G.Gate.becomes goes.acts (c.loop-first.seat, c.loop-first.gate) (c.claim_next.new.seat, c.claim_next.new.gate) goes.steps in
+    record {
+      within = (omega (arith, i.within.0, c.class_end.ensures.upto.0, c.loop-first-test.true, c.min-end.ensures), omega (arith, c.min-end.ensures));
+      goes = goes_more table g.G.Gate.becomes _ _ _ i.goes goes;
+      own = c.in_default.ensures.claims.0 ∙ i.own;
+      missed = missed_more table g.G.Gate.becomes c.args.from c.loop-first.first c.min-end.result c.args.seat.now.known.steps (c.loop-first.seat, c.loop-first.gate) (c.claim_next.new.seat, c.claim_next.new.gate)
+          i.later goes i.missed c.in_default.ensures.claims.1;
+      count = omega (arith, i.within.0, i.count, c.claim_next.ensures.few, c.class_end.ensures.upto.0, c.loop-first-test.true, c.min-end.ensures);
+      later = omega (arith, rises, i.later);
+    }
+
+pub returns-clause-few : goal.returns-clause-few
+returns-clause-few g c = omega (arith, c.loop-first.invariant.count, c.loop-first.invariant.within.0, c.loop-first.invariant.within.1)

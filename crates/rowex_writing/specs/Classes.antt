@@ -1,0 +1,9 @@
+-- Claims of leaf records of one class after the other.
+use Rattle.std.specs.Prelude.{ℕ, ◌<◌, ◌≤◌, List}
+use Rattle.moments.specs.declared.Rec.TheVariants.{Leaf as a_leaf}
+use Rattle.rowex_core.specs.declared.known.Failed.{Failed}
+use Rattle.rowex_records.specs.Claims.{HasMissedSince}
+
+-- each leaf record from one number on and below another was found not free by one of these, at this step or a later one
+abbrev pub AllMissedBetween : ℕ → ℕ → List Failed → ℕ → Type 0
+AllMissedBetween from upto failed since = (q : ℕ) → from ≤ q → q < upto → HasMissedSince failed (a_leaf q) since
