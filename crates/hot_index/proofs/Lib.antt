@@ -4,5 +4,6 @@ pub mod Noting
 pub mod Scanned
 pub mod Collected
 pub mod Trying
+pub mod Resting
 pub mod Making
 pub mod Meets

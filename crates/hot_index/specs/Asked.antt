@@ -1,16 +1,17 @@
 -- What a call that may change the map leaves, on the seat of its pass.
-use Rattle.std.specs.Prelude.{ℕ, ◌+◌, ◌≤◌, List, Result, Ok, Err, IfOk, IfErr}
+use Rattle.std.specs.Prelude.{◌≡◌, ℕ, ◌+◌, ◌≤◌, List, Result, Ok, Err, IfOk, IfErr}
 use Rattle.hot_model.specs.declared.Call.{Call}
 use Rattle.hot_model.specs.declared.Reply.{Reply}
 use Rattle.rowex_core.specs.declared.event.Act.{Act}
 use Rattle.rowex_core.specs.declared.event.Event.{Event}
+use Rattle.rowex_table.specs.Runs.{silent}
 use Rattle.rowex_table.specs.Seats.{TableView, SeatView, IsSeatOf}
 use Rattle.rowex_writing.specs.declared.attempts.TryFault.{TryFault}
 use Rattle.rowex_writing.specs.declared.plan.Full.{Full}
-use Rattle.hot_index.specs.Answers.{IsNoted, IsRefused, fault_of}
+use Rattle.hot_index.specs.Answers.{IsNoted, IsRefused, IsUnnoted, fault_of}
 use Rattle.hot_index.specs.Noting.{notes_of}
 use Rattle.hot_index.specs.Passes.{IsSettled, pass_of}
-use Rattle.hot_index.specs.Traces.{HasEnded}
+use Rattle.hot_index.specs.Traces.{HasEnded, IsAttempt}
 
 -- the seat is one of the table's, and its pass is between two calls
 abbrev pub IsIdle : TableView → SeatView → Type 0
@@ -29,6 +30,14 @@ pub record HasAsked {G : Type 0} (table : TableView) (becomes : G → Event → 
   pub ended : HasEnded table becomes Are (notes_of call result) a b
   pub later : a.0.known.steps ≤ b.0.known.steps
   pub few : b.0.known.steps ≤ a.0.known.steps + most
+
+-- An attempt that does nothing: the pass pins itself and clears the pin, and is as it was.
+pub record HasRested {G : Type 0} (table : TableView) (becomes : G → Event → G → Type 0) (a b : SeatView × G) : Type 0 where
+  pub idle : IsIdle table b.0
+  pub unnoted : IsUnnoted table.layout (pass_of a.0) (pass_of b.0)
+  pub failed : b.0.known.failed ≡ a.0.known.failed
+  pub ended : HasEnded table becomes IsAttempt silent a b
+  pub steps : b.0.known.steps ≡ a.0.known.steps + 3
 
 -- a call that waits for others ends as its last try
 abbrev pub last_try : Result Reply Full → Result Reply TryFault

@@ -1,6 +1,6 @@
 //! A call that may change the index, on the seat of a pass and with its room: its attempts, and what is noted of them.
 
-ghost use Rattle.std.specs.Prelude.{◌≡◌, ◌≢◌, List, Err, IfSome, IsSome};
+ghost use Rattle.std.specs.Prelude.{◌≡◌, ◌≢◌, List, Err, None, IfSome, IsSome, false};
 ghost use Rattle.hot_model.specs.declared.Note.{Note};
 ghost use Rattle.rowex_core.specs.declared.event.Act.TheVariants.{ClearPin};
 ghost use Rattle.rowex_core.specs.declared.known.Known.{Known};
@@ -8,13 +8,13 @@ ghost use Rattle.rowex_table.specs.Runs.{StepsWith};
 ghost use Rattle.rowex_table.specs.Seats.{IsPassOf};
 ghost use Rattle.rowex_writing.specs.Attempts.{call_of};
 ghost use Rattle.hot_index.specs.Answers.{fault_of};
-ghost use Rattle.hot_index.specs.Asked.{HasAsked, HasReplied, IsIdle, last_try};
+ghost use Rattle.hot_index.specs.Asked.{HasAsked, HasReplied, HasRested, IsIdle, last_try};
 ghost use Rattle.hot_index.specs.Counts.{once_steps, try_steps, twice_steps};
 ghost use Rattle.hot_index.specs.Noting.{notes_of};
-ghost use Rattle.hot_index.specs.Traces.{AreAttempts, AreTries, HasStepped, IsAttempt, Tidies};
+ghost use Rattle.hot_index.specs.Traces.{AreAttempts, AreTries, HasStepped, IsAttempt, Tidies, is_full};
 
 use crate::room::Room;
-use epochs::{collect_round, collect_small, pin, unpin};
+use epochs::{Given, collect_round, collect_small, pin, unpin};
 use hot_model::Reply;
 use key_bits::Key;
 use rowex_core::Gate;
@@ -54,7 +54,7 @@ fn tidy<G: Gate>(table: &HotTable, seat: &mut TableSeat, gate: &mut G, room: &mu
 }
 
 /// Asks for a change, at most twice: where no record was free, it makes a round of collection before it tries again, and that
-/// answer stands.
+/// answer stands. Where the round gave back none of the kind, the second attempt does nothing, and is refused as the first was.
 fn try_twice<G: Gate>(
     table: &HotTable,
     seat: &mut TableSeat,
@@ -68,16 +68,47 @@ fn try_twice<G: Gate>(
     ensures asked { HasAsked table.now G.becomes (AreTries table.now.layout result) (twice_steps table.now.layout) (call_of ask key.now value) result (seat.old, gate.old) (seat.new, gate.new) }
     ensures leafless { ask ≡ Ask.Remove → result ≢ Err TryFault.FullLeaves }
 {
-    match try_once(table, seat, gate, room, ask, key, value) {
-        Err(TryFault::FullNodes | TryFault::FullLeaves) => {
-            let round = collect_round(table, seat, gate);
-            room.held_back = round.held_back;
-            room.pass_none_by();
-            try_once(table, seat, gate, room, ask, key, value)
-        }
-        Err(TryFault::Busy) => Err(TryFault::Busy),
-        Ok(reply) => Ok(reply),
+    let first = try_once(table, seat, gate, room, ask, key, value);
+    let Some(lacks) = lacked(first) else {
+        return first;
+    };
+    let round = collect_round(table, seat, gate);
+    room.held_back = round.held_back;
+    room.pass_none_by();
+    if has_given(round.given, lacks) {
+        return try_once(table, seat, gate, room, ask, key, value);
     }
+    refuse_again(table, seat, gate);
+    first
+}
+
+/// The kind of records that a call was refused for, if it was refused as full.
+fn lacked(answer: Result<Reply, TryFault>) -> Option<Full>
+    ensures some { IfSome result (λ full. answer ≡ Err (fault_of full)) }
+    ensures none { result ≡ None → is_full answer ≡ false }
+{
+    match answer {
+        Err(TryFault::FullNodes) => Some(Full::Nodes),
+        Err(TryFault::FullLeaves) => Some(Full::Leaves),
+        Ok(_) | Err(TryFault::Busy) => None,
+    }
+}
+
+/// Whether a round gave back records of this kind.
+fn has_given(given: Given, kind: Full) -> bool {
+    match kind {
+        Full::Nodes => given.nodes > 0,
+        Full::Leaves => given.leaves > 0,
+    }
+}
+
+/// Makes an attempt that does nothing: it pins the pass and clears the pin.
+fn refuse_again<G: Gate>(table: &HotTable, seat: &mut TableSeat, gate: &mut G)
+    requires idle { IsIdle table.now seat.old }
+    ensures rested { HasRested table.now G.becomes (seat.old, gate.old) (seat.new, gate.new) }
+{
+    pin(table, seat, gate);
+    unpin(table, seat, gate);
 }
 
 /// Asks for a change until no other pass stands in its way, or holds back the records that it lacks.

@@ -35,14 +35,7 @@ impl Room {
     /// Lets claims begin with what the last small round has given back.
     pub fn spare_given(&mut self, layout: Layout) {
         for rec in self.limbo.given.as_slice() {
-            match *rec {
-                Rec::Node(number) => self.build.nodes.give_back(number),
-                Rec::Leaf(number) => {
-                    let place = layout.class_of(number).place();
-                    let first = class_begin(layout, number);
-                    self.build.leaves[place].give_back(number.saturating_sub(first));
-                }
-            }
+            give_back(&mut self.build, layout, *rec);
         }
     }
 
@@ -50,6 +43,18 @@ impl Room {
     pub fn pass_none_by(&mut self) {
         for place in 0..LEAF_CLASSES {
             self.build.leaves[place].passed_by = 0;
+        }
+    }
+}
+
+/// Lets claims begin with this record.
+fn give_back(build: &mut Build, layout: Layout, rec: Rec) {
+    match rec {
+        Rec::Node(number) => build.nodes.give_back(number),
+        Rec::Leaf(number) => {
+            let place = layout.class_of(number).place();
+            let first = class_begin(layout, number);
+            build.leaves[place].give_back(number.saturating_sub(first));
         }
     }
 }

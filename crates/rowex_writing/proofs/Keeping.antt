@@ -81,7 +81,8 @@ failed_on layout k j (LoadState r w) x e h = subst (λ (z : Known). Contains z.f
 failed_on layout k j act x e h = subst (λ z. Contains z x) (sym ((act_leaves layout k j act e).failed tt)) h
 
 module _ {G : Type 0} (table : TableView) (becomes : G → Event → G → Type 0) where
-  run_failed : (acts : List Act) (a b : SeatView × G) → Runs table becomes acts a b → (x : Failed) → Contains a.0.known.failed x → Contains b.0.known.failed x
+  -- a failed step stays one
+  pub run_failed : (acts : List Act) (a b : SeatView × G) → Runs table becomes acts a b → (x : Failed) → Contains a.0.known.failed x → Contains b.0.known.failed x
   run_failed [] a b is x h = subst (λ (z : SeatView × G). Contains z.0.known.failed x) (sym is) h
   run_failed (act ∷ acts) a b (m, s, rest) x h = run_failed acts m b rest x (failed_on table.layout a.0.known m.0.known act x s.event h)
 
