@@ -7,3 +7,4 @@ pub mod Trying
 pub mod Resting
 pub mod Making
 pub mod Meets
+pub mod Longs

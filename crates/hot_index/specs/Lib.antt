@@ -5,3 +5,4 @@ pub mod Noting
 pub mod Traces
 pub mod Counts
 pub mod Asked
+pub mod Statements

@@ -86,14 +86,15 @@ impl Pass {
 }
 
 /// Makes an empty index with so many passes (1 to 64), node records (1 to 65,535) and leaf records (1 to 262,143), and its
-/// passes, in the order of their numbers from 0 on. The numbers are tested first, in this order.
+/// passes, in the order of their numbers from 0 on. The numbers are tested first, in this order. All leaf records are long, so
+/// a call that lacks one has found each of them taken (`laws::lacks_all_long`).
 pub fn create(
     alloc: Global,
     passes: u32,
     nodes: u32,
     leaves: u32,
 ) -> Result<(Index, Vec<Pass>), IndexFault>
-    ensures layout { IfOk result (λ made. (made.0.layout.passes ≡ passes) × (made.0.layout.nodes ≡ nodes) × (made.0.layout.leaves ≡ leaves)) }
+    ensures layout { IfOk result (λ made. (made.0.layout.passes ≡ passes) × (made.0.layout.nodes ≡ nodes) × (made.0.layout.leaves ≡ leaves) × (made.0.layout.long_from ≡ 0)) }
     ensures count { IfOk result (λ made. length made.1.items ≡ passes) }
     ensures each { IfOk result (λ made. (q : ℕ) (p : PassView) → slice_get made.1.items q ≡ Some p → Owns made.0 p × IsNewPass q p) }
     ensures passes { (result ≡ Err (IndexFault.Layout LayoutFault.Passes)) ↔ ¬ IsPassCount passes }
@@ -152,8 +153,8 @@ impl Index {
 
     /// Gives a key a value if it is absent: `Inserted`, or `Exists` with the value that it has, which stays.
     ///
-    /// It waits for nobody: it makes at most 920,268 atomic steps, two more for each pass, 17,290 for each node record and 6 for
-    /// each leaf record. It is refused as `Busy` where another pass holds what it wants to lock, or has made a change since the
+    /// It waits for nobody: it makes at most 920,268 atomic steps, two more for each pass, 17,290 for each node record and 10
+    /// for each leaf record. It is refused as `Busy` where another pass holds what it wants to lock, or has made a change since the
     /// call began; and as full where each record of a kind was taken when it asked for one, also after a round of collection.
     /// Refused, it has changed nothing, and it holds no lock and no record.
     pub fn try_insert(&self, pass: &mut Pass, key: &Key, value: u64) -> Result<Reply, TryFault>

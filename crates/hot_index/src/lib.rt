@@ -4,6 +4,7 @@
 
 mod changing;
 mod index;
+pub mod laws;
 mod room;
 
 pub use epochs::Given;
