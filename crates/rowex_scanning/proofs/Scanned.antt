@@ -34,8 +34,8 @@ lawful_scan k g scan layout said j kf ku p pin h event =
     go : (more : Bool) → scan.more ≡ more → IsAnswer (seen event.core k) (since k) g h.taken scan.more →
         IsLawfulScan k.fresh.front (k.fresh.front ++ event.knows.seen.fresh.0) g.from g.upto g.limit scan
     go false e answer =
-        complete_lawful (seen event.core k) k.fresh.front event.knows.seen.fresh.0 p.moment steady told g kf ku h.taken scan h.pairs e
+        complete_lawful (seen event.core k) k.fresh.front event.knows.seen.fresh.0 p.moment steady told g kf ku h.taken scan h.pairs_are e
         (subst (λ z. IsAnswer (seen event.core k) (since k) g h.taken z) e answer)
     go true e answer =
-        cut_lawful (seen event.core k) k.fresh.front event.knows.seen.fresh.0 p.moment steady told g kf ku h.taken scan h.pairs e
+        cut_lawful (seen event.core k) k.fresh.front event.knows.seen.fresh.0 p.moment steady told g kf ku h.taken scan h.pairs_are e
         (subst (λ z. IsAnswer (seen event.core k) (since k) g h.taken z) e answer)

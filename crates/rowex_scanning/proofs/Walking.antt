@@ -12,7 +12,6 @@ use Rattle.std.specs.declared.cmp.Ordering.TheVariants.{Less, Equal, Greater}
 use Rattle.key_bits.specs.Bits.{bit_of, IsFirstDifference}
 use Rattle.key_bits.specs.Key.{IsKey}
 use Rattle.key_bits.proofs.Order.{first_difference, greater_by_first, less_iff_first}
-use Rattle.hot_model.specs.declared.Scan.{Scan}
 use Rattle.compound_node.specs.Nodes.{HeadView, IsLawful as IsLawfulNode, height_of, node_of, leaves}
 use Rattle.compound_node.specs.declared.entries.Entry.{Entry}
 use Rattle.compound_node.specs.declared.entries.Entry.TheVariants.{Leaf, Node}
@@ -34,7 +33,7 @@ use Rattle.rowex_scanning.specs.declared.scanning.Verdict.{Verdict}
 use Rattle.rowex_scanning.specs.declared.scanning.Verdict.TheVariants.{Further, Past as IsPast, Full}
 use Rattle.rowex_reading.specs.Seen.{seen, Sure, IsAtRoot, IsLedTo, HasPlace, since, shape_of}
 use Rattle.rowex_table.specs.Made.{IsLater}
-use Rattle.rowex_scanning.specs.Scanning.{HasScanned, IsAnswer, IsLeafTaken, IsNotBelow, IsPairTaken, frame, frames_of, IsEntered, AreInside, AreOver, IsFloor, IsWalk}
+use Rattle.rowex_scanning.specs.Scanning.{HasListed, IsAnswer, IsLeafTaken, IsNotBelow, IsPairTaken, frame, frames_of, IsEntered, AreInside, AreOver, IsFloor, IsWalk}
 use Rattle.rowex_scanning.specs.Counts.{scan_loads, walk_loads}
 use Rattle.rowex_core.proofs.Owning.{recalls}
 use Rattle.rowex_walks.proofs.Starts.{over_on, over_later, over_down}
@@ -297,21 +296,21 @@ module _ {k j : Known} {m : ℕ} {g : Range} {top : Step} {frames : List Step} {
   pub taken_more : verdict ≡ Further → length more ≡ length pairs + 1
   taken_more is = ap length (taken is).2 ∙ length-append pairs ((t.key, t.value) ∷ [])
 
-  module _ (e : since j ≡ m) (scan : Scan) (same : scan.pairs.items ≡ more) where
-    ends : (b : Bool) → scan.more ≡ b → more ≡ pairs → Sure j (λ s. IsAnswer s m g a.walk.taken b) → HasScanned j g scan
-    ends b is stay answer = record {
+  module _ (e : since j ≡ m) where
+    ends : (b : Bool) → more ≡ pairs → Sure j (λ s. IsAnswer s m g a.walk.taken b) → HasListed j g more b
+    ends b stay answer = record {
       taken = a.walk.taken;
-      pairs = same ∙ (stay ∙ a.walk.pairs_are);
-      answer = subst (λ z. Sure j (λ s. IsAnswer s z g a.walk.taken scan.more)) (sym e) (subst (λ z. Sure j (λ s. IsAnswer s m g a.walk.taken z)) (sym is) answer);
+      pairs_are = stay ∙ a.walk.pairs_are;
+      answer = subst (λ z. Sure j (λ s. IsAnswer s z g a.walk.taken b)) (sym e) answer;
     }
 
-    pub walk_past : verdict ≡ IsPast → scan.more ≡ false → HasScanned j g scan
-    walk_past is last = let (high, stay) = taken is in ends false last stay (λ c lawful recalls.
+    pub walk_past : verdict ≡ IsPast → HasListed j g more false
+    walk_past is = let (high, stay) = taken is in ends false stay (λ c lawful recalls.
         scan_past (seen c j) m (steady a l c lawful recalls) g a.walk.lowest a.walk.others a.walk.taken (scan_later a.walk l c lawful recalls) number t.key t.value
         (there a l c lawful recalls) (read c lawful recalls) high)
 
-    pub walk_full : verdict ≡ Full → scan.more ≡ true → HasScanned j g scan
-    walk_full is further = let (within, full, stay) = taken is in ends true further stay (λ c lawful recalls.
+    pub walk_full : verdict ≡ Full → HasListed j g more true
+    walk_full is = let (within, full, stay) = taken is in ends true stay (λ c lawful recalls.
         scan_cut (seen c j) m (steady a l c lawful recalls) g a.walk.lowest a.walk.others a.walk.taken (scan_later a.walk l c lawful recalls) number t.key t.value
         (there a l c lawful recalls) (read c lawful recalls) within (sym (length_turned a.walk.taken) ∙ (sym (ap length a.walk.pairs_are) ∙ full)))
 
@@ -377,14 +376,14 @@ module _ {k : Known} {m : ℕ} {g : Range} {top : Step} {frames : List Step} {pa
       let before : rest_of (record lower { at = lower.at + 1 }) rest ≡ remaining (next b.stage ∷ b.stages) = whole_is (next b.stage) b.stages (at_next b.stage b.below_is) b.rest_are in
       subst (λ z. z < rest_of top frames) (sym before) (subst (λ z. remaining (next b.stage ∷ b.stages) < z) (sym after) less)
 
-  pub walk_end : frames ≡ [] → top.count ≤ top.at → since k ≡ m → (scan : Scan) → scan.pairs.items ≡ pairs → scan.more ≡ false → HasScanned k g scan
-  walk_end none done e scan same more = record {
+  pub walk_end : frames ≡ [] → top.count ≤ top.at → since k ≡ m → HasListed k g pairs false
+  walk_end none done e = record {
     taken = w.taken;
-    pairs = same ∙ w.pairs_are;
-    answer = subst (λ z. Sure k (λ s. IsAnswer s z g w.taken scan.more)) (sym e) (subst (λ z. Sure k (λ s. IsAnswer s m g w.taken z)) (sym more) (λ c lawful recalls.
+    pairs_are = w.pairs_are;
+    answer = subst (λ z. Sure k (λ s. IsAnswer s z g w.taken false)) (sym e) (λ c lawful recalls.
         scan_end (seen c k) m (seen_steady lawful recalls w.pinned) g w.lowest w.taken
         (subst (λ z. IsScan (seen c k) m g (w.lowest ∷ z) w.taken) (no_stages w.others (sym w.frames_are ∙ none)) (w.scan c lawful recalls))
-        (subst (λ (z : Step). z.count ≤ z.at) w.top_is done)));
+        (subst (λ (z : Step). z.count ≤ z.at) w.top_is done));
   }
     where
       no_stages : (fs : List Stage) → frames_of fs ≡ [] → fs ≡ []
@@ -559,59 +558,60 @@ none_popped {frames} some is = empty_is frames (⊎_elim (λ lt. absurd (let z :
 -- Scans without a walk
 
 -- the root is None
-pub blank_scanned : {k : Known} (g : Range) (scan : Scan) → Sure k (λ s. IsBlank s (since k)) → scan.pairs.items ≡ [] → scan.more ≡ false → HasScanned k g scan
-blank_scanned {k} g scan blank none more = record {
-  taken = [];
-  pairs = none;
-  answer = subst (λ z. Sure k (λ s. IsAnswer s (since k) g [] z)) (sym more) (λ c lawful recalls. scan_blank (seen c k) (since k) g (blank c lawful recalls));
-}
+pub blank_listed : {k : Known} (g : Range) {pairs : List (Key × ℕ)} → pairs ≡ [] → Sure k (λ s. IsBlank s (since k)) → HasListed k g pairs false
+blank_listed {k} g none blank = record { taken = []; pairs_are = none; answer = λ c lawful recalls. scan_blank (seen c k) (since k) g (blank c lawful recalls) }
 
 -- nothing is between the keys
-pub nothing_scanned : {k : Known} (g : Range) (scan : Scan) → IsBefore g.upto g.from → scan.pairs.items ≡ [] → scan.more ≡ false → HasScanned k g scan
-nothing_scanned {k} g scan before none more = record {
+pub nothing_listed : {k : Known} (g : Range) {pairs : List (Key × ℕ)} → pairs ≡ [] → IsBefore g.upto g.from → HasListed k g pairs false
+nothing_listed {k} g none before = record {
   taken = [];
-  pairs = none;
-  answer = subst (λ z. Sure k (λ s. IsAnswer s (since k) g [] z)) (sym more) (λ c lawful recalls. record {
+  pairs_are = none;
+  answer = λ c lawful recalls. record {
     falling = tt;
     within = tt;
     held = tt;
     short = omega arith;
     covered = λ x kept range. absurd (never_before g.upto x (before_most g.upto g.from x before range.0) range.1);
-  });
+  };
 }
+
+-- what was taken, of no pairs
+at_first : (g : Range) (key : Key) (value : ℕ) (pairs more : List (Key × ℕ)) (verdict v : Verdict) → pairs ≡ [] → verdict ≡ v → IsPairTaken g pairs key value more verdict → IsPairTaken g [] key value more v
+at_first g key value pairs more verdict v none is t = subst (λ z. IsPairTaken g z key value more v) none (subst (λ z. IsPairTaken g pairs key value more z) is t)
 
 -- the root is a leaf
 module _ {k j : Known} (g : Range) (number : ℕ) (key : Key) (value : ℕ) (l : IsLater k j) (root : IsAtRoot k (Leaf number)) (same : since j ≡ since k)
-    (read : Sure j (λ s. IsRead s (since k) number key value)) (scan : Scan) where
+    (read : Sure j (λ s. IsRead s (since k) number key value)) where
   rooted : Sure j (λ s. IsRooted s (since k) (Leaf number))
   rooted c lawful recalls = rooted_on (seen c k) (seen c j) (seen_grown c l) (since k) (Leaf number) (root.1 c lawful (recalls_before l recalls))
 
   fixed : (c : Core) → IsLawful c → Recalls c j → IsSteady (seen c j) (since k)
   fixed c lawful recalls = seen_steady lawful recalls (since_later l root.0)
 
-  answered : (taken : List Pair) → scan.pairs.items ≡ turned taken → (more : Bool) → scan.more ≡ more → Sure j (λ s. IsAnswer s (since k) g taken more) → HasScanned j g scan
-  answered taken pairs more e answer = record {
-    taken = taken;
-    pairs = pairs;
-    answer = subst (λ z. Sure j (λ s. IsAnswer s z g taken scan.more)) (sym same) (subst (λ z. Sure j (λ s. IsAnswer s (since k) g taken z)) (sym e) answer);
-  }
+  answered : {pairs : List (Key × ℕ)} (taken : List Pair) → pairs ≡ turned taken → (more : Bool) → Sure j (λ s. IsAnswer s (since k) g taken more) → HasListed j g pairs more
+  answered taken e more answer = record { taken = taken; pairs_are = e; answer = subst (λ z. Sure j (λ s. IsAnswer s z g taken more)) (sym same) answer }
 
-  pub leaf_below : IsBefore key g.from → scan.pairs.items ≡ [] → scan.more ≡ false → HasScanned j g scan
-  leaf_below low e more =
-      answered [] e false more (λ c lawful recalls. scan_outside (seen c j) (since k) (fixed c lawful recalls) g number key value (rooted c lawful recalls) (read c lawful recalls) (inl low))
+  pub leaf_below : {pairs : List (Key × ℕ)} → pairs ≡ [] → IsBefore key g.from → HasListed j g pairs false
+  leaf_below e low =
+      answered [] e false (λ c lawful recalls. scan_outside (seen c j) (since k) (fixed c lawful recalls) g number key value (rooted c lawful recalls) (read c lawful recalls) (inl low))
 
-  pub leaf_further : IsPairTaken g [] key value scan.pairs.items Further → scan.more ≡ false → HasScanned j g scan
-  leaf_further (within, room, e) more =
-      answered (record { key = key; value = value } ∷ []) e false more
-      (λ c lawful recalls. scan_one (seen c j) (since k) (fixed c lawful recalls) g number key value (rooted c lawful recalls) (read c lawful recalls) within (let ne : 0 ≢ g.limit = room in omega arith))
+  module _ {pairs more : List (Key × ℕ)} (none : pairs ≡ []) {verdict : Verdict} (t : IsPairTaken g pairs key value more verdict) where
+    pub leaf_further : verdict ≡ Further → HasListed j g more false
+    leaf_further is =
+        let (within, room, e) = at_first g key value pairs more verdict Further none is t in
+        answered (record { key = key; value = value } ∷ []) e false
+        (λ c lawful recalls. scan_one (seen c j) (since k) (fixed c lawful recalls) g number key value (rooted c lawful recalls) (read c lawful recalls) within (let ne : 0 ≢ g.limit = room in omega arith))
 
-  pub leaf_past : IsPairTaken g [] key value scan.pairs.items IsPast → scan.more ≡ false → HasScanned j g scan
-  leaf_past (high, e) more =
-      answered [] e false more (λ c lawful recalls. scan_outside (seen c j) (since k) (fixed c lawful recalls) g number key value (rooted c lawful recalls) (read c lawful recalls) (inr high))
+    pub leaf_past : verdict ≡ IsPast → HasListed j g more false
+    leaf_past is =
+        let (high, e) = at_first g key value pairs more verdict IsPast none is t in
+        answered [] e false
+        (λ c lawful recalls. scan_outside (seen c j) (since k) (fixed c lawful recalls) g number key value (rooted c lawful recalls) (read c lawful recalls) (inr high))
 
-  pub leaf_full : IsPairTaken g [] key value scan.pairs.items Full → scan.more ≡ true → HasScanned j g scan
-  leaf_full (within, full, e) more =
-      answered [] e true more (λ c lawful recalls. scan_nought (seen c j) (since k) g number key value (read c lawful recalls) within (sym full))
+    pub leaf_full : verdict ≡ Full → HasListed j g more true
+    leaf_full is =
+        let (within, full, e) = at_first g key value pairs more verdict Full none is t in
+        answered [] e true (λ c lawful recalls. scan_nought (seen c j) (since k) g number key value (read c lawful recalls) within (sym full))
 
 -- A head's forks
 
@@ -632,6 +632,3 @@ module _ (head : HeadView) (lawful : IsLawfulNode (node_of head (leaves (length 
     room = subst (λ z. z ≤ 32) (sym head_size) head_room.1;
     shaped = shaped;
   }
-
-pub taken_as : (g : Range) (xs zs : List (Key × ℕ)) (k : Key) (v : ℕ) (ys : List (Key × ℕ)) (a b : Verdict) → xs ≡ zs → a ≡ b → IsPairTaken g xs k v ys a → IsPairTaken g zs k v ys b
-taken_as g xs zs k v ys a b e f h = subst (λ z. IsPairTaken g z k v ys b) e (subst (λ z. IsPairTaken g xs k v ys z) f h)

@@ -27,11 +27,14 @@ abbrev pub IsAnswer : Past → ℕ → Range → List Pair → Bool → Type 0
 IsAnswer s m g xs false = IsComplete s m g xs
 IsAnswer s m g xs true = IsCut s m g xs
 
--- the pass is sure of what the scan gives, since its last load of the root
-pub record HasScanned (k : Known) (g : Range) (scan : Scan) : Type 0 where
+-- the pass is sure of the pairs that a scan gives, since its last load of the root, and of whether there is a further one
+pub record HasListed (k : Known) (g : Range) (pairs : List (Key × ℕ)) (more : Bool) : Type 0 where
   pub taken : List Pair
-  pub pairs : scan.pairs.items ≡ turned taken
-  pub answer : Sure k (λ s. IsAnswer s (since k) g taken scan.more)
+  pub pairs_are : pairs ≡ turned taken
+  pub answer : Sure k (λ s. IsAnswer s (since k) g taken more)
+
+abbrev pub HasScanned : Known → Range → Scan → Type 0
+HasScanned k g scan = HasListed k g scan.pairs.items scan.more
 
 -- What became of the pairs at one with this key and value, which is not below the range: it belonged to the range; or it was above
 -- the range; or it belonged to the range and there was no room.

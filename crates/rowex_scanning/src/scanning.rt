@@ -1,8 +1,8 @@
 //! The walk of a scan: the pairs of a range of keys, in the order of the keys, as a pinned pass reads them.
 
-ghost use Rattle.std.specs.Prelude.{◌≡◌, ◌≢◌, ◌≤◌, ◌<◌, ◌+◌, ℕ, [], IfOk, IsSome, IsTrue, false, length, take};
+ghost use Rattle.std.specs.Prelude.{◌≡◌, ◌≢◌, ◌≤◌, ◌<◌, ◌+◌, ℕ, [], IfOk, IsSome, IsTrue, false, length};
 ghost use Rattle.compound_node.specs.declared.entries.Entry.TheVariants.{Leaf as LeafEntry, Node as NodeEntry};
-ghost use Rattle.key_bits.specs.Key.{HoldsKey, IsKey};
+ghost use Rattle.key_bits.specs.Key.{IsKey};
 ghost use Rattle.record_words.specs.declared.TheConstants.{HEAD_WORDS, LEAF_FIELDS};
 ghost use Rattle.tries.specs.Keys.{IsAtMost, IsBefore};
 ghost use Rattle.rowex_table.specs.Seats.{IsSeatOf};
@@ -12,13 +12,14 @@ ghost use Rattle.rowex_reading.specs.Seen.{IsAtRoot, IsLedTo, since};
 ghost use Rattle.rowex_reading.specs.Ways.{IsWayOf};
 ghost use Rattle.rowex_reading.specs.declared.descent.Found.TheVariants.{Leaf as FoundLeaf};
 ghost use Rattle.rowex_scanning.specs.Counts.{scan_loads, walk_loads};
-ghost use Rattle.rowex_scanning.specs.Scanning.{HasScanned, IsEntered, IsFloor, IsLeafTaken, IsNotBelow, IsPairTaken, IsStart, IsWalk, range_of};
+ghost use Rattle.rowex_scanning.specs.Scanning.{HasListed, HasScanned, IsEntered, IsFloor, IsLeafTaken, IsNotBelow, IsPairTaken, IsStart, IsWalk, range_of};
 
 use arrayvec::ArrayVec;
 use compound_node::Entry;
 use hot_model::Scan;
 use insert_cases::{Step, choose, level_below};
 use key_bits::{Key, MAX_BYTES};
+use packed_pairs::Pairs;
 use rowex_core::Gate;
 use rowex_reading::{
     Found, MOST_NODES, load_entry, load_head, load_places, load_root, search_way, step_of,
@@ -26,15 +27,9 @@ use rowex_reading::{
 use rowex_table::{HotTable, TableSeat};
 use std::alloc::{AllocError, Global};
 
-/// For how many pairs a scan makes room at its first pair, at most; later the room doubles. So a short scan asks for memory once,
-/// and one with few pairs and a great limit takes no more than 16 KiB.
-const FIRST_ROOM: usize = 64;
-
-/// What a scan asks for, and where it takes the memory for its pairs.
+/// What a scan asks for.
 #[derive(Drop)]
 pub struct Range<'a> {
-    /// Where the list of the pairs gets its memory.
-    pub alloc: Global,
     /// The first key of the range, which belongs to it.
     pub from: &'a Key,
     /// The last key of the range, which belongs to it. Where it is before the first one, the range is empty.
@@ -69,6 +64,7 @@ enum Verdict {
 /// The scan of a pinned pass: the first pairs of the range, so many as the limit says, and whether there is a further one. An error
 /// where memory ends; the pass has made loads alone then too. The nodes of its way are left in `way`, which need not be empty.
 pub fn scan_root<G: Gate>(
+    alloc: Global,
     table: &HotTable,
     seat: &mut TableSeat,
     gate: &mut G,
@@ -82,53 +78,79 @@ pub fn scan_root<G: Gate>(
     ensures scanned { IfOk result (HasScanned seat.new.known (range_of range.now)) }
     ensures few { seat.new.known.steps ≤ seat.old.known.steps + (1 + scan_loads range.now.limit) }
 {
+    let mut list = Pairs::new(alloc);
+    let more = list_root(table, seat, gate, way, range, &mut list)?;
+    let pairs = list.to_vec(alloc)?;
+    Ok(Scan { pairs, more })
+}
+
+/// The scan of a pinned pass, whose pairs take the place of those in the list, and whether there is a further one. An error where
+/// memory ends; the list has some pairs of the range then, and the pass has made loads alone.
+pub fn list_root<G: Gate>(
+    table: &HotTable,
+    seat: &mut TableSeat,
+    gate: &mut G,
+    way: &mut ArrayVec<Step, MOST_NODES>,
+    range: &Range,
+    pairs: &mut Pairs,
+) -> Result<bool, AllocError>
+    requires own { IsSeatOf table.now seat.old }
+    requires pinned { IsSome seat.old.known.pin }
+    ensures looks { (n : ℕ) × Looks table.now G.becomes n (seat.old, gate.old) (seat.new, gate.new) }
+    ensures keys { IsKey range.now.from.now × IsKey range.now.upto.now }
+    ensures listed { IfOk result (HasListed seat.new.known (range_of range.now) pairs.new) }
+    ensures few { seat.new.known.steps ≤ seat.old.known.steps + (1 + scan_loads range.now.limit) }
+{
+    pairs.clear();
     if is_before(range.upto.as_bytes(), range.from.as_bytes()) {
         load_root(table, seat, gate);
-        return Ok(nothing(range.alloc));
+        return Ok(false);
     }
     match search_way(table, seat, gate, range.from, way) {
-        Found::Nothing => Ok(nothing(range.alloc)),
+        Found::Nothing => Ok(false),
         Found::Leaf {
             number,
             mismatch,
             ..
         } => {
             if way.len() == 0 {
-                scan_leaf(table, seat, gate, range, number)
+                list_leaf(table, seat, gate, range, number, pairs)
             } else {
-                scan_node(table, seat, gate, way, range, number, mismatch)
+                list_node(table, seat, gate, way, range, number, mismatch, pairs)
             }
         }
     }
 }
 
 /// The scan from a root that is a leaf.
-fn scan_leaf<G: Gate>(
+fn list_leaf<G: Gate>(
     table: &HotTable,
     seat: &mut TableSeat,
     gate: &mut G,
     range: &Range,
     number: u32,
-) -> Result<Scan, AllocError>
+    pairs: &mut Pairs,
+) -> Result<bool, AllocError>
     requires reader { IsReader table.now seat.old }
     requires root { IsAtRoot seat.old.known (LeafEntry number) }
+    requires empty { pairs.old ≡ [] }
     ensures reads { (n : ℕ) × (n ≤ LEAF_FIELDS) × Reads table.now G.becomes n (seat.old, gate.old) (seat.new, gate.new) }
-    ensures scanned { IfOk result (HasScanned seat.new.known (range_of range.now)) }
+    ensures listed { IfOk result (HasListed seat.new.known (range_of range.now) pairs.new) }
 {
     let mut places = [0; MAX_BYTES];
     let (length, value) = load_places(table, seat, gate, number, &mut places);
-    if is_before(&places[..length], range.from.as_bytes()) {
-        return Ok(nothing(range.alloc));
+    let key = &places[..length];
+    if is_before(key, range.from.as_bytes()) {
+        return Ok(false);
     }
-    let mut pairs = Vec::new(range.alloc);
-    match take_pair(&mut pairs, range, &places, length, value)? {
-        Verdict::Full => Ok(Scan { pairs, more: true }),
-        Verdict::Further | Verdict::Past => Ok(Scan { pairs, more: false }),
+    match take_pair(pairs, range, key, value)? {
+        Verdict::Full => Ok(true),
+        Verdict::Further | Verdict::Past => Ok(false),
     }
 }
 
 /// The scan from a root that is a node, below which the search for the range's first key has ended at this leaf.
-fn scan_node<G: Gate>(
+fn list_node<G: Gate>(
     table: &HotTable,
     seat: &mut TableSeat,
     gate: &mut G,
@@ -136,22 +158,23 @@ fn scan_node<G: Gate>(
     range: &Range,
     number: u32,
     mismatch: Option<u16>,
-) -> Result<Scan, AllocError>
+    pairs: &mut Pairs,
+) -> Result<bool, AllocError>
     requires reader { IsReader table.now seat.old }
     requires nodes { 0 < length way.old.items }
     requires way { (v : ℕ) × IsWayOf table.now.layout seat.old.known (since seat.old.known) range.now.from.now way.old.items (FoundLeaf number v mismatch) }
+    requires empty { pairs.old ≡ [] }
     ensures reads { (n : ℕ) × (n ≤ HEAD_WORDS + LEAF_FIELDS + walk_loads range.now.limit) × Reads table.now G.becomes n (seat.old, gate.old) (seat.new, gate.new) }
-    ensures scanned { IfOk result (HasScanned seat.new.known (range_of range.now)) }
+    ensures listed { IfOk result (HasListed seat.new.known (range_of range.now) pairs.new) }
 {
     let start = start_at(table, seat, gate, way, range.from, number, mismatch);
     let mut top = start.top;
     way.truncate(start.level);
-    let mut pairs = Vec::new(range.alloc);
     if start.leaf {
-        match take_leaf(table, seat, gate, range, number, &mut pairs)? {
+        match take_leaf(table, seat, gate, range, number, pairs)? {
             Verdict::Further => top.at += 1,
-            Verdict::Past => return Ok(Scan { pairs, more: false }),
-            Verdict::Full => return Ok(Scan { pairs, more: true }),
+            Verdict::Past => return Ok(false),
+            Verdict::Full => return Ok(true),
         }
     }
     walk(table, seat, gate, way, range, top, pairs)
@@ -206,16 +229,15 @@ fn walk<G: Gate>(
     way: &mut ArrayVec<Step, MOST_NODES>,
     range: &Range,
     lowest: Step,
-    taken: Vec<(Key, u64)>,
-) -> Result<Scan, AllocError>
+    pairs: &mut Pairs,
+) -> Result<bool, AllocError>
     requires reader { IsReader table.now seat.old }
-    requires walk { IsWalk seat.old.known (since seat.old.known) (range_of range.now) lowest way.old.items taken.items }
+    requires walk { IsWalk seat.old.known (since seat.old.known) (range_of range.now) lowest way.old.items pairs.old }
     requires floor { IsFloor seat.old.known (since seat.old.known) range.now.from.now lowest way.old.items }
     ensures reads { (n : ℕ) × (n ≤ walk_loads range.now.limit) × Reads table.now G.becomes n (seat.old, gate.old) (seat.new, gate.new) }
-    ensures scanned { IfOk result (HasScanned seat.new.known (range_of range.now)) }
+    ensures listed { IfOk result (HasListed seat.new.known (range_of range.now) pairs.new) }
 {
     let mut top = lowest;
-    let mut pairs = taken;
     loop {
         if top.at < top.count {
             match load_entry(table, seat, gate, top.number, top.at) {
@@ -224,10 +246,10 @@ fn walk<G: Gate>(
                     top = enter(table, seat, gate, number);
                 }
                 Entry::Leaf(number) => {
-                    match take_leaf(table, seat, gate, range, number, &mut pairs)? {
+                    match take_leaf(table, seat, gate, range, number, pairs)? {
                         Verdict::Further => top.at += 1,
-                        Verdict::Past => return Ok(Scan { pairs, more: false }),
-                        Verdict::Full => return Ok(Scan { pairs, more: true }),
+                        Verdict::Past => return Ok(false),
+                        Verdict::Full => return Ok(true),
                     }
                 }
             }
@@ -237,7 +259,7 @@ fn walk<G: Gate>(
                     top = above;
                     top.at += 1;
                 }
-                None => return Ok(Scan { pairs, more: false }),
+                None => return Ok(false),
             }
         }
     }
@@ -262,58 +284,39 @@ fn take_leaf<G: Gate>(
     gate: &mut G,
     range: &Range,
     number: u32,
-    pairs: &mut Vec<(Key, u64)>,
+    pairs: &mut Pairs,
 ) -> Result<Verdict, AllocError>
     requires reader { IsReader table.now seat.old }
     requires leaf { (m : ℕ) × IsLedTo seat.old.known m (LeafEntry number) × IsNotBelow table.now.layout seat.old.known m range.now.from.now number }
     ensures reads { (n : ℕ) × (n ≤ LEAF_FIELDS) × Reads table.now G.becomes n (seat.old, gate.old) (seat.new, gate.new) }
-    ensures taken { IfOk result (IsLeafTaken seat.old.known seat.new.known (range_of range.now) number pairs.old.items pairs.new.items) }
+    ensures taken { IfOk result (IsLeafTaken seat.old.known seat.new.known (range_of range.now) number pairs.old pairs.new) }
 {
     let mut places = [0; MAX_BYTES];
     let (length, value) = load_places(table, seat, gate, number, &mut places);
-    take_pair(pairs, range, &places, length, value)
+    take_pair(pairs, range, &places[..length], value)
 }
 
-/// Takes a pair whose key is not below the range, if it belongs to the range and there is room for it. The key has these places.
-/// The first pair makes room for those that are asked for. Inline, and over places, so that the key is copied once: from where it
-/// was read to its place among the pairs.
+/// Takes a pair whose key is not below the range, if it belongs to the range and there is room for it. Inline, so that the key's
+/// bytes go at once from where they were read to their place among the pairs.
 #[inline(always)]
 fn take_pair(
-    pairs: &mut Vec<(Key, u64)>,
+    pairs: &mut Pairs,
     range: &Range,
-    places: &[u8; MAX_BYTES],
-    length: usize,
+    key: &[u8],
     value: u64,
 ) -> Result<Verdict, AllocError>
-    requires places { HoldsKey places.now length }
-    requires above { IsAtMost range.now.from.now (take length places.now) }
-    ensures { IfOk result (IsPairTaken (range_of range.now) pairs.old.items (take length places.now) value pairs.new.items) }
+    requires key { IsKey key.now }
+    requires above { IsAtMost range.now.from.now key.now }
+    ensures { IfOk result (IsPairTaken (range_of range.now) pairs.old key.now value pairs.new) }
 {
-    if is_before(range.upto.as_bytes(), &places[..length]) {
+    if is_before(range.upto.as_bytes(), key) {
         return Ok(Verdict::Past);
     }
     if pairs.len() == range.limit {
         return Ok(Verdict::Full);
     }
-    let more = if pairs.is_empty() {
-        range.limit.min(FIRST_ROOM)
-    } else {
-        1
-    };
-    pairs.reserve(more)?;
-    pairs.push_reserved((Key::of_places(*places, length), value));
+    pairs.push(key, value)?;
     Ok(Verdict::Further)
-}
-
-/// The scan of no pairs.
-fn nothing(alloc: Global) -> Scan
-    ensures pairs { result.pairs.items ≡ [] }
-    ensures more { result.more ≡ false }
-{
-    Scan {
-        pairs: Vec::new(alloc),
-        more: false,
-    }
 }
 
 /// Whether the key with the first bytes is before that with the second: their first different byte says what their first different

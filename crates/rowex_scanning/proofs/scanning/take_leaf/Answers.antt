@@ -12,7 +12,7 @@ load_places-length-requires-clause-led g c = (c.requires.leaf.0, c.requires.leaf
 pub take_pair-requires : goal.take_pair-requires
 take_pair-requires g c =
     let e = c.load_places-length.ensures in let (m, led, above) = c.requires.leaf in
-    record { places = e.places; above = above c.load_places-length.new.seat.known (reads_later e.reads) (reader_then c.requires.reader e.reads).1 _ _ (e.leaf m led) }
+    record { key = e.places.key; above = above c.load_places-length.new.seat.known (reads_later e.reads) (reader_then c.requires.reader e.reads).1 _ _ (e.leaf m led) }
 
 pub returns-clause-reads : goal.returns-clause-reads
 returns-clause-reads g c = let e = c.load_places-length.ensures in (leaf_loads (take c.load_places-length.result.0 c.load_places-length.new.places), e.few, e.reads)
@@ -20,6 +20,6 @@ returns-clause-reads g c = let e = c.load_places-length.ensures in (leaf_loads (
 pub returns-clause-taken : goal.returns-clause-taken
 returns-clause-taken g c =
     let key = take c.load_places-length.result.0 c.load_places-length.new.places in let value = c.load_places-length.result.1 in
-    IfOk-weaker c.take_pair.result (IsPairTaken (range_of c.args.range.now) c.args.pairs.now.items key value c.take_pair.new.pairs.items)
-    (IsLeafTaken c.args.seat.now.known c.load_places-length.new.seat.known (range_of c.args.range.now) c.args.number c.args.pairs.now.items c.take_pair.new.pairs.items)
+    IfOk-weaker c.take_pair.result (IsPairTaken (range_of c.args.range.now) c.args.pairs.now key value c.take_pair.new.pairs)
+    (IsLeafTaken c.args.seat.now.known c.load_places-length.new.seat.known (range_of c.args.range.now) c.args.number c.args.pairs.now c.take_pair.new.pairs)
     (λ verdict taken. record { key = key; value = value; read = c.load_places-length.ensures.leaf; taken = taken }) c.take_pair.ensures

@@ -1,5 +1,5 @@
 -- The steps of the walk.
-use Rattle.std.proofs.Common.{◌≡◌, ◌+◌, refl, length, arith}
+use Rattle.std.proofs.Common.{◌≡◌, ◌+◌, length, arith}
 use Rattle.compound_node.specs.declared.entries.Entry.TheVariants.{Leaf, Node}
 use Rattle.rowex_reading.specs.Seen.{since}
 use Rattle.rowex_reading.proofs.Led.{reader_then, reads_later, reads_none, reads_trans, same_since}
@@ -12,12 +12,12 @@ use Rattle.rowex_scanning.proofs.scanning.walk.Goals.{After-take_leaf, In-Leaf, 
 
 -- The pass knows the entry at the place: a node,
 node : (g : given.Over) (c : In-Node g) →
-    IsAtEntry c.load_entry.new.seat.known (since c.args.seat.now.known) (range_of c.args.range.now) c.loop-top.top c.loop-top.way.items c.loop-top.pairs.items (Node c.in-Node.number c.in-Node.height)
+    IsAtEntry c.load_entry.new.seat.known (since c.args.seat.now.known) (range_of c.args.range.now) c.loop-top.top c.loop-top.way.items c.loop-top.pairs (Node c.in-Node.number c.in-Node.height)
 node g c = entry_at (Node c.in-Node.number c.in-Node.height) c.loop-top.invariant.walk c.if-top.true (reads_later c.load_entry.ensures.reads) c.in-Node.ensures.entry
 
 -- or a leaf.
 leaf : (g : given.Over) (c : In-Leaf g) →
-    IsAtEntry c.load_entry.new.seat.known (since c.args.seat.now.known) (range_of c.args.range.now) c.loop-top.top c.loop-top.way.items c.loop-top.pairs.items (Leaf c.in-Leaf.number)
+    IsAtEntry c.load_entry.new.seat.known (since c.args.seat.now.known) (range_of c.args.range.now) c.loop-top.top c.loop-top.way.items c.loop-top.pairs (Leaf c.in-Leaf.number)
 leaf g c = entry_at (Leaf c.in-Leaf.number) c.loop-top.invariant.walk c.if-top.true (reads_later c.load_entry.ensures.reads) c.in-Leaf.ensures.entry
 
 -- When the leaf has been read, the root has not been loaded again.
@@ -29,7 +29,7 @@ loop-top-init g c =
     let short = way_short c.requires.walk c.requires.reader.1 in
     record {
       reader = c.requires.reader;
-      reads = (0, paid_first (length c.args.taken.items) c.args.lowest c.args.way.now.items short, reads_none (c.args.seat.now, c.args.gate.now));
+      reads = (0, paid_first (length c.args.pairs.now) c.args.lowest c.args.way.now.items short, reads_none (c.args.seat.now, c.args.gate.now));
       walk = c.requires.walk;
       floor = c.requires.floor;
     }
@@ -64,7 +64,7 @@ loop-top-preserved-in-Node g c =
       reader = reader_then (reader_then i.reader o.reads) e.reads.2;
       reads = (
         i.reads.0 + (1 + e.reads.0),
-        paid_push i.reads.0 (1 + e.reads.0) (length c.loop-top.pairs.items) c.loop-top.top c.loop-top.way.items c.enter-top.result c.push.new.self.items i.reads.1 (let few = e.reads.1 in omega (arith, few)) (entered_first entered) c.push.ensures.items,
+        paid_push i.reads.0 (1 + e.reads.0) (length c.loop-top.pairs) c.loop-top.top c.loop-top.way.items c.enter-top.result c.push.new.self.items i.reads.1 (let few = e.reads.1 in omega (arith, few)) (entered_first entered) c.push.ensures.items,
         reads_trans i.reads.2 (reads_trans o.reads e.reads.2),
       );
       walk = walk_push a (reads_later e.reads.2) entered c.push.ensures.items;
@@ -108,16 +108,16 @@ loop-top-preserved-in-Further g c =
 pub returns-in-Past-clause-reads : goal.returns-in-Past-clause-reads
 returns-in-Past-clause-reads g c = let i = c.loop-top.invariant in paid_last i.reads i.walk i.reader.1 c.load_entry.ensures.reads c.take_leaf.ensures.reads
 
-pub returns-in-Past-clause-scanned : goal.returns-in-Past-clause-scanned
-returns-in-Past-clause-scanned g c =
-    let at = goal.at.returns-in-Past-clause-scanned g c in walk_past (leaf g at.In-Leaf) (reads_later c.take_leaf.ensures.reads.2) c.in_ok-take_leaf-in-Leaf.ensures.taken (same g at.After-take_leaf) _ refl c.in-Past.is refl
+pub returns-in-Past-clause-listed : goal.returns-in-Past-clause-listed
+returns-in-Past-clause-listed g c =
+    let at = goal.at.returns-in-Past-clause-listed g c in walk_past (leaf g at.In-Leaf) (reads_later c.take_leaf.ensures.reads.2) c.in_ok-take_leaf-in-Leaf.ensures.taken (same g at.After-take_leaf) c.in-Past.is
 
 pub returns-in-Full-clause-reads : goal.returns-in-Full-clause-reads
 returns-in-Full-clause-reads g c = let i = c.loop-top.invariant in paid_last i.reads i.walk i.reader.1 c.load_entry.ensures.reads c.take_leaf.ensures.reads
 
-pub returns-in-Full-clause-scanned : goal.returns-in-Full-clause-scanned
-returns-in-Full-clause-scanned g c =
-    let at = goal.at.returns-in-Full-clause-scanned g c in walk_full (leaf g at.In-Leaf) (reads_later c.take_leaf.ensures.reads.2) c.in_ok-take_leaf-in-Leaf.ensures.taken (same g at.After-take_leaf) _ refl c.in-Full.is refl
+pub returns-in-Full-clause-listed : goal.returns-in-Full-clause-listed
+returns-in-Full-clause-listed g c =
+    let at = goal.at.returns-in-Full-clause-listed g c in walk_full (leaf g at.In-Leaf) (reads_later c.take_leaf.ensures.reads.2) c.in_ok-take_leaf-in-Leaf.ensures.taken (same g at.After-take_leaf) c.in-Full.is
 
 pub overflow_add-top-in-Some : goal.overflow_add-top-in-Some
 overflow_add-top-in-Some g c = let h = walk_inside c.loop-top.invariant.walk c.in-Some.above c.pop.new.self.items (popped_is c.pop.new.self.items c.pop.ensures.items c.in-Some.is) in let a = h.0 in omega (arith, a)
@@ -132,7 +132,7 @@ loop-top-preserved g c =
     let done = c.if-top.false in let several = walk_several i.walk i.reader.1 in
     record {
       reader = i.reader;
-      reads = (i.reads.0, paid_pop i.reads.0 (length c.loop-top.pairs.items) c.loop-top.top c.loop-top.way.items c.in-Some.above c.pop.new.self.items i.reads.1 (omega (arith, done, several)) e, i.reads.2);
+      reads = (i.reads.0, paid_pop i.reads.0 (length c.loop-top.pairs) c.loop-top.top c.loop-top.way.items c.in-Some.above c.pop.new.self.items i.reads.1 (omega (arith, done, several)) e, i.reads.2);
       walk = walk_pop i.walk c.in-Some.above c.pop.new.self.items e c.if-top.false;
       floor = floor_pop (since c.args.seat.now.known) c.args.range.now.from.now i.floor c.in-Some.above c.pop.new.self.items e;
     }
@@ -140,9 +140,9 @@ loop-top-preserved g c =
 pub returns-in-None-clause-reads : goal.returns-in-None-clause-reads
 returns-in-None-clause-reads g c =
     let i = c.loop-top.invariant in
-    (i.reads.0, paid_end i.reads.0 (length c.loop-top.pairs.items) c.args.range.now.limit c.loop-top.top c.loop-top.way.items i.reads.1 (none_popped c.pop.ensures.variant c.in-None.is) (walk_short i.walk i.reader.1), i.reads.2)
+    (i.reads.0, paid_end i.reads.0 (length c.loop-top.pairs) c.args.range.now.limit c.loop-top.top c.loop-top.way.items i.reads.1 (none_popped c.pop.ensures.variant c.in-None.is) (walk_short i.walk i.reader.1), i.reads.2)
 
-pub returns-in-None-clause-scanned : goal.returns-in-None-clause-scanned
-returns-in-None-clause-scanned g c =
+pub returns-in-None-clause-listed : goal.returns-in-None-clause-listed
+returns-in-None-clause-listed g c =
     let i = c.loop-top.invariant in
-    walk_end i.walk (none_popped c.pop.ensures.variant c.in-None.is) c.if-top.false (same_since i.reads.2) _ refl refl
+    walk_end i.walk (none_popped c.pop.ensures.variant c.in-None.is) c.if-top.false (same_since i.reads.2)

@@ -1,14 +1,13 @@
 -- A scan of one leaf.
-use Rattle.std.proofs.Common.{inl, inr, refl, subst, [], take}
+use Rattle.std.proofs.Common.{inl, inr, subst, take}
 use Rattle.compound_node.specs.declared.entries.Entry.TheVariants.{Leaf}
-use Rattle.rowex_scanning.specs.declared.scanning.Verdict.TheVariants.{Further, Past, Full}
 use Rattle.tries.specs.Keys.{IsAtMost, IsBefore}
 use Rattle.rowex_reading.specs.Reads.{leaf_loads}
 use Rattle.rowex_reading.specs.Seen.{since}
 use Rattle.rowex_reading.proofs.Led.{reads_later, rooted_led, same_since}
 use Rattle.rowex_scanning.specs.Scanning.{range_of}
-use Rattle.rowex_scanning.proofs.Walking.{leaf_below, leaf_further, leaf_past, leaf_full, taken_as}
-use Rattle.rowex_scanning.proofs.scanning.scan_leaf.Goals as goal
+use Rattle.rowex_scanning.proofs.Walking.{leaf_below, leaf_further, leaf_past, leaf_full}
+use Rattle.rowex_scanning.proofs.scanning.list_leaf.Goals as goal
 
 pub load_places-length-requires-clause-led : goal.load_places-length-requires-clause-led
 load_places-length-requires-clause-led g c = (since c.args.seat.now.known, rooted_led (Leaf c.args.number) c.requires.root)
@@ -16,15 +15,18 @@ load_places-length-requires-clause-led g c = (since c.args.seat.now.known, roote
 pub returns-then-is_before-clause-reads : goal.returns-then-is_before-clause-reads
 returns-then-is_before-clause-reads g c = (leaf_loads (take c.load_places-length.result.0 c.load_places-length.new.places), c.load_places-length.ensures.few, c.load_places-length.ensures.reads)
 
-pub returns-then-is_before-clause-scanned : goal.returns-then-is_before-clause-scanned
-returns-then-is_before-clause-scanned g c =
+pub returns-then-is_before-clause-listed : goal.returns-then-is_before-clause-listed
+returns-then-is_before-clause-listed g c =
     let e = c.load_places-length.ensures in
     leaf_below (range_of c.args.range.now) c.args.number (take c.load_places-length.result.0 c.load_places-length.new.places) c.load_places-length.result.1 (reads_later e.reads) c.requires.root
-    (same_since e.reads) (e.leaf (since c.args.seat.now.known) (rooted_led (Leaf c.args.number) c.requires.root)) _
-    (subst (IsBefore (take c.load_places-length.result.0 c.load_places-length.new.places)) c.as_bytes.ensures.bytes (c.is_before.ensures.before c.if-is_before.true)) c.nothing.ensures.pairs c.nothing.ensures.more
+    (same_since e.reads) (e.leaf (since c.args.seat.now.known) (rooted_led (Leaf c.args.number) c.requires.root)) c.requires.empty
+    (subst (IsBefore (take c.load_places-length.result.0 c.load_places-length.new.places)) c.as_bytes.ensures.bytes (c.is_before.ensures.before c.if-is_before.true))
 
-pub take_pair-requires : goal.take_pair-requires
-take_pair-requires g c = record { places = c.load_places-length.ensures.places; above = subst (λ z. IsAtMost z (take c.load_places-length.result.0 c.load_places-length.new.places)) c.as_bytes.ensures.bytes (c.is_before.ensures.at_most c.if-is_before.false) }
+pub take_pair-requires-clause-key : goal.take_pair-requires-clause-key
+take_pair-requires-clause-key g c = c.load_places-length.ensures.places.key
+
+pub take_pair-requires-clause-above : goal.take_pair-requires-clause-above
+take_pair-requires-clause-above g c = subst (λ z. IsAtMost z (take c.load_places-length.result.0 c.load_places-length.new.places)) c.as_bytes.ensures.bytes (c.is_before.ensures.at_most c.if-is_before.false)
 
 pub returns-in_err-take_pair-clause-reads : goal.returns-in_err-take_pair-clause-reads
 returns-in_err-take_pair-clause-reads g c = (leaf_loads (take c.load_places-length.result.0 c.load_places-length.new.places), c.load_places-length.ensures.few, c.load_places-length.ensures.reads)
@@ -34,11 +36,9 @@ returns-in-Full g c =
     let e = c.load_places-length.ensures in
     record {
       reads = (leaf_loads (take c.load_places-length.result.0 c.load_places-length.new.places), e.few, e.reads);
-      scanned =
+      listed =
           leaf_full (range_of c.args.range.now) c.args.number (take c.load_places-length.result.0 c.load_places-length.new.places) c.load_places-length.result.1 (reads_later e.reads) c.requires.root
-          (same_since e.reads) (e.leaf (since c.args.seat.now.known) (rooted_led (Leaf c.args.number) c.requires.root)) _
-          (taken_as (range_of c.args.range.now) c.new-pairs.result.items [] (take c.load_places-length.result.0 c.load_places-length.new.places) c.load_places-length.result.1 c.take_pair.new.pairs.items c.in_ok-take_pair.field-0 Full
-          c.new-pairs.ensures.items c.in-Full.is c.in_ok-take_pair.ensures) refl;
+          (same_since e.reads) (e.leaf (since c.args.seat.now.known) (rooted_led (Leaf c.args.number) c.requires.root)) c.requires.empty c.in_ok-take_pair.ensures c.in-Full.is;
     }
 
 pub returns-in-Further : goal.returns-in-Further
@@ -46,16 +46,12 @@ returns-in-Further g c =
     let e = c.load_places-length.ensures in
     record {
       reads = (leaf_loads (take c.load_places-length.result.0 c.load_places-length.new.places), e.few, e.reads);
-      scanned = elim c.in-Further.is [
+      listed = elim c.in-Further.is [
         | inl is ↦
             leaf_further (range_of c.args.range.now) c.args.number (take c.load_places-length.result.0 c.load_places-length.new.places) c.load_places-length.result.1 (reads_later e.reads) c.requires.root
-            (same_since e.reads) (e.leaf (since c.args.seat.now.known) (rooted_led (Leaf c.args.number) c.requires.root)) _
-            (taken_as (range_of c.args.range.now) c.new-pairs.result.items [] (take c.load_places-length.result.0 c.load_places-length.new.places) c.load_places-length.result.1 c.take_pair.new.pairs.items c.in_ok-take_pair.field-0 Further
-            c.new-pairs.ensures.items is c.in_ok-take_pair.ensures) refl
+            (same_since e.reads) (e.leaf (since c.args.seat.now.known) (rooted_led (Leaf c.args.number) c.requires.root)) c.requires.empty c.in_ok-take_pair.ensures is
         | inr is ↦
             leaf_past (range_of c.args.range.now) c.args.number (take c.load_places-length.result.0 c.load_places-length.new.places) c.load_places-length.result.1 (reads_later e.reads) c.requires.root
-            (same_since e.reads) (e.leaf (since c.args.seat.now.known) (rooted_led (Leaf c.args.number) c.requires.root)) _
-            (taken_as (range_of c.args.range.now) c.new-pairs.result.items [] (take c.load_places-length.result.0 c.load_places-length.new.places) c.load_places-length.result.1 c.take_pair.new.pairs.items c.in_ok-take_pair.field-0 Past
-            c.new-pairs.ensures.items is c.in_ok-take_pair.ensures) refl
+            (same_since e.reads) (e.leaf (since c.args.seat.now.known) (rooted_led (Leaf c.args.number) c.requires.root)) c.requires.empty c.in_ok-take_pair.ensures is
       ];
     }

@@ -1,0 +1,2 @@
+-- What is true of packed pairs.
+pub mod Packing

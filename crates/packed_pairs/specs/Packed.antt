@@ -1,0 +1,19 @@
+-- Pairs as heads and the bytes of their keys.
+use Rattle.std.specs.Prelude.{ℕ, ◌≡◌, ◌≤◌, List, [], ◌∷◌, length, take, drop}
+use denote.Ref.{Bor}
+use Rattle.key_bits.specs.Key.{IsKey}
+use Rattle.packed_pairs.specs.declared.pairs.Head.{Head}
+
+-- the pairs of these heads: the first key has the first of the bytes
+abbrev pub unpacked : List Head → List ℕ → List (List ℕ × ℕ)
+unpacked [] bytes = []
+unpacked (head ∷ heads) bytes = (take head.count bytes, head.value) ∷ unpacked heads (drop head.count bytes)
+
+-- each of them has a key, and these have all of the bytes
+abbrev pub ArePacked : List Head → List ℕ → Type 0
+ArePacked [] bytes = bytes ≡ []
+ArePacked (head ∷ heads) bytes = (head.count ≤ length bytes) × IsKey (take head.count bytes) × ArePacked heads (drop head.count bytes)
+
+-- what an item of an iterator shows
+abbrev pub pair_of : Bor (List ℕ) × ℕ → List ℕ × ℕ
+pair_of (key, value) = (key.now, value)

@@ -1,0 +1,8 @@
+//! Lists of keys with their values, packed: the bytes of all keys one after another, so that no pair takes more room than it needs.
+#![tactic(auto)]
+
+mod iter;
+mod pairs;
+
+pub use iter::Iter;
+pub use pairs::Pairs;

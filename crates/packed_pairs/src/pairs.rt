@@ -1,0 +1,106 @@
+//! A list of pairs that is filled, read, and used again.
+
+ghost use Rattle.std.specs.Prelude.{◌≡◌, ◌++◌, ◌∷◌, ◌<◌, ◌^◌, [], IfOk, OnErr, OnOk, length, nat_eq};
+ghost use Rattle.key_bits.specs.Key.{IsKey};
+
+use crate::iter::Iter;
+use key_bits::Key;
+use std::alloc::{AllocError, Global};
+use std::marker::Model;
+
+/// How many bytes the key of a pair has, and its value.
+#[derive(Clone, Copy, Drop)]
+pub struct Head {
+    pub count: u8,
+    pub value: u64,
+}
+
+/// Keys with their values, in the order in which they came.
+///
+/// Contracts see a list of pairs. It takes 16 bytes for each pair, and the bytes of its key.
+#[derive(Drop)]
+pub struct Pairs {
+    bytes: Vec<u8>,
+    heads: Vec<Head>,
+}
+
+impl Model for Pairs {
+    ghost use Rattle.std.specs.Prelude.{List, ℕ};
+    ghost use Rattle.packed_pairs.specs.Packed.{unpacked, ArePacked};
+
+    ghost Value = { List (List ℕ × ℕ) };
+
+    ghost view = { λ p. unpacked p.heads.items p.bytes.items };
+
+    ghost invariant = { λ p. ArePacked p.heads.items p.bytes.items };
+}
+
+impl Pairs {
+    /// A list of no pairs. It takes no memory yet.
+    pub fn new(alloc: Global) -> Pairs
+        ensures { result ≡ [] }
+    {
+        Pairs {
+            bytes: Vec::new(alloc),
+            heads: Vec::new(alloc),
+        }
+    }
+
+    /// How many pairs it has.
+    pub fn len(&self) -> usize
+        ensures count { result ≡ length self.now }
+        ensures short { length self.now < 2 ^ 63 }
+    {
+        self.heads.len()
+    }
+
+    /// Whether it has no pair.
+    pub fn is_empty(&self) -> bool
+        ensures { result ≡ nat_eq (length self.now) 0 }
+    {
+        self.len() == 0
+    }
+
+    /// Takes out all pairs. It keeps its memory.
+    pub fn clear(&mut self)
+        ensures { self.new ≡ [] }
+    {
+        self.bytes.clear();
+        self.heads.clear();
+    }
+
+    /// Adds a pair at the end. Where memory ends, the list stays as it is.
+    pub fn push(&mut self, key: &[u8], value: u64) -> Result<(), AllocError>
+        requires { IsKey key.now }
+        ensures ok { OnOk result (self.new ≡ self.old ++ (key.now, value) ∷ []) }
+        ensures err { OnErr result (self.new ≡ self.old) }
+    {
+        self.heads.reserve(1)?;
+        self.bytes.extend_from_slice(key)?;
+        self.heads.push_reserved(Head {
+            count: key.len() as u8,
+            value,
+        });
+        Ok(())
+    }
+
+    /// The pairs, from the first one on.
+    pub fn iter(&self) -> Iter<'_>
+        ensures { result ≡ self.now }
+    {
+        Iter::of(&self.bytes, &self.heads)
+    }
+
+    /// The same pairs, with keys that are values of their own.
+    pub fn to_vec(&self, alloc: Global) -> Result<Vec<(Key, u64)>, AllocError>
+        ensures { IfOk result (λ list. list.items ≡ self.now) }
+    {
+        let mut list = Vec::new(alloc);
+        list.reserve(self.len())?;
+        let mut rest = self.iter();
+        while let Some((key, value)) = rest.next_key() {
+            list.push_reserved((key, value));
+        }
+        Ok(list)
+    }
+}
