@@ -1,7 +1,7 @@
 -- How a scan ends: its pass clears the pin, and adds no note.
 use Rattle.std.specs.Prelude.{IsSome, IfOk, OnErr, Result, Ok, Err}
 use Rattle.std.specs.declared.alloc.AllocError.{AllocError}
-use Rattle.std.proofs.Common.{◌≡◌, ℕ, List, [], ◌++◌, sym, ap, subst, ◌∙◌, ◌+◌, ◌≤◌, arith}
+use Rattle.std.proofs.Common.{◌≡◌, ℕ, Bool, List, [], ◌++◌, sym, ap, subst, ◌∙◌, ◌+◌, ◌≤◌, arith}
 use Rattle.std.proofs.lemmas.List.{append-nil}
 use Rattle.hot_model.specs.declared.Note.{Note}
 use Rattle.hot_model.specs.declared.Scan.{Scan}
@@ -18,8 +18,9 @@ use Rattle.epochs.specs.Runs.{Pins}
 use Rattle.rowex_core.specs.declared.event.Event.{Event}
 use Rattle.rowex_table.specs.Seats.{SeatView, TableView}
 use Rattle.rowex_walks.specs.Scan.{Range}
-use Rattle.hot_index.specs.Passes.{IsSettled, pass_of}
-use Rattle.hot_index.specs.Answers.{IsScanned, IsUnnoted}
+use Rattle.tries.specs.Keys.{Key}
+use Rattle.hot_index.specs.Passes.{PassView, IsSettled, pass_of}
+use Rattle.hot_index.specs.Answers.{IsListed, IsScanned, IsUnnoted}
 use Rattle.rowex_scanning.specs.Scanning.{HasScanned}
 use Rattle.rowex_scanning.proofs.Scanned.{lawful_scan}
 use Rattle.hot_index.proofs.Noting.{HasLooked, goes_on, legal_front, settles}
@@ -27,13 +28,21 @@ use Rattle.rowex_reading.proofs.Loading.{pinned_by}
 
 -- What follows of an answer, and of a refusal.
 
-pub if_answered : (r : Result Scan AllocError) (P Q : Scan → Type 0) → ((scan : Scan) → P scan → Q scan) → IfOk r P → IfOk r Q
-if_answered (Ok scan) P Q f h = f scan h
+pub if_answered : {A : Type 0} (r : Result A AllocError) (P Q : A → Type 0) → ((answer : A) → P answer → Q answer) → IfOk r P → IfOk r Q
+if_answered (Ok answer) P Q f h = f answer h
 if_answered (Err e) P Q f h = h
 
-pub if_refused : (r : Result Scan AllocError) (Q : Type 0) → Q → OnErr r Q
-if_refused (Ok scan) Q h = tt
+pub if_refused : {A : Type 0} (r : Result A AllocError) (Q : Type 0) → Q → OnErr r Q
+if_refused (Ok answer) Q h = tt
 if_refused (Err e) Q h = h
+
+-- A list has the pairs of a scan, or they are not copied, for want of memory.
+module _ {layout : Layout} {k j : PassView} {from upto : Key} {limit : ℕ} {pairs : List (Key × ℕ)} {more : Bool} (h : IsListed layout k j from upto limit pairs more) where
+  pub listed_scanned : (scan : Scan) → scan.pairs.items ≡ pairs → scan.more ≡ more → IsScanned layout k j from upto limit scan
+  listed_scanned scan same last = record { on = h.on; notes = h.notes; lawful = h.lawful scan same last; legal = h.legal }
+
+  pub listed_refused : IsUnnoted layout k j
+  listed_refused = record { number = h.on.number; front = h.on.front; notes = h.notes; legal = h.legal; makers = h.on.makers }
 
 -- The pass was settled, has looked since, and clears the pin now.
 module _ {layout : Layout} {i : Known} (s t : SeatView) (settled : IsSettled s.known) (looks : HasLooked s.known i) (event : IsEvent layout ClearPin silent i t.known) where
@@ -56,13 +65,15 @@ module _ {layout : Layout} {i : Known} (s t : SeatView) (settled : IsSettled s.k
   pub scan_refused : IsUnnoted layout (pass_of s) (pass_of t)
   scan_refused = let on = goes_on s t looks.on event in record { number = on.number; front = on.front; notes = notes_stay; legal = legal_then; makers = on.makers }
 
-  pub scan_answered : (g : Range) → IsKey g.from × IsKey g.upto → IsSome i.pin → (scan : Scan) → HasScanned i g scan → IsScanned layout (pass_of s) (pass_of t) g.from g.upto g.limit scan
-  scan_answered g keys is scan h = record {
+  pub scan_answered : (g : Range) → IsKey g.from × IsKey g.upto → IsSome i.pin → (pairs : List (Key × ℕ)) (more : Bool) → HasScanned i g pairs more →
+      IsListed layout (pass_of s) (pass_of t) g.from g.upto g.limit pairs more
+  scan_answered g keys is pairs more h = record {
     on = goes_on s t looks.on event;
     notes = notes_stay;
-    lawful =
+    lawful = λ scan same last.
         let p = pinned_by i.pin is in
-        subst (λ (z : Known). IsLawfulScan z.fresh.front z.front g.from g.upto g.limit scan) (sym event.learned_is) (lawful_scan i g scan layout silent t.known keys.0 keys.1 p.0 p.1 h event);
+        let listed = subst (λ z. HasScanned i g z scan.more) (sym same) (subst (λ z. HasScanned i g pairs z) (sym last) h) in
+        subst (λ (z : Known). IsLawfulScan z.fresh.front z.front g.from g.upto g.limit scan) (sym event.learned_is) (lawful_scan i g scan layout silent t.known keys.0 keys.1 p.0 p.1 listed event);
     legal = legal_then;
   }
 

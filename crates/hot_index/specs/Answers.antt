@@ -1,5 +1,5 @@
 -- What calls of an index say.
-use Rattle.std.specs.Prelude.{◌≡◌, ◌≢◌, ◌⊎◌, ℕ, ◌<◌, ◌≤◌, [], ◌∷◌, ◌++◌, length, Option, Some, None}
+use Rattle.std.specs.Prelude.{◌≡◌, ◌≢◌, ◌⊎◌, ℕ, ◌<◌, ◌≤◌, List, [], ◌∷◌, ◌++◌, length, Bool, Option, Some, None}
 use Rattle.hot_model.specs.declared.Call.{Call}
 use Rattle.hot_model.specs.declared.Call.TheVariants.{Insert, Upsert, Get, Remove}
 use Rattle.hot_model.specs.declared.Reply.{Reply}
@@ -51,6 +51,14 @@ pub record IsScanned (layout : Layout) (k j : PassView) (from upto : Key) (limit
   pub on : GoesOn layout k j
   pub notes : j.notes ≡ k.notes
   pub lawful : IsLawfulScan j.fresh.front j.front from upto limit scan
+  pub legal : LegalCalls j.front j.number j.notes
+
+-- A scan into a list was answered, whether there is a further key. It adds no note; and a scan with these pairs is lawful from the
+-- last load of the root to what the pass has seen now.
+pub record IsListed (layout : Layout) (k j : PassView) (from upto : Key) (limit : ℕ) (pairs : List (Key × ℕ)) (more : Bool) : Type 0 where
+  pub on : GoesOn layout k j
+  pub notes : j.notes ≡ k.notes
+  pub lawful : (scan : Scan) → scan.pairs.items ≡ pairs → scan.more ≡ more → IsLawfulScan j.fresh.front j.front from upto limit scan
   pub legal : LegalCalls j.front j.number j.notes
 
 -- A call was refused or asked nothing of the map: no note is added.

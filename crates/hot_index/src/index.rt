@@ -14,7 +14,7 @@ ghost use Rattle.rowex_table.specs.Seats.{IsPassOf, IsNewSeatOf, SeatView};
 ghost use Rattle.rowex_writing.specs.Attempts.{call_of};
 ghost use Rattle.hot_index.specs.Passes.{PassView, Owns, IsNewPass, IsSettled, pass_of};
 ghost use Rattle.hot_index.specs.Counts.{scan_steps};
-ghost use Rattle.hot_index.specs.Answers.{IsNoted, IsRefused, IsScanned, IsUnnoted, HaveMet, MayLack, fault_of, got};
+ghost use Rattle.hot_index.specs.Answers.{IsListed, IsNoted, IsRefused, IsScanned, IsUnnoted, HaveMet, MayLack, fault_of, got};
 ghost use Rattle.hot_index.specs.Traces.{HasCollected, HasGot, HasMade, HasRead, HasTold, untold};
 
 use crate::changing::{change, try_change};
@@ -22,6 +22,7 @@ use crate::room::{Room, new_room};
 use epochs::{Given, collect_round, pin, unpin};
 use hot_model::{Call, Reply, Scan};
 use key_bits::Key;
+use packed_pairs::Pairs;
 use record_words::{Layout, LayoutFault, Stock};
 use rowex_core::{Gate, NoGate};
 use rowex_reading::look_up;
@@ -417,12 +418,52 @@ impl Index {
         ensures steps { pass.new.steps ≤ pass.old.steps + scan_steps limit }
         ensures read { HasRead self.now G.becomes (pass.old, gate.old) (pass.new, gate.new) }
     {
-        let range = Range {
-            alloc,
-            from,
-            upto,
-            limit,
-        };
+        let mut list = Pairs::new(alloc);
+        let more = self.scan_into_with(pass, from, upto, limit, &mut list, gate)?;
+        let pairs = list.to_vec(alloc)?;
+        Ok(Scan { pairs, more })
+    }
+
+    /// `scan` into a list: its pairs take the place of those that the list has. Answers whether the range has a further key.
+    ///
+    /// A list that is used again keeps its memory, and each key is written once, with as many bytes as it has: so this is the scan
+    /// to ask for often. Where memory ends, the list has some of the pairs.
+    pub fn scan_into(
+        &self,
+        pass: &mut Pass,
+        from: &Key,
+        upto: &Key,
+        limit: usize,
+        pairs: &mut Pairs,
+    ) -> Result<bool, AllocError>
+        requires { Owns self.now pass.old }
+        ensures own { Owns self.now pass.new }
+        ensures ok { IfOk result (IsListed self.now.layout pass.old pass.new from.now upto.now limit pairs.new) }
+        ensures err { OnErr result (IsUnnoted self.now.layout pass.old pass.new) }
+        ensures steps { pass.new.steps ≤ pass.old.steps + scan_steps limit }
+        ensures read { HasRead self.now untold (pass.old, tt) (pass.new, tt) }
+    {
+        self.scan_into_with(pass, from, upto, limit, pairs, &mut NoGate)
+    }
+
+    /// `scan_into`, with a gate that is told each of its steps.
+    pub fn scan_into_with<G: Gate>(
+        &self,
+        pass: &mut Pass,
+        from: &Key,
+        upto: &Key,
+        limit: usize,
+        pairs: &mut Pairs,
+        gate: &mut G,
+    ) -> Result<bool, AllocError>
+        requires { Owns self.now pass.old }
+        ensures own { Owns self.now pass.new }
+        ensures ok { IfOk result (IsListed self.now.layout pass.old pass.new from.now upto.now limit pairs.new) }
+        ensures err { OnErr result (IsUnnoted self.now.layout pass.old pass.new) }
+        ensures steps { pass.new.steps ≤ pass.old.steps + scan_steps limit }
+        ensures read { HasRead self.now G.becomes (pass.old, gate.old) (pass.new, gate.new) }
+    {
+        let range = Range { from, upto, limit };
         pin(&self.table, &mut pass.seat, gate);
         let scan = scan_root(
             &self.table,
@@ -430,6 +471,7 @@ impl Index {
             gate,
             &mut pass.room.way,
             &range,
+            pairs,
         );
         unpin(&self.table, &mut pass.seat, gate);
         scan

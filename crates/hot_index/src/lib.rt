@@ -11,5 +11,6 @@ pub use epochs::Given;
 pub use hot_model::{Call, Reply, Scan};
 pub use index::{Index, IndexFault, Pass, create, create_with};
 pub use key_bits::Key;
+pub use packed_pairs::Pairs;
 pub use rowex_core::{Event, Gate, NoGate};
 pub use rowex_writing::{Full, TryFault};

@@ -20,7 +20,7 @@ use Rattle.rowex_reading.proofs.Seeing.{seen_told, seen_steady}
 use Rattle.rowex_reading.proofs.Later.{event_recalls}
 
 -- What a scan has taken is lawful from the last load of the root to what the pass has seen.
-pub lawful_scan : (k : Known) (g : Range) (scan : Scan) (layout : Layout) (said : Known → List Note) (j : Known) → IsKey g.from → IsKey g.upto → (p : Pin) → k.pin ≡ Some p → HasScanned k g scan → IsEvent layout ClearPin said k j →
+pub lawful_scan : (k : Known) (g : Range) (scan : Scan) (layout : Layout) (said : Known → List Note) (j : Known) → IsKey g.from → IsKey g.upto → (p : Pin) → k.pin ≡ Some p → HasScanned k g scan.pairs.items scan.more → IsEvent layout ClearPin said k j →
     IsLawfulScan k.fresh.front k.front g.from g.upto g.limit scan
 lawful_scan k g scan layout said j kf ku p pin h event =
     subst (λ (z : List Change). IsLawfulScan k.fresh.front z g.from g.upto g.limit scan) (sym event.knows.seen.fresh.1) (go scan.more refl (h.answer event.core event.lawful (event_recalls event)))

@@ -33,7 +33,7 @@ use Rattle.rowex_scanning.specs.declared.scanning.Verdict.{Verdict}
 use Rattle.rowex_scanning.specs.declared.scanning.Verdict.TheVariants.{Further, Past as IsPast, Full}
 use Rattle.rowex_reading.specs.Seen.{seen, Sure, IsAtRoot, IsLedTo, HasPlace, since, shape_of}
 use Rattle.rowex_table.specs.Made.{IsLater}
-use Rattle.rowex_scanning.specs.Scanning.{HasListed, IsAnswer, IsLeafTaken, IsNotBelow, IsPairTaken, frame, frames_of, IsEntered, AreInside, AreOver, IsFloor, IsWalk}
+use Rattle.rowex_scanning.specs.Scanning.{HasScanned, IsAnswer, IsLeafTaken, IsNotBelow, IsPairTaken, frame, frames_of, IsEntered, AreInside, AreOver, IsFloor, IsWalk}
 use Rattle.rowex_scanning.specs.Counts.{scan_loads, walk_loads}
 use Rattle.rowex_core.proofs.Owning.{recalls}
 use Rattle.rowex_walks.proofs.Starts.{over_on, over_later, over_down}
@@ -297,19 +297,19 @@ module _ {k j : Known} {m : ℕ} {g : Range} {top : Step} {frames : List Step} {
   taken_more is = ap length (taken is).2 ∙ length-append pairs ((t.key, t.value) ∷ [])
 
   module _ (e : since j ≡ m) where
-    ends : (b : Bool) → more ≡ pairs → Sure j (λ s. IsAnswer s m g a.walk.taken b) → HasListed j g more b
+    ends : (b : Bool) → more ≡ pairs → Sure j (λ s. IsAnswer s m g a.walk.taken b) → HasScanned j g more b
     ends b stay answer = record {
       taken = a.walk.taken;
       pairs_are = stay ∙ a.walk.pairs_are;
       answer = subst (λ z. Sure j (λ s. IsAnswer s z g a.walk.taken b)) (sym e) answer;
     }
 
-    pub walk_past : verdict ≡ IsPast → HasListed j g more false
+    pub walk_past : verdict ≡ IsPast → HasScanned j g more false
     walk_past is = let (high, stay) = taken is in ends false stay (λ c lawful recalls.
         scan_past (seen c j) m (steady a l c lawful recalls) g a.walk.lowest a.walk.others a.walk.taken (scan_later a.walk l c lawful recalls) number t.key t.value
         (there a l c lawful recalls) (read c lawful recalls) high)
 
-    pub walk_full : verdict ≡ Full → HasListed j g more true
+    pub walk_full : verdict ≡ Full → HasScanned j g more true
     walk_full is = let (within, full, stay) = taken is in ends true stay (λ c lawful recalls.
         scan_cut (seen c j) m (steady a l c lawful recalls) g a.walk.lowest a.walk.others a.walk.taken (scan_later a.walk l c lawful recalls) number t.key t.value
         (there a l c lawful recalls) (read c lawful recalls) within (sym (length_turned a.walk.taken) ∙ (sym (ap length a.walk.pairs_are) ∙ full)))
@@ -376,7 +376,7 @@ module _ {k : Known} {m : ℕ} {g : Range} {top : Step} {frames : List Step} {pa
       let before : rest_of (record lower { at = lower.at + 1 }) rest ≡ remaining (next b.stage ∷ b.stages) = whole_is (next b.stage) b.stages (at_next b.stage b.below_is) b.rest_are in
       subst (λ z. z < rest_of top frames) (sym before) (subst (λ z. remaining (next b.stage ∷ b.stages) < z) (sym after) less)
 
-  pub walk_end : frames ≡ [] → top.count ≤ top.at → since k ≡ m → HasListed k g pairs false
+  pub walk_end : frames ≡ [] → top.count ≤ top.at → since k ≡ m → HasScanned k g pairs false
   walk_end none done e = record {
     taken = w.taken;
     pairs_are = w.pairs_are;
@@ -558,12 +558,12 @@ none_popped {frames} some is = empty_is frames (⊎_elim (λ lt. absurd (let z :
 -- Scans without a walk
 
 -- the root is None
-pub blank_listed : {k : Known} (g : Range) {pairs : List (Key × ℕ)} → pairs ≡ [] → Sure k (λ s. IsBlank s (since k)) → HasListed k g pairs false
-blank_listed {k} g none blank = record { taken = []; pairs_are = none; answer = λ c lawful recalls. scan_blank (seen c k) (since k) g (blank c lawful recalls) }
+pub blank_scanned : {k : Known} (g : Range) {pairs : List (Key × ℕ)} → pairs ≡ [] → Sure k (λ s. IsBlank s (since k)) → HasScanned k g pairs false
+blank_scanned {k} g none blank = record { taken = []; pairs_are = none; answer = λ c lawful recalls. scan_blank (seen c k) (since k) g (blank c lawful recalls) }
 
 -- nothing is between the keys
-pub nothing_listed : {k : Known} (g : Range) {pairs : List (Key × ℕ)} → pairs ≡ [] → IsBefore g.upto g.from → HasListed k g pairs false
-nothing_listed {k} g none before = record {
+pub nothing_scanned : {k : Known} (g : Range) {pairs : List (Key × ℕ)} → pairs ≡ [] → IsBefore g.upto g.from → HasScanned k g pairs false
+nothing_scanned {k} g none before = record {
   taken = [];
   pairs_are = none;
   answer = λ c lawful recalls. record {
@@ -588,27 +588,27 @@ module _ {k j : Known} (g : Range) (number : ℕ) (key : Key) (value : ℕ) (l :
   fixed : (c : Core) → IsLawful c → Recalls c j → IsSteady (seen c j) (since k)
   fixed c lawful recalls = seen_steady lawful recalls (since_later l root.0)
 
-  answered : {pairs : List (Key × ℕ)} (taken : List Pair) → pairs ≡ turned taken → (more : Bool) → Sure j (λ s. IsAnswer s (since k) g taken more) → HasListed j g pairs more
+  answered : {pairs : List (Key × ℕ)} (taken : List Pair) → pairs ≡ turned taken → (more : Bool) → Sure j (λ s. IsAnswer s (since k) g taken more) → HasScanned j g pairs more
   answered taken e more answer = record { taken = taken; pairs_are = e; answer = subst (λ z. Sure j (λ s. IsAnswer s z g taken more)) (sym same) answer }
 
-  pub leaf_below : {pairs : List (Key × ℕ)} → pairs ≡ [] → IsBefore key g.from → HasListed j g pairs false
+  pub leaf_below : {pairs : List (Key × ℕ)} → pairs ≡ [] → IsBefore key g.from → HasScanned j g pairs false
   leaf_below e low =
       answered [] e false (λ c lawful recalls. scan_outside (seen c j) (since k) (fixed c lawful recalls) g number key value (rooted c lawful recalls) (read c lawful recalls) (inl low))
 
   module _ {pairs more : List (Key × ℕ)} (none : pairs ≡ []) {verdict : Verdict} (t : IsPairTaken g pairs key value more verdict) where
-    pub leaf_further : verdict ≡ Further → HasListed j g more false
+    pub leaf_further : verdict ≡ Further → HasScanned j g more false
     leaf_further is =
         let (within, room, e) = at_first g key value pairs more verdict Further none is t in
         answered (record { key = key; value = value } ∷ []) e false
         (λ c lawful recalls. scan_one (seen c j) (since k) (fixed c lawful recalls) g number key value (rooted c lawful recalls) (read c lawful recalls) within (let ne : 0 ≢ g.limit = room in omega arith))
 
-    pub leaf_past : verdict ≡ IsPast → HasListed j g more false
+    pub leaf_past : verdict ≡ IsPast → HasScanned j g more false
     leaf_past is =
         let (high, e) = at_first g key value pairs more verdict IsPast none is t in
         answered [] e false
         (λ c lawful recalls. scan_outside (seen c j) (since k) (fixed c lawful recalls) g number key value (rooted c lawful recalls) (read c lawful recalls) (inr high))
 
-    pub leaf_full : verdict ≡ Full → HasListed j g more true
+    pub leaf_full : verdict ≡ Full → HasScanned j g more true
     leaf_full is =
         let (within, full, e) = at_first g key value pairs more verdict Full none is t in
         answered [] e true (λ c lawful recalls. scan_nought (seen c j) (since k) g number key value (read c lawful recalls) within (sym full))

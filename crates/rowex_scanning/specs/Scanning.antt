@@ -1,6 +1,5 @@
 -- What a scan knows on its way, and of what it answers.
 use Rattle.std.specs.Prelude.{◌≡◌, ◌≢◌, ℕ, ◌+◌, ◌<◌, ◌≤◌, List, [], ◌∷◌, ◌++◌, length, take, Bool, false, true}
-use Rattle.hot_model.specs.declared.Scan.{Scan}
 use Rattle.compound_node.specs.declared.entries.Entry.TheVariants.{Leaf}
 use Rattle.insert_cases.specs.declared.choice.Step.{Step}
 use Rattle.pieces.specs.Piece.{size}
@@ -28,13 +27,10 @@ IsAnswer s m g xs false = IsComplete s m g xs
 IsAnswer s m g xs true = IsCut s m g xs
 
 -- the pass is sure of the pairs that a scan gives, since its last load of the root, and of whether there is a further one
-pub record HasListed (k : Known) (g : Range) (pairs : List (Key × ℕ)) (more : Bool) : Type 0 where
+pub record HasScanned (k : Known) (g : Range) (pairs : List (Key × ℕ)) (more : Bool) : Type 0 where
   pub taken : List Pair
   pub pairs_are : pairs ≡ turned taken
   pub answer : Sure k (λ s. IsAnswer s (since k) g taken more)
-
-abbrev pub HasScanned : Known → Range → Scan → Type 0
-HasScanned k g scan = HasListed k g scan.pairs.items scan.more
 
 -- What became of the pairs at one with this key and value, which is not below the range: it belonged to the range; or it was above
 -- the range; or it belonged to the range and there was no room.

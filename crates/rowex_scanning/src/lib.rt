@@ -4,4 +4,4 @@
 
 mod scanning;
 
-pub use scanning::{Range, list_root, scan_root};
+pub use scanning::{Range, scan_root};

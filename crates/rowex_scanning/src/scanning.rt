@@ -12,11 +12,10 @@ ghost use Rattle.rowex_reading.specs.Seen.{IsAtRoot, IsLedTo, since};
 ghost use Rattle.rowex_reading.specs.Ways.{IsWayOf};
 ghost use Rattle.rowex_reading.specs.declared.descent.Found.TheVariants.{Leaf as FoundLeaf};
 ghost use Rattle.rowex_scanning.specs.Counts.{scan_loads, walk_loads};
-ghost use Rattle.rowex_scanning.specs.Scanning.{HasListed, HasScanned, IsEntered, IsFloor, IsLeafTaken, IsNotBelow, IsPairTaken, IsStart, IsWalk, range_of};
+ghost use Rattle.rowex_scanning.specs.Scanning.{HasScanned, IsEntered, IsFloor, IsLeafTaken, IsNotBelow, IsPairTaken, IsStart, IsWalk, range_of};
 
 use arrayvec::ArrayVec;
 use compound_node::Entry;
-use hot_model::Scan;
 use insert_cases::{Step, choose, level_below};
 use key_bits::{Key, MAX_BYTES};
 use packed_pairs::Pairs;
@@ -25,7 +24,7 @@ use rowex_reading::{
     Found, MOST_NODES, load_entry, load_head, load_places, load_root, search_way, step_of,
 };
 use rowex_table::{HotTable, TableSeat};
-use std::alloc::{AllocError, Global};
+use std::alloc::AllocError;
 
 /// What a scan asks for.
 #[derive(Drop)]
@@ -61,32 +60,10 @@ enum Verdict {
     Full,
 }
 
-/// The scan of a pinned pass: the first pairs of the range, so many as the limit says, and whether there is a further one. An error
-/// where memory ends; the pass has made loads alone then too. The nodes of its way are left in `way`, which need not be empty.
+/// The scan of a pinned pass: the first pairs of the range, so many as the limit says, take the place of those in the list; and it
+/// answers whether there is a further one. An error where memory ends; the pass has made loads alone then too, and the list has some
+/// of the pairs. The nodes of its way are left in `way`, which need not be empty.
 pub fn scan_root<G: Gate>(
-    alloc: Global,
-    table: &HotTable,
-    seat: &mut TableSeat,
-    gate: &mut G,
-    way: &mut ArrayVec<Step, MOST_NODES>,
-    range: &Range,
-) -> Result<Scan, AllocError>
-    requires own { IsSeatOf table.now seat.old }
-    requires pinned { IsSome seat.old.known.pin }
-    ensures looks { (n : ℕ) × Looks table.now G.becomes n (seat.old, gate.old) (seat.new, gate.new) }
-    ensures keys { IsKey range.now.from.now × IsKey range.now.upto.now }
-    ensures scanned { IfOk result (HasScanned seat.new.known (range_of range.now)) }
-    ensures few { seat.new.known.steps ≤ seat.old.known.steps + (1 + scan_loads range.now.limit) }
-{
-    let mut list = Pairs::new(alloc);
-    let more = list_root(table, seat, gate, way, range, &mut list)?;
-    let pairs = list.to_vec(alloc)?;
-    Ok(Scan { pairs, more })
-}
-
-/// The scan of a pinned pass, whose pairs take the place of those in the list, and whether there is a further one. An error where
-/// memory ends; the list has some pairs of the range then, and the pass has made loads alone.
-pub fn list_root<G: Gate>(
     table: &HotTable,
     seat: &mut TableSeat,
     gate: &mut G,
@@ -98,7 +75,7 @@ pub fn list_root<G: Gate>(
     requires pinned { IsSome seat.old.known.pin }
     ensures looks { (n : ℕ) × Looks table.now G.becomes n (seat.old, gate.old) (seat.new, gate.new) }
     ensures keys { IsKey range.now.from.now × IsKey range.now.upto.now }
-    ensures listed { IfOk result (HasListed seat.new.known (range_of range.now) pairs.new) }
+    ensures scanned { IfOk result (HasScanned seat.new.known (range_of range.now) pairs.new) }
     ensures few { seat.new.known.steps ≤ seat.old.known.steps + (1 + scan_loads range.now.limit) }
 {
     pairs.clear();
@@ -114,16 +91,16 @@ pub fn list_root<G: Gate>(
             ..
         } => {
             if way.len() == 0 {
-                list_leaf(table, seat, gate, range, number, pairs)
+                scan_leaf(table, seat, gate, range, number, pairs)
             } else {
-                list_node(table, seat, gate, way, range, number, mismatch, pairs)
+                scan_node(table, seat, gate, way, range, number, mismatch, pairs)
             }
         }
     }
 }
 
 /// The scan from a root that is a leaf.
-fn list_leaf<G: Gate>(
+fn scan_leaf<G: Gate>(
     table: &HotTable,
     seat: &mut TableSeat,
     gate: &mut G,
@@ -135,7 +112,7 @@ fn list_leaf<G: Gate>(
     requires root { IsAtRoot seat.old.known (LeafEntry number) }
     requires empty { pairs.old ≡ [] }
     ensures reads { (n : ℕ) × (n ≤ LEAF_FIELDS) × Reads table.now G.becomes n (seat.old, gate.old) (seat.new, gate.new) }
-    ensures listed { IfOk result (HasListed seat.new.known (range_of range.now) pairs.new) }
+    ensures scanned { IfOk result (HasScanned seat.new.known (range_of range.now) pairs.new) }
 {
     let mut places = [0; MAX_BYTES];
     let (length, value) = load_places(table, seat, gate, number, &mut places);
@@ -150,7 +127,7 @@ fn list_leaf<G: Gate>(
 }
 
 /// The scan from a root that is a node, below which the search for the range's first key has ended at this leaf.
-fn list_node<G: Gate>(
+fn scan_node<G: Gate>(
     table: &HotTable,
     seat: &mut TableSeat,
     gate: &mut G,
@@ -165,7 +142,7 @@ fn list_node<G: Gate>(
     requires way { (v : ℕ) × IsWayOf table.now.layout seat.old.known (since seat.old.known) range.now.from.now way.old.items (FoundLeaf number v mismatch) }
     requires empty { pairs.old ≡ [] }
     ensures reads { (n : ℕ) × (n ≤ HEAD_WORDS + LEAF_FIELDS + walk_loads range.now.limit) × Reads table.now G.becomes n (seat.old, gate.old) (seat.new, gate.new) }
-    ensures listed { IfOk result (HasListed seat.new.known (range_of range.now) pairs.new) }
+    ensures scanned { IfOk result (HasScanned seat.new.known (range_of range.now) pairs.new) }
 {
     let start = start_at(table, seat, gate, way, range.from, number, mismatch);
     let mut top = start.top;
@@ -235,7 +212,7 @@ fn walk<G: Gate>(
     requires walk { IsWalk seat.old.known (since seat.old.known) (range_of range.now) lowest way.old.items pairs.old }
     requires floor { IsFloor seat.old.known (since seat.old.known) range.now.from.now lowest way.old.items }
     ensures reads { (n : ℕ) × (n ≤ walk_loads range.now.limit) × Reads table.now G.becomes n (seat.old, gate.old) (seat.new, gate.new) }
-    ensures listed { IfOk result (HasListed seat.new.known (range_of range.now) pairs.new) }
+    ensures scanned { IfOk result (HasScanned seat.new.known (range_of range.now) pairs.new) }
 {
     let mut top = lowest;
     loop {

@@ -108,16 +108,16 @@ loop-top-preserved-in-Further g c =
 pub returns-in-Past-clause-reads : goal.returns-in-Past-clause-reads
 returns-in-Past-clause-reads g c = let i = c.loop-top.invariant in paid_last i.reads i.walk i.reader.1 c.load_entry.ensures.reads c.take_leaf.ensures.reads
 
-pub returns-in-Past-clause-listed : goal.returns-in-Past-clause-listed
-returns-in-Past-clause-listed g c =
-    let at = goal.at.returns-in-Past-clause-listed g c in walk_past (leaf g at.In-Leaf) (reads_later c.take_leaf.ensures.reads.2) c.in_ok-take_leaf-in-Leaf.ensures.taken (same g at.After-take_leaf) c.in-Past.is
+pub returns-in-Past-clause-scanned : goal.returns-in-Past-clause-scanned
+returns-in-Past-clause-scanned g c =
+    let at = goal.at.returns-in-Past-clause-scanned g c in walk_past (leaf g at.In-Leaf) (reads_later c.take_leaf.ensures.reads.2) c.in_ok-take_leaf-in-Leaf.ensures.taken (same g at.After-take_leaf) c.in-Past.is
 
 pub returns-in-Full-clause-reads : goal.returns-in-Full-clause-reads
 returns-in-Full-clause-reads g c = let i = c.loop-top.invariant in paid_last i.reads i.walk i.reader.1 c.load_entry.ensures.reads c.take_leaf.ensures.reads
 
-pub returns-in-Full-clause-listed : goal.returns-in-Full-clause-listed
-returns-in-Full-clause-listed g c =
-    let at = goal.at.returns-in-Full-clause-listed g c in walk_full (leaf g at.In-Leaf) (reads_later c.take_leaf.ensures.reads.2) c.in_ok-take_leaf-in-Leaf.ensures.taken (same g at.After-take_leaf) c.in-Full.is
+pub returns-in-Full-clause-scanned : goal.returns-in-Full-clause-scanned
+returns-in-Full-clause-scanned g c =
+    let at = goal.at.returns-in-Full-clause-scanned g c in walk_full (leaf g at.In-Leaf) (reads_later c.take_leaf.ensures.reads.2) c.in_ok-take_leaf-in-Leaf.ensures.taken (same g at.After-take_leaf) c.in-Full.is
 
 pub overflow_add-top-in-Some : goal.overflow_add-top-in-Some
 overflow_add-top-in-Some g c = let h = walk_inside c.loop-top.invariant.walk c.in-Some.above c.pop.new.self.items (popped_is c.pop.new.self.items c.pop.ensures.items c.in-Some.is) in let a = h.0 in omega (arith, a)
@@ -142,7 +142,7 @@ returns-in-None-clause-reads g c =
     let i = c.loop-top.invariant in
     (i.reads.0, paid_end i.reads.0 (length c.loop-top.pairs) c.args.range.now.limit c.loop-top.top c.loop-top.way.items i.reads.1 (none_popped c.pop.ensures.variant c.in-None.is) (walk_short i.walk i.reader.1), i.reads.2)
 
-pub returns-in-None-clause-listed : goal.returns-in-None-clause-listed
-returns-in-None-clause-listed g c =
+pub returns-in-None-clause-scanned : goal.returns-in-None-clause-scanned
+returns-in-None-clause-scanned g c =
     let i = c.loop-top.invariant in
     walk_end i.walk (none_popped c.pop.ensures.variant c.in-None.is) c.if-top.false (same_since i.reads.2)

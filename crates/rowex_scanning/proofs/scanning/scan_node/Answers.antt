@@ -7,9 +7,9 @@ use Rattle.rowex_reading.proofs.Led.{reader_then, reads_later, reads_trans, same
 use Rattle.rowex_scanning.specs.Scanning.{range_of}
 use Rattle.rowex_scanning.proofs.Starting.{begun}
 use Rattle.rowex_scanning.proofs.Walking.{IsAtEntry, entry_led, floor_later, floor_since, reads_both, walk_full, walk_further, walk_past, walk_room, walk_since}
-use Rattle.rowex_scanning.proofs.scanning.list_node.Given as given
-use Rattle.rowex_scanning.proofs.scanning.list_node.Goals as goal
-use Rattle.rowex_scanning.proofs.scanning.list_node.Goals.{After-take_leaf, then-start+in_ok-take_leaf+in-Further, else-start}
+use Rattle.rowex_scanning.proofs.scanning.scan_node.Given as given
+use Rattle.rowex_scanning.proofs.scanning.scan_node.Goals as goal
+use Rattle.rowex_scanning.proofs.scanning.scan_node.Goals.{After-take_leaf, then-start+in_ok-take_leaf+in-Further, else-start}
 
 -- the leaf that comes first; and since the search the root was not loaded
 first : (g : given.Over) (c : After-take_leaf g) →
@@ -36,16 +36,16 @@ overflow_add-top g c =
 pub returns-in-Past-clause-reads : goal.returns-in-Past-clause-reads
 returns-in-Past-clause-reads g c = reads_both c.start_at-start.ensures.reads c.take_leaf.ensures.reads (omega arith)
 
-pub returns-in-Past-clause-listed : goal.returns-in-Past-clause-listed
-returns-in-Past-clause-listed g c =
-    let (a, same) = first g (goal.at.returns-in-Past-clause-listed g c).After-take_leaf in walk_past a (reads_later c.take_leaf.ensures.reads.2) c.in_ok-take_leaf.ensures.taken same c.in-Past.is
+pub returns-in-Past-clause-scanned : goal.returns-in-Past-clause-scanned
+returns-in-Past-clause-scanned g c =
+    let (a, same) = first g (goal.at.returns-in-Past-clause-scanned g c).After-take_leaf in walk_past a (reads_later c.take_leaf.ensures.reads.2) c.in_ok-take_leaf.ensures.taken same c.in-Past.is
 
 pub returns-in-Full-clause-reads : goal.returns-in-Full-clause-reads
 returns-in-Full-clause-reads g c = reads_both c.start_at-start.ensures.reads c.take_leaf.ensures.reads (omega arith)
 
-pub returns-in-Full-clause-listed : goal.returns-in-Full-clause-listed
-returns-in-Full-clause-listed g c =
-    let (a, same) = first g (goal.at.returns-in-Full-clause-listed g c).After-take_leaf in walk_full a (reads_later c.take_leaf.ensures.reads.2) c.in_ok-take_leaf.ensures.taken same c.in-Full.is
+pub returns-in-Full-clause-scanned : goal.returns-in-Full-clause-scanned
+returns-in-Full-clause-scanned g c =
+    let (a, same) = first g (goal.at.returns-in-Full-clause-scanned g c).After-take_leaf in walk_full a (reads_later c.take_leaf.ensures.reads.2) c.in_ok-take_leaf.ensures.taken same c.in-Full.is
 
 pub walk-requires-clause-reader : goal.walk-requires-clause-reader
 walk-requires-clause-reader g c =

@@ -7,17 +7,17 @@ use Rattle.rowex_reading.specs.Ways.{IsWayOf}
 use Rattle.tries.specs.Keys.{IsBefore}
 use Rattle.rowex_scanning.specs.Scanning.{range_of}
 use Rattle.rowex_scanning.proofs.Starting.{leaf_rooted, nothing_blank}
-use Rattle.rowex_scanning.proofs.Walking.{blank_listed, empty_is, nothing_listed, searched_few}
-use Rattle.rowex_scanning.proofs.scanning.list_root.Goals as goal
+use Rattle.rowex_scanning.proofs.Walking.{blank_scanned, empty_is, nothing_scanned, searched_few}
+use Rattle.rowex_scanning.proofs.scanning.scan_root.Goals as goal
 
 pub returns-then-is_before-clause-looks : goal.returns-then-is_before-clause-looks
 returns-then-is_before-clause-looks g c = (0, looks_first c.load_root.ensures.reads)
 
-pub returns-then-is_before-clause-listed : goal.returns-then-is_before-clause-listed
-returns-then-is_before-clause-listed g c =
+pub returns-then-is_before-clause-scanned : goal.returns-then-is_before-clause-scanned
+returns-then-is_before-clause-scanned g c =
     let before : IsBefore c.args.range.now.upto.now c.args.range.now.from.now =
     subst (λ z. IsBefore z c.args.range.now.from.now) c.as_bytes.ensures.bytes (subst (IsBefore c.as_bytes.result.now) c.as_bytes-2.ensures.bytes (c.is_before.ensures.before c.if-is_before.true)) in
-    nothing_listed (range_of c.args.range.now) c.clear.ensures before
+    nothing_scanned (range_of c.args.range.now) c.clear.ensures before
 
 pub returns-then-is_before-clause-few : goal.returns-then-is_before-clause-few
 returns-then-is_before-clause-few g c =
@@ -26,40 +26,40 @@ returns-then-is_before-clause-few g c =
 pub returns-in-Nothing-clause-looks : goal.returns-in-Nothing-clause-looks
 returns-in-Nothing-clause-looks g c = (c.search_way.ensures.searched.loaded, c.search_way.ensures.searched.looks)
 
-pub returns-in-Nothing-clause-listed : goal.returns-in-Nothing-clause-listed
-returns-in-Nothing-clause-listed g c =
+pub returns-in-Nothing-clause-scanned : goal.returns-in-Nothing-clause-scanned
+returns-in-Nothing-clause-scanned g c =
     let w = subst (IsWayOf c.args.table.now.layout c.search_way.new.seat.known (since c.search_way.new.seat.known) c.args.range.now.from.now c.search_way.new.way.items) c.in-Nothing.is c.search_way.ensures.way in
-    blank_listed (range_of c.args.range.now) c.clear.ensures (nothing_blank _ _ _ _ c.search_way.new.way.items w)
+    blank_scanned (range_of c.args.range.now) c.clear.ensures (nothing_blank _ _ _ _ c.search_way.new.way.items w)
 
 pub returns-in-Nothing-clause-few : goal.returns-in-Nothing-clause-few
 returns-in-Nothing-clause-few g c = searched_few {x = 0} c.args.range.now.limit c.search_way.ensures.searched (0, omega arith, reads_none (c.search_way.new.seat, c.search_way.new.gate)) (omega arith)
 
-pub list_leaf-requires-clause-reader : goal.list_leaf-requires-clause-reader
-list_leaf-requires-clause-reader g c = ((looks_same c.search_way.ensures.searched.looks).0 ∙ c.requires.own, c.search_way.ensures.possible)
+pub scan_leaf-requires-clause-reader : goal.scan_leaf-requires-clause-reader
+scan_leaf-requires-clause-reader g c = ((looks_same c.search_way.ensures.searched.looks).0 ∙ c.requires.own, c.search_way.ensures.possible)
 
-pub list_leaf-requires-clause-root : goal.list_leaf-requires-clause-root
-list_leaf-requires-clause-root g c =
+pub scan_leaf-requires-clause-root : goal.scan_leaf-requires-clause-root
+scan_leaf-requires-clause-root g c =
     let w = subst (IsWayOf c.args.table.now.layout c.search_way.new.seat.known (since c.search_way.new.seat.known) c.args.range.now.from.now c.search_way.new.way.items) c.in-Leaf.is c.search_way.ensures.way in
     leaf_rooted _ _ _ c.search_way.new.way.items c.in-Leaf.number _ _ (empty_is c.search_way.new.way.items (let n = c.len.ensures.value in let e = c.if-len-eq0.true in omega (arith, n, e))) w
 
 pub returns-then-len-eq0-clause-looks : goal.returns-then-len-eq0-clause-looks
-returns-then-len-eq0-clause-looks g c = let r = c.list_leaf.ensures.reads in (c.search_way.ensures.searched.loaded + r.0, looks_on c.search_way.ensures.searched.looks r.2)
+returns-then-len-eq0-clause-looks g c = let r = c.scan_leaf.ensures.reads in (c.search_way.ensures.searched.loaded + r.0, looks_on c.search_way.ensures.searched.looks r.2)
 
 pub returns-then-len-eq0-clause-few : goal.returns-then-len-eq0-clause-few
-returns-then-len-eq0-clause-few g c = searched_few c.args.range.now.limit c.search_way.ensures.searched c.list_leaf.ensures.reads (omega arith)
+returns-then-len-eq0-clause-few g c = searched_few c.args.range.now.limit c.search_way.ensures.searched c.scan_leaf.ensures.reads (omega arith)
 
-pub list_node-requires-clause-reader : goal.list_node-requires-clause-reader
-list_node-requires-clause-reader g c = ((looks_same c.search_way.ensures.searched.looks).0 ∙ c.requires.own, c.search_way.ensures.possible)
+pub scan_node-requires-clause-reader : goal.scan_node-requires-clause-reader
+scan_node-requires-clause-reader g c = ((looks_same c.search_way.ensures.searched.looks).0 ∙ c.requires.own, c.search_way.ensures.possible)
 
-pub list_node-requires-clause-nodes : goal.list_node-requires-clause-nodes
-list_node-requires-clause-nodes g c = let n = c.len.ensures.value in let e = c.if-len-eq0.false in omega (arith, n, e)
+pub scan_node-requires-clause-nodes : goal.scan_node-requires-clause-nodes
+scan_node-requires-clause-nodes g c = let n = c.len.ensures.value in let e = c.if-len-eq0.false in omega (arith, n, e)
 
-pub list_node-requires-clause-way : goal.list_node-requires-clause-way
-list_node-requires-clause-way g c =
+pub scan_node-requires-clause-way : goal.scan_node-requires-clause-way
+scan_node-requires-clause-way g c =
     (_, subst (IsWayOf c.args.table.now.layout c.search_way.new.seat.known (since c.search_way.new.seat.known) c.args.range.now.from.now c.search_way.new.way.items) c.in-Leaf.is c.search_way.ensures.way)
 
 pub returns-else-len-eq0-clause-looks : goal.returns-else-len-eq0-clause-looks
-returns-else-len-eq0-clause-looks g c = let r = c.list_node.ensures.reads in (c.search_way.ensures.searched.loaded + r.0, looks_on c.search_way.ensures.searched.looks r.2)
+returns-else-len-eq0-clause-looks g c = let r = c.scan_node.ensures.reads in (c.search_way.ensures.searched.loaded + r.0, looks_on c.search_way.ensures.searched.looks r.2)
 
 pub returns-else-len-eq0-clause-few : goal.returns-else-len-eq0-clause-few
-returns-else-len-eq0-clause-few g c = searched_few c.args.range.now.limit c.search_way.ensures.searched c.list_node.ensures.reads (omega arith)
+returns-else-len-eq0-clause-few g c = searched_few c.args.range.now.limit c.search_way.ensures.searched c.scan_node.ensures.reads (omega arith)

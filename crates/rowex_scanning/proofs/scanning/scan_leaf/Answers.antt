@@ -7,7 +7,7 @@ use Rattle.rowex_reading.specs.Seen.{since}
 use Rattle.rowex_reading.proofs.Led.{reads_later, rooted_led, same_since}
 use Rattle.rowex_scanning.specs.Scanning.{range_of}
 use Rattle.rowex_scanning.proofs.Walking.{leaf_below, leaf_further, leaf_past, leaf_full}
-use Rattle.rowex_scanning.proofs.scanning.list_leaf.Goals as goal
+use Rattle.rowex_scanning.proofs.scanning.scan_leaf.Goals as goal
 
 pub load_places-length-requires-clause-led : goal.load_places-length-requires-clause-led
 load_places-length-requires-clause-led g c = (since c.args.seat.now.known, rooted_led (Leaf c.args.number) c.requires.root)
@@ -15,8 +15,8 @@ load_places-length-requires-clause-led g c = (since c.args.seat.now.known, roote
 pub returns-then-is_before-clause-reads : goal.returns-then-is_before-clause-reads
 returns-then-is_before-clause-reads g c = (leaf_loads (take c.load_places-length.result.0 c.load_places-length.new.places), c.load_places-length.ensures.few, c.load_places-length.ensures.reads)
 
-pub returns-then-is_before-clause-listed : goal.returns-then-is_before-clause-listed
-returns-then-is_before-clause-listed g c =
+pub returns-then-is_before-clause-scanned : goal.returns-then-is_before-clause-scanned
+returns-then-is_before-clause-scanned g c =
     let e = c.load_places-length.ensures in
     leaf_below (range_of c.args.range.now) c.args.number (take c.load_places-length.result.0 c.load_places-length.new.places) c.load_places-length.result.1 (reads_later e.reads) c.requires.root
     (same_since e.reads) (e.leaf (since c.args.seat.now.known) (rooted_led (Leaf c.args.number) c.requires.root)) c.requires.empty
@@ -36,7 +36,7 @@ returns-in-Full g c =
     let e = c.load_places-length.ensures in
     record {
       reads = (leaf_loads (take c.load_places-length.result.0 c.load_places-length.new.places), e.few, e.reads);
-      listed =
+      scanned =
           leaf_full (range_of c.args.range.now) c.args.number (take c.load_places-length.result.0 c.load_places-length.new.places) c.load_places-length.result.1 (reads_later e.reads) c.requires.root
           (same_since e.reads) (e.leaf (since c.args.seat.now.known) (rooted_led (Leaf c.args.number) c.requires.root)) c.requires.empty c.in_ok-take_pair.ensures c.in-Full.is;
     }
@@ -46,7 +46,7 @@ returns-in-Further g c =
     let e = c.load_places-length.ensures in
     record {
       reads = (leaf_loads (take c.load_places-length.result.0 c.load_places-length.new.places), e.few, e.reads);
-      listed = elim c.in-Further.is [
+      scanned = elim c.in-Further.is [
         | inl is ↦
             leaf_further (range_of c.args.range.now) c.args.number (take c.load_places-length.result.0 c.load_places-length.new.places) c.load_places-length.result.1 (reads_later e.reads) c.requires.root
             (same_since e.reads) (e.leaf (since c.args.seat.now.known) (rooted_led (Leaf c.args.number) c.requires.root)) c.requires.empty c.in_ok-take_pair.ensures is
