@@ -1,5 +1,7 @@
 -- What a pass goes through by commands: its attempts, and where its answers stand in its front.
-use Rattle.std.proofs.Common.{◌≡◌, ℕ, ◌≤◌, List, [], ◌∷◌, ◌++◌, length, take, map, filter_map, flat_map, Some, refl, sym, ap, ap₂, subst, ◌∙◌, arith, append_assoc, append-nil, length-append}
+use denote.RawPtr.{null_ptr}
+use Rattle.std.specs.Global.{Global}
+use Rattle.std.proofs.Common.{◌≡◌, ◌<◌, ◌^◌, ℕ, Bool, ◌≤◌, le_refl, List, [], ◌∷◌, ◌++◌, length, take, map, filter_map, flat_map, Some, refl, sym, ap, ap₂, subst, ◌∙◌, arith, append_assoc, append-nil, length-append}
 use Rattle.std.proofs.Math.Seq.{take-append_seam}
 use Rattle.std.proofs.lemmas.List.Concat.{flat_map-cons}
 use Rattle.std.proofs.lemmas.List.Elements.{All-pop}
@@ -13,7 +15,7 @@ use Rattle.hot_model.specs.Fronts.{BeginsWith}
 use Rattle.hot_model.proofs.Growth.{begins_itself, begins_on}
 use Rattle.hot_model.proofs.Legal.{place_after-within}
 use Rattle.record_words.specs.declared.layout.Layout.{Layout}
-use Rattle.hot_index.specs.Answers.{IsNoted, IsScanned}
+use Rattle.hot_index.specs.Answers.{IsListed, IsNoted, IsScanned}
 use Rattle.hot_index.specs.Passes.{PassView, AreByPasses}
 use Rattle.hot_scripts.specs.declared.command.Command.{Command}
 use Rattle.hot_scripts.specs.declared.command.Command.TheVariants.{Call as Asks, Scan as Lists}
@@ -98,6 +100,20 @@ module _ (layout : Layout) where
     told = (is, refl, refl);
     text_is = text;
   }
+
+  -- a scan that shows the pairs of a list
+  abbrev scan_of : Global → (pairs : List (List ℕ × ℕ)) → length pairs < 2 ^ 63 → Bool → Scan
+  scan_of alloc pairs short more = record {
+    pairs = record { ptr = null_ptr; len = length pairs; cap = length pairs; alloc = alloc; items = pairs; ok = (refl, le_refl (length pairs)); small = short };
+    more = more;
+  }
+
+  -- a scan into a list that was answered so
+  pub HasAnswered-list : Global → (k m : PassView) (range : Range) (pairs : List (List ℕ × ℕ)) → length pairs < 2 ^ 63 → (more : Bool) (before after : List ℕ)
+      → IsListed layout k m range.from range.upto range.limit pairs more → after ≡ before ++ scan_lines pairs more → HasAnswered layout k (Lists range) m before after
+  HasAnswered-list alloc k m range pairs short more before after is text =
+      let scan = scan_of alloc pairs short more in
+      HasAnswered-scan k m range scan before after (record { on = is.on; notes = is.notes; lawful = is.lawful scan refl refl; legal = is.legal }) text
 
   -- Where answers stand
 

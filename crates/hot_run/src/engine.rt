@@ -6,7 +6,7 @@ ghost use Rattle.hot_scripts.specs.Parses.{script_commands};
 ghost use Rattle.hot_run.specs.Progress.{HasAnswered, HasRun, IsTold, answered_as};
 
 use crate::answer::push_answer;
-use hot_index::{Full, Gate, Index, Pass};
+use hot_index::{Full, Gate, Index, Pairs, Pass};
 use hot_model::{Call, Reply};
 use hot_scripts::answer::push_scan;
 use hot_scripts::command::{Command, Range};
@@ -41,24 +41,25 @@ fn make_call<T: Wait, G: Gate>(
     }
 }
 
-/// Makes a scan, and ends the text by its lines.
+/// Makes a scan into a list, and ends the text by its lines.
 fn answer_scan<G: Gate>(
     alloc: Global,
     index: &Index,
     pass: &mut Pass,
     range: &Range,
     gate: &mut G,
+    pairs: &mut Pairs,
     text: &mut String,
 ) -> Result<(), AllocError>
     requires { Owns index.now pass.old }
     ensures own { Owns index.now pass.new }
     ensures answered { OnOk result (HasAnswered index.now.layout pass.old (Command.Scan range.now) pass.new (string_bytes text.old) (string_bytes text.new)) }
 {
-    let scan = index.scan_with(alloc, pass, &range.from, &range.upto, range.limit, gate)?;
-    push_scan(alloc, text, &scan)
+    let more = index.scan_into_with(pass, &range.from, &range.upto, range.limit, pairs, gate)?;
+    push_scan(alloc, text, pairs, more)
 }
 
-/// Makes a command, and ends the text by the lines of its answer.
+/// Makes a command, and ends the text by the lines of its answer. A scan puts its pairs into the list.
 fn answer_command<T: Wait, G: Gate>(
     rt: &T,
     alloc: Global,
@@ -66,6 +67,7 @@ fn answer_command<T: Wait, G: Gate>(
     pass: &mut Pass,
     command: &Command,
     gate: &mut G,
+    pairs: &mut Pairs,
     text: &mut String,
 ) -> Result<(), AllocError>
     requires { Owns index.now pass.old }
@@ -77,7 +79,7 @@ fn answer_command<T: Wait, G: Gate>(
             let answer = make_call(rt, index, pass, call, gate);
             push_answer(text, answer)
         }
-        Command::Scan(range) => answer_scan(alloc, index, pass, range, gate, text),
+        Command::Scan(range) => answer_scan(alloc, index, pass, range, gate, pairs, text),
     }
 }
 
@@ -95,9 +97,12 @@ pub fn run<T: Wait, G: Gate>(
     ensures ran { IfOk result (λ text. HasRun index.now.layout pass.old (script_commands script.now) pass.new (string_bytes text)) }
 {
     let mut text = String::new(alloc);
+    let mut pairs = Pairs::new(alloc);
     let mut commands = script.commands();
     while let Some(command) = commands.next_command() {
-        answer_command(rt, alloc, index, pass, &command, gate, &mut text)?;
+        answer_command(
+            rt, alloc, index, pass, &command, gate, &mut pairs, &mut text,
+        )?;
     }
     Ok(text)
 }

@@ -1,8 +1,10 @@
 -- Why `answer_scan` meets its contract.
 use Rattle.std.proofs.lemmas.Result.{on_ok_weaker}
-use Rattle.hot_run.proofs.Progressing.{HasAnswered-scan}
+use Rattle.hot_run.proofs.Progressing.{HasAnswered-list}
 use Rattle.hot_run.proofs.engine.answer_scan.Goals as goal
 
 pub returns-clause-answered : goal.returns-clause-answered
 returns-clause-answered g c =
-    on_ok_weaker c.push_scan.result (λ text. HasAnswered-scan c.args.index.now.layout _ _ c.args.range.now c.in_ok-scan.scan _ _ c.in_ok-scan.ensures.ok text) c.push_scan.ensures
+    let list = c.push_scan.ensures in
+    on_ok_weaker c.push_scan.result
+    (λ text. HasAnswered-list c.args.index.now.layout c.args.alloc _ _ c.args.range.now _ list.short c.in_ok-more.more _ _ c.in_ok-more.ensures.ok text) list.lines
