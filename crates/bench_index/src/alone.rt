@@ -66,7 +66,7 @@ fn scan_some<M: OrderedMap, R: Wait>(rt: &R, map: &mut M, pairs: &[Pair]) -> io:
     let mut checksum = 0;
     for pair in pairs.iter().step_by(STRIDE as usize) {
         for (_, value) in map.scan(rt, &pair.key, LIMIT)?.iter() {
-            checksum = mixed(checksum, *value);
+            checksum = mixed(checksum, value);
         }
     }
     Ok(checksum)

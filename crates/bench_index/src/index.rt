@@ -9,7 +9,7 @@ use crate::load::{Load, Pair, THREADS};
 use crate::map::{Change, OrderedMap};
 use crate::measure::measure;
 use crate::work::Rate;
-use hot_index::{Call, Index, IndexFault, Key, Pass, Reply, TryFault, create};
+use hot_index::{Call, Index, IndexFault, Key, Pairs, Pass, Reply, TryFault, create};
 use std::alloc::Global;
 use std::io;
 use std::io::ErrorKind;
@@ -29,12 +29,12 @@ pub enum Form {
     Tries,
 }
 
-/// A pass at its index.
+/// A pass at its index, and the list that its scans fill.
 #[derive(Drop)]
 pub struct Guest<'a> {
     index: &'a Index,
     pass: Pass,
-    alloc: Global,
+    pairs: Pairs,
     ghost owns: { Owns index.now pass },
 }
 
@@ -65,12 +65,11 @@ impl OrderedMap for Guest<'_> {
         Err(io::Error::from(ErrorKind::StorageFull))
     }
 
-    fn scan<R: Wait>(&mut self, _rt: &R, from: &Key, limit: usize) -> io::Result<Vec<(Key, u64)>> {
+    fn scan<R: Wait>(&mut self, _rt: &R, from: &Key, limit: usize) -> io::Result<&Pairs> {
         let upto = key_of(&LAST)?;
-        let scan = self
-            .index
-            .scan(self.alloc, &mut self.pass, from, &upto, limit)?;
-        Ok(scan.pairs)
+        self.index
+            .scan_into(&mut self.pass, from, &upto, limit, &mut self.pairs)?;
+        Ok(&self.pairs)
     }
 }
 
@@ -145,7 +144,11 @@ pub fn next_guest<'a>(
     ensures { All (Owns index.now) passes.new.items }
 {
     match passes.pop() {
-        Some(pass) => Ok(Guest { index, pass, alloc }),
+        Some(pass) => Ok(Guest {
+            index,
+            pass,
+            pairs: Pairs::new(alloc),
+        }),
         None => Err(io::Error::from(ErrorKind::InvalidInput)),
     }
 }

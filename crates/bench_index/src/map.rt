@@ -1,6 +1,6 @@
 //! What both maps are to the measurements.
 
-use hot_index::Key;
+use hot_index::{Key, Pairs};
 use std::io;
 use std::sync::Wait;
 
@@ -29,6 +29,6 @@ pub trait OrderedMap {
         value: u64,
     ) -> io::Result<Option<u64>>;
 
-    /// The first pairs from a key on, at most so many, in the order of their keys.
-    fn scan<R: Wait>(&mut self, rt: &R, from: &Key, limit: usize) -> io::Result<Vec<(Key, u64)>>;
+    /// The first pairs from a key on, at most so many, in the order of their keys. The next scan takes their place.
+    fn scan<R: Wait>(&mut self, rt: &R, from: &Key, limit: usize) -> io::Result<&Pairs>;
 }

@@ -4,7 +4,7 @@ use crate::load::{Load, THREADS};
 use crate::map::{Change, OrderedMap};
 use crate::measure::measure;
 use crate::work::Rate;
-use hot_index::Key;
+use hot_index::{Key, Pairs};
 use std::alloc::{AllocError, Global};
 use std::collections::BTreeMap;
 use std::collections::btree_map::Entry;
@@ -17,11 +17,12 @@ use std::{io, mem};
 /// The map that all threads share.
 pub type Tree = RwLock<BTreeMap<Vec<u8>, u64>>;
 
-/// The tree in the hands of one thread.
+/// The tree in the hands of one thread, and the list that its scans fill.
 #[derive(Drop)]
 struct Handle<'a> {
     tree: &'a Tree,
     alloc: Global,
+    pairs: Pairs,
 }
 
 impl OrderedMap for Handle<'_> {
@@ -43,19 +44,27 @@ impl OrderedMap for Handle<'_> {
         }
     }
 
-    fn scan<R: Wait>(&mut self, rt: &R, from: &Key, limit: usize) -> io::Result<Vec<(Key, u64)>> {
+    fn scan<R: Wait>(&mut self, rt: &R, from: &Key, limit: usize) -> io::Result<&Pairs> {
         let from = Vec::from_slice(self.alloc, from.as_bytes())?;
         let tree = self.tree.read(rt);
-        let mut pairs = Vec::new(self.alloc);
+        self.pairs.clear();
         for (bytes, value) in tree.range(from..).take(limit) {
             let key = Key::from_bytes(bytes).map_err(|_| io::Error::from(ErrorKind::InvalidData))?;
-            pairs.push((key, *value))?;
+            self.pairs.push(key.as_bytes(), *value)?;
         }
-        Ok(pairs)
+        Ok(&self.pairs)
     }
 }
 
 impl Handle<'_> {
+    fn new(tree: &Tree, alloc: Global) -> Handle<'_> {
+        Handle {
+            tree,
+            alloc,
+            pairs: Pairs::new(alloc),
+        }
+    }
+
     fn insert<R: Wait>(&self, rt: &R, key: &Key, value: u64) -> io::Result<Option<u64>> {
         let bytes = Vec::from_slice(self.alloc, key.as_bytes())?;
         let mut tree = self.tree.write(rt);
@@ -86,10 +95,10 @@ where
     let mut rates = Vec::new(alloc);
     for _ in 0..load.rounds {
         let tree = RwLock::new(BTreeMap::new(alloc));
-        let mut first = Handle { tree: &tree, alloc };
+        let mut first = Handle::new(&tree, alloc);
         let mut others = Vec::new(alloc);
         for _ in 0..THREADS {
-            others.push(Handle { tree: &tree, alloc })?;
+            others.push(Handle::new(&tree, alloc))?;
         }
         measure(rt, &mut rates, &mut first, others, load)?;
     }
