@@ -42,16 +42,21 @@ fn run_after<T: Threads + Wait + Sync + Abort, R: Read, W: Write>(
     run_scripts(rt, alloc, 1, 1, files, reader, writer)
 }
 
-/// Gives at most `step` bytes of `left` a read, and fails at the read after `reads` more.
+/// Each read is interrupted first, and made again gives at most `step` bytes of `left`; after `reads` more it fails.
 #[derive(Drop)]
 struct Failing<'a> {
     left: &'a [u8],
     step: usize,
     reads: usize,
+    interrupted: bool,
 }
 
 impl<'a> Read for Failing<'a> {
     fn read(&mut self, buf: &mut [u8]) -> io::Result<usize> {
+        self.interrupted = !self.interrupted;
+        if self.interrupted {
+            return Err(io::Error::from(io::ErrorKind::Interrupted));
+        }
         if self.reads == 0 {
             return Err(io::Error::from(io::ErrorKind::OutOfMemory));
         }
@@ -64,7 +69,7 @@ impl<'a> Read for Failing<'a> {
     }
 }
 
-/// Nothing is written where the read after so many fails.
+/// Nothing is written where the read after so many fails; an interrupted one is made again.
 #[test]
 fn reads_that_fail(rt: HostRuntime) {
     let cases: [(&[&str], &str); 2] = [
@@ -77,6 +82,7 @@ fn reads_that_fail(rt: HostRuntime) {
                 left: b"insert 61 5\nget 61",
                 step: 2,
                 reads,
+                interrupted: false,
             };
             let mut out = Vec::new(rt.alloc());
             let got = run_after(&rt, rt.alloc(), scripts, &mut reader, &mut out);
