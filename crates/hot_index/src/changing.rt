@@ -14,7 +14,7 @@ ghost use Rattle.hot_index.specs.Noting.{notes_of};
 ghost use Rattle.hot_index.specs.Traces.{AreAttempts, AreTries, HasStepped, IsAttempt, Tidies, is_full};
 
 use crate::room::Room;
-use epochs::{Given, collect_round, collect_small, pin, unpin};
+use epochs::{Collected, collect_round, collect_small, pin, unpin};
 use hot_model::Reply;
 use key_bits::Key;
 use rowex_core::Gate;
@@ -54,7 +54,7 @@ fn tidy<G: Gate>(table: &HotTable, seat: &mut TableSeat, gate: &mut G, room: &mu
 }
 
 /// Asks for a change, at most twice: where no record was free, it makes a round of collection before it tries again, and that
-/// answer stands. Where the round gave back none of the kind, the second attempt does nothing, and is refused as the first was.
+/// answer stands. Where the round saw none of the kind that is free, the second attempt does nothing, and is refused as the first was.
 fn try_twice<G: Gate>(
     table: &HotTable,
     seat: &mut TableSeat,
@@ -75,7 +75,7 @@ fn try_twice<G: Gate>(
     let round = collect_round(table, seat, gate);
     room.held_back = round.held_back;
     room.pass_none_by();
-    if has_given(round.given, lacks) {
+    if has_room(&round, lacks) {
         return try_once(table, seat, gate, room, ask, key, value);
     }
     refuse_again(table, seat, gate);
@@ -94,11 +94,11 @@ fn lacked(answer: Result<Reply, TryFault>) -> Option<Full>
     }
 }
 
-/// Whether a round gave back records of this kind.
-fn has_given(given: Given, kind: Full) -> bool {
+/// Whether a round gave back records of this kind, or saw one that was free.
+fn has_room(round: &Collected, kind: Full) -> bool {
     match kind {
-        Full::Nodes => given.nodes > 0,
-        Full::Leaves => given.leaves > 0,
+        Full::Nodes => round.free_nodes || round.given.nodes > 0,
+        Full::Leaves => round.free_leaves || round.given.leaves > 0,
     }
 }
 

@@ -18,8 +18,8 @@ use Rattle.hot_index.proofs.changing.try_twice.Goals as goal
 pub returns-in_default-clause-asked : goal.returns-in_default-clause-asked
 returns-in_default-clause-asked g c = once_asked (call_of c.args.ask c.args.key.now c.args.value) c.try_once-first.result (c.lacked.ensures.none c.in_default.is) c.try_once-first.ensures.asked
 
-pub returns-then-has_given-clause-asked : goal.returns-then-has_given-clause-asked
-returns-then-has_given-clause-asked g c =
+pub returns-then-has_room-clause-asked : goal.returns-then-has_room-clause-asked
+returns-then-has_room-clause-asked g c =
     let table = c.args.table.now in
     let call = call_of c.args.ask c.args.key.now c.args.value in
     let k = pass_of c.args.seat.now in
