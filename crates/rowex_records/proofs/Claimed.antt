@@ -1,8 +1,8 @@
 -- What claims of records come to.
-use Rattle.std.proofs.Common.{◌≡◌, ◌≢◌, ℕ, zero, suc, ◌+◌, ◌-◌, ◌<◌, ◌≤◌, inl, inr, List, [], ◌∷◌, ◌++◌, length, Option, Bool, true, false, nat_lt, nat_eq, if◌then◌else◌, refl, sym, ap, subst, ◌∙◌, arith, length-append}
-use Rattle.std.specs.Prelude.{All, Contains}
-use Rattle.std.proofs.lemmas.Bool.{eqb-true, ltb-true, ltb-false, lt-ltb, le-ltb}
-use Rattle.std.proofs.lemmas.List.Elements.{All-weaker}
+use Rattle.std.proofs.Common.{◌≡◌, ◌≢◌, ℕ, zero, suc, ◌+◌, ◌-◌, ◌<◌, ◌≤◌, min, inl, inr, List, [], ◌∷◌, ◌++◌, length, Option, Bool, true, false, nat_lt, nat_eq, if◌then◌else◌, refl, sym, ap, subst, ◌∙◌, arith, length-append}
+use Rattle.std.specs.Prelude.{All, Contains, IfNone, MatchOption, Some, None}
+use Rattle.std.proofs.lemmas.Bool.{eqb-true, eqb-false, ltb-true, ltb-false, lt-ltb, le-ltb}
+use Rattle.std.proofs.lemmas.List.Elements.{All-contains, All-weaker}
 use Rattle.record_words.specs.State.{state_word}
 use Rattle.moments.specs.declared.Rec.{Rec}
 use Rattle.moments.specs.Core.{Fate, Free, Held as HeldBy, Ready as ReadyBy, InTree, Unlinked, Marked}
@@ -26,7 +26,7 @@ use Rattle.rowex_table.specs.Runs.{Steps, Does}
 use Rattle.rowex_table.specs.Seats.{TableView, SeatView}
 use Rattle.rowex_table.proofs.Rights.{free_tag}
 use Rattle.rowex_table.proofs.Running.{in_turn_more, does_count}
-use Rattle.rowex_records.specs.Claims.{claiming, wrapped, Misses, HasMissedSince, MissesOne, HoldsOneMore, ClaimsOne, FindsNone, Claims, AllMissed}
+use Rattle.rowex_records.specs.Claims.{claiming, begin_of, wrapped, Misses, HasMissedSince, MissesOne, HoldsOneMore, ClaimsOne, FindsNone, Claims, AllMissed}
 use Rattle.rowex_records.proofs.Making.{counted, claims_nothing, claims_one, looks_one, claims_append}
 
 -- Numbers in turn
@@ -83,10 +83,10 @@ at_front [] failed x (i, low, is) = absurd (omega arith)
 at_front (y ∷ missed) failed x (zero, low, is) = (0, omega arith, is)
 at_front (y ∷ missed) failed x (suc i, low, is) = let rest = at_front missed failed x (i, omega arith, is) in let below = rest.1 in (suc rest.0, omega arith, rest.2)
 
-missed_among : (missed failed : List Failed) (r : Rec) (since : ℕ) → HasMissedSince missed r since → HasMissedSince (missed ++ failed) r since
+pub missed_among : (missed failed : List Failed) (r : Rec) (since : ℕ) → HasMissedSince missed r since → HasMissedSince (missed ++ failed) r since
 missed_among missed failed r since (step, late, (act, word, tells, one, has)) = (step, late, (act, word, tells, one, at_front missed failed _ has))
 
-missed_earlier : (missed : List Failed) (r : Rec) (since later : ℕ) → since ≤ later → HasMissedSince missed r later → HasMissedSince missed r since
+pub missed_earlier : (missed : List Failed) (r : Rec) (since later : ℕ) → since ≤ later → HasMissedSince missed r later → HasMissedSince missed r since
 missed_earlier missed r since later low (step, late, has) = (step, omega arith, has)
 
 -- where each was found not free since a later step, it was since an earlier one
@@ -178,6 +178,17 @@ module _ {G : Type 0} (table : TableView) (becomes : G → Event → G → Type 
         };
       }
 
+  -- what the pass holds is not free
+  pub held_misses : (r : Rec) (words : List ℕ) (word : ℕ) (a b : SeatView × G) → OwnsAs a.0.known r Held words → Steps table becomes (LoadState r word) a b → MissesOne table becomes r a b
+  held_misses r words word a b has step = missed_by_load r word a b (taken (nat_eq word 0) refl) step
+    where
+      taken : (free : Bool) → nat_eq word 0 ≡ free → 1 ≤ word
+      taken true is =
+          let e = step.event in
+          let none : e.core.fate r ≡ Free = free_tag (lock_of e.core r) (e.core.fate r) (sym e.legal.1.1 ∙ eqb-true word 0 is) in
+          absurd (All-contains (λ o. o.rec ≢ r) a.0.known.own (record { rec = r; holding = Held; words = words }) (free_apart e.core a.0.known r e.knows none) has refl)
+      taken false is = let some = eqb-false word 0 is in omega arith
+
   -- Tries in turn
 
   pub finds_none : (kind : ℕ → Rec) (n from : ℕ) (a : SeatView × G) → FindsNone table becomes kind n from 0 a a
@@ -227,9 +238,9 @@ module _ {G : Type 0} (table : TableView) (becomes : G → Event → G → Type 
               (subst (λ y. HasMissedSince (one.failed ∷ none.missed) (kind y) a.0.known.steps) is
               (missed_among (one.failed ∷ []) none.missed (kind number) a.0.known.steps (missed_earlier (one.failed ∷ []) (kind number) a.0.known.steps i.0.known.steps at one.tells)))
 
-  -- all have been tried
-  pub finds_all : (kind : ℕ → Rec) (n from begin m : ℕ) (a b : SeatView × G) → from ≡ begin → m ≡ n → FindsNone table becomes kind n from m a b → FindsNone table becomes kind n begin n a b
-  finds_all kind n from begin m a b is all none = subst (λ z. FindsNone table becomes kind n z n a b) is (subst (λ z. FindsNone table becomes kind n from z a b) all none)
+  -- all have been tried that may be
+  pub finds_all : (kind : ℕ → Rec) (n from begin m most : ℕ) (a b : SeatView × G) → from ≡ begin → m ≡ most → FindsNone table becomes kind n from m a b → FindsNone table becomes kind n begin most a b
+  finds_all kind n from begin m most a b is all none = subst (λ z. FindsNone table becomes kind n z most a b) is (subst (λ z. FindsNone table becomes kind n from z a b) all none)
 
   -- where all have been tried, each was found not free since the first
   pub all_missed : (kind : ℕ → Rec) (n from : ℕ) (a b : SeatView × G) → from < n → FindsNone table becomes kind n from n a b → AllMissed kind n b.0.known.failed a.0.known.steps
@@ -239,10 +250,29 @@ module _ {G : Type 0} (table : TableView) (becomes : G → Event → G → Type 
       (subst (λ z. HasMissedSince none.missed (kind z) a.0.known.steps) turn.2 (none.each turn.0 turn.1)))
 
   -- some that were not free, and then one that was
-  pub claims_next : (kind : ℕ → Rec) (n from begin m number : ℕ) (a i b : SeatView × G) → from ≡ begin → m < n → number ≡ wrapped n from m → FindsNone table becomes kind n from m a i
-      → ClaimsOne table becomes (kind number) i b → Claims table becomes kind n begin number a b
-  claims_next kind n from begin m number a i b same low is none one =
-      subst (λ z. Claims table becomes kind n z number a b) same (record { tried = m; low = low; number_is = is; before = i; none = none; one = one })
+  pub claims_next : (kind : ℕ → Rec) (n from begin m number left less : ℕ) (a i b : SeatView × G) → from ≡ begin → m < n → number ≡ wrapped n from m → less + m + 1 ≡ left → FindsNone table becomes kind n from m a i
+      → ClaimsOne table becomes (kind number) i b → (claims : Claims table becomes kind n begin number a b) × (less + claims.tried + 1 ≡ left)
+  claims_next kind n from begin m number left less a i b same low is count none one =
+      subst (λ z. (claims : Claims table becomes kind n z number a b) × (less + claims.tried + 1 ≡ left)) same (record { tried = m; low = low; number_is = is; before = i; none = none; one = one }, count)
+
+  -- where as many may be tried as there are, all are tried
+  module _ (kind : ℕ → Rec) (n from left less : ℕ) (a b : SeatView × G) where
+    abbrev HasTried : Option ℕ → Type 0
+    HasTried answer = MatchOption answer ((less + min n left ≡ left) × FindsNone table becomes kind n (begin_of n from) (min n left) a b)
+        (λ number. (claims : Claims table becomes kind n (begin_of n from) number a b) × (less + claims.tried + 1 ≡ left))
+
+    pub claims_whole : (answer : Option ℕ) → left ≡ n → HasTried answer →
+        MatchOption answer (FindsNone table becomes kind n (begin_of n from) n a b) (λ number. Claims table becomes kind n (begin_of n from) number a b)
+    claims_whole None all tried = let same : min n left ≡ n = omega arith in subst (λ z. FindsNone table becomes kind n (begin_of n from) z a b) same tried.1
+    claims_whole (Some number) all tried = tried.0
+
+    pub none_whole : (answer : Option ℕ) → left ≡ n → HasTried answer → IfNone answer (AllMissed kind n b.0.known.failed a.0.known.steps)
+    none_whole None all tried = λ q low. all_missed kind n (begin_of n from) a b (begins (omega arith) (nat_lt from n) refl) (claims_whole None all tried) q low
+      where
+        begins : 0 < n → (t : Bool) → nat_lt from n ≡ t → begin_of n from < n
+        begins some true e = rw e (ltb-true from n e)
+        begins some false e = rw e some
+    none_whole (Some number) all tried = tt
 
   pub claims_holds : (kind : ℕ → Rec) (n from number : ℕ) (a b : SeatView × G) → Claims table becomes kind n from number a b → HoldsOneMore (kind number) a.0.known b.0.known
   claims_holds kind n from number a b claims = more_since (kind number) a.0.known claims.before.0.known b.0.known claims.none.own claims.one.holds

@@ -1,6 +1,6 @@
 //! Records claimed, and given up again.
 
-ghost use Rattle.std.specs.Prelude.{◌≡◌, ◌<◌, true, false, IfNone, IfSome, MatchOption, All};
+ghost use Rattle.std.specs.Prelude.{◌≡◌, ◌<◌, ◌+◌, ◌-◌, min, true, false, IfNone, IfSome, MatchOption, All};
 ghost use Rattle.rowex_core.specs.Cores.{HasRecord};
 ghost use Rattle.rowex_table.specs.Rights.{IsClaimed};
 ghost use Rattle.rowex_table.specs.Seats.{IsSeatOf};
@@ -63,14 +63,42 @@ pub fn claim_record<G: Gate>(
     ensures none { IfNone result (AllMissed (record_of kind) (count_of kind table.now.layout) seat.new.known.failed seat.old.known.steps) }
     ensures held { IfSome result (λ number. (number < count_of kind table.now.layout) × IsClaimed seat.new.known (record_of kind number)) }
 {
+    let mut left = kind.count(table.layout());
+    claim_within(table, seat, gate, kind, from, &mut left)
+}
+
+/// Claims the first record of a kind that it finds free, of the next `left` ones; answers its number.
+///
+/// It tries records as [`claim_record`] does, but no more than `left`, which is then less by those that were tried.
+pub fn claim_within<G: Gate>(
+    table: &HotTable,
+    seat: &mut TableSeat,
+    gate: &mut G,
+    kind: RecordKind,
+    from: u32,
+    left: &mut u32,
+) -> Option<u32>
+    requires own { IsSeatOf table.now seat.old }
+    requires kind { IsKindOf kind table.now.layout }
+    ensures claims { MatchOption result
+        (let n = count_of kind table.now.layout in let m = min n left.old in (left.new + m ≡ left.old) ×
+        FindsNone table.now G.becomes (record_of kind) n (begin_of n from) m (seat.old, gate.old) (seat.new, gate.new))
+        (λ number. let n = count_of kind table.now.layout in
+        (claims : Claims table.now G.becomes (record_of kind) n (begin_of n from) number (seat.old, gate.old) (seat.new, gate.new)) ×
+        (left.new + claims.tried + 1 ≡ left.old)) }
+    ensures held { IfSome result (λ number. (number < count_of kind table.now.layout) × IsClaimed seat.new.known (record_of kind number)) }
+{
     let all = kind.count(table.layout());
     let begin = first(from, all);
-    for tried in 0..all {
+    let most = all.min(*left);
+    for tried in 0..most {
         let number = turn(begin, tried, all);
         if try_record(table, seat, gate, kind.record_at(number)) {
+            *left -= tried + 1;
             return Some(number);
         }
     }
+    *left -= most;
     None
 }
 
