@@ -27,8 +27,12 @@ module _ {G : Type 0} (table : TableView) (becomes : G → Event → G → Type 
   pub none_count : (kind : ℕ → Rec) (n from m : ℕ) (a b : SeatView × G) → FindsNone table becomes kind n from m a b → b.0.known.steps ≤ a.0.known.steps + 2 * m
   none_count kind n from m a b f = let z = runs_count table becomes f.tries a b f.does.steps in omega (arith, z, f.few)
 
-  pub claim_few : (kind : ℕ → Rec) (n from number : ℕ) (a b : SeatView × G) → Claims table becomes kind n from number a b → b.0.known.steps ≤ a.0.known.steps + 2 * n
-  claim_few kind n from number a b c =
+  pub claims_count : (kind : ℕ → Rec) (n from number : ℕ) (a b : SeatView × G) (c : Claims table becomes kind n from number a b) → b.0.known.steps ≤ a.0.known.steps + 2 * (c.tried + 1)
+  claims_count kind n from number a b c =
       let before = none_count kind n from c.tried a c.before c.none in
       let one = runs_count table becomes (LoadState (kind number) 0 ∷ Claim (kind number) 0 ∷ []) c.before b c.one.does.steps in
-      omega (arith, before, one, c.low)
+      omega (arith, before, one)
+
+  -- as many at most as there are
+  pub claim_few : (kind : ℕ → Rec) (n from number : ℕ) (a b : SeatView × G) → Claims table becomes kind n from number a b → b.0.known.steps ≤ a.0.known.steps + 2 * n
+  claim_few kind n from number a b c = omega (arith, claims_count kind n from number a b c, c.low)

@@ -54,7 +54,7 @@ use Rattle.rowex_table.specs.Seats.{TableView, SeatView}
 use Rattle.rowex_walks.specs.Rise.{entry}
 use Rattle.rowex_walks.specs.Writer.{added_change}
 use Rattle.rowex_core.specs.declared.event.Event.{Event}
-use Rattle.rowex_records.specs.Claims.{AllMissedFrom}
+use Rattle.rowex_records.specs.Claims.{AllMissed, AllMissedFrom}
 use Rattle.rowex_rights.specs.Ending.{IsAtRest}
 use Rattle.rowex_rights.proofs.Loops.{later_on}
 use Rattle.rowex_writing.specs.declared.plan.Full.TheVariants.{Nodes, Leaves}
@@ -201,12 +201,12 @@ pub range_records : (layout : Layout) (way : List Step) (b d : ℕ) → AreNodes
 range_records layout way b d nodes = node_records layout (slice_range way b d) (range_nodes layout way b d nodes)
 
 -- ---- none was free
-pub no_room : {G : Type 0} (table : TableView) (becomes : G → Event → G → Type 0) (key : Key) (a b c : SeatView × G) (made : List Rec) → WorksOn table becomes a b → Works table becomes b c → IsAtRest c.0.known → HasNotMade table a.0 b.0 made →
-    HasNoRoom table.layout key a.0.known c.0.known Nodes
-no_room table becomes key a b c made goes works rest none = record {
+pub no_room : {G : Type 0} (table : TableView) (becomes : G → Event → G → Type 0) (key : Key) (a b c : SeatView × G) → WorksOn table becomes a b → Works table becomes b c → IsAtRest c.0.known →
+    AllMissed a_node table.layout.nodes b.0.known.failed a.0.known.steps → HasNoRoom table.layout key a.0.known c.0.known Nodes
+no_room table becomes key a b c goes works rest missed = record {
   rest = rest;
   others = (later_on a.0.known b.0.known c.0.known goes.stays.0 (works_later table becomes b c works)).front;
-  full_of = missed_on table becomes a_node table.layout.nodes a.0.known.steps b c (works_run table becomes b c works) none.missed;
+  full_of = missed_on table becomes a_node table.layout.nodes a.0.known.steps b c (works_run table becomes b c works) missed;
 }
 
 pub no_leaf : {G : Type 0} (table : TableView) (becomes : G → Event → G → Type 0) (key : Key) (a b c : SeatView × G) → WorksOn table becomes a b → Works table becomes b c → IsAtRest c.0.known →

@@ -27,3 +27,4 @@ pub mod Keeping
 pub mod Placing
 pub mod Growths
 pub mod Counting
+pub mod Walked

@@ -42,7 +42,7 @@ use Rattle.rowex_writing.specs.Building.{IsBuilding, IsHalfMade, IsMadeFrom, IsR
 use Rattle.rowex_writing.specs.Going.{WorksOn, ReadsOn, HasLocked, IsNodeOf}
 use Rattle.rowex_writing.specs.Remaking.{IsTreePage, AffectsJust, IsLowHalf, IsNoHigher}
 use Rattle.rowex_writing.proofs.Remade.{built_low}
-use Rattle.rowex_writing.proofs.Making.{building_on, not_made_since}
+use Rattle.rowex_writing.proofs.Making.{building_on}
 use Rattle.rowex_writing.proofs.Raising.{rises_made, rises_kept, side_made}
 use Rattle.rowex_writing.proofs.Locking.{goes_more}
 use Rattle.rowex_writing.proofs.Staging.{risen_page}
@@ -139,10 +139,10 @@ module _ {G : Type 0} (table : TableView) (becomes : G → Event → G → Type 
     -- the node's own records
     pub lifted : (c : SeatView × G) (after_made : List Rec) (was : Entry) (g : Grown) (answer : Option Risen) → GrownShows node g (with_page key (Fork position (Place zero) (Place one)) (piece node)) → keeps_node g ≡ false →
         WorksOn table becomes m c →
-        MatchOption answer (HasNotMade table m.0 c.0 after_made) (λ risen. (after : List Made) × IsMadeFrom was g risen b.here.news after × IsBuilding table c.0 after_made after) →
-        MatchOption answer (HasNotMade table a.0 c.0 after_made)
+        MatchOption answer (HasNotMade table c.0 after_made) (λ risen. (after : List Made) × IsMadeFrom was g risen b.here.news after × IsBuilding table c.0 after_made after) →
+        MatchOption answer (HasNotMade table c.0 after_made)
         (λ risen. (after : List Made) × IsRaising table c.0 after_made after (a_node above ∷ b.here.gone) b.here.since b.here.item b.here.mismatch b.here.like entry above (page_of risen))
-    lifted c after_made was g None shows fresh goes made = not_made_since table becomes a m c after_made reads.goes made
+    lifted c after_made was g None shows fresh goes made = made
     lifted c after_made was g (Some risen) shows fresh goes (after, made, building) = (
       after,
       record {
@@ -224,19 +224,19 @@ module _ {G : Type 0} (table : TableView) (becomes : G → Event → G → Type 
 
   -- the same, or no record for it
   pub lowest_made : (c : SeatView × G) (after_made : List Rec) (h : ℕ) → h ≡ node.height → (answer : Option (Risen × Bool)) → WorksOn table becomes m c →
-      MatchOption answer (HasNotMade table m.0 c.0 after_made)
+      MatchOption answer (HasNotMade table c.0 after_made)
       (λ r. (after : List Made) × IsGrownFrom (Node number h) node (page_grown position key (Leaf leaf) (piece node)) position r.0 r.1 (of_leaf b.item ∷ []) after × IsBuilding table c.0 after_made after) →
-      MatchOption answer (HasNotMade table a.0 c.0 after_made) (λ r. (after : List Made) × IsRaising table c.0 after_made after (gone_unless r.1 number) b.since b.item position b.like entry number (page_of r.0))
-  lowest_made c after_made h tall None goes made = not_made_since table becomes a m c after_made reads.goes made
+      MatchOption answer (HasNotMade table c.0 after_made) (λ r. (after : List Made) × IsRaising table c.0 after_made after (gone_unless r.1 number) b.since b.item position b.like entry number (page_of r.0))
+  lowest_made c after_made h tall None goes made = made
   lowest_made c after_made h tall (Some r) goes (after, grown, building) =
       (after, lowered c after_made grown.grown r.1 r.0 grown.shows grown.keeps grown.above goes after (subst (λ z. IsMadeFrom (Node number z) grown.grown r.0 (of_leaf b.item ∷ []) after) tall grown.made) building)
 
 -- ---- without a leaf
 pub left_over : {G : Type 0} (table : TableView) (becomes : G → Event → G → Type 0) (a m c : SeatView × G) (after_made : List Rec) (key : Key) (words : List ℕ) (node : NodeView) (half : Half) (old : Entry) (answer : Option Entry) →
     WorksOn table becomes a m → IsNodeOf words node → HalfShows half (page_without key (piece node)) →
-    MatchOption answer (HasNotMade table m.0 c.0 after_made) (λ e. (more : List Made) × IsHalfMade old half e more × IsBuilding table c.0 after_made (more ++ [])) →
-    MatchOption answer (HasNotMade table a.0 c.0 after_made) (λ e. (news : List Made) × IsSide (page_without key (node_of words).page) e news × IsBuilding table c.0 after_made news)
-left_over table becomes a m c after_made key words node half old None goes is shows made = not_made_since table becomes a m c after_made goes made
+    MatchOption answer (HasNotMade table c.0 after_made) (λ e. (more : List Made) × IsHalfMade old half e more × IsBuilding table c.0 after_made (more ++ [])) →
+    MatchOption answer (HasNotMade table c.0 after_made) (λ e. (news : List Made) × IsSide (page_without key (node_of words).page) e news × IsBuilding table c.0 after_made news)
+left_over table becomes a m c after_made key words node half old None goes is shows made = made
 left_over table becomes a m c after_made key words node half old (Some e) goes is shows (more, half_made, building) = (
   more,
   subst (λ y. IsSide (page_without key y) e more) (sym (ap (λ (z : NodeWords). z.page) is.shows)) (side_made old e half (page_without key (piece node)) more shows half_made),
@@ -250,8 +250,8 @@ left_low words node old half (Some e) none Q is tall low (more, made, rest) = le
 
 -- ---- a pair
 pub paired : (table : TableView) (a c : SeatView) (after_made : List Rec) (news : List Made) (view : NodeView) (shown : Page) (answer : Option Entry) → IsBuiltFrom view shown →
-    MatchOption answer (HasNotMade table a c after_made) (λ e. (m : ℕ) × (e ≡ Node m view.height) × HasNodeWords view × IsBuilding table c after_made (of_view m view ∷ news)) →
-    MatchOption answer (HasNotMade table a c after_made) (λ e. (more : List Made) × IsSide shown e more × IsBuilding table c after_made (more ++ news))
+    MatchOption answer (HasNotMade table c after_made) (λ e. (m : ℕ) × (e ≡ Node m view.height) × HasNodeWords view × IsBuilding table c after_made (of_view m view ∷ news)) →
+    MatchOption answer (HasNotMade table c after_made) (λ e. (more : List Made) × IsSide shown e more × IsBuilding table c after_made (more ++ news))
 paired table a c after_made news view shown None built made = made
 paired table a c after_made news view shown (Some e) built (m, is, has, building) =
     (of_view m view ∷ [], subst (λ z. IsSide shown z (of_view m view ∷ [])) (sym is) (anew m view (has, built.height_is) built.shows_it), building)
@@ -272,8 +272,8 @@ settle_owed table a made number q z o risen is b =
 
 pub settled : {G : Type 0} (table : TableView) (becomes : G → Event → G → Type 0) (a c : SeatView × G) (made after_made : List Rec) (number q : ℕ) (z o : Entry) (risen : Risen) → risen ≡ Split q z o →
     (b : IsRisenAt table a.0 made number risen) (view : NodeView) → IsBuiltFrom view (Fork q (Place z) (Place o)) → WorksOn table becomes a c → (answer : Option Entry) →
-    MatchOption answer (HasNotMade table a.0 c.0 after_made) (λ e. (m : ℕ) × (e ≡ Node m view.height) × HasNodeWords view × IsBuilding table c.0 after_made (of_view m view ∷ b.news)) →
-    MatchOption answer (HasNotMade table a.0 c.0 after_made) (λ e. (after : List Made) × IsRaising table c.0 after_made after b.gone b.since b.item b.mismatch b.like entry number (Place e))
+    MatchOption answer (HasNotMade table c.0 after_made) (λ e. (m : ℕ) × (e ≡ Node m view.height) × HasNodeWords view × IsBuilding table c.0 after_made (of_view m view ∷ b.news)) →
+    MatchOption answer (HasNotMade table c.0 after_made) (λ e. (after : List Made) × IsRaising table c.0 after_made after b.gone b.since b.item b.mismatch b.like entry number (Place e))
 settled table becomes a c made after_made number q z o risen is b view built goes None answer = answer
 settled table becomes a c made after_made number q z o risen is b view built goes (Some e) (m, e_is, has, building) =
     let i = b.raising in
@@ -433,15 +433,15 @@ up_end table a made way key end level number risen up is = risen_as table a made
 
 pub up_done : {G : Type 0} (table : TableView) (becomes : G → Event → G → Type 0) (a m c : SeatView × G) (made : List Rec) (way : List Step) (since : ℕ) (x : Item) (p : ℕ) (l : Key) (end above level : ℕ) (gone : List Rec) (s : Step) →
     above + 1 ≡ level → end ≤ above → slice_get way above ≡ Some s → WorksOn table becomes a m → (answer : Option Entry) →
-    MatchOption answer (HasNotMade table m.0 c.0 made) (HasRisenTo table c.0 made way since x p l end (gone_with way end above (a_node s.number ∷ gone))) →
-    MatchOption answer (HasNotMade table a.0 c.0 made) (HasRisenTo table c.0 made way since x p l end (gone_with way end level gone))
-up_done table becomes a m c made way since x p l end above level gone s next upto at goes None answer = not_made_since table becomes a m c made goes answer
+    MatchOption answer (HasNotMade table c.0 made) (HasRisenTo table c.0 made way since x p l end (gone_with way end above (a_node s.number ∷ gone))) →
+    MatchOption answer (HasNotMade table c.0 made) (HasRisenTo table c.0 made way since x p l end (gone_with way end level gone))
+up_done table becomes a m c made way since x p l end above level gone s next upto at goes None answer = answer
 up_done table becomes a m c made way since x p l end above level gone s next upto at goes (Some e) answer =
     subst (λ g. HasRisenTo table c.0 made way since x p l end g e) (gone_more way end above level gone s next upto at) answer
 
 pub settled_up : (table : TableView) (a c : SeatView) (made after_made : List Rec) (way : List Step) (key : Key) (end level number : ℕ) (risen : Risen) (same : level ≡ end) (up : IsUp table a made way key end level risen) (is : number ≡ up.step.number) → (answer : Option Entry) →
-    MatchOption answer (HasNotMade table a c after_made) (λ e. (after : List Made) × IsRaising table c after_made after up.here.gone up.here.since up.here.item up.here.mismatch up.here.like entry number (Place e)) →
-    MatchOption answer (HasNotMade table a c after_made) (HasRisenTo table c after_made way up.here.since up.here.item up.here.mismatch up.here.like end (gone_with way end level up.here.gone))
+    MatchOption answer (HasNotMade table c after_made) (λ e. (after : List Made) × IsRaising table c after_made after up.here.gone up.here.since up.here.item up.here.mismatch up.here.like entry number (Place e)) →
+    MatchOption answer (HasNotMade table c after_made) (HasRisenTo table c after_made way up.here.since up.here.item up.here.mismatch up.here.like end (gone_with way end level up.here.gone))
 settled_up table a c made after_made way key end level number risen same up is None answer = answer
 settled_up table a c made after_made way key end level number risen same up is (Some e) (after, raising) =
     let gone : gone_with way end level up.here.gone ≡ up.here.gone = ap (λ n. gone_with way end n up.here.gone) same ∙ gone_none way end up.here.gone in (

@@ -176,22 +176,14 @@ steps_rise table becomes (act ∷ acts) a b run =
     let next = (act_leaves table.layout a.0.known run.0.0.known act run.1.event).steps in omega (arith, next, steps_rise table becomes acts run.0 b run.2)
 
 -- ---- none was free
-pub not_made : {G : Type 0} (table : TableView) (becomes : G → Event → G → Type 0) (a b : SeatView × G) (made : List Rec) (news : List Made) → WorksOn table becomes a b →
-    b.0.known.own ≡ a.0.known.own → AllMissed a_node table.layout.nodes b.0.known.failed a.0.known.steps → IsBuilding table a.0 made news → HasNotMade table a.0 b.0 made
-not_made table becomes a b made news goes own missed was = record { news = news; building = building_on table becomes a b made news goes own was; missed = missed }
-
--- nor since an earlier step
-pub not_made_since : {G : Type 0} (table : TableView) (becomes : G → Event → G → Type 0) (a m b : SeatView × G) (made : List Rec) → WorksOn table becomes a m → HasNotMade table m.0 b.0 made → HasNotMade table a.0 b.0 made
-not_made_since table becomes a m b made goes none = record {
-  news = none.news;
-  building = none.building;
-  missed = all_earlier a_node table.layout.nodes b.0.known.failed a.0.known.steps m.0.known.steps (steps_rise table becomes goes.acts a m goes.steps) none.missed;
-}
+pub not_made : {G : Type 0} (table : TableView) (becomes : G → Event → G → Type 0) (a b : SeatView × G) (made more : List Rec) (news : List Made) → WorksOn table becomes a b →
+    b.0.known.own ≡ a.0.known.own → more ≡ made → IsBuilding table a.0 made news → HasNotMade table b.0 more
+not_made table becomes a b made more news goes own same was = record { news = news; building = subst (λ z. IsBuilding table b.0 z news) (sym same) (building_on table becomes a b made news goes own was) }
 
 -- ---- halves
 pub half_of_node : (table : TableView) (a b : SeatView) (made : List Rec) (news : List Made) (old : Entry) (half : Half) (view : NodeView) (answer : Option Entry) → half ≡ Many view →
-    MatchOption answer (HasNotMade table a b made) (λ e. (m : ℕ) × (e ≡ Node m view.height) × HasNodeWords view × IsBuilding table b made (of_view m view ∷ news)) →
-    MatchOption answer (HasNotMade table a b made) (λ e. (more : List Made) × IsHalfMade old half e more × IsBuilding table b made (more ++ news))
+    MatchOption answer (HasNotMade table b made) (λ e. (m : ℕ) × (e ≡ Node m view.height) × HasNodeWords view × IsBuilding table b made (of_view m view ∷ news)) →
+    MatchOption answer (HasNotMade table b made) (λ e. (more : List Made) × IsHalfMade old half e more × IsBuilding table b made (more ++ news))
 half_of_node table a b made news old half view None is h = h
 half_of_node table a b made news old half view (Some e) is (m, entry, has, building) =
     (of_view m view ∷ [], subst (λ z. IsHalfMade old z e (of_view m view ∷ [])) (sym is) (m, entry, refl, has), building)

@@ -77,11 +77,10 @@ pub record IsBuilding (table : TableView) (a : SeatView) (made : List Rec) (news
   pub packed : ArePacked table.layout news
   pub listed : made ≡ reverse (recs_of news)
 
--- A node record was wanted and none was free: each was found not free since then. The pass has those that it has made so far.
-pub record HasNotMade (table : TableView) (a b : SeatView) (made : List Rec) : Type 0 where
+-- A node record was wanted and none was free. The pass has those that it has made so far.
+pub record HasNotMade (table : TableView) (b : SeatView) (made : List Rec) : Type 0 where
   pub news : List Made
   pub building : IsBuilding table b made news
-  pub missed : AllMissed a_node table.layout.nodes b.known.failed a.known.steps
 
 -- ---- on the way up
 -- The change adds x, of which the record is made: this is what comes in the place of node n's body or entry, and those go.

@@ -13,3 +13,4 @@ pub mod Putting
 pub mod Attempts
 pub mod Growths
 pub mod Counts
+pub mod Walks

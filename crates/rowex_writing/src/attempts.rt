@@ -49,7 +49,7 @@ pub enum TryFault {
 
 /// Makes one attempt: searches for the key and answers, where nothing is to change; or else locks what it wants to change, each
 /// once, checks that it still stands as the search found it, and makes the change by one store. It makes at most 460,000 atomic
-/// steps, two more for each leaf record and 8,644 for each node record.
+/// steps, four more for each leaf record and two for each node record.
 pub fn attempt<G: Gate>(
     table: &HotTable,
     seat: &mut TableSeat,

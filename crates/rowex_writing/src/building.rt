@@ -19,18 +19,19 @@ ghost use Rattle.moments.specs.declared.Rec.TheVariants.{Node as a_node};
 ghost use Rattle.rowex_core.specs.Reading.{node_of};
 ghost use Rattle.rowex_walks.specs.Rise.{entry};
 ghost use Rattle.rowex_writing.specs.Counts.{level_steps, node_steps};
+ghost use Rattle.rowex_writing.specs.Walks.{Spends, WalksOn};
 
-use crate::claims::claim_next;
 use crate::locked::read_locked;
 use crate::remaking::{add_leaf, full_with_leaf, pair_with_leaf, with_fork, without_leaf};
 use crate::supply::Supply;
+use crate::walking::claim_node;
 use arrayvec::ArrayVec;
 use compound_node::{Entry, Half, Node};
 use insert_cases::{Grown, Risen, Step};
 use key_bits::Key;
 use record_words::LEAF_CLASSES;
 use rowex_core::{Gate, Rec};
-use rowex_records::{RecordKind, fill_node};
+use rowex_records::fill_node;
 use rowex_table::{HotTable, TableSeat};
 
 /// The most records that one change makes: a leaf, two nodes for each node of the longest way, and one above them.
@@ -48,6 +49,8 @@ pub struct Build {
     pub gone: ArrayVec<Rec, MOST_GONE>,
     /// Where claims of node records begin.
     pub nodes: Supply,
+    /// How many node records the claims of the change may still try, but for spare ones.
+    pub left_nodes: u32,
     /// Where claims of leaf records begin, for each class, the smallest first.
     pub leaves: [Supply; LEAF_CLASSES],
 }
@@ -64,13 +67,14 @@ fn make_node<G: Gate>(
     requires room { length build.old.made.items < MOST_MADE }
     ensures goes { WorksOn table.now G.becomes (seat.old, gate.old) (seat.new, gate.new) }
     ensures made { (news : List Made) → IsBuilding table.now seat.old build.old.made.items news → MatchOption result
-        (HasNotMade table.now seat.old seat.new build.new.made.items)
+        (HasNotMade table.now seat.new build.new.made.items)
         (λ e. (number : ℕ) × (e ≡ Entry.Node number node.now.height) × HasNodeWords node.now ×
         IsBuilding table.now seat.new build.new.made.items (of_view number node.now ∷ news)) }
     ensures more { length build.new.made.items ≤ length build.old.made.items + 1 }
-    ensures few { seat.new.known.steps ≤ seat.old.known.steps + node_steps table.now.layout }
+    ensures walk { WalksOn table.now.layout seat.old.known build.old seat.new.known build.new result }
+    ensures few { Spends node_steps seat.old.known build.old seat.new.known build.new result }
 {
-    let number = claim_next(table, seat, gate, RecordKind::Node, &mut build.nodes)?;
+    let number = claim_node(table, seat, gate, build)?;
     fill_node(table, seat, gate, number, node);
     build.made.push(Rec::Node(number));
     Some(Entry::Node {
@@ -92,10 +96,11 @@ fn make_half<G: Gate>(
     requires building { (news : List Made) × IsBuilding table.now seat.old build.old.made.items news }
     ensures goes { WorksOn table.now G.becomes (seat.old, gate.old) (seat.new, gate.new) }
     ensures made { (news : List Made) → IsBuilding table.now seat.old build.old.made.items news → MatchOption result
-        (HasNotMade table.now seat.old seat.new build.new.made.items)
+        (HasNotMade table.now seat.new build.new.made.items)
         (λ e. (more : List Made) × IsHalfMade old half.now e more × IsBuilding table.now seat.new build.new.made.items (more ++ news)) }
     ensures more { length build.new.made.items ≤ length build.old.made.items + 1 }
-    ensures few { seat.new.known.steps ≤ seat.old.known.steps + node_steps table.now.layout }
+    ensures walk { WalksOn table.now.layout seat.old.known build.old seat.new.known build.new result }
+    ensures few { Spends node_steps seat.old.known build.old seat.new.known build.new result }
 {
     match half {
         Half::One(entry) => Some(*entry),
@@ -118,10 +123,11 @@ fn make_risen<G: Gate>(
     requires room { length build.old.made.items + 1 < MOST_MADE }
     ensures goes { WorksOn table.now G.becomes (seat.old, gate.old) (seat.new, gate.new) }
     ensures made { (news : List Made) → IsBuilding table.now seat.old build.old.made.items news → MatchOption result
-        (HasNotMade table.now seat.old seat.new build.new.made.items)
+        (HasNotMade table.now seat.new build.new.made.items)
         (λ risen. (after : List Made) × IsMadeFrom old grown.now risen news after × IsBuilding table.now seat.new build.new.made.items after) }
     ensures more { length build.new.made.items ≤ length build.old.made.items + 2 }
-    ensures few { seat.new.known.steps ≤ seat.old.known.steps + 2 * node_steps table.now.layout }
+    ensures walk { WalksOn table.now.layout seat.old.known build.old seat.new.known build.new result }
+    ensures few { Spends (2 * node_steps) seat.old.known build.old seat.new.known build.new result }
 {
     match grown {
         Grown::One(node) => {
@@ -157,13 +163,14 @@ fn raise_level<G: Gate>(
     requires room { length build.old.made.items + 1 < MOST_MADE }
     ensures goes { WorksOn table.now G.becomes (seat.old, gate.old) (seat.new, gate.new) }
     ensures made { (b : IsBelow table.now seat.old build.old.made.items key.now number position zero one) → MatchOption result
-        (HasNotMade table.now seat.old seat.new build.new.made.items)
+        (HasNotMade table.now seat.new build.new.made.items)
         (λ risen. (after : List Made) ×
         IsRaising table.now seat.new build.new.made.items after (a_node number ∷ b.here.gone)
         b.here.since b.here.item b.here.mismatch b.here.like entry number (page_of risen)) }
     ensures level { (words : List ℕ) → HasLocked seat.old.known number words → IfSome result (IsLevelRisen words) }
     ensures more { length build.new.made.items ≤ length build.old.made.items + 2 }
-    ensures few { seat.new.known.steps ≤ seat.old.known.steps + level_steps table.now.layout }
+    ensures walk { WalksOn table.now.layout seat.old.known build.old seat.new.known build.new result }
+    ensures few { Spends level_steps seat.old.known build.old seat.new.known build.new result }
 {
     let node = read_locked(table, seat, gate, number);
     let grown = with_fork(&node, key, position, zero, one);
@@ -195,11 +202,12 @@ fn make_grown<G: Gate>(
     requires room { length build.old.made.items + 1 < MOST_MADE }
     ensures goes { WorksOn table.now G.becomes (seat.old, gate.old) (seat.new, gate.new) }
     ensures made { (news : List Made) → IsBuilding table.now seat.old build.old.made.items news → MatchOption result
-        (HasNotMade table.now seat.old seat.new build.new.made.items)
+        (HasNotMade table.now seat.new build.new.made.items)
         (λ r. (after : List Made) × IsGrownFrom old node.old (page_grown position key.now (Entry.Leaf leaf) (piece node.old)) position r.0 r.1 news after ×
         IsBuilding table.now seat.new build.new.made.items after) }
     ensures more { length build.new.made.items ≤ length build.old.made.items + 2 }
-    ensures few { seat.new.known.steps ≤ seat.old.known.steps + 2 * node_steps table.now.layout }
+    ensures walk { WalksOn table.now.layout seat.old.known build.old seat.new.known build.new result }
+    ensures few { Spends (2 * node_steps) seat.old.known build.old seat.new.known build.new result }
 {
     if node.count() == 32 {
         let grown = full_with_leaf(node, key, position, first, last, leaf);
@@ -230,12 +238,13 @@ fn raise_lowest<G: Gate>(
     requires room { length build.old.made.items + 1 < MOST_MADE }
     ensures goes { WorksOn table.now G.becomes (seat.old, gate.old) (seat.new, gate.new) }
     ensures made { (b : IsLowest table.now seat.old build.old.made.items key.now number position first last leaf) → MatchOption result
-        (HasNotMade table.now seat.old seat.new build.new.made.items)
+        (HasNotMade table.now seat.new build.new.made.items)
         (λ r. (after : List Made) ×
         IsRaising table.now seat.new build.new.made.items after (gone_unless r.1 number) b.since b.item position b.like entry number (page_of r.0)) }
     ensures level { (words : List ℕ) → HasLocked seat.old.known number words → IfSome result (λ r. IsLevelRisen words r.0) }
     ensures more { length build.new.made.items ≤ length build.old.made.items + 2 }
-    ensures few { seat.new.known.steps ≤ seat.old.known.steps + level_steps table.now.layout }
+    ensures walk { WalksOn table.now.layout seat.old.known build.old seat.new.known build.new result }
+    ensures few { Spends level_steps seat.old.known build.old seat.new.known build.new result }
 {
     let mut node = read_locked(table, seat, gate, number);
     let old = Entry::Node {
@@ -280,11 +289,12 @@ fn settle<G: Gate>(
     requires room { length build.old.made.items < MOST_MADE }
     ensures goes { WorksOn table.now G.becomes (seat.old, gate.old) (seat.new, gate.new) }
     ensures made { (b : IsRisenAt table.now seat.old build.old.made.items number risen) → MatchOption result
-        (HasNotMade table.now seat.old seat.new build.new.made.items)
+        (HasNotMade table.now seat.new build.new.made.items)
         (λ e. (after : List Made) × IsRaising table.now seat.new build.new.made.items after b.gone b.since b.item b.mismatch b.like entry number (At e)) }
     ensures low { (height : ℕ) → IsLowRisen height risen → IfSome result (IsNextTo height risen) }
     ensures more { length build.new.made.items ≤ length build.old.made.items + 1 }
-    ensures few { seat.new.known.steps ≤ seat.old.known.steps + node_steps table.now.layout }
+    ensures walk { WalksOn table.now.layout seat.old.known build.old seat.new.known build.new result }
+    ensures few { Spends node_steps seat.old.known build.old seat.new.known build.new result }
 {
     match risen {
         Risen::Whole(entry) => Some(entry),
@@ -315,10 +325,11 @@ fn raise_on<G: Gate>(
     requires room { length build.old.made.items + 2 * (level - end) < MOST_MADE }
     ensures goes { WorksOn table.now G.becomes (seat.old, gate.old) (seat.new, gate.new) }
     ensures made { (b : IsUp table.now seat.old build.old.made.items way.now key.now end level risen) → MatchOption result
-        (HasNotMade table.now seat.old seat.new build.new.made.items)
+        (HasNotMade table.now seat.new build.new.made.items)
         (HasRisenTo table.now seat.new build.new.made.items way.now b.here.since b.here.item b.here.mismatch b.here.like end (gone_with way.now end level b.here.gone)) }
     ensures low { (s : StepView) (words : List ℕ) → slice_get way.now end ≡ Some s → HasLocked seat.old.known s.number words → IfSome result (FitsAbove words) }
-    ensures few { seat.new.known.steps ≤ seat.old.known.steps + (level - end + 1) * level_steps table.now.layout }
+    ensures walk { WalksOn table.now.layout seat.old.known build.old seat.new.known build.new result }
+    ensures few { Spends ((level - end + 1) * level_steps) seat.old.known build.old seat.new.known build.new result }
 {
     if level == end {
         return settle(table, seat, gate, build, way[level].number, risen);
@@ -358,11 +369,12 @@ pub fn raise_grown<G: Gate>(
     requires room { length build.old.made.items + 2 * (top - end) + 2 < MOST_MADE }
     ensures goes { WorksOn table.now G.becomes (seat.old, gate.old) (seat.new, gate.new) }
     ensures made { (b : IsGrowing table.now seat.old build.old.made.items way.now key.now end top position first last leaf) → MatchOption result
-        (HasNotMade table.now seat.old seat.new build.new.made.items)
+        (HasNotMade table.now seat.new build.new.made.items)
         (λ r. HasRisenTo table.now seat.new build.new.made.items way.now b.lowest.since b.lowest.item position b.lowest.like end
         (gone_with way.now end top (gone_unless r.1 b.step.number)) r.0) }
     ensures low { (s : StepView) (words : List ℕ) → slice_get way.now end ≡ Some s → HasLocked seat.old.known s.number words → IfSome result (λ r. FitsAbove words r.0) }
-    ensures few { seat.new.known.steps ≤ seat.old.known.steps + (top - end + 2) * level_steps table.now.layout }
+    ensures walk { WalksOn table.now.layout seat.old.known build.old seat.new.known build.new result }
+    ensures few { Spends ((top - end + 2) * level_steps) seat.old.known build.old seat.new.known build.new result }
 {
     let number = way[top].number;
     let (risen, stays) = raise_lowest(
@@ -387,10 +399,11 @@ pub fn raise_without<G: Gate>(
     requires room { length build.old.made.items < MOST_MADE }
     ensures goes { WorksOn table.now G.becomes (seat.old, gate.old) (seat.new, gate.new) }
     ensures made { (words : List ℕ) → HasLocked seat.old.known number words → MatchOption result
-        (HasNotMade table.now seat.old seat.new build.new.made.items)
+        (HasNotMade table.now seat.new build.new.made.items)
         (λ e. (news : List Made) × IsSide (page_without key.now (node_of words).page) e news × IsBuilding table.now seat.new build.new.made.items news) }
     ensures low { (words : List ℕ) → HasLocked seat.old.known number words → IfSome result (λ e. height_of e ≤ (node_of words).fixed.height) }
-    ensures few { seat.new.known.steps ≤ seat.old.known.steps + level_steps table.now.layout }
+    ensures walk { WalksOn table.now.layout seat.old.known build.old seat.new.known build.new result }
+    ensures few { Spends level_steps seat.old.known build.old seat.new.known build.new result }
 {
     let node = read_locked(table, seat, gate, number);
     let half = without_leaf(&node, key);
@@ -417,10 +430,11 @@ pub fn raise_pair<G: Gate>(
     requires room { length build.old.made.items < MOST_MADE }
     ensures goes { WorksOn table.now G.becomes (seat.old, gate.old) (seat.new, gate.new) }
     ensures made { (news : List Made) → IsBuilding table.now seat.old build.old.made.items news → MatchOption result
-        (HasNotMade table.now seat.old seat.new build.new.made.items)
+        (HasNotMade table.now seat.new build.new.made.items)
         (λ e. (more : List Made) × IsSide (page_forked (bit key.now position) position (Entry.Leaf leaf) (At old)) e more ×
         IsBuilding table.now seat.new build.new.made.items (more ++ news)) }
-    ensures few { seat.new.known.steps ≤ seat.old.known.steps + node_steps table.now.layout }
+    ensures walk { WalksOn table.now.layout seat.old.known build.old seat.new.known build.new result }
+    ensures few { Spends node_steps seat.old.known build.old seat.new.known build.new result }
 {
     let node = pair_with_leaf(key, position, old, leaf);
     make_node(table, seat, gate, build, &node)

@@ -43,7 +43,7 @@ pub(crate) fn claim_next<G: Gate>(
 }
 
 /// Tries the last of the spare numbers, which is spare no more; answers it, if the pass has claimed its record.
-fn claim_spare<G: Gate>(
+pub(crate) fn claim_spare<G: Gate>(
     table: &HotTable,
     seat: &mut TableSeat,
     gate: &mut G,

@@ -73,8 +73,9 @@ fn grow_with<G: Gate>(
     ensures stored { result ≡ Ok tt → (value : ℕ) → MayGrow table.now seat.old build.old.made.items way.now key.now value span position first last leaf →
         HasChanged seat.old.known seat.new.known (added_change seat.old.known.pass (item leaf key.now value)) None }
     ensures full { IfErr result (λ full. HasNoRoom table.now.layout key.now seat.old.known seat.new.known full) }
-    ensures few { seat.new.known.steps ≤ seat.old.known.steps + 2161 * level_steps table.now.layout + 6600 }
+    ensures few { seat.new.known.steps ≤ seat.old.known.steps + 2161 * level_steps + 2 * table.now.layout.nodes + 10922 }
 {
+    build.left_nodes = table.layout().nodes;
     let top = span.len - 1;
     let Some((entry, stays)) = raise_grown(
         table, seat, gate, build, key, way, span.end, top, position, first, last, leaf,

@@ -17,6 +17,7 @@ mod putting;
 mod remaking;
 mod supply;
 mod taking;
+mod walking;
 
 pub use attempts::{TryFault, attempt};
 pub use building::{Build, MOST_GONE, MOST_MADE, raise_grown, raise_pair, raise_without};

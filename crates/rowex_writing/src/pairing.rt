@@ -46,6 +46,7 @@ pub fn pair_leaf<G: Gate>(
         return Err(Full::Leaves);
     };
     let old = Entry::Leaf(old);
+    build.left_nodes = table.layout().nodes;
     let Some(entry) = raise_pair(table, seat, gate, build, key, position, old, leaf) else {
         undo(table, seat, gate, &build.made, above, anchor);
         return Err(Full::Nodes);

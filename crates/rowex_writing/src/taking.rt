@@ -91,6 +91,7 @@ fn remake_without<G: Gate>(
     let anchor = span.end == 0;
     let first = span.end.saturating_sub(1);
     let lowest = way[span.end].number;
+    build.left_nodes = table.layout().nodes;
     let Some(entry) = raise_without(table, seat, gate, build, key, lowest) else {
         undo(
             table,

@@ -1,7 +1,6 @@
 -- The upper half, and then the lower one.
 use Rattle.std.proofs.Common.{◌++◌, refl}
 use Rattle.rowex_writing.proofs.Locking.{goes_more}
-use Rattle.rowex_writing.proofs.Making.{not_made_since}
 use Rattle.rowex_writing.proofs.building.make_risen.Goals as goal
 
 pub returns-in_err-zero-in-Two-clause-goes : goal.returns-in_err-zero-in-Two-clause-goes
@@ -11,8 +10,7 @@ pub returns-in_err-zero-in-Two-clause-made : goal.returns-in_err-zero-in-Two-cla
 returns-in_err-zero-in-Two-clause-made g c = λ news b.
     let (upper, high, next) = c.in_ok-one-in-Two.ensures.made news b in
     rw c.from_residual-in_err-zero-in-Two.ensures
-    (not_made_since c.args.table.now g.G.Gate.becomes (c.args.seat.now, c.args.gate.now) (c.make_half.new.seat, c.make_half.new.gate) (c.make_half-in-Two.new.seat, c.make_half-in-Two.new.gate)
-    c.make_half-in-Two.new.build.made.items c.in_ok-one-in-Two.ensures.goes (c.in_err-zero-in-Two.ensures.made (upper ++ news) next))
+    (c.in_err-zero-in-Two.ensures.made (upper ++ news) next)
 
 pub returns-in_ok-zero-in-Two-clause-goes : goal.returns-in_ok-zero-in-Two-clause-goes
 returns-in_ok-zero-in-Two-clause-goes g c = goes_more c.args.table.now g.G.Gate.becomes _ _ _ c.in_ok-one-in-Two.ensures.goes c.in_ok-zero-in-Two.ensures.goes

@@ -6,7 +6,6 @@ use Rattle.insert_cases.specs.declared.choice.Step.{Step}
 use Rattle.moments.specs.Trades.{IsOf}
 use Rattle.rowex_writing.specs.Building.{HasRisenTo, gone_unless, gone_with}
 use Rattle.rowex_writing.proofs.Locking.{goes_more}
-use Rattle.rowex_writing.proofs.Making.{not_made_since}
 use Rattle.rowex_writing.proofs.Lifting.{low_at, up_first}
 use Rattle.rowex_writing.proofs.building.raise_grown.Goals as goal
 
@@ -39,9 +38,8 @@ returns-in_err-entry-clause-made g c = λ b.
     let (after, raising) = c.in_ok-risen.ensures.made (low_at c.args.table.now c.args.seat.now c.args.build.now.made.items c.args.way.now c.args.key.now c.args.end c.args.top c.args.position c.args.first c.args.last c.args.leaf b (step_at c.args.way.now c.args.top).number
     (number_is c.args.way.now c.args.top b.step b.at)) in
     rw c.from_residual-in_err-entry.ensures
-    (not_made_since c.args.table.now g.G.Gate.becomes (c.args.seat.now, c.args.gate.now) (c.raise_lowest.new.seat, c.raise_lowest.new.gate) (c.raise_on.new.seat, c.raise_on.new.gate) c.raise_on.new.build.made.items c.in_ok-risen.ensures.goes
     (c.in_err-entry.ensures.made (up_first c.args.table.now c.args.seat.now c.args.build.now.made.items c.args.way.now c.args.key.now c.args.end c.args.top c.args.position c.args.first c.args.last c.args.leaf b (step_at c.args.way.now c.args.top).number
-    (number_is c.args.way.now c.args.top b.step b.at) c.raise_lowest.new.seat c.raise_lowest.new.build.made.items c.in_ok-risen.risen c.in_ok-risen.stays c.in_ok-risen.ensures.goes.stays.1 after raising c.in_ok-risen.ensures.level)))
+    (number_is c.args.way.now c.args.top b.step b.at) c.raise_lowest.new.seat c.raise_lowest.new.build.made.items c.in_ok-risen.risen c.in_ok-risen.stays c.in_ok-risen.ensures.goes.stays.1 after raising c.in_ok-risen.ensures.level))
 
 pub returns-clause-goes : goal.returns-clause-goes
 returns-clause-goes g c = goes_more c.args.table.now g.G.Gate.becomes _ _ _ c.in_ok-risen.ensures.goes c.in_ok-entry.ensures.goes

@@ -3,6 +3,7 @@ use Rattle.compound_node.specs.declared.entries.Entry.TheVariants.{Node}
 use Rattle.rowex_writing.specs.Building.{IsBuilding}
 use Rattle.rowex_writing.proofs.Locking.{goes_more}
 use Rattle.rowex_writing.proofs.Lifting.{lift_tree, lift_zero, lift_one, lift_building, lifted, fork_level}
+use Rattle.rowex_writing.proofs.Walked.{walks_later}
 use Rattle.rowex_writing.proofs.building.raise_level.Goals as goal
 
 pub with_fork-grown-requires-clause-tree : goal.with_fork-grown-requires-clause-tree
@@ -32,3 +33,8 @@ returns-clause-level g c = λ words h.
     fork_level words c.read_locked-node.result (Node c.args.number c.height.result) c.with_fork-grown.result c.make_risen.result _ b.here.news (IsBuilding c.args.table.now c.make_risen.new.seat c.make_risen.new.build.made.items)
     (c.read_locked-node.ensures.node words h) c.height.ensures c.with_fork-grown.ensures.low c.with_fork-grown.ensures.whole
     (c.make_risen.ensures.made b.here.news (lift_building _ _ c.read_locked-node.ensures.reads b c.read_locked-node.ensures.node))
+
+pub returns-clause-walk : goal.returns-clause-walk
+returns-clause-walk g c =
+    walks_later c.args.table.now g.G.Gate.becomes (c.args.seat.now, c.args.gate.now) (c.read_locked-node.new.seat, c.read_locked-node.new.gate) c.make_risen.new.seat.known c.args.build.now c.make_risen.new.build c.make_risen.result
+    c.read_locked-node.ensures.reads.goes c.make_risen.ensures.walk

@@ -5,6 +5,7 @@ use Rattle.rowex_rights.specs.Rises.{of_leaf}
 use Rattle.rowex_writing.specs.Building.{IsBuilding}
 use Rattle.rowex_writing.proofs.Locking.{goes_more}
 use Rattle.rowex_writing.proofs.Lifting.{low_tree, low_affects, low_building, lowest_made, leaf_level}
+use Rattle.rowex_writing.proofs.Walked.{walks_later}
 use Rattle.rowex_writing.proofs.building.raise_lowest.Goals as goal
 
 pub make_grown-requires-clause-affects : goal.make_grown-requires-clause-affects
@@ -29,3 +30,8 @@ returns-clause-level g c = λ words h.
     let b = c.requires.lowest in
     leaf_level words c.read_locked-node.result (Node c.args.number c.height.result) _ c.args.position c.make_grown.result _ (of_leaf b.item ∷ []) (IsBuilding c.args.table.now c.make_grown.new.seat c.make_grown.new.build.made.items)
     (c.read_locked-node.ensures.node words h) c.height.ensures (c.make_grown.ensures.made (of_leaf b.item ∷ []) (low_building _ _ c.read_locked-node.ensures.reads b c.read_locked-node.ensures.node))
+
+pub returns-clause-walk : goal.returns-clause-walk
+returns-clause-walk g c =
+    walks_later c.args.table.now g.G.Gate.becomes (c.args.seat.now, c.args.gate.now) (c.read_locked-node.new.seat, c.read_locked-node.new.gate) c.make_grown.new.seat.known c.args.build.now c.make_grown.new.build c.make_grown.result
+    c.read_locked-node.ensures.reads.goes c.make_grown.ensures.walk

@@ -5,6 +5,7 @@ use Rattle.rowex_writing.specs.Building.{IsBuilding}
 use Rattle.rowex_writing.proofs.Locking.{goes_more}
 use Rattle.rowex_writing.proofs.Lifting.{left_over, left_low}
 use Rattle.rowex_writing.proofs.Making.{building_on}
+use Rattle.rowex_writing.proofs.Walked.{walks_later}
 use Rattle.rowex_writing.proofs.building.raise_without.Goals as goal
 
 pub make_half-requires-clause-building : goal.make_half-requires-clause-building
@@ -25,3 +26,8 @@ returns-clause-low g c = λ words h.
     let b = building_on c.args.table.now g.G.Gate.becomes (c.args.seat.now, c.args.gate.now) (c.read_locked-node.new.seat, c.read_locked-node.new.gate) c.args.build.now.made.items [] c.read_locked-node.ensures.reads.goes c.read_locked-node.ensures.reads.own c.requires.building in
     left_low words c.read_locked-node.result (Node c.args.number c.height.result) c.without_leaf-half.result c.make_half.result _ (λ more. IsBuilding c.args.table.now c.make_half.new.seat c.make_half.new.build.made.items (more ++ [])) (c.read_locked-node.ensures.node words h)
     c.height.ensures c.without_leaf-half.ensures.low (c.make_half.ensures.made [] b)
+
+pub returns-clause-walk : goal.returns-clause-walk
+returns-clause-walk g c =
+    walks_later c.args.table.now g.G.Gate.becomes (c.args.seat.now, c.args.gate.now) (c.read_locked-node.new.seat, c.read_locked-node.new.gate) c.make_half.new.seat.known c.args.build.now c.make_half.new.build c.make_half.result
+    c.read_locked-node.ensures.reads.goes c.make_half.ensures.walk

@@ -33,5 +33,5 @@ returns-in-Whole-clause-low g c = λ h low. whole_height h c.in-Whole.entry c.ar
 pub returns-in-Split-clause-low : goal.returns-in-Split-clause-low
 returns-in-Split-clause-low g c = λ h low.
     let b = c.requires.risen in
-    split_height h c.in-Split.position c.in-Split.zero c.in-Split.one c.args.risen c.pair-node.result (HasNotMade c.args.table.now c.args.seat.now c.make_node.new.seat c.make_node.new.build.made.items)
+    split_height h c.in-Split.position c.in-Split.zero c.in-Split.one c.args.risen c.pair-node.result (HasNotMade c.args.table.now c.make_node.new.seat c.make_node.new.build.made.items)
     (HasNodeWords c.pair-node.result) (λ m. IsBuilding c.args.table.now c.make_node.new.seat c.make_node.new.build.made.items (of_view m c.pair-node.result ∷ b.news)) c.make_node.result c.in-Split.is low c.pair-node.ensures (c.make_node.ensures.made b.news b.raising.building)

@@ -1,7 +1,8 @@
 -- The node, what rises, and the store.
-use Rattle.std.proofs.Common.{◌≡◌, ◌-◌, ◌++◌, Some, None, if◌then◌else◌, sym, subst, ◌∙◌, arith, ◌+◌}
+use Rattle.std.proofs.Common.{◌≡◌, ◌≤◌, ◌-◌, ◌*◌, ◌++◌, Some, None, if◌then◌else◌, ap, sym, subst, ◌∙◌, arith, ◌+◌}
 use Rattle.std.specs.Prelude.{slice_range}
 use Rattle.record_words.specs.Entry.{entry_word}
+use Rattle.record_words.specs.declared.layout.Layout.{Layout}
 use Rattle.rowex_walks.specs.Writer.{added_change}
 use Rattle.rowex_records.specs.Records.{HoldsJust}
 use Rattle.rowex_writing.specs.Changes.{MayEnd}
@@ -14,6 +15,9 @@ use Rattle.rowex_writing.proofs.Runs.{goes_run, runs_trans, works_run}
 use Rattle.rowex_writing.proofs.Keeping.{changed_since, made_held, made_records}
 use Rattle.rowex_writing.proofs.Counting.{slice_few, times_few}
 use Rattle.rowex_writing.specs.Counts.{level_steps}
+use Rattle.rowex_writing.specs.declared.building.TheConstants.{MOST_MADE}
+use Rattle.rowex_writing.proofs.Walked.{walk_begins}
+use Rattle.moments.specs.declared.Rec.TheVariants.{Node as a_node}
 use Rattle.rowex_writing.proofs.growing.grow_with.Goals as goal
 use Rattle.rowex_writing.proofs.growing.grow_with.Goals.{then-stays, else-stays}
 use Rattle.tries.specs.Content.{item}
@@ -43,8 +47,9 @@ returns-in_default-clause-run g c =
 
 pub returns-in_default-clause-full : goal.returns-in_default-clause-full
 returns-in_default-clause-full g c =
-    no_room c.args.table.now g.G.Gate.becomes c.args.key.now (c.args.seat.now, c.args.gate.now) (c.raise_grown.new.seat, c.raise_grown.new.gate) (c.undo.new.seat, c.undo.new.gate) c.raise_grown.new.build.made.items
-    c.in_default.ensures.goes c.undo.ensures.works c.undo.ensures.rest (c.in_default.ensures.made c.requires.may.1.growing)
+    no_room c.args.table.now g.G.Gate.becomes c.args.key.now (c.args.seat.now, c.args.gate.now) (c.raise_grown.new.seat, c.raise_grown.new.gate) (c.undo.new.seat, c.undo.new.gate)
+    c.in_default.ensures.goes c.undo.ensures.works c.undo.ensures.rest (c.in_default.ensures.walk c.args.seat.now.known.steps
+    (walk_begins a_node c.args.table.now.layout.nodes c.args.seat.now.known c.args.build.now.made.items c.args.build.now.nodes.next c.layout.result.nodes c.args.table.now.layout.nodes_in_range.0 (ap (λ (z : Layout). z.nodes) c.layout.ensures)))
 
 pub publish_change-requires-clause-own : goal.publish_change-requires-clause-own
 publish_change-requires-clause-own g c = seat_of c.args.table.now g.G.Gate.becomes (c.args.seat.now, c.args.gate.now) (c.raise_grown.new.seat, c.raise_grown.new.gate) c.in-Some.ensures.goes c.requires.may.1.growing.lowest.building.seat
@@ -106,11 +111,15 @@ returns-clause-stored g c = λ ok value may.
 pub returns-in_default-clause-few : goal.returns-in_default-clause-few
 returns-in_default-clause-few g c =
     let may = c.requires.may.1 in
-    let levels = times_few (c.args.span.len - 1 - c.args.span.end + 2) 2161 (level_steps c.args.table.now.layout) (omega (arith, may.within.0, may.within.1, may.depth)) in
-    omega (arith, levels, c.raise_grown.ensures.few, c.undo.ensures.few, c.as_slice.ensures.fits, slice_few c.args.way.now c.saturating_sub.result c.args.span.len, may.within.1, may.depth)
+    let levels = times_few (c.args.span.len - 1 - c.args.span.end + 2) 2161 level_steps (omega (arith, may.within.0, may.within.1, may.depth)) in
+    let whole : c.layout.result.nodes ≡ c.args.table.now.layout.nodes = ap (λ (z : Layout). z.nodes) c.layout.ensures in
+    let few : c.raise_grown.new.seat.known.steps + 2 * c.raise_grown.new.build.left_nodes ≤ c.args.seat.now.known.steps + 2 * c.layout.result.nodes + (c.args.span.len - 1 - c.args.span.end + 2) * level_steps + MOST_MADE = c.in_default.ensures.few in
+    omega (arith, whole, levels, few, c.undo.ensures.few, c.as_slice.ensures.fits, slice_few c.args.way.now c.saturating_sub.result c.args.span.len, may.within.1, may.depth)
 
 pub returns-clause-few : goal.returns-clause-few
 returns-clause-few g c =
     let may = c.requires.may.1 in
-    let levels = times_few (c.args.span.len - 1 - c.args.span.end + 2) 2161 (level_steps c.args.table.now.layout) (omega (arith, may.within.0, may.within.1, may.depth)) in
-    omega (arith, levels, c.raise_grown.ensures.few, c.publish_change.ensures.few, c.as_slice-2.ensures.fits)
+    let levels = times_few (c.args.span.len - 1 - c.args.span.end + 2) 2161 level_steps (omega (arith, may.within.0, may.within.1, may.depth)) in
+    let whole : c.layout.result.nodes ≡ c.args.table.now.layout.nodes = ap (λ (z : Layout). z.nodes) c.layout.ensures in
+    let few : c.raise_grown.new.seat.known.steps + 2 * c.raise_grown.new.build.left_nodes ≤ c.args.seat.now.known.steps + 2 * c.layout.result.nodes + (c.args.span.len - 1 - c.args.span.end + 2) * level_steps + 0 = c.in-Some.ensures.few in
+    omega (arith, whole, levels, few, c.publish_change.ensures.few, c.as_slice-2.ensures.fits)

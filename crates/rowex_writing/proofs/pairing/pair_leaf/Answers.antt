@@ -1,6 +1,7 @@
 -- What is above is kept; the new node takes the found leaf's place.
-use Rattle.std.proofs.Common.{[], ◌∷◌, Some, None, refl, sym, subst, ◌≤◌, ◌-◌, length, arith}
+use Rattle.std.proofs.Common.{[], ◌∷◌, Some, None, refl, sym, ap, subst, ◌≡◌, ◌≤◌, ◌+◌, ◌*◌, ◌-◌, length, arith}
 use Rattle.record_words.specs.Leaf.{words_for}
+use Rattle.record_words.specs.declared.layout.Layout.{Layout}
 use Rattle.moments.specs.declared.Rec.TheVariants.{Node as a_node, Leaf as a_leaf}
 use Rattle.moments.specs.Trades.{AreApart}
 use Rattle.record_words.specs.Entry.{entry_word}
@@ -11,10 +12,14 @@ use Rattle.rowex_rights.specs.Rises.{of_leaf}
 use Rattle.rowex_rights.proofs.Loops.{later_on}
 use Rattle.rowex_walks.specs.Writer.{added_change}
 use Rattle.rowex_writing.specs.Changes.{IsStored, MayEnd}
+use Rattle.rowex_writing.specs.Counts.{node_steps}
+use Rattle.rowex_writing.specs.declared.building.TheConstants.{MOST_MADE}
 use Rattle.rowex_writing.specs.Locks.{AreNodes, HasJustLocked, numbers_of}
 use Rattle.rowex_writing.specs.Retiring.{AreRecords}
 use Rattle.rowex_writing.proofs.Locking.{goes_more, seat_of}
-use Rattle.rowex_writing.proofs.Making.{not_made_since}
+use Rattle.rowex_records.proofs.Claimed.{all_earlier}
+use Rattle.rowex_writing.proofs.Making.{steps_rise}
+use Rattle.rowex_writing.proofs.Walked.{walk_begins}
 use Rattle.rowex_writing.proofs.Works.{works_later}
 use Rattle.rowex_writing.proofs.Runs.{goes_run, works_run, runs_trans}
 use Rattle.rowex_writing.proofs.Keeping.{missed_from_on, missed_on, made_held, made_records, all_kept, changed_since}
@@ -79,8 +84,7 @@ undo-requires-in_default-raise_pair-clause-own g c =
 
 pub undo-requires-in_default-raise_pair-clause-records : goal.undo-requires-in_default-raise_pair-clause-records
 undo-requires-in_default-raise_pair-clause-records g c =
-    let none = not_made_since c.args.table.now g.G.Gate.becomes (c.args.seat.now, c.args.gate.now) (c.make_leaf.new.seat, c.make_leaf.new.gate) (c.raise_pair.new.seat, c.raise_pair.new.gate) c.raise_pair.new.build.made.items c.make_leaf.ensures.goes
-    (c.in_default-raise_pair.ensures.made (of_leaf (item c.in-Some.leaf c.args.key.now c.args.value) ∷ []) c.in-Some.ensures.made) in
+    let none = c.in_default-raise_pair.ensures.made (of_leaf (item c.in-Some.leaf c.args.key.now c.args.value) ∷ []) c.in-Some.ensures.made in
     subst (AreRecords c.args.table.now.layout) (sym c.deref.ensures.0) (made_records c.args.table.now c.raise_pair.new.seat c.raise_pair.new.build.made.items none.news none.building)
 
 pub undo-requires-in_default-raise_pair-clause-nodes : goal.undo-requires-in_default-raise_pair-clause-nodes
@@ -92,8 +96,7 @@ undo-requires-in_default-raise_pair-clause-nodes g c =
 
 pub undo-requires-in_default-raise_pair-clause-held : goal.undo-requires-in_default-raise_pair-clause-held
 undo-requires-in_default-raise_pair-clause-held g c =
-    let none = not_made_since c.args.table.now g.G.Gate.becomes (c.args.seat.now, c.args.gate.now) (c.make_leaf.new.seat, c.make_leaf.new.gate) (c.raise_pair.new.seat, c.raise_pair.new.gate) c.raise_pair.new.build.made.items c.make_leaf.ensures.goes
-    (c.in_default-raise_pair.ensures.made (of_leaf (item c.in-Some.leaf c.args.key.now c.args.value) ∷ []) c.in-Some.ensures.made) in
+    let none = c.in_default-raise_pair.ensures.made (of_leaf (item c.in-Some.leaf c.args.key.now c.args.value) ∷ []) c.in-Some.ensures.made in
     subst (HoldsJust c.raise_pair.new.seat.known) (sym c.deref.ensures.0) (made_held c.args.table.now c.raise_pair.new.seat c.raise_pair.new.build.made.items none.news none.building)
 
 pub undo-requires-in_default-raise_pair-clause-locked : goal.undo-requires-in_default-raise_pair-clause-locked
@@ -120,12 +123,14 @@ returns-in_default-raise_pair-clause-run g c =
 pub returns-in_default-raise_pair-clause-full : goal.returns-in_default-raise_pair-clause-full
 returns-in_default-raise_pair-clause-full g c =
     let goes = goes_more c.args.table.now g.G.Gate.becomes (c.args.seat.now, c.args.gate.now) (c.make_leaf.new.seat, c.make_leaf.new.gate) (c.raise_pair.new.seat, c.raise_pair.new.gate) c.make_leaf.ensures.goes c.raise_pair.ensures.goes in
-    let none = not_made_since c.args.table.now g.G.Gate.becomes (c.args.seat.now, c.args.gate.now) (c.make_leaf.new.seat, c.make_leaf.new.gate) (c.raise_pair.new.seat, c.raise_pair.new.gate) c.raise_pair.new.build.made.items c.make_leaf.ensures.goes
-    (c.in_default-raise_pair.ensures.made (of_leaf (item c.in-Some.leaf c.args.key.now c.args.value) ∷ []) c.in-Some.ensures.made) in
+    let missed = c.in_default-raise_pair.ensures.walk c.make_leaf.new.seat.known.steps
+    (walk_begins a_node c.args.table.now.layout.nodes c.make_leaf.new.seat.known c.make_leaf.new.build.made.items c.make_leaf.new.build.nodes.next c.layout.result.nodes c.args.table.now.layout.nodes_in_range.0 (ap (λ (z : Layout). z.nodes) c.layout.ensures)) in
+    let rise = steps_rise c.args.table.now g.G.Gate.becomes c.make_leaf.ensures.goes.acts (c.args.seat.now, c.args.gate.now) (c.make_leaf.new.seat, c.make_leaf.new.gate) c.make_leaf.ensures.goes.steps in
     record {
       rest = c.undo-in_default-raise_pair.ensures.rest;
       others = (later_on c.args.seat.now.known c.raise_pair.new.seat.known c.undo-in_default-raise_pair.new.seat.known goes.stays.0 (works_later c.args.table.now g.G.Gate.becomes (c.raise_pair.new.seat, c.raise_pair.new.gate) (c.undo-in_default-raise_pair.new.seat, c.undo-in_default-raise_pair.new.gate) c.undo-in_default-raise_pair.ensures.works)).front;
-      full_of = missed_on c.args.table.now g.G.Gate.becomes a_node c.args.table.now.layout.nodes c.args.seat.now.known.steps (c.raise_pair.new.seat, c.raise_pair.new.gate) (c.undo-in_default-raise_pair.new.seat, c.undo-in_default-raise_pair.new.gate) (works_run c.args.table.now g.G.Gate.becomes (c.raise_pair.new.seat, c.raise_pair.new.gate) (c.undo-in_default-raise_pair.new.seat, c.undo-in_default-raise_pair.new.gate) c.undo-in_default-raise_pair.ensures.works) none.missed;
+      full_of = missed_on c.args.table.now g.G.Gate.becomes a_node c.args.table.now.layout.nodes c.args.seat.now.known.steps (c.raise_pair.new.seat, c.raise_pair.new.gate) (c.undo-in_default-raise_pair.new.seat, c.undo-in_default-raise_pair.new.gate) (works_run c.args.table.now g.G.Gate.becomes (c.raise_pair.new.seat, c.raise_pair.new.gate) (c.undo-in_default-raise_pair.new.seat, c.undo-in_default-raise_pair.new.gate) c.undo-in_default-raise_pair.ensures.works)
+          (all_earlier a_node c.args.table.now.layout.nodes c.raise_pair.new.seat.known.failed c.args.seat.now.known.steps c.make_leaf.new.seat.known.steps rise missed);
     }
 
 pub spot_above-spot-requires : goal.spot_above-spot-requires
@@ -220,10 +225,14 @@ pub returns-in_default-raise_pair-clause-few : goal.returns-in_default-raise_pai
 returns-in_default-raise_pair-clause-few g c =
     let above : length c.node_above-above.result.now ≤ c.args.span.end - (c.args.span.end - 1) =
     subst (λ z. length z ≤ c.args.span.end - (c.args.span.end - 1)) (sym c.node_above-above.ensures) (slice_few c.args.way.now (c.args.span.end - 1) c.args.span.end) in
-    omega (arith, c.make_leaf.ensures.few, c.raise_pair.ensures.few, c.undo-in_default-raise_pair.ensures.few, c.deref.ensures.1, above)
+    let whole : c.layout.result.nodes ≡ c.args.table.now.layout.nodes = ap (λ (z : Layout). z.nodes) c.layout.ensures in
+    let few : c.raise_pair.new.seat.known.steps + 2 * c.raise_pair.new.build.left_nodes ≤ c.make_leaf.new.seat.known.steps + 2 * c.layout.result.nodes + node_steps + MOST_MADE = c.in_default-raise_pair.ensures.few in
+    omega (arith, whole, c.make_leaf.ensures.few, few, c.undo-in_default-raise_pair.ensures.few, c.deref.ensures.1, above)
 
 pub returns-clause-few : goal.returns-clause-few
 returns-clause-few g c =
     let above : length c.node_above-above.result.now ≤ c.args.span.end - (c.args.span.end - 1) =
     subst (λ z. length z ≤ c.args.span.end - (c.args.span.end - 1)) (sym c.node_above-above.ensures) (slice_few c.args.way.now (c.args.span.end - 1) c.args.span.end) in
-    omega (arith, c.make_leaf.ensures.few, c.raise_pair.ensures.few, c.publish_change.ensures.few, above)
+    let whole : c.layout.result.nodes ≡ c.args.table.now.layout.nodes = ap (λ (z : Layout). z.nodes) c.layout.ensures in
+    let few : c.raise_pair.new.seat.known.steps + 2 * c.raise_pair.new.build.left_nodes ≤ c.make_leaf.new.seat.known.steps + 2 * c.layout.result.nodes + node_steps + 0 = c.in-Some-raise_pair.ensures.few in
+    omega (arith, whole, c.make_leaf.ensures.few, few, c.publish_change.ensures.few, above)

@@ -1,8 +1,9 @@
 -- What is left of the last node takes its place; where no record was free, all is given back.
-use Rattle.std.proofs.Common.{rules, ◌-◌, List, ap, sym, subst, Some, refl, arith}
+use Rattle.std.proofs.Common.{rules, ◌≡◌, ◌≤◌, ◌+◌, ◌*◌, ◌-◌, List, ap, sym, subst, Some, refl, arith}
 use Rattle.std.specs.Prelude.{slice_range}
 use Rattle.std.proofs.lemmas.Option.{slice_get-get_or}
 use Rattle.record_words.specs.Entry.{HasEntryWord, entry_word}
+use Rattle.record_words.specs.declared.layout.Layout.{Layout}
 use Rattle.moments.specs.declared.Rec.{Rec}
 use Rattle.moments.specs.declared.Rec.TheVariants.{Node as a_node}
 use Rattle.moments.specs.Trades.{AreApart}
@@ -12,9 +13,12 @@ use Rattle.rowex_rights.proofs.Loops.{later_on}
 use Rattle.rowex_table.specs.Made.{nodes_of}
 use Rattle.rowex_walks.specs.Writer.{removed_change}
 use Rattle.rowex_writing.specs.Changes.{MayEnd}
+use Rattle.rowex_writing.specs.Counts.{level_steps}
+use Rattle.rowex_writing.specs.declared.building.TheConstants.{MOST_MADE}
 use Rattle.rowex_writing.specs.Locks.{numbers_of}
 use Rattle.rowex_writing.specs.Retiring.{AreRecords}
 use Rattle.rowex_writing.proofs.Keeping.{changed_since, made_held, made_records, missed_on, way_nodes}
+use Rattle.rowex_writing.proofs.Walked.{walk_begins}
 use Rattle.rowex_writing.proofs.Locking.{seat_of}
 use Rattle.rowex_writing.proofs.Removing.{IsRaised, gone_are, gone_records, kept_node, left_raised, lowest_locked, may_remake, no_step, spot_in}
 use Rattle.rowex_writing.proofs.Runs.{goes_run, runs_trans, works_run}
@@ -76,7 +80,8 @@ returns-in_default-clause-full g c =
         rest = c.undo.ensures.rest;
         others = later.front;
         full_of = missed_on table g.G.Gate.becomes (λ n. a_node n) table.layout.nodes c.args.seat.now.known.steps (c.raise_without.new.seat, c.raise_without.new.gate) (c.undo.new.seat, c.undo.new.gate)
-            (works_run table g.G.Gate.becomes (c.raise_without.new.seat, c.raise_without.new.gate) (c.undo.new.seat, c.undo.new.gate) c.undo.ensures.works) none.missed;
+            (works_run table g.G.Gate.becomes (c.raise_without.new.seat, c.raise_without.new.gate) (c.undo.new.seat, c.undo.new.gate) c.undo.ensures.works)
+            (c.in_default.ensures.walk c.args.seat.now.known.steps (walk_begins a_node c.args.table.now.layout.nodes c.args.seat.now.known c.args.build.now.made.items c.args.build.now.nodes.next c.layout.result.nodes c.args.table.now.layout.nodes_in_range.0 (ap (λ (z : Layout). z.nodes) c.layout.ensures)));
       },
     )
 
@@ -162,9 +167,13 @@ returns-clause-taken g c = λ m value b ok.
 pub returns-in_default-clause-few : goal.returns-in_default-clause-few
 returns-in_default-clause-few g c =
     let (m, value, b) = c.requires.below in
-    omega (arith, c.raise_without.ensures.few, c.undo.ensures.few, c.deref.ensures.1, slice_few c.args.way.now c.saturating_sub-first.result c.args.span.len, b.len, b.taken.way_of.depth)
+    let whole : c.layout.result.nodes ≡ c.args.table.now.layout.nodes = ap (λ (z : Layout). z.nodes) c.layout.ensures in
+    let few : c.raise_without.new.seat.known.steps + 2 * c.raise_without.new.build.left_nodes ≤ c.args.seat.now.known.steps + 2 * c.layout.result.nodes + level_steps + MOST_MADE = c.in_default.ensures.few in
+    omega (arith, whole, few, c.undo.ensures.few, c.deref.ensures.1, slice_few c.args.way.now c.saturating_sub-first.result c.args.span.len, b.len, b.taken.way_of.depth)
 
 pub returns-clause-few : goal.returns-clause-few
 returns-clause-few g c =
     let (m, value, b) = c.requires.below in
-    omega (arith, c.raise_without.ensures.few, c.publish_change.ensures.few, slice_few c.args.way.now c.saturating_sub-first.result c.args.span.end, b.len, b.last, b.taken.way_of.depth)
+    let whole : c.layout.result.nodes ≡ c.args.table.now.layout.nodes = ap (λ (z : Layout). z.nodes) c.layout.ensures in
+    let few : c.raise_without.new.seat.known.steps + 2 * c.raise_without.new.build.left_nodes ≤ c.args.seat.now.known.steps + 2 * c.layout.result.nodes + level_steps + 0 = c.in-Some.ensures.few in
+    omega (arith, whole, few, c.publish_change.ensures.few, slice_few c.args.way.now c.saturating_sub-first.result c.args.span.end, b.len, b.last, b.taken.way_of.depth)

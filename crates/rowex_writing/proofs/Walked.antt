@@ -1,0 +1,245 @@
+-- The walk of a change over the records of a kind: how it begins, goes on and ends.
+use Rattle.std.proofs.Common.{◌≡◌, ◌⊎◌, inl, inr, ℕ, zero, suc, ◌+◌, ◌-◌, ◌*◌, ◌<◌, ◌≤◌, List, [], ◌∷◌, ◌++◌, Bool, true, false, nat_lt, Option, length, get_or, if◌then◌else◌, refl, sym, ap, subst, ◌∙◌, arith}
+use Rattle.std.specs.Prelude.{Contains}
+use Rattle.std.proofs.lemmas.Bool.{ltb-true, ltb-false, lt-ltb, le-ltb}
+use Rattle.std.proofs.lemmas.List.{get_or_default}
+use Rattle.std.proofs.lemmas.List.Elements.{Contains-append_left, Contains-push}
+use Rattle.moments.specs.declared.Rec.{Rec}
+use Rattle.moments.specs.declared.Rec.TheVariants.{Node as a_node}
+use Rattle.rowex_core.specs.declared.event.Act.TheVariants.{LoadState}
+use Rattle.rowex_core.specs.declared.event.Event.{Event}
+use Rattle.rowex_core.specs.declared.known.Failed.{Failed}
+use Rattle.rowex_core.specs.declared.known.Known.{Known}
+use Rattle.rowex_core.specs.declared.known.Holding.TheVariants.{Held}
+use Rattle.rowex_core.specs.Cores.{HasRecord}
+use Rattle.rowex_table.specs.Made.{Made}
+use Rattle.rowex_table.specs.Rights.{IsClaimed}
+use Rattle.rowex_table.specs.Runs.{Steps}
+use Rattle.rowex_table.specs.Seats.{TableView, SeatView}
+use Rattle.rowex_table.proofs.Running.{does_count}
+use Rattle.rowex_records.specs.Claims.{AllMissed, Claims, FindsNone, HasMissedSince, MissesOne, begin_of, claiming, wrapped}
+use Rattle.rowex_records.proofs.Claimed.{held_misses, missed_among, missed_earlier, turned_to}
+use Rattle.rowex_records.proofs.Making.{looks_one}
+use Rattle.rowex_writing.specs.declared.building.Build.{Build}
+use Rattle.rowex_writing.specs.Building.{IsBuilding}
+use Rattle.rowex_writing.specs.Going.{WorksOn}
+use Rattle.rowex_writing.specs.Walks.{IsWalk, WalksOn}
+use Rattle.rowex_writing.proofs.Keeping.{made_held, made_records, run_failed}
+use Rattle.rowex_writing.proofs.Locking.{goes_more, goes_none}
+use Rattle.rowex_writing.proofs.Making.{miss_on, steps_rise}
+
+-- ---- numbers in turn
+by_order : (n x : ℕ) (P : ℕ → Type 0) → (x < n → P x) → (n ≤ x → P (x - n)) → P (if nat_lt x n then x else x - n)
+by_order n x P below above = go (nat_lt x n) refl
+  where
+    go : (b : Bool) → nat_lt x n ≡ b → P (if b then x else x - n)
+    go true is = below (ltb-true x n is)
+    go false is = above (ltb-false x n is)
+
+low_is : (n x : ℕ) → x < n → (if nat_lt x n then x else x - n) ≡ x
+low_is n x low = let is : nat_lt x n ≡ true = lt-ltb x n low in rw is refl
+
+high_is : (n x : ℕ) → n ≤ x → (if nat_lt x n then x else x - n) ≡ x - n
+high_is n x high = let is : nat_lt x n ≡ false = le-ltb x n high in rw is refl
+
+-- some on from a number in turn
+wrapped_on : (n begin t m : ℕ) → begin < n → t < n → t + m ≤ n → wrapped n (wrapped n begin t) m ≡ wrapped n begin (t + m)
+wrapped_on n begin t m low within few = by_order n (begin + t) (λ p. wrapped n p m ≡ wrapped n begin (t + m))
+    (λ below. let same : begin + t + m ≡ begin + (t + m) = omega arith in ap (λ z. if nat_lt z n then z else z - n) same)
+    (λ above. low_is n (begin + t - n + m) (omega arith) ∙ (let same : begin + t - n + m ≡ begin + (t + m) - n = omega arith in same ∙ sym (high_is n (begin + (t + m)) (omega arith))))
+
+-- and the one after it
+next_on : (n begin t number : ℕ) → begin < n → t < n → number ≡ wrapped n begin t → begin_of n (number + 1) ≡ wrapped n begin (t + 1)
+next_on n begin t number low within is = subst (λ z. begin_of n (z + 1) ≡ wrapped n begin (t + 1)) (sym is) (by_order n (begin + t) (λ p. begin_of n (p + 1) ≡ wrapped n begin (t + 1)) before after)
+  where
+    before : begin + t < n → begin_of n (begin + t + 1) ≡ wrapped n begin (t + 1)
+    before below = go (nat_lt (begin + t + 1) n) refl
+      where
+        go : (b : Bool) → nat_lt (begin + t + 1) n ≡ b → (if nat_lt (begin + t + 1) n then begin + t + 1 else 0) ≡ wrapped n begin (t + 1)
+        go true e = let inside = ltb-true (begin + t + 1) n e in rw e ((let same : begin + t + 1 ≡ begin + (t + 1) = omega arith in same) ∙ sym (low_is n (begin + (t + 1)) (omega arith)))
+        go false e = let past = ltb-false (begin + t + 1) n e in rw e ((let same : 0 ≡ begin + (t + 1) - n = omega arith in same) ∙ sym (high_is n (begin + (t + 1)) (omega arith)))
+
+    after : n ≤ begin + t → begin_of n (begin + t - n + 1) ≡ wrapped n begin (t + 1)
+    after above =
+        let inside : nat_lt (begin + t - n + 1) n ≡ true = lt-ltb (begin + t - n + 1) n (omega arith) in
+        rw inside ((let same : begin + t - n + 1 ≡ begin + (t + 1) - n = omega arith in same) ∙ sym (high_is n (begin + (t + 1)) (omega arith)))
+
+-- ---- the walk
+module _ (kind : ℕ → Rec) (n : ℕ) where
+  -- a walk that is to try each record begins at any number
+  pub walk_begins : (k : Known) (made : List Rec) (next left : ℕ) → 0 < n → left ≡ n → IsWalk kind n k.steps k made next left
+  walk_begins k made next left some whole = record {
+    early = omega arith;
+    begin = begin_of n next;
+    low = begins (nat_lt next n) refl;
+    tried = 0;
+    count = omega arith;
+    next_is = λ more. sym ((let same : begin_of n next + 0 ≡ begin_of n next = omega arith in ap (λ z. if nat_lt z n then z else z - n) same) ∙ low_is n (begin_of n next) (begins (nat_lt next n) refl));
+    each = λ i low. absurd (omega arith);
+  }
+    where
+      begins : (b : Bool) → nat_lt next n ≡ b → (if nat_lt next n then next else 0) < n
+      begins true e = rw e (ltb-true next n e)
+      begins false e = rw e some
+
+  -- it goes on being one, where failed steps and records come to those that there are
+  pub walk_stays : (since : ℕ) (k j : Known) (made more : List Rec) (next left : ℕ) → k.steps ≤ j.steps → ((x : Failed) → Contains k.failed x → Contains j.failed x) → ((r : Rec) → Contains made r → Contains more r)
+      → IsWalk kind n since k made next left → IsWalk kind n since j more next left
+  walk_stays since k j made more next left later failed kept w = record {
+    early = let early = w.early in omega arith;
+    begin = w.begin;
+    low = w.low;
+    tried = w.tried;
+    count = w.count;
+    next_is = w.next_is;
+    each = λ i low. elim (w.each i low) [ inl (step, late, (act, word, tells, one, has)) ↦ inl (step, late, (act, word, tells, one, failed _ has)) | inr has ↦ inr (kept _ has) ];
+  }
+
+  -- where all have been tried, each was found not free, if those that are made were
+  pub walk_ends : (since : ℕ) (k : Known) (made : List Rec) (next left : ℕ) → left ≡ 0 → ((r : Rec) → Contains made r → HasMissedSince k.failed r since) → IsWalk kind n since k made next left → AllMissed kind n k.failed since
+  walk_ends since k made next left none looked w q low =
+      let (i, within, is) = turned_to n w.begin q w.low low in
+      let all = w.count in
+      subst (λ z. HasMissedSince k.failed (kind z) since) is (elim (w.each i (omega arith)) [ inl missed ↦ missed | inr has ↦ looked _ has ])
+
+  module _ {G : Type 0} (table : TableView) (becomes : G → Event → G → Type 0) where
+    pub walk_on : (since : ℕ) (a b : SeatView × G) (made more : List Rec) (next left : ℕ) → WorksOn table becomes a b → ((r : Rec) → Contains made r → Contains more r)
+        → IsWalk kind n since a.0.known made next left → IsWalk kind n since b.0.known more next left
+    walk_on since a b made more next left goes kept w =
+        walk_stays since a.0.known b.0.known made more next left (steps_rise table becomes goes.acts a b goes.steps) (λ x has. run_failed table becomes goes.acts a b goes.steps x has) kept w
+
+    -- after tries that found none free
+    module _ (since m : ℕ) (a b : SeatView × G) (made : List Rec) (next left : ℕ) (w : IsWalk kind n since a.0.known made next left) (within : m ≤ left) (none : FindsNone table becomes kind n (begin_of n next) m a b) where
+      pub each_tried : (i : ℕ) → i < w.tried + m → HasMissedSince b.0.known.failed (kind (wrapped n w.begin i)) since ⊎ Contains made (kind (wrapped n w.begin i))
+      each_tried i low = go (nat_lt i w.tried) refl
+        where
+          count : w.tried + left ≡ n
+          count = w.count
+
+          go : (t : Bool) → nat_lt i w.tried ≡ t → HasMissedSince b.0.known.failed (kind (wrapped n w.begin i)) since ⊎ Contains made (kind (wrapped n w.begin i))
+          go true e = elim (w.each i (ltb-true i w.tried e)) [
+            | inl missed ↦ inl (subst (λ l. HasMissedSince l (kind (wrapped n w.begin i)) since) (sym none.failed) (beyond none.missed a.0.known.failed (kind (wrapped n w.begin i)) since missed))
+            | inr has ↦ inr has
+          ]
+            where
+              beyond : (missed failed : List Failed) (r : Rec) (since : ℕ) → HasMissedSince failed r since → HasMissedSince (missed ++ failed) r since
+              beyond [] failed r since h = h
+              beyond (x ∷ missed) failed r since h = let (step, late, (act, word, tells, one, (at, inside, is))) = beyond missed failed r since h in (step, late, (act, word, tells, one, (suc at, omega arith, is)))
+          go false e =
+              let past = ltb-false i w.tried e in
+              let early = w.early in
+              let at : wrapped n (begin_of n next) (i - w.tried) ≡ wrapped n w.begin i =
+              ap (λ z. wrapped n z (i - w.tried)) (w.next_is (omega arith)) ∙
+              (wrapped_on n w.begin w.tried (i - w.tried) w.low (omega arith) (omega arith) ∙ ap (wrapped n w.begin) (let same : w.tried + (i - w.tried) ≡ i = omega arith in same)) in
+              inl (subst (λ l. HasMissedSince l (kind (wrapped n w.begin i)) since) (sym none.failed) (missed_among none.missed a.0.known.failed (kind (wrapped n w.begin i)) since
+              (missed_earlier none.missed (kind (wrapped n w.begin i)) since a.0.known.steps early (subst (λ z. HasMissedSince none.missed (kind z) a.0.known.steps) at (none.each (i - w.tried) (omega arith))))))
+
+    -- none of those that were left is free
+    pub walk_out : (since left less : ℕ) (a b : SeatView × G) (made : List Rec) (next m : ℕ) → WorksOn table becomes a b → m ≡ left → less ≡ 0 → FindsNone table becomes kind n (begin_of n next) m a b
+        → IsWalk kind n since a.0.known made next left → IsWalk kind n since b.0.known made next less
+    walk_out since left less a b made next m goes all out none w = record {
+      early = let rise = steps_rise table becomes goes.acts a b goes.steps in let early = w.early in omega arith;
+      begin = w.begin;
+      low = w.low;
+      tried = w.tried + m;
+      count = let count = w.count in omega arith;
+      next_is = λ more. absurd (omega arith);
+      each = each_tried since m a b made next left w (omega arith) none;
+    }
+
+    -- one of them is claimed
+    pub walk_claims : (since left less number : ℕ) (a b : SeatView × G) (made : List Rec) (next : ℕ) → WorksOn table becomes a b → (claims : Claims table becomes kind n (begin_of n next) number a b) → less + claims.tried + 1 ≡ left
+        → IsWalk kind n since a.0.known made next left → IsWalk kind n since b.0.known (made ++ kind number ∷ []) (number + 1) less
+    walk_claims since left less number a b made next goes claims spent w = record {
+      early = let rise = steps_rise table becomes goes.acts a b goes.steps in let early = w.early in omega arith;
+      begin = w.begin;
+      low = w.low;
+      tried = w.tried + claims.tried + 1;
+      count = let count = w.count in omega arith;
+      next_is = λ more. next_on n w.begin (w.tried + claims.tried) number w.low inside here;
+      each = each;
+    }
+      where
+        count : w.tried + left ≡ n
+        count = w.count
+
+        inside : w.tried + claims.tried < n
+        inside = omega arith
+
+        here : number ≡ wrapped n w.begin (w.tried + claims.tried)
+        here = claims.number_is ∙ (ap (λ z. wrapped n z claims.tried) (w.next_is (omega arith)) ∙ wrapped_on n w.begin w.tried claims.tried w.low (omega arith) (omega arith))
+
+        each : (i : ℕ) → i < w.tried + claims.tried + 1 → HasMissedSince b.0.known.failed (kind (wrapped n w.begin i)) since ⊎ Contains (made ++ kind number ∷ []) (kind (wrapped n w.begin i))
+        each i low = go (nat_lt i (w.tried + claims.tried)) refl
+          where
+            go : (t : Bool) → nat_lt i (w.tried + claims.tried) ≡ t → HasMissedSince b.0.known.failed (kind (wrapped n w.begin i)) since ⊎ Contains (made ++ kind number ∷ []) (kind (wrapped n w.begin i))
+            go true e = elim (each_tried since claims.tried a claims.before made next left w (omega arith) claims.none i (ltb-true i (w.tried + claims.tried) e)) [
+              | inl missed ↦ inl (subst (λ l. HasMissedSince l (kind (wrapped n w.begin i)) since) (sym claims.one.failed) missed)
+              | inr has ↦ inr (Contains-append_left made (kind number ∷ []) (kind (wrapped n w.begin i)) has)
+            ]
+            go false e =
+                let past = ltb-false i (w.tried + claims.tried) e in
+                let same : w.tried + claims.tried ≡ i = omega arith in
+                inr (subst (λ z. Contains (made ++ kind number ∷ []) (kind z)) (here ∙ ap (wrapped n w.begin) same) (Contains-push made (kind number)))
+
+-- ---- the records that are made
+pub look_record : (table : TableView) (a : SeatView) (made : List Rec) (news : List Made) → IsBuilding table a made news → (index : ℕ) (d : Rec) → index < length made → HasRecord table.layout (get_or made index d)
+look_record table a made news building index d low = made_records table a made news building index d low
+
+module _ {G : Type 0} (table : TableView) (becomes : G → Event → G → Type 0) (made : List Rec) where
+  -- those before this index were found not free, by a load of each
+  pub record HasLooked (index : ℕ) (a b : SeatView × G) : Type 0 where
+    pub goes : WorksOn table becomes a b
+    pub own : b.0.known.own ≡ a.0.known.own
+    pub seen : (i : ℕ) (d : Rec) → i < index → HasMissedSince b.0.known.failed (get_or made i d) a.0.known.steps
+    pub few : b.0.known.steps ≤ a.0.known.steps + index
+
+  pub looked_none : (a : SeatView × G) → HasLooked 0 a a
+  looked_none a = record { goes = goes_none table becomes a; own = refl; seen = λ i d low. absurd (omega arith); few = omega arith }
+
+  pub looked_more : (index : ℕ) (a m b : SeatView × G) → index < length made → (news : List Made) → IsBuilding table a.0 made news → HasLooked index a m → (d : Rec) (word : ℕ) →
+      Steps table becomes (LoadState (get_or made index d) word) m b → HasLooked (index + 1) a b
+  looked_more index a m b low news building looked d word step = record {
+    goes = goes_more table becomes a m b looked.goes goes;
+    own = one.own ∙ looked.own;
+    seen = seen;
+    few = (let few = looked.few in let count = does_count table becomes claiming (LoadState r word ∷ []) m b (looks_one table becomes r word m b step) in omega arith);
+  }
+    where
+      r : Rec
+      r = get_or made index d
+
+      held : IsClaimed a.0.known r
+      held = (made_held table a.0 made news building).each index d low
+
+      one : MissesOne table becomes r m b
+      one = held_misses table becomes r held.0 word m b (subst (λ l. Contains l (record { rec = r; holding = Held; words = held.0 })) (sym looked.own) held.2) step
+
+      goes : WorksOn table becomes m b
+      goes = miss_on table becomes r m b one
+
+      later : a.0.known.steps ≤ m.0.known.steps
+      later = steps_rise table becomes looked.goes.acts a m looked.goes.steps
+
+      seen : (i : ℕ) (e : Rec) → i < index + 1 → HasMissedSince b.0.known.failed (get_or made i e) a.0.known.steps
+      seen i e below = go (nat_lt i index) refl
+        where
+          go : (t : Bool) → nat_lt i index ≡ t → HasMissedSince b.0.known.failed (get_or made i e) a.0.known.steps
+          go true is =
+              let (since, late, (act, found, tells, some, has)) = looked.seen i e (ltb-true i index is) in
+              (since, late, (act, found, tells, some, run_failed table becomes goes.acts m b goes.steps _ has))
+          go false is =
+              let past = ltb-false i index is in
+              let same : index ≡ i = omega arith in
+              subst (λ z. HasMissedSince b.0.known.failed (get_or made z e) a.0.known.steps) same
+              (subst (λ z. HasMissedSince b.0.known.failed z a.0.known.steps) (get_or_default made index d e low)
+              (subst (λ l. HasMissedSince l r a.0.known.steps) (sym one.failed_is) (missed_among (one.failed ∷ []) m.0.known.failed r a.0.known.steps (missed_earlier (one.failed ∷ []) r a.0.known.steps m.0.known.steps later one.tells))))
+
+  pub looked_all : (index : ℕ) (a b : SeatView × G) → length made ≤ index → HasLooked index a b → (r : Rec) → Contains made r → HasMissedSince b.0.known.failed r a.0.known.steps
+  looked_all index a b all looked r (i, low, is) = subst (λ z. HasMissedSince b.0.known.failed z a.0.known.steps) is (looked.seen i r (omega arith))
+
+-- ---- what builds goes on with the walk
+pub walks_later : {G : Type 0} (table : TableView) (becomes : G → Event → G → Type 0) {X : Type 0} (a m : SeatView × G) (k : Known) (build after : Build) (answer : Option X) → WorksOn table becomes a m →
+    WalksOn table.layout m.0.known build k after answer → WalksOn table.layout a.0.known build k after answer
+walks_later table becomes a m k build after answer goes walks since w =
+    walks since (walk_on a_node table.layout.nodes table becomes since a m build.made.items build.made.items build.nodes.next build.left_nodes goes (λ r has. has) w)

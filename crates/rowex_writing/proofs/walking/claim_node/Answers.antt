@@ -1,0 +1,41 @@
+-- A record is claimed; or none was free, and those that are made are looked at.
+use Rattle.std.proofs.Common.{◌∙◌, [], ◌++◌, arith, sym, subst, Contains, List}
+use Rattle.moments.specs.declared.Rec.{Rec}
+use Rattle.moments.specs.declared.Rec.TheVariants.{Node as a_node}
+use Rattle.rowex_table.specs.Made.{Made}
+use Rattle.rowex_records.specs.Claims.{HasMissedSince}
+use Rattle.rowex_records.proofs.Claimed.{missed_earlier}
+use Rattle.rowex_writing.specs.Building.{IsBuilding}
+use Rattle.rowex_writing.proofs.Locking.{goes_more, seat_of}
+use Rattle.rowex_writing.proofs.Making.{building_on}
+use Rattle.rowex_writing.proofs.Walked.{walk_on, walk_ends}
+use Rattle.rowex_writing.proofs.walking.claim_node.Goals as goal
+
+pub claim_left-claimed-requires : goal.claim_left-claimed-requires
+claim_left-claimed-requires g c = record { own = c.requires.building.1.seat }
+
+pub look_at-requires : goal.look_at-requires
+look_at-requires g c =
+    let (news, b) = c.requires.building in
+    record {
+      building = (
+        news,
+        subst (λ z. IsBuilding c.args.table.now c.claim_left-claimed.new.seat z news) (sym c.as_slice.ensures.value)
+            (building_on c.args.table.now g.G.Gate.becomes (c.args.seat.now, c.args.gate.now) (c.claim_left-claimed.new.seat, c.claim_left-claimed.new.gate) c.args.build.now.made.items news c.claim_left-claimed.ensures.goes c.in_default.ensures.claims b),
+      );
+    }
+
+pub returns-clause-goes : goal.returns-clause-goes
+returns-clause-goes g c = goes_more c.args.table.now g.G.Gate.becomes _ _ _ c.claim_left-claimed.ensures.goes c.look_at.ensures.goes
+
+pub returns-clause-claims : goal.returns-clause-claims
+returns-clause-claims g c = c.look_at.ensures.own ∙ c.in_default.ensures.claims
+
+pub returns-clause-walk : goal.returns-clause-walk
+returns-clause-walk g c = λ since w.
+    let (none, walk) = c.in_default.ensures.walk since c.args.build.now.made.items w in
+    let early = walk.early in
+    walk_ends a_node c.args.table.now.layout.nodes since c.look_at.new.seat.known c.args.build.now.made.items c.claim_left-claimed.new.supply.next c.claim_left-claimed.new.left none
+    (λ r has. missed_earlier c.look_at.new.seat.known.failed r since c.claim_left-claimed.new.seat.known.steps early (c.look_at.ensures.seen r (subst (λ z. Contains z r) (sym c.as_slice.ensures.value) has)))
+    (walk_on a_node c.args.table.now.layout.nodes c.args.table.now g.G.Gate.becomes since (c.claim_left-claimed.new.seat, c.claim_left-claimed.new.gate) (c.look_at.new.seat, c.look_at.new.gate) c.args.build.now.made.items c.args.build.now.made.items
+    c.claim_left-claimed.new.supply.next c.claim_left-claimed.new.left c.look_at.ensures.goes (λ r has. has) walk)
