@@ -154,9 +154,9 @@ impl Index {
 
     /// Gives a key a value if it is absent: `Inserted`, or `Exists` with the value that it has, which stays.
     ///
-    /// It waits for nobody: it makes at most 920,268 atomic steps, two more for each pass, 17,290 for each node record and 10
+    /// It waits for nobody: it makes at most 920,268 atomic steps, two more for each pass, 6 for each node record and 10
     /// for each leaf record. It is refused as `Busy` where another pass holds what it wants to lock, or has made a change since the
-    /// call began; and as full where each record of a kind was taken when it asked for one, also after a round of collection.
+    /// call began; and as full where it found each record of a kind taken, also after a round of collection.
     /// Refused, it has changed nothing, and it holds no lock and no record.
     pub fn try_insert(&self, pass: &mut Pass, key: &Key, value: u64) -> Result<Reply, TryFault>
         requires { Owns self.now pass.old }
@@ -327,7 +327,7 @@ impl Index {
     ///
     /// Where `try_insert` would be `Busy` it begins again, as often as need be, and so it does where a call of another pass holds
     /// back retired records, and none is free: it ends once no other pass stands in its way. It is refused where each record of a
-    /// kind was taken when it asked for one, also after a round of collection. Refused, it has changed nothing, and it holds no
+    /// kind was found taken, also after a round of collection. Refused, it has changed nothing, and it holds no
     /// lock and no record.
     pub fn insert<R: Wait>(
         &self,

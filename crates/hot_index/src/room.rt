@@ -80,6 +80,7 @@ pub fn new_room(alloc: Global, layout: Layout, number: u16) -> Result<Box<Room>,
         made: ArrayVec::new(),
         gone: ArrayVec::new(),
         nodes: part(0, layout.nodes),
+        left_nodes: layout.nodes,
         leaves: [
             part(0, layout.medium_from),
             part(layout.medium_from, layout.large_from),
