@@ -25,10 +25,6 @@ pub struct Given {
 pub struct Collected {
     /// How many records it gave back.
     pub given: Given,
-    /// Whether it saw a node record that was free.
-    pub free_nodes: bool,
-    /// Whether it saw a leaf record that was free.
-    pub free_leaves: bool,
     /// Whether it saw a retired record that was not to be given back yet, since a pass may still reach it.
     pub held_back: bool,
 }
@@ -40,8 +36,6 @@ pub enum Visited {
     Given,
     /// The record is retired, in an epoch that isn't below the bound of the round.
     Waits,
-    /// The record is free, or another pass gave it back.
-    Free,
     /// The record is in another state.
     Other,
 }
@@ -50,7 +44,6 @@ pub enum Visited {
 #[derive(Clone, Copy)]
 struct Tally {
     given: u32,
-    free: bool,
     held_back: bool,
 }
 
@@ -71,8 +64,6 @@ pub fn collect_round<G: Gate>(table: &HotTable, seat: &mut TableSeat, gate: &mut
             nodes: nodes.given,
             leaves: leaves.given,
         },
-        free_nodes: nodes.free,
-        free_leaves: leaves.free,
         held_back: nodes.held_back | leaves.held_back,
     }
 }
@@ -154,7 +145,6 @@ fn visit_nodes<G: Gate>(table: &HotTable, seat: &mut TableSeat, gate: &mut G, bo
 {
     let mut tally = Tally {
         given: 0,
-        free: false,
         held_back: false,
     };
     for number in 0..table.layout().nodes {
@@ -173,7 +163,6 @@ fn visit_leaves<G: Gate>(table: &HotTable, seat: &mut TableSeat, gate: &mut G, b
 {
     let mut tally = Tally {
         given: 0,
-        free: false,
         held_back: false,
     };
     for number in 0..table.layout().leaves {
@@ -191,18 +180,11 @@ fn counted(tally: Tally, seen: Visited) -> Tally
     match seen {
         Visited::Given => Tally {
             given: tally.given + 1,
-            free: tally.free,
             held_back: tally.held_back,
         },
         Visited::Waits => Tally {
             given: tally.given,
-            free: tally.free,
             held_back: true,
-        },
-        Visited::Free => Tally {
-            given: tally.given,
-            free: true,
-            held_back: tally.held_back,
         },
         Visited::Other => tally,
     }
@@ -290,7 +272,11 @@ fn visit<G: Gate>(
 fn given_if(given: bool) -> Visited
     ensures { is_given result ≡ given }
 {
-    if given { Visited::Given } else { Visited::Free }
+    if given {
+        Visited::Given
+    } else {
+        Visited::Other
+    }
 }
 
 /// What a visit came to of a record of this state that was not to be given back.
@@ -299,7 +285,6 @@ fn unripe(word: u64) -> Visited
 {
     match unpack_state(word) {
         Ok(Tag::Obsolete(_)) => Visited::Waits,
-        Ok(Tag::Free) => Visited::Free,
         _ => Visited::Other,
     }
 }

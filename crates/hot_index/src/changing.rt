@@ -14,9 +14,10 @@ ghost use Rattle.hot_index.specs.Noting.{notes_of};
 ghost use Rattle.hot_index.specs.Traces.{AreAttempts, AreTries, HasStepped, IsAttempt, Tidies, is_full};
 
 use crate::room::Room;
-use epochs::{Collected, collect_round, collect_small, pin, unpin};
+use epochs::{Given, collect_round, collect_small, pin, unpin};
 use hot_model::Reply;
 use key_bits::Key;
+use record_words::Layout;
 use rowex_core::Gate;
 use rowex_table::{HotTable, TableSeat};
 use rowex_writing::{Ask, Full, TryFault, attempt};
@@ -54,7 +55,8 @@ fn tidy<G: Gate>(table: &HotTable, seat: &mut TableSeat, gate: &mut G, room: &mu
 }
 
 /// Asks for a change, at most twice: where no record was free, it makes a round of collection before it tries again, and that
-/// answer stands. Where the round saw none of the kind that is free, the second attempt does nothing, and is refused as the first was.
+/// answer stands. Where the round gave back none of the kind, and no other pass can have done so, the second attempt does nothing, and is
+/// refused as the first was.
 fn try_twice<G: Gate>(
     table: &HotTable,
     seat: &mut TableSeat,
@@ -75,7 +77,7 @@ fn try_twice<G: Gate>(
     let round = collect_round(table, seat, gate);
     room.held_back = round.held_back;
     room.pass_none_by();
-    if has_room(&round, lacks) {
+    if has_room(table.layout(), round.given, lacks) {
         return try_once(table, seat, gate, room, ask, key, value);
     }
     refuse_again(table, seat, gate);
@@ -94,12 +96,14 @@ fn lacked(answer: Result<Reply, TryFault>) -> Option<Full>
     }
 }
 
-/// Whether a round gave back records of this kind, or saw one that was free.
-fn has_room(round: &Collected, kind: Full) -> bool {
-    match kind {
-        Full::Nodes => round.free_nodes || round.given.nodes > 0,
-        Full::Leaves => round.free_leaves || round.given.leaves > 0,
-    }
+/// Whether there may be a free record of this kind after a round: one that it gave back, or that another pass has given back in the
+/// meantime.
+fn has_room(layout: Layout, given: Given, kind: Full) -> bool {
+    let count = match kind {
+        Full::Nodes => given.nodes,
+        Full::Leaves => given.leaves,
+    };
+    layout.passes > 1 || count > 0
 }
 
 /// Makes an attempt that does nothing: it pins the pass and clears the pin.

@@ -12,5 +12,6 @@ pub use hot_model::{Call, Reply, Scan};
 pub use index::{Index, IndexFault, Pass, create, create_with};
 pub use key_bits::Key;
 pub use packed_pairs::Pairs;
+pub use record_words::{LayoutFault, Stock};
 pub use rowex_core::{Event, Gate, NoGate};
 pub use rowex_writing::{Full, TryFault};
