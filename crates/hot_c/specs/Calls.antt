@@ -94,9 +94,9 @@ pub record AreNew (passes : ℕ) (HasRecords : Layout → Type 0) (opened : List
 abbrev pub HaveOpenedOn : (Layout → Type 0) → List Handle → Type 0
 HaveOpenedOn HasRecords handles = (opened : List Opened) × (map (λ h. h.slot.opened) handles ≡ map Some opened) × AreNew (length handles) HasRecords opened
 
--- so many nodes and leaves
+-- so many nodes and leaves, which are all long
 abbrev pub HasCounts : ℕ → ℕ → Layout → Type 0
-HasCounts nodes leaves layout = (layout.nodes ≡ nodes) × (layout.leaves ≡ leaves)
+HasCounts nodes leaves layout = (layout.nodes ≡ nodes) × (layout.leaves ≡ leaves) × (layout.long_from ≡ 0)
 
 abbrev pub HaveOpened : ℕ → ℕ → List Handle → Type 0
 HaveOpened nodes leaves = HaveOpenedOn (HasCounts nodes leaves)

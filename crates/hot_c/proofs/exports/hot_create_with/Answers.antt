@@ -6,4 +6,4 @@ use Rattle.hot_c.proofs.Shares.{have_opened}
 use Rattle.hot_c.proofs.exports.hot_create_with.Goals as goal
 
 pub returns-in-Ok-make_stocked-clause-made : goal.returns-in-Ok-make_stocked-clause-made
-returns-in-Ok-make_stocked-clause-made c = λ closed size. inl (refl, have_opened _ (λ layout. HasStock layout (stock_in c.args.stock.now)) c.open_all.new.handles c.in-Ok-make_stocked.stocked.items c.open_all.ensures c.in-Ok-make_stocked.ensures.made)
+returns-in-Ok-make_stocked-clause-made c = λ closed size. inl (refl, have_opened _ (λ layout. HasStock layout (stock_in c.args.stock.now)) c.open_all.new.handles c.in-Ok-make_stocked.stocked.items c.open_all.ensures (rw c.stock.ensures at c.in-Ok-make_stocked.ensures.made))
