@@ -11,7 +11,7 @@ use Rattle.compound_node.specs.declared.entries.Entry.TheVariants.{Leaf as LeafE
 use Rattle.insert_cases.specs.declared.choice.Step.{Step}
 use Rattle.moments.specs.Trades.{IsOf, AreApart}
 use Rattle.moments.specs.declared.Rec.{Rec}
-use Rattle.moments.specs.declared.Rec.TheVariants.{Node as a_node, Leaf as a_leaf}
+use Rattle.moments.specs.declared.Rec.TheVariants.{Node as a_node}
 use Rattle.moments.proofs.Members.{map_of, of_append, of_left, of_map, of_right}
 use Rattle.pieces.specs.Piece.{Place, places}
 use Rattle.record_words.specs.Entry.{HasEntryWord, entry_word}
@@ -58,7 +58,7 @@ use Rattle.rowex_records.specs.Claims.{AllMissed, AllMissedFrom}
 use Rattle.rowex_rights.specs.Ending.{IsAtRest}
 use Rattle.rowex_rights.proofs.Loops.{later_on}
 use Rattle.rowex_writing.specs.declared.plan.Full.TheVariants.{Nodes, Leaves}
-use Rattle.rowex_writing.specs.Building.{FitsAbove, HasNotMade, IsBuilding, IsChain, HasRisenTo, gone_unless, gone_with}
+use Rattle.rowex_writing.specs.Building.{FitsAbove, IsBuilding, IsChain, HasRisenTo, gone_unless, gone_with}
 use Rattle.rowex_writing.specs.Changes.{HasChanged, HasNoRoom, HasStored, HasTakenSpan, IsChecked, IsFull, IsPlanned, IsStored, MayEnd}
 use Rattle.rowex_writing.specs.Going.{HasLocked, WorksOn}
 use Rattle.rowex_writing.specs.Growths.{HasNumber, MayGrow}

@@ -12,7 +12,6 @@ use Rattle.rowex_table.proofs.ActsLeave.{act_leaves}
 use Rattle.record_words.specs.Node.{HasNodeWords}
 use Rattle.moments.specs.Trades.{IsOf}
 use Rattle.moments.specs.declared.Rec.{Rec}
-use Rattle.moments.specs.declared.Rec.TheVariants.{Node as a_node}
 use Rattle.moments.proofs.Legal.{same_rec_refl}
 use Rattle.moments.proofs.Members.{all_of, of_map, map_of}
 use Rattle.rowex_core.specs.declared.event.Act.{Act}
@@ -27,9 +26,8 @@ use Rattle.rowex_table.specs.Made.{Made, held_as, recs_of}
 use Rattle.rowex_table.specs.Runs.{Runs, Does, InTurn}
 use Rattle.rowex_table.specs.Seats.{TableView, SeatView, IsSeatOf}
 use Rattle.rowex_table.proofs.Running.{runs_same}
-use Rattle.rowex_records.specs.Claims.{claiming, wrapped, Misses, MissesOne, MissesNumber, HoldsOneMore, ClaimsOne, FindsNone, Claims, AllMissed}
+use Rattle.rowex_records.specs.Claims.{claiming, wrapped, Misses, MissesOne, MissesNumber, HoldsOneMore, ClaimsOne, FindsNone, Claims}
 use Rattle.rowex_records.specs.Records.{clearing, owning, fill_with, Fills, SetsAll, SetsWord, StoresWord}
-use Rattle.rowex_records.proofs.Claimed.{all_earlier}
 use Rattle.rowex_records.proofs.Filled.{fill_beside}
 use Rattle.rowex_rights.specs.Rises.{of_view}
 use Rattle.rowex_reading.specs.Possible.{IsPossible}

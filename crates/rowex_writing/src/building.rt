@@ -350,7 +350,8 @@ fn raise_on<G: Gate>(
 }
 
 /// The one entry that comes in the place of the node at `end` of a way, when the node at `top` gets a new leaf; and whether
-/// that node stays whole.
+/// that node stays whole. Nothing where no node record was free: the claims try `build.left_nodes` of them at most, from
+/// `build.nodes.next` on, which are all where the change has claimed none before.
 pub fn raise_grown<G: Gate>(
     table: &HotTable,
     seat: &mut TableSeat,
@@ -384,7 +385,8 @@ pub fn raise_grown<G: Gate>(
     Some((entry, stays))
 }
 
-/// The entry for what is left of a locked node without the leaf to which the key's search leads.
+/// The entry for what is left of a locked node without the leaf to which the key's search leads. Nothing where no node record was
+/// free, as in [`raise_grown`].
 pub fn raise_without<G: Gate>(
     table: &HotTable,
     seat: &mut TableSeat,
@@ -414,7 +416,7 @@ pub fn raise_without<G: Gate>(
     make_half(table, seat, gate, build, old, &half)
 }
 
-/// The entry for a new node of a leaf and the new one.
+/// The entry for a new node of a leaf and the new one. Nothing where no node record was free, as in [`raise_grown`].
 pub fn raise_pair<G: Gate>(
     table: &HotTable,
     seat: &mut TableSeat,

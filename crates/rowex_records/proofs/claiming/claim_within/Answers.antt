@@ -1,5 +1,5 @@
 -- No record yet, one more that is not free, and one that is.
-use Rattle.std.proofs.Common.{arith, ◌≡◌, ◌<◌, ◌≤◌, ◌+◌, ◌-◌, min, refl}
+use Rattle.std.proofs.Common.{arith, ◌≡◌, ◌<◌, ◌+◌, ◌-◌, min, refl}
 use Rattle.rowex_records.specs.Claims.{count_of, record_of}
 use Rattle.rowex_records.proofs.Claimed.{finds_none, finds_more, finds_all, claims_next}
 use Rattle.rowex_records.proofs.claiming.claim_within.Goals as goal

@@ -2,7 +2,7 @@
 use Rattle.std.proofs.Common.{[], ◌∷◌, Some, None, refl, sym, ap, subst, ◌≡◌, ◌≤◌, ◌+◌, ◌*◌, ◌-◌, length, arith}
 use Rattle.record_words.specs.Leaf.{words_for}
 use Rattle.record_words.specs.declared.layout.Layout.{Layout}
-use Rattle.moments.specs.declared.Rec.TheVariants.{Node as a_node, Leaf as a_leaf}
+use Rattle.moments.specs.declared.Rec.TheVariants.{Node as a_node}
 use Rattle.moments.specs.Trades.{AreApart}
 use Rattle.record_words.specs.Entry.{entry_word}
 use Rattle.rowex_core.specs.Having.{AreKept}

@@ -1,12 +1,9 @@
 -- A record is claimed; or none was free, and those that are made are looked at.
-use Rattle.std.proofs.Common.{◌∙◌, [], ◌++◌, arith, sym, subst, Contains, List}
-use Rattle.moments.specs.declared.Rec.{Rec}
+use Rattle.std.proofs.Common.{◌∙◌, sym, subst, Contains}
 use Rattle.moments.specs.declared.Rec.TheVariants.{Node as a_node}
-use Rattle.rowex_table.specs.Made.{Made}
-use Rattle.rowex_records.specs.Claims.{HasMissedSince}
 use Rattle.rowex_records.proofs.Claimed.{missed_earlier}
 use Rattle.rowex_writing.specs.Building.{IsBuilding}
-use Rattle.rowex_writing.proofs.Locking.{goes_more, seat_of}
+use Rattle.rowex_writing.proofs.Locking.{goes_more}
 use Rattle.rowex_writing.proofs.Making.{building_on}
 use Rattle.rowex_writing.proofs.Walked.{walk_on, walk_ends}
 use Rattle.rowex_writing.proofs.walking.claim_node.Goals as goal

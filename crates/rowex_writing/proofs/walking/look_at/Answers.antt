@@ -1,5 +1,5 @@
 -- None yet, one more, and all of them.
-use Rattle.std.proofs.Common.{arith, rules}
+use Rattle.std.proofs.Common.{arith}
 use Rattle.rowex_writing.proofs.Walked.{looked_none, looked_more, looked_all, look_record}
 use Rattle.rowex_writing.proofs.Locking.{seat_of}
 use Rattle.rowex_writing.proofs.walking.look_at.Goals as goal
