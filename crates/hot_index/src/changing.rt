@@ -35,7 +35,8 @@ pub fn try_change<G: Gate>(
     value: u64,
 ) -> Result<Reply, TryFault>
     requires idle { IsIdle table.now seat.old }
-    ensures asked { HasAsked table.now G.becomes (AreAttempts table.now.layout result) (try_steps table.now.layout) (call_of ask key.now value) result (seat.old, gate.old) (seat.new, gate.new) }
+    ensures asked { HasAsked table.now G.becomes (AreAttempts table.now.layout result) (try_steps table.now.layout)
+        (call_of ask key.now value) result (seat.old, gate.old) (seat.new, gate.new) }
     ensures leafless { ask ≡ Ask.Remove → result ≢ Err TryFault.FullLeaves }
 {
     tidy(table, seat, gate, room);
@@ -67,7 +68,8 @@ fn try_twice<G: Gate>(
     value: u64,
 ) -> Result<Reply, TryFault>
     requires idle { IsIdle table.now seat.old }
-    ensures asked { HasAsked table.now G.becomes (AreTries table.now.layout result) (twice_steps table.now.layout) (call_of ask key.now value) result (seat.old, gate.old) (seat.new, gate.new) }
+    ensures asked { HasAsked table.now G.becomes (AreTries table.now.layout result) (twice_steps table.now.layout)
+        (call_of ask key.now value) result (seat.old, gate.old) (seat.new, gate.new) }
     ensures leafless { ask ≡ Ask.Remove → result ≢ Err TryFault.FullLeaves }
 {
     let first = try_once(table, seat, gate, room, ask, key, value);
