@@ -62,8 +62,6 @@ module _ {G : Type 0} (table : TableView) (becomes : G → Event → G → Type 
   pub has_read : {n : ℕ} {said : Known → List Note} {a b c d : SeatView × G} → Pins table becomes a b → Looks table becomes n b c → StepsWith table becomes ClearPin said c d →
       HasRead table becomes (pass_of a.0, a.1) (pass_of d.0, d.1)
   has_read {said = said} {a = a} {b = b} {c = c} {d = d} pins looks end = record {
-    before = a.0;
-    after = d.0;
     epoch = pins.0;
     root = looks.root.0;
     loads = looks.rest.acts;
@@ -92,8 +90,6 @@ module _ {G : Type 0} (table : TableView) (becomes : G → Event → G → Type 
 
   pub read_untold : (a b : PassView × G) → HasRead table becomes a b → HasRead table untold (a.0, tt) (b.0, tt)
   read_untold a b x = record {
-    before = x.before;
-    after = x.after;
     epoch = x.epoch;
     root = x.root;
     loads = x.loads;
@@ -103,11 +99,11 @@ module _ {G : Type 0} (table : TableView) (becomes : G → Event → G → Type 
     below = x.below;
     steps = all;
     told = subst (λ (z : PassView). IsTold untold (events_of z.number (reading x.epoch x.root x.loads ++ ClearPin ∷ [])) tt tt) (sym x.begins)
-        (ends_told table untold (reading x.epoch x.root x.loads) ClearPin x.said (x.before, tt) (x.after, tt) all);
+        (ends_told table untold (reading x.epoch x.root x.loads) ClearPin x.said (a.0.seat, tt) (b.0.seat, tt) all);
   }
     where
-      all : Ends table untold (reading x.epoch x.root x.loads) ClearPin x.said (x.before, tt) (x.after, tt)
-      all = ((x.steps.0.0, tt), runs_untold (reading x.epoch x.root x.loads) (x.before, a.1) x.steps.0 x.steps.1, step_untold ClearPin x.said x.steps.0 (x.after, b.1) x.steps.2)
+      all : Ends table untold (reading x.epoch x.root x.loads) ClearPin x.said (a.0.seat, tt) (b.0.seat, tt)
+      all = ((x.steps.0.0, tt), runs_untold (reading x.epoch x.root x.loads) (a.0.seat, a.1) x.steps.0 x.steps.1, step_untold ClearPin x.said x.steps.0 (b.0.seat, b.1) x.steps.2)
 
   pub got_untold : (a b : PassView × G) → HasGot table becomes a b → HasGot table untold (a.0, tt) (b.0, tt)
   got_untold a b x = record { read = read_untold a b x.read; visited = x.visited; depth = x.depth; few = x.few }
@@ -116,8 +112,6 @@ module _ {G : Type 0} (table : TableView) (becomes : G → Event → G → Type 
   pub has_made : {said : Known → List Note} {r : Result Reply TryFault} (a b : SeatView × G) → HasEnded table becomes (AreAttempts table.layout r) said a b → b.0.known.steps ≤ a.0.known.steps + try_steps table.layout →
       HasMade table becomes r (pass_of a.0, a.1) (pass_of b.0, b.1)
   has_made {said = said} a b (acts, tries, ends) few = record {
-    before = a.0;
-    after = b.0;
     acts = acts;
     said = said;
     begins = refl;
@@ -130,20 +124,18 @@ module _ {G : Type 0} (table : TableView) (becomes : G → Event → G → Type 
 
   pub made_untold : (r : Result Reply TryFault) (a b : PassView × G) → HasMade table becomes r a b → HasMade table untold r (a.0, tt) (b.0, tt)
   made_untold r a b x = record {
-    before = x.before;
-    after = x.after;
     acts = x.acts;
     said = x.said;
     begins = x.begins;
     ends = x.ends;
     tries = x.tries;
     steps = all;
-    told = subst (λ (z : PassView). IsTold untold (events_of z.number (x.acts ++ ClearPin ∷ [])) tt tt) (sym x.begins) (ends_told table untold x.acts ClearPin x.said (x.before, tt) (x.after, tt) all);
+    told = subst (λ (z : PassView). IsTold untold (events_of z.number (x.acts ++ ClearPin ∷ [])) tt tt) (sym x.begins) (ends_told table untold x.acts ClearPin x.said (a.0.seat, tt) (b.0.seat, tt) all);
     few = x.few;
   }
     where
-      all : Ends table untold x.acts ClearPin x.said (x.before, tt) (x.after, tt)
-      all = ((x.steps.0.0, tt), runs_untold x.acts (x.before, a.1) x.steps.0 x.steps.1, step_untold ClearPin x.said x.steps.0 (x.after, b.1) x.steps.2)
+      all : Ends table untold x.acts ClearPin x.said (a.0.seat, tt) (b.0.seat, tt)
+      all = ((x.steps.0.0, tt), runs_untold x.acts (a.0.seat, a.1) x.steps.0 x.steps.1, step_untold ClearPin x.said x.steps.0 (b.0.seat, b.1) x.steps.2)
 
   -- Calls that wait
 
@@ -158,8 +150,6 @@ module _ {G : Type 0} (table : TableView) (becomes : G → Event → G → Type 
 
   pub has_told : {said : Known → List Note} (a b : SeatView × G) → HasStepped table becomes said a b → HasTold table becomes (pass_of a.0, a.1) (pass_of b.0, b.1)
   has_told {said = said} a b (acts, last, steps) = record {
-    before = a.0;
-    after = b.0;
     acts = acts;
     last = last;
     said = said;
@@ -172,8 +162,6 @@ module _ {G : Type 0} (table : TableView) (becomes : G → Event → G → Type 
   -- a call that only read
   pub read_told : (a b : PassView × G) → HasRead table becomes a b → HasTold table becomes a b
   read_told a b x = record {
-    before = x.before;
-    after = x.after;
     acts = reading x.epoch x.root x.loads;
     last = ClearPin;
     said = x.said;
@@ -225,8 +213,6 @@ module _ {G : Type 0} (table : TableView) (becomes : G → Event → G → Type 
   collected_untold a b nodes leaves x =
       let r = x.round in
       record {
-        before = x.before;
-        after = x.after;
         begins = x.begins;
         ends = x.ends;
         round = record {
@@ -236,7 +222,7 @@ module _ {G : Type 0} (table : TableView) (becomes : G → Event → G → Type 
           pins = r.pins;
           nodes = r.nodes;
           leaves = r.leaves;
-          does = record { seat = r.does.seat; steps = runs_untold (LoadEpoch r.epoch ∷ advance_steps r.epoch r.found ++ LoadEpoch r.next ∷ r.pins ++ r.nodes ++ r.leaves) (x.before, a.1) (x.after, b.1) r.does.steps; rest = r.does.rest };
+          does = record { seat = r.does.seat; steps = runs_untold (LoadEpoch r.epoch ∷ advance_steps r.epoch r.found ++ LoadEpoch r.next ∷ r.pins ++ r.nodes ++ r.leaves) (a.0.seat, a.1) (b.0.seat, b.1) r.does.steps; rest = r.does.rest };
           loads_pins = r.loads_pins;
           visits_nodes = r.visits_nodes;
           visits_leaves = r.visits_leaves;

@@ -11,9 +11,11 @@ use Rattle.rowex_core.specs.declared.known.Fresh.{Fresh}
 use Rattle.rowex_core.specs.declared.known.Known.{Known}
 use Rattle.rowex_table.specs.Seats.{TableView, SeatView}
 
--- A pass: the table of its index, its number, the changes that it has seen, those at its last load of the root, its answered
--- calls, the number of its next atomic step, and what its failed claims and locks and its loads of states found.
+-- A pass: its seat in the table, with all that it knows; and told of it by names of their own the table of its index, its number, the
+-- changes that it has seen, those at its last load of the root, its answered calls, the number of its next atomic step, and what its
+-- failed claims and locks and its loads of states found.
 pub record PassView : Type 0 where
+  pub seat : SeatView
   pub table : TableId
   pub number : ℕ
   pub front : List Change
@@ -25,6 +27,7 @@ pub record PassView : Type 0 where
 -- the pass of a seat
 abbrev pub pass_of : SeatView → PassView
 pass_of s = record {
+  seat = s;
   table = s.table;
   number = s.known.pass;
   front = s.known.front;

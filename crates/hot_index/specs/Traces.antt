@@ -31,19 +31,18 @@ untold g event h = Unit {0}
 abbrev pub reading : ℕ → ℕ → List Act → List Act
 reading epoch root loads = LoadEpoch epoch ∷ SetPin epoch ∷ LoadRef Root root ∷ loads
 
--- The call pins the pass, loads the root and then words below it, and clears the pin: these steps, one after the other, and no
--- other. With the last one come the call's notes. The gate is told each of them, in order, and nothing else.
+-- The call pins the pass, loads the root and then words below it, and clears the pin: these steps lead from the very seat that the
+-- pass has before to the one that it has after, one after the other, and no other does. With the last one come the call's notes. The
+-- gate is told each of them, in order, and nothing else.
 pub record HasRead {G : Type 0} (index : TableView) (becomes : G → Event → G → Type 0) (a b : PassView × G) : Type 0 where
-  pub before : SeatView
-  pub after : SeatView
   pub epoch : ℕ
   pub root : ℕ
   pub loads : List Act
   pub said : Known → List Note
-  pub begins : a.0 ≡ pass_of before
-  pub ends : b.0 ≡ pass_of after
+  pub begins : a.0 ≡ pass_of a.0.seat
+  pub ends : b.0 ≡ pass_of b.0.seat
   pub below : All IsBelowRoot loads
-  pub steps : Ends index becomes (reading epoch root loads) ClearPin said (before, a.1) (after, b.1)
+  pub steps : Ends index becomes (reading epoch root loads) ClearPin said (a.0.seat, a.1) (b.0.seat, b.1)
   pub told : IsTold becomes (events_of a.0.number (reading epoch root loads ++ ClearPin ∷ [])) a.1 b.1
 
 -- A get visits so many nodes on the way of its key: it makes at most 26 steps at each, and 36 beside.
@@ -128,17 +127,16 @@ abbrev pub HasEnded : {G : Type 0} → TableView → (G → Event → G → Type
 HasEnded table becomes Are said a b = (acts : List Act) × Are acts × Ends table becomes acts ClearPin said a b
 
 -- The call makes one attempt, or two with a round of collection between them, and a small round or nothing before; it makes no other
--- step. An attempt tries each lock once, and the answer of a first one that is full doesn't stand. The last step clears the pin, and with
--- it come the call's notes. The gate is told each of the steps, in order, and nothing else. So many they are at most.
+-- step, from the seat that the pass has before to the one that it has after. An attempt tries each lock once, and the answer of a
+-- first one that is full doesn't stand. The last step clears the pin, and with it come the call's notes. The gate is told each of the
+-- steps, in order, and nothing else. So many they are at most.
 pub record HasMade {G : Type 0} (index : TableView) (becomes : G → Event → G → Type 0) (result : Result Reply TryFault) (a b : PassView × G) : Type 0 where
-  pub before : SeatView
-  pub after : SeatView
   pub acts : List Act
   pub said : Known → List Note
-  pub begins : a.0 ≡ pass_of before
-  pub ends : b.0 ≡ pass_of after
+  pub begins : a.0 ≡ pass_of a.0.seat
+  pub ends : b.0 ≡ pass_of b.0.seat
   pub tries : AreAttempts index.layout result acts
-  pub steps : Ends index becomes acts ClearPin said (before, a.1) (after, b.1)
+  pub steps : Ends index becomes acts ClearPin said (a.0.seat, a.1) (b.0.seat, b.1)
   pub told : IsTold becomes (events_of a.0.number (acts ++ ClearPin ∷ [])) a.1 b.1
   pub few : b.0.steps ≤ a.0.steps + try_steps index.layout
 
@@ -146,26 +144,23 @@ pub record HasMade {G : Type 0} (index : TableView) (becomes : G → Event → G
 abbrev pub HasStepped : {G : Type 0} → TableView → (G → Event → G → Type 0) → (Known → List Note) → SeatView × G → SeatView × G → Type 0
 HasStepped table becomes said a b = (acts : List Act) × (last : Act) × Ends table becomes acts last said a b
 
--- The pass makes these steps, one after the other, and no other; with the last one come the call's notes. The gate is told each of
--- them, in order, and nothing else.
+-- The pass makes these steps, one after the other, and no other, from the seat that it has before to the one that it has after; with
+-- the last one come the call's notes. The gate is told each of them, in order, and nothing else.
 pub record HasTold {G : Type 0} (index : TableView) (becomes : G → Event → G → Type 0) (a b : PassView × G) : Type 0 where
-  pub before : SeatView
-  pub after : SeatView
   pub acts : List Act
   pub last : Act
   pub said : Known → List Note
-  pub begins : a.0 ≡ pass_of before
-  pub ends : b.0 ≡ pass_of after
-  pub steps : Ends index becomes acts last said (before, a.1) (after, b.1)
+  pub begins : a.0 ≡ pass_of a.0.seat
+  pub ends : b.0 ≡ pass_of b.0.seat
+  pub steps : Ends index becomes acts last said (a.0.seat, a.1) (b.0.seat, b.1)
   pub told : IsTold becomes (events_of a.0.number (acts ++ last ∷ [])) a.1 b.1
 
--- The pass makes one round of collection, whose own exchanges give back so many nodes and so many leaves; it sees no change by it.
+-- The pass makes one round of collection, from the seat that it has before to the one that it has after, whose own exchanges give back
+-- so many nodes and so many leaves; it sees no change by it.
 -- The gate is told each of its steps, and so many they are at most.
 pub record HasCollected {G : Type 0} (index : TableView) (becomes : G → Event → G → Type 0) (a b : PassView × G) (nodes leaves : ℕ) : Type 0 where
-  pub before : SeatView
-  pub after : SeatView
-  pub begins : a.0 ≡ pass_of before
-  pub ends : b.0 ≡ pass_of after
-  pub round : IsRound index becomes (before, a.1) (after, b.1) nodes leaves
+  pub begins : a.0 ≡ pass_of a.0.seat
+  pub ends : b.0 ≡ pass_of b.0.seat
+  pub round : IsRound index becomes (a.0.seat, a.1) (b.0.seat, b.1) nodes leaves
   pub front : b.0.front ≡ a.0.front
   pub few : b.0.steps ≤ a.0.steps + round_steps index.layout

@@ -23,8 +23,6 @@ returns-clause-made g c =
     subst (λ (x : TableView). HasCollected x g.G.Gate.becomes (c.args.pass.now, c.args.gate.now) (pass_of c.collect_round-round.new.seat, c.collect_round-round.new.gate) c.collect_round-round.result.given.nodes c.collect_round-round.result.given.leaves) c.self.view_is
     (subst (λ (z : PassView). HasCollected c.self.inside.table g.G.Gate.becomes (z, c.args.gate.now) (pass_of c.collect_round-round.new.seat, c.collect_round-round.new.gate) c.collect_round-round.result.given.nodes c.collect_round-round.result.given.leaves) c.pass.view_is
     (record {
-      before = c.pass.inside.seat;
-      after = c.collect_round-round.new.seat;
       begins = refl;
       ends = refl;
       round = round;
