@@ -478,7 +478,8 @@ impl Index {
     }
 
     /// Two passes meet, and are given back: what either has seen, both have seen then, and all that was published before. It
-    /// makes no atomic step.
+    /// loads one word three times, and uses nothing of what it finds there; these loads are steps of neither pass, and no gate is
+    /// told of them.
     pub fn meet(&self, first: Pass, second: Pass) -> (Pass, Pass)
         requires { Owns self.now first × Owns self.now second }
         ensures own { Owns self.now result.0 × Owns self.now result.1 }
