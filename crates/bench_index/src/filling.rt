@@ -56,7 +56,8 @@ fn fill_once<R: Clock + Wait>(rt: &R, alloc: Global, load: &Load) -> io::Result<
     for pairs in load.stored.chunks(tenth as usize) {
         let start = Instant::now(rt)?;
         let _ = make_all(rt, &mut guest, Work::Inserts, pairs)?;
-        last = start.elapsed(rt)?.as_secs_f64() / pairs.len() as f64 * 1e9;
+        let made = u32::try_from(pairs.len()).unwrap_or(u32::MAX);
+        last = start.elapsed(rt)?.as_secs_f64() / f64::from(made) * 1e9;
         first = first.or(Some(last));
     }
     Ok(Fill {
