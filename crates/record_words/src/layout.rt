@@ -1,6 +1,6 @@
 //! Where each record of a table stands among its words.
 
-ghost use Rattle.std.specs.Prelude.{◌≤◌};
+ghost use Rattle.std.specs.Prelude.{ℕ, ◌≡◌, ◌<◌, ◌≤◌, ◌+◌, ◌*◌, ◌/◌, ◌^◌};
 ghost use Rattle.record_words.specs.Limits.{IsStockPassCount, IsRecordCount};
 
 use crate::{
@@ -123,7 +123,7 @@ pub enum Location {
 impl Layout {
     ghost use Rattle.std.specs.Prelude.{ℕ, ◌≡◌, ◌≢◌, ◌↔◌, ◌<◌, ◌≤◌, ◌+◌, ◌*◌, IfOk, Err};
     ghost use Rattle.record_words.specs.Limits.{IsPassCount, IsStockPassCount, IsNodeCount, IsLeafCount, IsRecordCount};
-    ghost use Rattle.record_words.specs.Layout.{node_start, class_size, leaf_size, leaf_start, word_count, address, HasStock, leaves_of, IsLocationOf};
+    ghost use Rattle.record_words.specs.Layout.{node_start, class_size, leaf_size, leaf_start, word_count, address, HasStock, leaves_of, IsInTable, IsLocationOf};
 
     /// The layout with these numbers of records, of which all leaf records are long.
     pub fn of(passes: u32, nodes: u32, leaves: u32) -> Result<Layout, LayoutFault>
@@ -203,16 +203,16 @@ impl Layout {
     pub fn class_of(&self, number: u32) -> LeafClass
         ensures { class_size result ≡ leaf_size self.now number }
     {
-        if number < self.medium_from {
+        if number >= self.long_from {
+            LeafClass::Long
+        } else if number < self.medium_from {
             LeafClass::Short
         } else if number < self.large_from {
             LeafClass::Medium
         } else if number < self.wide_from {
             LeafClass::Large
-        } else if number < self.long_from {
-            LeafClass::Wide
         } else {
-            LeafClass::Long
+            LeafClass::Wide
         }
     }
 
@@ -274,6 +274,16 @@ impl Layout {
             + (LEAF_WORDS - WIDE_WORDS) * number.saturating_sub(self.long_from) as usize
     }
 
+    /// The first word of the leaf record behind this one, which begins at `start`: where this one ends.
+    ///
+    /// On a walk over many records it takes the place of [`Layout::leaf`], which costs more.
+    pub fn leaf_behind(&self, number: u32, start: usize) -> usize
+        requires { start ≡ leaf_start self.now number }
+        ensures { result ≡ leaf_start self.now (number + 1) }
+    {
+        start + self.leaf_size(number)
+    }
+
     /// How many words the table has.
     pub fn words(&self) -> usize
         ensures { result ≡ word_count self.now }
@@ -323,42 +333,43 @@ impl Layout {
                     offset: (within % NODE_WORDS) as u8,
                 })
             }
-            _ if word < self.leaf(self.medium_from) => {
-                let within = word - self.leaf(0);
-                Some(Location::LeafWord {
-                    leaf: (within / SHORT_WORDS) as u32,
-                    offset: (within % SHORT_WORDS) as u8,
-                })
-            }
-            _ if word < self.leaf(self.large_from) => {
-                let within = word - self.leaf(self.medium_from);
-                Some(Location::LeafWord {
-                    leaf: self.medium_from + (within / MEDIUM_WORDS) as u32,
-                    offset: (within % MEDIUM_WORDS) as u8,
-                })
-            }
-            _ if word < self.leaf(self.wide_from) => {
-                let within = word - self.leaf(self.large_from);
-                Some(Location::LeafWord {
-                    leaf: self.large_from + (within / LARGE_WORDS) as u32,
-                    offset: (within % LARGE_WORDS) as u8,
-                })
-            }
-            _ if word < self.leaf(self.long_from) => {
-                let within = word - self.leaf(self.wide_from);
-                Some(Location::LeafWord {
-                    leaf: self.wide_from + (within / WIDE_WORDS) as u32,
-                    offset: (within % WIDE_WORDS) as u8,
-                })
-            }
-            _ if word < self.leaf(self.leaves) => {
-                let within = word - self.leaf(self.long_from);
-                Some(Location::LeafWord {
-                    leaf: self.long_from + (within / LEAF_WORDS) as u32,
-                    offset: (within % LEAF_WORDS) as u8,
-                })
-            }
+            _ if word < self.words() => Some(self.leaf_location(word)),
             _ => None,
         }
+    }
+
+    /// The location of a word of a leaf record.
+    fn leaf_location(&self, word: usize) -> Location
+        requires { (leaf_start self.now 0 ≤ word) × (word < word_count self.now) }
+        ensures here { address self.now result ≡ word }
+        ensures in_table { IsInTable self.now result }
+    {
+        if word < self.leaf(self.medium_from) {
+            leaf_word(0, SHORT_WORDS, word - self.leaf(0))
+        } else if word < self.leaf(self.large_from) {
+            let within = word - self.leaf(self.medium_from);
+            leaf_word(self.medium_from, MEDIUM_WORDS, within)
+        } else if word < self.leaf(self.wide_from) {
+            let within = word - self.leaf(self.large_from);
+            leaf_word(self.large_from, LARGE_WORDS, within)
+        } else if word < self.leaf(self.long_from) {
+            let within = word - self.leaf(self.wide_from);
+            leaf_word(self.wide_from, WIDE_WORDS, within)
+        } else {
+            let within = word - self.leaf(self.long_from);
+            leaf_word(self.long_from, LEAF_WORDS, within)
+        }
+    }
+}
+
+/// The word so many words behind the first one of a leaf record, where it and those behind it have this size.
+fn leaf_word(first: u32, size: usize, within: usize) -> Location
+    requires size { (1 ≤ size) × (size ≤ LEAF_WORDS) }
+    requires few { first + within / size < 2 ^ 32 }
+    ensures { (behind : ℕ) × (offset : ℕ) × (result ≡ Location.LeafWord (first + behind) offset) × (size * behind + offset ≡ within) × (offset < size) }
+{
+    Location::LeafWord {
+        leaf: first + (within / size) as u32,
+        offset: (within % size) as u8,
     }
 }

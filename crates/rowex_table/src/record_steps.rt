@@ -159,12 +159,24 @@ impl HotTable {
         requires range { HasRecord self.now.layout rec }
         ensures { Steps self.now G.becomes (LoadState rec result) (seat.old, gate.old) (seat.new, gate.new) }
     {
-        self.load_as::<Brand, G>(
-            seat,
-            gate,
-            Act::LoadState { rec, word: 0 },
-            record_place(rec, 0),
-        )
+        self.load_state_from(seat, gate, rec, self.start_of(rec))
+    }
+
+    /// Loads as `load_state` does, of a record that begins at this word: a walk over records knows where each begins.
+    #[inline(always)]
+    pub fn load_state_from<G: Gate>(
+        &self,
+        seat: &mut TableSeat,
+        gate: &mut G,
+        rec: Rec,
+        start: usize,
+    ) -> u64
+        requires own { IsSeatOf self.now seat.old }
+        requires start { IsStartOf self.now.layout rec start }
+        ensures { Steps self.now G.becomes (LoadState rec result) (seat.old, gate.old) (seat.new, gate.new) }
+    {
+        let act = Act::LoadState { rec, word: 0 };
+        self.load_at::<Brand, G>(seat, gate, act, start)
     }
 
     /// Makes a record free, if it finds it obsolete in this epoch; answers the state word that it found.

@@ -1,7 +1,0 @@
--- The event of this step.
-use Rattle.std.specs.Prelude.{Some}
-use Rattle.rowex_table.specs.Runs.{silent}
-use Rattle.rowex_table.proofs.table.HotTable.load_state.Given as goal
-
-abbrev pub ghosts-load_as : goal.ghosts-load_as
-ghosts-load_as g a = record { layout = Some a.self.now.layout; act = a.act; said = silent }
