@@ -5,6 +5,7 @@ ghost use Rattle.record_words.specs.declared.state.Tag.TheVariants.{Obsolete};
 ghost use Rattle.record_words.specs.State.{state_word};
 ghost use Rattle.moments.specs.declared.Rec.TheVariants.{Node as a_node, Leaf as a_leaf};
 ghost use Rattle.rowex_core.specs.Cores.{HasRecord};
+ghost use Rattle.rowex_table.specs.Rule.{IsStartOf};
 ghost use Rattle.rowex_table.specs.Seats.{IsSeatOf};
 ghost use Rattle.epochs.specs.Rounds.{AdvancesEpoch, BeginsRound, FindsBound, HasBound, IsRound, IsSmallRound, VisitsAll, VisitsOne, VisitsSome, is_given};
 
@@ -147,8 +148,10 @@ fn visit_nodes<G: Gate>(table: &HotTable, seat: &mut TableSeat, gate: &mut G, bo
         given: 0,
         held_back: false,
     };
-    for number in 0..table.layout().nodes {
-        let seen = visit(table, seat, gate, Rec::Node(number), bound);
+    let layout = table.layout();
+    for number in 0..layout.nodes {
+        let start = layout.node(number);
+        let seen = visit(table, seat, gate, Rec::Node(number), start, bound);
         tally = counted(tally, seen);
     }
     tally
@@ -165,9 +168,12 @@ fn visit_leaves<G: Gate>(table: &HotTable, seat: &mut TableSeat, gate: &mut G, b
         given: 0,
         held_back: false,
     };
-    for number in 0..table.layout().leaves {
-        let seen = visit(table, seat, gate, Rec::Leaf(number), bound);
+    let layout = table.layout();
+    let mut start = layout.leaf(0);
+    for number in 0..layout.leaves {
+        let seen = visit(table, seat, gate, Rec::Leaf(number), start, bound);
         tally = counted(tally, seen);
+        start = layout.leaf_behind(number, start);
     }
     tally
 }
@@ -231,7 +237,7 @@ fn visit_oldest<G: Gate>(
         limbo.settle(rec, Visited::Other);
         return true;
     }
-    let seen = visit(table, seat, gate, rec, bound);
+    let seen = visit(table, seat, gate, rec, table.start_of(rec), bound);
     limbo.settle(rec, seen)
 }
 
@@ -245,22 +251,23 @@ fn has_record(layout: Layout, rec: Rec) -> bool
     }
 }
 
-/// Loads the state of a record and, where it is obsolete in an epoch below the bound, tries to make it free; answers what that
-/// came to.
+/// Loads the state of a record, which begins at `start`, and, where it is obsolete in an epoch below the bound, tries to make it
+/// free; answers what that came to.
 fn visit<G: Gate>(
     table: &HotTable,
     seat: &mut TableSeat,
     gate: &mut G,
     rec: Rec,
+    start: usize,
     bound: u64,
 ) -> Visited
     requires own { IsSeatOf table.now seat.old }
-    requires range { HasRecord table.now.layout rec }
+    requires start { IsStartOf table.now.layout rec start }
     requires bound { HasBound table.now.layout.passes bound seat.old.known }
     ensures same { (seat.new.known.pin ≡ seat.old.known.pin) × (seat.new.known.round ≡ seat.old.known.round) }
     ensures steps { VisitsOne table.now G.becomes bound rec (is_given result) (seat.old, gate.old) (seat.new, gate.new) }
 {
-    let word = table.load_state(seat, gate, rec);
+    let word = table.load_state_from(seat, gate, rec, start);
     let Some(epoch) = epoch_below(word, bound) else {
         return unripe(word);
     };

@@ -1,5 +1,6 @@
 -- The records below the number have been visited.
 use Rattle.std.specs.Prelude.{◌≡◌, ◌≤◌}
+use Rattle.record_words.specs.Layout.{leaf_start}
 use Rattle.moments.specs.declared.Rec.TheVariants.{Leaf as a_leaf}
 use Rattle.epochs.specs.Rounds.{VisitsAll}
 use Rattle.epochs.proofs.collection.visit_leaves.Given as goal
@@ -7,6 +8,7 @@ use Rattle.epochs.proofs.collection.visit_leaves.Given as goal
 abbrev pub invariant-loop-number : goal.invariant-loop-number
 invariant-loop-number g l = record {
   same : (l.seat.known.pin ≡ l.fn.seat.known.pin) × (l.seat.known.round ≡ l.fn.seat.known.round);
+  start : l.start ≡ leaf_start l.table.layout l.number;
   few : l.tally.given ≤ l.number;
   steps : VisitsAll l.table g.G.Gate.becomes l.bound a_leaf l.number l.tally.given (l.fn.seat, l.fn.gate) (l.seat, l.gate);
 }
