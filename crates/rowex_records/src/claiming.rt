@@ -3,6 +3,7 @@
 ghost use Rattle.std.specs.Prelude.{◌≡◌, ◌<◌, ◌+◌, ◌-◌, min, true, false, IfNone, IfSome, MatchOption, All};
 ghost use Rattle.rowex_core.specs.Cores.{HasRecord};
 ghost use Rattle.rowex_table.specs.Rights.{IsClaimed};
+ghost use Rattle.rowex_table.specs.Rule.{IsStartOf};
 ghost use Rattle.rowex_table.specs.Seats.{IsSeatOf};
 ghost use Rattle.rowex_records.specs.Claims.{AllMissed, Claims, ClaimsOne, FindsNone, MissesNumber, MissesOne, HasIndex, IsKindOf, begin_of, count_of, record_of, wrapped};
 ghost use Rattle.rowex_records.specs.Records.{GivesUp, GivesUpAll, HoldsJust};
@@ -88,12 +89,14 @@ pub fn claim_within<G: Gate>(
         (left.new + claims.tried + 1 ≡ left.old)) }
     ensures held { IfSome result (λ number. (number < count_of kind table.now.layout) × IsClaimed seat.new.known (record_of kind number)) }
 {
-    let all = kind.count(table.layout());
+    let layout = table.layout();
+    let all = kind.count(layout);
     let begin = first(from, all);
     let most = all.min(*left);
     for tried in 0..most {
         let number = turn(begin, tried, all);
-        if try_record(table, seat, gate, kind.record_at(number)) {
+        let rec = kind.record_at(number);
+        if try_record(table, seat, gate, rec, start_in(&layout, rec)) {
             *left -= tried + 1;
             return Some(number);
         }
@@ -121,17 +124,35 @@ pub fn claim_numbered<G: Gate>(
     if number >= kind.count(table.layout()) {
         return false;
     }
-    try_record(table, seat, gate, kind.record_at(number))
+    let rec = kind.record_at(number);
+    try_record(table, seat, gate, rec, table.start_of(rec))
 }
 
-/// Loads the state of a record and claims it, if that is free; answers whether the pass has it now.
-fn try_record<G: Gate>(table: &HotTable, seat: &mut TableSeat, gate: &mut G, rec: Rec) -> bool
+/// The word at which a record begins, by a copy of the table's layout that a walk over many records keeps at hand.
+fn start_in(layout: &Layout, rec: Rec) -> usize
+    requires { HasRecord layout.now rec }
+    ensures { IsStartOf layout.now rec result }
+{
+    match rec {
+        Rec::Node(number) => layout.node(number),
+        Rec::Leaf(number) => layout.leaf(number),
+    }
+}
+
+/// Loads the state of a record, which begins at `start`, and claims it, if that is free; answers whether the pass has it now.
+fn try_record<G: Gate>(
+    table: &HotTable,
+    seat: &mut TableSeat,
+    gate: &mut G,
+    rec: Rec,
+    start: usize,
+) -> bool
     requires own { IsSeatOf table.now seat.old }
-    requires range { HasRecord table.now.layout rec }
+    requires start { IsStartOf table.now.layout rec start }
     ensures missed { result ≡ false → MissesOne table.now G.becomes rec (seat.old, gate.old) (seat.new, gate.new) }
     ensures claimed { result ≡ true → ClaimsOne table.now G.becomes rec (seat.old, gate.old) (seat.new, gate.new) }
 {
-    if table.load_state(seat, gate, rec) != 0 {
+    if table.load_state_from(seat, gate, rec, start) != 0 {
         return false;
     }
     table.claim(seat, gate, rec) == 0
