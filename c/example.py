@@ -19,6 +19,12 @@ class Handle(ctypes.Structure):
     _fields_ = [("tag", c_uint32), ("slot", c_void_p)]
 
 
+class Stock(ctypes.Structure):
+    """struct hot_stock: how many node records an index has, and how many leaf records of each size."""
+
+    _fields_ = [(name, c_uint32) for name in ("nodes", "short", "medium", "large", "wide", "long")]
+
+
 class Pair(ctypes.Structure):
     """struct hot_pair."""
 
@@ -30,7 +36,8 @@ def load(path: str) -> ctypes.CDLL:
     hot = ctypes.CDLL(path)
     handle, key, number = POINTER(Handle), [c_char_p, c_size_t], POINTER(c_uint64)
     types = {
-        "create": [c_uint32, c_uint32, handle, c_size_t],
+        "create_with": [POINTER(Stock), handle, c_size_t],
+        "stock_bytes": [POINTER(Stock), c_size_t, POINTER(c_size_t)],
         "destroy": [handle],
         "get": [handle, *key, number],
         "upsert": [handle, *key, c_uint64, number],
@@ -41,16 +48,28 @@ def load(path: str) -> ctypes.CDLL:
     for name, words in types.items():
         call = getattr(hot, f"hot_{name}")
         call.argtypes, call.restype = words, c_uint32
+    hot.hot_stock_for_keys.argtypes, hot.hot_stock_for_keys.restype = [c_uint32, c_size_t, POINTER(Stock)], None
     hot.hot_status_text.argtypes, hot.hot_status_text.restype = [c_uint32], c_char_p
     return hot
 
 
-class Index:
-    """An index with handles for so many threads. Each call is made with the handle of the number that it is given."""
+def stock_for_keys(hot: ctypes.CDLL, keys: int, longest: int) -> Stock:
+    """A stock for so many keys of at most so many bytes each."""
+    stock = Stock()
+    hot.hot_stock_for_keys(keys, longest, stock)
+    return stock
 
-    def __init__(self, hot: ctypes.CDLL, nodes: int, leaves: int, threads: int = 1):
+
+class Index:
+    """An index with this stock of records and handles for so many threads; `size` is how many bytes it takes. Each call is made with
+    the handle of the number that it is given."""
+
+    def __init__(self, hot: ctypes.CDLL, stock: Stock, threads: int = 1):
         self.hot, self.handles = hot, (Handle * threads)()
-        self.check(hot.hot_create(nodes, leaves, self.handles, threads))
+        size = c_size_t()
+        self.check(hot.hot_stock_bytes(stock, threads, size))
+        self.check(hot.hot_create_with(stock, self.handles, threads))
+        self.size = size.value
 
     def check(self, status: int) -> int:
         """The status, unless it is a refusal."""
@@ -113,7 +132,8 @@ def answer(index: Index, line: str) -> list:
 
 
 def main() -> None:
-    index = Index(load(sys.argv[1] if len(sys.argv) > 1 else "libhot.so.1"), 4096, 16384)
+    hot = load(sys.argv[1] if len(sys.argv) > 1 else "libhot.so.1")
+    index = Index(hot, stock_for_keys(hot, 16384, MAX_KEY))
     for line in sys.stdin:
         try:
             for told in answer(index, line):

@@ -166,6 +166,7 @@ class handle {
 
   private:
     friend std::vector<handle> create(std::uint32_t nodes, std::uint32_t leaves, std::size_t count);
+    friend std::vector<handle> create(const hot_stock &stock, std::size_t count);
 
     // The handles of an index lie in one array, which each of them keeps, since a hot_handle is never moved.
     struct closer {
@@ -173,6 +174,17 @@ class handle {
         void operator()(hot_handle *it) const { hot_destroy(it); }
     };
     handle(hot_handle *it, std::shared_ptr<hot_handle[]> all) : it_(it, closer{std::move(all)}) {}
+
+    // The handles that a call opens, which is given their array.
+    template <class Open> static std::vector<handle> opened(std::size_t count, Open open) {
+        std::shared_ptr<hot_handle[]> all(new hot_handle[count]());
+        std::vector<handle> handles;
+        handles.reserve(count);
+        check(open(all.get()));
+        for (std::size_t i = 0; i < count; i++)
+            handles.push_back(handle(&all[static_cast<std::ptrdiff_t>(i)], all));
+        return handles;
+    }
 
     hot_handle *it() const {
         if (!it_)
@@ -201,13 +213,26 @@ class handle {
 /// Makes an empty index with so many node and leaf records, and `count` handles on it, 1 to 64. The last one that goes frees it.
 /// std::invalid_argument, std::bad_alloc.
 inline std::vector<handle> create(std::uint32_t nodes, std::uint32_t leaves, std::size_t count = 1) {
-    std::shared_ptr<hot_handle[]> all(new hot_handle[count]());
-    std::vector<handle> handles;
-    handles.reserve(count);
-    check(hot_create(nodes, leaves, all.get(), count));
-    for (std::size_t i = 0; i < count; i++)
-        handles.push_back(handle(&all[static_cast<std::ptrdiff_t>(i)], all));
-    return handles;
+    return handle::opened(count, [=](hot_handle *all) { return hot_create(nodes, leaves, all, count); });
+}
+
+/// The same with a stock, and 1 to 1024 handles.
+inline std::vector<handle> create(const hot_stock &stock, std::size_t count = 1) {
+    return handle::opened(count, [&](hot_handle *all) { return hot_create_with(&stock, all, count); });
+}
+
+/// A stock for so many keys at once of at most `longest` bytes each; hot.h says what it has to spare.
+inline hot_stock stock_for_keys(std::uint32_t keys, std::size_t longest) {
+    hot_stock stock{};
+    hot_stock_for_keys(keys, longest, &stock);
+    return stock;
+}
+
+/// How many bytes an index with this stock and so many handles takes: hot_stock_bytes. std::invalid_argument.
+inline std::size_t stock_bytes(const hot_stock &stock, std::size_t count = 1) {
+    std::size_t bytes = 0;
+    check(hot_stock_bytes(&stock, count, &bytes));
+    return bytes;
 }
 
 } // namespace hot

@@ -57,6 +57,22 @@ static void test_full() {
     CHECK(std::string(change.text()) == hot_status_text(HOT_FULL_LEAVES));
 }
 
+// Leaves of two sizes: a key takes the smallest with room that is free. And the stock for so many keys, and what it takes.
+static void test_stock() {
+    hot_stock stock = hot::stock_for_keys(7, 8);
+    CHECK(stock.nodes == 512 && stock.short_leaves == 519 && !stock.medium_leaves && hot::stock_bytes(stock) == 254432);
+    CHECK(hot::create(stock, 1024).size() == 1024);
+    CHECK(throws<std::invalid_argument>([&] { hot::stock_bytes(stock, 1025); }));
+    CHECK(throws<std::invalid_argument>([&] { hot::create(stock, 1025); }));
+    stock.short_leaves = stock.medium_leaves = 1;
+    auto handles = hot::create(stock);
+    CHECK(handles.size() == 1 && !handles[0].insert(std::string(24, 'a'), 1).is_refused());
+    CHECK(handles[0].insert(std::string(9, 'a'), 2).what == hot::status::full_leaves);
+    CHECK(!handles[0].insert(std::string(8, 'a'), 3).is_refused() && handles[0].get(std::string(24, 'a')) == 1);
+    stock.short_leaves = stock.medium_leaves = 0;
+    CHECK(throws<std::invalid_argument>([&] { hot::create(stock); }));
+}
+
 // Keys of a, aa, .. to the greatest length, and one of the greatest length with other bytes: on each page, one goes on after its last.
 static void test_scans() {
     auto handles = hot::create(1000, 1000);
@@ -102,6 +118,7 @@ static void test_threads() {
 int main() {
     test_calls();
     test_full();
+    test_stock();
     test_scans();
     test_threads();
     std::puts(failures ? "the C++ test failed" : "the C++ test passed");

@@ -1,0 +1,42 @@
+#!/usr/bin/env python3
+"""Tests of example.py: indexes with stocks, what they take and what they refuse; scans over several pages.
+
+usage: test.py LIBRARY
+"""
+import sys
+
+from example import MAX_KEY, PAGE, Index, Stock, load, stock_for_keys
+
+
+def refusal(call, *words) -> str | None:
+    """What a call is refused for, if it is."""
+    try:
+        call(*words)
+    except RuntimeError as refused:
+        return str(refused)
+    return None
+
+
+def main() -> None:
+    hot = load(sys.argv[1])
+    stock = stock_for_keys(hot, 7, 8)
+    assert (stock.nodes, stock.short, stock.medium, stock.long) == (512, 519, 0, 0)
+    assert refusal(Index, hot, stock, 1025) == refusal(Index, hot, Stock(1)) == hot.hot_status_text(14).decode()
+    index = Index(hot, stock)
+    assert index.size == 254432
+    for number in range(PAGE * 3):
+        assert index.upsert(number.to_bytes(8, "big"), number) is None
+    assert list(index.scan()) == [(number.to_bytes(8, "big"), number) for number in range(PAGE * 3)]
+    index.close()
+    # A key takes the smallest leaf that has room for it and is free.
+    index = Index(hot, Stock(nodes=8, short=1, long=1), 2)
+    assert index.upsert(b"a" * MAX_KEY, 1) is None and index.upsert(b"b", 2, 1) is None
+    assert refusal(index.upsert, b"c", 3) == hot.hot_status_text(10).decode()
+    assert index.remove(b"b") == 2 and refusal(index.upsert, b"c" * 9, 3) == hot.hot_status_text(10).decode()
+    assert index.upsert(b"c", 3) is None and index.get(b"c", 1) == 3 and index.get(b"b") is None
+    index.close()
+    print("the Python test passed")
+
+
+if __name__ == "__main__":
+    main()
