@@ -43,7 +43,8 @@ pub struct Layout {
     ghost classes_in_order: { (medium_from ≤ large_from) × (large_from ≤ wide_from) × (wide_from ≤ long_from) × (long_from ≤ leaves) },
 }
 
-/// The sizes of leaf records. A key stands in a record of the smallest class that has a free one and room for the key.
+/// The sizes of leaf records. A key goes to a record of the smallest class with room for it; where none of these was free lately, to a
+/// larger one.
 #[derive(Clone, Copy)]
 pub enum LeafClass {
     /// 4 words, for keys to 8 bytes.
