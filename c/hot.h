@@ -93,7 +93,8 @@ typedef struct hot_pair {
  * HOT_DONE; HOT_OPEN, HOT_OUT_OF_RANGE or HOT_NO_MEMORY, and no handle was opened then. */
 hot_status hot_create(uint32_t nodes, uint32_t leaves, hot_handle *handles, size_t count);
 
-/* How many records an index has, of each size. A key takes a leaf of the smallest size with room for it; while none is free, a larger one. */
+/* How many records an index has, of each size. A key takes a leaf of the smallest size with room for it, or a larger one while none of
+ * these is free. */
 typedef struct hot_stock {
     uint32_t nodes;         /* 464 bytes each */
     uint32_t short_leaves;  /* for keys to 8 bytes; 32 bytes each */
