@@ -59,8 +59,8 @@ impl Model for Index {
     ghost view = { λ i. i.table };
 }
 
-/// The right of one thread to use an index. A running program stores its number alone; contracts see its seat in the table, the
-/// changes that it has seen, and its answered calls.
+/// The right of one thread to use an index. A running program stores its number, and lists that its calls use again; contracts see
+/// its seat in the table, the changes that it has seen, and its answered calls.
 #[derive(Drop)]
 pub struct Pass {
     seat: TableSeat,
