@@ -1,6 +1,8 @@
 -- The lemmas of the crate.
 pub mod Tracing
 pub mod Noting
+pub mod LookedUp
+pub mod ManyNoted
 pub mod Scanned
 pub mod Collected
 pub mod Trying

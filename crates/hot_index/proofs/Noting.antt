@@ -50,7 +50,7 @@ note_of call reply k = record { place = place_of k.front (since k) call reply; c
 is_same : (v w : ℕ) → nat_eq v w ≡ true → v ≡ w
 is_same v w e = grind (arith, nat_tests)
 
-reply_is : (r s : Reply) → same_reply r s ≡ true → r ≡ s
+pub reply_is : (r s : Reply) → same_reply r s ≡ true → r ≡ s
 reply_is Inserted Inserted e = refl
 reply_is (Exists v) (Exists w) e = ap Exists (is_same v w e)
 reply_is New New e = refl
@@ -60,7 +60,7 @@ reply_is Absent Absent e = refl
 reply_is (Removed v) (Removed w) e = ap Removed (is_same v w e)
 reply_is _ _ e = absurd (false≢true e)
 
-itself : (r : Reply) → same_reply r r ≡ true
+pub itself : (r : Reply) → same_reply r r ≡ true
 itself Inserted = refl
 itself (Exists v) = eq-eqb v v refl
 itself New = refl
@@ -169,25 +169,21 @@ pub fits_then : (table : TableView) (s t : SeatView) → IsSame s t → IsPassOf
 fits_then table s t same fits = (same.0 ∙ fits.0, subst (λ q. q < table.layout.passes) (sym same.2) fits.1)
 
 -- a pass that was settled, was pinned and has looked then
-pub looked : {G : Type 0} {table : TableView} {becomes : G → Event → G → Type 0} {n : ℕ} {a b c : SeatView × G} → IsSettled a.0.known → Pins table becomes a b → Looks table becomes n b c →
-    HasLooked a.0.known c.0.known
-looked {n = n} {a = a} {b = b} {c = c} settled pins looks = record {
+pub looked_then : {G : Type 0} {table : TableView} {becomes : G → Event → G → Type 0} {n : ℕ} {a b : SeatView × G} (i : Known) → IsSettled a.0.known → Pins table becomes a b → HasLookedAt n b.0.known i → HasLooked a.0.known i
+looked_then {n = n} {a = a} {b = b} i settled pins at = record {
   on = record {
     pass = at.later.pass ∙ pass;
     notes = ap (λ (z : Known). z.notes) at.sees ∙ ap (λ (z : Known). z.notes) pinned;
     own = ap (λ (z : Known). z.own) at.sees ∙ (ap (λ (z : Known). z.own) pinned ∙ settled.own);
     locks = ap (λ (z : Known). z.locks) at.sees ∙ (ap (λ (z : Known). z.locks) pinned ∙ settled.locks);
     anchor = ap (λ (z : Known). z.anchor) at.sees ∙ (ap (λ (z : Known). z.anchor) pinned ∙ settled.anchor);
-    front = others_begin a.0.known.pass a.0.known.front c.0.known.front others;
-    fresh = subst (λ (z : List Change). BeginsWith c.0.known.fresh.front z) front at.fresh;
+    front = others_begin a.0.known.pass a.0.known.front i.front others;
+    fresh = subst (λ (z : List Change). BeginsWith i.fresh.front z) front at.fresh;
     now = let now = at.now in let steps = ap (λ (z : Known). z.steps) pinned in omega arith;
   };
   others = others;
 }
   where
-    at : HasLookedAt n b.0.known c.0.known
-    at = looked_at looks
-
     pinned : b.0.known ≡ record a.0.known { pin = b.0.known.pin; round = b.0.known.round; steps = a.0.known.steps + 2 }
     pinned = pins.1.rest
 
@@ -197,8 +193,12 @@ looked {n = n} {a = a} {b = b} {c = c} settled pins looks = record {
     front : b.0.known.front ≡ a.0.known.front
     front = ap (λ (z : Known). z.front) pinned
 
-    others : OthersGoOn a.0.known.pass a.0.known.front c.0.known.front
-    others = subst (λ (z : ℕ × List Change). OthersGoOn z.0 z.1 c.0.known.front) (λ x. (pass x, front x)) at.later.front
+    others : OthersGoOn a.0.known.pass a.0.known.front i.front
+    others = subst (λ (z : ℕ × List Change). OthersGoOn z.0 z.1 i.front) (λ x. (pass x, front x)) at.later.front
+
+pub looked : {G : Type 0} {table : TableView} {becomes : G → Event → G → Type 0} {n : ℕ} {a b c : SeatView × G} → IsSettled a.0.known → Pins table becomes a b → Looks table becomes n b c →
+    HasLooked a.0.known c.0.known
+looked {c = c} settled pins looks = looked_then c.0.known settled pins (looked_at looks)
 
 -- what holds of each of two lists holds of each of the first
 All-part : {A : Type 0} (P : A → Type 0) (xs ys : List A) → All P (xs ++ ys) → All P xs
@@ -272,7 +272,7 @@ noted layout call reply s i t settled looks event right quiet = (told, settles s
 
 -- A get
 
-get_quiet : (key : Key) (o : Option ℕ) (p : ℕ) → is_change (record { place = p; call = Get key; reply = got o }) ≡ false
+pub get_quiet : (key : Key) (o : Option ℕ) (p : ℕ) → is_change (record { place = p; call = Get key; reply = got o }) ≡ false
 get_quiet key None p = refl
 get_quiet key (Some v) p = refl
 

@@ -3,6 +3,7 @@ pub mod Passes
 pub mod Answers
 pub mod Noting
 pub mod Traces
+pub mod Many
 pub mod Counts
 pub mod Asked
 pub mod Statements

@@ -15,9 +15,11 @@ ghost use Rattle.rowex_writing.specs.Attempts.{call_of};
 ghost use Rattle.hot_index.specs.Passes.{PassView, Owns, IsNewPass, IsSettled, pass_of};
 ghost use Rattle.hot_index.specs.Counts.{scan_steps};
 ghost use Rattle.hot_index.specs.Answers.{IsListed, IsNoted, IsRefused, IsScanned, IsUnnoted, HaveMet, MayLack, fault_of, got};
+ghost use Rattle.hot_index.specs.Many.{AreNoted, HasGotMany, gets};
 ghost use Rattle.hot_index.specs.Traces.{HasCollected, HasGot, HasMade, HasRead, HasTold, untold};
 
 use crate::changing::{change, try_change};
+use crate::many::{end_gets, look_up_each};
 use crate::room::{Room, new_room};
 use epochs::{Given, collect_round, pin, unpin};
 use hot_model::{Call, Reply, Scan};
@@ -150,6 +152,42 @@ impl Index {
         let found = look_up(&self.table, &mut pass.seat, key, gate);
         end_get(&self.table, &mut pass.seat, gate, key, found);
         found
+    }
+
+    /// The values of many keys: what a `get` of each would answer, one after the other, in the order of the keys; none where a key is
+    /// absent. Each goes to its key's place in `found`, which has as many places as there are keys.
+    ///
+    /// It takes no lock, waits for nobody and takes no memory. The pass is pinned once, until the last key has been looked up: it makes at
+    /// most 4 atomic steps, 33 more for each key, and 26 more for each of at most 2,160 nodes on each key's way. The values are of no
+    /// one moment, but a later key's is of no earlier moment than an earlier one's. Records that others retire meanwhile come back after
+    /// it: so give it some hundred keys at once, and no millions.
+    pub fn get_many(&self, pass: &mut Pass, keys: &[Key], found: &mut [Option<u64>])
+        requires own { Owns self.now pass.old }
+        requires room { length found.old ≡ length keys.now }
+        ensures own { Owns self.now pass.new }
+        ensures call { AreNoted self.now.layout pass.old pass.new (gets keys.now found.new) }
+        ensures made { HasGotMany self.now untold (length keys.now) (pass.old, tt) (pass.new, tt) }
+    {
+        self.get_many_with(pass, keys, found, &mut NoGate)
+    }
+
+    /// `get_many`, with a gate that is told each of its steps.
+    pub fn get_many_with<G: Gate>(
+        &self,
+        pass: &mut Pass,
+        keys: &[Key],
+        found: &mut [Option<u64>],
+        gate: &mut G,
+    )
+        requires own { Owns self.now pass.old }
+        requires room { length found.old ≡ length keys.now }
+        ensures own { Owns self.now pass.new }
+        ensures call { AreNoted self.now.layout pass.old pass.new (gets keys.now found.new) }
+        ensures made { HasGotMany self.now G.becomes (length keys.now) (pass.old, gate.old) (pass.new, gate.new) }
+    {
+        pin(&self.table, &mut pass.seat, gate);
+        look_up_each(&self.table, &mut pass.seat, gate, keys, found);
+        end_gets(&self.table, &mut pass.seat, gate, keys, found);
     }
 
     /// Gives a key a value if it is absent: `Inserted`, or `Exists` with the value that it has, which stays.

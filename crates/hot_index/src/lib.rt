@@ -5,6 +5,7 @@
 mod changing;
 mod index;
 pub mod laws;
+mod many;
 mod room;
 
 pub use epochs::Given;

@@ -48,24 +48,24 @@ sees k j front fresh facts is =
     is ∙ (ap (λ (notes : List Note). let z : Known = record k { front = front; fresh = fresh; facts = facts; steps = k.steps + 1; notes = notes } in z) (append-nil k.notes) ∙
     ap (λ (z : Known). let y : Known = record k { front = z.front; fresh = z.fresh; facts = z.facts; steps = k.steps + 1 } in y) (sym is))
 
-root_sees : (layout : Layout) (k j : Known) (w : ℕ) → IsEvent layout (LoadRef Root w) silent k j → OnlySees 1 k j
+pub root_sees : (layout : Layout) (k j : Known) (w : ℕ) → IsEvent layout (LoadRef Root w) silent k j → OnlySees 1 k j
 root_sees layout k j w e = sees k j _ _ _ e.learned_is
 
 -- of loads below the root
 module _ {layout : Layout} {k j : Known} where
-  below_sees : (act : Act) → IsBelowRoot act → IsEvent layout act silent k j → OnlySees 1 k j
+  pub below_sees : (act : Act) → IsBelowRoot act → IsEvent layout act silent k j → OnlySees 1 k j
   below_sees (LoadRef Root w) below e = absurd below
   below_sees (LoadRef (Slot n i) w) below e = sees k j _ _ _ e.learned_is
   below_sees (LoadFixed r offset w) below e = sees k j _ _ _ e.learned_is
   below_sees _ below e = absurd below
 
-  below_fresh : (act : Act) → IsBelowRoot act → IsEvent layout act silent k j → j.fresh ≡ k.fresh
+  pub below_fresh : (act : Act) → IsBelowRoot act → IsEvent layout act silent k j → j.fresh ≡ k.fresh
   below_fresh (LoadRef Root w) below e = absurd below
   below_fresh (LoadRef (Slot n i) w) below e = ap (λ (z : Known). z.fresh) e.learned_is
   below_fresh (LoadFixed r offset w) below e = ap (λ (z : Known). z.fresh) e.learned_is
   below_fresh _ below e = absurd below
 
-  below_later : (act : Act) → IsBelowRoot act → IsEvent layout act silent k j → IsLater k j
+  pub below_later : (act : Act) → IsBelowRoot act → IsEvent layout act silent k j → IsLater k j
   below_later (LoadRef Root w) below e = absurd below
   below_later (LoadRef (Slot n i) w) below e = event_later e tt
   below_later (LoadFixed r offset w) below e = event_later e tt
@@ -76,7 +76,7 @@ module _ {layout : Layout} {k j : Known} where
 sees_none : (k : Known) → OnlySees 0 k k
 sees_none k = ap (λ (s : ℕ). let z : Known = record k { steps = s } in z) (let e : k.steps ≡ k.steps + 0 = omega arith in e)
 
-sees_more : (n m : ℕ) (k i j : Known) → OnlySees n k i → OnlySees m i j → OnlySees (n + m) k j
+pub sees_more : (n m : ℕ) (k i j : Known) → OnlySees n k i → OnlySees m i j → OnlySees (n + m) k j
 sees_more n m k i j x y = y ∙ (ap (λ (z : Known). let w : Known = record z { front = j.front; fresh = j.fresh; facts = j.facts; steps = z.steps + m } in w) x ∙
     ap (λ (s : ℕ). let w : Known = record k { front = j.front; fresh = j.fresh; facts = j.facts; steps = s } in w) (let e : k.steps + n + m ≡ k.steps + (n + m) = omega arith in e))
 

@@ -1,0 +1,50 @@
+//! Look-ups of many keys by one call.
+
+ghost use Rattle.std.specs.Prelude.{◌≡◌, IsSome, List, length};
+ghost use Rattle.hot_model.specs.declared.Note.{Note};
+ghost use Rattle.rowex_core.specs.declared.event.Act.TheVariants.{ClearPin};
+ghost use Rattle.rowex_core.specs.declared.known.Known.{Known};
+ghost use Rattle.rowex_table.specs.Runs.{StepsWith};
+ghost use Rattle.rowex_table.specs.Seats.{IsPassOf, IsSeatOf};
+ghost use Rattle.hot_index.specs.Many.{HasLookedUp, gets};
+
+use epochs::unpin;
+use key_bits::Key;
+use rowex_core::Gate;
+use rowex_reading::{load_root, look_up};
+use rowex_table::{HotTable, TableSeat};
+
+/// Looks keys up, one after the other, each from the root down, and puts what it finds of each at the key's place.
+pub fn look_up_each<G: Gate>(
+    table: &HotTable,
+    seat: &mut TableSeat,
+    gate: &mut G,
+    keys: &[Key],
+    found: &mut [Option<u64>],
+)
+    requires own { IsSeatOf table.now seat.old }
+    requires pinned { IsSome seat.old.known.pin }
+    requires room { length found.old ≡ length keys.now }
+    ensures { HasLookedUp table.now G.becomes (length keys.now) (gets keys.now found.new) (seat.old, gate.old) (seat.new, gate.new) }
+{
+    load_root(table, seat, gate);
+    for index in 0..keys.len() {
+        found[index] = look_up(table, seat, &keys[index], gate);
+    }
+}
+
+/// Clears the pin at the end of gets that looked for these keys and found this of each. Their notes come with this step.
+pub fn end_gets<G: Gate>(
+    table: &HotTable,
+    seat: &mut TableSeat,
+    gate: &mut G,
+    _keys: &[Key],
+    _found: &[Option<u64>],
+)
+    ghost said: { Known → List Note }
+    requires fits { IsPassOf table.now seat.old }
+    requires pinned { IsSome seat.old.known.pin }
+    ensures step { StepsWith table.now G.becomes ClearPin said (seat.old, gate.old) (seat.new, gate.new) }
+{
+    unpin(table, seat, gate);
+}
