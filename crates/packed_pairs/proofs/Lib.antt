@@ -1,2 +1,3 @@
 -- What is true of packed pairs.
 pub mod Packing
+pub mod Lasts

@@ -51,7 +51,7 @@ impl<'a> Iter<'a> {
 
 /// The key of these bytes. Inline, as its caller is.
 #[inline(always)]
-fn key_of(bytes: &[u8]) -> Key
+pub(crate) fn key_of(bytes: &[u8]) -> Key
     requires { IsKey bytes.now }
     ensures { result ≡ bytes.now }
 {

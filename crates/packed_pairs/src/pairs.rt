@@ -1,9 +1,10 @@
 //! A list of pairs that is filled, read, and used again.
 
-ghost use Rattle.std.specs.Prelude.{◌≡◌, ◌++◌, ◌∷◌, ◌<◌, ◌^◌, [], IfOk, OnErr, OnOk, length, nat_eq};
+ghost use Rattle.std.specs.Prelude.{◌≡◌, ◌++◌, ◌∷◌, ◌<◌, ◌^◌, [], IfOk, MatchOption, OnErr, OnOk, length, nat_eq};
 ghost use Rattle.key_bits.specs.Key.{IsKey};
+ghost use Rattle.packed_pairs.specs.Last.{IsLastKey};
 
-use crate::iter::Iter;
+use crate::iter::{Iter, key_of};
 use key_bits::Key;
 use std::alloc::{AllocError, Global};
 use std::marker::Model;
@@ -82,6 +83,15 @@ impl Pairs {
             value,
         });
         Ok(())
+    }
+
+    /// The key of the last pair, or none where there is no pair.
+    pub fn last_key(&self) -> Option<Key>
+        ensures { MatchOption result (self.now ≡ []) (IsLastKey self.now) }
+    {
+        let (head, _) = self.heads.split_last()?;
+        let (_, key) = self.bytes.split_at(self.bytes.len() - head.count as usize);
+        Some(key_of(key))
     }
 
     /// The pairs, from the first one on.

@@ -1,0 +1,24 @@
+-- The next key, and keys with a prefix.
+use Rattle.std.specs.Prelude.{◌≡◌, ◌≢◌, ℕ, ◌-◌, ◌++◌, List, length, replicate}
+use Rattle.std.specs.declared.cmp.Ordering.TheVariants.{Less, Greater}
+use Rattle.key_bits.specs.Key.{IsKey}
+use Rattle.key_bits.specs.declared.TheConstants.{MAX_BYTES}
+use Rattle.hot_model.specs.Maps.{key_order}
+
+-- of the keys above the first one, the other is the least
+pub record IsNextKey (key next : List ℕ) : Type 0 where
+  pub is_key : IsKey next
+  pub above : key_order key next ≡ Less
+  pub least : (other : List ℕ) → IsKey other → key_order key other ≡ Less → key_order next other ≢ Greater
+
+-- no key is above it
+abbrev pub NoKeyAbove : List ℕ → Type 0
+NoKeyAbove key = (other : List ℕ) → IsKey other → key_order key other ≢ Less
+
+-- the key begins with the prefix
+abbrev pub HasPrefix : List ℕ → List ℕ → Type 0
+HasPrefix prefix key = (rest : List ℕ) × (key ≡ prefix ++ rest)
+
+-- the last key with the prefix
+abbrev pub last_with : List ℕ → List ℕ
+last_with prefix = prefix ++ replicate (MAX_BYTES - length prefix) 255

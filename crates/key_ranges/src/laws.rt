@@ -1,0 +1,8 @@
+//! Laws of ranges of keys. The functions do nothing: their contracts are the laws.
+
+ghost use Rattle.key_ranges.specs.Statements.{PrefixIsRange};
+
+/// The keys that begin with a prefix are those from the prefix itself to the last key that begins with it.
+pub fn prefix_is_a_range()
+    ensures { PrefixIsRange }
+{}

@@ -1,0 +1,51 @@
+//! Ranges of keys: which key comes next, and which keys begin with a prefix.
+#![tactic(auto)]
+
+ghost use Rattle.std.specs.Prelude.{◌≡◌, ◌<◌, ◌++◌, ◌∷◌, [], IfSome, None, length};
+ghost use Rattle.key_bits.specs.Key.{IsKey};
+ghost use Rattle.key_ranges.specs.Ranges.{IsNextKey, NoKeyAbove, last_with};
+
+pub mod laws;
+
+use key_bits::{Key, MAX_BYTES};
+
+/// The least key above this one. There is none above `MAX_BYTES` bytes of 255.
+pub fn next_key(key: &Key) -> Option<Key>
+    ensures some { IfSome result (IsNextKey key.now) }
+    ensures none { result ≡ None → NoKeyAbove key.now }
+{
+    let mut rest = key.as_bytes();
+    if rest.len() < MAX_BYTES {
+        return Some(with_byte(rest, 0));
+    }
+    // No byte has room behind these, so one of them is greater in the next key, and those behind it are gone.
+    while let Some((last, front)) = rest.split_last() {
+        if *last < u8::MAX {
+            return Some(with_byte(front, *last + 1));
+        }
+        rest = front;
+    }
+    None
+}
+
+/// The key of these bytes and one more.
+fn with_byte(front: &[u8], last: u8) -> Key
+    requires key { IsKey front.now }
+    requires room { length front.now < MAX_BYTES }
+    ensures { result ≡ front.now ++ last ∷ [] }
+{
+    let mut places = [0; MAX_BYTES];
+    places[..front.len()].copy_from_slice(front);
+    places[front.len()] = last;
+    Key::of_places(places, front.len() + 1)
+}
+
+/// The last key that begins with this prefix: behind it are as many bytes of 255 as have room.
+pub fn last_with_prefix(prefix: &Key) -> Key
+    ensures { result ≡ last_with prefix.now }
+{
+    let bytes = prefix.as_bytes();
+    let mut places = [u8::MAX; MAX_BYTES];
+    places[..bytes.len()].copy_from_slice(bytes);
+    Key::of_places(places, MAX_BYTES)
+}
