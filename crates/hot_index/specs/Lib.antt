@@ -5,5 +5,7 @@ pub mod Noting
 pub mod Traces
 pub mod Many
 pub mod Counts
+pub mod Ranges
+pub mod Cursors
 pub mod Asked
 pub mod Statements

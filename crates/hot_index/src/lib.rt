@@ -3,15 +3,19 @@
 #![tactic(auto)]
 
 mod changing;
+mod cursor;
 mod index;
 pub mod laws;
 mod many;
+mod ranges;
 mod room;
 
+pub use cursor::{Cursor, Rest};
 pub use epochs::Given;
 pub use hot_model::{Call, Reply, Scan};
 pub use index::{Index, IndexFault, Pass, create, create_with};
 pub use key_bits::Key;
+pub use key_ranges::{last_with_prefix, next_key};
 pub use packed_pairs::Pairs;
 pub use record_words::{LayoutFault, Stock};
 pub use rowex_core::{Event, Gate, NoGate};

@@ -1,0 +1,25 @@
+-- A list of one pair at most, and what is taken off its end.
+use Rattle.std.proofs.Common.{◌≡◌, ℕ, ◌<◌, ◌≤◌, List, [], ◌∷◌, ◌++◌, length, Bool, Option, None, Some, refl, sym, ap, subst, arith, length-append}
+use Rattle.std.specs.Prelude.{IsSome}
+use Rattle.std.specs.Option.{option_to_list}
+use Rattle.hot_model.specs.declared.Scan.{Scan}
+use Rattle.record_words.specs.declared.layout.Layout.{Layout}
+use Rattle.tries.specs.Keys.{Key}
+use Rattle.hot_index.specs.Answers.{IsListed}
+use Rattle.hot_index.specs.Passes.{PassView}
+
+nothing : (found : Option (Key × ℕ)) → found ≡ None → IsSome found → ⊥
+nothing found e is = cc
+
+-- none was taken off, where there was none; or the only one
+pub only : (items rest : List (Key × ℕ)) (found : Option (Key × ℕ)) → items ≡ rest ++ option_to_list found → length items ≤ 1 → (0 < length items → IsSome found) → option_to_list found ≡ items
+only [] rest None e few some = refl
+only (x ∷ xs) rest None e few some = absurd (nothing None refl (some (omega arith)))
+only items [] (Some pair) e few some = sym e
+only items (y ∷ ys) (Some pair) e few some =
+    let n : length items ≡ length ((y ∷ ys) ++ pair ∷ []) = ap length e in let m = length-append (y ∷ ys) (pair ∷ []) in absurd (omega (arith, n, m, few))
+
+-- a scan of one pair at most lists one at most
+pub one_at_most : {layout : Layout} {k j : PassView} {from upto : Key} {pairs : List (Key × ℕ)} {more : Bool} → IsListed layout k j from upto 1 pairs more →
+    (scan : Scan) → scan.pairs.items ≡ pairs → scan.more ≡ more → length pairs ≤ 1
+one_at_most h scan same last = subst (λ (l : List (Key × ℕ)). length l ≤ 1) same (h.lawful scan same last).short
