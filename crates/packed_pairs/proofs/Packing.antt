@@ -1,6 +1,8 @@
 -- Packed pairs: how many they are, and one more at the end.
 use Rattle.std.proofs.Common.{◌≡◌, ℕ, suc, List, [], ◌∷◌, ◌++◌, length, take, drop, refl, ap, sym, subst, arith, length-append}
 use Rattle.std.proofs.lemmas.List.{take-append-le, drop-append-le, take_all}
+use Rattle.std.proofs.lemmas.List.Elements.{All-cons, All-nil}
+use Rattle.std.specs.Prelude.{All}
 use Rattle.key_bits.specs.Key.{IsKey}
 use Rattle.packed_pairs.specs.declared.pairs.Head.{Head}
 use Rattle.packed_pairs.specs.Packed.{ArePacked, unpacked}
@@ -8,6 +10,11 @@ use Rattle.packed_pairs.specs.Packed.{ArePacked, unpacked}
 pub length-unpacked : (heads : List Head) (bytes : List ℕ) → length (unpacked heads bytes) ≡ length heads
 length-unpacked [] bytes = refl
 length-unpacked (h ∷ heads) bytes = ap suc (length-unpacked heads (drop h.count bytes))
+
+-- each of the keys is one
+pub all_keys : (heads : List Head) (bytes : List ℕ) → ArePacked heads bytes → All (λ pair. IsKey pair.0) (unpacked heads bytes)
+all_keys [] bytes none = All-nil (λ pair. IsKey pair.0)
+all_keys (h ∷ heads) bytes (low, first, rest) = All-cons (λ pair. IsKey pair.0) (take h.count bytes, h.value) _ first (all_keys heads (drop h.count bytes) rest)
 
 whole : (key : List ℕ) (n : ℕ) → n ≡ length key → take n key ≡ key
 whole key n e = take_all n key (omega (arith, e))

@@ -1,6 +1,6 @@
 //! A list of pairs that is filled, read, and used again.
 
-ghost use Rattle.std.specs.Prelude.{◌≡◌, ◌++◌, ◌∷◌, ◌<◌, ◌^◌, [], IfOk, MatchOption, OnErr, OnOk, length, nat_eq};
+ghost use Rattle.std.specs.Prelude.{◌≡◌, ◌++◌, ◌∷◌, ◌<◌, ◌^◌, [], All, IfOk, MatchOption, OnErr, OnOk, length, nat_eq};
 ghost use Rattle.key_bits.specs.Key.{IsKey};
 ghost use Rattle.packed_pairs.specs.Last.{IsLastKey};
 
@@ -96,7 +96,8 @@ impl Pairs {
 
     /// The pairs, from the first one on.
     pub fn iter(&self) -> Iter<'_>
-        ensures { result ≡ self.now }
+        ensures pairs { result ≡ self.now }
+        ensures keys { All (λ pair. IsKey pair.0) self.now }
     {
         Iter::of(&self.bytes, &self.heads)
     }
