@@ -1,5 +1,5 @@
 -- Scripts that run at the same time and meet: their answers are lawful together.
-use Rattle.std.proofs.Common.{◌≡◌, ◌≢◌, ℕ, suc, ◌+◌, ◌≤◌, ◌<◌, List, [], ◌∷◌, ◌++◌, length, map, true, false, cond, Bool, refl, sym, ap, ap₂, subst, ◌∙◌, arith, string_bytes, append_assoc, append-nil, eqb}
+use Rattle.std.proofs.Common.{◌≡◌, ◌≢◌, ℕ, suc, ◌+◌, ◌≤◌, ◌<◌, List, [], ◌∷◌, ◌++◌, length, map, true, false, cond, Bool, refl, sym, ap, ap₂, subst, ◌∙◌, arith, append_assoc, append-nil, eqb}
 use Rattle.std.specs.Prelude.{codes}
 use Rattle.std.specs.List.{All}
 use Rattle.std.proofs.lemmas.Bool.{eq-eqb}
@@ -157,7 +157,7 @@ module _ (index : TableView) where
       → AllFrom q (IsFirst index) passes → AllThree (IsDone index) passes scripts done
       → MeetInTurn index k done j met → MeetInTurn index k' met j' again
       → BeginsWith last j.front → BeginsWith k'.front last
-      → HaveRun j.front last q scripts (map (λ d. string_bytes d.text) again)
+      → HaveRun j.front last q scripts (map (λ d. d.text.items) again)
   files_have_run last q [] [] [] [] [] k j k' j' new run first second b e = record {
     rans = [];
     commands = refl;
@@ -175,7 +175,7 @@ module _ (index : TableView) where
   files_have_run last q (x ∷ passes) (y ∷ scripts) (z ∷ done) [] again k j k' j' new run first second b e = absurd first
   files_have_run last q (x ∷ passes) (y ∷ scripts) (z ∷ done) (w ∷ met) [] k j k' j' new run first second b e = absurd second
   files_have_run last q (p ∷ passes) (commands ∷ scripts) (d ∷ done) (a ∷ met) (f ∷ again) k j k' j' new run (m, one, same, first) (m', two, same', second) b e =
-      let ran = first_run q p d.pass commands (string_bytes d.text) new.0.1 run.0.1 in
+      let ran = first_run q p d.pass commands d.text.items new.0.1 run.0.1 in
       let others = files_have_run last (q + 1) passes scripts done met again m j m' j' new.1 run.1 first second b
       (begins_on last k'.front m'.front e two.first.front) in
       let seen : BeginsWith j.front d.pass.front =
@@ -189,7 +189,7 @@ module _ (index : TableView) where
       record {
         rans = ran.ran ∷ others.rans;
         commands = ap₂ (λ c cs. c ∷ cs) ran.commands_are others.commands;
-        texts_are = ap₂ (λ t ts. t ∷ ts) (ran.text_is ∙ ap string_bytes (sym same) ∙ ap string_bytes (sym same')) others.texts_are;
+        texts_are = ap₂ (λ t ts. t ∷ ts) (ran.text_is ∙ ap (λ t. t.items) (sym same) ∙ ap (λ t. t.items) (sym same')) others.texts_are;
         each = (ran.run, others.each);
         begins = All-cons (λ (ran : Ran). BeginsWith j.front ran.front) ran.ran others.rans (subst (λ cs. BeginsWith j.front cs) (sym ran.front) seen) others.begins;
         shared = (legal_between d.pass.front last f.pass.front q (notes_in ran.ran) begin end (begins_on d.pass.front j.front last seen b) later, others.shared);
@@ -203,7 +203,7 @@ module _ (index : TableView) where
       → AllFrom 0 (IsFirst index) passes → IsFirst index (length scripts) pass
       → AllThree (IsDone index) passes scripts done → MeetInTurn index pass done k met
       → HasRun index.layout k commands j text → MeetInTurn index j met l again
-      → LawfulAnswers scripts commands (sections 1 (map (λ d. string_bytes d.text) again) ++ line (codes "last") ++ text)
+      → LawfulAnswers scripts commands (sections 1 (map (λ d. d.text.items) again) ++ line (codes "last") ++ text)
   lawful_together passes scripts commands done met again pass k j l text count new last run first ran second =
       let kept = met_kept pass k done met (new_legal _ pass last.1) (new_makers _ pass last.1) first in
       let stood = told_stood index.layout k j ran.answers kept.legal kept.makers ran.told in

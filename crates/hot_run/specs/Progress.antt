@@ -1,5 +1,5 @@
 -- What a pass of an index goes through by the commands of a script.
-use Rattle.std.specs.Prelude.{◌≡◌, ℕ, ◌≤◌, ◌++◌, All, List, [], ◌∷◌, length, map, flat_map, string_bytes, codes}
+use Rattle.std.specs.Prelude.{◌≡◌, ℕ, ◌≤◌, ◌++◌, All, List, [], ◌∷◌, length, map, flat_map, codes}
 use Rattle.hot_model.specs.declared.Call.{Call}
 use Rattle.hot_model.specs.declared.Note.{Note}
 use Rattle.hot_model.specs.Calls.{LegalCalls}
@@ -67,7 +67,7 @@ AreReady index passes scripts gates = All (Owns index) passes × (length scripts
 
 -- the thread of this pass made these commands
 abbrev pub IsDone : TableView → PassView → List Command → Done → Type 0
-IsDone index pass commands done = Owns index done.pass × HasRun index.layout pass commands done.pass (string_bytes done.text)
+IsDone index pass commands done = Owns index done.pass × HasRun index.layout pass commands done.pass done.text.items
 
 -- a thread was started for these commands of this pass
 abbrev pub IsOrderOf : TableView → PassView → List Command → Order → Type 0
@@ -104,4 +104,4 @@ pub record HasAnsweredLast (index : TableView) (k : PassView) (met : List Done) 
   pub answers : List ℕ
   pub ran : HasRun index.layout k commands after answers
   pub meet : MeetInTurn index after met last again
-  pub text_is : text ≡ sections 1 (map (λ d. string_bytes d.text) again) ++ line (codes "last") ++ answers
+  pub text_is : text ≡ sections 1 (map (λ d. d.text.items) again) ++ line (codes "last") ++ answers

@@ -1,6 +1,6 @@
 //! What answers the commands of a script: a pass of an index.
 
-ghost use Rattle.std.specs.Prelude.{ℕ, IfOk, OnOk, string_bytes};
+ghost use Rattle.std.specs.Prelude.{ℕ, IfOk, OnOk};
 ghost use Rattle.hot_index.specs.Passes.{Owns};
 ghost use Rattle.hot_scripts.specs.Parses.{script_commands};
 ghost use Rattle.hot_run.specs.Progress.{HasAnswered, HasRun, IsTold, answered_as};
@@ -43,43 +43,41 @@ fn make_call<T: Wait, G: Gate>(
 
 /// Makes a scan into a list, and ends the text by its lines.
 fn answer_scan<G: Gate>(
-    alloc: Global,
     index: &Index,
     pass: &mut Pass,
     range: &Range,
     gate: &mut G,
     pairs: &mut Pairs,
-    text: &mut String,
+    text: &mut Vec<u8>,
 ) -> Result<(), AllocError>
     requires { Owns index.now pass.old }
     ensures own { Owns index.now pass.new }
-    ensures answered { OnOk result (HasAnswered index.now.layout pass.old (Command.Scan range.now) pass.new (string_bytes text.old) (string_bytes text.new)) }
+    ensures answered { OnOk result (HasAnswered index.now.layout pass.old (Command.Scan range.now) pass.new text.old.items text.new.items) }
 {
     let more = index.scan_into_with(pass, &range.from, &range.upto, range.limit, pairs, gate)?;
-    push_scan(alloc, text, pairs, more)
+    push_scan(text, pairs, more)
 }
 
 /// Makes a command, and ends the text by the lines of its answer. A scan puts its pairs into the list.
 fn answer_command<T: Wait, G: Gate>(
     rt: &T,
-    alloc: Global,
     index: &Index,
     pass: &mut Pass,
     command: &Command,
     gate: &mut G,
     pairs: &mut Pairs,
-    text: &mut String,
+    text: &mut Vec<u8>,
 ) -> Result<(), AllocError>
     requires { Owns index.now pass.old }
     ensures own { Owns index.now pass.new }
-    ensures answered { OnOk result (HasAnswered index.now.layout pass.old command.now pass.new (string_bytes text.old) (string_bytes text.new)) }
+    ensures answered { OnOk result (HasAnswered index.now.layout pass.old command.now pass.new text.old.items text.new.items) }
 {
     match command {
         Command::Call(call) => {
             let answer = make_call(rt, index, pass, call, gate);
             push_answer(text, answer)
         }
-        Command::Scan(range) => answer_scan(alloc, index, pass, range, gate, pairs, text),
+        Command::Scan(range) => answer_scan(index, pass, range, gate, pairs, text),
     }
 }
 
@@ -91,18 +89,16 @@ pub fn run<T: Wait, G: Gate>(
     pass: &mut Pass,
     script: &Script,
     gate: &mut G,
-) -> Result<String, AllocError>
+) -> Result<Vec<u8>, AllocError>
     requires { Owns index.now pass.old }
     ensures own { Owns index.now pass.new }
-    ensures ran { IfOk result (λ text. HasRun index.now.layout pass.old (script_commands script.now) pass.new (string_bytes text)) }
+    ensures ran { IfOk result (λ text. HasRun index.now.layout pass.old (script_commands script.now) pass.new text.items) }
 {
-    let mut text = String::new(alloc);
+    let mut text = Vec::new(alloc);
     let mut pairs = Pairs::new(alloc);
     let mut commands = script.commands();
     while let Some(command) = commands.next_command() {
-        answer_command(
-            rt, alloc, index, pass, &command, gate, &mut pairs, &mut text,
-        )?;
+        answer_command(rt, index, pass, &command, gate, &mut pairs, &mut text)?;
     }
     Ok(text)
 }

@@ -1,7 +1,7 @@
 //! Runs of scripts on an ordered index.
 #![tactic(auto)]
 
-ghost use Rattle.std.specs.Prelude.{◌≡◌, ◌≢◌, ◌+◌, ◌≤◌, List, ℕ, [], IfOk, OnOk, IfErr, length, string_bytes};
+ghost use Rattle.std.specs.Prelude.{◌≡◌, ◌≢◌, ◌+◌, ◌≤◌, List, ℕ, [], IfOk, OnOk, IfErr, length};
 ghost use Rattle.std.specs.Io.KnownBytes.{Appends};
 ghost use Rattle.record_words.specs.Limits.{IsLeafCount, IsNodeCount};
 ghost use Rattle.hot_scripts.specs.Parses.{script_commands};
@@ -52,7 +52,7 @@ pub fn run_one<T: Wait, R: Read, W: Write>(
     let bytes = streams::read_script(alloc, reader)?;
     let script = Script::parse(bytes)?;
     let text = answer_one(rt, alloc, nodes, leaves, &script)?;
-    streams::write_answers(writer, text.as_str())
+    streams::write_answers(writer, &text)
 }
 
 /// Answers one script on a new index.
@@ -62,10 +62,10 @@ fn answer_one<T: Wait>(
     nodes: u32,
     leaves: u32,
     script: &Script,
-) -> Result<String, RunFault>
+) -> Result<Vec<u8>, RunFault>
     requires nodes { IsNodeCount nodes }
     requires leaves { IsLeafCount leaves }
-    ensures ok { IfOk result (λ text. Answers [] (script_commands script.now) (string_bytes text)) }
+    ensures ok { IfOk result (λ text. Answers [] (script_commands script.now) text.items) }
     ensures fault { IfErr result (λ fault. fault ≡ RunFault.Memory) }
 {
     let (index, _, mut pass) = new_index(alloc, 0, nodes, leaves)?;

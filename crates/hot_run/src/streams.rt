@@ -1,6 +1,6 @@
 //! What a run reads and writes.
 
-ghost use Rattle.std.specs.Prelude.{◌≡◌, ◌≤◌, IfOk, IfErr, OnOk, flat_map, string_bytes, vec_len};
+ghost use Rattle.std.specs.Prelude.{◌≡◌, ◌≤◌, IfOk, IfErr, OnOk, flat_map, vec_len};
 ghost use Rattle.std.specs.Io.KnownBytes.{Appends, Keeps};
 ghost use Rattle.hot_run.specs.Runs.{TakesAll, IsReadFault};
 
@@ -36,11 +36,11 @@ pub fn read_script<R: Read>(alloc: Global, reader: &mut R) -> Result<Vec<u8>, Ru
 }
 
 /// Writes a text.
-fn write_text<W: Write>(writer: &mut W, text: &str) -> Result<(), RunFault>
+fn write_text<W: Write>(writer: &mut W, text: &[u8]) -> Result<(), RunFault>
     ensures ok { OnOk result (Appends (W.contents writer.old) (W.contents writer.new) text.now) }
     ensures fault { IfErr result (λ fault. fault ≡ RunFault.Write) }
 {
-    match writer.write_all(text.as_bytes()) {
+    match writer.write_all(text) {
         Ok(()) => Ok(()),
         Err(_) => Err(RunFault::Write),
     }
@@ -58,7 +58,7 @@ fn flush<W: Write>(writer: &mut W) -> Result<(), RunFault>
 }
 
 /// Writes the answers.
-pub fn write_answers<W: Write>(writer: &mut W, text: &str) -> Result<(), RunFault>
+pub fn write_answers<W: Write>(writer: &mut W, text: &[u8]) -> Result<(), RunFault>
     ensures ok { OnOk result (Appends (W.contents writer.old) (W.contents writer.new) text.now) }
     ensures fault { IfErr result (λ fault. fault ≡ RunFault.Write) }
 {
@@ -67,12 +67,12 @@ pub fn write_answers<W: Write>(writer: &mut W, text: &str) -> Result<(), RunFaul
 }
 
 /// Writes texts, one after another.
-pub fn write_sections<W: Write>(writer: &mut W, texts: &[String]) -> Result<(), RunFault>
-    ensures ok { OnOk result (Appends (W.contents writer.old) (W.contents writer.new) (flat_map string_bytes texts.now)) }
+pub fn write_sections<W: Write>(writer: &mut W, texts: &[Vec<u8>]) -> Result<(), RunFault>
+    ensures ok { OnOk result (Appends (W.contents writer.old) (W.contents writer.new) (flat_map (λ t. t.items) texts.now)) }
     ensures fault { IfErr result (λ fault. fault ≡ RunFault.Write) }
 {
     for text in texts {
-        write_text(writer, text.as_str())?;
+        write_text(writer, text)?;
     }
     flush(writer)
 }

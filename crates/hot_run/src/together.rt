@@ -1,6 +1,6 @@
 //! Scripts that run at the same time: a thread and a pass for each, and the meetings of their passes.
 
-ghost use Rattle.std.specs.Prelude.{◌≡◌, ◌≤◌, All, IfOk, IfErr, flat_map, length, map, string_bytes};
+ghost use Rattle.std.specs.Prelude.{◌≡◌, ◌≤◌, All, IfOk, IfErr, flat_map, length, map};
 ghost use Rattle.std.specs.List.{AllZip};
 ghost use Rattle.record_words.specs.Limits.{IsLeafCount, IsNodeCount};
 ghost use Rattle.hot_index.specs.Passes.{Owns};
@@ -24,7 +24,7 @@ use std::thread::{Promise, PromisedHandle, Scope, Threads, scope, scope_env};
 #[derive(Drop)]
 pub struct Done {
     pub pass: Pass,
-    pub text: String,
+    pub text: Vec<u8>,
 }
 
 /// What a thread is to run, for contracts alone.
@@ -52,12 +52,12 @@ pub fn answer_all<T: Threads + Wait + Sync, G: Gate + Send + Drop>(
     scripts: Vec<Script>,
     gates: Vec<G>,
     last: &Script,
-) -> Result<Vec<String>, RunFault>
+) -> Result<Vec<Vec<u8>>, RunFault>
     requires nodes { IsNodeCount nodes }
     requires leaves { IsLeafCount leaves }
     requires few { length scripts.items ≤ MAX_FILES }
     requires gates { length gates.items ≡ length scripts.items }
-    ensures ok { IfOk result (λ texts. LawfulAnswers (map script_commands scripts.items) (script_commands last.now) (flat_map string_bytes texts.items)) }
+    ensures ok { IfOk result (λ texts. LawfulAnswers (map script_commands scripts.items) (script_commands last.now) (flat_map (λ t. t.items) texts.items)) }
     ensures fault { IfErr result (λ fault. fault ≡ RunFault.Memory) }
 {
     let (index, passes, pass) = new_index(alloc, scripts.len() as u32, nodes, leaves)?;
@@ -95,11 +95,11 @@ fn answer_last<T: Wait>(
     pass: Pass,
     met: Vec<Done>,
     last: &Script,
-) -> Result<Vec<String>, AllocError>
+) -> Result<Vec<Vec<u8>>, AllocError>
     requires own { Owns index.now pass }
     requires each { All (λ d. Owns index.now d.pass) met.items }
     requires few { length met.items ≤ MAX_FILES }
-    ensures { IfOk result (λ texts. HasAnsweredLast index.now pass met.items (script_commands last.now) (flat_map string_bytes texts.items)) }
+    ensures { IfOk result (λ texts. HasAnsweredLast index.now pass met.items (script_commands last.now) (flat_map (λ t. t.items) texts.items)) }
 {
     let mut pass = pass;
     let text = run(rt, alloc, index, &mut pass, last, &mut NoGate)?;

@@ -1,64 +1,80 @@
 //! The lines of the answers.
 
-ghost use Rattle.std.specs.Prelude.{◌≡◌, ◌++◌, ◌<◌, ◌^◌, OnOk, length, string_bytes};
-ghost use Rattle.hot_scripts.specs.Meaning.{key_text, line, pair_line, reply_text, scan_lines};
+ghost use Rattle.std.specs.Prelude.{◌≡◌, ◌++◌, ◌+◌, ◌<◌, ◌≤◌, ◌^◌, OnOk, length};
+ghost use Rattle.hot_scripts.specs.Meaning.{key_text, line, pair_line, reply_text, scan_lines, with_number};
 
+use crate::tail::{NUMBER_DIGITS, Tail};
 use hot_model::Reply;
+use itoa::Buffer;
+use key_bits::MAX_BYTES;
 use packed_pairs::Pairs;
-use std::alloc::{AllocError, Global};
+use std::alloc::AllocError;
+
+/// A line of a word and a number.
+fn push_number(text: &mut Vec<u8>, word: &[u8], number: u64) -> Result<(), AllocError>
+    ensures { OnOk result (text.new.items ≡ text.old.items ++ line (with_number word.now number)) }
+{
+    let mut digits = Buffer::new();
+    text.extend_from_slice(word)?;
+    text.extend_from_slice(digits.format(number).as_bytes())?;
+    text.extend_from_slice(b"\n")
+}
 
 /// The line of a reply to a call.
-pub fn push_reply(text: &mut String, reply: Reply) -> Result<(), AllocError>
-    ensures { OnOk result (string_bytes text.new ≡ string_bytes text.old ++ line (reply_text reply)) }
+pub fn push_reply(text: &mut Vec<u8>, reply: Reply) -> Result<(), AllocError>
+    ensures { OnOk result (text.new.items ≡ text.old.items ++ line (reply_text reply)) }
 {
     match reply {
-        Reply::Inserted => text.push_str("inserted\n"),
-        Reply::Exists(value) => write!(text, "exists {value}\n"),
-        Reply::New => text.push_str("new\n"),
-        Reply::Was(value) => write!(text, "was {value}\n"),
-        Reply::Value(value) => write!(text, "value {value}\n"),
-        Reply::Absent => text.push_str("none\n"),
-        Reply::Removed(value) => write!(text, "removed {value}\n"),
+        Reply::Inserted => text.extend_from_slice(b"inserted\n"),
+        Reply::Exists(value) => push_number(text, b"exists ", value),
+        Reply::New => text.extend_from_slice(b"new\n"),
+        Reply::Was(value) => push_number(text, b"was ", value),
+        Reply::Value(value) => push_number(text, b"value ", value),
+        Reply::Absent => text.extend_from_slice(b"none\n"),
+        Reply::Removed(value) => push_number(text, b"removed ", value),
     }
 }
 
-/// The key in lower case digits, or a dash for the empty key.
-fn push_key(alloc: Global, text: &mut String, key: &[u8]) -> Result<(), AllocError>
-    ensures { OnOk result (string_bytes text.new ≡ string_bytes text.old ++ key_text key.now) }
+/// Puts the key in lower case digits, or a dash for the empty key.
+fn put_key(tail: &mut Tail, key: &[u8])
+    requires key { length key.now ≤ MAX_BYTES }
+    requires room { length tail.old ≤ NUMBER_DIGITS + 2 }
+    ensures { tail.new ≡ key_text key.now ++ tail.old }
 {
     if key.is_empty() {
-        return text.push_str("-");
+        tail.put(b"-");
+    } else {
+        tail.put_hex(key);
     }
-    let digits = hex::encode(alloc, key)?;
-    text.push_str(digits.as_str())
 }
 
-/// The line of a pair.
-fn push_pair(alloc: Global, text: &mut String, key: &[u8], value: u64) -> Result<(), AllocError>
-    ensures { OnOk result (string_bytes text.new ≡ string_bytes text.old ++ pair_line (key.now, value)) }
+/// Makes the line of a pair.
+fn make_pair(tail: &mut Tail, key: &[u8], value: u64)
+    requires { length key.now ≤ MAX_BYTES }
+    ensures { tail.new ≡ pair_line (key.now, value) }
 {
-    text.push_str("pair ")?;
-    push_key(alloc, text, key)?;
-    write!(text, " {value}\n")
+    tail.clear();
+    tail.put(b"\n");
+    tail.put_number(value);
+    tail.put(b" ");
+    put_key(tail, key);
+    tail.put(b"pair ");
 }
 
 /// The lines of a scan with these pairs, where `more` says whether there is a further key.
-pub fn push_scan(
-    alloc: Global,
-    text: &mut String,
-    pairs: &Pairs,
-    more: bool,
-) -> Result<(), AllocError>
-    ensures lines { OnOk result (string_bytes text.new ≡ string_bytes text.old ++ scan_lines pairs.now more) }
+pub fn push_scan(text: &mut Vec<u8>, pairs: &Pairs, more: bool) -> Result<(), AllocError>
+    ensures lines { OnOk result (text.new.items ≡ text.old.items ++ scan_lines pairs.now more) }
     ensures short { length pairs.now < 2 ^ 63 }
 {
     let count = pairs.len();
+    let mut tail = Tail::new();
     for (key, value) in pairs.iter() {
-        push_pair(alloc, text, key, value)?;
+        make_pair(&mut tail, key, value);
+        text.extend_from_slice(tail.as_bytes())?;
     }
     if more {
-        write!(text, "more {count}\n")
+        push_number(text, b"more ", count as u64)
     } else {
-        write!(text, "end {count}\n")
+        push_number(text, b"end ", count as u64)
     }
 }

@@ -6,4 +6,5 @@ pub mod command;
 pub mod fault;
 mod line;
 pub mod script;
+mod tail;
 mod word;

@@ -1,5 +1,5 @@
 -- The sections that are left complete the texts.
-use Rattle.std.proofs.Common.{◌≡◌, ◌++◌, ◌+◌, ◌≤◌, string_bytes, length, map}
+use Rattle.std.proofs.Common.{◌≡◌, ◌++◌, ◌+◌, ◌≤◌, length, map}
 use Rattle.std.specs.Prelude.{flat_map}
 use Rattle.std.specs.Vec.Iter.{into_iter_items}
 use Rattle.hot_run.specs.Scripts.{sections}
@@ -8,6 +8,6 @@ use Rattle.hot_run.proofs.answer.sections.Given as goal
 abbrev pub invariant-loop-file : goal.invariant-loop-file
 invariant-loop-file l = record {
   small : l.number + length (into_iter_items l.file-iterator) ≤ 64;
-  whole : flat_map string_bytes l.texts.items ++ sections l.number (map (λ f. string_bytes f.text) (into_iter_items l.file-iterator))
-      ≡ sections 1 (map (λ f. string_bytes f.text) l.fn.files.items);
+  whole : flat_map (λ t. t.items) l.texts.items ++ sections l.number (map (λ f. f.text.items) (into_iter_items l.file-iterator))
+      ≡ sections 1 (map (λ f. f.text.items) l.fn.files.items);
 }

@@ -1,5 +1,5 @@
 -- What stays true in the loop of `run`.
-use Rattle.std.proofs.Common.{◌++◌, List, ℕ, length, string_bytes}
+use Rattle.std.proofs.Common.{◌++◌, List, ℕ, length}
 use Rattle.hot_index.specs.Passes.{PassView, Owns}
 use Rattle.hot_scripts.specs.Parses.{commands_left, script_commands}
 use Rattle.hot_run.specs.Progress.{HasRun}
@@ -10,7 +10,7 @@ abbrev pub invariant-loop-command : goal.invariant-loop-command
 invariant-loop-command g l = record {
   own : Owns l.fn.index l.pass;
   completes : (j : PassView) (rest : List ℕ) → HasRun l.fn.index.layout l.pass (commands_left l.commands) j rest
-      → HasRun l.fn.index.layout l.fn.pass (script_commands l.fn.script) j (string_bytes l.text ++ rest);
+      → HasRun l.fn.index.layout l.fn.pass (script_commands l.fn.script) j (l.text.items ++ rest);
 }
 
 abbrev pub decreases-loop-command : goal.decreases-loop-command

@@ -1,8 +1,8 @@
 -- What stays true in the loop of `write_sections`.
-use Rattle.std.proofs.Common.{string_bytes, take}
+use Rattle.std.proofs.Common.{take}
 use Rattle.std.specs.Prelude.{flat_map}
 use Rattle.std.specs.Io.KnownBytes.{Appends}
 use Rattle.hot_run.proofs.streams.write_sections.Given as goal
 
 abbrev pub invariant-loop-text : goal.invariant-loop-text
-invariant-loop-text g l = Appends (g.W.Write.contents l.fn.writer) (g.W.Write.contents l.writer) (flat_map string_bytes (take l.text-index l.texts))
+invariant-loop-text g l = Appends (g.W.Write.contents l.fn.writer) (g.W.Write.contents l.writer) (flat_map (λ t. t.items) (take l.text-index l.texts))
