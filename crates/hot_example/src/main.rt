@@ -1,9 +1,9 @@
-//! How the index is used: two threads fill it at the same time, meet, and find what both wrote.
+//! How the index is used: two threads fill it at the same time, meet, and find what both wrote; the rest is read by other calls.
 #![tactic(auto)]
 
 ghost use Rattle.hot_index.specs.Passes.{Owns};
 
-use hot_index::{Index, IndexFault, Key, Pass, create};
+use hot_index::{Cursor, Index, IndexFault, Key, Pairs, Pass, create};
 use std::io;
 use std::io::ErrorKind;
 use std::sync::Wait;
@@ -63,7 +63,25 @@ fn run<R: Threads + Wait + AllocGlobal + Print + Sync>(rt: &R) -> io::Result<()>
         "{} keys from b to z, more: {}",
         scan.pairs.len(),
         scan.more
-    )
+    )?;
+    read_on(rt, &index, &mut first)
+}
+
+/// Looks two words up by one call, and lists the first words of all by a cursor.
+fn read_on<R: AllocGlobal + Print>(rt: &R, index: &Index, pass: &mut Pass) -> io::Result<()>
+    requires { Owns index.now pass.old }
+{
+    let keys = [key("ash")?, key("elm")?];
+    let mut found = [None; 2];
+    index.get_many(pass, &keys, &mut found);
+    let (ash, elm) = (found[0].is_some(), found[1].is_some());
+    println!(rt; "ash is there: {ash}, elm is there: {elm}")?;
+
+    // The next call of the cursor goes on behind these two.
+    let mut part = Pairs::new(rt.alloc());
+    let mut cursor = Cursor::of_prefix(&key("")?);
+    let more = cursor.next_into(index, pass, 2, &mut part)?;
+    println!(rt; "the first {} keys, more: {}", part.len(), more)
 }
 
 /// A text as a key.
