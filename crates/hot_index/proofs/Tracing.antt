@@ -159,6 +159,20 @@ module _ {G : Type 0} (table : TableView) (becomes : G → Event → G → Type 
     told = ends_told table becomes acts last said a b steps;
   }
 
+  pub told_untold : (a b : PassView × G) → HasTold table becomes a b → HasTold table untold (a.0, tt) (b.0, tt)
+  told_untold a b x = record {
+    acts = x.acts;
+    last = x.last;
+    said = x.said;
+    begins = x.begins;
+    ends = x.ends;
+    steps = all;
+    told = subst (λ (z : PassView). IsTold untold (events_of z.number (x.acts ++ x.last ∷ [])) tt tt) (sym x.begins) (ends_told table untold x.acts x.last x.said (a.0.seat, tt) (b.0.seat, tt) all);
+  }
+    where
+      all : Ends table untold x.acts x.last x.said (a.0.seat, tt) (b.0.seat, tt)
+      all = ((x.steps.0.0, tt), runs_untold x.acts (a.0.seat, a.1) x.steps.0 x.steps.1, step_untold x.last x.said x.steps.0 (b.0.seat, b.1) x.steps.2)
+
   -- a call that only read
   pub read_told : (a b : PassView × G) → HasRead table becomes a b → HasTold table becomes a b
   read_told a b x = record {

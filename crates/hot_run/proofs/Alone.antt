@@ -1,9 +1,9 @@
 -- What the only pass of an index knows: the map of its front is the one that its calls lead to.
-use Rattle.std.proofs.Common.{◌≡◌, ℕ, ◌<◌, List, [], ◌∷◌, ◌++◌, map, flat_map, refl, sym, ap, subst, ◌∙◌, arith}
+use Rattle.std.proofs.Common.{◌≡◌, ℕ, ◌<◌, List, [], ◌∷◌, ◌++◌, map, flat_map, refl, sym, ap, ap₂, subst, ◌∙◌, arith}
 use Rattle.std.specs.List.{All}
 use Rattle.std.proofs.lemmas.List.{map-append, append_cancel_left}
+use Rattle.std.proofs.lemmas.List.Concat.{flat_map-cons}
 use Rattle.std.proofs.lemmas.List.Elements.{All-nil}
-use Rattle.hot_model.specs.declared.Call.{Call}
 use Rattle.hot_model.specs.declared.Note.{Note}
 use Rattle.hot_model.specs.declared.Reply.{Reply as Replied}
 use Rattle.hot_model.specs.declared.Scan.{Scan}
@@ -16,14 +16,15 @@ use Rattle.hot_model.proofs.Firsts.{lawful-scan_of}
 use Rattle.hot_model.proofs.Growth.{begins_same}
 use Rattle.hot_model.proofs.Legal.{legal_at_first}
 use Rattle.hot_model.proofs.Steps.{map_after_all-push, replies_of-push}
+use Rattle.rowex_core.specs.declared.event.Event.{Event}
 use Rattle.rowex_table.specs.Seats.{TableView}
+use Rattle.hot_scripts.specs.Meaning.{line, reply_text}
 use Rattle.hot_index.specs.Answers.{IsScanned, IsUnnoted}
 use Rattle.hot_index.specs.Passes.{PassView, AreByPasses, IsNewPass}
-use Rattle.hot_run.specs.declared.engine.Answer.TheVariants.{Reply, Full as Refused}
-use Rattle.hot_run.specs.Progress.{AreTold, IsCalled}
-use Rattle.hot_run.specs.Scripts.{Answered, called, refused, listed, command_of, lines_of_answer}
-use Rattle.hot_run.specs.Runs.{Answers}
-use Rattle.hot_run.proofs.Answering.{Answers-none, Answers-call, Answers-scan}
+use Rattle.hot_run.specs.Answers.{Answered, called, refused, listed, full_text, lines_of_answer}
+use Rattle.hot_run.specs.Runs.{text_told}
+use Rattle.hot_run.specs.Told.{AreTold, IsCalled}
+use Rattle.hot_run.proofs.Answering.{lines_of_scan}
 
 -- The index has one pass, and this is it: all that it knows of are its own changes, and its calls are legal.
 pub record IsAlone (index : TableView) (pass : PassView) : Type 0 where
@@ -108,13 +109,20 @@ module _ (index : TableView) where
           (lawful-scan_of j.front from upto limit scan (subst (λ f. IsLawfulScan f j.front from upto limit scan) still n.lawful))
 
   -- what its commands are answered
-  pub told_alone : (k j : PassView) → IsAlone index k → (answers : List Answered) → AreTold index.layout k answers j
-      → Answers (map_of k.front) (map command_of answers) (flat_map lines_of_answer answers)
-  told_alone k j h [] told = Answers-none (map_of k.front)
-  told_alone k j h (called note ∷ answers) (m, c, rest) =
-      Answers-call _ _ note.call (Reply note.reply) _ _ (replied_alone k m h note c) (told_alone m j (alone_called k m h note c) answers rest)
-  told_alone k j h (refused call full ∷ answers) (m, (may, u), rest) =
-      Answers-call _ _ call (Refused full) _ _ (may, same_unnoted k m h u.unnoted) (told_alone m j (alone_unnoted k m h u.unnoted) answers rest)
-  told_alone k j h (listed range scan before after ∷ answers) (m, (s, first, last), rest) =
-      Answers-scan _ _ range scan _ _ (first_alone k m h range.from range.upto range.limit scan s) (same_scanned k m h range.from range.upto range.limit scan s)
-      (told_alone m j (alone_scanned k m h range.from range.upto range.limit scan s) answers rest)
+  pub told_alone : {G : Type 0} (becomes : G → Event → G → Type 0) (a b : PassView × G) → IsAlone index a.0 → (answers : List Answered)
+      → AreTold index becomes a answers b → flat_map lines_of_answer answers ≡ text_told (map_of a.0.front) answers
+  told_alone becomes a b h [] told = refl
+  told_alone becomes a b h (called note ∷ answers) (m, c, steps, rest) =
+      let replied = replied_alone a.0 m.0 h note c in
+      flat_map-cons lines_of_answer (called note) answers
+      ∙ ap₂ (λ reply text. line (reply_text reply) ++ text) replied.0
+      (told_alone becomes m b (alone_called a.0 m.0 h note c) answers rest ∙ ap (λ n. text_told n answers) replied.1)
+  told_alone becomes a b h (refused call full ∷ answers) (m, (may, u), steps, rest) =
+      flat_map-cons lines_of_answer (refused call full) answers
+      ∙ ap (λ text. line (full_text full) ++ text)
+      (told_alone becomes m b (alone_unnoted a.0 m.0 h u.unnoted) answers rest ∙ ap (λ n. text_told n answers) (same_unnoted a.0 m.0 h u.unnoted))
+  told_alone becomes a b h (listed range scan before after ∷ answers) (m, (s, first, last), steps, rest) =
+      flat_map-cons lines_of_answer (listed range scan before after) answers
+      ∙ ap₂ (λ lines text. lines ++ text) (lines_of_scan (map_of a.0.front) range scan (first_alone a.0 m.0 h range.from range.upto range.limit scan s))
+      (told_alone becomes m b (alone_scanned a.0 m.0 h range.from range.upto range.limit scan s) answers rest
+      ∙ ap (λ n. text_told n answers) (same_scanned a.0 m.0 h range.from range.upto range.limit scan s))

@@ -1,10 +1,11 @@
 -- Scripts that run at the same time and meet: their answers are lawful together.
 use Rattle.std.proofs.Common.{◌≡◌, ◌≢◌, ℕ, suc, ◌+◌, ◌≤◌, ◌<◌, List, [], ◌∷◌, ◌++◌, length, map, true, false, cond, Bool, refl, sym, ap, ap₂, subst, ◌∙◌, arith, append_assoc, append-nil, eqb}
 use Rattle.std.specs.Prelude.{codes}
-use Rattle.std.specs.List.{All}
+use Rattle.std.specs.List.{All, zip}
 use Rattle.std.proofs.lemmas.Bool.{eq-eqb}
 use Rattle.std.proofs.lemmas.List.{append_cancel_left, length-map}
 use Rattle.std.proofs.lemmas.List.Elements.{All-nil, All-cons, All-weaker, filter-append}
+use Rattle.std.proofs.lemmas.Slice.Zip.{seconds-zip}
 use Rattle.hot_model.specs.declared.Change.{Change}
 use Rattle.hot_model.specs.declared.Note.{Note}
 use Rattle.hot_model.specs.Calls.{LegalCalls, own_changes}
@@ -12,15 +13,18 @@ use Rattle.hot_model.specs.Fronts.{BeginsWith}
 use Rattle.hot_model.specs.Weaves.{AllLegal}
 use Rattle.hot_model.proofs.Growth.{begins_itself, begins_on, legal_front_part}
 use Rattle.hot_model.proofs.Legal.{legal_at_first, legal_longer}
+use Rattle.rowex_core.specs.declared.event.Event.{Event}
 use Rattle.rowex_table.specs.Seats.{TableView}
-use Rattle.hot_index.specs.Passes.{PassView, AreByPasses, IsNewPass}
+use Rattle.hot_index.specs.Passes.{PassView, AreByPasses, IsNewPass, Owns}
+use Rattle.hot_index.specs.Traces.{untold}
 use Rattle.hot_scripts.specs.declared.command.Command.{Command}
 use Rattle.hot_run.specs.declared.together.Done.{Done}
 use Rattle.hot_scripts.specs.Meaning.{line}
 use Rattle.hot_run.specs.Progress.{AllThree, HasRun, IsDone, IsFirst, MeetInTurn}
-use Rattle.hot_run.specs.Scripts.{AllFrom, IsLegalRun, LawfulAnswers, Ran, by_pass, commands_in, notes_in, sections, text_in}
-use Rattle.hot_run.proofs.Numbered.{AllFrom-append}
-use Rattle.hot_run.proofs.Progressing.{stand_lower, told_stood}
+use Rattle.hot_run.specs.Scripts.{AllFrom, AllTwoFrom, AreAllAnswered, IsLegalRun, LawfulScripts, Ran, by_pass, commands_in, notes_in, sections, text_in}
+use Rattle.hot_run.specs.Told.{IsOfSize, WasTold}
+use Rattle.hot_run.proofs.Numbered.{AllFrom-append, first_with}
+use Rattle.hot_run.proofs.Progressing.{AreTold-untold, stand_lower, told_stood}
 
 -- Calls between two fronts
 
@@ -109,7 +113,7 @@ module _ (index : TableView) where
   -- The scripts of files
 
   -- A script that a new pass ran.
-  record RanFirst (q : ℕ) (commands : List Command) (j : PassView) (text : List ℕ) : Type 0 where
+  record RanFirst {G : Type 0} (becomes : G → Event → G → Type 0) (q : ℕ) (gate : G) (commands : List Command) (j : PassView) (text : List ℕ) : Type 0 where
     pub ran : Ran
     pub front : ran.front ≡ j.front
     pub commands_are : commands_in ran ≡ commands
@@ -117,6 +121,7 @@ module _ (index : TableView) where
     pub number : j.number ≡ q
     pub notes : j.notes ≡ notes_in ran
     pub run : IsLegalRun q 0 ran
+    pub told : WasTold index becomes q gate [] ran.answers ran.front
 
   new_legal : (q : ℕ) (p : PassView) → IsNewPass q p → LegalCalls p.front p.number p.notes
   new_legal q p new = rw (new.1, new.2) (legal_at_first p.number)
@@ -124,10 +129,13 @@ module _ (index : TableView) where
   new_makers : (q : ℕ) (p : PassView) → IsNewPass q p → AreByPasses index.layout p.front
   new_makers q p new = rw new.1 (All-nil (λ x. x.pass < index.layout.passes))
 
-  first_run : (q : ℕ) (p j : PassView) (commands : List Command) (text : List ℕ) → IsNewPass q p → HasRun index.layout p commands j text
-      → RanFirst q commands j text
-  first_run q p j commands text new run =
-      let stood = told_stood index.layout p j run.answers (new_legal q p new) (new_makers q p new) run.told in
+  first_run : {G : Type 0} (becomes : G → Event → G → Type 0) (q : ℕ) (a b : PassView × G) (commands : List Command) (text : List ℕ)
+      → IsFirst index q a.0 → HasRun index becomes a commands b text → RanFirst becomes q a.1 commands b.0 text
+  first_run becomes q a b commands text first run =
+      let p = a.0 in
+      let j = b.0 in
+      let new = first.1 in
+      let stood = told_stood index becomes a b run.answers (new_legal q p new) (new_makers q p new) run.told in
       let ran : Ran = record { answers = run.answers; front = j.front } in
       let number : j.number ≡ q = stood.number ∙ new.0 in
       let notes : j.notes ≡ notes_in ran = stood.notes ∙ ap (λ ns. ns ++ notes_in ran) new.2 in
@@ -140,43 +148,56 @@ module _ (index : TableView) where
         notes = notes;
         run = record {
           legal = subst (λ n. LegalCalls j.front n (notes_in ran)) number (subst (λ ns. LegalCalls j.front j.number ns) notes stood.legal);
-          stand = stand_lower index.layout j.front 0 (length p.front) run.answers (omega arith) stood.stand;
+          stand = stand_lower index becomes j.front 0 (length p.front) run.answers (omega arith) stood.stand;
+        };
+        told = record {
+          first = p;
+          last = j;
+          gate_then = b.1;
+          own = first.0;
+          number = new.0;
+          begins = new.1;
+          ends = refl;
+          told = run.told;
         };
       }
 
   -- The scripts of files, the first with the pass q, that all met before the last script and again after it.
-  pub record HaveRun (met last : List Change) (q : ℕ) (scripts : List (List Command)) (texts : List (List ℕ)) : Type 0 where
+  pub record HaveRun {G : Type 0} (becomes : G → Event → G → Type 0) (gates : List G) (met last : List Change) (q : ℕ)
+      (scripts : List (List Command)) (texts : List (List ℕ)) : Type 0 where
     pub rans : List Ran
     pub commands : map commands_in rans ≡ scripts
     pub texts_are : map text_in rans ≡ texts
     pub each : AllFrom q (λ q ran. IsLegalRun q 0 ran) rans
     pub begins : All (λ ran. BeginsWith met ran.front) rans
     pub shared : AllFrom q (λ q ran. LegalCalls last q (notes_in ran)) rans
+    pub told : AllTwoFrom q (λ q gate ran. WasTold index becomes q gate [] ran.answers ran.front) gates rans
 
-  pub files_have_run : (last : List Change) (q : ℕ) (passes : List PassView) (scripts : List (List Command)) (done met again : List Done) (k j k' j' : PassView)
-      → AllFrom q (IsFirst index) passes → AllThree (IsDone index) passes scripts done
+  pub files_have_run : {G : Type 0} (becomes : G → Event → G → Type 0) (last : List Change) (q : ℕ) (seats : List (PassView × G)) (scripts : List (List Command)) (done met again : List Done) (k j k' j' : PassView)
+      → AllFrom q (λ q a. IsFirst index q a.0) seats → AllThree (IsDone index becomes) seats scripts done
       → MeetInTurn index k done j met → MeetInTurn index k' met j' again
       → BeginsWith last j.front → BeginsWith k'.front last
-      → HaveRun j.front last q scripts (map (λ d. d.text.items) again)
-  files_have_run last q [] [] [] [] [] k j k' j' new run first second b e = record {
+      → HaveRun becomes (map (λ a. a.1) seats) j.front last q scripts (map (λ d. d.text.items) again)
+  files_have_run becomes last q [] [] [] [] [] k j k' j' new run first second b e = record {
     rans = [];
     commands = refl;
     texts_are = refl;
     each = tt;
     begins = All-nil (λ ran. BeginsWith j.front ran.front);
     shared = tt;
+    told = tt;
   }
-  files_have_run last q [] [] [] [] (x ∷ again) k j k' j' new run first second b e = absurd second
-  files_have_run last q [] [] [] (x ∷ met) again k j k' j' new run first second b e = absurd first
-  files_have_run last q [] [] (x ∷ done) met again k j k' j' new run first second b e = absurd run
-  files_have_run last q [] (x ∷ scripts) done met again k j k' j' new run first second b e = absurd run
-  files_have_run last q (x ∷ passes) [] done met again k j k' j' new run first second b e = absurd run
-  files_have_run last q (x ∷ passes) (y ∷ scripts) [] met again k j k' j' new run first second b e = absurd run
-  files_have_run last q (x ∷ passes) (y ∷ scripts) (z ∷ done) [] again k j k' j' new run first second b e = absurd first
-  files_have_run last q (x ∷ passes) (y ∷ scripts) (z ∷ done) (w ∷ met) [] k j k' j' new run first second b e = absurd second
-  files_have_run last q (p ∷ passes) (commands ∷ scripts) (d ∷ done) (a ∷ met) (f ∷ again) k j k' j' new run (m, one, same, first) (m', two, same', second) b e =
-      let ran = first_run q p d.pass commands d.text.items new.0.1 run.0.1 in
-      let others = files_have_run last (q + 1) passes scripts done met again m j m' j' new.1 run.1 first second b
+  files_have_run becomes last q [] [] [] [] (x ∷ again) k j k' j' new run first second b e = absurd second
+  files_have_run becomes last q [] [] [] (x ∷ met) again k j k' j' new run first second b e = absurd first
+  files_have_run becomes last q [] [] (x ∷ done) met again k j k' j' new run first second b e = absurd run
+  files_have_run becomes last q [] (x ∷ scripts) done met again k j k' j' new run first second b e = absurd run
+  files_have_run becomes last q (x ∷ seats) [] done met again k j k' j' new run first second b e = absurd run
+  files_have_run becomes last q (x ∷ seats) (y ∷ scripts) [] met again k j k' j' new run first second b e = absurd run
+  files_have_run becomes last q (x ∷ seats) (y ∷ scripts) (z ∷ done) [] again k j k' j' new run first second b e = absurd first
+  files_have_run becomes last q (x ∷ seats) (y ∷ scripts) (z ∷ done) (w ∷ met) [] k j k' j' new run first second b e = absurd second
+  files_have_run becomes last q (p ∷ seats) (commands ∷ scripts) (d ∷ done) (a ∷ met) (f ∷ again) k j k' j' new run (m, one, same, first) (m', two, same', second) b e =
+      let ran = first_run becomes q p (d.pass, run.0.1.0) commands d.text.items new.0 run.0.1.1 in
+      let others = files_have_run becomes last (q + 1) seats scripts done met again m j m' j' new.1 run.1 first second b
       (begins_on last k'.front m'.front e two.first.front) in
       let seen : BeginsWith j.front d.pass.front =
       begins_on d.pass.front m.front j.front (subst (λ cs. BeginsWith cs d.pass.front) (sym one.fronts) one.second.front) (met_begins m j done met first) in
@@ -193,40 +214,94 @@ module _ (index : TableView) where
         each = (ran.run, others.each);
         begins = All-cons (λ (ran : Ran). BeginsWith j.front ran.front) ran.ran others.rans (subst (λ cs. BeginsWith j.front cs) (sym ran.front) seen) others.begins;
         shared = (legal_between d.pass.front last f.pass.front q (notes_in ran.ran) begin end (begins_on d.pass.front j.front last seen b) later, others.shared);
+        told = (ran.told, others.told);
       }
 
   -- All scripts
 
-  pub lawful_together : (passes : List PassView) (scripts : List (List Command)) (commands : List Command) (done met again : List Done)
-      (pass k j l : PassView) (text : List ℕ)
-      → index.layout.passes ≡ length scripts + 1
+  pub lawful_together : {G : Type 0} (becomes : G → Event → G → Type 0) (passes : List PassView) (gates : List G) (scripts : List (List Command))
+      (commands : List Command) (done met again : List Done) (pass k j l : PassView) (text : List ℕ) (nodes leaves : ℕ)
+      → IsOfSize (length scripts + 1) nodes leaves index → length gates ≡ length passes
       → AllFrom 0 (IsFirst index) passes → IsFirst index (length scripts) pass
-      → AllThree (IsDone index) passes scripts done → MeetInTurn index pass done k met
-      → HasRun index.layout k commands j text → MeetInTurn index j met l again
-      → LawfulAnswers scripts commands (sections 1 (map (λ d. d.text.items) again) ++ line (codes "last") ++ text)
-  lawful_together passes scripts commands done met again pass k j l text count new last run first ran second =
+      → AllThree (IsDone index becomes) (zip passes gates) scripts done → MeetInTurn index pass done k met
+      → Owns index k → HasRun index untold (k, tt) commands (j, tt) text → MeetInTurn index j met l again
+      → AreAllAnswered nodes leaves becomes gates scripts commands (sections 1 (map (λ d. d.text.items) again) ++ line (codes "last") ++ text)
+  lawful_together becomes passes gates scripts commands done met again pass k j l text nodes leaves sized many_gates new last run first own ran second =
       let kept = met_kept pass k done met (new_legal _ pass last.1) (new_makers _ pass last.1) first in
-      let stood = told_stood index.layout k j ran.answers kept.legal kept.makers ran.told in
+      let stood = told_stood index untold (k, tt) (j, tt) ran.answers kept.legal kept.makers ran.told in
       let whole : Ran = record { answers = ran.answers; front = j.front } in
       let notes : j.notes ≡ notes_in whole = stood.notes ∙ ap (λ ns. ns ++ notes_in whole) (kept.notes ∙ last.1.2) in
-      let number : j.number ≡ length scripts = stood.number ∙ kept.number ∙ last.1.0 in
+      let began : k.number ≡ length scripts = kept.number ∙ last.1.0 in
+      let number : j.number ≡ length scripts = stood.number ∙ began in
       let legal : LegalCalls j.front (length scripts) (notes_in whole) =
       subst (λ n. LegalCalls j.front n (notes_in whole)) number (subst (λ ns. LegalCalls j.front j.number ns) notes stood.legal) in
-      let files = files_have_run j.front 0 passes scripts done met again pass k j l new run first second stood.front (begins_itself j.front) in
+      let files = files_have_run becomes j.front 0 (zip passes gates) scripts done met again pass k j l (first_with index 0 passes gates new) run first second
+      stood.front (begins_itself j.front) in
       let many : length files.rans ≡ length scripts = sym (length-map files.rans commands_in) ∙ ap length files.commands in
       let at : length scripts ≡ 0 + length files.rans = omega (arith, many) in
       record {
-        files_ran = files.rans;
-        last_ran = whole;
-        met = k.front;
-        commands = files.commands;
-        last_commands = ran.commands_are;
-        each = files.each;
-        begins = files.begins;
-        last_begins = stood.front;
-        last_legal = record { legal = legal; stand = stood.stand };
-        shared = all_legal j.front 0 (files.rans ++ whole ∷ [])
-            (AllFrom-append (λ q ran. LegalCalls j.front q (notes_in ran)) 0 files.rans (whole ∷ []) files.shared (subst (λ n. LegalCalls j.front n (notes_in whole)) at legal, tt));
-        makers = All-weaker (λ c. c.pass < index.layout.passes) (λ c. c.pass ≤ length scripts) (λ c below. omega (arith, below, count)) j.front stood.makers;
-        text_is = ap₂ (λ files text. sections 1 files ++ line (codes "last") ++ text) (sym files.texts_are) ran.text_is;
+        lawful = record {
+          files_ran = files.rans;
+          last_ran = whole;
+          met = k.front;
+          commands = files.commands;
+          last_commands = ran.commands_are;
+          each = files.each;
+          begins = files.begins;
+          last_begins = stood.front;
+          last_legal = record { legal = legal; stand = stood.stand };
+          shared = all_legal j.front 0 (files.rans ++ whole ∷ [])
+              (AllFrom-append (λ q ran. LegalCalls j.front q (notes_in ran)) 0 files.rans (whole ∷ []) files.shared (subst (λ n. LegalCalls j.front n (notes_in whole)) at legal, tt));
+          makers = All-weaker (λ c. c.pass < index.layout.passes) (λ c. c.pass ≤ length scripts) (λ c below. omega (arith, below, sized.passes_are)) j.front stood.makers;
+          text_is = ap₂ (λ files text. sections 1 files ++ line (codes "last") ++ text) (sym files.texts_are) ran.text_is;
+        };
+        index = index;
+        sized = sized;
+        files_told = subst (λ gates. AllTwoFrom 0 (λ q gate ran. WasTold index becomes q gate [] ran.answers ran.front) gates files.rans) (seconds-zip passes gates many_gates) files.told;
+        last_told = record { first = k; last = j; gate_then = tt; own = own; number = began; begins = refl; ends = refl; told = ran.told };
       }
+
+-- Nobody need be told
+
+WasTold-untold : {G : Type 0} (index : TableView) (becomes : G → Event → G → Type 0) (q : ℕ) (gate : G) (ran : Ran)
+    → WasTold index becomes q gate [] ran.answers ran.front → WasTold index untold q tt [] ran.answers ran.front
+WasTold-untold index becomes q gate ran was = record {
+  first = was.first;
+  last = was.last;
+  gate_then = tt;
+  own = was.own;
+  number = was.number;
+  begins = was.begins;
+  ends = was.ends;
+  told = AreTold-untold index becomes _ _ ran.answers was.told;
+}
+
+files_untold : {G A : Type 0} (index : TableView) (becomes : G → Event → G → Type 0) (first : ℕ) (gates : List G) (files : List A) (rans : List Ran)
+    → length gates ≡ length files
+    → AllTwoFrom first (λ q gate ran. WasTold index becomes q gate [] ran.answers ran.front) gates rans
+    → AllTwoFrom first (λ q gate ran. WasTold index untold q gate [] ran.answers ran.front) (map (λ f. tt) files) rans
+files_untold index becomes first [] [] [] long told = tt
+files_untold index becomes first [] [] (ran ∷ rans) long told = absurd told
+files_untold index becomes first [] (file ∷ files) rans long told = absurd (omega (arith, long))
+files_untold index becomes first (gate ∷ gates) [] rans long told = absurd (omega (arith, long))
+files_untold index becomes first (gate ∷ gates) (file ∷ files) [] long told = absurd told
+files_untold index becomes first (gate ∷ gates) (file ∷ files) (ran ∷ rans) long told =
+    (WasTold-untold index becomes first gate ran told.0, files_untold index becomes (first + 1) gates files rans (omega (arith, long)) told.1)
+
+pub scripts_untold : {G A : Type 0} (nodes leaves : ℕ) (becomes : G → Event → G → Type 0) (gates : List G) (files : List A) (scripts : List (List ℕ)) (script text : List ℕ)
+    → length gates ≡ length files → LawfulScripts nodes leaves becomes gates scripts script text
+    → LawfulScripts nodes leaves untold (map (λ f. tt) files) scripts script text
+scripts_untold nodes leaves becomes gates files scripts script text long h = record {
+  scripts = h.scripts;
+  last = h.last;
+  files_are = h.files_are;
+  short = h.short;
+  last_is = h.last_is;
+  answers = record {
+    lawful = h.answers.lawful;
+    index = h.answers.index;
+    sized = h.answers.sized;
+    files_told = files_untold h.answers.index becomes 0 gates files h.answers.lawful.files_ran long h.answers.files_told;
+    last_told = h.answers.last_told;
+  };
+}

@@ -1,8 +1,9 @@
 -- Lists whose items are numbered, and three lists side by side.
 use Rattle.std.proofs.Common.{◌≡◌, ℕ, suc, ◌+◌, List, [], ◌∷◌, ◌++◌, length, Some, refl, ap, subst, arith}
-use Rattle.std.specs.List.{All, AllZip, slice_get}
+use Rattle.std.specs.List.{All, AllZip, slice_get, zip}
 use Rattle.std.proofs.lemmas.List.Elements.{All-nil, All-cons}
 use Rattle.hot_index.specs.Passes.{PassView, Owns}
+use Rattle.rowex_core.specs.declared.event.Event.{Event}
 use Rattle.rowex_table.specs.Seats.{TableView}
 use Rattle.hot_scripts.specs.declared.command.Command.{Command}
 use Rattle.hot_run.specs.declared.together.Done.{Done}
@@ -44,35 +45,45 @@ module _ (index : TableView) where
   owns_first first [] h = All-nil (Owns index)
   owns_first first (p ∷ passes) h = All-cons (Owns index) p passes h.0.0 (owns_first (first + 1) passes h.1)
 
-  -- and so are those of scripts that have run
-  pub owns_done : (passes : List PassView) (scripts : List (List Command)) (done : List Done) → AllThree (IsDone index) passes scripts done
-      → All (λ d. Owns index d.pass) done
-  owns_done [] [] [] h = All-nil (λ d. Owns index d.pass)
-  owns_done [] [] (x ∷ done) h = absurd h
-  owns_done [] (x ∷ scripts) done h = absurd h
-  owns_done (x ∷ passes) [] done h = absurd h
-  owns_done (x ∷ passes) (y ∷ scripts) [] h = absurd h
-  owns_done (p ∷ passes) (s ∷ scripts) (d ∷ done) h = All-cons (λ d. Owns index d.pass) d done h.0.0 (owns_done passes scripts done h.1)
+  -- and so with gates
+  pub first_with : {G : Type 0} (first : ℕ) (passes : List PassView) (gates : List G) → AllFrom first (IsFirst index) passes
+      → AllFrom first (λ q a. IsFirst index q a.0) (zip passes gates)
+  first_with first [] gates h = tt
+  first_with first (p ∷ passes) [] h = tt
+  first_with first (p ∷ passes) (g ∷ gates) h = (h.0, first_with (first + 1) passes gates h.1)
 
-  pub done_long : (passes : List PassView) (scripts : List (List Command)) (done : List Done) → AllThree (IsDone index) passes scripts done
-      → length done ≡ length passes
-  done_long [] [] [] h = refl
-  done_long [] [] (x ∷ done) h = absurd h
-  done_long [] (x ∷ scripts) done h = absurd h
-  done_long (x ∷ passes) [] done h = absurd h
-  done_long (x ∷ passes) (y ∷ scripts) [] h = absurd h
-  done_long (p ∷ passes) (s ∷ scripts) (d ∷ done) h = ap suc (done_long passes scripts done h.1)
+  module _ {G : Type 0} (becomes : G → Event → G → Type 0) where
+    -- those of scripts that have run are the index's
+    pub owns_done : (seats : List (PassView × G)) (scripts : List (List Command)) (done : List Done) → AllThree (IsDone index becomes) seats scripts done
+        → All (λ d. Owns index d.pass) done
+    owns_done [] [] [] h = All-nil (λ d. Owns index d.pass)
+    owns_done [] [] (x ∷ done) h = absurd h
+    owns_done [] (x ∷ scripts) done h = absurd h
+    owns_done (x ∷ seats) [] done h = absurd h
+    owns_done (x ∷ seats) (y ∷ scripts) [] h = absurd h
+    owns_done (p ∷ seats) (s ∷ scripts) (d ∷ done) h = All-cons (λ d. Owns index d.pass) d done h.0.0 (owns_done seats scripts done h.1)
 
-  -- what the threads did is what they were started for
-  pub all_joined : (passes : List PassView) (scripts : List (List Command)) (orders : List Order) (done : List Done)
-      → AllThree (IsOrderOf index) passes scripts orders → AllZip HasKept orders done → AllThree (IsDone index) passes scripts done
-  all_joined [] [] [] [] h kept = tt
-  all_joined [] [] [] (x ∷ done) h kept = absurd kept
-  all_joined [] [] (x ∷ orders) done h kept = absurd h
-  all_joined [] (x ∷ scripts) orders done h kept = absurd h
-  all_joined (x ∷ passes) [] orders done h kept = absurd h
-  all_joined (x ∷ passes) (y ∷ scripts) [] done h kept = absurd h
-  all_joined (x ∷ passes) (y ∷ scripts) (z ∷ orders) [] h kept = absurd kept
-  all_joined (p ∷ passes) (s ∷ scripts) (o ∷ orders) (d ∷ done) h kept =
-      let first : IsDone index p s d = subst (λ i. IsDone i p s d) h.0.0 (subst (λ p. IsDone o.index.value p s d) h.0.1 (subst (λ s. IsDone o.index.value o.pass.value s d) h.0.2 kept.0)) in
-      (first, all_joined passes scripts orders done h.1 kept.1)
+    pub done_long : (seats : List (PassView × G)) (scripts : List (List Command)) (done : List Done) → AllThree (IsDone index becomes) seats scripts done
+        → length done ≡ length scripts
+    done_long [] [] [] h = refl
+    done_long [] [] (x ∷ done) h = absurd h
+    done_long [] (x ∷ scripts) done h = absurd h
+    done_long (x ∷ seats) [] done h = absurd h
+    done_long (x ∷ seats) (y ∷ scripts) [] h = absurd h
+    done_long (p ∷ seats) (s ∷ scripts) (d ∷ done) h = ap suc (done_long seats scripts done h.1)
+
+    -- what the threads did is what they were started for
+    pub all_joined : (seats : List (PassView × G)) (scripts : List (List Command)) (orders : List (Order G)) (done : List Done)
+        → AllThree (IsOrderOf index) seats scripts orders → AllZip (HasKept becomes) orders done → AllThree (IsDone index becomes) seats scripts done
+    all_joined [] [] [] [] h kept = tt
+    all_joined [] [] [] (x ∷ done) h kept = absurd kept
+    all_joined [] [] (x ∷ orders) done h kept = absurd h
+    all_joined [] (x ∷ scripts) orders done h kept = absurd h
+    all_joined (x ∷ seats) [] orders done h kept = absurd h
+    all_joined (x ∷ seats) (y ∷ scripts) [] done h kept = absurd h
+    all_joined (x ∷ seats) (y ∷ scripts) (z ∷ orders) [] h kept = absurd kept
+    all_joined (a ∷ seats) (s ∷ scripts) (o ∷ orders) (d ∷ done) h kept =
+        let first : IsDone index becomes a s d =
+        subst (λ i. IsDone i becomes a s d) h.0.0 (subst (λ a. IsDone o.index.value becomes a s d) (λ i. (h.0.1 i, h.0.2 i))
+        (subst (λ s. IsDone o.index.value becomes (o.pass.value, o.gate.value) s d) h.0.3 kept.0)) in
+        (first, all_joined seats scripts orders done h.1 kept.1)

@@ -1,7 +1,7 @@
 -- What a pass goes through by commands: its attempts, and where its answers stand in its front.
 use denote.RawPtr.{null_ptr}
 use Rattle.std.specs.Global.{Global}
-use Rattle.std.proofs.Common.{◌≡◌, ◌<◌, ◌^◌, ℕ, Bool, ◌≤◌, le_refl, List, [], ◌∷◌, ◌++◌, length, take, map, filter_map, flat_map, Some, refl, sym, ap, ap₂, subst, ◌∙◌, arith, append_assoc, append-nil, length-append}
+use Rattle.std.proofs.Common.{◌≡◌, ◌<◌, ◌^◌, ℕ, Bool, ◌≤◌, le_refl, List, [], ◌∷◌, ◌++◌, length, take, filter_map, Some, refl, sym, ap, ap₂, subst, ◌∙◌, arith, append_assoc, append-nil, length-append}
 use Rattle.std.proofs.Math.Seq.{take-append_seam}
 use Rattle.std.proofs.lemmas.List.Concat.{flat_map-cons}
 use Rattle.std.proofs.lemmas.List.Elements.{All-pop}
@@ -15,17 +15,22 @@ use Rattle.hot_model.specs.Fronts.{BeginsWith}
 use Rattle.hot_model.proofs.Growth.{begins_itself, begins_on}
 use Rattle.hot_model.proofs.Legal.{place_after-within}
 use Rattle.record_words.specs.declared.layout.Layout.{Layout}
+use Rattle.rowex_core.specs.declared.event.Event.{Event}
+use Rattle.rowex_table.specs.Seats.{TableView}
 use Rattle.hot_index.specs.Answers.{IsListed, IsNoted, IsScanned}
 use Rattle.hot_index.specs.Passes.{PassView, AreByPasses}
+use Rattle.hot_index.specs.Traces.{HasRead, HasTold, untold}
+use Rattle.hot_index.proofs.Tracing.{read_told, told_untold}
 use Rattle.hot_scripts.specs.declared.command.Command.{Command}
 use Rattle.hot_scripts.specs.declared.command.Command.TheVariants.{Call as Asks, Scan as Lists}
 use Rattle.hot_scripts.specs.declared.command.Range.{Range}
 use Rattle.hot_run.specs.declared.engine.Answer.{Answer}
 use Rattle.hot_run.specs.declared.engine.Answer.TheVariants.{Reply, Full as Refused}
 use Rattle.hot_scripts.specs.Meaning.{line, scan_lines}
-use Rattle.hot_run.specs.Progress.{AreTold, HasAnswered, HasRun, IsCalled, IsTold, answered_as}
-use Rattle.hot_run.specs.Runs.{answer_text}
-use Rattle.hot_run.specs.Scripts.{Answered, called, refused, listed, StandFrom, command_of, lines_of_answer, note_of}
+use Rattle.hot_run.specs.Answers.{Answered, called, refused, listed, answer_text, lines_of_answer, note_of}
+use Rattle.hot_run.specs.Progress.{HasAnswered, HasRun, answered_as}
+use Rattle.hot_run.specs.Scripts.{StandFrom}
+use Rattle.hot_run.specs.Told.{AreTold, IsCalled, IsTold}
 
 -- Fronts
 
@@ -53,15 +58,15 @@ called_of layout k j call reply n =
 
 -- Commands
 
-module _ (layout : Layout) where
+module _ {G : Type 0} (index : TableView) (becomes : G → Event → G → Type 0) where
   -- no command, no answer
-  pub HasRun-none : (k : PassView) → HasRun layout k [] k []
-  HasRun-none k = record { answers = []; commands_are = refl; text_is = refl; told = refl }
+  pub HasRun-none : (a : PassView × G) → HasRun index becomes a [] a []
+  HasRun-none a = record { answers = []; commands_are = refl; text_is = refl; told = refl }
 
-  module _ (k m j : PassView) (commands : List Command) (rest : List ℕ) (ran : HasRun layout m commands j rest) where
+  module _ (a m b : PassView × G) (commands : List Command) (rest : List ℕ) (ran : HasRun index becomes m commands b rest) where
     -- a command, and then the others
-    pub HasRun-more : (command : Command) (before after : List ℕ) → HasAnswered layout k command m before after
-        → (lines : List ℕ) × (after ≡ before ++ lines) × HasRun layout k (command ∷ commands) j (lines ++ rest)
+    pub HasRun-more : (command : Command) (before after : List ℕ) → HasAnswered index becomes a command m before after
+        → (lines : List ℕ) × (after ≡ before ++ lines) × HasRun index becomes a (command ∷ commands) b (lines ++ rest)
     HasRun-more command before after is = (
       lines_of_answer is.answer,
       is.text_is,
@@ -69,35 +74,54 @@ module _ (layout : Layout) where
         answers = is.answer ∷ ran.answers;
         commands_are = ap₂ (λ c cs. c ∷ cs) is.command_is ran.commands_are;
         text_is = ap (λ more. lines_of_answer is.answer ++ more) ran.text_is ∙ sym (flat_map-cons lines_of_answer is.answer ran.answers);
-        told = (m, is.told, ran.told);
+        told = (m, is.told, is.steps, ran.told);
       },
     )
 
+  -- nobody need be told
+  pub AreTold-untold : (a b : PassView × G) (answers : List Answered) → AreTold index becomes a answers b
+      → AreTold index untold (a.0, tt) answers (b.0, tt)
+  AreTold-untold a b [] told = ap (λ (c : PassView × G). (c.0, tt)) told
+  AreTold-untold a b (answer ∷ answers) (m, is, steps, rest) =
+      ((m.0, tt), is, told_untold index becomes a m steps, AreTold-untold m b answers rest)
+
+  pub HasRun-untold : (a b : PassView × G) (commands : List Command) (text : List ℕ) → HasRun index becomes a commands b text
+      → HasRun index untold (a.0, tt) commands (b.0, tt) text
+  HasRun-untold a b commands text ran = record {
+    answers = ran.answers;
+    commands_are = ran.commands_are;
+    text_is = ran.text_is;
+    told = AreTold-untold a b ran.answers ran.told;
+  }
+
   -- a call that was answered so
-  pub HasAnswered-call : (k m : PassView) (call : Call) (answer : Answer) (place : ℕ) (before after : List ℕ)
-      → IsTold layout k (answered_as call answer place) m → after ≡ before ++ line (answer_text answer)
-      → HasAnswered layout k (Asks call) m before after
-  HasAnswered-call k m call (Reply reply) place before after told text = record {
+  pub HasAnswered-call : (a m : PassView × G) (call : Call) (answer : Answer) (place : ℕ) (before after : List ℕ)
+      → IsTold index.layout a.0 (answered_as call answer place) m.0 → HasTold index becomes a m → after ≡ before ++ line (answer_text answer)
+      → HasAnswered index becomes a (Asks call) m before after
+  HasAnswered-call a m call (Reply reply) place before after told steps text = record {
     answer = called (record { place = place; call = call; reply = reply });
     command_is = refl;
     told = told;
+    steps = steps;
     text_is = text;
   }
-  HasAnswered-call k m call (Refused full) place before after told text = record {
+  HasAnswered-call a m call (Refused full) place before after told steps text = record {
     answer = refused call full;
     command_is = refl;
     told = told;
+    steps = steps;
     text_is = text;
   }
 
   -- a scan that was answered so
-  pub HasAnswered-scan : (k m : PassView) (range : Range) (scan : Scan) (before after : List ℕ)
-      → IsScanned layout k m range.from range.upto range.limit scan → after ≡ before ++ scan_lines scan.pairs.items scan.more
-      → HasAnswered layout k (Lists range) m before after
-  HasAnswered-scan k m range scan before after is text = record {
-    answer = listed range scan (length m.fresh.front) (length m.front);
+  pub HasAnswered-scan : (a m : PassView × G) (range : Range) (scan : Scan) (before after : List ℕ)
+      → IsScanned index.layout a.0 m.0 range.from range.upto range.limit scan → HasRead index becomes a m
+      → after ≡ before ++ scan_lines scan.pairs.items scan.more → HasAnswered index becomes a (Lists range) m before after
+  HasAnswered-scan a m range scan before after is read text = record {
+    answer = listed range scan (length m.0.fresh.front) (length m.0.front);
     command_is = refl;
     told = (is, refl, refl);
+    steps = read_told index becomes a m read;
     text_is = text;
   }
 
@@ -109,11 +133,12 @@ module _ (layout : Layout) where
   }
 
   -- a scan into a list that was answered so
-  pub HasAnswered-list : Global → (k m : PassView) (range : Range) (pairs : List (List ℕ × ℕ)) → length pairs < 2 ^ 63 → (more : Bool) (before after : List ℕ)
-      → IsListed layout k m range.from range.upto range.limit pairs more → after ≡ before ++ scan_lines pairs more → HasAnswered layout k (Lists range) m before after
-  HasAnswered-list alloc k m range pairs short more before after is text =
+  pub HasAnswered-list : Global → (a m : PassView × G) (range : Range) (pairs : List (List ℕ × ℕ)) → length pairs < 2 ^ 63 → (more : Bool) (before after : List ℕ)
+      → IsListed index.layout a.0 m.0 range.from range.upto range.limit pairs more → HasRead index becomes a m → after ≡ before ++ scan_lines pairs more
+      → HasAnswered index becomes a (Lists range) m before after
+  HasAnswered-list alloc a m range pairs short more before after is read text =
       let scan = scan_of alloc pairs short more in
-      HasAnswered-scan k m range scan before after (record { on = is.on; notes = is.notes; lawful = is.lawful scan refl refl; legal = is.legal }) text
+      HasAnswered-scan a m range scan before after (record { on = is.on; notes = is.notes; lawful = is.lawful scan refl refl; legal = is.legal }) read text
 
   -- Where answers stand
 
@@ -131,17 +156,18 @@ module _ (layout : Layout) where
     pub front : BeginsWith j.front k.front
     pub notes : j.notes ≡ k.notes ++ filter_map note_of answers
     pub legal : LegalCalls j.front j.number j.notes
-    pub makers : AreByPasses layout j.front
+    pub makers : AreByPasses index.layout j.front
     pub stand : StandFrom j.front (length k.front) answers
 
   -- the note of a call ends within the front
-  note_within : (k m : PassView) (note : Note) → IsCalled layout k m note → place_after note ≤ length m.front
+  note_within : (k m : PassView) (note : Note) → IsCalled index.layout k m note → place_after note ≤ length m.front
   note_within k m note c =
       place_after-within m.front m.number note (All-pop (StandsIn m.front m.number) m.notes k.notes (Some note) c.notes c.legal.each).1
 
-  pub told_stood : (k j : PassView) (answers : List Answered) → LegalCalls k.front k.number k.notes → AreByPasses layout k.front
-      → AreTold layout k answers j → HasStood k answers j
-  told_stood k j [] legal makers told =
+  pub told_stood : (a b : PassView × G) (answers : List Answered) → LegalCalls a.0.front a.0.number a.0.notes → AreByPasses index.layout a.0.front
+      → AreTold index becomes a answers b → HasStood a.0 answers b.0
+  told_stood a b [] legal makers told =
+      let k = a.0 in
       let all : HasStood k [] k = record {
         number = refl;
         front = begins_itself k.front;
@@ -150,9 +176,12 @@ module _ (layout : Layout) where
         makers = makers;
         stand = tt;
       } in
-      subst (HasStood k []) (sym told) all
-  told_stood k j (called note ∷ answers) legal makers (m, c, rest) =
-      let later = told_stood m j answers c.legal c.makers rest in record {
+      subst (λ (c : PassView × G). HasStood k [] c.0) (sym told) all
+  told_stood a b (called note ∷ answers) legal makers (n, c, steps, rest) =
+      let k = a.0 in
+      let m = n.0 in
+      let j = b.0 in
+      let later = told_stood n b answers c.legal c.makers rest in record {
         number = later.number ∙ c.number;
         front = begins_on k.front m.front j.front c.front later.front;
         notes = later.notes ∙ ap (λ ns. ns ++ filter_map note_of answers) c.notes ∙ append_assoc k.notes (note ∷ []) (filter_map note_of answers);
@@ -160,8 +189,11 @@ module _ (layout : Layout) where
         makers = later.makers;
         stand = (c.low, stand_lower j.front (place_after note) (length m.front) answers (note_within k m note c) later.stand);
       }
-  told_stood k j (refused call full ∷ answers) legal makers (m, (may, u), rest) =
-      let later = told_stood m j answers u.unnoted.legal u.unnoted.makers rest in record {
+  told_stood a b (refused call full ∷ answers) legal makers (n, (may, u), steps, rest) =
+      let k = a.0 in
+      let m = n.0 in
+      let j = b.0 in
+      let later = told_stood n b answers u.unnoted.legal u.unnoted.makers rest in record {
         number = later.number ∙ u.unnoted.number;
         front = begins_on k.front m.front j.front u.unnoted.front later.front;
         notes = later.notes ∙ ap (λ ns. ns ++ filter_map note_of answers) u.unnoted.notes;
@@ -169,8 +201,11 @@ module _ (layout : Layout) where
         makers = later.makers;
         stand = (may, stand_lower j.front (length k.front) (length m.front) answers (begins_length m.front k.front u.unnoted.front) later.stand);
       }
-  told_stood k j (listed range scan before after ∷ answers) legal makers (m, (s, first, last), rest) =
-      let later = told_stood m j answers s.legal s.on.makers rest in
+  told_stood a b (listed range scan before after ∷ answers) legal makers (n, (s, first, last), steps, rest) =
+      let k = a.0 in
+      let m = n.0 in
+      let j = b.0 in
+      let later = told_stood n b answers s.legal s.on.makers rest in
       let short = take_begins j.front m.fresh.front (begins_on m.fresh.front m.front j.front s.on.seen later.front) in
       let long = take_begins j.front m.front later.front in
       let low = begins_length m.fresh.front k.front s.on.fresh in

@@ -1,13 +1,11 @@
--- What a pass of an index goes through by the commands of a script.
-use Rattle.std.specs.Prelude.{◌≡◌, ℕ, ◌≤◌, ◌++◌, All, List, [], ◌∷◌, length, map, flat_map, codes}
+-- What the functions of a run leave: what a pass goes through by commands, and the threads of scripts.
+use Rattle.std.specs.Prelude.{◌≡◌, ℕ, ◌++◌, All, List, [], ◌∷◌, length, map, flat_map, codes}
 use Rattle.hot_model.specs.declared.Call.{Call}
-use Rattle.hot_model.specs.declared.Note.{Note}
-use Rattle.hot_model.specs.Calls.{LegalCalls}
-use Rattle.hot_model.specs.Fronts.{BeginsWith}
-use Rattle.record_words.specs.declared.layout.Layout.{Layout}
+use Rattle.rowex_core.specs.declared.event.Event.{Event}
 use Rattle.rowex_table.specs.Seats.{TableView}
-use Rattle.hot_index.specs.Answers.{HaveMet, IsRefused, IsScanned, MayLack, fault_of}
-use Rattle.hot_index.specs.Passes.{PassView, AreByPasses, IsNewPass, Owns}
+use Rattle.hot_index.specs.Answers.{HaveMet}
+use Rattle.hot_index.specs.Passes.{PassView, IsNewPass, Owns}
+use Rattle.hot_index.specs.Traces.{HasTold, untold}
 use Rattle.hot_scripts.specs.declared.command.Command.{Command}
 use Rattle.hot_scripts.specs.Meaning.{line}
 use Rattle.hot_scripts.specs.Parses.{script_commands}
@@ -15,47 +13,31 @@ use Rattle.hot_run.specs.declared.engine.Answer.{Answer}
 use Rattle.hot_run.specs.declared.engine.Answer.TheVariants.{Reply, Full as Refused}
 use Rattle.hot_run.specs.declared.together.Done.{Done}
 use Rattle.hot_run.specs.declared.together.Order.{Order}
-use Rattle.hot_run.specs.Scripts.{Answered, called, refused, listed, command_of, lines_of_answer, sections}
-
--- The pass has made a call, which stands behind all that it had seen before.
-pub record IsCalled (layout : Layout) (k j : PassView) (note : Note) : Type 0 where
-  pub number : j.number ≡ k.number
-  pub front : BeginsWith j.front k.front
-  pub notes : j.notes ≡ k.notes ++ note ∷ []
-  pub low : length k.front ≤ note.place
-  pub legal : LegalCalls j.front j.number j.notes
-  pub makers : AreByPasses layout j.front
-
--- the pass was told this answer to a command
-abbrev pub IsTold : Layout → PassView → Answered → PassView → Type 0
-IsTold layout k (called note) j = IsCalled layout k j note
-IsTold layout k (refused call full) j = MayLack call full × IsRefused layout call k j (fault_of full)
-IsTold layout k (listed range scan before after) j =
-    IsScanned layout k j range.from range.upto range.limit scan × (before ≡ length j.fresh.front) × (after ≡ length j.front)
-
--- and these answers, one after another
-abbrev pub AreTold : Layout → PassView → List Answered → PassView → Type 0
-AreTold layout k [] j = j ≡ k
-AreTold layout k (answer ∷ answers) j = (m : PassView) × IsTold layout k answer m × AreTold layout m answers j
+use Rattle.hot_run.specs.Answers.{Answered, called, refused, command_of, lines_of_answer}
+use Rattle.hot_run.specs.Scripts.{sections}
+use Rattle.hot_run.specs.Told.{AreTold, IsTold}
 
 -- a call that was answered so, if it was, at this place
 abbrev pub answered_as : Call → Answer → ℕ → Answered
 answered_as call (Reply reply) place = called (record { place = place; call = call; reply = reply })
 answered_as call (Refused full) place = refused call full
 
--- The pass was told the answer to this command, whose lines follow the text that stood before.
-pub record HasAnswered (layout : Layout) (k : PassView) (command : Command) (j : PassView) (before after : List ℕ) : Type 0 where
+-- The pass was told the answer to this command, and its gate the steps; the answer's lines follow the text that stood before.
+pub record HasAnswered {G : Type 0} (index : TableView) (becomes : G → Event → G → Type 0) (a : PassView × G) (command : Command) (b : PassView × G)
+    (before after : List ℕ) : Type 0 where
   pub answer : Answered
   pub command_is : command_of answer ≡ command
-  pub told : IsTold layout k answer j
+  pub told : IsTold index.layout a.0 answer b.0
+  pub steps : HasTold index becomes a b
   pub text_is : after ≡ before ++ lines_of_answer answer
 
 -- The pass made these commands, one after another, and the text has the answers to them.
-pub record HasRun (layout : Layout) (k : PassView) (commands : List Command) (j : PassView) (text : List ℕ) : Type 0 where
+pub record HasRun {G : Type 0} (index : TableView) (becomes : G → Event → G → Type 0) (a : PassView × G) (commands : List Command) (b : PassView × G)
+    (text : List ℕ) : Type 0 where
   pub answers : List Answered
   pub commands_are : map command_of answers ≡ commands
   pub text_is : text ≡ flat_map lines_of_answer answers
-  pub told : AreTold layout k answers j
+  pub told : AreTold index becomes a answers b
 
 -- a new pass of this number, of the index
 abbrev pub IsFirst : TableView → ℕ → PassView → Type 0
@@ -65,17 +47,19 @@ IsFirst index q pass = Owns index pass × IsNewPass q pass
 abbrev pub AreReady : {C G : Type 0} → TableView → List PassView → List C → List G → Type 0
 AreReady index passes scripts gates = All (Owns index) passes × (length scripts ≡ length passes) × (length gates ≡ length passes)
 
--- the thread of this pass made these commands
-abbrev pub IsDone : TableView → PassView → List Command → Done → Type 0
-IsDone index pass commands done = Owns index done.pass × HasRun index.layout pass commands done.pass done.text.items
+-- the thread of this pass and gate made these commands
+abbrev pub IsDone : {G : Type 0} → TableView → (G → Event → G → Type 0) → PassView × G → List Command → Done → Type 0
+IsDone {G = G} index becomes a commands done =
+    Owns index done.pass × ((gate : G) × HasRun index becomes a commands (done.pass, gate) done.text.items)
 
--- a thread was started for these commands of this pass
-abbrev pub IsOrderOf : TableView → PassView → List Command → Order → Type 0
-IsOrderOf index pass commands order = (order.index.value ≡ index) × (order.pass.value ≡ pass) × (script_commands order.script.value ≡ commands)
+-- a thread was started for these commands of this pass, with this gate
+abbrev pub IsOrderOf : {G : Type 0} → TableView → PassView × G → List Command → Order G → Type 0
+IsOrderOf index a commands order =
+    (order.index.value ≡ index) × (order.pass.value ≡ a.0) × (order.gate.value ≡ a.1) × (script_commands order.script.value ≡ commands)
 
 -- the thread kept its order
-abbrev pub HasKept : Order → Done → Type 0
-HasKept order done = IsDone order.index.value order.pass.value (script_commands order.script.value) done
+abbrev pub HasKept : {G : Type 0} → (G → Event → G → Type 0) → Order G → Done → Type 0
+HasKept becomes order done = IsDone order.index.value becomes (order.pass.value, order.gate.value) (script_commands order.script.value) done
 
 -- R holds of the items of three lists, place by place
 abbrev pub AllThree : {A B C : Type 0} → (A → B → C → Type 0) → List A → List B → List C → Type 0
@@ -90,10 +74,11 @@ MeetInTurn index k (before ∷ befores) j (after ∷ afters) =
     (m : PassView) × HaveMet index.layout k before.pass m after.pass × (after.text ≡ before.text) × MeetInTurn index m befores j afters
 MeetInTurn index k _ j _ = ⊥
 
--- The threads of these passes made these commands, and then the pass met theirs, one after another.
-pub record HaveRunAndMet (index : TableView) (passes : List PassView) (scripts : List (List Command)) (k j : PassView) (met : List Done) : Type 0 where
+-- The threads of these passes and gates made these commands, and then the pass met theirs, one after another.
+pub record HaveRunAndMet {G : Type 0} (index : TableView) (becomes : G → Event → G → Type 0) (passes : List (PassView × G)) (scripts : List (List Command))
+    (k j : PassView) (met : List Done) : Type 0 where
   pub ran : List Done
-  pub have_run : AllThree (IsDone index) passes scripts ran
+  pub have_run : AllThree (IsDone index becomes) passes scripts ran
   pub meet : MeetInTurn index k ran j met
 
 -- The pass made the last script's commands, and then met those of the files again. The text is what all were answered.
@@ -102,6 +87,7 @@ pub record HasAnsweredLast (index : TableView) (k : PassView) (met : List Done) 
   pub last : PassView
   pub again : List Done
   pub answers : List ℕ
-  pub ran : HasRun index.layout k commands after answers
+  pub own : Owns index k
+  pub ran : HasRun index untold (k, tt) commands (after, tt) answers
   pub meet : MeetInTurn index after met last again
   pub text_is : text ≡ sections 1 (map (λ d. d.text.items) again) ++ line (codes "last") ++ answers

@@ -1,64 +1,44 @@
 -- What a run of a script reads, writes and answers.
-use Rattle.std.specs.Prelude.{◌≡◌, ℕ, ◌<◌, ◌≤◌, ◌++◌, List, [], ◌∷◌, length, map, All, Option, None, Some, Result, Ok, Err, IsOk, Vec, codes}
+use Rattle.std.specs.Prelude.{◌≡◌, ℕ, ◌<◌, ◌≤◌, ◌++◌, List, [], ◌∷◌, length, map, All, Option, Ok, Err, IsOk}
 use Rattle.std.specs.Io.KnownBytes.{Consumes, IsAtEnd}
-use Rattle.hot_model.specs.declared.Call.{Call}
-use Rattle.hot_model.specs.Calls.{LegalCalls}
+use Rattle.hot_model.specs.declared.Change.{Change}
 use Rattle.hot_model.specs.Maps.{Map, map_after, reply_of}
 use Rattle.rowex_table.specs.Seats.{TableView}
-use Rattle.rowex_writing.specs.declared.plan.Full.{Full}
-use Rattle.rowex_writing.specs.declared.plan.Full.TheVariants.{Nodes, Leaves}
-use Rattle.hot_index.specs.Answers.{MayLack}
+use Rattle.hot_index.specs.Traces.{untold}
 use Rattle.hot_scripts.specs.declared.command.Command.{Command}
-use Rattle.hot_scripts.specs.declared.command.Command.TheVariants.{Call as Asks, Scan}
-use Rattle.hot_run.specs.declared.engine.Answer.{Answer}
-use Rattle.hot_run.specs.declared.engine.Answer.TheVariants.{Reply, Full as Refused}
-use Rattle.hot_scripts.specs.declared.fault.Reason.{Reason}
 use Rattle.hot_scripts.specs.declared.fault.RunFault.{RunFault}
 use Rattle.hot_scripts.specs.declared.fault.RunFault.TheVariants.{Read, Write, Memory, Script, Large}
 use Rattle.hot_scripts.specs.Grammar.{commands_of, most_bytes}
 use Rattle.hot_scripts.specs.Meaning.{line, reply_text, scan_text, script_meaning}
-
-abbrev pub full_text : Full → List ℕ
-full_text Nodes = codes "full nodes"
-full_text Leaves = codes "full leaves"
-
-abbrev pub answer_text : Answer → List ℕ
-answer_text (Reply reply) = reply_text reply
-answer_text (Refused full) = full_text full
-
--- a command of a run, and which records were lacking, if it was refused for that
-abbrev pub Told : Type 0
-Told = Command × Option Full
-
--- only a call that wants records may be refused
-abbrev pub MayBeTold : Told → Type 0
-MayBeTold (command, None) = Unit {0}
-MayBeTold (Asks call, Some full) = MayLack call full
-MayBeTold (Scan range, Some full) = ⊥
+use Rattle.hot_run.specs.Answers.{Answered, called, refused, listed, IsGranted, command_of, full_text}
+use Rattle.hot_run.specs.Told.{IsOfSize, WasTold}
 
 -- The answers to commands, on the map as each finds it: a refusal leaves it as it was, so that the others are answered as if the
 -- refused commands weren't there.
-abbrev pub text_told : Map → List Told → List ℕ
+abbrev pub text_told : Map → List Answered → List ℕ
 text_told m [] = []
-text_told m ((command, Some full) ∷ told) = line (full_text full) ++ text_told m told
-text_told m ((Asks call, None) ∷ told) = line (reply_text (reply_of m call)) ++ text_told (map_after m call) told
-text_told m ((Scan range, None) ∷ told) = scan_text m range ++ text_told m told
+text_told m (called note ∷ answers) = line (reply_text (reply_of m note.call)) ++ text_told (map_after m note.call) answers
+text_told m (refused call full ∷ answers) = line (full_text full) ++ text_told m answers
+text_told m (listed range scan before after ∷ answers) = scan_text m range ++ text_told m answers
 
--- the text has the answers to the commands, each on the map that the earlier ones left, m at first
-pub record Answers (m : Map) (commands : List Command) (text : List ℕ) : Type 0 where
-  pub told : List Told
-  pub commands_are : map (λ t. t.0) told ≡ commands
-  pub refusals : All MayBeTold told
-  pub text_is : text ≡ text_told m told
+-- The text has the answers to the commands on a new index of so many records, which has one pass: each answer is that of the map that
+-- the earlier ones left, and a command was refused only where that call found no record of the kind free (`IsTold`).
+pub record AreAnswered (nodes leaves : ℕ) (commands : List Command) (text : List ℕ) : Type 0 where
+  pub index : TableView
+  pub sized : IsOfSize 1 nodes leaves index
+  pub answers : List Answered
+  pub front : List Change
+  pub told : WasTold index untold 0 tt [] answers front
+  pub commands_are : map command_of answers ≡ commands
+  pub text_is : text ≡ text_told [] answers
 
--- The text answers the script, from the empty map on: it is what the script means, if no command was refused.
-pub record IsAnswered (script text : List ℕ) : Type 0 where
+-- The text answers the script so: it is what the script means, if no command was refused.
+pub record IsAnswered (nodes leaves : ℕ) (script text : List ℕ) : Type 0 where
   pub short : length script ≤ most_bytes
-  pub told : List Told
-  pub commands : commands_of script ≡ Ok (map (λ t. t.0) told)
-  pub refusals : All MayBeTold told
-  pub text_is : text ≡ text_told [] told
-  pub meaning : All (λ t. t.1 ≡ None) told → script_meaning script ≡ Ok text
+  pub commands : List Command
+  pub parsed : commands_of script ≡ Ok commands
+  pub run : AreAnswered nodes leaves commands text
+  pub meaning : All IsGranted run.answers → script_meaning script ≡ Ok text
 
 -- the script is all that a reader had left, and it has nothing left now
 abbrev pub TakesAll : Option (List ℕ) → Option (List ℕ) → List ℕ → Type 0

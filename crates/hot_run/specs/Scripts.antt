@@ -1,49 +1,24 @@
 -- Scripts that run on one index, each with a pass of its own: what they may be answered, and how such a run may end.
-use Rattle.std.specs.Prelude.{◌≡◌, ◌⊎◌, ℕ, ◌+◌, ◌≤◌, ◌++◌, List, [], ◌∷◌, length, map, filter_map, flat_map, take, nat_lt, All, Option, None, Some, Result, Ok, Err, IsOk, if◌then◌else◌, codes, decimal}
-use Rattle.hot_model.specs.declared.Call.{Call}
+use Rattle.std.specs.Prelude.{◌≡◌, ◌⊎◌, ℕ, ◌+◌, ◌≤◌, ◌++◌, List, [], ◌∷◌, length, map, filter_map, flat_map, take, nat_lt, All, Option, Result, Ok, Err, IsOk, if◌then◌else◌, codes}
 use Rattle.hot_model.specs.declared.Change.{Change}
 use Rattle.hot_model.specs.declared.Note.{Note}
-use Rattle.hot_model.specs.declared.Scan.{Scan}
 use Rattle.hot_model.specs.Calls.{LegalCalls, place_after}
 use Rattle.hot_model.specs.Fronts.{BeginsWith}
 use Rattle.hot_model.specs.Scans.{IsLawfulScan}
 use Rattle.hot_model.specs.Weaves.{AllLegal}
-use Rattle.rowex_writing.specs.declared.plan.Full.{Full}
+use Rattle.rowex_core.specs.declared.event.Event.{Event}
+use Rattle.rowex_table.specs.Seats.{TableView}
 use Rattle.hot_index.specs.Answers.{MayLack}
+use Rattle.hot_index.specs.Traces.{untold}
 use Rattle.hot_scripts.specs.declared.command.Command.{Command}
-use Rattle.hot_scripts.specs.declared.command.Command.TheVariants.{Call as Asks, Scan as Lists}
-use Rattle.hot_scripts.specs.declared.command.Range.{Range}
 use Rattle.hot_scripts.specs.declared.fault.Reason.{Reason}
 use Rattle.hot_scripts.specs.declared.fault.RunFault.{RunFault}
 use Rattle.hot_scripts.specs.declared.fault.RunFault.TheVariants.{Memory, FileScript, Large}
 use Rattle.hot_scripts.specs.Grammar.{commands_of, most_bytes}
-use Rattle.hot_scripts.specs.Meaning.{line, reply_text, scan_lines, with_number}
-use Rattle.hot_run.specs.Runs.{MayEndBy, full_text}
-
--- A command with what it was answered: a call with its note; a call that lacked these records; or a scan, made while its pass's
--- front grew from the one length to the other.
-pub data Answered : Type 0 where
-  called : Note → Answered
-  refused : Call → Full → Answered
-  listed : Range → Scan → ℕ → ℕ → Answered
-
--- the command
-abbrev pub command_of : Answered → Command
-command_of (called note) = Asks note.call
-command_of (refused call full) = Asks call
-command_of (listed range scan before after) = Lists range
-
--- the lines of the answer
-abbrev pub lines_of_answer : Answered → List ℕ
-lines_of_answer (called note) = line (reply_text note.reply)
-lines_of_answer (refused call full) = line (full_text full)
-lines_of_answer (listed range scan before after) = scan_lines scan.pairs.items scan.more
-
--- the note of an answered call
-abbrev pub note_of : Answered → Option Note
-note_of (called note) = Some note
-note_of (refused call full) = None
-note_of (listed range scan before after) = None
+use Rattle.hot_scripts.specs.Meaning.{line, with_number}
+use Rattle.hot_run.specs.Answers.{Answered, called, refused, listed, command_of, lines_of_answer, note_of}
+use Rattle.hot_run.specs.Runs.{MayEndBy}
+use Rattle.hot_run.specs.Told.{IsOfSize, WasTold}
 
 -- A script that was run: its commands with their answers, in their order, and the changes that its pass had seen at the end.
 pub record Ran : Type 0 where
@@ -79,6 +54,12 @@ pub record IsLegalRun (q low : ℕ) (ran : Ran) : Type 0 where
 abbrev pub AllFrom : {A : Type 0} → ℕ → (ℕ → A → Type 0) → List A → Type 0
 AllFrom first p [] = Unit {0}
 AllFrom first p (x ∷ xs) = p first x × AllFrom (first + 1) p xs
+
+-- R holds of the items of two lists, place by place, with their number, the first that of `first`
+abbrev pub AllTwoFrom : {A B : Type 0} → ℕ → (ℕ → A → B → Type 0) → List A → List B → Type 0
+AllTwoFrom first R [] [] = Unit {0}
+AllTwoFrom first R (x ∷ xs) (y ∷ ys) = R first x y × AllTwoFrom (first + 1) R xs ys
+AllTwoFrom first R _ _ = ⊥
 
 -- each script's notes with the number of its pass, the first that of `first`
 abbrev pub by_pass : ℕ → List Ran → List (ℕ × List Note)
@@ -129,14 +110,26 @@ pub record LawfulAnswers (scripts : List (List Command)) (last : List Command) (
   pub makers : All (λ c. c.pass ≤ length scripts) last_ran.front
   pub text_is : text ≡ sections 1 (map text_in files_ran) ++ line (codes "last") ++ text_in last_ran
 
--- Several scripts, after Herlihy and Wing: these files and the last script have commands, and the text answers them lawfully.
-pub record LawfulScripts (files : List (List ℕ)) (script text : List ℕ) : Type 0 where
+-- And these answers were given on one index of so many records: the calls of each file's pass went to its gate, step by step, and a
+-- command was refused only where that call found no record of the kind free (`IsTold`).
+pub record AreAllAnswered {G : Type 0} (nodes leaves : ℕ) (becomes : G → Event → G → Type 0) (gates : List G)
+    (scripts : List (List Command)) (last : List Command) (text : List ℕ) : Type 0 where
+  pub lawful : LawfulAnswers scripts last text
+  pub index : TableView
+  pub sized : IsOfSize (length scripts + 1) nodes leaves index
+  pub files_told : AllTwoFrom 0 (λ q gate ran. WasTold index becomes q gate [] ran.answers ran.front) gates lawful.files_ran
+  pub last_told : WasTold index untold (length scripts) tt lawful.met lawful.last_ran.answers lawful.last_ran.front
+
+-- Several scripts, after Herlihy and Wing: these files and the last script have commands, and the text answers them lawfully, on an
+-- index of so many records. Each file has a gate, which is told the steps of its calls.
+pub record LawfulScripts {G : Type 0} (nodes leaves : ℕ) (becomes : G → Event → G → Type 0) (gates : List G)
+    (files : List (List ℕ)) (script text : List ℕ) : Type 0 where
   pub scripts : List (List Command)
   pub last : List Command
   pub files_are : commands_of_files 1 files ≡ Ok scripts
   pub short : length script ≤ most_bytes
   pub last_is : commands_of script ≡ Ok last
-  pub answers : LawfulAnswers scripts last text
+  pub answers : AreAllAnswered nodes leaves becomes gates scripts last text
 
 -- this was parsed, or there is this fault, unless memory was refused
 abbrev pub IsParsed : {A B : Type 0} → (A → B) → Result A RunFault → Result B RunFault → Type 0

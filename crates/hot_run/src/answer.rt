@@ -3,7 +3,7 @@
 ghost use Rattle.std.specs.Prelude.{◌≡◌, ◌≤◌, ◌++◌, IfOk, OnOk, codes, flat_map, length, map};
 ghost use Rattle.hot_scripts.specs.declared.script.TheConstants.{MAX_FILES};
 ghost use Rattle.hot_scripts.specs.Meaning.{line, with_number};
-ghost use Rattle.hot_run.specs.Runs.{answer_text};
+ghost use Rattle.hot_run.specs.Answers.{answer_text};
 ghost use Rattle.hot_run.specs.Scripts.{sections};
 
 use crate::engine::Answer;

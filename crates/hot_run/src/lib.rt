@@ -6,8 +6,9 @@ ghost use Rattle.std.specs.Io.KnownBytes.{Appends};
 ghost use Rattle.record_words.specs.Limits.{IsLeafCount, IsNodeCount};
 ghost use Rattle.hot_scripts.specs.Parses.{script_commands};
 ghost use Rattle.hot_run.specs.Progress.{IsFirst};
-ghost use Rattle.hot_run.specs.Runs.{Answers, IsAnswered, TakesAll, MayEndBy};
+ghost use Rattle.hot_run.specs.Runs.{AreAnswered, IsAnswered, TakesAll, MayEndBy};
 ghost use Rattle.hot_run.specs.Scripts.{AllFrom};
+ghost use Rattle.hot_run.specs.Told.{IsOfSize};
 
 mod answer;
 mod engine;
@@ -37,10 +38,11 @@ pub fn run_one<T: Wait, R: Read, W: Write>(
     requires nodes { IsNodeCount nodes }
     requires leaves { IsLeafCount leaves }
 
-    // What was written are the answers to the script, and nothing else: what it means, where no arena was full.
+    // What was written are the answers to the script, and nothing else: what it means, where no arena was full. A command was refused
+    // only where it found no record of the kind free.
     ensures ok { OnOk result ((script : List ℕ) × (text : List ℕ)
         × TakesAll (R.remaining reader.old) (R.remaining reader.new) script
-        × IsAnswered script text
+        × IsAnswered nodes leaves script text
         × Appends (W.contents writer.old) (W.contents writer.new) text) }
 
     // A fault of the script's own is what the script means.
@@ -65,7 +67,7 @@ fn answer_one<T: Wait>(
 ) -> Result<Vec<u8>, RunFault>
     requires nodes { IsNodeCount nodes }
     requires leaves { IsLeafCount leaves }
-    ensures ok { IfOk result (λ text. Answers [] (script_commands script.now) text.items) }
+    ensures ok { IfOk result (λ text. AreAnswered nodes leaves (script_commands script.now) text.items) }
     ensures fault { IfErr result (λ fault. fault ≡ RunFault.Memory) }
 {
     let (index, _, mut pass) = new_index(alloc, 0, nodes, leaves)?;
@@ -83,7 +85,7 @@ fn new_index(
     requires files { files ≤ MAX_FILES }
     requires nodes { IsNodeCount nodes }
     requires leaves { IsLeafCount leaves }
-    ensures passes { IfOk result (λ made. made.0.layout.passes ≡ files + 1) }
+    ensures sized { IfOk result (λ made. IsOfSize (files + 1) nodes leaves made.0) }
     ensures count { IfOk result (λ made. length made.1.items ≡ files) }
     ensures each { IfOk result (λ made. AllFrom 0 (IsFirst made.0) made.1.items) }
     ensures last { IfOk result (λ made. IsFirst made.0 files made.2) }

@@ -3,6 +3,7 @@
 ghost use Rattle.std.specs.Prelude.{◌≡◌, ◌≢◌, ◌≤◌, List, ℕ, IfOk, OnOk, IfErr, length, map};
 ghost use Rattle.std.specs.Io.KnownBytes.{Appends};
 ghost use Rattle.record_words.specs.Limits.{IsLeafCount, IsNodeCount};
+ghost use Rattle.hot_index.specs.Traces.{untold};
 ghost use Rattle.hot_scripts.specs.Parses.{script_commands};
 ghost use Rattle.hot_run.specs.Runs.{TakesAll};
 ghost use Rattle.hot_run.specs.Scripts.{IsParsed, LawfulScripts, MayEndScriptsBy, commands_of_file, commands_of_files};
@@ -35,10 +36,11 @@ pub fn run_scripts<T: Threads + Wait + Sync, R: Read, W: Write>(
     requires leaves { IsLeafCount leaves }
     requires few { length files.items ≤ MAX_FILES }
 
-    // What was written are lawful answers to the scripts, and nothing else.
+    // What was written are lawful answers to the scripts, and nothing else. A command was refused only where it found no record of the
+    // kind free.
     ensures ok { OnOk result ((script : List ℕ) × (text : List ℕ)
         × TakesAll (R.remaining reader.old) (R.remaining reader.new) script
-        × LawfulScripts (map (λ f. f.items) files.items) script text
+        × LawfulScripts nodes leaves untold (map (λ f. tt) files.items) (map (λ f. f.items) files.items) script text
         × Appends (W.contents writer.old) (W.contents writer.new) text) }
 
     // A fault of a script is that of the first script that has one.
@@ -67,10 +69,11 @@ pub fn run_scripts_with<T: Threads + Wait + Sync, G: Gate + Send + Drop, R: Read
     requires few { length files.items ≤ MAX_FILES }
     requires gates { length gates.items ≡ length files.items }
 
-    // What was written are lawful answers to the scripts, and nothing else.
+    // What was written are lawful answers to the scripts, and nothing else. Each file's gate was told each step of that file's commands,
+    // in order, and nothing else; and a command was refused only where it found no record of the kind free.
     ensures ok { OnOk result ((script : List ℕ) × (text : List ℕ)
         × TakesAll (R.remaining reader.old) (R.remaining reader.new) script
-        × LawfulScripts (map (λ f. f.items) files.items) script text
+        × LawfulScripts nodes leaves G.becomes gates.items (map (λ f. f.items) files.items) script text
         × Appends (W.contents writer.old) (W.contents writer.new) text) }
 
     // A fault of a script is that of the first script that has one.

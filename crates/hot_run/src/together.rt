@@ -1,13 +1,13 @@
 //! Scripts that run at the same time: a thread and a pass for each, and the meetings of their passes.
 
 ghost use Rattle.std.specs.Prelude.{◌≡◌, ◌≤◌, All, IfOk, IfErr, flat_map, length, map};
-ghost use Rattle.std.specs.List.{AllZip};
+ghost use Rattle.std.specs.List.{AllZip, zip};
 ghost use Rattle.record_words.specs.Limits.{IsLeafCount, IsNodeCount};
 ghost use Rattle.hot_index.specs.Passes.{Owns};
 ghost use Rattle.hot_scripts.specs.declared.script.TheConstants.{MAX_FILES};
 ghost use Rattle.hot_scripts.specs.Parses.{script_commands};
 ghost use Rattle.hot_run.specs.Progress.{AllThree, AreReady, HasAnsweredLast, HasKept, HaveRunAndMet, IsDone, IsOrderOf, MeetInTurn};
-ghost use Rattle.hot_run.specs.Scripts.{LawfulAnswers};
+ghost use Rattle.hot_run.specs.Scripts.{AreAllAnswered};
 
 use crate::answer::sections;
 use crate::engine::run;
@@ -29,18 +29,18 @@ pub struct Done {
 
 /// What a thread is to run, for contracts alone.
 #[derive(Drop)]
-struct Order {
+struct Order<G> {
     index: Snapshot<Index>,
     pass: Snapshot<Pass>,
     script: Snapshot<Script>,
+    gate: Snapshot<G>,
 }
 
-impl Promise<Result<Done, AllocError>> for Order {
+impl<G: Gate> Promise<Result<Done, AllocError>> for Order<G> {
     ghost use Rattle.std.specs.Prelude.{IfOk};
-    ghost use Rattle.hot_scripts.specs.Parses.{script_commands};
-    ghost use Rattle.hot_run.specs.Progress.{IsDone};
+    ghost use Rattle.hot_run.specs.Progress.{HasKept};
 
-    ghost kept_by = { λ order result. IfOk result (IsDone order.index.value order.pass.value (script_commands order.script.value)) };
+    ghost kept_by = { λ order result. IfOk result (HasKept G.becomes order) };
 }
 
 /// Answers the scripts of files, each in a thread of its own, and then the last one.
@@ -57,7 +57,8 @@ pub fn answer_all<T: Threads + Wait + Sync, G: Gate + Send + Drop>(
     requires leaves { IsLeafCount leaves }
     requires few { length scripts.items ≤ MAX_FILES }
     requires gates { length gates.items ≡ length scripts.items }
-    ensures ok { IfOk result (λ texts. LawfulAnswers (map script_commands scripts.items) (script_commands last.now) (flat_map (λ t. t.items) texts.items)) }
+    ensures ok { IfOk result (λ texts. AreAllAnswered nodes leaves G.becomes gates.items (map script_commands scripts.items) (script_commands last.now)
+        (flat_map (λ t. t.items) texts.items)) }
     ensures fault { IfErr result (λ fault. fault ≡ RunFault.Memory) }
 {
     let (index, passes, pass) = new_index(alloc, scripts.len() as u32, nodes, leaves)?;
@@ -81,7 +82,8 @@ fn run_and_meet<T: Threads + Wait + Sync, G: Gate + Send + Drop>(
     requires scripts { length scripts.items ≡ length passes.items }
     requires gates { length gates.items ≡ length passes.items }
     ensures own { IfOk result (λ met. Owns index.now met.0 × All (λ d. Owns index.now d.pass) met.1.items) }
-    ensures met { IfOk result (λ met. HaveRunAndMet index.now passes.items (map script_commands scripts.items) pass met.0 met.1.items) }
+    ensures met { IfOk result (λ met. HaveRunAndMet index.now G.becomes (zip passes.items gates.items) (map script_commands scripts.items)
+        pass met.0 met.1.items) }
 {
     let ran = run_files(rt, alloc, index, passes, scripts, gates)?;
     meet_all(alloc, index, pass, ran)
@@ -119,14 +121,15 @@ fn run_files<T: Threads + Wait + Sync, G: Gate + Send + Drop>(
     requires own { All (Owns index.now) passes.items }
     requires scripts { length scripts.items ≡ length passes.items }
     requires gates { length gates.items ≡ length passes.items }
-    ensures { IfOk result (λ done. AllThree (IsDone index.now) passes.items (map script_commands scripts.items) done.items) }
+    ensures { IfOk result (λ done. AllThree (IsDone index.now G.becomes) (zip passes.items gates.items) (map script_commands scripts.items) done.items) }
 {
     scope(
         scope_env(),
         rt,
         |threads| -> Result<Vec<Done>, AllocError>
             requires { AreReady index.now passes.items scripts.items gates.items }
-            ensures { IfOk result (λ done. AllThree (IsDone index.entry.now) passes.items (map script_commands scripts.items) done.items) }
+            ensures { IfOk result (λ done. AllThree (IsDone index.entry.now G.becomes) (zip passes.items gates.items)
+                (map script_commands scripts.items) done.items) }
         { run_within(threads, rt, alloc, index, passes, scripts, gates) },
     )
 }
@@ -142,7 +145,7 @@ fn run_within<'s, E, T: Threads + Wait + Sync + 's, G: Gate + Send + Drop + 's>(
     gates: Vec<G>,
 ) -> Result<Vec<Done>, AllocError>
     requires { AreReady index.now passes.items scripts.items gates.items }
-    ensures { IfOk result (λ done. AllThree (IsDone index.now) passes.items (map script_commands scripts.items) done.items) }
+    ensures { IfOk result (λ done. AllThree (IsDone index.now G.becomes) (zip passes.items gates.items) (map script_commands scripts.items) done.items) }
 {
     let running = start_all(threads, rt, alloc, index, passes, scripts, gates)?;
     join_all(rt, alloc, running)
@@ -157,9 +160,10 @@ fn start_all<'s, E, T: Threads + Wait + Sync + 's, G: Gate + Send + Drop + 's>(
     passes: Vec<Pass>,
     scripts: Vec<Script>,
     gates: Vec<G>,
-) -> Result<Vec<PromisedHandle<Result<Done, AllocError>, Order>>, AllocError>
+) -> Result<Vec<PromisedHandle<Result<Done, AllocError>, Order<G>>>, AllocError>
     requires { AreReady index.now passes.items scripts.items gates.items }
-    ensures { IfOk result (λ running. AllThree (IsOrderOf index.now) passes.items (map script_commands scripts.items) (map (λ t. t.promise) running.items)) }
+    ensures { IfOk result (λ running. AllThree (IsOrderOf index.now) (zip passes.items gates.items) (map script_commands scripts.items)
+        (map (λ t. t.promise) running.items)) }
 {
     let mut scripts = scripts.into_iter();
     let mut gates = gates.into_iter();
@@ -174,12 +178,12 @@ fn start_all<'s, E, T: Threads + Wait + Sync + 's, G: Gate + Send + Drop + 's>(
 }
 
 /// Joins the threads, one after another.
-fn join_all<T: Threads + Wait>(
+fn join_all<T: Threads + Wait, G: Gate + Drop>(
     rt: &T,
     alloc: Global,
-    running: Vec<PromisedHandle<Result<Done, AllocError>, Order>>,
+    running: Vec<PromisedHandle<Result<Done, AllocError>, Order<G>>>,
 ) -> Result<Vec<Done>, AllocError>
-    ensures { IfOk result (λ done. AllZip HasKept (map (λ t. t.promise) running.items) done.items) }
+    ensures { IfOk result (λ done. AllZip (HasKept G.becomes) (map (λ t. t.promise) running.items) done.items) }
 {
     let mut done = Vec::new(alloc);
     for thread in running {
@@ -197,20 +201,21 @@ fn start<'s, E, T: Threads + Wait + Sync + 's, G: Gate + Send + Drop + 's>(
     pass: Pass,
     script: Script,
     gate: G,
-) -> Result<PromisedHandle<Result<Done, AllocError>, Order>, AllocError>
+) -> Result<PromisedHandle<Result<Done, AllocError>, Order<G>>, AllocError>
     requires { Owns index.now pass }
-    ensures { IfOk result (λ thread. IsOrderOf index.now pass (script_commands script) thread.promise) }
+    ensures { IfOk result (λ thread. IsOrderOf index.now (pass, gate) (script_commands script) thread.promise) }
 {
     let order = Order {
         index: Snapshot::of(index),
         pass: Snapshot::of(&pass),
         script: Snapshot::of(&script),
+        gate: Snapshot::of(&gate),
     };
     let thread = threads.spawn_with(
         order,
         move || -> Result<Done, AllocError>
             requires { Owns index.now pass }
-            ensures { IfOk result (IsDone index.entry.now pass (script_commands script)) }
+            ensures { IfOk result (IsDone index.entry.now G.becomes (pass, gate) (script_commands script)) }
         { run_file(rt, alloc, index, pass, script, gate) },
     )?;
     Ok(thread)
@@ -226,7 +231,7 @@ fn run_file<T: Wait, G: Gate + Drop>(
     gate: G,
 ) -> Result<Done, AllocError>
     requires { Owns index.now pass }
-    ensures { IfOk result (IsDone index.now pass (script_commands script)) }
+    ensures { IfOk result (IsDone index.now G.becomes (pass, gate) (script_commands script)) }
 {
     let (mut pass, mut gate) = (pass, gate);
     let text = run(rt, alloc, index, &mut pass, &script, &mut gate)?;

@@ -1,5 +1,6 @@
 -- Why `run` meets its contract.
 use Rattle.std.proofs.Common.{◌≡◌, ◌∷◌, [], ◌++◌, append_assoc, append-nil, rules}
+use Rattle.hot_index.specs.Passes.{PassView}
 use Rattle.hot_scripts.specs.Parses.{commands_left}
 use Rattle.hot_run.proofs.Progressing.{HasRun-none, HasRun-more}
 use Rattle.hot_run.proofs.engine.run.Goals as goal
@@ -9,13 +10,13 @@ loop-command-preserved g c =
     let left : commands_left c.loop-command.commands ≡ c.in-Some.command ∷ commands_left c.next_command.new.self = search rules in
     record {
       own = c.answer_command.ensures.own;
-      completes = λ j rest others.
-          let more = HasRun-more c.args.index.now.layout _ _ j _ rest others c.in-Some.command _ _ c.in_ok-answer_command.ensures.answered in
-          rw (more.1, append_assoc) (c.loop-command.invariant.completes j _ (rw left more.2));
+      completes = λ b rest others.
+          let more = HasRun-more c.args.index.now g.G.Gate.becomes _ _ b _ rest others c.in-Some.command _ _ c.in_ok-answer_command.ensures.answered in
+          rw (more.1, append_assoc) (c.loop-command.invariant.completes b _ (rw left more.2));
     }
 
 pub returns-clause-ran : goal.returns-clause-ran
 returns-clause-ran g c =
     let none : commands_left c.loop-command.commands ≡ [] = search rules in
-    let pass = c.loop-command.pass in
-    rw append-nil at (c.loop-command.invariant.completes pass [] (rw none (HasRun-none c.args.index.now.layout pass)))
+    let here : PassView × _ = (c.loop-command.pass, c.loop-command.gate) in
+    rw append-nil at (c.loop-command.invariant.completes here [] (rw none (HasRun-none c.args.index.now g.G.Gate.becomes here)))

@@ -9,8 +9,8 @@ use Rattle.hot_run.proofs.engine.run.Given as goal
 abbrev pub invariant-loop-command : goal.invariant-loop-command
 invariant-loop-command g l = record {
   own : Owns l.fn.index l.pass;
-  completes : (j : PassView) (rest : List ℕ) → HasRun l.fn.index.layout l.pass (commands_left l.commands) j rest
-      → HasRun l.fn.index.layout l.fn.pass (script_commands l.fn.script) j (l.text.items ++ rest);
+  completes : (b : PassView × _) (rest : List ℕ) → HasRun l.fn.index g.G.Gate.becomes (l.pass, l.gate) (commands_left l.commands) b rest
+      → HasRun l.fn.index g.G.Gate.becomes (l.fn.pass, l.fn.gate) (script_commands l.fn.script) b (l.text.items ++ rest);
 }
 
 abbrev pub decreases-loop-command : goal.decreases-loop-command

@@ -10,5 +10,5 @@ pub returns : goal.returns
 returns g c =
     let none : into_iter_items c.loop-thread.thread-iterator ≡ [] =
     nil_from_length _ (omega (arith, c.in-None.ensures.steps, c.loop-thread.thread-iterator.rest.ok)) in
-    let here : AllZip HasKept [] [] = tt in
+    let here : AllZip (HasKept g.G.Gate.becomes) [] [] = tt in
     rw append-nil at (c.loop-thread.invariant [] (rw none here))

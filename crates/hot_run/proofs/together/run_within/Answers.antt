@@ -1,6 +1,6 @@
 -- Why `run_within` meets its contract.
 use Rattle.std.proofs.Common.{map}
-use Rattle.std.specs.List.{AllZip}
+use Rattle.std.specs.List.{AllZip, zip}
 use Rattle.std.proofs.lemmas.Result.{IfOk-weaker}
 use Rattle.hot_scripts.specs.Parses.{script_commands}
 use Rattle.hot_run.specs.Progress.{AllThree, HasKept, IsDone}
@@ -10,8 +10,9 @@ use Rattle.hot_run.proofs.together.run_within.Goals as goal
 pub returns : goal.returns
 returns g c =
     let index = c.args.index.now in
-    let passes = c.args.passes.items in
+    let becomes = g.G.Gate.becomes in
+    let seats = zip c.args.passes.items c.args.gates.items in
     let scripts = map script_commands c.args.scripts.items in
     let orders = map (λ t. t.promise) c.in_ok-running.running.items in
-    IfOk-weaker c.join_all.result (λ (done : _). AllZip HasKept orders done.items) (λ (done : _). AllThree (IsDone index) passes scripts done.items)
-    (λ done kept. all_joined index passes scripts orders done.items c.in_ok-running.ensures kept) c.join_all.ensures
+    IfOk-weaker c.join_all.result (λ (done : _). AllZip (HasKept becomes) orders done.items) (λ (done : _). AllThree (IsDone index becomes) seats scripts done.items)
+    (λ done kept. all_joined index becomes seats scripts orders done.items c.in_ok-running.ensures kept) c.join_all.ensures

@@ -1,5 +1,6 @@
 -- Why `start_all` meets its contract.
 use Rattle.std.proofs.Common.{◌≡◌, [], ◌∷◌, ◌++◌, length, map, ap, append_assoc, append-nil, arith}
+use Rattle.std.specs.List.{zip}
 use Rattle.std.specs.Vec.Iter.{into_iter_items}
 use Rattle.std.proofs.lemmas.List.{map-append, nil_from_length}
 use Rattle.std.proofs.lemmas.List.Elements.{All-rest}
@@ -23,9 +24,9 @@ loop-pass-preserved g c =
       scripts = omega (arith, was.scripts, ap length left, ap length scripts);
       gates = omega (arith, was.gates, ap length left, ap length gates);
       completes = λ rest others.
-          let whole : AllThree (IsOrderOf index) (c.in-Some.pass ∷ into_iter_items c.next.new.self)
+          let whole : AllThree (IsOrderOf index) ((c.in-Some.pass, c.in-Some-Some.gate) ∷ zip (into_iter_items c.next.new.self) (into_iter_items c.next-in-loop-pass-2.new.self))
           (script_commands script ∷ map script_commands (into_iter_items c.next-in-loop-pass.new.self)) (thread.promise ∷ rest) = (c.in_ok-start.ensures, others) in
-          rw (pushed, map-append, append_assoc) (was.completes (thread.promise ∷ rest) (rw (left, scripts) whole));
+          rw (pushed, map-append, append_assoc) (was.completes (thread.promise ∷ rest) (rw (left, scripts, gates) whole));
     }
 
 pub returns : goal.returns
@@ -33,5 +34,4 @@ returns g c =
     let was = c.loop-pass.invariant in
     let none : into_iter_items c.loop-pass.pass-iterator ≡ [] = nil_from_length _ (omega (arith, c.in-None.ensures.steps, c.loop-pass.pass-iterator.rest.ok)) in
     let no_script : into_iter_items c.loop-pass.scripts ≡ [] = nil_from_length _ (omega (arith, was.scripts, ap length none)) in
-    let here : AllThree (IsOrderOf c.args.index.now) [] [] [] = tt in
-    rw append-nil at (was.completes [] (rw (none, no_script) here))
+    rw append-nil at (was.completes [] (rw (none, no_script) tt))

@@ -1,6 +1,6 @@
 -- What stays true while threads are started.
 use Rattle.std.proofs.Common.{◌≡◌, ◌++◌, List, length, map}
-use Rattle.std.specs.List.{All}
+use Rattle.std.specs.List.{All, zip}
 use Rattle.std.specs.Vec.Iter.{into_iter_items}
 use Rattle.hot_index.specs.Passes.{Owns}
 use Rattle.hot_run.specs.declared.together.Order.{Order}
@@ -14,6 +14,7 @@ invariant-loop-pass g l = record {
   own : All (Owns l.index) (into_iter_items l.pass-iterator);
   scripts : length (into_iter_items l.scripts) ≡ length (into_iter_items l.pass-iterator);
   gates : length (into_iter_items l.gates) ≡ length (into_iter_items l.pass-iterator);
-  completes : (rest : List Order) → AllThree (IsOrderOf l.index) (into_iter_items l.pass-iterator) (map script_commands (into_iter_items l.scripts)) rest
-      → AllThree (IsOrderOf l.index) l.fn.passes.items (map script_commands l.fn.scripts.items) (map (λ t. t.promise) l.running.items ++ rest);
+  completes : (rest : List (Order _)) → AllThree (IsOrderOf l.index) (zip (into_iter_items l.pass-iterator) (into_iter_items l.gates))
+      (map script_commands (into_iter_items l.scripts)) rest
+      → AllThree (IsOrderOf l.index) (zip l.fn.passes.items l.fn.gates.items) (map script_commands l.fn.scripts.items) (map (λ t. t.promise) l.running.items ++ rest);
 }

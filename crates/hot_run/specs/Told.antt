@@ -1,0 +1,57 @@
+-- What a pass of an index is told by the commands of a script, and its gate by their steps.
+use Rattle.std.specs.Prelude.{◌≡◌, ℕ, ◌≤◌, ◌++◌, List, [], ◌∷◌, length}
+use Rattle.hot_model.specs.declared.Change.{Change}
+use Rattle.hot_model.specs.declared.Note.{Note}
+use Rattle.hot_model.specs.Calls.{LegalCalls}
+use Rattle.hot_model.specs.Fronts.{BeginsWith}
+use Rattle.record_words.specs.declared.layout.Layout.{Layout}
+use Rattle.rowex_core.specs.declared.event.Event.{Event}
+use Rattle.rowex_table.specs.Seats.{TableView}
+use Rattle.hot_index.specs.Answers.{IsRefused, IsScanned, MayLack, fault_of}
+use Rattle.hot_index.specs.Passes.{PassView, AreByPasses, Owns}
+use Rattle.hot_index.specs.Traces.{HasTold}
+use Rattle.hot_run.specs.Answers.{Answered, called, refused, listed}
+
+-- The pass has made a call, which stands behind all that it had seen before.
+pub record IsCalled (layout : Layout) (k j : PassView) (note : Note) : Type 0 where
+  pub number : j.number ≡ k.number
+  pub front : BeginsWith j.front k.front
+  pub notes : j.notes ≡ k.notes ++ note ∷ []
+  pub low : length k.front ≤ note.place
+  pub legal : LegalCalls j.front j.number j.notes
+  pub makers : AreByPasses layout j.front
+
+-- The pass was told this answer to a command. A call that was refused has found, in its own steps, each record of the kind not free,
+-- of leaf records each with room for its key.
+abbrev pub IsTold : Layout → PassView → Answered → PassView → Type 0
+IsTold layout k (called note) j = IsCalled layout k j note
+IsTold layout k (refused call full) j = MayLack call full × IsRefused layout call k j (fault_of full)
+IsTold layout k (listed range scan before after) j =
+    IsScanned layout k j range.from range.upto range.limit scan × (before ≡ length j.fresh.front) × (after ≡ length j.front)
+
+-- And these answers, one after another. The pass makes each command's steps and no other between them, and its gate is told each of
+-- these, in order, and nothing else.
+abbrev pub AreTold : {G : Type 0} → TableView → (G → Event → G → Type 0) → PassView × G → List Answered → PassView × G → Type 0
+AreTold index becomes a [] b = b ≡ a
+AreTold {G = G} index becomes a (answer ∷ answers) b =
+    (m : PassView × G) × IsTold index.layout a.0 answer m.0 × HasTold index becomes a m × AreTold index becomes m answers b
+
+-- an index of so many passes, and of so many node and leaf records, each of which has room for each key
+pub record IsOfSize (passes nodes leaves : ℕ) (index : TableView) : Type 0 where
+  pub passes_are : index.layout.passes ≡ passes
+  pub nodes_are : index.layout.nodes ≡ nodes
+  pub leaves_are : index.layout.leaves ≡ leaves
+  pub all_long : index.layout.long_from ≡ 0
+
+-- The pass of this number, which had seen these changes, was told the answers by the index, and has seen these changes then. Its
+-- gate, which was this one, was told the steps.
+pub record WasTold {G : Type 0} (index : TableView) (becomes : G → Event → G → Type 0) (q : ℕ) (gate : G)
+    (before : List Change) (answers : List Answered) (after : List Change) : Type 0 where
+  pub first : PassView
+  pub last : PassView
+  pub gate_then : G
+  pub own : Owns index first
+  pub number : first.number ≡ q
+  pub begins : first.front ≡ before
+  pub ends : last.front ≡ after
+  pub told : AreTold index becomes (first, gate) answers (last, gate_then)
