@@ -1,4 +1,5 @@
-/* What of the library for C is written in C, and tested: the texts of statuses, where a scan goes on, and the calls that wait. */
+/* What of the library for C is written in C, and tested: the texts of statuses, where a scan goes on, scans of a prefix, the first pair
+ * from a key on, and the calls that wait. */
 #include "hot.h"
 #include <sched.h>
 #include <string.h>
@@ -42,6 +43,35 @@ hot_status hot_after(const hot_pair *pair, uint8_t *key, size_t *length) {
     key[kept - 1]++;
     *length = kept;
     return HOT_DONE;
+}
+
+hot_status hot_scan_prefix(hot_handle *handle, const uint8_t *prefix, size_t length, const hot_pair *after,
+                           hot_pair *pairs, size_t limit, size_t *count, uint32_t *more) {
+    uint8_t from[HOT_MAX_KEY], upto[HOT_MAX_KEY];
+    size_t from_length = length;
+    if (length > HOT_MAX_KEY)
+        return hot_scan(handle, prefix, length, prefix, length, pairs, limit, count, more);
+    memset(upto, 0xff, HOT_MAX_KEY);
+    if (length > 0)
+        memcpy(upto, prefix, length);
+    if (after == NULL)
+        memcpy(from, upto, length);
+    else if (hot_after(after, from, &from_length) == HOT_ABSENT)
+        /* No key comes after it: the range is empty. */
+        return hot_scan(handle, upto, HOT_MAX_KEY, upto, 0, pairs, limit, count, more);
+    return hot_scan(handle, from, from_length, upto, HOT_MAX_KEY, pairs, limit, count, more);
+}
+
+hot_status hot_first(hot_handle *handle, const uint8_t *from, size_t length, hot_pair *pair) {
+    uint8_t last[HOT_MAX_KEY];
+    size_t count;
+    uint32_t more;
+    hot_status status;
+    memset(last, 0xff, HOT_MAX_KEY);
+    status = hot_scan(handle, from, length, last, HOT_MAX_KEY, pair, 1, &count, &more);
+    if (status != HOT_DONE)
+        return status;
+    return count == 0 ? HOT_ABSENT : HOT_FOUND;
 }
 
 hot_status hot_insert(hot_handle *handle, const uint8_t *key, size_t length, uint64_t value, uint64_t *had) {

@@ -38,7 +38,7 @@ extern "C" {
 
 /* The version of this header. What was right with an earlier one of the same major number is right with this one. */
 #define HOT_VERSION_MAJOR 1
-#define HOT_VERSION_MINOR 0
+#define HOT_VERSION_MINOR 1
 #define HOT_VERSION_PATCH 0
 
 /* The most bytes of a key. */
@@ -158,6 +158,16 @@ hot_status hot_scan(hot_handle *handle, const uint8_t *from, size_t from_length,
  * absent in the index.
  * HOT_DONE; HOT_ABSENT where no key comes after the pair's, and nothing was written then. */
 hot_status hot_after(const hot_pair *pair, uint8_t *key, size_t *length);
+
+/* hot_scan of the keys that begin with the prefix, which are all with an empty one: the first of them where `after` is NULL, else those
+ * after this pair's, which may be the last of an earlier call.
+ * It writes and answers what hot_scan does. */
+hot_status hot_scan_prefix(hot_handle *handle, const uint8_t *prefix, size_t length, const hot_pair *after,
+                           hot_pair *pairs, size_t limit, size_t *count, uint32_t *more);
+
+/* Writes the first pair whose key is `from` or comes after it; from an empty key on it is the first of all. It is a scan of one pair.
+ * HOT_FOUND, HOT_ABSENT; HOT_KEY_TOO_LONG, HOT_CLOSED, HOT_NO_MEMORY. Nothing was written but where it was found. */
+hot_status hot_first(hot_handle *handle, const uint8_t *from, size_t length, hot_pair *pair);
 
 /* Gives records back that changes have unlinked and that no call can reach any more, and writes how many. A change that finds no record
  * free does so itself before it gives up, so a program need not.

@@ -42,6 +42,40 @@ static void test_calls(void) {
     CHECK(hot_destroy(&handle) == HOT_DONE);
 }
 
+/* Scans of a prefix, page by page, and the first pair from a key on. */
+static void test_prefix(void) {
+    hot_handle handle = HOT_HANDLE;
+    hot_pair pairs[2], pair;
+    uint8_t key[HOT_MAX_KEY + 1];
+    uint64_t had;
+    size_t count = 9;
+    uint32_t more = 9;
+    memset(key, 0xff, sizeof key);
+    CHECK(hot_create(100, 100, &handle, 1) == HOT_DONE);
+    CHECK(hot_first(&handle, NULL, 0, &pair) == HOT_ABSENT);
+    CHECK(hot_try_insert(&handle, bytes("a"), 1, 1, &had) == HOT_INSERTED);
+    CHECK(hot_try_insert(&handle, bytes("ab"), 2, 2, &had) == HOT_INSERTED);
+    CHECK(hot_try_insert(&handle, bytes("a\377\377"), 3, 3, &had) == HOT_INSERTED);
+    CHECK(hot_try_insert(&handle, bytes("b"), 1, 4, &had) == HOT_INSERTED);
+    CHECK(hot_scan_prefix(&handle, bytes("a"), 1, NULL, pairs, 2, &count, &more) == HOT_DONE);
+    CHECK(count == 2 && more == 1 && pairs[0].value == 1 && pairs[1].value == 2);
+    CHECK(hot_scan_prefix(&handle, bytes("a"), 1, &pairs[1], pairs, 2, &count, &more) == HOT_DONE);
+    CHECK(count == 1 && more == 0 && pairs[0].value == 3);
+    CHECK(hot_scan_prefix(&handle, bytes("a"), 1, &pairs[0], pairs, 2, &count, &more) == HOT_DONE && count == 0 && more == 0);
+    CHECK(hot_scan_prefix(&handle, NULL, 0, &pairs[0], pairs, 2, &count, &more) == HOT_DONE && count == 1 && pairs[0].value == 4);
+    CHECK(hot_first(&handle, bytes("ac"), 2, &pair) == HOT_FOUND && pair.length == 3 && pair.value == 3);
+    CHECK(hot_first(&handle, bytes("c"), 1, &pair) == HOT_ABSENT && pair.value == 3);
+    CHECK(hot_try_insert(&handle, key, HOT_MAX_KEY, 5, &had) == HOT_INSERTED);
+    CHECK(hot_first(&handle, key, HOT_MAX_KEY, &pair) == HOT_FOUND && pair.value == 5);
+    CHECK(hot_scan_prefix(&handle, NULL, 0, &pair, pairs, 2, &count, &more) == HOT_DONE && count == 0 && more == 0);
+    count = 9;
+    CHECK(hot_scan_prefix(&handle, key, sizeof key, NULL, pairs, 2, &count, &more) == HOT_KEY_TOO_LONG && count == 9);
+    CHECK(hot_first(&handle, key, sizeof key, &pair) == HOT_KEY_TOO_LONG);
+    CHECK(hot_destroy(&handle) == HOT_DONE);
+    CHECK(hot_scan_prefix(&handle, bytes("a"), 1, NULL, pairs, 2, &count, &more) == HOT_CLOSED && count == 9);
+    CHECK(hot_first(&handle, bytes("a"), 1, &pair) == HOT_CLOSED);
+}
+
 /* Scans: the order of keys, the limit, and the places that are left as they were. */
 static void test_scan(void) {
     hot_handle handle = HOT_HANDLE;
@@ -326,6 +360,7 @@ int main(void) {
     CHECK(sizeof(hot_handle) == 16 && sizeof(hot_pair) == 256 && sizeof(hot_stock) == 24);
     test_calls();
     test_scan();
+    test_prefix();
     test_after();
     test_texts();
     test_long_keys();
