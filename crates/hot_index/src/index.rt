@@ -3,7 +3,7 @@
 ghost use Rattle.std.specs.Prelude.{◌≡◌, ◌↔◌, ◌+◌, ◌≤◌, ℕ, List, ◌≢◌, Some, Err, IfErr, IfOk, IsSome, MatchResult, OnErr, length, slice_get};
 ghost use mathlib.Core.Option.{some};
 ghost use lib.ListN.{get_elem?};
-ghost use Rattle.hot_model.specs.declared.Call.TheVariants.{Get, Insert, Remove, Upsert};
+ghost use Rattle.hot_model.specs.declared.Call.TheVariants.{Exchange, Get, Insert, Remove, RemoveIf, Upsert};
 ghost use Rattle.hot_model.specs.declared.Note.{Note};
 ghost use Rattle.record_words.specs.Layout.{HasStock, leaves_of};
 ghost use Rattle.record_words.specs.Limits.{IsPassCount, IsStockPassCount, IsNodeCount, IsLeafCount, IsRecordCount};
@@ -11,6 +11,7 @@ ghost use Rattle.rowex_core.specs.declared.event.Act.TheVariants.{ClearPin};
 ghost use Rattle.rowex_core.specs.declared.known.Known.{Known};
 ghost use Rattle.rowex_table.specs.Runs.{StepsWith};
 ghost use Rattle.rowex_table.specs.Seats.{IsPassOf, IsNewSeatOf, SeatView};
+ghost use Rattle.rowex_writing.specs.Asking.{aim_of};
 ghost use Rattle.rowex_writing.specs.Attempts.{call_of};
 ghost use Rattle.hot_index.specs.Passes.{PassView, Owns, IsNewPass, IsSettled, pass_of};
 ghost use Rattle.hot_index.specs.Counts.{scan_steps};
@@ -30,7 +31,7 @@ use rowex_core::{Gate, NoGate};
 use rowex_reading::look_up;
 use rowex_scanning::{Range, scan_root};
 use rowex_table::{HotTable, TableSeat};
-use rowex_writing::{Ask, Full, TryFault};
+use rowex_writing::{Aim, Ask, Full, TryFault};
 use std::alloc::{AllocError, Global};
 use std::marker::Model;
 use std::sync::Wait;
@@ -303,9 +304,101 @@ impl Index {
         )
     }
 
-    /// Makes a call of the map, as `get`, `insert`, `upsert` or `remove` does, with a gate that is told each of its steps.
+    /// Gives a key a value if it has the expected one, a compare-and-exchange: `Exchanged`; or `Differs` with the value that it
+    /// has, which stays; or `Absent`.
     ///
-    /// A get is never refused, and a remove never as full of leaves.
+    /// It waits for nobody, has `try_insert`'s bound of steps, and is refused as `try_insert` is.
+    pub fn try_exchange(
+        &self,
+        pass: &mut Pass,
+        key: &Key,
+        expected: u64,
+        value: u64,
+    ) -> Result<Reply, TryFault>
+        requires { Owns self.now pass.old }
+        ensures own { Owns self.now pass.new }
+        ensures call { MatchResult result (IsNoted self.now.layout pass.old pass.new (Exchange key.now expected value))
+            (IsRefused self.now.layout (Exchange key.now expected value) pass.old pass.new) }
+        ensures made { HasMade self.now untold result (pass.old, tt) (pass.new, tt) }
+    {
+        self.try_exchange_with(pass, key, expected, value, &mut NoGate)
+    }
+
+    /// `try_exchange`, with a gate that is told each of its steps.
+    pub fn try_exchange_with<G: Gate>(
+        &self,
+        pass: &mut Pass,
+        key: &Key,
+        expected: u64,
+        value: u64,
+        gate: &mut G,
+    ) -> Result<Reply, TryFault>
+        requires { Owns self.now pass.old }
+        ensures own { Owns self.now pass.new }
+        ensures call { MatchResult result (IsNoted self.now.layout pass.old pass.new (Exchange key.now expected value))
+            (IsRefused self.now.layout (Exchange key.now expected value) pass.old pass.new) }
+        ensures made { HasMade self.now G.becomes result (pass.old, gate.old) (pass.new, gate.new) }
+    {
+        try_change(
+            &self.table,
+            &mut pass.seat,
+            gate,
+            &mut pass.room,
+            Ask::Exchange(expected),
+            key,
+            value,
+        )
+    }
+
+    /// Makes a key absent if it has the expected value: `Removed` with that value; or `Differs` with the value that it has, which
+    /// stays; or `Absent`.
+    ///
+    /// It waits for nobody, has `try_insert`'s bound of steps, and is refused as `try_remove` is.
+    pub fn try_remove_if(
+        &self,
+        pass: &mut Pass,
+        key: &Key,
+        expected: u64,
+    ) -> Result<Reply, TryFault>
+        requires { Owns self.now pass.old }
+        ensures own { Owns self.now pass.new }
+        ensures call { MatchResult result (IsNoted self.now.layout pass.old pass.new (RemoveIf key.now expected))
+            (IsRefused self.now.layout (RemoveIf key.now expected) pass.old pass.new) }
+        ensures made { HasMade self.now untold result (pass.old, tt) (pass.new, tt) }
+        ensures leafless { result ≢ Err TryFault.FullLeaves }
+    {
+        self.try_remove_if_with(pass, key, expected, &mut NoGate)
+    }
+
+    /// `try_remove_if`, with a gate that is told each of its steps.
+    pub fn try_remove_if_with<G: Gate>(
+        &self,
+        pass: &mut Pass,
+        key: &Key,
+        expected: u64,
+        gate: &mut G,
+    ) -> Result<Reply, TryFault>
+        requires { Owns self.now pass.old }
+        ensures own { Owns self.now pass.new }
+        ensures call { MatchResult result (IsNoted self.now.layout pass.old pass.new (RemoveIf key.now expected))
+            (IsRefused self.now.layout (RemoveIf key.now expected) pass.old pass.new) }
+        ensures made { HasMade self.now G.becomes result (pass.old, gate.old) (pass.new, gate.new) }
+        ensures leafless { result ≢ Err TryFault.FullLeaves }
+    {
+        try_change(
+            &self.table,
+            &mut pass.seat,
+            gate,
+            &mut pass.room,
+            Ask::RemoveIf(expected),
+            key,
+            0,
+        )
+    }
+
+    /// Makes a call of the map, as `get`, `insert`, `upsert`, `exchange`, `remove` or `remove_if` does, with a gate that is told each of its steps.
+    ///
+    /// A get is never refused, and neither removal as full of leaves.
     pub fn call_with<R: Wait, G: Gate>(
         &self,
         rt: &R,
@@ -328,7 +421,13 @@ impl Index {
             Call::Upsert(key, value) => {
                 self.change_with(rt, pass, gate, Ask::Upsert, key, *value)
             }
+            Call::Exchange(key, expected, value) => {
+                self.change_with(rt, pass, gate, Ask::Exchange(*expected), key, *value)
+            }
             Call::Remove(key) => self.change_with(rt, pass, gate, Ask::Remove, key, 0),
+            Call::RemoveIf(key, expected) => {
+                self.change_with(rt, pass, gate, Ask::RemoveIf(*expected), key, 0)
+            }
         }
     }
 
@@ -346,7 +445,7 @@ impl Index {
         ensures own { Owns self.now pass.new }
         ensures call { MatchResult result (IsNoted self.now.layout pass.old pass.new (call_of ask key.now value))
             (λ full. IsRefused self.now.layout (call_of ask key.now value) pass.old pass.new (fault_of full)) }
-        ensures leafless { ask ≡ Ask.Remove → result ≢ Err Full.Leaves }
+        ensures leafless { aim_of ask ≡ Aim.Remove → result ≢ Err Full.Leaves }
         ensures told { HasTold self.now G.becomes (pass.old, gate.old) (pass.new, gate.new) }
     {
         change(
@@ -412,6 +511,45 @@ impl Index {
         ensures leafless { result ≢ Err Full.Leaves }
     {
         self.change_with(rt, pass, &mut NoGate, Ask::Remove, key, 0)
+    }
+
+    /// Gives a key a value if it has the expected one: `Exchanged`; or `Differs` with the value that it has, which stays; or `Absent`.
+    ///
+    /// It begins again where `try_exchange` would be `Busy`, and is refused as `insert` is.
+    pub fn exchange<R: Wait>(
+        &self,
+        rt: &R,
+        pass: &mut Pass,
+        key: &Key,
+        expected: u64,
+        value: u64,
+    ) -> Result<Reply, Full>
+        requires { Owns self.now pass.old }
+        ensures own { Owns self.now pass.new }
+        ensures call { MatchResult result (IsNoted self.now.layout pass.old pass.new (Exchange key.now expected value))
+            (λ full. IsRefused self.now.layout (Exchange key.now expected value) pass.old pass.new (fault_of full)) }
+    {
+        self.change_with(rt, pass, &mut NoGate, Ask::Exchange(expected), key, value)
+    }
+
+    /// Makes a key absent if it has the expected value: `Removed` with that value; or `Differs` with the value that it has, which
+    /// stays; or `Absent`.
+    ///
+    /// It begins again where `try_remove_if` would be `Busy`, and is refused as `remove` is.
+    pub fn remove_if<R: Wait>(
+        &self,
+        rt: &R,
+        pass: &mut Pass,
+        key: &Key,
+        expected: u64,
+    ) -> Result<Reply, Full>
+        requires { Owns self.now pass.old }
+        ensures own { Owns self.now pass.new }
+        ensures call { MatchResult result (IsNoted self.now.layout pass.old pass.new (RemoveIf key.now expected))
+            (λ full. IsRefused self.now.layout (RemoveIf key.now expected) pass.old pass.new (fault_of full)) }
+        ensures leafless { result ≢ Err Full.Leaves }
+    {
+        self.change_with(rt, pass, &mut NoGate, Ask::RemoveIf(expected), key, 0)
     }
 
     /// The keys from `from` to `upto`, both included, with their values, in the order of the keys: the first `limit` of
