@@ -39,6 +39,16 @@ static void test_calls(void) {
     CHECK(hot_insert(&handle, bytes("c"), 1, 32, &value) == HOT_EXISTS && value == 31);
     CHECK(hot_remove(&handle, bytes("c"), 1, &value) == HOT_REMOVED && value == 31);
     CHECK(hot_remove(&handle, bytes("c"), 1, &value) == HOT_ABSENT);
+    CHECK(hot_try_exchange(&handle, bytes("d"), 1, 40, 41, &value) == HOT_ABSENT && value == 31);
+    CHECK(hot_try_remove_if(&handle, bytes("d"), 1, 40, &value) == HOT_ABSENT && value == 31);
+    CHECK(hot_insert(&handle, bytes("d"), 1, 40, &value) == HOT_INSERTED);
+    CHECK(hot_try_exchange(&handle, bytes("d"), 1, 40, 41, &value) == HOT_EXCHANGED && value == 31);
+    CHECK(hot_try_exchange(&handle, bytes("d"), 1, 40, 42, &value) == HOT_DIFFERS && value == 41);
+    CHECK(hot_exchange(&handle, bytes("d"), 1, 41, 43, &value) == HOT_EXCHANGED && value == 41);
+    CHECK(hot_try_remove_if(&handle, bytes("d"), 1, 41, &value) == HOT_DIFFERS && value == 43);
+    CHECK(hot_remove_if(&handle, bytes("d"), 1, 40, &value) == HOT_DIFFERS && value == 43);
+    CHECK(hot_remove_if(&handle, bytes("d"), 1, 43, &value) == HOT_REMOVED && value == 43);
+    CHECK(hot_get(&handle, bytes("d"), 1, &value) == HOT_ABSENT);
     CHECK(hot_destroy(&handle) == HOT_DONE);
 }
 
@@ -120,10 +130,10 @@ static void test_after(void) {
 
 /* Each status has a text, and what is none has another. */
 static void test_texts(void) {
-    for (hot_status one = HOT_DONE; one <= HOT_NO_MEMORY + 1; one++)
+    for (hot_status one = HOT_DONE; one <= HOT_DIFFERS + 1; one++)
         for (hot_status other = HOT_DONE; other < one; other++)
             CHECK(strcmp(hot_status_text(one), hot_status_text(other)));
-    CHECK(!strcmp(hot_status_text(UINT32_MAX), hot_status_text(HOT_NO_MEMORY + 1)));
+    CHECK(!strcmp(hot_status_text(UINT32_MAX), hot_status_text(HOT_DIFFERS + 1)));
 }
 
 /* Keys of the greatest length and beyond. */
