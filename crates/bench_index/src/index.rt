@@ -115,10 +115,12 @@ impl Guest<'_> {
 /// The value that a key had before a call.
 fn had(reply: Reply) -> Option<u64> {
     match reply {
-        Reply::Exists(value) | Reply::Was(value) | Reply::Removed(value) | Reply::Value(value) => {
-            Some(value)
-        }
-        Reply::Inserted | Reply::New | Reply::Absent => None,
+        Reply::Exists(value)
+        | Reply::Was(value)
+        | Reply::Differs(value)
+        | Reply::Removed(value)
+        | Reply::Value(value) => Some(value),
+        Reply::Inserted | Reply::New | Reply::Exchanged | Reply::Absent => None,
     }
 }
 
