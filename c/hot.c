@@ -45,6 +45,11 @@ hot_status hot_after(const hot_pair *pair, uint8_t *key, size_t *length) {
     return HOT_DONE;
 }
 
+static int is_below(const uint8_t *one, size_t one_length, const uint8_t *other, size_t other_length) {
+    int order = memcmp(one, other, one_length < other_length ? one_length : other_length);
+    return order < 0 || (order == 0 && one_length < other_length);
+}
+
 hot_status hot_scan_prefix(hot_handle *handle, const uint8_t *prefix, size_t length, const hot_pair *after,
                            hot_pair *pairs, size_t limit, size_t *count, uint32_t *more) {
     uint8_t from[HOT_MAX_KEY], upto[HOT_MAX_KEY];
@@ -54,11 +59,13 @@ hot_status hot_scan_prefix(hot_handle *handle, const uint8_t *prefix, size_t len
     memset(upto, 0xff, HOT_MAX_KEY);
     if (length > 0)
         memcpy(upto, prefix, length);
-    if (after == NULL)
-        memcpy(from, upto, length);
-    else if (hot_after(after, from, &from_length) == HOT_ABSENT)
+    if (after != NULL && hot_after(after, from, &from_length) == HOT_ABSENT)
         /* No key comes after it: the range is empty. */
         return hot_scan(handle, upto, HOT_MAX_KEY, upto, 0, pairs, limit, count, more);
+    if (after == NULL || is_below(from, from_length, upto, length)) {
+        memcpy(from, upto, length);
+        from_length = length;
+    }
     return hot_scan(handle, from, from_length, upto, HOT_MAX_KEY, pairs, limit, count, more);
 }
 

@@ -160,7 +160,7 @@ hot_status hot_scan(hot_handle *handle, const uint8_t *from, size_t from_length,
 hot_status hot_after(const hot_pair *pair, uint8_t *key, size_t *length);
 
 /* hot_scan of the keys that begin with the prefix, which are all with an empty one: the first of them where `after` is NULL, else those
- * after this pair's, which may be the last of an earlier call.
+ * after this pair's, which may be the last one of an earlier call.
  * It writes and answers what hot_scan does. */
 hot_status hot_scan_prefix(hot_handle *handle, const uint8_t *prefix, size_t length, const hot_pair *after,
                            hot_pair *pairs, size_t limit, size_t *count, uint32_t *more);

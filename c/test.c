@@ -52,7 +52,7 @@ static void test_prefix(void) {
     uint32_t more = 9;
     memset(key, 0xff, sizeof key);
     CHECK(hot_create(100, 100, &handle, 1) == HOT_DONE);
-    CHECK(hot_first(&handle, NULL, 0, &pair) == HOT_ABSENT);
+    CHECK(hot_first(&handle, bytes(""), 0, &pair) == HOT_ABSENT);
     CHECK(hot_try_insert(&handle, bytes("a"), 1, 1, &had) == HOT_INSERTED);
     CHECK(hot_try_insert(&handle, bytes("ab"), 2, 2, &had) == HOT_INSERTED);
     CHECK(hot_try_insert(&handle, bytes("a\377\377"), 3, 3, &had) == HOT_INSERTED);
@@ -62,12 +62,14 @@ static void test_prefix(void) {
     CHECK(hot_scan_prefix(&handle, bytes("a"), 1, &pairs[1], pairs, 2, &count, &more) == HOT_DONE);
     CHECK(count == 1 && more == 0 && pairs[0].value == 3);
     CHECK(hot_scan_prefix(&handle, bytes("a"), 1, &pairs[0], pairs, 2, &count, &more) == HOT_DONE && count == 0 && more == 0);
-    CHECK(hot_scan_prefix(&handle, NULL, 0, &pairs[0], pairs, 2, &count, &more) == HOT_DONE && count == 1 && pairs[0].value == 4);
+    CHECK(hot_scan_prefix(&handle, bytes(""), 0, &pairs[0], pairs, 2, &count, &more) == HOT_DONE && count == 1 && pairs[0].value == 4);
+    CHECK(hot_first(&handle, bytes(""), 0, &pair) == HOT_FOUND && pair.value == 1);
+    CHECK(hot_scan_prefix(&handle, bytes("b"), 1, &pair, pairs, 2, &count, &more) == HOT_DONE && count == 1 && pairs[0].value == 4);
     CHECK(hot_first(&handle, bytes("ac"), 2, &pair) == HOT_FOUND && pair.length == 3 && pair.value == 3);
     CHECK(hot_first(&handle, bytes("c"), 1, &pair) == HOT_ABSENT && pair.value == 3);
     CHECK(hot_try_insert(&handle, key, HOT_MAX_KEY, 5, &had) == HOT_INSERTED);
     CHECK(hot_first(&handle, key, HOT_MAX_KEY, &pair) == HOT_FOUND && pair.value == 5);
-    CHECK(hot_scan_prefix(&handle, NULL, 0, &pair, pairs, 2, &count, &more) == HOT_DONE && count == 0 && more == 0);
+    CHECK(hot_scan_prefix(&handle, bytes(""), 0, &pair, pairs, 2, &count, &more) == HOT_DONE && count == 0 && more == 0);
     count = 9;
     CHECK(hot_scan_prefix(&handle, key, sizeof key, NULL, pairs, 2, &count, &more) == HOT_KEY_TOO_LONG && count == 9);
     CHECK(hot_first(&handle, key, sizeof key, &pair) == HOT_KEY_TOO_LONG);
