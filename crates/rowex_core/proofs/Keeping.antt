@@ -1,5 +1,5 @@
 -- What a pass knows stays true while other passes make their steps.
-use Rattle.std.proofs.Common.{◌≡◌, ◌≢◌, inl, inr, ℕ, ◌<◌, ◌≤◌, sym, ap, ◌∙◌, subst, le_trans}
+use Rattle.std.proofs.Common.{◌≡◌, ◌≢◌, inl, inr, ℕ, ◌<◌, ◌≤◌, refl, sym, ap, ◌∙◌, subst, le_trans}
 use Rattle.std.proofs.lemmas.List.Elements.{All-append, All-weaker}
 use Rattle.tries.specs.Tree.{Tree}
 use Rattle.moments.specs.declared.Rec.{Rec}
@@ -13,14 +13,16 @@ use Rattle.rowex_core.specs.declared.known.Fact.TheVariants.{Rooted, Placed, Fix
 use Rattle.rowex_core.specs.declared.known.Known.{Known}
 use Rattle.rowex_core.specs.declared.known.View.{View}
 use Rattle.rowex_core.specs.declared.known.View.TheVariants.{Spent, Dealer, Pass, Pair}
+use Rattle.hot_model.specs.Fronts.{BeginsWith}
 use Rattle.record_words.specs.declared.layout.Layout.{Layout}
 use Rattle.rowex_core.specs.Reading.{entry_in, word_in}
 use Rattle.rowex_core.specs.Cores.{Core, IsLawful}
 use Rattle.rowex_core.specs.Events.{Legal, after}
 use Rattle.rowex_core.specs.Frames.{IsFrame}
 use Rattle.rowex_core.specs.Knowing.{StoodBetween, StoodAs, HoldsIfStood, IsFact, Knows, NoChangeBy, IsUntouched, Knowing, Owns}
+use Rattle.rowex_core.specs.Statements.{SeesAll}
 use Rattle.rowex_core.proofs.Frames.{frame}
-use Rattle.hot_model.proofs.Growth.{others_on}
+use Rattle.hot_model.proofs.Growth.{others_begin, others_on}
 
 -- Facts of the past
 
@@ -42,8 +44,6 @@ fact_grown a b g (Rooted since at e) (lo, hi, h) = (lo, le_trans hi g.longer, ap
 fact_grown a b g (Placed since at n j e) (hi, h) = (le_trans hi g.longer, found_grown a b g since at (a_node n) (λ u. entry_in u j ≡ e) hi h)
 fact_grown a b g (Fixed since at r offset w) (hi, h) = (le_trans hi g.longer, found_grown a b g since at r (λ u. word_in u offset ≡ w) hi h)
 
--- Fronts
-
 -- The whole
 
 pub knows_kept : (c d : Core) (k : Known) → IsFrame k.pass c d → Knows c k → Knows d k
@@ -63,6 +63,14 @@ untouched_kept c d q f h = record {
   changes = subst (NoChangeBy q) (sym f.changes.1) (All-append (λ z. z.pass ≢ q) c.changes f.changes.0 h.changes f.changes.2);
   own = f.own ∙ h.own;
 }
+
+-- What a pass knew to have seen, the changes begin with.
+pub seen_by : (c : Core) (o : Known) → Knows c o → BeginsWith c.changes o.front
+seen_by c o h = others_begin o.pass o.front c.changes h.seen.front
+
+-- A load of the root shows all changes.
+pub sees_all : SeesAll
+sees_all c k w law h l = (refl, refl, λ o known. seen_by c o known)
 
 -- A legal step of one pass leaves true what any other view says.
 pub keeps : (c : Core) (p : ℕ) (act : Act) (v : View) → IsLawful c → Legal c p act → ¬ (Owns v p) → Knowing c v → Knowing (after c p act) v

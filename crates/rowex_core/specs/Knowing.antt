@@ -231,3 +231,17 @@ pub record IsEvent (layout : Layout) (act : Act) (said : Known → List Note) (k
   pub knows : Knows core k
   pub legal : Legal core k.pass act
   pub learned_is : j ≡ record (learned core act k) { notes = k.notes ++ said (learned core act k) }
+
+-- Between knowing k and knowing j the pass has loaded the root: the last time with this knowledge, in a lawful core of which that was
+-- true. That load left it the very changes of that core; and they begin with those that any pass had seen by then.
+pub record SeesAllAtRoot (layout : Layout) (k j : Known) : Type 0 where
+  pub core : Core
+  pub lawful : IsLawful core
+  pub layout_is : core.layout ≡ layout
+  pub at : Known
+  pub knows : Knows core at
+  pub pass : at.pass ≡ k.pass
+  pub since : k.steps ≤ at.steps
+  pub until : at.steps < j.steps
+  pub fresh : j.fresh ≡ record { front = core.changes; step = at.steps }
+  pub all : (o : Known) → Knows core o → BeginsWith j.fresh.front o.front

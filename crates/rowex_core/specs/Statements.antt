@@ -7,7 +7,7 @@ use Rattle.hot_model.specs.declared.Change.{Change}
 use Rattle.hot_model.specs.declared.Kind.{Kind}
 use Rattle.hot_model.specs.declared.Kind.TheVariants.{Added, Replaced, Removed}
 use Rattle.hot_model.specs.Maps.{map_after}
-use Rattle.hot_model.specs.Fronts.{map_of, Fits}
+use Rattle.hot_model.specs.Fronts.{BeginsWith, map_of, Fits}
 use Rattle.record_words.specs.declared.TheConstants.{FIRST_ENTRY, MAX_ENTRIES}
 use Rattle.record_words.specs.Layout.{address}
 use Rattle.record_words.specs.declared.layout.Layout.{Layout}
@@ -23,9 +23,10 @@ use Rattle.moments.specs.State.{Past, Spans, Stands, IsSameRecord, IsLed, IsTop}
 use Rattle.moments.specs.Core.{Free, Held, life_of}
 use Rattle.moments.specs.Told.{content, items_of, IsChange}
 use Rattle.rowex_core.specs.declared.event.Act.{Act}
-use Rattle.rowex_core.specs.declared.event.Act.TheVariants.{Lock, Publish}
+use Rattle.rowex_core.specs.declared.event.Act.TheVariants.{LoadRef, Lock, Publish}
 use Rattle.rowex_core.specs.declared.event.Target.TheVariants.{Node as NodeTarget}
 use Rattle.rowex_core.specs.declared.event.Spot.{Spot}
+use Rattle.rowex_core.specs.declared.event.Spot.TheVariants.{Root}
 use Rattle.rowex_core.specs.declared.known.Known.{Known}
 use Rattle.rowex_core.specs.declared.known.View.{View}
 use Rattle.rowex_core.specs.declared.known.View.TheVariants.{Dealer}
@@ -56,6 +57,12 @@ LeavesOthers = (c : Core) (p q : ℕ) (act : Act) → p ≢ q → IsLawful c →
 -- what a pass knows after its own step is true
 abbrev pub Learns : Type 0
 Learns = (c : Core) (k : Known) (act : Act) → IsLawful c → Knows c k → Legal c k.pass act → Knows (after c k.pass act) (learned c act k)
+
+-- a legal load of the root leaves its pass all changes that were made before it, and so all that any pass had seen by then
+abbrev pub SeesAll : Type 0
+SeesAll =
+    (c : Core) (k : Known) (w : ℕ) → IsLawful c → Knows c k → Legal c k.pass (LoadRef Root w) →
+    let j = learned c (LoadRef Root w) k in (j.front ≡ c.changes) × (j.fresh.front ≡ c.changes) × ((o : Known) → Knows c o → BeginsWith j.fresh.front o.front)
 
 -- what a pass knows that it has, it has, and no more
 abbrev pub KnowsAll : Type 0

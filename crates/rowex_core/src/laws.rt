@@ -1,6 +1,6 @@
 //! The laws of the core. The functions do nothing: their contracts are the laws.
 
-ghost use Rattle.rowex_core.specs.Statements.{EntriesInReach, FindsChange, Hindsight, InReach, Keeps, KnowsAll, Learns, LeavesOthers, LocksApart, OnlyPublishAppends, OpeningIsLawful, Parting, PublishIsAStep, RunsKeep, RunsStayLawful, StaysLawful, WritesOne};
+ghost use Rattle.rowex_core.specs.Statements.{EntriesInReach, FindsChange, Hindsight, InReach, Keeps, KnowsAll, Learns, LeavesOthers, LocksApart, OnlyPublishAppends, OpeningIsLawful, Parting, PublishIsAStep, RunsKeep, RunsStayLawful, SeesAll, StaysLawful, WritesOne};
 
 /// A legal step keeps the core lawful.
 pub fn stays_lawful()
@@ -20,6 +20,11 @@ pub fn keeps()
 /// What a pass knows after its own step is true.
 pub fn learns()
     ensures { Learns }
+{}
+
+/// A load of the root leaves its pass all changes that were made before it, and so all that any pass had seen by then.
+pub fn sees_all()
+    ensures { SeesAll }
 {}
 
 /// What a pass knows that it has, it has, and no more.

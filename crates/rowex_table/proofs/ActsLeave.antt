@@ -1,7 +1,8 @@
 -- What each act leaves its pass of what it knew.
-use Rattle.std.proofs.Common.{◌≡◌, ℕ, Bool, true, false, nat_eq, Option, Some, None, refl, ap, ◌∙◌}
+use Rattle.std.proofs.Common.{◌≡◌, ℕ, List, Bool, true, false, nat_eq, Option, Some, None, refl, ap, ◌∙◌}
 use Rattle.std.specs.Prelude.{if◌then◌else◌}
 use Rattle.std.proofs.lemmas.List.{append-nil}
+use Rattle.hot_model.specs.declared.Note.{Note}
 use Rattle.record_words.specs.declared.layout.Layout.{Layout}
 use Rattle.moments.specs.declared.Rec.{Rec}
 use Rattle.moments.specs.Core.{Fate, Free, Held as HeldBy, Ready as ReadyBy, InTree, Unlinked as UnlinkedBy, Marked}
@@ -86,3 +87,7 @@ module _ (layout : Layout) (k j : Known) where
         pin = λ t. ap (λ (z : Known). z.pin) e.learned_is ∙ a.pin t;
         round = λ t. ap (λ (z : Known). z.round) e.learned_is ∙ a.round t;
       }
+
+  -- and whatever is noted with it, a step that is no load of the root leaves what the last one found
+  pub act_fresh : (act : Act) (said : Known → List Note) → IsEvent layout act said k j → LeavesFresh act → j.fresh ≡ k.fresh
+  act_fresh act said e leaves = ap (λ (z : Known). z.fresh) e.learned_is ∙ (as_before e.core act).fresh leaves

@@ -7,3 +7,4 @@ pub mod Running
 pub mod ActsBefore
 pub mod ActsAfter
 pub mod ActsLeave
+pub mod Seeing
