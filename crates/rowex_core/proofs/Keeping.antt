@@ -1,5 +1,5 @@
 -- What a pass knows stays true while other passes make their steps.
-use Rattle.std.proofs.Common.{◌≡◌, ◌≢◌, inl, inr, ℕ, ◌<◌, ◌≤◌, refl, sym, ap, ◌∙◌, subst, le_trans}
+use Rattle.std.proofs.Common.{◌≡◌, ◌≢◌, inl, inr, ℕ, suc, ◌<◌, ◌≤◌, List, refl, sym, ap, ◌∙◌, subst, le_trans, arith}
 use Rattle.std.proofs.lemmas.List.Elements.{All-append, All-weaker}
 use Rattle.tries.specs.Tree.{Tree}
 use Rattle.moments.specs.declared.Rec.{Rec}
@@ -12,7 +12,8 @@ use Rattle.rowex_core.specs.declared.known.Fact.{Fact}
 use Rattle.rowex_core.specs.declared.known.Fact.TheVariants.{Rooted, Placed, Fixed}
 use Rattle.rowex_core.specs.declared.known.Known.{Known}
 use Rattle.rowex_core.specs.declared.known.View.{View}
-use Rattle.rowex_core.specs.declared.known.View.TheVariants.{Spent, Dealer, Pass, Pair}
+use Rattle.rowex_core.specs.declared.known.View.TheVariants.{Spent, Dealer, Pass, Pair, Witness, Follower}
+use Rattle.hot_model.specs.declared.Change.{Change}
 use Rattle.hot_model.specs.Fronts.{BeginsWith}
 use Rattle.record_words.specs.declared.layout.Layout.{Layout}
 use Rattle.rowex_core.specs.Reading.{entry_in, word_in}
@@ -22,7 +23,7 @@ use Rattle.rowex_core.specs.Frames.{IsFrame}
 use Rattle.rowex_core.specs.Knowing.{StoodBetween, StoodAs, HoldsIfStood, IsFact, Knows, NoChangeBy, IsUntouched, Knowing, Owns}
 use Rattle.rowex_core.specs.Statements.{SeesAll}
 use Rattle.rowex_core.proofs.Frames.{frame}
-use Rattle.hot_model.proofs.Growth.{others_begin, others_on}
+use Rattle.hot_model.proofs.Growth.{begins_on, others_begin, others_on}
 
 -- Facts of the past
 
@@ -64,6 +65,11 @@ untouched_kept c d q f h = record {
   own = f.own ∙ h.own;
 }
 
+-- changes that have been made stay made, whoever makes the step
+witness_kept : (c : Core) (p : ℕ) (act : Act) (front : List Change) → IsLawful c → Legal c p act → BeginsWith c.changes front → BeginsWith (after c p act).changes front
+witness_kept c p act front law l h =
+    begins_on front c.changes (after c p act).changes h (others_begin (suc p) c.changes (after c p act).changes (frame c p (suc p) act (λ e. omega arith) law l).changes)
+
 -- What a pass knew to have seen, the changes begin with.
 pub seen_by : (c : Core) (o : Known) → Knows c o → BeginsWith c.changes o.front
 seen_by c o h = others_begin o.pass o.front c.changes h.seen.front
@@ -82,3 +88,5 @@ keeps c p act (Pair j k) law l n h = (
   knows_kept c (after c p act) k (frame c p k.pass act (λ e. n (inr (sym e))) law l) h.1,
   h.2,
 )
+keeps c p act (Witness front) law l n h = witness_kept c p act front law l h
+keeps c p act (Follower k front) law l n h = (knows_kept c (after c p act) k (frame c p k.pass act (λ e. n (sym e)) law l) h.0, witness_kept c p act front law l h.1)

@@ -32,7 +32,7 @@ use Rattle.rowex_core.specs.declared.known.FailedAct.{FailedAct}
 use Rattle.rowex_core.specs.declared.known.FailedAct.TheVariants.{Claim as a_claim, Lock as a_lock, LoadState as a_load}
 use Rattle.rowex_core.specs.declared.known.Known.{Known}
 use Rattle.rowex_core.specs.declared.known.View.{View}
-use Rattle.rowex_core.specs.declared.known.View.TheVariants.{Spent, Dealer, Pass, Pair}
+use Rattle.rowex_core.specs.declared.known.View.TheVariants.{Spent, Dealer, Pass, Pair, Witness, Follower}
 use Rattle.rowex_core.specs.Cores.{Core, IsLawful}
 use Rattle.rowex_core.specs.Reading.{entry_of, root_of, entry_in, word_in}
 use Rattle.rowex_core.specs.Sharing.{share, known_share, nothing}
@@ -100,6 +100,8 @@ Knowing c Spent = Unit {0}
 Knowing c (Dealer m) = (q : ℕ) → m ≤ q → IsUntouched c q
 Knowing c (Pass k) = Knows c k
 Knowing c (Pair j k) = Knows c j × Knows c k × (j.pass ≢ k.pass)
+Knowing c (Witness front) = BeginsWith c.changes front
+Knowing c (Follower k front) = Knows c k × BeginsWith c.changes front
 
 -- the view has this number
 abbrev pub Owns : View → ℕ → Type 0
@@ -107,6 +109,8 @@ Owns Spent q = ⊥
 Owns (Dealer m) q = m ≤ q
 Owns (Pass k) q = k.pass ≡ q
 Owns (Pair j k) q = (j.pass ≡ q) ⊎ (k.pass ≡ q)
+Owns (Witness front) q = ⊥
+Owns (Follower k front) q = k.pass ≡ q
 
 -- What a step teaches its pass, where c is the core before it
 

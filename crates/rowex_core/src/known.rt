@@ -109,4 +109,8 @@ pub enum View {
     Pass(Known),
     /// What two passes know that have been joined.
     Pair(Known, Known),
+    /// That these changes have been made. Its seat is no pass's, and has nothing.
+    Witness(LinkedList<Change>),
+    /// What a pass knows that a witness has been joined to, and the witness's changes.
+    Follower(Known, LinkedList<Change>),
 }

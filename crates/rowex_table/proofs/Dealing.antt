@@ -71,7 +71,7 @@ at_end (x ∷ xs) a b (suc j) e = ⊎_elim inl (λ t. inr (ap suc t.0, t.1)) (at
 
 module _ {S : Type 0} (layout : Layout) (id : ℕ) (v left right : View) where
   -- each part keeps to the numbers and the knowledge of the whole, and they have no number in common
-  splits : ((c : Core) → c.layout ≡ layout → Knowing c v → Knowing c left × Knowing c right) → ((q : ℕ) → Owns left q → Owns v q) → ((q : ℕ) → Owns right q → Owns v q) → ((q : ℕ) → Owns left q → Owns right q → ⊥) → ((q : ℕ) → Owns v q → Owns left q ⊎ Owns right q)
+  pub splits : ((c : Core) → c.layout ≡ layout → Knowing c v → Knowing c left × Knowing c right) → ((q : ℕ) → Owns left q → Owns v q) → ((q : ℕ) → Owns right q → Owns v q) → ((q : ℕ) → Owns left q → Owns right q → ⊥) → ((q : ℕ) → Owns v q → Owns left q ⊎ Owns right q)
       → Splits {S = S} {V = View} (Ruled layout) id v left right
   splits knowing lo ro lr vs s r here =
       let parts = knowing r.core r.layout_is (r.knows id v here) in
@@ -126,60 +126,64 @@ parts {S = S} layout id v j k is ne = subst (λ (z : View). Splits {S = S} {V = 
 
 -- Joining
 
+module _ {S : Type 0} (layout : Layout) (id other : ℕ) (v w both : View) where
+  -- the two are one seat now, which has the numbers of both; the other has none
+  pub joins_as : ((c : Core) → Knowing c v → Knowing c w → ((q : ℕ) → Owns v q → Owns w q → ⊥) → Knowing c both) → ((q : ℕ) → Owns both q → Owns v q ⊎ Owns w q) → ((q : ℕ) → Owns v q ⊎ Owns w q → Owns both q)
+      → Joins {S = S} {V = View} (Ruled layout) id v other w both Spent
+  joins_as knowing of_both to_both s r here ne there =
+      let second : get_elem? s.views other ≡ some w = ⊎_elim (λ (t : (other ≡ id) × (both ≡ w)). absurd (ne t.0)) (λ (t : (other ≢ id) × (get_elem? s.views other ≡ some w)). t.1) (at_set s.views id other both w there) in
+      let views : List View = set s.views id both in
+      -- a seat of the new list is one of the old that owns the same, or the joined one
+      let from : (i q : ℕ) (x : View) → get_elem? (set views other Spent) i ≡ some x → Owns x q → ((i ≡ id) × (Owns v q ⊎ Owns w q)) ⊎ ((i ≢ id) × (i ≢ other) × (get_elem? s.views i ≡ some x)) = λ i q x e o. ⊎_elim
+      (λ (t : (i ≡ other) × (Spent ≡ x)). absurd (subst (λ z. Owns z q) (sym t.1) o))
+      (λ (t : (i ≢ other) × (get_elem? views i ≡ some x)). ⊎_elim
+      (λ (u : (i ≡ id) × (both ≡ x)). inl (u.0, of_both q (subst (λ z. Owns z q) (sym u.1) o)))
+      (λ (u : (i ≢ id) × (get_elem? s.views i ≡ some x)). inr (u.0, t.0, u.1))
+      (at_set s.views id i both x t.1))
+      (at_set views other i Spent x e) in
+      let clash : (i q : ℕ) (x : View) → i ≢ id → i ≢ other → get_elem? s.views i ≡ some x → Owns x q → Owns v q ⊎ Owns w q → ⊥ = λ i q x a b e o own. ⊎_elim
+      (λ (p : Owns v q). a (r.apart i id q x v e here o p))
+      (λ (p : Owns w q). b (r.apart i other q x w e second o p))
+      own in
+      record {
+        core = r.core;
+        lawful = r.lawful;
+        layout_is = r.layout_is;
+        shows = r.shows;
+        knows = λ i x e. ⊎_elim
+            (λ (t : (i ≡ other) × (Spent ≡ x)). subst (Knowing r.core) t.1 tt)
+            (λ (t : (i ≢ other) × (get_elem? views i ≡ some x)). ⊎_elim
+            (λ (u : (i ≡ id) × (both ≡ x)). subst (Knowing r.core) u.1 (knowing r.core (r.knows id v here) (r.knows other w second) (λ q o p. ne (r.apart other id q w v second here p o))))
+            (λ (u : (i ≢ id) × (get_elem? s.views i ≡ some x)). r.knows i x u.1)
+            (at_set s.views id i both x t.1))
+            (at_set views other i Spent x e);
+        apart = λ i l q x y a b ox oy. ⊎_elim
+            (λ s1. ⊎_elim (λ s2. s1.0 ∙ sym s2.0) (λ s2. absurd (clash l q y s2.0 s2.1 s2.2 oy s1.1)) (from l q y b oy))
+            (λ s1. ⊎_elim (λ s2. absurd (clash i q x s1.0 s1.1 s1.2 ox s2.1)) (λ s2. r.apart i l q x y s1.2 s2.2 ox oy) (from l q y b oy))
+            (from i q x a ox);
+        each = λ q low. let seat = r.each q low in ⊎_elim
+            (λ (e : (eqb seat.0 other ≡ true) × (seat.0 ≡ other)).
+            let is : Owns w q = subst (λ z. Owns z q) (some-injective seat.1 w (sym seat.2 ∙ (ap (λ n. get_elem? s.views n) e.1 ∙ second))) seat.3 in
+            (id, both, set_else views other id Spent (λ same. ne (sym same)) ∙ set_at s.views id both v here, to_both q (inr is)))
+            (λ (n : (eqb seat.0 other ≡ false) × (seat.0 ≢ other)). ⊎_elim
+            (λ (e : (eqb seat.0 id ≡ true) × (seat.0 ≡ id)).
+            let is : Owns v q = subst (λ z. Owns z q) (some-injective seat.1 v (sym seat.2 ∙ (ap (λ m. get_elem? s.views m) e.1 ∙ here))) seat.3 in
+            (id, both, set_else views other id Spent (λ same. ne (sym same)) ∙ set_at s.views id both v here, to_both q (inl is)))
+            (λ (m : (eqb seat.0 id ≡ false) × (seat.0 ≢ id)). (seat.0, seat.1, set_else views other seat.0 Spent n.1 ∙ (set_else s.views id seat.0 both m.1 ∙ seat.2), seat.3))
+            (eqb_tells seat.0 id))
+            (eqb_tells seat.0 other);
+      }
+
 pub joins : {S : Type 0} (layout : Layout) (id other : ℕ) (v w : View) (j k : Known) → v ≡ Pass j → w ≡ Pass k → Joins {S = S} {V = View} (Ruled layout) id v other w (paired v w) Spent
-joins {S = S} layout id other v w j k isv isw = subst (λ (z : View × View). Joins {S = S} {V = View} (Ruled layout) id z.0 other z.1 (paired z.0 z.1) Spent) (λ i. (sym isv i, sym isw i)) go
-  where
-    go : Joins {S = S} {V = View} (Ruled layout) id (Pass j) other (Pass k) (Pair j k) Spent
-    go s r here ne there =
-        let second : get_elem? s.views other ≡ some (Pass k) = ⊎_elim (λ (t : (other ≡ id) × (Pair j k ≡ Pass k)). absurd (ne t.0)) (λ (t : (other ≢ id) × (get_elem? s.views other ≡ some (Pass k))). t.1) (at_set s.views id other (Pair j k) (Pass k) there) in
-        let views : List View = set s.views id (Pair j k) in
-        -- a seat of the new list is one of the old that owns the same, or the pair
-        let from : (i q : ℕ) (x : View) → get_elem? (set views other Spent) i ≡ some x → Owns x q → ((i ≡ id) × ((j.pass ≡ q) ⊎ (k.pass ≡ q))) ⊎ ((i ≢ id) × (i ≢ other) × (get_elem? s.views i ≡ some x)) = λ i q x e o. ⊎_elim
-        (λ (t : (i ≡ other) × (Spent ≡ x)). absurd (subst (λ z. Owns z q) (sym t.1) o))
-        (λ (t : (i ≢ other) × (get_elem? views i ≡ some x)). ⊎_elim
-        (λ (u : (i ≡ id) × (Pair j k ≡ x)). inl (u.0, subst (λ z. Owns z q) (sym u.1) o))
-        (λ (u : (i ≢ id) × (get_elem? s.views i ≡ some x)). inr (u.0, t.0, u.1))
-        (at_set s.views id i (Pair j k) x t.1))
-        (at_set views other i Spent x e) in
-        let clash : (i q : ℕ) (x : View) → i ≢ id → i ≢ other → get_elem? s.views i ≡ some x → Owns x q → (j.pass ≡ q) ⊎ (k.pass ≡ q) → ⊥ = λ i q x a b e o own. ⊎_elim
-        (λ (p : j.pass ≡ q). a (r.apart i id q x (Pass j) e here o p))
-        (λ (p : k.pass ≡ q). b (r.apart i other q x (Pass k) e second o p))
-        own in
-        record {
-          core = r.core;
-          lawful = r.lawful;
-          layout_is = r.layout_is;
-          shows = r.shows;
-          knows = λ i x e. ⊎_elim
-              (λ (t : (i ≡ other) × (Spent ≡ x)). subst (Knowing r.core) t.1 tt)
-              (λ (t : (i ≢ other) × (get_elem? views i ≡ some x)). ⊎_elim
-              (λ (u : (i ≡ id) × (Pair j k ≡ x)). subst (Knowing r.core) u.1 (r.knows id (Pass j) here, r.knows other (Pass k) second, λ e. ne (r.apart other id k.pass (Pass k) (Pass j) second here refl e)))
-              (λ (u : (i ≢ id) × (get_elem? s.views i ≡ some x)). r.knows i x u.1)
-              (at_set s.views id i (Pair j k) x t.1))
-              (at_set views other i Spent x e);
-          apart = λ i l q x y a b ox oy. ⊎_elim
-              (λ s1. ⊎_elim (λ s2. s1.0 ∙ sym s2.0) (λ s2. absurd (clash l q y s2.0 s2.1 s2.2 oy s1.1)) (from l q y b oy))
-              (λ s1. ⊎_elim (λ s2. absurd (clash i q x s1.0 s1.1 s1.2 ox s2.1)) (λ s2. r.apart i l q x y s1.2 s2.2 ox oy) (from l q y b oy))
-              (from i q x a ox);
-          each = λ q low. let seat = r.each q low in ⊎_elim
-              (λ (e : (eqb seat.0 other ≡ true) × (seat.0 ≡ other)).
-              let is : k.pass ≡ q = subst (λ z. Owns z q) (some-injective seat.1 (Pass k) (sym seat.2 ∙ (ap (λ n. get_elem? s.views n) e.1 ∙ second))) seat.3 in
-              (id, Pair j k, set_else views other id Spent (λ same. ne (sym same)) ∙ set_at s.views id (Pair j k) (Pass j) here, inr is))
-              (λ (n : (eqb seat.0 other ≡ false) × (seat.0 ≢ other)). ⊎_elim
-              (λ (e : (eqb seat.0 id ≡ true) × (seat.0 ≡ id)).
-              let is : j.pass ≡ q = subst (λ z. Owns z q) (some-injective seat.1 (Pass j) (sym seat.2 ∙ (ap (λ m. get_elem? s.views m) e.1 ∙ here))) seat.3 in
-              (id, Pair j k, set_else views other id Spent (λ same. ne (sym same)) ∙ set_at s.views id (Pair j k) (Pass j) here, inl is))
-              (λ (m : (eqb seat.0 id ≡ false) × (seat.0 ≢ id)). (seat.0, seat.1, set_else views other seat.0 Spent n.1 ∙ (set_else s.views id seat.0 (Pair j k) m.1 ∙ seat.2), seat.3))
-              (eqb_tells seat.0 id))
-              (eqb_tells seat.0 other);
-        }
+joins {S = S} layout id other v w j k isv isw = subst (λ (z : View × View). Joins {S = S} {V = View} (Ruled layout) id z.0 other z.1 (paired z.0 z.1) Spent) (λ i. (sym isv i, sym isw i))
+    (joins_as layout id other (Pass j) (Pass k) (Pair j k) (λ c a b apart. (a, b, λ e. apart k.pass e refl)) (λ q o. o) (λ q o. o))
 
 -- The load of a meeting
 
 fresh_begins : (q : ℕ) (a b c : List Change) → OthersGoOn q a b → BeginsWith a c → BeginsWith b c
 fresh_begins q a b c x y = (y.0 ++ x.0, x.1 ∙ (ap (λ (z : List Change). z ++ x.0) y.1 ∙ Rattle.std.proofs.Common.append_assoc c y.0 x.0))
 
-met_knows : (c : Core) (k : Known) → Knows c k → Knows c (with_front c.changes k)
+pub met_knows : (c : Core) (k : Known) → Knows c k → Knows c (with_front c.changes k)
 met_knows c k h = record {
   pass = h.pass;
   counted = h.counted;

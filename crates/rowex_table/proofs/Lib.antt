@@ -1,6 +1,7 @@
 -- The lemmas of the crate.
 pub mod Keeping
 pub mod Dealing
+pub mod Stamps
 pub mod Rights
 pub mod RootRights
 pub mod Running

@@ -5,7 +5,7 @@ use lib.ListN.{get_elem?}
 use Rattle.atomic_table.specs.Table.{State, Me, Step}
 use Rattle.hot_model.specs.declared.Change.{Change}
 use Rattle.hot_model.specs.declared.Note.{Note}
-use Rattle.hot_model.specs.Fronts.{LegalFront, OthersGoOn}
+use Rattle.hot_model.specs.Fronts.{BeginsWith, LegalFront, OthersGoOn}
 use Rattle.record_words.specs.declared.TheConstants.{MAX_ENTRIES}
 use Rattle.record_words.specs.declared.layout.Layout.{Layout}
 use Rattle.record_words.specs.declared.layout.Location.{Location}
@@ -17,7 +17,7 @@ use Rattle.rowex_core.specs.declared.event.Spot.{Spot}
 use Rattle.rowex_core.specs.declared.event.Spot.TheVariants.{Root, Slot}
 use Rattle.rowex_core.specs.declared.known.Known.{Known}
 use Rattle.rowex_core.specs.declared.known.View.{View}
-use Rattle.rowex_core.specs.declared.known.View.TheVariants.{Spent, Dealer, Pass, Pair}
+use Rattle.rowex_core.specs.declared.known.View.TheVariants.{Spent, Dealer, Pass, Pair, Witness, Follower}
 use Rattle.rowex_core.specs.Cores.{Core, HasRecord, IsLawful}
 use Rattle.rowex_core.specs.Words.{Shows, word_at}
 use Rattle.rowex_core.specs.Events.{Legal, location_of, word_of}
@@ -148,3 +148,35 @@ Meeting _ _ w = Unit {0}
 
 abbrev pub met : {S : Type 0} → Option Layout → Step S → Me S View → ℕ → Me S View → Type 0
 met layout st m told m' = (m'.1 ≡ m.1) × Meeting layout m.0 m'.0
+
+-- Stamps, and passes that follow them
+
+-- the changes that a stamp's seat knows to have been made
+abbrev pub witnessed : View → List Change
+witnessed (Witness front) = front
+witnessed v = []
+
+-- the seat is a stamp's, and holds nothing
+abbrev pub IsOfStamp : {S : Type 0} → Me S View → Type 0
+IsOfStamp me = me ≡ (Witness (witnessed me.0), [])
+
+abbrev pub stamped : View → View
+stamped (Pass k) = Witness k.front
+stamped v = Spent
+
+abbrev pub following : View → View → View
+following (Pass k) (Witness front) = Follower k front
+following v w = Spent
+
+-- The pass that knew k knows j now: it has seen all changes so far, each of which was legal and made by a pass of the table. They begin
+-- with the stamp's, and with what the pass had seen, and go on from there by changes of others.
+abbrev pub HasFollowed : Layout → List Change → Known → Known → Type 0
+HasFollowed layout stamp k j =
+    (front : List Change) × (j ≡ with_front front k) × LegalFront front × OthersGoOn k.pass k.front front × BeginsWith front stamp × All (λ x. x.pass < layout.passes) front
+
+abbrev pub Following : Option Layout → View → View → Type 0
+Following (Some layout) (Follower k stamp) w = (j : Known) × (w ≡ Pass j) × HasFollowed layout stamp k j
+Following _ _ w = Unit {0}
+
+abbrev pub followed : {S : Type 0} → Option Layout → Step S → Me S View → ℕ → Me S View → Type 0
+followed layout st m told m' = (m'.1 ≡ m.1) × Following layout m.0 m'.0

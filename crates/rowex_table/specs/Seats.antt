@@ -1,6 +1,7 @@
 -- Tables and the seats of their passes, as contracts see them.
-use Rattle.std.specs.Prelude.{◌≡◌, ◌<◌, ℕ}
+use Rattle.std.specs.Prelude.{◌≡◌, ◌<◌, ℕ, List}
 use Rattle.atomic_table.specs.Seated.{TableId}
+use Rattle.hot_model.specs.declared.Change.{Change}
 use Rattle.record_words.specs.declared.layout.Layout.{Layout}
 use Rattle.rowex_core.specs.declared.known.Known.{Known}
 use Rattle.rowex_table.specs.Rule.{opening_of}
@@ -15,6 +16,15 @@ pub record SeatView : Type 0 where
   pub table : TableId
   pub id : ℕ
   pub known : Known
+
+-- a stamp: its table, and the changes that it tells of
+pub record StampView : Type 0 where
+  pub table : TableId
+  pub front : List Change
+
+-- the stamp is one of this table
+abbrev pub IsStampOf : TableView → StampView → Type 0
+IsStampOf table s = s.table ≡ table.id
 
 -- the seat is one of this table
 abbrev pub IsSeatOf : TableView → SeatView → Type 0

@@ -8,7 +8,9 @@ mod plays;
 mod record_steps;
 mod seating;
 mod spot_steps;
+mod stamping;
 mod steps;
 mod table;
 
+pub use stamping::TableStamp;
 pub use table::{HotTable, TableSeat};

@@ -7,7 +7,7 @@ ghost use Rattle.rowex_core.specs.declared.event.Act.{Act as Deed};
 ghost use Rattle.rowex_core.specs.declared.event.Act.TheVariants.{ClearPin};
 ghost use Rattle.rowex_core.specs.declared.known.Known.{Known};
 ghost use Rattle.rowex_core.specs.declared.known.View.TheVariants.{Dealer, Spent};
-ghost use Rattle.rowex_table.specs.Rule.{Ruled, did, met, next_dealer, dealt, paired, first_of_two, second_of_two};
+ghost use Rattle.rowex_table.specs.Rule.{Ruled, did, met, next_dealer, dealt, paired, first_of_two, second_of_two, stamped, following, followed};
 
 use atomic_table::{Join, Play, Split, TableRule};
 use record_words::Layout;
@@ -77,4 +77,26 @@ impl Join<View> for Part {
     ghost both = { paired };
 
     ghost spent = { Spent };
+}
+
+pub(crate) struct Stamping;
+
+impl Split<View> for Stamping {
+    ghost left = { λ v. v };
+
+    ghost right = { stamped };
+}
+
+impl Join<View> for Stamping {
+    ghost both = { following };
+
+    ghost spent = { Spent };
+}
+
+pub(crate) struct Follows<Q> {
+    step: PhantomData<Q>,
+}
+
+impl<Q: Step> Play<(), View> for Follows<Q> {
+    ghost then = { followed Q.layout };
 }

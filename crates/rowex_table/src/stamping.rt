@@ -1,0 +1,64 @@
+//! Stamps: what a pass has seen, as a value of its own, and the pass that follows one.
+
+ghost use Rattle.std.specs.Prelude.{◌≡◌, Some};
+ghost use Rattle.rowex_table.specs.Rule.{HasFollowed};
+ghost use Rattle.rowex_table.specs.Seats.{IsSame, IsSeatOf, IsStampOf};
+
+use crate::plays::{Follows, Stamping, Step};
+use crate::table::{HotTable, TableSeat};
+use atomic_table::Seat;
+use rowex_core::View;
+use std::marker::{Brand, Model};
+
+/// What a pass had seen, as a value that may go to another thread. It has no bytes, and no right to any step.
+#[derive(Drop)]
+pub struct TableStamp {
+    seat: Seat<(), View>,
+}
+
+impl Model for TableStamp {
+    ghost use Rattle.rowex_table.specs.Seats.{StampView};
+
+    ghost Value = { StampView };
+
+    ghost use Rattle.rowex_table.specs.Rule.{IsOfStamp, witnessed};
+
+    ghost view = { λ s. record { table = s.seat.table_id; front = witnessed s.seat.me.0 } };
+
+    ghost invariant = { λ s. IsOfStamp s.seat.me };
+}
+
+impl HotTable {
+    /// A stamp with the changes that the pass has seen. It makes no event, and the pass is as it was.
+    pub fn stamp_seat(&self, seat: &mut TableSeat) -> TableStamp
+        requires { IsSeatOf self.now seat.old }
+        ensures same { seat.new ≡ seat.old }
+        ensures own { IsStampOf self.now result }
+        ensures front { result.front ≡ seat.old.known.front }
+    {
+        let seat = self.table.shared.split_seat::<Stamping>(&mut seat.seat);
+        TableStamp { seat }
+    }
+
+    /// The pass sees the changes as they are now, and with them all that the stamp tells of. It makes no event.
+    pub fn follow_stamp(&self, seat: &mut TableSeat, stamp: TableStamp)
+        requires { IsSeatOf self.now seat.old × IsStampOf self.now stamp }
+        ensures same { IsSame seat.old seat.new }
+        ensures followed { HasFollowed self.now.layout stamp.front seat.old.known seat.new.known }
+    {
+        self.follow_as::<Brand>(seat, stamp);
+    }
+
+    /// `follow_stamp`, at a table of the layout that `Q` names.
+    fn follow_as<Q: Step>(&self, seat: &mut TableSeat, stamp: TableStamp)
+        requires own { IsSeatOf self.now seat.old × IsStampOf self.now stamp }
+        requires layout { Q.layout ≡ Some self.now.layout }
+        ensures same { IsSame seat.old seat.new }
+        ensures followed { HasFollowed self.now.layout stamp.front seat.old.known seat.new.known }
+    {
+        let TableStamp { seat: witness } = stamp;
+        let shared = &self.table.shared;
+        shared.join_seat::<Stamping>(&mut seat.seat, witness);
+        shared.load::<Follows<Q>>(&mut seat.seat, 0);
+    }
+}
