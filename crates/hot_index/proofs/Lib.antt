@@ -6,6 +6,7 @@ pub mod ManyNoted
 pub mod Scanned
 pub mod Firsts
 pub mod Collected
+pub mod Counted
 pub mod Trying
 pub mod Resting
 pub mod Making

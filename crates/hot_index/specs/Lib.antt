@@ -4,6 +4,7 @@ pub mod Answers
 pub mod Noting
 pub mod Traces
 pub mod Many
+pub mod Census
 pub mod Counts
 pub mod Ranges
 pub mod Cursors

@@ -15,9 +15,11 @@ ghost use Rattle.rowex_writing.specs.Attempts.{call_of};
 ghost use Rattle.hot_index.specs.Passes.{PassView, Owns, IsNewPass, IsSettled, pass_of};
 ghost use Rattle.hot_index.specs.Counts.{scan_steps};
 ghost use Rattle.hot_index.specs.Answers.{IsListed, IsNoted, IsRefused, IsScanned, IsUnnoted, HaveMet, MayLack, fault_of, got};
+ghost use Rattle.hot_index.specs.Census.{HasCounted};
 ghost use Rattle.hot_index.specs.Many.{AreNoted, HasGotMany, gets};
 ghost use Rattle.hot_index.specs.Traces.{HasCollected, HasGot, HasMade, HasRead, HasTold, untold};
 
+use crate::census::{RecordCounts, count_records};
 use crate::changing::{change, try_change};
 use crate::many::{end_gets, look_up_each};
 use crate::room::{Room, new_room};
@@ -560,6 +562,30 @@ impl Index {
     {
         let round = collect_round(&self.table, &mut pass.seat, gate);
         round.given
+    }
+
+    /// Counts the records of each kind and size that are free, held, live and obsolete, and tells the bytes of the table: so a
+    /// program sees why its index is full, and what the next one needs. It takes no lock and no memory, writes no word, and waits
+    /// for nobody: it makes one atomic step for each record, the load of its state.
+    ///
+    /// It is a snapshot of no one moment: each record is counted as its own load found it, and others go on meanwhile.
+    pub fn census(&self, pass: &mut Pass) -> RecordCounts
+        requires { Owns self.now pass.old }
+        ensures own { Owns self.now pass.new }
+        ensures call { IsUnnoted self.now.layout pass.old pass.new }
+        ensures made { HasCounted self.now untold (pass.old, tt) (pass.new, tt) result }
+    {
+        self.census_with(pass, &mut NoGate)
+    }
+
+    /// `census`, with a gate that is told each of its steps.
+    pub fn census_with<G: Gate>(&self, pass: &mut Pass, gate: &mut G) -> RecordCounts
+        requires { Owns self.now pass.old }
+        ensures own { Owns self.now pass.new }
+        ensures call { IsUnnoted self.now.layout pass.old pass.new }
+        ensures made { HasCounted self.now G.becomes (pass.old, gate.old) (pass.new, gate.new) result }
+    {
+        count_records(&self.table, &mut pass.seat, gate)
     }
 }
 

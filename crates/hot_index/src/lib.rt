@@ -2,6 +2,7 @@
 //! SIGMOD 2018) whose readers take no lock (ROWEX, Leis and others, DaMoN 2016).
 #![tactic(auto)]
 
+mod census;
 mod changing;
 mod cursor;
 mod index;
@@ -10,6 +11,7 @@ mod many;
 mod ranges;
 mod room;
 
+pub use census::{RecordCounts, StateCounts};
 pub use cursor::{Cursor, Rest};
 pub use epochs::Given;
 pub use hot_model::{Call, Reply, Scan};

@@ -1,0 +1,23 @@
+-- A count changes nothing that a call tells.
+use Rattle.std.proofs.Common.{ℕ, ◌≤◌, subst, ◌∙◌}
+use Rattle.rowex_table.specs.Seats.{TableView}
+use Rattle.hot_index.specs.Answers.{IsUnnoted}
+use Rattle.hot_index.specs.Census.{HasCounted}
+use Rattle.hot_index.specs.Passes.{PassView, pass_of}
+use Rattle.hot_index.proofs.Counted.{counts_settled, counts_unnoted, has_counted}
+use Rattle.hot_index.proofs.index.Index.census_with.Goals as goal
+
+pub invariant_of-pass : goal.invariant_of-pass
+invariant_of-pass g c = counts_settled c.count_records.ensures.steps c.self.inside.table.layout.nodes_in_range.0 (c.count_records.ensures.pin ∙ c.pass.invariant.pin) c.pass.invariant
+
+pub returns-clause-call : goal.returns-clause-call
+returns-clause-call g c =
+    subst (λ (x : TableView). IsUnnoted x.layout c.args.pass.now (pass_of c.count_records.new.seat)) c.self.view_is
+    (subst (λ (z : PassView). IsUnnoted c.self.inside.table.layout z (pass_of c.count_records.new.seat)) c.pass.view_is
+    (counts_unnoted c.count_records.ensures.steps c.self.inside.table.layout.nodes_in_range.0 c.pass.invariant))
+
+pub returns-clause-made : goal.returns-clause-made
+returns-clause-made g c =
+    subst (λ (x : TableView). HasCounted x g.G.Gate.becomes (c.args.pass.now, c.args.gate.now) (pass_of c.count_records.new.seat, c.count_records.new.gate) c.count_records.result) c.self.view_is
+    (subst (λ (z : PassView). HasCounted c.self.inside.table g.G.Gate.becomes (z, c.args.gate.now) (pass_of c.count_records.new.seat, c.count_records.new.gate) c.count_records.result) c.pass.view_is
+    (has_counted c.count_records.ensures.steps c.self.inside.table.layout.nodes_in_range.0))
