@@ -31,6 +31,24 @@ class Pair(ctypes.Structure):
     _fields_ = [("key", c_uint8 * MAX_KEY), ("length", c_uint32), ("value", c_uint64)]
 
 
+class Lookup(ctypes.Structure):
+    """struct hot_lookup: a key, and what was found of it."""
+
+    _fields_ = [("key", c_char_p), ("length", c_size_t), ("value", c_uint64), ("status", c_uint32)]
+
+
+class States(ctypes.Structure):
+    """struct hot_states: how many records of one size are in each state."""
+
+    _fields_ = [(name, c_uint32) for name in ("free", "held", "live", "obsolete")]
+
+
+class Counts(ctypes.Structure):
+    """struct hot_counts: what an index holds."""
+
+    _fields_ = [(name, States) for name, _ in Stock._fields_] + [("bytes", c_size_t)]
+
+
 def load(path: str) -> ctypes.CDLL:
     """The library, with the types of the calls that are used here. A call lets Python's other threads run."""
     hot = ctypes.CDLL(path)
@@ -40,9 +58,11 @@ def load(path: str) -> ctypes.CDLL:
         "stock_bytes": [POINTER(Stock), c_size_t, POINTER(c_size_t)],
         "destroy": [handle],
         "get": [handle, *key, number],
+        "get_many": [handle, POINTER(Lookup), c_size_t],
         "upsert": [handle, *key, c_uint64, number],
         "remove": [handle, *key, number],
         "scan": [handle, *key, *key, POINTER(Pair), c_size_t, POINTER(c_size_t), POINTER(c_uint32)],
+        "census": [handle, POINTER(Counts)],
         "after": [POINTER(Pair), POINTER(c_uint8), POINTER(c_size_t)],
     }
     for name, words in types.items():
@@ -85,6 +105,18 @@ class Index:
         value = c_uint64()
         status = self.check(self.hot.hot_get(self.handles[thread], key, len(key), value))
         return value.value if status == FOUND else None
+
+    def get_many(self, keys: list[bytes], thread: int = 0) -> list[int | None]:
+        """The values of keys, in turn."""
+        lookups = (Lookup * len(keys))(*[(key, len(key)) for key in keys])
+        self.check(self.hot.hot_get_many(self.handles[thread], lookups, len(keys)))
+        return [it.value if it.status == FOUND else None for it in lookups]
+
+    def census(self, thread: int = 0) -> Counts:
+        """How many records of each size are in each state."""
+        counts = Counts()
+        self.check(self.hot.hot_census(self.handles[thread], counts))
+        return counts
 
     def upsert(self, key: bytes, value: int, thread: int = 0) -> int | None:
         """Gives a key a value; the one that it had, if it had one."""

@@ -38,7 +38,7 @@ extern "C" {
 
 /* The version of this header. What was right with an earlier one of the same major number is right with this one. */
 #define HOT_VERSION_MAJOR 1
-#define HOT_VERSION_MINOR 1
+#define HOT_VERSION_MINOR 2
 #define HOT_VERSION_PATCH 0
 
 /* The most bytes of a key. */
@@ -126,6 +126,20 @@ hot_status hot_number(hot_handle *handle, uint16_t *number);
  * HOT_FOUND, HOT_ABSENT; HOT_KEY_TOO_LONG, HOT_CLOSED. It is never busy. */
 hot_status hot_get(hot_handle *handle, const uint8_t *key, size_t length, uint64_t *value);
 
+/* A key to look up, and what was found of it. */
+typedef struct hot_lookup {
+    const uint8_t *key;
+    size_t length;
+    uint64_t value;    /* the key's value, if it was found */
+    hot_status status; /* HOT_FOUND or HOT_ABSENT */
+} hot_lookup;
+
+/* Looks `count` keys up, one after the other, and writes to each place what was found: its status, and its value where there is one. A
+ * later key's value is of no earlier moment than an earlier one's. Records that other calls retire meanwhile come back after it: so give
+ * it some hundred keys at once, and no millions.
+ * HOT_DONE; HOT_KEY_TOO_LONG where one is, HOT_CLOSED, HOT_NO_MEMORY, and nothing was written then. */
+hot_status hot_get_many(hot_handle *handle, hot_lookup *lookups, size_t count);
+
 /* Gives a key a value if it is absent. Where it is there it keeps the value that it has, which is written to `had`.
  * HOT_INSERTED, HOT_EXISTS; HOT_BUSY, HOT_FULL_NODES, HOT_FULL_LEAVES, HOT_KEY_TOO_LONG, HOT_CLOSED. */
 hot_status hot_try_insert(hot_handle *handle, const uint8_t *key, size_t length, uint64_t value, uint64_t *had);
@@ -173,6 +187,30 @@ hot_status hot_first(hot_handle *handle, const uint8_t *from, size_t length, hot
  * free does so itself before it gives up, so a program need not.
  * HOT_DONE; HOT_CLOSED. */
 hot_status hot_collect(hot_handle *handle, uint32_t *nodes, uint32_t *leaves);
+
+/* How many records of one size are in each state. */
+typedef struct hot_states {
+    uint32_t free;
+    uint32_t held;     /* a change has claimed these, and has not made them ready yet */
+    uint32_t live;     /* in use */
+    uint32_t obsolete; /* retired, and not given back yet */
+} hot_states;
+
+/* What an index holds: its nodes and its leaves of each size by their states, and how many bytes its records and pins take. */
+typedef struct hot_counts {
+    hot_states nodes;
+    hot_states short_leaves;
+    hot_states medium_leaves;
+    hot_states large_leaves;
+    hot_states wide_leaves;
+    hot_states long_leaves;
+    size_t bytes;
+} hot_counts;
+
+/* Counts the records of the handle's index: so a program sees why it is full, and what the next one needs. It loads one word of each
+ * record, and changes nothing. It is a snapshot of no one moment: each record is counted as it was when its turn came.
+ * HOT_DONE; HOT_CLOSED. */
+hot_status hot_census(hot_handle *handle, hot_counts *counts);
 
 /* Closes a handle, in any order and from any thread. The last one that is closed frees the index. A closed handle may be given to
  * hot_create again.

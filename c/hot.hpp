@@ -140,6 +140,19 @@ class handle {
         return status == HOT_FOUND ? std::optional(value) : std::nullopt;
     }
 
+    /// The values of keys, in turn: hot_get_many.
+    std::vector<std::optional<std::uint64_t>> get_many(const std::vector<std::string_view> &keys) {
+        std::vector<hot_lookup> lookups;
+        lookups.reserve(keys.size() + 1); // so that it points somewhere with no key too
+        for (const std::string_view key : keys)
+            lookups.push_back({bytes(key), key.size(), 0, HOT_ABSENT});
+        check(hot_get_many(it(), lookups.data(), lookups.size()));
+        std::vector<std::optional<std::uint64_t>> found;
+        for (const hot_lookup &one : lookups)
+            found.push_back(one.status == HOT_FOUND ? std::optional(one.value) : std::nullopt);
+        return found;
+    }
+
     /// Gives an absent key a value, gives a key a value, makes a key absent: each waits while other calls stand in its way.
     change insert(std::string_view key, std::uint64_t value) { return put(hot_insert, key, value); }
     change upsert(std::string_view key, std::uint64_t value) { return put(hot_upsert, key, value); }
@@ -162,6 +175,13 @@ class handle {
         collected given{};
         check(hot_collect(it(), &given.nodes, &given.leaves));
         return given;
+    }
+
+    /// How many records of each size are in each state: hot_census.
+    hot_counts census() {
+        hot_counts counts{};
+        check(hot_census(it(), &counts));
+        return counts;
     }
 
   private:

@@ -42,6 +42,67 @@ static void test_calls(void) {
     CHECK(hot_destroy(&handle) == HOT_DONE);
 }
 
+/* Keys looked up by one call: what each is told, also twice; and that nothing is written where it is refused. */
+static void test_many(void) {
+    static const uint8_t long_key[HOT_MAX_KEY + 1] = {0};
+    hot_handle handle = HOT_HANDLE;
+    hot_lookup looks[4] = {{bytes("b"), 1, 7, HOT_BUSY}, {bytes("a"), 1, 7, HOT_BUSY}, {bytes(""), 0, 7, HOT_BUSY}, {bytes("b"), 1, 7, HOT_BUSY}};
+    uint64_t had;
+    CHECK(hot_get_many(&handle, looks, 4) == HOT_CLOSED && looks[0].status == HOT_BUSY && looks[3].value == 7);
+    CHECK(hot_create(100, 100, &handle, 1) == HOT_DONE);
+    CHECK(hot_get_many(&handle, looks, 1) == HOT_DONE && looks[0].status == HOT_ABSENT && looks[0].value == 7);
+    CHECK(hot_try_insert(&handle, bytes("b"), 1, 20, &had) == HOT_INSERTED);
+    CHECK(hot_try_insert(&handle, bytes(""), 0, 0, &had) == HOT_INSERTED);
+    CHECK(hot_get_many(&handle, looks, 0) == HOT_DONE && looks[0].status == HOT_ABSENT);
+    CHECK(hot_get_many(&handle, looks, 4) == HOT_DONE);
+    CHECK(looks[0].status == HOT_FOUND && looks[0].value == 20 && looks[3].status == HOT_FOUND && looks[3].value == 20);
+    CHECK(looks[1].status == HOT_ABSENT && looks[1].value == 7 && looks[2].status == HOT_FOUND && looks[2].value == 0);
+    CHECK(looks[1].length == 1 && looks[1].key[0] == 'a');
+    CHECK(hot_try_remove(&handle, bytes("b"), 1, &had) == HOT_REMOVED);
+    looks[3].key = long_key;
+    looks[3].length = sizeof long_key;
+    CHECK(hot_get_many(&handle, looks, 4) == HOT_KEY_TOO_LONG && looks[0].status == HOT_FOUND && looks[0].value == 20);
+    CHECK(hot_get_many(&handle, looks, 3) == HOT_DONE && looks[0].status == HOT_ABSENT && looks[0].value == 20);
+    CHECK(hot_destroy(&handle) == HOT_DONE);
+}
+
+static int are(hot_states states, uint32_t free, uint32_t held, uint32_t live, uint32_t obsolete) {
+    return states.free == free && states.held == held && states.live == live && states.obsolete == obsolete;
+}
+
+/* What an index holds. A first key is a leaf alone, the second one makes a node of both; each further key and each removal replaces
+ * that node, and a removal retires a leaf too. */
+static void test_census(void) {
+    hot_handle handle = HOT_HANDLE;
+    hot_stock stock = {8, 1, 2, 0, 0, 3};
+    hot_counts counts;
+    uint32_t nodes, leaves;
+    uint64_t had;
+    memset(&counts, 0xee, sizeof counts);
+    CHECK(hot_census(&handle, &counts) == HOT_CLOSED && counts.nodes.free == 0xeeeeeeee);
+    CHECK(hot_create(100, 200, &handle, 1) == HOT_DONE);
+    CHECK(hot_census(&handle, &counts) == HOT_DONE && are(counts.nodes, 100, 0, 0, 0) && are(counts.long_leaves, 200, 0, 0, 0));
+    CHECK(counts.bytes == 192 + 64 + 464 * 100 + 264 * 200);
+    CHECK(hot_try_insert(&handle, bytes("a"), 1, 1, &had) == HOT_INSERTED);
+    CHECK(hot_census(&handle, &counts) == HOT_DONE && are(counts.nodes, 100, 0, 0, 0) && are(counts.long_leaves, 199, 0, 1, 0));
+    CHECK(hot_try_insert(&handle, bytes("b"), 1, 2, &had) == HOT_INSERTED);
+    CHECK(hot_census(&handle, &counts) == HOT_DONE && are(counts.nodes, 99, 0, 1, 0) && are(counts.long_leaves, 198, 0, 2, 0));
+    CHECK(hot_try_insert(&handle, bytes("c"), 1, 3, &had) == HOT_INSERTED);
+    CHECK(hot_census(&handle, &counts) == HOT_DONE && are(counts.nodes, 98, 0, 1, 1) && are(counts.long_leaves, 197, 0, 3, 0));
+    CHECK(hot_try_remove(&handle, bytes("b"), 1, &had) == HOT_REMOVED);
+    CHECK(hot_census(&handle, &counts) == HOT_DONE && are(counts.nodes, 97, 0, 1, 2) && are(counts.long_leaves, 197, 0, 2, 1));
+    CHECK(hot_collect(&handle, &nodes, &leaves) == HOT_DONE && nodes == 2 && leaves == 1);
+    CHECK(hot_census(&handle, &counts) == HOT_DONE && are(counts.nodes, 99, 0, 1, 0) && are(counts.long_leaves, 198, 0, 2, 0));
+    CHECK(are(counts.short_leaves, 0, 0, 0, 0) && are(counts.wide_leaves, 0, 0, 0, 0));
+    CHECK(hot_destroy(&handle) == HOT_DONE);
+    CHECK(hot_create_with(&stock, &handle, 1) == HOT_DONE);
+    CHECK(hot_try_insert(&handle, bytes("12345678"), 8, 1, &had) == HOT_INSERTED);
+    CHECK(hot_try_insert(&handle, bytes("123456789"), 9, 2, &had) == HOT_INSERTED);
+    CHECK(hot_census(&handle, &counts) == HOT_DONE && are(counts.nodes, 7, 0, 1, 0) && are(counts.short_leaves, 0, 0, 1, 0));
+    CHECK(are(counts.medium_leaves, 1, 0, 1, 0) && are(counts.large_leaves, 0, 0, 0, 0) && are(counts.long_leaves, 3, 0, 0, 0));
+    CHECK(hot_destroy(&handle) == HOT_DONE);
+}
+
 /* Scans of a prefix, page by page, and the first pair from a key on. */
 static void test_prefix(void) {
     hot_handle handle = HOT_HANDLE;
@@ -360,7 +421,10 @@ static void test_threads(void) {
 
 int main(void) {
     CHECK(sizeof(hot_handle) == 16 && sizeof(hot_pair) == 256 && sizeof(hot_stock) == 24);
+    CHECK(sizeof(hot_lookup) == 32 && sizeof(hot_states) == 16 && sizeof(hot_counts) == 104);
     test_calls();
+    test_many();
+    test_census();
     test_scan();
     test_prefix();
     test_after();

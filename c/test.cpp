@@ -40,7 +40,10 @@ static void test_calls() {
     CHECK(change.what == hot::status::added && !change.had && !change.is_refused() && first.get({}) == 10);
     CHECK(first.try_upsert("b", 23).had == 20 && handles[1].upsert("b", 24).what == hot::status::replaced);
     CHECK(first.try_remove("b").had == 24 && first.remove("b").what == hot::status::absent);
-    CHECK(first.collect().leaves == 3);
+    const auto found = first.get_many({"b", {}});
+    CHECK(found.size() == 2 && !found[0] && found[1] == 10 && first.get_many({}).empty());
+    CHECK(first.census().long_leaves.obsolete == 3);
+    CHECK(first.collect().leaves == 3 && first.census().long_leaves.free == 99);
     CHECK(throws<std::logic_error>([&] { handles[0].get("b"); }));
     CHECK(throws<std::length_error>([&] { first.get(std::string(HOT_MAX_KEY + 1, 'a')); }));
     CHECK(throws<std::invalid_argument>([] { hot::create(0, 10); }));

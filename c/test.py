@@ -33,7 +33,10 @@ def main() -> None:
     assert index.upsert(b"a" * MAX_KEY, 1) is None and index.upsert(b"b", 2, 1) is None
     assert refusal(index.upsert, b"c", 3) == hot.hot_status_text(10).decode()
     assert index.remove(b"b") == 2 and refusal(index.upsert, b"c" * 9, 3) == hot.hot_status_text(10).decode()
+    short = index.census().short
+    assert (short.free, short.held, short.live, short.obsolete) == (1, 0, 0, 0)
     assert index.upsert(b"c", 3) is None and index.get(b"c", 1) == 3 and index.get(b"b") is None
+    assert index.get_many([b"c", b"b", b"a" * MAX_KEY], 1) == [3, None, 1] and index.get_many([]) == []
     index.close()
     print("the Python test passed")
 

@@ -6,3 +6,4 @@ pub mod Shares
 pub mod Listed
 pub mod Places
 pub mod Answered
+pub mod LookedUp

@@ -12,8 +12,10 @@ use Rattle.record_words.specs.declared.layout.Stock.{Stock}
 use Rattle.rowex_table.specs.Seats.{TableView}
 use Rattle.rowex_writing.specs.declared.attempts.TryFault.{TryFault}
 use Rattle.hot_index.specs.Answers.{IsNoted, IsRefused, IsScanned, IsUnnoted}
+use Rattle.hot_index.specs.Census.{HasCounted}
 use Rattle.hot_index.specs.Passes.{PassView, IsNewPass}
 use Rattle.hot_index.specs.Traces.{HasCollected, untold}
+use Rattle.hot_index.specs.declared.census.RecordCounts.{RecordCounts}
 use Rattle.hot_c.specs.Pairs.{AreSpelled}
 use Rattle.hot_c.specs.Statuses.{status_of, value_after}
 use Rattle.hot_c.specs.declared.handle.Handle.{Handle}
@@ -71,6 +73,10 @@ pub record Lists (from upto : List ℕ) (old new : Option Opened) (before after 
 -- a round of collection, which gave back so many nodes and leaves
 abbrev pub HasGivenBack : ℕ → ℕ → TableView → PassView → PassView → Type 0
 HasGivenBack nodes leaves index k j = IsUnnoted index.layout k j × HasCollected index untold (k, tt) (j, tt) nodes leaves
+
+-- a count of the records, by their states
+abbrev pub HasSeenRecords : RecordCounts → TableView → PassView → PassView → Type 0
+HasSeenRecords counts index k j = IsUnnoted index.layout k j × HasCounted index untold (k, tt) (j, tt) counts
 
 abbrev pub AreClosed : List Handle → Type 0
 AreClosed handles = All (λ h. h.slot.opened ≡ None) handles

@@ -5,3 +5,4 @@ pub mod Statuses
 pub mod Pairs
 pub mod Calls
 pub mod Stocks
+pub mod Lookups

@@ -4,18 +4,20 @@ ghost use Rattle.std.specs.Prelude.{◌≡◌, ◌≢◌, ◌⊎◌, IsSome, Non
 ghost use Rattle.hot_model.specs.declared.Call.TheVariants.{Get, Insert, Remove, Upsert};
 ghost use Rattle.rowex_writing.specs.Attempts.{call_of};
 ghost use Rattle.hot_c.specs.declared.opened.Opened.{Opened};
-ghost use Rattle.hot_c.specs.Calls.{Answers, AreClosed, HasGivenBack, HaveOpened, HaveOpenedStock, IsSize, IsStockSize, Lists, StaysOpen};
+ghost use Rattle.hot_c.specs.Calls.{Answers, AreClosed, HasGivenBack, HasSeenRecords, HaveOpened, HaveOpenedStock, IsSize, IsStockSize, Lists, StaysOpen};
+ghost use Rattle.hot_c.specs.Lookups.{LooksUpAll};
 ghost use Rattle.hot_c.specs.Stocks.{TakesBytes, stock_in};
 ghost use Rattle.record_words.specs.Layout.{stock_for};
 
 use crate::handle::Handle;
+use crate::lookups::{Lookup, are_fit, keys_of, write_found};
 use crate::opening::{are_closed, make_passes, make_stocked, open_all};
 use crate::pairs::{Pair, write_pairs};
 use crate::status::{
     BUSY, CLOSED, DONE, FULL_LEAVES, FULL_NODES, KEY_TOO_LONG, NO_MEMORY, OPEN, OUT_OF_RANGE, tell,
 };
 use crate::stock::HotStock;
-use hot_index::IndexFault;
+use hot_index::{IndexFault, RecordCounts};
 use key_bits::Key;
 use record_words::{Layout, Stock};
 use rowex_writing::Ask;
@@ -126,6 +128,32 @@ pub extern "C" fn hot_get(handle: &mut Handle, key: &[u8], value: &mut u64) -> u
     }
 }
 
+/// Looks many keys up, in turn, and writes of each what it found: `FOUND`, with its value, or `ABSENT`.
+#[unsafe(no_mangle)]
+pub extern "C" fn hot_get_many(
+    alloc: Global,
+    handle: &mut Handle,
+    lookups: &mut [Lookup<'_>],
+) -> u32
+    ensures { LooksUpAll handle.old.slot.opened handle.new.slot.opened lookups.old lookups.new result }
+{
+    if !handle.is_open() {
+        return CLOSED;
+    }
+    if !are_fit(lookups) {
+        return KEY_TOO_LONG;
+    }
+    let Ok(keys) = keys_of(alloc, lookups) else {
+        return NO_MEMORY;
+    };
+    let Ok(mut found) = Vec::from_elem(alloc, None, keys.len()) else {
+        return NO_MEMORY;
+    };
+    handle.slot.lend().get_many(&keys, &mut found);
+    write_found(&found, lookups);
+    DONE
+}
+
 /// Gives a key a value if it is absent: `INSERTED`, or `EXISTS` with the value that it has and keeps.
 #[unsafe(no_mangle)]
 pub extern "C" fn hot_try_insert(handle: &mut Handle, key: &[u8], value: u64, had: &mut u64) -> u32
@@ -209,6 +237,20 @@ pub extern "C" fn hot_collect(handle: &mut Handle, nodes: &mut u32, leaves: &mut
     let given = handle.slot.lend().collect();
     *nodes = given.nodes;
     *leaves = given.leaves;
+    DONE
+}
+
+/// Counts the records of each kind and size that are free, held, live and obsolete, and writes the counts. It is a snapshot of no one
+/// moment.
+#[unsafe(no_mangle)]
+pub extern "C" fn hot_census(handle: &mut Handle, counts: &mut RecordCounts) -> u32
+    ensures closed { handle.old.slot.opened ≡ None → (result ≡ CLOSED) × (handle.new.slot.opened ≡ None) × (counts.new ≡ counts.old) }
+    ensures counted { IsSome handle.old.slot.opened → (result ≡ DONE) × StaysOpen (HasSeenRecords counts.new) handle.old.slot.opened handle.new.slot.opened }
+{
+    if !handle.is_open() {
+        return CLOSED;
+    }
+    *counts = handle.slot.lend().census();
     DONE
 }
 

@@ -4,6 +4,7 @@
 mod exports;
 mod handle;
 mod lending;
+mod lookups;
 mod opened;
 mod opening;
 mod pairs;

@@ -1,13 +1,15 @@
 //! What an open handle holds.
 
-ghost use Rattle.std.specs.Prelude.{◌≡◌, ◌≢◌, Err, IfOk, MatchResult, OnErr};
+ghost use Rattle.std.specs.Prelude.{◌≡◌, ◌≢◌, Err, IfOk, MatchResult, OnErr, length};
 ghost use Rattle.hot_model.specs.declared.Call.TheVariants.{Get};
 ghost use Rattle.rowex_writing.specs.Attempts.{call_of};
 ghost use Rattle.hot_index.specs.Answers.{IsNoted, IsRefused, IsScanned, IsUnnoted, got};
+ghost use Rattle.hot_index.specs.Census.{HasCounted};
+ghost use Rattle.hot_index.specs.Many.{AreNoted, gets};
 ghost use Rattle.hot_index.specs.Passes.{Owns};
 ghost use Rattle.hot_index.specs.Traces.{HasCollected, untold};
 
-use hot_index::{Given, Index, Pass, Reply, Scan, TryFault};
+use hot_index::{Given, Index, Pass, RecordCounts, Reply, Scan, TryFault};
 use key_bits::Key;
 use rowex_writing::Ask;
 use std::alloc::{AllocError, Global};
@@ -31,6 +33,15 @@ impl Opened {
             Some(value) => Reply::Value(value),
             None => Reply::Absent,
         }
+    }
+
+    /// The values of keys, in turn.
+    pub fn get_many(&mut self, keys: &[Key], found: &mut [Option<u64>])
+        requires { length found.old ≡ length keys.now }
+        ensures index { self.new.index ≡ self.old.index }
+        ensures call { AreNoted self.old.index.value.layout self.old.pass self.new.pass (gets keys.now found.new) }
+    {
+        self.index.get_many(&mut self.pass, keys, found);
     }
 
     /// Asks for a change of a key's value. A removal does not use the value here.
@@ -69,5 +80,14 @@ impl Opened {
         ensures round { HasCollected self.old.index.value untold (self.old.pass, tt) (self.new.pass, tt) result.nodes result.leaves }
     {
         self.index.collect(&mut self.pass)
+    }
+
+    /// Counts the records of the index by their states.
+    pub fn census(&mut self) -> RecordCounts
+        ensures index { self.new.index ≡ self.old.index }
+        ensures call { IsUnnoted self.old.index.value.layout self.old.pass self.new.pass }
+        ensures counted { HasCounted self.old.index.value untold (self.old.pass, tt) (self.new.pass, tt) result }
+    {
+        self.index.census(&mut self.pass)
     }
 }

@@ -1,0 +1,65 @@
+-- Look-ups, answered one after the other.
+use Rattle.std.proofs.Common.{◌≡◌, ℕ, zero, suc, ◌+◌, ◌<◌, List, [], ◌∷◌, ◌++◌, length, map, take, get_or, slice_set, All, Option, None, Some, inl, inr, IsSome, refl, sym, ap, ◌∙◌, subst, arith}
+use Rattle.hot_index.specs.Many.{AreNoted, gets}
+use Rattle.hot_c.specs.Calls.{IsFit, StaysOpen}
+use Rattle.hot_c.specs.Lookups.{LooksUpAll, answer, are_answered, key_in}
+use Rattle.hot_c.specs.declared.lookups.Lookup.{Lookup}
+use Rattle.hot_c.specs.declared.opened.Opened.{Opened}
+use Rattle.hot_c.specs.declared.status.TheConstants.{DONE, NO_MEMORY}
+
+-- where nothing was found, nothing is answered
+pub none_answered : (its : List Lookup) → its ≡ are_answered its []
+none_answered [] = refl
+none_answered (it ∷ its) = refl
+
+pub answered_many : (its : List Lookup) (found : List (Option ℕ)) → length (are_answered its found) ≡ length its
+answered_many [] found = refl
+answered_many (it ∷ its) [] = refl
+answered_many (it ∷ its) (value ∷ found) = ap suc (answered_many its found)
+
+more : (its : List Lookup) (found : List (Option ℕ)) (n : ℕ) (d : Lookup) (e : Option ℕ) → length found ≡ length its → n < length found →
+    slice_set (are_answered its (take n found)) n (answer (get_or (are_answered its (take n found)) n d) (get_or found n e)) ≡ are_answered its (take (suc n) found)
+more its [] n d e same low = absurd (omega (arith, low))
+more [] (value ∷ found) n d e same low = absurd (omega (arith, same))
+more (it ∷ its) (value ∷ found) zero d e same low = ap (λ (l : List Lookup). answer it value ∷ l) (none_answered its)
+more (it ∷ its) (value ∷ found) (suc n) d e same low = ap (λ (l : List Lookup). answer it value ∷ l) (more its found n d e (omega (arith, same)) (omega (arith, low)))
+
+-- one more is answered
+pub one_answered : (its : List Lookup) (found : List (Option ℕ)) (n : ℕ) (d : Lookup) (e : Option ℕ) → length found ≡ length its → n < length found →
+    slice_set (are_answered its (take n found)) n (answer (get_or (are_answered its (take n found)) n d) (get_or found n e)) ≡ are_answered its (take (n + 1) found)
+one_answered its found n d e same low = let z : suc n ≡ n + 1 = omega arith in more its found n d e same low ∙ ap (λ m. are_answered its (take m found)) z
+
+-- what stands first in a longer list
+first_all : {A : Type 0} (xs zs : List A) → take (length xs) (xs ++ zs) ≡ xs
+first_all [] zs = refl
+first_all (x ∷ xs) zs = ap (λ l. x ∷ l) (first_all xs zs)
+
+pub first_of : {A : Type 0} (n : ℕ) (xs zs : List A) → n ≡ length xs → take n (xs ++ zs) ≡ xs
+first_of n xs zs many = ap (λ m. take m (xs ++ zs)) many ∙ first_all xs zs
+
+some_is_none : (s : Opened) → Some s ≡ None → ⊥
+some_is_none s e = cc
+
+pub looked_up : (old new : Option Opened) (before after : List Lookup) (status : ℕ) (s u : Opened) (keys : List (List ℕ)) (found : List (Option ℕ)) → old ≡ Some s → new ≡ Some u → u.index ≡ s.index
+    → All (λ it. IsFit (key_in it)) before → keys ≡ map key_in before → length found ≡ length before → AreNoted s.index.value.layout s.pass u.pass (gets keys found) → status ≡ DONE
+    → after ≡ are_answered before found → LooksUpAll old new before after status
+looked_up old new before after status s u keys found was is index fit keys_are many noted done told = record {
+  closed = λ none. absurd (some_is_none s (sym was ∙ none));
+  long = λ some no. absurd (no fit);
+  made = λ some short. inl (
+    done,
+    found,
+    many,
+    record { before = s; after = u; was = was; is = is; index = index; became = subst (λ (l : List (List ℕ)). AreNoted s.index.value.layout s.pass u.pass (gets l found)) keys_are noted },
+    told,
+  );
+}
+
+pub no_room : (old new : Option Opened) (before after : List Lookup) (status : ℕ) → IsSome old → All (λ it. IsFit (key_in it)) before → status ≡ NO_MEMORY → new ≡ old → after ≡ before
+    → LooksUpAll old new before after status
+no_room None new before after status some fit full kept same = cc
+no_room (Some s) new before after status some fit full kept same = record {
+  closed = λ none. absurd (some_is_none s none);
+  long = λ some no. absurd (no fit);
+  made = λ some short. inr (full, kept, same);
+}

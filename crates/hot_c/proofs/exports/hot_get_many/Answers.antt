@@ -1,0 +1,16 @@
+-- The look-ups are made on the handle's pass, and what they found stands in the array.
+use Rattle.std.proofs.Common.{◌≡◌, ◌∙◌, length, map, ap, refl, arith}
+use Rattle.std.proofs.lemmas.List.{length-map}
+use Rattle.hot_c.specs.Lookups.{are_answered, key_in}
+use Rattle.hot_c.proofs.LookedUp.{first_of, looked_up}
+use Rattle.hot_c.proofs.exports.hot_get_many.Goals as goal
+
+pub returns : goal.returns
+returns c =
+    let keys : c.deref.result.now ≡ map key_in c.args.lookups.now = c.deref.ensures.value ∙ c.in-Ok.ensures in
+    let many : length c.get_many.new.found ≡ length c.args.lookups.now =
+    omega (arith, c.get_many.auto.found, c.deref_mut.ensures.len, c.in-Ok-from_elem.ensures.len, c.len.ensures, ap length c.in-Ok.ensures, length-map c.args.lookups.now key_in) in
+    let found : c.deref-2.result.now ≡ c.get_many.new.found = c.deref-2.ensures.value ∙ first_of _ c.get_many.new.found _ (omega (arith, c.get_many.auto.found, c.deref_mut.ensures.len, c.in-Ok-from_elem.ensures.len)) in
+    let told : c.write_found.new.lookups ≡ are_answered c.args.lookups.now c.deref-2.result.now = c.write_found.ensures in
+    looked_up _ _ _ _ _ _ _ c.deref.result.now c.get_many.new.found c.lend.ensures.value refl c.get_many.ensures.index (c.if-not-are_fit.ensures.0 refl) keys many c.get_many.ensures.call refl
+    (told ∙ ap (are_answered c.args.lookups.now) found)

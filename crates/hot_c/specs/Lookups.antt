@@ -1,0 +1,31 @@
+-- Look-ups of many keys by one call of a program in C.
+use Rattle.std.specs.Prelude.{◌≡◌, ◌⊎◌, ℕ, All, List, [], ◌∷◌, length, map, Option, Some, None, IsSome}
+use Rattle.hot_index.specs.Many.{AreNoted, gets}
+use Rattle.hot_c.specs.Calls.{IsFit, StaysOpen}
+use Rattle.hot_c.specs.declared.lookups.Lookup.{Lookup}
+use Rattle.hot_c.specs.declared.opened.Opened.{Opened}
+use Rattle.hot_c.specs.declared.status.TheConstants.{ABSENT, CLOSED, DONE, FOUND, KEY_TOO_LONG, NO_MEMORY}
+
+-- the key that is looked up
+abbrev pub key_in : Lookup → List ℕ
+key_in it = it.key.now
+
+-- a look-up that found this
+abbrev pub answer : Lookup → Option ℕ → Lookup
+answer it None = record it { status = ABSENT }
+answer it (Some value) = record it { value = value; status = FOUND }
+
+-- look-ups that found these, in turn
+abbrev pub are_answered : List Lookup → List (Option ℕ) → List Lookup
+are_answered [] found = []
+are_answered (it ∷ rest) [] = it ∷ rest
+are_answered (it ∷ rest) (value ∷ found) = answer it value ∷ are_answered rest found
+
+-- Look-ups through a handle. A closed handle and a key that is too long are told as such, and nothing has changed; else each key is
+-- looked up, in turn and by one call of the index, and what was found is told; or there is no memory, and nothing has changed.
+pub record LooksUpAll (old new : Option Opened) (before after : List Lookup) (status : ℕ) : Type 0 where
+  pub closed : old ≡ None → (status ≡ CLOSED) × (new ≡ old) × (after ≡ before)
+  pub long : IsSome old → ¬ All (λ it. IsFit (key_in it)) before → (status ≡ KEY_TOO_LONG) × (new ≡ old) × (after ≡ before)
+  pub made : IsSome old → All (λ it. IsFit (key_in it)) before →
+      ((status ≡ DONE) × (found : List (Option ℕ)) × (length found ≡ length before) × StaysOpen (λ index k j. AreNoted index.layout k j (gets (map key_in before) found)) old new × (after ≡ are_answered before found))
+      ⊎ ((status ≡ NO_MEMORY) × (new ≡ old) × (after ≡ before))

@@ -1,0 +1,64 @@
+//! Keys that a program in C looks up by one call.
+
+ghost use Rattle.std.specs.Prelude.{◌≡◌, ◌↔◌, All, IfOk, IsTrue, length, map};
+ghost use Rattle.hot_c.specs.Lookups.{answer, are_answered, key_in};
+ghost use Rattle.hot_c.specs.Calls.{IsFit};
+
+use crate::status::{ABSENT, FOUND};
+use key_bits::{Key, MAX_BYTES};
+use std::alloc::{AllocError, Global};
+
+/// A key to look up, and what was found, in C's order of fields.
+#[repr(C)]
+pub struct Lookup<'a> {
+    pub key: &'a [u8],
+    /// The key's value, if it was found.
+    pub value: u64,
+    /// `FOUND` or `ABSENT`.
+    pub status: u32,
+}
+
+/// Whether no key is too long.
+pub fn are_fit(lookups: &[Lookup<'_>]) -> bool
+    ensures { IsTrue result ↔ All (λ l. IsFit (key_in l)) lookups.now }
+{
+    lookups.iter().all(|lookup| lookup.key.len() <= MAX_BYTES)
+}
+
+/// The keys, in their order.
+pub fn keys_of(alloc: Global, lookups: &[Lookup<'_>]) -> Result<Vec<Key>, AllocError>
+    requires { All (λ l. IsFit (key_in l)) lookups.now }
+    ensures { IfOk result (λ keys. keys.items ≡ map key_in lookups.now) }
+{
+    let mut keys = Vec::new(alloc);
+    for lookup in lookups {
+        match Key::from_bytes(lookup.key) {
+            Ok(key) => keys.push(key)?,
+            Err(_) => unreachable!(),
+        }
+    }
+    Ok(keys)
+}
+
+/// Writes what was found of each key.
+pub fn write_found(found: &[Option<u64>], lookups: &mut [Lookup<'_>])
+    requires { length found.now ≡ length lookups.old }
+    ensures { lookups.new ≡ are_answered lookups.old found.now }
+{
+    for (place, value) in found.iter().enumerate() {
+        write_one(*value, &mut lookups[place]);
+    }
+}
+
+/// Writes what was found of a key.
+fn write_one(found: Option<u64>, lookup: &mut Lookup<'_>)
+    ensures { lookup.new ≡ answer lookup.old found }
+{
+    match found {
+        Some(value) => {
+            lookup.value = value;
+            lookup.status = FOUND;
+        }
+        None => lookup.status = ABSENT,
+    }
+}
