@@ -1,5 +1,5 @@
 -- Worked examples of the definitions, which compute.
-use Rattle.std.proofs.Common.{◌≡◌, ℕ, List, [], ◌∷◌, ◌++◌, refl}
+use Rattle.std.proofs.Common.{◌≡◌, ℕ, List, [], ◌∷◌, ◌++◌, true, refl, sym, subst, arith}
 use Rattle.hot_model.specs.declared.Call.{Call}
 use Rattle.hot_model.specs.declared.Call.TheVariants.{Insert, Upsert, Get, Remove}
 use Rattle.hot_model.specs.declared.Reply.{Reply}
@@ -7,11 +7,15 @@ use Rattle.hot_model.specs.declared.Reply.TheVariants.{Inserted, Exists, New, Wa
 use Rattle.hot_model.specs.declared.Kind.TheVariants.{Added, Replaced, Removed as TakenAway}
 use Rattle.hot_model.specs.declared.Change.{Change}
 use Rattle.hot_model.specs.declared.Note.{Note}
+use Rattle.hot_model.specs.declared.Scan.{Scan}
+use Rattle.std.specs.Prelude.{IsTrue}
+use Rattle.std.specs.List.Sorted.{IsStrictlySortedBy}
 use Rattle.hot_model.specs.Maps.{Map, replies_of, map_after_all}
 use Rattle.hot_model.specs.Fronts.{map_of}
 use Rattle.hot_model.specs.Calls.{changes_of, own_changes}
 use Rattle.hot_model.specs.Weaves.{Event, answered, only, weave}
 use Rattle.hot_model.specs.Scans.{range_of}
+use Rattle.hot_model.specs.Reverse.{HasFallingKeys, IsReverseScanOf}
 
 abbrev a : List ℕ
 a = 97 ∷ []
@@ -44,6 +48,18 @@ from_a = refl
 
 both_bounds_included : range_of three empty a ≡ (empty, 1) ∷ (a, 8) ∷ []
 both_bounds_included = refl
+
+-- the last two of a range, from its end downwards, with one more below
+abbrev last_two : Scan → Type 0
+last_two scan = (scan.pairs.items ≡ (ab, 18446744073709551615) ∷ (a, 8) ∷ []) × (scan.more ≡ true)
+
+they_are_its_last : (scan : Scan) → last_two scan → IsReverseScanOf three empty ab 2 scan
+they_are_its_last scan (pairs, more) = record { pairs = pairs; more = ((λ h. omega arith), (λ h. subst IsTrue (sym more) refl)) }
+
+-- and they fall
+they_fall : HasFallingKeys ((ab, 18446744073709551615) ∷ (a, 8) ∷ [])
+unfolding IsStrictlySortedBy
+they_fall = ((refl, tt), (tt, tt))
 
 lower_above_upper : range_of three b a ≡ []
 lower_above_upper = refl

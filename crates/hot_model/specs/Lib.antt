@@ -4,3 +4,4 @@ pub mod Fronts
 pub mod Calls
 pub mod Weaves
 pub mod Scans
+pub mod Reverse

@@ -19,6 +19,7 @@ use Rattle.hot_model.specs.declared.Scan.{Scan}
 use Rattle.hot_model.specs.Maps.{Map, key_order, value_at}
 use Rattle.hot_model.specs.Fronts.{map_of, changed, changed_by}
 use Rattle.hot_model.specs.Scans.{is_within, IsHeldBetween, IsNeverRemoved as IsKeptBetween, IsUpToLast, IsPastLast, IsLawfulScan}
+use Rattle.hot_model.specs.Reverse.{falling_order, IsBelowLast, IsDownToLast, IsLawfulReverseScan}
 use Rattle.tries.specs.Keys.{Key, IsBefore, IsAtMost}
 use Rattle.tries.specs.Tree.{Tree, Has}
 use Rattle.tries.proofs.Contents.{holds_has}
@@ -28,6 +29,7 @@ use Rattle.rowex_walks.proofs.Scans.{before_trans}
 use Rattle.moments.specs.State.{Past, IsHeldSince, IsKeptSince, IsSteady}
 use Rattle.moments.specs.Told.{content, TellChanges}
 use Rattle.rowex_walks.specs.Scan.{Pair, Every, IsListed, IsFalling, IsUpTo, Range, IsInRange, IsComplete, IsCut, turned}
+use Rattle.rowex_walks.specs.Reverse.{IsClimbing, IsDownComplete, IsDownCut, IsDownTo}
 use Rattle.rowex_walks.proofs.Walk.{every_map}
 
 -- The range by bits is the range by bytes.
@@ -115,12 +117,12 @@ length_turned (x ∷ xs) =
     length-append (turned xs) ((x.key, x.value) ∷ []) ∙ (ap (λ n. n + 1) (length_turned xs) ∙ e)
 
 -- A sorted list with a later key at its end.
-sorted_push : (ks : List Key) (k : Key) → IsStrictlySortedBy key_order ks → AllByRecursion (λ l. key_order l k ≡ Less) ks → IsStrictlySortedBy key_order (ks ++ k ∷ [])
+sorted_push : (order : Key → Key → Ordering) (ks : List Key) (k : Key) → IsStrictlySortedBy order ks → AllByRecursion (λ l. order l k ≡ Less) ks → IsStrictlySortedBy order (ks ++ k ∷ [])
 unfolding IsStrictlySortedBy
-sorted_push [] k s a = (tt, tt)
-sorted_push (l ∷ ks) k s a = (below l ks s.0 a.0, sorted_push ks k s.1 a.1)
+sorted_push order [] k s a = (tt, tt)
+sorted_push order (l ∷ ks) k s a = (below l ks s.0 a.0, sorted_push order ks k s.1 a.1)
   where
-    below : (l : Key) (ks : List Key) → AllByRecursion (λ j. key_order l j ≡ Less) ks → key_order l k ≡ Less → AllByRecursion (λ j. key_order l j ≡ Less) (ks ++ k ∷ [])
+    below : (l : Key) (ks : List Key) → AllByRecursion (λ j. order l j ≡ Less) ks → order l k ≡ Less → AllByRecursion (λ j. order l j ≡ Less) (ks ++ k ∷ [])
     below l [] b e = (e, tt)
     below l (j ∷ ks) b e = (b.0, below l ks b.1 e)
 
@@ -143,7 +145,20 @@ unfolding IsStrictlySortedBy
 turned_rises [] a f = tt
 turned_rises (x ∷ xs) a f =
     subst (IsStrictlySortedBy key_order) (sym (keys_push (turned xs) x.key x.value))
-    (sorted_push (keys_of (turned xs)) x.key (turned_rises xs a.1 f.1) (below_turned x.key xs a.0 a.1 f.0))
+    (sorted_push key_order (keys_of (turned xs)) x.key (turned_rises xs a.1 f.1) (below_turned x.key xs a.0 a.1 f.0))
+
+above_turned : (k : Key) (xs : List Pair) → IsKey k → Every (λ x. IsKey x.key) xs → Every (λ x. IsBefore k x.key) xs → AllByRecursion (λ l. falling_order l k ≡ Less) (keys_of (turned xs))
+above_turned k [] i a b = tt
+above_turned k (x ∷ xs) i a b =
+    subst (AllByRecursion (λ l. falling_order l k ≡ Less)) (sym (keys_push (turned xs) x.key x.value))
+    (all_push (λ l. falling_order l k ≡ Less) (keys_of (turned xs)) x.key (above_turned k xs i a.1 b.1) (before_less k x.key i a.0 b.0))
+
+turned_falls : (xs : List Pair) → Every (λ x. IsKey x.key) xs → IsClimbing xs → IsStrictlySortedBy falling_order (keys_of (turned xs))
+unfolding IsStrictlySortedBy
+turned_falls [] a f = tt
+turned_falls (x ∷ xs) a f =
+    subst (IsStrictlySortedBy falling_order) (sym (keys_push (turned xs) x.key x.value))
+    (sorted_push falling_order (keys_of (turned xs)) x.key (turned_falls xs a.1 f.1) (above_turned x.key xs a.0 a.1 f.0))
 
 listed_turned : (k : Key) (xs : List Pair) → IsListed k xs → Contains (keys_of (turned xs)) k
 listed_turned k [] a = absurd a
@@ -169,6 +184,23 @@ up_to_newest k (x ∷ xs) i a f (n, e, lt, at, h) =
     at_most_trans k e.0 x.key (le_at_most k e.0 i y.0 (not_greater (key_order k e.0) h)) y.1
   where
     every_both : (ys : List Pair) → Every (λ y. IsKey y.key) ys → Every (λ y. IsBefore y.key x.key) ys → Every (λ y. IsKey y.key × IsAtMost y.key x.key) ys
+    every_both [] b c = tt
+    every_both (y ∷ ys) b c = ((b.0, inr c.0), every_both ys b.1 c.1)
+
+not_less : (o : Ordering) → o ≢ Less → is_lt o ≡ false
+not_less Less n = absurd (n refl)
+not_less Equal n = refl
+not_less Greater n = refl
+
+-- A key down to that of the last pair is down to that of the newest.
+down_to_newest : (k : Key) (xs : List Pair) → IsKey k → Every (λ x. IsKey x.key) xs → IsClimbing xs → IsDownToLast (turned xs) k → IsDownTo k xs
+down_to_newest k [] i a f (n, e, lt, at, h) = absurd (omega arith)
+down_to_newest k (x ∷ xs) i a f (n, e, lt, at, h) =
+    let y = All-contains (λ z. IsKey z.0 × IsAtMost x.key z.0) (turned (x ∷ xs)) e
+    (all_turned (λ z. IsKey z.0 × IsAtMost x.key z.0) (x ∷ xs) ((a.0, inl refl), every_both xs a.1 f.0)) (n, lt, at) in
+    at_most_trans x.key e.0 k y.1 (not_lt_at_most e.0 k y.0 i (not_less (key_order k e.0) h))
+  where
+    every_both : (ys : List Pair) → Every (λ y. IsKey y.key) ys → Every (λ y. IsBefore x.key y.key) ys → Every (λ y. IsKey y.key × IsAtMost x.key y.key) ys
     every_both [] b c = tt
     every_both (y ∷ ys) b c = ((b.0, inr c.0), every_both ys b.1 c.1)
 
@@ -244,3 +276,50 @@ module _ (s : Past) (before rest : List Change) (m : ℕ) (steady : IsSteady s m
           before_all : (k : Key) → IsKey k → (ys : List Pair) → Every (λ y. IsKey y.key) ys → Every (λ y. IsBefore y.key k) ys → Every (λ y. key_order y.key k ≡ Less) ys
           before_all k i [] a b = tt
           before_all k i (y ∷ ys) a b = (before_less y.key k a.0 i b.0, before_all k i ys a.1 b.1)
+
+  -- A scan downwards that came to its end is lawful.
+  pub complete_lawful_down : scan.more ≡ false → IsDownComplete s (length before) g xs → IsLawfulReverseScan before (before ++ rest) g.from g.upto g.limit scan
+  complete_lawful_down ends w = record {
+    begins = (rest, refl);
+    falling = subst (λ (z : Map). IsStrictlySortedBy falling_order (keys_of z)) (sym items) (turned_falls xs (are_keys w.held) w.climbing);
+    within = subst (All (λ e. IsTrue (is_within g.from g.upto e.0))) (sym items) (all_within (are_keys w.held) w.within);
+    short = subst (λ (z : Map). length z ≤ g.limit) (sym items) (let e = length_turned xs in let l = w.short in omega arith);
+    held = subst (All (λ e. IsHeldBetween before (before ++ rest) e.0 e.1)) (sym items) (all_held w.held);
+    whole = λ e k h o. subst (λ (z : Map). Contains (keys_of z) k) (sym items)
+        (listed_turned k xs (w.covered k (front_kept s before rest m steady told k o) (in_range g kf ku k (kept_key k o) h)));
+    part = λ e. absurd (false≢true (sym ends ∙ e));
+    full = λ e. absurd (false≢true (sym ends ∙ e));
+    further = λ e. absurd (false≢true (sym ends ∙ e));
+  }
+
+  -- And one that was cut at the limit.
+  pub cut_lawful_down : scan.more ≡ true → IsDownCut s (length before) g xs → IsLawfulReverseScan before (before ++ rest) g.from g.upto g.limit scan
+  cut_lawful_down goes_on w = record {
+    begins = (rest, refl);
+    falling = subst (λ (z : Map). IsStrictlySortedBy falling_order (keys_of z)) (sym items) (turned_falls xs (are_keys w.held) w.climbing);
+    within = subst (All (λ e. IsTrue (is_within g.from g.upto e.0))) (sym items) (all_within (are_keys w.held) w.within);
+    short = subst (λ (z : Map). length z ≤ g.limit) (sym items) (let e = length_turned xs in let l = w.full in omega arith);
+    held = subst (All (λ e. IsHeldBetween before (before ++ rest) e.0 e.1)) (sym items) (all_held w.held);
+    whole = λ e. absurd (false≢true (sym e ∙ goes_on));
+    part = λ e k h o u. subst (λ (z : Map). Contains (keys_of z) k) (sym items)
+        (listed_turned k xs
+        (w.covered k (front_kept s before rest m steady told k o) (in_range g kf ku k (kept_key k o) h)
+        (down_to_newest k xs (kept_key k o) (are_keys w.held) w.climbing (subst (λ (z : Map). IsDownToLast z k) items u))));
+    full = λ e. subst (λ (z : Map). length z ≡ g.limit) (sym items) (length_turned xs ∙ w.full);
+    further = λ e. more;
+  }
+    where
+      more : (k : Key) × (v : ℕ) × IsTrue (is_within g.from g.upto k) × IsHeldBetween before (before ++ rest) k v × IsBelowLast scan.pairs.items k
+      more =
+          let (k, v, r, h, b) = w.further in
+          let i = held_key s before rest m steady told (length before) k v h in (
+            k,
+            v,
+            within g kf ku k i r,
+            held_between s before rest m steady told k v h,
+            subst (λ (z : Map). IsBelowLast z k) (sym items) (all_turned (λ e. key_order k e.0 ≡ Less) xs (after_all k i xs (are_keys w.held) b)),
+          )
+        where
+          after_all : (k : Key) → IsKey k → (ys : List Pair) → Every (λ y. IsKey y.key) ys → Every (λ y. IsBefore k y.key) ys → Every (λ y. key_order k y.key ≡ Less) ys
+          after_all k i [] a b = tt
+          after_all k i (y ∷ ys) a b = (before_less k y.key i a.0 b.0, after_all k i ys a.1 b.1)

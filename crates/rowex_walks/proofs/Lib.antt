@@ -20,6 +20,7 @@ pub mod Leaves
 pub mod Taking
 pub mod Scans
 pub mod Walk
+pub mod Downs
 pub mod Starts
 pub mod Loads
 pub mod Persist

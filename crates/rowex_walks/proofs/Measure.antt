@@ -17,10 +17,10 @@ abbrev pub remaining : List Frame → ℕ
 remaining [] = 0
 remaining (f ∷ fs) = (size f.shape - f.place) * 34 ^ f.height + 1 + rest_after fs
 
-power_step : (i j : ℕ) → i < j → 34 ^ i * 34 ≤ 34 ^ j
+pub power_step : (i j : ℕ) → i < j → 34 ^ i * 34 ≤ 34 ^ j
 power_step i j h = subst (λ z. z ≤ 34 ^ j) (pow-suc 34 i) (pow-le-pow_right {n = 34} (omega arith) {i = suc i} {j = j} (omega arith))
 
-one_power : (i : ℕ) → 1 ≤ 34 ^ i
+pub one_power : (i : ℕ) → 1 ≤ 34 ^ i
 one_power i = one-le-pow i 34 (omega arith)
 
 one_less : (t p x : ℕ) → p < t → (t - p) * x ≡ x + (t - suc p) * x

@@ -36,7 +36,7 @@ read_on a b g m r k v (n, lo, hi, st) = (n, lo, le_trans hi g.longer, stands_gro
 pub fit_on : (a b : Past) → IsGrown a b → (m r i : ℕ) (y : Key) → MayStandAt a m r i y → MayStandAt b m r i y
 fit_on a b g m r i y (t, k, st, u, f) = (t, k, stood_on a b g m r t st, u, f)
 
-on_on : (a b : Past) → IsGrown a b → (m : ℕ) (k : Key) (r : Rec) → IsOn a m k r → IsOn b m k r
+pub on_on : (a b : Past) → IsGrown a b → (m : ℕ) (k : Key) (r : Rec) → IsOn a m k r → IsOn b m k r
 on_on a b g m k r (n, u, lo, hi, st, h) = (n, u, lo, le_trans hi g.longer, stands_grown a b g n r u hi st, h)
 
 pub stack_on : (a b : Past) → IsGrown a b → (m : ℕ) (fs : List Frame) → IsStack a m fs → IsStack b m fs
@@ -63,10 +63,10 @@ ahead_on a b g m k [] h = h
 ahead_on a b g m k (f ∷ fs) (inl (x, lt)) = inl (on_on a b g m k (a_node f.number) x, lt)
 ahead_on a b g m k (f ∷ fs) (inr x) = inr (right_on a b g m k fs x)
 
-kept_back : (a b : Past) → IsGrown a b → (m : ℕ) (k : Key) → IsKeptSince b m k → IsKeptSince a m k
+pub kept_back : (a b : Past) → IsGrown a b → (m : ℕ) (k : Key) → IsKeptSince b m k → IsKeptSince a m k
 kept_back a b g m k h n lo hi = let o = h n lo (le_trans hi g.longer) in (o.0, sym (g.kept n hi) ∙ o.1, o.2)
 
-held_on : (a b : Past) → IsGrown a b → (m : ℕ) (k : Key) (v : ℕ) → IsHeldSince a m k v → IsHeldSince b m k v
+pub held_on : (a b : Past) → IsGrown a b → (m : ℕ) (k : Key) (v : ℕ) → IsHeldSince a m k v → IsHeldSince b m k v
 held_on a b g m k v (n, t, lo, hi, e, h) = (n, t, lo, le_trans hi g.longer, g.kept n hi ∙ e, h)
 
 -- The scan's invariant is stable.

@@ -46,6 +46,13 @@ part_fits d v (Fork q x y) = go (ltb q d) (bit v q) (part_fits d v x) (part_fits
     go true false e f = omega (arith, e, f)
     go false o e f = omega arith
 
+pub start_fits : (d : ℕ) (v : Key) (x : Page) → start_place d v x ≤ size x
+start_fits d v x = go (bit v d) (part_fits d v x)
+  where
+    go : (u : Bool) → affected_from d v x + size (page_affected d v x) ≤ size x → (if u then affected_from d v x + size (page_affected d v x) else affected_from d v x) ≤ size x
+    go true h = h
+    go false h = omega (arith, h)
+
 -- it depends on the forks alone
 from_shape : (d : ℕ) (v : Key) (x : Page) → affected_from d v (shape x) ≡ affected_from d v x
 from_shape d v (Place e) = refl

@@ -2,5 +2,6 @@
 pub mod Writer
 pub mod Rise
 pub mod Scan
+pub mod Reverse
 pub mod Statements
 pub mod Ways

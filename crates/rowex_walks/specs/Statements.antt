@@ -3,6 +3,7 @@ use Rattle.std.specs.Prelude.{◌≡◌, ◌≢◌, ◌⊎◌, ℕ, ◌++◌, Li
 use Rattle.hot_model.specs.declared.Change.{Change}
 use Rattle.hot_model.specs.declared.Scan.{Scan as Answer}
 use Rattle.hot_model.specs.Scans.{IsLawfulScan}
+use Rattle.hot_model.specs.Reverse.{IsLawfulReverseScan}
 use Rattle.key_bits.specs.Key.{IsKey}
 use Rattle.compound_node.specs.declared.entries.Entry.{Entry}
 use Rattle.compound_node.specs.declared.entries.Entry.TheVariants.{Leaf, Node}
@@ -25,6 +26,7 @@ use Rattle.moments.specs.Steps.{IsMomentPublish}
 use Rattle.rowex_walks.specs.Writer.{added_change, replaced_change, removed_change, IsFoundBelow, IsNewLeaf}
 use Rattle.rowex_walks.specs.Rise.{IsNewPage, IsEntryFor, IsLockedNode, IsOver, IsUpper, IsLeafOf, entry, IsRise, entry_news, news_of, gone_of, IsSlotStore, IsBelowNode}
 use Rattle.rowex_walks.specs.Scan.{Pair, Range, IsComplete, IsCut, turned, IsRooted, IsPlaced, IsShaped, IsRead, IsSeen}
+use Rattle.rowex_walks.specs.Reverse.{IsDownComplete, IsDownCut}
 use Rattle.compound_node.specs.Nodes.{height_of}
 use Rattle.moments.specs.Frames.{IsGrown}
 
@@ -129,6 +131,20 @@ ScanIsCut =
     (s : Past) (before rest : List Change) (m : ℕ) → IsSteady s m → TellChanges s (before ++ rest) → (g : Range) → IsKey g.from → IsKey g.upto →
     (xs : List Pair) (scan : Answer) → scan.pairs.items ≡ turned xs → scan.more ≡ true → IsCut s (length before) g xs →
     IsLawfulScan before (before ++ rest) g.from g.upto g.limit scan
+
+-- Of scans that go downwards: one that came to its end,
+abbrev pub DownScanCompletes : Type 0
+DownScanCompletes =
+    (s : Past) (before rest : List Change) (m : ℕ) → IsSteady s m → TellChanges s (before ++ rest) → (g : Range) → IsKey g.from → IsKey g.upto →
+    (xs : List Pair) (scan : Answer) → scan.pairs.items ≡ turned xs → scan.more ≡ false → IsDownComplete s (length before) g xs →
+    IsLawfulReverseScan before (before ++ rest) g.from g.upto g.limit scan
+
+-- and one that was cut.
+abbrev pub DownScanIsCut : Type 0
+DownScanIsCut =
+    (s : Past) (before rest : List Change) (m : ℕ) → IsSteady s m → TellChanges s (before ++ rest) → (g : Range) → IsKey g.from → IsKey g.upto →
+    (xs : List Pair) (scan : Answer) → scan.pairs.items ≡ turned xs → scan.more ≡ true → IsDownCut s (length before) g xs →
+    IsLawfulReverseScan before (before ++ rest) g.from g.upto g.limit scan
 
 -- The entry was found by a load: at the root, or at a place.
 abbrev pub LoadsRoot : Type 0

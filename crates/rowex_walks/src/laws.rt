@@ -1,7 +1,7 @@
 //! The laws of walks. The functions do nothing: their contracts are the laws.
 
 ghost use Rattle.rowex_walks.specs.Ways.{FoundSame, OneBody, PlacedSame, RootedSame, StillGrows, StillPlaced, StillRooted, WayBegins, WayEnds, WayGoesOn, WayIsBelow, WayOfLeaf};
-ghost use Rattle.rowex_walks.specs.Statements.{FirstKey, FoundIsKept, GetEnds, InsertAtRoot, InsertInSlot, LedPlaced, LoadsLeaf, LoadsNone, LoadsPlace, LoadsRoot, LoadsShape, PushDown, RemoveAtRoot, RemoveInSlot, RemoveLast, ScanCompletes, ScanIsCut, SecondKey, UpperGoesOn, UpsertAtRoot, UpsertInSlot};
+ghost use Rattle.rowex_walks.specs.Statements.{DownScanCompletes, DownScanIsCut, FirstKey, FoundIsKept, GetEnds, InsertAtRoot, InsertInSlot, LedPlaced, LoadsLeaf, LoadsNone, LoadsPlace, LoadsRoot, LoadsShape, PushDown, RemoveAtRoot, RemoveInSlot, RemoveLast, ScanCompletes, ScanIsCut, SecondKey, UpperGoesOn, UpsertAtRoot, UpsertInSlot};
 
 /// An insertion that was checked under its locks, of any case that ends in a node, is a legal publish that adds the key.
 pub fn insert_in_slot()
@@ -106,6 +106,16 @@ pub fn scan_completes()
 /// A scan that was cut at its limit is lawful.
 pub fn scan_is_cut()
     ensures { ScanIsCut }
+{}
+
+/// A scan downwards that came to its end is lawful.
+pub fn down_scan_completes()
+    ensures { DownScanCompletes }
+{}
+
+/// A scan downwards that was cut at its limit is lawful.
+pub fn down_scan_is_cut()
+    ensures { DownScanIsCut }
 {}
 
 /// The descent of a writer below its lock begins at a node of which it has read the forks,

@@ -1,0 +1,68 @@
+-- What a scan that goes downwards knows: facts of the past alone. They are those of `Scan`, from the right to the left.
+use Rattle.std.specs.Prelude.{◌≡◌, ◌⊎◌, ℕ, suc, ◌<◌, ◌≤◌, List, [], ◌∷◌, length}
+use Rattle.tries.specs.Keys.{IsAtMost, Key, IsBefore}
+use Rattle.tries.specs.Place.{spot}
+use Rattle.moments.specs.Frames.{IsGrown}
+use Rattle.moments.specs.State.{Past, IsHeldSince, IsKeptSince, IsSteady}
+use Rattle.moments.specs.declared.Rec.TheVariants.{Node as a_node}
+use Rattle.rowex_walks.specs.Scan.{MayStandAt, IsOn, Frame, IsStack, Pair, Every, IsListed, Range, IsInRange}
+
+-- The key may stand at the record's place, or right of it.
+abbrev pub IsFromOn : Past → ℕ → ℕ → ℕ → Key → Type 0
+IsFromOn s m r i y = (j : ℕ) × (i ≤ j) × MayStandAt s m r j y
+
+-- It may stand right of the place of one of the frames.
+abbrev pub IsRightOfOne : Past → ℕ → Key → List Frame → Type 0
+IsRightOfOne s m k [] = ⊥
+IsRightOfOne s m k (f ∷ fs) = IsFromOn s m f.number (suc f.place) k ⊎ IsRightOfOne s m k fs
+
+-- The scan has passed the key. Of the topmost frame the places left of its own are those to come; in the place of any other frame the
+-- scan is.
+abbrev pub IsPassedDown : Past → ℕ → Key → List Frame → Type 0
+IsPassedDown s m k [] = ⊥
+IsPassedDown s m k (f ∷ fs) = IsFromOn s m f.number f.place k ⊎ IsRightOfOne s m k fs
+
+-- The key was in the node of one of these frames, left of its place: the scan has it still before it.
+abbrev pub IsLeftOfOne : Past → ℕ → Key → List Frame → Type 0
+IsLeftOfOne s m k [] = ⊥
+IsLeftOfOne s m k (f ∷ fs) = (IsOn s m k (a_node f.number) × (spot k f.shape < f.place)) ⊎ IsLeftOfOne s m k fs
+
+-- The keys fall strictly, where the newest pair, which has the least, stands first.
+abbrev pub IsClimbing : List Pair → Type 0
+IsClimbing [] = Unit {0}
+IsClimbing (x ∷ xs) = Every (λ y. IsBefore x.key y.key) xs × IsClimbing xs
+
+-- The loop's invariant: the pairs so far (the newest first) and the way.
+pub record IsDownScan (s : Past) (m : ℕ) (g : Range) (fs : List Frame) (xs : List Pair) : Type 0 where
+  pub stack : IsStack s m fs
+  pub climbing : IsClimbing xs
+  pub within : Every (λ x. IsInRange g x.key) xs
+  pub held : Every (λ x. IsHeldSince s m x.key x.value) xs
+  pub passed : Every (λ x. IsPassedDown s m x.key fs) xs
+  pub short : length xs ≤ g.limit
+  pub covered : (k : Key) → IsKeptSince s m k → IsInRange g k → IsListed k xs ⊎ IsLeftOfOne s m k fs
+
+-- What it promises, by moments: complete, or cut at the limit.
+pub record IsDownComplete (s : Past) (m : ℕ) (g : Range) (xs : List Pair) : Type 0 where
+  pub climbing : IsClimbing xs
+  pub within : Every (λ x. IsInRange g x.key) xs
+  pub held : Every (λ x. IsHeldSince s m x.key x.value) xs
+  pub short : length xs ≤ g.limit
+  pub covered : (k : Key) → IsKeptSince s m k → IsInRange g k → IsListed k xs
+
+-- The key is that of the newest pair, or above it.
+abbrev pub IsDownTo : Key → List Pair → Type 0
+IsDownTo k [] = ⊥
+IsDownTo k (x ∷ xs) = IsAtMost x.key k
+
+pub record IsDownCut (s : Past) (m : ℕ) (g : Range) (xs : List Pair) : Type 0 where
+  pub climbing : IsClimbing xs
+  pub within : Every (λ x. IsInRange g x.key) xs
+  pub held : Every (λ x. IsHeldSince s m x.key x.value) xs
+  pub full : length xs ≡ g.limit
+  pub further : (k : Key) × (v : ℕ) × IsInRange g k × IsHeldSince s m k v × Every (λ x. IsBefore k x.key) xs
+  pub covered : (k : Key) → IsKeptSince s m k → IsInRange g k → IsDownTo k xs → IsListed k xs
+
+-- Each key that may stand left of this place of the record is below the key, and stays so while the past grows.
+abbrev pub IsBeneath : Past → ℕ → Key → ℕ → ℕ → Type 0
+IsBeneath s m k r i = (t : Past) → IsGrown s t → IsSteady t m → (j : ℕ) (z : Key) → j < i → MayStandAt t m r j z → IsBefore z k
