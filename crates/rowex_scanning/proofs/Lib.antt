@@ -1,4 +1,5 @@
 -- The lemmas of the crate.
 pub mod Walking
 pub mod Starting
+pub mod Downwards
 pub mod Scanned

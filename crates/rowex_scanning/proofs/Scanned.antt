@@ -3,6 +3,7 @@ use Rattle.std.proofs.Common.{◌≡◌, List, ◌++◌, Bool, true, false, Some
 use Rattle.hot_model.specs.declared.Change.{Change}
 use Rattle.hot_model.specs.declared.Note.{Note}
 use Rattle.hot_model.specs.declared.Scan.{Scan}
+use Rattle.hot_model.specs.Reverse.{IsLawfulReverseScan}
 use Rattle.hot_model.specs.Scans.{IsLawfulScan}
 use Rattle.key_bits.specs.Key.{IsKey}
 use Rattle.record_words.specs.declared.layout.Layout.{Layout}
@@ -13,8 +14,9 @@ use Rattle.rowex_core.specs.declared.event.Act.TheVariants.{ClearPin}
 use Rattle.rowex_core.specs.declared.known.Known.{Known}
 use Rattle.rowex_core.specs.Knowing.{IsEvent}
 use Rattle.rowex_walks.specs.Scan.{Range}
-use Rattle.rowex_walks.proofs.Fronts.{complete_lawful, cut_lawful}
+use Rattle.rowex_walks.proofs.Fronts.{complete_lawful, complete_lawful_down, cut_lawful, cut_lawful_down}
 use Rattle.rowex_reading.specs.Seen.{seen, since}
+use Rattle.rowex_scanning.specs.Reverse.{HasScannedDown, IsDownAnswer}
 use Rattle.rowex_scanning.specs.Scanning.{HasScanned, IsAnswer}
 use Rattle.rowex_reading.proofs.Seeing.{seen_told, seen_steady}
 use Rattle.rowex_reading.proofs.Later.{event_recalls}
@@ -39,3 +41,24 @@ lawful_scan k g scan layout said j kf ku p pin h event =
     go true e answer =
         cut_lawful (seen event.core k) k.fresh.front event.knows.seen.fresh.0 p.moment steady told g kf ku h.taken scan h.pairs_are e
         (subst (λ z. IsAnswer (seen event.core k) (since k) g h.taken z) e answer)
+
+-- What a scan downwards has taken is lawful from the last load of the root to what the pass has seen.
+pub lawful_scan_down : (k : Known) (g : Range) (scan : Scan) (layout : Layout) (said : Known → List Note) (j : Known) → IsKey g.from → IsKey g.upto → (p : Pin) → k.pin ≡ Some p → HasScannedDown k g scan.pairs.items scan.more → IsEvent layout ClearPin said k j →
+    IsLawfulReverseScan k.fresh.front k.front g.from g.upto g.limit scan
+lawful_scan_down k g scan layout said j kf ku p pin h event =
+    subst (λ (z : List Change). IsLawfulReverseScan k.fresh.front z g.from g.upto g.limit scan) (sym event.knows.seen.fresh.1) (go scan.more refl (h.answer event.core event.lawful (event_recalls event)))
+  where
+    told : TellChanges (seen event.core k) (k.fresh.front ++ event.knows.seen.fresh.0)
+    told = subst (λ (z : List Change). TellChanges (seen event.core k) z) event.knows.seen.fresh.1 (seen_told event.lawful (event_recalls event))
+
+    steady : IsSteady (seen event.core k) p.moment
+    steady = seen_steady event.lawful (event_recalls event) (p, pin, le_refl p.moment)
+
+    go : (more : Bool) → scan.more ≡ more → IsDownAnswer (seen event.core k) (since k) g h.taken scan.more →
+        IsLawfulReverseScan k.fresh.front (k.fresh.front ++ event.knows.seen.fresh.0) g.from g.upto g.limit scan
+    go false e answer =
+        complete_lawful_down (seen event.core k) k.fresh.front event.knows.seen.fresh.0 p.moment steady told g kf ku h.taken scan h.pairs_are e
+        (subst (λ z. IsDownAnswer (seen event.core k) (since k) g h.taken z) e answer)
+    go true e answer =
+        cut_lawful_down (seen event.core k) k.fresh.front event.knows.seen.fresh.0 p.moment steady told g kf ku h.taken scan h.pairs_are e
+        (subst (λ z. IsDownAnswer (seen event.core k) (since k) g h.taken z) e answer)

@@ -29,7 +29,9 @@ use Rattle.rowex_core.specs.declared.known.Known.{Known}
 use Rattle.rowex_core.proofs.Owning.{recalls}
 use Rattle.rowex_walks.specs.Scan.{Range, IsBlank, IsRooted, IsPlaced, IsShaped, IsRead, IsStack, IsScan, IsOver, MayStandAt, Frame as Stage}
 use Rattle.rowex_walks.proofs.Scans.{fit_down, fit_leaf, fit_near, fit_order, shaped_several}
-use Rattle.rowex_walks.proofs.Starts.{at_over, fit_sole, scan_start, sides, sides_over, stack_at, AreAt, affected_from, start_place}
+use Rattle.rowex_walks.specs.Reverse.{IsBeneath}
+use Rattle.rowex_walks.proofs.Downs.{at_beneath, sides_beneath}
+use Rattle.rowex_walks.proofs.Starts.{at_over, fit_sole, scan_start, sides, sides_over, stack_at, start_fits, AreAt, affected_from, start_place}
 use Rattle.rowex_walks.proofs.Walk.{scan_skip, stack_place}
 use Rattle.rowex_reading.specs.Possible.{IsPossible}
 use Rattle.compound_node.specs.Nodes.{HeadView}
@@ -42,9 +44,9 @@ use Rattle.rowex_reading.proofs.Ways.{named_at, named_end, way_later}
 use Rattle.rowex_reading.specs.Ways.{IsMismatch, IsWayOf, IsWayNode, RootWas, named}
 use Rattle.rowex_reading.specs.declared.descent.Found.{Found}
 use Rattle.rowex_reading.specs.declared.descent.Found.TheVariants.{Leaf, Nothing}
-use Rattle.rowex_scanning.specs.Scanning.{AreInside, AreOver, IsBegun, IsFirst, IsFloor, IsNotBelow, IsStart, IsWalk, frame, frames_of}
+use Rattle.rowex_scanning.specs.Scanning.{AreBeneath, AreInside, AreOver, IsBegun, IsFirst, IsFloor, IsNotBelow, IsStart, IsWalk, frame, frames_of}
 use Rattle.rowex_scanning.specs.declared.scanning.Start.{Start}
-use Rattle.rowex_scanning.proofs.Walking.{over_append, IsAtEntry}
+use Rattle.rowex_scanning.proofs.Walking.{beneath_append, over_append, IsAtEntry}
 
 -- ---- the affected places, by the key
 key_first : (d : ℕ) (v : Key) (x : Page) → affected_first d (spot v x) x ≡ affected_from d v x
@@ -183,6 +185,20 @@ module _ (layout : Layout) (k : Known) (m : ℕ) (key : Key) (way : List Step) (
   are_over (f ∷ fs) at = over_append m key (frames_of fs) (frame f) (are_over fs (λ c lawful known. (at c lawful known).1))
       (λ c lawful known. subst (λ n. IsOver (seen c k) m key f.number n) (let e : suc f.place ≡ f.place + 1 = omega arith in e) (at_over (seen c k) m f.number f.place key (at c lawful known).0))
 
+  -- what is left of them is below it
+  are_beneath : (fs : List Stage) → Sure k (λ s. AreAt s m key fs) → AreBeneath k m key (frames_of fs)
+  are_beneath [] at = tt
+  are_beneath (f ∷ fs) at = beneath_append m key (frames_of fs) (frame f) (are_beneath fs (λ c lawful known. (at c lawful known).1))
+      (λ c lawful known. at_beneath (seen c k) m f.number f.place key (at c lawful known).0)
+
+  all_beneath : (n : ℕ) (h : n ≤ length way) → Sure k (λ s. AreAt s m key (stages n h)) → AreBeneath k m key (take n way)
+  all_beneath n h at = subst (AreBeneath k m key) (sym (frames_are n h)) (are_beneath (stages n h) at)
+
+  -- the step of a start is the way's
+  of_step : (i : ℕ) (h : i < length way) (place : ℕ) (top : Step) → top ≡ record (step i h).0 { at = place } → (s : Step) → slice_get way i ≡ Some s → top ≡ record s { at = top.at }
+  of_step i h place top is s there =
+      is ∙ (ap (λ (z : Step). let x : Step = record z { at = place } in x) (same_some (sym (step i h).1 ∙ there)) ∙ ap (λ z. let x : Step = record s { at = z } in x) (sym (ap (λ (z : Step). z.at) is)))
+
   -- If it may stand at a node's place, it may so at the nodes' above.
   at_above : (i : ℕ) (h : i < length way) → StandsAt i h → Sure k (λ s. AreAt s m key (stages (suc i) h))
   at_above i h at c lawful known = stack_at (seen c k) m (steady c lawful known) (stage i h) (stages i (down h)) (stack c lawful known (suc i) h) key (at c lawful known)
@@ -222,6 +238,12 @@ module _ (layout : Layout) (k : Known) (m : ℕ) (key : Key) (way : List Step) (
       right = subst (AreOver k m key) (sym (frames_are i (down h))) (are_over (stages i (down h)) above);
     }
 
+    beneath : Sure k (λ s. IsBeneath s m key (step i h).0.number (step i h).0.at)
+    beneath c lawful known = at_beneath (seen c k) m (stage i h).number (stage i h).place key (stands c lawful known)
+
+    place_fits : (step i h).0.at < (step i h).0.count
+    place_fits = subst (λ z. (step i h).0.at < z) (sym (node i h).2.count) (place_below i h)
+
     -- the leaf comes first
     pub starts_at_leaf : IsAtMost key leaf_key → (top : Step) → top ≡ (step i h).0 → IsStart k m key way number (record { level = i; top = top; leaf = true })
     starts_at_leaf le top is = record {
@@ -236,6 +258,10 @@ module _ (layout : Layout) (k : Known) (m : ℕ) (key : Key) (way : List Step) (
         above = le;
         floor = floor_behind (record (step i h).0 { at = (step i h).0.at + 1 }) refl;
       });
+      fits = subst (λ (z : Step). z.at ≤ z.count) (sym is) (let low = place_fits in omega (arith, low));
+      of_way = of_step i h (step i h).0.at top is;
+      left = all_beneath i (down h) above;
+      side = inl (subst (λ (z : Step). Sure k (λ s. IsBeneath s m key z.number z.at)) (sym is) beneath);
     }
 
     -- or it is below the key, and the scan starts behind it
@@ -247,6 +273,21 @@ module _ (layout : Layout) (k : Known) (m : ℕ) (key : Key) (way : List Step) (
           (scan_skip (seen c k) m (steady c lawful known) g (stage i h) (stages i (down h)) [] (scan_at g from c lawful known) number leaf_key value
           (placed_end i h last c lawful known) (w.found_at.1 c lawful known) (subst (IsBefore leaf_key) (sym from) low))) top is;
       begun = floor_behind top is;
+      fits = subst (λ (z : Step). z.at ≤ z.count) (sym is) (let low = place_fits in omega (arith, low));
+      of_way = of_step i h ((step i h).0.at + 1) top is;
+      left = all_beneath i (down h) above;
+      side = inr (record {
+        apart = refl;
+        last = last;
+        step = (step i h).0;
+        there = (step i h).1;
+        behind = ap (λ (z : Step). z.at) is;
+        found = leaf_key;
+        value = value;
+        read = w.found_at.1;
+        low = low;
+        beneath = beneath;
+      });
     }
 
   -- ---- among several affected places
@@ -280,6 +321,11 @@ module _ (layout : Layout) (k : Known) (m : ℕ) (key : Key) (way : List Step) (
             (sides_over (seen c k) m (stage i h).number (stage i h).shape ((node i h).2.shaped c lawful known) key leaf_key d agree (fits_at i h c lawful known) ne two);
         right = subst (AreOver k m key) (sym (frames_are i (down h))) (are_over (stages i (down h)) at);
       };
+      fits = subst (λ (z : Step). z.at ≤ z.count) (sym is) (subst (λ z. start_place d key (stage i h).shape ≤ z) (sym (node i h).2.count) (start_fits d key (stage i h).shape));
+      of_way = of_step i h (start_place d key (stage i h).shape) top is;
+      left = all_beneath i (down h) at;
+      side = inl (λ c lawful known. subst (λ (z : Step). IsBeneath (seen c k) m key z.number z.at) (sym is)
+          (sides_beneath (seen c k) m (stage i h).number (stage i h).shape ((node i h).2.shaped c lawful known) key leaf_key d agree (fits_at i h c lawful known) ne two));
     }
       where
         stack_with : (c : Core) (lawful : IsLawful c) (known : Recalls c k) → IsStack (seen c k) m (record (stage i h) { place = start_place d key (stage i h).shape } ∷ stages i (down h))
@@ -487,6 +533,10 @@ nothing_blank layout k m key (s ∷ ss) w =
 pub leaf_rooted : (layout : Layout) (k : Known) (key : Key) (way : List Step) (number value : ℕ) (differ : Option ℕ) → way ≡ [] → IsWayOf layout k (since k) key way (Leaf number value differ) → IsAtRoot k (LeafEntry number)
 leaf_rooted layout k key way number value differ none w = (w.since, subst (λ z. RootWas k (since k) (named z (Leaf number value differ) 0)) none w.root)
 
+-- Two reads of one leaf find one key.
+pub read_same : (s : Past) (m : ℕ) → IsSteady s m → (n : ℕ) (a b : Key) (v u : ℕ) → IsRead s m n a v → IsRead s m n b u → a ≡ b
+read_same s m steady n a b v u (o, lo, hi, st) (p, lo2, hi2, su) = (steady.same (a_leaf n) o p (leaf n a v) (leaf n b u) lo hi lo2 hi2 st su).0
+
 -- The leaf that was found is not below the first key.
 first_above : (layout : Layout) {k : Known} (m : ℕ) (from : Key) (number : ℕ) (top : Step) (frames : List Step) → IsFirst k m from number top frames → IsSince k m → IsNotBelow layout k m from number
 first_above layout {k} m from number top frames f pinned j l possible key value read =
@@ -494,9 +544,6 @@ first_above layout {k} m from number top frames f pinned j l possible key value 
     let steady = seen_steady possible.lawful known (since_later l pinned) in
     let old = sure_later {P = λ s. IsRead s m number f.found f.value} (read_stable m number f.found f.value) l f.read in
     subst (IsAtMost from) (read_same (seen c j) m steady number f.found key f.value value (old c possible.lawful known) (read c possible.lawful known)) f.above
-  where
-    read_same : (s : Past) (m : ℕ) → IsSteady s m → (n : ℕ) (a b : Key) (v u : ℕ) → IsRead s m n a v → IsRead s m n b u → a ≡ b
-    read_same s m steady n a b v u (o, lo, hi, st) (p, lo2, hi2, su) = (steady.same (a_leaf n) o p (leaf n a v) (leaf n b u) lo hi lo2 hi2 st su).0
 
 -- ---- where a scan begins, with no pairs yet
 pub record HasBegun (layout : Layout) (k : Known) (m : ℕ) (g : Range) (number : ℕ) (start : Start) (frames : List Step) (pairs : List (Key × ℕ)) : Type 0 where

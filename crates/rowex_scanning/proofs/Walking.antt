@@ -33,7 +33,8 @@ use Rattle.rowex_scanning.specs.declared.scanning.Verdict.{Verdict}
 use Rattle.rowex_scanning.specs.declared.scanning.Verdict.TheVariants.{Further, Past as IsPast, Full}
 use Rattle.rowex_reading.specs.Seen.{seen, Sure, IsAtRoot, IsLedTo, HasPlace, since, shape_of}
 use Rattle.rowex_table.specs.Made.{IsLater}
-use Rattle.rowex_scanning.specs.Scanning.{HasScanned, IsAnswer, IsLeafTaken, IsNotBelow, IsPairTaken, frame, frames_of, IsEntered, AreInside, AreOver, IsFloor, IsWalk}
+use Rattle.rowex_walks.specs.Reverse.{IsBeneath}
+use Rattle.rowex_scanning.specs.Scanning.{AreBeneath, HasScanned, IsAnswer, IsLeafTaken, IsNotBelow, IsPairTaken, frame, frames_of, IsEntered, AreInside, AreOver, IsFloor, IsWalk}
 use Rattle.rowex_scanning.specs.Counts.{scan_loads, walk_loads}
 use Rattle.rowex_core.proofs.Owning.{recalls}
 use Rattle.rowex_walks.proofs.Starts.{over_on, over_later, over_down}
@@ -136,11 +137,11 @@ module _ {A : Type 0} where
   empty_is [] e = refl
   empty_is (x ∷ xs) e = absurd (omega arith)
 
-length_turned : (xs : List Pair) → length (turned xs) ≡ length xs
+pub length_turned : (xs : List Pair) → length (turned xs) ≡ length xs
 length_turned [] = refl
 length_turned (x ∷ xs) = let e = length-append (turned xs) ((x.key, x.value) ∷ []) in let h = length_turned xs in omega arith
 
-length_frames : (fs : List Stage) → length (frames_of fs) ≡ length fs
+pub length_frames : (fs : List Stage) → length (frames_of fs) ≡ length fs
 length_frames [] = refl
 length_frames (f ∷ fs) = let e = length-append (frames_of fs) (frame f ∷ []) in let h = length_frames fs in omega (arith, e, h)
 
@@ -497,7 +498,11 @@ module _ (m : ℕ) (key : Key) where
   over_append [] x over last = (last, tt)
   over_append (y ∷ xs) x (first, over) last = (first, over_append xs x over last)
 
-  over_parts : {k : Known} (xs : List Step) (x : Step) → AreOver k m key (xs ++ x ∷ []) → AreOver k m key xs × Sure k (λ s. IsOver s m key x.number (x.at + 1))
+  pub beneath_append : {k : Known} (xs : List Step) (x : Step) → AreBeneath k m key xs → Sure k (λ s. IsBeneath s m key x.number x.at) → AreBeneath k m key (xs ++ x ∷ [])
+  beneath_append [] x low last = (last, tt)
+  beneath_append (y ∷ xs) x (first, low) last = (first, beneath_append xs x low last)
+
+  pub over_parts : {k : Known} (xs : List Step) (x : Step) → AreOver k m key (xs ++ x ∷ []) → AreOver k m key xs × Sure k (λ s. IsOver s m key x.number (x.at + 1))
   over_parts [] x (last, over) = (tt, last)
   over_parts (y ∷ xs) x (first, over) = let o = over_parts xs x over in ((first, o.0), o.1)
 

@@ -1,5 +1,5 @@
 -- What a scan knows on its way, and of what it answers.
-use Rattle.std.specs.Prelude.{◌≡◌, ◌≢◌, ℕ, ◌+◌, ◌<◌, ◌≤◌, List, [], ◌∷◌, ◌++◌, length, take, Bool, false, true}
+use Rattle.std.specs.Prelude.{◌≡◌, ◌≢◌, ◌⊎◌, ℕ, ◌+◌, ◌<◌, ◌≤◌, List, [], ◌∷◌, ◌++◌, length, take, slice_get, Some, Bool, false, true}
 use Rattle.compound_node.specs.declared.entries.Entry.TheVariants.{Leaf}
 use Rattle.insert_cases.specs.declared.choice.Step.{Step}
 use Rattle.pieces.specs.Piece.{size}
@@ -9,6 +9,7 @@ use Rattle.moments.specs.State.{Past}
 use Rattle.rowex_core.specs.declared.known.Known.{Known}
 use Rattle.record_words.specs.declared.layout.Layout.{Layout}
 use Rattle.rowex_walks.specs.Scan.{Pair, Range, IsInRange, IsComplete, IsCut, IsScan, IsOver, IsPlaced, IsRead, IsShaped, turned, Frame as Stage}
+use Rattle.rowex_walks.specs.Reverse.{IsBeneath}
 use Rattle.rowex_scanning.specs.declared.scanning.Start.{Start}
 use Rattle.rowex_scanning.specs.declared.scanning.Range.{Range as Asked}
 use Rattle.rowex_scanning.specs.declared.scanning.Verdict.{Verdict}
@@ -110,8 +111,31 @@ abbrev pub IsBegun : Bool → Known → ℕ → Key → ℕ → Step → List St
 IsBegun true k m key number top frames = IsFirst k m key number top frames
 IsBegun false k m key number top frames = IsFloor k m key top frames
 
+-- The pass is sure that all keys that stand left of the places of these frames are below this one.
+abbrev pub AreBeneath : Known → ℕ → Key → List Step → Type 0
+AreBeneath k m key [] = Unit {0}
+AreBeneath k m key (f ∷ fs) = Sure k (λ s. IsBeneath s m key f.number f.at) × AreBeneath k m key fs
+
+-- The scan starts behind the leaf, at which the search has ended: its key is below this one, and so is all that stands left of it.
+pub record IsBehindLeaf (k : Known) (m : ℕ) (key : Key) (way : List Step) (number : ℕ) (start : Start) : Type 0 where
+  pub apart : start.leaf ≡ false
+  pub last : start.level + 1 ≡ length way
+  pub step : Step
+  pub there : slice_get way start.level ≡ Some step
+  pub behind : start.top.at ≡ step.at + 1
+  pub found : Key
+  pub value : ℕ
+  pub read : Sure k (λ s. IsRead s m number found value)
+  pub low : IsBefore found key
+  pub beneath : Sure k (λ s. IsBeneath s m key step.number step.at)
+
 -- Where a scan from the key starts on the way of the key's search, which has ended at this leaf.
 pub record IsStart (k : Known) (m : ℕ) (key : Key) (way : List Step) (number : ℕ) (start : Start) : Type 0 where
   pub within : start.level < length way
   pub walk : (g : Range) → g.from ≡ key → IsWalk k m g start.top (take start.level way) []
   pub begun : IsBegun start.leaf k m key number start.top (take start.level way)
+  pub fits : start.top.at ≤ start.top.count
+  pub of_way : (s : Step) → slice_get way start.level ≡ Some s → start.top ≡ record s { at = start.top.at }
+  -- what stands left of the place is below the key, or the leaf is between
+  pub left : AreBeneath k m key (take start.level way)
+  pub side : Sure k (λ s. IsBeneath s m key start.top.number start.top.at) ⊎ IsBehindLeaf k m key way number start

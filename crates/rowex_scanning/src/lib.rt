@@ -2,6 +2,8 @@
 //! passes publish meanwhile.
 #![tactic(auto)]
 
+mod reverse;
 mod scanning;
 
+pub use reverse::scan_root_down;
 pub use scanning::{Range, scan_root};

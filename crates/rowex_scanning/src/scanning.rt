@@ -39,19 +39,19 @@ pub struct Range<'a> {
 
 /// Where a scan starts on the way of the search for its first key.
 #[derive(Clone, Copy)]
-struct Start {
+pub(crate) struct Start {
     /// The level of the node in which it starts.
-    level: usize,
+    pub level: usize,
     /// That node, with the place at which the scan starts.
-    top: Step,
+    pub top: Step,
     /// Whether the leaf at which the search ended comes first. It stands at the place, and is not looked for there again: by
     /// now there may be another entry, with keys below the range.
-    leaf: bool,
+    pub leaf: bool,
 }
 
 /// What becomes of a scan at a pair.
 #[derive(Clone, Copy)]
-enum Verdict {
+pub(crate) enum Verdict {
     /// It goes on.
     Further,
     /// The key is past the range.
@@ -160,7 +160,7 @@ fn scan_node<G: Gate>(
 /// Where a scan from a key starts on the way of the key's search, which ended at this leaf. The position at which the leaf's
 /// key differs first parts the range's first key from those of the entries that it affects, and these from all others: so the
 /// scan starts at the first of them, or behind the last.
-fn start_at<G: Gate>(
+pub(crate) fn start_at<G: Gate>(
     table: &HotTable,
     seat: &mut TableSeat,
     gate: &mut G,
@@ -243,7 +243,12 @@ fn walk<G: Gate>(
 }
 
 /// Goes to a node: reads its head, and begins at its first place.
-fn enter<G: Gate>(table: &HotTable, seat: &mut TableSeat, gate: &mut G, number: u32) -> Step
+pub(crate) fn enter<G: Gate>(
+    table: &HotTable,
+    seat: &mut TableSeat,
+    gate: &mut G,
+    number: u32,
+) -> Step
     requires reader { IsReader table.now seat.old }
     requires led { (m h : ℕ) × IsLedTo seat.old.known m (NodeEntry number h) }
     ensures reads { (n : ℕ) × (n ≤ HEAD_WORDS) × Reads table.now G.becomes n (seat.old, gate.old) (seat.new, gate.new) }
@@ -298,7 +303,7 @@ fn take_pair(
 
 /// Whether the key with the first bytes is before that with the second: their first different byte says what their first different
 /// bit does.
-fn is_before(first: &[u8], second: &[u8]) -> bool
+pub(crate) fn is_before(first: &[u8], second: &[u8]) -> bool
     requires keys { IsKey first.now × IsKey second.now }
     ensures before { IsTrue result → IsBefore first.now second.now }
     ensures at_most { result ≡ false → IsAtMost second.now first.now }

@@ -1,0 +1,57 @@
+-- A scan of one leaf.
+use Rattle.std.proofs.Common.{inl, inr, subst, take}
+use Rattle.compound_node.specs.declared.entries.Entry.TheVariants.{Leaf}
+use Rattle.tries.specs.Keys.{IsAtMost, IsBefore}
+use Rattle.rowex_reading.specs.Reads.{leaf_loads}
+use Rattle.rowex_reading.specs.Seen.{since}
+use Rattle.rowex_reading.proofs.Led.{reads_later, rooted_led, same_since}
+use Rattle.rowex_scanning.specs.Scanning.{range_of}
+use Rattle.rowex_scanning.proofs.Downwards.{leaf_above, leaf_is_further, leaf_is_past, leaf_is_full}
+use Rattle.rowex_scanning.proofs.reverse.scan_leaf_down.Goals as goal
+
+pub load_places-length-requires-clause-led : goal.load_places-length-requires-clause-led
+load_places-length-requires-clause-led g c = (since c.args.seat.now.known, rooted_led (Leaf c.args.number) c.requires.root)
+
+pub returns-then-is_before-clause-reads : goal.returns-then-is_before-clause-reads
+returns-then-is_before-clause-reads g c = (leaf_loads (take c.load_places-length.result.0 c.load_places-length.new.places), c.load_places-length.ensures.few, c.load_places-length.ensures.reads)
+
+pub returns-then-is_before-clause-scanned : goal.returns-then-is_before-clause-scanned
+returns-then-is_before-clause-scanned g c =
+    let e = c.load_places-length.ensures in
+    leaf_above (range_of c.args.range.now) c.args.number (take c.load_places-length.result.0 c.load_places-length.new.places) c.load_places-length.result.1 (reads_later e.reads) c.requires.root
+    (same_since e.reads) (e.leaf (since c.args.seat.now.known) (rooted_led (Leaf c.args.number) c.requires.root)) c.requires.empty
+    (subst (λ z. IsBefore z (take c.load_places-length.result.0 c.load_places-length.new.places)) c.as_bytes.ensures.bytes (c.is_before.ensures.before c.if-is_before.true))
+
+pub take_pair_down-requires-clause-key : goal.take_pair_down-requires-clause-key
+take_pair_down-requires-clause-key g c = c.load_places-length.ensures.places.key
+
+pub take_pair_down-requires-clause-below : goal.take_pair_down-requires-clause-below
+take_pair_down-requires-clause-below g c = subst (IsAtMost (take c.load_places-length.result.0 c.load_places-length.new.places)) c.as_bytes.ensures.bytes (c.is_before.ensures.at_most c.if-is_before.false)
+
+pub returns-in_err-take_pair_down-clause-reads : goal.returns-in_err-take_pair_down-clause-reads
+returns-in_err-take_pair_down-clause-reads g c = (leaf_loads (take c.load_places-length.result.0 c.load_places-length.new.places), c.load_places-length.ensures.few, c.load_places-length.ensures.reads)
+
+pub returns-in-Full : goal.returns-in-Full
+returns-in-Full g c =
+    let e = c.load_places-length.ensures in
+    record {
+      reads = (leaf_loads (take c.load_places-length.result.0 c.load_places-length.new.places), e.few, e.reads);
+      scanned =
+          leaf_is_full (range_of c.args.range.now) c.args.number (take c.load_places-length.result.0 c.load_places-length.new.places) c.load_places-length.result.1 (reads_later e.reads) c.requires.root
+          (same_since e.reads) (e.leaf (since c.args.seat.now.known) (rooted_led (Leaf c.args.number) c.requires.root)) c.requires.empty c.in_ok-take_pair_down.ensures c.in-Full.is;
+    }
+
+pub returns-in-Further : goal.returns-in-Further
+returns-in-Further g c =
+    let e = c.load_places-length.ensures in
+    record {
+      reads = (leaf_loads (take c.load_places-length.result.0 c.load_places-length.new.places), e.few, e.reads);
+      scanned = elim c.in-Further.is [
+        | inl is ↦
+            leaf_is_further (range_of c.args.range.now) c.args.number (take c.load_places-length.result.0 c.load_places-length.new.places) c.load_places-length.result.1 (reads_later e.reads) c.requires.root
+            (same_since e.reads) (e.leaf (since c.args.seat.now.known) (rooted_led (Leaf c.args.number) c.requires.root)) c.requires.empty c.in_ok-take_pair_down.ensures is
+        | inr is ↦
+            leaf_is_past (range_of c.args.range.now) c.args.number (take c.load_places-length.result.0 c.load_places-length.new.places) c.load_places-length.result.1 (reads_later e.reads) c.requires.root
+            (same_since e.reads) (e.leaf (since c.args.seat.now.known) (rooted_led (Leaf c.args.number) c.requires.root)) c.requires.empty c.in_ok-take_pair_down.ensures is
+      ];
+    }

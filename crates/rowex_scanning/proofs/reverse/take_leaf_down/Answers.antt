@@ -1,0 +1,26 @@
+-- The leaf is read, and then its pair is taken.
+use Rattle.std.proofs.Common.{take}
+use Rattle.std.proofs.lemmas.Result.{IfOk-weaker}
+use Rattle.rowex_reading.specs.Reads.{leaf_loads}
+use Rattle.rowex_reading.proofs.Led.{reader_then, reads_later}
+use Rattle.rowex_scanning.specs.Reverse.{IsLeafTakenDown, IsPairTakenDown}
+use Rattle.rowex_scanning.specs.Scanning.{range_of}
+use Rattle.rowex_scanning.proofs.reverse.take_leaf_down.Goals as goal
+
+pub load_places-length-requires-clause-led : goal.load_places-length-requires-clause-led
+load_places-length-requires-clause-led g c = (c.requires.leaf.0, c.requires.leaf.1)
+
+pub take_pair_down-requires : goal.take_pair_down-requires
+take_pair_down-requires g c =
+    let e = c.load_places-length.ensures in let (m, led, below) = c.requires.leaf in
+    record { key = e.places.key; below = below c.load_places-length.new.seat.known (reads_later e.reads) (reader_then c.requires.reader e.reads).1 _ _ (e.leaf m led) }
+
+pub returns-clause-reads : goal.returns-clause-reads
+returns-clause-reads g c = let e = c.load_places-length.ensures in (leaf_loads (take c.load_places-length.result.0 c.load_places-length.new.places), e.few, e.reads)
+
+pub returns-clause-taken : goal.returns-clause-taken
+returns-clause-taken g c =
+    let key = take c.load_places-length.result.0 c.load_places-length.new.places in let value = c.load_places-length.result.1 in
+    IfOk-weaker c.take_pair_down.result (IsPairTakenDown (range_of c.args.range.now) c.args.pairs.now key value c.take_pair_down.new.pairs)
+    (IsLeafTakenDown c.args.seat.now.known c.load_places-length.new.seat.known (range_of c.args.range.now) c.args.number c.args.pairs.now c.take_pair_down.new.pairs)
+    (λ verdict taken. record { key = key; value = value; read = c.load_places-length.ensures.leaf; taken = taken }) c.take_pair_down.ensures
