@@ -1,4 +1,4 @@
-//! What a gate sees of the records of an index.
+//! What a gate sees of the calls of a pass.
 
 use hot_index::{Event, Gate};
 use rowex_core::{Act, Rec};
@@ -7,9 +7,13 @@ use rowex_core::{Act, Rec};
 const MOST_OF_OWN: u32 = 128;
 
 /// Counts the steps that it is told, and what rounds of collection do and find.
-#[derive(Drop)]
+#[derive(Clone, Copy)]
 pub struct Census {
     pub steps: u64,
+    /// How many states were loaded.
+    pub looks: u64,
+    /// How many records were retired.
+    pub retired: u64,
     /// How many rounds have visited more records than a pass visits for those that it has retired.
     pub full_rounds: u32,
     /// How many node records the last round has found in use.
@@ -22,14 +26,25 @@ impl Census {
     pub fn new() -> Census {
         Census {
             steps: 0,
+            looks: 0,
+            retired: 0,
             full_rounds: 0,
             nodes: 0,
             visits: None,
         }
     }
 
-    /// Counts a record that the round has visited, if one goes on.
-    fn visit(&mut self, rec: Rec, word: u64) {
+    /// Adds what another one has counted.
+    pub fn add(&mut self, other: &Census) {
+        self.steps = self.steps.saturating_add(other.steps);
+        self.looks = self.looks.saturating_add(other.looks);
+        self.retired = self.retired.saturating_add(other.retired);
+        self.full_rounds = self.full_rounds.saturating_add(other.full_rounds);
+    }
+
+    /// Counts a load of a state, which is a visit where a round goes on.
+    fn look(&mut self, rec: Rec, word: u64) {
+        self.looks = self.looks.saturating_add(1);
         if let Some(before) = self.visits {
             self.visits = Some(before.saturating_add(1));
             if before == MOST_OF_OWN {
@@ -54,7 +69,8 @@ impl Gate for Census {
                 self.nodes = 0;
             }
             Act::SetPin { .. } => self.visits = None,
-            Act::LoadState { rec, word } => self.visit(rec, word),
+            Act::LoadState { rec, word } => self.look(rec, word),
+            Act::Mark { .. } => self.retired = self.retired.saturating_add(1),
             _ => {}
         }
     }

@@ -5,20 +5,18 @@ ghost use Rattle.hot_index.specs.Passes.{Owns};
 
 use crate::census::Census;
 use crate::keys::{LAST, key_of};
-use crate::load::{Load, Pair, THREADS};
+use crate::load::{Load, Pair};
 use crate::map::{Change, OrderedMap};
 use crate::measure::measure;
+use crate::stock::PASSES;
 use crate::work::Rate;
-use hot_index::{Call, Index, IndexFault, Key, Pairs, Pass, Reply, TryFault, create};
+use hot_index::{Call, Index, IndexFault, Key, Pairs, Pass, Reply, Stock, TryFault, create_with};
 use std::alloc::Global;
 use std::io;
 use std::io::ErrorKind;
-use std::rt::Clock;
+use std::rt::{Clock, CpuClock};
 use std::sync::Wait;
-use std::thread::{Threads, yield_now};
-
-/// How often a change is tried, where all records are taken.
-const TRIES: u32 = 100_000;
+use std::thread::Threads;
 
 /// How a call asks for its change.
 #[derive(Clone, Copy)]
@@ -43,26 +41,20 @@ impl OrderedMap for Guest<'_> {
         self.index.get(&mut self.pass, key)
     }
 
-    /// Where all records are taken, others may still come to those that could be given back, so it tries again.
-    fn change<R: Wait>(
-        &mut self,
-        rt: &R,
-        change: Change,
-        key: &Key,
-        value: u64,
-    ) -> io::Result<Option<u64>> {
-        for _ in 0..TRIES {
-            let answer = match change {
-                Change::Insert => self.index.insert(rt, &mut self.pass, key, value),
-                Change::Upsert => self.index.upsert(rt, &mut self.pass, key, value),
-                Change::Remove => self.index.remove(rt, &mut self.pass, key),
-            };
-            match answer {
-                Ok(reply) => return Ok(had(reply)),
-                Err(_) => yield_now(),
+    fn change<R: Wait>(&mut self, rt: &R, change: Change, pair: &Pair) -> io::Result<Option<u64>> {
+        let (index, pass) = (self.index, &mut self.pass);
+        let answer = match change {
+            Change::Insert => index.insert(rt, pass, &pair.key, pair.value),
+            Change::Upsert => index.upsert(rt, pass, &pair.key, pair.value),
+            Change::Remove => index.remove(rt, pass, &pair.key),
+        };
+        match answer {
+            Ok(Reply::Exists(had) | Reply::Was(had) | Reply::Removed(had) | Reply::Value(had)) => {
+                Ok(Some(had))
             }
+            Ok(Reply::Inserted | Reply::New | Reply::Absent) => Ok(None),
+            Err(_) => Err(io::Error::from(ErrorKind::StorageFull)),
         }
-        Err(io::Error::from(ErrorKind::StorageFull))
     }
 
     fn scan<R: Wait>(&mut self, _rt: &R, from: &Key, limit: usize) -> io::Result<&Pairs> {
@@ -71,18 +63,18 @@ impl OrderedMap for Guest<'_> {
             .scan_into(&mut self.pass, from, &upto, limit, &mut self.pairs)?;
         Ok(&self.pairs)
     }
-}
 
-impl Guest<'_> {
-    /// How many node records are in use, once those that are out of reach are given back.
-    pub fn nodes_in_use(&mut self) -> u32 {
+    /// Those that are out of reach are given back first.
+    fn nodes(&mut self) -> u32 {
         self.index.collect(&mut self.pass);
         self.index.collect(&mut self.pass);
         let mut census = Census::new();
         self.index.collect_with(&mut self.pass, &mut census);
         census.nodes
     }
+}
 
+impl Guest<'_> {
     /// The number of its pass.
     pub fn number(&self) -> u16 {
         self.pass.number()
@@ -112,22 +104,11 @@ impl Guest<'_> {
     }
 }
 
-/// The value that a key had before a call.
-fn had(reply: Reply) -> Option<u64> {
-    match reply {
-        Reply::Exists(value) | Reply::Was(value) | Reply::Removed(value) | Reply::Value(value) => {
-            Some(value)
-        }
-        Reply::Inserted | Reply::New | Reply::Absent => None,
-    }
-}
-
-/// An index of so many passes and leaf records, with node records for a quarter as many.
-pub fn index_of(alloc: Global, passes: u32, leaves: u32) -> io::Result<(Index, Vec<Pass>)>
+/// An index of so many passes and this stock.
+pub fn index_of(alloc: Global, passes: u32, stock: Stock) -> io::Result<(Index, Vec<Pass>)>
     ensures { IfOk result (λ made. All (Owns made.0) made.1.items) }
 {
-    let nodes = (leaves / 4).saturating_add(64);
-    match create(alloc, passes, nodes, leaves) {
+    match create_with(alloc, passes, stock) {
         Ok(made) => Ok(made),
         Err(IndexFault::Memory) => Err(io::Error::from(ErrorKind::OutOfMemory)),
         Err(IndexFault::Layout(_)) => Err(io::Error::from(ErrorKind::InvalidInput)),
@@ -135,11 +116,7 @@ pub fn index_of(alloc: Global, passes: u32, leaves: u32) -> io::Result<(Index, V
 }
 
 /// The last of these passes, at its index.
-pub fn next_guest<'a>(
-    alloc: Global,
-    index: &'a Index,
-    passes: &mut Vec<Pass>,
-) -> io::Result<Guest<'a>>
+fn next_guest<'a>(alloc: Global, index: &'a Index, passes: &mut Vec<Pass>) -> io::Result<Guest<'a>>
     requires { All (Owns index.now) passes.old.items }
     ensures { All (Owns index.now) passes.new.items }
 {
@@ -168,18 +145,22 @@ pub fn guests<'a>(
     Ok(guests)
 }
 
-/// Measures the index: a new one in each round, with leaf records for a quarter more keys than are stored.
-pub fn measure_index<R>(rt: &R, alloc: Global, load: &Load) -> io::Result<Vec<Rate>>
+/// Measures the index, a new one of this stock in each round; and tells how many node records the keys took.
+pub fn measure_index<R>(
+    rt: &R,
+    alloc: Global,
+    load: &Load,
+    stock: Stock,
+) -> io::Result<(Vec<Rate>, u32)>
 where
-    R: Clock + Threads + Wait + Sync,
+    R: Clock + CpuClock + Threads + Wait + Sync,
 {
-    let leaves = load.count.saturating_add(load.count / 4).saturating_add(64);
     let mut rates = Vec::new(alloc);
+    let mut nodes = 0;
     for _ in 0..load.rounds {
-        let (index, mut passes) = index_of(alloc, THREADS + 1, leaves)?;
-        let mut first = next_guest(alloc, &index, &mut passes)?;
-        let others = guests(alloc, &index, passes)?;
-        measure(rt, &mut rates, &mut first, others, load)?;
+        let (index, passes) = index_of(alloc, PASSES, stock)?;
+        let maps = guests(alloc, &index, passes)?;
+        nodes = measure(rt, alloc, &mut rates, maps, load)?;
     }
-    Ok(rates)
+    Ok((rates, nodes))
 }

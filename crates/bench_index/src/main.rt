@@ -2,9 +2,7 @@
 //! to standard output, and how far the run is to standard error.
 #![tactic(auto)]
 
-mod alone;
 mod census;
-mod filling;
 mod index;
 mod keys;
 mod load;
@@ -12,12 +10,11 @@ mod map;
 mod measure;
 mod options;
 mod report;
+mod stock;
 mod tight;
-mod together;
 mod tree;
 mod work;
 
-use filling::fill_up;
 use index::measure_index;
 use keys::{KINDS, Kind};
 use load::Load;
@@ -25,17 +22,21 @@ use options::{Options, read_options};
 use report::{Column, print_table};
 use std::io;
 use std::io::ErrorKind;
-use std::rt::{Clock, Env};
+use std::rt::{Clock, CpuClock, Env};
 use std::sync::Wait;
 use std::thread::Threads;
-use tight::measure_tight;
+use stock::Fit;
+use tight::{STEADY, measure_tight, print_heads};
 use tree::measure_tree;
 use work::{mixed, same_answers};
+
+/// Upserts with few leaf records to spare are measured with up to so many keys.
+const MOST_TIGHT: u32 = 200_000;
 
 /// Measures both maps with keys of a kind, for each number of keys, and prints it. Answers a checksum of what both answered.
 fn measure_kind<R>(rt: &R, options: &Options, kind: Kind) -> io::Result<u64>
 where
-    R: Clock + Print + Eprint + AllocGlobal + Threads + Wait + Sync,
+    R: Clock + CpuClock + Print + Eprint + AllocGlobal + Threads + Wait + Sync,
 {
     let mut columns = Vec::new(rt.alloc());
     let mut checksum = 0;
@@ -59,34 +60,55 @@ where
 /// Measures both maps with the same load. Answers that differ are `InvalidData`.
 fn measure_both<R>(rt: &R, load: &Load) -> io::Result<Column>
 where
-    R: Clock + AllocGlobal + Threads + Wait + Sync,
+    R: Clock + CpuClock + AllocGlobal + Threads + Wait + Sync,
 {
-    let index = measure_index(rt, rt.alloc(), load)?;
+    let fit = Fit::new(rt.alloc(), load)?;
+    let (index, nodes) = measure_index(rt, rt.alloc(), load, fit.stock)?;
     let tree = measure_tree(rt, rt.alloc(), load)?;
     if !same_answers(&index, &tree) {
         return Err(io::Error::from(ErrorKind::InvalidData));
     }
+    let (bytes, safe) = fit.bytes(load.count)?;
     Ok(Column {
         keys: load.count,
         index,
         tree,
-        fill: fill_up(rt, rt.alloc(), load)?,
+        fit,
+        figures: [bytes, safe, f64::from(load.count) / f64::from(nodes)],
     })
+}
+
+/// Measures upserts with few leaf records to spare for each number of keys that is not large, and the steady state.
+fn measure_spares<R>(rt: &R, options: &Options) -> io::Result<()>
+where
+    R: Clock + Print + AllocGlobal + Threads + Wait + Sync,
+{
+    if !options.is_check {
+        print_heads(rt)?;
+    }
+    for count in options.counts.iter() {
+        if *count <= MOST_TIGHT {
+            let load = Load::new(rt.alloc(), Kind::Random, *count, options.is_check)?;
+            measure_tight(rt, &load, false, options.is_check)?;
+        }
+    }
+    if !options.is_check {
+        let load = Load::new(rt.alloc(), Kind::Random, STEADY.0, false)?;
+        measure_tight(rt, &load, true, false)?;
+    }
+    Ok(())
 }
 
 fn run<R>(rt: &R) -> io::Result<()>
 where
-    R: Env + Clock + Print + Eprint + AllocGlobal + Threads + Wait + Sync,
+    R: Env + Clock + CpuClock + Print + Eprint + AllocGlobal + Threads + Wait + Sync,
 {
     let options = read_options(rt)?;
     let mut checksum = 0;
     for kind in KINDS {
         checksum = mixed(checksum, measure_kind(rt, &options, kind)?);
     }
-    for count in options.counts.iter() {
-        let load = Load::new(rt.alloc(), Kind::Random, *count, options.is_check)?;
-        measure_tight(rt, &load, options.is_check)?;
-    }
+    measure_spares(rt, &options)?;
     println!(rt; "the index and the B-tree gave the same answers, checksum {checksum:016x}")
 }
 

@@ -1,5 +1,6 @@
 //! What both maps are to the measurements.
 
+use crate::load::Pair;
 use hot_index::{Key, Pairs};
 use std::io;
 use std::sync::Wait;
@@ -21,14 +22,11 @@ pub trait OrderedMap {
     fn get<R: Wait>(&mut self, rt: &R, key: &Key) -> Option<u64>;
 
     /// Changes the value of a key; answers the one that it had. Where there is no room, nothing is changed.
-    fn change<R: Wait>(
-        &mut self,
-        rt: &R,
-        change: Change,
-        key: &Key,
-        value: u64,
-    ) -> io::Result<Option<u64>>;
+    fn change<R: Wait>(&mut self, rt: &R, change: Change, pair: &Pair) -> io::Result<Option<u64>>;
 
     /// The first pairs from a key on, at most so many, in the order of their keys. The next scan takes their place.
     fn scan<R: Wait>(&mut self, rt: &R, from: &Key, limit: usize) -> io::Result<&Pairs>;
+
+    /// How many node records are in use, for a map that has some.
+    fn nodes(&mut self) -> u32;
 }

@@ -1,45 +1,217 @@
 //! All works with one map.
 
-use crate::alone::alone;
-use crate::load::Load;
-use crate::map::OrderedMap;
-use crate::together::{together, workers_of};
-use crate::work::{Rate, Work};
+use crate::load::{Load, Pair, THREADS};
+use crate::map::{Change, OrderedMap};
+use crate::work::{Rate, Work, mixed};
+use std::alloc::Global;
 use std::io;
-use std::rt::Clock;
+use std::io::ErrorKind;
+use std::ops::Range;
+use std::rt::{Clock, CpuClock};
 use std::sync::Wait;
-use std::thread::Threads;
+use std::thread::{Threads, map_vec};
+use std::time::Instant;
+
+/// How many keys a thread makes at a time, while its time doesn't count. Several threads make all before they begin.
+const BATCH: u32 = 1_024;
+
+/// How many pairs a scan gives.
+const LIMIT: usize = 100;
 
 /// What one thread does before there are several, in this order.
-const ALONE: [Work; 5] = [
+const ALONE: [Work; 7] = [
+    Work::FirstInserts,
     Work::Inserts,
+    Work::LastInserts,
     Work::Hits,
     Work::Misses,
     Work::Upserts,
     Work::Scans,
 ];
 
-/// Does each work once with an empty map, by one thread and then by several, and empties it. Their rates come after those that
-/// are there.
+/// What several threads do then: upserts, of a hundred calls.
+const SHARES: [u64; 3] = [0, 5, 50];
+
+/// The map in the hands of one of several threads.
+#[derive(Drop)]
+struct Worker<M: Drop> {
+    map: M,
+    /// The turn that it begins with.
+    start: u32,
+    /// How long its last work took; none where a call was refused.
+    rate: Option<Rate>,
+}
+
+/// Does each work once with an empty map, by one thread and then by several, and removes keys. Their rates come after those that
+/// are there. Answers how many node records the keys took.
 pub fn measure<M: OrderedMap + Send + Drop, R>(
     rt: &R,
+    alloc: Global,
     rates: &mut Vec<Rate>,
-    first: &mut M,
-    others: Vec<M>,
+    mut maps: Vec<M>,
+    load: &Load,
+) -> io::Result<u32>
+where
+    R: Clock + CpuClock + Threads + Wait + Sync,
+{
+    let mut first = maps.pop().ok_or(ErrorKind::InvalidInput)?;
+    work_alone(rt, alloc, rates, &mut first, load, &ALONE)?;
+    work_together(rt, alloc, rates, maps, load)?;
+    let nodes = first.nodes();
+    work_alone(rt, alloc, rates, &mut first, load, &[Work::Removals])?;
+    Ok(nodes)
+}
+
+/// Does these works by one thread.
+fn work_alone<M: OrderedMap, R>(
+    rt: &R,
+    alloc: Global,
+    rates: &mut Vec<Rate>,
+    map: &mut M,
+    load: &Load,
+    works: &[Work],
+) -> io::Result<()>
+where
+    R: Clock + CpuClock + Wait,
+{
+    for work in works {
+        let turns = load.turns_of(*work);
+        rates.push(make_calls(rt, alloc, map, load, *work, turns, BATCH)?)?;
+    }
+    Ok(())
+}
+
+/// Has several threads at work, one for each of these maps. They begin apart.
+fn work_together<M: OrderedMap + Send + Drop, R>(
+    rt: &R,
+    alloc: Global,
+    rates: &mut Vec<Rate>,
+    maps: Vec<M>,
     load: &Load,
 ) -> io::Result<()>
 where
-    R: Clock + Threads + Wait + Sync,
+    R: Clock + CpuClock + Threads + Wait + Sync,
 {
-    for work in ALONE {
-        rates.push(alone(rt, first, work, load)?)?;
+    let mut workers = Vec::new(alloc);
+    let mut start = 0u32;
+    for map in maps {
+        workers.push(Worker {
+            map,
+            start,
+            rate: None,
+        })?;
+        start = start.saturating_add(load.count / THREADS);
     }
-    let mut workers = workers_of(others, load)?;
-    for upserts in [0, 5, 50] {
-        let (rate, ended) = together(rt, workers, upserts, load)?;
-        rates.push(rate)?;
-        workers = ended;
+    for upserts in SHARES {
+        let work = Work::Threads { upserts };
+        workers = map_vec(
+            rt,
+            workers,
+            &|worker| work_on(rt, alloc, worker, load, work),
+        )?;
+        rates.push(together(work, &workers)?)?;
     }
-    rates.push(alone(rt, first, Work::Removals, load)?)?;
     Ok(())
+}
+
+/// What one of several threads does.
+fn work_on<M: OrderedMap + Drop, R>(
+    rt: &R,
+    alloc: Global,
+    mut worker: Worker<M>,
+    load: &Load,
+    work: Work,
+) -> Worker<M>
+where
+    R: Clock + CpuClock + Wait,
+{
+    let turns = worker.start..worker.start.saturating_add(load.turns);
+    let map = &mut worker.map;
+    worker.rate = make_calls(rt, alloc, map, load, work, turns, load.turns).ok();
+    worker
+}
+
+/// How long several threads took together: the time that passed is the mean of theirs.
+fn together<M: Drop>(work: Work, workers: &[Worker<M>]) -> io::Result<Rate> {
+    let mut sum = Rate::new(work);
+    for worker in workers {
+        sum.add(&worker.rate.ok_or(ErrorKind::StorageFull)?);
+    }
+    sum.passed = sum.passed.checked_div(THREADS).unwrap_or(sum.passed);
+    Ok(sum)
+}
+
+/// Makes the calls of these turns, and tells how long they took, the making of their keys left out.
+fn make_calls<M: OrderedMap, R>(
+    rt: &R,
+    alloc: Global,
+    map: &mut M,
+    load: &Load,
+    work: Work,
+    turns: Range<u32>,
+    batch: u32,
+) -> io::Result<Rate>
+where
+    R: Clock + CpuClock + Wait,
+{
+    let mut pairs = Vec::new(alloc);
+    let mut sum = Rate::new(work);
+    let upto = turns.end;
+    for from in turns.step_by(batch.max(1) as usize) {
+        load.fill(&mut pairs, work, from..from.saturating_add(batch).min(upto))?;
+        sum.add(&make_some(rt, map, work, &pairs)?);
+    }
+    Ok(sum)
+}
+
+/// Makes a call with each of these pairs.
+fn make_some<M: OrderedMap, R>(rt: &R, map: &mut M, work: Work, pairs: &[Pair]) -> io::Result<Rate>
+where
+    R: Clock + CpuClock + Wait,
+{
+    let mut checksum = 0;
+    let start = Instant::now(rt)?;
+    let before = rt.thread_cpu_time()?;
+    for (turn, pair) in pairs.iter().enumerate() {
+        checksum = mixed(checksum, call(rt, map, work, turn as u64, pair)?);
+    }
+    let used = rt.thread_cpu_time()?.saturating_sub(before);
+    Ok(Rate {
+        work,
+        calls: u32::try_from(pairs.len()).unwrap_or(u32::MAX),
+        used,
+        passed: start.elapsed(rt)?,
+        checksum,
+    })
+}
+
+/// Makes the call of this turn; answers a number that tells its answer.
+fn call<M: OrderedMap, R: Wait>(
+    rt: &R,
+    map: &mut M,
+    work: Work,
+    turn: u64,
+    pair: &Pair,
+) -> io::Result<u64> {
+    let change = match work {
+        Work::FirstInserts | Work::Inserts | Work::LastInserts => Some(Change::Insert),
+        Work::Upserts => Some(Change::Upsert),
+        Work::Removals => Some(Change::Remove),
+        Work::Threads { upserts } if turn.wrapping_mul(upserts) % 100 < upserts => {
+            Some(Change::Upsert)
+        }
+        _ => None,
+    };
+    if work == Work::Scans {
+        let mut checksum = 0;
+        for (_, value) in map.scan(rt, &pair.key, LIMIT)?.iter() {
+            checksum = mixed(checksum, value);
+        }
+        return Ok(checksum);
+    }
+    let had = match change {
+        Some(change) => map.change(rt, change, pair)?,
+        None => map.get(rt, &pair.key),
+    };
+    Ok(had.unwrap_or(u64::MAX))
 }

@@ -5,15 +5,15 @@ use std::io;
 use std::io::ErrorKind;
 use std::rt::Env;
 
-/// The most keys that are measured: an index has no room for many more.
-const MOST_KEYS: u32 = 200_000;
+/// The most keys that are measured.
+const MOST_KEYS: u32 = 20_000_000;
 
 /// What the command line asks for.
 #[derive(Drop)]
 pub struct Options {
     /// Only few calls are made, and no times are printed.
     pub is_check: bool,
-    /// Each number of keys that is measured, from 1 to 200,000.
+    /// Each number of keys that is measured, from 1 to 20,000,000.
     pub counts: Vec<u32>,
 }
 
@@ -30,7 +30,7 @@ pub fn read_options<R: Env + AllocGlobal>(rt: &R) -> io::Result<Options> {
         }
     }
     if counts.is_empty() {
-        counts = vec![in rt.alloc(); 1_000, 10_000, MOST_KEYS]?;
+        counts = vec![in rt.alloc(); 1_000, 10_000, 200_000]?;
     }
     Ok(Options { is_check, counts })
 }

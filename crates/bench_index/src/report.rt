@@ -1,6 +1,6 @@
 //! The table of what was measured.
 
-use crate::filling::Fill;
+use crate::stock::Fit;
 use crate::work::{Rate, Work};
 use std::io;
 
@@ -10,111 +10,116 @@ pub struct Column {
     pub keys: u32,
     pub index: Vec<Rate>,
     pub tree: Vec<Rate>,
-    pub fill: Fill,
+    pub fit: Fit,
+    /// As `FIGURES` says.
+    pub figures: [f64; 3],
 }
 
-/// The works, in the order of the table's lines.
-const LINES: [Work; 9] = [
-    Work::Hits,
-    Work::Misses,
-    Work::Inserts,
-    Work::Upserts,
-    Work::Removals,
-    Work::Scans,
-    Work::Threads { upserts: 0 },
-    Work::Threads { upserts: 5 },
-    Work::Threads { upserts: 50 },
+/// The lines of the table, and what each tells the time of.
+const LINES: [(&str, &[Work]); 11] = [
+    ("look-ups that hit", &[Work::Hits]),
+    ("look-ups that miss", &[Work::Misses]),
+    (
+        "inserts",
+        &[Work::FirstInserts, Work::Inserts, Work::LastInserts],
+    ),
+    ("inserts of the first tenth", &[Work::FirstInserts]),
+    ("inserts of the last tenth", &[Work::LastInserts]),
+    ("upserts", &[Work::Upserts]),
+    ("removals", &[Work::Removals]),
+    ("scans of 100 pairs", &[Work::Scans]),
+    ("4 threads, all look-ups", &[Work::Threads { upserts: 0 }]),
+    ("4 threads, 5 % upserts", &[Work::Threads { upserts: 5 }]),
+    ("4 threads, 50 % upserts", &[Work::Threads { upserts: 50 }]),
 ];
 
-/// What the table says of an index that is filled to its last leaf record.
-#[derive(Clone, Copy)]
-enum Figure {
-    /// The time of an insert, where the first tenth of the leaf records is taken.
-    First,
-    /// The time of an insert, where the last tenth is taken.
-    Last,
-    /// The bytes that the records in use take for a key.
-    Bytes,
-    /// How many keys a node record serves.
-    Keys,
-}
-
-/// The figures, in the order of the table's last lines.
-const FIGURES: [Figure; 4] = [Figure::First, Figure::Last, Figure::Bytes, Figure::Keys];
-
-/// What the table calls a work.
-fn label(work: Work) -> &'static str {
-    match work {
-        Work::Hits => "look-ups that hit",
-        Work::Misses => "look-ups that miss",
-        Work::Inserts => "inserts",
-        Work::Upserts => "upserts",
-        Work::Removals => "removals",
-        Work::Scans => "scans of 100 pairs",
-        Work::Threads { upserts: 0 } => "4 threads, all look-ups",
-        Work::Threads { upserts: 5 } => "4 threads, 5 % upserts",
-        Work::Threads { .. } => "4 threads, 50 % upserts",
-    }
-}
+/// What the last lines tell of the index.
+const FIGURES: [&str; 3] = [
+    "bytes a key, as the index is made",
+    "  .. by Stock::for_keys",
+    "keys for a node record",
+];
 
 /// Prints a line for each work: for each number of keys the nanoseconds of a call of the index and of the B-tree, and how the
 /// first is to the second. With several threads they are the time that passes by the calls of all.
 pub fn print_table<R: Print>(rt: &R, title: &str, columns: &[Column]) -> io::Result<()> {
-    print!(rt; "{title:<34}")?;
+    print!(rt; "{title:<36}")?;
     for column in columns {
         print!(rt; "{:>23} keys", column.keys)?;
     }
-    print!(rt; "\n  {:<32}", "nanoseconds a call")?;
+    print!(rt; "\n  {:<34}", "nanoseconds a call")?;
     for _ in columns {
-        print!(rt; "{:>11}{:>8}{:>8}", "index", "B-tree", "ratio")?;
+        print!(rt; "{:>12}{:>8}{:>8}", "index", "B-tree", "ratio")?;
     }
     println!(rt; "")?;
-    for work in LINES {
-        print_line(rt, work, columns)?;
+    for (label, works) in LINES {
+        print!(rt; "  {label:<34}")?;
+        for column in columns {
+            let index = nanoseconds(&column.index, works);
+            let tree = nanoseconds(&column.tree, works);
+            print!(rt; "{index:>12.0}{tree:>8.0}{:>8.2}", index / tree)?;
+        }
+        println!(rt; "")?;
     }
-    for figure in FIGURES {
-        print_figure(rt, figure, columns)?;
+    for (place, label) in FIGURES.iter().enumerate() {
+        print!(rt; "  {label:<34}")?;
+        for column in columns {
+            print!(rt; "{:>12.1}{:>16}", column.figures[place], "")?;
+        }
+        println!(rt; "")?;
     }
-    println!(rt; "")
+    print_ends(rt, columns)
 }
 
-fn print_line<R: Print>(rt: &R, work: Work, columns: &[Column]) -> io::Result<()> {
-    print!(rt; "  {:<32}", label(work))?;
+/// Prints how look-ups grow from the first column to the last, and the stock of each.
+fn print_ends<R: Print>(rt: &R, columns: &[Column]) -> io::Result<()> {
+    if let (Some(first), Some(last)) = (columns.first(), columns.last())
+        && first.keys < last.keys
+    {
+        let hits = [Work::Hits];
+        let index = nanoseconds(&last.index, &hits) / nanoseconds(&first.index, &hits);
+        let tree = nanoseconds(&last.tree, &hits) / nanoseconds(&first.tree, &hits);
+        println!(rt;
+            "  a look-up that hits, {} keys to {}: index {index:.2} times as long, B-tree {tree:.2}",
+            first.keys, last.keys
+        )?;
+    }
     for column in columns {
-        let index = nanoseconds(&column.index, work);
-        let tree = nanoseconds(&column.tree, work);
-        print!(rt; "{:>11.0}{:>8.0}{:>8.2}", index, tree, index / tree)?;
+        let (stock, share) = (column.fit.stock, share_of(&column.index) * 100.0);
+        println!(rt;
+            "  stock for {} keys: {} nodes; leaves {} short, {} medium, {} large, {} wide, {} long. A processor was at it {share:.0} % of the time",
+            column.keys, stock.nodes, stock.short, stock.medium, stock.large, stock.wide, stock.long
+        )?;
     }
     println!(rt; "")
 }
 
-/// The nanoseconds of a call of this work, in the round in which it was fastest.
-fn nanoseconds(rates: &[Rate], work: Work) -> f64 {
-    let mut fastest = f64::INFINITY;
+/// The nanoseconds of a call of these works, each in the round in which it was fastest.
+fn nanoseconds(rates: &[Rate], works: &[Work]) -> f64 {
+    let (mut seconds, mut calls) = (0.0, 0.0);
+    for work in works {
+        let mut fastest = f64::INFINITY;
+        let mut made = 0;
+        for rate in rates {
+            if rate.work == *work {
+                fastest = fastest.min(rate.seconds());
+                made = rate.calls;
+            }
+        }
+        seconds += fastest;
+        calls += f64::from(made);
+    }
+    seconds / calls * 1e9
+}
+
+/// The share of the time that passed in which a processor was at the works of one thread.
+fn share_of(rates: &[Rate]) -> f64 {
+    let (mut used, mut passed) = (0.0, 0.0);
     for rate in rates {
-        if rate.work == work {
-            fastest = fastest.min(rate.time.as_secs_f64() / f64::from(rate.calls) * 1e9);
+        if !matches!(rate.work, Work::Threads { .. }) {
+            used += rate.used.as_secs_f64();
+            passed += rate.passed.as_secs_f64();
         }
     }
-    fastest
-}
-
-fn print_figure<R: Print>(rt: &R, figure: Figure, columns: &[Column]) -> io::Result<()> {
-    let label = match figure {
-        Figure::First => "inserts, leaves 0 - 10 % full",
-        Figure::Last => "inserts, leaves 90 - 100 % full",
-        Figure::Bytes => "bytes of the table for a key",
-        Figure::Keys => "keys for a node record",
-    };
-    print!(rt; "  {label:<32}")?;
-    for column in columns {
-        let value = match figure {
-            Figure::First => column.fill.first,
-            Figure::Last => column.fill.last,
-            Figure::Bytes => column.fill.bytes(),
-            Figure::Keys => column.fill.keys_of_node(),
-        };
-        print!(rt; "{value:>11.0}{:>16}", "")?;
-    }
-    println!(rt; "")
+    used / passed
 }

@@ -1,13 +1,14 @@
 //! Upserts where few leaf records are to spare: how many are refused, and what the others cost.
 
-use crate::alone::make_all;
 use crate::census::Census;
-use crate::index::{Form, Guest, guests, index_of, next_guest};
+use crate::index::{Form, Guest, guests, index_of};
 use crate::load::{Load, THREADS};
+use crate::map::{Change, OrderedMap};
 use crate::work::Work;
-use record_words::MAX_LEAVES;
+use hot_index::Stock;
 use std::alloc::Global;
 use std::io;
+use std::io::ErrorKind;
 use std::rt::Clock;
 use std::sync::Wait;
 use std::thread::{Threads, map_vec};
@@ -24,129 +25,180 @@ const WAYS: [(u32, Form); 4] = [
     (THREADS, Form::Tries),
 ];
 
-/// How the calls of one thread went, or of several.
-#[derive(Drop)]
-struct Tally {
-    calls: u32,
-    /// How many were refused as full.
-    refused: u32,
-    steps: u64,
-    full_rounds: u32,
+/// The steady state that is measured: one thread upserts so many keys, so many times in all, with a hundredth to spare.
+pub const STEADY: (u32, u32) = (100_000, 1_000_000);
+
+/// How many keys a thread makes at a time.
+const BATCH: u32 = 1_000;
+
+/// Upserts by so many threads, each so many, with so many leaf records to spare of a hundred keys.
+#[derive(Clone, Copy)]
+struct Case {
+    threads: u32,
+    form: Form,
+    spare: u32,
+    turns: u32,
 }
 
-/// Measures upserts of the load's keys for each number of leaf records to spare, and prints a line for each unless this is a check.
-pub fn measure_tight<R>(rt: &R, load: &Load, is_check: bool) -> io::Result<()>
+/// How the calls of one thread went, or of several.
+#[derive(Clone, Copy)]
+struct Tally {
+    /// How many were refused as full.
+    refused: u32,
+    census: Census,
+}
+
+/// Measures upserts of the load's keys for each number of leaf records to spare, or the steady state alone; and prints a line for
+/// each unless this is a check.
+pub fn measure_tight<R>(rt: &R, load: &Load, is_steady: bool, is_check: bool) -> io::Result<()>
 where
     R: Clock + Print + AllocGlobal + Threads + Wait + Sync,
 {
-    if !is_check {
-        println!(rt;
-            "{:<34}{:>12}{:>14}{:>14}{:>14}",
-            "upserts, leaves to spare", "refused", "full rounds", "steps a call", "ns a call"
-        )?;
+    if is_steady {
+        let case = Case {
+            threads: 1,
+            form: Form::Waits,
+            spare: 1,
+            turns: STEADY.1,
+        };
+        return measure_case(rt, load, case, is_check);
     }
     for (threads, form) in WAYS {
         for spare in SPARES {
-            let Some(leaves) = leaves_with(load, spare) else {
-                continue;
+            let case = Case {
+                threads,
+                form,
+                spare,
+                turns: load.turns,
             };
-            let (tally, time) = upsert_with(rt, rt.alloc(), load, threads, form, leaves)?;
-            if !is_check {
-                print_tally(rt, load, threads, form, spare, &tally, time)?;
-            }
+            measure_case(rt, load, case, is_check)?;
         }
     }
     Ok(())
 }
 
-/// Prints how the calls went, beside so many leaf records to spare.
-fn print_tally<R: Print>(
-    rt: &R,
-    load: &Load,
-    threads: u32,
-    form: Form,
-    spare: u32,
-    tally: &Tally,
-    time: Duration,
-) -> io::Result<()> {
-    let form = match form {
+/// Prints what the columns of the cases are.
+pub fn print_heads<R: Print>(rt: &R) -> io::Result<()> {
+    println!(rt;
+        "{:<40}{:>10}{:>10}{:>13}{:>14}{:>17}{:>11}",
+        "upserts, leaves to spare",
+        "calls",
+        "refused",
+        "full rounds",
+        "steps a call",
+        "states a retired",
+        "ns a call"
+    )
+}
+
+/// Measures a case with a new index of the load's keys, and prints a line unless this is a check.
+fn measure_case<R>(rt: &R, load: &Load, case: Case, is_check: bool) -> io::Result<()>
+where
+    R: Clock + Print + AllocGlobal + Threads + Wait + Sync,
+{
+    let (tally, time) = upsert_with(rt, rt.alloc(), load, case)?;
+    if is_check {
+        return Ok(());
+    }
+    let form = match case.form {
         Form::Waits => "wait",
         Form::Tries => "try",
     };
-    let calls = f64::from(tally.calls);
+    let (census, calls) = (tally.census, case.turns.saturating_mul(case.threads));
     print!(rt;
-        "  {:<6} keys, {threads} that {form:<4} {spare:>6} %",
-        load.count
+        "  {:<8} keys, {} that {form:<4} {:>6} %",
+        load.count, case.threads, case.spare
     )?;
-    let steps = tally.steps.checked_div(u64::from(tally.calls)).unwrap_or(0);
-    print!(rt; "{:>15}{:>14}", tally.refused, tally.full_rounds)?;
-    println!(rt; "{steps:>14}{:>14.0}", time.as_secs_f64() * 1e9 / calls)
+    print!(rt;
+        "{:>16}{:>10}{:>13}",
+        calls, tally.refused, census.full_rounds
+    )?;
+    let steps = census.steps.checked_div(u64::from(calls)).unwrap_or(0);
+    let looks = census.looks.saturating_mul(100);
+    let looks = looks.checked_div(census.retired).unwrap_or(0);
+    let each = time.as_secs_f64() * 1e9 / f64::from(calls);
+    println!(rt;
+        "{steps:>14}{:>14}.{:02}{each:>11.0}",
+        looks / 100,
+        looks % 100
+    )
 }
 
-/// The leaf records of the load's keys, and so many to spare of a hundred; none where an index can't have so many.
-fn leaves_with(load: &Load, spare: u32) -> Option<u32> {
-    let more = u64::from(load.count) * u64::from(spare) / 100;
-    match u32::try_from(more.saturating_add(u64::from(load.count))) {
-        Ok(leaves) if leaves <= MAX_LEAVES => Some(leaves),
-        _ => None,
-    }
-}
-
-/// What so many threads do with a new index of the load's keys and so many leaf records, and the time that it takes.
-fn upsert_with<R>(
-    rt: &R,
-    alloc: Global,
-    load: &Load,
-    threads: u32,
-    form: Form,
-    leaves: u32,
-) -> io::Result<(Tally, Duration)>
+/// What the threads of a case do with a new index of the load's keys, and the time that it takes.
+fn upsert_with<R>(rt: &R, alloc: Global, load: &Load, case: Case) -> io::Result<(Tally, Duration)>
 where
     R: Clock + Threads + Wait + Sync,
 {
-    let (index, mut passes) = index_of(alloc, threads.saturating_add(1), leaves)?;
-    let mut first = next_guest(alloc, &index, &mut passes)?;
-    let _ = make_all(rt, &mut first, Work::Inserts, &load.stored)?;
-    let others = guests(alloc, &index, passes)?;
+    let stock = stock_with(load.count, case.spare);
+    let (index, passes) = index_of(alloc, case.threads.saturating_add(1), stock)?;
+    let mut others = guests(alloc, &index, passes)?;
+    insert_all(rt, alloc, others.pop(), load)?;
     let start = Instant::now(rt)?;
-    let tallies = map_vec(rt, others, &|guest| upsert_all(rt, guest, form, load))?;
+    let tallies = map_vec(
+        rt,
+        others,
+        &|guest| upsert_all(rt, alloc, guest, load, case),
+    )?;
     let time = start.elapsed(rt)?;
     Ok((sum_of(&tallies), time))
 }
 
-/// What one thread does. The threads begin apart.
-fn upsert_all<R: Wait>(rt: &R, mut guest: Guest, form: Form, load: &Load) -> Tally {
-    let start = u64::from(guest.number()).wrapping_mul(u64::from(load.count / THREADS));
-    let mut census = Census::new();
-    let mut refused = 0u32;
-    for turn in 0..load.turns {
-        if let Some(pair) = load.turn(start.wrapping_add(u64::from(turn)))
-            && guest.is_refused(rt, form, pair, &mut census)
-        {
-            refused = refused.saturating_add(1);
-        }
+/// Short leaf records for so many keys and so many to spare of a hundred, and nodes that don't run short.
+fn stock_with(count: u32, spare: u32) -> Stock {
+    let more = u64::from(count) * u64::from(spare) / 100;
+    Stock {
+        nodes: (count / 4).saturating_add(64),
+        short: count.saturating_add(u32::try_from(more).unwrap_or(u32::MAX)),
+        medium: 0,
+        large: 0,
+        wide: 0,
+        long: 0,
     }
-    Tally {
-        calls: load.turns,
-        refused,
-        steps: census.steps,
-        full_rounds: census.full_rounds,
+}
+
+/// Inserts the load's keys.
+fn insert_all<R: Wait>(rt: &R, alloc: Global, guest: Option<Guest>, load: &Load) -> io::Result<()> {
+    let mut guest = guest.ok_or(ErrorKind::InvalidInput)?;
+    let mut pairs = Vec::new(alloc);
+    load.fill(&mut pairs, Work::Inserts, 0..load.count)?;
+    for pair in &pairs {
+        guest.change(rt, Change::Insert, pair)?;
     }
+    Ok(())
 }
 
 /// The sums of what several threads tell.
 fn sum_of(tallies: &[Tally]) -> Tally {
     let mut sum = Tally {
-        calls: 0,
         refused: 0,
-        steps: 0,
-        full_rounds: 0,
+        census: Census::new(),
     };
     for tally in tallies {
-        sum.calls = sum.calls.saturating_add(tally.calls);
         sum.refused = sum.refused.saturating_add(tally.refused);
-        sum.steps = sum.steps.saturating_add(tally.steps);
-        sum.full_rounds = sum.full_rounds.saturating_add(tally.full_rounds);
+        sum.census.add(&tally.census);
     }
     sum
+}
+
+/// What one thread does. The threads begin apart.
+fn upsert_all<R: Wait>(rt: &R, alloc: Global, mut guest: Guest, load: &Load, case: Case) -> Tally {
+    let start = u32::from(guest.number()).saturating_mul(load.count / THREADS);
+    let mut tally = Tally {
+        refused: 0,
+        census: Census::new(),
+    };
+    let mut pairs = Vec::new(alloc);
+    for from in (0..case.turns).step_by(BATCH as usize) {
+        let upto = from.saturating_add(BATCH).min(case.turns);
+        let turns = start.saturating_add(from)..start.saturating_add(upto);
+        if load.fill(&mut pairs, Work::Upserts, turns).is_err() {
+            tally.refused = u32::MAX;
+        }
+        for pair in &pairs {
+            if guest.is_refused(rt, case.form, pair, &mut tally.census) {
+                tally.refused = tally.refused.saturating_add(1);
+            }
+        }
+    }
+    tally
 }

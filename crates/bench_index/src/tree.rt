@@ -1,21 +1,22 @@
 //! A B-tree under a lock as a map that is measured: readers share the lock, and a writer has it alone.
 
-use crate::load::{Load, THREADS};
+use crate::load::{Load, Pair};
 use crate::map::{Change, OrderedMap};
 use crate::measure::measure;
+use crate::stock::PASSES;
 use crate::work::Rate;
 use hot_index::{Key, Pairs};
 use std::alloc::{AllocError, Global};
 use std::collections::BTreeMap;
 use std::collections::btree_map::Entry;
 use std::io::ErrorKind;
-use std::rt::Clock;
+use std::rt::{Clock, CpuClock};
 use std::sync::{RwLock, Wait};
 use std::thread::Threads;
 use std::{io, mem};
 
 /// The map that all threads share.
-pub type Tree = RwLock<BTreeMap<Vec<u8>, u64>>;
+type Tree = RwLock<BTreeMap<Vec<u8>, u64>>;
 
 /// The tree in the hands of one thread, and the list that its scans fill.
 #[derive(Drop)]
@@ -30,17 +31,11 @@ impl OrderedMap for Handle<'_> {
         self.tree.read(rt).get(key.as_bytes()).copied()
     }
 
-    fn change<R: Wait>(
-        &mut self,
-        rt: &R,
-        change: Change,
-        key: &Key,
-        value: u64,
-    ) -> io::Result<Option<u64>> {
+    fn change<R: Wait>(&mut self, rt: &R, change: Change, pair: &Pair) -> io::Result<Option<u64>> {
         match change {
-            Change::Insert => self.insert(rt, key, value),
-            Change::Upsert => self.upsert(rt, key, value),
-            Change::Remove => Ok(self.tree.write(rt).remove(key.as_bytes())),
+            Change::Insert => self.insert(rt, &pair.key, pair.value),
+            Change::Upsert => self.upsert(rt, &pair.key, pair.value),
+            Change::Remove => Ok(self.tree.write(rt).remove(pair.key.as_bytes())),
         }
     }
 
@@ -54,17 +49,13 @@ impl OrderedMap for Handle<'_> {
         }
         Ok(&self.pairs)
     }
+
+    fn nodes(&mut self) -> u32 {
+        0
+    }
 }
 
 impl Handle<'_> {
-    fn new(tree: &Tree, alloc: Global) -> Handle<'_> {
-        Handle {
-            tree,
-            alloc,
-            pairs: Pairs::new(alloc),
-        }
-    }
-
     fn insert<R: Wait>(&self, rt: &R, key: &Key, value: u64) -> io::Result<Option<u64>> {
         let bytes = Vec::from_slice(self.alloc, key.as_bytes())?;
         let mut tree = self.tree.write(rt);
@@ -90,17 +81,20 @@ impl Handle<'_> {
 /// Measures the tree: a new one in each round.
 pub fn measure_tree<R>(rt: &R, alloc: Global, load: &Load) -> io::Result<Vec<Rate>>
 where
-    R: Clock + Threads + Wait + Sync,
+    R: Clock + CpuClock + Threads + Wait + Sync,
 {
     let mut rates = Vec::new(alloc);
     for _ in 0..load.rounds {
         let tree = RwLock::new(BTreeMap::new(alloc));
-        let mut first = Handle::new(&tree, alloc);
-        let mut others = Vec::new(alloc);
-        for _ in 0..THREADS {
-            others.push(Handle::new(&tree, alloc))?;
+        let mut maps = Vec::new(alloc);
+        for _ in 0..PASSES {
+            maps.push(Handle {
+                tree: &tree,
+                alloc,
+                pairs: Pairs::new(alloc),
+            })?;
         }
-        measure(rt, &mut rates, &mut first, others, load)?;
+        measure(rt, alloc, &mut rates, maps, load)?;
     }
     Ok(rates)
 }

@@ -9,7 +9,12 @@ pub enum Work {
     Hits,
     /// Look-ups of others.
     Misses,
+    /// Inserts of the first tenth of the keys.
+    FirstInserts,
+    /// Inserts of all between.
     Inserts,
+    /// Inserts of the last tenth.
+    LastInserts,
     Upserts,
     Removals,
     Scans,
@@ -22,9 +27,41 @@ pub enum Work {
 pub struct Rate {
     pub work: Work,
     pub calls: u32,
-    pub time: Duration,
+    /// The time that a processor was at it.
+    pub used: Duration,
+    /// The time that passed.
+    pub passed: Duration,
     /// Of all answers.
     pub checksum: u64,
+}
+
+impl Rate {
+    /// No calls of this work yet.
+    pub fn new(work: Work) -> Rate {
+        Rate {
+            work,
+            calls: 0,
+            used: Duration::ZERO,
+            passed: Duration::ZERO,
+            checksum: 0,
+        }
+    }
+
+    /// Adds what other calls took.
+    pub fn add(&mut self, other: &Rate) {
+        self.calls = self.calls.saturating_add(other.calls);
+        self.used = self.used.saturating_add(other.used);
+        self.passed = self.passed.saturating_add(other.passed);
+        self.checksum = mixed(self.checksum, other.checksum);
+    }
+
+    /// The seconds that count: of a processor, or where several threads work, in which they may wait for each other, those that pass.
+    pub fn seconds(&self) -> f64 {
+        match self.work {
+            Work::Threads { .. } => self.passed.as_secs_f64(),
+            _ => self.used.as_secs_f64(),
+        }
+    }
 }
 
 /// The checksum of an answer more.
