@@ -1,9 +1,9 @@
 -- Worked examples of the definitions, which compute.
 use Rattle.std.proofs.Common.{◌≡◌, ℕ, List, [], ◌∷◌, ◌++◌, true, refl, sym, subst, arith}
 use Rattle.hot_model.specs.declared.Call.{Call}
-use Rattle.hot_model.specs.declared.Call.TheVariants.{Insert, Upsert, Get, Remove}
+use Rattle.hot_model.specs.declared.Call.TheVariants.{Insert, Upsert, Exchange, Get, Remove, RemoveIf}
 use Rattle.hot_model.specs.declared.Reply.{Reply}
-use Rattle.hot_model.specs.declared.Reply.TheVariants.{Inserted, Exists, New, Was, Value, Absent, Removed}
+use Rattle.hot_model.specs.declared.Reply.TheVariants.{Inserted, Exists, New, Was, Exchanged, Differs, Value, Absent, Removed}
 use Rattle.hot_model.specs.declared.Kind.TheVariants.{Added, Replaced, Removed as TakenAway}
 use Rattle.hot_model.specs.declared.Change.{Change}
 use Rattle.hot_model.specs.declared.Note.{Note}
@@ -35,6 +35,13 @@ calls = Insert b 5 ∷ Insert b 6 ∷ Upsert a 7 ∷ Upsert a 8 ∷ Get b ∷ Up
 
 their_replies : replies_of [] calls ≡ Inserted ∷ Exists 5 ∷ New ∷ Was 7 ∷ Value 5 ∷ New ∷ Removed 5 ∷ Absent ∷ Absent ∷ Inserted ∷ []
 their_replies = refl
+
+-- calls that expect a value
+abbrev expecting : List Call
+expecting = Exchange a 1 2 ∷ Insert a 1 ∷ Exchange a 1 2 ∷ Exchange a 1 3 ∷ RemoveIf a 1 ∷ Get a ∷ RemoveIf a 2 ∷ RemoveIf a 2 ∷ []
+
+replies_to_expecting : replies_of [] expecting ≡ Absent ∷ Inserted ∷ Exchanged ∷ Differs 2 ∷ Differs 2 ∷ Value 2 ∷ Removed 2 ∷ Absent ∷ []
+replies_to_expecting = refl
 
 -- the keys are in the order of their bytes, a prefix first
 abbrev three : Map

@@ -1,5 +1,5 @@
 -- The calls of a pass stay legal as its front grows.
-use Rattle.std.proofs.Common.{◌≡◌, ◌≢◌, ℕ, zero, suc, ◌+◌, ◌≤◌, List, [], ◌∷◌, ◌++◌, length, take, true, false, cond, Option, Some, None, refl, sym, ap, subst, ◌∙◌, arith, le_trans, append-nil, length-append, zero-le, eqb}
+use Rattle.std.proofs.Common.{◌≡◌, ◌≢◌, ℕ, Bool, zero, suc, ◌+◌, ◌≤◌, List, [], ◌∷◌, ◌++◌, length, take, true, false, cond, Option, Some, None, refl, sym, ap, subst, ◌∙◌, arith, le_trans, append-nil, length-append, zero-le, eqb}
 use Rattle.std.specs.List.{All, slice_get, cons_option}
 use Rattle.std.specs.Option.{is_some, option_map, option_to_list}
 use Rattle.std.proofs.lemmas.Bool.{ne_eqb, eq-eqb, cond_both}
@@ -8,12 +8,14 @@ use Rattle.std.proofs.lemmas.List.Elements.{All-nil, All-head, All-tail, All-pus
 use Rattle.std.proofs.lemmas.Option.{slice_get_within}
 use Rattle.std.proofs.Math.Seq.{take-append_seam}
 use Rattle.hot_model.specs.declared.Call.{Call}
-use Rattle.hot_model.specs.declared.Call.TheVariants.{Insert, Upsert, Get, Remove}
+use Rattle.hot_model.specs.declared.Call.TheVariants.{Insert, Upsert, Exchange, Get, Remove, RemoveIf}
 use Rattle.hot_model.specs.declared.Kind.{Kind}
 use Rattle.hot_model.specs.declared.Kind.TheVariants.{Added, Replaced, Removed as TakenAway}
 use Rattle.hot_model.specs.declared.Change.{Change}
+use Rattle.hot_model.specs.declared.Reply.{Reply}
+use Rattle.hot_model.specs.declared.Reply.TheVariants.{Exchanged, Differs, Removed}
 use Rattle.hot_model.specs.declared.Note.{Note}
-use Rattle.hot_model.specs.Maps.{Map, value_at, key_of, step_where, map_after, reply_of}
+use Rattle.hot_model.specs.Maps.{Map, value_at, key_of, step_if, step_where, map_after, reply_of, with_value, without}
 use Rattle.hot_model.specs.Fronts.{changed, map_of, Fits, LegalFront, OthersGoOn}
 use Rattle.hot_model.specs.Calls.{effect_of, is_change, change_of, place_after, StandsIn, RisesFrom, changes_of, own_changes, LegalCalls}
 use Rattle.hot_model.proofs.Growth.{legal_front_push}
@@ -63,15 +65,25 @@ change_of-quiet q n h = no_change q n.call (effect_of n.call n.reply) h
 pub change_of-change : (q : ℕ) (n : Note) → is_change n ≡ true → (c : Change) × (change_of q n ≡ Some c)
 change_of-change q n h = some_change q n.call (effect_of n.call n.reply) h
 
+-- a call that expects a value and whose reply tells of a change left the map, where its reply is another
+quiet_if : (m : Map) (call : Call) (held : ℕ) (n : Map) (reply : Reply) → is_some (effect_of call reply) ≡ true → (b : Bool) → is_some (effect_of call (step_if b m held (n, reply)).1) ≡ false →
+    (step_if b m held (n, reply)).0 ≡ m
+quiet_if m call held n reply changes true h = cc
+quiet_if m call held n reply changes false h = refl
+
 quiet_where : (m : Map) (call : Call) (held : Option ℕ) → is_some (effect_of call (step_where held m call).1) ≡ false → (step_where held m call).0 ≡ m
 quiet_where m (Insert key value) None h = cc
 quiet_where m (Insert key value) (Some held) h = refl
 quiet_where m (Upsert key value) None h = cc
 quiet_where m (Upsert key value) (Some held) h = cc
+quiet_where m (Exchange key expected value) None h = refl
+quiet_where m (Exchange key expected value) (Some held) h = quiet_if m (Exchange key expected value) held (with_value m key value) Exchanged refl (eqb held expected) h
 quiet_where m (Get key) None h = refl
 quiet_where m (Get key) (Some held) h = refl
 quiet_where m (Remove key) None h = refl
 quiet_where m (Remove key) (Some held) h = cc
+quiet_where m (RemoveIf key expected) None h = refl
+quiet_where m (RemoveIf key expected) (Some held) h = quiet_if m (RemoveIf key expected) held (without m key) (Removed held) refl (eqb held expected) h
 
 -- a call that changed nothing left the map
 pub map_after-quiet : (m : Map) (n : Note) → n.reply ≡ reply_of m n.call → is_change n ≡ false → map_after m n.call ≡ m
@@ -81,6 +93,14 @@ map_after-quiet m n reply quiet = quiet_where m n.call (value_at m (key_of n.cal
 pub record MakesChange (m : Map) (q : ℕ) (call : Call) (c : Change) : Type 0 where
   pub fits : Fits m c
   pub map : map_after m call ≡ changed m c
+
+-- a call that expects a value, and whose reply tells of this change where its key has it
+makes_if : (m : Map) (q : ℕ) (call : Call) (held : ℕ) (n : Map) (reply : Reply) (effect : Kind × ℕ) → effect_of call reply ≡ Some effect → effect_of call (Differs held) ≡ None →
+    Fits m (change_with q call effect) → n ≡ changed m (change_with q call effect) → (c : Change) (b : Bool) → map_after m call ≡ (step_if b m held (n, reply)).0 →
+    option_map (change_with q call) (effect_of call (step_if b m held (n, reply)).1) ≡ Some c → MakesChange m q call c
+makes_if m q call held n reply effect does differs fits map c true after told =
+    subst (MakesChange m q call) (same_value (change_with q call effect) c (ap (option_map (change_with q call)) (sym does) ∙ told)) (record { fits = fits; map = after ∙ map })
+makes_if m q call held n reply effect does differs fits map c false after told = cc
 
 makes_where : (m : Map) (q : ℕ) (call : Call) (held : Option ℕ) → value_at m (key_of call) ≡ held → (c : Change) →
     option_map (change_with q call) (effect_of call (step_where held m call).1) ≡ Some c → MakesChange m q call c
@@ -94,12 +114,20 @@ makes_where m q (Upsert key value) None e c h =
 makes_where m q (Upsert key value) (Some held) e c h =
     subst (MakesChange m q (Upsert key value)) (same_value (change_with q (Upsert key value) (Replaced, value)) c h)
     (record { fits = ap is_some e; map = ap (λ o. (step_where o m (Upsert key value)).0) e })
+makes_where m q (Exchange key expected value) None e c h = cc
+makes_where m q (Exchange key expected value) (Some held) e c h =
+    makes_if m q (Exchange key expected value) held (with_value m key value) Exchanged (Replaced, value) refl refl (ap is_some e) refl c (eqb held expected)
+    (ap (λ o. (step_where o m (Exchange key expected value)).0) e) h
 makes_where m q (Get key) None e c h = cc
 makes_where m q (Get key) (Some held) e c h = cc
 makes_where m q (Remove key) None e c h = cc
 makes_where m q (Remove key) (Some held) e c h =
     subst (MakesChange m q (Remove key)) (same_value (change_with q (Remove key) (TakenAway, held)) c h)
     (record { fits = e; map = ap (λ o. (step_where o m (Remove key)).0) e })
+makes_where m q (RemoveIf key expected) None e c h = cc
+makes_where m q (RemoveIf key expected) (Some held) e c h =
+    makes_if m q (RemoveIf key expected) held (without m key) (Removed held) (TakenAway, held) refl refl e refl c (eqb held expected)
+    (ap (λ o. (step_where o m (RemoveIf key expected)).0) e) h
 
 pub makes_change : (m : Map) (q : ℕ) (n : Note) → n.reply ≡ reply_of m n.call → (c : Change) → change_of q n ≡ Some c → MakesChange m q n.call c
 makes_change m q n reply c h = makes_where m q n.call (value_at m (key_of n.call)) refl c (subst (λ r. option_map (change_with q n.call) (effect_of n.call r) ≡ Some c) reply h)

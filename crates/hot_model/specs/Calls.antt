@@ -1,9 +1,9 @@
 -- Legal calls of a pass, after Herlihy and Wing: where its answered calls stand in a front, and that each was answered as a finite map would.
 use Rattle.std.specs.Prelude.{◌≡◌, ℕ, ◌+◌, ◌≤◌, List, [], ◌∷◌, length, take, slice_get, filter, filter_map, map, All, Option, Some, None, Bool, is_some, option_map, nat_eq, if◌then◌else◌}
 use Rattle.hot_model.specs.declared.Call.{Call}
-use Rattle.hot_model.specs.declared.Call.TheVariants.{Insert, Upsert, Remove}
+use Rattle.hot_model.specs.declared.Call.TheVariants.{Insert, Upsert, Exchange, Remove, RemoveIf}
 use Rattle.hot_model.specs.declared.Reply.{Reply}
-use Rattle.hot_model.specs.declared.Reply.TheVariants.{Inserted, New, Was, Removed}
+use Rattle.hot_model.specs.declared.Reply.TheVariants.{Inserted, New, Was, Exchanged, Removed}
 use Rattle.hot_model.specs.declared.Kind.{Kind}
 use Rattle.hot_model.specs.declared.Kind.TheVariants.{Added, Replaced, Removed as TakenAway}
 use Rattle.hot_model.specs.declared.Change.{Change}
@@ -16,7 +16,9 @@ abbrev pub effect_of : Call → Reply → Option (Kind × ℕ)
 effect_of (Insert key value) Inserted = Some (Added, value)
 effect_of (Upsert key value) New = Some (Added, value)
 effect_of (Upsert key value) (Was held) = Some (Replaced, value)
+effect_of (Exchange key expected value) Exchanged = Some (Replaced, value)
 effect_of (Remove key) (Removed held) = Some (TakenAway, held)
+effect_of (RemoveIf key expected) (Removed held) = Some (TakenAway, held)
 effect_of _ _ = None
 
 -- whether the call of a note changed the map

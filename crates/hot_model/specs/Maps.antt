@@ -1,5 +1,5 @@
 -- A finite map from keys to numbers, and what one call makes of it.
-use Rattle.std.specs.Prelude.{◌≡◌, ℕ, List, [], ◌∷◌, fold, Option, Some, None}
+use Rattle.std.specs.Prelude.{◌≡◌, ℕ, List, [], ◌∷◌, fold, Bool, true, false, nat_eq, Option, Some, None}
 use Rattle.std.specs.declared.cmp.Ordering.{Ordering}
 use Rattle.std.specs.Ordering.{nat_cmp}
 use Rattle.std.specs.Cmp.Lexicographic.{slice_cmp}
@@ -7,9 +7,9 @@ use Rattle.std.specs.List.Sorted.{IsStrictlySortedBy}
 use Rattle.std.specs.Map.{keys_of, lookup, remove_entry}
 use Rattle.std.specs.BTreeMap.{insert_entry, is_at}
 use Rattle.hot_model.specs.declared.Call.{Call}
-use Rattle.hot_model.specs.declared.Call.TheVariants.{Insert, Upsert, Get, Remove}
+use Rattle.hot_model.specs.declared.Call.TheVariants.{Insert, Upsert, Exchange, Get, Remove, RemoveIf}
 use Rattle.hot_model.specs.declared.Reply.{Reply}
-use Rattle.hot_model.specs.declared.Reply.TheVariants.{Inserted, Exists, New, Was, Value, Absent, Removed}
+use Rattle.hot_model.specs.declared.Reply.TheVariants.{Inserted, Exists, New, Was, Exchanged, Differs, Value, Absent, Removed}
 
 -- the order of keys: by bytes, a prefix first
 abbrev pub key_order : List ℕ → List ℕ → Ordering
@@ -39,8 +39,15 @@ without m key = remove_entry (is_at (key_order key)) m
 abbrev pub key_of : Call → List ℕ
 key_of (Insert key value) = key
 key_of (Upsert key value) = key
+key_of (Exchange key expected value) = key
 key_of (Get key) = key
 key_of (Remove key) = key
+key_of (RemoveIf key expected) = key
+
+-- what a call that expects a value makes of a map and replies, where its key has that value; else the map stays
+abbrev pub step_if : Bool → Map → ℕ → Map × Reply → Map × Reply
+step_if true m held expected = expected
+step_if false m held expected = (m, Differs held)
 
 -- a call on a map which holds this value for its key, or none: the map after it, and the reply
 abbrev pub step_where : Option ℕ → Map → Call → Map × Reply
@@ -48,10 +55,14 @@ step_where None m (Insert key value) = (with_value m key value, Inserted)
 step_where (Some held) m (Insert key value) = (m, Exists held)
 step_where None m (Upsert key value) = (with_value m key value, New)
 step_where (Some held) m (Upsert key value) = (with_value m key value, Was held)
+step_where None m (Exchange key expected value) = (m, Absent)
+step_where (Some held) m (Exchange key expected value) = step_if (nat_eq held expected) m held (with_value m key value, Exchanged)
 step_where None m (Get key) = (m, Absent)
 step_where (Some held) m (Get key) = (m, Value held)
 step_where None m (Remove key) = (m, Absent)
 step_where (Some held) m (Remove key) = (without m key, Removed held)
+step_where None m (RemoveIf key expected) = (m, Absent)
+step_where (Some held) m (RemoveIf key expected) = step_if (nat_eq held expected) m held (without m key, Removed held)
 
 -- one call on a map: the map after it, and the reply
 abbrev pub step : Map → Call → Map × Reply
@@ -78,5 +89,7 @@ map_after_all m calls = fold map_after m calls
 abbrev pub AddsKey : Map → Call → Type 0
 AddsKey m (Insert key value) = value_at m key ≡ None
 AddsKey m (Upsert key value) = value_at m key ≡ None
+AddsKey m (Exchange key expected value) = ⊥
 AddsKey m (Get key) = ⊥
 AddsKey m (Remove key) = ⊥
+AddsKey m (RemoveIf key expected) = ⊥

@@ -10,10 +10,14 @@ pub enum Call {
     Insert(Key, u64),
     /// Gives the key the value, whether it has one or not.
     Upsert(Key, u64),
+    /// Gives the key the second value where it has the first: a compare-and-exchange.
+    Exchange(Key, u64, u64),
     /// Asks for the value of the key.
     Get(Key),
     /// Takes the key away.
     Remove(Key),
+    /// Takes the key away where it has the value.
+    RemoveIf(Key, u64),
 }
 
 /// What a call answers.
@@ -27,11 +31,15 @@ pub enum Reply {
     New,
     /// Of `Upsert`: the key had this value and has the new one now.
     Was(u64),
+    /// Of `Exchange`: the key had the expected value and has the new one now.
+    Exchanged,
+    /// Of `Exchange` and `RemoveIf`: the key has this value, which is not the expected one, and keeps it.
+    Differs(u64),
     /// Of `Get`: the key has this value.
     Value(u64),
-    /// Of `Get` and `Remove`: the key is absent.
+    /// Of all calls but `Insert` and `Upsert`: the key is absent.
     Absent,
-    /// Of `Remove`: the key had this value and is absent now.
+    /// Of `Remove` and `RemoveIf`: the key had this value and is absent now.
     Removed(u64),
 }
 

@@ -29,6 +29,8 @@ pub fn push_reply(text: &mut Vec<u8>, reply: Reply) -> Result<(), AllocError>
         Reply::Exists(value) => push_number(text, b"exists ", value),
         Reply::New => text.extend_from_slice(b"new\n"),
         Reply::Was(value) => push_number(text, b"was ", value),
+        Reply::Exchanged => text.extend_from_slice(b"exchanged\n"),
+        Reply::Differs(value) => push_number(text, b"differs ", value),
         Reply::Value(value) => push_number(text, b"value ", value),
         Reply::Absent => text.extend_from_slice(b"none\n"),
         Reply::Removed(value) => push_number(text, b"removed ", value),

@@ -25,8 +25,10 @@ fn key_in(call: &Call) -> &Key
     match call {
         Call::Insert(key, _) => key,
         Call::Upsert(key, _) => key,
+        Call::Exchange(key, _, _) => key,
         Call::Get(key) => key,
         Call::Remove(key) => key,
+        Call::RemoveIf(key, _) => key,
     }
 }
 
@@ -39,10 +41,16 @@ fn reply_where(call: &Call, held: Option<u64>) -> Reply
         (Call::Insert(..), Some(value)) => Reply::Exists(value),
         (Call::Upsert(..), None) => Reply::New,
         (Call::Upsert(..), Some(value)) => Reply::Was(value),
+        (Call::Exchange(..), None) => Reply::Absent,
+        (Call::Exchange(_, expected, _), Some(value)) if value == *expected => Reply::Exchanged,
+        (Call::Exchange(..), Some(value)) => Reply::Differs(value),
         (Call::Get(_), None) => Reply::Absent,
         (Call::Get(_), Some(value)) => Reply::Value(value),
         (Call::Remove(_), None) => Reply::Absent,
         (Call::Remove(_), Some(value)) => Reply::Removed(value),
+        (Call::RemoveIf(..), None) => Reply::Absent,
+        (Call::RemoveIf(_, expected), Some(value)) if value == *expected => Reply::Removed(value),
+        (Call::RemoveIf(..), Some(value)) => Reply::Differs(value),
     }
 }
 
@@ -54,7 +62,8 @@ fn effect(call: &Call, reply: Reply) -> Option<(Kind, u64)>
         (Call::Insert(_, value), Reply::Inserted) => Some((Kind::Added, *value)),
         (Call::Upsert(_, value), Reply::New) => Some((Kind::Added, *value)),
         (Call::Upsert(_, value), Reply::Was(_)) => Some((Kind::Replaced, *value)),
-        (Call::Remove(_), Reply::Removed(held)) => Some((Kind::Removed, held)),
+        (Call::Exchange(_, _, value), Reply::Exchanged) => Some((Kind::Replaced, *value)),
+        (Call::Remove(_) | Call::RemoveIf(..), Reply::Removed(held)) => Some((Kind::Removed, held)),
         _ => None,
     }
 }

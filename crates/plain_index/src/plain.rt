@@ -1,5 +1,6 @@
 //! An index of one thread, over a sorted map.
-ghost use Rattle.std.specs.Prelude.{◌≡◌, ℕ, List, [], ◌≤◌, length, take, IfOk, OnOk, OnErr};
+ghost use Rattle.std.specs.Prelude.{◌≡◌, ℕ, List, [], ◌≤◌, length, take, IfOk, IsOk, OnOk, OnErr};
+ghost use Rattle.hot_model.specs.declared.Call.TheVariants.{Exchange, RemoveIf};
 ghost use Rattle.hot_model.specs.Maps.{map_after, reply_of, map_after_all, replies_of, AddsKey};
 ghost use Rattle.hot_model.specs.Scans.{IsScanOf};
 
@@ -51,6 +52,7 @@ impl PlainIndex {
                 Some(held) => Ok(Reply::Was(held)),
                 None => Ok(Reply::New),
             },
+            Call::Exchange(key, expected, value) => self.exchange(key, expected, value),
             Call::Get(key) => match self.entries.get(&key) {
                 Some(held) => Ok(Reply::Value(*held)),
                 None => Ok(Reply::Absent),
@@ -59,6 +61,38 @@ impl PlainIndex {
                 Some(held) => Ok(Reply::Removed(held)),
                 None => Ok(Reply::Absent),
             },
+            Call::RemoveIf(key, expected) => Ok(self.remove_if(&key, expected)),
+        }
+    }
+
+    /// Gives a key another value where it has the expected one.
+    fn exchange(&mut self, key: Key, expected: u64, value: u64) -> Result<Reply, AllocError>
+        ensures reply { IfOk result (λ reply. reply ≡ reply_of self.old (Exchange key expected value)) }
+        ensures map { OnOk result (self.new ≡ map_after self.old (Exchange key expected value)) }
+        ensures memory { IsOk result }
+    {
+        match self.entries.get(&key) {
+            None => Ok(Reply::Absent),
+            Some(held) if *held == expected => {
+                self.entries.insert(key, value)?;
+                Ok(Reply::Exchanged)
+            }
+            Some(held) => Ok(Reply::Differs(*held)),
+        }
+    }
+
+    /// Takes a key away where it has the expected value.
+    fn remove_if(&mut self, key: &Key, expected: u64) -> Reply
+        ensures reply { result ≡ reply_of self.old (RemoveIf key.now expected) }
+        ensures map { self.new ≡ map_after self.old (RemoveIf key.now expected) }
+    {
+        match self.entries.get(key) {
+            None => Reply::Absent,
+            Some(held) if *held == expected => {
+                self.entries.remove(key);
+                Reply::Removed(expected)
+            }
+            Some(held) => Reply::Differs(*held),
         }
     }
 

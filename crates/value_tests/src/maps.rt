@@ -10,12 +10,14 @@ use plain_trie::{Place, PlainTrie, place};
 use std::alloc::{AllocError, Global};
 use std::process::Abort;
 
-/// The call that a letter names, of the key of one byte.
+/// The call that a letter names, of the key of one byte. An exchange gives it the next value.
 fn call(rt: &impl Abort, letter: u8, byte: u8, value: u64) -> Call {
     let key = key(rt, &[byte]);
     match letter {
         b'i' => Call::Insert(key, value),
         b'u' => Call::Upsert(key, value),
+        b'x' => Call::Exchange(key, value, value.wrapping_add(1)),
+        b'd' => Call::RemoveIf(key, value),
         b'g' => Call::Get(key),
         _ => Call::Remove(key),
     }
@@ -30,6 +32,14 @@ fn calls_answer_as_a_map(rt: HostRuntime) {
         (b'u', b'b', 1, Reply::New),
         (b'u', b'b', u64::MAX, Reply::Was(1)),
         (b'g', b'b', 0, Reply::Value(18_446_744_073_709_551_615)),
+        (b'x', b'a', 6, Reply::Differs(5)),
+        (b'x', b'a', 5, Reply::Exchanged),
+        (b'd', b'a', 5, Reply::Differs(6)),
+        (b'g', b'a', 0, Reply::Value(6)),
+        (b'd', b'a', 6, Reply::Removed(6)),
+        (b'd', b'a', 6, Reply::Absent),
+        (b'x', b'a', 6, Reply::Absent),
+        (b'i', b'a', 5, Reply::Inserted),
         (b'r', b'a', 0, Reply::Removed(5)),
         (b'r', b'a', 0, Reply::Absent),
         (b'g', b'a', 0, Reply::Absent),
