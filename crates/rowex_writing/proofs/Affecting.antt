@@ -22,7 +22,7 @@ use Rattle.rowex_reading.proofs.Shapes.{same_shape}
 use Rattle.rowex_reading.proofs.Seeing.{shaped_stable, since_later, sure_later}
 use Rattle.rowex_writing.specs.Changes.{AreAffected, IsPlanned}
 use Rattle.rowex_writing.specs.Plans.{DiffersAt, IsPlan}
-use Rattle.rowex_writing.specs.declared.plan.Ask.{Ask}
+use Rattle.rowex_writing.specs.declared.plan.Aim.{Aim}
 use Rattle.rowex_writing.specs.declared.plan.Plan.{Plan}
 use Rattle.rowex_writing.specs.Remaking.{AffectsJust}
 use Rattle.rowex_reading.specs.Ways.{IsWayOf}
@@ -108,13 +108,13 @@ affected_there layout k j m key way n v p first last level s head possible later
     })
 
 -- ---- the plan that comes of them
-module _ (layout : Layout) (k j : Known) (m : ℕ) (key : Key) (way : List Step) (ask : Ask) where
-  pub known_planned : (found : Found) (plan : Plan) → ((first last : ℕ) → IsPlan way first last ask found plan) → IsWayOf layout k m key way found → IsPlanned k m key way ask found plan
+module _ (layout : Layout) (k j : Known) (m : ℕ) (key : Key) (way : List Step) (aim : Aim) where
+  pub known_planned : (found : Found) (plan : Plan) → ((first last : ℕ) → IsPlan way first last aim found plan) → IsWayOf layout k m key way found → IsPlanned k m key way aim found plan
   known_planned found plan is w = let (first, last, are) = are_affected layout k m key way found w in (first, last, is first last, are)
 
   pub beside_planned : (found : Found) (plan : Plan) (p first last level : ℕ) (s : Step) (head : HeadView) → DiffersAt found p → IsPossible layout j → IsLater k j →
       IsWayOf layout k m key way found → IsLevel way p level → slice_get way level ≡ Some s → Sure j (λ past. IsShaped past m s.number (shape_of head)) →
-      affected_first p s.at (shape_of head) ≡ first → affected_count p s.at (shape_of head) + first ≡ last + 1 → IsPlan way first last ask found plan → IsPlanned j m key way ask found plan
+      affected_first p s.at (shape_of head) ≡ first → affected_count p s.at (shape_of head) + first ≡ last + 1 → IsPlan way first last aim found plan → IsPlanned j m key way aim found plan
   beside_planned found plan p first last level s head (n, v, differs) possible later w is at shapes from upto planned = (
     first,
     last,

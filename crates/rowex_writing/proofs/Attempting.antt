@@ -1,8 +1,11 @@
 -- How the parts of an attempt make its answer, or its refusal.
-use Rattle.std.proofs.Common.{◌≡◌, ◌⊎◌, inl, inr, ℕ, ◌≤◌, ◌<◌, List, [], ◌∷◌, length, refl, sym, ap, subst, ◌∙◌, arith, Option, Some, None, Bool, true, false}
+use Rattle.std.specs.Prelude.{if◌then◌else◌, nat_eq}
+use Rattle.std.proofs.lemmas.Bool.{eq-eqb, eqb-true}
+use Rattle.std.proofs.Common.{◌≡◌, ◌≢◌, ◌⊎◌, inl, inr, ℕ, ◌≤◌, ◌<◌, List, [], ◌∷◌, length, refl, sym, ap, subst, ◌∙◌, arith, Option, Some, None, Bool, true, false}
 use Rattle.hot_model.specs.declared.Change.{Change}
 use Rattle.hot_model.specs.declared.Reply.{Reply}
-use Rattle.hot_model.specs.declared.Reply.TheVariants.{Exists, Absent}
+use Rattle.hot_model.specs.declared.Kind.TheVariants.{Removed as TakenAway}
+use Rattle.hot_model.specs.declared.Reply.TheVariants.{Exists, Differs, Absent}
 use Rattle.hot_model.specs.Fronts.{OthersGoOn}
 use Rattle.hot_model.proofs.Growth.{others_on}
 use Rattle.insert_cases.specs.declared.choice.Case.{Case}
@@ -26,13 +29,16 @@ use Rattle.rowex_table.specs.Made.{IsLater}
 use Rattle.rowex_reading.specs.Lookups.{HasFound, HasSearched}
 use Rattle.rowex_reading.specs.Seen.{Sure, since}
 use Rattle.rowex_reading.proofs.Seeing.{later_trans, held_stable, missed_stable, shaped_stable, sure_later}
+use Rattle.rowex_writing.specs.Asking.{aim_of, answer_unless, declined}
 use Rattle.rowex_writing.specs.Attempts.{HasAnswered, HasDone, HasLoadedRoot, HasLooked, HasRefused, IsChangeOf, reply_to}
 use Rattle.rowex_writing.specs.Changes.{AreAffected, HasChanged, HasNoRoom, HasRun, HasStored, IsFull, IsPlanned}
 use Rattle.rowex_writing.specs.Locks.{HasMetLock}
 use Rattle.rowex_writing.specs.Plans.{change, IsCase, IsNewLeafPlan}
 use Rattle.rowex_reading.specs.Ways.{value_of}
 use Rattle.rowex_writing.specs.declared.plan.Ask.{Ask}
-use Rattle.rowex_writing.specs.declared.plan.Ask.TheVariants.{Insert, Upsert, Remove}
+use Rattle.rowex_writing.specs.declared.plan.Ask.TheVariants.{Insert, Upsert, Exchange, Remove, RemoveIf}
+use Rattle.rowex_writing.specs.declared.plan.Aim.{Aim}
+use Rattle.rowex_writing.specs.declared.plan.Aim.TheVariants.{Remove as Removal}
 use Rattle.rowex_writing.specs.declared.plan.Deed.{Deed}
 use Rattle.rowex_writing.specs.declared.plan.Deed.TheVariants.{Put, Pair, Grow, Take}
 use Rattle.rowex_writing.specs.declared.attempts.TryFault.TheVariants.{Busy, FullNodes, FullLeaves}
@@ -61,9 +67,13 @@ affected_later k j m key way (Leaf n v None) first last later a = tt
 affected_later k j m key way (Leaf n v (Some p)) first last later a = λ level s is at.
     let (forks, shaped, affects) = a level s is at in (forks, sure_later {P = λ past. IsShaped past m s.number forks} (shaped_stable m s.number forks) later shaped, affects)
 
-pub planned_later : (k j : Known) (m : ℕ) (key : Key) (way : List Step) (ask : Ask) (found : Found) (plan : Plan) → IsLater k j → IsPlanned k m key way ask found plan →
-    IsPlanned j m key way ask found plan
-planned_later k j m key way ask found plan later (first, last, is, affected) = (first, last, is, affected_later k j m key way found first last later affected)
+pub planned_later : (k j : Known) (m : ℕ) (key : Key) (way : List Step) (aim : Aim) (found : Found) (plan : Plan) → IsLater k j → IsPlanned k m key way aim found plan →
+    IsPlanned j m key way aim found plan
+planned_later k j m key way aim found plan later (first, last, is, affected) = (first, last, is, affected_later k j m key way found first last later affected)
+
+pub planned_as : (k : Known) (m : ℕ) (key : Key) (way : List Step) (aim other : Aim) (found : Found) (plan : Plan) → aim ≡ other → IsPlanned k m key way aim found plan →
+    IsPlanned k m key way other found plan
+planned_as k m key way aim other found plan same planned = subst (λ a. IsPlanned k m key way a found plan) same planned
 
 -- ---- an answer
 -- the reply of a plan that answers
@@ -94,17 +104,55 @@ new_answer {A} (s ∷ way) p first last reply (level, at, (chosen, choice, case)
     go NormalInsert e = no_answer reply _ _ e
     go Overflow (end, upto, e) = no_answer reply _ _ e
 
-pub looked : (k j : Known) (m : ℕ) (key : Key) (way : List Step) (ask : Ask) (found : Found) (reply : Reply) → IsPlanned k m key way ask found (Answer reply) →
+-- ---- a call that expects a value
+no_answer_left : {A : Type 0} (reply : Reply) → Some reply ≡ None → A
+no_answer_left reply e = absurd (cc)
+
+-- where it is not answered at once, its key has the value that it expects
+met_value : (expected : ℕ) (held : Option ℕ) → answer_unless expected held ≡ None → held ≡ Some expected
+met_value expected None e = no_answer_left Absent e
+met_value expected (Some v) e = go (nat_eq v expected) refl e
+  where
+    go : (b : Bool) → nat_eq v expected ≡ b → (if b then None else Some (Differs v)) ≡ None → Some v ≡ Some expected
+    go true same e = ap Some (eqb-true v expected same)
+    go false same e = no_answer_left (Differs v) e
+
+-- where it is, its key has another value or none
+unless_looked : (j : Known) (ask : Ask) (key : Key) (expected : ℕ) → (HasFound j key None → HasLooked j ask key Absent) →
+    ((v : ℕ) → HasFound j key (Some v) → v ≢ expected → HasLooked j ask key (Differs v)) → (held : Option ℕ) (reply : Reply) → answer_unless expected held ≡ Some reply → HasFound j key held →
+    HasLooked j ask key reply
+unless_looked j ask key expected missed differs None reply e found = subst (HasLooked j ask key) (let z : Absent ≡ reply = cc in z) (missed found)
+unless_looked j ask key expected missed differs (Some v) reply e found = go (nat_eq v expected) refl e
+  where
+    go : (b : Bool) → nat_eq v expected ≡ b → (if b then None else Some (Differs v)) ≡ Some reply → HasLooked j ask key reply
+    go true same e = absurd (let z : None ≡ Some reply = e in cc)
+    go false same e = subst (HasLooked j ask key) (let z : Differs v ≡ reply = cc in z) (differs v found (λ is. absurd (let z : true ≡ false = sym (eq-eqb v expected is) ∙ same in cc)))
+
+pub declined_looked : (j : Known) (ask : Ask) (key : Key) (found : Found) (reply : Reply) → declined ask found ≡ Some reply → HasFound j key (value_of found) → HasLooked j ask key reply
+declined_looked j (Exchange expected) key found reply e sure = unless_looked j (Exchange expected) key expected (λ h. h) (λ v h apart. (h, apart)) (value_of found) reply e sure
+declined_looked j (RemoveIf expected) key found reply e sure = unless_looked j (RemoveIf expected) key expected (λ h. h) (λ v h apart. (h, apart)) (value_of found) reply e sure
+declined_looked j Insert key found reply e sure = absurd (let z : None ≡ Some reply = e in cc)
+declined_looked j Upsert key found reply e sure = absurd (let z : None ≡ Some reply = e in cc)
+declined_looked j Remove key found reply e sure = absurd (let z : None ≡ Some reply = e in cc)
+
+-- ---- the answer of a plan
+pub looked : (k j : Known) (m : ℕ) (key : Key) (way : List Step) (ask : Ask) (found : Found) (reply : Reply) → declined ask found ≡ None → IsPlanned k m key way (aim_of ask) found (Answer reply) →
     HasFound j key (value_of found) → HasLooked j ask key reply
-looked k j m key way Insert Nothing reply (first, last, is, affected) sure = no_answer reply _ _ is
-looked k j m key way Upsert Nothing reply (first, last, is, affected) sure = no_answer reply _ _ is
-looked k j m key way Insert (Leaf n v (Some p)) reply (first, last, is, affected) sure = new_answer way p first last reply is
-looked k j m key way Upsert (Leaf n v (Some p)) reply (first, last, is, affected) sure = new_answer way p first last reply is
-looked k j m key way Insert (Leaf n v None) reply (first, last, is, affected) sure = looked_exists j key v reply is sure
-looked k j m key way Upsert (Leaf n v None) reply (first, last, is, affected) sure = no_answer reply _ _ is
-looked k j m key way Remove Nothing reply (first, last, is, affected) sure = looked_absent j key reply is sure
-looked k j m key way Remove (Leaf n v (Some p)) reply (first, last, is, affected) sure = looked_absent j key reply is sure
-looked k j m key way Remove (Leaf n v None) reply (first, last, is, affected) sure = no_answer reply _ _ is
+looked k j m key way Insert Nothing reply met (first, last, is, affected) sure = no_answer reply _ _ is
+looked k j m key way Upsert Nothing reply met (first, last, is, affected) sure = no_answer reply _ _ is
+looked k j m key way Insert (Leaf n v (Some p)) reply met (first, last, is, affected) sure = new_answer way p first last reply is
+looked k j m key way Upsert (Leaf n v (Some p)) reply met (first, last, is, affected) sure = new_answer way p first last reply is
+looked k j m key way Insert (Leaf n v None) reply met (first, last, is, affected) sure = looked_exists j key v reply is sure
+looked k j m key way Upsert (Leaf n v None) reply met (first, last, is, affected) sure = no_answer reply _ _ is
+looked k j m key way Remove Nothing reply met (first, last, is, affected) sure = looked_absent j key reply is sure
+looked k j m key way Remove (Leaf n v (Some p)) reply met (first, last, is, affected) sure = looked_absent j key reply is sure
+looked k j m key way Remove (Leaf n v None) reply met (first, last, is, affected) sure = no_answer reply _ _ is
+looked k j m key way (Exchange e) Nothing reply met planned sure = no_answer_left Absent met
+looked k j m key way (Exchange e) (Leaf n v (Some p)) reply met planned sure = no_answer_left Absent met
+looked k j m key way (Exchange e) (Leaf n v None) reply met (first, last, is, affected) sure = no_answer reply _ _ is
+looked k j m key way (RemoveIf e) Nothing reply met planned sure = no_answer_left Absent met
+looked k j m key way (RemoveIf e) (Leaf n v (Some p)) reply met planned sure = no_answer_left Absent met
+looked k j m key way (RemoveIf e) (Leaf n v None) reply met (first, last, is, affected) sure = no_answer reply _ _ is
 
 -- ---- a change
 abbrev deed_in : Plan → Deed
@@ -127,28 +175,38 @@ module _ (i j : Known) (key : Key) (value : ℕ) (found : Found) where
 
 -- The change is the one that the call asked for.
 pub done_is : (i j k : Known) (m : ℕ) (key : Key) (value : ℕ) (way : List Step) (ask : Ask) (found : Found) (span : Span) (deed : Deed) →
-    IsPlanned k m key way ask found (a_change span deed) → HasDone i j deed key value found →
+    declined ask found ≡ None → IsPlanned k m key way (aim_of ask) found (a_change span deed) → HasDone i j deed key value found →
     (x : Change) × (was : Option ℕ) × IsChangeOf i.pass ask key value (reply_to ask found) x was × HasChanged i j x was
-done_is i j k m key value way Insert Nothing span deed (first, last, is, affected) done = done_by i j key value Nothing span deed Put 0 0 is done
-done_is i j k m key value way Upsert Nothing span deed (first, last, is, affected) done = done_by i j key value Nothing span deed Put 0 0 is done
-done_is i j k m key value way Insert (Leaf n v (Some p)) span deed (first, last, is, affected) done = new_done i j key value (Leaf n v (Some p)) way p first last span deed is done
-done_is i j k m key value way Upsert (Leaf n v (Some p)) span deed (first, last, is, affected) done = new_done i j key value (Leaf n v (Some p)) way p first last span deed is done
-done_is i j k m key value way Insert (Leaf n v None) span deed (first, last, is, affected) done = no_answer _ span deed (sym is)
-done_is i j k m key value way Upsert (Leaf n v None) span deed (first, last, is, affected) done = done_by i j key value (Leaf n v None) span deed Put _ _ is done
-done_is i j k m key value way Remove Nothing span deed (first, last, is, affected) done = no_answer _ span deed (sym is)
-done_is i j k m key value way Remove (Leaf n v (Some p)) span deed (first, last, is, affected) done = no_answer _ span deed (sym is)
-done_is i j k m key value way Remove (Leaf n v None) span deed (first, last, is, affected) done = done_by i j key value (Leaf n v None) span deed Take _ _ is done
+done_is i j k m key value way Insert Nothing span deed met (first, last, is, affected) done = done_by i j key value Nothing span deed Put 0 0 is done
+done_is i j k m key value way Upsert Nothing span deed met (first, last, is, affected) done = done_by i j key value Nothing span deed Put 0 0 is done
+done_is i j k m key value way Insert (Leaf n v (Some p)) span deed met (first, last, is, affected) done = new_done i j key value (Leaf n v (Some p)) way p first last span deed is done
+done_is i j k m key value way Upsert (Leaf n v (Some p)) span deed met (first, last, is, affected) done = new_done i j key value (Leaf n v (Some p)) way p first last span deed is done
+done_is i j k m key value way Insert (Leaf n v None) span deed met (first, last, is, affected) done = no_answer _ span deed (sym is)
+done_is i j k m key value way Upsert (Leaf n v None) span deed met (first, last, is, affected) done = done_by i j key value (Leaf n v None) span deed Put _ _ is done
+done_is i j k m key value way Remove Nothing span deed met (first, last, is, affected) done = no_answer _ span deed (sym is)
+done_is i j k m key value way Remove (Leaf n v (Some p)) span deed met (first, last, is, affected) done = no_answer _ span deed (sym is)
+done_is i j k m key value way Remove (Leaf n v None) span deed met (first, last, is, affected) done = done_by i j key value (Leaf n v None) span deed Take _ _ is done
+done_is i j k m key value way (Exchange e) Nothing span deed met planned done = no_answer_left Absent met
+done_is i j k m key value way (Exchange e) (Leaf n v (Some p)) span deed met planned done = no_answer_left Absent met
+done_is i j k m key value way (Exchange e) (Leaf n v None) span deed met (first, last, is, affected) done =
+    let (x, was, (x_is, was_is), changed) = done_by i j key value (Leaf n v None) span deed Put _ _ is done in (x, was, (x_is, was_is ∙ met_value e (Some v) met), changed)
+done_is i j k m key value way (RemoveIf e) Nothing span deed met planned done = no_answer_left Absent met
+done_is i j k m key value way (RemoveIf e) (Leaf n v (Some p)) span deed met planned done = no_answer_left Absent met
+done_is i j k m key value way (RemoveIf e) (Leaf n v None) span deed met (first, last, is, affected) done =
+    let (x, was, (x_is, was_is), changed) = done_by i j key value (Leaf n v None) span deed Take _ _ is done in
+    let same : v ≡ e = (let z = met_value e (Some v) met in cc) in
+    (x, was, (x_is ∙ ap (λ (z : ℕ). record { pass = i.pass; key = key; value = z; kind = TakenAway }) same, was_is ∙ ap Some same, refl), changed)
 
-takes : (k : Known) (m : ℕ) (key : Key) (way : List Step) (found : Found) (span : Span) (deed : Deed) → IsPlanned k m key way Remove found (a_change span deed) → deed ≡ Take
+takes : (k : Known) (m : ℕ) (key : Key) (way : List Step) (found : Found) (span : Span) (deed : Deed) → IsPlanned k m key way Removal found (a_change span deed) → deed ≡ Take
 takes k m key way Nothing span deed (first, last, is, affected) = no_answer _ span deed (sym is)
 takes k m key way (Leaf n v (Some p)) span deed (first, last, is, affected) = no_answer _ span deed (sym is)
 takes k m key way (Leaf n v None) span deed (first, last, is, affected) = ap deed_in is
 
 -- a removal that changes the map takes a leaf away
-pub removal_takes : (k : Known) (m : ℕ) (key : Key) (way : List Step) (ask : Ask) (found : Found) (plan : Plan) (span : Span) (deed : Deed) → ask ≡ Remove →
-    plan ≡ a_change span deed → IsPlanned k m key way ask found plan → deed ≡ Take
-removal_takes k m key way ask found plan span deed e is planned =
-    takes k m key way found span deed (subst (λ a. IsPlanned k m key way a found (a_change span deed)) e (subst (IsPlanned k m key way ask found) is planned))
+pub removal_takes : (k : Known) (m : ℕ) (key : Key) (way : List Step) (aim : Aim) (found : Found) (plan : Plan) (span : Span) (deed : Deed) → aim ≡ Removal →
+    plan ≡ a_change span deed → IsPlanned k m key way aim found plan → deed ≡ Take
+removal_takes k m key way aim found plan span deed e is planned =
+    takes k m key way found span deed (subst (λ a. IsPlanned k m key way a found (a_change span deed)) e (subst (IsPlanned k m key way aim found) is planned))
 
 -- the change of a pass that went on before
 pub changed_on : (k i j : Known) (x : Change) (was : Option ℕ) → i.pass ≡ k.pass → OthersGoOn k.pass k.front i.front → HasChanged i j x was → HasChanged k j x was
@@ -236,7 +294,7 @@ pub answered_look : (k j : Known) (ask : Ask) (key : Key) (value : ℕ) (reply :
 answered_look k j ask key value reply later looked = inl (looked, later.front)
 
 pub answered_change : (k p i j : Known) (m : ℕ) (key : Key) (value : ℕ) (way : List Step) (ask : Ask) (found : Found) (span : Span) (deed : Deed) → IsLater k i →
-    IsPlanned p m key way ask found (a_change span deed) → HasDone i j deed key value found → HasAnswered k j ask key value (reply_to ask found)
-answered_change k p i j m key value way ask found span deed later planned done =
-    let (x, was, is, changed) = done_is i j p m key value way ask found span deed planned done in
+    declined ask found ≡ None → IsPlanned p m key way (aim_of ask) found (a_change span deed) → HasDone i j deed key value found → HasAnswered k j ask key value (reply_to ask found)
+answered_change k p i j m key value way ask found span deed later met planned done =
+    let (x, was, is, changed) = done_is i j p m key value way ask found span deed met planned done in
     inr (x, was, subst (λ q. IsChangeOf q ask key value (reply_to ask found) x was) later.pass is, changed_on k i j x was later.pass later.front changed)

@@ -55,8 +55,8 @@ use Rattle.rowex_writing.specs.Plans.{change, IsCase, IsNewLeafPlan}
 use Rattle.rowex_writing.specs.Remaking.{AffectsJust}
 use Rattle.rowex_reading.specs.Ways.{IsWayNode, IsWayOf, end_of, named}
 use Rattle.rowex_reading.proofs.Ways.{named_at, named_end}
-use Rattle.rowex_writing.specs.declared.plan.Ask.{Ask}
-use Rattle.rowex_writing.specs.declared.plan.Ask.TheVariants.{Insert, Upsert, Remove}
+use Rattle.rowex_writing.specs.declared.plan.Aim.{Aim}
+use Rattle.rowex_writing.specs.declared.plan.Aim.TheVariants.{Insert, Upsert, Remove}
 use Rattle.rowex_writing.specs.declared.plan.Deed.TheVariants.{Grow, Pair, Put, Take}
 use Rattle.rowex_reading.specs.declared.descent.Found.{Found}
 use Rattle.rowex_reading.specs.declared.descent.Found.TheVariants.{Nothing, Leaf}
@@ -199,7 +199,7 @@ module _ (k : Known) (m : ℕ) (key : Key) (way : List Step) (len end position f
       go (s ∷ ss) e (level, at, (c, chosen, case)) =
           by_case number value p level low high c c.case refl (subst (λ w. IsLevel w p level) e at) (subst (λ w. IsChosen w level low high c) e chosen) affected (subst (λ w. IsCase w p c c.case plan) e case)
 
-  pub grow_plan : (ask : Ask) (found : Found) → IsPlanned k m key way ask found (change len end (Grow position first last)) → IsGrowPlan k m key way found len end position first last
+  pub grow_plan : (aim : Aim) (found : Found) → IsPlanned k m key way aim found (change len end (Grow position first last)) → IsGrowPlan k m key way found len end position first last
   grow_plan Insert Nothing (low, high, is, affected) = absurd (no_other _ is (λ z. z))
   grow_plan Upsert Nothing (low, high, is, affected) = absurd (no_other _ is (λ z. z))
   grow_plan Remove Nothing (low, high, is, affected) = absurd (no_other _ is (λ z. z))

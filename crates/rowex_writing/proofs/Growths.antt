@@ -46,7 +46,7 @@ use Rattle.tries.proofs.Places.{spot_below}
 use Rattle.rowex_writing.specs.Remaking.{AffectsJust}
 use Rattle.rowex_writing.specs.Plans.{change}
 use Rattle.rowex_reading.specs.Ways.{IsWayOf}
-use Rattle.rowex_writing.specs.declared.plan.Ask.{Ask}
+use Rattle.rowex_writing.specs.declared.plan.Aim.{Aim}
 use Rattle.rowex_writing.specs.declared.plan.Deed.TheVariants.{Grow}
 use Rattle.rowex_reading.specs.declared.descent.Found.{Found}
 use Rattle.rowex_writing.specs.declared.plan.Full.{Full}
@@ -239,10 +239,10 @@ spot_on : (k j : Known) (held : List Locked) (key : Key) (p n : ℕ) (e : Entry)
 spot_on k j held key p n e spot same (in_node o slot a place low) = in_node o slot a place low
 spot_on k j held key p n e spot same (at_root h anchor) = at_root h (same ∙ anchor)
 
-pub may_grow : (table : TableView) (a b : SeatView) (made : List Rec) (m : ℕ) (key : Key) (value : ℕ) (way : List Step) (found : Found) (span : Span) (ask : Ask) (position first last leaf : ℕ) → HasTakenSpan table a m key way found span →
-    IsPlanned a.known m key way ask found (change span.len span.end (Grow position first last)) → StaysLocked a.known b.known → IsBuilding table b made (of_leaf (item leaf key value) ∷ []) → HasLeafWords (key, value) →
+pub may_grow : (table : TableView) (a b : SeatView) (made : List Rec) (m : ℕ) (key : Key) (value : ℕ) (way : List Step) (found : Found) (span : Span) (aim : Aim) (position first last leaf : ℕ) → HasTakenSpan table a m key way found span →
+    IsPlanned a.known m key way aim found (change span.len span.end (Grow position first last)) → StaysLocked a.known b.known → IsBuilding table b made (of_leaf (item leaf key value) ∷ []) → HasLeafWords (key, value) →
     MayGrow table b made way key value span position first last leaf
-may_grow table a b made m key value way found span ask position first last leaf t planned stays building spelled = record {
+may_grow table a b made m key value way found span aim position first last leaf t planned stays building spelled = record {
   within = (omega (arith, upto, len_is), omega (arith, len_is, within));
   depth = w.depth;
   nodes = λ n d low. (w.nodes n (get_or way n d) (slice_get-get_or way n d low)).2.range;
@@ -283,7 +283,7 @@ may_grow table a b made m key value way found span ask position first last leaf 
     w = t.way_of
 
     plan : IsGrowPlan a.known m key way found span.len span.end position first last
-    plan = grow_plan a.known m key way span.len span.end position first last ask found planned
+    plan = grow_plan a.known m key way span.len span.end position first last aim found planned
 
     x : Item
     x = item leaf key value
@@ -331,19 +331,19 @@ may_grow table a b made m key value way found span ask position first last leaf 
         )
 
 -- the span of such a plan has a node
-pub grow_within : (table : TableView) (a : SeatView) (m : ℕ) (key : Key) (way : List Step) (found : Found) (span : Span) (ask : Ask) (position first last : ℕ) → HasTakenSpan table a m key way found span →
-    IsPlanned a.known m key way ask found (change span.len span.end (Grow position first last)) → (span.end < span.len) × (span.len ≤ length way)
-grow_within table a m key way found span ask position first last t planned =
-    let plan = grow_plan a.known m key way span.len span.end position first last ask found planned in
+pub grow_within : (table : TableView) (a : SeatView) (m : ℕ) (key : Key) (way : List Step) (found : Found) (span : Span) (aim : Aim) (position first last : ℕ) → HasTakenSpan table a m key way found span →
+    IsPlanned a.known m key way aim found (change span.len span.end (Grow position first last)) → (span.end < span.len) × (span.len ≤ length way)
+grow_within table a m key way found span aim position first last t planned =
+    let plan = grow_plan a.known m key way span.len span.end position first last aim found planned in
     let within = top_within table.layout a.known m key way found span t.possible t.own t.way_of t.locked t.checked position first last plan in
     let upto = plan.chain.upto in
     (omega (arith, upto, plan.len_is), omega (arith, within, plan.len_is))
 
 -- what was stored is the key's value, which was absent
-pub grown_stored : (a b c : Known) (m : ℕ) (key : Key) (value : ℕ) (way : List Step) (found : Found) (span : Span) (ask : Ask) (position first last leaf : ℕ) →
-    IsPlanned a m key way ask found (change span.len span.end (Grow position first last)) → StaysLocked a b → HasChanged b c (added_change b.pass (item leaf key value)) None → HasStored a c key value found
-grown_stored a b c m key value way found span ask position first last leaf planned stays changed =
-    let plan = grow_plan a m key way span.len span.end position first last ask found planned in
+pub grown_stored : (a b c : Known) (m : ℕ) (key : Key) (value : ℕ) (way : List Step) (found : Found) (span : Span) (aim : Aim) (position first last leaf : ℕ) →
+    IsPlanned a m key way aim found (change span.len span.end (Grow position first last)) → StaysLocked a b → HasChanged b c (added_change b.pass (item leaf key value)) None → HasStored a c key value found
+grown_stored a b c m key value way found span aim position first last leaf planned stays changed =
+    let plan = grow_plan a m key way span.len span.end position first last aim found planned in
     let x = added_change b.pass (item leaf key value) in (
       x,
       None,

@@ -67,8 +67,8 @@ use Rattle.rowex_writing.specs.Putting.{IsSpotAbove, leaf_found}
 use Rattle.rowex_writing.specs.Remaking.{IsTreePage}
 use Rattle.rowex_writing.specs.Retiring.{AreRecords, IsAnchored}
 use Rattle.rowex_reading.specs.Ways.{IsFoundAt, IsMismatch, IsWayNode, IsWayOf, end_of, named}
-use Rattle.rowex_writing.specs.declared.plan.Ask.{Ask}
-use Rattle.rowex_writing.specs.declared.plan.Ask.TheVariants.{Insert, Upsert, Remove}
+use Rattle.rowex_writing.specs.declared.plan.Aim.{Aim}
+use Rattle.rowex_writing.specs.declared.plan.Aim.TheVariants.{Insert, Upsert, Remove}
 use Rattle.rowex_writing.specs.declared.plan.Deed.{Deed}
 use Rattle.rowex_writing.specs.declared.plan.Deed.TheVariants.{Put, Pair}
 use Rattle.rowex_reading.specs.declared.descent.Found.{Found}
@@ -111,7 +111,7 @@ no_put : (way : List Step) (p first last len end : ℕ) → IsNewLeafPlan way p 
 no_put [] p first last len end e = cc
 no_put (s ∷ way) p first last len end (level, at, (chosen, is, case)) = no_put_case (s ∷ way) p chosen chosen.case len end case
 
-pub put_at : (way : List Step) (first last : ℕ) (ask : Ask) (found : Found) (len end : ℕ) → IsPlan way first last ask found (change len end Put) → IsPutAt way found len end
+pub put_at : (way : List Step) (first last : ℕ) (aim : Aim) (found : Found) (len end : ℕ) → IsPlan way first last aim found (change len end Put) → IsPutAt way found len end
 put_at way first last Insert Nothing len end e = same_span len end 0 0 Put Put e
 put_at way first last Upsert Nothing len end e = same_span len end 0 0 Put Put e
 put_at way first last Remove Nothing len end e = absurd cc
@@ -202,7 +202,7 @@ abbrev pub IsPairOf : List Step → Found → (first last len end q : ℕ) → T
 IsPairOf way (Leaf number value (Some p)) first last len end q = IsPairAt way p first last len end q
 IsPairOf way found first last len end q = ⊥
 
-pub pair_at : (way : List Step) (first last : ℕ) (ask : Ask) (found : Found) (len end q : ℕ) → IsPlan way first last ask found (change len end (Pair q)) → IsPairOf way found first last len end q
+pub pair_at : (way : List Step) (first last : ℕ) (aim : Aim) (found : Found) (len end q : ℕ) → IsPlan way first last aim found (change len end (Pair q)) → IsPairOf way found first last len end q
 pair_at way first last Insert Nothing len end q e = cc
 pair_at way first last Upsert Nothing len end q e = cc
 pair_at way first last Remove Nothing len end q e = cc
@@ -309,11 +309,11 @@ pub record IsPairHere (k : Known) (m : ℕ) (key : Key) (way : List Step) (found
   pub at : IsPairAt way q first last span.len span.end q
   pub affected : AreAffected k m key way found first last
 
-pub pair_here : (k : Known) (m : ℕ) (key : Key) (way : List Step) (ask : Ask) (found : Found) (span : Span) (q : ℕ) → IsPlanned k m key way ask found (change span.len span.end (Pair q)) → (n v : ℕ) (mismatch : Option ℕ) →
+pub pair_here : (k : Known) (m : ℕ) (key : Key) (way : List Step) (aim : Aim) (found : Found) (span : Span) (q : ℕ) → IsPlanned k m key way aim found (change span.len span.end (Pair q)) → (n v : ℕ) (mismatch : Option ℕ) →
     found ≡ Leaf n v mismatch → IsPairHere k m key way found span n q
-pair_here k m key way ask found span q (first, last, plan, affected) n v None is = absurd (pair_at way first last ask (Leaf n v None) span.len span.end q (subst (λ f. IsPlan way first last ask f (change span.len span.end (Pair q))) is plan))
-pair_here k m key way ask found span q (first, last, plan, affected) n v (Some p) is =
-    let at : IsPairAt way p first last span.len span.end q = pair_at way first last ask (Leaf n v (Some p)) span.len span.end q (subst (λ f. IsPlan way first last ask f (change span.len span.end (Pair q))) is plan) in
+pair_here k m key way aim found span q (first, last, plan, affected) n v None is = absurd (pair_at way first last aim (Leaf n v None) span.len span.end q (subst (λ f. IsPlan way first last aim f (change span.len span.end (Pair q))) is plan))
+pair_here k m key way aim found span q (first, last, plan, affected) n v (Some p) is =
+    let at : IsPairAt way p first last span.len span.end q = pair_at way first last aim (Leaf n v (Some p)) span.len span.end q (subst (λ f. IsPlan way first last aim f (change span.len span.end (Pair q))) is plan) in
     let same = pair_position way p first last span.len span.end q at in
     record {
       value = v;
@@ -324,16 +324,16 @@ pair_here k m key way ask found span q (first, last, plan, affected) n v (Some p
       affected = affected;
     }
 
-pub pair_none : (k : Known) (m : ℕ) (key : Key) (way : List Step) (ask : Ask) (found : Found) (span : Span) (q : ℕ) → IsPlanned k m key way ask found (change span.len span.end (Pair q)) → found ≡ Nothing → ⊥
-pair_none k m key way ask found span q (first, last, plan, affected) is = pair_at way first last ask Nothing span.len span.end q (subst (λ f. IsPlan way first last ask f (change span.len span.end (Pair q))) is plan)
+pub pair_none : (k : Known) (m : ℕ) (key : Key) (way : List Step) (aim : Aim) (found : Found) (span : Span) (q : ℕ) → IsPlanned k m key way aim found (change span.len span.end (Pair q)) → found ≡ Nothing → ⊥
+pair_none k m key way aim found span q (first, last, plan, affected) is = pair_at way first last aim Nothing span.len span.end q (subst (λ f. IsPlan way first last aim f (change span.len span.end (Pair q))) is plan)
 
 pub pair_len : (k : Known) (m : ℕ) (key : Key) (way : List Step) (found : Found) (span : Span) (n q : ℕ) → IsPairHere k m key way found span n q → (span.len ≡ span.end) × (span.end ≤ length way)
 pair_len k m key way found span n q here = let (a, b) = pair_spans_at way q here.first here.last span.len span.end q here.at in (a, omega arith)
 
-pub put_len : (k : Known) (m : ℕ) (key : Key) (way : List Step) (ask : Ask) (found : Found) (span : Span) → IsPlanned k m key way ask found (change span.len span.end Put) →
+pub put_len : (k : Known) (m : ℕ) (key : Key) (way : List Step) (aim : Aim) (found : Found) (span : Span) → IsPlanned k m key way aim found (change span.len span.end Put) →
     IsPutAt way found span.len span.end × (span.len ≡ span.end) × (span.end ≤ length way)
-put_len k m key way ask found span (first, last, plan, affected) =
-    let at = put_at way first last ask found span.len span.end plan in
+put_len k m key way aim found span (first, last, plan, affected) =
+    let at = put_at way first last aim found span.len span.end plan in
     let (a, b) = put_spans way found span.len span.end at in (at, a, b)
 
 -- ---- what goes

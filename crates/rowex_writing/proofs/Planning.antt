@@ -9,8 +9,8 @@ use Rattle.insert_cases.specs.declared.choice.Step.{Step}
 use Rattle.insert_cases.specs.Levels.{IsChosen}
 use Rattle.insert_cases.proofs.Choosing.{some_at}
 use Rattle.rowex_writing.specs.Plans.{change, LiesOnWay, IsCase, IsBeside, IsNewLeafPlan, IsPlan}
-use Rattle.rowex_writing.specs.declared.plan.Ask.{Ask}
-use Rattle.rowex_writing.specs.declared.plan.Ask.TheVariants.{Insert, Upsert, Remove}
+use Rattle.rowex_writing.specs.declared.plan.Aim.{Aim}
+use Rattle.rowex_writing.specs.declared.plan.Aim.TheVariants.{Insert, Upsert, Remove}
 use Rattle.rowex_writing.specs.declared.plan.Deed.{Deed}
 use Rattle.rowex_reading.specs.declared.descent.Found.{Found}
 use Rattle.rowex_reading.specs.declared.descent.Found.TheVariants.{Nothing, Leaf}
@@ -51,7 +51,7 @@ new_within : (way : List Step) (position first last : ℕ) (plan : Plan) → IsN
 new_within [] position first last plan is = changed [] _ _ _ plan (omega arith) (omega arith) is
 new_within (s ∷ ss) position first last plan is = beside_within (s ∷ ss) position is.0 first last plan is.1.within is.2
 
-pub plan_within : (way : List Step) (first last : ℕ) (ask : Ask) (found : Found) (plan : Plan) → IsPlan way first last ask found plan → LiesOnWay way plan
+pub plan_within : (way : List Step) (first last : ℕ) (aim : Aim) (found : Found) (plan : Plan) → IsPlan way first last aim found plan → LiesOnWay way plan
 plan_within way first last Insert Nothing plan is = changed way _ _ _ plan (omega arith) (omega arith) is
 plan_within way first last Upsert Nothing plan is = changed way _ _ _ plan (omega arith) (omega arith) is
 plan_within way first last Insert (Leaf n v (Some p)) plan is = new_within way p first last plan is

@@ -51,8 +51,8 @@ use Rattle.rowex_rights.proofs.Sure.{seen_is_sure, sure_stays}
 use Rattle.rowex_writing.specs.Building.{IsBuilding}
 use Rattle.rowex_writing.specs.Changes.{HasTakenSpan, IsPlanned, MayEnd}
 use Rattle.rowex_writing.specs.Plans.{change, IsCase, IsNewLeafPlan, IsPlan}
-use Rattle.rowex_writing.specs.declared.plan.Ask.{Ask}
-use Rattle.rowex_writing.specs.declared.plan.Ask.TheVariants.{Insert, Upsert, Remove}
+use Rattle.rowex_writing.specs.declared.plan.Aim.{Aim}
+use Rattle.rowex_writing.specs.declared.plan.Aim.TheVariants.{Insert, Upsert, Remove}
 use Rattle.rowex_writing.specs.declared.plan.Deed.TheVariants.{Grow, Pair, Put, Take}
 use Rattle.rowex_writing.specs.declared.plan.Plan.{Plan}
 use Rattle.rowex_writing.specs.declared.plan.Plan.TheVariants.{Answer, Change}
@@ -141,7 +141,7 @@ abbrev plan_end : Plan → ℕ
 plan_end (Answer reply) = 0
 plan_end (Change span deed) = span.end
 
-plan_takes : (way : List Step) (first last : ℕ) (ask : Ask) (found : Found) (len end : ℕ) → IsPlan way first last ask found (change len end Take) → IsTakeOf way found len end
+plan_takes : (way : List Step) (first last : ℕ) (aim : Aim) (found : Found) (len end : ℕ) → IsPlan way first last aim found (change len end Take) → IsTakeOf way found len end
 plan_takes way first last Insert Nothing len end is = absurd (no_take (change len end Take) _ is tt (λ z. z))
 plan_takes way first last Upsert Nothing len end is = absurd (no_take (change len end Take) _ is tt (λ z. z))
 plan_takes way first last Insert (Leaf n v (Some p)) len end is = absurd (new_takes way p first last (change len end Take) is tt)
@@ -152,10 +152,10 @@ plan_takes way first last Remove Nothing len end is = absurd (no_take (change le
 plan_takes way first last Remove (Leaf n v (Some p)) len end is = absurd (no_take (change len end Take) _ is tt (λ z. z))
 plan_takes way first last Remove (Leaf n v None) len end is = record { number = n; value = v; found_is = refl; len_is = ap len_of is; end_is = ap plan_end is }
 
-module _ (table : TableView) (a : SeatView) (m : ℕ) (key : Key) (way : List Step) (ask : Ask) (found : Found) (span : Span) (taken : HasTakenSpan table a m key way found span)
-    (planned : IsPlanned a.known m key way ask found (change span.len span.end Take)) (number value : ℕ) (mismatch : Option ℕ) (is_leaf : found ≡ Leaf number value mismatch) where
+module _ (table : TableView) (a : SeatView) (m : ℕ) (key : Key) (way : List Step) (aim : Aim) (found : Found) (span : Span) (taken : HasTakenSpan table a m key way found span)
+    (planned : IsPlanned a.known m key way aim found (change span.len span.end Take)) (number value : ℕ) (mismatch : Option ℕ) (is_leaf : found ≡ Leaf number value mismatch) where
   the_plan : IsTakeOf way found span.len span.end
-  the_plan = let (first, last, is, affected) = planned in plan_takes way first last ask found span.len span.end is
+  the_plan = let (first, last, is, affected) = planned in plan_takes way first last aim found span.len span.end is
 
   pub found_key : found ≡ Leaf number value None
   found_key =

@@ -1,11 +1,11 @@
 -- One attempt of a call that may change the map: what it answers, and why it is refused.
-use Rattle.std.specs.Prelude.{◌≡◌, ◌⊎◌, ℕ, ◌<◌, ◌≤◌, length, Option, Some, None}
+use Rattle.std.specs.Prelude.{◌≡◌, ◌≢◌, ◌⊎◌, ℕ, ◌<◌, ◌≤◌, length, Option, Some, None}
 use Rattle.hot_model.specs.declared.Call.{Call}
-use Rattle.hot_model.specs.declared.Call.TheVariants.{Insert as InsertCall, Upsert as UpsertCall, Remove as RemoveCall}
+use Rattle.hot_model.specs.declared.Call.TheVariants.{Insert as InsertCall, Upsert as UpsertCall, Exchange as ExchangeCall, Remove as RemoveCall, RemoveIf as RemoveIfCall}
 use Rattle.hot_model.specs.declared.Change.{Change}
 use Rattle.hot_model.specs.declared.Kind.TheVariants.{Added, Replaced, Removed as TakenAway}
 use Rattle.hot_model.specs.declared.Reply.{Reply}
-use Rattle.hot_model.specs.declared.Reply.TheVariants.{Inserted, Exists, New, Was, Absent, Removed}
+use Rattle.hot_model.specs.declared.Reply.TheVariants.{Inserted, Exists, New, Was, Exchanged, Differs, Absent, Removed}
 use Rattle.hot_model.specs.Fronts.{BeginsWith, OthersGoOn}
 use Rattle.record_words.specs.declared.layout.Layout.{Layout}
 use Rattle.tries.specs.Keys.{Key}
@@ -15,7 +15,7 @@ use Rattle.rowex_reading.specs.Seen.{Sure, since}
 use Rattle.rowex_writing.specs.Changes.{HasChanged, HasStored, HasTaken, IsFull}
 use Rattle.rowex_writing.specs.Locks.{HasMetLock}
 use Rattle.rowex_writing.specs.declared.plan.Ask.{Ask}
-use Rattle.rowex_writing.specs.declared.plan.Ask.TheVariants.{Insert, Upsert, Remove}
+use Rattle.rowex_writing.specs.declared.plan.Ask.TheVariants.{Insert, Upsert, Exchange, Remove, RemoveIf}
 use Rattle.rowex_writing.specs.declared.plan.Deed.{Deed}
 use Rattle.rowex_writing.specs.declared.plan.Deed.TheVariants.{Take}
 use Rattle.rowex_reading.specs.declared.descent.Found.{Found}
@@ -28,7 +28,9 @@ use Rattle.rowex_writing.specs.declared.attempts.TryFault.TheVariants.{Busy, Ful
 abbrev pub call_of : Ask → Key → ℕ → Call
 call_of Insert key value = InsertCall key value
 call_of Upsert key value = UpsertCall key value
+call_of (Exchange expected) key value = ExchangeCall key expected value
 call_of Remove key value = RemoveCall key
+call_of (RemoveIf expected) key value = RemoveIfCall key expected
 
 -- the last load of the root was since k, and its front begins with that of k
 pub record HasLoadedRoot (k j : Known) : Type 0 where
@@ -40,7 +42,11 @@ pub record HasLoadedRoot (k j : Known) : Type 0 where
 -- what a call found that changed nothing, at a moment since its last load of the root
 abbrev pub HasLooked : Known → Ask → Key → Reply → Type 0
 HasLooked j Insert key (Exists held) = Sure j (λ past. IsHeldSince past (since j) key held)
+HasLooked j (Exchange expected) key (Differs held) = Sure j (λ past. IsHeldSince past (since j) key held) × (held ≢ expected)
+HasLooked j (Exchange expected) key Absent = Sure j (λ past. IsMissed past (since j) key)
 HasLooked j Remove key Absent = Sure j (λ past. IsMissed past (since j) key)
+HasLooked j (RemoveIf expected) key (Differs held) = Sure j (λ past. IsHeldSince past (since j) key held) × (held ≢ expected)
+HasLooked j (RemoveIf expected) key Absent = Sure j (λ past. IsMissed past (since j) key)
 HasLooked j ask key reply = ⊥
 
 -- the change that a call made with this reply, where its key had this value before, or none
@@ -48,7 +54,9 @@ abbrev pub IsChangeOf : ℕ → Ask → Key → ℕ → Reply → Change → Opt
 IsChangeOf q Insert key value Inserted x was = (x ≡ record { pass = q; key = key; value = value; kind = Added }) × (was ≡ None)
 IsChangeOf q Upsert key value New x was = (x ≡ record { pass = q; key = key; value = value; kind = Added }) × (was ≡ None)
 IsChangeOf q Upsert key value (Was held) x was = (x ≡ record { pass = q; key = key; value = value; kind = Replaced }) × (was ≡ Some held)
+IsChangeOf q (Exchange expected) key value Exchanged x was = (x ≡ record { pass = q; key = key; value = value; kind = Replaced }) × (was ≡ Some expected)
 IsChangeOf q Remove key value (Removed held) x was = (x ≡ record { pass = q; key = key; value = held; kind = TakenAway }) × (was ≡ Some held)
+IsChangeOf q (RemoveIf expected) key value (Removed held) x was = (x ≡ record { pass = q; key = key; value = held; kind = TakenAway }) × (was ≡ Some held) × (held ≡ expected)
 IsChangeOf q ask key value reply x was = ⊥
 
 -- the reply of a call that has made its change
@@ -56,8 +64,10 @@ abbrev pub reply_to : Ask → Found → Reply
 reply_to Insert found = Inserted
 reply_to Upsert (Leaf number held None) = Was held
 reply_to Upsert found = New
+reply_to (Exchange expected) found = Exchanged
 reply_to Remove (Leaf number held mismatch) = Removed held
 reply_to Remove Nothing = Absent
+reply_to (RemoveIf expected) found = Removed expected
 
 -- what is done at the lower end of a span has been done: the key has the value, or it is absent
 abbrev pub HasDone : Known → Known → Deed → Key → ℕ → Found → Type 0

@@ -36,7 +36,7 @@ use Rattle.rowex_writing.specs.Locks.{HasLockedSpan, TriesLocksOnce, targets_of}
 use Rattle.rowex_writing.specs.Plans.{change, IsPlan}
 use Rattle.rowex_writing.specs.Remaking.{AffectsJust}
 use Rattle.rowex_reading.specs.Ways.{IsWayOf, named}
-use Rattle.rowex_writing.specs.declared.plan.Ask.{Ask}
+use Rattle.rowex_writing.specs.declared.plan.Aim.{Aim}
 use Rattle.rowex_writing.specs.declared.plan.Deed.{Deed}
 use Rattle.rowex_reading.specs.declared.descent.Found.{Found}
 use Rattle.rowex_reading.specs.declared.descent.Found.TheVariants.{Leaf}
@@ -69,8 +69,8 @@ AreAffected k m key way (Leaf number value (Some p)) first last = (level : ℕ) 
 AreAffected k m key way found first last = Unit {0}
 
 -- what the call does, by its way
-abbrev pub IsPlanned : Known → ℕ → Key → List Step → Ask → Found → Plan → Type 0
-IsPlanned k m key way ask found plan = (first : ℕ) × (last : ℕ) × IsPlan way first last ask found plan × AreAffected k m key way found first last
+abbrev pub IsPlanned : Known → ℕ → Key → List Step → Aim → Found → Plan → Type 0
+IsPlanned k m key way aim found plan = (first : ℕ) × (last : ℕ) × IsPlan way first last aim found plan × AreAffected k m key way found first last
 
 -- ---- under the locks
 -- Each node that is locked for the span, and the root under the anchor's lock, names on the key's way what the search has found.
@@ -91,7 +91,7 @@ pub record HasTakenSpan (table : TableView) (a : SeatView) (m : ℕ) (key : Key)
 -- the pass has taken the span of what is planned, with this deed at its lower end
 abbrev pub HasTakenPlan : TableView → SeatView → Key → List Step → Found → Span → Deed → Type 0
 HasTakenPlan table a key way found span deed =
-    (m : ℕ) × (ask : Ask) × HasTakenSpan table a m key way found span × IsPlanned a.known m key way ask found (change span.len span.end deed)
+    (m : ℕ) × (aim : Aim) × HasTakenSpan table a m key way found span × IsPlanned a.known m key way aim found (change span.len span.end deed)
 
 -- ---- the store
 -- Once the records that it has made are ready, the pass may publish the change by a store of the word at the spot.

@@ -1,4 +1,5 @@
 -- The definitions of the crate.
+pub mod Asking
 pub mod Plans
 pub mod Remaking
 pub mod Going

@@ -6,8 +6,8 @@ use Rattle.insert_cases.specs.declared.choice.Case.TheVariants.{LeafPushdown, No
 use Rattle.insert_cases.specs.declared.choice.Choice.{Choice}
 use Rattle.insert_cases.specs.declared.choice.Step.{Step}
 use Rattle.insert_cases.specs.Levels.{IsLevel, IsChosen, IsChainEnd}
-use Rattle.rowex_writing.specs.declared.plan.Ask.{Ask}
-use Rattle.rowex_writing.specs.declared.plan.Ask.TheVariants.{Insert, Upsert, Remove}
+use Rattle.rowex_writing.specs.declared.plan.Aim.{Aim}
+use Rattle.rowex_writing.specs.declared.plan.Aim.TheVariants.{Insert, Upsert, Remove}
 use Rattle.rowex_writing.specs.declared.plan.Deed.{Deed}
 use Rattle.rowex_writing.specs.declared.plan.Deed.TheVariants.{Put, Pair, Grow, Take}
 use Rattle.rowex_reading.specs.declared.descent.Found.{Found}
@@ -39,7 +39,7 @@ IsNewLeafPlan (step ∷ way) position first last plan = (level : ℕ) × IsLevel
 
 -- ---- all calls
 -- Of a call on this way, where a new leaf affects the entries from first to last at its level.
-abbrev pub IsPlan : List Step → (first last : ℕ) → Ask → Found → Plan → Type 0
+abbrev pub IsPlan : List Step → (first last : ℕ) → Aim → Found → Plan → Type 0
 -- the first key
 IsPlan way first last Insert Nothing plan = plan ≡ change 0 0 Put
 IsPlan way first last Upsert Nothing plan = plan ≡ change 0 0 Put
@@ -66,10 +66,10 @@ abbrev pub DiffersAt : Found → ℕ → Type 0
 DiffersAt found position = (number : ℕ) × (value : ℕ) × (found ≡ Leaf number value (Some position))
 
 -- the plan, whichever they are; or the level at which they tell it, for a position at which the found leaf's key differs
-abbrev pub IsOutline : List Step → Ask → Found → Outline → Type 0
-IsOutline way ask found (Known plan) = (first last : ℕ) → IsPlan way first last ask found plan
-IsOutline way ask found (Beside position level) = DiffersAt found position × IsLevel way position level ×
-    ((first last : ℕ) (plan : Plan) → IsBeside way position level first last plan → IsPlan way first last ask found plan)
+abbrev pub IsOutline : List Step → Aim → Found → Outline → Type 0
+IsOutline way aim found (Known plan) = (first last : ℕ) → IsPlan way first last aim found plan
+IsOutline way aim found (Beside position level) = DiffersAt found position × IsLevel way position level ×
+    ((first last : ℕ) (plan : Plan) → IsBeside way position level first last plan → IsPlan way first last aim found plan)
 
 -- the nodes of a plan's span are those of a part of the way
 abbrev pub LiesOnWay : List Step → Plan → Type 0

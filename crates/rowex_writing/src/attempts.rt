@@ -1,6 +1,6 @@
 //! One attempt of a call that may change the index, from a pinned pass that has nothing to one that has nothing.
 
-ghost use Rattle.std.specs.Prelude.{◌≡◌, ◌≢◌, ◌⊎◌, ◌<◌, ◌≤◌, ℕ, length, true, false, IfErr, IfOk, IsSome, Err, Ok, ◌+◌, ◌*◌};
+ghost use Rattle.std.specs.Prelude.{◌≡◌, ◌≢◌, ◌⊎◌, ◌<◌, ◌≤◌, ℕ, length, true, false, IfErr, IfOk, IsSome, Err, None, Ok, ◌+◌, ◌*◌};
 ghost use Rattle.rowex_core.specs.declared.known.Known.{Known};
 ghost use Rattle.rowex_reading.specs.Lookups.{HasFound};
 ghost use Rattle.rowex_reading.specs.Possible.{IsPossible};
@@ -8,12 +8,14 @@ ghost use Rattle.rowex_reading.specs.Seen.{since};
 ghost use Rattle.rowex_rights.specs.Ending.{IsAtRest};
 ghost use Rattle.rowex_table.specs.Made.{IsLater};
 ghost use Rattle.rowex_table.specs.Seats.{IsSeatOf};
+ghost use Rattle.rowex_writing.specs.Asking.{aim_of as the_aim, declined as the_answer};
 ghost use Rattle.rowex_writing.specs.Attempts.{HasAnswered, HasDone, HasLoadedRoot, HasRefused, reply_to as the_reply};
 ghost use Rattle.rowex_writing.specs.Changes.{HasNoRoom, HasRun, HasTakenPlan, HasTakenSpan, HasTriedOnce};
 ghost use Rattle.rowex_writing.specs.Locks.{HasMetLock};
 ghost use Rattle.rowex_reading.specs.Ways.{IsWayOf, value_of};
 ghost use Rattle.rowex_writing.specs.Counts.{attempt_steps, change_steps};
 
+use crate::asking::{aim_of, declined};
 use crate::building::Build;
 use crate::checking::check_span;
 use crate::ending::undo;
@@ -21,7 +23,7 @@ use crate::finding::find_plan;
 use crate::growing::grow_node;
 use crate::locks::lock_span;
 use crate::pairing::pair_leaf;
-use crate::plan::{Ask, Deed, Full, Plan, Span};
+use crate::plan::{Aim, Ask, Deed, Full, Plan, Span};
 use crate::putting::put_leaf;
 use crate::taking::take_leaf;
 use arrayvec::ArrayVec;
@@ -68,10 +70,13 @@ pub fn attempt<G: Gate>(
     ensures rest { IsAtRest seat.new.known }
     ensures answered { IfOk result (HasAnswered seat.old.known seat.new.known ask key.now value) }
     ensures refused { IfErr result (HasRefused table.now.layout key.now seat.old.known seat.new.known) }
-    ensures leafless { ask ≡ Ask.Remove → result ≢ Err TryFault.FullLeaves }
+    ensures leafless { the_aim ask ≡ Aim.Remove → result ≢ Err TryFault.FullLeaves }
     ensures few { seat.new.known.steps ≤ seat.old.known.steps + attempt_steps table.now.layout }
 {
     let found = search_way(table, seat, gate, key, way);
+    if let Some(reply) = declined(ask, found) {
+        return Ok(reply);
+    }
     act_on(
         table,
         seat,
@@ -85,7 +90,8 @@ pub fn attempt<G: Gate>(
     )
 }
 
-/// Does what is to be done by the way of the search: answers, or makes the change.
+/// Does what is to be done by the way of the search, where the key has the value that the call expects, if it expects one: answers,
+/// or makes the change.
 fn act_on<G: Gate>(
     table: &HotTable,
     seat: &mut TableSeat,
@@ -101,16 +107,17 @@ fn act_on<G: Gate>(
     requires possible { IsPossible table.now.layout seat.old.known }
     requires way { IsWayOf table.now.layout seat.old.known (since seat.old.known) key.now way.now found }
     requires found { HasFound seat.old.known key.now (value_of found) }
+    requires met { the_answer ask found ≡ None }
     requires rest { IsAtRest seat.old.known }
     ensures run { HasTriedOnce table.now G.becomes (seat.old, gate.old) (seat.new, gate.new) }
     ensures rest { IsAtRest seat.new.known }
     ensures answered { IfOk result (λ reply. (k : Known) → IsLater k seat.old.known → HasAnswered k seat.new.known ask key.now value reply) }
     ensures refused { IfErr result (λ fault. (k : Known) → HasLoadedRoot k seat.old.known → IsLater k seat.old.known →
         HasRefused table.now.layout key.now k seat.new.known fault) }
-    ensures leafless { ask ≡ Ask.Remove → result ≢ Err TryFault.FullLeaves }
+    ensures leafless { the_aim ask ≡ Aim.Remove → result ≢ Err TryFault.FullLeaves }
     ensures few { seat.new.known.steps ≤ seat.old.known.steps + 9000 + change_steps table.now.layout }
 {
-    match find_plan(table, seat, gate, key, way, ask, found) {
+    match find_plan(table, seat, gate, key, way, aim_of(ask), found) {
         Plan::Answer(reply) => Ok(reply),
         Plan::Change { span, deed } => {
             if !take_span(table, seat, gate, key, way, found, span) {
@@ -211,9 +218,11 @@ fn reply_to(ask: Ask, found: Found) -> Reply
             } => Reply::Was(value),
             _ => Reply::New,
         },
+        Ask::Exchange(_) => Reply::Exchanged,
         Ask::Remove => match found {
             Found::Leaf { value, .. } => Reply::Removed(value),
             Found::Nothing => Reply::Absent,
         },
+        Ask::RemoveIf(expected) => Reply::Removed(expected),
     }
 }

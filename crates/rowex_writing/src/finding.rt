@@ -9,7 +9,7 @@ ghost use Rattle.rowex_reading.specs.Ways.{IsWayOf};
 ghost use Rattle.rowex_writing.specs.Plans.{LiesOnWay};
 ghost use Rattle.record_words.specs.declared.TheConstants.{HEAD_WORDS};
 
-use crate::plan::{Ask, Outline, Plan, plan_beside, plan_call};
+use crate::plan::{Aim, Outline, Plan, plan_beside, plan_call};
 use insert_cases::Step;
 use key_bits::Key;
 use rowex_core::Gate;
@@ -24,7 +24,7 @@ pub fn find_plan<G: Gate>(
     gate: &mut G,
     _key: &Key,
     way: &[Step],
-    ask: Ask,
+    aim: Aim,
     found: Found,
 ) -> Plan
     requires own { IsSeatOf table.now seat.old }
@@ -32,11 +32,11 @@ pub fn find_plan<G: Gate>(
     requires way { (m : ℕ) × IsWayOf table.now.layout seat.old.known m _key.now way.now found }
     ensures reads { ReadsSome table.now G.becomes (seat.old, gate.old) (seat.new, gate.new) }
     ensures possible { IsPossible table.now.layout seat.new.known }
-    ensures planned { (m : ℕ) → IsWayOf table.now.layout seat.old.known m _key.now way.now found → IsPlanned seat.new.known m _key.now way.now ask found result }
+    ensures planned { (m : ℕ) → IsWayOf table.now.layout seat.old.known m _key.now way.now found → IsPlanned seat.new.known m _key.now way.now aim found result }
     ensures within { LiesOnWay way.now result }
     ensures few { seat.new.known.steps ≤ seat.old.known.steps + HEAD_WORDS }
 {
-    match plan_call(way, ask, found) {
+    match plan_call(way, aim, found) {
         Outline::Known(plan) => plan,
         Outline::Beside { position, level } => {
             let step = way[level];

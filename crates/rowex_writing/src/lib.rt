@@ -1,6 +1,7 @@
 //! The writers of a shared trie: what a call does to the index, and what it builds for that.
 #![tactic(auto)]
 
+mod asking;
 mod attempts;
 mod building;
 mod checking;
@@ -19,6 +20,7 @@ mod supply;
 mod taking;
 mod walking;
 
+pub use asking::{aim_of, declined};
 pub use attempts::{TryFault, attempt};
 pub use building::{Build, MOST_GONE, MOST_MADE, raise_grown, raise_pair, raise_without};
 pub use checking::check_span;
@@ -28,7 +30,7 @@ pub use growing::grow_node;
 pub use locked::read_locked;
 pub use locks::{lock_span, unlock_nodes};
 pub use pairing::pair_leaf;
-pub use plan::{Ask, Deed, Full, Outline, Plan, Span, plan_beside, plan_call};
+pub use plan::{Aim, Ask, Deed, Full, Outline, Plan, Span, plan_beside, plan_call};
 pub use publishing::{make_leaf, publish_change};
 pub use putting::put_leaf;
 pub use supply::{MOST_SPARE, Supply};

@@ -16,6 +16,21 @@ pub enum Ask {
     Insert,
     /// The key with the value, whatever it had.
     Upsert,
+    /// The key with the value, if it has this one.
+    Exchange(u64),
+    /// The key's end.
+    Remove,
+    /// The key's end, if it has this value.
+    RemoveIf(u64),
+}
+
+/// What a call aims at, once its key is known to have the value that it expects, if it expects one.
+#[derive(Clone, Copy)]
+pub enum Aim {
+    /// The key with the value, if it is absent.
+    Insert,
+    /// The key with the value, whatever it had.
+    Upsert,
     /// The key's end.
     Remove,
 }
@@ -72,29 +87,29 @@ pub enum Outline {
 }
 
 /// What a call does that found this at the end of its way, as far as that tells it.
-pub fn plan_call(way: &[Step], ask: Ask, found: Found) -> Outline
-    ensures { IsOutline way.now ask found result }
+pub fn plan_call(way: &[Step], aim: Aim, found: Found) -> Outline
+    ensures { IsOutline way.now aim found result }
 {
     match found {
-        Found::Nothing => match ask {
-            Ask::Remove => Outline::Known(Plan::Answer(Reply::Absent)),
+        Found::Nothing => match aim {
+            Aim::Remove => Outline::Known(Plan::Answer(Reply::Absent)),
             _ => Outline::Known(change(0, 0, Deed::Put)),
         },
         Found::Leaf {
             mismatch: Some(position),
             ..
-        } => match ask {
-            Ask::Remove => Outline::Known(Plan::Answer(Reply::Absent)),
+        } => match aim {
+            Aim::Remove => Outline::Known(Plan::Answer(Reply::Absent)),
             _ => beside(way, position),
         },
         Found::Leaf {
             value,
             mismatch: None,
             ..
-        } => match ask {
-            Ask::Insert => Outline::Known(Plan::Answer(Reply::Exists(value))),
-            Ask::Upsert => Outline::Known(change(way.len(), way.len(), Deed::Put)),
-            Ask::Remove => {
+        } => match aim {
+            Aim::Insert => Outline::Known(Plan::Answer(Reply::Exists(value))),
+            Aim::Upsert => Outline::Known(change(way.len(), way.len(), Deed::Put)),
+            Aim::Remove => {
                 let end = way.len().saturating_sub(1);
                 Outline::Known(change(way.len(), end, Deed::Take))
             }

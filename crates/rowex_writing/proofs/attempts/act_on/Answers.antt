@@ -1,11 +1,12 @@
 -- What follows from the plan: an answer, a refusal, or the change.
 use Rattle.std.proofs.Common.{Err, ap, subst, ◌∙◌, arith}
+use Rattle.rowex_writing.specs.Asking.{aim_of}
 use Rattle.rowex_writing.specs.Plans.{LiesOnWay}
 use Rattle.rowex_writing.specs.Changes.{HasNoRoom, IsPlanned}
 use Rattle.rowex_reading.proofs.Led.{reads_later, reads_same, same_since}
 use Rattle.rowex_reading.proofs.Seeing.{later_trans}
 use Rattle.rowex_reading.specs.Seen.{since}
-use Rattle.rowex_writing.proofs.Attempting.{answered_change, answered_look, found_later, loaded_reads, looked, planned_later, refused_busy, refused_leaves, refused_nodes, removal_takes, rest_reads}
+use Rattle.rowex_writing.proofs.Attempting.{answered_change, answered_look, found_later, loaded_reads, looked, planned_as, planned_later, refused_busy, refused_leaves, refused_nodes, removal_takes, rest_reads}
 use Rattle.rowex_writing.proofs.Onward.{reads_run}
 use Rattle.rowex_writing.proofs.Runs.{none_once, once_run, run_loaded, run_once}
 use Rattle.rowex_reading.proofs.Ways.{way_later}
@@ -32,9 +33,10 @@ returns-in-Answer-clause-rest g c = rest_reads c.args.table.now g.G.Gate.becomes
 pub returns-in-Answer-clause-answered : goal.returns-in-Answer-clause-answered
 returns-in-Answer-clause-answered g c k later =
     let on = reads_later c.find_plan.ensures.reads.1 in
-    let planned = c.find_plan.ensures.planned (since c.args.seat.now.known) c.requires.way in
+    let planned = planned_as c.find_plan.new.seat.known (since c.args.seat.now.known) c.args.key.now c.args.way.now c.aim_of.result (aim_of c.args.ask) c.args.found c.find_plan.result c.aim_of.ensures
+    (c.find_plan.ensures.planned (since c.args.seat.now.known) c.requires.way) in
     let found = found_later _ _ _ _ on (same_since c.find_plan.ensures.reads.1) c.requires.found in
-    answered_look k _ _ _ _ _ (later_trans later on) (looked _ _ _ _ _ _ _ _ (subst (IsPlanned _ _ _ _ _ _) c.in-Answer.is planned) found)
+    answered_look k _ _ _ _ _ (later_trans later on) (looked _ _ _ _ _ _ _ _ c.requires.met (subst (IsPlanned _ _ _ _ _ _) c.in-Answer.is planned) found)
 
 pub returns-then-not-take_span-clause-run : goal.returns-then-not-take_span-clause-run
 returns-then-not-take_span-clause-run g c =
@@ -51,11 +53,12 @@ pub make_change-requires : goal.make_change-requires
 make_change-requires g c =
     let r = c.find_plan.ensures.reads.1 in
     let way = way_later _ _ _ _ _ _ _ (reads_later r) c.requires.way in
-    let planned = c.find_plan.ensures.planned (since c.args.seat.now.known) c.requires.way in
+    let planned = planned_as c.find_plan.new.seat.known (since c.args.seat.now.known) c.args.key.now c.args.way.now c.aim_of.result (aim_of c.args.ask) c.args.found c.find_plan.result c.aim_of.ensures
+    (c.find_plan.ensures.planned (since c.args.seat.now.known) c.requires.way) in
     record {
       taken = (
         since c.args.seat.now.known,
-        c.args.ask,
+        aim_of c.args.ask,
         c.take_span.ensures.taken c.if-not-take_span.false (since c.args.seat.now.known) way,
         planned_later _ _ _ _ _ _ _ _ c.take_span.ensures.later (subst (IsPlanned _ _ _ _ _ _) c.in-Change.is planned),
       );
@@ -68,8 +71,9 @@ returns-in-Ok-clause-run g c =
 
 pub returns-in-Ok-clause-answered : goal.returns-in-Ok-clause-answered
 returns-in-Ok-clause-answered g c k later =
-    let planned = c.find_plan.ensures.planned (since c.args.seat.now.known) c.requires.way in
-    rw c.reply_to.ensures (answered_change k _ _ _ _ _ _ _ _ _ _ _ (later_trans (later_trans later (reads_later c.find_plan.ensures.reads.1)) c.take_span.ensures.later)
+    let planned = planned_as c.find_plan.new.seat.known (since c.args.seat.now.known) c.args.key.now c.args.way.now c.aim_of.result (aim_of c.args.ask) c.args.found c.find_plan.result c.aim_of.ensures
+    (c.find_plan.ensures.planned (since c.args.seat.now.known) c.requires.way) in
+    rw c.reply_to.ensures (answered_change k _ _ _ _ _ _ _ _ _ _ _ (later_trans (later_trans later (reads_later c.find_plan.ensures.reads.1)) c.take_span.ensures.later) c.requires.met
     (subst (IsPlanned _ _ _ _ _ _) c.in-Change.is planned) (c.make_change.ensures.done c.in-Ok.is))
 
 pub returns-in-Err-Nodes-clause-run : goal.returns-in-Err-Nodes-clause-run
@@ -96,8 +100,9 @@ returns-in-Err-Leaves-clause-refused g c k loaded later =
 
 pub returns-in-Err-Leaves-clause-leafless : goal.returns-in-Err-Leaves-clause-leafless
 returns-in-Err-Leaves-clause-leafless g c e =
-    let planned = c.find_plan.ensures.planned (since c.args.seat.now.known) c.requires.way in
-    let take = removal_takes c.find_plan.new.seat.known (since c.args.seat.now.known) c.args.key.now c.args.way.now c.args.ask c.args.found c.find_plan.result c.in-Change.span c.in-Change.deed
+    let planned = planned_as c.find_plan.new.seat.known (since c.args.seat.now.known) c.args.key.now c.args.way.now c.aim_of.result (aim_of c.args.ask) c.args.found c.find_plan.result c.aim_of.ensures
+    (c.find_plan.ensures.planned (since c.args.seat.now.known) c.requires.way) in
+    let take = removal_takes c.find_plan.new.seat.known (since c.args.seat.now.known) c.args.key.now c.args.way.now (aim_of c.args.ask) c.args.found c.find_plan.result c.in-Change.span c.in-Change.deed
     e c.in-Change.is planned in
     absurd (c.make_change.ensures.leafless take (c.in-Err-Leaves.is ∙ ap Err c.in-Err-Leaves.field-0-is))
 

@@ -1,10 +1,10 @@
 -- The search, and what follows from it.
-use Rattle.std.proofs.Common.{subst, sym, arith}
+use Rattle.std.proofs.Common.{subst, sym, ◌∙◌, arith}
 use Rattle.std.proofs.lemmas.Result.{IfErr-weaker, IfOk-weaker}
 use Rattle.rowex_reading.specs.Seen.{since}
 use Rattle.rowex_reading.specs.Ways.{IsWayOf}
-use Rattle.rowex_writing.proofs.Attempting.{searched}
-use Rattle.rowex_writing.proofs.Runs.{run_loaded, run_once}
+use Rattle.rowex_writing.proofs.Attempting.{answered_look, declined_looked, searched}
+use Rattle.rowex_writing.proofs.Runs.{none_once, run_loaded, run_once}
 use Rattle.rowex_reading.proofs.Counting.{looks_count}
 use Rattle.rowex_writing.proofs.attempts.attempt.Goals as goal
 
@@ -44,3 +44,27 @@ returns-clause-few g c =
     let s = c.search_way-found.ensures.searched in
     let looked = looks_count c.args.table.now g.G.Gate.becomes s.loaded (c.args.seat.now, c.args.gate.now) (c.search_way-found.new.seat, c.search_way-found.new.gate) s.looks in
     omega (arith, looked, s.few, s.low, c.act_on.ensures.few)
+
+-- ---- answered at once
+pub returns-in-Some-clause-run : goal.returns-in-Some-clause-run
+returns-in-Some-clause-run g c =
+    let b = searched c.args.table.now g.G.Gate.becomes _ _ c.search_way-found.ensures.searched c.search_way-found.ensures.possible c.requires.own c.requires.rest in
+    none_once c.args.table.now g.G.Gate.becomes _ _ b.run
+
+pub returns-in-Some-clause-loaded : goal.returns-in-Some-clause-loaded
+returns-in-Some-clause-loaded g c = (searched c.args.table.now g.G.Gate.becomes _ _ c.search_way-found.ensures.searched c.search_way-found.ensures.possible c.requires.own c.requires.rest).loaded
+
+pub returns-in-Some-clause-rest : goal.returns-in-Some-clause-rest
+returns-in-Some-clause-rest g c = (searched c.args.table.now g.G.Gate.becomes _ _ c.search_way-found.ensures.searched c.search_way-found.ensures.possible c.requires.own c.requires.rest).rest
+
+pub returns-in-Some-clause-answered : goal.returns-in-Some-clause-answered
+returns-in-Some-clause-answered g c =
+    let b = searched c.args.table.now g.G.Gate.becomes _ _ c.search_way-found.ensures.searched c.search_way-found.ensures.possible c.requires.own c.requires.rest in
+    answered_look c.args.seat.now.known c.search_way-found.new.seat.known c.args.ask c.args.key.now c.args.value c.in-Some.reply b.later
+    (declined_looked c.search_way-found.new.seat.known c.args.ask c.args.key.now c.search_way-found.result c.in-Some.reply (sym c.declined.ensures ∙ c.in-Some.is) c.search_way-found.ensures.found)
+
+pub returns-in-Some-clause-few : goal.returns-in-Some-clause-few
+returns-in-Some-clause-few g c =
+    let s = c.search_way-found.ensures.searched in
+    let looked = looks_count c.args.table.now g.G.Gate.becomes s.loaded (c.args.seat.now, c.args.gate.now) (c.search_way-found.new.seat, c.search_way-found.new.gate) s.looks in
+    omega (arith, looked, s.few, s.low)

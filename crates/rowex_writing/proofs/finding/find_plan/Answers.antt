@@ -28,10 +28,10 @@ affected-first-requires g c =
     row_below c.load_head-head.result c.args._key.now node.forks _ e.lawful node.at same
 
 pub returns-in-Known-clause-planned : goal.returns-in-Known-clause-planned
-returns-in-Known-clause-planned g c = λ m w. known_planned c.args.table.now.layout c.args.seat.now.known c.args.seat.now.known m c.args._key.now c.args.way.now c.args.ask c.args.found c.in-Known.plan c.in-Known.ensures w
+returns-in-Known-clause-planned g c = λ m w. known_planned c.args.table.now.layout c.args.seat.now.known c.args.seat.now.known m c.args._key.now c.args.way.now c.args.aim c.args.found c.in-Known.plan c.in-Known.ensures w
 
 pub returns-in-Known-clause-within : goal.returns-in-Known-clause-within
-returns-in-Known-clause-within g c = plan_within c.args.way.now 0 0 c.args.ask c.args.found c.in-Known.plan (c.in-Known.ensures 0 0)
+returns-in-Known-clause-within g c = plan_within c.args.way.now 0 0 c.args.aim c.args.found c.in-Known.plan (c.in-Known.ensures 0 0)
 
 pub returns-in-Beside-clause-possible : goal.returns-in-Beside-clause-possible
 returns-in-Beside-clause-possible g c = (reader_then (c.requires.own, c.requires.possible) c.load_head-head.ensures.reads).1
@@ -44,7 +44,7 @@ returns-in-Beside-clause-planned g c = λ m w.
     let head = c.load_head-head.result in
     let node = (w.nodes c.in-Beside.level _ at).2 in
     let affected = c.affected-first.ensures in
-    beside_planned c.args.table.now.layout c.args.seat.now.known c.load_head-head.new.seat.known m c.args._key.now c.args.way.now c.args.ask c.args.found c.plan_beside.result c.in-Beside.position _ _ c.in-Beside.level _ head
+    beside_planned c.args.table.now.layout c.args.seat.now.known c.load_head-head.new.seat.known m c.args._key.now c.args.way.now c.args.aim c.args.found c.plan_beside.result c.in-Beside.position _ _ c.in-Beside.level _ head
     c.in-Beside.ensures.0 (reader_then (c.requires.own, c.requires.possible) e.reads).1 (reads_later e.reads) w level at (e.head m _ (w.since, node.seen)).1
     (affected.from (node_of head (leaves (length head.rows))) e.lawful refl) (affected.upto (node_of head (leaves (length head.rows))) e.lawful refl)
     (c.in-Beside.ensures.2 _ _ c.plan_beside.result c.plan_beside.ensures)

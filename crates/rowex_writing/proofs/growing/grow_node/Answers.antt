@@ -9,16 +9,16 @@ use Rattle.rowex_writing.proofs.growing.grow_node.Goals as goal
 
 pub offset_bounds-way-saturating_sub : goal.offset_bounds-way-saturating_sub
 offset_bounds-way-saturating_sub g c =
-    let (m, ask, t, planned) = c.requires.taken in
-    let h = grow_within c.args.table.now c.args.seat.now m c.args.key.now c.args.way.now c.args.found c.args.span ask c.args.position c.args.first c.args.last t planned in
+    let (m, aim, t, planned) = c.requires.taken in
+    let h = grow_within c.args.table.now c.args.seat.now m c.args.key.now c.args.way.now c.args.found c.args.span aim c.args.position c.args.first c.args.last t planned in
     let low : c.args.span.end < c.args.span.len = h.0 in
     let high : c.args.span.len ≤ length c.args.way.now = h.1 in
     search (rules, low, high)
 
 pub slice_bounds-locked-end : goal.slice_bounds-locked-end
 slice_bounds-locked-end g c =
-    let (m, ask, t, planned) = c.requires.taken in
-    let h = grow_within c.args.table.now c.args.seat.now m c.args.key.now c.args.way.now c.args.found c.args.span ask c.args.position c.args.first c.args.last t planned in
+    let (m, aim, t, planned) = c.requires.taken in
+    let h = grow_within c.args.table.now c.args.seat.now m c.args.key.now c.args.way.now c.args.found c.args.span aim c.args.position c.args.first c.args.last t planned in
     let high : c.args.span.len ≤ length c.args.way.now = h.1 in
     search (rules, high)
 
@@ -42,11 +42,11 @@ returns-in_default-clause-full g c =
 
 pub grow_with-requires : goal.grow_with-requires
 grow_with-requires g c =
-    let (m, ask, t, planned) = c.requires.taken in
+    let (m, aim, t, planned) = c.requires.taken in
     record {
       may = (
         c.args.value,
-        may_grow c.args.table.now c.args.seat.now c.make_leaf.new.seat c.make_leaf.new.build.made.items m c.args.key.now c.args.value c.args.way.now c.args.found c.args.span ask c.args.position c.args.first c.args.last c.in-Some.leaf t planned
+        may_grow c.args.table.now c.args.seat.now c.make_leaf.new.seat c.make_leaf.new.build.made.items m c.args.key.now c.args.value c.args.way.now c.args.found c.args.span aim c.args.position c.args.first c.args.last c.in-Some.leaf t planned
             c.in-Some.ensures.goes.stays c.in-Some.ensures.made c.in-Some.ensures.leaf,
       );
     }
@@ -59,10 +59,10 @@ returns-clause-run g c =
 
 pub returns-clause-stored : goal.returns-clause-stored
 returns-clause-stored g c = λ ok.
-    let (m, ask, t, planned) = c.requires.taken in
-    grown_stored c.args.seat.now.known c.make_leaf.new.seat.known c.grow_with.new.seat.known m c.args.key.now c.args.value c.args.way.now c.args.found c.args.span ask c.args.position c.args.first c.args.last c.in-Some.leaf planned c.in-Some.ensures.goes.stays
+    let (m, aim, t, planned) = c.requires.taken in
+    grown_stored c.args.seat.now.known c.make_leaf.new.seat.known c.grow_with.new.seat.known m c.args.key.now c.args.value c.args.way.now c.args.found c.args.span aim c.args.position c.args.first c.args.last c.in-Some.leaf planned c.in-Some.ensures.goes.stays
     (c.grow_with.ensures.stored ok c.args.value
-    (may_grow c.args.table.now c.args.seat.now c.make_leaf.new.seat c.make_leaf.new.build.made.items m c.args.key.now c.args.value c.args.way.now c.args.found c.args.span ask c.args.position c.args.first c.args.last c.in-Some.leaf t planned
+    (may_grow c.args.table.now c.args.seat.now c.make_leaf.new.seat c.make_leaf.new.build.made.items m c.args.key.now c.args.value c.args.way.now c.args.found c.args.span aim c.args.position c.args.first c.args.last c.in-Some.leaf t planned
     c.in-Some.ensures.goes.stays c.in-Some.ensures.made c.in-Some.ensures.leaf))
 
 pub returns-clause-full : goal.returns-clause-full
@@ -73,8 +73,8 @@ returns-clause-full g c =
 
 pub returns-in_default-clause-few : goal.returns-in_default-clause-few
 returns-in_default-clause-few g c =
-    let (m, ask, t, planned) = c.requires.taken in
-    let h = grow_within c.args.table.now c.args.seat.now m c.args.key.now c.args.way.now c.args.found c.args.span ask c.args.position c.args.first c.args.last t planned in
+    let (m, aim, t, planned) = c.requires.taken in
+    let h = grow_within c.args.table.now c.args.seat.now m c.args.key.now c.args.way.now c.args.found c.args.span aim c.args.position c.args.first c.args.last t planned in
     omega (arith, c.make_leaf.ensures.few, c.undo.ensures.few, slice_few c.args.way.now c.saturating_sub.result c.args.span.len, t.way_of.depth, h.1)
 
 pub returns-clause-few : goal.returns-clause-few

@@ -30,27 +30,27 @@ use Rattle.tries.specs.Content.{item}
 
 pub node_above-above-requires : goal.node_above-above-requires
 node_above-above-requires g c =
-    let (m, ask, t, planned) = c.requires.taken in
-    let here = pair_here c.args.seat.now.known m c.args.key.now c.args.way.now ask c.args.found c.args.span c.args.position planned c.in-Leaf.old _ _ c.in-Leaf.is in
+    let (m, aim, t, planned) = c.requires.taken in
+    let here = pair_here c.args.seat.now.known m c.args.key.now c.args.way.now aim c.args.found c.args.span c.args.position planned c.in-Leaf.old _ _ c.in-Leaf.is in
     let (same, upto) = pair_len c.args.seat.now.known m c.args.key.now c.args.way.now c.args.found c.args.span c.in-Leaf.old c.args.position here in
     upto
 
 pub undo-requires-clause-own : goal.undo-requires-clause-own
 undo-requires-clause-own g c =
-    let (m, ask, t, planned) = c.requires.taken in
+    let (m, aim, t, planned) = c.requires.taken in
     seat_of c.args.table.now g.G.Gate.becomes (c.args.seat.now, c.args.gate.now) (c.make_leaf.new.seat, c.make_leaf.new.gate) c.make_leaf.ensures.goes t.seat
 
 pub undo-requires-clause-nodes : goal.undo-requires-clause-nodes
 undo-requires-clause-nodes g c =
-    let (m, ask, t, planned) = c.requires.taken in
-    let here = pair_here c.args.seat.now.known m c.args.key.now c.args.way.now ask c.args.found c.args.span c.args.position planned c.in-Leaf.old _ _ c.in-Leaf.is in
+    let (m, aim, t, planned) = c.requires.taken in
+    let here = pair_here c.args.seat.now.known m c.args.key.now c.args.way.now aim c.args.found c.args.span c.args.position planned c.in-Leaf.old _ _ c.in-Leaf.is in
     let (same, upto) = pair_len c.args.seat.now.known m c.args.key.now c.args.way.now c.args.found c.args.span c.in-Leaf.old c.args.position here in
     subst (AreNodes c.args.table.now.layout) (sym c.node_above-above.ensures) (above_nodes c.args.table.now c.args.seat.now m c.args.key.now c.args.way.now c.args.found c.args.span t same)
 
 pub undo-requires-clause-locked : goal.undo-requires-clause-locked
 undo-requires-clause-locked g c =
-    let (m, ask, t, planned) = c.requires.taken in
-    let here = pair_here c.args.seat.now.known m c.args.key.now c.args.way.now ask c.args.found c.args.span c.args.position planned c.in-Leaf.old _ _ c.in-Leaf.is in
+    let (m, aim, t, planned) = c.requires.taken in
+    let here = pair_here c.args.seat.now.known m c.args.key.now c.args.way.now aim c.args.found c.args.span c.args.position planned c.in-Leaf.old _ _ c.in-Leaf.is in
     let (same, upto) = pair_len c.args.seat.now.known m c.args.key.now c.args.way.now c.args.found c.args.span c.in-Leaf.old c.args.position here in
     subst (λ z. HasJustLocked c.make_leaf.new.seat.known (numbers_of z)) (sym c.node_above-above.ensures) (above_locked c.args.table.now c.args.seat.now m c.args.key.now c.args.way.now c.args.found c.args.span t same c.make_leaf.new.seat.known c.make_leaf.ensures.goes.stays.1)
 
@@ -70,15 +70,15 @@ returns-in_default-make_leaf-clause-full g c =
 
 pub raise_pair-requires-clause-tree : goal.raise_pair-requires-clause-tree
 raise_pair-requires-clause-tree g c =
-    let (m, ask, t, planned) = c.requires.taken in
-    let here = pair_here c.args.seat.now.known m c.args.key.now c.args.way.now ask c.args.found c.args.span c.args.position planned c.in-Leaf.old _ _ c.in-Leaf.is in
+    let (m, aim, t, planned) = c.requires.taken in
+    let here = pair_here c.args.seat.now.known m c.args.key.now c.args.way.now aim c.args.found c.args.span c.args.position planned c.in-Leaf.old _ _ c.in-Leaf.is in
     let (same, upto) = pair_len c.args.seat.now.known m c.args.key.now c.args.way.now c.args.found c.args.span c.in-Leaf.old c.args.position here in
     let l = leaf_at c.args.table.now c.args.seat.now m c.args.key.now c.args.way.now c.args.found c.args.span t same c.in-Leaf.old here.value (Some c.args.position) here.is_found in
     pair_tree c.in-Leaf.old c.in-Some.leaf here.value c.args.key.now l.0 c.args.position t.way_of.is_key (found_is_key c.args.table.now c.args.seat.now m c.args.key.now c.args.way.now c.args.found c.args.span t same c.in-Leaf.old here.value (Some c.args.position) here.is_found) l.2.0 l.2.1
 
 pub undo-requires-in_default-raise_pair-clause-own : goal.undo-requires-in_default-raise_pair-clause-own
 undo-requires-in_default-raise_pair-clause-own g c =
-    let (m, ask, t, planned) = c.requires.taken in
+    let (m, aim, t, planned) = c.requires.taken in
     let goes = goes_more c.args.table.now g.G.Gate.becomes (c.args.seat.now, c.args.gate.now) (c.make_leaf.new.seat, c.make_leaf.new.gate) (c.raise_pair.new.seat, c.raise_pair.new.gate) c.make_leaf.ensures.goes c.raise_pair.ensures.goes in
     seat_of c.args.table.now g.G.Gate.becomes (c.args.seat.now, c.args.gate.now) (c.raise_pair.new.seat, c.raise_pair.new.gate) goes t.seat
 
@@ -89,8 +89,8 @@ undo-requires-in_default-raise_pair-clause-records g c =
 
 pub undo-requires-in_default-raise_pair-clause-nodes : goal.undo-requires-in_default-raise_pair-clause-nodes
 undo-requires-in_default-raise_pair-clause-nodes g c =
-    let (m, ask, t, planned) = c.requires.taken in
-    let here = pair_here c.args.seat.now.known m c.args.key.now c.args.way.now ask c.args.found c.args.span c.args.position planned c.in-Leaf.old _ _ c.in-Leaf.is in
+    let (m, aim, t, planned) = c.requires.taken in
+    let here = pair_here c.args.seat.now.known m c.args.key.now c.args.way.now aim c.args.found c.args.span c.args.position planned c.in-Leaf.old _ _ c.in-Leaf.is in
     let (same, upto) = pair_len c.args.seat.now.known m c.args.key.now c.args.way.now c.args.found c.args.span c.in-Leaf.old c.args.position here in
     subst (AreNodes c.args.table.now.layout) (sym c.node_above-above.ensures) (above_nodes c.args.table.now c.args.seat.now m c.args.key.now c.args.way.now c.args.found c.args.span t same)
 
@@ -101,16 +101,16 @@ undo-requires-in_default-raise_pair-clause-held g c =
 
 pub undo-requires-in_default-raise_pair-clause-locked : goal.undo-requires-in_default-raise_pair-clause-locked
 undo-requires-in_default-raise_pair-clause-locked g c =
-    let (m, ask, t, planned) = c.requires.taken in
-    let here = pair_here c.args.seat.now.known m c.args.key.now c.args.way.now ask c.args.found c.args.span c.args.position planned c.in-Leaf.old _ _ c.in-Leaf.is in
+    let (m, aim, t, planned) = c.requires.taken in
+    let here = pair_here c.args.seat.now.known m c.args.key.now c.args.way.now aim c.args.found c.args.span c.args.position planned c.in-Leaf.old _ _ c.in-Leaf.is in
     let (same, upto) = pair_len c.args.seat.now.known m c.args.key.now c.args.way.now c.args.found c.args.span c.in-Leaf.old c.args.position here in
     let goes = goes_more c.args.table.now g.G.Gate.becomes (c.args.seat.now, c.args.gate.now) (c.make_leaf.new.seat, c.make_leaf.new.gate) (c.raise_pair.new.seat, c.raise_pair.new.gate) c.make_leaf.ensures.goes c.raise_pair.ensures.goes in
     subst (λ z. HasJustLocked c.raise_pair.new.seat.known (numbers_of z)) (sym c.node_above-above.ensures) (above_locked c.args.table.now c.args.seat.now m c.args.key.now c.args.way.now c.args.found c.args.span t same c.raise_pair.new.seat.known goes.stays.1)
 
 pub undo-requires-in_default-raise_pair-clause-anchored : goal.undo-requires-in_default-raise_pair-clause-anchored
 undo-requires-in_default-raise_pair-clause-anchored g c =
-    let (m, ask, t, planned) = c.requires.taken in
-    let here = pair_here c.args.seat.now.known m c.args.key.now c.args.way.now ask c.args.found c.args.span c.args.position planned c.in-Leaf.old _ _ c.in-Leaf.is in
+    let (m, aim, t, planned) = c.requires.taken in
+    let here = pair_here c.args.seat.now.known m c.args.key.now c.args.way.now aim c.args.found c.args.span c.args.position planned c.in-Leaf.old _ _ c.in-Leaf.is in
     let (same, upto) = pair_len c.args.seat.now.known m c.args.key.now c.args.way.now c.args.found c.args.span c.in-Leaf.old c.args.position here in
     let goes = goes_more c.args.table.now g.G.Gate.becomes (c.args.seat.now, c.args.gate.now) (c.make_leaf.new.seat, c.make_leaf.new.gate) (c.raise_pair.new.seat, c.raise_pair.new.gate) c.make_leaf.ensures.goes c.raise_pair.ensures.goes in
     above_anchor c.args.table.now c.args.seat.now m c.args.key.now c.args.way.now c.args.found c.args.span t same c.raise_pair.new.seat.known goes.stays.2
@@ -135,28 +135,28 @@ returns-in_default-raise_pair-clause-full g c =
 
 pub spot_above-spot-requires : goal.spot_above-spot-requires
 spot_above-spot-requires g c =
-    let (m, ask, t, planned) = c.requires.taken in
-    let here = pair_here c.args.seat.now.known m c.args.key.now c.args.way.now ask c.args.found c.args.span c.args.position planned c.in-Leaf.old _ _ c.in-Leaf.is in
+    let (m, aim, t, planned) = c.requires.taken in
+    let here = pair_here c.args.seat.now.known m c.args.key.now c.args.way.now aim c.args.found c.args.span c.args.position planned c.in-Leaf.old _ _ c.in-Leaf.is in
     let (same, upto) = pair_len c.args.seat.now.known m c.args.key.now c.args.way.now c.args.found c.args.span c.in-Leaf.old c.args.position here in
     upto
 
 pub publish_change-requires-clause-own : goal.publish_change-requires-clause-own
 publish_change-requires-clause-own g c =
-    let (m, ask, t, planned) = c.requires.taken in
+    let (m, aim, t, planned) = c.requires.taken in
     let goes = goes_more c.args.table.now g.G.Gate.becomes (c.args.seat.now, c.args.gate.now) (c.make_leaf.new.seat, c.make_leaf.new.gate) (c.raise_pair.new.seat, c.raise_pair.new.gate) c.make_leaf.ensures.goes c.raise_pair.ensures.goes in
     seat_of c.args.table.now g.G.Gate.becomes (c.args.seat.now, c.args.gate.now) (c.raise_pair.new.seat, c.raise_pair.new.gate) goes t.seat
 
 pub publish_change-requires-clause-range : goal.publish_change-requires-clause-range
 publish_change-requires-clause-range g c =
-    let (m, ask, t, planned) = c.requires.taken in
-    let here = pair_here c.args.seat.now.known m c.args.key.now c.args.way.now ask c.args.found c.args.span c.args.position planned c.in-Leaf.old _ _ c.in-Leaf.is in
+    let (m, aim, t, planned) = c.requires.taken in
+    let here = pair_here c.args.seat.now.known m c.args.key.now c.args.way.now aim c.args.found c.args.span c.args.position planned c.in-Leaf.old _ _ c.in-Leaf.is in
     let (same, upto) = pair_len c.args.seat.now.known m c.args.key.now c.args.way.now c.args.found c.args.span c.in-Leaf.old c.args.position here in
     spot_there c.args.table.now c.args.seat.now m c.args.key.now c.args.way.now c.args.found c.args.span t same c.spot_above-spot.result upto c.spot_above-spot.ensures
 
 pub publish_change-requires-clause-may : goal.publish_change-requires-clause-may
 publish_change-requires-clause-may g c =
-    let (m, ask, t, planned) = c.requires.taken in
-    let here = pair_here c.args.seat.now.known m c.args.key.now c.args.way.now ask c.args.found c.args.span c.args.position planned c.in-Leaf.old _ _ c.in-Leaf.is in
+    let (m, aim, t, planned) = c.requires.taken in
+    let here = pair_here c.args.seat.now.known m c.args.key.now c.args.way.now aim c.args.found c.args.span c.args.position planned c.in-Leaf.old _ _ c.in-Leaf.is in
     let (same, upto) = pair_len c.args.seat.now.known m c.args.key.now c.args.way.now c.args.found c.args.span c.in-Leaf.old c.args.position here in
     let goes = goes_more c.args.table.now g.G.Gate.becomes (c.args.seat.now, c.args.gate.now) (c.make_leaf.new.seat, c.make_leaf.new.gate) (c.raise_pair.new.seat, c.raise_pair.new.gate) c.make_leaf.ensures.goes c.raise_pair.ensures.goes in
     let (more, side, building) = c.in-Some-raise_pair.ensures.made (of_leaf (item c.in-Some.leaf c.args.key.now c.args.value) ∷ []) c.in-Some.ensures.made in
@@ -170,15 +170,15 @@ publish_change-requires-clause-may g c =
 
 pub publish_change-requires-clause-nodes : goal.publish_change-requires-clause-nodes
 publish_change-requires-clause-nodes g c =
-    let (m, ask, t, planned) = c.requires.taken in
-    let here = pair_here c.args.seat.now.known m c.args.key.now c.args.way.now ask c.args.found c.args.span c.args.position planned c.in-Leaf.old _ _ c.in-Leaf.is in
+    let (m, aim, t, planned) = c.requires.taken in
+    let here = pair_here c.args.seat.now.known m c.args.key.now c.args.way.now aim c.args.found c.args.span c.args.position planned c.in-Leaf.old _ _ c.in-Leaf.is in
     let (same, upto) = pair_len c.args.seat.now.known m c.args.key.now c.args.way.now c.args.found c.args.span c.in-Leaf.old c.args.position here in
     subst (AreNodes c.args.table.now.layout) (sym c.node_above-above.ensures) (above_nodes c.args.table.now c.args.seat.now m c.args.key.now c.args.way.now c.args.found c.args.span t same)
 
 pub publish_change-requires-clause-kept : goal.publish_change-requires-clause-kept
 publish_change-requires-clause-kept g c =
-    let (m, ask, t, planned) = c.requires.taken in
-    let here = pair_here c.args.seat.now.known m c.args.key.now c.args.way.now ask c.args.found c.args.span c.args.position planned c.in-Leaf.old _ _ c.in-Leaf.is in
+    let (m, aim, t, planned) = c.requires.taken in
+    let here = pair_here c.args.seat.now.known m c.args.key.now c.args.way.now aim c.args.found c.args.span c.args.position planned c.in-Leaf.old _ _ c.in-Leaf.is in
     let (same, upto) = pair_len c.args.seat.now.known m c.args.key.now c.args.way.now c.args.found c.args.span c.in-Leaf.old c.args.position here in
     let goes = goes_more c.args.table.now g.G.Gate.becomes (c.args.seat.now, c.args.gate.now) (c.make_leaf.new.seat, c.make_leaf.new.gate) (c.raise_pair.new.seat, c.raise_pair.new.gate) c.make_leaf.ensures.goes c.raise_pair.ensures.goes in
     let k = c.raise_pair.new.seat.known in
@@ -187,8 +187,8 @@ publish_change-requires-clause-kept g c =
 
 pub publish_change-requires-clause-anchored : goal.publish_change-requires-clause-anchored
 publish_change-requires-clause-anchored g c =
-    let (m, ask, t, planned) = c.requires.taken in
-    let here = pair_here c.args.seat.now.known m c.args.key.now c.args.way.now ask c.args.found c.args.span c.args.position planned c.in-Leaf.old _ _ c.in-Leaf.is in
+    let (m, aim, t, planned) = c.requires.taken in
+    let here = pair_here c.args.seat.now.known m c.args.key.now c.args.way.now aim c.args.found c.args.span c.args.position planned c.in-Leaf.old _ _ c.in-Leaf.is in
     let (same, upto) = pair_len c.args.seat.now.known m c.args.key.now c.args.way.now c.args.found c.args.span c.in-Leaf.old c.args.position here in
     let goes = goes_more c.args.table.now g.G.Gate.becomes (c.args.seat.now, c.args.gate.now) (c.make_leaf.new.seat, c.make_leaf.new.gate) (c.raise_pair.new.seat, c.raise_pair.new.gate) c.make_leaf.ensures.goes c.raise_pair.ensures.goes in
     above_anchor c.args.table.now c.args.seat.now m c.args.key.now c.args.way.now c.args.found c.args.span t same c.raise_pair.new.seat.known goes.stays.2
@@ -200,8 +200,8 @@ returns-clause-run g c =
 
 pub returns-clause-stored : goal.returns-clause-stored
 returns-clause-stored g c is =
-    let (m, ask, t, planned) = c.requires.taken in
-    let here = pair_here c.args.seat.now.known m c.args.key.now c.args.way.now ask c.args.found c.args.span c.args.position planned c.in-Leaf.old _ _ c.in-Leaf.is in
+    let (m, aim, t, planned) = c.requires.taken in
+    let here = pair_here c.args.seat.now.known m c.args.key.now c.args.way.now aim c.args.found c.args.span c.args.position planned c.in-Leaf.old _ _ c.in-Leaf.is in
     let (same, upto) = pair_len c.args.seat.now.known m c.args.key.now c.args.way.now c.args.found c.args.span c.in-Leaf.old c.args.position here in
     let goes = goes_more c.args.table.now g.G.Gate.becomes (c.args.seat.now, c.args.gate.now) (c.make_leaf.new.seat, c.make_leaf.new.gate) (c.raise_pair.new.seat, c.raise_pair.new.gate) c.make_leaf.ensures.goes c.raise_pair.ensures.goes in
     let (more, side, building) = c.in-Some-raise_pair.ensures.made (of_leaf (item c.in-Some.leaf c.args.key.now c.args.value) ∷ []) c.in-Some.ensures.made in

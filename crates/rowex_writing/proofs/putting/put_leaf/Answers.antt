@@ -19,19 +19,19 @@ use Rattle.rowex_writing.proofs.putting.put_leaf.Goals as goal
 
 pub undo-requires-clause-own : goal.undo-requires-clause-own
 undo-requires-clause-own g c =
-    let (m, ask, t, planned) = c.requires.taken in
+    let (m, aim, t, planned) = c.requires.taken in
     seat_of c.args.table.now g.G.Gate.becomes (c.args.seat.now, c.args.gate.now) (c.make_leaf.new.seat, c.make_leaf.new.gate) c.make_leaf.ensures.goes t.seat
 
 pub undo-requires-clause-nodes : goal.undo-requires-clause-nodes
 undo-requires-clause-nodes g c =
-    let (m, ask, t, planned) = c.requires.taken in
-    let (at, same, upto) = put_len c.args.seat.now.known m c.args.key.now c.args.way.now ask c.args.found c.args.span planned in
+    let (m, aim, t, planned) = c.requires.taken in
+    let (at, same, upto) = put_len c.args.seat.now.known m c.args.key.now c.args.way.now aim c.args.found c.args.span planned in
     subst (AreNodes c.args.table.now.layout) (sym c.node_above-above.ensures) (above_nodes c.args.table.now c.args.seat.now m c.args.key.now c.args.way.now c.args.found c.args.span t same)
 
 pub undo-requires-clause-locked : goal.undo-requires-clause-locked
 undo-requires-clause-locked g c =
-    let (m, ask, t, planned) = c.requires.taken in
-    let (at, same, upto) = put_len c.args.seat.now.known m c.args.key.now c.args.way.now ask c.args.found c.args.span planned in
+    let (m, aim, t, planned) = c.requires.taken in
+    let (at, same, upto) = put_len c.args.seat.now.known m c.args.key.now c.args.way.now aim c.args.found c.args.span planned in
     subst (λ z. HasJustLocked c.make_leaf.new.seat.known (numbers_of z)) (sym c.node_above-above.ensures)
     (above_locked c.args.table.now c.args.seat.now m c.args.key.now c.args.way.now c.args.found c.args.span t same c.make_leaf.new.seat.known c.make_leaf.ensures.goes.stays.1)
 
@@ -53,19 +53,19 @@ returns-in_default-clause-full g c =
 
 pub publish_change-requires-clause-own : goal.publish_change-requires-clause-own
 publish_change-requires-clause-own g c =
-    let (m, ask, t, planned) = c.requires.taken in
+    let (m, aim, t, planned) = c.requires.taken in
     seat_of c.args.table.now g.G.Gate.becomes (c.args.seat.now, c.args.gate.now) (c.make_leaf.new.seat, c.make_leaf.new.gate) c.make_leaf.ensures.goes t.seat
 
 pub publish_change-requires-clause-range : goal.publish_change-requires-clause-range
 publish_change-requires-clause-range g c =
-    let (m, ask, t, planned) = c.requires.taken in
-    let (at, same, upto) = put_len c.args.seat.now.known m c.args.key.now c.args.way.now ask c.args.found c.args.span planned in
+    let (m, aim, t, planned) = c.requires.taken in
+    let (at, same, upto) = put_len c.args.seat.now.known m c.args.key.now c.args.way.now aim c.args.found c.args.span planned in
     spot_there c.args.table.now c.args.seat.now m c.args.key.now c.args.way.now c.args.found c.args.span t same c.spot_above-spot.result upto c.spot_above-spot.ensures
 
 pub publish_change-requires-clause-may : goal.publish_change-requires-clause-may
 publish_change-requires-clause-may g c =
-    let (m, ask, t, planned) = c.requires.taken in
-    let (at, same, upto) = put_len c.args.seat.now.known m c.args.key.now c.args.way.now ask c.args.found c.args.span planned in
+    let (m, aim, t, planned) = c.requires.taken in
+    let (at, same, upto) = put_len c.args.seat.now.known m c.args.key.now c.args.way.now aim c.args.found c.args.span planned in
     let goes = c.make_leaf.ensures.goes in
     let (x, was, stored, may) = put_may c.args.table.now c.args.seat.now m c.args.key.now c.args.way.now c.args.found c.args.span t same c.make_leaf.new.seat c.make_leaf.new.build.made.items c.in-Some.number c.args.value
     goes.stays.0 goes.stays.1 goes.stays.2 c.make_leaf.ensures.leaf c.in-Some.ensures.made at c.spot_above-spot.result c.spot_above-spot.ensures in (
@@ -77,20 +77,20 @@ publish_change-requires-clause-may g c =
 
 pub publish_change-requires-clause-records : goal.publish_change-requires-clause-records
 publish_change-requires-clause-records g c =
-    let (m, ask, t, planned) = c.requires.taken in
-    let (at, same, upto) = put_len c.args.seat.now.known m c.args.key.now c.args.way.now ask c.args.found c.args.span planned in
+    let (m, aim, t, planned) = c.requires.taken in
+    let (at, same, upto) = put_len c.args.seat.now.known m c.args.key.now c.args.way.now aim c.args.found c.args.span planned in
     subst (AreRecords c.args.table.now.layout) (sym c.name_gone.ensures.gone) (found_records c.args.table.now c.args.seat.now m c.args.key.now c.args.way.now c.args.found c.args.span t same)
 
 pub publish_change-requires-clause-nodes : goal.publish_change-requires-clause-nodes
 publish_change-requires-clause-nodes g c =
-    let (m, ask, t, planned) = c.requires.taken in
-    let (at, same, upto) = put_len c.args.seat.now.known m c.args.key.now c.args.way.now ask c.args.found c.args.span planned in
+    let (m, aim, t, planned) = c.requires.taken in
+    let (at, same, upto) = put_len c.args.seat.now.known m c.args.key.now c.args.way.now aim c.args.found c.args.span planned in
     subst (AreNodes c.args.table.now.layout) (sym c.node_above-above.ensures) (above_nodes c.args.table.now c.args.seat.now m c.args.key.now c.args.way.now c.args.found c.args.span t same)
 
 pub publish_change-requires-clause-kept : goal.publish_change-requires-clause-kept
 publish_change-requires-clause-kept g c =
-    let (m, ask, t, planned) = c.requires.taken in
-    let (at, same, upto) = put_len c.args.seat.now.known m c.args.key.now c.args.way.now ask c.args.found c.args.span planned in
+    let (m, aim, t, planned) = c.requires.taken in
+    let (at, same, upto) = put_len c.args.seat.now.known m c.args.key.now c.args.way.now aim c.args.found c.args.span planned in
     let k = c.make_leaf.new.seat.known in
     subst (λ z. AreKept (nodes_of k.locks) z (numbers_of c.node_above-above.result.now) × AreApart (numbers_of c.node_above-above.result.now)) (sym c.name_gone.ensures.gone)
     (all_kept k (numbers_of c.node_above-above.result.now) _ (found_kept c.args.found)
@@ -103,8 +103,8 @@ returns-clause-run g c =
 
 pub returns-clause-stored : goal.returns-clause-stored
 returns-clause-stored g c is =
-    let (m, ask, t, planned) = c.requires.taken in
-    let (at, same, upto) = put_len c.args.seat.now.known m c.args.key.now c.args.way.now ask c.args.found c.args.span planned in
+    let (m, aim, t, planned) = c.requires.taken in
+    let (at, same, upto) = put_len c.args.seat.now.known m c.args.key.now c.args.way.now aim c.args.found c.args.span planned in
     let goes = c.make_leaf.ensures.goes in
     let (x, was, stored, may) = put_may c.args.table.now c.args.seat.now m c.args.key.now c.args.way.now c.args.found c.args.span t same c.make_leaf.new.seat c.make_leaf.new.build.made.items c.in-Some.number c.args.value
     goes.stays.0 goes.stays.1 goes.stays.2 c.make_leaf.ensures.leaf c.in-Some.ensures.made at c.spot_above-spot.result c.spot_above-spot.ensures in (
