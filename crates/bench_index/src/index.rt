@@ -49,10 +49,14 @@ impl OrderedMap for Guest<'_> {
             Change::Remove => index.remove(rt, pass, &pair.key),
         };
         match answer {
-            Ok(Reply::Exists(had) | Reply::Was(had) | Reply::Removed(had) | Reply::Value(had)) => {
-                Ok(Some(had))
-            }
-            Ok(Reply::Inserted | Reply::New | Reply::Absent) => Ok(None),
+            Ok(
+                Reply::Exists(had)
+                | Reply::Was(had)
+                | Reply::Differs(had)
+                | Reply::Removed(had)
+                | Reply::Value(had),
+            ) => Ok(Some(had)),
+            Ok(Reply::Inserted | Reply::New | Reply::Exchanged | Reply::Absent) => Ok(None),
             Err(_) => Err(io::Error::from(ErrorKind::StorageFull)),
         }
     }

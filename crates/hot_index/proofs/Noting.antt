@@ -9,7 +9,7 @@ use Rattle.hot_model.specs.declared.Call.TheVariants.{Get}
 use Rattle.hot_model.specs.declared.Change.{Change}
 use Rattle.hot_model.specs.declared.Note.{Note}
 use Rattle.hot_model.specs.declared.Reply.{Reply}
-use Rattle.hot_model.specs.declared.Reply.TheVariants.{Inserted, Exists, New, Was, Value, Absent, Removed}
+use Rattle.hot_model.specs.declared.Reply.TheVariants.{Inserted, Exists, New, Was, Exchanged, Differs, Value, Absent, Removed}
 use Rattle.hot_model.specs.Maps.{Map, value_at, step_where, reply_of}
 use Rattle.hot_model.specs.Fronts.{map_of, BeginsWith, LegalFront, OthersGoOn}
 use Rattle.hot_model.specs.Calls.{is_change, LegalCalls}
@@ -55,6 +55,8 @@ reply_is Inserted Inserted e = refl
 reply_is (Exists v) (Exists w) e = ap Exists (is_same v w e)
 reply_is New New e = refl
 reply_is (Was v) (Was w) e = ap Was (is_same v w e)
+reply_is Exchanged Exchanged e = refl
+reply_is (Differs v) (Differs w) e = ap Differs (is_same v w e)
 reply_is (Value v) (Value w) e = ap Value (is_same v w e)
 reply_is Absent Absent e = refl
 reply_is (Removed v) (Removed w) e = ap Removed (is_same v w e)
@@ -65,6 +67,8 @@ itself Inserted = refl
 itself (Exists v) = eq-eqb v v refl
 itself New = refl
 itself (Was v) = eq-eqb v v refl
+itself Exchanged = refl
+itself (Differs v) = eq-eqb v v refl
 itself (Value v) = eq-eqb v v refl
 itself Absent = refl
 itself (Removed v) = eq-eqb v v refl

@@ -1,16 +1,17 @@
 -- What an attempt to change the map leaves: it is noted where it was answered, and has changed nothing where it was refused.
 use Rattle.std.proofs.Common.{◌≡◌, ◌⊎◌, inl, inr, ℕ, ◌+◌, ◌-◌, ◌≤◌, List, [], ◌∷◌, ◌++◌, length, take, true, false, Option, Some, None, IsSome, Result, Ok, Err, refl, sym, ap, subst, ◌∙◌, arith, le_trans, length-append}
 use Rattle.std.specs.Prelude.{All, Contains, IfOk, IfErr, MatchResult, is_some}
+use Rattle.std.proofs.lemmas.Bool.{eq-eqb, ne_eqb}
 use Rattle.std.proofs.lemmas.List.Elements.{All-head, All-tail}
 use Rattle.hot_model.specs.declared.Call.{Call}
-use Rattle.hot_model.specs.declared.Call.TheVariants.{Insert as InsertCall, Upsert as UpsertCall, Remove as RemoveCall}
+use Rattle.hot_model.specs.declared.Call.TheVariants.{Insert as InsertCall, Upsert as UpsertCall, Exchange as ExchangeCall, Remove as RemoveCall, RemoveIf as RemoveIfCall}
 use Rattle.hot_model.specs.declared.Change.{Change}
 use Rattle.hot_model.specs.declared.Note.{Note}
 use Rattle.hot_model.specs.declared.Reply.{Reply}
-use Rattle.hot_model.specs.declared.Reply.TheVariants.{Inserted, Exists, New, Was, Absent, Removed}
+use Rattle.hot_model.specs.declared.Reply.TheVariants.{Inserted, Exists, New, Was, Exchanged, Differs, Absent, Removed}
 use Rattle.hot_model.specs.Calls.{LegalCalls, change_of, effect_of}
 use Rattle.hot_model.specs.Fronts.{BeginsWith, LegalFront, OthersGoOn, map_of}
-use Rattle.hot_model.specs.Maps.{Map, key_of, reply_of, step_where, value_at}
+use Rattle.hot_model.specs.Maps.{Map, key_of, reply_of, step_if, step_where, value_at, with_value, without}
 use Rattle.hot_model.proofs.Growth.{begins_on, legal_front_part}
 use Rattle.hot_model.proofs.Legal.{legal_change, legal_longer}
 use Rattle.record_words.specs.declared.layout.Layout.{Layout}
@@ -38,7 +39,7 @@ use Rattle.rowex_writing.specs.Attempts.{HasAnswered, HasLoadedRoot, HasRefused,
 use Rattle.rowex_writing.specs.Changes.{HasChanged, HasTried}
 use Rattle.rowex_writing.specs.declared.plan.Ask.{Ask}
 use Rattle.rowex_writing.specs.declared.plan.Full.{Full}
-use Rattle.rowex_writing.specs.declared.plan.Ask.TheVariants.{Insert, Upsert, Remove}
+use Rattle.rowex_writing.specs.declared.plan.Ask.TheVariants.{Insert, Upsert, Exchange, Remove, RemoveIf}
 use Rattle.rowex_writing.specs.declared.attempts.TryFault.{TryFault}
 use Rattle.rowex_writing.specs.declared.attempts.TryFault.TheVariants.{Busy, FullNodes, FullLeaves}
 use Rattle.epochs.specs.Rounds.{IsRound}
@@ -60,6 +61,18 @@ looked_right : (j : Known) (ask : Ask) (key : Key) (value : ℕ) (reply : Reply)
     WasRight j (call_of ask key value) reply
 looked_right j Insert key value (Exists held) h c l r =
     let f = found_had j key (Some held) h c l r in (f.0, f.1, f.2, ap (λ z. (step_where z (map_of (take f.0 j.front)) (InsertCall key value)).1) f.3)
+looked_right j (Exchange e) key value (Differs held) h c l r =
+    let f = found_had j key (Some held) h.0 c l r in
+    let m = map_of (take f.0 j.front) in
+    (f.0, f.1, f.2, ap (λ z. (step_where z m (ExchangeCall key e value)).1) f.3 ∙ ap (λ b. (step_if b m held (with_value m key value, Exchanged)).1) (ne_eqb held e h.1))
+looked_right j (Exchange e) key value Absent h c l r =
+    let f = found_had j key None h c l r in (f.0, f.1, f.2, ap (λ z. (step_where z (map_of (take f.0 j.front)) (ExchangeCall key e value)).1) f.3)
+looked_right j (RemoveIf e) key value (Differs held) h c l r =
+    let f = found_had j key (Some held) h.0 c l r in
+    let m = map_of (take f.0 j.front) in
+    (f.0, f.1, f.2, ap (λ z. (step_where z m (RemoveIfCall key e)).1) f.3 ∙ ap (λ b. (step_if b m held (without m key, Removed held)).1) (ne_eqb held e h.1))
+looked_right j (RemoveIf e) key value Absent h c l r =
+    let f = found_had j key None h c l r in (f.0, f.1, f.2, ap (λ z. (step_where z (map_of (take f.0 j.front)) (RemoveIfCall key e)).1) f.3)
 looked_right j Remove key value Absent h c l r =
     let f = found_had j key None h c l r in (f.0, f.1, f.2, ap (λ z. (step_where z (map_of (take f.0 j.front)) (RemoveCall key)).1) f.3)
 looked_right j _ key value _ h c l r = absurd h
@@ -67,7 +80,11 @@ looked_right j _ key value _ h c l r = absurd h
 -- and its call told of no change
 looked_quiet : (j : Known) (ask : Ask) (key : Key) (value : ℕ) (reply : Reply) → tries.HasLooked j ask key reply → is_some (effect_of (call_of ask key value) reply) ≡ false
 looked_quiet j Insert key value (Exists held) h = refl
+looked_quiet j (Exchange e) key value (Differs held) h = refl
+looked_quiet j (Exchange e) key value Absent h = refl
 looked_quiet j Remove key value Absent h = refl
+looked_quiet j (RemoveIf e) key value (Differs held) h = refl
+looked_quiet j (RemoveIf e) key value Absent h = refl
 looked_quiet j _ key value _ h = absurd h
 
 -- The call with this reply tells of the change x, and a map where the key has this value, or none, replies so.
@@ -100,6 +117,18 @@ change_told q Remove key value (Removed held) x was h = record {
   changed = refl;
   change = λ n. ap Some (sym h.0);
   right = λ m e. sym (ap (λ z. (step_where z m (RemoveCall key)).1) (held_for m x key was (Some held) (ap (λ (z : Change). z.key) h.0) h.1 e));
+}
+change_told q (Exchange e) key value Exchanged x was h = record {
+  changed = refl;
+  change = λ n. ap Some (sym h.0);
+  right = λ m is. sym (ap (λ z. (step_where z m (ExchangeCall key e value)).1) (held_for m x key was (Some e) (ap (λ (z : Change). z.key) h.0) h.1 is)
+      ∙ ap (λ b. (step_if b m e (with_value m key value, Exchanged)).1) (eq-eqb e e refl));
+}
+change_told q (RemoveIf e) key value (Removed held) x was h = record {
+  changed = refl;
+  change = λ n. ap Some (sym h.0);
+  right = λ m is. sym (ap (λ z. (step_where z m (RemoveIfCall key e)).1) (held_for m x key was (Some held) (ap (λ (z : Change). z.key) h.0) h.1 is)
+      ∙ ap (λ b. (step_if b m held (without m key, Removed held)).1) (eq-eqb held e h.2));
 }
 change_told q _ key value _ x was h = absurd h
 
@@ -270,7 +299,9 @@ waited_out table s m t call r (inr some) last =
 called_key : (ask : Ask) (key : Key) (value : ℕ) → key_of (call_of ask key value) ≡ key
 called_key Insert key value = refl
 called_key Upsert key value = refl
+called_key (Exchange e) key value = refl
 called_key Remove key value = refl
+called_key (RemoveIf e) key value = refl
 
 -- the cause of an attempt is one by what contracts see
 cause_seen : (layout : Layout) (key : Key) (s t : SeatView) (fault : TryFault) → tries.IsCause layout key s.known t.known fault → IsCause layout key (pass_of s) (pass_of t) fault

@@ -1,7 +1,7 @@
 -- What calls of an index say.
 use Rattle.std.specs.Prelude.{◌≡◌, ◌≢◌, ◌⊎◌, ℕ, ◌<◌, ◌≤◌, List, [], ◌∷◌, ◌++◌, length, Bool, Option, Some, None}
 use Rattle.hot_model.specs.declared.Call.{Call}
-use Rattle.hot_model.specs.declared.Call.TheVariants.{Insert, Upsert, Get, Remove}
+use Rattle.hot_model.specs.declared.Call.TheVariants.{Insert, Upsert, Exchange, Get, Remove, RemoveIf}
 use Rattle.hot_model.specs.declared.Reply.{Reply}
 use Rattle.hot_model.specs.declared.Reply.TheVariants.{Value, Absent}
 use Rattle.hot_model.specs.declared.Scan.{Scan}
@@ -90,9 +90,12 @@ fault_of Leaves = FullLeaves
 abbrev pub MayLack : Call → Full → Type 0
 MayLack (Insert key value) full = Unit {0}
 MayLack (Upsert key value) full = Unit {0}
+MayLack (Exchange key expected value) full = Unit {0}
 MayLack (Get key) full = ⊥
 MayLack (Remove key) Nodes = Unit {0}
 MayLack (Remove key) Leaves = ⊥
+MayLack (RemoveIf key expected) Nodes = Unit {0}
+MayLack (RemoveIf key expected) Leaves = ⊥
 
 -- Two passes have met: both have seen one list of changes, which begins with what each had seen; the calls of both are legal
 -- in it, and stand together in one sequential history.

@@ -4,7 +4,7 @@ use Rattle.hot_model.specs.declared.Call.{Call}
 use Rattle.hot_model.specs.declared.Change.{Change}
 use Rattle.hot_model.specs.declared.Note.{Note}
 use Rattle.hot_model.specs.declared.Reply.{Reply}
-use Rattle.hot_model.specs.declared.Reply.TheVariants.{Inserted, Exists, New, Was, Value, Absent, Removed}
+use Rattle.hot_model.specs.declared.Reply.TheVariants.{Inserted, Exists, New, Was, Exchanged, Differs, Value, Absent, Removed}
 use Rattle.hot_model.specs.Calls.{effect_of}
 use Rattle.hot_model.specs.Maps.{reply_of}
 use Rattle.hot_model.specs.Fronts.{map_of}
@@ -17,6 +17,8 @@ same_reply Inserted Inserted = true
 same_reply (Exists v) (Exists w) = nat_eq v w
 same_reply New New = true
 same_reply (Was v) (Was w) = nat_eq v w
+same_reply Exchanged Exchanged = true
+same_reply (Differs v) (Differs w) = nat_eq v w
 same_reply (Value v) (Value w) = nat_eq v w
 same_reply Absent Absent = true
 same_reply (Removed v) (Removed w) = nat_eq v w

@@ -6,6 +6,7 @@ ghost use Rattle.rowex_core.specs.declared.event.Act.TheVariants.{ClearPin};
 ghost use Rattle.rowex_core.specs.declared.known.Known.{Known};
 ghost use Rattle.rowex_table.specs.Runs.{StepsWith};
 ghost use Rattle.rowex_table.specs.Seats.{IsPassOf};
+ghost use Rattle.rowex_writing.specs.Asking.{aim_of};
 ghost use Rattle.rowex_writing.specs.Attempts.{call_of};
 ghost use Rattle.hot_index.specs.Answers.{fault_of};
 ghost use Rattle.hot_index.specs.Asked.{HasAsked, HasReplied, HasRested, IsIdle, last_try};
@@ -20,7 +21,7 @@ use key_bits::Key;
 use record_words::Layout;
 use rowex_core::Gate;
 use rowex_table::{HotTable, TableSeat};
-use rowex_writing::{Ask, Full, TryFault, attempt};
+use rowex_writing::{Aim, Ask, Full, TryFault, attempt};
 use std::sync::Wait;
 use std::thread;
 
@@ -37,7 +38,7 @@ pub fn try_change<G: Gate>(
     requires idle { IsIdle table.now seat.old }
     ensures asked { HasAsked table.now G.becomes (AreAttempts table.now.layout result) (try_steps table.now.layout)
         (call_of ask key.now value) result (seat.old, gate.old) (seat.new, gate.new) }
-    ensures leafless { ask ≡ Ask.Remove → result ≢ Err TryFault.FullLeaves }
+    ensures leafless { aim_of ask ≡ Aim.Remove → result ≢ Err TryFault.FullLeaves }
 {
     tidy(table, seat, gate, room);
     try_twice(table, seat, gate, room, ask, key, value)
@@ -70,7 +71,7 @@ fn try_twice<G: Gate>(
     requires idle { IsIdle table.now seat.old }
     ensures asked { HasAsked table.now G.becomes (AreTries table.now.layout result) (twice_steps table.now.layout)
         (call_of ask key.now value) result (seat.old, gate.old) (seat.new, gate.new) }
-    ensures leafless { ask ≡ Ask.Remove → result ≢ Err TryFault.FullLeaves }
+    ensures leafless { aim_of ask ≡ Aim.Remove → result ≢ Err TryFault.FullLeaves }
 {
     let first = try_once(table, seat, gate, room, ask, key, value);
     let Some(lacks) = lacked(first) else {
@@ -131,7 +132,7 @@ pub fn change<R: Wait, G: Gate>(
     requires idle { IsIdle table.now seat.old }
     ensures replied { HasReplied table.now (call_of ask key.now value) (last_try result) seat.old seat.new }
     ensures stepped { HasStepped table.now G.becomes (notes_of (call_of ask key.now value) (last_try result)) (seat.old, gate.old) (seat.new, gate.new) }
-    ensures leafless { ask ≡ Ask.Remove → result ≢ Err Full.Leaves }
+    ensures leafless { aim_of ask ≡ Aim.Remove → result ≢ Err Full.Leaves }
 {
     for _ in rt.forever() {
         match try_change(table, seat, gate, room, ask, key, value) {
@@ -170,7 +171,7 @@ fn try_once<G: Gate>(
 ) -> Result<Reply, TryFault>
     requires idle { IsIdle table.now seat.old }
     ensures asked { HasAsked table.now G.becomes IsAttempt (once_steps table.now.layout) (call_of ask key.now value) result (seat.old, gate.old) (seat.new, gate.new) }
-    ensures leafless { ask ≡ Ask.Remove → result ≢ Err TryFault.FullLeaves }
+    ensures leafless { aim_of ask ≡ Aim.Remove → result ≢ Err TryFault.FullLeaves }
 {
     room.build.gone.clear();
     pin(table, seat, gate);

@@ -11,6 +11,7 @@ ghost use Rattle.rowex_core.specs.declared.event.Act.TheVariants.{ClearPin};
 ghost use Rattle.rowex_core.specs.declared.known.Known.{Known};
 ghost use Rattle.rowex_table.specs.Runs.{StepsWith};
 ghost use Rattle.rowex_table.specs.Seats.{IsPassOf, IsNewSeatOf, SeatView};
+ghost use Rattle.rowex_writing.specs.Asking.{aim_of};
 ghost use Rattle.rowex_writing.specs.Attempts.{call_of};
 ghost use Rattle.hot_index.specs.Passes.{PassView, Owns, IsNewPass, IsSettled, pass_of};
 ghost use Rattle.hot_index.specs.Counts.{scan_steps};
@@ -32,7 +33,7 @@ use rowex_core::{Gate, NoGate};
 use rowex_reading::look_up;
 use rowex_scanning::{Range, scan_root};
 use rowex_table::{HotTable, TableSeat};
-use rowex_writing::{Ask, Full, TryFault};
+use rowex_writing::{Aim, Ask, Full, TryFault};
 use std::alloc::{AllocError, Global};
 use std::marker::Model;
 use std::sync::Wait;
@@ -305,9 +306,10 @@ impl Index {
         )
     }
 
-    /// Makes a call of the map, as `get`, `insert`, `upsert` or `remove` does, with a gate that is told each of its steps.
+    /// Makes a call of the map, as `get`, `insert`, `upsert`, `exchange`, `remove` or `remove_if` does, with a gate that is told each
+    /// of its steps.
     ///
-    /// A get is never refused, and a remove never as full of leaves.
+    /// A get is never refused, and neither removal as full of leaves.
     pub fn call_with<R: Wait, G: Gate>(
         &self,
         rt: &R,
@@ -330,12 +332,45 @@ impl Index {
             Call::Upsert(key, value) => {
                 self.change_with(rt, pass, gate, Ask::Upsert, key, *value)
             }
+            Call::Exchange(key, expected, value) => {
+                self.change_with(rt, pass, gate, Ask::Exchange(*expected), key, *value)
+            }
             Call::Remove(key) => self.change_with(rt, pass, gate, Ask::Remove, key, 0),
+            Call::RemoveIf(key, expected) => {
+                self.change_with(rt, pass, gate, Ask::RemoveIf(*expected), key, 0)
+            }
         }
     }
 
+    /// Asks for a change.
+    pub(crate) fn try_change_with<G: Gate>(
+        &self,
+        pass: &mut Pass,
+        gate: &mut G,
+        ask: Ask,
+        key: &Key,
+        value: u64,
+    ) -> Result<Reply, TryFault>
+        requires { Owns self.now pass.old }
+        ensures own { Owns self.now pass.new }
+        ensures call { MatchResult result (IsNoted self.now.layout pass.old pass.new (call_of ask key.now value))
+            (IsRefused self.now.layout (call_of ask key.now value) pass.old pass.new) }
+        ensures made { HasMade self.now G.becomes result (pass.old, gate.old) (pass.new, gate.new) }
+        ensures leafless { aim_of ask ≡ Aim.Remove → result ≢ Err TryFault.FullLeaves }
+    {
+        try_change(
+            &self.table,
+            &mut pass.seat,
+            gate,
+            &mut pass.room,
+            ask,
+            key,
+            value,
+        )
+    }
+
     /// Asks for a change, and begins again as often as another pass stands in its way.
-    fn change_with<R: Wait, G: Gate>(
+    pub(crate) fn change_with<R: Wait, G: Gate>(
         &self,
         rt: &R,
         pass: &mut Pass,
@@ -348,7 +383,7 @@ impl Index {
         ensures own { Owns self.now pass.new }
         ensures call { MatchResult result (IsNoted self.now.layout pass.old pass.new (call_of ask key.now value))
             (λ full. IsRefused self.now.layout (call_of ask key.now value) pass.old pass.new (fault_of full)) }
-        ensures leafless { ask ≡ Ask.Remove → result ≢ Err Full.Leaves }
+        ensures leafless { aim_of ask ≡ Aim.Remove → result ≢ Err Full.Leaves }
         ensures told { HasTold self.now G.becomes (pass.old, gate.old) (pass.new, gate.new) }
     {
         change(

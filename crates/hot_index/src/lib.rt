@@ -5,6 +5,7 @@
 mod census;
 mod changing;
 mod cursor;
+mod expecting;
 mod index;
 pub mod laws;
 mod many;

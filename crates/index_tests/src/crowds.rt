@@ -46,7 +46,8 @@ impl Tally {
             Ok(Reply::Inserted | Reply::New) => (1, None),
             Ok(Reply::Exists(value) | Reply::Was(value) | Reply::Value(value)) => (0, Some(value)),
             Ok(Reply::Removed(value)) => (u64::MAX, Some(value)),
-            Ok(Reply::Absent) | Err(_) => (0, None),
+            Ok(Reply::Differs(value)) => (0, Some(value)),
+            Ok(Reply::Exchanged | Reply::Absent) | Err(_) => (0, None),
         };
         if let Some(held) = self.held.get_mut(number) {
             *held = held.wrapping_add(change);

@@ -9,6 +9,8 @@ mod classes;
 #[cfg(test)]
 mod crowds;
 #[cfg(test)]
+mod exchanges;
+#[cfg(test)]
 mod gates;
 #[cfg(test)]
 mod made;

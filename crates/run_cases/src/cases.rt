@@ -100,12 +100,14 @@ fn push_deeds(deeds: &mut Vec<Deed>, words: &[&str]) -> io::Result<()> {
     Ok(())
 }
 
-/// The call of this name.
+/// The call of this name. An exchange of a value gives the key the next one.
 fn call_of(name: &str, key: Key, value: u64) -> io::Result<Call> {
     match name {
         "insert" => Ok(Call::Insert(key, value)),
         "upsert" => Ok(Call::Upsert(key, value)),
+        "exchange" => Ok(Call::Exchange(key, value, value.wrapping_add(1))),
         "remove" => Ok(Call::Remove(key)),
+        "remove_if" => Ok(Call::RemoveIf(key, value)),
         "get" => Ok(Call::Get(key)),
         _ => Err(bad_line()),
     }

@@ -95,7 +95,11 @@ impl<'a> Guest<'a> {
         match call {
             Call::Insert(key, value) => index.try_insert_with(pass, key, *value, gate),
             Call::Upsert(key, value) => index.try_upsert_with(pass, key, *value, gate),
+            Call::Exchange(key, expected, value) => {
+                index.try_exchange_with(pass, key, *expected, *value, gate)
+            }
             Call::Remove(key) => index.try_remove_with(pass, key, gate),
+            Call::RemoveIf(key, expected) => index.try_remove_if_with(pass, key, *expected, gate),
             Call::Get(key) => Ok(match index.get_with(pass, key, gate) {
                 Some(value) => Reply::Value(value),
                 None => Reply::Absent,
@@ -124,6 +128,8 @@ fn say(said: &mut String, told: Result<Reply, TryFault>) -> Result<(), AllocErro
         Ok(Reply::Exists(value)) => write!(said, "exists {value}"),
         Ok(Reply::New) => said.push_str("new"),
         Ok(Reply::Was(value)) => write!(said, "was {value}"),
+        Ok(Reply::Exchanged) => said.push_str("exchanged"),
+        Ok(Reply::Differs(value)) => write!(said, "differs {value}"),
         Ok(Reply::Value(value)) => write!(said, "value {value}"),
         Ok(Reply::Absent) => said.push_str("none"),
         Ok(Reply::Removed(value)) => write!(said, "removed {value}"),

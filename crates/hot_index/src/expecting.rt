@@ -1,0 +1,131 @@
+//! Calls that expect a key to have a value, and change nothing where it has another or none.
+
+ghost use Rattle.std.specs.Prelude.{◌≢◌, Err, MatchResult};
+ghost use Rattle.hot_model.specs.declared.Call.TheVariants.{Exchange, RemoveIf};
+ghost use Rattle.hot_index.specs.Answers.{IsNoted, IsRefused, fault_of};
+ghost use Rattle.hot_index.specs.Passes.{Owns};
+ghost use Rattle.hot_index.specs.Traces.{HasMade, untold};
+
+use crate::index::{Index, Pass};
+use hot_model::Reply;
+use key_bits::Key;
+use rowex_core::{Gate, NoGate};
+use rowex_writing::{Ask, Full, TryFault};
+use std::sync::Wait;
+
+impl Index {
+    /// Gives a key a value if it has the expected one, a compare-and-exchange: `Exchanged`; or `Differs` with the value that it
+    /// has, which stays; or `Absent`.
+    ///
+    /// It waits for nobody, has `try_insert`'s bound of steps, and is refused as `try_insert` is.
+    pub fn try_exchange(
+        &self,
+        pass: &mut Pass,
+        key: &Key,
+        expected: u64,
+        value: u64,
+    ) -> Result<Reply, TryFault>
+        requires { Owns self.now pass.old }
+        ensures own { Owns self.now pass.new }
+        ensures call { MatchResult result (IsNoted self.now.layout pass.old pass.new (Exchange key.now expected value))
+            (IsRefused self.now.layout (Exchange key.now expected value) pass.old pass.new) }
+        ensures made { HasMade self.now untold result (pass.old, tt) (pass.new, tt) }
+    {
+        self.try_exchange_with(pass, key, expected, value, &mut NoGate)
+    }
+
+    /// `try_exchange`, with a gate that is told each of its steps.
+    pub fn try_exchange_with<G: Gate>(
+        &self,
+        pass: &mut Pass,
+        key: &Key,
+        expected: u64,
+        value: u64,
+        gate: &mut G,
+    ) -> Result<Reply, TryFault>
+        requires { Owns self.now pass.old }
+        ensures own { Owns self.now pass.new }
+        ensures call { MatchResult result (IsNoted self.now.layout pass.old pass.new (Exchange key.now expected value))
+            (IsRefused self.now.layout (Exchange key.now expected value) pass.old pass.new) }
+        ensures made { HasMade self.now G.becomes result (pass.old, gate.old) (pass.new, gate.new) }
+    {
+        self.try_change_with(pass, gate, Ask::Exchange(expected), key, value)
+    }
+
+    /// Gives a key a value if it has the expected one: `Exchanged`; or `Differs` with the value that it has, which stays; or `Absent`.
+    ///
+    /// It begins again where `try_exchange` would be `Busy`, and is refused as `insert` is.
+    pub fn exchange<R: Wait>(
+        &self,
+        rt: &R,
+        pass: &mut Pass,
+        key: &Key,
+        expected: u64,
+        value: u64,
+    ) -> Result<Reply, Full>
+        requires { Owns self.now pass.old }
+        ensures own { Owns self.now pass.new }
+        ensures call { MatchResult result (IsNoted self.now.layout pass.old pass.new (Exchange key.now expected value))
+            (λ full. IsRefused self.now.layout (Exchange key.now expected value) pass.old pass.new (fault_of full)) }
+    {
+        self.change_with(rt, pass, &mut NoGate, Ask::Exchange(expected), key, value)
+    }
+
+    /// Makes a key absent if it has the expected value: `Removed` with that value; or `Differs` with the value that it has, which
+    /// stays; or `Absent`.
+    ///
+    /// It waits for nobody, has `try_insert`'s bound of steps, and is refused as `try_remove` is.
+    pub fn try_remove_if(
+        &self,
+        pass: &mut Pass,
+        key: &Key,
+        expected: u64,
+    ) -> Result<Reply, TryFault>
+        requires { Owns self.now pass.old }
+        ensures own { Owns self.now pass.new }
+        ensures call { MatchResult result (IsNoted self.now.layout pass.old pass.new (RemoveIf key.now expected))
+            (IsRefused self.now.layout (RemoveIf key.now expected) pass.old pass.new) }
+        ensures made { HasMade self.now untold result (pass.old, tt) (pass.new, tt) }
+        ensures leafless { result ≢ Err TryFault.FullLeaves }
+    {
+        self.try_remove_if_with(pass, key, expected, &mut NoGate)
+    }
+
+    /// `try_remove_if`, with a gate that is told each of its steps.
+    pub fn try_remove_if_with<G: Gate>(
+        &self,
+        pass: &mut Pass,
+        key: &Key,
+        expected: u64,
+        gate: &mut G,
+    ) -> Result<Reply, TryFault>
+        requires { Owns self.now pass.old }
+        ensures own { Owns self.now pass.new }
+        ensures call { MatchResult result (IsNoted self.now.layout pass.old pass.new (RemoveIf key.now expected))
+            (IsRefused self.now.layout (RemoveIf key.now expected) pass.old pass.new) }
+        ensures made { HasMade self.now G.becomes result (pass.old, gate.old) (pass.new, gate.new) }
+        ensures leafless { result ≢ Err TryFault.FullLeaves }
+    {
+        self.try_change_with(pass, gate, Ask::RemoveIf(expected), key, 0)
+    }
+
+    /// Makes a key absent if it has the expected value: `Removed` with that value; or `Differs` with the value that it has, which
+    /// stays; or `Absent`.
+    ///
+    /// It begins again where `try_remove_if` would be `Busy`, and is refused as `remove` is.
+    pub fn remove_if<R: Wait>(
+        &self,
+        rt: &R,
+        pass: &mut Pass,
+        key: &Key,
+        expected: u64,
+    ) -> Result<Reply, Full>
+        requires { Owns self.now pass.old }
+        ensures own { Owns self.now pass.new }
+        ensures call { MatchResult result (IsNoted self.now.layout pass.old pass.new (RemoveIf key.now expected))
+            (λ full. IsRefused self.now.layout (RemoveIf key.now expected) pass.old pass.new (fault_of full)) }
+        ensures leafless { result ≢ Err Full.Leaves }
+    {
+        self.change_with(rt, pass, &mut NoGate, Ask::RemoveIf(expected), key, 0)
+    }
+}
