@@ -10,7 +10,8 @@ import sys
 from ctypes import POINTER, byref, c_char_p, c_size_t, c_uint8, c_uint32, c_uint64, c_void_p
 
 MAX_KEY, PAGE = 240, 64
-FOUND, WAS, REMOVED, FIRST_REFUSAL = 1, 6, 7, 8
+FOUND, WAS, REMOVED, EXCHANGED, DIFFERS = 1, 6, 7, 16, 17
+REFUSALS = range(8, 16)
 
 
 class Handle(ctypes.Structure):
@@ -61,6 +62,8 @@ def load(path: str) -> ctypes.CDLL:
         "get_many": [handle, POINTER(Lookup), c_size_t],
         "upsert": [handle, *key, c_uint64, number],
         "remove": [handle, *key, number],
+        "exchange": [handle, *key, c_uint64, c_uint64, number],
+        "remove_if": [handle, *key, c_uint64, number],
         "scan": [handle, *key, *key, POINTER(Pair), c_size_t, POINTER(c_size_t), POINTER(c_uint32)],
         "census": [handle, POINTER(Counts)],
         "after": [POINTER(Pair), POINTER(c_uint8), POINTER(c_size_t)],
@@ -93,7 +96,7 @@ class Index:
 
     def check(self, status: int) -> int:
         """The status, unless it is a refusal."""
-        if status >= FIRST_REFUSAL:
+        if status in REFUSALS:
             raise RuntimeError(self.hot.hot_status_text(status).decode())
         return status
 
@@ -129,6 +132,18 @@ class Index:
         had = c_uint64()
         status = self.check(self.hot.hot_remove(self.handles[thread], key, len(key), had))
         return had.value if status == REMOVED else None
+
+    def exchange(self, key: bytes, expected: int, value: int, thread: int = 0) -> int | None:
+        """Gives a key a value if it has the expected one. Answers the value that it had, which it keeps if that is another."""
+        had = c_uint64(expected)
+        status = self.check(self.hot.hot_exchange(self.handles[thread], key, len(key), expected, value, had))
+        return had.value if status in (EXCHANGED, DIFFERS) else None
+
+    def remove_if(self, key: bytes, expected: int, thread: int = 0) -> int | None:
+        """Makes a key absent if it has the expected value. Answers the value that it had, which it keeps if that is another."""
+        had = c_uint64()
+        status = self.check(self.hot.hot_remove_if(self.handles[thread], key, len(key), expected, had))
+        return had.value if status in (REMOVED, DIFFERS) else None
 
     def scan(self, start: bytes = b"", end: bytes = b"\xff" * MAX_KEY, thread: int = 0):
         """The keys from one to another, both included, with their values, in order; asked for by pages."""

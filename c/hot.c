@@ -22,6 +22,8 @@ const char *hot_status_text(hot_status status) {
     case HOT_OPEN: return "a handle is open";
     case HOT_OUT_OF_RANGE: return "a number is out of range";
     case HOT_NO_MEMORY: return "out of memory";
+    case HOT_EXCHANGED: return "exchanged";
+    case HOT_DIFFERS: return "the key has another value";
     default: return "not a status";
     }
 }
@@ -98,6 +100,20 @@ hot_status hot_upsert(hot_handle *handle, const uint8_t *key, size_t length, uin
 hot_status hot_remove(hot_handle *handle, const uint8_t *key, size_t length, uint64_t *had) {
     hot_status status;
     while ((status = hot_try_remove(handle, key, length, had)) == HOT_BUSY)
+        sched_yield();
+    return status;
+}
+
+hot_status hot_exchange(hot_handle *handle, const uint8_t *key, size_t length, uint64_t expected, uint64_t value, uint64_t *had) {
+    hot_status status;
+    while ((status = hot_try_exchange(handle, key, length, expected, value, had)) == HOT_BUSY)
+        sched_yield();
+    return status;
+}
+
+hot_status hot_remove_if(hot_handle *handle, const uint8_t *key, size_t length, uint64_t expected, uint64_t *had) {
+    hot_status status;
+    while ((status = hot_try_remove_if(handle, key, length, expected, had)) == HOT_BUSY)
         sched_yield();
     return status;
 }

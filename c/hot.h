@@ -22,9 +22,9 @@
  * copies, moves or writes its bytes. malloc, realloc and free are those of one allocator. No call is made from a signal handler, nor
  * in the child of a fork of a process with threads.
  *
- * No call fails otherwise than by its status, and none waits for another but hot_insert, hot_upsert and hot_remove. The library starts
- * no thread and keeps nothing outside its indexes. Link with libhot.a or libhot.so, as `pkg-config --cflags --libs hot` says; it needs
- * POSIX, and a processor of x86-64-v2 or later.
+ * No call fails otherwise than by its status, and none waits for another but hot_insert, hot_upsert, hot_exchange, hot_remove and
+ * hot_remove_if. The library starts no thread and keeps nothing outside its indexes. Link with libhot.a or libhot.so, as
+ * `pkg-config --cflags --libs hot` says; it needs POSIX, and a processor of x86-64-v2 or later.
  */
 #ifndef HOT_H
 #define HOT_H
@@ -44,8 +44,8 @@ extern "C" {
 /* The most bytes of a key. */
 #define HOT_MAX_KEY 240
 
-/* What became of a call. Each call says which of these it answers; up to HOT_REMOVED it was made, and from HOT_BUSY on it changed
- * nothing. */
+/* What became of a call. Each call says which of these it answers; from HOT_BUSY to HOT_NO_MEMORY it was not made and changed nothing,
+ * and otherwise it was made. */
 typedef uint32_t hot_status;
 enum {
     HOT_DONE = 0,          /* it was made, and has no other answer */
@@ -63,7 +63,9 @@ enum {
     HOT_CLOSED = 12,       /* the handle is closed */
     HOT_OPEN = 13,         /* a handle that was to be opened is open */
     HOT_OUT_OF_RANGE = 14, /* a number of handles, nodes or leaves is out of range */
-    HOT_NO_MEMORY = 15
+    HOT_NO_MEMORY = 15,
+    HOT_EXCHANGED = 16,    /* the key had the expected value, and has the new one */
+    HOT_DIFFERS = 17       /* the key has this value, which is not the expected one, and keeps it */
 };
 
 /* What a status says, in a few words of English. The text is the library's and stays; a number that is no status has one too. */
@@ -148,9 +150,17 @@ hot_status hot_try_insert(hot_handle *handle, const uint8_t *key, size_t length,
  * HOT_NEW, HOT_WAS; HOT_BUSY, HOT_FULL_NODES, HOT_FULL_LEAVES, HOT_KEY_TOO_LONG, HOT_CLOSED. */
 hot_status hot_try_upsert(hot_handle *handle, const uint8_t *key, size_t length, uint64_t value, uint64_t *had);
 
+/* Gives a key a value if it has the expected one: a compare-and-exchange. Where it has another it keeps that, which is written to `had`.
+ * HOT_EXCHANGED, HOT_DIFFERS, HOT_ABSENT; HOT_BUSY, HOT_FULL_NODES, HOT_FULL_LEAVES, HOT_KEY_TOO_LONG, HOT_CLOSED. */
+hot_status hot_try_exchange(hot_handle *handle, const uint8_t *key, size_t length, uint64_t expected, uint64_t value, uint64_t *had);
+
 /* Makes a key absent. Where it had a value, that is written to `had`.
  * HOT_REMOVED, HOT_ABSENT; HOT_BUSY, HOT_FULL_NODES, HOT_KEY_TOO_LONG, HOT_CLOSED. */
 hot_status hot_try_remove(hot_handle *handle, const uint8_t *key, size_t length, uint64_t *had);
+
+/* Makes a key absent if it has the expected value. The value that it had, or has and keeps, is written to `had`.
+ * HOT_REMOVED, HOT_DIFFERS, HOT_ABSENT; HOT_BUSY, HOT_FULL_NODES, HOT_KEY_TOO_LONG, HOT_CLOSED. */
+hot_status hot_try_remove_if(hot_handle *handle, const uint8_t *key, size_t length, uint64_t expected, uint64_t *had);
 
 /* hot_try_insert, hot_try_upsert and hot_try_remove, made again for as long as they are busy; other threads may run between two tries
  * (sched_yield). A full index is answered at once. How long they wait is not bounded: a thread that is stopped in the middle of a change
@@ -159,6 +169,10 @@ hot_status hot_try_remove(hot_handle *handle, const uint8_t *key, size_t length,
 hot_status hot_insert(hot_handle *handle, const uint8_t *key, size_t length, uint64_t value, uint64_t *had);
 hot_status hot_upsert(hot_handle *handle, const uint8_t *key, size_t length, uint64_t value, uint64_t *had);
 hot_status hot_remove(hot_handle *handle, const uint8_t *key, size_t length, uint64_t *had);
+
+/* In the same way hot_try_exchange and hot_try_remove_if. */
+hot_status hot_exchange(hot_handle *handle, const uint8_t *key, size_t length, uint64_t expected, uint64_t value, uint64_t *had);
+hot_status hot_remove_if(hot_handle *handle, const uint8_t *key, size_t length, uint64_t expected, uint64_t *had);
 
 /* Lists the keys from `from` to `upto`, both included, with their values, in the order of the keys: the first ones, as many as the
  * array `pairs` has places, which is `limit`. Writes how many these are to `count`, and to `more` 1 where there is a further one, else 0.

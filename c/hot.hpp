@@ -16,7 +16,7 @@
 
 namespace hot {
 
-/// What became of a change. From `busy` on it was refused, and changed nothing.
+/// What became of a change. If it is `busy` or full it was refused, and changed nothing.
 enum class status : hot_status {
     inserted = HOT_INSERTED,
     exists = HOT_EXISTS,
@@ -24,16 +24,18 @@ enum class status : hot_status {
     replaced = HOT_WAS,
     removed = HOT_REMOVED,
     absent = HOT_ABSENT,
+    exchanged = HOT_EXCHANGED,
+    differs = HOT_DIFFERS,
     busy = HOT_BUSY,
     full_nodes = HOT_FULL_NODES,
     full_leaves = HOT_FULL_LEAVES
 };
 
-/// A change's status, and the value that the key had, if it had one.
+/// A change's status, and the value that the key had, if it had one. Of an exchange that was made, that is the expected one.
 struct change {
     status what;
     std::optional<std::uint64_t> had;
-    bool is_refused() const { return what >= status::busy; }
+    bool is_refused() const { return what >= status::busy && what <= status::full_leaves; }
     const char *text() const { return hot_status_text(static_cast<hot_status>(what)); }
 };
 
@@ -158,10 +160,20 @@ class handle {
     change upsert(std::string_view key, std::uint64_t value) { return put(hot_upsert, key, value); }
     change remove(std::string_view key) { return take(hot_remove, key); }
 
+    /// Gives a key a value, makes it absent, if it has the expected value: else it differs or is absent, and stays as it is. They wait too.
+    change exchange(std::string_view key, std::uint64_t expected, std::uint64_t value) {
+        return put_if(hot_exchange, key, expected, value);
+    }
+    change remove_if(std::string_view key, std::uint64_t expected) { return put(hot_remove_if, key, expected); }
+
     /// The same, tried once: they may be busy.
     change try_insert(std::string_view key, std::uint64_t value) { return put(hot_try_insert, key, value); }
     change try_upsert(std::string_view key, std::uint64_t value) { return put(hot_try_upsert, key, value); }
     change try_remove(std::string_view key) { return take(hot_try_remove, key); }
+    change try_exchange(std::string_view key, std::uint64_t expected, std::uint64_t value) {
+        return put_if(hot_try_exchange, key, expected, value);
+    }
+    change try_remove_if(std::string_view key, std::uint64_t expected) { return put(hot_try_remove_if, key, expected); }
 
     /// The pairs from one key to another, both included; those from a key on; and those whose keys begin with some bytes.
     range scan(std::string_view from, std::string_view upto, std::size_t pairs = page) { return range(it(), from, upto, pairs); }
@@ -216,6 +228,11 @@ class handle {
         const hot_status status = call(it(), bytes(key), key.size(), value, &had);
         return told(status, had);
     }
+    template <class Call> change put_if(Call call, std::string_view key, std::uint64_t expected, std::uint64_t value) {
+        std::uint64_t had = expected;
+        const hot_status status = call(it(), bytes(key), key.size(), expected, value, &had);
+        return told(status, had);
+    }
     template <class Call> change take(Call call, std::string_view key) {
         std::uint64_t had = 0;
         const hot_status status = call(it(), bytes(key), key.size(), &had);
@@ -223,8 +240,17 @@ class handle {
     }
     static change told(hot_status status, std::uint64_t had) {
         check(status);
-        const bool is_held = status == HOT_EXISTS || status == HOT_WAS || status == HOT_REMOVED;
-        return {static_cast<hot::status>(status), is_held ? std::optional(had) : std::nullopt};
+        return {static_cast<hot::status>(status), is_held(status) ? std::optional(had) : std::nullopt};
+    }
+    static bool is_held(hot_status status) {
+        switch (status) {
+        case HOT_EXISTS:
+        case HOT_WAS:
+        case HOT_REMOVED:
+        case HOT_EXCHANGED:
+        case HOT_DIFFERS: return true;
+        default: return false;
+        }
     }
 
     std::unique_ptr<hot_handle, closer> it_;

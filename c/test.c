@@ -103,6 +103,26 @@ static void test_census(void) {
     CHECK(hot_destroy(&handle) == HOT_DONE);
 }
 
+/* Calls that expect a value: where the key has it, where it has another, which is told, and where it is absent. */
+static void test_expected(void) {
+    hot_handle handle = HOT_HANDLE;
+    uint64_t value = 31;
+    CHECK(hot_create(100, 100, &handle, 1) == HOT_DONE);
+    CHECK(hot_try_exchange(&handle, bytes("d"), 1, 40, 41, &value) == HOT_ABSENT && value == 31);
+    CHECK(hot_try_remove_if(&handle, bytes("d"), 1, 40, &value) == HOT_ABSENT && value == 31);
+    CHECK(hot_insert(&handle, bytes("d"), 1, 40, &value) == HOT_INSERTED);
+    CHECK(hot_try_exchange(&handle, bytes("d"), 1, 40, 41, &value) == HOT_EXCHANGED && value == 31);
+    CHECK(hot_try_exchange(&handle, bytes("d"), 1, 40, 42, &value) == HOT_DIFFERS && value == 41);
+    CHECK(hot_exchange(&handle, bytes("d"), 1, 41, 43, &value) == HOT_EXCHANGED && value == 41);
+    CHECK(hot_try_remove_if(&handle, bytes("d"), 1, 41, &value) == HOT_DIFFERS && value == 43);
+    CHECK(hot_remove_if(&handle, bytes("d"), 1, 40, &value) == HOT_DIFFERS && value == 43);
+    CHECK(hot_remove_if(&handle, bytes("d"), 1, 43, &value) == HOT_REMOVED && value == 43);
+    CHECK(hot_exchange(&handle, bytes("d"), 1, 43, 44, &value) == HOT_ABSENT && value == 43);
+    CHECK(hot_remove_if(&handle, bytes("d"), 1, 43, &value) == HOT_ABSENT && value == 43);
+    CHECK(hot_get(&handle, bytes("d"), 1, &value) == HOT_ABSENT);
+    CHECK(hot_destroy(&handle) == HOT_DONE);
+}
+
 /* Scans of a prefix, page by page, and the first pair from a key on. */
 static void test_prefix(void) {
     hot_handle handle = HOT_HANDLE;
@@ -183,10 +203,10 @@ static void test_after(void) {
 
 /* Each status has a text, and what is none has another. */
 static void test_texts(void) {
-    for (hot_status one = HOT_DONE; one <= HOT_NO_MEMORY + 1; one++)
+    for (hot_status one = HOT_DONE; one <= HOT_DIFFERS + 1; one++)
         for (hot_status other = HOT_DONE; other < one; other++)
             CHECK(strcmp(hot_status_text(one), hot_status_text(other)));
-    CHECK(!strcmp(hot_status_text(UINT32_MAX), hot_status_text(HOT_NO_MEMORY + 1)));
+    CHECK(!strcmp(hot_status_text(UINT32_MAX), hot_status_text(HOT_DIFFERS + 1)));
 }
 
 /* Keys of the greatest length and beyond. */
@@ -207,6 +227,8 @@ static void test_long_keys(void) {
     CHECK(hot_try_insert(&handle, key, sizeof key, 6, &value) == HOT_KEY_TOO_LONG);
     CHECK(hot_try_upsert(&handle, key, sizeof key, 6, &value) == HOT_KEY_TOO_LONG);
     CHECK(hot_try_remove(&handle, key, sizeof key, &value) == HOT_KEY_TOO_LONG);
+    CHECK(hot_exchange(&handle, key, sizeof key, 5, 6, &value) == HOT_KEY_TOO_LONG);
+    CHECK(hot_remove_if(&handle, key, sizeof key, 5, &value) == HOT_KEY_TOO_LONG && value == 5);
     CHECK(hot_scan(&handle, key, 0, key, sizeof key, &pair, 1, &count, &more) == HOT_KEY_TOO_LONG && count == 1);
     CHECK(hot_destroy(&handle) == HOT_DONE);
 }
@@ -220,6 +242,10 @@ static void test_full(void) {
     CHECK(hot_try_insert(&handle, bytes("a"), 1, 1, &had) == HOT_INSERTED);
     CHECK(hot_try_insert(&handle, bytes("b"), 1, 2, &had) == HOT_FULL_LEAVES && had == 7);
     CHECK(hot_insert(&handle, bytes("b"), 1, 2, &had) == HOT_FULL_LEAVES && had == 7);
+    CHECK(hot_exchange(&handle, bytes("a"), 1, 1, 2, &had) == HOT_FULL_LEAVES && had == 7);
+    CHECK(hot_exchange(&handle, bytes("a"), 1, 2, 3, &had) == HOT_DIFFERS && had == 1);
+    CHECK(hot_try_remove_if(&handle, bytes("a"), 1, 1, &had) == HOT_REMOVED && had == 1);
+    CHECK(hot_try_insert(&handle, bytes("a"), 1, 1, &had) == HOT_INSERTED);
     CHECK(hot_try_remove(&handle, bytes("a"), 1, &had) == HOT_REMOVED && had == 1);
     CHECK(hot_try_insert(&handle, bytes("b"), 1, 2, &had) == HOT_INSERTED);
     CHECK(hot_try_remove(&handle, bytes("b"), 1, &had) == HOT_REMOVED && had == 2);
@@ -287,6 +313,8 @@ static void check_closed(hot_handle *handle) {
     CHECK(hot_try_upsert(handle, bytes("a"), 1, 1, &value) == HOT_CLOSED);
     CHECK(hot_try_remove(handle, bytes("a"), 1, &value) == HOT_CLOSED && value == 7);
     CHECK(hot_upsert(handle, bytes("a"), 1, 1, &value) == HOT_CLOSED && value == 7);
+    CHECK(hot_exchange(handle, bytes("a"), 1, 1, 2, &value) == HOT_CLOSED && value == 7);
+    CHECK(hot_remove_if(handle, bytes("a"), 1, 1, &value) == HOT_CLOSED && value == 7);
     CHECK(hot_scan(handle, bytes("a"), 1, bytes("b"), 1, &pair, 1, &count, &more) == HOT_CLOSED && count == 7);
     CHECK(hot_collect(handle, &nodes, &leaves) == HOT_CLOSED && nodes == 7);
     CHECK(hot_destroy(handle) == HOT_CLOSED);
@@ -425,6 +453,7 @@ int main(void) {
     test_calls();
     test_many();
     test_census();
+    test_expected();
     test_scan();
     test_prefix();
     test_after();

@@ -52,6 +52,21 @@ static void test_calls() {
     CHECK(first.get({}) == 10);
 }
 
+// Calls that expect a value: made, declined with the value that the key has, or absent.
+static void test_expected() {
+    auto handles = hot::create(100, 100);
+    hot::handle &handle = handles[0];
+    CHECK(handle.exchange("a", 1, 2).what == hot::status::absent && !handle.try_exchange("a", 1, 2).had);
+    handle.insert("a", 1);
+    const auto other = handle.exchange("a", 2, 3);
+    CHECK(other.what == hot::status::differs && other.had == 1 && !other.is_refused());
+    const auto change = handle.exchange("a", 1, 2);
+    CHECK(change.what == hot::status::exchanged && change.had == 1 && !change.is_refused() && handle.get("a") == 2);
+    CHECK(handle.try_exchange("a", 2, 3).what == hot::status::exchanged && handle.try_remove_if("a", 2).had == 3);
+    CHECK(handle.remove_if("a", 2).what == hot::status::differs && handle.remove_if("a", 3).had == 3 && !handle.get("a"));
+    CHECK(handle.remove_if("a", 3).what == hot::status::absent);
+}
+
 static void test_full() {
     auto handles = hot::create(10, 1);
     CHECK(!handles[0].insert("a", 1).is_refused());
@@ -118,12 +133,34 @@ static void test_threads() {
     CHECK(busy == 0 && count == 100);
 }
 
+// Four threads that add one to one value by exchanges, each made again with the value that it was told: none is lost.
+static void test_counting() {
+    auto handles = hot::create(10, 400, 4);
+    handles[0].insert("sum", 0);
+    std::vector<std::thread> threads;
+    for (hot::handle &handle : handles)
+        threads.emplace_back([&handle] {
+            for (int i = 0; i < 2000; i++)
+                for (std::uint64_t seen = *handle.get("sum");;) {
+                    const auto change = handle.exchange("sum", seen, seen + 1);
+                    if (change.what == hot::status::exchanged)
+                        break;
+                    seen = change.had.value_or(seen);
+                }
+        });
+    for (std::thread &thread : threads)
+        thread.join();
+    CHECK(handles[0].get("sum") == 8000);
+}
+
 int main() {
     test_calls();
+    test_expected();
     test_full();
     test_stock();
     test_scans();
     test_threads();
+    test_counting();
     std::puts(failures ? "the C++ test failed" : "the C++ test passed");
     return failures;
 }

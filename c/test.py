@@ -27,6 +27,11 @@ def main() -> None:
     for number in range(PAGE * 3):
         assert index.upsert(number.to_bytes(8, "big"), number) is None
     assert list(index.scan()) == [(number.to_bytes(8, "big"), number) for number in range(PAGE * 3)]
+    # A key's value changes only if it is the expected one.
+    key = bytes(8)
+    assert index.exchange(key, 1, 2) == 0 and index.exchange(key, 0, 2) == 0 and index.get(key) == 2
+    assert index.remove_if(key, 0) == 2 and index.remove_if(key, 2) == 2 and index.get(key) is None
+    assert index.remove_if(key, 2) is None and index.exchange(key, 2, 3) is None
     index.close()
     # A key takes the smallest leaf that has room for it and is free.
     index = Index(hot, Stock(nodes=8, short=1, long=1), 2)

@@ -1,7 +1,8 @@
 //! The calls of a program in C.
 
 ghost use Rattle.std.specs.Prelude.{◌≡◌, ◌≢◌, ◌⊎◌, IsSome, None, Some, length};
-ghost use Rattle.hot_model.specs.declared.Call.TheVariants.{Get, Insert, Remove, Upsert};
+ghost use Rattle.hot_model.specs.declared.Call.TheVariants.{Exchange, Get, Insert, Remove, RemoveIf, Upsert};
+ghost use Rattle.rowex_writing.specs.Asking.{aim_of};
 ghost use Rattle.rowex_writing.specs.Attempts.{call_of};
 ghost use Rattle.hot_c.specs.declared.opened.Opened.{Opened};
 ghost use Rattle.hot_c.specs.Calls.{Answers, AreClosed, HasGivenBack, HasSeenRecords, HaveOpened, HaveOpenedStock, IsSize, IsStockSize, Lists, StaysOpen};
@@ -20,7 +21,7 @@ use crate::stock::HotStock;
 use hot_index::{IndexFault, RecordCounts};
 use key_bits::Key;
 use record_words::{Layout, Stock};
-use rowex_writing::Ask;
+use rowex_writing::{Aim, Ask};
 use std::alloc::Global;
 
 /// Makes an empty index with so many node and leaf records and a pass for each handle, and opens the handles, or none of them.
@@ -170,6 +171,20 @@ pub extern "C" fn hot_try_upsert(handle: &mut Handle, key: &[u8], value: u64, ha
     change(handle, Ask::Upsert, key, value, had)
 }
 
+/// Gives a key a value if it has the expected one: `EXCHANGED`; or `DIFFERS` with the value that it has and keeps; or `ABSENT`.
+#[unsafe(no_mangle)]
+pub extern "C" fn hot_try_exchange(
+    handle: &mut Handle,
+    key: &[u8],
+    expected: u64,
+    value: u64,
+    had: &mut u64,
+) -> u32
+    ensures call { Answers key.now (Exchange key.now expected value) handle.old.slot.opened handle.new.slot.opened had.old had.new result }
+{
+    change(handle, Ask::Exchange(expected), key, value, had)
+}
+
 /// Makes a key absent: `REMOVED` with the value that it had, or `ABSENT`. It needs no leaf, and is never full of leaves.
 #[unsafe(no_mangle)]
 pub extern "C" fn hot_try_remove(handle: &mut Handle, key: &[u8], had: &mut u64) -> u32
@@ -179,10 +194,25 @@ pub extern "C" fn hot_try_remove(handle: &mut Handle, key: &[u8], had: &mut u64)
     change(handle, Ask::Remove, key, 0, had)
 }
 
+/// Makes a key absent if it has the expected value: `REMOVED` with that value; or `DIFFERS` with the value that it has and keeps; or
+/// `ABSENT`. It is never full of leaves.
+#[unsafe(no_mangle)]
+pub extern "C" fn hot_try_remove_if(
+    handle: &mut Handle,
+    key: &[u8],
+    expected: u64,
+    had: &mut u64,
+) -> u32
+    ensures call { Answers key.now (RemoveIf key.now expected) handle.old.slot.opened handle.new.slot.opened had.old had.new result }
+    ensures leafless { result ≢ FULL_LEAVES }
+{
+    change(handle, Ask::RemoveIf(expected), key, 0, had)
+}
+
 /// Asks for a change of a key's value.
 fn change(handle: &mut Handle, ask: Ask, key: &[u8], value: u64, had: &mut u64) -> u32
     ensures call { Answers key.now (call_of ask key.now value) handle.old.slot.opened handle.new.slot.opened had.old had.new result }
-    ensures leafless { ask ≡ Ask.Remove → result ≢ FULL_LEAVES }
+    ensures leafless { aim_of ask ≡ Aim.Remove → result ≢ FULL_LEAVES }
 {
     if !handle.is_open() {
         return CLOSED;

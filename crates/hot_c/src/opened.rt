@@ -2,6 +2,7 @@
 
 ghost use Rattle.std.specs.Prelude.{◌≡◌, ◌≢◌, Err, IfOk, MatchResult, OnErr, length};
 ghost use Rattle.hot_model.specs.declared.Call.TheVariants.{Get};
+ghost use Rattle.rowex_writing.specs.Asking.{aim_of};
 ghost use Rattle.rowex_writing.specs.Attempts.{call_of};
 ghost use Rattle.hot_index.specs.Answers.{IsNoted, IsRefused, IsScanned, IsUnnoted, got};
 ghost use Rattle.hot_index.specs.Census.{HasCounted};
@@ -11,7 +12,7 @@ ghost use Rattle.hot_index.specs.Traces.{HasCollected, untold};
 
 use hot_index::{Given, Index, Pass, RecordCounts, Reply, Scan, TryFault};
 use key_bits::Key;
-use rowex_writing::Ask;
+use rowex_writing::{Aim, Ask};
 use std::alloc::{AllocError, Global};
 use std::sync::Arc;
 
@@ -49,12 +50,17 @@ impl Opened {
         ensures index { self.new.index ≡ self.old.index }
         ensures call { MatchResult result (IsNoted self.old.index.value.layout self.old.pass self.new.pass (call_of ask key.now value))
             (IsRefused self.old.index.value.layout (call_of ask key.now value) self.old.pass self.new.pass) }
-        ensures leafless { ask ≡ Ask.Remove → result ≢ Err TryFault.FullLeaves }
+        ensures leafless { aim_of ask ≡ Aim.Remove → result ≢ Err TryFault.FullLeaves }
     {
         match ask {
             Ask::Insert => self.index.try_insert(&mut self.pass, key, value),
             Ask::Upsert => self.index.try_upsert(&mut self.pass, key, value),
+            Ask::Exchange(expected) => {
+                self.index
+                    .try_exchange(&mut self.pass, key, expected, value)
+            }
             Ask::Remove => self.index.try_remove(&mut self.pass, key),
+            Ask::RemoveIf(expected) => self.index.try_remove_if(&mut self.pass, key, expected),
         }
     }
 

@@ -37,6 +37,10 @@ pub const OPEN: u32 = 13;
 pub const OUT_OF_RANGE: u32 = 14;
 /// There is no memory.
 pub const NO_MEMORY: u32 = 15;
+/// The key had the expected value, and has the new one now.
+pub const EXCHANGED: u32 = 16;
+/// The key has the value that was written, which is not the expected one, and keeps it.
+pub const DIFFERS: u32 = 17;
 
 /// The status of an outcome. Where the outcome has a value, it is written.
 pub fn tell(outcome: Result<Reply, TryFault>, value: &mut u64) -> u32
@@ -61,6 +65,8 @@ fn tell_reply(reply: Reply, value: &mut u64) -> u32
         Reply::Exists(held) => (EXISTS, Some(held)),
         Reply::New => (NEW, None),
         Reply::Was(held) => (WAS, Some(held)),
+        Reply::Exchanged => (EXCHANGED, None),
+        Reply::Differs(held) => (DIFFERS, Some(held)),
         Reply::Value(held) => (FOUND, Some(held)),
         Reply::Absent => (ABSENT, None),
         Reply::Removed(held) => (REMOVED, Some(held)),
