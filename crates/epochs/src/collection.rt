@@ -301,6 +301,10 @@ fn epoch_below(word: u64, bound: u64) -> Option<u64>
     ensures { MatchOption result ((epoch : ℕ) → 1 ≤ epoch → epoch < EPOCHS → epoch < bound → word ≢ state_word (Obsolete epoch))
         (λ epoch. (1 ≤ epoch) × (epoch < EPOCHS) × (epoch < bound) × (word ≡ state_word (Obsolete epoch))) }
 {
+    // Most records are live, and of those no more is read.
+    if word % 8 != 4 {
+        return None;
+    }
     match unpack_state(word) {
         Ok(Tag::Obsolete(epoch)) if epoch < bound => Some(epoch),
         _ => None,

@@ -3,6 +3,7 @@ use Rattle.std.proofs.Common.{◌≡◌, ◌≢◌, ℕ, zero, suc, ◌+◌, ◌
 use Rattle.std.specs.Prelude.{All, Contains, IfNone, MatchOption, Some, None}
 use Rattle.std.proofs.lemmas.Bool.{eqb-true, eqb-false, ltb-true, ltb-false, lt-ltb, le-ltb}
 use Rattle.std.proofs.lemmas.List.Elements.{All-contains, All-weaker}
+use Rattle.record_words.specs.declared.layout.Layout.{Layout}
 use Rattle.record_words.specs.State.{state_word}
 use Rattle.moments.specs.declared.Rec.{Rec}
 use Rattle.moments.specs.Core.{Fate, Free, Held as HeldBy, Ready as ReadyBy, InTree, Unlinked, Marked}
@@ -21,12 +22,16 @@ use Rattle.rowex_core.specs.Events.{word_of}
 use Rattle.rowex_core.specs.Sharing.{IsOwned, fate_of}
 use Rattle.rowex_core.specs.Knowing.{Knows, claim_learned, failed_with}
 use Rattle.rowex_core.proofs.Owning.{knows_all}
+use Rattle.rowex_table.specs.Rule.{IsStartOf}
 use Rattle.rowex_table.specs.Rights.{OwnsAs, IsClaimed}
 use Rattle.rowex_table.specs.Runs.{Steps, Does}
 use Rattle.rowex_table.specs.Seats.{TableView, SeatView}
 use Rattle.rowex_table.proofs.Rights.{free_tag}
 use Rattle.rowex_table.proofs.Running.{in_turn_more, does_count}
-use Rattle.rowex_records.specs.Claims.{claiming, begin_of, wrapped, Misses, HasMissedSince, MissesOne, HoldsOneMore, ClaimsOne, FindsNone, Claims, AllMissed}
+use Rattle.rowex_records.specs.declared.claiming.RecordKind.{RecordKind}
+use Rattle.rowex_records.specs.declared.claiming.RecordKind.TheVariants.{Node, Leaf}
+use Rattle.rowex_records.specs.Claims.{claiming, begin_of, count_of, record_of, wrapped, HasIndex, IsKindOf, Misses, HasMissedSince, MissesOne, HoldsOneMore, ClaimsOne, FindsNone, Claims, AllMissed}
+use Rattle.rowex_records.specs.Starts.{first_word}
 use Rattle.rowex_records.proofs.Making.{counted, claims_nothing, claims_one, looks_one, claims_append}
 
 -- Numbers in turn
@@ -37,6 +42,32 @@ turned_low n from m low below = go (nat_lt (from + m) n) refl
     go : (b : Bool) → nat_lt (from + m) n ≡ b → (if b then from + m else from + m - n) < n
     go true is = ltb-true (from + m) n is
     go false is = let high = ltb-false (from + m) n is in omega arith
+
+pub begins_low : (n from : ℕ) → 0 < n → begin_of n from < n
+begins_low n from some = go (nat_lt from n) refl
+  where
+    go : (t : Bool) → nat_lt from n ≡ t → begin_of n from < n
+    go true e = rw e (ltb-true from n e)
+    go false e = rw e some
+
+-- the first turn has the number that is begun at
+pub turned_none : (n from : ℕ) → begin_of n from ≡ wrapped n (begin_of n from) 0
+turned_none n from = go (nat_lt (begin_of n from + 0) n) refl
+  where
+    go : (t : Bool) → nat_lt (begin_of n from + 0) n ≡ t → begin_of n from ≡ (if t then begin_of n from + 0 else begin_of n from + 0 - n)
+    go true e = omega arith
+    go false e =
+        let high = ltb-false (begin_of n from + 0) n e in
+        let none : n ≡ 0 = few (nat_lt 0 n) refl high in
+        omega (arith, none)
+      where
+        few : (t : Bool) → nat_lt 0 n ≡ t → n ≤ begin_of n from + 0 → n ≡ 0
+        few true e high = let low = begins_low n from (ltb-true 0 n e) in absurd (omega arith)
+        few false e high = let low = ltb-false 0 n e in omega arith
+
+-- the number behind that of a turn is the one of the turn behind
+pub turned_on : (n from m : ℕ) → from < n → m < n → wrapped n (wrapped n from m) 1 ≡ wrapped n from (m + 1)
+turned_on n from m low below = grind arith
 
 -- each number is the one of some turn
 pub turned_to : (n from q : ℕ) → from < n → q < n → (m : ℕ) × (m < n) × (wrapped n from m ≡ q)
@@ -51,6 +82,15 @@ turned_to n from q low below = go (nat_lt q from) refl
         let after = ltb-false q from is in
         let here : nat_lt (from + (q - from)) n ≡ true = lt-ltb (from + (q - from)) n (omega arith) in
         (q - from, omega arith, rw here (omega arith))
+
+-- a record of the kind that has the number, and where it begins
+pub has_index : (kind : RecordKind) (layout : Layout) (i : ℕ) → i < count_of kind layout → HasIndex kind i
+has_index Node layout i low = tt
+has_index (Leaf first end) layout i low = omega arith
+
+pub starts_at : (kind : RecordKind) (layout : Layout) (i : ℕ) → IsKindOf kind layout → i < count_of kind layout → IsStartOf layout (record_of kind i) (first_word kind layout i)
+starts_at Node layout i is low = (low, omega arith)
+starts_at (Leaf first end) layout i is low = (omega arith, omega arith)
 
 -- One try
 
@@ -267,11 +307,7 @@ module _ {G : Type 0} (table : TableView) (becomes : G → Event → G → Type 
     claims_whole (Some number) all tried = tried.0
 
     pub none_whole : (answer : Option ℕ) → left ≡ n → HasTried answer → IfNone answer (AllMissed kind n b.0.known.failed a.0.known.steps)
-    none_whole None all tried = λ q low. all_missed kind n (begin_of n from) a b (begins (omega arith) (nat_lt from n) refl) (claims_whole None all tried) q low
-      where
-        begins : 0 < n → (t : Bool) → nat_lt from n ≡ t → begin_of n from < n
-        begins some true e = rw e (ltb-true from n e)
-        begins some false e = rw e some
+    none_whole None all tried = λ q low. all_missed kind n (begin_of n from) a b (begins_low n from (omega arith)) (claims_whole None all tried) q low
     none_whole (Some number) all tried = tt
 
   pub claims_holds : (kind : ℕ → Rec) (n from number : ℕ) (a b : SeatView × G) → Claims table becomes kind n from number a b → HoldsOneMore (kind number) a.0.known b.0.known

@@ -1,3 +1,4 @@
 -- The definitions of the crate.
 pub mod Claims
 pub mod Records
+pub mod Starts

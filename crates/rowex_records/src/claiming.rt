@@ -1,14 +1,15 @@
 //! Records claimed, and given up again.
 
-ghost use Rattle.std.specs.Prelude.{◌≡◌, ◌<◌, ◌+◌, ◌-◌, min, true, false, IfNone, IfSome, MatchOption, All};
+ghost use Rattle.std.specs.Prelude.{◌≡◌, ◌<◌, ◌≤◌, ◌+◌, min, true, false, IfNone, IfSome, MatchOption, All};
 ghost use Rattle.rowex_core.specs.Cores.{HasRecord};
 ghost use Rattle.rowex_table.specs.Rights.{IsClaimed};
 ghost use Rattle.rowex_table.specs.Rule.{IsStartOf};
 ghost use Rattle.rowex_table.specs.Seats.{IsSeatOf};
 ghost use Rattle.rowex_records.specs.Claims.{AllMissed, Claims, ClaimsOne, FindsNone, MissesNumber, MissesOne, HasIndex, IsKindOf, begin_of, count_of, record_of, wrapped};
+ghost use Rattle.rowex_records.specs.Starts.{first_word};
 ghost use Rattle.rowex_records.specs.Records.{GivesUp, GivesUpAll, HoldsJust};
 
-use record_words::Layout;
+use record_words::{Layout, NODE_WORDS};
 use rowex_core::{Gate, Rec};
 use rowex_table::{HotTable, TableSeat};
 
@@ -29,6 +30,35 @@ impl RecordKind {
         match self {
             RecordKind::Node => Rec::Node(number),
             RecordKind::Leaf { first, .. } => Rec::Leaf(first + number),
+        }
+    }
+
+    /// The word at which the record of this kind that has the number begins, or would begin.
+    fn start_at(self, layout: &Layout, number: u32) -> usize
+        requires { number ≤ count_of self layout.now }
+        ensures { result ≡ first_word self layout.now number }
+    {
+        match self {
+            RecordKind::Node => layout.node(number),
+            RecordKind::Leaf { first, .. } => layout.leaf(first + number),
+        }
+    }
+
+    /// The number behind this one, where 0 comes after the last, and the word at which its record begins; this one's begins at `start`.
+    fn next(self, layout: &Layout, number: u32, start: usize) -> (u32, usize)
+        requires low { number < count_of self layout.now }
+        requires start { start ≡ first_word self layout.now number }
+        ensures number { result.0 ≡ wrapped (count_of self layout.now) number 1 }
+        ensures start { result.1 ≡ first_word self layout.now result.0 }
+    {
+        if number + 1 == self.count(*layout) {
+            return (0, self.start_at(layout, 0));
+        }
+        match self {
+            RecordKind::Node => (number + 1, start + NODE_WORDS),
+            RecordKind::Leaf { first, .. } => {
+                (number + 1, layout.leaf_behind(first + number, start))
+            }
         }
     }
 
@@ -91,15 +121,18 @@ pub fn claim_within<G: Gate>(
 {
     let layout = table.layout();
     let all = kind.count(layout);
-    let begin = first(from, all);
     let most = all.min(*left);
+    let mut number = first(from, all);
+    let mut start = kind.start_at(&layout, number);
     for tried in 0..most {
-        let number = turn(begin, tried, all);
         let rec = kind.record_at(number);
-        if try_record(table, seat, gate, rec, start_in(&layout, rec)) {
+        if try_record(table, seat, gate, rec, start) {
             *left -= tried + 1;
             return Some(number);
         }
+        let (next, behind) = kind.next(&layout, number, start);
+        number = next;
+        start = behind;
     }
     *left -= most;
     None
@@ -128,17 +161,6 @@ pub fn claim_numbered<G: Gate>(
     try_record(table, seat, gate, rec, table.start_of(rec))
 }
 
-/// The word at which a record begins, by a copy of the table's layout that a walk over many records keeps at hand.
-fn start_in(layout: &Layout, rec: Rec) -> usize
-    requires { HasRecord layout.now rec }
-    ensures { IsStartOf layout.now rec result }
-{
-    match rec {
-        Rec::Node(number) => layout.node(number),
-        Rec::Leaf(number) => layout.leaf(number),
-    }
-}
-
 /// Loads the state of a record, which begins at `start`, and claims it, if that is free; answers whether the pass has it now.
 fn try_record<G: Gate>(
     table: &HotTable,
@@ -162,22 +184,9 @@ fn try_record<G: Gate>(
 fn first(from: u32, all: u32) -> u32
     ensures begin { result ≡ begin_of all from }
     ensures low { 0 < all → result < all }
+    ensures few { result ≤ all }
 {
     if from < all { from } else { 0 }
-}
-
-/// Of `all` numbers the one that is `tried` after `begin`, where 0 comes after the last.
-fn turn(begin: u32, tried: u32, all: u32) -> u32
-    requires { (begin < all) × (tried < all) }
-    ensures wrapped { result ≡ wrapped all begin tried }
-    ensures low { result < all }
-{
-    let left = all - begin;
-    if tried < left {
-        begin + tried
-    } else {
-        tried - left
-    }
 }
 
 /// Makes a record free again that the pass has claimed and not made ready.

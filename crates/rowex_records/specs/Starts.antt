@@ -1,0 +1,11 @@
+-- Where records begin.
+use Rattle.std.specs.Prelude.{ℕ, ◌+◌}
+use Rattle.record_words.specs.declared.layout.Layout.{Layout}
+use Rattle.record_words.specs.Layout.{leaf_start, node_start}
+use Rattle.rowex_records.specs.declared.claiming.RecordKind.{RecordKind}
+use Rattle.rowex_records.specs.declared.claiming.RecordKind.TheVariants.{Node, Leaf}
+
+-- the word at which the record of a kind that has this number begins
+abbrev pub first_word : RecordKind → Layout → ℕ → ℕ
+first_word Node layout i = node_start layout i
+first_word (Leaf first end) layout i = leaf_start layout (first + i)
