@@ -195,7 +195,7 @@ impl Index {
 
     /// Gives a key a value if it is absent: `Inserted`, or `Exists` with the value that it has, which stays.
     ///
-    /// It waits for nobody: it makes at most 920,268 atomic steps, two more for each pass, 6 for each node record and 10
+    /// It waits for nobody: it makes at most 1,420,268 atomic steps, two more for each pass, 6 for each node record and 10
     /// for each leaf record. It is refused as `Busy` where another pass holds what it wants to lock, or has made a change since the
     /// call began; and as full where it found each record of a kind taken, also after a round of collection.
     /// Refused, it has changed nothing, and it holds no lock and no record.

@@ -1,8 +1,8 @@
 -- What filling a record comes to, making it ready, and giving it up.
-use Rattle.std.proofs.Common.{◌≡◌, ◌≢◌, ℕ, zero, suc, ◌+◌, ◌-◌, ◌<◌, ◌≤◌, List, [], ◌∷◌, ◌++◌, length, map, take, set, get_or, Bool, true, false, if◌then◌else◌, refl, sym, ap, subst, ◌∙◌, ⊎_elim, arith, add-one, length-append, get_or-take}
+use Rattle.std.proofs.Common.{◌≡◌, ◌≢◌, ℕ, zero, suc, ◌+◌, ◌-◌, ◌<◌, ◌≤◌, List, [], ◌∷◌, ◌++◌, length, map, take, set, get_or, Bool, true, false, if◌then◌else◌, refl, sym, ap, subst, ◌∙◌, ⊎_elim, arith, add-one, get_or-take}
 use Rattle.std.specs.Prelude.{All, Contains, not}
 use Rattle.std.proofs.lemmas.Bool.{cases_lt}
-use Rattle.std.proofs.lemmas.List.{ext_get_or, get_or_default, get_or-set_other, length-set, take_all, take_more, take_more_set}
+use Rattle.std.proofs.lemmas.List.{ext_get_or, get_or-set_other, length-set, take_all, take_more, take_more_set}
 use Rattle.std.proofs.lemmas.List.Elements.{All-head, All-tail, All-weaker}
 use Rattle.record_words.specs.declared.layout.Layout.{Layout}
 use Rattle.record_words.specs.Layout.{leaf_size}
@@ -11,8 +11,7 @@ use Rattle.moments.specs.declared.Rec.{Rec}
 use Rattle.moments.specs.declared.Rec.TheVariants.{Node as a_node, Leaf as a_leaf}
 use Rattle.moments.specs.Steps.{same_rec}
 use Rattle.moments.proofs.Legal.{same_rec_true, same_rec_refl}
-use Rattle.rowex_core.specs.declared.event.Act.{Act}
-use Rattle.rowex_core.specs.declared.event.Act.TheVariants.{Fill, Ready, Release}
+use Rattle.rowex_core.specs.declared.event.Act.TheVariants.{Ready, Release}
 use Rattle.rowex_core.specs.declared.event.Event.{Event}
 use Rattle.rowex_core.specs.declared.known.Holding.{Holding}
 use Rattle.rowex_core.specs.declared.known.Holding.TheVariants.{Held, Ready as IsReady}
@@ -24,14 +23,13 @@ use Rattle.rowex_core.specs.Sharing.{IsOwned}
 use Rattle.rowex_core.specs.Knowing.{Knows, fill_in, hold_as}
 use Rattle.rowex_core.proofs.Lists.{kept}
 use Rattle.rowex_core.proofs.Owning.{knows_all}
-use Rattle.rowex_table.specs.Rights.{OwnsAs, IsClaimed}
-use Rattle.rowex_table.specs.Runs.{silent, Steps, Does, InTurn}
+use Rattle.rowex_table.specs.Rights.{OwnsAs}
+use Rattle.rowex_table.specs.Runs.{Steps}
 use Rattle.rowex_table.specs.Seats.{TableView, SeatView}
 use Rattle.rowex_core.proofs.Having.{other_rec}
-use Rattle.rowex_table.proofs.Rights.{fill_more, mapped, HasFilled}
-use Rattle.rowex_table.proofs.Running.{in_turn_more, does_count}
-use Rattle.rowex_records.specs.Records.{owning, StoresWord, fill_with, Fills, Readies, GivesUp}
-use Rattle.rowex_records.proofs.Making.{owns_none, owns_one, owns_append}
+use Rattle.rowex_table.proofs.Rights.{mapped}
+use Rattle.rowex_records.specs.Records.{fill_with, Readies, GivesUp}
+use Rattle.rowex_records.proofs.Making.{owns_one}
 
 -- Lists of records
 
@@ -133,13 +131,6 @@ leaf_filled_with layout n words size zeros o held = go (same_rec o.rec (a_leaf n
         (λ j past. was j (omega (arith, past))) (λ j past. zeros j (omega (arith, past)))))
     go false e = rw e refl
 
--- each record has its number of words
-abbrev pub AreSized : List Owned → Type 0
-AreSized own = All (λ o. length o.words ≡ word_count_of o.rec) own
-
-pub own_sized : (c : Core) (k : Known) → IsLawful c → Knows c k → AreSized k.own
-own_sized c k lawful known = All-weaker (IsOwned k.pass c) (λ o. length o.words ≡ word_count_of o.rec) (λ o is. ap length (sym is.1) ∙ (lawful.records.sized o.rec).0) k.own (knows_all c k known).own
-
 pub filled_with : (r : Rec) (words : List ℕ) → length words ≡ word_count_of r → (o : Owned) → length o.words ≡ word_count_of o.rec → stored_in r words (length words) o ≡ fill_with r words o
 filled_with r words size o sized = go (same_rec o.rec r) refl
   where
@@ -148,74 +139,7 @@ filled_with r words size o sized = go (same_rec o.rec r) refl
     go false e = rw e refl
 
 module _ {G : Type 0} (table : TableView) (becomes : G → Event → G → Type 0) where
-  -- The first i words are stored.
-  pub record FillsSome (r : Rec) (words : List ℕ) (i : ℕ) (a b : SeatView × G) : Type 0 where
-    pub stores : List Act
-    pub in_turn : InTurn (StoresWord r words) i stores
-    pub count : length stores ≡ i
-    pub does : Does table becomes owning stores a b
-    pub has : HasFilled b.0.known r words i
-    pub own : b.0.known.own ≡ map (stored_in r words i) a.0.known.own
-    pub sized : 1 ≤ i → AreSized a.0.known.own
-
-  pub fills_none : (r : Rec) (words : List ℕ) (a : SeatView × G) → length words ≡ word_count_of r → IsClaimed a.0.known r → FillsSome r words 0 a a
-  fills_none r words a size held = record {
-    stores = [];
-    in_turn = refl;
-    count = refl;
-    does = owns_none table becomes a;
-    has = (held.0, held.1 ∙ sym size, refl, held.2);
-    own = sym (stored_nothing r words a.0.known.own);
-    sized = λ low. absurd (omega arith);
-  }
-
-  pub fills_more : (r : Rec) (words : List ℕ) (i word : ℕ) (a m b : SeatView × G) → FillsSome r words i a m → i < length words → word ≡ get_or words i 0
-      → Steps table becomes (Fill r (i + 1) word) m b → FillsSome r words (i + 1) a b
-  fills_more r words i word a m b some low is step = record {
-    stores = some.stores ++ act ∷ [];
-    in_turn = in_turn_more (StoresWord r words) i some.stores (act ∷ []) some.in_turn (ap (λ w. Fill r (i + 1) w ∷ []) is);
-    count = let count = some.count in omega (arith, length-append some.stores (act ∷ []));
-    does = owns_append table becomes some.stores (act ∷ []) a m b some.does (owns_one table becomes act m b tt step);
-    has = fill_more table.layout silent m.0.known b.0.known r words i word step.event low (is ∙ get_or_default words i 0 word low) some.has;
-    own = ap (λ (z : Known). z.own) step.event.learned_is ∙
-        (ap (map (fill_in r (i + 1) word)) some.own ∙
-        (ap (λ w. map (fill_in r (i + 1) w) (map (stored_in r words i) a.0.known.own)) is ∙ twice (fill_in r (i + 1) (get_or words i 0)) (stored_in r words i) (stored_in r words (i + 1)) (stored_more r words i) a.0.known.own));
-    sized = λ _. sized i some.own some.sized;
-  }
-    where
-      act : Act
-      act = Fill r (i + 1) word
-
-      now : AreSized m.0.known.own
-      now = own_sized step.event.core m.0.known step.event.lawful step.event.knows
-
-      sized : (n : ℕ) → m.0.known.own ≡ map (stored_in r words n) a.0.known.own → (1 ≤ n → AreSized a.0.known.own) → AreSized a.0.known.own
-      sized zero own before = subst AreSized (own ∙ stored_nothing r words a.0.known.own) now
-      sized (suc n) own before = before (omega arith)
-
-  pub fills_all : (r : Rec) (words : List ℕ) (i : ℕ) (a b : SeatView × G) → length words ≡ word_count_of r → FillsSome r words i a b → i ≡ length words → Fills table becomes r words a b
-  fills_all r words i a b size some all = record {
-    sized = size;
-    stores = some.stores;
-    in_turn = subst (λ n. InTurn (StoresWord r words) n some.stores) all some.in_turn;
-    count = some.count ∙ all;
-    does = some.does;
-    own = some.own ∙ (ap (λ n. map (stored_in r words n) a.0.known.own) all ∙
-        each_mapped (λ o. length o.words ≡ word_count_of o.rec) (stored_in r words (length words)) (fill_with r words) (filled_with r words size) a.0.known.own (some.sized (let much = counts r in omega arith)));
-  }
-    where
-      counts : (s : Rec) → 1 ≤ word_count_of s
-      counts (a_node n) = omega arith
-      counts (a_leaf n) = omega arith
-
-  -- with so many steps
-  pub fills_count : (r : Rec) (words : List ℕ) (a b : SeatView × G) → Fills table becomes r words a b → b.0.known.steps ≡ a.0.known.steps + length words
-  fills_count r words a b fills = does_count table becomes owning fills.stores a b fills.does ∙ ap (λ n. a.0.known.steps + n) fills.count
-
-  -- what a pass has of one record, filling another leaves to it, and so do making another ready and giving up another
-  pub fills_keeps : (r s : Rec) (filling : List ℕ) (h : Holding) (words : List ℕ) (a b : SeatView × G) → s ≢ r → Fills table becomes r filling a b → OwnsAs a.0.known s h words → OwnsAs b.0.known s h words
-  fills_keeps r s filling h words a b ne fills has = stays_mapped a.0.known b.0.known (fill_with r filling) s h words fills.own (rw (other_rec s r ne) refl) has
-
+  -- what a pass has of one record, making another ready leaves to it, and so does giving up another
   pub readies_keeps : (r s : Rec) (h : Holding) (words : List ℕ) (a b : SeatView × G) → s ≢ r → Readies table becomes r a b → OwnsAs a.0.known s h words → OwnsAs b.0.known s h words
   readies_keeps r s h words a b ne readies has = stays_mapped a.0.known b.0.known (hold_as r IsReady) s h words readies.own (rw (other_rec s r ne) refl) has
 

@@ -1,8 +1,9 @@
--- A record's words put in place one by one, where a 0 that stands there already is not stored again.
-use Rattle.std.proofs.Common.{◌≡◌, inl, inr, ℕ, zero, suc, ◌+◌, ◌*◌, ◌-◌, ◌≤◌, List, [], ◌∷◌, ◌++◌, length, map, set, get_or, Bool, true, false, refl, sym, ap, subst, ◌∙◌, arith, length-append, ap₂}
+-- A record's words put in place one by one, where an unused word that stands there already is not stored again.
+use Rattle.std.proofs.Common.{◌≡◌, ◌≢◌, inl, inr, ℕ, zero, suc, ◌+◌, ◌*◌, ◌-◌, ◌≤◌, nat_eq, nat_lt, List, [], ◌∷◌, ◌++◌, length, map, set, get_or, Bool, true, false, refl, sym, ap, subst, ◌∙◌, arith, length-append, ap₂}
 use Rattle.std.specs.Prelude.{All, Contains}
 use Rattle.std.proofs.lemmas.List.{append-nil, length-set, set-get_or}
-use Rattle.std.proofs.lemmas.List.Elements.{All-head, All-tail}
+use Rattle.std.proofs.lemmas.Bool.{eq-eqb, eqb-true, ltb-false}
+use Rattle.std.proofs.lemmas.List.Elements.{All-head, All-tail, All-weaker}
 use Rattle.hot_model.specs.declared.Change.{Change}
 use Rattle.hot_model.specs.declared.Note.{Note}
 use Rattle.moments.specs.declared.Rec.{Rec}
@@ -11,7 +12,9 @@ use Rattle.moments.specs.Steps.{same_rec}
 use Rattle.moments.proofs.Legal.{same_rec_true, same_rec_refl}
 use Rattle.record_words.specs.declared.layout.Layout.{Layout}
 use Rattle.rowex_core.specs.declared.event.Act.{Act}
-use Rattle.rowex_core.specs.declared.event.Act.TheVariants.{Fill, LoadFixed}
+use Rattle.record_words.specs.declared.TheConstants.{FIRST_ENTRY}
+use Rattle.rowex_core.specs.declared.event.Act.TheVariants.{Fill, LoadFixed, LoadRef}
+use Rattle.rowex_core.specs.declared.event.Spot.TheVariants.{Slot}
 use Rattle.rowex_core.specs.declared.event.Event.{Event}
 use Rattle.rowex_core.specs.declared.known.Fact.{Fact}
 use Rattle.rowex_core.specs.declared.known.Holding.TheVariants.{Held}
@@ -19,8 +22,9 @@ use Rattle.rowex_core.specs.declared.known.Owned.{Owned}
 use Rattle.rowex_core.specs.declared.known.Known.{Known}
 use Rattle.record_words.specs.Layout.{leaf_size}
 use Rattle.record_words.proofs.Locations.{size_fits}
-use Rattle.rowex_core.specs.Cores.{IsWithin, word_count_of}
+use Rattle.rowex_core.specs.Cores.{Core, IsWithin, word_count_of}
 use Rattle.rowex_core.specs.Events.{IsFixedOffset}
+use Rattle.rowex_core.specs.Words.{record_word}
 use Rattle.rowex_core.specs.Sharing.{IsOwned}
 use Rattle.rowex_core.specs.Knowing.{IsEvent, fill_in}
 use Rattle.rowex_core.proofs.Owning.{knows_all}
@@ -33,8 +37,8 @@ use Rattle.rowex_table.proofs.ActsBefore.{later_trans, recalls_on, same_later}
 use Rattle.rowex_table.proofs.Rights.{mapped}
 use Rattle.rowex_table.proofs.Running as running
 use Rattle.rowex_table.proofs.Running.{in_turn_more}
-use Rattle.rowex_records.specs.Records.{owning, filling, fill_with, Sets, SetsAll, SetsWord}
-use Rattle.rowex_records.proofs.Filled.{AreWithin, each_mapped, leaf_filled_with, own_within, stored_in, stored_more, stored_nothing, twice}
+use Rattle.rowex_records.specs.Records.{owning, filling, fill_with, looking, mending, unused_word, Sets, SetsAll, SetsWord}
+use Rattle.rowex_records.proofs.Filled.{AreWithin, each_mapped, filled_with, leaf_filled_with, own_within, stored_in, stored_more, stored_nothing, twice}
 use Rattle.rowex_records.proofs.Making.{owns_one}
 
 -- ---- one word
@@ -51,20 +55,63 @@ each_left : (P : Owned → Type 0) (f : Owned → Owned) → ((o : Owned) → P 
 each_left P f e [] all = refl
 each_left P f e (o ∷ own) all = λ i. e o (All-head P o own all) i ∷ each_left P f e own (All-tail P o own all) i
 
--- where a load of a record finds 0, a 0 stands in what the pass knows of it
-found_stands : (layout : Layout) (r : Rec) (offset : ℕ) (k j : Known) → IsEvent layout (LoadFixed r offset 0) silent k j → map (fill_in r offset 0) k.own ≡ k.own
-found_stands layout r zero k j e = absurd (no_state r e.legal.1.1)
-found_stands layout r (suc offset) k j e = each_left (IsOwned k.pass e.core) (fill_in r (suc offset) 0) stands k.own (knows_all e.core k e.knows).own
+-- where a record has this word, it stands in what the pass knows of it
+word_stands : (c : Core) (q : ℕ) (r : Rec) (offset word : ℕ) → word ≡ get_or (c.words r) offset 0 → (own : List Owned) → All (IsOwned q c) own → map (fill_in r (suc offset) word) own ≡ own
+word_stands c q r offset word is own all = each_left (IsOwned q c) (fill_in r (suc offset) word) stands own all
   where
-    stands : (o : Owned) → IsOwned k.pass e.core o → fill_in r (suc offset) 0 o ≡ o
+    stands : (o : Owned) → IsOwned q c o → fill_in r (suc offset) word o ≡ o
     stands o owned = go (same_rec o.rec r) refl
       where
-        go : (b : Bool) → same_rec o.rec r ≡ b → fill_in r (suc offset) 0 o ≡ o
+        go : (b : Bool) → same_rec o.rec r ≡ b → fill_in r (suc offset) word o ≡ o
         go false t = rw t refl
         go true t =
             let at : suc offset - 1 ≡ offset = omega arith in
-            let word : 0 ≡ get_or o.words offset 0 = e.legal.1.2 ∙ ap (λ l. get_or l offset 0) (ap e.core.words (sym (same_rec_true o.rec r t)) ∙ owned.1) in
-            rw t (rw at (ap (λ l. let z : Owned = record o { words = l } in z) (ap (set o.words offset) word ∙ set-get_or o.words offset 0)))
+            let here : word ≡ get_or o.words offset 0 = is ∙ ap (λ l. get_or l offset 0) (ap c.words (sym (same_rec_true o.rec r t)) ∙ owned.1) in
+            rw t (rw at (ap (λ l. let z : Owned = record o { words = l } in z) (ap (set o.words offset) here ∙ set-get_or o.words offset 0)))
+
+-- what a load of a word is: of a fixed one, or of an entry
+looks : (P : Rec → ℕ → Act → Type 0) (w : ℕ) → ((r : Rec) (offset : ℕ) → P r offset (LoadFixed r offset w)) → ((n j : ℕ) → P (a_node n) (FIRST_ENTRY + j) (LoadRef (Slot n j) w)) →
+    (r : Rec) (offset : ℕ) → P r offset (looking r offset w)
+looks P w fixed slot (a_leaf n) offset = fixed (a_leaf n) offset
+looks P w fixed slot (a_node n) offset = go (nat_lt offset FIRST_ENTRY) refl
+  where
+    go : (b : Bool) → nat_lt offset FIRST_ENTRY ≡ b → P (a_node n) offset (looking (a_node n) offset w)
+    go true e = rw e (fixed (a_node n) offset)
+    go false e =
+        let past : FIRST_ENTRY ≤ offset = ltb-false offset FIRST_ENTRY e in
+        let at : FIRST_ENTRY + (offset - FIRST_ENTRY) ≡ offset = omega (arith, past) in
+        rw e (subst (λ o. P (a_node n) o (LoadRef (Slot n (offset - FIRST_ENTRY)) w)) at (slot n (offset - FIRST_ENTRY)))
+
+-- the word of an entry
+entry_word : (c : Core) (n i : ℕ) → record_word c (a_node n) (FIRST_ENTRY + i) ≡ get_or (c.words (a_node n)) (25 + i) 0
+entry_word c n i = let at : FIRST_ENTRY + i ≡ suc (25 + i) = omega arith in ap (record_word c (a_node n)) at
+
+-- where a load of a record finds a word, it stands in what the pass knows of it
+found_stands : (layout : Layout) (word : ℕ) (k j : Known) (r : Rec) (offset : ℕ) → IsEvent layout (looking r offset word) silent k j → map (fill_in r offset word) k.own ≡ k.own
+found_stands layout word k j = looks (λ r offset act. IsEvent layout act silent k j → map (fill_in r offset word) k.own ≡ k.own) word fixed slot
+  where
+    fixed : (r : Rec) (offset : ℕ) → IsEvent layout (LoadFixed r offset word) silent k j → map (fill_in r offset word) k.own ≡ k.own
+    fixed r zero e = absurd (no_state r e.legal.1.1)
+    fixed r (suc offset) e = word_stands e.core k.pass r offset word e.legal.1.2 k.own (knows_all e.core k e.knows).own
+
+    slot : (n i : ℕ) → IsEvent layout (LoadRef (Slot n i) word) silent k j → map (fill_in (a_node n) (FIRST_ENTRY + i) word) k.own ≡ k.own
+    slot n i e =
+        let at : suc (25 + i) ≡ FIRST_ENTRY + i = omega arith in
+        subst (λ offset. map (fill_in (a_node n) offset word) k.own ≡ k.own) at (word_stands e.core k.pass (a_node n) (25 + i) word (e.legal.1.2 ∙ entry_word e.core n i) k.own (knows_all e.core k e.knows).own)
+
+-- a load teaches nothing else than facts
+look_settled : (layout : Layout) (word : ℕ) (k j : Known) (r : Rec) (offset : ℕ) → IsEvent layout (looking r offset word) silent k j → j ≡ record (filling k j) { steps = k.steps + 1 }
+look_settled layout word k j = looks (λ r offset act. IsEvent layout act silent k j → j ≡ record (filling k j) { steps = k.steps + 1 }) word
+    (λ r offset e. read_settled k j _ _ e.learned_is)
+    (λ n i e. read_settled k j _ _ e.learned_is)
+
+look_owns : (layout : Layout) (word : ℕ) (k j : Known) (r : Rec) (offset : ℕ) → IsEvent layout (looking r offset word) silent k j → j.own ≡ k.own
+look_owns layout word k j = looks (λ r offset act. IsEvent layout act silent k j → j.own ≡ k.own) word
+    (λ r offset e. ap (λ (z : Known). z.own) e.learned_is)
+    (λ n i e. ap (λ (z : Known). z.own) e.learned_is)
+
+look_keeps : (word : ℕ) (r : Rec) (offset : ℕ) → KeepsRecall (looking r offset word)
+look_keeps word = looks (λ r offset act. KeepsRecall act) word (λ r offset. tt) (λ n i. tt)
 
 module _ {G : Type 0} (table : TableView) (becomes : G → Event → G → Type 0) where
   -- steps on held records may look too
@@ -79,8 +126,8 @@ module _ {G : Type 0} (table : TableView) (becomes : G → Event → G → Type 
   fill_one : (r : Rec) (offset word : ℕ) (a b : SeatView × G) → Steps table becomes (Fill r offset word) a b → Does table becomes filling (Fill r offset word ∷ []) a b
   fill_one r offset word a b step = owns_filling (Fill r offset word ∷ []) a b (owns_one table becomes (Fill r offset word) a b tt step)
 
-  load_one : (r : Rec) (offset found : ℕ) (a b : SeatView × G) → Steps table becomes (LoadFixed r offset found) a b → Does table becomes filling (LoadFixed r offset found ∷ []) a b
-  load_one r offset found a b step = running.does_one table becomes filling (LoadFixed r offset found) a b step (read_settled a.0.known b.0.known _ _ step.event.learned_is)
+  load_one : (r : Rec) (offset found : ℕ) (a b : SeatView × G) → Steps table becomes (looking r offset found) a b → Does table becomes filling (looking r offset found ∷ []) a b
+  load_one r offset found a b step = running.does_one table becomes filling (looking r offset found) a b step (look_settled table.layout found a.0.known b.0.known r offset step.event)
 
   fillings_append : (acts more : List Act) (a m b : SeatView × G) → Does table becomes filling acts a m → Does table becomes filling more m b → Does table becomes filling (acts ++ more) a b
   fillings_append acts more a m b first second = running.does_append table becomes filling (λ k i j n o. refl) acts more a m b first second
@@ -88,45 +135,51 @@ module _ {G : Type 0} (table : TableView) (becomes : G → Event → G → Type 
   later_step : (act : Act) (a b : SeatView × G) → KeepsRecall act → Steps table becomes act a b → IsLater a.0.known b.0.known
   later_step act a b keeps step = recalls_on table.layout silent a.0.known b.0.known act keeps step.event
 
-  -- a word that is not 0,
-  pub sets_stored : (r : Rec) (offset word : ℕ) (a b : SeatView × G) → 1 ≤ word → Steps table becomes (Fill r offset word) a b → Sets table becomes r offset word a b
-  sets_stored r offset word a b some step = record {
+  -- a word that is used,
+  pub sets_stored : (r : Rec) (offset word : ℕ) (a b : SeatView × G) → word ≢ unused_word r offset → Steps table becomes (Fill r offset word) a b → Sets table becomes r offset word a b
+  sets_stored r offset word a b used step = record {
     acts = Fill r offset word ∷ [];
-    sets = inl (some, refl);
+    sets = inl (used, refl);
     does = fill_one r offset word a b step;
     later = later_step (Fill r offset word) a b tt step;
     own = ap (λ (z : Known). z.own) step.event.learned_is;
   }
 
-  -- a 0 that stands there already,
-  pub sets_found : (r : Rec) (offset found : ℕ) (a b : SeatView × G) → found ≡ 0 → Steps table becomes (LoadFixed r offset found) a b → Sets table becomes r offset 0 a b
-  sets_found r offset zero a b none step = record {
-    acts = LoadFixed r offset 0 ∷ [];
-    sets = inr (refl, 0, refl);
-    does = load_one r offset 0 a b step;
-    later = later_step (LoadFixed r offset 0) a b tt step;
-    own = ap (λ (z : Known). z.own) step.event.learned_is ∙ sym (found_stands table.layout r offset a.0.known b.0.known step.event);
+  -- an unused one that stands there already,
+  pub sets_found : (r : Rec) (offset word : ℕ) (a b : SeatView × G) → word ≡ unused_word r offset → Steps table becomes (looking r offset word) a b → Sets table becomes r offset word a b
+  sets_found r offset word a b unused step = record {
+    acts = looking r offset word ∷ [];
+    sets = inr (unused, word, ap (λ l. looking r offset word ∷ l) (sym mended));
+    does = load_one r offset word a b step;
+    later = later_step (looking r offset word) a b (look_keeps word r offset) step;
+    own = look_owns table.layout word a.0.known b.0.known r offset step.event ∙ sym (found_stands table.layout word a.0.known b.0.known r offset step.event);
   }
-  sets_found r offset (suc found) a b none step = absurd (omega arith)
+    where
+      mended : mending r offset word word ≡ []
+      mended = rw (eq-eqb word word refl) refl
 
-  -- and a 0 in another's place
-  pub sets_cleared : (r : Rec) (offset found : ℕ) (a m b : SeatView × G) → 1 ≤ found → Steps table becomes (LoadFixed r offset found) a m → Steps table becomes (Fill r offset 0) m b → Sets table becomes r offset 0 a b
-  sets_cleared r offset zero a m b some load step = absurd (omega arith)
-  sets_cleared r offset (suc found) a m b some load step = record {
-    acts = LoadFixed r offset (suc found) ∷ Fill r offset 0 ∷ [];
-    sets = inr (refl, suc found, refl);
-    does = fillings_append (LoadFixed r offset (suc found) ∷ []) (Fill r offset 0 ∷ []) a m b (load_one r offset (suc found) a m load) (fill_one r offset 0 m b step);
-    later = later_trans (later_step (LoadFixed r offset (suc found)) a m tt load) (later_step (Fill r offset 0) m b tt step);
-    own = ap (λ (z : Known). z.own) step.event.learned_is ∙ ap (map (fill_in r offset 0)) (ap (λ (z : Known). z.own) load.event.learned_is);
+  -- and one in another's place
+  pub sets_mended : (r : Rec) (offset word found : ℕ) (a m b : SeatView × G) → word ≡ unused_word r offset → found ≢ word → Steps table becomes (looking r offset found) a m → Steps table becomes (Fill r offset word) m b →
+      Sets table becomes r offset word a b
+  sets_mended r offset word found a m b unused other load step = record {
+    acts = looking r offset found ∷ Fill r offset word ∷ [];
+    sets = inr (unused, found, ap (λ l. looking r offset found ∷ l) (sym (differs (nat_eq found word) refl)));
+    does = fillings_append (looking r offset found ∷ []) (Fill r offset word ∷ []) a m b (load_one r offset found a m load) (fill_one r offset word m b step);
+    later = later_trans (later_step (looking r offset found) a m (look_keeps found r offset) load) (later_step (Fill r offset word) m b tt step);
+    own = ap (λ (z : Known). z.own) step.event.learned_is ∙ ap (map (fill_in r offset word)) (look_owns table.layout found a.0.known m.0.known r offset load.event);
   }
+    where
+      differs : (b : Bool) → nat_eq found word ≡ b → mending r offset word found ≡ Fill r offset word ∷ []
+      differs true e = absurd (other (eqb-true found word e))
+      differs false e = rw e refl
 
   -- the record stays claimed by a load,
-  pub load_claimed : (r : Rec) (offset found : ℕ) (a b : SeatView × G) → Steps table becomes (LoadFixed r offset found) a b → IsClaimed a.0.known r → IsClaimed b.0.known r
+  pub load_claimed : (r : Rec) (offset found : ℕ) (a b : SeatView × G) → Steps table becomes (looking r offset found) a b → IsClaimed a.0.known r → IsClaimed b.0.known r
   load_claimed r offset found a b step (words, size, has) =
-      (words, size, subst (λ l. Contains l (record { rec = r; holding = Held; words = words })) (sym (ap (λ (z : Known). z.own) step.event.learned_is)) has)
+      (words, size, subst (λ l. Contains l (record { rec = r; holding = Held; words = words })) (sym (look_owns table.layout found a.0.known b.0.known r offset step.event)) has)
 
   -- and where its word is set
-  set_claimed : (r : Rec) (offset word : ℕ) (a b : SeatView × G) → Sets table becomes r offset word a b → IsClaimed a.0.known r → IsClaimed b.0.known r
+  pub set_claimed : (r : Rec) (offset word : ℕ) (a b : SeatView × G) → Sets table becomes r offset word a b → IsClaimed a.0.known r → IsClaimed b.0.known r
   set_claimed r offset word a b sets (words, size, has) =
       let o : Owned = record { rec = r; holding = Held; words = set words (offset - 1) word } in
       let with : fill_in r offset word (record { rec = r; holding = Held; words = words }) ≡ o = rw (same_rec_refl r) refl in (
@@ -137,9 +190,12 @@ module _ {G : Type 0} (table : TableView) (becomes : G → Event → G → Type 
 
   -- ---- word by word
   sets_long : (r : Rec) (offset word : ℕ) (acts : List Act) → SetsWord r offset word acts → (1 ≤ length acts) × (length acts ≤ 2)
-  sets_long r offset word acts (inl (some, is)) = subst (λ l. (1 ≤ length l) × (length l ≤ 2)) (sym is) (omega arith, omega arith)
-  sets_long r offset word acts (inr (none, zero, is)) = subst (λ l. (1 ≤ length l) × (length l ≤ 2)) (sym is) (omega arith, omega arith)
-  sets_long r offset word acts (inr (none, suc found, is)) = subst (λ l. (1 ≤ length l) × (length l ≤ 2)) (sym is) (omega arith, omega arith)
+  sets_long r offset word acts (inl (used, is)) = subst (λ l. (1 ≤ length l) × (length l ≤ 2)) (sym is) (omega arith, omega arith)
+  sets_long r offset word acts (inr (unused, found, is)) = subst (λ l. (1 ≤ length l) × (length l ≤ 2)) (sym is) (go (nat_eq found word) refl)
+    where
+      go : (b : Bool) → nat_eq found word ≡ b → (1 ≤ length (looking r offset found ∷ mending r offset word found)) × (length (looking r offset found ∷ mending r offset word found) ≤ 2)
+      go true e = rw e (omega arith, omega arith)
+      go false e = rw e (omega arith, omega arith)
 
   -- The first i words stand.
   pub record SetsSome (r : Rec) (words : List ℕ) (i : ℕ) (a b : SeatView × G) : Type 0 where
@@ -198,6 +254,24 @@ module _ {G : Type 0} (table : TableView) (becomes : G → Event → G → Type 
         (leaf_filled_with table.layout n words size zeros) a.0.known.own
         (runs_within some.acts a b (let z = some.least in omega (arith, z, size_fits table.layout n)) some.does.steps);
   }
+
+  -- all words of a node
+  pub sets_node : (n : ℕ) (words : List ℕ) (i : ℕ) (a b : SeatView × G) → length words ≡ word_count_of (a_node n) → i ≡ length words → SetsSome (a_node n) words i a b → SetsAll table becomes (a_node n) words a b
+  sets_node n words i a b size all some = record {
+    sized = size;
+    acts = some.acts;
+    in_turn = subst (λ m. InTurn (λ i. SetsWord (a_node n) (i + 1) (get_or words i 0)) m some.acts) (all ∙ size) some.in_turn;
+    does = some.does;
+    later = some.later;
+    own = some.own ∙ (ap (λ m. map (stored_in (a_node n) words m) a.0.known.own) all ∙
+        each_mapped (λ o. length o.words ≡ word_count_of o.rec) (stored_in (a_node n) words (length words)) (fill_with (a_node n) words) (filled_with (a_node n) words size) a.0.known.own
+        (All-weaker (λ o. (length o.words ≡ word_count_of o.rec) × IsWithin table.layout o.rec o.words) (λ o. length o.words ≡ word_count_of o.rec) (λ o is. is.0) a.0.known.own
+        (runs_within some.acts a b (let z = some.least in omega (arith, z, all, size)) some.does.steps)));
+  }
+
+  -- in two steps at most for each
+  pub sets_count : (r : Rec) (words : List ℕ) (i : ℕ) (a b : SeatView × G) → SetsSome r words i a b → b.0.known.steps ≤ a.0.known.steps + 2 * i
+  sets_count r words i a b some = omega (arith, some.most, running.does_count table becomes filling some.acts a b some.does)
 
   -- and the record has these words then
   pub sets_give : (r : Rec) (words : List ℕ) (a b : SeatView × G) → SetsAll table becomes r words a b → IsClaimed a.0.known r → OwnsAs b.0.known r Held words

@@ -1,9 +1,12 @@
 -- Steps on records of a pass's own that are not in the tree: filled, made ready, given up.
-use Rattle.std.specs.Prelude.{◌≡◌, ◌≤◌, ◌⊎◌, ℕ, zero, suc, ◌+◌, ◌-◌, List, [], ◌∷◌, length, map, get_or, All, Contains, if◌then◌else◌}
+use Rattle.std.specs.Prelude.{◌≡◌, ◌≢◌, ◌⊎◌, ℕ, ◌+◌, ◌-◌, ◌^◌, List, [], ◌∷◌, length, map, get_or, nat_eq, nat_lt, All, Contains, if◌then◌else◌}
 use Rattle.moments.specs.declared.Rec.{Rec}
+use Rattle.moments.specs.declared.Rec.TheVariants.{Node as a_node, Leaf as a_leaf}
 use Rattle.moments.specs.Steps.{same_rec}
 use Rattle.rowex_core.specs.declared.event.Act.{Act}
-use Rattle.rowex_core.specs.declared.event.Act.TheVariants.{Fill, LoadFixed, Ready, Release}
+use Rattle.record_words.specs.declared.TheConstants.{FIRST_ENTRY}
+use Rattle.rowex_core.specs.declared.event.Act.TheVariants.{Fill, LoadFixed, LoadRef, Ready, Release}
+use Rattle.rowex_core.specs.declared.event.Spot.TheVariants.{Slot}
 use Rattle.rowex_core.specs.declared.event.Event.{Event}
 use Rattle.rowex_core.specs.declared.known.Holding.TheVariants.{Held, Ready as IsReady}
 use Rattle.rowex_core.specs.declared.known.Known.{Known}
@@ -25,23 +28,9 @@ owning k j = record k { own = j.own }
 abbrev pub IsFilled : Known → Rec → List ℕ → Type 0
 IsFilled k r words = OwnsAs k r Held words × IsPacked r words
 
--- the word of this index is stored; the first stands at offset 1
-abbrev pub StoresWord : Rec → List ℕ → ℕ → List Act → Type 0
-StoresWord r words i acts = acts ≡ Fill r (i + 1) (get_or words i 0) ∷ []
-
 -- these words in the place of the one record's
 abbrev pub fill_with : Rec → List ℕ → Owned → Owned
 fill_with r words o = if same_rec o.rec r then record o { words = words } else o
-
--- The words, all that the record has but its state, are stored from offset 1 on, one after the other. Of the pass's own records this one has them then, and
--- the others are as they were.
-pub record Fills {G : Type 0} (table : TableView) (becomes : G → Event → G → Type 0) (r : Rec) (words : List ℕ) (a b : SeatView × G) : Type 0 where
-  pub sized : length words ≡ word_count_of r
-  pub stores : List Act
-  pub in_turn : InTurn (StoresWord r words) (length words) stores
-  pub count : length stores ≡ length words
-  pub does : Does table becomes owning stores a b
-  pub own : b.0.known.own ≡ map (fill_with r words) a.0.known.own
 
 -- Filling what may stand there already
 
@@ -49,14 +38,25 @@ pub record Fills {G : Type 0} (table : TableView) (becomes : G → Event → G �
 abbrev pub filling : Known → Known → Known
 filling k j = record k { own = j.own; front = j.front; facts = j.facts }
 
--- where a load found 0 nothing is stored, and else a 0
-abbrev pub clearing : Rec → ℕ → ℕ → List Act
-clearing r offset zero = []
-clearing r offset (suc w) = Fill r offset 0 ∷ []
+-- what stands at an offset where the record has no part of its value: all bits are set in the head of a node, and none elsewhere
+abbrev pub unused_word : Rec → ℕ → ℕ
+unused_word (a_node n) offset = if nat_lt offset FIRST_ENTRY then 2 ^ 64 - 1 else 0
+unused_word (a_leaf n) offset = 0
 
--- the word comes to stand at the offset: one that is not 0 is stored, and for a 0 the word there is loaded first
+-- a load of the word there
+abbrev pub looking : Rec → ℕ → ℕ → Act
+looking (a_node n) offset w = if nat_lt offset FIRST_ENTRY then LoadFixed (a_node n) offset w else LoadRef (Slot n (offset - FIRST_ENTRY)) w
+looking (a_leaf n) offset w = LoadFixed (a_leaf n) offset w
+
+-- where a load found the word nothing is stored, and else the word
+abbrev pub mending : Rec → ℕ → ℕ → ℕ → List Act
+mending r offset word found = if nat_eq found word then [] else Fill r offset word ∷ []
+
+-- the word comes to stand at the offset: it is stored, but for an unused one the word there is loaded first
 abbrev pub SetsWord : Rec → ℕ → ℕ → List Act → Type 0
-SetsWord r offset word acts = ((1 ≤ word) × (acts ≡ Fill r offset word ∷ [])) ⊎ ((word ≡ 0) × (found : ℕ) × (acts ≡ LoadFixed r offset found ∷ clearing r offset found))
+SetsWord r offset word acts =
+    ((word ≢ unused_word r offset) × (acts ≡ Fill r offset word ∷ [])) ⊎
+    ((word ≡ unused_word r offset) × (found : ℕ) × (acts ≡ looking r offset found ∷ mending r offset word found))
 
 -- The pass goes on so for one word. Of its own records this one has the word then, and the others are as they were.
 pub record Sets {G : Type 0} (table : TableView) (becomes : G → Event → G → Type 0) (r : Rec) (offset word : ℕ) (a b : SeatView × G) : Type 0 where
@@ -66,8 +66,8 @@ pub record Sets {G : Type 0} (table : TableView) (becomes : G → Event → G �
   pub later : IsLater a.0.known b.0.known
   pub own : b.0.known.own ≡ map (fill_in r offset word) a.0.known.own
 
--- The words come to stand from offset 1 on, as far as the table has words for the record, one after the other; a 0 that stands there already
--- is not stored again. Of the pass's own records this one has them then, and the others are as they were.
+-- The words come to stand from offset 1 on, as far as the table has words for the record, one after the other; an unused one that stands
+-- there already is not stored again. Of the pass's own records this one has them then, and the others are as they were.
 pub record SetsAll {G : Type 0} (table : TableView) (becomes : G → Event → G → Type 0) (r : Rec) (words : List ℕ) (a b : SeatView × G) : Type 0 where
   pub sized : length words ≡ word_count_of r
   pub acts : List Act

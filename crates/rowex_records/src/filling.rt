@@ -6,17 +6,17 @@ ghost use Rattle.record_words.specs.Layout.{leaf_size};
 ghost use Rattle.record_words.specs.Leaf.{leaf_words, words_for};
 ghost use Rattle.record_words.specs.Node.{HasNodeWords, node_words};
 ghost use Rattle.record_words.specs.declared.TheConstants.{LEAF_FIELDS};
-ghost use Rattle.rowex_core.specs.Cores.{FitsIn, HasRecord, HasWord, size_of, word_count_of};
+ghost use Rattle.rowex_core.specs.Cores.{FitsIn, HasRecord, HasWord};
 ghost use Rattle.rowex_core.specs.Events.{IsOffset};
-ghost use Rattle.rowex_core.specs.Reading.{IsPacked};
 ghost use Rattle.rowex_table.specs.Rights.{IsClaimed};
 ghost use Rattle.rowex_table.specs.Rule.{IsStartOf};
+ghost use Rattle.rowex_table.specs.Runs.{Steps};
 ghost use Rattle.rowex_table.specs.Seats.{IsSeatOf};
-ghost use Rattle.rowex_records.specs.Records.{Fills, IsFilled, Readies, Sets, SetsAll};
+ghost use Rattle.rowex_records.specs.Records.{IsFilled, Readies, Sets, SetsAll, looking, unused_word};
 
 use compound_node::Node;
 use key_bits::Key;
-use record_words::{NODE_FIELDS, pack_leaf, pack_node};
+use record_words::{FIRST_ENTRY, HEAD_WORDS, NODE_FIELDS, pack_leaf, pack_node};
 use rowex_core::{Gate, Rec};
 use rowex_table::{HotTable, TableSeat};
 
@@ -77,7 +77,8 @@ fn set_leaf_word<G: Gate>(
     }
 }
 
-/// Fills a claimed node record with a node, in a step for each word but the state.
+/// Fills a claimed node record with a node, in a step or two for each of its words but the state: a word in which the node has
+/// nothing is loaded, and stored only where another stands.
 pub fn fill_node<G: Gate>(
     table: &HotTable,
     seat: &mut TableSeat,
@@ -89,34 +90,80 @@ pub fn fill_node<G: Gate>(
     requires range { number < table.now.layout.nodes }
     requires held { IsClaimed seat.old.known (a_node number) }
     ensures fits { HasNodeWords node.now }
-    ensures fills { Fills table.now G.becomes (a_node number) (node_words node.now) (seat.old, gate.old) (seat.new, gate.new) }
+    ensures fills { SetsAll table.now G.becomes (a_node number) (node_words node.now) (seat.old, gate.old) (seat.new, gate.new) }
     ensures filled { IsFilled seat.new.known (a_node number) (node_words node.now) }
-    ensures steps { seat.new.known.steps ≡ seat.old.known.steps + NODE_FIELDS }
+    ensures steps { seat.new.known.steps ≤ seat.old.known.steps + 2 * NODE_FIELDS }
 {
     let words = pack_node(node);
-    fill_words(table, seat, gate, Rec::Node(number), &words);
+    let start = table.start_of(Rec::Node(number));
+    for index in 0..HEAD_WORDS {
+        let offset = index as u8 + 1;
+        set_node_word(table, seat, gate, number, start, offset, words[index]);
+    }
+    for index in HEAD_WORDS..NODE_FIELDS {
+        let offset = index as u8 + 1;
+        set_node_word(table, seat, gate, number, start, offset, words[index]);
+    }
 }
 
-/// Stores the words of a claimed record from offset 1 on.
-fn fill_words<G: Gate>(
+/// Sees to it that a word of a claimed node record, which begins at `start`, is this one. Inline, so that neither loop over the words tests
+/// which they are.
+#[inline(always)]
+fn set_node_word<G: Gate>(
     table: &HotTable,
     seat: &mut TableSeat,
     gate: &mut G,
-    rec: Rec,
-    words: &[u64],
+    number: u32,
+    start: usize,
+    offset: u8,
+    word: u64,
 )
     requires own { IsSeatOf table.now seat.old }
-    requires range { HasRecord table.now.layout rec }
-    requires held { IsClaimed seat.old.known rec }
-    requires words { (length words.now ≡ word_count_of rec) × IsPacked rec words.now }
-    requires whole { word_count_of rec < size_of table.now.layout rec }
-    ensures fills { Fills table.now G.becomes rec words.now (seat.old, gate.old) (seat.new, gate.new) }
-    ensures filled { IsFilled seat.new.known rec words.now }
-    ensures steps { seat.new.known.steps ≡ seat.old.known.steps + length words.now }
+    requires range { (number < table.now.layout.nodes) × IsOffset (a_node number) offset }
+    requires start { IsStartOf table.now.layout (a_node number) start }
+    requires held { IsClaimed seat.old.known (a_node number) }
+    ensures { Sets table.now G.becomes (a_node number) offset word (seat.old, gate.old) (seat.new, gate.new) }
 {
-    let start = table.start_of(rec);
-    for index in 0..words.len() {
-        table.fill_from(seat, gate, rec, start, index as u8 + 1, words[index]);
+    let rec = Rec::Node(number);
+    if word != unused_in_node(offset) {
+        table.fill_from(seat, gate, rec, start, offset, word);
+    } else if load_node_word(table, seat, gate, number, start, offset) != word {
+        table.fill_from(seat, gate, rec, start, offset, word);
+    }
+}
+
+/// The word that stands at an offset of a node record where the node has nothing.
+#[inline(always)]
+fn unused_in_node(offset: u8) -> u64
+    ensures { (n : ℕ) → result ≡ unused_word (a_node n) offset }
+{
+    if (offset as usize) < FIRST_ENTRY {
+        u64::MAX
+    } else {
+        0
+    }
+}
+
+/// Loads a word of a node record that the pass has claimed, which begins at `start`.
+#[inline(always)]
+fn load_node_word<G: Gate>(
+    table: &HotTable,
+    seat: &mut TableSeat,
+    gate: &mut G,
+    number: u32,
+    start: usize,
+    offset: u8,
+) -> u64
+    requires own { IsSeatOf table.now seat.old }
+    requires range { (number < table.now.layout.nodes) × IsOffset (a_node number) offset }
+    requires start { IsStartOf table.now.layout (a_node number) start }
+    ensures { Steps table.now G.becomes (looking (a_node number) offset result) (seat.old, gate.old) (seat.new, gate.new) }
+{
+    if (offset as usize) < FIRST_ENTRY {
+        table.load_fixed_from(seat, gate, Rec::Node(number), start, offset)
+    } else {
+        let entry = offset - FIRST_ENTRY as u8;
+        table.load_slot_from(seat, gate, number, start, entry)
     }
 }
 

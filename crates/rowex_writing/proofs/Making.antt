@@ -1,5 +1,5 @@
 -- One record more for a change, or none.
-use Rattle.std.proofs.Common.{◌≡◌, ◌≢◌, inl, inr, ℕ, zero, suc, ◌+◌, ◌-◌, ◌≤◌, List, [], ◌∷◌, ◌++◌, length, get_or, map, refl, sym, ap, ap₂, subst, ◌∙◌, arith, Option, Some, None}
+use Rattle.std.proofs.Common.{◌≡◌, ◌≢◌, inl, inr, ℕ, zero, suc, ◌+◌, ◌-◌, ◌≤◌, List, [], ◌∷◌, ◌++◌, get_or, map, refl, sym, ap, ap₂, subst, ◌∙◌, arith, Bool, true, false, nat_eq, nat_lt, if◌then◌else◌, Option, Some, None}
 use Rattle.std.specs.Prelude.{All, MatchOption}
 use Rattle.std.proofs.lemmas.Grind.{reverse_onto}
 use Rattle.std.proofs.lemmas.List.Elements.{All-append, All-cons}
@@ -10,12 +10,15 @@ use Rattle.compound_node.specs.declared.halves.Half.{Half}
 use Rattle.compound_node.specs.declared.halves.Half.TheVariants.{Many}
 use Rattle.rowex_table.proofs.ActsLeave.{act_leaves}
 use Rattle.record_words.specs.Node.{HasNodeWords}
+use Rattle.record_words.specs.declared.TheConstants.{FIRST_ENTRY}
 use Rattle.moments.specs.Trades.{IsOf}
 use Rattle.moments.specs.declared.Rec.{Rec}
+use Rattle.moments.specs.declared.Rec.TheVariants.{Node as a_node, Leaf as a_leaf}
 use Rattle.moments.proofs.Legal.{same_rec_refl}
 use Rattle.moments.proofs.Members.{all_of, of_map, map_of}
 use Rattle.rowex_core.specs.declared.event.Act.{Act}
-use Rattle.rowex_core.specs.declared.event.Act.TheVariants.{Claim, Fill, LoadFixed, LoadState}
+use Rattle.rowex_core.specs.declared.event.Act.TheVariants.{Claim, Fill, LoadFixed, LoadRef, LoadState}
+use Rattle.rowex_core.specs.declared.event.Spot.TheVariants.{Slot}
 use Rattle.rowex_core.specs.declared.event.Event.{Event}
 use Rattle.rowex_core.specs.declared.known.Holding.TheVariants.{Held}
 use Rattle.rowex_core.specs.declared.known.Known.{Known}
@@ -27,7 +30,7 @@ use Rattle.rowex_table.specs.Runs.{Runs, Does, InTurn}
 use Rattle.rowex_table.specs.Seats.{TableView, SeatView, IsSeatOf}
 use Rattle.rowex_table.proofs.Running.{runs_same}
 use Rattle.rowex_records.specs.Claims.{claiming, wrapped, Misses, MissesOne, MissesNumber, HoldsOneMore, ClaimsOne, FindsNone, Claims}
-use Rattle.rowex_records.specs.Records.{clearing, owning, fill_with, Fills, SetsAll, SetsWord, StoresWord}
+use Rattle.rowex_records.specs.Records.{fill_with, looking, mending, owning, SetsAll, SetsWord}
 use Rattle.rowex_records.proofs.Filled.{fill_beside}
 use Rattle.rowex_rights.specs.Rises.{of_view}
 use Rattle.rowex_reading.specs.Possible.{IsPossible}
@@ -58,22 +61,27 @@ miss_plain r acts (word, low, inr is) = subst (All IsQuiet) (sym is) (try_plain 
 misses_plain : (kind : ℕ → Rec) (n from m : ℕ) (acts : List Act) → InTurn (λ i. Misses (kind (wrapped n from i))) m acts → All IsQuiet acts
 misses_plain kind n from m acts turn = in_turn_plain (λ i. Misses (kind (wrapped n from i))) (λ i. miss_plain (kind (wrapped n from i))) m acts turn
 
-stores_plain : (r : Rec) (words : List ℕ) (n : ℕ) (acts : List Act) → InTurn (StoresWord r words) n acts → All IsQuiet acts
-stores_plain r words n acts turn = in_turn_plain (StoresWord r words) (λ i acts is. subst (All IsQuiet) (sym is) (All-cons IsQuiet (Fill r (i + 1) (get_or words i 0)) [] tt (λ i d low. absurd (omega arith)))) n acts turn
-
 sets_plain : (r : Rec) (words : List ℕ) (n : ℕ) (acts : List Act) → InTurn (λ i. SetsWord r (i + 1) (get_or words i 0)) n acts → All IsQuiet acts
 sets_plain r words n acts turn = in_turn_plain (λ i. SetsWord r (i + 1) (get_or words i 0)) (λ i. plain (i + 1) (get_or words i 0)) n acts turn
   where
     stored : (offset word : ℕ) → All IsQuiet (Fill r offset word ∷ [])
     stored offset word = All-cons IsQuiet (Fill r offset word) [] tt (λ i d low. absurd (omega arith))
 
-    cleared : (offset found : ℕ) → All IsQuiet (clearing r offset found)
-    cleared offset zero = λ i d low. absurd (omega arith)
-    cleared offset (suc found) = stored offset 0
+    looked : (s : Rec) (offset found : ℕ) → IsQuiet (looking s offset found)
+    looked (a_leaf n) offset found = tt
+    looked (a_node n) offset found = either (nat_lt offset FIRST_ENTRY)
+      where
+        either : (b : Bool) → IsQuiet (if b then LoadFixed (a_node n) offset found else LoadRef (Slot n (offset - FIRST_ENTRY)) found)
+        either true = tt
+        either false = tt
+
+    mended : (offset word : ℕ) (b : Bool) → All IsQuiet (if b then [] else Fill r offset word ∷ [])
+    mended offset word true = λ i d low. absurd (omega arith)
+    mended offset word false = stored offset word
 
     plain : (offset word : ℕ) (acts : List Act) → SetsWord r offset word acts → All IsQuiet acts
-    plain offset word acts (inl (some, is)) = subst (All IsQuiet) (sym is) (stored offset word)
-    plain offset word acts (inr (none, found, is)) = subst (All IsQuiet) (sym is) (All-cons IsQuiet (LoadFixed r offset found) (clearing r offset found) tt (cleared offset found))
+    plain offset word acts (inl (used, is)) = subst (All IsQuiet) (sym is) (stored offset word)
+    plain offset word acts (inr (unused, found, is)) = subst (All IsQuiet) (sym is) (All-cons IsQuiet (looking r offset found) (mending r offset word found) (looked r offset found) (mended offset word (nat_eq found word)))
 
 module _ {G : Type 0} (table : TableView) (becomes : G → Event → G → Type 0) where
   pub claims_on : (acts : List Act) (a b : SeatView × G) → All IsQuiet acts → Does table becomes claiming acts a b → WorksOn table becomes a b
@@ -116,9 +124,6 @@ module _ {G : Type 0} (table : TableView) (becomes : G → Event → G → Type 
 
   pub claim_on : (kind : ℕ → Rec) (n from m : ℕ) (a b : SeatView × G) → Claims table becomes kind n from m a b → WorksOn table becomes a b
   claim_on kind n from m a b claim = goes_more table becomes a claim.before b (none_on kind n from claim.tried a claim.before claim.none) (one_on (kind m) claim.before b claim.one)
-
-  pub fill_on : (r : Rec) (words : List ℕ) (a b : SeatView × G) → Fills table becomes r words a b → WorksOn table becomes a b
-  fill_on r words a b fills = owns_on fills.stores a b (stores_plain r words (length words) fills.stores fills.in_turn) fills.does
 
   pub set_on : (r : Rec) (words : List ℕ) (a b : SeatView × G) → SetsAll table becomes r words a b → WorksOn table becomes a b
   set_on r words a b sets = record {

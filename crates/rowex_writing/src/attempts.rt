@@ -50,7 +50,7 @@ pub enum TryFault {
 }
 
 /// Makes one attempt: searches for the key and answers, where nothing is to change; or else locks what it wants to change, each
-/// once, checks that it still stands as the search found it, and makes the change by one store. It makes at most 460,000 atomic
+/// once, checks that it still stands as the search found it, and makes the change by one store. It makes at most 710,000 atomic
 /// steps, four more for each leaf record and two for each node record.
 pub fn attempt<G: Gate>(
     table: &HotTable,

@@ -7,7 +7,7 @@ use Rattle.rowex_rights.specs.Rises.{of_view}
 use Rattle.rowex_writing.specs.Building.{IsBuilding}
 use Rattle.rowex_writing.specs.Walks.{IsWalk}
 use Rattle.rowex_writing.proofs.Locking.{goes_more, seat_of}
-use Rattle.rowex_writing.proofs.Making.{fill_on, building_more, not_made}
+use Rattle.rowex_writing.proofs.Making.{set_on, building_more, not_made}
 use Rattle.rowex_writing.proofs.Walked.{walk_on}
 use Rattle.rowex_writing.proofs.building.make_node.Goals as goal
 
@@ -26,7 +26,7 @@ pub returns-in_err-number-clause-few : goal.returns-in_err-number-clause-few
 returns-in_err-number-clause-few g c = rw c.from_residual.ensures (let few = c.in_err-number.ensures.few in omega arith)
 
 pub returns-clause-goes : goal.returns-clause-goes
-returns-clause-goes g c = goes_more c.args.table.now g.G.Gate.becomes _ _ _ c.claim_node.ensures.goes (fill_on c.args.table.now g.G.Gate.becomes _ _ _ _ c.fill_node.ensures.fills)
+returns-clause-goes g c = goes_more c.args.table.now g.G.Gate.becomes _ _ _ c.claim_node.ensures.goes (set_on c.args.table.now g.G.Gate.becomes _ _ _ _ c.fill_node.ensures.fills)
 
 pub returns-clause-made : goal.returns-clause-made
 returns-clause-made g c = λ news b. (
@@ -35,7 +35,7 @@ returns-clause-made g c = λ news b. (
   c.fill_node.ensures.fits,
   subst (λ z. IsBuilding c.args.table.now c.fill_node.new.seat z (of_view c.in_ok-number.number c.args.node.now ∷ news)) (sym (c.push.ensures.items ∙ ap (λ z. z ++ a_node c.in_ok-number.number ∷ []) c.claim_node.ensures.made))
       (building_more c.args.table.now g.G.Gate.becomes (a_node c.in_ok-number.number) (node_words c.args.node.now) (c.args.seat.now, c.args.gate.now) (c.claim_node.new.seat, c.claim_node.new.gate) _
-      c.args.build.now.made.items news c.claim_node.ensures.goes c.in_ok-number.ensures.claims.1 (fill_on c.args.table.now g.G.Gate.becomes _ _ _ _ c.fill_node.ensures.fills)
+      c.args.build.now.made.items news c.claim_node.ensures.goes c.in_ok-number.ensures.claims.1 (set_on c.args.table.now g.G.Gate.becomes _ _ _ _ c.fill_node.ensures.fills)
       c.fill_node.ensures.fills.own c.fill_node.ensures.filled.1 tt b),
 )
 
@@ -45,7 +45,7 @@ returns-clause-walk g c = λ since w.
     (sym (c.push.ensures.items ∙ ap (λ z. z ++ a_node c.in_ok-number.number ∷ []) c.claim_node.ensures.made))
     (walk_on a_node c.args.table.now.layout.nodes c.args.table.now g.G.Gate.becomes since (c.claim_node.new.seat, c.claim_node.new.gate) (c.fill_node.new.seat, c.fill_node.new.gate)
     (c.args.build.now.made.items ++ a_node c.in_ok-number.number ∷ []) (c.args.build.now.made.items ++ a_node c.in_ok-number.number ∷ []) c.claim_node.new.build.nodes.next c.claim_node.new.build.left_nodes
-    (fill_on c.args.table.now g.G.Gate.becomes _ _ _ _ c.fill_node.ensures.fills) (λ r h. h) (c.in_ok-number.ensures.walk since w))
+    (set_on c.args.table.now g.G.Gate.becomes _ _ _ _ c.fill_node.ensures.fills) (λ r h. h) (c.in_ok-number.ensures.walk since w))
 
 pub returns-clause-few : goal.returns-clause-few
 returns-clause-few g c = omega (arith, c.in_ok-number.ensures.few, c.fill_node.ensures.steps)
