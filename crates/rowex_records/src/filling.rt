@@ -16,7 +16,7 @@ ghost use Rattle.rowex_records.specs.Records.{IsFilled, Readies, Sets, SetsAll, 
 
 use compound_node::Node;
 use key_bits::Key;
-use record_words::{FIRST_ENTRY, HEAD_WORDS, NODE_FIELDS, pack_leaf, pack_node};
+use record_words::{FIRST_ENTRY, HEAD_WORDS, NODE_FIELDS, key_word_at, key_words, pack_node};
 use rowex_core::{Gate, Rec};
 use rowex_table::{HotTable, TableSeat};
 
@@ -38,18 +38,18 @@ pub fn fill_leaf<G: Gate>(
     ensures filled { IsFilled seat.new.known (a_leaf number) (leaf_words (key.now, value)) }
     ensures steps { seat.new.known.steps ≤ seat.old.known.steps + 2 * LEAF_FIELDS }
 {
-    let words = pack_leaf(key, value);
+    let length = key.as_bytes().len() as u64;
     let start = table.start_of(Rec::Leaf(number));
-    for index in 0..table.layout().leaf_size(number) - 1 {
-        set_leaf_word(
-            table,
-            seat,
-            gate,
-            number,
-            start,
-            index as u8 + 1,
-            words[index],
-        );
+    set_leaf_word(table, seat, gate, number, start, 1, value);
+    set_leaf_word(table, seat, gate, number, start, 2, length);
+    let used = 2 + key_words(length);
+    for index in 2..used {
+        let word = key_word_at(key, index - 2);
+        set_leaf_word(table, seat, gate, number, start, index as u8 + 1, word);
+    }
+    let end = table.layout().leaf_size(number) - 1;
+    for index in used..end {
+        set_leaf_word(table, seat, gate, number, start, index as u8 + 1, 0);
     }
 }
 

@@ -1,7 +1,12 @@
 -- The words below the index stand.
+use Rattle.std.proofs.Common.{◌≤◌}
 use Rattle.moments.specs.declared.Rec.TheVariants.{Leaf}
+use Rattle.record_words.specs.Leaf.{leaf_words}
 use Rattle.rowex_records.proofs.SetAll.{SetsSome}
 use Rattle.rowex_records.proofs.filling.fill_leaf.Given as goal
 
 abbrev pub invariant-loop-index : goal.invariant-loop-index
-invariant-loop-index g l = SetsSome l.table g.G.Gate.becomes (Leaf l.number) l.words l.index (l.fn.seat, l.fn.gate) (l.seat, l.gate)
+invariant-loop-index g l = SetsSome l.table g.G.Gate.becomes (Leaf l.number) (leaf_words (l.key, l.value)) l.index (l.fn.seat, l.fn.gate) (l.seat, l.gate)
+
+abbrev pub invariant-loop-index-2 : goal.invariant-loop-index-2
+invariant-loop-index-2 g l = SetsSome l.table g.G.Gate.becomes (Leaf l.number) (leaf_words (l.key, l.value)) l.index (l.fn.seat, l.fn.gate) (l.seat, l.gate) × (l.index ≤ l.end)
