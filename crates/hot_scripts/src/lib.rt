@@ -3,6 +3,7 @@
 
 pub mod answer;
 pub mod command;
+mod digits;
 pub mod fault;
 mod line;
 pub mod script;

@@ -3,6 +3,7 @@
 ghost use Rattle.std.specs.Prelude.{◌≡◌, ◌++◌, ◌+◌, ◌*◌, ◌≤◌, [], length, decimal};
 ghost use Rattle.hex.specs.Hex.{encode_lower};
 
+use crate::digits::write_hex;
 use itoa::write_digits;
 use key_bits::MAX_BYTES;
 use std::marker::Model;
@@ -85,9 +86,7 @@ impl Tail {
         ensures { self.new ≡ encode_lower bytes.now ++ self.old }
     {
         let start = self.start - 2 * bytes.len();
-        match hex::encode_to_slice(bytes, &mut self.room[start..self.start]) {
-            Ok(()) => self.start = start,
-            Err(_) => unreachable!(),
-        }
+        write_hex(bytes, &mut self.room[start..self.start]);
+        self.start = start;
     }
 }
