@@ -12,6 +12,7 @@ use Rattle.clap.specs.Facts.{Entry, EntryPasses, HasReading, PassesArg, ValuesPa
 use Rattle.clap.specs.Lexer.{without_minus}
 use Rattle.clap.specs.Matches.{ReadsOne, found_of, matched_of, one_text}
 use Rattle.clap.specs.Values.{Accepts, IsSignedIn, reading_of}
+use Rattle.clap.specs.Walk.{Rule}
 use Rattle.clap.specs.declared.builder.arg.Arg.{Arg}
 use Rattle.clap.specs.declared.builder.command.Command.{Command}
 use Rattle.clap.specs.declared.builder.command.Command.TheViews.{out-Command}
@@ -139,17 +140,17 @@ IsOpen-new command id high args groups local = record {
 }
 
 -- one with an argument more
-pub IsOpen-added : (old new : Command) (name : List ℕ) (a : Arg) (id : List ℕ) (high : ℕ) → IsOpen id high old → AddsArg old a new → IsArgument name a
+pub IsOpen-added : (old new : Command) (name : List ℕ) (rule : Rule) (a : Arg) (id : List ℕ) (high : ℕ) → IsOpen id high old → AddsArg old a new → IsArgument name rule a
     → InRange id high a → IsOpen id high new
-IsOpen-added old new name a id high opened added is ranged = record {
+IsOpen-added old new name rule a id high opened added is ranged = record {
   plain = added_plain old new a added opened.plain is.plain;
   local = rw (added.globals, opened.local, is.local) refl;
   ranged = InRange-added old new a id high added opened.ranged ranged;
 }
 
 -- an argument of another name
-pub InRange-other : (name : List ℕ) (a : Arg) (id : List ℕ) (high : ℕ) → IsArgument name a → (name ≡ id → ⊥) → InRange id high a
-InRange-other name a id high is other same = absurd (other (sym is.id ∙ same))
+pub InRange-other : (name : List ℕ) (rule : Rule) (a : Arg) (id : List ℕ) (high : ℕ) → IsArgument name rule a → (name ≡ id → ⊥) → InRange id high a
+InRange-other name rule a id high is other same = absurd (other (sym is.id ∙ same))
 
 -- what a parse of such a command promises of it
 pub option_parsed : (E : Type 0) (gives : List ℕ → Result ℕ E → Type 0) (width : ℕ) → ((u : List ℕ) (x : Result ℕ E) → gives u x → ParsesUnsigned width 10 u x)

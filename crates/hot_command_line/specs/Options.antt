@@ -1,16 +1,43 @@
 -- The arguments of the command line.
-use Rattle.std.specs.Prelude.{◌≡◌, ℕ, List, Some, false, pos}
-use Rattle.clap.specs.Words.{IsPlainArg}
+use Rattle.std.specs.Prelude.{◌≡◌, ℕ, ◌<◌, ◌^◌, List, [], unwrap_or, Some, None, false, pos, codes}
+use Rattle.std.specs.Str.Parse.{IsNumeral, digits_value, without_leading_plus}
+use Rattle.clap.specs.Words.{App, IsPlainArg, Row, Rule, all_of, matches_of, new_app, new_rule, one_of, rule_of, with_rule}
+use Rattle.clap.specs.declared.builder.action.ArgAction.TheVariants.{Append, Set}
 use Rattle.clap.specs.declared.builder.arg.Arg.{Arg}
 use Rattle.clap.specs.declared.builder.value_parser.ValueParser.TheVariants.{Signed}
+use Rattle.record_words.specs.declared.TheConstants.{MAX_LEAVES, MAX_NODES}
 
--- an argument of this name, which shuts out no other
-pub record IsArgument (name : List ℕ) (arg : Arg) : Type 0 where
+-- an option of this name that takes a number from 1 to `most`, and the words that are no options, as the parser has them
+abbrev pub count_rule : List ℕ → ℕ → Rule
+count_rule name most = record (new_rule name) { long = Some name; action = Some Set; parser = Some (Signed (pos 1) (pos most)) }
+
+abbrev pub names_rule : List ℕ → Rule
+names_rule name = record (new_rule name) { action = Some Append }
+
+-- an argument of this name and rule, which shuts out no other
+pub record IsArgument (name : List ℕ) (rule : Rule) (arg : Arg) : Type 0 where
   pub id : arg.id.now ≡ name
   pub plain : IsPlainArg arg
   pub local : arg.global ≡ false
+  pub rule_is : rule_of arg ≡ rule
 
 -- an option of this name, which takes a number from 1 to `most`
 pub record IsCountOption (name : List ℕ) (most : ℕ) (option : Arg) : Type 0 where
-  pub argument : IsArgument name option
+  pub argument : IsArgument name (count_rule name most) option
   pub parser : option.value_parser ≡ Some (Signed (pos 1) (pos most))
+
+-- the program's command line
+abbrev pub command_line : App
+command_line = with_rule (with_rule (with_rule (new_app (codes "hot-run")) (count_rule (codes "nodes") MAX_NODES)) (count_rule (codes "leaves") MAX_LEAVES)) (names_rule (codes "FILE"))
+
+-- The words give this option the number; or they give it none, and it is the default.
+pub record IsOptionNumber (rows : List Row) (option : List ℕ) (default number : ℕ) : Type 0 where
+  pub left_out : one_of option rows ≡ None → number ≡ default
+  pub given : (text : List ℕ) → one_of option rows ≡ Some text → IsNumeral 10 (without_leading_plus text) → digits_value 10 (without_leading_plus text) < 2 ^ 32
+      → number ≡ digits_value 10 (without_leading_plus text)
+
+-- These words, the program's name first, ask for so many nodes and leaves and for the files of these names.
+pub record IsAsked (words : List (List ℕ)) (nodes leaves : ℕ) (names : List (List ℕ)) : Type 0 where
+  pub nodes_are : IsOptionNumber (matches_of command_line words) (codes "nodes") 4096 nodes
+  pub leaves_are : IsOptionNumber (matches_of command_line words) (codes "leaves") 16384 leaves
+  pub names_are : names ≡ unwrap_or (all_of (codes "FILE") (matches_of command_line words)) []

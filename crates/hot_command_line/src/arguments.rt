@@ -1,12 +1,12 @@
 //! The command line.
 
-ghost use Rattle.std.specs.Prelude.{◌≡◌, ◌⊎◌, ◌≤◌, IfErr, length};
+ghost use Rattle.std.specs.Prelude.{◌≡◌, ◌⊎◌, ◌≤◌, IfErr, IfOk, length, map, string_bytes};
 ghost use Rattle.clap.specs.Words.{kind_of};
 ghost use Rattle.record_words.specs.Limits.{IsLeafCount, IsNodeCount};
 ghost use Rattle.hot_scripts.specs.declared.fault.RunFault.TheVariants.{Memory};
 ghost use Rattle.hot_command_line.specs.declared.ending.Ending.TheVariants.{Usage, Fault};
 ghost use Rattle.hot_command_line.specs.Endings.{ending_of};
-ghost use Rattle.hot_command_line.specs.Options.{IsArgument, IsCountOption};
+ghost use Rattle.hot_command_line.specs.Options.{IsArgument, IsAsked, IsCountOption, names_rule};
 
 use crate::ending::Ending;
 use clap::error::ErrorKind;
@@ -54,15 +54,16 @@ fn count_option<'a>(alloc: Global, name: &'a str, most: u32) -> Arg<'a>
 
 /// The words that are no options: any number of them.
 fn file_names<'a>(alloc: Global, name: &'a str) -> Arg<'a>
-    ensures { IsArgument name.now result }
+    ensures { IsArgument name.now (names_rule name.now) result }
 {
     Arg::new(alloc, name).action(ArgAction::Append)
 }
 
-/// What the command line asks for: 4,096 nodes and 16,384 leaves where it doesn't say, and at most `MAX_FILES` files. It is
-/// refused by the usage line, or for want of memory.
+/// What the command line asks for: the numbers that follow `--nodes` and `--leaves`, or 4,096 nodes and 16,384 leaves where it doesn't
+/// say, and at most `MAX_FILES` files, in order. It is refused by the usage line, or for want of memory.
 pub fn parse<'a>(alloc: Global, words: &'a [String]) -> Result<Request<'a>, Ending>
-    ensures { IfErr result (λ ending. (ending ≡ Usage) ⊎ (ending ≡ Fault Memory)) }
+    ensures asked { IfOk result (λ request. IsAsked (map string_bytes words.now) request.nodes request.leaves (map (λ name. name.now) request.files.items)) }
+    ensures refused { IfErr result (λ ending. (ending ≡ Usage) ⊎ (ending ≡ Fault Memory)) }
 {
     let nodes = count_option(alloc, "nodes", MAX_NODES);
     let leaves = count_option(alloc, "leaves", MAX_LEAVES);
