@@ -15,3 +15,4 @@ pub mod Shapes
 pub mod Ways
 pub mod Descents
 pub mod Counting
+pub mod Turning

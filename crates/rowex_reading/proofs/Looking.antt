@@ -6,7 +6,7 @@ use Rattle.compound_node.specs.declared.entries.Entry.{Entry}
 use Rattle.compound_node.specs.declared.entries.Entry.TheVariants.{Leaf, Node}
 use Rattle.pieces.specs.Piece.{size}
 use Rattle.tries.specs.Keys.{Key}
-use Rattle.tries.specs.Tree.{Tree, leaf, node, fork, Has, here}
+use Rattle.tries.specs.Tree.{Page, Tree, leaf, node, fork, Has, here}
 use Rattle.tries.specs.Search.{Follows}
 use Rattle.tries.specs.Place.{spot}
 use Rattle.tries.proofs.Places.{spot_below}
@@ -103,19 +103,16 @@ module _ {G : Type 0} {table : TableView} {becomes : G → Event → G → Type 
     pub at_led : (e : Entry) → d ≡ e → IsLedTo b.0.known (since b.0.known) e
     at_led e is = subst (IsLedTo b.0.known m) is (at.pinned, sure_map (λ s h. led_seen s m key d h) at.led)
 
-    -- It is a node, whose head has been read: there is an entry at the key's place.
-    module _ {c : SeatView × G} (n height : ℕ) (head : HeadView) (place : ℕ) (is : d ≡ Node n height) {loads : ℕ} (few : loads ≤ HEAD_WORDS) (reads : Reads table becomes loads b c)
-        (told : (m h : ℕ) → IsLedTo b.0.known m (Node n h) → (head.height ≡ h) × Sure c.0.known (λ s. IsShaped s m n (shape_of head))) (leads : place ≡ spot key (shape_of head)) where
-      shaped : Sure c.0.known (λ s. IsShaped s m n (shape_of head))
-      shaped = (told m height (at_led (Node n height) is)).1
-
-      pub at_place : HasPlace c.0.known (since b.0.known) n height place
-      at_place = shape_place (led_shape m n height (shape_of head) reads (at_led (Node n height) is) shaped)
-          (subst (λ z. z < size (shape_of head)) (sym leads) (spot_below key (shape_of head)))
+    -- It is a node, whose forks are known: there is an entry at the key's place.
+    module _ {c : SeatView × G} (n height : ℕ) (forks : Page) (place : ℕ) (is : d ≡ Node n height) {loads : ℕ} (few : loads ≤ HEAD_WORDS) (reads : Reads table becomes loads b c)
+        (shaped : Sure c.0.known (λ s. IsShaped s (since b.0.known) n forks)) (leads : place ≡ spot key forks) where
+      pub place_of : HasPlace c.0.known (since b.0.known) n height place
+      place_of = shape_place (led_shape m n height forks reads (at_led (Node n height) is) shaped)
+          (subst (λ z. z < size forks) (sym leads) (spot_below key forks))
 
       -- one node down
-      pub at_next : {i : SeatView × G} (e : Entry) → Reads table becomes 1 c i → (height_of e < height) × Sure i.0.known (λ s. IsPlaced s (since b.0.known) n place e) → IsAt table becomes a i key e
-      at_next {i} e one entry = record {
+      pub next_of : {i : SeatView × G} (e : Entry) → Reads table becomes 1 c i → (height_of e < height) × Sure i.0.known (λ s. IsPlaced s (since b.0.known) n place e) → IsAt table becomes a i key e
+      next_of {i} e one entry = record {
         height = at.height;
         passed = at.passed + 1;
         loaded = at.loaded + (loads + 1);
@@ -125,7 +122,7 @@ module _ {G : Type 0} {table : TableView} {becomes : G → Event → G → Type 
         looks = looks_on at.looks both;
         pinned = subst (IsSince i.0.known) (sym kept) pinned;
         led = subst (λ o. Sure i.0.known (λ s. IsLed s o key e)) (sym kept)
-            (λ o lawful recalls. led_placed (seen o i.0.known) m (seen_steady lawful recalls pinned) key n height place (shape_of head) e
+            (λ o lawful recalls. led_placed (seen o i.0.known) m (seen_steady lawful recalls pinned) key n height place forks e
             (shapes o lawful recalls) (sym leads) (entry.1 o lawful recalls) (leads_on o lawful recalls));
       }
         where
@@ -138,11 +135,23 @@ module _ {G : Type 0} {table : TableView} {becomes : G → Event → G → Type 
           pinned : IsSince i.0.known m
           pinned = since_later (reads_later both) at.pinned
 
-          shapes : Sure i.0.known (λ s. IsShaped s m n (shape_of head))
-          shapes = sure_later (shaped_stable m n (shape_of head)) (reads_later one) shaped
+          shapes : Sure i.0.known (λ s. IsShaped s m n forks)
+          shapes = sure_later (shaped_stable m n forks) (reads_later one) shaped
 
           leads_on : Sure i.0.known (λ s. IsLed s m key (Node n height))
           leads_on = sure_later (led_stable m key (Node n height)) (reads_later both) (subst (λ z. Sure b.0.known (λ s. IsLed s m key z)) is at.led)
+
+    -- They are those of a head that has been read.
+    module _ {c : SeatView × G} (n height : ℕ) (head : HeadView) (place : ℕ) (is : d ≡ Node n height) {loads : ℕ} (few : loads ≤ HEAD_WORDS) (reads : Reads table becomes loads b c)
+        (told : (m h : ℕ) → IsLedTo b.0.known m (Node n h) → (head.height ≡ h) × Sure c.0.known (λ s. IsShaped s m n (shape_of head))) (leads : place ≡ spot key (shape_of head)) where
+      shaped : Sure c.0.known (λ s. IsShaped s (since b.0.known) n (shape_of head))
+      shaped = (told (since b.0.known) height (at_led (Node n height) is)).1
+
+      pub at_place : HasPlace c.0.known (since b.0.known) n height place
+      at_place = place_of n height (shape_of head) place is few reads shaped leads
+
+      pub at_next : {i : SeatView × G} (e : Entry) → Reads table becomes 1 c i → (height_of e < height) × Sure i.0.known (λ s. IsPlaced s (since b.0.known) n place e) → IsAt table becomes a i key e
+      at_next e one entry = next_of n height (shape_of head) place is few reads shaped leads e one entry
 
     -- it is a leaf, which has been compared
     module _ {c : SeatView × G} (n : ℕ) (is : d ≡ Leaf n) {loads : ℕ} (few : loads ≤ LEAF_FIELDS) (reads : Reads table becomes loads b c) where

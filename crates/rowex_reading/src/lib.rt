@@ -2,10 +2,12 @@
 //! be sure of then, whatever other passes publish meanwhile.
 #![tactic(auto)]
 
+mod along;
 mod descent;
 mod lookup;
 mod reading;
 
+pub use along::{MOST_TURNS, TOGETHER, Turn, go_down, look_up_along};
 pub use descent::{Found, MOST_NODES, search_way, step_of};
 pub use lookup::look_up;
 pub use reading::{load_entry, load_head, load_leaf, load_places, load_root, load_value};

@@ -1,0 +1,13 @@
+-- The keys have gone down so far.
+use Rattle.std.proofs.Common.{ℕ, ◌*◌, ◌≤◌}
+use Rattle.rowex_reading.specs.Reads.{IsReader, Looks}
+use Rattle.rowex_reading.specs.Turns.{AreRows, AreTips}
+use Rattle.rowex_reading.proofs.along.go_down.Given as goal
+
+abbrev pub invariant-loop-depth : goal.invariant-loop-depth
+invariant-loop-depth g l = record {
+  reader : IsReader l.table l.seat;
+  tips : AreTips l.seat.known l.tips;
+  rows : AreRows l.seat.known l.keys l.first l.rows;
+  looks : (n : ℕ) × (n ≤ 29 * (l.depth * l.count)) × Looks l.table g.G.Gate.becomes n (l.fn.seat, l.fn.gate) (l.seat, l.gate);
+}

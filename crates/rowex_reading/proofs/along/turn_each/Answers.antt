@@ -1,0 +1,41 @@
+-- No turn, and one more.
+use Rattle.std.proofs.Common.{◌+◌, ◌<◌, arith, length, refl}
+use Rattle.std.proofs.lemmas.Option.{slice_get_read}
+use Rattle.rowex_reading.proofs.Led.{reader_then, reads_later, reads_none, reads_trans}
+use Rattle.rowex_reading.proofs.Turning.{no_turns, tip_at, tips_later, turns_later, turns_more}
+use Rattle.rowex_reading.proofs.along.turn_each.Goals as goal
+
+pub loop-index-init : goal.loop-index-init
+loop-index-init g c = record {
+  reader = c.requires.reader;
+  tips = c.requires.tips;
+  turns = no_turns c.args.seat.now.known c.args.keys.now c.args.first 16;
+  reads = (0, omega arith, reads_none (c.args.seat.now, c.args.gate.now));
+}
+
+pub turn_at-requires-clause-reader : goal.turn_at-requires-clause-reader
+turn_at-requires-clause-reader g c = c.loop-index.invariant.reader
+
+pub turn_at-requires-clause-tip : goal.turn_at-requires-clause-tip
+turn_at-requires-clause-tip g c = tip_at c.args.tips.now c.loop-index.index c.loop-index.invariant.tips
+
+pub loop-index-preserved : goal.loop-index-preserved
+loop-index-preserved g c =
+    let i = c.loop-index.invariant in let e = c.turn_at.ensures in let later = reads_later e.reads.2 in let keys = c.args.keys.now in
+    let low : c.args.first + c.loop-index.index < length keys = let room = c.requires.range in omega (arith, room, c.loop-index-test.true) in
+    record {
+      reader = reader_then i.reader e.reads.2;
+      tips = tips_later later c.args.tips.now i.tips;
+      turns = turns_more c.turn_at.new.seat.known keys c.args.first c.loop-index.turns c.loop-index.index c.index-keys-first.result c.turn_at.result
+          (turns_later later keys c.args.first c.loop-index.turns i.turns)
+          (slice_get_read keys (length keys) (c.args.first + c.loop-index.index) c.index-keys-first.result refl low c.index-keys-first.is) e.turn;
+      reads = (i.reads.0 + e.reads.0, (let a = i.reads.1 in let b = e.reads.1 in omega (arith, a, b)), reads_trans i.reads.2 e.reads.2);
+    }
+
+pub returns-clause-reads : goal.returns-clause-reads
+returns-clause-reads g c =
+    let i = c.loop-index.invariant in let low = i.reads.1 in
+    (i.reads.0, omega (arith, low, c.loop-index-test.false, c.loop-index.auto.index-end), i.reads.2)
+
+pub returns-clause-turns : goal.returns-clause-turns
+returns-clause-turns g c = c.loop-index.invariant.turns

@@ -1,0 +1,263 @@
+//! Look-ups along ways that are remembered. Several keys go down by turns: what one of them waits for is loaded while the others
+//! go on. Then each is looked up along the way that it went.
+
+ghost use Rattle.std.specs.Prelude.{◌≡◌, ◌+◌, ◌*◌, ◌<◌, ◌≤◌, ℕ, IfSome, IsSome, length};
+ghost use Rattle.compound_node.specs.declared.entries.Entry.TheVariants.{Node as NodeEntry};
+ghost use Rattle.record_words.specs.declared.TheConstants.{HEAD_WORDS};
+ghost use Rattle.rowex_walks.specs.Scan.{IsShaped};
+ghost use Rattle.rowex_table.specs.Seats.{IsSeatOf};
+ghost use Rattle.tries.specs.Place.{spot};
+ghost use Rattle.tries.specs.Tree.{Page};
+ghost use Rattle.rowex_reading.specs.Turns.{AreAlong, AreRows, AreSomeTurns, AreTips, AreTurns, IsSomeTurn, IsWayTip, IsTurn, StandsAt};
+ghost use Rattle.rowex_reading.specs.Lookups.{HasFound, HasSearched};
+ghost use Rattle.rowex_reading.specs.Reads.{IsReader, Looks, Reads};
+ghost use Rattle.rowex_reading.specs.Seen.{IsLedTo, Sure};
+
+use crate::reading::{load_entry, load_head, load_root, load_value};
+use compound_node::Entry;
+use key_bits::Key;
+use rowex_core::{Gate, Rec};
+use rowex_table::{HotTable, TableSeat};
+
+/// How many keys go down by turns.
+pub const TOGETHER: usize = 16;
+
+/// How many nodes of a way are remembered, from the topmost on.
+pub const MOST_TURNS: usize = 8;
+
+/// Where a key's way goes on in a node.
+#[derive(Clone, Copy)]
+pub struct Turn {
+    /// The node's record number.
+    pub number: u32,
+    /// The place of the entry that the way takes.
+    pub place: u8,
+}
+
+/// Loads the root, and lets so many keys from the first on go down by turns, each a node at a time; gives the turns of their ways:
+/// a row for each node from the topmost on, and in it a place for each key.
+pub fn go_down<G: Gate>(
+    table: &HotTable,
+    seat: &mut TableSeat,
+    gate: &mut G,
+    keys: &[Key],
+    first: usize,
+    count: usize,
+) -> [[Option<Turn>; TOGETHER]; MOST_TURNS]
+    requires own { IsSeatOf table.now seat.old }
+    requires pinned { IsSome seat.old.known.pin }
+    requires few { count ≤ TOGETHER }
+    requires range { first + count ≤ length keys.now }
+    ensures looks { (n : ℕ) × (n ≤ 232 * count) × Looks table.now G.becomes n (seat.old, gate.old) (seat.new, gate.new) }
+    ensures rows { AreRows seat.new.known keys.now first result }
+{
+    let mut tips = [load_root(table, seat, gate); TOGETHER];
+    let mut rows = [[None; TOGETHER]; MOST_TURNS];
+    for depth in 0..MOST_TURNS {
+        touch_each(table, seat, gate, &tips, count);
+        let row = turn_each(table, seat, gate, keys, first, count, &tips);
+        tips = enter_each(table, seat, gate, count, &row);
+        rows[depth] = row;
+    }
+    rows
+}
+
+/// Looks a key up along a way that it went before, the turns of these rows at this index. In a node that the way had at this depth
+/// the key's place is known, and the head isn't loaded anew.
+pub fn look_up_along<G: Gate>(
+    table: &HotTable,
+    seat: &mut TableSeat,
+    gate: &mut G,
+    key: &Key,
+    rows: &[[Option<Turn>; TOGETHER]; MOST_TURNS],
+    index: usize,
+) -> Option<u64>
+    requires own { IsSeatOf table.now seat.old }
+    requires pinned { IsSome seat.old.known.pin }
+    requires range { index < TOGETHER }
+    requires along { AreAlong seat.old.known key.now index rows.now }
+    ensures searched { HasSearched table.now G.becomes (seat.old, gate.old) (seat.new, gate.new) }
+    ensures found { HasFound seat.new.known key.now result }
+{
+    let mut entry = load_root(table, seat, gate)?;
+    let mut depth = 0;
+    loop {
+        match entry {
+            Entry::Leaf(number) => return load_value(table, seat, gate, number, key),
+            Entry::Node { number, .. } => {
+                let turn = turn_of(rows, depth, index);
+                let place = place_in(table, seat, gate, number, key, turn);
+                entry = load_entry(table, seat, gate, number, place);
+                depth = depth.saturating_add(1);
+            }
+        }
+    }
+}
+
+/// The turn at this depth and index, if there is one.
+fn turn_of(
+    rows: &[[Option<Turn>; TOGETHER]; MOST_TURNS],
+    depth: usize,
+    index: usize,
+) -> Option<Turn>
+    requires { index < TOGETHER }
+    ensures { IfSome result (StandsAt rows.now depth index) }
+{
+    if depth < MOST_TURNS {
+        rows[depth][index]
+    } else {
+        None
+    }
+}
+
+/// The place in a node at which the key's way goes on: that of the turn, if it is one in this node; else by the node's head.
+fn place_in<G: Gate>(
+    table: &HotTable,
+    seat: &mut TableSeat,
+    gate: &mut G,
+    number: u32,
+    key: &Key,
+    turn: Option<Turn>,
+) -> u8
+    requires reader { IsReader table.now seat.old }
+    requires led { (m h : ℕ) × IsLedTo seat.old.known m (NodeEntry number h) }
+    requires turn { IfSome turn (IsTurn seat.old.known key.now) }
+    ensures reads { (n : ℕ) × (n ≤ HEAD_WORDS) × Reads table.now G.becomes n (seat.old, gate.old) (seat.new, gate.new) }
+    ensures place { (m h : ℕ) → IsLedTo seat.old.known m (NodeEntry number h) →
+        (forks : Page) × Sure seat.new.known (λ s. IsShaped s m number forks) × (result ≡ spot key.now forks) }
+{
+    match turn {
+        Some(turn) if turn.number == number => turn.place,
+        _ => {
+            let head = load_head(table, seat, gate, number);
+            head.search(key)
+        }
+    }
+}
+
+/// Loads a word of each line on which the tips' heads and keys begin, so that they are at hand when they are read.
+fn touch_each<G: Gate>(
+    table: &HotTable,
+    seat: &mut TableSeat,
+    gate: &mut G,
+    tips: &[Option<Entry>; TOGETHER],
+    count: usize,
+)
+    requires reader { IsReader table.now seat.old }
+    requires few { count ≤ TOGETHER }
+    requires tips { AreTips seat.old.known tips.now }
+    ensures reads { (n : ℕ) × (n ≤ 3 * count) × Reads table.now G.becomes n (seat.old, gate.old) (seat.new, gate.new) }
+{
+    for index in 0..count {
+        touch(table, seat, gate, tips[index]);
+    }
+}
+
+/// Loads words of the record that an entry names.
+fn touch<G: Gate>(table: &HotTable, seat: &mut TableSeat, gate: &mut G, tip: Option<Entry>)
+    requires reader { IsReader table.now seat.old }
+    requires tip { IfSome tip (IsWayTip seat.old.known) }
+    ensures reads { (n : ℕ) × (n ≤ 3) × Reads table.now G.becomes n (seat.old, gate.old) (seat.new, gate.new) }
+{
+    match tip {
+        None => {}
+        Some(Entry::Leaf(number)) => {
+            let rec = Rec::Leaf(number);
+            let start = table.start_of(rec);
+            table.load_fixed_from(seat, gate, rec, start, 2);
+        }
+        Some(Entry::Node { number, .. }) => {
+            let rec = Rec::Node(number);
+            let start = table.start_of(rec);
+            table.load_fixed_from(seat, gate, rec, start, 1);
+            table.load_fixed_from(seat, gate, rec, start, 9);
+            table.load_fixed_from(seat, gate, rec, start, 17);
+        }
+    }
+}
+
+/// The turns of so many keys from the first on, in the nodes to which their ways have led.
+fn turn_each<G: Gate>(
+    table: &HotTable,
+    seat: &mut TableSeat,
+    gate: &mut G,
+    keys: &[Key],
+    first: usize,
+    count: usize,
+    tips: &[Option<Entry>; TOGETHER],
+) -> [Option<Turn>; TOGETHER]
+    requires reader { IsReader table.now seat.old }
+    requires few { count ≤ TOGETHER }
+    requires range { first + count ≤ length keys.now }
+    requires tips { AreTips seat.old.known tips.now }
+    ensures reads { (n : ℕ) × (n ≤ HEAD_WORDS * count) × Reads table.now G.becomes n (seat.old, gate.old) (seat.new, gate.new) }
+    ensures turns { AreTurns seat.new.known keys.now first result }
+{
+    let mut turns = [None; TOGETHER];
+    for index in 0..count {
+        turns[index] = turn_at(table, seat, gate, &keys[first + index], tips[index]);
+    }
+    turns
+}
+
+/// The key's turn in the node to which its way has led, if it is one.
+fn turn_at<G: Gate>(
+    table: &HotTable,
+    seat: &mut TableSeat,
+    gate: &mut G,
+    key: &Key,
+    tip: Option<Entry>,
+) -> Option<Turn>
+    requires reader { IsReader table.now seat.old }
+    requires tip { IfSome tip (IsWayTip seat.old.known) }
+    ensures reads { (n : ℕ) × (n ≤ HEAD_WORDS) × Reads table.now G.becomes n (seat.old, gate.old) (seat.new, gate.new) }
+    ensures turn { IfSome result (IsTurn seat.new.known key.now) }
+{
+    match tip {
+        Some(Entry::Node { number, .. }) => {
+            let head = load_head(table, seat, gate, number);
+            let place = head.search(key);
+            Some(Turn { number, place })
+        }
+        _ => None,
+    }
+}
+
+/// The entries to which the ways of so many keys lead by these turns.
+fn enter_each<G: Gate>(
+    table: &HotTable,
+    seat: &mut TableSeat,
+    gate: &mut G,
+    count: usize,
+    turns: &[Option<Turn>; TOGETHER],
+) -> [Option<Entry>; TOGETHER]
+    requires reader { IsReader table.now seat.old }
+    requires few { count ≤ TOGETHER }
+    requires turns { AreSomeTurns seat.old.known count turns.now }
+    ensures reads { (n : ℕ) × (n ≤ count) × Reads table.now G.becomes n (seat.old, gate.old) (seat.new, gate.new) }
+    ensures tips { AreTips seat.new.known result }
+{
+    let mut tips = [None; TOGETHER];
+    for index in 0..count {
+        tips[index] = enter(table, seat, gate, turns[index]);
+    }
+    tips
+}
+
+/// The entry to which a way leads by this turn.
+fn enter<G: Gate>(
+    table: &HotTable,
+    seat: &mut TableSeat,
+    gate: &mut G,
+    turn: Option<Turn>,
+) -> Option<Entry>
+    requires reader { IsReader table.now seat.old }
+    requires turn { IfSome turn (IsSomeTurn seat.old.known) }
+    ensures reads { (n : ℕ) × (n ≤ 1) × Reads table.now G.becomes n (seat.old, gate.old) (seat.new, gate.new) }
+    ensures tip { IfSome result (IsWayTip seat.new.known) }
+{
+    match turn {
+        None => None,
+        Some(turn) => Some(load_entry(table, seat, gate, turn.number, turn.place)),
+    }
+}
