@@ -1,5 +1,5 @@
 -- Look-ups one after the other: what they leave to the pass, and that their replies are right in turn.
-use Rattle.std.proofs.Common.{◌≡◌, ℕ, suc, ◌+◌, ◌<◌, ◌≤◌, List, [], ◌∷◌, ◌++◌, length, take, get_or, set, Option, IsSome, refl, sym, ap, subst, ◌∙◌, arith, le_refl, le_trans, length-append}
+use Rattle.std.proofs.Common.{◌≡◌, ℕ, suc, ◌+◌, ◌*◌, ◌<◌, ◌≤◌, List, [], ◌∷◌, ◌++◌, length, take, get_or, set, Option, IsSome, refl, sym, ap, subst, ◌∙◌, arith, le_refl, le_trans, length-append}
 use Rattle.std.specs.Prelude.{All}
 use Rattle.std.proofs.lemmas.List.{append_assoc, take-append-le, take_more_set, length-take-le}
 use Rattle.std.proofs.Math.Seq.{take-suc}
@@ -29,6 +29,7 @@ use Rattle.rowex_reading.specs.Seen.{since}
 use Rattle.rowex_reading.proofs.Later.{event_later}
 use Rattle.rowex_reading.proofs.Led.{HasLookedAt, OnlySees, below_fresh, below_later, below_sees, looked_at, looks_first, reader_then, root_reader, root_sees, sees_more}
 use Rattle.rowex_reading.proofs.Seeing.{later_trans}
+use Rattle.key_bits.specs.declared.TheConstants.{MAX_BYTES}
 use Rattle.tries.specs.Keys.{Key}
 use Rattle.hot_index.specs.Answers.{got}
 use Rattle.hot_index.specs.Many.{AreRight, HasLookedUp, IsLook, LooksOn, gets}
@@ -118,6 +119,13 @@ right_more front later low (y ∷ ys) x more (m, least, was, rest) n lo hi is =
     let same : take m later ≡ take m front = ap (take m) more.1 ∙ take-append-le m front more.0 (right_within front m ys rest) in
     (m, least, ap (λ (z : List Change). reply_of (map_of z) y.0) same ∙ was, right_more front later m ys x more rest n lo hi is)
 
+-- and all of them are right in it
+right_later : (front later : List Change) (low : ℕ) (xs : List (Call × Reply)) → BeginsWith later front → AreRight front low xs → AreRight later low xs
+right_later front later low [] more h = le_trans h (longer later front more)
+right_later front later low (y ∷ ys) more (m, least, was, rest) =
+    let same : take m later ≡ take m front = ap (take m) more.1 ∙ take-append-le m front more.0 (right_within front m ys rest) in
+    (m, least, ap (λ (z : List Change). reply_of (map_of z) y.0) same ∙ was, right_later front later m ys more rest)
+
 -- The gets of one key more
 
 gets_push : (keys : List Key) (found : List (Option ℕ)) (key : Key) (value : Option ℕ) → length found ≡ length keys →
@@ -139,17 +147,39 @@ gets_more keys found i key value low same is =
 
 -- Of a pass
 
+-- It has looked so many keys up, and more of them have gone down.
+pub record HasGone {G : Type 0} (table : TableView) (becomes : G → Event → G → Type 0) (count gone : ℕ) (calls : List (Call × Reply)) (a b : SeatView × G) : Type 0 where
+  pub nodes : ℕ
+  pub loaded : ℕ
+  pub low : nodes ≤ count * (9 * MAX_BYTES)
+  pub few : loaded ≤ 33 * count + 233 * gone + 26 * nodes
+  pub looks : LooksOn table becomes loaded a b
+  pub right : AreRight b.0.known.front (length looks.at.0.known.front) calls
+
 module _ {G : Type 0} {table : TableView} {becomes : G → Event → G → Type 0} where
   -- before the first key
-  pub up_first : {a b : SeatView × G} → ReadsRoot table becomes a b → HasLookedUp table becomes 0 [] a b
+  pub up_first : {a b : SeatView × G} → ReadsRoot table becomes a b → HasGone table becomes 0 0 [] a b
   unfolding on_first
   up_first {b = b} root = record { nodes = 0; loaded = 0; low = omega arith; few = omega arith; looks = on_first root; right = le_refl (length b.0.known.front) }
 
-  -- and one key after the other
-  pub up_more : {n : ℕ} {calls : List (Call × Reply)} {a b c : SeatView × G} (key : Key) (o : Option ℕ) → HasLookedUp table becomes n calls a b → IsSeatOf table b.0 → HasSearched table becomes b c →
-      HasFound c.0.known key o → HasLookedUp table becomes (n + 1) (calls ++ (Get key, got o) ∷ []) a c
+  -- so many keys go down
+  pub up_down : {n g loads : ℕ} {calls : List (Call × Reply)} {a b c : SeatView × G} (count : ℕ) → HasGone table becomes n g calls a b → 1 ≤ count → loads ≤ 232 * count → Looks table becomes loads b c →
+      HasGone table becomes n (g + count) calls a c
   unfolding on_more
-  up_more {n} {calls} {a} {b} {c} key o up own found_by found = record {
+  up_down {n} {g} {loads} {calls} {a} {b} {c} count up some few down = record {
+    nodes = up.nodes;
+    loaded = up.loaded + (1 + loads);
+    low = up.low;
+    few = let x = up.few in omega (arith, x, some, few);
+    looks = on_more up.looks down;
+    right = let at = looked_at down in right_later b.0.known.front c.0.known.front (length up.looks.at.0.known.front) calls (at.later.front.0, at.later.front.1) up.right;
+  }
+
+  -- and one key after the other is looked up
+  pub up_more : {n g : ℕ} {calls : List (Call × Reply)} {a b c : SeatView × G} (key : Key) (o : Option ℕ) → HasGone table becomes n g calls a b → IsSeatOf table b.0 → HasSearched table becomes b c →
+      HasFound c.0.known key o → HasGone table becomes (n + 1) g (calls ++ (Get key, got o) ∷ []) a c
+  unfolding on_more
+  up_more {n} {g} {calls} {a} {b} {c} key o up own found_by found = record {
     nodes = up.nodes + found_by.nodes;
     loaded = up.loaded + (1 + found_by.loaded);
     low = let x = up.low in let y = found_by.low in omega arith;
@@ -167,6 +197,10 @@ module _ {G : Type 0} {table : TableView} {becomes : G → Event → G → Type 
 
       was : (m : ℕ) × (since c.0.known ≤ m) × (m ≤ length c.0.known.front) × (reply_of (map_of (take m c.0.known.front)) (Get key) ≡ got o)
       was = found_right c.0.known key o found possible.core possible.lawful (recalls possible.core c.0.known possible.knows)
+
+  -- and all have been looked up
+  pub up_all : {n : ℕ} {calls : List (Call × Reply)} {a b : SeatView × G} → HasGone table becomes n n calls a b → HasLookedUp table becomes n calls a b
+  up_all up = record { nodes = up.nodes; loaded = up.loaded; low = up.low; few = let x = up.few in omega (arith, x); looks = up.looks; right = up.right }
 
   -- it is pinned still
   pub root_pinned_on : {a b : SeatView × G} → ReadsRoot table becomes a b → IsSome a.0.known.pin → IsSome b.0.known.pin

@@ -206,7 +206,7 @@ module _ {G : Type 0} {table : TableView} {becomes : G → Event → G → Type 
       legal = subst (λ (z : ℕ × List Note). LegalCalls c.0.known.front z.0 (z.1 ++ added)) (λ x. (sym looks.on.pass x, sym looks.on.notes x))
           (legal_with a.0.known.front c.0.known.front a.0.known.pass start a.0.known.notes calls settled.legal looks.others (legal_front a.0 d.0 looks.on end.event) low_start are_placed)
 
-  all_steps : d.0.known.steps ≤ a.0.known.steps + 4 + 33 * length keys + 26 * up.nodes
+  all_steps : d.0.known.steps ≤ a.0.known.steps + 4 + 266 * length keys + 26 * up.nodes
   all_steps =
       let first : b.0.known.steps ≡ a.0.known.steps + 2 = ap (λ (z : Known). z.steps) pins.1.rest in
       let second : c.0.known.steps ≡ b.0.known.steps + (1 + up.loaded) = ap (λ (z : Known). z.steps) (looked_on up.looks).sees in

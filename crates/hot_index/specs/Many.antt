@@ -61,19 +61,19 @@ AreRight front low [] = low ≤ length front
 AreRight front low (x ∷ xs) = (n : ℕ) × (low ≤ n) × (reply_of (map_of (take n front)) x.0 ≡ x.1) × AreRight front n xs
 
 -- The pass has looked so many keys up, one after the other, after it had loaded the root: so these calls' replies are right in turn, at
--- places from what it had seen then on. On the ways of all keys were so many nodes.
+-- places from what it had seen then on. On the ways of all keys were so many nodes; by 233 of the loads for each key it went down before.
 pub record HasLookedUp {G : Type 0} (table : TableView) (becomes : G → Event → G → Type 0) (count : ℕ) (calls : List (Call × Reply)) (a b : SeatView × G) : Type 0 where
   pub nodes : ℕ
   pub loaded : ℕ
   pub low : nodes ≤ count * (9 * MAX_BYTES)
-  pub few : loaded ≤ 33 * count + 26 * nodes
+  pub few : loaded ≤ 266 * count + 26 * nodes
   pub looks : LooksOn table becomes loaded a b
   pub right : AreRight b.0.known.front (length looks.at.0.known.front) calls
 
 -- The call pins the pass, loads the root, looks so many keys up, and clears the pin: these steps lead from the very seat that the pass has
 -- before to the one that it has after, one after the other, and no other does. With the last one come the call's notes, and none of them
 -- stands before what the pass has seen by its first load of the root. On the ways of all keys it visits so many nodes: it makes at most
--- 26 steps at each, 33 for each key beside, and 4. The gate is told each of them, in order, and nothing else.
+-- 26 steps at each, 266 for each key beside, and 4. The gate is told each of them, in order, and nothing else.
 pub record HasGotMany {G : Type 0} (index : TableView) (becomes : G → Event → G → Type 0) (count : ℕ) (a b : PassView × G) : Type 0 where
   pub epoch : ℕ
   pub root : ℕ
@@ -89,4 +89,4 @@ pub record HasGotMany {G : Type 0} (index : TableView) (becomes : G → Event �
   pub told : IsTold becomes (events_of a.0.number (reading epoch root loads ++ ClearPin ∷ [])) a.1 b.1
   pub visited : ℕ
   pub depth : visited ≤ count * (9 * MAX_BYTES)
-  pub few : b.0.steps ≤ a.0.steps + 4 + 33 * count + 26 * visited
+  pub few : b.0.steps ≤ a.0.steps + 4 + 266 * count + 26 * visited

@@ -161,7 +161,7 @@ impl Index {
     /// absent. Each goes to its key's place in `found`, which has as many places as there are keys.
     ///
     /// It takes no lock, waits for nobody and takes no memory. The pass is pinned once, until the last key has been looked up: it makes at
-    /// most 4 atomic steps, 33 more for each key, and 26 more for each of at most 2,160 nodes on each key's way. The values are of no
+    /// most 4 atomic steps, 266 more for each key, and 26 more for each of at most 2,160 nodes on each key's way. The values are of no
     /// one moment, but a later key's is of no earlier moment than an earlier one's. Records that others retire meanwhile come back after
     /// it: so give it some hundred keys at once, and no millions.
     pub fn get_many(&self, pass: &mut Pass, keys: &[Key], found: &mut [Option<u64>])

@@ -11,10 +11,11 @@ ghost use Rattle.hot_index.specs.Many.{HasLookedUp, gets};
 use epochs::unpin;
 use key_bits::Key;
 use rowex_core::Gate;
-use rowex_reading::{load_root, look_up};
+use rowex_reading::{TOGETHER, go_down, load_root, look_up_along};
 use rowex_table::{HotTable, TableSeat};
 
-/// Looks keys up, one after the other, each from the root down, and puts what it finds of each at the key's place.
+/// Looks keys up, one after the other, each from the root down, and puts what it finds of each at the key's place. Before, a group of
+/// keys goes down by turns: so the nodes on their ways, and the places in them, are at hand.
 pub fn look_up_each<G: Gate>(
     table: &HotTable,
     seat: &mut TableSeat,
@@ -28,8 +29,15 @@ pub fn look_up_each<G: Gate>(
     ensures { HasLookedUp table.now G.becomes (length keys.now) (gets keys.now found.new) (seat.old, gate.old) (seat.new, gate.new) }
 {
     load_root(table, seat, gate);
-    for index in 0..keys.len() {
-        found[index] = look_up(table, seat, &keys[index], gate);
+    let mut first = 0;
+    while first < keys.len() {
+        let count = TOGETHER.min(keys.len() - first);
+        let rows = go_down(table, seat, gate, keys, first, count);
+        for place in 0..count {
+            let index = first + place;
+            found[index] = look_up_along(table, seat, gate, &keys[index], &rows, place);
+        }
+        first += count;
     }
 }
 
