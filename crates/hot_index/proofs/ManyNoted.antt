@@ -29,7 +29,7 @@ use Rattle.hot_index.specs.Passes.{IsSettled, PassView, pass_of}
 use Rattle.hot_index.specs.Traces.{reading, untold}
 use Rattle.hot_index.proofs.LookedUp.{looked_on}
 use Rattle.hot_index.proofs.Noting.{HasLooked, get_quiet, goes_on, itself, legal_front, longer, looked_then, reply_is, settles}
-use Rattle.hot_index.proofs.Tracing.{runs_untold, step_untold}
+use Rattle.hot_index.proofs.Tracing.{pinned_sees, runs_untold, step_untold}
 
 -- The places, from the last one on: each is the last right one up to that of the next call
 
@@ -225,6 +225,7 @@ module _ {G : Type 0} {table : TableView} {becomes : G → Event → G → Type 
     begins = refl;
     ends = refl;
     pinned = begun;
+    sees = pinned_sees table becomes pins up.looks.root.0 up.looks.root.1;
     looks = up.looks.looks;
     steps = (c, up.looks.rest, end);
     fresh = λ notes are. subst (All (λ n. start ≤ n.place)) (append_cancel_left a.0.known.notes added notes (sym (notes_are settled) ∙ are)) are_placed.above;
@@ -250,6 +251,7 @@ module _ {G : Type 0} (table : TableView) (becomes : G → Event → G → Type 
     begins = x.begins;
     ends = x.ends;
     pinned = begun;
+    sees = x.sees;
     looks = x.looks;
     steps = ((x.steps.0.0, tt), rest, last);
     fresh = x.fresh;

@@ -62,6 +62,9 @@ module _ {G : Type 0} {table : TableView} {becomes : G → Event → G → Type 
   pub rests_failed : d.0.known.failed ≡ a.0.known.failed
   rests_failed = ap (λ (z : Known). z.failed) kept
 
+  pub rests_fresh : d.0.known.fresh ≡ a.0.known.fresh
+  rests_fresh = ap (λ (z : Known). z.fresh) kept
+
   pub rests_steps : d.0.known.steps ≡ a.0.known.steps + 3
   rests_steps = let e = ap (λ (z : Known). z.steps) kept in omega (arith, e)
 

@@ -1,5 +1,5 @@
 -- The steps of a call, and what its gate was told.
-use Rattle.std.proofs.Common.{◌≡◌, ℕ, ◌+◌, ◌≤◌, List, [], ◌∷◌, ◌++◌, false, Result, inl, inr, refl, sym, ap, subst}
+use Rattle.std.proofs.Common.{◌≡◌, ℕ, ◌+◌, ◌≤◌, List, [], ◌∷◌, ◌++◌, false, Result, inl, inr, refl, sym, ap, subst, arith, ◌∙◌}
 use Rattle.hot_model.specs.declared.Note.{Note}
 use Rattle.hot_model.specs.declared.Reply.{Reply}
 use Rattle.rowex_core.specs.declared.event.Act.{Act}
@@ -7,9 +7,11 @@ use Rattle.rowex_core.specs.declared.event.Act.TheVariants.{ClearPin, LoadEpoch,
 use Rattle.rowex_core.specs.declared.event.Event.{Event}
 use Rattle.rowex_core.specs.declared.event.Spot.TheVariants.{Root}
 use Rattle.rowex_core.specs.declared.known.Known.{Known}
-use Rattle.rowex_table.specs.Runs.{Ends, IsTold, Runs, StepsWith, events_of, silent}
+use Rattle.rowex_table.specs.Runs.{Ends, IsTold, Runs, Steps, StepsWith, events_of, silent}
 use Rattle.rowex_table.specs.Seats.{TableView, SeatView}
-use Rattle.rowex_table.proofs.Running.{ends_told, runs_append, runs_one}
+use Rattle.rowex_core.specs.Knowing.{SeesAllAtRoot}
+use Rattle.rowex_table.proofs.Running.{ends_told, runs_append, runs_one, runs_same}
+use Rattle.rowex_table.proofs.Seeing.{ends_see, event_shows, root_shows, runs_later, runs_show, sees_since, sees_then}
 use Rattle.epochs.specs.Rounds.{IsRound, IsSmallRound, advance_steps}
 use Rattle.epochs.specs.declared.limbo.TheConstants.{MOST_VISITED}
 use Rattle.epochs.specs.Runs.{Pins}
@@ -58,6 +60,13 @@ module _ {G : Type 0} (table : TableView) (becomes : G → Event → G → Type 
   abbrev pub HasSteps : SeatView × G → SeatView × G → Type 0
   HasSteps a b = (acts : List Act) × Runs table becomes acts a b
 
+  -- a pass that was pinned, and then loaded the root
+  pub pinned_sees : {a b m : SeatView × G} (pins : Pins table becomes a b) (w : ℕ) → Steps table becomes (LoadRef Root w) b m → SeesAllAtRoot table.layout a.0.known m.0.known
+  pinned_sees {a = a} {b = b} {m = m} pins w step =
+      let pinned = LoadEpoch pins.0 ∷ SetPin pins.0 ∷ [] in
+      sees_since table.layout a.0.known b.0.known m.0.known (runs_same table becomes pinned a b pins.1.steps).2 (runs_later table becomes pinned a b pins.1.steps)
+      (root_shows table.layout w silent b.0.known m.0.known step.event)
+
   -- a call that pinned its pass, looked and cleared the pin
   pub has_read : {n : ℕ} {said : Known → List Note} {a b c d : SeatView × G} → Pins table becomes a b → Looks table becomes n b c → StepsWith table becomes ClearPin said c d →
       HasRead table becomes (pass_of a.0, a.1) (pass_of d.0, d.1)
@@ -70,14 +79,35 @@ module _ {G : Type 0} (table : TableView) (becomes : G → Event → G → Type 
     ends = refl;
     below = looks.rest.below;
     steps = all;
+    sees = sees_then table.layout a.0.known c.0.known d.0.known (runs_same table becomes ran a c run).2 (runs_later table becomes ran a c run) (omega (arith, cleared)) looked (event_shows table.layout ClearPin said c.0.known d.0.known end.event);
     told = ends_told table becomes (reading pins.0 looks.root.0 looks.rest.acts) ClearPin said a d all;
   }
     where
       look : Runs table becomes (LoadRef Root looks.root.0 ∷ looks.rest.acts) b c
       look = (looks.at, looks.root.1, looks.rest.steps)
 
+      ran : List Act
+      ran = reading pins.0 looks.root.0 looks.rest.acts
+
+      run : Runs table becomes ran a c
+      run = runs_append table becomes (LoadEpoch pins.0 ∷ SetPin pins.0 ∷ []) (LoadRef Root looks.root.0 ∷ looks.rest.acts) a b c pins.1.steps look
+
       all : Ends table becomes (reading pins.0 looks.root.0 looks.rest.acts) ClearPin said a d
-      all = (c, runs_append table becomes (LoadEpoch pins.0 ∷ SetPin pins.0 ∷ []) (LoadRef Root looks.root.0 ∷ looks.rest.acts) a b c pins.1.steps look, end)
+      all = (c, run, end)
+
+      cleared : d.0.known.steps ≡ c.0.known.steps + 1
+      cleared = ap (λ (z : Known). z.steps) end.event.learned_is
+
+      looked : SeesAllAtRoot table.layout a.0.known c.0.known
+      looked =
+          let pinned = LoadEpoch pins.0 ∷ SetPin pins.0 ∷ [] in
+          let rest = looks.rest.steps in
+          let before = runs_later table becomes pinned a b pins.1.steps in
+          let at_root = pinned_sees pins looks.root.0 looks.root.1 in
+          let one : looks.at.0.known.steps ≡ b.0.known.steps + 1 = ap (λ (z : Known). z.steps) looks.root.1.event.learned_is in
+          let same = looks.root.1.seat.2 ∙ (runs_same table becomes pinned a b pins.1.steps).2 in
+          sees_then table.layout a.0.known looks.at.0.known c.0.known same (omega (arith, before, one)) (runs_later table becomes looks.rest.acts looks.at c rest) at_root
+          (runs_show table becomes looks.rest.acts looks.at c rest)
 
   -- Nobody need be told.
 
@@ -98,6 +128,7 @@ module _ {G : Type 0} (table : TableView) (becomes : G → Event → G → Type 
     ends = x.ends;
     below = x.below;
     steps = all;
+    sees = x.sees;
     told = subst (λ (z : PassView). IsTold untold (events_of z.number (reading x.epoch x.root x.loads ++ ClearPin ∷ [])) tt tt) (sym x.begins)
         (ends_told table untold (reading x.epoch x.root x.loads) ClearPin x.said (a.0.seat, tt) (b.0.seat, tt) all);
   }
@@ -110,14 +141,15 @@ module _ {G : Type 0} (table : TableView) (becomes : G → Event → G → Type 
 
   -- a call that ended on its seat
   pub has_made : {said : Known → List Note} {r : Result Reply TryFault} (a b : SeatView × G) → HasEnded table becomes (AreAttempts table.layout r) said a b → b.0.known.steps ≤ a.0.known.steps + try_steps table.layout →
-      HasMade table becomes r (pass_of a.0, a.1) (pass_of b.0, b.1)
-  has_made {said = said} a b (acts, tries, ends) few = record {
+      a.0.known.steps ≤ b.0.known.fresh.step → HasMade table becomes r (pass_of a.0, a.1) (pass_of b.0, b.1)
+  has_made {said = said} a b (acts, tries, ends) few loaded = record {
     acts = acts;
     said = said;
     begins = refl;
     ends = refl;
     tries = tries;
     steps = ends;
+    sees = ends_see table becomes acts ClearPin said a b ends loaded;
     told = ends_told table becomes acts ClearPin said a b ends;
     few = few;
   }
@@ -130,6 +162,7 @@ module _ {G : Type 0} (table : TableView) (becomes : G → Event → G → Type 
     ends = x.ends;
     tries = x.tries;
     steps = all;
+    sees = x.sees;
     told = subst (λ (z : PassView). IsTold untold (events_of z.number (x.acts ++ ClearPin ∷ [])) tt tt) (sym x.begins) (ends_told table untold x.acts ClearPin x.said (a.0.seat, tt) (b.0.seat, tt) all);
     few = x.few;
   }
@@ -148,14 +181,15 @@ module _ {G : Type 0} (table : TableView) (becomes : G → Event → G → Type 
   pub ran_out : {Are : List Act → Type 0} {said : Known → List Note} (a b c : SeatView × G) → HasSteps a b → HasEnded table becomes Are said b c → HasStepped table becomes said a c
   ran_out a b c (acts, run) (more, are, (m, rest, end)) = (acts ++ more, ClearPin, (m, runs_append table becomes acts more a b m run rest, end))
 
-  pub has_told : {said : Known → List Note} (a b : SeatView × G) → HasStepped table becomes said a b → HasTold table becomes (pass_of a.0, a.1) (pass_of b.0, b.1)
-  has_told {said = said} a b (acts, last, steps) = record {
+  pub has_told : {said : Known → List Note} (a b : SeatView × G) → HasStepped table becomes said a b → a.0.known.steps ≤ b.0.known.fresh.step → HasTold table becomes (pass_of a.0, a.1) (pass_of b.0, b.1)
+  has_told {said = said} a b (acts, last, steps) loaded = record {
     acts = acts;
     last = last;
     said = said;
     begins = refl;
     ends = refl;
     steps = steps;
+    sees = ends_see table becomes acts last said a b steps loaded;
     told = ends_told table becomes acts last said a b steps;
   }
 
@@ -167,6 +201,7 @@ module _ {G : Type 0} (table : TableView) (becomes : G → Event → G → Type 
     begins = x.begins;
     ends = x.ends;
     steps = all;
+    sees = x.sees;
     told = subst (λ (z : PassView). IsTold untold (events_of z.number (x.acts ++ x.last ∷ [])) tt tt) (sym x.begins) (ends_told table untold x.acts x.last x.said (a.0.seat, tt) (b.0.seat, tt) all);
   }
     where
@@ -182,6 +217,7 @@ module _ {G : Type 0} (table : TableView) (becomes : G → Event → G → Type 
     begins = x.begins;
     ends = x.ends;
     steps = x.steps;
+    sees = x.sees;
     told = x.told;
   }
 

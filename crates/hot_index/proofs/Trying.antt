@@ -270,7 +270,7 @@ module _ {G : Type 0} {table : TableView} {becomes : G → Event → G → Type 
       let later = small_later small in
       let both = outcome_then table.layout (pass_of a.0) (pass_of b.0) (pass_of c.0) (small_unnoted small settled) later call r asked.replied.noted asked.replied.refused in
       record {
-        replied = record { idle = asked.replied.idle; noted = both.0; refused = both.1 };
+        replied = record { idle = asked.replied.idle; noted = both.0; refused = both.1; loaded = le_trans later asked.replied.loaded };
         ended = ended_tidied table becomes a b c (inr small) asked.ended;
         later = le_trans later asked.later;
         few = omega (arith, asked.few, count);
@@ -291,9 +291,10 @@ waited_out table s m t call r (inl none) last = record {
   idle = last.idle;
   noted = subst (λ (z : PassView). IfOk r (IsNoted table.layout z (pass_of t) call)) none last.noted;
   refused = subst (λ (z : PassView). IfErr r (IsRefused table.layout call z (pass_of t))) none last.refused;
+  loaded = subst (λ (z : PassView). z.steps ≤ t.known.fresh.step) none last.loaded;
 }
 waited_out table s m t call r (inr some) last =
-    let both = outcome_then table.layout (pass_of s) (pass_of m) (pass_of t) some.0 some.1 call r last.noted last.refused in record { idle = last.idle; noted = both.0; refused = both.1 }
+    let both = outcome_then table.layout (pass_of s) (pass_of m) (pass_of t) some.0 some.1 call r last.noted last.refused in record { idle = last.idle; noted = both.0; refused = both.1; loaded = le_trans some.1 last.loaded }
 
 -- a call is of the key that it is asked with
 called_key : (ask : Ask) (key : Key) (value : ℕ) → key_of (call_of ask key value) ≡ key
@@ -409,6 +410,10 @@ module _ {G : Type 0} {table : TableView} {becomes : G → Event → G → Type 
   tried ask key value (Ok reply) (inr (x, was, is, changed)) refused step = when_changed ask key value reply x was is changed step.event
   tried ask key value (Err fault) answered refused step = when_refused (call_of ask key value) fault (subst (λ z. HasRefused table.layout z b.0.known c.0.known fault) (sym (called_key ask key value)) refused) step.event
 
+  -- it has loaded the root
+  pub tried_loaded : {said : Known → List Note} → StepsWith table becomes ClearPin said c d → a.0.known.steps ≤ d.0.known.fresh.step
+  tried_loaded step = subst (λ (z : Known). a.0.known.steps ≤ z.fresh.step) (sym step.event.learned_is) (le_trans counted loaded.from)
+
   -- it has made no fewer steps
   pub tried_later : {said : Known → List Note} → StepsWith table becomes ClearPin said c d → a.0.known.steps ≤ d.0.known.steps
   tried_later step =
@@ -436,10 +441,10 @@ module _ {table index : TableView} {k : PassView} {s t : SeatView} {call : Call}
   pub asked_made : {G : Type 0} {becomes : G → Event → G → Type 0} {g h : G} {r : Result Reply TryFault} → HasAsked table becomes (AreAttempts table.layout r) (try_steps table.layout) call r (s, g) (t, h) →
       HasMade index becomes r (k, g) (pass_of t, h)
   asked_made {becomes = becomes} {g = g} {h = h} {r = r} asked =
-      subst (λ (x : TableView × PassView). HasMade x.0 becomes r (x.1, g) (pass_of t, h)) (λ e. (index_is e, pass_is e)) (has_made table becomes (s, g) (t, h) asked.ended asked.few)
+      subst (λ (x : TableView × PassView). HasMade x.0 becomes r (x.1, g) (pass_of t, h)) (λ e. (index_is e, pass_is e)) (has_made table becomes (s, g) (t, h) asked.ended asked.few asked.replied.loaded)
 
 -- and its steps, as the index and the pass see them
 pub stepped_told : {table index : TableView} {k : PassView} {s t : SeatView} {G : Type 0} {becomes : G → Event → G → Type 0} {g h : G} {said : Known → List Note} → table ≡ index → pass_of s ≡ k →
-    HasStepped table becomes said (s, g) (t, h) → HasTold index becomes (k, g) (pass_of t, h)
-stepped_told {table = table} {s = s} {t = t} {becomes = becomes} {g = g} {h = h} index_is pass_is stepped =
-    subst (λ (x : TableView × PassView). HasTold x.0 becomes (x.1, g) (pass_of t, h)) (λ e. (index_is e, pass_is e)) (has_told table becomes (s, g) (t, h) stepped)
+    HasStepped table becomes said (s, g) (t, h) → s.known.steps ≤ t.known.fresh.step → HasTold index becomes (k, g) (pass_of t, h)
+stepped_told {table = table} {s = s} {t = t} {becomes = becomes} {g = g} {h = h} index_is pass_is stepped loaded =
+    subst (λ (x : TableView × PassView). HasTold x.0 becomes (x.1, g) (pass_of t, h)) (λ e. (index_is e, pass_is e)) (has_told table becomes (s, g) (t, h) stepped loaded)

@@ -17,11 +17,12 @@ use Rattle.hot_index.specs.Traces.{HasEnded, IsAttempt}
 abbrev pub IsIdle : TableView → SeatView → Type 0
 IsIdle table s = IsSeatOf table s × IsSettled s.known
 
--- The pass is between two calls again: this one was answered and noted, or refused.
+-- The pass is between two calls again: this one was answered and noted, or refused; and it has loaded the root.
 pub record HasReplied (table : TableView) (call : Call) (result : Result Reply TryFault) (s t : SeatView) : Type 0 where
   pub idle : IsIdle table t
   pub noted : IfOk result (IsNoted table.layout (pass_of s) (pass_of t) call)
   pub refused : IfErr result (IsRefused table.layout call (pass_of s) (pass_of t))
+  pub loaded : s.known.steps ≤ t.known.fresh.step
 
 -- And it has made such steps, so many at most.
 pub record HasAsked {G : Type 0} (table : TableView) (becomes : G → Event → G → Type 0) (Are : List Act → Type 0)
@@ -36,6 +37,7 @@ pub record HasRested {G : Type 0} (table : TableView) (becomes : G → Event →
   pub idle : IsIdle table b.0
   pub unnoted : IsUnnoted table.layout (pass_of a.0) (pass_of b.0)
   pub failed : b.0.known.failed ≡ a.0.known.failed
+  pub fresh : b.0.known.fresh ≡ a.0.known.fresh
   pub ended : HasEnded table becomes IsAttempt silent a b
   pub steps : b.0.known.steps ≡ a.0.known.steps + 3
 

@@ -1,6 +1,6 @@
 -- The pass is as it was.
 use Rattle.std.proofs.Common.{◌∙◌}
-use Rattle.hot_index.proofs.Resting.{rests_ended, rests_failed, rests_settled, rests_steps, rests_unnoted}
+use Rattle.hot_index.proofs.Resting.{rests_ended, rests_failed, rests_fresh, rests_settled, rests_steps, rests_unnoted}
 use Rattle.hot_index.proofs.changing.refuse_again.Goals as goal
 
 pub returns : goal.returns
@@ -11,6 +11,7 @@ returns g c =
         idle = (c.unpin.ensures.step.seat.0 ∙ c.pin.ensures.fits.0, rests_settled (c.args.seat.now, c.args.gate.now) (c.pin.new.seat, c.pin.new.gate) (c.unpin.new.seat, c.unpin.new.gate) settled c.pin.ensures.steps c.unpin.ensures.step);
         unnoted = rests_unnoted (c.args.seat.now, c.args.gate.now) (c.pin.new.seat, c.pin.new.gate) (c.unpin.new.seat, c.unpin.new.gate) settled c.pin.ensures.steps c.unpin.ensures.step;
         failed = rests_failed (c.args.seat.now, c.args.gate.now) (c.pin.new.seat, c.pin.new.gate) (c.unpin.new.seat, c.unpin.new.gate) settled c.pin.ensures.steps c.unpin.ensures.step;
+        fresh = rests_fresh (c.args.seat.now, c.args.gate.now) (c.pin.new.seat, c.pin.new.gate) (c.unpin.new.seat, c.unpin.new.gate) settled c.pin.ensures.steps c.unpin.ensures.step;
         ended = rests_ended (c.args.seat.now, c.args.gate.now) (c.pin.new.seat, c.pin.new.gate) (c.unpin.new.seat, c.unpin.new.gate) settled c.pin.ensures.steps c.unpin.ensures.step;
         steps = rests_steps (c.args.seat.now, c.args.gate.now) (c.pin.new.seat, c.pin.new.gate) (c.unpin.new.seat, c.unpin.new.gate) settled c.pin.ensures.steps c.unpin.ensures.step;
       };

@@ -3,7 +3,7 @@ use Rattle.std.proofs.Common.{rules, ◌≡◌, ◌+◌, ◌∙◌, ap, arith}
 use Rattle.rowex_core.specs.declared.known.Known.{Known}
 use Rattle.hot_index.proofs.Noting.{fits_then}
 use Rattle.hot_index.proofs.Tracing.{attempt_ended}
-use Rattle.hot_index.proofs.Trying.{run_pinned, run_same, tried, tried_later}
+use Rattle.hot_index.proofs.Trying.{run_pinned, run_same, tried, tried_later, tried_loaded}
 use Rattle.hot_index.proofs.changing.try_once.Goals as goal
 
 pub end_try-requires : goal.end_try-requires
@@ -29,6 +29,7 @@ returns-clause-asked g c =
         idle = (c.end_try.ensures.step.seat.0 ∙ ((run_same c.args.table.now g.G.Gate.becomes _ _ run).0 ∙ c.pin.ensures.fits.0), left.1);
         noted = left.0.0;
         refused = left.0.1;
+        loaded = tried_loaded _ c.requires.idle.1 c.pin.ensures.steps run o.loaded o.rest c.end_try.ensures.step;
       };
       ended = attempt_ended c.args.table.now g.G.Gate.becomes _ _ _ _ c.pin.ensures.steps o.run c.end_try.ensures.step;
       later = tried_later _ c.requires.idle.1 c.pin.ensures.steps run o.loaded o.rest c.end_try.ensures.step;

@@ -1,7 +1,9 @@
 -- Where the first attempt was refused as full, a round follows; and what the second leaves is what the whole call leaves.
-use Rattle.std.proofs.Common.{Result, Err, sym, subst, le_trans, arith}
+use Rattle.std.proofs.Common.{◌≤◌, ◌∙◌, Result, Err, sym, ap, subst, le_trans, arith}
 use Rattle.hot_model.specs.declared.Reply.{Reply}
 use Rattle.hot_model.specs.Maps.{key_of}
+use Rattle.rowex_core.specs.declared.known.Fresh.{Fresh}
+use Rattle.rowex_core.specs.declared.known.Known.{Known}
 use Rattle.rowex_writing.specs.declared.attempts.TryFault.{TryFault}
 use Rattle.rowex_writing.specs.Attempts.{call_of}
 use Rattle.hot_index.specs.Answers.{fault_of}
@@ -30,7 +32,7 @@ returns-then-has_room-clause-asked g c =
     let later = round_later k (c.try_once-first.new.seat, c.try_once-first.new.gate) (c.collect_round-round.new.seat, c.collect_round-round.new.gate) unnoted first.later first.replied.idle.1 round in
     let both = outcome_then table.layout k (pass_of c.collect_round-round.new.seat) (pass_of c.try_once.new.seat) (then_collected k (c.try_once-first.new.seat, c.try_once-first.new.gate) (c.collect_round-round.new.seat, c.collect_round-round.new.gate) unnoted first.later first.replied.idle.1 round) later call c.try_once.result again.replied.noted again.replied.refused in
     record {
-      replied = record { idle = again.replied.idle; noted = both.0; refused = both.1 };
+      replied = record { idle = again.replied.idle; noted = both.0; refused = both.1; loaded = le_trans later again.replied.loaded };
       ended = ended_again table g.G.Gate.becomes c.try_once.result (c.args.seat.now, c.args.gate.now) (c.try_once-first.new.seat, c.try_once-first.new.gate) (c.collect_round-round.new.seat, c.collect_round-round.new.gate) _ first.ended round again.ended;
       later = le_trans later again.later;
       few = (let count = round_few round in omega (arith, first.few, count, again.few));
@@ -54,6 +56,7 @@ returns-clause-asked g c =
         idle = again.idle;
         noted = tt;
         refused = record { unnoted = unnoted_then table.layout k (pass_of c.collect_round-round.new.seat) (pass_of c.refuse_again.new.seat) collected later again.unnoted; cause = cause };
+        loaded = subst (λ (z : Fresh). c.args.seat.now.known.steps ≤ z.step) (sym (again.fresh ∙ ap (λ (z : Known). z.fresh) round.does.rest)) first.replied.loaded;
       };
       ended = ended_again table g.G.Gate.becomes (Err fault) (c.args.seat.now, c.args.gate.now) (c.try_once-first.new.seat, c.try_once-first.new.gate) (c.collect_round-round.new.seat, c.collect_round-round.new.gate) _ first.ended round again.ended;
       later = omega (arith, later, again.steps);

@@ -12,4 +12,4 @@ pub returns-clause-call : goal.returns-clause-call
 returns-clause-call g c = waited_call c.self.view_is c.pass.view_is c.change.result c.change.ensures.replied
 
 pub returns-clause-told : goal.returns-clause-told
-returns-clause-told g c = stepped_told c.self.view_is c.pass.view_is c.change.ensures.stepped
+returns-clause-told g c = stepped_told c.self.view_is c.pass.view_is c.change.ensures.stepped c.change.ensures.replied.loaded
