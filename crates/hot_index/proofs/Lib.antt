@@ -12,3 +12,4 @@ pub mod Resting
 pub mod Making
 pub mod Meets
 pub mod Longs
+pub mod Stamped

@@ -15,7 +15,7 @@ use Rattle.hot_index.specs.Passes.{AreByPasses, IsSettled, pass_of}
 use Rattle.hot_index.specs.Answers.{HaveMet, IsUnnoted}
 
 -- a pass of which only the front goes on, by changes of others
-goes_on : (k : Known) (front : List Change) → IsSettled k → LegalFront front → OthersGoOn k.pass k.front front → IsSettled (with_front front k)
+pub goes_on : (k : Known) (front : List Change) → IsSettled k → LegalFront front → OthersGoOn k.pass k.front front → IsSettled (with_front front k)
 goes_on k front s legal others = record {
   own = s.own;
   locks = s.locks;
@@ -33,7 +33,7 @@ first_settled layout j k j' k' (front, first, second, legal, others, more, apart
 pub second_settled : (layout : Layout) (j k j' k' : Known) → SeatsHaveMet layout j k j' k' → IsSettled k → IsSettled k'
 second_settled layout j k j' k' (front, first, second, legal, others, more, apart, makers) s = subst IsSettled (sym second) (goes_on k front s legal more)
 
-unnoted : (layout : Layout) (s t : SeatView) (front : List Change) → t.known ≡ with_front front s.known → IsSettled s.known → LegalFront front → OthersGoOn s.known.pass s.known.front front →
+pub unnoted : (layout : Layout) (s t : SeatView) (front : List Change) → t.known ≡ with_front front s.known → IsSettled s.known → LegalFront front → OthersGoOn s.known.pass s.known.front front →
     AreByPasses layout front → IsUnnoted layout (pass_of s) (pass_of t)
 unnoted layout s t front is settled legal others makers = record {
   number = ap (λ (z : Known). z.pass) is;

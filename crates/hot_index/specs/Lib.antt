@@ -9,4 +9,5 @@ pub mod Counts
 pub mod Ranges
 pub mod Cursors
 pub mod Asked
+pub mod Stamps
 pub mod Statements

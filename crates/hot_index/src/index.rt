@@ -53,7 +53,7 @@ pub enum IndexFault {
 /// An ordered index from byte keys to 64-bit values, which passes use at the same time through a `&`.
 #[derive(Drop)]
 pub struct Index {
-    table: HotTable,
+    pub(crate) table: HotTable,
 }
 
 impl Model for Index {
@@ -68,7 +68,7 @@ impl Model for Index {
 /// its seat in the table, the changes that it has seen, and its answered calls.
 #[derive(Drop)]
 pub struct Pass {
-    seat: TableSeat,
+    pub(crate) seat: TableSeat,
     room: Box<Room>,
 }
 

@@ -1,8 +1,14 @@
 //! Laws of the index. The functions do nothing: their contracts are the laws.
 
-ghost use Rattle.hot_index.specs.Statements.{LacksAllLong};
+ghost use Rattle.hot_index.specs.Statements.{LacksAllLong, ReturnedBeforeBegun};
 
 /// Where all leaf records are long, as in an index that `create` makes, a call that lacks one has found each of them not free.
 pub fn lacks_all_long()
     ensures { LacksAllLong }
+{}
+
+/// A call that had returned when a stamp was made stands before each call that is begun by a pass that has followed the stamp: at no
+/// later place, and at an earlier one if it changed the map.
+pub fn returned_before_begun()
+    ensures { ReturnedBeforeBegun }
 {}

@@ -11,6 +11,7 @@ pub mod laws;
 mod many;
 mod ranges;
 mod room;
+mod stamp;
 
 pub use census::{RecordCounts, StateCounts};
 pub use cursor::{Cursor, Rest};
@@ -23,3 +24,4 @@ pub use packed_pairs::Pairs;
 pub use record_words::{LayoutFault, Stock};
 pub use rowex_core::{Event, Gate, NoGate};
 pub use rowex_writing::{Full, TryFault};
+pub use stamp::Stamp;

@@ -1,0 +1,6 @@
+-- The law returned_before_begun.
+use Rattle.hot_index.proofs.Stamped.{returned_before_begun}
+use Rattle.hot_index.proofs.laws.returned_before_begun.Goals as goal
+
+pub returns : goal.returns
+returns c = returned_before_begun

@@ -1,0 +1,20 @@
+-- What a pass has seen that follows a stamp.
+use Rattle.std.specs.Prelude.{◌≡◌, List}
+use Rattle.hot_model.specs.declared.Change.{Change}
+use Rattle.hot_model.specs.Fronts.{BeginsWith}
+use Rattle.record_words.specs.declared.layout.Layout.{Layout}
+use Rattle.rowex_table.specs.Rule.{with_front}
+use Rattle.rowex_table.specs.Seats.{StampView, TableView}
+use Rattle.hot_index.specs.Answers.{IsUnnoted}
+use Rattle.hot_index.specs.Passes.{PassView, pass_of}
+
+-- the stamp is one of the index, which is seen as its table
+abbrev pub IsStampFrom : TableView → StampView → Type 0
+IsStampFrom index stamp = stamp.table ≡ index.id
+
+-- The pass k is the pass j now: it has seen the stamp's changes, beside those that it had seen before. No call of it is noted, and nothing
+-- else of its seat has changed, so it has made no step.
+pub record HasCaughtUp (layout : Layout) (stamp : List Change) (k j : PassView) : Type 0 where
+  pub unnoted : IsUnnoted layout k j
+  pub told : BeginsWith j.front stamp
+  pub rest : j ≡ pass_of (record k.seat { known = with_front j.front k.seat.known })
