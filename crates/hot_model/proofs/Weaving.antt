@@ -3,6 +3,9 @@ use Rattle.std.proofs.Common.{◌≡◌, ◌≢◌, ℕ, zero, suc, ◌+◌, ◌
 use Rattle.std.specs.List.{All, filter, slice_get}
 use Rattle.std.proofs.lemmas.Bool.{eqb-true, ne_eqb, and_parts, not-true, cond_both, cond-true}
 use Rattle.std.proofs.lemmas.List.Elements.{All-nil, All-cons, All-head, All-tail, All-append, All-weaker, filter-append}
+use Rattle.std.proofs.lemmas.List.Sorted.{All-permutation, sum_by-IsPermutation}
+use Rattle.std.proofs.lemmas.List.Sums.{length-filter}
+use Rattle.std.specs.Prelude.{IsPermutation}
 use Rattle.std.proofs.Math.Seq.{take-append_seam}
 use Rattle.hot_model.specs.declared.Change.{Change}
 use Rattle.hot_model.specs.declared.Note.{Note}
@@ -156,3 +159,13 @@ weave-legal front passes h = history_from [] front (notes_of passes)
 pub weave-legal_two : (front : List Change) (p q : ℕ) (ns ms : List Note) → p ≢ q → LegalCalls front p ns → LegalCalls front q ms → LegalHistory (weave front (ns ++ ms))
 weave-legal_two front p q ns ms ne h g = subst (λ (l : List Note). LegalHistory (weave front (ns ++ l))) (append-nil ms)
     (weave-legal front ((p, ns) ∷ (q, ms) ∷ []) (h, All-cons (λ r. r.0 ≢ p) (q, ms) [] (λ e. ne (sym e)) (All-nil (λ r. r.0 ≢ p)), (g, All-nil (λ r. r.0 ≢ q), tt)))
+
+-- the calls listed in any order
+pub weave-legal_listed : (front : List Change) (passes : List (ℕ × List Note)) (ns : List Note) → AllLegal front passes → IsPermutation (notes_of passes) ns → LegalHistory (weave front ns)
+weave-legal_listed front passes ns h same = history_from [] front ns
+    (All-permutation (Stands front) (notes_of passes) ns same
+    (All-weaker (λ n. (q : ℕ) × Unit {0} × StandsIn front q n) (Stands front) (λ n s. (s.0, s.2)) (notes_of passes) (all_stand (λ _. Unit {0}) front passes (λ _ _ _. tt) h)))
+    (λ place.
+    let here : Note → Bool = λ n. eqb n.place place && is_change n in
+    let count : length (filter here ns) ≡ length (filter here (notes_of passes)) = length-filter here ns ∙ (sum_by-IsPermutation (λ n. cond (here n) 1 0) (notes_of passes) ns same ∙ sym (length-filter here (notes_of passes))) in
+    subst (λ k. k ≤ 1) (sym count) (one_each front passes h place))

@@ -6,3 +6,4 @@ pub mod InOrder
 pub mod Together
 pub mod AtOnce
 pub mod Gets
+pub mod InTime

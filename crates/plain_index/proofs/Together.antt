@@ -30,7 +30,7 @@ calls_in-calls : (ns : List Note) (es : List Event) → calls_in (calls_of ns ++
 calls_in-calls [] es = refl
 calls_in-calls (n ∷ ns) es = ap (λ l. answered n.call n.reply ∷ l) (calls_in-calls ns es)
 
-calls_in-all : (ns : List Note) → calls_in (calls_of ns) ≡ calls_of ns
+pub calls_in-all : (ns : List Note) → calls_in (calls_of ns) ≡ calls_of ns
 calls_in-all [] = refl
 calls_in-all (n ∷ ns) = ap (λ l. answered n.call n.reply ∷ l) (calls_in-all ns)
 
@@ -39,7 +39,7 @@ calls_in-made c [] es = refl
 calls_in-made c (n ∷ ns) es = calls_in-calls (n ∷ ns) es
 
 -- the calls of one place, and those behind it
-calls_here : (place : ℕ) (c : Change) (cs : List Change) (ns : List Note) →
+pub calls_here : (place : ℕ) (c : Change) (cs : List Change) (ns : List Note) →
     calls_in (weave_from place (c ∷ cs) ns) ≡ calls_of (quiet_at place ns) ++ (calls_of (changing_at place ns) ++ calls_in (weave_from (place + 1) cs ns))
 calls_here place c cs ns = calls_in-calls (quiet_at place ns) _ ∙ ap (λ l. calls_of (quiet_at place ns) ++ l) (calls_in-made c (changing_at place ns) (weave_from (place + 1) cs ns))
 

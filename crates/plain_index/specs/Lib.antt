@@ -1,3 +1,4 @@
--- The order of the calls in a history, and the laws of histories.
+-- The order of the calls in a history, also in time, and the laws of histories.
 pub mod Orders
+pub mod Times
 pub mod Statements

@@ -1,5 +1,5 @@
 -- The laws of histories, as the functions of the module `laws` promise them.
-use Rattle.std.specs.Prelude.{◌≡◌, ◌≢◌, ℕ, ◌≤◌, List, [], ◌++◌, All, length, take, true, IsTrue}
+use Rattle.std.specs.Prelude.{◌≡◌, ◌≢◌, ℕ, ◌≤◌, List, [], ◌++◌, All, Bool, IsPermutation, length, take, true, IsTrue}
 use Rattle.hot_model.specs.declared.Change.{Change}
 use Rattle.hot_model.specs.declared.Note.{Note}
 use Rattle.hot_model.specs.declared.Scan.{Scan}
@@ -9,6 +9,7 @@ use Rattle.hot_model.specs.Calls.{LegalCalls, IsRun}
 use Rattle.hot_model.specs.Weaves.{LegalHistory, weave, notes_of, AllLegal, calls_of}
 use Rattle.hot_model.specs.Scans.{is_within, IsScanOf, IsLawfulScan, IsUpToLast}
 use Rattle.plain_index.specs.Orders.{calls_in, AreWoven, CallsAreWoven}
+use Rattle.plain_index.specs.Times.{FitsPlaces, IsInTime, noted}
 
 -- Calls that are legal in a front are legal in each legal front that goes on from it by changes of other passes alone.
 abbrev pub Longer : Type 0
@@ -34,6 +35,16 @@ abbrev pub WovenInOrderTwo : Type 0
 WovenInOrderTwo =
     (front : List Change) (p q : ℕ) (notes_p notes_q : List Note) → LegalCalls front p notes_p → LegalCalls front q notes_q →
     AreWoven (calls_of notes_p) (calls_of notes_q) (calls_in (weave front (notes_p ++ notes_q)))
+
+-- Calls of passes, each legal in one front, are listed in an order that no call known to have returned before another began breaks, as
+-- that of the moments at which they returned; and their places fit what is known. Then the weave of the list is a legal history in
+-- which each stands once, and none before one that is known to have returned when it began.
+abbrev pub WovenInTime : Type 0
+WovenInTime =
+    (front : List Change) (passes : List (ℕ × List Note)) (before : ℕ → ℕ → Bool) (listed : List (ℕ × Note)) → AllLegal front passes →
+    IsPermutation (notes_of passes) (noted listed) → FitsPlaces before listed → IsInTime before listed →
+    LegalHistory (weave front (noted listed)) ×
+    ((history : List (ℕ × Note)) × IsPermutation listed history × IsInTime before history × (calls_in (weave front (noted listed)) ≡ calls_of (noted history)))
 
 -- A scan of the map of a front is lawful where the front stays as it is.
 abbrev pub ScansAtOnce : Type 0

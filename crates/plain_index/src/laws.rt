@@ -1,5 +1,5 @@
 //! Laws of histories, over their definitions alone. The functions do nothing: their contracts are the laws.
-ghost use Rattle.plain_index.specs.Statements.{InOrder, Longer, Woven, WovenTwo, WovenInOrder, WovenInOrderTwo, ScansAtOnce, StillScans, ScanIsGets, Alone};
+ghost use Rattle.plain_index.specs.Statements.{InOrder, Longer, Woven, WovenTwo, WovenInOrder, WovenInOrderTwo, WovenInTime, ScansAtOnce, StillScans, ScanIsGets, Alone};
 
 /// A pass's calls stay legal while other passes make changes.
 pub fn longer()
@@ -16,6 +16,11 @@ pub fn woven()
 pub fn woven_in_order()
     ensures any { WovenInOrder }
     ensures two { WovenInOrderTwo }
+{}
+
+/// In the one history of several passes' legal calls, a call that is known to have returned when another begins stands before it.
+pub fn woven_in_time()
+    ensures { WovenInTime }
 {}
 
 /// The first pairs of a map's range are a lawful scan while nothing changes.

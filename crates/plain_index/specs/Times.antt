@@ -1,0 +1,17 @@
+-- The calls of passes in the order of time, as far as it is known.
+use Rattle.std.specs.Prelude.{◌≡◌, ℕ, ◌≤◌, AllPairs, Bool, Contains, List, false, map, true}
+use Rattle.hot_model.specs.declared.Note.{Note}
+use Rattle.hot_model.specs.Calls.{place_after}
+
+-- the notes of calls with labels, by which calls that look alike are told apart
+abbrev pub noted : List (ℕ × Note) → List Note
+noted calls = map (λ x. x.1) calls
+
+-- Where `before` says of two labels that the first one's call is known to have returned when the second's begins, that one's place is no
+-- earlier, and later than the first one's change.
+abbrev pub FitsPlaces : (ℕ → ℕ → Bool) → List (ℕ × Note) → Type 0
+FitsPlaces before calls = (x y : ℕ × Note) → Contains calls x → Contains calls y → before x.0 y.0 ≡ true → place_after x.1 ≤ y.1.place
+
+-- no call stands before one that is known to have returned when it begins
+abbrev pub IsInTime : (ℕ → ℕ → Bool) → List (ℕ × Note) → Type 0
+IsInTime before calls = AllPairs (λ x y. before y.0 x.0 ≡ false) calls
