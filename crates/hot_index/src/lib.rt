@@ -10,6 +10,7 @@ mod index;
 pub mod laws;
 mod many;
 mod ranges;
+mod reverse;
 mod room;
 mod stamp;
 

@@ -137,6 +137,17 @@ impl<'a> Guest<'a> {
         self.index.scan(alloc, &mut self.pass, from, upto, limit)
     }
 
+    pub fn scan_reverse(
+        &mut self,
+        alloc: Global,
+        from: &Key,
+        upto: &Key,
+        limit: usize,
+    ) -> Result<Scan, AllocError> {
+        self.index
+            .scan_reverse(alloc, &mut self.pass, from, upto, limit)
+    }
+
     /// All keys with their values.
     pub fn list(&mut self, rt: &impl Abort, alloc: Global) -> Vec<(Key, u64)> {
         let (low, high) = (key(rt, b""), key(rt, &[255; 240]));

@@ -76,7 +76,7 @@ fn four_threads_that_wait_insert_all_keys(rt: HostRuntime) {
 
 /// Whether each scan from a key on, with a limit of 3, has the next keys, each with its place as the low part of its value, and
 /// says rightly whether there is more.
-fn scans(alloc: Global, mut guest: Guest, keys: &[Key], last: &Key) -> bool {
+fn scans(alloc: Global, guest: &mut Guest, keys: &[Key], last: &Key) -> bool {
     for (place, from) in keys.iter().enumerate() {
         let Ok(scan) = guest.scan(alloc, from, last, 3) else {
             return false;
@@ -84,6 +84,28 @@ fn scans(alloc: Global, mut guest: Guest, keys: &[Key], last: &Key) -> bool {
         let left = keys.len().saturating_sub(place);
         let mut is_right = scan.pairs.len() == left.min(3) && scan.more == (left > 3);
         for (pair, (number, key)) in scan.pairs.iter().zip(keys.iter().enumerate().skip(place)) {
+            is_right = is_right && pair.0 == *key && pair.1 & 0xffff == number as u64;
+        }
+        if !is_right {
+            return false;
+        }
+    }
+    true
+}
+
+/// The same of each scan downwards from a key: the last three keys up to it.
+fn scans_downwards(alloc: Global, guest: &mut Guest, keys: &[Key], first: &Key) -> bool {
+    for (place, upto) in keys.iter().enumerate() {
+        let Ok(scan) = guest.scan_reverse(alloc, first, upto, 3) else {
+            return false;
+        };
+        let left = place.saturating_add(1);
+        let mut is_right = scan.pairs.len() == left.min(3) && scan.more == (left > 3);
+        for (pair, (number, key)) in scan
+            .pairs
+            .iter()
+            .zip(keys.iter().enumerate().take(left).rev())
+        {
             is_right = is_right && pair.0 == *key && pair.1 & 0xffff == number as u64;
         }
         if !is_right {
@@ -126,10 +148,13 @@ fn scans_have_each_key_while_another_thread_upserts_them(rt: HostRuntime) {
         assert!(rt; told == Ok(Reply::Inserted));
     }
     let alloc = rt.alloc();
-    let last = key(&rt, &[255]);
+    let (none, last) = (key(&rt, b""), key(&rt, &[255]));
     let (has_scanned, has_upserted) = join(
         &rt,
-        || scans(alloc, first, &keys, &last),
+        || {
+            scans(alloc, &mut first, &keys, &last)
+                && scans_downwards(alloc, &mut first, &keys, &none)
+        },
         || upserts(second, &keys, 4),
     );
     assert!(rt; has_scanned && has_upserted);
