@@ -13,6 +13,8 @@ mod exchanges;
 #[cfg(test)]
 mod gates;
 #[cfg(test)]
+mod lengths;
+#[cfg(test)]
 mod made;
 #[cfg(test)]
 mod orders;
