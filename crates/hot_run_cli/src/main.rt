@@ -1,14 +1,18 @@
 //! The program `hot-run`: answers the script on standard input, after those in files at the same time.
 #![tactic(auto)]
 
+ghost use Rattle.std.specs.Prelude.{OnOk, map, string_bytes};
+ghost use Rattle.hot_run_cli.specs.Asked.{IsAnsweredAsAsked};
+
 mod files;
 
-use hot_command_line::arguments::{Request, parse};
+use files::{Disk, Shelf, read_files};
+use hot_command_line::arguments::parse;
 use hot_command_line::ending::Ending;
-use hot_run::{RunFault, run_one, run_scripts};
+use hot_run::{run_one, run_scripts};
 use std::alloc::AllocError;
 use std::io;
-use std::io::ErrorKind;
+use std::io::{ErrorKind, Read, Write};
 use std::process::ExitCode;
 use std::rt::{Env, Files};
 use std::sync::Wait;
@@ -23,53 +27,42 @@ fn words<R: Env + AllocGlobal>(rt: &R) -> Result<Vec<String>, Ending> {
     }
 }
 
-/// Answers standard input on standard output.
-fn answer_one<R>(rt: &R, request: &Request<'_>) -> Result<(), RunFault>
+/// Answers what these words ask for: the script that the reader has, alone, or after the scripts that the shelf has under the names
+/// that the words give.
+fn answer<T, S, R, W>(
+    rt: &T,
+    shelf: &S,
+    words: &[String],
+    reader: &mut R,
+    writer: &mut W,
+) -> Result<(), Ending>
 where
-    R: Input + Print + AllocGlobal + Wait,
+    T: AllocGlobal + Wait + Threads + Sync,
+    S: Shelf,
+    R: Read,
+    W: Write,
+    ensures { OnOk result (IsAnsweredAsAsked S.bytes (map string_bytes words.now) (R.remaining reader.old) (R.remaining reader.new)
+        (W.contents writer.old) (W.contents writer.new)) }
 {
-    let (mut reader, mut writer) = (rt.reader(), io::writer(rt));
-    run_one(
-        rt,
-        rt.alloc(),
-        request.nodes,
-        request.leaves,
-        &mut reader,
-        &mut writer,
-    )
+    let request = parse(rt.alloc(), words)?;
+    let (nodes, leaves) = (request.nodes, request.leaves);
+    if request.files.is_empty() {
+        run_one(rt, rt.alloc(), nodes, leaves, reader, writer)?;
+    } else {
+        let files = read_files(rt.alloc(), shelf, &request.files)?;
+        run_scripts(rt, rt.alloc(), nodes, leaves, files, reader, writer)?;
+    }
+    Ok(())
 }
 
-/// Answers the files and then standard input on standard output.
-fn answer_files<R>(rt: &R, request: &Request<'_>) -> Result<(), RunFault>
-where
-    R: Files + Input + Print + AllocGlobal + Wait + Threads + Sync,
-{
-    let files = files::read_files(rt, rt.alloc(), &request.files)?;
-    let (mut reader, mut writer) = (rt.reader(), io::writer(rt));
-    run_scripts(
-        rt,
-        rt.alloc(),
-        request.nodes,
-        request.leaves,
-        files,
-        &mut reader,
-        &mut writer,
-    )
-}
-
-/// Answers what the command line asks for.
+/// Answers what the command line asks for, from standard input and files to standard output.
 fn run<R>(rt: &R) -> Result<(), Ending>
 where
     R: Env + Files + Input + Print + AllocGlobal + Wait + Threads + Sync,
 {
     let words = words(rt)?;
-    let request = parse(rt.alloc(), &words)?;
-    if request.files.is_empty() {
-        answer_one(rt, &request)?;
-    } else {
-        answer_files(rt, &request)?;
-    }
-    Ok(())
+    let (mut reader, mut writer) = (rt.reader(), io::writer(rt));
+    answer(rt, &Disk { rt }, &words, &mut reader, &mut writer)
 }
 
 fn main(rt: HostRuntime) -> ExitCode {
