@@ -2,10 +2,9 @@
 
 ghost use Rattle.std.specs.Prelude.{All};
 ghost use Rattle.hot_index.specs.Passes.{Owns};
-ghost use Rattle.hot_index.specs.Stamps.{IsStampFrom};
 
 use crate::made::*;
-use hot_index::{Index, Key, NoGate, Pass, Reply, Stamp, TryFault};
+use hot_index::{Key, NoGate, Reply, TryFault};
 use std::alloc::Global;
 use std::sync::Wait;
 use std::test::*;
@@ -133,41 +132,4 @@ fn scans_have_each_key_while_another_thread_upserts_them(rt: HostRuntime) {
         || upserts(second, &keys, 4),
     );
     assert!(rt; has_scanned && has_upserted);
-}
-
-/// Inserts a key by a pass that ends then. Answers whether it was inserted, and a stamp of what the pass had seen.
-fn insert_stamped<R: Wait>(rt: &R, index: &Index, pass: Pass, key: &Key) -> (bool, Stamp)
-    requires { Owns index.now pass }
-    ensures { IsStampFrom index.now result.1 }
-{
-    let mut pass = pass;
-    let told = index.insert(rt, &mut pass, key, 1);
-    (told == Ok(Reply::Inserted), index.stamp(&mut pass))
-}
-
-/// A stamp goes to another pass with the end of its thread.
-#[test]
-fn a_pass_that_follows_stamps_finds_what_they_tell_of(rt: HostRuntime) {
-    let (index, mut passes) = index_of(&rt, rt.alloc(), 3, 16, 128);
-    let (Some(mut last), Some(second), Some(first)) = (passes.pop(), passes.pop(), passes.pop())
-    else {
-        panic!(rt; "no passes")
-    };
-    let (zero, one) = (key(&rt, &[0]), key(&rt, &[1]));
-    let (ours, theirs) = join(
-        &rt,
-        || -> (bool, Stamp)
-            requires { Owns index first }
-            ensures { IsStampFrom index result.1 }
-        { insert_stamped(&rt, &index, first, &zero) },
-        || -> (bool, Stamp)
-            requires { Owns index second }
-            ensures { IsStampFrom index result.1 }
-        { insert_stamped(&rt, &index, second, &one) },
-    );
-    assert!(rt; ours.0 && theirs.0);
-    index.follow(&mut last, ours.1);
-    index.follow(&mut last, theirs.1);
-    let found = (index.get(&mut last, &zero), index.get(&mut last, &one));
-    assert!(rt; found.0 == Some(1) && found.1 == Some(1));
 }
