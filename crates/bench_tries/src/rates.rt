@@ -1,7 +1,7 @@
 //! How fast a map takes keys, finds them, and scans from them.
 
 use crate::keys::KEYS;
-use hot_model::{Call, Reply, Scan};
+use finite_map::{Call, Reply, Scan};
 use key_bits::Key;
 use plain_index::PlainIndex;
 use plain_trie::PlainTrie;

@@ -5,7 +5,7 @@ use Rattle.std.proofs.lemmas.Nat.{one_shl}
 use Rattle.std.proofs.Math.Seq.{drop-append-add}
 use Rattle.compound_node.proofs.Lawful.{same_count}
 use Rattle.compound_node.specs.Forking.{forked_head}
-use Rattle.compound_node.specs.Nodes.{FitsHead, HeadView, IsLawful, leaves, node_of}
+use Rattle.compound_node.specs.Nodes.{FitsHead, HeadView, IsLawfulNode, leaves, node_of}
 use Rattle.compound_node.specs.declared.entries.Entry.TheVariants.{Leaf}
 use Rattle.partial_keys.proofs.Putting.{drop_pad}
 use Rattle.partial_keys.specs.Columns.{IsColumns}
@@ -53,7 +53,7 @@ words_forked height position first last count below bit head words new l few row
     ∙ ap (λ k. edited first (last + 1 - first) (forked_rows (2 ^ (31 - k)) bit) (cond is_column head.rows (map (spread_row k) head.rows)) ++ drop (count + 1) words) place
 
 -- rows more, in front of unused places
-module _ (count : ℕ) (head : HeadView) (words : List ℕ) (fits : FitsHead count words head) (next : HeadView) (new : List ℕ) (lawful : IsLawful (node_of next (leaves (count + 1)))) (is : new ≡ next.rows ++ drop (count + 1) words) where
+module _ (count : ℕ) (head : HeadView) (words : List ℕ) (fits : FitsHead count words head) (next : HeadView) (new : List ℕ) (lawful : IsLawfulNode (node_of next (leaves (count + 1)))) (is : new ≡ next.rows ++ drop (count + 1) words) where
   longer : length next.rows ≡ count + 1
   longer = same_count (node_of next (leaves (count + 1))) lawful ∙ length-replicate (count + 1) (Leaf 0)
 

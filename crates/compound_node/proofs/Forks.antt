@@ -9,7 +9,7 @@ use Rattle.compound_node.proofs.Editing.{put-before, put-behind}
 use Rattle.compound_node.proofs.Heights.{greatest_height-insert}
 use Rattle.compound_node.proofs.Lawful.{built_lawful, parts_fit, same_count, with_leaves}
 use Rattle.compound_node.specs.Forking.{forked_head}
-use Rattle.compound_node.specs.Nodes.{FitTogether, HeadView, IsBuiltFrom, IsEntry, IsLawful, NodeView, greatest_height, head_of, height_of, leaves, node_of, piece}
+use Rattle.compound_node.specs.Nodes.{FitTogether, HeadView, IsBuiltFrom, IsEntry, IsLawfulNode, NodeView, greatest_height, head_of, height_of, leaves, node_of, piece}
 use Rattle.compound_node.specs.declared.entries.Entry.TheVariants.{Leaf}
 use Rattle.compound_node.specs.declared.entries.Entry.{Entry}
 use Rattle.partial_keys.proofs.Growing.{shows-at_column, shows-at_new, weight}
@@ -18,7 +18,7 @@ use Rattle.partial_keys.proofs.Reading.{piece_of_shown, shown_self}
 use Rattle.partial_keys.proofs.Showing.{affected_range, same_length, shown_columns}
 use Rattle.partial_keys.specs.Columns.{IsColumns}
 use Rattle.partial_keys.specs.Shown.{piece_of}
-use Rattle.partial_keys.specs.Shows.{Shows}
+use Rattle.partial_keys.specs.Shows.{ShowsPiece}
 use Rattle.partial_keys.specs.Spread.{forked_rows, spread_row}
 use Rattle.pieces.proofs.Positions.{IsPlaceOf, front_below-place}
 use Rattle.pieces.specs.Growth.{IsAffected, affected_count, edited, forked_places, grown}
@@ -26,7 +26,7 @@ use Rattle.pieces.specs.Piece.{Piece}
 use Rattle.pieces.specs.Positions.{front_below, has, with_position}
 
 -- parts that show some piece fit
-pub fit_from_shown : (columns rows : List ℕ) (entries : List Entry) (P : Piece Entry) → Shows columns rows entries P → 2 ≤ length entries → length entries ≤ 32 → IsColumns columns → All IsEntry entries →
+pub fit_from_shown : (columns rows : List ℕ) (entries : List Entry) (P : Piece Entry) → ShowsPiece columns rows entries P → 2 ≤ length entries → length entries ≤ 32 → IsColumns columns → All IsEntry entries →
     FitTogether columns rows entries
 fit_from_shown columns rows entries P sh several room positions children = record {
   several = several;
@@ -68,7 +68,7 @@ module _ (columns rows : List ℕ) (entries : List Entry) (fit : FitTogether col
 
   module _ (room : length entries < 32) (stands : IsEntry entry) where
     put_together : (new_columns new_rows : List ℕ) → IsColumns new_columns →
-        Shows new_columns new_rows (edited first (last + 1 - first) (forked_places bit entry) entries) (grown position bit entry first (piece_of (Leaf 0) columns rows entries)) →
+        ShowsPiece new_columns new_rows (edited first (last + 1 - first) (forked_places bit entry) entries) (grown position bit entry first (piece_of (Leaf 0) columns rows entries)) →
         FitTogether new_columns new_rows (edited first (last + 1 - first) (forked_places bit entry) entries)
     put_together new_columns new_rows positions sh =
         let long : length (edited first (last + 1 - first) (forked_places bit entry) entries) ≡ length entries + 1 = length-put bit entry first (last + 1 - first) entries (omega (arith, fork_range.0, fork_range.1)) in
@@ -89,7 +89,7 @@ module _ (columns rows : List ℕ) (entries : List Entry) (fit : FitTogether col
         (shows-at_new columns rows entries (piece_of (Leaf 0) columns rows entries) position first last bit entry fit.shows range room off)
 
 -- ---- a node with a new fork
-module _ (node : NodeView) (lawful : IsLawful node) (position first last : ℕ) (bit : Bool) (entry : Entry)
+module _ (node : NodeView) (lawful : IsLawfulNode node) (position first last : ℕ) (bit : Bool) (entry : Entry)
     (range : IsAffected (piece node) position first last) (room : length node.entries < 32) (below : position < 65535) (stands : IsEntry entry) where
   abbrev new_entries : List Entry
   new_entries = edited first (last + 1 - first) (forked_places bit entry) node.entries
@@ -132,7 +132,7 @@ module _ (node : NodeView) (lawful : IsLawful node) (position first last : ℕ) 
       (rw weight_is at (shows-at_new node.columns node.rows node.entries (piece node) position first last bit entry lawful.shows range room e))))
       (cases_Bool (has node.columns position))
     where
-      built_from : (columns rows : List ℕ) → FitTogether columns rows new_entries → Shows columns rows new_entries (grown position bit entry first (piece node)) →
+      built_from : (columns rows : List ℕ) → FitTogether columns rows new_entries → ShowsPiece columns rows new_entries (grown position bit entry first (piece node)) →
           IsBuiltFrom (record { height = 1 + greatest_height new_entries; columns = columns; rows = rows; entries = new_entries }) (grown position bit entry first (piece node))
       built_from columns rows fit sh = record {
         lawful = built_lawful columns rows new_entries fit;
@@ -140,7 +140,7 @@ module _ (node : NodeView) (lawful : IsLawful node) (position first last : ℕ) 
         height_is = refl;
       }
 
-  new_leaves : IsLawful (node_of new_head (leaves (length node.rows + 1)))
+  new_leaves : IsLawfulNode (node_of new_head (leaves (length node.rows + 1)))
   new_leaves = with_leaves (node_of new_head new_entries) forked_built.lawful (length node.rows + 1) (omega (arith, same_count node lawful, new_length))
 
 -- what a node with a new fork needs
@@ -149,11 +149,11 @@ pub record NewFork (node : NodeView) (position first last : ℕ) (bit : Bool) (e
   pub in_range : last < length node.entries
   pub children : All IsEntry (edited first (last + 1 - first) (forked_places bit entry) node.entries)
   pub greatest : node.height ≡ 1 → greatest_height (edited first (last + 1 - first) (forked_places bit entry) node.entries) ≡ height_of entry
-  pub leaves_fit : IsLawful (node_of (forked_head (1 + greatest_height (edited first (last + 1 - first) (forked_places bit entry) node.entries)) position first last bit (head_of node)) (leaves (length node.rows + 1)))
+  pub leaves_fit : IsLawfulNode (node_of (forked_head (1 + greatest_height (edited first (last + 1 - first) (forked_places bit entry) node.entries)) position first last bit (head_of node)) (leaves (length node.rows + 1)))
   pub built : IsBuiltFrom (node_of (forked_head (1 + greatest_height (edited first (last + 1 - first) (forked_places bit entry) node.entries)) position first last bit (head_of node))
       (edited first (last + 1 - first) (forked_places bit entry) node.entries)) (grown position bit entry first (piece node))
 
-pub new_fork : (node : NodeView) (lawful : IsLawful node) (self : NodeView) (same : node ≡ self) (position first last : ℕ) (bit : Bool) (entry : Entry) →
+pub new_fork : (node : NodeView) (lawful : IsLawfulNode node) (self : NodeView) (same : node ≡ self) (position first last : ℕ) (bit : Bool) (entry : Entry) →
     IsAffected (piece self) position first last → length self.entries < 32 → position < 65535 → IsEntry entry → NewFork node position first last bit entry
 new_fork node lawful self same position first last bit entry at has_room below stands =
     let range : IsAffected (piece node) position first last = subst (λ v. IsAffected (piece v) position first last) (sym same) at in

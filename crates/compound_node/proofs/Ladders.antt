@@ -17,11 +17,11 @@ use Rattle.pieces.proofs.Using.{later_columns, UsesOnly-more}
 use Rattle.pieces.specs.Piece.{Piece, Place, Fork, paths, places, RisesFrom, size, UsesOnly}
 use Rattle.pieces.specs.Positions.{Ascends, front_below, has}
 use Rattle.pieces.proofs.Positions.{front_below-place}
-use Rattle.compound_node.specs.Ladders.{AreSparseKeys, IsLadder, IsNext}
+use Rattle.compound_node.specs.Ladders.{AreSparseKeys, IsLadder, IsNextRow}
 use Rattle.key_bits.specs.Gather.{code}
 use Rattle.partial_keys.proofs.Cutting.{or_all-piece}
 use Rattle.partial_keys.specs.Shown.{piece_of}
-use Rattle.partial_keys.specs.Shows.{Shows}
+use Rattle.partial_keys.specs.Shows.{ShowsPiece}
 use Rattle.partial_keys.specs.Squeezed.{or_all}
 use Rattle.pieces.specs.Piece.{uses}
 use Rattle.pieces.specs.Positions.{all}
@@ -59,16 +59,16 @@ pub without_lowest-power : (w : ℕ) → bit_and (2 ^ w) (2 ^ w - 1) ≡ 0
 without_lowest-power w = and_mask (2 ^ w) w ∙ mod_self (2 ^ w)
 
 module _ (w a b : ℕ) (fits : b < 2 ^ w) where
-  next-raised : IsNext a b → IsNext (2 ^ w + a) (2 ^ w + b)
+  next-raised : IsNextRow a b → IsNextRow (2 ^ w + a) (2 ^ w + b)
   next-raised n = let p : a < b = n.goes_on in let t : bit_and b (b - 1) ≤ a = n.takes_up in
       record { takes_up = omega (arith, without_lowest-raised w b (omega arith) fits); goes_on = omega arith }
 
-  next-lowered : IsNext (2 ^ w + a) (2 ^ w + b) → IsNext a b
+  next-lowered : IsNextRow (2 ^ w + a) (2 ^ w + b) → IsNextRow a b
   next-lowered n = let p : 2 ^ w + a < 2 ^ w + b = n.goes_on in let t : bit_and (2 ^ w + b) (2 ^ w + b - 1) ≤ 2 ^ w + a = n.takes_up in
       record { takes_up = omega (arith, without_lowest-raised w b (omega arith) fits); goes_on = omega arith }
 
-next_at : {a b c d : ℕ} → a ≡ c → b ≡ d → IsNext c d → IsNext a b
-next_at e f n = subst (λ (q : ℕ × ℕ). IsNext q.0 q.1) (rw (e, f)) n
+next_at : {a b c d : ℕ} → a ≡ c → b ≡ d → IsNextRow c d → IsNextRow a b
+next_at e f n = subst (λ (q : ℕ × ℕ). IsNextRow q.0 q.1) (rw (e, f)) n
 
 -- ---- the rows of a piece are a ladder
 module _ (w : ℕ) (xs ys : List ℕ) (lx : IsLadder xs) (ly : IsLadder ys) (some : 0 < length xs) (also : 0 < length ys)
@@ -86,7 +86,7 @@ module _ (w : ℕ) (xs ys : List ℕ) (lx : IsLadder xs) (ly : IsLadder ys) (som
       long : length (xs ++ raised w ys) ≡ length xs + length ys
       long = length-append xs (raised w ys) ∙ ap (λ n. length xs + n) (length-map ys (λ row. 2 ^ w + row))
 
-      steps : (k : ℕ) → k + 1 < length (xs ++ raised w ys) → IsNext (get_or (xs ++ raised w ys) k 0) (get_or (xs ++ raised w ys) (k + 1) 0)
+      steps : (k : ℕ) → k + 1 < length (xs ++ raised w ys) → IsNextRow (get_or (xs ++ raised w ys) k 0) (get_or (xs ++ raised w ys) (k + 1) 0)
       steps k l = ⊎_elim
           (λ (m : k + 1 < length xs). next_at (front_at k (omega arith)) (front_at (k + 1) m) (lx.steps k m))
           (λ (m : length xs ≤ k + 1). ⊎_elim
@@ -138,7 +138,7 @@ pub rises-ladder : (rows : List ℕ) → IsLadder rows → (j k : ℕ) → j ≤
 rises-ladder rows ladder j zero l m = let e : j ≡ 0 = omega arith in rw e (omega arith)
 rises-ladder rows ladder j (suc k) l m = ⊎_elim
     (λ (e : j ≡ suc k). rw e (omega arith))
-    (λ e. let next : IsNext (get_or rows k 0) (get_or rows (k + 1) 0) = ladder.steps k (omega arith) in
+    (λ e. let next : IsNextRow (get_or rows k 0) (get_or rows (k + 1) 0) = ladder.steps k (omega arith) in
     let s : k + 1 ≡ suc k = omega arith in
     let up : get_or rows k 0 < get_or rows (suc k) 0 = subst (λ i. get_or rows k 0 < get_or rows i 0) s next.goes_on in
     omega (arith, rises-ladder rows ladder j k (omega arith) (omega arith)))
@@ -194,7 +194,7 @@ module _ (w k : ℕ) (rows : List ℕ) (ladder : IsLadder rows) (fits : (j : ℕ
       let b : get_or rows k 0 < 2 ^ w + 2 ^ w = subst (λ i. get_or rows i 0 < 2 ^ w + 2 ^ w) e h.1 in
       let is : get_or rows k 0 ≡ 2 ^ w + r = omega arith in
       let back : k - 1 + 1 ≡ k = omega (arith, front_some) in
-      let next : IsNext (get_or rows (k - 1) 0) (get_or rows (k - 1 + 1) 0) = ladder.steps (k - 1) (omega (arith, front_some)) in
+      let next : IsNextRow (get_or rows (k - 1) 0) (get_or rows (k - 1 + 1) 0) = ladder.steps (k - 1) (omega (arith, front_some)) in
       let low : get_or rows (k - 1) 0 < 2 ^ w = place.below (k - 1) (omega (arith, front_some)) in
       let t : bit_and (get_or rows k 0) (get_or rows k 0 - 1) ≤ get_or rows (k - 1) 0 = subst (λ i. bit_and (get_or rows i 0) (get_or rows i 0 - 1) ≤ get_or rows (k - 1) 0) back next.takes_up in
       let u : bit_and (2 ^ w + r) (2 ^ w + r - 1) ≤ get_or rows (k - 1) 0 = subst (λ n. bit_and n (n - 1) ≤ get_or rows (k - 1) 0) is t in
@@ -208,7 +208,7 @@ module _ (w k : ℕ) (rows : List ℕ) (ladder : IsLadder rows) (fits : (j : ℕ
         let e : k + j + 1 ≡ k + (j + 1) = omega arith in
         let h : (2 ^ w ≤ get_or rows (k + j) 0) × (get_or rows (k + j) 0 < 2 ^ w + 2 ^ w) = high_at j (omega arith) in
         let g : (2 ^ w ≤ get_or rows (k + (j + 1)) 0) × (get_or rows (k + (j + 1)) 0 < 2 ^ w + 2 ^ w) = high_at (j + 1) (omega arith) in
-        let next : IsNext (get_or rows (k + j) 0) (get_or rows (k + (j + 1)) 0) = subst (λ i. IsNext (get_or rows (k + j) 0) (get_or rows i 0)) e (ladder.steps (k + j) (omega arith)) in
+        let next : IsNextRow (get_or rows (k + j) 0) (get_or rows (k + (j + 1)) 0) = subst (λ i. IsNextRow (get_or rows (k + j) 0) (get_or rows i 0)) e (ladder.steps (k + j) (omega arith)) in
         next_at (low_at j (omega arith)) (low_at (j + 1) (omega arith))
         (next-lowered w (get_or rows (k + j) 0 - 2 ^ w) (get_or rows (k + (j + 1)) 0 - 2 ^ w) (omega (arith, g.1))
         (next_at (omega (arith, h.0)) (omega (arith, g.0)) next));
@@ -253,7 +253,7 @@ module _ {A : Type 0} (d : A) where
       ((k : ℕ) → k < length rows → get_or rows k 0 < 2 ^ w) → ((k : ℕ) → k < length rows → get_or rows k 0 % 2 ^ (w - length cs) ≡ 0) → Reads low w cs rows es (shown d w cs rows es)
   reads w [] low rows es l a ladder some same fits multiple =
       let one : length rows ≡ 1 = ⊎_elim (λ (m : 1 < length rows).
-      let next : IsNext (get_or rows 0 0) (get_or rows (0 + 1) 0) = ladder.steps 0 (omega arith) in
+      let next : IsNextRow (get_or rows 0 0) (get_or rows (0 + 1) 0) = ladder.steps 0 (omega arith) in
       let whole : w - length {A = ℕ} [] ≡ w = omega arith in
       let small : get_or rows 1 0 ≡ 0 = sym (mod-eq_of_lt (fits 1 m)) ∙ subst (λ n. get_or rows 1 0 % 2 ^ n ≡ 0) whole (multiple 1 m) in
       absurd (omega (arith, next.goes_on, small))) (λ (m : length rows ≤ 1). omega arith) (cases_lt 1 (length rows)) in
@@ -338,7 +338,7 @@ high_ones n l =
 -- SPARSE PARTIAL KEYS told row by row are those of the piece that they show, and of no other
 module _ {A : Type 0} (d : A) (cs rows : List ℕ) (es : List A) where
   pub sparse_keys-shown : Ascends 0 cs → length cs ≤ 31 → 0 < length rows → length es ≡ length rows → ((k : ℕ) → k < length rows → get_or rows k 0 < 2 ^ 32) →
-      AreSparseKeys (length cs) rows → Shows cs rows es (piece_of d cs rows es)
+      AreSparseKeys (length cs) rows → ShowsPiece cs rows es (piece_of d cs rows es)
   sparse_keys-shown a few some same fits keys =
       let P : Piece A = piece_of d cs rows es in
       let u : or_all rows ≡ 2 ^ 32 - 2 ^ (32 - length cs) = keys.used in
@@ -355,7 +355,7 @@ module _ {A : Type 0} (d : A) (cs rows : List ℕ) (es : List A) where
         entries_are = r.entries_are;
       }
 
-pub shown-sparse_keys : {A : Type 0} (cs rows : List ℕ) (es : List A) (P : Piece A) → Shows cs rows es P → AreSparseKeys (length cs) rows
+pub shown-sparse_keys : {A : Type 0} (cs rows : List ℕ) (es : List A) (P : Piece A) → ShowsPiece cs rows es P → AreSparseKeys (length cs) rows
 shown-sparse_keys cs rows es P sh =
     let few : length cs ≤ 31 = sh.few in
     record {

@@ -5,7 +5,7 @@ use Rattle.std.proofs.lemmas.List.Elements.{All-set}
 use Rattle.std.specs.List.{All}
 use Rattle.compound_node.proofs.Heights.{below_greatest, greatest_height-fits}
 use Rattle.compound_node.proofs.Ladders.{row_at, shown-sparse_keys, sparse_keys-shown}
-use Rattle.compound_node.specs.Nodes.{FitTogether, FitsHead, FitsWords, HeadView, IsEntry, IsHead, IsLawful, IsNode, NodeView, StandsBelow, greatest_height, head_of, height_of, leaves, node_from, node_of, piece}
+use Rattle.compound_node.specs.Nodes.{FitTogether, FitsHead, FitsWords, HeadView, IsEntry, IsHead, IsLawfulNode, IsNode, NodeView, StandsBelow, greatest_height, head_of, height_of, leaves, node_from, node_of, piece}
 use Rattle.compound_node.specs.declared.entries.Entry.TheVariants.{Leaf}
 use Rattle.compound_node.specs.declared.entries.Entry.{Entry}
 use Rattle.key_bits.proofs.Gathering.{code-lt}
@@ -16,7 +16,7 @@ use Rattle.pieces.specs.Changes.{replaced}
 use Rattle.partial_keys.specs.Columns.{IsColumns}
 use Rattle.partial_keys.specs.Rows.{IsHighest, dense_of, row_of, with_unused}
 use Rattle.partial_keys.specs.Shown.{piece_of}
-use Rattle.partial_keys.specs.Shows.{Shows}
+use Rattle.partial_keys.specs.Shows.{ShowsPiece}
 use Rattle.pieces.proofs.Paths.{length-paths, length-places, size_pos}
 use Rattle.pieces.specs.Piece.{Fork, Piece, Place, leads_to, paths, size}
 use Rattle.partial_keys.proofs.Affected.{affected_is}
@@ -28,25 +28,25 @@ use Rattle.pieces.specs.Positions.{front_below, has}
 pub length-leaves : (n : ℕ) → length (leaves n) ≡ n
 length-leaves n = length-replicate n (Leaf 0)
 
-pub same_count : (node : NodeView) → IsLawful node → length node.rows ≡ length node.entries
+pub same_count : (node : NodeView) → IsLawfulNode node → length node.rows ≡ length node.entries
 same_count node lawful = same_length node.columns node.rows node.entries (piece node) lawful.shows
 
-module _ {A B : Type 0} (d : B) (cs rows : List ℕ) (es : List A) (P : Piece A) (sh : Shows cs rows es P) where
+module _ {A B : Type 0} (d : B) (cs rows : List ℕ) (es : List A) (P : Piece A) (sh : ShowsPiece cs rows es P) where
   pub rows_fit : (k : ℕ) → k < length rows → get_or rows k 0 < 2 ^ 32
   rows_fit k l =
       let n : length rows ≡ size P = ap length sh.rows_are ∙ length-map (paths P) (row_of cs) ∙ length-paths P in
       subst (λ r. r < 2 ^ 32) (sym (ap (λ rs. get_or rs k 0) sh.rows_are ∙ row_at 32 cs P k (omega arith))) (code-lt 32 (map (has (get_or (paths P) k [])) cs))
 
   -- the rows that show one piece show another with other things at its places
-  pub shows_others : (ys : List B) → length ys ≡ length es → Shows cs rows ys (piece_of d cs rows ys)
+  pub shows_others : (ys : List B) → length ys ≡ length es → ShowsPiece cs rows ys (piece_of d cs rows ys)
   shows_others ys e =
       let n : length rows ≡ length es = same_length cs rows es P sh in
       let some : length rows ≡ size P = ap length sh.rows_are ∙ length-map (paths P) (row_of cs) ∙ length-paths P in
       sparse_keys-shown d cs rows ys sh.columns_rise sh.few (omega (arith, size_pos P)) (omega arith) rows_fit (shown-sparse_keys cs rows es P sh)
 
-module _ (node : NodeView) (lawful : IsLawful node) where
+module _ (node : NodeView) (lawful : IsLawfulNode node) where
   -- the node with other entries
-  pub other_entries : (entries : List Entry) → length entries ≡ length node.entries → All (StandsBelow node.height) entries → IsLawful (node_of (head_of node) entries)
+  pub other_entries : (entries : List Entry) → length entries ≡ length node.entries → All (StandsBelow node.height) entries → IsLawfulNode (node_of (head_of node) entries)
   other_entries entries e stand = record {
     several = omega (arith, lawful.several);
     room = omega (arith, lawful.room);
@@ -60,7 +60,7 @@ module _ (node : NodeView) (lawful : IsLawful node) where
   pub height_positive : 0 < node.height
   height_positive = omega (arith, lawful.above 0 (Leaf 0) (omega (arith, lawful.several)))
 
-  pub with_leaves : (n : ℕ) → n ≡ length node.entries → IsLawful (node_of (head_of node) (leaves n))
+  pub with_leaves : (n : ℕ) → n ≡ length node.entries → IsLawfulNode (node_of (head_of node) (leaves n))
   with_leaves n e = other_entries (leaves n) (length-replicate n (Leaf 0) ∙ e)
       (λ k d l. subst (StandsBelow node.height) (sym (get_or-replicate n k (Leaf 0) d (subst (λ m. k < m) (length-replicate n (Leaf 0)) l))) (tt, height_positive))
 
@@ -75,7 +75,7 @@ module _ (node : NodeView) (lawful : IsLawful node) where
   }
 
   -- another entry at a place
-  pub replaced_lawful : (i : ℕ) (entry : Entry) → StandsBelow node.height entry → IsLawful (record node { entries = set node.entries i entry })
+  pub replaced_lawful : (i : ℕ) (entry : Entry) → StandsBelow node.height entry → IsLawfulNode (record node { entries = set node.entries i entry })
   replaced_lawful i entry stands = other_entries (set node.entries i entry) (length-set node.entries i entry)
       (All-set (StandsBelow node.height) node.entries i entry stands (λ k d l. (lawful.children k d l, lawful.above k d l)))
 
@@ -85,7 +85,7 @@ module _ (node : NodeView) (lawful : IsLawful node) where
 
 -- a new node of parts that fit
 pub built_lawful : (columns rows : List ℕ) (entries : List Entry) → FitTogether columns rows entries →
-    IsLawful (record { height = 1 + greatest_height entries; columns = columns; rows = rows; entries = entries })
+    IsLawfulNode (record { height = 1 + greatest_height entries; columns = columns; rows = rows; entries = entries })
 built_lawful columns rows entries fit = record {
   several = fit.several;
   room = fit.room;
@@ -103,7 +103,7 @@ leads_to-lt bit (Fork p a b) = elim (bit p) as (λ v. cond v (size a + leads_to 
     [ true ↦ omega (arith, leads_to-lt bit b) | false ↦ omega (arith, leads_to-lt bit a) ]
 
 module _ (head : HeadView) (sparse : List ℕ) (bit : ℕ → Bool) (dense i : ℕ) (padded : sparse ≡ with_unused head.rows) (gathered : dense ≡ dense_of head.columns bit)
-    (highest : IsHighest sparse dense i) (node : NodeView) (lawful : IsLawful node) (same : head_of node ≡ head) where
+    (highest : IsHighest sparse dense i) (node : NodeView) (lawful : IsLawfulNode node) (same : head_of node ≡ head) where
   pub head_leads : i ≡ leads_to bit (piece node)
   head_leads =
       let columns : head.columns ≡ node.columns = sym (ap (λ (h : HeadView). h.columns) same) in
@@ -119,7 +119,7 @@ module _ (head : HeadView) (sparse : List ℕ) (bit : ℕ → Bool) (dense i : �
       omega (arith, head_leads, leads_to-lt bit (piece node), same_count node lawful)
 
 -- ---- the affected range
-pub affected_range_is : (node : NodeView) → IsLawful node → (position found n first last : ℕ) → found < length node.entries → n ≡ front_below position node.columns →
+pub affected_range_is : (node : NodeView) → IsLawfulNode node → (position found n first last : ℕ) → found < length node.entries → n ≡ front_below position node.columns →
     IsRunStart node.rows n found first → IsRunEnd node.rows n found last →
     (affected_first position found (piece node) ≡ first) × (affected_count position found (piece node) + first ≡ last + 1)
 affected_range_is node lawful position found n first last here below start end =
@@ -162,7 +162,7 @@ module _ (count height : ℕ) (columns sparse : List ℕ) where
         m,
         record {
           padded = subst (λ n. sparse ≡ with_unused (take n sparse)) (sym m) fits.padded;
-          lawful = subst (λ n. IsLawful (record { height = height; columns = columns; rows = take n sparse; entries = leaves count })) (sym m) fits.lawful;
+          lawful = subst (λ n. IsLawfulNode (record { height = height; columns = columns; rows = take n sparse; entries = leaves count })) (sym m) fits.lawful;
         },
       )
 
@@ -171,7 +171,7 @@ module _ (count height : ℕ) (columns sparse : List ℕ) where
   fits_words head =
       let entries : List Entry = head.0 in
       let node : IsNode height columns sparse entries = head.2 in
-      let lawful : IsLawful (node_from height columns sparse entries) = node.lawful in
+      let lawful : IsLawfulNode (node_from height columns sparse entries) = node.lawful in
       subst (λ n. FitsWords n columns sparse) head.1 (record {
         several = lawful.several;
         room = lawful.room;
@@ -201,6 +201,6 @@ module _ (count height : ℕ) (columns sparse : List ℕ) where
       let same : length old ≡ length entries = head.1 ∙ sym e in
       record {
         padded = subst (λ n. sparse ≡ with_unused (take n sparse)) same (head.2).padded;
-        lawful = subst (λ n. IsLawful (record { height = height; columns = columns; rows = take n sparse; entries = entries })) same
+        lawful = subst (λ n. IsLawfulNode (record { height = height; columns = columns; rows = take n sparse; entries = entries })) same
             (other_entries (node_from height columns sparse old) (head.2).lawful entries (sym same) stand);
       }

@@ -8,7 +8,7 @@ use Rattle.std.proofs.lemmas.Nat.{le-div, mod_below, pow_pos, shr_split}
 use Rattle.std.specs.Int.{bit_at}
 use Rattle.compound_node.proofs.Ladders.{rises-ladder, shown-sparse_keys}
 use Rattle.compound_node.proofs.Lawful.{affected_range_is, rows_fit, same_count}
-use Rattle.compound_node.specs.Nodes.{AgreeBefore, HeadView, IsLawful, NodeView, head_of, piece}
+use Rattle.compound_node.specs.Nodes.{AgreeBefore, HeadView, IsLawfulNode, NodeView, head_of, piece}
 use Rattle.compound_node.specs.declared.entries.Entry.TheVariants.{Leaf}
 use Rattle.partial_keys.specs.Runs.{IsRunEnd, IsRunStart}
 use Rattle.pieces.specs.Growth.{affected_count, affected_first}
@@ -55,7 +55,7 @@ before_place cs p n j a place l below = ⊎_elim (λ m. m)
     (cases_lt j n)
 
 -- THE AFFECTED RANGE, in terms of the rows
-module _ (node : NodeView) (lawful : IsLawful node) (position found n first last : ℕ) (here : found < length node.entries) (below : n ≡ front_below position node.columns)
+module _ (node : NodeView) (lawful : IsLawfulNode node) (position found n first last : ℕ) (here : found < length node.entries) (below : n ≡ front_below position node.columns)
     (start : IsRunStart node.rows n found first) (end : IsRunEnd node.rows n found last) where
   few : n ≤ 31
   few = let place : IsPlaceOf node.columns position (front_below position node.columns) = front_below-place position node.columns in omega (arith, below, place.in_range, lawful.positions.few)
@@ -100,7 +100,7 @@ pub record IsRange (node : NodeView) (position found first last : ℕ) : Type 0 
   pub upto : affected_count position found (piece node) + first ≡ last + 1
 
 pub range_of_head : (head : HeadView) (position found n first last : ℕ) → found < length head.rows → n ≡ front_below position head.columns → IsRunStart head.rows n found first → IsRunEnd head.rows n found last →
-    (node : NodeView) → IsLawful node → head_of node ≡ head → IsRange node position found first last
+    (node : NodeView) → IsLawfulNode node → head_of node ≡ head → IsRange node position found first last
 range_of_head head position found n first last here below start end node lawful same =
     let at_head = sym same in
     let its_here : found < length node.rows = subst (λ (h : HeadView). found < length h.rows) at_head here in

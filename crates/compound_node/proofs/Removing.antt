@@ -6,12 +6,12 @@ use Rattle.std.proofs.lemmas.List.{append-nil, drop-append-le, drop-map, drop_al
 use Rattle.std.proofs.lemmas.Nat.{and_block, and_le_l, and_le_r, pow_pos}
 use Rattle.std.specs.Prelude.{bit_and, nat_eq, nat_lt}
 use Rattle.compound_node.proofs.Ladders.{front_at, ladder-rows, length-rows, raised, rest_at, rows-fork, rows-later, rows_fit, single_row, without_lowest-power, without_lowest-raised}
-use Rattle.compound_node.specs.Ladders.{IsLadder, IsNext}
+use Rattle.compound_node.specs.Ladders.{IsLadder, IsNextRow}
 use Rattle.compound_node.specs.Removal.{bit_after, cleared_front, lowest, removed_row}
 use Rattle.partial_keys.proofs.Reading.{row}
 use Rattle.pieces.proofs.Paths.{length-places, size_pos}
 use Rattle.pieces.proofs.Positions.{has_after}
-use Rattle.partial_keys.specs.Shows.{Covers, Shows}
+use Rattle.partial_keys.specs.Shows.{Covers, ShowsPiece}
 use Rattle.pieces.proofs.Removing.{RisesFrom-without, UsesOnly-without, places-without, size_alone, size_forked}
 use Rattle.std.specs.Prelude.{remove}
 use Rattle.pieces.proofs.Using.{later_columns}
@@ -30,7 +30,7 @@ later_positive : (rows : List ℕ) → IsLadder rows → (k : ℕ) → 0 < k →
 later_positive rows ladder zero p l = absurd (omega arith)
 later_positive rows ladder (suc k) p l =
     let e : k + 1 ≡ suc k = omega arith in
-    let next : IsNext (get_or rows k 0) (get_or rows (k + 1) 0) = ladder.steps k (omega arith) in
+    let next : IsNextRow (get_or rows k 0) (get_or rows (k + 1) 0) = ladder.steps k (omega arith) in
     omega (arith, subst (λ i. get_or rows k 0 < get_or rows i 0) e next.goes_on)
 
 -- ---- a bit below the highest one
@@ -235,7 +235,7 @@ module _ {A : Type 0} where
   several_forked es P e l = ⊎_elim (λ f. absurd (omega (arith, ap length e, length-places P, size_alone P f))) (λ f. f) (cases_Bool (is_place P))
 
   -- what is left covers the piece without the place
-  pub covers_without : (cs rows : List ℕ) (es : List A) (P : Piece A) (i : ℕ) → Shows cs rows es P → 2 ≤ length es → i < length es → Covers cs (removed_row i rows) (remove es i) (without i P)
+  pub covers_without : (cs rows : List ℕ) (es : List A) (P : Piece A) (i : ℕ) → ShowsPiece cs rows es P → 2 ≤ length es → i < length es → Covers cs (removed_row i rows) (remove es i) (without i P)
   covers_without cs rows es P i sh several here =
       let few : length cs ≤ 31 = sh.few in
       let more : is_place P ≡ false = several_forked es P sh.entries_are several in

@@ -14,7 +14,7 @@ use Rattle.partial_keys.proofs.Reading.{covers_self, piece_of_covered}
 use Rattle.partial_keys.proofs.Showing.{shown_some_column}
 use Rattle.partial_keys.specs.Columns.{IsColumns}
 use Rattle.partial_keys.specs.Shown.{piece_of}
-use Rattle.partial_keys.specs.Shows.{Covers, Shows}
+use Rattle.partial_keys.specs.Shows.{Covers, ShowsPiece}
 use Rattle.partial_keys.specs.Squeezed.{or_all, squeezed, used_bits}
 use Rattle.pieces.proofs.Paths.{length-places, size_pos}
 use Rattle.pieces.specs.Kept.{kept}
@@ -43,13 +43,13 @@ pub record Parts (cs rows : List ℕ) (es : List Entry) (Q : Piece Entry) : Type
       HalfShows one (piece_of (Leaf 0) cs (map (λ r. r % 2 ^ 31) (drop (front_below (2 ^ 31) rows) rows)) (drop (front_below (2 ^ 31) rows) es)) →
       CutShows (record { position = get_or cs 0 0; zero = zero; one = one }) Q
 
-pub parts : (cs rows : List ℕ) (es : List Entry) (Q : Piece Entry) → Shows cs rows es Q → 2 ≤ length es → Parts cs rows es Q
+pub parts : (cs rows : List ℕ) (es : List Entry) (Q : Piece Entry) → ShowsPiece cs rows es Q → 2 ≤ length es → Parts cs rows es Q
 parts cs rows es (Place x) sh l = absurd (omega (arith, ap length sh.entries_are))
 parts [] rows es (Fork p s t) sh l = absurd (false≢true sh.forks_at_columns.0)
 parts (c ∷ cs) rows es (Fork p s t) sh l =
     let e : p ≡ c = root_first c p cs rows es s t sh in
     let F : ℕ → Type 0 = λ v. Parts (c ∷ cs) rows es (Fork v s t) in
-    let at : Shows (c ∷ cs) rows es (Fork c s t) = subst (λ v. Shows (c ∷ cs) rows es (Fork v s t)) e sh in
+    let at : ShowsPiece (c ∷ cs) rows es (Fork c s t) = subst (λ v. ShowsPiece (c ∷ cs) rows es (Fork v s t)) e sh in
     let k : front_below (2 ^ 31) rows ≡ size s = front_size c cs rows es s t at in
     let n : length es ≡ size s + size t = ap length sh.entries_are ∙ length-append (places s) (places t) ∙ (rw (length-places s, length-places t) refl) in
     let z : Covers (c ∷ cs) (take (size s) rows) (take (size s) es) s = covers_zero c cs rows es s t at in

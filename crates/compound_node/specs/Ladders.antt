@@ -3,14 +3,14 @@ use Rattle.std.specs.Prelude.{ℕ, ◌≡◌, ◌+◌, ◌-◌, ◌^◌, ◌<◌
 use Rattle.partial_keys.specs.Squeezed.{or_all}
 
 -- The row comes next: down to its lowest 1 it is the row before, which has a 0 there. That 1 is of the fork between the two
-pub record IsNext (before row : ℕ) : Type 0 where
+pub record IsNextRow (before row : ℕ) : Type 0 where
   pub takes_up : bit_and row (row - 1) ≤ before
   pub goes_on : before < row
 
 -- the first row is 0, and each later one comes next
 pub record IsLadder (rows : List ℕ) : Type 0 where
   pub first : slice_index rows 0 ≡ 0
-  pub steps : (k : ℕ) → k + 1 < length rows → IsNext (slice_index rows k) (slice_index rows (k + 1))
+  pub steps : (k : ℕ) → k + 1 < length rows → IsNextRow (slice_index rows k) (slice_index rows (k + 1))
 
 -- the rows of some piece over n columns, which uses each of them
 pub record AreSparseKeys (n : ℕ) (rows : List ℕ) : Type 0 where

@@ -8,7 +8,7 @@ use Rattle.compound_node.specs.declared.entries.Entry.TheVariants.{Leaf, Node}
 use Rattle.partial_keys.specs.Columns.{IsColumns}
 use Rattle.partial_keys.specs.Rows.{with_unused}
 use Rattle.partial_keys.specs.Shown.{piece_of}
-use Rattle.partial_keys.specs.Shows.{Shows}
+use Rattle.partial_keys.specs.Shows.{ShowsPiece}
 use Rattle.pieces.specs.Piece.{Piece}
 
 -- ---- entries
@@ -48,22 +48,22 @@ pub record FitTogether (columns rows : List ℕ) (entries : List Entry) : Type 0
   pub room : length entries ≤ 32
   pub same : length rows ≡ length entries
   pub positions : IsColumns columns
-  pub shows : Shows columns rows entries (piece_of (Leaf 0) columns rows entries)
+  pub shows : ShowsPiece columns rows entries (piece_of (Leaf 0) columns rows entries)
   pub children : All IsEntry entries
 
 -- what holds of each node
-pub record IsLawful (node : NodeView) : Type 0 where
+pub record IsLawfulNode (node : NodeView) : Type 0 where
   pub several : 2 ≤ length node.entries
   pub room : length node.entries ≤ 32
   pub positions : IsColumns node.columns
-  pub shows : Shows node.columns node.rows node.entries (piece node)
+  pub shows : ShowsPiece node.columns node.rows node.entries (piece node)
   pub children : All IsEntry node.entries
   pub above : All (λ entry. height_of entry < node.height) node.entries
   pub bound : node.height ≤ 65535
 
 -- a node that was built anew to show this piece: its height is one above the greatest of its entries
 pub record IsBuiltFrom (node : NodeView) (shown : Piece Entry) : Type 0 where
-  pub lawful : IsLawful node
+  pub lawful : IsLawfulNode node
   pub shows_it : piece node ≡ shown
   pub height_is : node.height ≡ 1 + greatest_height node.entries
 
@@ -79,7 +79,7 @@ node_from height columns sparse entries = record { height = height; columns = co
 -- fields that fit together, with 4,294,967,295 at the unused places
 pub record IsNode (height : ℕ) (columns sparse : List ℕ) (entries : List Entry) : Type 0 where
   pub padded : sparse ≡ with_unused (take (length entries) sparse)
-  pub lawful : IsLawful (node_from height columns sparse entries)
+  pub lawful : IsLawfulNode (node_from height columns sparse entries)
 
 -- ---- heads
 -- a node without its entries
@@ -93,7 +93,7 @@ head_of node = record { height = node.height; columns = node.columns; rows = nod
 
 -- each node that has this head is so
 abbrev pub InEachNode : HeadView → (NodeView → Type 0) → Type 0
-InEachNode head IsSo = (node : NodeView) → IsLawful node → head_of node ≡ head → IsSo node
+InEachNode head IsSo = (node : NodeView) → IsLawfulNode node → head_of node ≡ head → IsSo node
 
 abbrev pub node_of : HeadView → List Entry → NodeView
 node_of head entries = record { height = head.height; columns = head.columns; rows = head.rows; entries = entries }
@@ -110,7 +110,7 @@ leaves count = replicate count (Leaf 0)
 pub record FitsHead (count : ℕ) (sparse : List ℕ) (head : HeadView) : Type 0 where
   pub padded : sparse ≡ with_unused head.rows
   pub counted : length head.rows ≡ count
-  pub lawful : IsLawful (node_of head (leaves count))
+  pub lawful : IsLawfulNode (node_of head (leaves count))
 
 -- columns and words of a head, apart from its height
 pub record FitsWords (count : ℕ) (columns sparse : List ℕ) : Type 0 where

@@ -35,7 +35,7 @@ impl Model for Head {
 impl Head {
     ghost use Rattle.std.specs.Prelude.{◌≡◌, ℕ, ◌↔◌, ◌+◌, ◌<◌, ◌≤◌, IsSome, IfSome, length, slice_index, take};
     ghost use Rattle.compound_node.specs.Forking.{forked_head};
-    ghost use Rattle.compound_node.specs.Nodes.{AgreeBefore, InEachNode, IsHead, IsLawful, leaves, node_of, piece};
+    ghost use Rattle.compound_node.specs.Nodes.{AgreeBefore, InEachNode, IsHead, IsLawfulNode, leaves, node_of, piece};
     ghost use Rattle.key_bits.specs.Bits.{bit_of};
     ghost use Rattle.partial_keys.specs.Rows.{with_unused};
     ghost use Rattle.pieces.specs.Changes.{AtRootFork};
@@ -76,7 +76,7 @@ impl Head {
     /// How many entries the node has, 2 to 32.
     pub fn count(&self) -> u8
         ensures count { result ≡ length self.now.rows }
-        ensures lawful { IsLawful (node_of self.now (leaves result)) }
+        ensures lawful { IsLawfulNode (node_of self.now (leaves result)) }
     {
         self.count
     }
@@ -126,7 +126,7 @@ impl Head {
 
     /// The head over these rows.
     pub(crate) fn over(height: u16, columns: Columns, rows: &[u32]) -> Head
-        requires { IsLawful (node_of (record { height = height; columns = columns; rows = rows.now }) (leaves (length rows.now))) }
+        requires { IsLawfulNode (node_of (record { height = height; columns = columns; rows = rows.now }) (leaves (length rows.now))) }
         ensures { result ≡ record { height = height; columns = columns; rows = rows.now } }
     {
         Head {
@@ -143,7 +143,7 @@ impl Head {
         requires range { first ≤ last }
         requires in_range { last < length self.old.rows }
         requires below { position < 65535 }
-        requires lawful { IsLawful (node_of (forked_head height position first last bit self.old) (leaves (length self.old.rows + 1))) }
+        requires lawful { IsLawfulNode (node_of (forked_head height position first last bit self.old) (leaves (length self.old.rows + 1))) }
         ensures { self.new ≡ forked_head height position first last bit self.old }
     {
         let count = self.count as usize;

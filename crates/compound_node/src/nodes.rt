@@ -20,19 +20,19 @@ pub struct Node {
 }
 
 impl Model for Node {
-    ghost use Rattle.compound_node.specs.Nodes.{IsLawful, NodeView, node_of};
+    ghost use Rattle.compound_node.specs.Nodes.{IsLawfulNode, NodeView, node_of};
 
     ghost Value = { NodeView };
 
     ghost view = { λ n. node_of n.head n.entries.items };
 
-    ghost invariant = { λ n. IsLawful (node_of n.head n.entries.items) };
+    ghost invariant = { λ n. IsLawfulNode (node_of n.head n.entries.items) };
 }
 
 impl Node {
     ghost use Rattle.std.specs.Prelude.{◌≡◌, ℕ, ◌↔◌, ◌+◌, ◌<◌, ◌≤◌, IsSome, IfSome, Some, length, slice_get, slice_index, slice_set};
     ghost use Rattle.compound_node.specs.Halves.{CutShows, HalfShows};
-    ghost use Rattle.compound_node.specs.Nodes.{AgreeBefore, IsBuiltFrom, IsEntry, IsLawful, IsNode, StandsBelow, head_of, node_from, node_of, piece};
+    ghost use Rattle.compound_node.specs.Nodes.{AgreeBefore, IsBuiltFrom, IsEntry, IsLawfulNode, IsNode, StandsBelow, head_of, node_from, node_of, piece};
     ghost use Rattle.key_bits.specs.Bits.{bit_of};
     ghost use Rattle.partial_keys.specs.Rows.{with_unused};
     ghost use Rattle.pieces.specs.Changes.{AtRootFork, without};
@@ -61,7 +61,7 @@ impl Node {
 
     /// The node of a head and entries that it may have.
     pub fn of(head: Head, entries: ArrayVec<Entry, 32>) -> Node
-        requires { IsLawful (node_of head entries.items) }
+        requires { IsLawfulNode (node_of head entries.items) }
         ensures { result ≡ node_of head entries.items }
     {
         Node { head, entries }
@@ -83,7 +83,7 @@ impl Node {
     /// How many entries there are, 2 to 32.
     pub fn count(&self) -> u8
         ensures count { result ≡ length self.now.entries }
-        ensures lawful { IsLawful self.now }
+        ensures lawful { IsLawfulNode self.now }
     {
         self.head.count()
     }
@@ -207,7 +207,7 @@ impl Node {
         requires stands { StandsBelow self.now.height entry }
         ensures fields { result ≡ record self.now { entries = slice_set self.now.entries i entry } }
         ensures piece { piece result ≡ replaced_place i entry (piece self.now) }
-        ensures lawful { IsLawful result }
+        ensures lawful { IsLawfulNode result }
     {
         Node::of(
             self.head.copy(),

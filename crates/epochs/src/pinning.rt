@@ -1,7 +1,7 @@
 //! Pins: while a pass is pinned, no record that it may find is given back.
 
 ghost use Rattle.std.specs.Prelude.{◌≡◌, List, None, IsSome};
-ghost use Rattle.hot_model.specs.declared.Note.{Note};
+ghost use Rattle.finite_map.specs.declared.Note.{Note};
 ghost use Rattle.rowex_core.specs.declared.event.Act.TheVariants.{ClearPin};
 ghost use Rattle.rowex_core.specs.declared.known.Known.{Known};
 ghost use Rattle.rowex_table.specs.Runs.{StepsWith};

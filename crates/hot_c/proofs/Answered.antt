@@ -2,23 +2,23 @@
 use Rattle.std.proofs.Common.{◌≡◌, ◌↔◌, ℕ, List, length, ◌≤◌, Option, None, Some, Result, Ok, IsOk, IfOk, refl, sym, ◌∙◌, subst}
 use Rattle.key_bits.specs.declared.KeyFault.{KeyFault}
 use Rattle.key_bits.specs.declared.TheConstants.{MAX_BYTES}
-use Rattle.hot_model.specs.declared.Call.{Call}
-use Rattle.hot_model.specs.declared.Reply.{Reply}
+use Rattle.finite_map.specs.declared.Call.{Call}
+use Rattle.finite_map.specs.declared.Reply.{Reply}
 use Rattle.rowex_writing.specs.declared.attempts.TryFault.{TryFault}
-use Rattle.hot_c.specs.Calls.{Answers, HasOutcome, IsFit}
-use Rattle.hot_c.specs.Statuses.{status_of, value_after}
+use Rattle.hot_c.specs.Calls.{Answers, HasOutcome, FitsInKey}
+use Rattle.hot_c.specs.Statuses.{reply_status, value_after}
 use Rattle.hot_c.specs.declared.opened.Opened.{Opened}
 
 some_is_none : (s : Opened) → Some s ≡ None → ⊥
 some_is_none s e = cc
 
 -- the bytes of a key are fit for one
-pub of_key : (bytes k : List ℕ) (r : Result (List ℕ) KeyFault) → r ≡ Ok k → (IsOk r ↔ (length bytes ≤ MAX_BYTES)) → IfOk r (λ key. key ≡ bytes) → (k ≡ bytes) × IsFit bytes
+pub of_key : (bytes k : List ℕ) (r : Result (List ℕ) KeyFault) → r ≡ Ok k → (IsOk r ↔ (length bytes ≤ MAX_BYTES)) → IfOk r (λ key. key ≡ bytes) → (k ≡ bytes) × FitsInKey bytes
 of_key bytes k r is fits same = (subst (λ (x : Result (List ℕ) KeyFault). IfOk x (λ key. key ≡ bytes)) is same, fits.0 (subst IsOk (sym is) refl))
 
 pub answered : (call : List ℕ → Call) (bytes k : List ℕ) (old new : Option Opened) (before after status : ℕ) (s u : Opened) (outcome : Result Reply TryFault)
-    → old ≡ Some s → new ≡ Some u → u.index ≡ s.index → HasOutcome (call k) outcome s.index.value s.pass u.pass → (k ≡ bytes) × IsFit bytes
-    → status ≡ status_of outcome → after ≡ value_after before outcome → Answers bytes (call bytes) old new before after status
+    → old ≡ Some s → new ≡ Some u → u.index ≡ s.index → HasOutcome (call k) outcome s.index.value s.pass u.pass → (k ≡ bytes) × FitsInKey bytes
+    → status ≡ reply_status outcome → after ≡ value_after before outcome → Answers bytes (call bytes) old new before after status
 answered call bytes k old new before after status s u outcome was is index ended fit told left = record {
   closed = λ none. absurd (some_is_none s (sym was ∙ none));
   long = λ some no. absurd (no fit.1);

@@ -1,7 +1,7 @@
 -- Look-ups, answered one after the other.
 use Rattle.std.proofs.Common.{◌≡◌, ℕ, zero, suc, ◌+◌, ◌<◌, List, [], ◌∷◌, ◌++◌, length, map, take, get_or, slice_set, All, Option, None, Some, inl, inr, IsSome, refl, sym, ap, ◌∙◌, subst, arith}
 use Rattle.hot_index.specs.Many.{AreNoted, gets}
-use Rattle.hot_c.specs.Calls.{IsFit, StaysOpen}
+use Rattle.hot_c.specs.Calls.{FitsInKey, StaysOpen}
 use Rattle.hot_c.specs.Lookups.{LooksUpAll, answer, are_answered, key_in}
 use Rattle.hot_c.specs.declared.lookups.Lookup.{Lookup}
 use Rattle.hot_c.specs.declared.opened.Opened.{Opened}
@@ -41,7 +41,7 @@ some_is_none : (s : Opened) → Some s ≡ None → ⊥
 some_is_none s e = cc
 
 pub looked_up : (old new : Option Opened) (before after : List Lookup) (status : ℕ) (s u : Opened) (keys : List (List ℕ)) (found : List (Option ℕ)) → old ≡ Some s → new ≡ Some u → u.index ≡ s.index
-    → All (λ it. IsFit (key_in it)) before → keys ≡ map key_in before → length found ≡ length before → AreNoted s.index.value.layout s.pass u.pass (gets keys found) → status ≡ DONE
+    → All (λ it. FitsInKey (key_in it)) before → keys ≡ map key_in before → length found ≡ length before → AreNoted s.index.value.layout s.pass u.pass (gets keys found) → status ≡ DONE
     → after ≡ are_answered before found → LooksUpAll old new before after status
 looked_up old new before after status s u keys found was is index fit keys_are many noted done told = record {
   closed = λ none. absurd (some_is_none s (sym was ∙ none));
@@ -55,7 +55,7 @@ looked_up old new before after status s u keys found was is index fit keys_are m
   );
 }
 
-pub no_room : (old new : Option Opened) (before after : List Lookup) (status : ℕ) → IsSome old → All (λ it. IsFit (key_in it)) before → status ≡ NO_MEMORY → new ≡ old → after ≡ before
+pub no_room : (old new : Option Opened) (before after : List Lookup) (status : ℕ) → IsSome old → All (λ it. FitsInKey (key_in it)) before → status ≡ NO_MEMORY → new ≡ old → after ≡ before
     → LooksUpAll old new before after status
 no_room None new before after status some fit full kept same = cc
 no_room (Some s) new before after status some fit full kept same = record {

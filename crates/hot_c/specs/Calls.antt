@@ -2,9 +2,9 @@
 use Rattle.std.specs.Prelude.{◌≡◌, ◌⊎◌, ℕ, ◌≤◌, List, length, drop, map, All, slice_get, Option, Some, None, IsSome, Result, MatchResult}
 use Rattle.std.specs.Int.{from_bool}
 use Rattle.key_bits.specs.declared.TheConstants.{MAX_BYTES}
-use Rattle.hot_model.specs.declared.Call.{Call}
-use Rattle.hot_model.specs.declared.Reply.{Reply}
-use Rattle.hot_model.specs.declared.Scan.{Scan}
+use Rattle.finite_map.specs.declared.Call.{Call}
+use Rattle.finite_map.specs.declared.Reply.{Reply}
+use Rattle.finite_map.specs.declared.Scan.{Scan}
 use Rattle.record_words.specs.Limits.{IsPassCount, IsStockPassCount, IsNodeCount, IsLeafCount, IsRecordCount}
 use Rattle.record_words.specs.Layout.{HasStock, leaves_of}
 use Rattle.record_words.specs.declared.layout.Layout.{Layout}
@@ -17,15 +17,15 @@ use Rattle.hot_index.specs.Passes.{PassView, IsNewPass}
 use Rattle.hot_index.specs.Traces.{HasCollected, untold}
 use Rattle.hot_index.specs.declared.census.RecordCounts.{RecordCounts}
 use Rattle.hot_c.specs.Pairs.{AreSpelled}
-use Rattle.hot_c.specs.Statuses.{status_of, value_after}
+use Rattle.hot_c.specs.Statuses.{reply_status, value_after}
 use Rattle.hot_c.specs.declared.handle.Handle.{Handle}
 use Rattle.hot_c.specs.declared.opened.Opened.{Opened}
 use Rattle.hot_c.specs.declared.pairs.Pair.{Pair}
 use Rattle.hot_c.specs.declared.status.TheConstants.{DONE, KEY_TOO_LONG, CLOSED, NO_MEMORY}
 
 -- the key is short enough
-abbrev pub IsFit : List ℕ → Type 0
-IsFit key = length key ≤ MAX_BYTES
+abbrev pub FitsInKey : List ℕ → Type 0
+FitsInKey key = length key ≤ MAX_BYTES
 
 -- An open handle stays open, on the same index, and this became of its pass.
 pub record StaysOpen (Became : TableView → PassView → PassView → Type 0) (old new : Option Opened) : Type 0 where
@@ -44,9 +44,9 @@ HasOutcome call outcome index k j = MatchResult outcome (IsNoted index.layout k 
 -- is too long are told as such, and nothing has changed; else the call is made, and its outcome told.
 pub record Answers (key : List ℕ) (call : Call) (old new : Option Opened) (before after status : ℕ) : Type 0 where
   pub closed : old ≡ None → (status ≡ CLOSED) × (new ≡ old) × (after ≡ before)
-  pub long : IsSome old → ¬ IsFit key → (status ≡ KEY_TOO_LONG) × (new ≡ old) × (after ≡ before)
-  pub made : IsSome old → IsFit key →
-      (outcome : Result Reply TryFault) × StaysOpen (HasOutcome call outcome) old new × (status ≡ status_of outcome) × (after ≡ value_after before outcome)
+  pub long : IsSome old → ¬ FitsInKey key → (status ≡ KEY_TOO_LONG) × (new ≡ old) × (after ≡ before)
+  pub made : IsSome old → FitsInKey key →
+      (outcome : Result Reply TryFault) × StaysOpen (HasOutcome call outcome) old new × (status ≡ reply_status outcome) × (after ≡ value_after before outcome)
 
 -- what C sees of a scan's answer: its array, the count of pairs, and whether there is a further one
 pub record Listing : Type 0 where
@@ -55,7 +55,7 @@ pub record Listing : Type 0 where
   pub more : ℕ
 
 -- the array begins with the scan's pairs, and is otherwise as it was
-pub record IsListed (scan : Scan) (before after : Listing) : Type 0 where
+pub record IsArrayListed (scan : Scan) (before after : Listing) : Type 0 where
   pub pairs : AreSpelled scan.pairs.items after.room
   pub others : drop (length scan.pairs.items) after.room ≡ drop (length scan.pairs.items) before.room
   pub count : after.count ≡ length scan.pairs.items
@@ -65,9 +65,9 @@ pub record IsListed (scan : Scan) (before after : Listing) : Type 0 where
 -- such, and nothing has changed; else the scan is made and listed, or there is no memory and nothing is listed.
 pub record Lists (from upto : List ℕ) (old new : Option Opened) (before after : Listing) (status : ℕ) : Type 0 where
   pub closed : old ≡ None → (status ≡ CLOSED) × (new ≡ old) × (after ≡ before)
-  pub long : IsSome old → ¬ (IsFit from × IsFit upto) → (status ≡ KEY_TOO_LONG) × (new ≡ old) × (after ≡ before)
-  pub made : IsSome old → IsFit from → IsFit upto →
-      ((status ≡ DONE) × (scan : Scan) × StaysOpen (λ index k j. IsScanned index.layout k j from upto (length before.room) scan) old new × IsListed scan before after)
+  pub long : IsSome old → ¬ (FitsInKey from × FitsInKey upto) → (status ≡ KEY_TOO_LONG) × (new ≡ old) × (after ≡ before)
+  pub made : IsSome old → FitsInKey from → FitsInKey upto →
+      ((status ≡ DONE) × (scan : Scan) × StaysOpen (λ index k j. IsScanned index.layout k j from upto (length before.room) scan) old new × IsArrayListed scan before after)
       ⊎ ((status ≡ NO_MEMORY) × StaysOpen (λ index k j. IsUnnoted index.layout k j) old new × (after ≡ before))
 
 -- a round of collection, which gave back so many nodes and leaves

@@ -1,24 +1,24 @@
 -- What a status says of an outcome, and what becomes of C's value.
 use Rattle.std.specs.Prelude.{ℕ, Result, Ok, Err}
-use Rattle.hot_model.specs.declared.Reply.{Reply}
-use Rattle.hot_model.specs.declared.Reply.TheVariants.{Inserted, Exists, New, Was, Exchanged, Differs, Value, Absent, Removed}
+use Rattle.finite_map.specs.declared.Reply.{Reply}
+use Rattle.finite_map.specs.declared.Reply.TheVariants.{Inserted, Exists, New, Was, Exchanged, Differs, Value, Absent, Removed}
 use Rattle.rowex_writing.specs.declared.attempts.TryFault.{TryFault}
 use Rattle.rowex_writing.specs.declared.attempts.TryFault.TheVariants.{Busy, FullNodes, FullLeaves}
 use Rattle.hot_c.specs.declared.status.TheConstants.{FOUND, ABSENT, INSERTED, EXISTS, NEW, WAS, EXCHANGED, DIFFERS, REMOVED, BUSY, FULL_NODES, FULL_LEAVES}
 
-abbrev pub status_of : Result Reply TryFault → ℕ
-status_of (Ok (Value value)) = FOUND
-status_of (Ok Absent) = ABSENT
-status_of (Ok Inserted) = INSERTED
-status_of (Ok (Exists value)) = EXISTS
-status_of (Ok New) = NEW
-status_of (Ok (Was value)) = WAS
-status_of (Ok Exchanged) = EXCHANGED
-status_of (Ok (Differs value)) = DIFFERS
-status_of (Ok (Removed value)) = REMOVED
-status_of (Err Busy) = BUSY
-status_of (Err FullNodes) = FULL_NODES
-status_of (Err FullLeaves) = FULL_LEAVES
+abbrev pub reply_status : Result Reply TryFault → ℕ
+reply_status (Ok (Value value)) = FOUND
+reply_status (Ok Absent) = ABSENT
+reply_status (Ok Inserted) = INSERTED
+reply_status (Ok (Exists value)) = EXISTS
+reply_status (Ok New) = NEW
+reply_status (Ok (Was value)) = WAS
+reply_status (Ok Exchanged) = EXCHANGED
+reply_status (Ok (Differs value)) = DIFFERS
+reply_status (Ok (Removed value)) = REMOVED
+reply_status (Err Busy) = BUSY
+reply_status (Err FullNodes) = FULL_NODES
+reply_status (Err FullLeaves) = FULL_LEAVES
 
 -- C's value after the call: that of the outcome, if it has one, and else the one before it
 abbrev pub value_after : ℕ → Result Reply TryFault → ℕ

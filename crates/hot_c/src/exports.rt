@@ -1,9 +1,9 @@
 //! The calls of a program in C.
 
 ghost use Rattle.std.specs.Prelude.{◌≡◌, ◌≢◌, ◌⊎◌, IsSome, None, Some, length};
-ghost use Rattle.hot_model.specs.declared.Call.TheVariants.{Exchange, Get, Insert, Remove, RemoveIf, Upsert};
+ghost use Rattle.finite_map.specs.declared.Call.TheVariants.{Exchange, Get, Insert, Remove, RemoveIf, Upsert};
 ghost use Rattle.rowex_writing.specs.Asking.{aim_of};
-ghost use Rattle.rowex_writing.specs.Attempts.{call_of};
+ghost use Rattle.rowex_writing.specs.Attempts.{asked_call};
 ghost use Rattle.hot_c.specs.declared.opened.Opened.{Opened};
 ghost use Rattle.hot_c.specs.Calls.{Answers, AreClosed, HasGivenBack, HasSeenRecords, HaveOpened, HaveOpenedStock, IsSize, IsStockSize, Lists, StaysOpen};
 ghost use Rattle.hot_c.specs.Lookups.{LooksUpAll};
@@ -211,7 +211,7 @@ pub extern "C" fn hot_try_remove_if(
 
 /// Asks for a change of a key's value.
 fn change(handle: &mut Handle, ask: Ask, key: &[u8], value: u64, had: &mut u64) -> u32
-    ensures call { Answers key.now (call_of ask key.now value) handle.old.slot.opened handle.new.slot.opened had.old had.new result }
+    ensures call { Answers key.now (asked_call ask key.now value) handle.old.slot.opened handle.new.slot.opened had.old had.new result }
     ensures leafless { aim_of ask ≡ Aim.Remove → result ≢ FULL_LEAVES }
 {
     if !handle.is_open() {

@@ -2,7 +2,7 @@
 
 ghost use Rattle.std.specs.Prelude.{◌≡◌, ◌↔◌, All, IfOk, IsTrue, length, map};
 ghost use Rattle.hot_c.specs.Lookups.{answer, are_answered, key_in};
-ghost use Rattle.hot_c.specs.Calls.{IsFit};
+ghost use Rattle.hot_c.specs.Calls.{FitsInKey};
 
 use crate::status::{ABSENT, FOUND};
 use key_bits::{Key, MAX_BYTES};
@@ -20,14 +20,14 @@ pub struct Lookup<'a> {
 
 /// Whether no key is too long.
 pub fn are_fit(lookups: &[Lookup<'_>]) -> bool
-    ensures { IsTrue result ↔ All (λ l. IsFit (key_in l)) lookups.now }
+    ensures { IsTrue result ↔ All (λ l. FitsInKey (key_in l)) lookups.now }
 {
     lookups.iter().all(|lookup| lookup.key.len() <= MAX_BYTES)
 }
 
 /// The keys, in their order.
 pub fn keys_of(alloc: Global, lookups: &[Lookup<'_>]) -> Result<Vec<Key>, AllocError>
-    requires { All (λ l. IsFit (key_in l)) lookups.now }
+    requires { All (λ l. FitsInKey (key_in l)) lookups.now }
     ensures { IfOk result (λ keys. keys.items ≡ map key_in lookups.now) }
 {
     let mut keys = Vec::new(alloc);

@@ -1,9 +1,9 @@
 //! What an open handle holds.
 
 ghost use Rattle.std.specs.Prelude.{◌≡◌, ◌≢◌, Err, IfOk, MatchResult, OnErr, length};
-ghost use Rattle.hot_model.specs.declared.Call.TheVariants.{Get};
+ghost use Rattle.finite_map.specs.declared.Call.TheVariants.{Get};
 ghost use Rattle.rowex_writing.specs.Asking.{aim_of};
-ghost use Rattle.rowex_writing.specs.Attempts.{call_of};
+ghost use Rattle.rowex_writing.specs.Attempts.{asked_call};
 ghost use Rattle.hot_index.specs.Answers.{IsNoted, IsRefused, IsScanned, IsUnnoted, got};
 ghost use Rattle.hot_index.specs.Census.{HasCounted};
 ghost use Rattle.hot_index.specs.Many.{AreNoted, gets};
@@ -48,8 +48,8 @@ impl Opened {
     /// Asks for a change of a key's value. A removal does not use the value here.
     pub fn change(&mut self, ask: Ask, key: &Key, value: u64) -> Result<Reply, TryFault>
         ensures index { self.new.index ≡ self.old.index }
-        ensures call { MatchResult result (IsNoted self.old.index.value.layout self.old.pass self.new.pass (call_of ask key.now value))
-            (IsRefused self.old.index.value.layout (call_of ask key.now value) self.old.pass self.new.pass) }
+        ensures call { MatchResult result (IsNoted self.old.index.value.layout self.old.pass self.new.pass (asked_call ask key.now value))
+            (IsRefused self.old.index.value.layout (asked_call ask key.now value) self.old.pass self.new.pass) }
         ensures leafless { aim_of ask ≡ Aim.Remove → result ≢ Err TryFault.FullLeaves }
     {
         match ask {

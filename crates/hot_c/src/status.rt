@@ -1,7 +1,7 @@
 //! The statuses by which a program in C is told what became of a call.
 
 ghost use Rattle.std.specs.Prelude.{◌≡◌};
-ghost use Rattle.hot_c.specs.Statuses.{status_of, value_after};
+ghost use Rattle.hot_c.specs.Statuses.{reply_status, value_after};
 
 use hot_index::{Reply, TryFault};
 
@@ -44,7 +44,7 @@ pub const DIFFERS: u32 = 17;
 
 /// The status of an outcome. Where the outcome has a value, it is written.
 pub fn tell(outcome: Result<Reply, TryFault>, value: &mut u64) -> u32
-    ensures status { result ≡ status_of outcome }
+    ensures status { result ≡ reply_status outcome }
     ensures value { value.new ≡ value_after value.old outcome }
 {
     match outcome {
@@ -57,7 +57,7 @@ pub fn tell(outcome: Result<Reply, TryFault>, value: &mut u64) -> u32
 
 /// The status of a reply. Where the reply has a value, it is written.
 fn tell_reply(reply: Reply, value: &mut u64) -> u32
-    ensures status { result ≡ status_of (Ok reply) }
+    ensures status { result ≡ reply_status (Ok reply) }
     ensures value { value.new ≡ value_after value.old (Ok reply) }
 {
     let (status, held) = match reply {

@@ -3,14 +3,14 @@ use Rattle.std.specs.Prelude.{ℕ, List, codes}
 use Rattle.clap.specs.declared.error.kind.ErrorKind.{ErrorKind}
 use Rattle.clap.specs.declared.error.kind.ErrorKind.TheVariants.{OutOfMemory}
 use Rattle.hot_scripts.specs.declared.fault.RunFault.TheVariants.{Read, Write, Memory}
-use Rattle.hot_scripts.specs.Faults.{fault_text}
+use Rattle.hot_scripts.specs.Faults.{run_fault_text}
 use Rattle.hot_command_line.specs.declared.ending.Ending.{Ending}
 use Rattle.hot_command_line.specs.declared.ending.Ending.TheVariants.{Usage, Fault}
 
 -- the line on standard error
 abbrev pub ending_text : Ending → List ℕ
 ending_text Usage = codes "usage: hot-run [--nodes N] [--leaves L] [FILE]..."
-ending_text (Fault fault) = fault_text fault
+ending_text (Fault fault) = run_fault_text fault
 
 -- what a refusal by the parser of the command line comes to
 abbrev pub ending_of : ErrorKind → Ending

@@ -10,8 +10,8 @@ use Rattle.rowex_core.specs.declared.event.Event.{Event}
 use Rattle.rowex_core.specs.declared.known.Known.{Known}
 use Rattle.rowex_table.specs.Runs.{Does, InTurn}
 use Rattle.rowex_table.specs.Seats.{TableView, SeatView}
-use Rattle.hot_model.specs.Calls.{LegalCalls}
-use Rattle.hot_model.specs.Fronts.{BeginsWith}
+use Rattle.finite_map.specs.Calls.{LegalCalls}
+use Rattle.finite_map.specs.Fronts.{BeginsWith}
 use Rattle.epochs.specs.Rounds.{IsRound, IsSmallRound, LoadsPin, VisitEach, Visits, advance_steps}
 use Rattle.epochs.specs.Runs.{collecting}
 use Rattle.hot_index.specs.Answers.{IsUnnoted}

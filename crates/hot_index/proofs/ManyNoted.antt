@@ -4,14 +4,14 @@ use Rattle.std.specs.Prelude.{All}
 use Rattle.std.specs.List.{cons_option}
 use Rattle.std.proofs.lemmas.List.{append_cancel_left}
 use Rattle.std.proofs.lemmas.List.Elements.{All-append, All-cons, All-head, All-nil, All-tail, All-weaker, filter_map-append}
-use Rattle.hot_model.specs.declared.Call.{Call}
-use Rattle.hot_model.specs.declared.Change.{Change}
-use Rattle.hot_model.specs.declared.Note.{Note}
-use Rattle.hot_model.specs.declared.Reply.{Reply}
-use Rattle.hot_model.specs.Calls.{LegalCalls, RisesFrom, StandsIn, change_of, changes_of, is_change, place_after}
-use Rattle.hot_model.specs.Fronts.{LegalFront, OthersGoOn, map_of}
-use Rattle.hot_model.specs.Maps.{reply_of}
-use Rattle.hot_model.proofs.Legal.{change_of-quiet, legal_longer, place_after-within}
+use Rattle.finite_map.specs.declared.Call.{Call}
+use Rattle.finite_map.specs.declared.Change.{Change}
+use Rattle.finite_map.specs.declared.Note.{Note}
+use Rattle.finite_map.specs.declared.Reply.{Reply}
+use Rattle.finite_map.specs.Calls.{LegalCalls, RisesFrom, StandsIn, change_of, changes_of, is_change, place_after}
+use Rattle.finite_map.specs.Fronts.{LegalFront, OthersGoOn, map_of}
+use Rattle.finite_map.specs.Maps.{reply_of}
+use Rattle.finite_map.proofs.Legal.{change_of-quiet, legal_longer, place_after-within}
 use Rattle.rowex_core.specs.declared.event.Act.TheVariants.{ClearPin, LoadEpoch, LoadRef, SetPin}
 use Rattle.rowex_core.specs.declared.event.Event.{Event}
 use Rattle.rowex_core.specs.declared.event.Spot.TheVariants.{Root}

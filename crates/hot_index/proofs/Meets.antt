@@ -1,12 +1,12 @@
 -- Two passes that meet.
 use Rattle.std.proofs.Common.{◌≡◌, ◌++◌, ◌∙◌, List, sym, subst, ap}
-use Rattle.hot_model.specs.declared.Change.{Change}
-use Rattle.hot_model.specs.Calls.{LegalCalls}
-use Rattle.hot_model.specs.Fronts.{BeginsWith, LegalFront, OthersGoOn}
-use Rattle.hot_model.specs.Weaves.{LegalHistory, weave}
-use Rattle.hot_model.proofs.Growth.{begins_on, others_begin}
-use Rattle.hot_model.proofs.Legal.{legal_longer}
-use Rattle.hot_model.proofs.Weaving.{weave-legal_two}
+use Rattle.finite_map.specs.declared.Change.{Change}
+use Rattle.finite_map.specs.Calls.{LegalCalls}
+use Rattle.finite_map.specs.Fronts.{BeginsWith, LegalFront, OthersGoOn}
+use Rattle.finite_map.specs.Weaves.{LegalHistory, weave}
+use Rattle.finite_map.proofs.Growth.{begins_on, others_begin}
+use Rattle.finite_map.proofs.Legal.{legal_longer}
+use Rattle.finite_map.proofs.Weaving.{weave-legal_two}
 use Rattle.record_words.specs.declared.layout.Layout.{Layout}
 use Rattle.rowex_core.specs.declared.known.Known.{Known}
 use Rattle.rowex_table.specs.Rule.{SeatsHaveMet, with_front}

@@ -4,17 +4,17 @@ use Rattle.std.proofs.lemmas.Bool.{false≢true}
 use Rattle.std.specs.Prelude.{All}
 use Rattle.std.proofs.lemmas.List.Elements.{All-cons, All-head, All-nil, All-tail}
 use Rattle.std.proofs.lemmas.Bool.Decides.{nat_tests}
-use Rattle.hot_model.specs.declared.Call.{Call}
-use Rattle.hot_model.specs.declared.Call.TheVariants.{Get}
-use Rattle.hot_model.specs.declared.Change.{Change}
-use Rattle.hot_model.specs.declared.Note.{Note}
-use Rattle.hot_model.specs.declared.Reply.{Reply}
-use Rattle.hot_model.specs.declared.Reply.TheVariants.{Inserted, Exists, New, Was, Exchanged, Differs, Value, Absent, Removed}
-use Rattle.hot_model.specs.Maps.{Map, value_at, step_where, reply_of}
-use Rattle.hot_model.specs.Fronts.{map_of, BeginsWith, LegalFront, OthersGoOn}
-use Rattle.hot_model.specs.Calls.{is_change, LegalCalls}
-use Rattle.hot_model.proofs.Growth.{others_begin}
-use Rattle.hot_model.proofs.Legal.{legal_quiet}
+use Rattle.finite_map.specs.declared.Call.{Call}
+use Rattle.finite_map.specs.declared.Call.TheVariants.{Get}
+use Rattle.finite_map.specs.declared.Change.{Change}
+use Rattle.finite_map.specs.declared.Note.{Note}
+use Rattle.finite_map.specs.declared.Reply.{Reply}
+use Rattle.finite_map.specs.declared.Reply.TheVariants.{Inserted, Exists, New, Was, Exchanged, Differs, Value, Absent, Removed}
+use Rattle.finite_map.specs.Maps.{Map, value_at, step_where, reply_of}
+use Rattle.finite_map.specs.Fronts.{map_of, BeginsWith, LegalFront, OthersGoOn}
+use Rattle.finite_map.specs.Calls.{is_change, LegalCalls}
+use Rattle.finite_map.proofs.Growth.{others_begin}
+use Rattle.finite_map.proofs.Legal.{legal_quiet}
 use Rattle.key_bits.specs.declared.TheConstants.{MAX_BYTES}
 use Rattle.record_words.specs.declared.layout.Layout.{Layout}
 use Rattle.tries.specs.Keys.{Key}

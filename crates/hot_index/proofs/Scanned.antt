@@ -3,11 +3,11 @@ use Rattle.std.specs.Prelude.{IsSome, IfOk, OnErr, Result, Ok, Err}
 use Rattle.std.specs.declared.alloc.AllocError.{AllocError}
 use Rattle.std.proofs.Common.{◌≡◌, ℕ, Bool, List, [], ◌++◌, sym, ap, subst, ◌∙◌, ◌+◌, ◌≤◌, arith}
 use Rattle.std.proofs.lemmas.List.{append-nil}
-use Rattle.hot_model.specs.declared.Note.{Note}
-use Rattle.hot_model.specs.declared.Scan.{Scan}
-use Rattle.hot_model.specs.Calls.{LegalCalls}
-use Rattle.hot_model.specs.Scans.{IsLawfulScan}
-use Rattle.hot_model.proofs.Legal.{legal_longer}
+use Rattle.finite_map.specs.declared.Note.{Note}
+use Rattle.finite_map.specs.declared.Scan.{Scan}
+use Rattle.finite_map.specs.Calls.{LegalCalls}
+use Rattle.finite_map.specs.Scans.{IsLawfulScan}
+use Rattle.finite_map.proofs.Legal.{legal_longer}
 use Rattle.key_bits.specs.Key.{IsKey}
 use Rattle.record_words.specs.declared.layout.Layout.{Layout}
 use Rattle.rowex_core.specs.declared.event.Act.TheVariants.{ClearPin}

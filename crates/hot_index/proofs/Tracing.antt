@@ -1,7 +1,7 @@
 -- The steps of a call, and what its gate was told.
 use Rattle.std.proofs.Common.{◌≡◌, ℕ, ◌+◌, ◌≤◌, List, [], ◌∷◌, ◌++◌, false, Result, inl, inr, refl, sym, ap, subst, arith, ◌∙◌}
-use Rattle.hot_model.specs.declared.Note.{Note}
-use Rattle.hot_model.specs.declared.Reply.{Reply}
+use Rattle.finite_map.specs.declared.Note.{Note}
+use Rattle.finite_map.specs.declared.Reply.{Reply}
 use Rattle.rowex_core.specs.declared.event.Act.{Act}
 use Rattle.rowex_core.specs.declared.event.Act.TheVariants.{ClearPin, LoadEpoch, LoadRef, SetPin}
 use Rattle.rowex_core.specs.declared.event.Event.{Event}

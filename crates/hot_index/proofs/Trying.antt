@@ -3,17 +3,17 @@ use Rattle.std.proofs.Common.{◌≡◌, ◌⊎◌, inl, inr, ℕ, ◌+◌, ◌-
 use Rattle.std.specs.Prelude.{All, Contains, IfOk, IfErr, MatchResult, is_some}
 use Rattle.std.proofs.lemmas.Bool.{eq-eqb, ne_eqb}
 use Rattle.std.proofs.lemmas.List.Elements.{All-head, All-tail}
-use Rattle.hot_model.specs.declared.Call.{Call}
-use Rattle.hot_model.specs.declared.Call.TheVariants.{Insert as InsertCall, Upsert as UpsertCall, Exchange as ExchangeCall, Remove as RemoveCall, RemoveIf as RemoveIfCall}
-use Rattle.hot_model.specs.declared.Change.{Change}
-use Rattle.hot_model.specs.declared.Note.{Note}
-use Rattle.hot_model.specs.declared.Reply.{Reply}
-use Rattle.hot_model.specs.declared.Reply.TheVariants.{Inserted, Exists, New, Was, Exchanged, Differs, Absent, Removed}
-use Rattle.hot_model.specs.Calls.{LegalCalls, change_of, effect_of}
-use Rattle.hot_model.specs.Fronts.{BeginsWith, LegalFront, OthersGoOn, map_of}
-use Rattle.hot_model.specs.Maps.{Map, key_of, reply_of, step_if, step_where, value_at, with_value, without}
-use Rattle.hot_model.proofs.Growth.{begins_on, legal_front_part}
-use Rattle.hot_model.proofs.Legal.{legal_change, legal_longer}
+use Rattle.finite_map.specs.declared.Call.{Call}
+use Rattle.finite_map.specs.declared.Call.TheVariants.{Insert as InsertCall, Upsert as UpsertCall, Exchange as ExchangeCall, Remove as RemoveCall, RemoveIf as RemoveIfCall}
+use Rattle.finite_map.specs.declared.Change.{Change}
+use Rattle.finite_map.specs.declared.Note.{Note}
+use Rattle.finite_map.specs.declared.Reply.{Reply}
+use Rattle.finite_map.specs.declared.Reply.TheVariants.{Inserted, Exists, New, Was, Exchanged, Differs, Absent, Removed}
+use Rattle.finite_map.specs.Calls.{LegalCalls, change_of, effect_of}
+use Rattle.finite_map.specs.Fronts.{BeginsWith, LegalFront, OthersGoOn, map_of}
+use Rattle.finite_map.specs.Maps.{Map, key_of, reply_of, step_if, step_where, value_at, with_value, without}
+use Rattle.finite_map.proofs.Growth.{begins_on, legal_front_part}
+use Rattle.finite_map.proofs.Legal.{legal_change, legal_longer}
 use Rattle.record_words.specs.declared.layout.Layout.{Layout}
 use Rattle.tries.specs.Keys.{Key}
 use Rattle.moments.specs.declared.Rec.{Rec}
@@ -35,7 +35,7 @@ use Rattle.rowex_records.specs.Claims.{AllMissed, HasMissed}
 use Rattle.rowex_rights.specs.Ending.{IsAtRest}
 use Rattle.epochs.specs.Runs.{Pins}
 use Rattle.rowex_writing.specs.Attempts as tries
-use Rattle.rowex_writing.specs.Attempts.{HasAnswered, HasLoadedRoot, HasRefused, IsChangeOf, call_of}
+use Rattle.rowex_writing.specs.Attempts.{HasAnswered, HasLoadedRoot, HasRefused, IsChangeOf, asked_call}
 use Rattle.rowex_writing.specs.Changes.{HasChanged, HasTried}
 use Rattle.rowex_writing.specs.declared.plan.Ask.{Ask}
 use Rattle.rowex_writing.specs.declared.plan.Full.{Full}
@@ -46,7 +46,7 @@ use Rattle.epochs.specs.Rounds.{IsRound}
 use Rattle.hot_index.specs.Answers.{IsCause, IsNoted, IsRefused, IsUnnoted, fault_of}
 use Rattle.hot_index.specs.Asked.{HasAsked, HasReplied, last_try}
 use Rattle.hot_index.specs.Counts.{once_steps, try_steps, twice_steps}
-use Rattle.hot_index.specs.Noting.{notes_of, place_by}
+use Rattle.hot_index.specs.Noting.{change_notes, place_by}
 use Rattle.hot_index.specs.Passes.{IsSettled, Owns, PassView, pass_of}
 use Rattle.hot_index.specs.Traces.{AreAttempts, AreTries, HasMade, HasStepped, HasTold, IsAttempt, Tidies, is_full}
 use Rattle.hot_index.proofs.Noting.{HasGoneOn, HasLooked, WasRight, found_had, goes_on, legal_front, longer, noted, settles, note_of}
@@ -58,7 +58,7 @@ use Rattle.hot_index.proofs.Tracing.{ended_once, ended_tidied, has_made, has_tol
 
 -- what an attempt found that changed nothing was right
 looked_right : (j : Known) (ask : Ask) (key : Key) (value : ℕ) (reply : Reply) → tries.HasLooked j ask key reply → (c : Core) → IsLawful c → Recalls c j →
-    WasRight j (call_of ask key value) reply
+    WasRight j (asked_call ask key value) reply
 looked_right j Insert key value (Exists held) h c l r =
     let f = found_had j key (Some held) h c l r in (f.0, f.1, f.2, ap (λ z. (step_where z (map_of (take f.0 j.front)) (InsertCall key value)).1) f.3)
 looked_right j (Exchange e) key value (Differs held) h c l r =
@@ -78,7 +78,7 @@ looked_right j Remove key value Absent h c l r =
 looked_right j _ key value _ h c l r = absurd h
 
 -- and its call told of no change
-looked_quiet : (j : Known) (ask : Ask) (key : Key) (value : ℕ) (reply : Reply) → tries.HasLooked j ask key reply → is_some (effect_of (call_of ask key value) reply) ≡ false
+looked_quiet : (j : Known) (ask : Ask) (key : Key) (value : ℕ) (reply : Reply) → tries.HasLooked j ask key reply → is_some (effect_of (asked_call ask key value) reply) ≡ false
 looked_quiet j Insert key value (Exists held) h = refl
 looked_quiet j (Exchange e) key value (Differs held) h = refl
 looked_quiet j (Exchange e) key value Absent h = refl
@@ -97,7 +97,7 @@ record Tells (q : ℕ) (call : Call) (reply : Reply) (x : Change) (was : Option 
 held_for : (m : Map) (x : Change) (key : Key) (was held : Option ℕ) → x.key ≡ key → was ≡ held → value_at m x.key ≡ was → value_at m key ≡ held
 held_for m x key was held same is e = ap (λ (k : Key). value_at m k) (sym same) ∙ (e ∙ is)
 
-change_told : (q : ℕ) (ask : Ask) (key : Key) (value : ℕ) (reply : Reply) (x : Change) (was : Option ℕ) → IsChangeOf q ask key value reply x was → Tells q (call_of ask key value) reply x was
+change_told : (q : ℕ) (ask : Ask) (key : Key) (value : ℕ) (reply : Reply) (x : Change) (was : Option ℕ) → IsChangeOf q ask key value reply x was → Tells q (asked_call ask key value) reply x was
 change_told q Insert key value Inserted x was h = record {
   changed = refl;
   change = λ n. ap Some (sym h.0);
@@ -297,7 +297,7 @@ waited_out table s m t call r (inr some) last =
     let both = outcome_then table.layout (pass_of s) (pass_of m) (pass_of t) some.0 some.1 call r last.noted last.refused in record { idle = last.idle; noted = both.0; refused = both.1; loaded = le_trans some.1 last.loaded }
 
 -- a call is of the key that it is asked with
-called_key : (ask : Ask) (key : Key) (value : ℕ) → key_of (call_of ask key value) ≡ key
+called_key : (ask : Ask) (key : Key) (value : ℕ) → key_of (asked_call ask key value) ≡ key
 called_key Insert key value = refl
 called_key Upsert key value = refl
 called_key (Exchange e) key value = refl
@@ -371,11 +371,11 @@ module _ {G : Type 0} {table : TableView} {becomes : G → Event → G → Type 
 
   -- it found that nothing was to change
   when_looked : (ask : Ask) (key : Key) (value : ℕ) (reply : Reply) → tries.HasLooked c.0.known ask key reply → OthersGoOn b.0.known.pass b.0.known.front c.0.known.front →
-      IsEvent table.layout ClearPin (notes_of {F = TryFault} (call_of ask key value) (Ok reply)) c.0.known d.0.known → Leaves (call_of ask key value) (Ok reply)
+      IsEvent table.layout ClearPin (change_notes {F = TryFault} (asked_call ask key value) (Ok reply)) c.0.known d.0.known → Leaves (asked_call ask key value) (Ok reply)
   when_looked ask key value reply found h event =
-      let call = call_of ask key value in
+      let call = asked_call ask key value in
       let no = looked_quiet c.0.known ask key value reply found in
-      let silent : notes_of {F = TryFault} call (Ok reply) ≡ note_of call reply = ap (λ t k. record { place = place_by t call reply k; call = call; reply = reply } ∷ []) no in
+      let silent : change_notes {F = TryFault} call (Ok reply) ≡ note_of call reply = ap (λ t k. record { place = place_by t call reply k; call = call; reply = reply } ∷ []) no in
       let n =
       noted table.layout call reply a.0 c.0.known d.0 settled (quiet h) (subst (λ s. IsEvent table.layout ClearPin s c.0.known d.0.known) silent event)
       (looked_right c.0.known ask key value reply found) (λ p. no) in
@@ -383,18 +383,18 @@ module _ {G : Type 0} {table : TableView} {becomes : G → Event → G → Type 
 
   -- it made its change
   when_changed : (ask : Ask) (key : Key) (value : ℕ) (reply : Reply) (x : Change) (was : Option ℕ) → IsChangeOf b.0.known.pass ask key value reply x was → HasChanged b.0.known c.0.known x was →
-      IsEvent table.layout ClearPin (notes_of {F = TryFault} (call_of ask key value) (Ok reply)) c.0.known d.0.known → Leaves (call_of ask key value) (Ok reply)
+      IsEvent table.layout ClearPin (change_notes {F = TryFault} (asked_call ask key value) (Ok reply)) c.0.known d.0.known → Leaves (asked_call ask key value) (Ok reply)
   when_changed ask key value reply x was is changed event =
-      let call = call_of ask key value in
+      let call = asked_call ask key value in
       let tells = change_told a.0.known.pass ask key value reply x was (subst (λ q. IsChangeOf q ask key value reply x was) same_pass is) in
-      let last : notes_of {F = TryFault} call (Ok reply) ≡ note_last call reply = ap (λ t k. record { place = place_by t call reply k; call = call; reply = reply } ∷ []) tells.changed in
+      let last : change_notes {F = TryFault} call (Ok reply) ≡ note_last call reply = ap (λ t k. record { place = place_by t call reply k; call = call; reply = reply } ∷ []) tells.changed in
       let n =
       change_noted table.layout call reply a.0 c.0.known d.0 x was changed.before settled gone_on (subst (λ s. IsEvent table.layout ClearPin s c.0.known d.0.known) last event)
       (others_since changed.before changed.others) changed.front changed.fresh changed.was_held tells in
       ((n.0, tt), n.1)
 
   -- it was refused
-  when_refused : (call : Call) (fault : TryFault) → HasRefused table.layout (key_of call) b.0.known c.0.known fault → IsEvent table.layout ClearPin (notes_of call (Err fault)) c.0.known d.0.known → Leaves call (Err fault)
+  when_refused : (call : Call) (fault : TryFault) → HasRefused table.layout (key_of call) b.0.known c.0.known fault → IsEvent table.layout ClearPin (change_notes call (Err fault)) c.0.known d.0.known → Leaves call (Err fault)
   when_refused call fault h event = ((tt, record { unnoted = scan_refused a.0 d.0 settled (quiet h.others) event; cause = cause }), scan_settled a.0 d.0 settled (quiet h.others) event)
     where
       cause : IsCause table.layout (key_of call) (pass_of a.0) (pass_of d.0) fault
@@ -405,10 +405,10 @@ module _ {G : Type 0} {table : TableView} {becomes : G → Event → G → Type 
 
   -- whatever came of it
   pub tried : (ask : Ask) (key : Key) (value : ℕ) (r : Result Reply TryFault) → IfOk r (HasAnswered b.0.known c.0.known ask key value) → IfErr r (HasRefused table.layout key b.0.known c.0.known) →
-      StepsWith table becomes ClearPin (notes_of (call_of ask key value) r) c d → Leaves (call_of ask key value) r
+      StepsWith table becomes ClearPin (change_notes (asked_call ask key value) r) c d → Leaves (asked_call ask key value) r
   tried ask key value (Ok reply) (inl looked) refused step = when_looked ask key value reply looked.0 looked.1 step.event
   tried ask key value (Ok reply) (inr (x, was, is, changed)) refused step = when_changed ask key value reply x was is changed step.event
-  tried ask key value (Err fault) answered refused step = when_refused (call_of ask key value) fault (subst (λ z. HasRefused table.layout z b.0.known c.0.known fault) (sym (called_key ask key value)) refused) step.event
+  tried ask key value (Err fault) answered refused step = when_refused (asked_call ask key value) fault (subst (λ z. HasRefused table.layout z b.0.known c.0.known fault) (sym (called_key ask key value)) refused) step.event
 
   -- it has loaded the root
   pub tried_loaded : {said : Known → List Note} → StepsWith table becomes ClearPin said c d → a.0.known.steps ≤ d.0.known.fresh.step

@@ -1,15 +1,15 @@
 -- What calls of an index say.
 use Rattle.std.specs.Prelude.{◌≡◌, ◌≢◌, ◌⊎◌, ℕ, ◌<◌, ◌≤◌, List, [], ◌∷◌, ◌++◌, length, Bool, Option, Some, None}
-use Rattle.hot_model.specs.declared.Call.{Call}
-use Rattle.hot_model.specs.declared.Call.TheVariants.{Insert, Upsert, Exchange, Get, Remove, RemoveIf}
-use Rattle.hot_model.specs.declared.Reply.{Reply}
-use Rattle.hot_model.specs.declared.Reply.TheVariants.{Value, Absent}
-use Rattle.hot_model.specs.declared.Scan.{Scan}
-use Rattle.hot_model.specs.Calls.{LegalCalls}
-use Rattle.hot_model.specs.Maps.{key_of}
-use Rattle.hot_model.specs.Fronts.{BeginsWith}
-use Rattle.hot_model.specs.Scans.{IsLawfulScan}
-use Rattle.hot_model.specs.Weaves.{LegalHistory, weave}
+use Rattle.finite_map.specs.declared.Call.{Call}
+use Rattle.finite_map.specs.declared.Call.TheVariants.{Insert, Upsert, Exchange, Get, Remove, RemoveIf}
+use Rattle.finite_map.specs.declared.Reply.{Reply}
+use Rattle.finite_map.specs.declared.Reply.TheVariants.{Value, Absent}
+use Rattle.finite_map.specs.declared.Scan.{Scan}
+use Rattle.finite_map.specs.Calls.{LegalCalls}
+use Rattle.finite_map.specs.Maps.{key_of}
+use Rattle.finite_map.specs.Fronts.{BeginsWith}
+use Rattle.finite_map.specs.Scans.{IsLawfulScan}
+use Rattle.finite_map.specs.Weaves.{LegalHistory, weave}
 use Rattle.tries.specs.Keys.{Key}
 use Rattle.record_words.specs.declared.layout.Layout.{Layout}
 use Rattle.record_words.specs.Leaf.{words_for}

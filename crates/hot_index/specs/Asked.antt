@@ -1,7 +1,7 @@
 -- What a call that may change the map leaves, on the seat of its pass.
 use Rattle.std.specs.Prelude.{◌≡◌, ℕ, ◌+◌, ◌≤◌, List, Result, Ok, Err, IfOk, IfErr}
-use Rattle.hot_model.specs.declared.Call.{Call}
-use Rattle.hot_model.specs.declared.Reply.{Reply}
+use Rattle.finite_map.specs.declared.Call.{Call}
+use Rattle.finite_map.specs.declared.Reply.{Reply}
 use Rattle.rowex_core.specs.declared.event.Act.{Act}
 use Rattle.rowex_core.specs.declared.event.Event.{Event}
 use Rattle.rowex_table.specs.Runs.{silent}
@@ -9,7 +9,7 @@ use Rattle.rowex_table.specs.Seats.{TableView, SeatView, IsSeatOf}
 use Rattle.rowex_writing.specs.declared.attempts.TryFault.{TryFault}
 use Rattle.rowex_writing.specs.declared.plan.Full.{Full}
 use Rattle.hot_index.specs.Answers.{IsNoted, IsRefused, IsUnnoted, fault_of}
-use Rattle.hot_index.specs.Noting.{notes_of}
+use Rattle.hot_index.specs.Noting.{change_notes}
 use Rattle.hot_index.specs.Passes.{IsSettled, pass_of}
 use Rattle.hot_index.specs.Traces.{HasEnded, IsAttempt}
 
@@ -28,7 +28,7 @@ pub record HasReplied (table : TableView) (call : Call) (result : Result Reply T
 pub record HasAsked {G : Type 0} (table : TableView) (becomes : G → Event → G → Type 0) (Are : List Act → Type 0)
     (most : ℕ) (call : Call) (result : Result Reply TryFault) (a b : SeatView × G) : Type 0 where
   pub replied : HasReplied table call result a.0 b.0
-  pub ended : HasEnded table becomes Are (notes_of call result) a b
+  pub ended : HasEnded table becomes Are (change_notes call result) a b
   pub later : a.0.known.steps ≤ b.0.known.steps
   pub few : b.0.known.steps ≤ a.0.known.steps + most
 

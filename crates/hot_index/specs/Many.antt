@@ -1,14 +1,14 @@
 -- What look-ups of many keys by one call say.
 use Rattle.std.specs.Prelude.{◌≡◌, ℕ, ◌+◌, ◌*◌, ◌≤◌, All, List, [], ◌∷◌, ◌++◌, length, map, take, Option}
 use Rattle.key_bits.specs.declared.TheConstants.{MAX_BYTES}
-use Rattle.hot_model.specs.declared.Call.{Call}
-use Rattle.hot_model.specs.declared.Call.TheVariants.{Get}
-use Rattle.hot_model.specs.declared.Change.{Change}
-use Rattle.hot_model.specs.declared.Note.{Note}
-use Rattle.hot_model.specs.declared.Reply.{Reply}
-use Rattle.hot_model.specs.Calls.{LegalCalls}
-use Rattle.hot_model.specs.Fronts.{BeginsWith, map_of}
-use Rattle.hot_model.specs.Maps.{reply_of}
+use Rattle.finite_map.specs.declared.Call.{Call}
+use Rattle.finite_map.specs.declared.Call.TheVariants.{Get}
+use Rattle.finite_map.specs.declared.Change.{Change}
+use Rattle.finite_map.specs.declared.Note.{Note}
+use Rattle.finite_map.specs.declared.Reply.{Reply}
+use Rattle.finite_map.specs.Calls.{LegalCalls}
+use Rattle.finite_map.specs.Fronts.{BeginsWith, map_of}
+use Rattle.finite_map.specs.Maps.{reply_of}
 use Rattle.record_words.specs.declared.layout.Layout.{Layout}
 use Rattle.rowex_core.specs.declared.event.Act.{Act}
 use Rattle.rowex_core.specs.declared.event.Act.TheVariants.{LoadRef, LoadFixed, ClearPin}

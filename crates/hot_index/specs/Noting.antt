@@ -1,13 +1,13 @@
 -- Where an answered call stands among the changes that its pass has seen.
 use Rattle.std.specs.Prelude.{ℕ, zero, suc, ◌+◌, ◌-◌, List, [], ◌∷◌, length, take, Bool, true, false, is_some, nat_eq, if◌then◌else◌, Result, Ok, Err}
-use Rattle.hot_model.specs.declared.Call.{Call}
-use Rattle.hot_model.specs.declared.Change.{Change}
-use Rattle.hot_model.specs.declared.Note.{Note}
-use Rattle.hot_model.specs.declared.Reply.{Reply}
-use Rattle.hot_model.specs.declared.Reply.TheVariants.{Inserted, Exists, New, Was, Exchanged, Differs, Value, Absent, Removed}
-use Rattle.hot_model.specs.Calls.{effect_of}
-use Rattle.hot_model.specs.Maps.{reply_of}
-use Rattle.hot_model.specs.Fronts.{map_of}
+use Rattle.finite_map.specs.declared.Call.{Call}
+use Rattle.finite_map.specs.declared.Change.{Change}
+use Rattle.finite_map.specs.declared.Note.{Note}
+use Rattle.finite_map.specs.declared.Reply.{Reply}
+use Rattle.finite_map.specs.declared.Reply.TheVariants.{Inserted, Exists, New, Was, Exchanged, Differs, Value, Absent, Removed}
+use Rattle.finite_map.specs.Calls.{effect_of}
+use Rattle.finite_map.specs.Maps.{reply_of}
+use Rattle.finite_map.specs.Fronts.{map_of}
 use Rattle.rowex_core.specs.declared.known.Known.{Known}
 use Rattle.rowex_reading.specs.Seen.{since}
 
@@ -44,6 +44,6 @@ place_by true call reply k = length k.front - 1
 place_by false call reply k = place_of k.front (since k) call reply
 
 -- the notes of a call that may change the map: one if it was answered
-abbrev pub notes_of : {F : Type 0} → Call → Result Reply F → Known → List Note
-notes_of call (Ok reply) k = record { place = place_by (is_some (effect_of call reply)) call reply k; call = call; reply = reply } ∷ []
-notes_of call (Err fault) k = []
+abbrev pub change_notes : {F : Type 0} → Call → Result Reply F → Known → List Note
+change_notes call (Ok reply) k = record { place = place_by (is_some (effect_of call reply)) call reply k; call = call; reply = reply } ∷ []
+change_notes call (Err fault) k = []

@@ -1,10 +1,10 @@
 -- What contracts see of an index and of its passes.
 use Rattle.std.specs.Prelude.{◌≡◌, ◌<◌, ℕ, All, List, [], None}
 use Rattle.atomic_table.specs.Seated.{TableId}
-use Rattle.hot_model.specs.declared.Change.{Change}
-use Rattle.hot_model.specs.declared.Note.{Note}
-use Rattle.hot_model.specs.Calls.{LegalCalls}
-use Rattle.hot_model.specs.Fronts.{BeginsWith}
+use Rattle.finite_map.specs.declared.Change.{Change}
+use Rattle.finite_map.specs.declared.Note.{Note}
+use Rattle.finite_map.specs.Calls.{LegalCalls}
+use Rattle.finite_map.specs.Fronts.{BeginsWith}
 use Rattle.record_words.specs.declared.layout.Layout.{Layout}
 use Rattle.rowex_core.specs.declared.known.Failed.{Failed}
 use Rattle.rowex_core.specs.declared.known.Fresh.{Fresh}

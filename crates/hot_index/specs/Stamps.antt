@@ -1,7 +1,7 @@
 -- What a pass has seen that follows a stamp.
 use Rattle.std.specs.Prelude.{◌≡◌, List}
-use Rattle.hot_model.specs.declared.Change.{Change}
-use Rattle.hot_model.specs.Fronts.{BeginsWith}
+use Rattle.finite_map.specs.declared.Change.{Change}
+use Rattle.finite_map.specs.Fronts.{BeginsWith}
 use Rattle.record_words.specs.declared.layout.Layout.{Layout}
 use Rattle.rowex_table.specs.Rule.{with_front}
 use Rattle.rowex_table.specs.Seats.{StampView, TableView}

@@ -1,11 +1,11 @@
 -- What the contracts of the index give in other words.
 use Rattle.std.specs.Prelude.{◌≡◌, ◌≤◌, List}
 use Rattle.key_bits.specs.Key.{IsKey}
-use Rattle.hot_model.specs.declared.Call.{Call}
-use Rattle.hot_model.specs.declared.Change.{Change}
-use Rattle.hot_model.specs.declared.Reply.{Reply}
-use Rattle.hot_model.specs.Calls.{place_after}
-use Rattle.hot_model.specs.Fronts.{BeginsWith}
+use Rattle.finite_map.specs.declared.Call.{Call}
+use Rattle.finite_map.specs.declared.Change.{Change}
+use Rattle.finite_map.specs.declared.Reply.{Reply}
+use Rattle.finite_map.specs.Calls.{place_after}
+use Rattle.finite_map.specs.Fronts.{BeginsWith}
 use Rattle.record_words.specs.declared.layout.Layout.{Layout}
 use Rattle.moments.specs.declared.Rec.TheVariants.{Leaf as a_leaf}
 use Rattle.tries.specs.Keys.{Key}

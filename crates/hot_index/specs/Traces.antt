@@ -1,8 +1,8 @@
 -- What a call does, step by step, and what its gate is told.
 use Rattle.std.specs.Prelude.{◌≡◌, ◌⊎◌, ◌+◌, ◌*◌, ◌≤◌, ℕ, All, List, [], ◌∷◌, ◌++◌, length, Bool, true, false, Result, Ok, Err}
 use Rattle.key_bits.specs.declared.TheConstants.{MAX_BYTES}
-use Rattle.hot_model.specs.declared.Note.{Note}
-use Rattle.hot_model.specs.declared.Reply.{Reply}
+use Rattle.finite_map.specs.declared.Note.{Note}
+use Rattle.finite_map.specs.declared.Reply.{Reply}
 use Rattle.record_words.specs.declared.layout.Layout.{Layout}
 use Rattle.moments.specs.declared.Rec.{Rec}
 use Rattle.moments.specs.declared.Rec.TheVariants.{Node as a_node, Leaf as a_leaf}

@@ -1,22 +1,22 @@
 //! A call that may change the index, on the seat of a pass and with its room: its attempts, and what is noted of them.
 
 ghost use Rattle.std.specs.Prelude.{◌≡◌, ◌≢◌, List, Err, None, IfSome, IsSome, false};
-ghost use Rattle.hot_model.specs.declared.Note.{Note};
+ghost use Rattle.finite_map.specs.declared.Note.{Note};
 ghost use Rattle.rowex_core.specs.declared.event.Act.TheVariants.{ClearPin};
 ghost use Rattle.rowex_core.specs.declared.known.Known.{Known};
 ghost use Rattle.rowex_table.specs.Runs.{StepsWith};
 ghost use Rattle.rowex_table.specs.Seats.{IsPassOf};
 ghost use Rattle.rowex_writing.specs.Asking.{aim_of};
-ghost use Rattle.rowex_writing.specs.Attempts.{call_of};
+ghost use Rattle.rowex_writing.specs.Attempts.{asked_call};
 ghost use Rattle.hot_index.specs.Answers.{fault_of};
 ghost use Rattle.hot_index.specs.Asked.{HasAsked, HasReplied, HasRested, IsIdle, last_try};
 ghost use Rattle.hot_index.specs.Counts.{once_steps, try_steps, twice_steps};
-ghost use Rattle.hot_index.specs.Noting.{notes_of};
+ghost use Rattle.hot_index.specs.Noting.{change_notes};
 ghost use Rattle.hot_index.specs.Traces.{AreAttempts, AreTries, HasStepped, IsAttempt, Tidies, is_full};
 
 use crate::room::Room;
 use epochs::{Given, collect_round, collect_small, pin, unpin};
-use hot_model::Reply;
+use finite_map::Reply;
 use key_bits::Key;
 use record_words::Layout;
 use rowex_core::Gate;
@@ -37,7 +37,7 @@ pub fn try_change<G: Gate>(
 ) -> Result<Reply, TryFault>
     requires idle { IsIdle table.now seat.old }
     ensures asked { HasAsked table.now G.becomes (AreAttempts table.now.layout result) (try_steps table.now.layout)
-        (call_of ask key.now value) result (seat.old, gate.old) (seat.new, gate.new) }
+        (asked_call ask key.now value) result (seat.old, gate.old) (seat.new, gate.new) }
     ensures leafless { aim_of ask ≡ Aim.Remove → result ≢ Err TryFault.FullLeaves }
 {
     tidy(table, seat, gate, room);
@@ -70,7 +70,7 @@ fn try_twice<G: Gate>(
 ) -> Result<Reply, TryFault>
     requires idle { IsIdle table.now seat.old }
     ensures asked { HasAsked table.now G.becomes (AreTries table.now.layout result) (twice_steps table.now.layout)
-        (call_of ask key.now value) result (seat.old, gate.old) (seat.new, gate.new) }
+        (asked_call ask key.now value) result (seat.old, gate.old) (seat.new, gate.new) }
     ensures leafless { aim_of ask ≡ Aim.Remove → result ≢ Err TryFault.FullLeaves }
 {
     let first = try_once(table, seat, gate, room, ask, key, value);
@@ -130,8 +130,8 @@ pub fn change<R: Wait, G: Gate>(
     value: u64,
 ) -> Result<Reply, Full>
     requires idle { IsIdle table.now seat.old }
-    ensures replied { HasReplied table.now (call_of ask key.now value) (last_try result) seat.old seat.new }
-    ensures stepped { HasStepped table.now G.becomes (notes_of (call_of ask key.now value) (last_try result)) (seat.old, gate.old) (seat.new, gate.new) }
+    ensures replied { HasReplied table.now (asked_call ask key.now value) (last_try result) seat.old seat.new }
+    ensures stepped { HasStepped table.now G.becomes (change_notes (asked_call ask key.now value) (last_try result)) (seat.old, gate.old) (seat.new, gate.new) }
     ensures leafless { aim_of ask ≡ Aim.Remove → result ≢ Err Full.Leaves }
 {
     for _ in rt.forever() {
@@ -170,7 +170,7 @@ fn try_once<G: Gate>(
     value: u64,
 ) -> Result<Reply, TryFault>
     requires idle { IsIdle table.now seat.old }
-    ensures asked { HasAsked table.now G.becomes IsAttempt (once_steps table.now.layout) (call_of ask key.now value) result (seat.old, gate.old) (seat.new, gate.new) }
+    ensures asked { HasAsked table.now G.becomes IsAttempt (once_steps table.now.layout) (asked_call ask key.now value) result (seat.old, gate.old) (seat.new, gate.new) }
     ensures leafless { aim_of ask ≡ Aim.Remove → result ≢ Err TryFault.FullLeaves }
 {
     room.build.gone.clear();

@@ -1,13 +1,13 @@
 //! Calls that expect a key to have a value, and change nothing where it has another or none.
 
 ghost use Rattle.std.specs.Prelude.{◌≢◌, Err, MatchResult};
-ghost use Rattle.hot_model.specs.declared.Call.TheVariants.{Exchange, RemoveIf};
+ghost use Rattle.finite_map.specs.declared.Call.TheVariants.{Exchange, RemoveIf};
 ghost use Rattle.hot_index.specs.Answers.{IsNoted, IsRefused, fault_of};
 ghost use Rattle.hot_index.specs.Passes.{Owns};
 ghost use Rattle.hot_index.specs.Traces.{HasMade, untold};
 
 use crate::index::{Index, Pass};
-use hot_model::Reply;
+use finite_map::Reply;
 use key_bits::Key;
 use rowex_core::{Gate, NoGate};
 use rowex_writing::{Ask, Full, TryFault};

@@ -3,8 +3,8 @@
 ghost use Rattle.std.specs.Prelude.{◌≡◌, ◌↔◌, ◌+◌, ◌≤◌, ℕ, List, ◌≢◌, Some, Err, IfErr, IfOk, IsSome, MatchResult, OnErr, length, slice_get};
 ghost use mathlib.Core.Option.{some};
 ghost use lib.ListN.{get_elem?};
-ghost use Rattle.hot_model.specs.declared.Call.TheVariants.{Get, Insert, Remove, Upsert};
-ghost use Rattle.hot_model.specs.declared.Note.{Note};
+ghost use Rattle.finite_map.specs.declared.Call.TheVariants.{Get, Insert, Remove, Upsert};
+ghost use Rattle.finite_map.specs.declared.Note.{Note};
 ghost use Rattle.record_words.specs.Layout.{HasStock, leaves_of};
 ghost use Rattle.record_words.specs.Limits.{IsPassCount, IsStockPassCount, IsNodeCount, IsLeafCount, IsRecordCount};
 ghost use Rattle.rowex_core.specs.declared.event.Act.TheVariants.{ClearPin};
@@ -12,7 +12,7 @@ ghost use Rattle.rowex_core.specs.declared.known.Known.{Known};
 ghost use Rattle.rowex_table.specs.Runs.{StepsWith};
 ghost use Rattle.rowex_table.specs.Seats.{IsPassOf, IsNewSeatOf, SeatView};
 ghost use Rattle.rowex_writing.specs.Asking.{aim_of};
-ghost use Rattle.rowex_writing.specs.Attempts.{call_of};
+ghost use Rattle.rowex_writing.specs.Attempts.{asked_call};
 ghost use Rattle.hot_index.specs.Passes.{PassView, Owns, IsNewPass, IsSettled, pass_of};
 ghost use Rattle.hot_index.specs.Counts.{scan_steps};
 ghost use Rattle.hot_index.specs.Answers.{IsListed, IsNoted, IsRefused, IsScanned, IsUnnoted, HaveMet, MayLack, fault_of, got};
@@ -25,7 +25,7 @@ use crate::changing::{change, try_change};
 use crate::many::{end_gets, look_up_each};
 use crate::room::{Room, new_room};
 use epochs::{Given, collect_round, pin, unpin};
-use hot_model::{Call, Reply, Scan};
+use finite_map::{Call, Reply, Scan};
 use key_bits::Key;
 use packed_pairs::Pairs;
 use record_words::{Layout, LayoutFault, Stock};
@@ -353,8 +353,8 @@ impl Index {
     ) -> Result<Reply, TryFault>
         requires { Owns self.now pass.old }
         ensures own { Owns self.now pass.new }
-        ensures call { MatchResult result (IsNoted self.now.layout pass.old pass.new (call_of ask key.now value))
-            (IsRefused self.now.layout (call_of ask key.now value) pass.old pass.new) }
+        ensures call { MatchResult result (IsNoted self.now.layout pass.old pass.new (asked_call ask key.now value))
+            (IsRefused self.now.layout (asked_call ask key.now value) pass.old pass.new) }
         ensures made { HasMade self.now G.becomes result (pass.old, gate.old) (pass.new, gate.new) }
         ensures leafless { aim_of ask ≡ Aim.Remove → result ≢ Err TryFault.FullLeaves }
     {
@@ -381,8 +381,8 @@ impl Index {
     ) -> Result<Reply, Full>
         requires { Owns self.now pass.old }
         ensures own { Owns self.now pass.new }
-        ensures call { MatchResult result (IsNoted self.now.layout pass.old pass.new (call_of ask key.now value))
-            (λ full. IsRefused self.now.layout (call_of ask key.now value) pass.old pass.new (fault_of full)) }
+        ensures call { MatchResult result (IsNoted self.now.layout pass.old pass.new (asked_call ask key.now value))
+            (λ full. IsRefused self.now.layout (asked_call ask key.now value) pass.old pass.new (fault_of full)) }
         ensures leafless { aim_of ask ≡ Aim.Remove → result ≢ Err Full.Leaves }
         ensures told { HasTold self.now G.becomes (pass.old, gate.old) (pass.new, gate.new) }
     {

@@ -16,7 +16,7 @@ mod stamp;
 pub use census::{RecordCounts, StateCounts};
 pub use cursor::{Cursor, Rest};
 pub use epochs::Given;
-pub use hot_model::{Call, Reply, Scan};
+pub use finite_map::{Call, Reply, Scan};
 pub use index::{Index, IndexFault, Pass, create, create_with};
 pub use key_bits::Key;
 pub use key_ranges::{last_with_prefix, next_key};

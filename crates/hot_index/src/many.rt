@@ -1,7 +1,7 @@
 //! Look-ups of many keys by one call.
 
 ghost use Rattle.std.specs.Prelude.{◌≡◌, IsSome, List, length};
-ghost use Rattle.hot_model.specs.declared.Note.{Note};
+ghost use Rattle.finite_map.specs.declared.Note.{Note};
 ghost use Rattle.rowex_core.specs.declared.event.Act.TheVariants.{ClearPin};
 ghost use Rattle.rowex_core.specs.declared.known.Known.{Known};
 ghost use Rattle.rowex_table.specs.Runs.{StepsWith};

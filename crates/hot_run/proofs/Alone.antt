@@ -4,18 +4,18 @@ use Rattle.std.specs.List.{All}
 use Rattle.std.proofs.lemmas.List.{map-append, append_cancel_left}
 use Rattle.std.proofs.lemmas.List.Concat.{flat_map-cons}
 use Rattle.std.proofs.lemmas.List.Elements.{All-nil}
-use Rattle.hot_model.specs.declared.Note.{Note}
-use Rattle.hot_model.specs.declared.Reply.{Reply as Replied}
-use Rattle.hot_model.specs.declared.Scan.{Scan}
-use Rattle.hot_model.specs.Calls.{LegalCalls, changes_of, IsRun}
-use Rattle.hot_model.specs.Fronts.{map_of, BeginsWith}
-use Rattle.hot_model.specs.Maps.{reply_of, replies_of, map_after, map_after_all}
-use Rattle.hot_model.specs.Scans.{IsScanOf, IsLawfulScan}
-use Rattle.hot_model.proofs.Alone.{alone-run, own_changes-all}
-use Rattle.hot_model.proofs.Firsts.{lawful-scan_of}
-use Rattle.hot_model.proofs.Growth.{begins_same}
-use Rattle.hot_model.proofs.Legal.{legal_at_first}
-use Rattle.hot_model.proofs.Steps.{map_after_all-push, replies_of-push}
+use Rattle.finite_map.specs.declared.Note.{Note}
+use Rattle.finite_map.specs.declared.Reply.{Reply as Replied}
+use Rattle.finite_map.specs.declared.Scan.{Scan}
+use Rattle.finite_map.specs.Calls.{LegalCalls, changes_of, IsRun}
+use Rattle.finite_map.specs.Fronts.{map_of, BeginsWith}
+use Rattle.finite_map.specs.Maps.{reply_of, replies_of, map_after, map_after_all}
+use Rattle.finite_map.specs.Scans.{IsScanOf, IsLawfulScan}
+use Rattle.finite_map.proofs.Alone.{alone-run, own_changes-all}
+use Rattle.finite_map.proofs.Firsts.{lawful-scan_of}
+use Rattle.finite_map.proofs.Growth.{begins_same}
+use Rattle.finite_map.proofs.Legal.{legal_at_first}
+use Rattle.finite_map.proofs.Steps.{map_after_all-push, replies_of-push}
 use Rattle.rowex_core.specs.declared.event.Event.{Event}
 use Rattle.rowex_table.specs.Seats.{TableView}
 use Rattle.hot_scripts.specs.Meaning.{line, reply_text}

@@ -3,15 +3,15 @@ use Rattle.std.proofs.Common.{◌≡◌, ◌≤◌, ℕ, List, [], ◌∷◌, �
 use Rattle.std.specs.List.{All}
 use Rattle.std.proofs.lemmas.Bool.{ltb_from_iff, le-ltb}
 use Rattle.std.proofs.lemmas.List.Elements.{All-head, All-tail}
-use Rattle.hot_model.specs.declared.Scan.{Scan}
-use Rattle.hot_model.specs.Maps.{Map, map_after, reply_of}
-use Rattle.hot_model.specs.Scans.{IsScanOf}
+use Rattle.finite_map.specs.declared.Scan.{Scan}
+use Rattle.finite_map.specs.Maps.{Map, map_after, reply_of}
+use Rattle.finite_map.specs.Scans.{IsScanOf}
 use Rattle.hot_scripts.specs.declared.command.Command.{Command}
 use Rattle.hot_scripts.specs.declared.command.Range.{Range}
 use Rattle.hot_scripts.specs.Grammar.{commands_of}
 use Rattle.hot_scripts.specs.Meaning.{line, reply_text, scan_lines, scan_text, script_meaning, text_from}
-use Rattle.hot_run.specs.Answers.{Answered, called, refused, listed, IsGranted, command_of}
-use Rattle.hot_run.specs.Runs.{AreAnswered, IsAnswered, text_told}
+use Rattle.hot_run.specs.Answers.{Answered, called, refused, listed, IsGranted, answered_command}
+use Rattle.hot_run.specs.Runs.{AreAnswered, IsAnsweredScript, text_told}
 
 -- the lines of a scan are those that a script means
 pub lines_of_scan : (m : Map) (range : Range) (scan : Scan) → IsScanOf m range.from range.upto range.limit scan
@@ -19,7 +19,7 @@ pub lines_of_scan : (m : Map) (range : Range) (scan : Scan) → IsScanOf m range
 lines_of_scan m range scan is = ap₂ scan_lines is.pairs (ltb_from_iff is.more)
 
 -- where no command was refused, the answers are those that a script means
-text_from-told : (m : Map) (answers : List Answered) → All IsGranted answers → text_told m answers ≡ text_from m (map command_of answers)
+text_from-told : (m : Map) (answers : List Answered) → All IsGranted answers → text_told m answers ≡ text_from m (map answered_command answers)
 text_from-told m [] none = refl
 text_from-told m (called note ∷ answers) none =
     ap (λ text. line (reply_text (reply_of m note.call)) ++ text) (text_from-told (map_after m note.call) answers (All-tail IsGranted (called note) answers none))
@@ -33,9 +33,9 @@ script_meaning-commands : (script : List ℕ) (commands : List Command) → leng
 script_meaning-commands script commands short parsed = rw (le-ltb 1048576 (length script) short, parsed) refl
 
 -- the answers to the commands of a script answer the script
-pub IsAnswered-script : (nodes leaves : ℕ) (script : List ℕ) (commands : List Command) (text : List ℕ) → length script ≤ 1048576
-    → commands_of script ≡ Ok commands → AreAnswered nodes leaves commands text → IsAnswered nodes leaves script text
-IsAnswered-script nodes leaves script commands text short parsed run = record {
+pub IsAnsweredScript-script : (nodes leaves : ℕ) (script : List ℕ) (commands : List Command) (text : List ℕ) → length script ≤ 1048576
+    → commands_of script ≡ Ok commands → AreAnswered nodes leaves commands text → IsAnsweredScript nodes leaves script text
+IsAnsweredScript-script nodes leaves script commands text short parsed run = record {
   short = short;
   commands = commands;
   parsed = parsed;

@@ -6,13 +6,13 @@ use Rattle.std.proofs.lemmas.Bool.{eq-eqb}
 use Rattle.std.proofs.lemmas.List.{append_cancel_left, length-map}
 use Rattle.std.proofs.lemmas.List.Elements.{All-nil, All-cons, All-weaker, filter-append}
 use Rattle.std.proofs.lemmas.Slice.Zip.{seconds-zip}
-use Rattle.hot_model.specs.declared.Change.{Change}
-use Rattle.hot_model.specs.declared.Note.{Note}
-use Rattle.hot_model.specs.Calls.{LegalCalls, own_changes}
-use Rattle.hot_model.specs.Fronts.{BeginsWith}
-use Rattle.hot_model.specs.Weaves.{AllLegal}
-use Rattle.hot_model.proofs.Growth.{begins_itself, begins_on, legal_front_part}
-use Rattle.hot_model.proofs.Legal.{legal_at_first, legal_longer}
+use Rattle.finite_map.specs.declared.Change.{Change}
+use Rattle.finite_map.specs.declared.Note.{Note}
+use Rattle.finite_map.specs.Calls.{LegalCalls, own_changes}
+use Rattle.finite_map.specs.Fronts.{BeginsWith}
+use Rattle.finite_map.specs.Weaves.{AllLegal}
+use Rattle.finite_map.proofs.Growth.{begins_itself, begins_on, legal_front_part}
+use Rattle.finite_map.proofs.Legal.{legal_at_first, legal_longer}
 use Rattle.rowex_core.specs.declared.event.Event.{Event}
 use Rattle.rowex_table.specs.Seats.{TableView}
 use Rattle.hot_index.specs.Passes.{PassView, AreByPasses, IsNewPass, Owns}
@@ -20,7 +20,7 @@ use Rattle.hot_index.specs.Traces.{untold}
 use Rattle.hot_scripts.specs.declared.command.Command.{Command}
 use Rattle.hot_run.specs.declared.together.Done.{Done}
 use Rattle.hot_scripts.specs.Meaning.{line}
-use Rattle.hot_run.specs.Progress.{AllThree, HasRun, IsDone, IsFirst, MeetInTurn}
+use Rattle.hot_run.specs.Progress.{AllThree, HasRunCommands, IsDone, IsNewPassOf, MeetInTurn}
 use Rattle.hot_run.specs.Scripts.{AllFrom, AllTwoFrom, AreAllAnswered, IsLegalRun, LawfulScripts, Ran, by_pass, commands_in, notes_in, sections, text_in}
 use Rattle.hot_run.specs.Told.{IsOfSize, WasTold}
 use Rattle.hot_run.proofs.Numbered.{AllFrom-append, first_with}
@@ -130,7 +130,7 @@ module _ (index : TableView) where
   new_makers q p new = rw new.1 (All-nil (λ x. x.pass < index.layout.passes))
 
   first_run : {G : Type 0} (becomes : G → Event → G → Type 0) (q : ℕ) (a b : PassView × G) (commands : List Command) (text : List ℕ)
-      → IsFirst index q a.0 → HasRun index becomes a commands b text → RanFirst becomes q a.1 commands b.0 text
+      → IsNewPassOf index q a.0 → HasRunCommands index becomes a commands b text → RanFirst becomes q a.1 commands b.0 text
   first_run becomes q a b commands text first run =
       let p = a.0 in
       let j = b.0 in
@@ -174,7 +174,7 @@ module _ (index : TableView) where
     pub told : AllTwoFrom q (λ q gate ran. WasTold index becomes q gate [] ran.answers ran.front) gates rans
 
   pub files_have_run : {G : Type 0} (becomes : G → Event → G → Type 0) (last : List Change) (q : ℕ) (seats : List (PassView × G)) (scripts : List (List Command)) (done met again : List Done) (k j k' j' : PassView)
-      → AllFrom q (λ q a. IsFirst index q a.0) seats → AllThree (IsDone index becomes) seats scripts done
+      → AllFrom q (λ q a. IsNewPassOf index q a.0) seats → AllThree (IsDone index becomes) seats scripts done
       → MeetInTurn index k done j met → MeetInTurn index k' met j' again
       → BeginsWith last j.front → BeginsWith k'.front last
       → HaveRun becomes (map (λ a. a.1) seats) j.front last q scripts (map (λ d. d.text.items) again)
@@ -222,9 +222,9 @@ module _ (index : TableView) where
   pub lawful_together : {G : Type 0} (becomes : G → Event → G → Type 0) (passes : List PassView) (gates : List G) (scripts : List (List Command))
       (commands : List Command) (done met again : List Done) (pass k j l : PassView) (text : List ℕ) (nodes leaves : ℕ)
       → IsOfSize (length scripts + 1) nodes leaves index → length gates ≡ length passes
-      → AllFrom 0 (IsFirst index) passes → IsFirst index (length scripts) pass
+      → AllFrom 0 (IsNewPassOf index) passes → IsNewPassOf index (length scripts) pass
       → AllThree (IsDone index becomes) (zip passes gates) scripts done → MeetInTurn index pass done k met
-      → Owns index k → HasRun index untold (k, tt) commands (j, tt) text → MeetInTurn index j met l again
+      → Owns index k → HasRunCommands index untold (k, tt) commands (j, tt) text → MeetInTurn index j met l again
       → AreAllAnswered nodes leaves becomes gates scripts commands (sections 1 (map (λ d. d.text.items) again) ++ line (codes "last") ++ text)
   lawful_together becomes passes gates scripts commands done met again pass k j l text nodes leaves sized many_gates new last run first own ran second =
       let kept = met_kept pass k done met (new_legal _ pass last.1) (new_makers _ pass last.1) first in

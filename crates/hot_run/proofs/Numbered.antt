@@ -8,7 +8,7 @@ use Rattle.rowex_table.specs.Seats.{TableView}
 use Rattle.hot_scripts.specs.declared.command.Command.{Command}
 use Rattle.hot_run.specs.declared.together.Done.{Done}
 use Rattle.hot_run.specs.declared.together.Order.{Order}
-use Rattle.hot_run.specs.Progress.{AllThree, HasKept, IsDone, IsFirst, IsOrderOf}
+use Rattle.hot_run.specs.Progress.{AllThree, HasKept, IsDone, IsNewPassOf, IsOrderOf}
 use Rattle.hot_run.specs.Scripts.{AllFrom}
 
 module _ {A : Type 0} (p : ℕ → A → Type 0) where
@@ -41,13 +41,13 @@ module _ {A : Type 0} (p : ℕ → A → Type 0) where
 
 module _ (index : TableView) where
   -- new passes are the index's
-  pub owns_first : (first : ℕ) (passes : List PassView) → AllFrom first (IsFirst index) passes → All (Owns index) passes
+  pub owns_first : (first : ℕ) (passes : List PassView) → AllFrom first (IsNewPassOf index) passes → All (Owns index) passes
   owns_first first [] h = All-nil (Owns index)
   owns_first first (p ∷ passes) h = All-cons (Owns index) p passes h.0.0 (owns_first (first + 1) passes h.1)
 
   -- and so with gates
-  pub first_with : {G : Type 0} (first : ℕ) (passes : List PassView) (gates : List G) → AllFrom first (IsFirst index) passes
-      → AllFrom first (λ q a. IsFirst index q a.0) (zip passes gates)
+  pub first_with : {G : Type 0} (first : ℕ) (passes : List PassView) (gates : List G) → AllFrom first (IsNewPassOf index) passes
+      → AllFrom first (λ q a. IsNewPassOf index q a.0) (zip passes gates)
   first_with first [] gates h = tt
   first_with first (p ∷ passes) [] h = tt
   first_with first (p ∷ passes) (g ∷ gates) h = (h.0, first_with (first + 1) passes gates h.1)

@@ -5,15 +5,15 @@ use Rattle.std.proofs.Common.{◌≡◌, ◌<◌, ◌^◌, ℕ, Bool, ◌≤◌,
 use Rattle.std.proofs.Math.Seq.{take-append_seam}
 use Rattle.std.proofs.lemmas.List.Concat.{flat_map-cons}
 use Rattle.std.proofs.lemmas.List.Elements.{All-pop}
-use Rattle.hot_model.specs.declared.Call.{Call}
-use Rattle.hot_model.specs.declared.Change.{Change}
-use Rattle.hot_model.specs.declared.Note.{Note}
-use Rattle.hot_model.specs.declared.Reply.{Reply as Replied}
-use Rattle.hot_model.specs.declared.Scan.{Scan}
-use Rattle.hot_model.specs.Calls.{LegalCalls, StandsIn, place_after}
-use Rattle.hot_model.specs.Fronts.{BeginsWith}
-use Rattle.hot_model.proofs.Growth.{begins_itself, begins_on}
-use Rattle.hot_model.proofs.Legal.{place_after-within}
+use Rattle.finite_map.specs.declared.Call.{Call}
+use Rattle.finite_map.specs.declared.Change.{Change}
+use Rattle.finite_map.specs.declared.Note.{Note}
+use Rattle.finite_map.specs.declared.Reply.{Reply as Replied}
+use Rattle.finite_map.specs.declared.Scan.{Scan}
+use Rattle.finite_map.specs.Calls.{LegalCalls, StandsIn, place_after}
+use Rattle.finite_map.specs.Fronts.{BeginsWith}
+use Rattle.finite_map.proofs.Growth.{begins_itself, begins_on}
+use Rattle.finite_map.proofs.Legal.{place_after-within}
 use Rattle.record_words.specs.declared.layout.Layout.{Layout}
 use Rattle.rowex_core.specs.declared.event.Event.{Event}
 use Rattle.rowex_table.specs.Seats.{TableView}
@@ -28,9 +28,9 @@ use Rattle.hot_run.specs.declared.engine.Answer.{Answer}
 use Rattle.hot_run.specs.declared.engine.Answer.TheVariants.{Reply, Full as Refused}
 use Rattle.hot_scripts.specs.Meaning.{line, scan_lines}
 use Rattle.hot_run.specs.Answers.{Answered, called, refused, listed, answer_text, lines_of_answer, note_of}
-use Rattle.hot_run.specs.Progress.{HasAnswered, HasRun, answered_as}
+use Rattle.hot_run.specs.Progress.{HasAnsweredCommand, HasRunCommands, answered_as}
 use Rattle.hot_run.specs.Scripts.{StandFrom}
-use Rattle.hot_run.specs.Told.{AreTold, IsCalled, IsTold}
+use Rattle.hot_run.specs.Told.{AreTold, IsCalled, IsCommandTold}
 
 -- Fronts
 
@@ -60,14 +60,14 @@ called_of layout k j call reply n =
 
 module _ {G : Type 0} (index : TableView) (becomes : G → Event → G → Type 0) where
   -- no command, no answer
-  pub HasRun-none : (a : PassView × G) → HasRun index becomes a [] a []
-  HasRun-none a = record { answers = []; commands_are = refl; text_is = refl; told = refl }
+  pub HasRunCommands-none : (a : PassView × G) → HasRunCommands index becomes a [] a []
+  HasRunCommands-none a = record { answers = []; commands_are = refl; text_is = refl; told = refl }
 
-  module _ (a m b : PassView × G) (commands : List Command) (rest : List ℕ) (ran : HasRun index becomes m commands b rest) where
+  module _ (a m b : PassView × G) (commands : List Command) (rest : List ℕ) (ran : HasRunCommands index becomes m commands b rest) where
     -- a command, and then the others
-    pub HasRun-more : (command : Command) (before after : List ℕ) → HasAnswered index becomes a command m before after
-        → (lines : List ℕ) × (after ≡ before ++ lines) × HasRun index becomes a (command ∷ commands) b (lines ++ rest)
-    HasRun-more command before after is = (
+    pub HasRunCommands-more : (command : Command) (before after : List ℕ) → HasAnsweredCommand index becomes a command m before after
+        → (lines : List ℕ) × (after ≡ before ++ lines) × HasRunCommands index becomes a (command ∷ commands) b (lines ++ rest)
+    HasRunCommands-more command before after is = (
       lines_of_answer is.answer,
       is.text_is,
       record {
@@ -85,9 +85,9 @@ module _ {G : Type 0} (index : TableView) (becomes : G → Event → G → Type 
   AreTold-untold a b (answer ∷ answers) (m, is, steps, rest) =
       ((m.0, tt), is, told_untold index becomes a m steps, AreTold-untold m b answers rest)
 
-  pub HasRun-untold : (a b : PassView × G) (commands : List Command) (text : List ℕ) → HasRun index becomes a commands b text
-      → HasRun index untold (a.0, tt) commands (b.0, tt) text
-  HasRun-untold a b commands text ran = record {
+  pub HasRunCommands-untold : (a b : PassView × G) (commands : List Command) (text : List ℕ) → HasRunCommands index becomes a commands b text
+      → HasRunCommands index untold (a.0, tt) commands (b.0, tt) text
+  HasRunCommands-untold a b commands text ran = record {
     answers = ran.answers;
     commands_are = ran.commands_are;
     text_is = ran.text_is;
@@ -95,17 +95,17 @@ module _ {G : Type 0} (index : TableView) (becomes : G → Event → G → Type 
   }
 
   -- a call that was answered so
-  pub HasAnswered-call : (a m : PassView × G) (call : Call) (answer : Answer) (place : ℕ) (before after : List ℕ)
-      → IsTold index.layout a.0 (answered_as call answer place) m.0 → HasTold index becomes a m → after ≡ before ++ line (answer_text answer)
-      → HasAnswered index becomes a (Asks call) m before after
-  HasAnswered-call a m call (Reply reply) place before after told steps text = record {
+  pub HasAnsweredCommand-call : (a m : PassView × G) (call : Call) (answer : Answer) (place : ℕ) (before after : List ℕ)
+      → IsCommandTold index.layout a.0 (answered_as call answer place) m.0 → HasTold index becomes a m → after ≡ before ++ line (answer_text answer)
+      → HasAnsweredCommand index becomes a (Asks call) m before after
+  HasAnsweredCommand-call a m call (Reply reply) place before after told steps text = record {
     answer = called (record { place = place; call = call; reply = reply });
     command_is = refl;
     told = told;
     steps = steps;
     text_is = text;
   }
-  HasAnswered-call a m call (Refused full) place before after told steps text = record {
+  HasAnsweredCommand-call a m call (Refused full) place before after told steps text = record {
     answer = refused call full;
     command_is = refl;
     told = told;
@@ -114,10 +114,10 @@ module _ {G : Type 0} (index : TableView) (becomes : G → Event → G → Type 
   }
 
   -- a scan that was answered so
-  pub HasAnswered-scan : (a m : PassView × G) (range : Range) (scan : Scan) (before after : List ℕ)
+  pub HasAnsweredCommand-scan : (a m : PassView × G) (range : Range) (scan : Scan) (before after : List ℕ)
       → IsScanned index.layout a.0 m.0 range.from range.upto range.limit scan → HasRead index becomes a m
-      → after ≡ before ++ scan_lines scan.pairs.items scan.more → HasAnswered index becomes a (Lists range) m before after
-  HasAnswered-scan a m range scan before after is read text = record {
+      → after ≡ before ++ scan_lines scan.pairs.items scan.more → HasAnsweredCommand index becomes a (Lists range) m before after
+  HasAnsweredCommand-scan a m range scan before after is read text = record {
     answer = listed range scan (length m.0.fresh.front) (length m.0.front);
     command_is = refl;
     told = (is, refl, refl);
@@ -133,12 +133,12 @@ module _ {G : Type 0} (index : TableView) (becomes : G → Event → G → Type 
   }
 
   -- a scan into a list that was answered so
-  pub HasAnswered-list : Global → (a m : PassView × G) (range : Range) (pairs : List (List ℕ × ℕ)) → length pairs < 2 ^ 63 → (more : Bool) (before after : List ℕ)
+  pub HasAnsweredCommand-list : Global → (a m : PassView × G) (range : Range) (pairs : List (List ℕ × ℕ)) → length pairs < 2 ^ 63 → (more : Bool) (before after : List ℕ)
       → IsListed index.layout a.0 m.0 range.from range.upto range.limit pairs more → HasRead index becomes a m → after ≡ before ++ scan_lines pairs more
-      → HasAnswered index becomes a (Lists range) m before after
-  HasAnswered-list alloc a m range pairs short more before after is read text =
+      → HasAnsweredCommand index becomes a (Lists range) m before after
+  HasAnsweredCommand-list alloc a m range pairs short more before after is read text =
       let scan = scan_of alloc pairs short more in
-      HasAnswered-scan a m range scan before after (record { on = is.on; notes = is.notes; lawful = is.lawful scan refl refl; legal = is.legal }) read text
+      HasAnsweredCommand-scan a m range scan before after (record { on = is.on; notes = is.notes; lawful = is.lawful scan refl refl; legal = is.legal }) read text
 
   -- Where answers stand
 

@@ -1,8 +1,8 @@
 -- What the commands of a script are answered, and the lines of that.
 use Rattle.std.specs.Prelude.{ℕ, List, Option, None, Some, codes}
-use Rattle.hot_model.specs.declared.Call.{Call}
-use Rattle.hot_model.specs.declared.Note.{Note}
-use Rattle.hot_model.specs.declared.Scan.{Scan}
+use Rattle.finite_map.specs.declared.Call.{Call}
+use Rattle.finite_map.specs.declared.Note.{Note}
+use Rattle.finite_map.specs.declared.Scan.{Scan}
 use Rattle.rowex_writing.specs.declared.plan.Full.{Full}
 use Rattle.rowex_writing.specs.declared.plan.Full.TheVariants.{Nodes, Leaves}
 use Rattle.hot_scripts.specs.declared.command.Command.{Command}
@@ -28,10 +28,10 @@ pub data Answered : Type 0 where
   listed : Range → Scan → ℕ → ℕ → Answered
 
 -- the command
-abbrev pub command_of : Answered → Command
-command_of (called note) = Asks note.call
-command_of (refused call full) = Asks call
-command_of (listed range scan before after) = Lists range
+abbrev pub answered_command : Answered → Command
+answered_command (called note) = Asks note.call
+answered_command (refused call full) = Asks call
+answered_command (listed range scan before after) = Lists range
 
 -- the lines of the answer
 abbrev pub lines_of_answer : Answered → List ℕ

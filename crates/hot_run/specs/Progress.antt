@@ -1,6 +1,6 @@
 -- What the functions of a run leave: what a pass goes through by commands, and the threads of scripts.
 use Rattle.std.specs.Prelude.{◌≡◌, ℕ, ◌++◌, All, List, [], ◌∷◌, length, map, flat_map, codes}
-use Rattle.hot_model.specs.declared.Call.{Call}
+use Rattle.finite_map.specs.declared.Call.{Call}
 use Rattle.rowex_core.specs.declared.event.Event.{Event}
 use Rattle.rowex_table.specs.Seats.{TableView}
 use Rattle.hot_index.specs.Answers.{HaveMet}
@@ -13,9 +13,9 @@ use Rattle.hot_run.specs.declared.engine.Answer.{Answer}
 use Rattle.hot_run.specs.declared.engine.Answer.TheVariants.{Reply, Full as Refused}
 use Rattle.hot_run.specs.declared.together.Done.{Done}
 use Rattle.hot_run.specs.declared.together.Order.{Order}
-use Rattle.hot_run.specs.Answers.{Answered, called, refused, command_of, lines_of_answer}
+use Rattle.hot_run.specs.Answers.{Answered, called, refused, answered_command, lines_of_answer}
 use Rattle.hot_run.specs.Scripts.{sections}
-use Rattle.hot_run.specs.Told.{AreTold, IsTold}
+use Rattle.hot_run.specs.Told.{AreTold, IsCommandTold}
 
 -- a call that was answered so, if it was, at this place
 abbrev pub answered_as : Call → Answer → ℕ → Answered
@@ -23,25 +23,25 @@ answered_as call (Reply reply) place = called (record { place = place; call = ca
 answered_as call (Refused full) place = refused call full
 
 -- The pass was told the answer to this command, and its gate the steps; the answer's lines follow the text that stood before.
-pub record HasAnswered {G : Type 0} (index : TableView) (becomes : G → Event → G → Type 0) (a : PassView × G) (command : Command) (b : PassView × G)
+pub record HasAnsweredCommand {G : Type 0} (index : TableView) (becomes : G → Event → G → Type 0) (a : PassView × G) (command : Command) (b : PassView × G)
     (before after : List ℕ) : Type 0 where
   pub answer : Answered
-  pub command_is : command_of answer ≡ command
-  pub told : IsTold index.layout a.0 answer b.0
+  pub command_is : answered_command answer ≡ command
+  pub told : IsCommandTold index.layout a.0 answer b.0
   pub steps : HasTold index becomes a b
   pub text_is : after ≡ before ++ lines_of_answer answer
 
 -- The pass made these commands, one after another, and the text has the answers to them.
-pub record HasRun {G : Type 0} (index : TableView) (becomes : G → Event → G → Type 0) (a : PassView × G) (commands : List Command) (b : PassView × G)
+pub record HasRunCommands {G : Type 0} (index : TableView) (becomes : G → Event → G → Type 0) (a : PassView × G) (commands : List Command) (b : PassView × G)
     (text : List ℕ) : Type 0 where
   pub answers : List Answered
-  pub commands_are : map command_of answers ≡ commands
+  pub commands_are : map answered_command answers ≡ commands
   pub text_is : text ≡ flat_map lines_of_answer answers
   pub told : AreTold index becomes a answers b
 
 -- a new pass of this number, of the index
-abbrev pub IsFirst : TableView → ℕ → PassView → Type 0
-IsFirst index q pass = Owns index pass × IsNewPass q pass
+abbrev pub IsNewPassOf : TableView → ℕ → PassView → Type 0
+IsNewPassOf index q pass = Owns index pass × IsNewPass q pass
 
 -- there are a pass of the index, a script and a gate for each thread
 abbrev pub AreReady : {C G : Type 0} → TableView → List PassView → List C → List G → Type 0
@@ -50,7 +50,7 @@ AreReady index passes scripts gates = All (Owns index) passes × (length scripts
 -- the thread of this pass and gate made these commands
 abbrev pub IsDone : {G : Type 0} → TableView → (G → Event → G → Type 0) → PassView × G → List Command → Done → Type 0
 IsDone {G = G} index becomes a commands done =
-    Owns index done.pass × ((gate : G) × HasRun index becomes a commands (done.pass, gate) done.text.items)
+    Owns index done.pass × ((gate : G) × HasRunCommands index becomes a commands (done.pass, gate) done.text.items)
 
 -- a thread was started for these commands of this pass, with this gate
 abbrev pub IsOrderOf : {G : Type 0} → TableView → PassView × G → List Command → Order G → Type 0
@@ -88,6 +88,6 @@ pub record HasAnsweredLast (index : TableView) (k : PassView) (met : List Done) 
   pub again : List Done
   pub answers : List ℕ
   pub own : Owns index k
-  pub ran : HasRun index untold (k, tt) commands (after, tt) answers
+  pub ran : HasRunCommands index untold (k, tt) commands (after, tt) answers
   pub meet : MeetInTurn index after met last again
   pub text_is : text ≡ sections 1 (map (λ d. d.text.items) again) ++ line (codes "last") ++ answers

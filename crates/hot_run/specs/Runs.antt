@@ -1,8 +1,8 @@
 -- What a run of a script reads, writes and answers.
 use Rattle.std.specs.Prelude.{◌≡◌, ℕ, ◌<◌, ◌≤◌, ◌++◌, List, [], ◌∷◌, length, map, All, Option, Ok, Err, IsOk}
 use Rattle.std.specs.Io.KnownBytes.{Consumes, IsAtEnd}
-use Rattle.hot_model.specs.declared.Change.{Change}
-use Rattle.hot_model.specs.Maps.{Map, map_after, reply_of}
+use Rattle.finite_map.specs.declared.Change.{Change}
+use Rattle.finite_map.specs.Maps.{Map, map_after, reply_of}
 use Rattle.rowex_table.specs.Seats.{TableView}
 use Rattle.hot_index.specs.Traces.{untold}
 use Rattle.hot_scripts.specs.declared.command.Command.{Command}
@@ -10,7 +10,7 @@ use Rattle.hot_scripts.specs.declared.fault.RunFault.{RunFault}
 use Rattle.hot_scripts.specs.declared.fault.RunFault.TheVariants.{Read, Write, Memory, Script, Large}
 use Rattle.hot_scripts.specs.Grammar.{commands_of, most_bytes}
 use Rattle.hot_scripts.specs.Meaning.{line, reply_text, scan_text, script_meaning}
-use Rattle.hot_run.specs.Answers.{Answered, called, refused, listed, IsGranted, command_of, full_text}
+use Rattle.hot_run.specs.Answers.{Answered, called, refused, listed, IsGranted, answered_command, full_text}
 use Rattle.hot_run.specs.Told.{IsOfSize, WasTold}
 
 -- The answers to commands, on the map as each finds it: a refusal leaves it as it was, so that the others are answered as if the
@@ -22,18 +22,18 @@ text_told m (refused call full ∷ answers) = line (full_text full) ++ text_told
 text_told m (listed range scan before after ∷ answers) = scan_text m range ++ text_told m answers
 
 -- The text has the answers to the commands on a new index of so many records, which has one pass: each answer is that of the map that
--- the earlier ones left, and a command was refused only where that call found no record of the kind free (`IsTold`).
+-- the earlier ones left, and a command was refused only where that call found no record of the kind free (`IsCommandTold`).
 pub record AreAnswered (nodes leaves : ℕ) (commands : List Command) (text : List ℕ) : Type 0 where
   pub index : TableView
   pub sized : IsOfSize 1 nodes leaves index
   pub answers : List Answered
   pub front : List Change
   pub told : WasTold index untold 0 tt [] answers front
-  pub commands_are : map command_of answers ≡ commands
+  pub commands_are : map answered_command answers ≡ commands
   pub text_is : text ≡ text_told [] answers
 
 -- The text answers the script so: it is what the script means, if no command was refused.
-pub record IsAnswered (nodes leaves : ℕ) (script text : List ℕ) : Type 0 where
+pub record IsAnsweredScript (nodes leaves : ℕ) (script text : List ℕ) : Type 0 where
   pub short : length script ≤ most_bytes
   pub commands : List Command
   pub parsed : commands_of script ≡ Ok commands

@@ -1,11 +1,11 @@
 -- Scripts that run on one index, each with a pass of its own: what they may be answered, and how such a run may end.
 use Rattle.std.specs.Prelude.{◌≡◌, ◌⊎◌, ℕ, ◌+◌, ◌≤◌, ◌++◌, List, [], ◌∷◌, length, map, filter_map, flat_map, take, nat_lt, All, Option, Result, Ok, Err, IsOk, if◌then◌else◌, codes}
-use Rattle.hot_model.specs.declared.Change.{Change}
-use Rattle.hot_model.specs.declared.Note.{Note}
-use Rattle.hot_model.specs.Calls.{LegalCalls, place_after}
-use Rattle.hot_model.specs.Fronts.{BeginsWith}
-use Rattle.hot_model.specs.Scans.{IsLawfulScan}
-use Rattle.hot_model.specs.Weaves.{AllLegal}
+use Rattle.finite_map.specs.declared.Change.{Change}
+use Rattle.finite_map.specs.declared.Note.{Note}
+use Rattle.finite_map.specs.Calls.{LegalCalls, place_after}
+use Rattle.finite_map.specs.Fronts.{BeginsWith}
+use Rattle.finite_map.specs.Scans.{IsLawfulScan}
+use Rattle.finite_map.specs.Weaves.{AllLegal}
 use Rattle.rowex_core.specs.declared.event.Event.{Event}
 use Rattle.rowex_table.specs.Seats.{TableView}
 use Rattle.hot_index.specs.Answers.{MayLack}
@@ -16,7 +16,7 @@ use Rattle.hot_scripts.specs.declared.fault.RunFault.{RunFault}
 use Rattle.hot_scripts.specs.declared.fault.RunFault.TheVariants.{Memory, FileScript, Large}
 use Rattle.hot_scripts.specs.Grammar.{commands_of, most_bytes}
 use Rattle.hot_scripts.specs.Meaning.{line, with_number}
-use Rattle.hot_run.specs.Answers.{Answered, called, refused, listed, command_of, lines_of_answer, note_of}
+use Rattle.hot_run.specs.Answers.{Answered, called, refused, listed, answered_command, lines_of_answer, note_of}
 use Rattle.hot_run.specs.Runs.{MayEndBy}
 use Rattle.hot_run.specs.Told.{IsOfSize, WasTold}
 
@@ -26,7 +26,7 @@ pub record Ran : Type 0 where
   pub front : List Change
 
 abbrev pub commands_in : Ran → List Command
-commands_in ran = map command_of ran.answers
+commands_in ran = map answered_command ran.answers
 
 abbrev pub notes_in : Ran → List Note
 notes_in ran = filter_map note_of ran.answers
@@ -111,7 +111,7 @@ pub record LawfulAnswers (scripts : List (List Command)) (last : List Command) (
   pub text_is : text ≡ sections 1 (map text_in files_ran) ++ line (codes "last") ++ text_in last_ran
 
 -- And these answers were given on one index of so many records: the calls of each file's pass went to its gate, step by step, and a
--- command was refused only where that call found no record of the kind free (`IsTold`).
+-- command was refused only where that call found no record of the kind free (`IsCommandTold`).
 pub record AreAllAnswered {G : Type 0} (nodes leaves : ℕ) (becomes : G → Event → G → Type 0) (gates : List G)
     (scripts : List (List Command)) (last : List Command) (text : List ℕ) : Type 0 where
   pub lawful : LawfulAnswers scripts last text

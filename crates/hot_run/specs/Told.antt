@@ -1,9 +1,9 @@
 -- What a pass of an index is told by the commands of a script, and its gate by their steps.
 use Rattle.std.specs.Prelude.{◌≡◌, ℕ, ◌≤◌, ◌++◌, List, [], ◌∷◌, length}
-use Rattle.hot_model.specs.declared.Change.{Change}
-use Rattle.hot_model.specs.declared.Note.{Note}
-use Rattle.hot_model.specs.Calls.{LegalCalls}
-use Rattle.hot_model.specs.Fronts.{BeginsWith}
+use Rattle.finite_map.specs.declared.Change.{Change}
+use Rattle.finite_map.specs.declared.Note.{Note}
+use Rattle.finite_map.specs.Calls.{LegalCalls}
+use Rattle.finite_map.specs.Fronts.{BeginsWith}
 use Rattle.record_words.specs.declared.layout.Layout.{Layout}
 use Rattle.rowex_core.specs.declared.event.Event.{Event}
 use Rattle.rowex_table.specs.Seats.{TableView}
@@ -23,10 +23,10 @@ pub record IsCalled (layout : Layout) (k j : PassView) (note : Note) : Type 0 wh
 
 -- The pass was told this answer to a command. A call that was refused has found, in its own steps, each record of the kind not free,
 -- of leaf records each with room for its key.
-abbrev pub IsTold : Layout → PassView → Answered → PassView → Type 0
-IsTold layout k (called note) j = IsCalled layout k j note
-IsTold layout k (refused call full) j = MayLack call full × IsRefused layout call k j (fault_of full)
-IsTold layout k (listed range scan before after) j =
+abbrev pub IsCommandTold : Layout → PassView → Answered → PassView → Type 0
+IsCommandTold layout k (called note) j = IsCalled layout k j note
+IsCommandTold layout k (refused call full) j = MayLack call full × IsRefused layout call k j (fault_of full)
+IsCommandTold layout k (listed range scan before after) j =
     IsScanned layout k j range.from range.upto range.limit scan × (before ≡ length j.fresh.front) × (after ≡ length j.front)
 
 -- And these answers, one after another. The pass makes each command's steps and no other between them, and its gate is told each of
@@ -34,7 +34,7 @@ IsTold layout k (listed range scan before after) j =
 abbrev pub AreTold : {G : Type 0} → TableView → (G → Event → G → Type 0) → PassView × G → List Answered → PassView × G → Type 0
 AreTold index becomes a [] b = b ≡ a
 AreTold {G = G} index becomes a (answer ∷ answers) b =
-    (m : PassView × G) × IsTold index.layout a.0 answer m.0 × HasTold index becomes a m × AreTold index becomes m answers b
+    (m : PassView × G) × IsCommandTold index.layout a.0 answer m.0 × HasTold index becomes a m × AreTold index becomes m answers b
 
 -- an index of so many passes, and of so many node and leaf records, each of which has room for each key
 pub record IsOfSize (passes nodes leaves : ℕ) (index : TableView) : Type 0 where

@@ -4,12 +4,12 @@ ghost use Rattle.std.specs.Prelude.{ℕ, IfOk, OnOk};
 ghost use Rattle.hot_index.specs.Passes.{Owns};
 ghost use Rattle.hot_scripts.specs.Parses.{script_commands};
 ghost use Rattle.hot_index.specs.Traces.{HasTold};
-ghost use Rattle.hot_run.specs.Progress.{HasAnswered, HasRun, answered_as};
-ghost use Rattle.hot_run.specs.Told.{IsTold};
+ghost use Rattle.hot_run.specs.Progress.{HasAnsweredCommand, HasRunCommands, answered_as};
+ghost use Rattle.hot_run.specs.Told.{IsCommandTold};
 
 use crate::answer::push_answer;
 use hot_index::{Full, Gate, Index, Pairs, Pass};
-use hot_model::{Call, Reply};
+use finite_map::{Call, Reply};
 use hot_scripts::answer::push_scan;
 use hot_scripts::command::{Command, Range};
 use hot_scripts::script::Script;
@@ -35,7 +35,7 @@ fn make_call<T: Wait, G: Gate>(
 ) -> Answer
     requires { Owns index.now pass.old }
     ensures own { Owns index.now pass.new }
-    ensures told { (place : ℕ) × IsTold index.now.layout pass.old (answered_as call.now result place) pass.new }
+    ensures told { (place : ℕ) × IsCommandTold index.now.layout pass.old (answered_as call.now result place) pass.new }
     ensures steps { HasTold index.now G.becomes (pass.old, gate.old) (pass.new, gate.new) }
 {
     match index.call_with(rt, pass, call, gate) {
@@ -55,7 +55,7 @@ fn answer_scan<G: Gate>(
 ) -> Result<(), AllocError>
     requires { Owns index.now pass.old }
     ensures own { Owns index.now pass.new }
-    ensures answered { OnOk result (HasAnswered index.now G.becomes (pass.old, gate.old) (Command.Scan range.now) (pass.new, gate.new)
+    ensures answered { OnOk result (HasAnsweredCommand index.now G.becomes (pass.old, gate.old) (Command.Scan range.now) (pass.new, gate.new)
         text.old.items text.new.items) }
 {
     let more = index.scan_into_with(pass, &range.from, &range.upto, range.limit, pairs, gate)?;
@@ -74,7 +74,7 @@ fn answer_command<T: Wait, G: Gate>(
 ) -> Result<(), AllocError>
     requires { Owns index.now pass.old }
     ensures own { Owns index.now pass.new }
-    ensures answered { OnOk result (HasAnswered index.now G.becomes (pass.old, gate.old) command.now (pass.new, gate.new)
+    ensures answered { OnOk result (HasAnsweredCommand index.now G.becomes (pass.old, gate.old) command.now (pass.new, gate.new)
         text.old.items text.new.items) }
 {
     match command {
@@ -97,7 +97,7 @@ pub fn run<T: Wait, G: Gate>(
 ) -> Result<Vec<u8>, AllocError>
     requires { Owns index.now pass.old }
     ensures own { Owns index.now pass.new }
-    ensures ran { IfOk result (λ text. HasRun index.now G.becomes (pass.old, gate.old) (script_commands script.now) (pass.new, gate.new) text.items) }
+    ensures ran { IfOk result (λ text. HasRunCommands index.now G.becomes (pass.old, gate.old) (script_commands script.now) (pass.new, gate.new) text.items) }
 {
     let mut text = Vec::new(alloc);
     let mut pairs = Pairs::new(alloc);

@@ -5,8 +5,8 @@ ghost use Rattle.std.specs.Prelude.{◌≡◌, ◌≢◌, ◌+◌, ◌≤◌, Li
 ghost use Rattle.std.specs.Io.KnownBytes.{Appends};
 ghost use Rattle.record_words.specs.Limits.{IsLeafCount, IsNodeCount};
 ghost use Rattle.hot_scripts.specs.Parses.{script_commands};
-ghost use Rattle.hot_run.specs.Progress.{IsFirst};
-ghost use Rattle.hot_run.specs.Runs.{AreAnswered, IsAnswered, TakesAll, MayEndBy};
+ghost use Rattle.hot_run.specs.Progress.{IsNewPassOf};
+ghost use Rattle.hot_run.specs.Runs.{AreAnswered, IsAnsweredScript, TakesAll, MayEndBy};
 ghost use Rattle.hot_run.specs.Scripts.{AllFrom};
 ghost use Rattle.hot_run.specs.Told.{IsOfSize};
 
@@ -42,7 +42,7 @@ pub fn run_one<T: Wait, R: Read, W: Write>(
     // only where it found no record of the kind free.
     ensures ok { OnOk result ((script : List ℕ) × (text : List ℕ)
         × TakesAll (R.remaining reader.old) (R.remaining reader.new) script
-        × IsAnswered nodes leaves script text
+        × IsAnsweredScript nodes leaves script text
         × Appends (W.contents writer.old) (W.contents writer.new) text) }
 
     // A fault of the script's own is what the script means.
@@ -87,8 +87,8 @@ fn new_index(
     requires leaves { IsLeafCount leaves }
     ensures sized { IfOk result (λ made. IsOfSize (files + 1) nodes leaves made.0) }
     ensures count { IfOk result (λ made. length made.1.items ≡ files) }
-    ensures each { IfOk result (λ made. AllFrom 0 (IsFirst made.0) made.1.items) }
-    ensures last { IfOk result (λ made. IsFirst made.0 files made.2) }
+    ensures each { IfOk result (λ made. AllFrom 0 (IsNewPassOf made.0) made.1.items) }
+    ensures last { IfOk result (λ made. IsNewPassOf made.0 files made.2) }
     ensures fault { IfErr result (λ fault. fault ≡ RunFault.Memory) }
 {
     let (index, mut passes) = match create(alloc, files + 1, nodes, leaves) {

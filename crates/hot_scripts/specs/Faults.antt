@@ -11,10 +11,10 @@ reason_text Key = codes "bad key"
 reason_text Value = codes "bad value"
 reason_text Limit = codes "bad limit"
 
-abbrev pub fault_text : RunFault → List ℕ
-fault_text Read = codes "read failed"
-fault_text Write = codes "write failed"
-fault_text Memory = codes "out of memory"
-fault_text (Script number reason) = codes "line " ++ decimal number ++ codes ": " ++ reason_text reason
-fault_text (FileScript file number reason) = codes "file " ++ decimal file ++ codes ": line " ++ decimal number ++ codes ": " ++ reason_text reason
-fault_text Large = codes "script too long"
+abbrev pub run_fault_text : RunFault → List ℕ
+run_fault_text Read = codes "read failed"
+run_fault_text Write = codes "write failed"
+run_fault_text Memory = codes "out of memory"
+run_fault_text (Script number reason) = codes "line " ++ decimal number ++ codes ": " ++ reason_text reason
+run_fault_text (FileScript file number reason) = codes "file " ++ decimal file ++ codes ": line " ++ decimal number ++ codes ": " ++ reason_text reason
+run_fault_text Large = codes "script too long"

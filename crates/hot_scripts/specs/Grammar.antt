@@ -6,8 +6,8 @@ use Rattle.std.specs.Str.Parse.{digits_value}
 use Rattle.std.specs.Char.{is_ascii_digit}
 use Rattle.hex.specs.Hex.{decode_of}
 use Rattle.hex.specs.declared.error.FromHexError.{FromHexError}
-use Rattle.hot_model.specs.declared.Call.{Call}
-use Rattle.hot_model.specs.declared.Call.TheVariants.{Get, Remove, Insert, Upsert}
+use Rattle.finite_map.specs.declared.Call.{Call}
+use Rattle.finite_map.specs.declared.Call.TheVariants.{Get, Remove, Insert, Upsert}
 use Rattle.hot_scripts.specs.declared.command.Command.{Command}
 use Rattle.hot_scripts.specs.declared.command.Command.TheVariants.{Call as Asks, Scan}
 use Rattle.hot_scripts.specs.declared.command.Version.{Version}
@@ -30,8 +30,8 @@ abbrev pub lines_of : List ℕ → List (List ℕ)
 lines_of script = slice_split (λ b. b == 10) script
 
 -- the words of a line, each up to a space; they may be empty
-abbrev pub words_of : List ℕ → List (List ℕ)
-words_of line = slice_split (λ b. b == 32) line
+abbrev pub line_words : List ℕ → List (List ℕ)
+line_words line = slice_split (λ b. b == 32) line
 
 -- what hexadecimal digits stand for, if they are such
 abbrev pub decoded : Result (List ℕ) FromHexError → Result (List ℕ) Reason
@@ -44,8 +44,8 @@ most_digits First = 128
 most_digits Second = 480
 
 -- a key: a dash for the empty one, or two digits for each byte
-abbrev pub key_of : Version → List ℕ → Result (List ℕ) Reason
-key_of version word =
+abbrev pub parsed_key : Version → List ℕ → Result (List ℕ) Reason
+parsed_key version word =
     if bytes_eq word (codes "-") then Ok []
     else if nat_le 2 (length word) && nat_le (length word) (most_digits version) then decoded (decode_of word)
     else Err bad.Key
@@ -63,8 +63,8 @@ some_or reason (Some n) = Ok n
 some_or reason None = Err reason
 
 -- a value: any such number
-abbrev pub value_of : List ℕ → Result ℕ Reason
-value_of word = some_or bad.Value (number_of word)
+abbrev pub parsed_value : List ℕ → Result ℕ Reason
+parsed_value word = some_or bad.Value (number_of word)
 
 -- a limit: such a number from 1 to 1,000,000
 abbrev pub limit_of : List ℕ → Result ℕ Reason
@@ -72,16 +72,16 @@ limit_of word = some_or bad.Limit (number_of word) >>= λ n. if nat_le 1 n && na
 
 -- a call on a key
 abbrev pub with_key : Version → (List ℕ → Call) → List ℕ → Result Command Reason
-with_key version call key = key_of version key >>= λ k. Ok (Asks (call k))
+with_key version call key = parsed_key version key >>= λ k. Ok (Asks (call k))
 
 -- a call on a key and a value
-abbrev pub with_value : Version → (List ℕ → ℕ → Call) → List ℕ → List ℕ → Result Command Reason
-with_value version call key value = key_of version key >>= λ k. value_of value >>= λ v. Ok (Asks (call k v))
+abbrev pub parsed_change : Version → (List ℕ → ℕ → Call) → List ℕ → List ℕ → Result Command Reason
+parsed_change version call key value = parsed_key version key >>= λ k. parsed_value value >>= λ v. Ok (Asks (call k v))
 
 -- a scan of a range
 abbrev pub with_range : Version → List ℕ → List ℕ → List ℕ → Result Command Reason
 with_range version from upto limit =
-    key_of version from >>= λ f. key_of version upto >>= λ u. limit_of limit >>= λ n. Ok (Scan (record { from = f; upto = u; limit = n }))
+    parsed_key version from >>= λ f. parsed_key version upto >>= λ u. limit_of limit >>= λ n. Ok (Scan (record { from = f; upto = u; limit = n }))
 
 -- The command of these words: a name, and as many words as it takes. Of several faults it is the first, that of the name and of the number of words before the others.
 abbrev pub command_of : Version → List (List ℕ) → Result Command Reason
@@ -90,8 +90,8 @@ command_of version (name ∷ key ∷ []) =
     else if bytes_eq name (codes "remove") then with_key version Remove key
     else Err bad.Command
 command_of version (name ∷ key ∷ value ∷ []) =
-    if bytes_eq name (codes "insert") then with_value version Insert key value
-    else if bytes_eq name (codes "upsert") then with_value version Upsert key value
+    if bytes_eq name (codes "insert") then parsed_change version Insert key value
+    else if bytes_eq name (codes "upsert") then parsed_change version Upsert key value
     else Err bad.Command
 command_of version (name ∷ from ∷ upto ∷ limit ∷ []) =
     if bytes_eq name (codes "scan") then with_range version from upto limit
@@ -101,7 +101,7 @@ command_of version _ = Err bad.Command
 -- What a line asks for: nothing where it is empty or begins with #
 abbrev pub reading_of : Version → List ℕ → Result (Option Command) Reason
 reading_of version [] = Ok None
-reading_of version (b ∷ bs) = if b == 35 then Ok None else command_of version (words_of (b ∷ bs)) >>= λ c. Ok (Some c)
+reading_of version (b ∷ bs) = if b == 35 then Ok None else command_of version (line_words (b ∷ bs)) >>= λ c. Ok (Some c)
 
 -- What each line asks for. A first line `hot 2` asks for nothing, and says that the script is of the second version.
 abbrev pub readings_of : List (List ℕ) → List (Result (Option Command) Reason)

@@ -1,10 +1,10 @@
 -- What a script means: the answers to its commands on a finite map, as lines.
 use Rattle.std.specs.Prelude.{ℕ, ◌++◌, List, [], ◌∷◌, length, flat_map, nat_lt, take, Bool, Result, Ok, Err, if◌then◌else◌, codes, decimal}
 use Rattle.hex.specs.Hex.{encode_lower}
-use Rattle.hot_model.specs.declared.Reply.{Reply}
-use Rattle.hot_model.specs.declared.Reply.TheVariants as reply
-use Rattle.hot_model.specs.Maps.{Map, map_after, reply_of}
-use Rattle.hot_model.specs.Scans.{range_of}
+use Rattle.finite_map.specs.declared.Reply.{Reply}
+use Rattle.finite_map.specs.declared.Reply.TheVariants as reply
+use Rattle.finite_map.specs.Maps.{Map, map_after, reply_of}
+use Rattle.finite_map.specs.Scans.{range_of}
 use Rattle.hot_scripts.specs.declared.command.Command.{Command}
 use Rattle.hot_scripts.specs.declared.command.Command.TheVariants.{Call as Asks, Scan}
 use Rattle.hot_scripts.specs.declared.command.Range.{Range}

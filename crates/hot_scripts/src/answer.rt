@@ -4,7 +4,7 @@ ghost use Rattle.std.specs.Prelude.{◌≡◌, ◌++◌, ◌+◌, ◌<◌, ◌�
 ghost use Rattle.hot_scripts.specs.Meaning.{key_text, line, pair_line, reply_text, scan_lines, with_number};
 
 use crate::tail::{NUMBER_DIGITS, Tail};
-use hot_model::Reply;
+use finite_map::Reply;
 use itoa::Buffer;
 use key_bits::MAX_BYTES;
 use packed_pairs::Pairs;

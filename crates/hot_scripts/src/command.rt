@@ -3,7 +3,7 @@
 ghost use Rattle.std.specs.Prelude.{◌≡◌};
 ghost use Rattle.hot_scripts.specs.Grammar.{most_digits};
 
-use hot_model::Call;
+use finite_map::Call;
 use key_bits::Key;
 
 /// A range of keys, both ends inclusive, and the greatest number of pairs that are wanted.

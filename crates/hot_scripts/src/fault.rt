@@ -2,7 +2,7 @@
 
 ghost use Rattle.std.specs.Prelude.{◌≡◌, Some};
 ghost use Rattle.hot_scripts.specs.declared.fault.RunFault.TheVariants.{Memory};
-ghost use Rattle.hot_scripts.specs.Faults.{reason_text, fault_text};
+ghost use Rattle.hot_scripts.specs.Faults.{reason_text, run_fault_text};
 
 use std::alloc::{AllocError, AllocFailed};
 use std::error::Error;
@@ -59,7 +59,7 @@ impl fmt::Display for Reason {
 }
 
 impl fmt::Display for RunFault {
-    ghost output = { λ fault. Some (fault_text fault) };
+    ghost output = { λ fault. Some (run_fault_text fault) };
 
     fn fmt<W: fmt::Write>(&self, f: &mut fmt::Formatter<W>) -> fmt::Result {
         match self {

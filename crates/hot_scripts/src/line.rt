@@ -2,13 +2,13 @@
 
 ghost use Rattle.std.specs.Prelude.{◌≡◌, ◌≤◌, ◌==◌, [], ◌∷◌, length, position};
 ghost use Rattle.std.specs.List.{slice_split};
-ghost use Rattle.hot_scripts.specs.Grammar.{words_of, command_of, reading_of};
+ghost use Rattle.hot_scripts.specs.Grammar.{line_words, command_of, reading_of};
 ghost use Rattle.hot_scripts.specs.Words.{parts_left, text_len, AreWords};
 
 use crate::command::{Command, Range, Version};
 use crate::fault::Reason;
 use crate::word;
-use hot_model::Call;
+use finite_map::Call;
 
 /// The place of the first separator.
 fn first_index(separator: u8, text: &[u8]) -> Option<usize>
@@ -39,7 +39,7 @@ enum Words<'a> {
 
 /// Cuts a line into its words.
 fn words_in(line: &[u8]) -> Words<'_>
-    ensures { AreWords result (words_of line.now) }
+    ensures { AreWords result (line_words line.now) }
 {
     let (name, rest) = cut(b' ', line);
     let Some(rest) = rest else {
@@ -114,7 +114,7 @@ fn with_range(
 
 /// The command of a line, or why it has none.
 fn command(version: Version, line: &[u8]) -> Result<Command, Reason>
-    ensures { result ≡ command_of version (words_of line.now) }
+    ensures { result ≡ command_of version (line_words line.now) }
 {
     match words_in(line) {
         Words::Two(name, key) => with_key(version, name, key),

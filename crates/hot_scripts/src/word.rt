@@ -3,7 +3,7 @@
 ghost use Rattle.std.specs.Prelude.{◌≡◌, ◌≤◌, length};
 ghost use Rattle.std.specs.List.{list_all};
 ghost use Rattle.std.specs.Char.{is_ascii_digit};
-ghost use Rattle.hot_scripts.specs.Grammar.{key_of, is_number, number_of, value_of, limit_of};
+ghost use Rattle.hot_scripts.specs.Grammar.{parsed_key, is_number, number_of, parsed_value, limit_of};
 
 use crate::command::Version;
 use crate::fault::Reason;
@@ -18,7 +18,7 @@ const MAX_LIMIT: u64 = 1_000_000;
 
 /// The key that a word stands for, in hexadecimal digits.
 pub fn key(version: Version, word: &[u8]) -> Result<Key, Reason>
-    ensures { result ≡ key_of version word.now }
+    ensures { result ≡ parsed_key version word.now }
 {
     if word == b"-".as_slice() {
         return from_bytes(&[]);
@@ -74,7 +74,7 @@ fn number(word: &[u8]) -> Option<u64>
 
 /// The value that a word stands for.
 pub fn value(word: &[u8]) -> Result<u64, Reason>
-    ensures { result ≡ value_of word.now }
+    ensures { result ≡ parsed_value word.now }
 {
     number(word).ok_or(Reason::Value)
 }

@@ -2,7 +2,7 @@
 use Rattle.std.proofs.Common.{Bool, [], ◌∷◌, ap, arith, false, nat_lt, refl, sym, true, ℕ, ⊎_elim, ◌++◌, ◌-◌, ◌<◌, ◌∙◌, ◌≡◌, ◌≤◌, max, subst}
 use Rattle.std.proofs.lemmas.Bool.{cond-true, cond-false, cases_Bool, lt-ltb}
 use Rattle.compound_node.specs.Halves.{HalfShows, CutShows}
-use Rattle.compound_node.specs.Nodes.{NodeView, IsLawful, height_of, greatest_height}
+use Rattle.compound_node.specs.Nodes.{NodeView, IsLawfulNode, height_of, greatest_height}
 use Rattle.compound_node.specs.declared.entries.Entry.{Entry}
 use Rattle.compound_node.specs.declared.entries.Entry.TheVariants.{Leaf}
 use Rattle.compound_node.specs.declared.halves.Cut.{Cut}
@@ -16,7 +16,7 @@ use Rattle.pieces.specs.Grafts.{grafted, IsAbovePath}
 use Rattle.insert_cases.specs.Grown.{is_same, half_piece}
 use Rattle.pieces.proofs.Grafting.{size-replaced}
 
-pub height_positive : (n : NodeView) → IsLawful n → 0 < n.height
+pub height_positive : (n : NodeView) → IsLawfulNode n → 0 < n.height
 height_positive n l = let several = l.several in omega (arith, l.above 0 (Leaf 0) (omega arith))
 
 pub half_is : (h : Half) (P : Piece Entry) → HalfShows h P → P ≡ half_piece h

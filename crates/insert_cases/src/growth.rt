@@ -5,7 +5,7 @@ ghost use Rattle.pieces.specs.Piece.{size, Place as At, Fork};
 ghost use Rattle.pieces.specs.Growth.{grown, IsAffected};
 ghost use Rattle.pieces.specs.Changes.{AtRootFork};
 ghost use Rattle.compound_node.specs.Halves.{HalfShows, CutShows};
-ghost use Rattle.compound_node.specs.Nodes.{piece, IsEntry, IsLawful, IsBuiltFrom};
+ghost use Rattle.compound_node.specs.Nodes.{piece, IsEntry, IsLawfulNode, IsBuiltFrom};
 ghost use Rattle.pieces.specs.Grafts.{grafted, IsAbovePath};
 ghost use Rattle.insert_cases.specs.Grown.{GrownShows, is_whole, keeps_node, half_piece};
 
@@ -62,7 +62,7 @@ fn beside(position: u16, bit: bool, entry: Entry) -> Cut
 
 /// A full node cut, with a new entry in the half that holds those from `first` to `last`.
 fn cut_grown(node: &Node, first: u8, last: u8, position: u16, bit: bool, entry: Entry) -> Cut
-    requires lawful { IsLawful node.now }
+    requires lawful { IsLawfulNode node.now }
     requires range { IsAffected (piece node.now) position first last }
     requires below { AtRootFork (λ p zero one. p < position) (piece node.now) }
     requires position { position < 65535 }
@@ -188,7 +188,7 @@ fn half_forked(half: &Half, at: u8, position: u16, zero: Entry, one: Entry) -> N
 /// The node with a fork of two entries in place of entry `at`, and its height anew. A leaf stands there first, so that
 /// the old entry's height does not count; and the higher entry is added before the lower one takes the leaf's place.
 fn forked(node: &Node, at: u8, position: u16, zero: Entry, one: Entry) -> Node
-    requires lawful { IsLawful node.now }
+    requires lawful { IsLawfulNode node.now }
     requires room { length node.now.entries < 32 }
     requires place { at < length node.now.entries }
     requires path { IsAbovePath position at (piece node.now) }

@@ -6,7 +6,7 @@ use Rattle.std.specs.declared.cmp.Ordering.TheVariants.{Less, Equal, Greater}
 use Rattle.std.specs.Ordering.{nat_cmp, ordering_then}
 use Rattle.std.specs.Cmp.{ranked, nat_cmp_is}
 use Rattle.std.proofs.lemmas.List.Elements.{All-head, All-tail}
-use Rattle.hot_model.specs.Maps.{key_order}
+use Rattle.finite_map.specs.Maps.{key_order}
 
 abbrev pub AreBytes : List ℕ → Type 0
 AreBytes key = All (λ byte. byte < 256) key

@@ -7,7 +7,7 @@ use Rattle.std.proofs.lemmas.List.Elements.{All-drop, All-head, All-take}
 use Rattle.std.specs.declared.cmp.Ordering.TheVariants.{Less}
 use Rattle.key_bits.specs.Key.{IsKey}
 use Rattle.key_bits.specs.declared.TheConstants.{MAX_BYTES}
-use Rattle.hot_model.specs.Maps.{key_order}
+use Rattle.finite_map.specs.Maps.{key_order}
 use Rattle.key_ranges.specs.Ranges.{IsNextKey, NoKeyAbove}
 use Rattle.key_ranges.proofs.Above.{longer_above, longer_least, none_above, raised_above, raised_least}
 use Rattle.key_ranges.proofs.Places.{one_more_key}

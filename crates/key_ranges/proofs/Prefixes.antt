@@ -10,8 +10,8 @@ use Rattle.std.specs.Ordering.{is_le, is_lt, nat_cmp, ordering_then}
 use Rattle.std.specs.Cmp.{ranked}
 use Rattle.key_bits.specs.Key.{IsKey}
 use Rattle.key_bits.specs.declared.TheConstants.{MAX_BYTES}
-use Rattle.hot_model.specs.Maps.{key_order}
-use Rattle.hot_model.specs.Scans.{is_within}
+use Rattle.finite_map.specs.Maps.{key_order}
+use Rattle.finite_map.specs.Scans.{is_within}
 use Rattle.key_ranges.specs.Ranges.{HasPrefix, last_with}
 use Rattle.key_ranges.specs.Statements.{PrefixIsRange}
 use Rattle.key_ranges.proofs.Above.{AreBytes, none_above, none_below, same_front}

@@ -3,7 +3,7 @@ use Rattle.std.specs.Prelude.{◌≡◌, ◌≢◌, ℕ, ◌-◌, ◌++◌, List
 use Rattle.std.specs.declared.cmp.Ordering.TheVariants.{Less, Greater}
 use Rattle.key_bits.specs.Key.{IsKey}
 use Rattle.key_bits.specs.declared.TheConstants.{MAX_BYTES}
-use Rattle.hot_model.specs.Maps.{key_order}
+use Rattle.finite_map.specs.Maps.{key_order}
 
 -- of the keys above the first one, the other is the least
 pub record IsNextKey (key next : List ℕ) : Type 0 where

@@ -1,7 +1,7 @@
 -- The laws of ranges of keys.
 use Rattle.std.specs.Prelude.{◌↔◌, ℕ, List, IsTrue}
 use Rattle.key_bits.specs.Key.{IsKey}
-use Rattle.hot_model.specs.Scans.{is_within}
+use Rattle.finite_map.specs.Scans.{is_within}
 use Rattle.key_ranges.specs.Ranges.{HasPrefix, last_with}
 
 -- the keys that begin with a prefix are those from the prefix itself to the last key with it

@@ -4,11 +4,11 @@ use Rattle.tries.specs.Keys.{Key}
 use Rattle.compound_node.specs.declared.entries.Entry.{Entry}
 use Rattle.tries.specs.Tree.{Tree, leaf, node, fork, page}
 use Rattle.moments.specs.Heap.{NodeWords, IsCopied}
-use Rattle.moments.specs.State.{rec_of, Spans, last_of, IsLived, Past, Stands, IsLawful, StoodWithKeys}
+use Rattle.moments.specs.State.{rec_of, Spans, last_of, IsLived, Past, Stands, IsLawfulState, StoodWithKeys}
 use Rattle.moments.specs.declared.Rec.{Rec}
 use Rattle.moments.specs.declared.Rec.TheVariants.{Node as a_node, Leaf as a_leaf}
 use Rattle.moments.specs.Frames.{IsGrown}
-use Rattle.moments.specs.Core.{has_seen, InTree, Marked, life_of, Core, pin_moment, view, IsPaced}
+use Rattle.moments.specs.Core.{has_seen, InTree, Marked, life_of, BareCore, pin_moment, view, IsPaced}
 use Rattle.moments.specs.declared.Pin.{Pin}
 
 -- The record was linked at no moment since `m`.
@@ -23,7 +23,7 @@ pub marked_grown : (a b : Past) → IsGrown a b → (m : ℕ) (P : Key → Type 
 marked_grown a b g m P e (n, u, lo, hi, st, pg, f) = (n, u, lo, le_trans hi g.longer, stands_grown a b g n (rec_of e) u hi st, pg, f)
 
 -- A record that may be given back was linked at no moment since a pass's pin.
-pub give_back : (c : Core) → IsLawful (view c) → IsPaced c.shared → (o : ℕ) (r : Rec) (f l s : ℕ) → c.fate r ≡ Marked f l s →
+pub give_back : (c : BareCore) → IsLawfulState (view c) → IsPaced c.shared → (o : ℕ) (r : Rec) (f l s : ℕ) → c.fate r ≡ Marked f l s →
     s < (c.rounds o).bound → (q : ℕ) (p : Pin) → c.pins q ≡ Some p → has_seen (c.rounds o).seen q ≡ true → IsUnlinkedSince c.past p.moment r
 give_back c law pace o r f l s e h q p eq seen n lo hi u st =
     let spans : Spans c.past.now (life_of (Marked f l s)) n =
@@ -32,7 +32,7 @@ give_back c law pace o r f l s e h q p eq seen n lo hi u st =
     elim (pace.marks r f l s e q p eq) [ inl x ↦ absurd (omega arith) | inr x ↦ absurd (omega arith) ]
 
 -- And it isn't linked now.
-pub not_now : (c : Core) → IsLawful (view c) → (r : Rec) (f l s : ℕ) → c.fate r ≡ Marked f l s → IsUnlinkedSince c.past c.past.now r
+pub not_now : (c : BareCore) → IsLawfulState (view c) → (r : Rec) (f l s : ℕ) → c.fate r ≡ Marked f l s → IsUnlinkedSince c.past c.past.now r
 not_now c law r f l s e n lo hi u st =
     let spans : Spans c.past.now (life_of (Marked f l s)) n =
     subst (λ z. Spans c.past.now (life_of z) n) e (law.present n lo hi r u st) in
@@ -40,7 +40,7 @@ not_now c law r f l s e n lo hi u st =
     omega arith
 
 -- A node that is in the tree stands in the newest moment, with the words that it has: what a pass knows of a node that it has locked.
-pub in_tree_now : (c : Core) → IsLawful (view c) → (n f : ℕ) → c.fate (a_node n) ≡ InTree f →
+pub in_tree_now : (c : BareCore) → IsLawfulState (view c) → (n f : ℕ) → c.fate (a_node n) ≡ InTree f →
     (b : Tree) × Stands c.past c.past.now (a_node n) (node n (c.heap.nodes n).fixed b) × (page b ≡ (c.heap.nodes n).page)
 in_tree_now c law n f e = go at_now.0 at_now.1 (law.frozen (a_node n) at_now.0 lasts (subst (λ z. Stands c.past z (a_node n) at_now.0) (sym is_last) at_now.1))
   where

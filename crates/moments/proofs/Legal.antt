@@ -4,11 +4,11 @@ use Rattle.std.proofs.lemmas.Bool.{eq-eqb, eqb-true, cases_Bool, false≢true, o
 use Rattle.compound_node.specs.declared.entries.Entry.{Entry}
 use Rattle.tries.specs.Tree.{Tree, leaf, node, fork}
 use Rattle.moments.specs.Heap.{Heap}
-use Rattle.moments.specs.State.{Out, Links, IsLinked, IsLawful}
+use Rattle.moments.specs.State.{Out, Links, IsLinked, IsLawfulState}
 use Rattle.moments.specs.declared.Rec.{Rec}
 use Rattle.moments.specs.declared.Rec.TheVariants.{Node as a_node, Leaf as a_leaf}
-use Rattle.hot_model.specs.declared.Change.{Change}
-use Rattle.moments.specs.Core.{has_seen, Fate, Free, Held, Ready, InTree, Unlinked, Marked, life_of, Core, pin_moment, view, IsPaced}
+use Rattle.finite_map.specs.declared.Change.{Change}
+use Rattle.moments.specs.Core.{has_seen, Fate, Free, Held, Ready, InTree, Unlinked, Marked, life_of, BareCore, pin_moment, view, IsPaced}
 use Rattle.moments.specs.declared.Pin.{Pin}
 use Rattle.moments.specs.Steps.{same_rec, with_fate, links, is_linked, next_fate, after_publish, IsMomentPublish, after_set_pin, with_pin}
 use Rattle.moments.proofs.Publish.{publish_lawful, IsNext, comes, stays_out, stays, goes, gone}
@@ -58,7 +58,7 @@ next_unlinked now q L (InTree f) n = goes n
 next_unlinked now q L (Unlinked f l p) n = gone n
 next_unlinked now q L (Marked f l s) n = gone n
 
-lives : (c : Core) (q : ℕ) (heap : Heap) (root : Option Entry) (t : Option Tree) (x : Change) → IsMomentPublish c q heap root t x →
+lives : (c : BareCore) (q : ℕ) (heap : Heap) (root : Option Entry) (t : Option Tree) (x : Change) → IsMomentPublish c q heap root t x →
     (r : Rec) → IsNext c.past.now (IsLinked t r) (life_of (c.fate r)) (life_of (next_fate c.past.now q (is_linked t r) (c.fate r)))
 lives c q heap root t x p r = go (linked_cases t r)
   where
@@ -68,14 +68,14 @@ lives c q heap root t x p r = go (linked_cases t r)
     go (inr (l, e)) = rw e (next_unlinked c.past.now q (IsLinked t r) (c.fate r) l)
 
 -- A legal publish keeps the core lawful.
-pub legal_publish_lawful : (c : Core) (q : ℕ) (heap : Heap) (root : Option Entry) (t : Option Tree) (x : Change) →
-    IsLawful (view c) → IsMomentPublish c q heap root t x → IsLawful (view (after_publish c q heap root t x))
+pub legal_publish_lawful : (c : BareCore) (q : ℕ) (heap : Heap) (root : Option Entry) (t : Option Tree) (x : Change) →
+    IsLawfulState (view c) → IsMomentPublish c q heap root t x → IsLawfulState (view (after_publish c q heap root t x))
 legal_publish_lawful c q heap root t x law p =
     publish_lawful (view c) law heap root (λ r. life_of (next_fate c.past.now q (is_linked t r) (c.fate r))) t
     (record { top = p.top; tree = p.tree; near = p.near; kept = p.kept; lives = lives c q heap root t x p })
 
 -- A step at one record that leaves its life keeps the core lawful: Claim, Ready, Release, Mark.
-pub fate_lawful : (c : Core) (r : Rec) (f : Fate) → IsLawful (view c) → life_of f ≡ life_of (c.fate r) → IsLawful (view (record c { shared = with_fate c.shared r f }))
+pub fate_lawful : (c : BareCore) (r : Rec) (f : Fate) → IsLawfulState (view c) → life_of f ≡ life_of (c.fate r) → IsLawfulState (view (record c { shared = with_fate c.shared r f }))
 fate_lawful c r f law e =
     quiet_lawful (view c) law c.heap (λ i. life_of (if same_rec i r then f else c.fate i)) (λ q. pin_moment (c.pins q)) (record {
       nodes = λ n. inr refl;
@@ -93,8 +93,8 @@ pin_of None m e = absurd cc
 pin_of (Some p) m e = (p, refl, let x : p.moment ≡ m = cc in x)
 
 -- GiveBack keeps the core lawful: no pinned pass can find the record.
-pub give_back_lawful : (c : Core) → IsLawful (view c) → IsPaced c.shared → (o : ℕ) (r : Rec) (f l s : ℕ) → c.fate r ≡ Marked f l s →
-    s < (c.rounds o).bound → ((q : ℕ) (p : Pin) → c.pins q ≡ Some p → has_seen (c.rounds o).seen q ≡ true) → IsLawful (view (record c { shared = with_fate c.shared r Free }))
+pub give_back_lawful : (c : BareCore) → IsLawfulState (view c) → IsPaced c.shared → (o : ℕ) (r : Rec) (f l s : ℕ) → c.fate r ≡ Marked f l s →
+    s < (c.rounds o).bound → ((q : ℕ) (p : Pin) → c.pins q ≡ Some p → has_seen (c.rounds o).seen q ≡ true) → IsLawfulState (view (record c { shared = with_fate c.shared r Free }))
 give_back_lawful c law pace o r f l s e h all =
     quiet_lawful (view c) law c.heap (λ i. life_of (if same_rec i r then Free else c.fate i)) (λ q. pin_moment (c.pins q)) (record {
       nodes = λ n. inr refl;
@@ -116,14 +116,14 @@ give_back_lawful c law pace o r f l s e h all =
     at i (inr x) = inl (rw x refl)
 
 -- Fill keeps the core lawful: the record is outside its life.
-pub fill_lawful : (c : Core) (heap : Heap) → IsLawful (view c) → ((n : ℕ) → (life_of (c.fate (a_node n)) ≡ Out) ⊎ (c.heap.nodes n ≡ heap.nodes n)) →
-    ((n : ℕ) → (life_of (c.fate (a_leaf n)) ≡ Out) ⊎ (c.heap.leaves n ≡ heap.leaves n)) → IsLawful (view (record c { heap = heap }))
+pub fill_lawful : (c : BareCore) (heap : Heap) → IsLawfulState (view c) → ((n : ℕ) → (life_of (c.fate (a_node n)) ≡ Out) ⊎ (c.heap.nodes n ≡ heap.nodes n)) →
+    ((n : ℕ) → (life_of (c.fate (a_leaf n)) ≡ Out) ⊎ (c.heap.leaves n ≡ heap.leaves n)) → IsLawfulState (view (record c { heap = heap }))
 fill_lawful c heap law f g =
     quiet_lawful (view c) law heap (λ r. life_of (c.fate r)) (λ q. pin_moment (c.pins q))
     (record { nodes = f; leaves = g; lives = λ r. inl refl; pins = λ q m h. inl h })
 
 -- SetPin keeps the core lawful.
-pub set_pin_lawful : (c : Core) (q : ℕ) → IsLawful (view c) → IsLawful (view (record c { shared = after_set_pin c.shared q (c.rounds q).epoch }))
+pub set_pin_lawful : (c : BareCore) (q : ℕ) → IsLawfulState (view c) → IsLawfulState (view (record c { shared = after_set_pin c.shared q (c.rounds q).epoch }))
 set_pin_lawful c q law =
     quiet_lawful (view c) law c.heap (λ r. life_of (c.fate r)) (λ i. pin_moment ((after_set_pin c.shared q (c.rounds q).epoch).pins i))
     (record { nodes = λ n. inr refl; leaves = λ n. inr refl; lives = λ r. inl refl; pins = λ i m h. at i m (cases_Bool (eqb i q)) h })
@@ -138,7 +138,7 @@ set_pin_lawful c q law =
         let x : Some c.past.now ≡ Some m = rw e at h in inr cc
 
 -- ClearPin keeps the core lawful.
-pub clear_pin_lawful : (c : Core) (q : ℕ) → IsLawful (view c) → IsLawful (view (record c { shared = with_pin c.shared q None }))
+pub clear_pin_lawful : (c : BareCore) (q : ℕ) → IsLawfulState (view c) → IsLawfulState (view (record c { shared = with_pin c.shared q None }))
 clear_pin_lawful c q law =
     quiet_lawful (view c) law c.heap (λ r. life_of (c.fate r)) (λ i. pin_moment ((with_pin c.shared q None).pins i))
     (record { nodes = λ n. inr refl; leaves = λ n. inr refl; lives = λ r. inl refl; pins = λ i m h. at i m (cases_Bool (eqb i q)) h })

@@ -3,10 +3,10 @@ use Rattle.std.proofs.Common.{◌≡◌, ◌⊎◌, ◌≢◌, inl, inr, ℕ, su
 use Rattle.std.proofs.lemmas.Bool.{eqb-true, cases_Bool, false≢true}
 use Rattle.compound_node.specs.declared.entries.Entry.{Entry}
 use Rattle.tries.specs.Tree.{Tree}
-use Rattle.moments.specs.State.{Spans, IsLived, IsLawful, Stands}
+use Rattle.moments.specs.State.{Spans, IsLived, IsLawfulState, Stands}
 use Rattle.moments.specs.declared.Rec.{Rec}
-use Rattle.hot_model.specs.declared.Change.{Change}
-use Rattle.moments.specs.Core.{has_seen, pin_moment, Fate, Free, Held, Ready, InTree, Unlinked, Marked, life_of, Core, view, IsPaced}
+use Rattle.finite_map.specs.declared.Change.{Change}
+use Rattle.moments.specs.Core.{has_seen, pin_moment, Fate, Free, Held, Ready, InTree, Unlinked, Marked, life_of, BareCore, view, IsPaced}
 use Rattle.moments.specs.declared.Pin.{Pin}
 use Rattle.moments.specs.declared.Round.{Round}
 use Rattle.moments.specs.Steps.{with_fate, with_lock, with_anchor, with_epoch, with_pin, same_rec, next_fate, is_linked, published_by, after_set_pin, after_load_epoch, lowered, after_load_pin, after_mark}
@@ -22,11 +22,11 @@ same_pin e = cc
 pub same_mark : {a b c d e f : ℕ} → Marked a b c ≡ Marked d e f → (b ≡ e) × (c ≡ f)
 same_mark e = (cc, cc)
 
-marked_old : (c : Core) → IsLawful (view c) → (r : Rec) (f l s : ℕ) → c.fate r ≡ Marked f l s → l < c.past.now
+marked_old : (c : BareCore) → IsLawfulState (view c) → (r : Rec) (f l s : ℕ) → c.fate r ≡ Marked f l s → l < c.past.now
 marked_old c law r f l s e =
     let x : (f ≤ l) × (l < c.past.now) = subst (λ z. IsLived c.past.now (life_of z)) e (law.lived r) in x.1
 
-pub set_pin_paced : (c : Core) (q : ℕ) → IsLawful (view c) → IsPaced c.shared → IsPaced (after_set_pin c.shared q (c.rounds q).epoch)
+pub set_pin_paced : (c : BareCore) (q : ℕ) → IsLawfulState (view c) → IsPaced c.shared → IsPaced (after_set_pin c.shared q (c.rounds q).epoch)
 set_pin_paced c q law p = record {
   floors = λ i x e. either (λ z. z ≡ Some x → (x.word ≤ x.floor) × (x.floor ≤ c.epoch) × (x.moment ≤ c.past.now)) (nat_eq i q) (Some new) (c.pins i)
       (λ b h. subst (λ z. (z.word ≤ z.floor) × (z.floor ≤ c.epoch) × (z.moment ≤ c.past.now)) (same_pin h) ((p.loads q).0, le_refl c.epoch, le_refl c.past.now))
@@ -46,7 +46,7 @@ set_pin_paced c q law p = record {
     new : Pin
     new = record { word = (c.rounds q).epoch; moment = c.past.now; floor = c.epoch }
 
-pub load_epoch_paced : (c : Core) (q : ℕ) → IsPaced c.shared → IsPaced (after_load_epoch c.shared q)
+pub load_epoch_paced : (c : BareCore) (q : ℕ) → IsPaced c.shared → IsPaced (after_load_epoch c.shared q)
 load_epoch_paced c q p = record {
   floors = p.floors;
   loads = λ i. either (λ (z : Round). (z.epoch ≤ c.epoch) × (z.moment ≤ c.past.now) × (z.bound ≤ z.epoch)) (nat_eq i q) _ (c.rounds i)
@@ -65,7 +65,7 @@ lowered_less b (Some p) = omega arith
 lowered_pin : (b : ℕ) (o : Option Pin) (x : Pin) → o ≡ Some x → x.word ≤ x.floor → lowered b o ≤ x.floor
 lowered_pin b o x e h = rw e (omega arith)
 
-pub load_pin_paced : (c : Core) (q o : ℕ) → IsPaced c.shared → IsPaced (after_load_pin c.shared q o)
+pub load_pin_paced : (c : BareCore) (q o : ℕ) → IsPaced c.shared → IsPaced (after_load_pin c.shared q o)
 load_pin_paced c q o p = record {
   floors = p.floors;
   loads = λ i. either (λ (z : Round). (z.epoch ≤ c.epoch) × (z.moment ≤ c.past.now) × (z.bound ≤ z.epoch)) (nat_eq i q) _ (c.rounds i)
@@ -85,7 +85,7 @@ load_pin_paced c q o p = record {
         go (inr b) = le_trans (lowered_less (c.rounds q).bound (c.pins o)) (p.bounds i q x e (rw b at h))
 
 -- Mark: the pass loaded the epoch after it had unlinked the record.
-pub mark_paced : (c : Core) (q : ℕ) (r : Rec) (f l : ℕ) → l < (c.rounds q).moment → IsPaced c.shared → IsPaced (after_mark c.shared r f l (c.rounds q).epoch)
+pub mark_paced : (c : BareCore) (q : ℕ) (r : Rec) (f l : ℕ) → l < (c.rounds q).moment → IsPaced c.shared → IsPaced (after_mark c.shared r f l (c.rounds q).epoch)
 mark_paced c q r f l late p = record {
   floors = p.floors;
   loads = p.loads;
@@ -114,7 +114,7 @@ next_marked now q false (InTree p) f l s e = absurd cc
 next_marked now q false (Unlinked a b p) f l s e = absurd cc
 next_marked now q false (Marked a b p) f l s e = e
 
-pub publish_paced : (c : Core) (q : ℕ) (root : Option Entry) (t : Option Tree) (x : Change) → IsPaced c.shared → IsPaced (published_by c.shared q root t x)
+pub publish_paced : (c : BareCore) (q : ℕ) (root : Option Entry) (t : Option Tree) (x : Change) → IsPaced c.shared → IsPaced (published_by c.shared q root t x)
 publish_paced c q root t x p = record {
   floors = λ i y e. let z = p.floors i y e in (z.0, z.1, omega arith);
   loads = λ i. let z = p.loads i in (z.0, omega arith, z.2);
@@ -124,7 +124,7 @@ publish_paced c q root t x p = record {
 }
 
 -- A record that gets a fate other than a mark.
-pub fate_paced : (c : Core) (r : Rec) (f : Fate) → ((a b s : ℕ) → f ≡ Marked a b s → ⊥) → IsPaced c.shared → IsPaced (with_fate c.shared r f)
+pub fate_paced : (c : BareCore) (r : Rec) (f : Fate) → ((a b s : ℕ) → f ≡ Marked a b s → ⊥) → IsPaced c.shared → IsPaced (with_fate c.shared r f)
 fate_paced c r f n p = record {
   floors = p.floors;
   loads = p.loads;
@@ -135,13 +135,13 @@ fate_paced c r f n p = record {
 }
 
 -- The epochs don't turn on locks.
-pub lock_paced : (c : Core) (n : ℕ) (o : Option ℕ) → IsPaced c.shared → IsPaced (with_lock c.shared n o)
+pub lock_paced : (c : BareCore) (n : ℕ) (o : Option ℕ) → IsPaced c.shared → IsPaced (with_lock c.shared n o)
 lock_paced c n o p = record { floors = p.floors; loads = p.loads; after = p.after; marks = p.marks; bounds = p.bounds }
 
-pub anchor_paced : (c : Core) (o : Option ℕ) → IsPaced c.shared → IsPaced (with_anchor c.shared o)
+pub anchor_paced : (c : BareCore) (o : Option ℕ) → IsPaced c.shared → IsPaced (with_anchor c.shared o)
 anchor_paced c o p = record { floors = p.floors; loads = p.loads; after = p.after; marks = p.marks; bounds = p.bounds }
 
-pub advance_paced : (c : Core) → IsPaced c.shared → IsPaced (with_epoch c.shared (suc c.epoch))
+pub advance_paced : (c : BareCore) → IsPaced c.shared → IsPaced (with_epoch c.shared (suc c.epoch))
 advance_paced c p = record {
   floors = λ i x e. let z = p.floors i x e in (z.0, omega arith, z.2);
   loads = λ i. let z = p.loads i in (omega arith, z.1, z.2);
@@ -150,7 +150,7 @@ advance_paced c p = record {
   bounds = p.bounds;
 }
 
-pub clear_pin_paced : (c : Core) (q : ℕ) → IsPaced c.shared → IsPaced (with_pin c.shared q None)
+pub clear_pin_paced : (c : BareCore) (q : ℕ) → IsPaced c.shared → IsPaced (with_pin c.shared q None)
 clear_pin_paced c q p = record {
   floors = λ i x e. p.floors i x (old i x e);
   loads = p.loads;
@@ -163,7 +163,7 @@ clear_pin_paced c q p = record {
     old i x e = either (λ z. z ≡ Some x → c.pins i ≡ Some x) (nat_eq i q) None (c.pins i) (λ b h. absurd (let y : None ≡ Some x = h in cc)) (λ b h. h) e
 
 -- No record of a pinned pass's reach is Free or Held.
-pub reach_kept : (c : Core) → IsLawful (view c) → (q : ℕ) (p : Pin) → c.pins q ≡ Some p → (n : ℕ) → p.moment ≤ n → n ≤ c.past.now →
+pub reach_kept : (c : BareCore) → IsLawfulState (view c) → (q : ℕ) (p : Pin) → c.pins q ≡ Some p → (n : ℕ) → p.moment ≤ n → n ≤ c.past.now →
     (r : Rec) (u : Tree) → Stands c.past n r u → (c.fate r ≢ Free) × ((o : ℕ) → c.fate r ≢ Held o)
 reach_kept c law q p e n lo hi r u st =
     let h = law.reach q p.moment (ap pin_moment e) n lo hi r u st in

@@ -4,7 +4,7 @@ use Rattle.std.proofs.lemmas.Bool.{cond-true, cond-false, eq-eqb, ne_eqb, cases_
 use Rattle.compound_node.specs.declared.entries.Entry.{Entry}
 use Rattle.tries.specs.Tree.{Tree, leaf, node, fork, IsTrie, IsBuilt, Within, here, inside, zero_side, one_side}
 use Rattle.moments.specs.Heap.{NodeWords, LeafWords, Heap, IsCopied, IsShown, IsNear}
-use Rattle.moments.specs.State.{IsRecord, Links, Life, Out, Linked, Retired, Spans, last_of, State, Stands, IsSameRecord, IsTop, IsReach, IsLawful, IsLived, with_moment, IsLinked}
+use Rattle.moments.specs.State.{IsRecord, Links, Life, Out, Linked, Retired, Spans, last_of, State, Stands, IsSameRecord, IsTop, IsReach, IsLawfulState, IsLived, with_moment, IsLinked}
 use Rattle.moments.specs.declared.Rec.{Rec}
 use Rattle.moments.specs.declared.Rec.TheVariants.{Node as a_node, Leaf as a_leaf}
 use Rattle.tries.proofs.Tries.{trie_within, built_within, kin_trans}
@@ -157,7 +157,7 @@ top_shown m None (Some u) t i e = elim i [ ]
 top_shown m (Some x) None t i e = elim i [ ]
 top_shown m (Some x) (Some u) t i e = subst (IsShown m) (some_same e) i.1
 
-module _ (s : State) (law : IsLawful s) (heap : Heap) (root : Option Entry) (life : Rec → Life) (t : Option Tree)
+module _ (s : State) (law : IsLawfulState s) (heap : Heap) (root : Option Entry) (life : Rec → Life) (t : Option Tree)
     (p : IsPublish s heap root life t) where
   abbrev o : State
   o = published s heap root life t
@@ -296,7 +296,7 @@ module _ (s : State) (law : IsLawful s) (heap : Heap) (root : Option Entry) (lif
           (down (last_of s.now (s.life r)) r v e.1 (subst (λ i. Stands o.past i r v) x.1 sv))
 
   -- The new state is lawful.
-  pub publish_lawful : IsLawful (published s heap root life t)
+  pub publish_lawful : IsLawfulState (published s heap root life t)
   publish_lawful = record {
     trees = now_trees;
     top = rw (moment_new s.moment (suc s.now) t) p.top;

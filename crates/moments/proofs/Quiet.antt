@@ -3,7 +3,7 @@ use Rattle.std.proofs.Common.{◌≡◌, ◌≢◌, ◌⊎◌, inl, inr, ℕ, re
 use Rattle.compound_node.specs.declared.entries.Entry.{Entry}
 use Rattle.tries.specs.Tree.{Tree, leaf, node, fork, page}
 use Rattle.moments.specs.Heap.{Heap, IsCopied, IsShown}
-use Rattle.moments.specs.State.{IsRecord, Links, Life, Out, Spans, last_of, State, Stands, IsSameRecord, IsTop, IsReach, IsLawful, IsLived}
+use Rattle.moments.specs.State.{IsRecord, Links, Life, Out, Spans, last_of, State, Stands, IsSameRecord, IsTop, IsReach, IsLawfulState, IsLived}
 use Rattle.moments.specs.declared.Rec.{Rec}
 use Rattle.moments.specs.declared.Rec.TheVariants.{Node as a_node, Leaf as a_leaf}
 use Rattle.moments.proofs.Publish.{links_within}
@@ -29,7 +29,7 @@ shown_ext m o (node n h b) e f i = (sym (e n (inl refl)) ∙ i.0, shown_ext m o 
 shown_ext m o (fork p a b) e f i =
     (shown_ext m o a (λ x l. e x (inl l)) (λ x l. f x (inl l)) i.0, shown_ext m o b (λ x l. e x (inr l)) (λ x l. f x (inr l)) i.1)
 
-module _ (s : State) (law : IsLawful s) (heap : Heap) (life : Rec → Life) (pin : ℕ → Option ℕ) (p : IsQuiet s heap life pin) where
+module _ (s : State) (law : IsLawfulState s) (heap : Heap) (life : Rec → Life) (pin : ℕ → Option ℕ) (p : IsQuiet s heap life pin) where
   abbrev o : State
   o = quieted s heap life pin
 
@@ -129,7 +129,7 @@ module _ (s : State) (law : IsLawful s) (heap : Heap) (life : Rec → Life) (pin
       law.same r n u v (subst (λ l. Spans s.now l n) e h) (down n r u su)
       (subst (λ l. Stands s.past (last_of s.now l) r v) e (down (last_of s.now (life r)) r v sv))
 
-  pub quiet_lawful : IsLawful (quieted s heap life pin)
+  pub quiet_lawful : IsLawfulState (quieted s heap life pin)
   quiet_lawful = record {
     trees = law.trees;
     top = top_now s.root (s.moment s.now) refl law.top;

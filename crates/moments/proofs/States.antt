@@ -7,7 +7,7 @@ use Rattle.compound_node.specs.declared.entries.Entry.TheVariants.{Leaf, Node}
 use Rattle.pieces.specs.Piece.{Place, Fork}
 use Rattle.tries.specs.Search.{Follows, child, seek, Kin, tips, forks, between, IsUnder}
 use Rattle.moments.specs.Heap.{NodeWords, IsCopied}
-use Rattle.moments.specs.State.{rec_of, IsRecord, Life, Out, Linked, Retired, Spans, last_of, State, Stands, IsSameRecord, IsReach, IsLawful, IsMissed, IsLed, IsLived, IsFrom, StoodWithKeys, IsSteady}
+use Rattle.moments.specs.State.{rec_of, IsRecord, Life, Out, Linked, Retired, Spans, last_of, State, Stands, IsSameRecord, IsReach, IsLawfulState, IsMissed, IsLed, IsLived, IsFrom, StoodWithKeys, IsSteady}
 use Rattle.moments.specs.declared.Rec.{Rec}
 use Rattle.moments.specs.declared.Rec.TheVariants.{Node as a_node}
 use Rattle.tries.proofs.Tries.{has_within, within_trans, trie_within, built_within, has_first, descend, within_child, page_child, follows_kin, kin_trans, kin_sym, parting}
@@ -30,10 +30,10 @@ record_of_page (Node n g) (leaf m k v) x = absurd cc
 record_of_page (Node n g) (node m h b) x = cc
 record_of_page (Node n g) (fork p a b) x = absurd cc
 
-pub is_trie : (s : State) → IsLawful s → (n : ℕ) (r : Rec) (u : Tree) → n ≤ s.now → (st : Stands s.past n r u) → IsTrie st.tree
+pub is_trie : (s : State) → IsLawfulState s → (n : ℕ) (r : Rec) (u : Tree) → n ≤ s.now → (st : Stands s.past n r u) → IsTrie st.tree
 is_trie s law n r u h st = (law.trees n st.tree h st.is_moment).0
 
-pub is_built : (s : State) → IsLawful s → (n : ℕ) (r : Rec) (u : Tree) → n ≤ s.now → Stands s.past n r u → IsBuilt u
+pub is_built : (s : State) → IsLawfulState s → (n : ℕ) (r : Rec) (u : Tree) → n ≤ s.now → Stands s.past n r u → IsBuilt u
 is_built s law n r u h st = built_within st.within (law.trees n st.tree h st.is_moment).1
 
 node_number : {n o : ℕ} → a_node n ≡ a_node o → n ≡ o
@@ -63,7 +63,7 @@ spans_last now (Linked f) n i h = (i, le_refl now)
 spans_last now (Retired f e) n i h = (i.0, le_refl e)
 
 -- One step of a search at a moment at which the record stands.
-led_down : (s : State) → IsLawful s → (m n o : ℕ) (h : Fixed) (c : Tree) (k : Key) (r : Rec) → m ≤ n → n ≤ s.now → Stands s.past n r (node o h c) →
+led_down : (s : State) → IsLawfulState s → (m n o : ℕ) (h : Fixed) (c : Tree) (k : Key) (r : Rec) → m ≤ n → n ≤ s.now → Stands s.past n r (node o h c) →
     (Follows k c ⊎ IsMissed s.past m k) → IsLed s.past m k (seek k (page c))
 led_down s law m n o h c k r lo hi st f =
     (n, child k c, lo, hi, stands_child s n o h c k r st, page_child k c, go f)
@@ -77,7 +77,7 @@ led_down s law m n o h c k r lo hi st f =
     go (inr x) = inr x
 
 -- The record that a search was led to, at the last moment of its life.
-led_last : (s : State) → IsLawful s → (m : ℕ) → (k : Key) (n x : ℕ) (g : Fixed) (o : ℕ) (b : Tree) → m ≤ o → o ≤ s.now →
+led_last : (s : State) → IsLawfulState s → (m : ℕ) → (k : Key) (n x : ℕ) (g : Fixed) (o : ℕ) (b : Tree) → m ≤ o → o ≤ s.now →
     Spans s.now (s.life (a_node n)) o → Stands s.past o (a_node n) (node x g b) → (Follows k b ⊎ IsMissed s.past m k) →
     (u : Tree) → Stands s.past (last_of s.now (s.life (a_node n))) (a_node n) u → IsLed s.past m k (seek k (s.heap.nodes n).page)
 led_last s law m k n x g o b lo hi spans st f u t =
@@ -100,7 +100,7 @@ led_last s law m k n x g o b lo hi spans st f u t =
         carried (inr h) = inr h
 
 -- A key's search through a record that it was led to, by the words as they are now, is led to the child.
-pub hindsight : (s : State) → IsLawful s → (m : ℕ) → IsReach s m → (k : Key) (n h : ℕ) →
+pub hindsight : (s : State) → IsLawfulState s → (m : ℕ) → IsReach s m → (k : Key) (n h : ℕ) →
     IsLed s.past m k (Node n h) → IsLed s.past m k (seek k (s.heap.nodes n).page)
 hindsight s law m reach k n h (o, leaf x l v, a, b, st, e, f) = absurd cc
 hindsight s law m reach k n h (o, fork x l v, a, b, st, e, f) = absurd cc
@@ -110,7 +110,7 @@ hindsight s law m reach k n h (o, node x g b, lo, hi, st, e, f) =
     led_last s law m k n x g o b lo hi spans st f at_last.0 at_last.1
 
 -- Keys below two entries of a record part at the fork between them, at whichever moments of its life.
-pub state_parting : (s : State) → IsLawful s → (r : Rec) (n o x y : ℕ) (g h : Fixed) (b c : Tree) → n ≤ s.now → o ≤ s.now →
+pub state_parting : (s : State) → IsLawfulState s → (r : Rec) (n o x y : ℕ) (g h : Fixed) (b c : Tree) → n ≤ s.now → o ≤ s.now →
     Spans s.now (s.life r) n → Spans s.now (s.life r) o → Stands s.past n r (node x g b) → Stands s.past o r (node y h c) →
     (i j : ℕ) → i < j → (k l : Key) → IsUnder b i k → IsUnder c j l → IsParted (between (page b) i j) k l
 state_parting s law r n o x y g h b c bn bo sn so tn tp i j lt k l u v =
@@ -149,7 +149,7 @@ taken_child k (node n x b) i y h = tt
 taken_child k (fork p a b) i y h = taken_fork k p a b i (taken_child k a i.0) (taken_child k b i.1) y h
 
 -- What the keys of a node have, and what turns on the bits before its first fork, the keys of the search's child have too.
-pub stem_down : (s : State) → IsLawful s → (m : ℕ) → IsReach s m → (p : ℕ) (P : Key → Type 0) → TurnsBelow p P → (k : Key) (n h : ℕ) →
+pub stem_down : (s : State) → IsLawfulState s → (m : ℕ) → IsReach s m → (p : ℕ) (P : Key → Type 0) → TurnsBelow p P → (k : Key) (n h : ℕ) →
     IsFrom p (s.heap.nodes n).page → StoodWithKeys s.past m P (Node n h) →
     StoodWithKeys s.past m (λ y. P y × IsTaken k (s.heap.nodes n).page y) (seek k (s.heap.nodes n).page)
 stem_down s law m reach p P local k n h from (o, leaf y l v, a, b, st, e, f) = absurd cc
@@ -204,7 +204,7 @@ same_join (node n k v) (fork m l w) t f g = absurd g
 same_join (fork n k v) u t f g = absurd f
 
 -- What is in reach keeps its fixed words and stems.
-pub steady : (s : State) → IsLawful s → (m : ℕ) → IsReach s m → IsSteady s.past m
+pub steady : (s : State) → IsLawfulState s → (m : ℕ) → IsReach s m → IsSteady s.past m
 steady s law m reach = record {
   trees = law.trees;
   same = λ r n o u v ln hn lo ho st su.

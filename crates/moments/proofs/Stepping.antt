@@ -1,22 +1,22 @@
 -- Each step keeps the whole core lawful.
 use Rattle.std.proofs.Common.{◌≡◌, ◌⊎◌, ◌≢◌, inl, inr, ℕ, true, false, if◌then◌else◌, refl, ap, sym, ◌∙◌, subst, Option, Some, None, eqb, [], take, ◌≤◌, arith, le_refl}
 use Rattle.std.proofs.lemmas.Bool.{cases_Bool, false≢true, eqb-true}
-use Rattle.hot_model.specs.declared.Change.{Change}
+use Rattle.finite_map.specs.declared.Change.{Change}
 use Rattle.compound_node.specs.declared.entries.Entry.{Entry}
 use Rattle.tries.specs.Tree.{Tree}
 use Rattle.moments.specs.Heap.{Heap}
 use Rattle.moments.specs.State.{Out, IsLinked, Stands, IsSameRecord}
 use Rattle.moments.specs.declared.Rec.{Rec}
 use Rattle.moments.specs.declared.Rec.TheVariants.{Node as a_node, Leaf as a_leaf}
-use Rattle.moments.specs.Core.{Fate, Free, Held, Ready, InTree, Unlinked, Marked, life_of, Core, view, pin_moment}
+use Rattle.moments.specs.Core.{Fate, Free, Held, Ready, InTree, Unlinked, Marked, life_of, BareCore, view, pin_moment}
 use Rattle.moments.specs.declared.Pin.{Pin}
-use Rattle.moments.specs.Steps.{opening, same_rec, with_fate, is_linked, next_fate, IsMomentPublish, with_lock, unlocked, after_mark, FillsOnly, IsLockable, IsLawfulCore, IsStep, claims, fills, readies, releases, locks_anchor, unlocks_anchor, locks, unlocks, publishes, marks, loads_epoch, advances, pins, unpins, loads_pin, gives_back}
+use Rattle.moments.specs.Steps.{bare_opening, same_rec, with_fate, is_linked, next_fate, IsMomentPublish, with_lock, unlocked, after_mark, FillsOnly, IsLockable, IsLawfulCore, IsCoreStep, claims, fills, readies, releases, locks_anchor, unlocks_anchor, locks, unlocks, publishes, marks, loads_epoch, advances, pins, unpins, loads_pin, gives_back}
 use Rattle.moments.proofs.Legal.{same_rec_refl, same_rec_true, linked_cases, legal_publish_lawful, fate_lawful, give_back_lawful, fill_lawful, set_pin_lawful, clear_pin_lawful}
 use Rattle.moments.proofs.Pace.{set_pin_paced, load_epoch_paced, load_pin_paced, mark_paced, publish_paced, fate_paced, lock_paced, anchor_paced, advance_paced, clear_pin_paced, reach_kept}
 use Rattle.moments.proofs.Telling.{publish_told, content_in_order}
 use Rattle.moments.proofs.Stored.{opening_lawful}
-use Rattle.hot_model.specs.Fronts.{map_of}
-use Rattle.hot_model.specs.Maps.{IsRising}
+use Rattle.finite_map.specs.Fronts.{map_of}
+use Rattle.finite_map.specs.Maps.{IsRising}
 use Rattle.moments.specs.Told.{content}
 use Rattle.moments.proofs.States.{steady}
 
@@ -27,7 +27,7 @@ none_some : {q : ℕ} → None ≡ Some q → ⊥
 none_some e = cc
 
 -- A record that no pass can have locked gets another fate.
-fate_locked : (c : Core) (r : Rec) (f g : Fate) → IsLawfulCore c → c.fate r ≡ g → ((q : ℕ) → IsLockable q g → ⊥) → (n q : ℕ) → c.lock n ≡ Some q → IsLockable q ((with_fate c.shared r f).fate (a_node n))
+fate_locked : (c : BareCore) (r : Rec) (f g : Fate) → IsLawfulCore c → c.fate r ≡ g → ((q : ℕ) → IsLockable q g → ⊥) → (n q : ℕ) → c.lock n ≡ Some q → IsLockable q ((with_fate c.shared r f).fate (a_node n))
 fate_locked c r f g law e none n q l = go (cases_Bool (same_rec (a_node n) r))
   where
     old : IsLockable q (c.fate (a_node n))
@@ -37,7 +37,7 @@ fate_locked c r f g law e none n q l = go (cases_Bool (same_rec (a_node n) r))
     go (inl h) = absurd (none q (subst (IsLockable q) (ap c.fate (same_rec_true (a_node n) r h) ∙ e) old))
     go (inr h) = rw h old
 
-module _ (c : Core) (q : ℕ) (law : IsLawfulCore c) where
+module _ (c : BareCore) (q : ℕ) (law : IsLawfulCore c) where
   fate_step : (r : Rec) (f g : Fate) → c.fate r ≡ g → ((p : ℕ) → IsLockable p g → ⊥) → life_of f ≡ life_of g → ((a b s : ℕ) → f ≡ Marked a b s → ⊥) → IsLawfulCore (record c { shared = with_fate c.shared r f })
   fate_step r f g e none life unmarked = record {
     state = fate_lawful c r f law.state (life ∙ sym (ap life_of e));
@@ -102,7 +102,7 @@ free_marked : {a b s : ℕ} → Free ≡ Marked a b s → ⊥
 free_marked e = cc
 
 -- Each step keeps the whole core lawful.
-pub step_lawful : (c : Core) (q : ℕ) (d : Core) → IsLawfulCore c → IsStep c q d → IsLawfulCore d
+pub step_lawful : (c : BareCore) (q : ℕ) (d : BareCore) → IsLawfulCore c → IsCoreStep c q d → IsLawfulCore d
 step_lawful c q d law (claims r e) = fate_step c q law r (Held q) Free e (λ p m. m) refl (λ a b s z. not_marked z)
 step_lawful c q d law (fills r heap e f) = fill_step c q law r heap e f
 step_lawful c q d law (readies r e) = fate_step c q law r (Ready q) (Held q) e (λ p m. m) refl (λ a b s z. ready_marked z)
@@ -136,7 +136,7 @@ step_lawful c q d law (gives_back r f l s e b all) = record {
 }
 
 -- The opening core is lawful.
-pub opening_core : (heap : Heap) → IsLawfulCore (opening heap)
+pub opening_core : (heap : Heap) → IsLawfulCore (bare_opening heap)
 opening_core heap = record {
   state = opening_lawful heap (λ q. None);
   paced = record {
@@ -157,16 +157,16 @@ opening_core heap = record {
     empty n h = let e : n ≡ 0 = omega arith in rw e refl
 
 -- The content of each moment is the map of the changes before it, in strict key order.
-pub content_is_map : (c : Core) → IsLawfulCore c → (n : ℕ) → n ≤ c.past.now →
+pub content_is_map : (c : BareCore) → IsLawfulCore c → (n : ℕ) → n ≤ c.past.now →
     (content (c.past.moment n) ≡ map_of (take n c.changes)) × IsRising (content (c.past.moment n))
 content_is_map c law n h = (law.told.content_is n h, content_in_order (c.past.moment n) (λ t e. (law.state.trees n t h e).0))
 
 -- No record of a pinned pass's reach is Free or Held.
-pub core_reach : (c : Core) → IsLawfulCore c → (q : ℕ) (p : Pin) → c.pins q ≡ Some p → (n : ℕ) → p.moment ≤ n → n ≤ c.past.now →
+pub core_reach : (c : BareCore) → IsLawfulCore c → (q : ℕ) (p : Pin) → c.pins q ≡ Some p → (n : ℕ) → p.moment ≤ n → n ≤ c.past.now →
     (r : Rec) (u : Tree) → Stands c.past n r u → (c.fate r ≢ Free) × ((o : ℕ) → c.fate r ≢ Held o)
 core_reach c law = reach_kept c law.state
 
 -- What is in reach keeps its fixed words and stems.
-pub core_steady : (c : Core) → IsLawfulCore c → (q : ℕ) (p : Pin) → c.pins q ≡ Some p → (r : Rec) (n o : ℕ) (u v : Tree) →
+pub core_steady : (c : BareCore) → IsLawfulCore c → (q : ℕ) (p : Pin) → c.pins q ≡ Some p → (r : Rec) (n o : ℕ) (u v : Tree) →
     p.moment ≤ n → n ≤ c.past.now → p.moment ≤ o → o ≤ c.past.now → Stands c.past n r u → Stands c.past o r v → IsSameRecord u v
 core_steady c law q p e = (steady (view c) law.state p.moment (law.state.reach q p.moment (ap pin_moment e))).same

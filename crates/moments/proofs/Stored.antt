@@ -5,7 +5,7 @@ use Rattle.tries.specs.Tree.{Fixed, Tree, leaf, node, fork, Has, IsTrie, IsFork,
 use Rattle.compound_node.specs.declared.entries.Entry.TheVariants.{Node}
 use Rattle.pieces.specs.Piece.{Place}
 use Rattle.moments.specs.Heap.{NodeWords, Heap, IsShown}
-use Rattle.moments.specs.State.{IsRecord, Links, Out, IsLawful}
+use Rattle.moments.specs.State.{IsRecord, Links, Out, IsLawfulState}
 use Rattle.moments.specs.declared.Rec.TheVariants.{Node as a_node}
 use Rattle.tries.proofs.Changes.{put}
 use Rattle.tries.proofs.Tries.{has_first, has_within}
@@ -84,7 +84,7 @@ put_shown m o n x b c (one_side {p = p} {a = a} {b = d} w) i j k f g s = (
 
 -- The opening state is lawful; until records are given back each pass counts as pinned at moment 0.
 pub opening_lawful : (heap : Heap) (pin : ℕ → Option ℕ) →
-    IsLawful (record { heap = heap; root = None; past = record { now = 0; moment = λ n. None }; life = λ r. Out; pin = pin })
+    IsLawfulState (record { heap = heap; root = None; past = record { now = 0; moment = λ n. None }; life = λ r. Out; pin = pin })
 opening_lawful heap pin = record {
   trees = λ n t h e. absurd cc;
   top = tt;

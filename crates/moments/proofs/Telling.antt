@@ -2,23 +2,23 @@
 use Rattle.std.proofs.Common.{◌≡◌, ◌⊎◌, inl, inr, ℕ, suc, ◌<◌, ◌≤◌, List, [], ◌∷◌, ◌++◌, length, take, refl, ap, sym, ◌∙◌, subst, arith, Option, Some, None, le_refl}
 use Rattle.std.proofs.lemmas.Bool.{cases_lt}
 use Rattle.std.proofs.lemmas.List.{take-append-le, take_all, length-append}
-use Rattle.hot_model.specs.declared.Change.{Change}
-use Rattle.hot_model.specs.declared.Kind.{Kind}
-use Rattle.hot_model.specs.declared.Kind.TheVariants.{Added, Replaced, Removed}
-use Rattle.hot_model.specs.Maps.{value_at, IsRising as IsInOrder}
-use Rattle.hot_model.specs.Fronts.{map_of, changed, changed_by, FitsKind, Fits}
+use Rattle.finite_map.specs.declared.Change.{Change}
+use Rattle.finite_map.specs.declared.Kind.{Kind}
+use Rattle.finite_map.specs.declared.Kind.TheVariants.{Added, Replaced, Removed}
+use Rattle.finite_map.specs.Maps.{value_at, IsRising as IsInOrder}
+use Rattle.finite_map.specs.Fronts.{map_of, changed, changed_by, FitsKind, Fits}
 use Rattle.compound_node.specs.declared.entries.Entry.{Entry}
 use Rattle.tries.specs.Tree.{Tree, IsTrie}
 use Rattle.tries.specs.Content.{Item, pairs}
 use Rattle.tries.proofs.Contents.{content_rises, IsRising}
 use Rattle.tries.proofs.Maps.{AreKeys, are_keys, pairs_rise, more_inserts, more_was_absent, more_removes, more_was_held, exchange_inserts, exchange_was_held}
 use Rattle.moments.specs.Heap.{Heap}
-use Rattle.moments.specs.State.{IsLawful}
-use Rattle.moments.specs.Core.{Core, view}
+use Rattle.moments.specs.State.{IsLawfulState}
+use Rattle.moments.specs.Core.{BareCore, view}
 use Rattle.moments.specs.Told.{items_of, content, item_of, IsChanged, IsChange, TellChanges}
 use Rattle.moments.specs.Steps.{after_publish, IsMomentPublish}
 use Rattle.moments.proofs.Publish.{moment_old, moment_new}
-use Rattle.hot_model.proofs.Growth.{map_of-push, legal_front_push}
+use Rattle.finite_map.proofs.Growth.{map_of-push, legal_front_push}
 
 -- A change of the leaves is the change of the map, and is legal on it.
 changed_pairs : (k : Kind) (x : Item) (xs ys : List Item) → IsChanged k x xs ys → IsRising xs → AreKeys xs → IsRising ys → AreKeys ys →
@@ -48,7 +48,7 @@ changed_content s x t i j (n, m) =
     changed_pairs x.kind (item_of n x) (items_of s) (items_of t) m (items_rise s i) (items_are_keys s i) (items_rise t j) (items_are_keys t j)
 
 -- After a legal publish the moments tell the changes, with this one at the end.
-pub publish_told : (c : Core) (q : ℕ) (heap : Heap) (root : Option Entry) (t : Option Tree) (x : Change) → IsLawful (view c) → TellChanges c.past c.changes →
+pub publish_told : (c : BareCore) (q : ℕ) (heap : Heap) (root : Option Entry) (t : Option Tree) (x : Change) → IsLawfulState (view c) → TellChanges c.past c.changes →
     IsMomentPublish c q heap root t x → TellChanges (after_publish c q heap root t x).past (after_publish c q heap root t x).changes
 publish_told c q heap root t x law told l = record {
   count = rw length-append (let e = told.count in omega arith);

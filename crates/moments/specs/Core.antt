@@ -2,7 +2,7 @@
 use Rattle.moments.specs.declared.Pin.{Pin}
 use Rattle.moments.specs.declared.Round.{Round}
 use Rattle.std.specs.Prelude.{◌≡◌, ◌⊎◌, ℕ, ◌<◌, ◌≤◌, List, [], ◌∷◌, Option, Some, None, Bool, true, false, if◌then◌else◌, nat_eq}
-use Rattle.hot_model.specs.declared.Change.{Change}
+use Rattle.finite_map.specs.declared.Change.{Change}
 use Rattle.compound_node.specs.declared.entries.Entry.{Entry}
 use Rattle.moments.specs.Heap.{Heap}
 use Rattle.moments.specs.State.{Life, Out, Linked, Retired, Past, State}
@@ -43,7 +43,7 @@ pub record Shared : Type 0 where
   pub rounds : ℕ → Round
 
 -- And what the words of the records say.
-pub record Core : Type 0 where
+pub record BareCore : Type 0 where
   pub heap : Heap
   pub shared : Shared
   pub open shared use *
@@ -53,7 +53,7 @@ pin_moment None = None
 pin_moment (Some p) = Some p.moment
 
 -- The core without locks and epochs.
-abbrev pub view : Core → State
+abbrev pub view : BareCore → State
 view c = record { heap = c.heap; root = c.root; past = c.past; life = λ r. life_of (c.fate r); pin = λ q. pin_moment (c.pins q) }
 
 -- The epochs: a retired record's mark is not below the epoch at which a pass was pinned that may have found it linked.

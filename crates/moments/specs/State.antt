@@ -87,7 +87,7 @@ IsTop m (Some e) (Some t) = (page t ≡ Place e) × IsShown m t
 abbrev pub IsReach : State → ℕ → Type 0
 IsReach s m = (n : ℕ) → m ≤ n → n ≤ s.now → (r : Rec) (u : Tree) → Stands s.past n r u → Spans s.now (s.life r) n
 
-pub record IsLawful (s : State) : Type 0 where
+pub record IsLawfulState (s : State) : Type 0 where
   pub trees : (n : ℕ) (t : Tree) → n ≤ s.now → s.moment n ≡ Some t → IsTrie t × IsBuilt t
   pub top : IsTop s.heap s.root (s.moment s.now)
   pub lived : (r : Rec) → IsLived s.now (s.life r)

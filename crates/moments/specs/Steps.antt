@@ -3,12 +3,12 @@ use Rattle.std.specs.Prelude.{◌<◌, ◌≡◌, ◌⊎◌, ◌≢◌, ◌||◌
 use Rattle.compound_node.specs.declared.entries.Entry.{Entry}
 use Rattle.tries.specs.Tree.{Tree, leaf, node, fork, IsTrie, IsBuilt}
 use Rattle.moments.specs.Heap.{Heap, IsNear}
-use Rattle.moments.specs.State.{IsLinked, IsTop, with_moment, IsLawful}
+use Rattle.moments.specs.State.{IsLinked, IsTop, with_moment, IsLawfulState}
 use Rattle.moments.specs.declared.Rec.{Rec}
 use Rattle.moments.specs.declared.Rec.TheVariants.{Node as a_node, Leaf as a_leaf}
-use Rattle.hot_model.specs.declared.Change.{Change}
+use Rattle.finite_map.specs.declared.Change.{Change}
 use Rattle.moments.specs.Told.{IsChange, TellChanges}
-use Rattle.moments.specs.Core.{Fate, Free, Held, Ready, InTree, Unlinked, Marked, has_seen, view, IsPaced, Shared, Core}
+use Rattle.moments.specs.Core.{Fate, Free, Held, Ready, InTree, Unlinked, Marked, has_seen, view, IsPaced, Shared, BareCore}
 use Rattle.moments.specs.declared.Pin.{Pin}
 use Rattle.moments.specs.declared.Round.{Round}
 
@@ -43,7 +43,7 @@ next_fate now q false (Unlinked f l p) = Unlinked f l p
 next_fate now q false (Marked f l s) = Marked f l s
 
 -- What the publish stores: the root entry, under the anchor's lock; or an entry of a node under its lock.
-pub data IsStore (c : Core) (q : ℕ) (heap : Heap) (root : Option Entry) : Type 0 where
+pub data IsStore (c : BareCore) (q : ℕ) (heap : Heap) (root : Option Entry) : Type 0 where
   at_root : c.anchor ≡ Some q → heap ≡ c.heap → IsStore c q heap root
   at_slot : (n : ℕ) → c.lock n ≡ Some q → ((m : ℕ) → m ≢ n → heap.nodes m ≡ c.heap.nodes m) →
       ((m : ℕ) → heap.leaves m ≡ c.heap.leaves m) → root ≡ c.root → IsStore c q heap root
@@ -58,7 +58,7 @@ pub record IsNextMoment (s : Shared) (q : ℕ) (heap : Heap) (root : Option Entr
   pub change : IsChange (s.past.moment s.past.now) x t
 
 -- The publish is legal: it stores one entry, under its lock, in a node that is linked then; and it makes the next moment.
-pub record IsMomentPublish (c : Core) (q : ℕ) (heap : Heap) (root : Option Entry) (t : Option Tree) (x : Change) : Type 0 where
+pub record IsMomentPublish (c : BareCore) (q : ℕ) (heap : Heap) (root : Option Entry) (t : Option Tree) (x : Change) : Type 0 where
   pub store : IsStore c q heap root
   pub near : IsNear c.heap heap
   pub kept : (n : ℕ) → IsLinked t (a_node n) ⊎ (c.heap.nodes n ≡ heap.nodes n)
@@ -123,7 +123,7 @@ published_by s q root t x = record s {
   fate = λ r. next_fate s.past.now q (is_linked t r) (s.fate r);
 }
 
-abbrev pub after_publish : Core → ℕ → Heap → Option Entry → Option Tree → Change → Core
+abbrev pub after_publish : BareCore → ℕ → Heap → Option Entry → Option Tree → Change → BareCore
 after_publish c q heap root t x = record { heap = heap; shared = published_by c.shared q root t x }
 
 -- From one heap to the next the words of record `r` alone change.
@@ -132,30 +132,30 @@ pub record FillsOnly (m o : Heap) (r : Rec) : Type 0 where
   pub leaves : (n : ℕ) → r ≢ a_leaf n → m.leaves n ≡ o.leaves n
 
 -- Each pinned pass's pin was loaded in the round.
-abbrev pub HasSeenAll : Core → Round → Type 0
+abbrev pub HasSeenAll : BareCore → Round → Type 0
 HasSeenAll c o = (i : ℕ) (p : Pin) → c.pins i ≡ Some p → has_seen o.seen i ≡ true
 
 -- A step of pass `q` that changes the core, and what it makes of it. All other steps are loads and failed exchanges,
 -- which change nothing.
-pub data IsStep (c : Core) (q : ℕ) : Core → Type 0 where
-  claims : (r : Rec) → c.fate r ≡ Free → IsStep c q (record c { shared = with_fate c.shared r (Held q) })
-  fills : (r : Rec) (heap : Heap) → c.fate r ≡ Held q → FillsOnly c.heap heap r → IsStep c q (record c { heap = heap })
-  readies : (r : Rec) → c.fate r ≡ Held q → IsStep c q (record c { shared = with_fate c.shared r (Ready q) })
-  releases : (r : Rec) → c.fate r ≡ Held q → IsStep c q (record c { shared = with_fate c.shared r Free })
-  locks_anchor : c.anchor ≡ None → IsStep c q (record c { shared = with_anchor c.shared (Some q) })
-  unlocks_anchor : c.anchor ≡ Some q → IsStep c q (record c { shared = with_anchor c.shared None })
-  locks : (n since : ℕ) → c.lock n ≡ None → c.fate (a_node n) ≡ InTree since → IsStep c q (record c { shared = with_lock c.shared n (Some q) })
-  unlocks : (n since : ℕ) → c.lock n ≡ Some q → c.fate (a_node n) ≡ InTree since → IsStep c q (record c { shared = with_lock c.shared n None })
-  publishes : (heap : Heap) (root : Option Entry) (t : Option Tree) (x : Change) → IsMomentPublish c q heap root t x → IsStep c q (after_publish c q heap root t x)
+pub data IsCoreStep (c : BareCore) (q : ℕ) : BareCore → Type 0 where
+  claims : (r : Rec) → c.fate r ≡ Free → IsCoreStep c q (record c { shared = with_fate c.shared r (Held q) })
+  fills : (r : Rec) (heap : Heap) → c.fate r ≡ Held q → FillsOnly c.heap heap r → IsCoreStep c q (record c { heap = heap })
+  readies : (r : Rec) → c.fate r ≡ Held q → IsCoreStep c q (record c { shared = with_fate c.shared r (Ready q) })
+  releases : (r : Rec) → c.fate r ≡ Held q → IsCoreStep c q (record c { shared = with_fate c.shared r Free })
+  locks_anchor : c.anchor ≡ None → IsCoreStep c q (record c { shared = with_anchor c.shared (Some q) })
+  unlocks_anchor : c.anchor ≡ Some q → IsCoreStep c q (record c { shared = with_anchor c.shared None })
+  locks : (n since : ℕ) → c.lock n ≡ None → c.fate (a_node n) ≡ InTree since → IsCoreStep c q (record c { shared = with_lock c.shared n (Some q) })
+  unlocks : (n since : ℕ) → c.lock n ≡ Some q → c.fate (a_node n) ≡ InTree since → IsCoreStep c q (record c { shared = with_lock c.shared n None })
+  publishes : (heap : Heap) (root : Option Entry) (t : Option Tree) (x : Change) → IsMomentPublish c q heap root t x → IsCoreStep c q (after_publish c q heap root t x)
   marks : (r : Rec) (since last : ℕ) → c.fate r ≡ Unlinked since last q → last < (c.rounds q).moment →
-      IsStep c q (record c { shared = after_mark c.shared r since last (c.rounds q).epoch })
-  loads_epoch : IsStep c q (record c { shared = after_load_epoch c.shared q })
-  advances : IsStep c q (record c { shared = with_epoch c.shared (suc c.epoch) })
-  pins : c.pins q ≡ None → IsStep c q (record c { shared = after_set_pin c.shared q (c.rounds q).epoch })
-  unpins : (p : Pin) → c.pins q ≡ Some p → IsStep c q (record c { shared = with_pin c.shared q None })
-  loads_pin : (o : ℕ) → IsStep c q (record c { shared = after_load_pin c.shared q o })
+      IsCoreStep c q (record c { shared = after_mark c.shared r since last (c.rounds q).epoch })
+  loads_epoch : IsCoreStep c q (record c { shared = after_load_epoch c.shared q })
+  advances : IsCoreStep c q (record c { shared = with_epoch c.shared (suc c.epoch) })
+  pins : c.pins q ≡ None → IsCoreStep c q (record c { shared = after_set_pin c.shared q (c.rounds q).epoch })
+  unpins : (p : Pin) → c.pins q ≡ Some p → IsCoreStep c q (record c { shared = with_pin c.shared q None })
+  loads_pin : (o : ℕ) → IsCoreStep c q (record c { shared = after_load_pin c.shared q o })
   gives_back : (r : Rec) (since last epoch : ℕ) → c.fate r ≡ Marked since last epoch → epoch < (c.rounds q).bound → HasSeenAll c (c.rounds q) →
-      IsStep c q (record c { shared = with_fate c.shared r Free })
+      IsCoreStep c q (record c { shared = with_fate c.shared r Free })
 
 -- A locked node is in the tree, or its lock's pass has unlinked it.
 abbrev pub IsLockable : ℕ → Fate → Type 0
@@ -164,8 +164,8 @@ IsLockable q (Unlinked since last p) = p ≡ q
 IsLockable q f = ⊥
 
 -- The core is lawful: as a state, in its epochs and its locks, and its moments tell its changes.
-pub record IsLawfulCore (c : Core) : Type 0 where
-  pub state : IsLawful (view c)
+pub record IsLawfulCore (c : BareCore) : Type 0 where
+  pub state : IsLawfulState (view c)
   pub paced : IsPaced c.shared
   pub told : TellChanges c.past c.changes
   pub locked : (n q : ℕ) → c.lock n ≡ Some q → IsLockable q (c.fate (a_node n))
@@ -184,5 +184,5 @@ at_first = record {
   rounds = λ q. record { epoch = 0; moment = 0; bound = 0; seen = [] };
 }
 
-abbrev pub opening : Heap → Core
-opening heap = record { heap = heap; shared = at_first }
+abbrev pub bare_opening : Heap → BareCore
+bare_opening heap = record { heap = heap; shared = at_first }

@@ -1,10 +1,10 @@
 -- The content of a moment, and how the moments tell the changes.
 use Rattle.std.specs.Prelude.{◌≡◌, ℕ, ◌≤◌, List, [], length, take, Option, Some, None}
-use Rattle.hot_model.specs.declared.Change.{Change}
-use Rattle.hot_model.specs.declared.Kind.{Kind}
-use Rattle.hot_model.specs.declared.Kind.TheVariants.{Added, Replaced, Removed}
-use Rattle.hot_model.specs.Maps.{Map}
-use Rattle.hot_model.specs.Fronts.{map_of, LegalFront}
+use Rattle.finite_map.specs.declared.Change.{Change}
+use Rattle.finite_map.specs.declared.Kind.{Kind}
+use Rattle.finite_map.specs.declared.Kind.TheVariants.{Added, Replaced, Removed}
+use Rattle.finite_map.specs.Maps.{Map}
+use Rattle.finite_map.specs.Fronts.{map_of, LegalFront}
 use Rattle.tries.specs.Tree.{Tree}
 use Rattle.tries.specs.Content.{Item, items, pairs, IsMore, IsExchange}
 use Rattle.moments.specs.State.{Past}

@@ -1,20 +1,20 @@
 //! The laws of the core. The functions do nothing: their contracts are the laws.
 
-ghost use Rattle.moments.specs.Statements.{ContentIsMap, Hindsight, OpeningIsLawful, Parting, ReachIsKept, ReachIsSteady, StepKeepsLawful};
+ghost use Rattle.moments.specs.Statements.{ContentIsMap, StateHindsight, BareOpeningIsLawful, StateParting, BareReachIsKept, ReachIsSteady, StepKeepsLawful};
 
 /// A search that goes on at a record goes on at what it finds there, whatever has been published since.
 pub fn hindsight()
-    ensures { Hindsight }
+    ensures { StateHindsight }
 {}
 
 /// Keys below two entries of a record part at the fork between them.
 pub fn parting()
-    ensures { Parting }
+    ensures { StateParting }
 {}
 
 /// The opening core is lawful.
 pub fn opening_is_lawful()
-    ensures { OpeningIsLawful }
+    ensures { BareOpeningIsLawful }
 {}
 
 /// Each legal step keeps the core lawful.
@@ -29,7 +29,7 @@ pub fn content_is_map()
 
 /// No record of a pinned pass's reach is Free or Held.
 pub fn reach_is_kept()
-    ensures { ReachIsKept }
+    ensures { BareReachIsKept }
 {}
 
 /// What a pass loads of a record of its reach, states and entries aside, is of one content.

@@ -9,7 +9,7 @@ use Rattle.partial_keys.proofs.Codes.{code-join}
 use Rattle.partial_keys.proofs.Reading.{row, row-set}
 use Rattle.partial_keys.specs.Rows.{row_of}
 use Rattle.partial_keys.specs.Runs.{agree_in, IsRunStart, IsRunEnd}
-use Rattle.partial_keys.specs.Shows.{Shows}
+use Rattle.partial_keys.specs.Shows.{ShowsPiece}
 use Rattle.pieces.proofs.Affected.{within, within_past, within_before, within_shift, within_all, within_in, within_true, rises_after, whole_first}
 use Rattle.pieces.proofs.Growing.{affected_fits}
 use Rattle.pieces.proofs.Paths.{NoneHas, only_path, length-paths, paths-left, paths-right, none_before}
@@ -94,7 +94,7 @@ row_high xs ys z few =
     ∙ (rw n refl) in
     ap (λ m. m / 2 ^ k) e ∙ shr_high high k low (code-lt k (map (has z) ys))
 
-module _ {A : Type 0} (cs rows : List ℕ) (es : List A) (Q : Piece A) (p found n first last : ℕ) (sh : Shows cs rows es Q) (place : IsPlaceOf cs p n) (here : found < size Q)
+module _ {A : Type 0} (cs rows : List ℕ) (es : List A) (Q : Piece A) (p found n first last : ℕ) (sh : ShowsPiece cs rows es Q) (place : IsPlaceOf cs p n) (here : found < size Q)
     (start : IsRunStart rows n found first) (end : IsRunEnd rows n found last) where
   flag : (k : ℕ) → k < size Q → agree_in n (get_or rows k 0) (get_or rows found 0) ≡ within (affected_first p found Q) (affected_count p found Q) k
   flag k l =

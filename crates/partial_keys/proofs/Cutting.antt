@@ -10,7 +10,7 @@ use Rattle.partial_keys.proofs.Codes.{code-or, code-falses, squeezed-code}
 use Rattle.partial_keys.proofs.Reading.{row, row-skip, row-set, front_part}
 use Rattle.partial_keys.proofs.Squeezing.{kept_coded}
 use Rattle.partial_keys.specs.Rows.{row_of, rows_of}
-use Rattle.partial_keys.specs.Shows.{Shows, Covers}
+use Rattle.partial_keys.specs.Shows.{ShowsPiece, Covers}
 use Rattle.partial_keys.specs.Squeezed.{used_bits, squeezed, or_all}
 use Rattle.pieces.proofs.Paths.{NoneHas, length-places, length-paths, RisesFrom-weaker, none_before}
 use Rattle.pieces.proofs.Positions.{has_after, Ascends-kept, map-kept, length-kept}
@@ -36,7 +36,7 @@ module _ {A : Type 0} where
 
   -- A PIECE over columns of which it does not use all, and over those that it uses
   pub shows-used : (cs : List ℕ) (low : ℕ) (P : Piece A) → length cs ≤ 31 → Ascends 0 cs → UsesOnly cs P → RisesFrom 0 P →
-      Shows (used_columns P cs) (map (squeezed (code 32 (map (uses P) cs))) (rows_of cs P)) (places P) P
+      ShowsPiece (used_columns P cs) (map (squeezed (code 32 (map (uses P) cs))) (rows_of cs P)) (places P) P
   shows-used cs low P l a u r = record {
     few = let k : length (used_columns P cs) ≤ length cs = length-kept (map (uses P) cs) cs in omega arith;
     columns_rise = Ascends-kept 0 (map (uses P) cs) cs a;
@@ -52,7 +52,7 @@ module _ {A : Type 0} where
       map_rows (z ∷ zs) = rw (row_of-used P cs z (omega arith), map_rows zs) refl
 
   pub half_shows : (cs rows : List ℕ) (es : List A) (Q : Piece A) → Covers cs rows es Q →
-      Shows (kept (used_bits (or_all rows)) cs) (map (squeezed (or_all rows)) rows) es Q
+      ShowsPiece (kept (used_bits (or_all rows)) cs) (map (squeezed (or_all rows)) rows) es Q
   half_shows cs rows es Q cov =
       let few : length cs ≤ 31 = cov.few in
       let u : or_all rows ≡ code 32 (map (uses Q) cs) = ap or_all cov.rows_are ∙ or_all-piece cs Q in
@@ -60,7 +60,7 @@ module _ {A : Type 0} where
       rw (u, k, cov.rows_are, cov.entries_are) (shows-used cs 0 Q few cov.columns_rise cov.forks_at_columns cov.paths_rise)
 
   -- the root fork is at the first column
-  pub root_first : (c p : ℕ) (cs rows : List ℕ) (entries : List A) (s t : Piece A) → Shows (c ∷ cs) rows entries (Fork p s t) → p ≡ c
+  pub root_first : (c p : ℕ) (cs rows : List ℕ) (entries : List A) (s t : Piece A) → ShowsPiece (c ∷ cs) rows entries (Fork p s t) → p ≡ c
   root_first c p cs rows entries s t sh =
       let used : (uses (Fork p s t) c && all (uses (Fork p s t)) cs) ≡ true = sh.columns_used in
       let below : p ≤ c = uses_after p (Fork p s t) c (omega arith, sh.paths_rise.1, sh.paths_rise.2) (and_parts (uses (Fork p s t) c) (all (uses (Fork p s t)) cs) used).0 in
@@ -68,7 +68,7 @@ module _ {A : Type 0} where
       omega arith
 
   -- THE CUT: the front part and the rest of the root fork, each over the columns that it uses
-  module _ (c : ℕ) (cs rows : List ℕ) (entries : List A) (s t : Piece A) (sh : Shows (c ∷ cs) rows entries (Fork c s t)) where
+  module _ (c : ℕ) (cs rows : List ℕ) (entries : List A) (s t : Piece A) (sh : ShowsPiece (c ∷ cs) rows entries (Fork c s t)) where
     pub front_rows : take (size s) rows ≡ rows_of (c ∷ cs) s
     front_rows = rw (sh.rows_are, map-append (row_of (c ∷ cs)) (paths s) (map (λ path. c ∷ path) (paths t)))
         (take_at (map (row_of (c ∷ cs)) (paths s)) (map (row_of (c ∷ cs)) (map (λ path. c ∷ path) (paths t))) (size s) (length-map (paths s) (row_of (c ∷ cs)) ∙ length-paths s))

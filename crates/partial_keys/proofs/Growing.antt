@@ -5,7 +5,7 @@ use Rattle.std.proofs.lemmas.Nat.{one_shl}
 use Rattle.partial_keys.proofs.Rowing.{column_bit}
 use Rattle.partial_keys.proofs.Showing.{shown_columns, affected_range, shows-grown, shows-grown_column}
 use Rattle.partial_keys.specs.Rows.{row_of}
-use Rattle.partial_keys.specs.Shows.{Shows}
+use Rattle.partial_keys.specs.Shows.{ShowsPiece}
 use Rattle.partial_keys.specs.Spread.{spread_row, forked_rows}
 use Rattle.pieces.proofs.Positions.{front_below-place, with_position-split, Ascends-with_position, has-at, IsPlaceOf}
 use Rattle.pieces.specs.Growth.{affected_count, IsAffected, grown, edited, forked_places}
@@ -20,10 +20,10 @@ weight_is : (p : ℕ) (xs ys : List ℕ) → length xs ≤ 31 → Ascends 0 (xs 
 weight_is p xs ys l a = let e : 32 - 1 - length xs ≡ 31 - length xs = omega arith in
     one_shl (31 - length xs) 32 (omega arith) ∙ sym (ap (λ m. 2 ^ m) e) ∙ sym (column_bit 32 p 0 xs ys (omega arith) a)
 
-module _ {A : Type 0} (cs rows : List ℕ) (es : List A) (Q : Piece A) (p first last : ℕ) (bit : Bool) (x : A) (sh : Shows cs rows es Q) (aff : IsAffected Q p first last) where
+module _ {A : Type 0} (cs rows : List ℕ) (es : List A) (Q : Piece A) (p first last : ℕ) (bit : Bool) (x : A) (sh : ShowsPiece cs rows es Q) (aff : IsAffected Q p first last) where
   -- the position is a column
   pub shows-at_column : has cs p ≡ true →
-      Shows cs (edited first (last + 1 - first) (forked_rows (weight (front_below p cs)) bit) rows) (edited first (last + 1 - first) (forked_places bit x) es) (grown p bit x first Q)
+      ShowsPiece cs (edited first (last + 1 - first) (forked_rows (weight (front_below p cs)) bit) rows) (edited first (last + 1 - first) (forked_places bit x) es) (grown p bit x first Q)
   shows-at_column here =
       let j : ℕ = front_below p cs in
       let at : (j < length cs) × (get_or cs j 0 ≡ p) = has-at p 0 cs sh.columns_rise here in
@@ -39,7 +39,7 @@ module _ {A : Type 0} (cs rows : List ℕ) (es : List A) (Q : Piece A) (p first 
 
   -- the position becomes a column
   pub shows-at_new : length es < 32 → has cs p ≡ false →
-      Shows (with_position p cs) (edited first (last + 1 - first) (forked_rows (weight (front_below p cs)) bit) (map (spread_row (front_below p cs)) rows))
+      ShowsPiece (with_position p cs) (edited first (last + 1 - first) (forked_rows (weight (front_below p cs)) bit) (map (spread_row (front_below p cs)) rows))
       (edited first (last + 1 - first) (forked_places bit x) es) (grown p bit x first Q)
   shows-at_new room off =
       let j : ℕ = front_below p cs in
@@ -52,6 +52,6 @@ module _ {A : Type 0} (cs rows : List ℕ) (es : List A) (Q : Piece A) (p first 
       let parts : length (take j cs) + length (drop j cs) ≡ length cs = sym (length-append (take j cs) (drop j cs)) ∙ ap length whole in
       let w : weight j ≡ row_of (take j cs ++ p ∷ drop j cs) (p ∷ []) = ap weight (sym long) ∙ weight_is p (take j cs) (drop j cs) (omega arith) rise in
       let r : (first ≤ last) × (last < length es) × (last + 1 - first ≡ affected_count p first Q) = affected_range cs rows es Q p first last sh aff in
-      let old : Shows (take j cs ++ drop j cs) rows es Q = subst (λ ds. Shows ds rows es Q) (sym whole) sh in
+      let old : ShowsPiece (take j cs ++ drop j cs) rows es Q = subst (λ ds. ShowsPiece ds rows es Q) (sym whole) sh in
       let g = shows-grown_column p bit x Q first (take j cs) (drop j cs) rows es old (omega arith) rise (rw whole off) in
       rw (split, w, r.2) (rw (aff.from, long) at g)

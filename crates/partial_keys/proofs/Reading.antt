@@ -6,7 +6,7 @@ use Rattle.std.proofs.lemmas.Simd.{map-map}
 use Rattle.key_bits.proofs.Gathering.{code-lt}
 use Rattle.key_bits.specs.Gather.{code}
 use Rattle.partial_keys.specs.Shown.{shown, piece_of}
-use Rattle.partial_keys.specs.Shows.{Shows, Covers}
+use Rattle.partial_keys.specs.Shows.{ShowsPiece, Covers}
 use Rattle.pieces.proofs.Paths.{NoneHas, size_pos, length-places, length-paths, none_before}
 use Rattle.pieces.proofs.Positions.{has-later, has_after}
 use Rattle.pieces.proofs.Tests.{map_same}
@@ -86,15 +86,15 @@ reads_back d (suc w) (c ∷ cs) low (Fork p s t) l a u r = ⊎_elim
     (cases_Bool (eqb c p))
 
 -- WHAT A NODE SHOWS, read column by column, is the one piece that its rows show
-pub piece_of_shown : {A : Type 0} (d : A) (columns rows : List ℕ) (entries : List A) (P : Piece A) → Shows columns rows entries P → piece_of d columns rows entries ≡ P
+pub piece_of_shown : {A : Type 0} (d : A) (columns rows : List ℕ) (entries : List A) (P : Piece A) → ShowsPiece columns rows entries P → piece_of d columns rows entries ≡ P
 piece_of_shown d columns rows entries P s = rw (s.rows_are, s.entries_are) (reads_back d 32 columns 0 P (let f : length columns ≤ 31 = s.few in omega arith) s.columns_rise s.forks_at_columns s.paths_rise)
 
 pub piece_of_covered : {A : Type 0} (d : A) (cs rows : List ℕ) (es : List A) (P : Piece A) → Covers cs rows es P → piece_of d cs rows es ≡ P
 piece_of_covered d cs rows es P s = rw (s.rows_are, s.entries_are) (reads_back d 32 cs 0 P (let f : length cs ≤ 31 = s.few in omega arith) s.columns_rise s.forks_at_columns s.paths_rise)
 
 -- so what shows some piece shows what is read
-pub shown_self : {A : Type 0} (d : A) (cs rows : List ℕ) (es : List A) (P : Piece A) → Shows cs rows es P → Shows cs rows es (piece_of d cs rows es)
-shown_self d cs rows es P sh = subst (λ R. Shows cs rows es R) (sym (piece_of_shown d cs rows es P sh)) sh
+pub shown_self : {A : Type 0} (d : A) (cs rows : List ℕ) (es : List A) (P : Piece A) → ShowsPiece cs rows es P → ShowsPiece cs rows es (piece_of d cs rows es)
+shown_self d cs rows es P sh = subst (λ R. ShowsPiece cs rows es R) (sym (piece_of_shown d cs rows es P sh)) sh
 
 pub covers_self : {A : Type 0} (d : A) (cs rows : List ℕ) (es : List A) (P : Piece A) → Covers cs rows es P → Covers cs rows es (piece_of d cs rows es)
 covers_self d cs rows es P s = subst (λ R. Covers cs rows es R) (sym (piece_of_covered d cs rows es P s)) s

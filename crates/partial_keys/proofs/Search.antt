@@ -10,7 +10,7 @@ use Rattle.key_bits.specs.Gather.{code}
 use Rattle.partial_keys.proofs.Codes.{complies-row, code-falses, bits_of-code, length-bits_of, get_or-bits_of, complies-front}
 use Rattle.partial_keys.specs.Leads.{IsPlaceForDense, IsPlaceForKey}
 use Rattle.partial_keys.specs.Rows.{dense_of, row_of, rows_of, complies, IsHighest, with_unused, dense_bit}
-use Rattle.partial_keys.specs.Shows.{Shows}
+use Rattle.partial_keys.specs.Shows.{ShowsPiece}
 use Rattle.partial_keys.specs.Squeezed.{bits_of}
 use Rattle.pieces.proofs.Highest.{highest-append, highest-map, highest_at, highest_agree}
 use Rattle.pieces.proofs.Paths.{size_pos, length-paths, first_path, highest-paths, AllInside, inside, leads_to-agree}
@@ -64,7 +64,7 @@ module _ (cs : List ℕ) (few : length cs ≤ 31) (rise : Ascends 0 cs) where
 pub highest-value : (sparse : List ℕ) (d i : ℕ) → IsHighest sparse d i → i ≡ highest (complies d) sparse
 highest-value sparse d i h = highest_at (complies d) sparse i 0 h.in_range (eq-eqb _ _ h.complying) h.none_above
 
-module _ {A : Type 0} (cs rows : List ℕ) (es : List A) (P : Piece A) (sh : Shows cs rows es P) where
+module _ {A : Type 0} (cs rows : List ℕ) (es : List A) (P : Piece A) (sh : ShowsPiece cs rows es P) where
   -- THE SEARCH, for any dense key whose bit 0 is 0
   pub highest_leads_dense : (d i : ℕ) → d < 2 ^ 32 → d % 2 ≡ 0 → IsHighest (with_unused rows) d i → i ≡ leads_to (dense_bit cs d) P
   highest_leads_dense d i below even h =

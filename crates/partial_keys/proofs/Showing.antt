@@ -5,7 +5,7 @@ use Rattle.std.proofs.lemmas.List.{length-map}
 use Rattle.std.specs.Prelude.{set}
 use Rattle.partial_keys.proofs.Rowing.{rows-grown, rows-new_column}
 use Rattle.partial_keys.specs.Rows.{row_of}
-use Rattle.partial_keys.specs.Shows.{Shows, Covers}
+use Rattle.partial_keys.specs.Shows.{ShowsPiece, Covers}
 use Rattle.partial_keys.specs.Spread.{spread_row, forked_rows}
 use Rattle.pieces.proofs.Growing.{affected_fits, places-grown, UsesOnly-grown, RisesFrom-grown, uses-grown, fresh_from_columns}
 use Rattle.pieces.proofs.Paths.{length-places, length-paths, none_has}
@@ -19,7 +19,7 @@ use Rattle.pieces.specs.Piece.{Piece, Place, Fork, size, paths, uses}
 use Rattle.pieces.specs.Positions.{has, Ascends}
 
 -- PAIR
-pub shows-pair : {A : Type 0} (p : ℕ) (x y : A) → Shows (p ∷ []) (0 ∷ 2 ^ 31 ∷ []) (x ∷ y ∷ []) (Fork p (Place x) (Place y))
+pub shows-pair : {A : Type 0} (p : ℕ) (x y : A) → ShowsPiece (p ∷ []) (0 ∷ 2 ^ 31 ∷ []) (x ∷ y ∷ []) (Fork p (Place x) (Place y))
 shows-pair p x y =
     let self : eqb p p ≡ true = eq-eqb p p refl in record {
       few = omega arith;
@@ -35,7 +35,7 @@ module _ {A : Type 0} where
   pub covered_length : (cs rows : List ℕ) (es : List A) (Q : Piece A) → Covers cs rows es Q → length rows ≡ length es
   covered_length cs rows es Q cov = rw (cov.rows_are, cov.entries_are, length-map (paths Q) (row_of cs), length-paths Q, length-places Q) refl
 
-  pub covers_of : (cs rows : List ℕ) (es : List A) (Q : Piece A) → Shows cs rows es Q → Covers cs rows es Q
+  pub covers_of : (cs rows : List ℕ) (es : List A) (Q : Piece A) → ShowsPiece cs rows es Q → Covers cs rows es Q
   covers_of cs rows es Q sh = record {
     few = sh.few;
     columns_rise = sh.columns_rise;
@@ -45,22 +45,22 @@ module _ {A : Type 0} where
     entries_are = sh.entries_are;
   }
 
-  pub same_length : (cs rows : List ℕ) (es : List A) (Q : Piece A) → Shows cs rows es Q → length rows ≡ length es
+  pub same_length : (cs rows : List ℕ) (es : List A) (Q : Piece A) → ShowsPiece cs rows es Q → length rows ≡ length es
   same_length cs rows es Q sh = covered_length cs rows es Q (covers_of cs rows es Q sh)
 
   -- there are fewer columns than entries
-  pub shown_columns : (columns rows : List ℕ) (entries : List A) (P : Piece A) → Shows columns rows entries P → length columns < length entries
+  pub shown_columns : (columns rows : List ℕ) (entries : List A) (P : Piece A) → ShowsPiece columns rows entries P → length columns < length entries
   shown_columns columns rows entries P sh = rw sh.entries_are (rw (length-places P) (fewer_columns P columns sh.columns_rise sh.columns_used))
 
   -- a node of two entries has a column
-  pub shown_some_column : (columns rows : List ℕ) (entries : List A) (P : Piece A) → Shows columns rows entries P → 2 ≤ length entries → 0 < length columns
+  pub shown_some_column : (columns rows : List ℕ) (entries : List A) (P : Piece A) → ShowsPiece columns rows entries P → 2 ≤ length entries → 0 < length columns
   shown_some_column columns rows entries (Place x) sh l = absurd (omega (arith, l, ap length sh.entries_are))
   shown_some_column [] rows entries (Fork p a b) sh l = absurd (false≢true sh.forks_at_columns.0)
   shown_some_column (c ∷ columns) rows entries (Fork p a b) sh l = omega arith
 
   -- another entry at a place
-  pub shows-replaced : (columns rows : List ℕ) (entries : List A) (P : Piece A) (i : ℕ) (x : A) → Shows columns rows entries P → i < length entries →
-      Shows columns rows (set entries i x) (replaced i x P)
+  pub shows-replaced : (columns rows : List ℕ) (entries : List A) (P : Piece A) (i : ℕ) (x : A) → ShowsPiece columns rows entries P → i < length entries →
+      ShowsPiece columns rows (set entries i x) (replaced i x P)
   shows-replaced columns rows entries P i x sh l = record {
     few = sh.few;
     columns_rise = sh.columns_rise;
@@ -71,7 +71,7 @@ module _ {A : Type 0} where
     entries_are = ap (λ es. set es i x) sh.entries_are ∙ sym (places-replaced x i P (omega (arith, l, ap length sh.entries_are, length-places P)));
   }
 
-  pub affected_range : (cs rows : List ℕ) (es : List A) (Q : Piece A) (p first last : ℕ) → Shows cs rows es Q → IsAffected Q p first last →
+  pub affected_range : (cs rows : List ℕ) (es : List A) (Q : Piece A) (p first last : ℕ) → ShowsPiece cs rows es Q → IsAffected Q p first last →
       (first ≤ last) × (last < length es) × (last + 1 - first ≡ affected_count p first Q)
   affected_range cs rows es Q p first last sh aff =
       let h : (affected_first p first Q + affected_count p first Q ≤ size Q) × (0 < affected_count p first Q) = affected_fits p Q first in
@@ -82,8 +82,8 @@ module _ {A : Type 0} where
 
   module _ (p : ℕ) (bit : Bool) (x : A) (P : Piece A) (i : ℕ) where
     -- THE NEW ENTRY, where the position is a column
-    pub shows-grown : (cs rows : List ℕ) (entries : List A) → Shows cs rows entries P → has cs p ≡ true → IsFresh p i P →
-        Shows cs (edited (affected_first p i P) (affected_count p i P) (forked_rows (row_of cs (p ∷ [])) bit) rows)
+    pub shows-grown : (cs rows : List ℕ) (entries : List A) → ShowsPiece cs rows entries P → has cs p ≡ true → IsFresh p i P →
+        ShowsPiece cs (edited (affected_first p i P) (affected_count p i P) (forked_rows (row_of cs (p ∷ [])) bit) rows)
         (edited (affected_first p i P) (affected_count p i P) (forked_places bit x) entries) (grown p bit x i P)
     shows-grown cs rows entries s h fresh = record {
       few = s.few;
@@ -96,9 +96,9 @@ module _ {A : Type 0} where
     }
 
     -- THE NEW ENTRY, where the position becomes a column
-    pub shows-grown_column : (xs ys rows : List ℕ) (entries : List A) → Shows (xs ++ ys) rows entries P → length xs + length ys ≤ 30 →
+    pub shows-grown_column : (xs ys rows : List ℕ) (entries : List A) → ShowsPiece (xs ++ ys) rows entries P → length xs + length ys ≤ 30 →
         Ascends 0 (xs ++ p ∷ ys) → has (xs ++ ys) p ≡ false →
-        Shows (xs ++ p ∷ ys) (edited (affected_first p i P) (affected_count p i P) (forked_rows (row_of (xs ++ p ∷ ys) (p ∷ [])) bit) (map (spread_row (length xs)) rows))
+        ShowsPiece (xs ++ p ∷ ys) (edited (affected_first p i P) (affected_count p i P) (forked_rows (row_of (xs ++ p ∷ ys) (p ∷ [])) bit) (map (spread_row (length xs)) rows))
         (edited (affected_first p i P) (affected_count p i P) (forked_places bit x) entries) (grown p bit x i P)
     shows-grown_column xs ys rows entries s room rise h =
         let cs : List ℕ = xs ++ p ∷ ys in

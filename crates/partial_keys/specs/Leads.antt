@@ -1,17 +1,17 @@
 -- The place to which the forks of a shown piece lead.
 use Rattle.std.specs.Prelude.{Bool, List, ℕ, ◌≡◌}
 use Rattle.partial_keys.specs.Rows.{dense_of, with_unused, dense_bit}
-use Rattle.partial_keys.specs.Shows.{Shows}
+use Rattle.partial_keys.specs.Shows.{ShowsPiece}
 use Rattle.pieces.specs.Piece.{Piece, leads_to}
 
 -- for each piece whose rows these words are, with the unused places: place i is where its forks lead by the dense key
 abbrev pub IsPlaceForDense : List ℕ → ℕ → ℕ → Type 0
 IsPlaceForDense sparse dense i =
-    (columns rows entries : List ℕ) (piece : Piece ℕ) → Shows columns rows entries piece → sparse ≡ with_unused rows →
+    (columns rows entries : List ℕ) (piece : Piece ℕ) → ShowsPiece columns rows entries piece → sparse ≡ with_unused rows →
     i ≡ leads_to (dense_bit columns dense) piece
 
 -- likewise, where the dense key has been gathered from the bits of a key
 abbrev pub IsPlaceForKey : List ℕ → ℕ → ℕ → Type 0
 IsPlaceForKey sparse dense i =
-    (columns rows entries : List ℕ) (piece : Piece ℕ) (bit : ℕ → Bool) → Shows columns rows entries piece → sparse ≡ with_unused rows →
+    (columns rows entries : List ℕ) (piece : Piece ℕ) (bit : ℕ → Bool) → ShowsPiece columns rows entries piece → sparse ≡ with_unused rows →
     dense ≡ dense_of columns bit → i ≡ leads_to bit piece

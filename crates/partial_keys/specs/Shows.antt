@@ -5,7 +5,7 @@ use Rattle.pieces.specs.Piece.{Piece, places, RisesFrom, UsesOnly, uses}
 use Rattle.pieces.specs.Positions.{all, Ascends}
 
 -- the rows over the columns show the piece, and the entries stand at its places
-pub record Shows {A : Type 0} (columns rows : List ℕ) (entries : List A) (piece : Piece A) : Type 0 where
+pub record ShowsPiece {A : Type 0} (columns rows : List ℕ) (entries : List A) (piece : Piece A) : Type 0 where
   pub few : length columns ≤ 31
   pub columns_rise : Ascends 0 columns
   pub forks_at_columns : UsesOnly columns piece
@@ -14,7 +14,7 @@ pub record Shows {A : Type 0} (columns rows : List ℕ) (entries : List A) (piec
   pub rows_are : rows ≡ rows_of columns piece
   pub entries_are : entries ≡ places piece
 
--- as `Shows`, but there may be columns that no fork uses
+-- as `ShowsPiece`, but there may be columns that no fork uses
 pub record Covers {A : Type 0} (columns rows : List ℕ) (entries : List A) (piece : Piece A) : Type 0 where
   pub few : length columns ≤ 31
   pub columns_rise : Ascends 0 columns

@@ -16,14 +16,14 @@ use Rattle.std.proofs.lemmas.Map.Entries.{lookup_from_place}
 use Rattle.std.proofs.lemmas.Map.Keys.{IsDistinct-from_sorted, Less-from_sorted}
 use Rattle.std.proofs.lemmas.Option.{slice_get-get_or}
 use Rattle.std.proofs.Math.Seq.{take-length}
-use Rattle.hot_model.specs.declared.Change.{Change}
-use Rattle.hot_model.specs.declared.Scan.{Scan}
-use Rattle.hot_model.specs.Maps.{Map, key_order, IsRising, value_at}
-use Rattle.hot_model.specs.Fronts.{map_of}
-use Rattle.hot_model.specs.Scans.{is_within, range_of, IsScanOf, IsHeldBetween, IsUpToLast, IsPastLast, IsLawfulScan}
-use Rattle.hot_model.proofs.Held.{same_from_at}
-use Rattle.hot_model.proofs.Growth.{map_of-rising, begins_itself}
-use Rattle.hot_model.proofs.Ranges.{range-rising}
+use Rattle.finite_map.specs.declared.Change.{Change}
+use Rattle.finite_map.specs.declared.Scan.{Scan}
+use Rattle.finite_map.specs.Maps.{Map, key_order, IsRising, value_at}
+use Rattle.finite_map.specs.Fronts.{map_of}
+use Rattle.finite_map.specs.Scans.{is_within, range_of, IsScanOf, IsHeldBetween, IsUpToLast, IsPastLast, IsLawfulScan}
+use Rattle.finite_map.proofs.Held.{same_from_at}
+use Rattle.finite_map.proofs.Growth.{map_of-rising, begins_itself}
+use Rattle.finite_map.proofs.Ranges.{range-rising}
 
 take-sorted : (n : ℕ) (ks : List (List ℕ)) → IsStrictlySortedBy key_order ks → IsStrictlySortedBy key_order (take n ks)
 unfolding IsStrictlySortedBy

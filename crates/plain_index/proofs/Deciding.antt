@@ -2,13 +2,13 @@
 use Rattle.std.proofs.Common.{◌≡◌, ◌≢◌, ℕ, zero, suc, ◌+◌, ◌<◌, List, [], ◌∷◌, length, take, get_or, Option, Some, None, sym, ap, subst, ◌∙◌, arith}
 use Rattle.std.specs.List.{fold}
 use Rattle.std.proofs.lemmas.List.{take_more}
-use Rattle.hot_model.specs.declared.Change.{Change}
-use Rattle.hot_model.specs.declared.Kind.{Kind}
-use Rattle.hot_model.specs.declared.Kind.TheVariants.{Added, Replaced, Removed}
-use Rattle.hot_model.specs.Maps.{Map, IsRising, value_at}
-use Rattle.hot_model.specs.Fronts.{changed, changed_by, map_of, Fits, LegalFrom, LegalFront}
-use Rattle.hot_model.proofs.Held.{value_at-with_value_same, value_at-without_same}
-use Rattle.hot_model.proofs.Growth.{map_of-push, map_of-rising, legal_front_push, changed_by-other}
+use Rattle.finite_map.specs.declared.Change.{Change}
+use Rattle.finite_map.specs.declared.Kind.{Kind}
+use Rattle.finite_map.specs.declared.Kind.TheVariants.{Added, Replaced, Removed}
+use Rattle.finite_map.specs.Maps.{Map, IsRising, value_at}
+use Rattle.finite_map.specs.Fronts.{changed, changed_by, map_of, Fits, LegalFrom, LegalFront}
+use Rattle.finite_map.proofs.Held.{value_at-with_value_same, value_at-without_same}
+use Rattle.finite_map.proofs.Growth.{map_of-push, map_of-rising, legal_front_push, changed_by-other}
 
 map_of-take_more : (front : List Change) (i : ℕ) (d : Change) → i < length front → map_of (take (i + 1) front) ≡ changed (map_of (take i front)) (get_or front i d)
 map_of-take_more front i d l = ap map_of (take_more front i d l) ∙ map_of-push (take i front) (get_or front i d)

@@ -9,16 +9,16 @@ use Rattle.std.proofs.lemmas.Cmp.{eq_by_cmp_equiv}
 use Rattle.std.proofs.lemmas.List.Elements.{All-nil, All-cons}
 use Rattle.std.proofs.lemmas.Map.Views.{IsSome-lookup_from_Contains}
 use Rattle.std.proofs.Math.Seq.{take-append_seam, drop-append_seam}
-use Rattle.hot_model.specs.declared.Change.{Change}
-use Rattle.hot_model.specs.declared.Kind.{Kind}
-use Rattle.hot_model.specs.declared.Kind.TheVariants.{Added, Replaced, Removed}
-use Rattle.hot_model.specs.declared.Scan.{Scan}
-use Rattle.hot_model.specs.Maps.{Map, key_order, IsRising, value_at}
-use Rattle.hot_model.specs.Fronts.{changed_by, map_of}
-use Rattle.hot_model.specs.Scans.{is_within, IsHeldBetween, IsUpToLast, IsLawfulScan}
-use Rattle.hot_model.proofs.Held.{at_itself, same_from_at, value_at-without_same}
-use Rattle.hot_model.proofs.Growth.{map_of-push, map_of-rising}
-use Rattle.hot_model.proofs.Firsts.{at_found}
+use Rattle.finite_map.specs.declared.Change.{Change}
+use Rattle.finite_map.specs.declared.Kind.{Kind}
+use Rattle.finite_map.specs.declared.Kind.TheVariants.{Added, Replaced, Removed}
+use Rattle.finite_map.specs.declared.Scan.{Scan}
+use Rattle.finite_map.specs.Maps.{Map, key_order, IsRising, value_at}
+use Rattle.finite_map.specs.Fronts.{changed_by, map_of}
+use Rattle.finite_map.specs.Scans.{is_within, IsHeldBetween, IsUpToLast, IsLawfulScan}
+use Rattle.finite_map.proofs.Held.{at_itself, same_from_at, value_at-without_same}
+use Rattle.finite_map.proofs.Growth.{map_of-push, map_of-rising}
+use Rattle.finite_map.proofs.Firsts.{at_found}
 
 -- no change of these removes the key
 abbrev IsKept : List Change → List ℕ → Type 0

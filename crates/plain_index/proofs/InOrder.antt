@@ -3,13 +3,13 @@ use Rattle.std.proofs.Common.{◌≡◌, ◌≢◌, ℕ, ◌+◌, ◌<◌, ◌�
 use Rattle.std.specs.List.{All}
 use Rattle.std.proofs.lemmas.Bool.{eq-eqb, ne_eqb, cases_Bool, cases_eq, cond-true, cond-false}
 use Rattle.std.proofs.lemmas.List.Elements.{All-head, All-tail, All-weaker}
-use Rattle.hot_model.specs.declared.Change.{Change}
-use Rattle.hot_model.specs.declared.Note.{Note}
-use Rattle.hot_model.specs.Calls.{is_change, place_after, StandsIn, RisesFrom, LegalCalls}
-use Rattle.hot_model.specs.Weaves.{answered, quiet_at, changing_at, calls_of, made_by, weave_from, weave}
+use Rattle.finite_map.specs.declared.Change.{Change}
+use Rattle.finite_map.specs.declared.Note.{Note}
+use Rattle.finite_map.specs.Calls.{is_change, place_after, StandsIn, RisesFrom, LegalCalls}
+use Rattle.finite_map.specs.Weaves.{answered, quiet_at, changing_at, calls_of, made_by, weave_from, weave}
 use Rattle.plain_index.specs.Orders.{calls_in}
-use Rattle.hot_model.proofs.Legal.{place_after-within}
-use Rattle.hot_model.proofs.Weaving.{none_below}
+use Rattle.finite_map.proofs.Legal.{place_after-within}
+use Rattle.finite_map.proofs.Weaving.{none_below}
 
 place_after-change : (n : Note) → is_change n ≡ true → place_after n ≡ n.place + 1
 place_after-change n h = cond-true (is_change n) (n.place + 1) n.place h

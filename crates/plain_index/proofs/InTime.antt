@@ -5,12 +5,12 @@ use Rattle.std.proofs.lemmas.Bool.{cases_eq, eq-eqb, eqb-true, ne_eqb, and_parts
 use Rattle.std.proofs.lemmas.List.Elements.{All-append, All-cons, All-contains_itself, All-filter, All-head, All-nil, All-tail, All-weaker, filter_passes}
 use Rattle.std.proofs.lemmas.List.Kept.{AllPairs-cons, AllPairs-filter}
 use Rattle.std.proofs.lemmas.List.Sorted.{All-permutation, IsPermutation-append_right, IsPermutation-cons, IsPermutation-middle, IsPermutation-refl, IsPermutation-sym, IsPermutation-trans}
-use Rattle.hot_model.specs.declared.Change.{Change}
-use Rattle.hot_model.specs.declared.Note.{Note}
-use Rattle.hot_model.specs.Calls.{is_change, place_after, StandsIn}
-use Rattle.hot_model.specs.Weaves.{Event, answered, quiet_at, changing_at, calls_of, weave_from, AllLegal, notes_of}
-use Rattle.hot_model.proofs.Legal.{place_after-within}
-use Rattle.hot_model.proofs.Weaving.{weave-legal_listed}
+use Rattle.finite_map.specs.declared.Change.{Change}
+use Rattle.finite_map.specs.declared.Note.{Note}
+use Rattle.finite_map.specs.Calls.{is_change, place_after, StandsIn}
+use Rattle.finite_map.specs.Weaves.{Event, answered, quiet_at, changing_at, calls_of, weave_from, AllLegal, notes_of}
+use Rattle.finite_map.proofs.Legal.{place_after-within}
+use Rattle.finite_map.proofs.Weaving.{weave-legal_listed}
 use Rattle.plain_index.specs.Orders.{calls_in}
 use Rattle.plain_index.specs.Statements.{WovenInTime}
 use Rattle.plain_index.specs.Times.{FitsPlaces, IsInTime, noted}

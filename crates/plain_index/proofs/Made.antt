@@ -1,10 +1,10 @@
 -- Calls on a map: what one answers, and what some first ones have made.
 use Rattle.std.proofs.Common.{◌≡◌, ℕ, ◌≤◌, List, [], ◌∷◌, ◌++◌, length, take, Option, sym, ap, ◌∙◌, subst, arith, length-append, append_assoc}
 use Rattle.std.proofs.Math.Seq.{take-append_seam}
-use Rattle.hot_model.specs.declared.Call.{Call}
-use Rattle.hot_model.specs.declared.Reply.{Reply}
-use Rattle.hot_model.specs.Maps.{Map, value_at, key_of, step_where, reply_of, replies_of, map_after, map_after_all}
-use Rattle.hot_model.proofs.Steps.{map_after_all-push, replies_of-push}
+use Rattle.finite_map.specs.declared.Call.{Call}
+use Rattle.finite_map.specs.declared.Reply.{Reply}
+use Rattle.finite_map.specs.Maps.{Map, value_at, key_of, step_where, reply_of, replies_of, map_after, map_after_all}
+use Rattle.finite_map.proofs.Steps.{map_after_all-push, replies_of-push}
 
 -- the reply, by what the map holds for the key
 pub reply_where : (m n : Map) (call called : Call) (held : Option ℕ) → m ≡ n → called ≡ call → value_at m (key_of call) ≡ held → (step_where held m call).1 ≡ reply_of n called

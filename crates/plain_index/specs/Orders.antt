@@ -1,7 +1,7 @@
 -- The calls of a history in their order, and lists of calls woven into one.
 use Rattle.std.specs.Prelude.{◌≡◌, ℕ, List, [], ◌∷◌}
-use Rattle.hot_model.specs.declared.Note.{Note}
-use Rattle.hot_model.specs.Weaves.{Event, answered, only, calls_of}
+use Rattle.finite_map.specs.declared.Note.{Note}
+use Rattle.finite_map.specs.Weaves.{Event, answered, only, calls_of}
 
 -- the calls that stand in a history, in order
 abbrev pub calls_in : List Event → List Event

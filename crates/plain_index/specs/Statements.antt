@@ -1,13 +1,13 @@
 -- The laws of histories, as the functions of the module `laws` promise them.
 use Rattle.std.specs.Prelude.{◌≡◌, ◌≢◌, ℕ, ◌≤◌, List, [], ◌++◌, All, Bool, IsPermutation, length, take, true, IsTrue}
-use Rattle.hot_model.specs.declared.Change.{Change}
-use Rattle.hot_model.specs.declared.Note.{Note}
-use Rattle.hot_model.specs.declared.Scan.{Scan}
-use Rattle.hot_model.specs.Maps.{value_at}
-use Rattle.hot_model.specs.Fronts.{map_of, LegalFront, OthersGoOn}
-use Rattle.hot_model.specs.Calls.{LegalCalls, IsRun}
-use Rattle.hot_model.specs.Weaves.{LegalHistory, weave, notes_of, AllLegal, calls_of}
-use Rattle.hot_model.specs.Scans.{is_within, IsScanOf, IsLawfulScan, IsUpToLast}
+use Rattle.finite_map.specs.declared.Change.{Change}
+use Rattle.finite_map.specs.declared.Note.{Note}
+use Rattle.finite_map.specs.declared.Scan.{Scan}
+use Rattle.finite_map.specs.Maps.{value_at}
+use Rattle.finite_map.specs.Fronts.{map_of, LegalFront, OthersGoOn}
+use Rattle.finite_map.specs.Calls.{LegalCalls, IsRun}
+use Rattle.finite_map.specs.Weaves.{LegalHistory, weave, notes_of, AllLegal, calls_of}
+use Rattle.finite_map.specs.Scans.{is_within, IsScanOf, IsLawfulScan, IsUpToLast}
 use Rattle.plain_index.specs.Orders.{calls_in, AreWoven, CallsAreWoven}
 use Rattle.plain_index.specs.Times.{FitsPlaces, IsInTime, noted}
 

@@ -1,7 +1,7 @@
 -- The calls of passes in the order of time, as far as it is known.
 use Rattle.std.specs.Prelude.{◌≡◌, ℕ, ◌≤◌, AllPairs, Bool, Contains, List, false, map, true}
-use Rattle.hot_model.specs.declared.Note.{Note}
-use Rattle.hot_model.specs.Calls.{place_after}
+use Rattle.finite_map.specs.declared.Note.{Note}
+use Rattle.finite_map.specs.Calls.{place_after}
 
 -- the notes of calls with labels, by which calls that look alike are told apart
 abbrev pub noted : List (ℕ × Note) → List Note

@@ -1,11 +1,11 @@
 //! Whether calls are legal in a front, decided from the values.
 ghost use Rattle.std.specs.Prelude.{◌≡◌, ◌↔◌, IsTrue, slice_get};
-ghost use Rattle.hot_model.specs.declared.Change.{Change};
-ghost use Rattle.hot_model.specs.Maps.{Map, key_of, step_where, value_at};
-ghost use Rattle.hot_model.specs.Fronts.{FitsKind, LegalFront, map_of};
-ghost use Rattle.hot_model.specs.Calls.{LegalCalls, RisesFrom, StandsIn, change_of, changes_of, effect_of, is_change, own_changes};
+ghost use Rattle.finite_map.specs.declared.Change.{Change};
+ghost use Rattle.finite_map.specs.Maps.{Map, key_of, step_where, value_at};
+ghost use Rattle.finite_map.specs.Fronts.{FitsKind, LegalFront, map_of};
+ghost use Rattle.finite_map.specs.Calls.{LegalCalls, RisesFrom, StandsIn, change_of, changes_of, effect_of, is_change, own_changes};
 
-use hot_model::{Call, Change, Kind, Note, Reply};
+use finite_map::{Call, Change, Kind, Note, Reply};
 use key_bits::Key;
 
 /// Whether answered calls of the pass are legal in the front. Its time is the square of the lengths.

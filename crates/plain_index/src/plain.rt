@@ -1,10 +1,10 @@
 //! An index of one thread, over a sorted map.
 ghost use Rattle.std.specs.Prelude.{◌≡◌, ℕ, List, [], ◌≤◌, length, take, IfOk, IsOk, OnOk, OnErr};
-ghost use Rattle.hot_model.specs.declared.Call.TheVariants.{Exchange, RemoveIf};
-ghost use Rattle.hot_model.specs.Maps.{map_after, reply_of, map_after_all, replies_of, AddsKey};
-ghost use Rattle.hot_model.specs.Scans.{IsScanOf};
+ghost use Rattle.finite_map.specs.declared.Call.TheVariants.{Exchange, RemoveIf};
+ghost use Rattle.finite_map.specs.Maps.{map_after, reply_of, map_after_all, replies_of, AddsKey};
+ghost use Rattle.finite_map.specs.Scans.{IsScanOf};
 
-use hot_model::{Call, Reply, Scan};
+use finite_map::{Call, Reply, Scan};
 use key_bits::Key;
 use std::alloc::{AllocError, Global};
 use std::collections::BTreeMap;

@@ -5,7 +5,7 @@ use Rattle.key_bits.specs.Bits.{IsFirstDifference, bit_of}
 use Rattle.key_bits.specs.Key.{IsKey}
 use Rattle.pieces.specs.Changes.{AtRootFork}
 use Rattle.pieces.specs.Piece.{Place, leads_to}
-use Rattle.compound_node.specs.Nodes.{NodeView, piece, IsLawful, height_of}
+use Rattle.compound_node.specs.Nodes.{NodeView, piece, IsLawfulNode, height_of}
 use Rattle.compound_node.specs.declared.entries.Entry.{Entry}
 use Rattle.compound_node.specs.declared.entries.Entry.TheVariants.{Leaf, Node}
 use Rattle.tries.specs.Keys.{Key, bit}
@@ -14,10 +14,10 @@ use Rattle.tries.specs.Tree.{Page, Fixed, Tree, leaf, node, fork, page, Has, IsT
 use Rattle.tries.proofs.Tries.{rises, within_trans, within_child, trie_within, built_within, page_child}
 use Rattle.plain_trie.specs.declared.plain.LeafRecord.{LeafRecord}
 use Rattle.insert_cases.specs.declared.raising.Risen.{Risen}
-use Rattle.plain_trie.specs.Adding.{IsStanding, IsBehind, EndsAt, IsAbsentFrom, HasRisen, with_leaf}
+use Rattle.plain_trie.specs.Adding.{IsStanding, IsBehind, EndsAt, IsAbsentFrom, HasLeafRisen, with_leaf}
 use Rattle.insert_cases.specs.Risen.{page_of}
 use Rattle.plain_trie.specs.Rising.{IsAddable, IsRaised}
-use Rattle.plain_trie.specs.Store.{record_of}
+use Rattle.plain_trie.specs.Store.{item_record}
 use Rattle.insert_cases.specs.Ways.{WayBelow}
 use Rattle.insert_cases.proofs.Choosing.{has_found}
 use Rattle.plain_trie.proofs.Climbing.{IsHere}
@@ -67,7 +67,7 @@ module _ {ns : List NodeView} {ls : List LeafRecord} {n h : ℕ} {t : Tree} (s :
   within_standing k = subst (Within (child k w.body)) (sym w.is) (inside (within_child k w.body))
 
   -- the entry that the code takes there is the child's
-  pub standing_entry : (k : Key) (v : NodeView) → v ≡ get_or ns n v → (at : ℕ) (e : Entry) → IsLawful v → at ≡ leads_to (bit_of k) (piece v) → slice_get v.entries at ≡ Some e →
+  pub standing_entry : (k : Key) (v : NodeView) → v ≡ get_or ns n v → (at : ℕ) (e : Entry) → IsLawfulNode v → at ≡ leads_to (bit_of k) (piece v) → slice_get v.entries at ≡ Some e →
       e ≡ seek k (page w.body)
   standing_entry k v is at e lawful leads stands =
       sought_entry k v at e lawful leads stands ∙ ap (seek k) (ap piece (read_at ns n w.stored.view v w.stored.at is) ∙ w.stored.shows)
@@ -91,7 +91,7 @@ module _ {ns : List NodeView} {ls : List LeafRecord} {n h : ℕ} {t : Tree} (s :
   ends_above k m o = record {
     number = subst (λ y. y.number ≡ m) (found_below k) o.number;
     key = subst (λ y. y.key ≡ k) (found_below k) o.key;
-    at = subst (λ y. slice_get ls m ≡ Some (record_of y)) (found_below k) o.at;
+    at = subst (λ y. slice_get ls m ≡ Some (item_record y)) (found_below k) o.at;
   }
 
   pub absent_above : (k : Key) → IsAbsentFrom k (child k w.body) → IsAbsentFrom k t
@@ -137,7 +137,7 @@ pub record IsAt (ns : List NodeView) (ls : List LeafRecord) (n h : ℕ) (t : Tre
   pub below : IsStanding ns ls e (child k node.body)
 
 pub search_at : {ns : List NodeView} {ls : List LeafRecord} {n h : ℕ} {d : Entry} {t : Tree} → d ≡ Node n h → IsStanding ns ls d t → (k : Key) (v : NodeView) → v ≡ get_or ns n v →
-    (at : ℕ) (e : Entry) → IsLawful v → at ≡ leads_to (bit_of k) (piece v) → slice_get v.entries at ≡ Some e → IsAt ns ls n h t k e
+    (at : ℕ) (e : Entry) → IsLawfulNode v → at ≡ leads_to (bit_of k) (piece v) → slice_get v.entries at ≡ Some e → IsAt ns ls n h t k e
 search_at same stands k v is at e lawful leads entry =
     let s = standing_to same stands in
     let w = standing_node s in
@@ -145,7 +145,7 @@ search_at same stands k v is at e lawful leads entry =
     record { whole = s; node = w; is = sought; below = child_stands s w k e sought }
 
 -- ---- a leaf
-pub standing_leaf : (ns : List NodeView) (ls : List LeafRecord) (k : Key) (n : ℕ) (t : Tree) → IsStanding ns ls (Leaf n) t → slice_get ls n ≡ Some (record_of (found k t))
+pub standing_leaf : (ns : List NodeView) (ls : List LeafRecord) (k : Key) (n : ℕ) (t : Tree) → IsStanding ns ls (Leaf n) t → slice_get ls n ≡ Some (item_record (found k t))
 standing_leaf ns ls k n t s = leaf_of_page ns ls k n t s.head s.shown
 
 pub leaf_addable : (ns : List NodeView) (ls us : List LeafRecord) (e : Entry) (t : Tree) (k : Key) (v m p : ℕ) → IsStanding ns ls e t → us ≡ with_leaf ls k v → m ≡ length ls → IsKey k →
@@ -162,7 +162,7 @@ leaf_addable ns ls us e t k v m p s leaves number key differ = record {
 
 -- ---- what rises from a node
 pub risen_here : (ns os ms : List NodeView) (ls us : List LeafRecord) (k : Key) (v n p : ℕ) (e : Entry) (t : Tree) (risen : Risen) → os ≡ ns → us ≡ with_leaf ls k v → n ≡ length ls →
-    IsAddable ns us (item n k v) p e t → IsBehind p t → IsRaised os ms us (item n k v) p t (suc (height_of e)) (page_of risen) → HasRisen ns ms ls us k v e t risen
+    IsAddable ns us (item n k v) p e t → IsBehind p t → IsRaised os ms us (item n k v) p t (suc (height_of e)) (page_of risen) → HasLeafRisen ns ms ls us k v e t risen
 risen_here ns os ms ls us k v n p e t risen nodes leaves number addable behind raised = record {
   leaves = leaves;
   position = p;

@@ -6,7 +6,7 @@ use Rattle.key_bits.specs.Bits.{IsFirstDifference, bit_of}
 use Rattle.pieces.specs.Changes.{replaced}
 use Rattle.pieces.specs.Growth.{affected_first, affected_count, IsAffected, grown as piece_grown}
 use Rattle.pieces.specs.Piece.{Place, Fork, places, size, leads_to}
-use Rattle.compound_node.specs.Nodes.{NodeView, piece, IsLawful, IsBuiltFrom, StandsBelow, greatest_height, height_of, head_of}
+use Rattle.compound_node.specs.Nodes.{NodeView, piece, IsLawfulNode, IsBuiltFrom, StandsBelow, greatest_height, height_of, head_of}
 use Rattle.compound_node.specs.declared.entries.Entry.{Entry}
 use Rattle.compound_node.specs.declared.entries.Entry.TheVariants.{Leaf, Node}
 use Rattle.tries.specs.Affected.{affected, IsPart, page_grown, page_forked}
@@ -27,7 +27,7 @@ use Rattle.pieces.specs.Grafts.{grafted, IsAbovePath}
 use Rattle.plain_trie.specs.Rising.{IsRaised, IsAddable, IsLifting, IsNew}
 use Rattle.insert_cases.specs.Risen.{page_of}
 use Rattle.plain_trie.specs.Risen.{IsNamed, RisenShows, OthersStay}
-use Rattle.plain_trie.specs.Store.{IsShown}
+use Rattle.plain_trie.specs.Store.{ShowsTree}
 use Rattle.insert_cases.specs.Ways.{WayBelow}
 use Rattle.insert_cases.proofs.Affecting.{key_part}
 use Rattle.pieces.proofs.Replacing.{replaced-same}
@@ -42,7 +42,7 @@ use Rattle.plain_trie.proofs.Storing.{push_old, push_new}
 use Rattle.tries.proofs.Contents.{found_child}
 
 -- the entry that stands at a place, put there
-pub piece-same : (n : NodeView) (i : ℕ) (e : Entry) → IsLawful n → slice_get n.entries i ≡ Some e → replaced i e (piece n) ≡ piece n
+pub piece-same : (n : NodeView) (i : ℕ) (e : Entry) → IsLawfulNode n → slice_get n.entries i ≡ Some e → replaced i e (piece n) ≡ piece n
 piece-same n i e l h =
     replaced-same e i e (piece n) (omega (arith, slice_get_within n.entries i e h, size-piece n l))
     (ap (λ es. get_or es i e) (sym l.shows.entries_are) ∙ get_or_from_slice_get n.entries i e e h)
@@ -101,7 +101,7 @@ beside_raised ns ls x p n (leaf m k v) i =
     parts_low true = (omega arith, omega arith)
     parts_low false = (omega arith, omega arith)
 
-    parts_shown : (u : Bool) → IsShown ns ls (grown u p (leaf m k v) x)
+    parts_shown : (u : Bool) → ShowsTree ns ls (grown u p (leaf m k v) x)
     parts_shown true = (i.shown, i.new)
     parts_shown false = (i.new, i.shown)
 beside_raised ns ls x p n (node m y b) i = absurd (let e = i.head in cc)
@@ -122,7 +122,7 @@ pub record IsHere (ns : List NodeView) (ls : List LeafRecord) (x : Item) (p n h 
   pub high : fixed.height ≡ h
   pub trie : IsTrie body
   pub built : IsBuilt (node n fixed body)
-  pub shown : IsShown ns ls (node n fixed body)
+  pub shown : ShowsTree ns ls (node n fixed body)
   pub differ : IsFirstDifference x.key (found x.key body).key p
   pub has : Has (child x.key body) (found x.key body).key
 
@@ -192,7 +192,7 @@ module _ {ns : List NodeView} {ls : List LeafRecord} {x : Item} {p n h : ℕ} {t
     here_upto at first last leads upto =
         ap (λ m. m + first) (ap (λ j. affected_count p j (page u.body)) (sym (here_spot at leads)) ∙ ap (affected_count p at) (sym here_page)) ∙ upto
 
-    pub here_entry : (at : ℕ) (e : Entry) → IsLawful v → at ≡ leads_to (bit_of x.key) (piece v) → slice_get v.entries at ≡ Some e → e ≡ seek x.key (page u.body)
+    pub here_entry : (at : ℕ) (e : Entry) → IsLawfulNode v → at ≡ leads_to (bit_of x.key) (piece v) → slice_get v.entries at ≡ Some e → e ≡ seek x.key (page u.body)
     here_entry at e lawful leads stands = sought_entry x.key v at e lawful leads stands ∙ ap (seek x.key) here_page
 
 pub addable_to : {ns : List NodeView} {ls : List LeafRecord} {x : Item} {p : ℕ} {e f : Entry} {t : Tree} → e ≡ f → IsAddable ns ls x p e t → IsAddable ns ls x p f t
@@ -311,7 +311,7 @@ first_replaced i e (Place d) = refl
 first_replaced i e (Fork p a b) =
     elim (nat_lt i (size a)) as (λ o. first_position (cond o (Fork p (replaced i e a) b) (Fork p a (replaced (i - size a) e b))) ≡ p) [ true ↦ refl | false ↦ refl ]
 
-pub replaced_named : (us : List NodeView) (n at : ℕ) (e : Entry) (old view : NodeView) → slice_get us n ≡ Some view → IsLawful view → view.height ≡ old.height →
+pub replaced_named : (us : List NodeView) (n at : ℕ) (e : Entry) (old view : NodeView) → slice_get us n ≡ Some view → IsLawfulNode view → view.height ≡ old.height →
     piece view ≡ replaced at e (piece old) → IsNamed us old (Node n view.height) (grafted at (Place e) (piece old))
 replaced_named us n at e old view stands lawful high shows = record {
   number = n;
@@ -325,7 +325,7 @@ replaced_named us n at e old view stands lawful high shows = record {
 
 -- the entry that was read stands there still, where the node stayed
 pub child_held : (ns ms : List NodeView) (n at : ℕ) (u v old : NodeView) (e : Entry) → slice_get ns n ≡ Some u → v ≡ get_or ns n v → slice_get ms n ≡ Some u → slice_get ms n ≡ Some old →
-    IsLawful v → slice_get v.entries at ≡ Some e → IsLawful old × (slice_get old.entries at ≡ Some e)
+    IsLawfulNode v → slice_get v.entries at ≡ Some e → IsLawfulNode old × (slice_get old.entries at ≡ Some e)
 child_held ns ms n at u v old e there read still now lawful held =
     let same : v ≡ old = read_at ns n u v there read ∙ same_some (sym still ∙ now) in
-    (subst IsLawful same lawful, ap (λ (w : NodeView). slice_get w.entries at) (sym same) ∙ held)
+    (subst IsLawfulNode same lawful, ap (λ (w : NodeView). slice_get w.entries at) (sym same) ∙ held)

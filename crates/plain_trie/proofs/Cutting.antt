@@ -6,7 +6,7 @@ use Rattle.std.proofs.lemmas.List.{append-nil}
 use Rattle.std.proofs.Math.Seq.{take-append_seam, drop-append_seam, drop-append-add}
 use Rattle.key_bits.specs.Bits.{IsFirstDifference}
 use Rattle.key_bits.specs.Key.{IsKey}
-use Rattle.hot_model.specs.Maps.{key_order}
+use Rattle.finite_map.specs.Maps.{key_order}
 use Rattle.pieces.specs.Growth.{affected_first}
 use Rattle.pieces.specs.Piece.{Fork, size}
 use Rattle.tries.specs.Affected.{affected, IsPart}
@@ -22,7 +22,7 @@ use Rattle.tries.proofs.Places.{spot_below}
 use Rattle.tries.proofs.Ranges.{has_key}
 use Rattle.tries.proofs.Tries.{has_within, within_child, trie_within}
 use Rattle.plain_trie.specs.declared.plain.scan.Start.TheVariants.{Before, Within}
-use Rattle.plain_trie.specs.Gathered.{parts, leaves_of, IsFloor, IsBeyond, IsStart}
+use Rattle.plain_trie.specs.Gathered.{parts, items_of_all, IsNotAboveKeys, IsBeyond, IsScanStart}
 use Rattle.insert_cases.proofs.Affecting.{first_zero, first_one}
 use Rattle.insert_cases.proofs.Choosing.{all_away}
 use Rattle.plain_trie.proofs.Parts.{leaves-append, leaves_parts, length-parts}
@@ -38,7 +38,7 @@ module _ (k : Key) (key : IsKey k) where
   pub tree_beyond : (t : Tree) → IsTrie t → ((y : Key) → Has t y → IsBefore y k) → IsBeyond k (items t)
   tree_beyond t i f = tree_each (λ x. key_order k x.key ≡ Greater) t (λ x h. before_greater x.key k (has_key t i x.key h) key (f x.key h))
 
-  pub tree_floor : (t : Tree) → IsTrie t → ((y : Key) → Has t y → IsBefore k y) → IsFloor k (items t)
+  pub tree_floor : (t : Tree) → IsTrie t → ((y : Key) → Has t y → IsBefore k y) → IsNotAboveKeys k (items t)
   tree_floor t i f =
       tree_each (λ x. key_order k x.key ≢ Greater) t (λ x h g. let less : key_order k x.key ≡ Less = before_less k x.key key (has_key t i x.key h) (f x.key h) in absurd cc)
 
@@ -49,8 +49,8 @@ module _ (k : Key) (key : IsKey k) where
     pub whole : parts b ≡ low ++ (parts (affected p k b) ++ high)
     pub first : affected_first p (spot k (page b)) (page b) ≡ length low
     pub at : spot k (page b) ≡ length low + spot k (page (affected p k b))
-    pub below : IsBeyond k (leaves_of low)
-    pub above : IsFloor k (leaves_of high)
+    pub below : IsBeyond k (items_of_all low)
+    pub above : IsNotAboveKeys k (items_of_all high)
 
   module _ (p : ℕ) (l : Key) (g : AgreeBelow p k l) where
     pub cut_around : (b : Tree) → IsTrie b → Has (child k b) l → IsCutAround p b
@@ -96,8 +96,8 @@ module _ (k : Key) (key : IsKey k) where
                   (first_one p q (page a) (page b) e (spot k (page b)) ∙ omega (arith, r.first, n, length-parts a));
               at = j ∙ (ap (λ (m : ℕ). size (page a) + m) r.at ∙ (let z : spot k (page (affected p k b)) ≡ spot k (page (affected p k (fork q a b))) = ap (λ (t : Tree). spot k (page t)) (sym same) in omega (arith, n, length-parts a)));
               below =
-                  subst (IsBeyond k) (sym (leaves-append (parts a) r.low ∙ ap (λ xs. xs ++ leaves_of r.low) (leaves_parts a)))
-                  (each_append (λ x. key_order k x.key ≡ Greater) (items a) (leaves_of r.low)
+                  subst (IsBeyond k) (sym (leaves-append (parts a) r.low ∙ ap (λ xs. xs ++ items_of_all r.low) (leaves_parts a)))
+                  (each_append (λ x. key_order k x.key ≡ Greater) (items a) (items_of_all r.low)
                   (tree_beyond a i.0 (λ y n. (q, (λ s t. sym (near (ltb-true q p e) (inr (has_within (within_child k b) l (side_one o))) y (inl n) s t), i.3 y n, o)))) r.below);
               above = r.above;
             }
@@ -119,54 +119,54 @@ module _ (k : Key) (key : IsKey k) where
               at = j ∙ (r.at ∙ ap (λ (t : Tree). length r.low + spot k (page t)) (sym same));
               below = r.below;
               above =
-                  subst (IsFloor k) (sym (leaves-append r.high (parts b) ∙ ap (λ xs. leaves_of r.high ++ xs) (leaves_parts b)))
-                  (each_append (λ x. key_order k x.key ≢ Greater) (leaves_of r.high) (items b) r.above
+                  subst (IsNotAboveKeys k) (sym (leaves-append r.high (parts b) ∙ ap (λ xs. items_of_all r.high ++ xs) (leaves_parts b)))
+                  (each_append (λ x. key_order k x.key ≢ Greater) (items_of_all r.high) (items b) r.above
                   (tree_floor b i.1 (λ y n. (q, (near (ltb-true q p e) (inl (has_within (within_child k a) l (side_zero o))) y (inr n), o, i.4 y n)))));
             }
 
   -- where one part alone is affected, a scan goes on in it
-  pub start_within : (p : ℕ) (b : Tree) → IsCutAround p b → IsTip (affected p k b) → IsStart k b Within
+  pub start_within : (p : ℕ) (b : Tree) → IsCutAround p b → IsTip (affected p k b) → IsScanStart k b Within
   start_within p b c tip = go (affected p k b) tip c.whole c.at
     where
-      around : (s : Tree) → parts b ≡ c.low ++ s ∷ c.high → spot k (page b) ≡ length c.low → IsStart k b Within
+      around : (s : Tree) → parts b ≡ c.low ++ s ∷ c.high → spot k (page b) ≡ length c.low → IsScanStart k b Within
       around s e j = (
-        subst (λ ts. IsBeyond k (leaves_of ts)) (sym (ap₂ take j e ∙ take-append_seam c.low (s ∷ c.high))) c.below,
-        subst (λ ts. IsFloor k (leaves_of ts)) (sym (ap₂ (λ n ts. drop (n + 1) ts) j e ∙ drop-append-add c.low (s ∷ c.high) 1)) c.above,
+        subst (λ ts. IsBeyond k (items_of_all ts)) (sym (ap₂ take j e ∙ take-append_seam c.low (s ∷ c.high))) c.below,
+        subst (λ ts. IsNotAboveKeys k (items_of_all ts)) (sym (ap₂ (λ n ts. drop (n + 1) ts) j e ∙ drop-append-add c.low (s ∷ c.high) 1)) c.above,
       )
 
-      go : (s : Tree) → IsTip s → parts b ≡ c.low ++ (parts s ++ c.high) → spot k (page b) ≡ length c.low + spot k (page s) → IsStart k b Within
+      go : (s : Tree) → IsTip s → parts b ≡ c.low ++ (parts s ++ c.high) → spot k (page b) ≡ length c.low + spot k (page s) → IsScanStart k b Within
       go (leaf n m v) t e j = around (leaf n m v) e (omega arith)
       go (node n x d) t e j = around (node n x d) e (omega arith)
       go (fork q x y) t e j = elim t [ ]
 
   -- where the affected part is above the key, a scan starts with it
-  pub start_before : (p : ℕ) (b : Tree) (n : ℕ) → (c : IsCutAround p b) → n ≡ length c.low → IsFloor k (items (affected p k b)) → IsStart k b (Before n)
+  pub start_before : (p : ℕ) (b : Tree) (n : ℕ) → (c : IsCutAround p b) → n ≡ length c.low → IsNotAboveKeys k (items (affected p k b)) → IsScanStart k b (Before n)
   start_before p b n c j f =
       let s : List Tree = parts (affected p k b) in
       let e : drop n (parts b) ≡ s ++ c.high = ap₂ drop j c.whole ∙ drop-append_seam c.low (s ++ c.high) in (
         (let z : length (parts b) ≡ length (c.low ++ (s ++ c.high)) = ap length c.whole in omega (arith, length-append c.low (s ++ c.high))),
-        subst (λ ts. IsBeyond k (leaves_of ts)) (sym (ap₂ take j c.whole ∙ take-append_seam c.low (s ++ c.high))) c.below,
-        subst (λ ts. IsFloor k (leaves_of ts)) (sym e)
-            (subst (IsFloor k) (sym (leaves-append s c.high ∙ ap (λ xs. xs ++ leaves_of c.high) (leaves_parts (affected p k b))))
-            (each_append (λ x. key_order k x.key ≢ Greater) (items (affected p k b)) (leaves_of c.high) f c.above)),
+        subst (λ ts. IsBeyond k (items_of_all ts)) (sym (ap₂ take j c.whole ∙ take-append_seam c.low (s ++ c.high))) c.below,
+        subst (λ ts. IsNotAboveKeys k (items_of_all ts)) (sym e)
+            (subst (IsNotAboveKeys k) (sym (leaves-append s c.high ∙ ap (λ xs. xs ++ items_of_all c.high) (leaves_parts (affected p k b))))
+            (each_append (λ x. key_order k x.key ≢ Greater) (items (affected p k b)) (items_of_all c.high) f c.above)),
       )
 
   -- where it is below the key, a scan starts behind it
-  pub start_behind : (p : ℕ) (b : Tree) (n : ℕ) → (c : IsCutAround p b) → n ≡ length c.low + size (page (affected p k b)) → IsBeyond k (items (affected p k b)) → IsStart k b (Before n)
+  pub start_behind : (p : ℕ) (b : Tree) (n : ℕ) → (c : IsCutAround p b) → n ≡ length c.low + size (page (affected p k b)) → IsBeyond k (items (affected p k b)) → IsScanStart k b (Before n)
   start_behind p b n c j f =
       let s : List Tree = parts (affected p k b) in
       let e : parts b ≡ (c.low ++ s) ++ c.high = c.whole ∙ sym (append_assoc c.low s c.high) in
       let m : n ≡ length (c.low ++ s) = omega (arith, length-append c.low s, length-parts (affected p k b)) in (
         (let z : length (parts b) ≡ length ((c.low ++ s) ++ c.high) = ap length e in omega (arith, length-append (c.low ++ s) c.high)),
-        subst (λ ts. IsBeyond k (leaves_of ts)) (sym (ap₂ take m e ∙ take-append_seam (c.low ++ s) c.high))
-            (subst (IsBeyond k) (sym (leaves-append c.low s ∙ ap (λ xs. leaves_of c.low ++ xs) (leaves_parts (affected p k b))))
-            (each_append (λ x. key_order k x.key ≡ Greater) (leaves_of c.low) (items (affected p k b)) c.below f)),
-        subst (λ ts. IsFloor k (leaves_of ts)) (sym (ap₂ drop m e ∙ drop-append_seam (c.low ++ s) c.high)) c.above,
+        subst (λ ts. IsBeyond k (items_of_all ts)) (sym (ap₂ take m e ∙ take-append_seam (c.low ++ s) c.high))
+            (subst (IsBeyond k) (sym (leaves-append c.low s ∙ ap (λ xs. items_of_all c.low ++ xs) (leaves_parts (affected p k b))))
+            (each_append (λ x. key_order k x.key ≡ Greater) (items_of_all c.low) (items (affected p k b)) c.below f)),
+        subst (λ ts. IsNotAboveKeys k (items_of_all ts)) (sym (ap₂ drop m e ∙ drop-append_seam (c.low ++ s) c.high)) c.above,
       )
 
   -- what a key's first difference from the leaf that its search finds tells of the affected part
   module _ (p : ℕ) (l : Key) (d : IsFirstDifference k l p) (b : Tree) (i : IsTrie b) (h : Has (child k b) l) (part : IsPart (affected p k b)) where
-    pub part_floor_of : bit k p ≡ false → IsFloor k (items (affected p k b))
+    pub part_floor_of : bit k p ≡ false → IsNotAboveKeys k (items (affected p k b))
     part_floor_of o =
         tree_floor (affected p k b) (trie_within (part_place p k b).0 i)
         (λ y n. let z = all_away k l p d b i h part y n in (p, (z.0, o, z.1 ∙ ap (λ (u : Bool). if u then false else true) o)))

@@ -8,9 +8,9 @@ use Rattle.std.specs.Cmp.Lexicographic.{nat_list_cmp_total}
 use Rattle.std.proofs.lemmas.List.{append-nil, take-append-le, take_all}
 use Rattle.std.proofs.lemmas.List.Elements.{filter-append}
 use Rattle.key_bits.specs.Key.{IsKey}
-use Rattle.hot_model.specs.declared.Scan.{Scan}
-use Rattle.hot_model.specs.Maps.{Map, key_order}
-use Rattle.hot_model.specs.Scans.{is_within, range_of, IsScanOf}
+use Rattle.finite_map.specs.declared.Scan.{Scan}
+use Rattle.finite_map.specs.Maps.{Map, key_order}
+use Rattle.finite_map.specs.Scans.{is_within, range_of, IsScanOf}
 use Rattle.tries.specs.Content.{Item, pairs, Each, IsIn}
 use Rattle.tries.specs.Keys.{IsBefore}
 use Rattle.tries.proofs.Contents.{each_in, in_append_left, in_append_right, IsRising}
@@ -18,7 +18,7 @@ use Rattle.tries.proofs.Maps.{AreKeys, before_less}
 use Rattle.plain_trie.specs.declared.plain.scan.Range.{Range}
 use Rattle.plain_trie.specs.declared.plain.scan.Progress.{Progress}
 use Rattle.plain_trie.specs.declared.plain.scan.Progress.TheVariants.{On, Past, Full}
-use Rattle.plain_trie.specs.Gathered.{in_range, IsBeyond, IsGiven, IsPast, IsCut, IsGathered}
+use Rattle.plain_trie.specs.Gathered.{in_range, IsBeyond, IsGiven, IsAboveRange, IsCutAtLimit, IsGathered}
 
 pairs-append : (xs ys : List Item) → pairs (xs ++ ys) ≡ pairs xs ++ pairs ys
 pairs-append [] ys = refl
@@ -111,7 +111,7 @@ module _ (r : Range) where
   given_same : (old new : Map) (xs ys : List Item) → in_range r xs ≡ in_range r ys → IsGiven r old xs new → IsGiven r old ys new
   given_same old new xs ys e g = record { pairs = g.pairs ∙ ap (λ m. old ++ m) e; room = g.room }
 
-  cut_same : (old new : Map) (xs ys : List Item) → in_range r xs ≡ in_range r ys → IsCut r old xs new → IsCut r old ys new
+  cut_same : (old new : Map) (xs ys : List Item) → in_range r xs ≡ in_range r ys → IsCutAtLimit r old xs new → IsCutAtLimit r old ys new
   cut_same old new xs ys e g = record { pairs = g.pairs ∙ ap (λ (m : Map). take r.limit (old ++ m)) e; more = subst (λ (m : Map). r.limit < length (old ++ m)) e g.more }
 
   -- no leaf yet
@@ -157,7 +157,7 @@ module _ (r : Range) where
       joined : old ++ in_range r (xs ++ ys) ≡ (old ++ in_range r xs) ++ in_range r ys
       joined = ap (λ m. old ++ m) (in_append xs ys) ∙ sym (append_assoc old (in_range r xs) (in_range r ys))
 
-      same : IsPast r xs → in_range r xs ≡ in_range r (xs ++ ys)
+      same : IsAboveRange r xs → in_range r xs ≡ in_range r (xs ++ ys)
       same g =
           let none : in_range r ys ≡ [] =
           past_none g.item ys g.above (each_in (λ x. IsKey x.key) xs g.item (each_left (λ x. IsKey x.key) xs ys keys) g.among)

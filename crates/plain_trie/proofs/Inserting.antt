@@ -9,9 +9,9 @@ use Rattle.pieces.specs.Piece.{Place, places}
 use Rattle.compound_node.specs.Nodes.{NodeView, height_of, greatest_height}
 use Rattle.compound_node.specs.declared.entries.Entry.{Entry}
 use Rattle.compound_node.specs.declared.entries.Entry.TheVariants.{Leaf}
-use Rattle.hot_model.specs.Maps.{Map, with_value, value_at, step_where, reply_of, map_after}
-use Rattle.hot_model.specs.declared.Call.TheVariants.{Insert, Upsert}
-use Rattle.hot_model.specs.declared.Reply.TheVariants.{Inserted, Exists, New, Was}
+use Rattle.finite_map.specs.Maps.{Map, with_value, value_at, step_where, reply_of, map_after}
+use Rattle.finite_map.specs.declared.Call.TheVariants.{Insert, Upsert}
+use Rattle.finite_map.specs.declared.Reply.TheVariants.{Inserted, Exists, New, Was}
 use Rattle.tries.proofs.Changes.{put, IsExchanged}
 use Rattle.tries.specs.Content.{Item, items, pairs, item}
 use Rattle.tries.specs.Keys.{Key, bit}
@@ -24,7 +24,7 @@ use Rattle.tries.proofs.Puts.{page_put}
 use Rattle.plain_trie.specs.declared.plain.LeafRecord.{LeafRecord}
 use Rattle.plain_trie.specs.Adding.{IsStanding, IsAbsentFrom}
 use Rattle.plain_trie.specs.Rising.{IsRaised}
-use Rattle.plain_trie.specs.Store.{PlainView, IsShown, IsSound, IsPlain, IsHeldInLeaf, tree_of, map_of, read, record_of}
+use Rattle.plain_trie.specs.Store.{PlainView, ShowsTree, IsSound, ShowsSoundTree, IsHeldInLeaf, shown_tree, trie_map, entry_tree, item_record}
 use Rattle.tries.proofs.Building.{lower_from, lower_to}
 use Rattle.insert_cases.proofs.Choosing.{same_some}
 use Rattle.plain_trie.proofs.Reading.{IsTree, plain_tree, tree_is, tree_plain}
@@ -35,10 +35,10 @@ use Rattle.tries.specs.Search.{found}
 
 -- a trie with this map
 abbrev pub Becomes : PlainView → PlainView → Key → ℕ → Type 0
-Becomes v w k x = IsPlain w × (map_of w ≡ with_value (map_of v) k x)
+Becomes v w k x = ShowsSoundTree w × (trie_map w ≡ with_value (trie_map v) k x)
 
-becomes : (v w : PlainView) (e : Entry) (t : Tree) (k : Key) (x : ℕ) → w.top ≡ Some e → page t ≡ Place e → IsTrie t → IsBuilt t → IsShown w.nodes w.leaves t →
-    with_value (map_of v) k x ≡ pairs (items t) → Becomes v w k x
+becomes : (v w : PlainView) (e : Entry) (t : Tree) (k : Key) (x : ℕ) → w.top ≡ Some e → page t ≡ Place e → IsTrie t → IsBuilt t → ShowsTree w.nodes w.leaves t →
+    with_value (trie_map v) k x ≡ pairs (items t) → Becomes v w k x
 becomes v w e t k x top head trie built shown same =
     let sound : IsSound t = record { trie = trie; built = built } in
     (tree_plain w e t top head sound shown, map_is w t (tree_is w e t top head sound shown) ∙ sym same)
@@ -55,10 +55,10 @@ tree_standing v e t i = record { head = i.head; trie = i.sound.trie; built = i.s
 
 -- the root with the same records, whatever the vectors have room for
 pub kept_plain : (ns ms : List NodeView) (ls us : List LeafRecord) (o : Option Entry) (a b c d : ℕ) → ms ≡ ns → us ≡ ls →
-    IsPlain (record { nodes = ns; leaves = ls; top = o; node_capacity = a; leaf_capacity = b }) → IsPlain (record { nodes = ms; leaves = us; top = o; node_capacity = c; leaf_capacity = d })
+    ShowsSoundTree (record { nodes = ns; leaves = ls; top = o; node_capacity = a; leaf_capacity = b }) → ShowsSoundTree (record { nodes = ms; leaves = us; top = o; node_capacity = c; leaf_capacity = d })
 kept_plain ns ms ls us o a b c d e f i =
-    subst (λ xs. IsPlain (record { nodes = xs; leaves = us; top = o; node_capacity = c; leaf_capacity = d })) (sym e)
-    (subst (λ ys. IsPlain (record { nodes = ns; leaves = ys; top = o; node_capacity = c; leaf_capacity = d })) (sym f) i)
+    subst (λ xs. ShowsSoundTree (record { nodes = xs; leaves = us; top = o; node_capacity = c; leaf_capacity = d })) (sym e)
+    (subst (λ ys. ShowsSoundTree (record { nodes = ns; leaves = ys; top = o; node_capacity = c; leaf_capacity = d })) (sym f) i)
 
 pub same_view : (ns ms : List NodeView) (ls us : List LeafRecord) (o : Option Entry) (a b c : ℕ) → ms ≡ ns → us ≡ ls → c ≡ a →
     ◌≡◌ {A = PlainView} (record { nodes = ms; leaves = us; top = o; node_capacity = c; leaf_capacity = b }) (record { nodes = ns; leaves = ls; top = o; node_capacity = a; leaf_capacity = b })
@@ -99,7 +99,7 @@ put_same (one_side w) r e b i = (i.0, put_same w r e b i.1)
 
 -- a tree without the key stays shown where that key's leaf changes
 shown_else : (ns : List NodeView) (ls : List LeafRecord) (n : ℕ) (l m : LeafRecord) (t : Tree) → slice_get ls n ≡ Some l → ((k : Key) → Has t k → k ≢ l.key) →
-    IsShown ns ls t → IsShown ns (set ls n m) t
+    ShowsTree ns ls t → ShowsTree ns (set ls n m) t
 shown_else ns ls n l m (leaf o k v) at other i =
     set_other ls n o m _ (λ e. other k refl (ap (λ (r : LeafRecord). r.key) (same_some (sym i ∙ (ap (slice_get ls) (sym e) ∙ at))))) i
 shown_else ns ls n l m (node o x b) at other i = (i.0, shown_else ns ls n l m b at other i.1)
@@ -107,7 +107,7 @@ shown_else ns ls n l m (fork p a b) at other i =
     (shown_else ns ls n l m a at (λ k h. other k (inl h)) i.0, shown_else ns ls n l m b at (λ k h. other k (inr h)) i.1)
 
 shown_put : (ns : List NodeView) (ls : List LeafRecord) (n : ℕ) (k : Key) (v x : ℕ) {t : Tree} (w : Within (leaf n k v) t) → IsTrie t → slice_get ls n ≡ Some (record { key = k; value = v }) →
-    IsShown ns ls t → IsShown ns (set ls n (record { key = k; value = x })) (put w (leaf n k x))
+    ShowsTree ns ls t → ShowsTree ns (set ls n (record { key = k; value = x })) (put w (leaf n k x))
 shown_put ns ls n k v x here trie at i = set_same ls n _ (slice_get_within ls n _ at)
 shown_put ns ls n k v x (inside {b = d} w) trie at i =
     (record { view = i.0.view; at = i.0.at; fixed = i.0.fixed; shows = i.0.shows ∙ sym (page_put w (leaf n k x) refl) }, shown_put ns ls n k v x w trie at i.1)
@@ -123,19 +123,19 @@ shown_put ns ls n k v x (one_side {p = p} {a = a} {b = d} w) trie at i = (
 )
 
 -- a trie with a tree has a root
-top_of : (v : PlainView) (t : Tree) → tree_of v ≡ Some t → (e : Entry) × (v.top ≡ Some e)
+top_of : (v : PlainView) (t : Tree) → shown_tree v ≡ Some t → (e : Entry) × (v.top ≡ Some e)
 top_of v t e = go v.top refl
   where
     go : (o : Option Entry) → v.top ≡ o → (d : Entry) × (v.top ≡ Some d)
-    go None i = absurd (let z : None ≡ Some t = sym (ap (option_and_then (λ z. read v.nodes v.leaves (height_of z) z)) i) ∙ e in cc)
+    go None i = absurd (let z : None ≡ Some t = sym (ap (option_and_then (λ z. entry_tree v.nodes v.leaves (height_of z) z)) i) ∙ e in cc)
     go (Some d) i = (d, i)
 
-pub held_becomes : (v w : PlainView) (k : Key) (n x : ℕ) → IsPlain v → IsHeldInLeaf v k n → w.nodes ≡ v.nodes → w.leaves ≡ set v.leaves n (record { key = k; value = x }) → w.top ≡ v.top →
+pub held_becomes : (v w : PlainView) (k : Key) (n x : ℕ) → ShowsSoundTree v → IsHeldInLeaf v k n → w.nodes ≡ v.nodes → w.leaves ≡ set v.leaves n (record { key = k; value = x }) → w.top ≡ v.top →
     Becomes v w k x
 held_becomes v w k n x plain held nodes leaves top =
     becomes v w e.0 (put place new) k x (top ∙ e.1) (page_put place new refl ∙ (ap page (sym same) ∙ t.1.head)) exchange.trie (put_same place new refl tt (subst IsBuilt same t.1.sound.built))
-    (subst (λ ns. IsShown ns w.leaves (put place new)) (sym nodes) (subst (λ ls. IsShown v.nodes ls (put place new)) (sym leaves)
-    (shown_put v.nodes v.leaves n k y.value x place trie at (subst (IsShown v.nodes v.leaves) same t.1.shown))))
+    (subst (λ ns. ShowsTree ns w.leaves (put place new)) (sym nodes) (subst (λ ls. ShowsTree v.nodes ls (put place new)) (sym leaves)
+    (shown_put v.nodes v.leaves n k y.value x place trie at (subst (ShowsTree v.nodes v.leaves) same t.1.shown))))
     (ap (λ m. with_value m k x) (map_is v held.tree held.is) ∙
     exchange_inserts (item n k y.value) (item n k x) (items held.tree) (items (put place new)) exchange.exchange refl (content_rises held.tree trie) (are_keys held.tree trie))
   where
@@ -162,22 +162,22 @@ held_becomes v w k n x plain held nodes leaves top =
         (subst (λ l. Within (leaf (found k held.tree).number l (found k held.tree).value) held.tree) held.key (found_place k held.tree))
 
     at : slice_get v.leaves n ≡ Some (record { key = k; value = (found k held.tree).value })
-    at = held.at ∙ ap (λ l. Some (record_of (item n l (found k held.tree).value))) held.key
+    at = held.at ∙ ap (λ l. Some (item_record (item n l (found k held.tree).value))) held.key
 
     exchange : IsExchanged (item n k (found k held.tree).value) (item n k x) held.tree (put place (leaf n k x))
     exchange = exchanged_put place (leaf n k x) (item n k (found k held.tree).value) (item n k x) trie (exchanged_leaf n n k (found k held.tree).value x (trie_within place trie))
 
 -- ---- what the map has for the key
 -- the value that stands in the leaf of a held key
-pub held_value : (u v : PlainView) (k : Key) (n : ℕ) (l : LeafRecord) → IsPlain u → u ≡ v → IsHeldInLeaf v k n → l ≡ get_or u.leaves n l → value_at (map_of v) k ≡ Some l.value
+pub held_value : (u v : PlainView) (k : Key) (n : ℕ) (l : LeafRecord) → ShowsSoundTree u → u ≡ v → IsHeldInLeaf v k n → l ≡ get_or u.leaves n l → value_at (trie_map v) k ≡ Some l.value
 held_value u v k n l plain same held at =
     let e = top_of v held.tree held.is in
-    let t = plain_tree v e.0 e.1 (subst IsPlain same plain) in
+    let t = plain_tree v e.0 e.1 (subst ShowsSoundTree same plain) in
     let trie = subst IsTrie (same_some (sym t.1.is ∙ held.is)) t.1.sound.trie in
-    let leaf = read_at v.leaves n (record_of (found k held.tree)) l held.at (rw (← same) at) in
+    let leaf = read_at v.leaves n (item_record (found k held.tree)) l held.at (rw (← same) at) in
     ap (λ m. value_at m k) (map_is v held.tree held.is) ∙ (value_found k held.tree trie held.key ∙ ap (λ (r : LeafRecord). Some r.value) (sym leaf))
 
-pub absent_value : (v : PlainView) (k : Key) (e : Entry) (t : Tree) → IsTree v e t → IsAbsentFrom k t → value_at (map_of v) k ≡ None
+pub absent_value : (v : PlainView) (k : Key) (e : Entry) (t : Tree) → IsTree v e t → IsAbsentFrom k t → value_at (trie_map v) k ≡ None
 absent_value v k e t i o = ap (λ m. value_at m k) (map_is v t i.is) ∙ value_missed k t i.sound.trie (λ same. o.differ.differ (ap (λ l. bit_of l o.position) (sym same)))
 
 -- ---- what the calls answer

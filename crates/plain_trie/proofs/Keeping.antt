@@ -10,7 +10,7 @@ use Rattle.tries.proofs.Tries.{has_first}
 use Rattle.plain_trie.specs.declared.plain.LeafRecord.{LeafRecord}
 use Rattle.plain_trie.specs.Rising.{NoNode, StaysStored}
 use Rattle.plain_trie.specs.Risen.{OthersStay}
-use Rattle.plain_trie.specs.Store.{IsNodeStored, IsShown}
+use Rattle.plain_trie.specs.Store.{IsNodeStored, ShowsTree}
 use Rattle.insert_cases.proofs.Choosing.{same_some}
 
 -- the trees have no key in common
@@ -36,7 +36,7 @@ module _ (ns : List NodeView) where
   part_parts e = (cc, cc, cc)
 
   -- what the records show is determined by the entry
-  pub determined : (ls : List LeafRecord) (s t : Tree) → IsShown ns ls s → IsShown ns ls t → page s ≡ page t → s ≡ t
+  pub determined : (ls : List LeafRecord) (s t : Tree) → ShowsTree ns ls s → ShowsTree ns ls t → page s ≡ page t → s ≡ t
   determined ls (leaf n k v) (leaf o l w) i j e =
       let x : n ≡ o = leaf_parts e in
       let r = same_some (sym i ∙ (ap (slice_get ls) x ∙ j)) in
@@ -60,7 +60,7 @@ module _ (ns : List NodeView) where
       ap₂ (λ (u : Tree) (w : Tree). fork p u w) y z ∙ ap (λ r. fork r c d) x.0
 
   -- a node that the records show is in no tree that has none of its keys
-  pub no_node : (ls : List LeafRecord) (n : ℕ) (x : Fixed) (b s : Tree) → IsShown ns ls (node n x b) → IsShown ns ls s → IsApart (node n x b) s → NoNode n s
+  pub no_node : (ls : List LeafRecord) (n : ℕ) (x : Fixed) (b s : Tree) → ShowsTree ns ls (node n x b) → ShowsTree ns ls s → IsApart (node n x b) s → NoNode n s
   no_node ls n x b (leaf m k v) i j a = tt
   no_node ls n x b (node m y d) i j a = (
     λ e.
@@ -77,7 +77,7 @@ module _ (ns : List NodeView) where
   lower_more h g (fork p a b) l e = (lower_more h g a l.0 e, lower_more h g b l.1 e)
 
   -- nor is it in a lower one
-  pub no_node_below : (ls : List LeafRecord) (n h : ℕ) (v : NodeView) (t : Tree) → slice_get ns n ≡ Some v → v.height ≡ h → IsLower h t → IsBuilt t → IsShown ns ls t → NoNode n t
+  pub no_node_below : (ls : List LeafRecord) (n h : ℕ) (v : NodeView) (t : Tree) → slice_get ns n ≡ Some v → v.height ≡ h → IsLower h t → IsBuilt t → ShowsTree ns ls t → NoNode n t
   no_node_below ls n h v (leaf m k w) at e l b i = tt
   no_node_below ls n h v (node m x d) at e l b i = (
     λ same.
@@ -89,7 +89,7 @@ module _ (ns : List NodeView) where
   no_node_below ls n h v (fork p c d) at e l b i = (no_node_below ls n h v c at e l.0 b.0 i.0, no_node_below ls n h v d at e l.1 b.1 i.1)
 
 -- A tree that has none of the keys of s stays shown.
-pub shown_kept : (ns ms : List NodeView) (ls : List LeafRecord) (s t : Tree) → StaysStored ns ms s → IsShown ns ls s → IsShown ns ls t → IsApart t s → IsShown ms ls t
+pub shown_kept : (ns ms : List NodeView) (ls : List LeafRecord) (s t : Tree) → StaysStored ns ms s → ShowsTree ns ls s → ShowsTree ns ls t → IsApart t s → ShowsTree ms ls t
 shown_kept ns ms ls s (leaf n k v) c i j a = j
 shown_kept ns ms ls s (node n x b) c i j a = (
   record { view = j.0.view; at = c n j.0.view (no_node ns ls n x b s j i a) j.0.at; fixed = j.0.fixed; shows = j.0.shows },
@@ -101,7 +101,7 @@ shown_kept ns ms ls s (fork p b d) c i j a = (
 )
 
 -- A tree without node n stays shown where that node alone changes.
-pub shown_but : (ns ms : List NodeView) (ls : List LeafRecord) (n : ℕ) (t : Tree) → OthersStay ns ms n → NoNode n t → IsShown ns ls t → IsShown ms ls t
+pub shown_but : (ns ms : List NodeView) (ls : List LeafRecord) (n : ℕ) (t : Tree) → OthersStay ns ms n → NoNode n t → ShowsTree ns ls t → ShowsTree ms ls t
 shown_but ns ms ls n (leaf m k v) f none j = j
 shown_but ns ms ls n (node m x b) f none j = (
   record { view = j.0.view; at = f m j.0.view none.0 j.0.at; fixed = j.0.fixed; shows = j.0.shows },
@@ -111,7 +111,7 @@ shown_but ns ms ls n (fork p b d) f none j = (shown_but ns ms ls n b f none.0 j.
 
 -- Each tree stays shown where records are added.
 pub shown_more : (ns ms : List NodeView) (ls ks : List LeafRecord) (t : Tree) → ((m : ℕ) (v : NodeView) → slice_get ns m ≡ Some v → slice_get ms m ≡ Some v) →
-    ((m : ℕ) (l : LeafRecord) → slice_get ls m ≡ Some l → slice_get ks m ≡ Some l) → IsShown ns ls t → IsShown ms ks t
+    ((m : ℕ) (l : LeafRecord) → slice_get ls m ≡ Some l → slice_get ks m ≡ Some l) → ShowsTree ns ls t → ShowsTree ms ks t
 shown_more ns ms ls ks (leaf m k v) f g j = g m _ j
 shown_more ns ms ls ks (node m x b) f g j =
     (record { view = j.0.view; at = f m j.0.view j.0.at; fixed = j.0.fixed; shows = j.0.shows }, shown_more ns ms ls ks b f g j.1)

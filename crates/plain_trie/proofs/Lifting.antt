@@ -26,12 +26,12 @@ use Rattle.insert_cases.specs.declared.raising.Risen.{Risen}
 use Rattle.insert_cases.specs.Risen.{page_of}
 use Rattle.plain_trie.specs.Risen.{RisenShows, OthersStay}
 use Rattle.plain_trie.specs.Rising.{NoNode, IsRaised}
-use Rattle.plain_trie.specs.Store.{IsShown}
+use Rattle.plain_trie.specs.Store.{ShowsTree}
 use Rattle.plain_trie.proofs.Keeping.{lower_more, no_node_below, shown_but}
 use Rattle.plain_trie.proofs.Raised.{risen_around, child_spot, put_kept, added_node}
 use Rattle.plain_trie.proofs.Searching.{shown_within}
 
-put_shown : (ns : List NodeView) (ls : List LeafRecord) {s b : Tree} (w : Within s b) → IsFlat w → (r : Tree) → IsShown ns ls b → IsShown ns ls r → IsShown ns ls (put w r)
+put_shown : (ns : List NodeView) (ls : List LeafRecord) {s b : Tree} (w : Within s b) → IsFlat w → (r : Tree) → ShowsTree ns ls b → ShowsTree ns ls r → ShowsTree ns ls (put w r)
 put_shown ns ls here f r i j = j
 put_shown ns ls (inside w) f r i j = elim f [ ]
 put_shown ns ls (zero_side w) f r i j = (put_shown ns ls w f r i.0 j, i.1)
@@ -50,7 +50,7 @@ no_node_part n (zero_side w) f l = no_node_part n w f l.0
 no_node_part n (one_side w) f l = no_node_part n w f l.1
 
 -- a node of the tree, as the records have it
-module _ (ns : List NodeView) (ls : List LeafRecord) (n : ℕ) (x : Fixed) (b : Tree) (trie : IsTrie b) (built : IsBuilt (node n x b)) (shown : IsShown ns ls (node n x b)) where
+module _ (ns : List NodeView) (ls : List LeafRecord) (n : ℕ) (x : Fixed) (b : Tree) (trie : IsTrie b) (built : IsBuilt (node n x b)) (shown : ShowsTree ns ls (node n x b)) where
   old : NodeView
   old = shown.0.view
 
@@ -69,10 +69,10 @@ module _ (ns : List NodeView) (ls : List LeafRecord) (n : ℕ) (x : Fixed) (b : 
       (away : (y : Key) → Has (affected p it.key b) y → IsAway p it.key y)
       (new : slice_get ls it.number ≡ Some (record { key = it.key; value = it.value }))
       (others : OthersStay ns ms n) (risen : Risen) (shows : RisenShows ms shown.0.view risen (page_grown p it.key (Leaf it.number) (page b))) where
-    kept_body : IsShown ms ls b
+    kept_body : ShowsTree ms ls b
     kept_body = shown_but ns ms ls n b others not_below shown.1
 
-    new_part : (u : Bool) → IsShown ms ls (grown u p (affected p it.key b) it) × IsBuilt (grown u p (affected p it.key b) it) × IsLower x.height (grown u p (affected p it.key b) it)
+    new_part : (u : Bool) → ShowsTree ms ls (grown u p (affected p it.key b) it) × IsBuilt (grown u p (affected p it.key b) it) × IsLower x.height (grown u p (affected p it.key b) it)
     new_part false = (
       (new, shown_within ms ls (part_place p it.key b).0 kept_body),
       (tt, built_within (part_place p it.key b).0 built.2),
@@ -117,7 +117,7 @@ module _ (ns : List NodeView) (ls : List LeafRecord) (n : ℕ) (x : Fixed) (b : 
     pub body_built : IsBuilt (put (child_spot it.key b).place up.tree)
     body_built = built_flat (child_spot it.key b).place (child_spot it.key b).flat up.tree built.2 up.built
 
-    body_shown : IsShown ms ls (put (child_spot it.key b).place up.tree)
+    body_shown : ShowsTree ms ls (put (child_spot it.key b).place up.tree)
     body_shown =
         put_kept ns ms ls (child_spot it.key b).place (child_spot it.key b).flat up.tree trie shown.1 (shown_within ns ls (child_spot it.key b).place shown.1) up.kept up.shown
 

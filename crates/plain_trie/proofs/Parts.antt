@@ -8,21 +8,21 @@ use Rattle.pieces.specs.Piece.{Place, places, size}
 use Rattle.compound_node.specs.declared.entries.Entry.{Entry}
 use Rattle.std.specs.declared.cmp.Ordering.TheVariants.{Greater}
 use Rattle.key_bits.specs.Key.{IsKey}
-use Rattle.hot_model.specs.Maps.{key_order}
+use Rattle.finite_map.specs.Maps.{key_order}
 use Rattle.tries.specs.Content.{Item, items}
 use Rattle.tries.specs.Keys.{Key}
 use Rattle.tries.specs.Tree.{Page, Tree, leaf, node, fork, page, IsTrie, Within, here, zero_side, one_side}
 use Rattle.tries.proofs.Contents.{content_rises, IsRising}
 use Rattle.tries.proofs.Maps.{AreKeys, are_keys}
-use Rattle.plain_trie.specs.Gathered.{parts, leaves_of, items_from, IsFloor}
+use Rattle.plain_trie.specs.Gathered.{parts, items_of_all, items_from, IsNotAboveKeys}
 use Rattle.plain_trie.proofs.Gathering.{each_left, each_right}
 
-pub leaves-append : (ss ts : List Tree) → leaves_of (ss ++ ts) ≡ leaves_of ss ++ leaves_of ts
+pub leaves-append : (ss ts : List Tree) → items_of_all (ss ++ ts) ≡ items_of_all ss ++ items_of_all ts
 leaves-append [] ts = refl
-leaves-append (s ∷ ss) ts = ap (λ xs. items s ++ xs) (leaves-append ss ts) ∙ sym (append_assoc (items s) (leaves_of ss) (leaves_of ts))
+leaves-append (s ∷ ss) ts = ap (λ xs. items s ++ xs) (leaves-append ss ts) ∙ sym (append_assoc (items s) (items_of_all ss) (items_of_all ts))
 
 -- the leaves of the parts are those of the body
-pub leaves_parts : (b : Tree) → leaves_of (parts b) ≡ items b
+pub leaves_parts : (b : Tree) → items_of_all (parts b) ≡ items b
 leaves_parts (leaf n k v) = refl
 leaves_parts (node n x b) = append-nil (items b)
 leaves_parts (fork p a b) = leaves-append (parts a) (parts b) ∙ ap₂ (λ (xs ys : List Item). xs ++ ys) (leaves_parts a) (leaves_parts b)
@@ -77,36 +77,36 @@ part_within b i d h = each_at (λ t. Within t b) (parts b) i d (parts_within b) 
 
 -- the leaves of one part more
 pub leaves_more : (b : Tree) (i j : ℕ) (d : Tree) → i ≤ j → j < length (parts b) →
-    leaves_of (drop i (take (j + 1) (parts b))) ≡ leaves_of (drop i (take j (parts b))) ++ items (get_or (parts b) j d)
+    items_of_all (drop i (take (j + 1) (parts b))) ≡ items_of_all (drop i (take j (parts b))) ++ items (get_or (parts b) j d)
 leaves_more b i j d h g =
     let ts : List Tree = parts b in
     let n : length (take j ts) ≡ j = length-take-le j ts (omega arith) in
     let t : Tree = get_or ts j d in
     let e : take (j + 1) ts ≡ take j ts ++ t ∷ [] = rw add-one (take-suc ts j d g) in
-    ap (λ (us : List Tree). leaves_of (drop i us)) e ∙
-    (ap leaves_of (drop-append-le i (take j ts) (t ∷ []) (omega arith)) ∙
-    (leaves-append (drop i (take j ts)) (t ∷ []) ∙ ap (λ xs. leaves_of (drop i (take j ts)) ++ xs) (append-nil (items t))))
+    ap (λ (us : List Tree). items_of_all (drop i us)) e ∙
+    (ap items_of_all (drop-append-le i (take j ts) (t ∷ []) (omega arith)) ∙
+    (leaves-append (drop i (take j ts)) (t ∷ []) ∙ ap (λ xs. items_of_all (drop i (take j ts)) ++ xs) (append-nil (items t))))
 
 -- at first there are none, and at last all
-pub leaves_none : (b : Tree) (i : ℕ) → i ≤ length (parts b) → leaves_of (drop i (take i (parts b))) ≡ []
-leaves_none b i h = ap leaves_of (drop_all i (take i (parts b)) (let n = length-take-le i (parts b) h in omega arith))
+pub leaves_none : (b : Tree) (i : ℕ) → i ≤ length (parts b) → items_of_all (drop i (take i (parts b))) ≡ []
+leaves_none b i h = ap items_of_all (drop_all i (take i (parts b)) (let n = length-take-le i (parts b) h in omega arith))
 
-pub leaves_all : (b : Tree) (i j : ℕ) → length (parts b) ≤ j → leaves_of (drop i (take j (parts b))) ≡ items_from i b
-leaves_all b i j h = ap (λ (us : List Tree). leaves_of (drop i us)) (take_all j (parts b) h)
+pub leaves_all : (b : Tree) (i j : ℕ) → length (parts b) ≤ j → items_of_all (drop i (take j (parts b))) ≡ items_from i b
+leaves_all b i j h = ap (λ (us : List Tree). items_of_all (drop i us)) (take_all j (parts b) h)
 
 -- all leaves are those of the places before one and those from it on
-pub leaves_split : (b : Tree) (i j : ℕ) → i ≤ j → j ≤ length (parts b) → items_from i b ≡ leaves_of (drop i (take j (parts b))) ++ items_from j b
+pub leaves_split : (b : Tree) (i j : ℕ) → i ≤ j → j ≤ length (parts b) → items_from i b ≡ items_of_all (drop i (take j (parts b))) ++ items_from j b
 leaves_split b i j h g =
     let n : length (take j (parts b)) ≡ j = length-take-le j (parts b) g in
-    ap (λ (us : List Tree). leaves_of (drop i us)) (sym (take-append-drop j (parts b))) ∙
-    (ap leaves_of (drop-append-le i (take j (parts b)) (drop j (parts b)) (omega arith)) ∙ leaves-append (drop i (take j (parts b))) (drop j (parts b)))
+    ap (λ (us : List Tree). items_of_all (drop i us)) (sym (take-append-drop j (parts b))) ∙
+    (ap items_of_all (drop-append-le i (take j (parts b)) (drop j (parts b)) (omega arith)) ∙ leaves-append (drop i (take j (parts b))) (drop j (parts b)))
 
-pub items_split : (b : Tree) (i : ℕ) → items b ≡ leaves_of (take i (parts b)) ++ items_from i b
-items_split b i = sym (leaves_parts b) ∙ (ap leaves_of (sym (take-append-drop i (parts b))) ∙ leaves-append (take i (parts b)) (drop i (parts b)))
+pub items_split : (b : Tree) (i : ℕ) → items b ≡ items_of_all (take i (parts b)) ++ items_from i b
+items_split b i = sym (leaves_parts b) ∙ (ap items_of_all (sym (take-append-drop i (parts b))) ∙ leaves-append (take i (parts b)) (drop i (parts b)))
 
 -- the leaves from one place on, by those before another one, at it, and behind it
 pub leaves_around : (b : Tree) (i j : ℕ) (d : Tree) → i ≤ j → j < length (parts b) →
-    items_from i b ≡ (leaves_of (drop i (take j (parts b))) ++ items (get_or (parts b) j d)) ++ items_from (j + 1) b
+    items_from i b ≡ (items_of_all (drop i (take j (parts b))) ++ items (get_or (parts b) j d)) ++ items_from (j + 1) b
 leaves_around b i j d h g = leaves_split b i (j + 1) (omega arith) (omega arith) ∙ ap (λ xs. xs ++ items_from (j + 1) b) (leaves_more b i j d h g)
 
 rising_right : (xs ys : List Item) → IsRising (xs ++ ys) → IsRising ys
@@ -114,14 +114,14 @@ rising_right [] ys r = r
 rising_right (x ∷ xs) ys r = rising_right xs ys r.1
 
 pub from_rises : (b : Tree) (i : ℕ) → IsTrie b → IsRising (items_from i b)
-from_rises b i t = rising_right (leaves_of (take i (parts b))) (items_from i b) (subst IsRising (items_split b i) (content_rises b t))
+from_rises b i t = rising_right (items_of_all (take i (parts b))) (items_from i b) (subst IsRising (items_split b i) (content_rises b t))
 
 pub from_keys : (b : Tree) (i : ℕ) → IsTrie b → AreKeys (items_from i b)
-from_keys b i t = each_right (λ x. IsKey x.key) (leaves_of (take i (parts b))) (items_from i b) (subst AreKeys (items_split b i) (are_keys b t))
+from_keys b i t = each_right (λ x. IsKey x.key) (items_of_all (take i (parts b))) (items_from i b) (subst AreKeys (items_split b i) (are_keys b t))
 
 -- a floor of the leaves from a place on is one of each later place's
-pub part_floor : (k : Key) (b : Tree) (i j : ℕ) (d : Tree) → i ≤ j → j < length (parts b) → IsFloor k (items_from i b) → IsFloor k (items (get_or (parts b) j d))
+pub part_floor : (k : Key) (b : Tree) (i j : ℕ) (d : Tree) → i ≤ j → j < length (parts b) → IsNotAboveKeys k (items_from i b) → IsNotAboveKeys k (items (get_or (parts b) j d))
 part_floor k b i j d h g f =
-    each_right (λ x. key_order k x.key ≢ Greater) (leaves_of (drop i (take j (parts b)))) (items (get_or (parts b) j d))
-    (each_left (λ x. key_order k x.key ≢ Greater) (leaves_of (drop i (take j (parts b))) ++ items (get_or (parts b) j d)) (items_from (j + 1) b)
-    (subst (IsFloor k) (leaves_around b i j d h g) f))
+    each_right (λ x. key_order k x.key ≢ Greater) (items_of_all (drop i (take j (parts b)))) (items (get_or (parts b) j d))
+    (each_left (λ x. key_order k x.key ≢ Greater) (items_of_all (drop i (take j (parts b))) ++ items (get_or (parts b) j d)) (items_from (j + 1) b)
+    (subst (IsNotAboveKeys k) (leaves_around b i j d h g) f))

@@ -24,7 +24,7 @@ use Rattle.insert_cases.specs.declared.raising.Risen.{Risen}
 use Rattle.insert_cases.specs.declared.raising.Risen.TheVariants.{Whole, Split}
 use Rattle.insert_cases.specs.Risen.{page_of}
 use Rattle.plain_trie.specs.Risen.{IsNamed, IsFor, RisenShows}
-use Rattle.plain_trie.specs.Store.{IsShown}
+use Rattle.plain_trie.specs.Store.{ShowsTree}
 use Rattle.plain_trie.specs.Rising.{StaysStored}
 use Rattle.plain_trie.proofs.Keeping.{lower_more, shown_kept}
 
@@ -36,10 +36,10 @@ pub record IsAround (ms : List NodeView) (ls : List LeafRecord) (h : ℕ) (head 
   pub same : bare tree ≡ bare b
   pub built : IsBuilt tree
   pub lower : IsLower (suc h) tree
-  pub shown : IsShown ms ls tree
+  pub shown : ShowsTree ms ls tree
 
 module _ (ms : List NodeView) (ls : List LeafRecord) (old : NodeView) (bounded : old.height + first_position (piece old) ≤ 9 * MAX_BYTES) where
-  named_around : (e : Entry) (s : Tree) → IsNamed ms old e (page s) → IsTrie s → IsBuilt s → IsShown ms ls s → IsLower old.height s → IsAround ms ls old.height (Place e) s
+  named_around : (e : Entry) (s : Tree) → IsNamed ms old e (page s) → IsTrie s → IsBuilt s → ShowsTree ms ls s → IsLower old.height s → IsAround ms ls old.height (Place e) s
   named_around e s i trie built shown low = record {
     tree = node i.number (head_of i.view) s;
     begins = ap (λ z. let y : Page = Place z in y) (sym i.is);
@@ -68,13 +68,13 @@ module _ (ms : List NodeView) (ls : List LeafRecord) (old : NodeView) (bounded :
           let g : first_position (piece old) ≡ first_position (page s) = sym e.1 ∙ ap first_position i.shows in
           omega (arith, bounded)
 
-  for_around : (e : Entry) (s : Tree) → IsFor ms old e (page s) → IsTrie s → IsBuilt s → IsShown ms ls s → IsLower old.height s → IsAround ms ls old.height (Place e) s
+  for_around : (e : Entry) (s : Tree) → IsFor ms old e (page s) → IsTrie s → IsBuilt s → ShowsTree ms ls s → IsLower old.height s → IsAround ms ls old.height (Place e) s
   for_around e s (inl is) trie built shown low =
       record { tree = s; begins = is; same = refl; built = built; lower = lower_more ms old.height (suc old.height) s low (omega arith); shown = shown }
   for_around e s (inr i) trie built shown low = named_around e s i trie built shown low
 
   -- what takes the node's place, where the node is to show this body
-  pub risen_around : (risen : Risen) (b : Tree) → RisenShows ms old risen (page b) → IsTrie b → IsBuilt b → IsShown ms ls b → IsLower old.height b →
+  pub risen_around : (risen : Risen) (b : Tree) → RisenShows ms old risen (page b) → IsTrie b → IsBuilt b → ShowsTree ms ls b → IsLower old.height b →
       IsAround ms ls old.height (page_of risen) b
   risen_around (Whole e) b i trie built shown low = named_around e b i trie built shown low
   risen_around (Split p z o) (leaf n k v) i trie built shown low = elim i [ ]
@@ -123,8 +123,8 @@ child_spot k b =
     }
 
 -- another tree in one place of a shown one, whose other parts stay shown
-pub put_kept : (ns ms : List NodeView) (ls : List LeafRecord) {s b : Tree} (w : Within s b) → IsFlat w → (r : Tree) → IsTrie b → IsShown ns ls b → IsShown ns ls s →
-    StaysStored ns ms s → IsShown ms ls r → IsShown ms ls (put w r)
+pub put_kept : (ns ms : List NodeView) (ls : List LeafRecord) {s b : Tree} (w : Within s b) → IsFlat w → (r : Tree) → IsTrie b → ShowsTree ns ls b → ShowsTree ns ls s →
+    StaysStored ns ms s → ShowsTree ms ls r → ShowsTree ms ls (put w r)
 put_kept ns ms ls here f r t i j c h = h
 put_kept ns ms ls (inside w) f r t i j c h = elim f [ ]
 put_kept ns ms ls {s} (zero_side {p = p} {a = a} {b = d} w) f r t i j c h = (

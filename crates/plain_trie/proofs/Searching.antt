@@ -6,7 +6,7 @@ use Rattle.std.proofs.lemmas.List.{get_or_append_left, get_or-append-add}
 use Rattle.pieces.proofs.Paths.{length-places}
 use Rattle.pieces.specs.Piece.{Place, Fork, places, size, leads_to}
 use Rattle.key_bits.specs.Bits.{bit_of}
-use Rattle.compound_node.specs.Nodes.{NodeView, piece, IsLawful, height_of}
+use Rattle.compound_node.specs.Nodes.{NodeView, piece, IsLawfulNode, height_of}
 use Rattle.compound_node.specs.declared.entries.Entry.{Entry}
 use Rattle.compound_node.specs.declared.entries.Entry.TheVariants.{Leaf, Node}
 use Rattle.tries.specs.Content.{Item}
@@ -18,7 +18,7 @@ use Rattle.tries.proofs.Tries.{page_child, within_child, built_within}
 use Rattle.tries.proofs.Places.{leads_spot, spot_below}
 use Rattle.plain_trie.specs.declared.plain.LeafRecord.{LeafRecord}
 use Rattle.insert_cases.proofs.Choosing.{same_some}
-use Rattle.plain_trie.specs.Store.{PlainView, IsNodeStored, IsShown, record_of, tree_of, IsPlain}
+use Rattle.plain_trie.specs.Store.{PlainView, IsNodeStored, ShowsTree, item_record, shown_tree, ShowsSoundTree}
 use Rattle.plain_trie.proofs.Reading.{plain_tree}
 use Rattle.tries.proofs.Contents.{found_child}
 
@@ -31,7 +31,7 @@ spot_entry k (Fork p x y) d =
       | false ↦ get_or_append_left (places x) (places y) d (spot k x) (rw (length-places x) (spot_below k x)) ∙ spot_entry k x d
     ]
 
-pub shown_within : (ns : List NodeView) (ls : List LeafRecord) {s t : Tree} → Within s t → IsShown ns ls t → IsShown ns ls s
+pub shown_within : (ns : List NodeView) (ls : List LeafRecord) {s t : Tree} → Within s t → ShowsTree ns ls t → ShowsTree ns ls s
 shown_within ns ls here i = i
 shown_within ns ls (inside w) i = shown_within ns ls w i.1
 shown_within ns ls (zero_side w) i = shown_within ns ls w i.0
@@ -50,10 +50,10 @@ pub record IsNodeOf (ns : List NodeView) (ls : List LeafRecord) (n h : ℕ) (u :
   pub is : u ≡ node n fixed body
   pub high : fixed.height ≡ h
   pub stored : IsNodeStored ns n fixed (page body)
-  pub below : IsShown ns ls body
+  pub below : ShowsTree ns ls body
   pub built : IsBuilt (node n fixed body)
 
-pub node_of_page : (ns : List NodeView) (ls : List LeafRecord) (n h : ℕ) (u : Tree) → page u ≡ Place (Node n h) → IsShown ns ls u → IsBuilt u → IsNodeOf ns ls n h u
+pub node_of_page : (ns : List NodeView) (ls : List LeafRecord) (n h : ℕ) (u : Tree) → page u ≡ Place (Node n h) → ShowsTree ns ls u → IsBuilt u → IsNodeOf ns ls n h u
 node_of_page ns ls n h (leaf m k v) e s b = absurd cc
 node_of_page ns ls n h (fork p x y) e s b = absurd cc
 node_of_page ns ls n h (node m x d) e s b =
@@ -70,8 +70,8 @@ node_of_page ns ls n h (node m x d) e s b =
     }
 
 -- a leaf that a tree is
-pub leaf_of_page : (ns : List NodeView) (ls : List LeafRecord) (k : Key) (n : ℕ) (u : Tree) → page u ≡ Place (Leaf n) → IsShown ns ls u → slice_get ls n ≡ Some (record_of (found k u))
-leaf_of_page ns ls k n (leaf m l v) e s = let f : m ≡ n = cc in subst (λ z. slice_get ls z ≡ Some (record_of (found k (leaf m l v)))) f s
+pub leaf_of_page : (ns : List NodeView) (ls : List LeafRecord) (k : Key) (n : ℕ) (u : Tree) → page u ≡ Place (Leaf n) → ShowsTree ns ls u → slice_get ls n ≡ Some (item_record (found k u))
+leaf_of_page ns ls k n (leaf m l v) e s = let f : m ≡ n = cc in subst (λ z. slice_get ls z ≡ Some (item_record (found k (leaf m l v)))) f s
 leaf_of_page ns ls k n (node m x d) e s = absurd cc
 leaf_of_page ns ls k n (fork p x y) e s = absurd cc
 
@@ -84,7 +84,7 @@ leaf_number k n (fork p x y) e = absurd cc
 pub record IsOnWay (ns : List NodeView) (ls : List LeafRecord) (k : Key) (t : Tree) (e : Entry) : Type 0 where
   pub part : Tree
   pub head : page part ≡ Place e
-  pub shown : IsShown ns ls part
+  pub shown : ShowsTree ns ls part
   pub built : IsBuilt part
   pub same : found k part ≡ found k t
 
@@ -93,7 +93,7 @@ pub read_at : {A : Type 0} (xs : List A) (n : ℕ) (v y : A) → slice_get xs n 
 read_at xs n v y e h = h ∙ get_or_from_slice_get xs n v y e
 
 -- the entry of a lawful node to which a search leads
-pub sought_entry : (k : Key) (v : NodeView) (i : ℕ) (e : Entry) → IsLawful v → i ≡ leads_to (bit_of k) (piece v) → slice_get v.entries i ≡ Some e → e ≡ seek k (piece v)
+pub sought_entry : (k : Key) (v : NodeView) (i : ℕ) (e : Entry) → IsLawfulNode v → i ≡ leads_to (bit_of k) (piece v) → slice_get v.entries i ≡ Some e → e ≡ seek k (piece v)
 sought_entry k v i e lawful leads entry =
     sym (get_or_from_slice_get v.entries i e e entry) ∙
     (ap (λ es. get_or es i e) lawful.shows.entries_are ∙
@@ -119,17 +119,17 @@ on_way_down ns ls k t n h w v e at sought =
 pub on_way_within : (ns : List NodeView) (ls : List LeafRecord) (k : Key) (t : Tree) (n h : ℕ) → IsOnWay ns ls k t (Node n h) → n < length ns
 on_way_within ns ls k t n h w = let u = node_of_page ns ls n h w.part w.head w.shown w.built in slice_get_within ns n u.stored.view u.stored.at
 
-pub on_way_end : (ns : List NodeView) (ls : List LeafRecord) (k : Key) (t : Tree) (n : ℕ) → IsOnWay ns ls k t (Leaf n) → slice_get ls n ≡ Some (record_of (found k t))
-on_way_end ns ls k t n w = leaf_of_page ns ls k n w.part w.head w.shown ∙ ap (λ x. Some (record_of x)) w.same
+pub on_way_end : (ns : List NodeView) (ls : List LeafRecord) (k : Key) (t : Tree) (n : ℕ) → IsOnWay ns ls k t (Leaf n) → slice_get ls n ≡ Some (item_record (found k t))
+on_way_end ns ls k t n w = leaf_of_page ns ls k n w.part w.head w.shown ∙ ap (λ x. Some (item_record x)) w.same
 
 pub on_way_number : (ns : List NodeView) (ls : List LeafRecord) (k : Key) (t : Tree) (n : ℕ) → IsOnWay ns ls k t (Leaf n) → (found k t).number ≡ n
 on_way_number ns ls k t n w = ap (λ (y : Item). y.number) (sym w.same) ∙ leaf_number k n w.part w.head
 
-pub on_way_start : (v : PlainView) (k : Key) (e : Entry) → v.top ≡ Some e → IsPlain v → (t : Tree) × (tree_of v ≡ Some t) × IsOnWay v.nodes v.leaves k t e
+pub on_way_start : (v : PlainView) (k : Key) (e : Entry) → v.top ≡ Some e → ShowsSoundTree v → (t : Tree) × (shown_tree v ≡ Some t) × IsOnWay v.nodes v.leaves k t e
 on_way_start v k e top i =
     let t = plain_tree v e top i in
     (t.0, t.1.is, record { part = t.0; head = t.1.head; shown = t.1.shown; built = t.1.sound.built; same = refl })
 
 -- the same of any reading of the trie's tree
-pub tree_once : (v : PlainView) (t u : Tree) → tree_of v ≡ Some t → tree_of v ≡ Some u → t ≡ u
+pub tree_once : (v : PlainView) (t u : Tree) → shown_tree v ≡ Some t → shown_tree v ≡ Some u → t ≡ u
 tree_once v t u e f = same_some (sym e ∙ f)

@@ -4,14 +4,14 @@ use Rattle.std.specs.Prelude.{slice_get}
 use Rattle.std.proofs.lemmas.Option.{get_or_from_slice_get, slice_get_within}
 use Rattle.pieces.proofs.Paths.{length-places}
 use Rattle.pieces.specs.Piece.{Place, places, size}
-use Rattle.compound_node.specs.Nodes.{NodeView, piece, IsLawful}
+use Rattle.compound_node.specs.Nodes.{NodeView, piece, IsLawfulNode}
 use Rattle.compound_node.specs.declared.entries.Entry.{Entry}
 use Rattle.compound_node.specs.declared.entries.Entry.TheVariants.{Leaf, Node}
 use Rattle.tries.specs.Content.{Item, items}
 use Rattle.tries.specs.Tree.{Page, Fixed, Tree, leaf, node, fork, page, Within}
 use Rattle.tries.proofs.Tries.{trie_within, built_within}
-use Rattle.plain_trie.specs.Gathered.{StandsIn, items_from, parts}
-use Rattle.plain_trie.specs.Store.{PlainView, record_of}
+use Rattle.plain_trie.specs.Gathered.{ShowsSound, items_from, parts}
+use Rattle.plain_trie.specs.Store.{PlainView, item_record}
 use Rattle.plain_trie.proofs.Parts.{leaves_parts, length-parts, part_head, part_within}
 use Rattle.plain_trie.proofs.Searching.{shown_within, read_at, node_of_page}
 
@@ -24,7 +24,7 @@ abbrev pub height_some : Option NodeView → ℕ
 height_some None = 0
 height_some (Some v) = v.height
 
-pub stands_within : (v : PlainView) {s t : Tree} → Within s t → StandsIn v t → StandsIn v s
+pub stands_within : (v : PlainView) {s t : Tree} → Within s t → ShowsSound v t → ShowsSound v s
 stands_within v w i = record {
   shown = shown_within v.nodes v.leaves w i.shown;
   sound = record { trie = trie_within w i.sound.trie; built = built_within w i.sound.built };
@@ -34,9 +34,9 @@ stands_within v w i = record {
 pub record IsPartAt (v : PlainView) (b : Tree) (i : ℕ) (e : Entry) : Type 0 where
   pub in_range : i < length (parts b)
   pub head : page (get_or (parts b) i no_tree) ≡ Place e
-  pub stands : StandsIn v (get_or (parts b) i no_tree)
+  pub stands : ShowsSound v (get_or (parts b) i no_tree)
 
-module _ (v : PlainView) (n : ℕ) (x : Fixed) (b : Tree) (i : StandsIn v (node n x b)) where
+module _ (v : PlainView) (n : ℕ) (x : Fixed) (b : Tree) (i : ShowsSound v (node n x b)) where
   pub node_within : n < length v.nodes
   node_within = slice_get_within v.nodes n i.shown.0.view i.shown.0.at
 
@@ -50,11 +50,11 @@ module _ (v : PlainView) (n : ℕ) (x : Fixed) (b : Tree) (i : StandsIn v (node 
     pub node_height : height_some (slice_get v.nodes n) ≡ w.height
     node_height = ap height_some i.shown.0.at ∙ ap (λ (z : NodeView). z.height) (sym same)
 
-    pub node_count : IsLawful w → length w.entries ≡ length (parts b)
+    pub node_count : IsLawfulNode w → length w.entries ≡ length (parts b)
     node_count l =
         ap length l.shows.entries_are ∙ (length-places (piece w) ∙ (ap size node_shows ∙ sym (length-parts b)))
 
-    pub part_at : IsLawful w → (j : ℕ) (e : Entry) → slice_get w.entries j ≡ Some e → IsPartAt v b j e
+    pub part_at : IsLawfulNode w → (j : ℕ) (e : Entry) → slice_get w.entries j ≡ Some e → IsPartAt v b j e
     part_at l j e at_j =
         let h : j < length (parts b) = (let k = slice_get_within w.entries j e at_j in let m = node_count l in omega arith) in
         let is : get_or (places (page b)) j e ≡ e =
@@ -69,9 +69,9 @@ module _ (v : PlainView) (n : ℕ) (x : Fixed) (b : Tree) (i : StandsIn v (node 
 pub record IsLeafAt (v : PlainView) (n : ℕ) (t : Tree) : Type 0 where
   pub item : Item
   pub alone : items t ≡ item ∷ []
-  pub at : slice_get v.leaves n ≡ Some (record_of item)
+  pub at : slice_get v.leaves n ≡ Some (item_record item)
 
-pub leaf_at : (v : PlainView) (n : ℕ) (t : Tree) → page t ≡ Place (Leaf n) → StandsIn v t → IsLeafAt v n t
+pub leaf_at : (v : PlainView) (n : ℕ) (t : Tree) → page t ≡ Place (Leaf n) → ShowsSound v t → IsLeafAt v n t
 leaf_at v n (leaf m k w) e i =
     let f : m ≡ n = cc in record { item = record { number = m; key = k; value = w }; alone = refl; at = subst (λ z. slice_get v.leaves z ≡ Some (record { key = k; value = w })) f i.shown }
 leaf_at v n (node m x b) e i = absurd cc
@@ -82,18 +82,18 @@ pub record IsNodeAt (v : PlainView) (n h : ℕ) (t : Tree) : Type 0 where
   pub fixed : Fixed
   pub body : Tree
   pub is : t ≡ node n fixed body
-  pub stands : StandsIn v (node n fixed body)
+  pub stands : ShowsSound v (node n fixed body)
   pub height : height_some (slice_get v.nodes n) ≡ h
   pub all : items t ≡ items_from 0 body
 
-pub node_at : (v : PlainView) (n h : ℕ) (t : Tree) → page t ≡ Place (Node n h) → StandsIn v t → IsNodeAt v n h t
+pub node_at : (v : PlainView) (n h : ℕ) (t : Tree) → page t ≡ Place (Node n h) → ShowsSound v t → IsNodeAt v n h t
 node_at v n h t e i =
     let u = node_of_page v.nodes v.leaves n h t e i.shown i.sound.built in
     record {
       fixed = u.fixed;
       body = u.body;
       is = u.is;
-      stands = subst (StandsIn v) u.is i;
+      stands = subst (ShowsSound v) u.is i;
       height = ap height_some u.stored.at ∙ (ap (λ (z : Fixed). z.height) u.stored.fixed ∙ u.high);
       all = ap items u.is ∙ sym (leaves_parts u.body);
     }

@@ -4,7 +4,7 @@ use Rattle.std.specs.Prelude.{MatchOption}
 use Rattle.std.proofs.lemmas.List.{get_or_append_left, get_or-append-add}
 use Rattle.key_bits.specs.Bits.{IsFirstDifference}
 use Rattle.key_bits.specs.Key.{IsKey}
-use Rattle.hot_model.specs.Maps.{Map}
+use Rattle.finite_map.specs.Maps.{Map}
 use Rattle.pieces.specs.Piece.{size}
 use Rattle.tries.specs.Content.{Item, items}
 use Rattle.tries.specs.Keys.{Key, bit}
@@ -16,7 +16,7 @@ use Rattle.tries.proofs.Places.{spot_below}
 use Rattle.plain_trie.specs.declared.plain.scan.Range.{Range}
 use Rattle.plain_trie.specs.declared.plain.scan.Progress.{Progress}
 use Rattle.plain_trie.specs.declared.plain.scan.Progress.TheVariants.{On}
-use Rattle.plain_trie.specs.Gathered.{parts, leaves_of, items_from, IsBeyond, IsGathered, IsMismatch}
+use Rattle.plain_trie.specs.Gathered.{parts, items_of_all, items_from, IsBeyond, IsGathered, IsFirstMismatch}
 use Rattle.plain_trie.proofs.Gathering.{gathered_end, gathered_skip, gathered_then}
 use Rattle.plain_trie.proofs.Parts.{length-parts, items_split, leaves_around, leaves_none, from_rises, from_keys}
 use Rattle.tries.proofs.Contents.{found_child, IsRising}
@@ -32,7 +32,7 @@ part_child k (fork p a b) d =
     ]
 
 -- in which the search ends at the same leaf
-pub part_mismatch : (k : Key) (b : Tree) (j : ℕ) (d : Tree) (o : Option ℕ) → j ≡ spot k (page b) → IsMismatch k b o → IsMismatch k (get_or (parts b) j d) o
+pub part_mismatch : (k : Key) (b : Tree) (j : ℕ) (d : Tree) (o : Option ℕ) → j ≡ spot k (page b) → IsFirstMismatch k b o → IsFirstMismatch k (get_or (parts b) j d) o
 part_mismatch k b j d o e m =
     let same : found k (get_or (parts b) j d) ≡ found k b = ap (λ i. found k (get_or (parts b) i d)) e ∙ (ap (found k) (part_child k b d) ∙ found_child k b) in
     subst (λ (x : Item). IsKey k × MatchOption o (k ≡ x.key) (IsFirstDifference k x.key)) (sym same) m
@@ -41,11 +41,11 @@ from_part : (b : Tree) (j : ℕ) (d : Tree) → j < length (parts b) → items_f
 from_part b j d h =
     leaves_around b j j d (omega arith) h ∙ ap (λ xs. (xs ++ items (get_or (parts b) j d)) ++ items_from (j + 1) b) (leaves_none b j (omega arith))
 
-module _ (r : Range) (b : Tree) (j : ℕ) (low : IsBeyond r.from.now (leaves_of (take j (parts b)))) where
+module _ (r : Range) (b : Tree) (j : ℕ) (low : IsBeyond r.from.now (items_of_all (take j (parts b)))) where
   -- the leaves before a place are none of a range
   pub gathered_from : (old new : Map) (p : Progress) → IsGathered r old (items_from j b) new p → IsGathered r old (items b) new p
   gathered_from old new p g =
-      subst (λ xs. IsGathered r old xs new p) (sym (items_split b j)) (gathered_skip r old new (leaves_of (take j (parts b))) (items_from j b) p low g)
+      subst (λ xs. IsGathered r old xs new p) (sym (items_split b j)) (gathered_skip r old new (items_of_all (take j (parts b))) (items_from j b) p low g)
 
   module _ (d : Tree) (h : j < length (parts b)) where
     pub gathered_on : (old mid new : Map) (p : Progress) → IsGathered r old (items (get_or (parts b) j d)) mid On → IsGathered r mid (items_from (j + 1) b) new p → IsGathered r old (items b) new p

@@ -9,7 +9,7 @@ use Rattle.pieces.specs.Growth.{IsAffected, IsFresh, forked, grown}
 use Rattle.pieces.specs.Piece.{Piece, Place, Fork, size, paths, RisesFrom}
 use Rattle.partial_keys.specs.Rows.{row_of}
 use Rattle.compound_node.specs.Halves.{HalfShows}
-use Rattle.compound_node.specs.Nodes.{NodeView, piece, IsBuiltFrom, IsLawful}
+use Rattle.compound_node.specs.Nodes.{NodeView, piece, IsBuiltFrom, IsLawfulNode}
 use Rattle.compound_node.specs.declared.entries.Entry.{Entry}
 use Rattle.compound_node.specs.declared.halves.Cut.{Cut}
 use Rattle.compound_node.specs.declared.halves.Half.{Half}
@@ -79,13 +79,13 @@ root_beyond : (q : ℕ) (P : Page) → 2 ≤ size P → IsRootAbove q P → q < 
 root_beyond q (Place e) h r = absurd (omega arith)
 root_beyond q (Fork p a b) h r = r
 
-first_is : (v : NodeView) → IsLawful v → get_or v.columns 0 0 ≡ first_position (piece v)
+first_is : (v : NodeView) → IsLawfulNode v → get_or v.columns 0 0 ≡ first_position (piece v)
 first_is v l = root_is (get_or v.columns 0 0) (piece v) (first_column v l).1
 
-length-rows : (v : NodeView) → IsLawful v → length v.rows ≡ size (piece v)
+length-rows : (v : NodeView) → IsLawfulNode v → length v.rows ≡ size (piece v)
 length-rows v l = ap length l.shows.rows_are ∙ (length-map (paths (piece v)) (row_of v.columns) ∙ length-paths (piece v))
 
-module _ (u v : NodeView) (lawful_u : IsLawful u) (lawful_v : IsLawful v) where
+module _ (u v : NodeView) (lawful_u : IsLawfulNode u) (lawful_v : IsLawfulNode v) where
   -- a node of more places has other rows
   steady_longer : size (piece v) ≡ size (piece u) + 1 → KeepsHeight u v
   steady_longer h columns rows = absurd (omega (arith, ap length rows, length-rows u lawful_u, length-rows v lawful_v))
@@ -97,7 +97,7 @@ module _ (u v : NodeView) (lawful_u : IsLawful u) (lawful_v : IsLawful v) where
       absurd (omega (arith, first_is u lawful_u, first_is v lawful_v, ap (λ cs. get_or cs 0 0) columns))
 
 -- ---- the halves of a cut
-module _ (u : NodeView) (lawful : IsLawful u) where
+module _ (u : NodeView) (lawful : IsLawfulNode u) where
   half_steady : (half : Half) (P : Page) → HalfShows half P → IsRootAbove (first_position (piece u)) P → IsHalfSteady u half
   half_steady (One e) P s r = tt
   half_steady (Many v) P s r = steady_below u v lawful s.lawful (subst (IsRootAbove (first_position (piece u))) (sym s.shows_it) r)

@@ -7,7 +7,7 @@ use Rattle.std.proofs.Math.Seq.{get_or-append_seam}
 use Rattle.std.proofs.lemmas.Option.{slice_get-get_or, get_or_from_slice_get, slice_get_within}
 use Rattle.pieces.specs.Piece.{Piece, Place, Fork, places}
 use Rattle.compound_node.specs.Halves.{HalfShows}
-use Rattle.compound_node.specs.Nodes.{NodeView, piece, IsLawful, IsBuiltFrom, greatest_height}
+use Rattle.compound_node.specs.Nodes.{NodeView, piece, IsLawfulNode, IsBuiltFrom, greatest_height}
 use Rattle.compound_node.specs.declared.entries.Entry.{Entry}
 use Rattle.compound_node.specs.declared.entries.Entry.TheVariants.{Node}
 use Rattle.compound_node.specs.declared.halves.Half.{Half}
@@ -66,14 +66,14 @@ module _ (old : NodeView) where
     height = inl (b.height_is ∙ ap (λ es. 1 + greatest_height es) (b.lawful.shows.entries_are ∙ ap places b.shows_it));
   }
 
-  pub named_old : (xs : List NodeView) (n h : ℕ) (P : Piece Entry) → slice_get xs n ≡ Some old → old.height ≡ h → IsLawful old → P ≡ piece old → IsNamed xs old (Node n h) P
+  pub named_old : (xs : List NodeView) (n h : ℕ) (P : Piece Entry) → slice_get xs n ≡ Some old → old.height ≡ h → IsLawfulNode old → P ≡ piece old → IsNamed xs old (Node n h) P
   named_old xs n h P at e l s =
       record { number = n; view = old; at = at; is = ap (Node n) (sym e); lawful = l; shows = sym s; height = inr (refl, refl) }
 
   named_more : (xs ys : List NodeView) (e : Entry) (P : Piece Entry) (i : IsNamed xs old e P) → slice_get ys i.number ≡ Some i.view → IsNamed ys old e P
   named_more xs ys e P i at = record { number = i.number; view = i.view; at = at; is = i.is; lawful = i.lawful; shows = i.shows; height = i.height }
 
-  module _ (xs : List NodeView) (n h : ℕ) (at : slice_get xs n ≡ Some old) (high : old.height ≡ h) (lawful : IsLawful old) where
+  module _ (xs : List NodeView) (n h : ℕ) (at : slice_get xs n ≡ Some old) (high : old.height ≡ h) (lawful : IsLawfulNode old) where
     in_range : n < length xs
     in_range = slice_get_within xs n old at
 

@@ -12,7 +12,7 @@ use Rattle.plain_trie.specs.declared.plain.adding.Addition.TheVariants.{Held, Re
 use Rattle.insert_cases.specs.declared.raising.Risen.{Risen}
 use Rattle.insert_cases.specs.Risen.{page_of}
 use Rattle.plain_trie.specs.Rising.{IsRaised, IsAddable}
-use Rattle.plain_trie.specs.Store.{IsShown, record_of}
+use Rattle.plain_trie.specs.Store.{ShowsTree, item_record}
 use Rattle.tries.specs.Search.{found}
 use Rattle.tries.specs.Content.{item}
 
@@ -21,7 +21,7 @@ pub record IsStanding (nodes : List NodeView) (leaves : List LeafRecord) (e : En
   pub head : page t ≡ Place e
   pub trie : IsTrie t
   pub built : IsBuilt t
-  pub shown : IsShown nodes leaves t
+  pub shown : ShowsTree nodes leaves t
 
 -- a fork of the tree is before the position
 pub record IsBehind (p : ℕ) (t : Tree) : Type 0 where
@@ -38,7 +38,7 @@ with_leaf leaves k v = leaves ++ record { key = k; value = v } ∷ []
 pub record EndsAt (leaves : List LeafRecord) (k : Key) (t : Tree) (n : ℕ) : Type 0 where
   pub number : (found k t).number ≡ n
   pub key : (found k t).key ≡ k
-  pub at : slice_get leaves n ≡ Some (record_of (found k t))
+  pub at : slice_get leaves n ≡ Some (item_record (found k t))
 
 -- the key differs from that of the leaf where its search ends
 pub record IsAbsentFrom (k : Key) (t : Tree) : Type 0 where
@@ -46,7 +46,7 @@ pub record IsAbsentFrom (k : Key) (t : Tree) : Type 0 where
   pub differ : IsFirstDifference k (found k t).key position
 
 -- the new leaf stands behind the others, and nothing else has changed
-pub record IsLeft (ns ms : List NodeView) (ls us : List LeafRecord) (k : Key) (v : ℕ) (e : Entry) (t : Tree) (p n : ℕ) : Type 0 where
+pub record IsLeafAdded (ns ms : List NodeView) (ls us : List LeafRecord) (k : Key) (v : ℕ) (e : Entry) (t : Tree) (p n : ℕ) : Type 0 where
   pub nodes : ms ≡ ns
   pub leaves : us ≡ with_leaf ls k v
   pub number : n ≡ length ls
@@ -54,7 +54,7 @@ pub record IsLeft (ns ms : List NodeView) (ls us : List LeafRecord) (k : Key) (v
   pub addable : IsAddable ns us (item n k v) p e t
 
 -- the new leaf has risen up to the entry
-pub record HasRisen (ns ms : List NodeView) (ls us : List LeafRecord) (k : Key) (v : ℕ) (e : Entry) (t : Tree) (risen : Risen) : Type 0 where
+pub record HasLeafRisen (ns ms : List NodeView) (ls us : List LeafRecord) (k : Key) (v : ℕ) (e : Entry) (t : Tree) (risen : Risen) : Type 0 where
   pub leaves : us ≡ with_leaf ls k v
   pub position : ℕ
   pub addable : IsAddable ns us (item (length ls) k v) position e t
@@ -64,8 +64,8 @@ pub record HasRisen (ns ms : List NodeView) (ls us : List LeafRecord) (k : Key) 
 abbrev pub IsAddition : List NodeView → List NodeView → List LeafRecord → List LeafRecord → Key → ℕ → Entry → Tree → Addition → Type 0
 IsAddition ns ms ls us k v e t (Held n) = (ms ≡ ns) × (us ≡ ls) × EndsAt ls k t n
 IsAddition ns ms ls us k v e t Refused = (ms ≡ ns) × (us ≡ ls) × IsAbsentFrom k t
-IsAddition ns ms ls us k v e t (Above p n) = IsLeft ns ms ls us k v e t p n
-IsAddition ns ms ls us k v e t (Below risen) = HasRisen ns ms ls us k v e t risen
+IsAddition ns ms ls us k v e t (Above p n) = IsLeafAdded ns ms ls us k v e t p n
+IsAddition ns ms ls us k v e t (Below risen) = HasLeafRisen ns ms ls us k v e t risen
 
 -- after a new leaf there is room for the nodes that can still come, of `count` in all
 abbrev pub IsRoomy : ℕ → ℕ → ℕ → ℕ → Addition → Type 0

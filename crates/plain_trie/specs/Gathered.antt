@@ -4,8 +4,8 @@ use Rattle.std.specs.Borrow.{Bor}
 use Rattle.std.specs.declared.cmp.Ordering.TheVariants.{Less, Greater}
 use Rattle.key_bits.specs.Bits.{IsFirstDifference}
 use Rattle.key_bits.specs.Key.{IsKey}
-use Rattle.hot_model.specs.Maps.{Map, key_order}
-use Rattle.hot_model.specs.Scans.{range_of}
+use Rattle.finite_map.specs.Maps.{Map, key_order}
+use Rattle.finite_map.specs.Scans.{range_of}
 use Rattle.tries.specs.Content.{Item, items, pairs, Each, IsIn}
 use Rattle.tries.specs.Keys.{Key}
 use Rattle.tries.specs.Tree.{Tree, leaf, node, fork, page}
@@ -16,7 +16,7 @@ use Rattle.plain_trie.specs.declared.plain.scan.Progress.TheVariants.{On, Past, 
 use Rattle.plain_trie.specs.declared.plain.scan.Start.{Start}
 use Rattle.plain_trie.specs.declared.plain.scan.Start.TheVariants.{Before, Within}
 use Rattle.tries.specs.Place.{spot}
-use Rattle.plain_trie.specs.Store.{PlainView, IsShown, IsSound}
+use Rattle.plain_trie.specs.Store.{PlainView, ShowsTree, IsSound}
 use Rattle.tries.specs.Search.{found}
 
 -- what stands at the places of a body, in order
@@ -25,17 +25,17 @@ parts (leaf n k v) = leaf n k v ∷ []
 parts (node n x b) = node n x b ∷ []
 parts (fork p a b) = parts a ++ parts b
 
-abbrev pub leaves_of : List Tree → List Item
-leaves_of [] = []
-leaves_of (t ∷ ts) = items t ++ leaves_of ts
+abbrev pub items_of_all : List Tree → List Item
+items_of_all [] = []
+items_of_all (t ∷ ts) = items t ++ items_of_all ts
 
 -- the leaves at the places of a body from the i-th on
 abbrev pub items_from : ℕ → Tree → List Item
-items_from i b = leaves_of (drop i (parts b))
+items_from i b = items_of_all (drop i (parts b))
 
 -- the key is not above any of these leaves' keys
-abbrev pub IsFloor : Key → List Item → Type 0
-IsFloor k xs = Each (λ x. key_order k x.key ≢ Greater) xs
+abbrev pub IsNotAboveKeys : Key → List Item → Type 0
+IsNotAboveKeys k xs = Each (λ x. key_order k x.key ≢ Greater) xs
 
 -- the key is above all of these leaves' keys
 abbrev pub IsBeyond : Key → List Item → Type 0
@@ -55,33 +55,33 @@ pub record IsGiven (r : Range) (old : Map) (xs : List Item) (new : Map) : Type 0
   pub room : length new ≤ r.limit
 
 -- some leaf is above the range
-pub record IsPast (r : Range) (xs : List Item) : Type 0 where
+pub record IsAboveRange (r : Range) (xs : List Item) : Type 0 where
   pub item : Item
   pub among : IsIn item xs
   pub above : key_order r.upto.now item.key ≡ Less
 
 -- there are more in the range than there is room for
-pub record IsCut (r : Range) (old : Map) (xs : List Item) (new : Map) : Type 0 where
+pub record IsCutAtLimit (r : Range) (old : Map) (xs : List Item) (new : Map) : Type 0 where
   pub pairs : new ≡ take r.limit (old ++ in_range r xs)
   pub more : r.limit < length (old ++ in_range r xs)
 
 -- how a scan that had given the old pairs stands after these leaves
 abbrev pub IsGathered : Range → Map → List Item → Map → Progress → Type 0
 IsGathered r old xs new On = IsGiven r old xs new
-IsGathered r old xs new Past = IsGiven r old xs new × IsPast r xs
-IsGathered r old xs new Full = IsCut r old xs new
+IsGathered r old xs new Past = IsGiven r old xs new × IsAboveRange r xs
+IsGathered r old xs new Full = IsCutAtLimit r old xs new
 
 -- the trie's records show the tree
-pub record StandsIn (v : PlainView) (t : Tree) : Type 0 where
-  pub shown : IsShown v.nodes v.leaves t
+pub record ShowsSound (v : PlainView) (t : Tree) : Type 0 where
+  pub shown : ShowsTree v.nodes v.leaves t
   pub sound : IsSound t
 
 -- where the key differs first from that of the leaf at which its search ends: nowhere, or at a position
-abbrev pub IsMismatch : Key → Tree → Option ℕ → Type 0
-IsMismatch k t at = IsKey k × MatchOption at (k ≡ (found k t).key) (IsFirstDifference k (found k t).key)
+abbrev pub IsFirstMismatch : Key → Tree → Option ℕ → Type 0
+IsFirstMismatch k t at = IsKey k × MatchOption at (k ≡ (found k t).key) (IsFirstDifference k (found k t).key)
 
 -- Where a scan from the key starts in a body: at a place before which all leaves are below the key, or within the place
 -- to which the key's search leads.
-abbrev pub IsStart : Key → Tree → Start → Type 0
-IsStart k b (Before place) = (place ≤ length (parts b)) × IsBeyond k (leaves_of (take place (parts b))) × IsFloor k (items_from place b)
-IsStart k b Within = IsBeyond k (leaves_of (take (spot k (page b)) (parts b))) × IsFloor k (items_from (spot k (page b) + 1) b)
+abbrev pub IsScanStart : Key → Tree → Start → Type 0
+IsScanStart k b (Before place) = (place ≤ length (parts b)) × IsBeyond k (items_of_all (take place (parts b))) × IsNotAboveKeys k (items_from place b)
+IsScanStart k b Within = IsBeyond k (items_of_all (take (spot k (page b)) (parts b))) × IsNotAboveKeys k (items_from (spot k (page b) + 1) b)

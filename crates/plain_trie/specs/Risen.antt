@@ -2,7 +2,7 @@
 use Rattle.std.specs.Prelude.{◌≡◌, ◌≢◌, ◌⊎◌, ℕ, ◌+◌, List, [], ◌∷◌, ◌++◌, slice_get, slice_set, Some}
 use Rattle.pieces.specs.Changes.{AtRootFork}
 use Rattle.pieces.specs.Piece.{Place, places}
-use Rattle.compound_node.specs.Nodes.{NodeView, piece, IsLawful, greatest_height}
+use Rattle.compound_node.specs.Nodes.{NodeView, piece, IsLawfulNode, greatest_height}
 use Rattle.compound_node.specs.declared.entries.Entry.{Entry}
 use Rattle.compound_node.specs.declared.entries.Entry.TheVariants.{Node}
 use Rattle.compound_node.specs.declared.halves.Half.{Half}
@@ -17,7 +17,7 @@ pub record IsNamed (nodes : List NodeView) (old : NodeView) (entry : Entry) (sho
   pub view : NodeView
   pub at : slice_get nodes number ≡ Some view
   pub is : entry ≡ Node number view.height
-  pub lawful : IsLawful view
+  pub lawful : IsLawfulNode view
   pub shows : piece view ≡ shown
   pub height : (view.height ≡ 1 + greatest_height (places shown)) ⊎ ((view.height ≡ old.height) × (first_position (piece view) ≡ first_position (piece old)))
 

@@ -12,7 +12,7 @@ use Rattle.tries.specs.Place.{spot}
 use Rattle.tries.specs.Search.{child, found}
 use Rattle.tries.specs.Tree.{Page, Fixed, Tree, leaf, node, fork, page, IsTrie, IsBuilt, IsLower}
 use Rattle.plain_trie.specs.declared.plain.LeafRecord.{LeafRecord}
-use Rattle.plain_trie.specs.Store.{IsShown, record_of}
+use Rattle.plain_trie.specs.Store.{ShowsTree, item_record}
 use Rattle.insert_cases.specs.Ways.{WayBelow}
 
 -- no node of the tree has this number
@@ -33,7 +33,7 @@ pub record IsRaised (old new : List NodeView) (leaves : List LeafRecord) (x : It
   pub adds : IsAdded x p s tree
   pub built : IsBuilt tree
   pub lower : IsLower h tree
-  pub shown : IsShown new leaves tree
+  pub shown : ShowsTree new leaves tree
   pub kept : StaysStored old new s
 
 -- The records show a tree at an entry, and a new leaf besides, whose key differs first at p from that of the leaf where
@@ -42,17 +42,17 @@ pub record IsAddable (nodes : List NodeView) (leaves : List LeafRecord) (x : Ite
   pub head : page t ≡ Place e
   pub trie : IsTrie t
   pub built : IsBuilt t
-  pub shown : IsShown nodes leaves t
+  pub shown : ShowsTree nodes leaves t
   pub key : IsKey x.key
   pub differ : IsFirstDifference x.key (found x.key t).key p
-  pub new : slice_get leaves x.number ≡ Some (record_of x)
+  pub new : slice_get leaves x.number ≡ Some (item_record x)
 
 -- A node of the old records, below which a new leaf has risen up to its child at the key's place: the child was of height
 -- `low`, and in its place stands this page.
 pub record IsLifting (old new : List NodeView) (leaves : List LeafRecord) (x : Item) (p n height at low : ℕ) (y : Fixed) (b : Tree) (head : Page) : Type 0 where
   pub trie : IsTrie b
   pub built : IsBuilt (node n y b)
-  pub shown : IsShown old leaves (node n y b)
+  pub shown : ShowsTree old leaves (node n y b)
   pub below : WayBelow p x.key b
   pub high_is : y.height ≡ height
   pub at_is : at ≡ spot x.key (page b)

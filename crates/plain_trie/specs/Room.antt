@@ -2,10 +2,10 @@
 use Rattle.std.specs.Prelude.{◌≡◌, ◌⊎◌, ℕ, ◌+◌, ◌^◌, ◌<◌, ◌≤◌, length, Option, Some, None}
 use Rattle.compound_node.specs.Nodes.{height_of}
 use Rattle.compound_node.specs.declared.entries.Entry.{Entry}
-use Rattle.hot_model.specs.Maps.{map_after, reply_of, AddsKey}
-use Rattle.hot_model.specs.declared.Call.{Call}
-use Rattle.hot_model.specs.declared.Reply.{Reply}
-use Rattle.plain_trie.specs.Store.{PlainView, map_of}
+use Rattle.finite_map.specs.Maps.{map_after, reply_of, AddsKey}
+use Rattle.finite_map.specs.declared.Call.{Call}
+use Rattle.finite_map.specs.declared.Reply.{Reply}
+use Rattle.plain_trie.specs.Store.{PlainView, trie_map}
 
 -- the most nodes that one insertion adds: one for each level, and one above the root; the first key adds none
 abbrev pub most_new_nodes : Option Entry → ℕ
@@ -32,9 +32,9 @@ abbrev pub IsUnchanged : PlainView → PlainView → Type 0
 IsUnchanged old new = new ≡ record old { leaf_capacity = new.leaf_capacity }
 
 -- the call was answered as on the finite map, and the trie is the map after it
-abbrev pub IsAnswered : Call → PlainView → PlainView → Reply → Type 0
-IsAnswered call old new reply = (reply ≡ reply_of (map_of old) call) × (map_of new ≡ map_after (map_of old) call)
+abbrev pub IsTrieAnswer : Call → PlainView → PlainView → Reply → Type 0
+IsTrieAnswer call old new reply = (reply ≡ reply_of (trie_map old) call) × (trie_map new ≡ map_after (trie_map old) call)
 
 -- the call would have added its key, for which there was no room, and the trie is unchanged
-abbrev pub IsRefused : Call → PlainView → PlainView → Type 0
-IsRefused call old new = AddsKey (map_of old) call × LacksRoom old × IsUnchanged old new
+abbrev pub IsOutOfMemory : Call → PlainView → PlainView → Type 0
+IsOutOfMemory call old new = AddsKey (trie_map old) call × LacksRoom old × IsUnchanged old new

@@ -4,7 +4,7 @@ use Rattle.pieces.specs.Piece.{Place}
 use Rattle.compound_node.specs.Nodes.{NodeView, piece, head_of, height_of}
 use Rattle.compound_node.specs.declared.entries.Entry.{Entry}
 use Rattle.compound_node.specs.declared.entries.Entry.TheVariants.{Leaf, Node}
-use Rattle.hot_model.specs.Maps.{Map}
+use Rattle.finite_map.specs.Maps.{Map}
 use Rattle.tries.specs.Content.{Item, items, pairs}
 use Rattle.tries.specs.Read.{join_node, read_page}
 use Rattle.tries.specs.Tree.{Page, Fixed, Tree, leaf, node, fork, page, IsTrie, IsBuilt}
@@ -28,10 +28,10 @@ pub record IsNodeStored (nodes : List NodeView) (n : ℕ) (x : Fixed) (p : Page)
   pub shows : piece view ≡ p
 
 -- the records show the tree
-abbrev pub IsShown : List NodeView → List LeafRecord → Tree → Type 0
-IsShown nodes leaves (leaf n k v) = slice_get leaves n ≡ Some (record { key = k; value = v })
-IsShown nodes leaves (node n x b) = IsNodeStored nodes n x (page b) × IsShown nodes leaves b
-IsShown nodes leaves (fork p a b) = IsShown nodes leaves a × IsShown nodes leaves b
+abbrev pub ShowsTree : List NodeView → List LeafRecord → Tree → Type 0
+ShowsTree nodes leaves (leaf n k v) = slice_get leaves n ≡ Some (record { key = k; value = v })
+ShowsTree nodes leaves (node n x b) = IsNodeStored nodes n x (page b) × ShowsTree nodes leaves b
+ShowsTree nodes leaves (fork p a b) = ShowsTree nodes leaves a × ShowsTree nodes leaves b
 
 -- what a node of a number shows, where it has this height
 abbrev pub read_node : (Entry → Option Tree) → ℕ → ℕ → Option NodeView → Option Tree
@@ -39,22 +39,22 @@ read_node f n h (Some v) = if nat_eq v.height h then join_node n (head_of v) (re
 read_node f n h None = None
 
 -- the tree that an entry shows, read with a bound on the depth
-abbrev pub read : List NodeView → List LeafRecord → ℕ → Entry → Option Tree
-read nodes leaves f (Leaf n) = option_map (λ (l : LeafRecord). leaf n l.key l.value) (slice_get leaves n)
-read nodes leaves zero (Node n h) = None
-read nodes leaves (suc f) (Node n h) = read_node (read nodes leaves f) n h (slice_get nodes n)
+abbrev pub entry_tree : List NodeView → List LeafRecord → ℕ → Entry → Option Tree
+entry_tree nodes leaves f (Leaf n) = option_map (λ (l : LeafRecord). leaf n l.key l.value) (slice_get leaves n)
+entry_tree nodes leaves zero (Node n h) = None
+entry_tree nodes leaves (suc f) (Node n h) = read_node (entry_tree nodes leaves f) n h (slice_get nodes n)
 
 -- the tree from the root's entry on
-abbrev pub tree_of : PlainView → Option Tree
-tree_of v = option_and_then (λ e. read v.nodes v.leaves (height_of e) e) v.top
+abbrev pub shown_tree : PlainView → Option Tree
+shown_tree v = option_and_then (λ e. entry_tree v.nodes v.leaves (height_of e) e) v.top
 
 abbrev pub map_read : Option Tree → Map
 map_read None = []
 map_read (Some t) = pairs (items t)
 
 -- the map that the trie is
-abbrev pub map_of : PlainView → Map
-map_of v = map_read (tree_of v)
+abbrev pub trie_map : PlainView → Map
+trie_map v = map_read (shown_tree v)
 
 -- a bit trie, each node of which has two entries or more and a height above theirs
 pub record IsSound (t : Tree) : Type 0 where
@@ -62,21 +62,21 @@ pub record IsSound (t : Tree) : Type 0 where
   pub built : IsBuilt t
 
 -- from the root's entry down the records show such a trie
-abbrev pub IsPlain : PlainView → Type 0
-IsPlain v = MatchOption v.top (Unit {0}) (λ e. IsSomeAnd (tree_of v) IsSound)
+abbrev pub ShowsSoundTree : PlainView → Type 0
+ShowsSoundTree v = MatchOption v.top (Unit {0}) (λ e. IsSomeAnd (shown_tree v) IsSound)
 
 -- the nodes from the root's entry down show the bit trie of the keys
 abbrev pub ShowsTrie : PlainView → Type 0
-ShowsTrie v = MatchOption v.top (map_of v ≡ []) (λ e.
-    (t : Tree) × (page t ≡ Place e) × IsSound t × IsShown v.nodes v.leaves t × (map_of v ≡ pairs (items t)))
+ShowsTrie v = MatchOption v.top (trie_map v ≡ []) (λ e.
+    (t : Tree) × (page t ≡ Place e) × IsSound t × ShowsTree v.nodes v.leaves t × (trie_map v ≡ pairs (items t)))
 
-abbrev pub record_of : Item → LeafRecord
-record_of x = record { key = x.key; value = x.value }
+abbrev pub item_record : Item → LeafRecord
+item_record x = record { key = x.key; value = x.value }
 
 -- the key's search ends at its own leaf, which is the record of this number
 pub record IsHeldInLeaf (v : PlainView) (k : Key) (n : ℕ) : Type 0 where
   pub tree : Tree
-  pub is : tree_of v ≡ Some tree
+  pub is : shown_tree v ≡ Some tree
   pub number : (found k tree).number ≡ n
   pub key : (found k tree).key ≡ k
-  pub at : slice_get v.leaves n ≡ Some (record_of (found k tree))
+  pub at : slice_get v.leaves n ≡ Some (item_record (found k tree))

@@ -3,8 +3,8 @@
 ghost use Rattle.std.specs.Prelude.{◌≡◌, ◌<◌, ◌+◌, Some, None, [], IfOk, OnOk, OnErr, MatchOption, slice_get};
 ghost use Rattle.std.specs.Vec.{vec_capacity};
 ghost use Rattle.compound_node.specs.Nodes.{piece};
-ghost use Rattle.hot_model.specs.Maps.{value_at, with_value};
-ghost use Rattle.hot_model.specs.declared.Call.TheVariants.{Insert, Upsert};
+ghost use Rattle.finite_map.specs.Maps.{value_at, with_value};
+ghost use Rattle.finite_map.specs.declared.Call.TheVariants.{Insert, Upsert};
 ghost use Rattle.tries.specs.Search.{seek, found};
 
 mod adding;
@@ -13,7 +13,7 @@ mod scan;
 use crate::rising::{raised, rooted};
 use adding::{Addition, added, make_room};
 use compound_node::{Entry, Node};
-use hot_model::Reply;
+use finite_map::Reply;
 use key_bits::Key;
 use std::alloc::{AllocError, Global};
 use std::marker::Model;
@@ -40,7 +40,7 @@ pub struct PlainTrie {
 
 impl Model for PlainTrie {
     ghost use Rattle.std.specs.Vec.{vec_capacity};
-    ghost use Rattle.plain_trie.specs.Store.{PlainView, IsPlain};
+    ghost use Rattle.plain_trie.specs.Store.{PlainView, ShowsSoundTree};
 
     ghost Value = { PlainView };
 
@@ -52,7 +52,7 @@ impl Model for PlainTrie {
       leaf_capacity = vec_capacity a.leaves;
     } };
 
-    ghost invariant = { λ a. IsPlain (record {
+    ghost invariant = { λ a. ShowsSoundTree (record {
       nodes = a.nodes.items;
       leaves = a.leaves.items;
       top = a.top;
@@ -63,14 +63,14 @@ impl Model for PlainTrie {
 
 impl PlainTrie {
     ghost use Rattle.plain_trie.specs.Heights.{KeepsHeights};
-    ghost use Rattle.plain_trie.specs.Room.{KeepsRoom, IsAnswered, IsRefused};
-    ghost use Rattle.plain_trie.specs.Store.{map_of, ShowsTrie, IsHeldInLeaf, tree_of, record_of};
+    ghost use Rattle.plain_trie.specs.Room.{KeepsRoom, IsTrieAnswer, IsOutOfMemory};
+    ghost use Rattle.plain_trie.specs.Store.{trie_map, ShowsTrie, IsHeldInLeaf, shown_tree, item_record};
     ghost use Rattle.tries.specs.Tree.{Tree};
     ghost use Rattle.compound_node.specs.Nodes.{height_of};
 
     /// A trie without a key. It takes no memory yet.
     pub fn new(alloc: Global) -> PlainTrie
-        ensures map { map_of result ≡ [] }
+        ensures map { trie_map result ≡ [] }
         ensures memory { (result.node_capacity ≡ 0) × (result.leaf_capacity ≡ 0) }
     {
         PlainTrie {
@@ -108,7 +108,7 @@ impl PlainTrie {
     /// The value of a key: none where the trie has not got the key. The search reads one record a level, and compares the
     /// key with that of the one leaf at which it ends.
     pub fn get(&self, key: &Key) -> Option<u64>
-        ensures { result ≡ value_at (map_of self.now) key.now }
+        ensures { result ≡ value_at (trie_map self.now) key.now }
     {
         match self.top {
             None => None,
@@ -132,8 +132,8 @@ impl PlainTrie {
     /// add fewer nodes than room is made for, so one can be refused that would have found room for its own, and the last
     /// few numbers of nodes stay unused. A refused call leaves all records and the root as they were.
     pub fn insert(&mut self, key: &Key, value: u64) -> Result<Reply, AllocError>
-        ensures ok { IfOk result (IsAnswered (Insert key.now value) self.old self.new) }
-        ensures err { OnErr result (IsRefused (Insert key.now value) self.old self.new) }
+        ensures ok { IfOk result (IsTrieAnswer (Insert key.now value) self.old self.new) }
+        ensures err { OnErr result (IsOutOfMemory (Insert key.now value) self.old self.new) }
         ensures room { KeepsRoom self.old self.new }
         ensures heights { KeepsHeights self.old.nodes self.new.nodes }
     {
@@ -146,8 +146,8 @@ impl PlainTrie {
     /// Gives the key the value, and answers `New`, or `Was` with the value that it had. Only a key that was absent takes
     /// memory. When the answer is `AllocError`, and what it leaves, is as for `insert`.
     pub fn upsert(&mut self, key: &Key, value: u64) -> Result<Reply, AllocError>
-        ensures ok { IfOk result (IsAnswered (Upsert key.now value) self.old self.new) }
-        ensures err { OnErr result (IsRefused (Upsert key.now value) self.old self.new) }
+        ensures ok { IfOk result (IsTrieAnswer (Upsert key.now value) self.old self.new) }
+        ensures err { OnErr result (IsOutOfMemory (Upsert key.now value) self.old self.new) }
         ensures room { KeepsRoom self.old self.new }
         ensures heights { KeepsHeights self.old.nodes self.new.nodes }
     {
@@ -164,9 +164,9 @@ impl PlainTrie {
     /// nothing.
     fn add_absent(&mut self, key: &Key, value: u64) -> Result<Option<usize>, AllocError>
         ensures ok { IfOk result (λ held. MatchOption held
-            ((value_at (map_of self.old) key.now ≡ None) × (map_of self.new ≡ with_value (map_of self.old) key.now value))
+            ((value_at (trie_map self.old) key.now ≡ None) × (trie_map self.new ≡ with_value (trie_map self.old) key.now value))
             (λ leaf. IsHeldInLeaf self.old key.now leaf × (self.new ≡ self.old))) }
-        ensures err { OnErr result (IsRefused (Insert key.now value) self.old self.new) }
+        ensures err { OnErr result (IsOutOfMemory (Insert key.now value) self.old self.new) }
         ensures room { KeepsRoom self.old self.new }
         ensures heights { KeepsHeights self.old.nodes self.new.nodes }
     {
@@ -193,8 +193,8 @@ impl PlainTrie {
     /// Adds the first key.
     fn plant(&mut self, key: &Key, value: u64) -> Result<(), AllocError>
         requires { self.old.top ≡ None }
-        ensures map { OnOk result (map_of self.new ≡ with_value (map_of self.old) key.now value) }
-        ensures err { OnErr result (IsRefused (Insert key.now value) self.old self.new) }
+        ensures map { OnOk result (trie_map self.new ≡ with_value (trie_map self.old) key.now value) }
+        ensures err { OnErr result (IsOutOfMemory (Insert key.now value) self.old self.new) }
         ensures room { KeepsRoom self.old self.new }
         ensures heights { KeepsHeights self.old.nodes self.new.nodes }
     {
@@ -210,7 +210,7 @@ impl PlainTrie {
     /// Gives a key that the trie has another value.
     fn set(&mut self, leaf: usize, key: &Key, value: u64)
         requires { IsHeldInLeaf self.old key.now leaf }
-        ensures map { map_of self.new ≡ with_value (map_of self.old) key.now value }
+        ensures map { trie_map self.new ≡ with_value (trie_map self.old) key.now value }
         ensures room { KeepsRoom self.old self.new }
         ensures nodes { self.new.nodes ≡ self.old.nodes }
     {
@@ -223,8 +223,8 @@ impl PlainTrie {
     /// The leaf at which the key's search ends.
     fn find(&self, key: &Key, top: Entry) -> usize
         requires { self.now.top ≡ Some top }
-        ensures number { (t : Tree) → tree_of self.now ≡ Some t → (found key.now t).number ≡ result }
-        ensures record { (t : Tree) → tree_of self.now ≡ Some t → slice_get self.now.leaves result ≡ Some (record_of (found key.now t)) }
+        ensures number { (t : Tree) → shown_tree self.now ≡ Some t → (found key.now t).number ≡ result }
+        ensures record { (t : Tree) → shown_tree self.now ≡ Some t → slice_get self.now.leaves result ≡ Some (item_record (found key.now t)) }
     {
         let mut entry = top;
         loop {

@@ -3,7 +3,7 @@
 ghost use Rattle.std.specs.Prelude.{◌≡◌, ◌+◌, ◌^◌, ◌<◌, ◌≤◌, [], ◌∷◌, ◌++◌, Some, slice_get, slice_set};
 ghost use Rattle.std.specs.Vec.{vec_len, vec_capacity};
 ghost use Rattle.pieces.specs.Piece.{Piece, Fork, Place as At};
-ghost use Rattle.compound_node.specs.Nodes.{NodeView, IsLawful, IsEntry};
+ghost use Rattle.compound_node.specs.Nodes.{NodeView, IsLawfulNode, IsEntry};
 ghost use Rattle.compound_node.specs.declared.entries.Entry.{Entry as EntryView};
 ghost use Rattle.insert_cases.specs.Grown.{GrownShows};
 ghost use Rattle.plain_trie.specs.Heights.{IsGrownSteady, KeepsHeights};
@@ -18,7 +18,7 @@ pub fn stored(nodes: &mut Vec<Node>, number: u32, height: u16, grown: Grown) -> 
     requires number { number < vec_len nodes.old }
     requires room { vec_len nodes.old < vec_capacity nodes.old }
     requires small { vec_len nodes.old < 2 ^ 32 }
-    ensures shows { (old : NodeView) (P : Piece EntryView) → slice_get nodes.old.items number ≡ Some old → old.height ≡ height → IsLawful old →
+    ensures shows { (old : NodeView) (P : Piece EntryView) → slice_get nodes.old.items number ≡ Some old → old.height ≡ height → IsLawfulNode old →
         GrownShows old grown P → RisenShows nodes.new.items old result P }
     ensures heights { (old : NodeView) (P : Piece EntryView) → slice_get nodes.old.items number ≡ Some old → GrownShows old grown P →
         IsGrownSteady old grown → KeepsHeights nodes.old.items nodes.new.items }
@@ -38,7 +38,7 @@ fn split(nodes: &mut Vec<Node>, number: u32, height: u16, cut: Cut) -> Risen
     requires number { number < vec_len nodes.old }
     requires room { vec_len nodes.old < vec_capacity nodes.old }
     requires small { vec_len nodes.old < 2 ^ 32 }
-    ensures shows { (old : NodeView) (P : Piece EntryView) → slice_get nodes.old.items number ≡ Some old → old.height ≡ height → IsLawful old →
+    ensures shows { (old : NodeView) (P : Piece EntryView) → slice_get nodes.old.items number ≡ Some old → old.height ≡ height → IsLawfulNode old →
         GrownShows old (Grown.Two cut) P → RisenShows nodes.new.items old result P }
     ensures heights { (old : NodeView) (P : Piece EntryView) → slice_get nodes.old.items number ≡ Some old → GrownShows old (Grown.Two cut) P →
         IsGrownSteady old (Grown.Two cut) → KeepsHeights nodes.old.items nodes.new.items }

@@ -4,7 +4,7 @@ ghost use Rattle.std.specs.Prelude.{◌≡◌, ℕ, suc, ◌+◌, ◌^◌, ◌<�
 ghost use Rattle.std.specs.Vec.{vec_len, vec_capacity};
 ghost use Rattle.pieces.specs.Growth.{grown, IsAffected};
 ghost use Rattle.pieces.specs.Piece.{Fork, Place as At, size};
-ghost use Rattle.compound_node.specs.Nodes.{NodeView, piece, IsEntry, IsLawful, StandsBelow, height_of};
+ghost use Rattle.compound_node.specs.Nodes.{NodeView, piece, IsEntry, IsLawfulNode, StandsBelow, height_of};
 ghost use Rattle.tries.specs.Affected.{page_forked};
 ghost use Rattle.tries.specs.Content.{Item, item};
 ghost use Rattle.tries.specs.Tree.{Tree, Fixed, node as tree_node};
@@ -131,7 +131,7 @@ pub fn lifted(
 ) -> Risen
     requires place { (ns : List NodeView) × (leaves : List LeafRecord) × (x : Item) × (p : ℕ) × (y : Fixed) × (b : Tree) ×
         IsLifting ns nodes.old.items leaves x p number height at (height_of child) y b (page_of risen) }
-    requires child { (old : NodeView) → slice_get nodes.old.items number ≡ Some old → IsLawful old × (slice_get old.entries at ≡ Some child) }
+    requires child { (old : NodeView) → slice_get nodes.old.items number ≡ Some old → IsLawfulNode old × (slice_get old.entries at ≡ Some child) }
     requires room { vec_len nodes.old < vec_capacity nodes.old }
     requires small { vec_len nodes.old < 2 ^ 32 }
     ensures raised { (ns : List NodeView) (leaves : List LeafRecord) (x : Item) (p : ℕ) (y : Fixed) (b : Tree) →

@@ -2,20 +2,20 @@
 use Rattle.std.proofs.Common.{◌≡◌, List, ℕ, length, take, refl, sym, ap}
 use Rattle.std.proofs.lemmas.List.{take_at}
 use Rattle.partial_keys.specs.Rows.{with_unused}
-use Rattle.compound_node.specs.Nodes.{NodeView, HeadView, IsLawful, IsHead, IsNode, head_of}
+use Rattle.compound_node.specs.Nodes.{NodeView, HeadView, IsLawfulNode, IsHead, IsNode, head_of}
 use Rattle.compound_node.proofs.Lawful.{same_count}
 
 -- the rows of a node are the used places
-pub used_rows : (node : NodeView) → IsLawful node → take (length node.entries) (with_unused node.rows) ≡ node.rows
+pub used_rows : (node : NodeView) → IsLawfulNode node → take (length node.entries) (with_unused node.rows) ≡ node.rows
 used_rows node lawful = take_at node.rows _ (length node.entries) (same_count node lawful)
 
-pub is_node : (node : NodeView) → IsLawful node → IsNode node.height node.columns (with_unused node.rows) node.entries
+pub is_node : (node : NodeView) → IsLawfulNode node → IsNode node.height node.columns (with_unused node.rows) node.entries
 is_node node lawful = record {
   padded = ap with_unused (sym (used_rows node lawful));
   lawful = rw (used_rows node lawful) lawful;
 }
 
-pub is_head : (node : NodeView) → IsLawful node → IsHead (length node.rows) node.height node.columns (with_unused node.rows)
+pub is_head : (node : NodeView) → IsLawfulNode node → IsHead (length node.rows) node.height node.columns (with_unused node.rows)
 is_head node lawful = (node.entries, sym (same_count node lawful), is_node node lawful)
 
 -- heads with the same numbers are the same

@@ -6,7 +6,7 @@ use Rattle.key_bits.proofs.Gathering.{code-lt}
 use Rattle.pieces.specs.Positions.{AllBelow}
 use Rattle.pieces.specs.Piece.{paths}
 use Rattle.partial_keys.specs.Rows.{row_of, with_unused}
-use Rattle.compound_node.specs.Nodes.{NodeView, IsLawful, piece}
+use Rattle.compound_node.specs.Nodes.{NodeView, IsLawfulNode, piece}
 use Rattle.record_words.specs.Packed.{row_at}
 
 pub small_below : (bound : ℕ) (xs : List ℕ) → 0 < bound → AllBelow bound xs → (i : ℕ) → get_or xs i 0 < bound
@@ -14,10 +14,10 @@ small_below bound [] some below i = some
 small_below bound (x ∷ xs) some below zero = below.0
 small_below bound (x ∷ xs) some below (suc i) = small_below bound xs some below.1 i
 
-pub column-lt : (node : NodeView) → IsLawful node → (i : ℕ) → get_or node.columns i 0 < 2 ^ 16
+pub column-lt : (node : NodeView) → IsLawfulNode node → (i : ℕ) → get_or node.columns i 0 < 2 ^ 16
 column-lt node lawful i = omega (arith, small_below 65535 node.columns (lit< tt) lawful.positions.below i)
 
-pub row-lt : (node : NodeView) → IsLawful node → (i : ℕ) → get_or node.rows i 0 < 2 ^ 32
+pub row-lt : (node : NodeView) → IsLawfulNode node → (i : ℕ) → get_or node.rows i 0 < 2 ^ 32
 row-lt node lawful i =
     ⊎_elim (λ (inside : i < length (paths (piece node))).
     rw (lawful.shows.rows_are, get_or-map (row_of node.columns) (paths (piece node)) i [] 0 inside) (code-lt 32 _))

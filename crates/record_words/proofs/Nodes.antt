@@ -2,7 +2,7 @@
 use Rattle.std.proofs.Common.{ℕ, ◌≡◌, ◌+◌, ◌<◌, ◌≤◌, arith, List, get_or, length, take, drop, refl, sym, ap, ◌∙◌, length-append}
 use Rattle.std.specs.Prelude.{slice_get}
 use Rattle.std.proofs.lemmas.List.{take_at, drop_at, take_all, get_or_append_left, get_or-append_right}
-use Rattle.compound_node.specs.Nodes.{NodeView, HeadView, IsLawful, head_of, node_of}
+use Rattle.compound_node.specs.Nodes.{NodeView, HeadView, IsLawfulNode, head_of, node_of}
 use Rattle.compound_node.proofs.Lawful.{same_count}
 use Rattle.record_words.specs.Entry.{entry_word}
 use Rattle.record_words.specs.Packed.{fixed_word}
@@ -39,7 +39,7 @@ node_words-entry node i small =
     ∙ (ap (λ k. get_or (entry_words node.entries) k 0) (omega arith) ∙ entry_words_at node.entries (entry_words node.entries) refl i small)
 
 -- ---- no two nodes, and no two heads, have the same words
-pub same_head : (a b : NodeView) → IsLawful a → IsLawful b → head_words (head_of a) ≡ head_words (head_of b) → head_of a ≡ head_of b
+pub same_head : (a b : NodeView) → IsLawfulNode a → IsLawfulNode b → head_words (head_of a) ≡ head_words (head_of b) → head_of a ≡ head_of b
 same_head a b lawful_a lawful_b same =
     let words : List ℕ = head_words (head_of b) in
     let of_a : AreFixed (length a.rows) a.height a.columns a.rows words = fixed_words_parts (length a.rows) a.height a.columns a.rows words same in

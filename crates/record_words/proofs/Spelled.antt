@@ -8,7 +8,7 @@ use Rattle.record_words.specs.Entry.{HasEntryWord, entry_word}
 use Rattle.std.proofs.lemmas.List.{ext_get_or, get_or_default, length-replicate, take_at}
 use Rattle.partial_keys.specs.Columns.{HoldsColumns, IsColumns, with_free}
 use Rattle.partial_keys.specs.Rows.{with_unused}
-use Rattle.compound_node.specs.Nodes.{NodeView, HeadView, IsHead, IsLawful, head_of, node_of}
+use Rattle.compound_node.specs.Nodes.{NodeView, HeadView, IsHead, IsLawfulNode, head_of, node_of}
 use Rattle.compound_node.proofs.Lawful.{same_count}
 use Rattle.record_words.specs.Node.{HasHeadWords, HasNodeWords, head_words, node_words}
 use Rattle.record_words.specs.Leaf.{HasLeafWords, leaf_words}
@@ -32,7 +32,7 @@ holds_columns columns places count are same counted =
     record { columns = rw front are; counted = rw front (sym counted); filled = rw front same }
 
 -- a node whose head has these words
-module _ (node : NodeView) (lawful : IsLawful node) (words : List ℕ) (same : head_words (head_of node) ≡ words) where
+module _ (node : NodeView) (lawful : IsLawfulNode node) (words : List ℕ) (same : head_words (head_of node) ≡ words) where
   parts : AreFixed (length node.rows) node.height node.columns node.rows words
   parts = fixed_words_parts (length node.rows) node.height node.columns node.rows words same
 

@@ -5,7 +5,7 @@ use Rattle.std.proofs.lemmas.Bool.{cases_lt}
 use Rattle.std.proofs.lemmas.List.{ext_get_or, get_or_append_left, length-replicate, length-set}
 use Rattle.std.proofs.lemmas.Option.{slice_get_past}
 use Rattle.compound_node.specs.declared.entries.Entry.{Entry}
-use Rattle.compound_node.specs.Nodes.{NodeView, IsLawful, head_of}
+use Rattle.compound_node.specs.Nodes.{NodeView, IsLawfulNode, head_of}
 use Rattle.partial_keys.specs.Columns.{with_free}
 use Rattle.partial_keys.specs.Rows.{with_unused}
 use Rattle.compound_node.proofs.Lawful.{same_count}
@@ -51,7 +51,7 @@ module _ (node : NodeView) where
   head_word : (k : ℕ) → k < 25 → get_or (node_words node) k 0 ≡ get_or (head_words (head_of node)) k 0
   head_word k small = get_or_append_left (head_words (head_of node)) (entry_words node.entries) 0 k (omega (arith, length-head_words node))
 
-  pub numbers_word : (count columns height : ℕ) → IsLawful node → count ≡ length node.entries → columns ≡ length node.columns → height ≡ node.height → meta_word count columns height ≡ get_or (node_words node) 0 0
+  pub numbers_word : (count columns height : ℕ) → IsLawfulNode node → count ≡ length node.entries → columns ≡ length node.columns → height ≡ node.height → meta_word count columns height ≡ get_or (node_words node) 0 0
   numbers_word count columns height lawful counts columns_are heights =
       omega (arith, counts, columns_are, heights, same_count node lawful, head.numbers, head_word 0 (omega arith))
 

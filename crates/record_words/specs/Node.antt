@@ -2,7 +2,7 @@
 use Rattle.std.specs.Prelude.{ℕ, ◌≡◌, ◌≤◌, ◌++◌, List, length, map, slice_get}
 use Rattle.std.specs.List.{range_with_len}
 use Rattle.compound_node.specs.declared.entries.Entry.{Entry}
-use Rattle.compound_node.specs.Nodes.{NodeView, HeadView, IsLawful, head_of}
+use Rattle.compound_node.specs.Nodes.{NodeView, HeadView, IsLawfulNode, head_of}
 use Rattle.record_words.specs.Entry.{HasEntryWord, entry_word}
 use Rattle.record_words.specs.Packed.{fixed_words}
 use Rattle.record_words.specs.declared.TheConstants.{MAX_ENTRIES}
@@ -13,11 +13,11 @@ head_words head = fixed_words (length head.rows) head.height head.columns head.r
 
 -- some node has the head
 abbrev pub HasHeadWords : HeadView → Type 0
-HasHeadWords head = (node : NodeView) × IsLawful node × (head_of node ≡ head)
+HasHeadWords head = (node : NodeView) × IsLawfulNode node × (head_of node ≡ head)
 
 -- each node whose head has these words is so
 abbrev pub InNodesOf : List ℕ → (NodeView → Type 0) → Type 0
-InNodesOf words IsSo = (node : NodeView) → IsLawful node → head_words (head_of node) ≡ words → IsSo node
+InNodesOf words IsSo = (node : NodeView) → IsLawfulNode node → head_words (head_of node) ≡ words → IsSo node
 
 -- the words from offset FIRST_ENTRY on, one for each of MAX_ENTRIES places, with 0 past the last entry
 unfoldable pub entry_words : List Entry → List ℕ
@@ -34,5 +34,5 @@ node_words node = head_words (head_of node) ++ entry_words node.entries
 
 -- a node whose entries have words
 pub record HasNodeWords (node : NodeView) : Type 0 where
-  pub lawful : IsLawful node
+  pub lawful : IsLawfulNode node
   pub entries : HaveEntryWords node.entries

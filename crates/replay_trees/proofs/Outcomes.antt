@@ -15,7 +15,7 @@ use Rattle.moments.specs.declared.Rec.{Rec}
 use Rattle.replay_trees.specs.declared.trees.Item.{Item as ReadItem}
 use Rattle.replay_trees.specs.declared.trees.Linked.{Linked}
 use Rattle.replay_trees.specs.Moments.{AreWordsOf, read_item}
-use Rattle.replay_trees.specs.Parts.{ShowsPart, HasMarks, GrowsBy, IsPartRead, IsLeafTaken, IsNodeOf}
+use Rattle.replay_trees.specs.Parts.{ShowsPart, HasMarks, GrowsBy, IsPartRead, AddsLeaf, SpellsNode}
 use Rattle.replay_trees.proofs.Grown.{leaf_grown, node_grown, fork_grown, first_read}
 use Rattle.replay_trees.proofs.Shown.{leaf_part, no_leaf, node_part, node_back, fork_part, fork_back, one_tree}
 
@@ -31,7 +31,7 @@ is_fork cut (fork p a b) s = tt
 module _ (nodes leaves : List (List ℕ)) (words : Rec → List ℕ) (are : AreWordsOf nodes leaves words) (least : ℕ) where
   -- Entries
 
-  pub leaf_read : (n : ℕ) (good : Bool) (old new : Linked) → HasMarks nodes leaves old → IsLeafTaken leaves n good old new → IsPartRead nodes leaves words least (Place (Leaf n)) good old new
+  pub leaf_read : (n : ℕ) (good : Bool) (old new : Linked) → HasMarks nodes leaves old → AddsLeaf leaves n good old new → IsPartRead nodes leaves words least (Place (Leaf n)) good old new
   leaf_read n true old new room taken = (
     leaf n taken.0.0 taken.0.1,
     leaf_part nodes leaves words are least n taken.0 taken.1,
@@ -39,7 +39,7 @@ module _ (nodes leaves : List (List ℕ)) (words : Rec → List ℕ) (are : AreW
   )
   leaf_read n false old new room taken = λ t. no_leaf nodes leaves words are least n t taken.0
 
-  module _ (n h : ℕ) (view : NodeView) (cut : Cut) (at : IsNodeOf nodes n h view) (cuts : CutShows cut (piece view)) where
+  module _ (n h : ℕ) (view : NodeView) (cut : Cut) (at : SpellsNode nodes n h view) (cuts : CutShows cut (piece view)) where
     pub no_height : 9 * MAX_BYTES < h + cut.position → (t : Tree) → ¬ (ShowsPart nodes leaves words least (Place (Node n h)) t)
     no_height over t part =
         let b = node_back nodes leaves words are least n h view t at part in

@@ -4,8 +4,8 @@ use Rattle.std.specs.Prelude.{All}
 use Rattle.key_bits.specs.declared.TheConstants.{MAX_BYTES}
 use Rattle.pieces.specs.Piece.{Place, Fork, places}
 use Rattle.pieces.proofs.Paths.{length-places}
-use Rattle.partial_keys.specs.Shows.{Shows}
-use Rattle.compound_node.specs.Nodes.{NodeView, head_of, piece, height_of, IsLawful}
+use Rattle.partial_keys.specs.Shows.{ShowsPiece}
+use Rattle.compound_node.specs.Nodes.{NodeView, head_of, piece, height_of, IsLawfulNode}
 use Rattle.compound_node.specs.declared.entries.Entry.TheVariants.{Leaf, Node}
 use Rattle.record_words.specs.Node.{HasNodeWords, node_words}
 use Rattle.tries.specs.Keys.{IsParted}
@@ -16,13 +16,13 @@ use Rattle.moments.specs.declared.Rec.TheVariants.{Node as a_node, Leaf as a_lea
 use Rattle.moments.specs.Heap.{NodeWords}
 use Rattle.moments.specs.State.{Links}
 use Rattle.moments.proofs.Heaps.{determined, leaf_parts, node_parts}
-use Rattle.rowex_core.specs.Reading.{node_of, leaf_of, IsPacked}
+use Rattle.rowex_core.specs.Reading.{node_words_of, leaf_of, IsPacked}
 use Rattle.rowex_core.specs.Cores.{heap_of}
 use Rattle.rowex_core.proofs.Reading.{node_is, leaf_is}
 use Rattle.replay_trees.proofs.Lists.{all_parts}
 use Rattle.replay_trees.proofs.Small.{leaf_small, node_small}
 use Rattle.replay_trees.specs.Moments.{AreWordsOf, IsSpelled}
-use Rattle.replay_trees.specs.Parts.{IsForkedFrom, ShowsPart, IsLeafAt, IsNodeOf}
+use Rattle.replay_trees.specs.Parts.{IsForkedFrom, ShowsPart, IsLeafAt, SpellsNode}
 
 -- Where a first fork stands
 above_from : (p : ℕ) (t : Tree) → IsForkedFrom (p + 1) t → IsAbove p t
@@ -77,23 +77,23 @@ module _ (nodes leaves : List (List ℕ)) (words : Rec → List ℕ) (are : AreW
 
   -- Nodes
 
-  node_packed : (n h : ℕ) (view : NodeView) → IsNodeOf nodes n h view → IsPacked (a_node n) (words (a_node n))
+  node_packed : (n h : ℕ) (view : NodeView) → SpellsNode nodes n h view → IsPacked (a_node n) (words (a_node n))
   unfolding IsPacked
   node_packed n h view at = (view, at.has, at.spelling ∙ sym (are.nodes_are n at.in_table))
 
   words_are : (n : ℕ) (view : NodeView) → n < length nodes → HasNodeWords view → node_words view ≡ get_or nodes n [] →
-      node_of (words (a_node n)) ≡ record { fixed = head_of view; page = piece view }
-  words_are n view in_table has spelling = ap node_of (are.nodes_are n in_table) ∙ node_is view (get_or nodes n []) (node_small view has (get_or nodes n []) spelling) has spelling
+      node_words_of (words (a_node n)) ≡ record { fixed = head_of view; page = piece view }
+  words_are n view in_table has spelling = ap node_words_of (are.nodes_are n in_table) ∙ node_is view (get_or nodes n []) (node_small view has (get_or nodes n []) spelling) has spelling
 
-  fit_of : (view : NodeView) (b : Tree) → IsLawful view → page b ≡ piece view → view.height + first_position (piece view) ≤ 9 * MAX_BYTES → IsFit (head_of view) (page b)
+  fit_of : (view : NodeView) (b : Tree) → IsLawfulNode view → page b ≡ piece view → view.height + first_position (piece view) ≤ 9 * MAX_BYTES → IsFit (head_of view) (page b)
   fit_of view b lawful e bound = subst (IsFit (head_of view)) (sym e) (record {
     positions = lawful.positions;
-    shows = subst (λ u. Shows view.columns view.rows u (piece view)) lawful.shows.entries_are lawful.shows;
+    shows = subst (λ u. ShowsPiece view.columns view.rows u (piece view)) lawful.shows.entries_are lawful.shows;
     room = let l = length-places (piece view) in let s = ap length lawful.shows.entries_are in omega (arith, lawful.room);
     bound = bound;
   })
 
-  pub node_part : (least n h : ℕ) (view : NodeView) (b : Tree) → IsNodeOf nodes n h view → h + first_position (piece view) ≤ 9 * MAX_BYTES → IsFork b →
+  pub node_part : (least n h : ℕ) (view : NodeView) (b : Tree) → SpellsNode nodes n h view → h + first_position (piece view) ≤ 9 * MAX_BYTES → IsFork b →
       ShowsPart nodes leaves words least (piece view) b → ShowsPart nodes leaves words least (Place (Node n h)) (node n (head_of view) b)
   node_part least n h view b at bound two part = record {
     page_is = ap (λ z. Place (Node n z)) at.height_is;
@@ -117,22 +117,22 @@ module _ (nodes leaves : List (List ℕ)) (words : Rec → List ℕ) (are : AreW
   unfolding IsPacked
   node_spelled n s = (s.1.0, s.0, s.1.1, s.1.2 ∙ are.nodes_are n s.0)
 
-  pub no_node : (least n h : ℕ) (t : Tree) → ((view : NodeView) → ¬ (IsNodeOf nodes n h view)) → ¬ (ShowsPart nodes leaves words least (Place (Node n h)) t)
+  pub no_node : (least n h : ℕ) (t : Tree) → ((view : NodeView) → ¬ (SpellsNode nodes n h view)) → ¬ (ShowsPart nodes leaves words least (Place (Node n h)) t)
   no_node least n h (leaf o k v) none part = let e = part.page_is in absurd cc
   no_node least n h (fork p a b) none part = let e = part.page_is in absurd cc
   no_node least n h (node o x b) none part =
       let e = node_parts part.page_is in
       let s = node_spelled n (subst (λ z. IsSpelled nodes leaves words (a_node z)) e.0 (part.spelled (a_node o) (inl refl))) in
-      let w : record { fixed = x; page = page b } ≡ record { fixed = head_of s.0; page = piece s.0 } = sym part.shown.0 ∙ (ap (λ z. node_of (words (a_node z))) e.0 ∙ words_are n s.0 s.1 s.2 s.3) in
+      let w : record { fixed = x; page = page b } ≡ record { fixed = head_of s.0; page = piece s.0 } = sym part.shown.0 ∙ (ap (λ z. node_words_of (words (a_node z))) e.0 ∙ words_are n s.0 s.1 s.2 s.3) in
       none s.0 (record { in_table = s.1; has = s.2; spelling = s.3; height_is = sym (ap (λ (z : NodeWords). z.fixed.height) w) ∙ e.1 })
 
-  pub node_back : (least n h : ℕ) (view : NodeView) (t : Tree) → IsNodeOf nodes n h view → ShowsPart nodes leaves words least (Place (Node n h)) t →
+  pub node_back : (least n h : ℕ) (view : NodeView) (t : Tree) → SpellsNode nodes n h view → ShowsPart nodes leaves words least (Place (Node n h)) t →
       (b : Tree) × ShowsPart nodes leaves words least (piece view) b × (h + first_position (piece view) ≤ 9 * MAX_BYTES)
   node_back least n h view (leaf o k v) at part = let e = part.page_is in absurd cc
   node_back least n h view (fork p a b) at part = let e = part.page_is in absurd cc
   node_back least n h view (node o x b) at part =
       let e = node_parts part.page_is in
-      let w : record { fixed = x; page = page b } ≡ record { fixed = head_of view; page = piece view } = sym part.shown.0 ∙ (ap (λ z. node_of (words (a_node z))) e.0 ∙ words_are n view at.in_table at.has at.spelling) in
+      let w : record { fixed = x; page = page b } ≡ record { fixed = head_of view; page = piece view } = sym part.shown.0 ∙ (ap (λ z. node_words_of (words (a_node z))) e.0 ∙ words_are n view at.in_table at.has at.spelling) in
       let p : page b ≡ piece view = ap (λ (z : NodeWords). z.page) w in (
         b,
         record { page_is = p; shown = part.shown.1; local = part.local; built = part.built.2; from = part.from; spelled = λ r l. part.spelled r (inr l) },

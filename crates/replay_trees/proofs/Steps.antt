@@ -1,7 +1,7 @@
 -- How many steps reading a part takes at most: the depth of its forks, and for each entry the depth of the nodes below.
 use Rattle.std.proofs.Common.{◌≡◌, ℕ, ◌+◌, ◌-◌, ◌*◌, ◌<◌, ◌≤◌, length, max, refl, ap, ap₂, sym, ◌∙◌, subst, arith}
 use Rattle.std.specs.Prelude.{All}
-use Rattle.compound_node.specs.Nodes.{NodeView, height_of, piece, IsLawful}
+use Rattle.compound_node.specs.Nodes.{NodeView, height_of, piece, IsLawfulNode}
 use Rattle.compound_node.specs.Halves.{HalfShows, CutShows}
 use Rattle.compound_node.specs.declared.entries.Entry.TheVariants.{Leaf, Node}
 use Rattle.compound_node.specs.declared.halves.Cut.{Cut}
@@ -42,7 +42,7 @@ few_steps h (Fork q x y) a =
     omega arith
 
 -- A node has less steps than an entry of its height.
-pub node_steps : (view : NodeView) (n h : ℕ) → IsLawful view → view.height ≡ h → steps (piece view) < half_steps (One (Node n h))
+pub node_steps : (view : NodeView) (n h : ℕ) → IsLawfulNode view → view.height ≡ h → steps (piece view) < half_steps (One (Node n h))
 node_steps view n h l e =
     let f = few_steps view.height (piece view) (subst (All (λ x. height_of x < view.height)) l.shows.entries_are l.above) in
     let s : length view.entries ≡ size (piece view) = ap length l.shows.entries_are ∙ length-places (piece view) in

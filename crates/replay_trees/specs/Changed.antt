@@ -1,6 +1,6 @@
 -- By which change one list of leaves became another.
 use Rattle.std.specs.Prelude.{◌≡◌, ◌≢◌, ℕ, List, ◌∷◌, map, Option, Some, None}
-use Rattle.hot_model.specs.declared.Change.{Change}
+use Rattle.finite_map.specs.declared.Change.{Change}
 use Rattle.tries.specs.Content.{Item}
 use Rattle.moments.specs.Told.{item_of, IsChanged}
 use Rattle.rowex_core.specs.Events.{change_between}

@@ -72,15 +72,15 @@ pub record IsLeafAt (leaves : List (List ℕ)) (n : ℕ) (pair : List ℕ × ℕ
   pub spelling : leaf_words pair ≡ slice_index_or leaves n []
 
 -- A leaf was added exactly where the record spells one.
-abbrev pub IsLeafTaken : List (List ℕ) → ℕ → Bool → Linked → Linked → Type 0
-IsLeafTaken leaves n true old new =
+abbrev pub AddsLeaf : List (List ℕ) → ℕ → Bool → Linked → Linked → Type 0
+AddsLeaf leaves n true old new =
     (pair : List ℕ × ℕ) × IsLeafAt leaves n pair ×
     (new.items.items ≡ old.items.items ++ record { number = n; key = pair.0; value = pair.1 } ∷ []) ×
     (new.nodes ≡ old.nodes) × (new.leaves.items ≡ slice_set old.leaves.items n true)
-IsLeafTaken leaves n false old new = ((pair : List ℕ × ℕ) → ¬ (IsLeafAt leaves n pair)) × (new ≡ old)
+AddsLeaf leaves n false old new = ((pair : List ℕ × ℕ) → ¬ (IsLeafAt leaves n pair)) × (new ≡ old)
 
 -- a record of the table whose words spell this node, of this height
-pub record IsNodeOf (nodes : List (List ℕ)) (n height : ℕ) (view : NodeView) : Type 0 where
+pub record SpellsNode (nodes : List (List ℕ)) (n height : ℕ) (view : NodeView) : Type 0 where
   pub in_table : n < length nodes
   pub has : HasNodeWords view
   pub spelling : node_words view ≡ slice_index_or nodes n []
@@ -88,5 +88,5 @@ pub record IsNodeOf (nodes : List (List ℕ)) (n height : ℕ) (view : NodeView)
 
 -- a node, exactly where the record spells one of the height
 abbrev pub IsNodeAt : List (List ℕ) → ℕ → ℕ → Option NodeView → Type 0
-IsNodeAt nodes n height None = (view : NodeView) → ¬ (IsNodeOf nodes n height view)
-IsNodeAt nodes n height (Some view) = IsNodeOf nodes n height view
+IsNodeAt nodes n height None = (view : NodeView) → ¬ (SpellsNode nodes n height view)
+IsNodeAt nodes n height (Some view) = SpellsNode nodes n height view

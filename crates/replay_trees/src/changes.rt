@@ -6,7 +6,7 @@ ghost use Rattle.rowex_core.specs.Events.{AreSame};
 ghost use Rattle.replay_trees.specs.Changed.{BeginApart, IsFoundChange, IsMade, numbers};
 
 use crate::trees::Item;
-use hot_model::{Change, Kind};
+use finite_map::{Change, Kind};
 use std::cmp::Ordering;
 
 /// The change by which a pass made one list of leaves the other: one leaf more, or one less, or one in the place of

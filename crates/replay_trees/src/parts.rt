@@ -2,7 +2,7 @@
 
 ghost use Rattle.std.specs.Prelude.{IfOk, IsTrue, length, true, ◌≡◌, ◌↔◌};
 ghost use Rattle.tries.specs.Keys.{IsParted};
-ghost use Rattle.replay_trees.specs.Parts.{HasMarks, IsCutRead, IsEntryRead, IsHalfRead, IsLeafTaken, IsLonger, IsNodeAt};
+ghost use Rattle.replay_trees.specs.Parts.{HasMarks, IsCutRead, IsEntryRead, IsHalfRead, AddsLeaf, IsLonger, IsNodeAt};
 
 use crate::trees::{Item, Linked};
 use compound_node::{Cut, Entry, Half, Node};
@@ -99,7 +99,7 @@ fn take_leaf(
     linked: &mut Linked,
 ) -> Result<bool, AllocError>
     requires { length linked.old.leaves.items ≡ length leaves.now }
-    ensures { IfOk result (λ good. IsLeafTaken leaves.now number good linked.old linked.new) }
+    ensures { IfOk result (λ good. AddsLeaf leaves.now number good linked.old linked.new) }
 {
     let Some(words) = leaves.get(number as usize) else {
         return Ok(false);

@@ -2,14 +2,14 @@
 use Rattle.std.proofs.Common.{◌≡◌, ◌≢◌, ◌⊎◌, inl, inr, ℕ, suc, List, [], ◌∷◌, true, false, if◌then◌else◌, nat_eq, eqb, Option, Some, None, refl, sym, ap, ◌∙◌, subst, arith, le_refl}
 use Rattle.std.proofs.lemmas.Bool.{eqb-true, cases_Bool}
 use Rattle.std.proofs.lemmas.List.Elements.{All-from_recursion}
-use Rattle.hot_model.specs.Fronts.{OthersGoOn}
+use Rattle.finite_map.specs.Fronts.{OthersGoOn}
 use Rattle.tries.specs.Content.{Item}
 use Rattle.moments.specs.declared.Rec.{Rec}
 use Rattle.moments.specs.declared.Rec.TheVariants.{Node as a_node}
 use Rattle.moments.specs.declared.Pin.{Pin}
 use Rattle.moments.specs.declared.Round.{Round}
 use Rattle.moments.specs.Told.{items_of}
-use Rattle.hot_model.specs.Maps.{key_order}
+use Rattle.finite_map.specs.Maps.{key_order}
 use Rattle.std.specs.declared.cmp.Ordering.{Ordering}
 use Rattle.std.specs.declared.cmp.Ordering.TheVariants.{Less, Equal, Greater}
 use Rattle.moments.specs.Core.{Fate, Free, Held, Ready as ReadyBy, InTree, Unlinked, Marked}
@@ -28,7 +28,7 @@ use Rattle.rowex_core.specs.Sharing.{share, holding_of, is_by, is_in_tree, ancho
 use Rattle.rowex_core.proofs.Publishing.{publish_share}
 use Rattle.rowex_core.proofs.Sharing.{same_share, same_fate, same_word, same_lock, same_unlocked, by_another}
 use Rattle.moments.specs.Frames.{IsGrown}
-use Rattle.hot_model.proofs.Growth.{others_none}
+use Rattle.finite_map.proofs.Growth.{others_none}
 
 -- nothing that pass q knows has changed
 quiet : (q : ℕ) (c d : Core) → d.layout ≡ c.layout → d.past ≡ c.past → d.changes ≡ c.changes → share q d ≡ share q c → IsFrame q c d

@@ -13,17 +13,17 @@ use Rattle.rowex_core.specs.declared.known.Fact.TheVariants.{Rooted, Placed, Fix
 use Rattle.rowex_core.specs.declared.known.Known.{Known}
 use Rattle.rowex_core.specs.declared.known.View.{View}
 use Rattle.rowex_core.specs.declared.known.View.TheVariants.{Spent, Dealer, Pass, Pair, Witness, Follower}
-use Rattle.hot_model.specs.declared.Change.{Change}
-use Rattle.hot_model.specs.Fronts.{BeginsWith}
+use Rattle.finite_map.specs.declared.Change.{Change}
+use Rattle.finite_map.specs.Fronts.{BeginsWith}
 use Rattle.record_words.specs.declared.layout.Layout.{Layout}
 use Rattle.rowex_core.specs.Reading.{entry_in, word_in}
 use Rattle.rowex_core.specs.Cores.{Core, IsLawful}
 use Rattle.rowex_core.specs.Events.{Legal, after}
 use Rattle.rowex_core.specs.Frames.{IsFrame}
-use Rattle.rowex_core.specs.Knowing.{StoodBetween, StoodAs, HoldsIfStood, IsFact, Knows, NoChangeBy, IsUntouched, Knowing, Owns}
+use Rattle.rowex_core.specs.Knowing.{StoodBetween, StoodAs, HoldsIfStood, IsFact, Knows, NoChangeBy, IsUntouched, Knowing, IsViewOf}
 use Rattle.rowex_core.specs.Statements.{SeesAll}
 use Rattle.rowex_core.proofs.Frames.{frame}
-use Rattle.hot_model.proofs.Growth.{begins_on, others_begin, others_on}
+use Rattle.finite_map.proofs.Growth.{begins_on, others_begin, others_on}
 
 -- Facts of the past
 
@@ -79,7 +79,7 @@ pub sees_all : SeesAll
 sees_all c k w law h l = (refl, refl, λ o known. seen_by c o known)
 
 -- A legal step of one pass leaves true what any other view says.
-pub keeps : (c : Core) (p : ℕ) (act : Act) (v : View) → IsLawful c → Legal c p act → ¬ (Owns v p) → Knowing c v → Knowing (after c p act) v
+pub keeps : (c : Core) (p : ℕ) (act : Act) (v : View) → IsLawful c → Legal c p act → ¬ (IsViewOf v p) → Knowing c v → Knowing (after c p act) v
 keeps c p act Spent law l n k = tt
 keeps c p act (Dealer m) law l n k = λ q low. untouched_kept c (after c p act) q (frame c p q act (λ e. n (subst (λ z. m ≤ z) (sym e) low)) law l) (k q low)
 keeps c p act (Pass k) law l n h = knows_kept c (after c p act) k (frame c p k.pass act (λ e. n (sym e)) law l) h

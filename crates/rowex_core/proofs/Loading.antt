@@ -13,7 +13,7 @@ use Rattle.moments.specs.State.{Stands, IsReach, last_of, Spans, IsRecord, State
 use Rattle.moments.specs.Core.{Fate, Free, Held as HeldBy, Ready as ReadyBy, InTree, Unlinked as UnlinkedBy, Marked, life_of, view as moments_of}
 use Rattle.moments.proofs.States.{spans_last, spans_ended, reach_later}
 use Rattle.rowex_core.specs.declared.known.Fact.TheVariants.{Placed, Fixed as FixedWord}
-use Rattle.rowex_core.specs.Reading.{entry_of, node_of, leaf_of, IsPacked, entry_in, word_in}
+use Rattle.rowex_core.specs.Reading.{entry_of, node_words_of, leaf_of, IsPacked, entry_in, word_in}
 use Rattle.rowex_core.specs.Cores.{Core, IsLawful, IsWhole, heap_of, bare}
 use Rattle.rowex_core.specs.Words.{record_word}
 use Rattle.rowex_core.specs.Events.{IsFixedOffset}
@@ -85,7 +85,7 @@ entry_of_last c law since n j small l = go l.tree l.stands.is_record l.copied l.
     go (fork q a b) r i p = absurd r
     go (node m x b) r i (v, has, same) =
         let words = c.words (a_node n) in
-        let e : page b ≡ piece v = (same_words (sym i ∙ (ap (λ z. node_of (c.words (a_node z))) (sym (node_number r)) ∙ node_is v (c.words (a_node n)) (law.records.sized (a_node n)).1 has same))).0 in
+        let e : page b ≡ piece v = (same_words (sym i ∙ (ap (λ z. node_words_of (c.words (a_node z))) (sym (node_number r)) ∙ node_is v (c.words (a_node n)) (law.records.sized (a_node n)).1 has same))).0 in
         ap (λ (z : Page). if nat_lt j (size z) then Some (entry_at z j) else None) e ∙
         (sym (entry_at_is v (c.words (a_node n)) (law.records.sized (a_node n)).1 has same j small) ∙
         ap (λ z. entry_of (get_or (c.words (a_node n)) z 0)) (let a : 25 + j ≡ 26 + j - 1 = omega arith in a) ∙
@@ -113,7 +113,7 @@ fixed_fact c law since reach r offset fits = (
     go (a_leaf n) (node m x b) f r i p = absurd cc
     go (a_leaf n) (fork q a b) f r i p = absurd r
     go (a_node n) (node m x b) f r i (v, has, same) =
-        let e = (same_words (sym i ∙ (ap (λ z. node_of (c.words (a_node z))) (sym (node_number r)) ∙ node_is v (c.words (a_node n)) (law.records.sized (a_node n)).1 has same))).1 in
+        let e = (same_words (sym i ∙ (ap (λ z. node_words_of (c.words (a_node z))) (sym (node_number r)) ∙ node_is v (c.words (a_node n)) (law.records.sized (a_node n)).1 has same))).1 in
         ap (λ (z : Fixed). get_or (fixed_words (length z.rows) z.height z.columns z.rows) (offset - 1) 0) e ∙
         (sym (fixed_word_is v (c.words (a_node n)) (law.records.sized (a_node n)).1 has same (offset - 1) (let a = f.0 in let b = f.1 in omega arith)) ∙ sym (later_word c (a_node n) offset f.0))
     go (a_leaf n) (leaf m k v) f r i (p, has, same) =

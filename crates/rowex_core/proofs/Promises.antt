@@ -3,12 +3,12 @@ use Rattle.std.proofs.Common.{◌≡◌, ◌≢◌, inl, ⊎_elim, ℕ, zero, su
 use Rattle.std.proofs.lemmas.Bool.{eq-eqb, ne_eqb, false≢true, cases_lt}
 use Rattle.std.proofs.lemmas.List.{length-replicate, length-set, get_or-replicate, get_or-set_same, get_or-set_other, get_or_past, take_all}
 use Rattle.std.proofs.lemmas.List.Elements.{All-replicate, All-from_recursion}
-use Rattle.hot_model.specs.declared.Change.{Change}
-use Rattle.hot_model.specs.declared.Kind.{Kind}
-use Rattle.hot_model.specs.declared.Kind.TheVariants.{Added, Replaced, Removed}
-use Rattle.hot_model.specs.Maps.{Map, map_after, step_where, value_at}
-use Rattle.hot_model.specs.declared.Call.TheVariants.{Upsert, Remove}
-use Rattle.hot_model.specs.Fronts.{map_of, changed, changed_by, FitsKind, Fits, LegalFrom}
+use Rattle.finite_map.specs.declared.Change.{Change}
+use Rattle.finite_map.specs.declared.Kind.{Kind}
+use Rattle.finite_map.specs.declared.Kind.TheVariants.{Added, Replaced, Removed}
+use Rattle.finite_map.specs.Maps.{Map, map_after, step_where, value_at}
+use Rattle.finite_map.specs.declared.Call.TheVariants.{Upsert, Remove}
+use Rattle.finite_map.specs.Fronts.{map_of, changed, changed_by, FitsKind, Fits, LegalFrom}
 use Rattle.record_words.specs.Layout.{address, word_count, IsInTable}
 use Rattle.record_words.specs.declared.layout.Layout.{Layout}
 use Rattle.record_words.specs.declared.layout.Location.{Location}
@@ -31,11 +31,11 @@ use Rattle.rowex_core.specs.Cores.{IsLawful, IsWithin, bare, heap_of, word_count
 use Rattle.rowex_core.specs.Words.{record_word, word_at, Shows}
 use Rattle.rowex_core.specs.Events.{IsFixedOffset, after, next_change, next_tree}
 use Rattle.rowex_core.specs.Opening.{opening, opening_words}
-use Rattle.rowex_core.specs.Statements.{OpeningIsLawful, Hindsight, Parting, InReach, EntriesInReach, PublishIsAStep, LocksApart, call_for, call_of}
+use Rattle.rowex_core.specs.Statements.{OpeningIsLawful, Hindsight, Parting, InReach, EntriesInReach, PublishIsAStep, LocksApart, call_for, change_call}
 use Rattle.rowex_core.proofs.Frames.{change_pass}
 use Rattle.rowex_core.proofs.Loading.{LastOf, last, entry_of_last, fixed_fact, view}
 use Rattle.rowex_core.proofs.Staying.{stays_lawful}
-use Rattle.hot_model.proofs.Growth.{map_of-push}
+use Rattle.finite_map.proofs.Growth.{map_of-push}
 
 -- The opening core
 
@@ -157,7 +157,7 @@ publish_is_a_step c q spot w law l = (refl, change_pass q (items_of (c.past.mome
     fits : Fits (map_of c.changes) (next_change c q spot w)
     fits = last_fits [] c.changes (next_change c q spot w) then_lawful.core.told.legal
 
-    held : map_after (map_of c.changes) (call_of (next_change c q spot w)) ≡ map_of (c.changes ++ next_change c q spot w ∷ [])
+    held : map_after (map_of c.changes) (change_call (next_change c q spot w)) ≡ map_of (c.changes ++ next_change c q spot w ∷ [])
     held = one_call (next_change c q spot w).kind (map_of c.changes) (next_change c q spot w).key (next_change c q spot w).value fits ∙ sym (map_of-push c.changes (next_change c q spot w))
 
     told_then : content ((after c q (Publish spot w)).past.moment (suc c.past.now)) ≡ map_of (c.changes ++ next_change c q spot w ∷ [])

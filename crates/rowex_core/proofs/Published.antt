@@ -2,7 +2,7 @@
 use Rattle.std.proofs.Common.{◌≡◌, ◌⊎◌, inl, inr, ℕ, ◌+◌, ◌^◌, ◌<◌, Bool, true, false, Option, Some, None, refl, sym, ap, ◌∙◌, subst, arith}
 use Rattle.std.proofs.lemmas.Bool.{cases_Bool, false≢true}
 use Rattle.std.proofs.lemmas.List.Elements.{All-push}
-use Rattle.hot_model.specs.declared.Change.{Change}
+use Rattle.finite_map.specs.declared.Change.{Change}
 use Rattle.compound_node.specs.declared.entries.Entry.{Entry}
 use Rattle.compound_node.specs.declared.entries.Entry.TheVariants.{Leaf, Node}
 use Rattle.record_words.specs.Entry.{HasEntryWord, entry_word}
@@ -18,7 +18,7 @@ use Rattle.moments.proofs.Stepping.{step_lawful}
 use Rattle.rowex_core.specs.declared.event.Act.TheVariants.{Publish}
 use Rattle.rowex_core.specs.declared.event.Spot.{Spot}
 use Rattle.rowex_core.specs.declared.event.Spot.TheVariants.{Root, Slot}
-use Rattle.rowex_core.specs.Reading.{node_of, leaf_of, entry_of, IsPacked}
+use Rattle.rowex_core.specs.Reading.{node_words_of, leaf_of, entry_of, IsPacked}
 use Rattle.rowex_core.specs.Cores.{Core, IsLawful, bare, heap_of, HasRecord, IsSized, IsWithin, FitsIn, IsWhole}
 use Rattle.rowex_core.specs.Events.{after, stored_words, stored_root, next_tree, next_change, IsLegalPublish, IsPackedAt, IsLockedAt}
 use Rattle.rowex_core.proofs.Frames.{change_pass}
@@ -66,7 +66,7 @@ module _ (c : Core) (q : ℕ) (spot : Spot) (w : ℕ) (law : IsLawful c) (l : Is
   store : (s : Spot) → IsLockedAt c q s → IsStore (bare c) q (heap_of (stored_words c s w)) (stored_root c s w)
   store Root e = at_root e refl
   store (Slot n j) e = at_slot n e.2
-      (λ m ne. ap node_of (other_words c n j w (a_node m) (λ x. ne (number x))))
+      (λ m ne. ap node_words_of (other_words c n j w (a_node m) (λ x. ne (number x))))
       (λ m. ap leaf_of (other_words c n j w (a_leaf m) (λ x. absurd cc))) refl
     where
       number : {a b : ℕ} → a_node a ≡ a_node b → a ≡ b
@@ -78,7 +78,7 @@ module _ (c : Core) (q : ℕ) (spot : Spot) (w : ℕ) (law : IsLawful c) (l : Is
       go : (IsLinked (next_tree c s w) (a_node n) × (is_linked (next_tree c s w) (a_node n) ≡ true)) ⊎ ((¬ (IsLinked (next_tree c s w) (a_node n))) × (is_linked (next_tree c s w) (a_node n) ≡ false)) →
           IsLinked (next_tree c s w) (a_node n) ⊎ ((heap_of c.words).nodes n ≡ (heap_of (stored_words c s w)).nodes n)
       go (inl x) = inl x.0
-      go (inr x) = inr (ap node_of (sym (unlinked_words c q law s w k (a_node n) x.0)))
+      go (inr x) = inr (ap node_words_of (sym (unlinked_words c q law s w k (a_node n) x.0)))
 
   pub moments_publish : IsMomentsPublish (bare c) q (heap_of (stored_words c spot w)) (stored_root c spot w) (next_tree c spot w) (next_change c q spot w)
   moments_publish = record {

@@ -3,7 +3,7 @@ use Rattle.std.proofs.Common.{◌≡◌, ◌≢◌, ◌⊎◌, inl, inr, ℕ, su
 use Rattle.std.specs.Prelude.{filter}
 use Rattle.std.proofs.lemmas.Bool.{eq-eqb, cases_Bool, false≢true}
 use Rattle.std.proofs.lemmas.List.Elements.{filter-append}
-use Rattle.hot_model.specs.declared.Kind.TheVariants.{Removed}
+use Rattle.finite_map.specs.declared.Kind.TheVariants.{Removed}
 use Rattle.compound_node.specs.declared.entries.Entry.{Entry}
 use Rattle.compound_node.specs.declared.entries.Entry.TheVariants.{Leaf, Node}
 use Rattle.pieces.specs.Piece.{Place}
@@ -25,7 +25,7 @@ use Rattle.moments.proofs.Legal.{same_rec_true, links_true, linked_cases}
 use Rattle.rowex_core.specs.declared.event.Act.TheVariants.{Publish}
 use Rattle.rowex_core.specs.declared.event.Spot.{Spot}
 use Rattle.rowex_core.specs.declared.event.Spot.TheVariants.{Root, Slot}
-use Rattle.rowex_core.specs.Reading.{node_of, leaf_of}
+use Rattle.rowex_core.specs.Reading.{node_words_of, leaf_of}
 use Rattle.rowex_core.specs.Cores.{Core, IsLawful, heap_of}
 use Rattle.rowex_core.specs.Events.{after, stored_words, stored_root, next_tree, change_between, IsLegalPublish, IsLockedAt}
 use Rattle.rowex_core.specs.Sharing.{share, holding_of, is_by, is_in_tree, owned, locked, anchored_at}
@@ -84,7 +84,7 @@ module _ (c : Core) (q : ℕ) (law : IsLawful c) where
       go (inl x) = x.0
       go (inr x) = absurd (always_changed q (c.past.moment c.past.now) (next_tree c (Slot n j) w)
           (same_top (heap_of c.words) (heap_of (stored_words c (Slot n j) w)) c.root n _ _ law.core.state.top l.top
-          (λ i ne. ap node_of (sym (other_words c n j w (a_node i) (λ e. ne (node_number e)))))
+          (λ i ne. ap node_words_of (sym (other_words c n j w (a_node i) (λ e. ne (node_number e)))))
           (λ i. ap leaf_of (sym (other_words c n j w (a_leaf i) (λ e. absurd cc)))) x.0) l.change)
 
   -- A record that is not linked then keeps its words.

@@ -28,7 +28,7 @@ use Rattle.record_words.proofs.Bytes.{key_word-bytes}
 use Rattle.tries.specs.Tree.{Page}
 use Rattle.tries.specs.Place.{entry_at}
 use Rattle.moments.specs.Heap.{NodeWords, LeafWords}
-use Rattle.rowex_core.specs.Reading.{entry_of, positions_in, rows_in, fixed_of, entries_of, node_of, bytes_in, leaf_of}
+use Rattle.rowex_core.specs.Reading.{entry_of, positions_in, rows_in, fixed_of, entries_of, node_words_of, bytes_in, leaf_of}
 
 -- Entries
 
@@ -163,8 +163,8 @@ module _ (view : NodeView) (words : List ℕ) (small : All (λ w. w < 2 ^ 64) wo
       (ap (λ z. unwrap_or z (Leaf 0)) (entry_word_at i (omega arith)) ∙ unwrap_or-slice_get view.entries i (Leaf 0))))
 
   -- the words that a node has are read as that node
-  pub node_is : node_of words ≡ record { fixed = record { height = view.height; columns = view.columns; rows = view.rows }; page = piece view }
-  unfolding node_of
+  pub node_is : node_words_of words ≡ record { fixed = record { height = view.height; columns = view.columns; rows = view.rows }; page = piece view }
+  unfolding node_words_of
   node_is = same_node (numbers.2) columns_are rows_are entries_are
     where
       same_node : {h i : ℕ} {c d r s : List ℕ} {e f : List Entry} → h ≡ i → c ≡ d → r ≡ s → e ≡ f →

@@ -17,7 +17,7 @@ use Rattle.record_words.proofs.Fixing.{fixed_words_parts}
 use Rattle.tries.specs.Tree.{Page}
 use Rattle.tries.specs.Place.{with_entry}
 use Rattle.moments.specs.Heap.{NodeWords}
-use Rattle.rowex_core.specs.Reading.{node_of}
+use Rattle.rowex_core.specs.Reading.{node_words_of}
 use Rattle.rowex_core.proofs.Reading.{node_is}
 use Rattle.rowex_core.proofs.Published.{entry_small}
 use Rattle.rowex_core.specs.Writers.{SlotIsStored}
@@ -76,7 +76,7 @@ module _ (view : NodeView) (words : List ℕ) (has : HasNodeWords view) (same : 
       (sym (set-append_right (head_words (head_of view)) (entry_words view.entries) 25 (25 + j) (entry_word (Some e)) long (omega arith)) ∙ ap (λ z. set z (25 + j) (entry_word (Some e))) same)
 
   pub stored_node : (small : All (λ w. w < 2 ^ 64) words) → entry_word (Some e) < 2 ^ 64 →
-      node_of (set words (25 + j) (entry_word (Some e))) ≡ record { fixed = (node_of words).fixed; page = with_entry (node_of words).page j e }
+      node_words_of (set words (25 + j) (entry_word (Some e))) ≡ record { fixed = (node_words_of words).fixed; page = with_entry (node_words_of words).page j e }
   stored_node small fits =
       let was = node_is view words small has same in
       let now = node_is stored (set words (25 + j) (entry_word (Some e))) (All-set (λ w. w < 2 ^ 64) words (25 + j) (entry_word (Some e)) fits small) stored_has stored_same in

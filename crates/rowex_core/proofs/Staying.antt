@@ -14,7 +14,7 @@ use Rattle.moments.proofs.Stepping.{step_lawful}
 use Rattle.rowex_core.specs.declared.event.Act.{Act}
 use Rattle.rowex_core.specs.declared.event.Act.TheVariants.{Claim, Fill, Ready, Release, LoadRef, LoadFixed, Lock, Unlock, Publish, Mark, LoadEpoch, Advance, SetPin, ClearPin, LoadPin, LoadState, GiveBack}
 use Rattle.rowex_core.specs.declared.event.Target.TheVariants.{Anchor, Node as NodeTarget}
-use Rattle.rowex_core.specs.Reading.{node_of, leaf_of, IsPacked}
+use Rattle.rowex_core.specs.Reading.{node_words_of, leaf_of, IsPacked}
 use Rattle.rowex_core.specs.Cores.{Core, IsLawful, bare, heap_of, HasRecord, HasWord, FitsIn, IsWhole}
 use Rattle.rowex_core.specs.Words.{tag_of}
 use Rattle.rowex_core.specs.Events.{Legal, IsOffset, after, with_word, claimed, marked, given_back, anchored, locked_where, advanced}
@@ -122,7 +122,7 @@ mark_stays c q r epoch since last law has same e late = record {
 fill_stays : (c : Core) (q : ℕ) (r : Rec) (offset w : ℕ) → IsLawful c → c.fate r ≡ Held q → IsOffset r offset → w < 2 ^ 64 → HasWord c.layout r offset → IsLawful (record c { words = with_word c.words r offset w })
 fill_stays c q r offset w law e at small there = record {
   core = step_lawful (bare c) q _ law.core (fills r (heap_of (with_word c.words r offset w)) e (record {
-    nodes = λ n ne. ap node_of (sym (other (a_node n) (λ x. ne (sym x))));
+    nodes = λ n ne. ap node_words_of (sym (other (a_node n) (λ x. ne (sym x))));
     leaves = λ n ne. ap leaf_of (sym (other (a_leaf n) (λ x. ne (sym x))));
   }));
   records = record {

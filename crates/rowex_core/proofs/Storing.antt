@@ -17,7 +17,7 @@ use Rattle.moments.proofs.Heaps.{near_refl}
 use Rattle.moments.proofs.Legal.{same_rec_true}
 use Rattle.rowex_core.specs.declared.event.Spot.{Spot}
 use Rattle.rowex_core.specs.declared.event.Spot.TheVariants.{Root, Slot}
-use Rattle.rowex_core.specs.Reading.{node_of, fixed_of, entries_of, entry_of}
+use Rattle.rowex_core.specs.Reading.{node_words_of, fixed_of, entries_of, entry_of}
 use Rattle.rowex_core.specs.Cores.{Core, heap_of}
 use Rattle.rowex_core.specs.Events.{stored_words}
 
@@ -51,12 +51,12 @@ entries_near count tail j w =
     let m : map (λ w. unwrap_or (entry_of w) (Leaf 0)) (set tail j w) ≡ set (map (λ w. unwrap_or (entry_of w) (Leaf 0)) tail) j (unwrap_or (entry_of w) (Leaf 0)) = map-set (λ w. unwrap_or (entry_of w) (Leaf 0)) tail j w in
     ⊎_elim (λ (h : j < count). inr (ap (take count) m ∙ take-set-lt count _ j _ h)) (λ (h : count ≤ j). inl (ap (take count) m ∙ take-set-le count _ j _ h)) (cases_lt j count)
 
-fixed_stays : (words : List ℕ) (j w : ℕ) → (node_of words).fixed ≡ (node_of (set words (26 + j - 1) w)).fixed
-unfolding node_of
+fixed_stays : (words : List ℕ) (j w : ℕ) → (node_words_of words).fixed ≡ (node_words_of (set words (26 + j - 1) w)).fixed
+unfolding node_words_of
 fixed_stays words j w = ap fixed_of (sym (take-set-le 25 words (26 + j - 1) w (omega arith)))
 
-page_stays : (words : List ℕ) (j w : ℕ) → ((node_of words).page ≡ (node_of (set words (26 + j - 1) w)).page) ⊎ Swap (node_of words).page (node_of (set words (26 + j - 1) w)).page
-unfolding node_of
+page_stays : (words : List ℕ) (j w : ℕ) → ((node_words_of words).page ≡ (node_words_of (set words (26 + j - 1) w)).page) ⊎ Swap (node_words_of words).page (node_words_of (set words (26 + j - 1) w)).page
+unfolding node_words_of
 page_stays words j w =
     let at : take 25 (set words (26 + j - 1) w) ≡ take 25 words = take-set-le 25 words (26 + j - 1) w (omega arith) in
     let behind : drop 25 (set words (26 + j - 1) w) ≡ set (drop 25 words) j w = ap (λ z. drop 25 (set words z w)) (let v : 26 + j - 1 ≡ 25 + j = omega arith in v) ∙ drop-set-add 25 words j w in
@@ -68,14 +68,14 @@ pub near_store : (c : Core) (spot : Spot) (w : ℕ) → IsNear (heap_of c.words)
 near_store c Root w = near_refl (heap_of c.words)
 near_store c (Slot n j) w = (λ i. refl, λ i. fixed i (cases_Bool (same_rec (a_node i) (a_node n))), λ i. pages i (cases_Bool (same_rec (a_node i) (a_node n))))
   where
-    fixed : (i : ℕ) → ((same_rec (a_node i) (a_node n) ≡ true) ⊎ (same_rec (a_node i) (a_node n) ≡ false)) → (node_of (c.words (a_node i))).fixed ≡ (node_of (stored_words c (Slot n j) w (a_node i))).fixed
+    fixed : (i : ℕ) → ((same_rec (a_node i) (a_node n) ≡ true) ⊎ (same_rec (a_node i) (a_node n) ≡ false)) → (node_words_of (c.words (a_node i))).fixed ≡ (node_words_of (stored_words c (Slot n j) w (a_node i))).fixed
     fixed i (inr e) = rw e refl
     fixed i (inl e) = rw e (same i (same_rec_true (a_node i) (a_node n) e))
       where
-        same : (i : ℕ) → a_node i ≡ a_node n → (node_of (c.words (a_node i))).fixed ≡ (node_of (set (c.words (a_node n)) (26 + j - 1) w)).fixed
-        same i e = ap (λ z. (node_of (c.words z)).fixed) e ∙ fixed_stays (c.words (a_node n)) j w
+        same : (i : ℕ) → a_node i ≡ a_node n → (node_words_of (c.words (a_node i))).fixed ≡ (node_words_of (set (c.words (a_node n)) (26 + j - 1) w)).fixed
+        same i e = ap (λ z. (node_words_of (c.words z)).fixed) e ∙ fixed_stays (c.words (a_node n)) j w
 
     pages : (i : ℕ) → ((same_rec (a_node i) (a_node n) ≡ true) ⊎ (same_rec (a_node i) (a_node n) ≡ false)) →
-        ((node_of (c.words (a_node i))).page ≡ (node_of (stored_words c (Slot n j) w (a_node i))).page) ⊎ Swap (node_of (c.words (a_node i))).page (node_of (stored_words c (Slot n j) w (a_node i))).page
+        ((node_words_of (c.words (a_node i))).page ≡ (node_words_of (stored_words c (Slot n j) w (a_node i))).page) ⊎ Swap (node_words_of (c.words (a_node i))).page (node_words_of (stored_words c (Slot n j) w (a_node i))).page
     pages i (inr e) = rw e (inl refl)
     pages i (inl e) = rw (e, same_rec_true (a_node i) (a_node n) e) (page_stays (c.words (a_node n)) j w)

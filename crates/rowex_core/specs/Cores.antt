@@ -11,8 +11,8 @@ use Rattle.moments.specs.Steps.{IsLawfulCore}
 use Rattle.record_words.specs.Entry.{HasEntryWord}
 use Rattle.record_words.specs.Layout.{leaf_size}
 use Rattle.record_words.specs.Leaf.{words_for}
-use Rattle.moments.specs.Core.{Core as Moments, Shared, Fate, Free, Held, Unlinked, Marked}
-use Rattle.rowex_core.specs.Reading.{node_of, leaf_of, IsPacked}
+use Rattle.moments.specs.Core.{BareCore as Moments, Shared, Fate, Free, Held, Unlinked, Marked}
+use Rattle.rowex_core.specs.Reading.{node_words_of, leaf_of, IsPacked}
 
 -- The words of each record but its state, and all else that passes share.
 pub record Core : Type 0 where
@@ -23,7 +23,7 @@ pub record Core : Type 0 where
 
 -- what the words of the records say
 abbrev pub heap_of : (Rec → List ℕ) → Heap
-heap_of words = record { nodes = λ n. node_of (words (a_node n)); leaves = λ n. leaf_of (words (a_leaf n)) }
+heap_of words = record { nodes = λ n. node_words_of (words (a_node n)); leaves = λ n. leaf_of (words (a_leaf n)) }
 
 -- the core with what its words say in the place of the words
 abbrev pub bare : Core → Moments

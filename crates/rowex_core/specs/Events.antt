@@ -3,9 +3,9 @@ use Rattle.std.specs.Prelude.{◌≡◌, ℕ, suc, ◌+◌, ◌-◌, ◌^◌, �
 use Rattle.std.specs.declared.cmp.Ordering.{Ordering}
 use Rattle.std.specs.declared.cmp.Ordering.TheVariants.{Less, Equal, Greater}
 use Rattle.compound_node.specs.declared.entries.Entry.{Entry}
-use Rattle.hot_model.specs.declared.Change.{Change}
-use Rattle.hot_model.specs.declared.Kind.TheVariants.{Removed}
-use Rattle.hot_model.specs.Maps.{key_order}
+use Rattle.finite_map.specs.declared.Change.{Change}
+use Rattle.finite_map.specs.declared.Kind.TheVariants.{Removed}
+use Rattle.finite_map.specs.Maps.{key_order}
 use Rattle.record_words.specs.declared.TheConstants.{EPOCHS, FIRST_ENTRY, MAX_ENTRIES, NODE_WORDS, LEAF_WORDS}
 use Rattle.record_words.specs.Entry.{HasEntryWord, entry_word}
 use Rattle.record_words.specs.State.{state_word}

@@ -1,6 +1,6 @@
 -- What the steps of other passes leave to a pass.
 use Rattle.std.specs.Prelude.{◌≡◌, ℕ}
-use Rattle.hot_model.specs.Fronts.{OthersGoOn}
+use Rattle.finite_map.specs.Fronts.{OthersGoOn}
 use Rattle.moments.specs.Frames.{IsGrown}
 use Rattle.rowex_core.specs.Cores.{Core}
 use Rattle.rowex_core.specs.Sharing.{share}

@@ -1,9 +1,9 @@
 -- What a pass knows of a core: when it is true, what its own steps teach it, and which steps it may make.
 use Rattle.std.specs.Prelude.{◌≡◌, ◌≢◌, ◌⊎◌, ℕ, ◌+◌, ◌-◌, ◌<◌, ◌≤◌, List, [], ◌∷◌, ◌++◌, set, map, filter, All, not, nat_eq, if◌then◌else◌, Option, Some, None}
 use Rattle.compound_node.specs.declared.entries.Entry.{Entry}
-use Rattle.hot_model.specs.declared.Change.{Change}
-use Rattle.hot_model.specs.declared.Note.{Note}
-use Rattle.hot_model.specs.Fronts.{BeginsWith, OthersGoOn}
+use Rattle.finite_map.specs.declared.Change.{Change}
+use Rattle.finite_map.specs.declared.Note.{Note}
+use Rattle.finite_map.specs.Fronts.{BeginsWith, OthersGoOn}
 use Rattle.record_words.specs.declared.TheConstants.{FIRST_ENTRY}
 use Rattle.record_words.specs.declared.layout.Location.{Location}
 use Rattle.record_words.specs.declared.layout.Layout.{Layout}
@@ -104,13 +104,13 @@ Knowing c (Witness front) = BeginsWith c.changes front
 Knowing c (Follower k front) = Knows c k × BeginsWith c.changes front
 
 -- the view has this number
-abbrev pub Owns : View → ℕ → Type 0
-Owns Spent q = ⊥
-Owns (Dealer m) q = m ≤ q
-Owns (Pass k) q = k.pass ≡ q
-Owns (Pair j k) q = (j.pass ≡ q) ⊎ (k.pass ≡ q)
-Owns (Witness front) q = ⊥
-Owns (Follower k front) q = k.pass ≡ q
+abbrev pub IsViewOf : View → ℕ → Type 0
+IsViewOf Spent q = ⊥
+IsViewOf (Dealer m) q = m ≤ q
+IsViewOf (Pass k) q = k.pass ≡ q
+IsViewOf (Pair j k) q = (j.pass ≡ q) ⊎ (k.pass ≡ q)
+IsViewOf (Witness front) q = ⊥
+IsViewOf (Follower k front) q = k.pass ≡ q
 
 -- What a step teaches its pass, where c is the core before it
 

@@ -4,7 +4,7 @@ use Rattle.rowex_core.specs.declared.event.Event.{Event}
 use Rattle.rowex_core.specs.declared.known.View.{View}
 use Rattle.rowex_core.specs.Cores.{Core}
 use Rattle.rowex_core.specs.Events.{Legal, after}
-use Rattle.rowex_core.specs.Knowing.{Owns}
+use Rattle.rowex_core.specs.Knowing.{IsViewOf}
 
 -- the events are legal one after the other from a core on, and lead to this one
 abbrev pub Leads : Core → List Event → Core → Type 0
@@ -14,4 +14,4 @@ Leads c (x ∷ xs) d = Legal c x.pass x.act × Leads (after c x.pass x.act) xs d
 -- all of them are events of other passes than the view's
 abbrev pub AreOthers : View → List Event → Type 0
 AreOthers v [] = Unit {0}
-AreOthers v (x ∷ xs) = (¬ Owns v x.pass) × AreOthers v xs
+AreOthers v (x ∷ xs) = (¬ IsViewOf v x.pass) × AreOthers v xs

@@ -1,13 +1,13 @@
 -- The laws of the core.
 use Rattle.std.specs.Prelude.{◌≡◌, ◌≢◌, ℕ, suc, ◌+◌, ◌<◌, ◌≤◌, List, [], ◌∷◌, ◌++◌, set, Some}
 use Rattle.compound_node.specs.declared.entries.Entry.TheVariants.{Node}
-use Rattle.hot_model.specs.declared.Call.{Call}
-use Rattle.hot_model.specs.declared.Call.TheVariants.{Upsert, Remove}
-use Rattle.hot_model.specs.declared.Change.{Change}
-use Rattle.hot_model.specs.declared.Kind.{Kind}
-use Rattle.hot_model.specs.declared.Kind.TheVariants.{Added, Replaced, Removed}
-use Rattle.hot_model.specs.Maps.{map_after}
-use Rattle.hot_model.specs.Fronts.{BeginsWith, map_of, Fits}
+use Rattle.finite_map.specs.declared.Call.{Call}
+use Rattle.finite_map.specs.declared.Call.TheVariants.{Upsert, Remove}
+use Rattle.finite_map.specs.declared.Change.{Change}
+use Rattle.finite_map.specs.declared.Kind.{Kind}
+use Rattle.finite_map.specs.declared.Kind.TheVariants.{Added, Replaced, Removed}
+use Rattle.finite_map.specs.Maps.{map_after}
+use Rattle.finite_map.specs.Fronts.{BeginsWith, map_of, Fits}
 use Rattle.record_words.specs.declared.TheConstants.{FIRST_ENTRY, MAX_ENTRIES}
 use Rattle.record_words.specs.Layout.{address}
 use Rattle.record_words.specs.declared.layout.Layout.{Layout}
@@ -30,13 +30,13 @@ use Rattle.rowex_core.specs.declared.event.Spot.TheVariants.{Root}
 use Rattle.rowex_core.specs.declared.known.Known.{Known}
 use Rattle.rowex_core.specs.declared.known.View.{View}
 use Rattle.rowex_core.specs.declared.known.View.TheVariants.{Dealer}
-use Rattle.rowex_core.specs.Reading.{entry_of, node_of, entry_in, word_in}
+use Rattle.rowex_core.specs.Reading.{entry_of, node_words_of, entry_in, word_in}
 use Rattle.rowex_core.specs.Cores.{Core, IsLawful, heap_of}
 use Rattle.rowex_core.specs.Words.{record_word, word_at, Shows}
 use Rattle.rowex_core.specs.Events.{IsFixedOffset, Legal, after, location_of, writes, stored_words, stored_root, next_tree, next_change}
 use Rattle.rowex_core.specs.Sharing.{HasAll}
 use Rattle.rowex_core.specs.Frames.{IsFrame}
-use Rattle.rowex_core.specs.Knowing.{Knows, Knowing, Owns, learned}
+use Rattle.rowex_core.specs.Knowing.{Knows, Knowing, IsViewOf, learned}
 use Rattle.rowex_core.specs.Opening.{opening, opening_words}
 use Rattle.rowex_core.specs.Runs.{Leads, AreOthers}
 use Rattle.rowex_core.specs.declared.event.Event.{Event}
@@ -47,7 +47,7 @@ StaysLawful = (c : Core) (q : ℕ) (act : Act) → IsLawful c → Legal c q act 
 
 -- a legal step of one pass leaves true what any other view says
 abbrev pub Keeps : Type 0
-Keeps = (c : Core) (p : ℕ) (act : Act) (v : View) → IsLawful c → Legal c p act → ¬ Owns v p → Knowing c v → Knowing (after c p act) v
+Keeps = (c : Core) (p : ℕ) (act : Act) (v : View) → IsLawful c → Legal c p act → ¬ IsViewOf v p → Knowing c v → Knowing (after c p act) v
 
 -- a legal step of one pass leaves to another what it has, and the moments and changes so far: locks of two passes on different nodes are
 -- lawful at once, and each publish is one change whatever other locks are held
@@ -101,7 +101,7 @@ OnlyPublishAppends = (c : Core) (q : ℕ) (act : Act) → Appends act c (after c
 abbrev pub Hindsight : Type 0
 Hindsight =
     (c : Core) → IsLawful c → (q : ℕ) (p : Pin) → c.pins q ≡ Some p → (m : ℕ) → p.moment ≤ m → (k : Key) (n h : ℕ) →
-    IsLed c.past m k (Node n h) → IsLed c.past m k (seek k (node_of (c.words (a_node n))).page)
+    IsLed c.past m k (Node n h) → IsLed c.past m k (seek k (node_words_of (c.words (a_node n))).page)
 
 -- keys below two entries of a record part at the fork between these, whichever moments of its present life they come from
 abbrev pub Parting : Type 0
@@ -137,8 +137,8 @@ call_for Added key value = Upsert key value
 call_for Replaced key value = Upsert key value
 call_for Removed key value = Remove key
 
-abbrev pub call_of : Change → Call
-call_of x = call_for x.kind x.key x.value
+abbrev pub change_call : Change → Call
+change_call x = call_for x.kind x.key x.value
 
 -- a publish makes one change, by its pass, which fits the map of those before; the content is then that map after one call,
 -- whatever locks others hold
@@ -147,7 +147,7 @@ PublishIsAStep =
     (c : Core) (q : ℕ) (spot : Spot) (w : ℕ) → IsLawful c → Legal c q (Publish spot w) →
     ((after c q (Publish spot w)).changes ≡ c.changes ++ next_change c q spot w ∷ []) × ((next_change c q spot w).pass ≡ q) ×
     Fits (map_of c.changes) (next_change c q spot w) ×
-    (content ((after c q (Publish spot w)).past.moment (after c q (Publish spot w)).past.now) ≡ map_after (map_of c.changes) (call_of (next_change c q spot w)))
+    (content ((after c q (Publish spot w)).past.moment (after c q (Publish spot w)).past.now) ≡ map_after (map_of c.changes) (change_call (next_change c q spot w)))
 
 -- where the words then show a bit trie whose leaves differ by one change of the pass from those before, the change that the
 -- publish makes is that one

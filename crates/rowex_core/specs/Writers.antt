@@ -2,7 +2,7 @@
 use Rattle.std.specs.Prelude.{◌≡◌, ◌≢◌, ℕ, ◌+◌, ◌<◌, ◌≤◌, ◌^◌, List, All, length, set, Option, Some}
 use Rattle.compound_node.specs.declared.entries.Entry.{Entry}
 use Rattle.compound_node.specs.Nodes.{NodeView, StandsBelow}
-use Rattle.hot_model.specs.declared.Change.{Change}
+use Rattle.finite_map.specs.declared.Change.{Change}
 use Rattle.record_words.specs.Entry.{HasEntryWord, entry_word}
 use Rattle.record_words.specs.Node.{HasNodeWords, node_words}
 use Rattle.tries.specs.Tree.{Tree}
@@ -16,7 +16,7 @@ use Rattle.moments.specs.Trades.{HasTraded}
 use Rattle.moments.specs.Steps.{IsMomentPublish as IsMomentsPublish}
 use Rattle.rowex_core.specs.declared.event.Spot.{Spot}
 use Rattle.rowex_core.specs.declared.known.Known.{Known}
-use Rattle.rowex_core.specs.Reading.{entry_of, node_of}
+use Rattle.rowex_core.specs.Reading.{entry_of, node_words_of}
 use Rattle.rowex_core.specs.Cores.{Core, IsLawful, bare, heap_of}
 use Rattle.rowex_core.specs.Words.{state_at}
 use Rattle.rowex_core.specs.Events.{IsLegalPublish, IsLockedAt, IsPackedAt, IsInTree, stored_words, stored_root, next_tree, next_change}
@@ -39,7 +39,7 @@ SlotIsStored =
     (view : NodeView) (words : List ℕ) → HasNodeWords view → node_words view ≡ words → All (λ w. w < 2 ^ 64) words →
     (j : ℕ) (e : Entry) → j < length view.entries → HasEntryWord (Some e) → StandsBelow view.height e →
     let stored = record view { entries = set view.entries j e } in let after = set words (25 + j) (entry_word (Some e)) in
-    HasNodeWords stored × (node_words stored ≡ after) × (node_of after ≡ record { fixed = (node_of words).fixed; page = with_entry (node_of words).page j e })
+    HasNodeWords stored × (node_words stored ≡ after) × (node_words_of after ≡ record { fixed = (node_words_of words).fixed; page = with_entry (node_words_of words).page j e })
 
 -- A node that stood in the tree at a moment since a pass's pin is in the tree, if its state word is that of a live record.
 abbrev pub LedIsInTree : Type 0

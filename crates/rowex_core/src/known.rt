@@ -2,7 +2,7 @@
 //! numbers are whole numbers without bound.
 
 use compound_node::Entry;
-use hot_model::{Change, Note};
+use finite_map::{Change, Note};
 use moments::{Pin, Rec, Round};
 use record_words::Location;
 use std::collections::LinkedList;

@@ -8,7 +8,7 @@ use Rattle.key_bits.specs.Key.{IsKey}
 use Rattle.key_bits.specs.declared.TheConstants.{MAX_BYTES}
 use Rattle.pieces.specs.Changes.{AtRootFork}
 use Rattle.pieces.specs.Piece.{Place, Fork, leads_to, size}
-use Rattle.compound_node.specs.Nodes.{HeadView, InEachNode, IsLawful as IsLawfulNode, node_of, leaves, piece, height_of}
+use Rattle.compound_node.specs.Nodes.{HeadView, InEachNode, IsLawfulNode, node_of, leaves, piece, height_of}
 use Rattle.compound_node.specs.declared.entries.Entry.{Entry}
 use Rattle.compound_node.specs.declared.entries.Entry.TheVariants.{Leaf as LeafEntry, Node}
 use Rattle.insert_cases.specs.declared.choice.Step.{Step}

@@ -4,13 +4,13 @@ use Rattle.std.proofs.lemmas.Bool.{cases_lt}
 use Rattle.std.proofs.lemmas.List.{length-set, length-replicate, get_or-set_same, get_or-set_other, get_or-replicate}
 use Rattle.compound_node.specs.declared.entries.Entry.{Entry}
 use Rattle.compound_node.specs.declared.entries.Entry.TheVariants.{Leaf, Node}
-use Rattle.compound_node.specs.Nodes.{NodeView, HeadView, IsLawful as IsLawfulNode, head_of, leaves, piece}
+use Rattle.compound_node.specs.Nodes.{NodeView, HeadView, IsLawfulNode, head_of, leaves, piece}
 use Rattle.compound_node.proofs.Lawful.{same_count}
 use Rattle.pieces.specs.Piece.{Place, Fork, places, uses}
 use Rattle.pieces.proofs.Mapping.{places-map_places, paths-map_places, uses-map_places, UsesOnly-map_places, RisesFrom-map_places, map_places}
 use Rattle.pieces.proofs.Tests.{all_weaker}
 use Rattle.partial_keys.specs.Rows.{row_of}
-use Rattle.partial_keys.specs.Shows.{Shows}
+use Rattle.partial_keys.specs.Shows.{ShowsPiece}
 use Rattle.partial_keys.proofs.Reading.{piece_of_shown}
 use Rattle.record_words.specs.declared.layout.Layout.{Layout}
 use Rattle.record_words.specs.Node.{HasHeadWords, head_words}
@@ -58,7 +58,7 @@ as_many : (xs : List Entry) → map a_leaf xs ≡ leaves (length xs)
 as_many [] = refl
 as_many (x ∷ xs) = ap (λ z. Leaf 0 ∷ z) (as_many xs)
 
-shows_leaves : (v : NodeView) → IsLawfulNode v → Shows v.columns v.rows (leaves (length v.rows)) (map_places a_leaf (piece v))
+shows_leaves : (v : NodeView) → IsLawfulNode v → ShowsPiece v.columns v.rows (leaves (length v.rows)) (map_places a_leaf (piece v))
 shows_leaves v lawful = record {
   few = lawful.shows.few;
   columns_rise = lawful.shows.columns_rise;

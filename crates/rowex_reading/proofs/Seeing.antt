@@ -3,11 +3,11 @@ use Rattle.std.proofs.Common.{◌≡◌, inl, inr, ℕ, suc, zero, ◌≤◌, Li
 use Rattle.std.proofs.lemmas.List.{length-append}
 use Rattle.key_bits.specs.Bits.{bit_of}
 use Rattle.pieces.specs.Piece.{leads_to}
-use Rattle.compound_node.specs.Nodes.{HeadView, NodeView, IsLawful as IsLawfulNode, head_of, leaves, node_of, piece}
+use Rattle.compound_node.specs.Nodes.{HeadView, NodeView, IsLawfulNode, head_of, leaves, node_of, piece}
 use Rattle.compound_node.specs.declared.entries.Entry.{Entry}
-use Rattle.hot_model.specs.declared.Change.{Change}
-use Rattle.hot_model.specs.Fronts.{map_of}
-use Rattle.hot_model.proofs.Growth.{legal_front_part, others_none}
+use Rattle.finite_map.specs.declared.Change.{Change}
+use Rattle.finite_map.specs.Fronts.{map_of}
+use Rattle.finite_map.proofs.Growth.{legal_front_part, others_none}
 use Rattle.tries.specs.Keys.{Key}
 use Rattle.tries.specs.Place.{spot}
 use Rattle.tries.proofs.Places.{leads_spot}

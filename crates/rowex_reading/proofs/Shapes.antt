@@ -1,6 +1,6 @@
 -- A node's forks that were read twice, and the places that they have.
 use Rattle.std.proofs.Common.{◌≡◌, ℕ, ◌<◌, length, sym, subst, ◌∙◌}
-use Rattle.compound_node.specs.Nodes.{HeadView, node_of, leaves, IsLawful as IsLawfulNode}
+use Rattle.compound_node.specs.Nodes.{HeadView, node_of, leaves, IsLawfulNode}
 use Rattle.compound_node.proofs.Lawful.{same_count}
 use Rattle.pieces.specs.Piece.{size}
 use Rattle.record_words.specs.declared.layout.Layout.{Layout}

@@ -3,7 +3,7 @@
 ghost use Rattle.std.specs.Prelude.{◌≡◌, ◌*◌, ◌<◌, ◌≤◌, ℕ, length, replicate, take, IfSome, IsSome};
 ghost use Rattle.key_bits.specs.Key.{HoldsKey};
 ghost use Rattle.key_bits.specs.declared.TheConstants.{MAX_BYTES};
-ghost use Rattle.compound_node.specs.Nodes.{IsLawful, height_of, leaves, node_of};
+ghost use Rattle.compound_node.specs.Nodes.{IsLawfulNode, height_of, leaves, node_of};
 ghost use Rattle.compound_node.specs.declared.entries.Entry.TheVariants.{Leaf as LeafEntry, Node as NodeEntry};
 ghost use Rattle.record_words.specs.declared.TheConstants.{HEAD_WORDS, LEAF_FIELDS};
 ghost use Rattle.rowex_walks.specs.Scan.{IsShaped, IsPlaced, IsRead};
@@ -41,7 +41,7 @@ pub fn load_head<G: Gate>(table: &HotTable, seat: &mut TableSeat, gate: &mut G, 
     ensures few { head_loads result ≤ HEAD_WORDS }
     ensures head { (m h : ℕ) → IsLedTo seat.old.known m (NodeEntry number h) →
         (result.height ≡ h) × Sure seat.new.known (λ s. IsShaped s m number (shape_of result)) }
-    ensures lawful { IsLawful (node_of result (leaves (length result.rows))) }
+    ensures lawful { IsLawfulNode (node_of result (leaves (length result.rows))) }
 {
     let rec = Rec::Node(number);
     let start = table.start_of(rec);

@@ -2,7 +2,7 @@
 use Rattle.std.proofs.Common.{◌≡◌, ℕ, ◌+◌, List, [], ◌∷◌, ◌++◌, Bool, true, false, nat_eq, length, refl, sym, ap, ◌∙◌}
 use Rattle.std.specs.Prelude.{if◌then◌else◌}
 use Rattle.std.proofs.lemmas.List.{append-nil}
-use Rattle.hot_model.specs.declared.Note.{Note}
+use Rattle.finite_map.specs.declared.Note.{Note}
 use Rattle.record_words.specs.declared.layout.Layout.{Layout}
 use Rattle.moments.specs.declared.Rec.{Rec}
 use Rattle.moments.specs.Core.{Fate, Free, Held, Ready as ReadyBy, InTree, Unlinked, Marked}

@@ -27,7 +27,7 @@ use Rattle.rowex_replay.specs.Fates.{stored_fate}
 use Rattle.rowex_replay.specs.Links.{AllMayCome, AllMayGo}
 use Rattle.rowex_replay.specs.Records.{RecordsView, AreRecordsOf, MayLink}
 use Rattle.rowex_replay.specs.States.{StateView}
-use Rattle.rowex_replay.specs.Publishing.{IsWordStored, ArePacked, MayMakeMoment}
+use Rattle.rowex_replay.specs.Publishing.{IsWordStored, AreWordsPacked, MayMakeMoment}
 use Rattle.rowex_replay.proofs.Reading.{tree_stored}
 use Rattle.rowex_replay.proofs.Sound.{used}
 
@@ -62,7 +62,7 @@ whole : (q : ℕ) (f : Fate) → ((since : ℕ) × (f ≡ InTreeSince since)) �
 whole q f (inl (since, e)) = rw e (tt, λ x. cc)
 whole q f (inr e) = rw e (tt, λ x. cc)
 
-pub is_moment : (s : StateView) (c : Core) (words : Rec → List ℕ) (q : ℕ) (root : Option Entry) → IsWordStored s c words → ArePacked c words → MayMakeMoment c q words root → IsMoment s.records.nodes s.records.leaves words root
+pub is_moment : (s : StateView) (c : Core) (words : Rec → List ℕ) (q : ℕ) (root : Option Entry) → IsWordStored s c words → AreWordsPacked c words → MayMakeMoment c q words root → IsMoment s.records.nodes s.records.leaves words root
 is_moment s c words q root st packed may = record {
   top = may.top;
   tree = may.tree;

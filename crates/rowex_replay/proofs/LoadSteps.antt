@@ -11,7 +11,7 @@ use Rattle.record_words.specs.declared.layout.Layout.{Layout}
 use Rattle.rowex_core.specs.Cores.{Core, IsLawful, HasRecord, HasWord as HasPlace, word_count_of}
 use Rattle.rowex_core.specs.Words.{record_word}
 use Rattle.rowex_core.specs.Events.{LegalAct, after, IsFixedOffset}
-use Rattle.rowex_replay.specs.Records.{HasState, HasWord}
+use Rattle.rowex_replay.specs.Records.{HasState, HasWordStored}
 use Rattle.rowex_replay.specs.States.{StateView, IsStateOf, IsStepped}
 use Rattle.rowex_replay.proofs.Tables as table
 use Rattle.rowex_replay.proofs.Reading.{state_from, state_is, words_from}
@@ -27,13 +27,13 @@ record_word_at : (c : Core) (r : Rec) (i offset : ℕ) → offset ≡ suc i → 
 record_word_at c r i offset e = rw e refl
 
 -- a word of a record
-pub word_is : (s : StateView) (c : Core) → IsStateOf s c → (r : Rec) (i offset w : ℕ) → offset ≡ suc i → HasWord s.records r i w → HasRecord c.layout r × (w ≡ record_word c r offset)
+pub word_is : (s : StateView) (c : Core) → IsStateOf s c → (r : Rec) (i offset w : ℕ) → offset ≡ suc i → HasWordStored s.records r i w → HasRecord c.layout r × (w ≡ record_word c r offset)
 word_is s c h r i offset w e (words, there, at) = (
   table.has_words s.records c.layout c.words c.fate c.lock h.records r words there,
   sym (record_word_at c r i offset e ∙ ap (λ z. get_or z i 0) (h.records.words_are r words there) ∙ get_or_from_slice_get words i w 0 at),
 )
 
-pub word_from : (s : StateView) (c : Core) → IsLawful c → IsStateOf s c → (r : Rec) (i offset w : ℕ) → offset ≡ suc i → i < word_count_of r → HasRecord c.layout r → w ≡ record_word c r offset → HasWord s.records r i w
+pub word_from : (s : StateView) (c : Core) → IsLawful c → IsStateOf s c → (r : Rec) (i offset w : ℕ) → offset ≡ suc i → i < word_count_of r → HasRecord c.layout r → w ≡ record_word c r offset → HasWordStored s.records r i w
 word_from s c lawful h r i offset w e short there is = (
   c.words r,
   words_from s c h r there,
@@ -47,7 +47,7 @@ root_loaded b s q w test = decided b s q (LoadRef Root w) (λ c h. h)
     (λ t c lawful h. (test.0 t).1 ∙ ap entry_word (sym h.root))
     (λ f c lawful h is. let x = test.1 (subst HasEntryWord h.root lawful.root, is ∙ ap entry_word h.root) in cc)
 
-pub slot_loaded : (b : Bool) (s : StateView) (q n j w : ℕ) → ((b ≡ true) ↔ ((j < 32) × HasWord s.records (a_node n) (25 + j) w)) → IsStepped b s s q (LoadRef (Slot n j) w)
+pub slot_loaded : (b : Bool) (s : StateView) (q n j w : ℕ) → ((b ≡ true) ↔ ((j < 32) × HasWordStored s.records (a_node n) (25 + j) w)) → IsStepped b s s q (LoadRef (Slot n j) w)
 slot_loaded b s q n j w test = decided b s q (LoadRef (Slot n j) w) (λ c h. h)
     (λ t c lawful h. let y = test.0 t in let x = word_is s c h (a_node n) (25 + j) (26 + j) w (omega arith) y.1 in (x.0, y.0, x.1))
     (λ f c lawful h (there, few, is). let x = test.1 (few, word_from s c lawful h (a_node n) (25 + j) (26 + j) w (omega arith) (omega (arith, few)) there is) in cc)
@@ -56,7 +56,7 @@ fixed_suc : (r : Rec) (offset : ℕ) → IsFixedOffset r offset → (offset ≡ 
 fixed_suc (a_node n) offset h = (omega (arith, h), omega (arith, h))
 fixed_suc (a_leaf n) offset h = (omega (arith, h), omega (arith, h))
 
-pub fixed_loaded : (b : Bool) (s : StateView) (q : ℕ) (r : Rec) (offset w : ℕ) → ((b ≡ true) ↔ (IsFixedOffset r offset × HasPlace s.records.layout r offset × HasWord s.records r (offset - 1) w)) → IsStepped b s s q (LoadFixed r offset w)
+pub fixed_loaded : (b : Bool) (s : StateView) (q : ℕ) (r : Rec) (offset w : ℕ) → ((b ≡ true) ↔ (IsFixedOffset r offset × HasPlace s.records.layout r offset × HasWordStored s.records r (offset - 1) w)) → IsStepped b s s q (LoadFixed r offset w)
 fixed_loaded b s q r offset w test = decided b s q (LoadFixed r offset w) (λ c h. h)
     (λ t c lawful h. let y = test.0 t in let x = word_is s c h r (offset - 1) offset w (fixed_suc r offset y.0).0 y.2 in (x.0, y.0, x.1, subst (λ (z : Layout). HasPlace z r offset) h.records.layout_is y.1))
     (λ f c lawful h (there, at, is, place). let z = fixed_suc r offset at in let x = test.1 (at, subst (λ (z : Layout). HasPlace z r offset) (sym h.records.layout_is) place, word_from s c lawful h r (offset - 1) offset w z.0 z.1 there is) in cc)

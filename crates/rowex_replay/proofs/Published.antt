@@ -3,7 +3,7 @@ use Rattle.std.proofs.Common.{◌≡◌, ◌⊎◌, inl, inr, ℕ, suc, List, []
 use Rattle.std.proofs.lemmas.Bool.{cases_Bool, false≢true, eq-eqb}
 use Rattle.std.proofs.lemmas.Option.{get_or_from_slice_get}
 use Rattle.compound_node.specs.declared.entries.Entry.{Entry}
-use Rattle.hot_model.specs.declared.Change.{Change}
+use Rattle.finite_map.specs.declared.Change.{Change}
 use Rattle.moments.specs.declared.Rec.{Rec}
 use Rattle.moments.specs.declared.Rec.TheVariants.{Node as a_node, Leaf as a_leaf}
 use Rattle.moments.specs.State.{IsLinked}
@@ -21,7 +21,7 @@ use Rattle.rowex_replay.specs.declared.fate.Fate.TheVariants.{Ready as IsReady, 
 use Rattle.rowex_replay.specs.Fates.{stored_fate}
 use Rattle.rowex_replay.specs.Records.{RecordsView, MayLink, AreNextRecords, words_in, fate_in}
 use Rattle.rowex_replay.specs.States.{StateView, IsStateOf}
-use Rattle.rowex_replay.specs.Publishing.{IsWordStored, ArePacked, MayMakeMoment, published}
+use Rattle.rowex_replay.specs.Publishing.{IsWordStored, AreWordsPacked, MayMakeMoment, published}
 use Rattle.rowex_replay.proofs.Tables as table
 use Rattle.rowex_replay.proofs.Reading.{tree_stored}
 use Rattle.rowex_replay.proofs.Sound.{count, used}
@@ -115,19 +115,19 @@ module _ (s : StateView) (c : Core) (words : Rec → List ℕ) (q : ℕ) (root :
 -- ---- the answers
 
 pub none_read : (s : StateView) (q : ℕ) (root : Option Entry) → ((words : Rec → List ℕ) → AreWordsOf s.records.nodes s.records.leaves words → IsReadMoment s.records.nodes s.records.leaves words root None) →
-    (c : Core) (words : Rec → List ℕ) → IsWordStored s c words → ArePacked c words → ¬ (MayMakeMoment c q words root)
+    (c : Core) (words : Rec → List ℕ) → IsWordStored s c words → AreWordsPacked c words → ¬ (MayMakeMoment c q words root)
 none_read s q root read c words st packed may = read words (words_read s.records c.layout words c.fate c.lock st.at.records) (is_moment s c words q root st packed may)
 
 pub not_linked : (s : StateView) (q : ℕ) (root : Option Entry) (linked : Linked) →
     ((words : Rec → List ℕ) → AreWordsOf s.records.nodes s.records.leaves words → IsReadMoment s.records.nodes s.records.leaves words root (Some linked)) →
-    ¬ (MayLink s.records q linked.nodes.items linked.leaves.items) → (c : Core) (words : Rec → List ℕ) → IsWordStored s c words → ArePacked c words → ¬ (MayMakeMoment c q words root)
+    ¬ (MayLink s.records q linked.nodes.items linked.leaves.items) → (c : Core) (words : Rec → List ℕ) → IsWordStored s c words → AreWordsPacked c words → ¬ (MayMakeMoment c q words root)
 not_linked s q root linked read fails c words st packed may =
     fails (may_link_from s c words q root st linked (read words (words_read s.records c.layout words c.fate c.lock st.at.records)).1 may)
 
 pub not_changed : (s : StateView) (q : ℕ) (root : Option Entry) (linked : Linked) →
     ((words : Rec → List ℕ) → AreWordsOf s.records.nodes s.records.leaves words → IsReadMoment s.records.nodes s.records.leaves words root (Some linked)) →
     (AreSame (map read_item s.items) (map read_item linked.items.items) → IsFoundChange q (map read_item s.items) (map read_item linked.items.items) None) →
-    (c : Core) (words : Rec → List ℕ) → IsWordStored s c words → ArePacked c words → ¬ (MayMakeMoment c q words root)
+    (c : Core) (words : Rec → List ℕ) → IsWordStored s c words → AreWordsPacked c words → ¬ (MayMakeMoment c q words root)
 not_changed s q root linked read none c words st packed may =
     let x = read words (words_read s.records c.layout words c.fate c.lock st.at.records) in
     found s c words q root st linked x.1 None x.0 none may.change

@@ -13,7 +13,7 @@ use Rattle.rowex_replay.specs.declared.fate.Fate.{Fate as Stored}
 use Rattle.rowex_replay.specs.declared.fate.Fate.TheVariants.{Free as IsFree, Unlinked as IsUnlinked, Marked as IsMarked}
 use Rattle.rowex_replay.specs.declared.passes.PassState.{PassState}
 use Rattle.rowex_replay.specs.Fates.{stored_fate}
-use Rattle.rowex_replay.specs.Passes.{IsPast}
+use Rattle.rowex_replay.specs.Passes.{IsOutOfReach}
 use Rattle.rowex_replay.specs.Records.{HasState, fate_in, marked_in, with_fate_in, with_lock_in}
 use Rattle.rowex_replay.specs.States.{StateView, IsStateOf}
 use Rattle.rowex_replay.proofs.Reading.{fate_at, fate_from, marked_stored, state_from}
@@ -44,7 +44,7 @@ all_seen (x ∷ xs) zero o b all less at = absurd (omega (arith, less))
 all_seen (x ∷ xs) (suc n) zero b all less at = sym (same_Some x b at) ∙ All-head (λ b. b ≡ true) x (take n xs) all
 all_seen (x ∷ xs) (suc n) (suc o) b all less at = all_seen xs n o b (All-tail (λ b. b ≡ true) x (take n xs) all) (omega (arith, less)) at
 
-pub past_is : (s : StateView) (c : Core) → IsStateOf s c → (q epoch : ℕ) (p : PassState) → slice_get s.passes q ≡ Some p → IsPast p epoch (length s.passes) →
+pub past_is : (s : StateView) (c : Core) → IsStateOf s c → (q epoch : ℕ) (p : PassState) → slice_get s.passes q ≡ Some p → IsOutOfReach p epoch (length s.passes) →
     (1 ≤ epoch) × (epoch < (c.rounds q).bound) × ((o : ℕ) → o < c.layout.passes → has_seen (c.rounds q).seen o ≡ true)
 past_is s c h q epoch p at (low, below, seen) =
     let own = h.passes.each q p at in (
@@ -53,7 +53,7 @@ past_is s c h q epoch p at (low, below, seen) =
       λ o there. all_seen p.seen (length s.passes) o (has_seen (c.rounds q).seen o) seen (subst (λ n. o < n) (sym h.passes.count) there) (own.seen_are o there),
     )
 
-pub gives_back : (s : StateView) (q : ℕ) (r : Rec) (epoch w : ℕ) (p : PassState) → slice_get s.passes q ≡ Some p → IsPast p epoch (length s.passes) → HasState s.records r w →
+pub gives_back : (s : StateView) (q : ℕ) (r : Rec) (epoch w : ℕ) (p : PassState) → slice_get s.passes q ≡ Some p → IsOutOfReach p epoch (length s.passes) → HasState s.records r w →
     ((since : ℕ) × (last : ℕ) × (fate_in s.records r ≡ Some (IsMarked since last epoch))) → (c : Core) → ∥ IsLawful c ∥₁ → IsStateOf s c →
     LegalAct c q (GiveBack r epoch w) × IsStateOf (record s { records = with_fate_in s.records r IsFree }) (after c q (GiveBack r epoch w))
 gives_back s q r epoch w p at past has (since, last, e) c lawful h =
@@ -73,7 +73,7 @@ kept_back c r epoch (InTree i) ne = refl
 kept_back c r epoch (Unlinked i l p) ne = refl
 kept_back c r epoch (Marked i l s) ne = rw (ne_eqb s epoch (λ e. ne i l (ap (Marked i l) e))) refl
 
-pub keeps_back : (s : StateView) (q : ℕ) (r : Rec) (epoch w : ℕ) (p : PassState) → slice_get s.passes q ≡ Some p → IsPast p epoch (length s.passes) → HasState s.records r w →
+pub keeps_back : (s : StateView) (q : ℕ) (r : Rec) (epoch w : ℕ) (p : PassState) → slice_get s.passes q ≡ Some p → IsOutOfReach p epoch (length s.passes) → HasState s.records r w →
     ¬ ((since : ℕ) × (last : ℕ) × (fate_in s.records r ≡ Some (IsMarked since last epoch))) → (c : Core) → ∥ IsLawful c ∥₁ → IsStateOf s c →
     LegalAct c q (GiveBack r epoch w) × IsStateOf s (after c q (GiveBack r epoch w))
 keeps_back s q r epoch w p at past has other c lawful h =

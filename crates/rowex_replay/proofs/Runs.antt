@@ -3,7 +3,7 @@ use Rattle.std.proofs.Common.{◌≡◌, ℕ, Some, List, [], ◌∷◌, ◌++�
 use Rattle.std.proofs.Props.{props}
 use Rattle.std.proofs.lemmas.List.{take_all}
 use Rattle.std.proofs.Math.Logic.{∥∥₁_elim, ∥∥₁_map}
-use Rattle.hot_model.specs.Fronts.{map_of}
+use Rattle.finite_map.specs.Fronts.{map_of}
 use Rattle.record_words.specs.declared.layout.Layout.{Layout}
 use Rattle.moments.specs.Told.{content}
 use Rattle.rowex_core.specs.declared.event.Act.{Act}
@@ -15,7 +15,7 @@ use Rattle.rowex_core.specs.Events.{IsLockedAt, Legal, after}
 use Rattle.rowex_core.specs.Opening.{opening}
 use Rattle.rowex_core.specs.Runs.{Leads}
 use Rattle.rowex_core.proofs.Runs.{runs_stay_lawful}
-use Rattle.rowex_replay.specs.Runs.{Run, IsLegalRun, core_after, core_of, new_run, with_event}
+use Rattle.rowex_replay.specs.Runs.{Run, HasLegalEvents, core_after, core_of, new_run, with_event}
 use Rattle.rowex_replay.specs.States.{StateView, IsStateOf, IsAfter, HasLock, IsLockedPublish, MayWantMemory}
 use Rattle.rowex_replay.proofs.Tables.{within}
 
@@ -32,11 +32,11 @@ leads_more c [] x l legal = (legal, refl)
 leads_more c (y ∷ ys) x l legal = (l.0, leads_more (after c y.pass y.act) ys x l.1 legal)
 
 -- a legal run leads to a lawful core
-pub lawful : (run : Run) → ∥ IsLegalRun run ∥₁ → ∥ IsLawful (core_of run) ∥₁
+pub lawful : (run : Run) → ∥ HasLegalEvents run ∥₁ → ∥ IsLawful (core_of run) ∥₁
 lawful run h = ∥∥₁_map h (λ l. runs_stay_lawful run.layout run.events (core_of run) l)
 
 -- there the content of the newest moment is the map of the changes
-pub told : (run : Run) → ∥ IsLegalRun run ∥₁ → content ((core_of run).past.moment (core_of run).past.now) ≡ map_of (core_of run).changes
+pub told : (run : Run) → ∥ HasLegalEvents run ∥₁ → content ((core_of run).past.moment (core_of run).past.now) ≡ map_of (core_of run).changes
 told run h = ∥∥₁_elim (lawful run h) (Prim.hlevel props) (λ l.
     let c = core_of run in
     l.core.told.content_is c.past.now (omega arith) ∙ ap map_of (take_all c.past.now c.changes (let count = l.core.told.count in omega (arith, count))))

@@ -17,7 +17,7 @@ use Rattle.rowex_core.specs.Events.{LegalAct, after, stored_words}
 use Rattle.rowex_core.proofs.Reading.{entry_of_word}
 use Rattle.rowex_replay.specs.Records.{RecordsView, AreRecordsOf, lock_in, with_words_in}
 use Rattle.rowex_replay.specs.States.{StateView, IsStateOf, IsStepped}
-use Rattle.rowex_replay.specs.Publishing.{IsWordStored, ArePacked, MayMakeMoment, IsPublished, published}
+use Rattle.rowex_replay.specs.Publishing.{IsWordStored, AreWordsPacked, MayMakeMoment, IsPublishJudged, published}
 use Rattle.rowex_replay.proofs.Tables as table
 use Rattle.rowex_replay.proofs.Reading.{with_records_is}
 
@@ -29,7 +29,7 @@ entry_is e w fits is = subst (λ z. entry_of z ≡ e) is (entry_of_word e fits)
 root_stored : (s : StateView) (c : Core) → ∥ IsLawful c ∥₁ → IsStateOf s c → IsWordStored s c c.words
 root_stored s c lawful h = record { lawful = lawful; at = h; leaves = λ n. refl }
 
-pub root_steps : (b : Bool) (s t : StateView) (q w : ℕ) → HasEntryWord (entry_of w) → entry_word (entry_of w) ≡ w → s.anchor ≡ Some q → IsPublished b s t q (entry_of w) → IsStepped b s t q (Publish Root w)
+pub root_steps : (b : Bool) (s t : StateView) (q w : ℕ) → HasEntryWord (entry_of w) → entry_word (entry_of w) ≡ w → s.anchor ≡ Some q → IsPublishJudged b s t q (entry_of w) → IsStepped b s t q (Publish Root w)
 root_steps true s t q w fits is own p = λ c lawful h.
     let x = p c c.words (root_stored s c lawful h) in
     (record { locked = h.anchor ∙ own; entry = (fits, is); packed = tt; next = x.0 }, x.1)
@@ -54,7 +54,7 @@ entry_stored s c n j w x y lawful h at is = record {
     new = ap (λ z. set z (26 + j - 1) w) (h.records.words_are (a_node n) x at) ∙ (ap (λ i. set x i w) (let k : 26 + j - 1 ≡ 25 + j = omega arith in k) ∙ sym is)
 
 entry_packed : (s : StateView) (c : Core) (n j w : ℕ) (x y : List ℕ) → IsLawful c → IsStateOf s c → slice_get s.records.nodes n ≡ Some x → y ≡ set x (25 + j) w → IsPacked (a_node n) y →
-    ArePacked c (stored_words c (Slot n j) w)
+    AreWordsPacked c (stored_words c (Slot n j) w)
 entry_packed s c n j w x y lawful h at is packed = λ r whole. go r whole (cases_Bool (same_rec r (a_node n)))
   where
     go : (r : Rec) → IsWhole (c.fate r) → ((same_rec r (a_node n) ≡ true) ⊎ (same_rec r (a_node n) ≡ false)) → IsPacked r (stored_words c (Slot n j) w r)
@@ -63,7 +63,7 @@ entry_packed s c n j w x y lawful h at is packed = λ r whole. go r whole (cases
     go r whole (inr e) = rw e (lawful.records.packed r whole)
 
 pub entry_publishes : (s t : StateView) (q n j w : ℕ) (x y : List ℕ) → j < 32 → lock_in s.records (a_node n) ≡ Some (Some q) → slice_get s.records.nodes n ≡ Some x → y ≡ set x (25 + j) w → IsPacked (a_node n) y →
-    HasEntryWord (entry_of w) × (entry_word (entry_of w) ≡ w) → IsPublished true (record s { records = with_words_in s.records (a_node n) y }) t q s.root → (c : Core) → ∥ IsLawful c ∥₁ → IsStateOf s c →
+    HasEntryWord (entry_of w) × (entry_word (entry_of w) ≡ w) → IsPublishJudged true (record s { records = with_words_in s.records (a_node n) y }) t q s.root → (c : Core) → ∥ IsLawful c ∥₁ → IsStateOf s c →
     LegalAct c q (Publish (Slot n j) w) × IsStateOf t (after c q (Publish (Slot n j) w))
 entry_publishes s t q n j w x y few own at is packed entry p c lawful h =
     let z = subst (λ o. MayMakeMoment c q (stored_words c (Slot n j) w) o × IsStateOf t (published c q (stored_words c (Slot n j) w) o)) (sym h.root)
@@ -78,7 +78,7 @@ entry_publishes s t q n j w x y few own at is packed entry p c lawful h =
     )
 
 pub entry_refused : (s t : StateView) (q n j w : ℕ) (x y : List ℕ) → slice_get s.records.nodes n ≡ Some x → y ≡ set x (25 + j) w → IsPacked (a_node n) y →
-    IsPublished false (record s { records = with_words_in s.records (a_node n) y }) t q s.root → (c : Core) → IsLawful c → IsStateOf s c → ¬ (LegalAct c q (Publish (Slot n j) w))
+    IsPublishJudged false (record s { records = with_words_in s.records (a_node n) y }) t q s.root → (c : Core) → IsLawful c → IsStateOf s c → ¬ (LegalAct c q (Publish (Slot n j) w))
 entry_refused s t q n j w x y at is packed (same, p) c lawful h legal =
     p c (stored_words c (Slot n j) w) (entry_stored s c n j w x y ∣ lawful ∣₁ h at is) (entry_packed s c n j w x y lawful h at is packed)
     (subst (MayMakeMoment c q (stored_words c (Slot n j) w)) h.root legal.next)
@@ -95,15 +95,15 @@ put_back s n x y at =
 pub entry_spelled : (e : Option Entry) (w : ℕ) → HasEntryWord e × (entry_word e ≡ w) → HasEntryWord (entry_of w) × (entry_word (entry_of w) ≡ w)
 entry_spelled e w (fits, is) = rw (entry_is e w fits is) (fits, is)
 
-pub root_answers : (b : Bool) (s t : StateView) (q w : ℕ) (root : Option Entry) → HasEntryWord root → entry_word root ≡ w → s.anchor ≡ Some q → IsPublished b s t q root → IsStepped b s t q (Publish Root w)
+pub root_answers : (b : Bool) (s t : StateView) (q w : ℕ) (root : Option Entry) → HasEntryWord root → entry_word root ≡ w → s.anchor ≡ Some q → IsPublishJudged b s t q root → IsStepped b s t q (Publish Root w)
 root_answers b s t q w root fits is own p =
     let x = entry_spelled root w (fits, is) in
-    root_steps b s t q w x.0 x.1 own (subst (IsPublished b s t q) (sym (entry_is root w fits is)) p)
+    root_steps b s t q w x.0 x.1 own (subst (IsPublishJudged b s t q) (sym (entry_is root w fits is)) p)
 
 -- the replay is as before once the old words are put back
 pub restored : (s t u : StateView) (r : RecordsView) (n : ℕ) (x y : List ℕ) → slice_get s.records.nodes n ≡ Some x → t ≡ u → u ≡ record s { records = with_words_in s.records (a_node n) y } →
     r ≡ with_words_in t.records (a_node n) x → record t { records = r } ≡ s
 restored s t u r n x y at e f g = rw (g, e ∙ f) (ap (λ z. record s { records = z }) (put_back s.records n x y at))
 
-pub of_words : (s t : StateView) (r u : RecordsView) (q : ℕ) (root : Option Entry) (b e : Bool) → b ≡ e → r ≡ u → IsPublished b (record s { records = r }) t q root → IsPublished e (record s { records = u }) t q root
+pub of_words : (s t : StateView) (r u : RecordsView) (q : ℕ) (root : Option Entry) (b e : Bool) → b ≡ e → r ≡ u → IsPublishJudged b (record s { records = r }) t q root → IsPublishJudged e (record s { records = u }) t q root
 of_words s t r u q root b e same put p = rw (← same, ← put) p

@@ -3,6 +3,6 @@ use Rattle.std.specs.Prelude.{ℕ, List, codes}
 use Rattle.rowex_replay.specs.declared.fault.ReplayFault.{ReplayFault}
 use Rattle.rowex_replay.specs.declared.fault.ReplayFault.TheVariants.{Illegal, Memory}
 
-abbrev pub fault_text : ReplayFault → List ℕ
-fault_text Illegal = codes "illegal event"
-fault_text Memory = codes "out of memory"
+abbrev pub replay_fault_text : ReplayFault → List ℕ
+replay_fault_text Illegal = codes "illegal event"
+replay_fault_text Memory = codes "out of memory"

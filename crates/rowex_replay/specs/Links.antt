@@ -6,16 +6,16 @@ use Rattle.rowex_replay.specs.declared.fate.Fate.TheVariants.{Ready, InTree}
 use Rattle.rowex_replay.specs.Fates.{stored_fate}
 
 -- the record is in the tree
-abbrev pub IsInTree : Stored → Type 0
-IsInTree f = (since : ℕ) × (f ≡ InTree since)
+abbrev pub IsStoredInTree : Stored → Type 0
+IsStoredInTree f = (since : ℕ) × (f ≡ InTree since)
 
 -- what is linked is in the tree, or pass q has made it ready
 abbrev pub MayCome : ℕ → Bool → Stored → Type 0
-MayCome q linked f = linked ≡ true → IsInTree f ⊎ (f ≡ Ready q)
+MayCome q linked f = linked ≡ true → IsStoredInTree f ⊎ (f ≡ Ready q)
 
 -- what is in the tree is linked, or pass q has locked it
 abbrev pub MayGo : ℕ → Bool → Option ℕ → Stored → Type 0
-MayGo q linked lock f = linked ≡ false → IsInTree f → lock ≡ Some q
+MayGo q linked lock f = linked ≡ false → IsStoredInTree f → lock ≡ Some q
 
 -- so it is with each of these
 abbrev pub AllMayCome : ℕ → List Bool → List Stored → Type 0

@@ -28,12 +28,12 @@ abbrev pub MayPin : PassState → ℕ → Type 0
 MayPin p epoch = (p.pin ≡ None) × (epoch ≡ p.epoch) × (1 ≤ epoch)
 
 -- it has loaded the pin of each of the first n passes
-abbrev pub HasSeenAll : PassState → ℕ → Type 0
-HasSeenAll p n = All (λ b. b ≡ true) (take n p.seen)
+abbrev pub HasLoadedPins : PassState → ℕ → Type 0
+HasLoadedPins p n = All (λ b. b ≡ true) (take n p.seen)
 
 -- what was marked with this epoch is out of reach: the epoch is below the bound of a round over n passes
-abbrev pub IsPast : PassState → ℕ → ℕ → Type 0
-IsPast p epoch n = (1 ≤ epoch) × (epoch < p.bound) × HasSeenAll p n
+abbrev pub IsOutOfReach : PassState → ℕ → ℕ → Type 0
+IsOutOfReach p epoch n = (1 ≤ epoch) × (epoch < p.bound) × HasLoadedPins p n
 
 -- the word of its pin, and its round
 pub record IsPassStateOf (layout : Layout) (p : PassState) (pin : Option Pin) (round : Round) : Type 0 where

@@ -1,7 +1,7 @@
 -- A publish, once its word is stored.
 use Rattle.std.specs.Prelude.{◌≡◌, ℕ, List, Bool, true, false, Option}
 use Rattle.compound_node.specs.declared.entries.Entry.{Entry}
-use Rattle.hot_model.specs.declared.Change.{Change}
+use Rattle.finite_map.specs.declared.Change.{Change}
 use Rattle.moments.specs.declared.Rec.{Rec}
 use Rattle.moments.specs.declared.Rec.TheVariants.{Leaf as a_leaf}
 use Rattle.moments.specs.Steps.{IsNextMoment, published_by}
@@ -18,8 +18,8 @@ pub record IsWordStored (s : StateView) (c : Core) (words : Rec → List ℕ) : 
   pub leaves : (n : ℕ) → words (a_leaf n) ≡ c.words (a_leaf n)
 
 -- the words of what is neither free nor held spell values
-abbrev pub ArePacked : Core → (Rec → List ℕ) → Type 0
-ArePacked c words = (r : Rec) → IsWhole (c.fate r) → IsPacked r (words r)
+abbrev pub AreWordsPacked : Core → (Rec → List ℕ) → Type 0
+AreWordsPacked c words = (r : Rec) → IsWhole (c.fate r) → IsPacked r (words r)
 
 -- the change by which pass q then makes the tree that the words show from this root
 abbrev pub change_to : Core → ℕ → (Rec → List ℕ) → Option Entry → Change
@@ -34,6 +34,6 @@ abbrev pub published : Core → ℕ → (Rec → List ℕ) → Option Entry → 
 published c q words root = record { layout = c.layout; words = words; shared = published_by c.shared q root (tree_of (heap_of words) root) (change_to c q words root) }
 
 -- That was done, and may be done in each core whose state it was; or it wasn't, and may be in none.
-abbrev pub IsPublished : Bool → StateView → StateView → ℕ → Option Entry → Type 0
-IsPublished true s t q root = (c : Core) (words : Rec → List ℕ) → IsWordStored s c words → MayMakeMoment c q words root × IsStateOf t (published c q words root)
-IsPublished false s t q root = (t ≡ s) × ((c : Core) (words : Rec → List ℕ) → IsWordStored s c words → ArePacked c words → ¬ (MayMakeMoment c q words root))
+abbrev pub IsPublishJudged : Bool → StateView → StateView → ℕ → Option Entry → Type 0
+IsPublishJudged true s t q root = (c : Core) (words : Rec → List ℕ) → IsWordStored s c words → MayMakeMoment c q words root × IsStateOf t (published c q words root)
+IsPublishJudged false s t q root = (t ≡ s) × ((c : Core) (words : Rec → List ℕ) → IsWordStored s c words → AreWordsPacked c words → ¬ (MayMakeMoment c q words root))

@@ -45,8 +45,8 @@ abbrev pub HasState : RecordsView → Rec → ℕ → Type 0
 HasState s r w = (t : Tag) × (tag_in s r ≡ Some t) × HasStateWord t × (state_word t ≡ w)
 
 -- this word stands at this place among its words
-abbrev pub HasWord : RecordsView → Rec → ℕ → ℕ → Type 0
-HasWord s r i w = (words : List ℕ) × (words_in s r ≡ Some words) × (slice_get words i ≡ Some w)
+abbrev pub HasWordStored : RecordsView → Rec → ℕ → ℕ → Type 0
+HasWordStored s r i w = (words : List ℕ) × (words_in s r ≡ Some words) × (slice_get words i ≡ Some w)
 
 -- its words spell a value, which has room in it
 abbrev pub IsPackedIn : RecordsView → Rec → Type 0

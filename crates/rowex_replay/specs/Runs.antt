@@ -22,8 +22,8 @@ abbrev pub core_of : Run → Core
 core_of run = core_after (opening run.layout) run.events
 
 -- its events are legal one after the other
-abbrev pub IsLegalRun : Run → Type 0
-IsLegalRun run = Leads (opening run.layout) run.events (core_of run)
+abbrev pub HasLegalEvents : Run → Type 0
+HasLegalEvents run = Leads (opening run.layout) run.events (core_of run)
 
 -- a run of no event yet, and one with one event more
 

@@ -1,7 +1,7 @@
 -- When a state is that of a core, and what a step of it may answer.
 use Rattle.std.specs.Prelude.{◌≡◌, ℕ, ◌<◌, List, map, Bool, true, false, Option, Some}
 use Rattle.compound_node.specs.declared.entries.Entry.{Entry}
-use Rattle.hot_model.specs.declared.Change.{Change}
+use Rattle.finite_map.specs.declared.Change.{Change}
 use Rattle.moments.specs.declared.Rec.TheVariants.{Node as a_node}
 use Rattle.moments.specs.Told.{items_of}
 use Rattle.rowex_core.specs.declared.event.Act.{Act}
@@ -16,7 +16,7 @@ use Rattle.replay_trees.specs.Moments.{read_item}
 use Rattle.rowex_replay.specs.declared.passes.PassState.{PassState}
 use Rattle.rowex_replay.specs.Passes.{ArePassesOf}
 use Rattle.rowex_replay.specs.Records.{RecordsView, AreRecordsOf, lock_in}
-use Rattle.rowex_replay.specs.Runs.{Run, IsLegalRun, core_of}
+use Rattle.rowex_replay.specs.Runs.{Run, HasLegalEvents, core_of}
 
 -- what contracts see of the state of a replay
 pub record StateView : Type 0 where
@@ -59,5 +59,5 @@ MayWantMemory c q act = (spot : Spot) × (w : ℕ) × (act ≡ Publish spot w) �
 
 -- The state is that after a legal run.
 pub record IsAfter (s : StateView) (run : Run) : Type 0 where
-  pub legal : ∥ IsLegalRun run ∥₁
+  pub legal : ∥ HasLegalEvents run ∥₁
   pub at : IsStateOf s (core_of run)

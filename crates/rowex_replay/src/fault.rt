@@ -1,7 +1,7 @@
 //! Why an event is not replayed.
 
 ghost use Rattle.std.specs.Prelude.{◌≡◌, Some, codes};
-ghost use Rattle.rowex_replay.specs.Faults.{fault_text};
+ghost use Rattle.rowex_replay.specs.Faults.{replay_fault_text};
 
 use std::error::Error;
 use std::fmt;
@@ -16,7 +16,7 @@ pub enum ReplayFault {
 }
 
 impl fmt::Display for ReplayFault {
-    ghost output = { λ fault. Some (fault_text fault) };
+    ghost output = { λ fault. Some (replay_fault_text fault) };
 
     fn fmt<W: fmt::Write>(&self, f: &mut fmt::Formatter<W>) -> fmt::Result {
         match self {

@@ -1,13 +1,13 @@
 //! The law of replays. The function does nothing: its contract is the law.
 
 ghost use Rattle.rowex_core.specs.Cores.{IsLawful};
-ghost use Rattle.rowex_replay.specs.Runs.{IsLegalRun, core_of};
+ghost use Rattle.rowex_replay.specs.Runs.{HasLegalEvents, core_of};
 
 use crate::replay::Replay;
 
 /// The events that a replay has accepted are legal one after the other, so the core to which they lead is lawful.
 pub fn runs_are_legal(replay: &Replay)
-    ensures legal { ∥ IsLegalRun replay.now ∥₁ }
+    ensures legal { ∥ HasLegalEvents replay.now ∥₁ }
     ensures lawful { ∥ IsLawful (core_of replay.now) ∥₁ }
 {
     let _ = &replay.state;

@@ -19,7 +19,7 @@ pub(crate) struct PassState {
 }
 
 impl PassState {
-    ghost use Rattle.rowex_replay.specs.Passes.{fresh_pass, in_round, with_pin_seen, HasSeenAll, IsPast, MayPin};
+    ghost use Rattle.rowex_replay.specs.Passes.{fresh_pass, in_round, with_pin_seen, HasLoadedPins, IsOutOfReach, MayPin};
 
     /// A pass that has done nothing yet.
     pub(crate) fn new() -> PassState
@@ -78,7 +78,7 @@ impl PassState {
     /// Whether no pass can reach what was marked with this epoch: it is below the round's bound, and the round has loaded
     /// the pin of each of so many passes.
     pub(crate) fn is_past(&self, epoch: u64, passes: usize) -> bool
-        ensures { IsTrue result ↔ IsPast self.now epoch passes }
+        ensures { IsTrue result ↔ IsOutOfReach self.now epoch passes }
     {
         if epoch < 1 || epoch >= self.bound {
             return false;
@@ -88,7 +88,7 @@ impl PassState {
 
     /// Whether it has loaded the pin of each of the first passes in its round.
     fn has_seen_all(&self, passes: usize) -> bool
-        ensures { IsTrue result ↔ HasSeenAll self.now passes }
+        ensures { IsTrue result ↔ HasLoadedPins self.now passes }
     {
         self.seen.iter().take(passes).all(|seen| *seen)
     }

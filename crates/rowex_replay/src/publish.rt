@@ -5,7 +5,7 @@ ghost use Rattle.record_words.specs.Entry.{HasEntryWord, entry_word};
 ghost use Rattle.rowex_core.specs.declared.event.Act.TheVariants.{Publish};
 ghost use Rattle.rowex_core.specs.declared.event.Spot.TheVariants.{Root, Slot};
 ghost use Rattle.rowex_core.specs.Reading.{entry_of};
-ghost use Rattle.rowex_replay.specs.Publishing.{IsPublished};
+ghost use Rattle.rowex_replay.specs.Publishing.{IsPublishJudged};
 ghost use Rattle.rowex_replay.specs.States.{HasLock, IsStepped};
 
 use crate::records::{filled, is_node};
@@ -95,7 +95,7 @@ impl State {
 
     /// Makes the tree that the words show from this root the newest moment, if the pass may.
     fn publish_tree(&mut self, pass: u16, root: Option<Entry>) -> Result<bool, AllocError>
-        ensures ok { IfOk result (λ made. IsPublished made self.old self.new pass root) }
+        ensures ok { IfOk result (λ made. IsPublishJudged made self.old self.new pass root) }
         ensures err { OnErr result (self.new ≡ self.old) }
     {
         let nodes = self.records.nodes();

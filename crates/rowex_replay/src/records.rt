@@ -42,7 +42,7 @@ impl Model for Records {
 
 impl Records {
     ghost use Rattle.rowex_core.specs.Opening.{opening};
-    ghost use Rattle.rowex_replay.specs.Records.{AreRecordsOf, HasState, AreNextRecords, MayLink, HasWord, IsPackedIn, fate_in, lock_in, marked_in, tag_in, words_in, with_fate_in, with_lock_in, with_words_in};
+    ghost use Rattle.rowex_replay.specs.Records.{AreRecordsOf, HasState, AreNextRecords, MayLink, HasWordStored, IsPackedIn, fate_in, lock_in, marked_in, tag_in, words_in, with_fate_in, with_lock_in, with_words_in};
 
     /// Free records of a layout: all words are 0, and nothing is locked.
     pub(crate) fn new(alloc: Global, layout: Layout) -> Result<Records, AllocError>
@@ -159,7 +159,7 @@ impl Records {
 
     /// Whether this word stands among those of a record, at a place counted from its first word behind the state.
     pub(crate) fn has_word(&self, rec: Rec, at: usize, word: u64) -> bool
-        ensures { IsTrue result ↔ HasWord self.now rec at word }
+        ensures { IsTrue result ↔ HasWordStored self.now rec at word }
     {
         match self.words(rec) {
             Some(words) => words.get(at).copied() == Some(word),

@@ -34,7 +34,7 @@ impl Model for Replay {
 }
 
 impl Replay {
-    ghost use Rattle.hot_model.specs.Fronts.{map_of};
+    ghost use Rattle.finite_map.specs.Fronts.{map_of};
     ghost use Rattle.moments.specs.Told.{content};
     ghost use Rattle.rowex_core.specs.Events.{Legal};
     ghost use Rattle.rowex_replay.specs.Runs.{core_of, new_run, with_event};

@@ -6,7 +6,7 @@ use crate::fault::ReplayFault;
 use crate::passes::PassState;
 use crate::records::{Records, repeated};
 use compound_node::Entry;
-use hot_model::Change;
+use finite_map::Change;
 use key_bits::Key;
 use record_words::Layout;
 use replay_trees::Item;

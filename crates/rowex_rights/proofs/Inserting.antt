@@ -24,9 +24,9 @@ use Rattle.rowex_rights.proofs.Bounding.{bound_of}
 use Rattle.rowex_walks.proofs.Rising.{insert_slot, insert_root}
 use Rattle.rowex_walks.proofs.Pushing.{pushed_tree, push_down}
 use Rattle.rowex_walks.proofs.Leaves.{first_root, second_tree, second_root}
-use Rattle.rowex_rights.specs.Cases.{FirstKey, SecondKey, InsertInSlot, InsertAtRoot, PushDown}
+use Rattle.rowex_rights.specs.Cases.{MayAddFirstKey, MayAddSecondKey, MayInsertInSlot, MayInsertAtRoot, MayPushDown}
 
-pub insert_in_slot : InsertInSlot
+pub insert_in_slot : MayInsertInSlot
 insert_in_slot layout k held news gone has since x p l o n slot w e risen has_leaf a at low word = publishes_made layout k (Slot o slot) w (added_change k.pass x) None news gone has.own may
   where
     may : MayPublish layout k (Slot o slot) w (added_change k.pass x) None (recs_of news) gone
@@ -42,7 +42,7 @@ insert_in_slot layout k held news gone has since x p l o n slot w e risen has_le
         (subst (λ z. IsPublished (bare c) k.pass heap c.root (added_change k.pass x) z gone) news_are (subst (λ z. IsPublished (bare c) k.pass heap c.root (added_change k.pass x) (news_of i) z) gone_is published))
         (λ f. f)
 
-pub insert_at_root : InsertAtRoot
+pub insert_at_root : MayInsertAtRoot
 insert_at_root layout k held news gone has since x p l n h w e risen has_leaf anchor word = publishes_made layout k Root w (added_change k.pass x) None news gone has.own may
   where
     may : MayPublish layout k Root w (added_change k.pass x) None (recs_of news) gone
@@ -56,7 +56,7 @@ insert_at_root layout k held news gone has since x p l n h w e risen has_leaf an
         (subst (λ z. IsPublished (bare c) k.pass (heap_of c.words) (Some e) (added_change k.pass x) z gone) news_are
         (subst (λ z. IsPublished (bare c) k.pass (heap_of c.words) (Some e) (added_change k.pass x) (news_of i) z) gone_is published)) (λ f. f)
 
-pub push_down_made : PushDown
+pub push_down_made : MayPushDown
 push_down_made layout k held since x p l n j m slot w words view has found affected shows anew place low word = publishes_made layout k (Slot n slot) w (added_change k.pass x) None news [] has.own may
   where
     news : List Made
@@ -76,7 +76,7 @@ push_down_made layout k held since x p l n j m slot w words view has found affec
         publish_words c k.pass law known.pass (Slot n slot) w (Some (Node m view.height)) at word.0 word.1 packed (added_change k.pass x) None (a_node m ∷ a_leaf x.number ∷ []) []
         (push_down (bare c) k.pass law.core.state since x p l new n j m (node_fixed view) below_lock locked alone page_made below (heap_of (stored_words c (Slot n slot) w)) store) (λ f. f)
 
-pub first_made : FirstKey
+pub first_made : MayAddFirstKey
 first_made layout k held x w has spelled word anchor = publishes_made layout k Root w (added_change k.pass x) None (of_leaf x ∷ []) [] has.own may
   where
     may : MayPublish layout k Root w (added_change k.pass x) None (a_leaf x.number ∷ []) []
@@ -87,7 +87,7 @@ first_made layout k held x w has spelled word anchor = publishes_made layout k R
         publish_root c k.pass law known.pass w (Some (Leaf x.number)) lock word.0 word.1 (added_change k.pass x) None (a_leaf x.number ∷ []) []
         (first_root (bare c) k.pass law.core.state x lock root new) (λ f. f)
 
-pub second_made : SecondKey
+pub second_made : MayAddSecondKey
 second_made layout k held x j p m w value l view has spelled word anchor there agree differ anew shows = publishes_made layout k Root w (added_change k.pass x) None news [] has.own may
   where
     news : List Made

@@ -2,9 +2,9 @@
 use Rattle.std.proofs.Common.{◌≡◌, ◌<◌, inl, inr, ℕ, List, Option, Some, refl, sym, ap, subst, ◌∙◌, arith, le_refl}
 use Rattle.std.proofs.lemmas.List.{take_all}
 use Rattle.compound_node.specs.declared.entries.Entry.{Entry}
-use Rattle.hot_model.specs.declared.Change.{Change}
-use Rattle.hot_model.specs.Maps.{Map, value_at}
-use Rattle.hot_model.specs.Fronts.{map_of, Fits}
+use Rattle.finite_map.specs.declared.Change.{Change}
+use Rattle.finite_map.specs.Maps.{Map, value_at}
+use Rattle.finite_map.specs.Fronts.{map_of, Fits}
 use Rattle.record_words.specs.Entry.{HasEntryWord, entry_word}
 use Rattle.tries.specs.Keys.{Key}
 use Rattle.tries.specs.Tree.{Tree, leaf, Holds, Within, here, inside, zero_side, one_side}

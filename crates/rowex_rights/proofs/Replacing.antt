@@ -1,7 +1,7 @@
 -- Upserts and removals may be published; and leaves that a pass has read stay.
 use Rattle.std.proofs.Common.{◌≡◌, inl, List, [], ◌∷◌, Some, None, refl, sym, ap, subst, ◌∙◌}
 use Rattle.compound_node.specs.declared.entries.Entry.TheVariants.{Leaf, Node}
-use Rattle.hot_model.specs.declared.Change.{Change}
+use Rattle.finite_map.specs.declared.Change.{Change}
 use Rattle.tries.specs.Search.{child, seek}
 use Rattle.tries.specs.Place.{page_without}
 use Rattle.tries.specs.Tree.{leaf, Within, here, inside}
@@ -13,7 +13,7 @@ use Rattle.rowex_walks.specs.Rise.{IsLeafOf, IsOver, entry_news}
 use Rattle.rowex_walks.specs.Statements.{IsPublished}
 use Rattle.rowex_walks.proofs.Standing.{stands_now, now_standing, now_rooted, entry_leaf, root_leaf}
 use Rattle.rowex_core.specs.declared.event.Spot.TheVariants.{Root, Slot}
-use Rattle.rowex_core.specs.Reading.{node_of}
+use Rattle.rowex_core.specs.Reading.{node_words_of}
 use Rattle.rowex_core.specs.Cores.{bare, heap_of}
 use Rattle.rowex_core.specs.Events.{stored_words}
 use Rattle.rowex_core.proofs.Owning.{knows_all}
@@ -27,7 +27,7 @@ use Rattle.rowex_rights.proofs.Rising.{side_in}
 use Rattle.rowex_walks.proofs.Leaves.{upsert_slot, upsert_root}
 use Rattle.rowex_walks.proofs.Taking.{left_tree, same_entry, remove_slot, remove_root, remove_only}
 use Rattle.rowex_walks.proofs.Search.{leaf_now}
-use Rattle.rowex_rights.specs.Cases.{LeafStays, UpsertInSlot, UpsertAtRoot, RemoveInSlot, RemoveAtRoot, RemoveLast}
+use Rattle.rowex_rights.specs.Cases.{LeafStays, MayUpsertInSlot, MayUpsertAtRoot, MayRemoveInSlot, MayRemoveAtRoot, MayRemoveLast}
 use Rattle.rowex_core.proofs.Loading.{view as state_of}
 use Rattle.tries.specs.Content.{item}
 
@@ -36,7 +36,7 @@ leaf_stays layout k held news since j key value pinned sure c stage =
     let (n, lo, hi, st) = sure c stage.lawful stage.recalls in
     leaf_now (state_of c) stage.lawful.core.state since (reach_since k since pinned c stage.lawful stage.recalls) n j j key value lo hi st
 
-pub upsert_in_slot : UpsertInSlot
+pub upsert_in_slot : MayUpsertInSlot
 upsert_in_slot layout k held x n j slot w value words has spelled here_locked at place high there word =
     publishes_made layout k (Slot n slot) w (replaced_change k.pass x) (Some value) (of_leaf x ∷ []) (a_leaf j ∷ []) has.own may
   where
@@ -57,7 +57,7 @@ upsert_in_slot layout k held x n j slot w value words has spelled here_locked at
         (upsert_slot (bare c) k.pass law.core.state n j x locked names (ap (λ (z : LeafWords). z.key) is_leaf) new (heap_of (stored_words c (Slot n slot) w)) store)
         (λ f. leaf_held c law t now j x.key value inner)
 
-pub upsert_at_root : UpsertAtRoot
+pub upsert_at_root : MayUpsertAtRoot
 upsert_at_root layout k held x j w value has spelled anchor there word = publishes_made layout k Root w (replaced_change k.pass x) (Some value) (of_leaf x ∷ []) (a_leaf j ∷ []) has.own may
   where
     may : MayPublish layout k Root w (replaced_change k.pass x) (Some value) (a_leaf x.number ∷ []) (a_leaf j ∷ [])
@@ -73,7 +73,7 @@ upsert_at_root layout k held x j w value has spelled anchor there word = publish
         (upsert_root (bare c) k.pass law.core.state j x lock root (ap (λ (z : LeafWords). z.key) is_leaf) new)
         (λ f. leaf_held c law t now j x.key value (subst (λ z. Within z t) is here))
 
-pub remove_in_slot : RemoveInSlot
+pub remove_in_slot : MayRemoveInSlot
 remove_in_slot layout k held news key o n j height slot w value e upper lower has side on below names at place low there word =
     publishes_made layout k (Slot o slot) w change (Some value) news (a_node n ∷ a_leaf j ∷ []) has.own may
   where
@@ -91,15 +91,15 @@ remove_in_slot layout k held news key o n j height slot w value e upper lower ha
         let is_over : IsOver (bare c) k.pass key o n = record { locked = over; height = height; entry = ap (λ (y : NodeWords). seek key y.page) over_same ∙ names } in
         let (t, now) = now_standing (bare c) law.core.state o over.linked over.fate in
         let (s, pg, trie, built) = left_tree (bare c) k.pass law.core.state key n j seen t now locked.linked locked.fate in
-        let (i, made) = side_in layout k held news c stage (page_without key (node_of lower).page) e news side (λ m h. h) s (pg ∙ ap (λ (y : NodeWords). page_without key y.page) same) trie built in
-        let (z, still) = same_entry (bare c) k.pass (page_without key (node_of lower).page) (page_without key ((bare c).heap.nodes n).page) (ap (λ (y : NodeWords). page_without key y.page) (sym same)) e i in
+        let (i, made) = side_in layout k held news c stage (page_without key (node_words_of lower).page) e news side (λ m h. h) s (pg ∙ ap (λ (y : NodeWords). page_without key y.page) same) trie built in
+        let (z, still) = same_entry (bare c) k.pass (page_without key (node_words_of lower).page) (page_without key ((bare c).heap.nodes n).page) (ap (λ (y : NodeWords). page_without key y.page) (sym same)) e i in
         let heap = heap_of (stored_words c (Slot o slot) w) in
         let published = remove_slot (bare c) k.pass law.core.state key n j seen o e z is_over lies heap store in
         publish_words c k.pass law known.pass (Slot o slot) w (Some e) lock word.0 word.1 packed change (Some value) (recs_of news) (a_node n ∷ a_leaf j ∷ [])
         (subst (λ us. IsPublished (bare c) k.pass heap c.root change us (a_node n ∷ a_leaf j ∷ [])) (still ∙ made)
         (subst (λ (y : LeafWords). IsPublished (bare c) k.pass heap c.root (removed_change k.pass (item j key y.value)) (entry_news z) (a_node n ∷ a_leaf j ∷ [])) is_leaf published)) (λ f. f)
 
-pub remove_at_root : RemoveAtRoot
+pub remove_at_root : MayRemoveAtRoot
 remove_at_root layout k held news key n j height w value e lower has side below anchor at there word =
     publishes_made layout k Root w change (Some value) news (a_node n ∷ a_leaf j ∷ []) has.own may
   where
@@ -115,14 +115,14 @@ remove_at_root layout k held news key n j height w value e lower has side below 
         let (lock, root) = (knows_all c k known).anchor (Some (Node n height)) anchor in
         let (t, now) = now_rooted (bare c) law.core.state (Node n height) root in
         let (s, pg, trie, built) = left_tree (bare c) k.pass law.core.state key n j seen t now locked.linked locked.fate in
-        let (i, made) = side_in layout k held news c stage (page_without key (node_of lower).page) e news side (λ m h. h) s (pg ∙ ap (λ (y : NodeWords). page_without key y.page) same) trie built in
-        let (z, still) = same_entry (bare c) k.pass (page_without key (node_of lower).page) (page_without key ((bare c).heap.nodes n).page) (ap (λ (y : NodeWords). page_without key y.page) (sym same)) e i in
+        let (i, made) = side_in layout k held news c stage (page_without key (node_words_of lower).page) e news side (λ m h. h) s (pg ∙ ap (λ (y : NodeWords). page_without key y.page) same) trie built in
+        let (z, still) = same_entry (bare c) k.pass (page_without key (node_words_of lower).page) (page_without key ((bare c).heap.nodes n).page) (ap (λ (y : NodeWords). page_without key y.page) (sym same)) e i in
         let published = remove_root (bare c) k.pass law.core.state key n j seen height e z lock root in
         publish_root c k.pass law known.pass w (Some e) lock word.0 word.1 change (Some value) (recs_of news) (a_node n ∷ a_leaf j ∷ [])
         (subst (λ us. IsPublished (bare c) k.pass (heap_of c.words) (Some e) change us (a_node n ∷ a_leaf j ∷ [])) (still ∙ made)
         (subst (λ (y : LeafWords). IsPublished (bare c) k.pass (heap_of c.words) (Some e) (removed_change k.pass (item j key y.value)) (entry_news z) (a_node n ∷ a_leaf j ∷ [])) is_leaf published)) (λ f. f)
 
-pub remove_the_last : RemoveLast
+pub remove_the_last : MayRemoveLast
 remove_the_last layout k held j value key has anchor there = publishes_made layout k Root 0 change (Some value) [] (a_leaf j ∷ []) has.own may
   where
     change : Change

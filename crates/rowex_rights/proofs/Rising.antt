@@ -15,7 +15,7 @@ use Rattle.rowex_walks.specs.Rise.{IsEntryFor, alone, in_node, IsNewPage, IsRise
 use Rattle.rowex_core.specs.declared.known.Holding.TheVariants.{Ready}
 use Rattle.rowex_core.specs.declared.known.Known.{Known}
 use Rattle.rowex_core.specs.declared.known.Locked.{Locked}
-use Rattle.rowex_core.specs.Reading.{node_of}
+use Rattle.rowex_core.specs.Reading.{node_words_of}
 use Rattle.rowex_core.specs.Cores.{Core, bare}
 use Rattle.rowex_core.specs.Sharing.{IsOwned, IsLocked}
 use Rattle.moments.specs.Trades.{IsOf}
@@ -77,7 +77,7 @@ pub rises_pulled : RisesPulled
 rises_pulled layout k held news gone since x p l o n r a risen c stage =
     let (i, new, old) = risen c stage in
     let u = upper_in layout k held news c stage x.key p o n a in
-    let here : (bare c).heap.nodes o ≡ node_of a.upper = (locked_node layout k held news c stage o a.upper a.has_upper).1 in
+    let here : (bare c).heap.nodes o ≡ node_words_of a.upper = (locked_node layout k held news c stage o a.upper a.has_upper).1 in
     subst (λ (z : NodeWords). (i : IsRise (bare c) k.pass since x p l body o (with_page x.key r z.page)) × (news_of i ≡ recs_of news) × (gone_of i ≡ gone)) here (pulls o n r u i, new, old)
 
 -- the entry for a side, in a core in which its records are made, where some lawful tree has its page
@@ -104,7 +104,7 @@ rises_halved layout k held news gone since x p l leaf n words at f a b d e us vs
 -- How it begins
 
 pub found_in : (layout : Layout) (k : Known) (held : List Locked) (news : List Made) (since : ℕ) (x : Item) (p : ℕ) (l : Key) (n : ℕ) (words : List ℕ) → HasFoundBelow k held since x p l n words →
-    (c : Core) → IsStage layout k held news c → IsFoundBelow (bare c) k.pass since x p l n × ((bare c).heap.nodes n ≡ node_of words)
+    (c : Core) → IsStage layout k held news c → IsFoundBelow (bare c) k.pass since x p l n × ((bare c).heap.nodes n ≡ node_words_of words)
 found_in layout k held news since x p l n words f c stage =
     let (node, same) = locked_node layout k held news c stage n words f.locked in (
       record {

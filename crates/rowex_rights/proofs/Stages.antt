@@ -3,11 +3,11 @@ use Rattle.std.proofs.Common.{◌≡◌, inl, inr, ℕ, ◌+◌, ◌-◌, ◌*�
 use Rattle.std.specs.Prelude.{All}
 use Rattle.compound_node.specs.declared.entries.Entry.{Entry}
 use Rattle.compound_node.specs.declared.entries.Entry.TheVariants.{Leaf, Node}
-use Rattle.compound_node.specs.Nodes.{NodeView, StandsBelow, IsLawful as IsLawfulNode, height_of, piece}
+use Rattle.compound_node.specs.Nodes.{NodeView, StandsBelow, IsLawfulNode, height_of, piece}
 use Rattle.key_bits.specs.declared.TheConstants.{MAX_BYTES}
 use Rattle.pieces.specs.Piece.{Place, Fork, size, places}
 use Rattle.pieces.proofs.Paths.{length-places}
-use Rattle.partial_keys.specs.Shows.{Shows}
+use Rattle.partial_keys.specs.Shows.{ShowsPiece}
 use Rattle.record_words.specs.declared.layout.Layout.{Layout}
 use Rattle.record_words.specs.Entry.{HasEntryWord, entry_word}
 use Rattle.record_words.specs.Node.{HasNodeWords, node_words}
@@ -27,7 +27,7 @@ use Rattle.rowex_walks.specs.Rise.{IsNewPage, IsLockedNode, IsUpper, IsSlotStore
 use Rattle.rowex_core.specs.declared.event.Spot.TheVariants.{Slot}
 use Rattle.rowex_core.specs.declared.known.Known.{Known}
 use Rattle.rowex_core.specs.declared.known.Locked.{Locked}
-use Rattle.rowex_core.specs.Reading.{node_of, leaf_of, IsPacked}
+use Rattle.rowex_core.specs.Reading.{node_words_of, leaf_of, IsPacked}
 use Rattle.rowex_core.specs.Cores.{Core, IsLawful, IsWhole, bare, heap_of}
 use Rattle.rowex_core.specs.Events.{IsPackedAt, IsLockedAt, stored_words}
 use Rattle.rowex_core.specs.Sharing.{IsLocked, IsOwned}
@@ -41,7 +41,7 @@ use Rattle.moments.proofs.Members.{of_left, of_right, all_of, map_of}
 use Rattle.rowex_core.proofs.Having.{node_used}
 use Rattle.rowex_core.proofs.Slots.{slot_is_stored}
 use Rattle.rowex_table.specs.Made.{Made, held_as}
-use Rattle.rowex_rights.specs.Stages.{HasReady, IsAbove, IsStage}
+use Rattle.rowex_rights.specs.Stages.{HasReady, IsLockedAbove, IsStage}
 
 node_number : {n o : ℕ} → a_node n ≡ a_node o → n ≡ o
 node_number e = cc
@@ -72,44 +72,44 @@ below_stands h (Node n g) top word low = ((omega (arith, word.1), omega arith), 
 module _ (layout : Layout) (k : Known) (held : List Locked) (news : List Made) (c : Core) (stage : IsStage layout k held news c) where
   -- Locked nodes
 
-  pub locked_node : (n : ℕ) (words : List ℕ) → IsOf (record { node = n; words = words }) held → IsLockedNode (bare c) k.pass n × ((bare c).heap.nodes n ≡ node_of words)
+  pub locked_node : (n : ℕ) (words : List ℕ) → IsOf (record { node = n; words = words }) held → IsLockedNode (bare c) k.pass n × ((bare c).heap.nodes n ≡ node_words_of words)
   locked_node n words h =
       let (lock, tree, same) = stage.locks (record { node = n; words = words }) h in
-      (record { lock = lock; linked = tree.0; fate = tree.1 }, ap node_of same)
+      (record { lock = lock; linked = tree.0; fate = tree.1 }, ap node_words_of same)
 
   -- the store of an entry at the key's place of a locked node
-  pub slot_store : (o j w : ℕ) (words : List ℕ) (key : Key) (e : Entry) → IsOf (record { node = o; words = words }) held → spot key (node_of words).page ≡ j → HasEntryWord (Some e) → entry_word (Some e) ≡ w →
-      IsLowerPage (node_of words).fixed.height (Place e) →
+  pub slot_store : (o j w : ℕ) (words : List ℕ) (key : Key) (e : Entry) → IsOf (record { node = o; words = words }) held → spot key (node_words_of words).page ≡ j → HasEntryWord (Some e) → entry_word (Some e) ≡ w →
+      IsLowerPage (node_words_of words).fixed.height (Place e) →
       IsPackedAt c (Slot o j) w × IsSlotStore (bare c) (heap_of (stored_words c (Slot o j) w)) o key e × IsBelowNode (bare c) o e × IsLockedAt c k.pass (Slot o j)
   unfolding IsPacked
   slot_store o j w words key e h at fits is low =
       let (lock, tree, same) = stage.locks (record { node = o; words = words }) h in
-      let now : node_of (c.words (a_node o)) ≡ node_of words = ap node_of same in
+      let now : node_words_of (c.words (a_node o)) ≡ node_words_of words = ap node_words_of same in
       let sized = stage.lawful.records.sized (a_node o) in
       let (view, has, spells) = stage.lawful.records.packed (a_node o) (subst IsWhole (sym tree.1) tt) in
       let is_node = node_is view (c.words (a_node o)) sized.1 has spells in
-      let view_page : (node_of words).page ≡ piece view = ap (λ (z : NodeWords). z.page) (sym now ∙ is_node) in
-      let view_height : (node_of words).fixed.height ≡ view.height = ap (λ (z : NodeWords). z.fixed.height) (sym now ∙ is_node) in
+      let view_page : (node_words_of words).page ≡ piece view = ap (λ (z : NodeWords). z.page) (sym now ∙ is_node) in
+      let view_height : (node_words_of words).fixed.height ≡ view.height = ap (λ (z : NodeWords). z.fixed.height) (sym now ∙ is_node) in
       let inside : j < length view.entries = subst (λ i. i < length view.entries) at
-      (subst (λ q. spot key (node_of words).page < q) (size_is view has.lawful) (subst (λ (q : Page). spot key (node_of words).page < size q) view_page (spot_below key (node_of words).page))) in
+      (subst (λ q. spot key (node_words_of words).page < q) (size_is view has.lawful) (subst (λ (q : Page). spot key (node_words_of words).page < size q) view_page (spot_below key (node_words_of words).page))) in
       let stands : StandsBelow view.height e = below_stands view.height e has.lawful.bound fits (subst (λ z. IsLowerPage z (Place e)) view_height low) in
       let offset : 26 + j - 1 ≡ 25 + j = omega arith in
       let here : stored_words c (Slot o j) w (a_node o) ≡ set (c.words (a_node o)) (25 + j) (entry_word (Some e)) =
       rw (same_rec_refl (a_node o)) (ap₂ (λ i z. set (c.words (a_node o)) i z) offset (sym is)) in
       let (new_has, new_spells, after) = slot_is_stored view (c.words (a_node o)) has spells sized.1 j e inside fits stands in
-      let place : j ≡ spot key (node_of (c.words (a_node o))).page = sym at ∙ ap (λ (z : NodeWords). spot key z.page) (sym now) in (
+      let place : j ≡ spot key (node_words_of (c.words (a_node o))).page = sym at ∙ ap (λ (z : NodeWords). spot key z.page) (sym now) in (
         subst (IsPacked (a_node o)) (sym here) (record view { entries = set view.entries j e }, new_has, new_spells),
         record {
-          others = λ i ne. ap node_of (sym (other_words c o j w (a_node i) (λ z. ne (node_number z))));
+          others = λ i ne. ap node_words_of (sym (other_words c o j w (a_node i) (λ z. ne (node_number z))));
           leaves = λ i. ap leaf_of (sym (other_words c o j w (a_leaf i) leaf_node));
-          stored = ap node_of here ∙ (after ∙ ap (λ i. let s : NodeWords = record { fixed = (node_of (c.words (a_node o))).fixed; page = with_entry (node_of (c.words (a_node o))).page i e } in s) place);
+          stored = ap node_words_of here ∙ (after ∙ ap (λ i. let s : NodeWords = record { fixed = (node_words_of (c.words (a_node o))).fixed; page = with_entry (node_words_of (c.words (a_node o))).page i e } in s) place);
         },
         subst (λ (z : NodeWords). IsLowerPage z.fixed.height (Place e)) (sym now) low,
         (node_used c stage.lawful o tree, omega (arith, has.lawful.room), lock),
       )
 
   -- a locked node above another one
-  pub upper_in : (key : Key) (p o n : ℕ) → IsAbove held key p o n → IsUpper (bare c) k.pass key p o n
+  pub upper_in : (key : Key) (p o n : ℕ) → IsLockedAbove held key p o n → IsUpper (bare c) k.pass key p o n
   upper_in key p o n a =
       let (on, upper) = locked_node o a.upper a.has_upper in
       let (below, lower) = locked_node n a.lower a.has_lower in
@@ -140,7 +140,7 @@ module _ (layout : Layout) (k : Known) (held : List Locked) (news : List Made) (
         lower = lower_page_from view.height (piece view) (λ e i. all_of (λ e. height_of e < view.height) e (places (piece view)) (subst (All (λ e. height_of e < view.height)) l.shows.entries_are l.above) i);
         fit = record {
           positions = l.positions;
-          shows = subst (λ es. Shows view.columns view.rows es (piece view)) l.shows.entries_are l.shows;
+          shows = subst (λ es. ShowsPiece view.columns view.rows es (piece view)) l.shows.entries_are l.shows;
           room = omega (arith, size_is view l, l.room);
           bound = bound;
         };

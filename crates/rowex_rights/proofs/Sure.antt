@@ -7,7 +7,7 @@ use Rattle.moments.proofs.States.{steady}
 use Rattle.rowex_walks.specs.Writer.{IsWayBelow}
 use Rattle.rowex_walks.proofs.Ways.{way_begins, way_goes_on, way_ends, way_is_below}
 use Rattle.rowex_core.specs.declared.known.Known.{Known}
-use Rattle.rowex_core.specs.Reading.{node_of}
+use Rattle.rowex_core.specs.Reading.{node_words_of}
 use Rattle.rowex_core.specs.Cores.{Core, IsLawful}
 use Rattle.rowex_core.specs.Knowing.{Recalls, IsSince}
 use Rattle.rowex_table.specs.Made.{IsLater}
@@ -51,7 +51,7 @@ descent_finds k held since x p l n words spelled pinned locked way agree differ 
   leaf = spelled;
   pinned = pinned;
   locked = locked;
-  way = λ c law recalls. way_is_below c.past since x.key (node_of words).page l (way c law recalls);
+  way = λ c law recalls. way_is_below c.past since x.key (node_words_of words).page l (way c law recalls);
   agree = agree;
   differ = differ;
 }
@@ -61,7 +61,7 @@ found_stays k j held since x p l n words later f = record {
   leaf = f.leaf;
   pinned = (f.pinned.0, later.pin ∙ f.pinned.1, f.pinned.2);
   locked = f.locked;
-  way = sure_stays k j (λ s. IsWayBelow s since x.key (node_of words).page l) later f.way;
+  way = sure_stays k j (λ s. IsWayBelow s since x.key (node_words_of words).page l) later f.way;
   agree = f.agree;
   differ = f.differ;
 }

@@ -5,7 +5,7 @@ use Rattle.pieces.specs.Piece.{Place, Fork}
 use Rattle.tries.specs.Place.{spot}
 use Rattle.moments.specs.declared.Rec.TheVariants.{Node as a_node}
 use Rattle.rowex_walks.specs.Rise.{body, entry}
-use Rattle.rowex_core.specs.Reading.{node_of}
+use Rattle.rowex_core.specs.Reading.{node_words_of}
 use Rattle.compound_node.specs.Nodes.{piece}
 use Rattle.tries.specs.Affected.{IsLowerPage}
 use Rattle.rowex_walks.specs.Writer.{added_change}
@@ -50,7 +50,7 @@ whole_insert layout k since x p l o n m slot w below above view has ne none foun
 
     publishes : Publishes layout k (Slot o slot) w (added_change k.pass x) None (a_node n ∷ [])
     publishes = insert_in_slot layout k k.locks news (a_node n ∷ []) (record { locks = refl; own = has.own }) since x p l o n slot w (Node m view.height) copied (inr (inl refl), found.leaf) a
-        (subst (λ z. spot x.key (node_of z).page ≡ slot) (sym same) at) (subst (λ z. IsLowerPage (node_of z).fixed.height (Place (Node m view.height))) (sym same) low) word
+        (subst (λ z. spot x.key (node_words_of z).page ≡ slot) (sym same) at) (subst (λ z. IsLowerPage (node_words_of z).fixed.height (Place (Node m view.height))) (sym same) low) word
 
     keeps : AreKept (nodes_of k.locks) (a_node n ∷ []) (o ∷ [])
     keeps = subst (λ z. AreKept (nodes_of z) (a_node n ∷ []) (o ∷ [])) (sym has.locks) (kept_two o n ne)

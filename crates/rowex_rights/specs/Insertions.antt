@@ -19,17 +19,17 @@ use Rattle.rowex_core.specs.declared.event.Spot.{Spot}
 use Rattle.rowex_core.specs.declared.event.Spot.TheVariants.{Root, Slot}
 use Rattle.rowex_core.specs.declared.known.Known.{Known}
 use Rattle.rowex_core.specs.declared.known.Locked.{Locked}
-use Rattle.rowex_core.specs.Reading.{node_of}
+use Rattle.rowex_core.specs.Reading.{node_words_of}
 use Rattle.rowex_table.specs.Made.{Made}
 use Rattle.rowex_table.specs.Publishes.{Publishes}
-use Rattle.rowex_rights.specs.Stages.{HasReady, HasLeaf, HasRisen, IsAbove}
+use Rattle.rowex_rights.specs.Stages.{HasReady, HasLeaf, HasRisen, IsLockedAbove}
 use Rattle.rowex_rights.specs.Rises.{of_view, of_leaf, IsAnew, IsSide, HasFoundBelow}
 use Rattle.rowex_rights.specs.Cases.{IsWord}
 
 -- The spot of the locked node n: its place in the locked node above it, or the root, under the anchor's lock. The entry e may stand
 -- there.
 pub data IsSpotOf (k : Known) (held : List Locked) (key : Key) (p n : ℕ) (e : Entry) : Spot → Type 0 where
-  in_node : (o slot : ℕ) (a : IsAbove held key p o n) → spot key (node_of a.upper).page ≡ slot → IsLowerPage (node_of a.upper).fixed.height (Place e) →
+  in_node : (o slot : ℕ) (a : IsLockedAbove held key p o n) → spot key (node_words_of a.upper).page ≡ slot → IsLowerPage (node_words_of a.upper).fixed.height (Place e) →
       IsSpotOf k held key p n e (Slot o slot)
   at_root : (h : ℕ) → k.anchor ≡ Some (Some (Node n h)) → IsSpotOf k held key p n e Root
 
@@ -44,8 +44,8 @@ Insertion =
 abbrev pub NormalInsert : Type 0
 NormalInsert =
     (layout : Layout) (k : Known) (held : List Locked) (since : ℕ) (x : Item) (p : ℕ) (l : Key) (n m w : ℕ) (words : List ℕ) (view : NodeView) (at : Spot) →
-    HasReady k held (of_view m view ∷ of_leaf x ∷ []) → HasFoundBelow k held since x p l n words → IsPartPage (page_affected p x.key (node_of words).page) →
-    IsAnew view → piece view ≡ page_grown p x.key (Leaf x.number) (node_of words).page →
+    HasReady k held (of_view m view ∷ of_leaf x ∷ []) → HasFoundBelow k held since x p l n words → IsPartPage (page_affected p x.key (node_words_of words).page) →
+    IsAnew view → piece view ≡ page_grown p x.key (Leaf x.number) (node_words_of words).page →
     IsSpotOf k held x.key p n (Node m view.height) at → IsWord (Node m view.height) w → Publishes layout k at w (added_change k.pass x) None (a_node n ∷ [])
 
 -- Overflow: the node with the new leaf is cut at its first fork, and a node of the two halves, of which each may be one entry, takes
@@ -54,8 +54,8 @@ abbrev pub Overflow : Type 0
 Overflow =
     (layout : Layout) (k : Known) (held : List Locked) (since : ℕ) (x : Item) (p : ℕ) (l : Key) (n m w f : ℕ) (words : List ℕ) (view : NodeView) (at : Spot) →
     (a b : Page) (d e : Entry) (us vs : List Made) → HasReady k held (of_view m view ∷ (us ++ (vs ++ of_leaf x ∷ []))) →
-    HasFoundBelow k held since x p l n words → IsPartPage (page_affected p x.key (node_of words).page) →
-    page_grown p x.key (Leaf x.number) (node_of words).page ≡ Fork f a b → IsSide a d us → IsSide b e vs →
+    HasFoundBelow k held since x p l n words → IsPartPage (page_affected p x.key (node_words_of words).page) →
+    page_grown p x.key (Leaf x.number) (node_words_of words).page ≡ Fork f a b → IsSide a d us → IsSide b e vs →
     IsAnew view → piece view ≡ Fork f (Place d) (Place e) →
     IsSpotOf k held x.key p n (Node m view.height) at → IsWord (Node m view.height) w → Publishes layout k at w (added_change k.pass x) None (a_node n ∷ [])
 
@@ -63,8 +63,8 @@ Overflow =
 abbrev pub StaysWhole : Type 0
 StaysWhole =
     (layout : Layout) (k : Known) (held : List Locked) (since : ℕ) (x : Item) (p : ℕ) (l : Key) (n m w : ℕ) (words : List ℕ) (view : NodeView) (at : Spot) →
-    HasReady k held (of_view m view ∷ of_leaf x ∷ []) → HasFoundBelow k held since x p l n words → IsFrom p (node_of words).page →
-    IsAnew view → piece view ≡ page_forked (bit x.key p) p (Leaf x.number) (Place (Node n (node_of words).fixed.height)) →
+    HasReady k held (of_view m view ∷ of_leaf x ∷ []) → HasFoundBelow k held since x p l n words → IsFrom p (node_words_of words).page →
+    IsAnew view → piece view ≡ page_forked (bit x.key p) p (Leaf x.number) (Place (Node n (node_words_of words).fixed.height)) →
     IsSpotOf k held x.key p n (Node m view.height) at → IsWord (Node m view.height) w → Publishes layout k at w (added_change k.pass x) None []
 
 -- Pull up: what has risen from below, over any number of levels, is pulled up into the node o above, of which there is a copy then.
@@ -73,7 +73,7 @@ abbrev pub PullUp : Type 0
 PullUp =
     (layout : Layout) (k : Known) (held : List Locked) (news : List Made) (gone : List Rec) (since : ℕ) (x : Item) (p : ℕ) (l : Key) (o n m w : ℕ) →
     (r : Page) (view : NodeView) (at : Spot) → HasReady k held (of_view m view ∷ news) → HasRisen layout k held news since x p l entry n r gone → HasLeaf news x →
-    (up : IsAbove held x.key p o n) → IsAnew view → piece view ≡ with_page x.key r (node_of up.upper).page →
+    (up : IsLockedAbove held x.key p o n) → IsAnew view → piece view ≡ with_page x.key r (node_words_of up.upper).page →
     IsSpotOf k held x.key p o (Node m view.height) at → IsWord (Node m view.height) w → Publishes layout k at w (added_change k.pass x) None (a_node o ∷ gone)
 
 -- And a pull up at whose end the node above is full: that is cut, and a node of the two halves takes its place.
@@ -81,6 +81,6 @@ abbrev pub PullUpOverflow : Type 0
 PullUpOverflow =
     (layout : Layout) (k : Known) (held : List Locked) (news : List Made) (gone : List Rec) (since : ℕ) (x : Item) (p : ℕ) (l : Key) (o n m w f : ℕ) →
     (r a b : Page) (d e : Entry) (us vs : List Made) (view : NodeView) (at : Spot) → HasReady k held (of_view m view ∷ (us ++ (vs ++ news))) →
-    HasRisen layout k held news since x p l entry n r gone → HasLeaf news x → (up : IsAbove held x.key p o n) →
-    with_page x.key r (node_of up.upper).page ≡ Fork f a b → IsSide a d us → IsSide b e vs → IsAnew view → piece view ≡ Fork f (Place d) (Place e) →
+    HasRisen layout k held news since x p l entry n r gone → HasLeaf news x → (up : IsLockedAbove held x.key p o n) →
+    with_page x.key r (node_words_of up.upper).page ≡ Fork f a b → IsSide a d us → IsSide b e vs → IsAnew view → piece view ≡ Fork f (Place d) (Place e) →
     IsSpotOf k held x.key p o (Node m view.height) at → IsWord (Node m view.height) w → Publishes layout k at w (added_change k.pass x) None (a_node o ∷ gone)

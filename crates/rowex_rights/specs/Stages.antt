@@ -16,7 +16,7 @@ use Rattle.rowex_walks.specs.Rise.{Side, IsRise, news_of, gone_of}
 use Rattle.rowex_core.specs.declared.known.Holding.TheVariants.{Ready}
 use Rattle.rowex_core.specs.declared.known.Known.{Known}
 use Rattle.rowex_core.specs.declared.known.Locked.{Locked}
-use Rattle.rowex_core.specs.Reading.{node_of, leaf_of}
+use Rattle.rowex_core.specs.Reading.{node_words_of, leaf_of}
 use Rattle.rowex_core.specs.Cores.{Core, IsLawful, bare}
 use Rattle.rowex_core.specs.Sharing.{IsOwned, IsLocked}
 use Rattle.rowex_core.specs.Knowing.{Recalls}
@@ -52,14 +52,14 @@ HasRisen layout k held news since x p l d n r gone = (c : Core) → IsStage layo
 
 -- By their words, the locked node o's entry on the key's way names the locked node n, and an insertion at p affects no more than
 -- that place.
-pub record IsAbove (held : List Locked) (key : Key) (p o n : ℕ) : Type 0 where
+pub record IsLockedAbove (held : List Locked) (key : Key) (p o n : ℕ) : Type 0 where
   pub upper : List ℕ
   pub lower : List ℕ
   pub has_upper : IsOf (record { node = o; words = upper }) held
   pub has_lower : IsOf (record { node = n; words = lower }) held
   pub height : ℕ
-  pub entry : seek key (node_of upper).page ≡ Node n height
-  pub path : IsFirstBelow p (node_of lower).page ⊎ IsTipPage (page_affected p key (node_of upper).page)
+  pub entry : seek key (node_words_of upper).page ≡ Node n height
+  pub path : IsFirstBelow p (node_words_of lower).page ⊎ IsTipPage (page_affected p key (node_words_of upper).page)
 
 -- In each stage leaf j has this key, and this value.
 abbrev pub IsLeafThere : Layout → Known → List Locked → List Made → ℕ → Key → ℕ → Type 0

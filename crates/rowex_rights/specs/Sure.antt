@@ -13,7 +13,7 @@ use Rattle.rowex_walks.specs.Scan.{IsSeen, IsPlaced, IsShaped, IsRead}
 use Rattle.rowex_walks.specs.Ways.{IsOnWay, IsWayFrom}
 use Rattle.rowex_core.specs.declared.known.Known.{Known}
 use Rattle.rowex_core.specs.declared.known.Locked.{Locked}
-use Rattle.rowex_core.specs.Reading.{node_of}
+use Rattle.rowex_core.specs.Reading.{node_words_of}
 use Rattle.rowex_table.specs.Made.{Made, IsLater}
 use Rattle.rowex_rights.specs.Stages.{IsSure, IsLeafThere}
 use Rattle.rowex_core.specs.Knowing.{IsSince}
@@ -42,7 +42,7 @@ DescentEnds =
 abbrev pub DescentFinds : Type 0
 DescentFinds =
     (k : Known) (held : List Locked) (since : ℕ) (x : Item) (p : ℕ) (l : Key) (n : ℕ) (words : List ℕ) → HasLeafWords (x.key, x.value) → IsSince k since →
-    IsOf (record { node = n; words = words }) held → IsSure k (λ s. IsWayFrom s since l (seek x.key (node_of words).page)) →
+    IsOf (record { node = n; words = words }) held → IsSure k (λ s. IsWayFrom s since l (seek x.key (node_words_of words).page)) →
     AgreeBelow p x.key l → bit x.key p ≢ bit l p → HasFoundBelow k held since x p l n words
 
 -- And that stays, while the pass goes on.

@@ -18,13 +18,13 @@ use Rattle.rowex_core.specs.declared.event.Act.TheVariants.{Claim, Publish, Load
 use Rattle.rowex_core.specs.declared.event.Spot.TheVariants.{Slot}
 use Rattle.rowex_core.specs.declared.known.Known.{Known}
 use Rattle.rowex_core.specs.declared.known.Locked.{Locked}
-use Rattle.rowex_core.specs.Reading.{node_of}
+use Rattle.rowex_core.specs.Reading.{node_words_of}
 use Rattle.rowex_core.specs.Cores.{word_count_of}
 use Rattle.rowex_core.specs.Knowing.{IsEvent}
 use Rattle.rowex_table.specs.Made.{Made, HoldsMade}
 use Rattle.rowex_table.specs.Publishes.{Publishes}
 use Rattle.rowex_table.specs.Runs.{silent}
-use Rattle.rowex_rights.specs.Stages.{HasReady, HasRisen, IsAbove}
+use Rattle.rowex_rights.specs.Stages.{HasReady, HasRisen, IsLockedAbove}
 use Rattle.rowex_rights.specs.Rises.{IsAnew, HasFoundBelow, of_view, of_leaf}
 use Rattle.rowex_rights.specs.Cases.{IsWord}
 use Rattle.rowex_rights.specs.Loops.{FillsEach}
@@ -37,9 +37,9 @@ abbrev pub WholeInsert : Type 0
 WholeInsert =
     (layout : Layout) (k : Known) (since : ℕ) (x : Item) (p : ℕ) (l : Key) (o n m slot w : ℕ) (below above : List ℕ) (view : NodeView) →
     HasReady k (record { node = o; words = above } ∷ record { node = n; words = below } ∷ []) (of_view m view ∷ of_leaf x ∷ []) → o ≢ n → k.anchor ≡ None →
-    HasFoundBelow k k.locks since x p l n below → IsPartPage (page_affected p x.key (node_of below).page) →
-    (a : IsAbove k.locks x.key p o n) → a.upper ≡ above → spot x.key (node_of above).page ≡ slot → IsLowerPage (node_of above).fixed.height (Place (Node m view.height)) →
-    IsAnew view → piece view ≡ page_grown p x.key (Leaf x.number) (node_of below).page → IsWord (Node m view.height) w →
+    HasFoundBelow k k.locks since x p l n below → IsPartPage (page_affected p x.key (node_words_of below).page) →
+    (a : IsLockedAbove k.locks x.key p o n) → a.upper ≡ above → spot x.key (node_words_of above).page ≡ slot → IsLowerPage (node_words_of above).fixed.height (Place (Node m view.height)) →
+    IsAnew view → piece view ≡ page_grown p x.key (Leaf x.number) (node_words_of below).page → IsWord (Node m view.height) w →
     Publishes layout k (Slot o slot) w (added_change k.pass x) None (a_node n ∷ []) ×
     ((j i h g : Known) (epoch : ℕ) → IsEvent layout (Publish (Slot o slot) w) silent k j → IsEvent layout (LoadEpoch epoch) silent j i →
     MarksEach layout epoch (a_node n ∷ []) i h → UnlocksEach layout (o ∷ []) h g → IsAtRest g × (g.front ≡ j.front))
@@ -54,10 +54,10 @@ abbrev pub TwoLevels : Type 0
 TwoLevels =
     (layout : Layout) (k i j h : Known) (held : List Locked) (since : ℕ) (x : Item) (p : ℕ) (l : Key) (n o : ℕ) (below : List ℕ) (f : ℕ) (a b : Page) (u v m : ℕ) →
     (lower upper view : NodeView) → HoldsMade k (of_leaf x ∷ []) → HasRisen layout k held (of_leaf x ∷ []) since x p l body n (Fork f a b) [] →
-    HasLeafWords (x.key, x.value) → IsOf (record { node = n; words = below }) held → (up : IsAbove held x.key p o n) →
+    HasLeafWords (x.key, x.value) → IsOf (record { node = n; words = below }) held → (up : IsLockedAbove held x.key p o n) →
     IsAnew upper → piece upper ≡ b → Makes layout (of_view v upper) k i →
     IsAnew lower → piece lower ≡ a → Makes layout (of_view u lower) i j →
-    IsAnew view → piece view ≡ with_page x.key (Fork f (Place (Node u lower.height)) (Place (Node v upper.height))) (node_of up.upper).page →
+    IsAnew view → piece view ≡ with_page x.key (Fork f (Place (Node u lower.height)) (Place (Node v upper.height))) (node_words_of up.upper).page →
     Makes layout (of_view m view) j h →
     let news = of_view m view ∷ of_view u lower ∷ of_view v upper ∷ of_leaf x ∷ [] in
     HoldsMade h news × HasRisen layout h held news since x p l entry o (Place (Node m view.height)) (a_node o ∷ a_node n ∷ [])

@@ -1,10 +1,10 @@
 -- What a scan gives is lawful.
 use Rattle.std.proofs.Common.{◌≡◌, List, ◌++◌, Bool, true, false, Some, refl, sym, subst, le_refl}
-use Rattle.hot_model.specs.declared.Change.{Change}
-use Rattle.hot_model.specs.declared.Note.{Note}
-use Rattle.hot_model.specs.declared.Scan.{Scan}
-use Rattle.hot_model.specs.Reverse.{IsLawfulReverseScan}
-use Rattle.hot_model.specs.Scans.{IsLawfulScan}
+use Rattle.finite_map.specs.declared.Change.{Change}
+use Rattle.finite_map.specs.declared.Note.{Note}
+use Rattle.finite_map.specs.declared.Scan.{Scan}
+use Rattle.finite_map.specs.Reverse.{IsLawfulReverseScan}
+use Rattle.finite_map.specs.Scans.{IsLawfulScan}
 use Rattle.key_bits.specs.Key.{IsKey}
 use Rattle.record_words.specs.declared.layout.Layout.{Layout}
 use Rattle.moments.specs.declared.Pin.{Pin}

@@ -12,7 +12,7 @@ use Rattle.std.specs.declared.cmp.Ordering.TheVariants.{Less, Equal, Greater}
 use Rattle.key_bits.specs.Bits.{bit_of, IsFirstDifference}
 use Rattle.key_bits.specs.Key.{IsKey}
 use Rattle.key_bits.proofs.Order.{first_difference, greater_by_first, less_iff_first}
-use Rattle.compound_node.specs.Nodes.{HeadView, IsLawful as IsLawfulNode, height_of, node_of, leaves}
+use Rattle.compound_node.specs.Nodes.{HeadView, IsLawfulNode, height_of, node_of, leaves}
 use Rattle.compound_node.specs.declared.entries.Entry.{Entry}
 use Rattle.compound_node.specs.declared.entries.Entry.TheVariants.{Leaf, Node}
 use Rattle.pieces.specs.Piece.{size}

@@ -19,8 +19,8 @@ use Rattle.rowex_reading.specs.Possible.{IsPossible}
 use Rattle.rowex_reading.specs.Seen.{IsLedTo, Sure, since}
 use Rattle.rowex_core.specs.Knowing.{IsSince}
 
-abbrev pub range_of : Asked → Range
-range_of r = record { from = r.from.now; upto = r.upto.now; limit = r.limit }
+abbrev pub asked_range : Asked → Range
+asked_range r = record { from = r.from.now; upto = r.upto.now; limit = r.limit }
 
 -- a scan without `more` is complete, and one with `more` was cut at the limit
 abbrev pub IsAnswer : Past → ℕ → Range → List Pair → Bool → Type 0

@@ -12,7 +12,7 @@ ghost use Rattle.rowex_reading.specs.Ways.{IsWayOf};
 ghost use Rattle.rowex_reading.specs.declared.descent.Found.TheVariants.{Leaf as FoundLeaf};
 ghost use Rattle.rowex_scanning.specs.Counts.{scan_loads, walk_loads};
 ghost use Rattle.rowex_scanning.specs.Reverse.{HasScannedDown, IsCeiling, IsDownStart, IsDownWalk, IsLeafTakenDown, IsNotAbove, IsPairTakenDown};
-ghost use Rattle.rowex_scanning.specs.Scanning.{range_of};
+ghost use Rattle.rowex_scanning.specs.Scanning.{asked_range};
 
 use crate::scanning::{Range, Start, Verdict, enter, is_before, start_at};
 use arrayvec::ArrayVec;
@@ -40,7 +40,7 @@ pub fn scan_root_down<G: Gate>(
     requires pinned { IsSome seat.old.known.pin }
     ensures looks { (n : ℕ) × Looks table.now G.becomes n (seat.old, gate.old) (seat.new, gate.new) }
     ensures keys { IsKey range.now.from.now × IsKey range.now.upto.now }
-    ensures scanned { IfOk result (HasScannedDown seat.new.known (range_of range.now) pairs.new) }
+    ensures scanned { IfOk result (HasScannedDown seat.new.known (asked_range range.now) pairs.new) }
     ensures few { seat.new.known.steps ≤ seat.old.known.steps + (1 + scan_loads range.now.limit) }
 {
     pairs.clear();
@@ -77,7 +77,7 @@ fn scan_leaf_down<G: Gate>(
     requires root { IsAtRoot seat.old.known (LeafEntry number) }
     requires empty { pairs.old ≡ [] }
     ensures reads { (n : ℕ) × (n ≤ LEAF_FIELDS) × Reads table.now G.becomes n (seat.old, gate.old) (seat.new, gate.new) }
-    ensures scanned { IfOk result (HasScannedDown seat.new.known (range_of range.now) pairs.new) }
+    ensures scanned { IfOk result (HasScannedDown seat.new.known (asked_range range.now) pairs.new) }
 {
     let mut places = [0; MAX_BYTES];
     let (length, value) = load_places(table, seat, gate, number, &mut places);
@@ -107,7 +107,7 @@ fn scan_node_down<G: Gate>(
     requires way { (v : ℕ) × IsWayOf table.now.layout seat.old.known (since seat.old.known) range.now.upto.now way.old.items (FoundLeaf number v mismatch) }
     requires empty { pairs.old ≡ [] }
     ensures reads { (n : ℕ) × (n ≤ HEAD_WORDS + LEAF_FIELDS + walk_loads range.now.limit) × Reads table.now G.becomes n (seat.old, gate.old) (seat.new, gate.new) }
-    ensures scanned { IfOk result (HasScannedDown seat.new.known (range_of range.now) pairs.new) }
+    ensures scanned { IfOk result (HasScannedDown seat.new.known (asked_range range.now) pairs.new) }
 {
     let start = start_down(table, seat, gate, way, range.upto, number, mismatch);
     way.truncate(start.level);
@@ -161,10 +161,10 @@ fn walk_down<G: Gate>(
     pairs: &mut Pairs,
 ) -> Result<bool, AllocError>
     requires reader { IsReader table.now seat.old }
-    requires walk { IsDownWalk seat.old.known (since seat.old.known) (range_of range.now) lowest way.old.items pairs.old }
+    requires walk { IsDownWalk seat.old.known (since seat.old.known) (asked_range range.now) lowest way.old.items pairs.old }
     requires ceiling { IsCeiling seat.old.known (since seat.old.known) range.now.upto.now lowest way.old.items }
     ensures reads { (n : ℕ) × (n ≤ walk_loads range.now.limit) × Reads table.now G.becomes n (seat.old, gate.old) (seat.new, gate.new) }
-    ensures scanned { IfOk result (HasScannedDown seat.new.known (range_of range.now) pairs.new) }
+    ensures scanned { IfOk result (HasScannedDown seat.new.known (asked_range range.now) pairs.new) }
 {
     let mut top = lowest;
     loop {
@@ -206,7 +206,7 @@ fn take_leaf_down<G: Gate>(
     requires reader { IsReader table.now seat.old }
     requires leaf { (m : ℕ) × IsLedTo seat.old.known m (LeafEntry number) × IsNotAbove table.now.layout seat.old.known m range.now.upto.now number }
     ensures reads { (n : ℕ) × (n ≤ LEAF_FIELDS) × Reads table.now G.becomes n (seat.old, gate.old) (seat.new, gate.new) }
-    ensures taken { IfOk result (IsLeafTakenDown seat.old.known seat.new.known (range_of range.now) number pairs.old pairs.new) }
+    ensures taken { IfOk result (IsLeafTakenDown seat.old.known seat.new.known (asked_range range.now) number pairs.old pairs.new) }
 {
     let mut places = [0; MAX_BYTES];
     let (length, value) = load_places(table, seat, gate, number, &mut places);
@@ -224,7 +224,7 @@ fn take_pair_down(
 ) -> Result<Verdict, AllocError>
     requires key { IsKey key.now }
     requires below { IsAtMost key.now range.now.upto.now }
-    ensures { IfOk result (IsPairTakenDown (range_of range.now) pairs.old key.now value pairs.new) }
+    ensures { IfOk result (IsPairTakenDown (asked_range range.now) pairs.old key.now value pairs.new) }
 {
     if is_before(key, range.from.as_bytes()) {
         return Ok(Verdict::Past);

@@ -12,7 +12,7 @@ ghost use Rattle.rowex_reading.specs.Seen.{IsAtRoot, IsLedTo, since};
 ghost use Rattle.rowex_reading.specs.Ways.{IsWayOf};
 ghost use Rattle.rowex_reading.specs.declared.descent.Found.TheVariants.{Leaf as FoundLeaf};
 ghost use Rattle.rowex_scanning.specs.Counts.{scan_loads, walk_loads};
-ghost use Rattle.rowex_scanning.specs.Scanning.{HasScanned, IsEntered, IsFloor, IsLeafTaken, IsNotBelow, IsPairTaken, IsStart, IsWalk, range_of};
+ghost use Rattle.rowex_scanning.specs.Scanning.{HasScanned, IsEntered, IsFloor, IsLeafTaken, IsNotBelow, IsPairTaken, IsStart, IsWalk, asked_range};
 
 use arrayvec::ArrayVec;
 use compound_node::Entry;
@@ -75,7 +75,7 @@ pub fn scan_root<G: Gate>(
     requires pinned { IsSome seat.old.known.pin }
     ensures looks { (n : ℕ) × Looks table.now G.becomes n (seat.old, gate.old) (seat.new, gate.new) }
     ensures keys { IsKey range.now.from.now × IsKey range.now.upto.now }
-    ensures scanned { IfOk result (HasScanned seat.new.known (range_of range.now) pairs.new) }
+    ensures scanned { IfOk result (HasScanned seat.new.known (asked_range range.now) pairs.new) }
     ensures few { seat.new.known.steps ≤ seat.old.known.steps + (1 + scan_loads range.now.limit) }
 {
     pairs.clear();
@@ -112,7 +112,7 @@ fn scan_leaf<G: Gate>(
     requires root { IsAtRoot seat.old.known (LeafEntry number) }
     requires empty { pairs.old ≡ [] }
     ensures reads { (n : ℕ) × (n ≤ LEAF_FIELDS) × Reads table.now G.becomes n (seat.old, gate.old) (seat.new, gate.new) }
-    ensures scanned { IfOk result (HasScanned seat.new.known (range_of range.now) pairs.new) }
+    ensures scanned { IfOk result (HasScanned seat.new.known (asked_range range.now) pairs.new) }
 {
     let mut places = [0; MAX_BYTES];
     let (length, value) = load_places(table, seat, gate, number, &mut places);
@@ -142,7 +142,7 @@ fn scan_node<G: Gate>(
     requires way { (v : ℕ) × IsWayOf table.now.layout seat.old.known (since seat.old.known) range.now.from.now way.old.items (FoundLeaf number v mismatch) }
     requires empty { pairs.old ≡ [] }
     ensures reads { (n : ℕ) × (n ≤ HEAD_WORDS + LEAF_FIELDS + walk_loads range.now.limit) × Reads table.now G.becomes n (seat.old, gate.old) (seat.new, gate.new) }
-    ensures scanned { IfOk result (HasScanned seat.new.known (range_of range.now) pairs.new) }
+    ensures scanned { IfOk result (HasScanned seat.new.known (asked_range range.now) pairs.new) }
 {
     let start = start_at(table, seat, gate, way, range.from, number, mismatch);
     let mut top = start.top;
@@ -209,10 +209,10 @@ fn walk<G: Gate>(
     pairs: &mut Pairs,
 ) -> Result<bool, AllocError>
     requires reader { IsReader table.now seat.old }
-    requires walk { IsWalk seat.old.known (since seat.old.known) (range_of range.now) lowest way.old.items pairs.old }
+    requires walk { IsWalk seat.old.known (since seat.old.known) (asked_range range.now) lowest way.old.items pairs.old }
     requires floor { IsFloor seat.old.known (since seat.old.known) range.now.from.now lowest way.old.items }
     ensures reads { (n : ℕ) × (n ≤ walk_loads range.now.limit) × Reads table.now G.becomes n (seat.old, gate.old) (seat.new, gate.new) }
-    ensures scanned { IfOk result (HasScanned seat.new.known (range_of range.now) pairs.new) }
+    ensures scanned { IfOk result (HasScanned seat.new.known (asked_range range.now) pairs.new) }
 {
     let mut top = lowest;
     loop {
@@ -271,7 +271,7 @@ fn take_leaf<G: Gate>(
     requires reader { IsReader table.now seat.old }
     requires leaf { (m : ℕ) × IsLedTo seat.old.known m (LeafEntry number) × IsNotBelow table.now.layout seat.old.known m range.now.from.now number }
     ensures reads { (n : ℕ) × (n ≤ LEAF_FIELDS) × Reads table.now G.becomes n (seat.old, gate.old) (seat.new, gate.new) }
-    ensures taken { IfOk result (IsLeafTaken seat.old.known seat.new.known (range_of range.now) number pairs.old pairs.new) }
+    ensures taken { IfOk result (IsLeafTaken seat.old.known seat.new.known (asked_range range.now) number pairs.old pairs.new) }
 {
     let mut places = [0; MAX_BYTES];
     let (length, value) = load_places(table, seat, gate, number, &mut places);
@@ -289,7 +289,7 @@ fn take_pair(
 ) -> Result<Verdict, AllocError>
     requires key { IsKey key.now }
     requires above { IsAtMost range.now.from.now key.now }
-    ensures { IfOk result (IsPairTaken (range_of range.now) pairs.old key.now value pairs.new) }
+    ensures { IfOk result (IsPairTaken (asked_range range.now) pairs.old key.now value pairs.new) }
 {
     if is_before(range.upto.as_bytes(), key) {
         return Ok(Verdict::Past);

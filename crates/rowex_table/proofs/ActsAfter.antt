@@ -1,9 +1,9 @@
 -- What a publish and the acts after it leave a pass, on the whole lists of what it has, and which of them it may make.
 use Rattle.std.proofs.Common.{◌≡◌, ℕ, ◌<◌, List, [], ◌∷◌, ◌++◌, map, Option, Some, None, IsSome, refl, sym, ap, subst, ◌∙◌}
 use Rattle.compound_node.specs.declared.entries.Entry.{Entry}
-use Rattle.hot_model.specs.declared.Change.{Change}
-use Rattle.hot_model.specs.declared.Note.{Note}
-use Rattle.hot_model.specs.Fronts.{map_of, Fits}
+use Rattle.finite_map.specs.declared.Change.{Change}
+use Rattle.finite_map.specs.declared.Note.{Note}
+use Rattle.finite_map.specs.Fronts.{map_of, Fits}
 use Rattle.record_words.specs.declared.layout.Layout.{Layout}
 use Rattle.moments.specs.declared.Rec.{Rec}
 use Rattle.moments.specs.declared.Rec.TheVariants.{Node as a_node}
@@ -31,7 +31,7 @@ use Rattle.rowex_table.specs.Made.{Made, held_as, recs_of, nodes_of}
 use Rattle.rowex_core.specs.declared.known.Holding.TheVariants.{Ready}
 use Rattle.moments.proofs.Members.{all_of, of_map, map_of as has_mapped}
 use Rattle.rowex_core.proofs.Having.{owned_used, node_used, publish_leaves, mark_owns, unlock_locks}
-use Rattle.hot_model.specs.Maps.{value_at}
+use Rattle.finite_map.specs.Maps.{value_at}
 use Rattle.rowex_core.specs.Events.{IsLegalPublish, next_tree, next_change}
 
 -- In this core the store of the word at the spot is a legal publish by pass q of the change x: `was` is what the key's value was

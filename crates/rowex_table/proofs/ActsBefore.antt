@@ -5,8 +5,8 @@ use Rattle.std.proofs.lemmas.Bool.{eqb-true}
 use Rattle.std.proofs.lemmas.List.{map-append, append-nil}
 use Rattle.std.proofs.lemmas.List.Elements.{All-tail}
 use Rattle.compound_node.specs.declared.entries.Entry.{Entry}
-use Rattle.hot_model.specs.declared.Note.{Note}
-use Rattle.hot_model.specs.Fronts.{OthersGoOn}
+use Rattle.finite_map.specs.declared.Note.{Note}
+use Rattle.finite_map.specs.Fronts.{OthersGoOn}
 use Rattle.record_words.specs.declared.layout.Layout.{Layout}
 use Rattle.record_words.specs.State.{state_word}
 use Rattle.record_words.specs.Entry.{entry_word}
@@ -43,7 +43,7 @@ use Rattle.moments.specs.Trades.{IsOf}
 use Rattle.rowex_core.proofs.Having.{not_free, other_rec}
 use Rattle.rowex_table.specs.Made.{Made, held_as, recs_of, nodes_of, IsLater}
 use Rattle.moments.proofs.Members.{of_map, map_of, all_of}
-use Rattle.hot_model.proofs.Growth.{others_on, others_none}
+use Rattle.finite_map.proofs.Growth.{others_on, others_none}
 
 -- the front, the facts and the pin are as before
 pub same_later : (k j : Known) → j.pass ≡ k.pass → j.pin ≡ k.pin → j.front ≡ k.front → j.facts ≡ k.facts → IsLater k j

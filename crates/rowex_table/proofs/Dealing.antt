@@ -10,15 +10,15 @@ use Rattle.atomic_table.specs.Table as table
 use Rattle.atomic_table.proofs.Lists.{at_set, at_longer, at_last, set_else}
 use Rattle.std.proofs.lemmas.Bool.{cases_lt}
 use Rattle.std.proofs.lemmas.Bool.Decides.{eqb_tells}
-use Rattle.hot_model.specs.declared.Change.{Change}
-use Rattle.hot_model.specs.Fronts.{BeginsWith, OthersGoOn}
+use Rattle.finite_map.specs.declared.Change.{Change}
+use Rattle.finite_map.specs.Fronts.{BeginsWith, OthersGoOn}
 use Rattle.record_words.specs.declared.layout.Layout.{Layout}
 use Rattle.rowex_core.specs.declared.known.Known.{Known}
 use Rattle.rowex_core.specs.declared.known.View.{View}
 use Rattle.rowex_core.specs.declared.known.View.TheVariants.{Spent, Dealer, Pass, Pair}
 use Rattle.rowex_core.specs.Cores.{Core}
 use Rattle.rowex_core.specs.Words.{Shows}
-use Rattle.rowex_core.specs.Knowing.{IsFact, IsUntouched, Knows, Knowing, Owns}
+use Rattle.rowex_core.specs.Knowing.{IsFact, IsUntouched, Knows, Knowing, IsViewOf}
 use Rattle.rowex_core.specs.Opening.{opening, opening_words}
 use Rattle.rowex_core.proofs.Promises.{opening_is_lawful}
 use Rattle.rowex_table.specs.Rule.{Ruled, opening_of, next_dealer, dealt, paired, first_of_two, second_of_two, with_front, SeatsHaveMet, Meeting, met}
@@ -71,14 +71,14 @@ at_end (x ∷ xs) a b (suc j) e = ⊎_elim inl (λ t. inr (ap suc t.0, t.1)) (at
 
 module _ {S : Type 0} (layout : Layout) (id : ℕ) (v left right : View) where
   -- each part keeps to the numbers and the knowledge of the whole, and they have no number in common
-  pub splits : ((c : Core) → c.layout ≡ layout → Knowing c v → Knowing c left × Knowing c right) → ((q : ℕ) → Owns left q → Owns v q) → ((q : ℕ) → Owns right q → Owns v q) → ((q : ℕ) → Owns left q → Owns right q → ⊥) → ((q : ℕ) → Owns v q → Owns left q ⊎ Owns right q)
+  pub splits : ((c : Core) → c.layout ≡ layout → Knowing c v → Knowing c left × Knowing c right) → ((q : ℕ) → IsViewOf left q → IsViewOf v q) → ((q : ℕ) → IsViewOf right q → IsViewOf v q) → ((q : ℕ) → IsViewOf left q → IsViewOf right q → ⊥) → ((q : ℕ) → IsViewOf v q → IsViewOf left q ⊎ IsViewOf right q)
       → Splits {S = S} {V = View} (Ruled layout) id v left right
   splits knowing lo ro lr vs s r here =
       let parts = knowing r.core r.layout_is (r.knows id v here) in
       let views : List View = set s.views id left in
       let apart : Apart views = apart_set s.views id v left here lo r.apart in
-      let alone : (i q : ℕ) (w : View) → get_elem? views i ≡ some w → Owns w q → Owns right q → ⊥ = λ i q w e ow oright. ⊎_elim
-      (λ (t : (i ≡ id) × (left ≡ w)). lr q (subst (λ z. Owns z q) (sym t.1) ow) oright)
+      let alone : (i q : ℕ) (w : View) → get_elem? views i ≡ some w → IsViewOf w q → IsViewOf right q → ⊥ = λ i q w e ow oright. ⊎_elim
+      (λ (t : (i ≡ id) × (left ≡ w)). lr q (subst (λ z. IsViewOf z q) (sym t.1) ow) oright)
       (λ (t : (i ≢ id) × (get_elem? s.views i ≡ some w)). t.0 (r.apart i id q w v t.1 here ow (ro q oright)))
       (at_set s.views id i left w e) in
       record {
@@ -91,14 +91,14 @@ module _ {S : Type 0} (layout : Layout) (id : ℕ) (v left right : View) where
             (λ (t : (i ≡ length views) × (right ≡ w)). subst (Knowing r.core) t.1 parts.1)
             (at_end views right w i e);
         apart = λ i j q x y a b ox oy. ⊎_elim
-            (λ (olda : get_elem? views i ≡ some x). ⊎_elim (λ (oldb : get_elem? views j ≡ some y). apart i j q x y olda oldb ox oy) (λ (t : (j ≡ length views) × (right ≡ y)). absurd (alone i q x olda ox (subst (λ z. Owns z q) (sym t.1) oy))) (at_end views right y j b))
-            (λ (t : (i ≡ length views) × (right ≡ x)). ⊎_elim (λ (oldb : get_elem? views j ≡ some y). absurd (alone j q y oldb oy (subst (λ z. Owns z q) (sym t.1) ox))) (λ (u : (j ≡ length views) × (right ≡ y)). t.0 ∙ sym u.0) (at_end views right y j b))
+            (λ (olda : get_elem? views i ≡ some x). ⊎_elim (λ (oldb : get_elem? views j ≡ some y). apart i j q x y olda oldb ox oy) (λ (t : (j ≡ length views) × (right ≡ y)). absurd (alone i q x olda ox (subst (λ z. IsViewOf z q) (sym t.1) oy))) (at_end views right y j b))
+            (λ (t : (i ≡ length views) × (right ≡ x)). ⊎_elim (λ (oldb : get_elem? views j ≡ some y). absurd (alone j q y oldb oy (subst (λ z. IsViewOf z q) (sym t.1) ox))) (λ (u : (j ≡ length views) × (right ≡ y)). t.0 ∙ sym u.0) (at_end views right y j b))
             (at_end views right x i a);
         each = λ q low. let seat = r.each q low in ⊎_elim
             (λ (e : (eqb seat.0 id ≡ true) × (seat.0 ≡ id)). ⊎_elim
-            (λ (o : Owns left q). (id, left, at_longer views (right ∷ []) id left (set_at s.views id left v here), o))
-            (λ (o : Owns right q). (length views, right, at_last views right (length views) refl, o))
-            (vs q (subst (λ z. Owns z q) (some-injective seat.1 v (sym seat.2 ∙ (ap (λ n. get_elem? s.views n) e.1 ∙ here))) seat.3)))
+            (λ (o : IsViewOf left q). (id, left, at_longer views (right ∷ []) id left (set_at s.views id left v here), o))
+            (λ (o : IsViewOf right q). (length views, right, at_last views right (length views) refl, o))
+            (vs q (subst (λ z. IsViewOf z q) (some-injective seat.1 v (sym seat.2 ∙ (ap (λ n. get_elem? s.views n) e.1 ∙ here))) seat.3)))
             (λ (n : (eqb seat.0 id ≡ false) × (seat.0 ≢ id)). (seat.0, seat.1, at_longer views (right ∷ []) seat.0 seat.1 (set_else s.views id seat.0 left n.1 ∙ seat.2), seat.3))
             (eqb_tells seat.0 id);
       }
@@ -128,22 +128,22 @@ parts {S = S} layout id v j k is ne = subst (λ (z : View). Splits {S = S} {V = 
 
 module _ {S : Type 0} (layout : Layout) (id other : ℕ) (v w both : View) where
   -- the two are one seat now, which has the numbers of both; the other has none
-  pub joins_as : ((c : Core) → Knowing c v → Knowing c w → ((q : ℕ) → Owns v q → Owns w q → ⊥) → Knowing c both) → ((q : ℕ) → Owns both q → Owns v q ⊎ Owns w q) → ((q : ℕ) → Owns v q ⊎ Owns w q → Owns both q)
+  pub joins_as : ((c : Core) → Knowing c v → Knowing c w → ((q : ℕ) → IsViewOf v q → IsViewOf w q → ⊥) → Knowing c both) → ((q : ℕ) → IsViewOf both q → IsViewOf v q ⊎ IsViewOf w q) → ((q : ℕ) → IsViewOf v q ⊎ IsViewOf w q → IsViewOf both q)
       → Joins {S = S} {V = View} (Ruled layout) id v other w both Spent
   joins_as knowing of_both to_both s r here ne there =
       let second : get_elem? s.views other ≡ some w = ⊎_elim (λ (t : (other ≡ id) × (both ≡ w)). absurd (ne t.0)) (λ (t : (other ≢ id) × (get_elem? s.views other ≡ some w)). t.1) (at_set s.views id other both w there) in
       let views : List View = set s.views id both in
       -- a seat of the new list is one of the old that owns the same, or the joined one
-      let from : (i q : ℕ) (x : View) → get_elem? (set views other Spent) i ≡ some x → Owns x q → ((i ≡ id) × (Owns v q ⊎ Owns w q)) ⊎ ((i ≢ id) × (i ≢ other) × (get_elem? s.views i ≡ some x)) = λ i q x e o. ⊎_elim
-      (λ (t : (i ≡ other) × (Spent ≡ x)). absurd (subst (λ z. Owns z q) (sym t.1) o))
+      let from : (i q : ℕ) (x : View) → get_elem? (set views other Spent) i ≡ some x → IsViewOf x q → ((i ≡ id) × (IsViewOf v q ⊎ IsViewOf w q)) ⊎ ((i ≢ id) × (i ≢ other) × (get_elem? s.views i ≡ some x)) = λ i q x e o. ⊎_elim
+      (λ (t : (i ≡ other) × (Spent ≡ x)). absurd (subst (λ z. IsViewOf z q) (sym t.1) o))
       (λ (t : (i ≢ other) × (get_elem? views i ≡ some x)). ⊎_elim
-      (λ (u : (i ≡ id) × (both ≡ x)). inl (u.0, of_both q (subst (λ z. Owns z q) (sym u.1) o)))
+      (λ (u : (i ≡ id) × (both ≡ x)). inl (u.0, of_both q (subst (λ z. IsViewOf z q) (sym u.1) o)))
       (λ (u : (i ≢ id) × (get_elem? s.views i ≡ some x)). inr (u.0, t.0, u.1))
       (at_set s.views id i both x t.1))
       (at_set views other i Spent x e) in
-      let clash : (i q : ℕ) (x : View) → i ≢ id → i ≢ other → get_elem? s.views i ≡ some x → Owns x q → Owns v q ⊎ Owns w q → ⊥ = λ i q x a b e o own. ⊎_elim
-      (λ (p : Owns v q). a (r.apart i id q x v e here o p))
-      (λ (p : Owns w q). b (r.apart i other q x w e second o p))
+      let clash : (i q : ℕ) (x : View) → i ≢ id → i ≢ other → get_elem? s.views i ≡ some x → IsViewOf x q → IsViewOf v q ⊎ IsViewOf w q → ⊥ = λ i q x a b e o own. ⊎_elim
+      (λ (p : IsViewOf v q). a (r.apart i id q x v e here o p))
+      (λ (p : IsViewOf w q). b (r.apart i other q x w e second o p))
       own in
       record {
         core = r.core;
@@ -163,11 +163,11 @@ module _ {S : Type 0} (layout : Layout) (id other : ℕ) (v w both : View) where
             (from i q x a ox);
         each = λ q low. let seat = r.each q low in ⊎_elim
             (λ (e : (eqb seat.0 other ≡ true) × (seat.0 ≡ other)).
-            let is : Owns w q = subst (λ z. Owns z q) (some-injective seat.1 w (sym seat.2 ∙ (ap (λ n. get_elem? s.views n) e.1 ∙ second))) seat.3 in
+            let is : IsViewOf w q = subst (λ z. IsViewOf z q) (some-injective seat.1 w (sym seat.2 ∙ (ap (λ n. get_elem? s.views n) e.1 ∙ second))) seat.3 in
             (id, both, set_else views other id Spent (λ same. ne (sym same)) ∙ set_at s.views id both v here, to_both q (inr is)))
             (λ (n : (eqb seat.0 other ≡ false) × (seat.0 ≢ other)). ⊎_elim
             (λ (e : (eqb seat.0 id ≡ true) × (seat.0 ≡ id)).
-            let is : Owns v q = subst (λ z. Owns z q) (some-injective seat.1 v (sym seat.2 ∙ (ap (λ m. get_elem? s.views m) e.1 ∙ here))) seat.3 in
+            let is : IsViewOf v q = subst (λ z. IsViewOf z q) (some-injective seat.1 v (sym seat.2 ∙ (ap (λ m. get_elem? s.views m) e.1 ∙ here))) seat.3 in
             (id, both, set_else views other id Spent (λ same. ne (sym same)) ∙ set_at s.views id both v here, to_both q (inl is)))
             (λ (m : (eqb seat.0 id ≡ false) × (seat.0 ≢ id)). (seat.0, seat.1, set_else views other seat.0 Spent n.1 ∙ (set_else s.views id seat.0 both m.1 ∙ seat.2), seat.3))
             (eqb_tells seat.0 id))

@@ -6,7 +6,7 @@ use Rattle.atomic_table.specs.Table.{State, Me, Step, Allows}
 use Rattle.atomic_table.specs.Table as table
 use Rattle.atomic_table.proofs.Lists.{at_set, set_else}
 use Rattle.std.proofs.lemmas.Bool.Decides.{eqb_tells}
-use Rattle.hot_model.specs.declared.Note.{Note}
+use Rattle.finite_map.specs.declared.Note.{Note}
 use Rattle.record_words.specs.Layout.{address}
 use Rattle.record_words.specs.declared.layout.Layout.{Layout}
 use Rattle.moments.specs.declared.Rec.{Rec}
@@ -21,7 +21,7 @@ use Rattle.rowex_core.specs.declared.known.View.TheVariants.{Pass}
 use Rattle.rowex_core.specs.Cores.{Core}
 use Rattle.rowex_core.specs.Words.{Shows, word_at}
 use Rattle.rowex_core.specs.Events.{Legal, after, location_of, writes}
-use Rattle.rowex_core.specs.Knowing.{Knows, Knowing, Owns, IsEvent, learned, claim_learned, anchor_learned}
+use Rattle.rowex_core.specs.Knowing.{Knows, Knowing, IsViewOf, IsEvent, learned, claim_learned, anchor_learned}
 use Rattle.rowex_core.proofs.Keeping.{keeps}
 use Rattle.rowex_core.proofs.Learning.{learns}
 use Rattle.rowex_core.proofs.Staying.{stays_lawful}
@@ -118,17 +118,17 @@ found_writes (GiveBack r epoch found) w x = refl
 -- The numbers of seats
 
 abbrev pub Apart : List View → Type 0
-Apart views = (i j q : ℕ) (v w : View) → get_elem? views i ≡ some v → get_elem? views j ≡ some w → Owns v q → Owns w q → i ≡ j
+Apart views = (i j q : ℕ) (v w : View) → get_elem? views i ≡ some v → get_elem? views j ≡ some w → IsViewOf v q → IsViewOf w q → i ≡ j
 
 -- a seat whose view keeps to its numbers
-pub apart_set : (views : List View) (id : ℕ) (v w : View) → get_elem? views id ≡ some v → ((q : ℕ) → Owns w q → Owns v q) → Apart views → Apart (set views id w)
+pub apart_set : (views : List View) (id : ℕ) (v w : View) → get_elem? views id ≡ some v → ((q : ℕ) → IsViewOf w q → IsViewOf v q) → Apart views → Apart (set views id w)
 apart_set views id v w here owns apart i j q x y a b ox oy = ⊎_elim
     (λ (s : (i ≡ id) × (w ≡ x)). ⊎_elim
     (λ (t : (j ≡ id) × (w ≡ y)). s.0 ∙ sym t.0)
-    (λ (t : (j ≢ id) × (get_elem? views j ≡ some y)). s.0 ∙ apart id j q v y here t.1 (owns q (subst (λ z. Owns z q) (sym s.1) ox)) oy)
+    (λ (t : (j ≢ id) × (get_elem? views j ≡ some y)). s.0 ∙ apart id j q v y here t.1 (owns q (subst (λ z. IsViewOf z q) (sym s.1) ox)) oy)
     (at_set views id j w y b))
     (λ (s : (i ≢ id) × (get_elem? views i ≡ some x)). ⊎_elim
-    (λ (t : (j ≡ id) × (w ≡ y)). apart i id q x v s.1 here ox (owns q (subst (λ z. Owns z q) (sym t.1) oy)) ∙ sym t.0)
+    (λ (t : (j ≡ id) × (w ≡ y)). apart i id q x v s.1 here ox (owns q (subst (λ z. IsViewOf z q) (sym t.1) oy)) ∙ sym t.0)
     (λ (t : (j ≢ id) × (get_elem? views j ≡ some y)). apart i j q x y s.1 t.1 ox oy)
     (at_set views id j w y b))
     (at_set views id i w x a)
@@ -139,9 +139,9 @@ set_at (x ∷ xs) zero a b e = refl
 set_at (x ∷ xs) (suc i) a b e = set_at xs i a b e
 
 -- a number of some seat's: of the one that is set, where that keeps it, or of one of the others
-pub each_set : (views : List View) (id q : ℕ) (v w : View) → get_elem? views id ≡ some v → (Owns v q → Owns w q) → IsSomeSeats views q → IsSomeSeats (set views id w) q
+pub each_set : (views : List View) (id q : ℕ) (v w : View) → get_elem? views id ≡ some v → (IsViewOf v q → IsViewOf w q) → IsSomeSeats views q → IsSomeSeats (set views id w) q
 each_set views id q v w here keeps (i, x, at, owns) = ⊎_elim
-    (λ (e : (eqb i id ≡ true) × (i ≡ id)). (id, w, set_at views id w v here, keeps (subst (λ z. Owns z q) (some-injective x v (sym at ∙ (ap (λ n. get_elem? views n) e.1 ∙ here))) owns)))
+    (λ (e : (eqb i id ≡ true) × (i ≡ id)). (id, w, set_at views id w v here, keeps (subst (λ z. IsViewOf z q) (some-injective x v (sym at ∙ (ap (λ n. get_elem? views n) e.1 ∙ here))) owns)))
     (λ (n : (eqb i id ≡ false) × (i ≢ id)). (i, x, set_else views id i w n.1 ∙ at, owns))
     (eqb_tells i id)
 

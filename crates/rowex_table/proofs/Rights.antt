@@ -4,7 +4,7 @@ use Rattle.std.specs.Prelude.{Contains}
 use Rattle.std.proofs.lemmas.List.{get_or-map, length-map, length-set, take_all, take_more, take_more_set}
 use Rattle.std.proofs.lemmas.List.Elements.{All-contains}
 use Rattle.compound_node.specs.declared.entries.Entry.{Entry}
-use Rattle.hot_model.specs.declared.Note.{Note}
+use Rattle.finite_map.specs.declared.Note.{Note}
 use Rattle.record_words.specs.declared.layout.Layout.{Layout}
 use Rattle.record_words.specs.State.{state_word}
 use Rattle.moments.specs.declared.Rec.{Rec}

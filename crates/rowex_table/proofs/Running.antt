@@ -1,6 +1,6 @@
 -- Steps one after the other: how they follow one another, and what the gate was told.
 use Rattle.std.proofs.Common.{◌≡◌, ℕ, ◌+◌, List, [], ◌∷◌, ◌++◌, length, refl, sym, ap, subst, ◌∙◌, arith, add-one, length-append}
-use Rattle.hot_model.specs.declared.Note.{Note}
+use Rattle.finite_map.specs.declared.Note.{Note}
 use Rattle.rowex_core.specs.declared.event.Act.{Act}
 use Rattle.rowex_core.specs.declared.event.Event.{Event}
 use Rattle.rowex_core.specs.declared.known.Known.{Known}

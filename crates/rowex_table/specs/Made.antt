@@ -1,6 +1,6 @@
 -- New records on their way into the tree, by the whole list of what a pass has, and a pass that has gone on.
 use Rattle.std.specs.Prelude.{◌≡◌, ℕ, List, ◌++◌, map, All}
-use Rattle.hot_model.specs.Fronts.{OthersGoOn}
+use Rattle.finite_map.specs.Fronts.{OthersGoOn}
 use Rattle.moments.specs.State.{Past}
 use Rattle.moments.specs.declared.Rec.{Rec}
 use Rattle.moments.specs.Trades.{AreApart}

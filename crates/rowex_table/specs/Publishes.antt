@@ -1,8 +1,8 @@
 -- A writer's publish: that it may be made, and what it leaves the pass.
 use Rattle.std.specs.Prelude.{◌≡◌, ℕ, List, [], ◌∷◌, ◌++◌, Option, None, IsSome}
-use Rattle.hot_model.specs.declared.Change.{Change}
-use Rattle.hot_model.specs.Maps.{value_at}
-use Rattle.hot_model.specs.Fronts.{OthersGoOn, map_of, Fits}
+use Rattle.finite_map.specs.declared.Change.{Change}
+use Rattle.finite_map.specs.Maps.{value_at}
+use Rattle.finite_map.specs.Fronts.{OthersGoOn, map_of, Fits}
 use Rattle.record_words.specs.declared.layout.Layout.{Layout}
 use Rattle.moments.specs.declared.Rec.{Rec}
 use Rattle.moments.specs.Trades.{AreApart}

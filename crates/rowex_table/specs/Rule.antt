@@ -3,9 +3,9 @@ use Rattle.std.specs.Prelude.{◌≡◌, ◌≢◌, ℕ, ◌+◌, ◌<◌, List,
 use mathlib.Core.Option.{some}
 use lib.ListN.{get_elem?}
 use Rattle.atomic_table.specs.Table.{State, Me, Step}
-use Rattle.hot_model.specs.declared.Change.{Change}
-use Rattle.hot_model.specs.declared.Note.{Note}
-use Rattle.hot_model.specs.Fronts.{BeginsWith, LegalFront, OthersGoOn}
+use Rattle.finite_map.specs.declared.Change.{Change}
+use Rattle.finite_map.specs.declared.Note.{Note}
+use Rattle.finite_map.specs.Fronts.{BeginsWith, LegalFront, OthersGoOn}
 use Rattle.record_words.specs.declared.TheConstants.{MAX_ENTRIES}
 use Rattle.record_words.specs.declared.layout.Layout.{Layout}
 use Rattle.record_words.specs.declared.layout.Location.{Location}
@@ -21,11 +21,11 @@ use Rattle.rowex_core.specs.declared.known.View.TheVariants.{Spent, Dealer, Pass
 use Rattle.rowex_core.specs.Cores.{Core, HasRecord, IsLawful}
 use Rattle.rowex_core.specs.Words.{Shows, word_at}
 use Rattle.rowex_core.specs.Events.{Legal, location_of, word_of}
-use Rattle.rowex_core.specs.Knowing.{Knows, Knowing, Owns, IsEvent}
+use Rattle.rowex_core.specs.Knowing.{Knows, Knowing, IsViewOf, IsEvent}
 
 -- some seat has this number
 abbrev pub IsSomeSeats : List View → ℕ → Type 0
-IsSomeSeats views q = (i : ℕ) × (v : View) × (get_elem? views i ≡ some v) × Owns v q
+IsSomeSeats views q = (i : ℕ) × (v : View) × (get_elem? views i ≡ some v) × IsViewOf v q
 
 -- There is a lawful core with this layout, which the words show; what each seat knows is true of it; no two seats have one
 -- number, and each number of a pass is some seat's.
@@ -35,7 +35,7 @@ pub record Ruled {S : Type 0} (layout : Layout) (s : State S View) : Type 0 wher
   pub layout_is : core.layout ≡ layout
   pub shows : Shows core s.words
   pub knows : (i : ℕ) (v : View) → get_elem? s.views i ≡ some v → Knowing core v
-  pub apart : (i j q : ℕ) (v w : View) → get_elem? s.views i ≡ some v → get_elem? s.views j ≡ some w → Owns v q → Owns w q → i ≡ j
+  pub apart : (i j q : ℕ) (v w : View) → get_elem? s.views i ≡ some v → get_elem? s.views j ≡ some w → IsViewOf v q → IsViewOf w q → i ≡ j
   pub each : (q : ℕ) → q < layout.passes → IsSomeSeats s.views q
 
 -- what a new pass knows

@@ -1,7 +1,7 @@
 //! The rule of the table, and what its steps tell.
 
 ghost use Rattle.std.specs.Prelude.{ℕ, List, [], Option as Maybe, None};
-ghost use Rattle.hot_model.specs.declared.Note.{Note};
+ghost use Rattle.finite_map.specs.declared.Note.{Note};
 ghost use Rattle.record_words.specs.declared.layout.Layout.{Layout as Laid};
 ghost use Rattle.rowex_core.specs.declared.event.Act.{Act as Deed};
 ghost use Rattle.rowex_core.specs.declared.event.Act.TheVariants.{ClearPin};

@@ -4,8 +4,8 @@ use Rattle.tries.specs.Tree.{Fixed, Tree, leaf, node, fork, page, IsTrie, IsTip,
 use Rattle.compound_node.specs.declared.entries.Entry.{Entry}
 use Rattle.pieces.specs.Piece.{Place}
 use Rattle.moments.specs.Heap.{Heap}
-use Rattle.moments.specs.State.{IsLawful}
-use Rattle.moments.specs.Core.{Core, view}
+use Rattle.moments.specs.State.{IsLawfulState}
+use Rattle.moments.specs.Core.{BareCore, view}
 use Rattle.moments.specs.Steps.{IsMomentPublish}
 use Rattle.tries.specs.Content.{Item}
 use Rattle.tries.specs.Changes.{IsAdded}
@@ -35,7 +35,7 @@ path_above p {b = fork m k u} v here i f j h = elim i [ ]
 path_above p {b = fork m k u} v (zero_side w) i f j h = let z = h.0 in path_rises_node v j (omega arith)
 path_above p {b = fork m k u} v (one_side w) i f j h = let z = h.0 in path_rises_node v j (omega arith)
 
-module _ (c : Core) (q : ℕ) (law : IsLawful (view c)) (t : Tree) (now : c.past.moment c.past.now ≡ Some t) where
+module _ (c : BareCore) (q : ℕ) (law : IsLawfulState (view c)) (t : Tree) (now : c.past.moment c.past.now ≡ Some t) where
   -- At an entry of a locked node: what stands there gets one leaf more.
   pub slot_added : {n : ℕ} {y : Fixed} {b s : Tree} (v : Within (node n y b) t) (w : Within s b) → IsFlat w → IsTip s → (r : Tree) → IsTip r →
       c.lock n ≡ Some q → IsAtHand c q s r → IsLower y.height r → (x : Item) (p : ℕ) → IsAdded x p s r → IsPathBelow p w →

@@ -7,10 +7,10 @@ use Rattle.compound_node.specs.declared.entries.Entry.TheVariants.{Leaf, Node}
 use Rattle.pieces.specs.Piece.{Place}
 use Rattle.tries.specs.Search.{seek, Follows, child, Kin, tips, forks}
 use Rattle.moments.specs.Heap.{NodeWords, LeafWords, IsCopied}
-use Rattle.moments.specs.State.{IsRecord, Life, Out, Linked, Retired, Spans, last_of, IsLived, State, Stands, IsSameRecord, IsReach, IsLawful, IsFrom, StoodWithKeys}
+use Rattle.moments.specs.State.{IsRecord, Life, Out, Linked, Retired, Spans, last_of, IsLived, State, Stands, IsSameRecord, IsReach, IsLawfulState, IsFrom, StoodWithKeys}
 use Rattle.moments.specs.declared.Rec.TheVariants.{Node as a_node}
-use Rattle.moments.specs.Core.{Core, view}
-use Rattle.rowex_walks.specs.Writer.{IsBegun, IsWayBelow, at_leaf, below}
+use Rattle.moments.specs.Core.{BareCore, view}
+use Rattle.rowex_walks.specs.Writer.{BeganAt, IsWayBelow, at_leaf, below}
 use Rattle.tries.proofs.Tries.{has_first, trie_within, built_within, within_trans, page_child, within_child}
 use Rattle.moments.proofs.States.{stem_down, is_trie, is_built}
 use Rattle.rowex_walks.proofs.Now.{built_now, shown_now}
@@ -32,7 +32,7 @@ from_kin r like (forks {p = p} {a = a} {b = b} e x y) i t f = go (cases_lt p r)
 node_number : {n o : ℕ} → a_node n ≡ a_node o → n ≡ o
 node_number e = cc
 
-near_from : (s : State) → IsLawful s → (m : ℕ) → IsReach s m → (r : ℕ) (like : Key) (n h : ℕ) (P : Key → Type 0) →
+near_from : (s : State) → IsLawfulState s → (m : ℕ) → IsReach s m → (r : ℕ) (like : Key) (n h : ℕ) (P : Key → Type 0) →
     ((y : Key) → P y → AgreeBelow r like y) → StoodWithKeys s.past m P (Node n h) → IsFrom r (s.heap.nodes n).page
 near_from s law m reach r like n h P only (o, leaf a l w, lo, hi, st, e, f) = absurd cc
 near_from s law m reach r like n h P only (o, fork a l w, lo, hi, st, e, f) = absurd cc
@@ -49,7 +49,7 @@ near_from s law m reach r like n h P only (o, node a x b, lo, hi, st, e, f) =
         (from_kin r like z.1 (is_built s law o (a_node n) (node a x b) hi st).0 (trie_within st.within (is_trie s law o (a_node n) (node a x b) hi st)) (λ y q. only y (f y q)))
 
 -- One step of the descent: the keys of the child still agree with `like` before `r`, the first fork of the topmost.
-pub near_down : (s : State) → IsLawful s → (m : ℕ) → IsReach s m → (r : ℕ) (like k : Key) (n h : ℕ) →
+pub near_down : (s : State) → IsLawfulState s → (m : ℕ) → IsReach s m → (r : ℕ) (like k : Key) (n h : ℕ) →
     StoodWithKeys s.past m (λ y. AgreeBelow r like y × Unit {0}) (Node n h) →
     StoodWithKeys s.past m (λ y. AgreeBelow r like y × Unit {0}) (seek k (s.heap.nodes n).page)
 near_down s law m reach r like k n h x =
@@ -58,7 +58,7 @@ near_down s law m reach r like k n h x =
     (z.0, z.1, z.2, z.3, z.4, z.5, λ y i. (z.6 y i).0)
 
 -- The start of the descent: what the locked node's entry names, as it stood at a moment since.
-pub near_start : (s : State) → IsLawful s → (m r : ℕ) (like : Key) (a : ℕ) → IsBegun s.past m r like a →
+pub near_start : (s : State) → IsLawfulState s → (m r : ℕ) (like : Key) (a : ℕ) → BeganAt s.past m r like a →
     (h : ℕ) × StoodWithKeys s.past m (λ y. AgreeBelow r like y × Unit {0}) (Node a h)
 near_start s law m r like a (n, x, b, d, lo, hi, st, has) =
     let i : IsTrie (fork r b d) = trie_within (within_trans (inside here) st.within) (is_trie s law n (a_node a) (node a x (fork r b d)) hi st) in
@@ -70,7 +70,7 @@ spans_now now (Linked f) i h = refl
 spans_now now (Retired f e) i h = absurd (omega arith)
 
 -- The end of the descent: the leaf's key agrees with `like` too.
-pub near_end : (s : State) → IsLawful s → (m : ℕ) → IsReach s m → (r : ℕ) (like : Key) (j : ℕ) →
+pub near_end : (s : State) → IsLawfulState s → (m : ℕ) → IsReach s m → (r : ℕ) (like : Key) (j : ℕ) →
     StoodWithKeys s.past m (λ y. AgreeBelow r like y × Unit {0}) (Leaf j) → AgreeBelow r like (s.heap.leaves j).key
 near_end s law m reach r like j (o, node z l w, lo, hi, so, e, f) = absurd cc
 near_end s law m reach r like j (o, fork z l w, lo, hi, so, e, f) = absurd cc
@@ -91,7 +91,7 @@ kin_root (forks {p = z} w x y) r b d e like h p f g i =
     (sym v ∙ u, λ o j. subst (λ q. AgreeBelow q like o) u (w like o h j))
 
 -- The way below a locked node tells of the present: the key that was found follows the stem of the node's child.
-module _ (c : Core) (law : IsLawful (view c)) (since : ℕ) (reach : IsReach (view c) since) (t : Tree) (now : c.past.moment c.past.now ≡ Some t) where
+module _ (c : BareCore) (law : IsLawfulState (view c)) (since : ℕ) (reach : IsReach (view c) since) (t : Tree) (now : c.past.moment c.past.now ≡ Some t) where
   leaf_follows : (u : Tree) → Within u t → (j : ℕ) (l : Key) → page u ≡ Place (Leaf j) → StoodWithKeys c.past since (λ y. y ≡ l) (Leaf j) → Follows l u
   leaf_follows (node n x b) w j l e f = absurd cc
   leaf_follows (fork n x b) w j l e f = absurd cc
@@ -104,7 +104,7 @@ module _ (c : Core) (law : IsLawful (view c)) (since : ℕ) (reach : IsReach (vi
       key_now (o, fork z q w, lo, hi, so, e, f) = absurd cc
       key_now (o, leaf z q w, lo, hi, so, e, f) = ap (λ (y : LeafWords). y.key) (leaf_now (view c) law since reach o j z q w lo hi so) ∙ f q refl
 
-  node_follows : (u : Tree) → Within u t → (a h r : ℕ) (l like : Key) → page u ≡ Place (Node a h) → IsBegun c.past since r like a → AgreeBelow r like l → Follows l u
+  node_follows : (u : Tree) → Within u t → (a h r : ℕ) (l like : Key) → page u ≡ Place (Node a h) → BeganAt c.past since r like a → AgreeBelow r like l → Follows l u
   node_follows (leaf n x b) w a h r l like e f g = absurd cc
   node_follows (fork n x b) w a h r l like e f g = absurd cc
   node_follows (node n x (leaf m o v)) w a h r l like e f g = elim (built_within w (built_now c law t now)).0 [ ]

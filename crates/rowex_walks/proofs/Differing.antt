@@ -1,15 +1,15 @@
 -- A publish by which a leaf comes or goes makes the leaves others.
 use Rattle.std.proofs.Common.{◌≡◌, ◌⊎◌, inl, inr, ℕ, List, Option, Some, None, refl, sym, ap, subst}
 use Rattle.compound_node.specs.declared.entries.Entry.{Entry}
-use Rattle.hot_model.specs.declared.Change.{Change}
+use Rattle.finite_map.specs.declared.Change.{Change}
 use Rattle.tries.specs.Tree.{Tree, leaf, node, fork, here}
 use Rattle.tries.specs.Content.{Item, items}
 use Rattle.moments.specs.Heap.{Heap}
 use Rattle.moments.specs.declared.Rec.{Rec}
 use Rattle.moments.specs.declared.Rec.TheVariants.{Node as a_node, Leaf as a_leaf}
-use Rattle.moments.specs.State.{Links, IsLinked, IsLawful}
+use Rattle.moments.specs.State.{Links, IsLinked, IsLawfulState}
 use Rattle.moments.specs.Told.{items_of}
-use Rattle.moments.specs.Core.{Core, view}
+use Rattle.moments.specs.Core.{BareCore, view}
 use Rattle.moments.specs.Steps.{IsMomentPublish}
 use Rattle.moments.specs.Trades.{IsOf, HasTraded}
 use Rattle.moments.proofs.Members.{of_append, of_left, of_right}
@@ -54,7 +54,7 @@ trade_differs s t new gone n trade (inl h) e = let w = trade.came (a_leaf n) h i
 trade_differs s t new gone n trade (inr h) e = let w = trade.went (a_leaf n) h in w.1 (same_leaves s t n e w.0)
 
 -- a legal publish of a tree in the place of another, with its trade
-pub published : (c : Core) (q : ℕ) → IsLawful (view c) → (t : Tree) → c.past.moment c.past.now ≡ Some t → (heap : Heap) (root : Option Entry) (x : Change) (r : Tree) (n : ℕ) (new gone : List Rec) →
+pub published : (c : BareCore) (q : ℕ) → IsLawfulState (view c) → (t : Tree) → c.past.moment c.past.now ≡ Some t → (heap : Heap) (root : Option Entry) (x : Change) (r : Tree) (n : ℕ) (new gone : List Rec) →
     IsMomentPublish c q heap root (Some r) x → IsTrade c q t r new gone → IsOf (a_leaf n) new ⊎ IsOf (a_leaf n) gone → IsPublished c q heap root x new gone
 published c q law t now heap root x r n new gone legal trade one = record {
   tree = Some r;

@@ -11,7 +11,7 @@ use Rattle.moments.specs.Frames.{IsGrown}
 use Rattle.moments.specs.State.{Past, IsHeldSince, IsKeptSince, IsSteady}
 use Rattle.moments.specs.declared.Rec.TheVariants.{Node as a_node}
 use Rattle.tries.specs.Place.{spot}
-use Rattle.rowex_walks.specs.Scan.{IsPlaced, IsShaped, IsRooted, IsRead, IsBlank, MayStandAt, IsOn, IsOver, Frame, IsStack, Pair, Every, IsListed, Range, IsInRange}
+use Rattle.rowex_walks.specs.Scan.{IsPlaced, IsShaped, IsRooted, IsRead, IsBlank, MayStandAt, IsOn, IsOver, Frame, IsStack, Pair, Every, IsKeyListed, Range, IsInRange}
 use Rattle.rowex_walks.specs.Reverse.{IsFromOn, IsRightOfOne, IsPassedDown, IsLeftOfOne, IsClimbing, IsDownScan, IsDownComplete, IsDownTo, IsDownCut, IsBeneath}
 use Rattle.rowex_walks.proofs.Ends.{scan_blank, scan_one, scan_outside}
 use Rattle.rowex_walks.proofs.Measure.{next, one_power, power_step}
@@ -110,7 +110,7 @@ down_pop s m law g f e fs xs w over = record {
     back k (inr (inl (j, le, x))) = inl (j, omega (arith, le), x)
     back k (inr (inr x)) = inr x
 
-    go : (k : Key) → IsListed k xs ⊎ IsLeftOfOne s m k (f ∷ e ∷ fs) → IsListed k xs ⊎ IsLeftOfOne s m k (e ∷ fs)
+    go : (k : Key) → IsKeyListed k xs ⊎ IsLeftOfOne s m k (f ∷ e ∷ fs) → IsKeyListed k xs ⊎ IsLeftOfOne s m k (e ∷ fs)
     go k (inl y) = inl y
     go k (inr (inl (on, lt))) = absurd (omega (arith, lt, over))
     go k (inr (inr y)) = inr y
@@ -125,7 +125,7 @@ down_end s m g f xs w over = record {
   covered = λ k kept r. go k (w.covered k kept r);
 }
   where
-    go : (k : Key) → IsListed k xs ⊎ IsLeftOfOne s m k (f ∷ []) → IsListed k xs
+    go : (k : Key) → IsKeyListed k xs ⊎ IsLeftOfOne s m k (f ∷ []) → IsKeyListed k xs
     go k (inl y) = y
     go k (inr (inr y)) = absurd y
     go k (inr (inl (on, lt))) = absurd (omega (arith, lt, over))
@@ -133,7 +133,7 @@ down_end s m g f xs w over = record {
 -- A leaf is loaded at the next place. The keys that were there all the time are its own, or still before the scan.
 module _ (s : Past) (m : ℕ) (law : IsSteady s m) (g : Range) (f : Frame) (fs : List Frame) (xs : List Pair) (w : IsDownScan s m g (next f ∷ fs) xs)
     (n : ℕ) (l : Key) (v : ℕ) (at : IsPlaced s m f.number f.place (Leaf n)) (is : IsRead s m n l v) where
-  leaf_covers : (k : Key) → IsKeptSince s m k → IsInRange g k → IsListed k xs ⊎ ((k ≡ l) ⊎ IsLeftOfOne s m k (f ∷ fs))
+  leaf_covers : (k : Key) → IsKeptSince s m k → IsInRange g k → IsKeyListed k xs ⊎ ((k ≡ l) ⊎ IsLeftOfOne s m k (f ∷ fs))
   leaf_covers k kept r = go (w.covered k kept r)
     where
       step : (IsOn s m k (a_node f.number) × (spot k f.shape ≡ f.place)) ⊎ IsLeftOfOne s m k (f ∷ fs) → (k ≡ l) ⊎ IsLeftOfOne s m k (f ∷ fs)
@@ -141,7 +141,7 @@ module _ (s : Past) (m : ℕ) (law : IsSteady s m) (g : Range) (f : Frame) (fs :
       step (inl (on, e)) =
           inl (on_leaf s m law n k l v (on_down s m law k kept f.number f.place f.shape (Leaf n) (stack_shape s m (next f) fs w.stack) on e at) is)
 
-      go : IsListed k xs ⊎ IsLeftOfOne s m k (next f ∷ fs) → IsListed k xs ⊎ ((k ≡ l) ⊎ IsLeftOfOne s m k (f ∷ fs))
+      go : IsKeyListed k xs ⊎ IsLeftOfOne s m k (next f ∷ fs) → IsKeyListed k xs ⊎ ((k ≡ l) ⊎ IsLeftOfOne s m k (f ∷ fs))
       go (inl y) = inl y
       go (inr y) = inr (step (left_next s m k f fs y))
 
@@ -167,7 +167,7 @@ module _ (s : Past) (m : ℕ) (law : IsSteady s m) (g : Range) (f : Frame) (fs :
     covered = λ k kept r. go k r (leaf_covers k kept r);
   }
     where
-      go : (k : Key) → IsInRange g k → IsListed k xs ⊎ ((k ≡ l) ⊎ IsLeftOfOne s m k (f ∷ fs)) → IsListed k xs ⊎ IsLeftOfOne s m k (f ∷ fs)
+      go : (k : Key) → IsInRange g k → IsKeyListed k xs ⊎ ((k ≡ l) ⊎ IsLeftOfOne s m k (f ∷ fs)) → IsKeyListed k xs ⊎ IsLeftOfOne s m k (f ∷ fs)
       go k r (inl y) = inl y
       go k r (inr (inr y)) = inr y
       go k r (inr (inl e)) = absurd (never_before g.upto k (subst (IsBefore g.upto) (sym e) high) r.1)
@@ -184,8 +184,8 @@ module _ (s : Past) (m : ℕ) (law : IsSteady s m) (g : Range) (f : Frame) (fs :
     covered = λ k kept q. go k (leaf_covers k kept q);
   }
     where
-      go : (k : Key) → IsListed k xs ⊎ ((k ≡ l) ⊎ IsLeftOfOne s m k (f ∷ fs)) →
-          IsListed k (record { key = l; value = v } ∷ xs) ⊎ IsLeftOfOne s m k (f ∷ fs)
+      go : (k : Key) → IsKeyListed k xs ⊎ ((k ≡ l) ⊎ IsLeftOfOne s m k (f ∷ fs)) →
+          IsKeyListed k (record { key = l; value = v } ∷ xs) ⊎ IsLeftOfOne s m k (f ∷ fs)
       go k (inl y) = inl (inr y)
       go k (inr (inr y)) = inr y
       go k (inr (inl e)) = inl (inl e)
@@ -200,7 +200,7 @@ module _ (s : Past) (m : ℕ) (law : IsSteady s m) (g : Range) (f : Frame) (fs :
     covered = λ k kept r. go k r (leaf_covers k kept r);
   }
     where
-      go : (k : Key) → IsInRange g k → IsListed k xs ⊎ ((k ≡ l) ⊎ IsLeftOfOne s m k (f ∷ fs)) → IsListed k xs
+      go : (k : Key) → IsInRange g k → IsKeyListed k xs ⊎ ((k ≡ l) ⊎ IsLeftOfOne s m k (f ∷ fs)) → IsKeyListed k xs
       go k r (inl y) = y
       go k r (inr (inl e)) = absurd (never_before k g.from (subst (λ z. IsBefore z g.from) (sym e) low) r.0)
       go k r (inr (inr y)) = absurd (never_before k g.from
@@ -217,7 +217,7 @@ module _ (s : Past) (m : ℕ) (law : IsSteady s m) (g : Range) (f : Frame) (fs :
     covered = λ k kept q u. go k xs w.passed u (w.covered k kept q);
   }
     where
-      go : (k : Key) (ys : List Pair) → Every (λ x. IsPassedDown s m x.key (next f ∷ fs)) ys → IsDownTo k ys → IsListed k xs ⊎ IsLeftOfOne s m k (next f ∷ fs) → IsListed k xs
+      go : (k : Key) (ys : List Pair) → Every (λ x. IsPassedDown s m x.key (next f ∷ fs)) ys → IsDownTo k ys → IsKeyListed k xs ⊎ IsLeftOfOne s m k (next f ∷ fs) → IsKeyListed k xs
       go k ys p u (inl y) = y
       go k [] p u (inr y) = absurd u
       go k (x ∷ ys) p u (inr y) = absurd (never_before k x.key (left_below s m law (next f ∷ fs) w.stack x.key k p.0 y) u)

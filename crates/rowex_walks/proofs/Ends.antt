@@ -6,7 +6,7 @@ use Rattle.tries.specs.Tree.{Tree, leaf, node, fork, page, IsBuilt, IsLower}
 use Rattle.compound_node.specs.declared.entries.Entry.{Entry}
 use Rattle.compound_node.specs.declared.entries.Entry.TheVariants.{Leaf, Node}
 use Rattle.pieces.specs.Piece.{Place, size}
-use Rattle.moments.specs.State.{Past, State, IsLawful, IsTop, IsSameRecord, IsSteady}
+use Rattle.moments.specs.State.{Past, State, IsLawfulState, IsTop, IsSameRecord, IsSteady}
 use Rattle.moments.specs.declared.Rec.TheVariants.{Node as a_node}
 use Rattle.compound_node.specs.Nodes.{height_of}
 use Rattle.tries.specs.Place.{entry_at}
@@ -22,7 +22,7 @@ abbrev pub top_height : ℕ → List Frame → ℕ
 top_height h [] = h
 top_height h (f ∷ fs) = top_height f.height fs
 
-pub loads_blank : (s : State) → IsLawful s → (m : ℕ) → m ≤ s.now → s.root ≡ None → IsBlank s.past m
+pub loads_blank : (s : State) → IsLawfulState s → (m : ℕ) → m ≤ s.now → s.root ≡ None → IsBlank s.past m
 loads_blank s law m lo h = (s.now, lo, le_refl s.now, go s.root (s.moment s.now) h law.top)
   where
     go : (r : Option Entry) (f : Option Tree) → r ≡ None → IsTop s.heap r f → f ≡ None

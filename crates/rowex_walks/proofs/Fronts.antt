@@ -12,14 +12,14 @@ use Rattle.std.specs.declared.cmp.Ordering.{Ordering}
 use Rattle.std.specs.declared.cmp.Ordering.TheVariants.{Less, Equal, Greater}
 use Rattle.std.specs.Map.{keys_of}
 use Rattle.key_bits.specs.Key.{IsKey}
-use Rattle.hot_model.specs.declared.Change.{Change}
-use Rattle.hot_model.specs.declared.Kind.{Kind}
-use Rattle.hot_model.specs.declared.Kind.TheVariants.{Added, Replaced, Removed}
-use Rattle.hot_model.specs.declared.Scan.{Scan}
-use Rattle.hot_model.specs.Maps.{Map, key_order, value_at}
-use Rattle.hot_model.specs.Fronts.{map_of, changed, changed_by}
-use Rattle.hot_model.specs.Scans.{is_within, IsHeldBetween, IsNeverRemoved as IsKeptBetween, IsUpToLast, IsPastLast, IsLawfulScan}
-use Rattle.hot_model.specs.Reverse.{falling_order, IsBelowLast, IsDownToLast, IsLawfulReverseScan}
+use Rattle.finite_map.specs.declared.Change.{Change}
+use Rattle.finite_map.specs.declared.Kind.{Kind}
+use Rattle.finite_map.specs.declared.Kind.TheVariants.{Added, Replaced, Removed}
+use Rattle.finite_map.specs.declared.Scan.{Scan}
+use Rattle.finite_map.specs.Maps.{Map, key_order, value_at}
+use Rattle.finite_map.specs.Fronts.{map_of, changed, changed_by}
+use Rattle.finite_map.specs.Scans.{is_within, IsHeldBetween, IsNeverRemoved as IsKeptBetween, IsUpToLast, IsPastLast, IsLawfulScan}
+use Rattle.finite_map.specs.Reverse.{falling_order, IsBelowLast, IsDownToLast, IsLawfulReverseScan}
 use Rattle.tries.specs.Keys.{Key, IsBefore, IsAtMost}
 use Rattle.tries.specs.Tree.{Tree, Has}
 use Rattle.tries.proofs.Contents.{holds_has}
@@ -28,7 +28,7 @@ use Rattle.tries.proofs.Ranges.{has_key, at_most_le, at_most_not_lt, le_at_most,
 use Rattle.rowex_walks.proofs.Scans.{before_trans}
 use Rattle.moments.specs.State.{Past, IsHeldSince, IsKeptSince, IsSteady}
 use Rattle.moments.specs.Told.{content, TellChanges}
-use Rattle.rowex_walks.specs.Scan.{Pair, Every, IsListed, IsFalling, IsUpTo, Range, IsInRange, IsComplete, IsCut, turned}
+use Rattle.rowex_walks.specs.Scan.{Pair, Every, IsKeyListed, IsFalling, IsUpTo, Range, IsInRange, IsComplete, IsCut, turned}
 use Rattle.rowex_walks.specs.Reverse.{IsClimbing, IsDownComplete, IsDownCut, IsDownTo}
 use Rattle.rowex_walks.proofs.Walk.{every_map}
 
@@ -160,7 +160,7 @@ turned_falls (x ∷ xs) a f =
     subst (IsStrictlySortedBy falling_order) (sym (keys_push (turned xs) x.key x.value))
     (sorted_push falling_order (keys_of (turned xs)) x.key (turned_falls xs a.1 f.1) (above_turned x.key xs a.0 a.1 f.0))
 
-listed_turned : (k : Key) (xs : List Pair) → IsListed k xs → Contains (keys_of (turned xs)) k
+listed_turned : (k : Key) (xs : List Pair) → IsKeyListed k xs → Contains (keys_of (turned xs)) k
 listed_turned k [] a = absurd a
 listed_turned k (x ∷ xs) (inl e) = rw (keys_push (turned xs) x.key x.value, e) (Contains-push (keys_of (turned xs)) x.key)
 listed_turned k (x ∷ xs) (inr a) = rw (keys_push (turned xs) x.key x.value) (Contains-append_left (keys_of (turned xs)) (x.key ∷ []) k (listed_turned k xs a))

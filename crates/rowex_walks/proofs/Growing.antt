@@ -5,10 +5,10 @@ use Rattle.tries.specs.Tree.{Fixed, Tree, node, fork, page, Has, IsTrie, IsTip, 
 use Rattle.compound_node.specs.declared.entries.Entry.{Entry}
 use Rattle.pieces.specs.Piece.{Place}
 use Rattle.moments.specs.Heap.{Heap, IsShown}
-use Rattle.moments.specs.State.{Links, IsLawful}
+use Rattle.moments.specs.State.{Links, IsLawfulState}
 use Rattle.moments.specs.declared.Rec.{Rec}
 use Rattle.moments.specs.declared.Rec.TheVariants.{Node as a_node}
-use Rattle.moments.specs.Core.{Ready, Core, view}
+use Rattle.moments.specs.Core.{Ready, BareCore, view}
 use Rattle.moments.specs.Steps.{IsMomentPublish}
 use Rattle.tries.specs.Content.{Item}
 use Rattle.tries.proofs.Changes.{put, IsPathBelow, IsFlat}
@@ -24,28 +24,28 @@ use Rattle.rowex_walks.proofs.Cases.{slot_added, root_added}
 use Rattle.rowex_walks.proofs.Insertions.{found_added, found_away, hand_leaf_in, with_leaf}
 use Rattle.rowex_walks.proofs.AtHand.{IsNewNode, IsHalf, one, many, IsGrowth}
 
-half_bare : (c : Core) (q : ℕ) (r s : Tree) → IsHalf c q r s → bare s ≡ bare r
+half_bare : (c : BareCore) (q : ℕ) (r s : Tree) → IsHalf c q r s → bare s ≡ bare r
 half_bare c q r s (one i) = refl
 half_bare c q r s (many m g new) = refl
 
-half_built : (c : Core) (q : ℕ) (r s : Tree) → IsHalf c q r s → IsBuilt r → IsBuilt s
+half_built : (c : BareCore) (q : ℕ) (r s : Tree) → IsHalf c q r s → IsBuilt r → IsBuilt s
 half_built c q r s (one i) b = b
 half_built c q r s (many m g new) b = (new.two, new.lower, b, new.fit)
 
-half_shown : (c : Core) (q : ℕ) (r s : Tree) → IsHalf c q r s → IsShown c.heap r → IsShown c.heap s
+half_shown : (c : BareCore) (q : ℕ) (r s : Tree) → IsHalf c q r s → IsShown c.heap r → IsShown c.heap s
 half_shown c q r s (one i) b = b
 half_shown c q r s (many m g new) b = (new.words, b)
 
-half_comes : (c : Core) (q : ℕ) (r s : Tree) → IsHalf c q r s → (i : Rec) → Links s i → Links r i ⊎ (c.fate i ≡ Ready q)
+half_comes : (c : BareCore) (q : ℕ) (r s : Tree) → IsHalf c q r s → (i : Rec) → Links s i → Links r i ⊎ (c.fate i ≡ Ready q)
 half_comes c q r s (one z) i h = inl h
 half_comes c q r s (many m g new) i (inl e) = inr (ap c.fate e ∙ new.fate)
 half_comes c q r s (many m g new) i (inr h) = inl h
 
-half_links : (c : Core) (q : ℕ) (r s : Tree) → IsHalf c q r s → (i : Rec) → Links r i → Links s i
+half_links : (c : BareCore) (q : ℕ) (r s : Tree) → IsHalf c q r s → (i : Rec) → Links r i → Links s i
 half_links c q r s (one z) i h = h
 half_links c q r s (many m g new) i h = inr h
 
-module _ (c : Core) (q : ℕ) (x : Item) (p : ℕ) where
+module _ (c : BareCore) (q : ℕ) (x : Item) (p : ℕ) where
   -- Around a body: a copy of a node, an intermediate node, a new root.
   pub growth_around : (s r : Tree) (m : ℕ) (g : Fixed) → IsGrowth c q x p s r → IsNewNode c q m g r → IsGrowth c q x p s (node m g r)
   growth_around s r m g a new = record {
@@ -85,7 +85,7 @@ module _ (c : Core) (q : ℕ) (x : Item) (p : ℕ) where
       IsGrowth c q x p s r → IsGrowth c q x p t (put w r)
   growth_put w f r i b s path a = record { hand = hand_put c q w f r b s a.hand; adds = added_put w r x p i path a.adds }
 
-module _ (c : Core) (q : ℕ) (law : IsLawful (view c)) (t : Tree) (now : c.past.moment c.past.now ≡ Some t) (since : ℕ) (x : Item) (p : ℕ) (l : Key)
+module _ (c : BareCore) (q : ℕ) (law : IsLawfulState (view c)) (t : Tree) (now : c.past.moment c.past.now ≡ Some t) (since : ℕ) (x : Item) (p : ℕ) (l : Key)
     (new : IsNewLeaf c q x) where
   -- The start: the lowest locked node's body with the new leaf.
   pub growth_leaf : {n : ℕ} {y : Fixed} {b : Tree} → Within (node n y b) t → IsFoundBelow c q since x p l n → IsPart (affected p x.key b) →

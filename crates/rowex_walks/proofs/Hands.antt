@@ -6,7 +6,7 @@ use Rattle.moments.specs.Heap.{IsShown}
 use Rattle.moments.specs.State.{Links}
 use Rattle.moments.specs.declared.Rec.{Rec}
 use Rattle.moments.specs.declared.Rec.TheVariants.{Node as a_node, Leaf as a_leaf}
-use Rattle.moments.specs.Core.{Ready, Core}
+use Rattle.moments.specs.Core.{Ready, BareCore}
 use Rattle.tries.specs.Content.{Item}
 use Rattle.tries.specs.Changes.{IsAdded}
 use Rattle.tries.proofs.Changes.{put, IsFlat}
@@ -21,7 +21,7 @@ leaf_node e = cc
 node_number : {n o : ℕ} → a_node n ≡ a_node o → n ≡ o
 node_number e = cc
 
-module _ (c : Core) (q : ℕ) where
+module _ (c : BareCore) (q : ℕ) where
   -- what stays
   pub hand_stay : (s : Tree) → IsBuilt s → IsShown c.heap s → IsAtHand c q s s
   hand_stay s b i = record { built = b; shown = i; comes = λ i h. inl h; goes = λ n h. inl h }

@@ -5,9 +5,9 @@ use Rattle.tries.specs.Tree.{Fixed, Tree, leaf, node, fork, page, Has, IsTrie, I
 use Rattle.compound_node.specs.declared.entries.Entry.TheVariants.{Leaf, Node}
 use Rattle.tries.specs.Search.{Follows, child}
 use Rattle.moments.specs.Heap.{Heap, IsShown}
-use Rattle.moments.specs.State.{IsLawful}
+use Rattle.moments.specs.State.{IsLawfulState}
 use Rattle.moments.specs.declared.Rec.TheVariants.{Node as a_node}
-use Rattle.moments.specs.Core.{InTree, Core, view}
+use Rattle.moments.specs.Core.{InTree, BareCore, view}
 use Rattle.moments.specs.Steps.{IsMomentPublish, at_root}
 use Rattle.tries.specs.Content.{Item, added}
 use Rattle.tries.specs.Changes.{IsAdded}
@@ -39,7 +39,7 @@ part_of (leaf n k v) f = tt
 part_of (node n k v) f = elim f [ ]
 part_of (fork n k v) f = tt
 
-module _ (c : Core) (q : ℕ) (law : IsLawful (view c)) (t : Tree) (now : c.past.moment c.past.now ≡ Some t) where
+module _ (c : BareCore) (q : ℕ) (law : IsLawfulState (view c)) (t : Tree) (now : c.past.moment c.past.now ≡ Some t) where
   -- What a writer that has found a leaf below its lowest locked node knows of the present.
   pub found_follows : {n : ℕ} {y : Fixed} {b : Tree} → Within (node n y b) t → (since p : ℕ) (x : Item) (l : Key) → IsFoundBelow c q since x p l n → Follows l (child x.key b)
   found_follows v since p x l f = way_follows c law since f.reach t now v x.key l f.way
@@ -100,7 +100,7 @@ module _ (c : Core) (q : ℕ) (law : IsLawful (view c)) (t : Tree) (now : c.past
       (added_around d s m g x p (added_here d x p (subst IsTrie e (trie_now c law t now)) leaf_new.key (λ y h. away p x.key k y agree differ (λ r i. ap (λ o. bit o r) (sym h)) (ap (λ o. bit o p) (sym h))))))
 
 -- The first key.
-pub first_key : (c : Core) (q : ℕ) → IsLawful (view c) → c.past.moment c.past.now ≡ None → (x : Item) → c.anchor ≡ Some q → IsNewLeaf c q x →
+pub first_key : (c : BareCore) (q : ℕ) → IsLawfulState (view c) → c.past.moment c.past.now ≡ None → (x : Item) → c.anchor ≡ Some q → IsNewLeaf c q x →
     IsMomentPublish c q c.heap (Some (Leaf x.number)) (Some (leaf x.number x.key x.value)) (added_change q x)
 first_key c q law now x lock new = record {
   store = at_root lock refl;

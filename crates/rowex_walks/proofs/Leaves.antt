@@ -10,8 +10,8 @@ use Rattle.tries.proofs.Changes.{put}
 use Rattle.tries.specs.Place.{with_page}
 use Rattle.tries.specs.Affected.{page_forked}
 use Rattle.moments.specs.Heap.{Heap}
-use Rattle.moments.specs.State.{IsLawful}
-use Rattle.moments.specs.Core.{Core, view}
+use Rattle.moments.specs.State.{IsLawfulState}
+use Rattle.moments.specs.Core.{BareCore, view}
 use Rattle.moments.specs.declared.Rec.TheVariants.{Node as a_node, Leaf as a_leaf}
 use Rattle.moments.specs.Steps.{IsMomentPublish}
 use Rattle.rowex_walks.specs.Writer.{added_change, replaced_change, IsPageStored, IsNewLeaf}
@@ -31,7 +31,7 @@ use Rattle.rowex_walks.proofs.Differing.{published, trade_differs}
 use Rattle.rowex_walks.proofs.Rising.{new_node}
 use Rattle.rowex_walks.specs.Statements.{UpsertInSlot, UpsertAtRoot, FirstKey, SecondKey}
 
-module _ (c : Core) (q : ℕ) (law : IsLawful (view c)) (t : Tree) (now : c.past.moment c.past.now ≡ Some t) where
+module _ (c : BareCore) (q : ℕ) (law : IsLawfulState (view c)) (t : Tree) (now : c.past.moment c.past.now ≡ Some t) where
   -- Upsert of a held key, at an entry of a locked node.
   pub upsert_slot_now : (n j : ℕ) (x : Item) → IsLockedNode c q n → seek x.key (c.heap.nodes n).page ≡ Leaf j → (c.heap.leaves j).key ≡ x.key → IsNewLeaf c q x →
       (heap : Heap) → IsSlotStore c heap n x.key (Leaf x.number) →

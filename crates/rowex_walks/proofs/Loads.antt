@@ -6,7 +6,7 @@ use Rattle.compound_node.specs.declared.entries.Entry.{Entry}
 use Rattle.compound_node.specs.declared.entries.Entry.TheVariants.{Node}
 use Rattle.pieces.specs.Piece.{Place, size}
 use Rattle.moments.specs.Heap.{NodeWords, LeafWords, IsCopied}
-use Rattle.moments.specs.State.{Past, State, Stands, IsSameRecord, IsTop, IsReach, IsLawful, last_of}
+use Rattle.moments.specs.State.{Past, State, Stands, IsSameRecord, IsTop, IsReach, IsLawfulState, last_of}
 use Rattle.moments.specs.declared.Rec.TheVariants.{Node as a_node, Leaf as a_leaf}
 use Rattle.tries.specs.Place.{entry_at, shape}
 use Rattle.compound_node.specs.Nodes.{height_of}
@@ -35,7 +35,7 @@ record Last (s : State) (m c h : ℕ) : Type 0 where
 pub fixed_height : {a b : Fixed} → a ≡ b → a.height ≡ b.height
 fixed_height e = ap (λ (z : Fixed). z.height) e
 
-last_stood : (s : State) → IsLawful s → (m : ℕ) → IsReach s m → (c h : ℕ) → IsSeen s.past m (Node c h) → Last s m c h
+last_stood : (s : State) → IsLawfulState s → (m : ℕ) → IsReach s m → (c h : ℕ) → IsSeen s.past m (Node c h) → Last s m c h
 last_stood s law m reach c h (n, u, lo, hi, st, pg) =
     let spans = reach n lo hi (a_node c) u st in
     let top = spans_ended s.now (s.life (a_node c)) n (law.lived (a_node c)) spans in

@@ -2,12 +2,12 @@
 use Rattle.std.proofs.Common.{◌≡◌, Some, le_refl}
 use Rattle.tries.specs.Tree.{Tree, IsTrie, IsBuilt}
 use Rattle.moments.specs.Heap.{IsShown}
-use Rattle.moments.specs.State.{IsLawful}
-use Rattle.moments.specs.Core.{Core, view}
+use Rattle.moments.specs.State.{IsLawfulState}
+use Rattle.moments.specs.Core.{BareCore, view}
 use Rattle.moments.proofs.Publish.{top_shown}
 
 -- it is a bit trie, built as nodes are, and the words show it
-module _ (c : Core) (law : IsLawful (view c)) (t : Tree) (now : c.past.moment c.past.now ≡ Some t) where
+module _ (c : BareCore) (law : IsLawfulState (view c)) (t : Tree) (now : c.past.moment c.past.now ≡ Some t) where
   pub trie_now : IsTrie t
   trie_now = (law.trees c.past.now t (le_refl c.past.now) now).0
 

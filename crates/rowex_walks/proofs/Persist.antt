@@ -8,7 +8,7 @@ use Rattle.moments.specs.State.{Past, IsHeldSince, IsKeptSince}
 use Rattle.moments.specs.declared.Rec.{Rec}
 use Rattle.moments.specs.declared.Rec.TheVariants.{Node as a_node, Leaf as a_leaf}
 use Rattle.moments.specs.Frames.{IsGrown}
-use Rattle.rowex_walks.specs.Scan.{Stood, IsRooted, IsPlaced, IsShaped, IsRead, MayStandAt, IsOn, Frame, IsStack, IsPassed, IsRight, IsAhead, Pair, IsListed, Range, IsScan}
+use Rattle.rowex_walks.specs.Scan.{Stood, IsRooted, IsPlaced, IsShaped, IsRead, MayStandAt, IsOn, Frame, IsStack, IsPassed, IsRight, IsAhead, Pair, IsKeyListed, Range, IsScan}
 use Rattle.rowex_walks.proofs.Walk.{every_map}
 use Rattle.moments.proofs.Growth.{stands_grown}
 
@@ -81,6 +81,6 @@ scan_on a b g m x fs xs w = record {
   covered = λ k kept r. go k (w.covered k (kept_back a b g m k kept) r);
 }
   where
-    go : (k : Key) → IsListed k xs ⊎ IsAhead a m k fs → IsListed k xs ⊎ IsAhead b m k fs
+    go : (k : Key) → IsKeyListed k xs ⊎ IsAhead a m k fs → IsKeyListed k xs ⊎ IsAhead b m k fs
     go k (inl y) = inl y
     go k (inr y) = inr (ahead_on a b g m k fs y)

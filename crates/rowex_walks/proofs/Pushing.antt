@@ -9,8 +9,8 @@ use Rattle.tries.proofs.Changes.{put}
 use Rattle.tries.specs.Place.{with_page}
 use Rattle.tries.specs.Affected.{affected, IsPart, page_affected, page_forked, IsPartPage, IsTipPage}
 use Rattle.moments.specs.Heap.{Heap}
-use Rattle.moments.specs.State.{IsLawful}
-use Rattle.moments.specs.Core.{Core, view}
+use Rattle.moments.specs.State.{IsLawfulState}
+use Rattle.moments.specs.Core.{BareCore, view}
 use Rattle.moments.specs.declared.Rec.TheVariants.{Node as a_node, Leaf as a_leaf}
 use Rattle.moments.specs.Steps.{IsMomentPublish}
 use Rattle.rowex_walks.specs.Writer.{added_change, IsPageStored, IsNewLeaf, IsFoundBelow}
@@ -26,7 +26,7 @@ use Rattle.rowex_walks.proofs.Differing.{published}
 use Rattle.rowex_walks.proofs.Rising.{is_tip, new_node}
 use Rattle.rowex_walks.specs.Statements.{PushDown}
 
-module _ (c : Core) (q : ℕ) (law : IsLawful (view c)) (t : Tree) (now : c.past.moment c.past.now ≡ Some t) where
+module _ (c : BareCore) (q : ℕ) (law : IsLawfulState (view c)) (t : Tree) (now : c.past.moment c.past.now ≡ Some t) where
   -- what a pushdown puts in a node of its own is the page of a lawful tree
   pub pushed_tree : (since : ℕ) (x : Item) (p : ℕ) (l : Key) → IsNewLeaf c q x → (n j : ℕ) → IsFoundBelow c q since x p l n → IsLockedNode c q n → page_affected p x.key (c.heap.nodes n).page ≡ Place (Leaf j) →
       (s : Tree) × (page s ≡ page_forked (bit x.key p) p (Leaf x.number) (Place (Leaf j))) × IsTrie s × IsBuilt s

@@ -6,9 +6,9 @@ use Rattle.tries.specs.Tree.{Fixed, Tree, leaf, node, fork, page, IsTrie, IsTip,
 use Rattle.compound_node.specs.declared.entries.Entry.{Entry}
 use Rattle.pieces.specs.Piece.{Place}
 use Rattle.moments.specs.Heap.{Heap, IsShown}
-use Rattle.moments.specs.State.{Links, IsLawful}
+use Rattle.moments.specs.State.{Links, IsLawfulState}
 use Rattle.moments.specs.declared.Rec.TheVariants.{Node as a_node, Leaf as a_leaf}
-use Rattle.moments.specs.Core.{Core, view}
+use Rattle.moments.specs.Core.{BareCore, view}
 use Rattle.moments.specs.Steps.{IsMomentPublish, at_root}
 use Rattle.tries.specs.Content.{Item, items, IsMore, added, item}
 use Rattle.tries.proofs.Changes.{put, IsFlat, IsRemoved}
@@ -47,7 +47,7 @@ removed_open b r n y x a = record { trie = a.trie; less = a.less; keys = a.keys 
 leaf_node : {n m : ℕ} → a_node n ≡ a_leaf m → ⊥
 leaf_node e = cc
 
-module _ (c : Core) (q : ℕ) where
+module _ (c : BareCore) (q : ℕ) where
   pub hand_zero : (p n : ℕ) (k : Key) (v : ℕ) (b : Tree) → IsBuilt b → IsShown c.heap b → IsAtHand c q (fork p (leaf n k v) b) b
   hand_zero p n k v b i j = record {
     built = i;
@@ -64,7 +64,7 @@ module _ (c : Core) (q : ℕ) where
     goes = λ o h. elim h [ inl z ↦ inl z | inr e ↦ absurd (leaf_node e) ];
   }
 
-module _ (c : Core) (q : ℕ) (law : IsLawful (view c)) (t : Tree) (now : c.past.moment c.past.now ≡ Some t) where
+module _ (c : BareCore) (q : ℕ) (law : IsLawfulState (view c)) (t : Tree) (now : c.past.moment c.past.now ≡ Some t) where
   -- At an entry of a locked node: what stands there loses one leaf.
   pub slot_removed : {n : ℕ} {y : Fixed} {b s : Tree} (v : Within (node n y b) t) (w : Within s b) → IsFlat w → IsTip s → (r : Tree) → IsTip r →
       c.lock n ≡ Some q → IsAtHand c q s r → IsLower y.height r → (x : Item) → IsRemoved x s r →

@@ -7,11 +7,11 @@ use Rattle.compound_node.specs.declared.entries.Entry.{Entry}
 use Rattle.pieces.specs.Piece.{Place}
 use Rattle.moments.specs.Heap.{NodeWords, Heap, IsShown}
 use Rattle.tries.specs.Place.{Swap, swap, in_zero, in_one}
-use Rattle.moments.specs.State.{IsRecord, Links, Spans, IsLived, IsTop, IsLawful}
+use Rattle.moments.specs.State.{IsRecord, Links, Spans, IsLived, IsTop, IsLawfulState}
 use Rattle.moments.specs.declared.Rec.{Rec}
 use Rattle.moments.specs.declared.Rec.TheVariants.{Node as a_node}
-use Rattle.hot_model.specs.declared.Change.{Change}
-use Rattle.moments.specs.Core.{Fate, Free, Held, Ready, InTree, Unlinked, Marked, life_of, Core, view}
+use Rattle.finite_map.specs.declared.Change.{Change}
+use Rattle.moments.specs.Core.{Fate, Free, Held, Ready, InTree, Unlinked, Marked, life_of, BareCore, view}
 use Rattle.moments.specs.Steps.{at_root, at_slot, IsMomentPublish}
 use Rattle.tries.proofs.Changes.{put, IsFlat}
 use Rattle.rowex_walks.specs.Writer.{IsPageStored}
@@ -66,7 +66,7 @@ in_tree now (InTree s) i h = (s, refl)
 in_tree now (Unlinked s l q) i h = absurd (omega arith)
 in_tree now (Marked s l q) i h = absurd (omega arith)
 
-pub linked_fate : (c : Core) → IsLawful (view c) → (t : Tree) → c.past.moment c.past.now ≡ Some t → (r : Rec) → Links t r → (f : ℕ) × (c.fate r ≡ InTree f)
+pub linked_fate : (c : BareCore) → IsLawfulState (view c) → (t : Tree) → c.past.moment c.past.now ≡ Some t → (r : Rec) → Links t r → (f : ℕ) × (c.fate r ≡ InTree f)
 linked_fate c law t e r h =
     let u = links_within t r h in
     in_tree c.past.now (c.fate r) (law.lived r)
@@ -75,7 +75,7 @@ linked_fate c law t e r h =
 some_same : {a b : Tree} → Some a ≡ Some b → a ≡ b
 some_same e = cc
 
-pub fate_linked : (c : Core) → IsLawful (view c) → (t : Tree) → c.past.moment c.past.now ≡ Some t → (n f : ℕ) → c.fate (a_node n) ≡ InTree f → Links t (a_node n)
+pub fate_linked : (c : BareCore) → IsLawfulState (view c) → (t : Tree) → c.past.moment c.past.now ≡ Some t → (n f : ℕ) → c.fate (a_node n) ≡ InTree f → Links t (a_node n)
 fate_linked c law t e n f h =
     let u = (in_tree_now c law n f h).1 in
     subst (λ z. Links z (a_node n)) (some_same (sym u.is_moment ∙ e)) (within_links u.within (a_node n) u.is_record)
@@ -132,7 +132,7 @@ is_node? i n = go (cases_Bool (eqb i n))
 
 -- A store of one entry of a locked node, under which stood `s` and then stands `r`, is a legal publish of the tree
 -- with `r` in the place of `s`, where that is a bit trie.
-module _ (c : Core) (q : ℕ) (law : IsLawful (view c)) (t : Tree) (now : c.past.moment c.past.now ≡ Some t) where
+module _ (c : BareCore) (q : ℕ) (law : IsLawfulState (view c)) (t : Tree) (now : c.past.moment c.past.now ≡ Some t) where
   goes_now : (s r new : Tree) → ((i : Rec) → Links r i → Links new i) → ((i : Rec) → Links t i → Links new i ⊎ Links s i) → IsAtHand c q s r →
       (n f : ℕ) → c.fate (a_node n) ≡ InTree f → ¬ (Links new (a_node n)) → c.lock n ≡ Some q
   goes_now s r new b d hand n f e g =

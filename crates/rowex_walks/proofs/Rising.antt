@@ -12,8 +12,8 @@ use Rattle.tries.proofs.Changes.{put, IsPathBelow, IsFlat}
 use Rattle.tries.specs.Place.{with_page}
 use Rattle.tries.specs.Affected.{affected, IsPart, page_affected, page_forked, page_grown, IsPartPage, IsLowerPage, IsFirstBelow, IsTipPage}
 use Rattle.moments.specs.Heap.{NodeWords, Heap, IsShown}
-use Rattle.moments.specs.State.{IsFrom, IsLawful, Links}
-use Rattle.moments.specs.Core.{Core, view, Ready}
+use Rattle.moments.specs.State.{IsFrom, IsLawfulState, Links}
+use Rattle.moments.specs.Core.{BareCore, view, Ready}
 use Rattle.moments.specs.Steps.{IsMomentPublish}
 use Rattle.rowex_walks.specs.Writer.{added_change, IsPageStored, IsNewLeaf, IsFoundBelow}
 use Rattle.rowex_walks.specs.Rise.{IsNewPage, IsEntryFor, alone, in_node, IsUpper, Side, body, entry, IsRise, grows, pulls, copies, halves, stays_whole, wraps, IsSlotStore, IsBelowNode, entry_news, news_of, gone_of}
@@ -55,7 +55,7 @@ fork_parts (leaf n k v) f a b e = absurd cc
 fork_parts (node n k v) f a b e = absurd cc
 fork_parts (fork q s r) f a b e = let z : q ≡ f = cc in (s, r, ap (λ n. fork n s r) z, cc, cc)
 
-pub new_node : (c : Core) (q m : ℕ) (g : Fixed) (r : Tree) (x : Page) → page r ≡ x → IsNewPage c q m g x → IsNewNode c q m g r
+pub new_node : (c : BareCore) (q m : ℕ) (g : Fixed) (r : Tree) (x : Page) → page r ≡ x → IsNewPage c q m g x → IsNewNode c q m g r
 new_node c q m g r x e i = record {
   fate = i.fate;
   words = i.words ∙ ap (λ z. let s : NodeWords = record { fixed = g; page = z } in s) (sym e);
@@ -71,14 +71,14 @@ whole_affected p k (node n x b) f i = absurd f
 whole_affected p k (fork q a b) f i = rw (le-ltb q p i) refl
 
 -- a side of a cut body
-record IsHalfNew (c : Core) (q : ℕ) (d a : Tree) (new : List Rec) : Type 0 where
+record IsHalfNew (c : BareCore) (q : ℕ) (d a : Tree) (new : List Rec) : Type 0 where
   comes : (n : Rec) → Links a n → Links d n ⊎ IsOf n new
   came : (n : Rec) → IsOf n new → Links a n
   goes : (n : Rec) → Links d n → Links a n
   ready : (n : Rec) → IsOf n new → c.fate n ≡ Ready q
 
 -- A side of a cut body with the entry for it.
-half_trade : (c : Core) (q : ℕ) (x : Page) (d : Entry) (i : IsEntryFor c q x d) (s : Tree) → page s ≡ x → (u : Tree) × (page u ≡ Place d) × IsHalf c q s u × IsHalfNew c q s u (entry_news i)
+half_trade : (c : BareCore) (q : ℕ) (x : Page) (d : Entry) (i : IsEntryFor c q x d) (s : Tree) → page s ≡ x → (u : Tree) × (page u ≡ Place d) × IsHalf c q s u × IsHalfNew c q s u (entry_news i)
 half_trade c q x d (alone a e) s z = (
   s,
   z ∙ e,
@@ -98,7 +98,7 @@ half_trade c q x d (in_node m g i) s z = (
 )
 
 -- the cut: what was linked on either side is, with the new nodes
-cut_trade : (c : Core) (q : ℕ) (s : Tree) (f : ℕ) (d e a b : Tree) (new gone us vs : List Rec) → ((n : Rec) → Links s n → ¬ (c.fate n ≡ Ready q)) → IsTrade c q s (fork f d e) new gone →
+cut_trade : (c : BareCore) (q : ℕ) (s : Tree) (f : ℕ) (d e a b : Tree) (new gone us vs : List Rec) → ((n : Rec) → Links s n → ¬ (c.fate n ≡ Ready q)) → IsTrade c q s (fork f d e) new gone →
     IsHalfNew c q d a us → IsHalfNew c q e b vs → IsTrade c q s (fork f a b) (us ++ (vs ++ new)) gone
 cut_trade c q s f d e a b new gone us vs old t u v = record {
   trade = record {
@@ -133,7 +133,7 @@ cut_trade c q s f d e a b new gone us vs old t u v = record {
     from : (n : Rec) → Links d n ⊎ Links e n → Links s n ⊎ IsOf n (us ++ (vs ++ new))
     from n h = elim (t.trade.comes n h) [ inl y ↦ inl y | inr y ↦ inr (of_right n us (vs ++ new) (of_right n vs new y)) ]
 
-module _ (c : Core) (q : ℕ) (law : IsLawful (view c)) (t : Tree) (now : c.past.moment c.past.now ≡ Some t) (since : ℕ) (x : Item) (p : ℕ) (l : Key)
+module _ (c : BareCore) (q : ℕ) (law : IsLawfulState (view c)) (t : Tree) (now : c.past.moment c.past.now ≡ Some t) (since : ℕ) (x : Item) (p : ℕ) (l : Key)
     (new : IsNewLeaf c q x) where
   words_of : {n : ℕ} {y : Fixed} {b : Tree} → Within (node n y b) t → c.heap.nodes n ≡ record { fixed = y; page = page b }
   words_of v = (shown_within c.heap v (shown_now c law t now)).0
@@ -297,7 +297,7 @@ module _ (c : Core) (q : ℕ) (law : IsLawful (view c)) (t : Tree) (now : c.past
       (s, growth_root c q law t now since x p l new s e z lock (subst (λ u. IsGrowth c q x p u s) (sym is) a), subst (λ u. IsTrade c q u s (news_of i) (gone_of i)) (sym is) tr)
 
 -- The new leaf is among the records of a rise.
-pub leaf_risen : {c : Core} {q since : ℕ} {x : Item} {p : ℕ} {l : Key} {d : Side} {n : ℕ} {r : Page} (i : IsRise c q since x p l d n r) → IsOf (a_leaf x.number) (news_of i)
+pub leaf_risen : {c : BareCore} {q since : ℕ} {x : Item} {p : ℕ} {l : Key} {d : Side} {n : ℕ} {r : Page} (i : IsRise c q since x p l d n r) → IsOf (a_leaf x.number) (news_of i)
 leaf_risen (grows n found i) = inl refl
 leaf_risen (pulls o n r u i) = leaf_risen i
 leaf_risen (copies n r m g i z) = inr (leaf_risen i)

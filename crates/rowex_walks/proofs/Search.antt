@@ -7,7 +7,7 @@ use Rattle.compound_node.specs.declared.entries.Entry.TheVariants.{Leaf, Node}
 use Rattle.pieces.specs.Piece.{Place}
 use Rattle.tries.specs.Search.{Follows, seek}
 use Rattle.moments.specs.Heap.{NodeWords, LeafWords, IsCopied}
-use Rattle.moments.specs.State.{IsRecord, Spans, last_of, State, Stands, IsSameRecord, IsTop, IsReach, IsLawful, IsMissed, IsLed, IsHeldSince}
+use Rattle.moments.specs.State.{IsRecord, Spans, last_of, State, Stands, IsSameRecord, IsTop, IsReach, IsLawfulState, IsMissed, IsLed, IsHeldSince}
 use Rattle.moments.specs.declared.Rec.{Rec}
 use Rattle.moments.specs.declared.Rec.TheVariants.{Node as a_node, Leaf as a_leaf}
 use Rattle.compound_node.specs.Nodes.{height_of}
@@ -15,7 +15,7 @@ use Rattle.tries.proofs.Tries.{has?, same_key, follows_if_has, built_within}
 use Rattle.moments.proofs.States.{record_of_page, spans_last, spans_ended}
 
 -- What a record that stood at a moment of its life says of the words as they are now.
-pub now_same : (s : State) → IsLawful s → (r : Rec) (n : ℕ) (u : Tree) → Spans s.now (s.life r) n → Stands s.past n r u →
+pub now_same : (s : State) → IsLawfulState s → (r : Rec) (n : ℕ) (u : Tree) → Spans s.now (s.life r) n → Stands s.past n r u →
     (v : Tree) × Stands s.past (last_of s.now (s.life r)) r v × IsSameRecord u v × IsCopied s.heap v
 now_same s law r n u h st =
     let g = spans_last s.now (s.life r) n (law.lived r) h in
@@ -29,7 +29,7 @@ leaf_number : {n o : ℕ} → a_leaf n ≡ a_leaf o → n ≡ o
 leaf_number e = cc
 
 -- The fixed words of a node in reach are those that it had at any moment of it.
-pub fixed_now : (s : State) → IsLawful s → (m : ℕ) → IsReach s m → (n o a : ℕ) (x : Fixed) (b : Tree) → m ≤ n → n ≤ s.now →
+pub fixed_now : (s : State) → IsLawfulState s → (m : ℕ) → IsReach s m → (n o a : ℕ) (x : Fixed) (b : Tree) → m ≤ n → n ≤ s.now →
     Stands s.past n (a_node o) (node a x b) → (s.heap.nodes o).fixed ≡ x
 fixed_now s law m reach n o a x b lo hi st =
     let v = now_same s law (a_node o) n (node a x b) (reach n lo hi (a_node o) (node a x b) st) st in
@@ -41,7 +41,7 @@ fixed_now s law m reach n o a x b lo hi st =
     go (node c y d) i e f = ap (λ (z : NodeWords). z.fixed) (ap s.heap.nodes (node_number i) ∙ f) ∙ sym e.0
 
 -- And so are a leaf's.
-pub leaf_now : (s : State) → IsLawful s → (m : ℕ) → IsReach s m → (n o a : ℕ) (k : Key) (w : ℕ) → m ≤ n → n ≤ s.now →
+pub leaf_now : (s : State) → IsLawfulState s → (m : ℕ) → IsReach s m → (n o a : ℕ) (k : Key) (w : ℕ) → m ≤ n → n ≤ s.now →
     Stands s.past n (a_leaf o) (leaf a k w) → s.heap.leaves o ≡ record { key = k; value = w }
 leaf_now s law m reach n o a k w lo hi st =
     let v = now_same s law (a_leaf o) n (leaf a k w) (reach n lo hi (a_leaf o) (leaf a k w) st) st in
@@ -53,7 +53,7 @@ leaf_now s law m reach n o a k w lo hi st =
     go (leaf c l y) i e f = ap s.heap.leaves (leaf_number i) ∙ (f ∙ sym (ap₂ (λ a b. let z : LeafWords = record { key = a; value = b } in z) e.0 e.1))
 
 -- The load of the root leads to the root's entry, or finds the map empty.
-pub begin : (s : State) → IsLawful s → (m : ℕ) → m ≤ s.now → (k : Key) → (e : Entry) → s.root ≡ Some e → IsLed s.past m k e
+pub begin : (s : State) → IsLawfulState s → (m : ℕ) → m ≤ s.now → (k : Key) → (e : Entry) → s.root ≡ Some e → IsLed s.past m k e
 begin s law m lo k e h = go s.root (s.moment s.now) h refl law.top
   where
     go : (r : Option Entry) (f : Option Tree) → r ≡ Some e → s.moment s.now ≡ f → IsTop s.heap r f → IsLed s.past m k e
@@ -71,7 +71,7 @@ begin s law m lo k e h = go s.root (s.moment s.now) h refl law.top
             some_same : {a b : Tree} → Some a ≡ Some b → a ≡ b
             some_same e = cc
 
-pub begin_empty : (s : State) → IsLawful s → (m : ℕ) → m ≤ s.now → (k : Key) → s.root ≡ None → IsMissed s.past m k
+pub begin_empty : (s : State) → IsLawfulState s → (m : ℕ) → m ≤ s.now → (k : Key) → s.root ≡ None → IsMissed s.past m k
 begin_empty s law m lo k h = (s.now, lo, le_refl s.now, go s.root (s.moment s.now) h law.top)
   where
     go : (r : Option Entry) (f : Option Tree) → r ≡ None → IsTop s.heap r f → (t : Tree) → f ≡ Some t → Has t k → ⊥
@@ -87,7 +87,7 @@ holds_within (zero_side w) k v h = inl (holds_within w k v h)
 holds_within (one_side w) k v h = inr (holds_within w k v h)
 
 -- At a leaf the key was held with the leaf's value, or it was absent.
-pub end : (s : State) → IsLawful s → (m : ℕ) → IsReach s m → (k : Key) (n : ℕ) → IsLed s.past m k (Leaf n) →
+pub end : (s : State) → IsLawfulState s → (m : ℕ) → IsReach s m → (k : Key) (n : ℕ) → IsLed s.past m k (Leaf n) →
     ((k ≡ (s.heap.leaves n).key) × IsHeldSince s.past m k (s.heap.leaves n).value) ⊎ ((k ≢ (s.heap.leaves n).key) × IsMissed s.past m k)
 end s law m reach k n (o, node a x b, lo, hi, st, e, f) = absurd cc
 end s law m reach k n (o, fork a x b, lo, hi, st, e, f) = absurd cc
@@ -101,7 +101,7 @@ end s law m reach k n (o, leaf a l w, lo, hi, st, e, f) =
     go (no y) (inr z) = inr (y, z)
 
 -- The heights fall on the way down.
-pub height_falls : (s : State) → IsLawful s → (m : ℕ) → IsReach s m → (k : Key) (n h : ℕ) → IsLed s.past m k (Node n h) →
+pub height_falls : (s : State) → IsLawfulState s → (m : ℕ) → IsReach s m → (k : Key) (n h : ℕ) → IsLed s.past m k (Node n h) →
     height_of (seek k (s.heap.nodes n).page) < h
 height_falls s law m reach k n h (o, leaf a l w, lo, hi, st, e, f) = absurd cc
 height_falls s law m reach k n h (o, fork a l w, lo, hi, st, e, f) = absurd cc

@@ -6,9 +6,9 @@ use Rattle.compound_node.specs.declared.entries.Entry.TheVariants.{Leaf, Node}
 use Rattle.pieces.specs.Piece.{Place}
 use Rattle.tries.specs.Search.{child, seek}
 use Rattle.moments.specs.Heap.{NodeWords, LeafWords, IsShown}
-use Rattle.moments.specs.State.{IsLawful, IsTop}
+use Rattle.moments.specs.State.{IsLawfulState, IsTop}
 use Rattle.moments.specs.declared.Rec.TheVariants.{Node as a_node}
-use Rattle.moments.specs.Core.{InTree, Core, view}
+use Rattle.moments.specs.Core.{InTree, BareCore, view}
 use Rattle.tries.proofs.Tries.{within_trans, page_child, within_child}
 use Rattle.moments.proofs.Heaps.{shown_within, leaf_parts}
 use Rattle.moments.proofs.Growth.{in_tree_now}
@@ -21,7 +21,7 @@ node_parts e = cc
 some_same : {a b : Tree} → Some a ≡ Some b → a ≡ b
 some_same e = cc
 
-module _ (c : Core) (law : IsLawful (view c)) (t : Tree) (now : c.past.moment c.past.now ≡ Some t) where
+module _ (c : BareCore) (law : IsLawfulState (view c)) (t : Tree) (now : c.past.moment c.past.now ≡ Some t) where
   -- A node that is in the tree stands in the present tree with its words.
   pub stands_now : (n f : ℕ) → c.fate (a_node n) ≡ InTree f →
       (b : Tree) × Within (node n (c.heap.nodes n).fixed b) t × (page b ≡ (c.heap.nodes n).page)
@@ -81,10 +81,10 @@ module _ (c : Core) (law : IsLawful (view c)) (t : Tree) (now : c.past.moment c.
   root_leaf j e = leaf_of t (shown_now c law t now) (root_page (Leaf j) e)
 
 -- The tree of the present, where there is a node in it or a root entry.
-pub now_standing : (c : Core) → IsLawful (view c) → (n f : ℕ) → c.fate (a_node n) ≡ InTree f → (t : Tree) × (c.past.moment c.past.now ≡ Some t)
+pub now_standing : (c : BareCore) → IsLawfulState (view c) → (n f : ℕ) → c.fate (a_node n) ≡ InTree f → (t : Tree) × (c.past.moment c.past.now ≡ Some t)
 now_standing c law n f e = let u = (in_tree_now c law n f e).1 in (u.tree, u.is_moment)
 
-pub now_rooted : (c : Core) → IsLawful (view c) → (e : Entry) → c.root ≡ Some e → (t : Tree) × (c.past.moment c.past.now ≡ Some t)
+pub now_rooted : (c : BareCore) → IsLawfulState (view c) → (e : Entry) → c.root ≡ Some e → (t : Tree) × (c.past.moment c.past.now ≡ Some t)
 now_rooted c law e h = go c.root (c.past.moment c.past.now) h refl law.top
   where
     go : (r : Option Entry) (f : Option Tree) → r ≡ Some e → c.past.moment c.past.now ≡ f → IsTop c.heap r f → (t : Tree) × (c.past.moment c.past.now ≡ Some t)
@@ -92,7 +92,7 @@ now_rooted c law e h = go c.root (c.past.moment c.past.now) h refl law.top
     go (Some d) None a b i = absurd i
     go (Some d) (Some u) a b i = (u, b)
 
-pub now_empty : (c : Core) → IsLawful (view c) → c.root ≡ None → c.past.moment c.past.now ≡ None
+pub now_empty : (c : BareCore) → IsLawfulState (view c) → c.root ≡ None → c.past.moment c.past.now ≡ None
 now_empty c law h = go c.root (c.past.moment c.past.now) h refl law.top
   where
     go : (r : Option Entry) (f : Option Tree) → r ≡ None → c.past.moment c.past.now ≡ f → IsTop c.heap r f → c.past.moment c.past.now ≡ None

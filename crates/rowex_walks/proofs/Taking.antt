@@ -10,8 +10,8 @@ use Rattle.tries.proofs.Changes.{put, IsRemoved}
 use Rattle.tries.specs.Place.{with_page, page_without}
 use Rattle.tries.specs.Affected.{IsLowerPage, IsTipPage}
 use Rattle.moments.specs.Heap.{NodeWords, Heap, IsShown}
-use Rattle.moments.specs.State.{IsLawful, Links}
-use Rattle.moments.specs.Core.{Core, Ready, InTree, view}
+use Rattle.moments.specs.State.{IsLawfulState, Links}
+use Rattle.moments.specs.Core.{BareCore, Ready, InTree, view}
 use Rattle.moments.specs.declared.Rec.{Rec}
 use Rattle.moments.specs.declared.Rec.TheVariants.{Node as a_node, Leaf as a_leaf}
 use Rattle.moments.specs.Steps.{IsMomentPublish}
@@ -34,7 +34,7 @@ use Rattle.rowex_walks.proofs.AtHand.{IsAtHand}
 use Rattle.tries.specs.Content.{item}
 
 -- A body without one of its leaves: what is left, its page, that the pass has it at hand, and that the leaf alone goes.
-abbrev IsWithout : Core → ℕ → Key → ℕ → ℕ → Tree → Type 0
+abbrev IsWithout : BareCore → ℕ → Key → ℕ → ℕ → Tree → Type 0
 IsWithout c q k j a b = (s : Tree) × (page s ≡ page_without k (page b)) × IsRemoved (item j k a) b s × IsAtHand c q b s × IsTraded b s [] (a_leaf j ∷ [])
 
 -- a fork without one side, a leaf
@@ -54,7 +54,7 @@ side_zero m p j k a x i h = record {
   went = λ r l. elim l [ inl e ↦ (inl e, λ o. not_beside m p r (leaf j k a) x i h e o) | inr y ↦ absurd y ];
 }
 
-module _ (c : Core) (q : ℕ) (k : Key) (j a : ℕ) where
+module _ (c : BareCore) (q : ℕ) (k : Key) (j a : ℕ) where
   without_one : (p : ℕ) (x y : Tree) → bit k p ≡ true → child k y ≡ leaf j k a → IsTrie (fork p x y) → IsBuilt (fork p x y) → IsShown c.heap (fork p x y) →
       (IsFork y → IsWithout c q k j a y) → IsWithout c q k j a (fork p x y)
   without_one p x (leaf n l v) e f i b h rest =
@@ -96,18 +96,18 @@ module _ (c : Core) (q : ℕ) (k : Key) (j a : ℕ) where
       go false g z l r = without_zero p x y g z i o h (λ w. l w z)
 
 -- What is left of a locked node, in the place of its entry.
-abbrev IsLeft : Core → ℕ → Key → ℕ → ℕ → ℕ → Entry → Tree → List Rec → Type 0
-IsLeft c q k j a n e u new = (s : Tree) × (page s ≡ Place e) × IsRemoved (item j k a) u s × IsAtHand c q u s × IsTrade c q u s new (a_node n ∷ a_leaf j ∷ [])
+abbrev MayStandLeft : BareCore → ℕ → Key → ℕ → ℕ → ℕ → Entry → Tree → List Rec → Type 0
+MayStandLeft c q k j a n e u new = (s : Tree) × (page s ≡ Place e) × IsRemoved (item j k a) u s × IsAtHand c q u s × IsTrade c q u s new (a_node n ∷ a_leaf j ∷ [])
 
 node_leaf : {n m : ℕ} → a_node n ≡ a_leaf m → ⊥
 node_leaf e = cc
 
-pub same_entry : (c : Core) (q : ℕ) (p r : Page) → p ≡ r → (e : Entry) (i : IsEntryFor c q p e) → (z : IsEntryFor c q r e) × (entry_news z ≡ entry_news i)
+pub same_entry : (c : BareCore) (q : ℕ) (p r : Page) → p ≡ r → (e : Entry) (i : IsEntryFor c q p e) → (z : IsEntryFor c q r e) × (entry_news z ≡ entry_news i)
 same_entry c q p r g e (alone d z) = (alone d (sym g ∙ z), refl)
 same_entry c q p r g e (in_node m f z) = (in_node m f (subst (λ p. IsNewPage c q m f p) g z), refl)
 
-left_over : (c : Core) (q : ℕ) (k : Key) (j a n : ℕ) (y : Fixed) (b : Tree) (e : Entry) → c.lock n ≡ Some q → (i : IsEntryFor c q (page_without k (page b)) e) → ((i : Rec) → Links (node n y b) i → ¬ (c.fate i ≡ Ready q)) →
-    IsBuilt (node n y b) → IsShown c.heap (node n y b) → IsWithout c q k j a b → IsLeft c q k j a n e (node n y b) (entry_news i)
+left_over : (c : BareCore) (q : ℕ) (k : Key) (j a n : ℕ) (y : Fixed) (b : Tree) (e : Entry) → c.lock n ≡ Some q → (i : IsEntryFor c q (page_without k (page b)) e) → ((i : Rec) → Links (node n y b) i → ¬ (c.fate i ≡ Ready q)) →
+    IsBuilt (node n y b) → IsShown c.heap (node n y b) → IsWithout c q k j a b → MayStandLeft c q k j a n e (node n y b) (entry_news i)
 left_over c q k j a n y b e lock (alone d z) old built shown (s, pg, r, h, tr) = (
   s,
   pg ∙ z,
@@ -133,7 +133,7 @@ left_over c q k j a n y b e lock (in_node m g i) old built shown (s, pg, r, h, t
   },
 )
 
-module _ (c : Core) (q : ℕ) (law : IsLawful (view c)) (k : Key) (n j : ℕ) (seen : IsLeafOf c q k n j) (t : Tree) (now : c.past.moment c.past.now ≡ Some t) where
+module _ (c : BareCore) (q : ℕ) (law : IsLawfulState (view c)) (k : Key) (n j : ℕ) (seen : IsLeafOf c q k n j) (t : Tree) (now : c.past.moment c.past.now ≡ Some t) where
   -- what is left of the node is the page of a lawful tree
   pub left_tree : (f : ℕ) → c.fate (a_node n) ≡ InTree f → (s : Tree) × (page s ≡ page_without k (c.heap.nodes n).page) × IsTrie s × IsBuilt s
   left_tree f fate =
@@ -146,7 +146,7 @@ module _ (c : Core) (q : ℕ) (law : IsLawful (view c)) (k : Key) (n j : ℕ) (s
       (what.0, what.1 ∙ ap (page_without k) pg, what.2.trie, what.3.built)
 
   left_now : (e : Entry) (i : IsEntryFor c q (page_without k (c.heap.nodes n).page) e) → (y : Fixed) (b : Tree) → Within (node n y b) t →
-      IsLeft c q k j (c.heap.leaves j).value n e (node n y b) (entry_news i)
+      MayStandLeft c q k j (c.heap.leaves j).value n e (node n y b) (entry_news i)
   left_now e i y b v =
       let shown = shown_within c.heap v (shown_now c law t now) in
       let pg : (c.heap.nodes n).page ≡ page b = ap (λ (w : NodeWords). w.page) shown.0 in
@@ -155,7 +155,7 @@ module _ (c : Core) (q : ℕ) (law : IsLawful (view c)) (k : Key) (n j : ℕ) (s
       entry_leaf c law t now v k j seen.entry ∙ ap (λ z. leaf j z (c.heap.leaves j).value) seen.key in
       let what = without c q k j (c.heap.leaves j).value b built.0 old (trie_within (within_trans (inside here) v) (trie_now c law t now)) built.2 shown.1 in
       let (z, news) = same_entry c q (page_without k (c.heap.nodes n).page) (page_without k (page b)) (ap (page_without k) pg) e i in
-      subst (λ us. IsLeft c q k j (c.heap.leaves j).value n e (node n y b) us) news (left_over c q k j (c.heap.leaves j).value n y b e seen.lock z (old_now c q law t now v) built shown what)
+      subst (λ us. MayStandLeft c q k j (c.heap.leaves j).value n e (node n y b) us) news (left_over c q k j (c.heap.leaves j).value n y b e seen.lock z (old_now c q law t now v) built shown what)
 
   -- At an entry of a locked node.
   pub remove_slot_now : (o : ℕ) (e : Entry) (i : IsEntryFor c q (page_without k (c.heap.nodes n).page) e) → IsOver c q k o n → IsBelowNode c o e →

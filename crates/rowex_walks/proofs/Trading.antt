@@ -7,7 +7,7 @@ use Rattle.tries.specs.Content.{Item, first}
 use Rattle.tries.proofs.Places.{grown}
 use Rattle.tries.proofs.Tries.{has_first, has_within, trie_within, built_within}
 use Rattle.moments.specs.Heap.{Heap, IsShown, NodeWords, LeafWords}
-use Rattle.moments.specs.State.{Links, IsRecord, IsLawful}
+use Rattle.moments.specs.State.{Links, IsRecord, IsLawfulState}
 use Rattle.moments.specs.declared.Rec.{Rec}
 use Rattle.moments.specs.declared.Rec.TheVariants.{Node as a_node, Leaf as a_leaf}
 use Rattle.moments.proofs.Stored.{not_above}
@@ -18,7 +18,7 @@ use Rattle.pieces.specs.Piece.{Place}
 use Rattle.rowex_walks.proofs.Replaced.{links_put, put_links, links_new, links_old, linked_fate}
 use Rattle.moments.specs.Trades.{IsOf, AreApart}
 use Rattle.tries.specs.Keys.{Key, bit}
-use Rattle.moments.specs.Core.{Core, Ready, InTree, view}
+use Rattle.moments.specs.Core.{BareCore, Ready, InTree, view}
 use Rattle.rowex_walks.specs.Writer.{IsNewLeaf}
 use Rattle.rowex_walks.proofs.Now.{built_now, shown_now, trie_now}
 
@@ -134,7 +134,7 @@ traded_grown true p s x fresh = record {
 }
 
 -- What a pass trades: what it links anew is its own and ready, and no record goes twice.
-pub record IsTrade (c : Core) (q : ℕ) (s r : Tree) (new gone : List Rec) : Type 0 where
+pub record IsTrade (c : BareCore) (q : ℕ) (s r : Tree) (new gone : List Rec) : Type 0 where
   pub trade : IsTraded s r new gone
   pub ready : (n : Rec) → IsOf n new → c.fate n ≡ Ready q
   pub apart : AreApart gone
@@ -142,7 +142,7 @@ pub record IsTrade (c : Core) (q : ℕ) (s r : Tree) (new gone : List Rec) : Typ
 tree_ready : {f q : ℕ} → InTree f ≡ Ready q → ⊥
 tree_ready e = cc
 
-module _ (c : Core) (q : ℕ) (law : IsLawful (view c)) (t : Tree) (now : c.past.moment c.past.now ≡ Some t) where
+module _ (c : BareCore) (q : ℕ) (law : IsLawfulState (view c)) (t : Tree) (now : c.past.moment c.past.now ≡ Some t) where
   -- what is linked now is no new record
   pub old_now : {s : Tree} → Within s t → (i : Rec) → Links s i → ¬ (c.fate i ≡ Ready q)
   old_now w i h e = let f = linked_fate c law t now i (links_old w i h) in tree_ready (sym f.1 ∙ e)

@@ -9,8 +9,8 @@ use Rattle.tries.specs.Search.{seek}
 use Rattle.tries.proofs.Changes.{IsPathBelow}
 use Rattle.tries.specs.Affected.{page_affected, IsFirstBelow, IsTipPage}
 use Rattle.moments.specs.Heap.{NodeWords}
-use Rattle.moments.specs.State.{IsLawful}
-use Rattle.moments.specs.Core.{Core, view}
+use Rattle.moments.specs.State.{IsLawfulState}
+use Rattle.moments.specs.Core.{BareCore, view}
 use Rattle.rowex_walks.specs.Rise.{IsLockedNode}
 use Rattle.rowex_walks.specs.Statements.{UpperGoesOn}
 use Rattle.tries.proofs.Tries.{trie_within, built_within, within_trans}
@@ -27,7 +27,7 @@ first_below p q k x y tip = go (cases_lt q p)
     go (inl h) = h
     go (inr h) = absurd (let z : IsTipPage (Fork q x y) = rw (le-ltb q p h) at tip in z)
 
-module _ (c : Core) (q : ℕ) (law : IsLawful (view c)) (t : Tree) (now : c.past.moment c.past.now ≡ Some t) (k : Key) (p : ℕ) where
+module _ (c : BareCore) (q : ℕ) (law : IsLawfulState (view c)) (t : Tree) (now : c.past.moment c.past.now ≡ Some t) (k : Key) (p : ℕ) where
   -- what is below p in a node is so in the one above it
   upper_below : (o n h : ℕ) → IsLockedNode c q o → seek k (c.heap.nodes o).page ≡ Node n h → IsFirstBelow p (c.heap.nodes n).page → IsFirstBelow p (c.heap.nodes o).page
   upper_below o n h locked names low = go (stands_now c law t now o locked.linked locked.fate)

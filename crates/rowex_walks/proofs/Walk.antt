@@ -8,7 +8,7 @@ use Rattle.pieces.specs.Piece.{size}
 use Rattle.moments.specs.State.{Past, IsKeptSince, IsSteady}
 use Rattle.moments.specs.declared.Rec.TheVariants.{Node as a_node}
 use Rattle.tries.specs.Place.{spot}
-use Rattle.rowex_walks.specs.Scan.{IsPlaced, IsShaped, IsRead, MayStandAt, IsOn, Frame, IsStack, IsPassed, IsRight, IsAhead, Pair, Every, IsListed, Range, IsInRange, IsScan, IsComplete, IsUpTo, IsCut}
+use Rattle.rowex_walks.specs.Scan.{IsPlaced, IsShaped, IsRead, MayStandAt, IsOn, Frame, IsStack, IsPassed, IsRight, IsAhead, Pair, Every, IsKeyListed, Range, IsInRange, IsScan, IsComplete, IsUpTo, IsCut}
 use Rattle.rowex_walks.proofs.Measure.{next}
 use Rattle.tries.proofs.Places.{spot_below}
 use Rattle.rowex_walks.proofs.Scans.{fit_order, fit_down, fit_leaf, on_fit, on_down, on_leaf, read_held, before_trans, never_before}
@@ -102,8 +102,8 @@ scan_push s m law g f fs xs w c h p at sh = record {
               inl (there, omega arith)
         ]
 
-    go : (k : Key) → IsKeptSince s m k → IsInRange g k → IsListed k xs ⊎ IsAhead s m k (f ∷ fs) →
-        IsListed k xs ⊎ IsAhead s m k (record { number = c; height = h; shape = p; place = 0 } ∷ f ∷ fs)
+    go : (k : Key) → IsKeptSince s m k → IsInRange g k → IsKeyListed k xs ⊎ IsAhead s m k (f ∷ fs) →
+        IsKeyListed k xs ⊎ IsAhead s m k (record { number = c; height = h; shape = p; place = 0 } ∷ f ∷ fs)
     go k kept r (inl y) = inl y
     go k kept r (inr y) = inr (ahead k kept r y)
 
@@ -125,7 +125,7 @@ scan_pop s m law g f e fs xs w over = record {
     back k (inr (inl (j, lt, x))) = inl (j, omega arith, x)
     back k (inr (inr x)) = inr x
 
-    go : (k : Key) → IsListed k xs ⊎ IsAhead s m k (f ∷ e ∷ fs) → IsListed k xs ⊎ IsAhead s m k (next e ∷ fs)
+    go : (k : Key) → IsKeyListed k xs ⊎ IsAhead s m k (f ∷ e ∷ fs) → IsKeyListed k xs ⊎ IsAhead s m k (next e ∷ fs)
     go k (inl y) = inl y
     go k (inr (inl (on, le))) = let b = spot_below k f.shape in absurd (omega arith)
     go k (inr (inr (inl (on, lt)))) = inr (inl (on, omega arith))
@@ -142,7 +142,7 @@ scan_end s m law g f xs w over = record {
   covered = λ k kept r. go k (w.covered k kept r);
 }
   where
-    go : (k : Key) → IsListed k xs ⊎ IsAhead s m k (f ∷ []) → IsListed k xs
+    go : (k : Key) → IsKeyListed k xs ⊎ IsAhead s m k (f ∷ []) → IsKeyListed k xs
     go k (inl y) = y
     go k (inr (inr y)) = absurd y
     go k (inr (inl (on, le))) = let b = spot_below k f.shape in absurd (omega arith)
@@ -150,7 +150,7 @@ scan_end s m law g f xs w over = record {
 -- A leaf is loaded at the place. The keys that were there all the time are its own, or still ahead.
 leaf_covers : (s : Past) (m : ℕ) → IsSteady s m → (g : Range) (f : Frame) (fs : List Frame) (xs : List Pair) → IsScan s m g (f ∷ fs) xs →
     (n : ℕ) (l : Key) (v : ℕ) → IsPlaced s m f.number f.place (Leaf n) → IsRead s m n l v → (k : Key) → IsKeptSince s m k → IsInRange g k →
-    IsListed k xs ⊎ ((k ≡ l) ⊎ IsAhead s m k (next f ∷ fs))
+    IsKeyListed k xs ⊎ ((k ≡ l) ⊎ IsAhead s m k (next f ∷ fs))
 leaf_covers s m law g f fs xs w n l v at is k kept r = go (w.covered k kept r)
   where
     step : (IsOn s m k (a_node f.number) × (spot k f.shape ≡ f.place)) ⊎ IsAhead s m k (next f ∷ fs) → (k ≡ l) ⊎ IsAhead s m k (next f ∷ fs)
@@ -158,7 +158,7 @@ leaf_covers s m law g f fs xs w n l v at is k kept r = go (w.covered k kept r)
     step (inl (on, e)) =
         inl (on_leaf s m law n k l v (on_down s m law k kept f.number f.place f.shape (Leaf n) (stack_shape s m f fs w.stack) on e at) is)
 
-    go : IsListed k xs ⊎ IsAhead s m k (f ∷ fs) → IsListed k xs ⊎ ((k ≡ l) ⊎ IsAhead s m k (next f ∷ fs))
+    go : IsKeyListed k xs ⊎ IsAhead s m k (f ∷ fs) → IsKeyListed k xs ⊎ ((k ≡ l) ⊎ IsAhead s m k (next f ∷ fs))
     go (inl y) = inl y
     go (inr y) = inr (step (ahead_next s m k f fs y))
 
@@ -175,7 +175,7 @@ scan_skip s m law g f fs xs w n l v at is low = record {
   covered = λ k kept r. go k r (leaf_covers s m law g f fs xs w n l v at is k kept r);
 }
   where
-    go : (k : Key) → IsInRange g k → IsListed k xs ⊎ ((k ≡ l) ⊎ IsAhead s m k (next f ∷ fs)) → IsListed k xs ⊎ IsAhead s m k (next f ∷ fs)
+    go : (k : Key) → IsInRange g k → IsKeyListed k xs ⊎ ((k ≡ l) ⊎ IsAhead s m k (next f ∷ fs)) → IsKeyListed k xs ⊎ IsAhead s m k (next f ∷ fs)
     go k r (inl y) = inl y
     go k r (inr (inr y)) = inr y
     go k r (inr (inl e)) = absurd (never_before k g.from (subst (λ z. IsBefore z g.from) (sym e) low) r.0)
@@ -204,8 +204,8 @@ scan_take s m law g f fs xs w n l v at is r room = record {
     fit : MayStandAt s m f.number f.place l
     fit = fit_leaf s m law f.number f.place n l v at is
 
-    go : (k : Key) → IsListed k xs ⊎ ((k ≡ l) ⊎ IsAhead s m k (next f ∷ fs)) →
-        IsListed k (record { key = l; value = v } ∷ xs) ⊎ IsAhead s m k (next f ∷ fs)
+    go : (k : Key) → IsKeyListed k xs ⊎ ((k ≡ l) ⊎ IsAhead s m k (next f ∷ fs)) →
+        IsKeyListed k (record { key = l; value = v } ∷ xs) ⊎ IsAhead s m k (next f ∷ fs)
     go k (inl y) = inl (inr y)
     go k (inr (inr y)) = inr y
     go k (inr (inl e)) = inl (inl e)
@@ -224,7 +224,7 @@ scan_past s m law g f fs xs w n l v at is high = record {
     fit : MayStandAt s m f.number f.place l
     fit = fit_leaf s m law f.number f.place n l v at is
 
-    go : (k : Key) → IsInRange g k → IsListed k xs ⊎ ((k ≡ l) ⊎ IsAhead s m k (next f ∷ fs)) → IsListed k xs
+    go : (k : Key) → IsInRange g k → IsKeyListed k xs ⊎ ((k ≡ l) ⊎ IsAhead s m k (next f ∷ fs)) → IsKeyListed k xs
     go k r (inl y) = y
     go k r (inr (inl e)) = absurd (never_before g.upto k (subst (IsBefore g.upto) (sym e) high) r.1)
     go k r (inr (inr y)) = absurd (never_before g.upto k
@@ -250,7 +250,7 @@ scan_cut s m law g f fs xs w n l v at is r full = record {
   covered = λ k kept q u. go k xs w.passed u (w.covered k kept q);
 }
   where
-    go : (k : Key) (ys : List Pair) → Every (λ x. IsPassed s m x.key (f ∷ fs)) ys → IsUpTo k ys → IsListed k xs ⊎ IsAhead s m k (f ∷ fs) → IsListed k xs
+    go : (k : Key) (ys : List Pair) → Every (λ x. IsPassed s m x.key (f ∷ fs)) ys → IsUpTo k ys → IsKeyListed k xs ⊎ IsAhead s m k (f ∷ fs) → IsKeyListed k xs
     go k ys p u (inl y) = y
     go k [] p u (inr y) = absurd u
     go k (x ∷ ys) p u (inr y) = absurd (never_before x.key k (ahead_after s m law (f ∷ fs) w.stack x.key k p.0 y) u)

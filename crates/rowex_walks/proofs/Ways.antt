@@ -15,7 +15,7 @@ use Rattle.moments.specs.declared.Rec.TheVariants.{Node as a_node, Leaf as a_lea
 use Rattle.moments.proofs.Stored.{lower_within}
 use Rattle.rowex_walks.specs.Scan.{IsRooted, IsBlank, at_place, IsPlaced}
 use Rattle.rowex_walks.specs.Ways.{IsOnWay, IsWayFrom, from_leaf, from_node, WayBegins, WayGoesOn, WayEnds, WayOfLeaf, WayIsBelow, StillRooted, StillPlaced, StillGrows, OneBody, RootedSame, PlacedSame, FoundSame}
-use Rattle.rowex_walks.specs.Writer.{IsBegun, IsWayBelow, at_leaf, below}
+use Rattle.rowex_walks.specs.Writer.{BeganAt, IsWayBelow, at_leaf, below}
 use Rattle.rowex_walks.proofs.Scans.{node_of, leaf_of, within_at, placed_stands, at_spot, shaped}
 use Rattle.tries.proofs.Places.{spot_shape}
 use Rattle.tries.proofs.Contents.{found_child}
@@ -70,7 +70,7 @@ way_begins s m steady a h r x (n, u, lo, hi, st, pg) (b, stood, shape_is) first_
         let at : f ≡ r = ap first_position is ∙ first_is in
         let like : Key = first c in (
           like,
-          subst (λ z. IsBegun s m z like a) at (stood.at, stood.fixed, c, e, stood.since, stood.until, stands, inl (has_first c)),
+          subst (λ z. BeganAt s m z like a) at (stood.at, stood.fixed, c, e, stood.since, stood.until, stands, inl (has_first c)),
           (
             stood.at,
             node a stood.fixed (fork f c e),

@@ -5,7 +5,7 @@ use Rattle.tries.specs.Place.{spot}
 use Rattle.moments.specs.Frames.{IsGrown}
 use Rattle.moments.specs.State.{Past, IsHeldSince, IsKeptSince, IsSteady}
 use Rattle.moments.specs.declared.Rec.TheVariants.{Node as a_node}
-use Rattle.rowex_walks.specs.Scan.{MayStandAt, IsOn, Frame, IsStack, Pair, Every, IsListed, Range, IsInRange}
+use Rattle.rowex_walks.specs.Scan.{MayStandAt, IsOn, Frame, IsStack, Pair, Every, IsKeyListed, Range, IsInRange}
 
 -- The key may stand at the record's place, or right of it.
 abbrev pub IsFromOn : Past → ℕ → ℕ → ℕ → Key → Type 0
@@ -40,7 +40,7 @@ pub record IsDownScan (s : Past) (m : ℕ) (g : Range) (fs : List Frame) (xs : L
   pub held : Every (λ x. IsHeldSince s m x.key x.value) xs
   pub passed : Every (λ x. IsPassedDown s m x.key fs) xs
   pub short : length xs ≤ g.limit
-  pub covered : (k : Key) → IsKeptSince s m k → IsInRange g k → IsListed k xs ⊎ IsLeftOfOne s m k fs
+  pub covered : (k : Key) → IsKeptSince s m k → IsInRange g k → IsKeyListed k xs ⊎ IsLeftOfOne s m k fs
 
 -- What it promises, by moments: complete, or cut at the limit.
 pub record IsDownComplete (s : Past) (m : ℕ) (g : Range) (xs : List Pair) : Type 0 where
@@ -48,7 +48,7 @@ pub record IsDownComplete (s : Past) (m : ℕ) (g : Range) (xs : List Pair) : Ty
   pub within : Every (λ x. IsInRange g x.key) xs
   pub held : Every (λ x. IsHeldSince s m x.key x.value) xs
   pub short : length xs ≤ g.limit
-  pub covered : (k : Key) → IsKeptSince s m k → IsInRange g k → IsListed k xs
+  pub covered : (k : Key) → IsKeptSince s m k → IsInRange g k → IsKeyListed k xs
 
 -- The key is that of the newest pair, or above it.
 abbrev pub IsDownTo : Key → List Pair → Type 0
@@ -61,7 +61,7 @@ pub record IsDownCut (s : Past) (m : ℕ) (g : Range) (xs : List Pair) : Type 0 
   pub held : Every (λ x. IsHeldSince s m x.key x.value) xs
   pub full : length xs ≡ g.limit
   pub further : (k : Key) × (v : ℕ) × IsInRange g k × IsHeldSince s m k v × Every (λ x. IsBefore k x.key) xs
-  pub covered : (k : Key) → IsKeptSince s m k → IsInRange g k → IsDownTo k xs → IsListed k xs
+  pub covered : (k : Key) → IsKeptSince s m k → IsInRange g k → IsDownTo k xs → IsKeyListed k xs
 
 -- Each key that may stand left of this place of the record is below the key, and stays so while the past grows.
 abbrev pub IsBeneath : Past → ℕ → Key → ℕ → ℕ → Type 0

@@ -13,11 +13,11 @@ use Rattle.moments.specs.Heap.{Heap}
 use Rattle.moments.specs.State.{IsFrom}
 use Rattle.moments.specs.declared.Rec.{Rec}
 use Rattle.moments.specs.declared.Rec.TheVariants.{Node as a_node, Leaf as a_leaf}
-use Rattle.moments.specs.Core.{Ready, InTree, Core}
+use Rattle.moments.specs.Core.{Ready, InTree, BareCore}
 use Rattle.rowex_walks.specs.Writer.{IsFoundBelow, IsPageStored}
 
 -- A new node record that the pass has filled with this page and made ready.
-pub record IsNewPage (c : Core) (q m : ℕ) (g : Fixed) (x : Page) : Type 0 where
+pub record IsNewPage (c : BareCore) (q m : ℕ) (g : Fixed) (x : Page) : Type 0 where
   pub fate : c.fate (a_node m) ≡ Ready q
   pub words : c.heap.nodes m ≡ record { fixed = g; page = x }
   pub two : IsTipPage x → ⊥
@@ -25,24 +25,24 @@ pub record IsNewPage (c : Core) (q m : ℕ) (g : Fixed) (x : Page) : Type 0 wher
   pub fit : IsFit g x
 
 -- The entry for a page: the one entry that it is, or a new node of it.
-pub data IsEntryFor (c : Core) (q : ℕ) (x : Page) : Entry → Type 0 where
+pub data IsEntryFor (c : BareCore) (q : ℕ) (x : Page) : Entry → Type 0 where
   alone : (e : Entry) → x ≡ Place e → IsEntryFor c q x e
   in_node : (m : ℕ) (g : Fixed) → IsNewPage c q m g x → IsEntryFor c q x (Node m g.height)
 
 -- A node in the tree that the pass has locked.
-pub record IsLockedNode (c : Core) (q n : ℕ) : Type 0 where
+pub record IsLockedNode (c : BareCore) (q n : ℕ) : Type 0 where
   pub lock : c.lock n ≡ Some q
   pub linked : ℕ
   pub fate : c.fate (a_node n) ≡ InTree linked
 
 -- Such a node's entry on the key's way names node `n`.
-pub record IsOver (c : Core) (q : ℕ) (k : Key) (o n : ℕ) : Type 0 where
+pub record IsOver (c : BareCore) (q : ℕ) (k : Key) (o n : ℕ) : Type 0 where
   pub locked : IsLockedNode c q o
   pub height : ℕ
   pub entry : seek k (c.heap.nodes o).page ≡ Node n height
 
 -- And it is the place of `n` alone that an insertion at `p` affects.
-pub record IsUpper (c : Core) (q : ℕ) (k : Key) (p o n : ℕ) : Type 0 where
+pub record IsUpper (c : BareCore) (q : ℕ) (k : Key) (p o n : ℕ) : Type 0 where
   pub over : IsOver c q k o n
   pub path : IsFirstBelow p (c.heap.nodes n).page ⊎ IsTipPage (page_affected p k (c.heap.nodes o).page)
 
@@ -53,7 +53,7 @@ pub data Side : Type 0 where
 
 -- From the lowest locked node upwards: the page that the node's body becomes, and the page, one entry or a fork of two,
 -- that takes the place of its entry.
-pub data IsRise (c : Core) (q since : ℕ) (x : Item) (p : ℕ) (l : Key) : Side → ℕ → Page → Type 0 where
+pub data IsRise (c : BareCore) (q since : ℕ) (x : Item) (p : ℕ) (l : Key) : Side → ℕ → Page → Type 0 where
   -- the lowest node gets the new leaf
   grows : (n : ℕ) → IsFoundBelow c q since x p l n → IsPartPage (page_affected p x.key (c.heap.nodes n).page) →
       IsRise c q since x p l body n (page_grown p x.key (Leaf x.number) (c.heap.nodes n).page)
@@ -72,12 +72,12 @@ pub data IsRise (c : Core) (q since : ℕ) (x : Item) (p : ℕ) (l : Key) : Side
   wraps : (n : ℕ) (r : Page) (m : ℕ) (g : Fixed) → IsRise c q since x p l entry n r → IsNewPage c q m g r → IsRise c q since x p l entry n (Place (Node m g.height))
 
 -- The new record of such an entry, if there is one.
-abbrev pub entry_news : {c : Core} {q : ℕ} {x : Page} {e : Entry} → IsEntryFor c q x e → List Rec
+abbrev pub entry_news : {c : BareCore} {q : ℕ} {x : Page} {e : Entry} → IsEntryFor c q x e → List Rec
 entry_news (alone e h) = []
 entry_news (in_node m g i) = a_node m ∷ []
 
 -- The records that a rise links anew, the one made last first: of a cut the upper half is made before the lower one.
-abbrev pub news_of : {c : Core} {q since : ℕ} {x : Item} {p : ℕ} {l : Key} {d : Side} {n : ℕ} {r : Page} → IsRise c q since x p l d n r → List Rec
+abbrev pub news_of : {c : BareCore} {q since : ℕ} {x : Item} {p : ℕ} {l : Key} {d : Side} {n : ℕ} {r : Page} → IsRise c q since x p l d n r → List Rec
 news_of {x = x} (grows n found i) = a_leaf x.number ∷ []
 news_of (pulls o n r u i) = news_of i
 news_of (copies n r m g i z) = a_node m ∷ news_of i
@@ -86,7 +86,7 @@ news_of {x = x} (stays_whole n found i) = a_leaf x.number ∷ []
 news_of (wraps n r m g i z) = a_node m ∷ news_of i
 
 -- And those that it unlinks: each node that was copied or cut, the topmost first.
-abbrev pub gone_of : {c : Core} {q since : ℕ} {x : Item} {p : ℕ} {l : Key} {d : Side} {n : ℕ} {r : Page} → IsRise c q since x p l d n r → List Rec
+abbrev pub gone_of : {c : BareCore} {q since : ℕ} {x : Item} {p : ℕ} {l : Key} {d : Side} {n : ℕ} {r : Page} → IsRise c q since x p l d n r → List Rec
 gone_of (grows n found i) = []
 gone_of (pulls o n r u i) = gone_of i
 gone_of (copies n r m g i z) = a_node n ∷ gone_of i
@@ -95,15 +95,15 @@ gone_of (stays_whole n found i) = []
 gone_of (wraps n r m g i z) = gone_of i
 
 -- A locked node's entry on the key's way names leaf `j`, which has the key.
-pub record IsLeafOf (c : Core) (q : ℕ) (k : Key) (n j : ℕ) : Type 0 where
+pub record IsLeafOf (c : BareCore) (q : ℕ) (k : Key) (n j : ℕ) : Type 0 where
   pub lock : c.lock n ≡ Some q
   pub entry : seek k (c.heap.nodes n).page ≡ Leaf j
   pub key : (c.heap.leaves j).key ≡ k
 
 -- The store of one entry at the key's place of a node.
-abbrev pub IsSlotStore : Core → Heap → ℕ → Key → Entry → Type 0
+abbrev pub IsSlotStore : BareCore → Heap → ℕ → Key → Entry → Type 0
 IsSlotStore c heap o k e = IsPageStored c.heap heap o (with_entry (c.heap.nodes o).page (spot k (c.heap.nodes o).page) e)
 
 -- The entry is lower than the node.
-abbrev pub IsBelowNode : Core → ℕ → Entry → Type 0
+abbrev pub IsBelowNode : BareCore → ℕ → Entry → Type 0
 IsBelowNode c o e = IsLowerPage (c.heap.nodes o).fixed.height (Place e)

@@ -54,8 +54,8 @@ abbrev pub MayStandAt : Past → ℕ → ℕ → ℕ → Key → Type 0
 MayStandAt s m r i y = (b : Tree) × (k : Key) × Stood s m r b × IsUnder b i k × IsAlike (page b) i k y
 
 -- It may stand left of the place.
-abbrev pub IsLeft : Past → ℕ → ℕ → ℕ → Key → Type 0
-IsLeft s m r i y = (j : ℕ) × (j < i) × MayStandAt s m r j y
+abbrev pub MayStandLeft : Past → ℕ → ℕ → ℕ → Key → Type 0
+MayStandLeft s m r i y = (j : ℕ) × (j < i) × MayStandAt s m r j y
 
 -- The record had the key below it.
 abbrev pub IsOn : Past → ℕ → Key → Rec → Type 0
@@ -79,7 +79,7 @@ IsStack s m (f ∷ g ∷ gs) =
 -- The key may stand left of the place of one of the frames.
 abbrev pub IsPassed : Past → ℕ → Key → List Frame → Type 0
 IsPassed s m k [] = ⊥
-IsPassed s m k (f ∷ fs) = IsLeft s m f.number f.place k ⊎ IsPassed s m k fs
+IsPassed s m k (f ∷ fs) = MayStandLeft s m f.number f.place k ⊎ IsPassed s m k fs
 
 -- The key was in the node of one of these frames, right of its place.
 abbrev pub IsRight : Past → ℕ → Key → List Frame → Type 0
@@ -99,9 +99,9 @@ abbrev pub Every : (Pair → Type 0) → List Pair → Type 0
 Every P [] = Unit {0}
 Every P (x ∷ xs) = P x × Every P xs
 
-abbrev pub IsListed : Key → List Pair → Type 0
-IsListed k [] = ⊥
-IsListed k (x ∷ xs) = (k ≡ x.key) ⊎ IsListed k xs
+abbrev pub IsKeyListed : Key → List Pair → Type 0
+IsKeyListed k [] = ⊥
+IsKeyListed k (x ∷ xs) = (k ≡ x.key) ⊎ IsKeyListed k xs
 
 -- The keys rise strictly, where the newest pair stands first.
 abbrev pub IsFalling : List Pair → Type 0
@@ -125,7 +125,7 @@ pub record IsScan (s : Past) (m : ℕ) (g : Range) (fs : List Frame) (xs : List 
   pub held : Every (λ x. IsHeldSince s m x.key x.value) xs
   pub passed : Every (λ x. IsPassed s m x.key fs) xs
   pub short : length xs ≤ g.limit
-  pub covered : (k : Key) → IsKeptSince s m k → IsInRange g k → IsListed k xs ⊎ IsAhead s m k fs
+  pub covered : (k : Key) → IsKeptSince s m k → IsInRange g k → IsKeyListed k xs ⊎ IsAhead s m k fs
 
 -- What a scan promises, by moments: complete, or cut at the limit.
 pub record IsComplete (s : Past) (m : ℕ) (g : Range) (xs : List Pair) : Type 0 where
@@ -133,7 +133,7 @@ pub record IsComplete (s : Past) (m : ℕ) (g : Range) (xs : List Pair) : Type 0
   pub within : Every (λ x. IsInRange g x.key) xs
   pub held : Every (λ x. IsHeldSince s m x.key x.value) xs
   pub short : length xs ≤ g.limit
-  pub covered : (k : Key) → IsKeptSince s m k → IsInRange g k → IsListed k xs
+  pub covered : (k : Key) → IsKeptSince s m k → IsInRange g k → IsKeyListed k xs
 
 -- The key is that of one of the pairs, or below one of them.
 abbrev pub IsUpTo : Key → List Pair → Type 0
@@ -146,7 +146,7 @@ pub record IsCut (s : Past) (m : ℕ) (g : Range) (xs : List Pair) : Type 0 wher
   pub held : Every (λ x. IsHeldSince s m x.key x.value) xs
   pub full : length xs ≡ g.limit
   pub further : (k : Key) × (v : ℕ) × IsInRange g k × IsHeldSince s m k v × Every (λ x. IsBefore x.key k) xs
-  pub covered : (k : Key) → IsKeptSince s m k → IsInRange g k → IsUpTo k xs → IsListed k xs
+  pub covered : (k : Key) → IsKeptSince s m k → IsInRange g k → IsUpTo k xs → IsKeyListed k xs
 
 -- Each key that may stand at this place of the record, or right of it, is above the key, and stays so while the past grows.
 abbrev pub IsOver : Past → ℕ → Key → ℕ → ℕ → Type 0

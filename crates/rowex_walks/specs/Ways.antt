@@ -10,17 +10,17 @@ use Rattle.tries.specs.Place.{spot}
 use Rattle.moments.specs.State.{Past, StoodWithKeys, IsSteady}
 use Rattle.moments.specs.Frames.{IsGrown}
 use Rattle.rowex_walks.specs.Scan.{IsSeen, IsRooted, IsBlank, IsPlaced, IsShaped, IsRead}
-use Rattle.rowex_walks.specs.Writer.{IsBegun, IsWayBelow}
+use Rattle.rowex_walks.specs.Writer.{BeganAt, IsWayBelow}
 
 -- From node `a`, whose first fork is at `r`, the descent has come to the entry: before `r` the keys there agree with a key that
 -- the node had.
 abbrev pub IsOnWay : Past → ℕ → ℕ → ℕ → Entry → Type 0
-IsOnWay s m r a e = (like : Key) × IsBegun s m r like a × StoodWithKeys s m (λ y. AgreeBelow r like y) e
+IsOnWay s m r a e = (like : Key) × BeganAt s m r like a × StoodWithKeys s m (λ y. AgreeBelow r like y) e
 
 -- What began at this entry ended at a leaf with the key `l`.
 pub data IsWayFrom (s : Past) (m : ℕ) (l : Key) : Entry → Type 0 where
   from_leaf : (j : ℕ) → StoodWithKeys s m (λ y. y ≡ l) (Leaf j) → IsWayFrom s m l (Leaf j)
-  from_node : (a h r : ℕ) (like : Key) → IsBegun s m r like a → AgreeBelow r like l → IsWayFrom s m l (Node a h)
+  from_node : (a h r : ℕ) (like : Key) → BeganAt s m r like a → AgreeBelow r like l → IsWayFrom s m l (Node a h)
 
 -- Where no change has been made since moment `m`, the search for the key is at this entry in the newest tree: it stands there, and
 -- the search below it ends where that of the whole tree does.

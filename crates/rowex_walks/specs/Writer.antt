@@ -8,7 +8,7 @@ use Rattle.compound_node.specs.declared.entries.Entry.TheVariants.{Leaf, Node}
 use Rattle.moments.specs.Heap.{Heap}
 use Rattle.moments.specs.State.{IsReach, Past, Stands, StoodWithKeys}
 use Rattle.moments.specs.declared.Rec.TheVariants.{Node as a_node, Leaf as a_leaf}
-use Rattle.moments.specs.Core.{Ready, Core, view}
+use Rattle.moments.specs.Core.{Ready, BareCore, view}
 use Rattle.tries.specs.Content.{Item}
 pub use Rattle.moments.specs.Told.{added_change, replaced_change, removed_change}
 
@@ -19,24 +19,24 @@ pub record IsPageStored (m o : Heap) (n : ℕ) (x : Page) : Type 0 where
   pub stored : o.nodes n ≡ record { fixed = (m.nodes n).fixed; page = x }
 
 -- At a moment since `m` node `a` stood with its first fork at `r`, and had the key `like`.
-abbrev pub IsBegun : Past → ℕ → ℕ → Key → ℕ → Type 0
-IsBegun s m r like a =
+abbrev pub BeganAt : Past → ℕ → ℕ → Key → ℕ → Type 0
+BeganAt s m r like a =
     (n : ℕ) × (x : Fixed) × (b : Tree) × (d : Tree) × (m ≤ n) × (n ≤ s.now) × Stands s n (a_node a) (node a x (fork r b d)) × Has (fork r b d) like
 
 -- What a pass knows of the way below a locked node with the page `x`: it ended at a leaf with the key `l`. Either the
 -- node's own entry names the leaf, or it names a node that had a key `like` with which `l` agrees before its first fork.
 pub data IsWayBelow (s : Past) (since : ℕ) (k : Key) (x : Page) (l : Key) : Type 0 where
   at_leaf : (j : ℕ) → seek k x ≡ Leaf j → StoodWithKeys s since (λ y. y ≡ l) (Leaf j) → IsWayBelow s since k x l
-  below : (a h r : ℕ) (like : Key) → seek k x ≡ Node a h → IsBegun s since r like a → AgreeBelow r like l → IsWayBelow s since k x l
+  below : (a h r : ℕ) (like : Key) → seek k x ≡ Node a h → BeganAt s since r like a → AgreeBelow r like l → IsWayBelow s since k x l
 
-pub record IsNewLeaf (c : Core) (q : ℕ) (x : Item) : Type 0 where
+pub record IsNewLeaf (c : BareCore) (q : ℕ) (x : Item) : Type 0 where
   pub key : IsKey x.key
   pub fate : c.fate (a_leaf x.number) ≡ Ready q
   pub words : c.heap.leaves x.number ≡ record { key = x.key; value = x.value }
 
 -- What a writer knows: it has locked node `n`, from there on its descent since the lock ended at a leaf with the key
 -- `l`, from which the new key differs first at `p`, and what stood in the tree since its pin is still in that life.
-pub record IsFoundBelow (c : Core) (q since : ℕ) (x : Item) (p : ℕ) (l : Key) (n : ℕ) : Type 0 where
+pub record IsFoundBelow (c : BareCore) (q since : ℕ) (x : Item) (p : ℕ) (l : Key) (n : ℕ) : Type 0 where
   pub key : IsKey x.key
   pub reach : IsReach (view c) since
   pub lock : c.lock n ≡ Some q

@@ -2,12 +2,12 @@
 use Rattle.std.specs.Prelude.{if◌then◌else◌, nat_eq}
 use Rattle.std.proofs.lemmas.Bool.{eq-eqb, eqb-true}
 use Rattle.std.proofs.Common.{◌≡◌, ◌≢◌, ◌⊎◌, inl, inr, ℕ, ◌≤◌, ◌<◌, List, [], ◌∷◌, length, refl, sym, ap, subst, ◌∙◌, arith, Option, Some, None, Bool, true, false}
-use Rattle.hot_model.specs.declared.Change.{Change}
-use Rattle.hot_model.specs.declared.Reply.{Reply}
-use Rattle.hot_model.specs.declared.Kind.TheVariants.{Removed as TakenAway}
-use Rattle.hot_model.specs.declared.Reply.TheVariants.{Exists, Differs, Absent}
-use Rattle.hot_model.specs.Fronts.{OthersGoOn}
-use Rattle.hot_model.proofs.Growth.{others_on}
+use Rattle.finite_map.specs.declared.Change.{Change}
+use Rattle.finite_map.specs.declared.Reply.{Reply}
+use Rattle.finite_map.specs.declared.Kind.TheVariants.{Removed as TakenAway}
+use Rattle.finite_map.specs.declared.Reply.TheVariants.{Exists, Differs, Absent}
+use Rattle.finite_map.specs.Fronts.{OthersGoOn}
+use Rattle.finite_map.proofs.Growth.{others_on}
 use Rattle.insert_cases.specs.declared.choice.Case.{Case}
 use Rattle.insert_cases.specs.declared.choice.Case.TheVariants.{LeafPushdown, NormalInsert, Overflow}
 use Rattle.insert_cases.specs.declared.choice.Step.{Step}

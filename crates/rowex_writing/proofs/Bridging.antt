@@ -25,7 +25,7 @@ use Rattle.record_words.specs.Leaf.{HasLeafWords}
 use Rattle.record_words.specs.declared.layout.Layout.{Layout}
 use Rattle.rowex_core.specs.Cores.{IsWhole}
 use Rattle.rowex_core.specs.Knowing.{IsSince}
-use Rattle.rowex_core.specs.Reading.{IsPacked, node_of}
+use Rattle.rowex_core.specs.Reading.{IsPacked, node_words_of}
 use Rattle.rowex_core.specs.Sharing.{IsLocked}
 use Rattle.rowex_core.specs.declared.event.Spot.TheVariants.{Root, Slot}
 use Rattle.rowex_core.specs.declared.known.Known.{Known}
@@ -35,7 +35,7 @@ use Rattle.rowex_reading.specs.Possible.{IsPossible}
 use Rattle.rowex_reading.specs.Seen.{Sure}
 use Rattle.rowex_rights.specs.Insertions.{IsSpotOf, in_node, at_root}
 use Rattle.rowex_rights.specs.Rises.{HasFoundBelow}
-use Rattle.rowex_rights.specs.Stages.{IsAbove, IsSure}
+use Rattle.rowex_rights.specs.Stages.{IsLockedAbove, IsSure}
 use Rattle.rowex_rights.proofs.Rising.{above_goes_on}
 use Rattle.rowex_rights.proofs.Sure.{descent_begins, descent_ends, descent_finds, descent_goes_on, seen_is_sure}
 use Rattle.rowex_walks.specs.Scan.{IsSeen, IsPlaced, IsShaped, IsRead}
@@ -322,21 +322,21 @@ module _ (layout : Layout) (k : Known) (m : ℕ) (key : Key) (way : List Step) (
   held_at i s low high at = locked_at k way span locked i s low high at
 
   -- what its words show
-  step_at : (i : ℕ) (s : Step) (at : slice_get way i ≡ Some s) (words : List ℕ) → HasLocked k s.number words → IsStepOf key s (w.nodes i s at).2.forks (node_of words)
+  step_at : (i : ℕ) (s : Step) (at : slice_get way i ≡ Some s) (words : List ℕ) → HasLocked k s.number words → IsStepOf key s (w.nodes i s at).2.forks (node_words_of words)
   step_at i s at words h = let n = w.nodes i s at in way_node_locked layout k m key s n.0 words possible w.since n.2 h
 
-  forked : (n : ℕ) (words : List ℕ) → HasLocked k n words → IsForked (node_of words).page
+  forked : (n : ℕ) (words : List ℕ) → HasLocked k n words → IsForked (node_words_of words).page
   unfolding IsPacked
   forked n words h =
       let (lock, tree, same) = all_of (IsLocked k.pass possible.core) (record { node = n; words = words }) k.locks (knows_all possible.core k possible.knows).locks h in
       let (view, has, spells) = possible.lawful.records.packed (a_node n) (subst IsWhole (sym tree.1) tt) in
       let shows = node_is view (possible.core.words (a_node n)) (possible.lawful.records.sized (a_node n)).1 has spells in
-      let page_is : (node_of words).page ≡ piece view = ap (λ (z : NodeWords). z.page) (ap node_of (sym same) ∙ shows) in
-      forked_big (node_of words).page (let e = ap size page_is ∙ size-piece view has.lawful in let l = has.lawful.several in omega (arith, e))
+      let page_is : (node_words_of words).page ≡ piece view = ap (λ (z : NodeWords). z.page) (ap node_words_of (sym same) ∙ shows) in
+      forked_big (node_words_of words).page (let e = ap size page_is ∙ size-piece view has.lawful in let l = has.lawful.several in omega (arith, e))
 
   -- the locked node above names the one below, which is lower
   over : (p i : ℕ) (s u : Step) (ws wu : List ℕ) → span.end ≤ i + 1 → i < span.len → slice_get way i ≡ Some s → slice_get way (i + 1) ≡ Some u → HasLocked k s.number ws → HasLocked k u.number wu →
-      IsFirstBelow p (node_of wu).page ⊎ IsTipPage (page_affected p key (node_of ws).page) → IsAbove k.locks key p s.number u.number
+      IsFirstBelow p (node_words_of wu).page ⊎ IsTipPage (page_affected p key (node_words_of ws).page) → IsLockedAbove k.locks key p s.number u.number
   over p i s u ws wu low high at next hs hu path = record {
     upper = ws;
     lower = wu;
@@ -347,7 +347,7 @@ module _ (layout : Layout) (k : Known) (m : ℕ) (key : Key) (way : List Step) (
     path = path;
   }
 
-  falls : (i : ℕ) (s u : Step) (ws wu : List ℕ) → slice_get way i ≡ Some s → slice_get way (i + 1) ≡ Some u → HasLocked k s.number ws → HasLocked k u.number wu → (node_of wu).fixed.height < (node_of ws).fixed.height
+  falls : (i : ℕ) (s u : Step) (ws wu : List ℕ) → slice_get way i ≡ Some s → slice_get way (i + 1) ≡ Some u → HasLocked k s.number ws → HasLocked k u.number wu → (node_words_of wu).fixed.height < (node_words_of ws).fixed.height
   falls i s u ws wu at next hs hu =
       let n = w.nodes i s at in
       let same : n.0 ≡ Node u.number u.height = same_some (sym n.1 ∙ named_at way found (i + 1) u next) in
@@ -368,53 +368,53 @@ module _ (layout : Layout) (k : Known) (m : ℕ) (key : Key) (way : List Step) (
   top_below = sym plan.len_is
 
   -- at the level the insertion affects these entries
-  affected_at : (s : Step) → slice_get way plan.level ≡ Some s → (words : List ℕ) → HasLocked k s.number words → AffectsJust key position plan.low plan.high (node_of words).page
+  affected_at : (s : Step) → slice_get way plan.level ≡ Some s → (words : List ℕ) → HasLocked k s.number words → AffectsJust key position plan.low plan.high (node_words_of words).page
   affected_at s at words h =
       let (forks, shaped, affects) = plan.affected plan.level s plan.is_level at in
       let n = w.nodes plan.level s at in
       let same = (locked_shape layout k m s.number s.height forks words possible w.since n.2.seen shaped h).0 in
-      shape_affects key position plan.low plan.high (node_of words).page forks same affects
+      shape_affects key position plan.low plan.high (node_words_of words).page forks same affects
 
   -- one entry is affected there
-  tip_at : plan.high ≤ plan.low → (s : Step) → slice_get way plan.level ≡ Some s → (words : List ℕ) → HasLocked k s.number words → IsTipPage (page_affected position key (node_of words).page)
-  tip_at few s at words h = let count = size_affected key position plan.low plan.high (node_of words).page (affected_at s at words h) in tip_small (page_affected position key (node_of words).page) (omega (arith, count))
+  tip_at : plan.high ≤ plan.low → (s : Step) → slice_get way plan.level ≡ Some s → (words : List ℕ) → HasLocked k s.number words → IsTipPage (page_affected position key (node_words_of words).page)
+  tip_at few s at words h = let count = size_affected key position plan.low plan.high (node_words_of words).page (affected_at s at words h) in tip_small (page_affected position key (node_words_of words).page) (omega (arith, count))
 
   -- the chosen node's affected part
-  pub part_at : (s : Step) → slice_get way top ≡ Some s → (words : List ℕ) → HasLocked k s.number words → IsPartPage (page_affected position key (node_of words).page) × AffectsJust key position first last (node_of words).page
+  pub part_at : (s : Step) → slice_get way top ≡ Some s → (words : List ℕ) → HasLocked k s.number words → IsPartPage (page_affected position key (node_words_of words).page) × AffectsJust key position first last (node_words_of words).page
   part_at s at words h = elim (chosen_is way plan.level plan.low plan.high plan.chosen plan.is_level.within plan.is_chosen) [
     | inl (several, u, there, is) ↦
         let here : slice_get way plan.level ≡ Some s = ap (slice_get way) (sym (ap (λ (c : Choice). c.level) is)) ∙ at in
         let affects = affected_at s here words h in
-        let count = size_affected key position plan.low plan.high (node_of words).page affects in
-        (part_big (page_affected position key (node_of words).page) (omega (arith, count)), subst_range plan.low plan.high (ap (λ (c : Choice). c.first) is) (ap (λ (c : Choice). c.last) is) words affects)
+        let count = size_affected key position plan.low plan.high (node_words_of words).page affects in
+        (part_big (page_affected position key (node_words_of words).page) (omega (arith, count)), subst_range plan.low plan.high (ap (λ (c : Choice). c.first) is) (ap (λ (c : Choice). c.last) is) words affects)
     | inr o ↦ elim o [
       | inl (few, u, there, is) ↦
           let here : slice_get way (plan.level + 1) ≡ Some s = ap (slice_get way) (sym (ap (λ (c : Choice). c.level) is)) ∙ at in
           let same : u ≡ s = same_some (sym there ∙ here) in
           let of_step = step_at layout k m key way found span possible own w locked checked (plan.level + 1) s here words h in
           let high = plan.is_level.rest (plan.level + 1) s (omega arith) here in
-          let some = size_pos (node_of words).page in
+          let some = size_pos (node_words_of words).page in
           let count : u.count ≡ s.count = ap (λ (z : Step). z.count) same in
-          let (part, affects) = whole_part key position (u.count - 1) (node_of words).page (forked layout k m key way found span possible own w locked checked s.number words h) (omega (arith, high, of_step.first)) (omega (arith, some, of_step.count, count)) in
+          let (part, affects) = whole_part key position (u.count - 1) (node_words_of words).page (forked layout k m key way found span possible own w locked checked s.number words h) (omega (arith, high, of_step.first)) (omega (arith, some, of_step.count, count)) in
           (part, subst_range 0 (u.count - 1) (ap (λ (c : Choice). c.first) is) (ap (λ (c : Choice). c.last) is) words affects)
       | inr (few, past, u, there, is) ↦
           let level_is : top ≡ plan.level = ap (λ (c : Choice). c.level) is in
           let here : slice_get way plan.level ≡ Some s = ap (slice_get way) (sym level_is) ∙ at in
           let tip = tip_at few s here words h in
-          let on : page_affected position key (node_of words).page ≡ Place (seek key (node_of words).page) = tip_seek position key (node_of words).page tip in
+          let on : page_affected position key (node_words_of words).page ≡ Place (seek key (node_words_of words).page) = tip_seek position key (node_words_of words).page tip in
           let named_is = checked.entries plan.level s (let u = plan.chain.upto in omega (arith, level_is)) (omega (arith, level_is, top_below)) here words h in
-          let leaf : seek key (node_of words).page ≡ LeafEntry plan.number = same_some (sym named_is ∙ (named_end way found (plan.level + 1) past ∙ ap end_of plan.found_is)) in
+          let leaf : seek key (node_words_of words).page ≡ LeafEntry plan.number = same_some (sym named_is ∙ (named_end way found (plan.level + 1) past ∙ ap end_of plan.found_is)) in
           (subst IsPartPage (sym (on ∙ ap (λ e. let z : Page = Place e in z) leaf)) tt, subst_range plan.low plan.high (ap (λ (c : Choice). c.first) is) (ap (λ (c : Choice). c.last) is) words (affected_at s here words h))
     ]
   ]
     where
-      subst_range : (f l : ℕ) → plan.chosen.first ≡ f → plan.chosen.last ≡ l → (words : List ℕ) → AffectsJust key position f l (node_of words).page → AffectsJust key position first last (node_of words).page
+      subst_range : (f l : ℕ) → plan.chosen.first ≡ f → plan.chosen.last ≡ l → (words : List ℕ) → AffectsJust key position f l (node_words_of words).page → AffectsJust key position first last (node_words_of words).page
       subst_range f l ef el words a =
-          subst (λ z. AffectsJust key position z last (node_of words).page) (sym (plan.first_is ∙ ef)) (subst (λ z. AffectsJust key position f z (node_of words).page) (sym (plan.last_is ∙ el)) a)
+          subst (λ z. AffectsJust key position z last (node_words_of words).page) (sym (plan.first_is ∙ ef)) (subst (λ z. AffectsJust key position f z (node_words_of words).page) (sym (plan.last_is ∙ el)) a)
 
   -- above the chosen node the insertion affects no more than the place on the way
   last_path : (i : ℕ) (s u : Step) (ws wu : List ℕ) → i + 1 ≡ top → slice_get way i ≡ Some s → slice_get way (i + 1) ≡ Some u → HasLocked k s.number ws → HasLocked k u.number wu →
-      IsFirstBelow position (node_of wu).page ⊎ IsTipPage (page_affected position key (node_of ws).page)
+      IsFirstBelow position (node_words_of wu).page ⊎ IsTipPage (page_affected position key (node_words_of ws).page)
   last_path i s u ws wu next at below hs hu = elim (chosen_is way plan.level plan.low plan.high plan.chosen plan.is_level.within plan.is_chosen) [
     | inl (several, v, there, is) ↦ inl (under (ap (λ (c : Choice). c.level) is))
     | inr o ↦ elim o [
@@ -426,16 +426,16 @@ module _ (layout : Layout) (k : Known) (m : ℕ) (key : Key) (way : List Step) (
     ]
   ]
     where
-      under : top ≡ plan.level → IsFirstBelow position (node_of wu).page
+      under : top ≡ plan.level → IsFirstBelow position (node_words_of wu).page
       under level_is =
           let same : i + 1 ≡ plan.level = omega (arith, level_is) in
           let here : slice_get way plan.level ≡ Some u = ap (slice_get way) (sym same) ∙ below in
           let low : u.first_position < position = plan.is_level.low (omega (arith, same)) u here in
           let of_step = step_at layout k m key way found span possible own w locked checked plan.level u here wu hu in
-          below_first position (node_of wu).page (forked layout k m key way found span possible own w locked checked u.number wu hu) (omega (arith, low, of_step.first))
+          below_first position (node_words_of wu).page (forked layout k m key way found span possible own w locked checked u.number wu hu) (omega (arith, low, of_step.first))
 
   path : (d i : ℕ) (s u : Step) (ws wu : List ℕ) → i + 1 + d ≡ top → span.end ≤ i + 1 → slice_get way i ≡ Some s → slice_get way (i + 1) ≡ Some u → HasLocked k s.number ws → HasLocked k u.number wu →
-      IsFirstBelow position (node_of wu).page ⊎ IsTipPage (page_affected position key (node_of ws).page)
+      IsFirstBelow position (node_words_of wu).page ⊎ IsTipPage (page_affected position key (node_words_of ws).page)
   unfolding over
   path zero i s u ws wu far low at below hs hu = last_path i s u ws wu (omega arith) at below hs hu
   path (suc d) i s u ws wu far low at below hs hu =
@@ -445,15 +445,15 @@ module _ (layout : Layout) (k : Known) (m : ℕ) (key : Key) (way : List Step) (
       let (c, stage) = stage_of_held layout k [] possible (own, tt) tt in
       inl (above_goes_on layout k k.locks [] c stage key position u.number v.number above)
 
-  pub over_at : (i : ℕ) (s u : Step) (ws wu : List ℕ) → span.end ≤ i + 1 → i < top → slice_get way i ≡ Some s → slice_get way (i + 1) ≡ Some u → HasLocked k s.number ws → HasLocked k u.number wu → IsAbove k.locks key position s.number u.number
+  pub over_at : (i : ℕ) (s u : Step) (ws wu : List ℕ) → span.end ≤ i + 1 → i < top → slice_get way i ≡ Some s → slice_get way (i + 1) ≡ Some u → HasLocked k s.number ws → HasLocked k u.number wu → IsLockedAbove k.locks key position s.number u.number
   over_at i s u ws wu low high at below hs hu =
       over layout k m key way found span possible own w locked checked position i s u ws wu low (omega (arith, top_below)) at below hs hu (path (top - (i + 1)) i s u ws wu (omega arith) low at below hs hu)
 
   -- a full node, where its step says so
-  full_at : (i : ℕ) (s : Step) → slice_get way i ≡ Some s → s.count ≡ 32 → (words : List ℕ) → HasLocked k s.number words → size (node_of words).page ≡ 32
+  full_at : (i : ℕ) (s : Step) → slice_get way i ≡ Some s → s.count ≡ 32 → (words : List ℕ) → HasLocked k s.number words → size (node_words_of words).page ≡ 32
   full_at i s at full words h = (step_at layout k m key way found span possible own w locked checked i s at words h).count ∙ full
 
-  pub pulled_full : (i : ℕ) (s : Step) → span.end < i → i ≤ top → slice_get way i ≡ Some s → (words : List ℕ) → HasLocked k s.number words → size (node_of words).page ≡ 32
+  pub pulled_full : (i : ℕ) (s : Step) → span.end < i → i ≤ top → slice_get way i ≡ Some s → (words : List ℕ) → HasLocked k s.number words → size (node_words_of words).page ≡ 32
   pulled_full i s low high at words h =
       let next : i - 1 + 1 ≡ i = omega arith in
       let (u, above) = some_at way (i - 1) (omega (arith, top_within)) in
@@ -483,15 +483,15 @@ module _ (layout : Layout) (k : Known) (m : ℕ) (key : Key) (way : List Step) (
       let upper = step_at layout k m key way found span possible own w locked checked (span.end - 1) s at ws hs in
       let lower = step_at layout k m key way found span possible own w locked checked span.end u below wu hu in
       let high = falls layout k m key way found span possible own w locked checked (span.end - 1) s u ws wu at below' hs hu in
-      let fit : height_of e < (node_of ws).fixed.height = ⊎_elim
+      let fit : height_of e < (node_words_of ws).fixed.height = ⊎_elim
       (λ room. let l = fits.1 room in omega (arith, l, high))
       (λ full. let count : u.count ≡ 32 = let r = lower.room in let c = lower.count in omega (arith, r, c, full) in
       let apart = plan.chain.stops (span.end - 1) u s next below at count in
       let l = fits.0 in
-      strictly (height_of e) (node_of wu).fixed.height (node_of ws).fixed.height l high (λ same. apart (sym upper.height ∙ (same ∙ ap (λ z. z + 1) lower.height))))
-      (cases_lt (size (node_of wu).page) 32) in
+      strictly (height_of e) (node_words_of wu).fixed.height (node_words_of ws).fixed.height l high (λ same. apart (sym upper.height ∙ (same ∙ ap (λ z. z + 1) lower.height))))
+      (cases_lt (size (node_words_of wu).page) 32) in
       subst (λ z. IsSpotOf k k.locks key position u.number e (Slot z slot)) (sym n_is)
-      (in_node s.number slot above (upper.at ∙ sym slot_is) (lower_entry (node_of ws).fixed.height e fit))
+      (in_node s.number slot above (upper.at ∙ sym slot_is) (lower_entry (node_words_of ws).fixed.height e fit))
     where
       strictly : (e l h : ℕ) → e ≤ l + 1 → l < h → (h ≡ l + 1 → ⊥) → e < h
       strictly e l h fits low apart = ⊎_elim (λ o. omega arith) (λ o. absurd (apart (omega arith))) (cases_lt (l + 1) h)
@@ -506,5 +506,5 @@ pub found_below : (layout : Layout) (k : Known) (m : ℕ) (key : Key) (way : Lis
 found_below layout k m key way number value p span w checked x given spelled i s words low high at h =
     let (l, read, apart) = w.found_at in
     let named_is = checked.entries i s low high at words h in
-    let from = way_from layout k m key number value p w.since l read way w.nodes (i + 1) (seek key (node_of words).page) named_is in
+    let from = way_from layout k m key number value p w.since l read way w.nodes (i + 1) (seek key (node_words_of words).page) named_is in
     (l, descent_finds k k.locks m (item x key given) p l s.number words spelled w.since h from apart.0 apart.1)

@@ -26,7 +26,7 @@ use Rattle.rowex_core.specs.declared.known.Fresh.{Fresh}
 use Rattle.rowex_core.specs.declared.known.Known.{Known}
 use Rattle.rowex_core.specs.Cores.{heap_of}
 use Rattle.rowex_core.specs.Knowing.{IsEvent, IsSince, Recalls}
-use Rattle.rowex_core.specs.Reading.{entry_of, node_of}
+use Rattle.rowex_core.specs.Reading.{entry_of, node_words_of}
 use Rattle.rowex_core.specs.Sharing.{IsLocked}
 use Rattle.rowex_core.proofs.Owning.{knows_all, recalls}
 use Rattle.rowex_core.proofs.Reading.{entry_of_word, entry_at_is}
@@ -75,7 +75,7 @@ placed_in p i o some is = go (ltb i (size p)) is
 -- ---- a load of an entry of a locked node
 module _ {layout : Layout} {k j : Known} (n i w : ℕ) (e : IsEvent layout (LoadRef (Slot n i) w) silent k j) where
   -- the word is that of the entry at the place
-  locked_entry : (words : List ℕ) → HasLocked k n words → i < 32 → entry_of w ≡ (if nat_lt i (size (node_of words).page) then Some (entry_at (node_of words).page i) else None)
+  locked_entry : (words : List ℕ) → HasLocked k n words → i < 32 → entry_of w ≡ (if nat_lt i (size (node_words_of words).page) then Some (entry_at (node_words_of words).page i) else None)
   locked_entry words h low =
       let (lock, tree, same) = all_of (IsLocked k.pass e.core) (record { node = n; words = words }) k.locks (knows_all e.core k e.knows).locks h in
       let (view, is) = locked_spells e n words h in
@@ -84,9 +84,9 @@ module _ {layout : Layout} {k j : Known} (n i w : ℕ) (e : IsEvent layout (Load
       ap (λ (z : NodeWords). if nat_lt i (size z.page) then Some (entry_at z.page i) else None) (sym is.shows))
 
   module _ (m h : ℕ) (has : HasPlace k m n h i) (o : Option Entry) (word : HasEntryWord o) (spells : entry_word o ≡ w) where
-    pub entry_is : (words : List ℕ) → HasLocked k n words → i < 32 → o ≡ Some (entry_at (node_of words).page i)
+    pub entry_is : (words : List ℕ) → HasLocked k n words → i < 32 → o ≡ Some (entry_at (node_words_of words).page i)
     entry_is words locked low =
-        placed_in (node_of words).page i o (slot_some layout k j n i w e m h has o word spells) (sym (entry_of_word o word) ∙ (ap entry_of spells ∙ locked_entry words locked low))
+        placed_in (node_words_of words).page i o (slot_some layout k j n i w e m h has o word spells) (sym (entry_of_word o word) ∙ (ap entry_of spells ∙ locked_entry words locked low))
 
     -- Where it isn't the one that was read there since m, something has changed.
     pub entry_changed : (old : Entry) → Sure k (λ past. IsPlaced past m n i old) → o ≢ Some old → m < length j.front
@@ -201,18 +201,18 @@ pub none_stand : (layout : Layout) (k : Known) (way : List Step) (found : Found)
 none_stand layout k way found span index is m key w i s low high at words h = absurd (omega arith)
 
 pub more_stand : (layout : Layout) (k : Known) (way : List Step) (found : Found) (span : Span) (index : ℕ) → IsPossible layout k → StandBelow layout k way found span index →
-    ((s : Step) → slice_get way index ≡ Some s → (words : List ℕ) → HasLocked k s.number words → named way found (index + 1) ≡ Some (entry_at (node_of words).page s.at)) →
+    ((s : Step) → slice_get way index ≡ Some s → (words : List ℕ) → HasLocked k s.number words → named way found (index + 1) ≡ Some (entry_at (node_words_of words).page s.at)) →
     StandBelow layout k way found span (index + 1)
 more_stand layout k way found span index possible above here m key w i s low high at words h = go (cases_lt i index)
   where
-    go : (i < index) ⊎ (index ≤ i) → named way found (i + 1) ≡ Some (seek key (node_of words).page)
+    go : (i < index) ⊎ (index ≤ i) → named way found (i + 1) ≡ Some (seek key (node_words_of words).page)
     go (inl less) = above m key w i s low less at words h
     go (inr more) =
         let one : i ≡ index = omega arith in
         let (e, name, is) = w.nodes i s at in
         let step = way_node_locked layout k m key s e words possible w.since is h in
         ap (λ n. named way found (n + 1)) one ∙ (here s (ap (slice_get way) (sym one) ∙ at) words h ∙
-        ap Some (ap (entry_at (node_of words).page) (sym step.at) ∙ sym (seek_spot key (node_of words).page)))
+        ap Some (ap (entry_at (node_words_of words).page) (sym step.at) ∙ sym (seek_spot key (node_words_of words).page)))
 
 -- ---- a step of the way, some loads later
 module _ (layout : Layout) (k j : Known) (m : ℕ) (key : Key) (way : List Step) (found : Found) (later : IsLater k j) (w : IsWayOf layout k m key way found) (i : ℕ) (s : Step)

@@ -35,10 +35,10 @@ use Rattle.rowex_table.specs.Made.{IsLater, nodes_of}
 use Rattle.rowex_table.specs.Publishes.{Publishes}
 use Rattle.rowex_table.specs.Rule.{HasSpot}
 use Rattle.record_words.specs.Leaf.{HasLeafWords, words_for}
-use Rattle.hot_model.specs.Fronts.{OthersGoOn}
-use Rattle.hot_model.proofs.Growth.{others_on}
+use Rattle.finite_map.specs.Fronts.{OthersGoOn}
+use Rattle.finite_map.proofs.Growth.{others_on}
 use Rattle.insert_cases.proofs.Choosing.{some_at}
-use Rattle.rowex_core.specs.Reading.{node_of}
+use Rattle.rowex_core.specs.Reading.{node_words_of}
 use Rattle.rowex_rights.specs.Loops.{StaysLocked}
 use Rattle.rowex_rights.proofs.Sure.{found_stays}
 use Rattle.tries.specs.Affected.{page_affected, IsPartPage}
@@ -64,7 +64,7 @@ use Rattle.rowex_writing.specs.Going.{HasLocked, WorksOn}
 use Rattle.rowex_writing.specs.Growths.{HasNumber, MayGrow}
 use Rattle.rowex_writing.specs.Locks.{AreNodes, HasLockedSpan, Works, numbers_of, span_numbers}
 use Rattle.rowex_writing.specs.Putting.{IsSpotAbove}
-use Rattle.rowex_writing.specs.Retiring.{AreRecords}
+use Rattle.rowex_writing.specs.Retiring.{AreInTable}
 use Rattle.rowex_writing.specs.declared.plan.Span.{Span}
 use Rattle.rowex_writing.proofs.Bridging.{IsGrowPlan, chain_at, found_below, grow_plan, locked_at, part_at, pulled_full, spot_at_root, spot_in_node, top_within}
 use Rattle.rowex_writing.proofs.Lifting.{gone_more}
@@ -191,13 +191,13 @@ range_nodes layout way b d nodes = All-take (λ (s : Step). s.number < layout.no
 pub two_nodes : (layout : Layout) (way : List Step) (b e l d : ℕ) → AreNodes layout way → AreNodes layout (slice_range way b e ++ slice_range way l d)
 two_nodes layout way b e l d nodes = All-append (λ (s : Step). s.number < layout.nodes) (slice_range way b e) (slice_range way l d) (range_nodes layout way b e nodes) (range_nodes layout way l d nodes)
 
-node_records : (layout : Layout) (steps : List Step) → AreNodes layout steps → AreRecords layout (map (λ (s : Step). a_node s.number) steps)
+node_records : (layout : Layout) (steps : List Step) → AreNodes layout steps → AreInTable layout (map (λ (s : Step). a_node s.number) steps)
 node_records layout [] nodes = λ i d low. absurd (omega arith)
 node_records layout (s ∷ steps) nodes =
     All-cons (HasRecord layout) (a_node s.number) (map (λ (s : Step). a_node s.number) steps) (All-head (λ (s : Step). s.number < layout.nodes) s steps nodes)
     (node_records layout steps (All-tail (λ (s : Step). s.number < layout.nodes) s steps nodes))
 
-pub range_records : (layout : Layout) (way : List Step) (b d : ℕ) → AreNodes layout way → AreRecords layout (map (λ (s : Step). a_node s.number) (slice_range way b d))
+pub range_records : (layout : Layout) (way : List Step) (b d : ℕ) → AreNodes layout way → AreInTable layout (map (λ (s : Step). a_node s.number) (slice_range way b d))
 range_records layout way b d nodes = node_records layout (slice_range way b d) (range_nodes layout way b d nodes)
 
 -- ---- none was free
@@ -312,7 +312,7 @@ may_grow table a b made m key value way found span aim position first last leaf 
     held : HasLocked a.known s.number words
     held = (locked_at a.known way span t.locked plan.chosen.level s (omega (arith, upto)) (omega (arith, len_is)) at).1
 
-    part : IsPartPage (page_affected position key (node_of words).page) × AffectsJust key position first last (node_of words).page
+    part : IsPartPage (page_affected position key (node_words_of words).page) × AffectsJust key position first last (node_words_of words).page
     part = part_at table.layout a.known m key way found span t.possible t.own w t.locked t.checked position first last plan s at words held
 
     below : (l : Key) × HasFoundBelow a.known a.known.locks m x position l s.number words

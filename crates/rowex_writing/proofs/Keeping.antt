@@ -4,8 +4,8 @@ use Rattle.std.specs.Prelude.{if◌then◌else◌, All, Contains, reverse, slice
 use Rattle.std.proofs.lemmas.Grind.{reverse_onto}
 use Rattle.std.proofs.lemmas.List.Elements.{All-cons, All-drop, All-head, All-nil, All-push, All-tail, All-take, Contains-push, Contains-append_left}
 use Rattle.std.proofs.lemmas.Option.{slice_get-get_or}
-use Rattle.hot_model.specs.declared.Change.{Change}
-use Rattle.hot_model.specs.Fronts.{OthersGoOn}
+use Rattle.finite_map.specs.declared.Change.{Change}
+use Rattle.finite_map.specs.Fronts.{OthersGoOn}
 use Rattle.insert_cases.specs.declared.choice.Step.{Step}
 use Rattle.record_words.specs.declared.layout.Layout.{Layout}
 use Rattle.tries.specs.Keys.{Key}
@@ -41,10 +41,10 @@ use Rattle.rowex_records.specs.Records.{HoldsJust}
 use Rattle.rowex_writing.specs.Building.{IsBuilding}
 use Rattle.rowex_writing.specs.Changes.{HasRun, HasChanged}
 use Rattle.rowex_writing.specs.Locks.{HasJustLocked, AreNodes}
-use Rattle.rowex_writing.specs.Retiring.{AreRecords}
+use Rattle.rowex_writing.specs.Retiring.{AreInTable}
 use Rattle.rowex_reading.specs.Ways.{IsWayOf}
 use Rattle.rowex_reading.specs.declared.descent.Found.{Found}
-use Rattle.hot_model.proofs.Growth.{others_on}
+use Rattle.finite_map.proofs.Growth.{others_on}
 
 -- ---- steps that failed are remembered
 one_more : {X : Type 0} (xs : List X) (y x : X) → Contains xs x → Contains (y ∷ xs) x
@@ -156,9 +156,9 @@ module _ (table : TableView) (a : SeatView) (made : List Rec) (news : List Made)
     apart = apart_reversed (recs_of news) b.holds.1;
   })
 
-  pub made_records : AreRecords table.layout made
+  pub made_records : AreInTable table.layout made
   made_records =
-      subst (AreRecords table.layout) (sym b.listed) (all_reversed (HasRecord table.layout) (recs_of news) (all_ofs (HasRecord table.layout) (recs_of news)
+      subst (AreInTable table.layout) (sym b.listed) (all_reversed (HasRecord table.layout) (recs_of news) (all_ofs (HasRecord table.layout) (recs_of news)
       (λ r h. (let (m, at, is) = of_map (λ (m : Made). m.rec) r news h in subst (HasRecord table.layout) (sym is) (made_record m at)))))
 
 -- ---- what is locked

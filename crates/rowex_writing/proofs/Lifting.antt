@@ -32,10 +32,10 @@ use Rattle.moments.proofs.Members.{of_right}
 use Rattle.moments.specs.declared.Rec.TheVariants.{Node as a_node}
 use Rattle.rowex_walks.specs.Rise.{Side, body, entry}
 use Rattle.rowex_core.specs.declared.event.Event.{Event}
-use Rattle.rowex_core.specs.Reading.{node_of}
+use Rattle.rowex_core.specs.Reading.{node_words_of}
 use Rattle.rowex_table.specs.Made.{Made}
 use Rattle.rowex_table.specs.Seats.{TableView, SeatView}
-use Rattle.rowex_rights.specs.Stages.{HasLeaf, HasRisen, IsAbove}
+use Rattle.rowex_rights.specs.Stages.{HasLeaf, HasRisen, IsLockedAbove}
 use Rattle.rowex_rights.proofs.Rising.{risen_stays, rises_pulled, rises_wrapped, rise_grows}
 use Rattle.rowex_rights.specs.Rises.{of_view, of_leaf, IsSide, anew, HasFoundBelow}
 use Rattle.rowex_writing.specs.Building.{IsBuilding, IsHalfMade, IsMadeFrom, IsRaising, IsBelow, IsLevelRisen, IsLowest, IsLowRisen, IsNextTo, IsRisenAt, IsSingle, IsSplit, FitsAbove, IsChain, IsUp, IsGrowing, IsGrownFrom, HasNotMade, HasRisenTo, gone_unless, gone_with}
@@ -89,10 +89,10 @@ module _ {G : Type 0} (table : TableView) (becomes : G → Event → G → Type 
     is_node : IsNodeOf b.over.upper node
     is_node = shown b.over.upper b.over.has_upper
 
-    page_is : (node_of b.over.upper).page ≡ piece node
+    page_is : (node_words_of b.over.upper).page ≡ piece node
     page_is = ap (λ (z : NodeWords). z.page) is_node.shows
 
-    height_is : (node_of b.over.upper).fixed.height ≡ node.height
+    height_is : (node_words_of b.over.upper).fixed.height ≡ node.height
     height_is = ap (λ (z : NodeWords). z.fixed.height) is_node.shows
 
     fork : Page
@@ -104,7 +104,7 @@ module _ {G : Type 0} (table : TableView) (becomes : G → Event → G → Type 
     upper_locked : IsOf (record { node = above; words = b.over.upper }) m.0.known.locks
     upper_locked = subst (IsOf (record { node = above; words = b.over.upper })) (sym reads.goes.stays.1) b.over.has_upper
 
-    still_over : IsAbove m.0.known.locks b.here.item.key b.here.mismatch above b.lower
+    still_over : IsLockedAbove m.0.known.locks b.here.item.key b.here.mismatch above b.lower
     still_over = record {
       upper = b.over.upper;
       lower = b.over.lower;
@@ -165,7 +165,7 @@ module _ {G : Type 0} (table : TableView) (becomes : G → Event → G → Type 
   low_node : IsNodeOf b.words node
   low_node = shown b.words b.found.locked
 
-  low_page : (node_of b.words).page ≡ piece node
+  low_page : (node_words_of b.words).page ≡ piece node
   low_page = ap (λ (z : NodeWords). z.page) low_node.shows
 
   low_grown : HasRisen table.layout a.0.known a.0.known.locks (of_leaf b.item ∷ []) b.since b.item position b.like body number (page_grown position b.item.key (Leaf b.item.number) (piece node)) []
@@ -235,7 +235,7 @@ module _ {G : Type 0} (table : TableView) (becomes : G → Event → G → Type 
 pub left_over : {G : Type 0} (table : TableView) (becomes : G → Event → G → Type 0) (a m c : SeatView × G) (after_made : List Rec) (key : Key) (words : List ℕ) (node : NodeView) (half : Half) (old : Entry) (answer : Option Entry) →
     WorksOn table becomes a m → IsNodeOf words node → HalfShows half (page_without key (piece node)) →
     MatchOption answer (HasNotMade table c.0 after_made) (λ e. (more : List Made) × IsHalfMade old half e more × IsBuilding table c.0 after_made (more ++ [])) →
-    MatchOption answer (HasNotMade table c.0 after_made) (λ e. (news : List Made) × IsSide (page_without key (node_of words).page) e news × IsBuilding table c.0 after_made news)
+    MatchOption answer (HasNotMade table c.0 after_made) (λ e. (news : List Made) × IsSide (page_without key (node_words_of words).page) e news × IsBuilding table c.0 after_made news)
 left_over table becomes a m c after_made key words node half old None goes is shows made = made
 left_over table becomes a m c after_made key words node half old (Some e) goes is shows (more, half_made, building) = (
   more,
@@ -244,7 +244,7 @@ left_over table becomes a m c after_made key words node half old (Some e) goes i
 )
 
 pub left_low : (words : List ℕ) (node : NodeView) (old : Entry) (half : Half) (answer : Option Entry) (None_made : Type 0) (Q : List Made → Type 0) → IsNodeOf words node → height_of old ≡ node.height → IsLowHalf node.height half →
-    MatchOption answer None_made (λ e. (more : List Made) × IsHalfMade old half e more × Q more) → IfSome answer (λ e. height_of e ≤ (node_of words).fixed.height)
+    MatchOption answer None_made (λ e. (more : List Made) × IsHalfMade old half e more × Q more) → IfSome answer (λ e. height_of e ≤ (node_words_of words).fixed.height)
 left_low words node old half None none Q is tall low made = tt
 left_low words node old half (Some e) none Q is tall low (more, made, rest) = let same = ap (λ (z : NodeWords). z.fixed.height) is.shows in omega (arith, half_made_low old node.height half e more tall low made)
 
@@ -308,7 +308,7 @@ single_made was (Two cut) risen before after whole made = absurd (let z : false 
 level_made : (words : List ℕ) (node : NodeView) (was : Entry) (g : Grown) (risen : Risen) (before after : List Made) → IsNodeOf words node → height_of was ≡ node.height → IsNoHigher node.height g →
     (IsTrue (is_whole g) ↔ (length node.entries < 32)) → IsMadeFrom was g risen before after → IsLevelRisen words risen
 level_made words node was g risen before after is tall low whole made =
-    let long : length node.entries ≡ size (node_of words).page = sym (size-piece node is.has.lawful) ∙ ap size (sym (ap (λ (z : NodeWords). z.page) is.shows)) in
+    let long : length node.entries ≡ size (node_words_of words).page = sym (size-piece node is.has.lawful) ∙ ap size (sym (ap (λ (z : NodeWords). z.page) is.shows)) in
     record {
       low = subst (λ h. IsLowRisen h risen) (sym (ap (λ (z : NodeWords). z.fixed.height) is.shows)) (made_low was node.height g risen before after tall low made);
       split = λ full. split_made was g risen before after (λ t. absurd (let l = whole.0 t in omega (arith, long, full))) made;
@@ -339,7 +339,7 @@ split_height h q z o risen view none has rest (Some e) is low built (m, e_is, sp
     (omega (arith, tall, same), λ s. absurd (let f : IsSingle (Split q z o) = subst IsSingle is s in f))
 
 -- so beside the node with these words, which gave one entry where it had room
-pub fits_above : (words : List ℕ) (risen : Risen) (answer : Option Entry) → (size (node_of words).page < 32 → IsSingle risen) → IfSome answer (IsNextTo (node_of words).fixed.height risen) → IfSome answer (FitsAbove words)
+pub fits_above : (words : List ℕ) (risen : Risen) (answer : Option Entry) → (size (node_words_of words).page < 32 → IsSingle risen) → IfSome answer (IsNextTo (node_words_of words).fixed.height risen) → IfSome answer (FitsAbove words)
 fits_above words risen None single low = tt
 fits_above words risen (Some e) single low = (low.0, λ room. low.1 (single room))
 
@@ -361,7 +361,7 @@ risen_as table a made n m risen then same is here = record {
 
 module _ (table : TableView) (a : SeatView) (made : List Rec) (way : List Step) (key : Key) (end level : ℕ) (risen : Risen) (up : IsUp table a made way key end level risen) (above : ℕ) (next : above + 1 ≡ level)
     (upto : end ≤ above) (s : Step) (at : slice_get way above ≡ Some s) where
-  abbrev pub up_over : (over : IsAbove a.known.locks up.here.item.key up.here.mismatch s.number up.step.number) × ((node_of over.lower).fixed.height < (node_of over.upper).fixed.height)
+  abbrev pub up_over : (over : IsLockedAbove a.known.locks up.here.item.key up.here.mismatch s.number up.step.number) × ((node_words_of over.lower).fixed.height < (node_words_of over.upper).fixed.height)
   up_over = up.chain.above above s up.step upto (omega arith) at (ap (slice_get way) next ∙ up.at)
 
   pub up_there : s.number < table.layout.nodes
@@ -369,7 +369,7 @@ module _ (table : TableView) (a : SeatView) (made : List Rec) (way : List Step) 
 
   abbrev pub up_below : (q : ℕ) (z o : Entry) → risen ≡ Split q z o → IsBelow table a made key s.number q z o
   up_below q z o is =
-      let sides : IsLowRisen (node_of up_over.0.lower).fixed.height (Split q z o) = subst (IsLowRisen (node_of up_over.0.lower).fixed.height) is (up.low up_over.0.lower up_over.0.has_lower) in
+      let sides : IsLowRisen (node_words_of up_over.0.lower).fixed.height (Split q z o) = subst (IsLowRisen (node_words_of up_over.0.lower).fixed.height) is (up.low up_over.0.lower up_over.0.has_lower) in
       let h = up_over.1 in
       record {
         lower = up.step.number;

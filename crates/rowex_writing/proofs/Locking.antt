@@ -18,7 +18,7 @@ use Rattle.rowex_core.specs.declared.event.Spot.TheVariants.{Slot}
 use Rattle.rowex_core.specs.declared.known.Known.{Known}
 use Rattle.rowex_core.specs.Cores.{IsWhole}
 use Rattle.rowex_core.specs.Knowing.{IsEvent}
-use Rattle.rowex_core.specs.Reading.{IsPacked, node_of}
+use Rattle.rowex_core.specs.Reading.{IsPacked, node_words_of}
 use Rattle.rowex_core.specs.Sharing.{IsLocked}
 use Rattle.rowex_core.proofs.Owning.{knows_all}
 use Rattle.rowex_table.specs.Runs.{Steps, silent}
@@ -84,7 +84,7 @@ module _ {layout : Layout} {act : Act} {k j : Known} (e : IsEvent layout act sil
       let (lock, tree, same) = all_of (IsLocked k.pass e.core) (record { node = n; words = words }) k.locks (knows_all e.core k e.knows).locks h in
       let (view, has, spells) = e.lawful.records.packed (a_node n) (subst IsWhole (sym tree.1) tt) in
       let shows = node_is view (e.core.words (a_node n)) (e.lawful.records.sized (a_node n)).1 has spells in
-      (view, record { has = has; spells = spells ∙ same; shows = ap node_of (sym same) ∙ shows })
+      (view, record { has = has; spells = spells ∙ same; shows = ap node_words_of (sym same) ∙ shows })
 
 -- and a load gives one of them
 module _ {layout : Layout} {k j : Known} (n i w : ℕ) (words : List ℕ) (h : HasLocked k n words) where

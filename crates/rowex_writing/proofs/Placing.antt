@@ -4,7 +4,7 @@ use Rattle.std.specs.Prelude.{if◌then◌else◌, slice_get, slice_range}
 use Rattle.std.proofs.lemmas.Bool.{cases_lt, eqb-true, ltb-true}
 use Rattle.std.proofs.lemmas.List.Elements.{All-cons}
 use Rattle.std.proofs.lemmas.Option.{slice_get-get_or, get_or_from_slice_get}
-use Rattle.hot_model.specs.declared.Change.{Change}
+use Rattle.finite_map.specs.declared.Change.{Change}
 use Rattle.compound_node.specs.Nodes.{NodeView, piece, greatest_height}
 use Rattle.compound_node.specs.declared.entries.Entry.{Entry}
 use Rattle.compound_node.specs.declared.entries.Entry.TheVariants.{Leaf as LeafEntry, Node as NodeEntry}
@@ -42,7 +42,7 @@ use Rattle.rowex_core.specs.declared.event.Spot.TheVariants.{Root, Slot}
 use Rattle.rowex_core.specs.declared.known.Known.{Known}
 use Rattle.rowex_core.specs.declared.known.Locked.{Locked}
 use Rattle.rowex_core.specs.Cores.{HasRecord}
-use Rattle.rowex_core.specs.Reading.{node_of}
+use Rattle.rowex_core.specs.Reading.{node_words_of}
 use Rattle.rowex_core.proofs.Owning.{recalls}
 use Rattle.rowex_table.specs.Made.{Made, IsLater}
 use Rattle.rowex_table.specs.Publishes.{Publishes}
@@ -65,7 +65,7 @@ use Rattle.rowex_writing.specs.Locks.{AreNodes, HasJustLocked, numbers_of}
 use Rattle.rowex_writing.specs.Plans.{change, IsCase, IsNewLeafPlan, IsPlan}
 use Rattle.rowex_writing.specs.Putting.{IsSpotAbove, leaf_found}
 use Rattle.rowex_writing.specs.Remaking.{IsTreePage}
-use Rattle.rowex_writing.specs.Retiring.{AreRecords, IsAnchored}
+use Rattle.rowex_writing.specs.Retiring.{AreInTable, IsAnchored}
 use Rattle.rowex_reading.specs.Ways.{IsFoundAt, IsMismatch, IsWayNode, IsWayOf, end_of, named}
 use Rattle.rowex_writing.specs.declared.plan.Aim.{Aim}
 use Rattle.rowex_writing.specs.declared.plan.Aim.TheVariants.{Insert, Upsert, Remove}
@@ -349,10 +349,10 @@ module _ (table : TableView) (a : SeatView) (m : ℕ) (key : Key) (way : List St
     pub words : List ℕ
     pub locked : HasLocked a.known s.number words
     pub range : s.number < table.layout.nodes
-    pub shape_is : (forks : Page) → Sure a.known (λ past. IsShaped past m s.number forks) → shape (node_of words).page ≡ forks
-    pub spot_is : spot key (node_of words).page ≡ s.at
-    pub named_is : named way found (span.end - 1 + 1) ≡ Some (seek key (node_of words).page)
-    pub height : (node_of words).fixed.height ≡ s.height
+    pub shape_is : (forks : Page) → Sure a.known (λ past. IsShaped past m s.number forks) → shape (node_words_of words).page ≡ forks
+    pub spot_is : spot key (node_words_of words).page ≡ s.at
+    pub named_is : named way found (span.end - 1 + 1) ≡ Some (seek key (node_words_of words).page)
+    pub height : (node_words_of words).fixed.height ≡ s.height
     pub high : 0 < s.height
 
   pub node_above : (s : Step) → 0 < span.end → span.end ≤ length way → slice_get way (span.end - 1) ≡ Some s → IsAboveAt s
@@ -371,7 +371,7 @@ module _ (table : TableView) (a : SeatView) (m : ℕ) (key : Key) (way : List St
         locked = locked;
         range = node.range;
         shape_is = λ forks shaped. (locked_shape table.layout a.known m s.number s.height forks words t.possible t.way_of.since node.seen shaped locked).0;
-        spot_is = sym (spot_shape key (node_of words).page) ∙ (ap (spot key) shown.0 ∙ sym node.at);
+        spot_is = sym (spot_shape key (node_words_of words).page) ∙ (ap (spot key) shown.0 ∙ sym node.at);
         named_is = t.checked.entries (span.end - 1) s (omega arith) (omega arith) at words locked;
         height = shown.1;
         high = (let h = node.below in omega arith);
@@ -429,10 +429,10 @@ module _ (table : TableView) (a : SeatView) (m : ℕ) (key : Key) (way : List St
         trie_within stands.within (t.possible.lawful.core.state.trees i stands.tree (le_trans hi (seen_within t.possible.lawful recall)) stands.is_moment).0
 
   -- what goes is the table's
-  pub found_records : AreRecords table.layout (leaf_found found)
+  pub found_records : AreInTable table.layout (leaf_found found)
   found_records = go found refl
     where
-      go : (f : Found) → found ≡ f → AreRecords table.layout (leaf_found f)
+      go : (f : Found) → found ≡ f → AreInTable table.layout (leaf_found f)
       go Nothing is = λ i d low. absurd (omega arith)
       go (Leaf n v mismatch) is = All-cons (HasRecord table.layout) (a_leaf n) [] (found_there n v mismatch is) (λ i d low. absurd (omega arith))
 
@@ -440,10 +440,10 @@ module _ (table : TableView) (a : SeatView) (m : ℕ) (key : Key) (way : List St
   end_named : (n v : ℕ) (mismatch : Option ℕ) → found ≡ Leaf n v mismatch → (i : ℕ) → i ≡ length way → named way found i ≡ Some (LeafEntry n)
   end_named n v mismatch is i last = ap (named way found) last ∙ (named_last way found ∙ ap end_of is)
 
-  end_seek : (n v : ℕ) (mismatch : Option ℕ) → found ≡ Leaf n v mismatch → span.end ≡ length way → 0 < span.end → (s : Step) (above : IsAboveAt s) → seek key (node_of above.words).page ≡ LeafEntry n
+  end_seek : (n v : ℕ) (mismatch : Option ℕ) → found ≡ Leaf n v mismatch → span.end ≡ length way → 0 < span.end → (s : Step) (above : IsAboveAt s) → seek key (node_words_of above.words).page ≡ LeafEntry n
   end_seek n v mismatch is last low s above =
-      let e : Some (seek key (node_of above.words).page) ≡ Some (LeafEntry n) = sym above.named_is ∙ end_named n v mismatch is (span.end - 1 + 1) (omega arith) in
-      let z : seek key (node_of above.words).page ≡ LeafEntry n = cc in z
+      let e : Some (seek key (node_words_of above.words).page) ≡ Some (LeafEntry n) = sym above.named_is ∙ end_named n v mismatch is (span.end - 1 + 1) (omega arith) in
+      let z : seek key (node_words_of above.words).page ≡ LeafEntry n = cc in z
 
   -- ---- the store, once the records are made
   module _ (b : SeatView) (made : List Rec) (number value : ℕ) (later : IsLater a.known b.known) (locks : b.known.locks ≡ a.known.locks) (anchor : b.known.anchor ≡ a.known.anchor) (spelled : HasLeafWords (key, value)) where
@@ -554,8 +554,8 @@ module _ (table : TableView) (a : SeatView) (m : ℕ) (key : Key) (way : List St
             let (forks, shaped, just) = (subst (λ f. AreAffected a.known m key way f here.first here.last) here.is_found here.affected) lowest.level s lowest.is_level at_level in
             let shape_is = above.shape_is forks shaped in
             let few : size (page_affected p key forks) ≤ 1 = omega (arith, just.upto, lowest.single, (key_part key p forks).count, just.from) in
-            let affected : page_affected p key (node_of above.words).page ≡ Place (LeafEntry n) =
-            alone p key (node_of above.words).page (subst (λ z. size (page_affected p key z) ≤ 1) (sym shape_is) few) ∙ ap (λ (z : Entry). let y : Page = Place z in y) seek_is in
+            let affected : page_affected p key (node_words_of above.words).page ≡ Place (LeafEntry n) =
+            alone p key (node_words_of above.words).page (subst (λ z. size (page_affected p key z) ≤ 1) (sym shape_is) few) ∙ ap (λ (z : Entry). let y : Page = Place z in y) seek_is in
             let high = lowest.high s at_level in
             let one_high = pair_height (bit key p) p number n view built shows in
             record {

@@ -24,7 +24,7 @@ use Rattle.moments.specs.declared.Rec.{Rec}
 use Rattle.moments.specs.declared.Rec.TheVariants.{Node as a_node}
 use Rattle.rowex_walks.specs.Rise.{body, entry}
 use Rattle.moments.specs.State.{IsFrom}
-use Rattle.rowex_core.specs.Reading.{node_of}
+use Rattle.rowex_core.specs.Reading.{node_words_of}
 use Rattle.std.proofs.lemmas.Bool.{le-ltb}
 use Rattle.rowex_core.specs.declared.known.Known.{Known}
 use Rattle.rowex_core.specs.declared.known.Locked.{Locked}
@@ -99,7 +99,7 @@ kept_halves u p m was old h c (Many v) (One e) same s q z o lower upper is low h
 kept_halves u p m was old h c (Many v) (Many w) same s q z o lower upper is low high = absurd cc
 
 module _ (layout : Layout) (k : Known) (held : List Locked) (after : List Made) (since : ℕ) (x : Item) (p : ℕ) (l : Key) (n : ℕ) (words : List ℕ) (found : HasFoundBelow k held since x p l n words)
-    (old : NodeView) (shown : (node_of words).page ≡ piece old) (height : (node_of words).fixed.height ≡ old.height) where
+    (old : NodeView) (shown : (node_words_of words).page ≡ piece old) (height : (node_words_of words).fixed.height ≡ old.height) where
   pub rises_kept : (g : Grown) (risen : Risen) → GrownShows old g (page_grown p x.key (Leaf x.number) (piece old)) → keeps_node g ≡ true → AtRootFork (λ q a b. p < q) (piece old) →
       IsMadeFrom (Node n old.height) g risen (of_leaf x ∷ []) after → HasRisen layout k held after since x p l entry n (page_of risen) [] × (after ≡ of_leaf x ∷ [])
   rises_kept (Single view) risen shows kept before made = absurd cc
@@ -111,5 +111,5 @@ module _ (layout : Layout) (k : Known) (held : List Locked) (after : List Made) 
       (subst (GrownShows old (Two cut)) all.0 shows) q z o lower upper is low high in
       let same : after ≡ of_leaf x ∷ [] = made ∙ (ap (λ y. y ++ (upper ++ of_leaf x ∷ [])) none ∙ ap (λ y. y ++ of_leaf x ∷ []) nor) in
       let whole = rise_whole layout k held since x p l n words found (subst (IsFrom p) (sym shown) all.1) in
-      let tall : page_forked u p (Leaf x.number) (Place (Node n (node_of words).fixed.height)) ≡ Fork q (Place z) (Place o) = ap (λ h. page_forked u p (Leaf x.number) (Place (Node n h))) height ∙ sym page in
-      (subst (λ y. HasRisen layout k held after since x p l entry n y []) tall (subst (λ y. HasRisen layout k held y since x p l entry n (page_forked u p (Leaf x.number) (Place (Node n (node_of words).fixed.height))) []) (sym same) whole), same)
+      let tall : page_forked u p (Leaf x.number) (Place (Node n (node_words_of words).fixed.height)) ≡ Fork q (Place z) (Place o) = ap (λ h. page_forked u p (Leaf x.number) (Place (Node n h))) height ∙ sym page in
+      (subst (λ y. HasRisen layout k held after since x p l entry n y []) tall (subst (λ y. HasRisen layout k held y since x p l entry n (page_forked u p (Leaf x.number) (Place (Node n (node_words_of words).fixed.height))) []) (sym same) whole), same)

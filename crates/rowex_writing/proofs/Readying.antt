@@ -24,13 +24,13 @@ use Rattle.rowex_records.specs.Records.{IsFilled, Readies}
 use Rattle.rowex_rights.specs.Stages.{HasReady}
 use Rattle.rowex_rights.proofs.Loops.{ready_next}
 use Rattle.rowex_reading.specs.Possible.{IsPossible}
-use Rattle.rowex_writing.specs.Building.{ArePacked, IsBuilding}
+use Rattle.rowex_writing.specs.Building.{AreMadePacked, IsBuilding}
 use Rattle.rowex_writing.specs.Going.{WorksOn, IsQuiet}
 use Rattle.rowex_writing.proofs.Locking.{goes_more}
 use Rattle.rowex_writing.proofs.Making.{goes_possible, owns_on}
 
 -- ---- the records that are left
-packed_drop : (layout : Layout) (i : ℕ) (news : List Made) → ArePacked layout news → ArePacked layout (drop i news)
+packed_drop : (layout : Layout) (i : ℕ) (news : List Made) → AreMadePacked layout news → AreMadePacked layout (drop i news)
 packed_drop layout zero news p = p
 packed_drop layout (suc i) [] p = tt
 packed_drop layout (suc i) (m ∷ news) p = packed_drop layout i news p.1
@@ -87,7 +87,7 @@ module _ {G : Type 0} (table : TableView) (becomes : G → Event → G → Type 
     next_rights news i =
         let next = next_made made news left d i.listed some upto in
         let has = subst (HasReadied b.0.known (take (length made - left) news)) next.rest (ready news i) in
-        let packed : ArePacked table.layout (next.m ∷ drop (length made - (left - 1)) news) = subst (ArePacked table.layout) next.rest (packed_drop table.layout (length made - left) news i.packed) in
+        let packed : AreMadePacked table.layout (next.m ∷ drop (length made - (left - 1)) news) = subst (AreMadePacked table.layout) next.rest (packed_drop table.layout (length made - left) news i.packed) in
         subst (λ r. HasRecord table.layout r × ((words : List ℕ) × IsFilled b.0.known r words × FitsIn table.layout r words)) (sym next.is) (
           held_record table.layout b.0.known (take (length made - left) news) (drop (length made - (left - 1)) news) next.m has (goes_possible table becomes a b goes i.possible),
           (next.m.words, held_filled table.layout b.0.known (take (length made - left) news) (drop (length made - (left - 1)) news) next.m has packed.0.0, packed.0.1),

@@ -8,7 +8,7 @@ use Rattle.pieces.specs.Growth.{affected_first, affected_count, grown, IsAffecte
 use Rattle.pieces.specs.Piece.{Place, Fork, places, size}
 use Rattle.pieces.proofs.Affected.{affected_again}
 use Rattle.compound_node.specs.Halves.{HalfShows}
-use Rattle.compound_node.specs.Nodes.{NodeView, piece, IsLawful, IsBuiltFrom, IsEntry, height_of, greatest_height}
+use Rattle.compound_node.specs.Nodes.{NodeView, piece, IsLawfulNode, IsBuiltFrom, IsEntry, height_of, greatest_height}
 use Rattle.compound_node.specs.declared.entries.Entry.{Entry}
 use Rattle.compound_node.specs.declared.entries.Entry.TheVariants.{Leaf}
 use Rattle.compound_node.specs.declared.halves.Half.{Half}
@@ -132,7 +132,7 @@ greatest_under [] h l a = l
 greatest_under (e ∷ es) h l a = let x = a 0 e (omega arith) in let y = greatest_under es h l (λ i d o. a (suc i) d (omega arith)) in omega arith
 
 -- the entries of a lawful node's page are lower than it
-pub entries_under : (v : NodeView) → IsLawful v → greatest_height (places (piece v)) < v.height
+pub entries_under : (v : NodeView) → IsLawfulNode v → greatest_height (places (piece v)) < v.height
 entries_under v l = subst (λ es. greatest_height es < v.height) l.shows.entries_are (greatest_under v.entries v.height (height_positive v l) l.above)
 
 greatest_forked : (u : Bool) (p : ℕ) (e : Entry) (x : Page) → greatest_height (places (page_forked u p e x)) ≤ max (height_of e) (greatest_height (places x))
@@ -157,7 +157,7 @@ pub record FitsLeaf (k : Key) (p first last n : ℕ) (v : NodeView) : Type 0 whe
   pub position : p < 9 * MAX_BYTES
   pub low : greatest_height (places (page_grown p k (Leaf n) (piece v))) < v.height
 
-pub fits_leaf : {k : Key} {p first last : ℕ} {v : NodeView} (n : ℕ) → IsLawful v → AffectsJust k p first last (piece v) → IsTreePage (page_grown p k (Leaf n) (piece v)) → FitsLeaf k p first last n v
+pub fits_leaf : {k : Key} {p first last : ℕ} {v : NodeView} (n : ℕ) → IsLawfulNode v → AffectsJust k p first last (piece v) → IsTreePage (page_grown p k (Leaf n) (piece v)) → FitsLeaf k p first last n v
 fits_leaf {k} {p} {first} {last} {v} n l affects tree = record {
   range = leaf_range k p first last (Leaf n) (piece v) affects tree;
   position = leaf_position k p (Leaf n) (piece v) tree;

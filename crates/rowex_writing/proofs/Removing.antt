@@ -6,7 +6,7 @@ use Rattle.std.proofs.lemmas.Option.{get_or_from_slice_get}
 use Rattle.compound_node.specs.Nodes.{NodeView, IsEntry, height_of, piece}
 use Rattle.compound_node.specs.declared.entries.Entry.{Entry}
 use Rattle.compound_node.specs.declared.entries.Entry.TheVariants.{Leaf as LeafEntry, Node}
-use Rattle.hot_model.specs.declared.Change.{Change as MapChange}
+use Rattle.finite_map.specs.declared.Change.{Change as MapChange}
 use Rattle.insert_cases.specs.declared.choice.Step.{Step}
 use Rattle.pieces.specs.Piece.{Place, Fork, places}
 use Rattle.record_words.specs.declared.layout.Layout.{Layout}
@@ -28,7 +28,7 @@ use Rattle.rowex_core.specs.declared.known.Known.{Known}
 use Rattle.rowex_core.specs.declared.known.Locked.{Locked}
 use Rattle.rowex_core.specs.Cores.{HasRecord, IsWhole}
 use Rattle.rowex_core.specs.Having.{AreKept}
-use Rattle.rowex_core.specs.Reading.{IsPacked, node_of}
+use Rattle.rowex_core.specs.Reading.{IsPacked, node_words_of}
 use Rattle.rowex_core.specs.Sharing.{IsLocked}
 use Rattle.rowex_core.proofs.Owning.{knows_all}
 use Rattle.rowex_core.proofs.Reading.{node_is}
@@ -62,8 +62,8 @@ use Rattle.insert_cases.specs.declared.choice.Choice.{Choice}
 use Rattle.rowex_writing.specs.Going.{HasLocked, IsLockedBy}
 use Rattle.rowex_writing.specs.Locks.{HasLockedSpan, numbers_of}
 use Rattle.rowex_writing.specs.Putting.{IsSpotAbove}
-use Rattle.rowex_writing.specs.Retiring.{AreRecords}
-use Rattle.rowex_writing.specs.Taking.{HasLeafBelow, HasOnlyLeaf, HasRead}
+use Rattle.rowex_writing.specs.Retiring.{AreInTable}
+use Rattle.rowex_writing.specs.Taking.{HasLeafBelow, HasOnlyLeaf, HasReadLeaf}
 use Rattle.rowex_reading.specs.Ways.{IsWayOf, named}
 use Rattle.rowex_reading.proofs.Ways.{named_at, named_end}
 use Rattle.rowex_reading.specs.declared.descent.Found.{Found}
@@ -76,13 +76,13 @@ use Rattle.tries.specs.Content.{item}
 
 -- ---- the leaf
 -- in each stage it has the key and the value
-pub leaf_there : (layout : Layout) (k j : Known) (held : List Locked) (news : List Made) (number : ℕ) (key : Key) (value : ℕ) → IsLater k j → HasRead k number key value → IsLeafThere layout j held news number key value
+pub leaf_there : (layout : Layout) (k j : Known) (held : List Locked) (news : List Made) (number : ℕ) (key : Key) (value : ℕ) → IsLater k j → HasReadLeaf k number key value → IsLeafThere layout j held news number key value
 leaf_there layout k j held news number key value later (m, pinned, read) =
     leaf_stays layout j held news m number key value (since_later later pinned)
     (sure_stays k j (λ s. IsRead s m number key value) later (seen_is_sure k (λ s. IsRead s m number key value) (read_stable m number key value) read))
 
 -- it is one of the table's
-pub leaf_record : (layout : Layout) (k : Known) (number : ℕ) (key : Key) (value : ℕ) → IsPossible layout k → HasRead k number key value → number < layout.leaves
+pub leaf_record : (layout : Layout) (k : Known) (number : ℕ) (key : Key) (value : ℕ) → IsPossible layout k → HasReadLeaf k number key value → number < layout.leaves
 leaf_record layout k number key value possible (m, pinned, read) =
     led_in_table layout k m (LeafEntry number) possible (pinned, λ c lawful known. let (n, low, high, stands) = read c lawful known in (n, leaf number key value, low, high, stands, refl))
 
@@ -96,7 +96,7 @@ module _ (table : TableView) (a : SeatView) (number : ℕ) (key : Key) (value : 
         (remove_the_last table.layout j a.known.locks number value key ready (anchor ∙ o.anchor) (leaf_there table.layout a.known j a.known.locks [] number key value later o.read));
   }
 
-  pub only_records : AreRecords table.layout (a_leaf number ∷ [])
+  pub only_records : AreInTable table.layout (a_leaf number ∷ [])
   only_records = All-cons (HasRecord table.layout) (a_leaf number) [] (leaf_record table.layout a.known number key value o.possible o.read) (λ i d low. absurd (omega arith))
 
 -- ---- the way
@@ -221,21 +221,21 @@ left_of k (Fork q x y) e h = sides (left_of k x e) (left_of k y e) (bit k q) h
     sides f g false h = joined_of q false x y (page_without k x) e f h
 
 -- the words of a locked node are those of one
-pub locked_view : (layout : Layout) (k : Known) (n : ℕ) (words : List ℕ) → IsPossible layout k → HasLocked k n words → (view : NodeView) × All IsEntry (places (piece view)) × ((node_of words).page ≡ piece view)
+pub locked_view : (layout : Layout) (k : Known) (n : ℕ) (words : List ℕ) → IsPossible layout k → HasLocked k n words → (view : NodeView) × All IsEntry (places (piece view)) × ((node_words_of words).page ≡ piece view)
 unfolding IsPacked
 locked_view layout k n words possible h =
     let c = possible.core in
     let (lock, tree, same) = all_of (IsLocked k.pass c) (record { node = n; words = words }) k.locks (knows_all c k possible.knows).locks h in
     let (view, has, spells) = possible.lawful.records.packed (a_node n) (subst IsWhole (sym tree.1) tt) in
     let shows = node_is view (c.words (a_node n)) (possible.lawful.records.sized (a_node n)).1 has spells in
-    (view, subst (All IsEntry) has.lawful.shows.entries_are has.lawful.children, ap (λ (z : NodeWords). z.page) (ap node_of (sym same) ∙ shows))
+    (view, subst (All IsEntry) has.lawful.shows.entries_are has.lawful.children, ap (λ (z : NodeWords). z.page) (ap node_words_of (sym same) ∙ shows))
 
 side_raised : (k : Key) (view : NodeView) (e : Entry) (news : List Made) → All IsEntry (places (piece view)) → IsSide (page_without k (piece view)) e news → IsRaised e
 side_raised k view e news all (one d is) = entry_raised e (all_of IsEntry e (places (piece view)) all (left_of k (piece view) e (subst (λ (z : Page). IsOf e (places z)) (sym is) (inl refl))))
 side_raised k view e news all (anew m made is shows) = let high = is.1 in omega (arith, high)
 
 -- so the entry for what is left has a height
-pub left_raised : (layout : Layout) (k : Known) (n : ℕ) (words : List ℕ) (key : Key) (e : Entry) (news : List Made) → IsPossible layout k → HasLocked k n words → IsSide (page_without key (node_of words).page) e news → IsRaised e
+pub left_raised : (layout : Layout) (k : Known) (n : ℕ) (words : List ℕ) (key : Key) (e : Entry) (news : List Made) → IsPossible layout k → HasLocked k n words → IsSide (page_without key (node_words_of words).page) e news → IsRaised e
 left_raised layout k n words key e news possible h side =
     let (view, all, page_is) = locked_view layout k n words possible h in
     side_raised key view e news all (subst (λ (z : Page). IsSide (page_without key z) e news) page_is side)
@@ -272,20 +272,20 @@ module _ (table : TableView) (a : SeatView) (m : ℕ) (key : Key) (way : List St
   w : IsWayOf table.layout a.known m key way found
   w = b.taken.way_of
 
-  pub has_read : HasRead a.known number key value
+  pub has_read : HasReadLeaf a.known number key value
   has_read = let (l, read, same) = w.found_at in (m, w.since, subst (λ z. Sure a.known (λ past. IsRead past m number z value)) (sym same) read)
 
   pub lowest_locked : IsLockedBy a.known s.number
   lowest_locked = held_at a.known way span span.end s b.taken.locked (let e = b.len in omega (arith, e)) (omega arith) (let e = b.last in omega (arith, e)) at
 
-  low_names : (words : List ℕ) → HasLocked a.known s.number words → seek key (node_of words).page ≡ LeafEntry number
+  low_names : (words : List ℕ) → HasLocked a.known s.number words → seek key (node_words_of words).page ≡ LeafEntry number
   low_names words h =
       let e = b.last in
       let n = b.len in
       let checked = b.taken.checked.entries span.end s (omega arith) (omega (arith, e)) at words h in
       same_some (sym checked ∙ named_end way found (span.end + 1) (omega (arith, e, n)))
 
-  pub gone_records : AreRecords table.layout (a_node s.number ∷ a_leaf number ∷ [])
+  pub gone_records : AreInTable table.layout (a_node s.number ∷ a_leaf number ∷ [])
   gone_records = All-cons (HasRecord table.layout) (a_node s.number) (a_leaf number ∷ []) (w.nodes span.end s at).2.range
       (All-cons (HasRecord table.layout) (a_leaf number) [] (leaf_record table.layout a.known number key value b.taken.possible has_read) (λ i d low. absurd (omega arith)))
 
@@ -321,7 +321,7 @@ module _ (table : TableView) (a : SeatView) (m : ℕ) (key : Key) (way : List St
 
   -- what is left may take the node's place
   module _ (c : SeatView) (made : List Rec) (news : List Made) (words : List ℕ) (h : HasLocked a.known s.number words) (e : Entry) (stays : StaysLocked a.known c.known) (building : IsBuilding table c made news)
-      (side : IsSide (page_without key (node_of words).page) e news) (low : height_of e ≤ (node_of words).fixed.height) (word : HasEntryWord (Some e)) where
+      (side : IsSide (page_without key (node_words_of words).page) e news) (low : height_of e ≤ (node_words_of words).fixed.height) (word : HasEntryWord (Some e)) where
     still : (n : ℕ) (ws : List ℕ) → HasLocked a.known n ws → HasLocked c.known n ws
     still n ws i = subst (λ z. IsOf (record { node = n; words = ws }) z) (sym stays.1) i
 
@@ -343,12 +343,12 @@ module _ (table : TableView) (a : SeatView) (m : ℕ) (key : Key) (way : List St
         let (upper, hu) = held_at a.known way span (span.end - 1) u b.taken.locked (omega (arith, e_len)) (omega (arith, some)) (omega (arith, some, e_last)) there in
         let next : span.end - 1 + 1 ≡ span.end = omega (arith, some) in
         let names : named way found (span.end - 1 + 1) ≡ Some (Node s.number s.height) = named_at way found (span.end - 1 + 1) s (ap (slice_get way) next ∙ at) in
-        let upper_names : seek key (node_of upper).page ≡ Node s.number s.height = same_some (sym (b.taken.checked.entries (span.end - 1) u (omega (arith, some)) (omega (arith, some, e_last)) there upper hu) ∙ names) in
+        let upper_names : seek key (node_words_of upper).page ≡ Node s.number s.height = same_some (sym (b.taken.checked.entries (span.end - 1) u (omega (arith, some)) (omega (arith, some, e_last)) there upper hu) ∙ names) in
         let (d, named_is, node) = w.nodes (span.end - 1) u there in
         let falls : s.height < u.height = subst (λ z. height_of z < u.height) (same_some (sym named_is ∙ names)) node.below in
         let above = way_node_locked table.layout a.known m key u d upper b.taken.possible w.since node hu in
         let below = (let (f, f_is, own) = w.nodes span.end s at in way_node_locked table.layout a.known m key s f words b.taken.possible w.since own h) in
-        let lower : IsLowerPage (node_of upper).fixed.height (Place e) = (let tall = above.height in let small = below.height in low_page (node_of upper).fixed.height e (omega (arith, low, falls, tall, small))) in
+        let lower : IsLowerPage (node_words_of upper).fixed.height (Place e) = (let tall = above.height in let small = below.height in low_page (node_words_of upper).fixed.height e (omega (arith, low, falls, tall, small))) in
         subst (λ z. Publishes table.layout j (Slot z i) (entry_word (Some e)) (gone_change j.pass) (Some value) gone) (sym n_is)
         (remove_in_slot table.layout j c.known.locks news key u.number s.number number s.height i (entry_word (Some e)) value e upper words ready side (still u.number upper hu) (still s.number words h)
         upper_names (low_names words h) (above.at ∙ sym i_is) lower (leaf_there table.layout a.known j c.known.locks news number key value (later_on a.known c.known j stays.0 later) has_read) (word, refl))

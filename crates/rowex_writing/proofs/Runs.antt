@@ -2,8 +2,8 @@
 use Rattle.std.proofs.Common.{◌≡◌, ◌≤◌, List, [], ◌∷◌, ◌++◌, refl, sym, ap, subst, ◌∙◌, arith, ◌<◌, ◌+◌}
 use Rattle.std.specs.Prelude.{All}
 use Rattle.std.proofs.lemmas.List.Elements.{All-append, All-cons, All-head, All-tail, All-weaker}
-use Rattle.hot_model.specs.Fronts.{BeginsWith}
-use Rattle.hot_model.proofs.Growth.{begins_itself, begins_on, begins_push}
+use Rattle.finite_map.specs.Fronts.{BeginsWith}
+use Rattle.finite_map.proofs.Growth.{begins_itself, begins_on, begins_push}
 use Rattle.record_words.specs.declared.layout.Layout.{Layout}
 use Rattle.moments.specs.Trades.{AreApart}
 use Rattle.rowex_core.specs.declared.event.Act.{Act}

@@ -18,7 +18,7 @@ use Rattle.moments.proofs.Members.{all_of}
 use Rattle.rowex_core.specs.declared.known.Known.{Known}
 use Rattle.rowex_core.specs.Cores.{bare}
 use Rattle.rowex_core.specs.Knowing.{IsSince}
-use Rattle.rowex_core.specs.Reading.{node_of}
+use Rattle.rowex_core.specs.Reading.{node_words_of}
 use Rattle.rowex_core.specs.Sharing.{IsLocked}
 use Rattle.rowex_core.proofs.Owning.{knows_all, recalls}
 use Rattle.rowex_walks.specs.Scan.{IsSeen, IsShaped}
@@ -46,7 +46,7 @@ now_shaped s m n h x w b steady low (o, u, lo, hi, st, pg) shape_is now same_pag
 
 -- of a node to which the pass was led since its pin
 pub locked_shape : (layout : Layout) (k : Known) (m n h : ℕ) (x : Page) (words : List ℕ) → IsPossible layout k → IsSince k m → Sure k (λ past. IsSeen past m (Node n h)) →
-    Sure k (λ past. IsShaped past m n x) → HasLocked k n words → (shape (node_of words).page ≡ x) × ((node_of words).fixed.height ≡ h)
+    Sure k (λ past. IsShaped past m n x) → HasLocked k n words → (shape (node_words_of words).page ≡ x) × ((node_words_of words).fixed.height ≡ h)
 locked_shape layout k m n h x words possible since sees shape_is locked =
     let c = possible.core in
     let law = possible.lawful in
@@ -55,8 +55,8 @@ locked_shape layout k m n h x words possible since sees shape_is locked =
     let there = seen_stable m (Node n h) (seen c k) c.past grown (sees c law known) in
     let (lock, (f, in_tree), same) = all_of (IsLocked k.pass c) (record { node = n; words = words }) k.locks (knows_all c k possible.knows).locks locked in
     let (b, now, page_is) = in_tree_now (bare c) law.core.state n f in_tree in
-    subst (λ ws. (shape (node_of ws).page ≡ x) × ((node_of ws).fixed.height ≡ h)) same
-    (now_shaped c.past m n h x (node_of (c.words (a_node n))) b (steady (view c) law.core.state m (reach_since k m since c law known)) (le_trans there.2 there.3) there
+    subst (λ ws. (shape (node_words_of ws).page ≡ x) × ((node_words_of ws).fixed.height ≡ h)) same
+    (now_shaped c.past m n h x (node_words_of (c.words (a_node n))) b (steady (view c) law.core.state m (reach_since k m since c law known)) (le_trans there.2 there.3) there
     (shaped_stable m n x (seen c k) c.past grown (shape_is c law known)) now page_is)
 
 -- ---- a page, and forks that were read of it
@@ -104,15 +104,15 @@ pub record IsStepOf (key : Key) (s : Step) (forks : Page) (w : NodeWords) : Type
   pub room : size w.page ≤ 32
 
 pub way_node_locked : (layout : Layout) (k : Known) (m : ℕ) (key : Key) (s : Step) (e : Entry) (words : List ℕ) → IsPossible layout k → IsSince k m →
-    (is : IsWayNode layout k m key s e) → HasLocked k s.number words → IsStepOf key s is.forks (node_of words)
+    (is : IsWayNode layout k m key s e) → HasLocked k s.number words → IsStepOf key s is.forks (node_words_of words)
 way_node_locked layout k m key s e words possible since is locked =
     let (same, high) = locked_shape layout k m s.number s.height is.forks words possible since is.seen is.shaped locked in
-    let all = shape_size (node_of words).page is.forks same in
+    let all = shape_size (node_words_of words).page is.forks same in
     record {
       forks_are = same;
       height = high;
       count = all ∙ sym is.count;
-      first = shape_first (node_of words).page is.forks same ∙ sym is.first;
-      at = shape_spot key (node_of words).page is.forks same ∙ sym is.at;
+      first = shape_first (node_words_of words).page is.forks same ∙ sym is.first;
+      at = shape_spot key (node_words_of words).page is.forks same ∙ sym is.at;
       room = subst (λ z. z ≤ 32) (sym all) is.room;
     }

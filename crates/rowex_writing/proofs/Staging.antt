@@ -21,12 +21,12 @@ use Rattle.rowex_rights.proofs.Rising.{stage_earlier}
 use Rattle.rowex_rights.proofs.Stages.{stage_of}
 use Rattle.rowex_reading.specs.Possible.{IsPossible}
 use Rattle.rowex_reading.proofs.Later.{event_possible}
-use Rattle.rowex_writing.specs.Building.{ArePacked}
+use Rattle.rowex_writing.specs.Building.{AreMadePacked}
 use Rattle.rowex_writing.specs.Remaking.{IsTreePage}
 
 module _ (layout : Layout) where
   -- all of them, one after the other
-  readied : (done todo : List Made) (k : Known) → IsPossible layout k → HasReadied k done todo → ArePacked layout todo → (j : Known) × ReadiesEach layout todo k j × IsPossible layout j
+  readied : (done todo : List Made) (k : Known) → IsPossible layout k → HasReadied k done todo → AreMadePacked layout todo → (j : Known) × ReadiesEach layout todo k j × IsPossible layout j
   readied done [] k possible has packed = (k, refl, possible)
   readied done (m ∷ todo) k possible has packed =
       let next : Known = record (learned possible.core (Ready m.rec) k) { notes = k.notes ++ [] } in
@@ -42,7 +42,7 @@ module _ (layout : Layout) where
       (j, (next, e, rest), last)
 
   -- some stage of them
-  pub stage_of_held : (k : Known) (news : List Made) → IsPossible layout k → HoldsMade k news → ArePacked layout news → (c : Core) × IsStage layout k k.locks news c
+  pub stage_of_held : (k : Known) (news : List Made) → IsPossible layout k → HoldsMade k news → AreMadePacked layout news → (c : Core) × IsStage layout k k.locks news c
   stage_of_held k news possible holds packed =
       let (j, readies, last) = readied [] news k possible holds packed in
       let (own, stays) = readies_all layout k j news holds readies in
@@ -50,7 +50,7 @@ module _ (layout : Layout) where
       (last.core, stage_earlier layout k j stays.0 k.locks news last.core stage)
 
   -- so what has risen is the page of a lawful tree
-  pub risen_page : (k : Known) (news : List Made) (gone : List Rec) (since : ℕ) (x : Item) (p : ℕ) (l : Key) (d : Side) (n : ℕ) (words : List ℕ) (r : Page) → IsPossible layout k → HoldsMade k news → ArePacked layout news →
+  pub risen_page : (k : Known) (news : List Made) (gone : List Rec) (since : ℕ) (x : Item) (p : ℕ) (l : Key) (d : Side) (n : ℕ) (words : List ℕ) (r : Page) → IsPossible layout k → HoldsMade k news → AreMadePacked layout news →
       HasLeaf news x → IsOf (record { node = n; words = words }) k.locks → HasRisen layout k k.locks news since x p l d n r gone → IsTreePage r
   risen_page k news gone since x p l d n words r possible holds packed leaf at risen =
       let (c, stage) = stage_of_held k news possible holds packed in

@@ -23,7 +23,7 @@ use Rattle.rowex_records.proofs.Making.{looks_one}
 use Rattle.rowex_writing.specs.declared.building.Build.{Build}
 use Rattle.rowex_writing.specs.Building.{IsBuilding}
 use Rattle.rowex_writing.specs.Going.{WorksOn}
-use Rattle.rowex_writing.specs.Walks.{IsWalk, WalksOn}
+use Rattle.rowex_writing.specs.Walks.{IsClaimWalk, WalksOn}
 use Rattle.rowex_writing.proofs.Keeping.{made_held, made_records, run_failed}
 use Rattle.rowex_writing.proofs.Locking.{goes_more, goes_none}
 use Rattle.rowex_writing.proofs.Making.{miss_on, steps_rise}
@@ -67,7 +67,7 @@ next_on n begin t number low within is = subst (λ z. begin_of n (z + 1) ≡ wra
 -- ---- the walk
 module _ (kind : ℕ → Rec) (n : ℕ) where
   -- a walk that is to try each record begins at any number
-  pub walk_begins : (k : Known) (made : List Rec) (next left : ℕ) → 0 < n → left ≡ n → IsWalk kind n k.steps k made next left
+  pub walk_begins : (k : Known) (made : List Rec) (next left : ℕ) → 0 < n → left ≡ n → IsClaimWalk kind n k.steps k made next left
   walk_begins k made next left some whole = record {
     early = omega arith;
     begin = begin_of n next;
@@ -84,7 +84,7 @@ module _ (kind : ℕ → Rec) (n : ℕ) where
 
   -- it goes on being one, where failed steps and records come to those that there are
   pub walk_stays : (since : ℕ) (k j : Known) (made more : List Rec) (next left : ℕ) → k.steps ≤ j.steps → ((x : Failed) → Contains k.failed x → Contains j.failed x) → ((r : Rec) → Contains made r → Contains more r)
-      → IsWalk kind n since k made next left → IsWalk kind n since j more next left
+      → IsClaimWalk kind n since k made next left → IsClaimWalk kind n since j more next left
   walk_stays since k j made more next left later failed kept w = record {
     early = let early = w.early in omega arith;
     begin = w.begin;
@@ -96,7 +96,7 @@ module _ (kind : ℕ → Rec) (n : ℕ) where
   }
 
   -- where all have been tried, each was found not free, if those that are made were
-  pub walk_ends : (since : ℕ) (k : Known) (made : List Rec) (next left : ℕ) → left ≡ 0 → ((r : Rec) → Contains made r → HasMissedSince k.failed r since) → IsWalk kind n since k made next left → AllMissed kind n k.failed since
+  pub walk_ends : (since : ℕ) (k : Known) (made : List Rec) (next left : ℕ) → left ≡ 0 → ((r : Rec) → Contains made r → HasMissedSince k.failed r since) → IsClaimWalk kind n since k made next left → AllMissed kind n k.failed since
   walk_ends since k made next left none looked w q low =
       let (i, within, is) = turned_to n w.begin q w.low low in
       let all = w.count in
@@ -104,12 +104,12 @@ module _ (kind : ℕ → Rec) (n : ℕ) where
 
   module _ {G : Type 0} (table : TableView) (becomes : G → Event → G → Type 0) where
     pub walk_on : (since : ℕ) (a b : SeatView × G) (made more : List Rec) (next left : ℕ) → WorksOn table becomes a b → ((r : Rec) → Contains made r → Contains more r)
-        → IsWalk kind n since a.0.known made next left → IsWalk kind n since b.0.known more next left
+        → IsClaimWalk kind n since a.0.known made next left → IsClaimWalk kind n since b.0.known more next left
     walk_on since a b made more next left goes kept w =
         walk_stays since a.0.known b.0.known made more next left (steps_rise table becomes goes.acts a b goes.steps) (λ x has. run_failed table becomes goes.acts a b goes.steps x has) kept w
 
     -- after tries that found none free
-    module _ (since m : ℕ) (a b : SeatView × G) (made : List Rec) (next left : ℕ) (w : IsWalk kind n since a.0.known made next left) (within : m ≤ left) (none : FindsNone table becomes kind n (begin_of n next) m a b) where
+    module _ (since m : ℕ) (a b : SeatView × G) (made : List Rec) (next left : ℕ) (w : IsClaimWalk kind n since a.0.known made next left) (within : m ≤ left) (none : FindsNone table becomes kind n (begin_of n next) m a b) where
       pub each_tried : (i : ℕ) → i < w.tried + m → HasMissedSince b.0.known.failed (kind (wrapped n w.begin i)) since ⊎ Contains made (kind (wrapped n w.begin i))
       each_tried i low = go (nat_lt i w.tried) refl
         where
@@ -136,7 +136,7 @@ module _ (kind : ℕ → Rec) (n : ℕ) where
 
     -- none of those that were left is free
     pub walk_out : (since left less : ℕ) (a b : SeatView × G) (made : List Rec) (next m : ℕ) → WorksOn table becomes a b → m ≡ left → less ≡ 0 → FindsNone table becomes kind n (begin_of n next) m a b
-        → IsWalk kind n since a.0.known made next left → IsWalk kind n since b.0.known made next less
+        → IsClaimWalk kind n since a.0.known made next left → IsClaimWalk kind n since b.0.known made next less
     walk_out since left less a b made next m goes all out none w = record {
       early = let rise = steps_rise table becomes goes.acts a b goes.steps in let early = w.early in omega arith;
       begin = w.begin;
@@ -149,7 +149,7 @@ module _ (kind : ℕ → Rec) (n : ℕ) where
 
     -- one of them is claimed
     pub walk_claims : (since left less number : ℕ) (a b : SeatView × G) (made : List Rec) (next : ℕ) → WorksOn table becomes a b → (claims : Claims table becomes kind n (begin_of n next) number a b) → less + claims.tried + 1 ≡ left
-        → IsWalk kind n since a.0.known made next left → IsWalk kind n since b.0.known (made ++ kind number ∷ []) (number + 1) less
+        → IsClaimWalk kind n since a.0.known made next left → IsClaimWalk kind n since b.0.known (made ++ kind number ∷ []) (number + 1) less
     walk_claims since left less number a b made next goes claims spent w = record {
       early = let rise = steps_rise table becomes goes.acts a b goes.steps in let early = w.early in omega arith;
       begin = w.begin;

@@ -1,12 +1,12 @@
 -- One attempt of a call that may change the map: what it answers, and why it is refused.
 use Rattle.std.specs.Prelude.{◌≡◌, ◌≢◌, ◌⊎◌, ℕ, ◌<◌, ◌≤◌, length, Option, Some, None}
-use Rattle.hot_model.specs.declared.Call.{Call}
-use Rattle.hot_model.specs.declared.Call.TheVariants.{Insert as InsertCall, Upsert as UpsertCall, Exchange as ExchangeCall, Remove as RemoveCall, RemoveIf as RemoveIfCall}
-use Rattle.hot_model.specs.declared.Change.{Change}
-use Rattle.hot_model.specs.declared.Kind.TheVariants.{Added, Replaced, Removed as TakenAway}
-use Rattle.hot_model.specs.declared.Reply.{Reply}
-use Rattle.hot_model.specs.declared.Reply.TheVariants.{Inserted, Exists, New, Was, Exchanged, Differs, Absent, Removed}
-use Rattle.hot_model.specs.Fronts.{BeginsWith, OthersGoOn}
+use Rattle.finite_map.specs.declared.Call.{Call}
+use Rattle.finite_map.specs.declared.Call.TheVariants.{Insert as InsertCall, Upsert as UpsertCall, Exchange as ExchangeCall, Remove as RemoveCall, RemoveIf as RemoveIfCall}
+use Rattle.finite_map.specs.declared.Change.{Change}
+use Rattle.finite_map.specs.declared.Kind.TheVariants.{Added, Replaced, Removed as TakenAway}
+use Rattle.finite_map.specs.declared.Reply.{Reply}
+use Rattle.finite_map.specs.declared.Reply.TheVariants.{Inserted, Exists, New, Was, Exchanged, Differs, Absent, Removed}
+use Rattle.finite_map.specs.Fronts.{BeginsWith, OthersGoOn}
 use Rattle.record_words.specs.declared.layout.Layout.{Layout}
 use Rattle.tries.specs.Keys.{Key}
 use Rattle.moments.specs.State.{IsHeldSince, IsMissed}
@@ -25,12 +25,12 @@ use Rattle.rowex_writing.specs.declared.attempts.TryFault.{TryFault}
 use Rattle.rowex_writing.specs.declared.attempts.TryFault.TheVariants.{Busy, FullNodes, FullLeaves}
 
 -- the call that asks so for a key and a value
-abbrev pub call_of : Ask → Key → ℕ → Call
-call_of Insert key value = InsertCall key value
-call_of Upsert key value = UpsertCall key value
-call_of (Exchange expected) key value = ExchangeCall key expected value
-call_of Remove key value = RemoveCall key
-call_of (RemoveIf expected) key value = RemoveIfCall key expected
+abbrev pub asked_call : Ask → Key → ℕ → Call
+asked_call Insert key value = InsertCall key value
+asked_call Upsert key value = UpsertCall key value
+asked_call (Exchange expected) key value = ExchangeCall key expected value
+asked_call Remove key value = RemoveCall key
+asked_call (RemoveIf expected) key value = RemoveIfCall key expected
 
 -- the last load of the root was since k, and its front begins with that of k
 pub record HasLoadedRoot (k j : Known) : Type 0 where
@@ -81,12 +81,12 @@ HasAnswered k j ask key value reply = (HasLooked j ask key reply × OthersGoOn k
 
 -- why it was refused: a lock of it met another's, or another's change was seen since; or no node record was free, or no leaf
 -- record with room for its key
-abbrev pub IsCause : Layout → Key → Known → Known → TryFault → Type 0
-IsCause layout key k j Busy = HasMetLock k j ⊎ (length k.front < length j.front)
-IsCause layout key k j FullNodes = IsFull layout key k j Nodes
-IsCause layout key k j FullLeaves = IsFull layout key k j Leaves
+abbrev pub IsAttemptCause : Layout → Key → Known → Known → TryFault → Type 0
+IsAttemptCause layout key k j Busy = HasMetLock k j ⊎ (length k.front < length j.front)
+IsAttemptCause layout key k j FullNodes = IsFull layout key k j Nodes
+IsAttemptCause layout key k j FullLeaves = IsFull layout key k j Leaves
 
 -- It was refused: no change of its own was made.
 pub record HasRefused (layout : Layout) (key : Key) (k j : Known) (fault : TryFault) : Type 0 where
   pub others : OthersGoOn k.pass k.front j.front
-  pub cause : IsCause layout key k j fault
+  pub cause : IsAttemptCause layout key k j fault

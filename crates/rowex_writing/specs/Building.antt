@@ -26,19 +26,19 @@ use Rattle.rowex_walks.specs.Rise.{Side, entry}
 use Rattle.moments.specs.declared.Rec.{Rec}
 use Rattle.moments.specs.declared.Rec.TheVariants.{Node as a_node}
 use Rattle.rowex_core.specs.Cores.{FitsIn}
-use Rattle.rowex_core.specs.Reading.{IsPacked, node_of}
+use Rattle.rowex_core.specs.Reading.{IsPacked, node_words_of}
 use Rattle.rowex_table.specs.Made.{Made, recs_of, HoldsMade}
 use Rattle.rowex_table.specs.Seats.{TableView, SeatView, IsSeatOf}
 use Rattle.rowex_reading.specs.Possible.{IsPossible}
 use Rattle.rowex_rights.specs.Rises.{of_view, of_leaf, HasFoundBelow}
-use Rattle.rowex_rights.specs.Stages.{HasLeaf, HasRisen, IsAbove}
+use Rattle.rowex_rights.specs.Stages.{HasLeaf, HasRisen, IsLockedAbove}
 use Rattle.rowex_writing.specs.Going.{HasLocked}
 use Rattle.rowex_writing.specs.Remaking.{AffectsJust, IsNoHigher}
 
 -- each of the records spells a value, which has room in it
-abbrev pub ArePacked : Layout → List Made → Type 0
-ArePacked layout [] = Unit {0}
-ArePacked layout (m ∷ news) = (IsPacked m.rec m.words × FitsIn layout m.rec m.words) × ArePacked layout news
+abbrev pub AreMadePacked : Layout → List Made → Type 0
+AreMadePacked layout [] = Unit {0}
+AreMadePacked layout (m ∷ news) = (IsPacked m.rec m.words × FitsIn layout m.rec m.words) × AreMadePacked layout news
 
 -- The entry for a half, and the records made for it: an entry alone is its own, a node has a new record, and the node that stays
 -- whole is named as before.
@@ -73,7 +73,7 @@ pub record IsBuilding (table : TableView) (a : SeatView) (made : List Rec) (news
   pub seat : IsSeatOf table a
   pub possible : IsPossible table.layout a.known
   pub holds : HoldsMade a.known news
-  pub packed : ArePacked table.layout news
+  pub packed : AreMadePacked table.layout news
   pub listed : made ≡ reverse (recs_of news)
 
 -- A node record was wanted and none was free. The pass has those that it has made so far.
@@ -107,9 +107,9 @@ pub record IsBelow (table : TableView) (a : SeatView) (made : List Rec) (key : K
   pub lower : ℕ
   pub here : IsRisenAt table a made lower (Split position zero one)
   pub key_is : key ≡ here.item.key
-  pub over : IsAbove a.known.locks here.item.key here.mismatch above lower
-  pub zero_low : height_of zero < (node_of over.upper).fixed.height
-  pub one_low : height_of one < (node_of over.upper).fixed.height
+  pub over : IsLockedAbove a.known.locks here.item.key here.mismatch above lower
+  pub zero_low : height_of zero < (node_words_of over.upper).fixed.height
+  pub one_low : height_of one < (node_words_of over.upper).fixed.height
 
 -- what has risen is no higher than this
 abbrev pub IsLowRisen : ℕ → Risen → Type 0
@@ -127,9 +127,9 @@ IsSingle (Split position zero one) = ⊥
 
 -- What has risen from the node with these words: no higher than it, a fork where it was full, one entry where it had room.
 pub record IsLevelRisen (words : List ℕ) (risen : Risen) : Type 0 where
-  pub low : IsLowRisen (node_of words).fixed.height risen
-  pub split : size (node_of words).page ≡ 32 → IsSplit risen
-  pub single : size (node_of words).page < 32 → IsSingle risen
+  pub low : IsLowRisen (node_words_of words).fixed.height risen
+  pub split : size (node_words_of words).page ≡ 32 → IsSplit risen
+  pub single : size (node_words_of words).page < 32 → IsSingle risen
 
 -- the entry is at most one higher than this, and no higher where what has risen is one entry
 abbrev pub IsNextTo : ℕ → Risen → Entry → Type 0
@@ -137,7 +137,7 @@ IsNextTo height risen e = (height_of e ≤ height + 1) × (IsSingle risen → he
 
 -- the entry is at most one higher than the node with these words, and no higher where that has room
 abbrev pub FitsAbove : List ℕ → Entry → Type 0
-FitsAbove words e = (height_of e ≤ (node_of words).fixed.height + 1) × (size (node_of words).page < 32 → height_of e ≤ (node_of words).fixed.height)
+FitsAbove words e = (height_of e ≤ (node_words_of words).fixed.height + 1) × (size (node_words_of words).page < 32 → height_of e ≤ (node_words_of words).fixed.height)
 
 -- ---- at the lower end
 -- The leaf of x is made and nothing else, and the locked node is where it goes: beside these entries.
@@ -150,8 +150,8 @@ pub record IsLowest (table : TableView) (a : SeatView) (made : List Rec) (key : 
   pub leaf_is : leaf ≡ item.number
   pub building : IsBuilding table a made (of_leaf item ∷ [])
   pub found : HasFoundBelow a.known a.known.locks since item position like number words
-  pub part : IsPartPage (page_affected position item.key (node_of words).page)
-  pub affects : AffectsJust item.key position first last (node_of words).page
+  pub part : IsPartPage (page_affected position item.key (node_words_of words).page)
+  pub affects : AffectsJust item.key position first last (node_words_of words).page
 
 -- the node goes, where it doesn't stay whole
 abbrev pub gone_unless : Bool → ℕ → List Rec
@@ -163,9 +163,9 @@ gone_unless stays n = if stays then [] else a_node n ∷ []
 pub record IsChain (nodes : ℕ) (held : List Locked) (way : List Step) (key : Key) (p end level : ℕ) : Type 0 where
   pub there : (i : ℕ) (s : Step) → i < level → slice_get way i ≡ Some s → s.number < nodes
   pub above : (i : ℕ) (s u : Step) → end ≤ i → i < level → slice_get way i ≡ Some s → slice_get way (i + 1) ≡ Some u →
-      (over : IsAbove held key p s.number u.number) × ((node_of over.lower).fixed.height < (node_of over.upper).fixed.height)
+      (over : IsLockedAbove held key p s.number u.number) × ((node_words_of over.lower).fixed.height < (node_words_of over.upper).fixed.height)
   pub full : (i : ℕ) (s : Step) → end < i → i < level → slice_get way i ≡ Some s →
-      (words : List ℕ) → IsOf (record { node = s.number; words = words }) held → size (node_of words).page ≡ 32
+      (words : List ℕ) → IsOf (record { node = s.number; words = words }) held → size (node_words_of words).page ≡ 32
 
 -- What has risen comes in the place of the entry of the node at this level, and it is to rise on to `end`.
 pub record IsUp (table : TableView) (a : SeatView) (made : List Rec) (way : List Step) (key : Key) (end level : ℕ) (risen : Risen) : Type 0 where
@@ -174,9 +174,9 @@ pub record IsUp (table : TableView) (a : SeatView) (made : List Rec) (way : List
   pub upto : end ≤ level
   pub here : IsRisenAt table a made step.number risen
   pub key_is : key ≡ here.item.key
-  pub low : (other : List ℕ) → HasLocked a.known step.number other → IsLowRisen (node_of other).fixed.height risen
+  pub low : (other : List ℕ) → HasLocked a.known step.number other → IsLowRisen (node_words_of other).fixed.height risen
   pub split : end < level → IsSplit risen
-  pub single : (other : List ℕ) → HasLocked a.known step.number other → size (node_of other).page < 32 → IsSingle risen
+  pub single : (other : List ℕ) → HasLocked a.known step.number other → size (node_words_of other).page < 32 → IsSingle risen
   pub chain : IsChain table.layout.nodes a.known.locks way here.item.key here.mismatch end level
 
 -- the nodes of the way from `end` on, before `level`, go too
@@ -196,5 +196,5 @@ pub record IsGrowing (table : TableView) (a : SeatView) (made : List Rec) (way :
   pub upto : end ≤ top
   pub low : step.number < table.layout.nodes
   pub lowest : IsLowest table a made key step.number position first last leaf
-  pub full : end < top → size (node_of lowest.words).page ≡ 32
+  pub full : end < top → size (node_words_of lowest.words).page ≡ 32
   pub chain : IsChain table.layout.nodes a.known.locks way lowest.item.key position end top

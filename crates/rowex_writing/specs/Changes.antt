@@ -1,9 +1,9 @@
 -- What a call that changes the map knows under its locks, and what its change leaves.
 use Rattle.std.specs.Prelude.{◌≡◌, ℕ, ◌+◌, ◌<◌, ◌≤◌, List, [], ◌∷◌, ◌++◌, slice_get, length, All, Option, Some, None}
-use Rattle.hot_model.specs.declared.Change.{Change}
-use Rattle.hot_model.specs.declared.Kind.TheVariants.{Added, Replaced, Removed}
-use Rattle.hot_model.specs.Fronts.{BeginsWith, OthersGoOn, map_of, Fits}
-use Rattle.hot_model.specs.Maps.{value_at}
+use Rattle.finite_map.specs.declared.Change.{Change}
+use Rattle.finite_map.specs.declared.Kind.TheVariants.{Added, Replaced, Removed}
+use Rattle.finite_map.specs.Fronts.{BeginsWith, OthersGoOn, map_of, Fits}
+use Rattle.finite_map.specs.Maps.{value_at}
 use Rattle.insert_cases.specs.declared.choice.Step.{Step}
 use Rattle.insert_cases.specs.Levels.{IsLevel}
 use Rattle.record_words.specs.declared.layout.Layout.{Layout}
@@ -18,7 +18,7 @@ use Rattle.rowex_core.specs.declared.event.Event.{Event}
 use Rattle.rowex_core.specs.declared.event.Spot.{Spot}
 use Rattle.rowex_core.specs.declared.event.Target.{Target}
 use Rattle.rowex_core.specs.declared.known.Known.{Known}
-use Rattle.rowex_core.specs.Reading.{node_of}
+use Rattle.rowex_core.specs.Reading.{node_words_of}
 use Rattle.rowex_walks.specs.Scan.{IsShaped}
 use Rattle.rowex_table.specs.Made.{Made, IsLater}
 use Rattle.rowex_table.specs.Publishes.{Publishes}
@@ -77,7 +77,7 @@ IsPlanned k m key way aim found plan = (first : ℕ) × (last : ℕ) × IsPlan w
 pub record IsChecked (k : Known) (key : Key) (way : List Step) (found : Found) (span : Span) : Type 0 where
   pub root : span.end ≡ 0 → k.anchor ≡ Some (named way found 0)
   pub entries : (i : ℕ) (s : Step) → span.end ≤ i + 1 → i < span.len → slice_get way i ≡ Some s →
-      (words : List ℕ) → HasLocked k s.number words → named way found (i + 1) ≡ Some (seek key (node_of words).page)
+      (words : List ℕ) → HasLocked k s.number words → named way found (i + 1) ≡ Some (seek key (node_words_of words).page)
 
 -- The pass holds the locks of a span of its way, and has nothing else; and what it has found still stands.
 pub record HasTakenSpan (table : TableView) (a : SeatView) (m : ℕ) (key : Key) (way : List Step) (found : Found) (span : Span) : Type 0 where

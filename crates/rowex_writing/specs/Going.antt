@@ -3,7 +3,7 @@ use Rattle.std.specs.Prelude.{◌≡◌, ℕ, List, All}
 use Rattle.compound_node.specs.Nodes.{NodeView, head_of, piece}
 use Rattle.record_words.specs.Node.{HasNodeWords, node_words}
 use Rattle.moments.specs.Trades.{IsOf}
-use Rattle.rowex_core.specs.Reading.{node_of}
+use Rattle.rowex_core.specs.Reading.{node_words_of}
 use Rattle.rowex_core.specs.declared.event.Act.{Act}
 use Rattle.rowex_core.specs.declared.event.Act.TheVariants.{Lock}
 use Rattle.rowex_core.specs.declared.event.Event.{Event}
@@ -42,4 +42,4 @@ IsLockedBy k n = (words : List ℕ) × HasLocked k n words
 pub record IsNodeOf (words : List ℕ) (view : NodeView) : Type 0 where
   pub has : HasNodeWords view
   pub spells : node_words view ≡ words
-  pub shows : node_of words ≡ record { fixed = head_of view; page = piece view }
+  pub shows : node_words_of words ≡ record { fixed = head_of view; page = piece view }

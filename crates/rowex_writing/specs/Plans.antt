@@ -1,6 +1,6 @@
 -- What a call does, by what it asks for and where its search ended.
 use Rattle.std.specs.Prelude.{◌≡◌, ℕ, ◌+◌, ◌-◌, ◌≤◌, List, [], ◌∷◌, length, Some, None}
-use Rattle.hot_model.specs.declared.Reply.TheVariants.{Exists, Absent}
+use Rattle.finite_map.specs.declared.Reply.TheVariants.{Exists, Absent}
 use Rattle.insert_cases.specs.declared.choice.Case.{Case}
 use Rattle.insert_cases.specs.declared.choice.Case.TheVariants.{LeafPushdown, NormalInsert, Overflow}
 use Rattle.insert_cases.specs.declared.choice.Choice.{Choice}

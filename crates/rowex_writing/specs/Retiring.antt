@@ -1,6 +1,6 @@
 -- The end of a change: what is unlinked is marked, and what stays is unlocked.
 use Rattle.std.specs.Prelude.{◌≡◌, ℕ, Bool, true, false, List, All, Option, None, IsSome}
-use Rattle.hot_model.specs.declared.Change.{Change}
+use Rattle.finite_map.specs.declared.Change.{Change}
 use Rattle.record_words.specs.declared.layout.Layout.{Layout}
 use Rattle.moments.specs.declared.Rec.{Rec}
 use Rattle.moments.specs.Trades.{AreApart}
@@ -10,8 +10,8 @@ use Rattle.rowex_core.specs.Having.{OwnsJust, IsDue}
 use Rattle.rowex_table.specs.Publishes.{HasPublished}
 
 -- the records are the table's
-abbrev pub AreRecords : Layout → List Rec → Type 0
-AreRecords layout recs = All (HasRecord layout) recs
+abbrev pub AreInTable : Layout → List Rec → Type 0
+AreInTable layout recs = All (HasRecord layout) recs
 
 -- The pass has published a change, and made no step since: just the records `gone` are unlinked by it, and just the nodes `kept`
 -- are locked by it, each listed once.
@@ -30,5 +30,5 @@ IsAnchored true k = IsSome k.anchor
 IsAnchored false k = k.anchor ≡ None
 
 -- what it knows of locks, of the anchor and of changes is the same
-abbrev pub LeavesLocks : Known → Known → Type 0
-LeavesLocks k j = (j.locks ≡ k.locks) × (j.anchor ≡ k.anchor) × (j.front ≡ k.front)
+abbrev pub KeepsLocks : Known → Known → Type 0
+KeepsLocks k j = (j.locks ≡ k.locks) × (j.anchor ≡ k.anchor) × (j.front ≡ k.front)

@@ -14,8 +14,8 @@ use Rattle.rowex_reading.specs.declared.descent.Found.TheVariants.{Leaf}
 use Rattle.rowex_writing.specs.declared.plan.Span.{Span}
 
 -- the pass has read the leaf since a moment to which its pin goes back: it has the key, and this value
-abbrev pub HasRead : Known → (number : ℕ) (key : Key) (value : ℕ) → Type 0
-HasRead k number key value = (m : ℕ) × IsSince k m × Sure k (λ past. IsRead past m number key value)
+abbrev pub HasReadLeaf : Known → (number : ℕ) (key : Key) (value : ℕ) → Type 0
+HasReadLeaf k number key value = (m : ℕ) × IsSince k m × Sure k (λ past. IsRead past m number key value)
 
 -- The leaf is all of the tree. The pass has locked the anchor, and has nothing else.
 pub record HasOnlyLeaf (table : TableView) (a : SeatView) (number : ℕ) (key : Key) (value : ℕ) : Type 0 where
@@ -24,7 +24,7 @@ pub record HasOnlyLeaf (table : TableView) (a : SeatView) (number : ℕ) (key : 
   pub own : a.known.own ≡ []
   pub locks : a.known.locks ≡ []
   pub anchor : a.known.anchor ≡ Some (Some (LeafEntry number))
-  pub read : HasRead a.known number key value
+  pub read : HasReadLeaf a.known number key value
 
 -- The pass has locked the last node of the way, which names the leaf, and what names that node.
 pub record HasLeafBelow (table : TableView) (a : SeatView) (m : ℕ) (key : Key) (way : List Step) (number value : ℕ) (span : Span) : Type 0 where

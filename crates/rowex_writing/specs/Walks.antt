@@ -10,7 +10,7 @@ use Rattle.rowex_writing.specs.declared.building.TheConstants.{MOST_MADE}
 
 -- From this step on the pass has tried some of the n records of the kind, from `begin` on, each once, and may try `left` more, from
 -- `next` on. Each that it has tried was found not free since that step, or is one of those that it has made.
-pub record IsWalk (kind : ℕ → Rec) (n since : ℕ) (k : Known) (made : List Rec) (next left : ℕ) : Type 0 where
+pub record IsClaimWalk (kind : ℕ → Rec) (n since : ℕ) (k : Known) (made : List Rec) (next left : ℕ) : Type 0 where
   pub early : since ≤ k.steps
   pub begin : ℕ
   pub low : begin < n
@@ -21,7 +21,7 @@ pub record IsWalk (kind : ℕ → Rec) (n since : ℕ) (k : Known) (made : List 
 
 -- so over the node records, with what is built
 abbrev pub HasWalked : Layout → ℕ → Known → Build → Type 0
-HasWalked layout since k build = IsWalk a_node layout.nodes since k build.made.items build.nodes.next build.left_nodes
+HasWalked layout since k build = IsClaimWalk a_node layout.nodes since k build.made.items build.nodes.next build.left_nodes
 
 -- A walk that the pass has begun goes on; or the answer is nothing, and each node record was found not free since the walk began.
 abbrev pub WalksOn : {X : Type 0} → Layout → Known → Build → Known → Build → Option X → Type 0

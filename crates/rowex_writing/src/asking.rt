@@ -4,7 +4,7 @@ ghost use Rattle.std.specs.Prelude.{◌≡◌};
 ghost use Rattle.rowex_writing.specs.Asking.{aim_of as the_aim, declined as the_answer};
 
 use crate::plan::{Aim, Ask};
-use hot_model::Reply;
+use finite_map::Reply;
 use rowex_reading::Found;
 
 /// What is planned for a call whose key has the value that it expects, if it expects one.

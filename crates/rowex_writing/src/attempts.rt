@@ -27,7 +27,7 @@ use crate::plan::{Aim, Ask, Deed, Full, Plan, Span};
 use crate::putting::put_leaf;
 use crate::taking::take_leaf;
 use arrayvec::ArrayVec;
-use hot_model::Reply;
+use finite_map::Reply;
 use insert_cases::Step;
 use key_bits::Key;
 use rowex_core::Gate;

@@ -16,7 +16,7 @@ ghost use Rattle.tries.specs.Keys.{bit};
 ghost use Rattle.tries.specs.Place.{page_without};
 ghost use Rattle.insert_cases.specs.Risen.{page_of};
 ghost use Rattle.moments.specs.declared.Rec.TheVariants.{Node as a_node};
-ghost use Rattle.rowex_core.specs.Reading.{node_of};
+ghost use Rattle.rowex_core.specs.Reading.{node_words_of};
 ghost use Rattle.rowex_walks.specs.Rise.{entry};
 ghost use Rattle.rowex_writing.specs.Counts.{level_steps, node_steps};
 ghost use Rattle.rowex_writing.specs.Walks.{Spends, WalksOn};
@@ -402,8 +402,8 @@ pub fn raise_without<G: Gate>(
     ensures goes { WorksOn table.now G.becomes (seat.old, gate.old) (seat.new, gate.new) }
     ensures made { (words : List ℕ) → HasLocked seat.old.known number words → MatchOption result
         (HasNotMade table.now seat.new build.new.made.items)
-        (λ e. (news : List Made) × IsSide (page_without key.now (node_of words).page) e news × IsBuilding table.now seat.new build.new.made.items news) }
-    ensures low { (words : List ℕ) → HasLocked seat.old.known number words → IfSome result (λ e. height_of e ≤ (node_of words).fixed.height) }
+        (λ e. (news : List Made) × IsSide (page_without key.now (node_words_of words).page) e news × IsBuilding table.now seat.new build.new.made.items news) }
+    ensures low { (words : List ℕ) → HasLocked seat.old.known number words → IfSome result (λ e. height_of e ≤ (node_words_of words).fixed.height) }
     ensures walk { WalksOn table.now.layout seat.old.known build.old seat.new.known build.new result }
     ensures few { Spends level_steps seat.old.known build.old seat.new.known build.new result }
 {

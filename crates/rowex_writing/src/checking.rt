@@ -4,7 +4,7 @@ ghost use Rattle.std.specs.Prelude.{◌≡◌, ◌≢◌, ◌<◌, ◌≤◌, �
 ghost use Rattle.compound_node.specs.declared.entries.Entry.{Entry as EntryValue};
 ghost use Rattle.tries.specs.Keys.{Key as KeyValue};
 ghost use Rattle.tries.specs.Place.{entry_at};
-ghost use Rattle.rowex_core.specs.Reading.{node_of};
+ghost use Rattle.rowex_core.specs.Reading.{node_words_of};
 ghost use Rattle.rowex_walks.specs.Scan.{IsPlaced};
 ghost use Rattle.rowex_table.specs.Seats.{IsSeatOf};
 ghost use Rattle.rowex_reading.specs.Possible.{IsPossible};
@@ -138,7 +138,7 @@ fn entry_stands<G: Gate>(
     requires locked { IsLockedBy seat.old.known step.number }
     ensures reads { ReadsOn table.now G.becomes (seat.old, gate.old) (seat.new, gate.new) }
     ensures possible { IsPossible table.now.layout seat.new.known }
-    ensures same { result ≡ true → (words : List ℕ) → HasLocked seat.old.known step.number words → entry ≡ Some (entry_at (node_of words).page step.at) }
+    ensures same { result ≡ true → (words : List ℕ) → HasLocked seat.old.known step.number words → entry ≡ Some (entry_at (node_words_of words).page step.at) }
     ensures changed { (m h : ℕ) (e : EntryValue) → HasPlace seat.old.known m step.number h step.at → entry ≡ Some e →
         Sure seat.old.known (λ past. IsPlaced past m step.number step.at e) → result ≡ false → m < length seat.new.known.front }
     ensures few { seat.new.known.steps ≤ seat.old.known.steps + 1 }

@@ -6,7 +6,7 @@ ghost use Rattle.rowex_records.specs.Records.{HoldsJust};
 ghost use Rattle.rowex_rights.specs.Ending.{IsAtRest};
 ghost use Rattle.rowex_table.specs.Seats.{IsSeatOf};
 ghost use Rattle.rowex_writing.specs.Locks.{AreNodes, HasJustLocked, Works, numbers_of};
-ghost use Rattle.rowex_writing.specs.Retiring.{AreRecords, HasJustPublished, HasToMark, IsAnchored, LeavesLocks};
+ghost use Rattle.rowex_writing.specs.Retiring.{AreInTable, HasJustPublished, HasToMark, IsAnchored, KeepsLocks};
 
 use crate::locks::unlock_nodes;
 use insert_cases::Step;
@@ -25,7 +25,7 @@ pub fn retire<G: Gate>(
     anchor: bool,
 )
     requires own { IsSeatOf table.now seat.old }
-    requires records { AreRecords table.now.layout gone.now }
+    requires records { AreInTable table.now.layout gone.now }
     requires nodes { AreNodes table.now.layout kept.now }
     requires published { HasJustPublished seat.old.known gone.now (numbers_of kept.now) }
     requires anchored { IsAnchored anchor seat.old.known }
@@ -53,7 +53,7 @@ pub fn undo<G: Gate>(
     anchor: bool,
 )
     requires own { IsSeatOf table.now seat.old }
-    requires records { AreRecords table.now.layout held.now }
+    requires records { AreInTable table.now.layout held.now }
     requires nodes { AreNodes table.now.layout locked.now }
     requires held { HoldsJust seat.old.known held.now }
     requires locked { HasJustLocked seat.old.known (numbers_of locked.now) }
@@ -72,12 +72,12 @@ pub fn undo<G: Gate>(
 /// Marks all records that the pass has unlinked, in the epoch that it has just loaded.
 fn mark_all<G: Gate>(table: &HotTable, seat: &mut TableSeat, gate: &mut G, recs: &[Rec], epoch: u64)
     requires own { IsSeatOf table.now seat.old }
-    requires records { AreRecords table.now.layout recs.now }
+    requires records { AreInTable table.now.layout recs.now }
     requires epoch { epoch < EPOCHS }
     requires due { HasToMark seat.old.known epoch recs.now }
     ensures works { Works table.now G.becomes (seat.old, gate.old) (seat.new, gate.new) }
     ensures marked { seat.new.known.own ≡ [] }
-    ensures same { LeavesLocks seat.old.known seat.new.known }
+    ensures same { KeepsLocks seat.old.known seat.new.known }
     ensures few { seat.new.known.steps ≤ seat.old.known.steps + length recs.now }
 {
     for index in 0..recs.len() {

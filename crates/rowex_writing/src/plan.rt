@@ -4,7 +4,7 @@ ghost use Rattle.std.specs.Prelude.{◌≡◌, ◌<◌, length};
 ghost use Rattle.insert_cases.specs.Levels.{IsLevel};
 ghost use Rattle.rowex_writing.specs.Plans.{change as a_change, IsOutline, IsBeside, IsBesideFound};
 
-use hot_model::Reply;
+use finite_map::Reply;
 use insert_cases::{Case, Step, chain_end, choose, level_below};
 use rowex_reading::Found;
 use thiserror::Error;

@@ -1,7 +1,7 @@
 //! The first and the last part of each change: the new leaf's record, and the one store with what comes after it.
 
 ghost use Rattle.std.specs.Prelude.{◌≡◌, ℕ, List, [], ◌∷◌, Option, MatchOption, ◌≤◌, ◌+◌, ◌*◌, length};
-ghost use Rattle.hot_model.specs.declared.Change.{Change};
+ghost use Rattle.finite_map.specs.declared.Change.{Change};
 ghost use Rattle.key_bits.specs.Key.{IsKey};
 ghost use Rattle.record_words.specs.Entry.{HasEntryWord, entry_word};
 ghost use Rattle.record_words.specs.Leaf.{HasLeafWords, words_for};
@@ -21,7 +21,7 @@ ghost use Rattle.rowex_writing.specs.Building.{IsBuilding};
 ghost use Rattle.rowex_writing.specs.Changes.{HasChanged, HasRun, MayEnd};
 ghost use Rattle.rowex_writing.specs.Going.{WorksOn};
 ghost use Rattle.rowex_writing.specs.Locks.{AreNodes, numbers_of};
-ghost use Rattle.rowex_writing.specs.Retiring.{AreRecords, IsAnchored};
+ghost use Rattle.rowex_writing.specs.Retiring.{AreInTable, IsAnchored};
 ghost use Rattle.record_words.specs.declared.TheConstants.{LEAF_FIELDS};
 
 use crate::building::Build;
@@ -104,7 +104,7 @@ pub fn publish_change<G: Gate>(
     requires own { IsSeatOf table.now seat.old }
     requires range { HasSpot table.now.layout spot }
     requires may { (x : Change) × (was : Option ℕ) × MayEnd table.now seat.old build.old.made.items spot (entry_word entry) x was build.old.gone.items }
-    requires records { AreRecords table.now.layout build.old.gone.items }
+    requires records { AreInTable table.now.layout build.old.gone.items }
     requires nodes { AreNodes table.now.layout kept.now }
     requires kept { AreKept (nodes_of seat.old.known.locks) build.old.gone.items (numbers_of kept.now) × AreApart (numbers_of kept.now) }
     requires anchored { IsAnchored anchor seat.old.known }

@@ -8,7 +8,7 @@ ghost use Rattle.rowex_table.specs.Seats.{IsSeatOf};
 ghost use Rattle.rowex_records.specs.Claims.{AllMissed, HasMissedSince, HoldsOneMore};
 ghost use Rattle.rowex_writing.specs.Building.{IsBuilding};
 ghost use Rattle.rowex_writing.specs.Going.{WorksOn};
-ghost use Rattle.rowex_writing.specs.Walks.{HasWalked, IsWalk, Spends};
+ghost use Rattle.rowex_writing.specs.Walks.{HasWalked, IsClaimWalk, Spends};
 
 use crate::building::Build;
 use crate::claims::claim_spare;
@@ -34,7 +34,7 @@ pub(crate) fn claim_node<G: Gate>(
     ensures made { build.new.made.items ≡ build.old.made.items }
     ensures walk { (since : ℕ) → HasWalked table.now.layout since seat.old.known build.old → MatchOption result
         (AllMissed a_node table.now.layout.nodes seat.new.known.failed since)
-        (λ number. IsWalk a_node table.now.layout.nodes since seat.new.known (build.old.made.items ++ a_node number ∷ []) build.new.nodes.next build.new.left_nodes) }
+        (λ number. IsClaimWalk a_node table.now.layout.nodes since seat.new.known (build.old.made.items ++ a_node number ∷ []) build.new.nodes.next build.new.left_nodes) }
     ensures few { Spends 2 seat.old.known build.old seat.new.known build.new result }
 {
     let claimed = claim_left(table, seat, gate, &mut build.nodes, &mut build.left_nodes);
@@ -73,9 +73,9 @@ fn claim_left<G: Gate>(
     ensures goes { WorksOn table.now G.becomes (seat.old, gate.old) (seat.new, gate.new) }
     ensures claims { MatchOption result (seat.new.known.own ≡ seat.old.known.own)
         (λ number. (number < table.now.layout.nodes) × HoldsOneMore (a_node number) seat.old.known seat.new.known) }
-    ensures walk { (since : ℕ) (made : List Record) → IsWalk a_node table.now.layout.nodes since seat.old.known made supply.old.next left.old → MatchOption result
-        ((left.new ≡ 0) × IsWalk a_node table.now.layout.nodes since seat.new.known made supply.new.next left.new)
-        (λ number. IsWalk a_node table.now.layout.nodes since seat.new.known (made ++ a_node number ∷ []) supply.new.next left.new) }
+    ensures walk { (since : ℕ) (made : List Record) → IsClaimWalk a_node table.now.layout.nodes since seat.old.known made supply.old.next left.old → MatchOption result
+        ((left.new ≡ 0) × IsClaimWalk a_node table.now.layout.nodes since seat.new.known made supply.new.next left.new)
+        (λ number. IsClaimWalk a_node table.now.layout.nodes since seat.new.known (made ++ a_node number ∷ []) supply.new.next left.new) }
     ensures few { seat.new.known.steps + 2 * left.new ≤ seat.old.known.steps + 2 * left.old + 2 }
 {
     if let Some(number) = claim_spare(table, seat, gate, RecordKind::Node, &mut supply.spare) {

@@ -1,6 +1,6 @@
 //! What the lines of a case say.
 
-use hot_model::Call;
+use finite_map::Call;
 use key_bits::{Key, MAX_BYTES};
 use std::alloc::Global;
 use std::io;

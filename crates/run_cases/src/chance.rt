@@ -6,7 +6,7 @@ ghost use Rattle.hot_index.specs.Passes.{Owns};
 use crate::cases::{Case, Deed, two_of};
 use crate::guests::{Guest, lowest, open};
 use crate::judge::{Stopper, seated, verdict};
-use hot_model::Call;
+use finite_map::Call;
 use key_bits::Key;
 use std::alloc::AllocError;
 use std::io;

@@ -5,7 +5,7 @@ ghost use Rattle.hot_index.specs.Passes.{Owns};
 
 use crate::cases::{Deed, bad_line};
 use hot_index::{Gate, Index, Pass, Reply, Scan, TryFault, create};
-use hot_model::Call;
+use finite_map::Call;
 use key_bits::Key;
 use std::alloc::{AllocError, Global};
 use std::io;

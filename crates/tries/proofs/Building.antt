@@ -3,9 +3,9 @@ use Rattle.std.proofs.Common.{◌≡◌, inl, inr, ℕ, ◌+◌, ◌*◌, ◌/�
 use Rattle.std.proofs.lemmas.Bool.{and_parts, ltb-true}
 use Rattle.key_bits.specs.Key.{IsKey}
 use Rattle.key_bits.specs.declared.TheConstants.{MAX_BYTES}
-use Rattle.compound_node.specs.Nodes.{NodeView, piece, head_of, IsLawful, IsBuiltFrom, height_of, greatest_height}
+use Rattle.compound_node.specs.Nodes.{NodeView, piece, head_of, IsLawfulNode, IsBuiltFrom, height_of, greatest_height}
 use Rattle.compound_node.specs.declared.entries.Entry.{Entry}
-use Rattle.partial_keys.specs.Shows.{Shows}
+use Rattle.partial_keys.specs.Shows.{ShowsPiece}
 use Rattle.pieces.specs.Piece.{places, size}
 use Rattle.pieces.proofs.Paths.{length-places}
 use Rattle.tries.specs.Keys.{Key, bit, AgreeBelow}
@@ -76,11 +76,11 @@ body_bound (leaf n k v) f i built = elim f [ ]
 body_bound (node n x b) f i built = elim f [ ]
 body_bound (fork q a c) f i built = new_bound q a c i built
 
-pub size-piece : (n : NodeView) → IsLawful n → size (piece n) ≡ length n.entries
+pub size-piece : (n : NodeView) → IsLawfulNode n → size (piece n) ≡ length n.entries
 size-piece n l = sym (length-places (piece n)) ∙ ap length (sym l.shows.entries_are)
 
 -- A node that shows a body, with a height that is within the bound, is built around it.
-pub node_built : (v : NodeView) (n : ℕ) (b : Tree) → IsLawful v → piece v ≡ page b → IsBuilt b → greatest_height (places (page b)) < v.height →
+pub node_built : (v : NodeView) (n : ℕ) (b : Tree) → IsLawfulNode v → piece v ≡ page b → IsBuilt b → greatest_height (places (page b)) < v.height →
     v.height + first_position (page b) ≤ 9 * MAX_BYTES → IsBuilt (node n (head_of v) b)
 node_built v n b l e built low bound =
     let big : size (piece v) ≡ length v.entries = size-piece v l in (
@@ -89,7 +89,7 @@ node_built v n b l e built low bound =
       built,
       record {
         positions = l.positions;
-        shows = subst (λ p. Shows v.columns v.rows (places p) p) e (subst (λ es. Shows v.columns v.rows es (piece v)) l.shows.entries_are l.shows);
+        shows = subst (λ p. ShowsPiece v.columns v.rows (places p) p) e (subst (λ es. ShowsPiece v.columns v.rows es (piece v)) l.shows.entries_are l.shows);
         room = let s = ap size e in omega (arith, l.room);
         bound = bound;
       },

@@ -7,14 +7,14 @@ use Rattle.pieces.specs.Positions.{all}
 use Rattle.partial_keys.specs.Rows.{row_of}
 use Rattle.std.specs.Prelude.{All}
 use Rattle.std.proofs.lemmas.List.Elements.{All-append, All-from_recursion}
-use Rattle.compound_node.specs.Nodes.{IsEntry, height_of, IsLawful, node_of}
+use Rattle.compound_node.specs.Nodes.{IsEntry, height_of, IsLawfulNode, node_of}
 use Rattle.compound_node.specs.declared.entries.Entry.TheVariants.{Leaf, Node}
 use Rattle.pieces.specs.Piece.{places}
 use Rattle.pieces.proofs.Paths.{size_pos, length-places}
 use Rattle.partial_keys.proofs.Reading.{piece_of_shown}
 use Rattle.tries.specs.Tree.{Page, Fixed, first_position, IsFit, Tree, leaf, node, fork, page, IsFork, IsLower, IsBuilt}
 use Rattle.tries.specs.Place.{Swap, swap, in_zero, in_one}
-use Rattle.partial_keys.specs.Shows.{Shows}
+use Rattle.partial_keys.specs.Shows.{ShowsPiece}
 
 size_swap : {x y : Page} → Swap x y → size x ≡ size y
 size_swap swap = refl
@@ -87,12 +87,12 @@ two_places (node n x b) f = absurd f
 two_places (fork p a b) f = let l = size_pos (page a) in let r = size_pos (page b) in omega arith
 
 -- Each node of a built tree is a lawful node, with the entries of its page.
-pub node_lawful : (n : ℕ) (x : Fixed) (b : Tree) → IsBuilt (node n x b) → IsLawful (node_of x (places (page b)))
+pub node_lawful : (n : ℕ) (x : Fixed) (b : Tree) → IsBuilt (node n x b) → IsLawfulNode (node_of x (places (page b)))
 node_lawful n x b (two, low, built, fit) = record {
   several = let l = length-places (page b) in let t = two_places b two in omega arith;
   room = let l = length-places (page b) in let r = fit.room in omega arith;
   positions = fit.positions;
-  shows = subst (Shows x.columns x.rows (places (page b))) (sym (piece_of_shown (Leaf 0) x.columns x.rows (places (page b)) (page b) fit.shows)) fit.shows;
+  shows = subst (ShowsPiece x.columns x.rows (places (page b))) (sym (piece_of_shown (Leaf 0) x.columns x.rows (places (page b)) (page b) fit.shows)) fit.shows;
   children = children_are b built;
   above = all_above x.height b low;
   bound = let h = fit.bound in let m : MAX_BYTES ≡ 240 = refl in omega arith;

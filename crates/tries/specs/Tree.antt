@@ -5,7 +5,7 @@ use Rattle.tries.specs.Keys.{Key, bit, AgreeBelow}
 use Rattle.key_bits.specs.declared.TheConstants.{MAX_BYTES}
 use Rattle.pieces.specs.Piece.{Piece, Place, Fork, size, places}
 use Rattle.partial_keys.specs.Columns.{IsColumns}
-use Rattle.partial_keys.specs.Shows.{Shows}
+use Rattle.partial_keys.specs.Shows.{ShowsPiece}
 use Rattle.compound_node.specs.Nodes.{HeadView}
 use Rattle.compound_node.specs.declared.entries.Entry.{Entry}
 use Rattle.compound_node.specs.declared.entries.Entry.TheVariants.{Leaf, Node}
@@ -71,7 +71,7 @@ first_position (Fork p a b) = p
 -- up to at most the number of positions that a key has.
 pub record IsFit (x : Fixed) (p : Page) : Type 0 where
   pub positions : IsColumns x.columns
-  pub shows : Shows x.columns x.rows (places p) p
+  pub shows : ShowsPiece x.columns x.rows (places p) p
   pub room : size p ≤ 32
   pub bound : x.height + first_position p ≤ 9 * MAX_BYTES
 

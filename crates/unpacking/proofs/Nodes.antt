@@ -13,7 +13,7 @@ use Rattle.record_words.specs.Reading.{IsReading}
 use Rattle.record_words.proofs.Heads.{is_node, used_rows}
 use Rattle.record_words.proofs.Nodes.{entry_part, head_part}
 use Rattle.unpacking.specs.declared.fixed.Fixed.{Fixed}
-use Rattle.unpacking.specs.Fixed.{HasFixedWords, words_of}
+use Rattle.unpacking.specs.Fixed.{HasFixedWords, packed_words}
 use Rattle.unpacking.proofs.Heads.{head_from, no_numbers, numbers_of, numbers_read, words_from}
 use Rattle.unpacking.proofs.Readings.{reads_none, reads_one, reads_fault}
 
@@ -21,7 +21,7 @@ both_parts : (words : List ℕ) → length words ≡ 57 → take 25 words ++ tak
 both_parts words whole = ap (λ rest. take 25 words ++ rest) (take_all 32 (drop 25 words) (omega (arith, length-drop 25 words))) ∙ take-append-drop 25 words
 
 -- the first part has no numbers
-pub node_unread : (fault : WordFault) (answer : Result NodeView WordFault) (words : List ℕ) → IsReading {E = WordFault} HasFixedWords words_of (take 25 words) (Err fault) → IsErr answer → IsReading HasNodeWords node_words words answer
+pub node_unread : (fault : WordFault) (answer : Result NodeView WordFault) (words : List ℕ) → IsReading {E = WordFault} HasFixedWords packed_words (take 25 words) (Err fault) → IsErr answer → IsReading HasNodeWords node_words words answer
 node_unread fault answer words reading wrong = reads_fault answer wrong (λ node has same. no_numbers fault (take 25 words) node reading has.lawful (head_part node words same))
 
 -- the second part has no entries
@@ -32,7 +32,7 @@ entries_unread fault answer words reading wrong = reads_fault answer wrong (λ n
 
 -- both have been read
 pub record AreRead (fixed : Fixed) (entries : ArrayVec Entry) (words : List ℕ) : Type 0 where
-  pub numbers : IsReading {E = WordFault} HasFixedWords words_of (take 25 words) (Ok fixed)
+  pub numbers : IsReading {E = WordFault} HasFixedWords packed_words (take 25 words) (Ok fixed)
   pub entries_are : IsReading {E = WordFault} (λ (list : ArrayVec Entry). HaveEntryWords list.items) (λ list. entry_words list.items) (take 32 (drop 25 words)) (Ok entries)
 
 module _ (fixed : Fixed) (entries : ArrayVec Entry) (words : List ℕ) (read : AreRead fixed entries words) where

@@ -9,7 +9,7 @@ use Rattle.record_words.specs.declared.WordFault.{WordFault}
 use Rattle.record_words.proofs.Fixing.{AreFixed, columns_same, fixed_words_made, fixed_words_parts, rows_same, same_numbers}
 use Rattle.record_words.proofs.Packings.{same_positions, position_word-same}
 use Rattle.unpacking.specs.declared.fixed.Fixed.{Fixed}
-use Rattle.unpacking.specs.Fixed.{HasFixedWords, words_of}
+use Rattle.unpacking.specs.Fixed.{HasFixedWords, packed_words}
 use Rattle.unpacking.proofs.Readings.{reads_one}
 
 abbrev pub fixed_of : ℕ → ℕ → List ℕ → List ℕ → Fixed
@@ -19,7 +19,7 @@ same_fields : (count other height tall : ℕ) (columns wide sparse rows : List �
 same_fields count other height tall columns wide sparse rows counts heights same_columns same_rows = rw (counts, heights, same_columns, same_rows)
 
 -- the words decide the numbers
-pub same_fixed : (a b : Fixed) (words : List ℕ) → HasFixedWords a → HasFixedWords b → words_of a ≡ words → words_of b ≡ words → a ≡ b
+pub same_fixed : (a b : Fixed) (words : List ℕ) → HasFixedWords a → HasFixedWords b → packed_words a ≡ words → packed_words b ≡ words → a ≡ b
 same_fixed a b words has_a has_b same_a same_b =
     let of_a : AreFixed a.count a.height a.columns.items a.sparse words = fixed_words_parts a.count a.height a.columns.items a.sparse words same_a in
     let of_b : AreFixed b.count b.height b.columns.items b.sparse words = fixed_words_parts b.count b.height b.columns.items b.sparse words same_b in
@@ -34,13 +34,13 @@ part : (words : List ℕ) (from n j : ℕ) → j < n → get_or (take n (drop fr
 part words from n j small = get_or-take n (drop from words) j 0 small ∙ get_or-drop from words j 0
 
 -- the positions that the words have are those of any columns that have them
-pub columns_read : (positions words : List ℕ) (fixed : Fixed) → ArePositionsOf positions (take 8 (drop 1 words)) → HasFixedWords fixed → words_of fixed ≡ words → (i : ℕ) → i < 32 → position_at positions i ≡ position_at fixed.columns.items i
+pub columns_read : (positions words : List ℕ) (fixed : Fixed) → ArePositionsOf positions (take 8 (drop 1 words)) → HasFixedWords fixed → packed_words fixed ≡ words → (i : ℕ) → i < 32 → position_at positions i ≡ position_at fixed.columns.items i
 columns_read positions words fixed of has same =
     same_positions positions fixed.columns.items of.small has.columns
     (λ j small. of.words_are j small ∙ (part words 1 8 j small ∙ sym ((fixed_words_parts fixed.count fixed.height fixed.columns.items fixed.sparse words same).positions j small)))
 
 -- past the last column they are unused
-pub unused_read : (positions words : List ℕ) (fixed : Fixed) (n : ℕ) → ArePositionsOf positions (take 8 (drop 1 words)) → HasFixedWords fixed → words_of fixed ≡ words → n ≡ get_or words 0 0 / 256 % 256 → EachIndex (drop n positions) (λ i. get_or (drop n positions) i 0 ≡ 65535)
+pub unused_read : (positions words : List ℕ) (fixed : Fixed) (n : ℕ) → ArePositionsOf positions (take 8 (drop 1 words)) → HasFixedWords fixed → packed_words fixed ≡ words → n ≡ get_or words 0 0 / 256 % 256 → EachIndex (drop n positions) (λ i. get_or (drop n positions) i 0 ≡ 65535)
 unused_read positions words fixed n of has same is i inside =
     let numbers = (fixed_words_parts fixed.count fixed.height fixed.columns.items fixed.sparse words same).numbers in
     let few : n + i < 32 = omega (arith, length-drop n positions, of.whole) in
@@ -80,5 +80,5 @@ fixed_fits positions rows words n of rows_of small few = record {
   sparse = rows_of.small;
 }
 
-pub reads_fixed : (fixed : Fixed) (words : List ℕ) → HasFixedWords fixed → words_of fixed ≡ words → IsReading {E = WordFault} HasFixedWords words_of words (Ok fixed)
+pub reads_fixed : (fixed : Fixed) (words : List ℕ) → HasFixedWords fixed → packed_words fixed ≡ words → IsReading {E = WordFault} HasFixedWords packed_words words (Ok fixed)
 reads_fixed fixed words has same = reads_one fixed has same (λ other other_has other_same. same_fixed fixed other words has other_has same other_same)

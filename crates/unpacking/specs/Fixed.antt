@@ -13,5 +13,5 @@ pub record HasFixedWords (fixed : Fixed) : Type 0 where
   pub whole : length fixed.sparse ≡ MAX_ENTRIES
   pub sparse : (i : ℕ) → slice_index fixed.sparse i < 2 ^ 32
 
-abbrev pub words_of : Fixed → List ℕ
-words_of fixed = fixed_words fixed.count fixed.height fixed.columns.items fixed.sparse
+abbrev pub packed_words : Fixed → List ℕ
+packed_words fixed = fixed_words fixed.count fixed.height fixed.columns.items fixed.sparse

@@ -19,12 +19,12 @@ impl Fixed {
     ghost use Rattle.std.specs.Prelude.{◌≡◌, length};
     ghost use Rattle.record_words.specs.declared.TheConstants.{HEAD_WORDS};
     ghost use Rattle.record_words.specs.Reading.{IsReading};
-    ghost use Rattle.unpacking.specs.Fixed.{HasFixedWords, words_of};
+    ghost use Rattle.unpacking.specs.Fixed.{HasFixedWords, packed_words};
 
     /// The numbers that have these words.
     pub(crate) fn unpack(words: &[u64]) -> Result<Fixed, WordFault>
         requires { length words.now ≡ HEAD_WORDS }
-        ensures { IsReading HasFixedWords words_of words.now result }
+        ensures { IsReading HasFixedWords packed_words words.now result }
     {
         let meta = words[0];
         let column_count = meta / 256 % 256;

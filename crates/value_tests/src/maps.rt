@@ -2,7 +2,7 @@
 
 use crate::nodes::key;
 use compound_node::{Entry, Node};
-use hot_model::{Call, Change, Kind, Note, Reply, Scan};
+use finite_map::{Call, Change, Kind, Note, Reply, Scan};
 use insert_cases::{Case, Step, chain_end, choose, level_below};
 use key_bits::Key;
 use plain_index::{PlainIndex, are_legal};

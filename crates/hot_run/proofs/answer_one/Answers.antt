@@ -1,6 +1,6 @@
 -- Why `answer_one` meets its contract.
 use Rattle.std.proofs.Common.{refl, ap, ◌∙◌}
-use Rattle.hot_model.specs.Fronts.{map_of}
+use Rattle.finite_map.specs.Fronts.{map_of}
 use Rattle.hot_run.specs.Runs.{text_told}
 use Rattle.hot_run.proofs.Alone.{alone_at_first, told_alone}
 use Rattle.hot_run.proofs.Progressing.{AreTold-untold}

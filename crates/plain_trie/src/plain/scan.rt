@@ -2,19 +2,19 @@
 
 ghost use Rattle.std.specs.Prelude.{◌≡◌, ◌≢◌, ◌≤◌, ◌<◌, [], ◌∷◌, length, Some, IfOk, slice_get};
 ghost use Rattle.std.specs.declared.cmp.Ordering.TheVariants.{Greater};
-ghost use Rattle.hot_model.specs.Maps.{key_order};
-ghost use Rattle.hot_model.specs.Scans.{IsScanOf};
+ghost use Rattle.finite_map.specs.Maps.{key_order};
+ghost use Rattle.finite_map.specs.Scans.{IsScanOf};
 ghost use Rattle.pieces.specs.Piece.{Place as At};
 ghost use Rattle.tries.specs.Content.{Item, items};
 ghost use Rattle.compound_node.specs.Nodes.{piece};
-ghost use Rattle.plain_trie.specs.Gathered.{IsFloor, IsGathered, IsMismatch, IsStart, StandsIn, items_from, pairs_read, parts};
-ghost use Rattle.plain_trie.specs.Store.{map_of, record_of};
+ghost use Rattle.plain_trie.specs.Gathered.{IsNotAboveKeys, IsGathered, IsFirstMismatch, IsScanStart, ShowsSound, items_from, pairs_read, parts};
+ghost use Rattle.plain_trie.specs.Store.{trie_map, item_record};
 ghost use Rattle.tries.specs.Place.{spot};
 ghost use Rattle.tries.specs.Tree.{Fixed, IsTrie, Tree, node, page};
 
 use super::{LeafRecord, PlainTrie};
 use compound_node::{Entry, Node};
-use hot_model::Scan;
+use finite_map::Scan;
 use key_bits::{Key, mismatch};
 use std::alloc::{AllocError, Global};
 
@@ -49,7 +49,7 @@ impl PlainTrie {
         upto: &Key,
         limit: usize,
     ) -> Result<Scan, AllocError>
-        ensures scan { IfOk result (IsScanOf (map_of self.now) from.now upto.now limit) }
+        ensures scan { IfOk result (IsScanOf (trie_map self.now) from.now upto.now limit) }
     {
         let Some(top) = self.top else {
             let pairs = Vec::new(alloc);
@@ -77,8 +77,8 @@ impl PlainTrie {
         range: Range,
         leaves: &mut Vec<&'a LeafRecord>,
     ) -> Result<Progress, AllocError>
-        requires shown { (t : Tree) × (page t ≡ At entry) × StandsIn self.now t }
-        ensures gathered { (t : Tree) → page t ≡ At entry → StandsIn self.now t → IsMismatch range.entry.from.now t difference →
+        requires shown { (t : Tree) × (page t ≡ At entry) × ShowsSound self.now t }
+        ensures gathered { (t : Tree) → page t ≡ At entry → ShowsSound self.now t → IsFirstMismatch range.entry.from.now t difference →
             length (pairs_read leaves.old.items) ≤ range.entry.limit →
             IfOk result (IsGathered range.entry (pairs_read leaves.old.items) (items t) (pairs_read leaves.new.items)) }
     {
@@ -113,9 +113,9 @@ impl PlainTrie {
         range: Range,
         leaves: &mut Vec<&'a LeafRecord>,
     ) -> Result<Progress, AllocError>
-        requires shown { (x : Fixed) × (b : Tree) × StandsIn self.now (node number x b) }
-        ensures gathered { (x : Fixed) (b : Tree) → StandsIn self.now (node number x b) → start ≤ length (parts b) →
-            IsFloor range.entry.from.now (items_from start b) → length (pairs_read leaves.old.items) ≤ range.entry.limit →
+        requires shown { (x : Fixed) × (b : Tree) × ShowsSound self.now (node number x b) }
+        ensures gathered { (x : Fixed) (b : Tree) → ShowsSound self.now (node number x b) → start ≤ length (parts b) →
+            IsNotAboveKeys range.entry.from.now (items_from start b) → length (pairs_read leaves.old.items) ≤ range.entry.limit →
             IfOk result (IsGathered range.entry (pairs_read leaves.old.items) (items_from start b) (pairs_read leaves.new.items)) }
     {
         let node = &self.nodes[number as usize];
@@ -140,7 +140,7 @@ impl PlainTrie {
         leaves: &mut Vec<&'a LeafRecord>,
     ) -> Result<Progress, AllocError>
         requires within { number < length self.now.leaves }
-        ensures gathered { (x : Item) → slice_get self.now.leaves number ≡ Some (record_of x) →
+        ensures gathered { (x : Item) → slice_get self.now.leaves number ≡ Some (item_record x) →
             key_order range.entry.from.now x.key ≢ Greater → length (pairs_read leaves.old.items) ≤ range.entry.limit →
             IfOk result (IsGathered range.entry (pairs_read leaves.old.items) (x ∷ []) (pairs_read leaves.new.items)) }
     {
@@ -181,7 +181,7 @@ enum Start {
 /// position at which the key differs from that of the leaf where the search ends.
 fn start_in(node: &Node, at: u8, difference: Option<u16>, from: &Key) -> Start
     requires { at < length node.now.entries }
-    ensures { (b : Tree) → IsTrie b → piece node.now ≡ page b → at ≡ spot from.now (page b) → IsMismatch from.now b difference → IsStart from.now b result }
+    ensures { (b : Tree) → IsTrie b → piece node.now ≡ page b → at ≡ spot from.now (page b) → IsFirstMismatch from.now b difference → IsScanStart from.now b result }
 {
     let Some(position) = difference else {
         return Start::Within;

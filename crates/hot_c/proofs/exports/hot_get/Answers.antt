@@ -1,6 +1,6 @@
 -- The look-up is made on the handle's pass.
 use Rattle.std.proofs.Common.{refl, Ok}
-use Rattle.hot_model.specs.declared.Call.TheVariants.{Get}
+use Rattle.finite_map.specs.declared.Call.TheVariants.{Get}
 use Rattle.hot_c.proofs.Answered.{answered, of_key}
 use Rattle.hot_c.proofs.exports.hot_get.Goals as goal
 

@@ -1,11 +1,11 @@
 -- Where the first attempt was refused as full, a round follows; and what the second leaves is what the whole call leaves.
 use Rattle.std.proofs.Common.{◌≤◌, ◌∙◌, Result, Err, sym, ap, subst, le_trans, arith}
-use Rattle.hot_model.specs.declared.Reply.{Reply}
-use Rattle.hot_model.specs.Maps.{key_of}
+use Rattle.finite_map.specs.declared.Reply.{Reply}
+use Rattle.finite_map.specs.Maps.{key_of}
 use Rattle.rowex_core.specs.declared.known.Fresh.{Fresh}
 use Rattle.rowex_core.specs.declared.known.Known.{Known}
 use Rattle.rowex_writing.specs.declared.attempts.TryFault.{TryFault}
-use Rattle.rowex_writing.specs.Attempts.{call_of}
+use Rattle.rowex_writing.specs.Attempts.{asked_call}
 use Rattle.hot_index.specs.Answers.{fault_of}
 use Rattle.hot_index.specs.Asked.{HasAsked}
 use Rattle.hot_index.specs.Counts.{once_steps, twice_steps}
@@ -18,12 +18,12 @@ use Rattle.hot_index.proofs.Trying.{once_asked, outcome_then, round_later, then_
 use Rattle.hot_index.proofs.changing.try_twice.Goals as goal
 
 pub returns-in_default-clause-asked : goal.returns-in_default-clause-asked
-returns-in_default-clause-asked g c = once_asked (call_of c.args.ask c.args.key.now c.args.value) c.try_once-first.result (c.lacked.ensures.none c.in_default.is) c.try_once-first.ensures.asked
+returns-in_default-clause-asked g c = once_asked (asked_call c.args.ask c.args.key.now c.args.value) c.try_once-first.result (c.lacked.ensures.none c.in_default.is) c.try_once-first.ensures.asked
 
 pub returns-then-has_room-clause-asked : goal.returns-then-has_room-clause-asked
 returns-then-has_room-clause-asked g c =
     let table = c.args.table.now in
-    let call = call_of c.args.ask c.args.key.now c.args.value in
+    let call = asked_call c.args.ask c.args.key.now c.args.value in
     let k = pass_of c.args.seat.now in
     let first = subst (λ (z : Result Reply TryFault). HasAsked table g.G.Gate.becomes IsAttempt (once_steps table.layout) call z (c.args.seat.now, c.args.gate.now) (c.try_once-first.new.seat, c.try_once-first.new.gate)) c.in-Some.ensures.some c.try_once-first.ensures.asked in
     let round = c.collect_round-round.ensures.round in
@@ -41,7 +41,7 @@ returns-then-has_room-clause-asked g c =
 pub returns-clause-asked : goal.returns-clause-asked
 returns-clause-asked g c =
     let table = c.args.table.now in
-    let call = call_of c.args.ask c.args.key.now c.args.value in
+    let call = asked_call c.args.ask c.args.key.now c.args.value in
     let k = pass_of c.args.seat.now in
     let fault = fault_of c.in-Some.lacks in
     let first = subst (λ (z : Result Reply TryFault). HasAsked table g.G.Gate.becomes IsAttempt (once_steps table.layout) call z (c.args.seat.now, c.args.gate.now) (c.try_once-first.new.seat, c.try_once-first.new.gate)) c.in-Some.ensures.some c.try_once-first.ensures.asked in

@@ -1,10 +1,10 @@
 -- Why `answer_scan` meets its contract.
 use Rattle.std.proofs.lemmas.Result.{on_ok_weaker}
-use Rattle.hot_run.proofs.Progressing.{HasAnswered-list}
+use Rattle.hot_run.proofs.Progressing.{HasAnsweredCommand-list}
 use Rattle.hot_run.proofs.engine.answer_scan.Goals as goal
 
 pub returns-clause-answered : goal.returns-clause-answered
 returns-clause-answered g c =
     let list = c.push_scan.ensures in
     on_ok_weaker c.push_scan.result
-    (λ text. HasAnswered-list c.args.index.now _ c.args.text.now.alloc _ _ c.args.range.now _ list.short c.in_ok-more.more _ _ c.in_ok-more.ensures.ok c.in_ok-more.ensures.read text) list.lines
+    (λ text. HasAnsweredCommand-list c.args.index.now _ c.args.text.now.alloc _ _ c.args.range.now _ list.short c.in_ok-more.more _ _ c.in_ok-more.ensures.ok c.in_ok-more.ensures.read text) list.lines

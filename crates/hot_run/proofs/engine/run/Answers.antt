@@ -2,7 +2,7 @@
 use Rattle.std.proofs.Common.{◌≡◌, ◌∷◌, [], ◌++◌, append_assoc, append-nil, rules}
 use Rattle.hot_index.specs.Passes.{PassView}
 use Rattle.hot_scripts.specs.Parses.{commands_left}
-use Rattle.hot_run.proofs.Progressing.{HasRun-none, HasRun-more}
+use Rattle.hot_run.proofs.Progressing.{HasRunCommands-none, HasRunCommands-more}
 use Rattle.hot_run.proofs.engine.run.Goals as goal
 
 pub loop-command-preserved : goal.loop-command-preserved
@@ -11,7 +11,7 @@ loop-command-preserved g c =
     record {
       own = c.answer_command.ensures.own;
       completes = λ b rest others.
-          let more = HasRun-more c.args.index.now g.G.Gate.becomes _ _ b _ rest others c.in-Some.command _ _ c.in_ok-answer_command.ensures.answered in
+          let more = HasRunCommands-more c.args.index.now g.G.Gate.becomes _ _ b _ rest others c.in-Some.command _ _ c.in_ok-answer_command.ensures.answered in
           rw (more.1, append_assoc) (c.loop-command.invariant.completes b _ (rw left more.2));
     }
 
@@ -19,4 +19,4 @@ pub returns-clause-ran : goal.returns-clause-ran
 returns-clause-ran g c =
     let none : commands_left c.loop-command.commands ≡ [] = search rules in
     let here : PassView × _ = (c.loop-command.pass, c.loop-command.gate) in
-    rw append-nil at (c.loop-command.invariant.completes here [] (rw none (HasRun-none c.args.index.now g.G.Gate.becomes here)))
+    rw append-nil at (c.loop-command.invariant.completes here [] (rw none (HasRunCommands-none c.args.index.now g.G.Gate.becomes here)))

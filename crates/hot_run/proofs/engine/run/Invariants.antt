@@ -2,15 +2,15 @@
 use Rattle.std.proofs.Common.{◌++◌, List, ℕ, length}
 use Rattle.hot_index.specs.Passes.{PassView, Owns}
 use Rattle.hot_scripts.specs.Parses.{commands_left, script_commands}
-use Rattle.hot_run.specs.Progress.{HasRun}
+use Rattle.hot_run.specs.Progress.{HasRunCommands}
 use Rattle.hot_run.proofs.engine.run.Given as goal
 
 -- what answers the commands that are left completes the text
 abbrev pub invariant-loop-command : goal.invariant-loop-command
 invariant-loop-command g l = record {
   own : Owns l.fn.index l.pass;
-  completes : (b : PassView × _) (rest : List ℕ) → HasRun l.fn.index g.G.Gate.becomes (l.pass, l.gate) (commands_left l.commands) b rest
-      → HasRun l.fn.index g.G.Gate.becomes (l.fn.pass, l.fn.gate) (script_commands l.fn.script) b (l.text.items ++ rest);
+  completes : (b : PassView × _) (rest : List ℕ) → HasRunCommands l.fn.index g.G.Gate.becomes (l.pass, l.gate) (commands_left l.commands) b rest
+      → HasRunCommands l.fn.index g.G.Gate.becomes (l.fn.pass, l.fn.gate) (script_commands l.fn.script) b (l.text.items ++ rest);
 }
 
 abbrev pub decreases-loop-command : goal.decreases-loop-command

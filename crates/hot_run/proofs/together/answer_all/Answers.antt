@@ -3,7 +3,7 @@ use Rattle.std.proofs.Common.{◌≡◌, ◌+◌, length, map, sym, subst, arith
 use Rattle.std.specs.List.{zip}
 use Rattle.std.proofs.lemmas.List.{length-map}
 use Rattle.hot_scripts.specs.Parses.{script_commands}
-use Rattle.hot_run.specs.Progress.{IsFirst}
+use Rattle.hot_run.specs.Progress.{IsNewPassOf}
 use Rattle.hot_run.specs.Scripts.{AreAllAnswered}
 use Rattle.hot_run.specs.Told.{IsOfSize}
 use Rattle.hot_run.proofs.Joint.{lawful_together, met_long}
@@ -35,5 +35,5 @@ returns-clause-ok g c =
     let sized = subst (λ n. IsOfSize (n + 1) c.args.nodes c.args.leaves index) number made.sized in
     let answered = lawful_together index g.G.Gate.becomes c.in_ok-index.passes.items c.args.gates.items scripts (script_commands c.args.last.now) met.ran
     c.in_ok-pass.met.items last.again c.in_ok-index.pass c.in_ok-pass.pass last.after last.last last.answers c.args.nodes c.args.leaves sized many
-    made.each (subst (λ n. IsFirst index n c.in_ok-index.pass) number made.last) met.have_run met.meet last.own last.ran last.meet in
+    made.each (subst (λ n. IsNewPassOf index n c.in_ok-index.pass) number made.last) met.have_run met.meet last.own last.ran last.meet in
     subst (AreAllAnswered c.args.nodes c.args.leaves g.G.Gate.becomes c.args.gates.items scripts (script_commands c.args.last.now)) (sym last.text_is) answered

@@ -3,7 +3,7 @@ use Rattle.std.proofs.Common.{arith}
 use Rattle.std.proofs.lemmas.Result.{IfOk-weaker}
 use Rattle.hot_scripts.specs.Parses.{script_commands}
 use Rattle.hot_run.proofs.Joint.{met_long}
-use Rattle.hot_run.proofs.Progressing.{HasRun-untold}
+use Rattle.hot_run.proofs.Progressing.{HasRunCommands-untold}
 use Rattle.hot_run.proofs.together.answer_last.Goals as goal
 
 pub sections-requires : goal.sections-requires
@@ -21,7 +21,7 @@ returns g c =
       again = c.in_ok-again.again.items;
       answers = c.in_ok-text.text.items;
       own = c.requires.own;
-      ran = HasRun-untold c.args.index.now _ _ _ (script_commands c.args.last.now) c.in_ok-text.text.items ran;
+      ran = HasRunCommands-untold c.args.index.now _ _ _ (script_commands c.args.last.now) c.in_ok-text.text.items ran;
       meet = c.in_ok-again.ensures.met;
       text_is = text_is;
     }) c.sections.ensures

@@ -1,6 +1,6 @@
 -- A leaf in the entry's place, the higher entry beside it, and the lower one in the leaf's place.
 use Rattle.std.proofs.Common.{◌≡◌, ℕ, ◌+◌, ◌<◌, ◌≤◌, ap, sym, ◌∙◌, arith, length, true, false, Bool}
-use Rattle.compound_node.specs.Nodes.{NodeView, piece, IsLawful, IsBuiltFrom, height_of, greatest_height}
+use Rattle.compound_node.specs.Nodes.{NodeView, piece, IsLawfulNode, IsBuiltFrom, height_of, greatest_height}
 use Rattle.compound_node.specs.declared.entries.Entry.{Entry}
 use Rattle.compound_node.specs.declared.entries.Entry.TheVariants.{Leaf}
 use Rattle.pieces.specs.Changes.{replaced}
@@ -13,7 +13,7 @@ use Rattle.insert_cases.proofs.NodeFacts.{height_positive, greatest-grown, great
 use Rattle.insert_cases.proofs.growth.forked.Goals as goal
 
 -- the node with a leaf in the entry's place
-module _ (n d : NodeView) (i : ℕ) (lawful_n : IsLawful n) (lawful_d : IsLawful d) (cleared : piece d ≡ replaced i (Leaf 0) (piece n)) where
+module _ (n d : NodeView) (i : ℕ) (lawful_n : IsLawfulNode n) (lawful_d : IsLawfulNode d) (cleared : piece d ≡ replaced i (Leaf 0) (piece n)) where
   same_length : length d.entries ≡ length n.entries
   same_length = sym (size-piece d lawful_d) ∙ (ap size cleared ∙ (size-replaced i (Leaf 0) (piece n) ∙ size-piece n lawful_n))
 
@@ -36,7 +36,7 @@ module _ (n d : NodeView) (i : ℕ) (lawful_n : IsLawful n) (lawful_d : IsLawful
         omega (arith, grew.height_is, greatest-grown position bit x i (piece d))
 
     -- and the lower one in the leaf's place
-    whole : (r : NodeView) → IsLawful r → piece r ≡ replaced (old_at bit i) y (piece g) → r.height ≡ g.height → height_of y ≤ height_of x →
+    whole : (r : NodeView) → IsLawfulNode r → piece r ≡ replaced (old_at bit i) y (piece g) → r.height ≡ g.height → height_of y ≤ height_of x →
         i < length n.entries → IsAbovePath position i (piece n) → IsBuiltFrom r (grafted i (forked position bit x (Place y)) (piece n))
     whole r lawful_r replaced_it same_height h j a =
         let shows : piece r ≡ grafted i (forked position bit x (Place y)) (piece n) =

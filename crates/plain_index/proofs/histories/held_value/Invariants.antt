@@ -1,7 +1,7 @@
 -- The value that the changes so far lead to.
 use Rattle.std.proofs.Common.{◌≡◌, take}
-use Rattle.hot_model.specs.Maps.{value_at}
-use Rattle.hot_model.specs.Fronts.{map_of}
+use Rattle.finite_map.specs.Maps.{value_at}
+use Rattle.finite_map.specs.Fronts.{map_of}
 use Rattle.plain_index.proofs.histories.held_value.Given as goal
 
 abbrev pub invariant-loop-change : goal.invariant-loop-change

@@ -1,6 +1,6 @@
 -- The changes so far are legal.
 use Rattle.std.proofs.Common.{take}
-use Rattle.hot_model.specs.Fronts.{LegalFront}
+use Rattle.finite_map.specs.Fronts.{LegalFront}
 use Rattle.plain_index.proofs.histories.is_legal_front.Given as goal
 
 abbrev pub invariant-loop-i : goal.invariant-loop-i

@@ -1,5 +1,5 @@
 -- The law is a lemma on legal calls.
-use Rattle.hot_model.proofs.Legal.{legal_longer}
+use Rattle.finite_map.proofs.Legal.{legal_longer}
 use Rattle.plain_index.proofs.laws.longer.Goals as goal
 
 pub returns : goal.returns

@@ -1,5 +1,5 @@
 -- The law is a lemma on scans.
-use Rattle.hot_model.proofs.Firsts.{lawful-scan_of}
+use Rattle.finite_map.proofs.Firsts.{lawful-scan_of}
 use Rattle.plain_index.proofs.laws.still_scans.Goals as goal
 
 pub returns : goal.returns

@@ -1,5 +1,5 @@
 -- The laws are lemmas on the weave.
-use Rattle.hot_model.proofs.Weaving.{weave-legal, weave-legal_two}
+use Rattle.finite_map.proofs.Weaving.{weave-legal, weave-legal_two}
 use Rattle.plain_index.proofs.laws.woven.Goals as goal
 
 pub returns : goal.returns

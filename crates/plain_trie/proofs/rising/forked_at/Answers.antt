@@ -2,7 +2,7 @@
 use Rattle.std.proofs.Common.{◌≡◌, ap, sym, ◌∙◌, subst, arith}
 use Rattle.std.proofs.lemmas.Option.{slice_get_within}
 use Rattle.pieces.specs.Piece.{Place, Fork, size}
-use Rattle.compound_node.specs.Nodes.{NodeView, piece, IsLawful}
+use Rattle.compound_node.specs.Nodes.{NodeView, piece, IsLawfulNode}
 use Rattle.pieces.specs.Grafts.{grafted, IsAbovePath}
 use Rattle.insert_cases.specs.Grown.{GrownShows}
 use Rattle.insert_cases.proofs.Choosing.{same_some}
@@ -37,7 +37,7 @@ returns-clause-shows c = λ old at.
     let v = c.index-node.result.now in
     let same : v ≡ old = read_at c.args.nodes.now.items c.args.number old v at c.index-node.ensures in
     let high : old.height ≡ c.args.height = ap (λ (w : NodeView). w.height) (same_some (sym at ∙ o.1)) ∙ o.2 in
-    c.stored.ensures.shows old _ at high (subst IsLawful same c.count.ensures.lawful) (rw same at c.pull_up-grown.ensures.shows)
+    c.stored.ensures.shows old _ at high (subst IsLawfulNode same c.count.ensures.lawful) (rw same at c.pull_up-grown.ensures.shows)
 
 pub returns-clause-heights : goal.returns-clause-heights
 returns-clause-heights c =
@@ -45,6 +45,6 @@ returns-clause-heights c =
     let v = c.index-node.result.now in
     let g = c.pull_up-grown.result in
     let same : v ≡ o.0 = read_at c.args.nodes.now.items c.args.number o.0 v o.1 c.index-node.ensures in
-    let lawful = subst IsLawful same c.count.ensures.lawful in
+    let lawful = subst IsLawfulNode same c.count.ensures.lawful in
     let shows : GrownShows o.0 g (grafted c.args.at (Fork c.args.position (Place c.args.zero) (Place c.args.one)) (piece o.0)) = rw same at c.pull_up-grown.ensures.shows in
     c.stored.ensures.heights o.0 _ o.1 shows (pull_steady o.0 lawful c.args.position c.args.at c.args.zero c.args.one o.4 g shows)

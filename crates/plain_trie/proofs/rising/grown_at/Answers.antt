@@ -2,7 +2,7 @@
 use Rattle.std.proofs.Common.{◌≡◌, ap, arith, subst, sym, ◌∙◌}
 use Rattle.std.proofs.lemmas.Option.{slice_get_within}
 use Rattle.pieces.specs.Growth.{IsAffected, grown}
-use Rattle.compound_node.specs.Nodes.{IsBuiltFrom, IsLawful, NodeView, piece}
+use Rattle.compound_node.specs.Nodes.{IsBuiltFrom, IsLawfulNode, NodeView, piece}
 use Rattle.compound_node.specs.declared.entries.Entry.TheVariants.{Leaf}
 use Rattle.insert_cases.specs.Grown.{GrownShows}
 use Rattle.insert_cases.proofs.Choosing.{same_some}
@@ -19,7 +19,7 @@ returns-then-count-lt32-clause-heights c =
     let counted : c.index.result.now ≡ o.0 = read_at c.args.nodes.now.items c.args.number o.0 c.index.result.now o.1 c.index.ensures in
     let built : IsBuiltFrom c.add.new.self (grown c.args.position c.args.bit (Leaf c.args.leaf) first (piece o.0)) = rw same at c.add.ensures in
     heights_whole c.args.nodes.now.items c.args.number o.0 _ o.1 c.add.new.self built
-    (add_steady o.0 (subst IsLawful counted c.count.ensures.lawful) c.args.position c.args.bit (Leaf c.args.leaf) first c.args.range.1 o.3 c.add.new.self built)
+    (add_steady o.0 (subst IsLawfulNode counted c.count.ensures.lawful) c.args.position c.args.bit (Leaf c.args.leaf) first c.args.range.1 o.3 c.add.new.self built)
 
 pub index-requires-2 : goal.index-requires-2
 index-requires-2 c =
@@ -43,7 +43,7 @@ returns-clause-shows c = λ old at.
     let same : c.index-2.result.now ≡ old = read_at c.args.nodes.now.items c.args.number old c.index-2.result.now at c.index-2.ensures in
     let counted : c.index.result.now ≡ old = read_at c.args.nodes.now.items c.args.number old c.index.result.now at c.index.ensures in
     let high : old.height ≡ c.args.height = ap (λ (w : NodeView). w.height) (same_some (sym at ∙ o.1)) ∙ o.2 in
-    c.stored.ensures.shows old _ at high (subst IsLawful counted c.count.ensures.lawful) (rw same at c.grow_full-grown.ensures.shows)
+    c.stored.ensures.shows old _ at high (subst IsLawfulNode counted c.count.ensures.lawful) (rw same at c.grow_full-grown.ensures.shows)
 
 pub returns-clause-heights : goal.returns-clause-heights
 returns-clause-heights c =
@@ -53,7 +53,7 @@ returns-clause-heights c =
     let first = c.args.range.0 in
     let same : v ≡ o.0 = read_at c.args.nodes.now.items c.args.number o.0 v o.1 c.index-2.ensures in
     let counted : c.index.result.now ≡ o.0 = read_at c.args.nodes.now.items c.args.number o.0 c.index.result.now o.1 c.index.ensures in
-    let lawful = subst IsLawful counted c.count.ensures.lawful in
+    let lawful = subst IsLawfulNode counted c.count.ensures.lawful in
     let shows : GrownShows o.0 g (grown c.args.position c.args.bit (Leaf c.args.leaf) first (piece o.0)) = rw same at c.grow_full-grown.ensures.shows in
     c.stored.ensures.heights o.0 _ o.1 shows
     (full_steady o.0 lawful c.args.position c.args.bit (Leaf c.args.leaf) first c.args.range.1 o.3 g shows c.grow_full-grown.ensures.whole (rw same at c.grow_full-grown.ensures.same))

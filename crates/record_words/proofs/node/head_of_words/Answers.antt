@@ -1,6 +1,6 @@
 -- The numbers that stand in the words are those of a node.
 use Rattle.std.proofs.Common.{List, ℕ, ◌≡◌, ap, arith, ◌∙◌}
-use Rattle.compound_node.specs.Nodes.{NodeView, IsLawful, head_of}
+use Rattle.compound_node.specs.Nodes.{NodeView, IsLawfulNode, head_of}
 use Rattle.record_words.specs.Node.{HasHeadWords, head_words}
 use Rattle.record_words.specs.Reading.{IsSpelling}
 use Rattle.record_words.proofs.Spelled.{columns_counted, columns_in_front, count_read, head_is, height-lt, height_read, holds_columns, is_head_read, spells_head, whole}
@@ -11,7 +11,7 @@ module _ (words : List ℕ) (given : IsSpelling HasHeadWords head_words words) w
   abbrev node : NodeView
   node = given.1.0
 
-  lawful : IsLawful node
+  lawful : IsLawfulNode node
   lawful = given.1.1
 
   same : head_words (head_of node) ≡ words

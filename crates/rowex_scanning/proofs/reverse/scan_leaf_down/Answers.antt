@@ -5,7 +5,7 @@ use Rattle.tries.specs.Keys.{IsAtMost, IsBefore}
 use Rattle.rowex_reading.specs.Reads.{leaf_loads}
 use Rattle.rowex_reading.specs.Seen.{since}
 use Rattle.rowex_reading.proofs.Led.{reads_later, rooted_led, same_since}
-use Rattle.rowex_scanning.specs.Scanning.{range_of}
+use Rattle.rowex_scanning.specs.Scanning.{asked_range}
 use Rattle.rowex_scanning.proofs.Downwards.{leaf_above, leaf_is_further, leaf_is_past, leaf_is_full}
 use Rattle.rowex_scanning.proofs.reverse.scan_leaf_down.Goals as goal
 
@@ -18,7 +18,7 @@ returns-then-is_before-clause-reads g c = (leaf_loads (take c.load_places-length
 pub returns-then-is_before-clause-scanned : goal.returns-then-is_before-clause-scanned
 returns-then-is_before-clause-scanned g c =
     let e = c.load_places-length.ensures in
-    leaf_above (range_of c.args.range.now) c.args.number (take c.load_places-length.result.0 c.load_places-length.new.places) c.load_places-length.result.1 (reads_later e.reads) c.requires.root
+    leaf_above (asked_range c.args.range.now) c.args.number (take c.load_places-length.result.0 c.load_places-length.new.places) c.load_places-length.result.1 (reads_later e.reads) c.requires.root
     (same_since e.reads) (e.leaf (since c.args.seat.now.known) (rooted_led (Leaf c.args.number) c.requires.root)) c.requires.empty
     (subst (λ z. IsBefore z (take c.load_places-length.result.0 c.load_places-length.new.places)) c.as_bytes.ensures.bytes (c.is_before.ensures.before c.if-is_before.true))
 
@@ -37,7 +37,7 @@ returns-in-Full g c =
     record {
       reads = (leaf_loads (take c.load_places-length.result.0 c.load_places-length.new.places), e.few, e.reads);
       scanned =
-          leaf_is_full (range_of c.args.range.now) c.args.number (take c.load_places-length.result.0 c.load_places-length.new.places) c.load_places-length.result.1 (reads_later e.reads) c.requires.root
+          leaf_is_full (asked_range c.args.range.now) c.args.number (take c.load_places-length.result.0 c.load_places-length.new.places) c.load_places-length.result.1 (reads_later e.reads) c.requires.root
           (same_since e.reads) (e.leaf (since c.args.seat.now.known) (rooted_led (Leaf c.args.number) c.requires.root)) c.requires.empty c.in_ok-take_pair_down.ensures c.in-Full.is;
     }
 
@@ -48,10 +48,10 @@ returns-in-Further g c =
       reads = (leaf_loads (take c.load_places-length.result.0 c.load_places-length.new.places), e.few, e.reads);
       scanned = elim c.in-Further.is [
         | inl is ↦
-            leaf_is_further (range_of c.args.range.now) c.args.number (take c.load_places-length.result.0 c.load_places-length.new.places) c.load_places-length.result.1 (reads_later e.reads) c.requires.root
+            leaf_is_further (asked_range c.args.range.now) c.args.number (take c.load_places-length.result.0 c.load_places-length.new.places) c.load_places-length.result.1 (reads_later e.reads) c.requires.root
             (same_since e.reads) (e.leaf (since c.args.seat.now.known) (rooted_led (Leaf c.args.number) c.requires.root)) c.requires.empty c.in_ok-take_pair_down.ensures is
         | inr is ↦
-            leaf_is_past (range_of c.args.range.now) c.args.number (take c.load_places-length.result.0 c.load_places-length.new.places) c.load_places-length.result.1 (reads_later e.reads) c.requires.root
+            leaf_is_past (asked_range c.args.range.now) c.args.number (take c.load_places-length.result.0 c.load_places-length.new.places) c.load_places-length.result.1 (reads_later e.reads) c.requires.root
             (same_since e.reads) (e.leaf (since c.args.seat.now.known) (rooted_led (Leaf c.args.number) c.requires.root)) c.requires.empty c.in_ok-take_pair_down.ensures is
       ];
     }

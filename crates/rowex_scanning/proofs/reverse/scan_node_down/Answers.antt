@@ -4,7 +4,7 @@ use Rattle.compound_node.specs.declared.entries.Entry.TheVariants.{Leaf}
 use Rattle.rowex_reading.specs.Reads.{Reads}
 use Rattle.rowex_reading.specs.Seen.{since}
 use Rattle.rowex_reading.proofs.Led.{reader_then, reads_later, reads_trans, same_since}
-use Rattle.rowex_scanning.specs.Scanning.{range_of}
+use Rattle.rowex_scanning.specs.Scanning.{asked_range}
 use Rattle.rowex_scanning.proofs.Downwards.{IsDownAt, begun_down, ceiling_later, ceiling_since, down_further, down_is_full, down_is_past, down_led, down_since}
 use Rattle.rowex_scanning.proofs.Walking.{reads_both}
 use Rattle.rowex_scanning.proofs.reverse.scan_node_down.Given as given
@@ -13,10 +13,10 @@ use Rattle.rowex_scanning.proofs.reverse.scan_node_down.Goals.{After-take_leaf_d
 
 -- the leaf that comes first; and since the search the root was not loaded
 first : (g : given.Over) (c : After-take_leaf_down g) →
-    IsDownAt c.start_down-start.new.seat.known (since c.args.seat.now.known) (range_of c.args.range.now) c.start_down-start.result.top c.truncate.new.self.items c.args.pairs.now (Leaf c.args.number) ×
+    IsDownAt c.start_down-start.new.seat.known (since c.args.seat.now.known) (asked_range c.args.range.now) c.start_down-start.result.top c.truncate.new.self.items c.args.pairs.now (Leaf c.args.number) ×
     (since c.take_leaf_down.new.seat.known ≡ since c.args.seat.now.known)
 first g c = (
-  (begun_down (range_of c.args.range.now) c.requires.way.1 c.deref.ensures.0 c.start_down-start.ensures.start c.truncate.ensures.items c.requires.empty).entry c.if-start.true,
+  (begun_down (asked_range c.args.range.now) c.requires.way.1 c.deref.ensures.0 c.start_down-start.ensures.start c.truncate.ensures.items c.requires.empty).entry c.if-start.true,
   same_since (reads_trans c.start_down-start.ensures.reads.2 c.take_leaf_down.ensures.reads.2),
 )
 
@@ -25,7 +25,7 @@ take_leaf_down-requires-clause-reader g c = reader_then c.requires.reader c.star
 
 pub take_leaf_down-requires-clause-leaf : goal.take_leaf_down-requires-clause-leaf
 take_leaf_down-requires-clause-leaf g c =
-    let b = begun_down (range_of c.args.range.now) c.requires.way.1 c.deref.ensures.0 c.start_down-start.ensures.start c.truncate.ensures.items c.requires.empty in
+    let b = begun_down (asked_range c.args.range.now) c.requires.way.1 c.deref.ensures.0 c.start_down-start.ensures.start c.truncate.ensures.items c.requires.empty in
     (since c.args.seat.now.known, down_led (b.entry c.if-start.true), b.below c.if-start.true)
 
 pub returns-in_err-take_leaf_down-clause-reads : goal.returns-in_err-take_leaf_down-clause-reads
@@ -52,7 +52,7 @@ walk_down-requires-clause-reader g c =
 
 pub walk_down-requires-clause-walk : goal.walk_down-requires-clause-walk
 walk_down-requires-clause-walk g c =
-    let b = begun_down (range_of c.args.range.now) c.requires.way.1 c.deref.ensures.0 c.start_down-start.ensures.start c.truncate.ensures.items c.requires.empty in
+    let b = begun_down (asked_range c.args.range.now) c.requires.way.1 c.deref.ensures.0 c.start_down-start.ensures.start c.truncate.ensures.items c.requires.empty in
     let r = c.start_down-start.ensures.reads.2 in
     elim c.if-start.branch [
       | then-start+in_ok-take_leaf_down+in-Further w ↦
@@ -63,7 +63,7 @@ walk_down-requires-clause-walk g c =
 
 pub walk_down-requires-clause-ceiling : goal.walk_down-requires-clause-ceiling
 walk_down-requires-clause-ceiling g c =
-    let b = begun_down (range_of c.args.range.now) c.requires.way.1 c.deref.ensures.0 c.start_down-start.ensures.start c.truncate.ensures.items c.requires.empty in
+    let b = begun_down (asked_range c.args.range.now) c.requires.way.1 c.deref.ensures.0 c.start_down-start.ensures.start c.truncate.ensures.items c.requires.empty in
     let r = c.start_down-start.ensures.reads.2 in let m = since c.args.seat.now.known in let upto = c.args.range.now.upto.now in
     elim c.if-start.branch [
       | then-start+in_ok-take_leaf_down+in-Further w ↦

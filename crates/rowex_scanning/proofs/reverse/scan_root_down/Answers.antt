@@ -5,7 +5,7 @@ use Rattle.rowex_reading.proofs.Led.{looks_first, looks_on, looks_same, reads_no
 use Rattle.rowex_reading.proofs.Counting.{looks_count}
 use Rattle.rowex_reading.specs.Ways.{IsWayOf}
 use Rattle.tries.specs.Keys.{IsBefore}
-use Rattle.rowex_scanning.specs.Scanning.{range_of}
+use Rattle.rowex_scanning.specs.Scanning.{asked_range}
 use Rattle.rowex_scanning.proofs.Starting.{leaf_rooted, nothing_blank}
 use Rattle.rowex_scanning.proofs.Downwards.{blank_scanned_down, nothing_scanned_down}
 use Rattle.rowex_scanning.proofs.Walking.{empty_is, searched_few}
@@ -18,7 +18,7 @@ pub returns-then-is_before-clause-scanned : goal.returns-then-is_before-clause-s
 returns-then-is_before-clause-scanned g c =
     let before : IsBefore c.args.range.now.upto.now c.args.range.now.from.now =
     subst (λ z. IsBefore z c.args.range.now.from.now) c.as_bytes.ensures.bytes (subst (IsBefore c.as_bytes.result.now) c.as_bytes-2.ensures.bytes (c.is_before.ensures.before c.if-is_before.true)) in
-    nothing_scanned_down (range_of c.args.range.now) c.clear.ensures before
+    nothing_scanned_down (asked_range c.args.range.now) c.clear.ensures before
 
 pub returns-then-is_before-clause-few : goal.returns-then-is_before-clause-few
 returns-then-is_before-clause-few g c =
@@ -30,7 +30,7 @@ returns-in-Nothing-clause-looks g c = (c.search_way.ensures.searched.loaded, c.s
 pub returns-in-Nothing-clause-scanned : goal.returns-in-Nothing-clause-scanned
 returns-in-Nothing-clause-scanned g c =
     let w = subst (IsWayOf c.args.table.now.layout c.search_way.new.seat.known (since c.search_way.new.seat.known) c.args.range.now.upto.now c.search_way.new.way.items) c.in-Nothing.is c.search_way.ensures.way in
-    blank_scanned_down (range_of c.args.range.now) c.clear.ensures (nothing_blank _ _ _ _ c.search_way.new.way.items w)
+    blank_scanned_down (asked_range c.args.range.now) c.clear.ensures (nothing_blank _ _ _ _ c.search_way.new.way.items w)
 
 pub returns-in-Nothing-clause-few : goal.returns-in-Nothing-clause-few
 returns-in-Nothing-clause-few g c = searched_few {x = 0} c.args.range.now.limit c.search_way.ensures.searched (0, omega arith, reads_none (c.search_way.new.seat, c.search_way.new.gate)) (omega arith)

@@ -5,7 +5,7 @@ use Rattle.insert_cases.specs.declared.choice.Step.{Step}
 use Rattle.rowex_reading.specs.Seen.{since}
 use Rattle.rowex_reading.proofs.Led.{reader_then, reads_later, reads_none, reads_trans, same_since}
 use Rattle.rowex_reading.proofs.Seeing.{placed_stable, sure_later}
-use Rattle.rowex_scanning.specs.Scanning.{range_of}
+use Rattle.rowex_scanning.specs.Scanning.{asked_range}
 use Rattle.rowex_scanning.proofs.Downwards.{IsDownAt, behind_place, below_inside, ceiling_later, ceiling_leaf, ceiling_next, ceiling_pop, ceiling_push, down_at, down_ended, down_further, down_is_full, down_is_past, down_led, down_more, down_next, down_paid_end, down_paid_first, down_paid_last, down_paid_leaf, down_paid_pop, down_paid_push, down_popped, down_popped_less, down_pushed, down_pushed_less, down_rest, down_several, down_short, down_step_less, down_within, next_place}
 use Rattle.rowex_scanning.proofs.Walking.{entered_number, none_popped, popped_is}
 use Rattle.rowex_scanning.proofs.reverse.walk_down.Given as given
@@ -14,13 +14,13 @@ use Rattle.rowex_scanning.proofs.reverse.walk_down.Goals.{After-take_leaf_down, 
 
 -- The pass knows the entry at the place: a node,
 node : (g : given.Over) (c : In-Node g) →
-    IsDownAt c.load_entry.new.seat.known (since c.args.seat.now.known) (range_of c.args.range.now) (record c.loop-top.top { at = c.loop-top.top.at - 1 }) c.loop-top.way.items c.loop-top.pairs (Node c.in-Node.number c.in-Node.height)
+    IsDownAt c.load_entry.new.seat.known (since c.args.seat.now.known) (asked_range c.args.range.now) (record c.loop-top.top { at = c.loop-top.top.at - 1 }) c.loop-top.way.items c.loop-top.pairs (Node c.in-Node.number c.in-Node.height)
 node g c =
     down_at (Node c.in-Node.number c.in-Node.height) (down_next c.loop-top.invariant.walk (record c.loop-top.top { at = c.loop-top.top.at - 1 }) (behind_place c.loop-top.top c.if-top-eq0.false)) (reads_later c.load_entry.ensures.reads) c.in-Node.ensures.entry
 
 -- or a leaf.
 leaf : (g : given.Over) (c : In-Leaf g) →
-    IsDownAt c.load_entry.new.seat.known (since c.args.seat.now.known) (range_of c.args.range.now) (record c.loop-top.top { at = c.loop-top.top.at - 1 }) c.loop-top.way.items c.loop-top.pairs (Leaf c.in-Leaf.number)
+    IsDownAt c.load_entry.new.seat.known (since c.args.seat.now.known) (asked_range c.args.range.now) (record c.loop-top.top { at = c.loop-top.top.at - 1 }) c.loop-top.way.items c.loop-top.pairs (Leaf c.in-Leaf.number)
 leaf g c =
     down_at (Leaf c.in-Leaf.number) (down_next c.loop-top.invariant.walk (record c.loop-top.top { at = c.loop-top.top.at - 1 }) (behind_place c.loop-top.top c.if-top-eq0.false)) (reads_later c.load_entry.ensures.reads) c.in-Leaf.ensures.entry
 

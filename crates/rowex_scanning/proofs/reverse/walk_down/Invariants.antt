@@ -3,7 +3,7 @@ use Rattle.std.proofs.Common.{ℕ, length}
 use Rattle.rowex_reading.specs.Reads.{IsReader, Reads}
 use Rattle.rowex_reading.specs.Seen.{since}
 use Rattle.rowex_scanning.specs.Reverse.{IsCeiling, IsDownWalk}
-use Rattle.rowex_scanning.specs.Scanning.{range_of}
+use Rattle.rowex_scanning.specs.Scanning.{asked_range}
 use Rattle.rowex_scanning.proofs.Downwards.{IsPaidDown, down_rest}
 use Rattle.rowex_scanning.proofs.reverse.walk_down.Given as goal
 
@@ -11,7 +11,7 @@ abbrev pub invariant-loop-top : goal.invariant-loop-top
 invariant-loop-top g l = record {
   reader : IsReader l.table l.seat;
   reads : (n : ℕ) × IsPaidDown n (length l.pairs) l.top l.way.items × Reads l.table g.G.Gate.becomes n (l.fn.seat, l.fn.gate) (l.seat, l.gate);
-  walk : IsDownWalk l.seat.known (since l.fn.seat.known) (range_of l.range) l.top l.way.items l.pairs;
+  walk : IsDownWalk l.seat.known (since l.fn.seat.known) (asked_range l.range) l.top l.way.items l.pairs;
   ceiling : IsCeiling l.seat.known (since l.fn.seat.known) l.range.upto.now l.top l.way.items;
 }
 

@@ -5,7 +5,7 @@ use Rattle.tries.specs.Keys.{IsAtMost, IsBefore}
 use Rattle.rowex_reading.specs.Reads.{leaf_loads}
 use Rattle.rowex_reading.specs.Seen.{since}
 use Rattle.rowex_reading.proofs.Led.{reads_later, rooted_led, same_since}
-use Rattle.rowex_scanning.specs.Scanning.{range_of}
+use Rattle.rowex_scanning.specs.Scanning.{asked_range}
 use Rattle.rowex_scanning.proofs.Walking.{leaf_below, leaf_further, leaf_past, leaf_full}
 use Rattle.rowex_scanning.proofs.scanning.scan_leaf.Goals as goal
 
@@ -18,7 +18,7 @@ returns-then-is_before-clause-reads g c = (leaf_loads (take c.load_places-length
 pub returns-then-is_before-clause-scanned : goal.returns-then-is_before-clause-scanned
 returns-then-is_before-clause-scanned g c =
     let e = c.load_places-length.ensures in
-    leaf_below (range_of c.args.range.now) c.args.number (take c.load_places-length.result.0 c.load_places-length.new.places) c.load_places-length.result.1 (reads_later e.reads) c.requires.root
+    leaf_below (asked_range c.args.range.now) c.args.number (take c.load_places-length.result.0 c.load_places-length.new.places) c.load_places-length.result.1 (reads_later e.reads) c.requires.root
     (same_since e.reads) (e.leaf (since c.args.seat.now.known) (rooted_led (Leaf c.args.number) c.requires.root)) c.requires.empty
     (subst (IsBefore (take c.load_places-length.result.0 c.load_places-length.new.places)) c.as_bytes.ensures.bytes (c.is_before.ensures.before c.if-is_before.true))
 
@@ -37,7 +37,7 @@ returns-in-Full g c =
     record {
       reads = (leaf_loads (take c.load_places-length.result.0 c.load_places-length.new.places), e.few, e.reads);
       scanned =
-          leaf_full (range_of c.args.range.now) c.args.number (take c.load_places-length.result.0 c.load_places-length.new.places) c.load_places-length.result.1 (reads_later e.reads) c.requires.root
+          leaf_full (asked_range c.args.range.now) c.args.number (take c.load_places-length.result.0 c.load_places-length.new.places) c.load_places-length.result.1 (reads_later e.reads) c.requires.root
           (same_since e.reads) (e.leaf (since c.args.seat.now.known) (rooted_led (Leaf c.args.number) c.requires.root)) c.requires.empty c.in_ok-take_pair.ensures c.in-Full.is;
     }
 
@@ -48,10 +48,10 @@ returns-in-Further g c =
       reads = (leaf_loads (take c.load_places-length.result.0 c.load_places-length.new.places), e.few, e.reads);
       scanned = elim c.in-Further.is [
         | inl is ↦
-            leaf_further (range_of c.args.range.now) c.args.number (take c.load_places-length.result.0 c.load_places-length.new.places) c.load_places-length.result.1 (reads_later e.reads) c.requires.root
+            leaf_further (asked_range c.args.range.now) c.args.number (take c.load_places-length.result.0 c.load_places-length.new.places) c.load_places-length.result.1 (reads_later e.reads) c.requires.root
             (same_since e.reads) (e.leaf (since c.args.seat.now.known) (rooted_led (Leaf c.args.number) c.requires.root)) c.requires.empty c.in_ok-take_pair.ensures is
         | inr is ↦
-            leaf_past (range_of c.args.range.now) c.args.number (take c.load_places-length.result.0 c.load_places-length.new.places) c.load_places-length.result.1 (reads_later e.reads) c.requires.root
+            leaf_past (asked_range c.args.range.now) c.args.number (take c.load_places-length.result.0 c.load_places-length.new.places) c.load_places-length.result.1 (reads_later e.reads) c.requires.root
             (same_since e.reads) (e.leaf (since c.args.seat.now.known) (rooted_led (Leaf c.args.number) c.requires.root)) c.requires.empty c.in_ok-take_pair.ensures is
       ];
     }

@@ -4,7 +4,7 @@ use Rattle.compound_node.specs.declared.entries.Entry.TheVariants.{Leaf}
 use Rattle.rowex_reading.specs.Reads.{Reads}
 use Rattle.rowex_reading.specs.Seen.{since}
 use Rattle.rowex_reading.proofs.Led.{reader_then, reads_later, reads_trans, same_since}
-use Rattle.rowex_scanning.specs.Scanning.{range_of}
+use Rattle.rowex_scanning.specs.Scanning.{asked_range}
 use Rattle.rowex_scanning.proofs.Starting.{begun}
 use Rattle.rowex_scanning.proofs.Walking.{IsAtEntry, entry_led, floor_later, floor_since, reads_both, walk_full, walk_further, walk_past, walk_room, walk_since}
 use Rattle.rowex_scanning.proofs.scanning.scan_node.Given as given
@@ -13,16 +13,16 @@ use Rattle.rowex_scanning.proofs.scanning.scan_node.Goals.{After-take_leaf, then
 
 -- the leaf that comes first; and since the search the root was not loaded
 first : (g : given.Over) (c : After-take_leaf g) →
-    IsAtEntry c.start_at-start.new.seat.known (since c.args.seat.now.known) (range_of c.args.range.now) c.start_at-start.result.top c.truncate.new.self.items c.args.pairs.now (Leaf c.args.number) ×
+    IsAtEntry c.start_at-start.new.seat.known (since c.args.seat.now.known) (asked_range c.args.range.now) c.start_at-start.result.top c.truncate.new.self.items c.args.pairs.now (Leaf c.args.number) ×
     (since c.take_leaf.new.seat.known ≡ since c.args.seat.now.known)
-first g c = ((begun (range_of c.args.range.now) c.requires.way.1 c.deref.ensures.0 c.start_at-start.ensures.start c.truncate.ensures.items c.requires.empty).entry c.if-start.true, same_since (reads_trans c.start_at-start.ensures.reads.2 c.take_leaf.ensures.reads.2))
+first g c = ((begun (asked_range c.args.range.now) c.requires.way.1 c.deref.ensures.0 c.start_at-start.ensures.start c.truncate.ensures.items c.requires.empty).entry c.if-start.true, same_since (reads_trans c.start_at-start.ensures.reads.2 c.take_leaf.ensures.reads.2))
 
 pub take_leaf-requires-clause-reader : goal.take_leaf-requires-clause-reader
 take_leaf-requires-clause-reader g c = reader_then c.requires.reader c.start_at-start.ensures.reads.2
 
 pub take_leaf-requires-clause-leaf : goal.take_leaf-requires-clause-leaf
 take_leaf-requires-clause-leaf g c =
-    let b = begun (range_of c.args.range.now) c.requires.way.1 c.deref.ensures.0 c.start_at-start.ensures.start c.truncate.ensures.items c.requires.empty in
+    let b = begun (asked_range c.args.range.now) c.requires.way.1 c.deref.ensures.0 c.start_at-start.ensures.start c.truncate.ensures.items c.requires.empty in
     (since c.args.seat.now.known, entry_led (b.entry c.if-start.true), b.above c.if-start.true)
 
 pub returns-in_err-take_leaf-clause-reads : goal.returns-in_err-take_leaf-clause-reads
@@ -30,7 +30,7 @@ returns-in_err-take_leaf-clause-reads g c = reads_both c.start_at-start.ensures.
 
 pub overflow_add-top : goal.overflow_add-top
 overflow_add-top g c =
-    let b = begun (range_of c.args.range.now) c.requires.way.1 c.deref.ensures.0 c.start_at-start.ensures.start c.truncate.ensures.items c.requires.empty in
+    let b = begun (asked_range c.args.range.now) c.requires.way.1 c.deref.ensures.0 c.start_at-start.ensures.start c.truncate.ensures.items c.requires.empty in
     let low = (b.entry c.if-start.true).inside in let room = walk_room b.walk in omega (arith, low, room)
 
 pub returns-in-Past-clause-reads : goal.returns-in-Past-clause-reads
@@ -54,7 +54,7 @@ walk-requires-clause-reader g c =
 
 pub walk-requires-clause-walk : goal.walk-requires-clause-walk
 walk-requires-clause-walk g c =
-    let b = begun (range_of c.args.range.now) c.requires.way.1 c.deref.ensures.0 c.start_at-start.ensures.start c.truncate.ensures.items c.requires.empty in
+    let b = begun (asked_range c.args.range.now) c.requires.way.1 c.deref.ensures.0 c.start_at-start.ensures.start c.truncate.ensures.items c.requires.empty in
     let r = c.start_at-start.ensures.reads.2 in
     elim c.if-start.branch [
       | then-start+in_ok-take_leaf+in-Further w ↦
@@ -65,7 +65,7 @@ walk-requires-clause-walk g c =
 
 pub walk-requires-clause-floor : goal.walk-requires-clause-floor
 walk-requires-clause-floor g c =
-    let b = begun (range_of c.args.range.now) c.requires.way.1 c.deref.ensures.0 c.start_at-start.ensures.start c.truncate.ensures.items c.requires.empty in
+    let b = begun (asked_range c.args.range.now) c.requires.way.1 c.deref.ensures.0 c.start_at-start.ensures.start c.truncate.ensures.items c.requires.empty in
     let r = c.start_at-start.ensures.reads.2 in let m = since c.args.seat.now.known in let from = c.args.range.now.from.now in
     elim c.if-start.branch [
       | then-start+in_ok-take_leaf+in-Further w ↦

@@ -3,7 +3,7 @@ use Rattle.std.proofs.Common.{take}
 use Rattle.std.proofs.lemmas.Result.{IfOk-weaker}
 use Rattle.rowex_reading.specs.Reads.{leaf_loads}
 use Rattle.rowex_reading.proofs.Led.{reader_then, reads_later}
-use Rattle.rowex_scanning.specs.Scanning.{range_of, IsLeafTaken, IsPairTaken}
+use Rattle.rowex_scanning.specs.Scanning.{asked_range, IsLeafTaken, IsPairTaken}
 use Rattle.rowex_scanning.proofs.scanning.take_leaf.Goals as goal
 
 pub load_places-length-requires-clause-led : goal.load_places-length-requires-clause-led
@@ -20,6 +20,6 @@ returns-clause-reads g c = let e = c.load_places-length.ensures in (leaf_loads (
 pub returns-clause-taken : goal.returns-clause-taken
 returns-clause-taken g c =
     let key = take c.load_places-length.result.0 c.load_places-length.new.places in let value = c.load_places-length.result.1 in
-    IfOk-weaker c.take_pair.result (IsPairTaken (range_of c.args.range.now) c.args.pairs.now key value c.take_pair.new.pairs)
-    (IsLeafTaken c.args.seat.now.known c.load_places-length.new.seat.known (range_of c.args.range.now) c.args.number c.args.pairs.now c.take_pair.new.pairs)
+    IfOk-weaker c.take_pair.result (IsPairTaken (asked_range c.args.range.now) c.args.pairs.now key value c.take_pair.new.pairs)
+    (IsLeafTaken c.args.seat.now.known c.load_places-length.new.seat.known (asked_range c.args.range.now) c.args.number c.args.pairs.now c.take_pair.new.pairs)
     (λ verdict taken. record { key = key; value = value; read = c.load_places-length.ensures.leaf; taken = taken }) c.take_pair.ensures

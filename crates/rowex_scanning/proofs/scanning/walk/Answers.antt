@@ -4,7 +4,7 @@ use Rattle.compound_node.specs.declared.entries.Entry.TheVariants.{Leaf, Node}
 use Rattle.rowex_reading.specs.Seen.{since}
 use Rattle.rowex_reading.proofs.Led.{reader_then, reads_later, reads_none, reads_trans, same_since}
 use Rattle.rowex_reading.proofs.Seeing.{placed_stable, sure_later}
-use Rattle.rowex_scanning.specs.Scanning.{range_of}
+use Rattle.rowex_scanning.specs.Scanning.{asked_range}
 use Rattle.rowex_scanning.proofs.Walking.{IsAtEntry, entered_first, entered_number, entry_at, entry_led, floor_later, floor_leaf, floor_next, floor_pop, floor_push, none_popped, paid_end, paid_first, paid_last, paid_leaf, paid_pop, paid_push, popped_is, taken_more, walk_end, walk_full, walk_further, walk_inside, walk_next_less, walk_past, walk_place, walk_pop, walk_pop_less, walk_push, walk_push_less, walk_several, walk_short, way_short}
 use Rattle.rowex_scanning.proofs.scanning.walk.Given as given
 use Rattle.rowex_scanning.proofs.scanning.walk.Goals as goal
@@ -12,12 +12,12 @@ use Rattle.rowex_scanning.proofs.scanning.walk.Goals.{After-take_leaf, In-Leaf, 
 
 -- The pass knows the entry at the place: a node,
 node : (g : given.Over) (c : In-Node g) →
-    IsAtEntry c.load_entry.new.seat.known (since c.args.seat.now.known) (range_of c.args.range.now) c.loop-top.top c.loop-top.way.items c.loop-top.pairs (Node c.in-Node.number c.in-Node.height)
+    IsAtEntry c.load_entry.new.seat.known (since c.args.seat.now.known) (asked_range c.args.range.now) c.loop-top.top c.loop-top.way.items c.loop-top.pairs (Node c.in-Node.number c.in-Node.height)
 node g c = entry_at (Node c.in-Node.number c.in-Node.height) c.loop-top.invariant.walk c.if-top.true (reads_later c.load_entry.ensures.reads) c.in-Node.ensures.entry
 
 -- or a leaf.
 leaf : (g : given.Over) (c : In-Leaf g) →
-    IsAtEntry c.load_entry.new.seat.known (since c.args.seat.now.known) (range_of c.args.range.now) c.loop-top.top c.loop-top.way.items c.loop-top.pairs (Leaf c.in-Leaf.number)
+    IsAtEntry c.load_entry.new.seat.known (since c.args.seat.now.known) (asked_range c.args.range.now) c.loop-top.top c.loop-top.way.items c.loop-top.pairs (Leaf c.in-Leaf.number)
 leaf g c = entry_at (Leaf c.in-Leaf.number) c.loop-top.invariant.walk c.if-top.true (reads_later c.load_entry.ensures.reads) c.in-Leaf.ensures.entry
 
 -- When the leaf has been read, the root has not been loaded again.

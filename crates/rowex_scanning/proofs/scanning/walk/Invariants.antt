@@ -2,7 +2,7 @@
 use Rattle.std.proofs.Common.{ℕ, length}
 use Rattle.rowex_reading.specs.Reads.{IsReader, Reads}
 use Rattle.rowex_reading.specs.Seen.{since}
-use Rattle.rowex_scanning.specs.Scanning.{range_of, IsFloor, IsWalk}
+use Rattle.rowex_scanning.specs.Scanning.{asked_range, IsFloor, IsWalk}
 use Rattle.rowex_scanning.proofs.Walking.{IsPaid, rest_of}
 use Rattle.rowex_scanning.proofs.scanning.walk.Given as goal
 
@@ -10,7 +10,7 @@ abbrev pub invariant-loop-top : goal.invariant-loop-top
 invariant-loop-top g l = record {
   reader : IsReader l.table l.seat;
   reads : (n : ℕ) × IsPaid n (length l.pairs) l.top l.way.items × Reads l.table g.G.Gate.becomes n (l.fn.seat, l.fn.gate) (l.seat, l.gate);
-  walk : IsWalk l.seat.known (since l.fn.seat.known) (range_of l.range) l.top l.way.items l.pairs;
+  walk : IsWalk l.seat.known (since l.fn.seat.known) (asked_range l.range) l.top l.way.items l.pairs;
   floor : IsFloor l.seat.known (since l.fn.seat.known) l.range.from.now l.top l.way.items;
 }
 

@@ -5,7 +5,7 @@ use Rattle.std.proofs.lemmas.Option.{slice_get-get_or, slice_get_within, get_or_
 use Rattle.insert_cases.specs.declared.choice.Step.{Step}
 use Rattle.insert_cases.proofs.Choosing.{same_some}
 use Rattle.moments.specs.Trades.{IsOf}
-use Rattle.rowex_core.specs.Reading.{node_of}
+use Rattle.rowex_core.specs.Reading.{node_words_of}
 use Rattle.rowex_writing.specs.Going.{HasLocked}
 use Rattle.rowex_writing.proofs.Locking.{goes_more}
 use Rattle.rowex_writing.proofs.Lifting.{fits_above, up_there, up_below, up_next, up_end, settled_up, up_done}
@@ -103,7 +103,7 @@ returns-then-level-end-clause-low g t c = λ s words at h.
     let b = c.requires.up in
     let same : s ≡ b.step = same_some (sym at ∙ (ap (slice_get c.args.way.now) (sym c.if-level-end.true) ∙ b.at)) in
     let here = subst (λ (z : Step). HasLocked c.args.seat.now.known z.number words) same h in
-    fits_above words c.args.risen c.settle.result (b.single words here) (c.settle.ensures.low (node_of words).fixed.height (b.low words here))
+    fits_above words c.args.risen c.settle.result (b.single words here) (c.settle.ensures.low (node_words_of words).fixed.height (b.low words here))
 
 pub returns-clause-low : goal.returns-clause-low
 returns-clause-low g t c = λ s words at h. c.raise_on.ensures.low s words at (subst (IsOf (record { node = s.number; words = words })) (sym c.in_ok-next-in-Split.ensures.goes.stays.1) h)

@@ -5,7 +5,7 @@ use Rattle.record_words.specs.Node.{node_words}
 use Rattle.moments.specs.declared.Rec.TheVariants.{Node as a_node}
 use Rattle.rowex_rights.specs.Rises.{of_view}
 use Rattle.rowex_writing.specs.Building.{IsBuilding}
-use Rattle.rowex_writing.specs.Walks.{IsWalk}
+use Rattle.rowex_writing.specs.Walks.{IsClaimWalk}
 use Rattle.rowex_writing.proofs.Locking.{goes_more, seat_of}
 use Rattle.rowex_writing.proofs.Making.{set_on, building_more, not_made}
 use Rattle.rowex_writing.proofs.Walked.{walk_on}
@@ -41,7 +41,7 @@ returns-clause-made g c = λ news b. (
 
 pub returns-clause-walk : goal.returns-clause-walk
 returns-clause-walk g c = λ since w.
-    subst (λ z. IsWalk a_node c.args.table.now.layout.nodes since c.fill_node.new.seat.known z c.claim_node.new.build.nodes.next c.claim_node.new.build.left_nodes)
+    subst (λ z. IsClaimWalk a_node c.args.table.now.layout.nodes since c.fill_node.new.seat.known z c.claim_node.new.build.nodes.next c.claim_node.new.build.left_nodes)
     (sym (c.push.ensures.items ∙ ap (λ z. z ++ a_node c.in_ok-number.number ∷ []) c.claim_node.ensures.made))
     (walk_on a_node c.args.table.now.layout.nodes c.args.table.now g.G.Gate.becomes since (c.claim_node.new.seat, c.claim_node.new.gate) (c.fill_node.new.seat, c.fill_node.new.gate)
     (c.args.build.now.made.items ++ a_node c.in_ok-number.number ∷ []) (c.args.build.now.made.items ++ a_node c.in_ok-number.number ∷ []) c.claim_node.new.build.nodes.next c.claim_node.new.build.left_nodes

@@ -4,7 +4,7 @@ use Rattle.std.specs.Prelude.{slice_get}
 use Rattle.std.proofs.lemmas.Option.{slice_get-get_or, get_or_from_slice_get}
 use Rattle.insert_cases.specs.declared.choice.Step.{Step}
 use Rattle.tries.specs.Place.{entry_at}
-use Rattle.rowex_core.specs.Reading.{node_of}
+use Rattle.rowex_core.specs.Reading.{node_words_of}
 use Rattle.rowex_writing.specs.Going.{HasLocked}
 use Rattle.rowex_writing.proofs.Confirming.{none_stand, more_stand, step_place, step_read, span_locked}
 use Rattle.rowex_writing.proofs.Locking.{locked_on, reads_none, reads_more, seat_of}
@@ -77,7 +77,7 @@ loop-index-preserved g c =
           (λ s at words h.
           let same : get_or c.args.way.now c.loop-index.index no_step ≡ s = get_or_from_slice_get c.args.way.now c.loop-index.index s no_step at in
           let locked = locked_on c.args.seat.now.known c.loop-index.seat.known s.number words i.reads.goes.stays.1 h in
-          sym c.named_at-entry.ensures ∙ subst (λ (z : Step). HasLocked c.loop-index.seat.known z.number words → c.named_at-entry.result ≡ Some (entry_at (node_of words).page z.at)) same
+          sym c.named_at-entry.ensures ∙ subst (λ (z : Step). HasLocked c.loop-index.seat.known z.number words → c.named_at-entry.result ≡ Some (entry_at (node_words_of words).page z.at)) same
           (e.same c.if-not-entry_stands.false words) locked);
     }
 

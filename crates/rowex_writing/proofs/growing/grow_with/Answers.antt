@@ -7,7 +7,7 @@ use Rattle.rowex_walks.specs.Writer.{added_change}
 use Rattle.rowex_records.specs.Records.{HoldsJust}
 use Rattle.rowex_writing.specs.Changes.{MayEnd}
 use Rattle.rowex_writing.specs.Locks.{AreNodes}
-use Rattle.rowex_writing.specs.Retiring.{AreRecords}
+use Rattle.rowex_writing.specs.Retiring.{AreInTable}
 use Rattle.rowex_writing.proofs.Bridging.{locked_at}
 use Rattle.rowex_writing.proofs.Growths.{gone_is, grown_ends, kept_of_span, no_room, range_nodes, range_records, two_nodes}
 use Rattle.rowex_writing.proofs.Locking.{seat_of}
@@ -28,7 +28,7 @@ undo-requires-clause-own g c = seat_of c.args.table.now g.G.Gate.becomes (c.args
 pub undo-requires-clause-records : goal.undo-requires-clause-records
 undo-requires-clause-records g c =
     let none = c.in_default.ensures.made c.requires.may.1.growing in
-    subst (AreRecords c.args.table.now.layout) (sym c.as_slice.ensures.value) (made_records c.args.table.now c.raise_grown.new.seat c.raise_grown.new.build.made.items none.news none.building)
+    subst (AreInTable c.args.table.now.layout) (sym c.as_slice.ensures.value) (made_records c.args.table.now c.raise_grown.new.seat c.raise_grown.new.build.made.items none.news none.building)
 
 pub undo-requires-clause-nodes : goal.undo-requires-clause-nodes
 undo-requires-clause-nodes g c = range_nodes c.args.table.now.layout c.args.way.now c.saturating_sub.result c.args.span.len c.requires.may.1.nodes
@@ -77,7 +77,7 @@ publish_change-requires-clause-may g c =
 
 pub publish_change-requires-clause-records : goal.publish_change-requires-clause-records
 publish_change-requires-clause-records g c =
-    subst (AreRecords c.args.table.now.layout) (sym c.name_gone.ensures.gone) (range_records c.args.table.now.layout c.args.way.now c.args.span.end c.if-stays.low c.requires.may.1.nodes)
+    subst (AreInTable c.args.table.now.layout) (sym c.name_gone.ensures.gone) (range_records c.args.table.now.layout c.args.way.now c.args.span.end c.if-stays.low c.requires.may.1.nodes)
 
 pub publish_change-requires-clause-nodes : goal.publish_change-requires-clause-nodes
 publish_change-requires-clause-nodes g c =

@@ -15,7 +15,7 @@ use Rattle.rowex_writing.specs.Changes.{IsStored, MayEnd}
 use Rattle.rowex_writing.specs.Counts.{node_steps}
 use Rattle.rowex_writing.specs.declared.building.TheConstants.{MOST_MADE}
 use Rattle.rowex_writing.specs.Locks.{AreNodes, HasJustLocked, numbers_of}
-use Rattle.rowex_writing.specs.Retiring.{AreRecords}
+use Rattle.rowex_writing.specs.Retiring.{AreInTable}
 use Rattle.rowex_writing.proofs.Locking.{goes_more, seat_of}
 use Rattle.rowex_records.proofs.Claimed.{all_earlier}
 use Rattle.rowex_writing.proofs.Making.{steps_rise}
@@ -85,7 +85,7 @@ undo-requires-in_default-raise_pair-clause-own g c =
 pub undo-requires-in_default-raise_pair-clause-records : goal.undo-requires-in_default-raise_pair-clause-records
 undo-requires-in_default-raise_pair-clause-records g c =
     let none = c.in_default-raise_pair.ensures.made (of_leaf (item c.in-Some.leaf c.args.key.now c.args.value) ∷ []) c.in-Some.ensures.made in
-    subst (AreRecords c.args.table.now.layout) (sym c.deref.ensures.0) (made_records c.args.table.now c.raise_pair.new.seat c.raise_pair.new.build.made.items none.news none.building)
+    subst (AreInTable c.args.table.now.layout) (sym c.deref.ensures.0) (made_records c.args.table.now c.raise_pair.new.seat c.raise_pair.new.build.made.items none.news none.building)
 
 pub undo-requires-in_default-raise_pair-clause-nodes : goal.undo-requires-in_default-raise_pair-clause-nodes
 undo-requires-in_default-raise_pair-clause-nodes g c =

@@ -8,7 +8,7 @@ use Rattle.rowex_table.specs.Made.{nodes_of}
 use Rattle.rowex_rights.proofs.Loops.{later_on}
 use Rattle.rowex_writing.specs.Changes.{MayEnd}
 use Rattle.rowex_writing.specs.Locks.{AreNodes, HasJustLocked, numbers_of}
-use Rattle.rowex_writing.specs.Retiring.{AreRecords}
+use Rattle.rowex_writing.specs.Retiring.{AreInTable}
 use Rattle.rowex_writing.proofs.Locking.{seat_of}
 use Rattle.rowex_writing.proofs.Works.{works_later}
 use Rattle.rowex_writing.proofs.Runs.{goes_run, works_run, runs_trans}
@@ -79,7 +79,7 @@ pub publish_change-requires-clause-records : goal.publish_change-requires-clause
 publish_change-requires-clause-records g c =
     let (m, aim, t, planned) = c.requires.taken in
     let (at, same, upto) = put_len c.args.seat.now.known m c.args.key.now c.args.way.now aim c.args.found c.args.span planned in
-    subst (AreRecords c.args.table.now.layout) (sym c.name_gone.ensures.gone) (found_records c.args.table.now c.args.seat.now m c.args.key.now c.args.way.now c.args.found c.args.span t same)
+    subst (AreInTable c.args.table.now.layout) (sym c.name_gone.ensures.gone) (found_records c.args.table.now c.args.seat.now m c.args.key.now c.args.way.now c.args.found c.args.span t same)
 
 pub publish_change-requires-clause-nodes : goal.publish_change-requires-clause-nodes
 publish_change-requires-clause-nodes g c =

@@ -4,7 +4,7 @@ use Rattle.moments.specs.declared.Rec.TheVariants.{Leaf as a_leaf}
 use Rattle.rowex_core.specs.declared.event.Spot.TheVariants.{Root}
 use Rattle.rowex_walks.specs.Writer.{removed_change}
 use Rattle.rowex_writing.specs.Changes.{MayEnd}
-use Rattle.rowex_writing.specs.Retiring.{AreRecords}
+use Rattle.rowex_writing.specs.Retiring.{AreInTable}
 use Rattle.rowex_writing.proofs.Removing.{may_empty, only_records}
 use Rattle.rowex_writing.proofs.taking.empty_root.Goals as goal
 use Rattle.tries.specs.Content.{item}
@@ -24,7 +24,7 @@ pub publish_change-requires-clause-records : goal.publish_change-requires-clause
 publish_change-requires-clause-records g c =
     let (key, value, only) = c.requires.only in
     let gone = c.push.ensures.items ∙ ap (λ xs. xs ++ a_leaf c.args.number ∷ []) c.clear.ensures in
-    subst (AreRecords c.args.table.now.layout) (sym gone) (only_records c.args.table.now c.args.seat.now c.args.number key value only)
+    subst (AreInTable c.args.table.now.layout) (sym gone) (only_records c.args.table.now c.args.seat.now c.args.number key value only)
 
 pub returns-clause-taken : goal.returns-clause-taken
 returns-clause-taken g c = λ key value only.

@@ -16,7 +16,7 @@ use Rattle.rowex_writing.specs.Changes.{MayEnd}
 use Rattle.rowex_writing.specs.Counts.{level_steps}
 use Rattle.rowex_writing.specs.declared.building.TheConstants.{MOST_MADE}
 use Rattle.rowex_writing.specs.Locks.{numbers_of}
-use Rattle.rowex_writing.specs.Retiring.{AreRecords}
+use Rattle.rowex_writing.specs.Retiring.{AreInTable}
 use Rattle.rowex_writing.proofs.Keeping.{changed_since, made_held, made_records, missed_on, way_nodes}
 use Rattle.rowex_writing.proofs.Walked.{walk_begins}
 use Rattle.rowex_writing.proofs.Locking.{seat_of}
@@ -45,7 +45,7 @@ undo-requires-clause-records g c =
     let at = slice_get-get_or c.args.way.now c.args.span.end no_step (let e = b.last in let n = b.len in omega (arith, e, n)) in
     let (words, h) = lowest_locked c.args.table.now c.args.seat.now m c.args.key.now c.args.way.now c.args.number value c.args.span b _ at in
     let none = c.in_default.ensures.made words h in
-    subst (AreRecords c.args.table.now.layout) (sym c.deref.ensures.0) (made_records c.args.table.now c.raise_without.new.seat c.raise_without.new.build.made.items none.news none.building)
+    subst (AreInTable c.args.table.now.layout) (sym c.deref.ensures.0) (made_records c.args.table.now c.raise_without.new.seat c.raise_without.new.build.made.items none.news none.building)
 
 pub undo-requires-clause-nodes : goal.undo-requires-clause-nodes
 undo-requires-clause-nodes g c =
@@ -120,7 +120,7 @@ publish_change-requires-clause-records g c =
     let (m, value, b) = c.requires.below in
     let at = slice_get-get_or c.args.way.now c.args.span.end no_step (let e = b.last in let n = b.len in omega (arith, e, n)) in
     let gone = gone_are _ c.args.number _ _ _ c.clear.ensures c.push.ensures.items c.push-2.ensures.items in
-    subst (AreRecords table.layout) (sym gone) (gone_records table c.args.seat.now m c.args.key.now c.args.way.now c.args.number value c.args.span b _ at)
+    subst (AreInTable table.layout) (sym gone) (gone_records table c.args.seat.now m c.args.key.now c.args.way.now c.args.number value c.args.span b _ at)
 
 pub publish_change-requires-clause-nodes : goal.publish_change-requires-clause-nodes
 publish_change-requires-clause-nodes g c =

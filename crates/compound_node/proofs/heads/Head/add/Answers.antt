@@ -2,7 +2,7 @@
 use Rattle.std.proofs.Common.{ap, arith, drop, false, length, refl, subst, sym, take, ◌%◌, ◌*◌, ◌++◌, ◌+◌, ◌-◌, ◌<◌, ◌^◌, ◌∙◌, ◌≡◌}
 use Rattle.compound_node.proofs.Forked.{new_fits, new_rows, room_for_column, words_forked}
 use Rattle.compound_node.specs.Forking.{forked_head}
-use Rattle.compound_node.specs.Nodes.{FitsHead, HeadView, IsLawful, leaves, node_of}
+use Rattle.compound_node.specs.Nodes.{FitsHead, HeadView, IsLawfulNode, leaves, node_of}
 use Rattle.partial_keys.specs.Spread.{forked_rows}
 use Rattle.pieces.specs.Growth.{edited}
 use Rattle.pieces.specs.Positions.{has}
@@ -20,9 +20,9 @@ before c = record { height = c.self.inside.height; columns = c.self.inside.colum
 abbrev after : (c : After-self-2-1) → HeadView
 after c = forked_head c.args.height c.args.position c.args.first c.args.last c.args.bit (before c)
 
-lawful : (c : After-self-2-1) → IsLawful (node_of (after c) (leaves (c.self.inside.count + 1)))
-lawful c = subst (λ n. IsLawful (node_of (after c) (leaves (n + 1)))) c.self.invariant.counted
-    (subst (λ (h : HeadView). IsLawful (node_of (forked_head c.args.height c.args.position c.args.first c.args.last c.args.bit h) (leaves (length h.rows + 1)))) (sym c.self.view_is) c.requires.lawful)
+lawful : (c : After-self-2-1) → IsLawfulNode (node_of (after c) (leaves (c.self.inside.count + 1)))
+lawful c = subst (λ n. IsLawfulNode (node_of (after c) (leaves (n + 1)))) c.self.invariant.counted
+    (subst (λ (h : HeadView). IsLawfulNode (node_of (forked_head c.args.height c.args.position c.args.first c.args.last c.args.bit h) (leaves (length h.rows + 1)))) (sym c.self.view_is) c.requires.lawful)
 
 words : (c : After-self-2-1) → c.fork_rows.new.rows ≡ (after c).rows ++ drop (c.self.inside.count + 1) c.self.inside.sparse
 words c =

@@ -2,7 +2,7 @@
 use Rattle.std.proofs.Common.{ap, arith, length, subst, sym, ◌∙◌, ◌≡◌}
 use Rattle.compound_node.proofs.Lawful.{length-leaves}
 use Rattle.compound_node.proofs.Ranges.{IsRange, range_of_head}
-use Rattle.compound_node.specs.Nodes.{HeadView, IsLawful, NodeView, head_of}
+use Rattle.compound_node.specs.Nodes.{HeadView, IsLawfulNode, NodeView, head_of}
 use Rattle.partial_keys.specs.Runs.{IsRunEnd, IsRunStart}
 use Rattle.pieces.specs.Positions.{front_below}
 use Rattle.compound_node.proofs.heads.Head.affected.Goals as goal
@@ -22,7 +22,7 @@ overflow_cast-result-2 c =
     record { fits = omega (arith, rows, c.run_end.ensures.in_range, length-leaves c.self.inside.count, room) }
 
 -- what the calls answered, in each node of the head
-range : (c : After-run_end) (node : NodeView) → IsLawful node → head_of node ≡ c.args.self.now → IsRange node c.args.position c.args.found c.run_start.result c.run_end.result
+range : (c : After-run_end) (node : NodeView) → IsLawfulNode node → head_of node ≡ c.args.self.now → IsRange node c.args.position c.args.found c.run_start.result c.run_end.result
 range c = range_of_head c.args.self.now c.args.position c.args.found c.below-columns.result c.run_start.result c.run_end.result c.requires
     (c.below-columns.ensures.value ∙ ap (λ (h : HeadView). front_below c.args.position h.columns) c.self.view_is)
     (subst (λ rows. IsRunStart rows c.below-columns.result c.args.found c.run_start.result) c.rows-rows.ensures c.run_start.ensures)

@@ -1,6 +1,6 @@
 -- A get is noted as its pass clears the pin, and has settled then.
 use Rattle.std.proofs.Common.{rules, ◌∙◌, IsSome, sym, ap, subst}
-use Rattle.hot_model.specs.declared.Call.TheVariants.{Get}
+use Rattle.finite_map.specs.declared.Call.TheVariants.{Get}
 use Rattle.rowex_table.specs.Seats.{TableView}
 use Rattle.hot_index.specs.Passes.{PassView, pass_of}
 use Rattle.hot_index.specs.Answers.{IsNoted, got}

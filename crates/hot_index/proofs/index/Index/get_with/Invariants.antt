@@ -1,5 +1,5 @@
 -- The note of the get.
-use Rattle.hot_model.specs.declared.Call.TheVariants.{Get}
+use Rattle.finite_map.specs.declared.Call.TheVariants.{Get}
 use Rattle.hot_index.specs.Answers.{got}
 use Rattle.hot_index.proofs.Noting.{note_of}
 use Rattle.hot_index.proofs.index.Index.get_with.Given as goal

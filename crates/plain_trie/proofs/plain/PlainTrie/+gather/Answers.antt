@@ -6,7 +6,7 @@ use Rattle.std.specs.Ordering.{is_lt}
 use Rattle.std.proofs.lemmas.Option.{slice_get_within}
 use Rattle.std.proofs.lemmas.Result.{IfOk-weaker}
 use Rattle.pieces.specs.Piece.{Place}
-use Rattle.hot_model.specs.Maps.{key_order}
+use Rattle.finite_map.specs.Maps.{key_order}
 use Rattle.compound_node.specs.Nodes.{piece, height_of}
 use Rattle.compound_node.specs.declared.entries.Entry.{Entry}
 use Rattle.compound_node.specs.declared.entries.Entry.TheVariants.{Leaf, Node}
@@ -16,8 +16,8 @@ use Rattle.tries.specs.Tree.{Page, Fixed, Tree, node, page}
 use Rattle.tries.proofs.Places.{leads_spot}
 use Rattle.plain_trie.specs.declared.plain.LeafRecord.{LeafRecord}
 use Rattle.plain_trie.specs.declared.plain.scan.Progress.TheVariants.{On}
-use Rattle.plain_trie.specs.Gathered.{IsBeyond, IsFloor, IsGathered, IsMismatch, StandsIn, items_from, leaves_of, pairs_read, parts}
-use Rattle.plain_trie.specs.Store.{PlainView, record_of}
+use Rattle.plain_trie.specs.Gathered.{IsBeyond, IsNotAboveKeys, IsGathered, IsFirstMismatch, ShowsSound, items_from, items_of_all, pairs_read, parts}
+use Rattle.plain_trie.specs.Store.{PlainView, item_record}
 use Rattle.plain_trie.proofs.Gathering.{gathered_none, gathered_skip, less_beyond, not_less_floor}
 use Rattle.plain_trie.proofs.Searching.{read_at}
 use Rattle.plain_trie.proofs.Standing.{no_tree, node_shows, node_height, node_within, IsPartAt, IsLeafAt, IsNodeAt, part_at, leaf_at, node_at}
@@ -28,43 +28,43 @@ use Rattle.plain_trie.proofs.plain.PlainTrie.+gather.Goals.{In-Leaf, In-Node, Af
 at_entry : (u : Tree) (e f : Entry) → page u ≡ Place e → e ≡ f → page u ≡ Place f
 at_entry u e f h is = h ∙ ap (λ (z : Entry). let y : Page = Place z in y) is
 
-leaf_of : (t : ℕ) (c : In-Leaf t) (u : Tree) → page u ≡ Place c.args.entry → StandsIn c.args.self.now u → IsLeafAt c.args.self.now c.in-Leaf.number u
+leaf_of : (t : ℕ) (c : In-Leaf t) (u : Tree) → page u ≡ Place c.args.entry → ShowsSound c.args.self.now u → IsLeafAt c.args.self.now c.in-Leaf.number u
 leaf_of t c u e i = leaf_at c.args.self.now c.in-Leaf.number u (at_entry u c.args.entry (Leaf c.in-Leaf.number) e c.in-Leaf.is) i
 
-node_of : (t : ℕ) (c : In-Node t) (u : Tree) → page u ≡ Place c.args.entry → StandsIn c.args.self.now u → IsNodeAt c.args.self.now c.in-Node.number c.in-Node.height u
+node_of : (t : ℕ) (c : In-Node t) (u : Tree) → page u ≡ Place c.args.entry → ShowsSound c.args.self.now u → IsNodeAt c.args.self.now c.in-Node.number c.in-Node.height u
 node_of t c u e i = node_at c.args.self.now c.in-Node.number c.in-Node.height u (at_entry u c.args.entry (Node c.in-Node.number c.in-Node.height) e c.in-Node.is) i
 
 -- the node shows its body, and the place to which the search leads
-starts : (t : ℕ) (c : After-start_in t) (x : Fixed) (b : Tree) → StandsIn c.args.self.now (node c.in-Node.number x b) →
+starts : (t : ℕ) (c : After-start_in t) (x : Fixed) (b : Tree) → ShowsSound c.args.self.now (node c.in-Node.number x b) →
     (piece c.index-node.result.now ≡ page b) × (c.search-at.result ≡ spot c.args.range.from.now (page b))
 starts t c x b i =
     let shows = node_shows c.args.self.now c.in-Node.number x b i c.index-node.result.now (rw (← c.self.view_is) c.index-node.ensures) in
     (shows, c.search-at.ensures.leads ∙ (leads_spot c.args.range.from.now (piece c.index-node.result.now) ∙ ap (spot c.args.range.from.now) shows))
 
 -- what stands there
-at_place : (t : ℕ) (c : After-entry t) (x : Fixed) (b : Tree) → StandsIn c.args.self.now (node c.in-Node.number x b) → IsPartAt c.args.self.now b c.search-at.result c.entry.result
+at_place : (t : ℕ) (c : After-entry t) (x : Fixed) (b : Tree) → ShowsSound c.args.self.now (node c.in-Node.number x b) → IsPartAt c.args.self.now b c.search-at.result c.entry.result
 at_place t c x b i =
     part_at c.args.self.now c.in-Node.number x b i c.index-node.result.now (rw (← c.self.view_is) c.index-node.ensures) c.count.ensures.lawful c.search-at.result c.entry.result
     c.entry.ensures.entry
 
 -- the order of the leaf that was read
-order_is : (t : ℕ) (c : After-lt t) (x : Item) → slice_get c.args.self.now.leaves c.in-Leaf.number ≡ Some (record_of x) → is_lt (key_order x.key c.args.range.from.now) ≡ c.lt.result
+order_is : (t : ℕ) (c : After-lt t) (x : Item) → slice_get c.args.self.now.leaves c.in-Leaf.number ≡ Some (item_record x) → is_lt (key_order x.key c.args.range.from.now) ≡ c.lt.result
 order_is t c x e =
-    let same : c.index.result.now ≡ record_of x = read_at c.args.self.now.leaves c.in-Leaf.number (record_of x) c.index.result.now e (rw (← c.self.view_is) c.index.ensures) in
+    let same : c.index.result.now ≡ item_record x = read_at c.args.self.now.leaves c.in-Leaf.number (item_record x) c.index.result.now e (rw (← c.self.view_is) c.index.ensures) in
     sym (c.lt.ensures ∙ ap (λ (l : LeafRecord). is_lt (key_order l.key c.args.range.from.now)) same)
 
 pub index-requires : goal.index-requires
 index-requires t c =
     let s = c.requires.shown in
     let l = leaf_of t c s.0 s.1 s.2 in
-    let h = slice_get_within c.args.self.now.leaves c.in-Leaf.number (record_of l.item) l.at in
+    let h = slice_get_within c.args.self.now.leaves c.in-Leaf.number (item_record l.item) l.at in
     omega (arith, h, ap (λ (v : PlainView). length v.leaves) c.self.view_is, c.self.inside.leaves.ok.0)
 
 pub list_leaf-requires : goal.list_leaf-requires
 list_leaf-requires t c =
     let s = c.requires.shown in
     let l = leaf_of t (goal.at.list_leaf-requires t c).In-Leaf s.0 s.1 s.2 in
-    record { within = slice_get_within c.args.self.now.leaves c.in-Leaf.number (record_of l.item) l.at }
+    record { within = slice_get_within c.args.self.now.leaves c.in-Leaf.number (item_record l.item) l.at }
 
 pub index-node-requires : goal.index-node-requires
 index-node-requires t c =
@@ -119,7 +119,7 @@ returns-in-Before t c = record {
   gathered = λ u e i m r.
       let l = node_of t (goal.at.returns-in-Before t c).In-Node u e i in
       let z = starts t (goal.at.returns-in-Before t c).After-start_in l.fixed l.body l.stands in
-      let s = c.in-Before.ensures l.body l.stands.sound.trie z.0 z.1 (subst (λ w. IsMismatch c.args.range.from.now w c.args.difference) l.is m) in
+      let s = c.in-Before.ensures l.body l.stands.sound.trie z.0 z.1 (subst (λ w. IsFirstMismatch c.args.range.from.now w c.args.difference) l.is m) in
       IfOk-weaker c.gather_from.result (IsGathered c.args.range (pairs_read c.args.leaves.now.items) (items_from c.in-Before.place l.body) (pairs_read c.gather_from.new.leaves.items))
       (IsGathered c.args.range (pairs_read c.args.leaves.now.items) (items u) (pairs_read c.gather_from.new.leaves.items))
       (λ p g. subst (λ w. IsGathered c.args.range (pairs_read c.args.leaves.now.items) (items w) (pairs_read c.gather_from.new.leaves.items) p) (sym l.is)
@@ -135,13 +135,13 @@ returns-in-On t c = record {
       let j = c.search-at.result in
       let z = starts t (goal.at.returns-in-On t c).After-start_in l.fixed b l.stands in
       let p = at_place t (goal.at.returns-in-On t c).After-entry l.fixed b l.stands in
-      let n : IsMismatch k b c.args.difference = subst (λ w. IsMismatch k w c.args.difference) l.is m in
+      let n : IsFirstMismatch k b c.args.difference = subst (λ w. IsFirstMismatch k w c.args.difference) l.is m in
       let s = c.in-Within.ensures b l.stands.sound.trie z.0 z.1 n in
-      let low : IsBeyond k (leaves_of (take j (parts b))) = subst (λ i. IsBeyond k (leaves_of (take i (parts b)))) (sym z.1) s.0 in
+      let low : IsBeyond k (items_of_all (take j (parts b))) = subst (λ i. IsBeyond k (items_of_all (take i (parts b)))) (sym z.1) s.0 in
       let mid = c.in_ok-end-in-Within.ensures.gathered (get_or (parts b) j no_tree) p.head p.stands (part_mismatch k b j no_tree c.args.difference z.1 n) r in
       let f : IsGathered c.args.range (pairs_read c.args.leaves.now.items) (items (get_or (parts b) j no_tree)) (pairs_read c.gather.new.leaves.items) On =
       subst (IsGathered c.args.range (pairs_read c.args.leaves.now.items) (items (get_or (parts b) j no_tree)) (pairs_read c.gather.new.leaves.items)) c.in-On.is mid in
-      let floor : IsFloor k (items_from (j + 1) b) = subst (λ i. IsFloor k (items_from (i + 1) b)) (sym z.1) s.1 in
+      let floor : IsNotAboveKeys k (items_from (j + 1) b) = subst (λ i. IsNotAboveKeys k (items_from (i + 1) b)) (sym z.1) s.1 in
       IfOk-weaker c.gather_from-in-On.result (IsGathered c.args.range (pairs_read c.gather.new.leaves.items) (items_from (j + 1) b) (pairs_read c.gather_from-in-On.new.leaves.items))
       (IsGathered c.args.range (pairs_read c.args.leaves.now.items) (items u) (pairs_read c.gather_from-in-On.new.leaves.items))
       (λ q g. subst (λ w. IsGathered c.args.range (pairs_read c.args.leaves.now.items) (items w) (pairs_read c.gather_from-in-On.new.leaves.items) q) (sym l.is)
@@ -158,9 +158,9 @@ returns-in_default t c = record {
       let j = c.search-at.result in
       let z = starts t (goal.at.returns-in_default t c).After-start_in l.fixed b l.stands in
       let p = at_place t (goal.at.returns-in_default t c).After-entry l.fixed b l.stands in
-      let n : IsMismatch k b c.args.difference = subst (λ w. IsMismatch k w c.args.difference) l.is m in
+      let n : IsFirstMismatch k b c.args.difference = subst (λ w. IsFirstMismatch k w c.args.difference) l.is m in
       let s = c.in-Within.ensures b l.stands.sound.trie z.0 z.1 n in
-      let low : IsBeyond k (leaves_of (take j (parts b))) = subst (λ i. IsBeyond k (leaves_of (take i (parts b)))) (sym z.1) s.0 in
+      let low : IsBeyond k (items_of_all (take j (parts b))) = subst (λ i. IsBeyond k (items_of_all (take i (parts b)))) (sym z.1) s.0 in
       let mid = c.in_ok-end-in-Within.ensures.gathered (get_or (parts b) j no_tree) p.head p.stands (part_mismatch k b j no_tree c.args.difference z.1 n) r in
       subst (λ w. IsGathered c.args.range (pairs_read c.args.leaves.now.items) (items w) (pairs_read c.gather.new.leaves.items) c.in_ok-end-in-Within.end) (sym l.is)
       (gathered_ended c.args.range b j low no_tree p.in_range (pairs_read c.args.leaves.now.items) (pairs_read c.gather.new.leaves.items) c.in_ok-end-in-Within.end l.stands.sound.trie c.in_default.not-On mid);

@@ -12,8 +12,8 @@ use Rattle.tries.specs.Tree.{Page, Fixed, Tree, node, page}
 use Rattle.tries.proofs.Maps.{AreKeys}
 use Rattle.plain_trie.specs.declared.plain.LeafRecord.{LeafRecord}
 use Rattle.plain_trie.specs.declared.plain.scan.Progress.TheVariants.{On}
-use Rattle.plain_trie.specs.Gathered.{IsFloor, IsGathered, IsGiven, StandsIn, items_from, leaves_of, pairs_read, parts}
-use Rattle.plain_trie.specs.Store.{PlainView, record_of}
+use Rattle.plain_trie.specs.Gathered.{IsNotAboveKeys, IsGathered, IsGiven, ShowsSound, items_from, items_of_all, pairs_read, parts}
+use Rattle.plain_trie.specs.Store.{PlainView, item_record}
 use Rattle.plain_trie.proofs.Gathering.{gathered_as, gathered_end, gathered_none, gathered_then}
 use Rattle.plain_trie.proofs.Parts.{from_keys, from_rises, leaves_all, leaves_around, leaves_more, leaves_none, part_floor}
 use Rattle.plain_trie.proofs.Standing.{no_tree, height_some, node_count, node_height, IsPartAt, part_at, leaf_at, node_at}
@@ -24,7 +24,7 @@ abbrev Leaves : Type 0
 Leaves = Vec (Bor LeafRecord) Global
 
 -- what stands at the place
-at_place : (t : ℕ) (c : After-entry t) (x : Fixed) (b : Tree) → StandsIn c.args.self.now (node c.args.number x b) → IsPartAt c.args.self.now b c.loop-place.place c.entry.result
+at_place : (t : ℕ) (c : After-entry t) (x : Fixed) (b : Tree) → ShowsSound c.args.self.now (node c.args.number x b) → IsPartAt c.args.self.now b c.loop-place.place c.entry.result
 at_place t c x b i =
     part_at c.args.self.now c.args.number x b i c.index-node.result.now (rw (← c.self.view_is) c.index-node.ensures) c.count-place-end.ensures.lawful c.loop-place.place c.entry.result
     c.entry.ensures.entry
@@ -33,27 +33,27 @@ head_entry : (v : PlainView) (b : Tree) (i : ℕ) (e f : Entry) → IsPartAt v b
 head_entry v b i e f p is = p.head ∙ ap (λ (z : Entry). let y : Page = Place z in y) is
 
 -- the leaves of one place more
-gathered : (t : ℕ) (c : Joined-entry t) (x : Fixed) (b : Tree) → StandsIn c.args.self.now (node c.args.number x b) → c.args.start ≤ length (parts b) →
-    IsFloor c.args.range.from.now (items_from c.args.start b) → length (pairs_read c.args.leaves.now.items) ≤ c.args.range.limit →
-    IsGathered c.args.range (pairs_read c.args.leaves.now.items) (leaves_of (drop c.args.start (take c.loop-place.place (parts b))) ++ items (get_or (parts b) c.loop-place.place no_tree)) (pairs_read c.match-entry.leaves.items) c.match-entry.progress
+gathered : (t : ℕ) (c : Joined-entry t) (x : Fixed) (b : Tree) → ShowsSound c.args.self.now (node c.args.number x b) → c.args.start ≤ length (parts b) →
+    IsNotAboveKeys c.args.range.from.now (items_from c.args.start b) → length (pairs_read c.args.leaves.now.items) ≤ c.args.range.limit →
+    IsGathered c.args.range (pairs_read c.args.leaves.now.items) (items_of_all (drop c.args.start (take c.loop-place.place (parts b))) ++ items (get_or (parts b) c.loop-place.place no_tree)) (pairs_read c.match-entry.leaves.items) c.match-entry.progress
 gathered t c x b i s f r =
     let g = c.loop-place.invariant x b i s f r in
     let p : IsPartAt c.args.self.now b c.loop-place.place c.entry.result =
     part_at c.args.self.now c.args.number x b i c.index-node.result.now (rw (← c.self.view_is) c.index-node.ensures) c.count-place-end.ensures.lawful c.loop-place.place c.entry.result
     c.entry.ensures.entry in
     let part : Tree = get_or (parts b) c.loop-place.place no_tree in
-    let floor : IsFloor c.args.range.from.now (items part) = part_floor c.args.range.from.now b c.args.start c.loop-place.place no_tree c.loop-place.auto.place p.in_range f in
-    gathered_then c.args.range (pairs_read c.args.leaves.now.items) (pairs_read c.loop-place.leaves.items) (pairs_read c.match-entry.leaves.items) (leaves_of (drop c.args.start (take c.loop-place.place (parts b)))) (items part) c.match-entry.progress g
+    let floor : IsNotAboveKeys c.args.range.from.now (items part) = part_floor c.args.range.from.now b c.args.start c.loop-place.place no_tree c.loop-place.auto.place p.in_range f in
+    gathered_then c.args.range (pairs_read c.args.leaves.now.items) (pairs_read c.loop-place.leaves.items) (pairs_read c.match-entry.leaves.items) (items_of_all (drop c.args.start (take c.loop-place.place (parts b)))) (items part) c.match-entry.progress g
     (elim c.match-entry.branch [
       | in-Leaf+in_ok-progress-in-Leaf w ↦
           let l = leaf_at c.args.self.now w.in-Leaf.number part (head_entry c.args.self.now b c.loop-place.place c.entry.result (Leaf w.in-Leaf.number) p w.in-Leaf.is) p.stands in
           gathered_as c.args.range (pairs_read c.loop-place.leaves.items) (pairs_read c.match-entry.leaves.items) (pairs_read w.list_leaf.new.leaves.items) (items part) (l.item ∷ []) c.match-entry.progress w.in_ok-progress-in-Leaf.progress l.alone
-          (ap (λ (z : Leaves). pairs_read z.items) w.leaves-is) w.progress-is (w.in_ok-progress-in-Leaf.ensures.gathered l.item l.at (subst (IsFloor c.args.range.from.now) l.alone floor).0 g.room)
+          (ap (λ (z : Leaves). pairs_read z.items) w.leaves-is) w.progress-is (w.in_ok-progress-in-Leaf.ensures.gathered l.item l.at (subst (IsNotAboveKeys c.args.range.from.now) l.alone floor).0 g.room)
       | in-Node+in_ok-progress-in-Node w ↦
           let l = node_at c.args.self.now w.in-Node.number w.in-Node.height part (head_entry c.args.self.now b c.loop-place.place c.entry.result (Node w.in-Node.number w.in-Node.height) p w.in-Node.is) p.stands in
           gathered_as c.args.range (pairs_read c.loop-place.leaves.items) (pairs_read c.match-entry.leaves.items) (pairs_read w.gather_from.new.leaves.items) (items part) (items_from 0 l.body) c.match-entry.progress w.in_ok-progress-in-Node.progress l.all
           (ap (λ (z : Leaves). pairs_read z.items) w.leaves-is) w.progress-is
-          (w.in_ok-progress-in-Node.ensures.gathered l.fixed l.body l.stands (omega arith) (subst (IsFloor c.args.range.from.now) l.all floor) g.room)
+          (w.in_ok-progress-in-Node.ensures.gathered l.fixed l.body l.stands (omega arith) (subst (IsNotAboveKeys c.args.range.from.now) l.all floor) g.room)
     ])
 
 pub list_leaf-requires : goal.list_leaf-requires
@@ -61,7 +61,7 @@ list_leaf-requires t c =
     let s = c.requires.shown in
     let p = at_place t (goal.at.list_leaf-requires t c).After-entry s.0 s.1 s.2 in
     let l = leaf_at c.args.self.now c.in-Leaf.number (get_or (parts s.1) c.loop-place.place no_tree) (head_entry c.args.self.now s.1 c.loop-place.place c.entry.result (Leaf c.in-Leaf.number) p c.in-Leaf.is) p.stands in
-    record { within = slice_get_within c.args.self.now.leaves c.in-Leaf.number (record_of l.item) l.at }
+    record { within = slice_get_within c.args.self.now.leaves c.in-Leaf.number (item_record l.item) l.at }
 
 pub gather_from-requires : goal.gather_from-requires
 gather_from-requires t c =
@@ -78,7 +78,7 @@ returns-in_default t c = record {
   gathered = λ x b i s f r.
       let j = (goal.at.returns-in_default t c).Joined-entry in
       let p = at_place t (goal.at.returns-in_default t c).After-entry x b i in
-      let before : List Item = leaves_of (drop c.args.start (take c.loop-place.place (parts b))) ++ items (get_or (parts b) c.loop-place.place no_tree) in
+      let before : List Item = items_of_all (drop c.args.start (take c.loop-place.place (parts b))) ++ items (get_or (parts b) c.loop-place.place no_tree) in
       let after : List Item = items_from (c.loop-place.place + 1) b in
       let e : items_from c.args.start b ≡ before ++ after = leaves_around b c.args.start c.loop-place.place no_tree c.loop-place.auto.place p.in_range in
       gathered_as c.args.range (pairs_read c.args.leaves.now.items) (pairs_read c.match-entry.leaves.items) (pairs_read c.match-entry.leaves.items) (items_from c.args.start b) (before ++ after) c.match-entry.progress c.match-entry.progress e refl refl
@@ -90,8 +90,8 @@ pub loop-place-preserved : goal.loop-place-preserved
 loop-place-preserved t c x b i s f r =
     let j = (goal.at.loop-place-preserved t c).Joined-entry in
     let p = at_place t (goal.at.loop-place-preserved t c).After-entry x b i in
-    gathered_as c.args.range (pairs_read c.args.leaves.now.items) (pairs_read c.match-entry.leaves.items) (pairs_read c.match-entry.leaves.items) (leaves_of (drop c.args.start (take (c.loop-place.place + 1) (parts b))))
-    (leaves_of (drop c.args.start (take c.loop-place.place (parts b))) ++ items (get_or (parts b) c.loop-place.place no_tree)) On c.match-entry.progress
+    gathered_as c.args.range (pairs_read c.args.leaves.now.items) (pairs_read c.match-entry.leaves.items) (pairs_read c.match-entry.leaves.items) (items_of_all (drop c.args.start (take (c.loop-place.place + 1) (parts b))))
+    (items_of_all (drop c.args.start (take c.loop-place.place (parts b))) ++ items (get_or (parts b) c.loop-place.place no_tree)) On c.match-entry.progress
     (leaves_more b c.args.start c.loop-place.place no_tree c.loop-place.auto.place p.in_range) refl (sym c.in-On.is) (gathered t j x b i s f r)
 
 pub returns : goal.returns

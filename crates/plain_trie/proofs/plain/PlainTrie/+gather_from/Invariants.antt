@@ -2,7 +2,7 @@
 use Rattle.std.proofs.Common.{◌≤◌, length}
 use Rattle.std.specs.Prelude.{slice_get, take, drop}
 use Rattle.tries.specs.Tree.{Fixed, Tree, node}
-use Rattle.plain_trie.specs.Gathered.{IsFloor, IsGiven, StandsIn, items_from, leaves_of, pairs_read, parts}
+use Rattle.plain_trie.specs.Gathered.{IsNotAboveKeys, IsGiven, ShowsSound, items_from, items_of_all, pairs_read, parts}
 use Rattle.plain_trie.proofs.Standing.{height_some}
 use Rattle.plain_trie.proofs.plain.PlainTrie.+gather_from.Given as goal
 
@@ -11,5 +11,5 @@ decreases-gather_from l = height_some (slice_get l.self.now.nodes l.number)
 
 abbrev pub invariant-loop-place : goal.invariant-loop-place
 invariant-loop-place l =
-    (x : Fixed) (b : Tree) → StandsIn l.fn.self (node l.number x b) → l.start ≤ length (parts b) → IsFloor l.range.from.now (items_from l.start b) → length (pairs_read l.fn.leaves.items) ≤ l.range.limit →
-    IsGiven l.range (pairs_read l.fn.leaves.items) (leaves_of (drop l.start (take l.place (parts b)))) (pairs_read l.leaves.items)
+    (x : Fixed) (b : Tree) → ShowsSound l.fn.self (node l.number x b) → l.start ≤ length (parts b) → IsNotAboveKeys l.range.from.now (items_from l.start b) → length (pairs_read l.fn.leaves.items) ≤ l.range.limit →
+    IsGiven l.range (pairs_read l.fn.leaves.items) (items_of_all (drop l.start (take l.place (parts b)))) (pairs_read l.leaves.items)

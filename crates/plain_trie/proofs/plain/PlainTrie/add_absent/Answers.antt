@@ -3,11 +3,11 @@ use Rattle.std.proofs.Common.{◌≡◌, ℕ, List, suc, length, refl, ap, sym, 
 use Rattle.std.specs.Vec.{vec_capacity}
 use Rattle.compound_node.specs.Nodes.{NodeView, height_of}
 use Rattle.compound_node.specs.declared.entries.Entry.{Entry}
-use Rattle.hot_model.specs.Maps.{with_value, value_at}
+use Rattle.finite_map.specs.Maps.{with_value, value_at}
 use Rattle.plain_trie.specs.Adding.{IsStanding}
 use Rattle.plain_trie.specs.Heights.{KeepsHeights}
 use Rattle.plain_trie.specs.Rising.{IsAddable}
-use Rattle.plain_trie.specs.Store.{PlainView, IsPlain, IsHeldInLeaf, map_of}
+use Rattle.plain_trie.specs.Store.{PlainView, ShowsSoundTree, IsHeldInLeaf, trie_map}
 use Rattle.plain_trie.specs.declared.plain.LeafRecord.{LeafRecord}
 use Rattle.plain_trie.specs.declared.plain.PlainTrie.TheInside.{Inside}
 use Rattle.plain_trie.proofs.Heights.{heights_then}
@@ -22,7 +22,7 @@ use Rattle.tries.specs.Tree.{Tree}
 abbrev view : Inside → PlainView
 view i = record { nodes = i.nodes.items; leaves = i.leaves.items; top = i.top; node_capacity = vec_capacity i.nodes; leaf_capacity = vec_capacity i.leaves }
 
-module _ (i : Inside) (e : Entry) (is : i.top ≡ Some e) (plain : IsPlain (view i)) where
+module _ (i : Inside) (e : Entry) (is : i.top ≡ Some e) (plain : ShowsSoundTree (view i)) where
   -- the tree that it shows, and what holds of each tree that stands in the records
   tree_with : {P : Tree → Type 0} → ((t : Tree) → IsStanding i.nodes.items i.leaves.items e t → P t) → (t : Tree) × IsTree (view i) e t × P t
   tree_with holds = let (t, tree) = plain_tree (view i) e is plain in (t, tree, holds t (tree_standing (view i) e t tree))
@@ -30,7 +30,7 @@ module _ (i : Inside) (e : Entry) (is : i.top ≡ Some e) (plain : IsPlain (view
   -- where a search changed no record it is a trie as before, whatever the vectors have room for
   still : {P : Tree → Type 0} {ms : List NodeView} {us : List LeafRecord} (a b : ℕ) →
       ((t : Tree) → IsStanding i.nodes.items i.leaves.items e t → (ms ≡ i.nodes.items) × (us ≡ i.leaves.items) × P t) →
-      IsPlain (record { nodes = ms; leaves = us; top = i.top; node_capacity = a; leaf_capacity = b })
+      ShowsSoundTree (record { nodes = ms; leaves = us; top = i.top; node_capacity = a; leaf_capacity = b })
   still a b same = let (t, tree, s) = tree_with same in kept_plain i.nodes.items _ i.leaves.items _ i.top (vec_capacity i.nodes) (vec_capacity i.leaves) a b s.0 s.1 plain
 
 pub added-requires-clause-place : goal.added-requires-clause-place
@@ -62,7 +62,7 @@ pub returns-in-Refused-clause-err : goal.returns-in-Refused-clause-err
 returns-in-Refused-clause-err c =
     let v = view c.self.inside in
     let (t, i, refused) = tree_with c.self.inside c.in-Some.top c.in-Some.is c.self.invariant c.in-Refused.ensures.adds in (
-      subst (λ u. value_at (map_of u) c.args.key.now ≡ None) c.self.view_is (absent_value v c.args.key.now c.in-Some.top t i refused.2),
+      subst (λ u. value_at (trie_map u) c.args.key.now ≡ None) c.self.view_is (absent_value v c.args.key.now c.in-Some.top t i refused.2),
       search rules,
       same_view _ _ _ _ _ _ _ _ refused.0 refused.1 c.in-Refused.ensures.memory.0 ∙
           ap (λ (u : PlainView). let w : PlainView = record u { leaf_capacity = vec_capacity c.added.new.leaves } in w) c.self.view_is,
@@ -88,7 +88,7 @@ rooted-requires-clause-place c =
     (c.added.new.nodes.items, us, x, c.in-Above.position, t, suc (height_of c.in-Some.top), up)
 
 above : (c : After-rooted) → Becomes (view c.self.inside) (record { nodes = c.rooted.new.nodes.items; leaves = c.added.new.leaves.items; top = Some c.rooted.result; node_capacity = vec_capacity c.rooted.new.nodes; leaf_capacity = vec_capacity c.added.new.leaves }) c.args.key.now c.args.value ×
-    (value_at (map_of (view c.self.inside)) c.args.key.now ≡ None)
+    (value_at (trie_map (view c.self.inside)) c.args.key.now ≡ None)
 above c =
     let v = view c.self.inside in
     let (t, i, left) = tree_with c.self.inside c.in-Some.top c.in-Some.is c.self.invariant c.in-Above.ensures.adds in
@@ -108,8 +108,8 @@ invariant_of-self-in-Above c = (above (goal.at.invariant_of-self-in-Above c).Aft
 pub returns-in-Above-clause-ok : goal.returns-in-Above-clause-ok
 returns-in-Above-clause-ok c =
     let a = above (goal.at.returns-in-Above-clause-ok c).After-rooted in (
-      subst (λ u. value_at (map_of u) c.args.key.now ≡ None) c.self.view_is a.1,
-      a.0.1 ∙ ap (λ (u : PlainView). with_value (map_of u) c.args.key.now c.args.value) c.self.view_is,
+      subst (λ u. value_at (trie_map u) c.args.key.now ≡ None) c.self.view_is a.1,
+      a.0.1 ∙ ap (λ (u : PlainView). with_value (trie_map u) c.args.key.now c.args.value) c.self.view_is,
     )
 
 pub returns-in-Above-clause-heights : goal.returns-in-Above-clause-heights
@@ -127,7 +127,7 @@ rooted-requires-in-Below-clause-place c =
     (v.nodes, c.added.new.leaves.items, item (length v.leaves) c.args.key.now c.args.value, r.position, t, suc (height_of c.in-Some.top), r.raised)
 
 below : (c : After-rooted-in-Below) → Becomes (view c.self.inside) (record { nodes = c.rooted-in-Below.new.nodes.items; leaves = c.added.new.leaves.items; top = Some c.rooted-in-Below.result; node_capacity = vec_capacity c.rooted-in-Below.new.nodes; leaf_capacity = vec_capacity c.added.new.leaves }) c.args.key.now c.args.value ×
-    (value_at (map_of (view c.self.inside)) c.args.key.now ≡ None)
+    (value_at (trie_map (view c.self.inside)) c.args.key.now ≡ None)
 below c =
     let v = view c.self.inside in
     let (t, i, r) = tree_with c.self.inside c.in-Some.top c.in-Some.is c.self.invariant c.in-Below.ensures.adds in
@@ -145,8 +145,8 @@ invariant_of-self-in-Below c = (below (goal.at.invariant_of-self-in-Below c).Aft
 pub returns-in-Below-clause-ok : goal.returns-in-Below-clause-ok
 returns-in-Below-clause-ok c =
     let a = below (goal.at.returns-in-Below-clause-ok c).After-rooted-in-Below in (
-      subst (λ u. value_at (map_of u) c.args.key.now ≡ None) c.self.view_is a.1,
-      a.0.1 ∙ ap (λ (u : PlainView). with_value (map_of u) c.args.key.now c.args.value) c.self.view_is,
+      subst (λ u. value_at (trie_map u) c.args.key.now ≡ None) c.self.view_is a.1,
+      a.0.1 ∙ ap (λ (u : PlainView). with_value (trie_map u) c.args.key.now c.args.value) c.self.view_is,
     )
 
 pub returns-in-Below-clause-heights : goal.returns-in-Below-clause-heights

@@ -2,7 +2,7 @@
 use Rattle.std.proofs.Common.{◌≡◌, ◌∙◌, ap, sym, subst, arith, Some}
 use Rattle.std.specs.Vec.{vec_capacity}
 use Rattle.compound_node.specs.Nodes.{height_of}
-use Rattle.plain_trie.specs.Store.{PlainView, tree_of, record_of}
+use Rattle.plain_trie.specs.Store.{PlainView, shown_tree, item_record}
 use Rattle.plain_trie.proofs.Searching.{IsOnWay, on_way_start, on_way_down, on_way_within, on_way_end, on_way_number, tree_once}
 use Rattle.plain_trie.proofs.plain.PlainTrie.find.Goals as goal
 use Rattle.tries.specs.Search.{found}
@@ -18,7 +18,7 @@ returns-in-Leaf-clause-number c = λ t e.
     let nodes = c.self.inside.nodes.items in
     let leaves = c.self.inside.leaves.items in
     let w = subst (IsOnWay nodes leaves c.args.key.now i.0) c.in-Leaf.is i.2 in
-    let same : i.0 ≡ t = tree_once (record { nodes = nodes; leaves = leaves; top = c.self.inside.top; node_capacity = vec_capacity c.self.inside.nodes; leaf_capacity = vec_capacity c.self.inside.leaves }) i.0 t i.1 (ap tree_of c.self.view_is ∙ e) in
+    let same : i.0 ≡ t = tree_once (record { nodes = nodes; leaves = leaves; top = c.self.inside.top; node_capacity = vec_capacity c.self.inside.nodes; leaf_capacity = vec_capacity c.self.inside.leaves }) i.0 t i.1 (ap shown_tree c.self.view_is ∙ e) in
     ap (λ u. (found c.args.key.now u).number) (sym same) ∙ on_way_number nodes leaves c.args.key.now i.0 c.in-Leaf.number w
 
 pub returns-in-Leaf-clause-record : goal.returns-in-Leaf-clause-record
@@ -28,8 +28,8 @@ returns-in-Leaf-clause-record c = λ t e.
     let leaves = c.self.inside.leaves.items in
     let w = subst (IsOnWay nodes leaves c.args.key.now i.0) c.in-Leaf.is i.2 in
     let v : PlainView = record { nodes = nodes; leaves = leaves; top = c.self.inside.top; node_capacity = vec_capacity c.self.inside.nodes; leaf_capacity = vec_capacity c.self.inside.leaves } in
-    let same : i.0 ≡ t = tree_once v i.0 t i.1 (ap tree_of c.self.view_is ∙ e) in
-    rw (← c.self.view_is) (on_way_end nodes leaves c.args.key.now i.0 c.in-Leaf.number w ∙ ap (λ u. Some (record_of (found c.args.key.now u))) same)
+    let same : i.0 ≡ t = tree_once v i.0 t i.1 (ap shown_tree c.self.view_is ∙ e) in
+    rw (← c.self.view_is) (on_way_end nodes leaves c.args.key.now i.0 c.in-Leaf.number w ∙ ap (λ u. Some (item_record (found c.args.key.now u))) same)
 
 pub index-requires : goal.index-requires
 index-requires c =

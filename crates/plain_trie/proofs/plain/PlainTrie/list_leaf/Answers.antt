@@ -4,11 +4,11 @@ use Rattle.std.specs.Prelude.{slice_get}
 use Rattle.std.specs.Borrow.{Bor}
 use Rattle.std.proofs.lemmas.List.{length-map, map_push}
 use Rattle.std.specs.Ordering.{is_gt}
-use Rattle.hot_model.specs.Maps.{key_order}
+use Rattle.finite_map.specs.Maps.{key_order}
 use Rattle.tries.specs.Content.{Item}
 use Rattle.plain_trie.specs.declared.plain.LeafRecord.{LeafRecord}
 use Rattle.plain_trie.specs.Gathered.{pairs_read}
-use Rattle.plain_trie.specs.Store.{record_of}
+use Rattle.plain_trie.specs.Store.{item_record}
 use Rattle.plain_trie.proofs.Gathering.{gathered_past, gathered_full, gathered_one}
 use Rattle.plain_trie.proofs.Searching.{read_at}
 use Rattle.plain_trie.proofs.plain.PlainTrie.list_leaf.Goals as goal
@@ -19,10 +19,10 @@ length_read : (ls : List (Bor LeafRecord)) → length (pairs_read ls) ≡ length
 length_read ls = length-map ls (λ (l : Bor LeafRecord). (l.now.key, l.now.value))
 
 -- the record that was read is the leaf's
-same : (c : After-gt) (x : Item) → slice_get c.args.self.now.leaves c.args.number ≡ Some (record_of x) → c.index-leaf.result.now ≡ record_of x
-same c x e = read_at c.args.self.now.leaves c.args.number (record_of x) c.index-leaf.result.now e (rw (← c.self.view_is) c.index-leaf.ensures)
+same : (c : After-gt) (x : Item) → slice_get c.args.self.now.leaves c.args.number ≡ Some (item_record x) → c.index-leaf.result.now ≡ item_record x
+same c x e = read_at c.args.self.now.leaves c.args.number (item_record x) c.index-leaf.result.now e (rw (← c.self.view_is) c.index-leaf.ensures)
 
-above : (c : After-gt) (x : Item) → slice_get c.args.self.now.leaves c.args.number ≡ Some (record_of x) → is_gt (key_order x.key c.args.range.upto.now) ≡ c.gt.result
+above : (c : After-gt) (x : Item) → slice_get c.args.self.now.leaves c.args.number ≡ Some (item_record x) → is_gt (key_order x.key c.args.range.upto.now) ≡ c.gt.result
 above c x e = sym (c.gt.ensures ∙ ap (λ (l : LeafRecord). is_gt (key_order l.key c.args.range.upto.now)) (same c x e))
 
 pub returns-then-gt : goal.returns-then-gt

@@ -4,17 +4,17 @@ use Rattle.std.specs.Prelude.{slice_get, IsNone, IfSome, IsTrue, MatchOption}
 use Rattle.std.proofs.lemmas.Bool.{false≢true}
 use Rattle.std.proofs.lemmas.Option.{slice_get_within}
 use Rattle.key_bits.specs.Bits.{IsFirstDifference}
-use Rattle.hot_model.specs.declared.Scan.{Scan}
-use Rattle.hot_model.specs.Maps.{Map}
-use Rattle.hot_model.specs.Scans.{IsScanOf}
+use Rattle.finite_map.specs.declared.Scan.{Scan}
+use Rattle.finite_map.specs.Maps.{Map}
+use Rattle.finite_map.specs.Scans.{IsScanOf}
 use Rattle.tries.specs.Content.{items}
 use Rattle.tries.specs.Keys.{Key}
 use Rattle.tries.specs.Tree.{Tree}
 use Rattle.plain_trie.specs.declared.plain.LeafRecord.{LeafRecord}
 use Rattle.plain_trie.specs.declared.plain.scan.Range.{Range}
 use Rattle.plain_trie.specs.declared.plain.scan.Progress.TheVariants.{Full}
-use Rattle.plain_trie.specs.Gathered.{IsGathered, IsMismatch, StandsIn, pairs_read}
-use Rattle.plain_trie.specs.Store.{PlainView, record_of}
+use Rattle.plain_trie.specs.Gathered.{IsGathered, IsFirstMismatch, ShowsSound, pairs_read}
+use Rattle.plain_trie.specs.Store.{PlainView, item_record}
 use Rattle.plain_trie.proofs.Gathering.{gathered_scan}
 use Rattle.plain_trie.proofs.Reading.{IsTree, plain_tree}
 use Rattle.plain_trie.proofs.Searching.{read_at}
@@ -28,16 +28,16 @@ tree : (c : After-find) → (t : Tree) × IsTree c.args.self.now c.in-Some.top t
 tree c =
     plain_tree c.args.self.now c.in-Some.top (sym (ap (λ (v : PlainView). v.top) c.self.view_is) ∙ c.in-Some.is) (rw (← c.self.view_is) c.self.invariant)
 
-stands : (c : After-find) → StandsIn c.args.self.now (tree c).0
+stands : (c : After-find) → ShowsSound c.args.self.now (tree c).0
 stands c = record { shown = (tree c).1.shown; sound = (tree c).1.sound }
 
-leaf_at : (c : After-find) → slice_get c.args.self.now.leaves c.find.result ≡ Some (record_of (found c.args.from.now (tree c).0))
+leaf_at : (c : After-find) → slice_get c.args.self.now.leaves c.find.result ≡ Some (item_record (found c.args.from.now (tree c).0))
 leaf_at c = c.find.ensures.record (tree c).0 (tree c).1.is
 
 pub index-requires : goal.index-requires
 index-requires c =
     let d = (goal.at.index-requires c).After-find in
-    let h = slice_get_within c.args.self.now.leaves c.find.result (record_of (found c.args.from.now (tree d).0)) (leaf_at d) in
+    let h = slice_get_within c.args.self.now.leaves c.find.result (item_record (found c.args.from.now (tree d).0)) (leaf_at d) in
     omega (arith, h, ap (λ (v : PlainView). length v.leaves) c.self.view_is, c.self.inside.leaves.ok.0)
 
 pub gather-requires : goal.gather-requires
@@ -54,8 +54,8 @@ returns c =
     let t = (tree d).0 in
     let x = found k t in
     let r : Range = record { from = c.args.from; upto = c.args.upto; limit = c.args.limit } in
-    let same : c.index.result.now ≡ record_of x = read_at c.args.self.now.leaves c.find.result (record_of x) c.index.result.now (leaf_at d) (rw (← c.self.view_is) c.index.ensures) in
-    let m : IsMismatch k t c.mismatch-difference.result = (
+    let same : c.index.result.now ≡ item_record x = read_at c.args.self.now.leaves c.find.result (item_record x) c.index.result.now (leaf_at d) (rw (← c.self.view_is) c.index.ensures) in
+    let m : IsFirstMismatch k t c.mismatch-difference.result = (
       c.mismatch-difference.ensures.keys.0,
       subst (λ (l : LeafRecord). MatchOption c.mismatch-difference.result (k ≡ l.key) (IsFirstDifference k l.key)) same
           (where_parted k c.index.result.now.key c.mismatch-difference.result c.mismatch-difference.ensures.none c.mismatch-difference.ensures.first),

@@ -1,8 +1,8 @@
 -- From the root's entry down the records show the tree that reading finds.
 use Rattle.std.proofs.Common.{subst}
-use Rattle.plain_trie.specs.Store.{IsPlain}
+use Rattle.plain_trie.specs.Store.{ShowsSoundTree}
 use Rattle.plain_trie.proofs.Reading.{shows_trie}
 use Rattle.plain_trie.proofs.plain.PlainTrie.top.Goals as goal
 
 pub returns-clause-shows : goal.returns-clause-shows
-returns-clause-shows c = shows_trie c.args.self.now (subst IsPlain c.self.view_is c.self.invariant)
+returns-clause-shows c = shows_trie c.args.self.now (subst ShowsSoundTree c.self.view_is c.self.invariant)

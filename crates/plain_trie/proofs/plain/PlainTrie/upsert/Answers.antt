@@ -1,7 +1,7 @@
 -- A held key has another value.
 use Rattle.std.proofs.Common.{ap, ◌∙◌}
-use Rattle.hot_model.specs.Maps.{with_value}
-use Rattle.plain_trie.specs.Store.{PlainView, map_of}
+use Rattle.finite_map.specs.Maps.{with_value}
+use Rattle.plain_trie.specs.Store.{PlainView, trie_map}
 use Rattle.plain_trie.proofs.Inserting.{held_reply, held_value}
 use Rattle.plain_trie.proofs.plain.PlainTrie.upsert.Goals as goal
 
@@ -11,5 +11,5 @@ returns-clause-ok c =
     let k = c.args.key.now in
     let l = c.index.result.now in
     let held = held_value _ c.args.self.now k c.in-Some.leaf l c.self.invariant (c.self.view_is ∙ a.1) a.0 c.index.ensures in
-    let r = held_reply (map_of c.args.self.now) k c.args.value l.value held in
-    (r.1, c.set.ensures.map ∙ (ap (λ (u : PlainView). with_value (map_of u) k c.args.value) a.1 ∙ r.3))
+    let r = held_reply (trie_map c.args.self.now) k c.args.value l.value held in
+    (r.1, c.set.ensures.map ∙ (ap (λ (u : PlainView). with_value (trie_map u) k c.args.value) a.1 ∙ r.3))

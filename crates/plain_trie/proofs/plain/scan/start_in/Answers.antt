@@ -13,7 +13,7 @@ use Rattle.tries.specs.Place.{spot}
 use Rattle.tries.specs.Search.{child, found}
 use Rattle.tries.specs.Tree.{Page, Tree, IsTrie, Has, page}
 use Rattle.tries.proofs.Places.{spot_below}
-use Rattle.plain_trie.specs.Gathered.{IsMismatch}
+use Rattle.plain_trie.specs.Gathered.{IsFirstMismatch}
 use Rattle.insert_cases.proofs.Choosing.{agrees, has_found, part_big, size_affected, tip_small}
 use Rattle.plain_trie.proofs.Cutting.{IsCutAround, alone, cut_around, part_beyond_of, part_floor_of, start_before, start_behind, start_within}
 use Rattle.plain_trie.proofs.plain.scan.start_in.Goals as goal
@@ -27,10 +27,10 @@ bit_is k p = refl
 has_end : (k : Key) (b : Tree) → Has (child k b) (found k b).key
 has_end k b = subst (λ x. Has (child k b) x.key) (found_child k b) (has_found k (child k b))
 
-none_is : (k : Key) (b : Tree) (o : Option ℕ) → o ≡ None → IsMismatch k b o → k ≡ (found k b).key
+none_is : (k : Key) (b : Tree) (o : Option ℕ) → o ≡ None → IsFirstMismatch k b o → k ≡ (found k b).key
 none_is k b o e m = subst (λ z. MatchOption z (k ≡ (found k b).key) (IsFirstDifference k (found k b).key)) e m.1
 
-some_is : (k : Key) (b : Tree) (o : Option ℕ) (p : ℕ) → o ≡ Some p → IsMismatch k b o → IsFirstDifference k (found k b).key p
+some_is : (k : Key) (b : Tree) (o : Option ℕ) (p : ℕ) → o ≡ Some p → IsFirstMismatch k b o → IsFirstDifference k (found k b).key p
 some_is k b o p e m = subst (λ z. MatchOption z (k ≡ (found k b).key) (IsFirstDifference k (found k b).key)) e m.1
 
 pub returns-in_default : goal.returns-in_default
@@ -51,7 +51,7 @@ module _ (c : After-affected-first) (b : Tree) (e : piece c.args.node.now ≡ pa
       let u = c.affected-first.ensures.upto in omega arith
 
   -- what stands on both sides of them
-  around : IsTrie b → (m : IsMismatch c.args.from.now b c.args.difference) → IsCutAround c.args.from.now m.0 c.in-Some.position b
+  around : IsTrie b → (m : IsFirstMismatch c.args.from.now b c.args.difference) → IsCutAround c.args.from.now m.0 c.in-Some.position b
   around i m =
       let k = c.args.from.now in
       cut_around k m.0 c.in-Some.position (found k b).key (agrees k (found k b).key c.in-Some.position (some_is k b c.args.difference c.in-Some.position c.in-Some.is m)) b i (has_end k b)

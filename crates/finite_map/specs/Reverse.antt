@@ -5,11 +5,11 @@ use Rattle.std.specs.declared.cmp.Ordering.{Ordering}
 use Rattle.std.specs.declared.cmp.Ordering.TheVariants.{Less}
 use Rattle.std.specs.List.Sorted.{IsStrictlySortedBy}
 use Rattle.std.specs.Map.{keys_of}
-use Rattle.hot_model.specs.declared.Change.{Change}
-use Rattle.hot_model.specs.declared.Scan.{Scan}
-use Rattle.hot_model.specs.Maps.{Map, key_order}
-use Rattle.hot_model.specs.Fronts.{BeginsWith}
-use Rattle.hot_model.specs.Scans.{is_within, range_of, IsHeldBetween, IsNeverRemoved}
+use Rattle.finite_map.specs.declared.Change.{Change}
+use Rattle.finite_map.specs.declared.Scan.{Scan}
+use Rattle.finite_map.specs.Maps.{Map, key_order}
+use Rattle.finite_map.specs.Fronts.{BeginsWith}
+use Rattle.finite_map.specs.Scans.{is_within, range_of, IsHeldBetween, IsNeverRemoved}
 
 -- the order of keys, turned round
 abbrev pub falling_order : List ℕ → List ℕ → Ordering

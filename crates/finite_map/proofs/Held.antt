@@ -14,7 +14,7 @@ use Rattle.std.proofs.lemmas.Map.{lookup-remove_entry}
 use Rattle.std.proofs.lemmas.Map.Keys.{IsDistinct-from_sorted}
 use Rattle.std.proofs.lemmas.Map.Lookups.{exact_bytes}
 use Rattle.std.proofs.lemmas.Map.Views.{All-keys-insert_entry, All-map-remove_entry}
-use Rattle.hot_model.specs.Maps.{Map, key_order, IsRising, value_at, with_value, without}
+use Rattle.finite_map.specs.Maps.{Map, key_order, IsRising, value_at, with_value, without}
 
 -- Equal keys
 

@@ -1,12 +1,12 @@
 -- The one sequential history in which calls of several passes stand together.
 use Rattle.std.specs.Prelude.{◌≡◌, ◌≢◌, ℕ, ◌+◌, List, [], ◌∷◌, ◌++◌, filter, map, All, not, ◌&&◌, nat_eq}
-use Rattle.hot_model.specs.declared.Call.{Call}
-use Rattle.hot_model.specs.declared.Reply.{Reply}
-use Rattle.hot_model.specs.declared.Change.{Change}
-use Rattle.hot_model.specs.declared.Note.{Note}
-use Rattle.hot_model.specs.Maps.{Map, map_after, reply_of}
-use Rattle.hot_model.specs.Fronts.{changed}
-use Rattle.hot_model.specs.Calls.{is_change, LegalCalls}
+use Rattle.finite_map.specs.declared.Call.{Call}
+use Rattle.finite_map.specs.declared.Reply.{Reply}
+use Rattle.finite_map.specs.declared.Change.{Change}
+use Rattle.finite_map.specs.declared.Note.{Note}
+use Rattle.finite_map.specs.Maps.{Map, map_after, reply_of}
+use Rattle.finite_map.specs.Fronts.{changed}
+use Rattle.finite_map.specs.Calls.{is_change, LegalCalls}
 
 -- what stands in a woven history: a call with its reply, or a change whose call is none of the notes
 pub data Event : Type 0 where

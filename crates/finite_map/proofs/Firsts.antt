@@ -16,14 +16,14 @@ use Rattle.std.proofs.lemmas.List.Elements.{All-nil, All-head, All-tail, All-fro
 use Rattle.std.proofs.lemmas.Map.Lookups.{exact_bytes}
 use Rattle.std.proofs.lemmas.Map.Views.{IsSome-lookup_from_Contains}
 use Rattle.std.proofs.Math.Seq.{take-append_seam, take-length, drop-length}
-use Rattle.hot_model.specs.declared.Change.{Change}
-use Rattle.hot_model.specs.declared.Kind.TheVariants.{Removed}
-use Rattle.hot_model.specs.declared.Scan.{Scan}
-use Rattle.hot_model.specs.Maps.{Map, key_order, IsRising, value_at}
-use Rattle.hot_model.specs.Fronts.{map_of}
-use Rattle.hot_model.specs.Scans.{is_within, range_of, IsScanOf, IsHeldBetween, IsUpToLast, IsLawfulScan}
-use Rattle.hot_model.proofs.Held.{same_from_at, at_itself}
-use Rattle.hot_model.proofs.Ranges.{range-rising}
+use Rattle.finite_map.specs.declared.Change.{Change}
+use Rattle.finite_map.specs.declared.Kind.TheVariants.{Removed}
+use Rattle.finite_map.specs.declared.Scan.{Scan}
+use Rattle.finite_map.specs.Maps.{Map, key_order, IsRising, value_at}
+use Rattle.finite_map.specs.Fronts.{map_of}
+use Rattle.finite_map.specs.Scans.{is_within, range_of, IsScanOf, IsHeldBetween, IsUpToLast, IsLawfulScan}
+use Rattle.finite_map.proofs.Held.{same_from_at, at_itself}
+use Rattle.finite_map.proofs.Ranges.{range-rising}
 
 -- Look-ups in rising maps
 

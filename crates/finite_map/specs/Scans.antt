@@ -4,11 +4,11 @@ use Rattle.std.specs.declared.cmp.Ordering.TheVariants.{Less, Greater}
 use Rattle.std.specs.Map.{keys_of}
 use Rattle.std.specs.BTreeMap.Range.{range_contains}
 use Rattle.std.specs.declared.ops.Bound.TheVariants.{Included}
-use Rattle.hot_model.specs.declared.Change.{Change}
-use Rattle.hot_model.specs.declared.Kind.TheVariants.{Removed}
-use Rattle.hot_model.specs.declared.Scan.{Scan}
-use Rattle.hot_model.specs.Maps.{Map, key_order, IsRising, value_at}
-use Rattle.hot_model.specs.Fronts.{map_of, BeginsWith}
+use Rattle.finite_map.specs.declared.Change.{Change}
+use Rattle.finite_map.specs.declared.Kind.TheVariants.{Removed}
+use Rattle.finite_map.specs.declared.Scan.{Scan}
+use Rattle.finite_map.specs.Maps.{Map, key_order, IsRising, value_at}
+use Rattle.finite_map.specs.Fronts.{map_of, BeginsWith}
 
 -- whether the key is neither below `from` nor above `upto`
 abbrev pub is_within : List ℕ → List ℕ → List ℕ → Bool

@@ -7,14 +7,14 @@ use Rattle.std.proofs.lemmas.List.Sorted.{All-permutation, sum_by-IsPermutation}
 use Rattle.std.proofs.lemmas.List.Sums.{length-filter}
 use Rattle.std.specs.Prelude.{IsPermutation}
 use Rattle.std.proofs.Math.Seq.{take-append_seam}
-use Rattle.hot_model.specs.declared.Change.{Change}
-use Rattle.hot_model.specs.declared.Note.{Note}
-use Rattle.hot_model.specs.Maps.{Map, reply_of}
-use Rattle.hot_model.specs.Fronts.{changed, map_of}
-use Rattle.hot_model.specs.Calls.{is_change, place_after, StandsIn, RisesFrom, LegalCalls}
-use Rattle.hot_model.specs.Weaves.{Event, quiet_at, changing_at, calls_of, made_by, weave_from, weave, LegalHistoryFrom, LegalHistory, notes_of, AllLegal}
-use Rattle.hot_model.proofs.Growth.{map_of-push}
-use Rattle.hot_model.proofs.Legal.{map_after-quiet, makes_change, change_of-change, pass-change_of, same_value}
+use Rattle.finite_map.specs.declared.Change.{Change}
+use Rattle.finite_map.specs.declared.Note.{Note}
+use Rattle.finite_map.specs.Maps.{Map, reply_of}
+use Rattle.finite_map.specs.Fronts.{changed, map_of}
+use Rattle.finite_map.specs.Calls.{is_change, place_after, StandsIn, RisesFrom, LegalCalls}
+use Rattle.finite_map.specs.Weaves.{Event, quiet_at, changing_at, calls_of, made_by, weave_from, weave, LegalHistoryFrom, LegalHistory, notes_of, AllLegal}
+use Rattle.finite_map.proofs.Growth.{map_of-push}
+use Rattle.finite_map.proofs.Legal.{map_after-quiet, makes_change, change_of-change, pass-change_of, same_value}
 
 -- the note stands in the front as one of some pass
 abbrev Stands : List Change → Note → Type 0

@@ -4,13 +4,13 @@ use Rattle.std.specs.List.{All, cons_option}
 use Rattle.std.proofs.lemmas.Bool.{eq-eqb}
 use Rattle.std.proofs.lemmas.List.Elements.{All-head, All-tail}
 use Rattle.std.proofs.Math.Seq.{take-append_seam}
-use Rattle.hot_model.specs.declared.Change.{Change}
-use Rattle.hot_model.specs.declared.Note.{Note}
-use Rattle.hot_model.specs.Maps.{map_after, reply_of, replies_of, map_after_all}
-use Rattle.hot_model.specs.Fronts.{map_of}
-use Rattle.hot_model.specs.Calls.{is_change, place_after, StandsIn, RisesFrom, changes_of, own_changes, LegalCalls, IsRun}
-use Rattle.hot_model.proofs.Growth.{map_of-push}
-use Rattle.hot_model.proofs.Legal.{change_of-quiet, change_of-change, map_after-quiet, makes_change, place_after-within}
+use Rattle.finite_map.specs.declared.Change.{Change}
+use Rattle.finite_map.specs.declared.Note.{Note}
+use Rattle.finite_map.specs.Maps.{map_after, reply_of, replies_of, map_after_all}
+use Rattle.finite_map.specs.Fronts.{map_of}
+use Rattle.finite_map.specs.Calls.{is_change, place_after, StandsIn, RisesFrom, changes_of, own_changes, LegalCalls, IsRun}
+use Rattle.finite_map.proofs.Growth.{map_of-push}
+use Rattle.finite_map.proofs.Legal.{change_of-quiet, change_of-change, map_after-quiet, makes_change, place_after-within}
 
 -- of a front whose changes are all the pass's own, these are all of it
 pub own_changes-all : (q : ℕ) (cs : List Change) → All (λ c. c.pass ≡ q) cs → own_changes q cs ≡ cs

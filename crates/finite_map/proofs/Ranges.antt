@@ -4,11 +4,11 @@ use Rattle.std.specs.List.{filter}
 use Rattle.std.specs.List.Sorted.{IsStrictlySortedBy}
 use Rattle.std.specs.Map.{keys_of}
 use Rattle.std.proofs.lemmas.List.Kept.{IsStrictlySortedBy-filter}
-use Rattle.hot_model.specs.declared.Change.{Change}
-use Rattle.hot_model.specs.Maps.{Map, key_order, IsRising}
-use Rattle.hot_model.specs.Fronts.{map_of}
-use Rattle.hot_model.specs.Scans.{is_within, range_of}
-use Rattle.hot_model.proofs.Growth.{map_of-rising}
+use Rattle.finite_map.specs.declared.Change.{Change}
+use Rattle.finite_map.specs.Maps.{Map, key_order, IsRising}
+use Rattle.finite_map.specs.Fronts.{map_of}
+use Rattle.finite_map.specs.Scans.{is_within, range_of}
+use Rattle.finite_map.proofs.Growth.{map_of-rising}
 
 keys_of-filter : (p : List ℕ → Bool) (m : Map) → keys_of (filter (λ e. p e.0) m) ≡ filter p (keys_of m)
 keys_of-filter p [] = refl

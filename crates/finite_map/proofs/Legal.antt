@@ -7,18 +7,18 @@ use Rattle.std.proofs.lemmas.List.{take-append-le}
 use Rattle.std.proofs.lemmas.List.Elements.{All-nil, All-head, All-tail, All-push, All-weaker, filter-append, filter_map-append}
 use Rattle.std.proofs.lemmas.Option.{slice_get_within}
 use Rattle.std.proofs.Math.Seq.{take-append_seam}
-use Rattle.hot_model.specs.declared.Call.{Call}
-use Rattle.hot_model.specs.declared.Call.TheVariants.{Insert, Upsert, Exchange, Get, Remove, RemoveIf}
-use Rattle.hot_model.specs.declared.Kind.{Kind}
-use Rattle.hot_model.specs.declared.Kind.TheVariants.{Added, Replaced, Removed as TakenAway}
-use Rattle.hot_model.specs.declared.Change.{Change}
-use Rattle.hot_model.specs.declared.Reply.{Reply}
-use Rattle.hot_model.specs.declared.Reply.TheVariants.{Exchanged, Differs, Removed}
-use Rattle.hot_model.specs.declared.Note.{Note}
-use Rattle.hot_model.specs.Maps.{Map, value_at, key_of, step_if, step_where, map_after, reply_of, with_value, without}
-use Rattle.hot_model.specs.Fronts.{changed, map_of, Fits, LegalFront, OthersGoOn}
-use Rattle.hot_model.specs.Calls.{effect_of, is_change, change_of, place_after, StandsIn, RisesFrom, changes_of, own_changes, LegalCalls}
-use Rattle.hot_model.proofs.Growth.{legal_front_push}
+use Rattle.finite_map.specs.declared.Call.{Call}
+use Rattle.finite_map.specs.declared.Call.TheVariants.{Insert, Upsert, Exchange, Get, Remove, RemoveIf}
+use Rattle.finite_map.specs.declared.Kind.{Kind}
+use Rattle.finite_map.specs.declared.Kind.TheVariants.{Added, Replaced, Removed as TakenAway}
+use Rattle.finite_map.specs.declared.Change.{Change}
+use Rattle.finite_map.specs.declared.Reply.{Reply}
+use Rattle.finite_map.specs.declared.Reply.TheVariants.{Exchanged, Differs, Removed}
+use Rattle.finite_map.specs.declared.Note.{Note}
+use Rattle.finite_map.specs.Maps.{Map, value_at, key_of, step_if, step_where, map_after, reply_of, with_value, without}
+use Rattle.finite_map.specs.Fronts.{changed, map_of, Fits, LegalFront, OthersGoOn}
+use Rattle.finite_map.specs.Calls.{effect_of, is_change, change_of, place_after, StandsIn, RisesFrom, changes_of, own_changes, LegalCalls}
+use Rattle.finite_map.proofs.Growth.{legal_front_push}
 
 -- Lists
 

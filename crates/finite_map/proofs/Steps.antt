@@ -1,8 +1,8 @@
 -- Calls on a map, one after the other.
 use Rattle.std.proofs.Common.{◌≡◌, List, [], ◌∷◌, ◌++◌, refl, ap}
 use Rattle.std.proofs.lemmas.List.Sums.{fold-append}
-use Rattle.hot_model.specs.declared.Call.{Call}
-use Rattle.hot_model.specs.Maps.{Map, reply_of, replies_of, map_after, map_after_all}
+use Rattle.finite_map.specs.declared.Call.{Call}
+use Rattle.finite_map.specs.Maps.{Map, reply_of, replies_of, map_after, map_after_all}
 
 -- one more call
 pub map_after_all-push : (m : Map) (calls : List Call) (call : Call) → map_after_all m (calls ++ call ∷ []) ≡ map_after (map_after_all m calls) call

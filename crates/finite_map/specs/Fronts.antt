@@ -1,9 +1,9 @@
 -- Fronts: lists of changes, each of which fits the map that those before it lead to.
 use Rattle.std.specs.Prelude.{◌≡◌, ◌≢◌, ℕ, List, [], ◌∷◌, ◌++◌, fold, All, Option, Some, None, IsSome}
-use Rattle.hot_model.specs.declared.Change.{Change}
-use Rattle.hot_model.specs.declared.Kind.{Kind}
-use Rattle.hot_model.specs.declared.Kind.TheVariants.{Added, Replaced, Removed}
-use Rattle.hot_model.specs.Maps.{Map, value_at, with_value, without}
+use Rattle.finite_map.specs.declared.Change.{Change}
+use Rattle.finite_map.specs.declared.Kind.{Kind}
+use Rattle.finite_map.specs.declared.Kind.TheVariants.{Added, Replaced, Removed}
+use Rattle.finite_map.specs.Maps.{Map, value_at, with_value, without}
 
 -- what a change of this kind makes of a map
 abbrev pub changed_by : Kind → Map → List ℕ → ℕ → Map

@@ -4,12 +4,12 @@ use Rattle.std.specs.List.{All, fold}
 use Rattle.std.specs.List.Sorted.{IsStrictlySortedBy}
 use Rattle.std.proofs.lemmas.List.Sums.{fold-append}
 use Rattle.std.proofs.lemmas.List.Elements.{All-append, All-nil, All-head, All-tail}
-use Rattle.hot_model.specs.declared.Change.{Change}
-use Rattle.hot_model.specs.declared.Kind.{Kind}
-use Rattle.hot_model.specs.declared.Kind.TheVariants.{Added, Replaced, Removed}
-use Rattle.hot_model.specs.Maps.{Map, IsRising, value_at}
-use Rattle.hot_model.specs.Fronts.{changed, changed_by, map_of, Fits, LegalFrom, LegalFront, BeginsWith, OthersGoOn}
-use Rattle.hot_model.proofs.Held.{with_value-rising, without-rising, value_at-with_value_other, value_at-without_other}
+use Rattle.finite_map.specs.declared.Change.{Change}
+use Rattle.finite_map.specs.declared.Kind.{Kind}
+use Rattle.finite_map.specs.declared.Kind.TheVariants.{Added, Replaced, Removed}
+use Rattle.finite_map.specs.Maps.{Map, IsRising, value_at}
+use Rattle.finite_map.specs.Fronts.{changed, changed_by, map_of, Fits, LegalFrom, LegalFront, BeginsWith, OthersGoOn}
+use Rattle.finite_map.proofs.Held.{with_value-rising, without-rising, value_at-with_value_other, value_at-without_other}
 
 -- The map of a front
 

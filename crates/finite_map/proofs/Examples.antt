@@ -1,21 +1,21 @@
 -- Worked examples of the definitions, which compute.
 use Rattle.std.proofs.Common.{◌≡◌, ℕ, List, [], ◌∷◌, ◌++◌, true, refl, sym, subst, arith}
-use Rattle.hot_model.specs.declared.Call.{Call}
-use Rattle.hot_model.specs.declared.Call.TheVariants.{Insert, Upsert, Exchange, Get, Remove, RemoveIf}
-use Rattle.hot_model.specs.declared.Reply.{Reply}
-use Rattle.hot_model.specs.declared.Reply.TheVariants.{Inserted, Exists, New, Was, Exchanged, Differs, Value, Absent, Removed}
-use Rattle.hot_model.specs.declared.Kind.TheVariants.{Added, Replaced, Removed as TakenAway}
-use Rattle.hot_model.specs.declared.Change.{Change}
-use Rattle.hot_model.specs.declared.Note.{Note}
-use Rattle.hot_model.specs.declared.Scan.{Scan}
+use Rattle.finite_map.specs.declared.Call.{Call}
+use Rattle.finite_map.specs.declared.Call.TheVariants.{Insert, Upsert, Exchange, Get, Remove, RemoveIf}
+use Rattle.finite_map.specs.declared.Reply.{Reply}
+use Rattle.finite_map.specs.declared.Reply.TheVariants.{Inserted, Exists, New, Was, Exchanged, Differs, Value, Absent, Removed}
+use Rattle.finite_map.specs.declared.Kind.TheVariants.{Added, Replaced, Removed as TakenAway}
+use Rattle.finite_map.specs.declared.Change.{Change}
+use Rattle.finite_map.specs.declared.Note.{Note}
+use Rattle.finite_map.specs.declared.Scan.{Scan}
 use Rattle.std.specs.Prelude.{IsTrue}
 use Rattle.std.specs.List.Sorted.{IsStrictlySortedBy}
-use Rattle.hot_model.specs.Maps.{Map, replies_of, map_after_all}
-use Rattle.hot_model.specs.Fronts.{map_of}
-use Rattle.hot_model.specs.Calls.{changes_of, own_changes}
-use Rattle.hot_model.specs.Weaves.{Event, answered, only, weave}
-use Rattle.hot_model.specs.Scans.{range_of}
-use Rattle.hot_model.specs.Reverse.{HasFallingKeys, IsReverseScanOf}
+use Rattle.finite_map.specs.Maps.{Map, replies_of, map_after_all}
+use Rattle.finite_map.specs.Fronts.{map_of}
+use Rattle.finite_map.specs.Calls.{changes_of, own_changes}
+use Rattle.finite_map.specs.Weaves.{Event, answered, only, weave}
+use Rattle.finite_map.specs.Scans.{range_of}
+use Rattle.finite_map.specs.Reverse.{HasFallingKeys, IsReverseScanOf}
 
 abbrev a : List ℕ
 a = 97 ∷ []
