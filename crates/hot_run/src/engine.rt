@@ -8,8 +8,8 @@ ghost use Rattle.hot_run.specs.Progress.{HasAnsweredCommand, HasRunCommands, ans
 ghost use Rattle.hot_run.specs.Told.{IsCommandTold};
 
 use crate::answer::push_answer;
-use hot_index::{Full, Gate, Index, Pairs, Pass};
 use finite_map::{Call, Reply};
+use hot_index::{Full, Gate, Index, Pairs, Pass};
 use hot_scripts::answer::push_scan;
 use hot_scripts::command::{Command, Range};
 use hot_scripts::script::Script;

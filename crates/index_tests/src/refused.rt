@@ -5,8 +5,8 @@ ghost use Rattle.std.specs.Prelude.{All, IfOk};
 ghost use Rattle.hot_index.specs.Passes.{Owns};
 
 use crate::made::key;
-use hot_index::{Event, Gate, Index, IndexFault, Pass, Reply, create};
 use finite_map::Call;
+use hot_index::{Event, Gate, Index, IndexFault, Pass, Reply, create};
 use hot_run::{RunFault, run_one, run_scripts};
 use plain_index::PlainIndex;
 use plain_trie::PlainTrie;

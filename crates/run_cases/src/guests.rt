@@ -4,8 +4,8 @@ ghost use Rattle.std.specs.Prelude.{IfOk, All};
 ghost use Rattle.hot_index.specs.Passes.{Owns};
 
 use crate::cases::{Deed, bad_line};
-use hot_index::{Gate, Index, Pass, Reply, Scan, TryFault, create};
 use finite_map::Call;
+use hot_index::{Gate, Index, Pass, Reply, Scan, TryFault, create};
 use key_bits::Key;
 use std::alloc::{AllocError, Global};
 use std::io;
