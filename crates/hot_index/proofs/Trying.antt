@@ -305,7 +305,7 @@ called_key Remove key value = refl
 called_key (RemoveIf e) key value = refl
 
 -- the cause of an attempt is one by what contracts see
-cause_seen : (layout : Layout) (key : Key) (s t : SeatView) (fault : TryFault) → tries.IsCause layout key s.known t.known fault → IsCause layout key (pass_of s) (pass_of t) fault
+cause_seen : (layout : Layout) (key : Key) (s t : SeatView) (fault : TryFault) → tries.IsAttemptCause layout key s.known t.known fault → IsCause layout key (pass_of s) (pass_of t) fault
 cause_seen layout key s t Busy h = h
 cause_seen layout key s t FullNodes h = h
 cause_seen layout key s t FullLeaves h = h
