@@ -11,16 +11,16 @@ use Rattle.finite_map.specs.Maps.{key_order}
 abbrev pub AreBytes : List ℕ → Type 0
 AreBytes key = All (λ byte. byte < 256) key
 
-equal_less : Equal ≡ Less → ⊥
+pub equal_less : Equal ≡ Less → ⊥
 equal_less e = cc
 
-greater_less : Greater ≡ Less → ⊥
+pub greater_less : Greater ≡ Less → ⊥
 greater_less e = cc
 
-less_greater : Less ≡ Greater → ⊥
+pub less_greater : Less ≡ Greater → ⊥
 less_greater e = cc
 
-equal_greater : Equal ≡ Greater → ⊥
+pub equal_greater : Equal ≡ Greater → ⊥
 equal_greater e = cc
 
 -- what both begin with does not count

@@ -3,3 +3,4 @@ pub mod Above
 pub mod Nexts
 pub mod Places
 pub mod Prefixes
+pub mod Previous

@@ -19,7 +19,7 @@ next_longer key bytes next same is room e = subst (IsNextKey key) (sym (e ∙ ap
   least = λ other of less. longer_least key other less;
 })
 
-front_key : (front rest : List ℕ) → IsKey (front ++ rest) → IsKey front
+pub front_key : (front rest : List ℕ) → IsKey (front ++ rest) → IsKey front
 front_key front rest is = record {
   short = let n = length-append front rest in let s = is.short in omega (arith, n, s);
   are_bytes = subst (λ l. All (λ byte. byte < 256) l) (take_at front rest (length front) refl) (All-take (λ byte. byte < 256) (length front) (front ++ rest) is.are_bytes);

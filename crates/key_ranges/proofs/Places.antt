@@ -35,7 +35,7 @@ holds_one_more front copied last same is room small =
 length-last_with : (prefix : List ℕ) → length prefix ≤ MAX_BYTES → length (last_with prefix) ≡ MAX_BYTES
 length-last_with prefix short = let n = length-append prefix (replicate (MAX_BYTES - length prefix) 255) in let m = length-replicate {A = ℕ} (MAX_BYTES - length prefix) 255 in omega (arith, n, m, short)
 
-last_is_key : (prefix : List ℕ) → IsKey prefix → IsKey (last_with prefix)
+pub last_is_key : (prefix : List ℕ) → IsKey prefix → IsKey (last_with prefix)
 last_is_key prefix is = record {
   short = let n = length-last_with prefix is.short in omega (arith, n);
   are_bytes = All-append (λ byte. byte < 256) prefix (replicate (MAX_BYTES - length prefix) 255) is.are_bytes (All-replicate (λ byte. byte < 256) (MAX_BYTES - length prefix) 255 (omega arith));

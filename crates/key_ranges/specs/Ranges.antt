@@ -15,6 +15,12 @@ pub record IsNextKey (key next : List ℕ) : Type 0 where
 abbrev pub NoKeyAbove : List ℕ → Type 0
 NoKeyAbove key = (other : List ℕ) → IsKey other → key_order key other ≢ Less
 
+-- of the keys below the first one, the other is the greatest
+pub record IsPreviousKey (key previous : List ℕ) : Type 0 where
+  pub is_key : IsKey previous
+  pub below : key_order previous key ≡ Less
+  pub greatest : (other : List ℕ) → IsKey other → key_order other key ≡ Less → key_order other previous ≢ Greater
+
 -- the key begins with the prefix
 abbrev pub HasPrefix : List ℕ → List ℕ → Type 0
 HasPrefix prefix key = (rest : List ℕ) × (key ≡ prefix ++ rest)

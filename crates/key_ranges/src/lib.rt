@@ -3,7 +3,7 @@
 
 ghost use Rattle.std.specs.Prelude.{◌≡◌, ◌<◌, ◌++◌, ◌∷◌, [], IfSome, None, length};
 ghost use Rattle.key_bits.specs.Key.{IsKey};
-ghost use Rattle.key_ranges.specs.Ranges.{IsNextKey, NoKeyAbove, last_with};
+ghost use Rattle.key_ranges.specs.Ranges.{IsNextKey, IsPreviousKey, NoKeyAbove, last_with};
 
 pub mod laws;
 
@@ -26,6 +26,29 @@ pub fn next_key(key: &Key) -> Option<Key>
         rest = front;
     }
     None
+}
+
+/// The greatest key below this one. There is none below the empty key.
+pub fn previous_key(key: &Key) -> Option<Key>
+    ensures some { IfSome result (IsPreviousKey key.now) }
+    ensures none { result ≡ None → key.now ≡ [] }
+{
+    let (last, front) = key.as_bytes().split_last()?;
+    if *last > 0 {
+        return Some(last_with_prefix(&with_byte(front, *last - 1)));
+    }
+    // Between a key and the same with a byte of 0 behind it there is none.
+    Some(of_front(front))
+}
+
+/// The key of these bytes.
+fn of_front(front: &[u8]) -> Key
+    requires { IsKey front.now }
+    ensures { result ≡ front.now }
+{
+    let mut places = [0; MAX_BYTES];
+    places[..front.len()].copy_from_slice(front);
+    Key::of_places(places, front.len())
 }
 
 /// The key of these bytes and one more.
