@@ -7,6 +7,7 @@ use Rattle.record_words.specs.declared.layout.Layout.{Layout}
 use Rattle.tries.specs.Keys.{Key}
 use Rattle.hot_index.specs.Answers.{IsListed}
 use Rattle.hot_index.specs.Passes.{PassView}
+use Rattle.hot_index.specs.Reverse.{IsReverseListed}
 
 nothing : (found : Option (Key × ℕ)) → found ≡ None → IsSome found → ⊥
 nothing found e is = cc
@@ -23,3 +24,7 @@ only items (y ∷ ys) (Some pair) e few some =
 pub one_at_most : {layout : Layout} {k j : PassView} {from upto : Key} {pairs : List (Key × ℕ)} {more : Bool} → IsListed layout k j from upto 1 pairs more →
     (scan : Scan) → scan.pairs.items ≡ pairs → scan.more ≡ more → length pairs ≤ 1
 one_at_most h scan same last = subst (λ (l : List (Key × ℕ)). length l ≤ 1) same (h.lawful scan same last).short
+
+pub last_at_most : {layout : Layout} {k j : PassView} {from upto : Key} {pairs : List (Key × ℕ)} {more : Bool} → IsReverseListed layout k j from upto 1 pairs more →
+    (scan : Scan) → scan.pairs.items ≡ pairs → scan.more ≡ more → length pairs ≤ 1
+last_at_most h scan same last = subst (λ (l : List (Key × ℕ)). length l ≤ 1) same (h.lawful scan same last).short

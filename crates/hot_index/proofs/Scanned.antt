@@ -6,6 +6,7 @@ use Rattle.std.proofs.lemmas.List.{append-nil}
 use Rattle.finite_map.specs.declared.Note.{Note}
 use Rattle.finite_map.specs.declared.Scan.{Scan}
 use Rattle.finite_map.specs.Calls.{LegalCalls}
+use Rattle.finite_map.specs.Reverse.{IsLawfulReverseScan}
 use Rattle.finite_map.specs.Scans.{IsLawfulScan}
 use Rattle.finite_map.proofs.Legal.{legal_longer}
 use Rattle.key_bits.specs.Key.{IsKey}
@@ -22,7 +23,9 @@ use Rattle.tries.specs.Keys.{Key}
 use Rattle.hot_index.specs.Passes.{PassView, IsSettled, pass_of}
 use Rattle.hot_index.specs.Answers.{IsListed, IsScanned, IsUnnoted}
 use Rattle.rowex_scanning.specs.Scanning.{HasScanned}
-use Rattle.rowex_scanning.proofs.Scanned.{lawful_scan}
+use Rattle.rowex_scanning.specs.Reverse.{HasScannedDown}
+use Rattle.rowex_scanning.proofs.Scanned.{lawful_scan, lawful_scan_down}
+use Rattle.hot_index.specs.Reverse.{IsReverseListed, IsReverseScanned}
 use Rattle.hot_index.proofs.Noting.{HasLooked, goes_on, legal_front, settles}
 use Rattle.rowex_reading.proofs.Loading.{pinned_by}
 
@@ -43,6 +46,13 @@ module _ {layout : Layout} {k j : PassView} {from upto : Key} {limit : ℕ} {pai
 
   pub listed_refused : IsUnnoted layout k j
   listed_refused = record { number = h.on.number; front = h.on.front; notes = h.notes; legal = h.legal; makers = h.on.makers }
+
+module _ {layout : Layout} {k j : PassView} {from upto : Key} {limit : ℕ} {pairs : List (Key × ℕ)} {more : Bool} (h : IsReverseListed layout k j from upto limit pairs more) where
+  pub reverse_listed_scanned : (scan : Scan) → scan.pairs.items ≡ pairs → scan.more ≡ more → IsReverseScanned layout k j from upto limit scan
+  reverse_listed_scanned scan same last = record { on = h.on; notes = h.notes; lawful = h.lawful scan same last; legal = h.legal }
+
+  pub reverse_listed_refused : IsUnnoted layout k j
+  reverse_listed_refused = record { number = h.on.number; front = h.on.front; notes = h.notes; legal = h.legal; makers = h.on.makers }
 
 -- The pass was settled, has looked since, and clears the pin now.
 module _ {layout : Layout} {i : Known} (s t : SeatView) (settled : IsSettled s.known) (looks : HasLooked s.known i) (event : IsEvent layout ClearPin silent i t.known) where
@@ -74,6 +84,18 @@ module _ {layout : Layout} {i : Known} (s t : SeatView) (settled : IsSettled s.k
         let p = pinned_by i.pin is in
         let listed = subst (λ z. HasScanned i g z scan.more) (sym same) (subst (λ z. HasScanned i g pairs z) (sym last) h) in
         subst (λ (z : Known). IsLawfulScan z.fresh.front z.front g.from g.upto g.limit scan) (sym event.learned_is) (lawful_scan i g scan layout silent t.known keys.0 keys.1 p.0 p.1 listed event);
+    legal = legal_then;
+  }
+
+  pub scan_answered_down : (g : Range) → IsKey g.from × IsKey g.upto → IsSome i.pin → (pairs : List (Key × ℕ)) (more : Bool) → HasScannedDown i g pairs more →
+      IsReverseListed layout (pass_of s) (pass_of t) g.from g.upto g.limit pairs more
+  scan_answered_down g keys is pairs more h = record {
+    on = goes_on s t looks.on event;
+    notes = notes_stay;
+    lawful = λ scan same last.
+        let p = pinned_by i.pin is in
+        let listed = subst (λ z. HasScannedDown i g z scan.more) (sym same) (subst (λ z. HasScannedDown i g pairs z) (sym last) h) in
+        subst (λ (z : Known). IsLawfulReverseScan z.fresh.front z.front g.from g.upto g.limit scan) (sym event.learned_is) (lawful_scan_down i g scan layout silent t.known keys.0 keys.1 p.0 p.1 listed event);
     legal = legal_then;
   }
 

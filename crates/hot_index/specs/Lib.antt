@@ -7,6 +7,7 @@ pub mod Many
 pub mod Census
 pub mod Counts
 pub mod Ranges
+pub mod Reverse
 pub mod Cursors
 pub mod Asked
 pub mod Stamps

@@ -69,7 +69,7 @@ impl Model for Index {
 #[derive(Drop)]
 pub struct Pass {
     pub(crate) seat: TableSeat,
-    room: Box<Room>,
+    pub(crate) room: Box<Room>,
 }
 
 impl Model for Pass {

@@ -10,6 +10,7 @@ mod index;
 pub mod laws;
 mod many;
 mod ranges;
+mod reverse;
 mod room;
 mod stamp;
 
@@ -19,7 +20,7 @@ pub use epochs::Given;
 pub use finite_map::{Call, Reply, Scan};
 pub use index::{Index, IndexFault, Pass, create, create_with};
 pub use key_bits::Key;
-pub use key_ranges::{last_with_prefix, next_key};
+pub use key_ranges::{last_with_prefix, next_key, previous_key};
 pub use packed_pairs::Pairs;
 pub use record_words::{LayoutFault, Stock};
 pub use rowex_core::{Event, Gate, NoGate};

@@ -1,0 +1,122 @@
+//! Scans from the end of a range downwards, and the last pair up to a key.
+
+ghost use Rattle.std.specs.Prelude.{◌+◌, ◌≤◌, IfOk, OnErr};
+ghost use Rattle.hot_index.specs.Answers.{IsUnnoted};
+ghost use Rattle.hot_index.specs.Counts.{scan_steps};
+ghost use Rattle.hot_index.specs.Passes.{Owns};
+ghost use Rattle.hot_index.specs.Reverse.{IsLastFound, IsReverseListed, IsReverseScanned};
+ghost use Rattle.hot_index.specs.Traces.{HasRead, untold};
+
+use crate::index::{Index, Pass};
+use epochs::{pin, unpin};
+use finite_map::Scan;
+use key_bits::{Key, MAX_BYTES};
+use packed_pairs::Pairs;
+use rowex_core::{Gate, NoGate};
+use rowex_scanning::{Range, scan_root_down};
+use std::alloc::{AllocError, Global};
+
+impl Index {
+    /// The keys from `upto` down to `from`, both included, with their values, in falling order of the keys: the last `limit` of
+    /// them, and whether there is a further one below.
+    ///
+    /// It is `scan` from the right to the left. It takes no lock and waits for nobody: it makes at most as many atomic steps. It is no
+    /// picture of one moment: each pair was held at some moment of the call, and each key that was there all along is listed, where
+    /// there is a further one down to the last pair's. A scan up to the `previous_key` of the last pair's key goes on. Where memory
+    /// ends, it answers nothing.
+    pub fn scan_reverse(
+        &self,
+        alloc: Global,
+        pass: &mut Pass,
+        from: &Key,
+        upto: &Key,
+        limit: usize,
+    ) -> Result<Scan, AllocError>
+        requires { Owns self.now pass.old }
+        ensures own { Owns self.now pass.new }
+        ensures ok { IfOk result (IsReverseScanned self.now.layout pass.old pass.new from.now upto.now limit) }
+        ensures err { OnErr result (IsUnnoted self.now.layout pass.old pass.new) }
+        ensures steps { pass.new.steps ≤ pass.old.steps + scan_steps limit }
+        ensures read { HasRead self.now untold (pass.old, tt) (pass.new, tt) }
+    {
+        let mut list = Pairs::new(alloc);
+        let more = self.scan_reverse_into(pass, from, upto, limit, &mut list)?;
+        let pairs = list.to_vec(alloc)?;
+        Ok(Scan { pairs, more })
+    }
+
+    /// `scan_reverse` into a list: its pairs take the place of those that the list has, the one with the greatest key first. Answers
+    /// whether the range has a further key below. Where memory ends, the list has some of the pairs.
+    pub fn scan_reverse_into(
+        &self,
+        pass: &mut Pass,
+        from: &Key,
+        upto: &Key,
+        limit: usize,
+        pairs: &mut Pairs,
+    ) -> Result<bool, AllocError>
+        requires { Owns self.now pass.old }
+        ensures own { Owns self.now pass.new }
+        ensures ok { IfOk result (IsReverseListed self.now.layout pass.old pass.new from.now upto.now limit pairs.new) }
+        ensures err { OnErr result (IsUnnoted self.now.layout pass.old pass.new) }
+        ensures steps { pass.new.steps ≤ pass.old.steps + scan_steps limit }
+        ensures read { HasRead self.now untold (pass.old, tt) (pass.new, tt) }
+    {
+        self.scan_reverse_into_with(pass, from, upto, limit, pairs, &mut NoGate)
+    }
+
+    /// `scan_reverse_into`, with a gate that is told each of its steps.
+    pub fn scan_reverse_into_with<G: Gate>(
+        &self,
+        pass: &mut Pass,
+        from: &Key,
+        upto: &Key,
+        limit: usize,
+        pairs: &mut Pairs,
+        gate: &mut G,
+    ) -> Result<bool, AllocError>
+        requires { Owns self.now pass.old }
+        ensures own { Owns self.now pass.new }
+        ensures ok { IfOk result (IsReverseListed self.now.layout pass.old pass.new from.now upto.now limit pairs.new) }
+        ensures err { OnErr result (IsUnnoted self.now.layout pass.old pass.new) }
+        ensures steps { pass.new.steps ≤ pass.old.steps + scan_steps limit }
+        ensures read { HasRead self.now G.becomes (pass.old, gate.old) (pass.new, gate.new) }
+    {
+        let range = Range { from, upto, limit };
+        pin(&self.table, &mut pass.seat, gate);
+        let scan = scan_root_down(
+            &self.table,
+            &mut pass.seat,
+            gate,
+            &mut pass.room.way,
+            &range,
+            pairs,
+        );
+        unpin(&self.table, &mut pass.seat, gate);
+        scan
+    }
+
+    /// The last pair whose key is `upto` or below it. Up to the last key with the empty prefix (`last_with_prefix`) it is the last of all.
+    ///
+    /// It is a scan downwards of one pair, with its promise and bound of steps: the pair was there at some moment of the call, and no key
+    /// up to `upto` and above its own was there all along. Where memory ends, it answers nothing.
+    pub fn last(
+        &self,
+        alloc: Global,
+        pass: &mut Pass,
+        upto: &Key,
+    ) -> Result<Option<(Key, u64)>, AllocError>
+        requires { Owns self.now pass.old }
+        ensures own { Owns self.now pass.new }
+        ensures ok { IfOk result (IsLastFound self.now.layout pass.old pass.new upto.now) }
+        ensures err { OnErr result (IsUnnoted self.now.layout pass.old pass.new) }
+        ensures steps { pass.new.steps ≤ pass.old.steps + scan_steps 1 }
+        ensures read { HasRead self.now untold (pass.old, tt) (pass.new, tt) }
+    {
+        let empty = Key::of_places([0; MAX_BYTES], 0);
+        let mut list = Pairs::new(alloc);
+        self.scan_reverse_into(pass, &empty, upto, 1, &mut list)?;
+        let mut pairs = list.to_vec(alloc)?;
+        Ok(pairs.pop())
+    }
+}
