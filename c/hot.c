@@ -1,5 +1,5 @@
 /* What of the library for C is written in C, and tested: the texts of statuses, where a scan goes on, scans of a prefix, the first pair
- * from a key on, and the calls that wait. */
+ * from a key on and the last up to one, and the calls that wait. */
 #include "hot.h"
 #include <sched.h>
 #include <string.h>
@@ -47,6 +47,22 @@ hot_status hot_after(const hot_pair *pair, uint8_t *key, size_t *length) {
     return HOT_DONE;
 }
 
+hot_status hot_before(const hot_pair *pair, uint8_t *key, size_t *length) {
+    size_t last = pair->length;
+    if (last == 0)
+        return HOT_ABSENT;
+    last--;
+    memcpy(key, pair->key, last);
+    *length = last;
+    /* Behind a byte of 0 there is nothing between; a lesser byte is followed by the greatest that has room. */
+    if (pair->key[last] > 0) {
+        key[last] = (uint8_t)(pair->key[last] - 1);
+        memset(key + last + 1, 0xff, HOT_MAX_KEY - last - 1);
+        *length = HOT_MAX_KEY;
+    }
+    return HOT_DONE;
+}
+
 static int is_below(const uint8_t *one, size_t one_length, const uint8_t *other, size_t other_length) {
     int order = memcmp(one, other, one_length < other_length ? one_length : other_length);
     return order < 0 || (order == 0 && one_length < other_length);
@@ -78,6 +94,15 @@ hot_status hot_first(hot_handle *handle, const uint8_t *from, size_t length, hot
     hot_status status;
     memset(last, 0xff, HOT_MAX_KEY);
     status = hot_scan(handle, from, length, last, HOT_MAX_KEY, pair, 1, &count, &more);
+    if (status != HOT_DONE)
+        return status;
+    return count == 0 ? HOT_ABSENT : HOT_FOUND;
+}
+
+hot_status hot_last(hot_handle *handle, const uint8_t *upto, size_t length, hot_pair *pair) {
+    size_t count;
+    uint32_t more;
+    hot_status status = hot_scan_reverse(handle, upto, 0, upto, length, pair, 1, &count, &more);
     if (status != HOT_DONE)
         return status;
     return count == 0 ? HOT_ABSENT : HOT_FOUND;

@@ -38,7 +38,7 @@ extern "C" {
 
 /* The version of this header. What was right with an earlier one of the same major number is right with this one. */
 #define HOT_VERSION_MAJOR 1
-#define HOT_VERSION_MINOR 2
+#define HOT_VERSION_MINOR 3
 #define HOT_VERSION_PATCH 0
 
 /* The most bytes of a key. */
@@ -187,6 +187,18 @@ hot_status hot_scan(hot_handle *handle, const uint8_t *from, size_t from_length,
  * HOT_DONE; HOT_ABSENT where no key comes after the pair's, and nothing was written then. */
 hot_status hot_after(const hot_pair *pair, uint8_t *key, size_t *length);
 
+/* hot_scan from the end downwards: lists the keys from `upto` down to `from`, both included, in falling order of the keys: the last ones,
+ * as many as `pairs` has places. `more` becomes 1 where there is a further one below. Each key that was there all along is listed, where
+ * there is a further one down to the last pair's. To go on, end at the key that hot_before gives for the last pair.
+ * It answers what hot_scan does. */
+hot_status hot_scan_reverse(hot_handle *handle, const uint8_t *from, size_t from_length, const uint8_t *upto, size_t upto_length,
+                            hot_pair *pairs, size_t limit, size_t *count, uint32_t *more);
+
+/* Writes the greatest key before a pair's to `key`, which has room for HOT_MAX_KEY bytes, and its length: where a scan downwards goes on.
+ * It may be absent in the index.
+ * HOT_DONE; HOT_ABSENT where no key comes before the pair's, which is the empty one, and nothing was written then. */
+hot_status hot_before(const hot_pair *pair, uint8_t *key, size_t *length);
+
 /* hot_scan of the keys that begin with the prefix, which are all with an empty one: the first of them where `after` is NULL, else those
  * after this pair's, which may be the last one of an earlier call.
  * It writes and answers what hot_scan does. */
@@ -196,6 +208,11 @@ hot_status hot_scan_prefix(hot_handle *handle, const uint8_t *prefix, size_t len
 /* Writes the first pair whose key is `from` or comes after it; from an empty key on it is the first of all. It is a scan of one pair.
  * HOT_FOUND, HOT_ABSENT; HOT_KEY_TOO_LONG, HOT_CLOSED, HOT_NO_MEMORY. Nothing was written but where it was found. */
 hot_status hot_first(hot_handle *handle, const uint8_t *from, size_t length, hot_pair *pair);
+
+/* Writes the last pair whose key is `upto` or comes before it. It is a scan downwards of one pair. Up to HOT_MAX_KEY bytes of 255 it is
+ * the last of all.
+ * HOT_FOUND, HOT_ABSENT; HOT_KEY_TOO_LONG, HOT_CLOSED, HOT_NO_MEMORY. Nothing was written but where it was found. */
+hot_status hot_last(hot_handle *handle, const uint8_t *upto, size_t length, hot_pair *pair);
 
 /* Gives records back that changes have unlinked and that no call can reach any more, and writes how many. A change that finds no record
  * free does so itself before it gives up, so a program need not.

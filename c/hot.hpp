@@ -67,7 +67,10 @@ inline const std::uint8_t *bytes(std::string_view key) {
     return reinterpret_cast<const std::uint8_t *>(key.data() ? key.data() : "");
 }
 
-/// The pairs of a scan, in the order of their keys, asked for by pages. Its handle may be used meanwhile, moved, but not closed. One
+/// The order in which a scan gives its pairs: that of the keys, or from the last one downwards.
+enum class order { rising, falling };
+
+/// The pairs of a scan, in this order of their keys, asked for by pages. Its handle may be used meanwhile, moved, but not closed. One
 /// iterator at a time; a pair's key stands until it goes on. Making and moving it throws as `check` says.
 class range {
   public:
@@ -98,17 +101,20 @@ class range {
         range *of_ = nullptr;
     };
 
-    range(hot_handle *handle, std::string_view from, std::string_view upto, std::size_t page)
-        : handle_(handle), from_(from), upto_(upto), page_(page ? page : 1) {}
+    range(hot_handle *handle, std::string_view from, std::string_view upto, std::size_t page, order goes = order::rising)
+        : handle_(handle), from_(from), upto_(upto), page_(page ? page : 1), goes_(goes) {}
     iterator begin() {
-        load(from_);
+        load(goes_ == order::rising ? from_ : upto_);
         return count_ ? iterator(this) : iterator();
     }
     iterator end() { return iterator(); }
 
   private:
-    void load(std::string_view from) {
-        check(hot_scan(handle_, bytes(from), from.size(), bytes(upto_), upto_.size(), page_.data(), page_.size(), &count_, &more_));
+    void load(std::string_view at) {
+        const bool rises = goes_ == order::rising;
+        const std::string_view from = rises ? at : from_, upto = rises ? upto_ : at;
+        check((rises ? hot_scan : hot_scan_reverse)(handle_, bytes(from), from.size(), bytes(upto), upto.size(), page_.data(), page_.size(),
+                                                    &count_, &more_));
         at_ = 0;
     }
     bool go_on() {
@@ -116,7 +122,7 @@ class range {
             return true;
         std::uint8_t next[HOT_MAX_KEY];
         std::size_t length = 0;
-        if (!more_ || hot_after(&page_[count_ - 1], next, &length) != HOT_DONE)
+        if (!more_ || (goes_ == order::rising ? hot_after : hot_before)(&page_[count_ - 1], next, &length) != HOT_DONE)
             return false;
         load({reinterpret_cast<const char *>(next), length});
         return count_ > 0;
@@ -125,6 +131,7 @@ class range {
     hot_handle *handle_;
     std::string from_, upto_;
     std::vector<hot_pair> page_;
+    order goes_;
     std::size_t at_ = 0, count_ = 0;
     std::uint32_t more_ = 0;
 };
@@ -182,6 +189,12 @@ class handle {
         const std::size_t left = HOT_MAX_KEY - (prefix.size() < HOT_MAX_KEY ? prefix.size() : HOT_MAX_KEY);
         return scan(prefix, std::string(prefix).append(left, '\xff'));
     }
+
+    /// The pairs from one key down to another, both included, the greatest key first; and all of them.
+    range scan_reverse(std::string_view from, std::string_view upto, std::size_t pairs = page) {
+        return range(it(), from, upto, pairs, order::falling);
+    }
+    range scan_reverse() { return scan_reverse({}, std::string(HOT_MAX_KEY, '\xff')); }
 
     collected collect() {
         collected given{};

@@ -183,6 +183,48 @@ static void test_scan(void) {
     CHECK(hot_destroy(&handle) == HOT_DONE);
 }
 
+/* Scans downwards: the order of keys, the limit, and the places that are left as they were; the last pair up to a key. */
+static void test_scan_reverse(void) {
+    hot_handle handle = HOT_HANDLE;
+    hot_pair pairs[3], pair;
+    uint8_t key[HOT_MAX_KEY + 1];
+    uint64_t had;
+    size_t count = 9, length;
+    uint32_t more = 9;
+    memset(key, 0xff, sizeof key);
+    CHECK(hot_create(100, 100, &handle, 1) == HOT_DONE);
+    CHECK(hot_last(&handle, key, HOT_MAX_KEY, &pair) == HOT_ABSENT);
+    CHECK(hot_try_insert(&handle, bytes("b"), 1, 2, &had) == HOT_INSERTED);
+    CHECK(hot_last(&handle, bytes("b"), 1, &pair) == HOT_FOUND && pair.value == 2);
+    CHECK(hot_try_insert(&handle, bytes("aa"), 2, 1, &had) == HOT_INSERTED);
+    CHECK(hot_try_insert(&handle, bytes("c"), 1, 3, &had) == HOT_INSERTED);
+    memset(pairs, 0xee, sizeof pairs);
+    CHECK(hot_scan_reverse(&handle, bytes("a"), 1, bytes("z"), 1, pairs, 2, &count, &more) == HOT_DONE);
+    CHECK(count == 2 && more == 1);
+    CHECK(pairs[0].length == 1 && pairs[0].key[0] == 'c' && pairs[0].value == 3);
+    CHECK(pairs[1].length == 1 && pairs[1].key[0] == 'b' && pairs[1].value == 2);
+    CHECK(pairs[2].length == 0xeeeeeeee && pairs[2].value == 0xeeeeeeeeeeeeeeee);
+    CHECK(hot_before(&pairs[1], key, &length) == HOT_DONE);
+    CHECK(hot_scan_reverse(&handle, bytes("a"), 1, key, length, pairs, 2, &count, &more) == HOT_DONE);
+    CHECK(count == 1 && more == 0 && pairs[0].value == 1 && pairs[1].value == 2);
+    CHECK(hot_scan_reverse(&handle, bytes("b"), 1, bytes("c"), 1, pairs, 3, &count, &more) == HOT_DONE);
+    CHECK(count == 2 && more == 0 && pairs[0].value == 3 && pairs[1].value == 2);
+    CHECK(hot_scan_reverse(&handle, bytes("a"), 1, bytes("b"), 1, pairs, 0, &count, &more) == HOT_DONE);
+    CHECK(count == 0 && more == 1);
+    CHECK(hot_scan_reverse(&handle, bytes("z"), 1, bytes("a"), 1, pairs, 3, &count, &more) == HOT_DONE);
+    CHECK(count == 0 && more == 0);
+    CHECK(hot_last(&handle, bytes("bz"), 2, &pair) == HOT_FOUND && pair.length == 1 && pair.value == 2);
+    CHECK(hot_last(&handle, bytes("a"), 1, &pair) == HOT_ABSENT && pair.value == 2);
+    memset(key, 0xff, sizeof key);
+    CHECK(hot_last(&handle, key, HOT_MAX_KEY, &pair) == HOT_FOUND && pair.value == 3);
+    count = 9;
+    CHECK(hot_scan_reverse(&handle, bytes("a"), 1, key, sizeof key, pairs, 2, &count, &more) == HOT_KEY_TOO_LONG && count == 9);
+    CHECK(hot_last(&handle, key, sizeof key, &pair) == HOT_KEY_TOO_LONG);
+    CHECK(hot_destroy(&handle) == HOT_DONE);
+    CHECK(hot_scan_reverse(&handle, bytes("a"), 1, bytes("z"), 1, pairs, 2, &count, &more) == HOT_CLOSED && count == 9);
+    CHECK(hot_last(&handle, bytes("a"), 1, &pair) == HOT_CLOSED);
+}
+
 /* Where a scan goes on: after a key, and after one to which no byte can be added. */
 static void test_after(void) {
     hot_pair pair;
@@ -199,6 +241,25 @@ static void test_after(void) {
     CHECK(hot_after(&pair, key, &length) == HOT_DONE && length == 3 && !memcmp(key, "aab", 3));
     memset(pair.key, 0xff, 3);
     CHECK(hot_after(&pair, key, &length) == HOT_ABSENT && length == 3);
+}
+
+/* Where a scan downwards goes on: before a key that ends with a byte of 0, before another, and before the empty one. */
+static void test_before(void) {
+    hot_pair pair;
+    uint8_t key[HOT_MAX_KEY];
+    size_t length = 9, at;
+    memset(&pair, 'b', sizeof pair);
+    pair.length = 2;
+    CHECK(hot_before(&pair, key, &length) == HOT_DONE && length == HOT_MAX_KEY && key[0] == 'b' && key[1] == 'a');
+    for (at = 2; at < HOT_MAX_KEY; at++)
+        CHECK(key[at] == 0xff);
+    pair.key[1] = 0;
+    CHECK(hot_before(&pair, key, &length) == HOT_DONE && length == 1 && key[0] == 'b');
+    pair.key[HOT_MAX_KEY - 1] = 1;
+    pair.length = HOT_MAX_KEY;
+    CHECK(hot_before(&pair, key, &length) == HOT_DONE && length == HOT_MAX_KEY && !memcmp(key, pair.key, HOT_MAX_KEY - 1) && key[HOT_MAX_KEY - 1] == 0);
+    pair.length = 0;
+    CHECK(hot_before(&pair, key, &length) == HOT_ABSENT && length == HOT_MAX_KEY);
 }
 
 /* Each status has a text, and what is none has another. */
@@ -455,8 +516,10 @@ int main(void) {
     test_census();
     test_expected();
     test_scan();
+    test_scan_reverse();
     test_prefix();
     test_after();
+    test_before();
     test_texts();
     test_long_keys();
     test_full();

@@ -91,7 +91,8 @@ static void test_stock() {
     CHECK(throws<std::invalid_argument>([&] { hot::create(stock); }));
 }
 
-// Keys of a, aa, .. to the greatest length, and one of the greatest length with other bytes: on each page, one goes on after its last.
+// Keys of a, aa, .. to the greatest length, and one of the greatest length with other bytes: on each page, one goes on after its last;
+// and so it is downwards.
 static void test_scans() {
     auto handles = hot::create(1000, 1000);
     hot::handle &handle = handles[0];
@@ -106,12 +107,22 @@ static void test_scans() {
         }
         CHECK(count == HOT_MAX_KEY + 1);
     }
+    for (const std::size_t page : {1, 2, 60, 241, 500}) {
+        std::uint64_t count = HOT_MAX_KEY + 1;
+        for (const auto [key, value] : handle.scan_reverse("a", std::string(HOT_MAX_KEY, '\xff'), page)) {
+            CHECK(value == count-- && key.size() == (value <= HOT_MAX_KEY ? value : HOT_MAX_KEY));
+            handle.upsert(key, value);
+        }
+        CHECK(count == 0);
+    }
     std::uint64_t sum = 0;
     for (const auto it : handle.scan_prefix(std::string(238, 'a')))
         sum += it.value;
     CHECK(sum == 238 + 239 + 240);
     auto none = handle.scan("b", "c");
     CHECK(none.begin() == none.end());
+    auto none_down = handle.scan_reverse("b", "c");
+    CHECK(none_down.begin() == none_down.end() && (*handle.scan_reverse().begin()).value == HOT_MAX_KEY + 1);
     CHECK(throws<std::length_error>([&] { handle.scan(std::string(HOT_MAX_KEY + 1, 'a')).begin(); }));
 }
 

@@ -14,6 +14,7 @@ use Rattle.rowex_writing.specs.declared.attempts.TryFault.{TryFault}
 use Rattle.hot_index.specs.Answers.{IsNoted, IsRefused, IsScanned, IsUnnoted}
 use Rattle.hot_index.specs.Census.{HasCounted}
 use Rattle.hot_index.specs.Passes.{PassView, IsNewPass}
+use Rattle.hot_index.specs.Reverse.{IsReverseScanned}
 use Rattle.hot_index.specs.Traces.{HasCollected, untold}
 use Rattle.hot_index.specs.declared.census.RecordCounts.{RecordCounts}
 use Rattle.hot_c.specs.Pairs.{AreSpelled}
@@ -63,12 +64,19 @@ pub record IsArrayListed (scan : Scan) (before after : Listing) : Type 0 where
 
 -- A scan through a handle, of as many pairs as the array has places. A closed handle and a key that is too long are told as
 -- such, and nothing has changed; else the scan is made and listed, or there is no memory and nothing is listed.
-pub record Lists (from upto : List ℕ) (old new : Option Opened) (before after : Listing) (status : ℕ) : Type 0 where
+pub record ListsBy (HasMade : Layout → PassView → PassView → List ℕ → List ℕ → ℕ → Scan → Type 0) (from upto : List ℕ) (old new : Option Opened) (before after : Listing) (status : ℕ) : Type 0 where
   pub closed : old ≡ None → (status ≡ CLOSED) × (new ≡ old) × (after ≡ before)
   pub long : IsSome old → ¬ (FitsInKey from × FitsInKey upto) → (status ≡ KEY_TOO_LONG) × (new ≡ old) × (after ≡ before)
   pub made : IsSome old → FitsInKey from → FitsInKey upto →
-      ((status ≡ DONE) × (scan : Scan) × StaysOpen (λ index k j. IsScanned index.layout k j from upto (length before.room) scan) old new × IsArrayListed scan before after)
+      ((status ≡ DONE) × (scan : Scan) × StaysOpen (λ index k j. HasMade index.layout k j from upto (length before.room) scan) old new × IsArrayListed scan before after)
       ⊎ ((status ≡ NO_MEMORY) × StaysOpen (λ index k j. IsUnnoted index.layout k j) old new × (after ≡ before))
+
+-- from the first key on, or from the last one downwards
+abbrev pub Lists : List ℕ → List ℕ → Option Opened → Option Opened → Listing → Listing → ℕ → Type 0
+Lists = ListsBy IsScanned
+
+abbrev pub ListsReverse : List ℕ → List ℕ → Option Opened → Option Opened → Listing → Listing → ℕ → Type 0
+ListsReverse = ListsBy IsReverseScanned
 
 -- a round of collection, which gave back so many nodes and leaves
 abbrev pub HasGivenBack : ℕ → ℕ → TableView → PassView → PassView → Type 0

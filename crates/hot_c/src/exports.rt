@@ -5,7 +5,7 @@ ghost use Rattle.finite_map.specs.declared.Call.TheVariants.{Exchange, Get, Inse
 ghost use Rattle.rowex_writing.specs.Asking.{aim_of};
 ghost use Rattle.rowex_writing.specs.Attempts.{asked_call};
 ghost use Rattle.hot_c.specs.declared.opened.Opened.{Opened};
-ghost use Rattle.hot_c.specs.Calls.{Answers, AreClosed, HasGivenBack, HasSeenRecords, HaveOpened, HaveOpenedStock, IsSize, IsStockSize, Lists, StaysOpen};
+ghost use Rattle.hot_c.specs.Calls.{Answers, AreClosed, HasGivenBack, HasSeenRecords, HaveOpened, HaveOpenedStock, IsSize, IsStockSize, Lists, ListsReverse, StaysOpen};
 ghost use Rattle.hot_c.specs.Lookups.{LooksUpAll};
 ghost use Rattle.hot_c.specs.Stocks.{TakesBytes, stock_in};
 ghost use Rattle.record_words.specs.Layout.{stock_for};
@@ -249,6 +249,42 @@ pub extern "C" fn hot_scan(
             write_pairs(&scan.pairs, room);
             *count = scan.pairs.len();
             *more = u32::from(scan.more);
+            DONE
+        }
+        Err(_) => NO_MEMORY,
+    }
+}
+
+/// Lists the keys from `upto` down to `from`, both included, with their values, in falling order of the keys: as many as there is
+/// room for. `more` becomes 1 where there is a further one below, else 0.
+#[unsafe(no_mangle)]
+pub extern "C" fn hot_scan_reverse(
+    alloc: Global,
+    handle: &mut Handle,
+    from: &[u8],
+    upto: &[u8],
+    room: &mut [Pair],
+    count: &mut usize,
+    more: &mut u32,
+) -> u32
+    ensures call { ListsReverse from.now upto.now handle.old.slot.opened handle.new.slot.opened
+        (record { room = room.old; count = count.old; more = more.old }) (record { room = room.new; count = count.new; more = more.new }) result }
+{
+    if !handle.is_open() {
+        return CLOSED;
+    }
+    let (Ok(first), Ok(last)) = (&Key::from_bytes(from), &Key::from_bytes(upto)) else {
+        return KEY_TOO_LONG;
+    };
+    match handle
+        .slot
+        .lend()
+        .scan_reverse(alloc, first, last, room.len())
+    {
+        Ok(found) => {
+            write_pairs(&found.pairs, room);
+            *count = found.pairs.len();
+            *more = u32::from(found.more);
             DONE
         }
         Err(_) => NO_MEMORY,

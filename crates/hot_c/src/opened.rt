@@ -8,6 +8,7 @@ ghost use Rattle.hot_index.specs.Answers.{IsNoted, IsRefused, IsScanned, IsUnnot
 ghost use Rattle.hot_index.specs.Census.{HasCounted};
 ghost use Rattle.hot_index.specs.Many.{AreNoted, gets};
 ghost use Rattle.hot_index.specs.Passes.{Owns};
+ghost use Rattle.hot_index.specs.Reverse.{IsReverseScanned};
 ghost use Rattle.hot_index.specs.Traces.{HasCollected, untold};
 
 use hot_index::{Given, Index, Pass, RecordCounts, Reply, Scan, TryFault};
@@ -77,6 +78,22 @@ impl Opened {
         ensures err { OnErr result (IsUnnoted self.old.index.value.layout self.old.pass self.new.pass) }
     {
         self.index.scan(alloc, &mut self.pass, from, upto, limit)
+    }
+
+    /// The pairs of the keys from `upto` down to `from`, the last `limit` of them.
+    pub fn scan_reverse(
+        &mut self,
+        alloc: Global,
+        from: &Key,
+        upto: &Key,
+        limit: usize,
+    ) -> Result<Scan, AllocError>
+        ensures index { self.new.index ≡ self.old.index }
+        ensures ok { IfOk result (IsReverseScanned self.old.index.value.layout self.old.pass self.new.pass from.now upto.now limit) }
+        ensures err { OnErr result (IsUnnoted self.old.index.value.layout self.old.pass self.new.pass) }
+    {
+        self.index
+            .scan_reverse(alloc, &mut self.pass, from, upto, limit)
     }
 
     /// Makes a round of collection.
