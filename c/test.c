@@ -508,6 +508,55 @@ static void test_threads(void) {
     CHECK(hot_destroy(&handles[1]) == HOT_DONE);
 }
 
+/* How many leaves of each size are in use. */
+static void count_leaves(hot_handle *handle, uint32_t live[5]) {
+    hot_counts counts;
+    CHECK(hot_census(handle, &counts) == HOT_DONE);
+    live[0] = counts.short_leaves.live;
+    live[1] = counts.medium_leaves.live;
+    live[2] = counts.large_leaves.live;
+    live[3] = counts.wide_leaves.live;
+    live[4] = counts.long_leaves.live;
+}
+
+/* Which leaf a key gets: of the smallest size with room for it that has a free one. Each row is a key that begins with this byte and has
+ * so many bytes, all others 0; it is inserted and takes a leaf of this size, or finds none, or it is removed and gives one back. */
+static void test_sizes(void) {
+    enum size { SHORT, MEDIUM, LARGE, WIDE, LONG, NONE, GIVES_BACK };
+    static const struct {
+        uint8_t first;
+        size_t length;
+        enum size size;
+    } rows[] = {
+        {1, 8, SHORT},   {2, 9, MEDIUM},   {3, 24, MEDIUM}, {4, 25, LARGE},  {5, 56, LARGE},      {6, 57, WIDE},
+        {7, 88, WIDE},   {8, 89, LONG},    {9, 240, LONG},  {10, 1, SHORT},  {11, 3, SHORT},      {12, 1, NONE},
+        {13, 89, NONE},  {9, 240, GIVES_BACK}, {14, 1, LONG}, {15, 2, NONE},   {1, 8, GIVES_BACK},  {16, 89, NONE},
+        {17, 9, NONE},   {18, 2, SHORT},   {6, 57, GIVES_BACK}, {2, 9, GIVES_BACK}, {19, 4, MEDIUM}, {20, 4, WIDE},
+    };
+    static const hot_stock stock = {60, 3, 2, 2, 2, 2};
+    hot_handle handle = HOT_HANDLE;
+    size_t row;
+    CHECK(hot_create_with(&stock, &handle, 1) == HOT_DONE);
+    for (row = 0; row < sizeof rows / sizeof rows[0]; row++) {
+        uint8_t key[HOT_MAX_KEY] = {0};
+        uint32_t before[5], after[5], nodes, leaves;
+        uint64_t had = 0;
+        int size;
+        key[0] = rows[row].first;
+        count_leaves(&handle, before);
+        if (rows[row].size == GIVES_BACK) {
+            CHECK(hot_try_remove(&handle, key, rows[row].length, &had) == HOT_REMOVED);
+            CHECK(hot_collect(&handle, &nodes, &leaves) == HOT_DONE && leaves == 1);
+            continue;
+        }
+        CHECK(hot_try_insert(&handle, key, rows[row].length, 7, &had) == (rows[row].size == NONE ? HOT_FULL_LEAVES : HOT_INSERTED));
+        count_leaves(&handle, after);
+        for (size = 0; size < 5; size++)
+            CHECK(after[size] == before[size] + (size == (int)rows[row].size));
+    }
+    CHECK(hot_destroy(&handle) == HOT_DONE);
+}
+
 int main(void) {
     CHECK(sizeof(hot_handle) == 16 && sizeof(hot_pair) == 256 && sizeof(hot_stock) == 24);
     CHECK(sizeof(hot_lookup) == 32 && sizeof(hot_states) == 16 && sizeof(hot_counts) == 104);
@@ -525,6 +574,7 @@ int main(void) {
     test_full();
     test_stock();
     test_stock_sizes();
+    test_sizes();
     test_handles();
     test_memory();
     test_threads();

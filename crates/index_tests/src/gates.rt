@@ -2,41 +2,11 @@
 
 use crate::made::Guest;
 use hot_index::{Event, Gate, Key, TryFault};
-use rowex_core::{Act, Rec};
+use rowex_core::Act;
 use std::alloc::Global;
 use std::process::Abort;
 use std::sync::atomic::{AtomicU64, Ordering};
 use std::thread;
-
-/// Counts what rounds of collection find.
-#[derive(Drop)]
-pub struct Rounds {
-    /// Nodes and leaves that were not free.
-    pub nodes: u32,
-    pub leaves: u32,
-    /// How often the epoch was made the next one.
-    pub advances: u64,
-    /// The epoch that was loaded last.
-    pub epoch: u64,
-}
-
-impl Gate for Rounds {
-    ghost becomes = { λ _ _ _. Unit {0} };
-
-    fn at(&mut self, event: &Event) {
-        match event.act {
-            Act::LoadState { rec, word } if word != 0 => match rec {
-                Rec::Node(_) => self.nodes = self.nodes.wrapping_add(1),
-                Rec::Leaf(_) => self.leaves = self.leaves.wrapping_add(1),
-            },
-            Act::Advance { expected, found } if found == expected => {
-                self.advances = self.advances.wrapping_add(1);
-            }
-            Act::LoadEpoch { word } => self.epoch = word,
-            _ => {}
-        }
-    }
-}
 
 /// How often a guest looks for the others before it goes on alone.
 const MAX_LOOKS: u32 = 10_000_000;

@@ -3,14 +3,6 @@
 #![tactic(auto)]
 
 #[cfg(test)]
-mod calls;
-#[cfg(test)]
-mod classes;
-#[cfg(test)]
-mod crowds;
-#[cfg(test)]
-mod exchanges;
-#[cfg(test)]
 mod gates;
 #[cfg(test)]
 mod made;
@@ -22,5 +14,3 @@ mod refused;
 mod reuse;
 #[cfg(test)]
 mod streams;
-#[cfg(test)]
-mod threads;

@@ -3,9 +3,8 @@
 ghost use Rattle.std.specs.Prelude.{All};
 ghost use Rattle.hot_index.specs.Passes.{Owns};
 
-use crate::gates::Rounds;
-use hot_index::{Full, Gate, Index, Key, Pass, Reply, Scan, TryFault, create};
-use std::alloc::{AllocError, Global};
+use hot_index::{Full, Gate, Index, Key, Pass, Reply, TryFault, create};
+use std::alloc::Global;
 use std::process::Abort;
 use std::sync::Wait;
 
@@ -117,45 +116,8 @@ impl<'a> Guest<'a> {
         }
     }
 
-    /// Inserts a key by the call that waits.
-    pub fn insert<R: Wait>(&mut self, rt: &R, key: &Key, value: u64) -> Result<Reply, Full> {
-        self.index.insert(rt, &mut self.pass, key, value)
-    }
-
     /// Gives a key a value by the call that waits.
     pub fn upsert<R: Wait>(&mut self, rt: &R, key: &Key, value: u64) -> Result<Reply, Full> {
         self.index.upsert(rt, &mut self.pass, key, value)
-    }
-
-    pub fn scan(
-        &mut self,
-        alloc: Global,
-        from: &Key,
-        upto: &Key,
-        limit: usize,
-    ) -> Result<Scan, AllocError> {
-        self.index.scan(alloc, &mut self.pass, from, upto, limit)
-    }
-
-    /// All keys with their values.
-    pub fn list(&mut self, rt: &impl Abort, alloc: Global) -> Vec<(Key, u64)> {
-        let (low, high) = (key(rt, b""), key(rt, &[255; 240]));
-        match self
-            .index
-            .scan(alloc, &mut self.pass, &low, &high, usize::MAX)
-        {
-            Ok(scan) => scan.pairs,
-            Err(_) => panic!(rt; "no memory"),
-        }
-    }
-
-    /// How many nodes and leaves are not free, after two rounds of collection.
-    pub fn taken(&mut self, rounds: &mut Rounds) -> (u32, u32) {
-        self.index.collect_with(&mut self.pass, rounds);
-        self.index.collect_with(&mut self.pass, rounds);
-        rounds.nodes = 0;
-        rounds.leaves = 0;
-        self.index.collect_with(&mut self.pass, rounds);
-        (rounds.nodes, rounds.leaves)
     }
 }

@@ -1,0 +1,399 @@
+/* Tests of the library by threads: two that change keys of all lengths beside two that read by each call; and four that make calls by
+ * chance where few records are to spare, or none. */
+#include "hot.h"
+#include <pthread.h>
+#include <sched.h>
+#include <stdio.h>
+#include <string.h>
+
+#define NUMBERS 2000
+#define DIGITS 6
+#define ROUNDS 1500
+#define CHANGES 100000
+#define ADDS 5000
+#define LIMIT 64
+
+static int failures;
+
+#define CHECK(that)                                                       \
+    do {                                                                  \
+        if (!(that)) {                                                    \
+            fprintf(stderr, "threads.c:%d: not so: %s\n", __LINE__, #that); \
+            __atomic_store_n(&failures, 1, __ATOMIC_SEQ_CST);             \
+        }                                                                 \
+    } while (0)
+
+/* A key: the digits of its number and then as many bytes more as its number says, so that each size of leaf records has some. */
+typedef struct key {
+    uint8_t bytes[HOT_MAX_KEY];
+    size_t length;
+} key;
+
+static key key_of(unsigned number) {
+    static const size_t more[5] = {0, 10, 40, 70, 200};
+    key made;
+    char digits[16];
+    snprintf(digits, sizeof digits, "%06u", number);
+    memset(made.bytes, 'x', sizeof made.bytes);
+    memcpy(made.bytes, digits, DIGITS);
+    made.length = DIGITS + more[number / 2 % 5];
+    return made;
+}
+
+/* Numbers by chance (xorshift, Marsaglia 2003). */
+static unsigned next(uint64_t *state) {
+    *state ^= *state << 13;
+    *state ^= *state >> 7;
+    *state ^= *state << 17;
+    return (unsigned)(*state >> 33);
+}
+
+/* First test: the keys of even numbers stay, so each call has to tell of these what they are, and those of odd numbers come and go. A
+ * value has its key's number as its low part. */
+#define LOW 0xffffu
+
+/* The number of a pair. */
+static unsigned number_of(const hot_pair *pair) {
+    unsigned number = NUMBERS;
+    char digits[DIGITS + 1] = {0};
+    key wanted;
+    memcpy(digits, pair->key, DIGITS);
+    CHECK(pair->length >= DIGITS && sscanf(digits, "%u", &number) == 1 && number < NUMBERS);
+    wanted = key_of(number);
+    CHECK(wanted.length == pair->length && memcmp(wanted.bytes, pair->key, pair->length) == 0 && (pair->value & LOW) == number);
+    return number;
+}
+
+/* That these pairs are the keys from `first` on: rising, or falling by a step of -1, with each even number between them. */
+static void check_pairs(const hot_pair *pairs, size_t count, int first, int step, int last, uint32_t more) {
+    int expected = first;
+    size_t i;
+    for (i = 0; i < count; i++) {
+        int number = (int)number_of(&pairs[i]);
+        CHECK(number == expected || (expected % 2 != 0 && number == expected + step));
+        expected = number + step;
+    }
+    if (!more)
+        CHECK(expected == last + step || (expected % 2 != 0 && expected == last));
+}
+
+/* The key of a number that is even, which stays, or odd. */
+static void check_found(hot_status status, uint64_t value, unsigned number) {
+    CHECK((status == HOT_FOUND && (value & LOW) == number) || (status == HOT_ABSENT && number % 2 == 1));
+}
+
+static void read_many(hot_handle *handle, uint64_t *state) {
+    hot_lookup looks[LIMIT];
+    key keys[LIMIT];
+    unsigned numbers[LIMIT];
+    size_t i, count = 1 + next(state) % LIMIT;
+    for (i = 0; i < count; i++) {
+        numbers[i] = next(state) % NUMBERS;
+        keys[i] = key_of(numbers[i]);
+        looks[i].key = keys[i].bytes;
+        looks[i].length = keys[i].length;
+    }
+    CHECK(hot_get_many(handle, looks, count) == HOT_DONE);
+    for (i = 0; i < count; i++)
+        check_found(looks[i].status, looks[i].value, numbers[i]);
+}
+
+static void read_scans(hot_handle *handle, uint64_t *state) {
+    hot_pair pairs[LIMIT];
+    unsigned low = next(state) % (NUMBERS - 100), high = low + next(state) % 100;
+    key from = key_of(low), upto = key_of(high);
+    size_t count = 0, limit = 1 + next(state) % LIMIT;
+    uint32_t more = 0;
+    CHECK(hot_scan(handle, from.bytes, from.length, upto.bytes, upto.length, pairs, limit, &count, &more) == HOT_DONE);
+    check_pairs(pairs, count, (int)low, 1, (int)high, more);
+    CHECK(!more || count == limit);
+    CHECK(hot_scan_reverse(handle, from.bytes, from.length, upto.bytes, upto.length, pairs, limit, &count, &more) == HOT_DONE);
+    check_pairs(pairs, count, (int)high, -1, (int)low, more);
+    CHECK(!more || count == limit);
+}
+
+static void read_prefix(hot_handle *handle, uint64_t *state) {
+    hot_pair pairs[LIMIT];
+    unsigned low = next(state) % (NUMBERS / 10) * 10;
+    key prefix = key_of(low);
+    size_t count = 0;
+    uint32_t more = 0;
+    CHECK(hot_scan_prefix(handle, prefix.bytes, DIGITS - 1, NULL, pairs, 4, &count, &more) == HOT_DONE && count == 4 && more);
+    check_pairs(pairs, count, (int)low, 1, (int)low + 9, more);
+    low = number_of(&pairs[3]);
+    CHECK(hot_scan_prefix(handle, prefix.bytes, DIGITS - 1, &pairs[3], pairs, LIMIT, &count, &more) == HOT_DONE && !more);
+    check_pairs(pairs, count, (int)low + 1, 1, (int)(low / 10 * 10 + 9), more);
+}
+
+/* From a key of an odd number on and up to it there is that key or the next of an even one. */
+static void read_ends(hot_handle *handle, uint64_t *state) {
+    unsigned number = 1 + next(state) % (NUMBERS / 2 - 1) * 2;
+    key at = key_of(number);
+    hot_pair pair;
+    CHECK(hot_first(handle, at.bytes, at.length, &pair) == HOT_FOUND);
+    CHECK((number_of(&pair) | 1) == number || number_of(&pair) == number + 1);
+    CHECK(hot_last(handle, at.bytes, at.length, &pair) == HOT_FOUND);
+    CHECK((number_of(&pair) | 1) == number);
+    CHECK(hot_first(handle, at.bytes, 0, &pair) == HOT_FOUND && number_of(&pair) == 0);
+}
+
+static uint64_t all_of(hot_states states) {
+    return (uint64_t)states.free + states.held + states.live + states.obsolete;
+}
+
+static void read_counts(hot_handle *handle, const hot_stock *stock) {
+    hot_counts counts;
+    CHECK(hot_census(handle, &counts) == HOT_DONE);
+    CHECK(all_of(counts.nodes) == stock->nodes && all_of(counts.short_leaves) == stock->short_leaves);
+    CHECK(all_of(counts.medium_leaves) == stock->medium_leaves && all_of(counts.large_leaves) == stock->large_leaves);
+    CHECK(all_of(counts.wide_leaves) == stock->wide_leaves && all_of(counts.long_leaves) == stock->long_leaves);
+}
+
+typedef struct worker {
+    hot_handle *handle;
+    const hot_stock *stock;
+    uint64_t state;
+    unsigned half;
+} worker;
+
+static void *read_all(void *given) {
+    worker *me = given;
+    int round;
+    for (round = 0; round < ROUNDS; round++) {
+        read_many(me->handle, &me->state);
+        read_scans(me->handle, &me->state);
+        read_prefix(me->handle, &me->state);
+        read_ends(me->handle, &me->state);
+        read_counts(me->handle, me->stock);
+    }
+    return NULL;
+}
+
+/* Whether a change is to be made again: no record was free, but the other threads' calls hold some. */
+static int is_full(hot_status status) {
+    int full = status == HOT_FULL_NODES || status == HOT_FULL_LEAVES;
+    if (full)
+        sched_yield();
+    return full;
+}
+
+/* Adds one to a value that both writers count with, whatever it was. */
+static void add_one(hot_handle *handle) {
+    uint64_t seen = 0;
+    hot_status status;
+    do
+        status = hot_exchange(handle, (const uint8_t *)"~", 1, seen, seen + 1, &seen);
+    while (status == HOT_DIFFERS || is_full(status));
+    CHECK(status == HOT_EXCHANGED);
+}
+
+/* Puts a key in. */
+static void put_in(hot_handle *handle, unsigned number) {
+    key at = key_of(number);
+    uint64_t had;
+    hot_status status;
+    do
+        status = hot_insert(handle, at.bytes, at.length, number, &had);
+    while (is_full(status));
+    CHECK(status == HOT_INSERTED);
+}
+
+/* Takes a key out. */
+static void take_out(hot_handle *handle, unsigned number) {
+    key at = key_of(number);
+    uint64_t had = 0;
+    hot_status status;
+    do
+        status = hot_remove_if(handle, at.bytes, at.length, number, &had);
+    while (is_full(status));
+    CHECK(status == HOT_REMOVED && had == number);
+}
+
+/* Gives a key that stays another value with the same low part. */
+static void overwrite(hot_handle *handle, unsigned number, uint64_t round) {
+    key at = key_of(number);
+    uint64_t had = 0;
+    hot_status status;
+    do
+        status = hot_upsert(handle, at.bytes, at.length, round << 16 | number, &had);
+    while (is_full(status));
+    CHECK(status == HOT_WAS && (had & LOW) == number);
+}
+
+/* Puts keys of odd numbers of its own in and takes them out again: whether each is there is what it did last. */
+static void *change_all(void *given) {
+    static uint8_t is_in[2][NUMBERS];
+    worker *me = given;
+    uint8_t *in = is_in[me->half];
+    int round;
+    for (round = 0; round < CHANGES; round++) {
+        unsigned number = next(&me->state) % (NUMBERS / 4) * 4 + 1 + 2 * me->half;
+        if (in[number])
+            take_out(me->handle, number);
+        else
+            put_in(me->handle, number);
+        in[number] = !in[number];
+        overwrite(me->handle, next(&me->state) % (NUMBERS / 2) * 2, (uint64_t)round);
+        if (round < ADDS)
+            add_one(me->handle);
+    }
+    for (round = 0; round < NUMBERS; round++) {
+        key at = key_of((unsigned)round);
+        uint64_t value = 0;
+        if (in[round])
+            CHECK(hot_get(me->handle, at.bytes, at.length, &value) == HOT_FOUND && value == (uint64_t)round);
+    }
+    return NULL;
+}
+
+static void test_readers(void) {
+    static const hot_stock stock = {600, 500, 500, 500, 500, 500};
+    static void *(*const does[4])(void *) = {change_all, change_all, read_all, read_all};
+    hot_handle handles[4] = {HOT_HANDLE, HOT_HANDLE, HOT_HANDLE, HOT_HANDLE};
+    worker workers[4];
+    pthread_t threads[4];
+    uint64_t had = 0;
+    unsigned i;
+    CHECK(hot_create_with(&stock, handles, 4) == HOT_DONE);
+    for (i = 0; i < NUMBERS; i += 2)
+        put_in(&handles[0], i);
+    CHECK(hot_insert(&handles[0], (const uint8_t *)"~", 1, 0, &had) == HOT_INSERTED);
+    for (i = 0; i < 4; i++) {
+        workers[i].handle = &handles[i];
+        workers[i].stock = &stock;
+        workers[i].state = 88172645463325252u + i;
+        workers[i].half = i % 2;
+        CHECK(pthread_create(&threads[i], NULL, does[i], &workers[i]) == 0);
+    }
+    for (i = 0; i < 4; i++)
+        CHECK(pthread_join(threads[i], NULL) == 0);
+    CHECK(hot_get(&handles[0], (const uint8_t *)"~", 1, &had) == HOT_FOUND && had == 2 * ADDS);
+    for (i = 0; i < 4; i++)
+        CHECK(hot_destroy(&handles[i]) == HOT_DONE);
+}
+
+/* Second test: each thread keeps how often it added each key, less how often it removed it. Together that is 1 where the key is there in
+ * the end, and 0 where it is not; and each value that was told has the number of its key. */
+#define CROWD_KEYS 500
+#define CROWD_CALLS 5000
+
+typedef struct member {
+    hot_handle *handle;
+    unsigned keys;
+    uint64_t state;
+    int held[CROWD_KEYS];
+} member;
+
+static void *crowd(void *given) {
+    member *me = given;
+    int turn;
+    for (turn = 0; turn < CROWD_CALLS; turn++) {
+        unsigned number = next(&me->state) % me->keys;
+        uint64_t value = (uint64_t)turn << 16 | number, had = number;
+        key at = key_of(number);
+        hot_status status;
+        switch (next(&me->state) % 4) {
+        case 0:
+            status = hot_try_insert(me->handle, at.bytes, DIGITS, value, &had);
+            break;
+        case 1:
+            status = hot_try_upsert(me->handle, at.bytes, DIGITS, value, &had);
+            break;
+        case 2:
+            status = hot_try_remove(me->handle, at.bytes, DIGITS, &had);
+            break;
+        default:
+            status = hot_get(me->handle, at.bytes, DIGITS, &had);
+        }
+        me->held[number] += (status == HOT_INSERTED || status == HOT_NEW) - (status == HOT_REMOVED);
+        CHECK((had & LOW) == number);
+    }
+    return NULL;
+}
+
+/* All keys are there that were added once more than they were removed. They are removed, and then no record is in use. */
+static void judge(hot_handle *handle, const member *members, unsigned keys, unsigned nodes, unsigned leaves) {
+    hot_counts counts;
+    uint64_t had;
+    uint32_t given[2];
+    unsigned i, there = 0;
+    CHECK(hot_collect(handle, &given[0], &given[1]) == HOT_DONE && hot_census(handle, &counts) == HOT_DONE);
+    for (i = 0; i < keys; i++) {
+        key at = key_of(i);
+        int held = members[0].held[i] + members[1].held[i] + members[2].held[i] + members[3].held[i];
+        CHECK(held == 0 || held == 1);
+        CHECK(hot_remove(handle, at.bytes, DIGITS, &had) == (held ? HOT_REMOVED : HOT_ABSENT));
+        there += (unsigned)held;
+    }
+    CHECK(counts.long_leaves.live == there && counts.long_leaves.held == 0 && counts.nodes.held == 0);
+    CHECK(hot_collect(handle, &given[0], &given[1]) == HOT_DONE && hot_census(handle, &counts) == HOT_DONE);
+    CHECK(counts.long_leaves.free == leaves && counts.nodes.free == nodes);
+}
+
+static void test_crowd(unsigned keys, unsigned nodes, unsigned leaves) {
+    static member members[4];
+    hot_handle handles[5] = {HOT_HANDLE, HOT_HANDLE, HOT_HANDLE, HOT_HANDLE, HOT_HANDLE};
+    pthread_t threads[4];
+    unsigned i;
+    CHECK(hot_create(nodes, leaves, handles, 5) == HOT_DONE);
+    for (i = 0; i < 4; i++) {
+        memset(&members[i], 0, sizeof members[i]);
+        members[i].handle = &handles[i];
+        members[i].keys = keys;
+        members[i].state = 2463534242u + i;
+        CHECK(pthread_create(&threads[i], NULL, crowd, &members[i]) == 0);
+    }
+    for (i = 0; i < 4; i++) {
+        CHECK(pthread_join(threads[i], NULL) == 0);
+        CHECK(hot_destroy(&handles[i]) == HOT_DONE);
+    }
+    judge(&handles[4], members, keys, nodes, leaves);
+    CHECK(hot_destroy(&handles[4]) == HOT_DONE);
+}
+
+/* Third test: four threads that wait insert as many keys as there are leaves. */
+#define ALL 400
+
+static void *insert_fourth(void *given) {
+    worker *me = given;
+    unsigned i;
+    for (i = me->half; i < ALL; i += 4)
+        put_in(me->handle, i);
+    return NULL;
+}
+
+static void test_filling(void) {
+    hot_handle handles[4] = {HOT_HANDLE, HOT_HANDLE, HOT_HANDLE, HOT_HANDLE};
+    static hot_pair pairs[ALL];
+    worker workers[4];
+    pthread_t threads[4];
+    size_t count = 0;
+    uint32_t more = 1;
+    unsigned i;
+    CHECK(hot_create(1000, ALL, handles, 4) == HOT_DONE);
+    for (i = 0; i < 4; i++) {
+        workers[i].handle = &handles[i];
+        workers[i].half = i;
+        CHECK(pthread_create(&threads[i], NULL, insert_fourth, &workers[i]) == 0);
+    }
+    for (i = 0; i < 4; i++)
+        CHECK(pthread_join(threads[i], NULL) == 0);
+    CHECK(hot_scan_prefix(&handles[0], NULL, 0, NULL, pairs, ALL, &count, &more) == HOT_DONE && count == ALL && !more);
+    for (i = 0; i < ALL; i++)
+        CHECK(number_of(&pairs[i]) == i);
+    for (i = 0; i < 4; i++)
+        CHECK(hot_destroy(&handles[i]) == HOT_DONE);
+}
+
+int main(void) {
+    /* Keys, nodes and leaves: room for all; more keys than leaves; one node, which comes and goes. */
+    static const unsigned crowds[5][3] = {{500, 60, 520}, {12, 16, 8}, {5, 1, 16}, {3, 1, 2}, {2, 1, 1}};
+    unsigned i;
+    test_readers();
+    for (i = 0; i < 5; i++)
+        test_crowd(crowds[i][0], crowds[i][1], crowds[i][2]);
+    test_filling();
+    if (!failures)
+        puts("passed: threads that read by each call while others change keys of all lengths, and threads where few records are to spare");
+    return failures;
+}
