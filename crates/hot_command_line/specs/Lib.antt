@@ -1,3 +1,4 @@
 -- The definitions of the crate.
 pub mod Endings
+pub mod Files
 pub mod Options

@@ -14,7 +14,9 @@ use clap::{Arg, ArgAction, Command, value_parser};
 use hot_scripts::fault::RunFault;
 use hot_scripts::script::MAX_FILES;
 use record_words::{MAX_LEAVES, MAX_NODES};
-use std::alloc::Global;
+use std::alloc::{AllocError, Global};
+use std::rt::Env;
+use std::{env, io};
 
 /// What the command line asks for.
 #[derive(Drop)]
@@ -39,6 +41,17 @@ impl From<clap::Error> for Ending {
         } else {
             Ending::Usage
         }
+    }
+}
+
+/// The words of the command line, the program's name first.
+pub fn words<R: Env + AllocGlobal>(rt: &R) -> Result<Vec<String>, Ending>
+    ensures { IfErr result (λ ending. (ending ≡ Usage) ⊎ (ending ≡ Fault Memory)) }
+{
+    match env::args(rt) {
+        Ok(words) => Ok(words.collect(rt.alloc())?),
+        Err(error) if error.kind() == io::ErrorKind::OutOfMemory => Err(Ending::from(AllocError)),
+        Err(_) => Err(Ending::Usage),
     }
 }
 

@@ -1,5 +1,7 @@
-//! The command line of the program `hot-run`, and what the program says where it ends without its answers.
+//! What the program `hot-run` is given by its command line: its numbers, and the scripts in files that it names. And what the program
+//! says where it ends without its answers.
 #![tactic(auto)]
 
 pub mod arguments;
 pub mod ending;
+pub mod files;

@@ -1,75 +1,63 @@
 //! The program `hot-run`: answers the script on standard input, after those in files at the same time.
 #![tactic(auto)]
 
-mod files;
+ghost use Rattle.std.specs.Prelude.{◌≡◌, ◌≢◌, IfErr, OnOk, map, string_bytes};
+ghost use Rattle.hot_scripts.specs.declared.fault.RunFault.TheVariants.{Write as WriteFault};
+ghost use Rattle.hot_command_line.specs.declared.ending.Ending.TheVariants.{Fault};
+ghost use Rattle.hot_run_cli.specs.Asked.{IsAnsweredAsAsked, MayEndAsAsked};
 
-use hot_command_line::arguments::{Request, parse};
+use hot_command_line::arguments::{parse, words};
 use hot_command_line::ending::Ending;
-use hot_run::{RunFault, run_one, run_scripts};
-use std::alloc::AllocError;
+use hot_command_line::files::{Disk, FileSystem, read_files};
+use hot_run::{run_one, run_scripts};
 use std::io;
-use std::io::ErrorKind;
+use std::io::{Read, Write};
 use std::process::ExitCode;
 use std::rt::{Env, Files};
 use std::sync::Wait;
 use std::thread::Threads;
 
-/// The words of the command line, the program's name first.
-fn words<R: Env + AllocGlobal>(rt: &R) -> Result<Vec<String>, Ending> {
-    match std::env::args(rt) {
-        Ok(words) => Ok(words.collect(rt.alloc())?),
-        Err(error) if error.kind() == ErrorKind::OutOfMemory => Err(Ending::from(AllocError)),
-        Err(_) => Err(Ending::Usage),
+/// Answers what these words ask for: the script that the reader has, alone, or after the scripts in the files that they name.
+pub fn answer<T, S, R, W>(
+    rt: &T,
+    system: &S,
+    words: &[String],
+    reader: &mut R,
+    writer: &mut W,
+) -> Result<(), Ending>
+where
+    T: AllocGlobal + Wait + Threads + Sync,
+    S: FileSystem,
+    R: Read,
+    W: Write,
+    ensures ok { OnOk result (IsAnsweredAsAsked S.bytes (map string_bytes words.now) (R.remaining reader.old) (R.remaining reader.new)
+        (W.contents writer.old) (W.contents writer.new)) }
+
+    // A fault of the run is one that the scripts have.
+    ensures fault { IfErr result (MayEndAsAsked S.bytes (map string_bytes words.now) (R.remaining reader.old) (R.remaining reader.new)) }
+
+    // Nothing was written but where a write failed.
+    ensures nothing { IfErr result (λ ending. ending ≢ Fault WriteFault → writer.new ≡ writer.old) }
+{
+    let request = parse(rt.alloc(), words)?;
+    let (nodes, leaves) = (request.nodes, request.leaves);
+    if request.files.is_empty() {
+        run_one(rt, rt.alloc(), nodes, leaves, reader, writer)?;
+        return Ok(());
     }
+    let files = read_files(rt.alloc(), system, &request.files)?;
+    run_scripts(rt, rt.alloc(), nodes, leaves, files, reader, writer)?;
+    Ok(())
 }
 
-/// Answers standard input on standard output.
-fn answer_one<R>(rt: &R, request: &Request<'_>) -> Result<(), RunFault>
-where
-    R: Input + Print + AllocGlobal + Wait,
-{
-    let (mut reader, mut writer) = (rt.reader(), io::writer(rt));
-    run_one(
-        rt,
-        rt.alloc(),
-        request.nodes,
-        request.leaves,
-        &mut reader,
-        &mut writer,
-    )
-}
-
-/// Answers the files and then standard input on standard output.
-fn answer_files<R>(rt: &R, request: &Request<'_>) -> Result<(), RunFault>
-where
-    R: Files + Input + Print + AllocGlobal + Wait + Threads + Sync,
-{
-    let files = files::read_files(rt, rt.alloc(), &request.files)?;
-    let (mut reader, mut writer) = (rt.reader(), io::writer(rt));
-    run_scripts(
-        rt,
-        rt.alloc(),
-        request.nodes,
-        request.leaves,
-        files,
-        &mut reader,
-        &mut writer,
-    )
-}
-
-/// Answers what the command line asks for.
+/// Answers what the command line asks for, from standard input and the machine's files to standard output.
 fn run<R>(rt: &R) -> Result<(), Ending>
 where
     R: Env + Files + Input + Print + AllocGlobal + Wait + Threads + Sync,
 {
     let words = words(rt)?;
-    let request = parse(rt.alloc(), &words)?;
-    if request.files.is_empty() {
-        answer_one(rt, &request)?;
-    } else {
-        answer_files(rt, &request)?;
-    }
-    Ok(())
+    let (mut reader, mut writer) = (rt.reader(), io::writer(rt));
+    answer(rt, &Disk { rt }, &words, &mut reader, &mut writer)
 }
 
 fn main(rt: HostRuntime) -> ExitCode {

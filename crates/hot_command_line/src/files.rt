@@ -1,0 +1,88 @@
+//! Scripts in files.
+
+ghost use Rattle.std.specs.Prelude.{◌≡◌, IfErr, IfOk, length, map};
+ghost use Rattle.hot_command_line.specs.Files.{AreStarts, IsFileFault, IsStartOf};
+
+use hot_scripts::fault::RunFault;
+use hot_scripts::script::MAX_SCRIPT;
+use std::alloc::Global;
+use std::fs::File;
+use std::io::{ErrorKind, Read};
+use std::rt::Files;
+
+/// Where files stand, each under a name.
+pub trait FileSystem {
+    ghost use Rattle.std.specs.Prelude.{◌≡◌, ℕ, List, Option as Maybe, Some, IfErr, IfOk, IfSome};
+
+    /// A file that was opened.
+    type Opened: Read + Drop;
+
+    /// The bytes of the file of a name, where they are known.
+    ghost bytes: { List ℕ → Maybe (List ℕ) };
+
+    /// The file of a name, to be read from its first byte on.
+    fn open(&self, name: &str) -> Result<Self::Opened, RunFault>
+        ensures fault { IfErr result (λ fault. fault ≡ RunFault.Read) }
+        ensures file { IfOk result (λ file. IfSome (bytes name.now) (λ all. Self.Opened.Read.remaining file ≡ Some all)) };
+}
+
+/// The files of the machine, of whose bytes nothing is known.
+#[derive(Drop)]
+pub struct Disk<'a, R> {
+    /// What reaches them.
+    pub rt: &'a R,
+}
+
+impl<R: Files> FileSystem for Disk<'_, R> {
+    ghost use Rattle.std.specs.Prelude.{None};
+
+    type Opened = R::File;
+
+    ghost bytes = { λ _. None };
+
+    fn open(&self, name: &str) -> Result<R::File, RunFault> {
+        File::open(self.rt, name).map_err(|_| RunFault::Read)
+    }
+}
+
+/// The first bytes that a reader has: all, or one more than a script may have, which shows that it is too long.
+fn read_start<R: Read + Drop>(alloc: Global, reader: R) -> Result<Vec<u8>, RunFault>
+    ensures fault { IfErr result IsFileFault }
+    ensures start { IfOk result (λ bytes. IsStartOf (R.remaining reader) bytes.items) }
+{
+    let mut bytes = Vec::new(alloc);
+    let mut start = reader.take(MAX_SCRIPT as u64 + 1);
+    match start.read_to_end(&mut bytes) {
+        Ok(_) => Ok(bytes),
+        Err(error) if error.kind() == ErrorKind::OutOfMemory && error.raw_os_error().is_none() => {
+            Err(RunFault::Memory)
+        }
+        Err(_) => Err(RunFault::Read),
+    }
+}
+
+/// The script in a file, as far as `read_start` reads it.
+fn read_file<S: FileSystem>(alloc: Global, system: &S, name: &str) -> Result<Vec<u8>, RunFault>
+    ensures fault { IfErr result IsFileFault }
+    ensures start { IfOk result (λ bytes. IsStartOf (S.bytes name.now) bytes.items) }
+{
+    let file = system.open(name)?;
+    read_start(alloc, file)
+}
+
+/// The scripts in files of these names, in order: of each all its bytes, or one more than a script may have.
+pub fn read_files<S: FileSystem>(
+    alloc: Global,
+    system: &S,
+    names: &[&str],
+) -> Result<Vec<Vec<u8>>, RunFault>
+    ensures fault { IfErr result IsFileFault }
+    ensures count { IfOk result (λ files. length files.items ≡ length names.now) }
+    ensures starts { IfOk result (λ files. AreStarts S.bytes (map (λ name. name.now) names.now) (map (λ file. file.items) files.items)) }
+{
+    let mut files = Vec::new(alloc);
+    for name in names {
+        files.push(read_file(alloc, system, name)?)?;
+    }
+    Ok(files)
+}

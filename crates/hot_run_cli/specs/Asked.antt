@@ -1,0 +1,52 @@
+-- What the program answers.
+use Rattle.std.specs.Prelude.{◌≡◌, ℕ, List, [], ◌∷◌, map, Option}
+use Rattle.std.specs.Io.KnownBytes.{Appends}
+use Rattle.hot_scripts.specs.declared.fault.RunFault.{RunFault}
+use Rattle.hot_scripts.specs.declared.fault.RunFault.TheVariants.{Read, Memory}
+use Rattle.hot_index.specs.Traces.{untold}
+use Rattle.hot_command_line.specs.declared.ending.Ending.{Ending}
+use Rattle.hot_command_line.specs.declared.ending.Ending.TheVariants.{Usage, Fault}
+use Rattle.hot_command_line.specs.Files.{AreStarts}
+use Rattle.hot_command_line.specs.Options.{IsAsked}
+use Rattle.hot_run.specs.Runs.{IsAnsweredScript, MayEndBy, TakesAll}
+use Rattle.hot_run.specs.Scripts.{LawfulScripts, MayEndScriptsBy}
+
+-- The text answers the script alone, where no files are named; else the scripts in the files, and the script after them. `bytes` are
+-- those of the file of a name, where they are known.
+abbrev pub AnswersAll : (List ℕ → Option (List ℕ)) → List (List ℕ) → ℕ → ℕ → List ℕ → List ℕ → Type 0
+AnswersAll bytes [] nodes leaves script text = IsAnsweredScript nodes leaves script text
+AnswersAll bytes (name ∷ names) nodes leaves script text =
+    (files : List (List ℕ)) × AreStarts bytes (name ∷ names) files × LawfulScripts nodes leaves untold (map (λ f. tt) files) files script text
+
+-- What these words ask for was answered: the script is all that the reader had, and the answers were written behind what stood there.
+-- `old` and `new` are what the reader has left, `before` and `after` what was written, where that is known.
+pub record IsAnsweredAsAsked (bytes : List ℕ → Option (List ℕ)) (words : List (List ℕ)) (old new before after : Option (List ℕ)) : Type 0 where
+  pub nodes : ℕ
+  pub leaves : ℕ
+  pub names : List (List ℕ)
+  pub asked : IsAsked words nodes leaves names
+  pub script : List ℕ
+  pub text : List ℕ
+  pub taken : TakesAll old new script
+  pub answered : AnswersAll bytes names nodes leaves script text
+  pub written : Appends before after text
+
+-- such a run may end by this fault
+abbrev pub MayEndAllBy : (List ℕ → Option (List ℕ)) → List (List ℕ) → Option (List ℕ) → Option (List ℕ) → RunFault → Type 0
+MayEndAllBy bytes [] old new fault = MayEndBy old new fault
+MayEndAllBy bytes (name ∷ names) old new fault = (files : List (List ℕ)) × AreStarts bytes (name ∷ names) files × MayEndScriptsBy files old new fault
+
+-- a fault of the run that these words ask for
+pub record HasFaultAsAsked (bytes : List ℕ → Option (List ℕ)) (words : List (List ℕ)) (old new : Option (List ℕ)) (fault : RunFault) : Type 0 where
+  pub nodes : ℕ
+  pub leaves : ℕ
+  pub names : List (List ℕ)
+  pub asked : IsAsked words nodes leaves names
+  pub ended : MayEndAllBy bytes names old new fault
+
+-- It may end without answers where the words are refused, a read fails or memory is refused; else by a fault of the run.
+abbrev pub MayEndAsAsked : (List ℕ → Option (List ℕ)) → List (List ℕ) → Option (List ℕ) → Option (List ℕ) → Ending → Type 0
+MayEndAsAsked bytes words old new Usage = Unit {0}
+MayEndAsAsked bytes words old new (Fault Read) = Unit {0}
+MayEndAsAsked bytes words old new (Fault Memory) = Unit {0}
+MayEndAsAsked bytes words old new (Fault fault) = HasFaultAsAsked bytes words old new fault
