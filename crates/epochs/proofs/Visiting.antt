@@ -4,6 +4,7 @@ use Rattle.std.specs.Prelude.{count_by}
 use Rattle.std.proofs.lemmas.List.{append_assoc, append-nil}
 use Rattle.std.proofs.lemmas.List.Sums.{sum_by-append}
 use Rattle.record_words.specs.declared.layout.Layout.{Layout}
+use Rattle.record_words.specs.Layout.{leaf_size, leaf_start}
 use Rattle.record_words.specs.declared.state.Tag.TheVariants.{Obsolete}
 use Rattle.record_words.specs.State.{state_word}
 use Rattle.moments.specs.declared.Rec.{Rec}
@@ -20,6 +21,12 @@ use Rattle.rowex_table.proofs.Running.{in_turn_more, does_none}
 use Rattle.epochs.specs.Runs.{collecting}
 use Rattle.epochs.specs.Rounds.{Visits, VisitEach, has_given, VisitsOne, VisitsAll, VisitsSome}
 use Rattle.epochs.proofs.Doing.{does_one, collects, collects_look, collects_append}
+
+-- Where records begin
+
+-- a leaf record begins where the one before ends
+pub next_start : (layout : Layout) (n start size : ℕ) → start ≡ leaf_start layout n → size ≡ leaf_size layout n → start + size ≡ leaf_start layout (n + 1)
+next_start layout n start size begins sized = grind arith
 
 -- One visit
 

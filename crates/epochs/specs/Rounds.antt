@@ -103,6 +103,11 @@ abbrev pub VisitsAll : {G : Type 0} → TableView → (G → Event → G → Typ
 VisitsAll table becomes bound kind n given a b =
     (acts : List Act) × InTurn (λ m. Visits bound (kind m)) n acts × Does table becomes collecting acts a b × (given ≡ count_by has_given acts)
 
+-- visits that go on after those of the first n records of a kind, so that then those of the first m are made
+abbrev pub VisitsOn : {G : Type 0} → TableView → (G → Event → G → Type 0) → ℕ → (ℕ → Rec) → (n given m more : ℕ) → SeatView × G → SeatView × G → Type 0
+VisitsOn {G = G} table becomes bound kind n given m more b c =
+    (a : SeatView × G) → VisitsAll table becomes bound kind n given a b → VisitsAll table becomes bound kind m more a c
+
 -- visits of some records, so many at most
 abbrev pub VisitsSome : {G : Type 0} → TableView → (G → Event → G → Type 0) → ℕ → ℕ → SeatView × G → SeatView × G → Type 0
 VisitsSome table becomes bound most a b =

@@ -2,12 +2,13 @@
 
 ghost use Rattle.std.specs.Prelude.{◌≡◌, ◌≢◌, ℕ, ◌+◌, ◌^◌, ◌<◌, ◌≤◌, List, None, true, false, length, min, if◌then◌else◌, MatchOption};
 ghost use Rattle.record_words.specs.declared.state.Tag.TheVariants.{Obsolete};
+ghost use Rattle.record_words.specs.Layout.{leaf_size};
 ghost use Rattle.record_words.specs.State.{state_word};
 ghost use Rattle.moments.specs.declared.Rec.TheVariants.{Node as a_node, Leaf as a_leaf};
 ghost use Rattle.rowex_core.specs.Cores.{HasRecord};
 ghost use Rattle.rowex_table.specs.Rule.{IsStartOf};
 ghost use Rattle.rowex_table.specs.Seats.{IsSeatOf};
-ghost use Rattle.epochs.specs.Rounds.{AdvancesEpoch, BeginsRound, FindsBound, HasBound, IsRound, IsSmallRound, VisitsAll, VisitsOne, VisitsSome, is_given};
+ghost use Rattle.epochs.specs.Rounds.{AdvancesEpoch, BeginsRound, FindsBound, HasBound, IsRound, IsSmallRound, VisitsAll, VisitsOn, VisitsOne, VisitsSome, is_given};
 
 use crate::limbo::{Limbo, MOST_VISITED};
 use record_words::{EPOCHS, Layout, Tag, unpack_state};
@@ -169,11 +170,43 @@ fn visit_leaves<G: Gate>(table: &HotTable, seat: &mut TableSeat, gate: &mut G, b
         held_back: false,
     };
     let layout = table.layout();
-    let mut start = layout.leaf(0);
-    for number in 0..layout.leaves {
+    let mut first = 0;
+    while first < layout.leaves {
+        let end = layout.class_end(first);
+        tally = visit_class(table, seat, gate, bound, first, end, tally);
+        first = end;
+    }
+    tally
+}
+
+/// Visits the leaf records from one number on and below another, all of one class, so each begins equally far behind the one
+/// before; answers the tally with those that were visited before.
+fn visit_class<G: Gate>(
+    table: &HotTable,
+    seat: &mut TableSeat,
+    gate: &mut G,
+    bound: u64,
+    first: u32,
+    end: u32,
+    before: Tally,
+) -> Tally
+    requires own { IsSeatOf table.now seat.old }
+    requires bound { HasBound table.now.layout.passes bound seat.old.known }
+    requires range { (first ≤ end) × (end ≤ table.now.layout.leaves) }
+    requires class { (q : ℕ) → first ≤ q → q < end → leaf_size table.now.layout q ≡ leaf_size table.now.layout first }
+    requires few { before.given ≤ first }
+    ensures same { (seat.new.known.pin ≡ seat.old.known.pin) × (seat.new.known.round ≡ seat.old.known.round) }
+    ensures few { result.given ≤ end }
+    ensures steps { VisitsOn table.now G.becomes bound a_leaf first before.given end result.given (seat.old, gate.old) (seat.new, gate.new) }
+{
+    let layout = table.layout();
+    let size = layout.leaf_size(first);
+    let mut start = layout.leaf(first);
+    let mut tally = before;
+    for number in first..end {
         let seen = visit(table, seat, gate, Rec::Leaf(number), start, bound);
         tally = counted(tally, seen);
-        start = layout.leaf_behind(number, start);
+        start += size;
     }
     tally
 }

@@ -1,0 +1,32 @@
+-- One record more, and all of them.
+use Rattle.std.proofs.Common.{rules, arith, subst, sym, ◌∙◌, ◌≡◌}
+use Rattle.moments.specs.declared.Rec.TheVariants.{Leaf as a_leaf}
+use Rattle.epochs.specs.Rounds.{is_given, VisitsOn}
+use Rattle.epochs.proofs.Visiting.{next_start, one_most, visits_more}
+use Rattle.epochs.proofs.collection.visit_class.Goals as goal
+
+pub loop-number-init : goal.loop-number-init
+loop-number-init g c = record {
+  own = search rules;
+  same = search rules;
+  start = rw c.layout-layout.ensures at c.leaf-start.ensures;
+  few = search rules;
+  steps = λ a all. all;
+}
+
+pub loop-number-preserved : goal.loop-number-preserved
+loop-number-preserved g c = record {
+  own = search rules;
+  same = search rules;
+  start =
+      next_start c.args.table.now.layout c.loop-number.number c.loop-number.start c.leaf_size-size.result c.loop-number.invariant.start
+      (rw c.layout-layout.ensures at c.leaf_size-size.ensures.size ∙ sym (c.requires.class c.loop-number.number c.loop-number.auto.number c.loop-number-test.true));
+  few = omega (arith, c.counted-tally.ensures.given, one_most (is_given c.visit-seen.result));
+  steps = λ a all. visits_more _ _ _ a_leaf _ _ _ _ _ _ _ (c.loop-number.invariant.steps a all) c.visit-seen.ensures.steps c.counted-tally.ensures.given;
+}
+
+pub returns-clause-steps : goal.returns-clause-steps
+returns-clause-steps g c =
+    let done : c.loop-number.number ≡ c.args.end = omega arith in
+    subst (λ n. VisitsOn c.args.table.now g.G.Gate.becomes c.args.bound a_leaf c.args.first c.args.before.given n c.loop-number.tally.given (c.args.seat.now, c.args.gate.now) (c.loop-number.seat, c.loop-number.gate)) done
+    c.loop-number.invariant.steps
