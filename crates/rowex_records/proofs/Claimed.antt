@@ -1,9 +1,10 @@
 -- What claims of records come to.
-use Rattle.std.proofs.Common.{◌≡◌, ◌≢◌, ℕ, zero, suc, ◌+◌, ◌-◌, ◌<◌, ◌≤◌, min, inl, inr, List, [], ◌∷◌, ◌++◌, length, Option, Bool, true, false, nat_lt, nat_eq, if◌then◌else◌, refl, sym, ap, subst, ◌∙◌, arith, length-append}
+use Rattle.std.proofs.Common.{◌≡◌, ◌≢◌, ℕ, zero, suc, ◌+◌, ◌-◌, ◌<◌, ◌≤◌, min, inl, inr, List, [], ◌∷◌, ◌++◌, length, Option, Bool, true, false, nat_lt, nat_eq, if◌then◌else◌, refl, sym, ap, subst, ◌∙◌, arith, add-zero, length-append}
 use Rattle.std.specs.Prelude.{All, Contains, IfNone, MatchOption, Some, None}
 use Rattle.std.proofs.lemmas.Bool.{eqb-true, eqb-false, ltb-true, ltb-false, lt-ltb, le-ltb}
 use Rattle.std.proofs.lemmas.List.Elements.{All-contains, All-weaker}
 use Rattle.record_words.specs.declared.layout.Layout.{Layout}
+use Rattle.record_words.specs.Layout.{leaf_size, leaf_start}
 use Rattle.record_words.specs.State.{state_word}
 use Rattle.moments.specs.declared.Rec.{Rec}
 use Rattle.moments.specs.Core.{Fate, Free, Held as HeldBy, Ready as ReadyBy, InTree, Unlinked, Marked}
@@ -30,8 +31,8 @@ use Rattle.rowex_table.proofs.Rights.{free_tag}
 use Rattle.rowex_table.proofs.Running.{in_turn_more, does_count}
 use Rattle.rowex_records.specs.declared.claiming.RecordKind.{RecordKind}
 use Rattle.rowex_records.specs.declared.claiming.RecordKind.TheVariants.{Node, Leaf}
-use Rattle.rowex_records.specs.Claims.{claiming, begin_of, count_of, record_of, wrapped, HasIndex, IsKindOf, Misses, HasMissedSince, MissesOne, HoldsOneMore, ClaimsOne, FindsNone, Claims, AllMissed}
-use Rattle.rowex_records.specs.Starts.{first_word}
+use Rattle.rowex_records.specs.Claims.{claiming, begin_of, count_of, record_of, wrapped, HasIndex, IsKindOf, Misses, HasMissedSince, MissesOne, HoldsOneMore, ClaimsOne, FindsNone, Claims, AllMissed, TriesOn}
+use Rattle.rowex_records.specs.Starts.{IsRow, first_word}
 use Rattle.rowex_records.proofs.Making.{counted, claims_nothing, claims_one, looks_one, claims_append}
 
 -- Numbers in turn
@@ -65,9 +66,13 @@ turned_none n from = go (nat_lt (begin_of n from + 0) n) refl
         few true e high = let low = begins_low n from (ltb-true 0 n e) in absurd (omega arith)
         few false e high = let low = ltb-false 0 n e in omega arith
 
--- the number behind that of a turn is the one of the turn behind
-pub turned_on : (n from m : ℕ) → from < n → m < n → wrapped n (wrapped n from m) 1 ≡ wrapped n from (m + 1)
-turned_on n from m low below = grind arith
+-- the numbers behind that of a turn, up to the last, are those of the turns behind
+pub turned_by : (n from m i : ℕ) → from < n → m + i < n → wrapped n from m + i < n → wrapped n from m + i ≡ wrapped n from (m + i)
+turned_by n from m i low below few = grind arith
+
+-- and the number to begin at behind them is the one of the turn behind them
+pub turned_over : (n from m i : ℕ) → from < n → m < n → m + i ≤ n → wrapped n from m + i ≤ n → begin_of n (wrapped n from m + i) ≡ wrapped n from (m + i)
+turned_over n from m i low some below few = grind arith
 
 -- each number is the one of some turn
 pub turned_to : (n from q : ℕ) → from < n → q < n → (m : ℕ) × (m < n) × (wrapped n from m ≡ q)
@@ -91,6 +96,16 @@ has_index (Leaf first end) layout i low = omega arith
 pub starts_at : (kind : RecordKind) (layout : Layout) (i : ℕ) → IsKindOf kind layout → i < count_of kind layout → IsStartOf layout (record_of kind i) (first_word kind layout i)
 starts_at Node layout i is low = (low, omega arith)
 starts_at (Leaf first end) layout i is low = (omega arith, omega arith)
+
+-- and those behind it, where each begins
+leaf_next : (layout : Layout) (n size : ℕ) → leaf_size layout n ≡ size → leaf_start layout (n + 1) ≡ leaf_start layout n + size
+leaf_next layout n size is = grind arith
+
+pub spaced_leaves : (layout : Layout) (first end number upto size : ℕ) → ((q : ℕ) → first + number ≤ q → q < upto → leaf_size layout q ≡ size) → IsRow (Leaf first end) layout number (upto - first - number) size
+spaced_leaves layout first end number upto size same i low =
+    let here : leaf_size layout (first + (number + i)) ≡ size = same (first + (number + i)) (omega arith) (omega arith) in
+    let next : first + (number + (i + 1)) ≡ first + (number + i) + 1 = omega arith in
+    rw next (leaf_next layout (first + (number + i)) size here)
 
 -- One try
 
@@ -289,11 +304,28 @@ module _ {G : Type 0} (table : TableView) (becomes : G → Event → G → Type 
       subst (λ l. HasMissedSince l (kind q) a.0.known.steps) (sym none.failed) (missed_among none.missed a.0.known.failed (kind q) a.0.known.steps
       (subst (λ z. HasMissedSince none.missed (kind z) a.0.known.steps) turn.2 (none.each turn.0 turn.1)))
 
-  -- some that were not free, and then one that was
-  pub claims_next : (kind : ℕ → Rec) (n from begin m number left less : ℕ) (a i b : SeatView × G) → from ≡ begin → m < n → number ≡ wrapped n from m → less + m + 1 ≡ left → FindsNone table becomes kind n from m a i
-      → ClaimsOne table becomes (kind number) i b → (claims : Claims table becomes kind n begin number a b) × (less + claims.tried + 1 ≡ left)
-  claims_next kind n from begin m number left less a i b same low is count none one =
-      subst (λ z. (claims : Claims table becomes kind n z number a b) × (less + claims.tried + 1 ≡ left)) same (record { tried = m; low = low; number_is = is; before = i; none = none; one = one }, count)
+  -- A row of records: none yet, one more, and one that was free
+
+  pub row_none : (kind : ℕ → Rec) (n number : ℕ) (b : SeatView × G) → TriesOn table becomes kind n number 0 None b b
+  row_none kind n number b a from m low fits is none = subst (λ z. FindsNone table becomes kind n from z a b) (sym (add-zero m)) none
+
+  row_at : (n from m number index count : ℕ) → number ≡ wrapped n from m → from < n → m + count ≤ n → index < count → number + count ≤ n → number + index ≡ wrapped n from (m + index)
+  row_at n from m number index count is low fits below few = ap (λ z. z + index) is ∙ turned_by n from m index low (omega arith) (rw (← is) (omega arith))
+
+  pub row_more : (kind : ℕ → Rec) (n number index : ℕ) (a i b : SeatView × G) → number + (index + 1) ≤ n → TriesOn table becomes kind n number index None a i
+      → MissesOne table becomes (kind (number + index)) i b → TriesOn table becomes kind n number (index + 1) None a b
+  row_more kind n number index a i b few tries one c from m low fits is none =
+      let next : m + index + 1 ≡ m + (index + 1) = omega arith in
+      subst (λ z. FindsNone table becomes kind n from z c b) next
+      (finds_more kind n from (m + index) (number + index) c i b (row_at n from m number index (index + 1) is low fits (omega arith) few) (tries c from m low (omega arith) is none) one)
+
+  pub row_claims : (kind : ℕ → Rec) (n number index count : ℕ) (a i b : SeatView × G) → index < count → number + count ≤ n → TriesOn table becomes kind n number index None a i
+      → ClaimsOne table becomes (kind (number + index)) i b → TriesOn table becomes kind n number count (Some index) a b
+  row_claims kind n number index count a i b below few tries one c from m low fits is none = (
+    below,
+    record { tried = m + index; low = omega arith; number_is = row_at n from m number index count is low fits below few; before = i; none = tries c from m low (omega arith) is none; one = one },
+    refl,
+  )
 
   -- where as many may be tried as there are, all are tried
   module _ (kind : ℕ → Rec) (n from left less : ℕ) (a b : SeatView × G) where

@@ -1,5 +1,5 @@
 -- Tries of the records of a kind, from one number on and then from 0.
-use Rattle.std.specs.Prelude.{◌≡◌, ◌≢◌, ℕ, ◌+◌, ◌-◌, ◌<◌, ◌≤◌, ◌*◌, ◌⊎◌, List, [], ◌∷◌, ◌++◌, length, nat_lt, All, Contains, if◌then◌else◌}
+use Rattle.std.specs.Prelude.{◌≡◌, ◌≢◌, ℕ, ◌+◌, ◌-◌, ◌<◌, ◌≤◌, ◌*◌, ◌⊎◌, List, [], ◌∷◌, ◌++◌, length, nat_lt, All, Contains, MatchOption, Option, if◌then◌else◌}
 use Rattle.record_words.specs.declared.layout.Layout.{Layout}
 use Rattle.record_words.specs.Layout.{leaf_size}
 use Rattle.moments.specs.declared.Rec.{Rec}
@@ -117,6 +117,14 @@ pub record Claims {G : Type 0} (table : TableView) (becomes : G → Event → G 
   pub before : SeatView × G
   pub none : FindsNone table becomes kind n from tried a before
   pub one : ClaimsOne table becomes (kind number) before b
+
+-- The pass goes on, after tries that found none free, with so many of the n records from this number on, which follow those; it
+-- answers none, or how many it tried of these before the one that it has claimed.
+abbrev pub TriesOn : {G : Type 0} → TableView → (G → Event → G → Type 0) → (ℕ → Rec) → (n number count : ℕ) → Option ℕ → SeatView × G → SeatView × G → Type 0
+TriesOn {G = G} table becomes kind n number count answer b c =
+    (a : SeatView × G) (from m : ℕ) → from < n → m + count ≤ n → number ≡ wrapped n from m → FindsNone table becomes kind n from m a b →
+    MatchOption answer (FindsNone table becomes kind n from (m + count) a c)
+    (λ index. (index < count) × (claims : Claims table becomes kind n from (number + index) a c) × (claims.tried ≡ m + index))
 
 -- each of the n records of the kind was found not free by one of these, at this step or a later one
 abbrev pub AllMissed : (ℕ → Rec) → ℕ → List Failed → ℕ → Type 0

@@ -1,5 +1,5 @@
 -- Where records begin.
-use Rattle.std.specs.Prelude.{ℕ, ◌+◌}
+use Rattle.std.specs.Prelude.{ℕ, ◌≡◌, ◌+◌, ◌<◌}
 use Rattle.record_words.specs.declared.layout.Layout.{Layout}
 use Rattle.record_words.specs.Layout.{leaf_start, node_start}
 use Rattle.rowex_records.specs.declared.claiming.RecordKind.{RecordKind}
@@ -9,3 +9,7 @@ use Rattle.rowex_records.specs.declared.claiming.RecordKind.TheVariants.{Node, L
 abbrev pub first_word : RecordKind → Layout → ℕ → ℕ
 first_word Node layout i = node_start layout i
 first_word (Leaf first end) layout i = leaf_start layout (first + i)
+
+-- of so many records of a kind, from this number on, each begins so many words before the next one
+abbrev pub IsRow : RecordKind → Layout → (number count size : ℕ) → Type 0
+IsRow kind layout number count size = (i : ℕ) → i < count → first_word kind layout (number + (i + 1)) ≡ first_word kind layout (number + i) + size

@@ -1,12 +1,12 @@
 //! Records claimed, and given up again.
 
-ghost use Rattle.std.specs.Prelude.{◌≡◌, ◌<◌, ◌≤◌, ◌+◌, min, true, false, IfNone, IfSome, MatchOption, All};
+ghost use Rattle.std.specs.Prelude.{◌≡◌, ◌<◌, ◌≤◌, ◌+◌, ◌-◌, min, true, false, IfNone, IfSome, MatchOption, All};
 ghost use Rattle.rowex_core.specs.Cores.{HasRecord};
 ghost use Rattle.rowex_table.specs.Rights.{IsClaimed};
 ghost use Rattle.rowex_table.specs.Rule.{IsStartOf};
 ghost use Rattle.rowex_table.specs.Seats.{IsSeatOf};
-ghost use Rattle.rowex_records.specs.Claims.{AllMissed, Claims, ClaimsOne, FindsNone, MissesNumber, MissesOne, HasIndex, IsKindOf, begin_of, count_of, record_of, wrapped};
-ghost use Rattle.rowex_records.specs.Starts.{first_word};
+ghost use Rattle.rowex_records.specs.Claims.{AllMissed, Claims, ClaimsOne, FindsNone, MissesNumber, MissesOne, HasIndex, IsKindOf, TriesOn, begin_of, count_of, record_of};
+ghost use Rattle.rowex_records.specs.Starts.{IsRow, first_word};
 ghost use Rattle.rowex_records.specs.Records.{GivesUp, GivesUpAll, HoldsJust};
 
 use record_words::{Layout, NODE_WORDS};
@@ -44,20 +44,19 @@ impl RecordKind {
         }
     }
 
-    /// The number behind this one, where 0 comes after the last, and the word at which its record begins; this one's begins at `start`.
-    fn next(self, layout: &Layout, number: u32, start: usize) -> (u32, usize)
+    /// The records from this number on that are as large as the one that has it: the number behind the last of them, and how many
+    /// words each has.
+    fn row_at(self, layout: &Layout, number: u32) -> (u32, usize)
+        requires kind { IsKindOf self layout.now }
         requires low { number < count_of self layout.now }
-        requires start { start ≡ first_word self layout.now number }
-        ensures number { result.0 ≡ wrapped (count_of self layout.now) number 1 }
-        ensures start { result.1 ≡ first_word self layout.now result.0 }
+        ensures upto { (number < result.0) × (result.0 ≤ count_of self layout.now) }
+        ensures row { IsRow self layout.now number (result.0 - number) result.1 }
     {
-        if number + 1 == self.count(*layout) {
-            return (0, self.start_at(layout, 0));
-        }
         match self {
-            RecordKind::Node => (number + 1, start + NODE_WORDS),
-            RecordKind::Leaf { first, .. } => {
-                (number + 1, layout.leaf_behind(first + number, start))
+            RecordKind::Node => (layout.nodes, NODE_WORDS),
+            RecordKind::Leaf { first, end } => {
+                let upto = layout.class_end(first + number).min(end);
+                (upto - first, layout.leaf_size(first + number))
             }
         }
     }
@@ -123,18 +122,48 @@ pub fn claim_within<G: Gate>(
     let all = kind.count(layout);
     let most = all.min(*left);
     let mut number = first(from, all);
-    let mut start = kind.start_at(&layout, number);
-    for tried in 0..most {
-        let rec = kind.record_at(number);
-        if try_record(table, seat, gate, rec, start) {
-            *left -= tried + 1;
-            return Some(number);
+    let mut tried = 0;
+    while tried < most {
+        let (end, size) = kind.row_at(&layout, number);
+        let count = (end - number).min(most - tried);
+        if let Some(index) = claim_in_row(table, seat, gate, kind, number, count, size) {
+            *left -= tried + index + 1;
+            return Some(number + index);
         }
-        let (next, behind) = kind.next(&layout, number, start);
-        number = next;
-        start = behind;
+        tried += count;
+        number = first(number + count, all);
     }
     *left -= most;
+    None
+}
+
+/// Claims the first record of a kind that it finds free, of so many from this number on, each of which begins `size` words behind
+/// the one before; answers how many it tried before that one.
+fn claim_in_row<G: Gate>(
+    table: &HotTable,
+    seat: &mut TableSeat,
+    gate: &mut G,
+    kind: RecordKind,
+    number: u32,
+    count: u32,
+    size: usize,
+) -> Option<u32>
+    requires own { IsSeatOf table.now seat.old }
+    requires kind { IsKindOf kind table.now.layout }
+    requires few { number + count ≤ count_of kind table.now.layout }
+    requires row { IsRow kind table.now.layout number count size }
+    ensures own { IsSeatOf table.now seat.new }
+    ensures low { IfSome result (λ index. index < count) }
+    ensures tries { TriesOn table.now G.becomes (record_of kind) (count_of kind table.now.layout) number count result (seat.old, gate.old) (seat.new, gate.new) }
+{
+    let mut start = kind.start_at(&table.layout(), number);
+    for index in 0..count {
+        let rec = kind.record_at(number + index);
+        if try_record(table, seat, gate, rec, start) {
+            return Some(index);
+        }
+        start += size;
+    }
     None
 }
 
