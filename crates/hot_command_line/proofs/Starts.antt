@@ -3,10 +3,10 @@ use Rattle.std.proofs.Common.{◌≡◌, ℕ, ◌+◌, ◌<◌, List, [], ◌∷
 use Rattle.std.proofs.lemmas.List.{map-append, take_more}
 use Rattle.std.specs.Borrow.{Bor}
 use Rattle.std.specs.Global.{Global}
-use Rattle.hot_command_line.specs.Files.{AreStarts, IsStartOf}
+use Rattle.hot_command_line.specs.Files.{AreStarts, IsFileStart}
 
 -- one more
-AreStarts-push : (bytes : List ℕ → Option (List ℕ)) (names starts : List (List ℕ)) (name start : List ℕ) → AreStarts bytes names starts → IsStartOf (bytes name) start
+AreStarts-push : (bytes : List ℕ → Option (List ℕ)) (names starts : List (List ℕ)) (name start : List ℕ) → AreStarts bytes names starts → IsFileStart (bytes name) start
     → AreStarts bytes (names ++ name ∷ []) (starts ++ start ∷ [])
 AreStarts-push bytes [] [] name start all one = (one, tt)
 AreStarts-push bytes [] (s ∷ starts) name start all one = absurd all
@@ -16,6 +16,6 @@ AreStarts-push bytes (n ∷ names) (s ∷ starts) name start all one = (all.0, A
 -- the next name, and the start of its file
 pub AreStarts-pushed : (bytes : List ℕ → Option (List ℕ)) (names : List (Bor (List ℕ))) (i : ℕ) (d : Bor (List ℕ)) (files pushed : List (Vec ℕ Global)) (file : Vec ℕ Global)
     → i < length names → pushed ≡ files ++ file ∷ [] → AreStarts bytes (map (λ name. name.now) (take i names)) (map (λ v. v.items) files)
-    → IsStartOf (bytes (get_or names i d).now) file.items → AreStarts bytes (map (λ name. name.now) (take (i + 1) names)) (map (λ v. v.items) pushed)
+    → IsFileStart (bytes (get_or names i d).now) file.items → AreStarts bytes (map (λ name. name.now) (take (i + 1) names)) (map (λ v. v.items) pushed)
 AreStarts-pushed bytes names i d files pushed file lt is all one =
     rw (is, take_more names i d lt, map-append, map-append) (AreStarts-push bytes _ _ _ _ all one)

@@ -5,13 +5,13 @@ use Rattle.hot_scripts.specs.declared.fault.RunFault.TheVariants.{Read, Memory}
 use Rattle.hot_scripts.specs.Grammar.{most_bytes}
 
 -- of bytes that are known, the first ones: all, or one more than a script may have
-abbrev pub IsStartOf : Option (List ℕ) → List ℕ → Type 0
-IsStartOf known start = IfSome known (λ all. start ≡ take (most_bytes + 1) all)
+abbrev pub IsFileStart : Option (List ℕ) → List ℕ → Type 0
+IsFileStart known start = IfSome known (λ all. start ≡ take (most_bytes + 1) all)
 
 -- these are the starts of the files of these names, one for each; `bytes` are those of a file, where they are known
 abbrev pub AreStarts : (List ℕ → Option (List ℕ)) → List (List ℕ) → List (List ℕ) → Type 0
 AreStarts bytes [] [] = Unit {0}
-AreStarts bytes (name ∷ names) (start ∷ starts) = IsStartOf (bytes name) start × AreStarts bytes names starts
+AreStarts bytes (name ∷ names) (start ∷ starts) = IsFileStart (bytes name) start × AreStarts bytes names starts
 AreStarts bytes _ _ = ⊥
 
 -- a file can't be opened or read, or memory is refused

@@ -1,7 +1,7 @@
 //! Scripts in files.
 
 ghost use Rattle.std.specs.Prelude.{◌≡◌, IfErr, IfOk, length, map};
-ghost use Rattle.hot_command_line.specs.Files.{AreStarts, IsFileFault, IsStartOf};
+ghost use Rattle.hot_command_line.specs.Files.{AreStarts, IsFileFault, IsFileStart};
 
 use hot_scripts::fault::RunFault;
 use hot_scripts::script::MAX_SCRIPT;
@@ -48,7 +48,7 @@ impl<R: Files> FileSystem for Disk<'_, R> {
 /// The first bytes that a reader has: all, or one more than a script may have, which shows that it is too long.
 fn read_start<R: Read + Drop>(alloc: Global, reader: R) -> Result<Vec<u8>, RunFault>
     ensures fault { IfErr result IsFileFault }
-    ensures start { IfOk result (λ bytes. IsStartOf (R.remaining reader) bytes.items) }
+    ensures start { IfOk result (λ bytes. IsFileStart (R.remaining reader) bytes.items) }
 {
     let mut bytes = Vec::new(alloc);
     let mut start = reader.take(MAX_SCRIPT as u64 + 1);
@@ -64,7 +64,7 @@ fn read_start<R: Read + Drop>(alloc: Global, reader: R) -> Result<Vec<u8>, RunFa
 /// The script in a file, as far as `read_start` reads it.
 fn read_file<S: FileSystem>(alloc: Global, system: &S, name: &str) -> Result<Vec<u8>, RunFault>
     ensures fault { IfErr result IsFileFault }
-    ensures start { IfOk result (λ bytes. IsStartOf (S.bytes name.now) bytes.items) }
+    ensures start { IfOk result (λ bytes. IsFileStart (S.bytes name.now) bytes.items) }
 {
     let file = system.open(name)?;
     read_start(alloc, file)
