@@ -19,15 +19,15 @@ loop-first-init g c =
       up = up_first r;
     }
 
-pub go_down-rows-requires-clause-own : goal.go_down-rows-requires-clause-own
-go_down-rows-requires-clause-own g c = c.loop-first.invariant.own
+pub ways_of-rows-requires-clause-own : goal.ways_of-rows-requires-clause-own
+ways_of-rows-requires-clause-own g c = c.loop-first.invariant.own
 
-pub go_down-rows-requires-clause-pinned : goal.go_down-rows-requires-clause-pinned
-go_down-rows-requires-clause-pinned g c = c.loop-first.invariant.pinned
+pub ways_of-rows-requires-clause-pinned : goal.ways_of-rows-requires-clause-pinned
+ways_of-rows-requires-clause-pinned g c = c.loop-first.invariant.pinned
 
 pub loop-place-init : goal.loop-place-init
 loop-place-init g c =
-    let i = c.loop-first.invariant in let down = c.go_down-rows.ensures in let first = c.loop-first.first in
+    let i = c.loop-first.invariant in let down = c.ways_of-rows.ensures in let first = c.loop-first.first in
     let some : 1 ≤ c.min-count.result = omega (arith, c.min-count.ensures, c.loop-first-test.true) in
     record {
       own = (looks_same down.looks.2).0 ∙ i.own;
@@ -35,7 +35,7 @@ loop-place-init g c =
       room = i.room;
       rows = down.rows;
       up = subst (λ n. HasGone c.args.table.now g.G.Gate.becomes n (first + c.min-count.result) (gets (take n c.args.keys.now) (take n c.loop-first.found))
-          (c.args.seat.now, c.args.gate.now) (c.go_down-rows.new.seat, c.go_down-rows.new.gate)) (let e : first ≡ first + 0 = omega arith in e)
+          (c.args.seat.now, c.args.gate.now) (c.ways_of-rows.new.seat, c.ways_of-rows.new.gate)) (let e : first ≡ first + 0 = omega arith in e)
           (up_down c.min-count.result i.up some down.looks.1 down.looks.2);
     }
 
@@ -49,7 +49,7 @@ pub look_up_along-requires-clause-along : goal.look_up_along-requires-clause-alo
 look_up_along-requires-clause-along g c =
     let keys = c.args.keys.now in let index = c.loop-first.first + c.loop-place.place in
     let low : index < length keys = omega (arith, c.min-count.ensures, c.loop-place-test.true) in
-    rows_along c.loop-place.seat.known keys c.loop-first.first c.loop-place.place c.index-keys-index.result c.go_down-rows.result c.loop-place.invariant.rows
+    rows_along c.loop-place.seat.known keys c.loop-first.first c.loop-place.place c.index-keys-index.result c.ways_of-rows.result c.loop-place.invariant.rows
     (slice_get_read keys (length keys) index c.index-keys-index.result refl low c.index-keys-index.is)
 
 pub loop-place-preserved : goal.loop-place-preserved
@@ -61,7 +61,7 @@ loop-place-preserved g c =
       own = (looks_same s).0 ∙ i.own;
       pinned = subst IsSome (sym (looked_at s).later.pin) i.pinned;
       room = length-set c.loop-place.found index c.look_up_along.result ∙ i.room;
-      rows = rows_later (looked_at s).later keys first c.go_down-rows.result i.rows;
+      rows = rows_later (looked_at s).later keys first c.ways_of-rows.result i.rows;
       up = subst (λ n. HasGone c.args.table.now g.G.Gate.becomes n (first + c.min-count.result) (gets (take n keys) (take n found))
           (c.args.seat.now, c.args.gate.now) (c.look_up_along.new.seat, c.look_up_along.new.gate)) (let e : index + 1 ≡ first + (c.loop-place.place + 1) = omega arith in e)
           (subst (λ z. HasGone c.args.table.now g.G.Gate.becomes (index + 1) (first + c.min-count.result) z (c.args.seat.now, c.args.gate.now) (c.look_up_along.new.seat, c.look_up_along.new.gate))
