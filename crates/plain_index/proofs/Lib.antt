@@ -6,4 +6,5 @@ pub mod InOrder
 pub mod Together
 pub mod AtOnce
 pub mod Gets
+pub mod Giving
 pub mod InTime

@@ -1,8 +1,8 @@
 //! An index of one thread, over a sorted map.
-ghost use Rattle.std.specs.Prelude.{◌≡◌, ℕ, List, [], ◌≤◌, length, take, IfOk, IsOk, OnOk, OnErr};
+ghost use Rattle.std.specs.Prelude.{◌≡◌, ◌≢◌, ℕ, List, [], ◌≤◌, length, take, IfOk, IsOk, OnOk, OnErr};
 ghost use Rattle.finite_map.specs.declared.Call.TheVariants.{Exchange, RemoveIf};
 ghost use Rattle.finite_map.specs.Maps.{map_after, reply_of, map_after_all, replies_of, AddsKey};
-ghost use Rattle.finite_map.specs.Scans.{IsScanOf};
+ghost use Rattle.finite_map.specs.Scans.{IsScanOf, range_of};
 
 use finite_map::{Call, Reply, Scan};
 use key_bits::Key;
@@ -97,7 +97,7 @@ impl PlainIndex {
     }
 
     /// The keys from `from` to `upto`, both included, with their values: the first `limit` of them, in the order of the keys.
-    /// Its cost is that of finding `from` and of the pairs given.
+    /// Its cost is that of finding `from` and of the pairs given, and it is refused memory only where it has a pair to give.
     pub fn scan(
         &self,
         alloc: Global,
@@ -106,6 +106,7 @@ impl PlainIndex {
         limit: usize,
     ) -> Result<Scan, AllocError>
         ensures scan { IfOk result (IsScanOf self.now from.now upto.now limit) }
+        ensures memory { OnErr result (take limit (range_of self.now from.now upto.now) ≢ []) }
     {
         let mut pairs = Vec::new(alloc);
         if from > upto {

@@ -1,7 +1,14 @@
--- A range that runs backwards is empty.
-use Rattle.std.proofs.Common.{refl, sym}
+-- A range that runs backwards is empty. Where a pair found no room, the range has it, and it is within the limit.
+use Rattle.std.proofs.Common.{arith, ◌<◌, ◌++◌, ◌∙◌, ap, length, refl, sym}
+use Rattle.std.proofs.lemmas.Result.{err_from_is_err_and}
 use Rattle.plain_index.proofs.Backwards.{scan_of-backwards}
+use Rattle.plain_index.proofs.Giving.{gives_one}
 use Rattle.plain_index.proofs.plain.PlainIndex.scan.Goals as goal
 
-pub returns-then-gt : goal.returns-then-gt
-returns-then-gt c = record { scan = scan_of-backwards _ _ _ _ _ (sym c.if-gt.ensures) c.new-pairs.ensures.items refl }
+pub returns-then-gt-clause-scan : goal.returns-then-gt-clause-scan
+returns-then-gt-clause-scan c = scan_of-backwards _ _ _ _ _ (sym c.if-gt.ensures) c.new-pairs.ensures.items refl
+
+pub returns-in_err-push-clause-memory : goal.returns-in_err-push-clause-memory
+returns-in_err-push-clause-memory c = let p = err_from_is_err_and c.from_residual.result c.from_residual.ensures.1 in
+    let short : length c.loop-key.pairs.items < c.args.limit = grind arith in
+    rw p.1 (gives_one c.loop-key.pairs.items _ _ _ c.args.limit (ap (λ z. c.loop-key.pairs.items ++ z) (sym c.in-Some.ensures.steps) ∙ c.loop-key.invariant.rest) short)
