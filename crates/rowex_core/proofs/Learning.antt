@@ -36,7 +36,7 @@ use Rattle.rowex_core.specs.Words.{record_word}
 use Rattle.moments.proofs.Publish.{moment_old}
 use Rattle.rowex_core.specs.declared.event.Spot.{Spot}
 use Rattle.rowex_core.specs.Events.{IsLegalPublish, IsLockedAt, stored_words, stored_root, next_tree, next_change, Legal, after, with_word, claimed, marked, anchored, word_of, target_word, IsInTree}
-use Rattle.rowex_core.specs.Knowing.{IsFact, HasSeen, facts_with, AreCounted, Knows, learned_by, learned, entry_learned, hold_as, fill_in, without_record, failed_with, claim_learned, anchor_learned, node_learned, state_learned, without_lock, records_in, unlinked_as, own_after, relocked, locks_after, anchor_after, publish_learned}
+use Rattle.rowex_core.specs.Knowing.{IsFact, HasSeen, facts_with, AreCounted, Knows, learned_by, learned, entry_learned, hold_as, fill_in, without_record, failed_with, claim_learned, anchor_learned, node_learned, state_learned, taker_of, without_lock, records_in, unlinked_as, own_after, relocked, locks_after, anchor_after, publish_learned}
 use Rattle.record_words.specs.declared.layout.Location.{Location}
 use Rattle.rowex_core.proofs.Frames.{advance_frame, give_back_frame, unlocked_node}
 use Rattle.rowex_core.proofs.Keeping.{fact_grown, knows_kept}
@@ -240,7 +240,7 @@ module _ (c : Core) (k : Known) (h : Knows c k) where
 
   anchor_learns : (found : ℕ) (o : Option ℕ) → c.anchor ≡ o → IsTrue (record c { shared = anchored c.shared k.pass o }) (anchor_learned c found o k)
   anchor_learns found None e = record { pass = h.pass; seen = h.seen; own = λ i. record (h.own i) { anchor = ap (anchored_at c.root) (by_itself k.pass) i } }
-  anchor_learns found (Some p) e = with_failed c k a_lock (target_word Anchor) found h
+  anchor_learns found (Some p) e = with_failed c k (a_lock (Some p)) (target_word Anchor) found h
 
   anchor_given : IsTrue (record c { shared = with_anchor c.shared None }) (record k { anchor = None })
   anchor_given = record { pass = h.pass; seen = h.seen; own = λ i. record (h.own i) { anchor = None } }
@@ -376,7 +376,7 @@ learns_by c k (Lock (NodeTarget n) found) law h (a, b) = go (cases_Bool (eqb fou
   where
     go : ((eqb found 2 ≡ true) ⊎ (eqb found 2 ≡ false)) → IsTrue (after c k.pass (Lock (NodeTarget n) found)) (node_learned c n found k)
     go (inl e) = rw e (lock_taken c k h n (b.2 (eqb-true found 2 e)) (unlocked_node c law n (sym b.1 ∙ eqb-true found 2 e)))
-    go (inr e) = rw e (with_failed c k a_lock (target_word (NodeTarget n)) found h)
+    go (inr e) = rw e (with_failed c k (a_lock (taker_of c n (c.fate (a_node n)))) (target_word (NodeTarget n)) found h)
 learns_by c k (Unlock Anchor) law h l = anchor_given c k h
 learns_by c k (Unlock (NodeTarget n)) law h l = lock_given c k h n
 learns_by c k (Publish spot w) law h (a, b) = publish_learns c k spot w law h b
@@ -414,7 +414,7 @@ module _ (c : Core) (k : Known) (h : AreCounted k.steps k.fresh.step k.failed) w
 
   anchor_next : (found : ℕ) (o : Option ℕ) → IsNext (anchor_learned c found o k)
   anchor_next found None = same_next
-  anchor_next found (Some p) = failed_next a_lock (target_word Anchor) found
+  anchor_next found (Some p) = failed_next (a_lock (Some p)) (target_word Anchor) found
 
   either_next : (b : Bool) (i j : Known) → IsNext i → IsNext j → IsNext (if b then i else j)
   either_next true i j x y = x
@@ -423,7 +423,7 @@ module _ (c : Core) (k : Known) (h : AreCounted k.steps k.fresh.step k.failed) w
   next_by : (act : Act) → IsNext (learned_by c act k)
   next_by (Claim r found) = claim_next r found (c.fate r)
   next_by (Lock Anchor found) = anchor_next found c.anchor
-  next_by (Lock (NodeTarget n) found) = either_next (nat_eq found 2) _ _ same_next (failed_next a_lock (target_word (NodeTarget n)) found)
+  next_by (Lock (NodeTarget n) found) = either_next (nat_eq found 2) _ _ same_next (failed_next (a_lock (taker_of c n (c.fate (a_node n)))) (target_word (NodeTarget n)) found)
   next_by (LoadState r w) = either_next (nat_eq w 0) _ _ same_next (failed_next a_load (word_of r 0) w)
   next_by (LoadRef Root w) = before k.steps (omega arith)
   next_by (LoadRef (Slot n j) w) = same_next

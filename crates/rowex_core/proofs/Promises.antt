@@ -88,6 +88,7 @@ opening_is_lawful layout = (
     };
     epochs = record { now = (omega arith, lit< tt); loads = λ q. inl refl; pinned = λ q p e. absurd (let x : None ≡ Some p = e in cc); marked = λ r since last epoch e. absurd (let x : Free ≡ Marked since last epoch = e in cc) };
     root = tt;
+    lockers = record { root = λ q e. absurd (let x : None ≡ Some q = e in cc); nodes = λ n q e. absurd (let x : None ≡ Some q = e in cc) };
     makers = All-from_recursion (λ (x : Change). x.pass < layout.passes) [] tt;
   },
   opening_shows layout,

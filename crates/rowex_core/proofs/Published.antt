@@ -148,6 +148,7 @@ module _ (c : Core) (q : ℕ) (spot : Spot) (w : ℕ) (law : IsLawful c) (l : Is
       marked = λ r since last epoch e. law.epochs.marked r since last epoch (next_marked c.past.now q (is_linked (next_tree c spot w) r) (c.fate r) since last epoch e);
     };
     root = published_root spot;
+    lockers = law.lockers;
     makers = All-push (λ (x : Change). x.pass < c.layout.passes) c.changes (next_change c q spot w) law.makers
         (subst (λ z. z < c.layout.passes) (sym (change_pass q (items_of (c.past.moment c.past.now)) (items_of (next_tree c spot w)))) low);
   }

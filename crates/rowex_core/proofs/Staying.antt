@@ -1,5 +1,5 @@
 -- Each legal step keeps the core lawful.
-use Rattle.std.proofs.Common.{◌≡◌, ◌≢◌, ◌⊎◌, inl, inr, ℕ, ◌+◌, ◌^◌, ◌<◌, ◌≤◌, true, false, if◌then◌else◌, nat_eq, eqb, Option, Some, None, refl, sym, ap, ◌∙◌, subst, arith}
+use Rattle.std.proofs.Common.{◌≡◌, ◌≢◌, ◌⊎◌, inl, inr, ℕ, ◌+◌, ◌^◌, ◌<◌, ◌≤◌, Bool, true, false, if◌then◌else◌, nat_eq, eqb, Option, Some, None, refl, sym, ap, ◌∙◌, subst, arith}
 use Rattle.std.specs.Prelude.{IsSome}
 use Rattle.std.proofs.lemmas.Bool.{eqb-true, cases_Bool, false≢true}
 use Rattle.record_words.specs.State.{state_word}
@@ -64,6 +64,7 @@ fate_stays c r f law core has new packed = record {
         (λ x. absurd (new_marked f new since last epoch x)) (λ i e. law.epochs.marked i since last epoch) i;
   };
   root = law.root;
+  lockers = law.lockers;
   makers = law.makers;
 }
 
@@ -110,9 +111,17 @@ mark_stays c q r epoch since last law has same e late = record {
         (λ x. subst (λ z. (1 ≤ z) × (z < 2 ^ 60)) (let y : epoch ≡ m = cc in y) range) (λ i x. law.epochs.marked i s l m) i;
   };
   root = law.root;
+  lockers = record {
+    root = law.lockers.root;
+    nodes = λ n p. lock_at (same_rec (a_node n) r) n p (law.lockers.nodes n p);
+  };
   makers = law.makers;
 }
   where
+    lock_at : (b : Bool) (n p : ℕ) → (c.lock n ≡ Some p → p < c.layout.passes) → (if b then None else c.lock n) ≡ Some p → p < c.layout.passes
+    lock_at true n p old is = absurd (let x : None ≡ Some p = is in cc)
+    lock_at false n p old is = old is
+
     range : (1 ≤ epoch) × (epoch < 2 ^ 60)
     range = let x = law.core.paced.loads q in let y = law.epochs.now in
         elim (law.epochs.loads q) [ inl z ↦ absurd (omega arith) | inr z ↦ (omega arith, omega arith) ]
@@ -135,6 +144,7 @@ fill_stays c q r offset w law e at small there = record {
   };
   epochs = law.epochs;
   root = law.root;
+  lockers = law.lockers;
   makers = law.makers;
 }
   where
@@ -147,20 +157,25 @@ fill_stays c q r offset w law e at small there = record {
 
 -- Locks
 
-anchor_stays : (c : Core) (q : ℕ) (o : Option ℕ) → IsLawful c → c.anchor ≡ o → IsLawful (record c { shared = anchored c.shared q o })
-anchor_stays c q None law e = record { core = step_lawful (bare c) q _ law.core (locks_anchor e); records = law.records; epochs = law.epochs; root = law.root; makers = law.makers }
-anchor_stays c q (Some p) law e = law
+anchor_stays : (c : Core) (q : ℕ) (o : Option ℕ) → q < c.layout.passes → IsLawful c → c.anchor ≡ o → IsLawful (record c { shared = anchored c.shared q o })
+anchor_stays c q None small law e = record { core = step_lawful (bare c) q _ law.core (locks_anchor e); records = law.records; epochs = law.epochs; root = law.root; lockers = record { root = λ p is. subst (λ z. z < c.layout.passes) (let x : q ≡ p = cc in x) small; nodes = law.lockers.nodes }; makers = law.makers }
+anchor_stays c q (Some p) small law e = law
 
 -- the lock of a node in the tree
-lock_stays : (c : Core) (n since : ℕ) (o : Option ℕ) → IsLawful c → c.fate (a_node n) ≡ InTree since → IsLawfulCore (bare (record c { shared = with_lock c.shared n o })) → IsLawful (record c { shared = with_lock c.shared n o })
-lock_stays c n since o law e core = record {
+lock_stays : (c : Core) (n since : ℕ) (o : Option ℕ) → ((p : ℕ) → o ≡ Some p → p < c.layout.passes) → IsLawful c → c.fate (a_node n) ≡ InTree since → IsLawfulCore (bare (record c { shared = with_lock c.shared n o })) → IsLawful (record c { shared = with_lock c.shared n o })
+lock_stays c n since o by law e core = record {
   core = core;
   records = record { sized = law.records.sized; packed = law.records.packed; within = law.records.within; fits = law.records.fits; retired = λ i s l q h. go i s l q h (cases_Bool (eqb i n)); used = law.records.used };
   epochs = law.epochs;
   root = law.root;
+  lockers = record { root = law.lockers.root; nodes = λ i p is. taken i p is (cases_Bool (eqb i n)) };
   makers = law.makers;
 }
   where
+    taken : (i p : ℕ) → (if nat_eq i n then o else c.lock i) ≡ Some p → ((eqb i n ≡ true) ⊎ (eqb i n ≡ false)) → p < c.layout.passes
+    taken i p is (inl x) = by p (subst (λ b. (if b then o else c.lock i) ≡ Some p) x is)
+    taken i p is (inr x) = law.lockers.nodes i p (subst (λ b. (if b then o else c.lock i) ≡ Some p) x is)
+
     go : (i s l q : ℕ) → c.fate (a_node i) ≡ Unlinked s l q → ((eqb i n ≡ true) ⊎ (eqb i n ≡ false)) → (if nat_eq i n then o else c.lock i) ≡ Some q
     go i s l q h (inl x) = absurd (let y : InTree since ≡ Unlinked s l q = sym e ∙ (ap (λ z. c.fate (a_node z)) (sym (eqb-true i n x)) ∙ h) in cc)
     go i s l q h (inr x) = rw x (law.records.retired i s l q h)
@@ -193,6 +208,7 @@ pin_stays c q o law core new = record {
     marked = law.epochs.marked;
   };
   root = law.root;
+  lockers = law.lockers;
   makers = law.makers;
 }
 
@@ -202,6 +218,7 @@ round_stays c q o law core new = record {
   records = law.records;
   epochs = record { now = law.epochs.now; loads = λ i. go i (cases_Bool (eqb i q)); pinned = law.epochs.pinned; marked = law.epochs.marked };
   root = law.root;
+  lockers = law.lockers;
   makers = law.makers;
 }
   where
@@ -221,6 +238,7 @@ advance_stays c q expected law low = go (cases_Bool (eqb c.epoch expected))
       records = law.records;
       epochs = record { now = let x = eqb-true c.epoch expected e in (omega arith, omega arith); loads = law.epochs.loads; pinned = law.epochs.pinned; marked = law.epochs.marked };
       root = law.root;
+      lockers = law.lockers;
       makers = law.makers;
     })
 
@@ -232,7 +250,7 @@ stays_lawful c q (Ready r) law (a, b) = fate_stays c r (ReadyBy q) law (step_law
 stays_lawful c q (Release r) law (a, b) = fate_stays c r Free law (step_lawful (bare c) q _ law.core (releases r b.1)) b.0 tt (λ x. absurd x)
 stays_lawful c q (LoadRef spot w) law l = law
 stays_lawful c q (LoadFixed r offset w) law l = law
-stays_lawful c q (Lock Anchor found) law l = anchor_stays c q c.anchor law refl
+stays_lawful c q (Lock Anchor found) law (a, b) = anchor_stays c q c.anchor a law refl
 stays_lawful c q (Lock (NodeTarget n) found) law (a, b) = go (cases_Bool (eqb found 2))
   where
     go : ((eqb found 2 ≡ true) ⊎ (eqb found 2 ≡ false)) → IsLawful (record c { shared = locked_where c.shared n q found })
@@ -240,9 +258,9 @@ stays_lawful c q (Lock (NodeTarget n) found) law (a, b) = go (cases_Bool (eqb fo
     go (inl e) =
         let live : found ≡ 2 = eqb-true found 2 e in
         let t = b.2 live in
-        rw e (lock_stays c n t.0 (Some q) law t.1 (step_lawful (bare c) q _ law.core (locks n t.0 (live_unlocked (c.lock n) (c.fate (a_node n)) t.0 t.1 (sym live ∙ b.1)) t.1)))
-stays_lawful c q (Unlock Anchor) law (a, b) = record { core = step_lawful (bare c) q _ law.core (unlocks_anchor b); records = law.records; epochs = law.epochs; root = law.root; makers = law.makers }
-stays_lawful c q (Unlock (NodeTarget n)) law (a, b) = lock_stays c n b.2.0 None law b.2.1 (step_lawful (bare c) q _ law.core (unlocks n b.2.0 b.1 b.2.1))
+        rw e (lock_stays c n t.0 (Some q) (λ p is. subst (λ z. z < c.layout.passes) (let x : q ≡ p = cc in x) a) law t.1 (step_lawful (bare c) q _ law.core (locks n t.0 (live_unlocked (c.lock n) (c.fate (a_node n)) t.0 t.1 (sym live ∙ b.1)) t.1)))
+stays_lawful c q (Unlock Anchor) law (a, b) = record { core = step_lawful (bare c) q _ law.core (unlocks_anchor b); records = law.records; epochs = law.epochs; root = law.root; lockers = record { root = λ p is. absurd (let x : None ≡ Some p = is in cc); nodes = law.lockers.nodes }; makers = law.makers }
+stays_lawful c q (Unlock (NodeTarget n)) law (a, b) = lock_stays c n b.2.0 None (λ p is. absurd (let x : None ≡ Some p = is in cc)) law b.2.1 (step_lawful (bare c) q _ law.core (unlocks n b.2.0 b.1 b.2.1))
 stays_lawful c q (Publish spot w) law (a, b) = publish_stays c q spot w law b a
 stays_lawful c q (Mark r epoch) law (a, b) = subst (λ f. IsLawful (record c { shared = marked c.shared r epoch f })) (sym b.2.2) (mark_stays c q r epoch b.2.0 b.2.1 law b.0 b.1 b.2.2 b.2.3)
 stays_lawful c q (LoadEpoch w) law l = round_stays c q _ law (step_lawful (bare c) q _ law.core loads_epoch) (inr law.epochs.now.0)

@@ -86,6 +86,11 @@ pub record AreEpochs (layout : Layout) (epoch : ℕ) (pins : ℕ → Option Pin)
   pub pinned : (q : ℕ) (p : Pin) → pins q ≡ Some p → (q < layout.passes) × (1 ≤ p.word)
   pub marked : (r : Rec) (since last epoch : ℕ) → fate r ≡ Marked since last epoch → (1 ≤ epoch) × (epoch < EPOCHS)
 
+-- Only passes of the index hold locks.
+pub record AreLockers (layout : Layout) (anchor : Option ℕ) (lock : ℕ → Option ℕ) : Type 0 where
+  pub root : (q : ℕ) → anchor ≡ Some q → q < layout.passes
+  pub nodes : (n q : ℕ) → lock n ≡ Some q → q < layout.passes
+
 -- The whole core is lawful.
 pub record IsLawful (c : Core) : Type 0 where
   -- moments, lives, paces and locks; the content of each moment is the map of the changes before it
@@ -93,5 +98,6 @@ pub record IsLawful (c : Core) : Type 0 where
   pub records : AreRecords c.layout c.words c.fate c.lock
   pub epochs : AreEpochs c.layout c.epoch c.pins c.rounds c.fate
   pub root : HasEntryWord c.root
+  pub lockers : AreLockers c.layout c.anchor c.lock
   -- each change was made by a pass of the index
   pub makers : All (λ x. x.pass < c.layout.passes) c.changes

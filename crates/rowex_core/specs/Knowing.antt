@@ -1,5 +1,5 @@
 -- What a pass knows of a core: when it is true, what its own steps teach it, and which steps it may make.
-use Rattle.std.specs.Prelude.{◌≡◌, ◌≢◌, ◌⊎◌, ℕ, ◌+◌, ◌-◌, ◌<◌, ◌≤◌, List, [], ◌∷◌, ◌++◌, set, map, filter, All, not, nat_eq, if◌then◌else◌, Option, Some, None}
+use Rattle.std.specs.Prelude.{◌≡◌, ◌≢◌, ◌⊎◌, ℕ, ◌+◌, ◌-◌, ◌<◌, ◌≤◌, List, [], ◌∷◌, ◌++◌, set, slice_get, map, filter, All, not, nat_eq, if◌then◌else◌, Option, Some, None}
 use Rattle.compound_node.specs.declared.entries.Entry.{Entry}
 use Rattle.finite_map.specs.declared.Change.{Change}
 use Rattle.finite_map.specs.declared.Note.{Note}
@@ -14,10 +14,11 @@ use Rattle.moments.specs.declared.Rec.{Rec}
 use Rattle.moments.specs.declared.Rec.TheVariants.{Node as a_node, Leaf as a_leaf}
 use Rattle.moments.specs.declared.Pin.{Pin}
 use Rattle.moments.specs.State.{Past, Stands}
-use Rattle.moments.specs.Core.{Fate, Free, InTree}
+use Rattle.moments.specs.Core.{Fate, Free, InTree, Marked}
 use Rattle.moments.specs.Steps.{same_rec, is_linked, begun_round, with_seen}
 use Rattle.rowex_core.specs.declared.event.Act.{Act}
 use Rattle.rowex_core.specs.declared.event.Act.TheVariants.{Claim, Fill, Ready, Release, LoadRef, LoadFixed, Lock, Unlock, Publish, Mark, LoadEpoch, Advance, SetPin, ClearPin, LoadPin, LoadState, GiveBack}
+use Rattle.rowex_core.specs.declared.event.Target.{Target}
 use Rattle.rowex_core.specs.declared.event.Target.TheVariants.{Anchor, Node as NodeTarget}
 use Rattle.rowex_core.specs.declared.event.Spot.{Spot}
 use Rattle.rowex_core.specs.declared.event.Spot.TheVariants.{Root, Slot}
@@ -138,23 +139,43 @@ abbrev pub claim_learned : Core → Rec → ℕ → Fate → Known → Known
 claim_learned c r found Free k = record k { own = record { rec = r; holding = Held; words = c.words r } ∷ k.own }
 claim_learned c r found _ k = failed_with k a_claim (state_of r) found
 
+-- the pass that made the change
+abbrev pub maker_of : Option Change → Option ℕ
+maker_of None = None
+maker_of (Some x) = Some x.pass
+
+-- the pass that has locked a node of this fate; or whose change unlinked it, where it is retired
+abbrev pub taker_of : Core → ℕ → Fate → Option ℕ
+taker_of c n (Marked since last epoch) = maker_of (slice_get c.changes last)
+taker_of c n f = c.lock n
+
+-- the pass that stands in the way of a lock, if one does
+abbrev pub taker_at : Core → Target → Option ℕ
+taker_at c Anchor = c.anchor
+taker_at c (NodeTarget n) = taker_of c n (c.fate (a_node n))
+
 abbrev pub anchor_learned : Core → ℕ → Option ℕ → Known → Known
 anchor_learned c found None k = record k { anchor = Some c.root }
-anchor_learned c found (Some q) k = failed_with k a_lock (target_word Anchor) found
+anchor_learned c found (Some q) k = failed_with k (a_lock (Some q)) (target_word Anchor) found
 
 abbrev pub node_learned : Core → ℕ → ℕ → Known → Known
 node_learned c n found k =
     if nat_eq found (state_word Live) then record k { locks = record { node = n; words = c.words (a_node n) } ∷ k.locks }
-    else failed_with k a_lock (target_word (NodeTarget n)) found
+    else failed_with k (a_lock (taker_of c n (c.fate (a_node n)))) (target_word (NodeTarget n)) found
 
 -- a load finds the record not free
 abbrev pub state_learned : Rec → ℕ → Known → Known
 state_learned r w k = if nat_eq w (state_word FreeTag) then k else failed_with k a_load (state_of r) w
 
+-- the moment of a pin
+abbrev pub moment_of : Option Pin → ℕ
+moment_of None = 0
+moment_of (Some p) = p.moment
+
 abbrev pub entry_learned : Core → Spot → Known → Known
 entry_learned c Root k = record k {
   front = c.changes;
-  fresh = record { front = c.changes; step = k.steps };
+  fresh = record { front = c.changes; step = k.steps; pinned = moment_of k.pin };
   facts = facts_with k.pin (λ since. Rooted since c.past.now c.root) k.facts;
 }
 entry_learned c (Slot n j) k = record k {
@@ -247,5 +268,5 @@ pub record SeesAllAtRoot (layout : Layout) (k j : Known) : Type 0 where
   pub pass : at.pass ≡ k.pass
   pub since : k.steps ≤ at.steps
   pub until : at.steps < j.steps
-  pub fresh : j.fresh ≡ record { front = core.changes; step = at.steps }
+  pub fresh : j.fresh ≡ record { front = core.changes; step = at.steps; pinned = moment_of at.pin }
   pub all : (o : Known) → Knows core o → BeginsWith j.fresh.front o.front

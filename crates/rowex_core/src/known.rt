@@ -59,7 +59,8 @@ pub struct Locked {
 /// What kind of step it was that failed.
 pub enum FailedAct {
     Claim,
-    Lock,
+    /// A lock that this pass had; or of a retired node, that a change of this pass had unlinked.
+    Lock { by: Option<u64> },
     /// A load that found a state other than free.
     LoadState,
 }
@@ -73,11 +74,12 @@ pub struct Failed {
     pub step: u64,
 }
 
-/// The front that the last load of the root left, and the number of that step; before the first load 0, the number of no
-/// step.
+/// The front that the last load of the root left, the number of that step, and the moment at which the pass had set the pin that
+/// it had then. Before the first load the step is 0, the number of none; and so is the moment, where there was no pin.
 pub struct Fresh {
     pub front: LinkedList<Change>,
     pub step: u64,
+    pub pinned: u64,
 }
 
 /// What a pass knows.

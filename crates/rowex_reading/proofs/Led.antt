@@ -18,7 +18,7 @@ use Rattle.rowex_core.specs.declared.event.Spot.TheVariants.{Root, Slot}
 use Rattle.rowex_core.specs.declared.known.Fact.{Fact}
 use Rattle.rowex_core.specs.declared.known.Fresh.{Fresh}
 use Rattle.rowex_core.specs.declared.known.Known.{Known}
-use Rattle.rowex_core.specs.Knowing.{IsEvent, IsSince}
+use Rattle.rowex_core.specs.Knowing.{IsEvent, IsSince, moment_of}
 use Rattle.rowex_table.specs.Runs.{Runs, Steps, silent}
 use Rattle.rowex_table.specs.Seats.{TableView, SeatView, IsSame, IsSeatOf}
 use Rattle.rowex_table.proofs.Running.{runs_append, runs_one, runs_same, same_more}
@@ -181,7 +181,7 @@ module _ {G : Type 0} {table : TableView} {becomes : G → Event → G → Type 
   pub looked_at : {n : ℕ} {a b : SeatView × G} → Looks table becomes n a b → HasLookedAt n a.0.known b.0.known
   looked_at {n} {a} {b} x =
       let e = x.root.1.event in let rest = left x.rest in let root = event_later e tt in
-      let fresh : b.0.known.fresh ≡ record { front = e.core.changes; step = a.0.known.steps } = rest.fresh ∙ ap (λ (z : Known). z.fresh) e.learned_is in
+      let fresh : b.0.known.fresh ≡ record { front = e.core.changes; step = a.0.known.steps; pinned = moment_of a.0.known.pin } = rest.fresh ∙ ap (λ (z : Known). z.fresh) e.learned_is in
       record {
         sees = sees_more 1 n a.0.known x.at.0.known b.0.known (root_sees table.layout a.0.known x.at.0.known x.root.0 e) rest.sees;
         later = later_trans root rest.later;

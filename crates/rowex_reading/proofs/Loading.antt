@@ -14,7 +14,7 @@ use Rattle.rowex_core.specs.declared.known.Fact.TheVariants.{Rooted, Placed, Fix
 use Rattle.rowex_core.specs.declared.known.Fresh.{Fresh}
 use Rattle.rowex_core.specs.declared.known.Known.{Known}
 use Rattle.rowex_core.specs.Cores.{Core, IsLawful}
-use Rattle.rowex_core.specs.Knowing.{IsFact, HoldsIfStood, StoodAs, StoodBetween, Recalls, IsEvent, facts_with}
+use Rattle.rowex_core.specs.Knowing.{IsFact, HoldsIfStood, StoodAs, StoodBetween, Recalls, IsEvent, facts_with, moment_of}
 use Rattle.rowex_core.specs.Reading.{entry_of}
 use Rattle.rowex_core.specs.Words.{record_word}
 use Rattle.rowex_table.specs.Runs.{silent}
@@ -43,7 +43,7 @@ taught core k j p f fresh pinned later is = record {
 module _ (layout : Layout) (k j : Known) (p : Pin) (pinned : k.pin ≡ Some p) where
   pub root_taught : (w : ℕ) (e : IsEvent layout (LoadRef Root w) silent k j) → IsTaught e.core (Rooted p.moment e.core.past.now e.core.root) k j
   root_taught w e =
-      taught e.core k j p (λ since. Rooted since e.core.past.now e.core.root) (record { front = e.core.changes; step = k.steps }) pinned (event_later e tt) e.learned_is
+      taught e.core k j p (λ since. Rooted since e.core.past.now e.core.root) (record { front = e.core.changes; step = k.steps; pinned = moment_of k.pin }) pinned (event_later e tt) e.learned_is
 
   pub slot_taught : (n i w : ℕ) (e : IsEvent layout (LoadRef (Slot n i) w) silent k j) →
       IsTaught e.core (Placed p.moment e.core.past.now n i (entry_of (record_word e.core (a_node n) (26 + i)))) k j

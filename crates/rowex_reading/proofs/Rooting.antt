@@ -23,7 +23,7 @@ use Rattle.rowex_core.specs.declared.known.Fact.TheVariants.{Rooted}
 use Rattle.rowex_core.specs.declared.known.Fresh.{Fresh}
 use Rattle.rowex_core.specs.declared.known.Known.{Known}
 use Rattle.rowex_core.specs.Cores.{Core, IsLawful, heap_of}
-use Rattle.rowex_core.specs.Knowing.{Recalls, IsEvent, IsSince}
+use Rattle.rowex_core.specs.Knowing.{Recalls, IsEvent, IsSince, moment_of}
 use Rattle.rowex_core.proofs.Owning.{pin_is}
 use Rattle.rowex_core.specs.Reading.{entry_of, root_of, head_entry}
 use Rattle.rowex_core.proofs.Reading.{entry_of_word}
@@ -81,11 +81,11 @@ module _ (layout : Layout) (k j : Known) (p : Pin) (pinned : k.pin ≡ Some p) (
   is : IsTaught core (Rooted p.moment core.past.now core.root) k j
   is = root_taught layout k j p pinned w event
 
-  fresh_is : j.fresh ≡ record { front = core.changes; step = k.steps }
+  fresh_is : j.fresh ≡ record { front = core.changes; step = k.steps; pinned = moment_of k.pin }
   fresh_is = ap (λ (z : Known). z.fresh) event.learned_is
 
-  pub root_fresh : j.fresh ≡ record { front = j.front; step = k.steps }
-  root_fresh = fresh_is ∙ ap (λ (z : List Change). let f : Fresh = record { front = z; step = k.steps } in f) (sym is.front)
+  pub root_fresh : j.fresh ≡ record { front = j.front; step = k.steps; pinned = moment_of k.pin }
+  root_fresh = fresh_is ∙ ap (λ (z : List Change). let f : Fresh = record { front = z; step = k.steps; pinned = moment_of k.pin } in f) (sym is.front)
 
   -- the newest moment, by its number
   fresh_now : since j ≡ core.past.now

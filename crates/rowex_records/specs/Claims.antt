@@ -57,7 +57,7 @@ Misses r acts = (word : ℕ) × (1 ≤ word) × ((acts ≡ LoadState r word ∷ 
 
 -- a failed step of this kind finds that a record is not free
 abbrev pub TellsState : FailedAct → Type 0
-TellsState a_lock = ⊥
+TellsState (a_lock by) = ⊥
 TellsState act = Unit {0}
 
 -- among these is a claim of the record, or a load of its state, at this step, which found it not free

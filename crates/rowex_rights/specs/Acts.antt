@@ -16,7 +16,7 @@ use Rattle.rowex_core.specs.declared.event.Target.TheVariants.{Anchor, Node as N
 use Rattle.rowex_core.specs.declared.known.FailedAct.TheVariants.{Claim as a_claim, Lock as a_lock}
 use Rattle.rowex_core.specs.declared.known.Known.{Known}
 use Rattle.rowex_core.specs.Events.{target_word, word_of}
-use Rattle.rowex_core.specs.Knowing.{IsEvent, failed_with, IsSince}
+use Rattle.rowex_core.specs.Knowing.{IsEvent, failed_with, taker_at, IsSince}
 use Rattle.rowex_table.specs.Rights.{MayLock}
 use Rattle.rowex_table.specs.Made.{IsLater, nodes_of}
 use Rattle.rowex_table.specs.Runs.{silent}
@@ -51,11 +51,11 @@ abbrev pub LoadOfRoot : Type 0
 LoadOfRoot =
     (layout : Layout) (k j : Known) (root : Option Entry) (w : ℕ) → k.anchor ≡ Some root → IsEvent layout (LoadRef Root w) silent k j → w ≡ entry_word root
 
--- A lock that finds another word than 2 leaves all but one more failed step;
+-- A lock that finds another word than 2 leaves all but one more failed step, which tells who stands in its way;
 abbrev pub LockFails : Type 0
 LockFails =
-    (layout : Layout) (k j : Known) (target : Target) (found : ℕ) → IsEvent layout (Lock target found) silent k j → found ≢ 2 →
-    j ≡ record (failed_with k a_lock (target_word target) found) { steps = k.steps + 1 }
+    (layout : Layout) (k j : Known) (target : Target) (found : ℕ) (e : IsEvent layout (Lock target found) silent k j) → found ≢ 2 →
+    j ≡ record (failed_with k (a_lock (taker_at e.core target)) (target_word target) found) { steps = k.steps + 1 }
 
 -- and so does a claim that finds another word than 0.
 abbrev pub ClaimFails : Type 0

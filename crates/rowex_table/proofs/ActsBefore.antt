@@ -33,7 +33,7 @@ use Rattle.rowex_core.specs.Words.{lock_of, lock_tag, tag_of, record_word}
 use Rattle.rowex_core.specs.Events.{target_word, word_of}
 use Rattle.rowex_core.specs.declared.event.Target.{Target}
 use Rattle.record_words.specs.declared.layout.Location.{Location}
-use Rattle.rowex_core.specs.Knowing.{Knows, failed_with, IsFact, IsEvent, facts_with, fill_in, hold_as, without_record, claim_learned, anchor_learned, node_learned, learned_by, learned, Recalls}
+use Rattle.rowex_core.specs.Knowing.{Knows, failed_with, IsFact, IsEvent, facts_with, fill_in, hold_as, without_record, claim_learned, anchor_learned, node_learned, learned_by, learned, taker_at, Recalls}
 use Rattle.rowex_core.specs.Sharing.{IsOwned, IsLocked}
 use Rattle.rowex_core.proofs.Owning.{knows_all}
 use Rattle.rowex_table.proofs.Rights.{free_tag, anchor_free}
@@ -232,7 +232,7 @@ module _ (layout : Layout) (said : Known → List Note) (k j : Known) where
   act_seen c (LoadRef (Slot n i) w) o t = (refl, refl, o, facts_kept k.pin _)
   act_seen c (LoadFixed r offset w) o t = (refl, refl, o, facts_kept k.pin _)
   act_seen c (Lock Anchor found) o t = anchor_seen c found c.anchor
-  act_seen c (Lock (NodeTarget n) found) o t = one_of (nat_eq found 2) c (record k { locks = record { node = n; words = c.words (a_node n) } ∷ k.locks }) (failed_with k a_lock (target_word (NodeTarget n)) found) (same c) (same c)
+  act_seen c (Lock (NodeTarget n) found) o t = one_of (nat_eq found 2) c (record k { locks = record { node = n; words = c.words (a_node n) } ∷ k.locks }) (failed_with k (a_lock (taker_at c (NodeTarget n))) (target_word (NodeTarget n)) found) (same c) (same c)
   act_seen c (Unlock Anchor) o t = same c
   act_seen c (Unlock (NodeTarget n)) o t = same c
   act_seen c (Mark r epoch) o t = same c
@@ -273,13 +273,14 @@ module _ (layout : Layout) (k j : Known) where
       go true e = absurd (ne (eqb-true found n e))
       go false e = refl
 
-  anchor_held : (c : Core) (found : ℕ) (o : Option ℕ) → found ≡ state_word (lock_tag o) → (found ≡ 2 → ⊥) → anchor_learned c found o k ≡ failed_with k a_lock (target_word Anchor) found
+  anchor_held : (c : Core) (found : ℕ) (o : Option ℕ) → found ≡ state_word (lock_tag o) → (found ≡ 2 → ⊥) → anchor_learned c found o k ≡ failed_with k (a_lock o) (target_word Anchor) found
   anchor_held c found None e ne = absurd (ne e)
   anchor_held c found (Some q) e ne = refl
 
-  pub lock_fails : (target : Target) (found : ℕ) → IsEvent layout (Lock target found) silent k j → (found ≡ 2 → ⊥) → j ≡ record (failed_with k a_lock (target_word target) found) { steps = k.steps + 1 }
-  lock_fails Anchor found e ne = failed_step e.core (Lock Anchor found) a_lock (target_word Anchor) found e.learned_is (anchor_held e.core found e.core.anchor e.legal.1 ne)
-  lock_fails (NodeTarget n) found e ne = failed_step e.core (Lock (NodeTarget n) found) a_lock (target_word (NodeTarget n)) found e.learned_is (rw (dead found 2 ne) refl)
+  pub lock_fails : (target : Target) (found : ℕ) (e : IsEvent layout (Lock target found) silent k j) → (found ≡ 2 → ⊥) →
+      j ≡ record (failed_with k (a_lock (taker_at e.core target)) (target_word target) found) { steps = k.steps + 1 }
+  lock_fails Anchor found e ne = failed_step e.core (Lock Anchor found) (a_lock (taker_at e.core Anchor)) (target_word Anchor) found e.learned_is (anchor_held e.core found e.core.anchor e.legal.1 ne)
+  lock_fails (NodeTarget n) found e ne = failed_step e.core (Lock (NodeTarget n) found) (a_lock (taker_at e.core (NodeTarget n))) (target_word (NodeTarget n)) found e.learned_is (rw (dead found 2 ne) refl)
 
   claim_held : (c : Core) (r : Rec) (found : ℕ) (f : Fate) → found ≡ state_word (tag_of (lock_of c r) f) → (found ≡ 0 → ⊥) → claim_learned c r found f k ≡ failed_with k a_claim (word_of r 0) found
   claim_held c r found Free e ne = absurd (ne e)

@@ -43,7 +43,7 @@ abbrev pub opening_of : ℕ → Known
 opening_of q = record {
   pass = q;
   front = [];
-  fresh = record { front = []; step = 0 };
+  fresh = record { front = []; step = 0; pinned = 0 };
   notes = [];
   steps = 1;
   failed = [];
