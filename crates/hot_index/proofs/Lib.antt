@@ -7,6 +7,7 @@ pub mod Scanned
 pub mod Firsts
 pub mod Collected
 pub mod Counted
+pub mod Conflicts
 pub mod Trying
 pub mod Resting
 pub mod Making

@@ -18,7 +18,7 @@ use Rattle.rowex_core.specs.declared.event.Event.{Event}
 use Rattle.rowex_core.specs.declared.event.Spot.TheVariants.{Root, Slot}
 use Rattle.rowex_core.specs.declared.known.Fresh.{Fresh}
 use Rattle.rowex_core.specs.declared.known.Known.{Known}
-use Rattle.rowex_core.specs.Knowing.{IsEvent}
+use Rattle.rowex_core.specs.Knowing.{IsEvent, moment_of}
 use Rattle.rowex_table.specs.Runs.{Runs, silent}
 use Rattle.rowex_table.specs.Seats.{IsSame, IsSeatOf, SeatView, TableView}
 use Rattle.rowex_table.proofs.Running.{runs_append, runs_same, same_more}
@@ -61,7 +61,7 @@ module _ {layout : Layout} (n : ℕ) (k i j : Known) (at : HasLookedAt n k i) wh
 
   look_more : (act : Act) → IsLook act → IsEvent layout act silent i j → HasLookedAt (n + 1) k j
   look_more (LoadRef Root w) look e =
-      let fresh : j.fresh ≡ record { front = e.core.changes; step = i.steps } = ap (λ (z : Known). z.fresh) e.learned_is in
+      let fresh : j.fresh ≡ record { front = e.core.changes; step = i.steps; pinned = moment_of i.pin } = ap (λ (z : Known). z.fresh) e.learned_is in
       let steps : i.steps ≡ k.steps + (1 + n) = ap (λ (z : Known). z.steps) at.sees in
       record {
         sees = sees_one n k i j at (root_sees layout i j w e);

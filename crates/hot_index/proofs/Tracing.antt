@@ -221,6 +221,10 @@ module _ {G : Type 0} (table : TableView) (becomes : G → Event → G → Type 
     told = x.told;
   }
 
+  -- a call that was tried
+  pub made_told : (r : Result Reply TryFault) (a b : PassView × G) → HasMade table becomes r a b → HasTold table becomes a b
+  made_told r a b x = record { acts = x.acts; last = ClearPin; said = x.said; begins = x.begins; ends = x.ends; steps = x.steps; sees = x.sees; told = x.told }
+
   -- Calls one after the other
 
   -- an attempt: the pin, the steps of the attempt, and the step that clears the pin

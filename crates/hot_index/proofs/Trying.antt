@@ -1,5 +1,5 @@
 -- What an attempt to change the map leaves: it is noted where it was answered, and has changed nothing where it was refused.
-use Rattle.std.proofs.Common.{◌≡◌, ◌⊎◌, inl, inr, ℕ, ◌+◌, ◌-◌, ◌≤◌, List, [], ◌∷◌, ◌++◌, length, take, true, false, Option, Some, None, IsSome, Result, Ok, Err, refl, sym, ap, subst, ◌∙◌, arith, le_trans, length-append}
+use Rattle.std.proofs.Common.{◌≡◌, ◌⊎◌, inl, inr, ⊎_elim, ℕ, ◌+◌, ◌-◌, ◌<◌, ◌≤◌, List, [], ◌∷◌, ◌++◌, length, take, true, false, Option, Some, None, IsSome, Result, Ok, Err, refl, sym, ap, subst, ◌∙◌, arith, le_trans, length-append}
 use Rattle.std.specs.Prelude.{All, Contains, IfOk, IfErr, MatchResult, is_some}
 use Rattle.std.proofs.lemmas.Bool.{eq-eqb, ne_eqb}
 use Rattle.std.proofs.lemmas.List.Elements.{All-head, All-tail}
@@ -25,7 +25,7 @@ use Rattle.rowex_core.specs.declared.event.Target.{Target}
 use Rattle.rowex_core.specs.declared.known.Failed.{Failed}
 use Rattle.rowex_core.specs.declared.known.Known.{Known}
 use Rattle.rowex_core.specs.Cores.{Core, IsLawful}
-use Rattle.rowex_core.specs.Knowing.{IsEvent, Recalls}
+use Rattle.rowex_core.specs.Knowing.{IsEvent, IsSince, Recalls}
 use Rattle.rowex_table.specs.Runs.{Runs, StepsWith}
 use Rattle.rowex_table.specs.Seats.{IsSame, SeatView, TableView}
 use Rattle.rowex_table.specs.Stays.{LeavesPin}
@@ -37,6 +37,7 @@ use Rattle.epochs.specs.Runs.{Pins}
 use Rattle.rowex_writing.specs.Attempts as tries
 use Rattle.rowex_writing.specs.Attempts.{HasAnswered, HasLoadedRoot, HasRefused, IsChangeOf, asked_call}
 use Rattle.rowex_writing.specs.Changes.{HasChanged, HasTried}
+use Rattle.rowex_writing.specs.Locks.{HasMetLock, HasMetTaken}
 use Rattle.rowex_writing.specs.declared.plan.Ask.{Ask}
 use Rattle.rowex_writing.specs.declared.plan.Full.{Full}
 use Rattle.rowex_writing.specs.declared.plan.Ask.TheVariants.{Insert, Upsert, Exchange, Remove, RemoveIf}
@@ -49,7 +50,8 @@ use Rattle.hot_index.specs.Counts.{once_steps, try_steps, twice_steps}
 use Rattle.hot_index.specs.Noting.{change_notes, place_by}
 use Rattle.hot_index.specs.Passes.{IsSettled, Owns, PassView, pass_of}
 use Rattle.hot_index.specs.Traces.{AreAttempts, AreTries, HasMade, HasStepped, HasTold, IsAttempt, Tidies, is_full}
-use Rattle.hot_index.proofs.Noting.{HasGoneOn, HasLooked, WasRight, found_had, goes_on, legal_front, longer, noted, settles, note_of}
+use Rattle.hot_index.proofs.Noting.{HasGoneOn, HasLooked, WasRight, event_makers, found_had, goes_on, legal_front, longer, noted, settles, note_of}
+use Rattle.hot_index.proofs.Conflicts.{conflict_on, overtaken}
 use Rattle.hot_index.proofs.Collected.{round_unnoted, small_few, small_later, small_unnoted}
 use Rattle.hot_index.proofs.Scanned.{scan_refused, scan_settled}
 use Rattle.hot_index.proofs.Tracing.{ended_once, ended_tidied, has_made, has_told}
@@ -186,21 +188,13 @@ missed_on : (kind : ℕ → Rec) (n : ℕ) (tried more : List Failed) (since lat
 missed_on kind n tried more since later le same all q low =
     let one = all q low in (one.0, le_trans le one.1, subst (λ (z : List Failed). HasMissed z (kind q) one.0) (sym same) one.2)
 
--- a cause of a part of a call, after which the pass had no further failed step and saw no further change, is one of the call
-pub cause_on : (layout : Layout) (key : Key) (k j h i : PassView) (fault : TryFault) → k.steps ≤ j.steps → length k.front ≤ length j.front → i.failed ≡ h.failed → i.front ≡ h.front →
+-- a cause of a part of a call, after which the pass had no further failed step, saw no further change and loaded no root, is one of
+-- the call
+pub cause_on : (layout : Layout) (key : Key) (k j h i : PassView) (fault : TryFault) → k.steps ≤ j.steps → i.number ≡ h.number → i.failed ≡ h.failed → i.front ≡ h.front → i.fresh ≡ h.fresh →
     IsCause layout key j h fault → IsCause layout key k i fault
-cause_on layout key k j h i Busy steps fronts failed front (inl met) = inl (record {
-  target = met.target;
-  failed = met.failed;
-  is = subst (λ (z : List Failed). Contains z met.failed) (sym failed) met.is;
-  act = met.act;
-  place = met.place;
-  word = met.word;
-  now = le_trans steps met.now;
-})
-cause_on layout key k j h i Busy steps fronts failed front (inr more) = inr (let l = ap length front in omega arith)
-cause_on layout key k j h i FullNodes steps fronts failed front all = missed_on a_node layout.nodes h.failed i.failed k.steps j.steps steps failed all
-cause_on layout key k j h i FullLeaves steps fronts failed front all = λ q low room.
+cause_on layout key k j h i Busy steps number failed front fresh conflict = conflict_on layout k j h i steps number failed front fresh conflict
+cause_on layout key k j h i FullNodes steps number failed front fresh all = missed_on a_node layout.nodes h.failed i.failed k.steps j.steps steps failed all
+cause_on layout key k j h i FullLeaves steps number failed front fresh all = λ q low room.
     let one = all q low room in (one.0, le_trans steps one.1, subst (λ (z : List Failed). HasMissed z (a_leaf q) one.0) (sym failed) one.2)
 
 -- A part of a call that was not noted, and the rest of the call
@@ -216,7 +210,7 @@ module _ (layout : Layout) (k j i : PassView) (first : IsUnnoted layout k j) (st
   }
 
   refused_then : (call : Call) (fault : TryFault) → IsRefused layout call j i fault → IsRefused layout call k i fault
-  refused_then call fault r = record { unnoted = unnoted_then r.unnoted; cause = cause_on layout (key_of call) k j i i fault steps (longer j.front k.front first.front) refl refl r.cause }
+  refused_then call fault r = record { unnoted = unnoted_then r.unnoted; cause = cause_on layout (key_of call) k j i i fault steps refl refl refl refl r.cause }
 
   noted_then : (call : Call) (reply : Reply) → IsNoted layout j i call reply → IsNoted layout k i call reply
   noted_then call reply n = record {
@@ -304,12 +298,6 @@ called_key (Exchange e) key value = refl
 called_key Remove key value = refl
 called_key (RemoveIf e) key value = refl
 
--- the cause of an attempt is one by what contracts see
-cause_seen : (layout : Layout) (key : Key) (s t : SeatView) (fault : TryFault) → tries.IsAttemptCause layout key s.known t.known fault → IsCause layout key (pass_of s) (pass_of t) fault
-cause_seen layout key s t Busy h = h
-cause_seen layout key s t FullNodes h = h
-cause_seen layout key s t FullLeaves h = h
-
 -- An attempt
 
 module _ {G : Type 0} (table : TableView) (becomes : G → Event → G → Type 0) where
@@ -393,15 +381,36 @@ module _ {G : Type 0} {table : TableView} {becomes : G → Event → G → Type 
       (others_since changed.before changed.others) changed.front changed.fresh changed.was_held tells in
       ((n.0, tt), n.1)
 
+  -- the cause of an attempt is one by what contracts see
+  cause_seen : (key : Key) (fault : TryFault) {said : Known → List Note} → IsEvent table.layout ClearPin said c.0.known d.0.known → OthersGoOn b.0.known.pass b.0.known.front c.0.known.front → tries.IsAttemptCause table.layout key b.0.known c.0.known fault →
+      IsCause table.layout key (pass_of b.0) (pass_of c.0) fault
+  cause_seen key FullNodes event others h = h
+  cause_seen key FullLeaves event others h = h
+  cause_seen key Busy event others h = record {
+    pass = subst (λ (z : Layout). c.0.known.pass < z.passes) event.layout_is event.knows.pass;
+    met = ⊎_elim
+        (λ (met : HasMetLock table.layout b.0.known c.0.known). inl (subst (λ q. HasMetTaken table.layout q b.0.known.steps c.0.known.failed) (sym same) met))
+        (λ (moved : (m : ℕ) × IsSince b.0.known m × (m < length c.0.known.front)). inr (overtaken pins run loaded before others (event_makers event) same moved.0 moved.1 moved.2))
+        h;
+  }
+    where
+      same : c.0.known.pass ≡ b.0.known.pass
+      same = (run_same table becomes b c run).2
+
+      before : b.0.known.fresh.step < b.0.known.steps
+      before =
+          let s = ap (λ (z : Known). z.steps) pinned in
+          let f = ap (λ (z : Known). z.fresh.step) pinned in
+          omega (arith, settled.loaded, s, f)
+
   -- it was refused
   when_refused : (call : Call) (fault : TryFault) → HasRefused table.layout (key_of call) b.0.known c.0.known fault → IsEvent table.layout ClearPin (change_notes call (Err fault)) c.0.known d.0.known → Leaves call (Err fault)
   when_refused call fault h event = ((tt, record { unnoted = scan_refused a.0 d.0 settled (quiet h.others) event; cause = cause }), scan_settled a.0 d.0 settled (quiet h.others) event)
     where
       cause : IsCause table.layout (key_of call) (pass_of a.0) (pass_of d.0) fault
       cause =
-          let l = ap length same_front in
-          cause_on table.layout (key_of call) (pass_of a.0) (pass_of b.0) (pass_of c.0) (pass_of d.0) fault counted (omega arith) (ap (λ (z : Known). z.failed) event.learned_is) (ap (λ (z : Known). z.front) event.learned_is)
-          (cause_seen table.layout (key_of call) b.0 c.0 fault h.cause)
+          cause_on table.layout (key_of call) (pass_of a.0) (pass_of b.0) (pass_of c.0) (pass_of d.0) fault counted (ap (λ (z : Known). z.pass) event.learned_is) (ap (λ (z : Known). z.failed) event.learned_is)
+          (ap (λ (z : Known). z.front) event.learned_is) (ap (λ (z : Known). z.fresh) event.learned_is) (cause_seen (key_of call) fault event h.others h.cause)
 
   -- whatever came of it
   pub tried : (ask : Ask) (key : Key) (value : ℕ) (r : Result Reply TryFault) → IfOk r (HasAnswered b.0.known c.0.known ask key value) → IfErr r (HasRefused table.layout key b.0.known c.0.known) →

@@ -1,5 +1,6 @@
 -- What calls of an index say.
-use Rattle.std.specs.Prelude.{◌≡◌, ◌≢◌, ◌⊎◌, ℕ, ◌<◌, ◌≤◌, List, [], ◌∷◌, ◌++◌, length, Bool, Option, Some, None}
+use Rattle.std.specs.Prelude.{◌≡◌, ◌≢◌, ◌⊎◌, ℕ, ◌<◌, ◌≤◌, List, [], ◌∷◌, ◌++◌, length, slice_get, Bool, Option, Some, None}
+use Rattle.finite_map.specs.declared.Change.{Change}
 use Rattle.finite_map.specs.declared.Call.{Call}
 use Rattle.finite_map.specs.declared.Call.TheVariants.{Insert, Upsert, Exchange, Get, Remove, RemoveIf}
 use Rattle.finite_map.specs.declared.Reply.{Reply}
@@ -69,10 +70,27 @@ pub record IsUnnoted (layout : Layout) (k j : PassView) : Type 0 where
   pub legal : LegalCalls j.front j.number j.notes
   pub makers : AreByPasses layout j.front
 
--- Why a call was refused: a lock of it met another's, or another's change was seen since it began; or of each node record, or of
--- each leaf record with room for its key, a claim failed or a load found the state not free.
+-- The pass has seen a change by another pass of the index, made since it set the pin that it had at its last load of the root, a step
+-- of this call: the change stands behind all those that had been made by then.
+pub record IsOvertaken (layout : Layout) (k j : PassView) : Type 0 where
+  pub loaded : k.steps ≤ j.fresh.step
+  pub change : Change
+  pub place : ℕ
+  pub is : slice_get j.front place ≡ Some change
+  pub since : j.fresh.pinned ≤ place
+  pub another : change.pass ≢ j.number
+  pub below : change.pass < layout.passes
+
+-- Another pass of the index stood in the way: a lock of this call found what it wanted to lock locked or retired by it, or a change of
+-- it was made since the call's last pin.
+pub record HasConflict (layout : Layout) (k j : PassView) : Type 0 where
+  pub pass : j.number < layout.passes
+  pub met : HasMetTaken layout j.number k.steps j.failed ⊎ IsOvertaken layout k j
+
+-- Why a call was refused: another pass stood in its way; or of each node record, or of each leaf record with room for its key, a claim
+-- failed or a load found the state not free.
 abbrev pub IsCause : Layout → Key → PassView → PassView → TryFault → Type 0
-IsCause layout key k j Busy = HasMetTaken k.steps j.failed ⊎ (length k.front < length j.front)
+IsCause layout key k j Busy = HasConflict layout k j
 IsCause layout key k j FullNodes = AllMissed a_node layout.nodes j.failed k.steps
 IsCause layout key k j FullLeaves = AllMissedFrom layout (words_for (length key)) j.failed k.steps
 

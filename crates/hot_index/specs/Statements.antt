@@ -10,13 +10,17 @@ use Rattle.record_words.specs.declared.layout.Layout.{Layout}
 use Rattle.moments.specs.declared.Rec.TheVariants.{Leaf as a_leaf}
 use Rattle.tries.specs.Keys.{Key}
 use Rattle.rowex_records.specs.Claims.{AllMissed}
-use Rattle.rowex_writing.specs.declared.attempts.TryFault.TheVariants.{FullLeaves}
+use Rattle.rowex_writing.specs.declared.attempts.TryFault.TheVariants.{Busy, FullLeaves}
 use Rattle.hot_index.specs.Answers.{IsCause, IsNoted}
 use Rattle.hot_index.specs.Passes.{PassView}
 
 -- Where all leaf records are long, as in an index that `create` makes, a call that lacks one has found each of them not free.
 abbrev pub LacksAllLong : Type 0
 LacksAllLong = (layout : Layout) (key : Key) (k j : PassView) → layout.long_from ≡ 0 → IsKey key → IsCause layout key k j FullLeaves → AllMissed a_leaf layout.leaves j.failed k.steps
+
+-- A call of a pass whose index has no other pass is never refused as busy.
+abbrev pub OnePassIsNeverBusy : Type 0
+OnePassIsNeverBusy = (layout : Layout) (key : Key) (k j : PassView) → layout.passes ≡ 1 → ¬ (IsCause layout key k j Busy)
 
 -- A call was answered, and a stamp tells of all that its pass had seen then. Where a pass has seen what the stamp tells of before it
 -- begins a call, that call's place is no earlier than the first one's, and later than the first one's change.

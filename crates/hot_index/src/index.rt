@@ -196,9 +196,9 @@ impl Index {
     /// Gives a key a value if it is absent: `Inserted`, or `Exists` with the value that it has, which stays.
     ///
     /// It waits for nobody: it makes at most 1,420,268 atomic steps, two more for each pass, 6 for each node record and 10
-    /// for each leaf record. It is refused as `Busy` where another pass holds what it wants to lock, or has made a change since the
-    /// call began; and as full where it found each record of a kind taken, also after a round of collection.
-    /// Refused, it has changed nothing, and it holds no lock and no record.
+    /// for each leaf record. It is refused as `Busy` where another pass has locked or retired what it wants to lock, or has made a
+    /// change since the call's last pin, so never where the index has one pass; and as full where it found each record of a kind taken,
+    /// also after a round of collection. Refused, it has changed nothing, and it holds no lock and no record.
     pub fn try_insert(&self, pass: &mut Pass, key: &Key, value: u64) -> Result<Reply, TryFault>
         requires { Owns self.now pass.old }
         ensures own { Owns self.now pass.new }
@@ -662,7 +662,7 @@ fn new_pass(alloc: Global, table: &HotTable, seat: TableSeat) -> Result<Pass, Al
 }
 
 /// The reply to a get that found this.
-fn reply_of(found: Option<u64>) -> Reply
+pub(crate) fn reply_of(found: Option<u64>) -> Reply
     ensures { result ≡ got found }
 {
     match found {

@@ -1,10 +1,15 @@
 //! Laws of the index. The functions do nothing: their contracts are the laws.
 
-ghost use Rattle.hot_index.specs.Statements.{LacksAllLong, ReturnedBeforeBegun};
+ghost use Rattle.hot_index.specs.Statements.{LacksAllLong, OnePassIsNeverBusy, ReturnedBeforeBegun};
 
 /// Where all leaf records are long, as in an index that `create` makes, a call that lacks one has found each of them not free.
 pub fn lacks_all_long()
     ensures { LacksAllLong }
+{}
+
+/// A call is refused as busy only where another pass of the index stood in its way: in an index of one pass no call is.
+pub fn one_pass_is_never_busy()
+    ensures { OnePassIsNeverBusy }
 {}
 
 /// A call that had returned when a stamp was made stands before each call that is begun by a pass that has followed the stamp: at no

@@ -2,6 +2,7 @@
 //! SIGMOD 2018) whose readers take no lock (ROWEX, Leis and others, DaMoN 2016).
 #![tactic(auto)]
 
+mod calls;
 mod census;
 mod changing;
 mod cursor;

@@ -13,7 +13,6 @@ use Rattle.insert_cases.specs.declared.choice.Case.TheVariants.{LeafPushdown, No
 use Rattle.insert_cases.specs.declared.choice.Step.{Step}
 use Rattle.tries.specs.Keys.{Key}
 use Rattle.moments.specs.State.{IsHeldSince, IsMissed}
-use Rattle.std.proofs.lemmas.List.{length-append}
 use Rattle.record_words.specs.declared.layout.Layout.{Layout}
 use Rattle.moments.specs.declared.Rec.TheVariants.{Node as a_node, Leaf as a_leaf}
 use Rattle.rowex_core.specs.declared.event.Event.{Event}
@@ -27,6 +26,7 @@ use Rattle.rowex_rights.specs.Ending.{IsAtRest}
 use Rattle.rowex_walks.specs.Scan.{IsShaped}
 use Rattle.rowex_table.specs.Made.{IsLater}
 use Rattle.rowex_reading.specs.Lookups.{HasFound, HasSearched}
+use Rattle.rowex_core.specs.Knowing.{IsSince}
 use Rattle.rowex_reading.specs.Seen.{Sure, since}
 use Rattle.rowex_reading.proofs.Seeing.{later_trans, held_stable, missed_stable, shaped_stable, sure_later}
 use Rattle.rowex_writing.specs.Asking.{aim_of, answer_unless, declined}
@@ -258,22 +258,15 @@ module _ {G : Type 0} (table : TableView) (becomes : G → Event → G → Type 
   pub loaded_reads : (k : Known) (n : ℕ) (a b : SeatView × G) → Reads table becomes n a b → HasLoadedRoot k a.0.known → HasLoadedRoot k b.0.known
   loaded_reads k n a b r l = run_loaded table becomes k a b l (reads_run table becomes n a b r)
 
--- at its load of the root the pass had seen no less than at the start
-loaded_from : (k j : Known) → HasLoadedRoot k j → length k.front ≤ since j
-loaded_from k j l = let (more, is) = l.old in let n = length-append k.front more in omega (arith, ap length is, n)
-
 -- since the start no fewer steps have been made
 loaded_steps : (k j : Known) → HasLoadedRoot k j → k.steps ≤ j.steps
 loaded_steps k j l = let x = l.from in let y = l.upto in omega (arith, x, y)
 
 -- ---- refusals
-met_before : (k i j : Known) → k.steps ≤ i.steps → HasMetLock i j → HasMetLock k j
-met_before k i j low m = met_since k i j j low refl m
-
-pub refused_busy : (layout : Layout) (key : Key) (k i j : Known) (m : ℕ) → since i ≡ m → HasLoadedRoot k i → IsLater k i → IsLater i j → HasMetLock i j ⊎ (m < length j.front) → HasRefused layout key k j Busy
-refused_busy layout key k i j m same loaded first next why = record {
+pub refused_busy : (layout : Layout) (key : Key) (k i j : Known) (m : ℕ) → IsSince i m → HasLoadedRoot k i → IsLater k i → IsLater i j → HasMetLock layout i j ⊎ (m < length j.front) → HasRefused layout key k j Busy
+refused_busy layout key k i j m (p, pinned, early) loaded first next why = record {
   others = (later_trans first next).front;
-  cause = elim why [ inl met ↦ inl (met_before k i j (loaded_steps k i loaded) met) | inr moved ↦ inr (let low = loaded_from k i loaded in omega (arith, low, moved, same)) ];
+  cause = elim why [ inl met ↦ inl (met_since layout k i j j (loaded_steps k i loaded) first.pass refl met) | inr moved ↦ inr (m, (p, (sym first.pin ∙ pinned), early), moved) ];
 }
 
 full_before : (layout : Layout) (key : Key) (k i j : Known) (full : Full) → k.steps ≤ i.steps → IsFull layout key i j full → IsFull layout key k j full

@@ -27,7 +27,7 @@ use Rattle.rowex_core.specs.declared.known.Owned.{Owned}
 use Rattle.rowex_core.specs.Cores.{Core, HasRecord}
 use Rattle.rowex_core.specs.Events.{target_word, word_of}
 use Rattle.rowex_core.specs.Having.{AreKept}
-use Rattle.rowex_core.specs.Knowing.{IsEvent, failed_with, claim_learned, anchor_learned, node_learned, state_learned}
+use Rattle.rowex_core.specs.Knowing.{IsEvent, failed_with, claim_learned, anchor_learned, node_learned, state_learned, taker_at}
 use Rattle.rowex_core.specs.Sharing.{IsOwned}
 use Rattle.rowex_core.proofs.Having.{owned_used}
 use Rattle.rowex_core.proofs.Owning.{knows_all}
@@ -62,7 +62,7 @@ module _ (c : Core) (k : Known) (x : Failed) (h : Contains k.failed x) where
   node_failed : (n found : ℕ) → Contains (node_learned c n found k).failed x
   node_failed n found = go (nat_eq found 2)
     where
-      go : (b : Bool) → Contains (if b then record k { locks = record { node = n; words = c.words (a_node n) } ∷ k.locks } else failed_with k a_lock (target_word (NodeTarget n)) found).failed x
+      go : (b : Bool) → Contains (if b then record k { locks = record { node = n; words = c.words (a_node n) } ∷ k.locks } else failed_with k (a_lock (taker_at c (NodeTarget n))) (target_word (NodeTarget n)) found).failed x
       go true = h
       go false = one_more k.failed _ x h
 

@@ -14,7 +14,7 @@ use Rattle.rowex_core.specs.declared.event.Target.{Target}
 use Rattle.rowex_core.specs.declared.known.Fresh.{Fresh}
 use Rattle.rowex_core.specs.declared.known.Known.{Known}
 use Rattle.rowex_core.specs.Events.{next_change}
-use Rattle.rowex_core.specs.Knowing.{IsEvent}
+use Rattle.rowex_core.specs.Knowing.{IsEvent, moment_of}
 use Rattle.rowex_table.specs.Runs.{Runs, Steps, silent}
 use Rattle.rowex_table.specs.Seats.{TableView, SeatView}
 use Rattle.rowex_table.specs.Stays.{KeepsRecall, LeavesFresh, LeavesFront, LeavesPin}
@@ -96,7 +96,7 @@ module _ (layout : Layout) (k j : Known) where
 
         loaded : (act : Act) → (LeavesFresh act → j.fresh ≡ k.fresh) → IsEvent layout act silent k j → HasLoadedRoot first j
         loaded (LoadRef Root w) is e =
-            let now : j.fresh ≡ record { front = e.core.changes; step = k.steps } = ap (λ (z : Known). z.fresh) e.learned_is in
+            let now : j.fresh ≡ record { front = e.core.changes; step = k.steps; pinned = moment_of k.pin } = ap (λ (z : Known). z.fresh) e.learned_is in
             let seen : j.front ≡ e.core.changes = ap (λ (z : Known). z.front) e.learned_is in
             let f = e.knows.seen.front in
             record {

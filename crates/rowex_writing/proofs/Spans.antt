@@ -1,5 +1,5 @@
 -- Parts of a way, and the locks of their nodes, one more and one less.
-use Rattle.std.proofs.Common.{◌≡◌, inl, inr, ℕ, ◌+◌, ◌-◌, ◌<◌, ◌≤◌, List, [], ◌∷◌, length, get_or, take, drop, refl, sym, ap, subst, ◌∙◌, arith, suc}
+use Rattle.std.proofs.Common.{◌≡◌, ◌≢◌, inl, inr, ℕ, ◌+◌, ◌-◌, ◌<◌, ◌≤◌, List, [], ◌∷◌, length, get_or, take, drop, refl, sym, ap, subst, ◌∙◌, arith, suc}
 use Rattle.std.specs.Prelude.{Contains, slice_range}
 use Rattle.std.proofs.lemmas.List.{drop_more, drop_all}
 use Rattle.std.proofs.lemmas.List.Elements.{All-cons, All-drop, All-take, All-weaker}
@@ -8,7 +8,7 @@ use Rattle.insert_cases.specs.declared.choice.Step.{Step}
 use Rattle.compound_node.specs.declared.entries.Entry.TheVariants.{Node}
 use Rattle.rowex_walks.specs.Scan.{IsSeen}
 use Rattle.moments.specs.Trades.{IsOf}
-use Rattle.moments.proofs.Members.{map_of, none_of}
+use Rattle.moments.proofs.Members.{map_of, none_of, of_map}
 use Rattle.rowex_core.specs.declared.known.Known.{Known}
 use Rattle.rowex_core.specs.declared.known.Locked.{Locked}
 use Rattle.rowex_core.specs.Having.{LocksJust}
@@ -69,13 +69,21 @@ led_nodes layout k way i j led =
     All-take (λ (s : Step). s.number < layout.nodes) (j - i) (drop i way) (All-drop (λ (s : Step). s.number < layout.nodes) i way
     (All-weaker (IsLedStep layout k) (λ (s : Step). s.number < layout.nodes) (λ s h. h.0) way led))
 
+-- a node that is none of those is not locked
+pub not_locked : (k : Known) (n : ℕ) (ns : List ℕ) → HasJustLocked k ns → ¬ (IsOf n ns) → ¬ (IsOf n (nodes_of k.locks))
+not_locked k n ns (just, apart) new i =
+    let (l, there, same) = of_map (λ (z : Locked). z.node) n k.locks i in new (subst (λ m. IsOf m ns) (sym same) (just.only l there))
+
 -- ---- a lock that was refused some time ago
-pub met_since : (k i j h : Known) → k.steps ≤ i.steps → h.failed ≡ j.failed → HasMetLock i j → HasMetLock k h
-met_since k i j h count same m = record {
+pub met_since : (layout : Layout) (k i j h : Known) → k.steps ≤ i.steps → i.pass ≡ k.pass → h.failed ≡ j.failed → HasMetLock layout i j → HasMetLock layout k h
+met_since layout k i j h count pass same m = record {
   target = m.target;
   failed = m.failed;
   is = subst (λ z. Contains z m.failed) (sym same) m.is;
+  by = m.by;
   act = m.act;
+  another = subst (λ q. m.by ≢ q) pass m.another;
+  below = m.below;
   place = m.place;
   word = m.word;
   now = let l = m.now in omega arith;

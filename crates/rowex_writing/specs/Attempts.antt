@@ -11,6 +11,7 @@ use Rattle.record_words.specs.declared.layout.Layout.{Layout}
 use Rattle.tries.specs.Keys.{Key}
 use Rattle.moments.specs.State.{IsHeldSince, IsMissed}
 use Rattle.rowex_core.specs.declared.known.Known.{Known}
+use Rattle.rowex_core.specs.Knowing.{IsSince}
 use Rattle.rowex_reading.specs.Seen.{Sure, since}
 use Rattle.rowex_writing.specs.Changes.{HasChanged, HasStored, HasTaken, IsFull}
 use Rattle.rowex_writing.specs.Locks.{HasMetLock}
@@ -79,10 +80,10 @@ abbrev pub HasAnswered : Known → Known → Ask → Key → ℕ → Reply → T
 HasAnswered k j ask key value reply = (HasLooked j ask key reply × OthersGoOn k.pass k.front j.front) ⊎
     ((x : Change) × (was : Option ℕ) × IsChangeOf k.pass ask key value reply x was × HasChanged k j x was)
 
--- why it was refused: a lock of it met another's, or another's change was seen since; or no node record was free, or no leaf
--- record with room for its key
+-- why it was refused: a lock of it found taken by another pass what it wanted to lock, or the pass has seen a change that was made
+-- since its pin; or no node record was free, or no leaf record with room for its key
 abbrev pub IsAttemptCause : Layout → Key → Known → Known → TryFault → Type 0
-IsAttemptCause layout key k j Busy = HasMetLock k j ⊎ (length k.front < length j.front)
+IsAttemptCause layout key k j Busy = HasMetLock layout k j ⊎ ((m : ℕ) × IsSince k m × (m < length j.front))
 IsAttemptCause layout key k j FullNodes = IsFull layout key k j Nodes
 IsAttemptCause layout key k j FullLeaves = IsFull layout key k j Leaves
 

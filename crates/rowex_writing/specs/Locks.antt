@@ -1,10 +1,12 @@
 -- The locks of a writer, and what it was refused them by.
-use Rattle.std.specs.Prelude.{◌≡◌, ◌⊎◌, ℕ, ◌-◌, ◌<◌, ◌≤◌, List, [], ◌∷◌, map, All, Contains, IsSome, None, slice_range}
+use Rattle.std.specs.Prelude.{◌≡◌, ◌≢◌, ◌⊎◌, ℕ, ◌-◌, ◌<◌, ◌≤◌, List, [], ◌∷◌, length, get_or, map, All, Contains, IsSome, Some, None, slice_range}
+use Rattle.finite_map.specs.declared.Change.{Change}
 use Rattle.insert_cases.specs.declared.choice.Step.{Step}
 use Rattle.compound_node.specs.declared.entries.Entry.TheVariants.{Node}
 use Rattle.record_words.specs.declared.layout.Layout.{Layout}
 use Rattle.record_words.specs.declared.state.Tag.TheVariants.{Locked as LockedTag, Obsolete}
 use Rattle.record_words.specs.State.{state_word}
+use Rattle.moments.specs.declared.Pin.{Pin}
 use Rattle.moments.specs.Trades.{IsOf, AreApart}
 use Rattle.rowex_walks.specs.Scan.{IsSeen}
 use Rattle.rowex_core.specs.declared.event.Act.{Act}
@@ -92,19 +94,31 @@ pub record HasLockedSpan (k : Known) (way : List Step) (span : Span) : Type 0 wh
 abbrev pub IsTakenWord : ℕ → Type 0
 IsTakenWord w = (w ≡ state_word LockedTag) ⊎ ((epoch : ℕ) × (w ≡ state_word (Obsolete epoch)))
 
--- Of these failed steps one, at step `since` or later, is a lock that found taken what it wanted to lock.
-pub record HasMetTaken (since : ℕ) (tried : List Failed) : Type 0 where
+-- Of these failed steps of pass q one, at step `since` or later, is a lock that found taken what it wanted to lock: another pass of
+-- the index had locked it, or had unlinked the node that was retired.
+pub record HasMetTaken (layout : Layout) (q since : ℕ) (tried : List Failed) : Type 0 where
   pub target : Target
   pub failed : Failed
   pub is : Contains tried failed
-  pub act : failed.act ≡ a_lock
+  pub by : ℕ
+  pub act : failed.act ≡ a_lock (Some by)
+  pub another : by ≢ q
+  pub below : by < layout.passes
   pub place : failed.location ≡ target_word target
   pub word : IsTakenWord failed.word
   pub now : since ≤ failed.step
 
 -- from k on a lock of the pass was such a one
-abbrev pub HasMetLock : Known → Known → Type 0
-HasMetLock k j = HasMetTaken k.steps j.failed
+abbrev pub HasMetLock : Layout → Known → Known → Type 0
+HasMetLock layout k j = HasMetTaken layout k.pass k.steps j.failed
+
+-- from place m on no change of the list is by pass q
+abbrev pub NoneFrom : ℕ → ℕ → List Change → Type 0
+NoneFrom q m changes = (i : ℕ) (d : Change) → m ≤ i → i < length changes → (get_or changes i d).pass ≢ q
+
+-- since its pin the pass has made no change
+abbrev pub HasMadeNoChange : Known → Type 0
+HasMadeNoChange k = (p : Pin) → k.pin ≡ Some p → NoneFrom k.pass p.moment k.front
 
 -- The parts
 
@@ -118,8 +132,8 @@ abbrev pub LocksAnchor : Known → Known → Type 0
 LocksAnchor k j = IsSome j.anchor × (j.locks ≡ k.locks) × (j.own ≡ k.own)
 
 -- its lock was refused
-abbrev pub IsRefusedLock : Known → Known → Type 0
-IsRefusedLock k j = HasMetLock k j × (j.locks ≡ k.locks) × (j.anchor ≡ k.anchor) × (j.own ≡ k.own)
+abbrev pub IsRefusedLock : Layout → Known → Known → Type 0
+IsRefusedLock layout k j = HasMetLock layout k j × (j.locks ≡ k.locks) × (j.anchor ≡ k.anchor) × (j.own ≡ k.own)
 
 -- what it knows of its records, of the anchor, of changes, of its round and of failed steps is the same
 abbrev pub LeavesRest : Known → Known → Type 0

@@ -11,7 +11,7 @@ ghost use Rattle.rowex_table.specs.Seats.{IsSeatOf};
 ghost use Rattle.rowex_writing.specs.Asking.{aim_of as the_aim, declined as the_answer};
 ghost use Rattle.rowex_writing.specs.Attempts.{HasAnswered, HasDone, HasLoadedRoot, HasRefused, reply_to as the_reply};
 ghost use Rattle.rowex_writing.specs.Changes.{HasNoRoom, HasRun, HasTakenPlan, HasTakenSpan, HasTriedOnce};
-ghost use Rattle.rowex_writing.specs.Locks.{HasMetLock};
+ghost use Rattle.rowex_writing.specs.Locks.{HasMadeNoChange, HasMetLock};
 ghost use Rattle.rowex_reading.specs.Ways.{IsWayOf, value_of};
 ghost use Rattle.rowex_writing.specs.Counts.{attempt_steps, change_steps};
 
@@ -38,7 +38,7 @@ use thiserror::Error;
 /// Why an attempt was refused. It has changed nothing then.
 #[derive(Clone, Copy, Debug, PartialEq, Eq, Error)]
 pub enum TryFault {
-    /// Another pass had locked or retired what it wanted to lock, or has made a change since.
+    /// Another pass had locked or retired what it wanted to lock, or has made a change since the attempt began.
     #[error("another pass is at work there")]
     Busy,
     /// No node record was free.
@@ -65,6 +65,7 @@ pub fn attempt<G: Gate>(
     requires own { IsSeatOf table.now seat.old }
     requires pinned { IsSome seat.old.known.pin }
     requires rest { IsAtRest seat.old.known }
+    requires quiet { HasMadeNoChange seat.old.known }
     ensures run { HasTriedOnce table.now G.becomes (seat.old, gate.old) (seat.new, gate.new) }
     ensures loaded { HasLoadedRoot seat.old.known seat.new.known }
     ensures rest { IsAtRest seat.new.known }
@@ -109,6 +110,7 @@ fn act_on<G: Gate>(
     requires found { HasFound seat.old.known key.now (value_of found) }
     requires met { the_answer ask found ≡ None }
     requires rest { IsAtRest seat.old.known }
+    requires quiet { HasMadeNoChange seat.old.known }
     ensures run { HasTriedOnce table.now G.becomes (seat.old, gate.old) (seat.new, gate.new) }
     ensures rest { IsAtRest seat.new.known }
     ensures answered { IfOk result (λ reply. (k : Known) → IsLater k seat.old.known → HasAnswered k seat.new.known ask key.now value reply) }
@@ -148,13 +150,14 @@ fn take_span<G: Gate>(
     requires span { (span.end ≤ span.len) × (span.len ≤ length way.now) }
     requires way { (m : ℕ) × IsWayOf table.now.layout seat.old.known m key.now way.now found }
     requires rest { IsAtRest seat.old.known }
+    requires quiet { HasMadeNoChange seat.old.known }
     ensures run { HasTriedOnce table.now G.becomes (seat.old, gate.old) (seat.new, gate.new) }
     ensures later { IsLater seat.old.known seat.new.known }
     ensures taken { result ≡ true → (m : ℕ) → IsWayOf table.now.layout seat.old.known m key.now way.now found →
         HasTakenSpan table.now seat.new m key.now way.now found span }
     ensures rest { result ≡ false → IsAtRest seat.new.known }
     ensures busy { result ≡ false → (m : ℕ) → IsWayOf table.now.layout seat.old.known m key.now way.now found →
-        HasMetLock seat.old.known seat.new.known ⊎ (m < length seat.new.known.front) }
+        HasMetLock table.now.layout seat.old.known seat.new.known ⊎ (m < length seat.new.known.front) }
     ensures few { seat.new.known.steps ≤ seat.old.known.steps + 4 * span.len + 3 }
 {
     if !lock_span(table, seat, gate, way, span) {

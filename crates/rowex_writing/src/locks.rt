@@ -1,9 +1,10 @@
 //! The locks of a writer: those of a span of the way, taken upwards, and given back.
 
-ghost use Rattle.std.specs.Prelude.{◌≡◌, ◌≤◌, [], ◌∷◌, length, true, false, ◌+◌, ◌*◌};
-ghost use Rattle.moments.specs.Trades.{AreApart};
+ghost use Rattle.std.specs.Prelude.{◌≡◌, ◌≤◌, [], ◌∷◌, length, true, false, None, ◌+◌, ◌*◌};
+ghost use Rattle.moments.specs.Trades.{AreApart, IsOf};
+ghost use Rattle.rowex_table.specs.Made.{nodes_of};
 ghost use Rattle.rowex_table.specs.Seats.{IsSeatOf};
-ghost use Rattle.rowex_writing.specs.Locks.{AreLed, AreNodes, HasJustLocked, HasLockedSpan, HasMetLock, HasNoLock, IsRefusedLock, LeavesRest, LocksAnchor, LocksOne, Tries, TriesOnce, Works, numbers_of};
+ghost use Rattle.rowex_writing.specs.Locks.{AreLed, AreNodes, HasJustLocked, HasLockedSpan, HasMadeNoChange, HasMetLock, HasNoLock, IsRefusedLock, LeavesRest, LocksAnchor, LocksOne, Tries, TriesOnce, Works, numbers_of};
 
 use crate::plan::Span;
 use insert_cases::Step;
@@ -12,8 +13,8 @@ use rowex_core::{Gate, Target};
 use rowex_table::{HotTable, TableSeat};
 
 /// Locks the nodes of a span of the way, and the one above it that gets the new entry: from the lowest upwards, and the anchor
-/// last where the span goes up to the root. Each is tried once at most. Where one is locked or was retired, those that were locked
-/// are given back, and the answer is `false`.
+/// last where the span goes up to the root. Each is tried once at most. Where another pass has locked one or has retired it, those
+/// that were locked are given back, and the answer is `false`.
 pub fn lock_span<G: Gate>(
     table: &HotTable,
     seat: &mut TableSeat,
@@ -26,10 +27,12 @@ pub fn lock_span<G: Gate>(
     requires free { HasNoLock seat.old.known }
     requires led { AreLed table.now.layout seat.old.known way.now }
     requires apart { AreApart (numbers_of way.now) }
+    requires none { seat.old.known.own ≡ [] }
+    requires quiet { HasMadeNoChange seat.old.known }
     ensures tries { TriesOnce table.now G.becomes (seat.old, gate.old) (seat.new, gate.new) }
     ensures same { seat.new.known.own ≡ seat.old.known.own }
     ensures locked { result ≡ true → HasLockedSpan seat.new.known way.now span }
-    ensures refused { result ≡ false → HasNoLock seat.new.known × HasMetLock seat.old.known seat.new.known }
+    ensures refused { result ≡ false → HasNoLock seat.new.known × HasMetLock table.now.layout seat.old.known seat.new.known }
     ensures few { seat.new.known.steps ≤ seat.old.known.steps + 2 * span.len + 1 }
 {
     let first = span.end.saturating_sub(1);
@@ -55,9 +58,12 @@ pub fn lock_span<G: Gate>(
 fn lock_node<G: Gate>(table: &HotTable, seat: &mut TableSeat, gate: &mut G, step: Step) -> bool
     requires own { IsSeatOf table.now seat.old }
     requires led { AreLed table.now.layout seat.old.known (step ∷ []) }
+    requires free { ¬ (IsOf step.number (nodes_of seat.old.known.locks)) }
+    requires none { seat.old.known.own ≡ [] }
+    requires quiet { HasMadeNoChange seat.old.known }
     ensures tries { Tries table.now G.becomes (Target.Node step.number ∷ []) (seat.old, gate.old) (seat.new, gate.new) }
     ensures locked { result ≡ true → LocksOne step.number seat.old.known seat.new.known }
-    ensures refused { result ≡ false → IsRefusedLock seat.old.known seat.new.known }
+    ensures refused { result ≡ false → IsRefusedLock table.now.layout seat.old.known seat.new.known }
     ensures few { seat.new.known.steps ≤ seat.old.known.steps + 1 }
 {
     let found = table.lock(seat, gate, Target::Node(step.number));
@@ -67,9 +73,10 @@ fn lock_node<G: Gate>(table: &HotTable, seat: &mut TableSeat, gate: &mut G, step
 /// Locks the anchor, if it is live.
 fn lock_anchor<G: Gate>(table: &HotTable, seat: &mut TableSeat, gate: &mut G) -> bool
     requires own { IsSeatOf table.now seat.old }
+    requires free { seat.old.known.anchor ≡ None }
     ensures tries { Tries table.now G.becomes (Target.Anchor ∷ []) (seat.old, gate.old) (seat.new, gate.new) }
     ensures locked { result ≡ true → LocksAnchor seat.old.known seat.new.known }
-    ensures refused { result ≡ false → IsRefusedLock seat.old.known seat.new.known }
+    ensures refused { result ≡ false → IsRefusedLock table.now.layout seat.old.known seat.new.known }
     ensures few { seat.new.known.steps ≤ seat.old.known.steps + 1 }
 {
     let found = table.lock(seat, gate, Target::Anchor);

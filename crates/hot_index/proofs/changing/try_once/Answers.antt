@@ -1,10 +1,14 @@
 -- An attempt is noted as its pass clears the pin, and has settled then.
 use Rattle.std.proofs.Common.{rules, ◌≡◌, ◌+◌, ◌∙◌, ap, arith}
 use Rattle.rowex_core.specs.declared.known.Known.{Known}
+use Rattle.hot_index.proofs.Conflicts.{pins_quiet}
 use Rattle.hot_index.proofs.Noting.{fits_then}
 use Rattle.hot_index.proofs.Tracing.{attempt_ended}
 use Rattle.hot_index.proofs.Trying.{run_pinned, run_same, tried, tried_later, tried_loaded}
 use Rattle.hot_index.proofs.changing.try_once.Goals as goal
+
+pub attempt-outcome-requires-clause-quiet : goal.attempt-outcome-requires-clause-quiet
+attempt-outcome-requires-clause-quiet g c = pins_quiet c.pin.ensures.steps
 
 pub end_try-requires : goal.end_try-requires
 end_try-requires g c =

@@ -8,6 +8,7 @@ use Rattle.rowex_reading.proofs.Seeing.{later_trans}
 use Rattle.rowex_reading.specs.Seen.{since}
 use Rattle.rowex_writing.proofs.Attempting.{answered_change, answered_look, found_later, loaded_reads, looked, planned_as, planned_later, refused_busy, refused_leaves, refused_nodes, removal_takes, rest_reads}
 use Rattle.rowex_writing.proofs.Onward.{reads_run}
+use Rattle.rowex_writing.proofs.Works.{quiet_on}
 use Rattle.rowex_writing.proofs.Runs.{none_once, once_run, run_loaded, run_once}
 use Rattle.rowex_reading.proofs.Ways.{way_later}
 use Rattle.rowex_writing.proofs.attempts.act_on.Goals as goal
@@ -23,6 +24,9 @@ take_span-requires-clause-way g c = (since c.args.seat.now.known, way_later _ _ 
 
 pub take_span-requires-clause-rest : goal.take_span-requires-clause-rest
 take_span-requires-clause-rest g c = rest_reads c.args.table.now g.G.Gate.becomes c.find_plan.ensures.reads.0 _ _ c.find_plan.ensures.reads.1 c.requires.rest
+
+pub take_span-requires-clause-quiet : goal.take_span-requires-clause-quiet
+take_span-requires-clause-quiet g c = quiet_on _ _ (reads_later c.find_plan.ensures.reads.1) c.requires.quiet
 
 pub returns-in-Answer-clause-run : goal.returns-in-Answer-clause-run
 returns-in-Answer-clause-run g c = none_once c.args.table.now g.G.Gate.becomes _ _ (reads_run c.args.table.now g.G.Gate.becomes c.find_plan.ensures.reads.0 _ _ c.find_plan.ensures.reads.1)
@@ -46,7 +50,7 @@ pub returns-then-not-take_span-clause-refused : goal.returns-then-not-take_span-
 returns-then-not-take_span-clause-refused g c k loaded later =
     let r = c.find_plan.ensures.reads.1 in
     let way = way_later _ _ _ _ _ _ _ (reads_later r) c.requires.way in
-    refused_busy c.args.table.now.layout c.args.key.now k _ _ (since c.args.seat.now.known) (same_since r) (loaded_reads c.args.table.now g.G.Gate.becomes k c.find_plan.ensures.reads.0 _ _ r loaded)
+    refused_busy c.args.table.now.layout c.args.key.now k _ _ (since c.args.seat.now.known) way.since (loaded_reads c.args.table.now g.G.Gate.becomes k c.find_plan.ensures.reads.0 _ _ r loaded)
     (later_trans later (reads_later r)) c.take_span.ensures.later (c.take_span.ensures.busy c.if-not-take_span.true (since c.args.seat.now.known) way)
 
 pub make_change-requires : goal.make_change-requires

@@ -6,6 +6,7 @@ use Rattle.rowex_reading.specs.Ways.{IsWayOf}
 use Rattle.rowex_writing.proofs.Attempting.{answered_look, declined_looked, searched}
 use Rattle.rowex_writing.proofs.Runs.{none_once, run_loaded, run_once}
 use Rattle.rowex_reading.proofs.Counting.{looks_count}
+use Rattle.rowex_writing.proofs.Works.{quiet_on}
 use Rattle.rowex_writing.proofs.attempts.attempt.Goals as goal
 
 pub act_on-requires-clause-own : goal.act_on-requires-clause-own
@@ -18,6 +19,11 @@ act_on-requires-clause-way g c =
 
 pub act_on-requires-clause-rest : goal.act_on-requires-clause-rest
 act_on-requires-clause-rest g c = (searched c.args.table.now g.G.Gate.becomes _ _ c.search_way-found.ensures.searched c.search_way-found.ensures.possible c.requires.own c.requires.rest).rest
+
+pub act_on-requires-clause-quiet : goal.act_on-requires-clause-quiet
+act_on-requires-clause-quiet g c =
+    let b = searched c.args.table.now g.G.Gate.becomes _ _ c.search_way-found.ensures.searched c.search_way-found.ensures.possible c.requires.own c.requires.rest in
+    quiet_on c.args.seat.now.known c.search_way-found.new.seat.known b.later c.requires.quiet
 
 pub returns-clause-run : goal.returns-clause-run
 returns-clause-run g c =

@@ -15,7 +15,7 @@ returns-clause-locked g c t =
 
 pub returns-clause-refused : goal.returns-clause-refused
 returns-clause-refused g c f =
-    anchor_met c.args.table.now.layout c.args.seat.now.known c.lock-found.new.seat.known c.lock-found.result c.lock-found.ensures.event (is_not_live c.lock-found.result c.pack_state.result c.pack_state.ensures f)
+    anchor_met c.args.table.now.layout c.args.seat.now.known c.lock-found.new.seat.known c.lock-found.result c.requires.free c.lock-found.ensures.event (is_not_live c.lock-found.result c.pack_state.result c.pack_state.ensures f)
 
 pub returns-clause-few : goal.returns-clause-few
 returns-clause-few g c =

@@ -27,7 +27,7 @@ pub returns-clause-refused : goal.returns-clause-refused
 returns-clause-refused g c f =
     let led = All-head (IsLedStep c.args.table.now.layout c.args.seat.now.known) c.args.step [] c.requires.led in
     let (m, h, since, sure) = led.1 in
-    node_met c.args.table.now.layout c.args.seat.now.known c.lock-found.new.seat.known c.args.step.number m h c.lock-found.result since sure c.lock-found.ensures.event (is_not_live c.lock-found.result c.pack_state.result c.pack_state.ensures f)
+    node_met c.args.table.now.layout c.args.seat.now.known c.lock-found.new.seat.known c.args.step.number m h c.lock-found.result since sure c.requires.none c.requires.free c.requires.quiet c.lock-found.ensures.event (is_not_live c.lock-found.result c.pack_state.result c.pack_state.ensures f)
 
 pub returns-clause-few : goal.returns-clause-few
 returns-clause-few g c =

@@ -5,8 +5,8 @@ use Rattle.insert_cases.specs.declared.choice.Step.{Step}
 use Rattle.rowex_writing.specs.Locks.{HasJustLocked, numbers_of}
 use Rattle.moments.specs.Trades.{IsOf}
 use Rattle.rowex_writing.proofs.Tried.{TriesNodes, anchor_more, nodes_more, nodes_none, nodes_once, number_new, once_then}
-use Rattle.rowex_writing.proofs.Works.{works_seat, works_later, works_count}
-use Rattle.rowex_writing.proofs.Spans.{slice_more, slice_none, none_taken, locked_more, locked_same, led_one, led_nodes, met_since}
+use Rattle.rowex_writing.proofs.Works.{works_seat, works_later, works_count, quiet_on}
+use Rattle.rowex_writing.proofs.Spans.{slice_more, slice_none, none_taken, locked_more, locked_same, led_one, led_nodes, met_since, not_locked}
 use Rattle.rowex_writing.proofs.locks.lock_span.Goals as goal
 
 pub loop-index-init : goal.loop-index-init
@@ -27,6 +27,21 @@ lock_node-requires-clause-led g c =
     let i = c.loop-index.invariant in
     led_one c.args.table.now.layout c.args.seat.now.known c.loop-index.seat.known c.args.way.now (c.loop-index.index - 1) _ (omega (arith, c.loop-index-test.true, i.range.1, c.requires.span.1))
     (works_later c.args.table.now g.G.Gate.becomes (c.args.seat.now, c.args.gate.now) (c.loop-index.seat, c.loop-index.gate) i.tries.run) c.requires.led
+
+pub lock_node-requires-clause-free : goal.lock_node-requires-clause-free
+lock_node-requires-clause-free g c =
+    let i = c.loop-index.invariant in
+    let at : c.loop-index.index ≡ c.loop-index.index - 1 + 1 = omega (arith, c.loop-index-test.true) in
+    not_locked c.loop-index.seat.known _ _ (subst (λ n. HasJustLocked c.loop-index.seat.known (numbers_of (slice_range c.args.way.now n c.args.span.len))) at i.locked)
+    (number_new c.args.way.now (c.loop-index.index - 1) c.args.span.len _ (omega (arith, c.loop-index-test.true, i.range.1)) c.requires.span.1 c.requires.apart)
+
+pub lock_node-requires-clause-none : goal.lock_node-requires-clause-none
+lock_node-requires-clause-none g c = c.loop-index.invariant.same ∙ c.requires.none
+
+pub lock_node-requires-clause-quiet : goal.lock_node-requires-clause-quiet
+lock_node-requires-clause-quiet g c =
+    quiet_on c.args.seat.now.known c.loop-index.seat.known
+    (works_later c.args.table.now g.G.Gate.becomes (c.args.seat.now, c.args.gate.now) (c.loop-index.seat, c.loop-index.gate) c.loop-index.invariant.tries.run) c.requires.quiet
 
 pub unlock_nodes-requires-clause-own : goal.unlock_nodes-requires-clause-own
 unlock_nodes-requires-clause-own g c =
@@ -60,8 +75,9 @@ returns-then-not-lock_node-clause-refused g c e =
     let r = c.lock_node.ensures.refused c.if-not-lock_node.true in
     let u = c.unlock_nodes.ensures in (
       (u.free, u.rest.1 ∙ (r.2 ∙ i.anchor)),
-      met_since c.args.seat.now.known c.loop-index.seat.known c.lock_node.new.seat.known c.unlock_nodes.new.seat.known
-          (works_count c.args.table.now g.G.Gate.becomes (c.args.seat.now, c.args.gate.now) (c.loop-index.seat, c.loop-index.gate) i.tries.run) u.rest.4 r.0,
+      met_since c.args.table.now.layout c.args.seat.now.known c.loop-index.seat.known c.lock_node.new.seat.known c.unlock_nodes.new.seat.known
+          (works_count c.args.table.now g.G.Gate.becomes (c.args.seat.now, c.args.gate.now) (c.loop-index.seat, c.loop-index.gate) i.tries.run)
+          (works_later c.args.table.now g.G.Gate.becomes (c.args.seat.now, c.args.gate.now) (c.loop-index.seat, c.loop-index.gate) i.tries.run).pass u.rest.4 r.0,
     )
 
 pub loop-index-preserved : goal.loop-index-preserved
@@ -135,6 +151,7 @@ returns-clause-refused g c e =
     let r = c.lock_anchor.ensures.refused c.if-lock_anchor.false in
     let u = c.unlock_nodes-2.ensures in (
       (u.free, u.rest.1 ∙ (r.2 ∙ i.anchor)),
-      met_since c.args.seat.now.known c.loop-index.seat.known c.lock_anchor.new.seat.known c.unlock_nodes-2.new.seat.known
-          (works_count c.args.table.now g.G.Gate.becomes (c.args.seat.now, c.args.gate.now) (c.loop-index.seat, c.loop-index.gate) i.tries.run) u.rest.4 r.0,
+      met_since c.args.table.now.layout c.args.seat.now.known c.loop-index.seat.known c.lock_anchor.new.seat.known c.unlock_nodes-2.new.seat.known
+          (works_count c.args.table.now g.G.Gate.becomes (c.args.seat.now, c.args.gate.now) (c.loop-index.seat, c.loop-index.gate) i.tries.run)
+          (works_later c.args.table.now g.G.Gate.becomes (c.args.seat.now, c.args.gate.now) (c.loop-index.seat, c.loop-index.gate) i.tries.run).pass u.rest.4 r.0,
     )
