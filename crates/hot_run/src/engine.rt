@@ -8,13 +8,13 @@ ghost use Rattle.hot_run.specs.Progress.{HasAnsweredCommand, HasRunCommands, ans
 ghost use Rattle.hot_run.specs.Told.{IsCommandTold};
 
 use crate::answer::push_answer;
+use crate::callers::Caller;
 use finite_map::{Call, Reply};
 use hot_index::{Full, Gate, Index, Pairs, Pass};
 use hot_scripts::answer::push_scan;
 use hot_scripts::command::{Command, Range};
 use hot_scripts::script::Script;
 use std::alloc::{AllocError, Global};
-use std::sync::Wait;
 
 /// What a call is answered.
 #[derive(Clone, Copy)]
@@ -25,20 +25,21 @@ pub enum Answer {
     Full(Full),
 }
 
-/// Makes a call, and waits where another pass stands in its way.
-fn make_call<T: Wait, G: Gate>(
-    rt: &T,
+/// Makes a call.
+fn make_call<C: Caller, G: Gate>(
+    caller: &C,
     index: &Index,
     pass: &mut Pass,
     call: &Call,
     gate: &mut G,
 ) -> Answer
-    requires { Owns index.now pass.old }
+    requires own { Owns index.now pass.old }
+    requires fits { C.fits caller.now index.now }
     ensures own { Owns index.now pass.new }
     ensures told { (place : ℕ) × IsCommandTold index.now.layout pass.old (answered_as call.now result place) pass.new }
     ensures steps { HasTold index.now G.becomes (pass.old, gate.old) (pass.new, gate.new) }
 {
-    match index.call_with(rt, pass, call, gate) {
+    match caller.call(index, pass, call, gate) {
         Ok(reply) => Answer::Reply(reply),
         Err(full) => Answer::Full(full),
     }
@@ -63,8 +64,8 @@ fn answer_scan<G: Gate>(
 }
 
 /// Makes a command, and ends the text by the lines of its answer. A scan puts its pairs into the list.
-fn answer_command<T: Wait, G: Gate>(
-    rt: &T,
+fn answer_command<C: Caller, G: Gate>(
+    caller: &C,
     index: &Index,
     pass: &mut Pass,
     command: &Command,
@@ -72,14 +73,15 @@ fn answer_command<T: Wait, G: Gate>(
     pairs: &mut Pairs,
     text: &mut Vec<u8>,
 ) -> Result<(), AllocError>
-    requires { Owns index.now pass.old }
+    requires own { Owns index.now pass.old }
+    requires fits { C.fits caller.now index.now }
     ensures own { Owns index.now pass.new }
     ensures answered { OnOk result (HasAnsweredCommand index.now G.becomes (pass.old, gate.old) command.now (pass.new, gate.new)
         text.old.items text.new.items) }
 {
     match command {
         Command::Call(call) => {
-            let answer = make_call(rt, index, pass, call, gate);
+            let answer = make_call(caller, index, pass, call, gate);
             push_answer(text, answer)
         }
         Command::Scan(range) => answer_scan(index, pass, range, gate, pairs, text),
@@ -87,15 +89,16 @@ fn answer_command<T: Wait, G: Gate>(
 }
 
 /// Makes the commands of a script one after another, with a gate that is told each of their steps, and gives their answers.
-pub fn run<T: Wait, G: Gate>(
-    rt: &T,
+pub fn run<C: Caller, G: Gate>(
+    caller: &C,
     alloc: Global,
     index: &Index,
     pass: &mut Pass,
     script: &Script,
     gate: &mut G,
 ) -> Result<Vec<u8>, AllocError>
-    requires { Owns index.now pass.old }
+    requires own { Owns index.now pass.old }
+    requires fits { C.fits caller.now index.now }
     ensures own { Owns index.now pass.new }
     ensures ran { IfOk result (λ text. HasRunCommands index.now G.becomes (pass.old, gate.old) (script_commands script.now) (pass.new, gate.new) text.items) }
 {
@@ -103,7 +106,9 @@ pub fn run<T: Wait, G: Gate>(
     let mut pairs = Pairs::new(alloc);
     let mut commands = script.commands();
     while let Some(command) = commands.next_command() {
-        answer_command(rt, index, pass, &command, gate, &mut pairs, &mut text)?;
+        answer_command(
+            caller, index, pass, &command, gate, &mut pairs, &mut text,
+        )?;
     }
     Ok(text)
 }

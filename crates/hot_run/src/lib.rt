@@ -11,11 +11,13 @@ ghost use Rattle.hot_run.specs.Scripts.{AllFrom};
 ghost use Rattle.hot_run.specs.Told.{IsOfSize};
 
 mod answer;
+mod callers;
 mod engine;
 mod scripts;
 mod streams;
 mod together;
 
+use callers::Alone;
 use hot_index::{Index, IndexFault, NoGate, Pass, create};
 pub use hot_scripts::fault::{Reason, RunFault};
 use hot_scripts::script::Script;
@@ -24,11 +26,10 @@ pub use record_words::{MAX_LEAVES, MAX_NODES};
 pub use scripts::{run_scripts, run_scripts_with};
 use std::alloc::Global;
 use std::io::{Read, Write};
-use std::sync::Wait;
 
-/// Runs one script on a new index of so many node and leaf records, which has one pass.
-pub fn run_one<T: Wait, R: Read, W: Write>(
-    rt: &T,
+/// Runs one script on a new index of so many node and leaf records, which has one pass: it waits for nobody, and ends once its reader
+/// and its writer have.
+pub fn run_one<R: Read, W: Write>(
     alloc: Global,
     nodes: u32,
     leaves: u32,
@@ -53,13 +54,12 @@ pub fn run_one<T: Wait, R: Read, W: Write>(
 {
     let bytes = streams::read_script(alloc, reader)?;
     let script = Script::parse(bytes)?;
-    let text = answer_one(rt, alloc, nodes, leaves, &script)?;
+    let text = answer_one(alloc, nodes, leaves, &script)?;
     streams::write_answers(writer, &text)
 }
 
 /// Answers one script on a new index.
-fn answer_one<T: Wait>(
-    rt: &T,
+fn answer_one(
     alloc: Global,
     nodes: u32,
     leaves: u32,
@@ -71,7 +71,7 @@ fn answer_one<T: Wait>(
     ensures fault { IfErr result (λ fault. fault ≡ RunFault.Memory) }
 {
     let (index, _, mut pass) = new_index(alloc, 0, nodes, leaves)?;
-    let text = engine::run(rt, alloc, &index, &mut pass, script, &mut NoGate)?;
+    let text = engine::run(&Alone, alloc, &index, &mut pass, script, &mut NoGate)?;
     Ok(text)
 }
 

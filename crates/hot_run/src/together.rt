@@ -10,6 +10,7 @@ ghost use Rattle.hot_run.specs.Progress.{AllThree, AreReady, HasAnsweredLast, Ha
 ghost use Rattle.hot_run.specs.Scripts.{AreAllAnswered};
 
 use crate::answer::sections;
+use crate::callers::Waits;
 use crate::engine::run;
 use crate::new_index;
 use hot_index::{Gate, Index, NoGate, Pass};
@@ -104,7 +105,7 @@ fn answer_last<T: Wait>(
     ensures { IfOk result (λ texts. HasAnsweredLast index.now pass met.items (script_commands last.now) (flat_map (λ t. t.items) texts.items)) }
 {
     let mut pass = pass;
-    let text = run(rt, alloc, index, &mut pass, last, &mut NoGate)?;
+    let text = run(&Waits { rt }, alloc, index, &mut pass, last, &mut NoGate)?;
     let (_, again) = meet_all(alloc, index, pass, met)?;
     sections(alloc, again, text)
 }
@@ -234,7 +235,7 @@ fn run_file<T: Wait, G: Gate + Drop>(
     ensures { IfOk result (IsDone index.now G.becomes (pass, gate) (script_commands script)) }
 {
     let (mut pass, mut gate) = (pass, gate);
-    let text = run(rt, alloc, index, &mut pass, &script, &mut gate)?;
+    let text = run(&Waits { rt }, alloc, index, &mut pass, &script, &mut gate)?;
     Ok(Done { pass, text })
 }
 

@@ -42,7 +42,7 @@ where
     let request = parse(rt.alloc(), words)?;
     let (nodes, leaves) = (request.nodes, request.leaves);
     if request.files.is_empty() {
-        run_one(rt, rt.alloc(), nodes, leaves, reader, writer)?;
+        run_one(rt.alloc(), nodes, leaves, reader, writer)?;
         return Ok(());
     }
     let files = read_files(rt.alloc(), system, &request.files)?;

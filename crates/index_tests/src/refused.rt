@@ -163,12 +163,12 @@ const SCRIPT: &[u8] = b"insert 61 5\nget 61\n";
 fn a_script_is_answered_when_it_is_run_again(rt: HostRuntime) {
     let mut out = Vec::new(rt.alloc());
     let mut reader = SCRIPT;
-    if let Err(fault) = run_one(&rt, rt.alloc(), 2, 4, &mut reader, &mut out) {
+    if let Err(fault) = run_one(rt.alloc(), 2, 4, &mut reader, &mut out) {
         assert!(rt; matches!(fault, RunFault::Write | RunFault::Memory));
         assert!(rt; matches!(fault, RunFault::Write) || out.is_empty());
         out = Vec::new(rt.alloc());
         reader = SCRIPT;
-        assert!(rt; run_one(&rt, rt.alloc(), 2, 4, &mut reader, &mut out).is_ok());
+        assert!(rt; run_one(rt.alloc(), 2, 4, &mut reader, &mut out).is_ok());
     }
     assert!(rt; out.as_slice() == b"inserted\nvalue 5\n".as_slice());
 }

@@ -36,7 +36,7 @@ fn run_after<T: Threads + Wait + Sync + Abort, R: Read, W: Write>(
     writer: &mut W,
 ) -> Result<(), RunFault> {
     if scripts.is_empty() {
-        return run_one(rt, alloc, 1, 1, reader, writer);
+        return run_one(alloc, 1, 1, reader, writer);
     }
     let files = files_of(rt, alloc, scripts);
     run_scripts(rt, alloc, 1, 1, files, reader, writer)
@@ -160,7 +160,7 @@ fn scripts_of_the_greatest_length(rt: HostRuntime) {
             panic!(rt; "no memory")
         };
         let (mut reader, mut out) = (script.as_slice(), Vec::new(rt.alloc()));
-        let got = run_one(&rt, rt.alloc(), 1, 1, &mut reader, &mut out);
+        let got = run_one(rt.alloc(), 1, 1, &mut reader, &mut out);
         assert!(rt; is_so_long(&got, length));
         let mut files = files_of(&rt, rt.alloc(), &[]);
         assert!(rt; files.is_empty());

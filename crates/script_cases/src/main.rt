@@ -57,7 +57,7 @@ where
     };
     let (mut reader, mut writer) = (last.as_bytes(), io::writer(rt));
     if others.is_empty() {
-        return run_one(rt, rt.alloc(), nodes, leaves, &mut reader, &mut writer);
+        return run_one(rt.alloc(), nodes, leaves, &mut reader, &mut writer);
     }
     let files = files_of(rt.alloc(), others)?;
     run_scripts(

@@ -7,7 +7,7 @@ use Rattle.hot_run.proofs.Progressing.{AreTold-untold}
 use Rattle.hot_run.proofs.answer_one.Goals as goal
 
 pub returns-clause-ok : goal.returns-clause-ok
-returns-clause-ok g c =
+returns-clause-ok c =
     let index = c.in_ok-index.index in
     let pass = c.in_ok-index.pass in
     let made = c.in_ok-index.ensures in
