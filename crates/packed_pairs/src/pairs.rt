@@ -1,6 +1,6 @@
 //! A list of pairs that is filled, read, and used again.
 
-ghost use Rattle.std.specs.Prelude.{◌≡◌, ◌++◌, ◌∷◌, ◌<◌, ◌^◌, [], All, IfOk, MatchOption, OnErr, OnOk, length, nat_eq};
+ghost use Rattle.std.specs.Prelude.{◌≡◌, ◌++◌, ◌∷◌, ◌<◌, ◌^◌, [], All, IfOk, MatchOption, OnErr, OnOk, if◌then◌else◌, is_ok, length, nat_eq};
 ghost use Rattle.key_bits.specs.Key.{IsKey};
 ghost use Rattle.packed_pairs.specs.Last.{IsLastKey};
 
@@ -71,13 +71,14 @@ impl Pairs {
     }
 
     /// Adds a pair at the end. Where memory ends, the list stays as it is.
+    #[inline(always)]
     pub fn push(&mut self, key: &[u8], value: u64) -> Result<(), AllocError>
         requires { IsKey key.now }
         ensures ok { OnOk result (self.new ≡ self.old ++ (key.now, value) ∷ []) }
         ensures err { OnErr result (self.new ≡ self.old) }
     {
         self.heads.reserve(1)?;
-        self.bytes.extend_from_slice(key)?;
+        append(&mut self.bytes, key)?;
         self.heads.push_reserved(Head {
             count: key.len() as u8,
             value,
@@ -114,4 +115,15 @@ impl Pairs {
         }
         Ok(list)
     }
+}
+
+/// Ends the bytes by those of a key. Keys of eight bytes are common, and a copy of so many needs no call.
+#[inline(always)]
+fn append(bytes: &mut Vec<u8>, key: &[u8]) -> Result<(), AllocError>
+    ensures items { bytes.new.items ≡ if is_ok result then bytes.old.items ++ key.now else bytes.old.items }
+{
+    if key.len() == 8 {
+        return bytes.extend_from_slice(&key[..8]);
+    }
+    bytes.extend_from_slice(key)
 }

@@ -1,4 +1,6 @@
 -- The lemmas of the crate.
+pub mod Fronting
+pub mod Ordering
 pub mod Walking
 pub mod Starting
 pub mod Downwards

@@ -2,6 +2,7 @@
 //! passes publish meanwhile.
 #![tactic(auto)]
 
+mod loading;
 mod reverse;
 mod scanning;
 

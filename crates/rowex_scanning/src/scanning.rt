@@ -4,6 +4,7 @@ ghost use Rattle.std.specs.Prelude.{◌≡◌, ◌≢◌, ◌≤◌, ◌<◌, �
 ghost use Rattle.compound_node.specs.declared.entries.Entry.TheVariants.{Leaf as LeafEntry, Node as NodeEntry};
 ghost use Rattle.key_bits.specs.Key.{IsKey};
 ghost use Rattle.record_words.specs.declared.TheConstants.{HEAD_WORDS, LEAF_FIELDS};
+ghost use Rattle.record_words.specs.Leaf.{key_word};
 ghost use Rattle.tries.specs.Keys.{IsAtMost, IsBefore};
 ghost use Rattle.rowex_table.specs.Seats.{IsSeatOf};
 ghost use Rattle.rowex_reading.specs.Possible.{IsPossible};
@@ -14,11 +15,13 @@ ghost use Rattle.rowex_reading.specs.declared.descent.Found.TheVariants.{Leaf as
 ghost use Rattle.rowex_scanning.specs.Counts.{scan_loads, walk_loads};
 ghost use Rattle.rowex_scanning.specs.Scanning.{HasScanned, IsEntered, IsFloor, IsLeafTaken, IsNotBelow, IsPairTaken, IsStart, IsWalk, asked_range};
 
+use crate::loading::load_bytes;
 use arrayvec::ArrayVec;
 use compound_node::Entry;
 use insert_cases::{Step, choose, level_below};
 use key_bits::{Key, MAX_BYTES};
 use packed_pairs::Pairs;
+use record_words::key_word_at;
 use rowex_core::Gate;
 use rowex_reading::{
     Found, MOST_NODES, load_entry, load_head, load_places, load_root, search_way, step_of,
@@ -147,14 +150,15 @@ fn scan_node<G: Gate>(
     let start = start_at(table, seat, gate, way, range.from, number, mismatch);
     let mut top = start.top;
     way.truncate(start.level);
+    let mut places = [0; MAX_BYTES];
     if start.leaf {
-        match take_leaf(table, seat, gate, range, number, pairs)? {
+        match take_leaf(table, seat, gate, range, number, &mut places, pairs)? {
             Verdict::Further => top.at += 1,
             Verdict::Past => return Ok(false),
             Verdict::Full => return Ok(true),
         }
     }
-    walk(table, seat, gate, way, range, top, pairs)
+    walk(table, seat, gate, way, range, top, &mut places, pairs)
 }
 
 /// Where a scan from a key starts on the way of the key's search, which ended at this leaf. The position at which the leaf's
@@ -198,7 +202,8 @@ pub(crate) fn start_at<G: Gate>(
     }
 }
 
-/// The walk over the places of the nodes on the way, from left to right, from the lowest of them on.
+/// The walk over the places of the nodes on the way, from left to right, from the lowest of them on. The bytes of each key go to the
+/// same places, whatever stands there.
 fn walk<G: Gate>(
     table: &HotTable,
     seat: &mut TableSeat,
@@ -206,6 +211,7 @@ fn walk<G: Gate>(
     way: &mut ArrayVec<Step, MOST_NODES>,
     range: &Range,
     lowest: Step,
+    places: &mut [u8; MAX_BYTES],
     pairs: &mut Pairs,
 ) -> Result<bool, AllocError>
     requires reader { IsReader table.now seat.old }
@@ -223,7 +229,7 @@ fn walk<G: Gate>(
                     top = enter(table, seat, gate, number);
                 }
                 Entry::Leaf(number) => {
-                    match take_leaf(table, seat, gate, range, number, pairs)? {
+                    match take_leaf(table, seat, gate, range, number, places, pairs)? {
                         Verdict::Further => top.at += 1,
                         Verdict::Past => return Ok(false),
                         Verdict::Full => return Ok(true),
@@ -258,7 +264,7 @@ pub(crate) fn enter<G: Gate>(
     step_of(&head, number, 0)
 }
 
-/// Loads a leaf whose key is not below the range, and takes its pair. Inline, as the two that it calls are.
+/// Loads a leaf whose key is not below the range, to these places, and takes its pair. Inline, as the two that it calls are.
 #[inline(always)]
 fn take_leaf<G: Gate>(
     table: &HotTable,
@@ -266,6 +272,7 @@ fn take_leaf<G: Gate>(
     gate: &mut G,
     range: &Range,
     number: u32,
+    places: &mut [u8; MAX_BYTES],
     pairs: &mut Pairs,
 ) -> Result<Verdict, AllocError>
     requires reader { IsReader table.now seat.old }
@@ -273,8 +280,7 @@ fn take_leaf<G: Gate>(
     ensures reads { (n : ℕ) × (n ≤ LEAF_FIELDS) × Reads table.now G.becomes n (seat.old, gate.old) (seat.new, gate.new) }
     ensures taken { IfOk result (IsLeafTaken seat.old.known seat.new.known (asked_range range.now) number pairs.old pairs.new) }
 {
-    let mut places = [0; MAX_BYTES];
-    let (length, value) = load_places(table, seat, gate, number, &mut places);
+    let (length, value) = load_bytes(table, seat, gate, number, places);
     take_pair(pairs, range, &places[..length], value)
 }
 
@@ -291,7 +297,7 @@ fn take_pair(
     requires above { IsAtMost range.now.from.now key.now }
     ensures { IfOk result (IsPairTaken (asked_range range.now) pairs.old key.now value pairs.new) }
 {
-    if is_before(range.upto.as_bytes(), key) {
+    if is_past(range, key) {
         return Ok(Verdict::Past);
     }
     if pairs.len() == range.limit {
@@ -299,6 +305,31 @@ fn take_pair(
     }
     pairs.push(key, value)?;
     Ok(Verdict::Further)
+}
+
+/// Whether a key is past the range. Mostly the first eight bytes tell that it is not, as one number each.
+#[inline(always)]
+fn is_past(range: &Range, key: &[u8]) -> bool
+    requires key { IsKey key.now }
+    ensures past { IsTrue result → IsBefore range.now.upto.now key.now }
+    ensures at_most { result ≡ false → IsAtMost key.now range.now.upto.now }
+{
+    let upto = range.upto.as_bytes();
+    if key.len() >= 8 && first_word(key) < key_word_at(range.upto, 0) {
+        return false;
+    }
+    is_before(upto, key)
+}
+
+/// The first eight bytes as a number, the first of them highest.
+#[inline(always)]
+fn first_word(key: &[u8]) -> u64
+    requires { 8 ≤ length key.now }
+    ensures { result ≡ key_word key.now 0 }
+{
+    let mut eight = [0; 8];
+    eight.copy_from_slice(&key[..8]);
+    u64::from_be_bytes(eight)
 }
 
 /// Whether the key with the first bytes is before that with the second: their first different byte says what their first different

@@ -9,8 +9,8 @@ heads c = c.push_reserved.ensures.items ∙ ap (λ z. z ++ record { count = leng
 
 pub invariant_of-self-2 : goal.invariant_of-self-2
 invariant_of-self-2 c =
-    rw (heads c, c.in_ok-extend_from_slice.ensures.items) (packed-push c.args.key.now _ refl c.self.inside.heads.items c.self.inside.bytes.items c.self.invariant c.requires)
+    rw (heads c, c.in_ok-append.ensures.items) (packed-push c.args.key.now _ refl c.self.inside.heads.items c.self.inside.bytes.items c.self.invariant c.requires)
 
 pub returns-clause-ok : goal.returns-clause-ok
 returns-clause-ok c =
-    rw (heads c, c.in_ok-extend_from_slice.ensures.items, ← c.self.view_is) (unpacked-push c.args.key.now _ refl c.self.inside.heads.items c.self.inside.bytes.items c.self.invariant)
+    rw (heads c, c.in_ok-append.ensures.items, ← c.self.view_is) (unpacked-push c.args.key.now _ refl c.self.inside.heads.items c.self.inside.bytes.items c.self.invariant)
