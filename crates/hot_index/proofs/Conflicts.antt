@@ -57,9 +57,9 @@ module _ {G : Type 0} (table : TableView) (becomes : G → Event → G → Type 
       let pin : m.0.known.pin ≡ a.0.known.pin = (act_leaves table.layout a.0.known m.0.known act s.event).pin (All-head LeavesPin act acts leave) in
       ⊎_elim
       (λ (same : b.0.known.fresh ≡ m.0.known.fresh). ⊎_elim
-          (λ (first : m.0.known.fresh ≡ a.0.known.fresh). inl (same ∙ first))
-          (λ (new : m.0.known.fresh.pinned ≡ moment_of a.0.known.pin). inr (ap (λ (z : Fresh). z.pinned) same ∙ new))
-          (event_pinned table.layout act a.0.known m.0.known s.event))
+      (λ (first : m.0.known.fresh ≡ a.0.known.fresh). inl (same ∙ first))
+      (λ (new : m.0.known.fresh.pinned ≡ moment_of a.0.known.pin). inr (ap (λ (z : Fresh). z.pinned) same ∙ new))
+      (event_pinned table.layout act a.0.known m.0.known s.event))
       (λ (late : b.0.known.fresh.pinned ≡ moment_of m.0.known.pin). inr (late ∙ ap moment_of pin))
       (runs_pinned acts m b (All-tail LeavesPin act acts leave) more)
 

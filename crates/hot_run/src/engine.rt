@@ -106,9 +106,7 @@ pub fn run<C: Caller, G: Gate>(
     let mut pairs = Pairs::new(alloc);
     let mut commands = script.commands();
     while let Some(command) = commands.next_command() {
-        answer_command(
-            caller, index, pass, &command, gate, &mut pairs, &mut text,
-        )?;
+        answer_command(caller, index, pass, &command, gate, &mut pairs, &mut text)?;
     }
     Ok(text)
 }

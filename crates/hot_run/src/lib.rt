@@ -59,12 +59,7 @@ pub fn run_one<R: Read, W: Write>(
 }
 
 /// Answers one script on a new index.
-fn answer_one(
-    alloc: Global,
-    nodes: u32,
-    leaves: u32,
-    script: &Script,
-) -> Result<Vec<u8>, RunFault>
+fn answer_one(alloc: Global, nodes: u32, leaves: u32, script: &Script) -> Result<Vec<u8>, RunFault>
     requires nodes { IsNodeCount nodes }
     requires leaves { IsLeafCount leaves }
     ensures ok { IfOk result (λ text. AreAnswered nodes leaves (script_commands script.now) text.items) }
