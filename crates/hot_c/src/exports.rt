@@ -1,4 +1,4 @@
-//! The calls of a program in C.
+//! The calls for programs in C. `c/hot.h` says how to use them.
 
 ghost use Rattle.std.specs.Prelude.{◌≡◌, ◌≢◌, ◌⊎◌, IsSome, None, Some, length};
 ghost use Rattle.finite_map.specs.declared.Call.TheVariants.{Exchange, Get, Insert, Remove, RemoveIf, Upsert};
@@ -24,8 +24,8 @@ use record_words::{Layout, Stock};
 use rowex_writing::{Aim, Ask};
 use std::alloc::Global;
 
-/// Makes an empty index with so many node and leaf records and a pass for each handle, and opens the handles, or none of them.
-/// All have to be closed.
+/// Makes an empty index with this number of node and leaf records and a pass for each handle, and opens all handles, or none. All
+/// must be closed before.
 #[unsafe(no_mangle)]
 pub extern "C" fn hot_create(alloc: Global, nodes: u32, leaves: u32, handles: &mut [Handle]) -> u32
     ensures open { ¬ AreClosed handles.old → (result ≡ OPEN) × (handles.new ≡ handles.old) }
@@ -49,8 +49,8 @@ pub extern "C" fn hot_create(alloc: Global, nodes: u32, leaves: u32, handles: &m
     }
 }
 
-/// Makes an empty index with this stock of records and a pass for each handle, and opens the handles, or none of them. All have to
-/// be closed.
+/// Makes an empty index with this stock of records and a pass for each handle, and opens all handles, or none. All must be closed
+/// before.
 #[unsafe(no_mangle)]
 pub extern "C" fn hot_create_with(alloc: Global, stock: &HotStock, handles: &mut [Handle]) -> u32
     ensures open { ¬ AreClosed handles.old → (result ≡ OPEN) × (handles.new ≡ handles.old) }
@@ -74,7 +74,7 @@ pub extern "C" fn hot_create_with(alloc: Global, stock: &HotStock, handles: &mut
     }
 }
 
-/// Writes a stock for so many keys at once of at most so many bytes each: `Stock::for_keys` says which.
+/// Writes the stock of `Stock::for_keys` for `count` keys of at most `longest` bytes each.
 #[unsafe(no_mangle)]
 pub extern "C" fn hot_stock_for_keys(count: u32, longest: usize, stock: &mut HotStock)
     ensures { stock_in stock.new ≡ stock_for count longest }
@@ -82,7 +82,7 @@ pub extern "C" fn hot_stock_for_keys(count: u32, longest: usize, stock: &mut Hot
     stock.set(Stock::for_keys(count, longest));
 }
 
-/// Writes how many bytes the table of an index with this stock and so many handles takes.
+/// Writes how many bytes the table of an index with this stock and this number of handles takes.
 #[unsafe(no_mangle)]
 pub extern "C" fn hot_stock_bytes(stock: &HotStock, handles: usize, bytes: &mut usize) -> u32
     ensures range { ¬ IsStockSize handles (stock_in stock.now) → (result ≡ OUT_OF_RANGE) × (bytes.new ≡ bytes.old) }
@@ -100,7 +100,7 @@ pub extern "C" fn hot_stock_bytes(stock: &HotStock, handles: usize, bytes: &mut 
     }
 }
 
-/// Writes the number of a handle's pass: the handle's place among those that were opened with it.
+/// Writes the number of a handle's pass, which is the handle's place among those that were opened with it.
 #[unsafe(no_mangle)]
 pub extern "C" fn hot_number(handle: &mut Handle, number: &mut u16) -> u32
     ensures closed { handle.old.slot.opened ≡ None → (result ≡ CLOSED) × (number.new ≡ number.old) }
@@ -114,7 +114,7 @@ pub extern "C" fn hot_number(handle: &mut Handle, number: &mut u16) -> u32
     DONE
 }
 
-/// Looks a key up: `FOUND`, with its value, or `ABSENT`. It is never refused.
+/// Looks up a key: `FOUND`, with its value, or `ABSENT`. It is never busy and never full.
 #[unsafe(no_mangle)]
 pub extern "C" fn hot_get(handle: &mut Handle, key: &[u8], value: &mut u64) -> u32
     ensures call { Answers key.now (Get key.now) handle.old.slot.opened handle.new.slot.opened value.old value.new result }
@@ -129,7 +129,7 @@ pub extern "C" fn hot_get(handle: &mut Handle, key: &[u8], value: &mut u64) -> u
     }
 }
 
-/// Looks many keys up, in turn, and writes of each what it found: `FOUND`, with its value, or `ABSENT`.
+/// Looks up many keys, in turn, and writes what it found for each: `FOUND`, with its value, or `ABSENT`.
 #[unsafe(no_mangle)]
 pub extern "C" fn hot_get_many(
     alloc: Global,
@@ -155,7 +155,7 @@ pub extern "C" fn hot_get_many(
     DONE
 }
 
-/// Gives a key a value if it is absent: `INSERTED`, or `EXISTS` with the value that it has and keeps.
+/// Inserts a key with a value: `INSERTED`; or `EXISTS` with the value that the key has already, and keeps.
 #[unsafe(no_mangle)]
 pub extern "C" fn hot_try_insert(handle: &mut Handle, key: &[u8], value: u64, had: &mut u64) -> u32
     ensures call { Answers key.now (Insert key.now value) handle.old.slot.opened handle.new.slot.opened had.old had.new result }
@@ -163,7 +163,7 @@ pub extern "C" fn hot_try_insert(handle: &mut Handle, key: &[u8], value: u64, ha
     change(handle, Ask::Insert, key, value, had)
 }
 
-/// Gives a key a value: `NEW`, or `WAS` with the value that it had.
+/// Gives a key a value, whether it has one or not: `NEW`, or `WAS` with the value that it had.
 #[unsafe(no_mangle)]
 pub extern "C" fn hot_try_upsert(handle: &mut Handle, key: &[u8], value: u64, had: &mut u64) -> u32
     ensures call { Answers key.now (Upsert key.now value) handle.old.slot.opened handle.new.slot.opened had.old had.new result }
@@ -171,7 +171,8 @@ pub extern "C" fn hot_try_upsert(handle: &mut Handle, key: &[u8], value: u64, ha
     change(handle, Ask::Upsert, key, value, had)
 }
 
-/// Gives a key a value if it has the expected one: `EXCHANGED`; or `DIFFERS` with the value that it has and keeps; or `ABSENT`.
+/// Gives a key a new value if it has the expected one (`EXCHANGED`). Else it changes nothing: `DIFFERS` with the value that the key
+/// has, or `ABSENT`.
 #[unsafe(no_mangle)]
 pub extern "C" fn hot_try_exchange(
     handle: &mut Handle,
@@ -185,7 +186,7 @@ pub extern "C" fn hot_try_exchange(
     change(handle, Ask::Exchange(expected), key, value, had)
 }
 
-/// Makes a key absent: `REMOVED` with the value that it had, or `ABSENT`. It needs no leaf, and is never full of leaves.
+/// Removes a key: `REMOVED` with the value that it had, or `ABSENT`. It needs no leaf record, so it never answers `FULL_LEAVES`.
 #[unsafe(no_mangle)]
 pub extern "C" fn hot_try_remove(handle: &mut Handle, key: &[u8], had: &mut u64) -> u32
     ensures call { Answers key.now (Remove key.now) handle.old.slot.opened handle.new.slot.opened had.old had.new result }
@@ -194,8 +195,8 @@ pub extern "C" fn hot_try_remove(handle: &mut Handle, key: &[u8], had: &mut u64)
     change(handle, Ask::Remove, key, 0, had)
 }
 
-/// Makes a key absent if it has the expected value: `REMOVED` with that value; or `DIFFERS` with the value that it has and keeps; or
-/// `ABSENT`. It is never full of leaves.
+/// Removes a key if it has the expected value (`REMOVED` with that value). Else it changes nothing: `DIFFERS` with the value that
+/// the key has, or `ABSENT`. It never answers `FULL_LEAVES`.
 #[unsafe(no_mangle)]
 pub extern "C" fn hot_try_remove_if(
     handle: &mut Handle,
@@ -209,7 +210,7 @@ pub extern "C" fn hot_try_remove_if(
     change(handle, Ask::RemoveIf(expected), key, 0, had)
 }
 
-/// Asks for a change of a key's value.
+/// Tries to change a key's value.
 fn change(handle: &mut Handle, ask: Ask, key: &[u8], value: u64, had: &mut u64) -> u32
     ensures call { Answers key.now (asked_call ask key.now value) handle.old.slot.opened handle.new.slot.opened had.old had.new result }
     ensures leafless { aim_of ask ≡ Aim.Remove → result ≢ FULL_LEAVES }
@@ -223,8 +224,8 @@ fn change(handle: &mut Handle, ask: Ask, key: &[u8], value: u64, had: &mut u64) 
     }
 }
 
-/// Lists the keys from `from` to `upto`, both included, with their values, in the order of the keys: as many as there is room
-/// for. `more` becomes 1 where there is a further one, else 0.
+/// Lists the first pairs whose keys are from `from` to `upto`, both included, in key order: as many as `room` has places. `more`
+/// becomes 1 if the range has more, else 0.
 #[unsafe(no_mangle)]
 pub extern "C" fn hot_scan(
     alloc: Global,
@@ -255,8 +256,8 @@ pub extern "C" fn hot_scan(
     }
 }
 
-/// Lists the keys from `upto` down to `from`, both included, with their values, in falling order of the keys: as many as there is
-/// room for. `more` becomes 1 where there is a further one below, else 0.
+/// Lists the last pairs whose keys are from `from` to `upto`, both included, in falling key order: as many as `room` has places.
+/// `more` becomes 1 if the range has more below, else 0.
 #[unsafe(no_mangle)]
 pub extern "C" fn hot_scan_reverse(
     alloc: Global,
@@ -291,7 +292,7 @@ pub extern "C" fn hot_scan_reverse(
     }
 }
 
-/// Makes one round of collection, and writes how many nodes and leaves it gave back.
+/// Makes one round of collection, and writes how many node and leaf records it gave back.
 #[unsafe(no_mangle)]
 pub extern "C" fn hot_collect(handle: &mut Handle, nodes: &mut u32, leaves: &mut u32) -> u32
     ensures closed { handle.old.slot.opened ≡ None → (result ≡ CLOSED) × (handle.new.slot.opened ≡ None) × (nodes.new ≡ nodes.old) × (leaves.new ≡ leaves.old) }
@@ -306,7 +307,7 @@ pub extern "C" fn hot_collect(handle: &mut Handle, nodes: &mut u32, leaves: &mut
     DONE
 }
 
-/// Counts the records of each kind and size that are free, held, live and obsolete, and writes the counts. It is a snapshot of no one
+/// Counts how many node records, and leaf records of each size, are free, held, live and obsolete. The counts are of no single
 /// moment.
 #[unsafe(no_mangle)]
 pub extern "C" fn hot_census(handle: &mut Handle, counts: &mut RecordCounts) -> u32
@@ -320,7 +321,7 @@ pub extern "C" fn hot_census(handle: &mut Handle, counts: &mut RecordCounts) -> 
     DONE
 }
 
-/// Closes a handle. The last one of an index that is closed gives back the memory of the index.
+/// Closes a handle. When the last handle of an index is closed, the index is freed.
 #[unsafe(no_mangle)]
 pub extern "C" fn hot_destroy(alloc: Global, handle: &mut Handle) -> u32
     ensures closed { handle.old.slot.opened ≡ None → result ≡ CLOSED }

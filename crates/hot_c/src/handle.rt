@@ -1,4 +1,4 @@
-//! Handles, by which a program in C uses an index.
+//! Handles, with which a program in C uses an index.
 
 ghost use Rattle.std.specs.Prelude.{◌≡◌, ◌↔◌, IsSome, IsTrue, None, Some};
 
@@ -49,7 +49,7 @@ impl Handle {
 
 fn needs_send<T: Send>(_value: &T) {}
 
-/// A handle may go to another thread: only then is this function proved.
+/// This function is proved only if a handle may go to another thread.
 pub fn may_go_to_another_thread(handle: &Handle) {
     needs_send(handle);
 }

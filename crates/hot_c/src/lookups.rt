@@ -1,4 +1,4 @@
-//! Keys that a program in C looks up by one call.
+//! The keys that a program in C looks up by one call.
 
 ghost use Rattle.std.specs.Prelude.{◌≡◌, ◌↔◌, All, IfOk, IsTrue, length, map};
 ghost use Rattle.hot_c.specs.Lookups.{answer, are_answered, key_in};
@@ -8,7 +8,7 @@ use crate::status::{ABSENT, FOUND};
 use key_bits::{Key, MAX_BYTES};
 use std::alloc::{AllocError, Global};
 
-/// A key to look up, and what was found, in C's order of fields.
+/// A key to look up, and what was found. The fields have the order of C's.
 #[repr(C)]
 pub struct Lookup<'a> {
     pub key: &'a [u8],
@@ -40,7 +40,7 @@ pub fn keys_of(alloc: Global, lookups: &[Lookup<'_>]) -> Result<Vec<Key>, AllocE
     Ok(keys)
 }
 
-/// Writes what was found of each key.
+/// Writes what was found for each key.
 pub fn write_found(found: &[Option<u64>], lookups: &mut [Lookup<'_>])
     requires { length found.now ≡ length lookups.old }
     ensures { lookups.new ≡ are_answered lookups.old found.now }
@@ -50,7 +50,7 @@ pub fn write_found(found: &[Option<u64>], lookups: &mut [Lookup<'_>])
     }
 }
 
-/// Writes what was found of a key.
+/// Writes what was found for a key.
 fn write_one(found: Option<u64>, lookup: &mut Lookup<'_>)
     ensures { lookup.new ≡ answer lookup.old found }
 {

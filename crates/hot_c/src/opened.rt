@@ -46,7 +46,7 @@ impl Opened {
         self.index.get_many(&mut self.pass, keys, found);
     }
 
-    /// Asks for a change of a key's value. A removal does not use the value here.
+    /// Tries to change a key's value. A removal doesn't use `value`.
     pub fn change(&mut self, ask: Ask, key: &Key, value: u64) -> Result<Reply, TryFault>
         ensures index { self.new.index ≡ self.old.index }
         ensures call { MatchResult result (IsNoted self.old.index.value.layout self.old.pass self.new.pass (asked_call ask key.now value))
@@ -65,7 +65,7 @@ impl Opened {
         }
     }
 
-    /// The pairs of the keys from `from` to `upto`, the first `limit` of them.
+    /// The first `limit` pairs whose keys are from `from` to `upto`.
     pub fn scan(
         &mut self,
         alloc: Global,
@@ -80,7 +80,7 @@ impl Opened {
         self.index.scan(alloc, &mut self.pass, from, upto, limit)
     }
 
-    /// The pairs of the keys from `upto` down to `from`, the last `limit` of them.
+    /// The last `limit` pairs whose keys are from `from` to `upto`, in falling order.
     pub fn scan_reverse(
         &mut self,
         alloc: Global,

@@ -1,4 +1,4 @@
-//! How handles are opened: a new index, and a pass of it for each.
+//! How handles are opened: on a new index, with a pass for each.
 
 ghost use Rattle.std.specs.Prelude.{◌≡◌, ◌≢◌, ◌↔◌, ℕ, Err, IfErr, IfOk, IsErr, IsTrue, Some, length, map, slice_get};
 ghost use Rattle.hot_index.specs.Passes.{IsNewPass, Owns, PassView};

@@ -1,11 +1,11 @@
-//! A scan's pairs, as they lie in the array of a program in C.
+//! The pairs of a scan in an array of C.
 
 ghost use Rattle.std.specs.Prelude.{◌≡◌, ◌≤◌, length, drop};
 ghost use Rattle.hot_c.specs.Pairs.{AreSpelled, Spells};
 
 use key_bits::Key;
 
-/// A key with its value. Of the bytes those up to the length are the key's.
+/// A key with its value. The key is the first `length` bytes.
 #[repr(C)]
 pub struct Pair {
     pub key: [u8; 240],

@@ -1,11 +1,11 @@
-//! The statuses by which a program in C is told what became of a call.
+//! The statuses that tell a program in C how a call came out.
 
 ghost use Rattle.std.specs.Prelude.{◌≡◌};
 ghost use Rattle.hot_c.specs.Statuses.{reply_status, value_after};
 
 use hot_index::{Reply, TryFault};
 
-/// The call was made, and has no other answer.
+/// The call was made. There is nothing else to tell.
 pub const DONE: u32 = 0;
 /// The key has the value that was written.
 pub const FOUND: u32 = 1;
@@ -21,7 +21,7 @@ pub const NEW: u32 = 5;
 pub const WAS: u32 = 6;
 /// The key had the value that was written, and is absent now.
 pub const REMOVED: u32 = 7;
-/// Another call stood in the way; nothing was changed.
+/// Another call was in the way; nothing was changed.
 pub const BUSY: u32 = 8;
 /// No node record was free; nothing was changed.
 pub const FULL_NODES: u32 = 9;
@@ -35,7 +35,7 @@ pub const CLOSED: u32 = 12;
 pub const OPEN: u32 = 13;
 /// A number of handles, nodes or leaves is out of range.
 pub const OUT_OF_RANGE: u32 = 14;
-/// There is no memory.
+/// Memory was refused.
 pub const NO_MEMORY: u32 = 15;
 /// The key had the expected value, and has the new one now.
 pub const EXCHANGED: u32 = 16;

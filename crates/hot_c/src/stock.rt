@@ -1,11 +1,11 @@
-//! Stocks of records, as a program in C tells them.
+//! Stocks of records, as a program in C gives them.
 
 ghost use Rattle.std.specs.Prelude.{◌≡◌};
 ghost use Rattle.hot_c.specs.Stocks.{stock_in};
 
 use record_words::Stock;
 
-/// How many node records and leaf records of each class an index has, in C's order of fields.
+/// How many node records, and leaf records of each class, an index has. The fields have the order of C's.
 #[repr(C)]
 #[derive(Clone, Copy)]
 pub struct HotStock {
@@ -32,7 +32,7 @@ impl HotStock {
         }
     }
 
-    /// Takes the numbers of a stock.
+    /// Copies the numbers of a stock.
     pub fn set(&mut self, stock: Stock)
         ensures { stock_in self.new ≡ stock }
     {

@@ -1,4 +1,4 @@
-//! What an index holds: how many of its records are in each state.
+//! Census: how many records of an index are in each state.
 
 ghost use Rattle.std.specs.Prelude.{◌≡◌, ◌+◌, ◌<◌, ◌≤◌, ◌^◌, []};
 ghost use Rattle.moments.specs.declared.Rec.TheVariants.{Node as a_node, Leaf as a_leaf};
@@ -12,32 +12,33 @@ use record_words::{Tag, unpack_state};
 use rowex_core::{Gate, Rec};
 use rowex_table::{HotTable, TableSeat};
 
-/// How many records of one kind and size are in each state, in the order of fields of C's.
+/// How many records of one kind and class are in each state. The fields have the order of those of `hot_states` in `c/hot.h`.
 #[repr(C)]
 #[derive(Clone, Copy)]
 pub struct StateCounts {
-    /// Any pass may claim these.
+    /// Free for any pass to claim.
     pub free: u32,
-    /// A pass has claimed these, and has not made them ready yet.
+    /// Claimed by a pass, and not ready yet.
     pub held: u32,
-    /// These are in use, locked or not. Among them is what a change has made ready and is about to link, or has just unlinked.
+    /// In use, locked or not. Records that a change has made ready and not linked yet, or has unlinked and not marked yet, are
+    /// among them.
     pub live: u32,
-    /// These were retired, and have not been given back.
+    /// Retired, and not given back yet.
     pub obsolete: u32,
 }
 
-/// What an index holds: how many records of each kind and size are in each state, and how many bytes its table takes.
+/// How many node records, and leaf records of each class, are in each state, and how many bytes the table has.
 #[repr(C)]
 #[derive(Clone, Copy)]
 pub struct RecordCounts {
     pub nodes: StateCounts,
-    /// Leaf records for keys to 8 bytes.
+    /// Leaf records for keys of up to 8 bytes.
     pub short: StateCounts,
-    /// Leaf records for keys to 24 bytes.
+    /// Leaf records for keys of up to 24 bytes.
     pub medium: StateCounts,
-    /// Leaf records for keys to 56 bytes.
+    /// Leaf records for keys of up to 56 bytes.
     pub large: StateCounts,
-    /// Leaf records for keys to 88 bytes.
+    /// Leaf records for keys of up to 88 bytes.
     pub wide: StateCounts,
     /// Leaf records for keys of any length.
     pub long: StateCounts,
@@ -82,7 +83,7 @@ fn count_nodes<G: Gate>(table: &HotTable, seat: &mut TableSeat, gate: &mut G) ->
     counts
 }
 
-/// Loads the states of leaf records from one number up to another, without that, and counts what it finds.
+/// Loads the states of the leaf records from one number up to another, exclusive, and counts what it finds.
 fn count_leaves<G: Gate>(
     table: &HotTable,
     seat: &mut TableSeat,
@@ -115,7 +116,7 @@ fn none() -> StateCounts
     }
 }
 
-/// The counts with one record more, whose state has this word.
+/// The counts with one more record, which has this state word.
 fn counted(counts: StateCounts, word: u64) -> StateCounts
     requires few { counts.free + counts.held + counts.live + counts.obsolete + 1 < 2 ^ 32 }
     requires state { IsSpelling HasStateWord state_word word }

@@ -1,4 +1,4 @@
-//! A call that may change the index, on the seat of a pass and with its room: its attempts, and what is noted of them.
+//! A call that may change the index, made with a pass's seat and room: its attempts, and the note of an answer.
 
 ghost use Rattle.std.specs.Prelude.{◌≡◌, ◌≢◌, List, Err, None, IfSome, IsSome, false};
 ghost use Rattle.finite_map.specs.declared.Note.{Note};
@@ -25,7 +25,7 @@ use rowex_writing::{Aim, Ask, Full, TryFault, attempt};
 use std::sync::Wait;
 use std::thread;
 
-/// Asks for a change, at most twice, after a small round where one is due.
+/// Tries to make a change, at most twice, after a small round if one is due.
 pub fn try_change<G: Gate>(
     table: &HotTable,
     seat: &mut TableSeat,
@@ -44,7 +44,7 @@ pub fn try_change<G: Gate>(
     try_twice(table, seat, gate, room, ask, key, value)
 }
 
-/// Makes a small round, where one is due.
+/// Makes a small round, if one is due.
 fn tidy<G: Gate>(table: &HotTable, seat: &mut TableSeat, gate: &mut G, room: &mut Room)
     requires idle { IsIdle table.now seat.old }
     ensures idle { IsIdle table.now seat.new }
@@ -56,9 +56,9 @@ fn tidy<G: Gate>(table: &HotTable, seat: &mut TableSeat, gate: &mut G, room: &mu
     }
 }
 
-/// Asks for a change, at most twice: where no record was free, it makes a round of collection before it tries again, and that
-/// answer stands. Where the round gave back none of the kind, and no other pass can have done so, the second attempt does nothing, and is
-/// refused as the first was.
+/// Tries to make a change, at most twice: if no record was free, it makes a round of collection and tries again, and that answer
+/// stands. If the round gave back no record of the kind, and there is no other pass that could have done so, the second attempt
+/// does nothing and is refused as the first was.
 fn try_twice<G: Gate>(
     table: &HotTable,
     seat: &mut TableSeat,
@@ -87,7 +87,7 @@ fn try_twice<G: Gate>(
     first
 }
 
-/// The kind of records that a call was refused for, if it was refused as full.
+/// The kind of records of which none was free, if the call was refused for that.
 fn lacked(answer: Result<Reply, TryFault>) -> Option<Full>
     ensures some { IfSome result (λ full. answer ≡ Err (fault_of full)) }
     ensures none { result ≡ None → is_full answer ≡ false }
@@ -99,8 +99,7 @@ fn lacked(answer: Result<Reply, TryFault>) -> Option<Full>
     }
 }
 
-/// Whether there may be a free record of this kind after a round: one that it gave back, or that another pass has given back in the
-/// meantime.
+/// Whether a record of this kind may be free after a round: one that the round gave back, or that another pass gave back meanwhile.
 fn has_room(layout: Layout, given: Given, kind: Full) -> bool {
     let count = match kind {
         Full::Nodes => given.nodes,
@@ -118,7 +117,7 @@ fn refuse_again<G: Gate>(table: &HotTable, seat: &mut TableSeat, gate: &mut G)
     unpin(table, seat, gate);
 }
 
-/// Asks for a change until no other pass stands in its way, or holds back the records that it lacks.
+/// Tries to make a change until no other pass is in its way or holds back the records that it lacks.
 pub fn change<R: Wait, G: Gate>(
     rt: &R,
     table: &HotTable,
@@ -148,7 +147,7 @@ pub fn change<R: Wait, G: Gate>(
     unreachable!()
 }
 
-/// The refusal that stands of a call that waits: none where another pass stands in its way, or holds records back.
+/// The refusal with which a call that waits ends, if it ends: not if another pass is in its way, or holds records back.
 fn refusal(fault: TryFault, held_back: bool) -> Option<Full>
     ensures { IfSome result (λ full. fault ≡ fault_of full) }
 {
@@ -159,7 +158,7 @@ fn refusal(fault: TryFault, held_back: bool) -> Option<Full>
     }
 }
 
-/// Makes one attempt, with the pass pinned, and notes it where it was answered.
+/// Makes one attempt, with the pass pinned, and notes its answer if it has one.
 fn try_once<G: Gate>(
     table: &HotTable,
     seat: &mut TableSeat,
@@ -190,7 +189,7 @@ fn try_once<G: Gate>(
     outcome
 }
 
-/// Clears the pin at the end of an attempt for this call with this outcome. The note of an answered one comes with this step.
+/// Clears the pin at the end of an attempt at this call, which had this outcome. The note of an answer is added with this step.
 fn end_try<G: Gate>(
     table: &HotTable,
     seat: &mut TableSeat,

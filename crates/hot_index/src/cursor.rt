@@ -1,4 +1,4 @@
-//! Cursors: a range of keys that is listed in parts, each by a scan of its own.
+//! Cursors, which list a range of keys in parts, each by a scan of its own.
 
 ghost use Rattle.std.specs.Prelude.{◌≡◌, ◌+◌, ◌≤◌, [], false, IfOk, None, Ok, OnErr, Some};
 ghost use Rattle.hot_index.specs.Answers.{IsUnnoted};
@@ -21,7 +21,7 @@ pub struct Rest {
     pub upto: Key,
 }
 
-/// What is left of a range of keys that is listed in parts. It belongs to no index and to no pass.
+/// What is left of a range of keys that is listed in parts. It is tied to no index and no pass.
 ///
 /// Contracts see the keys that are left, or nothing.
 #[derive(Drop)]
@@ -39,7 +39,7 @@ impl Model for Cursor {
 }
 
 impl Cursor {
-    /// A cursor before the keys from `from` to `upto`, both included.
+    /// A cursor at the beginning of the keys from `from` to `upto`, both included.
     pub fn new(from: &Key, upto: &Key) -> Cursor
         ensures { result ≡ Some (rest_of from.now upto.now) }
     {
@@ -50,19 +50,19 @@ impl Cursor {
         Cursor { rest: Some(rest) }
     }
 
-    /// A cursor before the keys that begin with the prefix. With the empty key these are all.
+    /// A cursor at the beginning of the keys that have the prefix: of all keys, if it is the empty key.
     pub fn of_prefix(prefix: &Key) -> Cursor
         ensures { result ≡ Some (rest_of prefix.now (last_with prefix.now)) }
     {
         Cursor::new(prefix, &last_with_prefix(prefix))
     }
 
-    /// Lists the next pairs of the range, at most `limit` of them; they take the place of those that the list has. Answers whether
-    /// there is a further one: if not, the cursor is at its end, and lists nothing any more.
+    /// Lists the next pairs of the range, at most `limit`, in a list whose earlier pairs are dropped. Answers whether there are
+    /// more; if not, the cursor is at its end, and lists nothing from then on.
     ///
-    /// Each call is one scan, of the keys that are left, with a scan's promise and bound of steps; the next one goes on at the key
-    /// after the last that was listed. A key that is put in behind it while the cursor rests is not listed, and one that is put in
-    /// before it is. Where memory ends, the cursor stays where it is.
+    /// Each call is a scan of the keys that are left, with a scan's promise and bound on steps; the next call goes on at the least
+    /// key above the last one listed. So a key that is inserted between two calls is listed if it lies above that one, and not if
+    /// it lies below. If memory is refused, the cursor stays where it is.
     pub fn next_into(
         &mut self,
         index: &Index,
@@ -87,7 +87,7 @@ impl Cursor {
     }
 }
 
-/// What is left of these keys after a part with these pairs, where the range has a further key or none.
+/// What is left of these keys after a part with these pairs, by whether the range has more.
 fn left_of(rest: &Rest, pairs: &Pairs, more: bool) -> Option<Rest>
     ensures { IsLeft rest.now pairs.now more result }
 {

@@ -1,4 +1,4 @@
-//! Calls that expect a key to have a value, and change nothing where it has another or none.
+//! Calls that expect a key to have a certain value, and change nothing if it has another or none.
 
 ghost use Rattle.std.specs.Prelude.{◌≢◌, Err, MatchResult};
 ghost use Rattle.finite_map.specs.declared.Call.TheVariants.{Exchange, RemoveIf};
@@ -14,10 +14,10 @@ use rowex_writing::{Ask, Full, TryFault};
 use std::sync::Wait;
 
 impl Index {
-    /// Gives a key a value if it has the expected one, a compare-and-exchange: `Exchanged`; or `Differs` with the value that it
-    /// has, which stays; or `Absent`.
+    /// Compare and exchange: gives a key a new value if it has the expected one (`Exchanged`). Else it changes nothing, and answers
+    /// `Differs` with the value that the key has, or `Absent`.
     ///
-    /// It waits for nobody, has `try_insert`'s bound of steps, and is refused as `try_insert` is.
+    /// It waits for nobody. It has the bound on steps of `try_insert`, and is refused for the same causes.
     pub fn try_exchange(
         &self,
         pass: &mut Pass,
@@ -52,9 +52,10 @@ impl Index {
         self.try_change_with(pass, gate, Ask::Exchange(expected), key, value)
     }
 
-    /// Gives a key a value if it has the expected one: `Exchanged`; or `Differs` with the value that it has, which stays; or `Absent`.
+    /// Compare and exchange: gives a key a new value if it has the expected one (`Exchanged`). Else it changes nothing, and answers
+    /// `Differs` with the value that the key has, or `Absent`.
     ///
-    /// It begins again where `try_exchange` would be `Busy`, and is refused as `insert` is.
+    /// It begins again where `try_exchange` would answer `Busy`, and is refused for the causes of `insert`.
     pub fn exchange<R: Wait>(
         &self,
         rt: &R,
@@ -71,10 +72,10 @@ impl Index {
         self.change_with(rt, pass, &mut NoGate, Ask::Exchange(expected), key, value)
     }
 
-    /// Makes a key absent if it has the expected value: `Removed` with that value; or `Differs` with the value that it has, which
-    /// stays; or `Absent`.
+    /// Removes a key if it has the expected value (`Removed` with that value). Else it changes nothing, and answers `Differs` with
+    /// the value that the key has, or `Absent`.
     ///
-    /// It waits for nobody, has `try_insert`'s bound of steps, and is refused as `try_remove` is.
+    /// It waits for nobody. It has the bound on steps of `try_insert`, and is refused for the causes of `try_remove`.
     pub fn try_remove_if(
         &self,
         pass: &mut Pass,
@@ -109,10 +110,10 @@ impl Index {
         self.try_change_with(pass, gate, Ask::RemoveIf(expected), key, 0)
     }
 
-    /// Makes a key absent if it has the expected value: `Removed` with that value; or `Differs` with the value that it has, which
-    /// stays; or `Absent`.
+    /// Removes a key if it has the expected value (`Removed` with that value). Else it changes nothing, and answers `Differs` with
+    /// the value that the key has, or `Absent`.
     ///
-    /// It begins again where `try_remove_if` would be `Busy`, and is refused as `remove` is.
+    /// It begins again where `try_remove_if` would answer `Busy`, and is refused for the causes of `remove`.
     pub fn remove_if<R: Wait>(
         &self,
         rt: &R,

@@ -50,7 +50,7 @@ pub enum IndexFault {
     Memory,
 }
 
-/// An ordered index from byte keys to 64-bit values, which passes use at the same time through a `&`.
+/// An ordered index from byte keys to 64-bit values, which passes share through `&`.
 #[derive(Drop)]
 pub struct Index {
     pub(crate) table: HotTable,
@@ -64,8 +64,8 @@ impl Model for Index {
     ghost view = { λ i. i.table };
 }
 
-/// The right of one thread to use an index. A running program stores its number, and lists that its calls use again; contracts see
-/// its seat in the table, the changes that it has seen, and its answered calls.
+/// The right of one thread to use an index. At run time it has a number, and lists that its calls reuse. Contracts see what the
+/// pass knows: its seat in the table, the changes that it has seen, and its answered calls.
 #[derive(Drop)]
 pub struct Pass {
     pub(crate) seat: TableSeat,
@@ -83,7 +83,7 @@ impl Model for Pass {
 }
 
 impl Pass {
-    /// The number of the pass, from 0 on in the order in which `create` gives them.
+    /// The number of the pass: `create` gives its passes in the order of their numbers, from 0 on.
     pub fn number(&self) -> u16
         ensures { result ≡ self.now.number }
     {
@@ -91,9 +91,9 @@ impl Pass {
     }
 }
 
-/// Makes an empty index with so many passes (1 to 64), node records (1 to 65,535) and leaf records (1 to 262,143), and its
-/// passes, in the order of their numbers from 0 on. The numbers are tested first, in this order. All leaf records are long, so
-/// a call that lacks one has found each of them taken (`laws::lacks_all_long`).
+/// Makes an empty index with this number of passes (1 to 64), node records (1 to 65,535) and leaf records (1 to 262,143), and gives
+/// the passes in the order of their numbers. The three numbers are checked first, in this order. All leaf records are long, so a
+/// call that is refused for lack of one has found each of them in use (`laws::lacks_all_long`).
 pub fn create(
     alloc: Global,
     passes: u32,
@@ -112,9 +112,9 @@ pub fn create(
     made(alloc, layout).map_err(|_| IndexFault::Memory)
 }
 
-/// Makes an empty index with so many passes (1 to 1,024) and this stock of records: up to 4,294,967,295 node records, and as
-/// many leaf records of all classes together; at least one of both. The numbers are tested first, in this order. `Layout::bytes`
-/// tells how many bytes its table takes; twice as many are in use while it is made.
+/// Makes an empty index with this number of passes (1 to 1,024) and this stock of records: 1 to 4,294,967,295 node records, and 1
+/// to 4,294,967,295 leaf records of all classes together. The numbers are checked first, in this order. `Layout::bytes` tells how
+/// many bytes the table takes; twice as many are in use while it is made.
 pub fn create_with(
     alloc: Global,
     passes: u32,
@@ -133,8 +133,10 @@ pub fn create_with(
 }
 
 impl Index {
-    /// The value of a key: none where it is absent. It takes no lock and waits for nobody: it makes at most 36 atomic steps,
-    /// and 26 more for each of at most 2,160 nodes on the key's way.
+    /// The value of the key, or `None` if it is absent.
+    ///
+    /// It takes no lock and waits for nobody. It makes at most 36 atomic steps, and 26 for each node on the way to the key, of
+    /// which there are at most 2,160.
     pub fn get(&self, pass: &mut Pass, key: &Key) -> Option<u64>
         requires { Owns self.now pass.old }
         ensures own { Owns self.now pass.new }
@@ -157,13 +159,13 @@ impl Index {
         found
     }
 
-    /// The values of many keys: what a `get` of each would answer, one after the other, in the order of the keys; none where a key is
-    /// absent. Each goes to its key's place in `found`, which has as many places as there are keys.
+    /// Looks up many keys, in their order, and writes to `found`, at each key's place, what `get` would answer. `found` has as many
+    /// places as there are keys.
     ///
-    /// It takes no lock, waits for nobody and takes no memory. The pass is pinned once, until the last key has been looked up: it makes at
-    /// most 4 atomic steps, 266 more for each key, and 26 more for each of at most 2,160 nodes on each key's way. The values are of no
-    /// one moment, but a later key's is of no earlier moment than an earlier one's. Records that others retire meanwhile come back after
-    /// it: so give it some hundred keys at once, and no millions.
+    /// It takes no lock and no memory, and waits for nobody. It makes at most 4 atomic steps, 266 for each key, and 26 for each
+    /// node on the way to each key, of which there are at most 2,160. The values need not be of one moment, but no key's value is
+    /// of an earlier moment than that of a key before it. The pass stays pinned until the last key has been looked up, and records
+    /// that are retired meanwhile are reused only after that: so pass some hundred keys at a time, and not millions.
     pub fn get_many(&self, pass: &mut Pass, keys: &[Key], found: &mut [Option<u64>])
         requires own { Owns self.now pass.old }
         requires room { length found.old ≡ length keys.now }
@@ -193,12 +195,13 @@ impl Index {
         end_gets(&self.table, &mut pass.seat, gate, keys, found);
     }
 
-    /// Gives a key a value if it is absent: `Inserted`, or `Exists` with the value that it has, which stays.
+    /// Inserts a key with a value: `Inserted`; or `Exists` with the value that the key has already, and keeps.
     ///
-    /// It waits for nobody: it makes at most 1,420,268 atomic steps, two more for each pass, 6 for each node record and 10
-    /// for each leaf record. It is refused as `Busy` where another pass has locked or retired what it wants to lock, or has made a
-    /// change since the call's last pin, so never where the index has one pass; and as full where it found each record of a kind taken,
-    /// also after a round of collection. Refused, it has changed nothing, and it holds no lock and no record.
+    /// It waits for nobody. It makes at most 1,420,268 atomic steps, and 2 for each pass, 6 for each node record and 10 for each
+    /// leaf record. It answers `Busy` if another pass has locked or retired what it wants to lock, or has made a change since the
+    /// call's last pin, so never if the index has one pass; and `FullNodes` or `FullLeaves` if it found each node record, or each
+    /// leaf record with room for the key, in use, again after a round of collection. When it is refused it has changed nothing, and
+    /// holds no lock and no record.
     pub fn try_insert(&self, pass: &mut Pass, key: &Key, value: u64) -> Result<Reply, TryFault>
         requires { Owns self.now pass.old }
         ensures own { Owns self.now pass.new }
@@ -232,9 +235,9 @@ impl Index {
         )
     }
 
-    /// Gives a key a value: `New`, or `Was` with the value that it had.
+    /// Gives a key a value, whether it has one or not: `New`, or `Was` with the value that it had.
     ///
-    /// It waits for nobody, has `try_insert`'s bound of steps, and is refused as `try_insert` is.
+    /// It waits for nobody. It has the bound on steps of `try_insert`, and is refused for the same causes.
     pub fn try_upsert(&self, pass: &mut Pass, key: &Key, value: u64) -> Result<Reply, TryFault>
         requires { Owns self.now pass.old }
         ensures own { Owns self.now pass.new }
@@ -268,10 +271,10 @@ impl Index {
         )
     }
 
-    /// Makes a key absent: `Removed` with the value that it had, or `Absent`.
+    /// Removes a key: `Removed` with the value that it had, or `Absent`.
     ///
-    /// It waits for nobody, has `try_insert`'s bound of steps, and is refused as `try_insert` is; but it needs no leaf, and so is
-    /// never full of leaves.
+    /// It waits for nobody. It has the bound on steps of `try_insert`, and is refused for the same causes; but it needs no leaf
+    /// record, and so never answers `FullLeaves`.
     pub fn try_remove(&self, pass: &mut Pass, key: &Key) -> Result<Reply, TryFault>
         requires { Owns self.now pass.old }
         ensures own { Owns self.now pass.new }
@@ -306,10 +309,10 @@ impl Index {
         )
     }
 
-    /// Makes a call of the map, as `get`, `insert`, `upsert`, `exchange`, `remove` or `remove_if` does, with a gate that is told each
-    /// of its steps.
+    /// Makes any call of the map, as `get`, `insert`, `upsert`, `exchange`, `remove` or `remove_if` does, with a gate that is told
+    /// each of its steps.
     ///
-    /// A get is never refused, and neither removal as full of leaves.
+    /// A get is never refused, and a removal never answers `Full::Leaves`.
     pub fn call_with<R: Wait, G: Gate>(
         &self,
         rt: &R,
@@ -342,7 +345,7 @@ impl Index {
         }
     }
 
-    /// Asks for a change.
+    /// Tries to make a change.
     pub(crate) fn try_change_with<G: Gate>(
         &self,
         pass: &mut Pass,
@@ -369,7 +372,7 @@ impl Index {
         )
     }
 
-    /// Asks for a change, and begins again as often as another pass stands in its way.
+    /// Makes a change, and begins again as long as another pass is in its way.
     pub(crate) fn change_with<R: Wait, G: Gate>(
         &self,
         rt: &R,
@@ -398,12 +401,12 @@ impl Index {
         )
     }
 
-    /// Gives a key a value if it is absent: `Inserted`, or `Exists` with the value that it has, which stays.
+    /// Inserts a key with a value: `Inserted`; or `Exists` with the value that the key has already, and keeps.
     ///
-    /// Where `try_insert` would be `Busy` it begins again, as often as need be, and so it does where a call of another pass holds
-    /// back retired records, and none is free: it ends once no other pass stands in its way. It is refused where each record of a
-    /// kind was found taken, also after a round of collection. Refused, it has changed nothing, and it holds no
-    /// lock and no record.
+    /// Where `try_insert` would answer `Busy`, it lets other threads run and begins again, as often as need be. So it does if it
+    /// finds no record free while a call of another pass holds back retired ones. It returns once no other pass is in its way. It
+    /// is refused if it found each record of a kind in use, again after a round of collection; it has changed nothing then, and
+    /// holds no lock and no record.
     pub fn insert<R: Wait>(
         &self,
         rt: &R,
@@ -419,9 +422,9 @@ impl Index {
         self.change_with(rt, pass, &mut NoGate, Ask::Insert, key, value)
     }
 
-    /// Gives a key a value: `New`, or `Was` with the value that it had.
+    /// Gives a key a value, whether it has one or not: `New`, or `Was` with the value that it had.
     ///
-    /// It begins again where `try_upsert` would be `Busy`, and is refused as `insert` is.
+    /// It begins again where `try_upsert` would answer `Busy`, and is refused for the causes of `insert`.
     pub fn upsert<R: Wait>(
         &self,
         rt: &R,
@@ -437,10 +440,10 @@ impl Index {
         self.change_with(rt, pass, &mut NoGate, Ask::Upsert, key, value)
     }
 
-    /// Makes a key absent: `Removed` with the value that it had, or `Absent`.
+    /// Removes a key: `Removed` with the value that it had, or `Absent`.
     ///
-    /// It begins again where `try_remove` would be `Busy`, and is refused as `insert` is; but it needs no leaf, and so is never
-    /// full of leaves.
+    /// It begins again where `try_remove` would answer `Busy`, and is refused for the causes of `insert`; but it needs no leaf
+    /// record, and so never answers `Full::Leaves`.
     pub fn remove<R: Wait>(&self, rt: &R, pass: &mut Pass, key: &Key) -> Result<Reply, Full>
         requires { Owns self.now pass.old }
         ensures own { Owns self.now pass.new }
@@ -451,13 +454,13 @@ impl Index {
         self.change_with(rt, pass, &mut NoGate, Ask::Remove, key, 0)
     }
 
-    /// The keys from `from` to `upto`, both included, with their values, in the order of the keys: the first `limit` of
-    /// them, and whether there is a further one.
+    /// Lists the first `limit` pairs whose keys are from `from` to `upto`, both included, in key order, and tells whether the range
+    /// has more.
     ///
-    /// It takes no lock and waits for nobody: it makes at most 168,606 atomic steps, and 59 more for each pair of the limit,
-    /// whatever others add meanwhile. It is no picture of one moment: each pair was held at some moment of the
-    /// call, and each key that was there all along is listed, where there is a further one up to the last pair's. Where
-    /// memory ends, it answers nothing.
+    /// It takes no lock and waits for nobody. It makes at most 168,606 atomic steps, and 59 for each pair of the limit, whatever
+    /// others insert meanwhile. It doesn't show a single moment: each pair was in the index at some moment of the call, and no key
+    /// is missing that was there all along (if there are more, no key up to the last one listed). If memory is refused, it lists
+    /// nothing.
     pub fn scan(
         &self,
         alloc: Global,
@@ -499,10 +502,10 @@ impl Index {
         Ok(Scan { pairs, more })
     }
 
-    /// `scan` into a list: its pairs take the place of those that the list has. Answers whether the range has a further key.
+    /// `scan` into a list, whose earlier pairs are dropped. Answers whether the range has more.
     ///
-    /// A list that is used again keeps its memory, and each key is written once, with as many bytes as it has: so this is the scan
-    /// to ask for often. Where memory ends, the list has some of the pairs.
+    /// A list keeps its memory when it is used again, and each key is written once, with no more bytes than it has: so this is the
+    /// form for frequent scans. If memory is refused, the list has some of the pairs.
     pub fn scan_into(
         &self,
         pass: &mut Pass,
@@ -552,9 +555,9 @@ impl Index {
         scan
     }
 
-    /// Two passes meet, and are given back: what either has seen, both have seen then, and all that was published before. It
-    /// loads one word three times, and uses nothing of what it finds there; these loads are steps of neither pass, and no gate is
-    /// told of them.
+    /// Lets two passes meet, and gives them back: both have then seen what either had seen, and all that was published before. It
+    /// loads one word three times, and ignores what it finds; these loads count as steps of neither pass, and no gate is told of
+    /// them.
     pub fn meet(&self, first: Pass, second: Pass) -> (Pass, Pass)
         requires { Owns self.now first × Owns self.now second }
         ensures own { Owns self.now result.0 × Owns self.now result.1 }
@@ -575,10 +578,11 @@ impl Index {
         )
     }
 
-    /// Makes one round of collection: it makes the epoch the next one, visits each record of the index once, and gives back
-    /// those that were retired in an epoch below all pins, which no call that still runs can reach. Answers how many it gave
-    /// back. It takes no lock and no memory, and waits for nobody: it makes at most 3 atomic steps, one more for each pass, and
-    /// two more for each record.
+    /// Makes one round of collection: it advances the epoch, visits each record of the index once, and gives back those that were
+    /// retired in an epoch below all pins, so that no running call can reach them. Answers how many it gave back.
+    ///
+    /// It takes no lock and no memory, and waits for nobody. It makes at most 3 atomic steps, one for each pass, and two for each
+    /// record.
     pub fn collect(&self, pass: &mut Pass) -> Given
         requires { Owns self.now pass.old }
         ensures own { Owns self.now pass.new }
@@ -599,11 +603,11 @@ impl Index {
         round.given
     }
 
-    /// Counts the records of each kind and size that are free, held, live and obsolete, and tells the bytes of the table: so a
-    /// program sees why its index is full, and what the next one needs. It takes no lock and no memory, writes no word, and waits
-    /// for nobody: it makes one atomic step for each record, the load of its state.
+    /// Counts how many node records, and leaf records of each class, are free, held, live and obsolete, and tells how many bytes
+    /// the table has. So a program can see why its index is full, and what the next one needs.
     ///
-    /// It is a snapshot of no one moment: each record is counted as its own load found it, and others go on meanwhile.
+    /// It takes no lock and no memory, writes no word, and waits for nobody. It makes one atomic step for each record, the load of
+    /// its state; so the counts are of no single moment, since others go on meanwhile.
     pub fn census(&self, pass: &mut Pass) -> RecordCounts
         requires { Owns self.now pass.old }
         ensures own { Owns self.now pass.new }
@@ -652,7 +656,7 @@ fn passes_of(
     Ok(passes)
 }
 
-/// The pass of a seat of this table, with a room of its own.
+/// The pass of a seat of this table, with its own room.
 fn new_pass(alloc: Global, table: &HotTable, seat: TableSeat) -> Result<Pass, AllocError>
     requires { IsSettled seat.known }
     ensures { IfOk result (λ pass. pass ≡ pass_of seat) }

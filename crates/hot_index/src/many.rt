@@ -20,8 +20,9 @@ use rowex_table::{HotTable, TableSeat};
 /// How many keys gain time by going down by turns first: fewer are looked up sooner without it.
 const ENOUGH: usize = 8;
 
-/// Looks keys up, one after the other, each from the root down, and puts what it finds of each at the key's place. Before, a group of
-/// enough keys goes down by turns: so the nodes on their ways, and the places in them, are at hand.
+/// Looks up keys, one after the other, each from the root down, and writes what it finds to the key's place. Before that, the keys
+/// go down by turns, in groups, where these are large enough: so the nodes on their ways are in the cache, and the places in them are
+/// known.
 pub fn look_up_each<G: Gate>(
     table: &HotTable,
     seat: &mut TableSeat,
@@ -70,7 +71,7 @@ fn ways_of<G: Gate>(
     go_down(table, seat, gate, keys, first, count)
 }
 
-/// Clears the pin at the end of gets that looked for these keys and found this of each. Their notes come with this step.
+/// Clears the pin at the end of gets that looked for these keys and found this for each. Their notes are added with this step.
 pub fn end_gets<G: Gate>(
     table: &HotTable,
     seat: &mut TableSeat,

@@ -15,11 +15,10 @@ use packed_pairs::Pairs;
 use std::alloc::{AllocError, Global};
 
 impl Index {
-    /// The pairs whose keys begin with the prefix, in the order of the keys: the first `limit` of them. Answers whether there is a
-    /// further one.
+    /// Lists the first `limit` pairs whose keys begin with the prefix, in key order. Answers whether there are more.
     ///
-    /// It is `scan_into` of the range from the prefix to the last key that begins with it, with its promise and its bound of
-    /// steps. These are just the keys with the prefix (`key_ranges::laws::prefix_is_a_range`).
+    /// It is a `scan_into` of the range from the prefix to the last key that begins with it, with the same promise and bound on
+    /// steps. These are exactly the keys with the prefix (`key_ranges::laws::prefix_is_a_range`).
     pub fn prefix_into(
         &self,
         pass: &mut Pass,
@@ -37,10 +36,10 @@ impl Index {
         self.scan_into(pass, prefix, &last_with_prefix(prefix), limit, pairs)
     }
 
-    /// The first pair whose key is `from` or above it. From the empty key on it is the first of all.
+    /// The first pair whose key is `from` or above; from the empty key on, the first pair of all.
     ///
-    /// It is a scan of one pair, with a scan's promise and bound of steps: the pair was there at some moment of the call, and no key
-    /// from `from` on and below its own was there all along. Where memory ends, it answers nothing.
+    /// It is a scan for one pair, with a scan's promise and bound on steps: the pair was there at some moment of the call, and no
+    /// lower key from `from` on was there all along. If memory is refused, it answers nothing.
     pub fn first(
         &self,
         alloc: Global,

@@ -17,13 +17,13 @@ use rowex_scanning::{Range, scan_root_down};
 use std::alloc::{AllocError, Global};
 
 impl Index {
-    /// The keys from `upto` down to `from`, both included, with their values, in falling order of the keys: the last `limit` of
-    /// them, and whether there is a further one below.
+    /// Lists the last `limit` pairs whose keys are from `from` to `upto`, both included, in falling key order, and tells whether
+    /// the range has more below.
     ///
-    /// It is `scan` from the right to the left. It takes no lock and waits for nobody: it makes at most as many atomic steps. It is no
-    /// picture of one moment: each pair was held at some moment of the call, and each key that was there all along is listed, where
-    /// there is a further one down to the last pair's. A scan up to the `previous_key` of the last pair's key goes on. Where memory
-    /// ends, it answers nothing.
+    /// It is `scan` from right to left: it takes no lock, waits for nobody, and has the bound on steps of `scan`. It doesn't show a
+    /// single moment: each pair was in the index at some moment of the call, and no key is missing that was there all along (if
+    /// there are more, no key down to the last one listed). To go on, scan up to the `previous_key` of the last pair's key. If
+    /// memory is refused, it lists nothing.
     pub fn scan_reverse(
         &self,
         alloc: Global,
@@ -45,8 +45,8 @@ impl Index {
         Ok(Scan { pairs, more })
     }
 
-    /// `scan_reverse` into a list: its pairs take the place of those that the list has, the one with the greatest key first. Answers
-    /// whether the range has a further key below. Where memory ends, the list has some of the pairs.
+    /// `scan_reverse` into a list, whose earlier pairs are dropped; the pair with the greatest key comes first. Answers whether the
+    /// range has more below. If memory is refused, the list has some of the pairs.
     pub fn scan_reverse_into(
         &self,
         pass: &mut Pass,
@@ -96,10 +96,11 @@ impl Index {
         scan
     }
 
-    /// The last pair whose key is `upto` or below it. Up to the last key with the empty prefix (`last_with_prefix`) it is the last of all.
+    /// The last pair whose key is `upto` or below; up to the last key with the empty prefix (`last_with_prefix`), the last pair of
+    /// all.
     ///
-    /// It is a scan downwards of one pair, with its promise and bound of steps: the pair was there at some moment of the call, and no key
-    /// up to `upto` and above its own was there all along. Where memory ends, it answers nothing.
+    /// It is a scan downwards for one pair, with its promise and bound on steps: the pair was there at some moment of the call, and
+    /// no greater key up to `upto` was there all along. If memory is refused, it answers nothing.
     pub fn last(
         &self,
         alloc: Global,

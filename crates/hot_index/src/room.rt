@@ -9,12 +9,13 @@ use rowex_reading::MOST_NODES;
 use rowex_writing::{Build, Supply};
 use std::alloc::{AllocError, Global};
 
-/// The lists of a pass's scans and changes. They are wide: they are made once, with the pass, and each call uses them again.
+/// The lists that a pass's scans and changes work with. They are large, so they are made once, with the pass, and reused by each
+/// call.
 #[derive(Drop)]
 pub struct Room {
     /// The nodes on the way of the last search or scan.
     pub way: ArrayVec<Step, MOST_NODES>,
-    /// What the last change was made of, and where the next claims begin.
+    /// What the last change has built, and where the next claims begin.
     pub build: Build,
     /// What the pass has retired and not given back yet.
     pub limbo: Limbo,
@@ -23,7 +24,7 @@ pub struct Room {
 }
 
 impl Room {
-    /// After an attempt: if it was answered, puts what it has unlinked, and so retired, at the end of the limbo list.
+    /// After an attempt: if it was answered, puts what it has unlinked at the end of the limbo list.
     pub fn keep_gone(&mut self, answered: bool) {
         if answered {
             for rec in self.build.gone.as_slice() {
@@ -32,14 +33,14 @@ impl Room {
         }
     }
 
-    /// Lets claims begin with what the last small round has given back.
+    /// Lets the next claims begin with what the last small round gave back.
     pub fn spare_given(&mut self, layout: Layout) {
         for rec in self.limbo.given.as_slice() {
             give_back(&mut self.build, layout, *rec);
         }
     }
 
-    /// Lets claims pass no class of leaf records by, after a full round.
+    /// After a full round: claims look at each class of leaf records again.
     pub fn pass_none_by(&mut self) {
         for place in 0..LEAF_CLASSES {
             self.build.leaves[place].passed_by = 0;
@@ -70,8 +71,8 @@ fn class_begin(layout: Layout, number: u32) -> u32 {
     }
 }
 
-/// A room with empty lists for the pass of this number. Its claims begin at the pass's own part of the records, so that
-/// passes begin apart.
+/// A room with empty lists for the pass of this number. Its claims begin at a part of the records of its own, so that passes begin
+/// apart.
 pub fn new_room(alloc: Global, layout: Layout, number: u16) -> Result<Box<Room>, AllocError> {
     let part = |from: u32, upto: u32| {
         Supply::begin_at(first_claim(number, layout.passes, upto.saturating_sub(from)))

@@ -1,4 +1,4 @@
-//! Stamps: what a pass has seen, as a value that goes from thread to thread without the pass.
+//! Stamps: what a pass has seen, as a value that can go to another thread without the pass.
 
 ghost use Rattle.std.specs.Prelude.{◌≡◌};
 ghost use Rattle.hot_index.specs.Passes.{Owns};
@@ -8,8 +8,8 @@ use crate::index::{Index, Pass};
 use rowex_table::TableStamp;
 use std::marker::Model;
 
-/// What a pass had seen. It may go to another thread, with a message, in a lock, or with the start or the end of a thread, and a pass
-/// that follows it there has seen as much.
+/// What a pass had seen when the stamp was made. It may go to another thread in a message, under a lock, or by a thread's start or
+/// end; a pass that follows it there has then seen all of that too.
 #[derive(Drop)]
 pub struct Stamp {
     stamp: TableStamp,
@@ -24,7 +24,8 @@ impl Model for Stamp {
 }
 
 impl Index {
-    /// A stamp of what the pass has seen, its own changes among it. The pass is as it was.
+    /// A stamp of all that the pass has seen, its own changes included. The pass stays as it is: the call makes one load that
+    /// counts as no step.
     pub fn stamp(&self, pass: &mut Pass) -> Stamp
         requires { Owns self.now pass.old }
         ensures same { pass.new ≡ pass.old }
@@ -35,8 +36,9 @@ impl Index {
         Stamp { stamp }
     }
 
-    /// The pass has seen all that the stamp tells of then, beside what it had seen before: so its later calls stand behind those that had
-    /// returned when the stamp was made (`laws::returned_before_begun`). It makes no step, and nothing else of the pass changes.
+    /// Lets the pass see all that the stamp tells of, besides what it has seen already. So its later calls come after those that
+    /// had returned when the stamp was made (`laws::returned_before_begun`). Nothing else of the pass changes: the call makes two
+    /// loads that count as no steps.
     pub fn follow(&self, pass: &mut Pass, stamp: Stamp)
         requires own { Owns self.now pass.old }
         requires stamp { IsStampFrom self.now stamp }

@@ -27,8 +27,8 @@ pub use scripts::{run_scripts, run_scripts_with};
 use std::alloc::Global;
 use std::io::{Read, Write};
 
-/// Runs one script on a new index of so many node and leaf records, which has one pass: it waits for nobody, and ends once its reader
-/// and its writer have.
+/// Runs one script on a new index with one pass and this number of node and leaf records. It waits for nobody, and ends once its
+/// reader and its writer have.
 pub fn run_one<R: Read, W: Write>(
     alloc: Global,
     nodes: u32,
@@ -39,8 +39,8 @@ pub fn run_one<R: Read, W: Write>(
     requires nodes { IsNodeCount nodes }
     requires leaves { IsLeafCount leaves }
 
-    // What was written are the answers to the script, and nothing else: what it means, where no arena was full. A command was refused
-    // only where it found no record of the kind free.
+    // The answers to the script were written, and nothing else: what the script means, if no arena was full. A command was refused
+    // only if it found no record of the kind free.
     ensures ok { OnOk result ((script : List ℕ) × (text : List ℕ)
         × TakesAll (R.remaining reader.old) (R.remaining reader.new) script
         × IsAnsweredScript nodes leaves script text
@@ -49,7 +49,7 @@ pub fn run_one<R: Read, W: Write>(
     // A fault of the script's own is what the script means.
     ensures fault { IfErr result (MayEndBy (R.remaining reader.old) (R.remaining reader.new)) }
 
-    // Nothing was written but where a write failed.
+    // Nothing was written unless a write failed.
     ensures nothing { IfErr result (λ fault. fault ≢ RunFault.Write → writer.new ≡ writer.old) }
 {
     let bytes = streams::read_script(alloc, reader)?;
@@ -70,7 +70,7 @@ fn answer_one(alloc: Global, nodes: u32, leaves: u32, script: &Script) -> Result
     Ok(text)
 }
 
-/// An empty index, the passes for so many files, in the order of their numbers from 0 on, and the pass of the last script.
+/// An empty index, the passes for this number of files, in the order of their numbers from 0 on, and the pass of the last script.
 fn new_index(
     alloc: Global,
     files: u32,

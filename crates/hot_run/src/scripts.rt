@@ -18,11 +18,12 @@ use std::io::{Read, Write};
 use std::sync::Wait;
 use std::thread::Threads;
 
-/// Runs the scripts of these files, at most `MAX_FILES`, at the same time, each in a thread of its own, on a new index of so many
-/// node and leaf records; and then, when all of them have ended, the reader's. All of them are read and parsed before the first
-/// command. The answers are written at the end, each file's below the line `file I`, the last script's below the line `last`.
+/// Runs the scripts of these files, at most `MAX_FILES`, at the same time, each in its own thread, on a new index with this number
+/// of node and leaf records, and then, when all have ended, the script of the reader. All scripts are read and parsed before the
+/// first command runs. The answers are written at the end: each file's below the line `file I`, those to the last script below the
+/// line `last`.
 ///
-/// Where a thread can't be started, the run ends as `Memory`.
+/// If a thread can't be started, the run ends with `Memory`.
 pub fn run_scripts<T: Threads + Wait + Sync, R: Read, W: Write>(
     rt: &T,
     alloc: Global,
@@ -46,7 +47,7 @@ pub fn run_scripts<T: Threads + Wait + Sync, R: Read, W: Write>(
     // A fault of a script is that of the first script that has one.
     ensures fault { IfErr result (MayEndScriptsBy (map (λ f. f.items) files.items) (R.remaining reader.old) (R.remaining reader.new)) }
 
-    // Nothing was written but where a write failed.
+    // Nothing was written unless a write failed.
     ensures nothing { IfErr result (λ fault. fault ≢ RunFault.Write → writer.new ≡ writer.old) }
 {
     let gates = vec![in alloc; NoGate; files.len()]?;
@@ -79,7 +80,7 @@ pub fn run_scripts_with<T: Threads + Wait + Sync, G: Gate + Send + Drop, R: Read
     // A fault of a script is that of the first script that has one.
     ensures fault { IfErr result (MayEndScriptsBy (map (λ f. f.items) files.items) (R.remaining reader.old) (R.remaining reader.new)) }
 
-    // Nothing was written but where a write failed.
+    // Nothing was written unless a write failed.
     ensures nothing { IfErr result (λ fault. fault ≢ RunFault.Write → writer.new ≡ writer.old) }
 {
     let scripts = parse_files(alloc, files)?;
