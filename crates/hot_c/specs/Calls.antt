@@ -64,11 +64,13 @@ pub record IsArrayListed (scan : Scan) (before after : Listing) : Type 0 where
 
 -- A scan through a handle, of as many pairs as the array has places. A closed handle and a key that is too long are told as
 -- such, and nothing has changed; else the scan is made and listed, or there is no memory and nothing is listed.
-pub record ListsBy (HasMade : Layout → PassView → PassView → List ℕ → List ℕ → ℕ → Scan → Type 0) (from upto : List ℕ) (old new : Option Opened) (before after : Listing) (status : ℕ) : Type 0 where
+pub record ListsBy (HasMade : Layout → PassView → PassView → List ℕ → List ℕ → ℕ → Scan → Type 0)
+    (from upto : List ℕ) (old new : Option Opened) (before after : Listing) (status : ℕ) : Type 0 where
   pub closed : old ≡ None → (status ≡ CLOSED) × (new ≡ old) × (after ≡ before)
   pub long : IsSome old → ¬ (FitsInKey from × FitsInKey upto) → (status ≡ KEY_TOO_LONG) × (new ≡ old) × (after ≡ before)
   pub made : IsSome old → FitsInKey from → FitsInKey upto →
-      ((status ≡ DONE) × (scan : Scan) × StaysOpen (λ index k j. HasMade index.layout k j from upto (length before.room) scan) old new × IsArrayListed scan before after)
+      ((status ≡ DONE) × (scan : Scan) ×
+      StaysOpen (λ index k j. HasMade index.layout k j from upto (length before.room) scan) old new × IsArrayListed scan before after)
       ⊎ ((status ≡ NO_MEMORY) × StaysOpen (λ index k j. IsUnnoted index.layout k j) old new × (after ≡ before))
 
 -- from the first key on, or from the last one downwards

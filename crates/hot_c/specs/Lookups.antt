@@ -27,5 +27,6 @@ pub record LooksUpAll (old new : Option Opened) (before after : List Lookup) (st
   pub closed : old ≡ None → (status ≡ CLOSED) × (new ≡ old) × (after ≡ before)
   pub long : IsSome old → ¬ All (λ it. FitsInKey (key_in it)) before → (status ≡ KEY_TOO_LONG) × (new ≡ old) × (after ≡ before)
   pub made : IsSome old → All (λ it. FitsInKey (key_in it)) before →
-      ((status ≡ DONE) × (found : List (Option ℕ)) × (length found ≡ length before) × StaysOpen (λ index k j. AreNoted index.layout k j (gets (map key_in before) found)) old new × (after ≡ are_answered before found))
+      ((status ≡ DONE) × (found : List (Option ℕ)) × (length found ≡ length before) ×
+      StaysOpen (λ index k j. AreNoted index.layout k j (gets (map key_in before) found)) old new × (after ≡ are_answered before found))
       ⊎ ((status ≡ NO_MEMORY) × (new ≡ old) × (after ≡ before))

@@ -28,7 +28,8 @@ pub record IsCountOption (name : List ℕ) (most : ℕ) (option : Arg) : Type 0 
 
 -- the program's command line
 abbrev pub command_line : App
-command_line = with_rule (with_rule (with_rule (new_app (codes "hot-run")) (count_rule (codes "nodes") MAX_NODES)) (count_rule (codes "leaves") MAX_LEAVES)) (names_rule (codes "FILE"))
+command_line = with_rule (with_rule (with_rule (new_app (codes "hot-run")) (count_rule (codes "nodes") MAX_NODES))
+    (count_rule (codes "leaves") MAX_LEAVES)) (names_rule (codes "FILE"))
 
 -- The words give this option the number; or they give it none, and it is the default.
 pub record IsOptionNumber (rows : List Row) (option : List ℕ) (default number : ℕ) : Type 0 where

@@ -16,7 +16,9 @@ use Rattle.hot_index.specs.Passes.{PassView}
 
 -- Where all leaf records are long, as in an index that `create` makes, a call that lacks one has found each of them not free.
 abbrev pub LacksAllLong : Type 0
-LacksAllLong = (layout : Layout) (key : Key) (k j : PassView) → layout.long_from ≡ 0 → IsKey key → IsCause layout key k j FullLeaves → AllMissed a_leaf layout.leaves j.failed k.steps
+LacksAllLong =
+    (layout : Layout) (key : Key) (k j : PassView) → layout.long_from ≡ 0 → IsKey key → IsCause layout key k j FullLeaves →
+    AllMissed a_leaf layout.leaves j.failed k.steps
 
 -- A call of a pass whose index has no other pass is never refused as busy.
 abbrev pub OnePassIsNeverBusy : Type 0

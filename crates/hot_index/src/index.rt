@@ -100,7 +100,8 @@ pub fn create(
     nodes: u32,
     leaves: u32,
 ) -> Result<(Index, Vec<Pass>), IndexFault>
-    ensures layout { IfOk result (λ made. (made.0.layout.passes ≡ passes) × (made.0.layout.nodes ≡ nodes) × (made.0.layout.leaves ≡ leaves) × (made.0.layout.long_from ≡ 0)) }
+    ensures layout { IfOk result (λ made. (made.0.layout.passes ≡ passes) × (made.0.layout.nodes ≡ nodes)
+        × (made.0.layout.leaves ≡ leaves) × (made.0.layout.long_from ≡ 0)) }
     ensures count { IfOk result (λ made. length made.1.items ≡ passes) }
     ensures each { IfOk result (λ made. (q : ℕ) (p : PassView) → slice_get made.1.items q ≡ Some p → Owns made.0 p × IsNewPass q p) }
     ensures passes { (result ≡ Err (IndexFault.Layout LayoutFault.Passes)) ↔ ¬ IsPassCount passes }
@@ -205,7 +206,8 @@ impl Index {
     pub fn try_insert(&self, pass: &mut Pass, key: &Key, value: u64) -> Result<Reply, TryFault>
         requires { Owns self.now pass.old }
         ensures own { Owns self.now pass.new }
-        ensures call { MatchResult result (IsNoted self.now.layout pass.old pass.new (Insert key.now value)) (IsRefused self.now.layout (Insert key.now value) pass.old pass.new) }
+        ensures call { MatchResult result (IsNoted self.now.layout pass.old pass.new (Insert key.now value))
+            (IsRefused self.now.layout (Insert key.now value) pass.old pass.new) }
         ensures made { HasMade self.now untold result (pass.old, tt) (pass.new, tt) }
     {
         self.try_insert_with(pass, key, value, &mut NoGate)
@@ -221,7 +223,8 @@ impl Index {
     ) -> Result<Reply, TryFault>
         requires { Owns self.now pass.old }
         ensures own { Owns self.now pass.new }
-        ensures call { MatchResult result (IsNoted self.now.layout pass.old pass.new (Insert key.now value)) (IsRefused self.now.layout (Insert key.now value) pass.old pass.new) }
+        ensures call { MatchResult result (IsNoted self.now.layout pass.old pass.new (Insert key.now value))
+            (IsRefused self.now.layout (Insert key.now value) pass.old pass.new) }
         ensures made { HasMade self.now G.becomes result (pass.old, gate.old) (pass.new, gate.new) }
     {
         try_change(
@@ -241,7 +244,8 @@ impl Index {
     pub fn try_upsert(&self, pass: &mut Pass, key: &Key, value: u64) -> Result<Reply, TryFault>
         requires { Owns self.now pass.old }
         ensures own { Owns self.now pass.new }
-        ensures call { MatchResult result (IsNoted self.now.layout pass.old pass.new (Upsert key.now value)) (IsRefused self.now.layout (Upsert key.now value) pass.old pass.new) }
+        ensures call { MatchResult result (IsNoted self.now.layout pass.old pass.new (Upsert key.now value))
+            (IsRefused self.now.layout (Upsert key.now value) pass.old pass.new) }
         ensures made { HasMade self.now untold result (pass.old, tt) (pass.new, tt) }
     {
         self.try_upsert_with(pass, key, value, &mut NoGate)
@@ -257,7 +261,8 @@ impl Index {
     ) -> Result<Reply, TryFault>
         requires { Owns self.now pass.old }
         ensures own { Owns self.now pass.new }
-        ensures call { MatchResult result (IsNoted self.now.layout pass.old pass.new (Upsert key.now value)) (IsRefused self.now.layout (Upsert key.now value) pass.old pass.new) }
+        ensures call { MatchResult result (IsNoted self.now.layout pass.old pass.new (Upsert key.now value))
+            (IsRefused self.now.layout (Upsert key.now value) pass.old pass.new) }
         ensures made { HasMade self.now G.becomes result (pass.old, gate.old) (pass.new, gate.new) }
     {
         try_change(
