@@ -16,7 +16,7 @@
 
 namespace hot {
 
-/// What became of a change. If it is `busy` or full it was refused, and changed nothing.
+/// How a change came out. If it is `busy` or full, it was refused and changed nothing.
 enum class status : hot_status {
     inserted = HOT_INSERTED,
     exists = HOT_EXISTS,
@@ -31,7 +31,7 @@ enum class status : hot_status {
     full_leaves = HOT_FULL_LEAVES
 };
 
-/// A change's status, and the value that the key had, if it had one. Of an exchange that was made, that is the expected one.
+/// A change's status, and the value that the key had, if it had one. For an exchange that was made this is the expected value.
 struct change {
     status what;
     std::optional<std::uint64_t> had;
@@ -50,8 +50,8 @@ struct collected {
     std::uint32_t nodes, leaves;
 };
 
-/// Throws what a status means that no change's `status` has: std::length_error for a key of more than HOT_MAX_KEY bytes,
-/// std::bad_alloc, std::invalid_argument for numbers out of range, std::logic_error for handles.
+/// Throws for each status that isn't an answer: std::length_error for a key of more than HOT_MAX_KEY bytes, std::bad_alloc,
+/// std::invalid_argument for numbers out of range, std::logic_error for handles that are closed or open.
 inline void check(hot_status status) {
     switch (status) {
     case HOT_KEY_TOO_LONG: throw std::length_error(hot_status_text(status));
@@ -67,11 +67,12 @@ inline const std::uint8_t *bytes(std::string_view key) {
     return reinterpret_cast<const std::uint8_t *>(key.data() ? key.data() : "");
 }
 
-/// The order in which a scan gives its pairs: that of the keys, or from the last one downwards.
+/// The order in which a scan gives its pairs: rising, or falling from the last one on.
 enum class order { rising, falling };
 
-/// The pairs of a scan, in this order of their keys, asked for by pages. Its handle may be used meanwhile, moved, but not closed. One
-/// iterator at a time; a pair's key stands until it goes on. Making and moving it throws as `check` says.
+/// The pairs of a scan in this order of their keys, fetched page by page. The handle may be used or moved meanwhile, but not
+/// closed. Use one iterator at a time; a pair's key is valid until the iterator goes on. Making an iterator and moving it on throw
+/// as `check` does.
 class range {
   public:
     class iterator {
@@ -136,8 +137,8 @@ class range {
     std::uint32_t more_ = 0;
 };
 
-/// The right to use an index, by one thread at a time. It can be moved, and closes itself; a call on one that was moved from throws
-/// std::logic_error. Other calls throw as `check` says, and nothing else.
+/// The right to use an index, for one thread at a time. It can be moved, and closes itself; a call on one that was moved from
+/// throws std::logic_error. Otherwise calls throw only as `check` does.
 class handle {
   public:
     static constexpr std::size_t page = 64;
@@ -149,7 +150,7 @@ class handle {
         return status == HOT_FOUND ? std::optional(value) : std::nullopt;
     }
 
-    /// The values of keys, in turn: hot_get_many.
+    /// Looks up many keys, in turn: hot_get_many.
     std::vector<std::optional<std::uint64_t>> get_many(const std::vector<std::string_view> &keys) {
         std::vector<hot_lookup> lookups;
         lookups.reserve(keys.size() + 1); // so that it points somewhere with no key too
@@ -162,18 +163,19 @@ class handle {
         return found;
     }
 
-    /// Gives an absent key a value, gives a key a value, makes a key absent: each waits while other calls stand in its way.
+    /// Give a key a value if it is absent; give a key a value; remove a key. Each waits while other calls are in its way.
     change insert(std::string_view key, std::uint64_t value) { return put(hot_insert, key, value); }
     change upsert(std::string_view key, std::uint64_t value) { return put(hot_upsert, key, value); }
     change remove(std::string_view key) { return take(hot_remove, key); }
 
-    /// Gives a key a value, makes it absent, if it has the expected value: else it differs or is absent, and stays as it is. They wait too.
+    /// Give a key a new value, or remove it, if it has the expected value; else nothing is changed, and it `differs` or is
+    /// `absent`. They wait too.
     change exchange(std::string_view key, std::uint64_t expected, std::uint64_t value) {
         return put_if(hot_exchange, key, expected, value);
     }
     change remove_if(std::string_view key, std::uint64_t expected) { return put(hot_remove_if, key, expected); }
 
-    /// The same, tried once: they may be busy.
+    /// The same calls, tried once: they may answer `busy`.
     change try_insert(std::string_view key, std::uint64_t value) { return put(hot_try_insert, key, value); }
     change try_upsert(std::string_view key, std::uint64_t value) { return put(hot_try_upsert, key, value); }
     change try_remove(std::string_view key) { return take(hot_try_remove, key); }
@@ -182,7 +184,7 @@ class handle {
     }
     change try_remove_if(std::string_view key, std::uint64_t expected) { return put(hot_try_remove_if, key, expected); }
 
-    /// The pairs from one key to another, both included; those from a key on; and those whose keys begin with some bytes.
+    /// The pairs from one key to another, both included; those from a key on; those whose keys begin with a prefix.
     range scan(std::string_view from, std::string_view upto, std::size_t pairs = page) { return range(it(), from, upto, pairs); }
     range scan(std::string_view from = {}) { return scan(from, std::string(HOT_MAX_KEY, '\xff')); }
     range scan_prefix(std::string_view prefix) {
@@ -190,7 +192,7 @@ class handle {
         return scan(prefix, std::string(prefix).append(left, '\xff'));
     }
 
-    /// The pairs from one key down to another, both included, the greatest key first; and all of them.
+    /// The pairs from one key to another, both included, the greatest key first; and all pairs in that order.
     range scan_reverse(std::string_view from, std::string_view upto, std::size_t pairs = page) {
         return range(it(), from, upto, pairs, order::falling);
     }
@@ -213,14 +215,14 @@ class handle {
     friend std::vector<handle> create(std::uint32_t nodes, std::uint32_t leaves, std::size_t count);
     friend std::vector<handle> create(const hot_stock &stock, std::size_t count);
 
-    // The handles of an index lie in one array, which each of them keeps, since a hot_handle is never moved.
+    // The handles of an index are in one array, which each of them keeps alive, since a hot_handle must not move.
     struct closer {
         std::shared_ptr<hot_handle[]> all;
         void operator()(hot_handle *it) const { hot_destroy(it); }
     };
     handle(hot_handle *it, std::shared_ptr<hot_handle[]> all) : it_(it, closer{std::move(all)}) {}
 
-    // The handles that a call opens, which is given their array.
+    // The handles that `open` opens in a new array.
     template <class Open> static std::vector<handle> opened(std::size_t count, Open open) {
         std::shared_ptr<hot_handle[]> all(new hot_handle[count]());
         std::vector<handle> handles;
@@ -269,25 +271,25 @@ class handle {
     std::unique_ptr<hot_handle, closer> it_;
 };
 
-/// Makes an empty index with so many node and leaf records, and `count` handles on it, 1 to 64. The last one that goes frees it.
-/// std::invalid_argument, std::bad_alloc.
+/// Makes an empty index with this number of node and leaf records, and `count` handles on it, 1 to 64. Destroying the last one
+/// frees it. Throws std::invalid_argument, std::bad_alloc.
 inline std::vector<handle> create(std::uint32_t nodes, std::uint32_t leaves, std::size_t count = 1) {
     return handle::opened(count, [=](hot_handle *all) { return hot_create(nodes, leaves, all, count); });
 }
 
-/// The same with a stock, and 1 to 1024 handles.
+/// The same with a stock of records, and 1 to 1024 handles.
 inline std::vector<handle> create(const hot_stock &stock, std::size_t count = 1) {
     return handle::opened(count, [&](hot_handle *all) { return hot_create_with(&stock, all, count); });
 }
 
-/// A stock for so many keys at once of at most `longest` bytes each; hot.h says what it has to spare.
+/// A stock for `keys` keys of at most `longest` bytes each; hot.h says what it has to spare.
 inline hot_stock stock_for_keys(std::uint32_t keys, std::size_t longest) {
     hot_stock stock{};
     hot_stock_for_keys(keys, longest, &stock);
     return stock;
 }
 
-/// How many bytes an index with this stock and so many handles takes: hot_stock_bytes. std::invalid_argument.
+/// How many bytes an index with this stock and this number of handles takes: hot_stock_bytes. Throws std::invalid_argument.
 inline std::size_t stock_bytes(const hot_stock &stock, std::size_t count = 1) {
     std::size_t bytes = 0;
     check(hot_stock_bytes(&stock, count, &bytes));
