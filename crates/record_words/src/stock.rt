@@ -49,7 +49,8 @@ impl Stock {
         ensures stock { result ≡ stock_for count longest }
         ensures nodes { IsRecordCount result.nodes }
         ensures leaves { IsRecordCount (leaves_of result) × (count ≤ leaves_of result) }
-        ensures room { (layout : Layout) (leaf bytes : ℕ) → HasStock layout result → leaf < layout.leaves → bytes ≤ longest → bytes ≤ MAX_BYTES → words_for bytes ≤ leaf_size layout leaf }
+        ensures room { (layout : Layout) (leaf bytes : ℕ) → HasStock layout result → leaf < layout.leaves →
+            bytes ≤ longest → bytes ≤ MAX_BYTES → words_for bytes ≤ leaf_size layout leaf }
     {
         let shares = count / STOCK_SHARE + STOCK_SPARE;
         Stock::of_class(

@@ -39,7 +39,8 @@ SlotIsStored =
     (view : NodeView) (words : List ℕ) → HasNodeWords view → node_words view ≡ words → All (λ w. w < 2 ^ 64) words →
     (j : ℕ) (e : Entry) → j < length view.entries → HasEntryWord (Some e) → StandsBelow view.height e →
     let stored = record view { entries = set view.entries j e } in let after = set words (25 + j) (entry_word (Some e)) in
-    HasNodeWords stored × (node_words stored ≡ after) × (node_words_of after ≡ record { fixed = (node_words_of words).fixed; page = with_entry (node_words_of words).page j e })
+    HasNodeWords stored × (node_words stored ≡ after) ×
+    (node_words_of after ≡ record { fixed = (node_words_of words).fixed; page = with_entry (node_words_of words).page j e })
 
 -- A node that stood in the tree at a moment since a pass's pin is in the tree, if its state word is that of a live record.
 abbrev pub LedIsInTree : Type 0

@@ -86,7 +86,8 @@ abbrev pub MayUpsertInSlot : Type 0
 MayUpsertInSlot =
     (layout : Layout) (k : Known) (held : List Locked) (x : Item) (n j slot w value : ℕ) (words : List ℕ) → HasReady k held (of_leaf x ∷ []) →
     HasLeafWords (x.key, x.value) → IsOf (record { node = n; words = words }) held → seek x.key (node_words_of words).page ≡ Leaf j →
-    spot x.key (node_words_of words).page ≡ slot → 0 < (node_words_of words).fixed.height → IsLeafThere layout k held (of_leaf x ∷ []) j x.key value → IsWord (Leaf x.number) w →
+    spot x.key (node_words_of words).page ≡ slot → 0 < (node_words_of words).fixed.height →
+    IsLeafThere layout k held (of_leaf x ∷ []) j x.key value → IsWord (Leaf x.number) w →
     Publishes layout k (Slot n slot) w (replaced_change k.pass x) (Some value) (a_leaf j ∷ [])
 
 -- At the root.

@@ -38,7 +38,8 @@ WholeInsert =
     (layout : Layout) (k : Known) (since : ℕ) (x : Item) (p : ℕ) (l : Key) (o n m slot w : ℕ) (below above : List ℕ) (view : NodeView) →
     HasReady k (record { node = o; words = above } ∷ record { node = n; words = below } ∷ []) (of_view m view ∷ of_leaf x ∷ []) → o ≢ n → k.anchor ≡ None →
     HasFoundBelow k k.locks since x p l n below → IsPartPage (page_affected p x.key (node_words_of below).page) →
-    (a : IsLockedAbove k.locks x.key p o n) → a.upper ≡ above → spot x.key (node_words_of above).page ≡ slot → IsLowerPage (node_words_of above).fixed.height (Place (Node m view.height)) →
+    (a : IsLockedAbove k.locks x.key p o n) → a.upper ≡ above → spot x.key (node_words_of above).page ≡ slot →
+    IsLowerPage (node_words_of above).fixed.height (Place (Node m view.height)) →
     IsAnew view → piece view ≡ page_grown p x.key (Leaf x.number) (node_words_of below).page → IsWord (Node m view.height) w →
     Publishes layout k (Slot o slot) w (added_change k.pass x) None (a_node n ∷ []) ×
     ((j i h g : Known) (epoch : ℕ) → IsEvent layout (Publish (Slot o slot) w) silent k j → IsEvent layout (LoadEpoch epoch) silent j i →

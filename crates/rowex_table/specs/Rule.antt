@@ -172,7 +172,8 @@ following v w = Spent
 -- with the stamp's, and with what the pass had seen, and go on from there by changes of others.
 abbrev pub HasFollowed : Layout → List Change → Known → Known → Type 0
 HasFollowed layout stamp k j =
-    (front : List Change) × (j ≡ with_front front k) × LegalFront front × OthersGoOn k.pass k.front front × BeginsWith front stamp × All (λ x. x.pass < layout.passes) front
+    (front : List Change) × (j ≡ with_front front k) × LegalFront front × OthersGoOn k.pass k.front front × BeginsWith front stamp ×
+    All (λ x. x.pass < layout.passes) front
 
 abbrev pub Following : Option Layout → View → View → Type 0
 Following (Some layout) (Follower k stamp) w = (j : Known) × (w ≡ Pass j) × HasFollowed layout stamp k j

@@ -57,7 +57,8 @@ IsChangeOf q Upsert key value New x was = (x ≡ record { pass = q; key = key; v
 IsChangeOf q Upsert key value (Was held) x was = (x ≡ record { pass = q; key = key; value = value; kind = Replaced }) × (was ≡ Some held)
 IsChangeOf q (Exchange expected) key value Exchanged x was = (x ≡ record { pass = q; key = key; value = value; kind = Replaced }) × (was ≡ Some expected)
 IsChangeOf q Remove key value (Removed held) x was = (x ≡ record { pass = q; key = key; value = held; kind = TakenAway }) × (was ≡ Some held)
-IsChangeOf q (RemoveIf expected) key value (Removed held) x was = (x ≡ record { pass = q; key = key; value = held; kind = TakenAway }) × (was ≡ Some held) × (held ≡ expected)
+IsChangeOf q (RemoveIf expected) key value (Removed held) x was =
+    (x ≡ record { pass = q; key = key; value = held; kind = TakenAway }) × (was ≡ Some held) × (held ≡ expected)
 IsChangeOf q ask key value reply x was = ⊥
 
 -- the reply of a call that has made its change

@@ -34,7 +34,8 @@ pub(crate) fn claim_node<G: Gate>(
     ensures made { build.new.made.items ≡ build.old.made.items }
     ensures walk { (since : ℕ) → HasWalked table.now.layout since seat.old.known build.old → MatchOption result
         (AllMissed a_node table.now.layout.nodes seat.new.known.failed since)
-        (λ number. IsClaimWalk a_node table.now.layout.nodes since seat.new.known (build.old.made.items ++ a_node number ∷ []) build.new.nodes.next build.new.left_nodes) }
+        (λ number. IsClaimWalk a_node table.now.layout.nodes since seat.new.known (build.old.made.items ++ a_node number ∷ [])
+        build.new.nodes.next build.new.left_nodes) }
     ensures few { Spends 2 seat.old.known build.old seat.new.known build.new result }
 {
     let claimed = claim_left(table, seat, gate, &mut build.nodes, &mut build.left_nodes);
