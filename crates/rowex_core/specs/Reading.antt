@@ -46,8 +46,9 @@ entries_of count tail = take count (map (λ w. unwrap_or (entry_of w) (Leaf 0)) 
 
 abbrev pub node_words_from : List ℕ → List ℕ → NodeWords
 node_words_from head tail = record {
-    fixed = fixed_of head;
-    page = piece_of (Leaf 0) (fixed_of head).columns (fixed_of head).rows (entries_of (get_or head 0 0 % 256) tail) }
+  fixed = fixed_of head;
+  page = piece_of (Leaf 0) (fixed_of head).columns (fixed_of head).rows (entries_of (get_or head 0 0 % 256) tail);
+}
 
 unfoldable pub node_words_of : List ℕ → NodeWords
 node_words_of words = node_words_from (take HEAD_WORDS words) (drop HEAD_WORDS words)
