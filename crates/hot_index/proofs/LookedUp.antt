@@ -94,8 +94,8 @@ module _ {G : Type 0} {table : TableView} {becomes : G → Event → G → Type 
   on_first : {a b : SeatView × G} → ReadsRoot table becomes a b → LooksOn table becomes 0 a b
   on_first {b = b} root = record { at = b; root = root; loads = []; looks = All-nil IsLook; count = refl; rest = refl }
 
-  on_more : {n m : ℕ} {a b c : SeatView × G} → LooksOn table becomes n a b → Looks table becomes m b c → LooksOn table becomes (n + (1 + m)) a c
-  on_more {n} {m} {a} {b} {c} x y = record {
+  on_more : {n e m : ℕ} {a b c : SeatView × G} → LooksOn table becomes n a b → Looks table becomes e m b c → LooksOn table becomes (n + (1 + m)) a c
+  on_more {n} {e} {m} {a} {b} {c} x y = record {
     at = x.at;
     root = x.root;
     loads = x.loads ++ (LoadRef Root y.root.0 ∷ y.rest.acts);
@@ -163,10 +163,10 @@ module _ {G : Type 0} {table : TableView} {becomes : G → Event → G → Type 
   up_first {b = b} root = record { nodes = 0; loaded = 0; low = omega arith; few = omega arith; looks = on_first root; right = le_refl (length b.0.known.front) }
 
   -- so many keys go down
-  pub up_down : {n g loads : ℕ} {calls : List (Call × Reply)} {a b c : SeatView × G} (count : ℕ) → HasGone table becomes n g calls a b → 1 ≤ count → loads ≤ 232 * count → Looks table becomes loads b c →
+  pub up_down : {n g entries loads : ℕ} {calls : List (Call × Reply)} {a b c : SeatView × G} (count : ℕ) → HasGone table becomes n g calls a b → 1 ≤ count → loads ≤ 232 * count → Looks table becomes entries loads b c →
       HasGone table becomes n (g + count) calls a c
   unfolding on_more
-  up_down {n} {g} {loads} {calls} {a} {b} {c} count up some few down = record {
+  up_down {n} {g} {entries} {loads} {calls} {a} {b} {c} count up some few down = record {
     nodes = up.nodes;
     loaded = up.loaded + (1 + loads);
     low = up.low;

@@ -200,7 +200,7 @@ looked_then {n = n} {a = a} {b = b} i settled pins at = record {
     others : OthersGoOn a.0.known.pass a.0.known.front i.front
     others = subst (λ (z : ℕ × List Change). OthersGoOn z.0 z.1 i.front) (λ x. (pass x, front x)) at.later.front
 
-pub looked : {G : Type 0} {table : TableView} {becomes : G → Event → G → Type 0} {n : ℕ} {a b c : SeatView × G} → IsSettled a.0.known → Pins table becomes a b → Looks table becomes n b c →
+pub looked : {G : Type 0} {table : TableView} {becomes : G → Event → G → Type 0} {e n : ℕ} {a b c : SeatView × G} → IsSettled a.0.known → Pins table becomes a b → Looks table becomes e n b c →
     HasLooked a.0.known c.0.known
 looked {c = c} settled pins looks = looked_then c.0.known settled pins (looked_at looks)
 
@@ -286,11 +286,3 @@ module _ {G : Type 0} {table : TableView} {becomes : G → Event → G → Type 
   pub get_noted : IsSettled a.0.known → HasFound c.0.known key o → IsNoted table.layout (pass_of a.0) (pass_of d.0) (Get key) (got o) × IsSettled d.0.known
   get_noted settled found =
       noted table.layout (Get key) (got o) a.0 c.0.known d.0 settled (looked settled pins search.looks) end.event (found_right c.0.known key o found) (get_quiet key o)
-
-  pub get_steps : (v : ℕ) × (v ≤ 9 * MAX_BYTES) × (d.0.known.steps ≤ a.0.known.steps + 36 + 26 * v)
-  get_steps =
-      let first : b.0.known.steps ≡ a.0.known.steps + 2 = ap (λ (z : Known). z.steps) pins.1.rest in
-      let second : c.0.known.steps ≡ b.0.known.steps + (1 + search.loaded) = ap (λ (z : Known). z.steps) (looked_at search.looks).sees in
-      let third : d.0.known.steps ≡ c.0.known.steps + 1 = ap (λ (z : Known). z.steps) end.event.learned_is in
-      let few = search.few in
-      (search.nodes, search.low, omega arith)

@@ -1,5 +1,6 @@
 -- The steps of a call, and what its gate was told.
-use Rattle.std.proofs.Common.{◌≡◌, ℕ, ◌+◌, ◌≤◌, List, [], ◌∷◌, ◌++◌, false, Result, inl, inr, refl, sym, ap, subst, arith, ◌∙◌}
+use Rattle.std.proofs.Common.{◌≡◌, ℕ, ◌+◌, ◌*◌, ◌≤◌, List, [], ◌∷◌, ◌++◌, false, Result, inl, inr, refl, sym, ap, subst, arith, ◌∙◌}
+use Rattle.key_bits.specs.declared.TheConstants.{MAX_BYTES}
 use Rattle.finite_map.specs.declared.Note.{Note}
 use Rattle.finite_map.specs.declared.Reply.{Reply}
 use Rattle.rowex_core.specs.declared.event.Act.{Act}
@@ -15,12 +16,15 @@ use Rattle.rowex_table.proofs.Seeing.{ends_see, event_shows, root_shows, runs_la
 use Rattle.epochs.specs.Rounds.{IsRound, IsSmallRound, advance_steps}
 use Rattle.epochs.specs.declared.limbo.TheConstants.{MOST_VISITED}
 use Rattle.epochs.specs.Runs.{Pins}
+use Rattle.rowex_reading.specs.Lookups.{HasSearched}
 use Rattle.rowex_reading.specs.Reads.{Looks}
+use Rattle.rowex_reading.proofs.Counting.{looks_count}
+use Rattle.rowex_scanning.specs.Counts.{Scans, scan_entries}
 use Rattle.rowex_writing.specs.Changes.{HasTriedOnce}
 use Rattle.rowex_writing.specs.declared.attempts.TryFault.{TryFault}
 use Rattle.hot_index.specs.Counts.{try_steps}
 use Rattle.hot_index.specs.Passes.{PassView, pass_of}
-use Rattle.hot_index.specs.Traces.{AreAttempts, AreRoundSteps, AreSmallSteps, AreTries, HasCollected, HasEnded, HasGot, HasMade, HasRead, HasStepped, HasTold, IsAttempt, Tidies, is_full, reading, untold}
+use Rattle.hot_index.specs.Traces.{AreAttempts, AreRoundSteps, AreSmallSteps, AreTries, HasCollected, HasEnded, HasGot, HasMade, HasRead, HasStepped, HasTold, HasGotRange, IsAttempt, Tidies, is_full, reading, untold}
 
 -- The steps of a round, and of a small one.
 round_steps_of : {G : Type 0} {table : TableView} {becomes : G → Event → G → Type 0} {a b : SeatView × G} {nodes leaves : ℕ} (r : IsRound table becomes a b nodes leaves) →
@@ -68,7 +72,7 @@ module _ {G : Type 0} (table : TableView) (becomes : G → Event → G → Type 
       (root_shows table.layout w silent b.0.known m.0.known step.event)
 
   -- a call that pinned its pass, looked and cleared the pin
-  pub has_read : {n : ℕ} {said : Known → List Note} {a b c d : SeatView × G} → Pins table becomes a b → Looks table becomes n b c → StepsWith table becomes ClearPin said c d →
+  pub has_read : {e n : ℕ} {said : Known → List Note} {a b c d : SeatView × G} → Pins table becomes a b → Looks table becomes e n b c → StepsWith table becomes ClearPin said c d →
       HasRead table becomes (pass_of a.0, a.1) (pass_of d.0, d.1)
   has_read {said = said} {a = a} {b = b} {c = c} {d = d} pins looks end = record {
     epoch = pins.0;
@@ -109,6 +113,37 @@ module _ {G : Type 0} (table : TableView) (becomes : G → Event → G → Type 
           sees_then table.layout a.0.known looks.at.0.known c.0.known same (omega (arith, before, one)) (runs_later table becomes looks.rest.acts looks.at c rest) at_root
           (runs_show table becomes looks.rest.acts looks.at c rest)
 
+  -- and how many steps it has made, by the entries that it has loaded
+  read_steps : {e n : ℕ} {said : Known → List Note} {a b c d : SeatView × G} → Pins table becomes a b → Looks table becomes e n b c → StepsWith table becomes ClearPin said c d →
+      d.0.known.steps ≡ a.0.known.steps + 4 + n
+  read_steps {e} {n} {said} {a} {b} {c} {d} pins looks end =
+      let first : b.0.known.steps ≡ a.0.known.steps + 2 = ap (λ (z : Known). z.steps) pins.1.rest in
+      let second = looks_count table becomes e n b c looks in
+      let third : d.0.known.steps ≡ c.0.known.steps + 1 = ap (λ (z : Known). z.steps) end.event.learned_is in
+      omega (arith, first, second, third)
+
+  pub has_got : {said : Known → List Note} {a b c d : SeatView × G} → Pins table becomes a b → HasSearched table becomes b c → StepsWith table becomes ClearPin said c d →
+      HasGot table becomes (pass_of a.0, a.1) (pass_of d.0, d.1)
+  unfolding has_read
+  has_got {said} {a} {b} {c} {d} pins search end =
+      let steps = read_steps pins search.looks end in let few = search.few in let entries = search.looks.rest.entries_are in
+      record {
+        read = has_read pins search.looks end;
+        depth = subst (λ e. e ≤ 9 * MAX_BYTES) (sym entries) search.low;
+        few = subst (λ e. d.0.known.steps ≤ a.0.known.steps + 36 + 26 * e) (sym entries) (omega (arith, steps, few));
+      }
+
+  pub has_walked : {said : Known → List Note} {a b c d : SeatView × G} (limit : ℕ) → Pins table becomes a b → Scans table becomes limit b c → StepsWith table becomes ClearPin said c d →
+      HasGotRange table becomes limit (pass_of a.0, a.1) (pass_of d.0, d.1)
+  unfolding has_read
+  has_walked {said} {a} {b} {c} {d} limit pins (loads, found, are, looks) end =
+      let steps = read_steps pins looks end in let few = are.few in let entries = looks.rest.entries_are in
+      record {
+        read = has_read pins looks end;
+        most = subst (λ e. e ≤ scan_entries limit) (sym entries) are.most;
+        few = subst (λ e. d.0.known.steps ≤ a.0.known.steps + 100 + 26 * e + 7 * limit) (sym entries) (omega (arith, steps, few));
+      }
+
   -- Nobody need be told.
 
   pub step_untold : (act : Act) (said : Known → List Note) (a b : SeatView × G) → StepsWith table becomes act said a b → StepsWith table untold act said (a.0, tt) (b.0, tt)
@@ -137,7 +172,12 @@ module _ {G : Type 0} (table : TableView) (becomes : G → Event → G → Type 
       all = ((x.steps.0.0, tt), runs_untold (reading x.epoch x.root x.loads) (a.0.seat, a.1) x.steps.0 x.steps.1, step_untold ClearPin x.said x.steps.0 (b.0.seat, b.1) x.steps.2)
 
   pub got_untold : (a b : PassView × G) → HasGot table becomes a b → HasGot table untold (a.0, tt) (b.0, tt)
-  got_untold a b x = record { read = read_untold a b x.read; visited = x.visited; depth = x.depth; few = x.few }
+  unfolding read_untold
+  got_untold a b x = record { read = read_untold a b x.read; depth = x.depth; few = x.few }
+
+  pub walked_untold : (limit : ℕ) (a b : PassView × G) → HasGotRange table becomes limit a b → HasGotRange table untold limit (a.0, tt) (b.0, tt)
+  unfolding read_untold
+  walked_untold limit a b x = record { read = read_untold a b x.read; most = x.most; few = x.few }
 
   -- a call that ended on its seat
   pub has_made : {said : Known → List Note} {r : Result Reply TryFault} (a b : SeatView × G) → HasEnded table becomes (AreAttempts table.layout r) said a b → b.0.known.steps ≤ a.0.known.steps + try_steps table.layout →

@@ -15,7 +15,8 @@ use Rattle.rowex_core.specs.Knowing.{SeesAllAtRoot}
 use Rattle.rowex_table.specs.Runs.{Ends, InTurn, IsTold, events_of}
 use Rattle.rowex_table.specs.Seats.{TableView, SeatView}
 use Rattle.rowex_table.specs.Stays.{LeavesPin}
-use Rattle.rowex_reading.specs.Reads.{IsBelowRoot}
+use Rattle.rowex_reading.specs.Reads.{IsBelowRoot, entries_in}
+use Rattle.rowex_scanning.specs.Counts.{scan_entries}
 use Rattle.epochs.specs.Rounds.{IsRound, IsSmallRound, LoadsPin, VisitEach, Visits, advance_steps}
 use Rattle.epochs.specs.declared.limbo.TheConstants.{MOST_VISITED}
 use Rattle.rowex_writing.specs.Locks.{TriesLocksOnce}
@@ -47,12 +48,18 @@ pub record HasRead {G : Type 0} (index : TableView) (becomes : G → Event → G
   pub sees : SeesAllAtRoot index.layout a.0.seat.known b.0.seat.known
   pub told : IsTold becomes (events_of a.0.number (reading epoch root loads ++ ClearPin ∷ [])) a.1 b.1
 
--- A get visits so many nodes on the way of its key: it makes at most 26 steps at each, and 36 beside.
+-- A get loads one entry in each node on the way of its key: it makes at most 26 steps for each entry that it loads, and 36 beside.
 pub record HasGot {G : Type 0} (index : TableView) (becomes : G → Event → G → Type 0) (a b : PassView × G) : Type 0 where
   pub read : HasRead index becomes a b
-  pub visited : ℕ
-  pub depth : visited ≤ 9 * MAX_BYTES
-  pub few : b.0.steps ≤ a.0.steps + 36 + 26 * visited
+  pub depth : entries_in read.loads ≤ 9 * MAX_BYTES
+  pub few : b.0.steps ≤ a.0.steps + 36 + 26 * entries_in read.loads
+
+-- A scan loads one entry for each node to which it goes, and one for each leaf: it makes at most 26 steps for each entry that it loads, 7
+-- more for each pair of its limit, and 100 beside.
+pub record HasGotRange {G : Type 0} (index : TableView) (becomes : G → Event → G → Type 0) (limit : ℕ) (a b : PassView × G) : Type 0 where
+  pub read : HasRead index becomes a b
+  pub most : entries_in read.loads ≤ scan_entries limit
+  pub few : b.0.steps ≤ a.0.steps + 100 + 26 * entries_in read.loads + 7 * limit
 
 -- An attempt, but for its last step, which clears the pin: it pins the pass, leaves the pin, and tries each lock once at most.
 pub record IsAttempt (acts : List Act) : Type 0 where

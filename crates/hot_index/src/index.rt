@@ -18,7 +18,7 @@ ghost use Rattle.hot_index.specs.Counts.{scan_steps};
 ghost use Rattle.hot_index.specs.Answers.{IsListed, IsNoted, IsRefused, IsScanned, IsUnnoted, HaveMet, MayLack, fault_of, got};
 ghost use Rattle.hot_index.specs.Census.{HasCounted};
 ghost use Rattle.hot_index.specs.Many.{AreNoted, HasGotMany, gets};
-ghost use Rattle.hot_index.specs.Traces.{HasCollected, HasGot, HasMade, HasRead, HasTold, untold};
+ghost use Rattle.hot_index.specs.Traces.{HasCollected, HasGot, HasGotRange, HasMade, HasTold, untold};
 
 use crate::census::{RecordCounts, count_records};
 use crate::changing::{change, try_change};
@@ -136,8 +136,8 @@ pub fn create_with(
 impl Index {
     /// The value of the key, or `None` if it is absent.
     ///
-    /// It takes no lock and waits for nobody. It makes at most 36 atomic steps, and 26 for each node on the way to the key, of
-    /// which there are at most 2,160.
+    /// It takes no lock and waits for nobody. It makes at most 36 atomic steps, and 26 for each node on the way to the key, in each of
+    /// which it loads one entry; there are at most 2,160.
     pub fn get(&self, pass: &mut Pass, key: &Key) -> Option<u64>
         requires { Owns self.now pass.old }
         ensures own { Owns self.now pass.new }
@@ -198,7 +198,7 @@ impl Index {
 
     /// Inserts a key with a value: `Inserted`; or `Exists` with the value that the key has already, and keeps.
     ///
-    /// It waits for nobody. It makes at most 1,420,268 atomic steps, and 2 for each pass, 6 for each node record and 10 for each
+    /// It waits for nobody. It makes at most 1,400,786 atomic steps, and 2 for each pass, 6 for each node record and 10 for each
     /// leaf record. It answers `Busy` if another pass has locked or retired what it wants to lock, or has made a change since the
     /// call's last pin, so never if the index has one pass; and `FullNodes` or `FullLeaves` if it found each node record, or each
     /// leaf record with room for the key, in use, again after a round of collection. When it is refused it has changed nothing, and
@@ -462,10 +462,11 @@ impl Index {
     /// Lists the first `limit` pairs whose keys are from `from` to `upto`, both included, in key order, and tells whether the range
     /// has more.
     ///
-    /// It takes no lock and waits for nobody. It makes at most 168,606 atomic steps, and 59 for each pair of the limit, whatever
-    /// others insert meanwhile. It doesn't show a single moment: each pair was in the index at some moment of the call, and no key
-    /// is missing that was there all along (if there are more, no key up to the last one listed). If memory is refused, it lists
-    /// nothing.
+    /// It takes no lock and waits for nobody. It makes at most 100 atomic steps, 7 for each pair of the limit, and 26 for each entry of
+    /// a node that it loads, of which there are at most 6,481 and two for each pair of the limit: so at most 168,606, and 59 for each
+    /// pair, whatever others insert meanwhile. It doesn't show a single moment: each pair was in the index at some moment of the call,
+    /// and no key is missing that was there all along (if there are more, no key up to the last one listed). If memory is refused, it
+    /// lists nothing.
     pub fn scan(
         &self,
         alloc: Global,
@@ -479,7 +480,7 @@ impl Index {
         ensures ok { IfOk result (IsScanned self.now.layout pass.old pass.new from.now upto.now limit) }
         ensures err { OnErr result (IsUnnoted self.now.layout pass.old pass.new) }
         ensures steps { pass.new.steps ≤ pass.old.steps + scan_steps limit }
-        ensures read { HasRead self.now untold (pass.old, tt) (pass.new, tt) }
+        ensures read { HasGotRange self.now untold limit (pass.old, tt) (pass.new, tt) }
     {
         self.scan_with(alloc, pass, from, upto, limit, &mut NoGate)
     }
@@ -499,7 +500,7 @@ impl Index {
         ensures ok { IfOk result (IsScanned self.now.layout pass.old pass.new from.now upto.now limit) }
         ensures err { OnErr result (IsUnnoted self.now.layout pass.old pass.new) }
         ensures steps { pass.new.steps ≤ pass.old.steps + scan_steps limit }
-        ensures read { HasRead self.now G.becomes (pass.old, gate.old) (pass.new, gate.new) }
+        ensures read { HasGotRange self.now G.becomes limit (pass.old, gate.old) (pass.new, gate.new) }
     {
         let mut list = Pairs::new(alloc);
         let more = self.scan_into_with(pass, from, upto, limit, &mut list, gate)?;
@@ -524,7 +525,7 @@ impl Index {
         ensures ok { IfOk result (IsListed self.now.layout pass.old pass.new from.now upto.now limit pairs.new) }
         ensures err { OnErr result (IsUnnoted self.now.layout pass.old pass.new) }
         ensures steps { pass.new.steps ≤ pass.old.steps + scan_steps limit }
-        ensures read { HasRead self.now untold (pass.old, tt) (pass.new, tt) }
+        ensures read { HasGotRange self.now untold limit (pass.old, tt) (pass.new, tt) }
     {
         self.scan_into_with(pass, from, upto, limit, pairs, &mut NoGate)
     }
@@ -544,7 +545,7 @@ impl Index {
         ensures ok { IfOk result (IsListed self.now.layout pass.old pass.new from.now upto.now limit pairs.new) }
         ensures err { OnErr result (IsUnnoted self.now.layout pass.old pass.new) }
         ensures steps { pass.new.steps ≤ pass.old.steps + scan_steps limit }
-        ensures read { HasRead self.now G.becomes (pass.old, gate.old) (pass.new, gate.new) }
+        ensures read { HasGotRange self.now G.becomes limit (pass.old, gate.old) (pass.new, gate.new) }
     {
         let range = Range { from, upto, limit };
         pin(&self.table, &mut pass.seat, gate);

@@ -61,7 +61,7 @@ fn ways_of<G: Gate>(
     requires pinned { IsSome seat.old.known.pin }
     requires few { count ≤ TOGETHER }
     requires range { first + count ≤ length keys.now }
-    ensures looks { (n : ℕ) × (n ≤ 232 * count) × Looks table.now G.becomes n (seat.old, gate.old) (seat.new, gate.new) }
+    ensures looks { (n : ℕ) × (n ≤ 232 * count) × (entries : ℕ) × Looks table.now G.becomes entries n (seat.old, gate.old) (seat.new, gate.new) }
     ensures rows { AreRows seat.new.known keys.now first result }
 {
     if count < ENOUGH {

@@ -5,7 +5,7 @@ ghost use Rattle.hot_index.specs.Answers.{IsListed, IsUnnoted};
 ghost use Rattle.hot_index.specs.Counts.{scan_steps};
 ghost use Rattle.hot_index.specs.Passes.{Owns};
 ghost use Rattle.hot_index.specs.Ranges.{IsFirstFound};
-ghost use Rattle.hot_index.specs.Traces.{HasRead, untold};
+ghost use Rattle.hot_index.specs.Traces.{HasGotRange, untold};
 ghost use Rattle.key_ranges.specs.Ranges.{last_with};
 
 use crate::index::{Index, Pass};
@@ -31,7 +31,7 @@ impl Index {
         ensures ok { IfOk result (IsListed self.now.layout pass.old pass.new prefix.now (last_with prefix.now) limit pairs.new) }
         ensures err { OnErr result (IsUnnoted self.now.layout pass.old pass.new) }
         ensures steps { pass.new.steps ≤ pass.old.steps + scan_steps limit }
-        ensures read { HasRead self.now untold (pass.old, tt) (pass.new, tt) }
+        ensures read { HasGotRange self.now untold limit (pass.old, tt) (pass.new, tt) }
     {
         self.scan_into(pass, prefix, &last_with_prefix(prefix), limit, pairs)
     }
@@ -51,7 +51,7 @@ impl Index {
         ensures ok { IfOk result (IsFirstFound self.now.layout pass.old pass.new from.now) }
         ensures err { OnErr result (IsUnnoted self.now.layout pass.old pass.new) }
         ensures steps { pass.new.steps ≤ pass.old.steps + scan_steps 1 }
-        ensures read { HasRead self.now untold (pass.old, tt) (pass.new, tt) }
+        ensures read { HasGotRange self.now untold 1 (pass.old, tt) (pass.new, tt) }
     {
         let empty = Key::of_places([0; MAX_BYTES], 0);
         let mut list = Pairs::new(alloc);

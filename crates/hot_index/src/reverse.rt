@@ -5,7 +5,7 @@ ghost use Rattle.hot_index.specs.Answers.{IsUnnoted};
 ghost use Rattle.hot_index.specs.Counts.{scan_steps};
 ghost use Rattle.hot_index.specs.Passes.{Owns};
 ghost use Rattle.hot_index.specs.Reverse.{IsLastFound, IsReverseListed, IsReverseScanned};
-ghost use Rattle.hot_index.specs.Traces.{HasRead, untold};
+ghost use Rattle.hot_index.specs.Traces.{HasGotRange, untold};
 
 use crate::index::{Index, Pass};
 use epochs::{pin, unpin};
@@ -37,7 +37,7 @@ impl Index {
         ensures ok { IfOk result (IsReverseScanned self.now.layout pass.old pass.new from.now upto.now limit) }
         ensures err { OnErr result (IsUnnoted self.now.layout pass.old pass.new) }
         ensures steps { pass.new.steps ≤ pass.old.steps + scan_steps limit }
-        ensures read { HasRead self.now untold (pass.old, tt) (pass.new, tt) }
+        ensures read { HasGotRange self.now untold limit (pass.old, tt) (pass.new, tt) }
     {
         let mut list = Pairs::new(alloc);
         let more = self.scan_reverse_into(pass, from, upto, limit, &mut list)?;
@@ -60,7 +60,7 @@ impl Index {
         ensures ok { IfOk result (IsReverseListed self.now.layout pass.old pass.new from.now upto.now limit pairs.new) }
         ensures err { OnErr result (IsUnnoted self.now.layout pass.old pass.new) }
         ensures steps { pass.new.steps ≤ pass.old.steps + scan_steps limit }
-        ensures read { HasRead self.now untold (pass.old, tt) (pass.new, tt) }
+        ensures read { HasGotRange self.now untold limit (pass.old, tt) (pass.new, tt) }
     {
         self.scan_reverse_into_with(pass, from, upto, limit, pairs, &mut NoGate)
     }
@@ -80,7 +80,7 @@ impl Index {
         ensures ok { IfOk result (IsReverseListed self.now.layout pass.old pass.new from.now upto.now limit pairs.new) }
         ensures err { OnErr result (IsUnnoted self.now.layout pass.old pass.new) }
         ensures steps { pass.new.steps ≤ pass.old.steps + scan_steps limit }
-        ensures read { HasRead self.now G.becomes (pass.old, gate.old) (pass.new, gate.new) }
+        ensures read { HasGotRange self.now G.becomes limit (pass.old, gate.old) (pass.new, gate.new) }
     {
         let range = Range { from, upto, limit };
         pin(&self.table, &mut pass.seat, gate);
@@ -112,7 +112,7 @@ impl Index {
         ensures ok { IfOk result (IsLastFound self.now.layout pass.old pass.new upto.now) }
         ensures err { OnErr result (IsUnnoted self.now.layout pass.old pass.new) }
         ensures steps { pass.new.steps ≤ pass.old.steps + scan_steps 1 }
-        ensures read { HasRead self.now untold (pass.old, tt) (pass.new, tt) }
+        ensures read { HasGotRange self.now untold 1 (pass.old, tt) (pass.new, tt) }
     {
         let empty = Key::of_places([0; MAX_BYTES], 0);
         let mut list = Pairs::new(alloc);

@@ -20,8 +20,8 @@ module _ {G : Type 0} (table : TableView) (becomes : G → Event → G → Type 
   runs_count (act ∷ acts) a b (m, s, more) = let one = step_count act a m s in let rest = runs_count acts m b more in omega (arith, one, rest)
 
   -- loads
-  pub reads_count : (n : ℕ) (a b : SeatView × G) → Reads table becomes n a b → b.0.known.steps ≡ a.0.known.steps + n
-  reads_count n a b r = let z = runs_count r.acts a b r.steps in omega (arith, z, r.count)
+  pub reads_count : (e n : ℕ) (a b : SeatView × G) → Reads table becomes e n a b → b.0.known.steps ≡ a.0.known.steps + n
+  reads_count e n a b r = let z = runs_count r.acts a b r.steps in omega (arith, z, r.count)
 
-  pub looks_count : (n : ℕ) (a b : SeatView × G) → Looks table becomes n a b → b.0.known.steps ≡ a.0.known.steps + 1 + n
-  looks_count n a b l = let one = step_count _ a l.at l.root.1 in let rest = reads_count n l.at b l.rest in omega (arith, one, rest)
+  pub looks_count : (e n : ℕ) (a b : SeatView × G) → Looks table becomes e n a b → b.0.known.steps ≡ a.0.known.steps + 1 + n
+  looks_count e n a b l = let one = step_count _ a l.at l.root.1 in let rest = reads_count e n l.at b l.rest in omega (arith, one, rest)

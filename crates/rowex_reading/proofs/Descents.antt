@@ -151,7 +151,7 @@ module _ (head : HeadView) (lawful : IsLawfulNode (node_of head (leaves (length 
 module _ {G : Type 0} {table : TableView} {becomes : G → Event → G → Type 0} {a b c : SeatView × G} {key : Key} {d : Entry} (at : IsAt table becomes a b key d)
     (way : List Step) (going : IsGoing table.layout b.0.known (since b.0.known) key way d) where
   -- It is a node, of which the head was read: there is an entry at the key's place.
-  module _ (n height : ℕ) (head : HeadView) (place : ℕ) (is : d ≡ Node n height) {loads : ℕ} (few : loads ≤ HEAD_WORDS) (reads : Reads table becomes loads b c)
+  module _ (n height : ℕ) (head : HeadView) (place : ℕ) (is : d ≡ Node n height) {loads : ℕ} (few : loads ≤ HEAD_WORDS) (reads : Reads table becomes 0 loads b c)
       (told : (m h : ℕ) → IsLedTo b.0.known m (Node n h) → (head.height ≡ h) × Sure c.0.known (λ s. IsShaped s m n (shape_of head)))
       (lawful : IsLawfulNode (node_of head (leaves (length head.rows)))) (leads : InEachNode head (λ node. place ≡ leads_to (bit_of key) (piece node))) where
     spot_is : place ≡ spot key (shape_of head)
@@ -161,12 +161,12 @@ module _ {G : Type 0} {table : TableView} {becomes : G → Event → G → Type 
     there = at_place at n height head place is few reads told spot_is
 
     -- The entry was read.
-    module _ {i : SeatView × G} (e : Entry) (one : Reads table becomes 1 c i)
+    module _ {i : SeatView × G} (e : Entry) (one : Reads table becomes 1 1 c i)
         (entry : (m h : ℕ) → HasPlace c.0.known m n h place → (height_of e < h) × Sure i.0.known (λ s. IsPlaced s m n place e)) where
       stood : (height_of e < height) × Sure i.0.known (λ s. IsPlaced s (since b.0.known) n place e)
       stood = entry (since b.0.known) height there
 
-      both : Reads table becomes (loads + 1) b i
+      both : Reads table becomes 1 (loads + 1) b i
       both = reads_trans reads one
 
       -- it is lower
@@ -209,7 +209,7 @@ module _ {G : Type 0} {table : TableView} {becomes : G → Event → G → Type 
           (going_on table.layout b.0.known i.0.known (since b.0.known) key (reads_later both) way t e here (way_node possible)))
 
   -- It is a leaf, which has been read.
-  module _ (n : ℕ) (is : d ≡ LeafEntry n) {loads : ℕ} (few : loads ≤ LEAF_FIELDS) (reads : Reads table becomes loads b c) (l : Key) (v : ℕ) (told : (m : ℕ) → IsLedTo b.0.known m (LeafEntry n) → Sure c.0.known (λ s. IsRead s m n l v))
+  module _ (n : ℕ) (is : d ≡ LeafEntry n) {loads : ℕ} (few : loads ≤ LEAF_FIELDS) (reads : Reads table becomes 0 loads b c) (l : Key) (v : ℕ) (told : (m : ℕ) → IsLedTo b.0.known m (LeafEntry n) → Sure c.0.known (λ s. IsRead s m n l v))
       (is_key : IsKey key) (differ : Option ℕ) (none : IsNone differ ↔ (key ≡ l)) where
     pub way_ends : IfSome differ (IsFirstDifference key l) → IsWayOf table.layout c.0.known (since c.0.known) key way (Leaf n v differ)
     way_ends first =

@@ -77,7 +77,7 @@ room_of layout k j n IsLoaded words possible loaded here m led =
 
 -- The value of a leaf and the length of its key have been loaded, the first words of it.
 pub record HasFirst {G : Type 0} (table : TableView) (becomes : G → Event → G → Type 0) (a b : SeatView × G) (n value size : ℕ) : Type 0 where
-  pub reads : Reads table becomes 2 a b
+  pub reads : Reads table becomes 0 2 a b
   pub reader : IsReader table b.0
   pub loaded : AreLoaded a.0.known b.0.known (a_leaf n) (λ o. o < 2) (first_words value size)
   pub short : size ≤ MAX_BYTES

@@ -1,7 +1,8 @@
 -- Loads one after the other, and what a pass was led to by them.
-use Rattle.std.proofs.Common.{◌≡◌, ℕ, ◌+◌, ◌<◌, ◌≤◌, List, [], ◌∷◌, ◌++◌, length, IsSome, refl, sym, ap, ◌∙◌, subst, arith, le_refl, length-append}
+use Rattle.std.proofs.Common.{◌≡◌, ℕ, cond, ap₂, ◌+◌, ◌<◌, ◌≤◌, List, [], ◌∷◌, ◌++◌, length, IsSome, refl, sym, ap, ◌∙◌, subst, arith, le_refl, length-append}
 use Rattle.std.specs.Prelude.{All}
 use Rattle.std.proofs.lemmas.List.{append-nil}
+use Rattle.std.proofs.lemmas.List.Sums.{sum_by-append}
 use Rattle.std.proofs.lemmas.List.Elements.{All-append, All-cons, All-head, All-nil, All-tail}
 use Rattle.compound_node.specs.declared.entries.Entry.{Entry}
 use Rattle.compound_node.specs.declared.entries.Entry.TheVariants.{Node}
@@ -25,7 +26,7 @@ use Rattle.rowex_table.proofs.Running.{runs_append, runs_one, runs_same, same_mo
 use Rattle.rowex_walks.specs.Scan.{IsSeen, IsPlaced, IsShaped}
 use Rattle.rowex_walks.proofs.Loads.{placed_seen, rooted_seen}
 use Rattle.rowex_reading.specs.Possible.{IsPossible}
-use Rattle.rowex_reading.specs.Reads.{IsBelowRoot, IsReader, Reads, ReadsRoot, Looks}
+use Rattle.rowex_reading.specs.Reads.{IsBelowRoot, IsReader, Reads, ReadsRoot, Looks, entries_in, loads_entry}
 use Rattle.rowex_reading.specs.Seen.{seen, Sure, since, IsAtRoot, IsLedTo, HasPlace}
 use Rattle.rowex_table.specs.Made.{IsLater}
 use Rattle.rowex_reading.proofs.Later.{event_later, event_possible}
@@ -110,49 +111,50 @@ module _ {G : Type 0} (table : TableView) (becomes : G → Event → G → Type 
       }
 
 module _ {G : Type 0} {table : TableView} {becomes : G → Event → G → Type 0} where
-  left : {n : ℕ} {a b : SeatView × G} → Reads table becomes n a b → Leaves table.layout n a.0.known b.0.known
-  left {n} {a} {b} x = subst (λ m. Leaves table.layout m a.0.known b.0.known) x.count (runs_leave table becomes x.acts a b x.below x.steps)
+  left : {e n : ℕ} {a b : SeatView × G} → Reads table becomes e n a b → Leaves table.layout n a.0.known b.0.known
+  left {e} {n} {a} {b} x = subst (λ m. Leaves table.layout m a.0.known b.0.known) x.count (runs_leave table becomes x.acts a b x.below x.steps)
 
-  pub reads_none : (a : SeatView × G) → Reads table becomes 0 a a
-  reads_none a = record { acts = []; below = All-nil IsBelowRoot; count = refl; steps = refl }
+  pub reads_none : (a : SeatView × G) → Reads table becomes 0 0 a a
+  reads_none a = record { acts = []; below = All-nil IsBelowRoot; count = refl; entries_are = refl; steps = refl }
 
-  pub reads_one : {a b : SeatView × G} (act : Act) → IsBelowRoot act → Steps table becomes act a b → Reads table becomes 1 a b
-  reads_one {a} {b} act below step = record { acts = act ∷ []; below = All-cons IsBelowRoot act [] below (All-nil IsBelowRoot); count = refl; steps = runs_one table becomes act a b step }
+  pub reads_one : {a b : SeatView × G} (act : Act) → IsBelowRoot act → Steps table becomes act a b → Reads table becomes (entries_in (act ∷ [])) 1 a b
+  reads_one {a} {b} act below step = record { acts = act ∷ []; below = All-cons IsBelowRoot act [] below (All-nil IsBelowRoot); count = refl; entries_are = refl; steps = runs_one table becomes act a b step }
 
-  pub reads_trans : {n m : ℕ} {a b c : SeatView × G} → Reads table becomes n a b → Reads table becomes m b c → Reads table becomes (n + m) a c
-  reads_trans {n} {m} {a} {b} {c} x y = record {
+  pub reads_trans : {e f n m : ℕ} {a b c : SeatView × G} → Reads table becomes e n a b → Reads table becomes f m b c → Reads table becomes (e + f) (n + m) a c
+  reads_trans {e} {f} {n} {m} {a} {b} {c} x y = record {
     acts = x.acts ++ y.acts;
     below = All-append IsBelowRoot x.acts y.acts x.below y.below;
     count = length-append x.acts y.acts ∙ (let p = x.count in let q = y.count in omega arith);
+    entries_are = sum_by-append (λ act. cond (loads_entry act) 1 0) x.acts y.acts ∙ ap₂ (λ i j. i + j) x.entries_are y.entries_are;
     steps = runs_append table becomes x.acts y.acts a b c x.steps y.steps;
   }
 
-  pub reads_same : {n : ℕ} {a b : SeatView × G} → Reads table becomes n a b → IsSame a.0 b.0
+  pub reads_same : {e n : ℕ} {a b : SeatView × G} → Reads table becomes e n a b → IsSame a.0 b.0
   reads_same {a = a} {b = b} x = runs_same table becomes x.acts a b x.steps
 
-  pub reads_later : {n : ℕ} {a b : SeatView × G} → Reads table becomes n a b → IsLater a.0.known b.0.known
+  pub reads_later : {e n : ℕ} {a b : SeatView × G} → Reads table becomes e n a b → IsLater a.0.known b.0.known
   reads_later x = (left x).later
 
   -- of what the pass knows nothing else changes
-  pub reads_sees : {n : ℕ} {a b : SeatView × G} → Reads table becomes n a b → OnlySees n a.0.known b.0.known
+  pub reads_sees : {e n : ℕ} {a b : SeatView × G} → Reads table becomes e n a b → OnlySees n a.0.known b.0.known
   reads_sees x = (left x).sees
 
-  pub same_since : {n : ℕ} {a b : SeatView × G} → Reads table becomes n a b → since b.0.known ≡ since a.0.known
+  pub same_since : {e n : ℕ} {a b : SeatView × G} → Reads table becomes e n a b → since b.0.known ≡ since a.0.known
   same_since x = ap (λ (z : Fresh). length z.front) (left x).fresh
 
   -- the pass may read on
-  pub reader_then : {n : ℕ} {a b : SeatView × G} → IsReader table a.0 → Reads table becomes n a b → IsReader table b.0
+  pub reader_then : {e n : ℕ} {a b : SeatView × G} → IsReader table a.0 → Reads table becomes e n a b → IsReader table b.0
   reader_then reader x = ((reads_same x).0 ∙ reader.0, (left x).possible reader.1)
 
   -- What the pass was led to it is led to still.
-  pub led_on : {n : ℕ} {a b : SeatView × G} (m : ℕ) (e : Entry) → Reads table becomes n a b → IsLedTo a.0.known m e → IsLedTo b.0.known m e
+  pub led_on : {f n : ℕ} {a b : SeatView × G} (m : ℕ) (e : Entry) → Reads table becomes f n a b → IsLedTo a.0.known m e → IsLedTo b.0.known m e
   led_on m e x (pinned, sure) = (since_later (reads_later x) pinned, sure_later {P = λ s. IsSeen s m e} (seen_stable m e) (reads_later x) sure)
 
-  pub shape_on : {n : ℕ} {a b : SeatView × G} (m c h : ℕ) (x : Page) → Reads table becomes n a b → HasShape a.0.known m c h x → HasShape b.0.known m c h x
+  pub shape_on : {e n : ℕ} {a b : SeatView × G} (m c h : ℕ) (x : Page) → Reads table becomes e n a b → HasShape a.0.known m c h x → HasShape b.0.known m c h x
   shape_on m c h x r (led, shaped) = (led_on m (Node c h) r led, sure_later {P = λ s. IsShaped s m c x} (shaped_stable m c x) (reads_later r) shaped)
 
   -- a node that it was led to, with the forks that it has read
-  pub led_shape : {n : ℕ} {a b : SeatView × G} (m c h : ℕ) (x : Page) → Reads table becomes n a b → IsLedTo a.0.known m (Node c h) → Sure b.0.known (λ s. IsShaped s m c x) →
+  pub led_shape : {e n : ℕ} {a b : SeatView × G} (m c h : ℕ) (x : Page) → Reads table becomes e n a b → IsLedTo a.0.known m (Node c h) → Sure b.0.known (λ s. IsShaped s m c x) →
       HasShape b.0.known m c h x
   led_shape m c h x r led shaped = (led_on m (Node c h) r led, shaped)
 
@@ -169,17 +171,17 @@ module _ {G : Type 0} {table : TableView} {becomes : G → Event → G → Type 
   pub root_later : {a b : SeatView × G} → ReadsRoot table becomes a b → IsLater a.0.known b.0.known
   root_later x = event_later x.1.event tt
 
-  pub looks_first : {a b : SeatView × G} → ReadsRoot table becomes a b → Looks table becomes 0 a b
+  pub looks_first : {a b : SeatView × G} → ReadsRoot table becomes a b → Looks table becomes 0 0 a b
   looks_first {b = b} x = record { at = b; root = x; rest = reads_none b }
 
-  pub looks_on : {n m : ℕ} {a b c : SeatView × G} → Looks table becomes n a b → Reads table becomes m b c → Looks table becomes (n + m) a c
+  pub looks_on : {e f n m : ℕ} {a b c : SeatView × G} → Looks table becomes e n a b → Reads table becomes f m b c → Looks table becomes (e + f) (n + m) a c
   looks_on x y = record { at = x.at; root = x.root; rest = reads_trans x.rest y }
 
-  pub looks_same : {n : ℕ} {a b : SeatView × G} → Looks table becomes n a b → IsSame a.0 b.0
+  pub looks_same : {e n : ℕ} {a b : SeatView × G} → Looks table becomes e n a b → IsSame a.0 b.0
   looks_same {a = a} {b = b} x = same_more a.0 x.at.0 b.0 x.root.1.seat (reads_same x.rest)
 
-  pub looked_at : {n : ℕ} {a b : SeatView × G} → Looks table becomes n a b → HasLookedAt n a.0.known b.0.known
-  looked_at {n} {a} {b} x =
+  pub looked_at : {ents n : ℕ} {a b : SeatView × G} → Looks table becomes ents n a b → HasLookedAt n a.0.known b.0.known
+  looked_at {ents} {n} {a} {b} x =
       let e = x.root.1.event in let rest = left x.rest in let root = event_later e tt in
       let fresh : b.0.known.fresh ≡ record { front = e.core.changes; step = a.0.known.steps; pinned = moment_of a.0.known.pin } = rest.fresh ∙ ap (λ (z : Known). z.fresh) e.learned_is in
       record {

@@ -65,7 +65,7 @@ pub record IsAt {G : Type 0} (table : TableView) (becomes : G → Event → G �
   pub falls : passed + height_of e ≤ height
   pub low : height ≤ 9 * MAX_BYTES
   pub few : loaded ≤ 26 * passed
-  pub looks : Looks table becomes loaded a b
+  pub looks : Looks table becomes passed loaded a b
   pub pinned : IsSince b.0.known (since b.0.known)
   pub led : Sure b.0.known (λ s. IsLed s (since b.0.known) key e)
 
@@ -104,14 +104,14 @@ module _ {G : Type 0} {table : TableView} {becomes : G → Event → G → Type 
     at_led e is = subst (IsLedTo b.0.known m) is (at.pinned, sure_map (λ s h. led_seen s m key d h) at.led)
 
     -- It is a node, whose forks are known: there is an entry at the key's place.
-    module _ {c : SeatView × G} (n height : ℕ) (forks : Page) (place : ℕ) (is : d ≡ Node n height) {loads : ℕ} (few : loads ≤ HEAD_WORDS) (reads : Reads table becomes loads b c)
+    module _ {c : SeatView × G} (n height : ℕ) (forks : Page) (place : ℕ) (is : d ≡ Node n height) {loads : ℕ} (few : loads ≤ HEAD_WORDS) (reads : Reads table becomes 0 loads b c)
         (shaped : Sure c.0.known (λ s. IsShaped s (since b.0.known) n forks)) (leads : place ≡ spot key forks) where
       pub place_of : HasPlace c.0.known (since b.0.known) n height place
       place_of = shape_place (led_shape m n height forks reads (at_led (Node n height) is) shaped)
           (subst (λ z. z < size forks) (sym leads) (spot_below key forks))
 
       -- one node down
-      pub next_of : {i : SeatView × G} (e : Entry) → Reads table becomes 1 c i → (height_of e < height) × Sure i.0.known (λ s. IsPlaced s (since b.0.known) n place e) → IsAt table becomes a i key e
+      pub next_of : {i : SeatView × G} (e : Entry) → Reads table becomes 1 1 c i → (height_of e < height) × Sure i.0.known (λ s. IsPlaced s (since b.0.known) n place e) → IsAt table becomes a i key e
       next_of {i} e one entry = record {
         height = at.height;
         passed = at.passed + 1;
@@ -126,7 +126,7 @@ module _ {G : Type 0} {table : TableView} {becomes : G → Event → G → Type 
             (shapes o lawful recalls) (sym leads) (entry.1 o lawful recalls) (leads_on o lawful recalls));
       }
         where
-          both : Reads table becomes (loads + 1) b i
+          both : Reads table becomes 1 (loads + 1) b i
           both = reads_trans reads one
 
           kept : since i.0.known ≡ m
@@ -142,7 +142,7 @@ module _ {G : Type 0} {table : TableView} {becomes : G → Event → G → Type 
           leads_on = sure_later (led_stable m key (Node n height)) (reads_later both) (subst (λ z. Sure b.0.known (λ s. IsLed s m key z)) is at.led)
 
     -- They are those of a head that has been read.
-    module _ {c : SeatView × G} (n height : ℕ) (head : HeadView) (place : ℕ) (is : d ≡ Node n height) {loads : ℕ} (few : loads ≤ HEAD_WORDS) (reads : Reads table becomes loads b c)
+    module _ {c : SeatView × G} (n height : ℕ) (head : HeadView) (place : ℕ) (is : d ≡ Node n height) {loads : ℕ} (few : loads ≤ HEAD_WORDS) (reads : Reads table becomes 0 loads b c)
         (told : (m h : ℕ) → IsLedTo b.0.known m (Node n h) → (head.height ≡ h) × Sure c.0.known (λ s. IsShaped s m n (shape_of head))) (leads : place ≡ spot key (shape_of head)) where
       shaped : Sure c.0.known (λ s. IsShaped s (since b.0.known) n (shape_of head))
       shaped = (told (since b.0.known) height (at_led (Node n height) is)).1
@@ -150,14 +150,14 @@ module _ {G : Type 0} {table : TableView} {becomes : G → Event → G → Type 
       pub at_place : HasPlace c.0.known (since b.0.known) n height place
       at_place = place_of n height (shape_of head) place is few reads shaped leads
 
-      pub at_next : {i : SeatView × G} (e : Entry) → Reads table becomes 1 c i → (height_of e < height) × Sure i.0.known (λ s. IsPlaced s (since b.0.known) n place e) → IsAt table becomes a i key e
+      pub at_next : {i : SeatView × G} (e : Entry) → Reads table becomes 1 1 c i → (height_of e < height) × Sure i.0.known (λ s. IsPlaced s (since b.0.known) n place e) → IsAt table becomes a i key e
       at_next e one entry = next_of n height (shape_of head) place is few reads shaped leads e one entry
 
     -- it is a leaf, which has been compared
-    module _ {c : SeatView × G} (n : ℕ) (is : d ≡ Leaf n) {loads : ℕ} (few : loads ≤ LEAF_FIELDS) (reads : Reads table becomes loads b c) where
+    module _ {c : SeatView × G} (n : ℕ) (is : d ≡ Leaf n) {loads : ℕ} (few : loads ≤ LEAF_FIELDS) (reads : Reads table becomes 0 loads b c) where
       pub leaf_searched : HasSearched table becomes a c
       leaf_searched = record {
-        nodes = at.passed;
+        nodes = at.passed + 0;
         loaded = at.loaded + loads;
         low = let f = at.falls in let b = at.low in omega arith;
         few = let f = at.few in omega (arith, f, few);

@@ -10,13 +10,13 @@ use Rattle.rowex_reading.specs.Reads.{Looks}
 use Rattle.rowex_reading.specs.Seen.{Sure, since}
 
 -- The pass has searched for a key. On its way were so many nodes, no more than a tree can be high. It has loaded the root, and
--- then at most 26 words of each node and 32 of a leaf, and has made no other step.
+-- then at most 26 words of each node, one of them an entry, and 32 of a leaf, and has made no other step.
 pub record HasSearched {G : Type 0} (table : TableView) (becomes : G → Event → G → Type 0) (a b : SeatView × G) : Type 0 where
   pub nodes : ℕ
   pub loaded : ℕ
   pub low : nodes ≤ 9 * MAX_BYTES
   pub few : loaded ≤ 32 + 26 * nodes
-  pub looks : Looks table becomes loaded a b
+  pub looks : Looks table becomes nodes loaded a b
 
 -- what a search for the key found: that it had the value, or was absent, at a moment since the last load of the root
 abbrev pub HasFound : Known → Key → Option ℕ → Type 0

@@ -1,5 +1,5 @@
 -- What a pass reads of the tree, as steps of its seat of which a gate is told.
-use Rattle.std.specs.Prelude.{◌≡◌, ℕ, ◌+◌, List, length, All}
+use Rattle.std.specs.Prelude.{◌≡◌, ℕ, ◌+◌, List, length, All, Bool, true, false, count_by}
 use Rattle.compound_node.specs.Nodes.{HeadView}
 use Rattle.record_words.specs.Leaf.{words_of_key}
 use Rattle.record_words.specs.Packed.{words_of_positions, words_of_rows}
@@ -22,11 +22,22 @@ IsBelowRoot (LoadRef (Slot n i) word) = Unit {0}
 IsBelowRoot (LoadFixed r offset word) = Unit {0}
 IsBelowRoot act = ⊥
 
--- The pass makes so many loads below the root, one after the other, and no other step; and the gate is told each of them.
-pub record Reads {G : Type 0} (table : TableView) (becomes : G → Event → G → Type 0) (n : ℕ) (a b : SeatView × G) : Type 0 where
+-- whether the step loads an entry of a node
+abbrev pub loads_entry : Act → Bool
+loads_entry (LoadRef (Slot n i) word) = true
+loads_entry act = false
+
+-- how many of these steps load entries of nodes: a search loads one in each node on its way
+abbrev pub entries_in : List Act → ℕ
+entries_in acts = count_by loads_entry acts
+
+-- The pass makes n loads below the root, one after the other, and no other step; so many of them are loads of entries; and the gate is
+-- told each of them.
+pub record Reads {G : Type 0} (table : TableView) (becomes : G → Event → G → Type 0) (entries n : ℕ) (a b : SeatView × G) : Type 0 where
   pub acts : List Act
   pub below : All IsBelowRoot acts
   pub count : length acts ≡ n
+  pub entries_are : entries_in acts ≡ entries
   pub steps : Runs table becomes acts a b
 
 -- the loads of a node's head: the word of its numbers, and those that have positions and sparse partial keys
@@ -39,14 +50,15 @@ leaf_loads key = 2 + words_of_key (length key)
 
 -- the pass makes some number of such loads
 abbrev pub ReadsSome : {G : Type 0} → TableView → (G → Event → G → Type 0) → SeatView × G → SeatView × G → Type 0
-ReadsSome table becomes a b = (n : ℕ) × Reads table becomes n a b
+ReadsSome table becomes a b = (entries n : ℕ) × Reads table becomes entries n a b
 
 -- the pass loads the root, and makes no other step; and the gate is told
 abbrev pub ReadsRoot : {G : Type 0} → TableView → (G → Event → G → Type 0) → SeatView × G → SeatView × G → Type 0
 ReadsRoot table becomes a b = (word : ℕ) × Steps table becomes (LoadRef Root word) a b
 
--- The pass loads the root, and then so many words below it, and makes no other step; and the gate is told each load.
-pub record Looks {G : Type 0} (table : TableView) (becomes : G → Event → G → Type 0) (n : ℕ) (a b : SeatView × G) : Type 0 where
+-- The pass loads the root, and then n words below it, of which so many are entries, and makes no other step; and the gate is told each
+-- load.
+pub record Looks {G : Type 0} (table : TableView) (becomes : G → Event → G → Type 0) (entries n : ℕ) (a b : SeatView × G) : Type 0 where
   pub at : SeatView × G
   pub root : ReadsRoot table becomes a at
-  pub rest : Reads table becomes n at b
+  pub rest : Reads table becomes entries n at b

@@ -48,7 +48,7 @@ pub fn go_down<G: Gate>(
     requires pinned { IsSome seat.old.known.pin }
     requires few { count ≤ TOGETHER }
     requires range { first + count ≤ length keys.now }
-    ensures looks { (n : ℕ) × (n ≤ 232 * count) × Looks table.now G.becomes n (seat.old, gate.old) (seat.new, gate.new) }
+    ensures looks { (n : ℕ) × (n ≤ 232 * count) × (entries : ℕ) × Looks table.now G.becomes entries n (seat.old, gate.old) (seat.new, gate.new) }
     ensures rows { AreRows seat.new.known keys.now first result }
 {
     let mut tips = [load_root(table, seat, gate); TOGETHER];
@@ -122,7 +122,7 @@ fn place_in<G: Gate>(
     requires reader { IsReader table.now seat.old }
     requires led { (m h : ℕ) × IsLedTo seat.old.known m (NodeEntry number h) }
     requires turn { IfSome turn (IsTurn seat.old.known key.now) }
-    ensures reads { (n : ℕ) × (n ≤ HEAD_WORDS) × Reads table.now G.becomes n (seat.old, gate.old) (seat.new, gate.new) }
+    ensures reads { (n : ℕ) × (n ≤ HEAD_WORDS) × Reads table.now G.becomes 0 n (seat.old, gate.old) (seat.new, gate.new) }
     ensures place { (m h : ℕ) → IsLedTo seat.old.known m (NodeEntry number h) →
         (forks : Page) × Sure seat.new.known (λ s. IsShaped s m number forks) × (result ≡ spot key.now forks) }
 {
@@ -146,7 +146,7 @@ fn touch_each<G: Gate>(
     requires reader { IsReader table.now seat.old }
     requires few { count ≤ TOGETHER }
     requires tips { AreTips seat.old.known tips.now }
-    ensures reads { (n : ℕ) × (n ≤ 3 * count) × Reads table.now G.becomes n (seat.old, gate.old) (seat.new, gate.new) }
+    ensures reads { (n : ℕ) × (n ≤ 3 * count) × Reads table.now G.becomes 0 n (seat.old, gate.old) (seat.new, gate.new) }
 {
     for index in 0..count {
         touch(table, seat, gate, tips[index]);
@@ -157,7 +157,7 @@ fn touch_each<G: Gate>(
 fn touch<G: Gate>(table: &HotTable, seat: &mut TableSeat, gate: &mut G, tip: Option<Entry>)
     requires reader { IsReader table.now seat.old }
     requires tip { IfSome tip (IsWayTip seat.old.known) }
-    ensures reads { (n : ℕ) × (n ≤ 3) × Reads table.now G.becomes n (seat.old, gate.old) (seat.new, gate.new) }
+    ensures reads { (n : ℕ) × (n ≤ 3) × Reads table.now G.becomes 0 n (seat.old, gate.old) (seat.new, gate.new) }
 {
     match tip {
         None => {}
@@ -190,7 +190,7 @@ fn turn_each<G: Gate>(
     requires few { count ≤ TOGETHER }
     requires range { first + count ≤ length keys.now }
     requires tips { AreTips seat.old.known tips.now }
-    ensures reads { (n : ℕ) × (n ≤ HEAD_WORDS * count) × Reads table.now G.becomes n (seat.old, gate.old) (seat.new, gate.new) }
+    ensures reads { (n : ℕ) × (n ≤ HEAD_WORDS * count) × Reads table.now G.becomes 0 n (seat.old, gate.old) (seat.new, gate.new) }
     ensures turns { AreTurns seat.new.known keys.now first result }
 {
     let mut turns = [None; TOGETHER];
@@ -210,7 +210,7 @@ fn turn_at<G: Gate>(
 ) -> Option<Turn>
     requires reader { IsReader table.now seat.old }
     requires tip { IfSome tip (IsWayTip seat.old.known) }
-    ensures reads { (n : ℕ) × (n ≤ HEAD_WORDS) × Reads table.now G.becomes n (seat.old, gate.old) (seat.new, gate.new) }
+    ensures reads { (n : ℕ) × (n ≤ HEAD_WORDS) × Reads table.now G.becomes 0 n (seat.old, gate.old) (seat.new, gate.new) }
     ensures turn { IfSome result (IsTurn seat.new.known key.now) }
 {
     match tip {
@@ -234,7 +234,7 @@ fn enter_each<G: Gate>(
     requires reader { IsReader table.now seat.old }
     requires few { count ≤ TOGETHER }
     requires turns { AreSomeTurns seat.old.known count turns.now }
-    ensures reads { (n : ℕ) × (n ≤ count) × Reads table.now G.becomes n (seat.old, gate.old) (seat.new, gate.new) }
+    ensures reads { (n : ℕ) × (n ≤ count) × Reads table.now G.becomes n n (seat.old, gate.old) (seat.new, gate.new) }
     ensures tips { AreTips seat.new.known result }
 {
     let mut tips = [None; TOGETHER];
@@ -253,7 +253,7 @@ fn enter<G: Gate>(
 ) -> Option<Entry>
     requires reader { IsReader table.now seat.old }
     requires turn { IfSome turn (IsSomeTurn seat.old.known) }
-    ensures reads { (n : ℕ) × (n ≤ 1) × Reads table.now G.becomes n (seat.old, gate.old) (seat.new, gate.new) }
+    ensures reads { (n : ℕ) × (n ≤ 1) × Reads table.now G.becomes n n (seat.old, gate.old) (seat.new, gate.new) }
     ensures tip { IfSome result (IsWayTip seat.new.known) }
 {
     match turn {

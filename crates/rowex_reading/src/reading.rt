@@ -37,7 +37,7 @@ pub fn load_root<G: Gate>(table: &HotTable, seat: &mut TableSeat, gate: &mut G) 
 pub fn load_head<G: Gate>(table: &HotTable, seat: &mut TableSeat, gate: &mut G, number: u32) -> Head
     requires reader { IsReader table.now seat.old }
     requires led { (m h : ℕ) × IsLedTo seat.old.known m (NodeEntry number h) }
-    ensures reads { Reads table.now G.becomes (head_loads result) (seat.old, gate.old) (seat.new, gate.new) }
+    ensures reads { Reads table.now G.becomes 0 (head_loads result) (seat.old, gate.old) (seat.new, gate.new) }
     ensures few { head_loads result ≤ HEAD_WORDS }
     ensures head { (m h : ℕ) → IsLedTo seat.old.known m (NodeEntry number h) →
         (result.height ≡ h) × Sure seat.new.known (λ s. IsShaped s m number (shape_of result)) }
@@ -69,7 +69,7 @@ pub fn load_entry<G: Gate>(
 ) -> Entry
     requires reader { IsReader table.now seat.old }
     requires place { (m h : ℕ) × HasPlace seat.old.known m number h place }
-    ensures reads { Reads table.now G.becomes 1 (seat.old, gate.old) (seat.new, gate.new) }
+    ensures reads { Reads table.now G.becomes 1 1 (seat.old, gate.old) (seat.new, gate.new) }
     ensures entry { (m h : ℕ) → HasPlace seat.old.known m number h place →
         (height_of result < h) × Sure seat.new.known (λ s. IsPlaced s m number place result) }
 {
@@ -91,7 +91,7 @@ pub fn load_leaf<G: Gate>(
 ) -> (Key, u64)
     requires reader { IsReader table.now seat.old }
     requires led { (m : ℕ) × IsLedTo seat.old.known m (LeafEntry number) }
-    ensures reads { Reads table.now G.becomes (leaf_loads result.0) (seat.old, gate.old) (seat.new, gate.new) }
+    ensures reads { Reads table.now G.becomes 0 (leaf_loads result.0) (seat.old, gate.old) (seat.new, gate.new) }
     ensures few { leaf_loads result.0 ≤ LEAF_FIELDS }
     ensures leaf { (m : ℕ) → IsLedTo seat.old.known m (LeafEntry number) → Sure seat.new.known (λ s. IsRead s m number result.0 result.1) }
 {
@@ -114,7 +114,7 @@ pub fn load_places<G: Gate>(
     requires reader { IsReader table.now seat.old }
     requires led { (m : ℕ) × IsLedTo seat.old.known m (LeafEntry number) }
     requires zeros { places.old ≡ replicate MAX_BYTES 0 }
-    ensures reads { Reads table.now G.becomes (leaf_loads (take result.0 places.new)) (seat.old, gate.old) (seat.new, gate.new) }
+    ensures reads { Reads table.now G.becomes 0 (leaf_loads (take result.0 places.new)) (seat.old, gate.old) (seat.new, gate.new) }
     ensures few { leaf_loads (take result.0 places.new) ≤ LEAF_FIELDS }
     ensures places { HoldsKey places.new result.0 }
     ensures leaf { (m : ℕ) → IsLedTo seat.old.known m (LeafEntry number) →
@@ -143,7 +143,7 @@ pub fn load_value<G: Gate>(
 ) -> Option<u64>
     requires reader { IsReader table.now seat.old }
     requires led { (m : ℕ) × IsLedTo seat.old.known m (LeafEntry number) }
-    ensures reads { (n : ℕ) × (n ≤ LEAF_FIELDS) × Reads table.now G.becomes n (seat.old, gate.old) (seat.new, gate.new) }
+    ensures reads { (n : ℕ) × (n ≤ LEAF_FIELDS) × Reads table.now G.becomes 0 n (seat.old, gate.old) (seat.new, gate.new) }
     ensures leaf { (m : ℕ) → IsLedTo seat.old.known m (LeafEntry number) → Sure seat.new.known (λ s. IsCompared s m number key.now result) }
 {
     let rec = Rec::Leaf(number);

@@ -27,7 +27,7 @@ use Rattle.rowex_reading.specs.Ways.{IsMismatch, IsWayNode, IsWayOf, named}
 use Rattle.rowex_reading.specs.declared.descent.Found.TheVariants.{Leaf as FoundLeaf}
 use Rattle.rowex_scanning.proofs.Walking.{beneath_append, last_is, length_frames, length_turned, not_empty, over_parts}
 use Rattle.rowex_scanning.proofs.Starting.{read_same}
-use Rattle.rowex_scanning.specs.Counts.{walk_loads}
+use Rattle.rowex_scanning.specs.Counts.{AreWalkLoads, Walks}
 use Rattle.rowex_scanning.specs.Reverse.{HasScannedDown, IsCeiling, IsDownAnswer, IsDownStart, IsDownWalk, IsLast, IsLeafTakenDown, IsNotAbove, IsPairTakenDown}
 use Rattle.rowex_scanning.specs.Scanning.{AreBeneath, AreInside, AreOver, IsBegun, IsEntered, IsFirst, IsFloor, IsStart, IsWalk, frame, frames_of}
 use Rattle.rowex_scanning.specs.declared.scanning.Start.{Start}
@@ -59,8 +59,9 @@ down_spare [] = 0
 down_spare (x ∷ xs) = (2 - (x.count - suc x.at)) + down_spare xs
 
 -- So many loads are paid for, as those of a walk upwards are.
-abbrev pub IsPaidDown : ℕ → ℕ → Step → List Step → Type 0
-IsPaidDown loads pairs top frames = loads + 26 * suc (length frames) ≤ 26 * (9 * MAX_BYTES) + 59 * pairs + 26 * ((2 - (top.count - top.at)) + down_spare frames)
+abbrev pub IsPaidDown : ℕ → ℕ → ℕ → Step → List Step → Type 0
+IsPaidDown loads entries pairs top frames =
+    (loads ≤ 26 * entries + 7 * pairs) × (entries + suc (length frames) ≤ 9 * MAX_BYTES + 2 * pairs + ((2 - (top.count - top.at)) + down_spare frames))
 
 in_append : (xs : List Step) (x : Step) → down_in (xs ++ x ∷ []) ≡ x.at * 34 ^ x.height + 1 + down_in xs
 in_append [] x = omega arith
@@ -410,41 +411,47 @@ spare_most : (xs : List Step) → down_spare xs ≤ 2 * length xs
 spare_most [] = omega arith
 spare_most (x ∷ xs) = let e = spare_most xs in omega (arith, e)
 
-pub down_paid_first : (pairs : ℕ) (top : Step) (frames : List Step) → length frames < 9 * MAX_BYTES → IsPaidDown 0 pairs top frames
-down_paid_first pairs top frames short = omega (arith, short)
+pub down_paid_first : (pairs : ℕ) (top : Step) (frames : List Step) → length frames < 9 * MAX_BYTES → IsPaidDown 0 0 pairs top frames
+down_paid_first pairs top frames short = (omega arith, omega (arith, short))
 
 -- at a node that stands at a place of the topmost one
-pub down_paid_push : (loads head pairs : ℕ) (top at : Step) (frames : List Step) (into : Step) (more : List Step) → IsPaidDown loads pairs top frames → head ≤ 26 → top ≡ record at { at = at.at + 1 } →
-    more ≡ frames ++ at ∷ [] → IsPaidDown (loads + head) pairs (record into { at = into.count }) more
-down_paid_push loads head pairs top at frames into more paid few is e =
+pub down_paid_push : (loads entries head pairs : ℕ) (top at : Step) (frames : List Step) (into : Step) (more : List Step) → IsPaidDown loads entries pairs top frames → head ≤ 26 → top ≡ record at { at = at.at + 1 } →
+    more ≡ frames ++ at ∷ [] → IsPaidDown (loads + head) (entries + 1) pairs (record into { at = into.count }) more
+down_paid_push loads entries head pairs top at frames into more (low, paid) few is e =
     let n = ap length e ∙ length-append frames (at ∷ []) in let spare = ap down_spare e ∙ spare_append frames at in
-    let p = ap (λ (z : Step). z.at) is in let c = ap (λ (z : Step). z.count) is in omega (arith, paid, few, n, spare, p, c)
+    let p = ap (λ (z : Step). z.at) is in let c = ap (λ (z : Step). z.count) is in (omega (arith, low, few), omega (arith, paid, n, spare, p, c))
 
-pub down_paid_pop : (loads pairs : ℕ) (top : Step) (frames : List Step) (lower : Step) (rest : List Step) → IsPaidDown loads pairs top frames → top.at ≡ 0 → 2 ≤ top.count → frames ≡ rest ++ lower ∷ [] →
-    lower.at < lower.count → IsPaidDown loads pairs lower rest
-down_paid_pop loads pairs top frames lower rest paid done several e inside =
-    let n = ap length e ∙ length-append rest (lower ∷ []) in let spare = ap down_spare e ∙ spare_append rest lower in omega (arith, paid, done, several, n, spare, inside)
+pub down_paid_pop : (loads entries pairs : ℕ) (top : Step) (frames : List Step) (lower : Step) (rest : List Step) → IsPaidDown loads entries pairs top frames → top.at ≡ 0 → 2 ≤ top.count → frames ≡ rest ++ lower ∷ [] →
+    lower.at < lower.count → IsPaidDown loads entries pairs lower rest
+down_paid_pop loads entries pairs top frames lower rest (low, paid) done several e inside =
+    let n = ap length e ∙ length-append rest (lower ∷ []) in let spare = ap down_spare e ∙ spare_append rest lower in (low, omega (arith, paid, done, several, n, spare, inside))
 
-pub down_paid_leaf : (loads leaf pairs more : ℕ) (top at : Step) (frames : List Step) → more ≡ pairs + 1 → IsPaidDown loads pairs top frames → leaf ≤ 33 → top ≡ record at { at = at.at + 1 } → IsPaidDown (loads + leaf) more at frames
-down_paid_leaf loads leaf pairs more top at frames one paid few is = let p = ap (λ (z : Step). z.at) is in let c = ap (λ (z : Step). z.count) is in omega (arith, one, paid, few, p, c)
+pub down_paid_leaf : (loads entries leaf pairs more : ℕ) (top at : Step) (frames : List Step) → more ≡ pairs + 1 → IsPaidDown loads entries pairs top frames → leaf ≤ 33 → top ≡ record at { at = at.at + 1 } →
+    IsPaidDown (loads + leaf) (entries + 1) more at frames
+down_paid_leaf loads entries leaf pairs more top at frames one (low, paid) few is =
+    let p = ap (λ (z : Step). z.at) is in let c = ap (λ (z : Step). z.count) is in (omega (arith, one, low, few), omega (arith, one, paid, p, c))
 
 -- at one leaf more
-down_paid_most : (loads more pairs limit : ℕ) (top : Step) (frames : List Step) → IsPaidDown loads pairs top frames → more ≤ 33 → length frames < 9 * MAX_BYTES → pairs ≤ limit → loads + more ≤ walk_loads limit
-down_paid_most loads more pairs limit top frames paid few short within = let most = spare_most frames in omega (arith, paid, few, short, within, most)
+down_paid_most : (loads entries more pairs limit : ℕ) (top : Step) (frames : List Step) → IsPaidDown loads entries pairs top frames → more ≤ 33 → length frames < 9 * MAX_BYTES → pairs ≤ limit →
+    AreWalkLoads 0 limit (entries + 1) (loads + more)
+down_paid_most loads entries more pairs limit top frames (low, paid) few short within =
+    let most = spare_most frames in record { most = omega (arith, paid, short, within, most); few = omega (arith, low, few, within) }
 
 -- with which the walk ends
 pub down_paid_last : {G : Type 0} {table : TableView} {becomes : G → Event → G → Type 0} {a b d e : SeatView × G} {m : ℕ} {g : Range} {top : Step} {frames : List Step} {pairs : List (Key × ℕ)} →
-    (n : ℕ) × IsPaidDown n (length pairs) top frames × Reads table becomes n a b → IsDownWalk b.0.known m g top frames pairs → IsPossible table.layout b.0.known → Reads table becomes 1 b d →
-    (n : ℕ) × (n ≤ LEAF_FIELDS) × Reads table becomes n d e → (n : ℕ) × (n ≤ walk_loads g.limit) × Reads table becomes n a e
-down_paid_last {g = g} {top = top} {frames = frames} {pairs = pairs} (loads, paid, before) w possible entry (leaf, few, read) = (
+    (loads entries : ℕ) × IsPaidDown loads entries (length pairs) top frames × Reads table becomes entries loads a b → IsDownWalk b.0.known m g top frames pairs → IsPossible table.layout b.0.known →
+    Reads table becomes 1 1 b d → (n : ℕ) × (n ≤ LEAF_FIELDS) × Reads table becomes 0 n d e → Walks table becomes 0 g.limit a e
+down_paid_last {g = g} {top = top} {frames = frames} {pairs = pairs} (loads, entries, paid, before) w possible entry (leaf, few, read) = (
   loads + (1 + leaf),
-  down_paid_most loads (1 + leaf) (length pairs) g.limit top frames paid (omega (arith, few)) (down_short w possible) (down_within w possible),
+  entries + 1,
+  down_paid_most loads entries (1 + leaf) (length pairs) g.limit top frames paid (omega (arith, few)) (down_short w possible) (down_within w possible),
   reads_trans before (reads_trans entry read),
 )
 
 -- at the end of the way
-pub down_paid_end : (loads pairs limit : ℕ) (top : Step) (frames : List Step) → IsPaidDown loads pairs top frames → frames ≡ [] → pairs ≤ limit → loads ≤ walk_loads limit
-down_paid_end loads pairs limit top frames paid none within = let n = ap length none in let spare = ap down_spare none in omega (arith, paid, n, spare, within)
+pub down_paid_end : (loads entries pairs limit : ℕ) (top : Step) (frames : List Step) → IsPaidDown loads entries pairs top frames → frames ≡ [] → pairs ≤ limit → AreWalkLoads 0 limit entries loads
+down_paid_end loads entries pairs limit top frames (low, paid) none within =
+    let n = ap length none in let spare = ap down_spare none in record { most = omega (arith, paid, n, spare, within); few = omega (arith, low, within) }
 
 -- What is below the last key
 

@@ -35,7 +35,7 @@ use Rattle.rowex_reading.specs.Seen.{seen, Sure, IsAtRoot, IsLedTo, HasPlace, si
 use Rattle.rowex_table.specs.Made.{IsLater}
 use Rattle.rowex_walks.specs.Reverse.{IsBeneath}
 use Rattle.rowex_scanning.specs.Scanning.{AreBeneath, HasScanned, IsAnswer, IsLeafTaken, IsNotBelow, IsPairTaken, frame, frames_of, IsEntered, AreInside, AreOver, IsFloor, IsWalk}
-use Rattle.rowex_scanning.specs.Counts.{scan_loads, walk_loads}
+use Rattle.rowex_scanning.specs.Counts.{AreWalkLoads, Scans, Walks, scan_loads}
 use Rattle.rowex_core.proofs.Owning.{recalls}
 use Rattle.rowex_walks.proofs.Starts.{over_on, over_later, over_down}
 use Rattle.rowex_core.specs.declared.event.Event.{Event}
@@ -64,10 +64,11 @@ abbrev pub spare_of : List Step → ℕ
 spare_of [] = 0
 spare_of (x ∷ xs) = (2 - x.at) + spare_of xs
 
--- So many loads are paid for: 59 for each of so many pairs, and 26 for each node of the way beyond what it has yet to pass, over those of
--- the longest way.
-abbrev pub IsPaid : ℕ → ℕ → Step → List Step → Type 0
-IsPaid loads pairs top frames = loads + 26 * suc (length frames) ≤ 26 * (9 * MAX_BYTES) + 59 * pairs + 26 * ((2 - top.at) + spare_of frames)
+-- So many loads, of which so many are of entries, are paid for: 26 for each entry, and 7 for each of so many pairs; and there are two
+-- entries for each pair, and one for each node of the way beyond what it has yet to pass, over those of the longest way.
+abbrev pub IsPaid : ℕ → ℕ → ℕ → Step → List Step → Type 0
+IsPaid loads entries pairs top frames =
+    (loads ≤ 26 * entries + 7 * pairs) × (entries + suc (length frames) ≤ 9 * MAX_BYTES + 2 * pairs + ((2 - top.at) + spare_of frames))
 
 -- Keys
 
@@ -442,51 +443,68 @@ spare_most : (xs : List Step) → spare_of xs ≤ 2 * length xs
 spare_most [] = omega arith
 spare_most (x ∷ xs) = let e = spare_most xs in omega (arith, e)
 
-pub paid_first : (pairs : ℕ) (top : Step) (frames : List Step) → length frames < 9 * MAX_BYTES → IsPaid 0 pairs top frames
-paid_first pairs top frames short = omega (arith, short)
+pub paid_first : (pairs : ℕ) (top : Step) (frames : List Step) → length frames < 9 * MAX_BYTES → IsPaid 0 0 pairs top frames
+paid_first pairs top frames short = (omega arith, omega (arith, short))
 
-pub paid_push : (loads head pairs : ℕ) (top : Step) (frames : List Step) (into : Step) (more : List Step) → IsPaid loads pairs top frames → head ≤ 26 → into.at ≡ 0 → more ≡ frames ++ top ∷ [] →
-    IsPaid (loads + head) pairs into more
-paid_push loads head pairs top frames into more paid few first e =
-    let n = ap length e ∙ length-append frames (top ∷ []) in let spare = ap spare_of e ∙ spare_append frames top in omega (arith, paid, few, first, n, spare)
+pub paid_push : (loads entries head pairs : ℕ) (top : Step) (frames : List Step) (into : Step) (more : List Step) → IsPaid loads entries pairs top frames → head ≤ 26 → into.at ≡ 0 → more ≡ frames ++ top ∷ [] →
+    IsPaid (loads + head) (entries + 1) pairs into more
+paid_push loads entries head pairs top frames into more (low, paid) few first e =
+    let n = ap length e ∙ length-append frames (top ∷ []) in let spare = ap spare_of e ∙ spare_append frames top in (omega (arith, low, few), omega (arith, paid, first, n, spare))
 
-pub paid_pop : (loads pairs : ℕ) (top : Step) (frames : List Step) (lower : Step) (rest : List Step) → IsPaid loads pairs top frames → 2 ≤ top.at → frames ≡ rest ++ lower ∷ [] →
-    IsPaid loads pairs (record lower { at = lower.at + 1 }) rest
-paid_pop loads pairs top frames lower rest paid done e =
-    let n = ap length e ∙ length-append rest (lower ∷ []) in let spare = ap spare_of e ∙ spare_append rest lower in omega (arith, paid, done, n, spare)
+pub paid_pop : (loads entries pairs : ℕ) (top : Step) (frames : List Step) (lower : Step) (rest : List Step) → IsPaid loads entries pairs top frames → 2 ≤ top.at → frames ≡ rest ++ lower ∷ [] →
+    IsPaid loads entries pairs (record lower { at = lower.at + 1 }) rest
+paid_pop loads entries pairs top frames lower rest (low, paid) done e =
+    let n = ap length e ∙ length-append rest (lower ∷ []) in let spare = ap spare_of e ∙ spare_append rest lower in (low, omega (arith, paid, done, n, spare))
 
-pub paid_leaf : (loads leaf pairs more : ℕ) (top : Step) (frames : List Step) → more ≡ pairs + 1 → IsPaid loads pairs top frames → leaf ≤ 33 → IsPaid (loads + leaf) more (record top { at = top.at + 1 }) frames
-paid_leaf loads leaf pairs more top frames one paid few = omega (arith, one, paid, few)
+pub paid_leaf : (loads entries leaf pairs more : ℕ) (top : Step) (frames : List Step) → more ≡ pairs + 1 → IsPaid loads entries pairs top frames → leaf ≤ 33 →
+    IsPaid (loads + leaf) (entries + 1) more (record top { at = top.at + 1 }) frames
+paid_leaf loads entries leaf pairs more top frames one (low, paid) few = (omega (arith, one, low, few), omega (arith, one, paid))
 
 -- at one leaf more
-paid_most : (loads more pairs limit : ℕ) (top : Step) (frames : List Step) → IsPaid loads pairs top frames → more ≤ 33 → length frames < 9 * MAX_BYTES → pairs ≤ limit → loads + more ≤ walk_loads limit
-paid_most loads more pairs limit top frames paid few short within = let most = spare_most frames in omega (arith, paid, few, short, within, most)
+paid_most : (loads entries more pairs limit : ℕ) (top : Step) (frames : List Step) → IsPaid loads entries pairs top frames → more ≤ 33 → length frames < 9 * MAX_BYTES → pairs ≤ limit →
+    AreWalkLoads 0 limit (entries + 1) (loads + more)
+paid_most loads entries more pairs limit top frames (low, paid) few short within = let most = spare_most frames in record { most = omega (arith, paid, short, within, most); few = omega (arith, low, few, within) }
 
 -- with which the walk ends
 pub paid_last : {G : Type 0} {table : TableView} {becomes : G → Event → G → Type 0} {a b d e : SeatView × G} {m : ℕ} {g : Range} {top : Step} {frames : List Step} {pairs : List (Key × ℕ)} →
-    (n : ℕ) × IsPaid n (length pairs) top frames × Reads table becomes n a b → IsWalk b.0.known m g top frames pairs → IsPossible table.layout b.0.known → Reads table becomes 1 b d →
-    (n : ℕ) × (n ≤ LEAF_FIELDS) × Reads table becomes n d e → (n : ℕ) × (n ≤ walk_loads g.limit) × Reads table becomes n a e
-paid_last {g = g} {top = top} {frames = frames} {pairs = pairs} (loads, paid, before) w possible entry (leaf, few, read) = (
+    (loads entries : ℕ) × IsPaid loads entries (length pairs) top frames × Reads table becomes entries loads a b → IsWalk b.0.known m g top frames pairs → IsPossible table.layout b.0.known →
+    Reads table becomes 1 1 b d → (n : ℕ) × (n ≤ LEAF_FIELDS) × Reads table becomes 0 n d e → Walks table becomes 0 g.limit a e
+paid_last {g = g} {top = top} {frames = frames} {pairs = pairs} (loads, entries, paid, before) w possible entry (leaf, few, read) = (
   loads + (1 + leaf),
-  paid_most loads (1 + leaf) (length pairs) g.limit top frames paid (omega (arith, few)) (way_short w possible) (walk_short w possible),
+  entries + 1,
+  paid_most loads entries (1 + leaf) (length pairs) g.limit top frames paid (omega (arith, few)) (way_short w possible) (walk_short w possible),
   reads_trans before (reads_trans entry read),
 )
 
 -- at the end of the way
-pub paid_end : (loads pairs limit : ℕ) (top : Step) (frames : List Step) → IsPaid loads pairs top frames → frames ≡ [] → pairs ≤ limit → loads ≤ walk_loads limit
-paid_end loads pairs limit top frames paid none within = let n = ap length none in let spare = ap spare_of none in omega (arith, paid, n, spare, within)
+pub paid_end : (loads entries pairs limit : ℕ) (top : Step) (frames : List Step) → IsPaid loads entries pairs top frames → frames ≡ [] → pairs ≤ limit → AreWalkLoads 0 limit entries loads
+paid_end loads entries pairs limit top frames (low, paid) none within =
+    let n = ap length none in let spare = ap spare_of none in record { most = omega (arith, paid, n, spare, within); few = omega (arith, low, within) }
 
--- some loads, and then some more
-pub reads_both : {G : Type 0} {table : TableView} {becomes : G → Event → G → Type 0} {a b d : SeatView × G} {x y most : ℕ} → (n : ℕ) × (n ≤ x) × Reads table becomes n a b →
-    (n : ℕ) × (n ≤ y) × Reads table becomes n b d → x + y ≤ most → (n : ℕ) × (n ≤ most) × Reads table becomes n a d
-reads_both (n, few, first) (p, less, rest) within = (n + p, omega (arith, few, less, within), reads_trans first rest)
+-- Loads of a head and a leaf, one after the other; such loads alone, and before a walk.
+module _ {G : Type 0} {table : TableView} {becomes : G → Event → G → Type 0} {a b : SeatView × G} where
+  pub reads_both : {x y most : ℕ} {d : SeatView × G} → (n : ℕ) × (n ≤ x) × Reads table becomes 0 n a b → (n : ℕ) × (n ≤ y) × Reads table becomes 0 n b d → x + y ≤ most →
+      (n : ℕ) × (n ≤ most) × Reads table becomes 0 n a d
+  reads_both (n, few, first) (p, less, rest) within = (n + p, omega (arith, few, less, within), reads_trans first rest)
 
--- a search, and then some loads: the steps of a scan
-pub searched_few : {G : Type 0} {table : TableView} {becomes : G → Event → G → Type 0} {a b d : SeatView × G} {x : ℕ} (limit : ℕ) → HasSearched table becomes a b →
-    (n : ℕ) × (n ≤ x) × Reads table becomes n b d → x ≤ 57 + walk_loads limit → d.0.known.steps ≤ a.0.known.steps + (1 + scan_loads limit)
-searched_few {table = table} {becomes = becomes} {a = a} {d = d} limit s (n, less, rest) within =
-    let count = looks_count table becomes (s.loaded + n) a d (looks_on s.looks rest) in
-    let few = s.few in let low = s.low in omega (arith, count, few, low, less, within)
+  pub walks_alone : {x : ℕ} (limit : ℕ) → (n : ℕ) × (n ≤ x) × Reads table becomes 0 n a b → Walks table becomes x limit a b
+  walks_alone limit (n, few, reads) = (n, 0, record { most = omega arith; few = omega (arith, few) }, reads)
+
+  pub walks_behind : {x limit : ℕ} {d : SeatView × G} → (n : ℕ) × (n ≤ x) × Reads table becomes 0 n a b → Walks table becomes 0 limit b d → Walks table becomes x limit a d
+  walks_behind (n, few, first) (loads, entries, are, rest) =
+      let low = are.few in let most = are.most in (n + loads, 0 + entries, record { most = omega (arith, most); few = omega (arith, few, low) }, reads_trans first rest)
+
+-- a search, and then a walk: the loads of a scan
+pub searched_scans : {G : Type 0} {table : TableView} {becomes : G → Event → G → Type 0} {a b d : SeatView × G} {x : ℕ} (limit : ℕ) → HasSearched table becomes a b → x ≤ 57 → Walks table becomes x limit b d →
+    Scans table becomes limit a d
+searched_scans limit s within (loads, entries, are, rest) =
+    let most = are.most in let few = are.few in let low = s.low in let less = s.few in
+    (s.loaded + loads, s.nodes + entries, record { most = omega (arith, most, low); few = omega (arith, few, less, within) }, looks_on s.looks rest)
+
+-- and its steps
+pub scans_few : {G : Type 0} {table : TableView} {becomes : G → Event → G → Type 0} {a d : SeatView × G} (limit : ℕ) → Scans table becomes limit a d → d.0.known.steps ≤ a.0.known.steps + (1 + scan_loads limit)
+scans_few {table = table} {becomes = becomes} {a = a} {d = d} limit (loads, entries, are, looks) =
+    let count = looks_count table becomes entries loads a d looks in let most = are.most in let few = are.few in omega (arith, count, few, most)
 
 -- What is above the first key
 

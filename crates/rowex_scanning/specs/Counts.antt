@@ -1,12 +1,42 @@
 -- How many loads a scan makes at most.
-use Rattle.std.specs.Prelude.{ℕ, ◌+◌, ◌*◌}
+use Rattle.std.specs.Prelude.{ℕ, ◌+◌, ◌*◌, ◌≤◌}
 use Rattle.key_bits.specs.declared.TheConstants.{MAX_BYTES}
+use Rattle.rowex_core.specs.declared.event.Event.{Event}
+use Rattle.rowex_table.specs.Seats.{SeatView, TableView}
+use Rattle.rowex_reading.specs.Reads.{Looks, Reads}
 
--- The loads of the walk of a scan: at most 26 for each node that it enters, 33 for each leaf that it reads. A node has two entries or more, so it
--- enters as many nodes as it reads leaves, and at most two more for each node on its way.
-abbrev pub walk_loads : ℕ → ℕ
-walk_loads limit = 52 * (9 * MAX_BYTES) + 59 * limit + 33
+-- The entries that the walk of a scan loads: one for each node that it enters, and one for each leaf that it reads. A node has two entries
+-- or more, so it enters as many nodes as it reads leaves, and at most two more for each node on its way.
+abbrev pub walk_entries : ℕ → ℕ
+walk_entries limit = 2 * (9 * MAX_BYTES) + 2 * limit + 1
 
--- the loads of a scan below the root: its search, which is that of a get; one head and the leaf that it found once more; and its walk
+-- Loads of a walk, of which so many are of entries: at most 26 for each of these, with the head of the node to which it leads; 7 more for
+-- each leaf, of which it reads one more than the limit; and so many beside.
+pub record AreWalkLoads (beside limit entries loads : ℕ) : Type 0 where
+  pub most : entries ≤ walk_entries limit
+  pub few : loads ≤ beside + 26 * entries + 7 * (limit + 1)
+
+-- the pass makes such loads
+abbrev pub Walks : {G : Type 0} → TableView → (G → Event → G → Type 0) → ℕ → ℕ → SeatView × G → SeatView × G → Type 0
+Walks table becomes beside limit a b = (loads entries : ℕ) × AreWalkLoads beside limit entries loads × Reads table becomes entries loads a b
+
+-- the entries that a scan loads: one in each node on the way of its search, and those of its walk
+abbrev pub scan_entries : ℕ → ℕ
+scan_entries limit = 9 * MAX_BYTES + walk_entries limit
+
+-- The loads of a scan below the root, by its entries: as for a walk; its search has read a leaf, and it may read one head and that leaf
+-- once more.
+abbrev pub loads_by : ℕ → ℕ → ℕ
+loads_by limit entries = 32 + 57 + 26 * entries + 7 * (limit + 1)
+
+pub record AreScanLoads (limit entries loads : ℕ) : Type 0 where
+  pub most : entries ≤ scan_entries limit
+  pub few : loads ≤ loads_by limit entries
+
+-- the pass loads the root, and makes such loads
+abbrev pub Scans : {G : Type 0} → TableView → (G → Event → G → Type 0) → ℕ → SeatView × G → SeatView × G → Type 0
+Scans table becomes limit a b = (loads entries : ℕ) × AreScanLoads limit entries loads × Looks table becomes entries loads a b
+
+-- the loads of a scan below the root, whatever it finds
 abbrev pub scan_loads : ℕ → ℕ
-scan_loads limit = 26 * (9 * MAX_BYTES) + 32 + 57 + walk_loads limit
+scan_loads limit = loads_by limit (scan_entries limit)

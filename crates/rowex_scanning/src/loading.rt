@@ -27,7 +27,7 @@ pub(crate) fn load_bytes<G: Gate>(
 ) -> (usize, u64)
     requires reader { IsReader table.now seat.old }
     requires led { (m : ℕ) × IsLedTo seat.old.known m (LeafEntry number) }
-    ensures reads { Reads table.now G.becomes (leaf_loads (take result.0 places.new)) (seat.old, gate.old) (seat.new, gate.new) }
+    ensures reads { Reads table.now G.becomes 0 (leaf_loads (take result.0 places.new)) (seat.old, gate.old) (seat.new, gate.new) }
     ensures few { leaf_loads (take result.0 places.new) ≤ LEAF_FIELDS }
     ensures key { IsKey (take result.0 places.new) × (result.0 ≤ MAX_BYTES) }
     ensures leaf { (m : ℕ) → IsLedTo seat.old.known m (LeafEntry number) →

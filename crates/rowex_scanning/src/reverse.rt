@@ -6,11 +6,11 @@ ghost use Rattle.key_bits.specs.Key.{IsKey};
 ghost use Rattle.record_words.specs.declared.TheConstants.{HEAD_WORDS, LEAF_FIELDS};
 ghost use Rattle.tries.specs.Keys.{IsAtMost};
 ghost use Rattle.rowex_table.specs.Seats.{IsSeatOf};
-ghost use Rattle.rowex_reading.specs.Reads.{IsReader, Looks, Reads};
+ghost use Rattle.rowex_reading.specs.Reads.{IsReader, Reads};
 ghost use Rattle.rowex_reading.specs.Seen.{IsAtRoot, IsLedTo, since};
 ghost use Rattle.rowex_reading.specs.Ways.{IsWayOf};
 ghost use Rattle.rowex_reading.specs.declared.descent.Found.TheVariants.{Leaf as FoundLeaf};
-ghost use Rattle.rowex_scanning.specs.Counts.{scan_loads, walk_loads};
+ghost use Rattle.rowex_scanning.specs.Counts.{Scans, Walks, scan_loads};
 ghost use Rattle.rowex_scanning.specs.Reverse.{HasScannedDown, IsCeiling, IsDownStart, IsDownWalk, IsLeafTakenDown, IsNotAbove, IsPairTakenDown};
 ghost use Rattle.rowex_scanning.specs.Scanning.{asked_range};
 
@@ -38,7 +38,7 @@ pub fn scan_root_down<G: Gate>(
 ) -> Result<bool, AllocError>
     requires own { IsSeatOf table.now seat.old }
     requires pinned { IsSome seat.old.known.pin }
-    ensures looks { (n : ℕ) × Looks table.now G.becomes n (seat.old, gate.old) (seat.new, gate.new) }
+    ensures looks { Scans table.now G.becomes range.now.limit (seat.old, gate.old) (seat.new, gate.new) }
     ensures keys { IsKey range.now.from.now × IsKey range.now.upto.now }
     ensures scanned { IfOk result (HasScannedDown seat.new.known (asked_range range.now) pairs.new) }
     ensures few { seat.new.known.steps ≤ seat.old.known.steps + (1 + scan_loads range.now.limit) }
@@ -76,7 +76,7 @@ fn scan_leaf_down<G: Gate>(
     requires reader { IsReader table.now seat.old }
     requires root { IsAtRoot seat.old.known (LeafEntry number) }
     requires empty { pairs.old ≡ [] }
-    ensures reads { (n : ℕ) × (n ≤ LEAF_FIELDS) × Reads table.now G.becomes n (seat.old, gate.old) (seat.new, gate.new) }
+    ensures reads { (n : ℕ) × (n ≤ LEAF_FIELDS) × Reads table.now G.becomes 0 n (seat.old, gate.old) (seat.new, gate.new) }
     ensures scanned { IfOk result (HasScannedDown seat.new.known (asked_range range.now) pairs.new) }
 {
     let mut places = [0; MAX_BYTES];
@@ -106,7 +106,7 @@ fn scan_node_down<G: Gate>(
     requires nodes { 0 < length way.old.items }
     requires way { (v : ℕ) × IsWayOf table.now.layout seat.old.known (since seat.old.known) range.now.upto.now way.old.items (FoundLeaf number v mismatch) }
     requires empty { pairs.old ≡ [] }
-    ensures reads { (n : ℕ) × (n ≤ HEAD_WORDS + LEAF_FIELDS + walk_loads range.now.limit) × Reads table.now G.becomes n (seat.old, gate.old) (seat.new, gate.new) }
+    ensures reads { Walks table.now G.becomes (HEAD_WORDS + LEAF_FIELDS) range.now.limit (seat.old, gate.old) (seat.new, gate.new) }
     ensures scanned { IfOk result (HasScannedDown seat.new.known (asked_range range.now) pairs.new) }
 {
     let start = start_down(table, seat, gate, way, range.upto, number, mismatch);
@@ -135,7 +135,7 @@ fn start_down<G: Gate>(
     requires reader { IsReader table.now seat.old }
     requires nodes { 0 < length way.now }
     requires way { (m v : ℕ) × IsWayOf table.now.layout seat.old.known m upto.now way.now (FoundLeaf number v mismatch) }
-    ensures reads { (n : ℕ) × (n ≤ HEAD_WORDS) × Reads table.now G.becomes n (seat.old, gate.old) (seat.new, gate.new) }
+    ensures reads { (n : ℕ) × (n ≤ HEAD_WORDS) × Reads table.now G.becomes 0 n (seat.old, gate.old) (seat.new, gate.new) }
     ensures start { (m v : ℕ) → IsWayOf table.now.layout seat.old.known m upto.now way.now (FoundLeaf number v mismatch) →
         IsDownStart seat.new.known m upto.now way.now number result }
 {
@@ -163,7 +163,7 @@ fn walk_down<G: Gate>(
     requires reader { IsReader table.now seat.old }
     requires walk { IsDownWalk seat.old.known (since seat.old.known) (asked_range range.now) lowest way.old.items pairs.old }
     requires ceiling { IsCeiling seat.old.known (since seat.old.known) range.now.upto.now lowest way.old.items }
-    ensures reads { (n : ℕ) × (n ≤ walk_loads range.now.limit) × Reads table.now G.becomes n (seat.old, gate.old) (seat.new, gate.new) }
+    ensures reads { Walks table.now G.becomes 0 range.now.limit (seat.old, gate.old) (seat.new, gate.new) }
     ensures scanned { IfOk result (HasScannedDown seat.new.known (asked_range range.now) pairs.new) }
 {
     let mut top = lowest;
@@ -205,7 +205,7 @@ fn take_leaf_down<G: Gate>(
 ) -> Result<Verdict, AllocError>
     requires reader { IsReader table.now seat.old }
     requires leaf { (m : ℕ) × IsLedTo seat.old.known m (LeafEntry number) × IsNotAbove table.now.layout seat.old.known m range.now.upto.now number }
-    ensures reads { (n : ℕ) × (n ≤ LEAF_FIELDS) × Reads table.now G.becomes n (seat.old, gate.old) (seat.new, gate.new) }
+    ensures reads { (n : ℕ) × (n ≤ LEAF_FIELDS) × Reads table.now G.becomes 0 n (seat.old, gate.old) (seat.new, gate.new) }
     ensures taken { IfOk result (IsLeafTakenDown seat.old.known seat.new.known (asked_range range.now) number pairs.old pairs.new) }
 {
     let mut places = [0; MAX_BYTES];

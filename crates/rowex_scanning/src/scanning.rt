@@ -8,11 +8,11 @@ ghost use Rattle.record_words.specs.Leaf.{key_word};
 ghost use Rattle.tries.specs.Keys.{IsAtMost, IsBefore};
 ghost use Rattle.rowex_table.specs.Seats.{IsSeatOf};
 ghost use Rattle.rowex_reading.specs.Possible.{IsPossible};
-ghost use Rattle.rowex_reading.specs.Reads.{IsReader, Looks, Reads, ReadsSome};
+ghost use Rattle.rowex_reading.specs.Reads.{IsReader, Reads};
 ghost use Rattle.rowex_reading.specs.Seen.{IsAtRoot, IsLedTo, since};
 ghost use Rattle.rowex_reading.specs.Ways.{IsWayOf};
 ghost use Rattle.rowex_reading.specs.declared.descent.Found.TheVariants.{Leaf as FoundLeaf};
-ghost use Rattle.rowex_scanning.specs.Counts.{scan_loads, walk_loads};
+ghost use Rattle.rowex_scanning.specs.Counts.{Scans, Walks, scan_loads};
 ghost use Rattle.rowex_scanning.specs.Scanning.{HasScanned, IsEntered, IsFloor, IsLeafTaken, IsNotBelow, IsPairTaken, IsStart, IsWalk, asked_range};
 
 use crate::loading::load_bytes;
@@ -76,7 +76,7 @@ pub fn scan_root<G: Gate>(
 ) -> Result<bool, AllocError>
     requires own { IsSeatOf table.now seat.old }
     requires pinned { IsSome seat.old.known.pin }
-    ensures looks { (n : ℕ) × Looks table.now G.becomes n (seat.old, gate.old) (seat.new, gate.new) }
+    ensures looks { Scans table.now G.becomes range.now.limit (seat.old, gate.old) (seat.new, gate.new) }
     ensures keys { IsKey range.now.from.now × IsKey range.now.upto.now }
     ensures scanned { IfOk result (HasScanned seat.new.known (asked_range range.now) pairs.new) }
     ensures few { seat.new.known.steps ≤ seat.old.known.steps + (1 + scan_loads range.now.limit) }
@@ -114,7 +114,7 @@ fn scan_leaf<G: Gate>(
     requires reader { IsReader table.now seat.old }
     requires root { IsAtRoot seat.old.known (LeafEntry number) }
     requires empty { pairs.old ≡ [] }
-    ensures reads { (n : ℕ) × (n ≤ LEAF_FIELDS) × Reads table.now G.becomes n (seat.old, gate.old) (seat.new, gate.new) }
+    ensures reads { (n : ℕ) × (n ≤ LEAF_FIELDS) × Reads table.now G.becomes 0 n (seat.old, gate.old) (seat.new, gate.new) }
     ensures scanned { IfOk result (HasScanned seat.new.known (asked_range range.now) pairs.new) }
 {
     let mut places = [0; MAX_BYTES];
@@ -144,7 +144,7 @@ fn scan_node<G: Gate>(
     requires nodes { 0 < length way.old.items }
     requires way { (v : ℕ) × IsWayOf table.now.layout seat.old.known (since seat.old.known) range.now.from.now way.old.items (FoundLeaf number v mismatch) }
     requires empty { pairs.old ≡ [] }
-    ensures reads { (n : ℕ) × (n ≤ HEAD_WORDS + LEAF_FIELDS + walk_loads range.now.limit) × Reads table.now G.becomes n (seat.old, gate.old) (seat.new, gate.new) }
+    ensures reads { Walks table.now G.becomes (HEAD_WORDS + LEAF_FIELDS) range.now.limit (seat.old, gate.old) (seat.new, gate.new) }
     ensures scanned { IfOk result (HasScanned seat.new.known (asked_range range.now) pairs.new) }
 {
     let start = start_at(table, seat, gate, way, range.from, number, mismatch);
@@ -176,7 +176,7 @@ pub(crate) fn start_at<G: Gate>(
     requires reader { IsReader table.now seat.old }
     requires nodes { 0 < length way.now }
     requires way { (m v : ℕ) × IsWayOf table.now.layout seat.old.known m from.now way.now (FoundLeaf _number v mismatch) }
-    ensures reads { (n : ℕ) × (n ≤ HEAD_WORDS) × Reads table.now G.becomes n (seat.old, gate.old) (seat.new, gate.new) }
+    ensures reads { (n : ℕ) × (n ≤ HEAD_WORDS) × Reads table.now G.becomes 0 n (seat.old, gate.old) (seat.new, gate.new) }
     ensures start { (m v : ℕ) → IsWayOf table.now.layout seat.old.known m from.now way.now (FoundLeaf _number v mismatch) →
         IsStart seat.new.known m from.now way.now _number result }
 {
@@ -217,7 +217,7 @@ fn walk<G: Gate>(
     requires reader { IsReader table.now seat.old }
     requires walk { IsWalk seat.old.known (since seat.old.known) (asked_range range.now) lowest way.old.items pairs.old }
     requires floor { IsFloor seat.old.known (since seat.old.known) range.now.from.now lowest way.old.items }
-    ensures reads { (n : ℕ) × (n ≤ walk_loads range.now.limit) × Reads table.now G.becomes n (seat.old, gate.old) (seat.new, gate.new) }
+    ensures reads { Walks table.now G.becomes 0 range.now.limit (seat.old, gate.old) (seat.new, gate.new) }
     ensures scanned { IfOk result (HasScanned seat.new.known (asked_range range.now) pairs.new) }
 {
     let mut top = lowest;
@@ -257,7 +257,7 @@ pub(crate) fn enter<G: Gate>(
 ) -> Step
     requires reader { IsReader table.now seat.old }
     requires led { (m h : ℕ) × IsLedTo seat.old.known m (NodeEntry number h) }
-    ensures reads { (n : ℕ) × (n ≤ HEAD_WORDS) × Reads table.now G.becomes n (seat.old, gate.old) (seat.new, gate.new) }
+    ensures reads { (n : ℕ) × (n ≤ HEAD_WORDS) × Reads table.now G.becomes 0 n (seat.old, gate.old) (seat.new, gate.new) }
     ensures entered { (m h : ℕ) → IsLedTo seat.old.known m (NodeEntry number h) → IsEntered seat.new.known m number h result }
 {
     let head = load_head(table, seat, gate, number);
@@ -277,7 +277,7 @@ fn take_leaf<G: Gate>(
 ) -> Result<Verdict, AllocError>
     requires reader { IsReader table.now seat.old }
     requires leaf { (m : ℕ) × IsLedTo seat.old.known m (LeafEntry number) × IsNotBelow table.now.layout seat.old.known m range.now.from.now number }
-    ensures reads { (n : ℕ) × (n ≤ LEAF_FIELDS) × Reads table.now G.becomes n (seat.old, gate.old) (seat.new, gate.new) }
+    ensures reads { (n : ℕ) × (n ≤ LEAF_FIELDS) × Reads table.now G.becomes 0 n (seat.old, gate.old) (seat.new, gate.new) }
     ensures taken { IfOk result (IsLeafTaken seat.old.known seat.new.known (asked_range range.now) number pairs.old pairs.new) }
 {
     let (length, value) = load_bytes(table, seat, gate, number, places);

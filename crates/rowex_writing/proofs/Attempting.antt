@@ -230,10 +230,10 @@ pub record Begun {G : Type 0} (table : TableView) (becomes : G → Event → G �
   pub seat : IsSeatOf table c.0
 
 module _ {G : Type 0} (table : TableView) (becomes : G → Event → G → Type 0) where
-  pub begun : (n : ℕ) (a c : SeatView × G) → Looks table becomes n a c → IsPossible table.layout c.0.known → IsSeatOf table a.0 → IsAtRest a.0.known → Begun table becomes a c
-  begun n a c looks possible seat rest =
+  pub begun : (e n : ℕ) (a c : SeatView × G) → Looks table becomes e n a c → IsPossible table.layout c.0.known → IsSeatOf table a.0 → IsAtRest a.0.known → Begun table becomes a c
+  begun e n a c looks possible seat rest =
       let h = looked_at looks in record {
-        run = looks_run table becomes n a c looks;
+        run = looks_run table becomes e n a c looks;
         loaded = record { from = h.now; upto = possible.knows.counted.loaded; old = h.fresh; new = possible.knows.seen.fresh };
         later = h.later;
         rest = record {
@@ -245,18 +245,18 @@ module _ {G : Type 0} (table : TableView) (becomes : G → Event → G → Type 
       }
 
   pub searched : (a c : SeatView × G) → HasSearched table becomes a c → IsPossible table.layout c.0.known → IsSeatOf table a.0 → IsAtRest a.0.known → Begun table becomes a c
-  searched a c s possible seat rest = begun s.loaded a c s.looks possible seat rest
+  searched a c s possible seat rest = begun s.nodes s.loaded a c s.looks possible seat rest
 
   -- loads below the root leave it so
-  pub rest_reads : (n : ℕ) (a b : SeatView × G) → Reads table becomes n a b → IsAtRest a.0.known → IsAtRest b.0.known
-  rest_reads n a b r rest = let s = reads_sees r in record {
+  pub rest_reads : (e n : ℕ) (a b : SeatView × G) → Reads table becomes e n a b → IsAtRest a.0.known → IsAtRest b.0.known
+  rest_reads e n a b r rest = let s = reads_sees r in record {
     own = ap (λ (z : Known). z.own) s ∙ rest.own;
     locks = ap (λ (z : Known). z.locks) s ∙ rest.locks;
     anchor = ap (λ (z : Known). z.anchor) s ∙ rest.anchor;
   }
 
-  pub loaded_reads : (k : Known) (n : ℕ) (a b : SeatView × G) → Reads table becomes n a b → HasLoadedRoot k a.0.known → HasLoadedRoot k b.0.known
-  loaded_reads k n a b r l = run_loaded table becomes k a b l (reads_run table becomes n a b r)
+  pub loaded_reads : (k : Known) (e n : ℕ) (a b : SeatView × G) → Reads table becomes e n a b → HasLoadedRoot k a.0.known → HasLoadedRoot k b.0.known
+  loaded_reads k e n a b r l = run_loaded table becomes k a b l (reads_run table becomes e n a b r)
 
 -- since the start no fewer steps have been made
 loaded_steps : (k j : Known) → HasLoadedRoot k j → k.steps ≤ j.steps

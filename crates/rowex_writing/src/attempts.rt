@@ -13,7 +13,7 @@ ghost use Rattle.rowex_writing.specs.Attempts.{HasAnswered, HasDone, HasLoadedRo
 ghost use Rattle.rowex_writing.specs.Changes.{HasNoRoom, HasRun, HasTakenPlan, HasTakenSpan, HasTriedOnce};
 ghost use Rattle.rowex_writing.specs.Locks.{HasMadeNoChange, HasMetLock};
 ghost use Rattle.rowex_reading.specs.Ways.{IsWayOf, value_of};
-ghost use Rattle.rowex_writing.specs.Counts.{attempt_steps, change_steps};
+ghost use Rattle.rowex_writing.specs.Counts.{attempt_steps, change_steps, span_steps};
 
 use crate::asking::{aim_of, declined};
 use crate::building::Build;
@@ -50,7 +50,7 @@ pub enum TryFault {
 }
 
 /// Makes one attempt: searches for the key and answers, where nothing is to change; or else locks what it wants to change, each
-/// once, checks that it still stands as the search found it, and makes the change by one store. It makes at most 710,000 atomic
+/// once, checks that it still stands as the search found it, and makes the change by one store. It makes at most 700,259 atomic
 /// steps, four more for each leaf record and two for each node record.
 pub fn attempt<G: Gate>(
     table: &HotTable,
@@ -117,7 +117,7 @@ fn act_on<G: Gate>(
     ensures refused { IfErr result (λ fault. (k : Known) → HasLoadedRoot k seat.old.known → IsLater k seat.old.known →
         HasRefused table.now.layout key.now k seat.new.known fault) }
     ensures leafless { the_aim ask ≡ Aim.Remove → result ≢ Err TryFault.FullLeaves }
-    ensures few { seat.new.known.steps ≤ seat.old.known.steps + 9000 + change_steps table.now.layout }
+    ensures few { seat.new.known.steps ≤ seat.old.known.steps + span_steps + change_steps table.now.layout }
 {
     match find_plan(table, seat, gate, key, way, aim_of(ask), found) {
         Plan::Answer(reply) => Ok(reply),

@@ -8,7 +8,7 @@ ghost use Rattle.rowex_walks.specs.Writer.{added_change};
 ghost use Rattle.rowex_writing.specs.Changes.{HasChanged, HasNoRoom, HasRun, HasStored, HasTakenPlan};
 ghost use Rattle.rowex_writing.specs.Growths.{HasNumber, MayGrow};
 ghost use Rattle.rowex_writing.specs.declared.plan.Deed.TheVariants.{Grow};
-ghost use Rattle.rowex_writing.specs.Counts.{change_steps, level_steps};
+ghost use Rattle.rowex_writing.specs.Counts.{change_steps, levels_steps, undo_steps};
 
 use crate::building::{Build, raise_grown};
 use crate::ending::undo;
@@ -73,7 +73,7 @@ fn grow_with<G: Gate>(
     ensures stored { result ≡ Ok tt → (value : ℕ) → MayGrow table.now seat.old build.old.made.items way.now key.now value span position first last leaf →
         HasChanged seat.old.known seat.new.known (added_change seat.old.known.pass (item leaf key.now value)) None }
     ensures full { IfErr result (λ full. HasNoRoom table.now.layout key.now seat.old.known seat.new.known full) }
-    ensures few { seat.new.known.steps ≤ seat.old.known.steps + 2161 * level_steps + 2 * table.now.layout.nodes + 10922 }
+    ensures few { seat.new.known.steps ≤ seat.old.known.steps + levels_steps table.now.layout + undo_steps }
 {
     build.left_nodes = table.layout().nodes;
     let top = span.len - 1;

@@ -22,7 +22,7 @@ ghost use Rattle.rowex_writing.specs.Changes.{HasChanged, HasRun, MayEnd};
 ghost use Rattle.rowex_writing.specs.Going.{WorksOn};
 ghost use Rattle.rowex_writing.specs.Locks.{AreNodes, numbers_of};
 ghost use Rattle.rowex_writing.specs.Retiring.{AreInTable, IsAnchored};
-ghost use Rattle.record_words.specs.declared.TheConstants.{LEAF_FIELDS};
+ghost use Rattle.rowex_writing.specs.Counts.{end_steps, leaf_steps};
 
 use crate::building::Build;
 use crate::claims::claim_leaf;
@@ -54,7 +54,7 @@ pub fn make_leaf<G: Gate>(
     ensures made { MatchOption result
         ((seat.new.known.own ≡ []) × AllMissedFrom table.now.layout (words_for (length key.now)) seat.new.known.failed seat.old.known.steps)
         (λ n. IsBuilding table.now seat.new build.new.made.items (of_leaf (item n key.now value) ∷ [])) }
-    ensures few { seat.new.known.steps ≤ seat.old.known.steps + 4 * table.now.layout.leaves + 2 * LEAF_FIELDS }
+    ensures few { seat.new.known.steps ≤ seat.old.known.steps + leaf_steps table.now.layout }
 {
     build.made.clear();
     let number = claim_leaf(table, seat, gate, words_for(key), &mut build.leaves)?;
@@ -111,7 +111,7 @@ pub fn publish_change<G: Gate>(
     ensures run { HasRun table.now G.becomes (seat.old, gate.old) (seat.new, gate.new) }
     ensures changed { (x : Change) (was : Option ℕ) → MayEnd table.now seat.old build.old.made.items spot (entry_word entry) x was build.old.gone.items →
         HasChanged seat.old.known seat.new.known x was }
-    ensures few { seat.new.known.steps ≤ seat.old.known.steps + 6500 + length kept.now }
+    ensures few { seat.new.known.steps ≤ seat.old.known.steps + end_steps + length kept.now }
 {
     ready_all(table, seat, gate, build.made.as_slice());
     table.publish(seat, gate, spot, stored_word(entry));

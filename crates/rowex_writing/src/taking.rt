@@ -6,7 +6,7 @@ ghost use Rattle.rowex_writing.specs.Changes.{HasNoRoom, HasRun, HasTaken, HasTa
 ghost use Rattle.rowex_writing.specs.Taking.{HasLeafBelow, HasOnlyLeaf};
 ghost use Rattle.rowex_writing.specs.declared.plan.Deed.TheVariants.{Take};
 ghost use Rattle.rowex_reading.specs.declared.descent.Found.TheVariants.{Leaf as LeafFound};
-ghost use Rattle.rowex_writing.specs.Counts.{change_steps};
+ghost use Rattle.rowex_writing.specs.Counts.{change_steps, end_steps};
 
 use crate::building::{Build, raise_without};
 use crate::ending::undo;
@@ -62,7 +62,7 @@ fn empty_root<G: Gate>(
     ensures run { HasRun table.now G.becomes (seat.old, gate.old) (seat.new, gate.new) }
     ensures taken { (key : KeyView) (value : ℕ) → HasOnlyLeaf table.now seat.old number key value →
         HasTaken seat.old.known seat.new.known key (LeafFound number value None) }
-    ensures few { seat.new.known.steps ≤ seat.old.known.steps + 6500 }
+    ensures few { seat.new.known.steps ≤ seat.old.known.steps + end_steps }
 {
     build.gone.clear();
     build.gone.push(Rec::Leaf(number));

@@ -30,13 +30,13 @@ loop-place-init g c =
     let i = c.loop-first.invariant in let down = c.ways_of-rows.ensures in let first = c.loop-first.first in
     let some : 1 ≤ c.min-count.result = omega (arith, c.min-count.ensures, c.loop-first-test.true) in
     record {
-      own = (looks_same down.looks.2).0 ∙ i.own;
-      pinned = subst IsSome (sym (looked_at down.looks.2).later.pin) i.pinned;
+      own = (looks_same down.looks.3).0 ∙ i.own;
+      pinned = subst IsSome (sym (looked_at down.looks.3).later.pin) i.pinned;
       room = i.room;
       rows = down.rows;
       up = subst (λ n. HasGone c.args.table.now g.G.Gate.becomes n (first + c.min-count.result) (gets (take n c.args.keys.now) (take n c.loop-first.found))
           (c.args.seat.now, c.args.gate.now) (c.ways_of-rows.new.seat, c.ways_of-rows.new.gate)) (let e : first ≡ first + 0 = omega arith in e)
-          (up_down c.min-count.result i.up some down.looks.1 down.looks.2);
+          (up_down c.min-count.result i.up some down.looks.1 down.looks.3);
     }
 
 pub look_up_along-requires-clause-own : goal.look_up_along-requires-clause-own

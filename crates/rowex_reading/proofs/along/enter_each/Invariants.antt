@@ -9,5 +9,5 @@ invariant-loop-index g l = record {
   reader : IsReader l.table l.seat;
   turns : AreSomeTurns l.seat.known l.count l.turns;
   tips : AreTips l.seat.known l.tips;
-  reads : (n : ℕ) × (n ≤ l.index) × Reads l.table g.G.Gate.becomes n (l.fn.seat, l.fn.gate) (l.seat, l.gate);
+  reads : (n : ℕ) × (n ≤ l.index) × Reads l.table g.G.Gate.becomes n n (l.fn.seat, l.fn.gate) (l.seat, l.gate);
 }

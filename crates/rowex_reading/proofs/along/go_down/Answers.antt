@@ -12,7 +12,7 @@ loop-depth-init g c =
       reader = root_reader c.requires.own r;
       tips = first_tips k 16 c.load_root-tips.result (root_tip k c.load_root-tips.result c.load_root-tips.ensures.root (root_pinned c.requires.pinned r));
       rows = no_rows k c.args.keys.now c.args.first 16 8;
-      looks = (0, omega arith, looks_first r);
+      looks = (0, omega arith, 0, looks_first r);
     }
 
 pub touch_each-requires-clause-reader : goal.touch_each-requires-clause-reader
@@ -46,7 +46,8 @@ loop-depth-preserved g c =
       looks = (
         i.looks.0 + a.0 + b.reads.0 + d.reads.0,
         rounds_more c.args.count c.loop-depth.depth i.looks.0 a.0 b.reads.0 d.reads.0 i.looks.1 a.1 b.reads.1 d.reads.1,
-        looks_on (looks_on (looks_on i.looks.2 a.2) b.reads.2) d.reads.2,
+        i.looks.2 + 0 + 0 + d.reads.0,
+        looks_on (looks_on (looks_on i.looks.3 a.2) b.reads.2) d.reads.2,
       );
     }
 
@@ -55,7 +56,7 @@ returns-clause-looks g c =
     let i = c.loop-depth.invariant in
     let all : c.loop-depth.depth ≡ 8 = omega (arith, c.loop-depth-test.false, c.loop-depth.auto.depth-end) in
     let low = subst (λ d. i.looks.0 ≤ 29 * (d * c.args.count)) all i.looks.1 in
-    (i.looks.0, omega (arith, low), i.looks.2)
+    (i.looks.0, omega (arith, low), i.looks.2, i.looks.3)
 
 pub returns-clause-rows : goal.returns-clause-rows
 returns-clause-rows g c = c.loop-depth.invariant.rows

@@ -9,5 +9,5 @@ invariant-loop-depth g l = record {
   reader : IsReader l.table l.seat;
   tips : AreTips l.seat.known l.tips;
   rows : AreRows l.seat.known l.keys l.first l.rows;
-  looks : (n : ℕ) × (n ≤ 29 * (l.depth * l.count)) × Looks l.table g.G.Gate.becomes n (l.fn.seat, l.fn.gate) (l.seat, l.gate);
+  looks : (n : ℕ) × (n ≤ 29 * (l.depth * l.count)) × (entries : ℕ) × Looks l.table g.G.Gate.becomes entries n (l.fn.seat, l.fn.gate) (l.seat, l.gate);
 }

@@ -8,5 +8,5 @@ abbrev pub invariant-loop-index : goal.invariant-loop-index
 invariant-loop-index g l = record {
   reader : IsReader l.table l.seat;
   tips : AreTips l.seat.known l.tips;
-  reads : (n : ℕ) × (n ≤ 3 * l.index) × Reads l.table g.G.Gate.becomes n (l.fn.seat, l.fn.gate) (l.seat, l.gate);
+  reads : (n : ℕ) × (n ≤ 3 * l.index) × Reads l.table g.G.Gate.becomes 0 n (l.fn.seat, l.fn.gate) (l.seat, l.gate);
 }

@@ -10,5 +10,5 @@ invariant-loop-index g l = record {
   reader : IsReader l.table l.seat;
   tips : AreTips l.seat.known l.tips;
   turns : AreTurns l.seat.known l.keys l.first l.turns;
-  reads : (n : ℕ) × (n ≤ HEAD_WORDS * l.index) × Reads l.table g.G.Gate.becomes n (l.fn.seat, l.fn.gate) (l.seat, l.gate);
+  reads : (n : ℕ) × (n ≤ HEAD_WORDS * l.index) × Reads l.table g.G.Gate.becomes 0 n (l.fn.seat, l.fn.gate) (l.seat, l.gate);
 }

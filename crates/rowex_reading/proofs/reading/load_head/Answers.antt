@@ -67,7 +67,7 @@ loop-index-2-init g c =
       numbers_are = i.numbers_are;
       few = i.few;
       few_rows = i.few_rows;
-      reads = subst (λ n. Reads c.args.table.now g.G.Gate.becomes n (c.args.seat.now, c.args.gate.now) (c.loop-index.seat, c.loop-index.gate)) (omega (arith, at_end, c.position_words-positions.ensures)) i.reads;
+      reads = subst (λ n. Reads c.args.table.now g.G.Gate.becomes 0 n (c.args.seat.now, c.args.gate.now) (c.loop-index.seat, c.loop-index.gate)) (omega (arith, at_end, c.position_words-positions.ensures)) i.reads;
       loaded = fewer_loaded _ _ (a_node c.args.number) _ (IsHeadWord (1 + c.position_words-positions.result) FIRST_ROWS) c.loop-index.words
           (λ o has. ⊎_elim (λ (before : o < 1 + c.position_words-positions.result). omega (arith, before, at_end, c.position_words-positions.ensures))
           (λ (both : (FIRST_ROWS ≤ o) × (o < FIRST_ROWS)). absurd (let a = both.0 in let b = both.1 in omega (arith, a, b))) has) i.loaded;
@@ -86,7 +86,7 @@ loop-index-2-preserved g c =
       numbers_are = get_or-set_other c.loop-index-2.words c.loop-index-2.index 0 c.load_fixed_from-in-loop-index-2.result 0 (λ e. omega (arith, e, c.loop-index-2.auto.index)) ∙ i.numbers_are;
       few = i.few;
       few_rows = i.few_rows;
-      reads = subst (λ n. Reads c.args.table.now g.G.Gate.becomes n (c.args.seat.now, c.args.gate.now) (c.load_fixed_from-in-loop-index-2.new.seat, c.load_fixed_from-in-loop-index-2.new.gate)) (omega (arith, c.loop-index-2.auto.index)) (reads_trans i.reads one);
+      reads = subst (λ n. Reads c.args.table.now g.G.Gate.becomes 0 n (c.args.seat.now, c.args.gate.now) (c.load_fixed_from-in-loop-index-2.new.seat, c.load_fixed_from-in-loop-index-2.new.gate)) (omega (arith, c.loop-index-2.auto.index)) (reads_trans i.reads one);
       loaded = one_loaded _ _ _ _ (a_node c.args.number) (IsHeadWord (1 + c.position_words-positions.result) c.loop-index-2.index) (IsHeadWord (1 + c.position_words-positions.result) (c.loop-index-2.index + 1)) _ _ c.loop-index-2.words i.loaded
           (omega (arith, i.long, room))
           (λ o has. ⊎_elim (λ (before : o < 1 + c.position_words-positions.result). inl (inl before, (λ e. omega (arith, e, before, p, c.loop-index-2.auto.index))))
@@ -111,7 +111,7 @@ returns-clause-reads g c =
     let read = c.read_head.ensures in
     let node = read.is_value in
     let numbers = subst (λ h. HaveNumbers h (get_or c.loop-index-2.words 0 0)) node.2 (numbers_of node.0 c.loop-index-2.words node.1 (ap head_words node.2 ∙ read.spells)) in
-    subst (λ n. Reads c.args.table.now g.G.Gate.becomes n (c.args.seat.now, c.args.gate.now) (c.loop-index-2.seat, c.loop-index-2.gate))
+    subst (λ n. Reads c.args.table.now g.G.Gate.becomes 0 n (c.args.seat.now, c.args.gate.now) (c.loop-index-2.seat, c.loop-index-2.gate))
     (omega (arith, numbers.columns, numbers.rows, i.numbers_are, c.position_words-positions.ensures, c.row_words-rows.ensures, c.loop-index-2-test.false, c.loop-index-2.auto.index-end, c.loop-index-2.auto.index)) i.reads
 
 pub returns-clause-head : goal.returns-clause-head

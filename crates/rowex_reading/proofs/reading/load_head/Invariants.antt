@@ -14,7 +14,7 @@ invariant-loop-index g l = record {
   numbers_are : get_or l.words 0 0 ≡ l.numbers;
   few : l.numbers / 256 % 256 ≤ 31;
   few_rows : l.numbers % 256 ≤ 32;
-  reads : Reads l.table g.G.Gate.becomes l.index (l.fn.seat, l.fn.gate) (l.seat, l.gate);
+  reads : Reads l.table g.G.Gate.becomes 0 l.index (l.fn.seat, l.fn.gate) (l.seat, l.gate);
   loaded : AreLoaded l.fn.seat.known l.seat.known (a_node l.fn.number) (λ o. o < l.index) l.words;
   rest : (o : ℕ) → l.index ≤ o → o < HEAD_WORDS → get_or l.words o 0 ≡ 2 ^ 64 - 1;
 }
@@ -26,7 +26,7 @@ invariant-loop-index-2 g l = record {
   numbers_are : get_or l.words 0 0 ≡ l.numbers;
   few : l.numbers / 256 % 256 ≤ 31;
   few_rows : l.numbers % 256 ≤ 32;
-  reads : Reads l.table g.G.Gate.becomes (l.positions + (l.index - FIRST_ROWS)) (l.fn.seat, l.fn.gate) (l.seat, l.gate);
+  reads : Reads l.table g.G.Gate.becomes 0 (l.positions + (l.index - FIRST_ROWS)) (l.fn.seat, l.fn.gate) (l.seat, l.gate);
   loaded : AreLoaded l.fn.seat.known l.seat.known (a_node l.fn.number) (IsHeadWord l.positions l.index) l.words;
   rest : (o : ℕ) → l.positions ≤ o → (o < FIRST_ROWS) ⊎ (l.index ≤ o) → o < HEAD_WORDS → get_or l.words o 0 ≡ 2 ^ 64 - 1;
 }

@@ -81,7 +81,7 @@ returns-clause-reads g c =
     let l = c.requires.led in let i = c.loop-index.invariant in
     let at_end : c.loop-index.index ≡ 2 + words_of_key c.load_fixed_from-length.result = omega (arith, i.used_is, c.loop-index-test.false, c.loop-index.auto.index-end) in
     let counted = all_counted _ _ _ c.args.number _ _ _ c.loop-index.places i.reader.1 i.so_far at_end i.small l.0 l.1 (take c.load_fixed_from-length.result c.loop-index.places) refl in
-    subst (λ n. Reads c.args.table.now g.G.Gate.becomes n (c.args.seat.now, c.args.gate.now) (c.loop-index.seat, c.loop-index.gate)) counted i.reads
+    subst (λ n. Reads c.args.table.now g.G.Gate.becomes 0 n (c.args.seat.now, c.args.gate.now) (c.loop-index.seat, c.loop-index.gate)) counted i.reads
 
 pub returns-clause-few : goal.returns-clause-few
 returns-clause-few g c =

@@ -13,7 +13,7 @@ invariant-loop-index g l = record {
   used_is : l.used ≡ 2 + words_of_key l.length;
   fits : l.used ≤ LEAF_FIELDS;
   room : l.used + 1 ≤ leaf_size l.table.layout l.fn.number;
-  reads : Reads l.table g.G.Gate.becomes l.index (l.fn.seat, l.fn.gate) (l.seat, l.gate);
+  reads : Reads l.table g.G.Gate.becomes 0 l.index (l.fn.seat, l.fn.gate) (l.seat, l.gate);
   small : (b : ℕ) → get_or l.places b 0 < 256;
   so_far : AreSoFar l.fn.seat.known l.seat.known l.fn.number l.index l.value l.length l.places;
 }

@@ -68,7 +68,7 @@ loop-index-preserved g c =
       end_is = i.end_is;
       fits = i.fits;
       room = i.room;
-      reads = subst (λ n. Reads c.args.table.now g.G.Gate.becomes n (c.args.seat.now, c.args.gate.now) (c.load_fixed_from-word.new.seat, c.load_fixed_from-word.new.gate)) (omega (arith, c.loop-index.auto.index)) (reads_trans i.reads one);
+      reads = subst (λ n. Reads c.args.table.now g.G.Gate.becomes 0 n (c.args.seat.now, c.args.gate.now) (c.load_fixed_from-word.new.seat, c.load_fixed_from-word.new.gate)) (omega (arith, c.loop-index.auto.index)) (reads_trans i.reads one);
       loaded = next_same _ _ c.args.number c.args.key.now l.0 l.1 _ _ c.loop-index.index c.load_fixed_from-word.result i.loaded low c.load_fixed_from-word.ensures.event
           (c.if-word-key_word_at.false ∙ (c.key_word_at.ensures ∙ sym (byte_word c.args.key.now c.loop-index.index c.loop-index.auto.index low)));
     }

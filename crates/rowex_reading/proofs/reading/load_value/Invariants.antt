@@ -15,6 +15,6 @@ invariant-loop-index g l = record {
   end_is : l.end ≡ 2 + words_of_key (length l.key);
   fits : l.end ≤ LEAF_FIELDS;
   room : l.end + 1 ≤ leaf_size l.table.layout l.number;
-  reads : Reads l.table g.G.Gate.becomes (l.index - 1) (l.fn.seat, l.fn.gate) (l.seat, l.gate);
+  reads : Reads l.table g.G.Gate.becomes 0 (l.index - 1) (l.fn.seat, l.fn.gate) (l.seat, l.gate);
   loaded : AreLoaded l.fn.seat.known l.seat.known (a_leaf l.number) (IsKeyWord l.index) (words_with l.key);
 }

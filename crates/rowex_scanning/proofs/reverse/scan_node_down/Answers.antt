@@ -6,7 +6,7 @@ use Rattle.rowex_reading.specs.Seen.{since}
 use Rattle.rowex_reading.proofs.Led.{reader_then, reads_later, reads_trans, same_since}
 use Rattle.rowex_scanning.specs.Scanning.{asked_range}
 use Rattle.rowex_scanning.proofs.Downwards.{IsDownAt, begun_down, ceiling_later, ceiling_since, down_further, down_is_full, down_is_past, down_led, down_since}
-use Rattle.rowex_scanning.proofs.Walking.{reads_both}
+use Rattle.rowex_scanning.proofs.Walking.{reads_both, walks_alone, walks_behind}
 use Rattle.rowex_scanning.proofs.reverse.scan_node_down.Given as given
 use Rattle.rowex_scanning.proofs.reverse.scan_node_down.Goals as goal
 use Rattle.rowex_scanning.proofs.reverse.scan_node_down.Goals.{After-take_leaf_down, then-start+in_ok-take_leaf_down+in-Further, else-start}
@@ -29,17 +29,17 @@ take_leaf_down-requires-clause-leaf g c =
     (since c.args.seat.now.known, down_led (b.entry c.if-start.true), b.below c.if-start.true)
 
 pub returns-in_err-take_leaf_down-clause-reads : goal.returns-in_err-take_leaf_down-clause-reads
-returns-in_err-take_leaf_down-clause-reads g c = reads_both c.start_down-start.ensures.reads c.take_leaf_down.ensures.reads (omega arith)
+returns-in_err-take_leaf_down-clause-reads g c = walks_alone c.args.range.now.limit (reads_both c.start_down-start.ensures.reads c.take_leaf_down.ensures.reads (omega arith))
 
 pub returns-in-Past-clause-reads : goal.returns-in-Past-clause-reads
-returns-in-Past-clause-reads g c = reads_both c.start_down-start.ensures.reads c.take_leaf_down.ensures.reads (omega arith)
+returns-in-Past-clause-reads g c = walks_alone c.args.range.now.limit (reads_both c.start_down-start.ensures.reads c.take_leaf_down.ensures.reads (omega arith))
 
 pub returns-in-Past-clause-scanned : goal.returns-in-Past-clause-scanned
 returns-in-Past-clause-scanned g c =
     let (a, same) = first g (goal.at.returns-in-Past-clause-scanned g c).After-take_leaf_down in down_is_past a (reads_later c.take_leaf_down.ensures.reads.2) c.in_ok-take_leaf_down.ensures.taken same c.in-Past.is
 
 pub returns-in-Full-clause-reads : goal.returns-in-Full-clause-reads
-returns-in-Full-clause-reads g c = reads_both c.start_down-start.ensures.reads c.take_leaf_down.ensures.reads (omega arith)
+returns-in-Full-clause-reads g c = walks_alone c.args.range.now.limit (reads_both c.start_down-start.ensures.reads c.take_leaf_down.ensures.reads (omega arith))
 
 pub returns-in-Full-clause-scanned : goal.returns-in-Full-clause-scanned
 returns-in-Full-clause-scanned g c =
@@ -75,8 +75,8 @@ walk_down-requires-clause-ceiling g c =
 pub returns-clause-reads : goal.returns-clause-reads
 returns-clause-reads g c =
     let r = c.start_down-start.ensures.reads in let few = r.1 in
-    let before : (n : ℕ) × (n ≤ 57) × Reads c.args.table.now g.G.Gate.becomes n (c.args.seat.now, c.args.gate.now) (c.if-start.seat, c.if-start.gate) = elim c.if-start.branch [
+    let before : (n : ℕ) × (n ≤ 57) × Reads c.args.table.now g.G.Gate.becomes 0 n (c.args.seat.now, c.args.gate.now) (c.if-start.seat, c.if-start.gate) = elim c.if-start.branch [
       | then-start+in_ok-take_leaf_down+in-Further w ↦ rw (w.seat-is, w.gate-is) (reads_both r w.take_leaf_down.ensures.reads (omega arith))
       | else-start w ↦ rw (w.seat-is, w.gate-is) (r.0, omega (arith, few), r.2)
     ] in
-    reads_both before c.walk_down.ensures.reads (omega arith)
+    walks_behind before c.walk_down.ensures.reads

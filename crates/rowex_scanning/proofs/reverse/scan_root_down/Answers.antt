@@ -1,18 +1,17 @@
 -- A range without keys; an empty root; and a search that has ended at a leaf.
-use Rattle.std.proofs.Common.{◌+◌, subst, ◌∙◌, arith}
+use Rattle.std.proofs.Common.{subst, ◌∙◌, arith}
 use Rattle.rowex_reading.specs.Seen.{since}
-use Rattle.rowex_reading.proofs.Led.{looks_first, looks_on, looks_same, reads_none}
-use Rattle.rowex_reading.proofs.Counting.{looks_count}
+use Rattle.rowex_reading.proofs.Led.{looks_first, looks_same, reads_none}
 use Rattle.rowex_reading.specs.Ways.{IsWayOf}
 use Rattle.tries.specs.Keys.{IsBefore}
 use Rattle.rowex_scanning.specs.Scanning.{asked_range}
 use Rattle.rowex_scanning.proofs.Starting.{leaf_rooted, nothing_blank}
 use Rattle.rowex_scanning.proofs.Downwards.{blank_scanned_down, nothing_scanned_down}
-use Rattle.rowex_scanning.proofs.Walking.{empty_is, searched_few}
+use Rattle.rowex_scanning.proofs.Walking.{empty_is, scans_few, searched_scans, walks_alone}
 use Rattle.rowex_scanning.proofs.reverse.scan_root_down.Goals as goal
 
 pub returns-then-is_before-clause-looks : goal.returns-then-is_before-clause-looks
-returns-then-is_before-clause-looks g c = (0, looks_first c.load_root.ensures.reads)
+returns-then-is_before-clause-looks g c = (0, 0, record { most = omega arith; few = omega arith }, looks_first c.load_root.ensures.reads)
 
 pub returns-then-is_before-clause-scanned : goal.returns-then-is_before-clause-scanned
 returns-then-is_before-clause-scanned g c =
@@ -21,11 +20,11 @@ returns-then-is_before-clause-scanned g c =
     nothing_scanned_down (asked_range c.args.range.now) c.clear.ensures before
 
 pub returns-then-is_before-clause-few : goal.returns-then-is_before-clause-few
-returns-then-is_before-clause-few g c =
-    let n = looks_count c.args.table.now g.G.Gate.becomes _ (c.args.seat.now, c.args.gate.now) (c.load_root.new.seat, c.load_root.new.gate) (looks_first c.load_root.ensures.reads) in omega (arith, n)
+returns-then-is_before-clause-few g c = scans_few c.args.range.now.limit (0, 0, record { most = omega arith; few = omega arith }, looks_first c.load_root.ensures.reads)
 
 pub returns-in-Nothing-clause-looks : goal.returns-in-Nothing-clause-looks
-returns-in-Nothing-clause-looks g c = (c.search_way.ensures.searched.loaded, c.search_way.ensures.searched.looks)
+returns-in-Nothing-clause-looks g c =
+    searched_scans {x = 0} c.args.range.now.limit c.search_way.ensures.searched (omega arith) (walks_alone c.args.range.now.limit (0, omega arith, reads_none (c.search_way.new.seat, c.search_way.new.gate)))
 
 pub returns-in-Nothing-clause-scanned : goal.returns-in-Nothing-clause-scanned
 returns-in-Nothing-clause-scanned g c =
@@ -33,7 +32,8 @@ returns-in-Nothing-clause-scanned g c =
     blank_scanned_down (asked_range c.args.range.now) c.clear.ensures (nothing_blank _ _ _ _ c.search_way.new.way.items w)
 
 pub returns-in-Nothing-clause-few : goal.returns-in-Nothing-clause-few
-returns-in-Nothing-clause-few g c = searched_few {x = 0} c.args.range.now.limit c.search_way.ensures.searched (0, omega arith, reads_none (c.search_way.new.seat, c.search_way.new.gate)) (omega arith)
+returns-in-Nothing-clause-few g c = scans_few c.args.range.now.limit
+    (searched_scans {x = 0} c.args.range.now.limit c.search_way.ensures.searched (omega arith) (walks_alone c.args.range.now.limit (0, omega arith, reads_none (c.search_way.new.seat, c.search_way.new.gate))))
 
 pub scan_leaf_down-requires-clause-reader : goal.scan_leaf_down-requires-clause-reader
 scan_leaf_down-requires-clause-reader g c = ((looks_same c.search_way.ensures.searched.looks).0 ∙ c.requires.own, c.search_way.ensures.possible)
@@ -44,10 +44,11 @@ scan_leaf_down-requires-clause-root g c =
     leaf_rooted _ _ _ c.search_way.new.way.items c.in-Leaf.number _ _ (empty_is c.search_way.new.way.items (let n = c.len.ensures.value in let e = c.if-len-eq0.true in omega (arith, n, e))) w
 
 pub returns-then-len-eq0-clause-looks : goal.returns-then-len-eq0-clause-looks
-returns-then-len-eq0-clause-looks g c = let r = c.scan_leaf_down.ensures.reads in (c.search_way.ensures.searched.loaded + r.0, looks_on c.search_way.ensures.searched.looks r.2)
+returns-then-len-eq0-clause-looks g c = searched_scans c.args.range.now.limit c.search_way.ensures.searched (omega arith) (walks_alone c.args.range.now.limit c.scan_leaf_down.ensures.reads)
 
 pub returns-then-len-eq0-clause-few : goal.returns-then-len-eq0-clause-few
-returns-then-len-eq0-clause-few g c = searched_few c.args.range.now.limit c.search_way.ensures.searched c.scan_leaf_down.ensures.reads (omega arith)
+returns-then-len-eq0-clause-few g c =
+    scans_few c.args.range.now.limit (searched_scans c.args.range.now.limit c.search_way.ensures.searched (omega arith) (walks_alone c.args.range.now.limit c.scan_leaf_down.ensures.reads))
 
 pub scan_node_down-requires-clause-reader : goal.scan_node_down-requires-clause-reader
 scan_node_down-requires-clause-reader g c = ((looks_same c.search_way.ensures.searched.looks).0 ∙ c.requires.own, c.search_way.ensures.possible)
@@ -60,7 +61,7 @@ scan_node_down-requires-clause-way g c =
     (_, subst (IsWayOf c.args.table.now.layout c.search_way.new.seat.known (since c.search_way.new.seat.known) c.args.range.now.upto.now c.search_way.new.way.items) c.in-Leaf.is c.search_way.ensures.way)
 
 pub returns-else-len-eq0-clause-looks : goal.returns-else-len-eq0-clause-looks
-returns-else-len-eq0-clause-looks g c = let r = c.scan_node_down.ensures.reads in (c.search_way.ensures.searched.loaded + r.0, looks_on c.search_way.ensures.searched.looks r.2)
+returns-else-len-eq0-clause-looks g c = searched_scans c.args.range.now.limit c.search_way.ensures.searched (omega arith) c.scan_node_down.ensures.reads
 
 pub returns-else-len-eq0-clause-few : goal.returns-else-len-eq0-clause-few
-returns-else-len-eq0-clause-few g c = searched_few c.args.range.now.limit c.search_way.ensures.searched c.scan_node_down.ensures.reads (omega arith)
+returns-else-len-eq0-clause-few g c = scans_few c.args.range.now.limit (searched_scans c.args.range.now.limit c.search_way.ensures.searched (omega arith) c.scan_node_down.ensures.reads)

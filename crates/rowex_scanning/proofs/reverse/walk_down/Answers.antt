@@ -26,14 +26,14 @@ leaf g c =
 
 -- When the leaf has been read, the root has not been loaded again.
 same : (g : given.Over) (c : After-take_leaf_down g) → since c.take_leaf_down.new.seat.known ≡ since c.args.seat.now.known
-same g c = same_since (reads_trans c.loop-top.invariant.reads.2 (reads_trans c.load_entry.ensures.reads c.take_leaf_down.ensures.reads.2))
+same g c = same_since (reads_trans c.loop-top.invariant.reads.3 (reads_trans c.load_entry.ensures.reads c.take_leaf_down.ensures.reads.2))
 
 pub loop-top-init : goal.loop-top-init
 loop-top-init g c =
     let short = down_short c.requires.walk c.requires.reader.1 in
     record {
       reader = c.requires.reader;
-      reads = (0, down_paid_first (length c.args.pairs.now) c.args.lowest c.args.way.now.items short, reads_none (c.args.seat.now, c.args.gate.now));
+      reads = (0, 0, down_paid_first (length c.args.pairs.now) c.args.lowest c.args.way.now.items short, reads_none (c.args.seat.now, c.args.gate.now));
       walk = c.requires.walk;
       ceiling = c.requires.ceiling;
     }
@@ -70,8 +70,9 @@ loop-top-preserved-in-Node g c =
       reader = reader_then (reader_then i.reader o.reads) e.reads.2;
       reads = (
         i.reads.0 + (1 + e.reads.0),
-        down_paid_push i.reads.0 (1 + e.reads.0) (length c.loop-top.pairs) c.loop-top.top (record c.loop-top.top { at = c.loop-top.top.at - 1 }) c.loop-top.way.items c.enter-top.result c.push.new.self.items i.reads.1 (let few = e.reads.1 in omega (arith, few)) behind c.push.ensures.items,
-        reads_trans i.reads.2 (reads_trans o.reads e.reads.2),
+        i.reads.1 + 1,
+        down_paid_push i.reads.0 i.reads.1 (1 + e.reads.0) (length c.loop-top.pairs) c.loop-top.top (record c.loop-top.top { at = c.loop-top.top.at - 1 }) c.loop-top.way.items c.enter-top.result c.push.new.self.items i.reads.2 (let few = e.reads.1 in omega (arith, few)) behind c.push.ensures.items,
+        reads_trans i.reads.3 (reads_trans o.reads e.reads.2),
       );
       walk = down_pushed a (reads_later e.reads.2) entered c.push.ensures.items;
       ceiling = ceiling_push m upto behind (ceiling_later m upto (reads_later (reads_trans o.reads e.reads.2)) i.ceiling) c.in-Node.number c.in-Node.height placed (record c.enter-top.result { at = c.enter-top.result.count })
@@ -107,8 +108,9 @@ loop-top-preserved g c =
       reader = reader_then (reader_then i.reader o.reads) e.reads.2;
       reads = (
         i.reads.0 + (1 + e.reads.0),
-        down_paid_leaf i.reads.0 (1 + e.reads.0) _ _ c.loop-top.top (record c.loop-top.top { at = c.loop-top.top.at - 1 }) c.loop-top.way.items (down_more a (reads_later e.reads.2) taken c.in-Further.is) i.reads.1 (let few = e.reads.1 in omega (arith, few)) behind,
-        reads_trans i.reads.2 (reads_trans o.reads e.reads.2),
+        i.reads.1 + 1,
+        down_paid_leaf i.reads.0 i.reads.1 (1 + e.reads.0) _ _ c.loop-top.top (record c.loop-top.top { at = c.loop-top.top.at - 1 }) c.loop-top.way.items (down_more a (reads_later e.reads.2) taken c.in-Further.is) i.reads.2 (let few = e.reads.1 in omega (arith, few)) behind,
+        reads_trans i.reads.3 (reads_trans o.reads e.reads.2),
       );
       walk = down_further a (reads_later e.reads.2) taken c.in-Further.is;
       ceiling = ceiling_next m upto behind (ceiling_later m upto (reads_later (reads_trans o.reads e.reads.2)) i.ceiling);
@@ -138,7 +140,7 @@ loop-top-preserved-in-Some g c =
     let done = c.if-top-eq0.true in
     record {
       reader = i.reader;
-      reads = (i.reads.0, down_paid_pop i.reads.0 (length c.loop-top.pairs) c.loop-top.top c.loop-top.way.items c.in-Some.above c.pop.new.self.items i.reads.1 done (down_several i.walk i.reader.1) e (below_inside i.walk done c.in-Some.above c.pop.new.self.items e), i.reads.2);
+      reads = (i.reads.0, i.reads.1, down_paid_pop i.reads.0 i.reads.1 (length c.loop-top.pairs) c.loop-top.top c.loop-top.way.items c.in-Some.above c.pop.new.self.items i.reads.2 done (down_several i.walk i.reader.1) e (below_inside i.walk done c.in-Some.above c.pop.new.self.items e), i.reads.3);
       walk = down_popped i.walk done c.in-Some.above c.pop.new.self.items e;
       ceiling = ceiling_pop (since c.args.seat.now.known) c.args.range.now.upto.now i.ceiling c.in-Some.above c.pop.new.self.items e;
     }
@@ -146,9 +148,9 @@ loop-top-preserved-in-Some g c =
 pub returns-in-None-clause-reads : goal.returns-in-None-clause-reads
 returns-in-None-clause-reads g c =
     let i = c.loop-top.invariant in
-    (i.reads.0, down_paid_end i.reads.0 (length c.loop-top.pairs) c.args.range.now.limit c.loop-top.top c.loop-top.way.items i.reads.1 (none_popped c.pop.ensures.variant c.in-None.is) (down_within i.walk i.reader.1), i.reads.2)
+    (i.reads.0, i.reads.1, down_paid_end i.reads.0 i.reads.1 (length c.loop-top.pairs) c.args.range.now.limit c.loop-top.top c.loop-top.way.items i.reads.2 (none_popped c.pop.ensures.variant c.in-None.is) (down_within i.walk i.reader.1), i.reads.3)
 
 pub returns-in-None-clause-scanned : goal.returns-in-None-clause-scanned
 returns-in-None-clause-scanned g c =
     let i = c.loop-top.invariant in
-    down_ended i.walk c.if-top-eq0.true (none_popped c.pop.ensures.variant c.in-None.is) (same_since i.reads.2)
+    down_ended i.walk c.if-top-eq0.true (none_popped c.pop.ensures.variant c.in-None.is) (same_since i.reads.3)

@@ -10,7 +10,7 @@ use Rattle.rowex_scanning.proofs.reverse.walk_down.Given as goal
 abbrev pub invariant-loop-top : goal.invariant-loop-top
 invariant-loop-top g l = record {
   reader : IsReader l.table l.seat;
-  reads : (n : ℕ) × IsPaidDown n (length l.pairs) l.top l.way.items × Reads l.table g.G.Gate.becomes n (l.fn.seat, l.fn.gate) (l.seat, l.gate);
+  reads : (loads entries : ℕ) × IsPaidDown loads entries (length l.pairs) l.top l.way.items × Reads l.table g.G.Gate.becomes entries loads (l.fn.seat, l.fn.gate) (l.seat, l.gate);
   walk : IsDownWalk l.seat.known (since l.fn.seat.known) (asked_range l.range) l.top l.way.items l.pairs;
   ceiling : IsCeiling l.seat.known (since l.fn.seat.known) l.range.upto.now l.top l.way.items;
 }

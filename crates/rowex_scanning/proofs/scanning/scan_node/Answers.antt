@@ -6,7 +6,7 @@ use Rattle.rowex_reading.specs.Seen.{since}
 use Rattle.rowex_reading.proofs.Led.{reader_then, reads_later, reads_trans, same_since}
 use Rattle.rowex_scanning.specs.Scanning.{asked_range}
 use Rattle.rowex_scanning.proofs.Starting.{begun}
-use Rattle.rowex_scanning.proofs.Walking.{IsAtEntry, entry_led, floor_later, floor_since, reads_both, walk_full, walk_further, walk_past, walk_room, walk_since}
+use Rattle.rowex_scanning.proofs.Walking.{IsAtEntry, entry_led, floor_later, floor_since, reads_both, walk_full, walk_further, walk_past, walk_room, walk_since, walks_alone, walks_behind}
 use Rattle.rowex_scanning.proofs.scanning.scan_node.Given as given
 use Rattle.rowex_scanning.proofs.scanning.scan_node.Goals as goal
 use Rattle.rowex_scanning.proofs.scanning.scan_node.Goals.{After-take_leaf, then-start+in_ok-take_leaf+in-Further, else-start}
@@ -26,7 +26,7 @@ take_leaf-requires-clause-leaf g c =
     (since c.args.seat.now.known, entry_led (b.entry c.if-start.true), b.above c.if-start.true)
 
 pub returns-in_err-take_leaf-clause-reads : goal.returns-in_err-take_leaf-clause-reads
-returns-in_err-take_leaf-clause-reads g c = reads_both c.start_at-start.ensures.reads c.take_leaf.ensures.reads (omega arith)
+returns-in_err-take_leaf-clause-reads g c = walks_alone c.args.range.now.limit (reads_both c.start_at-start.ensures.reads c.take_leaf.ensures.reads (omega arith))
 
 pub overflow_add-top : goal.overflow_add-top
 overflow_add-top g c =
@@ -34,14 +34,14 @@ overflow_add-top g c =
     let low = (b.entry c.if-start.true).inside in let room = walk_room b.walk in omega (arith, low, room)
 
 pub returns-in-Past-clause-reads : goal.returns-in-Past-clause-reads
-returns-in-Past-clause-reads g c = reads_both c.start_at-start.ensures.reads c.take_leaf.ensures.reads (omega arith)
+returns-in-Past-clause-reads g c = walks_alone c.args.range.now.limit (reads_both c.start_at-start.ensures.reads c.take_leaf.ensures.reads (omega arith))
 
 pub returns-in-Past-clause-scanned : goal.returns-in-Past-clause-scanned
 returns-in-Past-clause-scanned g c =
     let (a, same) = first g (goal.at.returns-in-Past-clause-scanned g c).After-take_leaf in walk_past a (reads_later c.take_leaf.ensures.reads.2) c.in_ok-take_leaf.ensures.taken same c.in-Past.is
 
 pub returns-in-Full-clause-reads : goal.returns-in-Full-clause-reads
-returns-in-Full-clause-reads g c = reads_both c.start_at-start.ensures.reads c.take_leaf.ensures.reads (omega arith)
+returns-in-Full-clause-reads g c = walks_alone c.args.range.now.limit (reads_both c.start_at-start.ensures.reads c.take_leaf.ensures.reads (omega arith))
 
 pub returns-in-Full-clause-scanned : goal.returns-in-Full-clause-scanned
 returns-in-Full-clause-scanned g c =
@@ -77,8 +77,8 @@ walk-requires-clause-floor g c =
 pub returns-clause-reads : goal.returns-clause-reads
 returns-clause-reads g c =
     let r = c.start_at-start.ensures.reads in let few = r.1 in
-    let before : (n : ℕ) × (n ≤ 57) × Reads c.args.table.now g.G.Gate.becomes n (c.args.seat.now, c.args.gate.now) (c.if-start.seat, c.if-start.gate) = elim c.if-start.branch [
+    let before : (n : ℕ) × (n ≤ 57) × Reads c.args.table.now g.G.Gate.becomes 0 n (c.args.seat.now, c.args.gate.now) (c.if-start.seat, c.if-start.gate) = elim c.if-start.branch [
       | then-start+in_ok-take_leaf+in-Further w ↦ rw (w.seat-is, w.gate-is) (reads_both r w.take_leaf.ensures.reads (omega arith))
       | else-start w ↦ rw (w.seat-is, w.gate-is) (r.0, omega (arith, few), r.2)
     ] in
-    reads_both before c.walk.ensures.reads (omega arith)
+    walks_behind before c.walk.ensures.reads

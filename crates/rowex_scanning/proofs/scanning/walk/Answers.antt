@@ -22,14 +22,14 @@ leaf g c = entry_at (Leaf c.in-Leaf.number) c.loop-top.invariant.walk c.if-top.t
 
 -- When the leaf has been read, the root has not been loaded again.
 same : (g : given.Over) (c : After-take_leaf g) → since c.take_leaf.new.seat.known ≡ since c.args.seat.now.known
-same g c = same_since (reads_trans c.loop-top.invariant.reads.2 (reads_trans c.load_entry.ensures.reads c.take_leaf.ensures.reads.2))
+same g c = same_since (reads_trans c.loop-top.invariant.reads.3 (reads_trans c.load_entry.ensures.reads c.take_leaf.ensures.reads.2))
 
 pub loop-top-init : goal.loop-top-init
 loop-top-init g c =
     let short = way_short c.requires.walk c.requires.reader.1 in
     record {
       reader = c.requires.reader;
-      reads = (0, paid_first (length c.args.pairs.now) c.args.lowest c.args.way.now.items short, reads_none (c.args.seat.now, c.args.gate.now));
+      reads = (0, 0, paid_first (length c.args.pairs.now) c.args.lowest c.args.way.now.items short, reads_none (c.args.seat.now, c.args.gate.now));
       walk = c.requires.walk;
       floor = c.requires.floor;
     }
@@ -64,8 +64,9 @@ loop-top-preserved-in-Node g c =
       reader = reader_then (reader_then i.reader o.reads) e.reads.2;
       reads = (
         i.reads.0 + (1 + e.reads.0),
-        paid_push i.reads.0 (1 + e.reads.0) (length c.loop-top.pairs) c.loop-top.top c.loop-top.way.items c.enter-top.result c.push.new.self.items i.reads.1 (let few = e.reads.1 in omega (arith, few)) (entered_first entered) c.push.ensures.items,
-        reads_trans i.reads.2 (reads_trans o.reads e.reads.2),
+        i.reads.1 + 1,
+        paid_push i.reads.0 i.reads.1 (1 + e.reads.0) (length c.loop-top.pairs) c.loop-top.top c.loop-top.way.items c.enter-top.result c.push.new.self.items i.reads.2 (let few = e.reads.1 in omega (arith, few)) (entered_first entered) c.push.ensures.items,
+        reads_trans i.reads.3 (reads_trans o.reads e.reads.2),
       );
       walk = walk_push a (reads_later e.reads.2) entered c.push.ensures.items;
       floor = floor_push m c.args.range.now.from.now (floor_later m c.args.range.now.from.now (reads_later (reads_trans o.reads e.reads.2)) i.floor) c.in-Node.number c.in-Node.height placed c.enter-top.result
@@ -98,8 +99,9 @@ loop-top-preserved-in-Further g c =
       reader = reader_then (reader_then i.reader o.reads) e.reads.2;
       reads = (
         i.reads.0 + (1 + e.reads.0),
-        paid_leaf i.reads.0 (1 + e.reads.0) _ _ c.loop-top.top c.loop-top.way.items (taken_more a (reads_later e.reads.2) taken c.in-Further.is) i.reads.1 (let few = e.reads.1 in omega (arith, few)),
-        reads_trans i.reads.2 (reads_trans o.reads e.reads.2),
+        i.reads.1 + 1,
+        paid_leaf i.reads.0 i.reads.1 (1 + e.reads.0) _ _ c.loop-top.top c.loop-top.way.items (taken_more a (reads_later e.reads.2) taken c.in-Further.is) i.reads.2 (let few = e.reads.1 in omega (arith, few)),
+        reads_trans i.reads.3 (reads_trans o.reads e.reads.2),
       );
       walk = walk_further a (reads_later e.reads.2) taken c.in-Further.is;
       floor = floor_next m c.args.range.now.from.now (floor_later m c.args.range.now.from.now (reads_later (reads_trans o.reads e.reads.2)) i.floor);
@@ -132,7 +134,7 @@ loop-top-preserved g c =
     let done = c.if-top.false in let several = walk_several i.walk i.reader.1 in
     record {
       reader = i.reader;
-      reads = (i.reads.0, paid_pop i.reads.0 (length c.loop-top.pairs) c.loop-top.top c.loop-top.way.items c.in-Some.above c.pop.new.self.items i.reads.1 (omega (arith, done, several)) e, i.reads.2);
+      reads = (i.reads.0, i.reads.1, paid_pop i.reads.0 i.reads.1 (length c.loop-top.pairs) c.loop-top.top c.loop-top.way.items c.in-Some.above c.pop.new.self.items i.reads.2 (omega (arith, done, several)) e, i.reads.3);
       walk = walk_pop i.walk c.in-Some.above c.pop.new.self.items e c.if-top.false;
       floor = floor_pop (since c.args.seat.now.known) c.args.range.now.from.now i.floor c.in-Some.above c.pop.new.self.items e;
     }
@@ -140,9 +142,9 @@ loop-top-preserved g c =
 pub returns-in-None-clause-reads : goal.returns-in-None-clause-reads
 returns-in-None-clause-reads g c =
     let i = c.loop-top.invariant in
-    (i.reads.0, paid_end i.reads.0 (length c.loop-top.pairs) c.args.range.now.limit c.loop-top.top c.loop-top.way.items i.reads.1 (none_popped c.pop.ensures.variant c.in-None.is) (walk_short i.walk i.reader.1), i.reads.2)
+    (i.reads.0, i.reads.1, paid_end i.reads.0 i.reads.1 (length c.loop-top.pairs) c.args.range.now.limit c.loop-top.top c.loop-top.way.items i.reads.2 (none_popped c.pop.ensures.variant c.in-None.is) (walk_short i.walk i.reader.1), i.reads.3)
 
 pub returns-in-None-clause-scanned : goal.returns-in-None-clause-scanned
 returns-in-None-clause-scanned g c =
     let i = c.loop-top.invariant in
-    walk_end i.walk (none_popped c.pop.ensures.variant c.in-None.is) c.if-top.false (same_since i.reads.2)
+    walk_end i.walk (none_popped c.pop.ensures.variant c.in-None.is) c.if-top.false (same_since i.reads.3)

@@ -9,7 +9,7 @@ use Rattle.rowex_scanning.proofs.scanning.walk.Given as goal
 abbrev pub invariant-loop-top : goal.invariant-loop-top
 invariant-loop-top g l = record {
   reader : IsReader l.table l.seat;
-  reads : (n : ℕ) × IsPaid n (length l.pairs) l.top l.way.items × Reads l.table g.G.Gate.becomes n (l.fn.seat, l.fn.gate) (l.seat, l.gate);
+  reads : (loads entries : ℕ) × IsPaid loads entries (length l.pairs) l.top l.way.items × Reads l.table g.G.Gate.becomes entries loads (l.fn.seat, l.fn.gate) (l.seat, l.gate);
   walk : IsWalk l.seat.known (since l.fn.seat.known) (asked_range l.range) l.top l.way.items l.pairs;
   floor : IsFloor l.seat.known (since l.fn.seat.known) l.range.from.now l.top l.way.items;
 }

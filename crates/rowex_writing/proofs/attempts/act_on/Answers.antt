@@ -14,48 +14,48 @@ use Rattle.rowex_reading.proofs.Ways.{way_later}
 use Rattle.rowex_writing.proofs.attempts.act_on.Goals as goal
 
 pub take_span-requires-clause-own : goal.take_span-requires-clause-own
-take_span-requires-clause-own g c = (reads_same c.find_plan.ensures.reads.1).0 ∙ c.requires.own
+take_span-requires-clause-own g c = (reads_same c.find_plan.ensures.reads.2).0 ∙ c.requires.own
 
 pub take_span-requires-clause-span : goal.take_span-requires-clause-span
 take_span-requires-clause-span g c = subst (LiesOnWay c.args.way.now) c.in-Change.is c.find_plan.ensures.within
 
 pub take_span-requires-clause-way : goal.take_span-requires-clause-way
-take_span-requires-clause-way g c = (since c.args.seat.now.known, way_later _ _ _ _ _ _ _ (reads_later c.find_plan.ensures.reads.1) c.requires.way)
+take_span-requires-clause-way g c = (since c.args.seat.now.known, way_later _ _ _ _ _ _ _ (reads_later c.find_plan.ensures.reads.2) c.requires.way)
 
 pub take_span-requires-clause-rest : goal.take_span-requires-clause-rest
-take_span-requires-clause-rest g c = rest_reads c.args.table.now g.G.Gate.becomes c.find_plan.ensures.reads.0 _ _ c.find_plan.ensures.reads.1 c.requires.rest
+take_span-requires-clause-rest g c = rest_reads c.args.table.now g.G.Gate.becomes c.find_plan.ensures.reads.0 c.find_plan.ensures.reads.1 _ _ c.find_plan.ensures.reads.2 c.requires.rest
 
 pub take_span-requires-clause-quiet : goal.take_span-requires-clause-quiet
-take_span-requires-clause-quiet g c = quiet_on _ _ (reads_later c.find_plan.ensures.reads.1) c.requires.quiet
+take_span-requires-clause-quiet g c = quiet_on _ _ (reads_later c.find_plan.ensures.reads.2) c.requires.quiet
 
 pub returns-in-Answer-clause-run : goal.returns-in-Answer-clause-run
-returns-in-Answer-clause-run g c = none_once c.args.table.now g.G.Gate.becomes _ _ (reads_run c.args.table.now g.G.Gate.becomes c.find_plan.ensures.reads.0 _ _ c.find_plan.ensures.reads.1)
+returns-in-Answer-clause-run g c = none_once c.args.table.now g.G.Gate.becomes _ _ (reads_run c.args.table.now g.G.Gate.becomes c.find_plan.ensures.reads.0 c.find_plan.ensures.reads.1 _ _ c.find_plan.ensures.reads.2)
 
 pub returns-in-Answer-clause-rest : goal.returns-in-Answer-clause-rest
-returns-in-Answer-clause-rest g c = rest_reads c.args.table.now g.G.Gate.becomes c.find_plan.ensures.reads.0 _ _ c.find_plan.ensures.reads.1 c.requires.rest
+returns-in-Answer-clause-rest g c = rest_reads c.args.table.now g.G.Gate.becomes c.find_plan.ensures.reads.0 c.find_plan.ensures.reads.1 _ _ c.find_plan.ensures.reads.2 c.requires.rest
 
 pub returns-in-Answer-clause-answered : goal.returns-in-Answer-clause-answered
 returns-in-Answer-clause-answered g c k later =
-    let on = reads_later c.find_plan.ensures.reads.1 in
+    let on = reads_later c.find_plan.ensures.reads.2 in
     let planned = planned_as c.find_plan.new.seat.known (since c.args.seat.now.known) c.args.key.now c.args.way.now c.aim_of.result (aim_of c.args.ask) c.args.found c.find_plan.result c.aim_of.ensures
     (c.find_plan.ensures.planned (since c.args.seat.now.known) c.requires.way) in
-    let found = found_later _ _ _ _ on (same_since c.find_plan.ensures.reads.1) c.requires.found in
+    let found = found_later _ _ _ _ on (same_since c.find_plan.ensures.reads.2) c.requires.found in
     answered_look k _ _ _ _ _ (later_trans later on) (looked _ _ _ _ _ _ _ _ c.requires.met (subst (IsPlanned _ _ _ _ _ _) c.in-Answer.is planned) found)
 
 pub returns-then-not-take_span-clause-run : goal.returns-then-not-take_span-clause-run
 returns-then-not-take_span-clause-run g c =
-    run_once c.args.table.now g.G.Gate.becomes _ _ _ (reads_run c.args.table.now g.G.Gate.becomes c.find_plan.ensures.reads.0 _ _ c.find_plan.ensures.reads.1) c.take_span.ensures.run
+    run_once c.args.table.now g.G.Gate.becomes _ _ _ (reads_run c.args.table.now g.G.Gate.becomes c.find_plan.ensures.reads.0 c.find_plan.ensures.reads.1 _ _ c.find_plan.ensures.reads.2) c.take_span.ensures.run
 
 pub returns-then-not-take_span-clause-refused : goal.returns-then-not-take_span-clause-refused
 returns-then-not-take_span-clause-refused g c k loaded later =
-    let r = c.find_plan.ensures.reads.1 in
+    let r = c.find_plan.ensures.reads.2 in
     let way = way_later _ _ _ _ _ _ _ (reads_later r) c.requires.way in
-    refused_busy c.args.table.now.layout c.args.key.now k _ _ (since c.args.seat.now.known) way.since (loaded_reads c.args.table.now g.G.Gate.becomes k c.find_plan.ensures.reads.0 _ _ r loaded)
+    refused_busy c.args.table.now.layout c.args.key.now k _ _ (since c.args.seat.now.known) way.since (loaded_reads c.args.table.now g.G.Gate.becomes k c.find_plan.ensures.reads.0 c.find_plan.ensures.reads.1 _ _ r loaded)
     (later_trans later (reads_later r)) c.take_span.ensures.later (c.take_span.ensures.busy c.if-not-take_span.true (since c.args.seat.now.known) way)
 
 pub make_change-requires : goal.make_change-requires
 make_change-requires g c =
-    let r = c.find_plan.ensures.reads.1 in
+    let r = c.find_plan.ensures.reads.2 in
     let way = way_later _ _ _ _ _ _ _ (reads_later r) c.requires.way in
     let planned = planned_as c.find_plan.new.seat.known (since c.args.seat.now.known) c.args.key.now c.args.way.now c.aim_of.result (aim_of c.args.ask) c.args.found c.find_plan.result c.aim_of.ensures
     (c.find_plan.ensures.planned (since c.args.seat.now.known) c.requires.way) in
@@ -70,36 +70,36 @@ make_change-requires g c =
 
 pub returns-in-Ok-clause-run : goal.returns-in-Ok-clause-run
 returns-in-Ok-clause-run g c =
-    once_run c.args.table.now g.G.Gate.becomes _ _ _ (run_once c.args.table.now g.G.Gate.becomes _ _ _ (reads_run c.args.table.now g.G.Gate.becomes c.find_plan.ensures.reads.0 _ _ c.find_plan.ensures.reads.1) c.take_span.ensures.run)
+    once_run c.args.table.now g.G.Gate.becomes _ _ _ (run_once c.args.table.now g.G.Gate.becomes _ _ _ (reads_run c.args.table.now g.G.Gate.becomes c.find_plan.ensures.reads.0 c.find_plan.ensures.reads.1 _ _ c.find_plan.ensures.reads.2) c.take_span.ensures.run)
     c.make_change.ensures.run
 
 pub returns-in-Ok-clause-answered : goal.returns-in-Ok-clause-answered
 returns-in-Ok-clause-answered g c k later =
     let planned = planned_as c.find_plan.new.seat.known (since c.args.seat.now.known) c.args.key.now c.args.way.now c.aim_of.result (aim_of c.args.ask) c.args.found c.find_plan.result c.aim_of.ensures
     (c.find_plan.ensures.planned (since c.args.seat.now.known) c.requires.way) in
-    rw c.reply_to.ensures (answered_change k _ _ _ _ _ _ _ _ _ _ _ (later_trans (later_trans later (reads_later c.find_plan.ensures.reads.1)) c.take_span.ensures.later) c.requires.met
+    rw c.reply_to.ensures (answered_change k _ _ _ _ _ _ _ _ _ _ _ (later_trans (later_trans later (reads_later c.find_plan.ensures.reads.2)) c.take_span.ensures.later) c.requires.met
     (subst (IsPlanned _ _ _ _ _ _) c.in-Change.is planned) (c.make_change.ensures.done c.in-Ok.is))
 
 pub returns-in-Err-Nodes-clause-run : goal.returns-in-Err-Nodes-clause-run
 returns-in-Err-Nodes-clause-run g c =
-    once_run c.args.table.now g.G.Gate.becomes _ _ _ (run_once c.args.table.now g.G.Gate.becomes _ _ _ (reads_run c.args.table.now g.G.Gate.becomes c.find_plan.ensures.reads.0 _ _ c.find_plan.ensures.reads.1) c.take_span.ensures.run)
+    once_run c.args.table.now g.G.Gate.becomes _ _ _ (run_once c.args.table.now g.G.Gate.becomes _ _ _ (reads_run c.args.table.now g.G.Gate.becomes c.find_plan.ensures.reads.0 c.find_plan.ensures.reads.1 _ _ c.find_plan.ensures.reads.2) c.take_span.ensures.run)
     c.make_change.ensures.run
 
 pub returns-in-Err-Nodes-clause-refused : goal.returns-in-Err-Nodes-clause-refused
 returns-in-Err-Nodes-clause-refused g c k loaded later =
-    let r = c.find_plan.ensures.reads.1 in
-    let there = run_loaded c.args.table.now g.G.Gate.becomes k _ _ (loaded_reads c.args.table.now g.G.Gate.becomes k c.find_plan.ensures.reads.0 _ _ r loaded) c.take_span.ensures.run.1 in
+    let r = c.find_plan.ensures.reads.2 in
+    let there = run_loaded c.args.table.now g.G.Gate.becomes k _ _ (loaded_reads c.args.table.now g.G.Gate.becomes k c.find_plan.ensures.reads.0 c.find_plan.ensures.reads.1 _ _ r loaded) c.take_span.ensures.run.1 in
     refused_nodes c.args.table.now.layout c.args.key.now k _ _ there (later_trans (later_trans later (reads_later r)) c.take_span.ensures.later) (subst (HasNoRoom _ _ _ _) c.in-Err-Nodes.field-0-is c.in-Err-Nodes.ensures.full)
 
 pub returns-in-Err-Leaves-clause-run : goal.returns-in-Err-Leaves-clause-run
 returns-in-Err-Leaves-clause-run g c =
-    once_run c.args.table.now g.G.Gate.becomes _ _ _ (run_once c.args.table.now g.G.Gate.becomes _ _ _ (reads_run c.args.table.now g.G.Gate.becomes c.find_plan.ensures.reads.0 _ _ c.find_plan.ensures.reads.1) c.take_span.ensures.run)
+    once_run c.args.table.now g.G.Gate.becomes _ _ _ (run_once c.args.table.now g.G.Gate.becomes _ _ _ (reads_run c.args.table.now g.G.Gate.becomes c.find_plan.ensures.reads.0 c.find_plan.ensures.reads.1 _ _ c.find_plan.ensures.reads.2) c.take_span.ensures.run)
     c.make_change.ensures.run
 
 pub returns-in-Err-Leaves-clause-refused : goal.returns-in-Err-Leaves-clause-refused
 returns-in-Err-Leaves-clause-refused g c k loaded later =
-    let r = c.find_plan.ensures.reads.1 in
-    let there = run_loaded c.args.table.now g.G.Gate.becomes k _ _ (loaded_reads c.args.table.now g.G.Gate.becomes k c.find_plan.ensures.reads.0 _ _ r loaded) c.take_span.ensures.run.1 in
+    let r = c.find_plan.ensures.reads.2 in
+    let there = run_loaded c.args.table.now g.G.Gate.becomes k _ _ (loaded_reads c.args.table.now g.G.Gate.becomes k c.find_plan.ensures.reads.0 c.find_plan.ensures.reads.1 _ _ r loaded) c.take_span.ensures.run.1 in
     refused_leaves c.args.table.now.layout c.args.key.now k _ _ there (later_trans (later_trans later (reads_later r)) c.take_span.ensures.later) (subst (HasNoRoom _ _ _ _) c.in-Err-Leaves.field-0-is c.in-Err-Leaves.ensures.full)
 
 pub returns-in-Err-Leaves-clause-leafless : goal.returns-in-Err-Leaves-clause-leafless

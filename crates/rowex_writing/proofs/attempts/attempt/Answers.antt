@@ -48,7 +48,7 @@ returns-clause-refused g c =
 pub returns-clause-few : goal.returns-clause-few
 returns-clause-few g c =
     let s = c.search_way-found.ensures.searched in
-    let looked = looks_count c.args.table.now g.G.Gate.becomes s.loaded (c.args.seat.now, c.args.gate.now) (c.search_way-found.new.seat, c.search_way-found.new.gate) s.looks in
+    let looked = looks_count c.args.table.now g.G.Gate.becomes s.nodes s.loaded (c.args.seat.now, c.args.gate.now) (c.search_way-found.new.seat, c.search_way-found.new.gate) s.looks in
     omega (arith, looked, s.few, s.low, c.act_on.ensures.few)
 
 -- ---- answered at once
@@ -72,5 +72,5 @@ returns-in-Some-clause-answered g c =
 pub returns-in-Some-clause-few : goal.returns-in-Some-clause-few
 returns-in-Some-clause-few g c =
     let s = c.search_way-found.ensures.searched in
-    let looked = looks_count c.args.table.now g.G.Gate.becomes s.loaded (c.args.seat.now, c.args.gate.now) (c.search_way-found.new.seat, c.search_way-found.new.gate) s.looks in
+    let looked = looks_count c.args.table.now g.G.Gate.becomes s.nodes s.loaded (c.args.seat.now, c.args.gate.now) (c.search_way-found.new.seat, c.search_way-found.new.gate) s.looks in
     omega (arith, looked, s.few, s.low)

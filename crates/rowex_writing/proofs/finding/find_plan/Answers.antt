@@ -2,7 +2,7 @@
 use Rattle.std.proofs.lemmas.Option.{slice_get-get_or}
 use Rattle.compound_node.specs.Nodes.{node_of, leaves}
 use Rattle.std.proofs.Common.{refl, length, arith}
-use Rattle.rowex_reading.proofs.Led.{reader_then, reads_later}
+use Rattle.rowex_reading.proofs.Led.{reader_then, reads_later, reads_none}
 use Rattle.rowex_reading.proofs.Seeing.{shaped_stable, since_later, sure_later}
 use Rattle.rowex_writing.proofs.Affecting.{known_planned, beside_planned}
 use Rattle.rowex_reading.proofs.Shapes.{row_below, same_shape}
@@ -26,6 +26,9 @@ affected-first-requires g c =
     let same = same_shape c.args.table.now.layout c.load_head-head.new.seat.known m _ node.forks _ (reader_then (c.requires.own, c.requires.possible) e.reads).1 (since_later later w.since)
     (sure_later (shaped_stable m _ node.forks) later node.shaped) (e.head m _ (w.since, node.seen)).1 in
     row_below c.load_head-head.result c.args._key.now node.forks _ e.lawful node.at same
+
+pub returns-in-Known-clause-reads : goal.returns-in-Known-clause-reads
+returns-in-Known-clause-reads g c = (0, 0, reads_none (c.args.seat.now, c.args.gate.now))
 
 pub returns-in-Known-clause-planned : goal.returns-in-Known-clause-planned
 returns-in-Known-clause-planned g c = λ m w. known_planned c.args.table.now.layout c.args.seat.now.known c.args.seat.now.known m c.args._key.now c.args.way.now c.args.aim c.args.found c.in-Known.plan c.in-Known.ensures w
@@ -54,4 +57,4 @@ returns-in-Beside-clause-within g c = beside_within c.args.way.now c.in-Beside.p
 
 pub returns-in-Beside-clause-few : goal.returns-in-Beside-clause-few
 returns-in-Beside-clause-few g c =
-    let z = reads_count c.args.table.now g.G.Gate.becomes _ (c.args.seat.now, c.args.gate.now) (c.load_head-head.new.seat, c.load_head-head.new.gate) c.load_head-head.ensures.reads in omega (arith, z, c.load_head-head.ensures.few)
+    let z = reads_count c.args.table.now g.G.Gate.becomes _ _ (c.args.seat.now, c.args.gate.now) (c.load_head-head.new.seat, c.load_head-head.new.gate) c.load_head-head.ensures.reads in omega (arith, z, c.load_head-head.ensures.few)

@@ -6,8 +6,8 @@ use Rattle.hot_index.specs.Passes.{PassView, pass_of}
 use Rattle.hot_index.specs.Answers.{IsNoted, got}
 use Rattle.hot_index.specs.Traces.{HasGot}
 use Rattle.rowex_reading.proofs.Led.{looked_at, looks_same}
-use Rattle.hot_index.proofs.Noting.{fits_then, get_noted, get_steps}
-use Rattle.hot_index.proofs.Tracing.{has_read}
+use Rattle.hot_index.proofs.Noting.{fits_then, get_noted}
+use Rattle.hot_index.proofs.Tracing.{has_got}
 use Rattle.hot_index.proofs.index.Index.get_with.Goals as goal
 
 pub end_get-requires : goal.end_get-requires
@@ -36,10 +36,4 @@ pub returns-clause-made : goal.returns-clause-made
 returns-clause-made g c =
     subst (λ (x : TableView). HasGot x g.G.Gate.becomes (c.args.pass.now, c.args.gate.now) (pass_of c.end_get.new.seat, c.end_get.new.gate)) c.self.view_is
     (subst (λ (z : PassView). HasGot c.self.inside.table g.G.Gate.becomes (z, c.args.gate.now) (pass_of c.end_get.new.seat, c.end_get.new.gate)) c.pass.view_is
-    (let steps = get_steps c.args.key.now c.look_up-found.result c.pin.ensures.steps c.look_up-found.ensures.searched c.end_get.ensures.step in
-    record {
-      read = has_read c.self.inside.table g.G.Gate.becomes c.pin.ensures.steps c.look_up-found.ensures.searched.looks c.end_get.ensures.step;
-      visited = steps.0;
-      depth = steps.1;
-      few = steps.2;
-    }))
+    (has_got c.self.inside.table g.G.Gate.becomes c.pin.ensures.steps c.look_up-found.ensures.searched c.end_get.ensures.step))

@@ -9,26 +9,26 @@ use Rattle.hot_index.specs.Answers.{IsUnnoted}
 use Rattle.hot_index.specs.Reverse.{IsReverseListed}
 use Rattle.rowex_scanning.specs.Counts.{scan_loads}
 use Rattle.rowex_scanning.specs.Reverse.{HasScannedDown}
-use Rattle.hot_index.specs.Traces.{HasRead}
+use Rattle.hot_index.specs.Traces.{HasGotRange}
 use Rattle.hot_index.proofs.Noting.{fits_then, looked}
 use Rattle.hot_index.proofs.Scanned.{if_answered, if_refused, scan_counted, scan_settled, scan_refused, scan_answered_down}
-use Rattle.hot_index.proofs.Tracing.{has_read}
+use Rattle.hot_index.proofs.Tracing.{has_walked}
 use Rattle.hot_index.proofs.index.Index.scan_reverse_into_with.Goals as goal
 
 pub unpin-requires : goal.unpin-requires
 unpin-requires g c =
-    let l = c.scan_root_down-scan.ensures.looks.1 in
+    let l = c.scan_root_down-scan.ensures.looks.3 in
     λ κs le. (search rules, (fits_then c.self.inside.table c.pin.new.seat c.scan_root_down-scan.new.seat (looks_same l) c.pin.ensures.fits, subst IsSome (sym (looked_at l).later.pin) c.pin.ensures.pinned))
 
 pub returns-clause-own : goal.returns-clause-own
 returns-clause-own g c =
-    let same = looks_same c.scan_root_down-scan.ensures.looks.1 in
+    let same = looks_same c.scan_root_down-scan.ensures.looks.3 in
     c.unpin.ensures.step.seat.0 ∙ (same.0 ∙ (c.pin.ensures.fits.0 ∙ ap (λ (x : TableView). x.id) c.self.view_is))
 
 pub invariant_of-pass : goal.invariant_of-pass
 invariant_of-pass g c =
     let s = c.scan_root_down-scan.ensures in
-    scan_settled c.pass.inside.seat c.unpin.new.seat c.pass.invariant (looked c.pass.invariant c.pin.ensures.steps s.looks.1) c.unpin.ensures.step.event
+    scan_settled c.pass.inside.seat c.unpin.new.seat c.pass.invariant (looked c.pass.invariant c.pin.ensures.steps s.looks.3) c.unpin.ensures.step.event
 
 pub returns-clause-ok : goal.returns-clause-ok
 returns-clause-ok g c =
@@ -36,12 +36,12 @@ returns-clause-ok g c =
     let range : Range = record { from = c.args.from.now; upto = c.args.upto.now; limit = c.args.limit } in
     let layout = c.self.inside.table.layout in
     let later = pass_of c.unpin.new.seat in
-    let pinned : IsSome c.scan_root_down-scan.new.seat.known.pin = subst IsSome (sym (looked_at s.looks.1).later.pin) c.pin.ensures.pinned in
+    let pinned : IsSome c.scan_root_down-scan.new.seat.known.pin = subst IsSome (sym (looked_at s.looks.3).later.pin) c.pin.ensures.pinned in
     let pairs = c.scan_root_down-scan.new.pairs in
     subst (λ (x : TableView). IfOk c.scan_root_down-scan.result (IsReverseListed x.layout c.args.pass.now later c.args.from.now c.args.upto.now c.args.limit pairs)) c.self.view_is
     (if_answered c.scan_root_down-scan.result (HasScannedDown c.scan_root_down-scan.new.seat.known range pairs) (IsReverseListed layout c.args.pass.now later c.args.from.now c.args.upto.now c.args.limit pairs)
     (λ more h. subst (λ (z : PassView). IsReverseListed layout z later c.args.from.now c.args.upto.now c.args.limit pairs more) c.pass.view_is
-    (scan_answered_down c.pass.inside.seat c.unpin.new.seat c.pass.invariant (looked c.pass.invariant c.pin.ensures.steps s.looks.1) c.unpin.ensures.step.event range s.keys pinned pairs more h)) s.scanned)
+    (scan_answered_down c.pass.inside.seat c.unpin.new.seat c.pass.invariant (looked c.pass.invariant c.pin.ensures.steps s.looks.3) c.unpin.ensures.step.event range s.keys pinned pairs more h)) s.scanned)
 
 pub returns-clause-err : goal.returns-clause-err
 returns-clause-err g c =
@@ -51,13 +51,13 @@ returns-clause-err g c =
     subst (λ (x : TableView). OnErr c.scan_root_down-scan.result (IsUnnoted x.layout c.args.pass.now later)) c.self.view_is
     (if_refused c.scan_root_down-scan.result (IsUnnoted layout c.args.pass.now later)
     (subst (λ (z : PassView). IsUnnoted layout z later) c.pass.view_is
-    (scan_refused c.pass.inside.seat c.unpin.new.seat c.pass.invariant (looked c.pass.invariant c.pin.ensures.steps s.looks.1) c.unpin.ensures.step.event)))
+    (scan_refused c.pass.inside.seat c.unpin.new.seat c.pass.invariant (looked c.pass.invariant c.pin.ensures.steps s.looks.3) c.unpin.ensures.step.event)))
 
 pub returns-clause-steps : goal.returns-clause-steps
 returns-clause-steps g c = rw (← c.pass.view_is) (scan_counted (scan_loads c.args.limit) c.pin.ensures.steps c.scan_root_down-scan.ensures.few c.unpin.ensures.step)
 
 pub returns-clause-read : goal.returns-clause-read
 returns-clause-read g c =
-    subst (λ (x : TableView). HasRead x g.G.Gate.becomes (c.args.pass.now, c.args.gate.now) (pass_of c.unpin.new.seat, c.unpin.new.gate)) c.self.view_is
-    (subst (λ (z : PassView). HasRead c.self.inside.table g.G.Gate.becomes (z, c.args.gate.now) (pass_of c.unpin.new.seat, c.unpin.new.gate)) c.pass.view_is
-    (has_read c.self.inside.table g.G.Gate.becomes c.pin.ensures.steps c.scan_root_down-scan.ensures.looks.1 c.unpin.ensures.step))
+    subst (λ (x : TableView). HasGotRange x g.G.Gate.becomes c.args.limit (c.args.pass.now, c.args.gate.now) (pass_of c.unpin.new.seat, c.unpin.new.gate)) c.self.view_is
+    (subst (λ (z : PassView). HasGotRange c.self.inside.table g.G.Gate.becomes c.args.limit (z, c.args.gate.now) (pass_of c.unpin.new.seat, c.unpin.new.gate)) c.pass.view_is
+    (has_walked c.self.inside.table g.G.Gate.becomes c.args.limit c.pin.ensures.steps c.scan_root_down-scan.ensures.looks c.unpin.ensures.step))
