@@ -67,6 +67,8 @@ def load(path: str) -> ctypes.CDLL:
         "scan": [handle, *key, *key, POINTER(Pair), c_size_t, POINTER(c_size_t), POINTER(c_uint32)],
         "census": [handle, POINTER(Counts)],
         "after": [POINTER(Pair), POINTER(c_uint8), POINTER(c_size_t)],
+        "scan_reverse": [handle, *key, *key, POINTER(Pair), c_size_t, POINTER(c_size_t), POINTER(c_uint32)],
+        "before": [POINTER(Pair), POINTER(c_uint8), POINTER(c_size_t)],
     }
     for name, words in types.items():
         call = getattr(hot, f"hot_{name}")
@@ -157,6 +159,19 @@ class Index:
             if more.value:
                 self.hot.hot_after(pairs[count.value - 1], key, length)
                 start = bytes(key[: length.value])
+
+    def scan_reverse(self, start: bytes = b"", end: bytes = b"\xff" * MAX_KEY, thread: int = 0):
+        """The same from the last one downwards."""
+        pairs, count, more = (Pair * PAGE)(), c_size_t(), c_uint32(1)
+        key, length = (c_uint8 * MAX_KEY)(), c_size_t()
+        while more.value:
+            handle = self.handles[thread]
+            self.check(self.hot.hot_scan_reverse(handle, start, len(start), end, len(end), pairs, PAGE, byref(count), byref(more)))
+            for pair in pairs[: count.value]:
+                yield bytes(pair.key[: pair.length]), pair.value
+            if more.value:
+                self.hot.hot_before(pairs[count.value - 1], key, length)
+                end = bytes(key[: length.value])
 
 
 def shown(value: int | None) -> str:
