@@ -64,6 +64,29 @@ fn a_scan_leaves_no_pin(rt: HostRuntime) {
     assert!(rt; scan.is_ok_and(|scan| scan.pairs.len() == 2 && !scan.more));
 }
 
+/// And so does a scan downwards.
+#[test]
+fn a_scan_downwards_leaves_no_pin(rt: HostRuntime) {
+    let Ok((index, mut passes)) = index_at_last(rt.alloc(), 2) else {
+        panic!(rt; "no index")
+    };
+    let (Some(mut other), Some(mut pass)) = (passes.pop(), passes.pop()) else {
+        panic!(rt; "no passes")
+    };
+    let (low, high) = (key(&rt, b""), key(&rt, &[255; 240]));
+    assert!(rt; index.try_insert(&mut other, &low, 1) == Ok(Reply::Inserted));
+    assert!(rt; index.try_insert(&mut other, &high, 2) == Ok(Reply::Inserted));
+    let scan = index.scan_reverse(rt.alloc(), &mut pass, &low, &high, 9);
+    assert!(rt; index.try_upsert(&mut other, &high, 3) == Ok(Reply::Was(2)));
+    assert!(rt; index.collect(&mut other).leaves == 1);
+    let last = match index.last(rt.alloc(), &mut pass, &high) {
+        Ok(last) => Ok(last),
+        Err(_) => index.last(rt.alloc(), &mut pass, &high),
+    };
+    assert!(rt; scan.is_err() || scan.is_ok_and(|scan| scan.pairs.len() == 2 && !scan.more));
+    assert!(rt; last.is_ok_and(|last| last.is_some_and(|pair| pair.0 == high && pair.1 == 3)));
+}
+
 /// Gives a replay each step, once more where it wanted memory.
 #[derive(Drop)]
 struct Insisting {

@@ -6,11 +6,13 @@ use std::alloc::Global;
 use std::io;
 use std::io::ErrorKind;
 
-/// What a pass may do: make a call, list so many pairs from the lowest key on, or make a round of collection.
+/// What a pass may do: make a call, list so many pairs from the lowest key on or from the highest one downwards, or make a round of
+/// collection.
 #[derive(Drop)]
 pub enum Deed {
     Make(Call),
     List(usize),
+    ListDown(usize),
     Collect,
 }
 
@@ -88,6 +90,7 @@ fn push_deeds(deeds: &mut Vec<Deed>, words: &[&str]) -> io::Result<()> {
     let (name, word, value) = match *words {
         ["collect"] => return Ok(deeds.push(Deed::Collect)?),
         ["scan", limit] => return Ok(deeds.push(Deed::List(count(limit)? as usize))?),
+        ["scan_reverse", limit] => return Ok(deeds.push(Deed::ListDown(count(limit)? as usize))?),
         [name, word] => (name, word, 0),
         [name, word, value] => (name, word, number(value)?),
         _ => return Err(bad_line()),

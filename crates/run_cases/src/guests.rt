@@ -5,7 +5,7 @@ ghost use Rattle.hot_index.specs.Passes.{Owns};
 
 use crate::cases::{Deed, bad_line};
 use finite_map::Call;
-use hot_index::{Gate, Index, Pass, Reply, Scan, TryFault, create};
+use hot_index::{Gate, Index, Pairs, Pass, Reply, Scan, TryFault, create};
 use key_bits::Key;
 use std::alloc::{AllocError, Global};
 use std::io;
@@ -65,10 +65,11 @@ impl<'a> Guest<'a> {
                 Deed::Make(call) => say(said, self.make(call, gate))?,
                 Deed::List(limit) => {
                     let scan = self.list(*said.allocator(), *limit, gate)?;
-                    for (_, value) in scan.pairs.iter() {
-                        write!(said, "{value} ")?;
-                    }
-                    said.push_str(if scan.more { "and more" } else { "listed" })?;
+                    say_scan(said, &scan)?;
+                }
+                Deed::ListDown(limit) => {
+                    let scan = self.list_down(*said.allocator(), *limit, gate)?;
+                    say_scan(said, &scan)?;
                 }
                 Deed::Collect => {
                     let given = self.index.collect_with(&mut self.pass, gate);
@@ -88,6 +89,26 @@ impl<'a> Guest<'a> {
     ) -> Result<Scan, AllocError> {
         self.index
             .scan_with(alloc, &mut self.pass, &lowest(), &highest(), limit, gate)
+    }
+
+    /// So many pairs from the highest key downwards.
+    pub fn list_down<G: Gate>(
+        &mut self,
+        alloc: Global,
+        limit: usize,
+        gate: &mut G,
+    ) -> Result<Scan, AllocError> {
+        let mut list = Pairs::new(alloc);
+        let more = self.index.scan_reverse_into_with(
+            &mut self.pass,
+            &lowest(),
+            &highest(),
+            limit,
+            &mut list,
+            gate,
+        )?;
+        let pairs = list.to_vec(alloc)?;
+        Ok(Scan { pairs, more })
     }
 
     fn make<G: Gate>(&mut self, call: &Call, gate: &mut G) -> Result<Reply, TryFault> {
@@ -119,6 +140,14 @@ fn highest() -> Key {
         Ok(key) => key,
         Err(_) => lowest(),
     }
+}
+
+/// Adds the values of the pairs that were listed, and whether there are more.
+fn say_scan(said: &mut String, scan: &Scan) -> Result<(), AllocError> {
+    for (_, value) in scan.pairs.iter() {
+        write!(said, "{value} ")?;
+    }
+    said.push_str(if scan.more { "and more" } else { "listed" })
 }
 
 /// Adds what a call was answered.

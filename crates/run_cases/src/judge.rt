@@ -30,10 +30,13 @@ impl Judge {
         })
     }
 
-    /// Holds what a scan of all keys finds against what the steps so far have made.
+    /// Holds what a scan of all keys finds, and one downwards, against what the steps so far have made.
     pub fn compare(&mut self, alloc: Global, guest: &mut Guest) -> Result<(), AllocError> {
-        let scan = guest.list(alloc, usize::MAX, self)?;
-        if scan.more || scan.pairs != self.replay.content(alloc)? {
+        let up = guest.list(alloc, usize::MAX, self)?;
+        let mut down = guest.list_down(alloc, usize::MAX, self)?;
+        down.pairs.reverse();
+        let content = self.replay.content(alloc)?;
+        if up.more || down.more || up.pairs != content || down.pairs != content {
             self.wrong = self.wrong.wrapping_add(1);
         }
         Ok(())

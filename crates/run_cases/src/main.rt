@@ -1,5 +1,6 @@
 //! Runs of several passes on small indexes, as cases in files ask for them: each step is judged by a replay, and what happened is
-//! printed. A line of a case is one of these; a deed is a call (`insert 61 5`), `scan 9` or `collect`, and commas part deeds.
+//! printed. A line of a case is one of these; a deed is a call (`insert 61 5`), `scan 9`, `scan_reverse 9` or `collect`, and commas
+//! part deeds.
 //!
 //! - `index NODES LEAVES` begins a new case, `before DEEDS` says what pass 0 does on each new index, `other DEEDS` what pass 1 may
 //!   do at a stop, and `keys KEY ..` with which keys deeds are made by chance
