@@ -18,7 +18,6 @@ use crate::room::Room;
 use epochs::{Given, collect_round, collect_small, pin, unpin};
 use finite_map::Reply;
 use key_bits::Key;
-use record_words::Layout;
 use rowex_core::Gate;
 use rowex_table::{HotTable, TableSeat};
 use rowex_writing::{Aim, Ask, Full, TryFault, attempt};
@@ -78,9 +77,11 @@ fn try_twice<G: Gate>(
         return first;
     };
     let round = collect_round(table, seat, gate);
-    room.held_back = round.held_back;
+    let passes = table.layout().passes;
+    let count = given_of(round.given, lacks);
+    room.is_moving = round.held_back || may_be_taken(passes, count);
     room.pass_none_by();
-    if has_room(table.layout(), round.given, lacks) {
+    if has_room(passes, count) {
         return try_once(table, seat, gate, room, ask, key, value);
     }
     refuse_again(table, seat, gate);
@@ -99,13 +100,23 @@ fn lacked(answer: Result<Reply, TryFault>) -> Option<Full>
     }
 }
 
-/// Whether a record of this kind may be free after a round: one that the round gave back, or that another pass gave back meanwhile.
-fn has_room(layout: Layout, given: Given, kind: Full) -> bool {
-    let count = match kind {
+/// How many records of this kind a round gave back.
+fn given_of(given: Given, kind: Full) -> u32 {
+    match kind {
         Full::Nodes => given.nodes,
         Full::Leaves => given.leaves,
-    };
-    layout.passes > 1 || count > 0
+    }
+}
+
+/// Whether a record of a kind may be free after a round that gave back so many: one of these, or one that another of so many passes gave
+/// back meanwhile.
+fn has_room(passes: u32, given: u32) -> bool {
+    passes > 1 || given > 0
+}
+
+/// Whether a round gave back records that another of so many passes may have taken before the next attempt.
+fn may_be_taken(passes: u32, given: u32) -> bool {
+    passes > 1 && given > 0
 }
 
 /// Makes an attempt that does nothing: it pins the pass and clears the pin.
@@ -117,7 +128,7 @@ fn refuse_again<G: Gate>(table: &HotTable, seat: &mut TableSeat, gate: &mut G)
     unpin(table, seat, gate);
 }
 
-/// Tries to make a change until no other pass is in its way or holds back the records that it lacks.
+/// Tries to make a change until no other pass is in its way, holds back the records that it lacks, or may have taken them.
 pub fn change<R: Wait, G: Gate>(
     rt: &R,
     table: &HotTable,
@@ -137,7 +148,7 @@ pub fn change<R: Wait, G: Gate>(
         match try_change(table, seat, gate, room, ask, key, value) {
             Ok(reply) => return Ok(reply),
             Err(fault) => {
-                if let Some(full) = refusal(fault, room.held_back) {
+                if let Some(full) = refusal(fault, room.is_moving) {
                     return Err(full);
                 }
                 thread::yield_now();
@@ -147,13 +158,13 @@ pub fn change<R: Wait, G: Gate>(
     unreachable!()
 }
 
-/// The refusal with which a call that waits ends, if it ends: not if another pass is in its way, or holds records back.
-fn refusal(fault: TryFault, held_back: bool) -> Option<Full>
+/// The refusal with which a call that waits ends, if it ends: not if another pass is in its way, or records are moving.
+fn refusal(fault: TryFault, is_moving: bool) -> Option<Full>
     ensures { IfSome result (λ full. fault ≡ fault_of full) }
 {
     match fault {
-        TryFault::FullNodes if !held_back => Some(Full::Nodes),
-        TryFault::FullLeaves if !held_back => Some(Full::Leaves),
+        TryFault::FullNodes if !is_moving => Some(Full::Nodes),
+        TryFault::FullLeaves if !is_moving => Some(Full::Leaves),
         _ => None,
     }
 }

@@ -409,9 +409,9 @@ impl Index {
     /// Inserts a key with a value: `Inserted`; or `Exists` with the value that the key has already, and keeps.
     ///
     /// Where `try_insert` would answer `Busy`, it lets other threads run and begins again, as often as need be. So it does if it
-    /// finds no record free while a call of another pass holds back retired ones. It returns once no other pass is in its way. It
-    /// is refused if it found each record of a kind in use, again after a round of collection; it has changed nothing then, and
-    /// holds no lock and no record.
+    /// finds no record free while a call of another pass holds back retired ones, or may have taken those that a round gave back.
+    /// It returns once no other pass is in its way. It is refused if it found each record of a kind in use, again after a round of
+    /// collection; it has changed nothing then, and holds no lock and no record.
     pub fn insert<R: Wait>(
         &self,
         rt: &R,

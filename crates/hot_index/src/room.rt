@@ -19,8 +19,9 @@ pub struct Room {
     pub build: Build,
     /// What the pass has retired and not given back yet.
     pub limbo: Limbo,
-    /// Whether the last full round saw a retired record that a pass may still reach.
-    pub held_back: bool,
+    /// Whether records were moving at the last full round: it saw a retired one that a pass may still reach, or it gave back some of the
+    /// kind that was lacked, which other passes may have taken since.
+    pub is_moving: bool,
 }
 
 impl Room {
@@ -94,7 +95,7 @@ pub fn new_room(alloc: Global, layout: Layout, number: u16) -> Result<Box<Room>,
         way: ArrayVec::new(),
         build,
         limbo: Limbo::new(),
-        held_back: false,
+        is_moving: false,
     };
     Ok(Box::new(alloc, room)?)
 }
