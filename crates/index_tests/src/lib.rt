@@ -13,4 +13,6 @@ mod refused;
 #[cfg(test)]
 mod reuse;
 #[cfg(test)]
+mod stamps;
+#[cfg(test)]
 mod streams;

@@ -1,0 +1,75 @@
+//! What passes have seen, told to another one by stamps that come with the ends of threads.
+
+ghost use Rattle.std.specs.Prelude.{All};
+ghost use Rattle.hot_index.specs.Passes.{Owns};
+ghost use Rattle.hot_index.specs.Stamps.{IsStampFrom};
+
+use crate::made::*;
+use hot_index::{Index, Key, Pass, Reply, Stamp};
+use std::process::Abort;
+use std::sync::Wait;
+use std::test::*;
+use std::thread::{Threads, join};
+
+/// The last of the passes that are left.
+fn next_pass(rt: &impl Abort, index: &Index, passes: &mut Vec<Pass>) -> Pass
+    requires { All (Owns index.now) passes.old.items }
+    ensures one { Owns index.now result }
+    ensures rest { All (Owns index.now) passes.new.items }
+{
+    let _ = index;
+    match passes.pop() {
+        Some(pass) => pass,
+        None => panic!(rt; "no pass"),
+    }
+}
+
+/// Inserts a key by a pass that ends then. Answers a stamp of what the pass had seen, if the key was inserted.
+fn insert_stamped<R: Wait>(rt: &R, index: &Index, mut pass: Pass, key: &Key) -> (bool, Stamp)
+    requires { Owns index.now pass }
+    ensures { IsStampFrom index.now result.1 }
+{
+    let told = index.insert(rt, &mut pass, key, 1);
+    (told == Ok(Reply::Inserted), index.stamp(&mut pass))
+}
+
+/// Inserts two keys at the same time, each by a thread.
+fn insert_both<R: Threads + Wait + Sync>(
+    rt: &R,
+    index: &Index,
+    passes: (Pass, Pass),
+    keys: &(Key, Key),
+) -> ((bool, Stamp), (bool, Stamp))
+    requires first { Owns index.now passes.0 }
+    requires second { Owns index.now passes.1 }
+    ensures first { IsStampFrom index.now result.0.1 }
+    ensures second { IsStampFrom index.now result.1.1 }
+{
+    let (first, second) = passes;
+    join(
+        rt,
+        || -> (bool, Stamp)
+            requires { Owns index.now first }
+            ensures { IsStampFrom index.entry.now result.1 }
+        { insert_stamped(rt, index, first, &keys.0) },
+        || -> (bool, Stamp)
+            requires { Owns index.now second }
+            ensures { IsStampFrom index.entry.now result.1 }
+        { insert_stamped(rt, index, second, &keys.1) },
+    )
+}
+
+#[test]
+fn a_pass_that_follows_stamps_finds_what_they_tell_of(rt: HostRuntime) {
+    let (index, mut passes) = index_of(&rt, rt.alloc(), 3, 16, 128);
+    let first = next_pass(&rt, &index, &mut passes);
+    let second = next_pass(&rt, &index, &mut passes);
+    let mut last = next_pass(&rt, &index, &mut passes);
+    let keys = (key(&rt, &[0]), key(&rt, &[1]));
+    let (ours, theirs) = insert_both(&rt, &index, (first, second), &keys);
+    assert!(rt; ours.0 && theirs.0);
+    index.follow(&mut last, ours.1);
+    index.follow(&mut last, theirs.1);
+    assert!(rt; index.get(&mut last, &keys.0) == Some(1));
+    assert!(rt; index.get(&mut last, &keys.1) == Some(1));
+}
