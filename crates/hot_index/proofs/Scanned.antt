@@ -1,7 +1,7 @@
 -- How a scan ends: its pass clears the pin, and adds no note.
 use Rattle.std.specs.Prelude.{IsSome, IfOk, OnErr, Result, Ok, Err}
 use Rattle.std.specs.declared.alloc.AllocError.{AllocError}
-use Rattle.std.proofs.Common.{◌≡◌, ℕ, Bool, List, [], ◌++◌, sym, ap, subst, ◌∙◌, ◌+◌, ◌≤◌, arith}
+use Rattle.std.proofs.Common.{◌≡◌, ◌≢◌, inl, inr, refl, ℕ, Bool, true, List, [], ◌++◌, length, sym, ap, subst, ◌∙◌, ◌+◌, ◌≤◌, arith}
 use Rattle.std.proofs.lemmas.List.{append-nil}
 use Rattle.finite_map.specs.declared.Note.{Note}
 use Rattle.finite_map.specs.declared.Scan.{Scan}
@@ -21,7 +21,7 @@ use Rattle.rowex_table.specs.Seats.{SeatView, TableView}
 use Rattle.rowex_walks.specs.Scan.{Range}
 use Rattle.tries.specs.Keys.{Key}
 use Rattle.hot_index.specs.Passes.{PassView, IsSettled, pass_of}
-use Rattle.hot_index.specs.Answers.{IsListed, IsScanned, IsUnnoted}
+use Rattle.hot_index.specs.Answers.{HasFoundPairs, IsListed, IsListedInPart, IsScanned, IsUnnoted}
 use Rattle.rowex_scanning.specs.Scanning.{HasScanned}
 use Rattle.rowex_scanning.specs.Reverse.{HasScannedDown}
 use Rattle.rowex_scanning.proofs.Scanned.{lawful_scan, lawful_scan_down}
@@ -53,6 +53,14 @@ module _ {layout : Layout} {k j : PassView} {from upto : Key} {limit : ℕ} {pai
 
   pub reverse_listed_refused : IsUnnoted layout k j
   reverse_listed_refused = record { number = h.on.number; front = h.on.front; notes = h.notes; legal = h.legal; makers = h.on.makers }
+
+-- Memory ended with a pair at hand: one that found no room in the list, or those that were not copied.
+module _ {layout : Layout} {k j : PassView} {from upto : Key} {limit : ℕ} {pairs : List (Key × ℕ)} where
+  pub found_further : IsListedInPart layout k j from upto limit pairs → HasFoundPairs layout k j from upto limit
+  found_further h = record { pairs = pairs; more = true; count = length pairs; within = (let n = h.0 in omega (arith, n)); listed = h.1; some = inr (h.0, refl) }
+
+  pub found_some : {more : Bool} → IsListed layout k j from upto limit pairs more → pairs ≢ [] → HasFoundPairs layout k j from upto limit
+  found_some {more = more} h some = record { pairs = pairs; more = more; count = limit; within = omega arith; listed = h; some = inl some }
 
 -- The pass was settled, has looked since, and clears the pin now.
 module _ {layout : Layout} {i : Known} (s t : SeatView) (settled : IsSettled s.known) (looks : HasLooked s.known i) (event : IsEvent layout ClearPin silent i t.known) where

@@ -1,5 +1,5 @@
 -- What calls of an index say.
-use Rattle.std.specs.Prelude.{◌≡◌, ◌≢◌, ◌⊎◌, ℕ, ◌<◌, ◌≤◌, List, [], ◌∷◌, ◌++◌, length, slice_get, Bool, Option, Some, None}
+use Rattle.std.specs.Prelude.{◌≡◌, ◌≢◌, ◌⊎◌, ℕ, ◌<◌, ◌≤◌, List, [], ◌∷◌, ◌++◌, length, slice_get, Bool, true, Option, Some, None}
 use Rattle.finite_map.specs.declared.Change.{Change}
 use Rattle.finite_map.specs.declared.Call.{Call}
 use Rattle.finite_map.specs.declared.Call.TheVariants.{Insert, Upsert, Exchange, Get, Remove, RemoveIf}
@@ -61,6 +61,19 @@ pub record IsListed (layout : Layout) (k j : PassView) (from upto : Key) (limit 
   pub notes : j.notes ≡ k.notes
   pub lawful : (scan : Scan) → scan.pairs.items ≡ pairs → scan.more ≡ more → IsLawfulScan j.fresh.front j.front from upto limit scan
   pub legal : LegalCalls j.front j.number j.notes
+
+-- A scan into a list was refused memory: it is answered as one that was cut at the number of its pairs, which are fewer than the limit.
+abbrev pub IsListedInPart : Layout → PassView → PassView → Key → Key → ℕ → List (Key × ℕ) → Type 0
+IsListedInPart layout k j from upto limit pairs = (length pairs < limit) × IsListed layout k j from upto (length pairs) pairs true
+
+-- A scan was refused memory: it had pairs that were not copied, or found a further one for which its list had no room.
+pub record HasFoundPairs (layout : Layout) (k j : PassView) (from upto : Key) (limit : ℕ) : Type 0 where
+  pub pairs : List (Key × ℕ)
+  pub more : Bool
+  pub count : ℕ
+  pub within : count ≤ limit
+  pub listed : IsListed layout k j from upto count pairs more
+  pub some : (pairs ≢ []) ⊎ ((count < limit) × (more ≡ true))
 
 -- A call was refused or asked nothing of the map: no note is added.
 pub record IsUnnoted (layout : Layout) (k j : PassView) : Type 0 where

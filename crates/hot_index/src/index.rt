@@ -15,7 +15,7 @@ ghost use Rattle.rowex_writing.specs.Asking.{aim_of};
 ghost use Rattle.rowex_writing.specs.Attempts.{asked_call};
 ghost use Rattle.hot_index.specs.Passes.{PassView, Owns, IsNewPass, IsSettled, pass_of};
 ghost use Rattle.hot_index.specs.Counts.{scan_steps};
-ghost use Rattle.hot_index.specs.Answers.{IsListed, IsNoted, IsRefused, IsScanned, IsUnnoted, HaveMet, MayLack, fault_of, got};
+ghost use Rattle.hot_index.specs.Answers.{HasFoundPairs, IsListed, IsListedInPart, IsNoted, IsRefused, IsScanned, IsUnnoted, HaveMet, MayLack, fault_of, got};
 ghost use Rattle.hot_index.specs.Census.{HasCounted};
 ghost use Rattle.hot_index.specs.Many.{AreNoted, HasGotMany, gets};
 ghost use Rattle.hot_index.specs.Traces.{HasCollected, HasGot, HasGotRange, HasMade, HasTold, untold};
@@ -466,7 +466,7 @@ impl Index {
     /// a node that it loads, of which there are at most 6,481 and two for each pair of the limit: so at most 168,606, and 59 for each
     /// pair, whatever others insert meanwhile. It doesn't show a single moment: each pair was in the index at some moment of the call,
     /// and no key is missing that was there all along (if there are more, no key up to the last one listed). If memory is refused, it
-    /// lists nothing.
+    /// lists nothing; that is only if it has found a pair to list.
     pub fn scan(
         &self,
         alloc: Global,
@@ -479,6 +479,7 @@ impl Index {
         ensures own { Owns self.now pass.new }
         ensures ok { IfOk result (IsScanned self.now.layout pass.old pass.new from.now upto.now limit) }
         ensures err { OnErr result (IsUnnoted self.now.layout pass.old pass.new) }
+        ensures memory { OnErr result (HasFoundPairs self.now.layout pass.old pass.new from.now upto.now limit) }
         ensures steps { pass.new.steps ≤ pass.old.steps + scan_steps limit }
         ensures read { HasGotRange self.now untold limit (pass.old, tt) (pass.new, tt) }
     {
@@ -499,6 +500,7 @@ impl Index {
         ensures own { Owns self.now pass.new }
         ensures ok { IfOk result (IsScanned self.now.layout pass.old pass.new from.now upto.now limit) }
         ensures err { OnErr result (IsUnnoted self.now.layout pass.old pass.new) }
+        ensures memory { OnErr result (HasFoundPairs self.now.layout pass.old pass.new from.now upto.now limit) }
         ensures steps { pass.new.steps ≤ pass.old.steps + scan_steps limit }
         ensures read { HasGotRange self.now G.becomes limit (pass.old, gate.old) (pass.new, gate.new) }
     {
@@ -511,7 +513,8 @@ impl Index {
     /// `scan` into a list, whose earlier pairs are dropped. Answers whether the range has more.
     ///
     /// A list keeps its memory when it is used again, and each key is written once, with no more bytes than it has: so this is the
-    /// form for frequent scans. If memory is refused, the list has some of the pairs.
+    /// form for frequent scans. If memory is refused, the list has the first pairs, fewer than the limit, and there is a further one:
+    /// it is a scan that was cut at their number.
     pub fn scan_into(
         &self,
         pass: &mut Pass,
@@ -524,6 +527,7 @@ impl Index {
         ensures own { Owns self.now pass.new }
         ensures ok { IfOk result (IsListed self.now.layout pass.old pass.new from.now upto.now limit pairs.new) }
         ensures err { OnErr result (IsUnnoted self.now.layout pass.old pass.new) }
+        ensures part { OnErr result (IsListedInPart self.now.layout pass.old pass.new from.now upto.now limit pairs.new) }
         ensures steps { pass.new.steps ≤ pass.old.steps + scan_steps limit }
         ensures read { HasGotRange self.now untold limit (pass.old, tt) (pass.new, tt) }
     {
@@ -544,6 +548,7 @@ impl Index {
         ensures own { Owns self.now pass.new }
         ensures ok { IfOk result (IsListed self.now.layout pass.old pass.new from.now upto.now limit pairs.new) }
         ensures err { OnErr result (IsUnnoted self.now.layout pass.old pass.new) }
+        ensures part { OnErr result (IsListedInPart self.now.layout pass.old pass.new from.now upto.now limit pairs.new) }
         ensures steps { pass.new.steps ≤ pass.old.steps + scan_steps limit }
         ensures read { HasGotRange self.now G.becomes limit (pass.old, gate.old) (pass.new, gate.new) }
     {

@@ -33,6 +33,15 @@ pub record HasScanned (k : Known) (g : Range) (pairs : List (Key × ℕ)) (more 
   pub pairs_are : pairs ≡ turned taken
   pub answer : Sure k (λ s. IsAnswer s (since k) g taken more)
 
+-- the range with another limit
+abbrev pub limited : Range → ℕ → Range
+limited g limit = record g { limit = limit }
+
+-- Memory has ended: the pass is sure of the pairs so far, which are fewer than the limit, as of those of a scan that was cut at their
+-- number.
+abbrev pub HasScannedPart : Known → Range → List (Key × ℕ) → Type 0
+HasScannedPart k g pairs = (length pairs < g.limit) × HasScanned k (limited g (length pairs)) pairs true
+
 -- What became of the pairs at one with this key and value, which is not below the range: it belonged to the range; or it was above
 -- the range; or it belonged to the range and there was no room.
 abbrev pub IsPairTaken : Range → List (Key × ℕ) → Key → ℕ → List (Key × ℕ) → Verdict → Type 0
@@ -46,6 +55,13 @@ pub record IsLeafTaken (k j : Known) (g : Range) (number : ℕ) (xs ys : List (K
   pub value : ℕ
   pub read : (m : ℕ) → IsLedTo k m (Leaf number) → Sure j (λ s. IsRead s m number key value)
   pub taken : IsPairTaken g xs key value ys verdict
+
+-- Memory ended at the pair, or at the leaf: it is as if the limit had been the number of the pairs.
+abbrev pub IsPairRefused : Range → List (Key × ℕ) → Key → ℕ → List (Key × ℕ) → Type 0
+IsPairRefused g xs k v ys = (length xs ≢ g.limit) × IsPairTaken (limited g (length xs)) xs k v ys Full
+
+abbrev pub IsLeafRefused : Known → Known → Range → ℕ → List (Key × ℕ) → List (Key × ℕ) → Type 0
+IsLeafRefused k j g number xs ys = (length xs ≢ g.limit) × IsLeafTaken k j (limited g (length xs)) number xs ys Full
 
 -- The leaf's key, whenever the pass reads it, is not below this one.
 abbrev pub IsNotBelow : Layout → Known → ℕ → Key → ℕ → Type 0

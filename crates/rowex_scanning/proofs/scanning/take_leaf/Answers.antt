@@ -3,7 +3,8 @@ use Rattle.std.proofs.Common.{take}
 use Rattle.std.proofs.lemmas.Result.{IfOk-weaker}
 use Rattle.rowex_reading.specs.Reads.{leaf_loads}
 use Rattle.rowex_reading.proofs.Led.{reader_then, reads_later}
-use Rattle.rowex_scanning.specs.Scanning.{asked_range, IsLeafTaken, IsPairTaken}
+use Rattle.rowex_scanning.specs.Scanning.{asked_range, IsLeafRefused, IsLeafTaken, IsPairRefused, IsPairTaken}
+use Rattle.rowex_scanning.proofs.Parts.{on_refusal}
 use Rattle.rowex_scanning.proofs.scanning.take_leaf.Goals as goal
 
 pub load_bytes-length-requires-clause-led : goal.load_bytes-length-requires-clause-led
@@ -22,4 +23,11 @@ returns-clause-taken g c =
     let key = take c.load_bytes-length.result.0 c.load_bytes-length.new.places in let value = c.load_bytes-length.result.1 in
     IfOk-weaker c.take_pair.result (IsPairTaken (asked_range c.args.range.now) c.args.pairs.now key value c.take_pair.new.pairs)
     (IsLeafTaken c.args.seat.now.known c.load_bytes-length.new.seat.known (asked_range c.args.range.now) c.args.number c.args.pairs.now c.take_pair.new.pairs)
-    (λ verdict taken. record { key = key; value = value; read = c.load_bytes-length.ensures.leaf; taken = taken }) c.take_pair.ensures
+    (λ verdict taken. record { key = key; value = value; read = c.load_bytes-length.ensures.leaf; taken = taken }) c.take_pair.ensures.taken
+
+pub returns-clause-refused : goal.returns-clause-refused
+returns-clause-refused g c =
+    let key = take c.load_bytes-length.result.0 c.load_bytes-length.new.places in let value = c.load_bytes-length.result.1 in
+    let old = c.args.pairs.now in let new = c.take_pair.new.pairs in let asked = asked_range c.args.range.now in
+    on_refusal c.take_pair.result (IsPairRefused asked old key value new) (IsLeafRefused c.args.seat.now.known c.load_bytes-length.new.seat.known asked c.args.number old new)
+    (λ refused. (refused.0, record { key = key; value = value; read = c.load_bytes-length.ensures.leaf; taken = refused.1 })) c.take_pair.ensures.refused

@@ -9,8 +9,8 @@ pub returns-clause-ok : goal.returns-clause-ok
 returns-clause-ok c =
     let more = c.in_ok-scan_reverse_into.field-0 in
     let items = c.in_ok-pairs.pairs.items in
-    let few : length items ≤ 1 = subst (λ (l : List (List ℕ × ℕ)). length l ≤ 1) (sym c.in_ok-pairs.ensures) (last_at_most c.in_ok-scan_reverse_into.ensures.ok (record { pairs = c.in_ok-pairs.pairs; more = more }) c.in_ok-pairs.ensures refl) in
-    let taken : option_to_list c.pop.result ≡ c.scan_reverse_into.new.pairs = only items c.pop.new.self.items c.pop.result c.pop.ensures.items few (λ inside. c.pop.ensures.variant.1 (let ok = c.in_ok-pairs.pairs.ok.0 in omega (arith, ok, inside))) ∙ c.in_ok-pairs.ensures in
+    let few : length items ≤ 1 = subst (λ (l : List (List ℕ × ℕ)). length l ≤ 1) (sym c.in_ok-pairs.ensures.list) (last_at_most c.in_ok-scan_reverse_into.ensures.ok (record { pairs = c.in_ok-pairs.pairs; more = more }) c.in_ok-pairs.ensures.list refl) in
+    let taken : option_to_list c.pop.result ≡ c.scan_reverse_into.new.pairs = only items c.pop.new.self.items c.pop.result c.pop.ensures.items few (λ inside. c.pop.ensures.variant.1 (let ok = c.in_ok-pairs.pairs.ok.0 in omega (arith, ok, inside))) ∙ c.in_ok-pairs.ensures.list in
     let from = c.of_places-empty.ensures in (
       more,
       subst (λ pairs. IsReverseListed c.args.self.now.layout c.args.pass.now c.scan_reverse_into.new.pass [] c.args.upto.now 1 pairs more) (sym taken)
