@@ -6,17 +6,17 @@ use key_bits::Key;
 /// A call on the map.
 #[derive(Drop)]
 pub enum Call {
-    /// Gives the key the value where it has none.
+    /// Gives the key the value if it has none.
     Insert(Key, u64),
     /// Gives the key the value, whether it has one or not.
     Upsert(Key, u64),
-    /// Gives the key the second value where it has the first: a compare-and-exchange.
+    /// Gives the key the second value if it has the first: a compare-and-exchange.
     Exchange(Key, u64, u64),
     /// Asks for the value of the key.
     Get(Key),
-    /// Takes the key away.
+    /// Removes the key.
     Remove(Key),
-    /// Takes the key away where it has the value.
+    /// Removes the key if it has the value.
     RemoveIf(Key, u64),
 }
 

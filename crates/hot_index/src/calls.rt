@@ -1,4 +1,4 @@
-//! A call of the map by its value, tried once or twice: it waits for nobody.
+//! A call that is given as a value, tried once or twice: it never blocks.
 
 ghost use Rattle.std.specs.Prelude.{◌≡◌, ◌+◌, ◌≤◌, IfErr, MatchResult};
 ghost use Rattle.rowex_writing.specs.declared.plan.Full.{Full as FullValue};
@@ -13,10 +13,10 @@ use rowex_core::Gate;
 use rowex_writing::{Ask, TryFault};
 
 impl Index {
-    /// Makes a call of the map, as `get`, `try_insert`, `try_upsert`, `try_exchange`, `try_remove` or `try_remove_if` does, with a
+    /// Makes any of the calls, as `get`, `try_insert`, `try_upsert`, `try_exchange`, `try_remove` or `try_remove_if` does, with a
     /// gate that is told each of its steps.
     ///
-    /// It has `try_insert`'s bound of steps. A get is never refused, and neither removal as full of leaves.
+    /// It makes no more steps than `try_insert` may. A get is never refused, and neither removal as full of leaves.
     pub fn try_call_with<G: Gate>(
         &self,
         pass: &mut Pass,

@@ -20,8 +20,7 @@ pub struct StateCounts {
     pub free: u32,
     /// Claimed by a pass, and not ready yet.
     pub held: u32,
-    /// In use, locked or not. Records that a change has made ready and not linked yet, or has unlinked and not marked yet, are
-    /// among them.
+    /// In use, locked or not. This counts records that a change has made ready and not linked yet, or unlinked and not retired yet.
     pub live: u32,
     /// Retired, and not given back yet.
     pub obsolete: u32,

@@ -21,7 +21,7 @@ pub struct Rest {
     pub upto: Key,
 }
 
-/// What is left of a range of keys that is listed in parts. It is tied to no index and no pass.
+/// What is left of a range of keys that is listed in parts. It may be used with any index and any pass.
 ///
 /// Contracts see the keys that are left, or nothing.
 #[derive(Drop)]
@@ -57,8 +57,8 @@ impl Cursor {
         Cursor::new(prefix, &last_with_prefix(prefix))
     }
 
-    /// Lists the next pairs of the range, at most `limit`, in a list whose earlier pairs are dropped. Answers whether there are
-    /// more; if not, the cursor is at its end, and lists nothing from then on.
+    /// Lists the next pairs of the range, at most `limit`, in a list whose earlier pairs are dropped. Returns whether there are
+    /// more; if not, the cursor is at its end, and each later call lists nothing.
     ///
     /// Each call is a scan of the keys that are left, with a scan's promise and bound on steps; the next call goes on at the least
     /// key above the last one listed. So a key that is inserted between two calls is listed if it lies above that one, and not if

@@ -17,7 +17,7 @@ impl Index {
     /// Compare and exchange: gives a key a new value if it has the expected one (`Exchanged`). Else it changes nothing, and answers
     /// `Differs` with the value that the key has, or `Absent`.
     ///
-    /// It waits for nobody. It has the bound on steps of `try_insert`, and is refused for the same causes.
+    /// It never blocks, makes no more steps than `try_insert` may, and is refused for the same reasons.
     pub fn try_exchange(
         &self,
         pass: &mut Pass,
@@ -55,7 +55,7 @@ impl Index {
     /// Compare and exchange: gives a key a new value if it has the expected one (`Exchanged`). Else it changes nothing, and answers
     /// `Differs` with the value that the key has, or `Absent`.
     ///
-    /// It begins again where `try_exchange` would answer `Busy`, and is refused for the causes of `insert`.
+    /// It begins again where `try_exchange` would answer `Busy`, and is refused for the same reasons as `insert`.
     pub fn exchange<R: Wait>(
         &self,
         rt: &R,
@@ -75,7 +75,7 @@ impl Index {
     /// Removes a key if it has the expected value (`Removed` with that value). Else it changes nothing, and answers `Differs` with
     /// the value that the key has, or `Absent`.
     ///
-    /// It waits for nobody. It has the bound on steps of `try_insert`, and is refused for the causes of `try_remove`.
+    /// It never blocks, makes no more steps than `try_insert` may, and is refused for the same reasons as `try_remove`.
     pub fn try_remove_if(
         &self,
         pass: &mut Pass,
@@ -113,7 +113,7 @@ impl Index {
     /// Removes a key if it has the expected value (`Removed` with that value). Else it changes nothing, and answers `Differs` with
     /// the value that the key has, or `Absent`.
     ///
-    /// It begins again where `try_remove_if` would answer `Busy`, and is refused for the causes of `remove`.
+    /// It begins again where `try_remove_if` would answer `Busy`, and is refused for the same reasons as `remove`.
     pub fn remove_if<R: Wait>(
         &self,
         rt: &R,

@@ -64,8 +64,8 @@ impl Model for Index {
     ghost view = { λ i. i.table };
 }
 
-/// The right of one thread to use an index. At run time it has a number, and lists that its calls reuse. Contracts see what the
-/// pass knows: its seat in the table, the changes that it has seen, and its answered calls.
+/// The right of one thread to use an index. At run time it holds a number and some buffers that its calls reuse. Contracts see what
+/// the pass knows: its seat in the table, the changes that it has seen, and its answered calls.
 #[derive(Drop)]
 pub struct Pass {
     pub(crate) seat: TableSeat,
@@ -93,7 +93,7 @@ impl Pass {
 
 /// Makes an empty index with this number of passes (1 to 64), node records (1 to 65,535) and leaf records (1 to 262,143), and gives
 /// the passes in the order of their numbers. The three numbers are checked first, in this order. All leaf records are long, so a
-/// call that is refused for lack of one has found each of them in use (`laws::lacks_all_long`).
+/// call that is refused for lack of one has found each of them taken (`laws::lacks_all_long`).
 pub fn create(
     alloc: Global,
     passes: u32,
@@ -136,8 +136,8 @@ pub fn create_with(
 impl Index {
     /// The value of the key, or `None` if it is absent.
     ///
-    /// It takes no lock and waits for nobody. It makes at most 36 atomic steps, and 26 for each node on the way to the key, in each of
-    /// which it loads one entry; there are at most 2,160.
+    /// It takes no lock and never blocks. It makes at most 36 atomic steps, and 26 for each node on the way to the key: it loads one
+    /// entry of each, and passes at most 2,160 nodes.
     pub fn get(&self, pass: &mut Pass, key: &Key) -> Option<u64>
         requires { Owns self.now pass.old }
         ensures own { Owns self.now pass.new }
@@ -163,10 +163,10 @@ impl Index {
     /// Looks up many keys, in their order, and writes to `found`, at each key's place, what `get` would answer. `found` has as many
     /// places as there are keys.
     ///
-    /// It takes no lock and no memory, and waits for nobody. It makes at most 4 atomic steps, 266 for each key, and 26 for each
-    /// node on the way to each key, of which there are at most 2,160. The values need not be of one moment, but no key's value is
-    /// of an earlier moment than that of a key before it. The pass stays pinned until the last key has been looked up, and records
-    /// that are retired meanwhile are reused only after that: so pass some hundred keys at a time, and not millions.
+    /// It takes no lock, allocates nothing and never blocks. It makes at most 4 atomic steps, 266 for each key, and 26 for each
+    /// node on the way to each key; a key's way passes at most 2,160 nodes. The values need not be of one moment, but a value is
+    /// never older than those of the keys before it. The pass stays pinned until the last key has been looked up, and records
+    /// that are retired meanwhile are reused only after that: so look up some hundred keys by one call, not millions.
     pub fn get_many(&self, pass: &mut Pass, keys: &[Key], found: &mut [Option<u64>])
         requires own { Owns self.now pass.old }
         requires room { length found.old ≡ length keys.now }
@@ -198,10 +198,10 @@ impl Index {
 
     /// Inserts a key with a value: `Inserted`; or `Exists` with the value that the key has already, and keeps.
     ///
-    /// It waits for nobody. It makes at most 1,400,786 atomic steps, and 2 for each pass, 6 for each node record and 10 for each
-    /// leaf record. It answers `Busy` if another pass has locked or retired what it wants to lock, or has made a change since the
+    /// It never blocks. It makes at most 1,400,786 atomic steps, and 2 for each pass, 6 for each node record and 10 for each leaf
+    /// record. It answers `Busy` if another pass has locked or retired what it wants to lock, or has made a change since the
     /// call's last pin, so never if the index has one pass; and `FullNodes` or `FullLeaves` if it found each node record, or each
-    /// leaf record with room for the key, in use, again after a round of collection. When it is refused it has changed nothing, and
+    /// leaf record with room for the key, taken, again after a round of collection. A call that is refused has changed nothing, and
     /// holds no lock and no record.
     pub fn try_insert(&self, pass: &mut Pass, key: &Key, value: u64) -> Result<Reply, TryFault>
         requires { Owns self.now pass.old }
@@ -240,7 +240,7 @@ impl Index {
 
     /// Gives a key a value, whether it has one or not: `New`, or `Was` with the value that it had.
     ///
-    /// It waits for nobody. It has the bound on steps of `try_insert`, and is refused for the same causes.
+    /// It never blocks, makes no more steps than `try_insert` may, and is refused for the same reasons.
     pub fn try_upsert(&self, pass: &mut Pass, key: &Key, value: u64) -> Result<Reply, TryFault>
         requires { Owns self.now pass.old }
         ensures own { Owns self.now pass.new }
@@ -278,8 +278,8 @@ impl Index {
 
     /// Removes a key: `Removed` with the value that it had, or `Absent`.
     ///
-    /// It waits for nobody. It has the bound on steps of `try_insert`, and is refused for the same causes; but it needs no leaf
-    /// record, and so never answers `FullLeaves`.
+    /// It never blocks, makes no more steps than `try_insert` may, and is refused for the same reasons; but it needs no leaf record,
+    /// and so never answers `FullLeaves`.
     pub fn try_remove(&self, pass: &mut Pass, key: &Key) -> Result<Reply, TryFault>
         requires { Owns self.now pass.old }
         ensures own { Owns self.now pass.new }
@@ -314,7 +314,7 @@ impl Index {
         )
     }
 
-    /// Makes any call of the map, as `get`, `insert`, `upsert`, `exchange`, `remove` or `remove_if` does, with a gate that is told
+    /// Makes any of the calls, as `get`, `insert`, `upsert`, `exchange`, `remove` or `remove_if` does, with a gate that is told
     /// each of its steps.
     ///
     /// A get is never refused, and a removal never answers `Full::Leaves`.
@@ -408,10 +408,11 @@ impl Index {
 
     /// Inserts a key with a value: `Inserted`; or `Exists` with the value that the key has already, and keeps.
     ///
-    /// Where `try_insert` would answer `Busy`, it lets other threads run and begins again, as often as need be. So it does if it
-    /// finds no record free while a call of another pass holds back retired ones, or may have taken those that a round gave back.
-    /// It returns once no other pass is in its way. It is refused if it found each record of a kind in use, again after a round of
-    /// collection; it has changed nothing then, and holds no lock and no record.
+    /// Where `try_insert` would answer `Busy`, it lets other threads run and begins again, as often as need be. It does the same
+    /// where no record is free because a call of another pass keeps retired records from being reused, or because other passes may
+    /// have taken the records that a round of collection gave back. It returns once no other pass is in its way. It is refused if it
+    /// found each record of a kind taken, again after a round of collection; it has changed nothing then, and holds no lock and no
+    /// record.
     pub fn insert<R: Wait>(
         &self,
         rt: &R,
@@ -429,7 +430,7 @@ impl Index {
 
     /// Gives a key a value, whether it has one or not: `New`, or `Was` with the value that it had.
     ///
-    /// It begins again where `try_upsert` would answer `Busy`, and is refused for the causes of `insert`.
+    /// It begins again where `try_upsert` would answer `Busy`, and is refused for the same reasons as `insert`.
     pub fn upsert<R: Wait>(
         &self,
         rt: &R,
@@ -447,7 +448,7 @@ impl Index {
 
     /// Removes a key: `Removed` with the value that it had, or `Absent`.
     ///
-    /// It begins again where `try_remove` would answer `Busy`, and is refused for the causes of `insert`; but it needs no leaf
+    /// It begins again where `try_remove` would answer `Busy`, and is refused for the same reasons as `insert`; but it needs no leaf
     /// record, and so never answers `Full::Leaves`.
     pub fn remove<R: Wait>(&self, rt: &R, pass: &mut Pass, key: &Key) -> Result<Reply, Full>
         requires { Owns self.now pass.old }
@@ -462,11 +463,11 @@ impl Index {
     /// Lists the first `limit` pairs whose keys are from `from` to `upto`, both included, in key order, and tells whether the range
     /// has more.
     ///
-    /// It takes no lock and waits for nobody. It makes at most 100 atomic steps, 7 for each pair of the limit, and 26 for each entry of
-    /// a node that it loads, of which there are at most 6,481 and two for each pair of the limit: so at most 168,606, and 59 for each
-    /// pair, whatever others insert meanwhile. It doesn't show a single moment: each pair was in the index at some moment of the call,
-    /// and no key is missing that was there all along (if there are more, no key up to the last one listed). If memory is refused, it
-    /// lists nothing.
+    /// It takes no lock and never blocks. It makes at most 100 atomic steps, 7 for each pair of the limit, and 26 for each entry of a
+    /// node that it loads: at most 6,481 entries, and two for each pair of the limit. That is at most 168,606 steps, and 59 for each
+    /// pair, whatever others insert meanwhile. It is no snapshot: each pair was in the index at some moment of the call, and no key
+    /// is missing that was there all along (if there are more, no key up to the last one listed). If memory is refused, it lists
+    /// nothing.
     pub fn scan(
         &self,
         alloc: Global,
@@ -508,10 +509,10 @@ impl Index {
         Ok(Scan { pairs, more })
     }
 
-    /// `scan` into a list, whose earlier pairs are dropped. Answers whether the range has more.
+    /// `scan` into a list, whose earlier pairs are dropped. Returns whether the range has more.
     ///
-    /// A list keeps its memory when it is used again, and each key is written once, with no more bytes than it has: so this is the
-    /// form for frequent scans. If memory is refused, the list has some of the pairs.
+    /// A list that is used again keeps its memory, and a key takes no more bytes of it than it has: so this is the form for frequent
+    /// scans. If memory is refused, the list holds some of the pairs.
     pub fn scan_into(
         &self,
         pass: &mut Pass,
@@ -561,9 +562,9 @@ impl Index {
         scan
     }
 
-    /// Lets two passes meet, and gives them back: both have then seen what either had seen, and all that was published before. It
-    /// loads one word three times, and ignores what it finds; these loads count as steps of neither pass, and no gate is told of
-    /// them.
+    /// Lets two passes meet, and gives them back: each has then seen what the other had seen, and all that was published before. It
+    /// loads one word three times and ignores what it finds; these loads aren't counted as steps of either pass, and no gate is told
+    /// of them.
     pub fn meet(&self, first: Pass, second: Pass) -> (Pass, Pass)
         requires { Owns self.now first × Owns self.now second }
         ensures own { Owns self.now result.0 × Owns self.now result.1 }
@@ -585,9 +586,9 @@ impl Index {
     }
 
     /// Makes one round of collection: it advances the epoch, visits each record of the index once, and gives back those that were
-    /// retired in an epoch below all pins, so that no running call can reach them. Answers how many it gave back.
+    /// retired in an epoch below all pins, so that no running call can reach them. Returns how many it gave back.
     ///
-    /// It takes no lock and no memory, and waits for nobody. It makes at most 3 atomic steps, one for each pass, and two for each
+    /// It takes no lock, allocates nothing and never blocks. It makes at most 3 atomic steps, one for each pass, and two for each
     /// record.
     pub fn collect(&self, pass: &mut Pass) -> Given
         requires { Owns self.now pass.old }
@@ -612,7 +613,7 @@ impl Index {
     /// Counts how many node records, and leaf records of each class, are free, held, live and obsolete, and tells how many bytes
     /// the table has. So a program can see why its index is full, and what the next one needs.
     ///
-    /// It takes no lock and no memory, writes no word, and waits for nobody. It makes one atomic step for each record, the load of
+    /// It takes no lock, allocates nothing, changes nothing and never blocks. It makes one atomic step for each record, the load of
     /// its state; so the counts are of no single moment, since others go on meanwhile.
     pub fn census(&self, pass: &mut Pass) -> RecordCounts
         requires { Owns self.now pass.old }

@@ -3,12 +3,12 @@
 ghost use Rattle.hot_index.specs.Statements.{LacksAllLong, OnePassIsNeverBusy, ReturnedBeforeBegun};
 
 /// If all leaf records are long, as in an index that `create` makes, a call that is refused for lack of one has found each of them
-/// in use.
+/// taken.
 pub fn lacks_all_long()
     ensures { LacksAllLong }
 {}
 
-/// A call is refused as busy only if another pass of the index stood in its way: in an index of one pass no call is.
+/// A call is refused as busy only because of another pass of the index: in an index of one pass no call is.
 pub fn one_pass_is_never_busy()
     ensures { OnePassIsNeverBusy }
 {}

@@ -15,7 +15,7 @@ use packed_pairs::Pairs;
 use std::alloc::{AllocError, Global};
 
 impl Index {
-    /// Lists the first `limit` pairs whose keys begin with the prefix, in key order. Answers whether there are more.
+    /// Lists the first `limit` pairs whose keys begin with the prefix, in key order. Returns whether there are more.
     ///
     /// It is a `scan_into` of the range from the prefix to the last key that begins with it, with the same promise and bound on
     /// steps. These are exactly the keys with the prefix (`key_ranges::laws::prefix_is_a_range`).
@@ -36,7 +36,7 @@ impl Index {
         self.scan_into(pass, prefix, &last_with_prefix(prefix), limit, pairs)
     }
 
-    /// The first pair whose key is `from` or above; from the empty key on, the first pair of all.
+    /// The first pair whose key is `from` or above. If `from` is the empty key, that is the first pair of the index.
     ///
     /// It is a scan for one pair, with a scan's promise and bound on steps: the pair was there at some moment of the call, and no
     /// lower key from `from` on was there all along. If memory is refused, it answers nothing.

@@ -20,10 +20,10 @@ impl Index {
     /// Lists the last `limit` pairs whose keys are from `from` to `upto`, both included, in falling key order, and tells whether
     /// the range has more below.
     ///
-    /// It is `scan` from right to left: it takes no lock, waits for nobody, and has the bound on steps of `scan`. It doesn't show a
-    /// single moment: each pair was in the index at some moment of the call, and no key is missing that was there all along (if
-    /// there are more, no key down to the last one listed). To go on, scan up to the `previous_key` of the last pair's key. If
-    /// memory is refused, it lists nothing.
+    /// It is `scan` from right to left: it takes no lock, never blocks, and makes no more steps than `scan` may. It is no snapshot:
+    /// each pair was in the index at some moment of the call, and no key is missing that was there all along (if there are more,
+    /// no key down to the last one listed). To go on, scan up to the `previous_key` of the last pair's key. If memory is refused,
+    /// it lists nothing.
     pub fn scan_reverse(
         &self,
         alloc: Global,
@@ -45,8 +45,8 @@ impl Index {
         Ok(Scan { pairs, more })
     }
 
-    /// `scan_reverse` into a list, whose earlier pairs are dropped; the pair with the greatest key comes first. Answers whether the
-    /// range has more below. If memory is refused, the list has some of the pairs.
+    /// `scan_reverse` into a list, whose earlier pairs are dropped; the pair with the greatest key comes first. Returns whether the
+    /// range has more below. If memory is refused, the list holds some of the pairs.
     pub fn scan_reverse_into(
         &self,
         pass: &mut Pass,
@@ -96,8 +96,8 @@ impl Index {
         scan
     }
 
-    /// The last pair whose key is `upto` or below; up to the last key with the empty prefix (`last_with_prefix`), the last pair of
-    /// all.
+    /// The last pair whose key is `upto` or below. If `upto` is the greatest key that there can be (`last_with_prefix` of the empty
+    /// key), that is the last pair of the index.
     ///
     /// It is a scan downwards for one pair, with its promise and bound on steps: the pair was there at some moment of the call, and
     /// no greater key up to `upto` was there all along. If memory is refused, it answers nothing.

@@ -53,7 +53,7 @@ impl<'a, T: Wait> Caller for Waits<'a, T> {
     }
 }
 
-/// Its pass is the only one of the index: it waits for nobody.
+/// Its pass is the only one of the index: it never waits.
 #[derive(Drop)]
 pub struct Alone;
 

@@ -27,8 +27,8 @@ pub use scripts::{run_scripts, run_scripts_with};
 use std::alloc::Global;
 use std::io::{Read, Write};
 
-/// Runs one script on a new index with one pass and this number of node and leaf records. It waits for nobody, and ends once its
-/// reader and its writer have.
+/// Runs one script on a new index with one pass and this number of node and leaf records. It waits for no other
+/// thread, and returns once its reads and writes have returned.
 pub fn run_one<R: Read, W: Write>(
     alloc: Global,
     nodes: u32,

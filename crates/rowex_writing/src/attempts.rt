@@ -38,7 +38,7 @@ use thiserror::Error;
 /// Why an attempt was refused. It has changed nothing then.
 #[derive(Clone, Copy, Debug, PartialEq, Eq, Error)]
 pub enum TryFault {
-    /// Another pass had locked or retired what it wanted to lock, or has made a change since the attempt began.
+    /// Another pass had locked or retired a record that the attempt had to lock, or has made a change since the attempt began.
     #[error("another pass is at work there")]
     Busy,
     /// No node record was free.
