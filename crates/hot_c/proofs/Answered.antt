@@ -4,8 +4,14 @@ use Rattle.key_bits.specs.declared.KeyFault.{KeyFault}
 use Rattle.key_bits.specs.declared.TheConstants.{MAX_BYTES}
 use Rattle.finite_map.specs.declared.Call.{Call}
 use Rattle.finite_map.specs.declared.Reply.{Reply}
+use Rattle.rowex_table.specs.Seats.{TableView}
+use Rattle.rowex_writing.specs.Attempts.{asked_call}
 use Rattle.rowex_writing.specs.declared.attempts.TryFault.{TryFault}
-use Rattle.hot_c.specs.Calls.{Answers, HasOutcome, FitsInKey}
+use Rattle.rowex_writing.specs.declared.plan.Ask.{Ask}
+use Rattle.rowex_writing.specs.declared.plan.Ask.TheVariants as ask
+use Rattle.hot_index.specs.Passes.{PassView}
+use Rattle.hot_index.specs.Traces.{HasMade, untold}
+use Rattle.hot_c.specs.Calls.{Answers, HasOutcome, FitsInKey, MakesSteps}
 use Rattle.hot_c.specs.Statuses.{reply_status, value_after}
 use Rattle.hot_c.specs.declared.opened.Opened.{Opened}
 
@@ -17,9 +23,9 @@ pub of_key : (bytes k : List ℕ) (r : Result (List ℕ) KeyFault) → r ≡ Ok 
 of_key bytes k r is fits same = (subst (λ (x : Result (List ℕ) KeyFault). IfOk x (λ key. key ≡ bytes)) is same, fits.0 (subst IsOk (sym is) refl))
 
 pub answered : (call : List ℕ → Call) (bytes k : List ℕ) (old new : Option Opened) (before after status : ℕ) (s u : Opened) (outcome : Result Reply TryFault)
-    → old ≡ Some s → new ≡ Some u → u.index ≡ s.index → HasOutcome (call k) outcome s.index.value s.pass u.pass → (k ≡ bytes) × FitsInKey bytes
+    → old ≡ Some s → new ≡ Some u → u.index ≡ s.index → HasOutcome (call k) outcome s.index.value s.pass u.pass → MakesSteps (call k) outcome s.index.value s.pass u.pass → (k ≡ bytes) × FitsInKey bytes
     → status ≡ reply_status outcome → after ≡ value_after before outcome → Answers bytes (call bytes) old new before after status
-answered call bytes k old new before after status s u outcome was is index ended fit told left = record {
+answered call bytes k old new before after status s u outcome was is index ended steps fit told left = record {
   closed = λ none. absurd (some_is_none s (sym was ∙ none));
   long = λ some no. absurd (no fit.1);
   made = λ some short. (
@@ -30,9 +36,17 @@ answered call bytes k old new before after status s u outcome was is index ended
       was = was;
       is = is;
       index = index;
-      became = subst (λ (x : List ℕ). HasOutcome (call x) outcome s.index.value s.pass u.pass) fit.0 ended;
+      became = subst (λ (x : List ℕ). HasOutcome (call x) outcome s.index.value s.pass u.pass × MakesSteps (call x) outcome s.index.value s.pass u.pass) fit.0 (ended, steps);
     },
     told,
     left,
   );
 }
+
+-- a change makes attempts, whatever it asks for
+pub attempts : (what : Ask) (key : List ℕ) (value : ℕ) (outcome : Result Reply TryFault) (index : TableView) (k j : PassView) → HasMade index untold outcome (k, tt) (j, tt) → MakesSteps (asked_call what key value) outcome index k j
+attempts ask.Insert key value outcome index k j made = made
+attempts ask.Upsert key value outcome index k j made = made
+attempts (ask.Exchange expected) key value outcome index k j made = made
+attempts ask.Remove key value outcome index k j made = made
+attempts (ask.RemoveIf expected) key value outcome index k j made = made

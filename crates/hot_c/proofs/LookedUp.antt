@@ -1,6 +1,8 @@
 -- Look-ups, answered one after the other.
 use Rattle.std.proofs.Common.{◌≡◌, ℕ, zero, suc, ◌+◌, ◌<◌, List, [], ◌∷◌, ◌++◌, length, map, take, get_or, slice_set, All, Option, None, Some, inl, inr, IsSome, refl, sym, ap, ◌∙◌, subst, arith}
-use Rattle.hot_index.specs.Many.{AreNoted, gets}
+use Rattle.std.proofs.lemmas.List.{length-map}
+use Rattle.hot_index.specs.Many.{AreNoted, HasGotMany, gets}
+use Rattle.hot_index.specs.Traces.{untold}
 use Rattle.hot_c.specs.Calls.{FitsInKey, StaysOpen}
 use Rattle.hot_c.specs.Lookups.{LooksUpAll, answer, are_answered, key_in}
 use Rattle.hot_c.specs.declared.lookups.Lookup.{Lookup}
@@ -41,16 +43,26 @@ some_is_none : (s : Opened) → Some s ≡ None → ⊥
 some_is_none s e = cc
 
 pub looked_up : (old new : Option Opened) (before after : List Lookup) (status : ℕ) (s u : Opened) (keys : List (List ℕ)) (found : List (Option ℕ)) → old ≡ Some s → new ≡ Some u → u.index ≡ s.index
-    → All (λ it. FitsInKey (key_in it)) before → keys ≡ map key_in before → length found ≡ length before → AreNoted s.index.value.layout s.pass u.pass (gets keys found) → status ≡ DONE
+    → All (λ it. FitsInKey (key_in it)) before → keys ≡ map key_in before → length found ≡ length before → AreNoted s.index.value.layout s.pass u.pass (gets keys found) → HasGotMany s.index.value untold (length keys) (s.pass, tt) (u.pass, tt) → status ≡ DONE
     → after ≡ are_answered before found → LooksUpAll old new before after status
-looked_up old new before after status s u keys found was is index fit keys_are many noted done told = record {
+looked_up old new before after status s u keys found was is index fit keys_are many noted steps done told = record {
   closed = λ none. absurd (some_is_none s (sym was ∙ none));
   long = λ some no. absurd (no fit);
   made = λ some short. inl (
     done,
     found,
     many,
-    record { before = s; after = u; was = was; is = is; index = index; became = subst (λ (l : List (List ℕ)). AreNoted s.index.value.layout s.pass u.pass (gets l found)) keys_are noted },
+    record {
+      before = s;
+      after = u;
+      was = was;
+      is = is;
+      index = index;
+      became = (
+        subst (λ (l : List (List ℕ)). AreNoted s.index.value.layout s.pass u.pass (gets l found)) keys_are noted,
+        subst (λ n. HasGotMany s.index.value untold n (s.pass, tt) (u.pass, tt)) (ap length keys_are ∙ length-map before key_in) steps,
+      );
+    },
     told,
   );
 }

@@ -3,6 +3,7 @@ use Rattle.std.specs.Prelude.{◌≡◌, ◌⊎◌, ℕ, ◌≤◌, List, length
 use Rattle.std.specs.Int.{from_bool}
 use Rattle.key_bits.specs.declared.TheConstants.{MAX_BYTES}
 use Rattle.finite_map.specs.declared.Call.{Call}
+use Rattle.finite_map.specs.declared.Call.TheVariants.{Get}
 use Rattle.finite_map.specs.declared.Reply.{Reply}
 use Rattle.finite_map.specs.declared.Scan.{Scan}
 use Rattle.record_words.specs.Limits.{IsPassCount, IsStockPassCount, IsNodeCount, IsLeafCount, IsRecordCount}
@@ -15,7 +16,7 @@ use Rattle.hot_index.specs.Answers.{IsNoted, IsRefused, IsScanned, IsUnnoted}
 use Rattle.hot_index.specs.Census.{HasCounted}
 use Rattle.hot_index.specs.Passes.{PassView, IsNewPass}
 use Rattle.hot_index.specs.Reverse.{IsReverseScanned}
-use Rattle.hot_index.specs.Traces.{HasCollected, untold}
+use Rattle.hot_index.specs.Traces.{HasCollected, HasGot, HasGotRange, HasMade, untold}
 use Rattle.hot_index.specs.declared.census.RecordCounts.{RecordCounts}
 use Rattle.hot_c.specs.Pairs.{AreSpelled}
 use Rattle.hot_c.specs.Statuses.{reply_status, value_after}
@@ -41,13 +42,20 @@ pub record StaysOpen (Became : TableView → PassView → PassView → Type 0) (
 abbrev pub HasOutcome : Call → Result Reply TryFault → TableView → PassView → PassView → Type 0
 HasOutcome call outcome index k j = MatchResult outcome (IsNoted index.layout k j call) (IsRefused index.layout call k j)
 
+-- The steps of a call for a key with this outcome, so many at most: those of a get, or of the attempts at a change.
+abbrev pub MakesSteps : Call → Result Reply TryFault → TableView → PassView → PassView → Type 0
+MakesSteps (Get key) outcome index k j = HasGot index untold (k, tt) (j, tt)
+MakesSteps call outcome index k j = HasMade index untold outcome (k, tt) (j, tt)
+
 -- A call for a key through a handle, which finds `before` where C wants a value and leaves `after`. A closed handle and a key that
--- is too long are told as such, and nothing has changed; else the call is made, and its outcome told.
+-- is too long are told as such, and nothing has changed; else the call is made, by its steps, and its outcome told.
 pub record Answers (key : List ℕ) (call : Call) (old new : Option Opened) (before after status : ℕ) : Type 0 where
   pub closed : old ≡ None → (status ≡ CLOSED) × (new ≡ old) × (after ≡ before)
   pub long : IsSome old → ¬ FitsInKey key → (status ≡ KEY_TOO_LONG) × (new ≡ old) × (after ≡ before)
   pub made : IsSome old → FitsInKey key →
-      (outcome : Result Reply TryFault) × StaysOpen (HasOutcome call outcome) old new × (status ≡ reply_status outcome) × (after ≡ value_after before outcome)
+      (outcome : Result Reply TryFault) ×
+      StaysOpen (λ index k j. HasOutcome call outcome index k j × MakesSteps call outcome index k j) old new
+      × (status ≡ reply_status outcome) × (after ≡ value_after before outcome)
 
 -- what C sees of a scan's answer: its array, the count of pairs, and whether there is a further one
 pub record Listing : Type 0 where
@@ -63,15 +71,17 @@ pub record IsArrayListed (scan : Scan) (before after : Listing) : Type 0 where
   pub more : after.more ≡ from_bool scan.more
 
 -- A scan through a handle, of as many pairs as the array has places. A closed handle and a key that is too long are told as
--- such, and nothing has changed; else the scan is made and listed, or there is no memory and nothing is listed.
-pub record ListsBy (HasMade : Layout → PassView → PassView → List ℕ → List ℕ → ℕ → Scan → Type 0)
+-- such, and nothing has changed; else the scan is made and listed, or there is no memory and nothing is listed. Either way it makes
+-- the steps of a scan, so many at most.
+pub record ListsBy (IsMade : Layout → PassView → PassView → List ℕ → List ℕ → ℕ → Scan → Type 0)
     (from upto : List ℕ) (old new : Option Opened) (before after : Listing) (status : ℕ) : Type 0 where
   pub closed : old ≡ None → (status ≡ CLOSED) × (new ≡ old) × (after ≡ before)
   pub long : IsSome old → ¬ (FitsInKey from × FitsInKey upto) → (status ≡ KEY_TOO_LONG) × (new ≡ old) × (after ≡ before)
   pub made : IsSome old → FitsInKey from → FitsInKey upto →
       ((status ≡ DONE) × (scan : Scan) ×
-      StaysOpen (λ index k j. HasMade index.layout k j from upto (length before.room) scan) old new × IsArrayListed scan before after)
+      StaysOpen (λ index k j. IsMade index.layout k j from upto (length before.room) scan) old new × IsArrayListed scan before after)
       ⊎ ((status ≡ NO_MEMORY) × StaysOpen (λ index k j. IsUnnoted index.layout k j) old new × (after ≡ before))
+  pub read : IsSome old → FitsInKey from → FitsInKey upto → StaysOpen (λ index k j. HasGotRange index untold (length before.room) (k, tt) (j, tt)) old new
 
 -- from the first key on, or from the last one downwards
 abbrev pub Lists : List ℕ → List ℕ → Option Opened → Option Opened → Listing → Listing → ℕ → Type 0

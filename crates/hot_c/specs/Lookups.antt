@@ -1,6 +1,7 @@
 -- Look-ups of many keys by one call of a program in C.
 use Rattle.std.specs.Prelude.{◌≡◌, ◌⊎◌, ℕ, All, List, [], ◌∷◌, length, map, Option, Some, None, IsSome}
-use Rattle.hot_index.specs.Many.{AreNoted, gets}
+use Rattle.hot_index.specs.Many.{AreNoted, HasGotMany, gets}
+use Rattle.hot_index.specs.Traces.{untold}
 use Rattle.hot_c.specs.Calls.{FitsInKey, StaysOpen}
 use Rattle.hot_c.specs.declared.lookups.Lookup.{Lookup}
 use Rattle.hot_c.specs.declared.opened.Opened.{Opened}
@@ -22,11 +23,13 @@ are_answered (it ∷ rest) [] = it ∷ rest
 are_answered (it ∷ rest) (value ∷ found) = answer it value ∷ are_answered rest found
 
 -- Look-ups through a handle. A closed handle and a key that is too long are told as such, and nothing has changed; else each key is
--- looked up, in turn and by one call of the index, and what was found is told; or there is no memory, and nothing has changed.
+-- looked up, in turn and by one call of the index, with as many steps at most, and what was found is told; or there is no memory,
+-- and nothing has changed.
 pub record LooksUpAll (old new : Option Opened) (before after : List Lookup) (status : ℕ) : Type 0 where
   pub closed : old ≡ None → (status ≡ CLOSED) × (new ≡ old) × (after ≡ before)
   pub long : IsSome old → ¬ All (λ it. FitsInKey (key_in it)) before → (status ≡ KEY_TOO_LONG) × (new ≡ old) × (after ≡ before)
   pub made : IsSome old → All (λ it. FitsInKey (key_in it)) before →
       ((status ≡ DONE) × (found : List (Option ℕ)) × (length found ≡ length before) ×
-      StaysOpen (λ index k j. AreNoted index.layout k j (gets (map key_in before) found)) old new × (after ≡ are_answered before found))
+      StaysOpen (λ index k j. AreNoted index.layout k j (gets (map key_in before) found)
+      × HasGotMany index untold (length before) (k, tt) (j, tt)) old new × (after ≡ are_answered before found))
       ⊎ ((status ≡ NO_MEMORY) × (new ≡ old) × (after ≡ before))

@@ -6,10 +6,10 @@ ghost use Rattle.rowex_writing.specs.Asking.{aim_of};
 ghost use Rattle.rowex_writing.specs.Attempts.{asked_call};
 ghost use Rattle.hot_index.specs.Answers.{IsNoted, IsRefused, IsScanned, IsUnnoted, got};
 ghost use Rattle.hot_index.specs.Census.{HasCounted};
-ghost use Rattle.hot_index.specs.Many.{AreNoted, gets};
+ghost use Rattle.hot_index.specs.Many.{AreNoted, HasGotMany, gets};
 ghost use Rattle.hot_index.specs.Passes.{Owns};
 ghost use Rattle.hot_index.specs.Reverse.{IsReverseScanned};
-ghost use Rattle.hot_index.specs.Traces.{HasCollected, untold};
+ghost use Rattle.hot_index.specs.Traces.{HasCollected, HasGot, HasGotRange, HasMade, untold};
 
 use hot_index::{Given, Index, Pass, RecordCounts, Reply, Scan, TryFault};
 use key_bits::Key;
@@ -30,6 +30,7 @@ impl Opened {
     pub fn get(&mut self, key: &Key) -> Reply
         ensures index { self.new.index ≡ self.old.index }
         ensures call { IsNoted self.old.index.value.layout self.old.pass self.new.pass (Get key.now) result }
+        ensures made { HasGot self.old.index.value untold (self.old.pass, tt) (self.new.pass, tt) }
     {
         match self.index.get(&mut self.pass, key) {
             Some(value) => Reply::Value(value),
@@ -42,6 +43,7 @@ impl Opened {
         requires { length found.old ≡ length keys.now }
         ensures index { self.new.index ≡ self.old.index }
         ensures call { AreNoted self.old.index.value.layout self.old.pass self.new.pass (gets keys.now found.new) }
+        ensures made { HasGotMany self.old.index.value untold (length keys.now) (self.old.pass, tt) (self.new.pass, tt) }
     {
         self.index.get_many(&mut self.pass, keys, found);
     }
@@ -51,6 +53,7 @@ impl Opened {
         ensures index { self.new.index ≡ self.old.index }
         ensures call { MatchResult result (IsNoted self.old.index.value.layout self.old.pass self.new.pass (asked_call ask key.now value))
             (IsRefused self.old.index.value.layout (asked_call ask key.now value) self.old.pass self.new.pass) }
+        ensures made { HasMade self.old.index.value untold result (self.old.pass, tt) (self.new.pass, tt) }
         ensures leafless { aim_of ask ≡ Aim.Remove → result ≢ Err TryFault.FullLeaves }
     {
         match ask {
@@ -76,6 +79,7 @@ impl Opened {
         ensures index { self.new.index ≡ self.old.index }
         ensures ok { IfOk result (IsScanned self.old.index.value.layout self.old.pass self.new.pass from.now upto.now limit) }
         ensures err { OnErr result (IsUnnoted self.old.index.value.layout self.old.pass self.new.pass) }
+        ensures read { HasGotRange self.old.index.value untold limit (self.old.pass, tt) (self.new.pass, tt) }
     {
         self.index.scan(alloc, &mut self.pass, from, upto, limit)
     }
@@ -91,6 +95,7 @@ impl Opened {
         ensures index { self.new.index ≡ self.old.index }
         ensures ok { IfOk result (IsReverseScanned self.old.index.value.layout self.old.pass self.new.pass from.now upto.now limit) }
         ensures err { OnErr result (IsUnnoted self.old.index.value.layout self.old.pass self.new.pass) }
+        ensures read { HasGotRange self.old.index.value untold limit (self.old.pass, tt) (self.new.pass, tt) }
     {
         self.index
             .scan_reverse(alloc, &mut self.pass, from, upto, limit)
