@@ -1,19 +1,15 @@
-//! The index and the passes by which threads use it: how it is made, and all calls on it.
+//! The index and the passes by which threads use it, and the calls on it.
 
-ghost use Rattle.std.specs.Prelude.{◌≡◌, ◌↔◌, ◌+◌, ◌≤◌, ℕ, List, ◌≢◌, Some, Err, IfErr, IfOk, IsSome, MatchResult, OnErr, length, slice_get};
-ghost use mathlib.Core.Option.{some};
-ghost use lib.ListN.{get_elem?};
+ghost use Rattle.std.specs.Prelude.{◌≡◌, ◌+◌, ◌≤◌, List, ◌≢◌, Err, IfErr, IfOk, IsSome, MatchResult, OnErr, length};
 ghost use Rattle.finite_map.specs.declared.Call.TheVariants.{Get, Insert, Remove, Upsert};
 ghost use Rattle.finite_map.specs.declared.Note.{Note};
-ghost use Rattle.record_words.specs.Layout.{HasStock, leaves_of};
-ghost use Rattle.record_words.specs.Limits.{IsPassCount, IsStockPassCount, IsNodeCount, IsLeafCount, IsRecordCount};
 ghost use Rattle.rowex_core.specs.declared.event.Act.TheVariants.{ClearPin};
 ghost use Rattle.rowex_core.specs.declared.known.Known.{Known};
 ghost use Rattle.rowex_table.specs.Runs.{StepsWith};
-ghost use Rattle.rowex_table.specs.Seats.{IsPassOf, IsNewSeatOf, SeatView};
+ghost use Rattle.rowex_table.specs.Seats.{IsPassOf};
 ghost use Rattle.rowex_writing.specs.Asking.{aim_of};
 ghost use Rattle.rowex_writing.specs.Attempts.{asked_call};
-ghost use Rattle.hot_index.specs.Passes.{PassView, Owns, IsNewPass, IsSettled, pass_of};
+ghost use Rattle.hot_index.specs.Passes.{Owns};
 ghost use Rattle.hot_index.specs.Counts.{scan_steps};
 ghost use Rattle.hot_index.specs.Answers.{IsListed, IsNoted, IsRefused, IsScanned, IsUnnoted, HaveMet, MayLack, fault_of, got};
 ghost use Rattle.hot_index.specs.Census.{HasCounted};
@@ -23,12 +19,11 @@ ghost use Rattle.hot_index.specs.Traces.{HasCollected, HasGot, HasGotRange, HasM
 use crate::census::{RecordCounts, count_records};
 use crate::changing::{change, try_change};
 use crate::many::{end_gets, look_up_each};
-use crate::room::{Room, new_room};
+use crate::room::Room;
 use epochs::{Given, collect_round, pin, unpin};
 use finite_map::{Call, Reply, Scan};
 use key_bits::Key;
 use packed_pairs::Pairs;
-use record_words::{Layout, LayoutFault, Stock};
 use rowex_core::{Gate, NoGate};
 use rowex_reading::look_up;
 use rowex_scanning::{Range, scan_root};
@@ -37,18 +32,6 @@ use rowex_writing::{Aim, Ask, Full, TryFault};
 use std::alloc::{AllocError, Global};
 use std::marker::Model;
 use std::sync::Wait;
-use thiserror::Error;
-
-/// Why no index was made.
-#[derive(Debug, Drop, Error)]
-pub enum IndexFault {
-    /// A number of passes, nodes or leaves is out of range.
-    #[error("the numbers of passes, nodes and leaves are out of range")]
-    Layout(LayoutFault),
-    /// There is no memory for the table.
-    #[error("out of memory")]
-    Memory,
-}
 
 /// An ordered index from byte keys to 64-bit values, which passes share through `&`.
 #[derive(Drop)]
@@ -89,48 +72,6 @@ impl Pass {
     {
         self.seat.number()
     }
-}
-
-/// Makes an empty index with this number of passes (1 to 64), node records (1 to 65,535) and leaf records (1 to 262,143), and gives
-/// the passes in the order of their numbers. The three numbers are checked first, in this order. All leaf records are long, so a
-/// call that is refused for lack of one has found each of them taken (`laws::lacks_all_long`).
-pub fn create(
-    alloc: Global,
-    passes: u32,
-    nodes: u32,
-    leaves: u32,
-) -> Result<(Index, Vec<Pass>), IndexFault>
-    ensures layout { IfOk result (λ made. (made.0.layout.passes ≡ passes) × (made.0.layout.nodes ≡ nodes)
-        × (made.0.layout.leaves ≡ leaves) × (made.0.layout.long_from ≡ 0)) }
-    ensures count { IfOk result (λ made. length made.1.items ≡ passes) }
-    ensures each { IfOk result (λ made. (q : ℕ) (p : PassView) → slice_get made.1.items q ≡ Some p → Owns made.0 p × IsNewPass q p) }
-    ensures passes { (result ≡ Err (IndexFault.Layout LayoutFault.Passes)) ↔ ¬ IsPassCount passes }
-    ensures nodes { (result ≡ Err (IndexFault.Layout LayoutFault.Nodes)) ↔ (IsPassCount passes × ¬ IsNodeCount nodes) }
-    ensures leaves { (result ≡ Err (IndexFault.Layout LayoutFault.Leaves)) ↔ (IsPassCount passes × IsNodeCount nodes × ¬ IsLeafCount leaves) }
-    ensures memory { result ≡ Err IndexFault.Memory → IsPassCount passes × IsNodeCount nodes × IsLeafCount leaves }
-{
-    let layout = Layout::of(passes, nodes, leaves).map_err(IndexFault::Layout)?;
-    made(alloc, layout).map_err(|_| IndexFault::Memory)
-}
-
-/// Makes an empty index with this number of passes (1 to 1,024) and this stock of records: 1 to 4,294,967,295 node records, and 1
-/// to 4,294,967,295 leaf records of all classes together. The numbers are checked first, in this order. `Layout::bytes` tells how
-/// many bytes the table takes; twice as many are in use while it is made.
-pub fn create_with(
-    alloc: Global,
-    passes: u32,
-    stock: Stock,
-) -> Result<(Index, Vec<Pass>), IndexFault>
-    ensures layout { IfOk result (λ made. (made.0.layout.passes ≡ passes) × HasStock made.0.layout stock) }
-    ensures count { IfOk result (λ made. length made.1.items ≡ passes) }
-    ensures each { IfOk result (λ made. (q : ℕ) (p : PassView) → slice_get made.1.items q ≡ Some p → Owns made.0 p × IsNewPass q p) }
-    ensures passes { (result ≡ Err (IndexFault.Layout LayoutFault.Passes)) ↔ ¬ IsStockPassCount passes }
-    ensures nodes { (result ≡ Err (IndexFault.Layout LayoutFault.Nodes)) ↔ (IsStockPassCount passes × ¬ IsRecordCount stock.nodes) }
-    ensures leaves { (result ≡ Err (IndexFault.Layout LayoutFault.Leaves)) ↔ (IsStockPassCount passes × IsRecordCount stock.nodes × ¬ IsRecordCount (leaves_of stock)) }
-    ensures memory { result ≡ Err IndexFault.Memory → IsStockPassCount passes × IsRecordCount stock.nodes × IsRecordCount (leaves_of stock) }
-{
-    let stocked = Layout::with_stock(passes, stock).map_err(IndexFault::Layout)?;
-    made(alloc, stocked).map_err(|_| IndexFault::Memory)
 }
 
 impl Index {
@@ -633,43 +574,6 @@ impl Index {
     {
         count_records(&self.table, &mut pass.seat, gate)
     }
-}
-
-/// The index of a layout, and its passes.
-fn made(alloc: Global, layout: Layout) -> Result<(Index, Vec<Pass>), AllocError>
-    ensures layout { IfOk result (λ made. made.0.layout ≡ layout) }
-    ensures count { IfOk result (λ made. length made.1.items ≡ layout.passes) }
-    ensures each { IfOk result (λ made. (q : ℕ) (p : PassView) → slice_get made.1.items q ≡ Some p → Owns made.0 p × IsNewPass q p) }
-{
-    let (table, seats) = HotTable::new(alloc, layout)?;
-    let passes = passes_of(alloc, &table, seats)?;
-    Ok((Index { table }, passes))
-}
-
-/// The passes of the new seats of this table, in their order.
-fn passes_of(
-    alloc: Global,
-    table: &HotTable,
-    seats: Vec<TableSeat>,
-) -> Result<Vec<Pass>, AllocError>
-    requires { (q : ℕ) (s : SeatView) → get_elem? seats.items q ≡ some s → IsNewSeatOf table.now q s }
-    ensures count { IfOk result (λ passes. length passes.items ≡ length seats.items) }
-    ensures each { IfOk result (λ passes. (q : ℕ) (p : PassView) → slice_get passes.items q ≡ Some p → Owns table.now p × IsNewPass q p) }
-{
-    let mut passes = Vec::new(alloc);
-    for seat in seats {
-        passes.push(new_pass(alloc, table, seat)?)?;
-    }
-    Ok(passes)
-}
-
-/// The pass of a seat of this table, with its own room.
-fn new_pass(alloc: Global, table: &HotTable, seat: TableSeat) -> Result<Pass, AllocError>
-    requires { IsSettled seat.known }
-    ensures { IfOk result (λ pass. pass ≡ pass_of seat) }
-{
-    let room = new_room(alloc, table.layout(), seat.number())?;
-    Ok(Pass { seat, room })
 }
 
 /// The reply to a get that found this.

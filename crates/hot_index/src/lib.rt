@@ -5,6 +5,7 @@
 mod calls;
 mod census;
 mod changing;
+mod creating;
 mod cursor;
 mod expecting;
 mod index;
@@ -16,10 +17,11 @@ mod room;
 mod stamp;
 
 pub use census::{RecordCounts, StateCounts};
+pub use creating::{IndexFault, create, create_with};
 pub use cursor::{Cursor, Rest};
 pub use epochs::Given;
 pub use finite_map::{Call, Reply, Scan};
-pub use index::{Index, IndexFault, Pass, create, create_with};
+pub use index::{Index, Pass};
 pub use key_bits::Key;
 pub use key_ranges::{last_with_prefix, next_key, previous_key};
 pub use packed_pairs::Pairs;

@@ -4,7 +4,7 @@ use Rattle.std.specs.List.{slice_get}
 use Rattle.std.specs.Vec.Iter.{into_iter_items}
 use Rattle.hot_index.specs.Passes.{PassView, Owns, IsNewPass, IsSettled, pass_of}
 use Rattle.hot_index.proofs.Making.{AreFrom, all_left, first_of, rest_of, each_of_none, each_longer, new_pass}
-use Rattle.hot_index.proofs.index.passes_of.Goals as goal
+use Rattle.hot_index.proofs.creating.passes_of.Goals as goal
 
 pub loop-seat-init : goal.loop-seat-init
 loop-seat-init c =

@@ -1,0 +1,106 @@
+//! How an index is made, with its passes.
+
+ghost use Rattle.std.specs.Prelude.{◌≡◌, ◌↔◌, ℕ, Some, Err, IfOk, length, slice_get};
+ghost use mathlib.Core.Option.{some};
+ghost use lib.ListN.{get_elem?};
+ghost use Rattle.record_words.specs.Layout.{HasStock, leaves_of};
+ghost use Rattle.record_words.specs.Limits.{IsPassCount, IsStockPassCount, IsNodeCount, IsLeafCount, IsRecordCount};
+ghost use Rattle.rowex_table.specs.Seats.{IsNewSeatOf, SeatView};
+ghost use Rattle.hot_index.specs.Passes.{PassView, Owns, IsNewPass, IsSettled, pass_of};
+
+use crate::index::{Index, Pass};
+use crate::room::new_room;
+use record_words::{Layout, LayoutFault, Stock};
+use rowex_table::{HotTable, TableSeat};
+use std::alloc::{AllocError, Global};
+use thiserror::Error;
+
+/// Why no index was made.
+#[derive(Debug, Drop, Error)]
+pub enum IndexFault {
+    /// A number of passes, nodes or leaves is out of range.
+    #[error("the numbers of passes, nodes and leaves are out of range")]
+    Layout(LayoutFault),
+    /// There is no memory for the table.
+    #[error("out of memory")]
+    Memory,
+}
+
+/// Makes an empty index with this number of passes (1 to 64), node records (1 to 65,535) and leaf records (1 to 262,143), and gives
+/// the passes in the order of their numbers. The three numbers are checked first, in this order. All leaf records are long, so a
+/// call that is refused for lack of one has found each of them taken (`laws::lacks_all_long`).
+pub fn create(
+    alloc: Global,
+    passes: u32,
+    nodes: u32,
+    leaves: u32,
+) -> Result<(Index, Vec<Pass>), IndexFault>
+    ensures layout { IfOk result (λ made. (made.0.layout.passes ≡ passes) × (made.0.layout.nodes ≡ nodes)
+        × (made.0.layout.leaves ≡ leaves) × (made.0.layout.long_from ≡ 0)) }
+    ensures count { IfOk result (λ made. length made.1.items ≡ passes) }
+    ensures each { IfOk result (λ made. (q : ℕ) (p : PassView) → slice_get made.1.items q ≡ Some p → Owns made.0 p × IsNewPass q p) }
+    ensures passes { (result ≡ Err (IndexFault.Layout LayoutFault.Passes)) ↔ ¬ IsPassCount passes }
+    ensures nodes { (result ≡ Err (IndexFault.Layout LayoutFault.Nodes)) ↔ (IsPassCount passes × ¬ IsNodeCount nodes) }
+    ensures leaves { (result ≡ Err (IndexFault.Layout LayoutFault.Leaves)) ↔ (IsPassCount passes × IsNodeCount nodes × ¬ IsLeafCount leaves) }
+    ensures memory { result ≡ Err IndexFault.Memory → IsPassCount passes × IsNodeCount nodes × IsLeafCount leaves }
+{
+    let layout = Layout::of(passes, nodes, leaves).map_err(IndexFault::Layout)?;
+    made(alloc, layout).map_err(|_| IndexFault::Memory)
+}
+
+/// Makes an empty index with this number of passes (1 to 1,024) and this stock of records: 1 to 4,294,967,295 node records, and 1
+/// to 4,294,967,295 leaf records of all classes together. The numbers are checked first, in this order. `Layout::bytes` tells how
+/// many bytes the table takes; twice as many are in use while it is made.
+pub fn create_with(
+    alloc: Global,
+    passes: u32,
+    stock: Stock,
+) -> Result<(Index, Vec<Pass>), IndexFault>
+    ensures layout { IfOk result (λ made. (made.0.layout.passes ≡ passes) × HasStock made.0.layout stock) }
+    ensures count { IfOk result (λ made. length made.1.items ≡ passes) }
+    ensures each { IfOk result (λ made. (q : ℕ) (p : PassView) → slice_get made.1.items q ≡ Some p → Owns made.0 p × IsNewPass q p) }
+    ensures passes { (result ≡ Err (IndexFault.Layout LayoutFault.Passes)) ↔ ¬ IsStockPassCount passes }
+    ensures nodes { (result ≡ Err (IndexFault.Layout LayoutFault.Nodes)) ↔ (IsStockPassCount passes × ¬ IsRecordCount stock.nodes) }
+    ensures leaves { (result ≡ Err (IndexFault.Layout LayoutFault.Leaves)) ↔ (IsStockPassCount passes × IsRecordCount stock.nodes × ¬ IsRecordCount (leaves_of stock)) }
+    ensures memory { result ≡ Err IndexFault.Memory → IsStockPassCount passes × IsRecordCount stock.nodes × IsRecordCount (leaves_of stock) }
+{
+    let stocked = Layout::with_stock(passes, stock).map_err(IndexFault::Layout)?;
+    made(alloc, stocked).map_err(|_| IndexFault::Memory)
+}
+
+/// The index of a layout, and its passes.
+fn made(alloc: Global, layout: Layout) -> Result<(Index, Vec<Pass>), AllocError>
+    ensures layout { IfOk result (λ made. made.0.layout ≡ layout) }
+    ensures count { IfOk result (λ made. length made.1.items ≡ layout.passes) }
+    ensures each { IfOk result (λ made. (q : ℕ) (p : PassView) → slice_get made.1.items q ≡ Some p → Owns made.0 p × IsNewPass q p) }
+{
+    let (table, seats) = HotTable::new(alloc, layout)?;
+    let passes = passes_of(alloc, &table, seats)?;
+    Ok((Index { table }, passes))
+}
+
+/// The passes of the new seats of this table, in their order.
+fn passes_of(
+    alloc: Global,
+    table: &HotTable,
+    seats: Vec<TableSeat>,
+) -> Result<Vec<Pass>, AllocError>
+    requires { (q : ℕ) (s : SeatView) → get_elem? seats.items q ≡ some s → IsNewSeatOf table.now q s }
+    ensures count { IfOk result (λ passes. length passes.items ≡ length seats.items) }
+    ensures each { IfOk result (λ passes. (q : ℕ) (p : PassView) → slice_get passes.items q ≡ Some p → Owns table.now p × IsNewPass q p) }
+{
+    let mut passes = Vec::new(alloc);
+    for seat in seats {
+        passes.push(new_pass(alloc, table, seat)?)?;
+    }
+    Ok(passes)
+}
+
+/// The pass of a seat of this table, with its own room.
+fn new_pass(alloc: Global, table: &HotTable, seat: TableSeat) -> Result<Pass, AllocError>
+    requires { IsSettled seat.known }
+    ensures { IfOk result (λ pass. pass ≡ pass_of seat) }
+{
+    let room = new_room(alloc, table.layout(), seat.number())?;
+    Ok(Pass { seat, room })
+}
