@@ -1,0 +1,148 @@
+/* Tells how many keys there are for each node of an index: once keys of a kind have been inserted, in the order of their numbers, and once
+ * a share of them, drawn by chance, has been replaced by keys of the next numbers, some times over. bench/nodes builds and runs it. */
+#include "hot.h"
+#include <stdio.h>
+#include <stdlib.h>
+#include <string.h>
+
+enum { LONGEST = 96, KINDS = 4 };
+
+static const char *const names[KINDS] = { "random, 8 bytes", "dense numbers, 8 bytes", "URLs", "user:N" };
+
+/* Another number for each, in no order (splitmix64, Steele and others, OOPSLA 2014). */
+static uint64_t mixed(uint64_t number)
+{
+    uint64_t of = (number + 1) * UINT64_C(0x9e3779b97f4a7c15);
+    of = (of ^ (of >> 30)) * UINT64_C(0xbf58476d1ce4e5b9);
+    of = (of ^ (of >> 27)) * UINT64_C(0x94d049bb133111eb);
+    return of ^ (of >> 31);
+}
+
+static size_t spell(uint64_t number, uint8_t *key)
+{
+    int place;
+    for (place = 0; place < 8; place++) {
+        key[place] = (uint8_t)(number >> (8 * (7 - place)));
+    }
+    return 8;
+}
+
+/* The address of a page, as the benchmark of the index has it: a host and up to five parts by chance, and the number. */
+static size_t page(uint64_t number, uint8_t *key)
+{
+    static const char *const hosts[8] = { "example.org", "www.example.com", "shop.example.com", "blog.example.net",
+        "news.example.org", "static.example.com", "images.example.net", "archive.example.org" };
+    static const char *const parts[16] = { "2017", "2018", "about", "article", "author", "books", "category", "en", "fr", "item",
+        "music", "photo", "product", "search", "tag", "user" };
+    uint64_t chance = mixed(number), rest = chance / 64;
+    char text[LONGEST + 1];
+    int length = snprintf(text, sizeof text, "https://%s", hosts[chance % 8]), count = (int)(chance / 8 % 6);
+    for (; count > 0; count--, rest /= 16) {
+        length += snprintf(text + length, sizeof text - (size_t)length, "/%s", parts[rest % 16]);
+    }
+    length += snprintf(text + length, sizeof text - (size_t)length, "/%llu", (unsigned long long)number);
+    memcpy(key, text, (size_t)length);
+    return (size_t)length;
+}
+
+static size_t key_of(int kind, uint64_t number, uint8_t *key)
+{
+    if (kind == 0) {
+        return spell(mixed(number), key);
+    }
+    if (kind == 1) {
+        return spell(number, key);
+    }
+    if (kind == 2) {
+        return page(number, key);
+    }
+    return (size_t)sprintf((char *)key, "user:%llu", (unsigned long long)number);
+}
+
+static void must(hot_status status, hot_status wanted)
+{
+    if (status != wanted) {
+        fprintf(stderr, "nodes: %s\n", hot_status_text(status));
+        exit(1);
+    }
+}
+
+/* How many keys there are for each node, once all that was replaced has been given back. */
+static double keys_a_node(hot_handle *handle, uint32_t keys)
+{
+    hot_counts counts;
+    uint32_t nodes, leaves;
+    must(hot_collect(handle, &nodes, &leaves), HOT_DONE);
+    must(hot_collect(handle, &nodes, &leaves), HOT_DONE);
+    must(hot_census(handle, &counts), HOT_DONE);
+    return (double)keys / (double)counts.nodes.live;
+}
+
+static void insert(hot_handle *handle, int kind, uint64_t number)
+{
+    uint8_t key[LONGEST + 1];
+    uint64_t had;
+    must(hot_try_insert(handle, key, key_of(kind, number, key), number, &had), HOT_INSERTED);
+}
+
+/* Replaces so many of ten keys, drawn by chance, one after the other: each is removed, and then a new one is inserted. */
+static void replace(hot_handle *handle, int kind, uint64_t *numbers, uint32_t keys, uint32_t of_ten, uint64_t *next)
+{
+    static uint64_t drawn = 0;
+    uint32_t place;
+    for (place = 0; place < (uint32_t)((uint64_t)keys * of_ten / 10); place++) {
+        uint32_t other = place + (uint32_t)(mixed(~drawn++) % (keys - place));
+        uint64_t number = numbers[other], had;
+        uint8_t key[LONGEST + 1];
+        numbers[other] = numbers[place];
+        must(hot_try_remove(handle, key, key_of(kind, number, key), &had), HOT_REMOVED);
+        numbers[place] = *next;
+        insert(handle, kind, (*next)++);
+    }
+}
+
+static void measure(int kind, uint64_t *numbers, uint32_t keys, uint32_t of_ten, int times)
+{
+    hot_handle handle = HOT_HANDLE;
+    hot_stock stock;
+    uint64_t next = keys;
+    double before, least;
+    uint32_t place;
+    int turn;
+    hot_stock_for_keys(keys, LONGEST, &stock);
+    stock.nodes += keys;
+    must(hot_create_with(&stock, &handle, 1), HOT_DONE);
+    for (place = 0; place < keys; place++) {
+        numbers[place] = place;
+        insert(&handle, kind, place);
+    }
+    before = least = keys_a_node(&handle, keys);
+    for (turn = 0; turn < times; turn++) {
+        double now;
+        replace(&handle, kind, numbers, keys, of_ten, &next);
+        now = keys_a_node(&handle, keys);
+        least = now < least ? now : least;
+    }
+    printf("%-24s%6.1f keys a node; %u tenths replaced, %d times over: %.1f, at least %.1f\n", names[kind], before, (unsigned)of_ten, times,
+           keys_a_node(&handle, keys), least);
+    must(hot_destroy(&handle), HOT_DONE);
+}
+
+int main(int words, char **word)
+{
+    static const uint32_t shares[3] = { 1, 5, 9 };
+    uint64_t keys = words > 1 ? strtoull(word[1], NULL, 10) : 20000, times = words > 2 ? strtoull(word[2], NULL, 10) : 20;
+    uint64_t *numbers;
+    int kind, share;
+    if (words > 3 || keys < 2 || keys > 10000000 || times > 10000 || !(numbers = malloc(keys * sizeof *numbers))) {
+        fprintf(stderr, "usage: nodes [KEYS [TIMES]]    2 to 10,000,000 and 0 to 10,000\n");
+        return 2;
+    }
+    for (kind = 0; kind < KINDS; kind++) {
+        for (share = 0; share < 3; share++) {
+            measure(kind, numbers, (uint32_t)keys, shares[share], (int)times);
+        }
+    }
+    free(numbers);
+    return 0;
+}
