@@ -115,19 +115,19 @@ static void scan_all(hot_handle *handle, uint64_t count, hot_pair *pairs)
 
 int main(int words, char **word)
 {
-    uint64_t count = words > 1 ? strtoull(word[1], NULL, 10) : 1000000;
+    uint64_t count = words > 1 ? strtoull(word[1], NULL, 10) : 1000000, a_node = words > 2 ? strtoull(word[2], NULL, 10) : 20;
     hot_handle handle = HOT_HANDLE;
     hot_stock stock;
     hot_pair *pairs = malloc(PAGE * sizeof *pairs);
     size_t bytes;
     hot_status status;
     double begun = now();
-    if (count < 1 || count > 200000000 || !pairs) {
-        fprintf(stderr, "usage: large [KEYS]    1 to 200,000,000\n");
+    if (count < 1 || count > 200000000 || a_node < 1 || !pairs) {
+        fprintf(stderr, "usage: large [KEYS [KEYS_A_NODE]]    at least 1, and at most 200,000,000 keys\n");
         return 2;
     }
     memset(&stock, 0, sizeof stock);
-    stock.nodes = (uint32_t)(count / 20 + 1000);
+    stock.nodes = (uint32_t)(count / a_node + 1000);
     stock.short_leaves = (uint32_t)(count + count / 100 + 100);
     status = hot_stock_bytes(&stock, 1, &bytes);
     if (status != HOT_DONE || (status = hot_create_with(&stock, &handle, 1)) != HOT_DONE) {

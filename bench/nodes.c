@@ -1,5 +1,6 @@
-/* Tells how many keys there are for each node of an index: once keys of a kind have been inserted, in the order of their numbers, and once
- * a share of them, drawn by chance, has been replaced by keys of the next numbers, some times over. bench/nodes builds and runs it. */
+/* Tells how many keys there are for each node of an index: once keys of a kind have been inserted, in the order of their numbers,
+ * and once a share of them, drawn by chance, has been replaced by keys of the next numbers, some times over. bench/nodes builds
+ * and runs it. */
 #include "hot.h"
 #include <stdio.h>
 #include <stdlib.h>
@@ -123,8 +124,8 @@ static void measure(int kind, uint64_t *numbers, uint32_t keys, uint32_t of_ten,
         now = keys_a_node(&handle, keys);
         least = now < least ? now : least;
     }
-    printf("%-24s%6.1f keys a node; %u tenths replaced, %d times over: %.1f, at least %.1f\n", names[kind], before, (unsigned)of_ten, times,
-           keys_a_node(&handle, keys), least);
+    printf("%-24s%6.1f keys a node; %u tenths replaced, %d times over: %.1f, at least %.1f\n", names[kind], before,
+           (unsigned)of_ten, times, keys_a_node(&handle, keys), least);
     must(hot_destroy(&handle), HOT_DONE);
 }
 
