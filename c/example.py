@@ -68,6 +68,7 @@ def load(path: str) -> ctypes.CDLL:
         "census": [handle, POINTER(Counts)],
         "after": [POINTER(Pair), POINTER(c_uint8), POINTER(c_size_t)],
         "scan_reverse": [handle, *key, *key, POINTER(Pair), c_size_t, POINTER(c_size_t), POINTER(c_uint32)],
+        "scan_last": [handle, *key, *key, POINTER(Pair), c_size_t, POINTER(c_size_t), POINTER(c_uint32)],
         "before": [POINTER(Pair), POINTER(c_uint8), POINTER(c_size_t)],
     }
     for name, words in types.items():
@@ -172,6 +173,13 @@ class Index:
             if more.value:
                 self.hot.hot_before(pairs[count.value - 1], key, length)
                 end = bytes(key[: length.value])
+
+    def scan_last(self, count: int, start: bytes = b"", end: bytes = b"\xff" * MAX_KEY, thread: int = 0) -> list[tuple[bytes, int]]:
+        """The last `count` of these keys, with their values, in order."""
+        pairs, listed, more = (Pair * count)(), c_size_t(), c_uint32()
+        handle = self.handles[thread]
+        self.check(self.hot.hot_scan_last(handle, start, len(start), end, len(end), pairs, count, byref(listed), byref(more)))
+        return [(bytes(pair.key[: pair.length]), pair.value) for pair in pairs[: listed.value]]
 
 
 def shown(value: int | None) -> str:

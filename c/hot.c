@@ -1,5 +1,5 @@
-/* What of the library for C is written in C, and tested: the texts of statuses, where a scan goes on, scans of a prefix, the first pair
- * from a key on and the last up to one, and the calls that wait. */
+/* What of the library for C is written in C, and tested: the texts of statuses, where a scan goes on, scans of a prefix, and the calls
+ * that wait. */
 #include "hot.h"
 #include <sched.h>
 #include <string.h>
@@ -85,27 +85,6 @@ hot_status hot_scan_prefix(hot_handle *handle, const uint8_t *prefix, size_t len
         from_length = length;
     }
     return hot_scan(handle, from, from_length, upto, HOT_MAX_KEY, pairs, limit, count, more);
-}
-
-hot_status hot_first(hot_handle *handle, const uint8_t *from, size_t length, hot_pair *pair) {
-    uint8_t last[HOT_MAX_KEY];
-    size_t count;
-    uint32_t more;
-    hot_status status;
-    memset(last, 0xff, HOT_MAX_KEY);
-    status = hot_scan(handle, from, length, last, HOT_MAX_KEY, pair, 1, &count, &more);
-    if (status != HOT_DONE)
-        return status;
-    return count == 0 ? HOT_ABSENT : HOT_FOUND;
-}
-
-hot_status hot_last(hot_handle *handle, const uint8_t *upto, size_t length, hot_pair *pair) {
-    size_t count;
-    uint32_t more;
-    hot_status status = hot_scan_reverse(handle, upto, 0, upto, length, pair, 1, &count, &more);
-    if (status != HOT_DONE)
-        return status;
-    return count == 0 ? HOT_ABSENT : HOT_FOUND;
 }
 
 hot_status hot_insert(hot_handle *handle, const uint8_t *key, size_t length, uint64_t value, uint64_t *had) {

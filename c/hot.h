@@ -41,7 +41,7 @@ extern "C" {
 
 /* The version of this header. A program that is right with an earlier version of the same major number is right with this one. */
 #define HOT_VERSION_MAJOR 1
-#define HOT_VERSION_MINOR 3
+#define HOT_VERSION_MINOR 4
 #define HOT_VERSION_PATCH 0
 
 /* The greatest length of a key, in bytes. */
@@ -201,6 +201,12 @@ hot_status hot_after(const hot_pair *pair, uint8_t *key, size_t *length);
  * answers what hot_scan does, and makes no more steps than hot_scan may. */
 hot_status hot_scan_reverse(hot_handle *handle, const uint8_t *from, size_t from_length, const uint8_t *upto, size_t upto_length,
                             hot_pair *pairs, size_t limit, size_t *count, uint32_t *more);
+
+/* hot_scan_reverse with its pairs in rising key order: lists the last `limit` pairs whose keys are from `from` to `upto`, both
+ * included. Writes 1 to `more` if the range has more below, else 0. To go on, end at the key that hot_before gives for the first
+ * pair. It answers what hot_scan does, and makes no more steps than hot_scan may. */
+hot_status hot_scan_last(hot_handle *handle, const uint8_t *from, size_t from_length, const uint8_t *upto, size_t upto_length,
+                         hot_pair *pairs, size_t limit, size_t *count, uint32_t *more);
 
 /* Writes the greatest possible key below the pair's, at which a scan downwards can go on, to `key`, which has room for HOT_MAX_KEY
  * bytes, and its length. The key need not be in the index.

@@ -67,8 +67,8 @@ inline const std::uint8_t *bytes(std::string_view key) {
     return reinterpret_cast<const std::uint8_t *>(key.data() ? key.data() : "");
 }
 
-/// The order in which a scan gives its pairs: rising, or falling from the last one on.
-enum class order { rising, falling };
+/// The order in which a scan gives its pairs: rising, falling from the last one on, or the last page alone, rising.
+enum class order { rising, falling, last };
 
 /// The pairs of a scan in this order of their keys, fetched page by page. The handle may be used or moved meanwhile, but not
 /// closed. Use one iterator at a time; a pair's key is valid until the iterator goes on. Making an iterator and moving it on throw
@@ -114,16 +114,18 @@ class range {
     void load(std::string_view at) {
         const bool rises = goes_ == order::rising;
         const std::string_view from = rises ? at : from_, upto = rises ? upto_ : at;
-        check((rises ? hot_scan : hot_scan_reverse)(handle_, bytes(from), from.size(), bytes(upto), upto.size(), page_.data(), page_.size(),
-                                                    &count_, &more_));
+        const auto scan = rises ? hot_scan : goes_ == order::falling ? hot_scan_reverse : hot_scan_last;
+        check(scan(handle_, bytes(from), from.size(), bytes(upto), upto.size(), page_.data(), page_.size(), &count_, &more_));
         at_ = 0;
     }
     bool go_on() {
         if (++at_ < count_)
             return true;
+        if (!more_ || goes_ == order::last)
+            return false;
         std::uint8_t next[HOT_MAX_KEY];
         std::size_t length = 0;
-        if (!more_ || (goes_ == order::rising ? hot_after : hot_before)(&page_[count_ - 1], next, &length) != HOT_DONE)
+        if ((goes_ == order::rising ? hot_after : hot_before)(&page_[count_ - 1], next, &length) != HOT_DONE)
             return false;
         load({reinterpret_cast<const char *>(next), length});
         return count_ > 0;
@@ -197,6 +199,11 @@ class handle {
         return range(it(), from, upto, pairs, order::falling);
     }
     range scan_reverse() { return scan_reverse({}, std::string(HOT_MAX_KEY, '\xff')); }
+
+    /// The last `count` pairs from one key to another, both included, in rising order: hot_scan_last. `count` is at least 1.
+    range scan_last(std::string_view from, std::string_view upto, std::size_t count) {
+        return range(it(), from, upto, count, order::last);
+    }
 
     collected collect() {
         collected given{};

@@ -225,6 +225,36 @@ static void test_scan_reverse(void) {
     CHECK(hot_last(&handle, bytes("a"), 1, &pair) == HOT_CLOSED);
 }
 
+/* Scans of the last pairs: in rising order, and so what is below the first of them. */
+static void test_scan_last(void) {
+    hot_handle handle = HOT_HANDLE;
+    hot_pair pairs[3];
+    uint8_t key[HOT_MAX_KEY + 1] = {0};
+    uint64_t had;
+    size_t count = 9, length;
+    uint32_t more = 9;
+    CHECK(hot_scan_last(&handle, bytes("a"), 1, bytes("z"), 1, pairs, 2, &count, &more) == HOT_CLOSED && count == 9 && more == 9);
+    CHECK(hot_create(100, 100, &handle, 1) == HOT_DONE);
+    CHECK(hot_try_insert(&handle, bytes("b"), 1, 2, &had) == HOT_INSERTED);
+    CHECK(hot_try_insert(&handle, bytes("aa"), 2, 1, &had) == HOT_INSERTED);
+    CHECK(hot_try_insert(&handle, bytes("c"), 1, 3, &had) == HOT_INSERTED);
+    memset(pairs, 0xee, sizeof pairs);
+    CHECK(hot_scan_last(&handle, bytes("a"), 1, bytes("z"), 1, pairs, 2, &count, &more) == HOT_DONE && count == 2 && more == 1);
+    CHECK(pairs[0].length == 1 && pairs[0].key[0] == 'b' && pairs[0].value == 2);
+    CHECK(pairs[1].length == 1 && pairs[1].key[0] == 'c' && pairs[1].value == 3);
+    CHECK(pairs[2].length == 0xeeeeeeee && pairs[2].value == 0xeeeeeeeeeeeeeeee);
+    CHECK(hot_before(&pairs[0], key, &length) == HOT_DONE);
+    CHECK(hot_scan_last(&handle, bytes("a"), 1, key, length, pairs, 2, &count, &more) == HOT_DONE);
+    CHECK(count == 1 && more == 0 && pairs[0].value == 1 && pairs[1].value == 3);
+    CHECK(hot_scan_last(&handle, bytes("b"), 1, bytes("c"), 1, pairs, 3, &count, &more) == HOT_DONE);
+    CHECK(count == 2 && more == 0 && pairs[0].value == 2 && pairs[1].value == 3);
+    CHECK(hot_scan_last(&handle, bytes("a"), 1, bytes("b"), 1, pairs, 0, &count, &more) == HOT_DONE && count == 0 && more == 1);
+    CHECK(hot_scan_last(&handle, bytes("z"), 1, bytes("a"), 1, pairs, 3, &count, &more) == HOT_DONE && count == 0 && more == 0);
+    count = 9;
+    CHECK(hot_scan_last(&handle, bytes("a"), 1, key, sizeof key, pairs, 2, &count, &more) == HOT_KEY_TOO_LONG && count == 9);
+    CHECK(hot_destroy(&handle) == HOT_DONE);
+}
+
 /* Where a scan goes on: after a key, and after one to which no byte can be added. */
 static void test_after(void) {
     hot_pair pair;
@@ -566,6 +596,7 @@ int main(void) {
     test_expected();
     test_scan();
     test_scan_reverse();
+    test_scan_last();
     test_prefix();
     test_after();
     test_before();

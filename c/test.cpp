@@ -115,6 +115,15 @@ static void test_scans() {
         }
         CHECK(count == 0);
     }
+    for (const std::size_t count : {1, 2, 240, 500}) {
+        std::uint64_t listed = 0, last = 0;
+        for (const auto [key, value] : handle.scan_last("a", std::string(HOT_MAX_KEY, 'a'), count)) {
+            CHECK(key.size() == value && (last == 0 || value == last + 1));
+            last = value;
+            listed++;
+        }
+        CHECK(last == HOT_MAX_KEY && listed == (count < HOT_MAX_KEY ? count : HOT_MAX_KEY));
+    }
     std::uint64_t sum = 0;
     for (const auto it : handle.scan_prefix(std::string(238, 'a')))
         sum += it.value;

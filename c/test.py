@@ -29,6 +29,7 @@ def main() -> None:
     assert list(index.scan()) == [(number.to_bytes(8, "big"), number) for number in range(PAGE * 3)]
     assert list(index.scan_reverse()) == list(index.scan())[::-1]
     assert [value for _, value in index.scan_reverse(bytes(7) + b"\1", bytes(7) + b"\3z")] == [3, 2, 1]
+    assert index.scan_last(2) == list(index.scan())[-2:] and index.scan_last(9, end=bytes(7) + b"\2") == list(index.scan())[:3]
     # A key's value changes only if it is the expected one.
     key = bytes(8)
     assert index.exchange(key, 1, 2) == 0 and index.exchange(key, 0, 2) == 0 and index.get(key) == 2

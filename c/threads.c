@@ -98,6 +98,16 @@ static void read_many(hot_handle *handle, uint64_t *state) {
         check_found(looks[i].status, looks[i].value, numbers[i]);
 }
 
+/* Puts pairs into the other order. */
+static void turn(hot_pair *pairs, size_t count) {
+    size_t i;
+    for (i = 0; i < count / 2; i++) {
+        hot_pair one = pairs[i];
+        pairs[i] = pairs[count - 1 - i];
+        pairs[count - 1 - i] = one;
+    }
+}
+
 static void read_scans(hot_handle *handle, uint64_t *state) {
     hot_pair pairs[LIMIT];
     unsigned low = next(state) % (NUMBERS - 100), high = low + next(state) % 100;
@@ -108,6 +118,10 @@ static void read_scans(hot_handle *handle, uint64_t *state) {
     check_pairs(pairs, count, (int)low, 1, (int)high, more);
     CHECK(!more || count == limit);
     CHECK(hot_scan_reverse(handle, from.bytes, from.length, upto.bytes, upto.length, pairs, limit, &count, &more) == HOT_DONE);
+    check_pairs(pairs, count, (int)high, -1, (int)low, more);
+    CHECK(!more || count == limit);
+    CHECK(hot_scan_last(handle, from.bytes, from.length, upto.bytes, upto.length, pairs, limit, &count, &more) == HOT_DONE);
+    turn(pairs, count);
     check_pairs(pairs, count, (int)high, -1, (int)low, more);
     CHECK(!more || count == limit);
 }

@@ -4,6 +4,7 @@ pub mod Content
 pub mod Boxes
 pub mod Shares
 pub mod Listed
+pub mod Found
 pub mod Places
 pub mod Answered
 pub mod LookedUp

@@ -3,6 +3,8 @@ pub mod Owning
 pub mod Lending
 pub mod Statuses
 pub mod Pairs
+pub mod Lasts
 pub mod Calls
+pub mod Ends
 pub mod Stocks
 pub mod Lookups

@@ -8,8 +8,10 @@ ghost use Rattle.hot_index.specs.Answers.{IsNoted, IsRefused, IsScanned, IsUnnot
 ghost use Rattle.hot_index.specs.Census.{HasCounted};
 ghost use Rattle.hot_index.specs.Many.{AreNoted, HasGotMany, gets};
 ghost use Rattle.hot_index.specs.Passes.{Owns};
-ghost use Rattle.hot_index.specs.Reverse.{IsReverseScanned};
+ghost use Rattle.hot_index.specs.Ranges.{IsFirstFound};
+ghost use Rattle.hot_index.specs.Reverse.{IsLastFound, IsReverseScanned};
 ghost use Rattle.hot_index.specs.Traces.{HasCollected, HasGot, HasGotRange, HasMade, untold};
+ghost use Rattle.hot_c.specs.Lasts.{IsLastScanned};
 
 use hot_index::{Given, Index, Pass, RecordCounts, Reply, Scan, TryFault};
 use key_bits::Key;
@@ -99,6 +101,46 @@ impl Opened {
     {
         self.index
             .scan_reverse(alloc, &mut self.pass, from, upto, limit)
+    }
+
+    /// The last `limit` pairs whose keys are from `from` to `upto`, in rising order.
+    pub fn scan_last(
+        &mut self,
+        alloc: Global,
+        from: &Key,
+        upto: &Key,
+        limit: usize,
+    ) -> Result<Scan, AllocError>
+        ensures index { self.new.index ≡ self.old.index }
+        ensures ok { IfOk result (IsLastScanned self.old.index.value.layout self.old.pass self.new.pass from.now upto.now limit) }
+        ensures err { OnErr result (IsUnnoted self.old.index.value.layout self.old.pass self.new.pass) }
+        ensures read { HasGotRange self.old.index.value untold limit (self.old.pass, tt) (self.new.pass, tt) }
+    {
+        let mut scan = self
+            .index
+            .scan_reverse(alloc, &mut self.pass, from, upto, limit)?;
+        scan.pairs.reverse();
+        Ok(scan)
+    }
+
+    /// The first pair whose key is `from` or above.
+    pub fn first(&mut self, alloc: Global, from: &Key) -> Result<Option<(Key, u64)>, AllocError>
+        ensures index { self.new.index ≡ self.old.index }
+        ensures ok { IfOk result (IsFirstFound self.old.index.value.layout self.old.pass self.new.pass from.now) }
+        ensures err { OnErr result (IsUnnoted self.old.index.value.layout self.old.pass self.new.pass) }
+        ensures read { HasGotRange self.old.index.value untold 1 (self.old.pass, tt) (self.new.pass, tt) }
+    {
+        self.index.first(alloc, &mut self.pass, from)
+    }
+
+    /// The last pair whose key is `upto` or below.
+    pub fn last(&mut self, alloc: Global, upto: &Key) -> Result<Option<(Key, u64)>, AllocError>
+        ensures index { self.new.index ≡ self.old.index }
+        ensures ok { IfOk result (IsLastFound self.old.index.value.layout self.old.pass self.new.pass upto.now) }
+        ensures err { OnErr result (IsUnnoted self.old.index.value.layout self.old.pass self.new.pass) }
+        ensures read { HasGotRange self.old.index.value untold 1 (self.old.pass, tt) (self.new.pass, tt) }
+    {
+        self.index.last(alloc, &mut self.pass, upto)
     }
 
     /// Makes a round of collection.

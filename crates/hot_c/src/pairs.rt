@@ -1,9 +1,12 @@
-//! The pairs of a scan in an array of C.
+//! The pairs of a scan in an array of C, and one pair at a place of C's.
 
-ghost use Rattle.std.specs.Prelude.{◌≡◌, ◌≤◌, length, drop};
+ghost use Rattle.std.specs.Prelude.{◌≡◌, ◌≤◌, IfOk, OnErr, length, drop};
+ghost use Rattle.hot_c.specs.Ends.{IsPairTold};
 ghost use Rattle.hot_c.specs.Pairs.{AreSpelled, Spells};
 
+use crate::status::{ABSENT, FOUND, NO_MEMORY};
 use key_bits::Key;
+use std::alloc::AllocError;
 
 /// A key with its value. The key is the first `length` bytes.
 #[repr(C)]
@@ -32,4 +35,19 @@ fn write_pair(key: &Key, value: u64, pair: &mut Pair)
     pair.key[..bytes.len()].copy_from_slice(bytes);
     pair.length = bytes.len() as u32;
     pair.value = value;
+}
+
+/// The status of a search for one pair. If it found one, that is written.
+pub fn tell_pair(found: Result<Option<(Key, u64)>, AllocError>, pair: &mut Pair) -> u32
+    ensures ok { IfOk found (λ it. IsPairTold it pair.old pair.new result) }
+    ensures err { OnErr found ((result ≡ NO_MEMORY) × (pair.new ≡ pair.old)) }
+{
+    match found {
+        Ok(Some((key, value))) => {
+            write_pair(&key, value, pair);
+            FOUND
+        }
+        Ok(None) => ABSENT,
+        Err(_) => NO_MEMORY,
+    }
 }
