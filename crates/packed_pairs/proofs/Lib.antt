@@ -1,3 +1,4 @@
 -- What is true of packed pairs.
 pub mod Packing
 pub mod Lasts
+pub mod Backwards

@@ -12,8 +12,8 @@ use std::marker::Model;
 /// The pairs of a list that are left: the bytes of each key, and its value.
 #[derive(Drop)]
 pub struct Iter<'a> {
-    bytes: &'a [u8],
-    heads: &'a [Head],
+    pub(crate) bytes: &'a [u8],
+    pub(crate) heads: &'a [Head],
 }
 
 impl<'a> Model for Iter<'a> {

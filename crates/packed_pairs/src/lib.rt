@@ -1,6 +1,7 @@
 //! Lists of keys with their values, packed: the bytes of all keys one after another, so that no pair takes more room than it needs.
 #![tactic(auto)]
 
+mod back;
 mod iter;
 mod pairs;
 
