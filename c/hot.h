@@ -149,7 +149,7 @@ typedef struct hot_lookup {
 hot_status hot_get_many(hot_handle *handle, hot_lookup *lookups, size_t count);
 
 /* Gives a key a value if it is absent. If it is there, it keeps its value, which is written to `had`. This and each other call
- * hot_try_.. makes at most 1400786 steps, 2 for each handle of the index, 6 for each node record and 10 for each leaf record.
+ * hot_try_.. makes at most 1396470 steps, 2 for each handle of the index, 6 for each node record and 10 for each leaf record.
  * HOT_INSERTED, HOT_EXISTS; or HOT_BUSY, HOT_FULL_NODES, HOT_FULL_LEAVES, HOT_KEY_TOO_LONG, HOT_CLOSED. */
 hot_status hot_try_insert(hot_handle *handle, const uint8_t *key, size_t length, uint64_t value, uint64_t *had);
 

@@ -10,6 +10,7 @@ use Rattle.finite_map.specs.Fronts.{BeginsWith}
 use Rattle.rowex_core.specs.declared.event.Act.{Act}
 use Rattle.rowex_core.specs.declared.event.Act.TheVariants.{ClearPin, LoadEpoch}
 use Rattle.rowex_core.specs.declared.event.Event.{Event}
+use Rattle.record_words.specs.declared.layout.Layout.{Layout}
 use Rattle.tries.specs.Keys.{Key}
 use Rattle.moments.specs.declared.Rec.{Rec}
 use Rattle.moments.specs.declared.Rec.TheVariants.{Node as a_node, Leaf as a_leaf}
@@ -22,6 +23,7 @@ use Rattle.rowex_table.specs.Stays.{LeavesPin}
 use Rattle.epochs.specs.Rounds.{IsRound, advance_steps}
 use Rattle.epochs.specs.Runs.{Pins}
 use Rattle.rowex_records.specs.Claims.{HasMissedSince}
+use Rattle.rowex_writing.specs.Attempts.{AreAttemptSteps, IsOfSearch}
 use Rattle.rowex_writing.specs.declared.attempts.TryFault.{TryFault}
 use Rattle.rowex_writing.specs.declared.attempts.TryFault.TheVariants.{Busy, FullNodes, FullLeaves}
 use Rattle.rowex_writing.specs.declared.plan.Full.{Full}
@@ -32,6 +34,19 @@ use Rattle.hot_index.specs.Passes.{AreByPasses, IsSettled, PassView, pass_of}
 use Rattle.hot_index.specs.Traces.{HasEnded, IsAttempt, is_full}
 use Rattle.hot_index.proofs.Noting.{cleared, event_makers}
 use Rattle.hot_index.proofs.Tracing.{attempt_ended}
+
+no_steps : {layout : Layout} → AreAttemptSteps layout []
+no_steps = record {
+  search = [];
+  rest = [];
+  acts_are = refl;
+  searches = All-nil IsOfSearch;
+  pinned = All-nil LeavesPin;
+  once = tt;
+  depth = omega arith;
+  locks = omega arith;
+  few = omega arith;
+}
 
 module _ {G : Type 0} {table : TableView} {becomes : G → Event → G → Type 0} (a b d : SeatView × G) (settled : IsSettled a.0.known) (pins : Pins table becomes a b) (clears : StepsWith table becomes ClearPin silent b d) where
   -- but for the round and the number of its steps the pass knows what it knew
@@ -68,8 +83,8 @@ module _ {G : Type 0} {table : TableView} {becomes : G → Event → G → Type 
   pub rests_steps : d.0.known.steps ≡ a.0.known.steps + 3
   rests_steps = let e = ap (λ (z : Known). z.steps) kept in omega (arith, e)
 
-  pub rests_ended : HasEnded table becomes IsAttempt silent a d
-  rests_ended = attempt_ended table becomes a b b d pins ([], record { acts = []; pinned = All-nil LeavesPin; tried_are = refl; steps = refl }, tt) clears
+  pub rests_ended : HasEnded table becomes (IsAttempt table.layout) silent a d
+  rests_ended = attempt_ended table becomes a b b d pins ([], no_steps, refl) clears
 
 -- A round of collection follows, and then no step fails: what the call was refused for as full stays a cause.
 module _ {G : Type 0} {table : TableView} {becomes : G → Event → G → Type 0} {nodes leaves : ℕ} (key : Key) (k : PassView) (b c d : SeatView × G) (round : IsRound table becomes b c nodes leaves)

@@ -20,7 +20,9 @@ use Rattle.rowex_reading.specs.Lookups.{HasSearched}
 use Rattle.rowex_reading.specs.Reads.{Looks}
 use Rattle.rowex_reading.proofs.Counting.{looks_count}
 use Rattle.rowex_scanning.specs.Counts.{Scans, scan_entries}
-use Rattle.rowex_writing.specs.Changes.{HasTriedOnce}
+use Rattle.rowex_writing.specs.Attempts.{HasAttempted}
+use Rattle.rowex_writing.specs.Changes.{HasTried}
+use Rattle.rowex_writing.specs.Locks.{targets_of}
 use Rattle.rowex_writing.specs.declared.attempts.TryFault.{TryFault}
 use Rattle.hot_index.specs.Counts.{try_steps}
 use Rattle.hot_index.specs.Passes.{PassView, pass_of}
@@ -268,22 +270,26 @@ module _ {G : Type 0} (table : TableView) (becomes : G → Event → G → Type 
   -- Calls one after the other
 
   -- an attempt: the pin, the steps of the attempt, and the step that clears the pin
-  pub attempt_ended : {said : Known → List Note} (a b c d : SeatView × G) → Pins table becomes a b → HasTriedOnce table becomes b c → StepsWith table becomes ClearPin said c d →
-      HasEnded table becomes IsAttempt said a d
-  attempt_ended a b c d pins (tried, run, once) end =
+  pub attempt_ended : {said : Known → List Note} (a b c d : SeatView × G) → Pins table becomes a b → HasAttempted table becomes b c → StepsWith table becomes ClearPin said c d →
+      HasEnded table becomes (IsAttempt table.layout) said a d
+  attempt_ended a b c d pins (rest, steps, run) end =
       let acts = LoadEpoch pins.0 ∷ SetPin pins.0 ∷ [] in (
-        acts ++ run.acts,
-        record { epoch = pins.0; rest = run.acts; acts_are = refl; pinned = run.pinned; once = once },
-        (c, runs_append table becomes acts run.acts a b c pins.1.steps run.steps, end),
+        acts ++ rest,
+        record { epoch = pins.0; rest = rest; acts_are = refl; steps = steps },
+        (c, runs_append table becomes acts rest a b c pins.1.steps run, end),
       )
 
+  -- the steps of an attempt, with the locks that they try
+  pub attempt_run : (a b : SeatView × G) (h : HasAttempted table becomes a b) → HasTried table becomes (targets_of h.0) a b
+  attempt_run a b (acts, steps, run) = record { acts = acts; pinned = steps.pinned; tried_are = refl; steps = run }
+
   -- the call is over
-  pub ended_once : {said : Known → List Note} (r : Result Reply TryFault) (a b : SeatView × G) → is_full r ≡ false → HasEnded table becomes IsAttempt said a b → HasEnded table becomes (AreTries table.layout r) said a b
+  pub ended_once : {said : Known → List Note} (r : Result Reply TryFault) (a b : SeatView × G) → is_full r ≡ false → HasEnded table becomes (IsAttempt table.layout) said a b → HasEnded table becomes (AreTries table.layout r) said a b
   ended_once r a b stands (acts, tries, ends) = (acts, inl (tries, stands), ends)
 
   -- or it was not noted; and there follow a round of collection and an attempt more
-  pub ended_again : {said : Known → List Note} {nodes leaves : ℕ} (r : Result Reply TryFault) (a b c d : SeatView × G) → HasEnded table becomes IsAttempt silent a b → IsRound table becomes b c nodes leaves →
-      HasEnded table becomes IsAttempt said c d → HasEnded table becomes (AreTries table.layout r) said a d
+  pub ended_again : {said : Known → List Note} {nodes leaves : ℕ} (r : Result Reply TryFault) (a b c d : SeatView × G) → HasEnded table becomes (IsAttempt table.layout) silent a b → IsRound table becomes b c nodes leaves →
+      HasEnded table becomes (IsAttempt table.layout) said c d → HasEnded table becomes (AreTries table.layout r) said a d
   ended_again r a b c d (acts, tries, (m, steps, last)) round (more, tries_again, (n, rest, end)) =
       let between = LoadEpoch round.epoch ∷ advance_steps round.epoch round.found ++ LoadEpoch round.next ∷ round.pins ++ round.nodes ++ round.leaves in (
         acts ++ (ClearPin ∷ between ++ more),

@@ -244,7 +244,7 @@ module _ {G : Type 0} {table : TableView} {becomes : G → Event → G → Type 
 
 -- an attempt whose answer stands
 pub once_asked : {G : Type 0} {table : TableView} {becomes : G → Event → G → Type 0} {a b : SeatView × G} (call : Call) (r : Result Reply TryFault) → is_full r ≡ false →
-    HasAsked table becomes IsAttempt (once_steps table.layout) call r a b → HasAsked table becomes (AreTries table.layout r) (twice_steps table.layout) call r a b
+    HasAsked table becomes (IsAttempt table.layout) (once_steps table.layout) call r a b → HasAsked table becomes (AreTries table.layout r) (twice_steps table.layout) call r a b
 once_asked {table = table} {becomes = becomes} {a = a} {b = b} call r stands once = record { replied = once.replied; ended = ended_once table becomes r a b stands once.ended; later = once.later; few = omega (arith, once.few) }
 
 -- a small round or nothing, and then the tries

@@ -38,7 +38,7 @@ pub record HasRested {G : Type 0} (table : TableView) (becomes : G → Event →
   pub unnoted : IsUnnoted table.layout (pass_of a.0) (pass_of b.0)
   pub failed : b.0.known.failed ≡ a.0.known.failed
   pub fresh : b.0.known.fresh ≡ a.0.known.fresh
-  pub ended : HasEnded table becomes IsAttempt silent a b
+  pub ended : HasEnded table becomes (IsAttempt table.layout) silent a b
   pub steps : b.0.known.steps ≡ a.0.known.steps + 3
 
 -- a call that waits for others ends as its last try

@@ -3,15 +3,15 @@ use Rattle.std.specs.Prelude.{ℕ, ◌+◌, ◌*◌}
 use Rattle.epochs.specs.declared.limbo.TheConstants.{MOST_VISITED}
 use Rattle.record_words.specs.declared.layout.Layout.{Layout}
 use Rattle.rowex_scanning.specs.Counts.{scan_loads}
-use Rattle.rowex_writing.specs.Counts.{attempt_steps}
+use Rattle.rowex_writing.specs.Counts.{most_steps}
 
 -- a round of collection: three on the epoch, one for each pin, and two for each record
 abbrev pub round_steps : Layout → ℕ
 round_steps layout = 3 + layout.passes + 2 * (layout.nodes + layout.leaves)
 
--- an attempt, pinned by two steps and unpinned by one
+-- an attempt, whatever its way, pinned by two steps and unpinned by one
 abbrev pub once_steps : Layout → ℕ
-once_steps layout = attempt_steps layout + 3
+once_steps layout = most_steps layout + 3
 
 -- two attempts, with a round of collection between
 abbrev pub twice_steps : Layout → ℕ

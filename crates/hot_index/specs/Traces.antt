@@ -14,12 +14,11 @@ use Rattle.rowex_core.specs.declared.known.Known.{Known}
 use Rattle.rowex_core.specs.Knowing.{SeesAllAtRoot}
 use Rattle.rowex_table.specs.Runs.{Ends, InTurn, IsTold, events_of}
 use Rattle.rowex_table.specs.Seats.{TableView, SeatView}
-use Rattle.rowex_table.specs.Stays.{LeavesPin}
 use Rattle.rowex_reading.specs.Reads.{IsBelowRoot, entries_in}
 use Rattle.rowex_scanning.specs.Counts.{scan_entries}
 use Rattle.epochs.specs.Rounds.{IsRound, IsSmallRound, LoadsPin, VisitEach, Visits, advance_steps}
 use Rattle.epochs.specs.declared.limbo.TheConstants.{MOST_VISITED}
-use Rattle.rowex_writing.specs.Locks.{TriesLocksOnce}
+use Rattle.rowex_writing.specs.Attempts.{AreAttemptSteps}
 use Rattle.rowex_writing.specs.declared.attempts.TryFault.{TryFault}
 use Rattle.rowex_writing.specs.declared.attempts.TryFault.TheVariants.{Busy, FullNodes, FullLeaves}
 use Rattle.hot_index.specs.Counts.{round_steps, try_steps}
@@ -61,13 +60,13 @@ pub record HasGotRange {G : Type 0} (index : TableView) (becomes : G → Event �
   pub most : entries_in read.loads ≤ scan_entries limit
   pub few : b.0.steps ≤ a.0.steps + 100 + 26 * entries_in read.loads + 7 * limit
 
--- An attempt, but for its last step, which clears the pin: it pins the pass, leaves the pin, and tries each lock once at most.
-pub record IsAttempt (acts : List Act) : Type 0 where
+-- An attempt, but for its last step, which clears the pin: it pins the pass, leaves the pin, and tries each lock once at most. So many
+-- steps they are at most, by the entries that its search loads, the locks that it tries, and the records of the table.
+pub record IsAttempt (layout : Layout) (acts : List Act) : Type 0 where
   pub epoch : ℕ
   pub rest : List Act
   pub acts_are : acts ≡ LoadEpoch epoch ∷ SetPin epoch ∷ rest
-  pub pinned : All LeavesPin rest
-  pub once : TriesLocksOnce rest
+  pub steps : AreAttemptSteps layout rest
 
 -- The steps of a round of collection: it loads the epoch, makes it the next one, loads it again and loads each pin; then it visits each
 -- record, nodes first.
@@ -104,9 +103,9 @@ pub record AreTwoAttempts (layout : Layout) (acts : List Act) : Type 0 where
   pub between : List Act
   pub second : List Act
   pub acts_are : acts ≡ first ++ (ClearPin ∷ between ++ second)
-  pub tries : IsAttempt first
+  pub tries : IsAttempt layout first
   pub round : AreRoundSteps layout between
-  pub tries_again : IsAttempt second
+  pub tries_again : IsAttempt layout second
 
 -- whether the call was refused as full
 abbrev pub is_full : Result Reply TryFault → Bool
@@ -117,7 +116,7 @@ is_full (Err FullLeaves) = true
 
 -- One attempt, whose answer stands unless it is full; or two, with a round between them.
 abbrev pub AreTries : Layout → Result Reply TryFault → List Act → Type 0
-AreTries layout result acts = (IsAttempt acts × (is_full result ≡ false)) ⊎ AreTwoAttempts layout acts
+AreTries layout result acts = (IsAttempt layout acts × (is_full result ≡ false)) ⊎ AreTwoAttempts layout acts
 
 -- These tries, and before them a small round or nothing.
 pub record AreAttempts (layout : Layout) (result : Result Reply TryFault) (acts : List Act) : Type 0 where

@@ -180,7 +180,7 @@ fn try_once<G: Gate>(
     value: u64,
 ) -> Result<Reply, TryFault>
     requires idle { IsIdle table.now seat.old }
-    ensures asked { HasAsked table.now G.becomes IsAttempt (once_steps table.now.layout) (asked_call ask key.now value) result (seat.old, gate.old) (seat.new, gate.new) }
+    ensures asked { HasAsked table.now G.becomes (IsAttempt table.now.layout) (once_steps table.now.layout) (asked_call ask key.now value) result (seat.old, gate.old) (seat.new, gate.new) }
     ensures leafless { aim_of ask ≡ Aim.Remove → result ≢ Err TryFault.FullLeaves }
 {
     room.build.gone.clear();

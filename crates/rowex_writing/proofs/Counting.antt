@@ -1,12 +1,20 @@
 -- How long parts of a list are, and how many steps claims make.
-use Rattle.std.proofs.Common.{ℕ, zero, suc, ◌+◌, ◌-◌, ◌*◌, ◌≤◌, List, [], ◌∷◌, length, take, drop, arith}
+use Rattle.std.proofs.Common.{◌≡◌, ℕ, zero, suc, ◌+◌, ◌-◌, ◌*◌, ◌≤◌, List, [], ◌∷◌, length, take, drop, ap, ◌∙◌, arith}
 use Rattle.std.specs.Prelude.{slice_range}
+use Rattle.std.proofs.lemmas.List.{length-drop, length-map, length-take-le}
+use Rattle.insert_cases.specs.declared.choice.Step.{Step}
 use Rattle.moments.specs.declared.Rec.{Rec}
 use Rattle.rowex_core.specs.declared.event.Act.TheVariants.{Claim, LoadState}
 use Rattle.rowex_core.specs.declared.event.Event.{Event}
+use Rattle.rowex_table.specs.Made.{Made}
 use Rattle.rowex_table.specs.Seats.{TableView, SeatView}
 use Rattle.rowex_records.specs.Claims.{Claims, FindsNone}
 use Rattle.rowex_reading.proofs.Counting.{runs_count}
+use Rattle.rowex_reading.specs.declared.descent.Found.{Found}
+use Rattle.rowex_reading.specs.declared.descent.Found.TheVariants.{Nothing, Leaf}
+use Rattle.rowex_writing.specs.Building.{IsBuilding}
+use Rattle.rowex_writing.specs.Locks.{numbers_of}
+use Rattle.rowex_writing.specs.Putting.{leaf_found}
 
 -- ---- parts of a list
 take_few : {X : Type 0} (n : ℕ) (xs : List X) → length (take n xs) ≤ n
@@ -17,11 +25,19 @@ take_few (suc n) (x ∷ xs) = let z = take_few n xs in omega (arith, z)
 pub slice_few : {X : Type 0} (xs : List X) (i j : ℕ) → length (slice_range xs i j) ≤ j - i
 slice_few xs i j = take_few (j - i) (drop i xs)
 
--- no more times
-pub times_few : (d n p : ℕ) → d ≤ n → d * p ≤ n * p
-times_few zero n p le = omega arith
-times_few (suc d) zero p le = absurd (omega (arith, le))
-times_few (suc d) (suc n) p le = let z = times_few d n p (omega (arith, le)) in omega (arith, z)
+slice_just : {X : Type 0} (xs : List X) (i j : ℕ) → i ≤ j → j ≤ length xs → length (slice_range xs i j) ≡ j - i
+slice_just xs i j low high = length-take-le (j - i) (drop i xs) (omega (arith, length-drop i xs, low, high))
+
+pub numbers_few : (way : List Step) (i j : ℕ) → i ≤ j → j ≤ length way → length (numbers_of (slice_range way i j)) ≡ j - i
+numbers_few way i j low high = length-map (slice_range way i j) (λ (s : Step). s.number) ∙ slice_just way i j low high
+
+-- one record is made, and at most one leaf was found
+pub made_one : {table : TableView} {a : SeatView} {made : List Rec} {m : Made} → IsBuilding table a made (m ∷ []) → length made ≡ 1
+made_one b = ap length b.listed
+
+pub found_few : (found : Found) → length (leaf_found found) ≤ 1
+found_few Nothing = omega arith
+found_few (Leaf number value mismatch) = omega arith
 
 module _ {G : Type 0} (table : TableView) (becomes : G → Event → G → Type 0) where
   pub none_count : (kind : ℕ → Rec) (n from m : ℕ) (a b : SeatView × G) → FindsNone table becomes kind n from m a b → b.0.known.steps ≤ a.0.known.steps + 2 * m

@@ -17,6 +17,7 @@ pub mod Shapes
 pub mod Ways
 pub mod Onward
 pub mod Attempting
+pub mod Attempted
 pub mod Affecting
 pub mod Bridging
 pub mod Classes

@@ -1,6 +1,7 @@
 -- Steps of a pass, one after the other: what they leave as it was, and what only grows.
-use Rattle.std.proofs.Common.{◌≡◌, ◌≤◌, List, [], ◌∷◌, ◌++◌, refl, sym, ap, subst, ◌∙◌, arith, ◌<◌, ◌+◌}
+use Rattle.std.proofs.Common.{◌≡◌, ◌≤◌, ℕ, List, length, [], ◌∷◌, ◌++◌, refl, sym, ap, subst, ◌∙◌, arith, ◌<◌, ◌+◌}
 use Rattle.std.specs.Prelude.{All}
+use Rattle.std.proofs.lemmas.List.{append-nil}
 use Rattle.std.proofs.lemmas.List.Elements.{All-append, All-cons, All-head, All-tail, All-weaker}
 use Rattle.finite_map.specs.Fronts.{BeginsWith}
 use Rattle.finite_map.proofs.Growth.{begins_itself, begins_on, begins_push}
@@ -164,23 +165,24 @@ module _ {G : Type 0} (table : TableView) (becomes : G → Event → G → Type 
   runs_trans a m b first second = tried_trans {s = []} {t = []} a m b first second
 
   -- each lock is tried once at most, where none is tried after it or before
-  pub once_run : (a m b : SeatView × G) → HasTriedOnce table becomes a m → HasRun table becomes m b → HasTriedOnce table becomes a b
+  pub once_run : {locks : ℕ} (a m b : SeatView × G) → HasTriedOnce table becomes locks a m → HasRun table becomes m b → HasTriedOnce table becomes locks a b
   unfolding tried_trans
-  once_run a m b (tried, first, once) second = (tried ++ [], tried_trans a m b first second, once_before first.acts second.acts once second.tried_are)
+  once_run a m b (tried, first, once, count) second =
+      (tried ++ [], tried_trans a m b first second, once_before first.acts second.acts once second.tried_are, ap length (append-nil tried) ∙ count)
 
-  pub run_once : (a m b : SeatView × G) → HasRun table becomes a m → HasTriedOnce table becomes m b → HasTriedOnce table becomes a b
+  pub run_once : {locks : ℕ} (a m b : SeatView × G) → HasRun table becomes a m → HasTriedOnce table becomes locks m b → HasTriedOnce table becomes locks a b
   unfolding tried_trans
-  run_once a m b first (tried, second, once) = (tried, tried_trans {s = []} a m b first second, once_after first.acts second.acts first.tried_are once)
+  run_once a m b first (tried, second, once, count) = (tried, tried_trans {s = []} a m b first second, once_after first.acts second.acts first.tried_are once, count)
 
-  pub none_once : (a b : SeatView × G) → HasRun table becomes a b → HasTriedOnce table becomes a b
-  none_once a b r = ([], r, subst AreApart (sym r.tried_are) tt)
+  pub none_once : (a b : SeatView × G) → HasRun table becomes a b → HasTriedOnce table becomes 0 a b
+  none_once a b r = ([], r, subst AreApart (sym r.tried_are) tt, refl)
 
   pub works_run : {tried : List Target} (a b : SeatView × G) → Tries table becomes tried a b → HasTried table becomes tried a b
   works_run a b w = record { acts = w.acts; pinned = All-weaker IsPlain LeavesPin (λ act t. recalls_pin act (plain_recalls act t)) w.acts w.plain; tried_are = w.tried_are; steps = w.steps }
 
-  pub tries_once : (a b : SeatView × G) → TriesOnce table becomes a b → HasTriedOnce table becomes a b
+  pub tries_once : {locks : ℕ} (a b : SeatView × G) → TriesOnce table becomes locks a b → HasTriedOnce table becomes locks a b
   unfolding works_run
-  tries_once a b (tried, run, once) = (tried, works_run a b run, once)
+  tries_once a b (tried, run, once, count) = (tried, works_run a b run, once, count)
 
   pub goes_run : (a b : SeatView × G) → WorksOn table becomes a b → HasRun table becomes a b
   goes_run a b w = record { acts = w.acts; pinned = All-weaker IsQuiet LeavesPin (λ act t. recalls_pin act (quiet_recalls act t)) w.acts w.plain; tried_are = quiet_tries_none w.acts w.plain; steps = w.steps }

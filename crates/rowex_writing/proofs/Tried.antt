@@ -1,7 +1,7 @@
 -- The locks that steps try: each once at most.
 use Rattle.std.proofs.Common.{◌≡◌, inl, inr, ℕ, zero, suc, ◌+◌, ◌-◌, ◌<◌, ◌≤◌, List, [], ◌∷◌, ◌++◌, length, get_or, take, drop, map, refl, sym, ap, subst, ◌∙◌, arith}
 use Rattle.std.specs.Prelude.{All, slice_range}
-use Rattle.std.proofs.lemmas.List.{append-nil}
+use Rattle.std.proofs.lemmas.List.{append-nil, length-append}
 use Rattle.std.proofs.lemmas.List.Elements.{All-append, All-head, All-tail}
 use Rattle.insert_cases.specs.declared.choice.Step.{Step}
 use Rattle.moments.specs.Trades.{AreApart, IsOf}
@@ -87,13 +87,14 @@ module _ {G : Type 0} (table : TableView) (becomes : G → Event → G → Type 
     pub tried : List Target
     pub run : Tries table becomes tried a b
     pub once : TriesLocksOnce run.acts
+    pub count : length tried ≡ length nodes
     pub among : (t : Target) → IsOf t tried → IsOf t (map NodeTarget nodes)
 
   pub nodes_none : (a : SeatView × G) → TriesNodes [] a a
-  nodes_none a = record { tried = []; run = record { acts = []; plain = λ i d low. absurd (omega arith); tried_are = refl; steps = refl }; once = tt; among = λ t i. i }
+  nodes_none a = record { tried = []; run = record { acts = []; plain = λ i d low. absurd (omega arith); tried_are = refl; steps = refl }; once = tt; count = refl; among = λ t i. i }
 
-  pub nodes_once : (ns : List ℕ) (a b : SeatView × G) → TriesNodes ns a b → TriesOnce table becomes a b
-  nodes_once ns a b h = (h.tried, h.run, h.once)
+  pub nodes_once : (ns : List ℕ) (a b : SeatView × G) → TriesNodes ns a b → TriesOnce table becomes (length ns) a b
+  nodes_once ns a b h = (h.tried, h.run, h.once, h.count)
 
   -- a lock more, which is none of those before
   apart_more : (target : Target) (tried : List Target) (a b : SeatView × G) (run : Tries table becomes tried a b) → TriesLocksOnce run.acts → (IsOf target tried → ⊥) → AreApart (tried ++ target ∷ [])
@@ -103,7 +104,7 @@ module _ {G : Type 0} (table : TableView) (becomes : G → Event → G → Type 
   pub nodes_more : (n : ℕ) (ns : List ℕ) (a m b : SeatView × G) → (IsOf n ns → ⊥) → TriesNodes ns a m → Tries table becomes (NodeTarget n ∷ []) m b → TriesNodes (n ∷ ns) a b
   nodes_more n ns a m b new h lock =
       let all = tries_more a m b h.run lock in
-      record { tried = h.tried ++ NodeTarget n ∷ []; run = all; once = subst AreApart (sym all.tried_are) (apart_more (NodeTarget n) h.tried a m h.run h.once none); among = within }
+      record { tried = h.tried ++ NodeTarget n ∷ []; run = all; once = subst AreApart (sym all.tried_are) (apart_more (NodeTarget n) h.tried a m h.run h.once none); count = omega (arith, length-append h.tried (NodeTarget n ∷ []), h.count); among = within }
     where
       none : IsOf (NodeTarget n) h.tried → ⊥
       none i = let (x, there, e) = of_map NodeTarget (NodeTarget n) ns (h.among (NodeTarget n) i) in new (subst (λ z. IsOf z ns) (sym (same_number n x e)) there)
@@ -112,14 +113,14 @@ module _ {G : Type 0} (table : TableView) (becomes : G → Event → G → Type 
       within t i = elim (of_append t h.tried (NodeTarget n ∷ []) i) [ inl older ↦ inr (h.among t older) | inr last ↦ elim last [ inl e ↦ inl e | inr nothing ↦ absurd nothing ] ]
 
   -- of the anchor
-  pub anchor_more : (ns : List ℕ) (a m b : SeatView × G) → TriesNodes ns a m → Tries table becomes (Anchor ∷ []) m b → TriesOnce table becomes a b
+  pub anchor_more : (ns : List ℕ) (a m b : SeatView × G) → TriesNodes ns a m → Tries table becomes (Anchor ∷ []) m b → TriesOnce table becomes (suc (length ns)) a b
   anchor_more ns a m b h lock =
-      let all = tries_more a m b h.run lock in (h.tried ++ Anchor ∷ [], all, subst AreApart (sym all.tried_are) (apart_more Anchor h.tried a m h.run h.once none))
+      let all = tries_more a m b h.run lock in (h.tried ++ Anchor ∷ [], all, subst AreApart (sym all.tried_are) (apart_more Anchor h.tried a m h.run h.once none), omega (arith, length-append h.tried (Anchor ∷ []), h.count))
     where
       none : IsOf Anchor h.tried → ⊥
       none i = let (x, there, e) = of_map NodeTarget Anchor ns (h.among Anchor i) in cc
 
   -- and then none
-  pub once_then : (a m b : SeatView × G) → TriesOnce table becomes a m → Works table becomes m b → TriesOnce table becomes a b
+  pub once_then : {locks : ℕ} (a m b : SeatView × G) → TriesOnce table becomes locks a m → Works table becomes m b → TriesOnce table becomes locks a b
   unfolding tries_more
-  once_then a m b (tried, run, once) works = (tried ++ [], tries_more a m b run works, once_before run.acts works.acts once works.tried_are)
+  once_then a m b (tried, run, once, count) works = (tried ++ [], tries_more a m b run works, once_before run.acts works.acts once works.tried_are, ap length (append-nil tried) ∙ count)

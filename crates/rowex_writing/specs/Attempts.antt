@@ -1,5 +1,5 @@
 -- One attempt of a call that may change the map: what it answers, and why it is refused.
-use Rattle.std.specs.Prelude.{◌≡◌, ◌≢◌, ◌⊎◌, ℕ, ◌<◌, ◌≤◌, length, Option, Some, None}
+use Rattle.std.specs.Prelude.{◌≡◌, ◌≢◌, ◌⊎◌, ℕ, ◌<◌, ◌≤◌, List, ◌++◌, length, All, Option, Some, None}
 use Rattle.finite_map.specs.declared.Call.{Call}
 use Rattle.finite_map.specs.declared.Call.TheVariants.{Insert as InsertCall, Upsert as UpsertCall, Exchange as ExchangeCall, Remove as RemoveCall, RemoveIf as RemoveIfCall}
 use Rattle.finite_map.specs.declared.Change.{Change}
@@ -10,11 +10,20 @@ use Rattle.finite_map.specs.Fronts.{BeginsWith, OthersGoOn}
 use Rattle.record_words.specs.declared.layout.Layout.{Layout}
 use Rattle.tries.specs.Keys.{Key}
 use Rattle.moments.specs.State.{IsHeldSince, IsMissed}
+use Rattle.rowex_core.specs.declared.event.Act.{Act}
+use Rattle.rowex_core.specs.declared.event.Act.TheVariants.{LoadRef}
+use Rattle.rowex_core.specs.declared.event.Event.{Event}
+use Rattle.rowex_core.specs.declared.event.Spot.TheVariants.{Root}
 use Rattle.rowex_core.specs.declared.known.Known.{Known}
 use Rattle.rowex_core.specs.Knowing.{IsSince}
+use Rattle.rowex_reading.specs.Reads.{IsBelowRoot, entries_in}
 use Rattle.rowex_reading.specs.Seen.{Sure, since}
+use Rattle.rowex_table.specs.Runs.{Runs}
+use Rattle.rowex_table.specs.Seats.{TableView, SeatView}
+use Rattle.rowex_table.specs.Stays.{LeavesPin}
 use Rattle.rowex_writing.specs.Changes.{HasChanged, HasStored, HasTaken, IsFull}
-use Rattle.rowex_writing.specs.Locks.{HasMetLock}
+use Rattle.rowex_writing.specs.Counts.{attempt_steps, most_locks, most_nodes}
+use Rattle.rowex_writing.specs.Locks.{HasMetLock, TriesLocksOnce, targets_of}
 use Rattle.rowex_writing.specs.declared.plan.Ask.{Ask}
 use Rattle.rowex_writing.specs.declared.plan.Ask.TheVariants.{Insert, Upsert, Exchange, Remove, RemoveIf}
 use Rattle.rowex_writing.specs.declared.plan.Deed.{Deed}
@@ -32,6 +41,28 @@ asked_call Upsert key value = UpsertCall key value
 asked_call (Exchange expected) key value = ExchangeCall key expected value
 asked_call Remove key value = RemoveCall key
 asked_call (RemoveIf expected) key value = RemoveIfCall key expected
+
+-- a load of a search: of the root, or of a word below it
+abbrev pub IsOfSearch : Act → Type 0
+IsOfSearch (LoadRef Root word) = Unit {0}
+IsOfSearch act = IsBelowRoot act
+
+-- The steps of an attempt, but for its pin: those of its search, which loads one entry in each node on its way, and the rest. Each lock
+-- is tried once at most. They are so many at most for so many nodes and locks.
+pub record AreAttemptSteps (layout : Layout) (acts : List Act) : Type 0 where
+  pub search : List Act
+  pub rest : List Act
+  pub acts_are : acts ≡ search ++ rest
+  pub searches : All IsOfSearch search
+  pub pinned : All LeavesPin acts
+  pub once : TriesLocksOnce acts
+  pub depth : entries_in search ≤ most_nodes
+  pub locks : length (targets_of acts) ≤ most_locks
+  pub few : length acts ≤ attempt_steps layout (entries_in search) (length (targets_of acts))
+
+-- the pass makes such steps, and the gate is told each of them
+abbrev pub HasAttempted : {G : Type 0} → TableView → (G → Event → G → Type 0) → SeatView × G → SeatView × G → Type 0
+HasAttempted table becomes a b = (acts : List Act) × AreAttemptSteps table.layout acts × Runs table becomes acts a b
 
 -- the last load of the root was since k, and its front begins with that of k
 pub record HasLoadedRoot (k j : Known) : Type 0 where

@@ -57,9 +57,9 @@ pub record HasTried {G : Type 0} (table : TableView) (becomes : G → Event → 
 abbrev pub HasRun : {G : Type 0} → TableView → (G → Event → G → Type 0) → SeatView × G → SeatView × G → Type 0
 HasRun table becomes a b = HasTried table becomes [] a b
 
--- it tries each once at most
-abbrev pub HasTriedOnce : {G : Type 0} → TableView → (G → Event → G → Type 0) → SeatView × G → SeatView × G → Type 0
-HasTriedOnce table becomes a b = (tried : List Target) × (run : HasTried table becomes tried a b) × TriesLocksOnce run.acts
+-- it tries so many, each once
+abbrev pub HasTriedOnce : {G : Type 0} → TableView → (G → Event → G → Type 0) → ℕ → SeatView × G → SeatView × G → Type 0
+HasTriedOnce table becomes locks a b = (tried : List Target) × (run : HasTried table becomes tried a b) × TriesLocksOnce run.acts × (length tried ≡ locks)
 
 -- ---- the plan
 -- where a new leaf goes into a node of the way, these are the entries that its position affects there, by the forks that were read

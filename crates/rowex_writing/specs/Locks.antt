@@ -1,5 +1,5 @@
 -- The locks of a writer, and what it was refused them by.
-use Rattle.std.specs.Prelude.{◌≡◌, ◌≢◌, ◌⊎◌, ℕ, ◌-◌, ◌<◌, ◌≤◌, List, [], ◌∷◌, length, get_or, map, All, Contains, IsSome, Some, None, slice_range}
+use Rattle.std.specs.Prelude.{◌≡◌, ◌≢◌, ◌⊎◌, ℕ, ◌+◌, ◌-◌, ◌<◌, ◌≤◌, List, [], ◌∷◌, length, get_or, map, All, Contains, IsSome, Some, None, slice_range}
 use Rattle.finite_map.specs.declared.Change.{Change}
 use Rattle.insert_cases.specs.declared.choice.Step.{Step}
 use Rattle.compound_node.specs.declared.entries.Entry.TheVariants.{Node}
@@ -54,9 +54,9 @@ pub record Tries {G : Type 0} (table : TableView) (becomes : G → Event → G �
 abbrev pub Works : {G : Type 0} → TableView → (G → Event → G → Type 0) → SeatView × G → SeatView × G → Type 0
 Works table becomes a b = Tries table becomes [] a b
 
--- it tries each once at most
-abbrev pub TriesOnce : {G : Type 0} → TableView → (G → Event → G → Type 0) → SeatView × G → SeatView × G → Type 0
-TriesOnce table becomes a b = (tried : List Target) × (run : Tries table becomes tried a b) × TriesLocksOnce run.acts
+-- it tries so many, each once
+abbrev pub TriesOnce : {G : Type 0} → TableView → (G → Event → G → Type 0) → ℕ → SeatView × G → SeatView × G → Type 0
+TriesOnce table becomes locks a b = (tried : List Target) × (run : Tries table becomes tried a b) × TriesLocksOnce run.acts × (length tried ≡ locks)
 
 -- no node is locked by the pass, and the anchor is not
 abbrev pub HasNoLock : Known → Type 0
@@ -83,6 +83,10 @@ AreLed layout k steps = All (IsLedStep layout k) steps
 -- the nodes that are locked for a span of the way: those that are remade, and the one above them
 abbrev pub span_numbers : List Step → Span → List ℕ
 span_numbers way span = numbers_of (slice_range way (span.end - 1) span.len)
+
+-- how many locks these are, with the anchor's where they go up to the root
+abbrev pub locks_of : Span → ℕ
+locks_of span = span.len - span.end + 1
 
 -- Just those are locked by the pass, and the anchor where the span goes up to the root.
 pub record HasLockedSpan (k : Known) (way : List Step) (span : Span) : Type 0 where

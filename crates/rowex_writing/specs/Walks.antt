@@ -1,12 +1,11 @@
 -- The walk of a change over the records of a kind, which its claims go on with one after the other.
-use Rattle.std.specs.Prelude.{◌≡◌, ◌⊎◌, ℕ, ◌+◌, ◌*◌, ◌<◌, ◌≤◌, List, Contains, MatchOption, Option, Some, None}
+use Rattle.std.specs.Prelude.{◌≡◌, ◌⊎◌, ℕ, ◌+◌, ◌*◌, ◌<◌, ◌≤◌, List, length, Contains, MatchOption, Option, Some, None}
 use Rattle.record_words.specs.declared.layout.Layout.{Layout}
 use Rattle.moments.specs.declared.Rec.{Rec}
 use Rattle.moments.specs.declared.Rec.TheVariants.{Node as a_node}
 use Rattle.rowex_core.specs.declared.known.Known.{Known}
 use Rattle.rowex_records.specs.Claims.{AllMissed, HasMissedSince, begin_of, wrapped}
 use Rattle.rowex_writing.specs.declared.building.Build.{Build}
-use Rattle.rowex_writing.specs.declared.building.TheConstants.{MOST_MADE}
 
 -- From this step on the pass has tried some of the n records of the kind, from `begin` on, each once, and may try `left` more, from
 -- `next` on. Each that it has tried was found not free since that step, or is one of those that it has made.
@@ -29,10 +28,10 @@ WalksOn layout k build j after answer =
     (since : ℕ) → HasWalked layout since k build → MatchOption answer (AllMissed a_node layout.nodes j.failed since) (λ x. HasWalked layout since j after)
 
 -- before the answer is nothing each record that is made is looked at
-abbrev pub looks_for : {X : Type 0} → Option X → ℕ
-looks_for None = MOST_MADE
-looks_for (Some x) = 0
+abbrev pub looks_for : {X : Type 0} → Build → Option X → ℕ
+looks_for after None = length after.made.items
+looks_for after (Some x) = 0
 
 -- The pass makes so many steps at most, and two for each number that it tries on its walk.
 abbrev pub Spends : {X : Type 0} → ℕ → Known → Build → Known → Build → Option X → Type 0
-Spends steps k build j after answer = j.steps + 2 * after.left_nodes ≤ k.steps + 2 * build.left_nodes + steps + looks_for answer
+Spends steps k build j after answer = j.steps + 2 * after.left_nodes ≤ k.steps + 2 * build.left_nodes + steps + looks_for after answer

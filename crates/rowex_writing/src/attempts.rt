@@ -9,11 +9,11 @@ ghost use Rattle.rowex_rights.specs.Ending.{IsAtRest};
 ghost use Rattle.rowex_table.specs.Made.{IsLater};
 ghost use Rattle.rowex_table.specs.Seats.{IsSeatOf};
 ghost use Rattle.rowex_writing.specs.Asking.{aim_of as the_aim, declined as the_answer};
-ghost use Rattle.rowex_writing.specs.Attempts.{HasAnswered, HasDone, HasLoadedRoot, HasRefused, reply_to as the_reply};
+ghost use Rattle.rowex_writing.specs.Attempts.{HasAnswered, HasAttempted, HasDone, HasLoadedRoot, HasRefused, reply_to as the_reply};
 ghost use Rattle.rowex_writing.specs.Changes.{HasNoRoom, HasRun, HasTakenPlan, HasTakenSpan, HasTriedOnce};
-ghost use Rattle.rowex_writing.specs.Locks.{HasMadeNoChange, HasMetLock};
+ghost use Rattle.rowex_writing.specs.Locks.{HasMadeNoChange, HasMetLock, locks_of};
 ghost use Rattle.rowex_reading.specs.Ways.{IsWayOf, value_of};
-ghost use Rattle.rowex_writing.specs.Counts.{attempt_steps, change_steps, span_steps};
+ghost use Rattle.rowex_writing.specs.Counts.{change_steps, most_locks, most_steps, span_steps};
 
 use crate::asking::{aim_of, declined};
 use crate::building::Build;
@@ -50,8 +50,8 @@ pub enum TryFault {
 }
 
 /// Makes one attempt: searches for the key and answers, where nothing is to change; or else locks what it wants to change, each
-/// once, checks that it still stands as the search found it, and makes the change by one store. It makes at most 700,259 atomic
-/// steps, four more for each leaf record and two for each node record.
+/// once, checks that it still stands as the search found it, and makes the change by one store. It makes at most 124 atomic steps,
+/// 26 for each node on the key's way, 297 for each lock that it tries, four for each leaf record and two for each node record.
 pub fn attempt<G: Gate>(
     table: &HotTable,
     seat: &mut TableSeat,
@@ -66,13 +66,13 @@ pub fn attempt<G: Gate>(
     requires pinned { IsSome seat.old.known.pin }
     requires rest { IsAtRest seat.old.known }
     requires quiet { HasMadeNoChange seat.old.known }
-    ensures run { HasTriedOnce table.now G.becomes (seat.old, gate.old) (seat.new, gate.new) }
+    ensures run { HasAttempted table.now G.becomes (seat.old, gate.old) (seat.new, gate.new) }
     ensures loaded { HasLoadedRoot seat.old.known seat.new.known }
     ensures rest { IsAtRest seat.new.known }
     ensures answered { IfOk result (HasAnswered seat.old.known seat.new.known ask key.now value) }
     ensures refused { IfErr result (HasRefused table.now.layout key.now seat.old.known seat.new.known) }
     ensures leafless { the_aim ask ≡ Aim.Remove → result ≢ Err TryFault.FullLeaves }
-    ensures few { seat.new.known.steps ≤ seat.old.known.steps + attempt_steps table.now.layout }
+    ensures few { seat.new.known.steps ≤ seat.old.known.steps + most_steps table.now.layout }
 {
     let found = search_way(table, seat, gate, key, way);
     if let Some(reply) = declined(ask, found) {
@@ -111,13 +111,13 @@ fn act_on<G: Gate>(
     requires met { the_answer ask found ≡ None }
     requires rest { IsAtRest seat.old.known }
     requires quiet { HasMadeNoChange seat.old.known }
-    ensures run { HasTriedOnce table.now G.becomes (seat.old, gate.old) (seat.new, gate.new) }
+    ensures run { (locks : ℕ) × HasTriedOnce table.now G.becomes locks (seat.old, gate.old) (seat.new, gate.new) × (locks ≤ most_locks) ×
+        (seat.new.known.steps ≤ seat.old.known.steps + span_steps locks + change_steps table.now.layout locks) }
     ensures rest { IsAtRest seat.new.known }
     ensures answered { IfOk result (λ reply. (k : Known) → IsLater k seat.old.known → HasAnswered k seat.new.known ask key.now value reply) }
     ensures refused { IfErr result (λ fault. (k : Known) → HasLoadedRoot k seat.old.known → IsLater k seat.old.known →
         HasRefused table.now.layout key.now k seat.new.known fault) }
     ensures leafless { the_aim ask ≡ Aim.Remove → result ≢ Err TryFault.FullLeaves }
-    ensures few { seat.new.known.steps ≤ seat.old.known.steps + span_steps + change_steps table.now.layout }
 {
     match find_plan(table, seat, gate, key, way, aim_of(ask), found) {
         Plan::Answer(reply) => Ok(reply),
@@ -151,14 +151,14 @@ fn take_span<G: Gate>(
     requires way { (m : ℕ) × IsWayOf table.now.layout seat.old.known m key.now way.now found }
     requires rest { IsAtRest seat.old.known }
     requires quiet { HasMadeNoChange seat.old.known }
-    ensures run { HasTriedOnce table.now G.becomes (seat.old, gate.old) (seat.new, gate.new) }
+    ensures run { (locks : ℕ) × HasTriedOnce table.now G.becomes locks (seat.old, gate.old) (seat.new, gate.new) × (locks ≤ locks_of span) ×
+        (result ≡ true → locks ≡ locks_of span) × (seat.new.known.steps ≤ seat.old.known.steps + 3 * locks + 1) }
     ensures later { IsLater seat.old.known seat.new.known }
     ensures taken { result ≡ true → (m : ℕ) → IsWayOf table.now.layout seat.old.known m key.now way.now found →
         HasTakenSpan table.now seat.new m key.now way.now found span }
     ensures rest { result ≡ false → IsAtRest seat.new.known }
     ensures busy { result ≡ false → (m : ℕ) → IsWayOf table.now.layout seat.old.known m key.now way.now found →
         HasMetLock table.now.layout seat.old.known seat.new.known ⊎ (m < length seat.new.known.front) }
-    ensures few { seat.new.known.steps ≤ seat.old.known.steps + 4 * span.len + 3 }
 {
     if !lock_span(table, seat, gate, way, span) {
         return false;
@@ -189,7 +189,7 @@ fn make_change<G: Gate>(
     ensures done { result ≡ Ok tt → HasDone seat.old.known seat.new.known deed key.now value found }
     ensures full { IfErr result (λ full. HasNoRoom table.now.layout key.now seat.old.known seat.new.known full) }
     ensures leafless { deed ≡ Deed.Take → result ≢ Err Full.Leaves }
-    ensures few { seat.new.known.steps ≤ seat.old.known.steps + change_steps table.now.layout }
+    ensures few { seat.new.known.steps ≤ seat.old.known.steps + change_steps table.now.layout (locks_of span) }
 {
     match deed {
         Deed::Put => put_leaf(table, seat, gate, build, way, key, value, found, span),

@@ -328,6 +328,7 @@ fn raise_on<G: Gate>(
         (HasNotMade table.now seat.new build.new.made.items)
         (HasRisenTo table.now seat.new build.new.made.items way.now b.here.since b.here.item b.here.mismatch b.here.like end (gone_with way.now end level b.here.gone)) }
     ensures low { (s : StepView) (words : List ℕ) → slice_get way.now end ≡ Some s → HasLocked seat.old.known s.number words → IfSome result (FitsAbove words) }
+    ensures more { length build.new.made.items ≤ length build.old.made.items + 2 * (level - end) + 1 }
     ensures walk { WalksOn table.now.layout seat.old.known build.old seat.new.known build.new result }
     ensures few { Spends ((level - end + 1) * level_steps) seat.old.known build.old seat.new.known build.new result }
 {
@@ -374,6 +375,7 @@ pub fn raise_grown<G: Gate>(
         (λ r. HasRisenTo table.now seat.new build.new.made.items way.now b.lowest.since b.lowest.item position b.lowest.like end
         (gone_with way.now end top (gone_unless r.1 b.step.number)) r.0) }
     ensures low { (s : StepView) (words : List ℕ) → slice_get way.now end ≡ Some s → HasLocked seat.old.known s.number words → IfSome result (λ r. FitsAbove words r.0) }
+    ensures more { length build.new.made.items ≤ length build.old.made.items + 2 * (top - end) + 3 }
     ensures walk { WalksOn table.now.layout seat.old.known build.old seat.new.known build.new result }
     ensures few { Spends ((top - end + 2) * level_steps) seat.old.known build.old seat.new.known build.new result }
 {
@@ -404,6 +406,7 @@ pub fn raise_without<G: Gate>(
         (HasNotMade table.now seat.new build.new.made.items)
         (λ e. (news : List Made) × IsSide (page_without key.now (node_words_of words).page) e news × IsBuilding table.now seat.new build.new.made.items news) }
     ensures low { (words : List ℕ) → HasLocked seat.old.known number words → IfSome result (λ e. height_of e ≤ (node_words_of words).fixed.height) }
+    ensures more { length build.new.made.items ≤ length build.old.made.items + 1 }
     ensures walk { WalksOn table.now.layout seat.old.known build.old seat.new.known build.new result }
     ensures few { Spends level_steps seat.old.known build.old seat.new.known build.new result }
 {
@@ -435,6 +438,7 @@ pub fn raise_pair<G: Gate>(
         (HasNotMade table.now seat.new build.new.made.items)
         (λ e. (more : List Made) × IsSide (page_forked (bit key.now position) position (Entry.Leaf leaf) (At old)) e more ×
         IsBuilding table.now seat.new build.new.made.items (more ++ news)) }
+    ensures more { length build.new.made.items ≤ length build.old.made.items + 1 }
     ensures walk { WalksOn table.now.layout seat.old.known build.old seat.new.known build.new result }
     ensures few { Spends node_steps seat.old.known build.old seat.new.known build.new result }
 {

@@ -1,6 +1,6 @@
 //! The check under the locks: what a search has found still stands.
 
-ghost use Rattle.std.specs.Prelude.{◌≡◌, ◌≢◌, ◌<◌, ◌≤◌, ℕ, List, length, true, false, Some, IsSome, ◌+◌};
+ghost use Rattle.std.specs.Prelude.{◌≡◌, ◌≢◌, ◌<◌, ◌≤◌, ℕ, List, length, true, false, Some, IsSome, ◌+◌, ◌-◌};
 ghost use Rattle.compound_node.specs.declared.entries.Entry.{Entry as EntryValue};
 ghost use Rattle.tries.specs.Keys.{Key as KeyValue};
 ghost use Rattle.tries.specs.Place.{entry_at};
@@ -12,7 +12,7 @@ ghost use Rattle.rowex_reading.specs.Seen.{HasPlace, Sure};
 ghost use Rattle.rowex_writing.specs.Changes.{IsChecked};
 ghost use Rattle.rowex_writing.specs.Checks.{EntriesStand};
 ghost use Rattle.rowex_writing.specs.Going.{HasLocked, IsLockedBy, ReadsOn};
-ghost use Rattle.rowex_writing.specs.Locks.{HasLockedSpan};
+ghost use Rattle.rowex_writing.specs.Locks.{HasLockedSpan, locks_of};
 ghost use Rattle.rowex_reading.specs.Ways.{IsWayOf, RootWas, named};
 
 use crate::plan::Span;
@@ -45,7 +45,7 @@ pub fn check_span<G: Gate>(
     ensures possible { IsPossible table.now.layout seat.new.known }
     ensures checked { result ≡ true → IsChecked seat.new.known _key.now way.now found span }
     ensures changed { (m : ℕ) → IsWayOf table.now.layout seat.old.known m _key.now way.now found → result ≡ false → m < length seat.new.known.front }
-    ensures few { seat.new.known.steps ≤ seat.old.known.steps + span.len + 1 }
+    ensures few { seat.new.known.steps ≤ seat.old.known.steps + locks_of span }
 {
     if span.end > 0 {
         return entries_stand(table, seat, gate, way, found, span);
@@ -113,7 +113,7 @@ fn entries_stand<G: Gate>(
         EntriesStand seat.new.known key way.now found span }
     ensures changed { (m : ℕ) (key : KeyValue) → IsWayOf table.now.layout seat.old.known m key way.now found → result ≡ false →
         m < length seat.new.known.front }
-    ensures few { seat.new.known.steps ≤ seat.old.known.steps + span.len }
+    ensures few { seat.new.known.steps + (span.end - 1) ≤ seat.old.known.steps + span.len }
 {
     for index in span.end.saturating_sub(1)..span.len {
         let entry = named_at(way, found, index + 1);

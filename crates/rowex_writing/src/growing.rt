@@ -6,6 +6,7 @@ ghost use Rattle.moments.specs.declared.Rec.TheVariants.{Node as a_node};
 ghost use Rattle.tries.specs.Content.{item};
 ghost use Rattle.rowex_walks.specs.Writer.{added_change};
 ghost use Rattle.rowex_writing.specs.Changes.{HasChanged, HasNoRoom, HasRun, HasStored, HasTakenPlan};
+ghost use Rattle.rowex_writing.specs.Locks.{locks_of};
 ghost use Rattle.rowex_writing.specs.Growths.{HasNumber, MayGrow};
 ghost use Rattle.rowex_writing.specs.declared.plan.Deed.TheVariants.{Grow};
 ghost use Rattle.rowex_writing.specs.Counts.{change_steps, levels_steps, undo_steps};
@@ -42,7 +43,7 @@ pub fn grow_node<G: Gate>(
     ensures run { HasRun table.now G.becomes (seat.old, gate.old) (seat.new, gate.new) }
     ensures stored { result ≡ Ok tt → HasStored seat.old.known seat.new.known key.now value found }
     ensures full { IfErr result (λ full. HasNoRoom table.now.layout key.now seat.old.known seat.new.known full) }
-    ensures few { seat.new.known.steps ≤ seat.old.known.steps + change_steps table.now.layout }
+    ensures few { seat.new.known.steps ≤ seat.old.known.steps + change_steps table.now.layout (locks_of span) }
 {
     let Some(leaf) = make_leaf(table, seat, gate, build, key, value) else {
         let locked = &way[span.end.saturating_sub(1)..span.len];
@@ -73,7 +74,7 @@ fn grow_with<G: Gate>(
     ensures stored { result ≡ Ok tt → (value : ℕ) → MayGrow table.now seat.old build.old.made.items way.now key.now value span position first last leaf →
         HasChanged seat.old.known seat.new.known (added_change seat.old.known.pass (item leaf key.now value)) None }
     ensures full { IfErr result (λ full. HasNoRoom table.now.layout key.now seat.old.known seat.new.known full) }
-    ensures few { seat.new.known.steps ≤ seat.old.known.steps + levels_steps table.now.layout + undo_steps }
+    ensures few { seat.new.known.steps ≤ seat.old.known.steps + levels_steps table.now.layout (locks_of span) + undo_steps (locks_of span) }
 {
     build.left_nodes = table.layout().nodes;
     let top = span.len - 1;

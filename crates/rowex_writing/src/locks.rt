@@ -1,10 +1,10 @@
 //! The locks of a writer: those of a span of the way, taken upwards, and given back.
 
-ghost use Rattle.std.specs.Prelude.{◌≡◌, ◌≤◌, [], ◌∷◌, length, true, false, None, ◌+◌, ◌*◌};
+ghost use Rattle.std.specs.Prelude.{◌≡◌, ◌<◌, ◌≤◌, ℕ, [], ◌∷◌, length, true, false, None, ◌+◌, ◌*◌};
 ghost use Rattle.moments.specs.Trades.{AreApart, IsOf};
 ghost use Rattle.rowex_table.specs.Made.{nodes_of};
 ghost use Rattle.rowex_table.specs.Seats.{IsSeatOf};
-ghost use Rattle.rowex_writing.specs.Locks.{AreLed, AreNodes, HasJustLocked, HasLockedSpan, HasMadeNoChange, HasMetLock, HasNoLock, IsRefusedLock, LeavesRest, LocksAnchor, LocksOne, Tries, TriesOnce, Works, numbers_of};
+ghost use Rattle.rowex_writing.specs.Locks.{AreLed, AreNodes, HasJustLocked, HasLockedSpan, HasMadeNoChange, HasMetLock, HasNoLock, IsRefusedLock, LeavesRest, LocksAnchor, LocksOne, Tries, TriesOnce, Works, locks_of, numbers_of};
 
 use crate::plan::Span;
 use insert_cases::Step;
@@ -29,11 +29,12 @@ pub fn lock_span<G: Gate>(
     requires apart { AreApart (numbers_of way.now) }
     requires none { seat.old.known.own ≡ [] }
     requires quiet { HasMadeNoChange seat.old.known }
-    ensures tries { TriesOnce table.now G.becomes (seat.old, gate.old) (seat.new, gate.new) }
+    ensures tries { (locks : ℕ) × TriesOnce table.now G.becomes locks (seat.old, gate.old) (seat.new, gate.new) × (locks ≤ locks_of span) ×
+        (result ≡ true → locks ≡ locks_of span) × (seat.new.known.steps < seat.old.known.steps + 2 * locks) }
     ensures same { seat.new.known.own ≡ seat.old.known.own }
     ensures locked { result ≡ true → HasLockedSpan seat.new.known way.now span }
     ensures refused { result ≡ false → HasNoLock seat.new.known × HasMetLock table.now.layout seat.old.known seat.new.known }
-    ensures few { seat.new.known.steps ≤ seat.old.known.steps + 2 * span.len + 1 }
+    ensures few { result ≡ true → seat.new.known.steps ≤ seat.old.known.steps + locks_of span }
 {
     let first = span.end.saturating_sub(1);
     let mut index = span.len;

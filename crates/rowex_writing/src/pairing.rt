@@ -2,6 +2,7 @@
 
 ghost use Rattle.std.specs.Prelude.{◌≡◌, ◌<◌, ℕ, IfErr, Ok, ◌≤◌, ◌+◌};
 ghost use Rattle.rowex_writing.specs.Changes.{HasNoRoom, HasRun, HasStored, HasTakenPlan};
+ghost use Rattle.rowex_writing.specs.Locks.{locks_of};
 ghost use Rattle.rowex_writing.specs.declared.plan.Deed.TheVariants.{Pair};
 ghost use Rattle.rowex_writing.specs.Counts.{change_steps};
 
@@ -34,7 +35,7 @@ pub fn pair_leaf<G: Gate>(
     ensures run { HasRun table.now G.becomes (seat.old, gate.old) (seat.new, gate.new) }
     ensures stored { result ≡ Ok tt → HasStored seat.old.known seat.new.known key.now value found }
     ensures full { IfErr result (λ full. HasNoRoom table.now.layout key.now seat.old.known seat.new.known full) }
-    ensures few { seat.new.known.steps ≤ seat.old.known.steps + change_steps table.now.layout }
+    ensures few { seat.new.known.steps ≤ seat.old.known.steps + change_steps table.now.layout (locks_of span) }
 {
     let Found::Leaf { number: old, .. } = found else {
         unreachable!()

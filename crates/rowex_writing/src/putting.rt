@@ -2,6 +2,7 @@
 
 ghost use Rattle.std.specs.Prelude.{◌≡◌, ◌-◌, ◌<◌, ◌≤◌, ℕ, IfErr, Ok, length, slice_range, ◌+◌};
 ghost use Rattle.rowex_writing.specs.Changes.{HasNoRoom, HasRun, HasStored, HasTakenPlan};
+ghost use Rattle.rowex_writing.specs.Locks.{locks_of};
 ghost use Rattle.rowex_writing.specs.Putting.{IsSpotAbove, leaf_found};
 ghost use Rattle.rowex_writing.specs.declared.plan.Deed.TheVariants.{Put};
 ghost use Rattle.rowex_writing.specs.Counts.{change_steps};
@@ -33,7 +34,7 @@ pub fn put_leaf<G: Gate>(
     ensures run { HasRun table.now G.becomes (seat.old, gate.old) (seat.new, gate.new) }
     ensures stored { result ≡ Ok tt → HasStored seat.old.known seat.new.known key.now value found }
     ensures full { IfErr result (λ full. HasNoRoom table.now.layout key.now seat.old.known seat.new.known full) }
-    ensures few { seat.new.known.steps ≤ seat.old.known.steps + change_steps table.now.layout }
+    ensures few { seat.new.known.steps ≤ seat.old.known.steps + change_steps table.now.layout (locks_of span) }
 {
     let anchor = span.end == 0;
     let above = node_above(way, span.end);

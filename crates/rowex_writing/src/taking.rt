@@ -3,10 +3,11 @@
 ghost use Rattle.std.specs.Prelude.{◌≡◌, ◌<◌, ℕ, [], IfErr, None, Ok, ◌≤◌, ◌+◌};
 ghost use Rattle.tries.specs.Keys.{Key as KeyView};
 ghost use Rattle.rowex_writing.specs.Changes.{HasNoRoom, HasRun, HasTaken, HasTakenPlan};
+ghost use Rattle.rowex_writing.specs.Locks.{locks_of};
 ghost use Rattle.rowex_writing.specs.Taking.{HasLeafBelow, HasOnlyLeaf};
 ghost use Rattle.rowex_writing.specs.declared.plan.Deed.TheVariants.{Take};
 ghost use Rattle.rowex_reading.specs.declared.descent.Found.TheVariants.{Leaf as LeafFound};
-ghost use Rattle.rowex_writing.specs.Counts.{change_steps, end_steps};
+ghost use Rattle.rowex_writing.specs.Counts.{change_steps};
 
 use crate::building::{Build, raise_without};
 use crate::ending::undo;
@@ -34,7 +35,7 @@ pub fn take_leaf<G: Gate>(
     ensures run { HasRun table.now G.becomes (seat.old, gate.old) (seat.new, gate.new) }
     ensures taken { result ≡ Ok tt → HasTaken seat.old.known seat.new.known key.now found }
     ensures full { IfErr result (λ full. (full ≡ Full.Nodes) × HasNoRoom table.now.layout key.now seat.old.known seat.new.known full) }
-    ensures few { seat.new.known.steps ≤ seat.old.known.steps + change_steps table.now.layout }
+    ensures few { seat.new.known.steps ≤ seat.old.known.steps + change_steps table.now.layout (locks_of span) }
 {
     build.made.clear();
     match found {
@@ -62,7 +63,7 @@ fn empty_root<G: Gate>(
     ensures run { HasRun table.now G.becomes (seat.old, gate.old) (seat.new, gate.new) }
     ensures taken { (key : KeyView) (value : ℕ) → HasOnlyLeaf table.now seat.old number key value →
         HasTaken seat.old.known seat.new.known key (LeafFound number value None) }
-    ensures few { seat.new.known.steps ≤ seat.old.known.steps + end_steps }
+    ensures few { seat.new.known.steps ≤ seat.old.known.steps + 4 }
 {
     build.gone.clear();
     build.gone.push(Rec::Leaf(number));
@@ -86,7 +87,7 @@ fn remake_without<G: Gate>(
     ensures taken { (m value : ℕ) → HasLeafBelow table.now seat.old m key.now way.now number value span → result ≡ Ok tt →
         HasTaken seat.old.known seat.new.known key.now (LeafFound number value None) }
     ensures full { IfErr result (λ full. (full ≡ Full.Nodes) × HasNoRoom table.now.layout key.now seat.old.known seat.new.known full) }
-    ensures few { seat.new.known.steps ≤ seat.old.known.steps + change_steps table.now.layout }
+    ensures few { seat.new.known.steps ≤ seat.old.known.steps + change_steps table.now.layout (locks_of span) }
 {
     let anchor = span.end == 0;
     let first = span.end.saturating_sub(1);

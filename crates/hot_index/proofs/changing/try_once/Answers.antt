@@ -3,7 +3,7 @@ use Rattle.std.proofs.Common.{rules, ◌≡◌, ◌+◌, ◌∙◌, ap, arith}
 use Rattle.rowex_core.specs.declared.known.Known.{Known}
 use Rattle.hot_index.proofs.Conflicts.{pins_quiet}
 use Rattle.hot_index.proofs.Noting.{fits_then}
-use Rattle.hot_index.proofs.Tracing.{attempt_ended}
+use Rattle.hot_index.proofs.Tracing.{attempt_ended, attempt_run}
 use Rattle.hot_index.proofs.Trying.{run_pinned, run_same, tried, tried_later, tried_loaded}
 use Rattle.hot_index.proofs.changing.try_once.Goals as goal
 
@@ -12,7 +12,7 @@ attempt-outcome-requires-clause-quiet g c = pins_quiet c.pin.ensures.steps
 
 pub end_try-requires : goal.end_try-requires
 end_try-requires g c =
-    let run = c.attempt-outcome.ensures.run.1 in
+    let run = attempt_run c.args.table.now g.G.Gate.becomes (c.pin.new.seat, c.pin.new.gate) (c.attempt-outcome.new.seat, c.attempt-outcome.new.gate) c.attempt-outcome.ensures.run in
     λ κs le. (
       search rules,
       (
@@ -24,7 +24,7 @@ end_try-requires g c =
 pub returns-clause-asked : goal.returns-clause-asked
 returns-clause-asked g c =
     let o = c.attempt-outcome.ensures in
-    let run = o.run.1 in
+    let run = attempt_run c.args.table.now g.G.Gate.becomes (c.pin.new.seat, c.pin.new.gate) (c.attempt-outcome.new.seat, c.attempt-outcome.new.gate) o.run in
     let left = tried _ c.requires.idle.1 c.pin.ensures.steps run o.loaded o.rest c.args.ask c.args.key.now c.args.value c.attempt-outcome.result o.answered o.refused c.end_try.ensures.step in
     let pinned : c.pin.new.seat.known.steps ≡ c.args.seat.now.known.steps + 2 = ap (λ (z : Known). z.steps) c.pin.ensures.steps.1.rest in
     let cleared : c.end_try.new.seat.known.steps ≡ c.attempt-outcome.new.seat.known.steps + 1 = ap (λ (z : Known). z.steps) c.end_try.ensures.step.event.learned_is in

@@ -29,7 +29,12 @@ pub take_span-requires-clause-quiet : goal.take_span-requires-clause-quiet
 take_span-requires-clause-quiet g c = quiet_on _ _ (reads_later c.find_plan.ensures.reads.2) c.requires.quiet
 
 pub returns-in-Answer-clause-run : goal.returns-in-Answer-clause-run
-returns-in-Answer-clause-run g c = none_once c.args.table.now g.G.Gate.becomes _ _ (reads_run c.args.table.now g.G.Gate.becomes c.find_plan.ensures.reads.0 c.find_plan.ensures.reads.1 _ _ c.find_plan.ensures.reads.2)
+returns-in-Answer-clause-run g c = (
+  0,
+  none_once c.args.table.now g.G.Gate.becomes _ _ (reads_run c.args.table.now g.G.Gate.becomes c.find_plan.ensures.reads.0 c.find_plan.ensures.reads.1 _ _ c.find_plan.ensures.reads.2),
+  omega arith,
+  omega (arith, c.find_plan.ensures.few),
+)
 
 pub returns-in-Answer-clause-rest : goal.returns-in-Answer-clause-rest
 returns-in-Answer-clause-rest g c = rest_reads c.args.table.now g.G.Gate.becomes c.find_plan.ensures.reads.0 c.find_plan.ensures.reads.1 _ _ c.find_plan.ensures.reads.2 c.requires.rest
@@ -44,7 +49,13 @@ returns-in-Answer-clause-answered g c k later =
 
 pub returns-then-not-take_span-clause-run : goal.returns-then-not-take_span-clause-run
 returns-then-not-take_span-clause-run g c =
-    run_once c.args.table.now g.G.Gate.becomes _ _ _ (reads_run c.args.table.now g.G.Gate.becomes c.find_plan.ensures.reads.0 c.find_plan.ensures.reads.1 _ _ c.find_plan.ensures.reads.2) c.take_span.ensures.run
+    let within = subst (LiesOnWay c.args.way.now) c.in-Change.is c.find_plan.ensures.within in
+    let (locks, tried, upto, all, few) = c.take_span.ensures.run in (
+      locks,
+      run_once c.args.table.now g.G.Gate.becomes _ _ _ (reads_run c.args.table.now g.G.Gate.becomes c.find_plan.ensures.reads.0 c.find_plan.ensures.reads.1 _ _ c.find_plan.ensures.reads.2) tried,
+      omega (arith, upto, within.1, c.requires.way.depth),
+      omega (arith, few, c.find_plan.ensures.few),
+    )
 
 pub returns-then-not-take_span-clause-refused : goal.returns-then-not-take_span-clause-refused
 returns-then-not-take_span-clause-refused g c k loaded later =
@@ -70,8 +81,15 @@ make_change-requires g c =
 
 pub returns-in-Ok-clause-run : goal.returns-in-Ok-clause-run
 returns-in-Ok-clause-run g c =
-    once_run c.args.table.now g.G.Gate.becomes _ _ _ (run_once c.args.table.now g.G.Gate.becomes _ _ _ (reads_run c.args.table.now g.G.Gate.becomes c.find_plan.ensures.reads.0 c.find_plan.ensures.reads.1 _ _ c.find_plan.ensures.reads.2) c.take_span.ensures.run)
-    c.make_change.ensures.run
+    let within = subst (LiesOnWay c.args.way.now) c.in-Change.is c.find_plan.ensures.within in
+    let (locks, tried, upto, all, few) = c.take_span.ensures.run in
+    let whole = all c.if-not-take_span.false in (
+      locks,
+      once_run c.args.table.now g.G.Gate.becomes _ _ _ (run_once c.args.table.now g.G.Gate.becomes _ _ _ (reads_run c.args.table.now g.G.Gate.becomes c.find_plan.ensures.reads.0 c.find_plan.ensures.reads.1 _ _ c.find_plan.ensures.reads.2) tried)
+          c.make_change.ensures.run,
+      omega (arith, upto, within.1, c.requires.way.depth),
+      omega (arith, whole, few, c.find_plan.ensures.few, c.make_change.ensures.few),
+    )
 
 pub returns-in-Ok-clause-answered : goal.returns-in-Ok-clause-answered
 returns-in-Ok-clause-answered g c k later =
@@ -82,24 +100,38 @@ returns-in-Ok-clause-answered g c k later =
 
 pub returns-in-Err-Nodes-clause-run : goal.returns-in-Err-Nodes-clause-run
 returns-in-Err-Nodes-clause-run g c =
-    once_run c.args.table.now g.G.Gate.becomes _ _ _ (run_once c.args.table.now g.G.Gate.becomes _ _ _ (reads_run c.args.table.now g.G.Gate.becomes c.find_plan.ensures.reads.0 c.find_plan.ensures.reads.1 _ _ c.find_plan.ensures.reads.2) c.take_span.ensures.run)
-    c.make_change.ensures.run
+    let within = subst (LiesOnWay c.args.way.now) c.in-Change.is c.find_plan.ensures.within in
+    let (locks, tried, upto, all, few) = c.take_span.ensures.run in
+    let whole = all c.if-not-take_span.false in (
+      locks,
+      once_run c.args.table.now g.G.Gate.becomes _ _ _ (run_once c.args.table.now g.G.Gate.becomes _ _ _ (reads_run c.args.table.now g.G.Gate.becomes c.find_plan.ensures.reads.0 c.find_plan.ensures.reads.1 _ _ c.find_plan.ensures.reads.2) tried)
+          c.make_change.ensures.run,
+      omega (arith, upto, within.1, c.requires.way.depth),
+      omega (arith, whole, few, c.find_plan.ensures.few, c.make_change.ensures.few),
+    )
 
 pub returns-in-Err-Nodes-clause-refused : goal.returns-in-Err-Nodes-clause-refused
 returns-in-Err-Nodes-clause-refused g c k loaded later =
     let r = c.find_plan.ensures.reads.2 in
-    let there = run_loaded c.args.table.now g.G.Gate.becomes k _ _ (loaded_reads c.args.table.now g.G.Gate.becomes k c.find_plan.ensures.reads.0 c.find_plan.ensures.reads.1 _ _ r loaded) c.take_span.ensures.run.1 in
+    let there = run_loaded c.args.table.now g.G.Gate.becomes k _ _ (loaded_reads c.args.table.now g.G.Gate.becomes k c.find_plan.ensures.reads.0 c.find_plan.ensures.reads.1 _ _ r loaded) c.take_span.ensures.run.1.1 in
     refused_nodes c.args.table.now.layout c.args.key.now k _ _ there (later_trans (later_trans later (reads_later r)) c.take_span.ensures.later) (subst (HasNoRoom _ _ _ _) c.in-Err-Nodes.field-0-is c.in-Err-Nodes.ensures.full)
 
 pub returns-in-Err-Leaves-clause-run : goal.returns-in-Err-Leaves-clause-run
 returns-in-Err-Leaves-clause-run g c =
-    once_run c.args.table.now g.G.Gate.becomes _ _ _ (run_once c.args.table.now g.G.Gate.becomes _ _ _ (reads_run c.args.table.now g.G.Gate.becomes c.find_plan.ensures.reads.0 c.find_plan.ensures.reads.1 _ _ c.find_plan.ensures.reads.2) c.take_span.ensures.run)
-    c.make_change.ensures.run
+    let within = subst (LiesOnWay c.args.way.now) c.in-Change.is c.find_plan.ensures.within in
+    let (locks, tried, upto, all, few) = c.take_span.ensures.run in
+    let whole = all c.if-not-take_span.false in (
+      locks,
+      once_run c.args.table.now g.G.Gate.becomes _ _ _ (run_once c.args.table.now g.G.Gate.becomes _ _ _ (reads_run c.args.table.now g.G.Gate.becomes c.find_plan.ensures.reads.0 c.find_plan.ensures.reads.1 _ _ c.find_plan.ensures.reads.2) tried)
+          c.make_change.ensures.run,
+      omega (arith, upto, within.1, c.requires.way.depth),
+      omega (arith, whole, few, c.find_plan.ensures.few, c.make_change.ensures.few),
+    )
 
 pub returns-in-Err-Leaves-clause-refused : goal.returns-in-Err-Leaves-clause-refused
 returns-in-Err-Leaves-clause-refused g c k loaded later =
     let r = c.find_plan.ensures.reads.2 in
-    let there = run_loaded c.args.table.now g.G.Gate.becomes k _ _ (loaded_reads c.args.table.now g.G.Gate.becomes k c.find_plan.ensures.reads.0 c.find_plan.ensures.reads.1 _ _ r loaded) c.take_span.ensures.run.1 in
+    let there = run_loaded c.args.table.now g.G.Gate.becomes k _ _ (loaded_reads c.args.table.now g.G.Gate.becomes k c.find_plan.ensures.reads.0 c.find_plan.ensures.reads.1 _ _ r loaded) c.take_span.ensures.run.1.1 in
     refused_leaves c.args.table.now.layout c.args.key.now k _ _ there (later_trans (later_trans later (reads_later r)) c.take_span.ensures.later) (subst (HasNoRoom _ _ _ _) c.in-Err-Leaves.field-0-is c.in-Err-Leaves.ensures.full)
 
 pub returns-in-Err-Leaves-clause-leafless : goal.returns-in-Err-Leaves-clause-leafless
@@ -109,24 +141,3 @@ returns-in-Err-Leaves-clause-leafless g c e =
     let take = removal_takes c.find_plan.new.seat.known (since c.args.seat.now.known) c.args.key.now c.args.way.now (aim_of c.args.ask) c.args.found c.find_plan.result c.in-Change.span c.in-Change.deed
     e c.in-Change.is planned in
     absurd (c.make_change.ensures.leafless take (c.in-Err-Leaves.is ∙ ap Err c.in-Err-Leaves.field-0-is))
-
--- ---- how many steps
-pub returns-then-not-take_span-clause-few : goal.returns-then-not-take_span-clause-few
-returns-then-not-take_span-clause-few g c =
-    let within = subst (LiesOnWay c.args.way.now) c.in-Change.is c.find_plan.ensures.within in
-    omega (arith, c.find_plan.ensures.few, c.take_span.ensures.few, within.1, c.requires.way.depth)
-
-pub returns-in-Ok-clause-few : goal.returns-in-Ok-clause-few
-returns-in-Ok-clause-few g c =
-    let within = subst (LiesOnWay c.args.way.now) c.in-Change.is c.find_plan.ensures.within in
-    omega (arith, c.find_plan.ensures.few, c.take_span.ensures.few, c.make_change.ensures.few, within.1, c.requires.way.depth)
-
-pub returns-in-Err-Nodes-clause-few : goal.returns-in-Err-Nodes-clause-few
-returns-in-Err-Nodes-clause-few g c =
-    let within = subst (LiesOnWay c.args.way.now) c.in-Change.is c.find_plan.ensures.within in
-    omega (arith, c.find_plan.ensures.few, c.take_span.ensures.few, c.make_change.ensures.few, within.1, c.requires.way.depth)
-
-pub returns-in-Err-Leaves-clause-few : goal.returns-in-Err-Leaves-clause-few
-returns-in-Err-Leaves-clause-few g c =
-    let within = subst (LiesOnWay c.args.way.now) c.in-Change.is c.find_plan.ensures.within in
-    omega (arith, c.find_plan.ensures.few, c.take_span.ensures.few, c.make_change.ensures.few, within.1, c.requires.way.depth)

@@ -4,8 +4,8 @@ use Rattle.std.proofs.lemmas.Result.{IfErr-weaker, IfOk-weaker}
 use Rattle.rowex_reading.specs.Seen.{since}
 use Rattle.rowex_reading.specs.Ways.{IsWayOf}
 use Rattle.rowex_writing.proofs.Attempting.{answered_look, declined_looked, searched}
-use Rattle.rowex_writing.proofs.Runs.{none_once, run_loaded, run_once}
-use Rattle.rowex_reading.proofs.Counting.{looks_count}
+use Rattle.rowex_writing.proofs.Attempted.{attempted, attempted_few}
+use Rattle.rowex_writing.proofs.Runs.{none_once, run_loaded, run_none}
 use Rattle.rowex_writing.proofs.Works.{quiet_on}
 use Rattle.rowex_writing.proofs.attempts.attempt.Goals as goal
 
@@ -27,13 +27,12 @@ act_on-requires-clause-quiet g c =
 
 pub returns-clause-run : goal.returns-clause-run
 returns-clause-run g c =
-    let b = searched c.args.table.now g.G.Gate.becomes _ _ c.search_way-found.ensures.searched c.search_way-found.ensures.possible c.requires.own c.requires.rest in
-    run_once c.args.table.now g.G.Gate.becomes _ _ _ b.run c.act_on.ensures.run
+    let (locks, tried, most, few) = c.act_on.ensures.run in attempted c.args.table.now g.G.Gate.becomes _ _ _ c.search_way-found.ensures.searched tried most few
 
 pub returns-clause-loaded : goal.returns-clause-loaded
 returns-clause-loaded g c =
     let b = searched c.args.table.now g.G.Gate.becomes _ _ c.search_way-found.ensures.searched c.search_way-found.ensures.possible c.requires.own c.requires.rest in
-    run_loaded c.args.table.now g.G.Gate.becomes _ _ _ b.loaded c.act_on.ensures.run.1
+    run_loaded c.args.table.now g.G.Gate.becomes _ _ _ b.loaded c.act_on.ensures.run.1.1
 
 pub returns-clause-answered : goal.returns-clause-answered
 returns-clause-answered g c =
@@ -47,15 +46,13 @@ returns-clause-refused g c =
 
 pub returns-clause-few : goal.returns-clause-few
 returns-clause-few g c =
-    let s = c.search_way-found.ensures.searched in
-    let looked = looks_count c.args.table.now g.G.Gate.becomes s.nodes s.loaded (c.args.seat.now, c.args.gate.now) (c.search_way-found.new.seat, c.search_way-found.new.gate) s.looks in
-    omega (arith, looked, s.few, s.low, c.act_on.ensures.few)
+    let (locks, tried, most, few) = c.act_on.ensures.run in attempted_few c.args.table.now g.G.Gate.becomes _ _ _ c.search_way-found.ensures.searched tried most few
 
 -- ---- answered at once
 pub returns-in-Some-clause-run : goal.returns-in-Some-clause-run
 returns-in-Some-clause-run g c =
-    let b = searched c.args.table.now g.G.Gate.becomes _ _ c.search_way-found.ensures.searched c.search_way-found.ensures.possible c.requires.own c.requires.rest in
-    none_once c.args.table.now g.G.Gate.becomes _ _ b.run
+    let none = none_once c.args.table.now g.G.Gate.becomes _ _ (run_none c.args.table.now g.G.Gate.becomes (c.search_way-found.new.seat, c.search_way-found.new.gate)) in
+    attempted c.args.table.now g.G.Gate.becomes _ _ _ c.search_way-found.ensures.searched none (omega arith) (omega arith)
 
 pub returns-in-Some-clause-loaded : goal.returns-in-Some-clause-loaded
 returns-in-Some-clause-loaded g c = (searched c.args.table.now g.G.Gate.becomes _ _ c.search_way-found.ensures.searched c.search_way-found.ensures.possible c.requires.own c.requires.rest).loaded
@@ -71,6 +68,5 @@ returns-in-Some-clause-answered g c =
 
 pub returns-in-Some-clause-few : goal.returns-in-Some-clause-few
 returns-in-Some-clause-few g c =
-    let s = c.search_way-found.ensures.searched in
-    let looked = looks_count c.args.table.now g.G.Gate.becomes s.nodes s.loaded (c.args.seat.now, c.args.gate.now) (c.search_way-found.new.seat, c.search_way-found.new.gate) s.looks in
-    omega (arith, looked, s.few, s.low)
+    let none = none_once c.args.table.now g.G.Gate.becomes _ _ (run_none c.args.table.now g.G.Gate.becomes (c.search_way-found.new.seat, c.search_way-found.new.gate)) in
+    attempted_few c.args.table.now g.G.Gate.becomes _ _ _ c.search_way-found.ensures.searched none (omega arith) (omega arith)

@@ -1,5 +1,5 @@
 -- The locks are taken, and what is found under them is what the search found; or all are given back.
-use Rattle.std.proofs.Common.{inr, ◌∙◌, arith}
+use Rattle.std.proofs.Common.{◌≡◌, true, false, inr, ◌∙◌, arith}
 use Rattle.rowex_reading.proofs.Seeing.{later_trans}
 use Rattle.rowex_writing.proofs.Onward.{longer, run_possible, run_seat}
 use Rattle.rowex_writing.proofs.Confirming.{span_later}
@@ -11,6 +11,9 @@ use Rattle.rowex_writing.proofs.Works.{works_later, works_seat}
 use Rattle.rowex_writing.proofs.Counting.{slice_few}
 use Rattle.rowex_writing.proofs.attempts.take_span.Goals as goal
 
+not_taken : {A : Type 0} → false ≡ true → A
+not_taken e = absurd (cc)
+
 pub lock_span-requires-clause-led : goal.lock_span-requires-clause-led
 lock_span-requires-clause-led g c = way_led c.args.table.now.layout c.args.seat.now.known c.requires.way.0 c.args.key.now c.args.way.now c.args.found c.requires.way.1
 
@@ -18,42 +21,50 @@ pub lock_span-requires-clause-apart : goal.lock_span-requires-clause-apart
 lock_span-requires-clause-apart g c = way_apart c.args.table.now.layout c.args.seat.now.known c.requires.way.0 c.args.key.now c.args.found c.args.way.now c.requires.possible c.requires.way.1
 
 pub returns-then-not-lock_span-clause-run : goal.returns-then-not-lock_span-clause-run
-returns-then-not-lock_span-clause-run g c = tries_once c.args.table.now g.G.Gate.becomes _ _ c.lock_span.ensures.tries
+returns-then-not-lock_span-clause-run g c =
+    let (locks, tries, low, all, few) = c.lock_span.ensures.tries in (locks, tries_once c.args.table.now g.G.Gate.becomes _ _ tries, low, λ e. not_taken e, omega (arith, few))
 
 pub returns-then-not-lock_span-clause-later : goal.returns-then-not-lock_span-clause-later
-returns-then-not-lock_span-clause-later g c = works_later c.args.table.now g.G.Gate.becomes _ _ c.lock_span.ensures.tries.1
+returns-then-not-lock_span-clause-later g c = works_later c.args.table.now g.G.Gate.becomes _ _ c.lock_span.ensures.tries.1.1
 
 pub check_span-requires-clause-own : goal.check_span-requires-clause-own
-check_span-requires-clause-own g c = works_seat c.args.table.now g.G.Gate.becomes _ _ c.lock_span.ensures.tries.1 c.requires.own
+check_span-requires-clause-own g c = works_seat c.args.table.now g.G.Gate.becomes _ _ c.lock_span.ensures.tries.1.1 c.requires.own
 
 pub check_span-requires-clause-possible : goal.check_span-requires-clause-possible
 check_span-requires-clause-possible g c =
-    run_possible c.args.table.now g.G.Gate.becomes _ _ (works_run c.args.table.now g.G.Gate.becomes _ _ c.lock_span.ensures.tries.1) c.requires.possible
+    run_possible c.args.table.now g.G.Gate.becomes _ _ (works_run c.args.table.now g.G.Gate.becomes _ _ c.lock_span.ensures.tries.1.1) c.requires.possible
 
 pub check_span-requires-clause-way : goal.check_span-requires-clause-way
 check_span-requires-clause-way g c =
-    let later = works_later c.args.table.now g.G.Gate.becomes _ _ c.lock_span.ensures.tries.1 in
+    let later = works_later c.args.table.now g.G.Gate.becomes _ _ c.lock_span.ensures.tries.1.1 in
     (c.requires.way.0, way_later c.args.table.now.layout c.args.seat.now.known c.lock_span.new.seat.known c.requires.way.0 c.args.key.now c.args.way.now c.args.found later c.requires.way.1)
 
 pub returns-then-check_span-clause-run : goal.returns-then-check_span-clause-run
 returns-then-check_span-clause-run g c =
     let table = c.args.table.now in
-    once_run table g.G.Gate.becomes _ _ _ (tries_once table g.G.Gate.becomes _ _ c.lock_span.ensures.tries) (goes_run table g.G.Gate.becomes _ _ c.check_span.ensures.reads.goes)
+    let (locks, tries, low, all, steps) = c.lock_span.ensures.tries in
+    let whole = all c.if-not-lock_span.false in (
+      locks,
+      once_run table g.G.Gate.becomes _ _ _ (tries_once table g.G.Gate.becomes _ _ tries) (goes_run table g.G.Gate.becomes _ _ c.check_span.ensures.reads.goes),
+      low,
+      λ e. whole,
+      omega (arith, whole, steps, c.check_span.ensures.few),
+    )
 
 pub returns-then-check_span-clause-later : goal.returns-then-check_span-clause-later
 returns-then-check_span-clause-later g c =
-    later_trans (works_later c.args.table.now g.G.Gate.becomes _ _ c.lock_span.ensures.tries.1)
+    later_trans (works_later c.args.table.now g.G.Gate.becomes _ _ c.lock_span.ensures.tries.1.1)
     c.check_span.ensures.reads.goes.stays.0
 
 pub returns-then-check_span-clause-taken : goal.returns-then-check_span-clause-taken
 returns-then-check_span-clause-taken g c e m w =
     let table = c.args.table.now in
     record {
-      seat = run_seat table g.G.Gate.becomes _ _ (goes_run table g.G.Gate.becomes _ _ c.check_span.ensures.reads.goes) (works_seat table g.G.Gate.becomes _ _ c.lock_span.ensures.tries.1 c.requires.own);
+      seat = run_seat table g.G.Gate.becomes _ _ (goes_run table g.G.Gate.becomes _ _ c.check_span.ensures.reads.goes) (works_seat table g.G.Gate.becomes _ _ c.lock_span.ensures.tries.1.1 c.requires.own);
       possible = c.check_span.ensures.possible;
       own = c.check_span.ensures.reads.own ∙ (c.lock_span.ensures.same ∙ c.requires.rest.own);
       way_of = way_later table.layout c.args.seat.now.known c.check_span.new.seat.known m c.args.key.now c.args.way.now c.args.found
-          (later_trans (works_later table g.G.Gate.becomes _ _ c.lock_span.ensures.tries.1) c.check_span.ensures.reads.goes.stays.0) w;
+          (later_trans (works_later table g.G.Gate.becomes _ _ c.lock_span.ensures.tries.1.1) c.check_span.ensures.reads.goes.stays.0) w;
       locked = span_later _ _ c.args.way.now c.args.span c.check_span.ensures.reads.goes.stays (c.lock_span.ensures.locked c.if-not-lock_span.false);
       checked = c.check_span.ensures.checked c.if-check_span.true;
     }
@@ -61,7 +72,7 @@ returns-then-check_span-clause-taken g c e m w =
 pub undo-requires-clause-own : goal.undo-requires-clause-own
 undo-requires-clause-own g c =
     let table = c.args.table.now in
-    run_seat table g.G.Gate.becomes _ _ (goes_run table g.G.Gate.becomes _ _ c.check_span.ensures.reads.goes) (works_seat table g.G.Gate.becomes _ _ c.lock_span.ensures.tries.1 c.requires.own)
+    run_seat table g.G.Gate.becomes _ _ (goes_run table g.G.Gate.becomes _ _ c.check_span.ensures.reads.goes) (works_seat table g.G.Gate.becomes _ _ c.lock_span.ensures.tries.1.1 c.requires.own)
 
 pub undo-requires-clause-nodes : goal.undo-requires-clause-nodes
 undo-requires-clause-nodes g c =
@@ -71,23 +82,28 @@ undo-requires-clause-nodes g c =
 pub returns-clause-run : goal.returns-clause-run
 returns-clause-run g c =
     let table = c.args.table.now in
-    once_run table g.G.Gate.becomes _ _ _
-    (once_run table g.G.Gate.becomes _ _ _ (tries_once table g.G.Gate.becomes _ _ c.lock_span.ensures.tries) (goes_run table g.G.Gate.becomes _ _ c.check_span.ensures.reads.goes))
-    (works_run table g.G.Gate.becomes _ _ c.undo.ensures.works)
+    let (locks, tries, low, all, steps) = c.lock_span.ensures.tries in
+    let whole = all c.if-not-lock_span.false in
+    let back = slice_few c.args.way.now c.saturating_sub.result c.args.span.len in (
+      locks,
+      once_run table g.G.Gate.becomes _ _ _
+          (once_run table g.G.Gate.becomes _ _ _ (tries_once table g.G.Gate.becomes _ _ tries) (goes_run table g.G.Gate.becomes _ _ c.check_span.ensures.reads.goes))
+          (works_run table g.G.Gate.becomes _ _ c.undo.ensures.works),
+      low,
+      λ e. not_taken e,
+      omega (arith, whole, c.lock_span.ensures.few c.if-not-lock_span.false, c.check_span.ensures.few, c.undo.ensures.few, back, c.saturating_sub.ensures, c.requires.span.0),
+    )
 
 pub returns-clause-later : goal.returns-clause-later
 returns-clause-later g c =
     let table = c.args.table.now in
-    later_trans (later_trans (works_later table g.G.Gate.becomes _ _ c.lock_span.ensures.tries.1) c.check_span.ensures.reads.goes.stays.0) (works_later table g.G.Gate.becomes _ _ c.undo.ensures.works)
+    later_trans (later_trans (works_later table g.G.Gate.becomes _ _ c.lock_span.ensures.tries.1.1) c.check_span.ensures.reads.goes.stays.0) (works_later table g.G.Gate.becomes _ _ c.undo.ensures.works)
 
 pub returns-clause-busy : goal.returns-clause-busy
 returns-clause-busy g c t m w =
     let table = c.args.table.now in
     let there = way_later table.layout c.args.seat.now.known c.lock_span.new.seat.known m c.args.key.now c.args.way.now c.args.found
-    (works_later table g.G.Gate.becomes _ _ c.lock_span.ensures.tries.1) w in
+    (works_later table g.G.Gate.becomes _ _ c.lock_span.ensures.tries.1.1) w in
     let moved = c.check_span.ensures.changed m there c.if-check_span.false in
     let more = longer c.check_span.new.seat.known c.undo.new.seat.known (works_later table g.G.Gate.becomes _ _ c.undo.ensures.works) in
     inr (omega (arith, moved, more))
-
-pub returns-clause-few : goal.returns-clause-few
-returns-clause-few g c = omega (arith, c.lock_span.ensures.few, c.check_span.ensures.few, c.undo.ensures.few, slice_few c.args.way.now c.saturating_sub.result c.args.span.len)

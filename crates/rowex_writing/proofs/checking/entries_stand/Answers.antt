@@ -18,7 +18,7 @@ there way i len d low high = slice_get-get_or way i d (omega arith)
 
 pub loop-index-init : goal.loop-index-init
 loop-index-init g c = record {
-  few = omega arith;
+  few = omega (arith, c.saturating_sub-index.ensures);
   own = c.requires.own;
   reads = reads_none c.args.table.now g.G.Gate.becomes (c.args.seat.now, c.args.gate.now);
   possible = c.requires.possible;

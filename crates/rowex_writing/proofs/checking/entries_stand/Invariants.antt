@@ -1,5 +1,5 @@
 -- Each node above the index stands as it was found.
-use Rattle.std.proofs.Common.{◌+◌, ◌≤◌}
+use Rattle.std.proofs.Common.{◌+◌, ◌-◌, ◌≤◌}
 use Rattle.rowex_reading.specs.Possible.{IsPossible}
 use Rattle.rowex_table.specs.Seats.{IsSeatOf}
 use Rattle.rowex_writing.specs.Going.{ReadsOn}
@@ -13,5 +13,5 @@ invariant-loop-index g l = record {
   possible : IsPossible l.table.layout l.seat.known;
   from : l.fn.span.end ≤ l.index + 1;
   stand : StandBelow l.table.layout l.fn.seat.known l.way l.found l.fn.span l.index;
-  few : l.seat.known.steps ≤ l.fn.seat.known.steps + l.index;
+  few : l.seat.known.steps + (l.fn.span.end - 1) ≤ l.fn.seat.known.steps + l.index;
 }

@@ -1,6 +1,8 @@
 -- The node, what rises, and the store.
-use Rattle.std.proofs.Common.{◌≡◌, ◌≤◌, ◌-◌, ◌*◌, ◌++◌, Some, None, if◌then◌else◌, ap, sym, subst, ◌∙◌, arith, ◌+◌}
+use Rattle.std.proofs.Common.{◌≡◌, ◌≤◌, ◌-◌, ◌*◌, ◌++◌, Some, None, if◌then◌else◌, length, ap, sym, subst, ◌∙◌, arith, ◌+◌}
 use Rattle.std.specs.Prelude.{slice_range}
+use Rattle.std.proofs.lemmas.List.{length-append, length-map}
+use Rattle.insert_cases.specs.declared.choice.Step.{Step}
 use Rattle.record_words.specs.Entry.{entry_word}
 use Rattle.record_words.specs.declared.layout.Layout.{Layout}
 use Rattle.rowex_walks.specs.Writer.{added_change}
@@ -13,9 +15,8 @@ use Rattle.rowex_writing.proofs.Growths.{gone_is, grown_ends, kept_of_span, no_r
 use Rattle.rowex_writing.proofs.Locking.{seat_of}
 use Rattle.rowex_writing.proofs.Runs.{goes_run, runs_trans, works_run}
 use Rattle.rowex_writing.proofs.Keeping.{changed_since, made_held, made_records}
-use Rattle.rowex_writing.proofs.Counting.{slice_few, times_few}
+use Rattle.rowex_writing.proofs.Counting.{made_one, slice_few}
 use Rattle.rowex_writing.specs.Counts.{level_steps}
-use Rattle.rowex_writing.specs.declared.building.TheConstants.{MOST_MADE}
 use Rattle.rowex_writing.proofs.Walked.{walk_begins}
 use Rattle.moments.specs.declared.Rec.TheVariants.{Node as a_node}
 use Rattle.rowex_writing.proofs.growing.grow_with.Goals as goal
@@ -111,15 +112,25 @@ returns-clause-stored g c = λ ok value may.
 pub returns-in_default-clause-few : goal.returns-in_default-clause-few
 returns-in_default-clause-few g c =
     let may = c.requires.may.1 in
-    let levels = times_few (c.args.span.len - 1 - c.args.span.end + 2) 2161 level_steps (omega (arith, may.within.0, may.within.1, may.depth)) in
     let whole : c.layout.result.nodes ≡ c.args.table.now.layout.nodes = ap (λ (z : Layout). z.nodes) c.layout.ensures in
-    let few : c.raise_grown.new.seat.known.steps + 2 * c.raise_grown.new.build.left_nodes ≤ c.args.seat.now.known.steps + 2 * c.layout.result.nodes + (c.args.span.len - 1 - c.args.span.end + 2) * level_steps + MOST_MADE = c.in_default.ensures.few in
-    omega (arith, whole, levels, few, c.undo.ensures.few, c.as_slice.ensures.fits, slice_few c.args.way.now c.saturating_sub.result c.args.span.len, may.within.1, may.depth)
+    let few : c.raise_grown.new.seat.known.steps + 2 * c.raise_grown.new.build.left_nodes ≤ c.args.seat.now.known.steps + 2 * c.layout.result.nodes + (c.args.span.len - 1 - c.args.span.end + 2) * level_steps + length c.raise_grown.new.build.made.items = c.in_default.ensures.few in
+    let made = made_one may.growing.lowest.building in
+    let back = slice_few c.args.way.now c.saturating_sub.result c.args.span.len in
+    omega (arith, whole, few, c.undo.ensures.few, ap length c.as_slice.ensures.value, made, c.raise_grown.ensures.more, back, c.saturating_sub.ensures, may.within.0)
 
 pub returns-clause-few : goal.returns-clause-few
 returns-clause-few g c =
     let may = c.requires.may.1 in
-    let levels = times_few (c.args.span.len - 1 - c.args.span.end + 2) 2161 level_steps (omega (arith, may.within.0, may.within.1, may.depth)) in
     let whole : c.layout.result.nodes ≡ c.args.table.now.layout.nodes = ap (λ (z : Layout). z.nodes) c.layout.ensures in
     let few : c.raise_grown.new.seat.known.steps + 2 * c.raise_grown.new.build.left_nodes ≤ c.args.seat.now.known.steps + 2 * c.layout.result.nodes + (c.args.span.len - 1 - c.args.span.end + 2) * level_steps + 0 = c.in-Some.ensures.few in
-    omega (arith, whole, levels, few, c.publish_change.ensures.few, c.as_slice-2.ensures.fits)
+    let low : (c.args.span.end ≤ c.if-stays.low) × (c.if-stays.low ≤ c.args.span.len) = elim c.if-stays.branch [
+      | then-stays w ↦ (omega (arith, w.low-is, may.within.0), omega (arith, w.low-is, may.within.0))
+      | else-stays w ↦ (omega (arith, w.low-is, may.within.0), omega (arith, w.low-is, may.within.0))
+    ] in
+    let made = made_one may.growing.lowest.building in
+    let gone = ap length c.name_gone.ensures.gone ∙ length-map (slice_range c.args.way.now c.args.span.end c.if-stays.low) (λ (s : Step). a_node s.number) in
+    let kept = ap length (c.as_slice-2.ensures.value ∙ c.kept_steps-kept.ensures) ∙ length-append (slice_range c.args.way.now (c.args.span.end - 1) c.args.span.end) (slice_range c.args.way.now c.if-stays.low c.args.span.len) in
+    let above = slice_few c.args.way.now (c.args.span.end - 1) c.args.span.end in
+    let whole_node = slice_few c.args.way.now c.if-stays.low c.args.span.len in
+    let new = slice_few c.args.way.now c.args.span.end c.if-stays.low in
+    omega (arith, whole, few, c.publish_change.ensures.few, made, c.raise_grown.ensures.more, ap length c.name_gone.ensures.made, gone, kept, above, whole_node, new, low.0, low.1, may.within.0)

@@ -1,13 +1,17 @@
 -- One node more; one that is refused, and the anchor.
-use Rattle.std.proofs.Common.{◌≡◌, ◌∷◌, ◌+◌, ◌-◌, refl, sym, ap, subst, ◌∙◌, arith, get_or}
+use Rattle.std.proofs.Common.{◌≡◌, ◌∷◌, ◌+◌, ◌-◌, true, false, refl, sym, ap, subst, ◌∙◌, arith, get_or}
 use Rattle.std.specs.Prelude.{slice_range}
 use Rattle.insert_cases.specs.declared.choice.Step.{Step}
 use Rattle.rowex_writing.specs.Locks.{HasJustLocked, numbers_of}
 use Rattle.moments.specs.Trades.{IsOf}
+use Rattle.rowex_writing.proofs.Counting.{numbers_few, slice_few}
 use Rattle.rowex_writing.proofs.Tried.{TriesNodes, anchor_more, nodes_more, nodes_none, nodes_once, number_new, once_then}
 use Rattle.rowex_writing.proofs.Works.{works_seat, works_later, works_count, quiet_on}
 use Rattle.rowex_writing.proofs.Spans.{slice_more, slice_none, none_taken, locked_more, locked_same, led_one, led_nodes, met_since, not_locked}
 use Rattle.rowex_writing.proofs.locks.lock_span.Goals as goal
+
+not_taken : {A : Type 0} → false ≡ true → A
+not_taken e = absurd (cc)
 
 pub loop-index-init : goal.loop-index-init
 loop-index-init g c = record {
@@ -64,7 +68,14 @@ returns-then-not-lock_node-clause-tries g c =
     let table = c.args.table.now in
     let so_far = subst (λ n. TriesNodes table g.G.Gate.becomes (numbers_of (slice_range c.args.way.now n c.args.span.len)) (c.args.seat.now, c.args.gate.now) (c.loop-index.seat, c.loop-index.gate)) at i.tries in
     let one_more = nodes_more table g.G.Gate.becomes _ _ _ _ _ (number_new c.args.way.now (c.loop-index.index - 1) c.args.span.len _ (omega (arith, c.loop-index-test.true, i.range.1)) c.requires.span.1 c.requires.apart) so_far c.lock_node.ensures.tries in
-    once_then table g.G.Gate.becomes _ _ _ (nodes_once table g.G.Gate.becomes _ _ _ one_more) c.unlock_nodes.ensures.works
+    let others = numbers_few c.args.way.now (c.loop-index.index - 1 + 1) c.args.span.len (omega (arith, c.loop-index-test.true, i.range.1)) c.requires.span.1 in
+    let back = slice_few c.args.way.now (c.loop-index.index - 1 + 1) c.args.span.len in (
+      _,
+      once_then table g.G.Gate.becomes _ _ _ (nodes_once table g.G.Gate.becomes _ _ _ one_more) c.unlock_nodes.ensures.works,
+      omega (arith, others, i.top, i.range.1, c.loop-index-test.true),
+      λ e. not_taken e,
+      omega (arith, others, back, i.few, c.lock_node.ensures.few, c.unlock_nodes.ensures.few),
+    )
 
 pub returns-then-not-lock_node-clause-same : goal.returns-then-not-lock_node-clause-same
 returns-then-not-lock_node-clause-same g c = c.unlock_nodes.ensures.rest.0 ∙ ((c.lock_node.ensures.refused c.if-not-lock_node.true).3 ∙ c.loop-index.invariant.same)
@@ -103,7 +114,20 @@ loop-index-preserved g c =
     }
 
 pub returns-then-span-gt0-clause-tries : goal.returns-then-span-gt0-clause-tries
-returns-then-span-gt0-clause-tries g c = nodes_once c.args.table.now g.G.Gate.becomes _ _ _ c.loop-index.invariant.tries
+returns-then-span-gt0-clause-tries g c =
+    let i = c.loop-index.invariant in
+    let all = numbers_few c.args.way.now c.loop-index.index c.args.span.len i.range.1 c.requires.span.1 in
+    let first : c.loop-index.index ≡ c.args.span.end - 1 = omega (arith, i.range.0, i.top, c.loop-index-test.false) in (
+      _,
+      nodes_once c.args.table.now g.G.Gate.becomes _ _ _ i.tries,
+      omega (arith, all, first, c.requires.span.0, c.if-span-gt0.true),
+      λ e. omega (arith, all, first, c.requires.span.0, c.if-span-gt0.true),
+      omega (arith, all, first, c.requires.span.0, c.if-span-gt0.true, i.few),
+    )
+
+pub returns-then-span-gt0-clause-few : goal.returns-then-span-gt0-clause-few
+returns-then-span-gt0-clause-few g c e =
+    let i = c.loop-index.invariant in omega (arith, i.range.0, i.top, c.loop-index-test.false, c.requires.span.0, c.if-span-gt0.true, i.few)
 
 pub returns-then-span-gt0-clause-locked : goal.returns-then-span-gt0-clause-locked
 returns-then-span-gt0-clause-locked g c e =
@@ -116,7 +140,20 @@ returns-then-span-gt0-clause-locked g c e =
     }
 
 pub returns-then-lock_anchor-clause-tries : goal.returns-then-lock_anchor-clause-tries
-returns-then-lock_anchor-clause-tries g c = anchor_more c.args.table.now g.G.Gate.becomes _ _ _ _ c.loop-index.invariant.tries c.lock_anchor.ensures.tries
+returns-then-lock_anchor-clause-tries g c =
+    let i = c.loop-index.invariant in
+    let all = numbers_few c.args.way.now c.loop-index.index c.args.span.len i.range.1 c.requires.span.1 in
+    let first : c.loop-index.index ≡ c.args.span.end = omega (arith, i.range.0, i.top, c.loop-index-test.false, c.if-span-gt0.false) in (
+      _,
+      anchor_more c.args.table.now g.G.Gate.becomes _ _ _ _ i.tries c.lock_anchor.ensures.tries,
+      omega (arith, all, first),
+      λ e. omega (arith, all, first),
+      omega (arith, all, i.few, c.lock_anchor.ensures.few),
+    )
+
+pub returns-then-lock_anchor-clause-few : goal.returns-then-lock_anchor-clause-few
+returns-then-lock_anchor-clause-few g c e =
+    let i = c.loop-index.invariant in omega (arith, i.range.0, i.top, c.loop-index-test.false, c.if-span-gt0.false, i.few, c.lock_anchor.ensures.few)
 
 pub returns-then-lock_anchor-clause-locked : goal.returns-then-lock_anchor-clause-locked
 returns-then-lock_anchor-clause-locked g c e =
@@ -143,7 +180,16 @@ unlock_nodes-requires-2-clause-locked g c =
 
 pub returns-clause-tries : goal.returns-clause-tries
 returns-clause-tries g c =
-    once_then c.args.table.now g.G.Gate.becomes _ _ _ (anchor_more c.args.table.now g.G.Gate.becomes _ _ _ _ c.loop-index.invariant.tries c.lock_anchor.ensures.tries) c.unlock_nodes-2.ensures.works
+    let i = c.loop-index.invariant in
+    let all = numbers_few c.args.way.now c.loop-index.index c.args.span.len i.range.1 c.requires.span.1 in
+    let first : c.loop-index.index ≡ c.args.span.end = omega (arith, i.range.0, i.top, c.loop-index-test.false, c.if-span-gt0.false) in
+    let back = slice_few c.args.way.now c.loop-index.index c.args.span.len in (
+      _,
+      once_then c.args.table.now g.G.Gate.becomes _ _ _ (anchor_more c.args.table.now g.G.Gate.becomes _ _ _ _ i.tries c.lock_anchor.ensures.tries) c.unlock_nodes-2.ensures.works,
+      omega (arith, all, first),
+      λ e. not_taken e,
+      omega (arith, all, back, i.few, c.lock_anchor.ensures.few, c.unlock_nodes-2.ensures.few),
+    )
 
 pub returns-clause-refused : goal.returns-clause-refused
 returns-clause-refused g c e =

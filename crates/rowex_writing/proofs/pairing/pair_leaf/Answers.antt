@@ -13,7 +13,6 @@ use Rattle.rowex_rights.proofs.Loops.{later_on}
 use Rattle.rowex_walks.specs.Writer.{added_change}
 use Rattle.rowex_writing.specs.Changes.{IsStored, MayEnd}
 use Rattle.rowex_writing.specs.Counts.{node_steps}
-use Rattle.rowex_writing.specs.declared.building.TheConstants.{MOST_MADE}
 use Rattle.rowex_writing.specs.Locks.{AreNodes, HasJustLocked, numbers_of}
 use Rattle.rowex_writing.specs.Retiring.{AreInTable}
 use Rattle.rowex_writing.proofs.Locking.{goes_more, seat_of}
@@ -24,7 +23,7 @@ use Rattle.rowex_writing.proofs.Works.{works_later}
 use Rattle.rowex_writing.proofs.Runs.{goes_run, works_run, runs_trans}
 use Rattle.rowex_writing.proofs.Keeping.{missed_from_on, missed_on, made_held, made_records, all_kept, changed_since}
 use Rattle.rowex_writing.proofs.Placing.{pair_here, pair_len, pair_tree, leaf_at, found_is_key, above_locked, above_nodes, above_anchor, spot_there, pair_may}
-use Rattle.rowex_writing.proofs.Counting.{slice_few}
+use Rattle.rowex_writing.proofs.Counting.{made_one, slice_few}
 use Rattle.rowex_writing.proofs.pairing.pair_leaf.Goals as goal
 use Rattle.tries.specs.Content.{item}
 
@@ -226,8 +225,9 @@ returns-in_default-raise_pair-clause-few g c =
     let above : length c.node_above-above.result.now ≤ c.args.span.end - (c.args.span.end - 1) =
     subst (λ z. length z ≤ c.args.span.end - (c.args.span.end - 1)) (sym c.node_above-above.ensures) (slice_few c.args.way.now (c.args.span.end - 1) c.args.span.end) in
     let whole : c.layout.result.nodes ≡ c.args.table.now.layout.nodes = ap (λ (z : Layout). z.nodes) c.layout.ensures in
-    let few : c.raise_pair.new.seat.known.steps + 2 * c.raise_pair.new.build.left_nodes ≤ c.make_leaf.new.seat.known.steps + 2 * c.layout.result.nodes + node_steps + MOST_MADE = c.in_default-raise_pair.ensures.few in
-    omega (arith, whole, c.make_leaf.ensures.few, few, c.undo-in_default-raise_pair.ensures.few, c.deref.ensures.1, above)
+    let few : c.raise_pair.new.seat.known.steps + 2 * c.raise_pair.new.build.left_nodes ≤ c.make_leaf.new.seat.known.steps + 2 * c.layout.result.nodes + node_steps + length c.raise_pair.new.build.made.items = c.in_default-raise_pair.ensures.few in
+    let made = made_one c.in-Some.ensures.made in
+    omega (arith, whole, c.make_leaf.ensures.few, few, c.undo-in_default-raise_pair.ensures.few, ap length c.deref.ensures.0, above, made, c.raise_pair.ensures.more)
 
 pub returns-clause-few : goal.returns-clause-few
 returns-clause-few g c =
@@ -235,4 +235,5 @@ returns-clause-few g c =
     subst (λ z. length z ≤ c.args.span.end - (c.args.span.end - 1)) (sym c.node_above-above.ensures) (slice_few c.args.way.now (c.args.span.end - 1) c.args.span.end) in
     let whole : c.layout.result.nodes ≡ c.args.table.now.layout.nodes = ap (λ (z : Layout). z.nodes) c.layout.ensures in
     let few : c.raise_pair.new.seat.known.steps + 2 * c.raise_pair.new.build.left_nodes ≤ c.make_leaf.new.seat.known.steps + 2 * c.layout.result.nodes + node_steps + 0 = c.in-Some-raise_pair.ensures.few in
-    omega (arith, whole, c.make_leaf.ensures.few, few, c.publish_change.ensures.few, above)
+    let made = made_one c.in-Some.ensures.made in
+    omega (arith, whole, c.make_leaf.ensures.few, few, c.publish_change.ensures.few, above, made, c.raise_pair.ensures.more, ap length c.clear.ensures)

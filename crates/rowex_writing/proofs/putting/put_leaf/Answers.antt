@@ -1,5 +1,5 @@
 -- What is above is kept; the store is that of a first key, or of another value.
-use Rattle.std.proofs.Common.{◌*◌, ◌+◌, ◌-◌, sym, subst, ◌≤◌, length, arith}
+use Rattle.std.proofs.Common.{ap, ◌*◌, ◌+◌, ◌-◌, sym, subst, ◌≤◌, length, arith}
 use Rattle.record_words.specs.Leaf.{words_for}
 use Rattle.moments.specs.declared.Rec.TheVariants.{Leaf as a_leaf}
 use Rattle.rowex_core.specs.Having.{AreKept}
@@ -14,7 +14,7 @@ use Rattle.rowex_writing.proofs.Works.{works_later}
 use Rattle.rowex_writing.proofs.Runs.{goes_run, works_run, runs_trans}
 use Rattle.rowex_writing.proofs.Keeping.{missed_from_on, all_kept, changed_since}
 use Rattle.rowex_writing.proofs.Placing.{put_len, above_locked, above_nodes, spot_there, found_records, found_kept, put_may}
-use Rattle.rowex_writing.proofs.Counting.{slice_few}
+use Rattle.rowex_writing.proofs.Counting.{found_few, made_one, slice_few}
 use Rattle.rowex_writing.proofs.putting.put_leaf.Goals as goal
 
 pub undo-requires-clause-own : goal.undo-requires-clause-own
@@ -127,4 +127,5 @@ pub returns-clause-few : goal.returns-clause-few
 returns-clause-few g c =
     let above : length c.node_above-above.result.now ≤ c.args.span.end - (c.args.span.end - 1) =
     subst (λ z. length z ≤ c.args.span.end - (c.args.span.end - 1)) (sym c.node_above-above.ensures) (slice_few c.args.way.now (c.args.span.end - 1) c.args.span.end) in
-    omega (arith, c.make_leaf.ensures.few, c.publish_change.ensures.few, above)
+    let made = made_one c.in-Some.ensures.made in
+    omega (arith, c.make_leaf.ensures.few, c.publish_change.ensures.few, above, made, ap length c.name_gone.ensures.made, ap length c.name_gone.ensures.gone, found_few c.args.found)

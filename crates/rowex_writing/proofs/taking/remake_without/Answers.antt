@@ -1,5 +1,5 @@
 -- What is left of the last node takes its place; where no record was free, all is given back.
-use Rattle.std.proofs.Common.{rules, ◌≡◌, ◌≤◌, ◌+◌, ◌*◌, ◌-◌, List, ap, sym, subst, Some, refl, arith}
+use Rattle.std.proofs.Common.{rules, ◌≡◌, ◌≤◌, ◌+◌, ◌*◌, ◌-◌, List, length, ap, sym, subst, Some, refl, arith}
 use Rattle.std.specs.Prelude.{slice_range}
 use Rattle.std.proofs.lemmas.Option.{slice_get-get_or}
 use Rattle.record_words.specs.Entry.{HasEntryWord, entry_word}
@@ -14,7 +14,6 @@ use Rattle.rowex_table.specs.Made.{nodes_of}
 use Rattle.rowex_walks.specs.Writer.{removed_change}
 use Rattle.rowex_writing.specs.Changes.{MayEnd}
 use Rattle.rowex_writing.specs.Counts.{level_steps}
-use Rattle.rowex_writing.specs.declared.building.TheConstants.{MOST_MADE}
 use Rattle.rowex_writing.specs.Locks.{numbers_of}
 use Rattle.rowex_writing.specs.Retiring.{AreInTable}
 use Rattle.rowex_writing.proofs.Keeping.{changed_since, made_held, made_records, missed_on, way_nodes}
@@ -168,12 +167,13 @@ pub returns-in_default-clause-few : goal.returns-in_default-clause-few
 returns-in_default-clause-few g c =
     let (m, value, b) = c.requires.below in
     let whole : c.layout.result.nodes ≡ c.args.table.now.layout.nodes = ap (λ (z : Layout). z.nodes) c.layout.ensures in
-    let few : c.raise_without.new.seat.known.steps + 2 * c.raise_without.new.build.left_nodes ≤ c.args.seat.now.known.steps + 2 * c.layout.result.nodes + level_steps + MOST_MADE = c.in_default.ensures.few in
-    omega (arith, whole, few, c.undo.ensures.few, c.deref.ensures.1, slice_few c.args.way.now c.saturating_sub-first.result c.args.span.len, b.len, b.taken.way_of.depth)
+    let few : c.raise_without.new.seat.known.steps + 2 * c.raise_without.new.build.left_nodes ≤ c.args.seat.now.known.steps + 2 * c.layout.result.nodes + level_steps + length c.raise_without.new.build.made.items = c.in_default.ensures.few in
+    omega (arith, whole, few, c.undo.ensures.few, ap length c.deref.ensures.0, slice_few c.args.way.now c.saturating_sub-first.result c.args.span.len, c.saturating_sub-first.ensures, b.last, ap length c.requires.made, c.raise_without.ensures.more)
 
 pub returns-clause-few : goal.returns-clause-few
 returns-clause-few g c =
     let (m, value, b) = c.requires.below in
     let whole : c.layout.result.nodes ≡ c.args.table.now.layout.nodes = ap (λ (z : Layout). z.nodes) c.layout.ensures in
     let few : c.raise_without.new.seat.known.steps + 2 * c.raise_without.new.build.left_nodes ≤ c.args.seat.now.known.steps + 2 * c.layout.result.nodes + level_steps + 0 = c.in-Some.ensures.few in
-    omega (arith, whole, few, c.publish_change.ensures.few, slice_few c.args.way.now c.saturating_sub-first.result c.args.span.end, b.len, b.last, b.taken.way_of.depth)
+    let gone = ap length (gone_are _ c.args.number _ _ _ c.clear.ensures c.push.ensures.items c.push-2.ensures.items) in
+    omega (arith, whole, few, c.publish_change.ensures.few, slice_few c.args.way.now c.saturating_sub-first.result c.args.span.end, c.saturating_sub-first.ensures, b.last, ap length c.requires.made, c.raise_without.ensures.more, gone)

@@ -1,0 +1,87 @@
+-- The steps of an attempt: a search, and what comes after it.
+use Rattle.std.proofs.Common.{◌≡◌, ℕ, ◌+◌, ◌*◌, ◌≤◌, List, [], ◌∷◌, ◌++◌, length, refl, sym, ap, subst, ◌∙◌, arith}
+use Rattle.std.specs.Prelude.{All}
+use Rattle.std.proofs.lemmas.List.Elements.{All-append, All-cons, All-head, All-tail, All-weaker}
+use Rattle.rowex_core.specs.declared.event.Act.{Act}
+use Rattle.rowex_core.specs.declared.event.Act.TheVariants.{LoadFixed, LoadRef, Lock}
+use Rattle.rowex_core.specs.declared.event.Event.{Event}
+use Rattle.rowex_core.specs.declared.event.Spot.TheVariants.{Root, Slot}
+use Rattle.rowex_table.specs.Runs.{Runs}
+use Rattle.rowex_table.specs.Seats.{TableView, SeatView}
+use Rattle.rowex_table.specs.Stays.{LeavesPin}
+use Rattle.rowex_table.proofs.Running.{runs_append}
+use Rattle.rowex_reading.specs.Lookups.{HasSearched}
+use Rattle.rowex_reading.specs.Reads.{IsBelowRoot, entries_in}
+use Rattle.rowex_reading.proofs.Counting.{looks_count, runs_count}
+use Rattle.rowex_writing.specs.Attempts.{AreAttemptSteps, HasAttempted, IsOfSearch}
+use Rattle.rowex_writing.specs.Changes.{HasTriedOnce}
+use Rattle.rowex_writing.specs.Counts.{change_steps, most_locks, most_steps, span_steps}
+use Rattle.rowex_writing.specs.Locks.{targets_of}
+use Rattle.rowex_writing.proofs.Tried.{once_after, targets_append}
+
+below_search : (act : Act) → IsBelowRoot act → IsOfSearch act
+below_search (LoadRef Root w) t = tt
+below_search (LoadRef (Slot n i) w) t = t
+below_search _ t = t
+
+search_pin : (act : Act) → IsOfSearch act → LeavesPin act
+search_pin (LoadRef spot w) t = tt
+search_pin (LoadFixed r offset w) t = tt
+search_pin _ t = absurd t
+
+search_targets : (acts : List Act) → All IsOfSearch acts → targets_of acts ≡ []
+search_targets [] all = refl
+search_targets (Lock target found ∷ acts) all = absurd (All-head IsOfSearch (Lock target found) acts all)
+search_targets (act ∷ acts) all = search_targets acts (All-tail IsOfSearch act acts all)
+
+module _ {G : Type 0} (table : TableView) (becomes : G → Event → G → Type 0) (a m b : SeatView × G) (searched : HasSearched table becomes a m) {locks : ℕ}
+    (tried : HasTriedOnce table becomes locks m b) (most : locks ≤ most_locks) (few : b.0.known.steps ≤ m.0.known.steps + span_steps locks + change_steps table.layout locks) where
+  abbrev search : List Act
+  search = LoadRef Root searched.looks.root.0 ∷ searched.looks.rest.acts
+
+  abbrev rest : List Act
+  rest = tried.1.acts
+
+  runs : Runs table becomes (search ++ rest) a b
+  runs =
+      let first : Runs table becomes search a m = (searched.looks.at, searched.looks.root.1, searched.looks.rest.steps) in runs_append table becomes search rest a m b first tried.1.steps
+
+  searches : All IsOfSearch search
+  searches = All-cons IsOfSearch (LoadRef Root searched.looks.root.0) searched.looks.rest.acts tt (All-weaker IsBelowRoot IsOfSearch below_search searched.looks.rest.acts searched.looks.rest.below)
+
+  nodes_are : entries_in search ≡ searched.nodes
+  nodes_are = searched.looks.rest.entries_are
+
+  none : targets_of search ≡ []
+  none = search_targets search searches
+
+  targets_are : length (targets_of (search ++ rest)) ≡ locks
+  targets_are = ap length (targets_append search rest ∙ (ap (λ z. z ++ targets_of rest) none ∙ tried.1.tried_are)) ∙ tried.3
+
+  count : length (search ++ rest) + a.0.known.steps ≤ 33 + 26 * searched.nodes + span_steps locks + change_steps table.layout locks + a.0.known.steps
+  count =
+      let all = runs_count table becomes (search ++ rest) a b runs in
+      let looked = looks_count table becomes searched.nodes searched.loaded a m searched.looks in
+      omega (arith, all, looked, searched.few, few)
+
+  steps_are : AreAttemptSteps table.layout (search ++ rest)
+  steps_are = record {
+    search = search;
+    rest = rest;
+    acts_are = refl;
+    searches = searches;
+    pinned = All-append LeavesPin search rest (All-weaker IsOfSearch LeavesPin search_pin search searches) tried.1.pinned;
+    once = once_after search rest none tried.2;
+    depth = omega (arith, nodes_are, searched.low);
+    locks = omega (arith, targets_are, most);
+    few = omega (arith, nodes_are, targets_are, count);
+  }
+
+  pub attempted : HasAttempted table becomes a b
+  attempted = (search ++ rest, steps_are, runs)
+
+  -- so many at most for any attempt
+  pub attempted_few : b.0.known.steps ≤ a.0.known.steps + most_steps table.layout
+  attempted_few =
+      let looked = looks_count table becomes searched.nodes searched.loaded a m searched.looks in
+      omega (arith, looked, searched.few, searched.low, few, most)
