@@ -234,9 +234,12 @@ fn run_file<T: Wait, G: Gate + Drop>(
     requires { Owns index.now pass }
     ensures { IfOk result (IsDone index.now G.becomes (pass, gate) (script_commands script)) }
 {
-    let (mut pass, mut gate) = (pass, gate);
-    let text = run(&Waits { rt }, alloc, index, &mut pass, &script, &mut gate)?;
-    Ok(Done { pass, text })
+    let mut pass = pass;
+    let mut gate = gate;
+    match run(&Waits { rt }, alloc, index, &mut pass, &script, &mut gate) {
+        Ok(text) => Ok(Done { pass, text }),
+        Err(refused) => Err(refused),
+    }
 }
 
 /// The pass meets those of the scripts that have run, one after another.
