@@ -1,6 +1,6 @@
 //! A list of pairs that is filled, read, and used again.
 
-ghost use Rattle.std.specs.Prelude.{◌≡◌, ◌++◌, ◌∷◌, ◌<◌, ◌^◌, [], All, IfOk, MatchOption, OnErr, OnOk, if◌then◌else◌, is_ok, length, nat_eq};
+ghost use Rattle.std.specs.Prelude.{◌≡◌, ◌≢◌, ◌++◌, ◌∷◌, ◌<◌, ◌^◌, [], All, IfOk, MatchOption, OnErr, OnOk, if◌then◌else◌, is_ok, length, nat_eq};
 ghost use Rattle.key_bits.specs.Key.{IsKey};
 ghost use Rattle.packed_pairs.specs.Last.{IsLastKey};
 
@@ -103,9 +103,11 @@ impl Pairs {
         Iter::of(&self.bytes, &self.heads)
     }
 
-    /// The same pairs, with keys that are values of their own.
+    /// The same pairs, with keys that are values of their own. Memory is refused only if there is a pair.
     pub fn to_vec(&self, alloc: Global) -> Result<Vec<(Key, u64)>, AllocError>
-        ensures { IfOk result (λ list. list.items ≡ self.now) }
+        ensures list { IfOk result (λ list. list.items ≡ self.now) }
+        ensures memory { OnErr result (self.now ≢ []) }
+        ensures short { length self.now < 2 ^ 63 }
     {
         let mut list = Vec::new(alloc);
         list.reserve(self.len())?;

@@ -5,3 +5,4 @@ pub mod Walking
 pub mod Starting
 pub mod Downwards
 pub mod Scanned
+pub mod Parts

@@ -13,7 +13,7 @@ use Rattle.rowex_walks.specs.Reverse.{IsBeneath, IsDownComplete, IsDownCut, IsDo
 use Rattle.rowex_table.specs.Made.{IsLater}
 use Rattle.rowex_reading.specs.Possible.{IsPossible}
 use Rattle.rowex_reading.specs.Seen.{IsLedTo, Sure, since}
-use Rattle.rowex_scanning.specs.Scanning.{AreBeneath, AreInside, frame, frames_of}
+use Rattle.rowex_scanning.specs.Scanning.{AreBeneath, AreInside, frame, frames_of, limited}
 use Rattle.rowex_scanning.specs.declared.scanning.Start.{Start}
 use Rattle.rowex_scanning.specs.declared.scanning.Verdict.{Verdict}
 use Rattle.rowex_scanning.specs.declared.scanning.Verdict.TheVariants.{Further, Past as IsPast, Full}
@@ -28,6 +28,11 @@ pub record HasScannedDown (k : Known) (g : Range) (pairs : List (Key × ℕ)) (m
   pub taken : List Pair
   pub pairs_are : pairs ≡ turned taken
   pub answer : Sure k (λ s. IsDownAnswer s (since k) g taken more)
+
+-- Memory was refused: the pairs are fewer than the limit, and the pass is sure of them as of those of a scan downwards that was cut at
+-- their number.
+abbrev pub HasScannedPartDown : Known → Range → List (Key × ℕ) → Type 0
+HasScannedPartDown k g pairs = (length pairs < g.limit) × HasScannedDown k (limited g (length pairs)) pairs true
 
 -- What became of the pairs at one with this key and value, which is not above the range: it belonged to the range; or it was below
 -- the range; or it belonged to the range and there was no room.

@@ -33,6 +33,14 @@ pub record HasScanned (k : Known) (g : Range) (pairs : List (Key × ℕ)) (more 
   pub pairs_are : pairs ≡ turned taken
   pub answer : Sure k (λ s. IsAnswer s (since k) g taken more)
 
+-- the range with another limit
+abbrev pub limited : Range → ℕ → Range
+limited g limit = record g { limit = limit }
+
+-- Memory was refused: the pairs are fewer than the limit, and the pass is sure of them as of those of a scan that was cut at their number.
+abbrev pub HasScannedPart : Known → Range → List (Key × ℕ) → Type 0
+HasScannedPart k g pairs = (length pairs < g.limit) × HasScanned k (limited g (length pairs)) pairs true
+
 -- What became of the pairs at one with this key and value, which is not below the range: it belonged to the range; or it was above
 -- the range; or it belonged to the range and there was no room.
 abbrev pub IsPairTaken : Range → List (Key × ℕ) → Key → ℕ → List (Key × ℕ) → Verdict → Type 0
@@ -46,6 +54,17 @@ pub record IsLeafTaken (k j : Known) (g : Range) (number : ℕ) (xs ys : List (K
   pub value : ℕ
   pub read : (m : ℕ) → IsLedTo k m (Leaf number) → Sure j (λ s. IsRead s m number key value)
   pub taken : IsPairTaken g xs key value ys verdict
+
+-- Memory was refused for a pair with this key, which belonged to the range and for which there was room by the limit: the pairs stay.
+abbrev pub IsPairRefused : Range → List (Key × ℕ) → Key → List (Key × ℕ) → Type 0
+IsPairRefused g xs k ys = IsInRange g k × (length xs ≢ g.limit) × (ys ≡ xs)
+
+-- The leaf has been read; and memory was refused for its pair.
+pub record IsLeafRefused (k j : Known) (g : Range) (number : ℕ) (xs ys : List (Key × ℕ)) : Type 0 where
+  pub key : Key
+  pub value : ℕ
+  pub read : (m : ℕ) → IsLedTo k m (Leaf number) → Sure j (λ s. IsRead s m number key value)
+  pub refused : IsPairRefused g xs key ys
 
 -- The leaf's key, whenever the pass reads it, is not below this one.
 abbrev pub IsNotBelow : Layout → Known → ℕ → Key → ℕ → Type 0

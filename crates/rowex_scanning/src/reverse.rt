@@ -1,6 +1,6 @@
 //! The walk of a scan downwards: the pairs of a range of keys, from its end on, as a pinned pass reads them.
 
-ghost use Rattle.std.specs.Prelude.{◌≡◌, ◌≢◌, ◌≤◌, ◌<◌, ◌+◌, ℕ, [], IfOk, IsSome, length};
+ghost use Rattle.std.specs.Prelude.{◌≡◌, ◌≢◌, ◌≤◌, ◌<◌, ◌+◌, ℕ, [], IfOk, IsSome, OnErr, length};
 ghost use Rattle.compound_node.specs.declared.entries.Entry.TheVariants.{Leaf as LeafEntry};
 ghost use Rattle.key_bits.specs.Key.{IsKey};
 ghost use Rattle.record_words.specs.declared.TheConstants.{HEAD_WORDS, LEAF_FIELDS};
@@ -11,8 +11,8 @@ ghost use Rattle.rowex_reading.specs.Seen.{IsAtRoot, IsLedTo, since};
 ghost use Rattle.rowex_reading.specs.Ways.{IsWayOf};
 ghost use Rattle.rowex_reading.specs.declared.descent.Found.TheVariants.{Leaf as FoundLeaf};
 ghost use Rattle.rowex_scanning.specs.Counts.{Scans, Walks, scan_loads};
-ghost use Rattle.rowex_scanning.specs.Reverse.{HasScannedDown, IsCeiling, IsDownStart, IsDownWalk, IsLeafTakenDown, IsNotAbove, IsPairTakenDown};
-ghost use Rattle.rowex_scanning.specs.Scanning.{asked_range};
+ghost use Rattle.rowex_scanning.specs.Reverse.{HasScannedDown, HasScannedPartDown, IsCeiling, IsDownStart, IsDownWalk, IsLeafTakenDown, IsNotAbove, IsPairTakenDown};
+ghost use Rattle.rowex_scanning.specs.Scanning.{IsLeafRefused, IsPairRefused, asked_range};
 
 use crate::scanning::{Range, Start, Verdict, enter, is_before, start_at};
 use arrayvec::ArrayVec;
@@ -26,8 +26,9 @@ use rowex_table::{HotTable, TableSeat};
 use std::alloc::AllocError;
 
 /// The scan of a pinned pass from the end of the range downwards: the last pairs of the range, so many as the limit says, the last one
-/// first, take the place of those in the list; and it answers whether there is a further one below. An error where memory ends; the pass
-/// has made loads alone then too, and the list has some of the pairs. The nodes of its way are left in `way`, which need not be empty.
+/// first, take the place of those in the list; and it answers whether there is a further one below. An error where memory is refused:
+/// then too the pass has made loads alone, and the list has the first of these pairs, fewer than the limit, and there is a further one.
+/// The nodes of its way are left in `way`, which need not be empty.
 pub fn scan_root_down<G: Gate>(
     table: &HotTable,
     seat: &mut TableSeat,
@@ -41,6 +42,7 @@ pub fn scan_root_down<G: Gate>(
     ensures looks { Scans table.now G.becomes range.now.limit (seat.old, gate.old) (seat.new, gate.new) }
     ensures keys { IsKey range.now.from.now × IsKey range.now.upto.now }
     ensures scanned { IfOk result (HasScannedDown seat.new.known (asked_range range.now) pairs.new) }
+    ensures part { OnErr result (HasScannedPartDown seat.new.known (asked_range range.now) pairs.new) }
     ensures few { seat.new.known.steps ≤ seat.old.known.steps + (1 + scan_loads range.now.limit) }
 {
     pairs.clear();
@@ -78,6 +80,7 @@ fn scan_leaf_down<G: Gate>(
     requires empty { pairs.old ≡ [] }
     ensures reads { (n : ℕ) × (n ≤ LEAF_FIELDS) × Reads table.now G.becomes 0 n (seat.old, gate.old) (seat.new, gate.new) }
     ensures scanned { IfOk result (HasScannedDown seat.new.known (asked_range range.now) pairs.new) }
+    ensures part { OnErr result (HasScannedPartDown seat.new.known (asked_range range.now) pairs.new) }
 {
     let mut places = [0; MAX_BYTES];
     let (length, value) = load_places(table, seat, gate, number, &mut places);
@@ -108,6 +111,7 @@ fn scan_node_down<G: Gate>(
     requires empty { pairs.old ≡ [] }
     ensures reads { Walks table.now G.becomes (HEAD_WORDS + LEAF_FIELDS) range.now.limit (seat.old, gate.old) (seat.new, gate.new) }
     ensures scanned { IfOk result (HasScannedDown seat.new.known (asked_range range.now) pairs.new) }
+    ensures part { OnErr result (HasScannedPartDown seat.new.known (asked_range range.now) pairs.new) }
 {
     let start = start_down(table, seat, gate, way, range.upto, number, mismatch);
     way.truncate(start.level);
@@ -165,6 +169,7 @@ fn walk_down<G: Gate>(
     requires ceiling { IsCeiling seat.old.known (since seat.old.known) range.now.upto.now lowest way.old.items }
     ensures reads { Walks table.now G.becomes 0 range.now.limit (seat.old, gate.old) (seat.new, gate.new) }
     ensures scanned { IfOk result (HasScannedDown seat.new.known (asked_range range.now) pairs.new) }
+    ensures part { OnErr result (HasScannedPartDown seat.new.known (asked_range range.now) pairs.new) }
 {
     let mut top = lowest;
     loop {
@@ -207,6 +212,7 @@ fn take_leaf_down<G: Gate>(
     requires leaf { (m : ℕ) × IsLedTo seat.old.known m (LeafEntry number) × IsNotAbove table.now.layout seat.old.known m range.now.upto.now number }
     ensures reads { (n : ℕ) × (n ≤ LEAF_FIELDS) × Reads table.now G.becomes 0 n (seat.old, gate.old) (seat.new, gate.new) }
     ensures taken { IfOk result (IsLeafTakenDown seat.old.known seat.new.known (asked_range range.now) number pairs.old pairs.new) }
+    ensures refused { OnErr result (IsLeafRefused seat.old.known seat.new.known (asked_range range.now) number pairs.old pairs.new) }
 {
     let mut places = [0; MAX_BYTES];
     let (length, value) = load_places(table, seat, gate, number, &mut places);
@@ -224,7 +230,8 @@ fn take_pair_down(
 ) -> Result<Verdict, AllocError>
     requires key { IsKey key.now }
     requires below { IsAtMost key.now range.now.upto.now }
-    ensures { IfOk result (IsPairTakenDown (asked_range range.now) pairs.old key.now value pairs.new) }
+    ensures taken { IfOk result (IsPairTakenDown (asked_range range.now) pairs.old key.now value pairs.new) }
+    ensures refused { OnErr result (IsPairRefused (asked_range range.now) pairs.old key.now pairs.new) }
 {
     if is_before(key, range.from.as_bytes()) {
         return Ok(Verdict::Past);

@@ -1,6 +1,6 @@
 //! The walk of a scan: the pairs of a range of keys, in the order of the keys, as a pinned pass reads them.
 
-ghost use Rattle.std.specs.Prelude.{◌≡◌, ◌≢◌, ◌≤◌, ◌<◌, ◌+◌, ℕ, [], IfOk, IsSome, IsTrue, false, length};
+ghost use Rattle.std.specs.Prelude.{◌≡◌, ◌≢◌, ◌≤◌, ◌<◌, ◌+◌, ℕ, [], IfOk, IsSome, IsTrue, OnErr, false, length};
 ghost use Rattle.compound_node.specs.declared.entries.Entry.TheVariants.{Leaf as LeafEntry, Node as NodeEntry};
 ghost use Rattle.key_bits.specs.Key.{IsKey};
 ghost use Rattle.record_words.specs.declared.TheConstants.{HEAD_WORDS, LEAF_FIELDS};
@@ -13,7 +13,7 @@ ghost use Rattle.rowex_reading.specs.Seen.{IsAtRoot, IsLedTo, since};
 ghost use Rattle.rowex_reading.specs.Ways.{IsWayOf};
 ghost use Rattle.rowex_reading.specs.declared.descent.Found.TheVariants.{Leaf as FoundLeaf};
 ghost use Rattle.rowex_scanning.specs.Counts.{Scans, Walks, scan_loads};
-ghost use Rattle.rowex_scanning.specs.Scanning.{HasScanned, IsEntered, IsFloor, IsLeafTaken, IsNotBelow, IsPairTaken, IsStart, IsWalk, asked_range};
+ghost use Rattle.rowex_scanning.specs.Scanning.{HasScanned, HasScannedPart, IsEntered, IsFloor, IsLeafRefused, IsLeafTaken, IsNotBelow, IsPairRefused, IsPairTaken, IsStart, IsWalk, asked_range};
 
 use crate::loading::load_bytes;
 use arrayvec::ArrayVec;
@@ -64,8 +64,8 @@ pub(crate) enum Verdict {
 }
 
 /// The scan of a pinned pass: the first pairs of the range, so many as the limit says, take the place of those in the list; and it
-/// answers whether there is a further one. An error where memory ends; the pass has made loads alone then too, and the list has some
-/// of the pairs. The nodes of its way are left in `way`, which need not be empty.
+/// answers whether there is a further one. An error where memory is refused: then too the pass has made loads alone, and the list has
+/// the first pairs, fewer than the limit, and there is a further one. The nodes of its way are left in `way`, which need not be empty.
 pub fn scan_root<G: Gate>(
     table: &HotTable,
     seat: &mut TableSeat,
@@ -79,6 +79,7 @@ pub fn scan_root<G: Gate>(
     ensures looks { Scans table.now G.becomes range.now.limit (seat.old, gate.old) (seat.new, gate.new) }
     ensures keys { IsKey range.now.from.now × IsKey range.now.upto.now }
     ensures scanned { IfOk result (HasScanned seat.new.known (asked_range range.now) pairs.new) }
+    ensures part { OnErr result (HasScannedPart seat.new.known (asked_range range.now) pairs.new) }
     ensures few { seat.new.known.steps ≤ seat.old.known.steps + (1 + scan_loads range.now.limit) }
 {
     pairs.clear();
@@ -116,6 +117,7 @@ fn scan_leaf<G: Gate>(
     requires empty { pairs.old ≡ [] }
     ensures reads { (n : ℕ) × (n ≤ LEAF_FIELDS) × Reads table.now G.becomes 0 n (seat.old, gate.old) (seat.new, gate.new) }
     ensures scanned { IfOk result (HasScanned seat.new.known (asked_range range.now) pairs.new) }
+    ensures part { OnErr result (HasScannedPart seat.new.known (asked_range range.now) pairs.new) }
 {
     let mut places = [0; MAX_BYTES];
     let (length, value) = load_places(table, seat, gate, number, &mut places);
@@ -146,6 +148,7 @@ fn scan_node<G: Gate>(
     requires empty { pairs.old ≡ [] }
     ensures reads { Walks table.now G.becomes (HEAD_WORDS + LEAF_FIELDS) range.now.limit (seat.old, gate.old) (seat.new, gate.new) }
     ensures scanned { IfOk result (HasScanned seat.new.known (asked_range range.now) pairs.new) }
+    ensures part { OnErr result (HasScannedPart seat.new.known (asked_range range.now) pairs.new) }
 {
     let start = start_at(table, seat, gate, way, range.from, number, mismatch);
     let mut top = start.top;
@@ -219,6 +222,7 @@ fn walk<G: Gate>(
     requires floor { IsFloor seat.old.known (since seat.old.known) range.now.from.now lowest way.old.items }
     ensures reads { Walks table.now G.becomes 0 range.now.limit (seat.old, gate.old) (seat.new, gate.new) }
     ensures scanned { IfOk result (HasScanned seat.new.known (asked_range range.now) pairs.new) }
+    ensures part { OnErr result (HasScannedPart seat.new.known (asked_range range.now) pairs.new) }
 {
     let mut top = lowest;
     loop {
@@ -279,6 +283,7 @@ fn take_leaf<G: Gate>(
     requires leaf { (m : ℕ) × IsLedTo seat.old.known m (LeafEntry number) × IsNotBelow table.now.layout seat.old.known m range.now.from.now number }
     ensures reads { (n : ℕ) × (n ≤ LEAF_FIELDS) × Reads table.now G.becomes 0 n (seat.old, gate.old) (seat.new, gate.new) }
     ensures taken { IfOk result (IsLeafTaken seat.old.known seat.new.known (asked_range range.now) number pairs.old pairs.new) }
+    ensures refused { OnErr result (IsLeafRefused seat.old.known seat.new.known (asked_range range.now) number pairs.old pairs.new) }
 {
     let (length, value) = load_bytes(table, seat, gate, number, places);
     take_pair(pairs, range, &places[..length], value)
@@ -295,7 +300,8 @@ fn take_pair(
 ) -> Result<Verdict, AllocError>
     requires key { IsKey key.now }
     requires above { IsAtMost range.now.from.now key.now }
-    ensures { IfOk result (IsPairTaken (asked_range range.now) pairs.old key.now value pairs.new) }
+    ensures taken { IfOk result (IsPairTaken (asked_range range.now) pairs.old key.now value pairs.new) }
+    ensures refused { OnErr result (IsPairRefused (asked_range range.now) pairs.old key.now pairs.new) }
 {
     if is_past(range, key) {
         return Ok(Verdict::Past);

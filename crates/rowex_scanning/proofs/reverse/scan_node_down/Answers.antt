@@ -1,11 +1,13 @@
 -- The start, the leaf that comes first, and the walk from there on.
-use Rattle.std.proofs.Common.{◌≡◌, ◌≤◌, ℕ, arith}
+use Rattle.std.proofs.Common.{◌≡◌, ◌≤◌, ℕ, ap, length, arith}
+use Rattle.std.proofs.lemmas.Result.{err_from_is_err_and}
 use Rattle.compound_node.specs.declared.entries.Entry.TheVariants.{Leaf}
 use Rattle.rowex_reading.specs.Reads.{Reads}
 use Rattle.rowex_reading.specs.Seen.{since}
 use Rattle.rowex_reading.proofs.Led.{reader_then, reads_later, reads_trans, same_since}
 use Rattle.rowex_scanning.specs.Scanning.{asked_range}
 use Rattle.rowex_scanning.proofs.Downwards.{IsDownAt, begun_down, ceiling_later, ceiling_since, down_further, down_is_full, down_is_past, down_led, down_since}
+use Rattle.rowex_scanning.proofs.Parts.{down_part}
 use Rattle.rowex_scanning.proofs.Walking.{reads_both, walks_alone, walks_behind}
 use Rattle.rowex_scanning.proofs.reverse.scan_node_down.Given as given
 use Rattle.rowex_scanning.proofs.reverse.scan_node_down.Goals as goal
@@ -30,6 +32,12 @@ take_leaf_down-requires-clause-leaf g c =
 
 pub returns-in_err-take_leaf_down-clause-reads : goal.returns-in_err-take_leaf_down-clause-reads
 returns-in_err-take_leaf_down-clause-reads g c = walks_alone c.args.range.now.limit (reads_both c.start_down-start.ensures.reads c.take_leaf_down.ensures.reads (omega arith))
+
+pub returns-in_err-take_leaf_down-clause-part : goal.returns-in_err-take_leaf_down-clause-part
+returns-in_err-take_leaf_down-clause-part g c =
+    let (a, same) = first g (goal.at.returns-in_err-take_leaf_down-clause-part g c).After-take_leaf_down in
+    let none : length c.args.pairs.now ≡ 0 = ap length c.requires.empty in
+    rw (err_from_is_err_and c.from_residual.result c.from_residual.ensures.1).1 (down_part (reads_later c.take_leaf_down.ensures.reads.2) c.in_err-take_leaf_down.ensures.refused (omega (arith, none)) same a)
 
 pub returns-in-Past-clause-reads : goal.returns-in-Past-clause-reads
 returns-in-Past-clause-reads g c = walks_alone c.args.range.now.limit (reads_both c.start_down-start.ensures.reads c.take_leaf_down.ensures.reads (omega arith))

@@ -1,10 +1,10 @@
 -- The leaf is read, and then its pair is taken.
 use Rattle.std.proofs.Common.{take}
-use Rattle.std.proofs.lemmas.Result.{IfOk-weaker}
+use Rattle.std.proofs.lemmas.Result.{IfOk-weaker, on_err_weaker}
 use Rattle.rowex_reading.specs.Reads.{leaf_loads}
 use Rattle.rowex_reading.proofs.Led.{reader_then, reads_later}
 use Rattle.rowex_scanning.specs.Reverse.{IsLeafTakenDown, IsPairTakenDown}
-use Rattle.rowex_scanning.specs.Scanning.{asked_range}
+use Rattle.rowex_scanning.specs.Scanning.{asked_range, IsLeafRefused, IsPairRefused}
 use Rattle.rowex_scanning.proofs.reverse.take_leaf_down.Goals as goal
 
 pub load_places-length-requires-clause-led : goal.load_places-length-requires-clause-led
@@ -23,4 +23,12 @@ returns-clause-taken g c =
     let key = take c.load_places-length.result.0 c.load_places-length.new.places in let value = c.load_places-length.result.1 in
     IfOk-weaker c.take_pair_down.result (IsPairTakenDown (asked_range c.args.range.now) c.args.pairs.now key value c.take_pair_down.new.pairs)
     (IsLeafTakenDown c.args.seat.now.known c.load_places-length.new.seat.known (asked_range c.args.range.now) c.args.number c.args.pairs.now c.take_pair_down.new.pairs)
-    (λ verdict taken. record { key = key; value = value; read = c.load_places-length.ensures.leaf; taken = taken }) c.take_pair_down.ensures
+    (λ verdict taken. record { key = key; value = value; read = c.load_places-length.ensures.leaf; taken = taken }) c.take_pair_down.ensures.taken
+
+pub returns-clause-refused : goal.returns-clause-refused
+returns-clause-refused g c =
+    let key = take c.load_places-length.result.0 c.load_places-length.new.places in
+    let of_leaf : IsPairRefused (asked_range c.args.range.now) c.args.pairs.now key c.take_pair_down.new.pairs →
+    IsLeafRefused c.args.seat.now.known c.load_places-length.new.seat.known (asked_range c.args.range.now) c.args.number c.args.pairs.now c.take_pair_down.new.pairs =
+    λ refused. record { key = key; value = c.load_places-length.result.1; read = c.load_places-length.ensures.leaf; refused = refused } in
+    on_err_weaker c.take_pair_down.result of_leaf c.take_pair_down.ensures.refused

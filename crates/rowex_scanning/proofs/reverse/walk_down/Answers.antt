@@ -1,5 +1,6 @@
 -- The steps of the walk.
 use Rattle.std.proofs.Common.{◌≡◌, ◌+◌, ◌-◌, ◌<◌, length, sym, subst, arith}
+use Rattle.std.proofs.lemmas.Result.{err_from_is_err_and}
 use Rattle.compound_node.specs.declared.entries.Entry.TheVariants.{Leaf, Node}
 use Rattle.insert_cases.specs.declared.choice.Step.{Step}
 use Rattle.rowex_reading.specs.Seen.{since}
@@ -7,6 +8,7 @@ use Rattle.rowex_reading.proofs.Led.{reader_then, reads_later, reads_none, reads
 use Rattle.rowex_reading.proofs.Seeing.{placed_stable, sure_later}
 use Rattle.rowex_scanning.specs.Scanning.{asked_range}
 use Rattle.rowex_scanning.proofs.Downwards.{IsDownAt, behind_place, below_inside, ceiling_later, ceiling_leaf, ceiling_next, ceiling_pop, ceiling_push, down_at, down_ended, down_further, down_is_full, down_is_past, down_led, down_more, down_next, down_paid_end, down_paid_first, down_paid_last, down_paid_leaf, down_paid_pop, down_paid_push, down_popped, down_popped_less, down_pushed, down_pushed_less, down_rest, down_several, down_short, down_step_less, down_within, next_place}
+use Rattle.rowex_scanning.proofs.Parts.{down_part}
 use Rattle.rowex_scanning.proofs.Walking.{entered_number, none_popped, popped_is}
 use Rattle.rowex_scanning.proofs.reverse.walk_down.Given as given
 use Rattle.rowex_scanning.proofs.reverse.walk_down.Goals as goal
@@ -92,6 +94,12 @@ take_leaf_down-requires-clause-leaf g c =
 pub returns-in_err-take_leaf_down-in-Leaf-clause-reads : goal.returns-in_err-take_leaf_down-in-Leaf-clause-reads
 returns-in_err-take_leaf_down-in-Leaf-clause-reads g c =
     let i = c.loop-top.invariant in down_paid_last i.reads i.walk i.reader.1 c.load_entry.ensures.reads c.take_leaf_down.ensures.reads
+
+pub returns-in_err-take_leaf_down-in-Leaf-clause-part : goal.returns-in_err-take_leaf_down-in-Leaf-clause-part
+returns-in_err-take_leaf_down-in-Leaf-clause-part g c =
+    let at = goal.at.returns-in_err-take_leaf_down-in-Leaf-clause-part g c in let i = c.loop-top.invariant in
+    rw (err_from_is_err_and c.from_residual.result c.from_residual.ensures.1).1
+    (down_part (reads_later c.take_leaf_down.ensures.reads.2) c.in_err-take_leaf_down-in-Leaf.ensures.refused (down_within i.walk i.reader.1) (same g at.After-take_leaf_down) (leaf g at.In-Leaf))
 
 pub loop-top-smaller : goal.loop-top-smaller
 loop-top-smaller g c =

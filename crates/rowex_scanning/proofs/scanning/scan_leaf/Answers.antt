@@ -1,11 +1,13 @@
 -- A scan of one leaf.
 use Rattle.std.proofs.Common.{inl, inr, subst, take}
+use Rattle.std.proofs.lemmas.Result.{err_from_is_err_and}
 use Rattle.compound_node.specs.declared.entries.Entry.TheVariants.{Leaf}
 use Rattle.tries.specs.Keys.{IsAtMost, IsBefore}
 use Rattle.rowex_reading.specs.Reads.{leaf_loads}
 use Rattle.rowex_reading.specs.Seen.{since}
 use Rattle.rowex_reading.proofs.Led.{reads_later, rooted_led, same_since}
 use Rattle.rowex_scanning.specs.Scanning.{asked_range}
+use Rattle.rowex_scanning.proofs.Parts.{leaf_part}
 use Rattle.rowex_scanning.proofs.Walking.{leaf_below, leaf_further, leaf_past, leaf_full}
 use Rattle.rowex_scanning.proofs.scanning.scan_leaf.Goals as goal
 
@@ -31,14 +33,22 @@ take_pair-requires-clause-above g c = subst (λ z. IsAtMost z (take c.load_place
 pub returns-in_err-take_pair-clause-reads : goal.returns-in_err-take_pair-clause-reads
 returns-in_err-take_pair-clause-reads g c = (leaf_loads (take c.load_places-length.result.0 c.load_places-length.new.places), c.load_places-length.ensures.few, c.load_places-length.ensures.reads)
 
+pub returns-in_err-take_pair-clause-part : goal.returns-in_err-take_pair-clause-part
+returns-in_err-take_pair-clause-part g c =
+    let e = c.load_places-length.ensures in
+    rw (err_from_is_err_and c.from_residual.result c.from_residual.ensures.1).1
+    (leaf_part (asked_range c.args.range.now) c.args.number (take c.load_places-length.result.0 c.load_places-length.new.places) c.load_places-length.result.1 (reads_later e.reads) c.requires.root
+    (same_since e.reads) (e.leaf (since c.args.seat.now.known) (rooted_led (Leaf c.args.number) c.requires.root)) c.requires.empty c.in_err-take_pair.ensures.refused)
+
 pub returns-in-Full : goal.returns-in-Full
 returns-in-Full g c =
     let e = c.load_places-length.ensures in
     record {
       reads = (leaf_loads (take c.load_places-length.result.0 c.load_places-length.new.places), e.few, e.reads);
+      part = tt;
       scanned =
           leaf_full (asked_range c.args.range.now) c.args.number (take c.load_places-length.result.0 c.load_places-length.new.places) c.load_places-length.result.1 (reads_later e.reads) c.requires.root
-          (same_since e.reads) (e.leaf (since c.args.seat.now.known) (rooted_led (Leaf c.args.number) c.requires.root)) c.requires.empty c.in_ok-take_pair.ensures c.in-Full.is;
+          (same_since e.reads) (e.leaf (since c.args.seat.now.known) (rooted_led (Leaf c.args.number) c.requires.root)) c.requires.empty c.in_ok-take_pair.ensures.taken c.in-Full.is;
     }
 
 pub returns-in-Further : goal.returns-in-Further
@@ -46,12 +56,13 @@ returns-in-Further g c =
     let e = c.load_places-length.ensures in
     record {
       reads = (leaf_loads (take c.load_places-length.result.0 c.load_places-length.new.places), e.few, e.reads);
+      part = tt;
       scanned = elim c.in-Further.is [
         | inl is ↦
             leaf_further (asked_range c.args.range.now) c.args.number (take c.load_places-length.result.0 c.load_places-length.new.places) c.load_places-length.result.1 (reads_later e.reads) c.requires.root
-            (same_since e.reads) (e.leaf (since c.args.seat.now.known) (rooted_led (Leaf c.args.number) c.requires.root)) c.requires.empty c.in_ok-take_pair.ensures is
+            (same_since e.reads) (e.leaf (since c.args.seat.now.known) (rooted_led (Leaf c.args.number) c.requires.root)) c.requires.empty c.in_ok-take_pair.ensures.taken is
         | inr is ↦
             leaf_past (asked_range c.args.range.now) c.args.number (take c.load_places-length.result.0 c.load_places-length.new.places) c.load_places-length.result.1 (reads_later e.reads) c.requires.root
-            (same_since e.reads) (e.leaf (since c.args.seat.now.known) (rooted_led (Leaf c.args.number) c.requires.root)) c.requires.empty c.in_ok-take_pair.ensures is
+            (same_since e.reads) (e.leaf (since c.args.seat.now.known) (rooted_led (Leaf c.args.number) c.requires.root)) c.requires.empty c.in_ok-take_pair.ensures.taken is
       ];
     }

@@ -1,10 +1,12 @@
 -- The start, the leaf that comes first, and the walk from there on.
-use Rattle.std.proofs.Common.{◌≡◌, ◌≤◌, ℕ, arith}
+use Rattle.std.proofs.Common.{◌≡◌, ◌≤◌, ℕ, ap, length, arith}
+use Rattle.std.proofs.lemmas.Result.{err_from_is_err_and}
 use Rattle.compound_node.specs.declared.entries.Entry.TheVariants.{Leaf}
 use Rattle.rowex_reading.specs.Reads.{Reads}
 use Rattle.rowex_reading.specs.Seen.{since}
 use Rattle.rowex_reading.proofs.Led.{reader_then, reads_later, reads_trans, same_since}
 use Rattle.rowex_scanning.specs.Scanning.{asked_range}
+use Rattle.rowex_scanning.proofs.Parts.{walk_part}
 use Rattle.rowex_scanning.proofs.Starting.{begun}
 use Rattle.rowex_scanning.proofs.Walking.{IsAtEntry, entry_led, floor_later, floor_since, reads_both, walk_full, walk_further, walk_past, walk_room, walk_since, walks_alone, walks_behind}
 use Rattle.rowex_scanning.proofs.scanning.scan_node.Given as given
@@ -27,6 +29,12 @@ take_leaf-requires-clause-leaf g c =
 
 pub returns-in_err-take_leaf-clause-reads : goal.returns-in_err-take_leaf-clause-reads
 returns-in_err-take_leaf-clause-reads g c = walks_alone c.args.range.now.limit (reads_both c.start_at-start.ensures.reads c.take_leaf.ensures.reads (omega arith))
+
+pub returns-in_err-take_leaf-clause-part : goal.returns-in_err-take_leaf-clause-part
+returns-in_err-take_leaf-clause-part g c =
+    let (a, same) = first g (goal.at.returns-in_err-take_leaf-clause-part g c).After-take_leaf in
+    let none : length c.args.pairs.now ≡ 0 = ap length c.requires.empty in
+    rw (err_from_is_err_and c.from_residual.result c.from_residual.ensures.1).1 (walk_part (reads_later c.take_leaf.ensures.reads.2) c.in_err-take_leaf.ensures.refused (omega (arith, none)) same a)
 
 pub overflow_add-top : goal.overflow_add-top
 overflow_add-top g c =

@@ -1,9 +1,9 @@
 -- The leaf is read, and then its pair is taken.
 use Rattle.std.proofs.Common.{take}
-use Rattle.std.proofs.lemmas.Result.{IfOk-weaker}
+use Rattle.std.proofs.lemmas.Result.{IfOk-weaker, on_err_weaker}
 use Rattle.rowex_reading.specs.Reads.{leaf_loads}
 use Rattle.rowex_reading.proofs.Led.{reader_then, reads_later}
-use Rattle.rowex_scanning.specs.Scanning.{asked_range, IsLeafTaken, IsPairTaken}
+use Rattle.rowex_scanning.specs.Scanning.{asked_range, IsLeafRefused, IsLeafTaken, IsPairRefused, IsPairTaken}
 use Rattle.rowex_scanning.proofs.scanning.take_leaf.Goals as goal
 
 pub load_bytes-length-requires-clause-led : goal.load_bytes-length-requires-clause-led
@@ -22,4 +22,12 @@ returns-clause-taken g c =
     let key = take c.load_bytes-length.result.0 c.load_bytes-length.new.places in let value = c.load_bytes-length.result.1 in
     IfOk-weaker c.take_pair.result (IsPairTaken (asked_range c.args.range.now) c.args.pairs.now key value c.take_pair.new.pairs)
     (IsLeafTaken c.args.seat.now.known c.load_bytes-length.new.seat.known (asked_range c.args.range.now) c.args.number c.args.pairs.now c.take_pair.new.pairs)
-    (λ verdict taken. record { key = key; value = value; read = c.load_bytes-length.ensures.leaf; taken = taken }) c.take_pair.ensures
+    (λ verdict taken. record { key = key; value = value; read = c.load_bytes-length.ensures.leaf; taken = taken }) c.take_pair.ensures.taken
+
+pub returns-clause-refused : goal.returns-clause-refused
+returns-clause-refused g c =
+    let key = take c.load_bytes-length.result.0 c.load_bytes-length.new.places in
+    let of_leaf : IsPairRefused (asked_range c.args.range.now) c.args.pairs.now key c.take_pair.new.pairs →
+    IsLeafRefused c.args.seat.now.known c.load_bytes-length.new.seat.known (asked_range c.args.range.now) c.args.number c.args.pairs.now c.take_pair.new.pairs =
+    λ refused. record { key = key; value = c.load_bytes-length.result.1; read = c.load_bytes-length.ensures.leaf; refused = refused } in
+    on_err_weaker c.take_pair.result of_leaf c.take_pair.ensures.refused

@@ -1,10 +1,12 @@
 -- The steps of the walk.
 use Rattle.std.proofs.Common.{◌≡◌, ◌+◌, length, arith}
+use Rattle.std.proofs.lemmas.Result.{err_from_is_err_and}
 use Rattle.compound_node.specs.declared.entries.Entry.TheVariants.{Leaf, Node}
 use Rattle.rowex_reading.specs.Seen.{since}
 use Rattle.rowex_reading.proofs.Led.{reader_then, reads_later, reads_none, reads_trans, same_since}
 use Rattle.rowex_reading.proofs.Seeing.{placed_stable, sure_later}
 use Rattle.rowex_scanning.specs.Scanning.{asked_range}
+use Rattle.rowex_scanning.proofs.Parts.{walk_part}
 use Rattle.rowex_scanning.proofs.Walking.{IsAtEntry, entered_first, entered_number, entry_at, entry_led, floor_later, floor_leaf, floor_next, floor_pop, floor_push, none_popped, paid_end, paid_first, paid_last, paid_leaf, paid_pop, paid_push, popped_is, taken_more, walk_end, walk_full, walk_further, walk_inside, walk_next_less, walk_past, walk_place, walk_pop, walk_pop_less, walk_push, walk_push_less, walk_several, walk_short, way_short}
 use Rattle.rowex_scanning.proofs.scanning.walk.Given as given
 use Rattle.rowex_scanning.proofs.scanning.walk.Goals as goal
@@ -86,6 +88,12 @@ take_leaf-requires-clause-leaf g c =
 pub returns-in_err-take_leaf-in-Leaf-clause-reads : goal.returns-in_err-take_leaf-in-Leaf-clause-reads
 returns-in_err-take_leaf-in-Leaf-clause-reads g c =
     let i = c.loop-top.invariant in paid_last i.reads i.walk i.reader.1 c.load_entry.ensures.reads c.take_leaf.ensures.reads
+
+pub returns-in_err-take_leaf-in-Leaf-clause-part : goal.returns-in_err-take_leaf-in-Leaf-clause-part
+returns-in_err-take_leaf-in-Leaf-clause-part g c =
+    let at = goal.at.returns-in_err-take_leaf-in-Leaf-clause-part g c in let i = c.loop-top.invariant in
+    rw (err_from_is_err_and c.from_residual.result c.from_residual.ensures.1).1
+    (walk_part (reads_later c.take_leaf.ensures.reads.2) c.in_err-take_leaf-in-Leaf.ensures.refused (walk_short i.walk i.reader.1) (same g at.After-take_leaf) (leaf g at.In-Leaf))
 
 pub loop-top-smaller-in-Further : goal.loop-top-smaller-in-Further
 loop-top-smaller-in-Further g c = walk_next_less c.loop-top.invariant.walk c.if-top.true
