@@ -4,6 +4,7 @@ pub mod Noting
 pub mod LookedUp
 pub mod ManyNoted
 pub mod Scanned
+pub mod Found
 pub mod Firsts
 pub mod Collected
 pub mod Counted

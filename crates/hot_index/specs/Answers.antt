@@ -1,5 +1,5 @@
 -- What calls of an index say.
-use Rattle.std.specs.Prelude.{◌≡◌, ◌≢◌, ◌⊎◌, ℕ, ◌<◌, ◌≤◌, List, [], ◌∷◌, ◌++◌, length, slice_get, Bool, Option, Some, None}
+use Rattle.std.specs.Prelude.{◌≡◌, ◌≢◌, ◌⊎◌, ℕ, ◌<◌, ◌≤◌, List, [], ◌∷◌, ◌++◌, length, slice_get, Bool, true, IsTrue, Option, Some, None}
 use Rattle.finite_map.specs.declared.Change.{Change}
 use Rattle.finite_map.specs.declared.Call.{Call}
 use Rattle.finite_map.specs.declared.Call.TheVariants.{Insert, Upsert, Exchange, Get, Remove, RemoveIf}
@@ -9,7 +9,7 @@ use Rattle.finite_map.specs.declared.Scan.{Scan}
 use Rattle.finite_map.specs.Calls.{LegalCalls}
 use Rattle.finite_map.specs.Maps.{key_of}
 use Rattle.finite_map.specs.Fronts.{BeginsWith}
-use Rattle.finite_map.specs.Scans.{IsLawfulScan}
+use Rattle.finite_map.specs.Scans.{is_within, IsHeldBetween, IsLawfulScan}
 use Rattle.finite_map.specs.Weaves.{LegalHistory, weave}
 use Rattle.tries.specs.Keys.{Key}
 use Rattle.record_words.specs.declared.layout.Layout.{Layout}
@@ -61,6 +61,20 @@ pub record IsListed (layout : Layout) (k j : PassView) (from upto : Key) (limit 
   pub notes : j.notes ≡ k.notes
   pub lawful : (scan : Scan) → scan.pairs.items ≡ pairs → scan.more ≡ more → IsLawfulScan j.fresh.front j.front from upto limit scan
   pub legal : LegalCalls j.front j.number j.notes
+
+-- A scan into a list was refused memory: it is answered as one that was cut at the number of its pairs, which are fewer than the limit.
+abbrev pub IsListedInPart : Layout → PassView → PassView → Key → Key → ℕ → List (Key × ℕ) → Type 0
+IsListedInPart layout k j from upto limit pairs = (length pairs < limit) × IsListed layout k j from upto (length pairs) pairs true
+
+-- A scan was refused memory, which it needed for a pair: the limit allows one, and a key of the range was in the index at a moment from
+-- the last load of the root to what the pass has seen now.
+pub record HasFoundPair (layout : Layout) (k j : PassView) (from upto : Key) (limit : ℕ) : Type 0 where
+  pub on : GoesOn layout k j
+  pub room : 0 < limit
+  pub key : Key
+  pub value : ℕ
+  pub within : IsTrue (is_within from upto key)
+  pub held : IsHeldBetween j.fresh.front j.front key value
 
 -- A call was refused or asked nothing of the map: no note is added.
 pub record IsUnnoted (layout : Layout) (k j : PassView) : Type 0 where

@@ -1,5 +1,5 @@
 -- What scans from the end of their range downwards say.
-use Rattle.std.specs.Prelude.{◌≡◌, ℕ, List, [], Bool, Option}
+use Rattle.std.specs.Prelude.{◌≡◌, ℕ, ◌<◌, List, [], length, Bool, true, Option}
 use Rattle.std.specs.Option.{option_to_list}
 use Rattle.finite_map.specs.declared.Scan.{Scan}
 use Rattle.finite_map.specs.Calls.{LegalCalls}
@@ -23,6 +23,11 @@ pub record IsReverseListed (layout : Layout) (k j : PassView) (from upto : Key) 
   pub notes : j.notes ≡ k.notes
   pub lawful : (scan : Scan) → scan.pairs.items ≡ pairs → scan.more ≡ more → IsLawfulReverseScan j.fresh.front j.front from upto limit scan
   pub legal : LegalCalls j.front j.number j.notes
+
+-- A scan downwards into a list was refused memory: it is answered as one that was cut at the number of its pairs, which are fewer than the
+-- limit.
+abbrev pub IsReverseListedInPart : Layout → PassView → PassView → Key → Key → ℕ → List (Key × ℕ) → Type 0
+IsReverseListedInPart layout k j from upto limit pairs = (length pairs < limit) × IsReverseListed layout k j from upto (length pairs) pairs true
 
 -- The last pair up to the key was asked for: a scan downwards of one pair, of the keys from this one to the first key of all, has
 -- found it.

@@ -1,7 +1,7 @@
 //! Cursors, which list a range of keys in parts, each by a scan of its own.
 
 ghost use Rattle.std.specs.Prelude.{◌≡◌, ◌+◌, ◌≤◌, [], false, IfOk, None, Ok, OnErr, Some};
-ghost use Rattle.hot_index.specs.Answers.{IsUnnoted};
+ghost use Rattle.hot_index.specs.Answers.{HasFoundPair, IsListedInPart, IsUnnoted};
 ghost use Rattle.hot_index.specs.Counts.{scan_steps};
 ghost use Rattle.hot_index.specs.Cursors.{IsLeft, IsPartListed, rest_of};
 ghost use Rattle.hot_index.specs.Passes.{Owns};
@@ -62,7 +62,8 @@ impl Cursor {
     ///
     /// Each call is a scan of the keys that are left, with a scan's promise and bound on steps; the next call goes on at the least
     /// key above the last one listed. So a key that is inserted between two calls is listed if it lies above that one, and not if
-    /// it lies below. If memory is refused, the cursor stays where it is.
+    /// it lies below. If memory is refused, the cursor stays where it is, and the list holds the first pairs, as after a `scan_into`
+    /// that is refused.
     pub fn next_into(
         &mut self,
         index: &Index,
@@ -75,6 +76,8 @@ impl Cursor {
         ensures ended { self.old ≡ None → (result ≡ Ok false) × (pairs.new ≡ []) × (pass.new ≡ pass.old) × (self.new ≡ None) }
         ensures part { (rest : Rest) → self.old ≡ Some rest → IfOk result (IsPartListed index.now.layout pass.old pass.new rest limit pairs.new self.new) }
         ensures err { OnErr result (IsUnnoted index.now.layout pass.old pass.new × self.new ≡ self.old) }
+        ensures refused { (rest : Rest) → self.old ≡ Some rest → OnErr result (IsListedInPart index.now.layout pass.old pass.new rest.from rest.upto limit pairs.new) }
+        ensures memory { (rest : Rest) → self.old ≡ Some rest → OnErr result (HasFoundPair index.now.layout pass.old pass.new rest.from rest.upto limit) }
         ensures steps { pass.new.steps ≤ pass.old.steps + scan_steps limit }
     {
         let Some(rest) = &self.rest else {

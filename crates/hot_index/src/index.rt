@@ -11,7 +11,7 @@ ghost use Rattle.rowex_writing.specs.Asking.{aim_of};
 ghost use Rattle.rowex_writing.specs.Attempts.{asked_call};
 ghost use Rattle.hot_index.specs.Passes.{Owns};
 ghost use Rattle.hot_index.specs.Counts.{scan_steps};
-ghost use Rattle.hot_index.specs.Answers.{IsListed, IsNoted, IsRefused, IsScanned, IsUnnoted, HaveMet, MayLack, fault_of, got};
+ghost use Rattle.hot_index.specs.Answers.{HasFoundPair, IsListed, IsListedInPart, IsNoted, IsRefused, IsScanned, IsUnnoted, HaveMet, MayLack, fault_of, got};
 ghost use Rattle.hot_index.specs.Census.{HasCounted};
 ghost use Rattle.hot_index.specs.Many.{AreNoted, HasGotMany, gets};
 ghost use Rattle.hot_index.specs.Traces.{HasCollected, HasGot, HasGotRange, HasMade, HasTold, untold};
@@ -410,7 +410,7 @@ impl Index {
     /// node that it loads: at most 6,481 entries, and two for each pair of the limit. That is at most 168,606 steps, and 59 for each
     /// pair, whatever others insert meanwhile. It is no snapshot: each pair was in the index at some moment of the call, and no key
     /// is missing that was there all along (if there are more, no key up to the last one listed). If memory is refused, it lists
-    /// nothing.
+    /// nothing; it asks for none unless it has found a pair to list.
     pub fn scan(
         &self,
         alloc: Global,
@@ -423,6 +423,7 @@ impl Index {
         ensures own { Owns self.now pass.new }
         ensures ok { IfOk result (IsScanned self.now.layout pass.old pass.new from.now upto.now limit) }
         ensures err { OnErr result (IsUnnoted self.now.layout pass.old pass.new) }
+        ensures memory { OnErr result (HasFoundPair self.now.layout pass.old pass.new from.now upto.now limit) }
         ensures steps { pass.new.steps ≤ pass.old.steps + scan_steps limit }
         ensures read { HasGotRange self.now untold limit (pass.old, tt) (pass.new, tt) }
     {
@@ -443,6 +444,7 @@ impl Index {
         ensures own { Owns self.now pass.new }
         ensures ok { IfOk result (IsScanned self.now.layout pass.old pass.new from.now upto.now limit) }
         ensures err { OnErr result (IsUnnoted self.now.layout pass.old pass.new) }
+        ensures memory { OnErr result (HasFoundPair self.now.layout pass.old pass.new from.now upto.now limit) }
         ensures steps { pass.new.steps ≤ pass.old.steps + scan_steps limit }
         ensures read { HasGotRange self.now G.becomes limit (pass.old, gate.old) (pass.new, gate.new) }
     {
@@ -455,7 +457,8 @@ impl Index {
     /// `scan` into a list, whose earlier pairs are dropped. Returns whether the range has more.
     ///
     /// A list that is used again keeps its memory, and a key takes no more bytes of it than it has: so this is the form for frequent
-    /// scans. If memory is refused, the list holds some of the pairs.
+    /// scans. If memory is refused, the list holds the first pairs, fewer than the limit, and the range has more: it is what a scan
+    /// with their number as its limit gives.
     pub fn scan_into(
         &self,
         pass: &mut Pass,
@@ -468,6 +471,8 @@ impl Index {
         ensures own { Owns self.now pass.new }
         ensures ok { IfOk result (IsListed self.now.layout pass.old pass.new from.now upto.now limit pairs.new) }
         ensures err { OnErr result (IsUnnoted self.now.layout pass.old pass.new) }
+        ensures part { OnErr result (IsListedInPart self.now.layout pass.old pass.new from.now upto.now limit pairs.new) }
+        ensures memory { OnErr result (HasFoundPair self.now.layout pass.old pass.new from.now upto.now limit) }
         ensures steps { pass.new.steps ≤ pass.old.steps + scan_steps limit }
         ensures read { HasGotRange self.now untold limit (pass.old, tt) (pass.new, tt) }
     {
@@ -488,6 +493,8 @@ impl Index {
         ensures own { Owns self.now pass.new }
         ensures ok { IfOk result (IsListed self.now.layout pass.old pass.new from.now upto.now limit pairs.new) }
         ensures err { OnErr result (IsUnnoted self.now.layout pass.old pass.new) }
+        ensures part { OnErr result (IsListedInPart self.now.layout pass.old pass.new from.now upto.now limit pairs.new) }
+        ensures memory { OnErr result (HasFoundPair self.now.layout pass.old pass.new from.now upto.now limit) }
         ensures steps { pass.new.steps ≤ pass.old.steps + scan_steps limit }
         ensures read { HasGotRange self.now G.becomes limit (pass.old, gate.old) (pass.new, gate.new) }
     {

@@ -1,7 +1,7 @@
 //! Scans of the keys that begin with a prefix, and the first pair from a key on.
 
-ghost use Rattle.std.specs.Prelude.{◌+◌, ◌≤◌, IfOk, OnErr};
-ghost use Rattle.hot_index.specs.Answers.{IsListed, IsUnnoted};
+ghost use Rattle.std.specs.Prelude.{◌+◌, ◌≤◌, [], IfOk, OnErr};
+ghost use Rattle.hot_index.specs.Answers.{HasFoundPair, IsListed, IsListedInPart, IsUnnoted};
 ghost use Rattle.hot_index.specs.Counts.{scan_steps};
 ghost use Rattle.hot_index.specs.Passes.{Owns};
 ghost use Rattle.hot_index.specs.Ranges.{IsFirstFound};
@@ -30,6 +30,8 @@ impl Index {
         ensures own { Owns self.now pass.new }
         ensures ok { IfOk result (IsListed self.now.layout pass.old pass.new prefix.now (last_with prefix.now) limit pairs.new) }
         ensures err { OnErr result (IsUnnoted self.now.layout pass.old pass.new) }
+        ensures part { OnErr result (IsListedInPart self.now.layout pass.old pass.new prefix.now (last_with prefix.now) limit pairs.new) }
+        ensures memory { OnErr result (HasFoundPair self.now.layout pass.old pass.new prefix.now (last_with prefix.now) limit) }
         ensures steps { pass.new.steps ≤ pass.old.steps + scan_steps limit }
         ensures read { HasGotRange self.now untold limit (pass.old, tt) (pass.new, tt) }
     {
@@ -39,7 +41,8 @@ impl Index {
     /// The first pair whose key is `from` or above. If `from` is the empty key, that is the first pair of the index.
     ///
     /// It is a scan for one pair, with a scan's promise and bound on steps: the pair was there at some moment of the call, and no
-    /// lower key from `from` on was there all along. If memory is refused, it answers nothing.
+    /// lower key from `from` on was there all along. If memory is refused, it answers nothing; it asks for none unless it has found a
+    /// pair.
     pub fn first(
         &self,
         alloc: Global,
@@ -50,6 +53,7 @@ impl Index {
         ensures own { Owns self.now pass.new }
         ensures ok { IfOk result (IsFirstFound self.now.layout pass.old pass.new from.now) }
         ensures err { OnErr result (IsUnnoted self.now.layout pass.old pass.new) }
+        ensures memory { OnErr result (HasFoundPair self.now.layout pass.old pass.new from.now (last_with []) 1) }
         ensures steps { pass.new.steps ≤ pass.old.steps + scan_steps 1 }
         ensures read { HasGotRange self.now untold 1 (pass.old, tt) (pass.new, tt) }
     {

@@ -1,10 +1,10 @@
 //! Scans from the end of a range downwards, and the last pair up to a key.
 
-ghost use Rattle.std.specs.Prelude.{◌+◌, ◌≤◌, IfOk, OnErr};
-ghost use Rattle.hot_index.specs.Answers.{IsUnnoted};
+ghost use Rattle.std.specs.Prelude.{◌+◌, ◌≤◌, [], IfOk, OnErr};
+ghost use Rattle.hot_index.specs.Answers.{HasFoundPair, IsUnnoted};
 ghost use Rattle.hot_index.specs.Counts.{scan_steps};
 ghost use Rattle.hot_index.specs.Passes.{Owns};
-ghost use Rattle.hot_index.specs.Reverse.{IsLastFound, IsReverseListed, IsReverseScanned};
+ghost use Rattle.hot_index.specs.Reverse.{IsLastFound, IsReverseListed, IsReverseListedInPart, IsReverseScanned};
 ghost use Rattle.hot_index.specs.Traces.{HasGotRange, untold};
 
 use crate::index::{Index, Pass};
@@ -23,7 +23,7 @@ impl Index {
     /// It is `scan` from right to left: it takes no lock, never blocks, and makes no more steps than `scan` may. It is no snapshot:
     /// each pair was in the index at some moment of the call, and no key is missing that was there all along (if there are more,
     /// no key down to the last one listed). To go on, scan up to the `previous_key` of the last pair's key. If memory is refused,
-    /// it lists nothing.
+    /// it lists nothing; it asks for none unless it has found a pair to list.
     pub fn scan_reverse(
         &self,
         alloc: Global,
@@ -36,6 +36,7 @@ impl Index {
         ensures own { Owns self.now pass.new }
         ensures ok { IfOk result (IsReverseScanned self.now.layout pass.old pass.new from.now upto.now limit) }
         ensures err { OnErr result (IsUnnoted self.now.layout pass.old pass.new) }
+        ensures memory { OnErr result (HasFoundPair self.now.layout pass.old pass.new from.now upto.now limit) }
         ensures steps { pass.new.steps ≤ pass.old.steps + scan_steps limit }
         ensures read { HasGotRange self.now untold limit (pass.old, tt) (pass.new, tt) }
     {
@@ -46,7 +47,8 @@ impl Index {
     }
 
     /// `scan_reverse` into a list, whose earlier pairs are dropped; the pair with the greatest key comes first. Returns whether the
-    /// range has more below. If memory is refused, the list holds some of the pairs.
+    /// range has more below. If memory is refused, the list holds the first of these pairs, fewer than the limit, and the range has
+    /// more below: it is what a scan with their number as its limit gives.
     pub fn scan_reverse_into(
         &self,
         pass: &mut Pass,
@@ -59,6 +61,8 @@ impl Index {
         ensures own { Owns self.now pass.new }
         ensures ok { IfOk result (IsReverseListed self.now.layout pass.old pass.new from.now upto.now limit pairs.new) }
         ensures err { OnErr result (IsUnnoted self.now.layout pass.old pass.new) }
+        ensures part { OnErr result (IsReverseListedInPart self.now.layout pass.old pass.new from.now upto.now limit pairs.new) }
+        ensures memory { OnErr result (HasFoundPair self.now.layout pass.old pass.new from.now upto.now limit) }
         ensures steps { pass.new.steps ≤ pass.old.steps + scan_steps limit }
         ensures read { HasGotRange self.now untold limit (pass.old, tt) (pass.new, tt) }
     {
@@ -79,6 +83,8 @@ impl Index {
         ensures own { Owns self.now pass.new }
         ensures ok { IfOk result (IsReverseListed self.now.layout pass.old pass.new from.now upto.now limit pairs.new) }
         ensures err { OnErr result (IsUnnoted self.now.layout pass.old pass.new) }
+        ensures part { OnErr result (IsReverseListedInPart self.now.layout pass.old pass.new from.now upto.now limit pairs.new) }
+        ensures memory { OnErr result (HasFoundPair self.now.layout pass.old pass.new from.now upto.now limit) }
         ensures steps { pass.new.steps ≤ pass.old.steps + scan_steps limit }
         ensures read { HasGotRange self.now G.becomes limit (pass.old, gate.old) (pass.new, gate.new) }
     {
@@ -100,7 +106,8 @@ impl Index {
     /// key), that is the last pair of the index.
     ///
     /// It is a scan downwards for one pair, with its promise and bound on steps: the pair was there at some moment of the call, and
-    /// no greater key up to `upto` was there all along. If memory is refused, it answers nothing.
+    /// no greater key up to `upto` was there all along. If memory is refused, it answers nothing; it asks for none unless it has
+    /// found a pair.
     pub fn last(
         &self,
         alloc: Global,
@@ -111,6 +118,7 @@ impl Index {
         ensures own { Owns self.now pass.new }
         ensures ok { IfOk result (IsLastFound self.now.layout pass.old pass.new upto.now) }
         ensures err { OnErr result (IsUnnoted self.now.layout pass.old pass.new) }
+        ensures memory { OnErr result (HasFoundPair self.now.layout pass.old pass.new [] upto.now 1) }
         ensures steps { pass.new.steps ≤ pass.old.steps + scan_steps 1 }
         ensures read { HasGotRange self.now untold 1 (pass.old, tt) (pass.new, tt) }
     {

@@ -1,15 +1,18 @@
 -- A scan ends as its pass clears the pin, whether it is answered or refused.
-use Rattle.std.proofs.Common.{rules, ◌∙◌, sym, ap, subst}
+use Rattle.std.proofs.Common.{rules, ◌∙◌, length, sym, ap, subst, true}
+use Rattle.std.proofs.lemmas.Result.{on_err_weaker}
 use Rattle.std.specs.Prelude.{IfOk, IsSome, OnErr}
 use Rattle.rowex_table.specs.Seats.{TableView}
 use Rattle.rowex_walks.specs.Scan.{Range}
 use Rattle.rowex_reading.proofs.Led.{looked_at, looks_same}
 use Rattle.hot_index.specs.Passes.{PassView, pass_of}
-use Rattle.hot_index.specs.Answers.{IsUnnoted}
-use Rattle.hot_index.specs.Reverse.{IsReverseListed}
+use Rattle.hot_index.specs.Answers.{HasFoundPair, IsUnnoted}
+use Rattle.hot_index.specs.Reverse.{IsReverseListed, IsReverseListedInPart}
 use Rattle.rowex_scanning.specs.Counts.{scan_loads}
-use Rattle.rowex_scanning.specs.Reverse.{HasScannedDown}
+use Rattle.rowex_scanning.specs.Reverse.{HasScannedDown, HasScannedPartDown}
+use Rattle.rowex_scanning.specs.Scanning.{limited}
 use Rattle.hot_index.specs.Traces.{HasGotRange}
+use Rattle.hot_index.proofs.Found.{part_found_down}
 use Rattle.hot_index.proofs.Noting.{fits_then, looked}
 use Rattle.hot_index.proofs.Scanned.{if_answered, if_refused, scan_counted, scan_settled, scan_refused, scan_answered_down}
 use Rattle.hot_index.proofs.Tracing.{has_walked}
@@ -52,6 +55,36 @@ returns-clause-err g c =
     (if_refused c.scan_root_down-scan.result (IsUnnoted layout c.args.pass.now later)
     (subst (λ (z : PassView). IsUnnoted layout z later) c.pass.view_is
     (scan_refused c.pass.inside.seat c.unpin.new.seat c.pass.invariant (looked c.pass.invariant c.pin.ensures.steps s.looks.3) c.unpin.ensures.step.event)))
+
+pub returns-clause-part : goal.returns-clause-part
+returns-clause-part g c =
+    let s = c.scan_root_down-scan.ensures in
+    let range : Range = record { from = c.args.from.now; upto = c.args.upto.now; limit = c.args.limit } in
+    let layout = c.self.inside.table.layout in
+    let later = pass_of c.unpin.new.seat in
+    let pinned : IsSome c.scan_root_down-scan.new.seat.known.pin = subst IsSome (sym (looked_at s.looks.3).later.pin) c.pin.ensures.pinned in
+    let pairs = c.scan_root_down-scan.new.pairs in
+    let of_part : HasScannedPartDown c.scan_root_down-scan.new.seat.known range pairs → IsReverseListedInPart layout c.args.pass.now later c.args.from.now c.args.upto.now c.args.limit pairs =
+    λ h. (
+      h.0,
+      subst (λ (z : PassView). IsReverseListed layout z later c.args.from.now c.args.upto.now (length pairs) pairs true) c.pass.view_is
+          (scan_answered_down c.pass.inside.seat c.unpin.new.seat c.pass.invariant (looked c.pass.invariant c.pin.ensures.steps s.looks.3) c.unpin.ensures.step.event (limited range (length pairs)) s.keys pinned pairs true h.1),
+    ) in
+    subst (λ (x : TableView). OnErr c.scan_root_down-scan.result (IsReverseListedInPart x.layout c.args.pass.now later c.args.from.now c.args.upto.now c.args.limit pairs)) c.self.view_is
+    (on_err_weaker c.scan_root_down-scan.result of_part s.part)
+
+pub returns-clause-memory : goal.returns-clause-memory
+returns-clause-memory g c =
+    let s = c.scan_root_down-scan.ensures in
+    let range : Range = record { from = c.args.from.now; upto = c.args.upto.now; limit = c.args.limit } in
+    let layout = c.self.inside.table.layout in
+    let later = pass_of c.unpin.new.seat in
+    let pinned : IsSome c.scan_root_down-scan.new.seat.known.pin = subst IsSome (sym (looked_at s.looks.3).later.pin) c.pin.ensures.pinned in
+    let of_part : HasScannedPartDown c.scan_root_down-scan.new.seat.known range c.scan_root_down-scan.new.pairs → HasFoundPair layout c.args.pass.now later c.args.from.now c.args.upto.now c.args.limit =
+    λ h. subst (λ (z : PassView). HasFoundPair layout z later c.args.from.now c.args.upto.now c.args.limit) c.pass.view_is
+    (part_found_down c.pass.inside.seat c.unpin.new.seat (looked c.pass.invariant c.pin.ensures.steps s.looks.3) c.unpin.ensures.step.event range s.keys pinned h) in
+    subst (λ (x : TableView). OnErr c.scan_root_down-scan.result (HasFoundPair x.layout c.args.pass.now later c.args.from.now c.args.upto.now c.args.limit)) c.self.view_is
+    (on_err_weaker c.scan_root_down-scan.result of_part s.part)
 
 pub returns-clause-steps : goal.returns-clause-steps
 returns-clause-steps g c = rw (← c.pass.view_is) (scan_counted (scan_loads c.args.limit) c.pin.ensures.steps c.scan_root_down-scan.ensures.few c.unpin.ensures.step)

@@ -1,0 +1,85 @@
+-- A scan that is refused memory has found a pair.
+use denote.RawPtr.{null_ptr}
+use Rattle.std.proofs.Common.{◌≡◌, ◌≢◌, ℕ, ◌<◌, ◌≤◌, ◌^◌, List, [], ◌∷◌, length, Bool, true, refl, sym, subst, arith, le_refl}
+use Rattle.std.specs.Prelude.{All, IsSome, IsTrue}
+use Rattle.std.proofs.lemmas.List.Elements.{All-head}
+use Rattle.finite_map.specs.declared.Scan.{Scan}
+use Rattle.finite_map.specs.Reverse.{IsLawfulReverseScan}
+use Rattle.finite_map.specs.Scans.{is_within, IsHeldBetween, IsLawfulScan}
+use Rattle.key_bits.specs.Key.{IsKey}
+use Rattle.record_words.specs.declared.layout.Layout.{Layout}
+use Rattle.moments.specs.State.{IsHeldSince}
+use Rattle.rowex_core.specs.declared.event.Act.TheVariants.{ClearPin}
+use Rattle.rowex_core.specs.declared.known.Known.{Known}
+use Rattle.rowex_core.specs.Knowing.{IsEvent}
+use Rattle.rowex_reading.proofs.Loading.{pinned_by}
+use Rattle.rowex_reading.specs.Seen.{Sure, since}
+use Rattle.rowex_scanning.proofs.Scanned.{lawful_scan}
+use Rattle.rowex_scanning.specs.Reverse.{HasScannedPartDown}
+use Rattle.rowex_scanning.specs.Scanning.{HasScanned, HasScannedPart, limited}
+use Rattle.rowex_table.specs.Runs.{silent}
+use Rattle.rowex_table.specs.Seats.{SeatView}
+use Rattle.rowex_walks.specs.Scan.{IsInRange, Range}
+use Rattle.tries.specs.Keys.{Key}
+use Rattle.hot_index.specs.Answers.{GoesOn, HasFoundPair, IsListed}
+use Rattle.hot_index.specs.Passes.{PassView, IsSettled, pass_of}
+use Rattle.hot_index.specs.Reverse.{IsReverseListed}
+use Rattle.hot_index.proofs.Noting.{HasLooked, goes_on}
+
+-- a scan with these pairs
+abbrev scan_of : (pairs : List (Key × ℕ)) → Bool → length pairs < 2 ^ 63 → Scan
+scan_of pairs more short = record {
+  pairs = record { ptr = null_ptr; len = length pairs; cap = length pairs; alloc = record { memory = _ }; items = pairs; ok = (refl, le_refl (length pairs)); small = short };
+  more = more;
+}
+
+-- One pair of a list will do.
+module _ {layout : Layout} {k j : PassView} {from upto : Key} {limit : ℕ} where
+  first_found : (pairs : List (Key × ℕ)) → GoesOn layout k j → pairs ≢ [] → length pairs ≤ limit → All (λ e. IsTrue (is_within from upto e.0)) pairs →
+      All (λ e. IsHeldBetween j.fresh.front j.front e.0 e.1) pairs → HasFoundPair layout k j from upto limit
+  first_found [] on some short within held = absurd (some refl)
+  first_found (e ∷ pairs) on some short within held = record {
+    on = on;
+    room = omega (arith, short);
+    key = e.0;
+    value = e.1;
+    within = All-head (λ (e : Key × ℕ). IsTrue (is_within from upto e.0)) e pairs within;
+    held = All-head (λ (e : Key × ℕ). IsHeldBetween j.fresh.front j.front e.0 e.1) e pairs held;
+  }
+
+  pub listed_found : {pairs : List (Key × ℕ)} {more : Bool} → IsListed layout k j from upto limit pairs more → pairs ≢ [] → length pairs < 2 ^ 63 → HasFoundPair layout k j from upto limit
+  listed_found {pairs = pairs} {more = more} h some small =
+      let l = h.lawful (scan_of pairs more small) refl refl in first_found pairs h.on some l.short l.within l.held
+
+  pub reverse_listed_found : {pairs : List (Key × ℕ)} {more : Bool} → IsReverseListed layout k j from upto limit pairs more → pairs ≢ [] → length pairs < 2 ^ 63 → HasFoundPair layout k j from upto limit
+  reverse_listed_found {pairs = pairs} {more = more} h some small =
+      let l = h.lawful (scan_of pairs more small) refl refl in first_found pairs h.on some l.short l.within l.held
+
+-- The pass has looked since it was settled, and clears the pin now; it is sure that a key of the range was held since its last load of the
+-- root. So a scan of no pairs is cut before that key.
+module _ {layout : Layout} {i : Known} (s t : SeatView) (looks : HasLooked s.known i) (event : IsEvent layout ClearPin silent i t.known) (g : Range) (keys : IsKey g.from × IsKey g.upto) (is : IsSome i.pin) where
+  sure_found : 0 < g.limit → Sure i (λ x. (key : Key) × (value : ℕ) × IsInRange g key × IsHeldSince x (since i) key value) → HasFoundPair layout (pass_of s) (pass_of t) g.from g.upto g.limit
+  sure_found room found =
+      let p = pinned_by i.pin is in
+      let none = scan_of [] true (omega arith) in
+      let cut : HasScanned i (limited g 0) [] true = record {
+        taken = [];
+        pairs_are = refl;
+        answer = λ c lawful recalls. let (key, value, inside, held) = found c lawful recalls in record {
+          falling = tt;
+          within = tt;
+          held = tt;
+          full = refl;
+          further = (key, value, inside, held, tt);
+          covered = λ x kept range last. absurd last;
+        };
+      } in
+      let l = subst (λ (z : Known). IsLawfulScan z.fresh.front z.front g.from g.upto 0 none) (sym event.learned_is) (lawful_scan i (limited g 0) none layout silent t.known keys.0 keys.1 p.0 p.1 cut event) in
+      let (key, value, within, held, past) = l.further refl in
+      record { on = goes_on s t looks.on event; room = room; key = key; value = value; within = within; held = held }
+
+  pub part_found : {pairs : List (Key × ℕ)} → HasScannedPart i g pairs → HasFoundPair layout (pass_of s) (pass_of t) g.from g.upto g.limit
+  part_found h = sure_found (let short = h.0 in omega (arith, short)) (λ c lawful recalls. let (key, value, inside, held, past) = (h.1.answer c lawful recalls).further in (key, value, inside, held))
+
+  pub part_found_down : {pairs : List (Key × ℕ)} → HasScannedPartDown i g pairs → HasFoundPair layout (pass_of s) (pass_of t) g.from g.upto g.limit
+  part_found_down h = sure_found (let short = h.0 in omega (arith, short)) (λ c lawful recalls. let (key, value, inside, held, past) = (h.1.answer c lawful recalls).further in (key, value, inside, held))
