@@ -1,5 +1,5 @@
 -- What a scan has given after leaves and further leaves.
-use Rattle.std.proofs.Common.{◌≡◌, ◌≢◌, ◌↔◌, inl, inr, ℕ, ◌<◌, ◌≤◌, List, [], ◌∷◌, ◌++◌, length, take, true, false, cond, ◌&&◌, not, refl, ap, sym, ◌∙◌, subst, arith, append_assoc, length-append}
+use Rattle.std.proofs.Common.{◌≡◌, ◌≢◌, ◌↔◌, inl, inr, ℕ, zero, suc, ◌<◌, ◌≤◌, List, [], ◌∷◌, ◌++◌, length, take, true, false, cond, ◌&&◌, not, refl, ap, sym, ◌∙◌, subst, arith, append_assoc, length-append}
 use Rattle.std.specs.Prelude.{IsTrue}
 use Rattle.std.specs.declared.cmp.Ordering.{Ordering}
 use Rattle.std.specs.declared.cmp.Ordering.TheVariants.{Less, Equal, Greater}
@@ -18,7 +18,7 @@ use Rattle.tries.proofs.Maps.{AreKeys, before_less}
 use Rattle.plain_trie.specs.declared.plain.scan.Range.{Range}
 use Rattle.plain_trie.specs.declared.plain.scan.Progress.{Progress}
 use Rattle.plain_trie.specs.declared.plain.scan.Progress.TheVariants.{On, Past, Full}
-use Rattle.plain_trie.specs.Gathered.{in_range, IsBeyond, IsGiven, IsAboveRange, IsCutAtLimit, IsGathered}
+use Rattle.plain_trie.specs.Gathered.{in_range, HasPairToGive, IsBeyond, IsGiven, IsAboveRange, IsCutAtLimit, IsGathered}
 
 pairs-append : (xs ys : List Item) → pairs (xs ++ ys) ≡ pairs xs ++ pairs ys
 pairs-append [] ys = refl
@@ -88,6 +88,14 @@ module _ (from upto key : List ℕ) where
   not_less_floor e greater =
       let l : key_order key from ≡ Less = nat_list_cmp_total.antisymm key from ∙ ap ordering_reverse greater in
       let h : is_lt Less ≡ false = ap is_lt (sym l) ∙ e in cc
+
+front_none : (a b : Map) → a ++ b ≡ [] → a ≡ []
+front_none [] b e = refl
+front_none (x ∷ a) b e = absurd (let z : x ∷ (a ++ b) ≡ [] = e in cc)
+
+back_none : (a b : Map) → a ++ b ≡ [] → b ≡ []
+back_none [] b e = e
+back_none (x ∷ a) b e = absurd (let z : x ∷ (a ++ b) ≡ [] = e in cc)
 
 module _ (r : Range) where
   outside : (x : Item) (xs : List Item) → is_within r.from.now r.upto.now x.key ≡ false → in_range r (x ∷ xs) ≡ in_range r xs
@@ -172,6 +180,13 @@ module _ (r : Range) where
         more = subst (λ (m : Map). r.limit < length m) (sym joined) (let m = g.more in omega (arith, length-append (old ++ in_range r xs) (in_range r ys)));
       }
 
+  -- a pair to give is one of more leaves, too
+  pub to_give_before : (xs ys : List Item) → HasPairToGive r xs → HasPairToGive r (xs ++ ys)
+  to_give_before xs ys (room, some) = (room, λ none. some (front_none (in_range r xs) (in_range r ys) (sym (in_append xs ys) ∙ none)))
+
+  pub to_give_behind : (xs ys : List Item) → HasPairToGive r ys → HasPairToGive r (xs ++ ys)
+  to_give_behind xs ys (room, some) = (room, λ none. some (back_none (in_range r xs) (in_range r ys) (sym (in_append xs ys) ∙ none)))
+
   -- one leaf
   module _ (old : Map) (x : Item) (from : key_order r.from.now x.key ≢ Greater) where
     pub gathered_past : length old ≤ r.limit → is_gt (key_order x.key r.upto.now) ≡ true → IsGathered r old (x ∷ []) old Past
@@ -200,17 +215,40 @@ module _ (r : Range) where
           room = subst (λ (m : Map). length m ≤ r.limit) (sym is) (omega (arith, length-append old y));
         }
 
+    pub to_give_one : length old < r.limit → is_gt (key_order x.key r.upto.now) ≡ false → HasPairToGive r (x ∷ [])
+    to_give_one h e = (omega (arith, h), λ none. let z = sym (one e) ∙ none in cc)
+
+  -- a scan gives a pair where there is one
+  pub to_give_some : (xs : List Item) → HasPairToGive r xs → take r.limit (in_range r xs) ≢ []
+  to_give_some xs (room, some) = go r.limit (in_range r xs) room some
+    where
+      go : (n : ℕ) (m : Map) → 0 < n → m ≢ [] → take n m ≢ []
+      go zero m lt some none = absurd (omega (arith, lt))
+      go (suc n) [] lt some none = some refl
+      go (suc n) (e ∷ m) lt some none = let z : e ∷ take n m ≡ [] = none in cc
+
   -- what was gathered of all leaves is the scan of the map
+  pub gathered_pairs : (xs : List Item) (new : Map) (p : Progress) → IsGathered r [] xs new p → new ≡ take r.limit (in_range r xs)
+  gathered_pairs xs new p = go p
+    where
+      given : IsGiven r [] xs new → new ≡ take r.limit (in_range r xs)
+      given g = g.pairs ∙ sym (take_all r.limit (in_range r xs) (subst (λ (m : Map). length m ≤ r.limit) g.pairs g.room))
+
+      go : (p : Progress) → IsGathered r [] xs new p → new ≡ take r.limit (in_range r xs)
+      go On g = given g
+      go Past g = given g.0
+      go Full g = g.pairs
+
   pub gathered_scan : (xs : List Item) (scan : Scan) (p : Progress) → (IsTrue scan.more ↔ (p ≡ Full)) → IsGathered r [] xs scan.pairs.items p →
       IsScanOf (pairs xs) r.from.now r.upto.now r.limit scan
-  gathered_scan xs scan p = go p
+  gathered_scan xs scan p e g = record { pairs = gathered_pairs xs scan.pairs.items p g; more = go p e g }
     where
-      given : (q : Progress) → q ≢ Full → (IsTrue scan.more → q ≡ Full) → IsGiven r [] xs scan.pairs.items → IsScanOf (pairs xs) r.from.now r.upto.now r.limit scan
+      given : (q : Progress) → q ≢ Full → (IsTrue scan.more → q ≡ Full) → IsGiven r [] xs scan.pairs.items → IsTrue scan.more ↔ (r.limit < length (in_range r xs))
       given q n e g =
           let short : length (in_range r xs) ≤ r.limit = subst (λ (m : Map). length m ≤ r.limit) g.pairs g.room in
-          record { pairs = g.pairs ∙ sym (take_all r.limit (in_range r xs) short); more = (λ h. absurd (n (e h)), λ h. absurd (omega arith)) }
+          (λ h. absurd (n (e h)), λ h. absurd (omega arith))
 
-      go : (p : Progress) → (IsTrue scan.more ↔ (p ≡ Full)) → IsGathered r [] xs scan.pairs.items p → IsScanOf (pairs xs) r.from.now r.upto.now r.limit scan
+      go : (p : Progress) → (IsTrue scan.more ↔ (p ≡ Full)) → IsGathered r [] xs scan.pairs.items p → IsTrue scan.more ↔ (r.limit < length (in_range r xs))
       go On e g = given On (λ h. absurd cc) e.0 g
       go Past e g = given Past (λ h. absurd cc) e.0 g.0
-      go Full e g = record { pairs = g.pairs; more = (λ h. g.more, λ h. e.1 refl) }
+      go Full e g = (λ h. g.more, λ h. e.1 refl)

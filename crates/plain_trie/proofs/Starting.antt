@@ -16,8 +16,8 @@ use Rattle.tries.proofs.Places.{spot_below}
 use Rattle.plain_trie.specs.declared.plain.scan.Range.{Range}
 use Rattle.plain_trie.specs.declared.plain.scan.Progress.{Progress}
 use Rattle.plain_trie.specs.declared.plain.scan.Progress.TheVariants.{On}
-use Rattle.plain_trie.specs.Gathered.{parts, items_of_all, items_from, IsBeyond, IsGathered, IsFirstMismatch}
-use Rattle.plain_trie.proofs.Gathering.{gathered_end, gathered_skip, gathered_then}
+use Rattle.plain_trie.specs.Gathered.{parts, items_of_all, items_from, HasPairToGive, IsBeyond, IsGathered, IsFirstMismatch}
+use Rattle.plain_trie.proofs.Gathering.{gathered_end, gathered_skip, gathered_then, to_give_before, to_give_behind}
 use Rattle.plain_trie.proofs.Parts.{length-parts, items_split, leaves_around, leaves_none, from_rises, from_keys}
 use Rattle.tries.proofs.Contents.{found_child, IsRising}
 
@@ -59,3 +59,15 @@ module _ (r : Range) (b : Tree) (j : ℕ) (low : IsBeyond r.from.now (items_of_a
         gathered_from old new p
         (subst (λ xs. IsGathered r old xs new p) (sym e)
         (gathered_end r old new (items (get_or (parts b) j d)) (items_from (j + 1) b) p n (subst IsRising e (from_rises b j i)) (subst AreKeys e (from_keys b j i)) g))
+
+-- a pair to give from a place on is one of the body
+module _ (r : Range) (b : Tree) (j : ℕ) where
+  pub to_give_from : HasPairToGive r (items_from j b) → HasPairToGive r (items b)
+  to_give_from h = subst (λ xs. HasPairToGive r xs) (sym (items_split b j)) (to_give_behind r (items_of_all (take j (parts b))) (items_from j b) h)
+
+  module _ (d : Tree) (within : j < length (parts b)) where
+    pub to_give_part : HasPairToGive r (items (get_or (parts b) j d)) → HasPairToGive r (items b)
+    to_give_part h = to_give_from (subst (λ xs. HasPairToGive r xs) (sym (from_part b j d within)) (to_give_before r (items (get_or (parts b) j d)) (items_from (j + 1) b) h))
+
+    pub to_give_next : HasPairToGive r (items_from (j + 1) b) → HasPairToGive r (items b)
+    to_give_next h = to_give_from (subst (λ xs. HasPairToGive r xs) (sym (from_part b j d within)) (to_give_behind r (items (get_or (parts b) j d)) (items_from (j + 1) b) h))

@@ -71,6 +71,10 @@ IsGathered r old xs new On = IsGiven r old xs new
 IsGathered r old xs new Past = IsGiven r old xs new × IsAboveRange r xs
 IsGathered r old xs new Full = IsCutAtLimit r old xs new
 
+-- a pair of these leaves is in the range, and the limit allows one
+abbrev pub HasPairToGive : Range → List Item → Type 0
+HasPairToGive r xs = (0 < r.limit) × (in_range r xs ≢ [])
+
 -- the trie's records show the tree
 pub record ShowsSound (v : PlainView) (t : Tree) : Type 0 where
   pub shown : ShowsTree v.nodes v.leaves t

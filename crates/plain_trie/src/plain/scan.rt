@@ -1,13 +1,13 @@
 //! The scan of a sequential trie: the keys of a range with their values, in order.
 
-ghost use Rattle.std.specs.Prelude.{◌≡◌, ◌≢◌, ◌≤◌, ◌<◌, [], ◌∷◌, length, Some, IfOk, slice_get};
+ghost use Rattle.std.specs.Prelude.{◌≡◌, ◌≢◌, ◌≤◌, ◌<◌, [], ◌∷◌, length, take, Some, IfOk, MatchResult, OnErr, slice_get};
 ghost use Rattle.std.specs.declared.cmp.Ordering.TheVariants.{Greater};
 ghost use Rattle.finite_map.specs.Maps.{key_order};
-ghost use Rattle.finite_map.specs.Scans.{IsScanOf};
+ghost use Rattle.finite_map.specs.Scans.{IsScanOf, range_of};
 ghost use Rattle.pieces.specs.Piece.{Place as At};
 ghost use Rattle.tries.specs.Content.{Item, items};
 ghost use Rattle.compound_node.specs.Nodes.{piece};
-ghost use Rattle.plain_trie.specs.Gathered.{IsNotAboveKeys, IsGathered, IsFirstMismatch, IsScanStart, ShowsSound, items_from, pairs_read, parts};
+ghost use Rattle.plain_trie.specs.Gathered.{HasPairToGive, IsNotAboveKeys, IsGathered, IsFirstMismatch, IsScanStart, ShowsSound, items_from, pairs_read, parts};
 ghost use Rattle.plain_trie.specs.Store.{trie_map, item_record};
 ghost use Rattle.tries.specs.Place.{spot};
 ghost use Rattle.tries.specs.Tree.{Fixed, IsTrie, Tree, node, page};
@@ -41,7 +41,7 @@ impl PlainTrie {
     /// The keys from `from` to `upto`, both included, with their values: the first `limit` of them, in the order of the keys.
     /// It visits the nodes on the way of the search for `from`, and those above the pairs that it gives and the one behind
     /// them. Its calls nest as deep as the trie is high; it takes memory for the pairs and for a reference to each of their
-    /// leaves, and answers `AllocError` where they find no room.
+    /// leaves, and answers `AllocError` where they find no room, so only where it has a pair to give.
     pub fn scan(
         &self,
         alloc: Global,
@@ -50,6 +50,7 @@ impl PlainTrie {
         limit: usize,
     ) -> Result<Scan, AllocError>
         ensures scan { IfOk result (IsScanOf (trie_map self.now) from.now upto.now limit) }
+        ensures memory { OnErr result (take limit (range_of (trie_map self.now) from.now upto.now) ≢ []) }
     {
         let Some(top) = self.top else {
             let pairs = Vec::new(alloc);
@@ -80,7 +81,7 @@ impl PlainTrie {
         requires shown { (t : Tree) × (page t ≡ At entry) × ShowsSound self.now t }
         ensures gathered { (t : Tree) → page t ≡ At entry → ShowsSound self.now t → IsFirstMismatch range.entry.from.now t difference →
             length (pairs_read leaves.old.items) ≤ range.entry.limit →
-            IfOk result (IsGathered range.entry (pairs_read leaves.old.items) (items t) (pairs_read leaves.new.items)) }
+            MatchResult result (IsGathered range.entry (pairs_read leaves.old.items) (items t) (pairs_read leaves.new.items)) (λ _. HasPairToGive range.entry (items t)) }
     {
         match entry {
             Entry::Leaf(number) => {
@@ -116,7 +117,7 @@ impl PlainTrie {
         requires shown { (x : Fixed) × (b : Tree) × ShowsSound self.now (node number x b) }
         ensures gathered { (x : Fixed) (b : Tree) → ShowsSound self.now (node number x b) → start ≤ length (parts b) →
             IsNotAboveKeys range.entry.from.now (items_from start b) → length (pairs_read leaves.old.items) ≤ range.entry.limit →
-            IfOk result (IsGathered range.entry (pairs_read leaves.old.items) (items_from start b) (pairs_read leaves.new.items)) }
+            MatchResult result (IsGathered range.entry (pairs_read leaves.old.items) (items_from start b) (pairs_read leaves.new.items)) (λ _. HasPairToGive range.entry (items_from start b)) }
     {
         let node = &self.nodes[number as usize];
         for place in start..node.count() {
@@ -142,7 +143,7 @@ impl PlainTrie {
         requires within { number < length self.now.leaves }
         ensures gathered { (x : Item) → slice_get self.now.leaves number ≡ Some (item_record x) →
             key_order range.entry.from.now x.key ≢ Greater → length (pairs_read leaves.old.items) ≤ range.entry.limit →
-            IfOk result (IsGathered range.entry (pairs_read leaves.old.items) (x ∷ []) (pairs_read leaves.new.items)) }
+            MatchResult result (IsGathered range.entry (pairs_read leaves.old.items) (x ∷ []) (pairs_read leaves.new.items)) (λ _. HasPairToGive range.entry (x ∷ [])) }
     {
         let leaf = &self.leaves[number as usize];
         if leaf.key > *range.upto {
@@ -158,9 +159,11 @@ impl PlainTrie {
 
 /// The pairs of the leaves. Their keys are made from their bytes: of a short key so only these are read, and not all its places.
 fn pairs_of(alloc: Global, leaves: &[&LeafRecord]) -> Result<Vec<(Key, u64)>, AllocError>
-    ensures { IfOk result (λ pairs. pairs.items ≡ pairs_read leaves.now) }
+    ensures pairs { IfOk result (λ pairs. pairs.items ≡ pairs_read leaves.now) }
+    ensures memory { OnErr result (leaves.now ≢ []) }
 {
-    let mut pairs = Vec::with_capacity(alloc, leaves.len())?;
+    let mut pairs = Vec::new(alloc);
+    pairs.reserve(leaves.len())?;
     for leaf in leaves {
         let key = Key::from_bytes(leaf.key.as_bytes()).unwrap();
         pairs.push_reserved((key, leaf.value));

@@ -4,7 +4,7 @@ use Rattle.std.specs.Prelude.{slice_get}
 use Rattle.std.specs.declared.cmp.Ordering.TheVariants.{Greater}
 use Rattle.std.specs.Ordering.{is_lt}
 use Rattle.std.proofs.lemmas.Option.{slice_get_within}
-use Rattle.std.proofs.lemmas.Result.{IfOk-weaker}
+use Rattle.std.proofs.lemmas.Result.{MatchResult-weaker, err_from_is_err_and}
 use Rattle.pieces.specs.Piece.{Place}
 use Rattle.finite_map.specs.Maps.{key_order}
 use Rattle.compound_node.specs.Nodes.{piece, height_of}
@@ -16,12 +16,12 @@ use Rattle.tries.specs.Tree.{Page, Fixed, Tree, node, page}
 use Rattle.tries.proofs.Places.{leads_spot}
 use Rattle.plain_trie.specs.declared.plain.LeafRecord.{LeafRecord}
 use Rattle.plain_trie.specs.declared.plain.scan.Progress.TheVariants.{On}
-use Rattle.plain_trie.specs.Gathered.{IsBeyond, IsNotAboveKeys, IsGathered, IsFirstMismatch, ShowsSound, items_from, items_of_all, pairs_read, parts}
+use Rattle.plain_trie.specs.Gathered.{HasPairToGive, IsBeyond, IsNotAboveKeys, IsGathered, IsFirstMismatch, ShowsSound, items_from, items_of_all, pairs_read, parts}
 use Rattle.plain_trie.specs.Store.{PlainView, item_record}
 use Rattle.plain_trie.proofs.Gathering.{gathered_none, gathered_skip, less_beyond, not_less_floor}
 use Rattle.plain_trie.proofs.Searching.{read_at}
 use Rattle.plain_trie.proofs.Standing.{no_tree, node_shows, node_height, node_within, IsPartAt, IsLeafAt, IsNodeAt, part_at, leaf_at, node_at}
-use Rattle.plain_trie.proofs.Starting.{gathered_ended, gathered_from, gathered_on, part_mismatch}
+use Rattle.plain_trie.proofs.Starting.{gathered_ended, gathered_from, gathered_on, part_mismatch, to_give_from, to_give_next, to_give_part}
 use Rattle.plain_trie.proofs.plain.PlainTrie.+gather.Goals as goal
 use Rattle.plain_trie.proofs.plain.PlainTrie.+gather.Goals.{In-Leaf, In-Node, After-lt, After-start_in, After-entry}
 
@@ -110,8 +110,9 @@ returns-else-lt t c = record {
   gathered = λ u e i m r.
       let l = leaf_of t (goal.at.returns-else-lt t c).In-Leaf u e i in
       let n = not_less_floor c.args.range.from.now c.args.range.upto.now l.item.key (order_is t (goal.at.returns-else-lt t c).After-lt l.item l.at ∙ c.if-lt.false) in
-      IfOk-weaker c.list_leaf.result (IsGathered c.args.range (pairs_read c.args.leaves.now.items) (l.item ∷ []) (pairs_read c.list_leaf.new.leaves.items)) (IsGathered c.args.range (pairs_read c.args.leaves.now.items) (items u) (pairs_read c.list_leaf.new.leaves.items))
-      (λ p g. subst (λ xs. IsGathered c.args.range (pairs_read c.args.leaves.now.items) xs (pairs_read c.list_leaf.new.leaves.items) p) (sym l.alone) g) (c.list_leaf.ensures.gathered l.item l.at n r);
+      MatchResult-weaker c.list_leaf.result (c.list_leaf.ensures.gathered l.item l.at n r)
+      (λ p g. subst (λ xs. IsGathered c.args.range (pairs_read c.args.leaves.now.items) xs (pairs_read c.list_leaf.new.leaves.items) p) (sym l.alone) g)
+      (λ e h. subst (λ xs. HasPairToGive c.args.range xs) (sym l.alone) h);
 }
 
 pub returns-in-Before : goal.returns-in-Before
@@ -120,10 +121,10 @@ returns-in-Before t c = record {
       let l = node_of t (goal.at.returns-in-Before t c).In-Node u e i in
       let z = starts t (goal.at.returns-in-Before t c).After-start_in l.fixed l.body l.stands in
       let s = c.in-Before.ensures l.body l.stands.sound.trie z.0 z.1 (subst (λ w. IsFirstMismatch c.args.range.from.now w c.args.difference) l.is m) in
-      IfOk-weaker c.gather_from.result (IsGathered c.args.range (pairs_read c.args.leaves.now.items) (items_from c.in-Before.place l.body) (pairs_read c.gather_from.new.leaves.items))
-      (IsGathered c.args.range (pairs_read c.args.leaves.now.items) (items u) (pairs_read c.gather_from.new.leaves.items))
+      MatchResult-weaker c.gather_from.result (c.gather_from.ensures.gathered l.fixed l.body l.stands s.0 s.2 r)
       (λ p g. subst (λ w. IsGathered c.args.range (pairs_read c.args.leaves.now.items) (items w) (pairs_read c.gather_from.new.leaves.items) p) (sym l.is)
-      (gathered_from c.args.range l.body c.in-Before.place s.1 (pairs_read c.args.leaves.now.items) (pairs_read c.gather_from.new.leaves.items) p g)) (c.gather_from.ensures.gathered l.fixed l.body l.stands s.0 s.2 r);
+      (gathered_from c.args.range l.body c.in-Before.place s.1 (pairs_read c.args.leaves.now.items) (pairs_read c.gather_from.new.leaves.items) p g))
+      (λ e h. subst (λ w. HasPairToGive c.args.range (items w)) (sym l.is) (to_give_from c.args.range l.body c.in-Before.place h));
 }
 
 pub returns-in-On : goal.returns-in-On
@@ -142,11 +143,26 @@ returns-in-On t c = record {
       let f : IsGathered c.args.range (pairs_read c.args.leaves.now.items) (items (get_or (parts b) j no_tree)) (pairs_read c.gather.new.leaves.items) On =
       subst (IsGathered c.args.range (pairs_read c.args.leaves.now.items) (items (get_or (parts b) j no_tree)) (pairs_read c.gather.new.leaves.items)) c.in-On.is mid in
       let floor : IsNotAboveKeys k (items_from (j + 1) b) = subst (λ i. IsNotAboveKeys k (items_from (i + 1) b)) (sym z.1) s.1 in
-      IfOk-weaker c.gather_from-in-On.result (IsGathered c.args.range (pairs_read c.gather.new.leaves.items) (items_from (j + 1) b) (pairs_read c.gather_from-in-On.new.leaves.items))
-      (IsGathered c.args.range (pairs_read c.args.leaves.now.items) (items u) (pairs_read c.gather_from-in-On.new.leaves.items))
+      MatchResult-weaker c.gather_from-in-On.result (c.gather_from-in-On.ensures.gathered l.fixed b l.stands (let h = p.in_range in omega arith) floor f.room)
       (λ q g. subst (λ w. IsGathered c.args.range (pairs_read c.args.leaves.now.items) (items w) (pairs_read c.gather_from-in-On.new.leaves.items) q) (sym l.is)
       (gathered_on c.args.range b j low no_tree p.in_range (pairs_read c.args.leaves.now.items) (pairs_read c.gather.new.leaves.items) (pairs_read c.gather_from-in-On.new.leaves.items) q f g))
-      (c.gather_from-in-On.ensures.gathered l.fixed b l.stands (let h = p.in_range in omega arith) floor f.room);
+      (λ e h. subst (λ w. HasPairToGive c.args.range (items w)) (sym l.is) (to_give_next c.args.range b j no_tree p.in_range h));
+}
+
+pub returns-in_err-end-in-Within : goal.returns-in_err-end-in-Within
+returns-in_err-end-in-Within t c = record {
+  gathered = λ u e i m r.
+      let at = goal.at.returns-in_err-end-in-Within t c in
+      let l = node_of t at.In-Node u e i in
+      let k = c.args.range.from.now in
+      let b = l.body in
+      let j = c.search-at.result in
+      let z = starts t at.After-start_in l.fixed b l.stands in
+      let p = at_place t at.After-entry l.fixed b l.stands in
+      let n : IsFirstMismatch k b c.args.difference = subst (λ w. IsFirstMismatch k w c.args.difference) l.is m in
+      let h = c.in_err-end-in-Within.ensures.gathered (get_or (parts b) j no_tree) p.head p.stands (part_mismatch k b j no_tree c.args.difference z.1 n) r in
+      rw (err_from_is_err_and c.from_residual.result c.from_residual.ensures.1).1
+      (subst (λ w. HasPairToGive c.args.range (items w)) (sym l.is) (to_give_part c.args.range b j no_tree p.in_range h));
 }
 
 pub returns-in_default : goal.returns-in_default

@@ -3,6 +3,7 @@ use Rattle.std.proofs.Common.{Vec, Global, List, refl, ◌+◌, ℕ, ◌++◌, d
 use Rattle.std.specs.Borrow.{Bor}
 use Rattle.std.specs.Prelude.{slice_get}
 use Rattle.std.proofs.lemmas.Option.{slice_get_within}
+use Rattle.std.proofs.lemmas.Result.{err_from_is_err_and}
 use Rattle.pieces.specs.Piece.{Place}
 use Rattle.compound_node.specs.declared.entries.Entry.{Entry}
 use Rattle.compound_node.specs.declared.entries.Entry.TheVariants.{Leaf, Node}
@@ -12,9 +13,9 @@ use Rattle.tries.specs.Tree.{Page, Fixed, Tree, node, page}
 use Rattle.tries.proofs.Maps.{AreKeys}
 use Rattle.plain_trie.specs.declared.plain.LeafRecord.{LeafRecord}
 use Rattle.plain_trie.specs.declared.plain.scan.Progress.TheVariants.{On}
-use Rattle.plain_trie.specs.Gathered.{IsNotAboveKeys, IsGathered, IsGiven, ShowsSound, items_from, items_of_all, pairs_read, parts}
+use Rattle.plain_trie.specs.Gathered.{HasPairToGive, IsNotAboveKeys, IsGathered, IsGiven, ShowsSound, items_from, items_of_all, pairs_read, parts}
 use Rattle.plain_trie.specs.Store.{PlainView, item_record}
-use Rattle.plain_trie.proofs.Gathering.{gathered_as, gathered_end, gathered_none, gathered_then}
+use Rattle.plain_trie.proofs.Gathering.{gathered_as, gathered_end, gathered_none, gathered_then, to_give_before, to_give_behind}
 use Rattle.plain_trie.proofs.Parts.{from_keys, from_rises, leaves_all, leaves_around, leaves_more, leaves_none, part_floor}
 use Rattle.plain_trie.proofs.Standing.{no_tree, height_some, node_count, node_height, IsPartAt, part_at, leaf_at, node_at}
 use Rattle.plain_trie.proofs.plain.PlainTrie.+gather_from.Goals as goal
@@ -56,6 +57,16 @@ gathered t c x b i s f r =
           (w.in_ok-progress-in-Node.ensures.gathered l.fixed l.body l.stands (omega arith) (subst (IsNotAboveKeys c.args.range.from.now) l.all floor) g.room)
     ])
 
+-- a pair to give at the place is one from the start on
+to_give : (t : ℕ) (c : After-entry t) (x : Fixed) (b : Tree) → ShowsSound c.args.self.now (node c.args.number x b) →
+    HasPairToGive c.args.range (items (get_or (parts b) c.loop-place.place no_tree)) → HasPairToGive c.args.range (items_from c.args.start b)
+to_give t c x b i h =
+    let part : List Item = items (get_or (parts b) c.loop-place.place no_tree) in
+    let before : List Item = items_of_all (drop c.args.start (take c.loop-place.place (parts b))) in
+    let after : List Item = items_from (c.loop-place.place + 1) b in
+    let e : items_from c.args.start b ≡ (before ++ part) ++ after = leaves_around b c.args.start c.loop-place.place no_tree c.loop-place.auto.place (at_place t c x b i).in_range in
+    subst (λ xs. HasPairToGive c.args.range xs) (sym e) (to_give_before c.args.range (before ++ part) after (to_give_behind c.args.range before part h))
+
 pub list_leaf-requires : goal.list_leaf-requires
 list_leaf-requires t c =
     let s = c.requires.shown in
@@ -72,6 +83,30 @@ gather_from-requires t c =
     let own = node_height c.args.self.now c.args.number s.0 s.1 s.2 c.index-node.result.now (rw (← c.self.view_is) c.index-node.ensures) in
     let low : c.in-Node.height < c.index-node.result.now.height = c.in-Node.ensures.stands.1 in
     (omega (arith, l.height, own, d), (l.fixed, l.body, l.stands))
+
+pub returns-in_err-progress-in-Leaf : goal.returns-in_err-progress-in-Leaf
+returns-in_err-progress-in-Leaf t c = record {
+  gathered = λ x b i s f r.
+      let d = (goal.at.returns-in_err-progress-in-Leaf t c).After-entry in
+      let p = at_place t d x b i in
+      let part : Tree = get_or (parts b) c.loop-place.place no_tree in
+      let floor : IsNotAboveKeys c.args.range.from.now (items part) = part_floor c.args.range.from.now b c.args.start c.loop-place.place no_tree c.loop-place.auto.place p.in_range f in
+      let l = leaf_at c.args.self.now c.in-Leaf.number part (head_entry c.args.self.now b c.loop-place.place c.entry.result (Leaf c.in-Leaf.number) p c.in-Leaf.is) p.stands in
+      let h = c.in_err-progress-in-Leaf.ensures.gathered l.item l.at (subst (IsNotAboveKeys c.args.range.from.now) l.alone floor).0 (c.loop-place.invariant x b i s f r).room in
+      rw (err_from_is_err_and c.from_residual.result c.from_residual.ensures.1).1 (to_give t d x b i (subst (λ xs. HasPairToGive c.args.range xs) (sym l.alone) h));
+}
+
+pub returns-in_err-progress-in-Node : goal.returns-in_err-progress-in-Node
+returns-in_err-progress-in-Node t c = record {
+  gathered = λ x b i s f r.
+      let d = (goal.at.returns-in_err-progress-in-Node t c).After-entry in
+      let p = at_place t d x b i in
+      let part : Tree = get_or (parts b) c.loop-place.place no_tree in
+      let floor : IsNotAboveKeys c.args.range.from.now (items part) = part_floor c.args.range.from.now b c.args.start c.loop-place.place no_tree c.loop-place.auto.place p.in_range f in
+      let l = node_at c.args.self.now c.in-Node.number c.in-Node.height part (head_entry c.args.self.now b c.loop-place.place c.entry.result (Node c.in-Node.number c.in-Node.height) p c.in-Node.is) p.stands in
+      let h = c.in_err-progress-in-Node.ensures.gathered l.fixed l.body l.stands (omega arith) (subst (IsNotAboveKeys c.args.range.from.now) l.all floor) (c.loop-place.invariant x b i s f r).room in
+      rw (err_from_is_err_and c.from_residual-in_err-progress-in-Node.result c.from_residual-in_err-progress-in-Node.ensures.1).1 (to_give t d x b i (subst (λ xs. HasPairToGive c.args.range xs) (sym l.all) h));
+}
 
 pub returns-in_default : goal.returns-in_default
 returns-in_default t c = record {

@@ -3,13 +3,14 @@ use Rattle.std.proofs.Common.{◌≡◌, ◌∙◌, ap, sym, arith, List, length
 use Rattle.std.specs.Prelude.{slice_get}
 use Rattle.std.specs.Borrow.{Bor}
 use Rattle.std.proofs.lemmas.List.{length-map, map_push}
+use Rattle.std.proofs.lemmas.Result.{err_from_is_err_and}
 use Rattle.std.specs.Ordering.{is_gt}
 use Rattle.finite_map.specs.Maps.{key_order}
 use Rattle.tries.specs.Content.{Item}
 use Rattle.plain_trie.specs.declared.plain.LeafRecord.{LeafRecord}
 use Rattle.plain_trie.specs.Gathered.{pairs_read}
 use Rattle.plain_trie.specs.Store.{item_record}
-use Rattle.plain_trie.proofs.Gathering.{gathered_past, gathered_full, gathered_one}
+use Rattle.plain_trie.proofs.Gathering.{gathered_past, gathered_full, gathered_one, to_give_one}
 use Rattle.plain_trie.proofs.Searching.{read_at}
 use Rattle.plain_trie.proofs.plain.PlainTrie.list_leaf.Goals as goal
 use Rattle.plain_trie.proofs.plain.PlainTrie.list_leaf.Goals.{After-gt}
@@ -38,6 +39,15 @@ returns-then-len-range c = record {
       let d = (goal.at.returns-then-len-range c).After-gt in
       gathered_full c.args.range (pairs_read c.args.leaves.now.items) x n
       (let a = c.len.ensures in let b = c.if-len-range.true in let m = length_read c.args.leaves.now.items in omega (arith, c.args.leaves.now.ok.0)) (above d x e ∙ c.if-gt.false);
+}
+
+pub returns-in_err-push : goal.returns-in_err-push
+returns-in_err-push c = record {
+  gathered = λ x e n room.
+      let d = (goal.at.returns-in_err-push c).After-gt in
+      rw (err_from_is_err_and c.from_residual.result c.from_residual.ensures.1).1
+      (to_give_one c.args.range (pairs_read c.args.leaves.now.items) x n
+      (let a = c.len.ensures in let b = c.if-len-range.false in let m = length_read c.args.leaves.now.items in omega (arith, c.args.leaves.now.ok.0)) (above d x e ∙ c.if-gt.false));
 }
 
 pub returns : goal.returns

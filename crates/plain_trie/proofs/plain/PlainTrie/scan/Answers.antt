@@ -1,12 +1,15 @@
 -- What was gathered of the whole trie is the scan.
-use Rattle.std.proofs.Common.{◌≡◌, ◌↔◌, ◌∙◌, ◌≤◌, ℕ, [], refl, length, ap, sym, subst, arith, Option, Some, None}
+use Rattle.std.proofs.Common.{◌≡◌, ◌≢◌, ◌↔◌, ◌∙◌, ◌≤◌, ℕ, List, [], ◌∷◌, refl, length, take, ap, sym, subst, arith, Option, Some, None}
 use Rattle.std.specs.Prelude.{slice_get, IsNone, IfSome, IsTrue, MatchOption}
 use Rattle.std.proofs.lemmas.Bool.{false≢true}
 use Rattle.std.proofs.lemmas.Option.{slice_get_within}
+use Rattle.std.proofs.lemmas.Result.{err_from_is_err_and}
+use Rattle.std.specs.Borrow.{Bor}
 use Rattle.key_bits.specs.Bits.{IsFirstDifference}
+use Rattle.key_bits.specs.Key.{IsKey}
 use Rattle.finite_map.specs.declared.Scan.{Scan}
 use Rattle.finite_map.specs.Maps.{Map}
-use Rattle.finite_map.specs.Scans.{IsScanOf}
+use Rattle.finite_map.specs.Scans.{IsScanOf, range_of}
 use Rattle.tries.specs.Content.{items}
 use Rattle.tries.specs.Keys.{Key}
 use Rattle.tries.specs.Tree.{Tree}
@@ -15,7 +18,7 @@ use Rattle.plain_trie.specs.declared.plain.scan.Range.{Range}
 use Rattle.plain_trie.specs.declared.plain.scan.Progress.TheVariants.{Full}
 use Rattle.plain_trie.specs.Gathered.{IsGathered, IsFirstMismatch, ShowsSound, pairs_read}
 use Rattle.plain_trie.specs.Store.{PlainView, item_record}
-use Rattle.plain_trie.proofs.Gathering.{gathered_scan}
+use Rattle.plain_trie.proofs.Gathering.{gathered_pairs, gathered_scan, to_give_some}
 use Rattle.plain_trie.proofs.Reading.{IsTree, plain_tree}
 use Rattle.plain_trie.proofs.Searching.{read_at}
 use Rattle.plain_trie.proofs.Values.{map_is}
@@ -47,6 +50,44 @@ where_parted : (k l : Key) (o : Option ℕ) → (IsNone o ↔ (k ≡ l)) → IfS
 where_parted k l None n s = n.0 refl
 where_parted k l (Some p) n s = s
 
+parted : (k : Key) (t : Tree) (l : LeafRecord) (o : Option ℕ) → IsKey k → l ≡ item_record (found k t) → (IsNone o ↔ (k ≡ l.key)) → IfSome o (IsFirstDifference k l.key) → IsFirstMismatch k t o
+parted k t l o is same n s = (is, subst (λ (l : LeafRecord). MatchOption o (k ≡ l.key) (IsFirstDifference k l.key)) same (where_parted k l.key o n s))
+
+-- leaves have pairs
+some_read : (ls : List (Bor LeafRecord)) → ls ≢ [] → pairs_read ls ≢ []
+some_read [] some none = some refl
+some_read (l ∷ ls) some none = let z : pairs_read (l ∷ ls) ≡ [] = none in cc
+
+-- memory was refused for the list of the leaves, or for their pairs
+pub returns-in_err-progress-clause-memory : goal.returns-in_err-progress-clause-memory
+returns-in_err-progress-clause-memory c =
+    let d = (goal.at.returns-in_err-progress-clause-memory c).After-find in
+    let k = c.args.from.now in
+    let t = (tree d).0 in
+    let r : Range = record { from = c.args.from; upto = c.args.upto; limit = c.args.limit } in
+    let same : c.index.result.now ≡ item_record (found k t) = read_at c.args.self.now.leaves c.find.result (item_record (found k t)) c.index.result.now (leaf_at d) (rw (← c.self.view_is) c.index.ensures) in
+    let e = c.mismatch-difference.ensures in
+    let none : pairs_read c.new-leaves.result.items ≡ [] = ap pairs_read c.new-leaves.ensures.items in
+    let h = c.in_err-progress.ensures.gathered t (tree d).1.head (stands d) (parted k t c.index.result.now c.mismatch-difference.result e.keys.0 same e.none e.first) (subst (λ (old : Map). length old ≤ c.args.limit) (sym none) (omega arith)) in
+    rw (err_from_is_err_and c.from_residual.result c.from_residual.ensures.1).1
+    (subst (λ (n : Map). take c.args.limit (range_of n k c.args.upto.now) ≢ []) (sym (map_is c.args.self.now t (tree d).1.is)) (to_give_some r (items t) h))
+
+pub returns-in_err-pairs-clause-memory : goal.returns-in_err-pairs-clause-memory
+returns-in_err-pairs-clause-memory c =
+    let d = (goal.at.returns-in_err-pairs-clause-memory c).After-find in
+    let k = c.args.from.now in
+    let t = (tree d).0 in
+    let r : Range = record { from = c.args.from; upto = c.args.upto; limit = c.args.limit } in
+    let same : c.index.result.now ≡ item_record (found k t) = read_at c.args.self.now.leaves c.find.result (item_record (found k t)) c.index.result.now (leaf_at d) (rw (← c.self.view_is) c.index.ensures) in
+    let e = c.mismatch-difference.ensures in
+    let none : pairs_read c.new-leaves.result.items ≡ [] = ap pairs_read c.new-leaves.ensures.items in
+    let g : IsGathered r [] (items t) (pairs_read c.gather.new.leaves.items) c.in_ok-progress.progress =
+    subst (λ (old : Map). IsGathered r old (items t) (pairs_read c.gather.new.leaves.items) c.in_ok-progress.progress) none
+    (c.in_ok-progress.ensures.gathered t (tree d).1.head (stands d) (parted k t c.index.result.now c.mismatch-difference.result e.keys.0 same e.none e.first) (subst (λ (old : Map). length old ≤ c.args.limit) (sym none) (omega arith))) in
+    let some : pairs_read c.gather.new.leaves.items ≢ [] = some_read c.gather.new.leaves.items (subst (λ (ls : List (Bor LeafRecord)). ls ≢ []) c.deref.ensures.value c.in_err-pairs.ensures.memory) in
+    rw (err_from_is_err_and c.from_residual-in_err-pairs.result c.from_residual-in_err-pairs.ensures.1).1
+    (subst (λ (n : Map). take c.args.limit (range_of n k c.args.upto.now) ≢ []) (sym (map_is c.args.self.now t (tree d).1.is)) (subst (λ (n : Map). n ≢ []) (gathered_pairs r (items t) (pairs_read c.gather.new.leaves.items) c.in_ok-progress.progress g) some))
+
 pub returns : goal.returns
 returns c =
     let d = (goal.at.returns c).After-find in
@@ -55,13 +96,10 @@ returns c =
     let x = found k t in
     let r : Range = record { from = c.args.from; upto = c.args.upto; limit = c.args.limit } in
     let same : c.index.result.now ≡ item_record x = read_at c.args.self.now.leaves c.find.result (item_record x) c.index.result.now (leaf_at d) (rw (← c.self.view_is) c.index.ensures) in
-    let m : IsFirstMismatch k t c.mismatch-difference.result = (
-      c.mismatch-difference.ensures.keys.0,
-      subst (λ (l : LeafRecord). MatchOption c.mismatch-difference.result (k ≡ l.key) (IsFirstDifference k l.key)) same
-          (where_parted k c.index.result.now.key c.mismatch-difference.result c.mismatch-difference.ensures.none c.mismatch-difference.ensures.first),
-    ) in
+    let e = c.mismatch-difference.ensures in
+    let m : IsFirstMismatch k t c.mismatch-difference.result = parted k t c.index.result.now c.mismatch-difference.result e.keys.0 same e.none e.first in
     let none : pairs_read c.new-leaves.result.items ≡ [] = ap pairs_read c.new-leaves.ensures.items in
-    let given : c.in_ok-pairs.pairs.items ≡ pairs_read c.gather.new.leaves.items = c.in_ok-pairs.ensures ∙ ap pairs_read c.deref.ensures.value in
+    let given : c.in_ok-pairs.pairs.items ≡ pairs_read c.gather.new.leaves.items = c.in_ok-pairs.ensures.pairs ∙ ap pairs_read c.deref.ensures.value in
     let g : IsGathered r [] (items t) c.in_ok-pairs.pairs.items c.in_ok-progress.progress =
     rw given (subst (λ (old : Map). IsGathered r old (items t) (pairs_read c.gather.new.leaves.items) c.in_ok-progress.progress) none
     (c.in_ok-progress.ensures.gathered t (tree d).1.head (stands d) m (subst (λ (old : Map). length old ≤ c.args.limit) (sym none) (omega arith)))) in
@@ -71,4 +109,4 @@ returns c =
       | in_default-matches w ↦ ((λ h. absurd (false≢true (sym w.matches-is ∙ h))), (λ h. absurd (w.in_default-matches.not-Full h)))
     ] in
     let scan : Scan = record { pairs = c.in_ok-pairs.pairs; more = c.match-matches.matches } in
-    record { scan = subst (λ (n : Map). IsScanOf n k c.args.upto.now c.args.limit scan) (sym (map_is c.args.self.now t (tree d).1.is)) (gathered_scan r (items t) scan c.in_ok-progress.progress more g) }
+    record { memory = tt; scan = subst (λ (n : Map). IsScanOf n k c.args.upto.now c.args.limit scan) (sym (map_is c.args.self.now t (tree d).1.is)) (gathered_scan r (items t) scan c.in_ok-progress.progress more g) }
