@@ -1,5 +1,4 @@
-/* What of the library for C is written in C, and tested: the texts of statuses, where a scan goes on, scans of a prefix, and the calls
- * that wait. */
+/* What of the library for C is written in C, and tested: the texts of statuses, scans of a prefix, and the calls that wait. */
 #include "hot.h"
 #include <sched.h>
 #include <string.h>
@@ -26,41 +25,6 @@ const char *hot_status_text(hot_status status) {
     case HOT_DIFFERS: return "the key has another value";
     default: return "not a status";
     }
-}
-
-hot_status hot_after(const hot_pair *pair, uint8_t *key, size_t *length) {
-    size_t kept = pair->length;
-    if (kept < HOT_MAX_KEY) {
-        memcpy(key, pair->key, kept);
-        key[kept] = 0;
-        *length = kept + 1;
-        return HOT_DONE;
-    }
-    /* Nothing can follow this key's bytes, so the next key is greater in one of them. */
-    while (kept > 0 && pair->key[kept - 1] == 0xff)
-        kept--;
-    if (kept == 0)
-        return HOT_ABSENT;
-    memcpy(key, pair->key, kept);
-    key[kept - 1]++;
-    *length = kept;
-    return HOT_DONE;
-}
-
-hot_status hot_before(const hot_pair *pair, uint8_t *key, size_t *length) {
-    size_t last = pair->length;
-    if (last == 0)
-        return HOT_ABSENT;
-    last--;
-    memcpy(key, pair->key, last);
-    *length = last;
-    /* Behind a byte of 0 there is nothing between; a lesser byte is followed by the greatest that has room. */
-    if (pair->key[last] > 0) {
-        key[last] = (uint8_t)(pair->key[last] - 1);
-        memset(key + last + 1, 0xff, HOT_MAX_KEY - last - 1);
-        *length = HOT_MAX_KEY;
-    }
-    return HOT_DONE;
 }
 
 static int is_below(const uint8_t *one, size_t one_length, const uint8_t *other, size_t other_length) {

@@ -3,6 +3,7 @@ pub mod Owning
 pub mod Lending
 pub mod Statuses
 pub mod Pairs
+pub mod Around
 pub mod Lasts
 pub mod Calls
 pub mod Ends

@@ -1,6 +1,7 @@
 //! The index for programs in C: a static library, whose header is `c/hot.h`.
 #![tactic(auto)]
 
+mod around;
 mod ends;
 mod exports;
 mod handle;
