@@ -60,8 +60,8 @@ pub record HasGotRange {G : Type 0} (index : TableView) (becomes : G → Event �
   pub most : entries_in read.loads ≤ scan_entries limit
   pub few : b.0.steps ≤ a.0.steps + 100 + 26 * entries_in read.loads + 7 * limit
 
--- An attempt, but for its last step, which clears the pin: it pins the pass, leaves the pin, and tries each lock once at most. So many
--- steps they are at most, by the entries that its search loads, the locks that it tries, and the records of the table.
+-- An attempt, but for its last step, which clears the pin: it pins the pass, leaves the pin, and tries each lock once at most. Its
+-- steps are bounded by the entries that its search loads, the locks that it tries, and the records of the table.
 pub record IsAttempt (layout : Layout) (acts : List Act) : Type 0 where
   pub epoch : ℕ
   pub rest : List Act

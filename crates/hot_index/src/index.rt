@@ -139,13 +139,15 @@ impl Index {
 
     /// Inserts a key with a value: `Inserted`; or `Exists` with the value that the key has already, and keeps.
     ///
-    /// It never blocks. It makes at most two attempts, with a round of collection between them, and each attempt makes at most 127
-    /// atomic steps, 26 for each entry of a node that its search loads, 297 for each lock that it tries, 2 for each node record and
-    /// 4 for each leaf record. So on the longest way the call makes at most 1,396,470 steps, and 2 for each pass, 6 for each node
-    /// record and 10 for each leaf record. It answers `Busy` if another pass has locked or retired what it wants to lock, or has made a change since the
-    /// call's last pin, so never if the index has one pass; and `FullNodes` or `FullLeaves` if it found each node record, or each
-    /// leaf record with room for the key, taken, again after a round of collection. A call that is refused has changed nothing, and
-    /// holds no lock and no record.
+    /// It never blocks. It makes at most two attempts, with a round of collection between them. An attempt that tries no lock makes
+    /// at most 61 atomic steps, and 26 for each entry of a node that its search loads; any other makes at most 127, 26 for each such
+    /// entry, 297 for each lock that it tries, 2 for each node record and 4 for each leaf record. So on the longest way the call
+    /// makes at most 1,396,470 steps, and 2 for each pass, 6 for each node record and 10 for each leaf record.
+    ///
+    /// It answers `Busy` only if another pass has locked or retired what it wants to lock, or has made a change since the call's last
+    /// pin, so never if the index has one pass; and `FullNodes` or `FullLeaves` if it found each node record, or each leaf record
+    /// with room for the key, taken, again after a round of collection. A call that is refused has changed nothing, and holds no
+    /// lock and no record.
     pub fn try_insert(&self, pass: &mut Pass, key: &Key, value: u64) -> Result<Reply, TryFault>
         requires { Owns self.now pass.old }
         ensures own { Owns self.now pass.new }

@@ -1,7 +1,8 @@
 -- The steps of an attempt: a search, and what comes after it.
-use Rattle.std.proofs.Common.{◌≡◌, ℕ, ◌+◌, ◌*◌, ◌≤◌, List, [], ◌∷◌, ◌++◌, length, refl, sym, ap, subst, ◌∙◌, arith}
+use Rattle.std.proofs.Common.{◌≡◌, ℕ, zero, suc, ◌+◌, ◌*◌, ◌<◌, ◌≤◌, List, [], ◌∷◌, ◌++◌, length, refl, sym, ap, subst, ◌∙◌, arith}
 use Rattle.std.specs.Prelude.{All}
 use Rattle.std.proofs.lemmas.List.Elements.{All-append, All-cons, All-head, All-tail, All-weaker}
+use Rattle.record_words.specs.declared.layout.Layout.{Layout}
 use Rattle.rowex_core.specs.declared.event.Act.{Act}
 use Rattle.rowex_core.specs.declared.event.Act.TheVariants.{LoadFixed, LoadRef, Lock}
 use Rattle.rowex_core.specs.declared.event.Event.{Event}
@@ -15,7 +16,7 @@ use Rattle.rowex_reading.specs.Reads.{IsBelowRoot, entries_in}
 use Rattle.rowex_reading.proofs.Counting.{looks_count, runs_count}
 use Rattle.rowex_writing.specs.Attempts.{AreAttemptSteps, HasAttempted, IsOfSearch}
 use Rattle.rowex_writing.specs.Changes.{HasTriedOnce}
-use Rattle.rowex_writing.specs.Counts.{change_steps, most_locks, most_steps, span_steps}
+use Rattle.rowex_writing.specs.Counts.{attempt_steps, change_steps, most_locks, most_steps, rest_steps, span_steps}
 use Rattle.rowex_writing.specs.Locks.{targets_of}
 use Rattle.rowex_writing.proofs.Tried.{once_after, targets_append}
 
@@ -34,8 +35,18 @@ search_targets [] all = refl
 search_targets (Lock target found ∷ acts) all = absurd (All-head IsOfSearch (Lock target found) acts all)
 search_targets (act ∷ acts) all = search_targets acts (All-tail IsOfSearch act acts all)
 
+-- ---- what follows the search
+pub rest_few : (k j : ℕ) (layout : Layout) (locks : ℕ) → 0 < locks → j ≤ k + span_steps locks + change_steps layout locks → j ≤ k + rest_steps layout locks
+rest_few k j layout zero some few = absurd (omega (arith, some))
+rest_few k j layout (suc others) some few = omega (arith, few)
+
+rest_most : (layout : Layout) (locks : ℕ) → locks ≤ most_locks → rest_steps layout locks ≤ rest_steps layout most_locks
+rest_most layout zero most = omega arith
+rest_most layout (suc others) most = omega (arith, most)
+
+-- ---- an attempt
 module _ {G : Type 0} (table : TableView) (becomes : G → Event → G → Type 0) (a m b : SeatView × G) (searched : HasSearched table becomes a m) {locks : ℕ}
-    (tried : HasTriedOnce table becomes locks m b) (most : locks ≤ most_locks) (few : b.0.known.steps ≤ m.0.known.steps + span_steps locks + change_steps table.layout locks) where
+    (tried : HasTriedOnce table becomes locks m b) (most : locks ≤ most_locks) (few : b.0.known.steps ≤ m.0.known.steps + rest_steps table.layout locks) where
   abbrev search : List Act
   search = LoadRef Root searched.looks.root.0 ∷ searched.looks.rest.acts
 
@@ -58,7 +69,7 @@ module _ {G : Type 0} (table : TableView) (becomes : G → Event → G → Type 
   targets_are : length (targets_of (search ++ rest)) ≡ locks
   targets_are = ap length (targets_append search rest ∙ (ap (λ z. z ++ targets_of rest) none ∙ tried.1.tried_are)) ∙ tried.3
 
-  count : length (search ++ rest) + a.0.known.steps ≤ 33 + 26 * searched.nodes + span_steps locks + change_steps table.layout locks + a.0.known.steps
+  count : length (search ++ rest) + a.0.known.steps ≤ 33 + 26 * searched.nodes + rest_steps table.layout locks + a.0.known.steps
   count =
       let all = runs_count table becomes (search ++ rest) a b runs in
       let looked = looks_count table becomes searched.nodes searched.loaded a m searched.looks in
@@ -74,7 +85,7 @@ module _ {G : Type 0} (table : TableView) (becomes : G → Event → G → Type 
     once = once_after search rest none tried.2;
     depth = omega (arith, nodes_are, searched.low);
     locks = omega (arith, targets_are, most);
-    few = omega (arith, nodes_are, targets_are, count);
+    few = subst (λ n. length (search ++ rest) ≤ attempt_steps table.layout (entries_in search) n) (sym targets_are) (omega (arith, nodes_are, count));
   }
 
   pub attempted : HasAttempted table becomes a b
@@ -84,4 +95,4 @@ module _ {G : Type 0} (table : TableView) (becomes : G → Event → G → Type 
   pub attempted_few : b.0.known.steps ≤ a.0.known.steps + most_steps table.layout
   attempted_few =
       let looked = looks_count table becomes searched.nodes searched.loaded a m searched.looks in
-      omega (arith, looked, searched.few, searched.low, few, most)
+      omega (arith, looked, searched.few, searched.low, few, rest_most table.layout locks most)

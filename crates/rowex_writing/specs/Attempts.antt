@@ -47,8 +47,8 @@ abbrev pub IsOfSearch : Act → Type 0
 IsOfSearch (LoadRef Root word) = Unit {0}
 IsOfSearch act = IsBelowRoot act
 
--- The steps of an attempt, but for its pin: those of its search, which loads one entry in each node on its way, and the rest. Each lock
--- is tried once at most. They are so many at most for so many nodes and locks.
+-- The steps of an attempt, but for its pin: those of its search, which loads one entry in each node on its way, and the rest. Each
+-- lock is tried once at most. They are so many at most for so many nodes and locks.
 pub record AreAttemptSteps (layout : Layout) (acts : List Act) : Type 0 where
   pub search : List Act
   pub rest : List Act

@@ -1,5 +1,6 @@
--- How many atomic steps the parts of an attempt make at most: by the nodes on its way, the locks that it tries, and the records of the table.
-use Rattle.std.specs.Prelude.{ℕ, suc, ◌+◌, ◌*◌}
+-- How many atomic steps the parts of an attempt make at most: by the nodes on its way, the locks that it tries, and the records of the
+-- table.
+use Rattle.std.specs.Prelude.{ℕ, zero, suc, ◌+◌, ◌*◌}
 use Rattle.key_bits.specs.declared.TheConstants.{MAX_BYTES}
 use Rattle.record_words.specs.declared.TheConstants.{HEAD_WORDS, LEAF_FIELDS, NODE_FIELDS}
 use Rattle.record_words.specs.declared.layout.Layout.{Layout}
@@ -37,8 +38,8 @@ level_steps = NODE_FIELDS + 2 * node_steps
 abbrev pub levels_steps : Layout → ℕ → ℕ
 levels_steps layout locks = locks * level_steps + 2 * layout.nodes
 
--- the undoing of a change, where no record was free, which is more than its end: each new record, two for a lock, is looked at and given
--- up, and each lock is given back
+-- the undoing of a change, where no record was free, which is more than its end: each new record, two for a lock, is looked at and
+-- given up, and each lock is given back
 abbrev pub undo_steps : ℕ → ℕ
 undo_steps locks = 5 * locks + 1
 
@@ -46,9 +47,14 @@ undo_steps locks = 5 * locks + 1
 abbrev pub change_steps : Layout → ℕ → ℕ
 change_steps layout locks = leaf_steps layout + levels_steps layout locks + undo_steps locks
 
--- an attempt, but for its pin, with so many nodes on its way, which tries so many locks: its search, what is to change, and the change
+-- what follows the search: where no lock is tried, at most a head for the plan
+abbrev pub rest_steps : Layout → ℕ → ℕ
+rest_steps layout zero = HEAD_WORDS
+rest_steps layout (suc others) = span_steps (suc others) + change_steps layout (suc others)
+
+-- an attempt, but for its pin, with so many nodes on its way, which tries so many locks
 abbrev pub attempt_steps : Layout → (nodes locks : ℕ) → ℕ
-attempt_steps layout nodes locks = search_steps nodes + span_steps locks + change_steps layout locks
+attempt_steps layout nodes locks = search_steps nodes + rest_steps layout locks
 
 -- any attempt
 abbrev pub most_steps : Layout → ℕ

@@ -13,7 +13,7 @@ ghost use Rattle.rowex_writing.specs.Attempts.{HasAnswered, HasAttempted, HasDon
 ghost use Rattle.rowex_writing.specs.Changes.{HasNoRoom, HasRun, HasTakenPlan, HasTakenSpan, HasTriedOnce};
 ghost use Rattle.rowex_writing.specs.Locks.{HasMadeNoChange, HasMetLock, locks_of};
 ghost use Rattle.rowex_reading.specs.Ways.{IsWayOf, value_of};
-ghost use Rattle.rowex_writing.specs.Counts.{change_steps, most_locks, most_steps, span_steps};
+ghost use Rattle.rowex_writing.specs.Counts.{change_steps, most_locks, most_steps, rest_steps};
 
 use crate::asking::{aim_of, declined};
 use crate::building::Build;
@@ -50,8 +50,9 @@ pub enum TryFault {
 }
 
 /// Makes one attempt: searches for the key and answers, where nothing is to change; or else locks what it wants to change, each
-/// once, checks that it still stands as the search found it, and makes the change by one store. It makes at most 124 atomic steps,
-/// 26 for each node on the key's way, 297 for each lock that it tries, four for each leaf record and two for each node record.
+/// once, checks that it still stands as the search found it, and makes the change by one store. Where it tries no lock, it makes at
+/// most 58 atomic steps, and 26 for each node on the key's way; else at most 124, 26 for each such node, 297 for each lock that it
+/// tries, four for each leaf record and two for each node record.
 pub fn attempt<G: Gate>(
     table: &HotTable,
     seat: &mut TableSeat,
@@ -111,8 +112,8 @@ fn act_on<G: Gate>(
     requires met { the_answer ask found ≡ None }
     requires rest { IsAtRest seat.old.known }
     requires quiet { HasMadeNoChange seat.old.known }
-    ensures run { (locks : ℕ) × HasTriedOnce table.now G.becomes locks (seat.old, gate.old) (seat.new, gate.new) × (locks ≤ most_locks) ×
-        (seat.new.known.steps ≤ seat.old.known.steps + span_steps locks + change_steps table.now.layout locks) }
+    ensures run { (locks : ℕ) × HasTriedOnce table.now G.becomes locks (seat.old, gate.old) (seat.new, gate.new) ×
+        (locks ≤ most_locks) × (seat.new.known.steps ≤ seat.old.known.steps + rest_steps table.now.layout locks) }
     ensures rest { IsAtRest seat.new.known }
     ensures answered { IfOk result (λ reply. (k : Known) → IsLater k seat.old.known → HasAnswered k seat.new.known ask key.now value reply) }
     ensures refused { IfErr result (λ fault. (k : Known) → HasLoadedRoot k seat.old.known → IsLater k seat.old.known →
@@ -151,8 +152,9 @@ fn take_span<G: Gate>(
     requires way { (m : ℕ) × IsWayOf table.now.layout seat.old.known m key.now way.now found }
     requires rest { IsAtRest seat.old.known }
     requires quiet { HasMadeNoChange seat.old.known }
-    ensures run { (locks : ℕ) × HasTriedOnce table.now G.becomes locks (seat.old, gate.old) (seat.new, gate.new) × (locks ≤ locks_of span) ×
-        (result ≡ true → locks ≡ locks_of span) × (seat.new.known.steps ≤ seat.old.known.steps + 3 * locks + 1) }
+    ensures run { (locks : ℕ) × HasTriedOnce table.now G.becomes locks (seat.old, gate.old) (seat.new, gate.new) ×
+        (0 < locks) × (locks ≤ locks_of span) × (result ≡ true → locks ≡ locks_of span) ×
+        (seat.new.known.steps ≤ seat.old.known.steps + 3 * locks + 1) }
     ensures later { IsLater seat.old.known seat.new.known }
     ensures taken { result ≡ true → (m : ℕ) → IsWayOf table.now.layout seat.old.known m key.now way.now found →
         HasTakenSpan table.now seat.new m key.now way.now found span }

@@ -74,7 +74,8 @@ fn grow_with<G: Gate>(
     ensures stored { result ≡ Ok tt → (value : ℕ) → MayGrow table.now seat.old build.old.made.items way.now key.now value span position first last leaf →
         HasChanged seat.old.known seat.new.known (added_change seat.old.known.pass (item leaf key.now value)) None }
     ensures full { IfErr result (λ full. HasNoRoom table.now.layout key.now seat.old.known seat.new.known full) }
-    ensures few { seat.new.known.steps ≤ seat.old.known.steps + levels_steps table.now.layout (locks_of span) + undo_steps (locks_of span) }
+    ensures few { seat.new.known.steps ≤
+        seat.old.known.steps + levels_steps table.now.layout (locks_of span) + undo_steps (locks_of span) }
 {
     build.left_nodes = table.layout().nodes;
     let top = span.len - 1;

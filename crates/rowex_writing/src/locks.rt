@@ -29,8 +29,9 @@ pub fn lock_span<G: Gate>(
     requires apart { AreApart (numbers_of way.now) }
     requires none { seat.old.known.own ≡ [] }
     requires quiet { HasMadeNoChange seat.old.known }
-    ensures tries { (locks : ℕ) × TriesOnce table.now G.becomes locks (seat.old, gate.old) (seat.new, gate.new) × (locks ≤ locks_of span) ×
-        (result ≡ true → locks ≡ locks_of span) × (seat.new.known.steps < seat.old.known.steps + 2 * locks) }
+    ensures tries { (locks : ℕ) × TriesOnce table.now G.becomes locks (seat.old, gate.old) (seat.new, gate.new) ×
+        (locks ≤ locks_of span) × (result ≡ true → locks ≡ locks_of span) ×
+        (seat.new.known.steps < seat.old.known.steps + 2 * locks) }
     ensures same { seat.new.known.own ≡ seat.old.known.own }
     ensures locked { result ≡ true → HasLockedSpan seat.new.known way.now span }
     ensures refused { result ≡ false → HasNoLock seat.new.known × HasMetLock table.now.layout seat.old.known seat.new.known }

@@ -111,7 +111,8 @@ pub fn publish_change<G: Gate>(
     ensures run { HasRun table.now G.becomes (seat.old, gate.old) (seat.new, gate.new) }
     ensures changed { (x : Change) (was : Option ℕ) → MayEnd table.now seat.old build.old.made.items spot (entry_word entry) x was build.old.gone.items →
         HasChanged seat.old.known seat.new.known x was }
-    ensures few { seat.new.known.steps ≤ seat.old.known.steps + length build.old.made.items + length build.old.gone.items + length kept.now + 3 }
+    ensures few { seat.new.known.steps ≤
+        seat.old.known.steps + length build.old.made.items + length build.old.gone.items + length kept.now + 3 }
 {
     ready_all(table, seat, gate, build.made.as_slice());
     table.publish(seat, gate, spot, stored_word(entry));

@@ -6,6 +6,7 @@ use Rattle.rowex_writing.specs.Changes.{HasNoRoom, IsPlanned}
 use Rattle.rowex_reading.proofs.Led.{reads_later, reads_same, same_since}
 use Rattle.rowex_reading.proofs.Seeing.{later_trans}
 use Rattle.rowex_reading.specs.Seen.{since}
+use Rattle.rowex_writing.proofs.Attempted.{rest_few}
 use Rattle.rowex_writing.proofs.Attempting.{answered_change, answered_look, found_later, loaded_reads, looked, planned_as, planned_later, refused_busy, refused_leaves, refused_nodes, removal_takes, rest_reads}
 use Rattle.rowex_writing.proofs.Onward.{reads_run}
 use Rattle.rowex_writing.proofs.Works.{quiet_on}
@@ -50,11 +51,11 @@ returns-in-Answer-clause-answered g c k later =
 pub returns-then-not-take_span-clause-run : goal.returns-then-not-take_span-clause-run
 returns-then-not-take_span-clause-run g c =
     let within = subst (LiesOnWay c.args.way.now) c.in-Change.is c.find_plan.ensures.within in
-    let (locks, tried, upto, all, few) = c.take_span.ensures.run in (
+    let (locks, tried, some, upto, all, few) = c.take_span.ensures.run in (
       locks,
       run_once c.args.table.now g.G.Gate.becomes _ _ _ (reads_run c.args.table.now g.G.Gate.becomes c.find_plan.ensures.reads.0 c.find_plan.ensures.reads.1 _ _ c.find_plan.ensures.reads.2) tried,
       omega (arith, upto, within.1, c.requires.way.depth),
-      omega (arith, few, c.find_plan.ensures.few),
+      rest_few _ _ c.args.table.now.layout locks some (omega (arith, few, c.find_plan.ensures.few)),
     )
 
 pub returns-then-not-take_span-clause-refused : goal.returns-then-not-take_span-clause-refused
@@ -82,13 +83,13 @@ make_change-requires g c =
 pub returns-in-Ok-clause-run : goal.returns-in-Ok-clause-run
 returns-in-Ok-clause-run g c =
     let within = subst (LiesOnWay c.args.way.now) c.in-Change.is c.find_plan.ensures.within in
-    let (locks, tried, upto, all, few) = c.take_span.ensures.run in
+    let (locks, tried, some, upto, all, few) = c.take_span.ensures.run in
     let whole = all c.if-not-take_span.false in (
       locks,
       once_run c.args.table.now g.G.Gate.becomes _ _ _ (run_once c.args.table.now g.G.Gate.becomes _ _ _ (reads_run c.args.table.now g.G.Gate.becomes c.find_plan.ensures.reads.0 c.find_plan.ensures.reads.1 _ _ c.find_plan.ensures.reads.2) tried)
           c.make_change.ensures.run,
       omega (arith, upto, within.1, c.requires.way.depth),
-      omega (arith, whole, few, c.find_plan.ensures.few, c.make_change.ensures.few),
+      rest_few _ _ c.args.table.now.layout locks some (omega (arith, whole, few, c.find_plan.ensures.few, c.make_change.ensures.few)),
     )
 
 pub returns-in-Ok-clause-answered : goal.returns-in-Ok-clause-answered
@@ -101,13 +102,13 @@ returns-in-Ok-clause-answered g c k later =
 pub returns-in-Err-Nodes-clause-run : goal.returns-in-Err-Nodes-clause-run
 returns-in-Err-Nodes-clause-run g c =
     let within = subst (LiesOnWay c.args.way.now) c.in-Change.is c.find_plan.ensures.within in
-    let (locks, tried, upto, all, few) = c.take_span.ensures.run in
+    let (locks, tried, some, upto, all, few) = c.take_span.ensures.run in
     let whole = all c.if-not-take_span.false in (
       locks,
       once_run c.args.table.now g.G.Gate.becomes _ _ _ (run_once c.args.table.now g.G.Gate.becomes _ _ _ (reads_run c.args.table.now g.G.Gate.becomes c.find_plan.ensures.reads.0 c.find_plan.ensures.reads.1 _ _ c.find_plan.ensures.reads.2) tried)
           c.make_change.ensures.run,
       omega (arith, upto, within.1, c.requires.way.depth),
-      omega (arith, whole, few, c.find_plan.ensures.few, c.make_change.ensures.few),
+      rest_few _ _ c.args.table.now.layout locks some (omega (arith, whole, few, c.find_plan.ensures.few, c.make_change.ensures.few)),
     )
 
 pub returns-in-Err-Nodes-clause-refused : goal.returns-in-Err-Nodes-clause-refused
@@ -119,13 +120,13 @@ returns-in-Err-Nodes-clause-refused g c k loaded later =
 pub returns-in-Err-Leaves-clause-run : goal.returns-in-Err-Leaves-clause-run
 returns-in-Err-Leaves-clause-run g c =
     let within = subst (LiesOnWay c.args.way.now) c.in-Change.is c.find_plan.ensures.within in
-    let (locks, tried, upto, all, few) = c.take_span.ensures.run in
+    let (locks, tried, some, upto, all, few) = c.take_span.ensures.run in
     let whole = all c.if-not-take_span.false in (
       locks,
       once_run c.args.table.now g.G.Gate.becomes _ _ _ (run_once c.args.table.now g.G.Gate.becomes _ _ _ (reads_run c.args.table.now g.G.Gate.becomes c.find_plan.ensures.reads.0 c.find_plan.ensures.reads.1 _ _ c.find_plan.ensures.reads.2) tried)
           c.make_change.ensures.run,
       omega (arith, upto, within.1, c.requires.way.depth),
-      omega (arith, whole, few, c.find_plan.ensures.few, c.make_change.ensures.few),
+      rest_few _ _ c.args.table.now.layout locks some (omega (arith, whole, few, c.find_plan.ensures.few, c.make_change.ensures.few)),
     )
 
 pub returns-in-Err-Leaves-clause-refused : goal.returns-in-Err-Leaves-clause-refused

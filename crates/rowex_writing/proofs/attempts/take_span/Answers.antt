@@ -7,7 +7,7 @@ use Rattle.rowex_writing.proofs.Runs.{goes_run, once_run, tries_once, works_run}
 use Rattle.rowex_writing.proofs.Spans.{led_nodes}
 use Rattle.rowex_writing.proofs.Ways.{way_apart, way_led}
 use Rattle.rowex_reading.proofs.Ways.{way_later}
-use Rattle.rowex_writing.proofs.Works.{works_later, works_seat}
+use Rattle.rowex_writing.proofs.Works.{works_count, works_later, works_seat}
 use Rattle.rowex_writing.proofs.Counting.{slice_few}
 use Rattle.rowex_writing.proofs.attempts.take_span.Goals as goal
 
@@ -22,7 +22,8 @@ lock_span-requires-clause-apart g c = way_apart c.args.table.now.layout c.args.s
 
 pub returns-then-not-lock_span-clause-run : goal.returns-then-not-lock_span-clause-run
 returns-then-not-lock_span-clause-run g c =
-    let (locks, tries, low, all, few) = c.lock_span.ensures.tries in (locks, tries_once c.args.table.now g.G.Gate.becomes _ _ tries, low, λ e. not_taken e, omega (arith, few))
+    let (locks, tries, low, all, few) = c.lock_span.ensures.tries in
+    let on = works_count c.args.table.now g.G.Gate.becomes _ _ tries.1 in (locks, tries_once c.args.table.now g.G.Gate.becomes _ _ tries, omega (arith, few, on), low, λ e. not_taken e, omega (arith, few))
 
 pub returns-then-not-lock_span-clause-later : goal.returns-then-not-lock_span-clause-later
 returns-then-not-lock_span-clause-later g c = works_later c.args.table.now g.G.Gate.becomes _ _ c.lock_span.ensures.tries.1.1
@@ -46,6 +47,7 @@ returns-then-check_span-clause-run g c =
     let whole = all c.if-not-lock_span.false in (
       locks,
       once_run table g.G.Gate.becomes _ _ _ (tries_once table g.G.Gate.becomes _ _ tries) (goes_run table g.G.Gate.becomes _ _ c.check_span.ensures.reads.goes),
+      omega (arith, whole),
       low,
       λ e. whole,
       omega (arith, whole, steps, c.check_span.ensures.few),
@@ -89,6 +91,7 @@ returns-clause-run g c =
       once_run table g.G.Gate.becomes _ _ _
           (once_run table g.G.Gate.becomes _ _ _ (tries_once table g.G.Gate.becomes _ _ tries) (goes_run table g.G.Gate.becomes _ _ c.check_span.ensures.reads.goes))
           (works_run table g.G.Gate.becomes _ _ c.undo.ensures.works),
+      omega (arith, whole),
       low,
       λ e. not_taken e,
       omega (arith, whole, c.lock_span.ensures.few c.if-not-lock_span.false, c.check_span.ensures.few, c.undo.ensures.few, back, c.saturating_sub.ensures, c.requires.span.0),
