@@ -9,6 +9,8 @@ mod made;
 #[cfg(test)]
 mod orders;
 #[cfg(test)]
+mod parts;
+#[cfg(test)]
 mod refused;
 #[cfg(test)]
 mod reuse;
