@@ -1,9 +1,9 @@
 //! The lines of the answers.
 
-ghost use Rattle.std.specs.Prelude.{◌≡◌, ◌++◌, ◌+◌, ◌<◌, ◌≤◌, ◌^◌, OnOk, length};
+ghost use Rattle.std.specs.Prelude.{◌≡◌, ◌++◌, ◌+◌, ◌*◌, ◌<◌, ◌≤◌, ◌^◌, OnOk, length};
 ghost use Rattle.hot_scripts.specs.Meaning.{key_text, line, pair_line, reply_text, scan_lines, with_number};
 
-use crate::tail::{NUMBER_DIGITS, Tail};
+use crate::page::{MOST_BYTES, Page, ROOM};
 use finite_map::Reply;
 use itoa::Buffer;
 use key_bits::MAX_BYTES;
@@ -38,29 +38,44 @@ pub fn push_reply(text: &mut Vec<u8>, reply: Reply) -> Result<(), AllocError>
 }
 
 /// Puts the key in lower case digits, or a dash for the empty key.
-fn put_key(tail: &mut Tail, key: &[u8])
+#[inline(always)]
+fn put_key(page: &mut Page, key: &[u8])
     requires key { length key.now ≤ MAX_BYTES }
-    requires room { length tail.old ≤ NUMBER_DIGITS + 2 }
-    ensures { tail.new ≡ key_text key.now ++ tail.old }
+    requires room { length page.old + 2 * MAX_BYTES ≤ ROOM }
+    ensures { page.new ≡ page.old ++ key_text key.now }
 {
     if key.is_empty() {
-        tail.put(b"-");
+        page.put(b"-");
     } else {
-        tail.put_hex(key);
+        page.put_hex(key);
     }
 }
 
-/// Makes the line of a pair.
-fn make_pair(tail: &mut Tail, key: &[u8], value: u64)
-    requires { length key.now ≤ MAX_BYTES }
-    ensures { tail.new ≡ pair_line (key.now, value) }
+/// Puts the line of a pair.
+#[inline(always)]
+fn put_pair(page: &mut Page, key: &[u8], value: u64)
+    requires key { length key.now ≤ MAX_BYTES }
+    requires room { length page.old + MOST_BYTES ≤ ROOM }
+    ensures { page.new ≡ page.old ++ pair_line (key.now, value) }
 {
-    tail.clear();
-    tail.put(b"\n");
-    tail.put_number(value);
-    tail.put(b" ");
-    put_key(tail, key);
-    tail.put(b"pair ");
+    page.put(b"pair ");
+    put_key(page, key);
+    page.put(b" ");
+    page.put_number(value);
+    page.put(b"\n");
+}
+
+/// Makes room for a line: the lines of a full page go to the end of the text.
+#[inline(always)]
+fn make_room(text: &mut Vec<u8>, page: &mut Page) -> Result<(), AllocError>
+    ensures room { OnOk result (length page.new + MOST_BYTES ≤ ROOM) }
+    ensures kept { OnOk result (text.new.items ++ page.new ≡ text.old.items ++ page.old) }
+{
+    if page.is_full() {
+        text.extend_from_slice(page.as_bytes())?;
+        page.clear();
+    }
+    Ok(())
 }
 
 /// The lines of a scan with these pairs, where `more` says whether there is a further key.
@@ -69,11 +84,12 @@ pub fn push_scan(text: &mut Vec<u8>, pairs: &Pairs, more: bool) -> Result<(), Al
     ensures short { length pairs.now < 2 ^ 63 }
 {
     let count = pairs.len();
-    let mut tail = Tail::new();
+    let mut page = Page::new();
     for (key, value) in pairs.iter() {
-        make_pair(&mut tail, key, value);
-        text.extend_from_slice(tail.as_bytes())?;
+        make_room(text, &mut page)?;
+        put_pair(&mut page, key, value);
     }
+    text.extend_from_slice(page.as_bytes())?;
     if more {
         push_number(text, b"more ", count as u64)
     } else {

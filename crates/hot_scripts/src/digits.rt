@@ -1,6 +1,6 @@
-//! Bytes as hexadecimal digits.
+//! Bytes as hexadecimal digits, and how many decimal digits a number has.
 
-ghost use Rattle.std.specs.Prelude.{◌≡◌, ◌*◌, ◌<◌, length, slice_index};
+ghost use Rattle.std.specs.Prelude.{◌≡◌, ◌*◌, ◌<◌, decimal, length, slice_index};
 ghost use Rattle.hex.specs.Hex.{encode_lower, lower_digits};
 
 /// The lower case digits.
@@ -38,4 +38,27 @@ fn digit(number: u8) -> u8
     } else {
         b'a' - 10 + number
     }
+}
+
+/// How many decimal digits a number has.
+#[inline(always)]
+pub fn count_digits(number: u64) -> usize
+    ensures { result ≡ length (decimal number) }
+{
+    let mut left = number;
+    let mut count = 0;
+    while left >= 10_000 {
+        left /= 10_000;
+        count += 4;
+    }
+    if left < 10 {
+        return count + 1;
+    }
+    if left < 100 {
+        return count + 2;
+    }
+    if left < 1_000 {
+        return count + 3;
+    }
+    count + 4
 }

@@ -6,6 +6,6 @@ pub mod command;
 mod digits;
 pub mod fault;
 mod line;
+mod page;
 pub mod script;
-mod tail;
 mod word;

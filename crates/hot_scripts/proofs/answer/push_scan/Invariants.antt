@@ -1,4 +1,4 @@
--- The lines so far, and those of the pairs that are left, each of which has a key.
+-- The lines that went to the text, those on the page, and those of the pairs that are left, each of which has a key.
 use Rattle.std.proofs.Common.{◌≡◌, ◌++◌}
 use Rattle.std.specs.Prelude.{All, flat_map}
 use Rattle.key_bits.specs.Key.{IsKey}
@@ -7,6 +7,6 @@ use Rattle.hot_scripts.proofs.answer.push_scan.Given as goal
 
 abbrev pub invariant-loop-key : goal.invariant-loop-key
 invariant-loop-key l = record {
-  lines : l.text.items ++ flat_map pair_line l.key-iterator ≡ l.fn.text.items ++ flat_map pair_line l.pairs;
+  lines : l.text.items ++ l.page ++ flat_map pair_line l.key-iterator ≡ l.fn.text.items ++ flat_map pair_line l.pairs;
   keys : All (λ pair. IsKey pair.0) l.key-iterator;
 }

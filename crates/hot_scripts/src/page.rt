@@ -1,0 +1,105 @@
+//! Lines that are made one after another, in a small room of their own, before they go to a text together.
+
+ghost use Rattle.std.specs.Prelude.{◌≡◌, ◌≢◌, ◌++◌, ◌+◌, ◌*◌, ◌≤◌, [], false, length, decimal};
+ghost use Rattle.hex.specs.Hex.{encode_lower};
+
+use crate::digits::{count_digits, write_hex};
+use itoa::write_digits;
+use key_bits::MAX_BYTES;
+use std::marker::Model;
+
+/// The most decimal digits of a number.
+pub const NUMBER_DIGITS: usize = 20;
+
+/// The most bytes of a line: those of a pair, with its word, a key in digits, a space, its value and its end.
+pub const MOST_BYTES: usize = 5 + 2 * MAX_BYTES + 1 + NUMBER_DIGITS + 1;
+
+/// How many bytes a page has room for.
+pub const ROOM: usize = 1024;
+
+/// Lines. Each number and key is written once, at its place.
+///
+/// Contracts see the bytes that are there.
+#[derive(Drop)]
+pub struct Page {
+    room: [u8; ROOM],
+    end: usize,
+}
+
+impl Model for Page {
+    ghost use Rattle.std.specs.Prelude.{List, ℕ, ◌≤◌, take};
+    ghost use Rattle.hot_scripts.specs.declared.page.TheConstants.{ROOM};
+
+    ghost Value = { List ℕ };
+
+    ghost view = { λ page. take page.end page.room };
+
+    ghost invariant = { λ page. page.end ≤ ROOM };
+}
+
+impl Page {
+    /// No bytes.
+    pub fn new() -> Page
+        ensures { result ≡ [] }
+    {
+        Page {
+            room: [0; ROOM],
+            end: 0,
+        }
+    }
+
+    /// Takes out all bytes.
+    pub fn clear(&mut self)
+        ensures { self.new ≡ [] }
+    {
+        self.end = 0;
+    }
+
+    /// The bytes.
+    pub fn as_bytes(&self) -> &[u8]
+        ensures { result.now ≡ self.now }
+    {
+        &self.room[..self.end]
+    }
+
+    /// Whether there may be no room for a line.
+    #[inline(always)]
+    pub fn is_full(&self) -> bool
+        ensures { result ≡ false → length self.now + MOST_BYTES ≤ ROOM }
+    {
+        self.end + MOST_BYTES > ROOM
+    }
+
+    /// Puts a text.
+    #[inline(always)]
+    pub fn put(&mut self, text: &[u8])
+        requires { length self.old + length text.now ≤ ROOM }
+        ensures { self.new ≡ self.old ++ text.now }
+    {
+        let end = self.end + text.len();
+        self.room[self.end..end].copy_from_slice(text);
+        self.end = end;
+    }
+
+    /// Puts a number in decimal digits, without leading zeros.
+    #[inline(always)]
+    pub fn put_number(&mut self, number: u64)
+        requires { length self.old + NUMBER_DIGITS ≤ ROOM }
+        ensures { self.new ≡ self.old ++ decimal number }
+    {
+        let end = self.end + count_digits(number);
+        write_digits(number, &mut self.room, end);
+        self.end = end;
+    }
+
+    /// Puts bytes, each as two lower case hexadecimal digits.
+    #[inline(always)]
+    pub fn put_hex(&mut self, bytes: &[u8])
+        requires { length self.old + 2 * length bytes.now ≤ ROOM }
+        ensures { self.new ≡ self.old ++ encode_lower bytes.now }
+    {
+        let end = self.end + 2 * bytes.len();
+        write_hex(bytes, &mut self.room[self.end..end]);
+        self.end = end;
+    }
+}
