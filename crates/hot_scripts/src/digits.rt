@@ -33,11 +33,8 @@ fn digit(number: u8) -> u8
     requires { number < 16 }
     ensures { result ≡ slice_index lower_digits number }
 {
-    if number < 10 {
-        b'0' + number
-    } else {
-        b'a' - 10 + number
-    }
+    let letter = if number < 10 { 0 } else { b'a' - 10 - b'0' };
+    b'0' + number + letter
 }
 
 /// How many decimal digits a number has.
