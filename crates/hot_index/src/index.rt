@@ -144,10 +144,10 @@ impl Index {
     /// entry, 297 for each lock that it tries, 2 for each node record and 4 for each leaf record. So on the longest way the call
     /// makes at most 1,396,470 steps, and 2 for each pass, 6 for each node record and 10 for each leaf record.
     ///
-    /// It answers `Busy` only if another pass has locked or retired what it wants to lock, or has made a change since the call's last
-    /// pin, so never if the index has one pass; and `FullNodes` or `FullLeaves` if it found each node record, or each leaf record
-    /// with room for the key, taken, again after a round of collection. A call that is refused has changed nothing, and holds no
-    /// lock and no record.
+    /// It answers `Busy` only if another pass has locked or retired what it wants to lock, or has made a change since the call's
+    /// last pin, so never if the index has one pass; and `FullNodes` or `FullLeaves` if it found each node record, or each leaf
+    /// record with room for the key, taken, again after a round of collection. A call that is refused has changed nothing, and
+    /// holds no lock and no record.
     pub fn try_insert(&self, pass: &mut Pass, key: &Key, value: u64) -> Result<Reply, TryFault>
         requires { Owns self.now pass.old }
         ensures own { Owns self.now pass.new }

@@ -1,5 +1,4 @@
--- How many atomic steps the parts of an attempt make at most: by the nodes on its way, the locks that it tries, and the records of the
--- table.
+-- How many atomic steps the parts of an attempt make at most, by the nodes on its way, its locks and the records of the table.
 use Rattle.std.specs.Prelude.{ℕ, zero, suc, ◌+◌, ◌*◌}
 use Rattle.key_bits.specs.declared.TheConstants.{MAX_BYTES}
 use Rattle.record_words.specs.declared.TheConstants.{HEAD_WORDS, LEAF_FIELDS, NODE_FIELDS}
@@ -26,7 +25,8 @@ span_steps locks = HEAD_WORDS + 3 * locks + 1
 abbrev pub leaf_steps : Layout → ℕ
 leaf_steps layout = 4 * layout.leaves + 2 * LEAF_FIELDS
 
--- a record for a node, but for the tries of the walk: a load of the state of a spare one and a claim of it, and a load and a store of each word
+-- a record for a node, but for the tries of the walk: a load of the state of a spare one and a claim of it, and a load and a store of
+-- each word
 abbrev pub node_steps : ℕ
 node_steps = 2 + 2 * NODE_FIELDS
 
