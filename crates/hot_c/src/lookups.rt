@@ -30,7 +30,7 @@ pub fn keys_of(alloc: Global, lookups: &[Lookup<'_>]) -> Result<Vec<Key>, AllocE
     requires { All (λ l. FitsInKey (key_in l)) lookups.now }
     ensures { IfOk result (λ keys. keys.items ≡ map key_in lookups.now) }
 {
-    let mut keys = Vec::new(alloc);
+    let mut keys = Vec::with_capacity(alloc, lookups.len())?;
     for lookup in lookups {
         match Key::from_bytes(lookup.key) {
             Ok(key) => keys.push(key)?,

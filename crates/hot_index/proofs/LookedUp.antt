@@ -1,7 +1,8 @@
 -- Look-ups one after the other: what they leave to the pass, and that their replies are right in turn.
-use Rattle.std.proofs.Common.{◌≡◌, ℕ, suc, ◌+◌, ◌*◌, ◌<◌, ◌≤◌, List, [], ◌∷◌, ◌++◌, length, take, get_or, set, Option, IsSome, refl, sym, ap, subst, ◌∙◌, arith, le_refl, le_trans, length-append}
+use Rattle.std.proofs.Common.{◌≡◌, ℕ, suc, ◌+◌, ◌*◌, ◌<◌, ◌≤◌, List, [], ◌∷◌, ◌++◌, length, take, cond, get_or, set, Option, IsSome, refl, sym, ap, ap₂, subst, ◌∙◌, arith, le_refl, le_trans, length-append}
 use Rattle.std.specs.Prelude.{All}
 use Rattle.std.proofs.lemmas.List.{append_assoc, take-append-le, take_more_set, length-take-le}
+use Rattle.std.proofs.lemmas.List.Sums.{sum_by-append}
 use Rattle.std.proofs.Math.Seq.{take-suc}
 use Rattle.std.proofs.lemmas.List.Elements.{All-append, All-cons, All-head, All-nil, All-tail, All-weaker}
 use Rattle.finite_map.specs.declared.Call.{Call}
@@ -24,7 +25,8 @@ use Rattle.rowex_table.specs.Seats.{IsSame, IsSeatOf, SeatView, TableView}
 use Rattle.rowex_table.proofs.Running.{runs_append, runs_same, same_more}
 use Rattle.rowex_reading.specs.Lookups.{HasFound, HasSearched}
 use Rattle.rowex_reading.specs.Possible.{IsPossible}
-use Rattle.rowex_reading.specs.Reads.{IsBelowRoot, Looks, ReadsRoot}
+use Rattle.rowex_reading.specs.Reads.{IsBelowRoot, Looks, ReadsRoot, loads_entry}
+use Rattle.rowex_reading.specs.declared.along.TheConstants.{MOST_TURNS}
 use Rattle.rowex_reading.specs.Seen.{since}
 use Rattle.rowex_reading.proofs.Later.{event_later}
 use Rattle.rowex_reading.proofs.Led.{HasLookedAt, OnlySees, below_fresh, below_later, below_sees, looked_at, looks_first, reader_then, root_reader, root_sees, sees_more}
@@ -83,24 +85,25 @@ module _ {G : Type 0} (table : TableView) (becomes : G → Event → G → Type 
       (looks_then acts (n + 1) a run.0 b (All-tail IsLook act acts looks) (look_more n a.0.known x.0.known run.0.0.known at act (All-head IsLook act acts looks) run.1.event) run.2)
 
 module _ {G : Type 0} {table : TableView} {becomes : G → Event → G → Type 0} where
-  pub looked_on : {n : ℕ} {a b : SeatView × G} → LooksOn table becomes n a b → HasLookedAt n a.0.known b.0.known
-  looked_on {n} {a} {b} x =
+  pub looked_on : {e n : ℕ} {a b : SeatView × G} → LooksOn table becomes e n a b → HasLookedAt n a.0.known b.0.known
+  looked_on {n = n} {a = a} {b = b} x =
       subst (λ m. HasLookedAt m a.0.known b.0.known) (let c = x.count in let e : 0 + length x.loads ≡ n = omega (arith, c) in e)
       (looks_then table becomes x.loads 0 a x.at b x.looks (looked_at (looks_first x.root)) x.rest)
 
-  pub on_same : {n : ℕ} {a b : SeatView × G} → LooksOn table becomes n a b → IsSame a.0 b.0
+  pub on_same : {e n : ℕ} {a b : SeatView × G} → LooksOn table becomes e n a b → IsSame a.0 b.0
   on_same {a = a} {b = b} x = same_more a.0 x.at.0 b.0 x.root.1.seat (runs_same table becomes x.loads x.at b x.rest)
 
-  on_first : {a b : SeatView × G} → ReadsRoot table becomes a b → LooksOn table becomes 0 a b
-  on_first {b = b} root = record { at = b; root = root; loads = []; looks = All-nil IsLook; count = refl; rest = refl }
+  on_first : {a b : SeatView × G} → ReadsRoot table becomes a b → LooksOn table becomes 0 0 a b
+  on_first {b = b} root = record { at = b; root = root; loads = []; looks = All-nil IsLook; count = refl; entries_are = refl; rest = refl }
 
-  on_more : {n e m : ℕ} {a b c : SeatView × G} → LooksOn table becomes n a b → Looks table becomes e m b c → LooksOn table becomes (n + (1 + m)) a c
-  on_more {n} {e} {m} {a} {b} {c} x y = record {
+  on_more : {e n f m : ℕ} {a b c : SeatView × G} → LooksOn table becomes e n a b → Looks table becomes f m b c → LooksOn table becomes (e + f) (n + (1 + m)) a c
+  on_more {e} {n} {f} {m} {a} {b} {c} x y = record {
     at = x.at;
     root = x.root;
     loads = x.loads ++ (LoadRef Root y.root.0 ∷ y.rest.acts);
     looks = All-append IsLook x.loads _ x.looks (All-cons IsLook (LoadRef Root y.root.0) y.rest.acts tt (All-weaker IsBelowRoot IsLook look_below y.rest.acts y.rest.below));
     count = let p = x.count in let q = y.rest.count in length-append x.loads (LoadRef Root y.root.0 ∷ y.rest.acts) ∙ omega arith;
+    entries_are = sum_by-append (λ act. cond (loads_entry act) 1 0) x.loads (LoadRef Root y.root.0 ∷ y.rest.acts) ∙ ap₂ (λ i j. i + j) x.entries_are y.rest.entries_are;
     rest = runs_append table becomes x.loads (LoadRef Root y.root.0 ∷ y.rest.acts) x.at b c x.rest (y.at, y.root.1, y.rest.steps);
   }
 
@@ -147,29 +150,29 @@ gets_more keys found i key value low same is =
 
 -- Of a pass
 
--- It has looked so many keys up, and more of them have gone down.
+-- It has looked so many keys up, and so many have gone down.
 pub record HasGone {G : Type 0} (table : TableView) (becomes : G → Event → G → Type 0) (count gone : ℕ) (calls : List (Call × Reply)) (a b : SeatView × G) : Type 0 where
-  pub nodes : ℕ
+  pub entries : ℕ
   pub loaded : ℕ
-  pub low : nodes ≤ count * (9 * MAX_BYTES)
-  pub few : loaded ≤ 33 * count + 233 * gone + 26 * nodes
-  pub looks : LooksOn table becomes loaded a b
+  pub low : entries ≤ count * (9 * MAX_BYTES) + MOST_TURNS * gone
+  pub few : loaded ≤ 33 * count + gone + 26 * entries
+  pub looks : LooksOn table becomes entries loaded a b
   pub right : AreRight b.0.known.front (length looks.at.0.known.front) calls
 
 module _ {G : Type 0} {table : TableView} {becomes : G → Event → G → Type 0} where
   -- before the first key
   pub up_first : {a b : SeatView × G} → ReadsRoot table becomes a b → HasGone table becomes 0 0 [] a b
   unfolding on_first
-  up_first {b = b} root = record { nodes = 0; loaded = 0; low = omega arith; few = omega arith; looks = on_first root; right = le_refl (length b.0.known.front) }
+  up_first {b = b} root = record { entries = 0; loaded = 0; low = omega arith; few = omega arith; looks = on_first root; right = le_refl (length b.0.known.front) }
 
   -- so many keys go down
-  pub up_down : {n g entries loads : ℕ} {calls : List (Call × Reply)} {a b c : SeatView × G} (count : ℕ) → HasGone table becomes n g calls a b → 1 ≤ count → loads ≤ 232 * count → Looks table becomes entries loads b c →
-      HasGone table becomes n (g + count) calls a c
+  pub up_down : {n g entries loads : ℕ} {calls : List (Call × Reply)} {a b c : SeatView × G} (count : ℕ) → HasGone table becomes n g calls a b → 1 ≤ count → entries ≤ MOST_TURNS * count → loads ≤ 26 * entries →
+      Looks table becomes entries loads b c → HasGone table becomes n (g + count) calls a c
   unfolding on_more
-  up_down {n} {g} {entries} {loads} {calls} {a} {b} {c} count up some few down = record {
-    nodes = up.nodes;
+  up_down {n} {g} {entries} {loads} {calls} {a} {b} {c} count up some low few down = record {
+    entries = up.entries + entries;
     loaded = up.loaded + (1 + loads);
-    low = up.low;
+    low = let x = up.low in omega (arith, x, low);
     few = let x = up.few in omega (arith, x, some, few);
     looks = on_more up.looks down;
     right = let at = looked_at down in right_later b.0.known.front c.0.known.front (length up.looks.at.0.known.front) calls (at.later.front.0, at.later.front.1) up.right;
@@ -180,7 +183,7 @@ module _ {G : Type 0} {table : TableView} {becomes : G → Event → G → Type 
       HasFound c.0.known key o → HasGone table becomes (n + 1) g (calls ++ (Get key, got o) ∷ []) a c
   unfolding on_more
   up_more {n} {g} {calls} {a} {b} {c} key o up own found_by found = record {
-    nodes = up.nodes + found_by.nodes;
+    entries = up.entries + found_by.nodes;
     loaded = up.loaded + (1 + found_by.loaded);
     low = let x = up.low in let y = found_by.low in omega arith;
     few = let x = up.few in let y = found_by.few in omega arith;
@@ -198,9 +201,16 @@ module _ {G : Type 0} {table : TableView} {becomes : G → Event → G → Type 
       was : (m : ℕ) × (since c.0.known ≤ m) × (m ≤ length c.0.known.front) × (reply_of (map_of (take m c.0.known.front)) (Get key) ≡ got o)
       was = found_right c.0.known key o found possible.core possible.lawful (recalls possible.core c.0.known possible.knows)
 
-  -- and all have been looked up
-  pub up_all : {n : ℕ} {calls : List (Call × Reply)} {a b : SeatView × G} → HasGone table becomes n n calls a b → HasLookedUp table becomes n calls a b
-  up_all up = record { nodes = up.nodes; loaded = up.loaded; low = up.low; few = let x = up.few in omega (arith, x); looks = up.looks; right = up.right }
+  -- and all have been looked up, of which some have gone down
+  pub up_all : {n g : ℕ} {calls : List (Call × Reply)} {a b : SeatView × G} → g ≤ n → HasGone table becomes n g calls a b → HasLookedUp table becomes n calls a b
+  up_all some up = record {
+    entries = up.entries;
+    loaded = up.loaded;
+    low = let x = up.low in omega (arith, x, some);
+    few = let x = up.few in omega (arith, x, some);
+    looks = up.looks;
+    right = up.right;
+  }
 
   -- it is pinned still
   pub root_pinned_on : {a b : SeatView × G} → ReadsRoot table becomes a b → IsSome a.0.known.pin → IsSome b.0.known.pin

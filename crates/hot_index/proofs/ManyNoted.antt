@@ -23,7 +23,7 @@ use Rattle.epochs.specs.Runs.{Pins}
 use Rattle.rowex_reading.proofs.Led.{HasLookedAt, looked_at, looks_first}
 use Rattle.tries.specs.Keys.{Key}
 use Rattle.hot_index.specs.Answers.{GoesOn}
-use Rattle.hot_index.specs.Many.{AreNoted, AreRight, HasGotMany, HasLookedUp, gets}
+use Rattle.hot_index.specs.Many.{AreNoted, AreRight, HasGotMany, HasLookedUp, gets, most_entries}
 use Rattle.hot_index.specs.Noting.{answers_so, same_reply}
 use Rattle.hot_index.specs.Passes.{IsSettled, PassView, pass_of}
 use Rattle.hot_index.specs.Traces.{reading, untold}
@@ -206,7 +206,7 @@ module _ {G : Type 0} {table : TableView} {becomes : G → Event → G → Type 
       legal = subst (λ (z : ℕ × List Note). LegalCalls c.0.known.front z.0 (z.1 ++ added)) (λ x. (sym looks.on.pass x, sym looks.on.notes x))
           (legal_with a.0.known.front c.0.known.front a.0.known.pass start a.0.known.notes calls settled.legal looks.others (legal_front a.0 d.0 looks.on end.event) low_start are_placed)
 
-  all_steps : d.0.known.steps ≤ a.0.known.steps + 4 + 266 * length keys + 26 * up.nodes
+  all_steps : d.0.known.steps ≤ a.0.known.steps + 4 + 34 * length keys + 26 * up.entries
   all_steps =
       let first : b.0.known.steps ≡ a.0.known.steps + 2 = ap (λ (z : Known). z.steps) pins.1.rest in
       let second : c.0.known.steps ≡ b.0.known.steps + (1 + up.loaded) = ap (λ (z : Known). z.steps) (looked_on up.looks).sees in
@@ -231,9 +231,8 @@ module _ {G : Type 0} {table : TableView} {becomes : G → Event → G → Type 
     fresh = λ notes are. subst (All (λ n. start ≤ n.place)) (append_cancel_left a.0.known.notes added notes (sym (notes_are settled) ∙ are)) are_placed.above;
     told = ends_told table becomes (reading pins.0 up.looks.root.0 up.looks.loads) ClearPin (gets_said keys found) a d
         (c, runs_append table becomes (reading pins.0 up.looks.root.0 []) up.looks.loads a up.looks.at c begun up.looks.rest, end);
-    visited = up.nodes;
-    depth = up.low;
-    few = all_steps;
+    depth = subst (λ e. e ≤ length keys * most_entries) (sym up.looks.entries_are) up.low;
+    few = subst (λ e. d.0.known.steps ≤ a.0.known.steps + 4 + 34 * length keys + 26 * e) (sym up.looks.entries_are) all_steps;
   }
     where
       begun : Runs table becomes (reading pins.0 up.looks.root.0 []) a up.looks.at
@@ -258,7 +257,6 @@ module _ {G : Type 0} (table : TableView) (becomes : G → Event → G → Type 
     told = subst (λ (z : PassView). IsTold untold (events_of z.number (reading x.epoch x.root x.loads ++ ClearPin ∷ [])) tt tt) (sym x.begins)
         (ends_told table untold (reading x.epoch x.root x.loads) ClearPin x.said (a.0.seat, tt) (b.0.seat, tt)
         ((x.steps.0.0, tt), runs_append table untold (reading x.epoch x.root []) x.loads (a.0.seat, tt) (x.first.0, tt) (x.steps.0.0, tt) begun rest, last));
-    visited = x.visited;
     depth = x.depth;
     few = x.few;
   }

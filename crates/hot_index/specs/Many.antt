@@ -15,7 +15,8 @@ use Rattle.rowex_core.specs.declared.event.Act.TheVariants.{LoadRef, LoadFixed, 
 use Rattle.rowex_core.specs.declared.event.Event.{Event}
 use Rattle.rowex_core.specs.declared.known.Known.{Known}
 use Rattle.rowex_core.specs.Knowing.{SeesAllAtRoot}
-use Rattle.rowex_reading.specs.Reads.{ReadsRoot}
+use Rattle.rowex_reading.specs.Reads.{ReadsRoot, entries_in}
+use Rattle.rowex_reading.specs.declared.along.TheConstants.{MOST_TURNS}
 use Rattle.rowex_table.specs.Runs.{Ends, IsTold, Runs, events_of}
 use Rattle.rowex_table.specs.Seats.{SeatView, TableView}
 use Rattle.tries.specs.Keys.{Key}
@@ -47,13 +48,15 @@ IsLook (LoadRef spot word) = Unit {0}
 IsLook (LoadFixed r offset word) = Unit {0}
 IsLook act = ⊥
 
--- The pass loads the root, and then makes so many such loads and no other step; and the gate is told each load.
-pub record LooksOn {G : Type 0} (table : TableView) (becomes : G → Event → G → Type 0) (n : ℕ) (a b : SeatView × G) : Type 0 where
+-- The pass loads the root, and then makes n such loads, of which so many are of entries, and no other step; and the gate is told each
+-- load.
+pub record LooksOn {G : Type 0} (table : TableView) (becomes : G → Event → G → Type 0) (entries n : ℕ) (a b : SeatView × G) : Type 0 where
   pub at : SeatView × G
   pub root : ReadsRoot table becomes a at
   pub loads : List Act
   pub looks : All IsLook loads
   pub count : length loads ≡ n
+  pub entries_are : entries_in loads ≡ entries
   pub rest : Runs table becomes loads at b
 
 -- In turn from the place `low` on, at places of the front that never fall, the map has these replies to these calls.
@@ -61,21 +64,24 @@ abbrev pub AreRight : List Change → ℕ → List (Call × Reply) → Type 0
 AreRight front low [] = low ≤ length front
 AreRight front low (x ∷ xs) = (n : ℕ) × (low ≤ n) × (reply_of (map_of (take n front)) x.0 ≡ x.1) × AreRight front n xs
 
+-- how many entries are loaded for one key at most: one in each node on its way, and some before, as it goes down with others
+abbrev pub most_entries : ℕ
+most_entries = 9 * MAX_BYTES + MOST_TURNS
+
 -- The pass has looked so many keys up, one after the other, after it had loaded the root: so these calls' replies are right in turn, at
--- places from what it had seen then on. On the ways of all keys were so many nodes; by 233 of the loads for each key it went down before.
+-- places from what it had seen then on.
 pub record HasLookedUp {G : Type 0} (table : TableView) (becomes : G → Event → G → Type 0) (count : ℕ) (calls : List (Call × Reply)) (a b : SeatView × G) : Type 0 where
-  pub nodes : ℕ
+  pub entries : ℕ
   pub loaded : ℕ
-  pub low : nodes ≤ count * (9 * MAX_BYTES)
-  pub few : loaded ≤ 266 * count + 26 * nodes
-  pub looks : LooksOn table becomes loaded a b
+  pub low : entries ≤ count * most_entries
+  pub few : loaded ≤ 34 * count + 26 * entries
+  pub looks : LooksOn table becomes entries loaded a b
   pub right : AreRight b.0.known.front (length looks.at.0.known.front) calls
 
 -- The call pins the pass, loads the root, looks so many keys up, and clears the pin: these steps lead from the very seat that the pass has
 -- before to the one that it has after, one after the other, and no other does. With the last one come the call's notes, and none of them
--- stands before what the pass has seen by its first load of the root, which is all that any pass had seen by then. On the ways of all keys
--- it visits so many nodes: it makes at most 26 steps at each, 266 for each key beside, and 4. The gate is told each of them, in order, and
--- nothing else.
+-- stands before what the pass has seen by its first load of the root, which is all that any pass had seen by then. The gate is told each
+-- of them, in order, and nothing else. It makes at most 26 steps for each entry that it loads, 34 for each key, and 4 beside.
 pub record HasGotMany {G : Type 0} (index : TableView) (becomes : G → Event → G → Type 0) (count : ℕ) (a b : PassView × G) : Type 0 where
   pub epoch : ℕ
   pub root : ℕ
@@ -90,6 +96,5 @@ pub record HasGotMany {G : Type 0} (index : TableView) (becomes : G → Event �
   pub steps : Ends index becomes loads ClearPin said first (b.0.seat, b.1)
   pub fresh : (added : List Note) → b.0.notes ≡ a.0.notes ++ added → All (λ n. length first.0.known.front ≤ n.place) added
   pub told : IsTold becomes (events_of a.0.number (reading epoch root loads ++ ClearPin ∷ [])) a.1 b.1
-  pub visited : ℕ
-  pub depth : visited ≤ count * (9 * MAX_BYTES)
-  pub few : b.0.steps ≤ a.0.steps + 4 + 266 * count + 26 * visited
+  pub depth : entries_in loads ≤ count * most_entries
+  pub few : b.0.steps ≤ a.0.steps + 4 + 34 * count + 26 * entries_in loads

@@ -1,12 +1,9 @@
 //! Look-ups of many keys by one call.
 
-ghost use Rattle.std.specs.Prelude.{◌≡◌, ◌+◌, ◌*◌, ◌≤◌, ℕ, IsSome, List, length};
+ghost use Rattle.std.specs.Prelude.{◌≡◌, IsSome, List, length};
 ghost use Rattle.finite_map.specs.declared.Note.{Note};
 ghost use Rattle.rowex_core.specs.declared.event.Act.TheVariants.{ClearPin};
 ghost use Rattle.rowex_core.specs.declared.known.Known.{Known};
-ghost use Rattle.rowex_reading.specs.Reads.{Looks};
-ghost use Rattle.rowex_reading.specs.Turns.{AreRows};
-ghost use Rattle.rowex_reading.specs.declared.along.TheConstants.{TOGETHER};
 ghost use Rattle.rowex_table.specs.Runs.{StepsWith};
 ghost use Rattle.rowex_table.specs.Seats.{IsPassOf, IsSeatOf};
 ghost use Rattle.hot_index.specs.Many.{HasLookedUp, gets};
@@ -14,15 +11,14 @@ ghost use Rattle.hot_index.specs.Many.{HasLookedUp, gets};
 use epochs::unpin;
 use key_bits::Key;
 use rowex_core::Gate;
-use rowex_reading::{MOST_TURNS, TOGETHER, Turn, go_down, load_root, look_up_along};
+use rowex_reading::{TOGETHER, go_down, load_root, look_up, look_up_along};
 use rowex_table::{HotTable, TableSeat};
 
 /// How many keys gain time by going down by turns first: fewer are looked up sooner without it.
-const ENOUGH: usize = 8;
+const ENOUGH: usize = 16;
 
-/// Looks up keys, one after the other, each from the root down, and writes what it finds to the key's place. Before that, the keys
-/// go down by turns, in groups, where these are large enough: so the nodes on their ways are in the cache, and the places in them are
-/// known.
+/// Looks up keys, one after the other, each from the root down, and writes what it finds to the key's place. Where there are enough
+/// keys, they go down by turns before that, in groups: so the nodes on their ways are in the cache, and the places in them are known.
 pub fn look_up_each<G: Gate>(
     table: &HotTable,
     seat: &mut TableSeat,
@@ -37,38 +33,18 @@ pub fn look_up_each<G: Gate>(
 {
     load_root(table, seat, gate);
     let mut first = 0;
-    while first < keys.len() {
+    while keys.len() - first >= ENOUGH {
         let count = TOGETHER.min(keys.len() - first);
-        let rows = ways_of(table, seat, gate, keys, first, count);
+        let rows = go_down(table, seat, gate, keys, first, count);
         for place in 0..count {
             let index = first + place;
             found[index] = look_up_along(table, seat, gate, &keys[index], &rows, place);
         }
         first += count;
     }
-}
-
-/// Loads the root, and lets so many keys from the first on go down by turns, if they are enough; gives the turns of their ways, else none.
-fn ways_of<G: Gate>(
-    table: &HotTable,
-    seat: &mut TableSeat,
-    gate: &mut G,
-    keys: &[Key],
-    first: usize,
-    count: usize,
-) -> [[Option<Turn>; TOGETHER]; MOST_TURNS]
-    requires own { IsSeatOf table.now seat.old }
-    requires pinned { IsSome seat.old.known.pin }
-    requires few { count ≤ TOGETHER }
-    requires range { first + count ≤ length keys.now }
-    ensures looks { (n : ℕ) × (n ≤ 232 * count) × (entries : ℕ) × Looks table.now G.becomes entries n (seat.old, gate.old) (seat.new, gate.new) }
-    ensures rows { AreRows seat.new.known keys.now first result }
-{
-    if count < ENOUGH {
-        load_root(table, seat, gate);
-        return [[None; TOGETHER]; MOST_TURNS];
+    for index in first..keys.len() {
+        found[index] = look_up(table, seat, &keys[index], gate);
     }
-    go_down(table, seat, gate, keys, first, count)
 }
 
 /// Clears the pin at the end of gets that looked for these keys and found this for each. Their notes are added with this step.

@@ -1,6 +1,8 @@
 -- Turns that are remembered: what a pass that has gone on knows of them still.
-use Rattle.std.proofs.Common.{◌≡◌, ◌⊎◌, inl, inr, ⊎_elim, ℕ, zero, suc, ◌+◌, ◌*◌, ◌<◌, ◌≤◌, List, [], ◌∷◌, length, get_or, set, replicate, Option, Some, None, refl, sym, ap, subst, ◌∙◌, arith, le_trans}
-use Rattle.std.specs.Prelude.{slice_get, IfSome}
+use Rattle.std.proofs.Common.{◌≡◌, ◌⊎◌, inl, inr, ⊎_elim, ℕ, zero, suc, ◌+◌, ◌*◌, ◌<◌, ◌≤◌, List, [], ◌∷◌, length, cond, get_or, set, take, replicate, Option, Some, None, refl, sym, ap, subst, ◌∙◌, arith, le_trans}
+use Rattle.std.specs.Prelude.{slice_get, IfSome, is_some}
+use Rattle.std.proofs.lemmas.List.{length-take, take_more, take_more_set}
+use Rattle.std.proofs.lemmas.List.Sums.{count_by-le-length, sum_by-append}
 use Rattle.std.proofs.lemmas.Bool.{cases_lt}
 use Rattle.std.proofs.Math.Nat.{suc-mul}
 use Rattle.compound_node.specs.declared.entries.Entry.{Entry}
@@ -15,7 +17,7 @@ use Rattle.rowex_core.specs.Knowing.{IsSince}
 use Rattle.rowex_table.specs.Made.{IsLater}
 use Rattle.rowex_walks.specs.Scan.{IsSeen, IsShaped}
 use Rattle.rowex_walks.proofs.Scans.{node_of, shaped}
-use Rattle.rowex_reading.specs.Turns.{AreAlong, AreRows, AreSomeTurns, AreTips, AreTurns, IsSomeTurn, IsWayTip, IsTurn, StandsAt}
+use Rattle.rowex_reading.specs.Turns.{AreAlong, AreRows, AreSomeTurns, AreTips, AreTurns, IsSomeTurn, IsWayTip, IsTurn, StandsAt, turns_in}
 use Rattle.rowex_reading.specs.Seen.{HasPlace, IsLedTo, RootIs, Sure, seen, since}
 use Rattle.rowex_reading.specs.declared.along.Turn.{Turn}
 use Rattle.rowex_reading.proofs.Led.{rooted_led, shape_place}
@@ -189,6 +191,20 @@ pub along_at : {k : Known} (key : Key) (i depth : ℕ) (rows : List (List (Optio
 along_at key i depth rows None are at = tt
 along_at key i depth rows (Some t) are at = are depth t at
 
--- A row's loads are counted
-pub rounds_more : (count depth n a b c : ℕ) → n ≤ 29 * (depth * count) → a ≤ 3 * count → b ≤ 25 * count → c ≤ count → n + a + b + c ≤ 29 * ((depth + 1) * count)
-rounds_more count depth n a b c low x y z = let e : (depth + 1) * count ≡ depth * count + count = ap (λ m. m * count) (let f : depth + 1 ≡ suc depth = omega arith in f) ∙ suc-mul depth count in omega (arith, low, x, y, z, e)
+-- How many turns there are
+
+-- one place more is filled
+pub turns_then : (row : List (Option Turn)) (i : ℕ) (o : Option Turn) → i < length row → turns_in (take (i + 1) (set row i o)) ≡ turns_in (take i row) + turns_in (o ∷ [])
+turns_then row i o low = ap turns_in (take_more_set row i o low) ∙ sum_by-append (λ t. cond (is_some t) 1 0) (take i row) (o ∷ [])
+
+-- one place more is looked at
+pub turns_next : (row : List (Option Turn)) (i : ℕ) → i < length row → turns_in (take (i + 1) row) ≡ turns_in (take i row) + turns_in (get_or row i None ∷ [])
+turns_next row i low = ap turns_in (take_more row i None low) ∙ sum_by-append (λ t. cond (is_some t) 1 0) (take i row) (get_or row i None ∷ [])
+
+-- no more than places
+pub turns_few : (row : List (Option Turn)) (n : ℕ) → turns_in (take n row) ≤ n
+turns_few row n = let few = count_by-le-length is_some (take n row) in let all = length-take n row in omega (arith, few, all)
+
+-- so the entries of one row more
+pub entries_more : (count depth entries more : ℕ) → entries ≤ depth * count → more ≤ count → entries + more ≤ (depth + 1) * count
+entries_more count depth entries more low few = let e : (depth + 1) * count ≡ depth * count + count = ap (λ m. m * count) (let f : depth + 1 ≡ suc depth = omega arith in f) ∙ suc-mul depth count in omega (arith, low, few, e)

@@ -1,5 +1,5 @@
 -- Ways that keys went, as far as they are remembered.
-use Rattle.std.specs.Prelude.{◌≡◌, ℕ, ◌+◌, ◌<◌, List, slice_get, Option, Some}
+use Rattle.std.specs.Prelude.{◌≡◌, ℕ, ◌+◌, ◌<◌, List, slice_get, Option, Some, is_some, count_by}
 use Rattle.compound_node.specs.declared.entries.Entry.{Entry}
 use Rattle.compound_node.specs.declared.entries.Entry.TheVariants.{Node}
 use Rattle.tries.specs.Keys.{Key}
@@ -26,6 +26,10 @@ pub record IsTurn (k : Known) (key : Key) (t : Turn) : Type 0 where
   pub led : IsLedTo k since (Node t.number height)
   pub shaped : Sure k (λ s. IsShaped s since t.number forks)
   pub place : t.place ≡ spot key forks
+
+-- how many of these places have a turn
+abbrev pub turns_in : List (Option Turn) → ℕ
+turns_in row = count_by is_some row
 
 -- it is a turn of some key
 abbrev pub IsSomeTurn : Known → Turn → Type 0

@@ -1,14 +1,14 @@
 //! Look-ups along ways that are remembered. Several keys go down by turns: what one of them waits for is loaded while the others
 //! go on. Then each is looked up along the way that it went.
 
-ghost use Rattle.std.specs.Prelude.{◌≡◌, ◌+◌, ◌*◌, ◌<◌, ◌≤◌, ℕ, IfSome, IsSome, length};
+ghost use Rattle.std.specs.Prelude.{◌≡◌, ◌+◌, ◌*◌, ◌<◌, ◌≤◌, ℕ, IfSome, IsSome, ◌∷◌, [], length, take};
 ghost use Rattle.compound_node.specs.declared.entries.Entry.TheVariants.{Node as NodeEntry};
 ghost use Rattle.record_words.specs.declared.TheConstants.{HEAD_WORDS};
 ghost use Rattle.rowex_walks.specs.Scan.{IsShaped};
 ghost use Rattle.rowex_table.specs.Seats.{IsSeatOf};
 ghost use Rattle.tries.specs.Place.{spot};
 ghost use Rattle.tries.specs.Tree.{Page};
-ghost use Rattle.rowex_reading.specs.Turns.{AreAlong, AreRows, AreSomeTurns, AreTips, AreTurns, IsSomeTurn, IsWayTip, IsTurn, StandsAt};
+ghost use Rattle.rowex_reading.specs.Turns.{AreAlong, AreRows, AreSomeTurns, AreTips, AreTurns, IsSomeTurn, IsWayTip, IsTurn, StandsAt, turns_in};
 ghost use Rattle.rowex_reading.specs.Lookups.{HasFound, HasSearched};
 ghost use Rattle.rowex_reading.specs.Reads.{IsReader, Looks, Reads};
 ghost use Rattle.rowex_reading.specs.Seen.{IsLedTo, Sure};
@@ -16,7 +16,7 @@ ghost use Rattle.rowex_reading.specs.Seen.{IsLedTo, Sure};
 use crate::reading::{load_entry, load_head, load_root, load_value};
 use compound_node::Entry;
 use key_bits::Key;
-use rowex_core::{Gate, Rec};
+use rowex_core::Gate;
 use rowex_table::{HotTable, TableSeat};
 
 /// How many keys go down by turns.
@@ -48,16 +48,18 @@ pub fn go_down<G: Gate>(
     requires pinned { IsSome seat.old.known.pin }
     requires few { count ≤ TOGETHER }
     requires range { first + count ≤ length keys.now }
-    ensures looks { (n : ℕ) × (n ≤ 232 * count) × (entries : ℕ) × Looks table.now G.becomes entries n (seat.old, gate.old) (seat.new, gate.new) }
+    ensures looks { (entries n : ℕ) × (entries ≤ MOST_TURNS * count) × (n ≤ 26 * entries)
+        × Looks table.now G.becomes entries n (seat.old, gate.old) (seat.new, gate.new) }
     ensures rows { AreRows seat.new.known keys.now first result }
 {
     let mut tips = [load_root(table, seat, gate); TOGETHER];
     let mut rows = [[None; TOGETHER]; MOST_TURNS];
-    for depth in 0..MOST_TURNS {
-        touch_each(table, seat, gate, &tips, count);
+    let mut depth = 0;
+    while depth < MOST_TURNS && lead_on(&tips) {
         let row = turn_each(table, seat, gate, keys, first, count, &tips);
         tips = enter_each(table, seat, gate, count, &row);
         rows[depth] = row;
+        depth += 1;
     }
     rows
 }
@@ -135,45 +137,10 @@ fn place_in<G: Gate>(
     }
 }
 
-/// Loads a word of each line on which the tips' heads and keys begin, so that they are at hand when they are read.
-fn touch_each<G: Gate>(
-    table: &HotTable,
-    seat: &mut TableSeat,
-    gate: &mut G,
-    tips: &[Option<Entry>; TOGETHER],
-    count: usize,
-)
-    requires reader { IsReader table.now seat.old }
-    requires few { count ≤ TOGETHER }
-    requires tips { AreTips seat.old.known tips.now }
-    ensures reads { (n : ℕ) × (n ≤ 3 * count) × Reads table.now G.becomes 0 n (seat.old, gate.old) (seat.new, gate.new) }
-{
-    for index in 0..count {
-        touch(table, seat, gate, tips[index]);
-    }
-}
-
-/// Loads words of the record that an entry names.
-fn touch<G: Gate>(table: &HotTable, seat: &mut TableSeat, gate: &mut G, tip: Option<Entry>)
-    requires reader { IsReader table.now seat.old }
-    requires tip { IfSome tip (IsWayTip seat.old.known) }
-    ensures reads { (n : ℕ) × (n ≤ 3) × Reads table.now G.becomes 0 n (seat.old, gate.old) (seat.new, gate.new) }
-{
-    match tip {
-        None => {}
-        Some(Entry::Leaf(number)) => {
-            let rec = Rec::Leaf(number);
-            let start = table.start_of(rec);
-            table.load_fixed_from(seat, gate, rec, start, 2);
-        }
-        Some(Entry::Node { number, .. }) => {
-            let rec = Rec::Node(number);
-            let start = table.start_of(rec);
-            table.load_fixed_from(seat, gate, rec, start, 1);
-            table.load_fixed_from(seat, gate, rec, start, 9);
-            table.load_fixed_from(seat, gate, rec, start, 17);
-        }
-    }
+/// Whether any of these ways has led to a node.
+fn lead_on(tips: &[Option<Entry>; TOGETHER]) -> bool {
+    tips.iter()
+        .any(|tip| matches!(tip, Some(Entry::Node { .. })))
 }
 
 /// The turns of so many keys from the first on, in the nodes to which their ways have led.
@@ -190,7 +157,8 @@ fn turn_each<G: Gate>(
     requires few { count ≤ TOGETHER }
     requires range { first + count ≤ length keys.now }
     requires tips { AreTips seat.old.known tips.now }
-    ensures reads { (n : ℕ) × (n ≤ HEAD_WORDS * count) × Reads table.now G.becomes 0 n (seat.old, gate.old) (seat.new, gate.new) }
+    ensures reads { (n : ℕ) × (n ≤ HEAD_WORDS * turns_in (take count result))
+        × Reads table.now G.becomes 0 n (seat.old, gate.old) (seat.new, gate.new) }
     ensures turns { AreTurns seat.new.known keys.now first result }
 {
     let mut turns = [None; TOGETHER];
@@ -210,7 +178,7 @@ fn turn_at<G: Gate>(
 ) -> Option<Turn>
     requires reader { IsReader table.now seat.old }
     requires tip { IfSome tip (IsWayTip seat.old.known) }
-    ensures reads { (n : ℕ) × (n ≤ HEAD_WORDS) × Reads table.now G.becomes 0 n (seat.old, gate.old) (seat.new, gate.new) }
+    ensures reads { (n : ℕ) × (n ≤ HEAD_WORDS * turns_in (result ∷ [])) × Reads table.now G.becomes 0 n (seat.old, gate.old) (seat.new, gate.new) }
     ensures turn { IfSome result (IsTurn seat.new.known key.now) }
 {
     match tip {
@@ -234,7 +202,7 @@ fn enter_each<G: Gate>(
     requires reader { IsReader table.now seat.old }
     requires few { count ≤ TOGETHER }
     requires turns { AreSomeTurns seat.old.known count turns.now }
-    ensures reads { (n : ℕ) × (n ≤ count) × Reads table.now G.becomes n n (seat.old, gate.old) (seat.new, gate.new) }
+    ensures reads { Reads table.now G.becomes (turns_in (take count turns.now)) (turns_in (take count turns.now)) (seat.old, gate.old) (seat.new, gate.new) }
     ensures tips { AreTips seat.new.known result }
 {
     let mut tips = [None; TOGETHER];
@@ -253,7 +221,7 @@ fn enter<G: Gate>(
 ) -> Option<Entry>
     requires reader { IsReader table.now seat.old }
     requires turn { IfSome turn (IsSomeTurn seat.old.known) }
-    ensures reads { (n : ℕ) × (n ≤ 1) × Reads table.now G.becomes n n (seat.old, gate.old) (seat.new, gate.new) }
+    ensures reads { Reads table.now G.becomes (turns_in (turn ∷ [])) (turns_in (turn ∷ [])) (seat.old, gate.old) (seat.new, gate.new) }
     ensures tip { IfSome result (IsWayTip seat.new.known) }
 {
     match turn {

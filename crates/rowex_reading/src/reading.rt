@@ -33,7 +33,8 @@ pub fn load_root<G: Gate>(table: &HotTable, seat: &mut TableSeat, gate: &mut G) 
 }
 
 /// Loads the head of a node: its numbers, and then the words that have positions and sparse partial keys. All bits of the others
-/// are set, and they are not loaded.
+/// are set, and they are not loaded. Never inline: so the rows stay together in memory, where a search takes them up as vectors.
+#[inline(never)]
 pub fn load_head<G: Gate>(table: &HotTable, seat: &mut TableSeat, gate: &mut G, number: u32) -> Head
     requires reader { IsReader table.now seat.old }
     requires led { (m h : ℕ) × IsLedTo seat.old.known m (NodeEntry number h) }

@@ -1,8 +1,11 @@
 -- No turn, and one more.
-use Rattle.std.proofs.Common.{◌+◌, ◌<◌, arith, length, refl}
+use Rattle.std.proofs.Common.{◌≡◌, ◌+◌, ◌*◌, ◌<◌, ◌≤◌, ◌∙◌, arith, length, refl, subst, take}
+use Rattle.std.proofs.lemmas.List.{length-set}
 use Rattle.std.proofs.lemmas.Option.{slice_get_read}
+use Rattle.record_words.specs.declared.TheConstants.{HEAD_WORDS}
+use Rattle.rowex_reading.specs.Turns.{turns_in}
 use Rattle.rowex_reading.proofs.Led.{reader_then, reads_later, reads_none, reads_trans}
-use Rattle.rowex_reading.proofs.Turning.{no_turns, tip_at, tips_later, turns_later, turns_more}
+use Rattle.rowex_reading.proofs.Turning.{no_turns, tip_at, tips_later, turns_later, turns_more, turns_then}
 use Rattle.rowex_reading.proofs.along.turn_each.Goals as goal
 
 pub loop-index-init : goal.loop-index-init
@@ -10,6 +13,7 @@ loop-index-init g c = record {
   reader = c.requires.reader;
   tips = c.requires.tips;
   turns = no_turns c.args.seat.now.known c.args.keys.now c.args.first 16;
+  places = refl;
   reads = (0, omega arith, reads_none (c.args.seat.now, c.args.gate.now));
 }
 
@@ -29,13 +33,19 @@ loop-index-preserved g c =
       turns = turns_more c.turn_at.new.seat.known keys c.args.first c.loop-index.turns c.loop-index.index c.index-keys-first.result c.turn_at.result
           (turns_later later keys c.args.first c.loop-index.turns i.turns)
           (slice_get_read keys (length keys) (c.args.first + c.loop-index.index) c.index-keys-first.result refl low c.index-keys-first.is) e.turn;
-      reads = (i.reads.0 + e.reads.0, (let a = i.reads.1 in let b = e.reads.1 in omega (arith, a, b)), reads_trans i.reads.2 e.reads.2);
+      places = length-set c.loop-index.turns c.loop-index.index c.turn_at.result ∙ i.places;
+      reads = (
+        i.reads.0 + e.reads.0,
+        (let a = i.reads.1 in let b = e.reads.1 in let more = turns_then c.loop-index.turns c.loop-index.index c.turn_at.result (omega (arith, i.places)) in omega (arith, a, b, more)),
+        reads_trans i.reads.2 e.reads.2,
+      );
     }
 
 pub returns-clause-reads : goal.returns-clause-reads
 returns-clause-reads g c =
-    let i = c.loop-index.invariant in let low = i.reads.1 in
-    (i.reads.0, omega (arith, low, c.loop-index-test.false, c.loop-index.auto.index-end), i.reads.2)
+    let i = c.loop-index.invariant in
+    let all : c.loop-index.index ≡ c.args.count = omega (arith, c.loop-index-test.false, c.loop-index.auto.index-end) in
+    (i.reads.0, subst (λ m. i.reads.0 ≤ HEAD_WORDS * turns_in (take m c.loop-index.turns)) all i.reads.1, i.reads.2)
 
 pub returns-clause-turns : goal.returns-clause-turns
 returns-clause-turns g c = c.loop-index.invariant.turns
