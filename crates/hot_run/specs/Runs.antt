@@ -11,7 +11,7 @@ use Rattle.hot_scripts.specs.declared.fault.RunFault.TheVariants.{Read, Write, M
 use Rattle.hot_scripts.specs.Grammar.{commands_of, most_bytes}
 use Rattle.hot_scripts.specs.Meaning.{line, reply_text, scan_text, script_meaning}
 use Rattle.hot_run.specs.Answers.{Answered, called, refused, listed, IsGranted, answered_command, full_text}
-use Rattle.hot_run.specs.Told.{IsOfSize, WasTold}
+use Rattle.hot_run.specs.Told.{IsSizedFor, WasTold}
 
 -- The answers to commands, on the map as each finds it: a refusal leaves it as it was, so that the others are answered as if the
 -- refused commands weren't there.
@@ -25,7 +25,7 @@ text_told m (listed range scan before after ∷ answers) = scan_text m range ++ 
 -- the earlier ones left, and a command was refused only where that call found no record of the kind free (`IsCommandTold`).
 pub record AreAnswered (nodes leaves : ℕ) (commands : List Command) (text : List ℕ) : Type 0 where
   pub index : TableView
-  pub sized : IsOfSize 1 nodes leaves index
+  pub sized : IsSizedFor commands 1 nodes leaves index
   pub answers : List Answered
   pub front : List Change
   pub told : WasTold index untold 0 tt [] answers front

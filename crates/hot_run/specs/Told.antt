@@ -1,15 +1,19 @@
 -- What a pass of an index is told by the commands of a script, and its gate by their steps.
-use Rattle.std.specs.Prelude.{◌≡◌, ℕ, ◌≤◌, ◌++◌, List, [], ◌∷◌, length}
+use Rattle.std.specs.Prelude.{◌≡◌, ℕ, ◌<◌, ◌≤◌, ◌++◌, All, List, [], ◌∷◌, length}
 use Rattle.finite_map.specs.declared.Change.{Change}
 use Rattle.finite_map.specs.declared.Note.{Note}
 use Rattle.finite_map.specs.Calls.{LegalCalls}
 use Rattle.finite_map.specs.Fronts.{BeginsWith}
 use Rattle.record_words.specs.declared.layout.Layout.{Layout}
+use Rattle.record_words.specs.Layout.{leaf_size}
+use Rattle.record_words.specs.Leaf.{words_for}
 use Rattle.rowex_core.specs.declared.event.Event.{Event}
 use Rattle.rowex_table.specs.Seats.{TableView}
 use Rattle.hot_index.specs.Answers.{IsRefused, IsScanned, MayLack, fault_of}
 use Rattle.hot_index.specs.Passes.{PassView, AreByPasses, Owns}
 use Rattle.hot_index.specs.Traces.{HasTold}
+use Rattle.hot_scripts.specs.declared.command.Command.{Command}
+use Rattle.hot_scripts.specs.Grammar.{called_key}
 use Rattle.hot_run.specs.Answers.{Answered, called, refused, listed}
 
 -- The pass has made a call, which stands behind all that it had seen before.
@@ -42,6 +46,17 @@ pub record IsOfSize (passes nodes leaves : ℕ) (index : TableView) : Type 0 whe
   pub nodes_are : index.layout.nodes ≡ nodes
   pub leaves_are : index.layout.leaves ≡ leaves
   pub all_long : index.layout.long_from ≡ 0
+
+-- each leaf record has room for the key of the call
+abbrev pub HasRoomFor : Layout → Command → Type 0
+HasRoomFor layout command = (leaf : ℕ) → leaf < layout.leaves → words_for (length (called_key command)) ≤ leaf_size layout leaf
+
+-- an index of so many passes, and of so many node and leaf records, each of which has room for the key of each of these calls
+pub record IsSizedFor (commands : List Command) (passes nodes leaves : ℕ) (index : TableView) : Type 0 where
+  pub passes_are : index.layout.passes ≡ passes
+  pub nodes_are : index.layout.nodes ≡ nodes
+  pub leaves_are : index.layout.leaves ≡ leaves
+  pub room : All (HasRoomFor index.layout) commands
 
 -- The pass of this number, which had seen these changes, was told the answers by the index, and has seen these changes then. Its
 -- gate, which was this one, was told the steps.

@@ -1,14 +1,18 @@
 //! Runs of scripts on an ordered index.
 #![tactic(auto)]
 
-ghost use Rattle.std.specs.Prelude.{◌≡◌, ◌≢◌, ◌+◌, ◌≤◌, List, ℕ, [], IfOk, OnOk, IfErr, length};
+ghost use Rattle.std.specs.Prelude.{◌≡◌, ◌≢◌, ◌+◌, ◌<◌, ◌≤◌, List, ℕ, [], IfOk, OnOk, IfErr, length};
 ghost use Rattle.std.specs.Io.KnownBytes.{Appends};
+ghost use Rattle.key_bits.specs.declared.TheConstants.{MAX_BYTES};
+ghost use Rattle.record_words.specs.declared.layout.Layout.{Layout};
+ghost use Rattle.record_words.specs.Layout.{HasStock, leaf_size, leaves_of};
+ghost use Rattle.record_words.specs.Leaf.{words_for};
 ghost use Rattle.record_words.specs.Limits.{IsLeafCount, IsNodeCount};
 ghost use Rattle.hot_scripts.specs.Parses.{script_commands};
 ghost use Rattle.hot_run.specs.Progress.{IsNewPassOf};
 ghost use Rattle.hot_run.specs.Runs.{AreAnswered, IsAnsweredScript, TakesAll, MayEndBy};
 ghost use Rattle.hot_run.specs.Scripts.{AllFrom};
-ghost use Rattle.hot_run.specs.Told.{IsOfSize};
+ghost use Rattle.hot_run.specs.Told.{IsOfSize, IsSizedFor};
 
 mod answer;
 mod callers;
@@ -18,10 +22,11 @@ mod streams;
 mod together;
 
 use callers::Alone;
-use hot_index::{Index, IndexFault, NoGate, Pass, create};
+use hot_index::{Index, IndexFault, NoGate, Pass, Stock, create, create_with};
 pub use hot_scripts::fault::{Reason, RunFault};
 use hot_scripts::script::Script;
 pub use hot_scripts::script::{MAX_FILES, MAX_SCRIPT};
+use record_words::LeafClass;
 pub use record_words::{MAX_LEAVES, MAX_NODES};
 pub use scripts::{run_scripts, run_scripts_with};
 use std::alloc::Global;
@@ -65,9 +70,45 @@ fn answer_one(alloc: Global, nodes: u32, leaves: u32, script: &Script) -> Result
     ensures ok { IfOk result (λ text. AreAnswered nodes leaves (script_commands script.now) text.items) }
     ensures fault { IfErr result (λ fault. fault ≡ RunFault.Memory) }
 {
-    let (index, _, mut pass) = new_index(alloc, 0, nodes, leaves)?;
+    let (index, mut pass) = index_for(alloc, nodes, leaves, script)?;
     let text = engine::run(&Alone, alloc, &index, &mut pass, script, &mut NoGate)?;
     Ok(text)
+}
+
+/// An empty index for a script, and its only pass. All leaf records are of the smallest class with room for the keys of the
+/// script's calls: a scan takes less time if the records are close together.
+fn index_for(
+    alloc: Global,
+    nodes: u32,
+    leaves: u32,
+    script: &Script,
+) -> Result<(Index, Pass), RunFault>
+    requires nodes { IsNodeCount nodes }
+    requires leaves { IsLeafCount leaves }
+    ensures sized { IfOk result (λ made. IsSizedFor (script_commands script.now) 1 nodes leaves made.0) }
+    ensures pass { IfOk result (λ made. IsNewPassOf made.0 0 made.1) }
+    ensures fault { IfErr result (λ fault. fault ≡ RunFault.Memory) }
+{
+    let stock = stock_for(nodes, leaves, script.longest_key());
+    let (index, mut passes) = match create_with(alloc, 1, stock) {
+        Ok(made) => made,
+        Err(IndexFault::Memory) => return Err(RunFault::Memory),
+        Err(IndexFault::Layout(_)) => unreachable!(),
+    };
+    match passes.pop() {
+        Some(pass) => Ok((index, pass)),
+        None => unreachable!(),
+    }
+}
+
+/// So many node records, and so many leaf records, all of the smallest class with room for keys of so many bytes.
+fn stock_for(nodes: u32, leaves: u32, longest: usize) -> Stock
+    ensures nodes { result.nodes ≡ nodes }
+    ensures leaves { leaves_of result ≡ leaves }
+    ensures room { (layout : Layout) (leaf bytes : ℕ) → HasStock layout result → leaf < layout.leaves →
+        bytes ≤ longest → bytes ≤ MAX_BYTES → words_for bytes ≤ leaf_size layout leaf }
+{
+    Stock::of_class(nodes, LeafClass::for_key(longest), leaves)
 }
 
 /// An empty index, the passes for this number of files, in the order of their numbers from 0 on, and the pass of the last script.

@@ -1,5 +1,5 @@
 -- The grammar of a script: its lines, their words, and what a line asks for.
-use Rattle.std.specs.Prelude.{ℕ, ◌+◌, ◌^◌, ◌==◌, ◌&&◌, nat_lt, nat_le, Bool, List, [], ◌∷◌, length, map, filter_map, Option, Some, None, Result, Ok, Err, if◌then◌else◌, codes}
+use Rattle.std.specs.Prelude.{ℕ, ◌≤◌, ◌+◌, ◌^◌, ◌==◌, ◌&&◌, nat_lt, nat_le, Bool, List, [], ◌∷◌, length, map, filter_map, Option, Some, None, Result, Ok, Err, if◌then◌else◌, codes}
 use Rattle.std.specs.List.{slice_split, list_all}
 use Rattle.std.specs.Str.{bytes_eq}
 use Rattle.std.specs.Str.Parse.{digits_value}
@@ -8,6 +8,7 @@ use Rattle.hex.specs.Hex.{decode_of}
 use Rattle.hex.specs.declared.error.FromHexError.{FromHexError}
 use Rattle.finite_map.specs.declared.Call.{Call}
 use Rattle.finite_map.specs.declared.Call.TheVariants.{Get, Remove, Insert, Upsert}
+use Rattle.finite_map.specs.Maps.{key_of}
 use Rattle.hot_scripts.specs.declared.command.Command.{Command}
 use Rattle.hot_scripts.specs.declared.command.Command.TheVariants.{Call as Asks, Scan}
 use Rattle.hot_scripts.specs.declared.command.Version.{Version}
@@ -133,3 +134,12 @@ commands_from n readings = unless_bad (first_bad n readings) (filter_map asked r
 -- the commands of a script, or its first bad line, counted from 1, and what is wrong with it
 abbrev pub commands_of : List ℕ → Result (List Command) (ℕ × Reason)
 commands_of script = commands_from 1 (readings_of (lines_of script))
+
+-- the key of a call; the empty one of a scan
+abbrev pub called_key : Command → List ℕ
+called_key (Asks call) = key_of call
+called_key (Scan range) = []
+
+-- the call's key has at most so many bytes
+abbrev pub HasKeyUpTo : ℕ → Command → Type 0
+HasKeyUpTo most command = length (called_key command) ≤ most

@@ -1,13 +1,16 @@
 //! A whole script: the check of its lines, and its commands, each read again where it is asked for.
 
-ghost use Rattle.std.specs.Prelude.{◌≡◌, ◌+◌, ◌^◌, ◌<◌, ◌≤◌, length, vec_len};
-ghost use Rattle.hot_scripts.specs.Grammar.{commands_of, first_bad};
-ghost use Rattle.hot_scripts.specs.Parses.{Gives, IsOpening, Parses, script_commands, commands_left, readings_left};
+ghost use Rattle.std.specs.Prelude.{◌≡◌, ◌+◌, ◌^◌, ◌<◌, ◌≤◌, All, IfErr, IfOk, IfSome, None, Some, filter_map, length, vec_len};
+ghost use Rattle.finite_map.specs.Maps.{key_of};
+ghost use Rattle.key_bits.specs.declared.TheConstants.{MAX_BYTES};
+ghost use Rattle.hot_scripts.specs.Grammar.{HasKeyUpTo, asked, commands_of, first_bad, lines_of, readings_of};
 ghost use Rattle.hot_scripts.specs.Words.{text_len};
 
 use crate::command::{Command, Version};
 use crate::fault::{Reason, RunFault};
 use crate::line::{cut, reading};
+use finite_map::Call;
+use key_bits::Key;
 
 /// The most bytes that a script may have.
 pub const MAX_SCRIPT: usize = 1_048_576;
@@ -19,6 +22,10 @@ pub const MAX_FILES: usize = 63;
 #[derive(Drop)]
 pub struct Script {
     text: Vec<u8>,
+    /// No key of its calls has more bytes.
+    longest: usize,
+    ghost keys_fit: { All (HasKeyUpTo longest) (filter_map asked (readings_of (lines_of text.items))) },
+    ghost is_key: { longest ≤ MAX_BYTES },
 }
 
 /// The commands of a script that are left: the text of their lines, if there is one.
@@ -29,28 +36,40 @@ pub struct Commands<'a> {
 }
 
 impl Script {
+    ghost use Rattle.hot_scripts.specs.Parses.{Parses, script_commands, commands_left};
+
     /// The script of this text, or its first bad line.
     pub fn parse(text: Vec<u8>) -> Result<Script, RunFault>
         requires { vec_len text ≤ MAX_SCRIPT }
         ensures { Parses result (commands_of text.items) }
     {
-        let (first, commands) = opening(&text);
-        match first_bad(first, commands) {
-            Some((line, reason)) => Err(RunFault::Script { line, reason }),
-            None => Ok(Script { text }),
+        let (first, commands) = Commands::opening(&text);
+        match commands.longest_key(first) {
+            Err((line, reason)) => Err(RunFault::Script { line, reason }),
+            Ok(longest) => Ok(Script { text, longest }),
         }
+    }
+
+    /// How many bytes the longest key of its calls has, or 0 if it has no call.
+    pub fn longest_key(&self) -> usize
+        ensures keys { All (HasKeyUpTo result) (script_commands self.now) }
+        ensures few { result ≤ MAX_BYTES }
+    {
+        self.longest
     }
 
     /// Its commands, from the first one on.
     pub fn commands(&self) -> Commands<'_>
         ensures { commands_left result ≡ script_commands self.now }
     {
-        let (_, commands) = opening(&self.text);
+        let (_, commands) = Commands::opening(&self.text);
         commands
     }
 }
 
 impl<'a> Commands<'a> {
+    ghost use Rattle.hot_scripts.specs.Parses.{Gives, IsOpening, commands_left, readings_left};
+
     /// The next command, if there is one.
     pub fn next_command(&mut self) -> Option<Command>
         ensures { Gives (commands_left self.old) result (commands_left self.new) }
@@ -64,43 +83,78 @@ impl<'a> Commands<'a> {
         }
         None
     }
-}
 
-/// The number of the first line that may have a command, and the commands from there on.
-fn opening(script: &[u8]) -> (u32, Commands<'_>)
-    ensures { IsOpening script.now result.0 result.1 }
-{
-    let (first, rest) = cut(b'\n', script);
-    if first == b"hot 2".as_slice() {
-        let version = Version::Second;
-        (
-            2,
-            Commands {
-                version,
-                left: rest,
-            },
-        )
-    } else {
-        let version = Version::First;
-        let left = Some(script);
-        (1, Commands { version, left })
-    }
-}
-
-/// The number of the first bad line and what is wrong with it, where the first of these lines has the number `first`.
-fn first_bad(first: u32, commands: Commands<'_>) -> Option<(u32, Reason)>
-    requires { first + text_len commands.left < 2 ^ 32 }
-    ensures { result ≡ first_bad first (readings_left commands.entry) }
-{
-    let mut number = first;
-    let mut left = commands.left;
-    while let Some(text) = left {
-        let (line, rest) = cut(b'\n', text);
-        if let Err(reason) = reading(commands.version, line) {
-            return Some((number, reason));
+    /// The number of the first line that may have a command, and the commands from there on.
+    fn opening(script: &'a [u8]) -> (u32, Commands<'a>)
+        ensures { IsOpening script.now result.0 result.1 }
+    {
+        let (first, rest) = cut(b'\n', script);
+        if first == b"hot 2".as_slice() {
+            let version = Version::Second;
+            (
+                2,
+                Commands {
+                    version,
+                    left: rest,
+                },
+            )
+        } else {
+            let version = Version::First;
+            let left = Some(script);
+            (1, Commands { version, left })
         }
-        number += 1;
-        left = rest;
     }
-    None
+
+    /// The most bytes that the key of a call in these lines has. If a line is bad, it gives the number of the first such line, where
+    /// the first line has the number `first`, and what is wrong with it.
+    fn longest_key(self, first: u32) -> Result<usize, (u32, Reason)>
+        requires { first + text_len self.left < 2 ^ 32 }
+        ensures good { IfOk result (λ longest. first_bad first (readings_left self.entry) ≡ None) }
+        ensures keys { IfOk result (λ longest. All (HasKeyUpTo longest) (commands_left self.entry)) }
+        ensures few { IfOk result (λ longest. longest ≤ MAX_BYTES) }
+        ensures bad { IfErr result (λ fault. first_bad first (readings_left self.entry) ≡ Some fault) }
+    {
+        let mut number = first;
+        let mut left = self.left;
+        let mut longest = 0;
+        while let Some(text) = left {
+            let (line, rest) = cut(b'\n', text);
+            match reading(self.version, line) {
+                Ok(command) => longest = larger(longest, key_bytes(&command)),
+                Err(reason) => return Err((number, reason)),
+            }
+            number += 1;
+            left = rest;
+        }
+        Ok(longest)
+    }
+}
+
+/// How many bytes the key of a call has; 0 if there is no call.
+fn key_bytes(command: &Option<Command>) -> usize
+    ensures key { IfSome command.now (HasKeyUpTo result) }
+    ensures few { result ≤ MAX_BYTES }
+{
+    match command {
+        Some(Command::Call(call)) => key_of(call).as_bytes().len(),
+        Some(Command::Scan(_)) | None => 0,
+    }
+}
+
+/// The key of a call.
+fn key_of(call: &Call) -> &Key
+    ensures { result.now ≡ key_of call.now }
+{
+    match call {
+        Call::Insert(key, _) | Call::Upsert(key, _) | Call::Exchange(key, _, _) => key,
+        Call::Get(key) | Call::Remove(key) | Call::RemoveIf(key, _) => key,
+    }
+}
+
+/// The larger of two numbers.
+fn larger(first: usize, second: usize) -> usize
+    ensures bound { (first ≤ result) × (second ≤ result) }
+    ensures few { first ≤ MAX_BYTES → second ≤ MAX_BYTES → result ≤ MAX_BYTES }
+{
+    if first < second { second } else { first }
 }

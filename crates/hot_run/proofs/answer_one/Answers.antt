@@ -12,7 +12,7 @@ returns-clause-ok c =
     let pass = c.in_ok-index.pass in
     let made = c.in_ok-index.ensures in
     let ran = c.in_ok-text.ensures.ran in
-    let alone = alone_at_first index pass made.sized.passes_are made.last.1 in
+    let alone = alone_at_first index pass made.sized.passes_are made.pass.1 in
     record {
       index = index;
       sized = made.sized;
@@ -22,12 +22,12 @@ returns-clause-ok c =
         first = pass;
         last = c.run.new.pass;
         gate_then = tt;
-        own = made.last.0;
-        number = made.last.1.0;
-        begins = made.last.1.1;
+        own = made.pass.0;
+        number = made.pass.1.0;
+        begins = made.pass.1.1;
         ends = refl;
         told = AreTold-untold index _ _ _ ran.answers ran.told;
       };
       commands_are = ran.commands_are;
-      text_is = ran.text_is ∙ told_alone index _ _ _ alone ran.answers ran.told ∙ ap (λ f. text_told (map_of f) ran.answers) made.last.1.1;
+      text_is = ran.text_is ∙ told_alone index _ _ _ alone ran.answers ran.told ∙ ap (λ f. text_told (map_of f) ran.answers) made.pass.1.1;
     }
