@@ -3,7 +3,6 @@ pub mod Keeping
 pub mod Dealing
 pub mod Stamps
 pub mod Rights
-pub mod RootRights
 pub mod Running
 pub mod ActsBefore
 pub mod ActsAfter
