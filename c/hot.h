@@ -186,7 +186,7 @@ hot_status hot_remove_if(hot_handle *handle, const uint8_t *key, size_t length, 
  * the index meanwhile: each pair was there at some moment of the call, and no key is missing that was there all along (if there
  * are more, no key up to the last one listed). To go on, begin at the key that hot_after gives for the last pair. It makes at
  * most 168606 steps, and 59 for each pair of the limit.
- * HOT_DONE; or HOT_KEY_TOO_LONG, HOT_CLOSED, HOT_NO_MEMORY, and then nothing was written. */
+ * HOT_DONE; or HOT_KEY_TOO_LONG, HOT_CLOSED, HOT_NO_MEMORY (only if it had a pair to list), and then nothing was written. */
 hot_status hot_scan(hot_handle *handle, const uint8_t *from, size_t from_length, const uint8_t *upto, size_t upto_length,
                     hot_pair *pairs, size_t limit, size_t *count, uint32_t *more);
 
@@ -221,12 +221,12 @@ hot_status hot_scan_prefix(hot_handle *handle, const uint8_t *prefix, size_t len
 
 /* Writes the first pair whose key is `from` or above, by a scan for one pair; from an empty key on, that is the first pair of
  * all. Nothing is written unless it is found. It makes at most 168665 steps.
- * HOT_FOUND, HOT_ABSENT; or HOT_KEY_TOO_LONG, HOT_CLOSED, HOT_NO_MEMORY. */
+ * HOT_FOUND, HOT_ABSENT; or HOT_KEY_TOO_LONG, HOT_CLOSED, HOT_NO_MEMORY (only if there was a pair). */
 hot_status hot_first(hot_handle *handle, const uint8_t *from, size_t length, hot_pair *pair);
 
 /* Writes the last pair whose key is `upto` or below, by a scan downwards for one pair; up to a key of HOT_MAX_KEY bytes of 255,
  * that is the last pair of all. Nothing is written unless it is found. It makes at most 168665 steps.
- * HOT_FOUND, HOT_ABSENT; or HOT_KEY_TOO_LONG, HOT_CLOSED, HOT_NO_MEMORY. */
+ * HOT_FOUND, HOT_ABSENT; or HOT_KEY_TOO_LONG, HOT_CLOSED, HOT_NO_MEMORY (only if there was a pair). */
 hot_status hot_last(hot_handle *handle, const uint8_t *upto, size_t length, hot_pair *pair);
 
 /* Gives back records that changes have unlinked and that no call can reach any more, and writes how many. Programs need not call

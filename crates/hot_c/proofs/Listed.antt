@@ -2,7 +2,7 @@
 use Rattle.std.proofs.Common.{◌≡◌, ℕ, List, length, Option, None, Some, inl, inr, sym, ◌∙◌, subst}
 use Rattle.finite_map.specs.declared.Scan.{Scan}
 use Rattle.record_words.specs.declared.layout.Layout.{Layout}
-use Rattle.hot_index.specs.Answers.{IsUnnoted}
+use Rattle.hot_index.specs.Answers.{HasFoundPair, IsUnnoted}
 use Rattle.hot_index.specs.Passes.{PassView}
 use Rattle.hot_index.specs.Traces.{HasGotRange, untold}
 use Rattle.hot_c.specs.Calls.{FitsInKey, IsArrayListed, Listing, ListsBy}
@@ -31,11 +31,15 @@ module _ (IsMade : Layout → PassView → PassView → List ℕ → List ℕ �
         read = λ some f t. record { before = s; after = u; was = was; is = is; index = index; became = subst (Reads s u) many reads };
       }
 
-  pub unlisted : (from upto : List ℕ) (old new : Option Opened) (before after : Listing) (status limit : ℕ) (s u : Opened) → old ≡ Some s → new ≡ Some u → u.index ≡ s.index
-      → FitsInKey from → FitsInKey upto → limit ≡ length before.room → IsUnnoted s.index.value.layout s.pass u.pass → Reads s u limit → status ≡ NO_MEMORY → after ≡ before → ListsBy IsMade from upto old new before after status
-  unlisted from upto old new before after status limit s u was is index first last many unnoted reads full kept = record {
-    closed = λ none. absurd (none_is_some s (sym none ∙ was));
-    long = λ some no. absurd (no (first, last));
-    made = λ some f t. inr (full, record { before = s; after = u; was = was; is = is; index = index; became = unnoted }, kept);
-    read = λ some f t. record { before = s; after = u; was = was; is = is; index = index; became = subst (Reads s u) many reads };
-  }
+  pub unlisted : (from upto k l : List ℕ) (old new : Option Opened) (before after : Listing) (status limit : ℕ) (s u : Opened) → old ≡ Some s → new ≡ Some u → u.index ≡ s.index
+      → (k ≡ from) × FitsInKey from → (l ≡ upto) × FitsInKey upto → limit ≡ length before.room → IsUnnoted s.index.value.layout s.pass u.pass → HasFoundPair s.index.value.layout s.pass u.pass k l limit → Reads s u limit → status ≡ NO_MEMORY → after ≡ before → ListsBy IsMade from upto old new before after status
+  unlisted from upto k l old new before after status limit s u was is index first last many unnoted pair reads full kept =
+      let here = subst (λ (x : List ℕ). HasFoundPair s.index.value.layout s.pass u.pass x upto (length before.room)) first.0
+      (subst (λ (x : List ℕ). HasFoundPair s.index.value.layout s.pass u.pass k x (length before.room)) last.0
+      (subst (λ (n : ℕ). HasFoundPair s.index.value.layout s.pass u.pass k l n) many pair)) in
+      record {
+        closed = λ none. absurd (none_is_some s (sym none ∙ was));
+        long = λ some no. absurd (no (first.1, last.1));
+        made = λ some f t. inr (full, record { before = s; after = u; was = was; is = is; index = index; became = (unnoted, here) }, kept);
+        read = λ some f t. record { before = s; after = u; was = was; is = is; index = index; became = subst (Reads s u) many reads };
+      }

@@ -12,7 +12,7 @@ use Rattle.record_words.specs.declared.layout.Layout.{Layout}
 use Rattle.record_words.specs.declared.layout.Stock.{Stock}
 use Rattle.rowex_table.specs.Seats.{TableView}
 use Rattle.rowex_writing.specs.declared.attempts.TryFault.{TryFault}
-use Rattle.hot_index.specs.Answers.{IsNoted, IsRefused, IsScanned, IsUnnoted}
+use Rattle.hot_index.specs.Answers.{HasFoundPair, IsNoted, IsRefused, IsScanned, IsUnnoted}
 use Rattle.hot_index.specs.Census.{HasCounted}
 use Rattle.hot_index.specs.Passes.{PassView, IsNewPass}
 use Rattle.hot_index.specs.Reverse.{IsReverseScanned}
@@ -71,8 +71,8 @@ pub record IsArrayListed (scan : Scan) (before after : Listing) : Type 0 where
   pub more : after.more ≡ from_bool scan.more
 
 -- A scan through a handle, of as many pairs as the array has places. A closed handle and a key that is too long are told as
--- such, and nothing has changed; else the scan is made and listed, or there is no memory and nothing is listed. Either way it makes
--- the steps of a scan, so many at most.
+-- such, and nothing has changed; else the scan is made and listed, or there is no memory for a pair that it found and nothing is
+-- listed. Either way it makes the steps of a scan, so many at most.
 pub record ListsBy (IsMade : Layout → PassView → PassView → List ℕ → List ℕ → ℕ → Scan → Type 0)
     (from upto : List ℕ) (old new : Option Opened) (before after : Listing) (status : ℕ) : Type 0 where
   pub closed : old ≡ None → (status ≡ CLOSED) × (new ≡ old) × (after ≡ before)
@@ -80,7 +80,8 @@ pub record ListsBy (IsMade : Layout → PassView → PassView → List ℕ → L
   pub made : IsSome old → FitsInKey from → FitsInKey upto →
       ((status ≡ DONE) × (scan : Scan) ×
       StaysOpen (λ index k j. IsMade index.layout k j from upto (length before.room) scan) old new × IsArrayListed scan before after)
-      ⊎ ((status ≡ NO_MEMORY) × StaysOpen (λ index k j. IsUnnoted index.layout k j) old new × (after ≡ before))
+      ⊎ ((status ≡ NO_MEMORY) × StaysOpen (λ index k j. IsUnnoted index.layout k j × HasFoundPair index.layout k j from upto (length before.room)) old new
+      × (after ≡ before))
   pub read : IsSome old → FitsInKey from → FitsInKey upto → StaysOpen (λ index k j. HasGotRange index untold (length before.room) (k, tt) (j, tt)) old new
 
 -- from the first key on, or from the last one downwards

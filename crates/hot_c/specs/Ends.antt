@@ -1,10 +1,11 @@
 -- What calls of a program in C for the ends of a range say: its first pair, its last one, and its last ones in rising order.
-use Rattle.std.specs.Prelude.{◌≡◌, ◌⊎◌, ℕ, List, Option, Some, None, IsSome}
+use Rattle.std.specs.Prelude.{◌≡◌, ◌⊎◌, ℕ, List, [], Option, Some, None, IsSome}
 use Rattle.record_words.specs.declared.layout.Layout.{Layout}
-use Rattle.hot_index.specs.Answers.{IsUnnoted}
+use Rattle.hot_index.specs.Answers.{HasFoundPair, IsUnnoted}
 use Rattle.hot_index.specs.Passes.{PassView}
 use Rattle.hot_index.specs.Ranges.{IsFirstFound}
 use Rattle.hot_index.specs.Reverse.{IsLastFound}
+use Rattle.key_ranges.specs.Ranges.{last_with}
 use Rattle.hot_index.specs.Traces.{HasGotRange, untold}
 use Rattle.hot_c.specs.Calls.{FitsInKey, Listing, ListsBy, StaysOpen}
 use Rattle.hot_c.specs.Lasts.{IsLastScanned}
@@ -18,23 +19,23 @@ abbrev pub IsPairTold : Option (List ℕ × ℕ) → Pair → Pair → ℕ → T
 IsPairTold None before after status = (status ≡ ABSENT) × (after ≡ before)
 IsPairTold (Some pair) before after status = (status ≡ FOUND) × Spells pair after
 
--- A search through a handle for the one pair at this key. A closed handle and a key that is too long are told as such, and nothing has
--- changed; else it is made and what it found is told, or there is no memory and C's pair is as it was. Either way it makes the steps of a
--- scan for one pair, so many at most.
+-- A search through a handle for the one pair at this key. A closed handle and a key that is too long are told as such, and nothing
+-- has changed; else it is made and what it found is told, or there is no memory for a pair and C's is as it was. Either way it
+-- makes the steps of a scan for one pair, so many at most.
 pub record FindsBy (IsFound : Layout → PassView → PassView → List ℕ → Option (List ℕ × ℕ) → Type 0)
-    (key : List ℕ) (old new : Option Opened) (before after : Pair) (status : ℕ) : Type 0 where
+    (HasPair : Layout → PassView → PassView → List ℕ → Type 0) (key : List ℕ) (old new : Option Opened) (before after : Pair) (status : ℕ) : Type 0 where
   pub closed : old ≡ None → (status ≡ CLOSED) × (new ≡ old) × (after ≡ before)
   pub long : IsSome old → ¬ FitsInKey key → (status ≡ KEY_TOO_LONG) × (new ≡ old) × (after ≡ before)
   pub made : IsSome old → FitsInKey key →
       ((found : Option (List ℕ × ℕ)) × StaysOpen (λ index k j. IsFound index.layout k j key found) old new × IsPairTold found before after status)
-      ⊎ ((status ≡ NO_MEMORY) × StaysOpen (λ index k j. IsUnnoted index.layout k j) old new × (after ≡ before))
+      ⊎ ((status ≡ NO_MEMORY) × StaysOpen (λ index k j. IsUnnoted index.layout k j × HasPair index.layout k j key) old new × (after ≡ before))
   pub read : IsSome old → FitsInKey key → StaysOpen (λ index k j. HasGotRange index untold 1 (k, tt) (j, tt)) old new
 
 abbrev pub FindsFirst : List ℕ → Option Opened → Option Opened → Pair → Pair → ℕ → Type 0
-FindsFirst = FindsBy IsFirstFound
+FindsFirst = FindsBy IsFirstFound (λ layout k j from. HasFoundPair layout k j from (last_with []) 1)
 
 abbrev pub FindsLast : List ℕ → Option Opened → Option Opened → Pair → Pair → ℕ → Type 0
-FindsLast = FindsBy IsLastFound
+FindsLast = FindsBy IsLastFound (λ layout k j upto. HasFoundPair layout k j [] upto 1)
 
 abbrev pub ListsLast : List ℕ → List ℕ → Option Opened → Option Opened → Listing → Listing → ℕ → Type 0
 ListsLast = ListsBy IsLastScanned

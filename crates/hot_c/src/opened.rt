@@ -1,10 +1,10 @@
 //! What an open handle holds.
 
-ghost use Rattle.std.specs.Prelude.{◌≡◌, ◌≢◌, Err, IfOk, MatchResult, OnErr, length};
+ghost use Rattle.std.specs.Prelude.{[], ◌≡◌, ◌≢◌, Err, IfOk, MatchResult, OnErr, length};
 ghost use Rattle.finite_map.specs.declared.Call.TheVariants.{Get};
 ghost use Rattle.rowex_writing.specs.Asking.{aim_of};
 ghost use Rattle.rowex_writing.specs.Attempts.{asked_call};
-ghost use Rattle.hot_index.specs.Answers.{IsNoted, IsRefused, IsScanned, IsUnnoted, got};
+ghost use Rattle.hot_index.specs.Answers.{HasFoundPair, IsNoted, IsRefused, IsScanned, IsUnnoted, got};
 ghost use Rattle.hot_index.specs.Census.{HasCounted};
 ghost use Rattle.hot_index.specs.Many.{AreNoted, HasGotMany, gets};
 ghost use Rattle.hot_index.specs.Passes.{Owns};
@@ -12,6 +12,7 @@ ghost use Rattle.hot_index.specs.Ranges.{IsFirstFound};
 ghost use Rattle.hot_index.specs.Reverse.{IsLastFound, IsReverseScanned};
 ghost use Rattle.hot_index.specs.Traces.{HasCollected, HasGot, HasGotRange, HasMade, untold};
 ghost use Rattle.hot_c.specs.Lasts.{IsLastScanned};
+ghost use Rattle.key_ranges.specs.Ranges.{last_with};
 
 use hot_index::{Given, Index, Pass, RecordCounts, Reply, Scan, TryFault};
 use key_bits::Key;
@@ -81,6 +82,7 @@ impl Opened {
         ensures index { self.new.index ≡ self.old.index }
         ensures ok { IfOk result (IsScanned self.old.index.value.layout self.old.pass self.new.pass from.now upto.now limit) }
         ensures err { OnErr result (IsUnnoted self.old.index.value.layout self.old.pass self.new.pass) }
+        ensures memory { OnErr result (HasFoundPair self.old.index.value.layout self.old.pass self.new.pass from.now upto.now limit) }
         ensures read { HasGotRange self.old.index.value untold limit (self.old.pass, tt) (self.new.pass, tt) }
     {
         self.index.scan(alloc, &mut self.pass, from, upto, limit)
@@ -97,6 +99,7 @@ impl Opened {
         ensures index { self.new.index ≡ self.old.index }
         ensures ok { IfOk result (IsReverseScanned self.old.index.value.layout self.old.pass self.new.pass from.now upto.now limit) }
         ensures err { OnErr result (IsUnnoted self.old.index.value.layout self.old.pass self.new.pass) }
+        ensures memory { OnErr result (HasFoundPair self.old.index.value.layout self.old.pass self.new.pass from.now upto.now limit) }
         ensures read { HasGotRange self.old.index.value untold limit (self.old.pass, tt) (self.new.pass, tt) }
     {
         self.index
@@ -114,6 +117,7 @@ impl Opened {
         ensures index { self.new.index ≡ self.old.index }
         ensures ok { IfOk result (IsLastScanned self.old.index.value.layout self.old.pass self.new.pass from.now upto.now limit) }
         ensures err { OnErr result (IsUnnoted self.old.index.value.layout self.old.pass self.new.pass) }
+        ensures memory { OnErr result (HasFoundPair self.old.index.value.layout self.old.pass self.new.pass from.now upto.now limit) }
         ensures read { HasGotRange self.old.index.value untold limit (self.old.pass, tt) (self.new.pass, tt) }
     {
         let mut scan = self
@@ -128,6 +132,7 @@ impl Opened {
         ensures index { self.new.index ≡ self.old.index }
         ensures ok { IfOk result (IsFirstFound self.old.index.value.layout self.old.pass self.new.pass from.now) }
         ensures err { OnErr result (IsUnnoted self.old.index.value.layout self.old.pass self.new.pass) }
+        ensures memory { OnErr result (HasFoundPair self.old.index.value.layout self.old.pass self.new.pass from.now (last_with []) 1) }
         ensures read { HasGotRange self.old.index.value untold 1 (self.old.pass, tt) (self.new.pass, tt) }
     {
         self.index.first(alloc, &mut self.pass, from)
@@ -138,6 +143,7 @@ impl Opened {
         ensures index { self.new.index ≡ self.old.index }
         ensures ok { IfOk result (IsLastFound self.old.index.value.layout self.old.pass self.new.pass upto.now) }
         ensures err { OnErr result (IsUnnoted self.old.index.value.layout self.old.pass self.new.pass) }
+        ensures memory { OnErr result (HasFoundPair self.old.index.value.layout self.old.pass self.new.pass [] upto.now 1) }
         ensures read { HasGotRange self.old.index.value untold 1 (self.old.pass, tt) (self.new.pass, tt) }
     {
         self.index.last(alloc, &mut self.pass, upto)

@@ -23,4 +23,4 @@ pub returns-in-Err : goal.returns-in-Err
 returns-in-Err c =
     let first = of_key c.args.from.now _ _ c.in-Ok-Ok.is-0 c.from_bytes.ensures.fits c.from_bytes.ensures.ok in
     let last = of_key c.args.upto.now _ _ c.in-Ok-Ok.is-1 c.from_bytes-2.ensures.fits c.from_bytes-2.ensures.ok in
-    record { call = unlisted IsReverseScanned _ _ _ _ _ _ _ _ _ _ c.lend.ensures.value refl c.in-Err.ensures.index first.1 last.1 refl c.in-Err.ensures.err c.in-Err.ensures.read refl refl }
+    record { call = unlisted IsReverseScanned _ _ _ _ _ _ _ _ _ _ _ _ c.lend.ensures.value refl c.in-Err.ensures.index first last refl c.in-Err.ensures.err c.in-Err.ensures.memory c.in-Err.ensures.read refl refl }
