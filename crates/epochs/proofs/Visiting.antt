@@ -1,5 +1,5 @@
 -- What visits of records come to.
-use Rattle.std.proofs.Common.{◌≡◌, ◌≢◌, ℕ, ◌+◌, ◌^◌, ◌<◌, ◌≤◌, [], ◌∷◌, ◌++◌, Bool, true, false, nat_eq, if◌then◌else◌, refl, sym, ap, subst, ◌∙◌, arith, List, length, length-append}
+use Rattle.std.proofs.Common.{◌≡◌, ◌≢◌, ℕ, ◌+◌, ◌^◌, ◌<◌, ◌≤◌, [], ◌∷◌, ◌++◌, Bool, true, false, nat_eq, if◌then◌else◌, refl, sym, ap, subst, ◌∙◌, arith, List, length-append}
 use Rattle.std.specs.Prelude.{count_by}
 use Rattle.std.proofs.lemmas.List.{append_assoc, append-nil}
 use Rattle.std.proofs.lemmas.List.Sums.{sum_by-append}
@@ -65,9 +65,6 @@ module _ {G : Type 0} (table : TableView) (becomes : G → Event → G → Type 
       given false e = rw e refl
 
   -- Visits in turn
-
-  pub visits_none : (bound : ℕ) (kind : ℕ → Rec) (a : SeatView × G) → VisitsAll table becomes bound kind 0 0 a a
-  visits_none bound kind a = ([], refl, does_none table becomes collecting a (λ k. refl), refl)
 
   -- one more record, given back or not
   pub visits_more : (bound : ℕ) (kind : ℕ → Rec) (n given more : ℕ) (t : Bool) (a m b : SeatView × G) → VisitsAll table becomes bound kind n given a m → VisitsOne table becomes bound (kind n) t m b

@@ -1,9 +1,9 @@
 -- Fronts that go on: their maps, their legality, and prefixes.
-use Rattle.std.proofs.Common.{◌≡◌, ◌≢◌, ◌⊎◌, ℕ, List, [], ◌∷◌, ◌++◌, refl, sym, ap, subst, ◌∙◌, inl, inr, ⊎_elim, append_assoc, append-nil}
-use Rattle.std.specs.List.{All, fold}
+use Rattle.std.proofs.Common.{◌≡◌, ◌≢◌, ◌⊎◌, ℕ, List, [], ◌∷◌, ◌++◌, refl, sym, ap, subst, ◌∙◌, append_assoc, append-nil}
+use Rattle.std.specs.List.{fold}
 use Rattle.std.specs.List.Sorted.{IsStrictlySortedBy}
 use Rattle.std.proofs.lemmas.List.Sums.{fold-append}
-use Rattle.std.proofs.lemmas.List.Elements.{All-append, All-nil, All-head, All-tail}
+use Rattle.std.proofs.lemmas.List.Elements.{All-append, All-nil}
 use Rattle.finite_map.specs.declared.Change.{Change}
 use Rattle.finite_map.specs.declared.Kind.{Kind}
 use Rattle.finite_map.specs.declared.Kind.TheVariants.{Added, Replaced, Removed}
@@ -37,16 +37,6 @@ pub changed_by-other : (kind : Kind) (m : Map) (key : List ℕ) (value : ℕ) (q
 changed_by-other Added m key value q r ne = value_at-with_value_other key value m q ne
 changed_by-other Replaced m key value q r ne = value_at-with_value_other key value m q ne
 changed_by-other Removed m key value q r ne = value_at-without_other key m q r ne
-
-fold-other : (m : Map) (cs : List Change) (q : List ℕ) → IsRising m → All (λ c. q ≢ c.key) cs → value_at (fold changed m cs) q ≡ value_at m q
-fold-other m [] q r h = refl
-fold-other m (c ∷ cs) q r h =
-    fold-other (changed m c) cs q (changed_by-rising c.kind m c.key c.value r) (All-tail (λ x. q ≢ x.key) c cs h)
-    ∙ changed_by-other c.kind m c.key c.value q r (All-head (λ x. q ≢ x.key) c cs h)
-
--- a key that the further changes leave alone has the value that it had
-pub value_at-map_of_more : (front more : List Change) (q : List ℕ) → All (λ c. q ≢ c.key) more → value_at (map_of (front ++ more)) q ≡ value_at (map_of front) q
-value_at-map_of_more front more q h = ap (λ m. value_at m q) (map_of-append front more) ∙ fold-other (map_of front) more q (map_of-rising front) h
 
 -- Legal fronts
 
@@ -88,22 +78,6 @@ pub begins_same : (a b : List Change) → BeginsWith a b → BeginsWith b a → 
 begins_same a b g h =
     let none : h.0 ++ g.0 ≡ [] = no_more a (h.0 ++ g.0) (g.1 ∙ ap (λ xs. xs ++ g.0) h.1 ∙ append_assoc a h.0 g.0) in
     sym (h.1 ∙ ap (λ xs. a ++ xs) (nothing_before h.0 g.0 none) ∙ append-nil a)
-
-begins_one_more : (x : Change) (a b : List Change) → BeginsWith a b → BeginsWith (x ∷ a) (x ∷ b)
-begins_one_more x a b g = (g.0, ap (λ xs. x ∷ xs) g.1)
-
-either : (a b more rest : List Change) → a ++ more ≡ b ++ rest → BeginsWith a b ⊎ BeginsWith b a
-either [] b more rest e = inr (b, refl)
-either (x ∷ xs) [] more rest e = inl (x ∷ xs, refl)
-either (x ∷ xs) (y ∷ ys) more rest e =
-    let head : x ≡ y = cc in
-    ⊎_elim (λ g. inl (subst (λ z. BeginsWith (x ∷ xs) (z ∷ ys)) head (begins_one_more x xs ys g)))
-    (λ g. inr (subst (λ z. BeginsWith (z ∷ ys) (x ∷ xs)) head (begins_one_more x ys xs g)))
-    (either xs ys more rest cc)
-
--- two fronts with which one front begins: one of them begins with the other
-pub begins_either : (a b c : List Change) → BeginsWith c a → BeginsWith c b → BeginsWith a b ⊎ BeginsWith b a
-begins_either a b c g h = either a b g.0 h.0 (sym g.1 ∙ h.1)
 
 -- Going on by others' changes alone
 

@@ -32,9 +32,6 @@ slice_get-push [] c i e = rw e refl
 slice_get-push (x ∷ xs) c zero e = absurd (omega arith)
 slice_get-push (x ∷ xs) c (suc i) e = slice_get-push xs c i (omega arith)
 
-take_all : (front : List Change) → take (length front) front ≡ front
-take_all front = ap (take (length front)) (sym (append-nil front)) ∙ take-append_seam front []
-
 -- What a call did
 
 pub same_value : (x y : Change) → Some x ≡ Some y → x ≡ y

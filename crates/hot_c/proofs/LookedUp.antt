@@ -3,7 +3,7 @@ use Rattle.std.proofs.Common.{◌≡◌, ℕ, zero, suc, ◌+◌, ◌<◌, List,
 use Rattle.std.proofs.lemmas.List.{length-map}
 use Rattle.hot_index.specs.Many.{AreNoted, HasGotMany, gets}
 use Rattle.hot_index.specs.Traces.{untold}
-use Rattle.hot_c.specs.Calls.{FitsInKey, StaysOpen}
+use Rattle.hot_c.specs.Calls.{FitsInKey}
 use Rattle.hot_c.specs.Lookups.{LooksUpAll, answer, are_answered, key_in}
 use Rattle.hot_c.specs.declared.lookups.Lookup.{Lookup}
 use Rattle.hot_c.specs.declared.opened.Opened.{Opened}
@@ -13,11 +13,6 @@ use Rattle.hot_c.specs.declared.status.TheConstants.{DONE, NO_MEMORY}
 pub none_answered : (its : List Lookup) → its ≡ are_answered its []
 none_answered [] = refl
 none_answered (it ∷ its) = refl
-
-pub answered_many : (its : List Lookup) (found : List (Option ℕ)) → length (are_answered its found) ≡ length its
-answered_many [] found = refl
-answered_many (it ∷ its) [] = refl
-answered_many (it ∷ its) (value ∷ found) = ap suc (answered_many its found)
 
 more : (its : List Lookup) (found : List (Option ℕ)) (n : ℕ) (d : Lookup) (e : Option ℕ) → length found ≡ length its → n < length found →
     slice_set (are_answered its (take n found)) n (answer (get_or (are_answered its (take n found)) n d) (get_or found n e)) ≡ are_answered its (take (suc n) found)

@@ -44,15 +44,9 @@ module _ {layout : Layout} {k j : PassView} {from upto : Key} {limit : ℕ} {pai
   pub listed_scanned : (scan : Scan) → scan.pairs.items ≡ pairs → scan.more ≡ more → IsScanned layout k j from upto limit scan
   listed_scanned scan same last = record { on = h.on; notes = h.notes; lawful = h.lawful scan same last; legal = h.legal }
 
-  pub listed_refused : IsUnnoted layout k j
-  listed_refused = record { number = h.on.number; front = h.on.front; notes = h.notes; legal = h.legal; makers = h.on.makers }
-
 module _ {layout : Layout} {k j : PassView} {from upto : Key} {limit : ℕ} {pairs : List (Key × ℕ)} {more : Bool} (h : IsReverseListed layout k j from upto limit pairs more) where
   pub reverse_listed_scanned : (scan : Scan) → scan.pairs.items ≡ pairs → scan.more ≡ more → IsReverseScanned layout k j from upto limit scan
   reverse_listed_scanned scan same last = record { on = h.on; notes = h.notes; lawful = h.lawful scan same last; legal = h.legal }
-
-  pub reverse_listed_refused : IsUnnoted layout k j
-  reverse_listed_refused = record { number = h.on.number; front = h.on.front; notes = h.notes; legal = h.legal; makers = h.on.makers }
 
 -- The pass was settled, has looked since, and clears the pin now.
 module _ {layout : Layout} {i : Known} (s t : SeatView) (settled : IsSettled s.known) (looks : HasLooked s.known i) (event : IsEvent layout ClearPin silent i t.known) where

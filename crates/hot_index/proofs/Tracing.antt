@@ -263,12 +263,6 @@ module _ {G : Type 0} (table : TableView) (becomes : G → Event → G → Type 
     told = x.told;
   }
 
-  -- a call that was tried
-  pub made_told : (r : Result Reply TryFault) (a b : PassView × G) → HasMade table becomes r a b → HasTold table becomes a b
-  made_told r a b x = record { acts = x.acts; last = ClearPin; said = x.said; begins = x.begins; ends = x.ends; steps = x.steps; sees = x.sees; told = x.told }
-
-  -- Calls one after the other
-
   -- an attempt: the pin, the steps of the attempt, and the step that clears the pin
   pub attempt_ended : {said : Known → List Note} (a b c d : SeatView × G) → Pins table becomes a b → HasAttempted table becomes b c → StepsWith table becomes ClearPin said c d →
       HasEnded table becomes (IsAttempt table.layout) said a d

@@ -2,11 +2,9 @@
 use Rattle.std.proofs.Common.{◌≡◌, ◌≢◌, ℕ, zero, suc, ◌+◌, ◌-◌, ◌*◌, ◌/◌, ◌%◌, ◌<◌, ◌≤◌, false, ◌||◌, eqb, List, [], ◌∷◌, length, take, drop, min, refl, subst, sym, ap, ◌∙◌, arith, length-drop, ⊎_elim}
 use Rattle.std.specs.Int.{bit_at}
 use Rattle.std.proofs.lemmas.Nat.Bits.{bit_at-lt}
-use Rattle.std.proofs.lemmas.Bool.{cases_lt, cases_order, lt-ltb, le-ltb, ne_eqb, false≢true}
+use Rattle.std.proofs.lemmas.Bool.{cases_lt, cases_order, lt-ltb, ne_eqb, false≢true}
 use Prim.Native.Nat.compare
 use Rattle.key_bits.specs.Bits.{bit_of, IsFirstDifference, BytesDifferAt}
-use Rattle.key_bits.specs.Key.{IsKey}
-use Rattle.key_bits.specs.declared.TheConstants.{MAX_BYTES}
 
 -- the nine bits of the first byte, and then those of the others
 pub bit_of-head : (x : ℕ) (a : List ℕ) (q : ℕ) → q < 9 → bit_of (x ∷ a) q ≡ (eqb q 0 || eqb (bit_at x (8 - q)) 1)
@@ -16,10 +14,6 @@ bit_of-head x a q l = let d : q / 9 ≡ 0 = omega arith in let m : q % 9 ≡ q =
 pub bit_of-tail : (x : ℕ) (a : List ℕ) (q : ℕ) → bit_of (x ∷ a) (9 + q) ≡ bit_of a q
 bit_of-tail x a q = let d : (9 + q) / 9 ≡ suc (q / 9) = omega arith in let m : (9 + q) % 9 ≡ q % 9 = omega arith in
     rw (d, m, compare.suc-suc (suc (q / 9)) (length a)) refl
-
--- past the last byte every bit is 0
-pub bit_of-past : (a : List ℕ) (p : ℕ) → 9 * length a ≤ p → bit_of a p ≡ false
-bit_of-past a p l = rw (le-ltb (p / 9) (length a) (omega arith)) refl
 
 -- a common first byte moves the first difference by nine bits
 pub first-cons : (x : ℕ) (a b : List ℕ) (p : ℕ) → IsFirstDifference a b p → IsFirstDifference (x ∷ a) (x ∷ b) (9 + p)
@@ -67,22 +61,8 @@ first-empty [] (y ∷ b) e ne = first-end_left y b
 first-empty (x ∷ a) [] e ne = first-end_right x a
 first-empty (x ∷ a) (y ∷ b) e ne = absurd (omega arith)
 
-pub first-sym : (a b : List ℕ) (p : ℕ) → IsFirstDifference a b p → IsFirstDifference b a p
-first-sym a b p d = record { differ = λ e. d.differ (sym e); agree = λ q l. sym (d.agree q l) }
-
 pub first-unique : (a b : List ℕ) (p q : ℕ) → IsFirstDifference a b p → IsFirstDifference a b q → p ≡ q
 first-unique a b p q d e = ⊎_elim (λ is. is) (λ s. ⊎_elim (λ l. absurd (d.differ (e.agree p l))) (λ l. absurd (e.differ (d.agree q l))) s) (cases_order p q)
-
--- a third key that agrees with the second up to p and at p differs from the first there too
-pub first-agreed : (a b c : List ℕ) (p : ℕ) → IsFirstDifference a b p → ((q : ℕ) → q < p + 1 → bit_of b q ≡ bit_of c q) → IsFirstDifference a c p
-first-agreed a b c p d same = record {
-  differ = λ e. d.differ (e ∙ sym (same p (omega arith)));
-  agree = λ q l. d.agree q l ∙ same q (omega arith);
-}
-
-pub first-bound : (a b : List ℕ) (p : ℕ) → IsKey a → IsKey b → IsFirstDifference a b p → p < 9 * MAX_BYTES
-first-bound a b p ka kb d = ⊎_elim (λ l. l)
-    (λ (l : 9 * MAX_BYTES ≤ p). absurd (d.differ (bit_of-past a p (omega (arith, ka.short)) ∙ sym (bit_of-past b p (omega (arith, kb.short)))))) (cases_lt p (9 * MAX_BYTES))
 
 -- behind a common front of i bytes
 pub first-drop : (i : ℕ) (a b : List ℕ) (p : ℕ) → i ≤ length a → i ≤ length b → take i a ≡ take i b →

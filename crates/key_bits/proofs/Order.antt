@@ -71,10 +71,6 @@ module _ (a b : List ℕ) (ka : IsKey a) (kb : IsKey b) where
   pub first_difference : a ≢ b → (p : ℕ) × IsFirstDifference a b p
   first_difference ne = ⊎_elim (λ e. absurd (ne e)) (λ at. (at.0, at.1.first)) (parted a b ka.are_bytes kb.are_bytes)
 
-  -- keys with the same bits are equal
-  pub same_from_key_bits : ((p : ℕ) → bit_of a p ≡ bit_of b p) → a ≡ b
-  same_from_key_bits same = ⊎_elim (λ e. e) (λ at. absurd (at.1.first.differ (same at.0))) (parted a b ka.are_bytes kb.are_bytes)
-
   -- the order of two keys, by the bit at their first difference
   pub slice_cmp-first : (p : ℕ) → IsFirstDifference a b p → slice_cmp nat_cmp a b ≡ cond (bit_of a p) Greater Less
   slice_cmp-first p d = ⊎_elim (λ e. absurd (d.differ (ap (λ key. bit_of key p) e)))

@@ -1,6 +1,6 @@
 -- Reading gives the tree that the words show, and finds one that is well built.
-use Rattle.std.proofs.Common.{◌≡◌, ◌⊎◌, inl, inr, ℕ, suc, zero, true, false, refl, ap, ap₂, sym, ◌∙◌, subst, Some, None, eqb}
-use Rattle.std.proofs.lemmas.Bool.{cond-true, cond-false, eq-eqb, eqb-true, cases_Bool}
+use Rattle.std.proofs.Common.{◌≡◌, ◌⊎◌, ℕ, suc, zero, ap, ap₂, ◌∙◌, Some, None, eqb}
+use Rattle.std.proofs.lemmas.Bool.{cond-true, eq-eqb}
 use Rattle.tries.specs.Keys.{Key}
 use Rattle.tries.specs.Tree.{Fixed, Tree, leaf, node, page, IsBuilt}
 use Rattle.compound_node.specs.declared.entries.Entry.{Entry}
@@ -9,28 +9,8 @@ use Rattle.pieces.specs.Piece.{Place}
 use Rattle.moments.specs.Heap.{NodeWords, LeafWords, Heap, IsShown}
 use Rattle.moments.specs.Read.{read}
 use Rattle.tries.specs.Read.{join_node, read_page}
-use Rattle.tries.proofs.Reading.{same_some, page_found, node_found, read_exact as exactly_read}
+use Rattle.tries.proofs.Reading.{read_exact as exactly_read}
 use Rattle.compound_node.specs.Nodes.{height_of}
-
--- What is read is shown by the words.
-pub read_sound : (m : Heap) (f : ℕ) (e : Entry) (t : Tree) → read m f e ≡ Some t → (page t ≡ Place e) × IsShown m t
-read_sound m zero (Leaf n) t h = subst (λ u. (page u ≡ Place (Leaf n)) × IsShown m u) (same_some h) (refl, refl)
-read_sound m (suc f) (Leaf n) t h = subst (λ u. (page u ≡ Place (Leaf n)) × IsShown m u) (same_some h) (refl, refl)
-read_sound m zero (Node n g) t h = absurd cc
-read_sound m (suc f) (Node n g) t h =
-    go (cases_Bool (eqb (m.nodes n).fixed.height g)) (page_found (IsShown m) (λ p a b i j. (i, j)) (read m f) (read_sound m f) (m.nodes n).page)
-  where
-    go : ((eqb (m.nodes n).fixed.height g ≡ true) ⊎ (eqb (m.nodes n).fixed.height g ≡ false)) →
-        ((u : Tree) → read_page (read m f) (m.nodes n).page ≡ Some u → (page u ≡ (m.nodes n).page) × IsShown m u) → (page t ≡ Place (Node n g)) × IsShown m t
-    go (inl e) k =
-        let high : (m.nodes n).fixed.height ≡ g = eqb-true (m.nodes n).fixed.height g e in
-        subst (λ z. (page t ≡ Place (Node n z)) × IsShown m t) high
-        (node_found (IsShown m) (λ p a b i j. (i, j)) n (m.nodes n).fixed (m.nodes n).page (read_page (read m f) (m.nodes n).page) t
-        (λ u i. (ap (λ c. let w : NodeWords = record { fixed = (m.nodes n).fixed; page = c } in w) (sym i.0), i.1)) k
-        (sym (cond-true (eqb (m.nodes n).fixed.height g) (join_node n (m.nodes n).fixed (read_page (read m f) (m.nodes n).page)) None e) ∙ h))
-    go (inr e) k =
-        let x : None ≡ Some t = sym (cond-false (eqb (m.nodes n).fixed.height g) (join_node n (m.nodes n).fixed (read_page (read m f) (m.nodes n).page)) None e) ∙ h in
-        absurd cc
 
 read_leaf : (m : Heap) (f n : ℕ) (k : Key) (v : ℕ) → m.leaves n ≡ record { key = k; value = v } → read m f (Leaf n) ≡ Some (leaf n k v)
 read_leaf m zero n k v e = ap₂ (λ a b. Some (leaf n a b)) (ap (λ (z : LeafWords). z.key) e) (ap (λ (z : LeafWords). z.value) e)

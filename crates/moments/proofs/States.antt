@@ -1,26 +1,16 @@
 -- The laws of the core.
-use Rattle.std.proofs.Common.{◌≡◌, ◌⊎◌, inl, inr, ℕ, ◌<◌, ◌≤◌, Bool, true, false, if◌then◌else◌, refl, ap, sym, ◌∙◌, subst, arith, Some, le_refl, le_trans, true≢false}
-use Rattle.tries.specs.Keys.{Key, bit, AgreeBelow, IsParted}
-use Rattle.tries.specs.Tree.{Fixed, Page, Tree, leaf, node, fork, page, Has, IsTrie, IsFork, IsBuilt, here, inside}
+use Rattle.std.proofs.Common.{◌≡◌, ◌⊎◌, inl, inr, ℕ, ◌<◌, ◌≤◌, if◌then◌else◌, ap, sym, ◌∙◌, subst, arith, Some, le_refl, le_trans}
+use Rattle.tries.specs.Keys.{Key, IsParted}
+use Rattle.tries.specs.Tree.{Fixed, Tree, leaf, node, fork, page, Has, IsTrie, IsBuilt, here, inside}
 use Rattle.compound_node.specs.declared.entries.Entry.{Entry}
 use Rattle.compound_node.specs.declared.entries.Entry.TheVariants.{Leaf, Node}
-use Rattle.pieces.specs.Piece.{Place, Fork}
-use Rattle.tries.specs.Search.{Follows, child, seek, Kin, tips, forks, between, IsUnder}
+use Rattle.pieces.specs.Piece.{Place}
+use Rattle.tries.specs.Search.{Follows, child, seek, between, IsUnder}
 use Rattle.moments.specs.Heap.{NodeWords, IsCopied}
-use Rattle.moments.specs.State.{rec_of, IsRecord, Life, Out, Linked, Retired, Spans, last_of, State, Stands, IsSameRecord, IsReach, IsLawfulState, IsMissed, IsLed, IsLived, IsFrom, StoodWithKeys, IsSteady}
+use Rattle.moments.specs.State.{rec_of, IsRecord, Life, Out, Linked, Retired, Spans, last_of, State, Stands, IsSameRecord, IsReach, IsLawfulState, IsMissed, IsLed, IsLived, IsSteady}
 use Rattle.moments.specs.declared.Rec.{Rec}
 use Rattle.moments.specs.declared.Rec.TheVariants.{Node as a_node}
-use Rattle.tries.proofs.Tries.{has_within, within_trans, trie_within, built_within, has_first, descend, within_child, page_child, follows_kin, kin_trans, kin_sym, parting}
-use Rattle.tries.specs.Content.{first}
-
--- The property turns on the bits before `p` alone.
-abbrev pub TurnsBelow : ℕ → (Key → Type 0) → Type 0
-TurnsBelow p P = (x y : Key) → AgreeBelow p x y → P x → P y
-
--- The key takes the same side as `k` at each fork on the way of `k`.
-abbrev pub IsTaken : Key → Page → Key → Type 0
-IsTaken k (Place e) y = Unit {0}
-IsTaken k (Fork p a b) y = (bit y p ≡ bit k p) × (bit k p ≡ true → IsTaken k b y) × (bit k p ≡ false → IsTaken k a y)
+use Rattle.tries.proofs.Tries.{within_trans, trie_within, built_within, descend, within_child, page_child, follows_kin, kin_trans, kin_sym, parting}
 
 pub record_of_page : (e : Entry) (u : Tree) → page u ≡ Place e → IsRecord (rec_of e) u
 record_of_page (Leaf n) (leaf m k v) x = cc
@@ -125,65 +115,6 @@ state_parting s law r n o x y g h b c bn bo sn so tn tp i j lt k l u v =
     go (node a d e) t f z =
         parting (kin_trans f.1 (kin_sym z.1)) (trie_within (within_trans (inside here) tn.within) (is_trie s law n r (node x g b) bn tn))
         (trie_within (within_trans (inside here) tp.within) (is_trie s law o r (node y h c) bo tp)) i j lt k l u v
-
--- Keys of two kin bodies agree up to the first fork.
-pub kin_keys : {b c : Tree} → Kin b c → (p : ℕ) → IsFork b → IsFrom p (page c) → (x y : Key) → Has b x → Has c y → AgreeBelow p x y
-kin_keys (tips {a = fork q b d} u v) p i f x y hx hy = elim u [ ]
-kin_keys (tips {a = leaf q b d} u v) p i f x y hx hy = elim i [ ]
-kin_keys (tips {a = node q b d} u v) p i f x y hx hy = elim i [ ]
-kin_keys (forks e u v) p i f x y hx hy = λ q z. e x y hx hy q (le_trans z f)
-
-taken_fork : (k : Key) (p : ℕ) (a b : Tree) → IsTrie (fork p a b) → ((y : Key) → Has (child k a) y → IsTaken k (page a) y) →
-    ((y : Key) → Has (child k b) y → IsTaken k (page b) y) → (y : Key) → Has (child k (fork p a b)) y → IsTaken k (page (fork p a b)) y
-taken_fork k p a b i f g y h = go (bit k p) refl h
-  where
-    go : (u : Bool) → bit k p ≡ u → Has (if u then child k b else child k a) y →
-        (bit y p ≡ bit k p) × (bit k p ≡ true → IsTaken k (page b) y) × (bit k p ≡ false → IsTaken k (page a) y)
-    go true e h = (i.4 y (has_within (within_child k b) y h) ∙ sym e, (λ x. g y h), (λ x. absurd (true≢false (sym e ∙ x))))
-    go false e h = (i.3 y (has_within (within_child k a) y h) ∙ sym e, (λ x. absurd (true≢false (sym x ∙ e))), (λ x. f y h))
-
--- The keys that a search's child has take the search's sides.
-taken_child : (k : Key) (t : Tree) → IsTrie t → (y : Key) → Has (child k t) y → IsTaken k (page t) y
-taken_child k (leaf n l v) i y h = tt
-taken_child k (node n x b) i y h = tt
-taken_child k (fork p a b) i y h = taken_fork k p a b i (taken_child k a i.0) (taken_child k b i.1) y h
-
--- What the keys of a node have, and what turns on the bits before its first fork, the keys of the search's child have too.
-pub stem_down : (s : State) → IsLawfulState s → (m : ℕ) → IsReach s m → (p : ℕ) (P : Key → Type 0) → TurnsBelow p P → (k : Key) (n h : ℕ) →
-    IsFrom p (s.heap.nodes n).page → StoodWithKeys s.past m P (Node n h) →
-    StoodWithKeys s.past m (λ y. P y × IsTaken k (s.heap.nodes n).page y) (seek k (s.heap.nodes n).page)
-stem_down s law m reach p P local k n h from (o, leaf y l v, a, b, st, e, f) = absurd cc
-stem_down s law m reach p P local k n h from (o, fork y l v, a, b, st, e, f) = absurd cc
-stem_down s law m reach p P local k n h from (o, node y g b, lo, hi, st, e, f) =
-    let at_last = law.alive (a_node n) (last_of s.now (s.life (a_node n))) (spans_last s.now (s.life (a_node n)) o (law.lived (a_node n)) spans) in
-    go at_last.0 at_last.1 (law.same (a_node n) o (node y g b) at_last.0 spans st at_last.1)
-    (law.frozen (a_node n) at_last.0 (spans_last s.now (s.life (a_node n)) o (law.lived (a_node n)) spans) at_last.1)
-  where
-    spans : Spans s.now (s.life (a_node n)) o
-    spans = reach o lo hi (a_node n) (node y g b) st
-
-    go : (u : Tree) → Stands s.past (last_of s.now (s.life (a_node n))) (a_node n) u → IsSameRecord (node y g b) u → IsCopied s.heap u →
-        StoodWithKeys s.past m (λ y. P y × IsTaken k (s.heap.nodes n).page y) (seek k (s.heap.nodes n).page)
-    go (leaf a l v) t i c = elim i [ ]
-    go (fork a l v) t i c = elim i [ ]
-    go (node a j d) t i c =
-        let bounds = spans_ended s.now (s.life (a_node n)) o (law.lived (a_node n)) spans in
-        let e : (s.heap.nodes n).page ≡ page d = ap (λ (z : NodeWords). z.page) (ap s.heap.nodes (node_number t.is_record) ∙ c) in
-        subst (λ z. StoodWithKeys s.past m (λ y. P y × IsTaken k z y) (seek k z)) (sym e) (
-          last_of s.now (s.life (a_node n)),
-          child k d,
-          le_trans lo bounds.0,
-          bounds.1,
-          stands_child s (last_of s.now (s.life (a_node n))) a j d k (a_node n) t,
-          page_child k d,
-          λ z h. (
-            local (first b) z
-                (kin_keys i.1 p (is_built s law o (a_node n) (node y g b) hi st).0 (subst (IsFrom p) e from) (first b) z (has_first b)
-                (has_within (within_child k d) z h))
-                (f (first b) (has_first b)),
-            taken_child k d (trie_within (within_trans (inside here) t.within) (is_trie s law (last_of s.now (s.life (a_node n))) (a_node n) (node a j d) bounds.1 t)) z h,
-          ),
-        )
 
 -- Two trees that are the same as a third are the same.
 same_join : (u v w : Tree) → IsSameRecord u w → IsSameRecord v w → IsSameRecord u v

@@ -18,19 +18,6 @@ use Rattle.pieces.specs.Growth.{affected_first, affected_count, IsFresh, IsAffec
 use Rattle.pieces.specs.Piece.{Piece, Place, Fork, size, paths, uses}
 use Rattle.pieces.specs.Positions.{has, Ascends}
 
--- PAIR
-pub shows-pair : {A : Type 0} (p : ℕ) (x y : A) → ShowsPiece (p ∷ []) (0 ∷ 2 ^ 31 ∷ []) (x ∷ y ∷ []) (Fork p (Place x) (Place y))
-shows-pair p x y =
-    let self : eqb p p ≡ true = eq-eqb p p refl in record {
-      few = omega arith;
-      columns_rise = (omega arith, tt);
-      forks_at_columns = (rw self refl, tt, tt);
-      columns_used = rw self refl;
-      paths_rise = (omega arith, tt, tt);
-      rows_are = rw self refl;
-      entries_are = refl;
-    }
-
 module _ {A : Type 0} where
   pub covered_length : (cs rows : List ℕ) (es : List A) (Q : Piece A) → Covers cs rows es Q → length rows ≡ length es
   covered_length cs rows es Q cov = rw (cov.rows_are, cov.entries_are, length-map (paths Q) (row_of cs), length-paths Q, length-places Q) refl

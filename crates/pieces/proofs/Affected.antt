@@ -1,14 +1,13 @@
 -- The affected range, and when no fork there has the position.
-use Rattle.std.proofs.Common.{Bool, List, [], ap, arith, eqb, false, get_or, nat_lt, not, refl, subst, sym, true, ℕ, ⊎_elim, ◌&&◌, ◌+◌, ◌-◌, ◌<◌, ◌||◌, ◌∙◌, ◌∷◌, ◌≡◌, ◌≤◌}
-use Rattle.std.proofs.lemmas.Bool.{cases_Bool, cases_lt, eq-eqb, false≢true, le-ltb, lt-ltb, ltb-false, ltb-true, or_left, or_parts}
+use Rattle.std.proofs.Common.{Bool, List, [], ap, arith, false, nat_lt, not, refl, sym, true, ℕ, ⊎_elim, ◌&&◌, ◌+◌, ◌-◌, ◌<◌, ◌||◌, ◌∙◌, ◌∷◌, ◌≡◌, ◌≤◌}
+use Rattle.std.proofs.lemmas.Bool.{cases_Bool, cases_lt, false≢true, le-ltb, lt-ltb, ltb-false, ltb-true}
 use Rattle.std.proofs.lemmas.Bool.Decides.{nat_tests}
 use Rattle.pieces.proofs.Growing.{affected_fits}
-use Rattle.pieces.proofs.Paths.{size_pos, paths-left, paths-right}
 use Rattle.pieces.proofs.Positions.{has_after}
 use Rattle.pieces.proofs.Tests.{same_bools}
-use Rattle.pieces.specs.Growth.{affected_first, affected_count, IsFresh}
-use Rattle.pieces.specs.Piece.{Piece, Place, Fork, size, paths, RisesFrom, UsesOnly}
-use Rattle.pieces.specs.Positions.{has, Ascends}
+use Rattle.pieces.specs.Growth.{affected_first, affected_count}
+use Rattle.pieces.specs.Piece.{Piece, Place, Fork, size, RisesFrom, UsesOnly}
+use Rattle.pieces.specs.Positions.{Ascends}
 
 -- k is one of the n places from f on
 abbrev pub within : ℕ → ℕ → ℕ → Bool
@@ -33,9 +32,6 @@ within_in f n k l m = rw (lt-ltb k (f + n) m, le-ltb k f l) refl
 pub within_true : (f n k : ℕ) → within f n k ≡ true → (f ≤ k) × (k < f + n)
 within_true f n k e = ⊎_elim (λ (l : k < f). absurd (false≢true (sym (within_before f n k l) ∙ e)))
     (λ l. ⊎_elim (λ m. (l, m)) (λ (m : f + n ≤ k). absurd (false≢true (sym (within_past f n k m) ∙ e))) (cases_lt k (f + n))) (cases_lt k f)
-
-both : {a b c d : ℕ} → a ≡ b → c ≡ d → ◌≡◌ {A = ℕ × ℕ} (a, c) (b, d)
-both e f = rw (e, f) refl
 
 module _ {A : Type 0} where
   pub rises_after : (position : ℕ) (ys : List ℕ) (P : Piece A) → Ascends position ys → UsesOnly ys P → (low : ℕ) → RisesFrom low P → RisesFrom position P
@@ -84,23 +80,3 @@ module _ {A : Type 0} (p : ℕ) where
       ))
       (cases_Bool (nat_lt i (size s))))
       (λ (e : nat_lt q p ≡ false). rw e (refl, refl)) (cases_Bool (nat_lt q p))
-
-  -- where no affected path has the position, no affected fork has it
-  pub fresh_from_paths : (P : Piece A) (i : ℕ) → i < size P →
-      ((k : ℕ) → affected_first p i P ≤ k → k < affected_first p i P + affected_count p i P → has (get_or (paths P) k []) p ≡ false) → IsFresh p i P
-  fresh_from_paths (Place x) i l h = tt
-  fresh_from_paths (Fork q s t) i l h = ⊎_elim
-      (λ (e : nat_lt q p ≡ true). ⊎_elim
-      (λ (f : nat_lt i (size s) ≡ true). rw (e, f) (fresh_from_paths s i (ltb-true i (size s) f) (λ k a b.
-      let w : (affected_first p i s + affected_count p i s ≤ size s) × (0 < affected_count p i s) = affected_fits p s i in
-      sym (ap (λ z. has z p) (paths-left q s t k (omega (arith, w.0)))) ∙ h k (subst (λ n. n ≤ k) (sym (first_left q s t i e f)) a) (subst (λ (n : ℕ × ℕ). k < n.0 + n.1) (sym (both (first_left q s t i e f) (count_left q s t i e f))) b))))
-      (λ (f : nat_lt i (size s) ≡ false). let m : size s ≤ i = ltb-false i (size s) f in rw (e, f) (fresh_from_paths t (i - size s) (omega arith) (λ k a b.
-      let w : (affected_first p (i - size s) t + affected_count p (i - size s) t ≤ size t) × (0 < affected_count p (i - size s) t) = affected_fits p t (i - size s) in
-      let back : size s + k - size s ≡ k = omega arith in
-      let at : get_or (paths (Fork q s t)) (size s + k) [] ≡ q ∷ get_or (paths t) k [] = paths-right q s t (size s + k) (omega arith) (omega (arith, w.0)) ∙ (rw back refl) in
-      (or_parts (eqb q p) (has (get_or (paths t) k []) p) (sym (ap (λ z. has z p) at) ∙ h (size s + k) (subst (λ n. n ≤ size s + k) (sym (first_right q s t i e f)) (omega arith)) (subst (λ (n : ℕ × ℕ). size s + k < n.0 + n.1) (sym (both (first_right q s t i e f) (count_right q s t i e f))) (omega arith)))).1)))
-      (cases_Bool (nat_lt i (size s))))
-      (λ (e : nat_lt q p ≡ false). rw e (λ (same : q ≡ p).
-      let at : get_or (paths (Fork q s t)) (size s) [] ≡ q ∷ get_or (paths t) (size s - size s) [] = paths-right q s t (size s) (omega arith) (omega (arith, size_pos t)) in
-      let off : (eqb q p || has (get_or (paths t) (size s - size s) []) p) ≡ false = sym (ap (λ z. has z p) at) ∙ h (size s) (rw e (omega arith)) (rw e (omega (arith, size_pos t))) in
-      absurd (false≢true (sym off ∙ or_left (eqb q p) (has (get_or (paths t) (size s - size s) []) p) (eq-eqb q p same))))) (cases_Bool (nat_lt q p))

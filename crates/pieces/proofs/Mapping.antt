@@ -1,7 +1,7 @@
 -- The same forks with other things at the places.
-use Rattle.std.proofs.Common.{Bool, List, map, refl, ℕ, ◌+◌, ◌≡◌}
+use Rattle.std.proofs.Common.{List, map, refl, ℕ, ◌+◌, ◌≡◌}
 use Rattle.std.proofs.lemmas.List.{map-append}
-use Rattle.pieces.specs.Piece.{Piece, Place, Fork, places, size, paths, leads_to, RisesFrom, UsesOnly, uses}
+use Rattle.pieces.specs.Piece.{Piece, Place, Fork, places, paths, RisesFrom, UsesOnly, uses}
 
 -- the same forks, with other things at the places
 abbrev pub map_places : {A B : Type 0} → (A → B) → Piece A → Piece B
@@ -13,17 +13,9 @@ module _ {A B : Type 0} (f : A → B) where
   places-map_places (Place x) = refl
   places-map_places (Fork p a b) = rw (places-map_places a, places-map_places b, map-append f (places a) (places b)) refl
 
-  pub size-map_places : (P : Piece A) → size (map_places f P) ≡ size P
-  size-map_places (Place x) = refl
-  size-map_places (Fork p a b) = rw (size-map_places a, size-map_places b) refl
-
   pub paths-map_places : (P : Piece A) → paths (map_places f P) ≡ paths P
   paths-map_places (Place x) = refl
   paths-map_places (Fork p a b) = rw (paths-map_places a, paths-map_places b) refl
-
-  pub leads_to-map_places : (bit : ℕ → Bool) (P : Piece A) → leads_to bit (map_places f P) ≡ leads_to bit P
-  leads_to-map_places bit (Place x) = refl
-  leads_to-map_places bit (Fork p a b) = rw (size-map_places a, leads_to-map_places bit a, leads_to-map_places bit b) refl
 
   pub uses-map_places : (P : Piece A) (q : ℕ) → uses (map_places f P) q ≡ uses P q
   uses-map_places (Place x) q = refl

@@ -147,10 +147,6 @@ module _ (ns : List NodeView) (n : ℕ) (old : NodeView) (P : Piece Entry) (at :
   pub heights_whole : (v : NodeView) → GrownShows old (Whole v) P → IsGrownSteady old (Whole v) → KeepsHeights ns (set ns n v)
   heights_whole v s steady = heights_set ns n old v at (inr (s.height_is, steady))
 
-  -- the second half alone is stored
-  pub heights_single : (cut : Cut) → GrownShows old (Two cut) P → IsGrownSteady old (Two cut) → KeepsHeights ns (kept_nodes ns n cut.one)
-  heights_single cut s steady = heights_kept ns n old cut.one at (cut_anew old cut P s).1 steady.1
-
   -- or both are
   pub heights_double : (cut : Cut) → GrownShows old (Two cut) P → IsGrownSteady old (Two cut) → KeepsHeights ns (kept_nodes (pushed_nodes ns cut.one) n cut.zero)
   heights_double cut s steady =

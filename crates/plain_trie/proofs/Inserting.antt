@@ -3,12 +3,10 @@ use Rattle.std.proofs.Common.{◌≡◌, ◌≢◌, inl, inr, ℕ, ◌<◌, List
 use Rattle.std.specs.Prelude.{slice_get, option_and_then}
 use Rattle.std.proofs.lemmas.Bool.{false≢true}
 use Rattle.std.proofs.lemmas.Option.{slice_get_within}
-use Rattle.key_bits.specs.Key.{IsKey}
 use Rattle.key_bits.specs.Bits.{bit_of}
 use Rattle.pieces.specs.Piece.{Place, places}
 use Rattle.compound_node.specs.Nodes.{NodeView, height_of, greatest_height}
 use Rattle.compound_node.specs.declared.entries.Entry.{Entry}
-use Rattle.compound_node.specs.declared.entries.Entry.TheVariants.{Leaf}
 use Rattle.finite_map.specs.Maps.{Map, with_value, value_at, step_where, reply_of, map_after}
 use Rattle.finite_map.specs.declared.Call.TheVariants.{Insert, Upsert}
 use Rattle.finite_map.specs.declared.Reply.TheVariants.{Inserted, Exists, New, Was}
@@ -30,7 +28,7 @@ use Rattle.insert_cases.proofs.Choosing.{same_some}
 use Rattle.plain_trie.proofs.Reading.{IsTree, plain_tree, tree_is, tree_plain}
 use Rattle.plain_trie.proofs.Searching.{read_at}
 use Rattle.plain_trie.proofs.Storing.{set_same, set_other}
-use Rattle.plain_trie.proofs.Values.{map_is, map_none, value_found, value_missed}
+use Rattle.plain_trie.proofs.Values.{map_is, value_found, value_missed}
 use Rattle.tries.specs.Search.{found}
 
 -- a trie with this map
@@ -42,12 +40,6 @@ becomes : (v w : PlainView) (e : Entry) (t : Tree) (k : Key) (x : ℕ) → w.top
 becomes v w e t k x top head trie built shown same =
     let sound : IsSound t = record { trie = trie; built = built } in
     (tree_plain w e t top head sound shown, map_is w t (tree_is w e t top head sound shown) ∙ sym same)
-
--- ---- the first key
-pub first_becomes : (v w : PlainView) (n : ℕ) (k : Key) (x : ℕ) → v.top ≡ None → w.top ≡ Some (Leaf n) → IsKey k → slice_get w.leaves n ≡ Some (record { key = k; value = x }) →
-    Becomes v w k x
-first_becomes v w n k x none top key at =
-    becomes v w (Leaf n) (leaf n k x) k x top refl key tt at (ap (λ m. with_value m k x) (map_none v none))
 
 -- ---- one key more
 pub tree_standing : (v : PlainView) (e : Entry) (t : Tree) → IsTree v e t → IsStanding v.nodes v.leaves e t

@@ -70,9 +70,6 @@ module _ (old : NodeView) where
   named_old xs n h P at e l s =
       record { number = n; view = old; at = at; is = ap (Node n) (sym e); lawful = l; shows = sym s; height = inr (refl, refl) }
 
-  named_more : (xs ys : List NodeView) (e : Entry) (P : Piece Entry) (i : IsNamed xs old e P) → slice_get ys i.number ≡ Some i.view → IsNamed ys old e P
-  named_more xs ys e P i at = record { number = i.number; view = i.view; at = at; is = i.is; lawful = i.lawful; shows = i.shows; height = i.height }
-
   module _ (xs : List NodeView) (n h : ℕ) (at : slice_get xs n ≡ Some old) (high : old.height ≡ h) (lawful : IsLawfulNode old) where
     in_range : n < length xs
     in_range = slice_get_within xs n old at

@@ -1,14 +1,12 @@
 -- What a search tells of the map.
 use Rattle.std.proofs.Common.{◌≡◌, ◌≢◌, inl, inr, ℕ, [], ◌++◌, true, false, if◌then◌else◌, refl, ap, sym, ◌∙◌, subst, Option, Some, None}
-use Rattle.std.specs.Prelude.{option_and_then}
 use Rattle.finite_map.specs.Maps.{value_at}
-use Rattle.compound_node.specs.Nodes.{height_of}
 use Rattle.tries.specs.Keys.{Key, bit}
 use Rattle.tries.specs.Tree.{Tree, leaf, node, fork, Has, IsTrie}
 use Rattle.tries.specs.Content.{items, pairs, IsIn}
 use Rattle.tries.proofs.Contents.{content_rises, in_append_left, in_append_right, holds_has}
 use Rattle.tries.proofs.Maps.{are_keys, lookup_in, value_holds}
-use Rattle.plain_trie.specs.Store.{PlainView, shown_tree, map_read, trie_map, entry_tree}
+use Rattle.plain_trie.specs.Store.{PlainView, shown_tree, map_read, trie_map}
 use Rattle.tries.specs.Search.{found}
 
 -- a search ends at a leaf of the tree
@@ -44,6 +42,3 @@ value_missed k t i ne = go (value_at (pairs (items t)) k) refl
 -- the map of a trie's tree, and of none
 pub map_is : (v : PlainView) (t : Tree) → shown_tree v ≡ Some t → trie_map v ≡ pairs (items t)
 map_is v t e = ap map_read e
-
-pub map_none : (v : PlainView) → v.top ≡ None → trie_map v ≡ []
-map_none v top = ap map_read (ap (option_and_then (λ z. entry_tree v.nodes v.leaves (height_of z) z)) top)

@@ -29,11 +29,6 @@ fixed_words_parts count height columns rows words same = record {
   rows_are = λ j small. sym (word_by_offset (fixed_word count height columns rows) words 25 (9 + j) (sym same) (omega arith) ∙ grind (arith, nat_tests));
 }
 
--- the word at each offset
-pub fixed_words-at : (count height : ℕ) (columns rows : List ℕ) (i : ℕ) → i < 25 → get_or (fixed_words count height columns rows) i 0 ≡ fixed_word count height columns rows (1 + i)
-unfolding fixed_words
-fixed_words-at count height columns rows i small = word_by_offset (fixed_word count height columns rows) _ 25 i refl small
-
 -- rows that are the same at each place have the same words
 pub fixed_words-same : (count height : ℕ) (columns rows sparse : List ℕ) → ((i : ℕ) → row_at rows i ≡ row_at sparse i) → fixed_words count height columns rows ≡ fixed_words count height columns sparse
 fixed_words-same count height columns rows sparse same =

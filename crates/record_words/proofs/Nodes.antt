@@ -1,14 +1,13 @@
 -- A node against its words.
 use Rattle.std.proofs.Common.{ℕ, ◌≡◌, ◌+◌, ◌<◌, ◌≤◌, arith, List, get_or, length, take, drop, refl, sym, ap, ◌∙◌, length-append}
 use Rattle.std.specs.Prelude.{slice_get}
-use Rattle.std.proofs.lemmas.List.{take_at, drop_at, take_all, get_or_append_left, get_or-append_right}
+use Rattle.std.proofs.lemmas.List.{take_at, drop_at, take_all, get_or-append_right}
 use Rattle.compound_node.specs.Nodes.{NodeView, HeadView, IsLawfulNode, head_of, node_of}
 use Rattle.compound_node.proofs.Lawful.{same_count}
 use Rattle.record_words.specs.Entry.{entry_word}
-use Rattle.record_words.specs.Packed.{fixed_word}
 use Rattle.record_words.specs.Node.{HasNodeWords, head_words, entry_words, node_words}
 use Rattle.record_words.proofs.Entries.{length-entry_words, entry_words_at, same_entries}
-use Rattle.record_words.proofs.Fixing.{AreFixed, columns_same, fixed_words_parts, fixed_words-at, rows_same, same_numbers}
+use Rattle.record_words.proofs.Fixing.{AreFixed, columns_same, fixed_words_parts, rows_same, same_numbers}
 use Rattle.record_words.proofs.Heads.{same_fields}
 use Rattle.record_words.proofs.Lawful.{column-lt, row-lt}
 
@@ -27,11 +26,6 @@ entry_part node words same =
 -- ---- what stands at each offset
 pub length-node_words : (node : NodeView) → length (node_words node) ≡ 57
 length-node_words node = length-append (head_words (head_of node)) (entry_words node.entries) ∙ omega (arith, length-head_words node, length-entry_words node.entries)
-
--- at offsets 1 to 25 it does not depend on what the entries are
-pub node_words-fixed : (node : NodeView) (i : ℕ) → i < 25 → get_or (node_words node) i 0 ≡ fixed_word (length node.rows) node.height node.columns node.rows (1 + i)
-node_words-fixed node i small =
-    get_or_append_left (head_words (head_of node)) (entry_words node.entries) 0 i (omega (arith, length-head_words node)) ∙ fixed_words-at (length node.rows) node.height node.columns node.rows i small
 
 pub node_words-entry : (node : NodeView) (i : ℕ) → i < 32 → get_or (node_words node) (25 + i) 0 ≡ entry_word (slice_get node.entries i)
 node_words-entry node i small =

@@ -1,5 +1,5 @@
 -- Where two keys part, told by their first difference.
-use Rattle.std.proofs.Common.{◌≡◌, ◌≢◌, ◌↔◌, ℕ, ◌<◌, List, Bool, true, false, not, IsTrue, nat_eq, refl, ap, sym, ◌∙◌, subst, arith, ◌⊎◌, inl, inr, ◌≤◌}
+use Rattle.std.proofs.Common.{◌≡◌, ◌≢◌, ◌↔◌, ℕ, ◌<◌, List, Bool, true, false, not, IsTrue, nat_eq, refl, sym, ◌∙◌, subst, arith, ◌⊎◌, inl, inr, ◌≤◌}
 use Rattle.std.proofs.lemmas.Bool.{false≢true, cases_lt, ne_eqb}
 use Rattle.key_bits.specs.Bits.{bit_of, IsFirstDifference}
 use Rattle.tries.specs.Keys.{bit, IsParted}
@@ -11,9 +11,6 @@ parted_from k l p d z = (d.agree, z, other (bit_of l p) refl)
     other : (b : Bool) → bit_of l p ≡ b → bit_of l p ≡ true
     other true e = e
     other false e = absurd (d.differ (z ∙ sym e))
-
-pub no_part : (k l : List ℕ) (p : ℕ) → k ≡ l → ¬ (IsParted p k l)
-no_part k l p e x = false≢true (sym x.1 ∙ (ap (λ u. bit u p) e ∙ x.2))
 
 parted_first : (k l : List ℕ) (f p : ℕ) → IsFirstDifference k l f → IsParted p k l → f ≡ p
 unfolding bit

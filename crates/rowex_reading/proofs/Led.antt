@@ -32,7 +32,7 @@ use Rattle.rowex_table.specs.Made.{IsLater}
 use Rattle.rowex_reading.proofs.Later.{event_later, event_possible}
 use Rattle.rowex_reading.proofs.Loading.{pinned_by}
 use Rattle.rowex_reading.proofs.Rooting.{root_since}
-use Rattle.rowex_reading.proofs.Seeing.{later_none, later_trans, since_later, sure_later, seen_stable, shaped_stable}
+use Rattle.rowex_reading.proofs.Seeing.{later_none, later_trans, since_later, sure_later, seen_stable}
 
 -- it was led to the node, and has read its forks
 abbrev pub HasShape : Known → ℕ → ℕ → ℕ → Page → Type 0
@@ -149,9 +149,6 @@ module _ {G : Type 0} {table : TableView} {becomes : G → Event → G → Type 
   -- What the pass was led to it is led to still.
   pub led_on : {f n : ℕ} {a b : SeatView × G} (m : ℕ) (e : Entry) → Reads table becomes f n a b → IsLedTo a.0.known m e → IsLedTo b.0.known m e
   led_on m e x (pinned, sure) = (since_later (reads_later x) pinned, sure_later {P = λ s. IsSeen s m e} (seen_stable m e) (reads_later x) sure)
-
-  pub shape_on : {e n : ℕ} {a b : SeatView × G} (m c h : ℕ) (x : Page) → Reads table becomes e n a b → HasShape a.0.known m c h x → HasShape b.0.known m c h x
-  shape_on m c h x r (led, shaped) = (led_on m (Node c h) r led, sure_later {P = λ s. IsShaped s m c x} (shaped_stable m c x) (reads_later r) shaped)
 
   -- a node that it was led to, with the forks that it has read
   pub led_shape : {e n : ℕ} {a b : SeatView × G} (m c h : ℕ) (x : Page) → Reads table becomes e n a b → IsLedTo a.0.known m (Node c h) → Sure b.0.known (λ s. IsShaped s m c x) →

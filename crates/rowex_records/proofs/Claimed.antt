@@ -161,12 +161,6 @@ more_since r k i j same holds = record {
   apart = subst (λ l. All (λ o. o.rec ≢ r) l) same holds.apart;
 }
 
--- beside what the pass had
-pub more_keeps : (r s : Rec) (h : Holding) (words : List ℕ) (k j : Known) → HoldsOneMore r k j → OwnsAs k s h words → OwnsAs j s h words
-more_keeps r s h words k j holds has =
-    let low = has.1 in
-    subst (λ l. Contains l (record { rec = s; holding = h; words = words })) (sym holds.own) (suc has.0, omega arith, has.2)
-
 module _ {G : Type 0} (table : TableView) (becomes : G → Event → G → Type 0) where
   load_misses : (r : Rec) (word : ℕ) (a b : SeatView × G) → 1 ≤ word → Steps table becomes (LoadState r word) a b → Learns a_load r word a.0.known b.0.known
   load_misses r word a b low step = go (nat_eq word 0) refl step.event.learned_is

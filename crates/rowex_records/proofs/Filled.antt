@@ -8,26 +8,23 @@ use Rattle.record_words.specs.declared.layout.Layout.{Layout}
 use Rattle.record_words.specs.Layout.{leaf_size}
 use Rattle.record_words.proofs.Locations.{size_fits}
 use Rattle.moments.specs.declared.Rec.{Rec}
-use Rattle.moments.specs.declared.Rec.TheVariants.{Node as a_node, Leaf as a_leaf}
+use Rattle.moments.specs.declared.Rec.TheVariants.{Leaf as a_leaf}
 use Rattle.moments.specs.Steps.{same_rec}
-use Rattle.moments.proofs.Legal.{same_rec_true, same_rec_refl}
+use Rattle.moments.proofs.Legal.{same_rec_true}
 use Rattle.rowex_core.specs.declared.event.Act.TheVariants.{Ready, Release}
 use Rattle.rowex_core.specs.declared.event.Event.{Event}
 use Rattle.rowex_core.specs.declared.known.Holding.{Holding}
-use Rattle.rowex_core.specs.declared.known.Holding.TheVariants.{Held, Ready as IsReady}
 use Rattle.rowex_core.specs.declared.known.Owned.{Owned}
 use Rattle.rowex_core.specs.declared.known.Known.{Known}
 use Rattle.rowex_core.specs.Cores.{Core, IsLawful, IsWithin, word_count_of}
-use Rattle.rowex_core.specs.Events.{IsOffset}
 use Rattle.rowex_core.specs.Sharing.{IsOwned}
-use Rattle.rowex_core.specs.Knowing.{Knows, fill_in, hold_as}
+use Rattle.rowex_core.specs.Knowing.{Knows, fill_in}
 use Rattle.rowex_core.proofs.Lists.{kept}
 use Rattle.rowex_core.proofs.Owning.{knows_all}
 use Rattle.rowex_table.specs.Rights.{OwnsAs}
 use Rattle.rowex_table.specs.Runs.{Steps}
 use Rattle.rowex_table.specs.Seats.{TableView, SeatView}
 use Rattle.rowex_core.proofs.Having.{other_rec}
-use Rattle.rowex_table.proofs.Rights.{mapped}
 use Rattle.rowex_records.specs.Records.{fill_with, Readies, GivesUp}
 use Rattle.rowex_records.proofs.Making.{owns_one}
 
@@ -42,12 +39,6 @@ twice f g h e (o ∷ own) = λ i. e o i ∷ twice f g h e own i
 pub each_mapped : (P : Owned → Type 0) (f g : Owned → Owned) → ((o : Owned) → P o → f o ≡ g o) → (own : List Owned) → All P own → map f own ≡ map g own
 each_mapped P f g e [] all = refl
 each_mapped P f g e (o ∷ own) all = λ i. e o (All-head P o own all) i ∷ each_mapped P f g e own (All-tail P o own all) i
-
--- what a pass has of one record stays where a change is of another
-pub stays_mapped : (k j : Known) (f : Owned → Owned) (s : Rec) (h : Holding) (words : List ℕ) → j.own ≡ map f k.own → f (record { rec = s; holding = h; words = words }) ≡ record { rec = s; holding = h; words = words } → OwnsAs k s h words → OwnsAs j s h words
-stays_mapped k j f s h words is same has =
-    let o : Owned = record { rec = s; holding = h; words = words } in
-    subst (λ l. Contains l o) (sym is) (subst (Contains (map f k.own)) same (mapped f k.own o has))
 
 passes_beside : (r s : Rec) → s ≢ r → not (same_rec s r) ≡ true
 passes_beside r s ne = rw (other_rec s r ne) refl
@@ -139,10 +130,6 @@ filled_with r words size o sized = go (same_rec o.rec r) refl
     go false e = rw e refl
 
 module _ {G : Type 0} (table : TableView) (becomes : G → Event → G → Type 0) where
-  -- what a pass has of one record, making another ready leaves to it, and so does giving up another
-  pub readies_keeps : (r s : Rec) (h : Holding) (words : List ℕ) (a b : SeatView × G) → s ≢ r → Readies table becomes r a b → OwnsAs a.0.known s h words → OwnsAs b.0.known s h words
-  readies_keeps r s h words a b ne readies has = stays_mapped a.0.known b.0.known (hold_as r IsReady) s h words readies.own (rw (other_rec s r ne) refl) has
-
   pub gives_up_keeps : (r s : Rec) (h : Holding) (words : List ℕ) (a b : SeatView × G) → s ≢ r → GivesUp table becomes r a b → OwnsAs a.0.known s h words → OwnsAs b.0.known s h words
   gives_up_keeps r s h words a b ne gives has =
       let o : Owned = record { rec = s; holding = h; words = words } in
@@ -152,13 +139,6 @@ module _ {G : Type 0} (table : TableView) (becomes : G → Event → G → Type 
 
   pub readies_of : (r : Rec) (a b : SeatView × G) → Steps table becomes (Ready r) a b → Readies table becomes r a b
   readies_of r a b step = record { does = owns_one table becomes (Ready r) a b tt step; own = ap (λ (z : Known). z.own) step.event.learned_is }
-
-  -- what it makes ready is ready
-  pub readies_gives : (r : Rec) (words : List ℕ) (a b : SeatView × G) → Readies table becomes r a b → OwnsAs a.0.known r Held words → OwnsAs b.0.known r IsReady words
-  readies_gives r words a b readies has =
-      let held : hold_as r IsReady (record { rec = r; holding = Held; words = words }) ≡ record { rec = r; holding = IsReady; words = words } = rw (same_rec_refl r) refl in
-      subst (λ l. Contains l (record { rec = r; holding = IsReady; words = words })) (sym readies.own)
-      (subst (Contains (map (hold_as r IsReady) a.0.known.own)) held (mapped (hold_as r IsReady) a.0.known.own (record { rec = r; holding = Held; words = words }) has))
 
   pub gives_up : (r : Rec) (a b : SeatView × G) → Steps table becomes (Release r) a b → GivesUp table becomes r a b
   gives_up r a b step = record { does = owns_one table becomes (Release r) a b tt step; own = ap (λ (z : Known). z.own) step.event.learned_is }
@@ -172,15 +152,3 @@ fill_beside r words (o ∷ own) apart = λ i. beside i ∷ fill_beside r words o
   where
     beside : fill_with r words o ≡ o
     beside = rw (other_rec o.rec r (All-head (λ x. x.rec ≢ r) o own apart)) refl
-
-pub hold_beside : (r : Rec) (h : Holding) (own : List Owned) → All (λ o. o.rec ≢ r) own → map (hold_as r h) own ≡ own
-hold_beside r h [] apart = refl
-hold_beside r h (o ∷ own) apart = λ i. beside i ∷ hold_beside r h own (All-tail (λ x. x.rec ≢ r) o own apart) i
-  where
-    beside : hold_as r h o ≡ o
-    beside = rw (other_rec o.rec r (All-head (λ x. x.rec ≢ r) o own apart)) refl
-
--- the offset of a word of a record
-pub offset_of : (r : Rec) (i : ℕ) → i < word_count_of r → IsOffset r (i + 1)
-offset_of (a_node n) i low = (omega arith, omega arith)
-offset_of (a_leaf n) i low = (omega arith, omega arith)

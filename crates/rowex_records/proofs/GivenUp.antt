@@ -3,28 +3,23 @@ use Rattle.std.proofs.Common.{◌≡◌, ◌≢◌, inl, inr, ℕ, zero, suc, �
 use Rattle.std.specs.Prelude.{All, Contains}
 use Rattle.std.proofs.lemmas.List.{drop_all, map-append, take_all, take_more}
 use Rattle.std.proofs.Math.Seq.{drop-cons}
-use Rattle.std.proofs.lemmas.List.Elements.{All-nil, All-cons, All-contains, All-head, All-map, All-push, All-tail, All-weaker}
+use Rattle.std.proofs.lemmas.List.Elements.{All-nil, All-cons, All-head, All-tail}
 use Rattle.moments.specs.declared.Rec.{Rec}
 use Rattle.moments.specs.Steps.{same_rec}
-use Rattle.moments.proofs.Legal.{same_rec_refl, same_rec_true}
+use Rattle.moments.proofs.Legal.{same_rec_refl}
 use Rattle.rowex_core.specs.declared.event.Act.TheVariants.{Release}
 use Rattle.rowex_core.specs.declared.event.Event.{Event}
 use Rattle.rowex_core.specs.declared.known.Holding.TheVariants.{Held}
 use Rattle.rowex_core.specs.declared.known.Known.{Known}
 use Rattle.rowex_core.specs.declared.known.Owned.{Owned}
-use Rattle.rowex_core.specs.Cores.{word_count_of}
 use Rattle.rowex_core.specs.Knowing.{without_record}
 use Rattle.rowex_table.specs.Rights.{IsClaimed}
 use Rattle.rowex_table.specs.Runs.{Does}
 use Rattle.rowex_table.specs.Seats.{TableView, SeatView}
-use Rattle.rowex_table.proofs.Rights.{mapped}
-use Rattle.rowex_records.specs.Claims.{Claims, HoldsOneMore}
-use Rattle.rowex_records.specs.Records.{owning, fill_with, HoldsJust, GivesUp, GivesUpAll}
-use Rattle.rowex_records.proofs.Claimed.{claims_holds, more_is_claimed, more_keeps}
-use Rattle.rowex_records.proofs.Filled.{gives_up_keeps, stays_mapped}
+use Rattle.rowex_records.specs.Records.{owning, HoldsJust, GivesUp, GivesUpAll}
+use Rattle.rowex_records.proofs.Filled.{gives_up_keeps}
 use Rattle.rowex_records.proofs.Making.{owns_none, owns_append}
 use Rattle.moments.specs.Trades.{IsOf}
-use Rattle.moments.proofs.Members.{all_of, apart_push}
 
 -- a pass that has just no records has none
 held_none : (k : Known) → HoldsJust k [] → k.own ≡ []
@@ -101,62 +96,3 @@ module _ {G : Type 0} (table : TableView) (becomes : G → Event → G → Type 
   }
 
 -- What a pass has claimed it holds, and fills leave it so
-
-in_front : {X : Type 0} (xs ys : List X) (x : X) → Contains xs x → Contains (xs ++ ys) x
-in_front [] ys x (i, low, is) = absurd (omega arith)
-in_front (y ∷ xs) ys x (zero, low, is) = (0, omega arith, is)
-in_front (y ∷ xs) ys x (suc i, low, is) = let rest = in_front xs ys x (i, omega arith, is) in let below = rest.1 in (suc rest.0, omega arith, rest.2)
-
-at_end : {X : Type 0} (xs : List X) (x : X) → Contains (xs ++ x ∷ []) x
-at_end [] x = (0, omega arith, refl)
-at_end (y ∷ xs) x = let rest = at_end xs x in let below = rest.1 in (suc rest.0, omega arith, rest.2)
-
-pub holds_nothing : (k : Known) → k.own ≡ [] → HoldsJust k []
-holds_nothing k is = record { only = subst (λ own. All (λ o. (o.holding ≡ Held) × Contains [] o.rec) own) (sym is) (All-nil (λ o. (o.holding ≡ Held) × Contains [] o.rec)); each = All-nil (IsClaimed k); apart = tt }
-
-module _ {G : Type 0} (table : TableView) (becomes : G → Event → G → Type 0) where
-  pub holds_claimed : (kind : ℕ → Rec) (n from number : ℕ) (recs : List Rec) (a b : SeatView × G) → HoldsJust a.0.known recs → Claims table becomes kind n from number a b
-      → HoldsJust b.0.known (recs ++ kind number ∷ [])
-  holds_claimed kind n from number recs a b holds claims = record {
-    only = subst (λ own. All (λ o. (o.holding ≡ Held) × Contains more o.rec) own) (sym one.own)
-        (All-cons (λ o. (o.holding ≡ Held) × Contains more o.rec) _ a.0.known.own (refl, at_end recs r)
-        (All-weaker (λ o. (o.holding ≡ Held) × Contains recs o.rec) (λ o. (o.holding ≡ Held) × Contains more o.rec) (λ o h. (h.0, in_front recs (r ∷ []) o.rec h.1)) a.0.known.own holds.only));
-    each = All-push (IsClaimed b.0.known) recs r
-        (All-weaker (IsClaimed a.0.known) (IsClaimed b.0.known) (λ s h. (h.0, h.1, more_keeps r s Held h.0 a.0.known b.0.known one h.2)) recs holds.each)
-        (more_is_claimed r a.0.known b.0.known one);
-    apart = apart_push recs r holds.apart (λ h. all_of (λ s. s ≢ r) r recs
-        (All-weaker (IsClaimed a.0.known) (λ s. s ≢ r) (λ s h. All-contains (λ o. o.rec ≢ r) a.0.known.own (record { rec = s; holding = Held; words = h.0 }) one.apart h.2) recs holds.each) h refl);
-  }
-    where
-      r : Rec
-      r = kind number
-
-      one : HoldsOneMore r a.0.known b.0.known
-      one = claims_holds table becomes kind n from number a b claims
-
-      more : List Rec
-      more = recs ++ r ∷ []
-
--- However they are told: of the pass's own records the filled one has these words, and the others are as they were
-pub holds_filled : (r : Rec) (words : List ℕ) (recs : List Rec) (k j : Known) → HoldsJust k recs → length words ≡ word_count_of r → j.own ≡ map (fill_with r words) k.own → HoldsJust j recs
-holds_filled r words recs k j holds sized filled = record {
-  only = subst (λ own. All (λ o. (o.holding ≡ Held) × Contains recs o.rec) own) (sym filled)
-      (All-map (λ o. (o.holding ≡ Held) × Contains recs o.rec) (fill_with r words) k.own
-      (All-weaker (λ o. (o.holding ≡ Held) × Contains recs o.rec) (λ o. ((fill_with r words o).holding ≡ Held) × Contains recs (fill_with r words o).rec) (λ o h. same o (same_rec o.rec r) h) k.own holds.only));
-  each = All-weaker (IsClaimed k) (IsClaimed j) (λ s h. held s h (same_rec s r) refl) recs holds.each;
-  apart = holds.apart;
-}
-  where
-    same : (o : Owned) (t : Bool) → (o.holding ≡ Held) × Contains recs o.rec → ((if t then record o { words = words } else o).holding ≡ Held) × Contains recs (if t then record o { words = words } else o).rec
-    same o true h = h
-    same o false h = h
-
-    held : (s : Rec) → IsClaimed k s → (t : Bool) → same_rec s r ≡ t → IsClaimed j s
-    held s h true e =
-        let o : Owned = record { rec = s; holding = Held; words = words } in
-        let with : fill_with r words (record { rec = s; holding = Held; words = h.0 }) ≡ o = rw e refl in (
-          words,
-          sized ∙ ap word_count_of (sym (same_rec_true s r e)),
-          subst (λ l. Contains l o) (sym filled) (subst (Contains (map (fill_with r words) k.own)) with (mapped (fill_with r words) k.own (record { rec = s; holding = Held; words = h.0 }) h.2)),
-        )
-    held s h false e = (h.0, h.1, stays_mapped k j (fill_with r words) s Held h.0 filled (rw e refl) h.2)

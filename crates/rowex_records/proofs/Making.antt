@@ -1,5 +1,5 @@
 -- Steps on records of the pass's own: what they leave of what it knows, and how they follow one another.
-use Rattle.std.proofs.Common.{◌≡◌, ℕ, ◌+◌, List, [], ◌∷◌, ◌++◌, Bool, true, false, nat_eq, length, refl, sym, ap, ◌∙◌}
+use Rattle.std.proofs.Common.{◌≡◌, ℕ, ◌+◌, List, [], ◌∷◌, ◌++◌, Bool, true, false, nat_eq, refl, sym, ap, ◌∙◌}
 use Rattle.std.specs.Prelude.{if◌then◌else◌}
 use Rattle.std.proofs.lemmas.List.{append-nil}
 use Rattle.finite_map.specs.declared.Note.{Note}
@@ -89,11 +89,3 @@ module _ {G : Type 0} (table : TableView) (becomes : G → Event → G → Type 
 
   pub claims_append : (acts more : List Act) (a m b : SeatView × G) → Does table becomes claiming acts a m → Does table becomes claiming more m b → Does table becomes claiming (acts ++ more) a b
   claims_append acts more a m b first second = running.does_append table becomes claiming (λ k i j n o. refl) acts more a m b first second
-
-  -- steps on held records are among those that may change the failed steps too
-  pub owns_claiming : (acts : List Act) (a b : SeatView × G) → Does table becomes owning acts a b → Does table becomes claiming acts a b
-  owns_claiming acts a b does = record {
-    seat = does.seat;
-    steps = does.steps;
-    rest = does.rest ∙ ap (λ (failed : List Failed). let z : Known = record (owning a.0.known b.0.known) { failed = failed; steps = a.0.known.steps + length acts } in z) (sym (ap (λ (z : Known). z.failed) does.rest));
-  }

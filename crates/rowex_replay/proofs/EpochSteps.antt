@@ -1,5 +1,5 @@
 -- The steps on the epoch and on pins.
-use Rattle.std.proofs.Common.{◌≡◌, ◌≢◌, inl, inr, ⊎_elim, ◌<◌, ◌≤◌, ℕ, List, [], ◌∷◌, length, set, replicate, slice_get, Option, Some, None, IsSome, is_some, is_none, option_map, unwrap_or, Bool, true, false, nat_eq, if◌then◌else◌, refl, sym, ap, ◌∙◌, subst, arith}
+use Rattle.std.proofs.Common.{◌≡◌, ◌≢◌, inl, inr, ⊎_elim, ◌<◌, ◌≤◌, ℕ, List, [], ◌∷◌, length, set, replicate, slice_get, Option, Some, None, IsSome, is_none, option_map, unwrap_or, Bool, true, false, nat_eq, if◌then◌else◌, refl, sym, ap, ◌∙◌, subst, arith}
 use Rattle.std.proofs.lemmas.Bool.{eq-eqb, ne_eqb, cases_Bool, eqb-true}
 use Rattle.std.proofs.lemmas.List.{length-set, length-replicate}
 use Rattle.std.proofs.lemmas.Option.{same_Some, none-some, slice_get_within}
@@ -44,10 +44,6 @@ own_at s c h q p e = h.passes.each q p e
 
 pub pass_in : (s t : StateView) → s ≡ t → (q : ℕ) (p : PassState) → slice_get t.passes q ≡ Some p → slice_get s.passes q ≡ Some p
 pass_in s t e q p at = subst (λ (z : StateView). slice_get z.passes q ≡ Some p) (sym e) at
-
-pub none_from : (o : Option ℕ) → is_some o ≡ false → o ≡ None
-none_from None e = refl
-none_from (Some w) e = absurd (cc)
 
 pub some_from : (o : Option ℕ) → is_none o ≡ false → o ≢ None
 some_from None e = absurd (cc)

@@ -4,7 +4,6 @@ use Rattle.std.proofs.Props.{props}
 use Rattle.std.proofs.lemmas.List.{take_all}
 use Rattle.std.proofs.Math.Logic.{∥∥₁_elim, ∥∥₁_map}
 use Rattle.finite_map.specs.Fronts.{map_of}
-use Rattle.record_words.specs.declared.layout.Layout.{Layout}
 use Rattle.moments.specs.Told.{content}
 use Rattle.rowex_core.specs.declared.event.Act.{Act}
 use Rattle.rowex_core.specs.declared.event.Event.{Event}
@@ -15,7 +14,7 @@ use Rattle.rowex_core.specs.Events.{IsLockedAt, Legal, after}
 use Rattle.rowex_core.specs.Opening.{opening}
 use Rattle.rowex_core.specs.Runs.{Leads}
 use Rattle.rowex_core.proofs.Runs.{runs_stay_lawful}
-use Rattle.rowex_replay.specs.Runs.{Run, HasLegalEvents, core_after, core_of, new_run, with_event}
+use Rattle.rowex_replay.specs.Runs.{Run, HasLegalEvents, core_after, core_of, with_event}
 use Rattle.rowex_replay.specs.States.{StateView, IsStateOf, IsAfter, HasLock, IsLockedPublish, MayWantMemory}
 use Rattle.rowex_replay.proofs.Tables.{within}
 
@@ -50,10 +49,6 @@ locked_at s c q (Slot n j) at (few, own) = (within s.records.locks c.layout.node
 
 pub wants_memory : (s : StateView) (run : Run) (q : ℕ) (act : Act) → IsAfter s run → IsLockedPublish s q act → MayWantMemory (core_of run) q act
 wants_memory s run q act h (spot, w, is, own) = (spot, w, is, locked_at s (core_of run) q spot h.at own)
-
--- no event yet
-pub opens : (s : StateView) (layout : Layout) → IsStateOf s (opening layout) → IsAfter s (new_run layout)
-opens s layout at = record { legal = ∣ refl ∣₁; at = at }
 
 -- An event that the state takes is legal in the run's core, and the run goes on with it.
 

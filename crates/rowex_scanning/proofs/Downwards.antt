@@ -77,28 +77,6 @@ rest_is {frames = frames} f fs first rest =
 
 -- The walk
 
--- The scan's invariant after more loads.
-down_later_scan : {k j : Known} {m : ℕ} {g : Range} {top : Step} {frames : List Step} {pairs : List (Key × ℕ)} → (w : IsDownWalk k m g top frames pairs) → IsLater k j →
-    Sure j (λ s. IsDownScan s m g (w.lowest ∷ w.others) w.taken)
-down_later_scan {k} {j} {m} {g} w l c lawful recalls =
-    down_on (seen c k) (seen c j) (seen_grown c l) m g (w.lowest ∷ w.others) w.taken (w.scan c lawful (recalls_before l recalls))
-
--- The walk after more loads.
-pub down_later : {k j : Known} {m : ℕ} {g : Range} {top : Step} {frames : List Step} {pairs : List (Key × ℕ)} → IsDownWalk k m g top frames pairs → IsLater k j → IsDownWalk j m g top frames pairs
-down_later w l = record {
-  lowest = w.lowest;
-  others = w.others;
-  taken = w.taken;
-  top_is = w.top_is;
-  frames_are = w.frames_are;
-  pairs_are = w.pairs_are;
-  room = w.room;
-  fits = w.fits;
-  inside = w.inside;
-  pinned = since_later l w.pinned;
-  scan = down_later_scan w l;
-}
-
 -- from the last load of the root on
 pub down_since : {k : Known} {m : ℕ} {g : Range} {top : Step} {frames : List Step} {pairs : List (Key × ℕ)} → since k ≡ m → IsDownWalk k m g top frames pairs → IsDownWalk k (since k) g top frames pairs
 down_since {k = k} {g = g} {top = top} {frames = frames} {pairs = pairs} e = subst (λ z. IsDownWalk k z g top frames pairs) (sym e)
@@ -205,9 +183,6 @@ behind_is f is =
 -- At a node, which was entered: the walk begins behind its last place.
 module _ {k j : Known} {m : ℕ} {g : Range} {top : Step} {frames : List Step} {pairs : List (Key × ℕ)} {number height : ℕ} (a : IsDownAt k m g top frames pairs (Node number height)) (l : IsLater k j) {into : Step}
     (e : IsEntered j m number height into) {more : List Step} (q : more ≡ frames ++ top ∷ []) where
-  last_stage : Stage
-  last_stage = record { number = number; height = height; shape = e.forks; place = size e.forks }
-
   more_are : more ≡ frames_of (a.at.stage ∷ a.at.others)
   more_are = q ∙ (ap (λ z. z ++ top ∷ []) a.at.frames_are ∙ ap (λ z. frames_of a.at.others ++ z ∷ []) a.at.top_is)
 
@@ -397,9 +372,6 @@ module _ {layout : Layout} {k : Known} {m : ℕ} {g : Range} {top : Step} {frame
   -- it has no more pairs than the limit
   pub down_within : length pairs ≤ g.limit
   down_within = let short = scan_now.short in let n = ap length w.pairs_are ∙ length_turned w.taken in omega (arith, short, n)
-
-pub down_low : {k : Known} {m : ℕ} {g : Range} {top : Step} {frames : List Step} {pairs : List (Key × ℕ)} → IsDownWalk k m g top frames pairs → (top.at ≤ top.count) × (top.count ≤ 32)
-down_low w = subst (λ (z : Step). (z.at ≤ z.count) × (z.count ≤ 32)) (sym w.top_is) (w.fits, w.room)
 
 -- The loads of a walk
 

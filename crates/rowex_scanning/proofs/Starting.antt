@@ -176,9 +176,6 @@ module _ (layout : Layout) (k : Known) (m : ℕ) (key : Key) (way : List Step) (
   abbrev StandsAt : (i : ℕ) → i < length way → Type 0
   StandsAt i h = Sure k (λ s. MayStandAt s m (stage i h).number (stage i h).place key)
 
-  AreSure : List Stage → Type 0
-  AreSure fs = Sure k (λ s. AreAt s m key fs)
-
   -- what is right of their places is above it
   are_over : (fs : List Stage) → Sure k (λ s. AreAt s m key fs) → AreOver k m key (frames_of fs)
   are_over [] at = tt

@@ -2,7 +2,7 @@
 use Rattle.std.proofs.Common.{◌≡◌, ◌≢◌, ℕ, zero, suc, eqb, List, [], ◌∷◌, ◌++◌, set, get_or, Bool, true, false, nat_eq, if◌then◌else◌, Option, Some, None, refl, sym, ap, subst, ◌∙◌, ⊎_elim}
 use mathlib.Core.Option.{none, some, some-injective, some-ne-none}
 use lib.ListN.{get_elem?}
-use Rattle.atomic_table.specs.Table.{State, Me, Step, Allows}
+use Rattle.atomic_table.specs.Table.{Me, Step, Allows}
 use Rattle.atomic_table.specs.Table as table
 use Rattle.atomic_table.proofs.Lists.{at_set, set_else}
 use Rattle.std.proofs.lemmas.Bool.Decides.{eqb_tells}
@@ -26,7 +26,7 @@ use Rattle.rowex_core.proofs.Keeping.{keeps}
 use Rattle.rowex_core.proofs.Learning.{learns}
 use Rattle.rowex_core.proofs.Staying.{stays_lawful}
 use Rattle.rowex_core.proofs.Writing.{step_writes, writes_one, in_table}
-use Rattle.rowex_table.specs.Rule.{Ruled, IsSomeSeats, did, Happens, MayStep, found_by, known_of}
+use Rattle.rowex_table.specs.Rule.{Ruled, IsSomeSeats, did, MayStep, found_by, known_of}
 
 -- A pass keeps its number
 
@@ -67,9 +67,6 @@ learned_pass c ClearPin k = refl
 learned_pass c (LoadPin o w) k = refl
 learned_pass c (LoadState r w) k = either_pass (nat_eq w 0) _ _ k refl refl
 learned_pass c (GiveBack r epoch found) k = refl
-
-pub event_pass : (layout : Layout) (act : Act) (said : Known → List Note) (k j : Known) → IsEvent layout act said k j → j.pass ≡ k.pass
-event_pass layout act said k j e = ap (λ (z : Known). z.pass) e.learned_is ∙ learned_pass e.core act k
 
 -- notes are outside the rule
 pub renoted : (c : Core) (k : Known) (notes : List Note) → Knows c k → Knows c (record k { notes = notes })
@@ -196,10 +193,3 @@ module _ {S : Type 0} (layout : Layout) (slots id i : ℕ) (k : Known) (act : Ac
       (subst (λ (x : Option Layout). Allows {S = S} {V = View} (Ruled layout) slots id me i f (λ n m'. did x act said st me (tell n) m')) (sym is_of)
       (subst (λ (m : Me S View). Allows {S = S} {V = View} (Ruled layout) slots id m i f (λ n m'. did (Some layout) act said st m (tell n) m'))
       (ap (λ (z : Known). let m : Me S View = (Pass z, []) in m) same ∙ sym is) (allows place new says apt)))
-
--- what a step tells a pass
-pub told : {S : Type 0} (layout : Layout) (of : Option Layout) (act : Act) (said : Known → List Note) (st : Step S) (me m' : Me S View) (w : ℕ) → of ≡ Some layout → me ≡ (Pass (known_of me.0), []) → did of act said st me w m'
-    → (m' ≡ (Pass (known_of m'.0), [])) × IsEvent layout (found_by act w) said (known_of me.0) (known_of m'.0)
-told {S = S} layout of act said _ me m' w is_of is h =
-    let e = subst (λ (x : Option Layout × View). Happens x.0 (found_by act w) said x.1 m'.0) (λ i. (is_of i, (ap (λ (z : Me S View). z.0) is) i)) h.1 in
-    ((λ i. ((e.1 ∙ ap Pass (ap known_of (sym e.1))) i, (h.0 ∙ ap (λ (z : Me S View). z.1) is) i)), subst (IsEvent layout (found_by act w) said (known_of me.0)) (ap known_of (sym e.1)) e.2)

@@ -44,10 +44,6 @@ module _ {G : Type 0} (table : TableView) (becomes : G → Event → G → Type 
   told_append [] more g f h first second = subst (λ z. IsTold becomes more z h) first second
   told_append (event ∷ events) more g f h first second = (first.0, first.1, told_append events more first.0 f h first.2 second)
 
-  -- and of a run that ends with notes too
-  pub ends_same : (acts : List Act) (act : Act) (said : Known → List Note) (a b : SeatView × G) → Ends table becomes acts act said a b → IsSame a.0 b.0
-  ends_same acts act said a b ends = same_more a.0 ends.0.0 b.0 (runs_same acts a ends.0 ends.1) ends.2.seat
-
   pub ends_told : (acts : List Act) (act : Act) (said : Known → List Note) (a b : SeatView × G) → Ends table becomes acts act said a b → IsTold becomes (events_of a.0.known.pass (acts ++ act ∷ [])) a.1 b.1
   ends_told acts act said a b ends =
       let q = (runs_same acts a ends.0 ends.1).2 in

@@ -1,5 +1,5 @@
 -- Stamps: how one is split from a pass, and how it is joined to another.
-use Rattle.std.proofs.Common.{◌≡◌, ◌≢◌, ℕ, ◌<◌, [], List, Option, Some, refl, sym, ap, subst, ◌∙◌, inl, ⊎_elim}
+use Rattle.std.proofs.Common.{◌≡◌, ◌≢◌, ℕ, ◌<◌, [], List, Option, Some, refl, sym, subst, ◌∙◌, inl, ⊎_elim}
 use Rattle.std.proofs.lemmas.List.{set-get_or}
 use Rattle.std.specs.Prelude.{All}
 use mathlib.Core.Option.{none, some}
@@ -16,7 +16,7 @@ use Rattle.rowex_core.specs.Cores.{Core}
 use Rattle.rowex_core.specs.Words.{Shows}
 use Rattle.rowex_core.specs.Knowing.{Knowing}
 use Rattle.rowex_core.proofs.Keeping.{seen_by}
-use Rattle.rowex_table.specs.Rule.{Ruled, Following, HasFollowed, followed, following, stamped, with_front}
+use Rattle.rowex_table.specs.Rule.{Ruled, followed, following, stamped, with_front}
 use Rattle.rowex_table.proofs.Dealing.{joins_as, met_knows, splits}
 use Rattle.rowex_table.proofs.Keeping.{apart_set, each_set}
 
@@ -62,10 +62,3 @@ follows {S = S} layout of is_of slots id i me k stamp is =
           },
           (refl, (with_front c.changes k, refl, (c.changes, refl, r.lawful.core.told.legal, both.0.seen.front, both.1, subst (λ (z : Layout). All (λ x. x.pass < z.passes) c.changes) r.layout_is r.lawful.makers))),
         )
-
--- what the load tells
-pub has_followed : {S : Type 0} (layout : Layout) (of : Option Layout) → of ≡ Some layout → (me m' : Me S View) (k : Known) (stamp : List Change) → me ≡ (Follower k stamp, []) → (m'.1 ≡ me.1) × Following of me.0 m'.0
-    → (j : Known) × (m' ≡ (Pass j, [])) × HasFollowed layout stamp k j
-has_followed {S = S} layout of is_of me m' k stamp is h =
-    let t = subst (λ (v : View). Following (Some layout) v m'.0) (ap (λ (z : Me S View). z.0) is) (subst (λ (o : Option Layout). Following o me.0 m'.0) is_of h.1) in
-    (t.0, (λ i. (t.1 i, (h.0 ∙ ap (λ (z : Me S View). z.1) is) i)), t.2)

@@ -1,81 +1,24 @@
 -- The descent below the lowest locked node.
-use Rattle.std.proofs.Common.{◌≡◌, ◌⊎◌, inl, inr, ℕ, ◌<◌, ◌≤◌, refl, ap, sym, ◌∙◌, subst, arith, le_refl, Some}
-use Rattle.std.proofs.lemmas.Bool.{false≢true, cases_lt}
-use Rattle.tries.specs.Keys.{Key, bit, AgreeBelow}
-use Rattle.tries.specs.Tree.{Fixed, Page, Tree, leaf, node, fork, page, Has, IsTrie, IsFork, Within, here, inside}
+use Rattle.std.proofs.Common.{◌≡◌, ◌⊎◌, ℕ, ◌<◌, ◌≤◌, refl, ap, sym, ◌∙◌, subst, arith, le_refl, Some}
+use Rattle.tries.specs.Keys.{Key, AgreeBelow}
+use Rattle.tries.specs.Tree.{Fixed, Page, Tree, leaf, node, fork, page, Has, Within, here, inside}
 use Rattle.compound_node.specs.declared.entries.Entry.TheVariants.{Leaf, Node}
 use Rattle.pieces.specs.Piece.{Place}
 use Rattle.tries.specs.Search.{seek, Follows, child, Kin, tips, forks}
-use Rattle.moments.specs.Heap.{NodeWords, LeafWords, IsCopied}
-use Rattle.moments.specs.State.{IsRecord, Life, Out, Linked, Retired, Spans, last_of, IsLived, State, Stands, IsSameRecord, IsReach, IsLawfulState, IsFrom, StoodWithKeys}
+use Rattle.moments.specs.Heap.{NodeWords, LeafWords}
+use Rattle.moments.specs.State.{Life, Out, Linked, Retired, Spans, last_of, IsLived, Stands, IsReach, IsLawfulState, StoodWithKeys}
 use Rattle.moments.specs.declared.Rec.TheVariants.{Node as a_node}
 use Rattle.moments.specs.Core.{BareCore, view}
 use Rattle.rowex_walks.specs.Writer.{BeganAt, IsWayBelow, at_leaf, below}
-use Rattle.tries.proofs.Tries.{has_first, trie_within, built_within, within_trans, page_child, within_child}
-use Rattle.moments.proofs.States.{stem_down, is_trie, is_built}
+use Rattle.tries.proofs.Tries.{built_within, within_trans, page_child, within_child}
 use Rattle.rowex_walks.proofs.Now.{built_now, shown_now}
-use Rattle.rowex_walks.proofs.Search.{now_same, leaf_now}
+use Rattle.rowex_walks.proofs.Search.{leaf_now}
 use Rattle.moments.proofs.Heaps.{shown_within, leaf_parts, node_parts}
-use Rattle.tries.specs.Content.{first}
-
--- Where all keys agree with one before `r`, the first fork is not before `r`, at any moment of the record's life.
-from_kin : (r : ℕ) (like : Key) {b d : Tree} → Kin b d → IsFork b → IsTrie b → ((y : Key) → Has b y → AgreeBelow r like y) → IsFrom r (page d)
-from_kin r like (tips {a = leaf n k v} x y) i t f = elim i [ ]
-from_kin r like (tips {a = node n k v} x y) i t f = elim i [ ]
-from_kin r like (tips {a = fork n k v} x y) i t f = elim x [ ]
-from_kin r like (forks {p = p} {a = a} {b = b} e x y) i t f = go (cases_lt p r)
-  where
-    go : (p < r) ⊎ (r ≤ p) → r ≤ p
-    go (inr h) = h
-    go (inl h) = absurd (false≢true (sym (t.3 (first a) (has_first a)) ∙ (sym (f (first a) (inl (has_first a)) p h) ∙ (f (first b) (inr (has_first b)) p h ∙ t.4 (first b) (has_first b)))))
-
-node_number : {n o : ℕ} → a_node n ≡ a_node o → n ≡ o
-node_number e = cc
-
-near_from : (s : State) → IsLawfulState s → (m : ℕ) → IsReach s m → (r : ℕ) (like : Key) (n h : ℕ) (P : Key → Type 0) →
-    ((y : Key) → P y → AgreeBelow r like y) → StoodWithKeys s.past m P (Node n h) → IsFrom r (s.heap.nodes n).page
-near_from s law m reach r like n h P only (o, leaf a l w, lo, hi, st, e, f) = absurd cc
-near_from s law m reach r like n h P only (o, fork a l w, lo, hi, st, e, f) = absurd cc
-near_from s law m reach r like n h P only (o, node a x b, lo, hi, st, e, f) =
-    let v = now_same s law (a_node n) o (node a x b) (reach o lo hi (a_node n) (node a x b) st) st in
-    go v.0 v.1.is_record v.2 v.3
-  where
-    go : (v : Tree) → IsRecord (a_node n) v → IsSameRecord (node a x b) v → IsCopied s.heap v → IsFrom r (s.heap.nodes n).page
-    go (leaf c y d) i z g = elim z [ ]
-    go (fork c y d) i z g = elim z [ ]
-    go (node c y d) i z g =
-        let p : (s.heap.nodes n).page ≡ page d = ap (λ (z : NodeWords). z.page) (ap s.heap.nodes (node_number i) ∙ g) in
-        subst (IsFrom r) (sym p)
-        (from_kin r like z.1 (is_built s law o (a_node n) (node a x b) hi st).0 (trie_within st.within (is_trie s law o (a_node n) (node a x b) hi st)) (λ y q. only y (f y q)))
-
--- One step of the descent: the keys of the child still agree with `like` before `r`, the first fork of the topmost.
-pub near_down : (s : State) → IsLawfulState s → (m : ℕ) → IsReach s m → (r : ℕ) (like k : Key) (n h : ℕ) →
-    StoodWithKeys s.past m (λ y. AgreeBelow r like y × Unit {0}) (Node n h) →
-    StoodWithKeys s.past m (λ y. AgreeBelow r like y × Unit {0}) (seek k (s.heap.nodes n).page)
-near_down s law m reach r like k n h x =
-    let z = stem_down s law m reach r (λ y. AgreeBelow r like y × Unit {0}) (λ a b e f. ((λ q i. f.0 q i ∙ e q i), tt)) k n h
-    (near_from s law m reach r like n h (λ y. AgreeBelow r like y × Unit {0}) (λ y i. i.0) x) x in
-    (z.0, z.1, z.2, z.3, z.4, z.5, λ y i. (z.6 y i).0)
-
--- The start of the descent: what the locked node's entry names, as it stood at a moment since.
-pub near_start : (s : State) → IsLawfulState s → (m r : ℕ) (like : Key) (a : ℕ) → BeganAt s.past m r like a →
-    (h : ℕ) × StoodWithKeys s.past m (λ y. AgreeBelow r like y × Unit {0}) (Node a h)
-near_start s law m r like a (n, x, b, d, lo, hi, st, has) =
-    let i : IsTrie (fork r b d) = trie_within (within_trans (inside here) st.within) (is_trie s law n (a_node a) (node a x (fork r b d)) hi st) in
-    (x.height, (n, node a x (fork r b d), lo, hi, st, refl, λ y h. (i.2 like y has h, tt)))
 
 spans_now : (now : ℕ) (l : Life) → IsLived now l → Spans now l now → last_of now l ≡ now
 spans_now now Out i h = elim h [ ]
 spans_now now (Linked f) i h = refl
 spans_now now (Retired f e) i h = absurd (omega arith)
-
--- The end of the descent: the leaf's key agrees with `like` too.
-pub near_end : (s : State) → IsLawfulState s → (m : ℕ) → IsReach s m → (r : ℕ) (like : Key) (j : ℕ) →
-    StoodWithKeys s.past m (λ y. AgreeBelow r like y × Unit {0}) (Leaf j) → AgreeBelow r like (s.heap.leaves j).key
-near_end s law m reach r like j (o, node z l w, lo, hi, so, e, f) = absurd cc
-near_end s law m reach r like j (o, fork z l w, lo, hi, so, e, f) = absurd cc
-near_end s law m reach r like j (o, leaf z l w, lo, hi, so, e, f) =
-    λ q i. (f l refl).0 q i ∙ ap (λ (y : LeafWords). bit y.key q) (sym (leaf_now s law m reach o j z l w lo hi so))
 
 fork_position : {p q : ℕ} {a b c d : Tree} → fork p a b ≡ fork q c d → p ≡ q
 fork_position e = cc

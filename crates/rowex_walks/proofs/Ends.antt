@@ -1,34 +1,24 @@
 -- A scan of an empty map, or of one leaf; the depth of the way.
-use Rattle.std.proofs.Common.{◌≡◌, ◌⊎◌, inl, inr, ℕ, ◌+◌, ◌*◌, ◌<◌, ◌≤◌, List, [], ◌∷◌, length, refl, ap, sym, ◌∙◌, subst, arith, Some, None, Option, le_refl}
+use Rattle.std.proofs.Common.{◌≡◌, ◌⊎◌, inl, inr, ℕ, ◌+◌, ◌*◌, ◌<◌, ◌≤◌, List, [], ◌∷◌, length, sym, ◌∙◌, subst, arith, Some, None}
 use Rattle.key_bits.specs.declared.TheConstants.{MAX_BYTES}
 use Rattle.tries.specs.Keys.{IsAtMost, Key, IsBefore}
 use Rattle.tries.specs.Tree.{Tree, leaf, node, fork, page, IsBuilt, IsLower}
 use Rattle.compound_node.specs.declared.entries.Entry.{Entry}
 use Rattle.compound_node.specs.declared.entries.Entry.TheVariants.{Leaf, Node}
-use Rattle.pieces.specs.Piece.{Place, size}
-use Rattle.moments.specs.State.{Past, State, IsLawfulState, IsTop, IsSameRecord, IsSteady}
+use Rattle.pieces.specs.Piece.{Place}
+use Rattle.moments.specs.State.{Past, IsSameRecord, IsSteady}
 use Rattle.moments.specs.declared.Rec.TheVariants.{Node as a_node}
 use Rattle.compound_node.specs.Nodes.{height_of}
 use Rattle.tries.specs.Place.{entry_at}
-use Rattle.rowex_walks.specs.Scan.{IsRooted, IsPlaced, IsShaped, IsRead, IsSeen, IsBlank, Frame, IsStack, Range, IsInRange, IsComplete, IsCut}
+use Rattle.rowex_walks.specs.Scan.{IsRooted, IsPlaced, IsRead, IsSeen, IsBlank, Frame, IsStack, Range, IsInRange, IsComplete, IsCut}
 use Rattle.tries.proofs.Tries.{built_within}
-use Rattle.rowex_walks.proofs.Scans.{shaped, node_of, on_root, on_leaf, read_held, never_before}
-use Rattle.rowex_walks.proofs.Walk.{stack_shape}
-use Rattle.tries.proofs.Places.{shape_tips}
+use Rattle.rowex_walks.proofs.Scans.{node_of, on_root, on_leaf, read_held, never_before}
 use Rattle.rowex_walks.proofs.Loads.{lower_at, page_at, rooted_seen, placed_seen, fixed_height}
 
 -- The height of the lowest frame: that of the root's node.
 abbrev pub top_height : ℕ → List Frame → ℕ
 top_height h [] = h
 top_height h (f ∷ fs) = top_height f.height fs
-
-pub loads_blank : (s : State) → IsLawfulState s → (m : ℕ) → m ≤ s.now → s.root ≡ None → IsBlank s.past m
-loads_blank s law m lo h = (s.now, lo, le_refl s.now, go s.root (s.moment s.now) h law.top)
-  where
-    go : (r : Option Entry) (f : Option Tree) → r ≡ None → IsTop s.heap r f → f ≡ None
-    go None None e i = refl
-    go None (Some t) e i = absurd i
-    go (Some x) f e i = absurd cc
 
 pub scan_blank : (s : Past) (m : ℕ) (g : Range) → IsBlank s m → IsComplete s m g []
 scan_blank s m g (n, lo, hi, e) = record {
@@ -127,13 +117,3 @@ stack_low s m law f [] ((n, t, lo, hi, is, pg), shape) =
     let built : IsBuilt (node f.number o.0 o.1) = subst IsBuilt o.2 (law.trees n t hi is).1 in
     let fit = built.3.bound in let high = o.3 in omega (arith, fit, high)
 stack_low s m law f (g ∷ gs) h = stack_low s m law g gs h.2
-
--- A frame below another stands at one of its node's places.
-pub stack_inside : (s : Past) (m : ℕ) → IsSteady s m → (f g : Frame) (fs : List Frame) → IsStack s m (f ∷ g ∷ fs) → g.place < size g.shape
-stack_inside s m law f g fs h = go h.0
-  where
-    sh : IsShaped s m g.number g.shape
-    sh = stack_shape s m g fs h.2
-
-    go : IsPlaced s m g.number g.place (Node f.number f.height) → g.place < size g.shape
-    go (b, st, lt, pe) = subst (λ z. g.place < z) (sym (shape_tips (page b)) ∙ ap size (shaped s m law g.number g.shape b sh st)) lt

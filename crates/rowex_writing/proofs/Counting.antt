@@ -48,7 +48,3 @@ module _ {G : Type 0} (table : TableView) (becomes : G → Event → G → Type 
       let before = none_count kind n from c.tried a c.before c.none in
       let one = runs_count table becomes (LoadState (kind number) 0 ∷ Claim (kind number) 0 ∷ []) c.before b c.one.does.steps in
       omega (arith, before, one)
-
-  -- as many at most as there are
-  pub claim_few : (kind : ℕ → Rec) (n from number : ℕ) (a b : SeatView × G) → Claims table becomes kind n from number a b → b.0.known.steps ≤ a.0.known.steps + 2 * n
-  claim_few kind n from number a b c = omega (arith, claims_count kind n from number a b c, c.low)

@@ -324,9 +324,6 @@ pair_here k m key way aim found span q (first, last, plan, affected) n v (Some p
       affected = affected;
     }
 
-pub pair_none : (k : Known) (m : ℕ) (key : Key) (way : List Step) (aim : Aim) (found : Found) (span : Span) (q : ℕ) → IsPlanned k m key way aim found (change span.len span.end (Pair q)) → found ≡ Nothing → ⊥
-pair_none k m key way aim found span q (first, last, plan, affected) is = pair_at way first last aim Nothing span.len span.end q (subst (λ f. IsPlan way first last aim f (change span.len span.end (Pair q))) is plan)
-
 pub pair_len : (k : Known) (m : ℕ) (key : Key) (way : List Step) (found : Found) (span : Span) (n q : ℕ) → IsPairHere k m key way found span n q → (span.len ≡ span.end) × (span.end ≤ length way)
 pair_len k m key way found span n q here = let (a, b) = pair_spans_at way q here.first here.last span.len span.end q here.at in (a, omega arith)
 

@@ -47,9 +47,6 @@ module _ (layout : Layout) (k j : Known) where
         (subst (λ z. LocksJust z kept) (sym ((act_leaves layout k j (LoadEpoch epoch) e).locks tt)) done.locks, apart),
       )
 
-  pub epoch_low : (epoch : ℕ) → IsEvent layout (LoadEpoch epoch) silent k j → epoch < 2 ^ 60
-  epoch_low epoch e = let z : epoch ≡ e.core.epoch = e.legal.1 in subst (λ n. n < 2 ^ 60) (sym z) e.lawful.epochs.now.1
-
 -- ---- records given up
 all_plain : (recs : List Rec) → All IsPlain (map (λ r. Release r) recs)
 all_plain [] = λ i d low. absurd (omega arith)
@@ -65,6 +62,3 @@ module _ {G : Type 0} (table : TableView) (becomes : G → Event → G → Type 
 
   pub given_locks : (ns : List ℕ) → HasJustLocked a.0.known ns → HasJustLocked b.0.known ns
   given_locks ns h = locked_same a.0.known b.0.known ns (ap (λ (z : Known). z.locks) g.does.rest) h
-
-  pub given_anchor : b.0.known.anchor ≡ a.0.known.anchor
-  given_anchor = ap (λ (z : Known). z.anchor) g.does.rest

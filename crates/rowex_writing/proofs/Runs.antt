@@ -20,7 +20,7 @@ use Rattle.rowex_table.specs.Runs.{Runs, Steps, silent}
 use Rattle.rowex_table.specs.Seats.{TableView, SeatView}
 use Rattle.rowex_table.specs.Stays.{KeepsRecall, LeavesFresh, LeavesFront, LeavesPin}
 use Rattle.rowex_table.proofs.ActsLeave.{act_leaves}
-use Rattle.rowex_table.proofs.Running.{runs_one, runs_append, runs_same}
+use Rattle.rowex_table.proofs.Running.{runs_one, runs_append}
 use Rattle.rowex_writing.specs.Attempts.{HasLoadedRoot}
 use Rattle.rowex_writing.specs.Changes.{HasRun, HasTried, HasTriedOnce}
 use Rattle.rowex_writing.specs.Going.{IsQuiet, WorksOn}
@@ -131,20 +131,11 @@ module _ {G : Type 0} (table : TableView) (becomes : G → Event → G → Type 
   runs_count (act ∷ acts) a b (m, s, more) =
       let one = (act_leaves table.layout a.0.known m.0.known act s.event).steps in let rest = runs_count acts m b more in omega (arith, one, rest)
 
-  pub runs_front : (acts : List Act) (a b : SeatView × G) → Runs table becomes acts a b → BeginsWith b.0.known.front a.0.known.front
-  runs_front [] a b e = subst (λ (z : SeatView × G). BeginsWith z.0.known.front a.0.known.front) (sym e) (begins_itself a.0.known.front)
-  runs_front (act ∷ acts) a b (m, s, more) = begins_on a.0.known.front m.0.known.front b.0.known.front (act_front table.layout a.0.known m.0.known act s.event) (runs_front acts m b more)
-
   -- the last load of the root is the same, where none is one
   pub runs_fresh : (acts : List Act) (a b : SeatView × G) → All LeavesFresh acts → Runs table becomes acts a b → b.0.known.fresh ≡ a.0.known.fresh
   runs_fresh [] a b leaves e = ap (λ (z : SeatView × G). z.0.known.fresh) e
   runs_fresh (act ∷ acts) a b leaves (m, s, more) =
       runs_fresh acts m b (All-tail LeavesFresh act acts leaves) more ∙ (act_leaves table.layout a.0.known m.0.known act s.event).fresh (All-head LeavesFresh act acts leaves)
-
-  pub runs_pin : (acts : List Act) (a b : SeatView × G) → All LeavesPin acts → Runs table becomes acts a b → b.0.known.pin ≡ a.0.known.pin
-  runs_pin [] a b leaves e = ap (λ (z : SeatView × G). z.0.known.pin) e
-  runs_pin (act ∷ acts) a b leaves (m, s, more) =
-      runs_pin acts m b (All-tail LeavesPin act acts leaves) more ∙ (act_leaves table.layout a.0.known m.0.known act s.event).pin (All-head LeavesPin act acts leaves)
 
   -- ---- as runs of a call
   pub run_none : (a : SeatView × G) → HasRun table becomes a a
@@ -191,17 +182,8 @@ module _ {G : Type 0} (table : TableView) (becomes : G → Event → G → Type 
   pub works_fresh : (a b : SeatView × G) → Works table becomes a b → b.0.known.fresh ≡ a.0.known.fresh
   works_fresh a b w = runs_fresh w.acts a b (All-weaker IsPlain LeavesFresh plain_fresh w.acts w.plain) w.steps
 
-  pub run_pass : {tried : List Target} (a b : SeatView × G) → HasTried table becomes tried a b → b.0.known.pass ≡ a.0.known.pass
-  run_pass a b r = (runs_same table becomes r.acts a b r.steps).2
-
-  pub run_pin : {tried : List Target} (a b : SeatView × G) → HasTried table becomes tried a b → b.0.known.pin ≡ a.0.known.pin
-  run_pin a b r = runs_pin r.acts a b r.pinned r.steps
-
   pub run_count : {tried : List Target} (a b : SeatView × G) → HasTried table becomes tried a b → a.0.known.steps ≤ b.0.known.steps
   run_count a b r = runs_count r.acts a b r.steps
-
-  pub run_front : {tried : List Target} (a b : SeatView × G) → HasTried table becomes tried a b → BeginsWith b.0.known.front a.0.known.front
-  run_front a b r = runs_front r.acts a b r.steps
 
   -- a load of the root by which the call goes is not forgotten, nor is one that comes later older
   runs_loaded : (acts : List Act) (first : Known) (a b : SeatView × G) → HasLoadedRoot first a.0.known → Runs table becomes acts a b → HasLoadedRoot first b.0.known

@@ -1,5 +1,5 @@
 -- A node's fixed part fits its page whatever entries stand at the places, and the nodes of a tree are lawful nodes.
-use Rattle.std.proofs.Common.{◌≡◌, ℕ, ◌+◌, ◌*◌, ◌<◌, ◌≤◌, arith, true, List, ◌∷◌, ◌++◌, Bool, refl, ap, ◌∙◌, subst, [], sym}
+use Rattle.std.proofs.Common.{◌≡◌, ℕ, ◌+◌, ◌*◌, ◌<◌, ◌≤◌, arith, true, List, ◌∷◌, ◌++◌, Bool, refl, ap, ◌∙◌, subst, []}
 use Rattle.std.specs.Prelude.{map, ◌||◌, eqb}
 use Rattle.key_bits.specs.declared.TheConstants.{MAX_BYTES}
 use Rattle.pieces.specs.Piece.{size, paths, uses, UsesOnly, RisesFrom}
@@ -7,14 +7,11 @@ use Rattle.pieces.specs.Positions.{all}
 use Rattle.partial_keys.specs.Rows.{row_of}
 use Rattle.std.specs.Prelude.{All}
 use Rattle.std.proofs.lemmas.List.Elements.{All-append, All-from_recursion}
-use Rattle.compound_node.specs.Nodes.{IsEntry, height_of, IsLawfulNode, node_of}
+use Rattle.compound_node.specs.Nodes.{IsEntry, height_of}
 use Rattle.compound_node.specs.declared.entries.Entry.TheVariants.{Leaf, Node}
 use Rattle.pieces.specs.Piece.{places}
-use Rattle.pieces.proofs.Paths.{size_pos, length-places}
-use Rattle.partial_keys.proofs.Reading.{piece_of_shown}
-use Rattle.tries.specs.Tree.{Page, Fixed, first_position, IsFit, Tree, leaf, node, fork, page, IsFork, IsLower, IsBuilt}
+use Rattle.tries.specs.Tree.{Page, Fixed, first_position, IsFit, Tree, leaf, node, fork, page, IsLower, IsBuilt}
 use Rattle.tries.specs.Place.{Swap, swap, in_zero, in_one}
-use Rattle.partial_keys.specs.Shows.{ShowsPiece}
 
 size_swap : {x y : Page} → Swap x y → size x ≡ size y
 size_swap swap = refl
@@ -80,20 +77,3 @@ pub all_above : (h : ℕ) (b : Tree) → IsLower h b → All (λ e. height_of e 
 all_above h (leaf n k v) l = All-from_recursion (λ e. height_of e < h) (Leaf n ∷ []) (l, tt)
 all_above h (node n x b) l = All-from_recursion (λ e. height_of e < h) (Node n x.height ∷ []) (l, tt)
 all_above h (fork p a b) l = All-append (λ e. height_of e < h) (places (page a)) (places (page b)) (all_above h a l.0) (all_above h b l.1)
-
-two_places : (b : Tree) → IsFork b → 2 ≤ size (page b)
-two_places (leaf n k v) f = absurd f
-two_places (node n x b) f = absurd f
-two_places (fork p a b) f = let l = size_pos (page a) in let r = size_pos (page b) in omega arith
-
--- Each node of a built tree is a lawful node, with the entries of its page.
-pub node_lawful : (n : ℕ) (x : Fixed) (b : Tree) → IsBuilt (node n x b) → IsLawfulNode (node_of x (places (page b)))
-node_lawful n x b (two, low, built, fit) = record {
-  several = let l = length-places (page b) in let t = two_places b two in omega arith;
-  room = let l = length-places (page b) in let r = fit.room in omega arith;
-  positions = fit.positions;
-  shows = subst (ShowsPiece x.columns x.rows (places (page b))) (sym (piece_of_shown (Leaf 0) x.columns x.rows (places (page b)) (page b) fit.shows)) fit.shows;
-  children = children_are b built;
-  above = all_above x.height b low;
-  bound = let h = fit.bound in let m : MAX_BYTES ≡ 240 = refl in omega arith;
-}

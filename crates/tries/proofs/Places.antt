@@ -4,11 +4,10 @@ use Rattle.key_bits.specs.Bits.{bit_of}
 use Rattle.std.proofs.Common.{◌≡◌, ◌⊎◌, inl, inr, ℕ, ◌+◌, ◌-◌, ◌<◌, List, [], ◌∷◌, ◌++◌, Bool, true, false, refl, ap, ap₂, sym, ◌∙◌, subst, arith, if◌then◌else◌, ltb}
 use Rattle.std.proofs.lemmas.Bool.{cond-true, cond-false, lt-ltb, le-ltb}
 use Rattle.tries.specs.Keys.{Key, bit, AgreeBelow}
-use Rattle.compound_node.specs.declared.entries.Entry.{Entry}
 use Rattle.tries.specs.Tree.{Page, Tree, leaf, node, fork, Has, IsTrie}
 use Rattle.pieces.specs.Piece.{Place, Fork, size, leads_to}
 use Rattle.tries.specs.Search.{seek}
-use Rattle.tries.specs.Place.{Swap, swap, in_zero, in_one, spot, entry_at, with_entry, shape}
+use Rattle.tries.specs.Place.{spot, entry_at, shape}
 use Rattle.tries.specs.Content.{Item, items, IsMore, added, behind}
 
 -- The tree without the marks of its nodes: the bit trie alone.
@@ -62,25 +61,6 @@ spot_shape k (Fork p x y) =
       | true ↦ ap₂ (λ a b. a + b) t g
       | false ↦ f
     ]
-
--- The place depends on the forks alone.
-pub same_spot : (k : Key) (x y : Page) → shape x ≡ shape y → spot k x ≡ spot k y
-same_spot k x y e = sym (spot_shape k x) ∙ (ap (spot k) e ∙ spot_shape k y)
-
--- A store of one entry changes the page at one place.
-pub swap_entry : (x : Page) (i : ℕ) (f : Entry) → Swap x (with_entry x i f)
-swap_entry (Place e) i f = swap
-swap_entry (Fork p x y) i f =
-    let a = swap_entry x i f in let b = swap_entry y (i - size x) f in
-    elim (ltb i (size x)) as (λ u. Swap (Fork p x y) (if u then Fork p (with_entry x i f) y else Fork p x (with_entry y (i - size x) f))) [
-      | true ↦ in_zero a
-      | false ↦ in_one b
-    ]
-
-pub swap_shape : {x y : Page} → Swap x y → shape x ≡ shape y
-swap_shape swap = refl
-swap_shape (in_zero {p = p} {b = b} s) = ap (λ z. Fork p z (shape b)) (swap_shape s)
-swap_shape (in_one {p = p} {a = a} s) = ap (λ z. Fork p (shape a) z) (swap_shape s)
 
 -- The marks change neither keys nor order.
 pub has_bare : (t : Tree) → Has (bare t) ≡ Has t
