@@ -145,9 +145,10 @@ impl Index {
     /// makes at most 1,396,470 steps, and 2 for each pass, 6 for each node record and 10 for each leaf record.
     ///
     /// It answers `Busy` only if another pass has locked or retired what it wants to lock, or has made a change since the call's
-    /// last pin, so never if the index has one pass; and `FullNodes` or `FullLeaves` if it found each node record, or each leaf
-    /// record with room for the key, taken, again after a round of collection. A call that is refused has changed nothing, and
-    /// holds no lock and no record.
+    /// last pin, so never if the index has one pass; and `FullNodes` or `FullLeaves` only if it found each node record, or each
+    /// leaf record with room for the key, taken. Before it answers so it makes the round of collection, and looks again unless the
+    /// round gave back none of the kind and the index has one pass. A call that is refused has changed nothing, and holds no lock
+    /// and no record.
     pub fn try_insert(&self, pass: &mut Pass, key: &Key, value: u64) -> Result<Reply, TryFault>
         requires { Owns self.now pass.old }
         ensures own { Owns self.now pass.new }
@@ -355,9 +356,8 @@ impl Index {
     ///
     /// Where `try_insert` would answer `Busy`, it lets other threads run and begins again, as often as need be. It does the same
     /// where no record is free because a call of another pass keeps retired records from being reused, or because other passes may
-    /// have taken the records that a round of collection gave back. It returns once no other pass is in its way. It is refused if it
-    /// found each record of a kind taken, again after a round of collection; it has changed nothing then, and holds no lock and no
-    /// record.
+    /// have taken the records that a round of collection gave back. It returns once no other pass is in its way. It is refused only
+    /// if it found each record of a kind taken, as `try_insert` is; it has changed nothing then, and holds no lock and no record.
     pub fn insert<R: Wait>(
         &self,
         rt: &R,

@@ -44,8 +44,8 @@ pub fn run_one<R: Read, W: Write>(
     requires nodes { IsNodeCount nodes }
     requires leaves { IsLeafCount leaves }
 
-    // The answers to the script were written, and nothing else: what the script means, if no arena was full. A command was refused
-    // only if it found no record of the kind free.
+    // The answers to the script were written, and nothing else: what the script means, if no command was refused. One was refused only
+    // if it found no record of the kind free.
     ensures ok { OnOk result ((script : List ℕ) × (text : List ℕ)
         × TakesAll (R.remaining reader.old) (R.remaining reader.new) script
         × IsAnsweredScript nodes leaves script text
