@@ -49,7 +49,8 @@ struct Tally {
     held_back: bool,
 }
 
-/// Makes the epoch the next one, and gives back each record that was retired in an epoch below all pins.
+/// Makes the epoch the next one, and gives back each record that was retired in an epoch below this one and below each pin that is
+/// set.
 ///
 /// At the last epoch, 2^60 - 1, the epoch stays, and what is below it is still given back.
 pub fn collect_round<G: Gate>(table: &HotTable, seat: &mut TableSeat, gate: &mut G) -> Collected
@@ -71,8 +72,8 @@ pub fn collect_round<G: Gate>(table: &HotTable, seat: &mut TableSeat, gate: &mut
 }
 
 /// Makes a small round: makes the epoch the next one, and visits the oldest records of the pass's limbo list, at most
-/// `MOST_VISITED` and up to the first that has to wait. Each that was retired in an epoch below all pins is given back, and stands
-/// in the list's `given` then.
+/// `MOST_VISITED` and up to the first that has to wait. Each that was retired in an epoch below this one and below each pin that is
+/// set is given back, and stands in the list's `given` then.
 ///
 /// It costs by what the pass has retired, however many records the table has.
 pub fn collect_small<G: Gate>(

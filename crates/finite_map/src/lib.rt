@@ -75,7 +75,7 @@ pub struct Note {
 /// What a scan of a range gives.
 #[derive(Drop)]
 pub struct Scan {
-    /// Keys with their values, in the order of the keys.
+    /// Keys with their values, in the order of the keys; of a scan downwards, the greatest first.
     pub pairs: Vec<(Key, u64)>,
     /// Whether the range has a further key.
     pub more: bool,

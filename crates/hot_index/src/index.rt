@@ -538,7 +538,8 @@ impl Index {
     }
 
     /// Makes one round of collection: it advances the epoch, visits each record of the index once, and gives back those that were
-    /// retired in an epoch below all pins, so that no running call can reach them. Returns how many it gave back.
+    /// retired in an epoch below the new one and below each pin that is set, so that no running call can reach them. Returns how
+    /// many it gave back.
     ///
     /// It takes no lock, allocates nothing and never blocks. It makes at most 3 atomic steps, one for each pass, and two for each
     /// record.

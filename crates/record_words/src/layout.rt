@@ -9,7 +9,7 @@ use crate::{
     WORD_BYTES,
 };
 
-/// Which number of records is out of range; they are tested in this order.
+/// Which number is out of range: of passes, node records or leaf records. They are tested in this order.
 #[derive(Clone, Copy, Debug)]
 pub enum LayoutFault {
     Passes = 1,

@@ -59,7 +59,7 @@ pub struct Locked {
 /// What kind of step it was that failed.
 pub enum FailedAct {
     Claim,
-    /// A lock that this pass had; or of a retired node, that a change of this pass had unlinked.
+    /// A lock that the pass `by` had; or of a retired node, that a change of `by` had unlinked.
     Lock { by: Option<u64> },
     /// A load that found a state other than free.
     LoadState,

@@ -32,7 +32,7 @@ pub fn knows_all()
     ensures { KnowsAll }
 {}
 
-/// A legal step changes one word of the table, and its words show the core after it.
+/// A legal step changes at most one word of the table, and its words show the core after it.
 pub fn writes_one()
     ensures { WritesOne }
 {}

@@ -41,10 +41,10 @@ pub enum TryFault {
     /// Another pass had locked or retired a record that the attempt had to lock, or has made a change since the attempt began.
     #[error("another pass is at work there")]
     Busy,
-    /// No node record was free.
+    /// Each node record was found not free.
     #[error("no node record is free")]
     FullNodes,
-    /// No leaf record was free.
+    /// Each leaf record with room for the key was found not free.
     #[error("no leaf record is free")]
     FullLeaves,
 }

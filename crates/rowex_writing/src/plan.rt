@@ -68,10 +68,10 @@ pub enum Plan {
 /// The kind of record of which none was free.
 #[derive(Clone, Copy, Debug, PartialEq, Eq, Error)]
 pub enum Full {
-    /// No node record was free.
+    /// Each node record was found not free.
     #[error("no node record is free")]
     Nodes,
-    /// No leaf record was free.
+    /// Each leaf record with room for the key was found not free.
     #[error("no leaf record is free")]
     Leaves,
 }
