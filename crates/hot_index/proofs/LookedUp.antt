@@ -155,7 +155,7 @@ pub record HasGone {G : Type 0} (table : TableView) (becomes : G → Event → G
   pub entries : ℕ
   pub loaded : ℕ
   pub low : entries ≤ count * (9 * MAX_BYTES) + MOST_TURNS * gone
-  pub few : loaded ≤ 33 * count + gone + 26 * entries
+  pub few : loaded ≤ 33 * count + gone + 29 * entries
   pub looks : LooksOn table becomes entries loaded a b
   pub right : AreRight b.0.known.front (length looks.at.0.known.front) calls
 
@@ -166,7 +166,7 @@ module _ {G : Type 0} {table : TableView} {becomes : G → Event → G → Type 
   up_first {b = b} root = record { entries = 0; loaded = 0; low = omega arith; few = omega arith; looks = on_first root; right = le_refl (length b.0.known.front) }
 
   -- so many keys go down
-  pub up_down : {n g entries loads : ℕ} {calls : List (Call × Reply)} {a b c : SeatView × G} (count : ℕ) → HasGone table becomes n g calls a b → 1 ≤ count → entries ≤ MOST_TURNS * count → loads ≤ 26 * entries →
+  pub up_down : {n g entries loads : ℕ} {calls : List (Call × Reply)} {a b c : SeatView × G} (count : ℕ) → HasGone table becomes n g calls a b → 1 ≤ count → entries ≤ MOST_TURNS * count → loads ≤ 29 * entries →
       Looks table becomes entries loads b c → HasGone table becomes n (g + count) calls a c
   unfolding on_more
   up_down {n} {g} {entries} {loads} {calls} {a} {b} {c} count up some low few down = record {

@@ -206,7 +206,7 @@ module _ {G : Type 0} {table : TableView} {becomes : G → Event → G → Type 
       legal = subst (λ (z : ℕ × List Note). LegalCalls c.0.known.front z.0 (z.1 ++ added)) (λ x. (sym looks.on.pass x, sym looks.on.notes x))
           (legal_with a.0.known.front c.0.known.front a.0.known.pass start a.0.known.notes calls settled.legal looks.others (legal_front a.0 d.0 looks.on end.event) low_start are_placed)
 
-  all_steps : d.0.known.steps ≤ a.0.known.steps + 4 + 34 * length keys + 26 * up.entries
+  all_steps : d.0.known.steps ≤ a.0.known.steps + 4 + 34 * length keys + 29 * up.entries
   all_steps =
       let first : b.0.known.steps ≡ a.0.known.steps + 2 = ap (λ (z : Known). z.steps) pins.1.rest in
       let second : c.0.known.steps ≡ b.0.known.steps + (1 + up.loaded) = ap (λ (z : Known). z.steps) (looked_on up.looks).sees in
@@ -232,7 +232,7 @@ module _ {G : Type 0} {table : TableView} {becomes : G → Event → G → Type 
     told = ends_told table becomes (reading pins.0 up.looks.root.0 up.looks.loads) ClearPin (gets_said keys found) a d
         (c, runs_append table becomes (reading pins.0 up.looks.root.0 []) up.looks.loads a up.looks.at c begun up.looks.rest, end);
     depth = subst (λ e. e ≤ length keys * most_entries) (sym up.looks.entries_are) up.low;
-    few = subst (λ e. d.0.known.steps ≤ a.0.known.steps + 4 + 34 * length keys + 26 * e) (sym up.looks.entries_are) all_steps;
+    few = subst (λ e. d.0.known.steps ≤ a.0.known.steps + 4 + 34 * length keys + 29 * e) (sym up.looks.entries_are) all_steps;
   }
     where
       begun : Runs table becomes (reading pins.0 up.looks.root.0 []) a up.looks.at

@@ -74,14 +74,14 @@ pub record HasLookedUp {G : Type 0} (table : TableView) (becomes : G → Event �
   pub entries : ℕ
   pub loaded : ℕ
   pub low : entries ≤ count * most_entries
-  pub few : loaded ≤ 34 * count + 26 * entries
+  pub few : loaded ≤ 34 * count + 29 * entries
   pub looks : LooksOn table becomes entries loaded a b
   pub right : AreRight b.0.known.front (length looks.at.0.known.front) calls
 
 -- The call pins the pass, loads the root, looks so many keys up, and clears the pin: these steps lead from the very seat that the pass has
 -- before to the one that it has after, one after the other, and no other does. With the last one come the call's notes, and none of them
 -- stands before what the pass has seen by its first load of the root, which is all that any pass had seen by then. The gate is told each
--- of them, in order, and nothing else. It makes at most 26 steps for each entry that it loads, 34 for each key, and 4 beside.
+-- of them, in order, and nothing else. It makes at most 29 steps for each entry that it loads, 34 for each key, and 4 beside.
 pub record HasGotMany {G : Type 0} (index : TableView) (becomes : G → Event → G → Type 0) (count : ℕ) (a b : PassView × G) : Type 0 where
   pub epoch : ℕ
   pub root : ℕ
@@ -97,4 +97,4 @@ pub record HasGotMany {G : Type 0} (index : TableView) (becomes : G → Event �
   pub fresh : (added : List Note) → b.0.notes ≡ a.0.notes ++ added → All (λ n. length first.0.known.front ≤ n.place) added
   pub told : IsTold becomes (events_of a.0.number (reading epoch root loads ++ ClearPin ∷ [])) a.1 b.1
   pub depth : entries_in loads ≤ count * most_entries
-  pub few : b.0.steps ≤ a.0.steps + 4 + 34 * count + 26 * entries_in loads
+  pub few : b.0.steps ≤ a.0.steps + 4 + 34 * count + 29 * entries_in loads

@@ -104,7 +104,7 @@ impl Index {
     /// Looks up many keys, in their order, and writes to `found`, at each key's place, what `get` would answer. `found` has as many
     /// places as there are keys.
     ///
-    /// It takes no lock, allocates nothing and never blocks. It makes at most 4 atomic steps, 34 for each key, and 26 for each entry
+    /// It takes no lock, allocates nothing and never blocks. It makes at most 4 atomic steps, 34 for each key, and 29 for each entry
     /// of a node that it loads; for each key it loads at most 2,168 entries. The values need not be of one moment, but a value is
     /// never older than those of the keys before it. The pass stays pinned until the last key has been looked up, and records
     /// that are retired meanwhile are reused only after that: so look up some hundred keys by one call, not millions.

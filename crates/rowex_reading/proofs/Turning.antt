@@ -7,6 +7,7 @@ use Rattle.std.proofs.lemmas.Bool.{cases_lt}
 use Rattle.std.proofs.Math.Nat.{suc-mul}
 use Rattle.compound_node.specs.declared.entries.Entry.{Entry}
 use Rattle.compound_node.specs.declared.entries.Entry.TheVariants.{Node}
+use Rattle.compound_node.specs.Nodes.{height_of}
 use Rattle.moments.specs.State.{IsSteady, Past}
 use Rattle.pieces.specs.Piece.{size}
 use Rattle.tries.specs.Keys.{Key}
@@ -15,12 +16,12 @@ use Rattle.tries.proofs.Places.{spot_below}
 use Rattle.rowex_core.specs.declared.known.Known.{Known}
 use Rattle.rowex_core.specs.Knowing.{IsSince}
 use Rattle.rowex_table.specs.Made.{IsLater}
-use Rattle.rowex_walks.specs.Scan.{IsSeen, IsShaped}
+use Rattle.rowex_walks.specs.Scan.{IsPlaced, IsSeen, IsShaped}
 use Rattle.rowex_walks.proofs.Scans.{node_of, shaped}
 use Rattle.rowex_reading.specs.Turns.{AreAlong, AreRows, AreSomeTurns, AreTips, AreTurns, IsSomeTurn, IsWayTip, IsTurn, StandsAt, turns_in}
 use Rattle.rowex_reading.specs.Seen.{HasPlace, IsLedTo, RootIs, Sure, seen, since}
 use Rattle.rowex_reading.specs.declared.along.Turn.{Turn}
-use Rattle.rowex_reading.proofs.Led.{rooted_led, shape_place}
+use Rattle.rowex_reading.proofs.Led.{placed_led, rooted_led, shape_place}
 use Rattle.rowex_reading.proofs.Placing.{to_stood}
 use Rattle.rowex_reading.proofs.Seeing.{seen_stable, seen_steady, shaped_stable, since_later, sure_later}
 
@@ -73,6 +74,10 @@ module _ {k j : Known} (later : IsLater k j) where
 
   pub along_later : (key : Key) (i : ℕ) (rows : List (List (Option Turn))) → AreAlong k key i rows → AreAlong j key i rows
   along_later key i rows are depth t at = turn_later key t (are depth t at)
+
+  -- the entry at the turn's place, once it is loaded
+  pub entered : (t : Turn) (e : Entry) → IsSomeTurn k t → ((m h : ℕ) → HasPlace k m t.number h t.place → (height_of e < h) × Sure j (λ s. IsPlaced s m t.number t.place e)) → IsWayTip j e
+  entered t e (key, turn) loaded = (turn.since, placed_led t.number t.place e (since_later later turn.led.0) (loaded turn.since turn.height (turn_place turn)).1)
 
 -- Lists of them
 

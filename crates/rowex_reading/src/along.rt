@@ -16,7 +16,7 @@ ghost use Rattle.rowex_reading.specs.Seen.{IsLedTo, Sure};
 use crate::reading::{load_entry, load_head, load_root, load_value};
 use compound_node::Entry;
 use key_bits::Key;
-use rowex_core::Gate;
+use rowex_core::{Gate, Rec};
 use rowex_table::{HotTable, TableSeat};
 
 /// How many keys go down by turns.
@@ -48,7 +48,7 @@ pub fn go_down<G: Gate>(
     requires pinned { IsSome seat.old.known.pin }
     requires few { count ≤ TOGETHER }
     requires range { first + count ≤ length keys.now }
-    ensures looks { (entries n : ℕ) × (entries ≤ MOST_TURNS * count) × (n ≤ 26 * entries)
+    ensures looks { (entries n : ℕ) × (entries ≤ MOST_TURNS * count) × (n ≤ 29 * entries)
         × Looks table.now G.becomes entries n (seat.old, gate.old) (seat.new, gate.new) }
     ensures rows { AreRows seat.new.known keys.now first result }
 {
@@ -202,7 +202,8 @@ fn enter_each<G: Gate>(
     requires reader { IsReader table.now seat.old }
     requires few { count ≤ TOGETHER }
     requires turns { AreSomeTurns seat.old.known count turns.now }
-    ensures reads { Reads table.now G.becomes (turns_in (take count turns.now)) (turns_in (take count turns.now)) (seat.old, gate.old) (seat.new, gate.new) }
+    ensures reads { (n : ℕ) × (n ≤ 4 * turns_in (take count turns.now))
+        × Reads table.now G.becomes (turns_in (take count turns.now)) n (seat.old, gate.old) (seat.new, gate.new) }
     ensures tips { AreTips seat.new.known result }
 {
     let mut tips = [None; TOGETHER];
@@ -212,7 +213,7 @@ fn enter_each<G: Gate>(
     tips
 }
 
-/// The entry to which a way leads by this turn.
+/// The entry to which a way leads by this turn. The record that it names is touched.
 fn enter<G: Gate>(
     table: &HotTable,
     seat: &mut TableSeat,
@@ -221,11 +222,39 @@ fn enter<G: Gate>(
 ) -> Option<Entry>
     requires reader { IsReader table.now seat.old }
     requires turn { IfSome turn (IsSomeTurn seat.old.known) }
-    ensures reads { Reads table.now G.becomes (turns_in (turn ∷ [])) (turns_in (turn ∷ [])) (seat.old, gate.old) (seat.new, gate.new) }
+    ensures reads { (n : ℕ) × (n ≤ 4 * turns_in (turn ∷ []))
+        × Reads table.now G.becomes (turns_in (turn ∷ [])) n (seat.old, gate.old) (seat.new, gate.new) }
     ensures tip { IfSome result (IsWayTip seat.new.known) }
 {
     match turn {
         None => None,
-        Some(turn) => Some(load_entry(table, seat, gate, turn.number, turn.place)),
+        Some(turn) => {
+            let entry = load_entry(table, seat, gate, turn.number, turn.place);
+            touch(table, seat, gate, entry);
+            Some(entry)
+        }
+    }
+}
+
+/// Loads a word of each of the first lines of the record that an entry names: so the lines are at hand when the record is read, and
+/// those of several keys' records come side by side.
+fn touch<G: Gate>(table: &HotTable, seat: &mut TableSeat, gate: &mut G, entry: Entry)
+    requires reader { IsReader table.now seat.old }
+    requires led { IsWayTip seat.old.known entry }
+    ensures reads { (n : ℕ) × (n ≤ 3) × Reads table.now G.becomes 0 n (seat.old, gate.old) (seat.new, gate.new) }
+{
+    match entry {
+        Entry::Leaf(number) => {
+            let rec = Rec::Leaf(number);
+            let start = table.start_of(rec);
+            table.load_fixed_from(seat, gate, rec, start, 2);
+        }
+        Entry::Node { number, .. } => {
+            let rec = Rec::Node(number);
+            let start = table.start_of(rec);
+            table.load_fixed_from(seat, gate, rec, start, 1);
+            table.load_fixed_from(seat, gate, rec, start, 9);
+            table.load_fixed_from(seat, gate, rec, start, 17);
+        }
     }
 }

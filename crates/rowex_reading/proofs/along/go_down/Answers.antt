@@ -33,21 +33,21 @@ enter_each-tips-requires-clause-turns g c = turns_some c.turn_each-row.new.seat.
 pub loop-depth-preserved : goal.loop-depth-preserved
 loop-depth-preserved g c =
     let i = c.loop-depth.invariant in let b = c.turn_each-row.ensures in let d = c.enter_each-tips.ensures in
-    let keys = c.args.keys.now in let first = c.args.first in let later = reads_later d.reads in let taken = turns_in (take c.args.count c.turn_each-row.result) in
+    let keys = c.args.keys.now in let first = c.args.first in let later = reads_later d.reads.2 in let taken = turns_in (take c.args.count c.turn_each-row.result) in
     record {
       most = omega (arith, c.loop-depth-test.true);
-      reader = reader_then (reader_then i.reader b.reads.2) d.reads;
+      reader = reader_then (reader_then i.reader b.reads.2) d.reads.2;
       tips = d.tips;
       rows = rows_more c.enter_each-tips.new.seat.known keys first c.loop-depth.rows c.loop-depth.depth c.turn_each-row.result
           (rows_later (later_trans (reads_later b.reads.2) later) keys first c.loop-depth.rows i.rows)
           (turns_later later keys first c.turn_each-row.result b.turns);
       looks = (
         i.looks.0 + 0 + taken,
-        i.looks.1 + b.reads.0 + taken,
+        i.looks.1 + b.reads.0 + d.reads.0,
         (let few = entries_more c.args.count c.loop-depth.depth i.looks.0 taken i.looks.2 (turns_few c.turn_each-row.result c.args.count) in
             subst (λ n. n ≤ (c.loop-depth.depth + 1) * c.args.count) (let e : i.looks.0 + taken ≡ i.looks.0 + 0 + taken = omega arith in e) few),
-        (let low = i.looks.3 in let heads = b.reads.1 in omega (arith, low, heads)),
-        looks_on (looks_on i.looks.4 b.reads.2) d.reads,
+        (let low = i.looks.3 in let heads = b.reads.1 in let entries = d.reads.1 in omega (arith, low, heads, entries)),
+        looks_on (looks_on i.looks.4 b.reads.2) d.reads.2,
       );
     }
 

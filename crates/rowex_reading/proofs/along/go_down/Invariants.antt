@@ -11,7 +11,7 @@ invariant-loop-depth g l = record {
   reader : IsReader l.table l.seat;
   tips : AreTips l.seat.known l.tips;
   rows : AreRows l.seat.known l.keys l.first l.rows;
-  looks : (entries n : ℕ) × (entries ≤ l.depth * l.count) × (n ≤ 26 * entries) × Looks l.table g.G.Gate.becomes entries n (l.fn.seat, l.fn.gate) (l.seat, l.gate);
+  looks : (entries n : ℕ) × (entries ≤ l.depth * l.count) × (n ≤ 29 * entries) × Looks l.table g.G.Gate.becomes entries n (l.fn.seat, l.fn.gate) (l.seat, l.gate);
 }
 
 abbrev pub decreases-loop-depth : goal.decreases-loop-depth
