@@ -98,8 +98,8 @@ typedef struct hot_pair {
  * HOT_DONE; or HOT_OPEN, HOT_OUT_OF_RANGE or HOT_NO_MEMORY, and then no handle was opened. */
 hot_status hot_create(uint32_t nodes, uint32_t leaves, hot_handle *handles, size_t count);
 
-/* How many records of each size an index has. A key takes a leaf record of the smallest size with room for it, or a larger one while
- * none of that size is free. */
+/* How many records of each size an index has. A key takes a leaf record of the smallest size with room for it, or a larger one where
+ * none of that size was free lately. */
 typedef struct hot_stock {
     uint32_t nodes;         /* 464 bytes each */
     uint32_t short_leaves;  /* for keys of up to 8 bytes; 32 bytes each */
@@ -115,8 +115,9 @@ typedef struct hot_stock {
 hot_status hot_create_with(const hot_stock *stock, hot_handle *handles, size_t count);
 
 /* Writes a stock for `keys` keys of at most `longest` bytes each: 9 leaves for 8 keys, of the smallest size with room for such a key,
- * one node for 8 keys, and 512 more of both. That is enough for random keys, URLs and numbers, even after many removals, and for eight
- * threads that change the index. Keys that are long chains of prefixes may take up to one node each. */
+ * one node for 8 keys, and 512 more of both. That was enough for random keys, URLs and numbers of 8 bytes, even after many removals,
+ * and is for eight threads that change the index. For text with a rising number, of which old ones go, take a node for 6 keys. Keys
+ * that are long chains of prefixes may take up to one node each. */
 void hot_stock_for_keys(uint32_t keys, size_t longest, hot_stock *stock);
 
 /* Writes how many bytes the records and pins of an index with this stock and this number of handles take. While it is being made, an
