@@ -144,7 +144,7 @@ typedef struct hot_lookup {
 
 /* Looks up `count` keys, one after the other, and writes to each place what was found: a status, and the value if there is one.
  * No key's value is of an earlier moment than that of a key before it. It makes at most 4 steps, 34 for each key, and 29 for
- * each entry of a node that it loads; for each key it loads at most 2168 entries. Records that other calls retire meanwhile can't
+ * each entry of a node that it loads, which are at most 2168 entries a key. Records that other calls retire meanwhile can't
  * be used again until the call ends: so pass some hundred keys at a time, and not millions.
  * HOT_DONE; or HOT_KEY_TOO_LONG if any key is, HOT_CLOSED, HOT_NO_MEMORY, and then nothing was written. */
 hot_status hot_get_many(hot_handle *handle, hot_lookup *lookups, size_t count);
