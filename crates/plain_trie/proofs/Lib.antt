@@ -16,3 +16,4 @@ pub mod Starting
 pub mod Climbing
 pub mod Inserting
 pub mod Adding
+pub mod Cases

@@ -6,3 +6,4 @@ pub mod Gathered
 pub mod Risen
 pub mod Rising
 pub mod Adding
+pub mod Cases

@@ -1,6 +1,7 @@
 //! A height optimized trie for one thread, with its records in vectors, over the insertion cases.
 #![tactic(auto)]
 
+mod choosing;
 mod growing;
 mod overflow;
 mod plain;

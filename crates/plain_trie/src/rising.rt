@@ -1,6 +1,6 @@
 //! How a new leaf rises from the node that it affects to the root, in records that are kept in a vector.
 
-ghost use Rattle.std.specs.Prelude.{◌≡◌, ℕ, suc, ◌+◌, ◌^◌, ◌<◌, ◌≤◌, List, Some, slice_get};
+ghost use Rattle.std.specs.Prelude.{◌≡◌, ℕ, suc, ◌+◌, ◌^◌, ◌<◌, ◌≤◌, List, Some, false, length, slice_get};
 ghost use Rattle.std.specs.Vec.{vec_len, vec_capacity};
 ghost use Rattle.pieces.specs.Growth.{grown, IsAffected};
 ghost use Rattle.pieces.specs.Piece.{Fork, Place as At, size};
@@ -12,23 +12,25 @@ ghost use Rattle.pieces.specs.Grafts.{grafted, IsAbovePath};
 ghost use Rattle.plain_trie.specs.Heights.{KeepsHeights};
 ghost use Rattle.plain_trie.specs.Rising.{IsRaised, IsAddable, IsLifting};
 ghost use Rattle.insert_cases.specs.Risen.{page_of};
+ghost use Rattle.insert_cases.specs.Ways.{case_of};
 ghost use Rattle.plain_trie.specs.Risen.{IsNamed, RisenShows, OthersStay, AllStay};
 ghost use Rattle.plain_trie.specs.declared.plain.LeafRecord.{LeafRecord};
 
+use crate::choosing::{choice_at, step_at, takes_leaf};
 use crate::growing::Place;
 use crate::overflow::place;
 use crate::raising::{kept, settled, stored};
 use compound_node::{Entry, Node};
-use insert_cases::{Risen, grow_full, pull_up};
+use insert_cases::{Case, Choice, Risen, grow_full, pull_up};
 use key_bits::Key;
 
 /// What takes the place of an entry when a key gets a leaf below it. The key differs first at `position` from that of
 /// the leaf where its search ends.
 ///
-/// The search goes down to the node that the position affects, or to a leaf. A node above leaves alone takes the new
-/// leaf beside one of them; below a higher node a leaf counts as a child of height 0 that gave way to a fork of itself
-/// and the new one. Each node on the way back takes what took its child's place, and stays as it is where that is the
-/// child's own entry.
+/// The search goes down until `choose` gives the new leaf to the node where it stands, or to a leaf. A node above leaves
+/// alone takes the new leaf beside one of them; below a higher node a leaf counts as a child of height 0 that gave way to a
+/// fork of itself and the new one. Each node on the way back takes what took its child's place, and stays as it is where
+/// that is the child's own entry.
 pub fn raised(nodes: &mut Vec<Node>, entry: Entry, key: &Key, position: u16, leaf: u32) -> Risen
     requires place { (leaves : List LeafRecord) × (value : ℕ) × (t : Tree) × IsAddable nodes.old.items leaves (item leaf key.now value) position entry t }
     requires position { position < 65535 }
@@ -48,12 +50,14 @@ pub fn raised(nodes: &mut Vec<Node>, entry: Entry, key: &Key, position: u16, lea
             prove!(at < node.count());
             let (first, last) = node.affected(at, position);
             let child = node.entry(at);
-            if first < last || height == 1 {
+            let step = step_at(node, number, at);
+            let choice = choice_at(nodes, step, child, key, first, last);
+            if takes_leaf(choice) {
                 return grown_at(
                     nodes,
                     number,
                     height,
-                    (first, last),
+                    choice,
                     position,
                     key.bit(position),
                     leaf,
@@ -84,39 +88,54 @@ fn beside(old: Entry, position: u16, bit: bool, new: Entry) -> Risen
     }
 }
 
-/// What takes the place of a node that gets a leaf beside a range of its entries, from the first to the last.
+/// What takes the place of a node that gets a leaf as was chosen: beside its entries from the first to the last, and cut
+/// where it is full.
 fn grown_at(
     nodes: &mut Vec<Node>,
     number: u32,
     height: u16,
-    range: (u8, u8),
+    choice: Choice,
     position: u16,
     bit: bool,
     leaf: u32,
 ) -> Risen
-    requires place { (old : NodeView) × (slice_get nodes.old.items number ≡ Some old) × (old.height ≡ height) × IsAffected (piece old) position range.0 range.1 }
+    requires place { (old : NodeView) × (slice_get nodes.old.items number ≡ Some old) × (old.height ≡ height) ×
+        IsAffected (piece old) position choice.first choice.last × (choice.case ≡ case_of height (length old.entries) false) }
     requires position { position < 65535 }
     requires room { vec_len nodes.old < vec_capacity nodes.old }
     requires small { vec_len nodes.old < 2 ^ 32 }
     ensures shows { (old : NodeView) → slice_get nodes.old.items number ≡ Some old →
-        RisenShows nodes.new.items old result (grown position bit (Entry.Leaf leaf) range.0 (piece old)) }
+        RisenShows nodes.new.items old result (grown position bit (Entry.Leaf leaf) choice.first (piece old)) }
     ensures others { OthersStay nodes.old.items nodes.new.items number }
     ensures heights { KeepsHeights nodes.old.items nodes.new.items }
     ensures len { vec_len nodes.new ≤ vec_len nodes.old + 1 }
     ensures capacity { vec_capacity nodes.new ≡ vec_capacity nodes.old }
 {
-    let (first, last) = range;
+    let Choice {
+        first,
+        last,
+        case,
+        ..
+    } = choice;
     let new = Entry::Leaf(leaf);
-    if nodes[number as usize].count() < 32 {
-        let node = &mut nodes[number as usize];
-        node.add(first, last, position, bit, new);
-        return Risen::Whole(Entry::Node {
-            number,
-            height: node.height(),
-        });
+    match case {
+        Case::NormalInsert => {
+            let node = &mut nodes[number as usize];
+            prove!(node.count() < 32);
+            node.add(first, last, position, bit, new);
+            Risen::Whole(Entry::Node {
+                number,
+                height: node.height(),
+            })
+        }
+        Case::Overflow => {
+            let node = &nodes[number as usize];
+            prove!(node.count() == 32);
+            let grown = grow_full(node, first, last, position, bit, new);
+            stored(nodes, number, height, grown)
+        }
+        Case::LeafPushdown => unreachable!(),
     }
-    let grown = grow_full(&nodes[number as usize], first, last, position, bit, new);
-    stored(nodes, number, height, grown)
 }
 
 /// What takes a node's place when its child at `at` gave way. Where that is the child's own entry, the node stays as it

@@ -1,6 +1,7 @@
 -- The search goes down to the affected node, and the new leaf rises from there.
-use Rattle.std.proofs.Common.{◌≡◌, inl, inr, ℕ, List, refl, suc, ap, sym, ◌∙◌, subst, arith}
-use Rattle.pieces.specs.Growth.{grown, IsAffected}
+use Rattle.std.proofs.Common.{◌≡◌, ℕ, List, refl, suc, ap, sym, ◌∙◌, subst, arith}
+use Rattle.std.proofs.lemmas.Bool.{false≢true}
+use Rattle.pieces.specs.Growth.{grown}
 use Rattle.compound_node.specs.Nodes.{piece, height_of}
 use Rattle.compound_node.specs.declared.entries.Entry.TheVariants.{Leaf}
 use Rattle.tries.specs.Affected.{page_forked}
@@ -12,8 +13,9 @@ use Rattle.plain_trie.specs.declared.plain.LeafRecord.{LeafRecord}
 use Rattle.plain_trie.specs.Rising.{IsAddable, IsLifting, IsRaised}
 use Rattle.insert_cases.specs.Risen.{page_of}
 use Rattle.plain_trie.specs.Risen.{RisenShows}
+use Rattle.plain_trie.proofs.Cases.{named_in, passed, taken_first, taken_part, taken_place}
 use Rattle.plain_trie.proofs.Heights.{heights_over}
-use Rattle.plain_trie.proofs.Climbing.{old_at, addable_to, node_here, here_positive, here_within, here_high, here_spot, here_from, here_upto, here_entry, here_raised, here_lifting, part, range, way_below, child_addable, child_low, beside_raised, child_held}
+use Rattle.plain_trie.proofs.Climbing.{old_at, addable_to, node_here, here_positive, here_within, here_spot, here_from, here_upto, here_entry, here_raised, here_lifting, way_below, child_addable, child_low, beside_raised, child_held}
 use Rattle.plain_trie.proofs.rising.+raised.Goals as goal
 use Rattle.plain_trie.proofs.rising.+raised.Goals.{After-raised-risen}
 use Rattle.tries.specs.Content.{item}
@@ -21,6 +23,14 @@ use Rattle.tries.specs.Content.{item}
 pub index-node-requires : goal.index-node-requires
 index-node-requires t c =
     let u = node_here (addable_to c.in-Node.is c.requires.place.3) in omega (arith, here_within u, c.args.nodes.now.ok.0)
+
+pub choice_at-choice-requires-clause-record : goal.choice_at-choice-requires-clause-record
+choice_at-choice-requires-clause-record t c =
+    let i = addable_to c.in-Node.is c.requires.place.3 in
+    let u = node_here i in
+    let is = here_entry u c.index-node.result.now c.index-node.ensures c.search-at.result c.entry-child.result c.count.ensures.lawful c.search-at.ensures.leads c.entry-child.ensures.entry in
+    let below = child_addable i u c.entry-child.result is in
+    named_in c.args.nodes.now.items c.requires.place.0 (child c.args.key.now u.body) c.entry-child.result below.head below.shown
 
 pub grown_at-requires-clause-place : goal.grown_at-requires-clause-place
 grown_at-requires-clause-place t c =
@@ -31,7 +41,8 @@ grown_at-requires-clause-place t c =
     let last = c.affected-first.result.1 in
     let from = here_from u v c.index-node.ensures c.search-at.result first c.search-at.ensures.leads c.affected-first.ensures.from in
     let upto = here_upto u v c.index-node.ensures c.search-at.result first last c.search-at.ensures.leads c.affected-first.ensures.upto in
-    (u.shown.0.view, u.shown.0.at, here_high u, subst (λ f. IsAffected f c.args.position first last) (sym u.shown.0.shows) (range i u first last from upto (part i u first last from upto (elim c.then-first-last.either [ inl o ↦ inl o | inr o ↦ inr o.1 ]))))
+    taken_place i u v c.index-node.ensures first last from upto c.step_at-step.result c.step_at-step.ensures.height c.step_at-step.ensures.count c.entry-child.result c.entry-child.ensures.stands.1
+    c.choice_at-choice.result c.choice_at-choice.ensures (c.if-takes_leaf.ensures.0 refl)
 
 pub grown_at-requires-clause-room : goal.grown_at-requires-clause-room
 grown_at-requires-clause-room t c =
@@ -41,9 +52,9 @@ pub grown_at-requires-clause-small : goal.grown_at-requires-clause-small
 grown_at-requires-clause-small t c =
     let u = node_here (addable_to c.in-Node.is c.requires.place.3) in omega (arith, here_positive u, ap height_of c.in-Node.is, c.requires.small)
 
-pub returns-then-first-last-clause-raised : goal.returns-then-first-last-clause-raised
+pub returns-then-takes_leaf-clause-raised : goal.returns-then-takes_leaf-clause-raised
 unfolding bit
-returns-then-first-last-clause-raised t c = λ leaves value s a.
+returns-then-takes_leaf-clause-raised t c = λ leaves value s a.
     let i = addable_to c.in-Node.is a in
     let u = node_here i in
     let x = item c.args.leaf c.args.key.now value in
@@ -52,15 +63,21 @@ returns-then-first-last-clause-raised t c = λ leaves value s a.
     let last = c.affected-first.result.1 in
     let from = here_from u v c.index-node.ensures c.search-at.result first c.search-at.ensures.leads c.affected-first.ensures.from in
     let upto = here_upto u v c.index-node.ensures c.search-at.result first last c.search-at.ensures.leads c.affected-first.ensures.upto in
-    let at_bit = subst (λ o. RisenShows c.grown_at.new.nodes.items u.shown.0.view c.grown_at.result (grown c.args.position o (Leaf c.args.leaf) first (piece u.shown.0.view)))
-    c.bit-then-first-last.ensures (c.grown_at.ensures.shows u.shown.0.view u.shown.0.at) in
+    let whole = taken_part i u v c.index-node.ensures first last from upto c.step_at-step.result c.step_at-step.ensures.height c.step_at-step.ensures.count c.entry-child.result c.entry-child.ensures.stands.1
+    c.choice_at-choice.result c.choice_at-choice.ensures (c.if-takes_leaf.ensures.0 refl) in
+    let first_is = taken_first i u v c.index-node.ensures first last from upto c.step_at-step.result c.step_at-step.ensures.height c.step_at-step.ensures.count c.entry-child.result c.entry-child.ensures.stands.1
+    c.choice_at-choice.result c.choice_at-choice.ensures (c.if-takes_leaf.ensures.0 refl) in
+    let at_bit = subst (λ o. RisenShows c.grown_at.new.nodes.items u.shown.0.view c.grown_at.result (grown c.args.position o (Leaf c.args.leaf) c.choice_at-choice.result.first (piece u.shown.0.view)))
+    c.bit-then-takes_leaf.ensures (c.grown_at.ensures.shows u.shown.0.view u.shown.0.at) in
+    let at_first = subst (λ o. RisenShows c.grown_at.new.nodes.items u.shown.0.view c.grown_at.result (grown c.args.position (bit c.args.key.now c.args.position) (Leaf c.args.leaf) o (piece u.shown.0.view)))
+    first_is at_bit in
     let shows = subst (λ f. RisenShows c.grown_at.new.nodes.items u.shown.0.view c.grown_at.result (grown c.args.position (bit c.args.key.now c.args.position) (Leaf c.args.leaf) first f))
-    u.shown.0.shows at_bit in
+    u.shown.0.shows at_first in
     subst (λ h. IsRaised c.args.nodes.now.items c.grown_at.new.nodes.items leaves x c.args.position s (suc h) (page_of c.grown_at.result)) (sym (ap height_of c.in-Node.is))
-    (here_raised i u first last from upto (part i u first last from upto (elim c.then-first-last.either [ inl o ↦ inl o | inr o ↦ inr o.1 ])) c.grown_at.new.nodes.items c.grown_at.result c.grown_at.ensures.others shows)
+    (here_raised i u first last from upto whole c.grown_at.new.nodes.items c.grown_at.result c.grown_at.ensures.others shows)
 
-pub returns-then-first-last-clause-len : goal.returns-then-first-last-clause-len
-returns-then-first-last-clause-len t c =
+pub returns-then-takes_leaf-clause-len : goal.returns-then-takes_leaf-clause-len
+returns-then-takes_leaf-clause-len t c =
     let u = node_here (addable_to c.in-Node.is c.requires.place.3) in omega (arith, here_positive u, ap height_of c.in-Node.is, c.grown_at.ensures.len)
 
 pub raised-risen-requires : goal.raised-risen-requires
@@ -91,7 +108,7 @@ lifts t c leaves value s a =
     let upto = here_upto u v c.index-node.ensures at first last leads c.affected-first.ensures.upto in
     let is = here_entry u v c.index-node.ensures at c.entry-child.result c.count.ensures.lawful leads c.entry-child.ensures.entry in
     let up = c.raised-risen.ensures.raised leaves value _ (child_addable i u c.entry-child.result is) in
-    let l = here_lifting u at (height_of c.entry-child.result) c.entry-child.result c.raised-risen.new.nodes.items (page_of c.raised-risen.result) (way_below i u first last from upto c.if-first-last.false)
+    let l = here_lifting u at (height_of c.entry-child.result) c.entry-child.result c.raised-risen.new.nodes.items (page_of c.raised-risen.result) (way_below i u first last from upto (passed c.step_at-step.result.height c.step_at-step.result.count first last c.entry-child.result c.choice_at-choice.result c.choice_at-choice.ensures (λ z. false≢true (c.if-takes_leaf.ensures.1 z))))
     (here_spot u v c.index-node.ensures at leads) is refl up in
     (u.fixed, u.body, u.is, l)
 
@@ -132,23 +149,23 @@ returns-in-Leaf-clause-raised t c = λ leaves value s a.
     subst (λ h. IsRaised nodes nodes leaves x c.args.position s (suc h) (page_of c.beside.result)) (sym (ap height_of c.in-Leaf.is))
     (subst (IsRaised nodes nodes leaves x c.args.position s 1) (sym page_is) r)
 
-pub returns-else-height-eq1-clause-raised : goal.returns-else-height-eq1-clause-raised
-returns-else-height-eq1-clause-raised t c = λ leaves value s a.
+pub returns-else-takes_leaf-clause-raised : goal.returns-else-takes_leaf-clause-raised
+returns-else-takes_leaf-clause-raised t c = λ leaves value s a.
     let x = item c.args.leaf c.args.key.now value in
-    let (y, b, is, l) = lifts t (goal.at.returns-else-height-eq1-clause-raised t c).After-raised-risen leaves value s a in
+    let (y, b, is, l) = lifts t (goal.at.returns-else-takes_leaf-clause-raised t c).After-raised-risen leaves value s a in
     let r = c.lifted.ensures.raised c.args.nodes.now.items leaves x c.args.position y b l in
     subst (λ h. IsRaised c.args.nodes.now.items c.lifted.new.nodes.items leaves x c.args.position s (suc h) (page_of c.lifted.result)) (sym (ap height_of c.in-Node.is))
     (subst (λ z. IsRaised c.args.nodes.now.items c.lifted.new.nodes.items leaves x c.args.position z (suc c.in-Node.height) (page_of c.lifted.result)) (sym is) r)
 
-pub returns-else-height-eq1-clause-heights : goal.returns-else-height-eq1-clause-heights
-returns-else-height-eq1-clause-heights t c =
+pub returns-else-takes_leaf-clause-heights : goal.returns-else-takes_leaf-clause-heights
+returns-else-takes_leaf-clause-heights t c =
     let (leaves, value, s, a) = c.requires.place in
-    let (y, b, is, l) = lifts t (goal.at.returns-else-height-eq1-clause-heights t c).After-raised-risen leaves value s a in
+    let (y, b, is, l) = lifts t (goal.at.returns-else-takes_leaf-clause-heights t c).After-raised-risen leaves value s a in
     heights_over c.args.nodes.now.items c.raised-risen.new.nodes.items c.lifted.new.nodes.items c.raised-risen.ensures.heights c.lifted.ensures.heights
     c.in-Node.number l.shown.0.view l.shown.0.at (old_at l) c.lifted.ensures.others
 
-pub returns-else-height-eq1-clause-len : goal.returns-else-height-eq1-clause-len
-returns-else-height-eq1-clause-len t c =
+pub returns-else-takes_leaf-clause-len : goal.returns-else-takes_leaf-clause-len
+returns-else-takes_leaf-clause-len t c =
     let u = node_here (addable_to c.in-Node.is c.requires.place.3) in
     let is = here_entry u c.index-node.result.now c.index-node.ensures c.search-at.result c.entry-child.result c.count.ensures.lawful c.search-at.ensures.leads c.entry-child.ensures.entry in
     omega (arith, child_low u c.entry-child.result is, ap height_of c.in-Node.is, c.raised-risen.ensures.len, c.lifted.ensures.len)
