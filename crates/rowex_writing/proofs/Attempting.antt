@@ -30,7 +30,7 @@ use Rattle.rowex_core.specs.Knowing.{IsSince}
 use Rattle.rowex_reading.specs.Seen.{Sure, since}
 use Rattle.rowex_reading.proofs.Seeing.{later_trans, held_stable, missed_stable, shaped_stable, sure_later}
 use Rattle.rowex_writing.specs.Asking.{aim_of, answer_unless, declined}
-use Rattle.rowex_writing.specs.Attempts.{HasAnswered, HasDone, HasLoadedRoot, HasLooked, HasRefused, IsChangeOf, reply_to}
+use Rattle.rowex_writing.specs.Attempts.{HasAnswered, HasDone, HasLoadedRoot, HasLooked, HasRefused, IsAttemptCause, IsChangeOf, refusal_of, reply_to}
 use Rattle.rowex_writing.specs.Changes.{AreAffected, HasChanged, HasNoRoom, HasRun, HasStored, IsFull, IsPlanned}
 use Rattle.rowex_writing.specs.Locks.{HasMetLock}
 use Rattle.rowex_writing.specs.Plans.{change, IsCase, IsNewLeafPlan}
@@ -41,7 +41,7 @@ use Rattle.rowex_writing.specs.declared.plan.Aim.{Aim}
 use Rattle.rowex_writing.specs.declared.plan.Aim.TheVariants.{Remove as Removal}
 use Rattle.rowex_writing.specs.declared.plan.Deed.{Deed}
 use Rattle.rowex_writing.specs.declared.plan.Deed.TheVariants.{Put, Pair, Grow, Take}
-use Rattle.rowex_writing.specs.declared.attempts.TryFault.TheVariants.{Busy, FullNodes, FullLeaves}
+use Rattle.rowex_writing.specs.declared.attempts.TryFault.TheVariants.{Busy, FullLeaves}
 use Rattle.rowex_reading.specs.declared.descent.Found.{Found}
 use Rattle.rowex_writing.specs.declared.plan.Full.{Full}
 use Rattle.rowex_writing.specs.declared.plan.Full.TheVariants.{Nodes, Leaves}
@@ -276,11 +276,20 @@ full_before layout key k i j Leaves low f = λ q within room. let (step, from, a
 others_since : (k i j : Known) → IsLater k i → OthersGoOn i.pass i.front j.front → OthersGoOn k.pass k.front j.front
 others_since k i j later others = others_on k.pass k.front i.front j.front later.front (subst (λ q. OthersGoOn q i.front j.front) later.pass others)
 
-pub refused_nodes : (layout : Layout) (key : Key) (k i j : Known) → HasLoadedRoot k i → IsLater k i → HasNoRoom layout key i j Nodes → HasRefused layout key k j FullNodes
-refused_nodes layout key k i j loaded later none = record { others = others_since k i j later none.others; cause = full_before layout key k i j Nodes (loaded_steps k i loaded) none.full_of }
+full_cause : (layout : Layout) (key : Key) (k j : Known) (full : Full) → IsFull layout key k j full → IsAttemptCause layout key k j (refusal_of full)
+full_cause layout key k j Nodes f = f
+full_cause layout key k j Leaves f = f
 
-pub refused_leaves : (layout : Layout) (key : Key) (k i j : Known) → HasLoadedRoot k i → IsLater k i → HasNoRoom layout key i j Leaves → HasRefused layout key k j FullLeaves
-refused_leaves layout key k i j loaded later none = record { others = others_since k i j later none.others; cause = full_before layout key k i j Leaves (loaded_steps k i loaded) none.full_of }
+pub refused_full : (layout : Layout) (key : Key) (k i j : Known) (full : Full) → HasLoadedRoot k i → IsLater k i → HasNoRoom layout key i j full → HasRefused layout key k j (refusal_of full)
+refused_full layout key k i j full loaded later none = record {
+  others = others_since k i j later none.others;
+  cause = full_cause layout key k j full (full_before layout key k i j full (loaded_steps k i loaded) none.full_of);
+}
+
+-- a refusal for want of a leaf record is for want of one
+pub leaves_refused : (full : Full) → refusal_of full ≡ FullLeaves → full ≡ Leaves
+leaves_refused Nodes e = absurd (cc)
+leaves_refused Leaves e = refl
 
 -- ---- answers
 pub answered_look : (k j : Known) (ask : Ask) (key : Key) (value : ℕ) (reply : Reply) → IsLater k j → HasLooked j ask key reply → HasAnswered k j ask key value reply

@@ -30,6 +30,7 @@ use Rattle.rowex_writing.specs.declared.plan.Deed.{Deed}
 use Rattle.rowex_writing.specs.declared.plan.Deed.TheVariants.{Take}
 use Rattle.rowex_reading.specs.declared.descent.Found.{Found}
 use Rattle.rowex_reading.specs.declared.descent.Found.TheVariants.{Nothing, Leaf}
+use Rattle.rowex_writing.specs.declared.plan.Full.{Full}
 use Rattle.rowex_writing.specs.declared.plan.Full.TheVariants.{Nodes, Leaves}
 use Rattle.rowex_writing.specs.declared.attempts.TryFault.{TryFault}
 use Rattle.rowex_writing.specs.declared.attempts.TryFault.TheVariants.{Busy, FullNodes, FullLeaves}
@@ -101,6 +102,11 @@ reply_to (Exchange expected) found = Exchanged
 reply_to Remove (Leaf number held mismatch) = Removed held
 reply_to Remove Nothing = Absent
 reply_to (RemoveIf expected) found = Removed expected
+
+-- the refusal of a call for whose change no record of the kind was free
+abbrev pub refusal_of : Full → TryFault
+refusal_of Nodes = FullNodes
+refusal_of Leaves = FullLeaves
 
 -- what is done at the lower end of a span has been done: the key has the value, or it is absent
 abbrev pub HasDone : Known → Known → Deed → Key → ℕ → Found → Type 0

@@ -9,7 +9,7 @@ ghost use Rattle.rowex_rights.specs.Ending.{IsAtRest};
 ghost use Rattle.rowex_table.specs.Made.{IsLater};
 ghost use Rattle.rowex_table.specs.Seats.{IsSeatOf};
 ghost use Rattle.rowex_writing.specs.Asking.{aim_of as the_aim, declined as the_answer};
-ghost use Rattle.rowex_writing.specs.Attempts.{HasAnswered, HasAttempted, HasDone, HasLoadedRoot, HasRefused, reply_to as the_reply};
+ghost use Rattle.rowex_writing.specs.Attempts.{HasAnswered, HasAttempted, HasDone, HasLoadedRoot, HasRefused, refusal_of as the_refusal, reply_to as the_reply};
 ghost use Rattle.rowex_writing.specs.Changes.{HasNoRoom, HasRun, HasTakenPlan, HasTakenSpan, HasTriedOnce};
 ghost use Rattle.rowex_writing.specs.Locks.{HasMadeNoChange, HasMetLock, locks_of};
 ghost use Rattle.rowex_reading.specs.Ways.{IsWayOf, value_of};
@@ -128,8 +128,7 @@ fn act_on<G: Gate>(
             }
             match make_change(table, seat, gate, build, way, key, value, found, span, deed) {
                 Ok(()) => Ok(reply_to(ask, found)),
-                Err(Full::Nodes) => Err(TryFault::FullNodes),
-                Err(Full::Leaves) => Err(TryFault::FullLeaves),
+                Err(full) => Err(refusal_of(full)),
             }
         }
     }
@@ -229,5 +228,15 @@ fn reply_to(ask: Ask, found: Found) -> Reply
             Found::Nothing => Reply::Absent,
         },
         Ask::RemoveIf(expected) => Reply::Removed(expected),
+    }
+}
+
+/// The refusal of a call for whose change no record of the kind was free.
+fn refusal_of(full: Full) -> TryFault
+    ensures { result ≡ the_refusal full }
+{
+    match full {
+        Full::Nodes => TryFault::FullNodes,
+        Full::Leaves => TryFault::FullLeaves,
     }
 }

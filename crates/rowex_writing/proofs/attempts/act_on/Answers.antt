@@ -1,13 +1,14 @@
 -- What follows from the plan: an answer, a refusal, or the change.
-use Rattle.std.proofs.Common.{Err, ap, subst, ◌∙◌, arith}
+use Rattle.std.proofs.Common.{◌≡◌, Err, ap, sym, subst, ◌∙◌, arith}
 use Rattle.rowex_writing.specs.Asking.{aim_of}
 use Rattle.rowex_writing.specs.Plans.{LiesOnWay}
-use Rattle.rowex_writing.specs.Changes.{HasNoRoom, IsPlanned}
+use Rattle.rowex_writing.specs.Changes.{IsPlanned}
+use Rattle.rowex_writing.specs.declared.attempts.TryFault.TheVariants.{FullLeaves}
 use Rattle.rowex_reading.proofs.Led.{reads_later, reads_same, same_since}
 use Rattle.rowex_reading.proofs.Seeing.{later_trans}
 use Rattle.rowex_reading.specs.Seen.{since}
 use Rattle.rowex_writing.proofs.Attempted.{rest_few}
-use Rattle.rowex_writing.proofs.Attempting.{answered_change, answered_look, found_later, loaded_reads, looked, planned_as, planned_later, refused_busy, refused_leaves, refused_nodes, removal_takes, rest_reads}
+use Rattle.rowex_writing.proofs.Attempting.{answered_change, answered_look, found_later, leaves_refused, loaded_reads, looked, planned_as, planned_later, refused_busy, refused_full, removal_takes, rest_reads}
 use Rattle.rowex_writing.proofs.Onward.{reads_run}
 use Rattle.rowex_writing.proofs.Works.{quiet_on}
 use Rattle.rowex_writing.proofs.Runs.{none_once, once_run, run_loaded, run_once}
@@ -99,8 +100,8 @@ returns-in-Ok-clause-answered g c k later =
     rw c.reply_to.ensures (answered_change k _ _ _ _ _ _ _ _ _ _ _ (later_trans (later_trans later (reads_later c.find_plan.ensures.reads.2)) c.take_span.ensures.later) c.requires.met
     (subst (IsPlanned _ _ _ _ _ _) c.in-Change.is planned) (c.make_change.ensures.done c.in-Ok.is))
 
-pub returns-in-Err-Nodes-clause-run : goal.returns-in-Err-Nodes-clause-run
-returns-in-Err-Nodes-clause-run g c =
+pub returns-in-Err-clause-run : goal.returns-in-Err-clause-run
+returns-in-Err-clause-run g c =
     let within = subst (LiesOnWay c.args.way.now) c.in-Change.is c.find_plan.ensures.within in
     let (locks, tried, some, upto, all, few) = c.take_span.ensures.run in
     let whole = all c.if-not-take_span.false in (
@@ -111,34 +112,17 @@ returns-in-Err-Nodes-clause-run g c =
       rest_few _ _ c.args.table.now.layout locks some (omega (arith, whole, few, c.find_plan.ensures.few, c.make_change.ensures.few)),
     )
 
-pub returns-in-Err-Nodes-clause-refused : goal.returns-in-Err-Nodes-clause-refused
-returns-in-Err-Nodes-clause-refused g c k loaded later =
+pub returns-in-Err-clause-refused : goal.returns-in-Err-clause-refused
+returns-in-Err-clause-refused g c k loaded later =
     let r = c.find_plan.ensures.reads.2 in
     let there = run_loaded c.args.table.now g.G.Gate.becomes k _ _ (loaded_reads c.args.table.now g.G.Gate.becomes k c.find_plan.ensures.reads.0 c.find_plan.ensures.reads.1 _ _ r loaded) c.take_span.ensures.run.1.1 in
-    refused_nodes c.args.table.now.layout c.args.key.now k _ _ there (later_trans (later_trans later (reads_later r)) c.take_span.ensures.later) (subst (HasNoRoom _ _ _ _) c.in-Err-Nodes.field-0-is c.in-Err-Nodes.ensures.full)
+    rw c.refusal_of.ensures (refused_full c.args.table.now.layout c.args.key.now k _ _ c.in-Err.full there (later_trans (later_trans later (reads_later r)) c.take_span.ensures.later) c.in-Err.ensures.full)
 
-pub returns-in-Err-Leaves-clause-run : goal.returns-in-Err-Leaves-clause-run
-returns-in-Err-Leaves-clause-run g c =
-    let within = subst (LiesOnWay c.args.way.now) c.in-Change.is c.find_plan.ensures.within in
-    let (locks, tried, some, upto, all, few) = c.take_span.ensures.run in
-    let whole = all c.if-not-take_span.false in (
-      locks,
-      once_run c.args.table.now g.G.Gate.becomes _ _ _ (run_once c.args.table.now g.G.Gate.becomes _ _ _ (reads_run c.args.table.now g.G.Gate.becomes c.find_plan.ensures.reads.0 c.find_plan.ensures.reads.1 _ _ c.find_plan.ensures.reads.2) tried)
-          c.make_change.ensures.run,
-      omega (arith, upto, within.1, c.requires.way.depth),
-      rest_few _ _ c.args.table.now.layout locks some (omega (arith, whole, few, c.find_plan.ensures.few, c.make_change.ensures.few)),
-    )
-
-pub returns-in-Err-Leaves-clause-refused : goal.returns-in-Err-Leaves-clause-refused
-returns-in-Err-Leaves-clause-refused g c k loaded later =
-    let r = c.find_plan.ensures.reads.2 in
-    let there = run_loaded c.args.table.now g.G.Gate.becomes k _ _ (loaded_reads c.args.table.now g.G.Gate.becomes k c.find_plan.ensures.reads.0 c.find_plan.ensures.reads.1 _ _ r loaded) c.take_span.ensures.run.1.1 in
-    refused_leaves c.args.table.now.layout c.args.key.now k _ _ there (later_trans (later_trans later (reads_later r)) c.take_span.ensures.later) (subst (HasNoRoom _ _ _ _) c.in-Err-Leaves.field-0-is c.in-Err-Leaves.ensures.full)
-
-pub returns-in-Err-Leaves-clause-leafless : goal.returns-in-Err-Leaves-clause-leafless
-returns-in-Err-Leaves-clause-leafless g c e =
+pub returns-in-Err-clause-leafless : goal.returns-in-Err-clause-leafless
+returns-in-Err-clause-leafless g c e is =
     let planned = planned_as c.find_plan.new.seat.known (since c.args.seat.now.known) c.args.key.now c.args.way.now c.aim_of.result (aim_of c.args.ask) c.args.found c.find_plan.result c.aim_of.ensures
     (c.find_plan.ensures.planned (since c.args.seat.now.known) c.requires.way) in
     let take = removal_takes c.find_plan.new.seat.known (since c.args.seat.now.known) c.args.key.now c.args.way.now (aim_of c.args.ask) c.args.found c.find_plan.result c.in-Change.span c.in-Change.deed
     e c.in-Change.is planned in
-    absurd (c.make_change.ensures.leafless take (c.in-Err-Leaves.is ∙ ap Err c.in-Err-Leaves.field-0-is))
+    let same : c.refusal_of.result ≡ FullLeaves = cc in
+    c.make_change.ensures.leafless take (c.in-Err.is ∙ ap Err (leaves_refused c.in-Err.full (sym c.refusal_of.ensures ∙ same)))
