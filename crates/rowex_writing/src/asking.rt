@@ -8,7 +8,7 @@ use finite_map::Reply;
 use rowex_reading::Found;
 
 /// What is planned for a call whose key has the value that it expects, if it expects one.
-pub fn aim_of(ask: Ask) -> Aim
+pub(crate) fn aim_of(ask: Ask) -> Aim
     ensures { result ≡ the_aim ask }
 {
     match ask {
@@ -19,7 +19,7 @@ pub fn aim_of(ask: Ask) -> Aim
 }
 
 /// The answer of a call that expects a value, where its search found that the key has another or none.
-pub fn declined(ask: Ask, found: Found) -> Option<Reply>
+pub(crate) fn declined(ask: Ask, found: Found) -> Option<Reply>
     ensures { result ≡ the_answer ask found }
 {
     match ask {

@@ -35,10 +35,10 @@ use rowex_records::fill_node;
 use rowex_table::{HotTable, TableSeat};
 
 /// The most records that one change makes: a leaf, two nodes for each node of the longest way, and one above them.
-pub const MOST_MADE: usize = 4_322;
+pub(crate) const MOST_MADE: usize = 4_322;
 
 /// The most records that one change unlinks: the nodes of the longest way, and a leaf.
-pub const MOST_GONE: usize = 2_161;
+pub(crate) const MOST_GONE: usize = 2_161;
 
 /// The records that a pass has made for a change: claimed, and filled with their words.
 #[derive(Drop)]
@@ -353,7 +353,7 @@ fn raise_on<G: Gate>(
 /// The one entry that comes in the place of the node at `end` of a way, when the node at `top` gets a new leaf; and whether
 /// that node stays whole. Nothing where no node record was free: the claims try `build.left_nodes` of them at most, from
 /// `build.nodes.next` on, which are all where the change has claimed none before.
-pub fn raise_grown<G: Gate>(
+pub(crate) fn raise_grown<G: Gate>(
     table: &HotTable,
     seat: &mut TableSeat,
     gate: &mut G,
@@ -389,7 +389,7 @@ pub fn raise_grown<G: Gate>(
 
 /// The entry for what is left of a locked node without the leaf to which the key's search leads. Nothing where no node record was
 /// free, as in [`raise_grown`].
-pub fn raise_without<G: Gate>(
+pub(crate) fn raise_without<G: Gate>(
     table: &HotTable,
     seat: &mut TableSeat,
     gate: &mut G,
@@ -420,7 +420,7 @@ pub fn raise_without<G: Gate>(
 }
 
 /// The entry for a new node of a leaf and the new one. Nothing where no node record was free, as in [`raise_grown`].
-pub fn raise_pair<G: Gate>(
+pub(crate) fn raise_pair<G: Gate>(
     table: &HotTable,
     seat: &mut TableSeat,
     gate: &mut G,

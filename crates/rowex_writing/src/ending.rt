@@ -16,7 +16,7 @@ use rowex_table::{HotTable, TableSeat};
 
 /// Straight after a publish: marks the records `gone` that it has unlinked, in the epoch as it is now, and unlocks the nodes
 /// `kept`, the first one first, and then the anchor, where that is locked. The pass has no record and no lock then.
-pub fn retire<G: Gate>(
+pub(crate) fn retire<G: Gate>(
     table: &HotTable,
     seat: &mut TableSeat,
     gate: &mut G,
@@ -44,7 +44,7 @@ pub fn retire<G: Gate>(
 
 /// Takes a change back that was not published: gives up the records `held`, which are all that the pass has, and unlocks the
 /// nodes `locked`, which are all that it has locked, and then the anchor, where that is locked.
-pub fn undo<G: Gate>(
+pub(crate) fn undo<G: Gate>(
     table: &HotTable,
     seat: &mut TableSeat,
     gate: &mut G,

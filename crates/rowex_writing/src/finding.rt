@@ -18,7 +18,7 @@ use rowex_table::{HotTable, TableSeat};
 
 /// What a call does, by the way of its search: where a new leaf goes into a node, its head is loaded once more for the entries that
 /// the position affects.
-pub fn find_plan<G: Gate>(
+pub(crate) fn find_plan<G: Gate>(
     table: &HotTable,
     seat: &mut TableSeat,
     gate: &mut G,

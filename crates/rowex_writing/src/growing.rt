@@ -25,7 +25,7 @@ use rowex_reading::Found;
 use rowex_table::{HotTable, TableSeat};
 
 /// The lowest node of the span gets the new leaf, and what comes of that takes the place of the topmost. Its nodes are locked and checked.
-pub fn grow_node<G: Gate>(
+pub(crate) fn grow_node<G: Gate>(
     table: &HotTable,
     seat: &mut TableSeat,
     gate: &mut G,
@@ -112,7 +112,7 @@ fn grow_with<G: Gate>(
 }
 
 /// The number of an entry's record has 32 bits, as its type says. The function does nothing else than to tell it.
-pub fn has_number(entry: Entry)
+pub(crate) fn has_number(entry: Entry)
     ensures { HasNumber entry }
 {
     match entry {

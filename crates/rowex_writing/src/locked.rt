@@ -14,7 +14,7 @@ use rowex_table::{HotTable, TableSeat};
 
 /// The node in a record that the pass has locked: its words are those of the lock. Those past its last entry are 0, and are
 /// not loaded.
-pub fn read_locked<G: Gate>(
+pub(crate) fn read_locked<G: Gate>(
     table: &HotTable,
     seat: &mut TableSeat,
     gate: &mut G,

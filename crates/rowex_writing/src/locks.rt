@@ -15,7 +15,7 @@ use rowex_table::{HotTable, TableSeat};
 /// Locks the nodes of a span of the way, and the one above it that gets the new entry: from the lowest upwards, and the anchor
 /// last where the span goes up to the root. Each is tried once at most. Where another pass has locked one or has retired it, those
 /// that were locked are given back, and the answer is `false`.
-pub fn lock_span<G: Gate>(
+pub(crate) fn lock_span<G: Gate>(
     table: &HotTable,
     seat: &mut TableSeat,
     gate: &mut G,
@@ -86,7 +86,12 @@ fn lock_anchor<G: Gate>(table: &HotTable, seat: &mut TableSeat, gate: &mut G) ->
 }
 
 /// Unlocks the nodes of a part of the way, the first one first: all that the pass has locked, but the anchor.
-pub fn unlock_nodes<G: Gate>(table: &HotTable, seat: &mut TableSeat, gate: &mut G, steps: &[Step])
+pub(crate) fn unlock_nodes<G: Gate>(
+    table: &HotTable,
+    seat: &mut TableSeat,
+    gate: &mut G,
+    steps: &[Step],
+)
     requires own { IsSeatOf table.now seat.old }
     requires nodes { AreNodes table.now.layout steps.now }
     requires locked { HasJustLocked seat.old.known (numbers_of steps.now) }

@@ -19,7 +19,7 @@ use rowex_reading::Found;
 use rowex_table::{HotTable, TableSeat};
 
 /// A new node of the found leaf and the new one, with a fork at the position, takes the found leaf's place. Its nodes are locked and checked.
-pub fn pair_leaf<G: Gate>(
+pub(crate) fn pair_leaf<G: Gate>(
     table: &HotTable,
     seat: &mut TableSeat,
     gate: &mut G,

@@ -38,14 +38,14 @@ pub enum Aim {
 /// The nodes of the way that get others in their place: those from `end` on, before `len`. The topmost of the others goes
 /// into the entry that the search took in the node at `end - 1`, or to the root where `end` is 0.
 #[derive(Clone, Copy)]
-pub struct Span {
+pub(crate) struct Span {
     pub len: usize,
     pub end: usize,
 }
 
 /// What is done at the lower end of a span.
 #[derive(Clone, Copy)]
-pub enum Deed {
+pub(crate) enum Deed {
     /// The new leaf takes the place of what stands there.
     Put,
     /// A node of the leaf that stands there and the new one, with a fork at the position.
@@ -58,7 +58,7 @@ pub enum Deed {
 
 /// What a call does.
 #[derive(Clone, Copy)]
-pub enum Plan {
+pub(crate) enum Plan {
     /// It answers, and changes nothing.
     Answer(Reply),
     /// It makes this change.
@@ -78,7 +78,7 @@ pub enum Full {
 
 /// What a call does, as far as the way and the search's end tell it.
 #[derive(Clone, Copy)]
-pub enum Outline {
+pub(crate) enum Outline {
     /// All is told.
     Known(Plan),
     /// The new leaf goes beside the entries that the position affects at this level of the way: `plan_beside` tells the
@@ -87,7 +87,7 @@ pub enum Outline {
 }
 
 /// What a call does that found this at the end of its way, as far as that tells it.
-pub fn plan_call(way: &[Step], aim: Aim, found: Found) -> Outline
+pub(crate) fn plan_call(way: &[Step], aim: Aim, found: Found) -> Outline
     ensures { IsOutline way.now aim found result }
 {
     match found {
@@ -130,7 +130,7 @@ fn beside(way: &[Step], position: u16) -> Outline
 
 /// What a call does whose new leaf goes beside the entries from `first` to `last` of the node at this level: those that
 /// the position affects.
-pub fn plan_beside(way: &[Step], position: u16, level: usize, first: u8, last: u8) -> Plan
+pub(crate) fn plan_beside(way: &[Step], position: u16, level: usize, first: u8, last: u8) -> Plan
     requires { level < length way.now }
     ensures { IsBeside way.now position level first last result }
 {

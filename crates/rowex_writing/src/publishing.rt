@@ -37,7 +37,7 @@ use rowex_table::{HotTable, TableSeat};
 
 /// Makes a record for the new leaf, the first one of a change; answers its number, or nothing where no leaf record
 /// with room for the key was free.
-pub fn make_leaf<G: Gate>(
+pub(crate) fn make_leaf<G: Gate>(
     table: &HotTable,
     seat: &mut TableSeat,
     gate: &mut G,
@@ -91,7 +91,7 @@ fn stored_word(entry: Option<Entry>) -> u64
 
 /// The end of each change: makes its records ready, stores the word of the entry at the spot, marks the records that this unlinks
 /// (`build.gone`), unlocks the nodes `kept`, the first one first, and then the anchor, where that is locked.
-pub fn publish_change<G: Gate>(
+pub(crate) fn publish_change<G: Gate>(
     table: &HotTable,
     seat: &mut TableSeat,
     gate: &mut G,

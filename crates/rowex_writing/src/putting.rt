@@ -19,7 +19,7 @@ use rowex_reading::Found;
 use rowex_table::{HotTable, TableSeat};
 
 /// The new leaf takes the place of what the search found: nothing, or the leaf that has the key. Its nodes are locked and checked.
-pub fn put_leaf<G: Gate>(
+pub(crate) fn put_leaf<G: Gate>(
     table: &HotTable,
     seat: &mut TableSeat,
     gate: &mut G,
@@ -58,7 +58,7 @@ pub fn put_leaf<G: Gate>(
 }
 
 /// The spot that names what comes in the place of the nodes of the way from `end` on: in the node above them, or the root.
-pub fn spot_above(way: &[Step], end: usize) -> Spot
+pub(crate) fn spot_above(way: &[Step], end: usize) -> Spot
     requires { end ≤ length way.now }
     ensures { IsSpotAbove way.now end result }
 {
@@ -73,7 +73,7 @@ pub fn spot_above(way: &[Step], end: usize) -> Spot
 }
 
 /// The node above those of the way from `end` on, if there is one.
-pub fn node_above(way: &[Step], end: usize) -> &[Step]
+pub(crate) fn node_above(way: &[Step], end: usize) -> &[Step]
     requires { end ≤ length way.now }
     ensures { result.now ≡ slice_range way.now (end - 1) end }
 {

@@ -3,7 +3,7 @@
 use arrayvec::ArrayVec;
 
 /// The most numbers of records of one kind that a pass keeps to begin claims with.
-pub const MOST_SPARE: usize = 256;
+pub(crate) const MOST_SPARE: usize = 256;
 
 /// Where the claims of a pass begin, of node records or of the leaf records of one class. Numbers are counted from the first of these
 /// on.

@@ -21,7 +21,7 @@ use rowex_reading::Found;
 use rowex_table::{HotTable, TableSeat};
 
 /// The leaf that has the key goes: what is left of its node takes the node's place, and a root that was the leaf is empty. Its nodes are locked and checked.
-pub fn take_leaf<G: Gate>(
+pub(crate) fn take_leaf<G: Gate>(
     table: &HotTable,
     seat: &mut TableSeat,
     gate: &mut G,
