@@ -1,27 +1,32 @@
 -- What is chosen at a node, and what follows from it.
-use Rattle.std.proofs.Common.{◌≡◌, ◌≢◌, ◌⊎◌, inl, inr, ℕ, ◌+◌, ◌<◌, ◌≤◌, true, false, List, length, nat_lt, refl, ap, sym, ◌∙◌, subst, arith, Some, get_or}
-use Rattle.std.specs.Prelude.{slice_get}
+use Rattle.std.proofs.Common.{◌≡◌, ◌≢◌, ◌⊎◌, inl, inr, ℕ, zero, suc, ◌+◌, ◌<◌, ◌≤◌, max, Bool, true, false, List, length, nat_lt, refl, ap, ap₂, sym, ◌∙◌, subst, arith, Some, get_or, if◌then◌else◌}
+use Rattle.std.specs.Prelude.{slice_get, slice_set}
 use Rattle.std.proofs.lemmas.Bool.{lt-ltb, le-ltb, cases_lt}
 use Rattle.std.proofs.lemmas.Option.{slice_get_within}
-use Rattle.pieces.specs.Growth.{affected_first, affected_count, IsAffected}
-use Rattle.pieces.specs.Piece.{Place}
-use Rattle.compound_node.specs.Nodes.{NodeView, piece, height_of}
+use Rattle.pieces.specs.Growth.{affected_first, affected_count, grown, IsAffected}
+use Rattle.pieces.specs.Piece.{Place, places, size}
+use Rattle.compound_node.specs.Nodes.{NodeView, piece, height_of, greatest_height, IsEntry, IsLawfulNode, IsBuiltFrom}
 use Rattle.compound_node.specs.declared.entries.Entry.{Entry}
 use Rattle.compound_node.specs.declared.entries.Entry.TheVariants.{Leaf, Node}
 use Rattle.insert_cases.specs.declared.choice.Case.{Case}
 use Rattle.insert_cases.specs.declared.choice.Case.TheVariants.{LeafPushdown, NormalInsert, Overflow}
 use Rattle.insert_cases.specs.declared.choice.Choice.{Choice}
 use Rattle.insert_cases.specs.declared.choice.Step.{Step}
-use Rattle.insert_cases.specs.Ways.{case_of}
-use Rattle.tries.specs.Affected.{affected, IsPart}
+use Rattle.insert_cases.specs.Ways.{below, body, case_of, is_leaf, stage, IsAffectedNode, WayBelow}
+use Rattle.insert_cases.proofs.Choosing.{part_big, size_affected, tip_child, tip_small}
+use Rattle.tries.specs.Affected.{affected, page_forked, IsPart}
 use Rattle.tries.specs.Content.{Item}
+use Rattle.tries.specs.Keys.{Key, bit}
 use Rattle.tries.specs.Place.{spot}
-use Rattle.tries.specs.Tree.{Tree, leaf, node, fork, page}
+use Rattle.tries.specs.Search.{child, seek}
+use Rattle.tries.specs.Tree.{Fixed, Tree, leaf, node, fork, page}
+use Rattle.tries.proofs.Building.{size-piece}
 use Rattle.plain_trie.specs.declared.plain.LeafRecord.{LeafRecord}
-use Rattle.plain_trie.specs.Cases.{IsInRecords, IsChosenAt, TakesLeaf}
-use Rattle.plain_trie.specs.Rising.{IsAddable}
+use Rattle.plain_trie.specs.Cases.{IsInRecords, IsChosenAt, TakesLeaf, IsByCase, AddsByCase, DoesCase, IsPutBetween}
+use Rattle.plain_trie.specs.Rising.{IsAddable, NoNode}
+use Rattle.plain_trie.specs.Risen.{AllStay, OthersStay}
 use Rattle.plain_trie.specs.Store.{ShowsTree}
-use Rattle.plain_trie.proofs.Climbing.{IsHere, here_high, part, range}
+use Rattle.plain_trie.proofs.Climbing.{IsHere, child_addable, here_high, part, range}
 use Rattle.plain_trie.proofs.Searching.{read_at}
 
 -- ---- the case of several entries
@@ -83,10 +88,31 @@ named_in ns ls (node n x b) e is s = let q : Node n x.height ≡ e = cc in subst
 named_in ns ls (fork p a b) e is s = absurd cc
 
 -- ---- the node at which a search stands
+low_case : (m : ℕ) (b : Bool) → case_of 1 m false ≡ case_of 1 m b
+low_case m true = refl
+low_case m false = refl
+
+-- an entry of height 0 that a tree begins with is a leaf's
+low_leaf : (t : Tree) (e : Entry) → page t ≡ Place e → IsEntry e → height_of e ≡ 0 → IsPart t × (is_leaf t ≡ true)
+low_leaf (leaf n k v) e is i z = (tt, refl)
+low_leaf (node n x b) e is i z = let q : e ≡ Node n x.height = cc in absurd (let o = subst IsEntry q i in omega (arith, o.0, z, ap height_of q))
+low_leaf (fork p a b) e is i z = absurd cc
+
+-- the height of a new node over two leaves
+pair_low : (v : NodeView) (b : Bool) (p l : ℕ) (e : Entry) → height_of e ≡ 0 → IsBuiltFrom v (page_forked b p (Leaf l) (Place e)) → v.height ≡ 1
+pair_low v b p l e low built = over ∙ low_pair b
+  where
+    over : v.height ≡ 1 + greatest_height (places (page_forked b p (Leaf l) (Place e)))
+    over = built.height_is ∙ ap (λ es. 1 + greatest_height es) (built.lawful.shows.entries_are ∙ ap places built.shows_it)
+
+    low_pair : (b : Bool) → 1 + greatest_height (places (page_forked b p (Leaf l) (Place e))) ≡ 1
+    low_pair true = ap (λ g. 1 + max g (max 0 0)) low
+    low_pair false = ap (λ g. 1 + max 0 (max g 0)) low
+
 module _ {ns : List NodeView} {ls : List LeafRecord} {x : Item} {p n h : ℕ} {t : Tree} (i : IsAddable ns ls x p (Node n h) t) (u : IsHere ns ls x p n h t) (v : NodeView) (is : v ≡ get_or ns n v)
     (first last : ℕ) (from : affected_first p (spot x.key (page u.body)) (page u.body) ≡ first) (upto : affected_count p (spot x.key (page u.body)) (page u.body) + first ≡ last + 1)
     (s : Step) (tall : s.height ≡ v.height) (many : s.count ≡ length v.entries) (entry : Entry) (low : height_of entry < v.height)
-    (c : Choice) (chosen : IsChosenAt s.height s.count first last entry c) (takes : TakesLeaf c) where
+    (c : Choice) (chosen : IsChosenAt s.height s.count first last entry c) where
   same_node : v ≡ u.shown.0.view
   same_node = read_at ns n u.shown.0.view v u.shown.0.at is
 
@@ -96,20 +122,168 @@ module _ {ns : List NodeView} {ls : List LeafRecord} {x : Item} {p n h : ℕ} {t
   many_is : s.count ≡ length u.shown.0.view.entries
   many_is = many ∙ ap (λ (w : NodeView). length w.entries) same_node
 
-  whole : ((first < last) ⊎ (s.height ≡ 1)) × (c ≡ record { level = 0; first = first; last = last; case = case_of s.height s.count false })
-  whole = taken s.height s.count first last entry c chosen (omega (arith, low, tall)) takes
+  -- the node is the affected one
+  at_here : IsPart (affected p x.key u.body) → (z : Choice) (d : Case) → z ≡ record { level = 0; first = first; last = last; case = d } →
+      d ≡ case_of u.fixed.height (size (page u.body)) (is_leaf (affected p x.key u.body)) → IsAffectedNode x.key p (node n u.fixed u.body) z
+  at_here o z d e f = record {
+    number = n;
+    fixed = u.fixed;
+    inner = u.body;
+    is = subst (λ (w : Choice). stage x.key (node n u.fixed u.body) w.level ≡ node n u.fixed u.body) (sym e) refl;
+    above = λ l g. absurd (let same = ap (λ (w : Choice). w.level) e in omega (arith, g));
+    part = o;
+    first = ap (λ (w : Choice). w.first) e ∙ sym from;
+    range = subst (λ (w : Choice). IsAffected (page u.body) p w.first w.last) (sym e) (range i u first last from upto o);
+    case = ap (λ (w : Choice). w.case) e ∙ f;
+  }
 
-  pub taken_part : IsPart (affected p x.key u.body)
-  taken_part = part i u first last from upto (elim whole.0 [ inl o ↦ inl o | inr o ↦ inr (sym tall_is ∙ o) ])
+  -- ---- and gets the leaf itself
+  module _ (takes : TakesLeaf c) where
+    whole : ((first < last) ⊎ (s.height ≡ 1)) × (c ≡ record { level = 0; first = first; last = last; case = case_of s.height s.count false })
+    whole = taken s.height s.count first last entry c chosen (omega (arith, low, tall)) takes
 
-  pub taken_first : c.first ≡ first
-  taken_first = ap (λ (z : Choice). z.first) whole.1
+    pub taken_part : IsPart (affected p x.key u.body)
+    taken_part = part i u first last from upto (elim whole.0 [ inl o ↦ inl o | inr o ↦ inr (sym tall_is ∙ o) ])
 
-  -- what is asked where the node gets the leaf
-  pub taken_place : (o : NodeView) × (slice_get ns n ≡ Some o) × (o.height ≡ h) × IsAffected (piece o) p c.first c.last × (c.case ≡ case_of h (length o.entries) false)
-  taken_place =
-      let r = range i u first last from upto taken_part in
-      let f : IsAffected (piece u.shown.0.view) p first last = subst (λ f. IsAffected f p first last) (sym u.shown.0.shows) r in
-      let g : IsAffected (piece u.shown.0.view) p c.first c.last =
-      subst (λ (z : Choice). IsAffected (piece u.shown.0.view) p z.first z.last) (sym whole.1) f in
-      (u.shown.0.view, u.shown.0.at, here_high u, g, ap (λ (z : Choice). z.case) whole.1 ∙ ap (λ m. case_of h m false) many_is)
+    pub taken_first : c.first ≡ first
+    taken_first = ap (λ (z : Choice). z.first) whole.1
+
+    -- what is asked where the node gets the leaf
+    pub taken_place : (o : NodeView) × (slice_get ns n ≡ Some o) × (o.height ≡ h) × IsAffected (piece o) p c.first c.last × (c.case ≡ case_of h (length o.entries) false)
+    taken_place =
+        let r = range i u first last from upto taken_part in
+        let f : IsAffected (piece u.shown.0.view) p first last = subst (λ f. IsAffected f p first last) (sym u.shown.0.shows) r in
+        let g : IsAffected (piece u.shown.0.view) p c.first c.last =
+        subst (λ (z : Choice). IsAffected (piece u.shown.0.view) p z.first z.last) (sym whole.1) f in
+        (u.shown.0.view, u.shown.0.at, here_high u, g, ap (λ (z : Choice). z.case) whole.1 ∙ ap (λ m. case_of h m false) many_is)
+
+    taken_affected : IsLawfulNode v → IsAffectedNode x.key p (node n u.fixed u.body) c
+    taken_affected lawful =
+        let m = size (page u.body) in
+        let g = u.fixed.height in
+        let single = is_leaf (affected p x.key u.body) in
+        let counts : s.count ≡ m =
+        omega (arith, many_is, size-piece u.shown.0.view (subst IsLawfulNode same_node lawful), ap size u.shown.0.shows) in
+        let tall_as : s.height ≡ g = tall_is ∙ sym u.high in
+        let same : case_of g m false ≡ case_of g m single = elim whole.0 [
+          | inl o ↦ ap (case_of g m) (sym (part_big (affected p x.key u.body) (omega (arith, upto, size_affected x.key p u.body))).1)
+          | inr one ↦ let e : g ≡ 1 = sym tall_as ∙ one in subst (λ z. case_of z m false ≡ case_of z m single) (sym e) (low_case m single)
+        ] in
+        at_here taken_part c (case_of s.height s.count false) whole.1 (ap (λ z. case_of z s.count false) tall_as ∙ (ap (λ z. case_of g z false) counts ∙ same))
+
+    pub taken_by_case : IsLawfulNode v → (ms : List NodeView) → DoesCase ms n c.case u.shown.0.view c.first (grown p (bit x.key p) (Leaf x.number) c.first (piece u.shown.0.view)) →
+        IsByCase ns ms x.key p x.number (node n u.fixed u.body)
+    unfolding at_here taken_affected
+    taken_by_case lawful ms does = record { choice = c; affected = taken_affected lawful; view = u.shown.0.view; at = u.shown.0.at; does = does }
+
+  -- ---- or a new node takes the place of the leaf below it
+  module _ (passes : TakesLeaf c → ⊥) (zero_high : height_of entry ≡ 0) (sought : entry ≡ seek x.key (page u.body)) (stands : IsEntry entry) where
+    passed_on : last ≤ first
+    passed_on = passed s.height s.count first last entry c chosen passes
+
+    pub pushed_high : 1 < h
+    pushed_high = elim (cases_lt 1 s.height) [
+      | inl o ↦ omega (arith, o, tall_is)
+      | inr o ↦
+          let one : s.height ≡ 1 = omega (arith, low, tall) in
+          let e = chosen.leaf passed_on zero_high in
+          let same : case_of s.height s.count true ≡ case_of s.height s.count false = subst (λ g. case_of g s.count true ≡ case_of g s.count false) (sym one) refl in
+          absurd (passes (ap (λ (z : Choice). z.level) e, λ q. not_pushed s.height s.count (sym same ∙ (sym (ap (λ (z : Choice). z.case) e) ∙ q))))
+    ]
+
+    pushed_affected : IsAffectedNode x.key p (node n u.fixed u.body) (record { level = 0; first = first; last = last; case = LeafPushdown })
+    pushed_affected =
+        let tip = tip_child p x.key u.body (tip_small (affected p x.key u.body) (let q = passed_on in omega (arith, upto, size_affected x.key p u.body))) in
+        let leafy = low_leaf (child x.key u.body) entry (child_addable i u entry sought).head stands zero_high in
+        let single : is_leaf (affected p x.key u.body) ≡ true = ap is_leaf tip.0 ∙ leafy.1 in
+        let tall_as : nat_lt 1 u.fixed.height ≡ true = lt-ltb 1 u.fixed.height (let q = pushed_high in omega (arith, u.high)) in
+        at_here (subst IsPart (sym tip.0) leafy.0) _ LeafPushdown refl (rw (single, tall_as) refl)
+
+    pub pushed_by_case : (ms us : List NodeView) (at : ℕ) (b : Bool) → at ≡ first → IsPutBetween ms us n at u.shown.0.view (page_forked b p (Leaf x.number) (Place entry)) →
+        IsByCase ns us x.key p x.number (node n u.fixed u.body)
+    unfolding at_here pushed_affected
+    pushed_by_case ms us at b at_first put =
+        let high : put.view.height ≡ 1 = pair_low put.view b p x.number entry zero_high put.built in record {
+          choice = record { level = 0; first = first; last = last; case = LeafPushdown };
+          affected = pushed_affected;
+          view = u.shown.0.view;
+          at = u.shown.0.at;
+          does = (
+            record u.shown.0.view { entries = slice_set u.shown.0.view.entries at (Node (length ms) put.view.height) },
+            put.after,
+            (
+              length ms,
+              ap₂ (λ j g. let w : NodeView = record u.shown.0.view { entries = slice_set u.shown.0.view.entries j (Node (length ms) g) } in w) at_first high,
+            ),
+          );
+        }
+
+-- ---- below a node
+pub leaf_by_case : (ns ms : List NodeView) (k : Key) (p l n : ℕ) (t : Tree) → page t ≡ Place (Leaf n) → AddsByCase ns ms k p l t
+leaf_by_case ns ms k p l n (leaf m j v) is = tt
+leaf_by_case ns ms k p l n (node m x b) is = absurd cc
+leaf_by_case ns ms k p l n (fork q a b) is = tt
+
+pub node_by_case : (ns ms : List NodeView) (k : Key) (p l : ℕ) (e : Entry) (t : Tree) → page t ≡ Place e → 0 < height_of e → AddsByCase ns ms k p l t → IsByCase ns ms k p l t
+node_by_case ns ms k p l e (leaf m j v) is high d = absurd (let q : Leaf m ≡ e = cc in omega (arith, ap height_of q))
+node_by_case ns ms k p l e (node m x b) is high d = d
+node_by_case ns ms k p l e (fork q a b) is high d = absurd cc
+
+pub adds_by_case : (ns ms : List NodeView) (k : Key) (p l : ℕ) (t : Tree) → IsByCase ns ms k p l t → AddsByCase ns ms k p l t
+adds_by_case ns ms k p l (leaf m j v) d = tt
+adds_by_case ns ms k p l (node m x b) d = d
+adds_by_case ns ms k p l (fork q a b) d = tt
+
+none_child : (n : ℕ) (k : Key) (b : Tree) → NoNode n b → NoNode n (child k b)
+none_child n k (leaf m l v) none = none
+none_child n k (node m x d) none = none
+none_child n k (fork q a c) none =
+    elim (bit k q) as (λ o. NoNode n (if o then child k c else child k a)) [ true ↦ none_child n k c none.1 | false ↦ none_child n k a none.0 ]
+
+none_below : (n : ℕ) (k : Key) (t : Tree) → NoNode n t → NoNode n (below k t)
+none_below n k (leaf m l v) none = none
+none_below n k (node m x b) none = none_child n k b none.1
+none_below n k (fork q a c) none = none
+
+none_stage : (n : ℕ) (k : Key) (t : Tree) (l m : ℕ) (y : Fixed) (d : Tree) → NoNode n t → stage k t l ≡ node m y d → n ≢ m
+none_stage n k t zero m y d none e = (subst (NoNode n) e none).0
+none_stage n k t (suc l) m y d none e = none_stage n k (below k t) l m y d (none_below n k t none) e
+
+pub above_by_case : (ns ms us : List NodeView) (k : Key) (p l n : ℕ) (y : Fixed) (b : Tree) → NoNode n b → WayBelow p k b → OthersStay ms us n → IsByCase ns ms k p l (child k b) →
+    IsByCase ns us k p l (node n y b)
+above_by_case ns ms us k p l n y b none way others d = record {
+  choice = record { level = suc d.choice.level; first = d.choice.first; last = d.choice.last; case = d.choice.case };
+  affected = record {
+    number = d.affected.number;
+    fixed = d.affected.fixed;
+    inner = d.affected.inner;
+    is = d.affected.is;
+    above = up;
+    part = d.affected.part;
+    first = d.affected.first;
+    range = d.affected.range;
+    case = d.affected.case;
+  };
+  view = d.view;
+  at = d.at;
+  does = (d.does.0, others d.affected.number d.does.0 apart d.does.1, d.does.2);
+}
+  where
+    up : (j : ℕ) → j < suc d.choice.level → WayBelow p k (body (stage k (node n y b) j))
+    up zero g = way
+    up (suc j) g = d.affected.above j (omega (arith, g))
+
+    apart : n ≢ d.affected.number
+    apart = none_stage n k (child k b) d.choice.level d.affected.number d.affected.fixed d.affected.inner (none_child n k b none) d.affected.is
+
+-- further nodes may come
+pub later_by_case : (ns ms us : List NodeView) (k : Key) (p l : ℕ) (t : Tree) → AllStay ms us → AddsByCase ns ms k p l t → AddsByCase ns us k p l t
+later_by_case ns ms us k p l (leaf m j v) all d = tt
+later_by_case ns ms us k p l (node m x b) all d = record {
+  choice = d.choice;
+  affected = d.affected;
+  view = d.view;
+  at = d.at;
+  does = (d.does.0, all d.affected.number d.does.0 d.does.1, d.does.2);
+}
+later_by_case ns ms us k p l (fork q a b) all d = tt

@@ -5,7 +5,7 @@ use Rattle.std.specs.Prelude.{slice_get}
 use Rattle.std.proofs.lemmas.List.{get_or-set_same, get_or-set_other, get_or_append_left}
 use Rattle.std.proofs.Math.Seq.{get_or-append_seam}
 use Rattle.std.proofs.lemmas.Option.{slice_get-get_or, get_or_from_slice_get, slice_get_within}
-use Rattle.pieces.specs.Piece.{Piece, Place, Fork, places}
+use Rattle.pieces.specs.Piece.{Piece, Place, Fork, places, size}
 use Rattle.compound_node.specs.Halves.{HalfShows}
 use Rattle.compound_node.specs.Nodes.{NodeView, piece, IsLawfulNode, IsBuiltFrom, greatest_height}
 use Rattle.compound_node.specs.declared.entries.Entry.{Entry}
@@ -14,6 +14,7 @@ use Rattle.compound_node.specs.declared.halves.Half.{Half}
 use Rattle.compound_node.specs.declared.halves.Half.TheVariants.{One, Many, Same}
 use Rattle.insert_cases.specs.Grown.{GrownShows}
 use Rattle.insert_cases.specs.declared.growth.Grown.TheVariants.{Two}
+use Rattle.plain_trie.specs.Cases.{IsOneSide}
 use Rattle.plain_trie.specs.Risen.{IsNamed, IsFor, RisenShows, OthersStay, AllStay, pushed_nodes, pushed_entry, kept_nodes, kept_entry}
 use Rattle.insert_cases.specs.declared.raising.Risen.TheVariants.{Split}
 use Rattle.insert_cases.proofs.Choosing.{same_some}
@@ -116,6 +117,30 @@ module _ (old : NodeView) where
     double_shows p Same (One f) (Fork q a b) ne s = (s.0, inr (named_old xs n h a at high lawful s.1.0), inl s.1.1)
     double_shows p Same (Many v) (Fork q a b) ne s = elim s.1.0 [ ]
     double_shows p Same Same (Fork q a b) ne s = elim s.1.0 [ ]
+
+-- the side that the old record has
+module _ (old : NodeView) (xs : List NodeView) (n : ℕ) (at : slice_get xs n ≡ Some old) where
+  stands : n < length xs
+  stands = slice_get_within xs n old at
+
+  pub single_side : (p : ℕ) (e : Entry) (half : Half) (P : Piece Entry) → GrownShows old (Two (record { position = p; zero = One e; one = half })) P → 2 < size P →
+      (view : NodeView) × (slice_get (kept_nodes xs n half) n ≡ Some view) × IsOneSide view P
+  single_side p e half (Place x) s big = elim s [ ]
+  single_side p e (One f) (Fork q a b) s big = absurd (omega (arith, ap size s.1.0.0, ap size s.1.1.0))
+  single_side p e (Many v) (Fork q a b) s big = (v, set_same xs n v stands, inr s.1.1.shows_it)
+  single_side p e Same (Fork q a b) s big = (old, at, inr (sym s.1.1))
+
+  pub double_side : (p : ℕ) (first half : Half) (P : Piece Entry) → ((e : Entry) → first ≢ One e) → GrownShows old (Two (record { position = p; zero = first; one = half })) P →
+      (view : NodeView) × (slice_get (kept_nodes (pushed_nodes xs half) n first) n ≡ Some view) × IsOneSide view P
+  double_side p first half (Place x) ne s = elim s [ ]
+  double_side p (One e) half (Fork q a b) ne s = absurd (ne e refl)
+  double_side p (Many u) (One f) (Fork q a b) ne s = (u, set_same xs n u stands, inl s.1.0.shows_it)
+  double_side p (Many u) (Many v) (Fork q a b) ne s =
+      (u, set_same (xs ++ v ∷ []) n u (let r = stands in omega (arith, length-append xs (v ∷ []))), inl s.1.0.shows_it)
+  double_side p (Many u) Same (Fork q a b) ne s = elim s.1.1 [ ]
+  double_side p Same (One f) (Fork q a b) ne s = (old, at, inl (sym s.1.0))
+  double_side p Same (Many v) (Fork q a b) ne s = elim s.1.0 [ ]
+  double_side p Same Same (Fork q a b) ne s = elim s.1.0 [ ]
 
 -- what stays
 pub others_kept : (xs : List NodeView) (n : ℕ) (half : Half) → OthersStay xs (kept_nodes xs n half) n

@@ -5,6 +5,7 @@ ghost use Rattle.std.specs.Vec.{vec_capacity};
 ghost use Rattle.compound_node.specs.Nodes.{piece};
 ghost use Rattle.finite_map.specs.Maps.{value_at, with_value};
 ghost use Rattle.finite_map.specs.declared.Call.TheVariants.{Insert, Upsert};
+ghost use Rattle.finite_map.specs.declared.Reply.TheVariants.{Inserted, New};
 ghost use Rattle.tries.specs.Search.{seek, found};
 
 mod adding;
@@ -62,6 +63,7 @@ impl Model for PlainTrie {
 }
 
 impl PlainTrie {
+    ghost use Rattle.plain_trie.specs.Cases.{TakesCase};
     ghost use Rattle.plain_trie.specs.Heights.{KeepsHeights};
     ghost use Rattle.plain_trie.specs.Room.{KeepsRoom, IsTrieAnswer, IsOutOfMemory};
     ghost use Rattle.plain_trie.specs.Store.{trie_map, ShowsTrie, IsHeldInLeaf, shown_tree, item_record};
@@ -134,6 +136,7 @@ impl PlainTrie {
     pub fn insert(&mut self, key: &Key, value: u64) -> Result<Reply, AllocError>
         ensures ok { IfOk result (IsTrieAnswer (Insert key.now value) self.old self.new) }
         ensures err { OnErr result (IsOutOfMemory (Insert key.now value) self.old self.new) }
+        ensures case { IfOk result (λ reply. reply ≡ Inserted → TakesCase self.old self.new key.now) }
         ensures room { KeepsRoom self.old self.new }
         ensures heights { KeepsHeights self.old.nodes self.new.nodes }
     {
@@ -148,6 +151,7 @@ impl PlainTrie {
     pub fn upsert(&mut self, key: &Key, value: u64) -> Result<Reply, AllocError>
         ensures ok { IfOk result (IsTrieAnswer (Upsert key.now value) self.old self.new) }
         ensures err { OnErr result (IsOutOfMemory (Upsert key.now value) self.old self.new) }
+        ensures case { IfOk result (λ reply. reply ≡ New → TakesCase self.old self.new key.now) }
         ensures room { KeepsRoom self.old self.new }
         ensures heights { KeepsHeights self.old.nodes self.new.nodes }
     {
@@ -166,6 +170,7 @@ impl PlainTrie {
         ensures ok { IfOk result (λ held. MatchOption held
             ((value_at (trie_map self.old) key.now ≡ None) × (trie_map self.new ≡ with_value (trie_map self.old) key.now value))
             (λ leaf. IsHeldInLeaf self.old key.now leaf × (self.new ≡ self.old))) }
+        ensures case { IfOk result (λ held. held ≡ None → TakesCase self.old self.new key.now) }
         ensures err { OnErr result (IsOutOfMemory (Insert key.now value) self.old self.new) }
         ensures room { KeepsRoom self.old self.new }
         ensures heights { KeepsHeights self.old.nodes self.new.nodes }

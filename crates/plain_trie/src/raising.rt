@@ -1,11 +1,12 @@
 //! Grown nodes, halves and new nodes are stored in records that are kept in a vector.
 
-ghost use Rattle.std.specs.Prelude.{◌≡◌, ◌+◌, ◌^◌, ◌<◌, ◌≤◌, [], ◌∷◌, ◌++◌, Some, slice_get, slice_set};
+ghost use Rattle.std.specs.Prelude.{◌≡◌, ◌+◌, ◌^◌, ◌<◌, ◌≤◌, [], ◌∷◌, ◌++◌, Some, false, slice_get, slice_set};
 ghost use Rattle.std.specs.Vec.{vec_len, vec_capacity};
-ghost use Rattle.pieces.specs.Piece.{Piece, Fork, Place as At};
+ghost use Rattle.pieces.specs.Piece.{Piece, Fork, Place as At, size};
 ghost use Rattle.compound_node.specs.Nodes.{NodeView, IsLawfulNode, IsEntry};
 ghost use Rattle.compound_node.specs.declared.entries.Entry.{Entry as EntryView};
-ghost use Rattle.insert_cases.specs.Grown.{GrownShows};
+ghost use Rattle.insert_cases.specs.Grown.{GrownShows, is_whole};
+ghost use Rattle.plain_trie.specs.Cases.{IsOneSide};
 ghost use Rattle.plain_trie.specs.Heights.{IsGrownSteady, KeepsHeights};
 ghost use Rattle.plain_trie.specs.Rising.{IsNew};
 ghost use Rattle.plain_trie.specs.Risen.{RisenShows, OthersStay, pushed_nodes, pushed_entry, kept_nodes, kept_entry};
@@ -22,6 +23,8 @@ pub fn stored(nodes: &mut Vec<Node>, number: u32, height: u16, grown: Grown) -> 
         GrownShows old grown P → RisenShows nodes.new.items old result P }
     ensures heights { (old : NodeView) (P : Piece EntryView) → slice_get nodes.old.items number ≡ Some old → GrownShows old grown P →
         IsGrownSteady old grown → KeepsHeights nodes.old.items nodes.new.items }
+    ensures side { (old : NodeView) (P : Piece EntryView) → slice_get nodes.old.items number ≡ Some old → GrownShows old grown P → is_whole grown ≡ false → 2 < size P →
+        (view : NodeView) × (slice_get nodes.new.items number ≡ Some view) × IsOneSide view P }
     ensures others { OthersStay nodes.old.items nodes.new.items number }
     ensures longer { vec_len nodes.old ≤ vec_len nodes.new }
     ensures len { vec_len nodes.new ≤ vec_len nodes.old + 1 }
@@ -42,6 +45,8 @@ fn split(nodes: &mut Vec<Node>, number: u32, height: u16, cut: Cut) -> Risen
         GrownShows old (Grown.Two cut) P → RisenShows nodes.new.items old result P }
     ensures heights { (old : NodeView) (P : Piece EntryView) → slice_get nodes.old.items number ≡ Some old → GrownShows old (Grown.Two cut) P →
         IsGrownSteady old (Grown.Two cut) → KeepsHeights nodes.old.items nodes.new.items }
+    ensures side { (old : NodeView) (P : Piece EntryView) → slice_get nodes.old.items number ≡ Some old → GrownShows old (Grown.Two cut) P → 2 < size P →
+        (view : NodeView) × (slice_get nodes.new.items number ≡ Some view) × IsOneSide view P }
     ensures others { OthersStay nodes.old.items nodes.new.items number }
     ensures longer { vec_len nodes.old ≤ vec_len nodes.new }
     ensures len { vec_len nodes.new ≤ vec_len nodes.old + 1 }

@@ -1,14 +1,16 @@
 //! How a new leaf rises from the node that it affects to the root, in records that are kept in a vector.
 
-ghost use Rattle.std.specs.Prelude.{◌≡◌, ℕ, suc, ◌+◌, ◌^◌, ◌<◌, ◌≤◌, List, Some, false, length, slice_get};
+ghost use Rattle.std.specs.Prelude.{◌≡◌, ℕ, suc, ◌+◌, ◌^◌, ◌<◌, ◌≤◌, Bool, List, Some, false, length, slice_get, slice_set};
 ghost use Rattle.std.specs.Vec.{vec_len, vec_capacity};
 ghost use Rattle.pieces.specs.Growth.{grown, IsAffected};
 ghost use Rattle.pieces.specs.Piece.{Fork, Place as At, size};
 ghost use Rattle.compound_node.specs.Nodes.{NodeView, piece, IsEntry, IsLawfulNode, StandsBelow, height_of};
+ghost use Rattle.compound_node.specs.declared.entries.Entry.{Entry as EntryView};
 ghost use Rattle.tries.specs.Affected.{page_forked};
 ghost use Rattle.tries.specs.Content.{Item, item};
 ghost use Rattle.tries.specs.Tree.{Tree, Fixed, node as tree_node};
 ghost use Rattle.pieces.specs.Grafts.{grafted, IsAbovePath};
+ghost use Rattle.plain_trie.specs.Cases.{AddsByCase, DoesCase, IsPutBetween};
 ghost use Rattle.plain_trie.specs.Heights.{KeepsHeights};
 ghost use Rattle.plain_trie.specs.Rising.{IsRaised, IsAddable, IsLifting};
 ghost use Rattle.insert_cases.specs.Risen.{page_of};
@@ -38,6 +40,9 @@ pub fn raised(nodes: &mut Vec<Node>, entry: Entry, key: &Key, position: u16, lea
     requires small { vec_len nodes.old + height_of entry ≤ 2 ^ 32 }
     ensures raised { (leaves : List LeafRecord) (value : ℕ) (t : Tree) → IsAddable nodes.old.items leaves (item leaf key.now value) position entry t →
         IsRaised nodes.old.items nodes.new.items leaves (item leaf key.now value) position t (suc (height_of entry)) (page_of result) }
+    ensures case { (leaves : List LeafRecord) (value : ℕ) (t : Tree) → IsAddable nodes.old.items leaves (item leaf key.now value) position entry t →
+        AddsByCase nodes.old.items nodes.new.items key.now position leaf t }
+    ensures low { height_of entry ≡ 0 → (nodes.new.items ≡ nodes.old.items) × (bit : Bool) × (page_of result ≡ page_forked bit position (Entry.Leaf leaf) (At entry)) }
     ensures heights { KeepsHeights nodes.old.items nodes.new.items }
     ensures len { vec_len nodes.new ≤ vec_len nodes.old + height_of entry }
     ensures capacity { vec_capacity nodes.new ≡ vec_capacity nodes.old }
@@ -106,6 +111,8 @@ fn grown_at(
     requires small { vec_len nodes.old < 2 ^ 32 }
     ensures shows { (old : NodeView) → slice_get nodes.old.items number ≡ Some old →
         RisenShows nodes.new.items old result (grown position bit (Entry.Leaf leaf) choice.first (piece old)) }
+    ensures does { (old : NodeView) → slice_get nodes.old.items number ≡ Some old →
+        DoesCase nodes.new.items number choice.case old choice.first (grown position bit (Entry.Leaf leaf) choice.first (piece old)) }
     ensures others { OthersStay nodes.old.items nodes.new.items number }
     ensures heights { KeepsHeights nodes.old.items nodes.new.items }
     ensures len { vec_len nodes.new ≤ vec_len nodes.old + 1 }
@@ -156,6 +163,8 @@ pub fn lifted(
     ensures raised { (ns : List NodeView) (leaves : List LeafRecord) (x : Item) (p : ℕ) (y : Fixed) (b : Tree) →
         IsLifting ns nodes.old.items leaves x p number height at (height_of child) y b (page_of risen) →
         IsRaised ns nodes.new.items leaves x p (tree_node number y b) (suc height) (page_of result) }
+    ensures between { (old : NodeView) (p : ℕ) (zero one : EntryView) → slice_get nodes.old.items number ≡ Some old → page_of risen ≡ Fork p (At zero) (At one) → height_of child + 1 < height →
+        IsPutBetween nodes.old.items nodes.new.items number at old (Fork p (At zero) (At one)) }
     ensures others { OthersStay nodes.old.items nodes.new.items number }
     ensures heights { KeepsHeights nodes.old.items nodes.new.items }
     ensures len { vec_len nodes.new ≤ vec_len nodes.old + 1 }
@@ -238,6 +247,8 @@ pub fn rooted(nodes: &mut Vec<Node>, risen: Risen) -> Entry
 fn replaced(nodes: &mut Vec<Node>, number: u32, at: u8, entry: Entry) -> Entry
     requires { (old : NodeView) × (slice_get nodes.old.items number ≡ Some old) × (at < size (piece old)) × StandsBelow old.height entry }
     ensures shows { (old : NodeView) → slice_get nodes.old.items number ≡ Some old → IsNamed nodes.new.items old result (grafted at (At entry) (piece old)) }
+    ensures fields { (old : NodeView) → slice_get nodes.old.items number ≡ Some old →
+        slice_get nodes.new.items number ≡ Some (record old { entries = slice_set old.entries at entry }) }
     ensures others { OthersStay nodes.old.items nodes.new.items number }
     ensures heights { KeepsHeights nodes.old.items nodes.new.items }
     ensures len { vec_len nodes.new ≡ vec_len nodes.old }

@@ -3,8 +3,16 @@ use Rattle.std.proofs.Common.{◌≡◌, arith, length}
 use Rattle.std.specs.Vec.{vec_len}
 use Rattle.plain_trie.specs.Risen.{pushed_nodes}
 use Rattle.plain_trie.proofs.Heights.{heights_double}
-use Rattle.plain_trie.proofs.Storing.{double_shows, others_kept, others_pushed}
+use Rattle.plain_trie.proofs.Storing.{double_shows, double_side, single_side, others_kept, others_pushed}
 use Rattle.plain_trie.proofs.raising.split.Goals as goal
+
+pub returns-in-One-clause-side : goal.returns-in-One-clause-side
+returns-in-One-clause-side c = λ old P at s big.
+    rw c.half_kept-one.ensures.nodes (single_side old c.args.nodes.now.items c.args.number at c.args.cut.position c.in-One.zero c.args.cut.one P (rw c.in-One.is at s) big)
+
+pub returns-in-One-clause-others : goal.returns-in-One-clause-others
+returns-in-One-clause-others c = λ m v ne at.
+    rw c.half_kept-one.ensures.nodes (others_kept c.args.nodes.now.items c.args.number c.args.cut.one m v ne at)
 
 pub returns-in_default-clause-shows : goal.returns-in_default-clause-shows
 returns-in_default-clause-shows c = λ old P at high lawful s.
@@ -20,3 +28,8 @@ returns-in_default-clause-others c = λ m v ne at.
 pub returns-in_default-clause-heights : goal.returns-in_default-clause-heights
 returns-in_default-clause-heights c = λ old P at s steady.
     rw (c.half_kept-zero.ensures.nodes, c.half_pushed-one.ensures.nodes) (heights_double c.args.nodes.now.items c.args.number old P at c.args.cut s steady)
+
+pub returns-in_default-clause-side : goal.returns-in_default-clause-side
+returns-in_default-clause-side c = λ old P at s big.
+    rw (c.half_kept-zero.ensures.nodes, c.half_pushed-one.ensures.nodes)
+    (double_side old c.args.nodes.now.items c.args.number at c.args.cut.position c.args.cut.zero c.args.cut.one P c.in_default.not-One s)

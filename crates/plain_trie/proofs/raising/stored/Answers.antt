@@ -1,4 +1,8 @@
 -- A whole node takes the old one's record.
+use Rattle.std.proofs.Common.{◌≡◌, false, sym, subst}
+use Rattle.std.proofs.lemmas.Bool.{false≢true}
+use Rattle.insert_cases.specs.Grown.{is_whole}
+use Rattle.insert_cases.specs.declared.growth.Grown.{Grown}
 use Rattle.plain_trie.proofs.Heights.{heights_whole}
 use Rattle.plain_trie.proofs.Storing.{set_other}
 use Rattle.plain_trie.proofs.raising.stored.Goals as goal
@@ -9,3 +13,6 @@ returns-in-One-clause-heights c = λ old P at s steady.
 
 pub returns-in-One-clause-others : goal.returns-in-One-clause-others
 returns-in-One-clause-others c = λ m v ne at. rw c.kept.ensures.nodes (set_other c.args.nodes.now.items c.args.number m c.in-One.node v ne at)
+
+pub returns-in-One-clause-side : goal.returns-in-One-clause-side
+returns-in-One-clause-side c = λ old P at s cut big. absurd (false≢true (sym (subst (λ (g : Grown). is_whole g ≡ false) c.in-One.is cut)))

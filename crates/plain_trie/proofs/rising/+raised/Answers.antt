@@ -1,20 +1,25 @@
 -- The search goes down to the affected node, and the new leaf rises from there.
-use Rattle.std.proofs.Common.{◌≡◌, ℕ, List, refl, suc, ap, sym, ◌∙◌, subst, arith}
-use Rattle.std.proofs.lemmas.Bool.{false≢true}
+use Rattle.std.proofs.Common.{◌≡◌, inl, inr, ℕ, ◌+◌, ◌<◌, Bool, true, false, List, refl, suc, ap, sym, ◌∙◌, subst, arith}
+use Rattle.std.specs.Prelude.{slice_get}
+use Rattle.std.proofs.lemmas.Bool.{cases_lt, false≢true}
 use Rattle.pieces.specs.Growth.{grown}
-use Rattle.compound_node.specs.Nodes.{piece, height_of}
+use Rattle.compound_node.specs.Nodes.{NodeView, piece, height_of}
+use Rattle.compound_node.specs.declared.entries.Entry.{Entry}
 use Rattle.compound_node.specs.declared.entries.Entry.TheVariants.{Leaf}
 use Rattle.tries.specs.Affected.{page_forked}
 use Rattle.tries.specs.Keys.{bit}
 use Rattle.tries.specs.Search.{child}
-use Rattle.pieces.specs.Piece.{Place}
+use Rattle.pieces.specs.Piece.{Place, Fork}
 use Rattle.tries.specs.Tree.{Tree, Fixed, node}
 use Rattle.plain_trie.specs.declared.plain.LeafRecord.{LeafRecord}
 use Rattle.plain_trie.specs.Rising.{IsAddable, IsLifting, IsRaised}
 use Rattle.insert_cases.specs.Risen.{page_of}
+use Rattle.insert_cases.specs.declared.raising.Risen.{Risen}
+use Rattle.plain_trie.specs.Cases.{AddsByCase, DoesCase, IsPutBetween, TakesLeaf}
 use Rattle.plain_trie.specs.Risen.{RisenShows}
-use Rattle.plain_trie.proofs.Cases.{named_in, passed, taken_first, taken_part, taken_place}
+use Rattle.plain_trie.proofs.Cases.{above_by_case, leaf_by_case, named_in, node_by_case, passed, pushed_by_case, pushed_high, taken_by_case, taken_first, taken_part, taken_place}
 use Rattle.plain_trie.proofs.Heights.{heights_over}
+use Rattle.plain_trie.proofs.Lifting.{not_below}
 use Rattle.plain_trie.proofs.Climbing.{old_at, addable_to, node_here, here_positive, here_within, here_spot, here_from, here_upto, here_entry, here_raised, here_lifting, way_below, child_addable, child_low, beside_raised, child_held}
 use Rattle.plain_trie.proofs.rising.+raised.Goals as goal
 use Rattle.plain_trie.proofs.rising.+raised.Goals.{After-raised-risen}
@@ -169,3 +174,81 @@ returns-else-takes_leaf-clause-len t c =
     let u = node_here (addable_to c.in-Node.is c.requires.place.3) in
     let is = here_entry u c.index-node.result.now c.index-node.ensures c.search-at.result c.entry-child.result c.count.ensures.lawful c.search-at.ensures.leads c.entry-child.ensures.entry in
     omega (arith, child_low u c.entry-child.result is, ap height_of c.in-Node.is, c.raised-risen.ensures.len, c.lifted.ensures.len)
+
+-- ---- the case
+-- the fork of a leaf and the new one, on either side
+forked_between : (ms us : List NodeView) (n at : ℕ) (view : NodeView) (risen : Risen) (p l : ℕ) (e : Entry) (b : Bool) → page_of risen ≡ page_forked b p (Leaf l) (Place e) →
+    ((z o : Entry) → page_of risen ≡ Fork p (Place z) (Place o) → IsPutBetween ms us n at view (Fork p (Place z) (Place o))) → IsPutBetween ms us n at view (page_forked b p (Leaf l) (Place e))
+forked_between ms us n at view risen p l e true is put = put e (Leaf l) is
+forked_between ms us n at view risen p l e false is put = put (Leaf l) e is
+
+pub returns-in-Leaf-clause-case : goal.returns-in-Leaf-clause-case
+returns-in-Leaf-clause-case t c = λ leaves value s a.
+    leaf_by_case c.args.nodes.now.items c.args.nodes.now.items c.args.key.now c.args.position c.args.leaf c.in-Leaf.field-0 s (addable_to c.in-Leaf.is a).head
+
+pub returns-in-Leaf-clause-low : goal.returns-in-Leaf-clause-low
+returns-in-Leaf-clause-low t c = λ z. (refl, c.bit.result, c.beside.ensures)
+
+pub returns-then-takes_leaf-clause-low : goal.returns-then-takes_leaf-clause-low
+returns-then-takes_leaf-clause-low t c = λ z. absurd (let u = node_here (addable_to c.in-Node.is c.requires.place.3) in omega (arith, here_positive u, ap height_of c.in-Node.is, z))
+
+pub returns-else-takes_leaf-clause-low : goal.returns-else-takes_leaf-clause-low
+returns-else-takes_leaf-clause-low t c = λ z. absurd (let u = node_here (addable_to c.in-Node.is c.requires.place.3) in omega (arith, here_positive u, ap height_of c.in-Node.is, z))
+
+pub returns-then-takes_leaf-clause-case : goal.returns-then-takes_leaf-clause-case
+unfolding bit
+returns-then-takes_leaf-clause-case t c = λ leaves value s a.
+    let i = addable_to c.in-Node.is a in
+    let u = node_here i in
+    let v = c.index-node.result.now in
+    let first = c.affected-first.result.0 in
+    let last = c.affected-first.result.1 in
+    let view = u.shown.0.view in
+    let from = here_from u v c.index-node.ensures c.search-at.result first c.search-at.ensures.leads c.affected-first.ensures.from in
+    let upto = here_upto u v c.index-node.ensures c.search-at.result first last c.search-at.ensures.leads c.affected-first.ensures.upto in
+    let done = subst (λ o. DoesCase c.grown_at.new.nodes.items c.in-Node.number c.choice_at-choice.result.case view c.choice_at-choice.result.first
+    (grown c.args.position o (Leaf c.args.leaf) c.choice_at-choice.result.first (piece view))) c.bit-then-takes_leaf.ensures (c.grown_at.ensures.does view u.shown.0.at) in
+    subst (λ z. AddsByCase c.args.nodes.now.items c.grown_at.new.nodes.items c.args.key.now c.args.position c.args.leaf z) (sym u.is)
+    (taken_by_case i u v c.index-node.ensures first last from upto c.step_at-step.result c.step_at-step.ensures.height c.step_at-step.ensures.count c.entry-child.result c.entry-child.ensures.stands.1
+    c.choice_at-choice.result c.choice_at-choice.ensures (c.if-takes_leaf.ensures.0 refl) c.count.ensures.lawful c.grown_at.new.nodes.items done)
+
+pub returns-else-takes_leaf-clause-case : goal.returns-else-takes_leaf-clause-case
+returns-else-takes_leaf-clause-case t c = λ leaves value s a.
+    let i = addable_to c.in-Node.is a in
+    let u = node_here i in
+    let v = c.index-node.result.now in
+    let e = c.entry-child.result in
+    let at = c.search-at.result in
+    let first = c.affected-first.result.0 in
+    let last = c.affected-first.result.1 in
+    let ns = c.args.nodes.now.items in
+    let ms = c.raised-risen.new.nodes.items in
+    let us = c.lifted.new.nodes.items in
+    let n = c.in-Node.number in
+    let k = c.args.key.now in
+    let p = c.args.position in
+    let l = c.args.leaf in
+    let leads = c.search-at.ensures.leads in
+    let from = here_from u v c.index-node.ensures at first leads c.affected-first.ensures.from in
+    let upto = here_upto u v c.index-node.ensures at first last leads c.affected-first.ensures.upto in
+    let is = here_entry u v c.index-node.ensures at e c.count.ensures.lawful leads c.entry-child.ensures.entry in
+    let passes : TakesLeaf c.choice_at-choice.result → ⊥ = λ z. false≢true (c.if-takes_leaf.ensures.1 z) in
+    let few = passed c.step_at-step.result.height c.step_at-step.result.count first last e c.choice_at-choice.result c.choice_at-choice.ensures passes in
+    subst (λ z. AddsByCase ns us k p l z) (sym u.is) (elim (cases_lt 0 (height_of e)) [
+      | inl up ↦
+          let b = child_addable i u e is in
+          above_by_case ns ms us k p l n u.fixed u.body (not_below ns leaves n u.fixed u.body u.trie u.built u.shown) (way_below i u first last from upto few) c.lifted.ensures.others
+          (node_by_case ns ms k p l e (child k u.body) b.head up (c.raised-risen.ensures.case leaves value (child k u.body) b))
+      | inr z ↦
+          let zero_high : height_of e ≡ 0 = omega arith in
+          let r = c.raised-risen.ensures.low zero_high in
+          let still = ap (λ (xs : List NodeView). slice_get xs n) r.0 ∙ u.shown.0.at in
+          let high = pushed_high i u v c.index-node.ensures first last from upto c.step_at-step.result c.step_at-step.ensures.height c.step_at-step.ensures.count e c.entry-child.ensures.stands.1
+          c.choice_at-choice.result c.choice_at-choice.ensures passes zero_high is c.entry-child.ensures.stands.0 in
+          let far : height_of e + 1 < c.in-Node.height = omega arith in
+          let within = (c.affected-first.ensures.range at (omega (arith, c.search-at.ensures.in_range))).0 (λ j g h. refl) in
+          let put : IsPutBetween ms us n at u.shown.0.view (page_forked r.1 p (Leaf l) (Place e)) =
+          forked_between ms us n at u.shown.0.view c.raised-risen.result p l e r.1 r.2 (λ z o f. c.lifted.ensures.between u.shown.0.view p z o still f far) in
+          pushed_by_case i u v c.index-node.ensures first last from upto c.step_at-step.result c.step_at-step.ensures.height c.step_at-step.ensures.count e c.entry-child.ensures.stands.1
+          c.choice_at-choice.result c.choice_at-choice.ensures passes zero_high is c.entry-child.ensures.stands.0 ms us at r.1 (omega (arith, within.0, within.1, few)) put
+    ])

@@ -1,13 +1,20 @@
 -- The node that is named gets the leaf.
-use Rattle.std.proofs.Common.{◌≡◌, ap, subst, sym, ◌∙◌}
+use Rattle.std.proofs.Common.{◌≡◌, ◌<◌, ap, subst, sym, ◌∙◌, arith}
+use Rattle.std.proofs.lemmas.Option.{slice_get_within}
+use Rattle.pieces.proofs.Grafting.{size-grown}
 use Rattle.pieces.specs.Growth.{grown}
+use Rattle.pieces.specs.Piece.{size}
 use Rattle.compound_node.specs.Nodes.{IsBuiltFrom, IsLawfulNode, NodeView, piece}
 use Rattle.compound_node.specs.declared.entries.Entry.TheVariants.{Leaf}
 use Rattle.insert_cases.specs.Grown.{GrownShows}
+use Rattle.insert_cases.specs.declared.choice.Case.{Case}
 use Rattle.insert_cases.proofs.Choosing.{same_some}
 use Rattle.plain_trie.proofs.Heights.{heights_whole}
 use Rattle.plain_trie.proofs.Searching.{read_at}
 use Rattle.plain_trie.proofs.Steady.{add_steady, full_steady}
+use Rattle.plain_trie.proofs.Storing.{set_same}
+use Rattle.plain_trie.specs.Cases.{IsCaseDone}
+use Rattle.tries.proofs.Building.{size-piece}
 use Rattle.plain_trie.proofs.rising.grown_at.Goals as goal
 
 pub returns-in-NormalInsert-clause-heights : goal.returns-in-NormalInsert-clause-heights
@@ -37,3 +44,26 @@ returns-in-Overflow-clause-heights c =
     let shows : GrownShows o.0 g (grown c.args.position c.args.bit (Leaf c.args.leaf) first (piece o.0)) = rw same at c.grow_full-grown.ensures.shows in
     c.stored.ensures.heights o.0 _ o.1 shows
     (full_steady o.0 lawful c.args.position c.args.bit (Leaf c.args.leaf) first c.args.choice.last o.3 g shows c.grow_full-grown.ensures.whole (rw same at c.grow_full-grown.ensures.same))
+
+-- ---- what was done
+pub returns-in-NormalInsert-clause-does : goal.returns-in-NormalInsert-clause-does
+returns-in-NormalInsert-clause-does c = λ old at.
+    let w = c.add.new.self in
+    let first = c.args.choice.first in
+    let same : c.index_mut-node.result.now ≡ old = read_at c.args.nodes.now.items c.args.number old c.index_mut-node.result.now at c.index_mut-node.ensures.value in
+    let built : IsBuiltFrom w (grown c.args.position c.args.bit (Leaf c.args.leaf) first (piece old)) = rw same at c.add.ensures in (
+      w,
+      set_same c.args.nodes.now.items c.args.number w (slice_get_within c.args.nodes.now.items c.args.number old at),
+      subst (λ (d : Case). IsCaseDone d old w first (grown c.args.position c.args.bit (Leaf c.args.leaf) first (piece old))) (sym c.in-NormalInsert.is) built,
+    )
+
+pub returns-in-Overflow-clause-does : goal.returns-in-Overflow-clause-does
+returns-in-Overflow-clause-does c = λ old at.
+    let v = c.index-node.result.now in
+    let first = c.args.choice.first in
+    let P = grown c.args.position c.args.bit (Leaf c.args.leaf) first (piece old) in
+    let same : v ≡ old = read_at c.args.nodes.now.items c.args.number old v at c.index-node.ensures in
+    let lawful = subst IsLawfulNode same c.count-in-Overflow.ensures.lawful in
+    let big : 2 < size P = omega (arith, size-grown c.args.position c.args.bit (Leaf c.args.leaf) first (piece old), size-piece old lawful, lawful.several) in
+    let s = c.stored.ensures.side old P at (rw same at c.grow_full-grown.ensures.shows) c.grow_full-grown.ensures.whole big in
+    (s.0, s.1, subst (λ (d : Case). IsCaseDone d old s.0 first P) (sym c.in-Overflow.is) s.2)

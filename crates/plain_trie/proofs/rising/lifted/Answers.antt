@@ -1,9 +1,10 @@
 -- What gave way in the child's place is put there.
-use Rattle.std.proofs.Common.{rules, sym, ◌≡◌, ◌≢◌, suc, ◌+◌, ◌<◌, List, refl, ap, ◌∙◌, arith, Some}
-use Rattle.std.specs.Prelude.{slice_get}
-use Rattle.compound_node.specs.Nodes.{NodeView, height_of, piece}
+use Rattle.std.proofs.Common.{rules, sym, ◌≡◌, ◌≢◌, suc, ◌+◌, ◌<◌, List, refl, ap, ◌∙◌, subst, arith, Some}
+use Rattle.std.specs.Prelude.{slice_get, slice_set}
+use Rattle.compound_node.specs.Nodes.{NodeView, height_of, piece, IsBuiltFrom}
 use Rattle.compound_node.specs.declared.entries.Entry.TheVariants.{Node}
 use Rattle.pieces.specs.Changes.{replaced}
+use Rattle.pieces.specs.Piece.{Place, Fork}
 use Rattle.insert_cases.specs.Risen.{page_of}
 use Rattle.insert_cases.specs.declared.raising.Risen.TheVariants.{Whole}
 use Rattle.plain_trie.proofs.Climbing.{old_at, old_high, at_within, above_path, pair_here, stands_here, lift, between, piece-same, replaced_named}
@@ -87,3 +88,27 @@ returns-in_default-clause-heights c =
 pub returns-in_default-clause-others : goal.returns-in_default-clause-others
 returns-in_default-clause-others c = λ m v ne at.
     c.replaced-in_default.ensures.others m v ne (ap (λ (vs : List NodeView). slice_get vs m) c.settled-entry.ensures.new.added ∙ push_old c.args.nodes.now.items _ m v at)
+
+-- where a new node was put between
+pub returns-then-eq-clause-between : goal.returns-then-eq-clause-between
+returns-then-eq-clause-between c = λ old p zero one at is far. absurd (let e : page_of (Whole c.in-Whole.entry) ≡ page_of c.args.risen = ap page_of (sym c.in-Whole.is) in cc)
+
+pub returns-else-eq-clause-between : goal.returns-else-eq-clause-between
+returns-else-eq-clause-between c = λ old p zero one at is far. absurd (let e : page_of (Whole c.in-Whole.entry) ≡ page_of c.args.risen = ap page_of (sym c.in-Whole.is) in cc)
+
+pub returns-in-PullUp-clause-between : goal.returns-in-PullUp-clause-between
+returns-in-PullUp-clause-between c = λ old p zero one at is far. absurd (let e = same_some (c.place.ensures.pull_up.0 c.in-PullUp.is) in omega (arith, e, c.height.ensures, far))
+
+pub returns-in_default-clause-between : goal.returns-in_default-clause-between
+returns-in_default-clause-between c = λ old p zero one at is far.
+    let ms = c.args.nodes.now.items in
+    let us = c.settled-entry.new.nodes.items in
+    let new = c.settled-entry.ensures.new in
+    let still : slice_get us c.args.number ≡ Some old = ap (λ (vs : List NodeView). slice_get vs c.args.number) new.added ∙ push_old ms _ c.args.number old at in
+    let shown : Fork c.in-Split.position (Place c.in-Split.zero) (Place c.in-Split.one) ≡ Fork p (Place zero) (Place one) = sym (ap page_of c.in-Split.is) ∙ is in
+    record {
+      view = new.view;
+      built = subst (IsBuiltFrom new.view) shown new.built;
+      after = c.replaced-in_default.ensures.fields old still ∙
+          ap (λ e. Some (let w : NodeView = record old { entries = slice_set old.entries c.args.at e } in w)) new.is;
+    }

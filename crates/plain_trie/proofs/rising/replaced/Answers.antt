@@ -1,6 +1,6 @@
 -- The node that is named gets the entry.
 use Rattle.std.proofs.Common.{◌≡◌, inl, inr, ap, sym, ◌∙◌, arith}
-use Rattle.std.specs.Prelude.{slice_get, Some}
+use Rattle.std.specs.Prelude.{slice_get, slice_set, Some}
 use Rattle.std.proofs.lemmas.Option.{slice_get_within}
 use Rattle.pieces.specs.Changes.{replaced}
 use Rattle.pieces.specs.Piece.{size}
@@ -52,3 +52,11 @@ returns-clause-heights c =
     let v = c.index-node.result.now in
     let same : v ≡ o.0 = read_at c.args.nodes.now.items c.args.number o.0 v o.1 c.index-node.ensures in
     rw c.kept.ensures.nodes (heights_set c.args.nodes.now.items c.args.number v c.replace-node.result (o.1 ∙ ap Some (sym same)) (inl (inr (c.args.at, c.args.entry, c.replace-node.ensures.fields))))
+
+pub returns-clause-fields : goal.returns-clause-fields
+returns-clause-fields c = λ old at.
+    let v = c.index-node.result.now in
+    let same : v ≡ old = read_at c.args.nodes.now.items c.args.number old v at c.index-node.ensures in
+    let is : c.replace-node.result ≡ record old { entries = slice_set old.entries c.args.at c.args.entry } =
+    c.replace-node.ensures.fields ∙ ap (λ (u : NodeView). let w : NodeView = record u { entries = slice_set u.entries c.args.at c.args.entry } in w) same in
+    rw c.kept.ensures.nodes (set_same c.args.nodes.now.items c.args.number c.replace-node.result (slice_get_within c.args.nodes.now.items c.args.number old at) ∙ ap Some is)

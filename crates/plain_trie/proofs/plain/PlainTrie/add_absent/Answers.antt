@@ -1,21 +1,26 @@
 -- The search ends at the key's own leaf, or the key is absent and gets one, which rises to the root.
 use Rattle.std.proofs.Common.{◌≡◌, ℕ, List, suc, length, refl, ap, sym, ◌∙◌, subst, Some, None, rules}
 use Rattle.std.specs.Vec.{vec_capacity}
+use Rattle.key_bits.specs.Bits.{IsFirstDifference}
 use Rattle.compound_node.specs.Nodes.{NodeView, height_of}
 use Rattle.compound_node.specs.declared.entries.Entry.{Entry}
 use Rattle.finite_map.specs.Maps.{with_value, value_at}
 use Rattle.plain_trie.specs.Adding.{IsStanding}
+use Rattle.plain_trie.specs.Cases.{AddsByCase, TakesCase}
 use Rattle.plain_trie.specs.Heights.{KeepsHeights}
 use Rattle.plain_trie.specs.Rising.{IsAddable}
 use Rattle.plain_trie.specs.Store.{PlainView, ShowsSoundTree, IsHeldInLeaf, trie_map}
 use Rattle.plain_trie.specs.declared.plain.LeafRecord.{LeafRecord}
 use Rattle.plain_trie.specs.declared.plain.PlainTrie.TheInside.{Inside}
+use Rattle.insert_cases.proofs.Choosing.{same_some}
+use Rattle.plain_trie.proofs.Cases.{adds_by_case, later_by_case}
 use Rattle.plain_trie.proofs.Heights.{heights_then}
 use Rattle.plain_trie.proofs.Inserting.{Becomes, tree_standing, kept_plain, same_view, absent_value, raised_becomes}
 use Rattle.plain_trie.proofs.Reading.{IsTree, plain_tree}
 use Rattle.plain_trie.proofs.plain.PlainTrie.add_absent.Goals as goal
 use Rattle.plain_trie.proofs.plain.PlainTrie.add_absent.Goals.{After-rooted, After-rooted-in-Below}
 use Rattle.tries.specs.Content.{item}
+use Rattle.tries.specs.Search.{found}
 use Rattle.tries.specs.Tree.{Tree}
 
 -- what the contract sees of a trie
@@ -154,3 +159,38 @@ returns-in-Below-clause-heights c =
     let us = c.rooted-in-Below.new.nodes.items in
     subst (λ vs. KeepsHeights vs us) (ap (λ (u : PlainView). u.nodes) c.self.view_is)
     (heights_then c.self.inside.nodes.items c.added.new.nodes.items us c.added.ensures.heights c.rooted-in-Below.ensures.heights c.rooted-in-Below.ensures.all)
+
+-- ---- which case it was
+pub returns-in-Above-clause-case : goal.returns-in-Above-clause-case
+returns-in-Above-clause-case c =
+    let (t, i, left) = tree_with c.self.inside c.in-Some.top c.in-Some.is c.self.invariant c.in-Above.ensures.adds in
+    let v = view c.self.inside in
+    let k = c.args.key.now in
+    let p = c.in-Above.position in
+    let n = length v.leaves in
+    let us = c.added.new.leaves.items in
+    let last = c.rooted.new.nodes.items in
+    let w : PlainView = record { nodes = last; leaves = us; top = Some c.rooted.result; node_capacity = vec_capacity c.rooted.new.nodes; leaf_capacity = vec_capacity c.added.new.leaves } in
+    let mid = c.raised-risen.new.nodes.items in
+    let d = c.raised-risen.ensures.case us c.args.value t (subst (λ xs. IsAddable xs us (item c.in-Above.leaf k c.args.value) p c.in-Some.top t) (sym left.nodes) left.addable) in
+    let e = subst (λ m. AddsByCase v.nodes mid k p m t) left.number (subst (λ xs. AddsByCase xs mid k p c.in-Above.leaf t) left.nodes d) in
+    let f : TakesCase v w k = λ s is.
+    subst (λ z. (q : ℕ) × IsFirstDifference k (found k z).key q × AddsByCase v.nodes last k q n z) (same_some (sym i.is ∙ is))
+    (p, left.addable.differ, later_by_case v.nodes mid last k p n t c.rooted.ensures.all e) in
+    λ none. subst (λ u. TakesCase u w k) c.self.view_is f
+
+pub returns-in-Below-clause-case : goal.returns-in-Below-clause-case
+returns-in-Below-clause-case c =
+    let (t, i, r) = tree_with c.self.inside c.in-Some.top c.in-Some.is c.self.invariant c.in-Below.ensures.adds in
+    let v = view c.self.inside in
+    let k = c.args.key.now in
+    let n = length v.leaves in
+    let us = c.added.new.leaves.items in
+    let last = c.rooted-in-Below.new.nodes.items in
+    let w : PlainView = record { nodes = last; leaves = us; top = Some c.rooted-in-Below.result; node_capacity = vec_capacity c.rooted-in-Below.new.nodes; leaf_capacity = vec_capacity c.added.new.leaves } in
+    let mid = c.added.new.nodes.items in
+    let e = adds_by_case v.nodes mid k r.position n t r.by_case in
+    let f : TakesCase v w k = λ s is.
+    subst (λ z. (q : ℕ) × IsFirstDifference k (found k z).key q × AddsByCase v.nodes last k q n z) (same_some (sym i.is ∙ is))
+    (r.position, r.addable.differ, later_by_case v.nodes mid last k r.position n t c.rooted-in-Below.ensures.all e) in
+    λ none. subst (λ u. TakesCase u w k) c.self.view_is f

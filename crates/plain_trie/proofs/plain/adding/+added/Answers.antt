@@ -8,13 +8,17 @@ use Rattle.compound_node.specs.declared.entries.Entry.TheVariants.{Node}
 use Rattle.tries.specs.Search.{child}
 use Rattle.tries.specs.Tree.{Tree}
 use Rattle.plain_trie.specs.Adding.{IsStanding, IsBehind}
+use Rattle.plain_trie.specs.Cases.{IsByCase}
 use Rattle.plain_trie.specs.Heights.{KeepsHeights}
 use Rattle.plain_trie.specs.Rising.{IsRaised, IsAddable}
 use Rattle.insert_cases.specs.Risen.{page_of}
 use Rattle.plain_trie.proofs.Adding.{IsAt, search_at, standing_to, standing_node, child_lower, within_standing, ends_above, absent_above, addable_above, here_above, way_above, behind_within, behind_first, risen_here}
+use Rattle.plain_trie.proofs.Cases.{above_by_case, node_by_case}
 use Rattle.plain_trie.proofs.Climbing.{addable_to, here_lifting, child_held, here_spot, old_at}
 use Rattle.plain_trie.proofs.Heights.{heights_same, heights_over}
+use Rattle.plain_trie.proofs.Lifting.{not_below}
 use Rattle.plain_trie.proofs.Searching.{read_at}
+use Rattle.tries.proofs.Fitting.{lower_positive}
 use Rattle.plain_trie.proofs.plain.adding.+added.Goals as goal
 use Rattle.plain_trie.proofs.plain.adding.+added.Goals.{After-entry-child}
 use Rattle.tries.specs.Content.{item}
@@ -117,9 +121,12 @@ returns-then-first_position-position-clause-adds t c = λ tree stands.
     let new = read_at c.added.new.nodes.items c.in-Node.number a.node.stored.view c.index.result.now (ap (λ xs. slice_get xs c.in-Node.number) left.nodes ∙ a.node.stored.at) c.index.ensures in
     let root = subst (AtRootFork (λ r zero one. c.first_position.result ≡ r)) (ap piece new ∙ a.node.stored.shows) c.first_position.ensures.root in
     let behind : IsBehind p tree = subst (IsBehind p) (sym a.node.is) (behind_first p c.in-Node.number c.first_position.result a.node.fixed a.node.body a.node.built.0 root c.if-first_position-position.true) in
-    let up = c.raised.ensures.raised us c.args.value tree (subst (λ xs. IsAddable xs us (item n k c.args.value) p (Node c.in-Node.number c.in-Node.height) tree) (sym left.nodes) i) in
+    let there = subst (λ xs. IsAddable xs us (item n k c.args.value) p (Node c.in-Node.number c.in-Node.height) tree) (sym left.nodes) i in
+    let up = c.raised.ensures.raised us c.args.value tree there in
+    let high = let w = a.node.built.1 in lower_positive a.node.fixed.height a.node.body w in
+    let by_case = node_by_case c.added.new.nodes.items c.raised.new.nodes.items k p n (Node c.in-Node.number c.in-Node.height) tree there.head (omega (arith, high, a.node.high)) (c.raised.ensures.case us c.args.value tree there) in
     risen_here ns c.added.new.nodes.items c.raised.new.nodes.items c.args.leaves.now.items us k c.args.value n p c.args.entry tree c.raised.result left.nodes left.leaves left.number (addable_to (sym c.in-Node.is) i) behind
-    (subst (λ e. IsRaised c.added.new.nodes.items c.raised.new.nodes.items us (item n k c.args.value) p tree (suc (height_of e)) (page_of c.raised.result)) (sym c.in-Node.is) up)
+    (subst (λ e. IsRaised c.added.new.nodes.items c.raised.new.nodes.items us (item n k c.args.value) p tree (suc (height_of e)) (page_of c.raised.result)) (sym c.in-Node.is) up) by_case
 
 pub returns-then-first_position-position-clause-heights : goal.returns-then-first_position-position-clause-heights
 returns-then-first_position-position-clause-heights t c =
@@ -161,6 +168,9 @@ returns-in-Below-clause-adds t c = λ tree stands.
       behind = behind_within r.position (within_standing a.whole a.node k) r.behind;
       raised = subst (λ h. IsRaised ns ms us x r.position tree (suc h) (page_of c.lifted.result)) (sym (ap height_of c.in-Node.is))
           (subst (λ y. IsRaised ns ms us x r.position y (suc c.in-Node.height) (page_of c.lifted.result)) (sym a.node.is) up);
+      by_case = subst (IsByCase ns ms k r.position n) (sym a.node.is)
+          (above_by_case ns c.added.new.nodes.items ms k r.position n c.in-Node.number a.node.fixed a.node.body (not_below ns us c.in-Node.number u.fixed u.body u.trie u.built u.shown)
+          (way_above a.whole a.node us k c.args.value n r.position r.leaves c.entry-child.result r.addable r.behind) c.lifted.ensures.others r.by_case);
     }
 
 pub returns-in-Below-clause-heights : goal.returns-in-Below-clause-heights
