@@ -14,7 +14,7 @@ use Rattle.insert_cases.specs.declared.choice.Step.{Step}
 use Rattle.tries.specs.Keys.{Key}
 use Rattle.moments.specs.State.{IsHeldSince, IsMissed}
 use Rattle.record_words.specs.declared.layout.Layout.{Layout}
-use Rattle.moments.specs.declared.Rec.TheVariants.{Node as a_node, Leaf as a_leaf}
+use Rattle.moments.specs.declared.Rec.TheVariants.{Node as a_node}
 use Rattle.rowex_core.specs.declared.event.Event.{Event}
 use Rattle.rowex_core.specs.declared.known.Known.{Known}
 use Rattle.rowex_table.specs.Seats.{TableView, SeatView, IsSeatOf}
@@ -31,7 +31,7 @@ use Rattle.rowex_reading.specs.Seen.{Sure, since}
 use Rattle.rowex_reading.proofs.Seeing.{later_trans, held_stable, missed_stable, shaped_stable, sure_later}
 use Rattle.rowex_writing.specs.Asking.{aim_of, answer_unless, declined}
 use Rattle.rowex_writing.specs.Attempts.{HasAnswered, HasDone, HasLoadedRoot, HasLooked, HasRefused, IsAttemptCause, IsChangeOf, refusal_of, reply_to}
-use Rattle.rowex_writing.specs.Changes.{AreAffected, HasChanged, HasNoRoom, HasRun, HasStored, IsFull, IsPlanned}
+use Rattle.rowex_writing.specs.Changes.{AreAffected, HasChanged, HasNoRoom, HasRun, IsFull, IsPlanned}
 use Rattle.rowex_writing.specs.Locks.{HasMetLock}
 use Rattle.rowex_writing.specs.Plans.{change, IsCase, IsNewLeafPlan}
 use Rattle.rowex_reading.specs.Ways.{value_of}
@@ -164,11 +164,11 @@ module _ (i j : Known) (key : Key) (value : ℕ) (found : Found) where
   done_by span deed other len end e done = subst (λ d. HasDone i j d key value found) (ap deed_in e) done
 
   new_done : (way : List Step) (p first last : ℕ) (span : Span) (deed : Deed) → IsNewLeafPlan way p first last (a_change span deed) → HasDone i j deed key value found →
-      HasStored i j key value found
+      HasDone i j Put key value found
   new_done [] p first last span deed e done = done_by span deed (Pair p) 0 0 e done
   new_done (s ∷ way) p first last span deed (level, at, (chosen, choice, case)) done = go chosen.case case
     where
-      go : (case : Case) → IsCase (s ∷ way) p chosen case (a_change span deed) → HasStored i j key value found
+      go : (case : Case) → IsCase (s ∷ way) p chosen case (a_change span deed) → HasDone i j Put key value found
       go LeafPushdown e = done_by span deed (Pair p) _ _ e done
       go NormalInsert e = done_by span deed (Grow p chosen.first chosen.last) _ _ e done
       go Overflow (end, upto, e) = done_by span deed (Grow p chosen.first chosen.last) _ _ e done

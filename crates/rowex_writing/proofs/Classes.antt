@@ -1,10 +1,9 @@
 -- Claims of leaf records of one class after the other.
-use Rattle.std.proofs.Common.{◌≡◌, ℕ, ◌+◌, ◌-◌, ◌<◌, ◌≤◌, List, ⊎_elim, subst, arith, le_trans}
+use Rattle.std.proofs.Common.{◌≡◌, ℕ, ◌+◌, ◌-◌, ◌<◌, ◌≤◌, ⊎_elim, subst, arith, le_trans}
 use Rattle.std.proofs.lemmas.Bool.{cases_lt}
 use Rattle.record_words.specs.Layout.{leaf_size}
 use Rattle.moments.specs.declared.Rec.TheVariants.{Leaf as a_leaf}
 use Rattle.rowex_core.specs.declared.event.Event.{Event}
-use Rattle.rowex_core.specs.declared.known.Failed.{Failed}
 use Rattle.rowex_table.specs.Seats.{TableView, SeatView}
 use Rattle.rowex_records.specs.declared.claiming.RecordKind.TheVariants.{Leaf}
 use Rattle.rowex_records.specs.Claims.{AllMissed, AllMissedFrom, HasMissedSince, record_of}

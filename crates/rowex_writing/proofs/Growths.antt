@@ -1,8 +1,8 @@
 -- What rises is put at its spot; what goes for it, and what is kept of the locked nodes.
-use Rattle.std.proofs.Common.{◌≡◌, inl, inr, ◌⊎◌, ℕ, ◌+◌, ◌-◌, ◌<◌, ◌≤◌, Bool, true, false, List, [], ◌∷◌, ◌++◌, length, map, take, drop, refl, sym, ap, ap₂, subst, ◌∙◌, arith, if◌then◌else◌, Some, None, IsSome, get_or, le_trans, Result, Ok, Err, IfErr}
+use Rattle.rowex_writing.proofs.Spared.{range_split}
+use Rattle.std.proofs.Common.{◌≡◌, inl, inr, ◌⊎◌, ℕ, ◌+◌, ◌-◌, ◌<◌, ◌≤◌, Bool, true, false, List, [], ◌∷◌, ◌++◌, length, map, take, drop, refl, sym, ap, ap₂, subst, ◌∙◌, arith, if◌then◌else◌, Some, None, IsSome, get_or, le_trans}
 use Rattle.std.specs.Prelude.{All, slice_get, slice_range}
-use Rattle.std.proofs.Math.Seq.{take-add}
-use Rattle.std.proofs.lemmas.List.{append-nil, drop-drop, drop-take, map-append}
+use Rattle.std.proofs.lemmas.List.{append-nil, drop-take, map-append}
 use Rattle.std.proofs.lemmas.List.Elements.{All-append, All-cons, All-drop, All-head, All-tail, All-take}
 use Rattle.std.proofs.lemmas.Option.{slice_get-get_or}
 use Rattle.compound_node.specs.Nodes.{IsEntry}
@@ -35,8 +35,6 @@ use Rattle.rowex_table.specs.Made.{IsLater, nodes_of}
 use Rattle.rowex_table.specs.Publishes.{Publishes}
 use Rattle.rowex_table.specs.Rule.{HasSpot}
 use Rattle.record_words.specs.Leaf.{HasLeafWords, words_for}
-use Rattle.finite_map.specs.Fronts.{OthersGoOn}
-use Rattle.finite_map.proofs.Growth.{others_on}
 use Rattle.insert_cases.proofs.Choosing.{some_at}
 use Rattle.rowex_core.specs.Reading.{node_words_of}
 use Rattle.rowex_rights.specs.Loops.{StaysLocked}
@@ -54,32 +52,24 @@ use Rattle.rowex_table.specs.Seats.{TableView, SeatView}
 use Rattle.rowex_walks.specs.Rise.{entry}
 use Rattle.rowex_walks.specs.Writer.{added_change}
 use Rattle.rowex_core.specs.declared.event.Event.{Event}
-use Rattle.rowex_records.specs.Claims.{AllMissed, AllMissedFrom}
 use Rattle.rowex_rights.specs.Ending.{IsAtRest}
 use Rattle.rowex_rights.proofs.Loops.{later_on}
 use Rattle.rowex_writing.specs.declared.plan.Full.TheVariants.{Nodes, Leaves}
 use Rattle.rowex_writing.specs.Building.{FitsAbove, IsBuilding, IsChain, HasRisenTo, gone_unless, gone_with}
-use Rattle.rowex_writing.specs.Changes.{HasChanged, HasNoRoom, HasStored, HasTakenSpan, IsChecked, IsFull, IsPlanned, IsStored, MayEnd}
+use Rattle.rowex_writing.specs.Changes.{HasNoRoom, HasRun, HasTakenSpan, IsChecked, IsFull, IsPlanned, IsStored, MayEnd}
 use Rattle.rowex_writing.specs.Going.{HasLocked, WorksOn}
 use Rattle.rowex_writing.specs.Growths.{HasNumber, MayGrow}
-use Rattle.rowex_writing.specs.Locks.{AreNodes, HasLockedSpan, Works, numbers_of, span_numbers}
+use Rattle.rowex_writing.specs.Locks.{AreNodes, Works, numbers_of, span_numbers}
 use Rattle.rowex_writing.specs.Putting.{IsSpotAbove}
 use Rattle.rowex_writing.specs.Retiring.{AreInTable}
 use Rattle.rowex_writing.specs.declared.plan.Span.{Span}
 use Rattle.rowex_writing.proofs.Bridging.{IsGrowPlan, chain_at, found_below, grow_plan, locked_at, part_at, pulled_full, spot_at_root, spot_in_node, top_within}
 use Rattle.rowex_writing.proofs.Lifting.{gone_more}
 use Rattle.rowex_writing.proofs.Runs.{works_run}
-use Rattle.rowex_writing.proofs.Keeping.{changed_since, missed_from_on, missed_on}
+use Rattle.rowex_writing.proofs.Keeping.{missed_from_on, missed_on}
 use Rattle.rowex_writing.proofs.Spans.{locked_same}
 use Rattle.rowex_writing.proofs.Works.{works_later}
 use Rattle.rowex_writing.proofs.Staging.{risen_page}
-
--- ---- parts of a way
-range_two : {X : Type 0} (xs : List X) (b e d : ℕ) → b ≤ e → e ≤ d → slice_range xs b d ≡ slice_range xs b e ++ slice_range xs e d
-range_two xs b e d low high =
-    let all : d - b ≡ (e - b) + (d - e) = omega arith in
-    let back : b + (e - b) ≡ e = omega arith in
-    ap (λ n. take n (drop b xs)) all ∙ (take-add (e - b) (d - e) (drop b xs) ∙ ap (λ ys. take (e - b) (drop b xs) ++ take (d - e) ys) (drop-drop (e - b) b xs ∙ ap (λ n. drop n xs) back))
 
 -- ---- what goes
 gone_list : (way : List Step) (end low : ℕ) → end ≤ low → gone_with way end low [] ≡ map (λ (s : Step). a_node s.number) (slice_range way end low)
@@ -164,25 +154,9 @@ kept_span locks way end low len h l just apart =
     let cs = slice_range way low len in
     let f : Step → ℕ = λ (s : Step). s.number in
     let parts : numbers_of (slice_range way (end - 1) len) ≡ numbers_of us ++ (numbers_of gs ++ numbers_of cs) =
-    ap numbers_of (range_two way (end - 1) end len (omega arith) (omega arith) ∙ ap (λ ys. us ++ ys) (range_two way end low len h l)) ∙ (map-append f us (gs ++ cs) ∙ ap (λ ys. numbers_of us ++ ys) (map-append f gs cs)) in
+    ap numbers_of (range_split way (end - 1) end len (omega arith) (omega arith) ∙ ap (λ ys. us ++ ys) (range_split way end low len h l)) ∙ (map-append f us (gs ++ cs) ∙ ap (λ ys. numbers_of us ++ ys) (map-append f gs cs)) in
     subst (λ ys. AreKept (nodes_of locks) (map (λ (s : Step). a_node s.number) gs) ys × AreApart ys) (sym (map-append f us cs))
     (kept_parts locks us gs cs (subst (LocksJust locks) parts just) (subst AreApart parts apart))
-
--- where the lowest node stays, it is the first below those that go
-pub low_within : (stays : Bool) (end len low : ℕ) → end < len → low ≡ (if stays then len - 1 else len) → (end ≤ low) × (low ≤ len)
-low_within true end len low h e = (omega (arith, e), omega (arith, e))
-low_within false end len low h e = (omega (arith, e), omega (arith, e))
-
-pub kept_of_span : (k j : Known) (way : List Step) (span : Span) (stays : Bool) (low : ℕ) (gone : List Rec) (kept : List Step) → HasLockedSpan k way span → j.locks ≡ k.locks → span.end < span.len →
-    low ≡ (if stays then span.len - 1 else span.len) → gone ≡ map (λ (s : Step). a_node s.number) (slice_range way span.end low) → kept ≡ slice_range way (span.end - 1) span.end ++ slice_range way low span.len →
-    AreKept (nodes_of j.locks) gone (numbers_of kept) × AreApart (numbers_of kept)
-kept_of_span k j way span stays low gone kept locked same within low_is gone_is kept_is =
-    let (above, below) = low_within stays span.end span.len low within low_is in
-    subst (λ ks. AreKept (nodes_of j.locks) gone (numbers_of ks) × AreApart (numbers_of ks)) (sym kept_is)
-    (subst (λ gs. AreKept (nodes_of j.locks) gs (numbers_of (slice_range way (span.end - 1) span.end ++ slice_range way low span.len)) × AreApart (numbers_of (slice_range way (span.end - 1) span.end ++ slice_range way low span.len))) (sym gone_is)
-    (subst (λ ls. AreKept (nodes_of ls) (map (λ (s : Step). a_node s.number) (slice_range way span.end low)) (numbers_of (slice_range way (span.end - 1) span.end ++ slice_range way low span.len)) ×
-    AreApart (numbers_of (slice_range way (span.end - 1) span.end ++ slice_range way low span.len))) (sym same)
-    (kept_span k.locks way span.end low span.len above below locked.nodes.0 locked.nodes.1)))
 
 -- ---- nodes of the table
 pub range_nodes : (layout : Layout) (way : List Step) (b d : ℕ) → AreNodes layout way → AreNodes layout (slice_range way b d)
@@ -201,37 +175,22 @@ pub range_records : (layout : Layout) (way : List Step) (b d : ℕ) → AreNodes
 range_records layout way b d nodes = node_records layout (slice_range way b d) (range_nodes layout way b d nodes)
 
 -- ---- none was free
-pub no_room : {G : Type 0} (table : TableView) (becomes : G → Event → G → Type 0) (key : Key) (a b c : SeatView × G) → WorksOn table becomes a b → Works table becomes b c → IsAtRest c.0.known →
-    AllMissed a_node table.layout.nodes b.0.known.failed a.0.known.steps → HasNoRoom table.layout key a.0.known c.0.known Nodes
-no_room table becomes key a b c goes works rest missed = record {
-  rest = rest;
-  others = (later_on a.0.known b.0.known c.0.known goes.stays.0 (works_later table becomes b c works)).front;
-  full_of = missed_on table becomes a_node table.layout.nodes a.0.known.steps b c (works_run table becomes b c works) missed;
-}
+full_on : {G : Type 0} (table : TableView) (becomes : G → Event → G → Type 0) (key : Key) (k : Known) (b c : SeatView × G) (full : Full) → HasRun table becomes b c → IsFull table.layout key k b.0.known full → IsFull table.layout key k c.0.known full
+full_on table becomes key k b c Nodes run missed = missed_on table becomes a_node table.layout.nodes k.steps b c run missed
+full_on table becomes key k b c Leaves run missed = missed_from_on table becomes (words_for (length key)) k.steps b c run missed
 
-pub no_leaf : {G : Type 0} (table : TableView) (becomes : G → Event → G → Type 0) (key : Key) (a b c : SeatView × G) → WorksOn table becomes a b → Works table becomes b c → IsAtRest c.0.known →
-    AllMissedFrom table.layout (words_for (length key)) b.0.known.failed a.0.known.steps → HasNoRoom table.layout key a.0.known c.0.known Leaves
-no_leaf table becomes key a b c goes works rest missed = record {
+pub no_room : {G : Type 0} (table : TableView) (becomes : G → Event → G → Type 0) (key : Key) (a b c : SeatView × G) (full : Full) → WorksOn table becomes a b → Works table becomes b c → IsAtRest c.0.known →
+    IsFull table.layout key a.0.known b.0.known full → HasNoRoom table.layout key a.0.known c.0.known full
+no_room table becomes key a b c full goes works rest missed = record {
   rest = rest;
   others = (later_on a.0.known b.0.known c.0.known goes.stays.0 (works_later table becomes b c works)).front;
-  full_of = missed_from_on table becomes (words_for (length key)) a.0.known.steps b c (works_run table becomes b c works) missed;
+  full_of = full_on table becomes key a.0.known b c full (works_run table becomes b c works) missed;
 }
 
 -- nor since an earlier moment
-pub no_room_since : (layout : Layout) (key : Key) (a b c : Known) (full : Full) → IsLater a b → a.steps ≤ b.steps → HasNoRoom layout key b c full → HasNoRoom layout key a c full
-no_room_since layout key a b c full later count none = record {
-  rest = none.rest;
-  others = others_on a.pass a.front b.front c.front later.front (subst (λ q. OthersGoOn q b.front c.front) later.pass none.others);
-  full_of = earlier full none.full_of;
-}
-  where
-    earlier : (full : Full) → IsFull layout key b c full → IsFull layout key a c full
-    earlier Nodes missed = λ q low. (let (step, late, miss) = missed q low in (step, le_trans count late, miss))
-    earlier Leaves missed = λ q low room. (let (step, late, miss) = missed q low room in (step, le_trans count late, miss))
-
-pub if_full_since : (layout : Layout) (key : Key) (a b c : Known) (r : Result Unit Full) → IsLater a b → a.steps ≤ b.steps → IfErr r (λ full. HasNoRoom layout key b c full) → IfErr r (λ full. HasNoRoom layout key a c full)
-if_full_since layout key a b c (Ok u) later count none = none
-if_full_since layout key a b c (Err full) later count none = no_room_since layout key a b c full later count none
+pub full_since : (layout : Layout) (key : Key) (a b c : Known) (full : Full) → a.steps ≤ b.steps → IsFull layout key b c full → IsFull layout key a c full
+full_since layout key a b c Nodes count missed = λ q low. (let (step, late, miss) = missed q low in (step, le_trans count late, miss))
+full_since layout key a b c Leaves count missed = λ q low room. (let (step, late, miss) = missed q low room in (step, le_trans count late, miss))
 
 -- ---- the leaf's record is made
 -- the spot stays one
@@ -339,17 +298,12 @@ grow_within table a m key way found span aim position first last t planned =
     let upto = plan.chain.upto in
     (omega (arith, upto, plan.len_is), omega (arith, within, plan.len_is))
 
--- what was stored is the key's value, which was absent
-pub grown_stored : (a b c : Known) (m : ℕ) (key : Key) (value : ℕ) (way : List Step) (found : Found) (span : Span) (aim : Aim) (position first last leaf : ℕ) →
-    IsPlanned a m key way aim found (change span.len span.end (Grow position first last)) → StaysLocked a b → HasChanged b c (added_change b.pass (item leaf key value)) None → HasStored a c key value found
-grown_stored a b c m key value way found span aim position first last leaf planned stays changed =
-    let plan = grow_plan a m key way span.len span.end position first last aim found planned in
-    let x = added_change b.pass (item leaf key value) in (
-      x,
-      None,
-      subst (λ f. IsStored a.pass key value f x None) (sym plan.found_is) (ap (λ q. added_change q (item leaf key value)) stays.0.pass, refl),
-      changed_since a b c x None stays.0 changed,
-    )
+-- the change is that of a key which was absent
+pub grown_stored : (k : Known) (m : ℕ) (key : Key) (value : ℕ) (way : List Step) (found : Found) (span : Span) (aim : Aim) (position first last leaf : ℕ) →
+    IsPlanned k m key way aim found (change span.len span.end (Grow position first last)) → IsStored k.pass key value found (added_change k.pass (item leaf key value)) None
+grown_stored k m key value way found span aim position first last leaf planned =
+    let plan = grow_plan k m key way span.len span.end position first last aim found planned in
+    subst (λ f. IsStored k.pass key value f (added_change k.pass (item leaf key value)) None) (sym plan.found_is) (refl, refl)
 
 -- ---- the store
 -- the entry for a tree has a word

@@ -1,8 +1,8 @@
 -- What each change under the locks of a span needs: failed steps that are remembered, records that are given up, nodes that are unlocked.
-use Rattle.std.proofs.Common.{◌≡◌, inl, inr, ℕ, suc, ◌-◌, ◌<◌, List, [], ◌∷◌, ◌++◌, length, get_or, drop, Bool, true, false, nat_eq, Option, Some, None, refl, sym, ap, subst, ◌∙◌, arith}
-use Rattle.std.specs.Prelude.{if◌then◌else◌, All, Contains, reverse, slice_range}
+use Rattle.std.proofs.Common.{◌≡◌, inl, inr, ℕ, suc, List, [], ◌∷◌, ◌++◌, length, get_or, Bool, true, false, nat_eq, Option, Some, None, refl, sym, ap, subst, ◌∙◌, arith}
+use Rattle.std.specs.Prelude.{if◌then◌else◌, All, Contains, reverse}
 use Rattle.std.proofs.lemmas.Grind.{reverse_onto}
-use Rattle.std.proofs.lemmas.List.Elements.{All-cons, All-drop, All-head, All-nil, All-push, All-tail, All-take, Contains-push, Contains-append_left}
+use Rattle.std.proofs.lemmas.List.Elements.{All-cons, All-head, All-nil, All-push, All-tail, Contains-push, Contains-append_left}
 use Rattle.std.proofs.lemmas.Option.{slice_get-get_or}
 use Rattle.finite_map.specs.declared.Change.{Change}
 use Rattle.finite_map.specs.Fronts.{OthersGoOn}
@@ -22,16 +22,14 @@ use Rattle.rowex_core.specs.declared.known.Failed.{Failed}
 use Rattle.rowex_core.specs.declared.known.FailedAct.TheVariants.{Lock as a_lock, LoadState as a_load}
 use Rattle.rowex_core.specs.declared.known.Holding.TheVariants.{Held}
 use Rattle.rowex_core.specs.declared.known.Known.{Known}
-use Rattle.rowex_core.specs.declared.known.Locked.{Locked}
 use Rattle.rowex_core.specs.declared.known.Owned.{Owned}
 use Rattle.rowex_core.specs.Cores.{Core, HasRecord}
 use Rattle.rowex_core.specs.Events.{target_word, word_of}
-use Rattle.rowex_core.specs.Having.{AreKept}
 use Rattle.rowex_core.specs.Knowing.{IsEvent, failed_with, claim_learned, anchor_learned, node_learned, state_learned, taker_at}
 use Rattle.rowex_core.specs.Sharing.{IsOwned}
 use Rattle.rowex_core.proofs.Having.{owned_used}
 use Rattle.rowex_core.proofs.Owning.{knows_all}
-use Rattle.rowex_table.specs.Made.{Made, held_as, recs_of, nodes_of, IsLater}
+use Rattle.rowex_table.specs.Made.{Made, held_as, recs_of, IsLater}
 use Rattle.rowex_table.specs.Rights.{IsClaimed}
 use Rattle.rowex_table.specs.Runs.{Runs, silent}
 use Rattle.rowex_table.specs.Seats.{TableView, SeatView}
@@ -40,7 +38,7 @@ use Rattle.rowex_records.specs.Claims.{AllMissed, AllMissedFrom, HasMissedSince}
 use Rattle.rowex_records.specs.Records.{HoldsJust}
 use Rattle.rowex_writing.specs.Building.{IsBuilding}
 use Rattle.rowex_writing.specs.Changes.{HasRun, HasChanged}
-use Rattle.rowex_writing.specs.Locks.{HasJustLocked, AreNodes}
+use Rattle.rowex_writing.specs.Locks.{AreNodes}
 use Rattle.rowex_writing.specs.Retiring.{AreInTable}
 use Rattle.rowex_reading.specs.Ways.{IsWayOf}
 use Rattle.rowex_reading.specs.declared.descent.Found.{Found}
@@ -162,19 +160,8 @@ module _ (table : TableView) (a : SeatView) (made : List Rec) (news : List Made)
       (λ r h. (let (m, at, is) = of_map (λ (m : Made). m.rec) r news h in subst (HasRecord table.layout) (sym is) (made_record m at)))))
 
 -- ---- what is locked
-pub way_nodes : (layout : Layout) (k : Known) (m : ℕ) (key : Key) (way : List Step) (found : Found) (i j : ℕ) → IsWayOf layout k m key way found → AreNodes layout (slice_range way i j)
-way_nodes layout k m key way found i j w =
-    All-take (λ (s : Step). s.number < layout.nodes) (j - i) (drop i way) (All-drop (λ (s : Step). s.number < layout.nodes) i way (λ n d low. (w.nodes n (get_or way n d) (slice_get-get_or way n d low)).2.range))
-
--- all locked nodes are kept, where no node goes
-pub all_kept : (k : Known) (ns : List ℕ) (gone : List Rec) → ((n : ℕ) → IsOf (a_node n) gone → ⊥) → HasJustLocked k ns → AreKept (nodes_of k.locks) gone ns × AreApart ns
-all_kept k ns gone none (just, apart) = (
-  record {
-    only = λ n h. (let (l, there, is) = of_map (λ (l : Locked). l.node) n k.locks h in inl (subst (λ z. IsOf z ns) (sym is) (just.only l there)));
-    each = λ n h. (let (l, there, is) = just.each n h in (subst (λ z. IsOf z (nodes_of k.locks)) is (map_of (λ (z : Locked). z.node) l k.locks there), none n));
-  },
-  apart,
-)
+pub step_nodes : (layout : Layout) (k : Known) (m : ℕ) (key : Key) (way : List Step) (found : Found) → IsWayOf layout k m key way found → AreNodes layout way
+step_nodes layout k m key way found w = λ n d low. (w.nodes n (get_or way n d) (slice_get-get_or way n d low)).2.range
 
 -- ---- what is seen since an earlier moment
 pub changed_since : (a b c : Known) (x : Change) (was : Option ℕ) → IsLater a b → HasChanged b c x was → HasChanged a c x was

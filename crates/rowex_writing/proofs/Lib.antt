@@ -27,5 +27,6 @@ pub mod Removing
 pub mod Keeping
 pub mod Placing
 pub mod Growths
+pub mod Raised
 pub mod Counting
 pub mod Walked

@@ -1,7 +1,7 @@
 -- A new leaf in the place of what stands there, or in a node with it: what the plan says, and that the store may be made.
-use Rattle.std.proofs.Common.{◌≡◌, ◌≢◌, inl, inr, ⊎_elim, ℕ, zero, suc, ◌+◌, ◌-◌, ◌*◌, ◌<◌, ◌≤◌, List, [], ◌∷◌, ◌++◌, length, get_or, Bool, true, false, nat_eq, nat_lt, Option, Some, None, IsSome, refl, sym, ap, ap₂, subst, ◌∙◌, arith, le_trans}
+use Rattle.std.proofs.Common.{◌≡◌, ◌≢◌, inl, ⊎_elim, ℕ, ◌+◌, ◌-◌, ◌*◌, ◌<◌, ◌≤◌, List, [], ◌∷◌, ◌++◌, length, get_or, Bool, true, false, nat_lt, Option, Some, None, refl, sym, ap, ap₂, subst, ◌∙◌, arith, le_trans}
 use Rattle.std.specs.Prelude.{if◌then◌else◌, slice_get, slice_range}
-use Rattle.std.proofs.lemmas.Bool.{cases_lt, eqb-true, ltb-true}
+use Rattle.std.proofs.lemmas.Bool.{cases_lt, ltb-true}
 use Rattle.std.proofs.lemmas.List.Elements.{All-cons}
 use Rattle.std.proofs.lemmas.Option.{slice_get-get_or, get_or_from_slice_get}
 use Rattle.finite_map.specs.declared.Change.{Change}
@@ -28,10 +28,10 @@ use Rattle.tries.specs.Search.{seek}
 use Rattle.tries.specs.Tree.{Page, leaf, IsBuilt}
 use Rattle.tries.proofs.Adding.{added_here}
 use Rattle.tries.proofs.Affected.{away, grown_page}
-use Rattle.tries.proofs.Places.{grown, spot_below, spot_shape}
+use Rattle.tries.proofs.Places.{grown, spot_shape}
 use Rattle.tries.proofs.Tries.{trie_within}
 use Rattle.moments.specs.declared.Rec.{Rec}
-use Rattle.moments.specs.declared.Rec.TheVariants.{Node as a_node, Leaf as a_leaf}
+use Rattle.moments.specs.declared.Rec.TheVariants.{Leaf as a_leaf}
 use Rattle.moments.specs.Trades.{IsOf}
 use Rattle.rowex_walks.specs.Scan.{IsRead, IsShaped}
 use Rattle.rowex_walks.specs.Writer.{added_change, replaced_change}
@@ -46,7 +46,6 @@ use Rattle.rowex_core.specs.Reading.{node_words_of}
 use Rattle.rowex_core.proofs.Owning.{recalls}
 use Rattle.rowex_table.specs.Made.{Made, IsLater}
 use Rattle.rowex_table.specs.Publishes.{Publishes}
-use Rattle.rowex_table.specs.Rule.{HasSpot}
 use Rattle.rowex_table.specs.Seats.{TableView, SeatView}
 use Rattle.rowex_reading.specs.Seen.{Sure}
 use Rattle.rowex_reading.proofs.Seeing.{read_stable, seen_within, since_later, stands_in}
@@ -61,11 +60,11 @@ use Rattle.rowex_rights.proofs.Sure.{seen_is_sure, sure_stays, descent_finds}
 use Rattle.rowex_writing.specs.Building.{IsBuilding}
 use Rattle.rowex_writing.specs.Changes.{AreAffected, HasTakenSpan, IsPlanned, IsStored, MayEnd}
 use Rattle.rowex_writing.specs.Going.{HasLocked}
-use Rattle.rowex_writing.specs.Locks.{AreNodes, HasJustLocked, numbers_of}
+use Rattle.rowex_writing.specs.Locks.{numbers_of}
 use Rattle.rowex_writing.specs.Plans.{change, IsCase, IsNewLeafPlan, IsPlan}
 use Rattle.rowex_writing.specs.Putting.{IsSpotAbove, leaf_found}
 use Rattle.rowex_writing.specs.Remaking.{IsTreePage}
-use Rattle.rowex_writing.specs.Retiring.{AreInTable, IsAnchored}
+use Rattle.rowex_writing.specs.Retiring.{AreInTable}
 use Rattle.rowex_reading.specs.Ways.{IsFoundAt, IsMismatch, IsWayNode, IsWayOf, end_of, named}
 use Rattle.rowex_writing.specs.declared.plan.Aim.{Aim}
 use Rattle.rowex_writing.specs.declared.plan.Aim.TheVariants.{Insert, Upsert, Remove}
@@ -77,8 +76,8 @@ use Rattle.rowex_writing.specs.declared.plan.Plan.{Plan}
 use Rattle.rowex_writing.specs.declared.plan.Plan.TheVariants.{Answer, Change as ChangePlan}
 use Rattle.rowex_writing.specs.declared.plan.Span.{Span}
 use Rattle.rowex_writing.proofs.Shapes.{locked_shape}
-use Rattle.rowex_writing.proofs.Spans.{locked_same, slice_more, slice_none}
-use Rattle.rowex_writing.proofs.Keeping.{made_record, way_nodes}
+use Rattle.rowex_writing.proofs.Spans.{slice_more, slice_none}
+use Rattle.rowex_writing.proofs.Keeping.{made_record}
 
 -- ---- plans
 abbrev span_of : Plan → Span
@@ -121,6 +120,21 @@ put_at way first last Remove (Leaf number value (Some p)) len end e = cc
 put_at way first last Insert (Leaf number value None) len end e = absurd cc
 put_at way first last Upsert (Leaf number value None) len end e = same_span len end (length way) (length way) Put Put e
 put_at way first last Remove (Leaf number value None) len end e = absurd cc
+
+-- the change, and what the key's value was
+abbrev pub put_change : ℕ → Item → Found → Change
+put_change q x (Leaf number held None) = replaced_change q x
+put_change q x found = added_change q x
+
+abbrev pub put_was : Found → Option ℕ
+put_was (Leaf number held None) = Some held
+put_was found = None
+
+pub put_stored : (q number : ℕ) (key : Key) (value : ℕ) (way : List Step) (found : Found) (len end : ℕ) → IsPutAt way found len end →
+    IsStored q key value found (put_change q (item number key value) found) (put_was found)
+put_stored q number key value way Nothing len end at = (refl, refl)
+put_stored q number key value way (Leaf n held None) len end at = (refl, refl)
+put_stored q number key value way (Leaf n held (Some p)) len end at = absurd at
 
 -- the node above is the last one of the way, if there is one
 pub put_spans : (way : List Step) (found : Found) (len end : ℕ) → IsPutAt way found len end → (len ≡ end) × (end ≤ length way)
@@ -287,10 +301,6 @@ module _ (table : TableView) (a : SeatView) (made : List Rec) (news : List Made)
       let bound = has.lawful.bound in
       ((omega arith, omega arith, omega arith), refl)
 
-above_zero : (n : ℕ) → nat_eq n 0 ≡ false → 0 < n
-above_zero zero e = absurd cc
-above_zero (suc n) e = omega arith
-
 -- ---- a plan of a pair
 pair_last : (way : List Step) (p first last len end q : ℕ) → IsPairAt way p first last len end q → 0 < end → IsLastLevel way p first last
 pair_last [] p first last len end q (a, b, c) low = absurd (omega arith)
@@ -333,12 +343,6 @@ put_len k m key way aim found span (first, last, plan, affected) =
     let at = put_at way first last aim found span.len span.end plan in
     let (a, b) = put_spans way found span.len span.end at in (at, a, b)
 
--- ---- what goes
-pub found_kept : (found : Found) (n : ℕ) → IsOf (a_node n) (leaf_found found) → ⊥
-found_kept Nothing n h = h
-found_kept (Leaf m v mismatch) n (inl e) = cc
-found_kept (Leaf m v mismatch) n (inr h) = h
-
 -- ---- under the locks of a span that ends where it begins
 module _ (table : TableView) (a : SeatView) (m : ℕ) (key : Key) (way : List Step) (found : Found) (span : Span) (t : HasTakenSpan table a m key way found span) (same : span.len ≡ span.end) where
   -- the node above is locked, with these words
@@ -373,31 +377,6 @@ module _ (table : TableView) (a : SeatView) (m : ℕ) (key : Key) (way : List St
         height = shown.1;
         high = (let h = node.below in omega arith);
       }
-
-  -- the spot is one of the table
-  pub spot_there : (spot : Spot) → span.end ≤ length way → IsSpotAbove way span.end spot → HasSpot table.layout spot
-  spot_there Root upto is = tt
-  spot_there (Slot n i) upto (s, low, at, number, place) =
-      let (e, named_e, node) = t.way_of.nodes (span.end - 1) s at in
-      let within : spot key node.forks < size node.forks = spot_below key node.forks in
-      let full = node.room in
-      let there = node.range in
-      (omega (arith, number), omega (arith, place, node.at))
-
-  -- the node above is all that is locked, and the anchor where there is none
-  pub above_locked : (b : Known) → b.locks ≡ a.known.locks → HasJustLocked b (numbers_of (slice_range way (span.end - 1) span.end))
-  above_locked b locks =
-      locked_same a.known b (numbers_of (slice_range way (span.end - 1) span.end)) locks (subst (λ n. HasJustLocked a.known (numbers_of (slice_range way (span.end - 1) n))) same t.locked.nodes)
-
-  pub above_nodes : AreNodes table.layout (slice_range way (span.end - 1) span.end)
-  above_nodes = way_nodes table.layout a.known m key way found (span.end - 1) span.end t.way_of
-
-  pub above_anchor : (b : Known) → b.anchor ≡ a.known.anchor → IsAnchored (nat_eq span.end 0) b
-  above_anchor b same_anchor = go (nat_eq span.end 0) refl
-    where
-      go : (is : Bool) → nat_eq span.end 0 ≡ is → IsAnchored is b
-      go true e = subst (λ o. IsSome o) (sym same_anchor) (t.locked.top (eqb-true span.end 0 e))
-      go false e = same_anchor ∙ t.locked.below (above_zero span.end e)
 
   -- ---- what was found
   module _ (n v : ℕ) (mismatch : Option ℕ) (is_found : found ≡ Leaf n v mismatch) where
@@ -453,7 +432,7 @@ module _ (table : TableView) (a : SeatView) (m : ℕ) (key : Key) (way : List St
 
     -- a new leaf alone
     pub put_may : IsBuilding table b made (of_leaf (item number key value) ∷ []) → IsPutAt way found span.len span.end → (spot : Spot) → IsSpotAbove way span.end spot →
-        (y : Change) × (was : Option ℕ) × IsStored a.known.pass key value found y was × MayEnd table b made spot (4 * number + 1) y was (leaf_found found)
+        MayEnd table b made spot (4 * number + 1) (put_change a.known.pass (item number key value) found) (put_was found) (leaf_found found)
     put_may building at spot over = go found refl at spot over
       where
         news : List Made
@@ -463,53 +442,39 @@ module _ (table : TableView) (a : SeatView) (m : ℕ) (key : Key) (way : List St
         word = leaf_word table b made (of_leaf (item number key value) ∷ []) building (item number key value) (inl refl)
 
         go : (f : Found) → found ≡ f → IsPutAt way f span.len span.end → (spot : Spot) → IsSpotAbove way span.end spot →
-            (y : Change) × (was : Option ℕ) × IsStored a.known.pass key value f y was × MayEnd table b made spot (4 * number + 1) y was (leaf_found f)
-        go Nothing is (l, e) Root over = (
-          added_change a.known.pass (item number key value),
-          None,
-          (refl, refl),
-          record {
-            news = news;
-            building = building;
-            publishes = λ j on ready same_anchor.
-                subst (λ q. Publishes table.layout j Root (4 * number + 1) (added_change q (item number key value)) None []) (on.pass ∙ later.pass)
-                (first_made table.layout j b.known.locks (item number key value) (4 * number + 1) ready spelled word
-                (root_is j same_anchor e ∙ ap (λ (o : Option Entry). Some o) (ap (λ (f : Found). named way f 0) is ∙
-                none_named way (λ i s d. IsWayNode table.layout a.known m key s d) (subst (λ f. IsWayOf table.layout a.known m key way f) is t.way_of).nodes)));
-          },
-        )
+            MayEnd table b made spot (4 * number + 1) (put_change a.known.pass (item number key value) f) (put_was f) (leaf_found f)
+        go Nothing is (l, e) Root over = record {
+          news = news;
+          building = building;
+          publishes = λ j on ready same_anchor.
+              subst (λ q. Publishes table.layout j Root (4 * number + 1) (added_change q (item number key value)) None []) (on.pass ∙ later.pass)
+              (first_made table.layout j b.known.locks (item number key value) (4 * number + 1) ready spelled word
+              (root_is j same_anchor e ∙ ap (λ (o : Option Entry). Some o) (ap (λ (f : Found). named way f 0) is ∙
+              none_named way (λ i s d. IsWayNode table.layout a.known m key s d) (subst (λ f. IsWayOf table.layout a.known m key way f) is t.way_of).nodes)));
+        }
         go Nothing is (l, e) (Slot n i) (s, low, at_s, number_is, place) = absurd (omega arith)
-        go (Leaf n v None) is (l, e) Root over = (
-          replaced_change a.known.pass (item number key value),
-          Some v,
-          (refl, refl),
-          record {
-            news = news;
-            building = building;
-            publishes = λ j on ready same_anchor.
-                subst (λ q. Publishes table.layout j Root (4 * number + 1) (replaced_change q (item number key value)) (Some v) (a_leaf n ∷ [])) (on.pass ∙ later.pass)
-                (upsert_at_root table.layout j b.known.locks (item number key value) n (4 * number + 1) v ready spelled
-                (root_is j same_anchor over ∙ ap (λ (o : Option Entry). Some o) (end_named n v None is 0 (sym over ∙ e)))
-                (subst (λ z. IsLeafThere table.layout j b.known.locks news n z v) (sym (leaf_at n v None is).2)
-                (there_still n v None is j b.known.locks news (later_on a.known b.known j later on))) word);
-          },
-        )
+        go (Leaf n v None) is (l, e) Root over = record {
+          news = news;
+          building = building;
+          publishes = λ j on ready same_anchor.
+              subst (λ q. Publishes table.layout j Root (4 * number + 1) (replaced_change q (item number key value)) (Some v) (a_leaf n ∷ [])) (on.pass ∙ later.pass)
+              (upsert_at_root table.layout j b.known.locks (item number key value) n (4 * number + 1) v ready spelled
+              (root_is j same_anchor over ∙ ap (λ (o : Option Entry). Some o) (end_named n v None is 0 (sym over ∙ e)))
+              (subst (λ z. IsLeafThere table.layout j b.known.locks news n z v) (sym (leaf_at n v None is).2)
+              (there_still n v None is j b.known.locks news (later_on a.known b.known j later on))) word);
+        }
         go (Leaf n v None) is (l, e) (Slot o i) (s, low, at_s, number_is, place) =
-            let above = node_above s low (omega arith) at_s in (
-              replaced_change a.known.pass (item number key value),
-              Some v,
-              (refl, refl),
-              record {
-                news = news;
-                building = building;
-                publishes = λ j on ready same_anchor.
-                    subst (λ q. Publishes table.layout j (Slot o i) (4 * number + 1) (replaced_change q (item number key value)) (Some v) (a_leaf n ∷ [])) (on.pass ∙ later.pass)
-                    (upsert_in_slot table.layout j b.known.locks (item number key value) o n i (4 * number + 1) v above.words ready spelled (locked_in o s above number_is)
-                    (end_seek n v None is e low s above) (above.spot_is ∙ sym place) (let h = above.high in let g = above.height in omega arith)
-                    (subst (λ z. IsLeafThere table.layout j b.known.locks news n z v) (sym (leaf_at n v None is).2)
-                    (there_still n v None is j b.known.locks news (later_on a.known b.known j later on))) word);
-              },
-            )
+            let above = node_above s low (omega arith) at_s in
+            record {
+              news = news;
+              building = building;
+              publishes = λ j on ready same_anchor.
+                  subst (λ q. Publishes table.layout j (Slot o i) (4 * number + 1) (replaced_change q (item number key value)) (Some v) (a_leaf n ∷ [])) (on.pass ∙ later.pass)
+                  (upsert_in_slot table.layout j b.known.locks (item number key value) o n i (4 * number + 1) v above.words ready spelled (locked_in o s above number_is)
+                  (end_seek n v None is e low s above) (above.spot_is ∙ sym place) (let h = above.high in let g = above.height in omega arith)
+                  (subst (λ z. IsLeafThere table.layout j b.known.locks news n z v) (sym (leaf_at n v None is).2)
+                  (there_still n v None is j b.known.locks news (later_on a.known b.known j later on))) word);
+            }
         go (Leaf n v (Some p)) is at spot over = absurd at
 
     -- a new node of the found leaf and the new one

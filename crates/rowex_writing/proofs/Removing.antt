@@ -16,27 +16,24 @@ use Rattle.tries.specs.Keys.{Key, bit}
 use Rattle.tries.specs.Place.{joined, page_without, spot}
 use Rattle.tries.specs.Search.{seek}
 use Rattle.tries.specs.Tree.{Page, leaf}
-use Rattle.tries.proofs.Places.{spot_below}
 use Rattle.moments.specs.Heap.{NodeWords}
 use Rattle.moments.specs.declared.Rec.{Rec}
 use Rattle.moments.specs.declared.Rec.TheVariants.{Node as a_node, Leaf as a_leaf}
-use Rattle.moments.specs.Trades.{AreApart, IsOf}
+use Rattle.moments.specs.Trades.{IsOf}
 use Rattle.moments.proofs.Members.{all_of, map_of, none_of, of_append, of_left, of_right}
 use Rattle.rowex_core.specs.declared.event.Spot.{Spot}
 use Rattle.rowex_core.specs.declared.event.Spot.TheVariants.{Root, Slot}
 use Rattle.rowex_core.specs.declared.known.Known.{Known}
 use Rattle.rowex_core.specs.declared.known.Locked.{Locked}
 use Rattle.rowex_core.specs.Cores.{HasRecord, IsWhole}
-use Rattle.rowex_core.specs.Having.{AreKept}
 use Rattle.rowex_core.specs.Reading.{IsPacked, node_words_of}
 use Rattle.rowex_core.specs.Sharing.{IsLocked}
 use Rattle.rowex_core.proofs.Owning.{knows_all}
 use Rattle.rowex_core.proofs.Reading.{node_is}
 use Rattle.rowex_walks.specs.Scan.{IsRead}
 use Rattle.rowex_walks.specs.Writer.{removed_change}
-use Rattle.rowex_table.specs.Made.{IsLater, Made, nodes_of}
+use Rattle.rowex_table.specs.Made.{IsLater, Made}
 use Rattle.rowex_table.specs.Publishes.{Publishes}
-use Rattle.rowex_table.specs.Rule.{HasSpot}
 use Rattle.rowex_table.specs.Seats.{TableView, SeatView}
 use Rattle.rowex_reading.specs.Possible.{IsPossible}
 use Rattle.rowex_reading.specs.Seen.{Sure}
@@ -69,7 +66,7 @@ use Rattle.rowex_reading.proofs.Ways.{named_at, named_end}
 use Rattle.rowex_reading.specs.declared.descent.Found.{Found}
 use Rattle.rowex_reading.specs.declared.descent.Found.TheVariants.{Nothing, Leaf}
 use Rattle.rowex_writing.specs.declared.plan.Span.{Span}
-use Rattle.rowex_writing.proofs.Spared.{kept_above, range_split, span_same}
+use Rattle.rowex_writing.proofs.Spared.{range_split}
 use Rattle.rowex_writing.proofs.Shapes.{way_node_locked}
 use Rattle.rowex_writing.proofs.Spans.{slice_more, slice_none}
 use Rattle.tries.specs.Content.{item}
@@ -88,8 +85,9 @@ leaf_record layout k number key value possible (m, pinned, read) =
 
 -- ---- the root's only leaf
 module _ (table : TableView) (a : SeatView) (number : ℕ) (key : Key) (value : ℕ) (o : HasOnlyLeaf table a number key value) where
-  pub may_empty : MayEnd table a [] Root 0 (removed_change a.known.pass (item number key value)) (Some value) (a_leaf number ∷ [])
-  may_empty = record {
+  pub may_empty : (way : List Step) (end : ℕ) → end ≡ 0 → (spot : Spot) → IsSpotAbove way end spot → MayEnd table a [] spot 0 (removed_change a.known.pass (item number key value)) (Some value) (a_leaf number ∷ [])
+  may_empty way end top (Slot n i) (s, low, there, number_is, place) = absurd (omega (arith, top, low))
+  may_empty way end top Root over = record {
     news = [];
     building = record { seat = o.seat; possible = o.possible; holds = (o.own, tt); packed = tt; listed = refl };
     publishes = λ j later ready anchor. subst (λ q. Publishes table.layout j Root 0 (removed_change q (item number key value)) (Some value) (a_leaf number ∷ [])) later.pass
@@ -176,7 +174,7 @@ module _ (table : TableView) (a : SeatView) (m : ℕ) (key : Key) (way : List St
       absurd (subst (λ z. IsOf n (numbers_of (take z (drop (span.end - 1) way)))) none i)
 
   -- a way of none
-  pub take_only : span.len ≤ 0 → HasOnlyLeaf table a number key value
+  pub take_only : span.len ≤ 0 → HasOnlyLeaf table a number key value × (span.end ≡ 0) × (span.len ≡ 0)
   take_only none =
       let t = found_span in
       let n = the_plan.len_is in
@@ -184,15 +182,18 @@ module _ (table : TableView) (a : SeatView) (m : ℕ) (key : Key) (way : List St
       let empty : length way ≡ 0 = omega (arith, n, none) in
       let top : span.end ≡ 0 = omega (arith, e, empty) in
       let low : span.len ≡ 0 = omega (arith, none) in
-      let (l, read, same) = t.way_of.found_at in
-      record {
-        seat = t.seat;
-        possible = t.possible;
-        own = t.own;
-        locks = none_of a.known.locks (λ l there. no_locks l.node low (t.locked.nodes.0.only l there));
-        anchor = t.checked.root top ∙ ap Some (named_end way (Leaf number value None) 0 (omega (arith, empty)));
-        read = (m, t.way_of.since, subst (λ z. Sure a.known (λ past. IsRead past m number z value)) (sym same) read);
-      }
+      let (l, read, same) = t.way_of.found_at in (
+        record {
+          seat = t.seat;
+          possible = t.possible;
+          own = t.own;
+          locks = none_of a.known.locks (λ l there. no_locks l.node low (t.locked.nodes.0.only l there));
+          anchor = t.checked.root top ∙ ap Some (named_end way (Leaf number value None) 0 (omega (arith, empty)));
+          read = (m, t.way_of.since, subst (λ z. Sure a.known (λ past. IsRead past m number z value)) (sym same) read);
+        },
+        top,
+        low,
+      )
 
 -- ---- entries
 -- a node's height is at least 1
@@ -244,10 +245,6 @@ low_page : (h : ℕ) (e : Entry) → height_of e < h → IsLowerPage h (Place e)
 low_page h (LeafEntry n) l = l
 low_page h (Node n g) l = l
 
--- what goes, in its order
-pub gone_are : (n j : ℕ) (cleared first both : List Rec) → cleared ≡ [] → first ≡ cleared ++ a_node n ∷ [] → both ≡ first ++ a_leaf j ∷ [] → both ≡ a_node n ∷ a_leaf j ∷ []
-gone_are n j cleared first both none a b = b ∙ ap (λ xs. xs ++ a_leaf j ∷ []) (a ∙ ap (λ xs. xs ++ a_node n ∷ []) none)
-
 -- ---- the span
 of_range : (xs : List Step) (a b i : ℕ) (s : Step) → a ≤ i → i < b → b ≤ length xs → slice_get xs i ≡ Some s → IsOf s (slice_range xs a b)
 of_range xs a b i s low high most at =
@@ -285,39 +282,17 @@ module _ (table : TableView) (a : SeatView) (m : ℕ) (key : Key) (way : List St
       let checked = b.taken.checked.entries span.end s (omega arith) (omega (arith, e)) at words h in
       same_some (sym checked ∙ named_end way found (span.end + 1) (omega (arith, e, n)))
 
-  pub gone_records : AreInTable table.layout (a_node s.number ∷ a_leaf number ∷ [])
-  gone_records = All-cons (HasRecord table.layout) (a_node s.number) (a_leaf number ∷ []) (w.nodes span.end s at).2.range
-      (All-cons (HasRecord table.layout) (a_leaf number) [] (leaf_record table.layout a.known number key value b.taken.possible has_read) (λ i d low. absurd (omega arith)))
+  pub leaf_gone_record : AreInTable table.layout (a_leaf number ∷ [])
+  leaf_gone_record = All-cons (HasRecord table.layout) (a_leaf number) [] (leaf_record table.layout a.known number key value b.taken.possible has_read) (λ i d low. absurd (omega arith))
 
-  -- the node above it is kept
-  last_one : slice_range way span.end span.len ≡ s ∷ []
+  -- it is the last one of the span
+  pub last_one : slice_range way span.end span.len ≡ s ∷ []
   last_one =
       let e = b.last in
       let n = b.len in
       slice_more way span.end span.len s (omega (arith, e)) (omega (arith, n)) ∙
       (ap (λ z. z ∷ slice_range way (span.end + 1) span.len) (get_or_from_slice_get way span.end s s at) ∙
       ap (λ z. s ∷ z) (ap (λ i. slice_range way i span.len) e ∙ slice_none way span.len))
-
-  pub kept_node : (k : Known) → k.locks ≡ a.known.locks → k.anchor ≡ a.known.anchor →
-      AreKept (nodes_of k.locks) (a_node s.number ∷ a_leaf number ∷ []) (numbers_of (slice_range way (span.end - 1) span.end)) × AreApart (numbers_of (slice_range way (span.end - 1) span.end))
-  kept_node k locks anchor = kept_above k way span (a_node s.number ∷ a_leaf number ∷ []) (let e = b.last in omega (arith, e)) (span_same a.known k way span locks anchor b.taken.locked)
-      (λ n i. elim (subst (λ z. IsOf n (numbers_of z)) last_one i) [ inl e ↦ inl (ap (λ z. a_node z) e) | inr none ↦ absurd none ])
-      (λ n i. subst (λ z. IsOf n (numbers_of z)) (sym last_one) (goes n i))
-    where
-      goes : (n : ℕ) → IsOf (a_node n) (a_node s.number ∷ a_leaf number ∷ []) → IsOf n (s.number ∷ [])
-      goes n (inl e) = inl cc
-      goes n (inr (inl e)) = absurd cc
-      goes n (inr (inr none)) = absurd none
-
-  -- the spot is one of the table's
-  pub spot_in : (spot : Spot) → IsSpotAbove way span.end spot → HasSpot table.layout spot
-  spot_in Root is = tt
-  spot_in (Slot n i) (u, some, there, n_is, i_is) =
-      let node = (w.nodes (span.end - 1) u there).2 in
-      let low = spot_below key node.forks in
-      let room = node.room in
-      let place = i_is ∙ node.at in
-      (subst (λ z. z < table.layout.nodes) (sym n_is) node.range, omega (arith, low, room, place))
 
   -- what is left may take the node's place
   module _ (c : SeatView) (made : List Rec) (news : List Made) (words : List ℕ) (h : HasLocked a.known s.number words) (e : Entry) (stays : StaysLocked a.known c.known) (building : IsBuilding table c made news)

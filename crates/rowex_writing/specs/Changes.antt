@@ -12,7 +12,7 @@ use Rattle.tries.specs.Search.{seek}
 use Rattle.tries.specs.Tree.{Page}
 use Rattle.moments.specs.declared.Rec.{Rec}
 use Rattle.record_words.specs.Leaf.{words_for}
-use Rattle.moments.specs.declared.Rec.TheVariants.{Node as a_node, Leaf as a_leaf}
+use Rattle.moments.specs.declared.Rec.TheVariants.{Node as a_node}
 use Rattle.rowex_core.specs.declared.event.Act.{Act}
 use Rattle.rowex_core.specs.declared.event.Event.{Event}
 use Rattle.rowex_core.specs.declared.event.Spot.{Spot}
@@ -37,7 +37,9 @@ use Rattle.rowex_writing.specs.Plans.{change, IsPlan}
 use Rattle.rowex_writing.specs.Remaking.{AffectsJust}
 use Rattle.rowex_reading.specs.Ways.{IsWayOf, named}
 use Rattle.rowex_writing.specs.declared.plan.Aim.{Aim}
+use Rattle.rowex_writing.specs.declared.deeds.Job.{Job}
 use Rattle.rowex_writing.specs.declared.plan.Deed.{Deed}
+use Rattle.rowex_writing.specs.declared.plan.Deed.TheVariants.{Take}
 use Rattle.rowex_reading.specs.declared.descent.Found.{Found}
 use Rattle.rowex_reading.specs.declared.descent.Found.TheVariants.{Leaf}
 use Rattle.rowex_writing.specs.declared.plan.Full.{Full}
@@ -84,14 +86,16 @@ pub record HasTakenSpan (table : TableView) (a : SeatView) (m : ℕ) (key : Key)
   pub seat : IsSeatOf table a
   pub possible : IsPossible table.layout a.known
   pub own : a.known.own ≡ []
+  pub within : (span.end ≤ span.len) × (span.len ≤ length way)
   pub way_of : IsWayOf table.layout a.known m key way found
   pub locked : HasLockedSpan a.known way span
   pub checked : IsChecked a.known key way found span
 
 -- the pass has taken the span of what is planned, with this deed at its lower end
-abbrev pub HasTakenPlan : TableView → SeatView → Key → List Step → Found → Span → Deed → Type 0
-HasTakenPlan table a key way found span deed =
-    (m : ℕ) × (aim : Aim) × HasTakenSpan table a m key way found span × IsPlanned a.known m key way aim found (change span.len span.end deed)
+abbrev pub HasTakenPlan : TableView → SeatView → Job → Deed → Type 0
+HasTakenPlan table a job deed =
+    (m : ℕ) × (aim : Aim) × HasTakenSpan table a m job.key.now job.way.now job.found job.span ×
+    IsPlanned a.known m job.key.now job.way.now aim job.found (change job.span.len job.span.end deed)
 
 -- ---- the store
 -- Once the records that it has made are ready, the pass may publish the change by a store of the word at the spot.
@@ -133,10 +137,7 @@ abbrev pub IsTaken : ℕ → Key → Found → Change → Option ℕ → Type 0
 IsTaken q key (Leaf number held None) x was = (x ≡ record { pass = q; key = key; value = held; kind = Removed }) × (was ≡ Some held)
 IsTaken q key found x was = ⊥
 
--- the key has the value now, by a change of the pass; or it hasn't
-abbrev pub HasStored : Known → Known → Key → ℕ → Found → Type 0
-HasStored k j key value found = (x : Change) × (was : Option ℕ) × IsStored k.pass key value found x was × HasChanged k j x was
-
--- the key is absent now
-abbrev pub HasTaken : Known → Known → Key → Found → Type 0
-HasTaken k j key found = (x : Change) × (was : Option ℕ) × IsTaken k.pass key found x was × HasChanged k j x was
+-- the change of a deed: the key gets the value, or is taken away
+abbrev pub IsDone : ℕ → Deed → Key → ℕ → Found → Change → Option ℕ → Type 0
+IsDone q Take key value found x was = IsTaken q key found x was
+IsDone q deed key value found x was = IsStored q key value found x was

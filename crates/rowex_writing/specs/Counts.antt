@@ -1,5 +1,5 @@
 -- How many atomic steps the parts of an attempt make at most, by the nodes on its way, its locks and the records of the table.
-use Rattle.std.specs.Prelude.{ℕ, zero, suc, ◌+◌, ◌*◌}
+use Rattle.std.specs.Prelude.{ℕ, zero, suc, ◌+◌, ◌*◌, Result, Ok, Err}
 use Rattle.key_bits.specs.declared.TheConstants.{MAX_BYTES}
 use Rattle.record_words.specs.declared.TheConstants.{HEAD_WORDS, LEAF_FIELDS, NODE_FIELDS}
 use Rattle.record_words.specs.declared.layout.Layout.{Layout}
@@ -42,6 +42,11 @@ levels_steps layout locks = locks * level_steps + 2 * layout.nodes
 -- given up, and each lock is given back
 abbrev pub undo_steps : ℕ → ℕ
 undo_steps locks = 5 * locks + 1
+
+-- a deed: a leaf's record, and nodes made anew; where no record was free, each that was made, two for a lock, is looked at
+abbrev pub deed_steps : {X E : Type 0} → Layout → ℕ → Result X E → ℕ
+deed_steps layout locks (Ok made) = leaf_steps layout + levels_steps layout locks
+deed_steps layout locks (Err full) = leaf_steps layout + levels_steps layout locks + 2 * locks
 
 -- a change, once its nodes are locked and checked: a leaf's record, nodes made anew, and their undoing
 abbrev pub change_steps : Layout → ℕ → ℕ

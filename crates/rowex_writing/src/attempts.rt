@@ -18,14 +18,12 @@ ghost use Rattle.rowex_writing.specs.Counts.{change_steps, most_locks, most_step
 use crate::asking::{aim_of, declined};
 use crate::building::Build;
 use crate::checking::check_span;
+use crate::deeds::{Job, carry_out};
 use crate::ending::undo;
 use crate::finding::find_plan;
-use crate::growing::grow_node;
 use crate::locks::lock_span;
-use crate::pairing::pair_leaf;
 use crate::plan::{Aim, Ask, Deed, Full, Plan, Span};
-use crate::putting::put_leaf;
-use crate::taking::take_leaf;
+use crate::publishing::publish_change;
 use arrayvec::ArrayVec;
 use finite_map::Reply;
 use insert_cases::Step;
@@ -126,7 +124,14 @@ fn act_on<G: Gate>(
             if !take_span(table, seat, gate, key, way, found, span) {
                 return Err(TryFault::Busy);
             }
-            match make_change(table, seat, gate, build, way, key, value, found, span, deed) {
+            let job = Job {
+                way,
+                key,
+                value,
+                found,
+                span,
+            };
+            match make_change(table, seat, gate, build, &job, deed) {
                 Ok(()) => Ok(reply_to(ask, found)),
                 Err(full) => Err(refusal_of(full)),
             }
@@ -167,44 +172,35 @@ fn take_span<G: Gate>(
     if check_span(table, seat, gate, key, way, found, span) {
         return true;
     }
-    let locked = &way[span.end.saturating_sub(1)..span.len];
-    undo(table, seat, gate, &[], locked, span.end == 0);
+    undo(table, seat, gate, &[], way, span);
     false
 }
 
-/// Makes the change of a plan whose nodes are locked and checked.
+/// Makes the change of a plan whose nodes are locked and checked: it is published, or undone if no record was free.
 fn make_change<G: Gate>(
     table: &HotTable,
     seat: &mut TableSeat,
     gate: &mut G,
     build: &mut Build,
-    way: &[Step],
-    key: &Key,
-    value: u64,
-    found: Found,
-    span: Span,
+    job: &Job<'_>,
     deed: Deed,
 ) -> Result<(), Full>
-    requires taken { HasTakenPlan table.now seat.old key.now way.now found span deed }
+    requires taken { HasTakenPlan table.now seat.old job.now deed }
     ensures run { HasRun table.now G.becomes (seat.old, gate.old) (seat.new, gate.new) }
-    ensures done { result ≡ Ok tt → HasDone seat.old.known seat.new.known deed key.now value found }
-    ensures full { IfErr result (λ full. HasNoRoom table.now.layout key.now seat.old.known seat.new.known full) }
+    ensures done { result ≡ Ok tt → HasDone seat.old.known seat.new.known deed job.now.key.now job.now.value job.now.found }
+    ensures full { IfErr result (λ full. HasNoRoom table.now.layout job.now.key.now seat.old.known seat.new.known full) }
     ensures leafless { deed ≡ Deed.Take → result ≢ Err Full.Leaves }
-    ensures few { seat.new.known.steps ≤ seat.old.known.steps + change_steps table.now.layout (locks_of span) }
+    ensures few { seat.new.known.steps ≤ seat.old.known.steps + change_steps table.now.layout (locks_of job.now.span) }
 {
-    match deed {
-        Deed::Put => put_leaf(table, seat, gate, build, way, key, value, found, span),
-        Deed::Pair { position } => pair_leaf(
-            table, seat, gate, build, way, key, value, found, span, position,
-        ),
-        Deed::Grow {
-            position,
-            first,
-            last,
-        } => grow_node(
-            table, seat, gate, build, way, key, value, found, span, position, first, last,
-        ),
-        Deed::Take => take_leaf(table, seat, gate, build, way, key, found, span),
+    match carry_out(table, seat, gate, build, job, deed) {
+        Ok(raised) => {
+            publish_change(table, seat, gate, build, job, raised);
+            Ok(())
+        }
+        Err(full) => {
+            undo(table, seat, gate, build.made.as_slice(), job.way, job.span);
+            Err(full)
+        }
     }
 }
 

@@ -5,10 +5,11 @@ ghost use Rattle.record_words.specs.declared.TheConstants.{EPOCHS};
 ghost use Rattle.rowex_records.specs.Records.{HoldsJust};
 ghost use Rattle.rowex_rights.specs.Ending.{IsAtRest};
 ghost use Rattle.rowex_table.specs.Seats.{IsSeatOf};
-ghost use Rattle.rowex_writing.specs.Locks.{AreNodes, HasJustLocked, Works, numbers_of};
+ghost use Rattle.rowex_writing.specs.Locks.{AreNodes, HasLockedSpan, Works, locks_of, numbers_of};
 ghost use Rattle.rowex_writing.specs.Retiring.{AreInTable, HasJustPublished, HasToMark, IsAnchored, KeepsLocks};
 
 use crate::locks::unlock_nodes;
+use crate::plan::Span;
 use insert_cases::Step;
 use rowex_core::{Gate, Rec, Target};
 use rowex_records::give_up_all;
@@ -43,28 +44,29 @@ pub(crate) fn retire<G: Gate>(
 }
 
 /// Takes a change back that was not published: gives up the records `held`, which are all that the pass has, and unlocks the
-/// nodes `locked`, which are all that it has locked, and then the anchor, where that is locked.
+/// nodes of the span and the one above them, or the anchor where they go up to the root, which are all that it has locked.
 pub(crate) fn undo<G: Gate>(
     table: &HotTable,
     seat: &mut TableSeat,
     gate: &mut G,
     held: &[Rec],
-    locked: &[Step],
-    anchor: bool,
+    way: &[Step],
+    span: Span,
 )
     requires own { IsSeatOf table.now seat.old }
     requires records { AreInTable table.now.layout held.now }
-    requires nodes { AreNodes table.now.layout locked.now }
+    requires within { (span.end ≤ span.len) × (span.len ≤ length way.now) }
+    requires nodes { AreNodes table.now.layout way.now }
     requires held { HoldsJust seat.old.known held.now }
-    requires locked { HasJustLocked seat.old.known (numbers_of locked.now) }
-    requires anchored { IsAnchored anchor seat.old.known }
+    requires locked { HasLockedSpan seat.old.known way.now span }
     ensures works { Works table.now G.becomes (seat.old, gate.old) (seat.new, gate.new) }
     ensures rest { IsAtRest seat.new.known }
-    ensures few { seat.new.known.steps ≤ seat.old.known.steps + length held.now + length locked.now + 1 }
+    ensures few { seat.new.known.steps ≤ seat.old.known.steps + length held.now + locks_of span }
 {
     give_up_all(table, seat, gate, held);
+    let locked = &way[span.end.saturating_sub(1)..span.len];
     unlock_nodes(table, seat, gate, locked);
-    if anchor {
+    if span.end == 0 {
         table.unlock(seat, gate, Target::Anchor);
     }
 }

@@ -6,6 +6,7 @@ mod attempts;
 mod building;
 mod checking;
 mod claims;
+mod deeds;
 mod ending;
 mod finding;
 mod growing;

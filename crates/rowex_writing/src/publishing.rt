@@ -1,32 +1,35 @@
 //! The first and the last part of each change: the new leaf's record, and the one store with what comes after it.
 
-ghost use Rattle.std.specs.Prelude.{◌≡◌, ℕ, List, [], ◌∷◌, Option, MatchOption, ◌≤◌, ◌+◌, ◌*◌, length};
+ghost use Rattle.std.specs.Prelude.{◌≡◌, ℕ, List, [], ◌∷◌, ◌++◌, Option, MatchOption, ◌<◌, ◌≤◌, ◌+◌, ◌-◌, ◌*◌, length, map, slice_range};
 ghost use Rattle.finite_map.specs.declared.Change.{Change};
+ghost use Rattle.insert_cases.specs.declared.choice.Step.{Step as StepView};
 ghost use Rattle.key_bits.specs.Key.{IsKey};
 ghost use Rattle.record_words.specs.Entry.{HasEntryWord, entry_word};
 ghost use Rattle.record_words.specs.Leaf.{HasLeafWords, words_for};
-ghost use Rattle.moments.specs.declared.Rec.TheVariants.{Leaf as a_leaf};
-ghost use Rattle.moments.specs.Trades.{AreApart};
-ghost use Rattle.rowex_core.specs.Having.{AreKept};
+ghost use Rattle.moments.specs.declared.Rec.TheVariants.{Node as a_node};
 ghost use Rattle.rowex_core.specs.Reading.{entry_of};
-ghost use Rattle.rowex_table.specs.Made.{Made, nodes_of};
-ghost use Rattle.rowex_table.specs.Rule.{HasSpot};
+ghost use Rattle.rowex_table.specs.Made.{Made};
 ghost use Rattle.rowex_table.specs.Seats.{IsSeatOf};
 ghost use Rattle.rowex_reading.specs.Possible.{IsPossible};
+ghost use Rattle.rowex_reading.specs.Ways.{IsWayOf};
 ghost use Rattle.rowex_records.specs.Claims.{AllMissedFrom};
 ghost use Rattle.rowex_rights.specs.Rises.{of_leaf};
 ghost use Rattle.rowex_rights.specs.Stages.{HasReady};
 ghost use Rattle.tries.specs.Content.{item};
 ghost use Rattle.rowex_writing.specs.Building.{IsBuilding};
-ghost use Rattle.rowex_writing.specs.Changes.{HasChanged, HasRun, MayEnd};
-ghost use Rattle.rowex_writing.specs.Going.{WorksOn};
-ghost use Rattle.rowex_writing.specs.Locks.{AreNodes, numbers_of};
-ghost use Rattle.rowex_writing.specs.Retiring.{AreInTable, IsAnchored};
+ghost use Rattle.rowex_writing.specs.Changes.{HasChanged, HasRun};
 ghost use Rattle.rowex_writing.specs.Counts.{leaf_steps};
+ghost use Rattle.rowex_writing.specs.Deeds.{MayReplace, leaf_gone};
+ghost use Rattle.rowex_writing.specs.Going.{WorksOn};
+ghost use Rattle.rowex_writing.specs.Locks.{HasLockedSpan, locks_of};
+ghost use Rattle.rowex_writing.specs.Putting.{IsSpotAbove};
 
 use crate::building::Build;
 use crate::claims::claim_leaf;
+use crate::deeds::{Job, Raised};
 use crate::ending::retire;
+use crate::plan::Span;
+use arrayvec::ArrayVec;
 use compound_node::Entry;
 use insert_cases::Step;
 use key_bits::Key;
@@ -52,7 +55,7 @@ pub(crate) fn make_leaf<G: Gate>(
     ensures goes { WorksOn table.now G.becomes (seat.old, gate.old) (seat.new, gate.new) }
     ensures leaf { HasLeafWords (key.now, value) }
     ensures made { MatchOption result
-        ((seat.new.known.own ≡ []) × AllMissedFrom table.now.layout (words_for (length key.now)) seat.new.known.failed seat.old.known.steps)
+        (IsBuilding table.now seat.new build.new.made.items [] × AllMissedFrom table.now.layout (words_for (length key.now)) seat.new.known.failed seat.old.known.steps)
         (λ n. IsBuilding table.now seat.new build.new.made.items (of_leaf (item n key.now value) ∷ [])) }
     ensures few { seat.new.known.steps ≤ seat.old.known.steps + leaf_steps table.now.layout }
 {
@@ -89,32 +92,85 @@ fn stored_word(entry: Option<Entry>) -> u64
     }
 }
 
-/// The end of each change: makes its records ready, stores the word of the entry at the spot, marks the records that this unlinks
-/// (`build.gone`), unlocks the nodes `kept`, the first one first, and then the anchor, where that is locked.
+/// The end of each change: makes its records ready, stores the word of what was raised above the span, marks the records that this
+/// unlinks, and unlocks the nodes that stay, the one above the span first, and then the anchor, where that is locked.
 pub(crate) fn publish_change<G: Gate>(
     table: &HotTable,
     seat: &mut TableSeat,
     gate: &mut G,
     build: &mut Build,
-    spot: Spot,
-    entry: Option<Entry>,
-    kept: &[Step],
-    anchor: bool,
+    job: &Job<'_>,
+    raised: Raised,
 )
     requires own { IsSeatOf table.now seat.old }
-    requires range { HasSpot table.now.layout spot }
-    requires may { (x : Change) × (was : Option ℕ) × MayEnd table.now seat.old build.old.made.items spot (entry_word entry) x was build.old.gone.items }
-    requires records { AreInTable table.now.layout build.old.gone.items }
-    requires nodes { AreNodes table.now.layout kept.now }
-    requires kept { AreKept (nodes_of seat.old.known.locks) build.old.gone.items (numbers_of kept.now) × AreApart (numbers_of kept.now) }
-    requires anchored { IsAnchored anchor seat.old.known }
+    requires way { (m : ℕ) × IsWayOf table.now.layout seat.old.known m job.now.key.now job.now.way.now job.now.found }
+    requires within { (job.now.span.end ≤ job.now.span.len) × (job.now.span.len ≤ length job.now.way.now) }
+    requires locked { HasLockedSpan seat.old.known job.now.way.now job.now.span }
+    requires may { (x : Change) × (was : Option ℕ) × MayReplace table.now seat.old build.old.made.items job.now.way.now job.now.span raised x was }
     ensures run { HasRun table.now G.becomes (seat.old, gate.old) (seat.new, gate.new) }
-    ensures changed { (x : Change) (was : Option ℕ) → MayEnd table.now seat.old build.old.made.items spot (entry_word entry) x was build.old.gone.items →
+    ensures changed { (x : Change) (was : Option ℕ) → MayReplace table.now seat.old build.old.made.items job.now.way.now job.now.span raised x was →
         HasChanged seat.old.known seat.new.known x was }
     ensures few { seat.new.known.steps ≤
-        seat.old.known.steps + length build.old.made.items + length build.old.gone.items + length kept.now + 3 }
+        seat.old.known.steps + length build.old.made.items + length (leaf_gone raised.leaf) + locks_of job.now.span + 3 }
 {
+    let way = job.way;
+    let span = job.span;
+    name_gone(build, &way[span.end..raised.low], raised.leaf);
+    let kept = kept_steps(way, span, raised.low);
+    let spot = spot_above(way, span.end);
     ready_all(table, seat, gate, build.made.as_slice());
-    table.publish(seat, gate, spot, stored_word(entry));
-    retire(table, seat, gate, build.gone.as_slice(), kept, anchor);
+    table.publish(seat, gate, spot, stored_word(raised.entry));
+    retire(
+        table,
+        seat,
+        gate,
+        build.gone.as_slice(),
+        kept.as_slice(),
+        span.end == 0,
+    );
+}
+
+/// The change unlinks the nodes of these steps, and this leaf.
+fn name_gone(build: &mut Build, steps: &[Step], leaf: Option<u32>)
+    requires { length steps.now ≤ 2160 }
+    ensures gone { build.new.gone.items ≡ map (λ (s : StepView). a_node s.number) steps.now ++ leaf_gone leaf }
+    ensures made { build.new.made.items ≡ build.old.made.items }
+{
+    build.gone.clear();
+    for index in 0..steps.len() {
+        build.gone.push(Rec::Node(steps[index].number));
+    }
+    if let Some(number) = leaf {
+        build.gone.push(Rec::Leaf(number));
+    }
+}
+
+/// What a span keeps of its locked nodes: the one above it, if there is one, and the lowest, where that is at `low` and not below.
+fn kept_steps(way: &[Step], span: Span, low: usize) -> ArrayVec<Step, 2>
+    requires { (span.end ≤ low) × (low ≤ span.len) × (span.len ≤ low + 1) × (span.len ≤ length way.now) }
+    ensures { result.items ≡ slice_range way.now (span.end - 1) span.end ++ slice_range way.now low span.len }
+{
+    let mut kept = ArrayVec::new();
+    if span.end > 0 {
+        kept.push(way[span.end - 1]);
+    }
+    if low < span.len {
+        kept.push(way[low]);
+    }
+    kept
+}
+
+/// The spot that names what comes in the place of the nodes of the way from `end` on: in the node above them, or the root.
+fn spot_above(way: &[Step], end: usize) -> Spot
+    requires { end ≤ length way.now }
+    ensures { IsSpotAbove way.now end result }
+{
+    if end == 0 {
+        return Spot::Root;
+    }
+    let step = way[end - 1];
+    Spot::Slot {
+        node: step.number,
+        entry: step.at,
+    }
 }

@@ -1,73 +1,49 @@
 //! The end of a leaf: its node is made anew without it, or the root is empty.
 
-ghost use Rattle.std.specs.Prelude.{◌≡◌, ◌<◌, ℕ, [], IfErr, None, Ok, ◌≤◌, ◌+◌};
-ghost use Rattle.tries.specs.Keys.{Key as KeyView};
-ghost use Rattle.rowex_writing.specs.Changes.{HasNoRoom, HasRun, HasTaken, HasTakenPlan};
+ghost use Rattle.std.specs.Prelude.{◌≡◌, ◌<◌, ℕ, [], IfErr, IfOk, None, Some, ◌≤◌, ◌+◌};
+ghost use Rattle.rowex_walks.specs.Writer.{removed_change};
+ghost use Rattle.tries.specs.Content.{item};
+ghost use Rattle.rowex_writing.specs.Changes.{HasTakenPlan};
+ghost use Rattle.rowex_writing.specs.Counts.{deed_steps};
+ghost use Rattle.rowex_writing.specs.Deeds.{HasNoneFree, HasRaised, MayReplace};
+ghost use Rattle.rowex_writing.specs.Going.{WorksOn};
 ghost use Rattle.rowex_writing.specs.Locks.{locks_of};
-ghost use Rattle.rowex_writing.specs.Taking.{HasLeafBelow, HasOnlyLeaf};
+ghost use Rattle.rowex_writing.specs.Taking.{HasLeafBelow};
 ghost use Rattle.rowex_writing.specs.declared.plan.Deed.TheVariants.{Take};
-ghost use Rattle.rowex_reading.specs.declared.descent.Found.TheVariants.{Leaf as LeafFound};
-ghost use Rattle.rowex_writing.specs.Counts.{change_steps};
 
 use crate::building::{Build, raise_without};
-use crate::ending::undo;
-use crate::plan::{Full, Span};
-use crate::publishing::publish_change;
-use crate::putting::spot_above;
-use insert_cases::Step;
-use key_bits::Key;
-use rowex_core::{Gate, Rec, Spot};
+use crate::deeds::{Job, Raised};
+use crate::plan::Full;
+use rowex_core::Gate;
 use rowex_reading::Found;
 use rowex_table::{HotTable, TableSeat};
 
-/// The leaf that has the key goes: what is left of its node takes the node's place, and a root that was the leaf is empty. Its nodes are locked and checked.
+/// The leaf that has the key goes: what is left of its node takes the node's place, and a root that was the leaf is empty.
 pub(crate) fn take_leaf<G: Gate>(
     table: &HotTable,
     seat: &mut TableSeat,
     gate: &mut G,
     build: &mut Build,
-    way: &[Step],
-    key: &Key,
-    found: Found,
-    span: Span,
-) -> Result<(), Full>
-    requires taken { HasTakenPlan table.now seat.old key.now way.now found span Take }
-    ensures run { HasRun table.now G.becomes (seat.old, gate.old) (seat.new, gate.new) }
-    ensures taken { result ≡ Ok tt → HasTaken seat.old.known seat.new.known key.now found }
-    ensures full { IfErr result (λ full. (full ≡ Full.Nodes) × HasNoRoom table.now.layout key.now seat.old.known seat.new.known full) }
-    ensures few { seat.new.known.steps ≤ seat.old.known.steps + change_steps table.now.layout (locks_of span) }
+    job: &Job<'_>,
+) -> Result<Raised, Full>
+    requires taken { HasTakenPlan table.now seat.old job.now Take }
+    ensures goes { WorksOn table.now G.becomes (seat.old, gate.old) (seat.new, gate.new) }
+    ensures raised { IfOk result (HasRaised table.now seat.old.known seat.new build.new.made.items job.now Take) }
+    ensures full { IfErr result (λ full. (full ≡ Full.Nodes) × HasNoneFree table.now seat.old.known seat.new build.new.made.items job.now full) }
+    ensures few { seat.new.known.steps ≤ seat.old.known.steps + deed_steps table.now.layout (locks_of job.now.span) result }
 {
     build.made.clear();
-    match found {
-        Found::Nothing => unreachable!(),
-        Found::Leaf { number, .. } => {
-            if span.len > 0 {
-                return remake_without(table, seat, gate, build, way, key, number, span);
-            }
-            empty_root(table, seat, gate, build, number);
-            Ok(())
-        }
+    let Found::Leaf { number, .. } = job.found else {
+        unreachable!()
+    };
+    if job.span.len > 0 {
+        return remake_without(table, seat, gate, build, job, number);
     }
-}
-
-/// The root's only leaf goes.
-fn empty_root<G: Gate>(
-    table: &HotTable,
-    seat: &mut TableSeat,
-    gate: &mut G,
-    build: &mut Build,
-    number: u32,
-)
-    requires only { (key : KeyView) × (value : ℕ) × HasOnlyLeaf table.now seat.old number key value }
-    requires made { build.old.made.items ≡ [] }
-    ensures run { HasRun table.now G.becomes (seat.old, gate.old) (seat.new, gate.new) }
-    ensures taken { (key : KeyView) (value : ℕ) → HasOnlyLeaf table.now seat.old number key value →
-        HasTaken seat.old.known seat.new.known key (LeafFound number value None) }
-    ensures few { seat.new.known.steps ≤ seat.old.known.steps + 4 }
-{
-    build.gone.clear();
-    build.gone.push(Rec::Leaf(number));
-    publish_change(table, seat, gate, build, Spot::Root, None, &[], true);
+    Ok(Raised {
+        entry: None,
+        low: 0,
+        leaf: Some(number),
+    })
 }
 
 /// What is left of the last node without the leaf takes its place.
@@ -76,39 +52,26 @@ fn remake_without<G: Gate>(
     seat: &mut TableSeat,
     gate: &mut G,
     build: &mut Build,
-    way: &[Step],
-    key: &Key,
+    job: &Job<'_>,
     number: u32,
-    span: Span,
-) -> Result<(), Full>
-    requires below { (m : ℕ) × (value : ℕ) × HasLeafBelow table.now seat.old m key.now way.now number value span }
+) -> Result<Raised, Full>
+    requires below { (m : ℕ) × (value : ℕ) × HasLeafBelow table.now seat.old m job.now.key.now job.now.way.now number value job.now.span }
     requires made { build.old.made.items ≡ [] }
-    ensures run { HasRun table.now G.becomes (seat.old, gate.old) (seat.new, gate.new) }
-    ensures taken { (m value : ℕ) → HasLeafBelow table.now seat.old m key.now way.now number value span → result ≡ Ok tt →
-        HasTaken seat.old.known seat.new.known key.now (LeafFound number value None) }
-    ensures full { IfErr result (λ full. (full ≡ Full.Nodes) × HasNoRoom table.now.layout key.now seat.old.known seat.new.known full) }
-    ensures few { seat.new.known.steps ≤ seat.old.known.steps + change_steps table.now.layout (locks_of span) }
+    ensures goes { WorksOn table.now G.becomes (seat.old, gate.old) (seat.new, gate.new) }
+    ensures raised { (m value : ℕ) → HasLeafBelow table.now seat.old m job.now.key.now job.now.way.now number value job.now.span →
+        IfOk result (λ raised. MayReplace table.now seat.new build.new.made.items job.now.way.now job.now.span raised
+        (removed_change seat.old.known.pass (item number job.now.key.now value)) (Some value)) }
+    ensures full { IfErr result (λ full. (full ≡ Full.Nodes) × HasNoneFree table.now seat.old.known seat.new build.new.made.items job.now full) }
+    ensures few { seat.new.known.steps ≤ seat.old.known.steps + deed_steps table.now.layout (locks_of job.now.span) result }
 {
-    let anchor = span.end == 0;
-    let first = span.end.saturating_sub(1);
-    let lowest = way[span.end].number;
     build.left_nodes = table.layout().nodes;
-    let Some(entry) = raise_without(table, seat, gate, build, key, lowest) else {
-        undo(
-            table,
-            seat,
-            gate,
-            &build.made,
-            &way[first..span.len],
-            anchor,
-        );
+    let lowest = job.way[job.span.end].number;
+    let Some(entry) = raise_without(table, seat, gate, build, job.key, lowest) else {
         return Err(Full::Nodes);
     };
-    build.gone.clear();
-    build.gone.push(Rec::Node(lowest));
-    build.gone.push(Rec::Leaf(number));
-    let spot = spot_above(way, span.end);
-    let above = &way[first..span.end];
-    publish_change(table, seat, gate, build, spot, Some(entry), above, anchor);
-    Ok(())
+    Ok(Raised {
+        entry: Some(entry),
+        low: job.span.len,
+        leaf: Some(number),
+    })
 }

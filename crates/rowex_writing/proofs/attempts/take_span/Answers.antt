@@ -4,11 +4,10 @@ use Rattle.rowex_reading.proofs.Seeing.{later_trans}
 use Rattle.rowex_writing.proofs.Onward.{longer, run_possible, run_seat}
 use Rattle.rowex_writing.proofs.Confirming.{span_later}
 use Rattle.rowex_writing.proofs.Runs.{goes_run, once_run, tries_once, works_run}
-use Rattle.rowex_writing.proofs.Spans.{led_nodes}
+use Rattle.rowex_writing.proofs.Keeping.{step_nodes}
 use Rattle.rowex_writing.proofs.Ways.{way_apart, way_led}
 use Rattle.rowex_reading.proofs.Ways.{way_later}
 use Rattle.rowex_writing.proofs.Works.{works_count, works_later, works_seat}
-use Rattle.rowex_writing.proofs.Counting.{slice_few}
 use Rattle.rowex_writing.proofs.attempts.take_span.Goals as goal
 
 not_taken : {A : Type 0} → false ≡ true → A
@@ -65,6 +64,7 @@ returns-then-check_span-clause-taken g c e m w =
       seat = run_seat table g.G.Gate.becomes _ _ (goes_run table g.G.Gate.becomes _ _ c.check_span.ensures.reads.goes) (works_seat table g.G.Gate.becomes _ _ c.lock_span.ensures.tries.1.1 c.requires.own);
       possible = c.check_span.ensures.possible;
       own = c.check_span.ensures.reads.own ∙ (c.lock_span.ensures.same ∙ c.requires.rest.own);
+      within = c.requires.span;
       way_of = way_later table.layout c.args.seat.now.known c.check_span.new.seat.known m c.args.key.now c.args.way.now c.args.found
           (later_trans (works_later table g.G.Gate.becomes _ _ c.lock_span.ensures.tries.1.1) c.check_span.ensures.reads.goes.stays.0) w;
       locked = span_later _ _ c.args.way.now c.args.span c.check_span.ensures.reads.goes.stays (c.lock_span.ensures.locked c.if-not-lock_span.false);
@@ -77,16 +77,16 @@ undo-requires-clause-own g c =
     run_seat table g.G.Gate.becomes _ _ (goes_run table g.G.Gate.becomes _ _ c.check_span.ensures.reads.goes) (works_seat table g.G.Gate.becomes _ _ c.lock_span.ensures.tries.1.1 c.requires.own)
 
 pub undo-requires-clause-nodes : goal.undo-requires-clause-nodes
-undo-requires-clause-nodes g c =
-    led_nodes c.args.table.now.layout c.args.seat.now.known c.args.way.now c.saturating_sub.result c.args.span.len
-    (way_led c.args.table.now.layout c.args.seat.now.known c.requires.way.0 c.args.key.now c.args.way.now c.args.found c.requires.way.1)
+undo-requires-clause-nodes g c = step_nodes c.args.table.now.layout c.args.seat.now.known c.requires.way.0 c.args.key.now c.args.way.now c.args.found c.requires.way.1
+
+pub undo-requires-clause-locked : goal.undo-requires-clause-locked
+undo-requires-clause-locked g c = span_later _ _ c.args.way.now c.args.span c.check_span.ensures.reads.goes.stays (c.lock_span.ensures.locked c.if-not-lock_span.false)
 
 pub returns-clause-run : goal.returns-clause-run
 returns-clause-run g c =
     let table = c.args.table.now in
     let (locks, tries, low, all, steps) = c.lock_span.ensures.tries in
-    let whole = all c.if-not-lock_span.false in
-    let back = slice_few c.args.way.now c.saturating_sub.result c.args.span.len in (
+    let whole = all c.if-not-lock_span.false in (
       locks,
       once_run table g.G.Gate.becomes _ _ _
           (once_run table g.G.Gate.becomes _ _ _ (tries_once table g.G.Gate.becomes _ _ tries) (goes_run table g.G.Gate.becomes _ _ c.check_span.ensures.reads.goes))
@@ -94,7 +94,7 @@ returns-clause-run g c =
       omega (arith, whole),
       low,
       λ e. not_taken e,
-      omega (arith, whole, c.lock_span.ensures.few c.if-not-lock_span.false, c.check_span.ensures.few, c.undo.ensures.few, back, c.saturating_sub.ensures, c.requires.span.0),
+      omega (arith, whole, c.lock_span.ensures.few c.if-not-lock_span.false, c.check_span.ensures.few, c.undo.ensures.few, c.requires.span.0),
     )
 
 pub returns-clause-later : goal.returns-clause-later

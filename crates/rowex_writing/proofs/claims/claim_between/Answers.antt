@@ -1,7 +1,5 @@
 -- No class yet; one more in which no record is free; and one in which one is.
 use Rattle.std.proofs.Common.{arith, ◌∙◌}
-use Rattle.rowex_records.specs.Claims.{record_of}
-use Rattle.rowex_records.proofs.Claimed.{more_since}
 use Rattle.rowex_writing.proofs.Classes.{missed_more}
 use Rattle.rowex_writing.proofs.Locking.{goes_more, seat_of}
 use Rattle.rowex_writing.proofs.Making.{steps_rise}

@@ -1,5 +1,5 @@
 -- The records before this one are not free.
-use Rattle.std.proofs.Common.{◌≡◌, ℕ, ◌+◌, ◌-◌, ◌*◌, ◌≤◌}
+use Rattle.std.proofs.Common.{◌≡◌, ◌+◌, ◌-◌, ◌*◌, ◌≤◌}
 use Rattle.rowex_writing.specs.Classes.{AllMissedBetween}
 use Rattle.rowex_writing.specs.Going.{WorksOn}
 use Rattle.rowex_writing.proofs.claims.claim_between.Given as goal

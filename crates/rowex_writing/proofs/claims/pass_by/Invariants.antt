@@ -1,5 +1,5 @@
 -- What was passed by ends at or below the last leaf record.
-use Rattle.std.proofs.Common.{ℕ, ◌-◌, ◌≤◌}
+use Rattle.std.proofs.Common.{◌-◌, ◌≤◌}
 use Rattle.rowex_writing.proofs.claims.pass_by.Given as goal
 
 abbrev pub invariant-loop-from : goal.invariant-loop-from

@@ -1,6 +1,10 @@
 -- What is held is given up, what is locked is unlocked, and the anchor at last.
+use Rattle.std.proofs.Common.{sym, subst}
+use Rattle.std.specs.Prelude.{slice_range}
 use Rattle.rowex_core.specs.declared.event.Act.TheVariants.{Unlock}
 use Rattle.rowex_core.specs.declared.event.Target.TheVariants.{Anchor}
+use Rattle.rowex_writing.specs.Locks.{HasJustLocked, numbers_of}
+use Rattle.rowex_writing.proofs.Growths.{range_nodes}
 use Rattle.rowex_writing.proofs.Works.{works_one, works_more, works_seat}
 use Rattle.rowex_writing.proofs.Retiring.{given_works, given_locks}
 use Rattle.rowex_writing.proofs.ending.undo.Goals as goal
@@ -10,9 +14,13 @@ unlock_nodes-requires-clause-own g c =
     works_seat c.args.table.now g.G.Gate.becomes (c.args.seat.now, c.args.gate.now) (c.give_up_all.new.seat, c.give_up_all.new.gate)
     (given_works c.args.table.now g.G.Gate.becomes c.args.held.now (c.args.seat.now, c.args.gate.now) (c.give_up_all.new.seat, c.give_up_all.new.gate) c.give_up_all.ensures) c.requires.own
 
+pub unlock_nodes-requires-clause-nodes : goal.unlock_nodes-requires-clause-nodes
+unlock_nodes-requires-clause-nodes g c = range_nodes c.args.table.now.layout c.args.way.now c.saturating_sub.result c.args.span.len c.requires.nodes
+
 pub unlock_nodes-requires-clause-locked : goal.unlock_nodes-requires-clause-locked
 unlock_nodes-requires-clause-locked g c =
-    given_locks c.args.table.now g.G.Gate.becomes c.args.held.now (c.args.seat.now, c.args.gate.now) (c.give_up_all.new.seat, c.give_up_all.new.gate) c.give_up_all.ensures _ c.requires.locked
+    subst (λ n. HasJustLocked c.give_up_all.new.seat.known (numbers_of (slice_range c.args.way.now n c.args.span.len))) (sym c.saturating_sub.ensures)
+    (given_locks c.args.table.now g.G.Gate.becomes c.args.held.now (c.args.seat.now, c.args.gate.now) (c.give_up_all.new.seat, c.give_up_all.new.gate) c.give_up_all.ensures _ c.requires.locked.nodes)
 
 pub unlock-requires-clause-own : goal.unlock-requires-clause-own
 unlock-requires-clause-own g c =
@@ -20,15 +28,15 @@ unlock-requires-clause-own g c =
     let given = given_works table g.G.Gate.becomes c.args.held.now (c.args.seat.now, c.args.gate.now) (c.give_up_all.new.seat, c.give_up_all.new.gate) c.give_up_all.ensures in
     works_seat table g.G.Gate.becomes _ _ (works_more table g.G.Gate.becomes _ _ _ given c.unlock_nodes.ensures.works) c.requires.own
 
-pub returns-then-anchor-clause-works : goal.returns-then-anchor-clause-works
-returns-then-anchor-clause-works g c =
+pub returns-then-span-eq0-clause-works : goal.returns-then-span-eq0-clause-works
+returns-then-span-eq0-clause-works g c =
     let table = c.args.table.now in
     let given = given_works table g.G.Gate.becomes c.args.held.now (c.args.seat.now, c.args.gate.now) (c.give_up_all.new.seat, c.give_up_all.new.gate) c.give_up_all.ensures in
     let last = works_one table g.G.Gate.becomes (Unlock Anchor) (c.unlock_nodes.new.seat, c.unlock_nodes.new.gate) (c.unlock.new.seat, c.unlock.new.gate) tt c.unlock.ensures in
     works_more table g.G.Gate.becomes _ _ _ (works_more table g.G.Gate.becomes _ _ _ given c.unlock_nodes.ensures.works) last
 
-pub returns-else-anchor-clause-works : goal.returns-else-anchor-clause-works
-returns-else-anchor-clause-works g c =
+pub returns-else-span-eq0-clause-works : goal.returns-else-span-eq0-clause-works
+returns-else-span-eq0-clause-works g c =
     let table = c.args.table.now in
     let given = given_works table g.G.Gate.becomes c.args.held.now (c.args.seat.now, c.args.gate.now) (c.give_up_all.new.seat, c.give_up_all.new.gate) c.give_up_all.ensures in
     works_more table g.G.Gate.becomes _ _ _ given c.unlock_nodes.ensures.works

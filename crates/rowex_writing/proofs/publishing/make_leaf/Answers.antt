@@ -9,7 +9,7 @@ use Rattle.rowex_records.specs.Claims.{AllMissedFrom}
 use Rattle.rowex_rights.specs.Rises.{of_leaf}
 use Rattle.rowex_writing.specs.Building.{IsBuilding}
 use Rattle.rowex_writing.proofs.Locking.{goes_more, seat_of}
-use Rattle.rowex_writing.proofs.Making.{set_on, building_none, building_more}
+use Rattle.rowex_writing.proofs.Making.{set_on, building_none, building_on, building_more}
 use Rattle.rowex_writing.proofs.publishing.make_leaf.Goals as goal
 use Rattle.tries.specs.Content.{item}
 
@@ -27,7 +27,8 @@ returns-clause-leaf g c = record { key = c.requires.key; value = c.ranges.value.
 
 pub returns-in_err-number-clause-made : goal.returns-in_err-number-clause-made
 returns-in_err-number-clause-made g c = rw c.from_residual.ensures (
-  c.in_err-number.ensures.claims.0 ∙ c.requires.none,
+  subst (λ z. IsBuilding c.args.table.now c.claim_leaf.new.seat z []) (sym c.clear.ensures) (building_on c.args.table.now g.G.Gate.becomes (c.args.seat.now, c.args.gate.now) (c.claim_leaf.new.seat, c.claim_leaf.new.gate) [] []
+      c.claim_leaf.ensures.goes c.in_err-number.ensures.claims.0 (building_none c.args.table.now c.args.seat.now c.requires.own c.requires.possible c.requires.none)),
   subst (λ w. AllMissedFrom c.args.table.now.layout w c.claim_leaf.new.seat.known.failed c.args.seat.now.known.steps) c.words_for.ensures.words c.in_err-number.ensures.claims.1,
 )
 

@@ -1,0 +1,132 @@
+-- What goes and what stays for what a deed has raised, and where that is stored.
+use Rattle.std.specs.Prelude.{nat_eq, slice_range}
+use Rattle.std.proofs.Common.{◌≡◌, inl, inr, ℕ, suc, zero, ◌+◌, ◌-◌, ◌<◌, ◌≤◌, Bool, true, false, List, [], ◌++◌, length, map, Option, Some, None, Result, Ok, Err, IfOk, IfErr, refl, sym, ap, subst, ◌∙◌, arith}
+use Rattle.std.proofs.lemmas.Bool.{eqb-true}
+use Rattle.std.proofs.lemmas.List.{length-append, length-map}
+use Rattle.std.proofs.lemmas.List.Elements.{All-append}
+use Rattle.insert_cases.specs.declared.choice.Step.{Step}
+use Rattle.moments.specs.Trades.{IsOf, AreApart}
+use Rattle.moments.specs.declared.Rec.{Rec}
+use Rattle.moments.specs.declared.Rec.TheVariants.{Node as a_node}
+use Rattle.moments.proofs.Members.{of_append, of_left}
+use Rattle.record_words.specs.declared.layout.Layout.{Layout}
+use Rattle.tries.specs.Keys.{Key}
+use Rattle.tries.proofs.Places.{spot_below}
+use Rattle.rowex_core.specs.Cores.{HasRecord}
+use Rattle.rowex_core.specs.Having.{AreKept}
+use Rattle.rowex_core.specs.declared.event.Spot.{Spot}
+use Rattle.rowex_core.specs.declared.event.Spot.TheVariants.{Root, Slot}
+use Rattle.rowex_core.specs.declared.known.Known.{Known}
+use Rattle.rowex_table.specs.Made.{nodes_of}
+use Rattle.rowex_table.specs.Rule.{HasSpot}
+use Rattle.rowex_reading.specs.Ways.{IsWayOf}
+use Rattle.rowex_reading.specs.declared.descent.Found.{Found}
+use Rattle.rowex_reading.specs.declared.descent.Found.TheVariants.{Leaf}
+use Rattle.rowex_table.specs.Made.{IsLater}
+use Rattle.rowex_table.specs.Seats.{TableView, SeatView}
+use Rattle.rowex_walks.specs.Writer.{added_change, removed_change}
+use Rattle.tries.specs.Content.{item}
+use Rattle.rowex_writing.specs.Changes.{IsStored, IsTaken}
+use Rattle.rowex_writing.specs.Deeds.{HasNoneFree, HasRaised, MayReplace, gone_of, kept_of, leaf_gone}
+use Rattle.rowex_writing.specs.declared.deeds.Job.{Job}
+use Rattle.rowex_writing.specs.declared.plan.Deed.TheVariants.{Grow, Take}
+use Rattle.rowex_writing.specs.declared.plan.Full.{Full}
+use Rattle.rowex_writing.specs.Locks.{AreNodes, HasLockedSpan, numbers_of}
+use Rattle.rowex_writing.specs.Putting.{IsSpotAbove}
+use Rattle.rowex_writing.specs.Retiring.{AreInTable, IsAnchored}
+use Rattle.rowex_writing.specs.declared.deeds.Raised.{Raised}
+use Rattle.rowex_writing.specs.declared.plan.Span.{Span}
+use Rattle.rowex_writing.proofs.Counting.{slice_few}
+use Rattle.rowex_writing.proofs.Growths.{full_since, kept_span, range_records, two_nodes}
+use Rattle.rowex_writing.proofs.Spans.{slice_none}
+
+-- ---- what goes
+no_node : (leaf : Option ℕ) (n : ℕ) → IsOf (a_node n) (leaf_gone leaf) → ⊥
+no_node None n h = h
+no_node (Some number) n (inl e) = cc
+no_node (Some number) n (inr h) = h
+
+with_leaf : (held : List ℕ) (nodes : List Rec) (kept : List ℕ) (leaf : Option ℕ) → AreKept held nodes kept → AreKept held (nodes ++ leaf_gone leaf) kept
+with_leaf held nodes kept leaf k = record {
+  only = λ n h. elim (k.only n h) [ inl i ↦ inl i | inr i ↦ inr (of_left (a_node n) nodes (leaf_gone leaf) i) ];
+  each = λ n h. ((k.each n h).0, λ g. elim (of_append (a_node n) nodes (leaf_gone leaf) g) [ inl i ↦ (k.each n h).1 i | inr i ↦ no_node leaf n i ]);
+}
+
+-- none is in any table
+pub none_in_table : (layout : Layout) → AreInTable layout []
+none_in_table layout = λ i d low. absurd (omega arith)
+
+-- where no node goes
+pub leaf_alone : (way : List Step) (end low : ℕ) (leaf : Option ℕ) → low ≡ end → map (λ (s : Step). a_node s.number) (slice_range way end low) ++ leaf_gone leaf ≡ leaf_gone leaf
+leaf_alone way end low leaf same = ap (λ (steps : List Step). map (λ (s : Step). a_node s.number) steps ++ leaf_gone leaf) (ap (slice_range way end) same ∙ slice_none way end)
+
+module _ (way : List Step) (span : Span) (raised : Raised) where
+  pub gone_few : length (gone_of way span raised) ≤ raised.low - span.end + length (leaf_gone raised.leaf)
+  gone_few =
+      let nodes = map (λ (s : Step). a_node s.number) (slice_range way span.end raised.low) in
+      omega (arith, length-append nodes (leaf_gone raised.leaf), length-map (slice_range way span.end raised.low) (λ (s : Step). a_node s.number), slice_few way span.end raised.low)
+
+  pub kept_few : length (kept_of way span raised) ≤ span.end - (span.end - 1) + (span.len - raised.low)
+  kept_few = omega (arith, length-append (slice_range way (span.end - 1) span.end) (slice_range way raised.low span.len), slice_few way (span.end - 1) span.end, slice_few way raised.low span.len)
+
+  pub gone_records : (layout : Layout) → AreNodes layout way → AreInTable layout (leaf_gone raised.leaf) → AreInTable layout (gone_of way span raised)
+  gone_records layout nodes leaf = All-append (HasRecord layout) (map (λ (s : Step). a_node s.number) (slice_range way span.end raised.low)) (leaf_gone raised.leaf) (range_records layout way span.end raised.low nodes) leaf
+
+  pub kept_nodes : (layout : Layout) → AreNodes layout way → AreNodes layout (kept_of way span raised)
+  kept_nodes layout nodes = two_nodes layout way (span.end - 1) span.end raised.low span.len nodes
+
+  pub kept_raised : (k : Known) → HasLockedSpan k way span → span.end ≤ raised.low → raised.low ≤ span.len →
+      AreKept (nodes_of k.locks) (gone_of way span raised) (numbers_of (kept_of way span raised)) × AreApart (numbers_of (kept_of way span raised))
+  kept_raised k locked from upto =
+      let (kept, apart) = kept_span k.locks way span.end raised.low span.len from upto locked.nodes.0 locked.nodes.1 in
+      (with_leaf (nodes_of k.locks) (map (λ (s : Step). a_node s.number) (slice_range way span.end raised.low)) (numbers_of (kept_of way span raised)) raised.leaf kept, apart)
+
+-- ---- where it is stored
+above_zero : (n : ℕ) → nat_eq n 0 ≡ false → 0 < n
+above_zero zero e = absurd cc
+above_zero (suc n) e = omega arith
+
+pub span_anchor : (k : Known) (way : List Step) (span : Span) → HasLockedSpan k way span → IsAnchored (nat_eq span.end 0) k
+span_anchor k way span locked = go (nat_eq span.end 0) refl
+  where
+    go : (is : Bool) → nat_eq span.end 0 ≡ is → IsAnchored is k
+    go true e = locked.top (eqb-true span.end 0 e)
+    go false e = locked.below (above_zero span.end e)
+
+pub spot_there : (layout : Layout) (k : Known) (m : ℕ) (key : Key) (way : List Step) (found : Found) → IsWayOf layout k m key way found → (end : ℕ) (spot : Spot) → IsSpotAbove way end spot → HasSpot layout spot
+spot_there layout k m key way found w end Root is = tt
+spot_there layout k m key way found w end (Slot n i) (s, low, at, number, place) =
+    let node = (w.nodes (end - 1) s at).2 in
+    let within = spot_below key node.forks in
+    (omega (arith, number, node.range), omega (arith, place, node.at, within, node.room))
+
+-- ---- what is raised for a deed
+pub grown_raised : (table : TableView) (a m : Known) (b : SeatView) (made : List Rec) (job : Job) (position first last leaf : ℕ) (r : Result Raised Full) → IsLater a m →
+    IsStored a.pass job.key.now job.value job.found (added_change a.pass (item leaf job.key.now job.value)) None →
+    IfOk r (λ raised. MayReplace table b made job.way.now job.span raised (added_change m.pass (item leaf job.key.now job.value)) None) → IfOk r (HasRaised table a b made job (Grow position first last))
+grown_raised table a m b made job position first last leaf (Ok raised) later stored may = (
+  added_change a.pass (item leaf job.key.now job.value),
+  None,
+  stored,
+  subst (λ q. MayReplace table b made job.way.now job.span raised (added_change q (item leaf job.key.now job.value)) None) later.pass may,
+)
+grown_raised table a m b made job position first last leaf (Err full) later stored may = tt
+
+pub taken_raised : (table : TableView) (a : Known) (b : SeatView) (made : List Rec) (job : Job) (number value : ℕ) (r : Result Raised Full) → job.found ≡ Leaf number value None →
+    IfOk r (λ raised. MayReplace table b made job.way.now job.span raised (removed_change a.pass (item number job.key.now value)) (Some value)) → IfOk r (HasRaised table a b made job Take)
+taken_raised table a b made job number value (Ok raised) is may = (
+  removed_change a.pass (item number job.key.now value),
+  Some value,
+  subst (λ f. IsTaken a.pass job.key.now f (removed_change a.pass (item number job.key.now value)) (Some value)) (sym is) (refl, refl),
+  may,
+)
+taken_raised table a b made job number value (Err full) is may = tt
+
+-- none was free since an earlier moment
+pub none_free_since : (table : TableView) (a m : Known) (b : SeatView) (made : List Rec) (job : Job) (r : Result Raised Full) → a.steps ≤ m.steps → IfErr r (HasNoneFree table m b made job) → IfErr r (HasNoneFree table a b made job)
+none_free_since table a m b made job (Ok raised) count none = tt
+none_free_since table a m b made job (Err full) count none = record {
+  not_made = none.not_made;
+  few = none.few;
+  full_of = full_since table.layout job.key.now a m b.known full count none.full_of;
+}

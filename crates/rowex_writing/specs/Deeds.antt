@@ -1,0 +1,54 @@
+-- What a deed has made, before any of it is linked, and what may come of it.
+use Rattle.std.specs.Prelude.{ℕ, ◌+◌, ◌-◌, ◌*◌, ◌≤◌, List, [], ◌∷◌, ◌++◌, map, length, slice_range, Option, Some, None}
+use Rattle.finite_map.specs.declared.Change.{Change}
+use Rattle.insert_cases.specs.declared.choice.Step.{Step}
+use Rattle.moments.specs.declared.Rec.{Rec}
+use Rattle.moments.specs.declared.Rec.TheVariants.{Node as a_node, Leaf as a_leaf}
+use Rattle.record_words.specs.Entry.{entry_word}
+use Rattle.rowex_core.specs.declared.event.Spot.{Spot}
+use Rattle.rowex_core.specs.declared.known.Known.{Known}
+use Rattle.rowex_table.specs.Seats.{TableView, SeatView}
+use Rattle.rowex_writing.specs.Building.{HasNotMade}
+use Rattle.rowex_writing.specs.Changes.{IsDone, IsFull, MayEnd}
+use Rattle.rowex_writing.specs.Locks.{locks_of}
+use Rattle.rowex_writing.specs.Putting.{IsSpotAbove}
+use Rattle.rowex_writing.specs.Retiring.{AreInTable}
+use Rattle.rowex_writing.specs.declared.deeds.Job.{Job}
+use Rattle.rowex_writing.specs.declared.deeds.Raised.{Raised}
+use Rattle.rowex_writing.specs.declared.plan.Deed.{Deed}
+use Rattle.rowex_writing.specs.declared.plan.Full.{Full}
+use Rattle.rowex_writing.specs.declared.plan.Span.{Span}
+
+-- the leaf that goes, if any
+abbrev pub leaf_gone : Option ℕ → List Rec
+leaf_gone None = []
+leaf_gone (Some number) = a_leaf number ∷ []
+
+-- the records that go: the nodes of the span before `low`, and the leaf
+abbrev pub gone_of : List Step → Span → Raised → List Rec
+gone_of way span raised = map (λ (s : Step). a_node s.number) (slice_range way span.end raised.low) ++ leaf_gone raised.leaf
+
+-- the locked nodes that stay: the one above the span, and those of the span from `low` on
+abbrev pub kept_of : List Step → Span → Raised → List Step
+kept_of way span raised = slice_range way (span.end - 1) span.end ++ slice_range way raised.low span.len
+
+-- All nodes of the span go, or all but the lowest. Once the records that the pass has made are ready, it may make this change by a
+-- store of what is raised above the span.
+pub record MayReplace (table : TableView) (a : SeatView) (made : List Rec) (way : List Step) (span : Span) (raised : Raised) (x : Change) (was : Option ℕ) : Type 0 where
+  pub from : span.end ≤ raised.low
+  pub upto : raised.low ≤ span.len
+  pub most : span.len ≤ raised.low + 1
+  pub leaf : AreInTable table.layout (leaf_gone raised.leaf)
+  pub ends : (spot : Spot) → IsSpotAbove way span.end spot → MayEnd table a made spot (entry_word raised.entry) x was (gone_of way span raised)
+  pub few : length made + length (leaf_gone raised.leaf) ≤ 2 * locks_of span
+
+-- the pass has made what the deed asks for, since it knew k
+abbrev pub HasRaised : TableView → Known → SeatView → List Rec → Job → Deed → Raised → Type 0
+HasRaised table k b made job deed raised =
+    (x : Change) × (was : Option ℕ) × IsDone k.pass deed job.key.now job.value job.found x was × MayReplace table b made job.way.now job.span raised x was
+
+-- A record was wanted since the pass knew k, and none was free. The pass has those that it has made so far.
+pub record HasNoneFree (table : TableView) (k : Known) (b : SeatView) (made : List Rec) (job : Job) (full : Full) : Type 0 where
+  pub not_made : HasNotMade table b made
+  pub few : length made ≤ 2 * locks_of job.span
+  pub full_of : IsFull table.layout job.key.now k b.known full
