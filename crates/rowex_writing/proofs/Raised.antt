@@ -27,7 +27,7 @@ use Rattle.rowex_table.specs.Seats.{TableView, SeatView}
 use Rattle.rowex_walks.specs.Writer.{added_change, removed_change}
 use Rattle.tries.specs.Content.{item}
 use Rattle.rowex_writing.specs.Changes.{IsStored, IsTaken}
-use Rattle.rowex_writing.specs.Deeds.{HasNoneFree, HasRaised, MayReplace, gone_of, kept_of, leaf_gone}
+use Rattle.rowex_writing.specs.Deeds.{HasNoneFree, HasRaised, MayReplace, gone_for, kept_for, leaf_gone}
 use Rattle.rowex_writing.specs.declared.deeds.Job.{Job}
 use Rattle.rowex_writing.specs.declared.plan.Deed.TheVariants.{Grow, Take}
 use Rattle.rowex_writing.specs.declared.plan.Full.{Full}
@@ -61,25 +61,25 @@ pub leaf_alone : (way : List Step) (end low : ℕ) (leaf : Option ℕ) → low �
 leaf_alone way end low leaf same = ap (λ (steps : List Step). map (λ (s : Step). a_node s.number) steps ++ leaf_gone leaf) (ap (slice_range way end) same ∙ slice_none way end)
 
 module _ (way : List Step) (span : Span) (raised : Raised) where
-  pub gone_few : length (gone_of way span raised) ≤ raised.low - span.end + length (leaf_gone raised.leaf)
+  pub gone_few : length (gone_for way span raised) ≤ raised.low - span.end + length (leaf_gone raised.leaf)
   gone_few =
       let nodes = map (λ (s : Step). a_node s.number) (slice_range way span.end raised.low) in
       omega (arith, length-append nodes (leaf_gone raised.leaf), length-map (slice_range way span.end raised.low) (λ (s : Step). a_node s.number), slice_few way span.end raised.low)
 
-  pub kept_few : length (kept_of way span raised) ≤ span.end - (span.end - 1) + (span.len - raised.low)
+  pub kept_few : length (kept_for way span raised) ≤ span.end - (span.end - 1) + (span.len - raised.low)
   kept_few = omega (arith, length-append (slice_range way (span.end - 1) span.end) (slice_range way raised.low span.len), slice_few way (span.end - 1) span.end, slice_few way raised.low span.len)
 
-  pub gone_records : (layout : Layout) → AreNodes layout way → AreInTable layout (leaf_gone raised.leaf) → AreInTable layout (gone_of way span raised)
+  pub gone_records : (layout : Layout) → AreNodes layout way → AreInTable layout (leaf_gone raised.leaf) → AreInTable layout (gone_for way span raised)
   gone_records layout nodes leaf = All-append (HasRecord layout) (map (λ (s : Step). a_node s.number) (slice_range way span.end raised.low)) (leaf_gone raised.leaf) (range_records layout way span.end raised.low nodes) leaf
 
-  pub kept_nodes : (layout : Layout) → AreNodes layout way → AreNodes layout (kept_of way span raised)
+  pub kept_nodes : (layout : Layout) → AreNodes layout way → AreNodes layout (kept_for way span raised)
   kept_nodes layout nodes = two_nodes layout way (span.end - 1) span.end raised.low span.len nodes
 
   pub kept_raised : (k : Known) → HasLockedSpan k way span → span.end ≤ raised.low → raised.low ≤ span.len →
-      AreKept (nodes_of k.locks) (gone_of way span raised) (numbers_of (kept_of way span raised)) × AreApart (numbers_of (kept_of way span raised))
+      AreKept (nodes_of k.locks) (gone_for way span raised) (numbers_of (kept_for way span raised)) × AreApart (numbers_of (kept_for way span raised))
   kept_raised k locked from upto =
       let (kept, apart) = kept_span k.locks way span.end raised.low span.len from upto locked.nodes.0 locked.nodes.1 in
-      (with_leaf (nodes_of k.locks) (map (λ (s : Step). a_node s.number) (slice_range way span.end raised.low)) (numbers_of (kept_of way span raised)) raised.leaf kept, apart)
+      (with_leaf (nodes_of k.locks) (map (λ (s : Step). a_node s.number) (slice_range way span.end raised.low)) (numbers_of (kept_for way span raised)) raised.leaf kept, apart)
 
 -- ---- where it is stored
 above_zero : (n : ℕ) → nat_eq n 0 ≡ false → 0 < n

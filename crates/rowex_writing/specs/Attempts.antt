@@ -21,7 +21,7 @@ use Rattle.rowex_reading.specs.Seen.{Sure, since}
 use Rattle.rowex_table.specs.Runs.{Runs}
 use Rattle.rowex_table.specs.Seats.{TableView, SeatView}
 use Rattle.rowex_table.specs.Stays.{LeavesPin}
-use Rattle.rowex_writing.specs.Changes.{HasChanged, IsDone, IsFull}
+use Rattle.rowex_writing.specs.Changes.{HasChanged, IsDeedChange, IsFull}
 use Rattle.rowex_writing.specs.Counts.{attempt_steps, most_locks, most_nodes}
 use Rattle.rowex_writing.specs.Locks.{HasMetLock, TriesLocksOnce, targets_of}
 use Rattle.rowex_writing.specs.declared.plan.Ask.{Ask}
@@ -109,7 +109,7 @@ refusal_of Leaves = FullLeaves
 
 -- what is done at the lower end of a span has been done: the key has the value, or it is absent
 abbrev pub HasDone : Known → Known → Deed → Key → ℕ → Found → Type 0
-HasDone k j deed key value found = (x : Change) × (was : Option ℕ) × IsDone k.pass deed key value found x was × HasChanged k j x was
+HasDone k j deed key value found = (x : Change) × (was : Option ℕ) × IsDeedChange k.pass deed key value found x was × HasChanged k j x was
 
 -- The attempt was answered: it has changed nothing, and no change of its own was added; or it has made just the change of the reply.
 abbrev pub HasAnswered : Known → Known → Ask → Key → ℕ → Reply → Type 0

@@ -138,6 +138,6 @@ IsTaken q key (Leaf number held None) x was = (x ≡ record { pass = q; key = ke
 IsTaken q key found x was = ⊥
 
 -- the change of a deed: the key gets the value, or is taken away
-abbrev pub IsDone : ℕ → Deed → Key → ℕ → Found → Change → Option ℕ → Type 0
-IsDone q Take key value found x was = IsTaken q key found x was
-IsDone q deed key value found x was = IsStored q key value found x was
+abbrev pub IsDeedChange : ℕ → Deed → Key → ℕ → Found → Change → Option ℕ → Type 0
+IsDeedChange q Take key value found x was = IsTaken q key found x was
+IsDeedChange q deed key value found x was = IsStored q key value found x was

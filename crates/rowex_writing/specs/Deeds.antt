@@ -9,7 +9,7 @@ use Rattle.rowex_core.specs.declared.event.Spot.{Spot}
 use Rattle.rowex_core.specs.declared.known.Known.{Known}
 use Rattle.rowex_table.specs.Seats.{TableView, SeatView}
 use Rattle.rowex_writing.specs.Building.{HasNotMade}
-use Rattle.rowex_writing.specs.Changes.{IsDone, IsFull, MayEnd}
+use Rattle.rowex_writing.specs.Changes.{IsDeedChange, IsFull, MayEnd}
 use Rattle.rowex_writing.specs.Locks.{locks_of}
 use Rattle.rowex_writing.specs.Putting.{IsSpotAbove}
 use Rattle.rowex_writing.specs.Retiring.{AreInTable}
@@ -25,12 +25,12 @@ leaf_gone None = []
 leaf_gone (Some number) = a_leaf number ∷ []
 
 -- the records that go: the nodes of the span before `low`, and the leaf
-abbrev pub gone_of : List Step → Span → Raised → List Rec
-gone_of way span raised = map (λ (s : Step). a_node s.number) (slice_range way span.end raised.low) ++ leaf_gone raised.leaf
+abbrev pub gone_for : List Step → Span → Raised → List Rec
+gone_for way span raised = map (λ (s : Step). a_node s.number) (slice_range way span.end raised.low) ++ leaf_gone raised.leaf
 
 -- the locked nodes that stay: the one above the span, and those of the span from `low` on
-abbrev pub kept_of : List Step → Span → Raised → List Step
-kept_of way span raised = slice_range way (span.end - 1) span.end ++ slice_range way raised.low span.len
+abbrev pub kept_for : List Step → Span → Raised → List Step
+kept_for way span raised = slice_range way (span.end - 1) span.end ++ slice_range way raised.low span.len
 
 -- All nodes of the span go, or all but the lowest. Once the records that the pass has made are ready, it may make this change by a
 -- store of what is raised above the span.
@@ -39,13 +39,13 @@ pub record MayReplace (table : TableView) (a : SeatView) (made : List Rec) (way 
   pub upto : raised.low ≤ span.len
   pub most : span.len ≤ raised.low + 1
   pub leaf : AreInTable table.layout (leaf_gone raised.leaf)
-  pub ends : (spot : Spot) → IsSpotAbove way span.end spot → MayEnd table a made spot (entry_word raised.entry) x was (gone_of way span raised)
+  pub ends : (spot : Spot) → IsSpotAbove way span.end spot → MayEnd table a made spot (entry_word raised.entry) x was (gone_for way span raised)
   pub few : length made + length (leaf_gone raised.leaf) ≤ 2 * locks_of span
 
 -- the pass has made what the deed asks for, since it knew k
 abbrev pub HasRaised : TableView → Known → SeatView → List Rec → Job → Deed → Raised → Type 0
 HasRaised table k b made job deed raised =
-    (x : Change) × (was : Option ℕ) × IsDone k.pass deed job.key.now job.value job.found x was × MayReplace table b made job.way.now job.span raised x was
+    (x : Change) × (was : Option ℕ) × IsDeedChange k.pass deed job.key.now job.value job.found x was × MayReplace table b made job.way.now job.span raised x was
 
 -- A record was wanted since the pass knew k, and none was free. The pass has those that it has made so far.
 pub record HasNoneFree (table : TableView) (k : Known) (b : SeatView) (made : List Rec) (job : Job) (full : Full) : Type 0 where
