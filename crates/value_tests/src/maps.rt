@@ -156,43 +156,37 @@ fn expect_scan(rt: &impl Abort, scan: Result<Scan, AllocError>, want: &[(&[u8], 
     }
 }
 
+/// Two keys with their values.
+const PAIRS: [(&[u8], u64); 2] = [(b"a", 5), (b"b", 6)];
+
+/// How many of them are held, a range and a limit, and what a scan gives: its pairs, and whether there are more.
+const SCANS: [(usize, &[u8], &[u8], usize, &[(&[u8], u64)], bool); 11] = [
+    (0, b"", b"\xff", 10, &[], false),
+    (0, b"a", b"b", 0, &[], false),
+    (1, b"", b"\xff", 1, &[(b"a", 5)], false),
+    (1, b"b", b"\xff", 1, &[], false),
+    (2, b"a", b"b", 1, &[(b"a", 5)], true),
+    (2, b"a", b"b", 2, &PAIRS, false),
+    (2, b"a", b"b", 0, &[], true),
+    (2, b"b", b"a", 5, &[], false),
+    (2, b"b", b"b", 2, &[(b"b", 6)], false),
+    (2, b"", b"a", 1, &[(b"a", 5)], false),
+    (2, b"", b"", 2, &[], false),
+];
+
 // With no key, with a = 5 alone, and with b = 6 beside it.
 #[test]
 fn scans_give_the_first_pairs(rt: HostRuntime) {
-    let pairs: [(&[u8], u64); 2] = [(b"a", 5), (b"b", 6)];
-    let cases: [(usize, &[u8], &[u8], usize, &[(&[u8], u64)], bool); 11] = [
-        (0, b"", b"\xff", 10, &[], false),
-        (0, b"a", b"b", 0, &[], false),
-        (1, b"", b"\xff", 1, &pairs[..1], false),
-        (1, b"b", b"\xff", 1, &[], false),
-        (2, b"a", b"b", 1, &pairs[..1], true),
-        (2, b"a", b"b", 2, &pairs, false),
-        (2, b"a", b"b", 0, &[], true),
-        (2, b"b", b"a", 5, &[], false),
-        (2, b"b", b"b", 2, &pairs[1..], false),
-        (2, b"", b"a", 1, &pairs[..1], false),
-        (2, b"", b"", 2, &[], false),
-    ];
-    for (held, from, upto, limit, want, more) in cases.iter() {
+    for (held, from, upto, limit, want, more) in SCANS {
         let (mut trie, mut index) = (PlainTrie::new(rt.alloc()), PlainIndex::new(rt.alloc()));
-        for (bytes, value) in pairs.iter().take(*held) {
+        for (bytes, value) in PAIRS.iter().take(held) {
             let key = key(&rt, bytes);
             assert!(rt; trie.insert(&key, *value).is_ok());
             assert!(rt; index.apply(Call::Insert(key, *value)).is_ok());
         }
         let (from, upto) = (key(&rt, from), key(&rt, upto));
-        expect_scan(
-            &rt,
-            trie.scan(rt.alloc(), &from, &upto, *limit),
-            want,
-            *more,
-        );
-        expect_scan(
-            &rt,
-            index.scan(rt.alloc(), &from, &upto, *limit),
-            want,
-            *more,
-        );
+        expect_scan(&rt, trie.scan(rt.alloc(), &from, &upto, limit), want, more);
+        expect_scan(&rt, index.scan(rt.alloc(), &from, &upto, limit), want, more);
     }
 }
 
@@ -319,30 +313,47 @@ fn call_both(
     number: u64,
 ) {
     let value = number / 4;
-    if number % 4 == 0 {
-        assert!(rt; trie.insert(&key, value).ok() == index.apply(Call::Insert(key, value)).ok());
-    } else if number % 4 == 1 {
-        assert!(rt; trie.upsert(&key, value).ok() == index.apply(Call::Upsert(key, value)).ok());
-    } else if number % 4 == 2 {
-        let found = match trie.get(&key) {
-            Some(value) => Reply::Value(value),
-            None => Reply::Absent,
-        };
-        assert!(rt; index.apply(Call::Get(key)).ok() == Some(found));
-    } else {
-        let last = crate::nodes::key(rt, &[0xff; 240]);
-        let limit = (value % 4) as usize;
-        match (
-            trie.scan(alloc, &key, &last, limit),
-            index.scan(alloc, &key, &last, limit),
-        ) {
-            (Ok(found), Ok(want)) => {
-                assert!(rt; found.more == want.more);
-                assert!(rt; found.pairs.as_slice() == want.pairs.as_slice());
-            }
-            _ => panic!(rt; "no memory"),
-        }
+    let (found, want) = match number % 4 {
+        0 => (
+            trie.insert(&key, value),
+            index.apply(Call::Insert(key, value)),
+        ),
+        1 => (
+            trie.upsert(&key, value),
+            index.apply(Call::Upsert(key, value)),
+        ),
+        2 => (Ok(held(trie, &key)), index.apply(Call::Get(key))),
+        _ => return scan_both(rt, alloc, trie, index, &key, (value % 4) as usize),
+    };
+    assert!(rt; found.ok() == want.ok());
+}
+
+/// What a trie holds of a key.
+fn held(trie: &PlainTrie, key: &Key) -> Reply {
+    match trie.get(key) {
+        Some(value) => Reply::Value(value),
+        None => Reply::Absent,
     }
+}
+
+/// A trie and a plain index give the same pairs from a key on.
+fn scan_both(
+    rt: &impl Abort,
+    alloc: Global,
+    trie: &PlainTrie,
+    index: &PlainIndex,
+    from: &Key,
+    limit: usize,
+) {
+    let last = key(rt, &[0xff; 240]);
+    let (found, want) = (
+        trie.scan(alloc, from, &last, limit),
+        index.scan(alloc, from, &last, limit),
+    );
+    let (Ok(found), Ok(want)) = (found, want) else {
+        panic!(rt; "no memory")
+    };
+    assert!(rt; found.more == want.more && found.pairs.as_slice() == want.pairs.as_slice());
 }
 
 #[test]
@@ -364,21 +375,50 @@ fn calls_by_chance_are_answered_alike(rt: HostRuntime) {
 /// A node on a way: its height, its first position, its count, and the place that is taken there.
 type Passed = (u16, u16, u8, u8);
 
-// The keys 00 to 21, and then 22: the root's entry 1 alone is affected, a node, which gets the key. 00 to 3f, and then 2000: the full
-// node's halves go into the root. 0000 to 041f, and then 040000: the root is two higher. 00 to 20, and then 21: a leaf is pushed down.
+/// A way, a first difference with a level and an entry where it is looked for, the level, the entries and the case of the choice, and
+/// where the chain of full nodes ends. The keys 00 to 21, and then 22: the root's entry 1 alone is affected, a node, which gets the
+/// key. 00 to 3f, and then 2000: the full node's halves go into the root. 0000 to 041f, and then 040000: the root is two higher. 00
+/// to 20, and then 21: a leaf is pushed down.
+type Chosen = (
+    &'static [Passed],
+    u16,
+    usize,
+    u8,
+    (usize, u8, u8, Case),
+    usize,
+);
+
+const CHOSEN: [Chosen; 4] = [
+    (
+        &[(2, 3, 2, 1), (1, 8, 2, 0)],
+        7,
+        0,
+        1,
+        (1, 0, 1, Case::NormalInsert),
+        1,
+    ),
+    (
+        &[(2, 3, 2, 1), (1, 4, 32, 0)],
+        9,
+        1,
+        0,
+        (1, 0, 0, Case::Overflow),
+        0,
+    ),
+    (
+        &[(3, 6, 2, 1), (1, 13, 32, 0)],
+        18,
+        1,
+        0,
+        (1, 0, 0, Case::Overflow),
+        1,
+    ),
+    (&[(2, 3, 2, 1)], 8, 0, 1, (0, 1, 1, Case::LeafPushdown), 0),
+];
+
 #[test]
 fn insertions_have_their_cases(rt: HostRuntime) {
-    let pushed: [Passed; 1] = [(2, 3, 2, 1)];
-    let normal: [Passed; 2] = [(2, 3, 2, 1), (1, 8, 2, 0)];
-    let pulled: [Passed; 2] = [(2, 3, 2, 1), (1, 4, 32, 0)];
-    let between: [Passed; 2] = [(3, 6, 2, 1), (1, 13, 32, 0)];
-    let cases: [(&[Passed], u16, usize, u8, (usize, u8, u8, u8), usize); 4] = [
-        (&normal, 7, 0, 1, (1, 0, 1, Case::NormalInsert as u8), 1),
-        (&pulled, 9, 1, 0, (1, 0, 0, Case::Overflow as u8), 0),
-        (&between, 18, 1, 0, (1, 0, 0, Case::Overflow as u8), 1),
-        (&pushed, 8, 0, 1, (0, 1, 1, Case::LeafPushdown as u8), 0),
-    ];
-    for (passed, position, level, entry, want, end) in cases.iter() {
+    for (passed, position, level, entry, want, end) in CHOSEN {
         let mut steps = [Step::default(); 2];
         for (step, (height, first_position, count, at)) in steps.iter_mut().zip(passed.iter()) {
             step.height = *height;
@@ -387,10 +427,11 @@ fn insertions_have_their_cases(rt: HostRuntime) {
             step.at = *at;
         }
         let way = &steps[..passed.len().min(2)];
-        assert!(rt; *level < way.len() && level_below(way, *position) == *level);
-        let choice = choose(way, *level, *entry, *entry);
-        assert!(rt; (choice.level, choice.first, choice.last, choice.case as u8) == *want);
-        assert!(rt; choice.level < way.len() && chain_end(way, choice.level) == *end);
+        assert!(rt; level < way.len() && level_below(way, position) == level);
+        let choice = choose(way, level, entry, entry);
+        assert!(rt; (choice.level, choice.first, choice.last) == (want.0, want.1, want.2));
+        assert!(rt; choice.case as u8 == want.3 as u8);
+        assert!(rt; choice.level < way.len() && chain_end(way, choice.level) == end);
     }
     assert!(rt; matches!(place(1, Some(3)), Place::Intermediate));
     assert!(rt; matches!(place(1, Some(2)), Place::PullUp));

@@ -23,46 +23,57 @@ pub fn key(rt: &impl Abort, bytes: &[u8]) -> Key {
     }
 }
 
-#[test]
-fn keys_differ_first(rt: HostRuntime) {
-    let low = [0x7e; 240];
-    let mut high = low;
-    high[239] = 0x7f;
-    let cases: [(&[u8], &[u8], Option<u16>); 6] = [
-        (b"a", b"b", Some(7)),
-        (b"", b"a", Some(0)),
-        (b"a", b"aa", Some(9)),
-        (b"a", b"a", None),
-        (&low[..239], &low, Some(2151)),
-        (&low, &high, Some(2159)),
-    ];
-    for (a, b, want) in cases.iter() {
-        let (a, b) = (key(&rt, a), key(&rt, b));
-        assert!(rt; mismatch(&a, &b) == *want && mismatch(&b, &a) == *want);
-        assert!(rt; (a < b) == want.is_some());
-    }
-    assert!(rt; Key::from_bytes(&[0x61; 241]).err() == Some(KeyFault::TooLong));
+/// Two keys and the first bit at which they differ.
+const DIFFERENT: [(&[u8], &[u8], Option<u16>); 4] = [
+    (b"a", b"b", Some(7)),
+    (b"", b"a", Some(0)),
+    (b"a", b"aa", Some(9)),
+    (b"a", b"a", None),
+];
+
+/// These keys differ first here, and the first is the lesser one then.
+fn expect_mismatch(rt: &impl Abort, one: &[u8], other: &[u8], want: Option<u16>) {
+    let (one, other) = (key(rt, one), key(rt, other));
+    assert!(rt; mismatch(&one, &other) == want && mismatch(&other, &one) == want);
+    assert!(rt; (one < other) == want.is_some());
 }
 
 #[test]
-fn bits_are_gathered_from_the_highest(rt: HostRuntime) {
-    let mut front = [0; 31];
-    for (j, position) in front.iter_mut().enumerate() {
-        *position = j as u16;
+fn keys_differ_first(rt: HostRuntime) {
+    for (one, other, want) in DIFFERENT {
+        expect_mismatch(&rt, one, other, want);
     }
-    let ones = [0xff; 4];
-    let cases: [(&[u8], &[u16], u32); 7] = [
-        (b"a", &[7, 8], 0x4000_0000),
-        (b"b", &[7, 8], 0x8000_0000),
-        (b"c", &[7, 8], 0xc000_0000),
-        (b"a", &[0, 1, 2, 3, 4, 5, 6, 7, 8, 9], 0xb080_0000),
-        (&ones, &front, 0xffff_fffe),
-        (&ones, &[35, 36, 2159], 0x8000_0000),
-        (&ones, &[], 0),
-    ];
-    for (bytes, positions, want) in cases.iter() {
+    let low = [0x7e; 240];
+    let mut high = low;
+    high[239] = 0x7f;
+    expect_mismatch(&rt, &[0x7e; 239], &low, Some(2151));
+    expect_mismatch(&rt, &low, &high, Some(2159));
+    assert!(rt; Key::from_bytes(&[0x61; 241]).err() == Some(KeyFault::TooLong));
+}
+
+/// A key, positions, and the key's bits there.
+const GATHERED: [(&[u8], &[u16], u32); 7] = [
+    (b"a", &[7, 8], 0x4000_0000),
+    (b"b", &[7, 8], 0x8000_0000),
+    (b"c", &[7, 8], 0xc000_0000),
+    (b"a", &[0, 1, 2, 3, 4, 5, 6, 7, 8, 9], 0xb080_0000),
+    (
+        &[0xff; 4],
+        &[
+            0, 1, 2, 3, 4, 5, 6, 7, 8, 9, 10, 11, 12, 13, 14, 15, 16, 17, 18, 19, 20, 21, 22, 23,
+            24, 25, 26, 27, 28, 29, 30,
+        ],
+        0xffff_fffe,
+    ),
+    (&[0xff; 4], &[35, 36, 2159], 0x8000_0000),
+    (&[0xff; 4], &[], 0),
+];
+
+#[test]
+fn bits_are_gathered_from_the_highest(rt: HostRuntime) {
+    for (bytes, positions, want) in GATHERED {
         assert!(rt; positions.len() <= 31);
-        assert!(rt; extract(&key(&rt, bytes), positions) == *want);
+        assert!(rt; extract(&key(&rt, bytes), positions) == want);
     }
 }
 
@@ -124,40 +135,46 @@ fn many(rt: &impl Abort, half: Half) -> Node {
     }
 }
 
+/// The node has these positions, rows and leaves.
+fn expect_node(rt: &impl Abort, node: &Node, positions: &[u16], rows: &[u32], leaves: &[u32]) {
+    let count = node.count() as usize;
+    assert!(rt; node.height() == 1 && node.columns().as_slice() == positions);
+    assert!(rt; rows.len() == count && leaves.len() == count);
+    for i in 0..node.count() {
+        assert!(rt; node.sparse(i) == rows[i as usize]);
+        assert!(rt; node.entry(i) == Entry::Leaf(leaves[i as usize]));
+    }
+    for i in node.count()..32 {
+        assert!(rt; node.sparse(i) == u32::MAX);
+    }
+}
+
+/// The rows of three keys and of four, and of four where the first one came last.
+const THREE_ROWS: [u32; 3] = [0, 0x8000_0000, 0xc000_0000];
+
+const FOUR_ROWS: [u32; 4] = [0, 0x4000_0000, 0x6000_0000, 0x8000_0000];
+
+const FIRST_ROWS: [u32; 4] = [0, 0x8000_0000, 0xc000_0000, 0xe000_0000];
+
 // The nodes of a, b, c and of a, b, c, d, one before e, f, g, a, b, c, d without d and without a, and its front half.
 #[test]
 fn nodes_grow_and_shrink(rt: HostRuntime) {
-    let three_rows = [0, 0x8000_0000, 0xc000_0000];
-    let four_rows = [0, 0x4000_0000, 0x6000_0000, 0x8000_0000];
-    let first_rows = [0, 0x8000_0000, 0xc000_0000, 0xe000_0000];
+    expect_node(&rt, &three(), &[7, 8], &THREE_ROWS, &[0, 1, 2]);
+    expect_node(&rt, &four(), &[6, 7, 8], &FOUR_ROWS, &[0, 1, 2, 3]);
     let first = three().insert(0, 2, 6, false, Entry::Leaf(9));
-    let (last_out, first_out) = (many(&rt, four().without(3)), many(&rt, four().without(0)));
+    expect_node(&rt, &first, &[6, 7, 8], &FIRST_ROWS, &[9, 0, 1, 2]);
+    let last_out = many(&rt, four().without(3));
+    expect_node(&rt, &last_out, &[7, 8], &THREE_ROWS, &[0, 1, 2]);
+    let first_out = many(&rt, four().without(0));
+    expect_node(
+        &rt,
+        &first_out,
+        &[6, 8],
+        &[0, 0x4000_0000, 0x8000_0000],
+        &[1, 2, 3],
+    );
     let front = many(&rt, four().cut().zero);
-    let cases: [(Node, &[u16], &[u32], &[u32]); 6] = [
-        (three(), &[7, 8], &three_rows, &[0, 1, 2]),
-        (four(), &[6, 7, 8], &four_rows, &[0, 1, 2, 3]),
-        (first, &[6, 7, 8], &first_rows, &[9, 0, 1, 2]),
-        (last_out, &[7, 8], &three_rows, &[0, 1, 2]),
-        (
-            first_out,
-            &[6, 8],
-            &[0, 0x4000_0000, 0x8000_0000],
-            &[1, 2, 3],
-        ),
-        (front, &[7, 8], &three_rows, &[0, 1, 2]),
-    ];
-    for (node, positions, rows, leaves) in cases.iter() {
-        let count = node.count() as usize;
-        assert!(rt; node.height() == 1 && node.columns().as_slice() == *positions);
-        assert!(rt; rows.len() == count && leaves.len() == count);
-        for i in 0..node.count() {
-            assert!(rt; node.sparse(i) == rows[i as usize]);
-            assert!(rt; node.entry(i) == Entry::Leaf(leaves[i as usize]));
-        }
-        for i in node.count()..32 {
-            assert!(rt; node.sparse(i) == u32::MAX);
-        }
-    }
+    expect_node(&rt, &front, &[7, 8], &THREE_ROWS, &[0, 1, 2]);
 }
 
 #[test]
