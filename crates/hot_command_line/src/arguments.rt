@@ -9,8 +9,9 @@ ghost use Rattle.hot_command_line.specs.Endings.{ending_of};
 ghost use Rattle.hot_command_line.specs.Options.{IsArgument, IsAsked, IsCountOption, names_rule};
 
 use crate::ending::Ending;
+use clap::builder::ValueParser;
 use clap::error::ErrorKind;
-use clap::{Arg, ArgAction, Command, value_parser};
+use clap::{Arg, ArgAction, Command};
 use hot_scripts::fault::RunFault;
 use hot_scripts::script::MAX_FILES;
 use record_words::{MAX_LEAVES, MAX_NODES};
@@ -62,7 +63,7 @@ fn count_option<'a>(alloc: Global, name: &'a str, most: u32) -> Arg<'a>
     Arg::new(alloc, name)
         .long(name)
         .action(ArgAction::Set)
-        .value_parser(value_parser!(u32).range(1..=i64::from(most)))
+        .value_parser(ValueParser::signed(1, i64::from(most)))
 }
 
 /// The words that are no options: any number of them.
