@@ -227,7 +227,7 @@ pair_at way first last Insert (Leaf number value None) len end q e = cc
 pair_at way first last Upsert (Leaf number value None) len end q e = cc
 pair_at way first last Remove (Leaf number value None) len end q e = cc
 
-pub pair_spans_at : (way : List Step) (p first last len end q : ℕ) → IsPairAt way p first last len end q → (len ≡ end) × (end ≡ length way)
+pair_spans_at : (way : List Step) (p first last len end q : ℕ) → IsPairAt way p first last len end q → (len ≡ end) × (end ≡ length way)
 pair_spans_at [] p first last len end q (a, b, c) = (a ∙ sym b, b)
 pair_spans_at (s ∷ way) p first last len end q (a, b, c, d) = (a ∙ sym b, b)
 
@@ -318,6 +318,8 @@ pub record IsPairHere (k : Known) (m : ℕ) (key : Key) (way : List Step) (found
   pub is_found : found ≡ Leaf n value (Some q)
   pub at : IsPairAt way q first last span.len span.end q
   pub affected : AreAffected k m key way found first last
+  pub len : span.len ≡ span.end
+  pub upto : span.end ≡ length way
 
 pub pair_here : (k : Known) (m : ℕ) (key : Key) (way : List Step) (aim : Aim) (found : Found) (span : Span) (q : ℕ) → IsPlanned k m key way aim found (change span.len span.end (Pair q)) → (n v : ℕ) (mismatch : Option ℕ) →
     found ≡ Leaf n v mismatch → IsPairHere k m key way found span n q
@@ -325,6 +327,7 @@ pair_here k m key way aim found span q (first, last, plan, affected) n v None is
 pair_here k m key way aim found span q (first, last, plan, affected) n v (Some p) is =
     let at : IsPairAt way p first last span.len span.end q = pair_at way first last aim (Leaf n v (Some p)) span.len span.end q (subst (λ f. IsPlan way first last aim f (change span.len span.end (Pair q))) is plan) in
     let same = pair_position way p first last span.len span.end q at in
+    let spans = pair_spans_at way p first last span.len span.end q at in
     record {
       value = v;
       first = first;
@@ -332,10 +335,9 @@ pair_here k m key way aim found span q (first, last, plan, affected) n v (Some p
       is_found = is ∙ ap (λ z. Leaf n v (Some z)) (sym same);
       at = subst (λ z. IsPairAt way z first last span.len span.end q) (sym same) at;
       affected = affected;
+      len = spans.0;
+      upto = spans.1;
     }
-
-pub pair_len : (k : Known) (m : ℕ) (key : Key) (way : List Step) (found : Found) (span : Span) (n q : ℕ) → IsPairHere k m key way found span n q → (span.len ≡ span.end) × (span.end ≤ length way)
-pair_len k m key way found span n q here = let (a, b) = pair_spans_at way q here.first here.last span.len span.end q here.at in (a, omega arith)
 
 pub put_len : (k : Known) (m : ℕ) (key : Key) (way : List Step) (aim : Aim) (found : Found) (span : Span) → IsPlanned k m key way aim found (change span.len span.end Put) →
     IsPutAt way found span.len span.end × (span.len ≡ span.end) × (span.end ≤ length way)
@@ -495,9 +497,6 @@ module _ (table : TableView) (a : SeatView) (m : ℕ) (key : Key) (way : List St
         mismatch : IsMismatch key (leaf_at n here.value (Some p) here.is_found).0 (Some p)
         mismatch = (leaf_at n here.value (Some p) here.is_found).2
 
-        spans : (span.len ≡ span.end) × (span.end ≡ length way)
-        spans = pair_spans_at way p here.first here.last span.len span.end p here.at
-
         go : (spot : Spot) → IsSpotAbove way span.end spot → MayEnd table b made spot (entry_word (Some (NodeEntry o view.height))) (added_change a.known.pass (item number key value)) None []
         go Root over = record {
           news = news;
@@ -505,14 +504,14 @@ module _ (table : TableView) (a : SeatView) (m : ℕ) (key : Key) (way : List St
           publishes = λ j on ready same_anchor.
               subst (λ q. Publishes table.layout j Root (entry_word (Some (NodeEntry o view.height))) (added_change q (item number key value)) None []) (on.pass ∙ later.pass)
               (second_made table.layout j b.known.locks (item number key value) n p o (entry_word (Some (NodeEntry o view.height))) here.value (leaf_at n here.value (Some p) here.is_found).0 view ready spelled word
-              (root_is j same_anchor over ∙ ap (λ (o : Option Entry). Some o) (end_named n here.value (Some p) here.is_found 0 (sym over ∙ spans.1)))
+              (root_is j same_anchor over ∙ ap (λ (o : Option Entry). Some o) (end_named n here.value (Some p) here.is_found 0 (sym over ∙ here.upto)))
               (there_still n here.value (Some p) here.is_found j b.known.locks news (later_on a.known b.known j later on)) mismatch.0 mismatch.1 built shows);
         }
         go (Slot i at) (s, low, at_s, number_is, place) =
-            let above = node_above s low (omega (arith, spans.1)) at_s in
-            let seek_is = end_seek n here.value (Some p) here.is_found spans.1 low s above in
+            let above = node_above s low (omega (arith, here.upto)) at_s in
+            let seek_is = end_seek n here.value (Some p) here.is_found here.upto low s above in
             let lowest = pair_last way p here.first here.last span.len span.end p here.at low in
-            let at_level : slice_get way lowest.level ≡ Some s = (let e : span.end - 1 ≡ lowest.level = omega (arith, lowest.is_last, spans.1) in subst (λ z. slice_get way z ≡ Some s) e at_s) in
+            let at_level : slice_get way lowest.level ≡ Some s = (let e : span.end - 1 ≡ lowest.level = omega (arith, lowest.is_last, here.upto) in subst (λ z. slice_get way z ≡ Some s) e at_s) in
             let (forks, shaped, just) = (subst (λ f. AreAffected a.known m key way f here.first here.last) here.is_found here.affected) lowest.level s lowest.is_level at_level in
             let shape_is = above.shape_is forks shaped in
             let few : size (page_affected p key forks) ≤ 1 = omega (arith, just.upto, lowest.single, (key_part key p forks).count, just.from) in

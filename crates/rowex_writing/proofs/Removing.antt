@@ -1,8 +1,8 @@
 -- From what a pass knows under its locks to the publish of a removal.
-use Rattle.std.proofs.Common.{◌≡◌, inl, inr, ℕ, ◌+◌, ◌-◌, ◌<◌, ◌≤◌, Bool, true, false, List, [], ◌∷◌, ◌++◌, length, take, drop, Option, Some, None, refl, sym, ap, subst, ◌∙◌, arith}
+use Rattle.std.proofs.Common.{◌≡◌, inl, inr, ℕ, ◌+◌, ◌-◌, ◌<◌, ◌≤◌, Bool, true, false, List, [], ◌∷◌, ◌++◌, get_or, length, take, drop, Option, Some, None, refl, sym, ap, subst, ◌∙◌, arith}
 use Rattle.std.specs.Prelude.{All, if◌then◌else◌, slice_get, slice_range}
 use Rattle.std.proofs.lemmas.List.Elements.{All-cons}
-use Rattle.std.proofs.lemmas.Option.{get_or_from_slice_get}
+use Rattle.std.proofs.lemmas.Option.{get_or_from_slice_get, slice_get-get_or}
 use Rattle.compound_node.specs.Nodes.{NodeView, IsEntry, height_of, piece}
 use Rattle.compound_node.specs.declared.entries.Entry.{Entry}
 use Rattle.compound_node.specs.declared.entries.Entry.TheVariants.{Leaf as LeafEntry, Node}
@@ -101,6 +101,10 @@ module _ (table : TableView) (a : SeatView) (number : ℕ) (key : Key) (value : 
 -- what stands past its end
 abbrev pub no_step : Step
 no_step = record { number = 0; height = 0; first_position = 0; count = 0; at = 0 }
+
+-- the last node of the way that a leaf below it leaves
+pub low_step : (table : TableView) (a : SeatView) (m : ℕ) (key : Key) (way : List Step) (number value : ℕ) (span : Span) → HasLeafBelow table a m key way number value span → slice_get way span.end ≡ Some (get_or way span.end no_step)
+low_step table a m key way number value span b = slice_get-get_or way span.end no_step (let e = b.last in let n = b.len in omega (arith, e, n))
 
 -- ---- the plan
 -- a plan by which a leaf goes

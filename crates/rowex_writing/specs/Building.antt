@@ -1,5 +1,5 @@
 -- Records made for what a node becomes.
-use Rattle.std.specs.Prelude.{◌≡◌, ◌<◌, ◌≤◌, ◌+◌, ◌↔◌, ℕ, List, [], ◌∷◌, ◌++◌, map, drop, take, length, slice_get, Some, reverse, Bool, true, IsTrue, if◌then◌else◌}
+use Rattle.std.specs.Prelude.{◌≡◌, ◌<◌, ◌≤◌, ◌+◌, ◌-◌, ◌↔◌, ℕ, List, [], ◌∷◌, ◌++◌, map, drop, take, length, slice_get, Some, reverse, Bool, true, IsTrue, if◌then◌else◌}
 use Rattle.compound_node.specs.Nodes.{NodeView, height_of, piece}
 use Rattle.compound_node.specs.declared.entries.Entry.{Entry}
 use Rattle.compound_node.specs.declared.entries.Entry.TheVariants.{Node}
@@ -34,6 +34,8 @@ use Rattle.rowex_rights.specs.Rises.{of_view, of_leaf, HasFoundBelow}
 use Rattle.rowex_rights.specs.Stages.{HasLeaf, HasRisen, IsLockedAbove}
 use Rattle.rowex_writing.specs.Going.{HasLocked}
 use Rattle.rowex_writing.specs.Remaking.{AffectsJust, IsNoHigher}
+use Rattle.rowex_writing.specs.declared.plan.Span.{Span}
+use Rattle.rowex_writing.specs.declared.remaking.NewLeaf.{NewLeaf}
 
 -- each of the records spells a value, which has room in it
 abbrev pub AreMadePacked : Layout → List Made → Type 0
@@ -153,6 +155,10 @@ pub record IsLowest (table : TableView) (a : SeatView) (made : List Rec) (key : 
   pub part : IsPartPage (page_affected position item.key (node_words_of words).page)
   pub affects : AffectsJust item.key position first last (node_words_of words).page
 
+-- so for a new leaf
+abbrev pub GetsLeaf : TableView → SeatView → List Rec → ℕ → NewLeaf → Type 0
+GetsLeaf table a made number new = IsLowest table a made new.key.now number new.position new.first new.last new.number
+
 -- the node goes, where it doesn't stay whole
 abbrev pub gone_unless : Bool → ℕ → List Rec
 gone_unless stays n = if stays then [] else a_node n ∷ []
@@ -198,3 +204,7 @@ pub record IsGrowing (table : TableView) (a : SeatView) (made : List Rec) (way :
   pub lowest : IsLowest table a made key step.number position first last leaf
   pub full : end < top → size (node_words_of lowest.words).page ≡ 32
   pub chain : IsChain table.layout.nodes a.known.locks way lowest.item.key position end top
+
+-- so for a new leaf
+abbrev pub IsGrowingBy : TableView → SeatView → List Rec → List Step → Span → NewLeaf → Type 0
+IsGrowingBy table a made way span new = IsGrowing table a made way new.key.now span.end (span.len - 1) new.position new.first new.last new.number

@@ -14,7 +14,9 @@ use Rattle.rowex_writing.specs.Building.{FitsAbove, IsGrowing}
 use Rattle.rowex_writing.specs.Going.{HasLocked}
 use Rattle.rowex_writing.specs.Locks.{AreNodes, HasLockedSpan}
 use Rattle.rowex_writing.specs.Putting.{IsSpotAbove}
+use Rattle.rowex_writing.specs.declared.deeds.Job.{Job}
 use Rattle.rowex_writing.specs.declared.plan.Span.{Span}
+use Rattle.rowex_writing.specs.declared.remaking.NewLeaf.{NewLeaf}
 use Rattle.tries.specs.Content.{item}
 
 -- the number of the entry's record has 32 bits
@@ -35,3 +37,7 @@ pub record MayGrow (table : TableView) (a : SeatView) (made : List Rec) (way : L
   pub place : (s : Step) (words : List ℕ) (e : Entry) (spot : Spot) → slice_get way span.end ≡ Some s →
       HasLocked a.known s.number words → FitsAbove words e → IsSpotAbove way span.end spot →
       IsSpotOf a.known a.known.locks key position s.number e spot × HasSpot table.layout spot
+
+-- so for a new leaf, where that has the value
+abbrev pub MayTake : TableView → SeatView → List Rec → Job → NewLeaf → Type 0
+MayTake table a made job new = MayGrow table a made job.way.now new.key.now job.value job.span new.position new.first new.last new.number

@@ -9,6 +9,7 @@ pub mod Locks
 pub mod Retiring
 pub mod Checks
 pub mod Changes
+pub mod Jobs
 pub mod Deeds
 pub mod Taking
 pub mod Putting

@@ -8,6 +8,7 @@ use Rattle.insert_cases.specs.declared.choice.Step.{Step}
 use Rattle.insert_cases.specs.Levels.{IsLevel, IsChosen, IsChainEnd}
 use Rattle.rowex_writing.specs.declared.plan.Aim.{Aim}
 use Rattle.rowex_writing.specs.declared.plan.Aim.TheVariants.{Insert, Upsert, Remove}
+use Rattle.rowex_writing.specs.declared.plan.Affected.{Affected}
 use Rattle.rowex_writing.specs.declared.plan.Deed.{Deed}
 use Rattle.rowex_writing.specs.declared.plan.Deed.TheVariants.{Put, Pair, Grow, Take}
 use Rattle.rowex_reading.specs.declared.descent.Found.{Found}
@@ -20,6 +21,10 @@ use Rattle.rowex_writing.specs.declared.plan.Plan.TheVariants.{Answer, Change}
 -- the nodes of the way from `end` on, before `len`, are remade
 abbrev pub change : ℕ → ℕ → Deed → Plan
 change len end deed = Change (record { len = len; end = end }) deed
+
+-- the lowest node gets the new leaf, beside the entries that a position affects
+abbrev pub grow : Affected → Deed
+grow at = Grow at.position at.first at.last
 
 -- ---- a new leaf beside affected entries
 -- what is done at the chosen node

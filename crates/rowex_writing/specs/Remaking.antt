@@ -5,7 +5,10 @@ use Rattle.compound_node.specs.declared.halves.Half.{Half}
 use Rattle.compound_node.specs.declared.halves.Half.TheVariants.{One, Many, Same}
 use Rattle.insert_cases.specs.declared.growth.Grown.{Grown}
 use Rattle.insert_cases.specs.declared.growth.Grown.TheVariants.{One as Whole, Two}
+use Rattle.compound_node.specs.declared.entries.Entry.TheVariants.{Leaf}
+use Rattle.rowex_writing.specs.declared.remaking.NewLeaf.{NewLeaf}
 use Rattle.pieces.specs.Growth.{affected_first, affected_count}
+use Rattle.tries.specs.Affected.{page_grown}
 use Rattle.tries.specs.Keys.{Key}
 use Rattle.tries.specs.Place.{spot}
 use Rattle.tries.specs.Tree.{Page, Tree, page, IsTrie, IsBuilt}
@@ -18,6 +21,10 @@ IsTreePage shown = (t : Tree) × (page t ≡ shown) × IsTrie t × IsBuilt t
 pub record AffectsJust (key : Key) (position first last : ℕ) (shown : Page) : Type 0 where
   pub from : affected_first position (spot key shown) shown ≡ first
   pub upto : affected_count position (spot key shown) shown + first ≡ last + 1
+
+-- the page with the new leaf
+abbrev pub page_with : NewLeaf → Page → Page
+page_with new shown = page_grown new.position new.key.now (Leaf new.number) shown
 
 -- a half of a cut is no higher than this; the node that stays whole is left out
 abbrev pub IsLowHalf : ℕ → Half → Type 0

@@ -11,6 +11,7 @@ ghost use Rattle.rowex_table.specs.Seats.{IsSeatOf};
 ghost use Rattle.rowex_writing.specs.Asking.{aim_of as the_aim, declined as the_answer};
 ghost use Rattle.rowex_writing.specs.Attempts.{HasAnswered, HasAttempted, HasDone, HasLoadedRoot, HasRefused, refusal_of as the_refusal, reply_to as the_reply};
 ghost use Rattle.rowex_writing.specs.Changes.{HasNoRoom, HasRun, HasTakenPlan, HasTakenSpan, HasTriedOnce};
+ghost use Rattle.rowex_writing.specs.Jobs.{IsJobFrom, IsWithinWay};
 ghost use Rattle.rowex_writing.specs.Locks.{HasMadeNoChange, HasMetLock, locks_of};
 ghost use Rattle.rowex_reading.specs.Ways.{IsWayOf, value_of};
 ghost use Rattle.rowex_writing.specs.Counts.{change_steps, most_locks, most_steps, rest_steps};
@@ -22,7 +23,7 @@ use crate::deeds::{Job, carry_out};
 use crate::ending::undo;
 use crate::finding::find_plan;
 use crate::locks::lock_span;
-use crate::plan::{Aim, Ask, Deed, Full, Plan, Span};
+use crate::plan::{Aim, Ask, Deed, Full, Plan};
 use crate::publishing::publish_change;
 use arrayvec::ArrayVec;
 use finite_map::Reply;
@@ -118,12 +119,9 @@ fn act_on<G: Gate>(
         HasRefused table.now.layout key.now k seat.new.known fault) }
     ensures leafless { the_aim ask ≡ Aim.Remove → result ≢ Err TryFault.FullLeaves }
 {
-    match find_plan(table, seat, gate, key, way, aim_of(ask), found) {
+    match find_plan(table, seat, gate, way, aim_of(ask), found) {
         Plan::Answer(reply) => Ok(reply),
         Plan::Change { span, deed } => {
-            if !take_span(table, seat, gate, key, way, found, span) {
-                return Err(TryFault::Busy);
-            }
             let job = Job {
                 way,
                 key,
@@ -131,6 +129,9 @@ fn act_on<G: Gate>(
                 found,
                 span,
             };
+            if !take_span(table, seat, gate, &job) {
+                return Err(TryFault::Busy);
+            }
             match make_change(table, seat, gate, build, &job, deed) {
                 Ok(()) => Ok(reply_to(ask, found)),
                 Err(full) => Err(refusal_of(full)),
@@ -141,38 +142,30 @@ fn act_on<G: Gate>(
 
 /// Locks what is to change, and checks that it still stands as the search found it. Where a lock is refused, or something else
 /// stands there now, all locks are given back, and the answer is `false`.
-fn take_span<G: Gate>(
-    table: &HotTable,
-    seat: &mut TableSeat,
-    gate: &mut G,
-    key: &Key,
-    way: &[Step],
-    found: Found,
-    span: Span,
-) -> bool
+fn take_span<G: Gate>(table: &HotTable, seat: &mut TableSeat, gate: &mut G, job: &Job<'_>) -> bool
     requires own { IsSeatOf table.now seat.old }
     requires possible { IsPossible table.now.layout seat.old.known }
-    requires span { (span.end ≤ span.len) × (span.len ≤ length way.now) }
-    requires way { (m : ℕ) × IsWayOf table.now.layout seat.old.known m key.now way.now found }
+    requires within { IsWithinWay job.now }
+    requires way { (m : ℕ) × IsJobFrom table.now.layout seat.old.known m job.now }
     requires rest { IsAtRest seat.old.known }
     requires quiet { HasMadeNoChange seat.old.known }
     ensures run { (locks : ℕ) × HasTriedOnce table.now G.becomes locks (seat.old, gate.old) (seat.new, gate.new) ×
-        (0 < locks) × (locks ≤ locks_of span) × (result ≡ true → locks ≡ locks_of span) ×
+        (0 < locks) × (locks ≤ locks_of job.now.span) × (result ≡ true → locks ≡ locks_of job.now.span) ×
         (seat.new.known.steps ≤ seat.old.known.steps + 3 * locks + 1) }
     ensures later { IsLater seat.old.known seat.new.known }
-    ensures taken { result ≡ true → (m : ℕ) → IsWayOf table.now.layout seat.old.known m key.now way.now found →
-        HasTakenSpan table.now seat.new m key.now way.now found span }
+    ensures taken { result ≡ true → (m : ℕ) → IsJobFrom table.now.layout seat.old.known m job.now →
+        HasTakenSpan table.now seat.new m job.now.key.now job.now.way.now job.now.found job.now.span }
     ensures rest { result ≡ false → IsAtRest seat.new.known }
-    ensures busy { result ≡ false → (m : ℕ) → IsWayOf table.now.layout seat.old.known m key.now way.now found →
+    ensures busy { result ≡ false → (m : ℕ) → IsJobFrom table.now.layout seat.old.known m job.now →
         HasMetLock table.now.layout seat.old.known seat.new.known ⊎ (m < length seat.new.known.front) }
 {
-    if !lock_span(table, seat, gate, way, span) {
+    if !lock_span(table, seat, gate, job.way, job.span) {
         return false;
     }
-    if check_span(table, seat, gate, key, way, found, span) {
+    if check_span(table, seat, gate, job) {
         return true;
     }
-    undo(table, seat, gate, &[], way, span);
+    undo(table, seat, gate, &[], job.way, job.span);
     false
 }
 

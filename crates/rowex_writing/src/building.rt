@@ -5,14 +5,13 @@ ghost use Rattle.insert_cases.specs.declared.choice.Step.{Step as StepView};
 ghost use Rattle.record_words.specs.Node.{HasNodeWords};
 ghost use Rattle.rowex_table.specs.Made.{Made};
 ghost use Rattle.rowex_rights.specs.Rises.{of_view, IsSide};
-ghost use Rattle.rowex_writing.specs.Building.{IsBelow, IsBuilding, IsGrowing, IsGrownFrom, IsHalfMade, IsLevelRisen, IsLowest, IsLowRisen, IsMadeFrom, IsNextTo, IsRaising, IsRisenAt, IsUp, FitsAbove, HasNotMade, HasRisenTo, gone_unless, gone_with};
+ghost use Rattle.rowex_writing.specs.Building.{IsBelow, IsBuilding, IsGrowingBy, IsGrownFrom, IsHalfMade, IsLevelRisen, IsLowRisen, IsMadeFrom, IsNextTo, IsRaising, IsRisenAt, IsUp, GetsLeaf, FitsAbove, HasNotMade, HasRisenTo, gone_unless, gone_with};
 ghost use Rattle.rowex_writing.specs.Going.{WorksOn, HasLocked, IsLockedBy};
-ghost use Rattle.rowex_writing.specs.Remaking.{AffectsJust, IsTreePage};
+ghost use Rattle.rowex_writing.specs.Locks.{locks_of};
+ghost use Rattle.rowex_writing.specs.Remaking.{AffectsJust, IsTreePage, page_with};
 ghost use Rattle.compound_node.specs.Nodes.{height_of, piece};
 ghost use Rattle.insert_cases.specs.Grown.{keeps_node, is_same as is_the_same};
 ghost use Rattle.pieces.specs.Piece.{Place as At};
-ghost use Rattle.tries.specs.Affected.{page_forked, page_grown};
-ghost use Rattle.tries.specs.Keys.{bit};
 ghost use Rattle.tries.specs.Place.{page_without};
 ghost use Rattle.insert_cases.specs.Risen.{page_of};
 ghost use Rattle.moments.specs.declared.Rec.TheVariants.{Node as a_node};
@@ -21,8 +20,9 @@ ghost use Rattle.rowex_walks.specs.Rise.{entry};
 ghost use Rattle.rowex_writing.specs.Counts.{level_steps, node_steps};
 ghost use Rattle.rowex_writing.specs.Walks.{Spends, WalksOn};
 
+use crate::deeds::Job;
 use crate::locked::read_locked;
-use crate::remaking::{add_leaf, full_with_leaf, pair_with_leaf, with_fork, without_leaf};
+use crate::remaking::{NewLeaf, add_leaf, full_with_leaf, with_fork, without_leaf};
 use crate::supply::Supply;
 use crate::walking::claim_node;
 use arrayvec::ArrayVec;
@@ -55,8 +55,9 @@ pub struct Build {
     pub leaves: [Supply; LEAF_CLASSES],
 }
 
-/// Makes a record for a node; answers its entry, or nothing where no node record was free.
-fn make_node<G: Gate>(
+/// Makes a record for a node; answers its entry, or nothing where no node record was free: the claims try `build.left_nodes` of them at
+/// most, from `build.nodes.next` on, which are all where the change has claimed none before.
+pub(crate) fn make_node<G: Gate>(
     table: &HotTable,
     seat: &mut TableSeat,
     gate: &mut G,
@@ -190,32 +191,28 @@ fn make_grown<G: Gate>(
     build: &mut Build,
     old: Entry,
     node: &mut Node,
-    key: &Key,
-    position: u16,
-    first: u8,
-    last: u8,
-    leaf: u32,
+    new: &NewLeaf<'_>,
 ) -> Option<(Risen, bool)>
     requires building { (news : List Made) × IsBuilding table.now seat.old build.old.made.items news }
-    requires affects { AffectsJust key.now position first last (piece node.old) }
-    requires tree { IsTreePage (page_grown position key.now (Entry.Leaf leaf) (piece node.old)) }
+    requires affects { AffectsJust new.now.key.now new.now.position new.now.first new.now.last (piece node.old) }
+    requires tree { IsTreePage (page_with new.now (piece node.old)) }
     requires room { length build.old.made.items + 1 < MOST_MADE }
     ensures goes { WorksOn table.now G.becomes (seat.old, gate.old) (seat.new, gate.new) }
     ensures made { (news : List Made) → IsBuilding table.now seat.old build.old.made.items news → MatchOption result
         (HasNotMade table.now seat.new build.new.made.items)
-        (λ r. (after : List Made) × IsGrownFrom old node.old (page_grown position key.now (Entry.Leaf leaf) (piece node.old)) position r.0 r.1 news after ×
+        (λ r. (after : List Made) × IsGrownFrom old node.old (page_with new.now (piece node.old)) new.now.position r.0 r.1 news after ×
         IsBuilding table.now seat.new build.new.made.items after) }
     ensures more { length build.new.made.items ≤ length build.old.made.items + 2 }
     ensures walk { WalksOn table.now.layout seat.old.known build.old seat.new.known build.new result }
     ensures few { Spends (2 * node_steps) seat.old.known build.old seat.new.known build.new result }
 {
     if node.count() == 32 {
-        let grown = full_with_leaf(node, key, position, first, last, leaf);
+        let grown = full_with_leaf(node, new);
         let stays = stays_whole(&grown);
         let risen = make_risen(table, seat, gate, build, old, &grown)?;
         return Some((risen, stays));
     }
-    add_leaf(node, key, position, first, last, leaf);
+    add_leaf(node, new);
     let entry = make_node(table, seat, gate, build, node)?;
     Some((Risen::Whole(entry), false))
 }
@@ -227,20 +224,16 @@ fn raise_lowest<G: Gate>(
     gate: &mut G,
     build: &mut Build,
     number: u32,
-    position: u16,
-    first: u8,
-    last: u8,
-    key: &Key,
-    leaf: u32,
+    new: &NewLeaf<'_>,
 ) -> Option<(Risen, bool)>
     requires range { number < table.now.layout.nodes }
-    requires lowest { IsLowest table.now seat.old build.old.made.items key.now number position first last leaf }
+    requires lowest { GetsLeaf table.now seat.old build.old.made.items number new.now }
     requires room { length build.old.made.items + 1 < MOST_MADE }
     ensures goes { WorksOn table.now G.becomes (seat.old, gate.old) (seat.new, gate.new) }
-    ensures made { (b : IsLowest table.now seat.old build.old.made.items key.now number position first last leaf) → MatchOption result
+    ensures made { (b : GetsLeaf table.now seat.old build.old.made.items number new.now) → MatchOption result
         (HasNotMade table.now seat.new build.new.made.items)
         (λ r. (after : List Made) ×
-        IsRaising table.now seat.new build.new.made.items after (gone_unless r.1 number) b.since b.item position b.like entry number (page_of r.0)) }
+        IsRaising table.now seat.new build.new.made.items after (gone_unless r.1 number) b.since b.item new.now.position b.like entry number (page_of r.0)) }
     ensures level { (words : List ℕ) → HasLocked seat.old.known number words → IfSome result (λ r. IsLevelRisen words r.0) }
     ensures more { length build.new.made.items ≤ length build.old.made.items + 2 }
     ensures walk { WalksOn table.now.layout seat.old.known build.old seat.new.known build.new result }
@@ -251,9 +244,7 @@ fn raise_lowest<G: Gate>(
         number,
         height: node.height(),
     };
-    make_grown(
-        table, seat, gate, build, old, &mut node, key, position, first, last, leaf,
-    )
+    make_grown(table, seat, gate, build, old, &mut node, new)
 }
 
 /// Whether one half is the old node as it stands.
@@ -350,45 +341,40 @@ fn raise_on<G: Gate>(
     }
 }
 
-/// The one entry that comes in the place of the node at `end` of a way, when the node at `top` gets a new leaf; and whether
-/// that node stays whole. Nothing where no node record was free: the claims try `build.left_nodes` of them at most, from
-/// `build.nodes.next` on, which are all where the change has claimed none before.
+/// The one entry that comes in the place of the topmost node of the span, when its lowest gets a new leaf; and whether that
+/// stays whole. Nothing where no node record was free, as in [`make_node`].
 pub(crate) fn raise_grown<G: Gate>(
     table: &HotTable,
     seat: &mut TableSeat,
     gate: &mut G,
     build: &mut Build,
-    key: &Key,
-    way: &[Step],
-    end: usize,
-    top: usize,
-    position: u16,
-    first: u8,
-    last: u8,
-    leaf: u32,
+    job: &Job<'_>,
+    new: &NewLeaf<'_>,
 ) -> Option<(Entry, bool)>
-    requires growing { IsGrowing table.now seat.old build.old.made.items way.now key.now end top position first last leaf }
-    requires room { length build.old.made.items + 2 * (top - end) + 2 < MOST_MADE }
+    requires growing { IsGrowingBy table.now seat.old build.old.made.items job.now.way.now job.now.span new.now }
+    requires within { job.now.span.end < job.now.span.len }
+    requires room { length build.old.made.items + 2 * (job.now.span.len - 1 - job.now.span.end) + 2 < MOST_MADE }
     ensures goes { WorksOn table.now G.becomes (seat.old, gate.old) (seat.new, gate.new) }
-    ensures made { (b : IsGrowing table.now seat.old build.old.made.items way.now key.now end top position first last leaf) → MatchOption result
+    ensures made { (b : IsGrowingBy table.now seat.old build.old.made.items job.now.way.now job.now.span new.now) → MatchOption result
         (HasNotMade table.now seat.new build.new.made.items)
-        (λ r. HasRisenTo table.now seat.new build.new.made.items way.now b.lowest.since b.lowest.item position b.lowest.like end
-        (gone_with way.now end top (gone_unless r.1 b.step.number)) r.0) }
-    ensures low { (s : StepView) (words : List ℕ) → slice_get way.now end ≡ Some s → HasLocked seat.old.known s.number words → IfSome result (λ r. FitsAbove words r.0) }
-    ensures more { length build.new.made.items ≤ length build.old.made.items + 2 * (top - end) + 3 }
+        (λ r. HasRisenTo table.now seat.new build.new.made.items job.now.way.now b.lowest.since b.lowest.item new.now.position b.lowest.like job.now.span.end
+        (gone_with job.now.way.now job.now.span.end (job.now.span.len - 1) (gone_unless r.1 b.step.number)) r.0) }
+    ensures low { (s : StepView) (words : List ℕ) → slice_get job.now.way.now job.now.span.end ≡ Some s → HasLocked seat.old.known s.number words →
+        IfSome result (λ r. FitsAbove words r.0) }
+    ensures more { length build.new.made.items ≤ length build.old.made.items + 2 * (job.now.span.len - 1 - job.now.span.end) + 3 }
     ensures walk { WalksOn table.now.layout seat.old.known build.old seat.new.known build.new result }
-    ensures few { Spends ((top - end + 2) * level_steps) seat.old.known build.old seat.new.known build.new result }
+    ensures few { Spends (locks_of job.now.span * level_steps) seat.old.known build.old seat.new.known build.new result }
 {
-    let number = way[top].number;
-    let (risen, stays) = raise_lowest(
-        table, seat, gate, build, number, position, first, last, key, leaf,
-    )?;
-    let entry = raise_on(table, seat, gate, build, way, end, top, key, risen)?;
+    let way = job.way;
+    let end = job.span.end;
+    let top = job.span.len - 1;
+    let (risen, stays) = raise_lowest(table, seat, gate, build, way[top].number, new)?;
+    let entry = raise_on(table, seat, gate, build, way, end, top, new.key, risen)?;
     Some((entry, stays))
 }
 
 /// The entry for what is left of a locked node without the leaf to which the key's search leads. Nothing where no node record was
-/// free, as in [`raise_grown`].
+/// free, as in [`make_node`].
 pub(crate) fn raise_without<G: Gate>(
     table: &HotTable,
     seat: &mut TableSeat,
@@ -417,31 +403,4 @@ pub(crate) fn raise_without<G: Gate>(
         height: node.height(),
     };
     make_half(table, seat, gate, build, old, &half)
-}
-
-/// The entry for a new node of a leaf and the new one. Nothing where no node record was free, as in [`raise_grown`].
-pub(crate) fn raise_pair<G: Gate>(
-    table: &HotTable,
-    seat: &mut TableSeat,
-    gate: &mut G,
-    build: &mut Build,
-    key: &Key,
-    position: u16,
-    old: Entry,
-    leaf: u32,
-) -> Option<Entry>
-    requires building { (news : List Made) × IsBuilding table.now seat.old build.old.made.items news }
-    requires tree { IsTreePage (page_forked (bit key.now position) position (Entry.Leaf leaf) (At old)) }
-    requires room { length build.old.made.items < MOST_MADE }
-    ensures goes { WorksOn table.now G.becomes (seat.old, gate.old) (seat.new, gate.new) }
-    ensures made { (news : List Made) → IsBuilding table.now seat.old build.old.made.items news → MatchOption result
-        (HasNotMade table.now seat.new build.new.made.items)
-        (λ e. (more : List Made) × IsSide (page_forked (bit key.now position) position (Entry.Leaf leaf) (At old)) e more ×
-        IsBuilding table.now seat.new build.new.made.items (more ++ news)) }
-    ensures more { length build.new.made.items ≤ length build.old.made.items + 1 }
-    ensures walk { WalksOn table.now.layout seat.old.known build.old seat.new.known build.new result }
-    ensures few { Spends node_steps seat.old.known build.old seat.new.known build.new result }
-{
-    let node = pair_with_leaf(key, position, old, leaf);
-    make_node(table, seat, gate, build, &node)
 }

@@ -2,7 +2,6 @@
 
 ghost use Rattle.std.specs.Prelude.{◌≡◌, ◌≢◌, ◌<◌, ◌≤◌, ℕ, List, length, true, false, Some, IsSome, ◌+◌, ◌-◌};
 ghost use Rattle.compound_node.specs.declared.entries.Entry.{Entry as EntryValue};
-ghost use Rattle.tries.specs.Keys.{Key as KeyValue};
 ghost use Rattle.tries.specs.Place.{entry_at};
 ghost use Rattle.rowex_core.specs.Reading.{node_words_of};
 ghost use Rattle.rowex_walks.specs.Scan.{IsPlaced};
@@ -13,12 +12,12 @@ ghost use Rattle.rowex_writing.specs.Changes.{IsChecked};
 ghost use Rattle.rowex_writing.specs.Checks.{EntriesStand};
 ghost use Rattle.rowex_writing.specs.Going.{HasLocked, IsLockedBy, ReadsOn};
 ghost use Rattle.rowex_writing.specs.Locks.{HasLockedSpan, locks_of};
-ghost use Rattle.rowex_reading.specs.Ways.{IsWayOf, RootWas, named};
+ghost use Rattle.rowex_writing.specs.Jobs.{IsJobFrom, IsWithinWay};
+ghost use Rattle.rowex_reading.specs.Ways.{RootWas, named};
 
-use crate::plan::Span;
+use crate::deeds::Job;
 use compound_node::Entry;
 use insert_cases::Step;
-use key_bits::Key;
 use record_words::read_entry;
 use rowex_core::{Gate, Spot};
 use rowex_reading::{Found, load_root};
@@ -31,29 +30,26 @@ pub(crate) fn check_span<G: Gate>(
     table: &HotTable,
     seat: &mut TableSeat,
     gate: &mut G,
-    _key: &Key,
-    way: &[Step],
-    found: Found,
-    span: Span,
+    job: &Job<'_>,
 ) -> bool
     requires own { IsSeatOf table.now seat.old }
     requires possible { IsPossible table.now.layout seat.old.known }
-    requires span { (span.end ≤ span.len) × (span.len ≤ length way.now) }
-    requires way { (m : ℕ) × IsWayOf table.now.layout seat.old.known m _key.now way.now found }
-    requires locked { HasLockedSpan seat.old.known way.now span }
+    requires within { IsWithinWay job.now }
+    requires way { (m : ℕ) × IsJobFrom table.now.layout seat.old.known m job.now }
+    requires locked { HasLockedSpan seat.old.known job.now.way.now job.now.span }
     ensures reads { ReadsOn table.now G.becomes (seat.old, gate.old) (seat.new, gate.new) }
     ensures possible { IsPossible table.now.layout seat.new.known }
-    ensures checked { result ≡ true → IsChecked seat.new.known _key.now way.now found span }
-    ensures changed { (m : ℕ) → IsWayOf table.now.layout seat.old.known m _key.now way.now found → result ≡ false → m < length seat.new.known.front }
-    ensures few { seat.new.known.steps ≤ seat.old.known.steps + locks_of span }
+    ensures checked { result ≡ true → IsChecked seat.new.known job.now.key.now job.now.way.now job.now.found job.now.span }
+    ensures changed { (m : ℕ) → IsJobFrom table.now.layout seat.old.known m job.now → result ≡ false → m < length seat.new.known.front }
+    ensures few { seat.new.known.steps ≤ seat.old.known.steps + locks_of job.now.span }
 {
-    if span.end > 0 {
-        return entries_stand(table, seat, gate, way, found, span);
+    if job.span.end > 0 {
+        return entries_stand(table, seat, gate, job);
     }
-    if !root_stands(table, seat, gate, named_at(way, found, 0)) {
+    if !root_stands(table, seat, gate, named_at(job.way, job.found, 0)) {
         return false;
     }
-    entries_stand(table, seat, gate, way, found, span)
+    entries_stand(table, seat, gate, job)
 }
 
 /// What names the node at this index of the way; after the last one, what the search ended at.
@@ -98,26 +94,23 @@ fn entries_stand<G: Gate>(
     table: &HotTable,
     seat: &mut TableSeat,
     gate: &mut G,
-    way: &[Step],
-    found: Found,
-    span: Span,
+    job: &Job<'_>,
 ) -> bool
     requires own { IsSeatOf table.now seat.old }
     requires possible { IsPossible table.now.layout seat.old.known }
-    requires span { (span.end ≤ span.len) × (span.len ≤ length way.now) }
-    requires way { (m : ℕ) × (key : KeyValue) × IsWayOf table.now.layout seat.old.known m key way.now found }
-    requires locked { HasLockedSpan seat.old.known way.now span }
+    requires within { IsWithinWay job.now }
+    requires way { (m : ℕ) × IsJobFrom table.now.layout seat.old.known m job.now }
+    requires locked { HasLockedSpan seat.old.known job.now.way.now job.now.span }
     ensures reads { ReadsOn table.now G.becomes (seat.old, gate.old) (seat.new, gate.new) }
     ensures possible { IsPossible table.now.layout seat.new.known }
-    ensures stand { (m : ℕ) (key : KeyValue) → IsWayOf table.now.layout seat.old.known m key way.now found → result ≡ true →
-        EntriesStand seat.new.known key way.now found span }
-    ensures changed { (m : ℕ) (key : KeyValue) → IsWayOf table.now.layout seat.old.known m key way.now found → result ≡ false →
-        m < length seat.new.known.front }
-    ensures few { seat.new.known.steps + (span.end - 1) ≤ seat.old.known.steps + span.len }
+    ensures stand { (m : ℕ) → IsJobFrom table.now.layout seat.old.known m job.now → result ≡ true →
+        EntriesStand seat.new.known job.now.key.now job.now.way.now job.now.found job.now.span }
+    ensures changed { (m : ℕ) → IsJobFrom table.now.layout seat.old.known m job.now → result ≡ false → m < length seat.new.known.front }
+    ensures few { seat.new.known.steps + (job.now.span.end - 1) ≤ seat.old.known.steps + job.now.span.len }
 {
-    for index in span.end.saturating_sub(1)..span.len {
-        let entry = named_at(way, found, index + 1);
-        if !entry_stands(table, seat, gate, way[index], entry) {
+    for index in job.span.end.saturating_sub(1)..job.span.len {
+        let entry = named_at(job.way, job.found, index + 1);
+        if !entry_stands(table, seat, gate, job.way[index], entry) {
             return false;
         }
     }

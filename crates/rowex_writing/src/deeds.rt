@@ -10,7 +10,7 @@ ghost use Rattle.rowex_writing.specs.Locks.{locks_of};
 use crate::building::Build;
 use crate::growing::grow_node;
 use crate::pairing::pair_leaf;
-use crate::plan::{Deed, Full, Span};
+use crate::plan::{Affected, Deed, Full, Span};
 use crate::putting::put_leaf;
 use crate::taking::take_leaf;
 use compound_node::Entry;
@@ -66,7 +66,14 @@ pub(crate) fn carry_out<G: Gate>(
             position,
             first,
             last,
-        } => grow_node(table, seat, gate, build, job, position, first, last),
+        } => {
+            let affected = Affected {
+                position,
+                first,
+                last,
+            };
+            grow_node(table, seat, gate, build, job, affected)
+        }
         Deed::Take => take_leaf(table, seat, gate, build, job),
     }
 }

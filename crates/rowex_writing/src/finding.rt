@@ -4,6 +4,7 @@ ghost use Rattle.std.specs.Prelude.{◌≡◌, ℕ, ◌≤◌, ◌+◌};
 ghost use Rattle.rowex_reading.specs.Possible.{IsPossible};
 ghost use Rattle.rowex_reading.specs.Reads.{ReadsSome};
 ghost use Rattle.rowex_table.specs.Seats.{IsSeatOf};
+ghost use Rattle.tries.specs.Keys.{Key as KeyValue};
 ghost use Rattle.rowex_writing.specs.Changes.{IsPlanned};
 ghost use Rattle.rowex_reading.specs.Ways.{IsWayOf};
 ghost use Rattle.rowex_writing.specs.Plans.{LiesOnWay};
@@ -11,7 +12,6 @@ ghost use Rattle.record_words.specs.declared.TheConstants.{HEAD_WORDS};
 
 use crate::plan::{Aim, Outline, Plan, plan_beside, plan_call};
 use insert_cases::Step;
-use key_bits::Key;
 use rowex_core::Gate;
 use rowex_reading::{Found, load_head};
 use rowex_table::{HotTable, TableSeat};
@@ -22,17 +22,17 @@ pub(crate) fn find_plan<G: Gate>(
     table: &HotTable,
     seat: &mut TableSeat,
     gate: &mut G,
-    _key: &Key,
     way: &[Step],
     aim: Aim,
     found: Found,
 ) -> Plan
     requires own { IsSeatOf table.now seat.old }
     requires possible { IsPossible table.now.layout seat.old.known }
-    requires way { (m : ℕ) × IsWayOf table.now.layout seat.old.known m _key.now way.now found }
+    requires way { (m : ℕ) × (key : KeyValue) × IsWayOf table.now.layout seat.old.known m key way.now found }
     ensures reads { ReadsSome table.now G.becomes (seat.old, gate.old) (seat.new, gate.new) }
     ensures possible { IsPossible table.now.layout seat.new.known }
-    ensures planned { (m : ℕ) → IsWayOf table.now.layout seat.old.known m _key.now way.now found → IsPlanned seat.new.known m _key.now way.now aim found result }
+    ensures planned { (m : ℕ) (key : KeyValue) → IsWayOf table.now.layout seat.old.known m key way.now found →
+        IsPlanned seat.new.known m key way.now aim found result }
     ensures within { LiesOnWay way.now result }
     ensures few { seat.new.known.steps ≤ seat.old.known.steps + HEAD_WORDS }
 {

@@ -3,18 +3,19 @@
 ghost use Rattle.std.specs.Prelude.{◌≤◌, ◌+◌, ◌<◌, IfErr, IfOk, None};
 ghost use Rattle.rowex_walks.specs.Writer.{added_change};
 ghost use Rattle.tries.specs.Content.{item};
+ghost use Rattle.rowex_writing.specs.Plans.{grow};
 ghost use Rattle.rowex_writing.specs.Changes.{HasTakenPlan};
 ghost use Rattle.rowex_writing.specs.Counts.{deed_steps, leaf_steps};
 ghost use Rattle.rowex_writing.specs.Deeds.{HasNoneFree, HasRaised, MayReplace};
 ghost use Rattle.rowex_writing.specs.Going.{WorksOn};
-ghost use Rattle.rowex_writing.specs.Growths.{HasNumber, MayGrow};
+ghost use Rattle.rowex_writing.specs.Growths.{HasNumber, MayTake};
 ghost use Rattle.rowex_writing.specs.Locks.{locks_of};
-ghost use Rattle.rowex_writing.specs.declared.plan.Deed.TheVariants.{Grow};
 
 use crate::building::{Build, raise_grown};
 use crate::deeds::{Job, Raised};
-use crate::plan::Full;
+use crate::plan::{Affected, Full};
 use crate::publishing::make_leaf;
+use crate::remaking::NewLeaf;
 use compound_node::Entry;
 use rowex_core::Gate;
 use rowex_table::{HotTable, TableSeat};
@@ -26,20 +27,25 @@ pub(crate) fn grow_node<G: Gate>(
     gate: &mut G,
     build: &mut Build,
     job: &Job<'_>,
-    position: u16,
-    first: u8,
-    last: u8,
+    affected: Affected,
 ) -> Result<Raised, Full>
-    requires taken { HasTakenPlan table.now seat.old job.now (Grow position first last) }
+    requires taken { HasTakenPlan table.now seat.old job.now (grow affected) }
     ensures goes { WorksOn table.now G.becomes (seat.old, gate.old) (seat.new, gate.new) }
-    ensures raised { IfOk result (HasRaised table.now seat.old.known seat.new build.new.made.items job.now (Grow position first last)) }
+    ensures raised { IfOk result (HasRaised table.now seat.old.known seat.new build.new.made.items job.now (grow affected)) }
     ensures full { IfErr result (HasNoneFree table.now seat.old.known seat.new build.new.made.items job.now) }
     ensures few { seat.new.known.steps ≤ seat.old.known.steps + deed_steps table.now.layout (locks_of job.now.span) result }
 {
-    let Some(leaf) = make_leaf(table, seat, gate, build, job.key, job.value) else {
+    let Some(number) = make_leaf(table, seat, gate, build, job.key, job.value) else {
         return Err(Full::Leaves);
     };
-    grow_with(table, seat, gate, build, job, position, first, last, leaf)
+    let new = NewLeaf {
+        key: job.key,
+        number,
+        position: affected.position,
+        first: affected.first,
+        last: affected.last,
+    };
+    grow_with(table, seat, gate, build, job, &new)
 }
 
 /// The lowest node of the span gets the leaf, of which the record is made.
@@ -49,28 +55,22 @@ fn grow_with<G: Gate>(
     gate: &mut G,
     build: &mut Build,
     job: &Job<'_>,
-    position: u16,
-    first: u8,
-    last: u8,
-    leaf: u32,
+    new: &NewLeaf<'_>,
 ) -> Result<Raised, Full>
-    requires may { MayGrow table.now seat.old build.old.made.items job.now.way.now job.now.key.now job.now.value job.now.span position first last leaf }
+    requires may { MayTake table.now seat.old build.old.made.items job.now new.now }
     ensures goes { WorksOn table.now G.becomes (seat.old, gate.old) (seat.new, gate.new) }
     ensures raised { IfOk result (λ raised. MayReplace table.now seat.new build.new.made.items job.now.way.now job.now.span raised
-        (added_change seat.old.known.pass (item leaf job.now.key.now job.now.value)) None) }
+        (added_change seat.old.known.pass (item new.now.number new.now.key.now job.now.value)) None) }
     ensures full { IfErr result (HasNoneFree table.now seat.old.known seat.new build.new.made.items job.now) }
     ensures few { seat.new.known.steps + leaf_steps table.now.layout ≤
         seat.old.known.steps + deed_steps table.now.layout (locks_of job.now.span) result }
 {
     build.left_nodes = table.layout().nodes;
-    let span = job.span;
-    let top = span.len - 1;
-    let Some((entry, stays)) = raise_grown(
-        table, seat, gate, build, job.key, job.way, span.end, top, position, first, last, leaf,
-    ) else {
+    let Some((entry, stays)) = raise_grown(table, seat, gate, build, job, new) else {
         return Err(Full::Nodes);
     };
-    let low = if stays { top } else { span.len };
+    let len = job.span.len;
+    let low = if stays { len - 1 } else { len };
     has_number(entry);
     Ok(Raised {
         entry: Some(entry),

@@ -8,10 +8,11 @@ ghost use Rattle.rowex_writing.specs.Going.{WorksOn};
 ghost use Rattle.rowex_writing.specs.Locks.{locks_of};
 ghost use Rattle.rowex_writing.specs.declared.plan.Deed.TheVariants.{Pair};
 
-use crate::building::{Build, raise_pair};
+use crate::building::{Build, make_node};
 use crate::deeds::{Job, Raised};
 use crate::plan::Full;
 use crate::publishing::make_leaf;
+use crate::remaking::pair_with_leaf;
 use compound_node::Entry;
 use rowex_core::Gate;
 use rowex_reading::Found;
@@ -38,9 +39,9 @@ pub(crate) fn pair_leaf<G: Gate>(
     let Some(leaf) = make_leaf(table, seat, gate, build, job.key, job.value) else {
         return Err(Full::Leaves);
     };
-    let old = Entry::Leaf(old);
     build.left_nodes = table.layout().nodes;
-    let Some(entry) = raise_pair(table, seat, gate, build, job.key, position, old, leaf) else {
+    let pair = pair_with_leaf(job.key, position, Entry::Leaf(old), leaf);
+    let Some(entry) = make_node(table, seat, gate, build, &pair) else {
         return Err(Full::Nodes);
     };
     Ok(Raised {

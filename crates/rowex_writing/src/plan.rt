@@ -43,6 +43,14 @@ pub(crate) struct Span {
     pub end: usize,
 }
 
+/// A position, and the entries of a node from `first` to `last`: those that it affects.
+#[derive(Clone, Copy)]
+pub(crate) struct Affected {
+    pub position: u16,
+    pub first: u8,
+    pub last: u8,
+}
+
 /// What is done at the lower end of a span.
 #[derive(Clone, Copy)]
 pub(crate) enum Deed {

@@ -11,7 +11,6 @@ ghost use Rattle.rowex_core.specs.Reading.{entry_of};
 ghost use Rattle.rowex_table.specs.Made.{Made};
 ghost use Rattle.rowex_table.specs.Seats.{IsSeatOf};
 ghost use Rattle.rowex_reading.specs.Possible.{IsPossible};
-ghost use Rattle.rowex_reading.specs.Ways.{IsWayOf};
 ghost use Rattle.rowex_records.specs.Claims.{AllMissedFrom};
 ghost use Rattle.rowex_rights.specs.Rises.{of_leaf};
 ghost use Rattle.rowex_rights.specs.Stages.{HasReady};
@@ -21,6 +20,7 @@ ghost use Rattle.rowex_writing.specs.Changes.{HasChanged, HasRun};
 ghost use Rattle.rowex_writing.specs.Counts.{leaf_steps};
 ghost use Rattle.rowex_writing.specs.Deeds.{MayReplace, leaf_gone};
 ghost use Rattle.rowex_writing.specs.Going.{WorksOn};
+ghost use Rattle.rowex_writing.specs.Jobs.{IsJobFrom, IsWithinWay};
 ghost use Rattle.rowex_writing.specs.Locks.{HasLockedSpan, locks_of};
 ghost use Rattle.rowex_writing.specs.Putting.{IsSpotAbove};
 
@@ -103,8 +103,8 @@ pub(crate) fn publish_change<G: Gate>(
     raised: Raised,
 )
     requires own { IsSeatOf table.now seat.old }
-    requires way { (m : ℕ) × IsWayOf table.now.layout seat.old.known m job.now.key.now job.now.way.now job.now.found }
-    requires within { (job.now.span.end ≤ job.now.span.len) × (job.now.span.len ≤ length job.now.way.now) }
+    requires within { IsWithinWay job.now }
+    requires way { (m : ℕ) × IsJobFrom table.now.layout seat.old.known m job.now }
     requires locked { HasLockedSpan seat.old.known job.now.way.now job.now.span }
     requires may { (x : Change) × (was : Option ℕ) × MayReplace table.now seat.old build.old.made.items job.now.way.now job.now.span raised x was }
     ensures run { HasRun table.now G.becomes (seat.old, gate.old) (seat.new, gate.new) }

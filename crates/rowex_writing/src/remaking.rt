@@ -5,51 +5,67 @@ ghost use Rattle.pieces.specs.Changes.{AtRootFork};
 ghost use Rattle.pieces.specs.Piece.{Fork, Place as At};
 ghost use Rattle.compound_node.specs.Halves.{HalfShows};
 ghost use Rattle.compound_node.specs.Nodes.{piece, height_of, IsBuiltFrom};
-ghost use Rattle.tries.specs.Affected.{page_forked, page_grown};
+ghost use Rattle.tries.specs.Affected.{page_forked};
 ghost use Rattle.tries.specs.Keys.{bit};
 ghost use Rattle.tries.specs.Place.{with_page, page_without};
 ghost use Rattle.insert_cases.specs.Grown.{GrownShows, is_whole, keeps_node};
-ghost use Rattle.rowex_writing.specs.Remaking.{IsTreePage, AffectsJust, IsLowHalf, IsNoHigher};
+ghost use Rattle.rowex_writing.specs.Remaking.{IsTreePage, AffectsJust, IsLowHalf, IsNoHigher, page_with};
 
 use compound_node::{Entry, Half, Node};
 use insert_cases::{Grown, grow_full, pull_up};
 use key_bits::Key;
 
-/// Puts a new leaf for the key into a node with room, beside the entries from `first` to `last`: those that the position
-/// affects.
-pub(crate) fn add_leaf(node: &mut Node, key: &Key, position: u16, first: u8, last: u8, leaf: u32)
+/// A new leaf for a node. It goes beside the entries from `first` to `last`: those that the position affects, at which its key first
+/// differs from theirs.
+#[derive(Drop)]
+pub(crate) struct NewLeaf<'a> {
+    pub key: &'a Key,
+    pub number: u32,
+    pub position: u16,
+    pub first: u8,
+    pub last: u8,
+}
+
+/// Puts a new leaf into a node with room.
+pub(crate) fn add_leaf(node: &mut Node, new: &NewLeaf<'_>)
     requires room { length node.old.entries < 32 }
-    requires affects { AffectsJust key.now position first last (piece node.old) }
-    requires tree { IsTreePage (page_grown position key.now (Entry.Leaf leaf) (piece node.old)) }
-    ensures shows { IsBuiltFrom node.new (page_grown position key.now (Entry.Leaf leaf) (piece node.old)) }
+    requires affects { AffectsJust new.now.key.now new.now.position new.now.first new.now.last (piece node.old) }
+    requires tree { IsTreePage (page_with new.now (piece node.old)) }
+    ensures shows { IsBuiltFrom node.new (page_with new.now (piece node.old)) }
     ensures low { node.new.height ≤ node.old.height }
 {
     prove!(node.count() < 32);
-    let bit = key.bit(position);
-    node.add(first, last, position, bit, Entry::Leaf(leaf));
+    let bit = new.key.bit(new.position);
+    node.add(
+        new.first,
+        new.last,
+        new.position,
+        bit,
+        Entry::Leaf(new.number),
+    );
 }
 
-/// The two sides of a full node's first fork, with a new leaf for the key beside the entries from `first` to `last`: those
-/// that the position affects. Where the position is before that fork, the node is one side as it is.
-pub(crate) fn full_with_leaf(
-    node: &Node,
-    key: &Key,
-    position: u16,
-    first: u8,
-    last: u8,
-    leaf: u32,
-) -> Grown
+/// The two sides of a full node's first fork, with a new leaf. Where its position is before that fork, the node is one side as it
+/// is.
+pub(crate) fn full_with_leaf(node: &Node, new: &NewLeaf<'_>) -> Grown
     requires full { length node.now.entries ≡ 32 }
-    requires affects { AffectsJust key.now position first last (piece node.now) }
-    requires tree { IsTreePage (page_grown position key.now (Entry.Leaf leaf) (piece node.now)) }
-    ensures shows { GrownShows node.now result (page_grown position key.now (Entry.Leaf leaf) (piece node.now)) }
+    requires affects { AffectsJust new.now.key.now new.now.position new.now.first new.now.last (piece node.now) }
+    requires tree { IsTreePage (page_with new.now (piece node.now)) }
+    ensures shows { GrownShows node.now result (page_with new.now (piece node.now)) }
     ensures whole { is_whole result ≡ false }
-    ensures same { IsTrue (keeps_node result) ↔ AtRootFork (λ p zero one. position < p) (piece node.now) }
+    ensures same { IsTrue (keeps_node result) ↔ AtRootFork (λ p zero one. new.now.position < p) (piece node.now) }
     ensures low { IsNoHigher node.now.height result }
 {
     prove!(node.count() == 32);
-    let bit = key.bit(position);
-    grow_full(node, first, last, position, bit, Entry::Leaf(leaf))
+    let bit = new.key.bit(new.position);
+    grow_full(
+        node,
+        new.first,
+        new.last,
+        new.position,
+        bit,
+        Entry::Leaf(new.number),
+    )
 }
 
 /// The node with a fork of two entries in the place of the one to which the key's search leads. A full node gives the

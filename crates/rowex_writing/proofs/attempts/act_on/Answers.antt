@@ -18,8 +18,8 @@ use Rattle.rowex_writing.proofs.attempts.act_on.Goals as goal
 pub take_span-requires-clause-own : goal.take_span-requires-clause-own
 take_span-requires-clause-own g c = (reads_same c.find_plan.ensures.reads.2).0 ∙ c.requires.own
 
-pub take_span-requires-clause-span : goal.take_span-requires-clause-span
-take_span-requires-clause-span g c = subst (LiesOnWay c.args.way.now) c.in-Change.is c.find_plan.ensures.within
+pub take_span-requires-clause-within : goal.take_span-requires-clause-within
+take_span-requires-clause-within g c = subst (LiesOnWay c.args.way.now) c.in-Change.is c.find_plan.ensures.within
 
 pub take_span-requires-clause-way : goal.take_span-requires-clause-way
 take_span-requires-clause-way g c = (since c.args.seat.now.known, way_later _ _ _ _ _ _ _ (reads_later c.find_plan.ensures.reads.2) c.requires.way)
@@ -45,7 +45,7 @@ pub returns-in-Answer-clause-answered : goal.returns-in-Answer-clause-answered
 returns-in-Answer-clause-answered g c k later =
     let on = reads_later c.find_plan.ensures.reads.2 in
     let planned = planned_as c.find_plan.new.seat.known (since c.args.seat.now.known) c.args.key.now c.args.way.now c.aim_of.result (aim_of c.args.ask) c.args.found c.find_plan.result c.aim_of.ensures
-    (c.find_plan.ensures.planned (since c.args.seat.now.known) c.requires.way) in
+    (c.find_plan.ensures.planned (since c.args.seat.now.known) c.args.key.now c.requires.way) in
     let found = found_later _ _ _ _ on (same_since c.find_plan.ensures.reads.2) c.requires.found in
     answered_look k _ _ _ _ _ (later_trans later on) (looked _ _ _ _ _ _ _ _ c.requires.met (subst (IsPlanned _ _ _ _ _ _) c.in-Answer.is planned) found)
 
@@ -71,7 +71,7 @@ make_change-requires g c =
     let r = c.find_plan.ensures.reads.2 in
     let way = way_later _ _ _ _ _ _ _ (reads_later r) c.requires.way in
     let planned = planned_as c.find_plan.new.seat.known (since c.args.seat.now.known) c.args.key.now c.args.way.now c.aim_of.result (aim_of c.args.ask) c.args.found c.find_plan.result c.aim_of.ensures
-    (c.find_plan.ensures.planned (since c.args.seat.now.known) c.requires.way) in
+    (c.find_plan.ensures.planned (since c.args.seat.now.known) c.args.key.now c.requires.way) in
     record {
       taken = (
         since c.args.seat.now.known,
@@ -96,7 +96,7 @@ returns-in-Ok-clause-run g c =
 pub returns-in-Ok-clause-answered : goal.returns-in-Ok-clause-answered
 returns-in-Ok-clause-answered g c k later =
     let planned = planned_as c.find_plan.new.seat.known (since c.args.seat.now.known) c.args.key.now c.args.way.now c.aim_of.result (aim_of c.args.ask) c.args.found c.find_plan.result c.aim_of.ensures
-    (c.find_plan.ensures.planned (since c.args.seat.now.known) c.requires.way) in
+    (c.find_plan.ensures.planned (since c.args.seat.now.known) c.args.key.now c.requires.way) in
     rw c.reply_to.ensures (answered_change k _ _ _ _ _ _ _ _ _ _ _ (later_trans (later_trans later (reads_later c.find_plan.ensures.reads.2)) c.take_span.ensures.later) c.requires.met
     (subst (IsPlanned _ _ _ _ _ _) c.in-Change.is planned) (c.make_change.ensures.done c.in-Ok.is))
 
@@ -121,7 +121,7 @@ returns-in-Err-clause-refused g c k loaded later =
 pub returns-in-Err-clause-leafless : goal.returns-in-Err-clause-leafless
 returns-in-Err-clause-leafless g c e is =
     let planned = planned_as c.find_plan.new.seat.known (since c.args.seat.now.known) c.args.key.now c.args.way.now c.aim_of.result (aim_of c.args.ask) c.args.found c.find_plan.result c.aim_of.ensures
-    (c.find_plan.ensures.planned (since c.args.seat.now.known) c.requires.way) in
+    (c.find_plan.ensures.planned (since c.args.seat.now.known) c.args.key.now c.requires.way) in
     let take = removal_takes c.find_plan.new.seat.known (since c.args.seat.now.known) c.args.key.now c.args.way.now (aim_of c.args.ask) c.args.found c.find_plan.result c.in-Change.span c.in-Change.deed
     e c.in-Change.is planned in
     let same : c.refusal_of.result ≡ FullLeaves = cc in

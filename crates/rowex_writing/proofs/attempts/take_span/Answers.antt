@@ -14,10 +14,10 @@ not_taken : {A : Type 0} → false ≡ true → A
 not_taken e = absurd (cc)
 
 pub lock_span-requires-clause-led : goal.lock_span-requires-clause-led
-lock_span-requires-clause-led g c = way_led c.args.table.now.layout c.args.seat.now.known c.requires.way.0 c.args.key.now c.args.way.now c.args.found c.requires.way.1
+lock_span-requires-clause-led g c = way_led c.args.table.now.layout c.args.seat.now.known c.requires.way.0 c.args.job.now.key.now c.args.job.now.way.now c.args.job.now.found c.requires.way.1
 
 pub lock_span-requires-clause-apart : goal.lock_span-requires-clause-apart
-lock_span-requires-clause-apart g c = way_apart c.args.table.now.layout c.args.seat.now.known c.requires.way.0 c.args.key.now c.args.found c.args.way.now c.requires.possible c.requires.way.1
+lock_span-requires-clause-apart g c = way_apart c.args.table.now.layout c.args.seat.now.known c.requires.way.0 c.args.job.now.key.now c.args.job.now.found c.args.job.now.way.now c.requires.possible c.requires.way.1
 
 pub returns-then-not-lock_span-clause-run : goal.returns-then-not-lock_span-clause-run
 returns-then-not-lock_span-clause-run g c =
@@ -37,7 +37,7 @@ check_span-requires-clause-possible g c =
 pub check_span-requires-clause-way : goal.check_span-requires-clause-way
 check_span-requires-clause-way g c =
     let later = works_later c.args.table.now g.G.Gate.becomes _ _ c.lock_span.ensures.tries.1.1 in
-    (c.requires.way.0, way_later c.args.table.now.layout c.args.seat.now.known c.lock_span.new.seat.known c.requires.way.0 c.args.key.now c.args.way.now c.args.found later c.requires.way.1)
+    (c.requires.way.0, way_later c.args.table.now.layout c.args.seat.now.known c.lock_span.new.seat.known c.requires.way.0 c.args.job.now.key.now c.args.job.now.way.now c.args.job.now.found later c.requires.way.1)
 
 pub returns-then-check_span-clause-run : goal.returns-then-check_span-clause-run
 returns-then-check_span-clause-run g c =
@@ -64,10 +64,10 @@ returns-then-check_span-clause-taken g c e m w =
       seat = run_seat table g.G.Gate.becomes _ _ (goes_run table g.G.Gate.becomes _ _ c.check_span.ensures.reads.goes) (works_seat table g.G.Gate.becomes _ _ c.lock_span.ensures.tries.1.1 c.requires.own);
       possible = c.check_span.ensures.possible;
       own = c.check_span.ensures.reads.own ∙ (c.lock_span.ensures.same ∙ c.requires.rest.own);
-      within = c.requires.span;
-      way_of = way_later table.layout c.args.seat.now.known c.check_span.new.seat.known m c.args.key.now c.args.way.now c.args.found
+      within = c.requires.within;
+      way_of = way_later table.layout c.args.seat.now.known c.check_span.new.seat.known m c.args.job.now.key.now c.args.job.now.way.now c.args.job.now.found
           (later_trans (works_later table g.G.Gate.becomes _ _ c.lock_span.ensures.tries.1.1) c.check_span.ensures.reads.goes.stays.0) w;
-      locked = span_later _ _ c.args.way.now c.args.span c.check_span.ensures.reads.goes.stays (c.lock_span.ensures.locked c.if-not-lock_span.false);
+      locked = span_later _ _ c.args.job.now.way.now c.args.job.now.span c.check_span.ensures.reads.goes.stays (c.lock_span.ensures.locked c.if-not-lock_span.false);
       checked = c.check_span.ensures.checked c.if-check_span.true;
     }
 
@@ -77,10 +77,10 @@ undo-requires-clause-own g c =
     run_seat table g.G.Gate.becomes _ _ (goes_run table g.G.Gate.becomes _ _ c.check_span.ensures.reads.goes) (works_seat table g.G.Gate.becomes _ _ c.lock_span.ensures.tries.1.1 c.requires.own)
 
 pub undo-requires-clause-nodes : goal.undo-requires-clause-nodes
-undo-requires-clause-nodes g c = step_nodes c.args.table.now.layout c.args.seat.now.known c.requires.way.0 c.args.key.now c.args.way.now c.args.found c.requires.way.1
+undo-requires-clause-nodes g c = step_nodes c.args.table.now.layout c.args.seat.now.known c.requires.way.0 c.args.job.now.key.now c.args.job.now.way.now c.args.job.now.found c.requires.way.1
 
 pub undo-requires-clause-locked : goal.undo-requires-clause-locked
-undo-requires-clause-locked g c = span_later _ _ c.args.way.now c.args.span c.check_span.ensures.reads.goes.stays (c.lock_span.ensures.locked c.if-not-lock_span.false)
+undo-requires-clause-locked g c = span_later _ _ c.args.job.now.way.now c.args.job.now.span c.check_span.ensures.reads.goes.stays (c.lock_span.ensures.locked c.if-not-lock_span.false)
 
 pub returns-clause-run : goal.returns-clause-run
 returns-clause-run g c =
@@ -94,7 +94,7 @@ returns-clause-run g c =
       omega (arith, whole),
       low,
       λ e. not_taken e,
-      omega (arith, whole, c.lock_span.ensures.few c.if-not-lock_span.false, c.check_span.ensures.few, c.undo.ensures.few, c.requires.span.0),
+      omega (arith, whole, c.lock_span.ensures.few c.if-not-lock_span.false, c.check_span.ensures.few, c.undo.ensures.few, c.requires.within.0),
     )
 
 pub returns-clause-later : goal.returns-clause-later
@@ -105,7 +105,7 @@ returns-clause-later g c =
 pub returns-clause-busy : goal.returns-clause-busy
 returns-clause-busy g c t m w =
     let table = c.args.table.now in
-    let there = way_later table.layout c.args.seat.now.known c.lock_span.new.seat.known m c.args.key.now c.args.way.now c.args.found
+    let there = way_later table.layout c.args.seat.now.known c.lock_span.new.seat.known m c.args.job.now.key.now c.args.job.now.way.now c.args.job.now.found
     (works_later table g.G.Gate.becomes _ _ c.lock_span.ensures.tries.1.1) w in
     let moved = c.check_span.ensures.changed m there c.if-check_span.false in
     let more = longer c.check_span.new.seat.known c.undo.new.seat.known (works_later table g.G.Gate.becomes _ _ c.undo.ensures.works) in

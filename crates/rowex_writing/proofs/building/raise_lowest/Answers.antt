@@ -28,7 +28,7 @@ returns-clause-made g c = λ b.
 pub returns-clause-level : goal.returns-clause-level
 returns-clause-level g c = λ words h.
     let b = c.requires.lowest in
-    leaf_level words c.read_locked-node.result (Node c.args.number c.height.result) _ c.args.position c.make_grown.result _ (of_leaf b.item ∷ []) (IsBuilding c.args.table.now c.make_grown.new.seat c.make_grown.new.build.made.items)
+    leaf_level words c.read_locked-node.result (Node c.args.number c.height.result) _ c.args.new.now.position c.make_grown.result _ (of_leaf b.item ∷ []) (IsBuilding c.args.table.now c.make_grown.new.seat c.make_grown.new.build.made.items)
     (c.read_locked-node.ensures.node words h) c.height.ensures (c.make_grown.ensures.made (of_leaf b.item ∷ []) (low_building _ _ c.read_locked-node.ensures.reads b c.read_locked-node.ensures.node))
 
 pub returns-clause-walk : goal.returns-clause-walk

@@ -6,21 +6,15 @@ use Rattle.rowex_writing.proofs.Locking.{reads_more, seat_of}
 use Rattle.rowex_reading.proofs.Ways.{way_later}
 use Rattle.rowex_writing.proofs.checking.check_span.Goals as goal
 
-pub entries_stand-requires-clause-way : goal.entries_stand-requires-clause-way
-entries_stand-requires-clause-way g c = let (m, w) = c.requires.way in (m, c.args._key.now, w)
-
-pub returns-then-span-gt0-clause-checked : goal.returns-then-span-gt0-clause-checked
-returns-then-span-gt0-clause-checked g c = λ t.
-    let (m, w) = c.requires.way in record { root = λ z. absurd (omega (arith, c.if-span-gt0.true)); entries = c.entries_stand.ensures.stand m c.args._key.now w t }
-
-pub returns-then-span-gt0-clause-changed : goal.returns-then-span-gt0-clause-changed
-returns-then-span-gt0-clause-changed g c = λ m w f. c.entries_stand.ensures.changed m c.args._key.now w f
+pub returns-then-job-gt0-clause-checked : goal.returns-then-job-gt0-clause-checked
+returns-then-job-gt0-clause-checked g c = λ t.
+    let (m, w) = c.requires.way in record { root = λ z. absurd (omega (arith, c.if-job-gt0.true)); entries = c.entries_stand.ensures.stand m w t }
 
 pub root_stands-requires-clause-pinned : goal.root_stands-requires-clause-pinned
 root_stands-requires-clause-pinned g c = let (m, w) = c.requires.way in since_pinned c.args.seat.now.known m w.since
 
 pub root_stands-requires-clause-locked : goal.root_stands-requires-clause-locked
-root_stands-requires-clause-locked g c = c.requires.locked.top (omega (arith, c.if-span-gt0.false))
+root_stands-requires-clause-locked g c = c.requires.locked.top (omega (arith, c.if-job-gt0.false))
 
 pub returns-then-not-root_stands-clause-changed : goal.returns-then-not-root_stands-clause-changed
 returns-then-not-root_stands-clause-changed g c = λ m w f.
@@ -33,11 +27,11 @@ entries_stand-requires-2-clause-own g c =
 pub entries_stand-requires-2-clause-way : goal.entries_stand-requires-2-clause-way
 entries_stand-requires-2-clause-way g c =
     let (m, w) = c.requires.way in
-    (m, c.args._key.now, way_later c.args.table.now.layout c.args.seat.now.known c.root_stands.new.seat.known m c.args._key.now c.args.way.now c.args.found c.root_stands.ensures.reads.goes.stays.0 w)
+    (m, way_later c.args.table.now.layout c.args.seat.now.known c.root_stands.new.seat.known m c.args.job.now.key.now c.args.job.now.way.now c.args.job.now.found c.root_stands.ensures.reads.goes.stays.0 w)
 
 pub entries_stand-requires-2-clause-locked : goal.entries_stand-requires-2-clause-locked
 entries_stand-requires-2-clause-locked g c =
-    span_later c.args.seat.now.known c.root_stands.new.seat.known c.args.way.now c.args.span c.root_stands.ensures.reads.goes.stays c.requires.locked
+    span_later c.args.seat.now.known c.root_stands.new.seat.known c.args.job.now.way.now c.args.job.now.span c.root_stands.ensures.reads.goes.stays c.requires.locked
 
 pub returns-clause-reads : goal.returns-clause-reads
 returns-clause-reads g c =
@@ -48,14 +42,14 @@ pub returns-clause-checked : goal.returns-clause-checked
 returns-clause-checked g c = λ t.
     let (m, w) = c.requires.way in
     let later = c.root_stands.ensures.reads.goes.stays.0 in
-    let moved = way_later c.args.table.now.layout c.args.seat.now.known c.root_stands.new.seat.known m c.args._key.now c.args.way.now c.args.found later w in
+    let moved = way_later c.args.table.now.layout c.args.seat.now.known c.root_stands.new.seat.known m c.args.job.now.key.now c.args.job.now.way.now c.args.job.now.found later w in
     record {
       root = λ z. c.entries_stand-2.ensures.reads.goes.stays.2 ∙ (c.root_stands.ensures.same c.if-not-root_stands.false ∙ ap Some c.named_at.ensures);
-      entries = c.entries_stand-2.ensures.stand m c.args._key.now moved t;
+      entries = c.entries_stand-2.ensures.stand m moved t;
     }
 
 pub returns-clause-changed : goal.returns-clause-changed
 returns-clause-changed g c = λ m w f.
     let later = c.root_stands.ensures.reads.goes.stays.0 in
-    c.entries_stand-2.ensures.changed m c.args._key.now
-    (way_later c.args.table.now.layout c.args.seat.now.known c.root_stands.new.seat.known m c.args._key.now c.args.way.now c.args.found later w) f
+    c.entries_stand-2.ensures.changed m
+    (way_later c.args.table.now.layout c.args.seat.now.known c.root_stands.new.seat.known m c.args.job.now.key.now c.args.job.now.way.now c.args.job.now.found later w) f

@@ -11,7 +11,7 @@ invariant-loop-index g l = record {
   own : IsSeatOf l.table l.seat;
   reads : ReadsOn l.table g.G.Gate.becomes (l.fn.seat, l.fn.gate) (l.seat, l.gate);
   possible : IsPossible l.table.layout l.seat.known;
-  from : l.fn.span.end ≤ l.index + 1;
-  stand : StandBelow l.table.layout l.fn.seat.known l.way l.found l.fn.span l.index;
-  few : l.seat.known.steps + (l.fn.span.end - 1) ≤ l.fn.seat.known.steps + l.index;
+  from : l.job.span.end ≤ l.index + 1;
+  stand : StandBelow l.table.layout l.fn.seat.known l.job.way.now l.job.found l.job.span l.index;
+  few : l.seat.known.steps + (l.job.span.end - 1) ≤ l.fn.seat.known.steps + l.index;
 }

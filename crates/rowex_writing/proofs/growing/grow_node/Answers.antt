@@ -21,7 +21,7 @@ grow_with-requires g c =
     let job = c.args.job.now in
     let (m, aim, t, planned) = c.requires.taken in
     record {
-      may = may_grow c.args.table.now c.args.seat.now c.make_leaf.new.seat c.make_leaf.new.build.made.items m job.key.now job.value job.way.now job.found job.span aim c.args.position c.args.first c.args.last c.in-Some.leaf t planned
+      may = may_grow c.args.table.now c.args.seat.now c.make_leaf.new.seat c.make_leaf.new.build.made.items m job.key.now job.value job.way.now job.found job.span aim c.args.affected.position c.args.affected.first c.args.affected.last c.in-Some.number t planned
           c.in-Some.ensures.goes.stays c.in-Some.ensures.made c.in-Some.ensures.leaf;
     }
 
@@ -33,8 +33,8 @@ pub returns-clause-raised : goal.returns-clause-raised
 returns-clause-raised g c =
     let job = c.args.job.now in
     let (m, aim, t, planned) = c.requires.taken in
-    grown_raised c.args.table.now c.args.seat.now.known c.make_leaf.new.seat.known c.grow_with.new.seat c.grow_with.new.build.made.items job c.args.position c.args.first c.args.last c.in-Some.leaf c.grow_with.result c.in-Some.ensures.goes.stays.0
-    (grown_stored c.args.seat.now.known m job.key.now job.value job.way.now job.found job.span aim c.args.position c.args.first c.args.last c.in-Some.leaf planned) c.grow_with.ensures.raised
+    grown_raised c.args.table.now c.args.seat.now.known c.make_leaf.new.seat.known c.grow_with.new.seat c.grow_with.new.build.made.items job c.args.affected.position c.args.affected.first c.args.affected.last c.in-Some.number c.grow_with.result c.in-Some.ensures.goes.stays.0
+    (grown_stored c.args.seat.now.known m job.key.now job.value job.way.now job.found job.span aim c.args.affected.position c.args.affected.first c.args.affected.last c.in-Some.number planned) c.grow_with.ensures.raised
 
 pub returns-clause-full : goal.returns-clause-full
 returns-clause-full g c =

@@ -6,6 +6,7 @@ use Rattle.insert_cases.specs.declared.choice.Step.{Step}
 use Rattle.record_words.specs.declared.layout.Layout.{Layout}
 use Rattle.moments.specs.declared.Rec.TheVariants.{Node as a_node}
 use Rattle.rowex_writing.specs.Counts.{level_steps}
+use Rattle.rowex_writing.specs.Locks.{locks_of}
 use Rattle.rowex_writing.proofs.Counting.{made_one}
 use Rattle.rowex_writing.proofs.Raised.{none_in_table}
 use Rattle.rowex_writing.proofs.Growths.{gone_is, grown_ends}
@@ -27,7 +28,7 @@ pub returns-in_default-clause-few : goal.returns-in_default-clause-few
 returns-in_default-clause-few g c =
     let may = c.requires.may in
     let whole : c.layout.result.nodes ≡ c.args.table.now.layout.nodes = ap (λ (z : Layout). z.nodes) c.layout.ensures in
-    let few : c.raise_grown.new.seat.known.steps + 2 * c.raise_grown.new.build.left_nodes ≤ c.args.seat.now.known.steps + 2 * c.layout.result.nodes + (c.args.job.now.span.len - 1 - c.args.job.now.span.end + 2) * level_steps + length c.raise_grown.new.build.made.items = c.in_default.ensures.few in
+    let few : c.raise_grown.new.seat.known.steps + 2 * c.raise_grown.new.build.left_nodes ≤ c.args.seat.now.known.steps + 2 * c.layout.result.nodes + locks_of c.args.job.now.span * level_steps + length c.raise_grown.new.build.made.items = c.in_default.ensures.few in
     omega (arith, whole, few, made_one may.growing.lowest.building, c.raise_grown.ensures.more, may.within.0)
 
 pub returns-clause-raised : goal.returns-clause-raised
@@ -48,7 +49,7 @@ returns-clause-raised g c =
       most = low.2;
       leaf = none_in_table c.args.table.now.layout;
       ends = λ spot over.
-          grown_ends c.args.table.now c.args.seat.now c.raise_grown.new.seat c.args.build.now.made.items c.raise_grown.new.build.made.items job.way.now job.key.now job.value job.span c.args.position c.args.first c.args.last c.args.leaf may
+          grown_ends c.args.table.now c.args.seat.now c.raise_grown.new.seat c.args.build.now.made.items c.raise_grown.new.build.made.items job.way.now c.args.new.now.key.now job.value job.span c.args.new.now.position c.args.new.now.first c.args.new.now.last c.args.new.now.number may
           goes.stays.0 goes.stays.1 goes.stays.2 c.in-Some.entry c.has_number.ensures c.in-Some.stays (c.in-Some.ensures.made may.growing) c.in-Some.ensures.low spot _ over gone;
       few = omega (arith, made_one may.growing.lowest.building, c.raise_grown.ensures.more, may.within.0);
     }
@@ -57,5 +58,5 @@ pub returns-clause-few : goal.returns-clause-few
 returns-clause-few g c =
     let may = c.requires.may in
     let whole : c.layout.result.nodes ≡ c.args.table.now.layout.nodes = ap (λ (z : Layout). z.nodes) c.layout.ensures in
-    let few : c.raise_grown.new.seat.known.steps + 2 * c.raise_grown.new.build.left_nodes ≤ c.args.seat.now.known.steps + 2 * c.layout.result.nodes + (c.args.job.now.span.len - 1 - c.args.job.now.span.end + 2) * level_steps + 0 = c.in-Some.ensures.few in
+    let few : c.raise_grown.new.seat.known.steps + 2 * c.raise_grown.new.build.left_nodes ≤ c.args.seat.now.known.steps + 2 * c.layout.result.nodes + locks_of c.args.job.now.span * level_steps + 0 = c.in-Some.ensures.few in
     omega (arith, whole, few, may.within.0)

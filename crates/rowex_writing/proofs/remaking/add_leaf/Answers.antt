@@ -7,15 +7,15 @@ use Rattle.rowex_writing.proofs.Remade.{fits_leaf, leaf_page, built_low}
 use Rattle.rowex_writing.proofs.remaking.add_leaf.Goals as goal
 
 pub add-requires-clause-range : goal.add-requires-clause-range
-add-requires-clause-range c = (fits_leaf c.args.leaf c.count.ensures.lawful c.requires.affects c.requires.tree).range
+add-requires-clause-range c = (fits_leaf c.args.new.now.number c.count.ensures.lawful c.requires.affects c.requires.tree).range
 
 pub add-requires-clause-below : goal.add-requires-clause-below
-add-requires-clause-below c = let h = (fits_leaf c.args.leaf c.count.ensures.lawful c.requires.affects c.requires.tree).position in omega arith
+add-requires-clause-below c = let h = (fits_leaf c.args.new.now.number c.count.ensures.lawful c.requires.affects c.requires.tree).position in omega arith
 
 pub returns-clause-shows : goal.returns-clause-shows
-returns-clause-shows c = subst (IsBuiltFrom c.add.new.self) (leaf_page (Leaf c.args.leaf) c.requires.affects c.bit-bit.ensures) c.add.ensures
+returns-clause-shows c = subst (IsBuiltFrom c.add.new.self) (leaf_page (Leaf c.args.new.now.number) c.requires.affects c.bit-bit.ensures) c.add.ensures
 
 pub returns-clause-low : goal.returns-clause-low
 returns-clause-low c =
-    built_low c.add.new.self (page_grown c.args.position c.args.key.now (Leaf c.args.leaf) (piece c.args.node.now)) c.args.node.now.height (returns-clause-shows c)
-    (fits_leaf c.args.leaf c.count.ensures.lawful c.requires.affects c.requires.tree).low
+    built_low c.add.new.self (page_grown c.args.new.now.position c.args.new.now.key.now (Leaf c.args.new.now.number) (piece c.args.node.now)) c.args.node.now.height (returns-clause-shows c)
+    (fits_leaf c.args.new.now.number c.count.ensures.lawful c.requires.affects c.requires.tree).low

@@ -1,6 +1,5 @@
 -- What is left of the last node takes its place.
 use Rattle.std.proofs.Common.{rules, ◌≡◌, ◌≤◌, ◌+◌, ◌*◌, [], ◌∷◌, ◌++◌, List, get_or, length, map, ap, sym, subst, Some, refl, arith}
-use Rattle.std.proofs.lemmas.Option.{slice_get-get_or}
 use Rattle.insert_cases.specs.declared.choice.Step.{Step}
 use Rattle.record_words.specs.Entry.{HasEntryWord, entry_word}
 use Rattle.record_words.specs.declared.layout.Layout.{Layout}
@@ -8,7 +7,7 @@ use Rattle.moments.specs.declared.Rec.TheVariants.{Node as a_node, Leaf as a_lea
 use Rattle.rowex_walks.specs.Writer.{removed_change}
 use Rattle.rowex_writing.specs.Changes.{MayEnd}
 use Rattle.rowex_writing.specs.Counts.{level_steps}
-use Rattle.rowex_writing.proofs.Removing.{IsRaised, last_one, left_raised, leaf_gone_record, lowest_locked, may_remake, no_step}
+use Rattle.rowex_writing.proofs.Removing.{IsRaised, last_one, left_raised, leaf_gone_record, low_step, lowest_locked, may_remake, no_step}
 use Rattle.rowex_writing.proofs.Walked.{walk_begins}
 use Rattle.rowex_writing.proofs.taking.remake_without.Goals as goal
 use Rattle.tries.specs.Content.{item}
@@ -17,14 +16,14 @@ pub raise_without-requires-clause-locked : goal.raise_without-requires-clause-lo
 raise_without-requires-clause-locked g c =
     let job = c.args.job.now in
     let (m, value, b) = c.requires.below in
-    let at = slice_get-get_or job.way.now job.span.end no_step (let e = b.last in let n = b.len in omega (arith, e, n)) in
+    let at = low_step c.args.table.now c.args.seat.now m job.key.now job.way.now c.args.number value job.span b in
     lowest_locked c.args.table.now c.args.seat.now m job.key.now job.way.now c.args.number value job.span b _ at
 
 pub returns-in_default-clause-full : goal.returns-in_default-clause-full
 returns-in_default-clause-full g c =
     let job = c.args.job.now in
     let (m, value, b) = c.requires.below in
-    let at = slice_get-get_or job.way.now job.span.end no_step (let e = b.last in let n = b.len in omega (arith, e, n)) in
+    let at = low_step c.args.table.now c.args.seat.now m job.key.now job.way.now c.args.number value job.span b in
     let (words, h) = lowest_locked c.args.table.now c.args.seat.now m job.key.now job.way.now c.args.number value job.span b _ at in (
       refl,
       record {
@@ -45,7 +44,7 @@ pub returns-clause-raised : goal.returns-clause-raised
 returns-clause-raised g c = λ m value b.
     let job = c.args.job.now in
     let table = c.args.table.now in
-    let at = slice_get-get_or job.way.now job.span.end no_step (let e = b.last in let n = b.len in omega (arith, e, n)) in
+    let at = low_step c.args.table.now c.args.seat.now m job.key.now job.way.now c.args.number value job.span b in
     let (words, h) = lowest_locked table c.args.seat.now m job.key.now job.way.now c.args.number value job.span b _ at in
     let (news, side, building) = c.in-Some.ensures.made words h in
     let low : IsRaised c.in-Some.entry = left_raised table.layout c.args.seat.now.known _ words job.key.now c.in-Some.entry news b.taken.possible h side in
