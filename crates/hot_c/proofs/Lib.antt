@@ -6,5 +6,6 @@ pub mod Shares
 pub mod Listed
 pub mod Found
 pub mod Places
+pub mod Written
 pub mod Answered
 pub mod LookedUp

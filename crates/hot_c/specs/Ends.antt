@@ -1,14 +1,13 @@
 -- What calls of a program in C for the ends of a range say: its first pair, its last one, and its last ones in rising order.
-use Rattle.std.specs.Prelude.{◌≡◌, ◌⊎◌, ℕ, List, [], Option, Some, None, IsSome}
+use Rattle.std.specs.Prelude.{◌≡◌, ◌⊎◌, ℕ, List, [], reverse, Bool, Option, Some, None, IsSome}
 use Rattle.record_words.specs.declared.layout.Layout.{Layout}
 use Rattle.hot_index.specs.Answers.{HasFoundPair, IsUnnoted}
 use Rattle.hot_index.specs.Passes.{PassView}
 use Rattle.hot_index.specs.Ranges.{IsFirstFound}
-use Rattle.hot_index.specs.Reverse.{IsLastFound}
+use Rattle.hot_index.specs.Reverse.{IsLastFound, IsReverseListed}
 use Rattle.key_ranges.specs.Ranges.{last_with}
 use Rattle.hot_index.specs.Traces.{HasGotRange, untold}
 use Rattle.hot_c.specs.Calls.{FitsInKey, Listing, ListsBy, StaysOpen}
-use Rattle.hot_c.specs.Lasts.{IsLastScanned}
 use Rattle.hot_c.specs.Pairs.{Spells}
 use Rattle.hot_c.specs.declared.opened.Opened.{Opened}
 use Rattle.hot_c.specs.declared.pairs.Pair.{Pair}
@@ -37,5 +36,9 @@ FindsFirst = FindsBy IsFirstFound (λ layout k j from. HasFoundPair layout k j f
 abbrev pub FindsLast : List ℕ → Option Opened → Option Opened → Pair → Pair → ℕ → Type 0
 FindsLast = FindsBy IsLastFound (λ layout k j upto. HasFoundPair layout k j [] upto 1)
 
+-- A scan of the last pairs in rising order was answered: a scan downwards lists them from the last one on.
+abbrev pub IsLastListed : Layout → PassView → PassView → List ℕ → List ℕ → ℕ → List (List ℕ × ℕ) → Bool → Type 0
+IsLastListed layout k j from upto limit pairs is_more = IsReverseListed layout k j from upto limit (reverse pairs) is_more
+
 abbrev pub ListsLast : List ℕ → List ℕ → Option Opened → Option Opened → Listing → Listing → ℕ → Type 0
-ListsLast = ListsBy IsLastScanned
+ListsLast = ListsBy IsLastListed

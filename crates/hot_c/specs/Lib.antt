@@ -4,7 +4,6 @@ pub mod Lending
 pub mod Statuses
 pub mod Pairs
 pub mod Around
-pub mod Lasts
 pub mod Calls
 pub mod Ends
 pub mod Stocks

@@ -3,7 +3,7 @@
 ghost use Rattle.hot_c.specs.Ends.{FindsFirst, FindsLast, ListsLast};
 
 use crate::handle::Handle;
-use crate::pairs::{Pair, tell_pair, write_pairs};
+use crate::pairs::{Pair, tell_pair, write_pairs_backwards};
 use crate::status::{CLOSED, DONE, KEY_TOO_LONG, NO_MEMORY};
 use key_bits::Key;
 use std::alloc::Global;
@@ -57,11 +57,15 @@ pub extern "C" fn hot_scan_last(
     let (Ok(from), Ok(upto)) = (&Key::from_bytes(from), &Key::from_bytes(upto)) else {
         return KEY_TOO_LONG;
     };
-    match handle.slot.lend().scan_last(alloc, from, upto, room.len()) {
-        Ok(scan) => {
-            write_pairs(&scan.pairs, room);
-            *count = scan.pairs.len();
-            *more = u32::from(scan.more);
+    match handle
+        .slot
+        .lend()
+        .scan_reverse(alloc, from, upto, room.len())
+    {
+        Ok((pairs, is_more)) => {
+            *count = pairs.len();
+            *more = u32::from(is_more);
+            write_pairs_backwards(&pairs, room);
             DONE
         }
         Err(_) => NO_MEMORY,

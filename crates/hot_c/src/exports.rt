@@ -246,10 +246,10 @@ pub extern "C" fn hot_scan(
         return KEY_TOO_LONG;
     };
     match handle.slot.lend().scan(alloc, from, upto, room.len()) {
-        Ok(scan) => {
-            write_pairs(&scan.pairs, room);
-            *count = scan.pairs.len();
-            *more = u32::from(scan.more);
+        Ok((pairs, is_more)) => {
+            *count = pairs.len();
+            *more = u32::from(is_more);
+            write_pairs(&pairs, room);
             DONE
         }
         Err(_) => NO_MEMORY,
@@ -282,10 +282,10 @@ pub extern "C" fn hot_scan_reverse(
         .lend()
         .scan_reverse(alloc, first, last, room.len())
     {
-        Ok(found) => {
-            write_pairs(&found.pairs, room);
-            *count = found.pairs.len();
-            *more = u32::from(found.more);
+        Ok((found, is_more)) => {
+            *count = found.len();
+            *more = u32::from(is_more);
+            write_pairs(&found, room);
             DONE
         }
         Err(_) => NO_MEMORY,

@@ -4,18 +4,18 @@ ghost use Rattle.std.specs.Prelude.{[], ◌≡◌, ◌≢◌, Err, IfOk, MatchRe
 ghost use Rattle.finite_map.specs.declared.Call.TheVariants.{Get};
 ghost use Rattle.rowex_writing.specs.Asking.{aim_of};
 ghost use Rattle.rowex_writing.specs.Attempts.{asked_call};
-ghost use Rattle.hot_index.specs.Answers.{HasFoundPair, IsNoted, IsRefused, IsScanned, IsUnnoted, got};
+ghost use Rattle.hot_index.specs.Answers.{HasFoundPair, IsListed, IsNoted, IsRefused, IsUnnoted, got};
 ghost use Rattle.hot_index.specs.Census.{HasCounted};
 ghost use Rattle.hot_index.specs.Many.{AreNoted, HasGotMany, gets};
 ghost use Rattle.hot_index.specs.Passes.{Owns};
 ghost use Rattle.hot_index.specs.Ranges.{IsFirstFound};
-ghost use Rattle.hot_index.specs.Reverse.{IsLastFound, IsReverseScanned};
+ghost use Rattle.hot_index.specs.Reverse.{IsLastFound, IsReverseListed};
 ghost use Rattle.hot_index.specs.Traces.{HasCollected, HasGot, HasGotRange, HasMade, untold};
-ghost use Rattle.hot_c.specs.Lasts.{IsLastScanned};
 ghost use Rattle.key_ranges.specs.Ranges.{last_with};
 
-use hot_index::{Given, Index, Pass, RecordCounts, Reply, Scan, TryFault};
+use hot_index::{Given, Index, Pass, RecordCounts, Reply, TryFault};
 use key_bits::Key;
+use packed_pairs::Pairs;
 use rowex_writing::{Aim, Ask};
 use std::alloc::{AllocError, Global};
 use std::sync::Arc;
@@ -71,60 +71,46 @@ impl Opened {
         }
     }
 
-    /// The first `limit` pairs whose keys are from `from` to `upto`.
+    /// The first `limit` pairs whose keys are from `from` to `upto`, and whether there are more.
     pub fn scan(
         &mut self,
         alloc: Global,
         from: &Key,
         upto: &Key,
         limit: usize,
-    ) -> Result<Scan, AllocError>
+    ) -> Result<(Pairs, bool), AllocError>
         ensures index { self.new.index ≡ self.old.index }
-        ensures ok { IfOk result (IsScanned self.old.index.value.layout self.old.pass self.new.pass from.now upto.now limit) }
+        ensures ok { IfOk result (λ found. IsListed self.old.index.value.layout self.old.pass self.new.pass from.now upto.now limit found.0 found.1) }
         ensures err { OnErr result (IsUnnoted self.old.index.value.layout self.old.pass self.new.pass) }
         ensures memory { OnErr result (HasFoundPair self.old.index.value.layout self.old.pass self.new.pass from.now upto.now limit) }
         ensures read { HasGotRange self.old.index.value untold limit (self.old.pass, tt) (self.new.pass, tt) }
     {
-        self.index.scan(alloc, &mut self.pass, from, upto, limit)
+        let mut pairs = Pairs::new(alloc);
+        let is_more = self
+            .index
+            .scan_into(&mut self.pass, from, upto, limit, &mut pairs)?;
+        Ok((pairs, is_more))
     }
 
-    /// The last `limit` pairs whose keys are from `from` to `upto`, in falling order.
+    /// The last `limit` pairs whose keys are from `from` to `upto`, in falling order, and whether there are more.
     pub fn scan_reverse(
         &mut self,
         alloc: Global,
         from: &Key,
         upto: &Key,
         limit: usize,
-    ) -> Result<Scan, AllocError>
+    ) -> Result<(Pairs, bool), AllocError>
         ensures index { self.new.index ≡ self.old.index }
-        ensures ok { IfOk result (IsReverseScanned self.old.index.value.layout self.old.pass self.new.pass from.now upto.now limit) }
+        ensures ok { IfOk result (λ found. IsReverseListed self.old.index.value.layout self.old.pass self.new.pass from.now upto.now limit found.0 found.1) }
         ensures err { OnErr result (IsUnnoted self.old.index.value.layout self.old.pass self.new.pass) }
         ensures memory { OnErr result (HasFoundPair self.old.index.value.layout self.old.pass self.new.pass from.now upto.now limit) }
         ensures read { HasGotRange self.old.index.value untold limit (self.old.pass, tt) (self.new.pass, tt) }
     {
-        self.index
-            .scan_reverse(alloc, &mut self.pass, from, upto, limit)
-    }
-
-    /// The last `limit` pairs whose keys are from `from` to `upto`, in rising order.
-    pub fn scan_last(
-        &mut self,
-        alloc: Global,
-        from: &Key,
-        upto: &Key,
-        limit: usize,
-    ) -> Result<Scan, AllocError>
-        ensures index { self.new.index ≡ self.old.index }
-        ensures ok { IfOk result (IsLastScanned self.old.index.value.layout self.old.pass self.new.pass from.now upto.now limit) }
-        ensures err { OnErr result (IsUnnoted self.old.index.value.layout self.old.pass self.new.pass) }
-        ensures memory { OnErr result (HasFoundPair self.old.index.value.layout self.old.pass self.new.pass from.now upto.now limit) }
-        ensures read { HasGotRange self.old.index.value untold limit (self.old.pass, tt) (self.new.pass, tt) }
-    {
-        let mut scan = self
+        let mut pairs = Pairs::new(alloc);
+        let is_more = self
             .index
-            .scan_reverse(alloc, &mut self.pass, from, upto, limit)?;
-        scan.pairs.reverse();
-        Ok(scan)
+            .scan_reverse_into(&mut self.pass, from, upto, limit, &mut pairs)?;
+        Ok((pairs, is_more))
     }
 
     /// The first pair whose key is `from` or above.

@@ -1,11 +1,13 @@
 //! The pairs of a scan in an array of C, and one pair at a place of C's.
 
-ghost use Rattle.std.specs.Prelude.{◌≡◌, ◌≤◌, IfOk, OnErr, length, drop};
+ghost use Rattle.std.specs.Prelude.{◌≡◌, ◌≤◌, IfOk, OnErr, length, drop, reverse};
 ghost use Rattle.hot_c.specs.Ends.{IsPairTold};
 ghost use Rattle.hot_c.specs.Pairs.{AreSpelled, Spells};
+ghost use Rattle.key_bits.specs.Key.{IsKey};
 
 use crate::status::{ABSENT, FOUND, NO_MEMORY};
 use key_bits::Key;
+use packed_pairs::Pairs;
 use std::alloc::AllocError;
 
 /// A key with its value. The key is the first `length` bytes.
@@ -16,24 +18,35 @@ pub struct Pair {
     pub value: u64,
 }
 
-/// Writes pairs to the first places of an array.
-pub fn write_pairs(pairs: &[(Key, u64)], room: &mut [Pair])
+/// Writes the pairs of a list to the first places of an array.
+pub fn write_pairs(pairs: &Pairs, room: &mut [Pair])
     requires { length pairs.now ≤ length room.old }
     ensures written { AreSpelled pairs.now room.new }
     ensures others { drop (length pairs.now) room.new ≡ drop (length pairs.now) room.old }
 {
     for (place, (key, value)) in pairs.iter().enumerate() {
-        write_pair(key, *value, &mut room[place]);
+        write_pair(key, value, &mut room[place]);
+    }
+}
+
+/// Writes the pairs of a list to the first places of an array, the last one first.
+pub fn write_pairs_backwards(pairs: &Pairs, room: &mut [Pair])
+    requires { length pairs.now ≤ length room.old }
+    ensures written { AreSpelled (reverse pairs.now) room.new }
+    ensures others { drop (length pairs.now) room.new ≡ drop (length pairs.now) room.old }
+{
+    for (place, (key, value)) in pairs.iter().rev().enumerate() {
+        write_pair(key, value, &mut room[place]);
     }
 }
 
 /// Writes a pair.
-fn write_pair(key: &Key, value: u64, pair: &mut Pair)
+fn write_pair(key: &[u8], value: u64, pair: &mut Pair)
+    requires { IsKey key.now }
     ensures { Spells (key.now, value) pair.new }
 {
-    let bytes = key.as_bytes();
-    pair.key[..bytes.len()].copy_from_slice(bytes);
-    pair.length = bytes.len() as u32;
+    pair.key[..key.len()].copy_from_slice(key);
+    pair.length = key.len() as u32;
     pair.value = value;
 }
 
@@ -44,7 +57,7 @@ pub fn tell_pair(found: Result<Option<(Key, u64)>, AllocError>, pair: &mut Pair)
 {
     match found {
         Ok(Some((key, value))) => {
-            write_pair(&key, value, pair);
+            write_pair(key.as_bytes(), value, pair);
             FOUND
         }
         Ok(None) => ABSENT,
