@@ -35,6 +35,8 @@ use Rattle.rowex_rights.specs.Stages.{HasLeaf, HasRisen, IsLockedAbove}
 use Rattle.rowex_writing.specs.Going.{HasLocked}
 use Rattle.rowex_writing.specs.Remaking.{AffectsJust, IsNoHigher}
 use Rattle.rowex_writing.specs.declared.plan.Span.{Span}
+use Rattle.rowex_writing.specs.declared.building.Rise.{Rise}
+use Rattle.rowex_writing.specs.declared.remaking.Fork.{Fork}
 use Rattle.rowex_writing.specs.declared.remaking.NewLeaf.{NewLeaf}
 
 -- each of the records spells a value, which has room in it
@@ -208,3 +210,10 @@ pub record IsGrowing (table : TableView) (a : SeatView) (made : List Rec) (way :
 -- so for a new leaf
 abbrev pub IsGrowingBy : TableView → SeatView → List Rec → List Step → Span → NewLeaf → Type 0
 IsGrowingBy table a made way span new = IsGrowing table a made way new.key.now span.end (span.len - 1) new.position new.first new.last new.number
+
+-- so for a fork, and for what rises
+abbrev pub GetsFork : TableView → SeatView → List Rec → ℕ → Fork → Type 0
+GetsFork table a made above fork = IsBelow table a made fork.key.now above fork.position fork.zero fork.one
+
+abbrev pub Rises : TableView → SeatView → List Rec → List Step → Rise → Type 0
+Rises table a made way rise = IsUp table a made way rise.key.now rise.end rise.level rise.risen

@@ -6,11 +6,13 @@ use Rattle.compound_node.specs.declared.halves.Half.TheVariants.{One, Many, Same
 use Rattle.insert_cases.specs.declared.growth.Grown.{Grown}
 use Rattle.insert_cases.specs.declared.growth.Grown.TheVariants.{One as Whole, Two}
 use Rattle.compound_node.specs.declared.entries.Entry.TheVariants.{Leaf}
+use Rattle.rowex_writing.specs.declared.remaking.Fork.{Fork}
 use Rattle.rowex_writing.specs.declared.remaking.NewLeaf.{NewLeaf}
+use Rattle.pieces.specs.Piece.{Place, Fork as Branch}
 use Rattle.pieces.specs.Growth.{affected_first, affected_count}
 use Rattle.tries.specs.Affected.{page_grown}
 use Rattle.tries.specs.Keys.{Key}
-use Rattle.tries.specs.Place.{spot}
+use Rattle.tries.specs.Place.{spot, with_page}
 use Rattle.tries.specs.Tree.{Page, Tree, page, IsTrie, IsBuilt}
 
 -- some tree that is a bit trie of lawful nodes begins with this page
@@ -25,6 +27,10 @@ pub record AffectsJust (key : Key) (position first last : ℕ) (shown : Page) : 
 -- the page with the new leaf
 abbrev pub page_with : NewLeaf → Page → Page
 page_with new shown = page_grown new.position new.key.now (Leaf new.number) shown
+
+-- the page with the fork in the place of the entry of its key's search
+abbrev pub page_forking : Fork → Page → Page
+page_forking fork shown = with_page fork.key.now (Branch fork.position (Place fork.zero) (Place fork.one)) shown
 
 -- a half of a cut is no higher than this; the node that stays whole is left out
 abbrev pub IsLowHalf : ℕ → Half → Type 0

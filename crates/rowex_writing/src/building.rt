@@ -5,7 +5,7 @@ ghost use Rattle.insert_cases.specs.declared.choice.Step.{Step as StepView};
 ghost use Rattle.record_words.specs.Node.{HasNodeWords};
 ghost use Rattle.rowex_table.specs.Made.{Made};
 ghost use Rattle.rowex_rights.specs.Rises.{of_view, IsSide};
-ghost use Rattle.rowex_writing.specs.Building.{IsBelow, IsBuilding, IsGrowingBy, IsGrownFrom, IsHalfMade, IsLevelRisen, IsLowRisen, IsMadeFrom, IsNextTo, IsRaising, IsRisenAt, IsUp, GetsLeaf, FitsAbove, HasNotMade, HasRisenTo, gone_unless, gone_with};
+ghost use Rattle.rowex_writing.specs.Building.{IsBuilding, IsGrowingBy, IsGrownFrom, IsHalfMade, IsLevelRisen, IsLowRisen, IsMadeFrom, IsNextTo, IsRaising, IsRisenAt, Rises, GetsFork, GetsLeaf, FitsAbove, HasNotMade, HasRisenTo, gone_unless, gone_with};
 ghost use Rattle.rowex_writing.specs.Going.{WorksOn, HasLocked, IsLockedBy};
 ghost use Rattle.rowex_writing.specs.Locks.{locks_of};
 ghost use Rattle.rowex_writing.specs.Remaking.{AffectsJust, IsTreePage, page_with};
@@ -22,7 +22,7 @@ ghost use Rattle.rowex_writing.specs.Walks.{Spends, WalksOn};
 
 use crate::deeds::Job;
 use crate::locked::read_locked;
-use crate::remaking::{NewLeaf, add_leaf, full_with_leaf, with_fork, without_leaf};
+use crate::remaking::{Fork, NewLeaf, add_leaf, full_with_leaf, with_fork, without_leaf};
 use crate::supply::Supply;
 use crate::walking::claim_node;
 use arrayvec::ArrayVec;
@@ -154,16 +154,13 @@ fn raise_level<G: Gate>(
     gate: &mut G,
     build: &mut Build,
     number: u32,
-    key: &Key,
-    position: u16,
-    zero: Entry,
-    one: Entry,
+    fork: &Fork<'_>,
 ) -> Option<Risen>
     requires range { number < table.now.layout.nodes }
-    requires below { IsBelow table.now seat.old build.old.made.items key.now number position zero one }
+    requires below { GetsFork table.now seat.old build.old.made.items number fork.now }
     requires room { length build.old.made.items + 1 < MOST_MADE }
     ensures goes { WorksOn table.now G.becomes (seat.old, gate.old) (seat.new, gate.new) }
-    ensures made { (b : IsBelow table.now seat.old build.old.made.items key.now number position zero one) → MatchOption result
+    ensures made { (b : GetsFork table.now seat.old build.old.made.items number fork.now) → MatchOption result
         (HasNotMade table.now seat.new build.new.made.items)
         (λ risen. (after : List Made) ×
         IsRaising table.now seat.new build.new.made.items after (a_node number ∷ b.here.gone)
@@ -174,7 +171,7 @@ fn raise_level<G: Gate>(
     ensures few { Spends level_steps seat.old.known build.old seat.new.known build.new result }
 {
     let node = read_locked(table, seat, gate, number);
-    let grown = with_fork(&node, key, position, zero, one);
+    let grown = with_fork(&node, fork);
     let old = Entry::Node {
         number,
         height: node.height(),
@@ -300,33 +297,42 @@ fn settle<G: Gate>(
     }
 }
 
-/// The one entry that comes in the place of the node at `end`, when this has risen to the node at `level`.
+/// What has risen to the node at `level` of a way, for the key of its search, and is to rise on to the one at `end`.
+#[derive(Drop)]
+pub(crate) struct Rise<'a> {
+    pub key: &'a Key,
+    pub end: usize,
+    pub level: usize,
+    pub risen: Risen,
+}
+
+/// The one entry that comes in the place of the node at `end`.
 fn raise_on<G: Gate>(
     table: &HotTable,
     seat: &mut TableSeat,
     gate: &mut G,
     build: &mut Build,
     way: &[Step],
-    end: usize,
-    level: usize,
-    key: &Key,
-    risen: Risen,
+    rise: &Rise<'_>,
 ) -> Option<Entry>
-    requires up { IsUp table.now seat.old build.old.made.items way.now key.now end level risen }
-    requires room { length build.old.made.items + 2 * (level - end) < MOST_MADE }
+    requires up { Rises table.now seat.old build.old.made.items way.now rise.now }
+    requires room { length build.old.made.items + 2 * (rise.now.level - rise.now.end) < MOST_MADE }
     ensures goes { WorksOn table.now G.becomes (seat.old, gate.old) (seat.new, gate.new) }
-    ensures made { (b : IsUp table.now seat.old build.old.made.items way.now key.now end level risen) → MatchOption result
+    ensures made { (b : Rises table.now seat.old build.old.made.items way.now rise.now) → MatchOption result
         (HasNotMade table.now seat.new build.new.made.items)
-        (HasRisenTo table.now seat.new build.new.made.items way.now b.here.since b.here.item b.here.mismatch b.here.like end (gone_with way.now end level b.here.gone)) }
-    ensures low { (s : StepView) (words : List ℕ) → slice_get way.now end ≡ Some s → HasLocked seat.old.known s.number words → IfSome result (FitsAbove words) }
-    ensures more { length build.new.made.items ≤ length build.old.made.items + 2 * (level - end) + 1 }
+        (HasRisenTo table.now seat.new build.new.made.items way.now b.here.since b.here.item b.here.mismatch b.here.like rise.now.end
+        (gone_with way.now rise.now.end rise.now.level b.here.gone)) }
+    ensures low { (s : StepView) (words : List ℕ) → slice_get way.now rise.now.end ≡ Some s → HasLocked seat.old.known s.number words → IfSome result (FitsAbove words) }
+    ensures more { length build.new.made.items ≤ length build.old.made.items + 2 * (rise.now.level - rise.now.end) + 1 }
     ensures walk { WalksOn table.now.layout seat.old.known build.old seat.new.known build.new result }
-    ensures few { Spends ((level - end + 1) * level_steps) seat.old.known build.old seat.new.known build.new result }
+    ensures few { Spends ((rise.now.level - rise.now.end + 1) * level_steps) seat.old.known build.old seat.new.known build.new result }
 {
+    let end = rise.end;
+    let level = rise.level;
     if level == end {
-        return settle(table, seat, gate, build, way[level].number, risen);
+        return settle(table, seat, gate, build, way[level].number, rise.risen);
     }
-    match risen {
+    match rise.risen {
         Risen::Whole(_) => unreachable!(),
         Risen::Split {
             position,
@@ -335,8 +341,20 @@ fn raise_on<G: Gate>(
         } => {
             let above = level - 1;
             let number = way[above].number;
-            let next = raise_level(table, seat, gate, build, number, key, position, zero, one)?;
-            raise_on(table, seat, gate, build, way, end, above, key, next)
+            let fork = Fork {
+                key: rise.key,
+                position,
+                zero,
+                one,
+            };
+            let next = raise_level(table, seat, gate, build, number, &fork)?;
+            let rest = Rise {
+                key: rise.key,
+                end,
+                level: above,
+                risen: next,
+            };
+            raise_on(table, seat, gate, build, way, &rest)
         }
     }
 }
@@ -369,7 +387,13 @@ pub(crate) fn raise_grown<G: Gate>(
     let end = job.span.end;
     let top = job.span.len - 1;
     let (risen, stays) = raise_lowest(table, seat, gate, build, way[top].number, new)?;
-    let entry = raise_on(table, seat, gate, build, way, end, top, new.key, risen)?;
+    let rise = Rise {
+        key: new.key,
+        end,
+        level: top,
+        risen,
+    };
+    let entry = raise_on(table, seat, gate, build, way, &rise)?;
     Some((entry, stays))
 }
 

@@ -2,14 +2,14 @@
 
 ghost use Rattle.std.specs.Prelude.{◌≡◌, ◌↔◌, ◌<◌, ◌≤◌, IsTrue, length, false};
 ghost use Rattle.pieces.specs.Changes.{AtRootFork};
-ghost use Rattle.pieces.specs.Piece.{Fork, Place as At};
+ghost use Rattle.pieces.specs.Piece.{Place as At};
 ghost use Rattle.compound_node.specs.Halves.{HalfShows};
 ghost use Rattle.compound_node.specs.Nodes.{piece, height_of, IsBuiltFrom};
 ghost use Rattle.tries.specs.Affected.{page_forked};
 ghost use Rattle.tries.specs.Keys.{bit};
-ghost use Rattle.tries.specs.Place.{with_page, page_without};
+ghost use Rattle.tries.specs.Place.{page_without};
 ghost use Rattle.insert_cases.specs.Grown.{GrownShows, is_whole, keeps_node};
-ghost use Rattle.rowex_writing.specs.Remaking.{IsTreePage, AffectsJust, IsLowHalf, IsNoHigher, page_with};
+ghost use Rattle.rowex_writing.specs.Remaking.{IsTreePage, AffectsJust, IsLowHalf, IsNoHigher, page_forking, page_with};
 
 use compound_node::{Entry, Half, Node};
 use insert_cases::{Grown, grow_full, pull_up};
@@ -68,20 +68,28 @@ pub(crate) fn full_with_leaf(node: &Node, new: &NewLeaf<'_>) -> Grown
     )
 }
 
-/// The node with a fork of two entries in the place of the one to which the key's search leads. A full node gives the
-/// two sides of its first fork.
-pub(crate) fn with_fork(node: &Node, key: &Key, position: u16, zero: Entry, one: Entry) -> Grown
-    requires tree { IsTreePage (with_page key.now (Fork position (At zero) (At one)) (piece node.now)) }
-    requires zero { height_of zero < node.now.height }
-    requires one { height_of one < node.now.height }
-    ensures shows { GrownShows node.now result (with_page key.now (Fork position (At zero) (At one)) (piece node.now)) }
+/// A fork of two entries, which comes in the place of the entry to which the key's search leads.
+#[derive(Drop)]
+pub(crate) struct Fork<'a> {
+    pub key: &'a Key,
+    pub position: u16,
+    pub zero: Entry,
+    pub one: Entry,
+}
+
+/// The node with the fork. A full node gives the two sides of its first fork.
+pub(crate) fn with_fork(node: &Node, fork: &Fork<'_>) -> Grown
+    requires tree { IsTreePage (page_forking fork.now (piece node.now)) }
+    requires zero { height_of fork.now.zero < node.now.height }
+    requires one { height_of fork.now.one < node.now.height }
+    ensures shows { GrownShows node.now result (page_forking fork.now (piece node.now)) }
     ensures whole { IsTrue (is_whole result) ↔ (length node.now.entries < 32) }
     ensures same { keeps_node result ≡ false }
     ensures low { IsNoHigher node.now.height result }
 {
     prove!(node.count() <= 32);
-    let at = node.search(key);
-    pull_up(node, at, position, zero, one)
+    let at = node.search(fork.key);
+    pull_up(node, at, fork.position, fork.zero, fork.one)
 }
 
 /// The node without the entry to which the key's search leads.

@@ -33,53 +33,53 @@ upto level end ne le = omega (arith, ne)
 pub settle-requires-clause-risen : goal.settle-requires-clause-risen
 settle-requires-clause-risen g t c =
     let up = c.requires.up in
-    up_end c.args.table.now c.args.seat.now c.args.build.now.made.items c.args.way.now c.args.key.now c.args.end c.args.level _ c.args.risen up
-    (ap (λ (z : Step). z.number) (get_or_from_slice_get c.args.way.now c.args.level up.step no_step up.at))
+    up_end c.args.table.now c.args.seat.now c.args.build.now.made.items c.args.way.now c.args.rise.now.key.now c.args.rise.now.end c.args.rise.now.level _ c.args.rise.now.risen up
+    (ap (λ (z : Step). z.number) (get_or_from_slice_get c.args.way.now c.args.rise.now.level up.step no_step up.at))
 
 pub returns-then-level-end-clause-made : goal.returns-then-level-end-clause-made
 returns-then-level-end-clause-made g t c = λ b.
-    settled_up c.args.table.now c.args.seat.now c.settle.new.seat c.args.build.now.made.items c.settle.new.build.made.items c.args.way.now c.args.key.now c.args.end c.args.level _ c.args.risen c.if-level-end.true b
-    (ap (λ (z : Step). z.number) (get_or_from_slice_get c.args.way.now c.args.level b.step no_step b.at)) c.settle.result
-    (c.settle.ensures.made (up_end c.args.table.now c.args.seat.now c.args.build.now.made.items c.args.way.now c.args.key.now c.args.end c.args.level _ c.args.risen b
-    (ap (λ (z : Step). z.number) (get_or_from_slice_get c.args.way.now c.args.level b.step no_step b.at))))
+    settled_up c.args.table.now c.args.seat.now c.settle.new.seat c.args.build.now.made.items c.settle.new.build.made.items c.args.way.now c.args.rise.now.key.now c.args.rise.now.end c.args.rise.now.level _ c.args.rise.now.risen c.if-level-end.true b
+    (ap (λ (z : Step). z.number) (get_or_from_slice_get c.args.way.now c.args.rise.now.level b.step no_step b.at)) c.settle.result
+    (c.settle.ensures.made (up_end c.args.table.now c.args.seat.now c.args.build.now.made.items c.args.way.now c.args.rise.now.key.now c.args.rise.now.end c.args.rise.now.level _ c.args.rise.now.risen b
+    (ap (λ (z : Step). z.number) (get_or_from_slice_get c.args.way.now c.args.rise.now.level b.step no_step b.at))))
 
 pub offset_bounds-way-above : goal.offset_bounds-way-above
-offset_bounds-way-above g t c = let h = within c.args.way.now c.args.level c.args.end c.requires.up.step c.requires.up.at in search (rules, h)
+offset_bounds-way-above g t c = let h = within c.args.way.now c.args.rise.now.level c.args.rise.now.end c.requires.up.step c.requires.up.at in search (rules, h)
 
 pub bounds-way-above : goal.bounds-way-above
-bounds-way-above g t c = within c.args.way.now c.args.level c.args.end c.requires.up.step c.requires.up.at
+bounds-way-above g t c = within c.args.way.now c.args.rise.now.level c.args.rise.now.end c.requires.up.step c.requires.up.at
 
 pub raise_level-requires-clause-range : goal.raise_level-requires-clause-range
 raise_level-requires-clause-range g t c =
     let up = c.requires.up in
-    up_there c.args.table.now c.args.seat.now c.args.build.now.made.items c.args.way.now c.args.key.now c.args.end c.args.level c.args.risen up (c.args.level - 1)
-    (next c.args.level c.args.end c.if-level-end.false up.upto) (upto c.args.level c.args.end c.if-level-end.false up.upto) (step_at c.args.way.now (c.args.level - 1)) (there c.args.way.now c.args.level c.args.end up.step up.at)
+    up_there c.args.table.now c.args.seat.now c.args.build.now.made.items c.args.way.now c.args.rise.now.key.now c.args.rise.now.end c.args.rise.now.level c.args.rise.now.risen up (c.args.rise.now.level - 1)
+    (next c.args.rise.now.level c.args.rise.now.end c.if-level-end.false up.upto) (upto c.args.rise.now.level c.args.rise.now.end c.if-level-end.false up.upto) (step_at c.args.way.now (c.args.rise.now.level - 1)) (there c.args.way.now c.args.rise.now.level c.args.rise.now.end up.step up.at)
 
 pub raise_level-requires-clause-below : goal.raise_level-requires-clause-below
 raise_level-requires-clause-below g t c =
     let up = c.requires.up in
-    up_below c.args.table.now c.args.seat.now c.args.build.now.made.items c.args.way.now c.args.key.now c.args.end c.args.level c.args.risen up (c.args.level - 1)
-    (next c.args.level c.args.end c.if-level-end.false up.upto) (upto c.args.level c.args.end c.if-level-end.false up.upto) (step_at c.args.way.now (c.args.level - 1)) (there c.args.way.now c.args.level c.args.end up.step up.at) c.in-Split.position c.in-Split.zero c.in-Split.one c.in-Split.is
+    up_below c.args.table.now c.args.seat.now c.args.build.now.made.items c.args.way.now c.args.rise.now.key.now c.args.rise.now.end c.args.rise.now.level c.args.rise.now.risen up (c.args.rise.now.level - 1)
+    (next c.args.rise.now.level c.args.rise.now.end c.if-level-end.false up.upto) (upto c.args.rise.now.level c.args.rise.now.end c.if-level-end.false up.upto) (step_at c.args.way.now (c.args.rise.now.level - 1)) (there c.args.way.now c.args.rise.now.level c.args.rise.now.end up.step up.at) c.in-Split.position c.in-Split.zero c.in-Split.one c.in-Split.is
 
 pub returns-in_err-next-in-Split-clause-made : goal.returns-in_err-next-in-Split-clause-made
 returns-in_err-next-in-Split-clause-made g t c = λ up. rw c.from_residual.ensures
-    (c.in_err-next-in-Split.ensures.made (up_below c.args.table.now c.args.seat.now c.args.build.now.made.items c.args.way.now c.args.key.now c.args.end c.args.level c.args.risen up (c.args.level - 1)
-    (next c.args.level c.args.end c.if-level-end.false up.upto) (upto c.args.level c.args.end c.if-level-end.false up.upto) (step_at c.args.way.now (c.args.level - 1)) (there c.args.way.now c.args.level c.args.end up.step up.at) c.in-Split.position c.in-Split.zero c.in-Split.one c.in-Split.is))
+    (c.in_err-next-in-Split.ensures.made (up_below c.args.table.now c.args.seat.now c.args.build.now.made.items c.args.way.now c.args.rise.now.key.now c.args.rise.now.end c.args.rise.now.level c.args.rise.now.risen up (c.args.rise.now.level - 1)
+    (next c.args.rise.now.level c.args.rise.now.end c.if-level-end.false up.upto) (upto c.args.rise.now.level c.args.rise.now.end c.if-level-end.false up.upto) (step_at c.args.way.now (c.args.rise.now.level - 1)) (there c.args.way.now c.args.rise.now.level c.args.rise.now.end up.step up.at) c.in-Split.position c.in-Split.zero c.in-Split.one c.in-Split.is))
 
 pub raise_on-requires : goal.raise_on-requires
 raise_on-requires g t c =
-    let fewer = next c.args.level c.args.end c.if-level-end.false c.requires.up.upto in
-    let least = upto c.args.level c.args.end c.if-level-end.false c.requires.up.upto in
+    let fewer = next c.args.rise.now.level c.args.rise.now.end c.if-level-end.false c.requires.up.upto in
+    let least = upto c.args.rise.now.level c.args.rise.now.end c.if-level-end.false c.requires.up.upto in
     let up = c.requires.up in
-    let (after, raising) = c.in_ok-next-in-Split.ensures.made (up_below c.args.table.now c.args.seat.now c.args.build.now.made.items c.args.way.now c.args.key.now c.args.end c.args.level c.args.risen up (c.args.level - 1)
-    (next c.args.level c.args.end c.if-level-end.false up.upto) (upto c.args.level c.args.end c.if-level-end.false up.upto) (step_at c.args.way.now (c.args.level - 1)) (there c.args.way.now c.args.level c.args.end up.step up.at) c.in-Split.position c.in-Split.zero c.in-Split.one c.in-Split.is) in
+    let (after, raising) = c.in_ok-next-in-Split.ensures.made (up_below c.args.table.now c.args.seat.now c.args.build.now.made.items c.args.way.now c.args.rise.now.key.now c.args.rise.now.end c.args.rise.now.level c.args.rise.now.risen up (c.args.rise.now.level - 1)
+    (next c.args.rise.now.level c.args.rise.now.end c.if-level-end.false up.upto) (upto c.args.rise.now.level c.args.rise.now.end c.if-level-end.false up.upto) (step_at c.args.way.now (c.args.rise.now.level - 1)) (there c.args.way.now c.args.rise.now.level c.args.rise.now.end up.step up.at) c.in-Split.position c.in-Split.zero c.in-Split.one c.in-Split.is) in
     λ κs le. (
       omega (arith, c.decreases),
       (
         le,
         (
-          up_next c.args.table.now c.args.seat.now c.args.build.now.made.items c.args.way.now c.args.key.now c.args.end c.args.level c.args.risen up (c.args.level - 1)
-              (next c.args.level c.args.end c.if-level-end.false up.upto) (upto c.args.level c.args.end c.if-level-end.false up.upto) (step_at c.args.way.now (c.args.level - 1)) (there c.args.way.now c.args.level c.args.end up.step up.at) c.raise_level.new.seat c.raise_level.new.build.made.items c.in_ok-next-in-Split.next c.in_ok-next-in-Split.ensures.goes.stays.1 after raising c.in_ok-next-in-Split.ensures.level,
+          up_next c.args.table.now c.args.seat.now c.args.build.now.made.items c.args.way.now c.args.rise.now.key.now c.args.rise.now.end c.args.rise.now.level c.args.rise.now.risen up (c.args.rise.now.level - 1)
+              (next c.args.rise.now.level c.args.rise.now.end c.if-level-end.false up.upto) (upto c.args.rise.now.level c.args.rise.now.end c.if-level-end.false up.upto) (step_at c.args.way.now (c.args.rise.now.level - 1)) (there c.args.way.now c.args.rise.now.level c.args.rise.now.end up.step up.at) c.raise_level.new.seat c.raise_level.new.build.made.items c.in_ok-next-in-Split.next c.in_ok-next-in-Split.ensures.goes.stays.1 after raising c.in_ok-next-in-Split.ensures.level,
           omega (arith, c.requires.room, c.in_ok-next-in-Split.ensures.more),
         ),
       ),
@@ -90,20 +90,20 @@ returns-clause-goes g t c = goes_more c.args.table.now g.G.Gate.becomes _ _ _ c.
 
 pub returns-clause-made : goal.returns-clause-made
 returns-clause-made g t c = λ up.
-    let (after, raising) = c.in_ok-next-in-Split.ensures.made (up_below c.args.table.now c.args.seat.now c.args.build.now.made.items c.args.way.now c.args.key.now c.args.end c.args.level c.args.risen up (c.args.level - 1)
-    (next c.args.level c.args.end c.if-level-end.false up.upto) (upto c.args.level c.args.end c.if-level-end.false up.upto) (step_at c.args.way.now (c.args.level - 1)) (there c.args.way.now c.args.level c.args.end up.step up.at) c.in-Split.position c.in-Split.zero c.in-Split.one c.in-Split.is) in
-    up_done c.args.table.now g.G.Gate.becomes (c.args.seat.now, c.args.gate.now) (c.raise_level.new.seat, c.raise_level.new.gate) (c.raise_on.new.seat, c.raise_on.new.gate) c.raise_on.new.build.made.items c.args.way.now up.here.since up.here.item up.here.mismatch up.here.like c.args.end
-    (c.args.level - 1) c.args.level up.here.gone (step_at c.args.way.now (c.args.level - 1)) (next c.args.level c.args.end c.if-level-end.false up.upto) (upto c.args.level c.args.end c.if-level-end.false up.upto)
-    (there c.args.way.now c.args.level c.args.end up.step up.at) c.in_ok-next-in-Split.ensures.goes c.raise_on.result
-    (c.raise_on.ensures.made (up_next c.args.table.now c.args.seat.now c.args.build.now.made.items c.args.way.now c.args.key.now c.args.end c.args.level c.args.risen up (c.args.level - 1)
-    (next c.args.level c.args.end c.if-level-end.false up.upto) (upto c.args.level c.args.end c.if-level-end.false up.upto) (step_at c.args.way.now (c.args.level - 1)) (there c.args.way.now c.args.level c.args.end up.step up.at) c.raise_level.new.seat c.raise_level.new.build.made.items c.in_ok-next-in-Split.next c.in_ok-next-in-Split.ensures.goes.stays.1 after raising c.in_ok-next-in-Split.ensures.level))
+    let (after, raising) = c.in_ok-next-in-Split.ensures.made (up_below c.args.table.now c.args.seat.now c.args.build.now.made.items c.args.way.now c.args.rise.now.key.now c.args.rise.now.end c.args.rise.now.level c.args.rise.now.risen up (c.args.rise.now.level - 1)
+    (next c.args.rise.now.level c.args.rise.now.end c.if-level-end.false up.upto) (upto c.args.rise.now.level c.args.rise.now.end c.if-level-end.false up.upto) (step_at c.args.way.now (c.args.rise.now.level - 1)) (there c.args.way.now c.args.rise.now.level c.args.rise.now.end up.step up.at) c.in-Split.position c.in-Split.zero c.in-Split.one c.in-Split.is) in
+    up_done c.args.table.now g.G.Gate.becomes (c.args.seat.now, c.args.gate.now) (c.raise_level.new.seat, c.raise_level.new.gate) (c.raise_on.new.seat, c.raise_on.new.gate) c.raise_on.new.build.made.items c.args.way.now up.here.since up.here.item up.here.mismatch up.here.like c.args.rise.now.end
+    (c.args.rise.now.level - 1) c.args.rise.now.level up.here.gone (step_at c.args.way.now (c.args.rise.now.level - 1)) (next c.args.rise.now.level c.args.rise.now.end c.if-level-end.false up.upto) (upto c.args.rise.now.level c.args.rise.now.end c.if-level-end.false up.upto)
+    (there c.args.way.now c.args.rise.now.level c.args.rise.now.end up.step up.at) c.in_ok-next-in-Split.ensures.goes c.raise_on.result
+    (c.raise_on.ensures.made (up_next c.args.table.now c.args.seat.now c.args.build.now.made.items c.args.way.now c.args.rise.now.key.now c.args.rise.now.end c.args.rise.now.level c.args.rise.now.risen up (c.args.rise.now.level - 1)
+    (next c.args.rise.now.level c.args.rise.now.end c.if-level-end.false up.upto) (upto c.args.rise.now.level c.args.rise.now.end c.if-level-end.false up.upto) (step_at c.args.way.now (c.args.rise.now.level - 1)) (there c.args.way.now c.args.rise.now.level c.args.rise.now.end up.step up.at) c.raise_level.new.seat c.raise_level.new.build.made.items c.in_ok-next-in-Split.next c.in_ok-next-in-Split.ensures.goes.stays.1 after raising c.in_ok-next-in-Split.ensures.level))
 
 pub returns-then-level-end-clause-low : goal.returns-then-level-end-clause-low
 returns-then-level-end-clause-low g t c = λ s words at h.
     let b = c.requires.up in
     let same : s ≡ b.step = same_some (sym at ∙ (ap (slice_get c.args.way.now) (sym c.if-level-end.true) ∙ b.at)) in
     let here = subst (λ (z : Step). HasLocked c.args.seat.now.known z.number words) same h in
-    fits_above words c.args.risen c.settle.result (b.single words here) (c.settle.ensures.low (node_words_of words).fixed.height (b.low words here))
+    fits_above words c.args.rise.now.risen c.settle.result (b.single words here) (c.settle.ensures.low (node_words_of words).fixed.height (b.low words here))
 
 pub returns-clause-low : goal.returns-clause-low
 returns-clause-low g t c = λ s words at h. c.raise_on.ensures.low s words at (subst (IsOf (record { node = s.number; words = words })) (sym c.in_ok-next-in-Split.ensures.goes.stays.1) h)

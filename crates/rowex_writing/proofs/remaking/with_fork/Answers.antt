@@ -12,31 +12,31 @@ use Rattle.rowex_writing.proofs.remaking.with_fork.Goals as goal
 
 pub pull_up-requires-clause-path : goal.pull_up-requires-clause-path
 pull_up-requires-clause-path c =
-    let k = c.args.key.now in
+    let k = c.args.fork.now.key.now in
     let x = piece c.args.node.now in
-    let owed = fork_owed k c.args.position c.args.zero c.args.one x c.requires.tree in
-    subst (λ j. IsAbovePath c.args.position j x) (sym (c.search-at.ensures.leads ∙ leads_spot k x)) owed.1
+    let owed = fork_owed k c.args.fork.now.position c.args.fork.now.zero c.args.fork.now.one x c.requires.tree in
+    subst (λ j. IsAbovePath c.args.fork.now.position j x) (sym (c.search-at.ensures.leads ∙ leads_spot k x)) owed.1
 
 pub pull_up-requires-clause-position : goal.pull_up-requires-clause-position
-pull_up-requires-clause-position c = let h = (fork_owed c.args.key.now c.args.position c.args.zero c.args.one (piece c.args.node.now) c.requires.tree).0.position in omega arith
+pull_up-requires-clause-position c = let h = (fork_owed c.args.fork.now.key.now c.args.fork.now.position c.args.fork.now.zero c.args.fork.now.one (piece c.args.node.now) c.requires.tree).0.position in omega arith
 
 pub pull_up-requires-clause-zero : goal.pull_up-requires-clause-zero
-pull_up-requires-clause-zero c = (fork_owed c.args.key.now c.args.position c.args.zero c.args.one (piece c.args.node.now) c.requires.tree).0.zero
+pull_up-requires-clause-zero c = (fork_owed c.args.fork.now.key.now c.args.fork.now.position c.args.fork.now.zero c.args.fork.now.one (piece c.args.node.now) c.requires.tree).0.zero
 
 pub pull_up-requires-clause-one : goal.pull_up-requires-clause-one
-pull_up-requires-clause-one c = (fork_owed c.args.key.now c.args.position c.args.zero c.args.one (piece c.args.node.now) c.requires.tree).0.one
+pull_up-requires-clause-one c = (fork_owed c.args.fork.now.key.now c.args.fork.now.position c.args.fork.now.zero c.args.fork.now.one (piece c.args.node.now) c.requires.tree).0.one
 
 pub returns-clause-shows : goal.returns-clause-shows
 returns-clause-shows c =
-    let k = c.args.key.now in
+    let k = c.args.fork.now.key.now in
     let x = piece c.args.node.now in
-    let r = Fork c.args.position (Place c.args.zero) (Place c.args.one) in
+    let r = Fork c.args.fork.now.position (Place c.args.fork.now.zero) (Place c.args.fork.now.one) in
     let same : grafted c.search-at.result r x ≡ with_page k r x = ap (λ j. grafted j r x) (c.search-at.ensures.leads ∙ leads_spot k x) ∙ grafted_spot k r x in
     subst (GrownShows c.args.node.now c.pull_up.result) same c.pull_up.ensures.shows
 
 pub returns-clause-low : goal.returns-clause-low
 returns-clause-low c =
     let v = c.args.node.now in
-    let r = Fork c.args.position (Place c.args.zero) (Place c.args.one) in
-    let g = greatest_put c.args.key.now r (piece v) in
-    grown_low v c.pull_up.result (with_page c.args.key.now r (piece v)) v.height (returns-clause-shows c) (omega (arith, g, entries_under v c.count.ensures.lawful, c.requires.zero, c.requires.one))
+    let r = Fork c.args.fork.now.position (Place c.args.fork.now.zero) (Place c.args.fork.now.one) in
+    let g = greatest_put c.args.fork.now.key.now r (piece v) in
+    grown_low v c.pull_up.result (with_page c.args.fork.now.key.now r (piece v)) v.height (returns-clause-shows c) (omega (arith, g, entries_under v c.count.ensures.lawful, c.requires.zero, c.requires.one))
