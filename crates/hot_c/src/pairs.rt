@@ -40,12 +40,16 @@ pub fn write_pairs_backwards(pairs: &Pairs, room: &mut [Pair])
     }
 }
 
-/// Writes a pair.
+/// Writes a pair. Keys of eight bytes are common, and a copy of so many needs no call.
 fn write_pair(key: &[u8], value: u64, pair: &mut Pair)
     requires { IsKey key.now }
     ensures { Spells (key.now, value) pair.new }
 {
-    pair.key[..key.len()].copy_from_slice(key);
+    if key.len() == 8 {
+        pair.key[..8].copy_from_slice(&key[..8]);
+    } else {
+        pair.key[..key.len()].copy_from_slice(key);
+    }
     pair.length = key.len() as u32;
     pair.value = value;
 }
