@@ -1,5 +1,5 @@
 -- The choice of the affected node, in terms of the steps of a way.
-use Rattle.std.specs.Prelude.{◌≡◌, ◌≢◌, ℕ, ◌+◌, ◌-◌, ◌<◌, ◌≤◌, List, length, slice_get, Some, false, true}
+use Rattle.std.specs.Prelude.{◌≡◌, ℕ, ◌+◌, ◌-◌, ◌<◌, ◌≤◌, List, length, slice_get, Some, false, true}
 use Rattle.insert_cases.specs.declared.choice.Choice.{Choice}
 use Rattle.insert_cases.specs.declared.choice.Step.{Step}
 use Rattle.insert_cases.specs.Ways.{case_of}
@@ -18,9 +18,13 @@ pub record IsChosen (way : List Step) (level first last : ℕ) (c : Choice) : Ty
   pub leaf : last ≤ first → length way ≤ level + 1 → (s : Step) → slice_get way level ≡ Some s →
       c ≡ record { level = level; first = first; last = last; case = case_of s.height s.count true }
 
+-- what rises from a node of this height goes into its parent of that height: the parent is one higher
+abbrev pub IsPullUp : ℕ → ℕ → Type 0
+IsPullUp child parent = parent ≡ child + 1
+
 -- The end of the chain of pull ups that begins at a full node: each node below the end is full, and its parent is one
 -- higher; the end is topmost, or has room, or its parent is higher still.
 pub record IsChainEnd (way : List Step) (level end : ℕ) : Type 0 where
   pub upto : end ≤ level
-  pub pulls : (l : ℕ) (s u : Step) → end ≤ l → l < level → slice_get way (l + 1) ≡ Some s → slice_get way l ≡ Some u → (s.count ≡ 32) × (u.height ≡ s.height + 1)
-  pub stops : (l : ℕ) (s u : Step) → l + 1 ≡ end → slice_get way end ≡ Some s → slice_get way l ≡ Some u → s.count ≡ 32 → u.height ≢ s.height + 1
+  pub pulls : (l : ℕ) (s u : Step) → end ≤ l → l < level → slice_get way (l + 1) ≡ Some s → slice_get way l ≡ Some u → (s.count ≡ 32) × IsPullUp s.height u.height
+  pub stops : (l : ℕ) (s u : Step) → l + 1 ≡ end → slice_get way end ≡ Some s → slice_get way l ≡ Some u → s.count ≡ 32 → IsPullUp s.height u.height → ⊥

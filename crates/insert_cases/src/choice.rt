@@ -1,12 +1,12 @@
 //! The choice of the insertion case, from the way of a search.
 
-ghost use Rattle.std.specs.Prelude.{◌≡◌, ◌≢◌, ℕ, ◌+◌, ◌<◌, length, true, false};
+ghost use Rattle.std.specs.Prelude.{◌≡◌, ◌↔◌, ℕ, ◌+◌, ◌<◌, IsTrue, length};
 ghost use Rattle.key_bits.specs.Bits.{IsFirstDifference};
 ghost use Rattle.pieces.specs.Growth.{affected_first, affected_count};
 ghost use Rattle.tries.specs.Keys.{Key as KeyBytes};
 ghost use Rattle.tries.specs.Place.{spot};
 ghost use Rattle.tries.specs.Tree.{Tree, IsTrie, IsBuilt, page};
-ghost use Rattle.insert_cases.specs.Levels.{IsLevel, IsChosen, IsChainEnd};
+ghost use Rattle.insert_cases.specs.Levels.{IsLevel, IsChosen, IsChainEnd, IsPullUp};
 ghost use Rattle.tries.specs.Search.{found};
 ghost use Rattle.insert_cases.specs.Ways.{IsWay, IsAffectedNode, case_of, stage, body};
 
@@ -128,10 +128,17 @@ pub fn chain_end(way: &[Step], level: usize) -> usize
     end
 }
 
-/// Whether a node is full and its parent one higher.
+/// Whether what rises from a full node goes into its parent.
 fn is_pulled_up(child: Step, parent: Step) -> bool
-    ensures pulled { result ≡ true → (child.count ≡ 32) × (parent.height ≡ child.height + 1) }
-    ensures stays { result ≡ false → child.count ≡ 32 → parent.height ≢ child.height + 1 }
+    ensures { IsTrue result ↔ ((child.count ≡ 32) × IsPullUp child.height parent.height) }
 {
-    child.count == 32 && parent.height > child.height && parent.height - child.height == 1
+    child.count == 32 && is_pull_up(child.height, parent.height)
+}
+
+/// Whether what rises from a node goes into its parent, by their heights: the parent is one higher. Where it is higher
+/// still, a new node goes between them.
+pub fn is_pull_up(child_height: u16, parent_height: u16) -> bool
+    ensures { IsTrue result ↔ IsPullUp child_height parent_height }
+{
+    child_height < parent_height && parent_height - child_height == 1
 }

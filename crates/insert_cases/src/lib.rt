@@ -6,6 +6,6 @@ mod choice;
 mod growth;
 mod raising;
 
-pub use choice::{Case, Choice, Step, chain_end, choose, level_below};
+pub use choice::{Case, Choice, Step, chain_end, choose, is_pull_up, level_below};
 pub use growth::{Grown, grow_full, pull_up};
 pub use raising::Risen;

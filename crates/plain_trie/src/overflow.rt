@@ -4,6 +4,7 @@ ghost use Rattle.std.specs.Prelude.{◌≡◌, ◌↔◌, ◌+◌, ◌<◌, Some
 ghost use Rattle.std.specs.Option.{ForSome};
 
 use crate::growing::Place;
+use insert_cases::is_pull_up;
 
 /// Where the halves of a cut node of this height go: into the parent where the parent is one higher, into a node
 /// between where it is higher still, and into a new topmost node where there is no parent.
@@ -15,7 +16,7 @@ pub fn place(child_height: u16, parent_height: Option<u16>) -> Place
     match parent_height {
         None => Place::NewRoot,
         Some(height) => {
-            if child_height + 1 == height {
+            if is_pull_up(child_height, height) {
                 Place::PullUp
             } else {
                 Place::Intermediate
