@@ -21,7 +21,7 @@ use Rattle.rowex_table.specs.Seats.{TableView, SeatView, IsSeatOf}
 use Rattle.rowex_records.proofs.Claimed.{all_earlier}
 use Rattle.rowex_reading.specs.Possible.{IsPossible}
 use Rattle.rowex_reading.specs.Reads.{Looks, Reads}
-use Rattle.rowex_reading.proofs.Led.{looked_at, looks_same, reads_sees}
+use Rattle.rowex_reading.proofs.Led.{looked_at, looks_same, reads_later, reads_same, reads_sees}
 use Rattle.rowex_rights.specs.Ending.{IsAtRest}
 use Rattle.rowex_walks.specs.Scan.{IsShaped}
 use Rattle.rowex_table.specs.Made.{IsLater}
@@ -50,7 +50,7 @@ use Rattle.rowex_writing.specs.declared.plan.Plan.{Plan}
 use Rattle.rowex_writing.specs.declared.plan.Plan.TheVariants.{Answer, Change as a_change}
 use Rattle.rowex_writing.specs.declared.plan.Span.{Span}
 use Rattle.rowex_writing.proofs.Onward.{looks_run, reads_run}
-use Rattle.rowex_writing.proofs.Runs.{run_loaded}
+use Rattle.rowex_writing.proofs.Runs.{run_loaded, runs_trans}
 use Rattle.rowex_writing.proofs.Spans.{met_since}
 
 -- ---- what was found and planned stays so
@@ -255,8 +255,14 @@ module _ {G : Type 0} (table : TableView) (becomes : G → Event → G → Type 
     anchor = ap (λ (z : Known). z.anchor) s ∙ rest.anchor;
   }
 
-  pub loaded_reads : (k : Known) (e n : ℕ) (a b : SeatView × G) → Reads table becomes e n a b → HasLoadedRoot k a.0.known → HasLoadedRoot k b.0.known
-  loaded_reads k e n a b r l = run_loaded table becomes k a b l (reads_run table becomes e n a b r)
+  pub begun_on : (e n : ℕ) (a m p : SeatView × G) → Begun table becomes a m → Reads table becomes e n m p → Begun table becomes a p
+  begun_on e n a m p b r = record {
+    run = runs_trans table becomes a m p b.run (reads_run table becomes e n m p r);
+    loaded = run_loaded table becomes a.0.known m p b.loaded (reads_run table becomes e n m p r);
+    later = later_trans b.later (reads_later r);
+    rest = rest_reads e n m p r b.rest;
+    seat = (reads_same r).0 ∙ b.seat;
+  }
 
 -- since the start no fewer steps have been made
 loaded_steps : (k j : Known) → HasLoadedRoot k j → k.steps ≤ j.steps

@@ -32,6 +32,7 @@ use Rattle.rowex_rights.specs.Ending.{IsAtRest}
 use Rattle.rowex_rights.specs.Stages.{HasReady}
 use Rattle.rowex_writing.specs.Building.{IsBuilding}
 use Rattle.rowex_writing.specs.Going.{HasLocked}
+use Rattle.rowex_writing.specs.Jobs.{IsJobFrom}
 use Rattle.rowex_writing.specs.Locks.{HasLockedSpan, TriesLocksOnce, targets_of}
 use Rattle.rowex_writing.specs.Plans.{change, IsPlan}
 use Rattle.rowex_writing.specs.Remaking.{AffectsJust}
@@ -73,6 +74,11 @@ AreAffected k m key way found first last = Unit {0}
 -- what the call does, by its way
 abbrev pub IsPlanned : Known → ℕ → Key → List Step → Aim → Found → Plan → Type 0
 IsPlanned k m key way aim found plan = (first : ℕ) × (last : ℕ) × IsPlan way first last aim found plan × AreAffected k m key way found first last
+
+-- so for a job and a deed, by a search since a moment
+abbrev pub HasPlanned : Layout → Known → Job → Deed → Type 0
+HasPlanned layout k job deed =
+    (m : ℕ) × (aim : Aim) × IsJobFrom layout k m job × IsPlanned k m job.key.now job.way.now aim job.found (change job.span.len job.span.end deed)
 
 -- ---- under the locks
 -- Each node that is locked for the span, and the root under the anchor's lock, names on the key's way what the search has found.

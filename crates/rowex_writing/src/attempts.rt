@@ -2,19 +2,17 @@
 
 ghost use Rattle.std.specs.Prelude.{◌≡◌, ◌≢◌, ◌⊎◌, ◌<◌, ◌≤◌, ℕ, length, true, false, IfErr, IfOk, IsSome, Err, None, Ok, ◌+◌, ◌*◌};
 ghost use Rattle.rowex_core.specs.declared.known.Known.{Known};
-ghost use Rattle.rowex_reading.specs.Lookups.{HasFound};
 ghost use Rattle.rowex_reading.specs.Possible.{IsPossible};
-ghost use Rattle.rowex_reading.specs.Seen.{since};
 ghost use Rattle.rowex_rights.specs.Ending.{IsAtRest};
 ghost use Rattle.rowex_table.specs.Made.{IsLater};
 ghost use Rattle.rowex_table.specs.Seats.{IsSeatOf};
-ghost use Rattle.rowex_writing.specs.Asking.{aim_of as the_aim, declined as the_answer};
+ghost use Rattle.rowex_writing.specs.Asking.{aim_of as the_aim};
 ghost use Rattle.rowex_writing.specs.Attempts.{HasAnswered, HasAttempted, HasDone, HasLoadedRoot, HasRefused, refusal_of as the_refusal, reply_to as the_reply};
-ghost use Rattle.rowex_writing.specs.Changes.{HasNoRoom, HasRun, HasTakenPlan, HasTakenSpan, HasTriedOnce};
+ghost use Rattle.rowex_writing.specs.Changes.{HasNoRoom, HasPlanned, HasRun, HasTakenPlan, HasTakenSpan, HasTriedOnce};
 ghost use Rattle.rowex_writing.specs.Jobs.{IsJobFrom, IsWithinWay};
 ghost use Rattle.rowex_writing.specs.Locks.{HasMadeNoChange, HasMetLock, locks_of};
-ghost use Rattle.rowex_reading.specs.Ways.{IsWayOf, value_of};
-ghost use Rattle.rowex_writing.specs.Counts.{change_steps, most_locks, most_steps, rest_steps};
+ghost use Rattle.rowex_writing.specs.Counts.{change_steps, most_locks, most_steps, span_steps};
+ghost use Rattle.record_words.specs.declared.TheConstants.{HEAD_WORDS};
 
 use crate::asking::{aim_of, declined};
 use crate::building::Build;
@@ -78,47 +76,7 @@ pub fn attempt<G: Gate>(
     if let Some(reply) = declined(ask, found) {
         return Ok(reply);
     }
-    act_on(
-        table,
-        seat,
-        gate,
-        way.as_slice(),
-        build,
-        ask,
-        key,
-        value,
-        found,
-    )
-}
-
-/// Does what is to be done by the way of the search, where the key has the value that the call expects, if it expects one: answers,
-/// or makes the change.
-fn act_on<G: Gate>(
-    table: &HotTable,
-    seat: &mut TableSeat,
-    gate: &mut G,
-    way: &[Step],
-    build: &mut Build,
-    ask: Ask,
-    key: &Key,
-    value: u64,
-    found: Found,
-) -> Result<Reply, TryFault>
-    requires own { IsSeatOf table.now seat.old }
-    requires possible { IsPossible table.now.layout seat.old.known }
-    requires way { IsWayOf table.now.layout seat.old.known (since seat.old.known) key.now way.now found }
-    requires found { HasFound seat.old.known key.now (value_of found) }
-    requires met { the_answer ask found ≡ None }
-    requires rest { IsAtRest seat.old.known }
-    requires quiet { HasMadeNoChange seat.old.known }
-    ensures run { (locks : ℕ) × HasTriedOnce table.now G.becomes locks (seat.old, gate.old) (seat.new, gate.new) ×
-        (locks ≤ most_locks) × (seat.new.known.steps ≤ seat.old.known.steps + rest_steps table.now.layout locks) }
-    ensures rest { IsAtRest seat.new.known }
-    ensures answered { IfOk result (λ reply. (k : Known) → IsLater k seat.old.known → HasAnswered k seat.new.known ask key.now value reply) }
-    ensures refused { IfErr result (λ fault. (k : Known) → HasLoadedRoot k seat.old.known → IsLater k seat.old.known →
-        HasRefused table.now.layout key.now k seat.new.known fault) }
-    ensures leafless { the_aim ask ≡ Aim.Remove → result ≢ Err TryFault.FullLeaves }
-{
+    let way = way.as_slice();
     match find_plan(table, seat, gate, way, aim_of(ask), found) {
         Plan::Answer(reply) => Ok(reply),
         Plan::Change { span, deed } => {
@@ -129,14 +87,43 @@ fn act_on<G: Gate>(
                 found,
                 span,
             };
-            if !take_span(table, seat, gate, &job) {
-                return Err(TryFault::Busy);
-            }
-            match make_change(table, seat, gate, build, &job, deed) {
+            match try_change(table, seat, gate, build, &job, deed) {
                 Ok(()) => Ok(reply_to(ask, found)),
-                Err(full) => Err(refusal_of(full)),
+                Err(fault) => Err(fault),
             }
         }
+    }
+}
+
+/// Makes the change of a plan, unless another pass is at work where it is to be made, or no record is free.
+fn try_change<G: Gate>(
+    table: &HotTable,
+    seat: &mut TableSeat,
+    gate: &mut G,
+    build: &mut Build,
+    job: &Job<'_>,
+    deed: Deed,
+) -> Result<(), TryFault>
+    requires own { IsSeatOf table.now seat.old }
+    requires possible { IsPossible table.now.layout seat.old.known }
+    requires within { IsWithinWay job.now }
+    requires planned { HasPlanned table.now.layout seat.old.known job.now deed }
+    requires rest { IsAtRest seat.old.known }
+    requires quiet { HasMadeNoChange seat.old.known }
+    ensures run { (locks : ℕ) × HasTriedOnce table.now G.becomes locks (seat.old, gate.old) (seat.new, gate.new) ×
+        (0 < locks) × (locks ≤ most_locks) × (seat.new.known.steps + HEAD_WORDS ≤ seat.old.known.steps + span_steps locks + change_steps table.now.layout locks) }
+    ensures rest { IsAtRest seat.new.known }
+    ensures done { result ≡ Ok tt → HasDone seat.old.known seat.new.known deed job.now.key.now job.now.value job.now.found }
+    ensures refused { IfErr result (λ fault. (k : Known) → HasLoadedRoot k seat.old.known → IsLater k seat.old.known →
+        HasRefused table.now.layout job.now.key.now k seat.new.known fault) }
+    ensures leafless { deed ≡ Deed.Take → result ≢ Err TryFault.FullLeaves }
+{
+    if !take_span(table, seat, gate, job) {
+        return Err(TryFault::Busy);
+    }
+    match make_change(table, seat, gate, build, job, deed) {
+        Ok(()) => Ok(()),
+        Err(full) => Err(refusal_of(full)),
     }
 }
 

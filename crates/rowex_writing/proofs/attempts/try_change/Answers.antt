@@ -1,0 +1,75 @@
+-- A refusal, or the change.
+use Rattle.std.proofs.Common.{◌≡◌, Err, ap, sym, subst, ◌∙◌, arith}
+use Rattle.rowex_reading.proofs.Seeing.{later_trans}
+use Rattle.rowex_writing.specs.Changes.{IsDeedChange}
+use Rattle.rowex_writing.proofs.Attempting.{leaves_refused, planned_later, refused_busy, refused_full}
+use Rattle.rowex_writing.proofs.Keeping.{changed_since}
+use Rattle.rowex_writing.proofs.Runs.{once_run, run_loaded}
+use Rattle.rowex_writing.specs.declared.attempts.TryFault.TheVariants.{FullLeaves}
+use Rattle.rowex_writing.proofs.attempts.try_change.Goals as goal
+
+pub take_span-requires-clause-way : goal.take_span-requires-clause-way
+take_span-requires-clause-way g c = (c.requires.planned.0, c.requires.planned.2)
+
+-- ---- another pass is at work there
+pub returns-then-not-take_span-clause-run : goal.returns-then-not-take_span-clause-run
+returns-then-not-take_span-clause-run g c =
+    let (locks, tried, some, upto, all, few) = c.take_span.ensures.run in
+    let depth = c.requires.planned.2.depth in
+    (locks, tried, some, omega (arith, upto, c.requires.within.1, depth), omega (arith, few))
+
+pub returns-then-not-take_span-clause-refused : goal.returns-then-not-take_span-clause-refused
+returns-then-not-take_span-clause-refused g c k loaded later =
+    let (m, aim, way, planned) = c.requires.planned in
+    refused_busy c.args.table.now.layout c.args.job.now.key.now k _ _ m way.since loaded later c.take_span.ensures.later (c.take_span.ensures.busy c.if-not-take_span.true m way)
+
+-- ---- the change
+pub make_change-requires : goal.make_change-requires
+make_change-requires g c =
+    let (m, aim, way, planned) = c.requires.planned in
+    record { taken = (m, aim, c.take_span.ensures.taken c.if-not-take_span.false m way, planned_later _ _ _ _ _ _ _ _ c.take_span.ensures.later planned) }
+
+pub returns-in-Ok-clause-run : goal.returns-in-Ok-clause-run
+returns-in-Ok-clause-run g c =
+    let (locks, tried, some, upto, all, few) = c.take_span.ensures.run in
+    let depth = c.requires.planned.2.depth in
+    let whole = all c.if-not-take_span.false in (
+      locks,
+      once_run c.args.table.now g.G.Gate.becomes _ _ _ tried c.make_change.ensures.run,
+      some,
+      omega (arith, upto, c.requires.within.1, depth),
+      omega (arith, whole, few, c.make_change.ensures.few),
+    )
+
+pub returns-in-Ok-clause-done : goal.returns-in-Ok-clause-done
+returns-in-Ok-clause-done g c = λ ok.
+    let job = c.args.job.now in
+    let (x, was, is, changed) = c.make_change.ensures.done c.in-Ok.is in (
+      x,
+      was,
+      subst (λ q. IsDeedChange q c.args.deed job.key.now job.value job.found x was) c.take_span.ensures.later.pass is,
+      changed_since c.args.seat.now.known c.take_span.new.seat.known c.make_change.new.seat.known x was c.take_span.ensures.later changed,
+    )
+
+-- ---- no record was free
+pub returns-in-Err-clause-run : goal.returns-in-Err-clause-run
+returns-in-Err-clause-run g c =
+    let (locks, tried, some, upto, all, few) = c.take_span.ensures.run in
+    let depth = c.requires.planned.2.depth in
+    let whole = all c.if-not-take_span.false in (
+      locks,
+      once_run c.args.table.now g.G.Gate.becomes _ _ _ tried c.make_change.ensures.run,
+      some,
+      omega (arith, upto, c.requires.within.1, depth),
+      omega (arith, whole, few, c.make_change.ensures.few),
+    )
+
+pub returns-in-Err-clause-refused : goal.returns-in-Err-clause-refused
+returns-in-Err-clause-refused g c k loaded later =
+    let there = run_loaded c.args.table.now g.G.Gate.becomes k _ _ loaded c.take_span.ensures.run.1.1 in
+    rw c.refusal_of.ensures (refused_full c.args.table.now.layout c.args.job.now.key.now k _ _ c.in-Err.full there (later_trans later c.take_span.ensures.later) c.in-Err.ensures.full)
+
+pub returns-in-Err-clause-leafless : goal.returns-in-Err-clause-leafless
+returns-in-Err-clause-leafless g c take is =
+    let same : c.refusal_of.result ≡ FullLeaves = cc in
+    c.make_change.ensures.leafless take (c.in-Err.is ∙ ap Err (leaves_refused c.in-Err.full (sym c.refusal_of.ensures ∙ same)))
