@@ -1,5 +1,5 @@
 -- The steps of an attempt: a search, and what comes after it.
-use Rattle.std.proofs.Common.{◌≡◌, ℕ, zero, suc, ◌+◌, ◌*◌, ◌<◌, ◌≤◌, List, [], ◌∷◌, ◌++◌, length, refl, sym, ap, subst, ◌∙◌, arith}
+use Rattle.std.proofs.Common.{◌≡◌, Bool, true, ℕ, zero, suc, ◌+◌, ◌*◌, ◌<◌, ◌≤◌, List, [], ◌∷◌, ◌++◌, length, refl, sym, ap, subst, ◌∙◌, arith}
 use Rattle.std.specs.Prelude.{All}
 use Rattle.std.proofs.lemmas.List.Elements.{All-append, All-cons, All-head, All-tail, All-weaker}
 use Rattle.record_words.specs.declared.layout.Layout.{Layout}
@@ -12,10 +12,13 @@ use Rattle.rowex_table.specs.Seats.{TableView, SeatView}
 use Rattle.rowex_table.specs.Stays.{LeavesPin}
 use Rattle.rowex_table.proofs.Running.{runs_append}
 use Rattle.rowex_reading.specs.Lookups.{HasSearched}
-use Rattle.rowex_reading.specs.Reads.{IsBelowRoot, entries_in}
+use Rattle.rowex_reading.specs.Reads.{IsBelowRoot, Reads, entries_in}
 use Rattle.rowex_reading.proofs.Counting.{looks_count, runs_count}
 use Rattle.rowex_writing.specs.Attempts.{AreAttemptSteps, HasAttempted, IsOfSearch}
-use Rattle.rowex_writing.specs.Changes.{HasTriedOnce}
+use Rattle.rowex_writing.specs.Changes.{HasRun, HasTriedOnce}
+use Rattle.record_words.specs.declared.TheConstants.{HEAD_WORDS}
+use Rattle.rowex_writing.proofs.Onward.{reads_run}
+use Rattle.rowex_writing.proofs.Runs.{once_run, run_once}
 use Rattle.rowex_writing.specs.Counts.{attempt_steps, change_steps, most_locks, most_steps, rest_steps, span_steps}
 use Rattle.rowex_writing.specs.Locks.{targets_of}
 use Rattle.rowex_writing.proofs.Tried.{once_after, targets_append}
@@ -96,3 +99,21 @@ module _ {G : Type 0} (table : TableView) (becomes : G → Event → G → Type 
   attempted_few =
       let looked = looks_count table becomes searched.nodes searched.loaded a m searched.looks in
       omega (arith, looked, searched.few, searched.low, few, rest_most table.layout locks most)
+
+-- ---- a change that was tried
+-- locks that were all taken, and the change under them
+pub changed_run : {G : Type 0} (table : TableView) (becomes : G → Event → G → Type 0) (a m b : SeatView × G) (taken : Bool) (all : ℕ) → ((locks : ℕ) × HasTriedOnce table becomes locks a m ×
+    (0 < locks) × (locks ≤ all) × (taken ≡ true → locks ≡ all) × (m.0.known.steps ≤ a.0.known.steps + 3 * locks + 1)) → taken ≡ true → all ≤ most_locks → HasRun table becomes m b →
+    b.0.known.steps ≤ m.0.known.steps + change_steps table.layout all →
+    (locks : ℕ) × HasTriedOnce table becomes locks a b × (0 < locks) × (locks ≤ most_locks) × (b.0.known.steps + HEAD_WORDS ≤ a.0.known.steps + span_steps locks + change_steps table.layout locks)
+changed_run table becomes a m b taken all (locks, tried, some, upto, each, few) is most run spent =
+    let whole = each is in (locks, once_run table becomes a m b tried run, some, omega (arith, upto, most), omega (arith, whole, few, spent))
+
+-- after a search and a plan
+pub tried_after : {G : Type 0} (table : TableView) (becomes : G → Event → G → Type 0) (e n : ℕ) (a m p b : SeatView × G) → HasSearched table becomes a m → Reads table becomes e n m p → p.0.known.steps ≤ m.0.known.steps + HEAD_WORDS →
+    ((locks : ℕ) × HasTriedOnce table becomes locks p b × (0 < locks) × (locks ≤ most_locks) × (b.0.known.steps + HEAD_WORDS ≤ p.0.known.steps + span_steps locks + change_steps table.layout locks)) →
+    HasAttempted table becomes a b × (b.0.known.steps ≤ a.0.known.steps + most_steps table.layout)
+tried_after table becomes e n a m p b searched reads planned (locks, tried, some, most, few) =
+    let whole = run_once table becomes m p b (reads_run table becomes e n m p reads) tried in
+    let low = rest_few m.0.known.steps b.0.known.steps table.layout locks some (omega (arith, few, planned)) in
+    (attempted table becomes a m b searched whole most low, attempted_few table becomes a m b searched whole most low)

@@ -34,7 +34,7 @@ use Rattle.rowex_writing.specs.Attempts.{HasAnswered, HasDone, HasLoadedRoot, Ha
 use Rattle.rowex_writing.specs.Changes.{AreAffected, HasChanged, HasNoRoom, HasRun, IsFull, IsPlanned}
 use Rattle.rowex_writing.specs.Locks.{HasMetLock}
 use Rattle.rowex_writing.specs.Plans.{change, IsCase, IsNewLeafPlan}
-use Rattle.rowex_reading.specs.Ways.{value_of}
+use Rattle.rowex_reading.specs.Ways.{IsWayOf, value_of}
 use Rattle.rowex_writing.specs.declared.plan.Ask.{Ask}
 use Rattle.rowex_writing.specs.declared.plan.Ask.TheVariants.{Insert, Upsert, Exchange, Remove, RemoveIf}
 use Rattle.rowex_writing.specs.declared.plan.Aim.{Aim}
@@ -71,9 +71,14 @@ pub planned_later : (k j : Known) (m : ℕ) (key : Key) (way : List Step) (aim :
     IsPlanned j m key way aim found plan
 planned_later k j m key way aim found plan later (first, last, is, affected) = (first, last, is, affected_later k j m key way found first last later affected)
 
-pub planned_as : (k : Known) (m : ℕ) (key : Key) (way : List Step) (aim other : Aim) (found : Found) (plan : Plan) → aim ≡ other → IsPlanned k m key way aim found plan →
+planned_as : (k : Known) (m : ℕ) (key : Key) (way : List Step) (aim other : Aim) (found : Found) (plan : Plan) → aim ≡ other → IsPlanned k m key way aim found plan →
     IsPlanned k m key way other found plan
 planned_as k m key way aim other found plan same planned = subst (λ a. IsPlanned k m key way a found plan) same planned
+
+-- the plan of a call, by a search on the way
+pub plan_made : (layout : Layout) (k j : Known) (m : ℕ) (key : Key) (way shown : List Step) (found : Found) (aim other : Aim) (plan : Plan) → shown ≡ way → aim ≡ other → IsWayOf layout k m key way found →
+    ((m : ℕ) (key : Key) → IsWayOf layout k m key shown found → IsPlanned j m key shown aim found plan) → IsPlanned j m key shown other found plan
+plan_made layout k j m key way shown found aim other plan same is w each = planned_as j m key shown aim other found plan is (each m key (subst (λ z. IsWayOf layout k m key z found) (sym same) w))
 
 -- ---- an answer
 -- the reply of a plan that answers

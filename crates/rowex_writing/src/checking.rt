@@ -11,8 +11,8 @@ ghost use Rattle.rowex_reading.specs.Seen.{HasPlace, Sure};
 ghost use Rattle.rowex_writing.specs.Changes.{IsChecked};
 ghost use Rattle.rowex_writing.specs.Checks.{EntriesStand};
 ghost use Rattle.rowex_writing.specs.Going.{HasLocked, IsLockedBy, ReadsOn};
-ghost use Rattle.rowex_writing.specs.Locks.{HasLockedSpan, locks_of};
-ghost use Rattle.rowex_writing.specs.Jobs.{IsJobFrom, IsWithinWay};
+ghost use Rattle.rowex_writing.specs.Locks.{locks_of};
+ghost use Rattle.rowex_writing.specs.Jobs.{HoldsSpan, IsJobFrom};
 ghost use Rattle.rowex_reading.specs.Ways.{RootWas, named};
 
 use crate::deeds::Job;
@@ -32,11 +32,7 @@ pub(crate) fn check_span<G: Gate>(
     gate: &mut G,
     job: &Job<'_>,
 ) -> bool
-    requires own { IsSeatOf table.now seat.old }
-    requires possible { IsPossible table.now.layout seat.old.known }
-    requires within { IsWithinWay job.now }
-    requires way { (m : ℕ) × IsJobFrom table.now.layout seat.old.known m job.now }
-    requires locked { HasLockedSpan seat.old.known job.now.way.now job.now.span }
+    requires held { HoldsSpan table.now seat.old job.now }
     ensures reads { ReadsOn table.now G.becomes (seat.old, gate.old) (seat.new, gate.new) }
     ensures possible { IsPossible table.now.layout seat.new.known }
     ensures checked { result ≡ true → IsChecked seat.new.known job.now.key.now job.now.way.now job.now.found job.now.span }
@@ -96,11 +92,7 @@ fn entries_stand<G: Gate>(
     gate: &mut G,
     job: &Job<'_>,
 ) -> bool
-    requires own { IsSeatOf table.now seat.old }
-    requires possible { IsPossible table.now.layout seat.old.known }
-    requires within { IsWithinWay job.now }
-    requires way { (m : ℕ) × IsJobFrom table.now.layout seat.old.known m job.now }
-    requires locked { HasLockedSpan seat.old.known job.now.way.now job.now.span }
+    requires held { HoldsSpan table.now seat.old job.now }
     ensures reads { ReadsOn table.now G.becomes (seat.old, gate.old) (seat.new, gate.new) }
     ensures possible { IsPossible table.now.layout seat.new.known }
     ensures stand { (m : ℕ) → IsJobFrom table.now.layout seat.old.known m job.now → result ≡ true →

@@ -20,8 +20,8 @@ ghost use Rattle.rowex_writing.specs.Changes.{HasChanged, HasRun};
 ghost use Rattle.rowex_writing.specs.Counts.{leaf_steps};
 ghost use Rattle.rowex_writing.specs.Deeds.{MayReplace, leaf_gone};
 ghost use Rattle.rowex_writing.specs.Going.{WorksOn};
-ghost use Rattle.rowex_writing.specs.Jobs.{IsJobFrom, IsWithinWay};
-ghost use Rattle.rowex_writing.specs.Locks.{HasLockedSpan, locks_of};
+ghost use Rattle.rowex_writing.specs.Jobs.{HoldsSpan};
+ghost use Rattle.rowex_writing.specs.Locks.{locks_of};
 ghost use Rattle.rowex_writing.specs.Putting.{IsSpotAbove};
 
 use crate::building::Build;
@@ -102,10 +102,7 @@ pub(crate) fn publish_change<G: Gate>(
     job: &Job<'_>,
     raised: Raised,
 )
-    requires own { IsSeatOf table.now seat.old }
-    requires within { IsWithinWay job.now }
-    requires way { (m : ℕ) × IsJobFrom table.now.layout seat.old.known m job.now }
-    requires locked { HasLockedSpan seat.old.known job.now.way.now job.now.span }
+    requires held { HoldsSpan table.now seat.old job.now }
     requires may { (x : Change) × (was : Option ℕ) × MayReplace table.now seat.old build.old.made.items job.now.way.now job.now.span raised x was }
     ensures run { HasRun table.now G.becomes (seat.old, gate.old) (seat.new, gate.new) }
     ensures changed { (x : Change) (was : Option ℕ) → MayReplace table.now seat.old build.old.made.items job.now.way.now job.now.span raised x was →

@@ -7,10 +7,10 @@ use Rattle.rowex_reading.proofs.Ways.{way_later}
 use Rattle.rowex_writing.specs.Asking.{aim_of}
 use Rattle.rowex_writing.specs.Changes.{IsPlanned}
 use Rattle.rowex_writing.specs.Plans.{LiesOnWay}
-use Rattle.rowex_writing.proofs.Attempting.{answered_change, answered_look, begun_on, declined_looked, found_later, looked, planned_as, removal_takes, searched}
-use Rattle.rowex_writing.proofs.Attempted.{attempted, attempted_few, rest_few}
+use Rattle.rowex_writing.proofs.Attempting.{answered_change, answered_look, begun_on, declined_looked, found_later, looked, plan_made, removal_takes, searched}
+use Rattle.rowex_writing.proofs.Attempted.{attempted, attempted_few, tried_after}
 use Rattle.rowex_writing.proofs.Onward.{reads_run}
-use Rattle.rowex_writing.proofs.Runs.{none_once, run_loaded, run_none, run_once}
+use Rattle.rowex_writing.proofs.Runs.{none_once, run_loaded, run_none}
 use Rattle.rowex_writing.proofs.Works.{quiet_on}
 use Rattle.rowex_writing.specs.declared.attempts.TryFault.TheVariants.{FullLeaves}
 use Rattle.rowex_writing.proofs.attempts.attempt.Goals as goal
@@ -45,9 +45,7 @@ returns-in-Answer-clause-answered g c =
     let b = begun_on c.args.table.now g.G.Gate.becomes c.find_plan.ensures.reads.0 c.find_plan.ensures.reads.1 _ _ _
     (searched c.args.table.now g.G.Gate.becomes _ _ c.search_way-found.ensures.searched c.search_way-found.ensures.possible c.requires.own c.requires.rest) c.find_plan.ensures.reads.2 in
     let m = since c.search_way-found.new.seat.known in
-    let way = subst (λ way. IsWayOf c.args.table.now.layout c.search_way-found.new.seat.known m c.args.key.now way c.search_way-found.result) (sym c.as_slice-way.ensures.value) c.search_way-found.ensures.way in
-    let planned = planned_as c.find_plan.new.seat.known m c.args.key.now c.as_slice-way.result.now c.aim_of.result (aim_of c.args.ask) c.search_way-found.result c.find_plan.result c.aim_of.ensures
-    (c.find_plan.ensures.planned m c.args.key.now way) in
+    let planned = plan_made c.args.table.now.layout _ _ m c.args.key.now _ _ _ _ (aim_of c.args.ask) _ c.as_slice-way.ensures.value c.aim_of.ensures c.search_way-found.ensures.way c.find_plan.ensures.planned in
     let found = found_later _ _ _ _ (reads_later c.find_plan.ensures.reads.2) (same_since c.find_plan.ensures.reads.2) c.search_way-found.ensures.found in
     answered_look c.args.seat.now.known c.find_plan.new.seat.known c.args.ask c.args.key.now c.args.value c.in-Answer.reply b.later
     (looked _ _ _ _ _ _ _ _ (sym c.declined.ensures ∙ c.in_default.is) (subst (IsPlanned _ _ _ _ _ _) c.in-Answer.is planned) found)
@@ -87,9 +85,7 @@ try_change-requires-clause-quiet g c =
 
 pub returns-in-Err-clause-run : goal.returns-in-Err-clause-run
 returns-in-Err-clause-run g c =
-    let (locks, tried, some, most, few) = c.try_change.ensures.run in
-    let whole = run_once c.args.table.now g.G.Gate.becomes _ _ _ (reads_run c.args.table.now g.G.Gate.becomes c.find_plan.ensures.reads.0 c.find_plan.ensures.reads.1 _ _ c.find_plan.ensures.reads.2) tried in
-    attempted c.args.table.now g.G.Gate.becomes _ _ _ c.search_way-found.ensures.searched whole most (rest_few _ _ c.args.table.now.layout locks some (omega (arith, few, c.find_plan.ensures.few)))
+    (tried_after c.args.table.now g.G.Gate.becomes c.find_plan.ensures.reads.0 c.find_plan.ensures.reads.1 _ _ _ _ c.search_way-found.ensures.searched c.find_plan.ensures.reads.2 c.find_plan.ensures.few c.try_change.ensures.run).0
 
 pub returns-in-Err-clause-loaded : goal.returns-in-Err-clause-loaded
 returns-in-Err-clause-loaded g c =
@@ -106,24 +102,18 @@ returns-in-Err-clause-refused g c =
 pub returns-in-Err-clause-leafless : goal.returns-in-Err-clause-leafless
 returns-in-Err-clause-leafless g c e is =
     let m = since c.search_way-found.new.seat.known in
-    let way = subst (λ way. IsWayOf c.args.table.now.layout c.search_way-found.new.seat.known m c.args.key.now way c.search_way-found.result) (sym c.as_slice-way.ensures.value) c.search_way-found.ensures.way in
-    let planned = planned_as c.find_plan.new.seat.known m c.args.key.now c.as_slice-way.result.now c.aim_of.result (aim_of c.args.ask) c.search_way-found.result c.find_plan.result c.aim_of.ensures
-    (c.find_plan.ensures.planned m c.args.key.now way) in
+    let planned = plan_made c.args.table.now.layout _ _ m c.args.key.now _ _ _ _ (aim_of c.args.ask) _ c.as_slice-way.ensures.value c.aim_of.ensures c.search_way-found.ensures.way c.find_plan.ensures.planned in
     let take = removal_takes c.find_plan.new.seat.known m c.args.key.now c.as_slice-way.result.now (aim_of c.args.ask) c.search_way-found.result c.find_plan.result c.in-Change.span c.in-Change.deed e c.in-Change.is planned in
     let same : c.in-Err.fault ≡ FullLeaves = cc in
     c.try_change.ensures.leafless take (c.in-Err.is ∙ ap Err same)
 
 pub returns-in-Err-clause-few : goal.returns-in-Err-clause-few
 returns-in-Err-clause-few g c =
-    let (locks, tried, some, most, few) = c.try_change.ensures.run in
-    let whole = run_once c.args.table.now g.G.Gate.becomes _ _ _ (reads_run c.args.table.now g.G.Gate.becomes c.find_plan.ensures.reads.0 c.find_plan.ensures.reads.1 _ _ c.find_plan.ensures.reads.2) tried in
-    attempted_few c.args.table.now g.G.Gate.becomes _ _ _ c.search_way-found.ensures.searched whole most (rest_few _ _ c.args.table.now.layout locks some (omega (arith, few, c.find_plan.ensures.few)))
+    (tried_after c.args.table.now g.G.Gate.becomes c.find_plan.ensures.reads.0 c.find_plan.ensures.reads.1 _ _ _ _ c.search_way-found.ensures.searched c.find_plan.ensures.reads.2 c.find_plan.ensures.few c.try_change.ensures.run).1
 
 pub returns-in-Ok-clause-run : goal.returns-in-Ok-clause-run
 returns-in-Ok-clause-run g c =
-    let (locks, tried, some, most, few) = c.try_change.ensures.run in
-    let whole = run_once c.args.table.now g.G.Gate.becomes _ _ _ (reads_run c.args.table.now g.G.Gate.becomes c.find_plan.ensures.reads.0 c.find_plan.ensures.reads.1 _ _ c.find_plan.ensures.reads.2) tried in
-    attempted c.args.table.now g.G.Gate.becomes _ _ _ c.search_way-found.ensures.searched whole most (rest_few _ _ c.args.table.now.layout locks some (omega (arith, few, c.find_plan.ensures.few)))
+    (tried_after c.args.table.now g.G.Gate.becomes c.find_plan.ensures.reads.0 c.find_plan.ensures.reads.1 _ _ _ _ c.search_way-found.ensures.searched c.find_plan.ensures.reads.2 c.find_plan.ensures.few c.try_change.ensures.run).0
 
 pub returns-in-Ok-clause-loaded : goal.returns-in-Ok-clause-loaded
 returns-in-Ok-clause-loaded g c =
@@ -136,16 +126,12 @@ returns-in-Ok-clause-answered g c =
     let b = begun_on c.args.table.now g.G.Gate.becomes c.find_plan.ensures.reads.0 c.find_plan.ensures.reads.1 _ _ _
     (searched c.args.table.now g.G.Gate.becomes _ _ c.search_way-found.ensures.searched c.search_way-found.ensures.possible c.requires.own c.requires.rest) c.find_plan.ensures.reads.2 in
     let m = since c.search_way-found.new.seat.known in
-    let way = subst (λ way. IsWayOf c.args.table.now.layout c.search_way-found.new.seat.known m c.args.key.now way c.search_way-found.result) (sym c.as_slice-way.ensures.value) c.search_way-found.ensures.way in
-    let planned = planned_as c.find_plan.new.seat.known m c.args.key.now c.as_slice-way.result.now c.aim_of.result (aim_of c.args.ask) c.search_way-found.result c.find_plan.result c.aim_of.ensures
-    (c.find_plan.ensures.planned m c.args.key.now way) in
+    let planned = plan_made c.args.table.now.layout _ _ m c.args.key.now _ _ _ _ (aim_of c.args.ask) _ c.as_slice-way.ensures.value c.aim_of.ensures c.search_way-found.ensures.way c.find_plan.ensures.planned in
     rw c.reply_to.ensures (answered_change c.args.seat.now.known _ _ _ _ _ _ _ _ _ _ _ b.later (sym c.declined.ensures ∙ c.in_default.is) (subst (IsPlanned _ _ _ _ _ _) c.in-Change.is planned) (c.try_change.ensures.done c.in-Ok.is))
 
 pub returns-in-Ok-clause-few : goal.returns-in-Ok-clause-few
 returns-in-Ok-clause-few g c =
-    let (locks, tried, some, most, few) = c.try_change.ensures.run in
-    let whole = run_once c.args.table.now g.G.Gate.becomes _ _ _ (reads_run c.args.table.now g.G.Gate.becomes c.find_plan.ensures.reads.0 c.find_plan.ensures.reads.1 _ _ c.find_plan.ensures.reads.2) tried in
-    attempted_few c.args.table.now g.G.Gate.becomes _ _ _ c.search_way-found.ensures.searched whole most (rest_few _ _ c.args.table.now.layout locks some (omega (arith, few, c.find_plan.ensures.few)))
+    (tried_after c.args.table.now g.G.Gate.becomes c.find_plan.ensures.reads.0 c.find_plan.ensures.reads.1 _ _ _ _ c.search_way-found.ensures.searched c.find_plan.ensures.reads.2 c.find_plan.ensures.few c.try_change.ensures.run).1
 
 -- ---- answered at once
 pub returns-in-Some-clause-run : goal.returns-in-Some-clause-run

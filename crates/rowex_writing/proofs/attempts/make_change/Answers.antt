@@ -7,26 +7,26 @@ use Rattle.rowex_writing.proofs.Confirming.{span_later}
 use Rattle.rowex_writing.proofs.Growths.{no_room}
 use Rattle.rowex_writing.proofs.Keeping.{changed_since, made_held, made_records, step_nodes}
 use Rattle.rowex_writing.proofs.Locking.{seat_of}
+use Rattle.rowex_writing.proofs.Making.{goes_possible}
 use Rattle.rowex_writing.proofs.Runs.{goes_run, runs_trans, works_run}
 use Rattle.rowex_writing.proofs.attempts.make_change.Goals as goal
 
-pub publish_change-requires-clause-own : goal.publish_change-requires-clause-own
-publish_change-requires-clause-own g c = seat_of c.args.table.now g.G.Gate.becomes (c.args.seat.now, c.args.gate.now) (c.carry_out.new.seat, c.carry_out.new.gate) c.carry_out.ensures.goes c.requires.taken.2.seat
-
-pub publish_change-requires-clause-way : goal.publish_change-requires-clause-way
-publish_change-requires-clause-way g c =
+pub publish_change-requires : goal.publish_change-requires
+publish_change-requires g c =
     let job = c.args.job.now in
     let (m, aim, t, planned) = c.requires.taken in
-    (m, way_later c.args.table.now.layout c.args.seat.now.known c.carry_out.new.seat.known m job.key.now job.way.now job.found c.carry_out.ensures.goes.stays.0 t.way_of)
-
-pub publish_change-requires-clause-within : goal.publish_change-requires-clause-within
-publish_change-requires-clause-within g c = c.requires.taken.2.within
-
-pub publish_change-requires-clause-locked : goal.publish_change-requires-clause-locked
-publish_change-requires-clause-locked g c = span_later _ _ c.args.job.now.way.now c.args.job.now.span c.carry_out.ensures.goes.stays c.requires.taken.2.locked
-
-pub publish_change-requires-clause-may : goal.publish_change-requires-clause-may
-publish_change-requires-clause-may g c = let (x, was, is, may) = c.in-Ok.ensures.raised in (x, was, may)
+    let goes = c.carry_out.ensures.goes in
+    let (x, was, is, may) = c.in-Ok.ensures.raised in
+    record {
+      held = record {
+        seat = seat_of c.args.table.now g.G.Gate.becomes (c.args.seat.now, c.args.gate.now) (c.carry_out.new.seat, c.carry_out.new.gate) goes t.seat;
+        possible = goes_possible c.args.table.now g.G.Gate.becomes (c.args.seat.now, c.args.gate.now) (c.carry_out.new.seat, c.carry_out.new.gate) goes t.possible;
+        within = t.within;
+        from = (m, way_later c.args.table.now.layout c.args.seat.now.known c.carry_out.new.seat.known m job.key.now job.way.now job.found goes.stays.0 t.way_of);
+        locked = span_later _ _ job.way.now job.span goes.stays t.locked;
+      };
+      may = (x, was, may);
+    }
 
 pub returns-in-Ok-clause-run : goal.returns-in-Ok-clause-run
 returns-in-Ok-clause-run g c =

@@ -27,17 +27,19 @@ returns-then-not-lock_span-clause-run g c =
 pub returns-then-not-lock_span-clause-later : goal.returns-then-not-lock_span-clause-later
 returns-then-not-lock_span-clause-later g c = works_later c.args.table.now g.G.Gate.becomes _ _ c.lock_span.ensures.tries.1.1
 
-pub check_span-requires-clause-own : goal.check_span-requires-clause-own
-check_span-requires-clause-own g c = works_seat c.args.table.now g.G.Gate.becomes _ _ c.lock_span.ensures.tries.1.1 c.requires.own
-
-pub check_span-requires-clause-possible : goal.check_span-requires-clause-possible
-check_span-requires-clause-possible g c =
-    run_possible c.args.table.now g.G.Gate.becomes _ _ (works_run c.args.table.now g.G.Gate.becomes _ _ c.lock_span.ensures.tries.1.1) c.requires.possible
-
-pub check_span-requires-clause-way : goal.check_span-requires-clause-way
-check_span-requires-clause-way g c =
-    let later = works_later c.args.table.now g.G.Gate.becomes _ _ c.lock_span.ensures.tries.1.1 in
-    (c.requires.way.0, way_later c.args.table.now.layout c.args.seat.now.known c.lock_span.new.seat.known c.requires.way.0 c.args.job.now.key.now c.args.job.now.way.now c.args.job.now.found later c.requires.way.1)
+pub check_span-requires : goal.check_span-requires
+check_span-requires g c =
+    let tries = c.lock_span.ensures.tries.1.1 in
+    let (m, w) = c.requires.way in
+    record {
+      held = record {
+        seat = works_seat c.args.table.now g.G.Gate.becomes _ _ tries c.requires.own;
+        possible = run_possible c.args.table.now g.G.Gate.becomes _ _ (works_run c.args.table.now g.G.Gate.becomes _ _ tries) c.requires.possible;
+        within = c.requires.within;
+        from = (m, way_later c.args.table.now.layout c.args.seat.now.known c.lock_span.new.seat.known m c.args.job.now.key.now c.args.job.now.way.now c.args.job.now.found (works_later c.args.table.now g.G.Gate.becomes _ _ tries) w);
+        locked = c.lock_span.ensures.locked c.if-not-lock_span.false;
+      };
+    }
 
 pub returns-then-check_span-clause-run : goal.returns-then-check_span-clause-run
 returns-then-check_span-clause-run g c =

@@ -2,9 +2,10 @@
 use Rattle.std.proofs.Common.{◌≡◌, Err, ap, sym, subst, ◌∙◌, arith}
 use Rattle.rowex_reading.proofs.Seeing.{later_trans}
 use Rattle.rowex_writing.specs.Changes.{IsDeedChange}
+use Rattle.rowex_writing.proofs.Attempted.{changed_run}
 use Rattle.rowex_writing.proofs.Attempting.{leaves_refused, planned_later, refused_busy, refused_full}
 use Rattle.rowex_writing.proofs.Keeping.{changed_since}
-use Rattle.rowex_writing.proofs.Runs.{once_run, run_loaded}
+use Rattle.rowex_writing.proofs.Runs.{run_loaded}
 use Rattle.rowex_writing.specs.declared.attempts.TryFault.TheVariants.{FullLeaves}
 use Rattle.rowex_writing.proofs.attempts.try_change.Goals as goal
 
@@ -31,15 +32,8 @@ make_change-requires g c =
 
 pub returns-in-Ok-clause-run : goal.returns-in-Ok-clause-run
 returns-in-Ok-clause-run g c =
-    let (locks, tried, some, upto, all, few) = c.take_span.ensures.run in
     let depth = c.requires.planned.2.depth in
-    let whole = all c.if-not-take_span.false in (
-      locks,
-      once_run c.args.table.now g.G.Gate.becomes _ _ _ tried c.make_change.ensures.run,
-      some,
-      omega (arith, upto, c.requires.within.1, depth),
-      omega (arith, whole, few, c.make_change.ensures.few),
-    )
+    changed_run c.args.table.now g.G.Gate.becomes _ _ _ _ _ c.take_span.ensures.run c.if-not-take_span.false (omega (arith, c.requires.within.1, depth)) c.make_change.ensures.run c.make_change.ensures.few
 
 pub returns-in-Ok-clause-done : goal.returns-in-Ok-clause-done
 returns-in-Ok-clause-done g c = λ ok.
@@ -54,15 +48,8 @@ returns-in-Ok-clause-done g c = λ ok.
 -- ---- no record was free
 pub returns-in-Err-clause-run : goal.returns-in-Err-clause-run
 returns-in-Err-clause-run g c =
-    let (locks, tried, some, upto, all, few) = c.take_span.ensures.run in
     let depth = c.requires.planned.2.depth in
-    let whole = all c.if-not-take_span.false in (
-      locks,
-      once_run c.args.table.now g.G.Gate.becomes _ _ _ tried c.make_change.ensures.run,
-      some,
-      omega (arith, upto, c.requires.within.1, depth),
-      omega (arith, whole, few, c.make_change.ensures.few),
-    )
+    changed_run c.args.table.now g.G.Gate.becomes _ _ _ _ _ c.take_span.ensures.run c.if-not-take_span.false (omega (arith, c.requires.within.1, depth)) c.make_change.ensures.run c.make_change.ensures.few
 
 pub returns-in-Err-clause-refused : goal.returns-in-Err-clause-refused
 returns-in-Err-clause-refused g c k loaded later =

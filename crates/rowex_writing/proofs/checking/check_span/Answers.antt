@@ -8,30 +8,31 @@ use Rattle.rowex_writing.proofs.checking.check_span.Goals as goal
 
 pub returns-then-job-gt0-clause-checked : goal.returns-then-job-gt0-clause-checked
 returns-then-job-gt0-clause-checked g c = λ t.
-    let (m, w) = c.requires.way in record { root = λ z. absurd (omega (arith, c.if-job-gt0.true)); entries = c.entries_stand.ensures.stand m w t }
+    let (m, w) = c.requires.held.from in record { root = λ z. absurd (omega (arith, c.if-job-gt0.true)); entries = c.entries_stand.ensures.stand m w t }
 
 pub root_stands-requires-clause-pinned : goal.root_stands-requires-clause-pinned
-root_stands-requires-clause-pinned g c = let (m, w) = c.requires.way in since_pinned c.args.seat.now.known m w.since
+root_stands-requires-clause-pinned g c = let (m, w) = c.requires.held.from in since_pinned c.args.seat.now.known m w.since
 
 pub root_stands-requires-clause-locked : goal.root_stands-requires-clause-locked
-root_stands-requires-clause-locked g c = c.requires.locked.top (omega (arith, c.if-job-gt0.false))
+root_stands-requires-clause-locked g c = c.requires.held.locked.top (omega (arith, c.if-job-gt0.false))
 
 pub returns-then-not-root_stands-clause-changed : goal.returns-then-not-root_stands-clause-changed
 returns-then-not-root_stands-clause-changed g c = λ m w f.
     c.root_stands.ensures.changed m (subst (λ o. RootWas c.args.seat.now.known m o) (sym c.named_at.ensures) w.root) c.if-not-root_stands.true
 
-pub entries_stand-requires-2-clause-own : goal.entries_stand-requires-2-clause-own
-entries_stand-requires-2-clause-own g c =
-    seat_of c.args.table.now g.G.Gate.becomes (c.args.seat.now, c.args.gate.now) (c.root_stands.new.seat, c.root_stands.new.gate) c.root_stands.ensures.reads.goes c.requires.own
-
-pub entries_stand-requires-2-clause-way : goal.entries_stand-requires-2-clause-way
-entries_stand-requires-2-clause-way g c =
-    let (m, w) = c.requires.way in
-    (m, way_later c.args.table.now.layout c.args.seat.now.known c.root_stands.new.seat.known m c.args.job.now.key.now c.args.job.now.way.now c.args.job.now.found c.root_stands.ensures.reads.goes.stays.0 w)
-
-pub entries_stand-requires-2-clause-locked : goal.entries_stand-requires-2-clause-locked
-entries_stand-requires-2-clause-locked g c =
-    span_later c.args.seat.now.known c.root_stands.new.seat.known c.args.job.now.way.now c.args.job.now.span c.root_stands.ensures.reads.goes.stays c.requires.locked
+pub entries_stand-requires-2 : goal.entries_stand-requires-2
+entries_stand-requires-2 g c =
+    let (m, w) = c.requires.held.from in
+    let goes = c.root_stands.ensures.reads.goes in
+    record {
+      held = record {
+        seat = seat_of c.args.table.now g.G.Gate.becomes (c.args.seat.now, c.args.gate.now) (c.root_stands.new.seat, c.root_stands.new.gate) goes c.requires.held.seat;
+        possible = c.root_stands.ensures.possible;
+        within = c.requires.held.within;
+        from = (m, way_later c.args.table.now.layout c.args.seat.now.known c.root_stands.new.seat.known m c.args.job.now.key.now c.args.job.now.way.now c.args.job.now.found goes.stays.0 w);
+        locked = span_later c.args.seat.now.known c.root_stands.new.seat.known c.args.job.now.way.now c.args.job.now.span goes.stays c.requires.held.locked;
+      };
+    }
 
 pub returns-clause-reads : goal.returns-clause-reads
 returns-clause-reads g c =
@@ -40,7 +41,7 @@ returns-clause-reads g c =
 
 pub returns-clause-checked : goal.returns-clause-checked
 returns-clause-checked g c = λ t.
-    let (m, w) = c.requires.way in
+    let (m, w) = c.requires.held.from in
     let later = c.root_stands.ensures.reads.goes.stays.0 in
     let moved = way_later c.args.table.now.layout c.args.seat.now.known c.root_stands.new.seat.known m c.args.job.now.key.now c.args.job.now.way.now c.args.job.now.found later w in
     record {

@@ -19,9 +19,9 @@ there way i len d low high = slice_get-get_or way i d (omega arith)
 pub loop-index-init : goal.loop-index-init
 loop-index-init g c = record {
   few = omega (arith, c.saturating_sub-index.ensures);
-  own = c.requires.own;
+  own = c.requires.held.seat;
   reads = reads_none c.args.table.now g.G.Gate.becomes (c.args.seat.now, c.args.gate.now);
-  possible = c.requires.possible;
+  possible = c.requires.held.possible;
   from = omega (arith, c.saturating_sub-index.ensures);
   stand = none_stand c.args.table.now.layout c.args.seat.now.known c.args.job.now.way.now c.args.job.now.found c.args.job.now.span c.saturating_sub-index.result c.saturating_sub-index.ensures;
 }
@@ -35,19 +35,19 @@ entry_stands-requires-clause-possible g c = c.loop-index.invariant.possible
 pub entry_stands-requires-clause-place : goal.entry_stands-requires-clause-place
 entry_stands-requires-clause-place g c =
     let i = c.loop-index.invariant in
-    let (m, w) = c.requires.way in
+    let (m, w) = c.requires.held.from in
     let s = get_or c.args.job.now.way.now c.loop-index.index _ in (
       m,
       s.height,
       step_place c.args.table.now.layout c.args.seat.now.known c.loop-index.seat.known m c.args.job.now.key.now c.args.job.now.way.now c.args.job.now.found i.reads.goes.stays.0 w c.loop-index.index s
-          (there c.args.job.now.way.now c.loop-index.index c.args.job.now.span.len _ c.loop-index-test.true c.requires.within.1),
+          (there c.args.job.now.way.now c.loop-index.index c.args.job.now.span.len _ c.loop-index-test.true c.requires.held.within.1),
     )
 
 pub entry_stands-requires-clause-locked : goal.entry_stands-requires-clause-locked
 entry_stands-requires-clause-locked g c =
     let i = c.loop-index.invariant in
-    span_locked c.args.seat.now.known c.loop-index.seat.known c.args.job.now.way.now c.args.job.now.span i.reads.goes.stays.1 c.requires.locked c.loop-index.index _ i.from c.loop-index-test.true
-    (there c.args.job.now.way.now c.loop-index.index c.args.job.now.span.len _ c.loop-index-test.true c.requires.within.1)
+    span_locked c.args.seat.now.known c.loop-index.seat.known c.args.job.now.way.now c.args.job.now.span i.reads.goes.stays.1 c.requires.held.locked c.loop-index.index _ i.from c.loop-index-test.true
+    (there c.args.job.now.way.now c.loop-index.index c.args.job.now.span.len _ c.loop-index-test.true c.requires.held.within.1)
 
 pub returns-then-not-entry_stands-clause-reads : goal.returns-then-not-entry_stands-clause-reads
 returns-then-not-entry_stands-clause-reads g c =
@@ -57,7 +57,7 @@ pub returns-then-not-entry_stands-clause-changed : goal.returns-then-not-entry_s
 returns-then-not-entry_stands-clause-changed g c = λ m w f.
     let later = c.loop-index.invariant.reads.goes.stays.0 in
     let s = get_or c.args.job.now.way.now c.loop-index.index no_step in
-    let at = there c.args.job.now.way.now c.loop-index.index c.args.job.now.span.len no_step c.loop-index-test.true c.requires.within.1 in
+    let at = there c.args.job.now.way.now c.loop-index.index c.args.job.now.span.len no_step c.loop-index-test.true c.requires.held.within.1 in
     let has = step_place c.args.table.now.layout c.args.seat.now.known c.loop-index.seat.known m c.args.job.now.key.now c.args.job.now.way.now c.args.job.now.found later w c.loop-index.index s at in
     let (e, name, read) = step_read c.args.table.now.layout c.args.seat.now.known c.loop-index.seat.known m c.args.job.now.key.now c.args.job.now.way.now c.args.job.now.found later w c.loop-index.index s at in
     c.entry_stands.ensures.changed m s.height e has (c.named_at-entry.ensures ∙ name) read c.if-not-entry_stands.true
@@ -73,7 +73,7 @@ loop-index-preserved g c =
       reads = reads_more table g.G.Gate.becomes (c.args.seat.now, c.args.gate.now) (c.loop-index.seat, c.loop-index.gate) (c.entry_stands.new.seat, c.entry_stands.new.gate) i.reads e.reads;
       possible = e.possible;
       from = omega (arith, i.from);
-      stand = more_stand table.layout c.args.seat.now.known c.args.job.now.way.now c.args.job.now.found c.args.job.now.span c.loop-index.index c.requires.possible i.stand
+      stand = more_stand table.layout c.args.seat.now.known c.args.job.now.way.now c.args.job.now.found c.args.job.now.span c.loop-index.index c.requires.held.possible i.stand
           (λ s at words h.
           let same : get_or c.args.job.now.way.now c.loop-index.index no_step ≡ s = get_or_from_slice_get c.args.job.now.way.now c.loop-index.index s no_step at in
           let locked = locked_on c.args.seat.now.known c.loop-index.seat.known s.number words i.reads.goes.stays.1 h in

@@ -18,9 +18,9 @@ use Rattle.rowex_writing.proofs.publishing.publish_change.Goals as goal
 
 pub name_gone-requires : goal.name_gone-requires
 name_gone-requires g c =
-    let (m, w) = c.requires.way in
+    let (m, w) = c.requires.held.from in
     let (x, was, may) = c.requires.may in
-    omega (arith, slice_few c.args.job.now.way.now c.args.job.now.span.end c.args.raised.low, may.upto, c.requires.within.1, w.depth)
+    omega (arith, slice_few c.args.job.now.way.now c.args.job.now.span.end c.args.raised.low, may.upto, c.requires.held.within.1, w.depth)
 
 pub ready_all-requires : goal.ready_all-requires
 ready_all-requires g c =
@@ -37,11 +37,11 @@ stored_word-requires g c =
     (all_ready c.args.table.now c.args.seat.now c.ready_all.new.seat c.as_slice.result.now c.args.build.now.made.items m.news (c.as_slice.ensures.value ∙ c.name_gone.ensures.made) c.ready_all.ensures.ready m.building)
 
 pub publish-requires-clause-own : goal.publish-requires-clause-own
-publish-requires-clause-own g c = seat_of c.args.table.now g.G.Gate.becomes (c.args.seat.now, c.args.gate.now) (c.ready_all.new.seat, c.ready_all.new.gate) c.ready_all.ensures.goes c.requires.own
+publish-requires-clause-own g c = seat_of c.args.table.now g.G.Gate.becomes (c.args.seat.now, c.args.gate.now) (c.ready_all.new.seat, c.ready_all.new.gate) c.ready_all.ensures.goes c.requires.held.seat
 
 pub publish-requires-clause-range : goal.publish-requires-clause-range
 publish-requires-clause-range g c =
-    let (m, w) = c.requires.way in
+    let (m, w) = c.requires.held.from in
     spot_there c.args.table.now.layout c.args.seat.now.known m c.args.job.now.key.now c.args.job.now.way.now c.args.job.now.found w c.args.job.now.span.end c.spot_above-spot.result c.spot_above-spot.ensures
 
 pub publish-requires-clause-may : goal.publish-requires-clause-may
@@ -55,18 +55,18 @@ publish-requires-clause-may g c =
 
 pub retire-requires-clause-own : goal.retire-requires-clause-own
 retire-requires-clause-own g c =
-    c.publish.ensures.seat.0 ∙ seat_of c.args.table.now g.G.Gate.becomes (c.args.seat.now, c.args.gate.now) (c.ready_all.new.seat, c.ready_all.new.gate) c.ready_all.ensures.goes c.requires.own
+    c.publish.ensures.seat.0 ∙ seat_of c.args.table.now g.G.Gate.becomes (c.args.seat.now, c.args.gate.now) (c.ready_all.new.seat, c.ready_all.new.gate) c.ready_all.ensures.goes c.requires.held.seat
 
 pub retire-requires-clause-records : goal.retire-requires-clause-records
 retire-requires-clause-records g c =
-    let (m, w) = c.requires.way in
+    let (m, w) = c.requires.held.from in
     let (x, was, may) = c.requires.may in
     subst (AreInTable c.args.table.now.layout) (sym (c.as_slice-2.ensures.value ∙ c.name_gone.ensures.gone))
     (gone_records c.args.job.now.way.now c.args.job.now.span c.args.raised c.args.table.now.layout (step_nodes c.args.table.now.layout c.args.seat.now.known m c.args.job.now.key.now c.args.job.now.way.now c.args.job.now.found w) may.leaf)
 
 pub retire-requires-clause-nodes : goal.retire-requires-clause-nodes
 retire-requires-clause-nodes g c =
-    let (m, w) = c.requires.way in
+    let (m, w) = c.requires.held.from in
     subst (AreNodes c.args.table.now.layout) (sym (c.as_slice-3.ensures.value ∙ c.kept_steps-kept.ensures))
     (kept_nodes c.args.job.now.way.now c.args.job.now.span c.args.raised c.args.table.now.layout (step_nodes c.args.table.now.layout c.args.seat.now.known m c.args.job.now.key.now c.args.job.now.way.now c.args.job.now.found w))
 
@@ -74,7 +74,7 @@ pub retire-requires-clause-published : goal.retire-requires-clause-published
 retire-requires-clause-published g c =
     let (x, was, may) = c.requires.may in
     let m = may.ends c.spot_above-spot.result c.spot_above-spot.ensures in
-    let (kept, apart) = kept_raised c.args.job.now.way.now c.args.job.now.span c.args.raised c.args.seat.now.known c.requires.locked may.from may.upto in
+    let (kept, apart) = kept_raised c.args.job.now.way.now c.args.job.now.span c.args.raised c.args.seat.now.known c.requires.held.locked may.from may.upto in
     subst (λ z. HasJustPublished c.publish.new.seat.known c.as_slice-2.result.now (numbers_of z)) (sym (c.as_slice-3.ensures.value ∙ c.kept_steps-kept.ensures))
     (subst (λ z. HasJustPublished c.publish.new.seat.known z (numbers_of (kept_for c.args.job.now.way.now c.args.job.now.span c.args.raised))) (sym (c.as_slice-2.ensures.value ∙ c.name_gone.ensures.gone))
     (just_published c.args.table.now g.G.Gate.becomes (c.args.seat.now, c.args.gate.now) (c.ready_all.new.seat, c.ready_all.new.gate) c.args.build.now.made.items c.spot_above-spot.result (entry_word c.args.raised.entry)
@@ -87,13 +87,13 @@ pub retire-requires-clause-anchored : goal.retire-requires-clause-anchored
 retire-requires-clause-anchored g c =
     let (x, was, may) = c.requires.may in
     let m = may.ends c.spot_above-spot.result c.spot_above-spot.ensures in
-    let (kept, apart) = kept_raised c.args.job.now.way.now c.args.job.now.span c.args.raised c.args.seat.now.known c.requires.locked may.from may.upto in
+    let (kept, apart) = kept_raised c.args.job.now.way.now c.args.job.now.span c.args.raised c.args.seat.now.known c.requires.held.locked may.from may.upto in
     still_anchored c.args.table.now g.G.Gate.becomes (c.args.seat.now, c.args.gate.now) (c.ready_all.new.seat, c.ready_all.new.gate) c.args.build.now.made.items c.spot_above-spot.result (entry_word c.args.raised.entry)
     (gone_for c.args.job.now.way.now c.args.job.now.span c.args.raised) c.ready_all.ensures.goes x was m
     (all_ready c.args.table.now c.args.seat.now c.ready_all.new.seat c.as_slice.result.now c.args.build.now.made.items m.news (c.as_slice.ensures.value ∙ c.name_gone.ensures.made) c.ready_all.ensures.ready m.building)
     (numbers_of (kept_for c.args.job.now.way.now c.args.job.now.span c.args.raised)) kept c.publish.new.seat.known
     (word_published c.args.table.now.layout c.spot_above-spot.result c.stored_word.result (entry_word c.args.raised.entry) c.ready_all.new.seat.known c.publish.new.seat.known c.stored_word.ensures c.publish.ensures.event) _
-    (span_anchor c.args.seat.now.known c.args.job.now.way.now c.args.job.now.span c.requires.locked)
+    (span_anchor c.args.seat.now.known c.args.job.now.way.now c.args.job.now.span c.requires.held.locked)
 
 pub returns-clause-run : goal.returns-clause-run
 returns-clause-run g c =
@@ -106,7 +106,7 @@ returns-clause-run g c =
 pub returns-clause-changed : goal.returns-clause-changed
 returns-clause-changed g c = λ x was may.
     let m = may.ends c.spot_above-spot.result c.spot_above-spot.ensures in
-    let (kept, apart) = kept_raised c.args.job.now.way.now c.args.job.now.span c.args.raised c.args.seat.now.known c.requires.locked may.from may.upto in
+    let (kept, apart) = kept_raised c.args.job.now.way.now c.args.job.now.span c.args.raised c.args.seat.now.known c.requires.held.locked may.from may.upto in
     has_changed c.args.table.now g.G.Gate.becomes (c.args.seat.now, c.args.gate.now) (c.ready_all.new.seat, c.ready_all.new.gate) c.args.build.now.made.items c.spot_above-spot.result (entry_word c.args.raised.entry)
     (gone_for c.args.job.now.way.now c.args.job.now.span c.args.raised) c.ready_all.ensures.goes x was m
     (all_ready c.args.table.now c.args.seat.now c.ready_all.new.seat c.as_slice.result.now c.args.build.now.made.items m.news (c.as_slice.ensures.value ∙ c.name_gone.ensures.made) c.ready_all.ensures.ready m.building)
