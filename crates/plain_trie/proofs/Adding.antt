@@ -14,7 +14,7 @@ use Rattle.tries.specs.Tree.{Page, Fixed, Tree, leaf, node, fork, page, Has, IsT
 use Rattle.tries.proofs.Tries.{rises, within_trans, within_child, trie_within, built_within, page_child}
 use Rattle.plain_trie.specs.declared.plain.LeafRecord.{LeafRecord}
 use Rattle.insert_cases.specs.declared.raising.Risen.{Risen}
-use Rattle.plain_trie.specs.Cases.{IsByCase}
+use Rattle.plain_trie.specs.Cases.{IsByCase, is_split}
 use Rattle.plain_trie.specs.Adding.{IsStanding, IsBehind, EndsAt, IsAbsentFrom, HasLeafRisen, with_leaf}
 use Rattle.insert_cases.specs.Risen.{page_of}
 use Rattle.plain_trie.specs.Rising.{IsAddable, IsRaised}
@@ -163,7 +163,7 @@ leaf_addable ns ls us e t k v m p s leaves number key differ = record {
 
 -- ---- what rises from a node
 pub risen_here : (ns os ms : List NodeView) (ls us : List LeafRecord) (k : Key) (v n p : ℕ) (e : Entry) (t : Tree) (risen : Risen) → os ≡ ns → us ≡ with_leaf ls k v → n ≡ length ls →
-    IsAddable ns us (item n k v) p e t → IsBehind p t → IsRaised os ms us (item n k v) p t (suc (height_of e)) (page_of risen) → IsByCase os ms k p n t → HasLeafRisen ns ms ls us k v e t risen
+    IsAddable ns us (item n k v) p e t → IsBehind p t → IsRaised os ms us (item n k v) p t (suc (height_of e)) (page_of risen) → IsByCase os ms k p n t (is_split risen) → HasLeafRisen ns ms ls us k v e t risen
 risen_here ns os ms ls us k v n p e t risen nodes leaves number addable behind raised by_case = record {
   leaves = leaves;
   position = p;
@@ -171,5 +171,5 @@ risen_here ns os ms ls us k v n p e t risen nodes leaves number addable behind r
   behind = behind;
   raised = subst (λ m. IsRaised ns ms us (item m k v) p t (suc (height_of e)) (page_of risen)) number
       (subst (λ xs. IsRaised xs ms us (item n k v) p t (suc (height_of e)) (page_of risen)) nodes raised);
-  by_case = subst (λ m. IsByCase ns ms k p m t) number (subst (λ xs. IsByCase xs ms k p n t) nodes by_case);
+  by_case = subst (λ m. IsByCase ns ms k p m t (is_split risen)) number (subst (λ xs. IsByCase xs ms k p n t (is_split risen)) nodes by_case);
 }

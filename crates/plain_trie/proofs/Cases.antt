@@ -12,6 +12,9 @@ use Rattle.insert_cases.specs.declared.choice.Case.{Case}
 use Rattle.insert_cases.specs.declared.choice.Case.TheVariants.{LeafPushdown, NormalInsert, Overflow}
 use Rattle.insert_cases.specs.declared.choice.Choice.{Choice}
 use Rattle.insert_cases.specs.declared.choice.Step.{Step}
+use Rattle.insert_cases.specs.declared.raising.Risen.{Risen}
+use Rattle.insert_cases.specs.declared.raising.Risen.TheVariants.{Whole, Split}
+use Rattle.insert_cases.specs.Risen.{page_of}
 use Rattle.insert_cases.specs.Ways.{below, body, case_of, is_leaf, stage, IsAffectedNode, WayBelow}
 use Rattle.insert_cases.proofs.Choosing.{part_big, size_affected, tip_child, tip_small}
 use Rattle.tries.specs.Affected.{affected, page_forked, IsPart}
@@ -22,7 +25,7 @@ use Rattle.tries.specs.Search.{child, seek}
 use Rattle.tries.specs.Tree.{Fixed, Tree, leaf, node, fork, page}
 use Rattle.tries.proofs.Building.{size-piece}
 use Rattle.plain_trie.specs.declared.plain.LeafRecord.{LeafRecord}
-use Rattle.plain_trie.specs.Cases.{IsInRecords, IsChosenAt, TakesLeaf, IsByCase, AddsByCase, DoesCase, IsPutBetween}
+use Rattle.plain_trie.specs.Cases.{IsInRecords, IsChosenAt, TakesLeaf, IsByCase, AddsByCase, DoesLevel, DoesCase, IsNewNode, IsPutBetween, DoesLevels, is_overflow, is_split}
 use Rattle.plain_trie.specs.Rising.{IsAddable, NoNode}
 use Rattle.plain_trie.specs.Risen.{AllStay, OthersStay}
 use Rattle.plain_trie.specs.Store.{ShowsTree}
@@ -171,10 +174,17 @@ module _ {ns : List NodeView} {ls : List LeafRecord} {x : Item} {p n h : ℕ} {t
         ] in
         at_here taken_part c (case_of s.height s.count false) whole.1 (ap (λ z. case_of z s.count false) tall_as ∙ (ap (λ z. case_of g z false) counts ∙ same))
 
-    pub taken_by_case : IsLawfulNode v → (ms : List NodeView) → DoesCase ms n c.case u.shown.0.view c.first (grown p (bit x.key p) (Leaf x.number) c.first (piece u.shown.0.view)) →
-        IsByCase ns ms x.key p x.number (node n u.fixed u.body)
+    pub taken_by_case : IsLawfulNode v → (ms : List NodeView) (up : Bool) → up ≡ is_overflow c.case →
+        DoesCase ms n c.case u.shown.0.view c.first (grown p (bit x.key p) (Leaf x.number) c.first (piece u.shown.0.view)) → IsByCase ns ms x.key p x.number (node n u.fixed u.body) up
     unfolding at_here taken_affected
-    taken_by_case lawful ms does = record { choice = c; affected = taken_affected lawful; view = u.shown.0.view; at = u.shown.0.at; does = does }
+    taken_by_case lawful ms up rose does = record {
+      choice = c;
+      affected = taken_affected lawful;
+      view = u.shown.0.view;
+      at = u.shown.0.at;
+      does = does;
+      rises = subst (λ l. DoesLevels ns ms x.key l (node n u.fixed u.body) (is_overflow c.case) up) (sym (ap (λ (z : Choice). z.level) whole.1)) rose;
+    }
 
   -- ---- or a new node takes the place of the leaf below it
   module _ (passes : TakesLeaf c → ⊥) (zero_high : height_of entry ≡ 0) (sought : entry ≡ seek x.key (page u.body)) (stands : IsEntry entry) where
@@ -199,10 +209,10 @@ module _ {ns : List NodeView} {ls : List LeafRecord} {x : Item} {p n h : ℕ} {t
         let tall_as : nat_lt 1 u.fixed.height ≡ true = lt-ltb 1 u.fixed.height (let q = pushed_high in omega (arith, u.high)) in
         at_here (subst IsPart (sym tip.0) leafy.0) _ LeafPushdown refl (rw (single, tall_as) refl)
 
-    pub pushed_by_case : (ms us : List NodeView) (at : ℕ) (b : Bool) → at ≡ first → IsPutBetween ms us n at u.shown.0.view (page_forked b p (Leaf x.number) (Place entry)) →
-        IsByCase ns us x.key p x.number (node n u.fixed u.body)
+    pub pushed_by_case : (ms us : List NodeView) (at : ℕ) (b up : Bool) → at ≡ first → up ≡ false → IsPutBetween ms us n at u.shown.0.view (page_forked b p (Leaf x.number) (Place entry)) →
+        IsByCase ns us x.key p x.number (node n u.fixed u.body) up
     unfolding at_here pushed_affected
-    pushed_by_case ms us at b at_first put =
+    pushed_by_case ms us at b up at_first rose put =
         let high : put.view.height ≡ 1 = pair_low put.view b p x.number entry zero_high put.built in record {
           choice = record { level = 0; first = first; last = last; case = LeafPushdown };
           affected = pushed_affected;
@@ -216,23 +226,40 @@ module _ {ns : List NodeView} {ls : List LeafRecord} {x : Item} {p n h : ℕ} {t
               ap₂ (λ j g. let w : NodeView = record u.shown.0.view { entries = slice_set u.shown.0.view.entries j (Node (length ms) g) } in w) at_first high,
             ),
           );
+          rises = rose;
         }
 
 -- ---- below a node
-pub leaf_by_case : (ns ms : List NodeView) (k : Key) (p l n : ℕ) (t : Tree) → page t ≡ Place (Leaf n) → AddsByCase ns ms k p l t
-leaf_by_case ns ms k p l n (leaf m j v) is = tt
-leaf_by_case ns ms k p l n (node m x b) is = absurd cc
-leaf_by_case ns ms k p l n (fork q a b) is = tt
+-- a leaf and the new one are a fork
+pub forked_split : (r : Risen) (b : Bool) (p l : ℕ) (e : Entry) → page_of r ≡ page_forked b p (Leaf l) (Place e) → is_split r ≡ true
+forked_split (Whole d) true p l e is = absurd cc
+forked_split (Whole d) false p l e is = absurd cc
+forked_split (Split q z o) b p l e is = refl
 
-pub node_by_case : (ns ms : List NodeView) (k : Key) (p l : ℕ) (e : Entry) (t : Tree) → page t ≡ Place e → 0 < height_of e → AddsByCase ns ms k p l t → IsByCase ns ms k p l t
-node_by_case ns ms k p l e (leaf m j v) is high d = absurd (let q : Leaf m ≡ e = cc in omega (arith, ap height_of q))
-node_by_case ns ms k p l e (node m x b) is high d = d
-node_by_case ns ms k p l e (fork q a b) is high d = absurd cc
+pub leaf_by_case : (ns ms : List NodeView) (k : Key) (p l n : ℕ) (t : Tree) (up : Bool) → page t ≡ Place (Leaf n) → up ≡ true → AddsByCase ns ms k p l t up
+leaf_by_case ns ms k p l n (leaf m j v) up is rose = rose
+leaf_by_case ns ms k p l n (node m x b) up is rose = absurd cc
+leaf_by_case ns ms k p l n (fork q a b) up is rose = tt
 
-pub adds_by_case : (ns ms : List NodeView) (k : Key) (p l : ℕ) (t : Tree) → IsByCase ns ms k p l t → AddsByCase ns ms k p l t
-adds_by_case ns ms k p l (leaf m j v) d = tt
-adds_by_case ns ms k p l (node m x b) d = d
-adds_by_case ns ms k p l (fork q a b) d = tt
+pub node_by_case : (ns ms : List NodeView) (k : Key) (p l : ℕ) (e : Entry) (t : Tree) (up : Bool) → page t ≡ Place e → 0 < height_of e → AddsByCase ns ms k p l t up → IsByCase ns ms k p l t up
+node_by_case ns ms k p l e (leaf m j v) up is high d = absurd (let q : Leaf m ≡ e = cc in omega (arith, ap height_of q))
+node_by_case ns ms k p l e (node m x b) up is high d = d
+node_by_case ns ms k p l e (fork q a b) up is high d = absurd cc
+
+stage_leaf : (k : Key) (m : ℕ) (j : Key) (v l : ℕ) → stage k (leaf m j v) l ≡ leaf m j v
+stage_leaf k m j v zero = refl
+stage_leaf k m j v (suc l) = stage_leaf k m j v l
+
+pub adds_by_case : (ns ms : List NodeView) (k : Key) (p l : ℕ) (t : Tree) (up : Bool) → IsByCase ns ms k p l t up → AddsByCase ns ms k p l t up
+adds_by_case ns ms k p l (leaf m j v) up d =
+    absurd (let e : leaf m j v ≡ node d.affected.number d.affected.fixed d.affected.inner = sym (stage_leaf k m j v d.choice.level) ∙ d.affected.is in cc)
+adds_by_case ns ms k p l (node m x b) up d = d
+adds_by_case ns ms k p l (fork q a b) up d = tt
+
+-- with fewer before it a node is as new
+pub new_node : (n m : ℕ) (e : Entry) → n ≤ m → IsNewNode m e → IsNewNode n e
+new_node n m (Leaf l) h i = elim i [ ]
+new_node n m (Node l g) h i = omega (arith, h, i)
 
 none_child : (n : ℕ) (k : Key) (b : Tree) → NoNode n b → NoNode n (child k b)
 none_child n k (leaf m l v) none = none
@@ -249,16 +276,27 @@ none_stage : (n : ℕ) (k : Key) (t : Tree) (l m : ℕ) (y : Fixed) (d : Tree) �
 none_stage n k t zero m y d none e = (subst (NoNode n) e none).0
 none_stage n k t (suc l) m y d none e = none_stage n k (below k t) l m y d (none_below n k t none) e
 
-pub above_by_case : (ns ms us : List NodeView) (k : Key) (p l n : ℕ) (y : Fixed) (b : Tree) → NoNode n b → WayBelow p k b → OthersStay ms us n → IsByCase ns ms k p l (child k b) →
-    IsByCase ns us k p l (node n y b)
-above_by_case ns ms us k p l n y b none way others d = record {
+-- what stays where another record is written
+others_rise : (ns ms us : List NodeView) (n : ℕ) → OthersStay ms us n → (k : Key) (l : ℕ) (t : Tree) (low up : Bool) → NoNode n t → DoesLevels ns ms k l t low up → DoesLevels ns us k l t low up
+others_rise ns ms us n others k zero t low up none r = r
+others_rise ns ms us n others k (suc l) (leaf m j v) low up none r = elim r [ ]
+others_rise ns ms us n others k (suc l) (node m y b) low up none r = (
+  r.0,
+  others_rise ns ms us n others k l (child k b) low r.0 (none_child n k b none.1) r.1,
+  record { before = r.2.before; after = r.2.after; old_at = r.2.old_at; new_at = others m r.2.after none.0 r.2.new_at; does = r.2.does },
+)
+others_rise ns ms us n others k (suc l) (fork q a b) low up none r = elim r [ ]
+
+pub above_by_case : (ns ms us : List NodeView) (k : Key) (p l n : ℕ) (y : Fixed) (b : Tree) (rose up : Bool) → NoNode n b → WayBelow p k b → OthersStay ms us n →
+    DoesLevel ns us n (height_of (seek k (page b))) (spot k (page b)) rose up → IsByCase ns ms k p l (child k b) rose → IsByCase ns us k p l (node n y b) up
+above_by_case ns ms us k p l n y b rose up none way others does d = record {
   choice = record { level = suc d.choice.level; first = d.choice.first; last = d.choice.last; case = d.choice.case };
   affected = record {
     number = d.affected.number;
     fixed = d.affected.fixed;
     inner = d.affected.inner;
     is = d.affected.is;
-    above = up;
+    above = above;
     part = d.affected.part;
     first = d.affected.first;
     range = d.affected.range;
@@ -267,23 +305,35 @@ above_by_case ns ms us k p l n y b none way others d = record {
   view = d.view;
   at = d.at;
   does = (d.does.0, others d.affected.number d.does.0 apart d.does.1, d.does.2);
+  rises = (rose, others_rise ns ms us n others k d.choice.level (child k b) (is_overflow d.choice.case) rose (none_child n k b none) d.rises, does);
 }
   where
-    up : (j : ℕ) → j < suc d.choice.level → WayBelow p k (body (stage k (node n y b) j))
-    up zero g = way
-    up (suc j) g = d.affected.above j (omega (arith, g))
+    above : (j : ℕ) → j < suc d.choice.level → WayBelow p k (body (stage k (node n y b) j))
+    above zero g = way
+    above (suc j) g = d.affected.above j (omega (arith, g))
 
     apart : n ≢ d.affected.number
     apart = none_stage n k (child k b) d.choice.level d.affected.number d.affected.fixed d.affected.inner (none_child n k b none) d.affected.is
 
 -- further nodes may come
-pub later_by_case : (ns ms us : List NodeView) (k : Key) (p l : ℕ) (t : Tree) → AllStay ms us → AddsByCase ns ms k p l t → AddsByCase ns us k p l t
-later_by_case ns ms us k p l (leaf m j v) all d = tt
-later_by_case ns ms us k p l (node m x b) all d = record {
+later_rise : (ns ms us : List NodeView) → AllStay ms us → (k : Key) (l : ℕ) (t : Tree) (low up : Bool) → DoesLevels ns ms k l t low up → DoesLevels ns us k l t low up
+later_rise ns ms us all k zero t low up r = r
+later_rise ns ms us all k (suc l) (leaf m j v) low up r = elim r [ ]
+later_rise ns ms us all k (suc l) (node m y b) low up r = (
+  r.0,
+  later_rise ns ms us all k l (child k b) low r.0 r.1,
+  record { before = r.2.before; after = r.2.after; old_at = r.2.old_at; new_at = all m r.2.after r.2.new_at; does = r.2.does },
+)
+later_rise ns ms us all k (suc l) (fork q a b) low up r = elim r [ ]
+
+pub later_by_case : (ns ms us : List NodeView) (k : Key) (p l : ℕ) (t : Tree) (up : Bool) → AllStay ms us → AddsByCase ns ms k p l t up → AddsByCase ns us k p l t up
+later_by_case ns ms us k p l (leaf m j v) up all d = d
+later_by_case ns ms us k p l (node m x b) up all d = record {
   choice = d.choice;
   affected = d.affected;
   view = d.view;
   at = d.at;
   does = (d.does.0, all d.affected.number d.does.0 d.does.1, d.does.2);
+  rises = later_rise ns ms us all k d.choice.level (node m x b) (is_overflow d.choice.case) up d.rises;
 }
-later_by_case ns ms us k p l (fork q a b) all d = tt
+later_by_case ns ms us k p l (fork q a b) up all d = tt

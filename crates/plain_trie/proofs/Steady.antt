@@ -63,7 +63,7 @@ module _ {A : Type 0} where
   sides_grafted q i F s t f a b =
       ⊎_elim (λ e. rw e (above_grafted q i F s f a, b)) (λ e. rw e (a, above_grafted q (i - size s) F t f b)) (cases_Bool (nat_lt i (size s)))
 
-  size-grafted : (position : ℕ) (z o : A) (i : ℕ) (P : Piece A) → size (grafted i (Fork position (Place z) (Place o)) P) ≡ size P + 1
+  pub size-grafted : (position : ℕ) (z o : A) (i : ℕ) (P : Piece A) → size (grafted i (Fork position (Place z) (Place o)) P) ≡ size P + 1
   size-grafted position z o i (Place x) = refl
   size-grafted position z o i (Fork p a b) = ⊎_elim
       (λ e. rw e (omega (arith, size-grafted position z o i a)))

@@ -11,7 +11,7 @@ use Rattle.plain_trie.specs.declared.plain.adding.Addition.{Addition}
 use Rattle.plain_trie.specs.declared.plain.adding.Addition.TheVariants.{Held, Refused, Above, Below}
 use Rattle.insert_cases.specs.declared.raising.Risen.{Risen}
 use Rattle.insert_cases.specs.Risen.{page_of}
-use Rattle.plain_trie.specs.Cases.{IsByCase}
+use Rattle.plain_trie.specs.Cases.{IsByCase, is_split}
 use Rattle.plain_trie.specs.Rising.{IsRaised, IsAddable}
 use Rattle.plain_trie.specs.Store.{ShowsTree, item_record}
 use Rattle.tries.specs.Search.{found}
@@ -61,7 +61,7 @@ pub record HasLeafRisen (ns ms : List NodeView) (ls us : List LeafRecord) (k : K
   pub addable : IsAddable ns us (item (length ls) k v) position e t
   pub behind : IsBehind position t
   pub raised : IsRaised ns ms us (item (length ls) k v) position t (suc (height_of e)) (page_of risen)
-  pub by_case : IsByCase ns ms k position (length ls) t
+  pub by_case : IsByCase ns ms k position (length ls) t (is_split risen)
 
 abbrev pub IsAddition : List NodeView → List NodeView → List LeafRecord → List LeafRecord → Key → ℕ → Entry → Tree → Addition → Type 0
 IsAddition ns ms ls us k v e t (Held n) = (ms ≡ ns) × (us ≡ ls) × EndsAt ls k t n

@@ -133,6 +133,9 @@ impl PlainTrie {
     /// of 32 bits are left: with 4,294,967,296 leaves, or with more than 4,294,967,295 - `height()` nodes. Most insertions
     /// add fewer nodes than room is made for, so one can be refused that would have found room for its own, and the last
     /// few numbers of nodes stay unused. A refused call leaves all records and the root as they were.
+    ///
+    /// A key that is added below a node changes the nodes by the case of the one that it affects, as `choose` of
+    /// `insert_cases` names it, and those above it by what rises from there.
     pub fn insert(&mut self, key: &Key, value: u64) -> Result<Reply, AllocError>
         ensures ok { IfOk result (IsTrieAnswer (Insert key.now value) self.old self.new) }
         ensures err { OnErr result (IsOutOfMemory (Insert key.now value) self.old self.new) }

@@ -1,12 +1,12 @@
 //! Grown nodes, halves and new nodes are stored in records that are kept in a vector.
 
-ghost use Rattle.std.specs.Prelude.{◌≡◌, ◌+◌, ◌^◌, ◌<◌, ◌≤◌, [], ◌∷◌, ◌++◌, Some, false, slice_get, slice_set};
+ghost use Rattle.std.specs.Prelude.{◌≡◌, ◌+◌, ◌^◌, ◌<◌, ◌≤◌, [], ◌∷◌, ◌++◌, Some, false, true, slice_get, slice_set};
 ghost use Rattle.std.specs.Vec.{vec_len, vec_capacity};
 ghost use Rattle.pieces.specs.Piece.{Piece, Fork, Place as At, size};
-ghost use Rattle.compound_node.specs.Nodes.{NodeView, IsLawfulNode, IsEntry};
+ghost use Rattle.compound_node.specs.Nodes.{NodeView, IsLawfulNode, IsEntry, IsBuiltFrom};
 ghost use Rattle.compound_node.specs.declared.entries.Entry.{Entry as EntryView};
 ghost use Rattle.insert_cases.specs.Grown.{GrownShows, is_whole};
-ghost use Rattle.plain_trie.specs.Cases.{IsOneSide};
+ghost use Rattle.plain_trie.specs.Cases.{IsOneSide, is_split};
 ghost use Rattle.plain_trie.specs.Heights.{IsGrownSteady, KeepsHeights};
 ghost use Rattle.plain_trie.specs.Rising.{IsNew};
 ghost use Rattle.plain_trie.specs.Risen.{RisenShows, OthersStay, pushed_nodes, pushed_entry, kept_nodes, kept_entry};
@@ -25,6 +25,9 @@ pub fn stored(nodes: &mut Vec<Node>, number: u32, height: u16, grown: Grown) -> 
         IsGrownSteady old grown → KeepsHeights nodes.old.items nodes.new.items }
     ensures side { (old : NodeView) (P : Piece EntryView) → slice_get nodes.old.items number ≡ Some old → GrownShows old grown P → is_whole grown ≡ false → 2 < size P →
         (view : NodeView) × (slice_get nodes.new.items number ≡ Some view) × IsOneSide view P }
+    ensures whole { (old : NodeView) (P : Piece EntryView) → GrownShows old grown P → is_whole grown ≡ true →
+        (view : NodeView) × (slice_get nodes.new.items number ≡ Some view) × IsBuiltFrom view P × (is_split result ≡ false) }
+    ensures up { is_whole grown ≡ false → is_split result ≡ true }
     ensures others { OthersStay nodes.old.items nodes.new.items number }
     ensures longer { vec_len nodes.old ≤ vec_len nodes.new }
     ensures len { vec_len nodes.new ≤ vec_len nodes.old + 1 }
@@ -47,6 +50,7 @@ fn split(nodes: &mut Vec<Node>, number: u32, height: u16, cut: Cut) -> Risen
         IsGrownSteady old (Grown.Two cut) → KeepsHeights nodes.old.items nodes.new.items }
     ensures side { (old : NodeView) (P : Piece EntryView) → slice_get nodes.old.items number ≡ Some old → GrownShows old (Grown.Two cut) P → 2 < size P →
         (view : NodeView) × (slice_get nodes.new.items number ≡ Some view) × IsOneSide view P }
+    ensures up { is_split result ≡ true }
     ensures others { OthersStay nodes.old.items nodes.new.items number }
     ensures longer { vec_len nodes.old ≤ vec_len nodes.new }
     ensures len { vec_len nodes.new ≤ vec_len nodes.old + 1 }

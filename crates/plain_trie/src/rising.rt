@@ -1,6 +1,6 @@
 //! How a new leaf rises from the node that it affects to the root, in records that are kept in a vector.
 
-ghost use Rattle.std.specs.Prelude.{◌≡◌, ℕ, suc, ◌+◌, ◌^◌, ◌<◌, ◌≤◌, Bool, List, Some, false, length, slice_get, slice_set};
+ghost use Rattle.std.specs.Prelude.{◌≡◌, ℕ, suc, ◌+◌, ◌^◌, ◌<◌, ◌≤◌, Bool, List, Some, false, true, length, slice_get, slice_set};
 ghost use Rattle.std.specs.Vec.{vec_len, vec_capacity};
 ghost use Rattle.pieces.specs.Growth.{grown, IsAffected};
 ghost use Rattle.pieces.specs.Piece.{Fork, Place as At, size};
@@ -10,7 +10,7 @@ ghost use Rattle.tries.specs.Affected.{page_forked};
 ghost use Rattle.tries.specs.Content.{Item, item};
 ghost use Rattle.tries.specs.Tree.{Tree, Fixed, node as tree_node};
 ghost use Rattle.pieces.specs.Grafts.{grafted, IsAbovePath};
-ghost use Rattle.plain_trie.specs.Cases.{AddsByCase, DoesCase, IsPutBetween};
+ghost use Rattle.plain_trie.specs.Cases.{AddsByCase, DoesCase, IsLevelDone, IsNewNode, IsPutBetween, TakesFork, is_overflow, is_split};
 ghost use Rattle.plain_trie.specs.Heights.{KeepsHeights};
 ghost use Rattle.plain_trie.specs.Rising.{IsRaised, IsAddable, IsLifting};
 ghost use Rattle.insert_cases.specs.Risen.{page_of};
@@ -41,7 +41,7 @@ pub fn raised(nodes: &mut Vec<Node>, entry: Entry, key: &Key, position: u16, lea
     ensures raised { (leaves : List LeafRecord) (value : ℕ) (t : Tree) → IsAddable nodes.old.items leaves (item leaf key.now value) position entry t →
         IsRaised nodes.old.items nodes.new.items leaves (item leaf key.now value) position t (suc (height_of entry)) (page_of result) }
     ensures case { (leaves : List LeafRecord) (value : ℕ) (t : Tree) → IsAddable nodes.old.items leaves (item leaf key.now value) position entry t →
-        AddsByCase nodes.old.items nodes.new.items key.now position leaf t }
+        AddsByCase nodes.old.items nodes.new.items key.now position leaf t (is_split result) }
     ensures low { height_of entry ≡ 0 → (nodes.new.items ≡ nodes.old.items) × (bit : Bool) × (page_of result ≡ page_forked bit position (Entry.Leaf leaf) (At entry)) }
     ensures heights { KeepsHeights nodes.old.items nodes.new.items }
     ensures len { vec_len nodes.new ≤ vec_len nodes.old + height_of entry }
@@ -113,6 +113,7 @@ fn grown_at(
         RisenShows nodes.new.items old result (grown position bit (Entry.Leaf leaf) choice.first (piece old)) }
     ensures does { (old : NodeView) → slice_get nodes.old.items number ≡ Some old →
         DoesCase nodes.new.items number choice.case old choice.first (grown position bit (Entry.Leaf leaf) choice.first (piece old)) }
+    ensures up { is_split result ≡ is_overflow choice.case }
     ensures others { OthersStay nodes.old.items nodes.new.items number }
     ensures heights { KeepsHeights nodes.old.items nodes.new.items }
     ensures len { vec_len nodes.new ≤ vec_len nodes.old + 1 }
@@ -165,6 +166,8 @@ pub fn lifted(
         IsRaised ns nodes.new.items leaves x p (tree_node number y b) (suc height) (page_of result) }
     ensures between { (old : NodeView) (p : ℕ) (zero one : EntryView) → slice_get nodes.old.items number ≡ Some old → page_of risen ≡ Fork p (At zero) (At one) → height_of child + 1 < height →
         IsPutBetween nodes.old.items nodes.new.items number at old (Fork p (At zero) (At one)) }
+    ensures takes { (old : NodeView) → slice_get nodes.old.items number ≡ Some old →
+        (new : NodeView) × (slice_get nodes.new.items number ≡ Some new) × IsLevelDone (height_of child) (is_split risen) old new at (is_split result) }
     ensures others { OthersStay nodes.old.items nodes.new.items number }
     ensures heights { KeepsHeights nodes.old.items nodes.new.items }
     ensures len { vec_len nodes.new ≤ vec_len nodes.old + 1 }
@@ -210,6 +213,8 @@ fn forked_at(
     requires small { vec_len nodes.old < 2 ^ 32 }
     ensures shows { (old : NodeView) → slice_get nodes.old.items number ≡ Some old →
         RisenShows nodes.new.items old result (grafted at (Fork position (At zero) (At one)) (piece old)) }
+    ensures takes { (old : NodeView) → slice_get nodes.old.items number ≡ Some old →
+        (new : NodeView) × (slice_get nodes.new.items number ≡ Some new) × TakesFork old new at (is_split result) }
     ensures others { OthersStay nodes.old.items nodes.new.items number }
     ensures heights { KeepsHeights nodes.old.items nodes.new.items }
     ensures len { vec_len nodes.new ≤ vec_len nodes.old + 1 }
@@ -229,6 +234,7 @@ pub fn rooted(nodes: &mut Vec<Node>, risen: Risen) -> Entry
     requires small { vec_len nodes.old < 2 ^ 32 }
     ensures raised { (ns : List NodeView) (leaves : List LeafRecord) (x : Item) (p : ℕ) (t : Tree) (h : ℕ) →
         IsRaised ns nodes.old.items leaves x p t h (page_of risen) → IsRaised ns nodes.new.items leaves x p t (suc h) (At result) }
+    ensures new { is_split risen ≡ true → IsNewNode (vec_len nodes.old) result }
     ensures all { AllStay nodes.old.items nodes.new.items }
     ensures heights { KeepsHeights nodes.old.items nodes.new.items }
     ensures capacity { vec_capacity nodes.new ≡ vec_capacity nodes.old }

@@ -1,5 +1,5 @@
 -- The second half gets a new record, the first one the old one's.
-use Rattle.std.proofs.Common.{◌≡◌, arith, length}
+use Rattle.std.proofs.Common.{◌≡◌, refl, arith, length}
 use Rattle.std.specs.Vec.{vec_len}
 use Rattle.plain_trie.specs.Risen.{pushed_nodes}
 use Rattle.plain_trie.proofs.Heights.{heights_double}
@@ -33,3 +33,9 @@ pub returns-in_default-clause-side : goal.returns-in_default-clause-side
 returns-in_default-clause-side c = λ old P at s big.
     rw (c.half_kept-zero.ensures.nodes, c.half_pushed-one.ensures.nodes)
     (double_side old c.args.nodes.now.items c.args.number at c.args.cut.position c.args.cut.zero c.args.cut.one P c.in_default.not-One s)
+
+pub returns-in-One-clause-up : goal.returns-in-One-clause-up
+returns-in-One-clause-up c = refl
+
+pub returns-in_default-clause-up : goal.returns-in_default-clause-up
+returns-in_default-clause-up c = refl

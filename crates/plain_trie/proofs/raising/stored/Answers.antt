@@ -1,10 +1,11 @@
 -- A whole node takes the old one's record.
-use Rattle.std.proofs.Common.{◌≡◌, false, sym, subst}
+use Rattle.std.proofs.Common.{◌≡◌, false, refl, sym, subst, arith}
 use Rattle.std.proofs.lemmas.Bool.{false≢true}
 use Rattle.insert_cases.specs.Grown.{is_whole}
 use Rattle.insert_cases.specs.declared.growth.Grown.{Grown}
 use Rattle.plain_trie.proofs.Heights.{heights_whole}
-use Rattle.plain_trie.proofs.Storing.{set_other}
+use Rattle.compound_node.specs.Nodes.{IsBuiltFrom}
+use Rattle.plain_trie.proofs.Storing.{set_other, set_same}
 use Rattle.plain_trie.proofs.raising.stored.Goals as goal
 
 pub returns-in-One-clause-heights : goal.returns-in-One-clause-heights
@@ -16,3 +17,8 @@ returns-in-One-clause-others c = λ m v ne at. rw c.kept.ensures.nodes (set_othe
 
 pub returns-in-One-clause-side : goal.returns-in-One-clause-side
 returns-in-One-clause-side c = λ old P at s cut big. absurd (false≢true (sym (subst (λ (g : Grown). is_whole g ≡ false) c.in-One.is cut)))
+
+pub returns-in-One-clause-whole : goal.returns-in-One-clause-whole
+returns-in-One-clause-whole c = λ old P s is.
+    let built : IsBuiltFrom c.in-One.node P = rw c.in-One.is at s in
+    (c.in-One.node, rw c.kept.ensures.nodes (set_same c.args.nodes.now.items c.args.number c.in-One.node (omega (arith, c.requires.number, c.args.nodes.now.ok.0))), built, refl)

@@ -1,6 +1,6 @@
 -- The search goes down to the affected node, and the new leaf rises from there.
 use Rattle.std.proofs.Common.{◌≡◌, inl, inr, ℕ, ◌+◌, ◌<◌, Bool, true, false, List, refl, suc, ap, sym, ◌∙◌, subst, arith}
-use Rattle.std.specs.Prelude.{slice_get}
+use Rattle.std.specs.Prelude.{slice_get, Some}
 use Rattle.std.proofs.lemmas.Bool.{cases_lt, false≢true}
 use Rattle.pieces.specs.Growth.{grown}
 use Rattle.compound_node.specs.Nodes.{NodeView, piece, height_of}
@@ -8,19 +8,20 @@ use Rattle.compound_node.specs.declared.entries.Entry.{Entry}
 use Rattle.compound_node.specs.declared.entries.Entry.TheVariants.{Leaf}
 use Rattle.tries.specs.Affected.{page_forked}
 use Rattle.tries.specs.Keys.{bit}
-use Rattle.tries.specs.Search.{child}
+use Rattle.tries.specs.Place.{spot}
+use Rattle.tries.specs.Search.{child, seek}
 use Rattle.pieces.specs.Piece.{Place, Fork}
-use Rattle.tries.specs.Tree.{Tree, Fixed, node}
+use Rattle.tries.specs.Tree.{Tree, Fixed, node, page}
 use Rattle.plain_trie.specs.declared.plain.LeafRecord.{LeafRecord}
 use Rattle.plain_trie.specs.Rising.{IsAddable, IsLifting, IsRaised}
 use Rattle.insert_cases.specs.Risen.{page_of}
 use Rattle.insert_cases.specs.declared.raising.Risen.{Risen}
-use Rattle.plain_trie.specs.Cases.{AddsByCase, DoesCase, IsPutBetween, TakesLeaf}
+use Rattle.plain_trie.specs.Cases.{AddsByCase, DoesCase, IsLevelDone, IsPutBetween, TakesLeaf, is_split}
 use Rattle.plain_trie.specs.Risen.{RisenShows}
-use Rattle.plain_trie.proofs.Cases.{above_by_case, leaf_by_case, named_in, node_by_case, passed, pushed_by_case, pushed_high, taken_by_case, taken_first, taken_part, taken_place}
+use Rattle.plain_trie.proofs.Cases.{above_by_case, forked_split, leaf_by_case, named_in, node_by_case, passed, pushed_by_case, pushed_high, taken_by_case, taken_first, taken_part, taken_place}
 use Rattle.plain_trie.proofs.Heights.{heights_over}
-use Rattle.plain_trie.proofs.Lifting.{not_below}
-use Rattle.plain_trie.proofs.Climbing.{old_at, addable_to, node_here, here_positive, here_within, here_spot, here_from, here_upto, here_entry, here_raised, here_lifting, way_below, child_addable, child_low, beside_raised, child_held}
+use Rattle.plain_trie.proofs.Lifting.{not_below, old_stays}
+use Rattle.plain_trie.proofs.Climbing.{old_at, addable_to, node_here, here_positive, here_within, here_high, here_spot, here_from, here_upto, here_entry, here_raised, here_lifting, way_below, child_addable, child_low, beside_raised, child_held}
 use Rattle.plain_trie.proofs.rising.+raised.Goals as goal
 use Rattle.plain_trie.proofs.rising.+raised.Goals.{After-raised-risen}
 use Rattle.tries.specs.Content.{item}
@@ -184,7 +185,8 @@ forked_between ms us n at view risen p l e false is put = put (Leaf l) e is
 
 pub returns-in-Leaf-clause-case : goal.returns-in-Leaf-clause-case
 returns-in-Leaf-clause-case t c = λ leaves value s a.
-    leaf_by_case c.args.nodes.now.items c.args.nodes.now.items c.args.key.now c.args.position c.args.leaf c.in-Leaf.field-0 s (addable_to c.in-Leaf.is a).head
+    leaf_by_case c.args.nodes.now.items c.args.nodes.now.items c.args.key.now c.args.position c.args.leaf c.in-Leaf.field-0 s (is_split c.beside.result) (addable_to c.in-Leaf.is a).head
+    (forked_split c.beside.result c.bit.result c.args.position c.args.leaf c.args.entry c.beside.ensures)
 
 pub returns-in-Leaf-clause-low : goal.returns-in-Leaf-clause-low
 returns-in-Leaf-clause-low t c = λ z. (refl, c.bit.result, c.beside.ensures)
@@ -208,9 +210,9 @@ returns-then-takes_leaf-clause-case t c = λ leaves value s a.
     let upto = here_upto u v c.index-node.ensures c.search-at.result first last c.search-at.ensures.leads c.affected-first.ensures.upto in
     let done = subst (λ o. DoesCase c.grown_at.new.nodes.items c.in-Node.number c.choice_at-choice.result.case view c.choice_at-choice.result.first
     (grown c.args.position o (Leaf c.args.leaf) c.choice_at-choice.result.first (piece view))) c.bit-then-takes_leaf.ensures (c.grown_at.ensures.does view u.shown.0.at) in
-    subst (λ z. AddsByCase c.args.nodes.now.items c.grown_at.new.nodes.items c.args.key.now c.args.position c.args.leaf z) (sym u.is)
+    subst (λ z. AddsByCase c.args.nodes.now.items c.grown_at.new.nodes.items c.args.key.now c.args.position c.args.leaf z (is_split c.grown_at.result)) (sym u.is)
     (taken_by_case i u v c.index-node.ensures first last from upto c.step_at-step.result c.step_at-step.ensures.height c.step_at-step.ensures.count c.entry-child.result c.entry-child.ensures.stands.1
-    c.choice_at-choice.result c.choice_at-choice.ensures (c.if-takes_leaf.ensures.0 refl) c.count.ensures.lawful c.grown_at.new.nodes.items done)
+    c.choice_at-choice.result c.choice_at-choice.ensures (c.if-takes_leaf.ensures.0 refl) c.count.ensures.lawful c.grown_at.new.nodes.items (is_split c.grown_at.result) c.grown_at.ensures.up done)
 
 pub returns-else-takes_leaf-clause-case : goal.returns-else-takes_leaf-clause-case
 returns-else-takes_leaf-clause-case t c = λ leaves value s a.
@@ -234,21 +236,33 @@ returns-else-takes_leaf-clause-case t c = λ leaves value s a.
     let is = here_entry u v c.index-node.ensures at e c.count.ensures.lawful leads c.entry-child.ensures.entry in
     let passes : TakesLeaf c.choice_at-choice.result → ⊥ = λ z. false≢true (c.if-takes_leaf.ensures.1 z) in
     let few = passed c.step_at-step.result.height c.step_at-step.result.count first last e c.choice_at-choice.result c.choice_at-choice.ensures passes in
-    subst (λ z. AddsByCase ns us k p l z) (sym u.is) (elim (cases_lt 0 (height_of e)) [
-      | inl up ↦
-          let b = child_addable i u e is in
-          above_by_case ns ms us k p l n u.fixed u.body (not_below ns leaves n u.fixed u.body u.trie u.built u.shown) (way_below i u first last from upto few) c.lifted.ensures.others
-          (node_by_case ns ms k p l e (child k u.body) b.head up (c.raised-risen.ensures.case leaves value (child k u.body) b))
+    let b = child_addable i u e is in
+    let rose = is_split c.raised-risen.result in
+    let up = is_split c.lifted.result in
+    let still : slice_get ms n ≡ Some u.shown.0.view =
+    old_stays ns leaves n u.fixed u.body u.trie u.built u.shown ms (item l k value) p (suc (height_of e)) (page_of c.raised-risen.result) (way_below i u first last from upto few)
+    (c.raised-risen.ensures.raised leaves value (child k u.body) b) (omega (arith, child_low u e is, u.high)) in
+    let takes = c.lifted.ensures.takes u.shown.0.view still in
+    subst (λ z. AddsByCase ns us k p l z up) (sym u.is) (elim (cases_lt 0 (height_of e)) [
+      | inl high ↦
+          let does : IsLevelDone (height_of (seek k (page u.body))) rose u.shown.0.view takes.0 (spot k (page u.body)) up =
+          subst (λ d. IsLevelDone (height_of d) rose u.shown.0.view takes.0 (spot k (page u.body)) up) is
+          (subst (λ j. IsLevelDone (height_of e) rose u.shown.0.view takes.0 j up) (here_spot u v c.index-node.ensures at leads) takes.2) in
+          above_by_case ns ms us k p l n u.fixed u.body rose up (not_below ns leaves n u.fixed u.body u.trie u.built u.shown) (way_below i u first last from upto few) c.lifted.ensures.others
+          (record { before = u.shown.0.view; after = takes.0; old_at = u.shown.0.at; new_at = takes.1; does = does })
+          (node_by_case ns ms k p l e (child k u.body) rose b.head high (c.raised-risen.ensures.case leaves value (child k u.body) b))
       | inr z ↦
           let zero_high : height_of e ≡ 0 = omega arith in
           let r = c.raised-risen.ensures.low zero_high in
-          let still = ap (λ (xs : List NodeView). slice_get xs n) r.0 ∙ u.shown.0.at in
           let high = pushed_high i u v c.index-node.ensures first last from upto c.step_at-step.result c.step_at-step.ensures.height c.step_at-step.ensures.count e c.entry-child.ensures.stands.1
           c.choice_at-choice.result c.choice_at-choice.ensures passes zero_high is c.entry-child.ensures.stands.0 in
           let far : height_of e + 1 < c.in-Node.height = omega arith in
           let within = (c.affected-first.ensures.range at (omega (arith, c.search-at.ensures.in_range))).0 (λ j g h. refl) in
           let put : IsPutBetween ms us n at u.shown.0.view (page_forked r.1 p (Leaf l) (Place e)) =
           forked_between ms us n at u.shown.0.view c.raised-risen.result p l e r.1 r.2 (λ z o f. c.lifted.ensures.between u.shown.0.view p z o still f far) in
+          let forked : rose ≡ true = forked_split c.raised-risen.result r.1 p l e r.2 in
+          let above : IsLevelDone (height_of e) true u.shown.0.view takes.0 at up = subst (λ o. IsLevelDone (height_of e) o u.shown.0.view takes.0 at up) forked takes.2 in
+          let stays = above.1 (λ f. absurd (omega (arith, f, far, here_high u))) in
           pushed_by_case i u v c.index-node.ensures first last from upto c.step_at-step.result c.step_at-step.ensures.height c.step_at-step.ensures.count e c.entry-child.ensures.stands.1
-          c.choice_at-choice.result c.choice_at-choice.ensures passes zero_high is c.entry-child.ensures.stands.0 ms us at r.1 (omega (arith, within.0, within.1, few)) put
+          c.choice_at-choice.result c.choice_at-choice.ensures passes zero_high is c.entry-child.ensures.stands.0 ms us at r.1 up (omega (arith, within.0, within.1, few)) stays.1 put
     ])

@@ -12,8 +12,8 @@ use Rattle.insert_cases.proofs.Choosing.{same_some}
 use Rattle.plain_trie.proofs.Heights.{heights_whole}
 use Rattle.plain_trie.proofs.Searching.{read_at}
 use Rattle.plain_trie.proofs.Steady.{add_steady, full_steady}
-use Rattle.plain_trie.proofs.Storing.{set_same}
-use Rattle.plain_trie.specs.Cases.{IsCaseDone}
+use Rattle.plain_trie.proofs.Storing.{set_other, set_same}
+use Rattle.plain_trie.specs.Cases.{IsCaseDone, is_overflow}
 use Rattle.tries.proofs.Building.{size-piece}
 use Rattle.plain_trie.proofs.rising.grown_at.Goals as goal
 
@@ -67,3 +67,12 @@ returns-in-Overflow-clause-does c = λ old at.
     let big : 2 < size P = omega (arith, size-grown c.args.position c.args.bit (Leaf c.args.leaf) first (piece old), size-piece old lawful, lawful.several) in
     let s = c.stored.ensures.side old P at (rw same at c.grow_full-grown.ensures.shows) c.grow_full-grown.ensures.whole big in
     (s.0, s.1, subst (λ (d : Case). IsCaseDone d old s.0 first P) (sym c.in-Overflow.is) s.2)
+
+pub returns-in-Overflow-clause-up : goal.returns-in-Overflow-clause-up
+returns-in-Overflow-clause-up c = c.stored.ensures.up c.grow_full-grown.ensures.whole ∙ ap is_overflow (sym c.in-Overflow.is)
+
+pub returns-in-NormalInsert-clause-up : goal.returns-in-NormalInsert-clause-up
+returns-in-NormalInsert-clause-up c = ap is_overflow (sym c.in-NormalInsert.is)
+
+pub returns-in-NormalInsert-clause-others : goal.returns-in-NormalInsert-clause-others
+returns-in-NormalInsert-clause-others c = λ m v ne at. set_other c.args.nodes.now.items c.args.number m c.add.new.self v ne at

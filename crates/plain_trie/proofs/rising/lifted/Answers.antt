@@ -1,5 +1,5 @@
 -- What gave way in the child's place is put there.
-use Rattle.std.proofs.Common.{rules, sym, ◌≡◌, ◌≢◌, suc, ◌+◌, ◌<◌, List, refl, ap, ◌∙◌, subst, arith, Some}
+use Rattle.std.proofs.Common.{rules, sym, ◌≡◌, ◌≢◌, inl, inr, suc, ◌+◌, ◌<◌, List, refl, ap, ◌∙◌, subst, arith, Some}
 use Rattle.std.specs.Prelude.{slice_get, slice_set}
 use Rattle.compound_node.specs.Nodes.{NodeView, height_of, piece, IsBuiltFrom}
 use Rattle.compound_node.specs.declared.entries.Entry.TheVariants.{Node}
@@ -112,3 +112,28 @@ returns-in_default-clause-between c = λ old p zero one at is far.
       after = c.replaced-in_default.ensures.fields old still ∙
           ap (λ e. Some (let w : NodeView = record old { entries = slice_set old.entries c.args.at e } in w)) new.is;
     }
+
+-- what the node did
+pub returns-then-eq-clause-takes : goal.returns-then-eq-clause-takes
+returns-then-eq-clause-takes c = λ old at. rw c.in-Whole.is (old, at, (inl refl, refl))
+
+pub returns-else-eq-clause-takes : goal.returns-else-eq-clause-takes
+returns-else-eq-clause-takes c = λ old at. rw c.in-Whole.is (_, c.replaced.ensures.fields old at, (inr (c.args.at, c.in-Whole.entry, refl), refl))
+
+pub returns-in-PullUp-clause-takes : goal.returns-in-PullUp-clause-takes
+returns-in-PullUp-clause-takes c = λ old at.
+    let i = c.requires.place.6 in
+    let high : old.height ≡ c.args.height = ap (λ (v : NodeView). v.height) (same_some (sym at ∙ old_at i)) ∙ old_high i in
+    let pulled : old.height ≡ height_of c.args.child + 1 = omega (arith, high, same_some (c.place.ensures.pull_up.0 c.in-PullUp.is), c.height.ensures) in
+    let f = c.forked_at.ensures.takes old at in
+    rw c.in-Split.is (f.0, f.1, (λ e. f.2, λ ne. absurd (ne pulled)))
+
+pub returns-in_default-clause-takes : goal.returns-in_default-clause-takes
+returns-in_default-clause-takes c = λ old at.
+    let i = c.requires.place.6 in
+    let ms = c.args.nodes.now.items in
+    let us = c.settled-entry.new.nodes.items in
+    let high : old.height ≡ c.args.height = ap (λ (v : NodeView). v.height) (same_some (sym at ∙ old_at i)) ∙ old_high i in
+    let ne : old.height ≡ height_of c.args.child + 1 → ⊥ = λ e. c.in_default.not-PullUp (c.place.ensures.pull_up.1 (ap Some (sym high ∙ (e ∙ ap (λ h. h + 1) (sym c.height.ensures))))) in
+    let still : slice_get us c.args.number ≡ Some old = ap (λ (vs : List NodeView). slice_get vs c.args.number) c.settled-entry.ensures.new.added ∙ push_old ms _ c.args.number old at in
+    rw c.in-Split.is (_, c.replaced-in_default.ensures.fields old still, (λ e. absurd (ne e), λ f. ((_, _, ap (λ e. let w : NodeView = record old { entries = slice_set old.entries c.args.at e } in w) c.settled-entry.ensures.new.is), refl)))

@@ -1,5 +1,9 @@
 -- An entry stands for itself, and a fork for a node.
-use Rattle.std.proofs.Common.{suc, ap, ◌∙◌, arith, subst}
+use Rattle.std.proofs.Common.{◌≡◌, suc, true, ap, sym, ◌∙◌, arith, subst}
+use Rattle.std.proofs.lemmas.Bool.{false≢true}
+use Rattle.std.specs.Vec.{vec_len}
+use Rattle.insert_cases.specs.declared.raising.Risen.{Risen}
+use Rattle.plain_trie.specs.Cases.{IsNewNode, is_split}
 use Rattle.plain_trie.specs.Rising.{IsRaised}
 use Rattle.insert_cases.specs.Risen.{page_of}
 use Rattle.insert_cases.proofs.Pairs.{pair_facts}
@@ -28,3 +32,9 @@ pub returns-in-Split-clause-raised : goal.returns-in-Split-clause-raised
 returns-in-Split-clause-raised c = λ ns leaves x p t h u.
     settle ns c.args.nodes.now.items c.settled.new.nodes.items leaves x p t h c.in-Split.position c.in-Split.zero c.in-Split.one c.settled.result
     (subst (IsRaised ns c.args.nodes.now.items leaves x p t h) (ap page_of c.in-Split.is) u) c.settled.ensures.new
+
+pub returns-in-Whole-clause-new : goal.returns-in-Whole-clause-new
+returns-in-Whole-clause-new c = λ up. absurd (false≢true (subst (λ (r : Risen). is_split r ≡ true) c.in-Whole.is up))
+
+pub returns-in-Split-clause-new : goal.returns-in-Split-clause-new
+returns-in-Split-clause-new c = λ up. subst (IsNewNode (vec_len c.args.nodes.now)) (sym c.settled.ensures.new.is) (omega (arith, c.args.nodes.now.ok.0))

@@ -1,19 +1,19 @@
 -- The search ends at the key's own leaf, or the key is absent and gets one, which rises to the root.
-use Rattle.std.proofs.Common.{◌≡◌, ℕ, List, suc, length, refl, ap, sym, ◌∙◌, subst, Some, None, rules}
-use Rattle.std.specs.Vec.{vec_capacity}
+use Rattle.std.proofs.Common.{◌≡◌, ℕ, Bool, arith, List, suc, length, refl, ap, sym, ◌∙◌, subst, Some, None, rules}
+use Rattle.std.specs.Vec.{vec_capacity, vec_len}
 use Rattle.key_bits.specs.Bits.{IsFirstDifference}
 use Rattle.compound_node.specs.Nodes.{NodeView, height_of}
 use Rattle.compound_node.specs.declared.entries.Entry.{Entry}
 use Rattle.finite_map.specs.Maps.{with_value, value_at}
 use Rattle.plain_trie.specs.Adding.{IsStanding}
-use Rattle.plain_trie.specs.Cases.{AddsByCase, TakesCase}
+use Rattle.plain_trie.specs.Cases.{AddsByCase, MakesRoot, TakesCase, is_split}
 use Rattle.plain_trie.specs.Heights.{KeepsHeights}
 use Rattle.plain_trie.specs.Rising.{IsAddable}
 use Rattle.plain_trie.specs.Store.{PlainView, ShowsSoundTree, IsHeldInLeaf, trie_map}
 use Rattle.plain_trie.specs.declared.plain.LeafRecord.{LeafRecord}
 use Rattle.plain_trie.specs.declared.plain.PlainTrie.TheInside.{Inside}
 use Rattle.insert_cases.proofs.Choosing.{same_some}
-use Rattle.plain_trie.proofs.Cases.{adds_by_case, later_by_case}
+use Rattle.plain_trie.proofs.Cases.{adds_by_case, later_by_case, new_node}
 use Rattle.plain_trie.proofs.Heights.{heights_then}
 use Rattle.plain_trie.proofs.Inserting.{Becomes, tree_standing, kept_plain, same_view, absent_value, raised_becomes}
 use Rattle.plain_trie.proofs.Reading.{IsTree, plain_tree}
@@ -173,10 +173,13 @@ returns-in-Above-clause-case c =
     let w : PlainView = record { nodes = last; leaves = us; top = Some c.rooted.result; node_capacity = vec_capacity c.rooted.new.nodes; leaf_capacity = vec_capacity c.added.new.leaves } in
     let mid = c.raised-risen.new.nodes.items in
     let d = c.raised-risen.ensures.case us c.args.value t (subst (λ xs. IsAddable xs us (item c.in-Above.leaf k c.args.value) p c.in-Some.top t) (sym left.nodes) left.addable) in
-    let e = subst (λ m. AddsByCase v.nodes mid k p m t) left.number (subst (λ xs. AddsByCase xs mid k p c.in-Above.leaf t) left.nodes d) in
+    let up = is_split c.raised-risen.result in
+    let e = subst (λ m. AddsByCase v.nodes mid k p m t up) left.number (subst (λ xs. AddsByCase xs mid k p c.in-Above.leaf t up) left.nodes d) in
+    let rooted : MakesRoot v w up = λ split. new_node (length v.nodes) (vec_len c.raised-risen.new.nodes) c.rooted.result
+    (omega (arith, ap length left.nodes, c.raised-risen.ensures.heights.longer, c.raised-risen.new.nodes.ok.0)) (c.rooted.ensures.new split) in
     let f : TakesCase v w k = λ s is.
-    subst (λ z. (q : ℕ) × IsFirstDifference k (found k z).key q × AddsByCase v.nodes last k q n z) (same_some (sym i.is ∙ is))
-    (p, left.addable.differ, later_by_case v.nodes mid last k p n t c.rooted.ensures.all e) in
+    subst (λ z. (q : ℕ) × IsFirstDifference k (found k z).key q × ((o : Bool) × AddsByCase v.nodes last k q n z o × MakesRoot v w o)) (same_some (sym i.is ∙ is))
+    (p, left.addable.differ, (up, later_by_case v.nodes mid last k p n t up c.rooted.ensures.all e, rooted)) in
     λ none. subst (λ u. TakesCase u w k) c.self.view_is f
 
 pub returns-in-Below-clause-case : goal.returns-in-Below-clause-case
@@ -189,8 +192,11 @@ returns-in-Below-clause-case c =
     let last = c.rooted-in-Below.new.nodes.items in
     let w : PlainView = record { nodes = last; leaves = us; top = Some c.rooted-in-Below.result; node_capacity = vec_capacity c.rooted-in-Below.new.nodes; leaf_capacity = vec_capacity c.added.new.leaves } in
     let mid = c.added.new.nodes.items in
-    let e = adds_by_case v.nodes mid k r.position n t r.by_case in
+    let up = is_split c.in-Below.risen in
+    let e = adds_by_case v.nodes mid k r.position n t up r.by_case in
+    let rooted : MakesRoot v w up = λ split. new_node (length v.nodes) (vec_len c.added.new.nodes) c.rooted-in-Below.result
+    (omega (arith, c.added.ensures.heights.longer, c.added.new.nodes.ok.0)) (c.rooted-in-Below.ensures.new split) in
     let f : TakesCase v w k = λ s is.
-    subst (λ z. (q : ℕ) × IsFirstDifference k (found k z).key q × AddsByCase v.nodes last k q n z) (same_some (sym i.is ∙ is))
-    (r.position, r.addable.differ, later_by_case v.nodes mid last k r.position n t c.rooted-in-Below.ensures.all e) in
+    subst (λ z. (q : ℕ) × IsFirstDifference k (found k z).key q × ((o : Bool) × AddsByCase v.nodes last k q n z o × MakesRoot v w o)) (same_some (sym i.is ∙ is))
+    (r.position, r.addable.differ, (up, later_by_case v.nodes mid last k r.position n t up c.rooted-in-Below.ensures.all e, rooted)) in
     λ none. subst (λ u. TakesCase u w k) c.self.view_is f

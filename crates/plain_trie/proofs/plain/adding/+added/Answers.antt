@@ -1,14 +1,15 @@
 -- A search goes down to a leaf, and what becomes of it rises from there.
 use Rattle.std.proofs.Common.{◌≡◌, ℕ, refl, suc, ap, length, sym, ◌∙◌, subst, arith}
 use Rattle.std.proofs.lemmas.Option.{slice_get_within}
-use Rattle.std.specs.Prelude.{slice_get}
+use Rattle.std.specs.Prelude.{slice_get, Some}
 use Rattle.pieces.specs.Changes.{AtRootFork}
 use Rattle.compound_node.specs.Nodes.{piece, height_of}
 use Rattle.compound_node.specs.declared.entries.Entry.TheVariants.{Node}
-use Rattle.tries.specs.Search.{child}
-use Rattle.tries.specs.Tree.{Tree}
+use Rattle.tries.specs.Place.{spot}
+use Rattle.tries.specs.Search.{child, seek}
+use Rattle.tries.specs.Tree.{Tree, page}
 use Rattle.plain_trie.specs.Adding.{IsStanding, IsBehind}
-use Rattle.plain_trie.specs.Cases.{IsByCase}
+use Rattle.plain_trie.specs.Cases.{IsLevelDone, IsByCase, is_split}
 use Rattle.plain_trie.specs.Heights.{KeepsHeights}
 use Rattle.plain_trie.specs.Rising.{IsRaised, IsAddable}
 use Rattle.insert_cases.specs.Risen.{page_of}
@@ -16,7 +17,7 @@ use Rattle.plain_trie.proofs.Adding.{IsAt, search_at, standing_to, standing_node
 use Rattle.plain_trie.proofs.Cases.{above_by_case, node_by_case}
 use Rattle.plain_trie.proofs.Climbing.{addable_to, here_lifting, child_held, here_spot, old_at}
 use Rattle.plain_trie.proofs.Heights.{heights_same, heights_over}
-use Rattle.plain_trie.proofs.Lifting.{not_below}
+use Rattle.plain_trie.proofs.Lifting.{not_below, old_stays}
 use Rattle.plain_trie.proofs.Searching.{read_at}
 use Rattle.tries.proofs.Fitting.{lower_positive}
 use Rattle.plain_trie.proofs.plain.adding.+added.Goals as goal
@@ -124,7 +125,7 @@ returns-then-first_position-position-clause-adds t c = λ tree stands.
     let there = subst (λ xs. IsAddable xs us (item n k c.args.value) p (Node c.in-Node.number c.in-Node.height) tree) (sym left.nodes) i in
     let up = c.raised.ensures.raised us c.args.value tree there in
     let high = let w = a.node.built.1 in lower_positive a.node.fixed.height a.node.body w in
-    let by_case = node_by_case c.added.new.nodes.items c.raised.new.nodes.items k p n (Node c.in-Node.number c.in-Node.height) tree there.head (omega (arith, high, a.node.high)) (c.raised.ensures.case us c.args.value tree there) in
+    let by_case = node_by_case c.added.new.nodes.items c.raised.new.nodes.items k p n (Node c.in-Node.number c.in-Node.height) tree (is_split c.raised.result) there.head (omega (arith, high, a.node.high)) (c.raised.ensures.case us c.args.value tree there) in
     risen_here ns c.added.new.nodes.items c.raised.new.nodes.items c.args.leaves.now.items us k c.args.value n p c.args.entry tree c.raised.result left.nodes left.leaves left.number (addable_to (sym c.in-Node.is) i) behind
     (subst (λ e. IsRaised c.added.new.nodes.items c.raised.new.nodes.items us (item n k c.args.value) p tree (suc (height_of e)) (page_of c.raised.result)) (sym c.in-Node.is) up) by_case
 
@@ -161,6 +162,15 @@ returns-in-Below-clause-adds t c = λ tree stands.
     let l = here_lifting u c.search-at.result (height_of c.entry-child.result) c.entry-child.result c.added.new.nodes.items (page_of c.in-Below.risen)
     (way_above a.whole a.node us k c.args.value n r.position r.leaves c.entry-child.result r.addable r.behind) (here_spot u v c.index-node.ensures c.search-at.result c.search-at.ensures.leads) a.is refl r.raised in
     let up = c.lifted.ensures.raised ns us x r.position u.fixed u.body l in
+    let way = way_above a.whole a.node us k c.args.value n r.position r.leaves c.entry-child.result r.addable r.behind in
+    let still : slice_get c.added.new.nodes.items c.in-Node.number ≡ Some a.node.stored.view =
+    old_stays ns us c.in-Node.number u.fixed u.body u.trie u.built u.shown c.added.new.nodes.items x r.position (suc (height_of c.entry-child.result)) (page_of c.in-Below.risen) way r.raised
+    (omega (arith, child_lower a.whole a.node k c.entry-child.result a.is, a.node.high)) in
+    let takes = c.lifted.ensures.takes a.node.stored.view still in
+    let does : IsLevelDone (height_of (seek k (page a.node.body))) (is_split c.in-Below.risen) a.node.stored.view takes.0 (spot k (page a.node.body)) (is_split c.lifted.result) =
+    subst (λ d. IsLevelDone (height_of d) (is_split c.in-Below.risen) a.node.stored.view takes.0 (spot k (page a.node.body)) (is_split c.lifted.result)) a.is
+    (subst (λ j. IsLevelDone (height_of c.entry-child.result) (is_split c.in-Below.risen) a.node.stored.view takes.0 j (is_split c.lifted.result))
+    (here_spot u v c.index-node.ensures c.search-at.result c.search-at.ensures.leads) takes.2) in
     record {
       leaves = r.leaves;
       position = r.position;
@@ -168,9 +178,10 @@ returns-in-Below-clause-adds t c = λ tree stands.
       behind = behind_within r.position (within_standing a.whole a.node k) r.behind;
       raised = subst (λ h. IsRaised ns ms us x r.position tree (suc h) (page_of c.lifted.result)) (sym (ap height_of c.in-Node.is))
           (subst (λ y. IsRaised ns ms us x r.position y (suc c.in-Node.height) (page_of c.lifted.result)) (sym a.node.is) up);
-      by_case = subst (IsByCase ns ms k r.position n) (sym a.node.is)
-          (above_by_case ns c.added.new.nodes.items ms k r.position n c.in-Node.number a.node.fixed a.node.body (not_below ns us c.in-Node.number u.fixed u.body u.trie u.built u.shown)
-          (way_above a.whole a.node us k c.args.value n r.position r.leaves c.entry-child.result r.addable r.behind) c.lifted.ensures.others r.by_case);
+      by_case = subst (λ y. IsByCase ns ms k r.position n y (is_split c.lifted.result)) (sym a.node.is)
+          (above_by_case ns c.added.new.nodes.items ms k r.position n c.in-Node.number a.node.fixed a.node.body (is_split c.in-Below.risen) (is_split c.lifted.result)
+          (not_below ns us c.in-Node.number u.fixed u.body u.trie u.built u.shown) way c.lifted.ensures.others
+          (record { before = a.node.stored.view; after = takes.0; old_at = a.node.stored.at; new_at = takes.1; does = does }) r.by_case);
     }
 
 pub returns-in-Below-clause-heights : goal.returns-in-Below-clause-heights
