@@ -1,6 +1,6 @@
 -- What goes and what stays for what a deed has raised, and where that is stored.
 use Rattle.std.specs.Prelude.{nat_eq, slice_range}
-use Rattle.std.proofs.Common.{◌≡◌, inl, inr, ℕ, suc, zero, ◌+◌, ◌-◌, ◌<◌, ◌≤◌, Bool, true, false, List, [], ◌++◌, length, map, Option, Some, None, Result, Ok, Err, IfOk, IfErr, refl, sym, ap, subst, ◌∙◌, arith}
+use Rattle.std.proofs.Common.{◌≡◌, ◌≢◌, inl, inr, ℕ, suc, zero, ◌+◌, ◌-◌, ◌<◌, ◌≤◌, Bool, true, false, List, [], ◌++◌, length, map, Option, Some, None, Result, Ok, Err, IfOk, IfErr, refl, sym, ap, subst, ◌∙◌, arith}
 use Rattle.std.proofs.lemmas.Bool.{eqb-true}
 use Rattle.std.proofs.lemmas.List.{length-append, length-map}
 use Rattle.std.proofs.lemmas.List.Elements.{All-append}
@@ -26,11 +26,13 @@ use Rattle.rowex_table.specs.Made.{IsLater}
 use Rattle.rowex_table.specs.Seats.{TableView, SeatView}
 use Rattle.rowex_walks.specs.Writer.{added_change, removed_change}
 use Rattle.tries.specs.Content.{item}
-use Rattle.rowex_writing.specs.Changes.{IsStored, IsTaken}
+use Rattle.rowex_writing.specs.Building.{IsBuilding}
+use Rattle.rowex_writing.specs.Changes.{IsFull, IsStored, IsTaken}
 use Rattle.rowex_writing.specs.Deeds.{HasNoneFree, HasRaised, MayReplace, gone_for, kept_for, leaf_gone}
 use Rattle.rowex_writing.specs.declared.deeds.Job.{Job}
 use Rattle.rowex_writing.specs.declared.plan.Deed.TheVariants.{Grow, Take}
 use Rattle.rowex_writing.specs.declared.plan.Full.{Full}
+use Rattle.rowex_writing.specs.declared.plan.Full.TheVariants.{Nodes, Leaves}
 use Rattle.rowex_writing.specs.Locks.{AreNodes, HasLockedSpan, numbers_of}
 use Rattle.rowex_writing.specs.Putting.{IsSpotAbove}
 use Rattle.rowex_writing.specs.Retiring.{AreInTable, IsAnchored}
@@ -130,3 +132,13 @@ none_free_since table a m b made job (Err full) count none = record {
   few = none.few;
   full_of = full_since table.layout job.key.now a m b.known full count none.full_of;
 }
+
+-- where it was a node record, it was no leaf record
+pub nodes_alone : {X : Type 0} (r : Result X Full) (P : Full → Type 0) → IfErr r (λ full. (full ≡ Nodes) × P full) → r ≢ Err Leaves
+nodes_alone (Ok x) P h = λ e. cc
+nodes_alone (Err Nodes) P h = λ e. cc
+nodes_alone (Err Leaves) P h = absurd (let z = h.0 in cc)
+
+-- no leaf record was free, the first that a deed wants
+pub no_leaf_free : (table : TableView) (k : Known) (b : SeatView) (made : List Rec) (job : Job) → IsBuilding table b made [] → IsFull table.layout job.key.now k b.known Leaves → HasNoneFree table k b made job Leaves
+no_leaf_free table k b made job building missed = record { not_made = record { news = []; building = building }; few = omega (arith, ap length building.listed); full_of = missed }

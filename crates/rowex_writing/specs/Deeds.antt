@@ -1,15 +1,18 @@
 -- What a deed has made, before any of it is linked, and what may come of it.
-use Rattle.std.specs.Prelude.{ℕ, ◌+◌, ◌-◌, ◌*◌, ◌≤◌, List, [], ◌∷◌, ◌++◌, map, length, slice_range, Option, Some, None}
+use Rattle.std.specs.Prelude.{ℕ, ◌+◌, ◌-◌, ◌*◌, ◌≤◌, List, [], ◌∷◌, ◌++◌, map, length, slice_range, Option, Some, None, Result, IfOk, IfErr}
 use Rattle.finite_map.specs.declared.Change.{Change}
 use Rattle.insert_cases.specs.declared.choice.Step.{Step}
 use Rattle.moments.specs.declared.Rec.{Rec}
 use Rattle.moments.specs.declared.Rec.TheVariants.{Node as a_node, Leaf as a_leaf}
 use Rattle.record_words.specs.Entry.{entry_word}
+use Rattle.rowex_core.specs.declared.event.Event.{Event}
 use Rattle.rowex_core.specs.declared.event.Spot.{Spot}
 use Rattle.rowex_core.specs.declared.known.Known.{Known}
 use Rattle.rowex_table.specs.Seats.{TableView, SeatView}
 use Rattle.rowex_writing.specs.Building.{HasNotMade}
 use Rattle.rowex_writing.specs.Changes.{IsDeedChange, IsFull, MayEnd}
+use Rattle.rowex_writing.specs.Counts.{deed_steps}
+use Rattle.rowex_writing.specs.Going.{WorksOn}
 use Rattle.rowex_writing.specs.Locks.{locks_of}
 use Rattle.rowex_writing.specs.Putting.{IsSpotAbove}
 use Rattle.rowex_writing.specs.Retiring.{AreInTable}
@@ -52,3 +55,11 @@ pub record HasNoneFree (table : TableView) (k : Known) (b : SeatView) (made : Li
   pub not_made : HasNotMade table b made
   pub few : length made ≤ 2 * locks_of job.span
   pub full_of : IsFull table.layout job.key.now k b.known full
+
+-- The pass has carried out the deed, as far as others don't see it, or no record was free: with these answers, and so many steps.
+pub record CarriesOut {G : Type 0} (table : TableView) (becomes : G → Event → G → Type 0) (a b : SeatView × G) (made : List Rec) (job : Job) (deed : Deed)
+    (answer : Result Raised Full) : Type 0 where
+  pub goes : WorksOn table becomes a b
+  pub raised : IfOk answer (HasRaised table a.0.known b.0 made job deed)
+  pub full : IfErr answer (HasNoneFree table a.0.known b.0 made job)
+  pub few : b.0.known.steps ≤ a.0.known.steps + deed_steps table.layout (locks_of job.span) answer

@@ -1,11 +1,8 @@
 //! What is done under the locks of a span: records are made for what comes in the place of its nodes, and none of them is linked yet.
 
-ghost use Rattle.std.specs.Prelude.{◌≡◌, ◌≢◌, ◌≤◌, ◌+◌, IfErr, IfOk, Err};
+ghost use Rattle.std.specs.Prelude.{◌≡◌, ◌≢◌, Err};
 ghost use Rattle.rowex_writing.specs.Changes.{HasTakenPlan};
-ghost use Rattle.rowex_writing.specs.Counts.{deed_steps};
-ghost use Rattle.rowex_writing.specs.Deeds.{HasNoneFree, HasRaised};
-ghost use Rattle.rowex_writing.specs.Going.{WorksOn};
-ghost use Rattle.rowex_writing.specs.Locks.{locks_of};
+ghost use Rattle.rowex_writing.specs.Deeds.{CarriesOut};
 
 use crate::building::Build;
 use crate::growing::grow_node;
@@ -53,11 +50,8 @@ pub(crate) fn carry_out<G: Gate>(
     deed: Deed,
 ) -> Result<Raised, Full>
     requires taken { HasTakenPlan table.now seat.old job.now deed }
-    ensures goes { WorksOn table.now G.becomes (seat.old, gate.old) (seat.new, gate.new) }
-    ensures raised { IfOk result (HasRaised table.now seat.old.known seat.new build.new.made.items job.now deed) }
-    ensures full { IfErr result (HasNoneFree table.now seat.old.known seat.new build.new.made.items job.now) }
+    ensures done { CarriesOut table.now G.becomes (seat.old, gate.old) (seat.new, gate.new) build.new.made.items job.now deed result }
     ensures leafless { deed ≡ Deed.Take → result ≢ Err Full.Leaves }
-    ensures few { seat.new.known.steps ≤ seat.old.known.steps + deed_steps table.now.layout (locks_of job.now.span) result }
 {
     match deed {
         Deed::Put => put_leaf(table, seat, gate, build, job),

@@ -6,7 +6,7 @@ ghost use Rattle.tries.specs.Content.{item};
 ghost use Rattle.rowex_writing.specs.Plans.{grow};
 ghost use Rattle.rowex_writing.specs.Changes.{HasTakenPlan};
 ghost use Rattle.rowex_writing.specs.Counts.{deed_steps, leaf_steps};
-ghost use Rattle.rowex_writing.specs.Deeds.{HasNoneFree, HasRaised, MayReplace};
+ghost use Rattle.rowex_writing.specs.Deeds.{CarriesOut, HasNoneFree, MayReplace};
 ghost use Rattle.rowex_writing.specs.Going.{WorksOn};
 ghost use Rattle.rowex_writing.specs.Growths.{HasNumber, MayTake};
 ghost use Rattle.rowex_writing.specs.Locks.{locks_of};
@@ -30,10 +30,7 @@ pub(crate) fn grow_node<G: Gate>(
     affected: Affected,
 ) -> Result<Raised, Full>
     requires taken { HasTakenPlan table.now seat.old job.now (grow affected) }
-    ensures goes { WorksOn table.now G.becomes (seat.old, gate.old) (seat.new, gate.new) }
-    ensures raised { IfOk result (HasRaised table.now seat.old.known seat.new build.new.made.items job.now (grow affected)) }
-    ensures full { IfErr result (HasNoneFree table.now seat.old.known seat.new build.new.made.items job.now) }
-    ensures few { seat.new.known.steps ≤ seat.old.known.steps + deed_steps table.now.layout (locks_of job.now.span) result }
+    ensures done { CarriesOut table.now G.becomes (seat.old, gate.old) (seat.new, gate.new) build.new.made.items job.now (grow affected) result }
 {
     let Some(number) = make_leaf(table, seat, gate, build, job.key, job.value) else {
         return Err(Full::Leaves);

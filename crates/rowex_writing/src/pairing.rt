@@ -1,11 +1,7 @@
 //! A new node of the leaf that stands there and the new one: the second key at the root, or a leaf pushdown.
 
-ghost use Rattle.std.specs.Prelude.{◌≤◌, ◌+◌, IfErr, IfOk};
 ghost use Rattle.rowex_writing.specs.Changes.{HasTakenPlan};
-ghost use Rattle.rowex_writing.specs.Counts.{deed_steps};
-ghost use Rattle.rowex_writing.specs.Deeds.{HasNoneFree, HasRaised};
-ghost use Rattle.rowex_writing.specs.Going.{WorksOn};
-ghost use Rattle.rowex_writing.specs.Locks.{locks_of};
+ghost use Rattle.rowex_writing.specs.Deeds.{CarriesOut};
 ghost use Rattle.rowex_writing.specs.declared.plan.Deed.TheVariants.{Pair};
 
 use crate::building::{Build, make_node};
@@ -28,10 +24,7 @@ pub(crate) fn pair_leaf<G: Gate>(
     position: u16,
 ) -> Result<Raised, Full>
     requires taken { HasTakenPlan table.now seat.old job.now (Pair position) }
-    ensures goes { WorksOn table.now G.becomes (seat.old, gate.old) (seat.new, gate.new) }
-    ensures raised { IfOk result (HasRaised table.now seat.old.known seat.new build.new.made.items job.now (Pair position)) }
-    ensures full { IfErr result (HasNoneFree table.now seat.old.known seat.new build.new.made.items job.now) }
-    ensures few { seat.new.known.steps ≤ seat.old.known.steps + deed_steps table.now.layout (locks_of job.now.span) result }
+    ensures done { CarriesOut table.now G.becomes (seat.old, gate.old) (seat.new, gate.new) build.new.made.items job.now (Pair position) result }
 {
     let Found::Leaf { number: old, .. } = job.found else {
         unreachable!()

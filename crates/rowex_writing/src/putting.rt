@@ -1,11 +1,8 @@
 //! The new leaf in the place of what stands there: an empty root, or the leaf that has the key.
 
-ghost use Rattle.std.specs.Prelude.{◌≡◌, ◌≤◌, ◌+◌, IfErr, IfOk};
+ghost use Rattle.std.specs.Prelude.{◌≡◌};
 ghost use Rattle.rowex_writing.specs.Changes.{HasTakenPlan};
-ghost use Rattle.rowex_writing.specs.Counts.{deed_steps};
-ghost use Rattle.rowex_writing.specs.Deeds.{HasNoneFree, HasRaised, leaf_gone};
-ghost use Rattle.rowex_writing.specs.Going.{WorksOn};
-ghost use Rattle.rowex_writing.specs.Locks.{locks_of};
+ghost use Rattle.rowex_writing.specs.Deeds.{CarriesOut, leaf_gone};
 ghost use Rattle.rowex_writing.specs.Putting.{leaf_found};
 ghost use Rattle.rowex_writing.specs.declared.plan.Deed.TheVariants.{Put};
 
@@ -27,10 +24,7 @@ pub(crate) fn put_leaf<G: Gate>(
     job: &Job<'_>,
 ) -> Result<Raised, Full>
     requires taken { HasTakenPlan table.now seat.old job.now Put }
-    ensures goes { WorksOn table.now G.becomes (seat.old, gate.old) (seat.new, gate.new) }
-    ensures raised { IfOk result (HasRaised table.now seat.old.known seat.new build.new.made.items job.now Put) }
-    ensures full { IfErr result (HasNoneFree table.now seat.old.known seat.new build.new.made.items job.now) }
-    ensures few { seat.new.known.steps ≤ seat.old.known.steps + deed_steps table.now.layout (locks_of job.now.span) result }
+    ensures done { CarriesOut table.now G.becomes (seat.old, gate.old) (seat.new, gate.new) build.new.made.items job.now Put result }
 {
     let Some(number) = make_leaf(table, seat, gate, build, job.key, job.value) else {
         return Err(Full::Leaves);

@@ -1,11 +1,11 @@
 //! The end of a leaf: its node is made anew without it, or the root is empty.
 
-ghost use Rattle.std.specs.Prelude.{◌≡◌, ◌<◌, ℕ, [], IfErr, IfOk, None, Some, ◌≤◌, ◌+◌};
+ghost use Rattle.std.specs.Prelude.{◌≡◌, ◌≢◌, Err, ◌<◌, ℕ, [], IfErr, IfOk, None, Some, ◌≤◌, ◌+◌};
 ghost use Rattle.rowex_walks.specs.Writer.{removed_change};
 ghost use Rattle.tries.specs.Content.{item};
 ghost use Rattle.rowex_writing.specs.Changes.{HasTakenPlan};
 ghost use Rattle.rowex_writing.specs.Counts.{deed_steps};
-ghost use Rattle.rowex_writing.specs.Deeds.{HasNoneFree, HasRaised, MayReplace};
+ghost use Rattle.rowex_writing.specs.Deeds.{CarriesOut, HasNoneFree, MayReplace};
 ghost use Rattle.rowex_writing.specs.Going.{WorksOn};
 ghost use Rattle.rowex_writing.specs.Locks.{locks_of};
 ghost use Rattle.rowex_writing.specs.Taking.{HasLeafBelow};
@@ -27,10 +27,8 @@ pub(crate) fn take_leaf<G: Gate>(
     job: &Job<'_>,
 ) -> Result<Raised, Full>
     requires taken { HasTakenPlan table.now seat.old job.now Take }
-    ensures goes { WorksOn table.now G.becomes (seat.old, gate.old) (seat.new, gate.new) }
-    ensures raised { IfOk result (HasRaised table.now seat.old.known seat.new build.new.made.items job.now Take) }
-    ensures full { IfErr result (λ full. (full ≡ Full.Nodes) × HasNoneFree table.now seat.old.known seat.new build.new.made.items job.now full) }
-    ensures few { seat.new.known.steps ≤ seat.old.known.steps + deed_steps table.now.layout (locks_of job.now.span) result }
+    ensures done { CarriesOut table.now G.becomes (seat.old, gate.old) (seat.new, gate.new) build.new.made.items job.now Take result }
+    ensures leafless { result ≢ Err Full.Leaves }
 {
     build.made.clear();
     let Found::Leaf { number, .. } = job.found else {

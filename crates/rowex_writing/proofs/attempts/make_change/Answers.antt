@@ -15,8 +15,8 @@ pub publish_change-requires : goal.publish_change-requires
 publish_change-requires g c =
     let job = c.args.job.now in
     let (m, aim, t, planned) = c.requires.taken in
-    let goes = c.carry_out.ensures.goes in
-    let (x, was, is, may) = c.in-Ok.ensures.raised in
+    let goes = c.carry_out.ensures.done.goes in
+    let (x, was, is, may) = c.in-Ok.ensures.done.raised in
     record {
       held = record {
         seat = seat_of c.args.table.now g.G.Gate.becomes (c.args.seat.now, c.args.gate.now) (c.carry_out.new.seat, c.carry_out.new.gate) goes t.seat;
@@ -31,24 +31,24 @@ publish_change-requires g c =
 pub returns-in-Ok-clause-run : goal.returns-in-Ok-clause-run
 returns-in-Ok-clause-run g c =
     runs_trans c.args.table.now g.G.Gate.becomes (c.args.seat.now, c.args.gate.now) (c.carry_out.new.seat, c.carry_out.new.gate) (c.publish_change.new.seat, c.publish_change.new.gate)
-    (goes_run c.args.table.now g.G.Gate.becomes (c.args.seat.now, c.args.gate.now) (c.carry_out.new.seat, c.carry_out.new.gate) c.carry_out.ensures.goes) c.publish_change.ensures.run
+    (goes_run c.args.table.now g.G.Gate.becomes (c.args.seat.now, c.args.gate.now) (c.carry_out.new.seat, c.carry_out.new.gate) c.carry_out.ensures.done.goes) c.publish_change.ensures.run
 
 pub returns-in-Ok-clause-done : goal.returns-in-Ok-clause-done
 returns-in-Ok-clause-done g c = λ ok.
-    let (x, was, is, may) = c.in-Ok.ensures.raised in
-    (x, was, is, changed_since c.args.seat.now.known c.carry_out.new.seat.known c.publish_change.new.seat.known x was c.carry_out.ensures.goes.stays.0 (c.publish_change.ensures.changed x was may))
+    let (x, was, is, may) = c.in-Ok.ensures.done.raised in
+    (x, was, is, changed_since c.args.seat.now.known c.carry_out.new.seat.known c.publish_change.new.seat.known x was c.carry_out.ensures.done.goes.stays.0 (c.publish_change.ensures.changed x was may))
 
 pub returns-in-Ok-clause-few : goal.returns-in-Ok-clause-few
 returns-in-Ok-clause-few g c =
-    let (x, was, is, may) = c.in-Ok.ensures.raised in
-    omega (arith, c.in-Ok.ensures.few, c.publish_change.ensures.few, may.few)
+    let (x, was, is, may) = c.in-Ok.ensures.done.raised in
+    omega (arith, c.in-Ok.ensures.done.few, c.publish_change.ensures.few, may.few)
 
 pub undo-requires-clause-own : goal.undo-requires-clause-own
-undo-requires-clause-own g c = seat_of c.args.table.now g.G.Gate.becomes (c.args.seat.now, c.args.gate.now) (c.carry_out.new.seat, c.carry_out.new.gate) c.carry_out.ensures.goes c.requires.taken.2.seat
+undo-requires-clause-own g c = seat_of c.args.table.now g.G.Gate.becomes (c.args.seat.now, c.args.gate.now) (c.carry_out.new.seat, c.carry_out.new.gate) c.carry_out.ensures.done.goes c.requires.taken.2.seat
 
 pub undo-requires-clause-records : goal.undo-requires-clause-records
 undo-requires-clause-records g c =
-    let none = c.in-Err.ensures.full.not_made in
+    let none = c.in-Err.ensures.done.full.not_made in
     subst (AreInTable c.args.table.now.layout) (sym c.as_slice.ensures.value) (made_records c.args.table.now c.carry_out.new.seat c.carry_out.new.build.made.items none.news none.building)
 
 pub undo-requires-clause-within : goal.undo-requires-clause-within
@@ -62,22 +62,22 @@ undo-requires-clause-nodes g c =
 
 pub undo-requires-clause-held : goal.undo-requires-clause-held
 undo-requires-clause-held g c =
-    let none = c.in-Err.ensures.full.not_made in
+    let none = c.in-Err.ensures.done.full.not_made in
     subst (HoldsJust c.carry_out.new.seat.known) (sym c.as_slice.ensures.value) (made_held c.args.table.now c.carry_out.new.seat c.carry_out.new.build.made.items none.news none.building)
 
 pub undo-requires-clause-locked : goal.undo-requires-clause-locked
-undo-requires-clause-locked g c = span_later _ _ c.args.job.now.way.now c.args.job.now.span c.carry_out.ensures.goes.stays c.requires.taken.2.locked
+undo-requires-clause-locked g c = span_later _ _ c.args.job.now.way.now c.args.job.now.span c.carry_out.ensures.done.goes.stays c.requires.taken.2.locked
 
 pub returns-in-Err-clause-run : goal.returns-in-Err-clause-run
 returns-in-Err-clause-run g c =
     runs_trans c.args.table.now g.G.Gate.becomes (c.args.seat.now, c.args.gate.now) (c.carry_out.new.seat, c.carry_out.new.gate) (c.undo.new.seat, c.undo.new.gate)
-    (goes_run c.args.table.now g.G.Gate.becomes (c.args.seat.now, c.args.gate.now) (c.carry_out.new.seat, c.carry_out.new.gate) c.carry_out.ensures.goes)
+    (goes_run c.args.table.now g.G.Gate.becomes (c.args.seat.now, c.args.gate.now) (c.carry_out.new.seat, c.carry_out.new.gate) c.carry_out.ensures.done.goes)
     (works_run c.args.table.now g.G.Gate.becomes (c.carry_out.new.seat, c.carry_out.new.gate) (c.undo.new.seat, c.undo.new.gate) c.undo.ensures.works)
 
 pub returns-in-Err-clause-full : goal.returns-in-Err-clause-full
 returns-in-Err-clause-full g c =
     no_room c.args.table.now g.G.Gate.becomes c.args.job.now.key.now (c.args.seat.now, c.args.gate.now) (c.carry_out.new.seat, c.carry_out.new.gate) (c.undo.new.seat, c.undo.new.gate) c.in-Err.full
-    c.carry_out.ensures.goes c.undo.ensures.works c.undo.ensures.rest c.in-Err.ensures.full.full_of
+    c.carry_out.ensures.done.goes c.undo.ensures.works c.undo.ensures.rest c.in-Err.ensures.done.full.full_of
 
 pub returns-in-Err-clause-few : goal.returns-in-Err-clause-few
-returns-in-Err-clause-few g c = omega (arith, c.in-Err.ensures.few, c.undo.ensures.few, ap length c.as_slice.ensures.value, c.in-Err.ensures.full.few)
+returns-in-Err-clause-few g c = omega (arith, c.in-Err.ensures.done.few, c.undo.ensures.few, ap length c.as_slice.ensures.value, c.in-Err.ensures.done.full.few)

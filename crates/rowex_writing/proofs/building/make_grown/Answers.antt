@@ -1,6 +1,8 @@
 -- A full node gives its two sides; a node with room is stored anew with the leaf in it.
-use Rattle.std.proofs.Common.{◌≡◌, ◌<◌, false, true, refl, sym, ◌∙◌, length, arith}
+use Rattle.std.proofs.Common.{◌≡◌, ◌<◌, false, true, refl, sym, subst, ◌∙◌, length, arith}
+use Rattle.compound_node.specs.declared.entries.Entry.TheVariants.{Node}
 use Rattle.insert_cases.specs.declared.growth.Grown.TheVariants.{One as Single}
+use Rattle.rowex_writing.specs.Building.{IsMadeFrom}
 use Rattle.rowex_writing.proofs.building.make_grown.Goals as goal
 
 pub returns-then-count-eq32-clause-made : goal.returns-then-count-eq32-clause-made
@@ -15,7 +17,7 @@ returns-then-count-eq32-clause-made g c = λ news b.
         keeps = c.stays_whole-stays.ensures;
         above = e.same.0;
         low = e.low;
-        made = made;
+        made = subst (λ h. IsMadeFrom (Node c.args.held.now.number h) c.full_with_leaf-grown.result c.in_ok-risen.risen news after) c.height.ensures made;
       },
       now,
     )
@@ -23,7 +25,7 @@ returns-then-count-eq32-clause-made g c = λ news b.
 pub returns-clause-made : goal.returns-clause-made
 returns-clause-made g c = λ news b.
     let (m, is, has, building) = c.in_ok-entry.ensures.made news b in
-    let room : length c.args.node.now.entries < 32 = omega (arith, c.if-count-eq32.false, c.count.ensures.count, c.count.ensures.lawful.room) in (
+    let room : length c.args.held.now.node.entries < 32 = omega (arith, c.if-count-eq32.false, c.count.ensures.count, c.count.ensures.lawful.room) in (
       _,
       record {
         grown = Single c.add_leaf.new.node;

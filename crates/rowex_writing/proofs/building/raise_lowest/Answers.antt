@@ -1,5 +1,5 @@
 -- The lowest node gets the leaf.
-use Rattle.std.proofs.Common.{[], ◌∷◌}
+use Rattle.std.proofs.Common.{[], ◌∷◌, refl}
 use Rattle.compound_node.specs.declared.entries.Entry.TheVariants.{Node}
 use Rattle.rowex_rights.specs.Rises.{of_leaf}
 use Rattle.rowex_writing.specs.Building.{IsBuilding}
@@ -22,14 +22,14 @@ returns-clause-goes g c = goes_more c.args.table.now g.G.Gate.becomes _ _ _ c.re
 
 pub returns-clause-made : goal.returns-clause-made
 returns-clause-made g c = λ b.
-    lowest_made _ _ c.read_locked-node.ensures.reads b c.read_locked-node.ensures.node (c.make_grown.new.seat, c.make_grown.new.gate) c.make_grown.new.build.made.items c.height.result c.height.ensures c.make_grown.result c.make_grown.ensures.goes
+    lowest_made _ _ c.read_locked-node.ensures.reads b c.read_locked-node.ensures.node (c.make_grown.new.seat, c.make_grown.new.gate) c.make_grown.new.build.made.items c.read_locked-node.result.height refl c.make_grown.result c.make_grown.ensures.goes
     (c.make_grown.ensures.made (of_leaf b.item ∷ []) (low_building _ _ c.read_locked-node.ensures.reads b c.read_locked-node.ensures.node))
 
 pub returns-clause-level : goal.returns-clause-level
 returns-clause-level g c = λ words h.
     let b = c.requires.lowest in
-    leaf_level words c.read_locked-node.result (Node c.args.number c.height.result) _ c.args.new.now.position c.make_grown.result _ (of_leaf b.item ∷ []) (IsBuilding c.args.table.now c.make_grown.new.seat c.make_grown.new.build.made.items)
-    (c.read_locked-node.ensures.node words h) c.height.ensures (c.make_grown.ensures.made (of_leaf b.item ∷ []) (low_building _ _ c.read_locked-node.ensures.reads b c.read_locked-node.ensures.node))
+    leaf_level words c.read_locked-node.result (Node c.args.number c.read_locked-node.result.height) _ c.args.new.now.position c.make_grown.result _ (of_leaf b.item ∷ []) (IsBuilding c.args.table.now c.make_grown.new.seat c.make_grown.new.build.made.items)
+    (c.read_locked-node.ensures.node words h) refl (c.make_grown.ensures.made (of_leaf b.item ∷ []) (low_building _ _ c.read_locked-node.ensures.reads b c.read_locked-node.ensures.node))
 
 pub returns-clause-walk : goal.returns-clause-walk
 returns-clause-walk g c =

@@ -12,7 +12,7 @@ use Rattle.rowex_walks.specs.Writer.{added_change}
 use Rattle.rowex_writing.specs.Changes.{IsStored, MayEnd}
 use Rattle.rowex_writing.specs.Counts.{node_steps}
 use Rattle.rowex_writing.proofs.Counting.{made_one}
-use Rattle.rowex_writing.proofs.Raised.{leaf_alone, none_in_table}
+use Rattle.rowex_writing.proofs.Raised.{leaf_alone, no_leaf_free, none_in_table}
 use Rattle.rowex_writing.proofs.Growths.{full_since}
 use Rattle.rowex_writing.proofs.Lifting.{paired}
 use Rattle.rowex_writing.proofs.Locking.{goes_more}
@@ -24,15 +24,15 @@ use Rattle.rowex_writing.proofs.pairing.pair_leaf.Goals as goal
 use Rattle.tries.specs.Content.{item}
 
 -- ---- no leaf record was free
-pub returns-in_default-make_leaf-clause-full : goal.returns-in_default-make_leaf-clause-full
-returns-in_default-make_leaf-clause-full g c = record {
-  not_made = record { news = []; building = c.in_default-make_leaf.ensures.made.0 };
-  few = omega (arith, ap length c.in_default-make_leaf.ensures.made.0.listed);
-  full_of = c.in_default-make_leaf.ensures.made.1;
+pub returns-in_default-make_leaf : goal.returns-in_default-make_leaf
+returns-in_default-make_leaf g c = record {
+  done = record {
+    goes = c.make_leaf.ensures.goes;
+    raised = tt;
+    full = no_leaf_free _ _ _ _ c.args.job.now c.in_default-make_leaf.ensures.made.0 c.in_default-make_leaf.ensures.made.1;
+    few = omega (arith, c.make_leaf.ensures.few);
+  };
 }
-
-pub returns-in_default-make_leaf-clause-few : goal.returns-in_default-make_leaf-clause-few
-returns-in_default-make_leaf-clause-few g c = omega (arith, c.make_leaf.ensures.few)
 
 -- ---- the node
 pub pair_with_leaf-pair-requires : goal.pair_with_leaf-pair-requires
@@ -45,60 +45,56 @@ pair_with_leaf-pair-requires g c =
     (found_is_key c.args.table.now c.args.seat.now m job.key.now job.way.now job.found job.span t here.len c.in-Leaf.old here.value (Some c.args.position) here.is_found) l.2.0 l.2.1
 
 -- ---- no node record was free
-pub returns-in_default-make_node-clause-goes : goal.returns-in_default-make_node-clause-goes
-returns-in_default-make_node-clause-goes g c =
-    goes_more c.args.table.now g.G.Gate.becomes (c.args.seat.now, c.args.gate.now) (c.make_leaf.new.seat, c.make_leaf.new.gate) (c.make_node.new.seat, c.make_node.new.gate) c.make_leaf.ensures.goes c.make_node.ensures.goes
-
-pub returns-in_default-make_node-clause-full : goal.returns-in_default-make_node-clause-full
-returns-in_default-make_node-clause-full g c =
-    let missed = c.in_default-make_node.ensures.walk c.make_leaf.new.seat.known.steps
-    (walk_begins a_node c.args.table.now.layout.nodes c.make_leaf.new.seat.known c.make_leaf.new.build.made.items c.make_leaf.new.build.nodes.next c.layout.result.nodes c.args.table.now.layout.nodes_in_range.0 (ap (λ (z : Layout). z.nodes) c.layout.ensures)) in
-    let rise = steps_rise c.args.table.now g.G.Gate.becomes c.make_leaf.ensures.goes.acts (c.args.seat.now, c.args.gate.now) (c.make_leaf.new.seat, c.make_leaf.new.gate) c.make_leaf.ensures.goes.steps in
-    record {
-      not_made = c.in_default-make_node.ensures.made (of_leaf (item c.in-Some.leaf c.args.job.now.key.now c.args.job.now.value) ∷ []) c.in-Some.ensures.made;
-      few = omega (arith, made_one c.in-Some.ensures.made, c.make_node.ensures.more);
-      full_of = full_since c.args.table.now.layout c.args.job.now.key.now c.args.seat.now.known c.make_leaf.new.seat.known c.make_node.new.seat.known Nodes rise missed;
-    }
-
-pub returns-in_default-make_node-clause-few : goal.returns-in_default-make_node-clause-few
-returns-in_default-make_node-clause-few g c =
-    let whole : c.layout.result.nodes ≡ c.args.table.now.layout.nodes = ap (λ (z : Layout). z.nodes) c.layout.ensures in
-    let few : c.make_node.new.seat.known.steps + 2 * c.make_node.new.build.left_nodes ≤ c.make_leaf.new.seat.known.steps + 2 * c.layout.result.nodes + node_steps + length c.make_node.new.build.made.items = c.in_default-make_node.ensures.few in
-    omega (arith, whole, c.make_leaf.ensures.few, few, made_one c.in-Some.ensures.made, c.make_node.ensures.more)
+pub returns-in_default-make_node : goal.returns-in_default-make_node
+returns-in_default-make_node g c = record {
+  done = record {
+    goes = (goes_more c.args.table.now g.G.Gate.becomes (c.args.seat.now, c.args.gate.now) (c.make_leaf.new.seat, c.make_leaf.new.gate) (c.make_node.new.seat, c.make_node.new.gate) c.make_leaf.ensures.goes c.make_node.ensures.goes);
+    raised = tt;
+    full = (let missed = c.in_default-make_node.ensures.walk c.make_leaf.new.seat.known.steps
+        (walk_begins a_node c.args.table.now.layout.nodes c.make_leaf.new.seat.known c.make_leaf.new.build.made.items c.make_leaf.new.build.nodes.next c.layout.result.nodes c.args.table.now.layout.nodes_in_range.0 (ap (λ (z : Layout). z.nodes) c.layout.ensures)) in
+        let rise = steps_rise c.args.table.now g.G.Gate.becomes c.make_leaf.ensures.goes.acts (c.args.seat.now, c.args.gate.now) (c.make_leaf.new.seat, c.make_leaf.new.gate) c.make_leaf.ensures.goes.steps in
+        record {
+          not_made = c.in_default-make_node.ensures.made (of_leaf (item c.in-Some.leaf c.args.job.now.key.now c.args.job.now.value) ∷ []) c.in-Some.ensures.made;
+          few = omega (arith, made_one c.in-Some.ensures.made, c.make_node.ensures.more);
+          full_of = full_since c.args.table.now.layout c.args.job.now.key.now c.args.seat.now.known c.make_leaf.new.seat.known c.make_node.new.seat.known Nodes rise missed;
+        });
+    few = (let whole : c.layout.result.nodes ≡ c.args.table.now.layout.nodes = ap (λ (z : Layout). z.nodes) c.layout.ensures in
+        let few : c.make_node.new.seat.known.steps + 2 * c.make_node.new.build.left_nodes ≤ c.make_leaf.new.seat.known.steps + 2 * c.layout.result.nodes + node_steps + length c.make_node.new.build.made.items = c.in_default-make_node.ensures.few in
+        omega (arith, whole, c.make_leaf.ensures.few, few, made_one c.in-Some.ensures.made, c.make_node.ensures.more));
+  };
+}
 
 -- ---- the node is made
-pub returns-clause-goes : goal.returns-clause-goes
-returns-clause-goes g c =
-    goes_more c.args.table.now g.G.Gate.becomes (c.args.seat.now, c.args.gate.now) (c.make_leaf.new.seat, c.make_leaf.new.gate) (c.make_node.new.seat, c.make_node.new.gate) c.make_leaf.ensures.goes c.make_node.ensures.goes
-
-pub returns-clause-raised : goal.returns-clause-raised
-returns-clause-raised g c =
-    let job = c.args.job.now in
-    let (m, aim, t, planned) = c.requires.taken in
-    let here = pair_here c.args.seat.now.known m job.key.now job.way.now aim job.found job.span c.args.position planned c.in-Leaf.old _ _ c.in-Leaf.is in
-    let goes = goes_more c.args.table.now g.G.Gate.becomes (c.args.seat.now, c.args.gate.now) (c.make_leaf.new.seat, c.make_leaf.new.gate) (c.make_node.new.seat, c.make_node.new.gate) c.make_leaf.ensures.goes c.make_node.ensures.goes in
-    let news = of_leaf (item c.in-Some.leaf job.key.now job.value) ∷ [] in
-    let (more, side, building) = paired c.args.table.now c.make_leaf.new.seat c.make_node.new.seat c.make_node.new.build.made.items news c.pair_with_leaf-pair.result
-    (page_forked (bit job.key.now c.args.position) c.args.position (LeafEntry c.in-Some.leaf) (Place (LeafEntry c.in-Leaf.old))) (Some c.in-Some-make_node.entry) c.pair_with_leaf-pair.ensures (c.in-Some-make_node.ensures.made news c.in-Some.ensures.made) in
-    let x = added_change c.args.seat.now.known.pass (item c.in-Some.leaf job.key.now job.value) in (
-      x,
-      None,
-      subst (λ f. IsStored c.args.seat.now.known.pass job.key.now job.value f x None) (sym here.is_found) (refl, refl),
-      record {
-        from = omega (arith, here.len);
-        upto = omega arith;
-        most = omega arith;
-        leaf = none_in_table c.args.table.now.layout;
-        ends = λ spot over.
-            subst (MayEnd c.args.table.now c.make_node.new.seat c.make_node.new.build.made.items spot (entry_word (Some c.in-Some-make_node.entry)) x None) (sym (leaf_alone job.way.now job.span.end job.span.len None here.len))
-            (pair_may c.args.table.now c.args.seat.now m job.key.now job.way.now job.found job.span t here.len c.make_node.new.seat c.make_node.new.build.made.items c.in-Some.leaf job.value goes.stays.0 goes.stays.1 goes.stays.2
-            c.make_leaf.ensures.leaf c.args.position c.in-Leaf.old here c.in-Some-make_node.entry more side building spot over);
-        few = omega (arith, made_one c.in-Some.ensures.made, c.make_node.ensures.more);
-      },
-    )
-
-pub returns-clause-few : goal.returns-clause-few
-returns-clause-few g c =
-    let whole : c.layout.result.nodes ≡ c.args.table.now.layout.nodes = ap (λ (z : Layout). z.nodes) c.layout.ensures in
-    let few : c.make_node.new.seat.known.steps + 2 * c.make_node.new.build.left_nodes ≤ c.make_leaf.new.seat.known.steps + 2 * c.layout.result.nodes + node_steps + 0 = c.in-Some-make_node.ensures.few in
-    omega (arith, whole, c.make_leaf.ensures.few, few, made_one c.in-Some.ensures.made, c.make_node.ensures.more)
+pub returns : goal.returns
+returns g c = record {
+  done = record {
+    goes = (goes_more c.args.table.now g.G.Gate.becomes (c.args.seat.now, c.args.gate.now) (c.make_leaf.new.seat, c.make_leaf.new.gate) (c.make_node.new.seat, c.make_node.new.gate) c.make_leaf.ensures.goes c.make_node.ensures.goes);
+    raised = (let job = c.args.job.now in
+        let (m, aim, t, planned) = c.requires.taken in
+        let here = pair_here c.args.seat.now.known m job.key.now job.way.now aim job.found job.span c.args.position planned c.in-Leaf.old _ _ c.in-Leaf.is in
+        let goes = goes_more c.args.table.now g.G.Gate.becomes (c.args.seat.now, c.args.gate.now) (c.make_leaf.new.seat, c.make_leaf.new.gate) (c.make_node.new.seat, c.make_node.new.gate) c.make_leaf.ensures.goes c.make_node.ensures.goes in
+        let news = of_leaf (item c.in-Some.leaf job.key.now job.value) ∷ [] in
+        let (more, side, building) = paired c.args.table.now c.make_leaf.new.seat c.make_node.new.seat c.make_node.new.build.made.items news c.pair_with_leaf-pair.result
+        (page_forked (bit job.key.now c.args.position) c.args.position (LeafEntry c.in-Some.leaf) (Place (LeafEntry c.in-Leaf.old))) (Some c.in-Some-make_node.entry) c.pair_with_leaf-pair.ensures (c.in-Some-make_node.ensures.made news c.in-Some.ensures.made) in
+        let x = added_change c.args.seat.now.known.pass (item c.in-Some.leaf job.key.now job.value) in (
+          x,
+          None,
+          subst (λ f. IsStored c.args.seat.now.known.pass job.key.now job.value f x None) (sym here.is_found) (refl, refl),
+          record {
+            from = omega (arith, here.len);
+            upto = omega arith;
+            most = omega arith;
+            leaf = none_in_table c.args.table.now.layout;
+            ends = λ spot over.
+                subst (MayEnd c.args.table.now c.make_node.new.seat c.make_node.new.build.made.items spot (entry_word (Some c.in-Some-make_node.entry)) x None) (sym (leaf_alone job.way.now job.span.end job.span.len None here.len))
+                (pair_may c.args.table.now c.args.seat.now m job.key.now job.way.now job.found job.span t here.len c.make_node.new.seat c.make_node.new.build.made.items c.in-Some.leaf job.value goes.stays.0 goes.stays.1 goes.stays.2
+                c.make_leaf.ensures.leaf c.args.position c.in-Leaf.old here c.in-Some-make_node.entry more side building spot over);
+            few = omega (arith, made_one c.in-Some.ensures.made, c.make_node.ensures.more);
+          },
+        ));
+    full = tt;
+    few = (let whole : c.layout.result.nodes ≡ c.args.table.now.layout.nodes = ap (λ (z : Layout). z.nodes) c.layout.ensures in
+        let few : c.make_node.new.seat.known.steps + 2 * c.make_node.new.build.left_nodes ≤ c.make_leaf.new.seat.known.steps + 2 * c.layout.result.nodes + node_steps + 0 = c.in-Some-make_node.ensures.few in
+        omega (arith, whole, c.make_leaf.ensures.few, few, made_one c.in-Some.ensures.made, c.make_node.ensures.more));
+  };
+}

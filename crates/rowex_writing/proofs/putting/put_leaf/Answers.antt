@@ -1,45 +1,48 @@
 -- The store is that of a first key, or of another value.
-use Rattle.std.proofs.Common.{◌+◌, ◌*◌, [], sym, ap, subst, ◌∙◌, arith, length}
+use Rattle.std.proofs.Common.{◌+◌, ◌*◌, sym, ap, subst, ◌∙◌, arith, length}
 use Rattle.rowex_writing.specs.Changes.{MayEnd}
 use Rattle.rowex_writing.specs.Retiring.{AreInTable}
 use Rattle.rowex_writing.proofs.Counting.{found_few, made_one}
-use Rattle.rowex_writing.proofs.Raised.{leaf_alone}
+use Rattle.rowex_writing.proofs.Raised.{leaf_alone, no_leaf_free}
 use Rattle.rowex_writing.proofs.Placing.{found_records, put_change, put_len, put_may, put_stored, put_was}
 use Rattle.rowex_writing.proofs.putting.put_leaf.Goals as goal
 use Rattle.tries.specs.Content.{item}
 
-pub returns-in_default-clause-full : goal.returns-in_default-clause-full
-returns-in_default-clause-full g c = record {
-  not_made = record { news = []; building = c.in_default.ensures.made.0 };
-  few = omega (arith, ap length c.in_default.ensures.made.0.listed);
-  full_of = c.in_default.ensures.made.1;
+pub returns-in_default : goal.returns-in_default
+returns-in_default g c = record {
+  done = record {
+    goes = c.make_leaf.ensures.goes;
+    raised = tt;
+    full = no_leaf_free _ _ _ _ c.args.job.now c.in_default.ensures.made.0 c.in_default.ensures.made.1;
+    few = omega (arith, c.make_leaf.ensures.few);
+  };
 }
 
-pub returns-in_default-clause-few : goal.returns-in_default-clause-few
-returns-in_default-clause-few g c = omega (arith, c.make_leaf.ensures.few)
-
-pub returns-clause-raised : goal.returns-clause-raised
-returns-clause-raised g c =
-    let job = c.args.job.now in
-    let (m, aim, t, planned) = c.requires.taken in
-    let (at, same, upto) = put_len c.args.seat.now.known m job.key.now job.way.now aim job.found job.span planned in
-    let goes = c.make_leaf.ensures.goes in
-    let gone = leaf_alone job.way.now job.span.end job.span.len c.found_leaf.result same ∙ c.found_leaf.ensures in (
-      put_change c.args.seat.now.known.pass (item c.in-Some.number job.key.now job.value) job.found,
-      put_was job.found,
-      put_stored c.args.seat.now.known.pass c.in-Some.number job.key.now job.value job.way.now job.found job.span.len job.span.end at,
-      record {
-        from = omega (arith, same);
-        upto = omega arith;
-        most = omega arith;
-        leaf = subst (AreInTable c.args.table.now.layout) (sym c.found_leaf.ensures) (found_records c.args.table.now c.args.seat.now m job.key.now job.way.now job.found job.span t same);
-        ends = λ spot over.
-            subst (MayEnd c.args.table.now c.make_leaf.new.seat c.make_leaf.new.build.made.items spot (4 * c.in-Some.number + 1) (put_change c.args.seat.now.known.pass (item c.in-Some.number job.key.now job.value) job.found) (put_was job.found)) (sym gone)
-            (put_may c.args.table.now c.args.seat.now m job.key.now job.way.now job.found job.span t same c.make_leaf.new.seat c.make_leaf.new.build.made.items c.in-Some.number job.value goes.stays.0 goes.stays.1 goes.stays.2
-            c.make_leaf.ensures.leaf c.in-Some.ensures.made at spot over);
-        few = omega (arith, made_one c.in-Some.ensures.made, ap length c.found_leaf.ensures, found_few job.found);
-      },
-    )
-
-pub returns-clause-few : goal.returns-clause-few
-returns-clause-few g c = omega (arith, c.make_leaf.ensures.few)
+pub returns : goal.returns
+returns g c = record {
+  done = record {
+    goes = c.make_leaf.ensures.goes;
+    raised = (let job = c.args.job.now in
+        let (m, aim, t, planned) = c.requires.taken in
+        let (at, same, upto) = put_len c.args.seat.now.known m job.key.now job.way.now aim job.found job.span planned in
+        let goes = c.make_leaf.ensures.goes in
+        let gone = leaf_alone job.way.now job.span.end job.span.len c.found_leaf.result same ∙ c.found_leaf.ensures in (
+          put_change c.args.seat.now.known.pass (item c.in-Some.number job.key.now job.value) job.found,
+          put_was job.found,
+          put_stored c.args.seat.now.known.pass c.in-Some.number job.key.now job.value job.way.now job.found job.span.len job.span.end at,
+          record {
+            from = omega (arith, same);
+            upto = omega arith;
+            most = omega arith;
+            leaf = subst (AreInTable c.args.table.now.layout) (sym c.found_leaf.ensures) (found_records c.args.table.now c.args.seat.now m job.key.now job.way.now job.found job.span t same);
+            ends = λ spot over.
+                subst (MayEnd c.args.table.now c.make_leaf.new.seat c.make_leaf.new.build.made.items spot (4 * c.in-Some.number + 1) (put_change c.args.seat.now.known.pass (item c.in-Some.number job.key.now job.value) job.found) (put_was job.found)) (sym gone)
+                (put_may c.args.table.now c.args.seat.now m job.key.now job.way.now job.found job.span t same c.make_leaf.new.seat c.make_leaf.new.build.made.items c.in-Some.number job.value goes.stays.0 goes.stays.1 goes.stays.2
+                c.make_leaf.ensures.leaf c.in-Some.ensures.made at spot over);
+            few = omega (arith, made_one c.in-Some.ensures.made, ap length c.found_leaf.ensures, found_few job.found);
+          },
+        ));
+    full = tt;
+    few = omega (arith, c.make_leaf.ensures.few);
+  };
+}

@@ -3,7 +3,9 @@ use Rattle.std.proofs.Common.{[], ◌∷◌, Some, refl, sym, ap, subst, arith, 
 use Rattle.moments.specs.declared.Rec.TheVariants.{Leaf as a_leaf}
 use Rattle.rowex_walks.specs.Writer.{removed_change}
 use Rattle.rowex_writing.specs.Changes.{IsTaken, MayEnd}
-use Rattle.rowex_writing.proofs.Raised.{leaf_alone, taken_raised}
+use Rattle.std.proofs.lemmas.Result.{IfErr-weaker}
+use Rattle.rowex_writing.proofs.Locking.{goes_none}
+use Rattle.rowex_writing.proofs.Raised.{leaf_alone, nodes_alone, taken_raised}
 use Rattle.rowex_writing.proofs.Removing.{found_key, may_empty, only_records, take_below, take_only}
 use Rattle.rowex_writing.proofs.taking.take_leaf.Goals as goal
 use Rattle.tries.specs.Content.{item}
@@ -14,33 +16,44 @@ remake_without-requires-clause-below g c =
     let (m, aim, taken, planned) = c.requires.taken in
     (m, c.in-Leaf.value, take_below c.args.table.now c.args.seat.now m job.key.now job.way.now aim job.found job.span taken planned c.in-Leaf.number c.in-Leaf.value c.in-Leaf.mismatch c.in-Leaf.is c.if-job-gt0.true)
 
-pub returns-then-job-gt0-clause-raised : goal.returns-then-job-gt0-clause-raised
-returns-then-job-gt0-clause-raised g c =
-    let job = c.args.job.now in
-    let (m, aim, taken, planned) = c.requires.taken in
-    let below = take_below c.args.table.now c.args.seat.now m job.key.now job.way.now aim job.found job.span taken planned c.in-Leaf.number c.in-Leaf.value c.in-Leaf.mismatch c.in-Leaf.is c.if-job-gt0.true in
-    let same = found_key c.args.table.now c.args.seat.now m job.key.now job.way.now aim job.found job.span taken planned c.in-Leaf.number c.in-Leaf.value c.in-Leaf.mismatch c.in-Leaf.is in
-    taken_raised c.args.table.now c.args.seat.now.known c.remake_without.new.seat c.remake_without.new.build.made.items job c.in-Leaf.number c.in-Leaf.value c.remake_without.result same (c.remake_without.ensures.raised m c.in-Leaf.value below)
+pub returns-then-job-gt0-clause-done : goal.returns-then-job-gt0-clause-done
+returns-then-job-gt0-clause-done g c = record {
+  goes = c.remake_without.ensures.goes;
+  raised = (let job = c.args.job.now in
+      let (m, aim, taken, planned) = c.requires.taken in
+      let below = take_below c.args.table.now c.args.seat.now m job.key.now job.way.now aim job.found job.span taken planned c.in-Leaf.number c.in-Leaf.value c.in-Leaf.mismatch c.in-Leaf.is c.if-job-gt0.true in
+      let same = found_key c.args.table.now c.args.seat.now m job.key.now job.way.now aim job.found job.span taken planned c.in-Leaf.number c.in-Leaf.value c.in-Leaf.mismatch c.in-Leaf.is in
+      taken_raised c.args.table.now c.args.seat.now.known c.remake_without.new.seat c.remake_without.new.build.made.items job c.in-Leaf.number c.in-Leaf.value c.remake_without.result same (c.remake_without.ensures.raised m c.in-Leaf.value below));
+  full = IfErr-weaker c.remake_without.result _ _ (λ full h. h.1) c.remake_without.ensures.full;
+  few = c.remake_without.ensures.few;
+}
 
-pub returns-clause-raised : goal.returns-clause-raised
-returns-clause-raised g c =
-    let job = c.args.job.now in
-    let (m, aim, taken, planned) = c.requires.taken in
-    let (only, top, low) = take_only c.args.table.now c.args.seat.now m job.key.now job.way.now aim job.found job.span taken planned c.in-Leaf.number c.in-Leaf.value c.in-Leaf.mismatch c.in-Leaf.is c.if-job-gt0.false in
-    let same = found_key c.args.table.now c.args.seat.now m job.key.now job.way.now aim job.found job.span taken planned c.in-Leaf.number c.in-Leaf.value c.in-Leaf.mismatch c.in-Leaf.is in
-    let x = removed_change c.args.seat.now.known.pass (item c.in-Leaf.number job.key.now c.in-Leaf.value) in (
-      x,
-      Some c.in-Leaf.value,
-      subst (λ f. IsTaken c.args.seat.now.known.pass job.key.now f x (Some c.in-Leaf.value)) (sym same) (refl, refl),
-      record {
-        from = omega (arith, top);
-        upto = omega arith;
-        most = omega (arith, low);
-        leaf = only_records c.args.table.now c.args.seat.now c.in-Leaf.number job.key.now c.in-Leaf.value only;
-        ends = λ spot over.
-            subst (MayEnd c.args.table.now c.args.seat.now c.clear.new.self.items spot 0 x (Some c.in-Leaf.value)) (sym (leaf_alone job.way.now job.span.end 0 (Some c.in-Leaf.number) (sym top)))
-            (subst (λ made. MayEnd c.args.table.now c.args.seat.now made spot 0 x (Some c.in-Leaf.value) (a_leaf c.in-Leaf.number ∷ [])) (sym c.clear.ensures)
-            (may_empty c.args.table.now c.args.seat.now c.in-Leaf.number job.key.now c.in-Leaf.value only job.way.now job.span.end top spot over));
-        few = omega (arith, ap length c.clear.ensures);
-      },
-    )
+pub returns-then-job-gt0-clause-leafless : goal.returns-then-job-gt0-clause-leafless
+returns-then-job-gt0-clause-leafless g c = nodes_alone c.remake_without.result _ c.remake_without.ensures.full
+
+pub returns-clause-done : goal.returns-clause-done
+returns-clause-done g c = record {
+  goes = goes_none c.args.table.now g.G.Gate.becomes (c.args.seat.now, c.args.gate.now);
+  raised = (let job = c.args.job.now in
+      let (m, aim, taken, planned) = c.requires.taken in
+      let (only, top, low) = take_only c.args.table.now c.args.seat.now m job.key.now job.way.now aim job.found job.span taken planned c.in-Leaf.number c.in-Leaf.value c.in-Leaf.mismatch c.in-Leaf.is c.if-job-gt0.false in
+      let same = found_key c.args.table.now c.args.seat.now m job.key.now job.way.now aim job.found job.span taken planned c.in-Leaf.number c.in-Leaf.value c.in-Leaf.mismatch c.in-Leaf.is in
+      let x = removed_change c.args.seat.now.known.pass (item c.in-Leaf.number job.key.now c.in-Leaf.value) in (
+        x,
+        Some c.in-Leaf.value,
+        subst (λ f. IsTaken c.args.seat.now.known.pass job.key.now f x (Some c.in-Leaf.value)) (sym same) (refl, refl),
+        record {
+          from = omega (arith, top);
+          upto = omega arith;
+          most = omega (arith, low);
+          leaf = only_records c.args.table.now c.args.seat.now c.in-Leaf.number job.key.now c.in-Leaf.value only;
+          ends = λ spot over.
+              subst (MayEnd c.args.table.now c.args.seat.now c.clear.new.self.items spot 0 x (Some c.in-Leaf.value)) (sym (leaf_alone job.way.now job.span.end 0 (Some c.in-Leaf.number) (sym top)))
+              (subst (λ made. MayEnd c.args.table.now c.args.seat.now made spot 0 x (Some c.in-Leaf.value) (a_leaf c.in-Leaf.number ∷ [])) (sym c.clear.ensures)
+              (may_empty c.args.table.now c.args.seat.now c.in-Leaf.number job.key.now c.in-Leaf.value only job.way.now job.span.end top spot over));
+          few = omega (arith, ap length c.clear.ensures);
+        },
+      ));
+  full = tt;
+  few = omega arith;
+}
