@@ -100,7 +100,7 @@ fn entries_stand<G: Gate>(
     ensures changed { (m : ℕ) → IsJobFrom table.now.layout seat.old.known m job.now → result ≡ false → m < length seat.new.known.front }
     ensures few { seat.new.known.steps + (job.now.span.end - 1) ≤ seat.old.known.steps + job.now.span.len }
 {
-    for index in job.span.end.saturating_sub(1)..job.span.len {
+    for index in job.span.first_locked()..job.span.len {
         let entry = named_at(job.way, job.found, index + 1);
         if !entry_stands(table, seat, gate, job.way[index], entry) {
             return false;

@@ -64,7 +64,7 @@ pub(crate) fn undo<G: Gate>(
     ensures few { seat.new.known.steps ≤ seat.old.known.steps + length held.now + locks_of span }
 {
     give_up_all(table, seat, gate, held);
-    let locked = &way[span.end.saturating_sub(1)..span.len];
+    let locked = &way[span.first_locked()..span.len];
     unlock_nodes(table, seat, gate, locked);
     if span.end == 0 {
         table.unlock(seat, gate, Target::Anchor);

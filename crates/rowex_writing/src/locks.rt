@@ -37,7 +37,7 @@ pub(crate) fn lock_span<G: Gate>(
     ensures refused { result ≡ false → HasNoLock seat.new.known × HasMetLock table.now.layout seat.old.known seat.new.known }
     ensures few { result ≡ true → seat.new.known.steps ≤ seat.old.known.steps + locks_of span }
 {
-    let first = span.end.saturating_sub(1);
+    let first = span.first_locked();
     let mut index = span.len;
     while index > first {
         index -= 1;

@@ -1,6 +1,6 @@
 //! What a call is to do, from the way of its search: which nodes it remakes, and what it puts there.
 
-ghost use Rattle.std.specs.Prelude.{◌≡◌, ◌<◌, length};
+ghost use Rattle.std.specs.Prelude.{◌≡◌, ◌-◌, ◌<◌, length};
 ghost use Rattle.insert_cases.specs.Levels.{IsLevel};
 ghost use Rattle.rowex_writing.specs.Plans.{change as a_change, IsOutline, IsBeside, IsBesideFound};
 
@@ -41,6 +41,15 @@ pub enum Aim {
 pub(crate) struct Span {
     pub len: usize,
     pub end: usize,
+}
+
+impl Span {
+    /// The first node of the way that is locked for the span: the one above it, if there is one.
+    pub(crate) fn first_locked(self) -> usize
+        ensures { result ≡ self.end - 1 }
+    {
+        self.end.saturating_sub(1)
+    }
 }
 
 /// A position, and the entries of a node from `first` to `last`: those that it affects.

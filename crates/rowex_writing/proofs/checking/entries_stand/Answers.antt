@@ -18,12 +18,12 @@ there way i len d low high = slice_get-get_or way i d (omega arith)
 
 pub loop-index-init : goal.loop-index-init
 loop-index-init g c = record {
-  few = omega (arith, c.saturating_sub-index.ensures);
+  few = omega (arith, c.first_locked-index.ensures);
   own = c.requires.held.seat;
   reads = reads_none c.args.table.now g.G.Gate.becomes (c.args.seat.now, c.args.gate.now);
   possible = c.requires.held.possible;
-  from = omega (arith, c.saturating_sub-index.ensures);
-  stand = none_stand c.args.table.now.layout c.args.seat.now.known c.args.job.now.way.now c.args.job.now.found c.args.job.now.span c.saturating_sub-index.result c.saturating_sub-index.ensures;
+  from = omega (arith, c.first_locked-index.ensures);
+  stand = none_stand c.args.table.now.layout c.args.seat.now.known c.args.job.now.way.now c.args.job.now.found c.args.job.now.span c.first_locked-index.result c.first_locked-index.ensures;
 }
 
 pub entry_stands-requires-clause-own : goal.entry_stands-requires-clause-own

@@ -15,11 +15,11 @@ unlock_nodes-requires-clause-own g c =
     (given_works c.args.table.now g.G.Gate.becomes c.args.held.now (c.args.seat.now, c.args.gate.now) (c.give_up_all.new.seat, c.give_up_all.new.gate) c.give_up_all.ensures) c.requires.own
 
 pub unlock_nodes-requires-clause-nodes : goal.unlock_nodes-requires-clause-nodes
-unlock_nodes-requires-clause-nodes g c = range_nodes c.args.table.now.layout c.args.way.now c.saturating_sub.result c.args.span.len c.requires.nodes
+unlock_nodes-requires-clause-nodes g c = range_nodes c.args.table.now.layout c.args.way.now c.first_locked.result c.args.span.len c.requires.nodes
 
 pub unlock_nodes-requires-clause-locked : goal.unlock_nodes-requires-clause-locked
 unlock_nodes-requires-clause-locked g c =
-    subst (λ n. HasJustLocked c.give_up_all.new.seat.known (numbers_of (slice_range c.args.way.now n c.args.span.len))) (sym c.saturating_sub.ensures)
+    subst (λ n. HasJustLocked c.give_up_all.new.seat.known (numbers_of (slice_range c.args.way.now n c.args.span.len))) (sym c.first_locked.ensures)
     (given_locks c.args.table.now g.G.Gate.becomes c.args.held.now (c.args.seat.now, c.args.gate.now) (c.give_up_all.new.seat, c.give_up_all.new.gate) c.give_up_all.ensures _ c.requires.locked.nodes)
 
 pub unlock-requires-clause-own : goal.unlock-requires-clause-own

@@ -17,8 +17,8 @@ pub loop-index-init : goal.loop-index-init
 loop-index-init g c = record {
   few = omega arith;
   own = c.requires.own;
-  top = c.saturating_sub-first.ensures;
-  range = (let e = c.saturating_sub-first.ensures in omega (arith, c.requires.span.0), omega arith);
+  top = c.first_locked-first.ensures;
+  range = (let e = c.first_locked-first.ensures in omega (arith, c.requires.span.0), omega arith);
   tries = subst (λ z. TriesNodes c.args.table.now g.G.Gate.becomes (numbers_of z) (c.args.seat.now, c.args.gate.now) (c.args.seat.now, c.args.gate.now)) (sym (slice_none c.args.way.now c.args.span.len))
       (nodes_none c.args.table.now g.G.Gate.becomes (c.args.seat.now, c.args.gate.now));
   locked = subst (λ z. HasJustLocked c.args.seat.now.known (numbers_of z)) (sym (slice_none c.args.way.now c.args.span.len)) (none_taken c.args.seat.now.known c.requires.free.0);
