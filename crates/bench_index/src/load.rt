@@ -78,7 +78,7 @@ impl Load {
             Work::FirstInserts => 0..tenth,
             Work::Inserts => tenth..last,
             Work::LastInserts => last..self.count,
-            Work::Scans => 0..calls.div_ceil(STRIDE),
+            Work::Scans => 0..calls.saturating_add(STRIDE - 1) / STRIDE,
             _ => 0..calls,
         }
     }

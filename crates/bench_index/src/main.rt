@@ -1,5 +1,5 @@
-//! A benchmark of the index beside a B-tree under a lock: the time of each kind of work, for three kinds of keys. The table goes
-//! to standard output, and how far the run is to standard error.
+//! A benchmark of the index beside a B-tree under a lock: the time of each kind of work, for three kinds of keys. What was measured
+//! goes to standard output, in lines that `bench/table.py` makes a table of, and how far the run is to standard error.
 #![tactic(auto)]
 
 mod census;
@@ -19,14 +19,14 @@ use index::measure_index;
 use keys::{KINDS, Kind};
 use load::Load;
 use options::{Options, read_options};
-use report::{Column, print_table};
+use report::{Column, print_column};
 use std::io;
 use std::io::ErrorKind;
 use std::rt::{Clock, CpuClock, Env};
 use std::sync::Wait;
 use std::thread::Threads;
 use stock::Fit;
-use tight::{STEADY, measure_tight, print_heads};
+use tight::{STEADY, measure_tight};
 use tree::measure_tree;
 use work::{mixed, same_answers};
 
@@ -38,8 +38,10 @@ fn measure_kind<R>(rt: &R, options: &Options, kind: Kind) -> io::Result<u64>
 where
     R: Clock + CpuClock + Print + Eprint + AllocGlobal + Threads + Wait + Sync,
 {
-    let mut columns = Vec::new(rt.alloc());
     let mut checksum = 0;
+    if !options.is_check {
+        println!(rt; "kind {}", kind.name())?;
+    }
     for count in options.counts.iter() {
         if !options.is_check {
             eprintln!(rt; "{count} {} ..", kind.name())?;
@@ -49,10 +51,9 @@ where
         for rate in column.index.iter() {
             checksum = mixed(checksum, rate.checksum);
         }
-        columns.push(column)?;
-    }
-    if !options.is_check {
-        print_table(rt, kind.name(), &columns)?;
+        if !options.is_check {
+            print_column(rt, &column)?;
+        }
     }
     Ok(checksum)
 }
@@ -68,13 +69,14 @@ where
     if !same_answers(&index, &tree) {
         return Err(io::Error::from(ErrorKind::InvalidData));
     }
-    let (bytes, safe) = fit.bytes(load.count)?;
+    let bytes = fit.bytes(load.count)?;
     Ok(Column {
         keys: load.count,
         index,
         tree,
         fit,
-        figures: [bytes, safe, f64::from(load.count) / f64::from(nodes)],
+        bytes,
+        nodes,
     })
 }
 
@@ -83,9 +85,6 @@ fn measure_spares<R>(rt: &R, options: &Options) -> io::Result<()>
 where
     R: Clock + Print + AllocGlobal + Threads + Wait + Sync,
 {
-    if !options.is_check {
-        print_heads(rt)?;
-    }
     for count in options.counts.iter() {
         if *count <= MOST_TIGHT {
             let load = Load::new(rt.alloc(), Kind::Random, *count, options.is_check)?;

@@ -43,7 +43,7 @@ struct Worker<M: Drop> {
 }
 
 /// Does each work once with an empty map, by one thread and then by several, and removes keys. Their rates come after those that
-/// are there. Answers how many node records the keys took.
+/// are there, in an order that `bench/table.py` knows. Answers how many node records the keys took.
 pub fn measure<M: OrderedMap + Send + Drop, R>(
     rt: &R,
     alloc: Global,
@@ -109,7 +109,7 @@ where
             workers,
             &|worker| work_on(rt, alloc, worker, load, work),
         )?;
-        rates.push(together(work, &workers)?)?;
+        rates.push(together(&workers)?)?;
     }
     Ok(())
 }
@@ -131,13 +131,12 @@ where
     worker
 }
 
-/// How long several threads took together: the time that passed is the mean of theirs.
-fn together<M: Drop>(work: Work, workers: &[Worker<M>]) -> io::Result<Rate> {
-    let mut sum = Rate::new(work);
+/// How long several threads took, each time their sum.
+fn together<M: Drop>(workers: &[Worker<M>]) -> io::Result<Rate> {
+    let mut sum = Rate::new();
     for worker in workers {
         sum.add(&worker.rate.ok_or(ErrorKind::StorageFull)?);
     }
-    sum.passed = sum.passed.checked_div(THREADS).unwrap_or(sum.passed);
     Ok(sum)
 }
 
@@ -155,7 +154,7 @@ where
     R: Clock + CpuClock + Wait,
 {
     let mut pairs = Vec::new(alloc);
-    let mut sum = Rate::new(work);
+    let mut sum = Rate::new();
     let upto = turns.end;
     for from in turns.step_by(batch.max(1) as usize) {
         load.fill(&mut pairs, work, from..from.saturating_add(batch).min(upto))?;
@@ -177,7 +176,6 @@ where
     }
     let used = rt.thread_cpu_time()?.saturating_sub(before);
     Ok(Rate {
-        work,
         calls: u32::try_from(pairs.len()).unwrap_or(u32::MAX),
         used,
         passed: start.elapsed(rt)?,
@@ -202,7 +200,7 @@ fn call<M: OrderedMap, R: Wait>(
         }
         _ => None,
     };
-    if work == Work::Scans {
+    if matches!(work, Work::Scans) {
         let mut checksum = 0;
         for (_, value) in map.scan(rt, &pair.key, LIMIT)?.iter() {
             checksum = mixed(checksum, value);

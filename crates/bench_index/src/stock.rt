@@ -47,11 +47,10 @@ impl Fit {
         Ok(Fit { stock, longest })
     }
 
-    /// The bytes a key of the whole index as it is made, with this stock and by `Stock::for_keys`.
-    pub fn bytes(&self, count: u32) -> io::Result<(f64, f64)> {
+    /// The bytes of the whole index as it is made, with this stock and by `Stock::for_keys`.
+    pub fn bytes(&self, count: u32) -> io::Result<(usize, usize)> {
         let safe = Stock::for_keys(count, self.longest);
-        let bytes = bytes_of(self.stock)? / f64::from(count);
-        Ok((bytes, bytes_of(safe)? / f64::from(count)))
+        Ok((bytes_of(self.stock)?, bytes_of(safe)?))
     }
 }
 
@@ -67,20 +66,19 @@ fn with_spare(count: u32) -> u32 {
 
 /// The node records: one for so many keys of this kind, and some to spare.
 fn nodes_for(load: &Load) -> u32 {
-    let keys = match load.kind {
-        Kind::Random => 21,
-        Kind::Pages => 18,
-        Kind::Dense => 30,
+    let nodes = match load.kind {
+        Kind::Random => load.count / 21,
+        Kind::Pages => load.count / 18,
+        Kind::Dense => load.count / 30,
     };
-    let nodes = load.count / keys;
     let more = if load.count > FEW_KEYS { nodes / 10 } else { 0 };
     nodes.saturating_add(more).saturating_add(SPARE)
 }
 
 /// The bytes of an index with this stock.
-fn bytes_of(stock: Stock) -> io::Result<f64> {
+fn bytes_of(stock: Stock) -> io::Result<usize> {
     match Layout::with_stock(PASSES, stock) {
-        Ok(layout) => Ok(layout.bytes() as f64),
+        Ok(layout) => Ok(layout.bytes()),
         Err(_) => Err(io::Error::from(ErrorKind::InvalidInput)),
     }
 }

@@ -49,7 +49,7 @@ struct Tally {
 }
 
 /// Measures upserts of the load's keys for each number of leaf records to spare, or the steady state alone; and prints a line for
-/// each unless this is a check.
+/// each, of which `bench/table.py` makes one of a table, unless this is a check.
 pub fn measure_tight<R>(rt: &R, load: &Load, is_steady: bool, is_check: bool) -> io::Result<()>
 where
     R: Clock + Print + AllocGlobal + Threads + Wait + Sync,
@@ -77,20 +77,6 @@ where
     Ok(())
 }
 
-/// Prints what the columns of the cases are.
-pub fn print_heads<R: Print>(rt: &R) -> io::Result<()> {
-    println!(rt;
-        "{:<40}{:>10}{:>10}{:>13}{:>14}{:>17}{:>11}",
-        "upserts, leaves to spare",
-        "calls",
-        "refused",
-        "full rounds",
-        "steps a call",
-        "states a retired",
-        "ns a call"
-    )
-}
-
 /// Measures a case with a new index of the load's keys, and prints a line unless this is a check.
 fn measure_case<R>(rt: &R, load: &Load, case: Case, is_check: bool) -> io::Result<()>
 where
@@ -106,21 +92,16 @@ where
     };
     let (census, calls) = (tally.census, case.turns.saturating_mul(case.threads));
     print!(rt;
-        "  {:<8} keys, {} that {form:<4} {:>6} %",
+        "upserts {} {} {form} {}",
         load.count, case.threads, case.spare
     )?;
-    print!(rt;
-        "{:>16}{:>10}{:>13}",
-        calls, tally.refused, census.full_rounds
-    )?;
-    let steps = census.steps.checked_div(u64::from(calls)).unwrap_or(0);
-    let looks = census.looks.saturating_mul(100);
-    let looks = looks.checked_div(census.retired).unwrap_or(0);
-    let each = time.as_secs_f64() * 1e9 / f64::from(calls);
+    print!(rt; " {calls} {} {}", tally.refused, census.full_rounds)?;
     println!(rt;
-        "{steps:>14}{:>14}.{:02}{each:>11.0}",
-        looks / 100,
-        looks % 100
+        " {} {} {} {}",
+        census.steps,
+        census.looks,
+        census.retired,
+        time.as_nanos()
     )
 }
 
@@ -145,10 +126,10 @@ where
 
 /// Short leaf records for so many keys and so many to spare of a hundred, and nodes that don't run short.
 fn stock_with(count: u32, spare: u32) -> Stock {
-    let more = u64::from(count) * u64::from(spare) / 100;
+    let more = (count / 100).wrapping_mul(spare);
     Stock {
         nodes: (count / 4).saturating_add(64),
-        short: count.saturating_add(u32::try_from(more).unwrap_or(u32::MAX)),
+        short: count.saturating_add(more),
         medium: 0,
         large: 0,
         wide: 0,

@@ -1,5 +1,6 @@
 //! A B-tree under a lock as a map that is measured: readers share the lock, and a writer has it alone.
 
+use crate::keys::key_of;
 use crate::load::{Load, Pair};
 use crate::map::{Change, OrderedMap};
 use crate::measure::measure;
@@ -9,7 +10,6 @@ use hot_index::{Key, Pairs};
 use std::alloc::{AllocError, Global};
 use std::collections::BTreeMap;
 use std::collections::btree_map::Entry;
-use std::io::ErrorKind;
 use std::rt::{Clock, CpuClock};
 use std::sync::{RwLock, Wait};
 use std::thread::Threads;
@@ -44,7 +44,7 @@ impl OrderedMap for Handle<'_> {
         let tree = self.tree.read(rt);
         self.pairs.clear();
         for (bytes, value) in tree.range(from..).take(limit) {
-            let key = Key::from_bytes(bytes).map_err(|_| io::Error::from(ErrorKind::InvalidData))?;
+            let key = key_of(bytes)?;
             self.pairs.push(key.as_bytes(), *value)?;
         }
         Ok(&self.pairs)

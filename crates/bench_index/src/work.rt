@@ -3,7 +3,7 @@
 use std::time::Duration;
 
 /// What is done.
-#[derive(Clone, Copy, PartialEq, Eq)]
+#[derive(Clone, Copy)]
 pub enum Work {
     /// Look-ups of stored keys.
     Hits,
@@ -25,7 +25,6 @@ pub enum Work {
 /// How long calls took.
 #[derive(Clone, Copy)]
 pub struct Rate {
-    pub work: Work,
     pub calls: u32,
     /// The time that a processor was at it.
     pub used: Duration,
@@ -36,10 +35,9 @@ pub struct Rate {
 }
 
 impl Rate {
-    /// No calls of this work yet.
-    pub fn new(work: Work) -> Rate {
+    /// No calls yet.
+    pub fn new() -> Rate {
         Rate {
-            work,
             calls: 0,
             used: Duration::ZERO,
             passed: Duration::ZERO,
@@ -54,14 +52,6 @@ impl Rate {
         self.passed = self.passed.saturating_add(other.passed);
         self.checksum = mixed(self.checksum, other.checksum);
     }
-
-    /// The seconds that count: of a processor, or where several threads work, in which they may wait for each other, those that pass.
-    pub fn seconds(&self) -> f64 {
-        match self.work {
-            Work::Threads { .. } => self.passed.as_secs_f64(),
-            _ => self.used.as_secs_f64(),
-        }
-    }
 }
 
 /// The checksum of an answer more.
@@ -69,9 +59,11 @@ pub fn mixed(checksum: u64, answer: u64) -> u64 {
     checksum.wrapping_mul(31).wrapping_add(answer)
 }
 
-/// Whether two maps answered the same works alike.
+/// Whether two maps answered the same works alike, which were done in the same order.
 pub fn same_answers(some: &[Rate], others: &[Rate]) -> bool {
     some.len() == others.len()
-        && some.iter().zip(others.iter()).all(|(one, other)| one.work == other.work
-            && one.checksum == other.checksum)
+        && some
+            .iter()
+            .zip(others.iter())
+            .all(|(one, other)| one.checksum == other.checksum)
 }
