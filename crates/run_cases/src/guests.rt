@@ -4,7 +4,6 @@ ghost use Rattle.std.specs.Prelude.{IfOk, All};
 ghost use Rattle.hot_index.specs.Passes.{Owns};
 
 use crate::cases::{Deed, bad_line};
-use finite_map::Call;
 use hot_index::{Gate, Index, Pairs, Pass, Reply, Scan, TryFault, create};
 use key_bits::Key;
 use std::alloc::{AllocError, Global};
@@ -60,9 +59,11 @@ impl<'a> Guest<'a> {
         said: &mut String,
     ) -> Result<(), AllocError> {
         for deed in deeds.iter() {
-            said.push_str("; ")?;
+            write!(said, "; ")?;
             match deed {
-                Deed::Make(call) => say(said, self.make(call, gate))?,
+                Deed::Make(call) => {
+                    say(said, self.index.try_call_with(&mut self.pass, call, gate))?;
+                }
                 Deed::List(limit) => {
                     let scan = self.list(*said.allocator(), *limit, gate)?;
                     say_scan(said, &scan)?;
@@ -109,23 +110,6 @@ impl<'a> Guest<'a> {
         )?;
         let pairs = list.to_vec(alloc)?;
         Ok(Scan { pairs, more })
-    }
-
-    fn make<G: Gate>(&mut self, call: &Call, gate: &mut G) -> Result<Reply, TryFault> {
-        let (index, pass) = (self.index, &mut self.pass);
-        match call {
-            Call::Insert(key, value) => index.try_insert_with(pass, key, *value, gate),
-            Call::Upsert(key, value) => index.try_upsert_with(pass, key, *value, gate),
-            Call::Exchange(key, expected, value) => {
-                index.try_exchange_with(pass, key, *expected, *value, gate)
-            }
-            Call::Remove(key) => index.try_remove_with(pass, key, gate),
-            Call::RemoveIf(key, expected) => index.try_remove_if_with(pass, key, *expected, gate),
-            Call::Get(key) => Ok(match index.get_with(pass, key, gate) {
-                Some(value) => Reply::Value(value),
-                None => Reply::Absent,
-            }),
-        }
     }
 }
 

@@ -5,7 +5,7 @@ ghost use Rattle.hot_index.specs.Passes.{Owns};
 
 use crate::cases::{Case, Deed, bad_line};
 use crate::guests::{Guest, next_guest};
-use hot_index::{Event, Gate, Index, Pass};
+use hot_index::{Event, Gate, Index, Pass, Scan};
 use record_words::Layout;
 use rowex_replay::Replay;
 use std::alloc::{AllocError, Global};
@@ -33,10 +33,16 @@ impl Judge {
     /// Holds what a scan of all keys finds, and one downwards, against what the steps so far have made.
     pub fn compare(&mut self, alloc: Global, guest: &mut Guest) -> Result<(), AllocError> {
         let up = guest.list(alloc, usize::MAX, self)?;
+        self.expect(alloc, &up)?;
         let mut down = guest.list_down(alloc, usize::MAX, self)?;
         down.pairs.reverse();
+        self.expect(alloc, &down)
+    }
+
+    /// Holds what a scan of all keys finds against what the steps so far have made.
+    fn expect(&mut self, alloc: Global, scan: &Scan) -> Result<(), AllocError> {
         let content = self.replay.content(alloc)?;
-        if up.more || down.more || up.pairs != content || down.pairs != content {
+        if scan.more || scan.pairs != content {
             self.wrong = self.wrong.wrapping_add(1);
         }
         Ok(())

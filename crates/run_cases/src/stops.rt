@@ -7,8 +7,9 @@ use crate::acts::push_act;
 use crate::cases::{Case, Deed, bad_line, deeds_of};
 use crate::guests::{Guest, open};
 use crate::judge::{Stopper, seated, verdict};
+use hot_index::Event;
 use std::alloc::AllocError;
-use std::io;
+use std::{io, mem};
 
 /// More steps than a pass makes here.
 const MAX_STEPS: u64 = 10_000;
@@ -17,29 +18,34 @@ const MAX_STEPS: u64 = 10_000;
 pub fn print_steps<R: Print + AllocGlobal>(rt: &R, case: &Case, text: &str) -> io::Result<()> {
     let (index, passes) = open(case.alloc, 2, case.nodes, case.leaves)?;
     let (mut guest, mut gate) = seated(case, &index, passes)?;
-    let lines = lines_of_steps(case, &mut guest, &mut gate, text)?;
+    deeds_of(&mut gate.deeds, text)?;
+    let mut lines = String::new(case.alloc);
+    push_lines(case, &mut guest, &mut gate, &mut lines)?;
     println!(rt; "{text}{lines}")
 }
 
-/// The lines of the steps of what pass 0 does, and what it was answered.
-fn lines_of_steps(
+/// Adds what pass 0 was answered where it does what its gate keeps for the other pass, which does nothing; and a line for each step.
+fn push_lines(
     case: &Case,
     guest: &mut Guest,
     gate: &mut Stopper,
-    text: &str,
-) -> io::Result<String> {
-    let mut deeds = Vec::new(case.alloc);
-    deeds_of(&mut deeds, text)?;
+    lines: &mut String,
+) -> Result<(), AllocError> {
     gate.judge.told.clear();
-    let mut said = String::new(case.alloc);
-    guest.does(&deeds, gate, &mut said)?;
-    for event in gate.judge.told.iter() {
-        said.push_str("\n  ")?;
-        push_act(&mut said, &event.act)?;
-    }
+    let deeds = mem::replace(&mut gate.deeds, Vec::new(case.alloc));
+    guest.does(&deeds, gate, lines)?;
+    push_acts(lines, &gate.judge.told)?;
     gate.judge.compare(case.alloc, guest)?;
-    write!(said, "\n  {}", verdict(gate.judge.wrong))?;
-    Ok(said)
+    write!(lines, "\n  {}", verdict(gate.judge.wrong))
+}
+
+/// Adds a line for each of these steps.
+fn push_acts(lines: &mut String, told: &[Event]) -> Result<(), AllocError> {
+    for event in told.iter() {
+        write!(lines, "\n  ")?;
+        push_act(lines, &event.act)?;
+    }
+    Ok(())
 }
 
 /// Stops pass 0 after each of its steps, for each line of what pass 1 does then.
@@ -59,12 +65,10 @@ pub fn stop_for_each<R: Print + AllocGlobal>(
 }
 
 /// What happened at a stop.
-#[derive(Drop)]
+#[derive(Clone, Copy)]
 struct Stop {
     /// Whether there are so many steps.
     is_made: bool,
-    /// What was answered.
-    said: String,
     wrong: u64,
 }
 
@@ -77,30 +81,37 @@ fn stop_each<R: Print + AllocGlobal>(
     tells: bool,
 ) -> io::Result<()> {
     let (mut first, mut wrong) = (1, 0u64);
-    let mut said = String::new(case.alloc);
+    let (mut said, mut before) = (String::new(case.alloc), String::new(case.alloc));
     for step in 1..MAX_STEPS {
-        let stop = stop_at(case, deeds, other, step)?;
+        mem::swap(&mut said, &mut before);
+        said.clear();
+        let stop = stop_at(case, deeds, other, step, &mut said)?;
         wrong = wrong.wrapping_add(stop.wrong);
-        if tells && step > 1 && (!stop.is_made || stop.said != said) {
-            print!(rt; "\n  {first}..{}{said}", step.wrapping_sub(1))?;
+        if tells && step > 1 && (!stop.is_made || said != before) {
+            print!(rt; "\n  {first}..{}{before}", step.wrapping_sub(1))?;
             first = step;
         }
         if !stop.is_made {
             let stops = step.wrapping_sub(1);
             return println!(rt; "\n  {stops} stops, {}", verdict(wrong));
         }
-        said = stop.said;
     }
     Err(bad_line())
 }
 
-/// Stops pass 0 after the step of this number.
-fn stop_at(case: &Case, deeds: &[Deed], other: &str, step: u64) -> io::Result<Stop> {
+/// Stops pass 0 after the step of this number, and adds what both were answered.
+fn stop_at(
+    case: &Case,
+    deeds: &[Deed],
+    other: &str,
+    step: u64,
+    said: &mut String,
+) -> io::Result<Stop> {
     let (index, passes) = open(case.alloc, 2, case.nodes, case.leaves)?;
     let (mut guest, mut gate) = seated(case, &index, passes)?;
     deeds_of(&mut gate.deeds, other)?;
     gate.left = step;
-    Ok(make_stop(case, &mut guest, &mut gate, deeds)?)
+    Ok(make_stop(case, &mut guest, &mut gate, deeds, said)?)
 }
 
 /// Lets pass 0 do what it does, with its stop, and compares the index with the replay afterwards.
@@ -109,14 +120,13 @@ fn make_stop(
     guest: &mut Guest,
     gate: &mut Stopper,
     deeds: &[Deed],
+    said: &mut String,
 ) -> Result<Stop, AllocError> {
-    let mut said = String::new(case.alloc);
-    guest.does(deeds, gate, &mut said)?;
-    said.push_str(gate.said.as_str())?;
+    guest.does(deeds, gate, said)?;
+    write!(said, "{}", gate.said)?;
     gate.judge.compare(case.alloc, guest)?;
     Ok(Stop {
         is_made: gate.left == 0,
-        said,
         wrong: gate.judge.wrong,
     })
 }

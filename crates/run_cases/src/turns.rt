@@ -124,19 +124,29 @@ fn judge_all(
     }
     let mut order = vec![in alloc; None; total]?;
     for steps in told.iter() {
-        for (step, event) in steps.iter() {
-            if let Some(place) = order.get_mut(*step as usize) {
-                *place = Some(*event);
-            }
-        }
+        put_all(&mut order, steps);
     }
-    for event in order {
-        match event {
-            Some(event) => judge.at(&event),
-            None => judge.wrong = judge.wrong.wrapping_add(1),
-        }
+    for event in order.iter() {
+        judge_one(judge, event);
     }
     Ok(())
+}
+
+/// Puts a thread's steps in their places.
+fn put_all(order: &mut [Option<Event>], steps: &[(u64, Event)]) {
+    for (step, event) in steps.iter() {
+        if let Some(place) = order.get_mut(*step as usize) {
+            *place = Some(*event);
+        }
+    }
+}
+
+/// Has a step judged, if there is one of this number.
+fn judge_one(judge: &mut Judge, event: &Option<Event>) {
+    match event {
+        Some(event) => judge.at(event),
+        None => judge.wrong = judge.wrong.wrapping_add(1),
+    }
 }
 
 /// Lets so many threads step in an order made from the seed. Answers how often something was wrong.
