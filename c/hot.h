@@ -60,7 +60,7 @@ enum {
     HOT_WAS = 6,           /* the key had this value, and has the new one */
     HOT_REMOVED = 7,       /* the key had this value, and is gone */
     HOT_BUSY = 8,          /* another call is in the way: try again */
-    HOT_FULL_NODES = 9,    /* no node record was free, even after a collection; if other calls run, try again later */
+    HOT_FULL_NODES = 9,    /* too few node records were free, even after a collection; if other calls run, try later */
     HOT_FULL_LEAVES = 10,  /* no leaf record was free, in the same way */
     HOT_KEY_TOO_LONG = 11, /* a key has more than HOT_MAX_KEY bytes */
     HOT_CLOSED = 12,       /* the handle is closed */
