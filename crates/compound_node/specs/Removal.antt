@@ -5,7 +5,7 @@ use Rattle.std.specs.Prelude.{ℕ, ◌+◌, ◌-◌, bit_and, cond, nat_eq, nat_
 abbrev pub lowest : ℕ → ℕ
 lowest row = row - bit_and row (row - 1)
 
--- The last fork on the path to place i is the later one of the two forks beside it.
+-- The last fork on the path to place i is the later one of the two forks beside it; the first and the last place have one.
 -- Its bit, where the place is the fork's 0 side, and 0 where it is the 1 side
 abbrev pub bit_after : ℕ → List ℕ → ℕ
 bit_after i rows =

@@ -41,7 +41,7 @@ pub record StaysOpen (Became : TableView → PassView → PassView → Type 0) (
 abbrev pub HasOutcome : Call → Result Reply TryFault → TableView → PassView → PassView → Type 0
 HasOutcome call outcome index k j = MatchResult outcome (IsNoted index.layout k j call) (IsRefused index.layout call k j)
 
--- The steps of a call for a key with this outcome, so many at most: those of a get, or of the attempts at a change.
+-- The steps of a call for a key with this outcome, so many at most: those of a get, or of a change's attempts and rounds.
 abbrev pub MakesSteps : Call → Result Reply TryFault → TableView → PassView → PassView → Type 0
 MakesSteps (Get key) outcome index k j = HasGot index untold (k, tt) (j, tt)
 MakesSteps call outcome index k j = HasMade index untold outcome (k, tt) (j, tt)

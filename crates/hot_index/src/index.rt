@@ -105,7 +105,7 @@ impl Index {
     /// places as there are keys.
     ///
     /// It takes no lock, allocates nothing and never blocks. It makes at most 4 atomic steps, 34 for each key, and 29 for each entry
-    /// of a node that it loads; for each key it loads at most 2,168 entries. The values need not be of one moment, but a value is
+    /// of a node that it loads, in all at most 2,168 entries a key. The values need not be of one moment, but a value is
     /// never older than those of the keys before it. The pass stays pinned until the last key has been looked up, and records
     /// that are retired meanwhile are reused only after that: so look up some hundred keys by one call, not millions.
     pub fn get_many(&self, pass: &mut Pass, keys: &[Key], found: &mut [Option<u64>])
@@ -357,7 +357,8 @@ impl Index {
     /// Where `try_insert` would answer `Busy`, it lets other threads run and begins again, as often as need be. It does the same
     /// where no record is free because a call of another pass keeps retired records from being reused, or because other passes may
     /// have taken the records that a round of collection gave back. It returns once no other pass is in its way. It is refused only
-    /// if it found each record of a kind taken, as `try_insert` is; it has changed nothing then, and holds no lock and no record.
+    /// if it found each node record, or each leaf record with room for the key, taken, as `try_insert` is; it has changed nothing
+    /// then, and holds no lock and no record.
     pub fn insert<R: Wait>(
         &self,
         rt: &R,

@@ -97,7 +97,7 @@ OnlyPublishAppends = (c : Core) (q : ℕ) (act : Act) → Appends act c (after c
 
 -- Whichever moment m since its pin we begin at: a search of a pinned pass that was led to a node since m, a node that was
 -- linked then and whose stem the key followed unless it was absent since m, is led since m to the child that the node's words
--- give it now, be the node still linked or retired.
+-- give it now, be the node still linked or unlinked.
 abbrev pub Hindsight : Type 0
 Hindsight =
     (c : Core) → IsLawful c → (q : ℕ) (p : Pin) → c.pins q ≡ Some p → (m : ℕ) → p.moment ≤ m → (k : Key) (n h : ℕ) →
