@@ -1,4 +1,5 @@
-/* What of the library for C is written in C, and tested: the texts of statuses, scans of a prefix, and the calls that wait. */
+/* What of the library for C is written in C, and tested: the texts of statuses, scans of a prefix, pairs that are handed over one by
+ * one, and the calls that wait. */
 #include "hot.h"
 #include <sched.h>
 #include <string.h>
@@ -49,6 +50,25 @@ hot_status hot_scan_prefix(hot_handle *handle, const uint8_t *prefix, size_t len
         from_length = length;
     }
     return hot_scan(handle, from, from_length, upto, HOT_MAX_KEY, pairs, limit, count, more);
+}
+
+hot_status hot_each(hot_handle *handle, const uint8_t *from, size_t from_length, const uint8_t *upto, size_t upto_length,
+                    hot_visitor *visit, void *context) {
+    enum { PAGE = 32 };
+    hot_pair pairs[PAGE];
+    uint8_t next[HOT_MAX_KEY];
+    size_t count, place;
+    uint32_t more;
+    hot_status status;
+    while ((status = hot_scan(handle, from, from_length, upto, upto_length, pairs, PAGE, &count, &more)) == HOT_DONE) {
+        for (place = 0; place < count; place++)
+            if (!visit(context, &pairs[place]))
+                return HOT_DONE;
+        if (!more || hot_after(&pairs[count - 1], next, &from_length) == HOT_ABSENT)
+            return HOT_DONE;
+        from = next;
+    }
+    return status;
 }
 
 hot_status hot_insert(hot_handle *handle, const uint8_t *key, size_t length, uint64_t value, uint64_t *had) {

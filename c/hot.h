@@ -41,7 +41,7 @@ extern "C" {
 
 /* The version of this header. A program that is right with an earlier version of the same major number is right with this one. */
 #define HOT_VERSION_MAJOR 1
-#define HOT_VERSION_MINOR 4
+#define HOT_VERSION_MINOR 5
 #define HOT_VERSION_PATCH 0
 
 /* The greatest length of a key, in bytes. */
@@ -219,6 +219,18 @@ hot_status hot_before(const hot_pair *pair, uint8_t *key, size_t *length);
  * steps at most. */
 hot_status hot_scan_prefix(hot_handle *handle, const uint8_t *prefix, size_t length, const hot_pair *after,
                            hot_pair *pairs, size_t limit, size_t *count, uint32_t *more);
+
+/* What a call hands pairs to: `pair` is there until the function returns. It answers 0 to end the call. */
+typedef int hot_visitor(void *context, const hot_pair *pair);
+
+/* Hands each pair whose key is from `from` to `upto`, both included, to `visit`, in key order, with the `context`, until it answers 0.
+ * It lists 32 pairs at a time, as hot_scan does, and each time begins at the key that hot_after gives for the last one: so no key is
+ * missing that was there all along, up to where it ended. While `visit` runs no call is under way: it may use the handle, and nothing
+ * that is retired is held back. Each list makes at most as many steps as hot_scan with a limit of 32.
+ * HOT_DONE; or HOT_KEY_TOO_LONG, HOT_CLOSED, HOT_NO_MEMORY: HOT_NO_MEMORY may come after pairs have been handed over, and so may
+ * HOT_CLOSED if `visit` closes the handle. */
+hot_status hot_each(hot_handle *handle, const uint8_t *from, size_t from_length, const uint8_t *upto, size_t upto_length,
+                    hot_visitor *visit, void *context);
 
 /* Writes the first pair whose key is `from` or above, by a scan for one pair; from an empty key on, that is the first pair of
  * all. Nothing is written unless it is found. It makes at most 168665 steps.

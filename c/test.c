@@ -183,6 +183,46 @@ static void test_scan(void) {
     CHECK(hot_destroy(&handle) == HOT_DONE);
 }
 
+/* What pairs are handed to: it looks whether their values rise one by one up to the last, and may remove them by a handle. */
+typedef struct visit {
+    hot_handle *handle;
+    uint64_t next, last;
+    int is_ordered;
+} visit;
+
+static int take_pair(void *context, const hot_pair *pair) {
+    visit *given = context;
+    uint64_t had;
+    given->is_ordered &= pair->value == given->next++ && pair->length == 2;
+    if (given->handle)
+        given->is_ordered &= hot_remove(given->handle, pair->key, pair->length, &had) == HOT_REMOVED && had == pair->value;
+    return pair->value != given->last;
+}
+
+/* Pairs handed to a function: all of a range, more than are listed at a time, and none after it says so. */
+static void test_each(void) {
+    hot_handle handle = HOT_HANDLE;
+    visit all = {NULL, 0, 999, 1}, some = {NULL, 40, 77, 1}, gone = {&handle, 0, 999, 1}, none = {NULL, 0, 999, 1};
+    uint8_t key[HOT_MAX_KEY + 1] = {0};
+    uint64_t had, number;
+    CHECK(hot_create(100, 1000, &handle, 1) == HOT_DONE);
+    CHECK(hot_each(&handle, bytes(""), 0, bytes("\377"), 1, take_pair, &none) == HOT_DONE && none.next == 0);
+    for (number = 0; number < 300; number++) {
+        key[0] = (uint8_t)(number >> 8), key[1] = (uint8_t)number;
+        CHECK(hot_try_insert(&handle, key, 2, number, &had) == HOT_INSERTED);
+    }
+    CHECK(hot_each(&handle, bytes(""), 0, bytes("\377"), 1, take_pair, &all) == HOT_DONE && all.next == 300 && all.is_ordered);
+    CHECK(hot_each(&handle, bytes("\0\50"), 2, bytes("\0\117"), 2, take_pair, &some) == HOT_DONE && some.next == 78 && some.is_ordered);
+    some.next = 40, some.last = 999;
+    CHECK(hot_each(&handle, bytes("\0\50"), 2, bytes("\0\117"), 2, take_pair, &some) == HOT_DONE && some.next == 80 && some.is_ordered);
+    CHECK(hot_each(&handle, bytes("b"), 1, bytes("a"), 1, take_pair, &none) == HOT_DONE && none.next == 0);
+    CHECK(hot_each(&handle, bytes(""), 0, bytes("\377"), 1, take_pair, &gone) == HOT_DONE && gone.next == 300 && gone.is_ordered);
+    CHECK(hot_each(&handle, bytes(""), 0, bytes("\377"), 1, take_pair, &none) == HOT_DONE && none.next == 0);
+    CHECK(hot_each(&handle, key, sizeof key, bytes("a"), 1, take_pair, &none) == HOT_KEY_TOO_LONG && none.next == 0);
+    CHECK(hot_destroy(&handle) == HOT_DONE);
+    CHECK(hot_each(&handle, bytes(""), 0, bytes("a"), 1, take_pair, &none) == HOT_CLOSED && none.next == 0);
+}
+
 /* Scans downwards: the order of keys, the limit, and the places that are left as they were; the last pair up to a key. */
 static void test_scan_reverse(void) {
     hot_handle handle = HOT_HANDLE;
@@ -595,6 +635,7 @@ int main(void) {
     test_census();
     test_expected();
     test_scan();
+    test_each();
     test_scan_reverse();
     test_scan_last();
     test_prefix();
