@@ -22,10 +22,10 @@ lock_span-requires-clause-apart g c = way_apart c.args.table.now.layout c.args.s
 pub returns-then-not-lock_span-clause-run : goal.returns-then-not-lock_span-clause-run
 returns-then-not-lock_span-clause-run g c =
     let (locks, tries, low, all, few) = c.lock_span.ensures.tries in
-    let on = works_count c.args.table.now g.G.Gate.becomes _ _ tries.1 in (locks, tries_once c.args.table.now g.G.Gate.becomes _ _ tries, omega (arith, few, on), low, λ e. not_taken e, omega (arith, few))
+    let on = works_count c.args.table.now g.G.Gate.becomes (c.args.seat.now, c.args.gate.now) (c.lock_span.new.seat, c.lock_span.new.gate) tries.1 in (locks, tries_once c.args.table.now g.G.Gate.becomes (c.args.seat.now, c.args.gate.now) (c.lock_span.new.seat, c.lock_span.new.gate) tries, omega (arith, few, on), low, λ e. not_taken e, omega (arith, few))
 
 pub returns-then-not-lock_span-clause-later : goal.returns-then-not-lock_span-clause-later
-returns-then-not-lock_span-clause-later g c = works_later c.args.table.now g.G.Gate.becomes _ _ c.lock_span.ensures.tries.1.1
+returns-then-not-lock_span-clause-later g c = works_later c.args.table.now g.G.Gate.becomes (c.args.seat.now, c.args.gate.now) (c.lock_span.new.seat, c.lock_span.new.gate) c.lock_span.ensures.tries.1.1
 
 pub check_span-requires : goal.check_span-requires
 check_span-requires g c =
@@ -33,10 +33,10 @@ check_span-requires g c =
     let (m, w) = c.requires.way in
     record {
       held = record {
-        seat = works_seat c.args.table.now g.G.Gate.becomes _ _ tries c.requires.own;
-        possible = run_possible c.args.table.now g.G.Gate.becomes _ _ (works_run c.args.table.now g.G.Gate.becomes _ _ tries) c.requires.possible;
+        seat = works_seat c.args.table.now g.G.Gate.becomes (c.args.seat.now, c.args.gate.now) (c.lock_span.new.seat, c.lock_span.new.gate) tries c.requires.own;
+        possible = run_possible c.args.table.now g.G.Gate.becomes (c.args.seat.now, c.args.gate.now) (c.lock_span.new.seat, c.lock_span.new.gate) (works_run c.args.table.now g.G.Gate.becomes (c.args.seat.now, c.args.gate.now) (c.lock_span.new.seat, c.lock_span.new.gate) tries) c.requires.possible;
         within = c.requires.within;
-        from = (m, way_later c.args.table.now.layout c.args.seat.now.known c.lock_span.new.seat.known m c.args.job.now.key.now c.args.job.now.way.now c.args.job.now.found (works_later c.args.table.now g.G.Gate.becomes _ _ tries) w);
+        from = (m, way_later c.args.table.now.layout c.args.seat.now.known c.lock_span.new.seat.known m c.args.job.now.key.now c.args.job.now.way.now c.args.job.now.found (works_later c.args.table.now g.G.Gate.becomes (c.args.seat.now, c.args.gate.now) (c.lock_span.new.seat, c.lock_span.new.gate) tries) w);
         locked = c.lock_span.ensures.locked c.if-not-lock_span.false;
       };
     }
@@ -47,7 +47,7 @@ returns-then-check_span-clause-run g c =
     let (locks, tries, low, all, steps) = c.lock_span.ensures.tries in
     let whole = all c.if-not-lock_span.false in (
       locks,
-      once_run table g.G.Gate.becomes _ _ _ (tries_once table g.G.Gate.becomes _ _ tries) (goes_run table g.G.Gate.becomes _ _ c.check_span.ensures.reads.goes),
+      once_run table g.G.Gate.becomes (c.args.seat.now, c.args.gate.now) (c.lock_span.new.seat, c.lock_span.new.gate) (c.check_span.new.seat, c.check_span.new.gate) (tries_once table g.G.Gate.becomes (c.args.seat.now, c.args.gate.now) (c.lock_span.new.seat, c.lock_span.new.gate) tries) (goes_run table g.G.Gate.becomes (c.lock_span.new.seat, c.lock_span.new.gate) (c.check_span.new.seat, c.check_span.new.gate) c.check_span.ensures.reads.goes),
       omega (arith, whole),
       low,
       λ e. whole,
@@ -56,19 +56,19 @@ returns-then-check_span-clause-run g c =
 
 pub returns-then-check_span-clause-later : goal.returns-then-check_span-clause-later
 returns-then-check_span-clause-later g c =
-    later_trans (works_later c.args.table.now g.G.Gate.becomes _ _ c.lock_span.ensures.tries.1.1)
+    later_trans (works_later c.args.table.now g.G.Gate.becomes (c.args.seat.now, c.args.gate.now) (c.lock_span.new.seat, c.lock_span.new.gate) c.lock_span.ensures.tries.1.1)
     c.check_span.ensures.reads.goes.stays.0
 
 pub returns-then-check_span-clause-taken : goal.returns-then-check_span-clause-taken
 returns-then-check_span-clause-taken g c e m w =
     let table = c.args.table.now in
     record {
-      seat = run_seat table g.G.Gate.becomes _ _ (goes_run table g.G.Gate.becomes _ _ c.check_span.ensures.reads.goes) (works_seat table g.G.Gate.becomes _ _ c.lock_span.ensures.tries.1.1 c.requires.own);
+      seat = run_seat table g.G.Gate.becomes (c.lock_span.new.seat, c.lock_span.new.gate) (c.check_span.new.seat, c.check_span.new.gate) (goes_run table g.G.Gate.becomes (c.lock_span.new.seat, c.lock_span.new.gate) (c.check_span.new.seat, c.check_span.new.gate) c.check_span.ensures.reads.goes) (works_seat table g.G.Gate.becomes (c.args.seat.now, c.args.gate.now) (c.lock_span.new.seat, c.lock_span.new.gate) c.lock_span.ensures.tries.1.1 c.requires.own);
       possible = c.check_span.ensures.possible;
       own = c.check_span.ensures.reads.own ∙ (c.lock_span.ensures.same ∙ c.requires.rest.own);
       within = c.requires.within;
       way_of = way_later table.layout c.args.seat.now.known c.check_span.new.seat.known m c.args.job.now.key.now c.args.job.now.way.now c.args.job.now.found
-          (later_trans (works_later table g.G.Gate.becomes _ _ c.lock_span.ensures.tries.1.1) c.check_span.ensures.reads.goes.stays.0) w;
+          (later_trans (works_later table g.G.Gate.becomes (c.args.seat.now, c.args.gate.now) (c.lock_span.new.seat, c.lock_span.new.gate) c.lock_span.ensures.tries.1.1) c.check_span.ensures.reads.goes.stays.0) w;
       locked = span_later _ _ c.args.job.now.way.now c.args.job.now.span c.check_span.ensures.reads.goes.stays (c.lock_span.ensures.locked c.if-not-lock_span.false);
       checked = c.check_span.ensures.checked c.if-check_span.true;
     }
@@ -76,7 +76,7 @@ returns-then-check_span-clause-taken g c e m w =
 pub undo-requires-clause-own : goal.undo-requires-clause-own
 undo-requires-clause-own g c =
     let table = c.args.table.now in
-    run_seat table g.G.Gate.becomes _ _ (goes_run table g.G.Gate.becomes _ _ c.check_span.ensures.reads.goes) (works_seat table g.G.Gate.becomes _ _ c.lock_span.ensures.tries.1.1 c.requires.own)
+    run_seat table g.G.Gate.becomes (c.lock_span.new.seat, c.lock_span.new.gate) (c.check_span.new.seat, c.check_span.new.gate) (goes_run table g.G.Gate.becomes (c.lock_span.new.seat, c.lock_span.new.gate) (c.check_span.new.seat, c.check_span.new.gate) c.check_span.ensures.reads.goes) (works_seat table g.G.Gate.becomes (c.args.seat.now, c.args.gate.now) (c.lock_span.new.seat, c.lock_span.new.gate) c.lock_span.ensures.tries.1.1 c.requires.own)
 
 pub undo-requires-clause-nodes : goal.undo-requires-clause-nodes
 undo-requires-clause-nodes g c = step_nodes c.args.table.now.layout c.args.seat.now.known c.requires.way.0 c.args.job.now.key.now c.args.job.now.way.now c.args.job.now.found c.requires.way.1
@@ -90,9 +90,9 @@ returns-clause-run g c =
     let (locks, tries, low, all, steps) = c.lock_span.ensures.tries in
     let whole = all c.if-not-lock_span.false in (
       locks,
-      once_run table g.G.Gate.becomes _ _ _
-          (once_run table g.G.Gate.becomes _ _ _ (tries_once table g.G.Gate.becomes _ _ tries) (goes_run table g.G.Gate.becomes _ _ c.check_span.ensures.reads.goes))
-          (works_run table g.G.Gate.becomes _ _ c.undo.ensures.works),
+      once_run table g.G.Gate.becomes (c.args.seat.now, c.args.gate.now) (c.check_span.new.seat, c.check_span.new.gate) (c.undo.new.seat, c.undo.new.gate)
+          (once_run table g.G.Gate.becomes (c.args.seat.now, c.args.gate.now) (c.lock_span.new.seat, c.lock_span.new.gate) (c.check_span.new.seat, c.check_span.new.gate) (tries_once table g.G.Gate.becomes (c.args.seat.now, c.args.gate.now) (c.lock_span.new.seat, c.lock_span.new.gate) tries) (goes_run table g.G.Gate.becomes (c.lock_span.new.seat, c.lock_span.new.gate) (c.check_span.new.seat, c.check_span.new.gate) c.check_span.ensures.reads.goes))
+          (works_run table g.G.Gate.becomes (c.check_span.new.seat, c.check_span.new.gate) (c.undo.new.seat, c.undo.new.gate) c.undo.ensures.works),
       omega (arith, whole),
       low,
       λ e. not_taken e,
@@ -102,13 +102,13 @@ returns-clause-run g c =
 pub returns-clause-later : goal.returns-clause-later
 returns-clause-later g c =
     let table = c.args.table.now in
-    later_trans (later_trans (works_later table g.G.Gate.becomes _ _ c.lock_span.ensures.tries.1.1) c.check_span.ensures.reads.goes.stays.0) (works_later table g.G.Gate.becomes _ _ c.undo.ensures.works)
+    later_trans (later_trans (works_later table g.G.Gate.becomes (c.args.seat.now, c.args.gate.now) (c.lock_span.new.seat, c.lock_span.new.gate) c.lock_span.ensures.tries.1.1) c.check_span.ensures.reads.goes.stays.0) (works_later table g.G.Gate.becomes (c.check_span.new.seat, c.check_span.new.gate) (c.undo.new.seat, c.undo.new.gate) c.undo.ensures.works)
 
 pub returns-clause-busy : goal.returns-clause-busy
 returns-clause-busy g c t m w =
     let table = c.args.table.now in
     let there = way_later table.layout c.args.seat.now.known c.lock_span.new.seat.known m c.args.job.now.key.now c.args.job.now.way.now c.args.job.now.found
-    (works_later table g.G.Gate.becomes _ _ c.lock_span.ensures.tries.1.1) w in
+    (works_later table g.G.Gate.becomes (c.args.seat.now, c.args.gate.now) (c.lock_span.new.seat, c.lock_span.new.gate) c.lock_span.ensures.tries.1.1) w in
     let moved = c.check_span.ensures.changed m there c.if-check_span.false in
-    let more = longer c.check_span.new.seat.known c.undo.new.seat.known (works_later table g.G.Gate.becomes _ _ c.undo.ensures.works) in
+    let more = longer c.check_span.new.seat.known c.undo.new.seat.known (works_later table g.G.Gate.becomes (c.check_span.new.seat, c.check_span.new.gate) (c.undo.new.seat, c.undo.new.gate) c.undo.ensures.works) in
     inr (omega (arith, moved, more))

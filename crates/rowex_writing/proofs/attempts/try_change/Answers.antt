@@ -33,7 +33,7 @@ make_change-requires g c =
 pub returns-in-Ok-clause-run : goal.returns-in-Ok-clause-run
 returns-in-Ok-clause-run g c =
     let depth = c.requires.planned.2.depth in
-    changed_run c.args.table.now g.G.Gate.becomes _ _ _ _ _ c.take_span.ensures.run c.if-not-take_span.false (omega (arith, c.requires.within.1, depth)) c.make_change.ensures.run c.make_change.ensures.few
+    changed_run c.args.table.now g.G.Gate.becomes (c.args.seat.now, c.args.gate.now) (c.take_span.new.seat, c.take_span.new.gate) (c.make_change.new.seat, c.make_change.new.gate) _ _ c.take_span.ensures.run c.if-not-take_span.false (omega (arith, c.requires.within.1, depth)) c.make_change.ensures.run c.make_change.ensures.few
 
 pub returns-in-Ok-clause-done : goal.returns-in-Ok-clause-done
 returns-in-Ok-clause-done g c = λ ok.
@@ -49,11 +49,11 @@ returns-in-Ok-clause-done g c = λ ok.
 pub returns-in-Err-clause-run : goal.returns-in-Err-clause-run
 returns-in-Err-clause-run g c =
     let depth = c.requires.planned.2.depth in
-    changed_run c.args.table.now g.G.Gate.becomes _ _ _ _ _ c.take_span.ensures.run c.if-not-take_span.false (omega (arith, c.requires.within.1, depth)) c.make_change.ensures.run c.make_change.ensures.few
+    changed_run c.args.table.now g.G.Gate.becomes (c.args.seat.now, c.args.gate.now) (c.take_span.new.seat, c.take_span.new.gate) (c.make_change.new.seat, c.make_change.new.gate) _ _ c.take_span.ensures.run c.if-not-take_span.false (omega (arith, c.requires.within.1, depth)) c.make_change.ensures.run c.make_change.ensures.few
 
 pub returns-in-Err-clause-refused : goal.returns-in-Err-clause-refused
 returns-in-Err-clause-refused g c k loaded later =
-    let there = run_loaded c.args.table.now g.G.Gate.becomes k _ _ loaded c.take_span.ensures.run.1.1 in
+    let there = run_loaded c.args.table.now g.G.Gate.becomes k (c.args.seat.now, c.args.gate.now) (c.take_span.new.seat, c.take_span.new.gate) loaded c.take_span.ensures.run.1.1 in
     rw c.refusal_of.ensures (refused_full c.args.table.now.layout c.args.job.now.key.now k _ _ c.in-Err.full there (later_trans later c.take_span.ensures.later) c.in-Err.ensures.full)
 
 pub returns-in-Err-clause-leafless : goal.returns-in-Err-clause-leafless

@@ -10,7 +10,7 @@ loop-index-init g c = none_read c.args.table.now g.G.Gate.becomes (c.args.seat.n
 pub loop-index-preserved : goal.loop-index-preserved
 loop-index-preserved g c =
     let e = c.load_word.ensures in
-    one_read c.args.table.now g.G.Gate.becomes (c.args.seat.now, c.args.gate.now) _ _ c.args.number c.loop-index.words c.loop-index.index c.load_word.result c.loop-index.invariant (omega (arith, c.loop-index-test.true)) e.reads e.word e.spelled e.few
+    one_read c.args.table.now g.G.Gate.becomes (c.args.seat.now, c.args.gate.now) (c.loop-index.seat, c.loop-index.gate) (c.load_word.new.seat, c.load_word.new.gate) c.args.number c.loop-index.words c.loop-index.index c.load_word.result c.loop-index.invariant (omega (arith, c.loop-index-test.true)) e.reads e.word e.spelled e.few
 
 pub loop-index-2-init : goal.loop-index-2-init
 loop-index-2-init g c =
@@ -24,7 +24,7 @@ pub loop-index-2-preserved : goal.loop-index-2-preserved
 loop-index-2-preserved g c =
     let e = c.load_word-in-loop-index-2.ensures in
     let (before, fit) = c.loop-index-2.invariant in (
-      one_read c.args.table.now g.G.Gate.becomes (c.args.seat.now, c.args.gate.now) _ _ c.args.number c.loop-index-2.words c.loop-index-2.index c.load_word-in-loop-index-2.result before (omega (arith, c.loop-index-2-test.true, fit)) e.reads e.word e.spelled e.few,
+      one_read c.args.table.now g.G.Gate.becomes (c.args.seat.now, c.args.gate.now) (c.loop-index-2.seat, c.loop-index-2.gate) (c.load_word-in-loop-index-2.new.seat, c.load_word-in-loop-index-2.new.gate) c.args.number c.loop-index-2.words c.loop-index-2.index c.load_word-in-loop-index-2.result before (omega (arith, c.loop-index-2-test.true, fit)) e.reads e.word e.spelled e.few,
       fit,
     )
 
