@@ -7,6 +7,7 @@ use crate::cases::{Case, Deed, two_of};
 use crate::guests::{Guest, lowest, open};
 use crate::judge::{Stopper, seated, verdict};
 use finite_map::Call;
+use hot_index::{Index, Pass};
 use key_bits::Key;
 use std::alloc::AllocError;
 use std::io;
@@ -47,12 +48,31 @@ impl Chance {
 pub fn run_turns<R: Print + AllocGlobal>(rt: &R, case: &Case, text: &str) -> io::Result<()> {
     let (seed, turns) = two_of(text)?;
     let (index, passes) = open(case.alloc, 2, case.nodes, case.leaves)?;
-    let (mut guest, mut gate) = seated(case, &index, passes)?;
+    let wrong = wrong_in(case, &index, passes, seed, turns)?;
+    println!(rt; "{turns} turns from {seed}: {}", verdict(wrong))
+}
+
+/// How often something was wrong in so many turns from a seed on this index, which was just made.
+fn wrong_in(case: &Case, index: &Index, passes: Vec<Pass>, seed: u32, turns: u32) -> io::Result<u64>
+    requires { All (Owns index.now) passes.items }
+{
+    let (mut guest, mut gate) = seated(case, index, passes)?;
+    take_turns(case, &mut guest, &mut gate, seed, turns)
+}
+
+/// Takes so many turns from a seed. Answers how often something was wrong.
+fn take_turns(
+    case: &Case,
+    guest: &mut Guest,
+    gate: &mut Stopper,
+    seed: u32,
+    turns: u32,
+) -> io::Result<u64> {
     let mut chance = Chance(u64::from(seed));
     for turn in 0..u64::from(turns) {
-        take_turn(case, &mut guest, &mut gate, &mut chance, turn)?;
+        take_turn(case, guest, gate, &mut chance, turn)?;
     }
-    println!(rt; "{turns} turns from {seed}: {}", verdict(gate.judge.wrong))
+    Ok(gate.judge.wrong)
 }
 
 /// A deed by chance, in the middle of which the other pass makes another one. Now and then the index is compared with the replay.

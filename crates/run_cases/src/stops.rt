@@ -7,7 +7,7 @@ use crate::acts::push_act;
 use crate::cases::{Case, Deed, bad_line, deeds_of};
 use crate::guests::{Guest, open};
 use crate::judge::{Stopper, seated, verdict};
-use hot_index::Event;
+use hot_index::{Event, Index, Pass};
 use std::alloc::AllocError;
 use std::{io, mem};
 
@@ -16,24 +16,49 @@ const MAX_STEPS: u64 = 10_000;
 
 /// Prints each step of what pass 0 does, with what it was answered.
 pub fn print_steps<R: Print + AllocGlobal>(rt: &R, case: &Case, text: &str) -> io::Result<()> {
-    let (index, passes) = open(case.alloc, 2, case.nodes, case.leaves)?;
-    let (mut guest, mut gate) = seated(case, &index, passes)?;
-    deeds_of(&mut gate.deeds, text)?;
     let mut lines = String::new(case.alloc);
-    push_lines(case, &mut guest, &mut gate, &mut lines)?;
+    let (index, passes) = open(case.alloc, 2, case.nodes, case.leaves)?;
+    push_steps(case, &index, passes, text, &mut lines)?;
     println!(rt; "{text}{lines}")
 }
 
-/// Adds what pass 0 was answered where it does what its gate keeps for the other pass, which does nothing; and a line for each step.
+/// Adds the steps of what pass 0 does on a new index, with what it was answered.
+fn push_steps(
+    case: &Case,
+    index: &Index,
+    passes: Vec<Pass>,
+    text: &str,
+    lines: &mut String,
+) -> io::Result<()>
+    requires { All (Owns index.now) passes.items }
+{
+    let (mut guest, mut gate) = seated(case, index, passes)?;
+    push_lines(case, &mut guest, &mut gate, text, lines)
+}
+
+/// Adds what pass 0 was answered where it does what the text says, and a line for each step.
 fn push_lines(
     case: &Case,
     guest: &mut Guest,
     gate: &mut Stopper,
+    text: &str,
+    lines: &mut String,
+) -> io::Result<()> {
+    let mut deeds = Vec::new(case.alloc);
+    deeds_of(&mut deeds, text)?;
+    gate.judge.told.clear();
+    Ok(push_answers(case, guest, gate, &deeds, lines)?)
+}
+
+/// Adds what pass 0 was answered where it does this, and a line for each step.
+fn push_answers(
+    case: &Case,
+    guest: &mut Guest,
+    gate: &mut Stopper,
+    deeds: &[Deed],
     lines: &mut String,
 ) -> Result<(), AllocError> {
-    gate.judge.told.clear();
-    let deeds = mem::replace(&mut gate.deeds, Vec::new(case.alloc));
-    guest.does(&deeds, gate, lines)?;
+    guest.does(deeds, gate, lines)?;
     push_acts(lines, &gate.judge.told)?;
     gate.judge.compare(case.alloc, guest)?;
     write!(lines, "\n  {}", verdict(gate.judge.wrong))
@@ -99,7 +124,7 @@ fn stop_each<R: Print + AllocGlobal>(
     Err(bad_line())
 }
 
-/// Stops pass 0 after the step of this number, and adds what both were answered.
+/// Stops pass 0 after the step of this number, on a new index, and adds what both were answered.
 fn stop_at(
     case: &Case,
     deeds: &[Deed],
@@ -108,10 +133,23 @@ fn stop_at(
     said: &mut String,
 ) -> io::Result<Stop> {
     let (index, passes) = open(case.alloc, 2, case.nodes, case.leaves)?;
-    let (mut guest, mut gate) = seated(case, &index, passes)?;
-    deeds_of(&mut gate.deeds, other)?;
-    gate.left = step;
-    Ok(make_stop(case, &mut guest, &mut gate, deeds, said)?)
+    stop_on(case, &index, passes, deeds, other, step, said)
+}
+
+/// `stop_at`, on this index that was just made.
+fn stop_on(
+    case: &Case,
+    index: &Index,
+    passes: Vec<Pass>,
+    deeds: &[Deed],
+    other: &str,
+    step: u64,
+    said: &mut String,
+) -> io::Result<Stop>
+    requires { All (Owns index.now) passes.items }
+{
+    let (mut guest, mut gate) = seated(case, index, passes)?;
+    make_stop(case, &mut guest, &mut gate, deeds, other, step, said)
 }
 
 /// Lets pass 0 do what it does, with its stop, and compares the index with the replay afterwards.
@@ -120,8 +158,12 @@ fn make_stop(
     guest: &mut Guest,
     gate: &mut Stopper,
     deeds: &[Deed],
+    other: &str,
+    step: u64,
     said: &mut String,
-) -> Result<Stop, AllocError> {
+) -> io::Result<Stop> {
+    deeds_of(&mut gate.deeds, other)?;
+    gate.left = step;
     guest.does(deeds, gate, said)?;
     write!(said, "{}", gate.said)?;
     gate.judge.compare(case.alloc, guest)?;

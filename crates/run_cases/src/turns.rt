@@ -5,7 +5,7 @@ ghost use Rattle.hot_index.specs.Passes.{Owns};
 
 use crate::cases::{Case, two_of};
 use crate::chance::Chance;
-use crate::guests::{guest_of, next_guest, open};
+use crate::guests::{Guest, guest_of, next_guest, open};
 use crate::judge::{Judge, verdict};
 use hot_index::{Event, Gate, Index, Pass};
 use std::alloc::{AllocError, Global};
@@ -112,10 +112,11 @@ fn work(case: &Case, rota: &Rota, index: &Index, pass: Pass) -> Vec<(u64, Event)
     gate.told
 }
 
-/// Has the steps of all threads judged, each at its number.
+/// Has the steps of all threads judged, each at its number, and the index compared with the replay afterwards.
 fn judge_all(
     alloc: Global,
     judge: &mut Judge,
+    last: &mut Guest,
     told: &[Vec<(u64, Event)>],
 ) -> Result<(), AllocError> {
     let mut total = 0usize;
@@ -129,7 +130,7 @@ fn judge_all(
     for event in order.iter() {
         judge_one(judge, event);
     }
-    Ok(())
+    judge.compare(alloc, last)
 }
 
 /// Puts a thread's steps in their places.
@@ -157,9 +158,36 @@ fn run_seed<R: AllocGlobal + Threads + Sync>(
     seed: u64,
 ) -> io::Result<u64> {
     let passes = threads.wrapping_add(1);
-    let (index, mut seats) = open(case.alloc, passes, case.nodes, case.leaves)?;
-    let mut last = next_guest(&index, &mut seats)?;
-    let mut judge = Judge::new(case.alloc, passes, case.nodes, case.leaves)?;
+    let (index, seats) = open(case.alloc, passes, case.nodes, case.leaves)?;
+    wrong_on(rt, case, &index, seats, passes, seed)
+}
+
+/// `run_seed`, on this index that was just made, with all its passes.
+fn wrong_on<R: AllocGlobal + Threads + Sync>(
+    rt: &R,
+    case: &Case,
+    index: &Index,
+    mut seats: Vec<Pass>,
+    passes: u32,
+    seed: u64,
+) -> io::Result<u64>
+    requires { All (Owns index.now) seats.items }
+{
+    let mut last = next_guest(index, &mut seats)?;
+    let (told, lost) = step_all(rt, case, index, seats, seed)?;
+    wrong_of(case, passes, &mut last, &told, lost)
+}
+
+/// The steps of threads, one for each of these passes, and how many gave up.
+fn step_all<R: AllocGlobal + Threads + Sync>(
+    rt: &R,
+    case: &Case,
+    index: &Index,
+    seats: Vec<Pass>,
+    seed: u64,
+) -> io::Result<(Vec<Vec<(u64, Event)>>, u64)>
+    requires { All (Owns index.now) seats.items }
+{
     let rota = Rota {
         seed,
         turn: AtomicU64::new(FREE),
@@ -168,12 +196,23 @@ fn run_seed<R: AllocGlobal + Threads + Sync>(
         lost: AtomicU64::new(0),
     };
     let step_in_turn = |pass: Pass| -> Vec<(u64, Event)>
-        requires { Owns index pass }
-    { work(case, &rota, &index, pass) };
+        requires { Owns index.now pass }
+    { work(case, &rota, index, pass) };
     let told = map_vec(rt, seats, &step_in_turn)?;
-    judge_all(case.alloc, &mut judge, &told)?;
-    judge.compare(case.alloc, &mut last)?;
-    Ok(judge.wrong.wrapping_add(rota.lost.load(Ordering::SeqCst)))
+    Ok((told, rota.lost.load(Ordering::SeqCst)))
+}
+
+/// How often something was wrong in the steps of threads of which so many gave up.
+fn wrong_of(
+    case: &Case,
+    passes: u32,
+    last: &mut Guest,
+    told: &[Vec<(u64, Event)>],
+    lost: u64,
+) -> io::Result<u64> {
+    let mut judge = Judge::new(case.alloc, passes, case.nodes, case.leaves)?;
+    judge_all(case.alloc, &mut judge, last, told)?;
+    Ok(judge.wrong.wrapping_add(lost))
 }
 
 /// Lets so many threads, two to four, step in turns on the index of a case, in so many orders.
