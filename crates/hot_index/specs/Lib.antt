@@ -11,4 +11,5 @@ pub mod Reverse
 pub mod Cursors
 pub mod Asked
 pub mod Stamps
+pub mod Handles
 pub mod Statements

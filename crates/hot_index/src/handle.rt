@@ -1,0 +1,341 @@
+//! A handle: a pass at its index. Calls through it ask for nothing, since its pass belongs to the index.
+
+ghost use Rattle.std.specs.Prelude.{◌≡◌, ◌≢◌, [], All, Err, IfOk, OnErr, length, map};
+ghost use Rattle.finite_map.specs.declared.Call.TheVariants.{Exchange, Get, Insert, Remove, RemoveIf, Upsert};
+ghost use Rattle.hot_index.specs.Answers.{HaveMet, IsListed, IsListedInPart, IsNoted, IsScanned, IsUnnoted, got};
+ghost use Rattle.hot_index.specs.Census.{HasCounted};
+ghost use Rattle.hot_index.specs.Handles.{IsRangeRead, IsAwaited, IsTried, Stays, handle_at};
+ghost use Rattle.hot_index.specs.Many.{AreNoted, HasGotMany, gets};
+ghost use Rattle.hot_index.specs.Passes.{Owns};
+ghost use Rattle.hot_index.specs.Ranges.{IsFirstFound};
+ghost use Rattle.hot_index.specs.Reverse.{IsLastFound, IsReverseListed, IsReverseListedInPart, IsReverseScanned};
+ghost use Rattle.hot_index.specs.Traces.{HasCollected, HasGot, untold};
+ghost use Rattle.key_ranges.specs.Ranges.{last_with};
+
+use crate::census::RecordCounts;
+use crate::index::{Index, Pass};
+use epochs::Given;
+use finite_map::{Reply, Scan};
+use key_bits::Key;
+use packed_pairs::Pairs;
+use rowex_writing::{Full, TryFault};
+use std::alloc::{AllocError, Global};
+use std::marker::Model;
+use std::sync::{Arc, Wait};
+
+/// What shows an index: a reference to it, or a share of it.
+pub trait ShowsIndex {
+    ghost use Rattle.rowex_table.specs.Seats.{TableView};
+
+    /// The index that it shows.
+    ghost shown: { Self → TableView };
+
+    /// The index.
+    fn show(&self) -> &Index
+        ensures { result.now ≡ shown self.now };
+}
+
+impl ShowsIndex for &Index {
+    ghost shown = { λ index. index.now };
+
+    fn show(&self) -> &Index {
+        *self
+    }
+}
+
+impl ShowsIndex for Arc<Index, Global> {
+    ghost shown = { λ index. index.value };
+
+    fn show(&self) -> &Index {
+        &**self
+    }
+}
+
+/// A pass at its index, of which it has a reference or a share. Its methods are the calls of an index, without a gate; any other
+/// call can be made by its parts, as in `handle.index.get_with(&mut handle.pass, key, gate)`.
+#[derive(Drop)]
+pub struct Handle<I: ShowsIndex> {
+    /// The index, or a share of it.
+    pub index: I,
+    /// The pass.
+    pub pass: Pass,
+}
+
+impl<I: ShowsIndex> Model for Handle<I> {
+    ghost use Rattle.hot_index.specs.Handles.{HandleView};
+    ghost use Rattle.hot_index.specs.Passes.{Owns};
+
+    ghost Value = { HandleView };
+
+    ghost view = { λ h. record { index = I.shown h.index; pass = h.pass } };
+
+    ghost invariant = { λ h. Owns (I.shown h.index) h.pass };
+}
+
+impl<I: ShowsIndex> Handle<I> {
+    /// A handle of this pass.
+    pub fn new(index: I, pass: Pass) -> Handle<I>
+        requires { Owns (I.shown index) pass }
+        ensures { result ≡ handle_at (I.shown index) pass }
+    {
+        Handle { index, pass }
+    }
+
+    /// The index, or the share of it, and the pass.
+    pub fn into_parts(self) -> (I, Pass)
+        ensures index { I.shown result.0 ≡ self.index }
+        ensures pass { result.1 ≡ self.pass }
+        ensures own { Owns self.index result.1 }
+    {
+        (self.index, self.pass)
+    }
+
+    /// The number of its pass.
+    pub fn number(&self) -> u16
+        ensures { result ≡ self.now.pass.number }
+    {
+        self.pass.number()
+    }
+
+    /// As `Index::get`.
+    pub fn get(&mut self, key: &Key) -> Option<u64>
+        ensures { Stays (λ index k j. IsNoted index.layout k j (Get key.now) (got result) × HasGot index untold (k, tt) (j, tt)) self.old self.new }
+    {
+        self.index.show().get(&mut self.pass, key)
+    }
+
+    /// As `Index::get_many`.
+    pub fn get_many(&mut self, keys: &[Key], found: &mut [Option<u64>])
+        requires { length found.old ≡ length keys.now }
+        ensures { Stays (λ index k j. AreNoted index.layout k j (gets keys.now found.new) × HasGotMany index untold (length keys.now) (k, tt) (j, tt))
+            self.old self.new }
+    {
+        self.index.show().get_many(&mut self.pass, keys, found)
+    }
+
+    /// As `Index::insert`.
+    pub fn insert<R: Wait>(&mut self, rt: &R, key: &Key, value: u64) -> Result<Reply, Full>
+        ensures { Stays (IsAwaited (Insert key.now value) result) self.old self.new }
+    {
+        self.index.show().insert(rt, &mut self.pass, key, value)
+    }
+
+    /// As `Index::upsert`.
+    pub fn upsert<R: Wait>(&mut self, rt: &R, key: &Key, value: u64) -> Result<Reply, Full>
+        ensures { Stays (IsAwaited (Upsert key.now value) result) self.old self.new }
+    {
+        self.index.show().upsert(rt, &mut self.pass, key, value)
+    }
+
+    /// As `Index::exchange`.
+    pub fn exchange<R: Wait>(
+        &mut self,
+        rt: &R,
+        key: &Key,
+        expected: u64,
+        value: u64,
+    ) -> Result<Reply, Full>
+        ensures { Stays (IsAwaited (Exchange key.now expected value) result) self.old self.new }
+    {
+        self.index
+            .show()
+            .exchange(rt, &mut self.pass, key, expected, value)
+    }
+
+    /// As `Index::remove`.
+    pub fn remove<R: Wait>(&mut self, rt: &R, key: &Key) -> Result<Reply, Full>
+        ensures call { Stays (IsAwaited (Remove key.now) result) self.old self.new }
+        ensures leafless { result ≢ Err Full.Leaves }
+    {
+        self.index.show().remove(rt, &mut self.pass, key)
+    }
+
+    /// As `Index::remove_if`.
+    pub fn remove_if<R: Wait>(&mut self, rt: &R, key: &Key, expected: u64) -> Result<Reply, Full>
+        ensures call { Stays (IsAwaited (RemoveIf key.now expected) result) self.old self.new }
+        ensures leafless { result ≢ Err Full.Leaves }
+    {
+        self.index
+            .show()
+            .remove_if(rt, &mut self.pass, key, expected)
+    }
+
+    /// As `Index::try_insert`.
+    pub fn try_insert(&mut self, key: &Key, value: u64) -> Result<Reply, TryFault>
+        ensures { Stays (IsTried (Insert key.now value) result) self.old self.new }
+    {
+        self.index.show().try_insert(&mut self.pass, key, value)
+    }
+
+    /// As `Index::try_upsert`.
+    pub fn try_upsert(&mut self, key: &Key, value: u64) -> Result<Reply, TryFault>
+        ensures { Stays (IsTried (Upsert key.now value) result) self.old self.new }
+    {
+        self.index.show().try_upsert(&mut self.pass, key, value)
+    }
+
+    /// As `Index::try_exchange`.
+    pub fn try_exchange(&mut self, key: &Key, expected: u64, value: u64) -> Result<Reply, TryFault>
+        ensures { Stays (IsTried (Exchange key.now expected value) result) self.old self.new }
+    {
+        self.index
+            .show()
+            .try_exchange(&mut self.pass, key, expected, value)
+    }
+
+    /// As `Index::try_remove`.
+    pub fn try_remove(&mut self, key: &Key) -> Result<Reply, TryFault>
+        ensures call { Stays (IsTried (Remove key.now) result) self.old self.new }
+        ensures leafless { result ≢ Err TryFault.FullLeaves }
+    {
+        self.index.show().try_remove(&mut self.pass, key)
+    }
+
+    /// As `Index::try_remove_if`.
+    pub fn try_remove_if(&mut self, key: &Key, expected: u64) -> Result<Reply, TryFault>
+        ensures call { Stays (IsTried (RemoveIf key.now expected) result) self.old self.new }
+        ensures leafless { result ≢ Err TryFault.FullLeaves }
+    {
+        self.index
+            .show()
+            .try_remove_if(&mut self.pass, key, expected)
+    }
+
+    /// As `Index::scan`.
+    pub fn scan(
+        &mut self,
+        alloc: Global,
+        from: &Key,
+        upto: &Key,
+        limit: usize,
+    ) -> Result<Scan, AllocError>
+        ensures { Stays (IsRangeRead (λ layout k j. IsScanned layout k j from.now upto.now limit) from.now upto.now limit result) self.old self.new }
+    {
+        self.index
+            .show()
+            .scan(alloc, &mut self.pass, from, upto, limit)
+    }
+
+    /// As `Index::scan_into`.
+    pub fn scan_into(
+        &mut self,
+        from: &Key,
+        upto: &Key,
+        limit: usize,
+        pairs: &mut Pairs,
+    ) -> Result<bool, AllocError>
+        ensures call { Stays (IsRangeRead (λ layout k j. IsListed layout k j from.now upto.now limit pairs.new) from.now upto.now limit result)
+            self.old self.new }
+        ensures part { OnErr result (IsListedInPart self.old.index.layout self.old.pass self.new.pass from.now upto.now limit pairs.new) }
+    {
+        self.index
+            .show()
+            .scan_into(&mut self.pass, from, upto, limit, pairs)
+    }
+
+    /// As `Index::prefix_into`.
+    pub fn prefix_into(
+        &mut self,
+        prefix: &Key,
+        limit: usize,
+        pairs: &mut Pairs,
+    ) -> Result<bool, AllocError>
+        ensures call { Stays (IsRangeRead (λ layout k j. IsListed layout k j prefix.now (last_with prefix.now) limit pairs.new) prefix.now (last_with prefix.now) limit result)
+            self.old self.new }
+        ensures part { OnErr result (IsListedInPart self.old.index.layout self.old.pass self.new.pass prefix.now (last_with prefix.now) limit pairs.new) }
+    {
+        self.index
+            .show()
+            .prefix_into(&mut self.pass, prefix, limit, pairs)
+    }
+
+    /// As `Index::scan_reverse_into`.
+    pub fn scan_reverse_into(
+        &mut self,
+        from: &Key,
+        upto: &Key,
+        limit: usize,
+        pairs: &mut Pairs,
+    ) -> Result<bool, AllocError>
+        ensures call { Stays (IsRangeRead (λ layout k j. IsReverseListed layout k j from.now upto.now limit pairs.new) from.now upto.now limit result)
+            self.old self.new }
+        ensures part { OnErr result (IsReverseListedInPart self.old.index.layout self.old.pass self.new.pass from.now upto.now limit pairs.new) }
+    {
+        self.index
+            .show()
+            .scan_reverse_into(&mut self.pass, from, upto, limit, pairs)
+    }
+
+    /// As `Index::scan_reverse`.
+    pub fn scan_reverse(
+        &mut self,
+        alloc: Global,
+        from: &Key,
+        upto: &Key,
+        limit: usize,
+    ) -> Result<Scan, AllocError>
+        ensures { Stays (IsRangeRead (λ layout k j. IsReverseScanned layout k j from.now upto.now limit) from.now upto.now limit result)
+            self.old self.new }
+    {
+        self.index
+            .show()
+            .scan_reverse(alloc, &mut self.pass, from, upto, limit)
+    }
+
+    /// As `Index::first`.
+    pub fn first(&mut self, alloc: Global, from: &Key) -> Result<Option<(Key, u64)>, AllocError>
+        ensures { Stays (IsRangeRead (λ layout k j. IsFirstFound layout k j from.now) from.now (last_with []) 1 result) self.old self.new }
+    {
+        self.index.show().first(alloc, &mut self.pass, from)
+    }
+
+    /// As `Index::last`.
+    pub fn last(&mut self, alloc: Global, upto: &Key) -> Result<Option<(Key, u64)>, AllocError>
+        ensures { Stays (IsRangeRead (λ layout k j. IsLastFound layout k j upto.now) [] upto.now 1 result) self.old self.new }
+    {
+        self.index.show().last(alloc, &mut self.pass, upto)
+    }
+
+    /// As `Index::collect`.
+    pub fn collect(&mut self) -> Given
+        ensures { Stays (λ index k j. IsUnnoted index.layout k j × HasCollected index untold (k, tt) (j, tt) result.nodes result.leaves)
+            self.old self.new }
+    {
+        self.index.show().collect(&mut self.pass)
+    }
+
+    /// As `Index::census`.
+    pub fn census(&mut self) -> RecordCounts
+        ensures { Stays (λ index k j. IsUnnoted index.layout k j × HasCounted index untold (k, tt) (j, tt) result) self.old self.new }
+    {
+        self.index.show().census(&mut self.pass)
+    }
+
+    /// As `Index::meet`, for the passes of two handles at one index.
+    pub fn meet(self, other: Handle<I>) -> (Handle<I>, Handle<I>)
+        requires { other.index ≡ self.index }
+        ensures index { (result.0.index ≡ self.index) × (result.1.index ≡ self.index) }
+        ensures met { HaveMet self.index.layout self.pass other.pass result.0.pass result.1.pass }
+        ensures steps { (result.0.pass.steps ≡ self.pass.steps) × (result.1.pass.steps ≡ other.pass.steps) }
+    {
+        let Handle { index, pass } = self;
+        let (pass, met) = index.show().meet(pass, other.pass);
+        (Handle::new(index, pass), Handle::new(other.index, met))
+    }
+}
+
+/// Handles of these passes of an index, in their order.
+pub fn handles_of<'a>(
+    alloc: Global,
+    index: &'a Index,
+    passes: Vec<Pass>,
+) -> Result<Vec<Handle<&'a Index>>, AllocError>
+    requires { All (Owns index.now) passes.items }
+    ensures { IfOk result (λ handles. handles.items ≡ map (handle_at index.now) passes.items) }
+{
+    let mut handles = Vec::new(alloc);
+    for pass in passes {
+        handles.push(Handle::new(index, pass))?;
+    }
+    Ok(handles)
+}
