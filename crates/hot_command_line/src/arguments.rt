@@ -79,13 +79,10 @@ pub fn parse<'a>(alloc: Global, words: &'a [String]) -> Result<Request<'a>, Endi
     ensures asked { IfOk result (λ request. IsAsked (map string_bytes words.now) request.nodes request.leaves (map (λ name. name.now) request.files.items)) }
     ensures refused { IfErr result (λ ending. (ending ≡ Usage) ⊎ (ending ≡ Fault Memory)) }
 {
-    let nodes = count_option(alloc, "nodes", MAX_NODES);
-    let leaves = count_option(alloc, "leaves", MAX_LEAVES);
-    let names = file_names(alloc, "FILE");
     let command = Command::new(alloc, "hot-run")
-        .arg(nodes)?
-        .arg(leaves)?
-        .arg(names)?;
+        .arg(count_option(alloc, "nodes", MAX_NODES))?
+        .arg(count_option(alloc, "leaves", MAX_LEAVES))?
+        .arg(file_names(alloc, "FILE"))?;
     let matches = command.try_get_matches_from(words)?;
     let nodes = matches.get_one::<u32>("nodes").unwrap_or(4096);
     let leaves = matches.get_one::<u32>("leaves").unwrap_or(16_384);

@@ -16,9 +16,9 @@ differ xs ys heads same = heads (ap (λ t. slice_index t 0) same)
 pub invariant_of-result-clause-nodes_fit : goal.invariant_of-result-clause-nodes_fit
 invariant_of-result-clause-nodes_fit c =
     let id = codes "nodes" in
-    let a = c.count_option-nodes.ensures in
-    let b = c.count_option-leaves.ensures in
-    let d = c.file_names-names.ensures in
+    let a = c.count_option.ensures in
+    let b = c.count_option-2.ensures in
+    let d = c.file_names.ensures in
     let zero = IsOpen-new c.new.result id 65535 c.new.ensures.empty.0 c.new.ensures.empty.1 c.new.ensures.local in
     let one = IsOpen-added c.new.result c.in_ok-arg.field-0 (codes "nodes") _ _ id 65535 zero c.in_ok-arg.ensures a.argument (λ _. a.parser) in
     let two = IsOpen-added c.in_ok-arg.field-0 c.in_ok-arg-2.field-0 (codes "leaves") _ _ id 65535 one c.in_ok-arg-2.ensures b.argument
@@ -34,9 +34,9 @@ invariant_of-result-clause-nodes_fit c =
 pub invariant_of-result-clause-leaves_fit : goal.invariant_of-result-clause-leaves_fit
 invariant_of-result-clause-leaves_fit c =
     let id = codes "leaves" in
-    let a = c.count_option-nodes.ensures in
-    let b = c.count_option-leaves.ensures in
-    let d = c.file_names-names.ensures in
+    let a = c.count_option.ensures in
+    let b = c.count_option-2.ensures in
+    let d = c.file_names.ensures in
     let zero = IsOpen-new c.new.result id 262143 c.new.ensures.empty.0 c.new.ensures.empty.1 c.new.ensures.local in
     let one = IsOpen-added c.new.result c.in_ok-arg.field-0 (codes "nodes") _ _ id 262143 zero c.in_ok-arg.ensures a.argument
     (InRange-other (codes "nodes") _ _ id 262143 a.argument (differ (codes "nodes") id (λ e. omega arith))) in
@@ -51,9 +51,9 @@ invariant_of-result-clause-leaves_fit c =
 
 pub returns-clause-asked : goal.returns-clause-asked
 returns-clause-asked c =
-    let a = c.count_option-nodes.ensures.argument in
-    let b = c.count_option-leaves.ensures.argument in
-    let d = c.file_names-names.ensures in
+    let a = c.count_option.ensures.argument in
+    let b = c.count_option-2.ensures.argument in
+    let d = c.file_names.ensures in
     let line : app_of c.in_ok-command.command ≡ command_line = c.in_ok-command.ensures.shape d.local
     ∙ ap₂ with_rule (c.in_ok-arg-2.ensures.shape b.local ∙ ap₂ with_rule (c.in_ok-arg.ensures.shape a.local ∙ ap₂ with_rule c.new.ensures.app a.rule_is) b.rule_is) d.rule_is in
     let rows = rows_are _ _ c.in_ok-matches.matches c.in_ok-matches.ensures.matches line in
