@@ -1,37 +1,34 @@
 //! How the index is used: two threads fill it at the same time, meet, and find what both wrote; the rest is read by other calls.
 #![tactic(auto)]
 
-ghost use Rattle.hot_index.specs.Passes.{Owns};
+ghost use Rattle.std.specs.Prelude.{◌≡◌};
 
-use hot_index::{Cursor, Index, IndexFault, Key, Pairs, Pass, create};
+use hot_index::{Cursor, Handle, Index, IndexFault, Key, Pairs, create};
 use std::io;
 use std::io::ErrorKind;
 use std::sync::Wait;
 use std::thread::{Threads, join};
 
 /// Gives two words these values, in this order.
-fn put_both<R: Wait>(
+fn put_both<'a, R: Wait>(
     rt: &R,
-    index: &Index,
-    mut pass: Pass,
+    mut handle: Handle<&'a Index>,
     one: (&str, u64),
     two: (&str, u64),
-) -> Pass
-    requires { Owns index.now pass }
-    ensures { Owns index.now result }
+) -> Handle<&'a Index>
+    ensures { result.index ≡ handle.entry.index }
 {
-    put(rt, index, &mut pass, one.0, one.1);
-    put(rt, index, &mut pass, two.0, two.1);
-    pass
+    put(rt, &mut handle, one.0, one.1);
+    put(rt, &mut handle, two.0, two.1);
+    handle
 }
 
 /// Gives a word a value, unless it has one already.
-fn put<R: Wait>(rt: &R, index: &Index, pass: &mut Pass, word: &str, value: u64)
-    requires { Owns index.now pass.old }
-    ensures { Owns index.now pass.new }
+fn put<R: Wait>(rt: &R, handle: &mut Handle<&Index>, word: &str, value: u64)
+    ensures { handle.new.index ≡ handle.old.index }
 {
     if let Ok(key) = key(word) {
-        let _ = index.insert(rt, pass, &key, value);
+        let _ = handle.insert(rt, &key, value);
     }
 }
 
@@ -42,45 +39,42 @@ fn run<R: Threads + Wait + AllocGlobal + Print + Sync>(rt: &R) -> io::Result<()>
         return Ok(());
     };
 
-    // Each thread has a pass of its own.
+    // Each thread has a handle of its own: a pass, at the index.
+    let (first, second) = (Handle::new(&index, first), Handle::new(&index, second));
     let (first, second) = join(
         rt,
-        || -> Pass
-            requires { Owns index first }
-            ensures { Owns index result }
-        { put_both(rt, &index, first, ("ash", 1), ("oak", 2)) },
-        || -> Pass
-            requires { Owns index second }
-            ensures { Owns index result }
-        { put_both(rt, &index, second, ("oak", 3), ("yew", 4)) },
+        || -> Handle<&Index>
+            ensures { result.index ≡ first.entry.index }
+        { put_both(rt, first, ("ash", 1), ("oak", 2)) },
+        || -> Handle<&Index>
+            ensures { result.index ≡ second.entry.index }
+        { put_both(rt, second, ("oak", 3), ("yew", 4)) },
     );
 
     // Once they have met, each has seen what both wrote; the first insert of a key stays.
-    let (mut first, _) = index.meet(first, second);
+    let (mut first, _) = first.meet(second);
     let (from, upto) = (key("b")?, key("z")?);
-    let scan = index.scan(rt.alloc(), &mut first, &from, &upto, 10)?;
+    let scan = first.scan(rt.alloc(), &from, &upto, 10)?;
     println!(rt;
         "{} keys from b to z, more: {}",
         scan.pairs.len(),
         scan.more
     )?;
-    read_on(rt, &index, &mut first)
+    read_on(rt, &mut first)
 }
 
 /// Looks two words up by one call, and lists the first words of all by a cursor.
-fn read_on<R: AllocGlobal + Print>(rt: &R, index: &Index, pass: &mut Pass) -> io::Result<()>
-    requires { Owns index.now pass.old }
-{
+fn read_on<R: AllocGlobal + Print>(rt: &R, handle: &mut Handle<&Index>) -> io::Result<()> {
     let keys = [key("ash")?, key("elm")?];
     let mut found = [None; 2];
-    index.get_many(pass, &keys, &mut found);
+    handle.get_many(&keys, &mut found);
     let (ash, elm) = (found[0].is_some(), found[1].is_some());
     println!(rt; "ash is there: {ash}, elm is there: {elm}")?;
 
     // The next call of the cursor goes on behind these two.
     let mut part = Pairs::new(rt.alloc());
     let mut cursor = Cursor::of_prefix(&key("")?);
-    let more = cursor.next_into(index, pass, 2, &mut part)?;
+    let more = cursor.next_into(handle.index, &mut handle.pass, 2, &mut part)?;
     println!(rt; "the first {} keys, more: {}", part.len(), more)
 }
 
