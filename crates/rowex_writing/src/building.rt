@@ -179,41 +179,34 @@ fn raise_level<G: Gate>(
     make_risen(table, seat, gate, build, old, &grown)
 }
 
-/// A locked node, and the number of its record.
-#[derive(Drop)]
-pub(crate) struct Held {
-    pub number: u32,
-    pub node: Node,
-}
-
-/// What comes in the place of a node that gets a new leaf, and whether the node stays whole. A node with room gets the leaf
-/// where it stands, so that no whole node is moved.
+/// What comes in the place of a node of this record that gets a new leaf, and whether the node stays whole. A node with room gets the
+/// leaf where it stands, so that no whole node is moved.
 fn make_grown<G: Gate>(
     table: &HotTable,
     seat: &mut TableSeat,
     gate: &mut G,
     build: &mut Build,
-    held: &mut Held,
+    number: u32,
+    node: &mut Node,
     new: &NewLeaf<'_>,
 ) -> Option<(Risen, bool)>
     requires building { (news : List Made) × IsBuilding table.now seat.old build.old.made.items news }
-    requires affects { AffectsJust new.now.key.now new.now.position new.now.first new.now.last (piece held.old.node) }
-    requires tree { IsTreePage (page_with new.now (piece held.old.node)) }
+    requires affects { AffectsJust new.now.key.now new.now.position new.now.first new.now.last (piece node.old) }
+    requires tree { IsTreePage (page_with new.now (piece node.old)) }
     requires room { length build.old.made.items + 1 < MOST_MADE }
     ensures goes { WorksOn table.now G.becomes (seat.old, gate.old) (seat.new, gate.new) }
     ensures made { (news : List Made) → IsBuilding table.now seat.old build.old.made.items news → MatchOption result
         (HasNotMade table.now seat.new build.new.made.items)
         (λ r. (after : List Made) ×
-        IsGrownFrom (Entry.Node held.old.number held.old.node.height) held.old.node (page_with new.now (piece held.old.node)) new.now.position r.0 r.1 news after ×
+        IsGrownFrom (Entry.Node number node.old.height) node.old (page_with new.now (piece node.old)) new.now.position r.0 r.1 news after ×
         IsBuilding table.now seat.new build.new.made.items after) }
     ensures more { length build.new.made.items ≤ length build.old.made.items + 2 }
     ensures walk { WalksOn table.now.layout seat.old.known build.old seat.new.known build.new result }
     ensures few { Spends (2 * node_steps) seat.old.known build.old seat.new.known build.new result }
 {
-    let node = &mut held.node;
     if node.count() == 32 {
         let old = Entry::Node {
-            number: held.number,
+            number,
             height: node.height(),
         };
         let grown = full_with_leaf(node, new);
@@ -248,9 +241,8 @@ fn raise_lowest<G: Gate>(
     ensures walk { WalksOn table.now.layout seat.old.known build.old seat.new.known build.new result }
     ensures few { Spends level_steps seat.old.known build.old seat.new.known build.new result }
 {
-    let node = read_locked(table, seat, gate, number);
-    let mut held = Held { number, node };
-    make_grown(table, seat, gate, build, &mut held, new)
+    let mut node = read_locked(table, seat, gate, number);
+    make_grown(table, seat, gate, build, number, &mut node, new)
 }
 
 /// Whether one half is the old node as it stands.

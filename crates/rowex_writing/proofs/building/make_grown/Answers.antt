@@ -17,7 +17,7 @@ returns-then-count-eq32-clause-made g c = λ news b.
         keeps = c.stays_whole-stays.ensures;
         above = e.same.0;
         low = e.low;
-        made = subst (λ h. IsMadeFrom (Node c.args.held.now.number h) c.full_with_leaf-grown.result c.in_ok-risen.risen news after) c.height.ensures made;
+        made = subst (λ h. IsMadeFrom (Node c.args.number h) c.full_with_leaf-grown.result c.in_ok-risen.risen news after) c.height.ensures made;
       },
       now,
     )
@@ -25,7 +25,7 @@ returns-then-count-eq32-clause-made g c = λ news b.
 pub returns-clause-made : goal.returns-clause-made
 returns-clause-made g c = λ news b.
     let (m, is, has, building) = c.in_ok-entry.ensures.made news b in
-    let room : length c.args.held.now.node.entries < 32 = omega (arith, c.if-count-eq32.false, c.count.ensures.count, c.count.ensures.lawful.room) in (
+    let room : length c.args.node.now.entries < 32 = omega (arith, c.if-count-eq32.false, c.count.ensures.count, c.count.ensures.lawful.room) in (
       _,
       record {
         grown = Single c.add_leaf.new.node;
