@@ -3,17 +3,19 @@
 ghost use Rattle.std.specs.Prelude.{◌≡◌, ◌<◌, ℕ, List, get_or, ◌≤◌, ◌+◌};
 ghost use Rattle.compound_node.specs.Nodes.{NodeView};
 ghost use Rattle.moments.specs.declared.Rec.TheVariants.{Node as a_node};
+ghost use Rattle.record_words.specs.declared.TheConstants.{NODE_FIELDS};
 ghost use Rattle.rowex_table.specs.Rule.{IsStartOf};
 ghost use Rattle.rowex_table.specs.Seats.{IsSeatOf};
 ghost use Rattle.rowex_writing.specs.Going.{ReadsOn, HasLocked, IsLockedBy, IsNodeOf};
 
+use arrayvec::ArrayVec;
 use compound_node::Node;
-use record_words::{HEAD_WORDS, NODE_FIELDS, read_node};
+use record_words::{HEAD_WORDS, read_head, read_some};
 use rowex_core::{Gate, Rec};
 use rowex_table::{HotTable, TableSeat};
 
 /// The node in a record that the pass has locked: its words are those of the lock. Those past its last entry are 0, and are
-/// not loaded.
+/// not loaded; each entry is read as its word is loaded.
 pub(crate) fn read_locked<G: Gate>(
     table: &HotTable,
     seat: &mut TableSeat,
@@ -28,15 +30,17 @@ pub(crate) fn read_locked<G: Gate>(
     ensures few { seat.new.known.steps ≤ seat.old.known.steps + NODE_FIELDS }
 {
     let start = table.start_of(Rec::Node(number));
-    let mut words = [0; NODE_FIELDS];
+    let mut head = [0; HEAD_WORDS];
     for index in 0..HEAD_WORDS {
-        words[index] = load_word(table, seat, gate, number, start, index);
+        head[index] = load_word(table, seat, gate, number, start, index);
     }
-    let end = HEAD_WORDS + (words[0] % 256) as usize;
+    let end = HEAD_WORDS + (head[0] % 256) as usize;
+    let mut entries = ArrayVec::new();
     for index in HEAD_WORDS..end {
-        words[index] = load_word(table, seat, gate, number, start, index);
+        let word = load_word(table, seat, gate, number, start, index);
+        entries.push(read_some(word));
     }
-    read_node(&words)
+    Node::of(read_head(&head), entries)
 }
 
 /// One word of a locked node, of those after its state; its record begins at `start`. Inline, so that neither loop over the words tests which they are.
