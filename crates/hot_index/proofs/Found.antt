@@ -1,28 +1,29 @@
 -- A scan that is refused memory has found a pair.
 use denote.RawPtr.{null_ptr}
-use Rattle.std.proofs.Common.{◌≡◌, ◌≢◌, ℕ, ◌<◌, ◌≤◌, ◌^◌, List, [], ◌∷◌, length, Bool, true, refl, sym, subst, arith, le_refl}
+use Rattle.std.proofs.Common.{◌≢◌, ℕ, ◌<◌, ◌≤◌, ◌^◌, List, [], ◌∷◌, length, Bool, true, refl, sym, subst, arith, le_refl}
 use Rattle.std.specs.Prelude.{All, IsSome, IsTrue}
 use Rattle.std.proofs.lemmas.List.Elements.{All-head}
 use Rattle.finite_map.specs.declared.Scan.{Scan}
-use Rattle.finite_map.specs.Reverse.{IsLawfulReverseScan}
 use Rattle.finite_map.specs.Scans.{is_within, IsHeldBetween, IsLawfulScan}
 use Rattle.key_bits.specs.Key.{IsKey}
 use Rattle.record_words.specs.declared.layout.Layout.{Layout}
-use Rattle.moments.specs.State.{IsHeldSince}
+use Rattle.moments.specs.State.{IsHeldSince, Past}
 use Rattle.rowex_core.specs.declared.event.Act.TheVariants.{ClearPin}
 use Rattle.rowex_core.specs.declared.known.Known.{Known}
 use Rattle.rowex_core.specs.Knowing.{IsEvent}
 use Rattle.rowex_reading.proofs.Loading.{pinned_by}
-use Rattle.rowex_reading.specs.Seen.{Sure, since}
+use Rattle.rowex_reading.specs.Seen.{Sure, seen, since}
 use Rattle.rowex_scanning.proofs.Scanned.{lawful_scan}
-use Rattle.rowex_scanning.specs.Reverse.{HasScannedPartDown}
+use Rattle.rowex_scanning.specs.Directions.{IsAnswer}
 use Rattle.rowex_scanning.specs.Scanning.{HasScanned, HasScannedPart, limited}
+use Rattle.rowex_scanning.specs.declared.direction.Direction.{Direction}
+use Rattle.rowex_scanning.specs.declared.direction.Direction.TheVariants.{Upwards, Downwards}
 use Rattle.rowex_table.specs.Runs.{silent}
 use Rattle.rowex_table.specs.Seats.{SeatView}
-use Rattle.rowex_walks.specs.Scan.{IsInRange, Range}
+use Rattle.rowex_walks.specs.Scan.{IsInRange, Pair, Range}
 use Rattle.tries.specs.Keys.{Key}
 use Rattle.hot_index.specs.Answers.{GoesOn, HasFoundPair, IsListed}
-use Rattle.hot_index.specs.Passes.{PassView, IsSettled, pass_of}
+use Rattle.hot_index.specs.Passes.{PassView, pass_of}
 use Rattle.hot_index.specs.Reverse.{IsReverseListed}
 use Rattle.hot_index.proofs.Noting.{HasLooked, goes_on}
 
@@ -62,7 +63,7 @@ module _ {layout : Layout} {i : Known} (s t : SeatView) (looks : HasLooked s.kno
   sure_found room found =
       let p = pinned_by i.pin is in
       let none = scan_of [] true (omega arith) in
-      let cut : HasScanned i (limited g 0) [] true = record {
+      let cut : HasScanned Upwards i (limited g 0) [] true = record {
         taken = [];
         pairs_are = refl;
         answer = λ c lawful recalls. let (key, value, inside, held) = found c lawful recalls in record {
@@ -74,12 +75,13 @@ module _ {layout : Layout} {i : Known} (s t : SeatView) (looks : HasLooked s.kno
           covered = λ x kept range last. absurd last;
         };
       } in
-      let l = subst (λ (z : Known). IsLawfulScan z.fresh.front z.front g.from g.upto 0 none) (sym event.learned_is) (lawful_scan i (limited g 0) none layout silent t.known keys.0 keys.1 p.0 p.1 cut event) in
+      let l = subst (λ (z : Known). IsLawfulScan z.fresh.front z.front g.from g.upto 0 none) (sym event.learned_is) (lawful_scan Upwards i (limited g 0) none layout silent t.known keys.0 keys.1 p.0 p.1 cut event) in
       let (key, value, within, held, past) = l.further refl in
       record { on = goes_on s t looks.on event; room = room; key = key; value = value; within = within; held = held }
 
-  pub part_found : {pairs : List (Key × ℕ)} → HasScannedPart i g pairs → HasFoundPair layout (pass_of s) (pass_of t) g.from g.upto g.limit
-  part_found h = sure_found (let short = h.0 in omega (arith, short)) (λ c lawful recalls. let (key, value, inside, held, past) = (h.1.answer c lawful recalls).further in (key, value, inside, held))
-
-  pub part_found_down : {pairs : List (Key × ℕ)} → HasScannedPartDown i g pairs → HasFoundPair layout (pass_of s) (pass_of t) g.from g.upto g.limit
-  part_found_down h = sure_found (let short = h.0 in omega (arith, short)) (λ c lawful recalls. let (key, value, inside, held, past) = (h.1.answer c lawful recalls).further in (key, value, inside, held))
+  pub part_found : (d : Direction) {pairs : List (Key × ℕ)} → HasScannedPart d i g pairs → HasFoundPair layout (pass_of s) (pass_of t) g.from g.upto g.limit
+  part_found d {pairs} h = sure_found (let short = h.0 in omega (arith, short)) (λ c lawful recalls. further (seen c i) (length pairs) h.1.taken d (h.1.answer c lawful recalls))
+    where
+      further : (x : Past) (n : ℕ) (taken : List Pair) (d : Direction) → IsAnswer d x (since i) (limited g n) taken true → (key : Key) × (value : ℕ) × IsInRange g key × IsHeldSince x (since i) key value
+      further x n taken Upwards cut = let (key, value, inside, held, past) = cut.further in (key, value, inside, held)
+      further x n taken Downwards cut = let (key, value, inside, held, past) = cut.further in (key, value, inside, held)

@@ -1,5 +1,5 @@
 -- How an answered call gets its note: one that changed nothing, and what is the same of each.
-use Rattle.std.proofs.Common.{◌≡◌, ◌≢◌, ℕ, zero, suc, ◌+◌, ◌-◌, ◌*◌, ◌<◌, ◌≤◌, List, [], ◌∷◌, ◌++◌, length, take, Bool, true, false, if◌then◌else◌, Option, Some, None, refl, sym, ap, subst, ◌∙◌, arith, le_refl, le_trans, length-append, nat_eq, eq-eqb}
+use Rattle.std.proofs.Common.{◌≡◌, ◌≢◌, ℕ, zero, suc, ◌+◌, ◌-◌, ◌<◌, ◌≤◌, List, [], ◌∷◌, ◌++◌, length, take, Bool, true, false, if◌then◌else◌, Option, Some, None, refl, sym, ap, subst, ◌∙◌, arith, le_refl, le_trans, length-append, nat_eq, eq-eqb}
 use Rattle.std.proofs.lemmas.Bool.{false≢true}
 use Rattle.std.specs.Prelude.{All}
 use Rattle.std.proofs.lemmas.List.Elements.{All-cons, All-head, All-nil, All-tail}
@@ -15,7 +15,6 @@ use Rattle.finite_map.specs.Fronts.{map_of, BeginsWith, LegalFront, OthersGoOn}
 use Rattle.finite_map.specs.Calls.{is_change, LegalCalls}
 use Rattle.finite_map.proofs.Growth.{others_begin}
 use Rattle.finite_map.proofs.Legal.{legal_quiet}
-use Rattle.key_bits.specs.declared.TheConstants.{MAX_BYTES}
 use Rattle.record_words.specs.declared.layout.Layout.{Layout}
 use Rattle.tries.specs.Keys.{Key}
 use Rattle.tries.specs.Tree.{Tree, Has, IsTrie}

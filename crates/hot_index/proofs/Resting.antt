@@ -1,5 +1,5 @@
 -- An attempt that does nothing, and what the one before it was refused for.
-use Rattle.std.proofs.Common.{◌≡◌, ℕ, ◌+◌, ◌<◌, List, [], ◌∷◌, ◌++◌, None, Err, true, refl, sym, ap, subst, ◌∙◌, arith}
+use Rattle.std.proofs.Common.{◌≡◌, ℕ, ◌+◌, List, [], ◌∷◌, ◌++◌, None, Err, true, refl, sym, ap, subst, ◌∙◌, arith}
 use Rattle.std.specs.Prelude.{Contains}
 use Rattle.std.proofs.lemmas.Bool.{false≢true}
 use Rattle.std.proofs.lemmas.List.{append-nil}
@@ -7,7 +7,6 @@ use Rattle.std.proofs.lemmas.List.Elements.{All-nil}
 use Rattle.finite_map.specs.declared.Note.{Note}
 use Rattle.finite_map.specs.Calls.{LegalCalls}
 use Rattle.finite_map.specs.Fronts.{BeginsWith}
-use Rattle.rowex_core.specs.declared.event.Act.{Act}
 use Rattle.rowex_core.specs.declared.event.Act.TheVariants.{ClearPin, LoadEpoch}
 use Rattle.rowex_core.specs.declared.event.Event.{Event}
 use Rattle.record_words.specs.declared.layout.Layout.{Layout}

@@ -6,8 +6,6 @@ use Rattle.std.proofs.lemmas.List.{append-nil}
 use Rattle.finite_map.specs.declared.Note.{Note}
 use Rattle.finite_map.specs.declared.Scan.{Scan}
 use Rattle.finite_map.specs.Calls.{LegalCalls}
-use Rattle.finite_map.specs.Reverse.{IsLawfulReverseScan}
-use Rattle.finite_map.specs.Scans.{IsLawfulScan}
 use Rattle.finite_map.proofs.Legal.{legal_longer}
 use Rattle.key_bits.specs.Key.{IsKey}
 use Rattle.record_words.specs.declared.layout.Layout.{Layout}
@@ -22,10 +20,12 @@ use Rattle.rowex_walks.specs.Scan.{Range}
 use Rattle.tries.specs.Keys.{Key}
 use Rattle.hot_index.specs.Passes.{PassView, IsSettled, pass_of}
 use Rattle.hot_index.specs.Answers.{IsListed, IsScanned, IsUnnoted}
+use Rattle.rowex_scanning.specs.Directions.{IsLawfulBy}
 use Rattle.rowex_scanning.specs.Scanning.{HasScanned}
-use Rattle.rowex_scanning.specs.Reverse.{HasScannedDown}
-use Rattle.rowex_scanning.proofs.Scanned.{lawful_scan, lawful_scan_down}
-use Rattle.hot_index.specs.Reverse.{IsReverseListed, IsReverseScanned}
+use Rattle.rowex_scanning.specs.declared.direction.Direction.{Direction}
+use Rattle.rowex_scanning.specs.declared.direction.Direction.TheVariants.{Upwards, Downwards}
+use Rattle.rowex_scanning.proofs.Scanned.{lawful_scan}
+use Rattle.hot_index.specs.Reverse.{IsListedBy, IsReverseListed, IsReverseScanned}
 use Rattle.hot_index.proofs.Noting.{HasLooked, goes_on, legal_front, settles}
 use Rattle.rowex_reading.proofs.Loading.{pinned_by}
 
@@ -69,29 +69,17 @@ module _ {layout : Layout} {i : Known} (s t : SeatView) (settled : IsSettled s.k
   pub scan_refused : IsUnnoted layout (pass_of s) (pass_of t)
   scan_refused = let on = goes_on s t looks.on event in record { number = on.number; front = on.front; notes = notes_stay; legal = legal_then; makers = on.makers }
 
-  pub scan_answered : (g : Range) → IsKey g.from × IsKey g.upto → IsSome i.pin → (pairs : List (Key × ℕ)) (more : Bool) → HasScanned i g pairs more →
-      IsListed layout (pass_of s) (pass_of t) g.from g.upto g.limit pairs more
-  scan_answered g keys is pairs more h = record {
-    on = goes_on s t looks.on event;
-    notes = notes_stay;
-    lawful = λ scan same last.
-        let p = pinned_by i.pin is in
-        let listed = subst (λ z. HasScanned i g z scan.more) (sym same) (subst (λ z. HasScanned i g pairs z) (sym last) h) in
-        subst (λ (z : Known). IsLawfulScan z.fresh.front z.front g.from g.upto g.limit scan) (sym event.learned_is) (lawful_scan i g scan layout silent t.known keys.0 keys.1 p.0 p.1 listed event);
-    legal = legal_then;
-  }
-
-  pub scan_answered_down : (g : Range) → IsKey g.from × IsKey g.upto → IsSome i.pin → (pairs : List (Key × ℕ)) (more : Bool) → HasScannedDown i g pairs more →
-      IsReverseListed layout (pass_of s) (pass_of t) g.from g.upto g.limit pairs more
-  scan_answered_down g keys is pairs more h = record {
-    on = goes_on s t looks.on event;
-    notes = notes_stay;
-    lawful = λ scan same last.
-        let p = pinned_by i.pin is in
-        let listed = subst (λ z. HasScannedDown i g z scan.more) (sym same) (subst (λ z. HasScannedDown i g pairs z) (sym last) h) in
-        subst (λ (z : Known). IsLawfulReverseScan z.fresh.front z.front g.from g.upto g.limit scan) (sym event.learned_is) (lawful_scan_down i g scan layout silent t.known keys.0 keys.1 p.0 p.1 listed event);
-    legal = legal_then;
-  }
+  pub scan_answered : (d : Direction) (g : Range) → IsKey g.from × IsKey g.upto → IsSome i.pin → (pairs : List (Key × ℕ)) (more : Bool) → HasScanned d i g pairs more →
+      IsListedBy d layout (pass_of s) (pass_of t) g.from g.upto g.limit pairs more
+  scan_answered d g keys is pairs more h = by d (λ scan same last.
+      let p = pinned_by i.pin is in
+      let listed = subst (λ z. HasScanned d i g z scan.more) (sym same) (subst (λ z. HasScanned d i g pairs z) (sym last) h) in
+      subst (λ (z : Known). IsLawfulBy d z.fresh.front z.front g.from g.upto g.limit scan) (sym event.learned_is) (lawful_scan d i g scan layout silent t.known keys.0 keys.1 p.0 p.1 listed event))
+    where
+      by : (d : Direction) → ((scan : Scan) → scan.pairs.items ≡ pairs → scan.more ≡ more → IsLawfulBy d t.known.fresh.front t.known.front g.from g.upto g.limit scan) →
+          IsListedBy d layout (pass_of s) (pass_of t) g.from g.upto g.limit pairs more
+      by Upwards lawful = record { on = goes_on s t looks.on event; notes = notes_stay; lawful = lawful; legal = legal_then }
+      by Downwards lawful = record { on = goes_on s t looks.on event; notes = notes_stay; lawful = lawful; legal = legal_then }
 
 -- The steps of a scan: pinned by two, unpinned by one.
 pub scan_counted : {G : Type 0} {table : TableView} {becomes : G → Event → G → Type 0} {a b c d : SeatView × G} {said : Known → List Note} (loads : ℕ) → Pins table becomes a b →

@@ -1,17 +1,17 @@
 -- Passes that follow stamps, and how their calls stand.
-use Rattle.std.proofs.Common.{◌≡◌, ◌≤◌, List, [], ◌∷◌, ◌++◌, length, sym, ap, subst, ◌∙◌, arith}
+use Rattle.std.proofs.Common.{◌≡◌, List, [], ◌∷◌, ◌++◌, sym, ap, subst, ◌∙◌, arith}
 use Rattle.std.specs.Prelude.{All}
 use Rattle.std.proofs.lemmas.List.Elements.{All-head, All-tail}
 use Rattle.finite_map.specs.declared.Change.{Change}
 use Rattle.finite_map.specs.declared.Note.{Note}
-use Rattle.finite_map.specs.Calls.{StandsIn, place_after}
+use Rattle.finite_map.specs.Calls.{StandsIn}
 use Rattle.finite_map.specs.Fronts.{BeginsWith}
 use Rattle.finite_map.proofs.Legal.{place_after-within}
 use Rattle.record_words.specs.declared.layout.Layout.{Layout}
 use Rattle.rowex_core.specs.declared.known.Known.{Known}
 use Rattle.rowex_table.specs.Rule.{HasFollowed, with_front}
 use Rattle.rowex_table.specs.Seats.{IsSame, SeatView}
-use Rattle.hot_index.specs.Passes.{IsSettled, PassView, pass_of}
+use Rattle.hot_index.specs.Passes.{IsSettled, pass_of}
 use Rattle.hot_index.specs.Stamps.{HasCaughtUp}
 use Rattle.hot_index.specs.Statements.{ReturnedBeforeBegun}
 use Rattle.hot_index.proofs.Meets.{goes_on, unnoted}

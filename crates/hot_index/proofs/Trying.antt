@@ -1,6 +1,6 @@
 -- What an attempt to change the map leaves: it is noted where it was answered, and has changed nothing where it was refused.
 use Rattle.std.proofs.Common.{◌≡◌, ◌⊎◌, inl, inr, ⊎_elim, ℕ, ◌+◌, ◌-◌, ◌<◌, ◌≤◌, List, [], ◌∷◌, ◌++◌, length, take, true, false, Option, Some, None, IsSome, Result, Ok, Err, refl, sym, ap, subst, ◌∙◌, arith, le_trans, length-append}
-use Rattle.std.specs.Prelude.{All, Contains, IfOk, IfErr, MatchResult, is_some}
+use Rattle.std.specs.Prelude.{All, IfOk, IfErr, MatchResult, is_some}
 use Rattle.std.proofs.lemmas.Bool.{eq-eqb, ne_eqb}
 use Rattle.std.proofs.lemmas.List.Elements.{All-head, All-tail}
 use Rattle.finite_map.specs.declared.Call.{Call}

@@ -14,6 +14,7 @@ ghost use Rattle.hot_index.specs.Counts.{scan_steps};
 ghost use Rattle.hot_index.specs.Answers.{HasFoundPair, IsListed, IsListedInPart, IsNoted, IsRefused, IsScanned, IsUnnoted, HaveMet, MayLack, fault_of, got};
 ghost use Rattle.hot_index.specs.Census.{HasCounted};
 ghost use Rattle.hot_index.specs.Many.{AreNoted, HasGotMany, gets};
+ghost use Rattle.hot_index.specs.Reverse.{IsListedBy, IsListedInPartBy};
 ghost use Rattle.hot_index.specs.Traces.{HasCollected, HasGot, HasGotRange, HasMade, HasTold, untold};
 
 use crate::census::{RecordCounts, count_records};
@@ -26,7 +27,7 @@ use key_bits::Key;
 use packed_pairs::Pairs;
 use rowex_core::{Gate, NoGate};
 use rowex_reading::look_up;
-use rowex_scanning::{Range, scan_root};
+use rowex_scanning::{Direction, Range, scan_root};
 use rowex_table::{HotTable, TableSeat};
 use rowex_writing::{Aim, Ask, Full, TryFault};
 use std::alloc::{AllocError, Global};
@@ -501,7 +502,36 @@ impl Index {
         ensures steps { pass.new.steps ≤ pass.old.steps + scan_steps limit }
         ensures read { HasGotRange self.now G.becomes limit (pass.old, gate.old) (pass.new, gate.new) }
     {
-        let range = Range { from, upto, limit };
+        self.list_by(pass, Direction::Upwards, from, upto, limit, pairs, gate)
+    }
+
+    /// `scan_into_with` or `scan_reverse_into_with`. Inline, so that each has a walk of its own direction.
+    #[inline(always)]
+    pub(crate) fn list_by<G: Gate>(
+        &self,
+        pass: &mut Pass,
+        direction: Direction,
+        from: &Key,
+        upto: &Key,
+        limit: usize,
+        pairs: &mut Pairs,
+        gate: &mut G,
+    ) -> Result<bool, AllocError>
+        requires { Owns self.now pass.old }
+        ensures own { Owns self.now pass.new }
+        ensures ok { IfOk result (IsListedBy direction self.now.layout pass.old pass.new from.now upto.now limit pairs.new) }
+        ensures err { OnErr result (IsUnnoted self.now.layout pass.old pass.new) }
+        ensures part { OnErr result (IsListedInPartBy direction self.now.layout pass.old pass.new from.now upto.now limit pairs.new) }
+        ensures memory { OnErr result (HasFoundPair self.now.layout pass.old pass.new from.now upto.now limit) }
+        ensures steps { pass.new.steps ≤ pass.old.steps + scan_steps limit }
+        ensures read { HasGotRange self.now G.becomes limit (pass.old, gate.old) (pass.new, gate.new) }
+    {
+        let range = Range {
+            from,
+            upto,
+            direction,
+            limit,
+        };
         pin(&self.table, &mut pass.seat, gate);
         let scan = scan_root(
             &self.table,

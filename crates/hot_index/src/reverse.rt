@@ -8,12 +8,11 @@ ghost use Rattle.hot_index.specs.Reverse.{IsLastFound, IsReverseListed, IsRevers
 ghost use Rattle.hot_index.specs.Traces.{HasGotRange, untold};
 
 use crate::index::{Index, Pass};
-use epochs::{pin, unpin};
 use finite_map::Scan;
 use key_bits::{Key, MAX_BYTES};
 use packed_pairs::Pairs;
 use rowex_core::{Gate, NoGate};
-use rowex_scanning::{Range, scan_root_down};
+use rowex_scanning::Direction;
 use std::alloc::{AllocError, Global};
 
 impl Index {
@@ -88,18 +87,7 @@ impl Index {
         ensures steps { pass.new.steps ≤ pass.old.steps + scan_steps limit }
         ensures read { HasGotRange self.now G.becomes limit (pass.old, gate.old) (pass.new, gate.new) }
     {
-        let range = Range { from, upto, limit };
-        pin(&self.table, &mut pass.seat, gate);
-        let scan = scan_root_down(
-            &self.table,
-            &mut pass.seat,
-            gate,
-            &mut pass.room.way,
-            &range,
-            pairs,
-        );
-        unpin(&self.table, &mut pass.seat, gate);
-        scan
+        self.list_by(pass, Direction::Downwards, from, upto, limit, pairs, gate)
     }
 
     /// The last pair whose key is `upto` or below. If `upto` is the greatest key that there can be (`last_with_prefix` of the empty

@@ -8,7 +8,6 @@ use Rattle.record_words.specs.Leaf.{key_word, words_of_key}
 use Rattle.record_words.specs.declared.TheConstants.{LEAF_FIELDS}
 use Rattle.record_words.proofs.Bytes.{same_key_word}
 use Rattle.record_words.proofs.Unused.{zero_in}
-use Rattle.rowex_reading.proofs.Leafing.{zero_small}
 
 -- the places of the words before this one, of which the first key word is at 2
 abbrev pub front : ℕ → List ℕ → List ℕ

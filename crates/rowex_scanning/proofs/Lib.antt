@@ -1,8 +1,9 @@
 -- The lemmas of the crate.
 pub mod Fronting
 pub mod Ordering
+pub mod Directed
 pub mod Walking
 pub mod Starting
-pub mod Downwards
+pub mod Turning
 pub mod Scanned
 pub mod Parts

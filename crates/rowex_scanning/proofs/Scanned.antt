@@ -3,8 +3,6 @@ use Rattle.std.proofs.Common.{◌≡◌, List, ◌++◌, Bool, true, false, Some
 use Rattle.finite_map.specs.declared.Change.{Change}
 use Rattle.finite_map.specs.declared.Note.{Note}
 use Rattle.finite_map.specs.declared.Scan.{Scan}
-use Rattle.finite_map.specs.Reverse.{IsLawfulReverseScan}
-use Rattle.finite_map.specs.Scans.{IsLawfulScan}
 use Rattle.key_bits.specs.Key.{IsKey}
 use Rattle.record_words.specs.declared.layout.Layout.{Layout}
 use Rattle.moments.specs.declared.Pin.{Pin}
@@ -13,19 +11,22 @@ use Rattle.moments.specs.Told.{TellChanges}
 use Rattle.rowex_core.specs.declared.event.Act.TheVariants.{ClearPin}
 use Rattle.rowex_core.specs.declared.known.Known.{Known}
 use Rattle.rowex_core.specs.Knowing.{IsEvent}
-use Rattle.rowex_walks.specs.Scan.{Range}
+use Rattle.rowex_walks.specs.Scan.{Range, turned}
 use Rattle.rowex_walks.proofs.Fronts.{complete_lawful, complete_lawful_down, cut_lawful, cut_lawful_down}
 use Rattle.rowex_reading.specs.Seen.{seen, since}
-use Rattle.rowex_scanning.specs.Reverse.{HasScannedDown, IsDownAnswer}
-use Rattle.rowex_scanning.specs.Scanning.{HasScanned, IsAnswer}
+use Rattle.rowex_scanning.specs.Directions.{IsAnswer, IsLawfulBy}
+use Rattle.rowex_scanning.specs.Scanning.{HasScanned}
+use Rattle.rowex_scanning.specs.declared.direction.Direction.{Direction}
+use Rattle.rowex_scanning.specs.declared.direction.Direction.TheVariants.{Upwards, Downwards}
 use Rattle.rowex_reading.proofs.Seeing.{seen_told, seen_steady}
 use Rattle.rowex_reading.proofs.Later.{event_recalls}
 
 -- What a scan has taken is lawful from the last load of the root to what the pass has seen.
-pub lawful_scan : (k : Known) (g : Range) (scan : Scan) (layout : Layout) (said : Known → List Note) (j : Known) → IsKey g.from → IsKey g.upto → (p : Pin) → k.pin ≡ Some p → HasScanned k g scan.pairs.items scan.more → IsEvent layout ClearPin said k j →
-    IsLawfulScan k.fresh.front k.front g.from g.upto g.limit scan
-lawful_scan k g scan layout said j kf ku p pin h event =
-    subst (λ (z : List Change). IsLawfulScan k.fresh.front z g.from g.upto g.limit scan) (sym event.knows.seen.fresh.1) (go scan.more refl (h.answer event.core event.lawful (event_recalls event)))
+pub lawful_scan : (d : Direction) (k : Known) (g : Range) (scan : Scan) (layout : Layout) (said : Known → List Note) (j : Known) → IsKey g.from → IsKey g.upto → (p : Pin) → k.pin ≡ Some p → HasScanned d k g scan.pairs.items scan.more → IsEvent layout ClearPin said k j →
+    IsLawfulBy d k.fresh.front k.front g.from g.upto g.limit scan
+lawful_scan d k g scan layout said j kf ku p pin h event =
+    subst (λ (z : List Change). IsLawfulBy d k.fresh.front z g.from g.upto g.limit scan) (sym event.knows.seen.fresh.1)
+    (go d scan.more refl h.pairs_are (h.answer event.core event.lawful (event_recalls event)))
   where
     told : TellChanges (seen event.core k) (k.fresh.front ++ event.knows.seen.fresh.0)
     told = subst (λ (z : List Change). TellChanges (seen event.core k) z) event.knows.seen.fresh.1 (seen_told event.lawful (event_recalls event))
@@ -33,32 +34,9 @@ lawful_scan k g scan layout said j kf ku p pin h event =
     steady : IsSteady (seen event.core k) p.moment
     steady = seen_steady event.lawful (event_recalls event) (p, pin, le_refl p.moment)
 
-    go : (more : Bool) → scan.more ≡ more → IsAnswer (seen event.core k) (since k) g h.taken scan.more →
-        IsLawfulScan k.fresh.front (k.fresh.front ++ event.knows.seen.fresh.0) g.from g.upto g.limit scan
-    go false e answer =
-        complete_lawful (seen event.core k) k.fresh.front event.knows.seen.fresh.0 p.moment steady told g kf ku h.taken scan h.pairs_are e
-        (subst (λ z. IsAnswer (seen event.core k) (since k) g h.taken z) e answer)
-    go true e answer =
-        cut_lawful (seen event.core k) k.fresh.front event.knows.seen.fresh.0 p.moment steady told g kf ku h.taken scan h.pairs_are e
-        (subst (λ z. IsAnswer (seen event.core k) (since k) g h.taken z) e answer)
-
--- What a scan downwards has taken is lawful from the last load of the root to what the pass has seen.
-pub lawful_scan_down : (k : Known) (g : Range) (scan : Scan) (layout : Layout) (said : Known → List Note) (j : Known) → IsKey g.from → IsKey g.upto → (p : Pin) → k.pin ≡ Some p → HasScannedDown k g scan.pairs.items scan.more → IsEvent layout ClearPin said k j →
-    IsLawfulReverseScan k.fresh.front k.front g.from g.upto g.limit scan
-lawful_scan_down k g scan layout said j kf ku p pin h event =
-    subst (λ (z : List Change). IsLawfulReverseScan k.fresh.front z g.from g.upto g.limit scan) (sym event.knows.seen.fresh.1) (go scan.more refl (h.answer event.core event.lawful (event_recalls event)))
-  where
-    told : TellChanges (seen event.core k) (k.fresh.front ++ event.knows.seen.fresh.0)
-    told = subst (λ (z : List Change). TellChanges (seen event.core k) z) event.knows.seen.fresh.1 (seen_told event.lawful (event_recalls event))
-
-    steady : IsSteady (seen event.core k) p.moment
-    steady = seen_steady event.lawful (event_recalls event) (p, pin, le_refl p.moment)
-
-    go : (more : Bool) → scan.more ≡ more → IsDownAnswer (seen event.core k) (since k) g h.taken scan.more →
-        IsLawfulReverseScan k.fresh.front (k.fresh.front ++ event.knows.seen.fresh.0) g.from g.upto g.limit scan
-    go false e answer =
-        complete_lawful_down (seen event.core k) k.fresh.front event.knows.seen.fresh.0 p.moment steady told g kf ku h.taken scan h.pairs_are e
-        (subst (λ z. IsDownAnswer (seen event.core k) (since k) g h.taken z) e answer)
-    go true e answer =
-        cut_lawful_down (seen event.core k) k.fresh.front event.knows.seen.fresh.0 p.moment steady told g kf ku h.taken scan h.pairs_are e
-        (subst (λ z. IsDownAnswer (seen event.core k) (since k) g h.taken z) e answer)
+    go : (d : Direction) (more : Bool) → scan.more ≡ more → scan.pairs.items ≡ turned h.taken → IsAnswer d (seen event.core k) (since k) g h.taken more →
+        IsLawfulBy d k.fresh.front (k.fresh.front ++ event.knows.seen.fresh.0) g.from g.upto g.limit scan
+    go Upwards false e pairs answer = complete_lawful (seen event.core k) k.fresh.front event.knows.seen.fresh.0 p.moment steady told g kf ku h.taken scan pairs e answer
+    go Upwards true e pairs answer = cut_lawful (seen event.core k) k.fresh.front event.knows.seen.fresh.0 p.moment steady told g kf ku h.taken scan pairs e answer
+    go Downwards false e pairs answer = complete_lawful_down (seen event.core k) k.fresh.front event.knows.seen.fresh.0 p.moment steady told g kf ku h.taken scan pairs e answer
+    go Downwards true e pairs answer = cut_lawful_down (seen event.core k) k.fresh.front event.knows.seen.fresh.0 p.moment steady told g kf ku h.taken scan pairs e answer

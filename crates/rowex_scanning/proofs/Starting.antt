@@ -31,7 +31,7 @@ use Rattle.rowex_walks.specs.Scan.{Range, IsBlank, IsRooted, IsPlaced, IsShaped,
 use Rattle.rowex_walks.proofs.Scans.{fit_down, fit_leaf, fit_near, fit_order, shaped_several}
 use Rattle.rowex_walks.specs.Reverse.{IsBeneath}
 use Rattle.rowex_walks.proofs.Downs.{at_beneath, sides_beneath}
-use Rattle.rowex_walks.proofs.Starts.{at_over, fit_sole, scan_start, sides, sides_over, stack_at, start_fits, AreAt, affected_from, start_place}
+use Rattle.rowex_walks.proofs.Starts.{fit_sole, scan_start, sides, sides_over, stack_at, start_fits, AreAt, affected_from, start_place}
 use Rattle.rowex_walks.proofs.Walk.{scan_skip, stack_place}
 use Rattle.rowex_reading.specs.Possible.{IsPossible}
 use Rattle.compound_node.specs.Nodes.{HeadView}
@@ -44,9 +44,14 @@ use Rattle.rowex_reading.proofs.Ways.{named_at, named_end, way_later}
 use Rattle.rowex_reading.specs.Ways.{IsMismatch, IsWayOf, IsWayNode, RootWas, named}
 use Rattle.rowex_reading.specs.declared.descent.Found.{Found}
 use Rattle.rowex_reading.specs.declared.descent.Found.TheVariants.{Leaf, Nothing}
-use Rattle.rowex_scanning.specs.Scanning.{AreBeneath, AreInside, AreOver, IsBegun, IsFirst, IsFloor, IsNotBelow, IsStart, IsWalk, frame, frames_of}
-use Rattle.rowex_scanning.specs.declared.scanning.Start.{Start}
-use Rattle.rowex_scanning.proofs.Walking.{beneath_append, over_append, IsAtEntry}
+use Rattle.rowex_scanning.specs.Directions.{IsNoLater, first_key, gap_before, gap_behind}
+use Rattle.rowex_scanning.specs.Scanning.{ArePastKey, AreInside, IsBound, IsReached, IsWalk, frame, frames_of}
+use Rattle.rowex_scanning.specs.Starts.{IsBegun, IsFirst, IsParting, IsStart}
+use Rattle.rowex_scanning.specs.declared.direction.Direction.{Direction}
+use Rattle.rowex_scanning.specs.declared.direction.Direction.TheVariants.{Upwards, Downwards}
+use Rattle.rowex_scanning.specs.declared.start.Start.{Start}
+use Rattle.rowex_scanning.proofs.Directed.{at_beyond}
+use Rattle.rowex_scanning.proofs.Walking.{beyond_append, walk_before, IsAtEntry}
 
 -- ---- the affected places, by the key
 key_first : (d : ℕ) (v : Key) (x : Page) → affected_first d (spot v x) x ≡ affected_from d v x
@@ -176,20 +181,13 @@ module _ (layout : Layout) (k : Known) (m : ℕ) (key : Key) (way : List Step) (
   abbrev StandsAt : (i : ℕ) → i < length way → Type 0
   StandsAt i h = Sure k (λ s. MayStandAt s m (stage i h).number (stage i h).place key)
 
-  -- what is right of their places is above it
-  are_over : (fs : List Stage) → Sure k (λ s. AreAt s m key fs) → AreOver k m key (frames_of fs)
-  are_over [] at = tt
-  are_over (f ∷ fs) at = over_append m key (frames_of fs) (frame f) (are_over fs (λ c lawful known. (at c lawful known).1))
-      (λ c lawful known. subst (λ n. IsOver (seen c k) m key f.number n) (let e : suc f.place ≡ f.place + 1 = omega arith in e) (at_over (seen c k) m f.number f.place key (at c lawful known).0))
-
-  -- what is left of them is below it
-  are_beneath : (fs : List Stage) → Sure k (λ s. AreAt s m key fs) → AreBeneath k m key (frames_of fs)
-  are_beneath [] at = tt
-  are_beneath (f ∷ fs) at = beneath_append m key (frames_of fs) (frame f) (are_beneath fs (λ c lawful known. (at c lawful known).1))
-      (λ c lawful known. at_beneath (seen c k) m f.number f.place key (at c lawful known).0)
-
-  all_beneath : (n : ℕ) (h : n ≤ length way) → Sure k (λ s. AreAt s m key (stages n h)) → AreBeneath k m key (take n way)
-  all_beneath n h at = subst (AreBeneath k m key) (sym (frames_are n h)) (are_beneath (stages n h) at)
+  -- what is behind their places comes later
+  are_beyond : (d : Direction) (n : ℕ) (h : n ≤ length way) → Sure k (λ s. AreAt s m key (stages n h)) → ArePastKey d k m key (take n way)
+  are_beyond d n h at = subst (ArePastKey d k m key) (sym (frames_are n h)) (go (stages n h) at)
+    where
+      go : (fs : List Stage) → Sure k (λ s. AreAt s m key fs) → ArePastKey d k m key (frames_of fs)
+      go [] at = tt
+      go (f ∷ fs) at = beyond_append d m key (frames_of fs) (frame f) (go fs (λ c lawful known. (at c lawful known).1)) (λ c lawful known. at_beyond d (seen c k) m f.number f.place key (at c lawful known).0)
 
   -- the step of a start is the way's
   of_step : (i : ℕ) (h : i < length way) (place : ℕ) (top : Step) → top ≡ record (step i h).0 { at = place } → (s : Step) → slice_get way i ≡ Some s → top ≡ record s { at = top.at }
@@ -201,9 +199,9 @@ module _ (layout : Layout) (k : Known) (m : ℕ) (key : Key) (way : List Step) (
   at_above i h at c lawful known = stack_at (seen c k) m (steady c lawful known) (stage i h) (stages i (down h)) (stack c lawful known (suc i) h) key (at c lawful known)
 
   -- ---- the walk from a node on
-  begins : (i : ℕ) (h : i < length way) (g : Range) → g.from ≡ key → (place : ℕ) → Sure k (λ s. IsScan s m g (record (stage i h) { place = place } ∷ stages i (down h)) []) →
-      (top : Step) → top ≡ record (step i h).0 { at = place } → IsWalk k m g top (take i way) []
-  begins i h g from place scan top is = record {
+  begins : (i : ℕ) (h : i < length way) (g : Range) → g.from ≡ key → (place : ℕ) → place ≤ size (stage i h).shape → Sure k (λ s. IsScan s m g (record (stage i h) { place = place } ∷ stages i (down h)) []) →
+      (top : Step) → top ≡ record (step i h).0 { at = place } → IsWalk Upwards k m g top (take i way) []
+  begins i h g from place fits scan top is = record {
     lowest = record (stage i h) { place = place };
     others = stages i (down h);
     taken = [];
@@ -211,6 +209,7 @@ module _ (layout : Layout) (k : Known) (m : ℕ) (key : Key) (way : List Step) (
     frames_are = frames_are i (down h);
     pairs_are = refl;
     room = (node i h).2.room;
+    fits = fits;
     inside = are_inside i (down h);
     pinned = w.since;
     scan = scan;
@@ -227,52 +226,52 @@ module _ (layout : Layout) (k : Known) (m : ℕ) (key : Key) (way : List Step) (
         (subst (λ z. AreAt (seen c k) m z (stages i (down h))) (sym from) (above c lawful known))
         (λ j z lt at. subst (IsBefore z) (sym from) (fit_order (seen c k) m (steady c lawful known) (stage i h).number j (stage i h).place lt z key at (stands c lawful known)))
 
-    floor_behind : (top : Step) → top ≡ record (step i h).0 { at = (step i h).0.at + 1 } → IsFloor k m key top (take i way)
-    floor_behind top is = record {
-      there = λ c lawful known. subst (λ (z : Step). IsOver (seen c k) m key z.number z.at) (sym is)
-          (subst (λ n. IsOver (seen c k) m key (stage i h).number n) (let e : suc (stage i h).place ≡ (stage i h).place + 1 = omega arith in e)
-          (at_over (seen c k) m (stage i h).number (stage i h).place key (stands c lawful known)));
-      right = subst (AreOver k m key) (sym (frames_are i (down h))) (are_over (stages i (down h)) above);
+    bound_behind : (top : Step) → top ≡ record (step i h).0 { at = suc (step i h).0.at } → IsBound Upwards k m key top (take i way)
+    bound_behind top is = record {
+      there = λ c lawful known. subst (λ (z : Step). IsOver (seen c k) m key z.number z.at) (sym is) (at_beyond Upwards (seen c k) m (stage i h).number (stage i h).place key (stands c lawful known));
+      above = are_beyond Upwards i (down h) above;
     }
 
     beneath : Sure k (λ s. IsBeneath s m key (step i h).0.number (step i h).0.at)
     beneath c lawful known = at_beneath (seen c k) m (stage i h).number (stage i h).place key (stands c lawful known)
 
-    place_fits : (step i h).0.at < (step i h).0.count
-    place_fits = subst (λ z. (step i h).0.at < z) (sym (node i h).2.count) (place_below i h)
-
     -- the leaf comes first
-    pub starts_at_leaf : IsAtMost key leaf_key → (top : Step) → top ≡ (step i h).0 → IsStart k m key way number (record { level = i; top = top; leaf = true })
+    pub starts_at_leaf : IsAtMost key leaf_key → (top : Step) → top ≡ (step i h).0 → IsParting k m key way number (record { level = i; top = top; leaf = true })
     starts_at_leaf le top is = record {
-      within = h;
-      walk = λ g from. begins i h g from (stage i h).place (scan_at g from) top is;
-      begun = subst (λ z. IsFirst k m key number z (take i way)) (sym is) (record {
-        found = leaf_key;
-        value = value;
-        inside = subst (λ z. (step i h).0.at < z) (sym (node i h).2.count) (place_below i h);
-        placed = placed_end i h last;
-        read = w.found_at.1;
-        above = le;
-        floor = floor_behind (record (step i h).0 { at = (step i h).0.at + 1 }) refl;
-      });
-      fits = subst (λ (z : Step). z.at ≤ z.count) (sym is) (let low = place_fits in omega (arith, low));
+      upwards = record {
+        within = h;
+        begun = subst (λ z. IsBegun true Upwards k m key number z (take i way)) (sym is) (
+          record {
+            found = leaf_key;
+            value = value;
+            inside = subst (λ z. (step i h).0.at < z) (sym (node i h).2.count) (place_below i h);
+            placed = placed_end i h last;
+            read = w.found_at.1;
+            reached = le;
+            bound = bound_behind (record (step i h).0 { at = suc (step i h).0.at }) refl;
+          },
+          λ g from. begins i h g from (stage i h).place (let low = place_below i h in omega (arith, low)) (scan_at g from) (step i h).0 refl,
+        );
+      };
       of_way = of_step i h (step i h).0.at top is;
-      left = all_beneath i (down h) above;
+      left = are_beyond Downwards i (down h) above;
       side = inl (subst (λ (z : Step). Sure k (λ s. IsBeneath s m key z.number z.at)) (sym is) beneath);
     }
 
     -- or it is below the key, and the scan starts behind it
-    pub starts_behind_leaf : IsBefore leaf_key key → (top : Step) → top ≡ record (step i h).0 { at = (step i h).0.at + 1 } → IsStart k m key way number (record { level = i; top = top; leaf = false })
+    pub starts_behind_leaf : IsBefore leaf_key key → (top : Step) → top ≡ record (step i h).0 { at = suc (step i h).0.at } → IsParting k m key way number (record { level = i; top = top; leaf = false })
     starts_behind_leaf low top is = record {
-      within = h;
-      walk = λ g from. begins i h g from ((step i h).0.at + 1) (λ c lawful known. subst (λ n. IsScan (seen c k) m g (record (stage i h) { place = n } ∷ stages i (down h)) [])
-          (let e : suc (stage i h).place ≡ (stage i h).place + 1 = omega arith in e)
-          (scan_skip (seen c k) m (steady c lawful known) g (stage i h) (stages i (down h)) [] (scan_at g from c lawful known) number leaf_key value
-          (placed_end i h last c lawful known) (w.found_at.1 c lawful known) (subst (IsBefore leaf_key) (sym from) low))) top is;
-      begun = floor_behind top is;
-      fits = subst (λ (z : Step). z.at ≤ z.count) (sym is) (let low = place_fits in omega (arith, low));
-      of_way = of_step i h ((step i h).0.at + 1) top is;
-      left = all_beneath i (down h) above;
+      upwards = record {
+        within = h;
+        begun = (
+          bound_behind top is,
+          λ g from. begins i h g from (suc (step i h).0.at) (place_below i h) (λ c lawful known.
+              scan_skip (seen c k) m (steady c lawful known) g (stage i h) (stages i (down h)) [] (scan_at g from c lawful known) number leaf_key value
+              (placed_end i h last c lawful known) (w.found_at.1 c lawful known) (subst (IsBefore leaf_key) (sym from) low)) top is,
+        );
+      };
+      of_way = of_step i h (suc (step i h).0.at) top is;
+      left = are_beyond Downwards i (down h) above;
       side = inr (record {
         apart = refl;
         last = last;
@@ -305,22 +304,25 @@ module _ (layout : Layout) (k : Known) (m : ℕ) (key : Key) (way : List Step) (
         (placed_next i h o c lawful known) ((node (suc i) o).2.shaped c lawful known) (leaf_fits c lawful known (suc i) o) (λ q lt. sym (agree q (omega (arith, lt, low))))
 
     pub starts_among : (i : ℕ) (h : i < length way) → 2 ≤ size (page_affected d key (stage i h).shape) → Sure k (λ s. AreAt s m key (stages i (down h))) →
-        (top : Step) → top ≡ record (step i h).0 { at = start_place d key (stage i h).shape } → IsStart k m key way number (record { level = i; top = top; leaf = false })
+        (top : Step) → top ≡ record (step i h).0 { at = start_place d key (stage i h).shape } → IsParting k m key way number (record { level = i; top = top; leaf = false })
     starts_among i h two at top is = record {
-      within = h;
-      walk = λ g from. begins i h g from (start_place d key (stage i h).shape) (λ c lawful known.
-          scan_start (seen c k) m (steady c lawful known) g (record (stage i h) { place = start_place d key (stage i h).shape }) (stages i (down h)) (stack_with c lawful known)
-          (subst (λ z. AreAt (seen c k) m z (stages i (down h))) (sym from) (at c lawful known))
-          (λ j z lt fit. subst (IsBefore z) (sym from) ((sides (seen c k) m (steady c lawful known) (stage i h).number (stage i h).shape ((node i h).2.shaped c lawful known) key leaf_key d agree
-          (fits_at i h c lawful known) ne two j z fit).0 lt))) top is;
-      begun = record {
-        there = λ c lawful known. subst (λ (z : Step). IsOver (seen c k) m key z.number z.at) (sym is)
-            (sides_over (seen c k) m (stage i h).number (stage i h).shape ((node i h).2.shaped c lawful known) key leaf_key d agree (fits_at i h c lawful known) ne two);
-        right = subst (AreOver k m key) (sym (frames_are i (down h))) (are_over (stages i (down h)) at);
+      upwards = record {
+        within = h;
+        begun = (
+          record {
+            there = λ c lawful known. subst (λ (z : Step). IsOver (seen c k) m key z.number z.at) (sym is)
+                (sides_over (seen c k) m (stage i h).number (stage i h).shape ((node i h).2.shaped c lawful known) key leaf_key d agree (fits_at i h c lawful known) ne two);
+            above = are_beyond Upwards i (down h) at;
+          },
+          λ g from. begins i h g from (start_place d key (stage i h).shape) (start_fits d key (stage i h).shape) (λ c lawful known.
+              scan_start (seen c k) m (steady c lawful known) g (record (stage i h) { place = start_place d key (stage i h).shape }) (stages i (down h)) (stack_with c lawful known)
+              (subst (λ z. AreAt (seen c k) m z (stages i (down h))) (sym from) (at c lawful known))
+              (λ j z lt fit. subst (IsBefore z) (sym from) ((sides (seen c k) m (steady c lawful known) (stage i h).number (stage i h).shape ((node i h).2.shaped c lawful known) key leaf_key d agree
+              (fits_at i h c lawful known) ne two j z fit).0 lt))) top is,
+        );
       };
-      fits = subst (λ (z : Step). z.at ≤ z.count) (sym is) (subst (λ z. start_place d key (stage i h).shape ≤ z) (sym (node i h).2.count) (start_fits d key (stage i h).shape));
       of_way = of_step i h (start_place d key (stage i h).shape) top is;
-      left = all_beneath i (down h) at;
+      left = are_beyond Downwards i (down h) at;
       side = inl (λ c lawful known. subst (λ (z : Step). IsBeneath (seen c k) m key z.number z.at) (sym is)
           (sides_beneath (seen c k) m (stage i h).number (stage i h).shape ((node i h).2.shaped c lawful known) key leaf_key d agree (fits_at i h c lawful known) ne two));
     }
@@ -329,7 +331,7 @@ module _ (layout : Layout) (k : Known) (m : ℕ) (key : Key) (way : List Step) (
         stack_with c lawful known = stack_place (seen c k) m (stage i h) (start_place d key (stage i h).shape) (stages i (down h)) (stack c lawful known (suc i) h)
 
   -- ---- where the search's leaf has the key
-  pub starts_same : differ ≡ None → (i : ℕ) → i + 1 ≡ length way → (top : Step) → slice_get way i ≡ Some top → IsStart k m key way number (record { level = i; top = top; leaf = true })
+  pub starts_same : differ ≡ None → (i : ℕ) → i + 1 ≡ length way → (top : Step) → slice_get way i ≡ Some top → IsParting k m key way number (record { level = i; top = top; leaf = true })
   starts_same none i last top at =
       let h : i < length way = omega (arith, last) in
       let same : key ≡ leaf_key = subst (IsMismatch key leaf_key) none w.found_at.2 in
@@ -366,17 +368,11 @@ module _ (layout : Layout) (k : Known) (m : ℕ) (key : Key) (way : List Step) (
     alone : (h : level < length way) → last ≤ first → StandsAt level h
     alone h le = stands_alone d apart.0 apart.1 level h (let n = count_is h in let p = size_pos (page_affected d key (stage level h).shape) in omega (arith, n, p, le))
 
-    place_at : Bool → Choice → ℕ
-    place_at u c = if u then c.last + 1 else c.first
-
-    leaf_at : Bool → Choice → Bool
-    leaf_at u c = if u then false else nat_eq c.first c.last
-
     abbrev Starts : Bool → ℕ → ℕ → ℕ → Type 0
-    Starts u i low high = (top t : Step) → slice_get way i ≡ Some t → top ≡ record t { at = if u then high + 1 else low } → IsStart k m key way number (record { level = i; top = top; leaf = (if u then false else nat_eq low high) })
+    Starts u i low high = (top t : Step) → slice_get way i ≡ Some t → top ≡ record t { at = if u then high + 1 else low } → IsParting k m key way number (record { level = i; top = top; leaf = (if u then false else nat_eq low high) })
 
-    leaf_is : {i : ℕ} {top : Step} {a b : Bool} → a ≡ b → IsStart k m key way number (record { level = i; top = top; leaf = a }) → IsStart k m key way number (record { level = i; top = top; leaf = b })
-    leaf_is {i} {top} e = subst (λ z. IsStart k m key way number (record { level = i; top = top; leaf = z })) e
+    leaf_is : {i : ℕ} {top : Step} {a b : Bool} → a ≡ b → IsParting k m key way number (record { level = i; top = top; leaf = a }) → IsParting k m key way number (record { level = i; top = top; leaf = b })
+    leaf_is {i} {top} e = subst (λ z. IsParting k m key way number (record { level = i; top = top; leaf = z })) e
 
     no_leaf : (u : Bool) (low high : ℕ) → low < high → false ≡ (if u then false else nat_eq low high)
     no_leaf true low high lt = refl
@@ -432,7 +428,7 @@ module _ (layout : Layout) (k : Known) (m : ℕ) (key : Key) (way : List Step) (
         other : (u : Bool) → bit key d ≡ u → (o : Bool) → bit leaf_key d ≡ o → u ≢ o
         other u e o f same = apart.1 (e ∙ (same ∙ sym f))
 
-        go : (u : Bool) → bit key d ≡ u → top ≡ record t { at = if u then last + 1 else first } → IsStart k m key way number (record { level = level; top = top; leaf = (if u then false else nat_eq first last) })
+        go : (u : Bool) → bit key d ≡ u → top ≡ record t { at = if u then last + 1 else first } → IsParting k m key way number (record { level = level; top = top; leaf = (if u then false else nat_eq first last) })
         go true b e = starts_behind_leaf level h end (alone h le) (d, ((λ q lt. sym (apart.0 q lt)), is_false (bit leaf_key d) refl, b)) top
             (e ∙ (ap (λ (z : Step). let y : Step = record z { at = last + 1 } in y) is_step ∙ ap (λ z. let y : Step = record (step level h).0 { at = z } in y) (let g = at_is in let f = around.2 in omega (arith, g, f))))
           where
@@ -496,11 +492,11 @@ module _ (layout : Layout) (k j : Known) (m : ℕ) (key : Key) (way : List Step)
 
   abbrev StartsThere : Type 0
   StartsThere = (u : Bool) → bit_of key d ≡ u → (t : Step) → slice_get way c.level ≡ Some t → (place : ℕ) → place ≡ (if u then c.last + 1 else c.first) → (comes : Bool) →
-      comes ≡ (if u then false else nat_eq c.first c.last) → IsStart j m key way number (record { level = c.level; top = record t { at = place }; leaf = comes })
+      comes ≡ (if u then false else nat_eq c.first c.last) → IsParting j m key way number (record { level = c.level; top = record t { at = place }; leaf = comes })
 
   started : StartsThere
   started u b t at place place_eq comes comes_eq =
-      subst (λ z. IsStart j m key way number (record { level = c.level; top = record t { at = place }; leaf = z })) (sym comes_eq)
+      subst (λ z. IsParting j m key way number (record { level = c.level; top = record t { at = place }; leaf = z })) (sym comes_eq)
       (starts_apart layout j m key way number value differ then_found possible d differs level is s there (shape_of head) shapes first last from upto u b c chosen (record t { at = place }) t at
       (ap (λ z. let y : Step = record t { at = z } in y) place_eq))
 
@@ -534,48 +530,48 @@ leaf_rooted layout k key way number value differ none w = (w.since, subst (λ z.
 pub read_same : (s : Past) (m : ℕ) → IsSteady s m → (n : ℕ) (a b : Key) (v u : ℕ) → IsRead s m n a v → IsRead s m n b u → a ≡ b
 read_same s m steady n a b v u (o, lo, hi, st) (p, lo2, hi2, su) = (steady.same (a_leaf n) o p (leaf n a v) (leaf n b u) lo hi lo2 hi2 st su).0
 
--- The leaf that was found is not below the first key.
-first_above : (layout : Layout) {k : Known} (m : ℕ) (from : Key) (number : ℕ) (top : Step) (frames : List Step) → IsFirst k m from number top frames → IsSince k m → IsNotBelow layout k m from number
-first_above layout {k} m from number top frames f pinned j l possible key value read =
+-- The leaf that was found does not come before the first key.
+first_reached : {d : Direction} (layout : Layout) {k : Known} (m : ℕ) (key : Key) (number : ℕ) {top : Step} {frames : List Step} → IsFirst d k m key number top frames → IsSince k m → IsReached d layout k m key number
+first_reached {d} layout {k} m key number f pinned j l possible other value read =
     let c = possible.core in let known = recalls c j possible.knows in
     let steady = seen_steady possible.lawful known (since_later l pinned) in
     let old = sure_later {P = λ s. IsRead s m number f.found f.value} (read_stable m number f.found f.value) l f.read in
-    subst (IsAtMost from) (read_same (seen c j) m steady number f.found key f.value value (old c possible.lawful known) (read c possible.lawful known)) f.above
+    subst (IsNoLater d key) (read_same (seen c j) m steady number f.found other f.value value (old c possible.lawful known) (read c possible.lawful known)) f.reached
 
 -- ---- where a scan begins, with no pairs yet
-pub record HasBegun (layout : Layout) (k : Known) (m : ℕ) (g : Range) (number : ℕ) (start : Start) (frames : List Step) (pairs : List (Key × ℕ)) : Type 0 where
-  pub walk : IsWalk k m g start.top frames pairs
+pub record HasBegun (d : Direction) (layout : Layout) (k : Known) (m : ℕ) (g : Range) (number : ℕ) (start : Start) (frames : List Step) (pairs : List (Key × ℕ)) : Type 0 where
   -- the leaf of the search may come first,
-  pub entry : start.leaf ≡ true → IsAtEntry k m g start.top frames pairs (LeafEntry number)
-  pub above : start.leaf ≡ true → IsNotBelow layout k m g.from number
-  pub behind : start.leaf ≡ true → IsFloor k m g.from (record start.top { at = start.top.at + 1 }) frames
-  -- or what stands at the place
-  pub floor : start.leaf ≡ false → IsFloor k m g.from start.top frames
+  pub entry : start.leaf ≡ true → IsAtEntry d k m g start.top frames pairs (LeafEntry number)
+  pub reached : start.leaf ≡ true → IsReached d layout k m (first_key d g) number
+  pub behind : start.leaf ≡ true → IsBound d k m (first_key d g) (record start.top { at = gap_behind d start.top.at }) frames
+  -- or the walk is at a gap
+  pub walk : start.leaf ≡ false → IsWalk d k m g start.top frames pairs
+  pub bound : start.leaf ≡ false → IsBound d k m (first_key d g) start.top frames
 
 -- From a start on the search's way, of which the nodes above the start are left.
-pub begun : {layout : Layout} {j k : Known} {m : ℕ} {way steps frames : List Step} {number value : ℕ} {differ : Option ℕ} {start : Start} {pairs : List (Key × ℕ)} (g : Range) →
-    IsWayOf layout j m g.from way (Leaf number value differ) → steps ≡ way →
-    ((n v : ℕ) → IsWayOf layout j n g.from steps (Leaf number v differ) → IsStart k n g.from steps number start) → frames ≡ take start.level way → pairs ≡ [] →
-    HasBegun layout k m g number start frames pairs
-begun {layout} {j} {k} {m} {way} {steps} {frames} {number} {value} {differ} {start} {pairs} g w same starts left none = record {
-  walk = walk;
-  entry = λ is. record { walk = walk; inside = (first is).inside; placed = (first is).placed };
-  above = λ is. first_above layout m g.from number start.top frames (first is) walk.pinned;
-  behind = λ is. (first is).floor;
-  floor = λ is. begins is;
+pub begun : {d : Direction} {layout : Layout} {j k : Known} {m : ℕ} {key : Key} {way steps frames : List Step} {number value : ℕ} {differ : Option ℕ} {start : Start} {pairs : List (Key × ℕ)} (g : Range) →
+    key ≡ first_key d g → IsWayOf layout j m (first_key d g) way (Leaf number value differ) → steps ≡ way →
+    ((n v : ℕ) → IsWayOf layout j n key steps (Leaf number v differ) → IsStart d k n key steps number start) → frames ≡ take start.level way → pairs ≡ [] →
+    HasBegun d layout k m g number start frames pairs
+begun {d} {layout} {j} {k} {m} {key} {way} {steps} {frames} {number} {value} {differ} {start} {pairs} g key_is w same starts left none = record {
+  entry = λ is. record { walk = walk_before start.top (there (record start.top { at = gap_before d start.top.at }) ((first is).1 g (sym key_is))) (first is).0.inside refl; placed = (first is).0.placed };
+  reached = λ is. subst (λ z. IsReached d layout k m z number) key_is (first_reached layout m key number (first is).0 ((first is).1 g (sym key_is)).pinned);
+  behind = λ is. subst (λ z. IsBound d k m z (record start.top { at = gap_behind d start.top.at }) frames) key_is (first is).0.bound;
+  walk = λ is. there start.top ((begins is).1 g (sym key_is));
+  bound = λ is. subst (λ z. IsBound d k m z start.top frames) key_is (begins is).0;
 }
   where
-    s : IsStart k m g.from steps number start
-    s = starts m value (subst (λ z. IsWayOf layout j m g.from z (Leaf number value differ)) (sym same) w)
+    s : IsStart d k m key steps number start
+    s = starts m value (subst (λ z. IsWayOf layout j m key z (Leaf number value differ)) (sym same) (subst (λ z. IsWayOf layout j m z way (Leaf number value differ)) (sym key_is) w))
 
     above_are : take start.level steps ≡ frames
     above_are = ap (take start.level) same ∙ sym left
 
-    walk : IsWalk k m g start.top frames pairs
-    walk = subst (λ z. IsWalk k m g start.top frames z) (sym none) (subst (λ z. IsWalk k m g start.top z []) above_are (s.walk g refl))
+    there : (top : Step) → IsWalk d k m g top frames [] → IsWalk d k m g top frames pairs
+    there top = subst (λ z. IsWalk d k m g top frames z) (sym none)
 
-    begins : {b : Bool} → start.leaf ≡ b → IsBegun b k m g.from number start.top frames
-    begins {b} is = subst (λ z. IsBegun b k m g.from number start.top z) above_are (subst (λ z. IsBegun z k m g.from number start.top (take start.level steps)) is s.begun)
+    begins : {b : Bool} → start.leaf ≡ b → IsBegun b d k m key number start.top frames
+    begins {b} is = subst (λ z. IsBegun b d k m key number start.top z) above_are (subst (λ z. IsBegun z d k m key number start.top (take start.level steps)) is s.begun)
 
-    first : start.leaf ≡ true → IsFirst k m g.from number start.top frames
+    first : start.leaf ≡ true → IsBegun true d k m key number start.top frames
     first is = begins is

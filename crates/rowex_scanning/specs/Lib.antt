@@ -1,4 +1,5 @@
 -- The definitions of the crate.
+pub mod Directions
 pub mod Scanning
-pub mod Reverse
+pub mod Starts
 pub mod Counts

@@ -1,10 +1,11 @@
-//! Scans of a shared trie: a pinned pass walks from the first key of a range on, and is sure of what it gives, whatever other
-//! passes publish meanwhile.
+//! Scans of a shared trie: a pinned pass walks from the first key of a range on, or from the last one downwards, and is sure of what it
+//! gives, whatever other passes publish meanwhile.
 #![tactic(auto)]
 
+mod direction;
 mod loading;
-mod reverse;
 mod scanning;
+mod start;
 
-pub use reverse::scan_root_down;
+pub use direction::Direction;
 pub use scanning::{Range, scan_root};

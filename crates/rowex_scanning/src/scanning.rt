@@ -1,24 +1,26 @@
-//! The walk of a scan: the pairs of a range of keys, in the order of the keys, as a pinned pass reads them.
+//! The walk of a scan: the pairs of a range of keys, in the order of its direction, as a pinned pass reads them.
 
 ghost use Rattle.std.specs.Prelude.{◌≡◌, ◌≢◌, ◌≤◌, ◌<◌, ◌+◌, ℕ, [], IfOk, IsSome, IsTrue, OnErr, false, length};
 ghost use Rattle.compound_node.specs.declared.entries.Entry.TheVariants.{Leaf as LeafEntry, Node as NodeEntry};
 ghost use Rattle.key_bits.specs.Key.{IsKey};
 ghost use Rattle.record_words.specs.declared.TheConstants.{HEAD_WORDS, LEAF_FIELDS};
 ghost use Rattle.record_words.specs.Leaf.{key_word};
-ghost use Rattle.tries.specs.Keys.{IsAtMost, IsBefore};
 ghost use Rattle.rowex_table.specs.Seats.{IsSeatOf};
-ghost use Rattle.rowex_reading.specs.Possible.{IsPossible};
 ghost use Rattle.rowex_reading.specs.Reads.{IsReader, Reads};
 ghost use Rattle.rowex_reading.specs.Seen.{IsAtRoot, IsLedTo, since};
 ghost use Rattle.rowex_reading.specs.Ways.{IsWayOf};
 ghost use Rattle.rowex_reading.specs.declared.descent.Found.TheVariants.{Leaf as FoundLeaf};
 ghost use Rattle.rowex_scanning.specs.Counts.{Scans, Walks, scan_loads};
-ghost use Rattle.rowex_scanning.specs.Scanning.{HasScanned, HasScannedPart, IsEntered, IsFloor, IsLeafRefused, IsLeafTaken, IsNotBelow, IsPairRefused, IsPairTaken, IsStart, IsWalk, asked_range};
+ghost use Rattle.rowex_scanning.specs.Directions.{IsEarlier, IsNoLater, last_key};
+ghost use Rattle.rowex_scanning.specs.Directions.{first_key as first_key_of};
+ghost use Rattle.rowex_scanning.specs.Scanning.{HasScanned, HasScannedPart, IsBound, IsEntered, IsLeafRefused, IsLeafTaken, IsPairRefused, IsPairTaken, IsReached, IsWalk, asked_range};
 
+use crate::direction::{Direction, behind, first_gap, is_before, is_earlier, next_place};
 use crate::loading::load_bytes;
+use crate::start::start_from;
 use arrayvec::ArrayVec;
 use compound_node::Entry;
-use insert_cases::{Step, choose, level_below};
+use insert_cases::Step;
 use key_bits::{Key, MAX_BYTES};
 use packed_pairs::Pairs;
 use record_words::key_word_at;
@@ -36,20 +38,10 @@ pub struct Range<'a> {
     pub from: &'a Key,
     /// The last key of the range, which belongs to it. Where it is before the first one, the range is empty.
     pub upto: &'a Key,
+    /// Whether the scan goes from the first key upwards, or from the last one downwards.
+    pub direction: Direction,
     /// How many pairs the scan gives at most.
     pub limit: usize,
-}
-
-/// Where a scan starts on the way of the search for its first key.
-#[derive(Clone, Copy)]
-pub(crate) struct Start {
-    /// The level of the node in which it starts.
-    pub level: usize,
-    /// That node, with the place at which the scan starts.
-    pub top: Step,
-    /// Whether the leaf at which the search ended comes first. It stands at the place, and is not looked for there again: by
-    /// now there may be another entry, with keys below the range.
-    pub leaf: bool,
 }
 
 /// What becomes of a scan at a pair.
@@ -63,9 +55,11 @@ pub(crate) enum Verdict {
     Full,
 }
 
-/// The scan of a pinned pass: the first pairs of the range, so many as the limit says, take the place of those in the list; and it
-/// answers whether there is a further one. An error where memory is refused: then too the pass has made loads alone, and the list has
-/// the first pairs, fewer than the limit, and there is a further one. The nodes of its way are left in `way`, which need not be empty.
+/// The scan of a pinned pass: the first pairs of the range in the scan's direction, so many as the limit says, take the place of those
+/// in the list; and it answers whether there is a further one. An error where memory is refused: then too the pass has made loads
+/// alone, and the list has the first of these pairs, fewer than the limit, and there is a further one. The nodes of its way are left in
+/// `way`, which need not be empty. Inline, as the two that walk below a node are, so that a caller has a walk of its own direction.
+#[inline(always)]
 pub fn scan_root<G: Gate>(
     table: &HotTable,
     seat: &mut TableSeat,
@@ -78,8 +72,8 @@ pub fn scan_root<G: Gate>(
     requires pinned { IsSome seat.old.known.pin }
     ensures looks { Scans table.now G.becomes range.now.limit (seat.old, gate.old) (seat.new, gate.new) }
     ensures keys { IsKey range.now.from.now × IsKey range.now.upto.now }
-    ensures scanned { IfOk result (HasScanned seat.new.known (asked_range range.now) pairs.new) }
-    ensures part { OnErr result (HasScannedPart seat.new.known (asked_range range.now) pairs.new) }
+    ensures scanned { IfOk result (HasScanned range.now.direction seat.new.known (asked_range range.now) pairs.new) }
+    ensures part { OnErr result (HasScannedPart range.now.direction seat.new.known (asked_range range.now) pairs.new) }
     ensures few { seat.new.known.steps ≤ seat.old.known.steps + (1 + scan_loads range.now.limit) }
 {
     pairs.clear();
@@ -87,7 +81,7 @@ pub fn scan_root<G: Gate>(
         load_root(table, seat, gate);
         return Ok(false);
     }
-    match search_way(table, seat, gate, range.from, way) {
+    match search_way(table, seat, gate, first_key(range), way) {
         Found::Nothing => Ok(false),
         Found::Leaf {
             number,
@@ -100,6 +94,17 @@ pub fn scan_root<G: Gate>(
                 scan_node(table, seat, gate, way, range, number, mismatch, pairs)
             }
         }
+    }
+}
+
+/// The first key of the range in the scan's direction.
+#[inline(always)]
+fn first_key<'a>(range: &'a Range) -> &'a Key
+    ensures { result.now ≡ first_key_of range.now.direction (asked_range range.now) }
+{
+    match range.direction {
+        Direction::Upwards => range.from,
+        Direction::Downwards => range.upto,
     }
 }
 
@@ -116,13 +121,13 @@ fn scan_leaf<G: Gate>(
     requires root { IsAtRoot seat.old.known (LeafEntry number) }
     requires empty { pairs.old ≡ [] }
     ensures reads { (n : ℕ) × (n ≤ LEAF_FIELDS) × Reads table.now G.becomes 0 n (seat.old, gate.old) (seat.new, gate.new) }
-    ensures scanned { IfOk result (HasScanned seat.new.known (asked_range range.now) pairs.new) }
-    ensures part { OnErr result (HasScannedPart seat.new.known (asked_range range.now) pairs.new) }
+    ensures scanned { IfOk result (HasScanned range.now.direction seat.new.known (asked_range range.now) pairs.new) }
+    ensures part { OnErr result (HasScannedPart range.now.direction seat.new.known (asked_range range.now) pairs.new) }
 {
     let mut places = [0; MAX_BYTES];
     let (length, value) = load_places(table, seat, gate, number, &mut places);
     let key = &places[..length];
-    if is_before(key, range.from.as_bytes()) {
+    if is_earlier(range.direction, key, first_key(range).as_bytes()) {
         return Ok(false);
     }
     match take_pair(pairs, range, key, value)? {
@@ -132,6 +137,7 @@ fn scan_leaf<G: Gate>(
 }
 
 /// The scan from a root that is a node, below which the search for the range's first key has ended at this leaf.
+#[inline(always)]
 fn scan_node<G: Gate>(
     table: &HotTable,
     seat: &mut TableSeat,
@@ -144,19 +150,29 @@ fn scan_node<G: Gate>(
 ) -> Result<bool, AllocError>
     requires reader { IsReader table.now seat.old }
     requires nodes { 0 < length way.old.items }
-    requires way { (v : ℕ) × IsWayOf table.now.layout seat.old.known (since seat.old.known) range.now.from.now way.old.items (FoundLeaf number v mismatch) }
+    requires way { (v : ℕ) × IsWayOf table.now.layout seat.old.known (since seat.old.known) (first_key_of range.now.direction (asked_range range.now)) way.old.items (FoundLeaf number v mismatch) }
     requires empty { pairs.old ≡ [] }
     ensures reads { Walks table.now G.becomes (HEAD_WORDS + LEAF_FIELDS) range.now.limit (seat.old, gate.old) (seat.new, gate.new) }
-    ensures scanned { IfOk result (HasScanned seat.new.known (asked_range range.now) pairs.new) }
-    ensures part { OnErr result (HasScannedPart seat.new.known (asked_range range.now) pairs.new) }
+    ensures scanned { IfOk result (HasScanned range.now.direction seat.new.known (asked_range range.now) pairs.new) }
+    ensures part { OnErr result (HasScannedPart range.now.direction seat.new.known (asked_range range.now) pairs.new) }
 {
-    let start = start_at(table, seat, gate, way, range.from, number, mismatch);
+    let direction = range.direction;
+    let start = start_from(
+        table,
+        seat,
+        gate,
+        way,
+        direction,
+        first_key(range),
+        number,
+        mismatch,
+    );
     let mut top = start.top;
     way.truncate(start.level);
     let mut places = [0; MAX_BYTES];
     if start.leaf {
         match take_leaf(table, seat, gate, range, number, &mut places, pairs)? {
-            Verdict::Further => top.at += 1,
+            Verdict::Further => top.at = behind(direction, top.at),
             Verdict::Past => return Ok(false),
             Verdict::Full => return Ok(true),
         }
@@ -164,49 +180,9 @@ fn scan_node<G: Gate>(
     walk(table, seat, gate, way, range, top, &mut places, pairs)
 }
 
-/// Where a scan from a key starts on the way of the key's search, which ended at this leaf. The position at which the leaf's
-/// key differs first parts the range's first key from those of the entries that it affects, and these from all others: so the
-/// scan starts at the first of them, or behind the last.
-pub(crate) fn start_at<G: Gate>(
-    table: &HotTable,
-    seat: &mut TableSeat,
-    gate: &mut G,
-    way: &[Step],
-    from: &Key,
-    _number: u32,
-    mismatch: Option<u16>,
-) -> Start
-    requires reader { IsReader table.now seat.old }
-    requires nodes { 0 < length way.now }
-    requires way { (m v : ℕ) × IsWayOf table.now.layout seat.old.known m from.now way.now (FoundLeaf _number v mismatch) }
-    ensures reads { (n : ℕ) × (n ≤ HEAD_WORDS) × Reads table.now G.becomes 0 n (seat.old, gate.old) (seat.new, gate.new) }
-    ensures start { (m v : ℕ) → IsWayOf table.now.layout seat.old.known m from.now way.now (FoundLeaf _number v mismatch) →
-        IsStart seat.new.known m from.now way.now _number result }
-{
-    let lowest = way.len() - 1;
-    let Some(position) = mismatch else {
-        return Start {
-            level: lowest,
-            top: way[lowest],
-            leaf: true,
-        };
-    };
-    let below = from.bit(position);
-    let level = level_below(way, position);
-    let head = load_head(table, seat, gate, way[level].number);
-    let (first, last) = head.affected(way[level].at, position);
-    let part = choose(way, level, first, last);
-    let mut top = way[part.level];
-    top.at = if below { part.last + 1 } else { part.first };
-    Start {
-        level: part.level,
-        top,
-        leaf: !below && part.first == part.last,
-    }
-}
-
-/// The walk over the places of the nodes on the way, from left to right, from the lowest of them on. The bytes of each key go to the
-/// same places, whatever stands there.
+/// The walk over the places of the nodes on the way, in the scan's direction, from a gap of the lowest of them on. The bytes of each key
+/// go to the same places, whatever stands there.
+#[inline(always)]
 fn walk<G: Gate>(
     table: &HotTable,
     seat: &mut TableSeat,
@@ -218,23 +194,25 @@ fn walk<G: Gate>(
     pairs: &mut Pairs,
 ) -> Result<bool, AllocError>
     requires reader { IsReader table.now seat.old }
-    requires walk { IsWalk seat.old.known (since seat.old.known) (asked_range range.now) lowest way.old.items pairs.old }
-    requires floor { IsFloor seat.old.known (since seat.old.known) range.now.from.now lowest way.old.items }
+    requires walk { IsWalk range.now.direction seat.old.known (since seat.old.known) (asked_range range.now) lowest way.old.items pairs.old }
+    requires bound { IsBound range.now.direction seat.old.known (since seat.old.known) (first_key_of range.now.direction (asked_range range.now)) lowest way.old.items }
     ensures reads { Walks table.now G.becomes 0 range.now.limit (seat.old, gate.old) (seat.new, gate.new) }
-    ensures scanned { IfOk result (HasScanned seat.new.known (asked_range range.now) pairs.new) }
-    ensures part { OnErr result (HasScannedPart seat.new.known (asked_range range.now) pairs.new) }
+    ensures scanned { IfOk result (HasScanned range.now.direction seat.new.known (asked_range range.now) pairs.new) }
+    ensures part { OnErr result (HasScannedPart range.now.direction seat.new.known (asked_range range.now) pairs.new) }
 {
+    let direction = range.direction;
     let mut top = lowest;
     loop {
-        if top.at < top.count {
-            match load_entry(table, seat, gate, top.number, top.at) {
+        if let Some(place) = next_place(direction, &top) {
+            top.at = place;
+            match load_entry(table, seat, gate, top.number, place) {
                 Entry::Node { number, .. } => {
                     way.push(top);
-                    top = enter(table, seat, gate, number);
+                    top = enter(table, seat, gate, direction, number);
                 }
                 Entry::Leaf(number) => {
                     match take_leaf(table, seat, gate, range, number, places, pairs)? {
-                        Verdict::Further => top.at += 1,
+                        Verdict::Further => top.at = behind(direction, place),
                         Verdict::Past => return Ok(false),
                         Verdict::Full => return Ok(true),
                     }
@@ -244,7 +222,7 @@ fn walk<G: Gate>(
             match way.pop() {
                 Some(above) => {
                     top = above;
-                    top.at += 1;
+                    top.at = behind(direction, above.at);
                 }
                 None => return Ok(false),
             }
@@ -252,23 +230,24 @@ fn walk<G: Gate>(
     }
 }
 
-/// Goes to a node: reads its head, and begins at its first place.
-pub(crate) fn enter<G: Gate>(
+/// Goes to a node: reads its head, and begins at the gap before its first entry.
+fn enter<G: Gate>(
     table: &HotTable,
     seat: &mut TableSeat,
     gate: &mut G,
+    direction: Direction,
     number: u32,
 ) -> Step
     requires reader { IsReader table.now seat.old }
     requires led { (m h : ℕ) × IsLedTo seat.old.known m (NodeEntry number h) }
     ensures reads { (n : ℕ) × (n ≤ HEAD_WORDS) × Reads table.now G.becomes 0 n (seat.old, gate.old) (seat.new, gate.new) }
-    ensures entered { (m h : ℕ) → IsLedTo seat.old.known m (NodeEntry number h) → IsEntered seat.new.known m number h result }
+    ensures entered { (m h : ℕ) → IsLedTo seat.old.known m (NodeEntry number h) → IsEntered direction seat.new.known m number h result }
 {
     let head = load_head(table, seat, gate, number);
-    step_of(&head, number, 0)
+    step_of(&head, number, first_gap(direction, head.count()))
 }
 
-/// Loads a leaf whose key is not below the range, to these places, and takes its pair. Inline, as the two that it calls are.
+/// Loads a leaf whose key does not come before the range, to these places, and takes its pair. Inline, as the two that it calls are.
 #[inline(always)]
 fn take_leaf<G: Gate>(
     table: &HotTable,
@@ -280,16 +259,16 @@ fn take_leaf<G: Gate>(
     pairs: &mut Pairs,
 ) -> Result<Verdict, AllocError>
     requires reader { IsReader table.now seat.old }
-    requires leaf { (m : ℕ) × IsLedTo seat.old.known m (LeafEntry number) × IsNotBelow table.now.layout seat.old.known m range.now.from.now number }
+    requires leaf { (m : ℕ) × IsLedTo seat.old.known m (LeafEntry number) × IsReached range.now.direction table.now.layout seat.old.known m (first_key_of range.now.direction (asked_range range.now)) number }
     ensures reads { (n : ℕ) × (n ≤ LEAF_FIELDS) × Reads table.now G.becomes 0 n (seat.old, gate.old) (seat.new, gate.new) }
-    ensures taken { IfOk result (IsLeafTaken seat.old.known seat.new.known (asked_range range.now) number pairs.old pairs.new) }
+    ensures taken { IfOk result (IsLeafTaken range.now.direction seat.old.known seat.new.known (asked_range range.now) number pairs.old pairs.new) }
     ensures refused { OnErr result (IsLeafRefused seat.old.known seat.new.known (asked_range range.now) number pairs.old pairs.new) }
 {
     let (length, value) = load_bytes(table, seat, gate, number, places);
     take_pair(pairs, range, &places[..length], value)
 }
 
-/// Takes a pair whose key is not below the range, if it belongs to the range and there is room for it. Inline, so that the key's
+/// Takes a pair whose key does not come before the range, if it belongs to the range and there is room for it. Inline, so that the key's
 /// bytes go at once from where they were read to their place among the pairs.
 #[inline(always)]
 fn take_pair(
@@ -299,8 +278,8 @@ fn take_pair(
     value: u64,
 ) -> Result<Verdict, AllocError>
     requires key { IsKey key.now }
-    requires above { IsAtMost range.now.from.now key.now }
-    ensures taken { IfOk result (IsPairTaken (asked_range range.now) pairs.old key.now value pairs.new) }
+    requires reached { IsNoLater range.now.direction (first_key_of range.now.direction (asked_range range.now)) key.now }
+    ensures taken { IfOk result (IsPairTaken range.now.direction (asked_range range.now) pairs.old key.now value pairs.new) }
     ensures refused { OnErr result (IsPairRefused (asked_range range.now) pairs.old key.now pairs.new) }
 {
     if is_past(range, key) {
@@ -313,18 +292,23 @@ fn take_pair(
     Ok(Verdict::Further)
 }
 
-/// Whether a key is past the range. Mostly the first eight bytes tell that it is not, as one number each.
+/// Whether a key is past the range. In a scan upwards mostly the first eight bytes tell that it is not, as one number each.
 #[inline(always)]
 fn is_past(range: &Range, key: &[u8]) -> bool
     requires key { IsKey key.now }
-    ensures past { IsTrue result → IsBefore range.now.upto.now key.now }
-    ensures at_most { result ≡ false → IsAtMost key.now range.now.upto.now }
+    ensures past { IsTrue result → IsEarlier range.now.direction (last_key range.now.direction (asked_range range.now)) key.now }
+    ensures inside { result ≡ false → IsNoLater range.now.direction key.now (last_key range.now.direction (asked_range range.now)) }
 {
-    let upto = range.upto.as_bytes();
-    if key.len() >= 8 && first_word(key) < key_word_at(range.upto, 0) {
-        return false;
+    match range.direction {
+        Direction::Upwards => {
+            let upto = range.upto.as_bytes();
+            if key.len() >= 8 && first_word(key) < key_word_at(range.upto, 0) {
+                return false;
+            }
+            is_before(upto, key)
+        }
+        Direction::Downwards => is_before(key, range.from.as_bytes()),
     }
-    is_before(upto, key)
 }
 
 /// The first eight bytes as a number, the first of them highest.
@@ -336,14 +320,4 @@ fn first_word(key: &[u8]) -> u64
     let mut eight = [0; 8];
     eight.copy_from_slice(&key[..8]);
     u64::from_be_bytes(eight)
-}
-
-/// Whether the key with the first bytes is before that with the second: their first different byte says what their first different
-/// bit does.
-pub(crate) fn is_before(first: &[u8], second: &[u8]) -> bool
-    requires keys { IsKey first.now × IsKey second.now }
-    ensures before { IsTrue result → IsBefore first.now second.now }
-    ensures at_most { result ≡ false → IsAtMost second.now first.now }
-{
-    first.cmp(second).is_lt()
 }

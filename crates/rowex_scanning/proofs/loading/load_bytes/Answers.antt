@@ -1,5 +1,5 @@
 -- What the loads of a leaf tell.
-use Rattle.std.proofs.Common.{rules, ◌≡◌, ◌+◌, subst, sym, arith, lit≤, refl, take}
+use Rattle.std.proofs.Common.{rules, ◌≡◌, ◌+◌, subst, sym, arith, lit≤, take}
 use Rattle.compound_node.specs.declared.entries.Entry.TheVariants.{Leaf}
 use Rattle.moments.specs.declared.Rec.TheVariants.{Leaf as a_leaf}
 use Rattle.key_bits.specs.declared.TheConstants.{MAX_BYTES}

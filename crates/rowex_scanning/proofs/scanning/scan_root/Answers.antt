@@ -3,6 +3,7 @@ use Rattle.std.proofs.Common.{subst, ◌∙◌, arith}
 use Rattle.rowex_reading.specs.Seen.{since}
 use Rattle.rowex_reading.proofs.Led.{looks_first, looks_same, reads_none}
 use Rattle.rowex_reading.specs.Ways.{IsWayOf}
+use Rattle.rowex_reading.specs.declared.descent.Found.TheVariants.{Leaf}
 use Rattle.tries.specs.Keys.{IsBefore}
 use Rattle.rowex_scanning.specs.Scanning.{asked_range}
 use Rattle.rowex_scanning.proofs.Starting.{leaf_rooted, nothing_blank}
@@ -27,7 +28,7 @@ returns-in-Nothing-clause-looks g c =
 
 pub returns-in-Nothing-clause-scanned : goal.returns-in-Nothing-clause-scanned
 returns-in-Nothing-clause-scanned g c =
-    let w = subst (IsWayOf c.args.table.now.layout c.search_way.new.seat.known (since c.search_way.new.seat.known) c.args.range.now.from.now c.search_way.new.way.items) c.in-Nothing.is c.search_way.ensures.way in
+    let w = subst (IsWayOf c.args.table.now.layout c.search_way.new.seat.known (since c.search_way.new.seat.known) c.first_key.result.now c.search_way.new.way.items) c.in-Nothing.is c.search_way.ensures.way in
     blank_scanned (asked_range c.args.range.now) c.clear.ensures (nothing_blank _ _ _ _ c.search_way.new.way.items w)
 
 pub returns-in-Nothing-clause-few : goal.returns-in-Nothing-clause-few
@@ -39,7 +40,7 @@ scan_leaf-requires-clause-reader g c = ((looks_same c.search_way.ensures.searche
 
 pub scan_leaf-requires-clause-root : goal.scan_leaf-requires-clause-root
 scan_leaf-requires-clause-root g c =
-    let w = subst (IsWayOf c.args.table.now.layout c.search_way.new.seat.known (since c.search_way.new.seat.known) c.args.range.now.from.now c.search_way.new.way.items) c.in-Leaf.is c.search_way.ensures.way in
+    let w = subst (IsWayOf c.args.table.now.layout c.search_way.new.seat.known (since c.search_way.new.seat.known) c.first_key.result.now c.search_way.new.way.items) c.in-Leaf.is c.search_way.ensures.way in
     leaf_rooted _ _ _ c.search_way.new.way.items c.in-Leaf.number _ _ (empty_is c.search_way.new.way.items (let n = c.len.ensures.value in let e = c.if-len-eq0.true in omega (arith, n, e))) w
 
 pub returns-then-len-eq0-clause-looks : goal.returns-then-len-eq0-clause-looks
@@ -57,7 +58,8 @@ scan_node-requires-clause-nodes g c = let n = c.len.ensures.value in let e = c.i
 
 pub scan_node-requires-clause-way : goal.scan_node-requires-clause-way
 scan_node-requires-clause-way g c =
-    (_, subst (IsWayOf c.args.table.now.layout c.search_way.new.seat.known (since c.search_way.new.seat.known) c.args.range.now.from.now c.search_way.new.way.items) c.in-Leaf.is c.search_way.ensures.way)
+    let found = subst (IsWayOf c.args.table.now.layout c.search_way.new.seat.known (since c.search_way.new.seat.known) c.first_key.result.now c.search_way.new.way.items) c.in-Leaf.is c.search_way.ensures.way in
+    (_, subst (λ key. IsWayOf c.args.table.now.layout c.search_way.new.seat.known (since c.search_way.new.seat.known) key c.search_way.new.way.items (Leaf c.in-Leaf.number c.in-Leaf.value c.in-Leaf.mismatch)) c.first_key.ensures found)
 
 pub returns-else-len-eq0-clause-looks : goal.returns-else-len-eq0-clause-looks
 returns-else-len-eq0-clause-looks g c = searched_scans c.args.range.now.limit c.search_way.ensures.searched (omega arith) c.scan_node.ensures.reads

@@ -11,8 +11,8 @@ load_bytes-length-requires-clause-led g c = (c.requires.leaf.0, c.requires.leaf.
 
 pub take_pair-requires : goal.take_pair-requires
 take_pair-requires g c =
-    let e = c.load_bytes-length.ensures in let (m, led, above) = c.requires.leaf in
-    record { key = e.key.0; above = above c.load_bytes-length.new.seat.known (reads_later e.reads) (reader_then c.requires.reader e.reads).1 _ _ (e.leaf m led) }
+    let e = c.load_bytes-length.ensures in let (m, led, reached) = c.requires.leaf in
+    record { key = e.key.0; reached = reached c.load_bytes-length.new.seat.known (reads_later e.reads) (reader_then c.requires.reader e.reads).1 _ _ (e.leaf m led) }
 
 pub returns-clause-reads : goal.returns-clause-reads
 returns-clause-reads g c = let e = c.load_bytes-length.ensures in (leaf_loads (take c.load_bytes-length.result.0 c.load_bytes-length.new.places), e.few, e.reads)
@@ -20,8 +20,8 @@ returns-clause-reads g c = let e = c.load_bytes-length.ensures in (leaf_loads (t
 pub returns-clause-taken : goal.returns-clause-taken
 returns-clause-taken g c =
     let key = take c.load_bytes-length.result.0 c.load_bytes-length.new.places in let value = c.load_bytes-length.result.1 in
-    IfOk-weaker c.take_pair.result (IsPairTaken (asked_range c.args.range.now) c.args.pairs.now key value c.take_pair.new.pairs)
-    (IsLeafTaken c.args.seat.now.known c.load_bytes-length.new.seat.known (asked_range c.args.range.now) c.args.number c.args.pairs.now c.take_pair.new.pairs)
+    IfOk-weaker c.take_pair.result (IsPairTaken c.args.range.now.direction (asked_range c.args.range.now) c.args.pairs.now key value c.take_pair.new.pairs)
+    (IsLeafTaken c.args.range.now.direction c.args.seat.now.known c.load_bytes-length.new.seat.known (asked_range c.args.range.now) c.args.number c.args.pairs.now c.take_pair.new.pairs)
     (λ verdict taken. record { key = key; value = value; read = c.load_bytes-length.ensures.leaf; taken = taken }) c.take_pair.ensures.taken
 
 pub returns-clause-refused : goal.returns-clause-refused

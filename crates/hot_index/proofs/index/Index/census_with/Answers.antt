@@ -1,5 +1,5 @@
 -- A count changes nothing that a call tells.
-use Rattle.std.proofs.Common.{ℕ, ◌≤◌, subst, ◌∙◌}
+use Rattle.std.proofs.Common.{subst, ◌∙◌}
 use Rattle.rowex_table.specs.Seats.{TableView}
 use Rattle.hot_index.specs.Answers.{IsUnnoted}
 use Rattle.hot_index.specs.Census.{HasCounted}

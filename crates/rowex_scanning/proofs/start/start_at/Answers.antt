@@ -10,29 +10,29 @@ use Rattle.insert_cases.specs.declared.choice.Step.{Step}
 use Rattle.key_bits.specs.Bits.{bit_of}
 use Rattle.rowex_reading.specs.Ways.{IsWayOf}
 use Rattle.rowex_reading.specs.declared.descent.Found.TheVariants.{Leaf}
-use Rattle.rowex_scanning.specs.Scanning.{IsStart}
+use Rattle.rowex_scanning.specs.Starts.{IsParting}
 use Rattle.rowex_scanning.proofs.Starting.{chosen_starts, is_below, not_below, starts_same}
-use Rattle.rowex_scanning.proofs.scanning.start_at.Given as given
-use Rattle.rowex_scanning.proofs.scanning.start_at.Goals as goal
-use Rattle.rowex_scanning.proofs.scanning.start_at.Goals.{After-choose-part, then-below, else-below}
+use Rattle.rowex_scanning.proofs.start.start_at.Given as given
+use Rattle.rowex_scanning.proofs.start.start_at.Goals as goal
+use Rattle.rowex_scanning.proofs.start.start_at.Goals.{After-choose-part, then-below, else-below}
 
 -- The part that was chosen is a place in a node of the way, and there the scan starts.
 part : (g : given.Over) (c : After-choose-part g) (m v : ℕ) →
-    IsWayOf c.args.table.now.layout c.args.seat.now.known m c.args.from.now c.args.way.now (Leaf c.args._number v c.args.mismatch) →
-    (c.choose-part.result.level < length c.args.way.now) × (c.choose-part.result.last ≤ 31) × ((below : Bool) → bit_of c.args.from.now c.in-Some.position ≡ below → (t : Step) →
+    IsWayOf c.args.table.now.layout c.args.seat.now.known m c.args.key.now c.args.way.now (Leaf c.args._number v c.args.mismatch) →
+    (c.choose-part.result.level < length c.args.way.now) × (c.choose-part.result.last ≤ 31) × ((below : Bool) → bit_of c.args.key.now c.in-Some.position ≡ below → (t : Step) →
     slice_get c.args.way.now c.choose-part.result.level ≡ Some t → (place : ℕ) → place ≡ (if below then c.choose-part.result.last + 1 else c.choose-part.result.first) → (comes : Bool) →
     comes ≡ (if below then false else nat_eq c.choose-part.result.first c.choose-part.result.last) →
-    IsStart c.load_head-head.new.seat.known m c.args.from.now c.args.way.now c.args._number (record { level = c.choose-part.result.level; top = record t { at = place }; leaf = comes }))
+    IsParting c.load_head-head.new.seat.known m c.args.key.now c.args.way.now c.args._number (record { level = c.choose-part.result.level; top = record t { at = place }; leaf = comes }))
 part g c m v w =
     let level = c.level_below-level.ensures in let e = c.load_head-head.ensures in let head = c.load_head-head.result in let affected = c.affected-first.ensures in
-    chosen_starts c.args.table.now.layout c.args.seat.now.known c.load_head-head.new.seat.known m c.args.from.now c.args.way.now c.args._number v c.args.mismatch w (reader_then c.requires.reader e.reads).1 (reads_later e.reads)
+    chosen_starts c.args.table.now.layout c.args.seat.now.known c.load_head-head.new.seat.known m c.args.key.now c.args.way.now c.args._number v c.args.mismatch w (reader_then c.requires.reader e.reads).1 (reads_later e.reads)
     c.in-Some.position c.in-Some.is c.level_below-level.result level _ (slice_get-get_or c.args.way.now c.level_below-level.result _ level.within) head e.head c.affected-first.result.0 c.affected-first.result.1
     (affected.from (node_of head (leaves (length head.rows))) e.lawful refl) (affected.upto (node_of head (leaves (length head.rows))) e.lawful refl) c.choose-part.result c.choose-part.ensures.chosen
 
 pub returns-in_default-clause-start : goal.returns-in_default-clause-start
 returns-in_default-clause-start g c = λ m v w.
     let nodes = c.requires.nodes in
-    starts_same c.args.table.now.layout c.args.seat.now.known m c.args.from.now c.args.way.now c.args._number v c.args.mismatch w c.requires.reader.1 c.in_default.is (length c.args.way.now - 1) (omega (arith, nodes))
+    starts_same c.args.table.now.layout c.args.seat.now.known m c.args.key.now c.args.way.now c.args._number v c.args.mismatch w c.requires.reader.1 c.in_default.is (length c.args.way.now - 1) (omega (arith, nodes))
     _ (slice_get-get_or c.args.way.now (length c.args.way.now - 1) _ (omega (arith, nodes)))
 
 pub load_head-head-requires-clause-led : goal.load_head-head-requires-clause-led
@@ -50,7 +50,7 @@ affected-first-requires g c =
     let later = reads_later e.reads in
     let same = same_shape c.args.table.now.layout c.load_head-head.new.seat.known m _ node.forks _ (reader_then c.requires.reader e.reads).1 (since_later later w.since)
     (sure_later (shaped_stable m _ node.forks) later node.shaped) (e.head m _ (w.since, node.seen)).1 in
-    row_below c.load_head-head.result c.args.from.now node.forks _ e.lawful node.at same
+    row_below c.load_head-head.result c.args.key.now node.forks _ e.lawful node.at same
 
 pub offset_bounds-way-part : goal.offset_bounds-way-part
 offset_bounds-way-part g c = let (m, v, w) = c.requires.way in let low = (part g (goal.at.offset_bounds-way-part g c).After-choose-part m v w).0 in search (rules, low)

@@ -6,7 +6,8 @@ use Rattle.rowex_table.specs.Seats.{TableView}
 use Rattle.rowex_walks.specs.Scan.{Range}
 use Rattle.rowex_reading.proofs.Led.{looked_at, looks_same}
 use Rattle.hot_index.specs.Passes.{PassView, pass_of}
-use Rattle.hot_index.specs.Answers.{HasFoundPair, IsListed, IsListedInPart, IsUnnoted}
+use Rattle.hot_index.specs.Answers.{HasFoundPair, IsUnnoted}
+use Rattle.hot_index.specs.Reverse.{IsListedBy, IsListedInPartBy}
 use Rattle.rowex_scanning.specs.Counts.{scan_loads}
 use Rattle.rowex_scanning.specs.Scanning.{HasScanned, HasScannedPart, limited}
 use Rattle.hot_index.specs.Traces.{HasGotRange}
@@ -14,7 +15,7 @@ use Rattle.hot_index.proofs.Found.{part_found}
 use Rattle.hot_index.proofs.Noting.{fits_then, looked}
 use Rattle.hot_index.proofs.Scanned.{if_answered, if_refused, scan_counted, scan_settled, scan_refused, scan_answered}
 use Rattle.hot_index.proofs.Tracing.{has_walked}
-use Rattle.hot_index.proofs.index.Index.scan_into_with.Goals as goal
+use Rattle.hot_index.proofs.index.Index.list_by.Goals as goal
 
 pub unpin-requires : goal.unpin-requires
 unpin-requires g c =
@@ -39,10 +40,10 @@ returns-clause-ok g c =
     let later = pass_of c.unpin.new.seat in
     let pinned : IsSome c.scan_root-scan.new.seat.known.pin = subst IsSome (sym (looked_at s.looks.3).later.pin) c.pin.ensures.pinned in
     let pairs = c.scan_root-scan.new.pairs in
-    subst (λ (x : TableView). IfOk c.scan_root-scan.result (IsListed x.layout c.args.pass.now later c.args.from.now c.args.upto.now c.args.limit pairs)) c.self.view_is
-    (if_answered c.scan_root-scan.result (HasScanned c.scan_root-scan.new.seat.known range pairs) (IsListed layout c.args.pass.now later c.args.from.now c.args.upto.now c.args.limit pairs)
-    (λ more h. subst (λ (z : PassView). IsListed layout z later c.args.from.now c.args.upto.now c.args.limit pairs more) c.pass.view_is
-    (scan_answered c.pass.inside.seat c.unpin.new.seat c.pass.invariant (looked c.pass.invariant c.pin.ensures.steps s.looks.3) c.unpin.ensures.step.event range s.keys pinned pairs more h)) s.scanned)
+    subst (λ (x : TableView). IfOk c.scan_root-scan.result (IsListedBy c.args.direction x.layout c.args.pass.now later c.args.from.now c.args.upto.now c.args.limit pairs)) c.self.view_is
+    (if_answered c.scan_root-scan.result (HasScanned c.args.direction c.scan_root-scan.new.seat.known range pairs) (IsListedBy c.args.direction layout c.args.pass.now later c.args.from.now c.args.upto.now c.args.limit pairs)
+    (λ more h. subst (λ (z : PassView). IsListedBy c.args.direction layout z later c.args.from.now c.args.upto.now c.args.limit pairs more) c.pass.view_is
+    (scan_answered c.pass.inside.seat c.unpin.new.seat c.pass.invariant (looked c.pass.invariant c.pin.ensures.steps s.looks.3) c.unpin.ensures.step.event c.args.direction range s.keys pinned pairs more h)) s.scanned)
 
 pub returns-clause-err : goal.returns-clause-err
 returns-clause-err g c =
@@ -62,13 +63,13 @@ returns-clause-part g c =
     let later = pass_of c.unpin.new.seat in
     let pinned : IsSome c.scan_root-scan.new.seat.known.pin = subst IsSome (sym (looked_at s.looks.3).later.pin) c.pin.ensures.pinned in
     let pairs = c.scan_root-scan.new.pairs in
-    let of_part : HasScannedPart c.scan_root-scan.new.seat.known range pairs → IsListedInPart layout c.args.pass.now later c.args.from.now c.args.upto.now c.args.limit pairs =
+    let of_part : HasScannedPart c.args.direction c.scan_root-scan.new.seat.known range pairs → IsListedInPartBy c.args.direction layout c.args.pass.now later c.args.from.now c.args.upto.now c.args.limit pairs =
     λ h. (
       h.0,
-      subst (λ (z : PassView). IsListed layout z later c.args.from.now c.args.upto.now (length pairs) pairs true) c.pass.view_is
-          (scan_answered c.pass.inside.seat c.unpin.new.seat c.pass.invariant (looked c.pass.invariant c.pin.ensures.steps s.looks.3) c.unpin.ensures.step.event (limited range (length pairs)) s.keys pinned pairs true h.1),
+      subst (λ (z : PassView). IsListedBy c.args.direction layout z later c.args.from.now c.args.upto.now (length pairs) pairs true) c.pass.view_is
+          (scan_answered c.pass.inside.seat c.unpin.new.seat c.pass.invariant (looked c.pass.invariant c.pin.ensures.steps s.looks.3) c.unpin.ensures.step.event c.args.direction (limited range (length pairs)) s.keys pinned pairs true h.1),
     ) in
-    subst (λ (x : TableView). OnErr c.scan_root-scan.result (IsListedInPart x.layout c.args.pass.now later c.args.from.now c.args.upto.now c.args.limit pairs)) c.self.view_is
+    subst (λ (x : TableView). OnErr c.scan_root-scan.result (IsListedInPartBy c.args.direction x.layout c.args.pass.now later c.args.from.now c.args.upto.now c.args.limit pairs)) c.self.view_is
     (on_err_weaker c.scan_root-scan.result of_part s.part)
 
 pub returns-clause-memory : goal.returns-clause-memory
@@ -78,9 +79,9 @@ returns-clause-memory g c =
     let layout = c.self.inside.table.layout in
     let later = pass_of c.unpin.new.seat in
     let pinned : IsSome c.scan_root-scan.new.seat.known.pin = subst IsSome (sym (looked_at s.looks.3).later.pin) c.pin.ensures.pinned in
-    let of_part : HasScannedPart c.scan_root-scan.new.seat.known range c.scan_root-scan.new.pairs → HasFoundPair layout c.args.pass.now later c.args.from.now c.args.upto.now c.args.limit =
+    let of_part : HasScannedPart c.args.direction c.scan_root-scan.new.seat.known range c.scan_root-scan.new.pairs → HasFoundPair layout c.args.pass.now later c.args.from.now c.args.upto.now c.args.limit =
     λ h. subst (λ (z : PassView). HasFoundPair layout z later c.args.from.now c.args.upto.now c.args.limit) c.pass.view_is
-    (part_found c.pass.inside.seat c.unpin.new.seat (looked c.pass.invariant c.pin.ensures.steps s.looks.3) c.unpin.ensures.step.event range s.keys pinned h) in
+    (part_found c.pass.inside.seat c.unpin.new.seat (looked c.pass.invariant c.pin.ensures.steps s.looks.3) c.unpin.ensures.step.event range s.keys pinned c.args.direction h) in
     subst (λ (x : TableView). OnErr c.scan_root-scan.result (HasFoundPair x.layout c.args.pass.now later c.args.from.now c.args.upto.now c.args.limit)) c.self.view_is
     (on_err_weaker c.scan_root-scan.result of_part s.part)
 

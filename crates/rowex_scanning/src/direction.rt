@@ -1,0 +1,77 @@
+//! The two directions of a scan, and what differs between them: in which order places and keys are passed.
+
+ghost use Rattle.std.specs.Prelude.{◌≡◌, ◌<◌, ◌≤◌, IsTrue, MatchOption, false};
+ghost use Rattle.key_bits.specs.Key.{IsKey};
+ghost use Rattle.tries.specs.Keys.{IsAtMost, IsBefore};
+ghost use Rattle.rowex_scanning.specs.Directions.{IsEarlier, IsNextPlace, IsNoLater, gap_behind, to_come};
+ghost use Rattle.rowex_scanning.specs.Directions.{first_gap as first_gap_of};
+
+use insert_cases::Step;
+
+/// In which order a scan lists the keys of its range.
+#[derive(Clone, Copy)]
+pub enum Direction {
+    /// From the first key on, in rising order.
+    Upwards,
+    /// From the last key on, in falling order.
+    Downwards,
+}
+
+/// The place of the entry that comes next at the gap where a walk stands in this node; none if all have been passed.
+#[inline(always)]
+pub(crate) fn next_place(direction: Direction, top: &Step) -> Option<u8>
+    requires { top.now.at ≤ top.now.count }
+    ensures { MatchOption result (to_come direction top.now.count top.now.at ≡ 0) (IsNextPlace direction top.now) }
+{
+    match direction {
+        Direction::Upwards if top.at < top.count => Some(top.at),
+        Direction::Upwards => None,
+        Direction::Downwards => top.at.checked_sub(1),
+    }
+}
+
+/// The gap behind the entry at this place.
+#[inline(always)]
+pub(crate) fn behind(direction: Direction, place: u8) -> u8
+    requires { place < 32 }
+    ensures { result ≡ gap_behind direction place }
+{
+    match direction {
+        Direction::Upwards => place + 1,
+        Direction::Downwards => place,
+    }
+}
+
+/// The gap at which a walk enters a node with so many entries.
+#[inline(always)]
+pub(crate) fn first_gap(direction: Direction, count: u8) -> u8
+    ensures { result ≡ first_gap_of direction count }
+{
+    match direction {
+        Direction::Upwards => 0,
+        Direction::Downwards => count,
+    }
+}
+
+/// Whether the key with the first bytes comes earlier than that with the second.
+#[inline(always)]
+pub(crate) fn is_earlier(direction: Direction, first: &[u8], second: &[u8]) -> bool
+    requires keys { IsKey first.now × IsKey second.now }
+    ensures earlier { IsTrue result → IsEarlier direction first.now second.now }
+    ensures no_later { result ≡ false → IsNoLater direction second.now first.now }
+{
+    match direction {
+        Direction::Upwards => is_before(first, second),
+        Direction::Downwards => is_before(second, first),
+    }
+}
+
+/// Whether the key with the first bytes is before that with the second: their first different byte says what their first different
+/// bit does.
+pub(crate) fn is_before(first: &[u8], second: &[u8]) -> bool
+    requires keys { IsKey first.now × IsKey second.now }
+    ensures before { IsTrue result → IsBefore first.now second.now }
+    ensures at_most { result ≡ false → IsAtMost second.now first.now }
+{
+    first.cmp(second).is_lt()
+}

@@ -1,0 +1,103 @@
+//! Where a scan starts.
+
+ghost use Rattle.std.specs.Prelude.{◌<◌, ◌≤◌, ℕ, length};
+ghost use Rattle.record_words.specs.declared.TheConstants.{HEAD_WORDS};
+ghost use Rattle.rowex_reading.specs.Reads.{IsReader, Reads};
+ghost use Rattle.rowex_reading.specs.Ways.{IsWayOf};
+ghost use Rattle.rowex_reading.specs.declared.descent.Found.TheVariants.{Leaf as FoundLeaf};
+ghost use Rattle.rowex_scanning.specs.Starts.{IsParting, IsStart};
+
+use crate::direction::Direction;
+use insert_cases::{Step, choose, level_below};
+use key_bits::Key;
+use rowex_core::Gate;
+use rowex_reading::load_head;
+use rowex_table::{HotTable, TableSeat};
+
+/// Where a scan starts on the way of the search for its first key.
+#[derive(Clone, Copy)]
+pub(crate) struct Start {
+    /// The level of the node in which it starts.
+    pub level: usize,
+    /// That node, with the place at which the scan starts.
+    pub top: Step,
+    /// Whether the leaf at which the search ended comes first. It stands at the place, and is not looked for there again: by
+    /// now there may be another entry, with keys out of the range.
+    pub leaf: bool,
+}
+
+/// Where a scan from a key starts on the way of the key's search, which ended at this leaf. One downwards starts left of the place at
+/// which one upwards does; if the leaf stands there with a key that is not above, it comes first, and the scan goes on left of it.
+pub(crate) fn start_from<G: Gate>(
+    table: &HotTable,
+    seat: &mut TableSeat,
+    gate: &mut G,
+    way: &[Step],
+    direction: Direction,
+    key: &Key,
+    number: u32,
+    mismatch: Option<u16>,
+) -> Start
+    requires reader { IsReader table.now seat.old }
+    requires nodes { 0 < length way.now }
+    requires way { (m v : ℕ) × IsWayOf table.now.layout seat.old.known m key.now way.now (FoundLeaf number v mismatch) }
+    ensures reads { (n : ℕ) × (n ≤ HEAD_WORDS) × Reads table.now G.becomes 0 n (seat.old, gate.old) (seat.new, gate.new) }
+    ensures start { (m v : ℕ) → IsWayOf table.now.layout seat.old.known m key.now way.now (FoundLeaf number v mismatch) →
+        IsStart direction seat.new.known m key.now way.now number result }
+{
+    let mut start = start_at(table, seat, gate, way, key, number, mismatch);
+    match direction {
+        Direction::Upwards => start,
+        Direction::Downwards => {
+            let lowest = way[way.len() - 1];
+            if start.leaf {
+                start.leaf = mismatch.is_none();
+            } else if start.level + 1 == way.len() && lowest.at + 1 == start.top.at {
+                start.top.at = lowest.at;
+                start.leaf = true;
+            }
+            start
+        }
+    }
+}
+
+/// Where a scan upwards from a key starts on the way of the key's search, which ended at this leaf. The position at which the leaf's
+/// key differs first parts the range's first key from those of the entries that it affects, and these from all others: so the
+/// scan starts at the first of them, or behind the last.
+fn start_at<G: Gate>(
+    table: &HotTable,
+    seat: &mut TableSeat,
+    gate: &mut G,
+    way: &[Step],
+    key: &Key,
+    _number: u32,
+    mismatch: Option<u16>,
+) -> Start
+    requires reader { IsReader table.now seat.old }
+    requires nodes { 0 < length way.now }
+    requires way { (m v : ℕ) × IsWayOf table.now.layout seat.old.known m key.now way.now (FoundLeaf _number v mismatch) }
+    ensures reads { (n : ℕ) × (n ≤ HEAD_WORDS) × Reads table.now G.becomes 0 n (seat.old, gate.old) (seat.new, gate.new) }
+    ensures start { (m v : ℕ) → IsWayOf table.now.layout seat.old.known m key.now way.now (FoundLeaf _number v mismatch) →
+        IsParting seat.new.known m key.now way.now _number result }
+{
+    let lowest = way.len() - 1;
+    let Some(position) = mismatch else {
+        return Start {
+            level: lowest,
+            top: way[lowest],
+            leaf: true,
+        };
+    };
+    let below = key.bit(position);
+    let level = level_below(way, position);
+    let head = load_head(table, seat, gate, way[level].number);
+    let (first, last) = head.affected(way[level].at, position);
+    let part = choose(way, level, first, last);
+    let mut top = way[part.level];
+    top.at = if below { part.last + 1 } else { part.first };
+    Start {
+        level: part.level,
+        top,
+        leaf: !below && part.first == part.last,
+    }
+}
