@@ -10,7 +10,10 @@ use crate::map::{Change, OrderedMap};
 use crate::measure::measure;
 use crate::stock::PASSES;
 use crate::work::Rate;
-use hot_index::{Call, Index, IndexFault, Key, Pairs, Pass, Reply, Stock, TryFault, create_with};
+use hot_index::{
+    Call, Handle, Index, IndexFault, Key, Pairs, Pass, Reply, Stock, TryFault, create_with,
+    handles_of,
+};
 use std::alloc::Global;
 use std::io;
 use std::io::ErrorKind;
@@ -30,23 +33,20 @@ pub enum Form {
 /// A pass at its index, and the list that its scans fill.
 #[derive(Drop)]
 pub struct Guest<'a> {
-    index: &'a Index,
-    pass: Pass,
+    handle: Handle<&'a Index>,
     pairs: Pairs,
-    ghost owns: { Owns index.now pass },
 }
 
 impl OrderedMap for Guest<'_> {
     fn get<R: Wait>(&mut self, _rt: &R, key: &Key) -> Option<u64> {
-        self.index.get(&mut self.pass, key)
+        self.handle.get(key)
     }
 
     fn change<R: Wait>(&mut self, rt: &R, change: Change, pair: &Pair) -> io::Result<Option<u64>> {
-        let (index, pass) = (self.index, &mut self.pass);
         let answer = match change {
-            Change::Insert => index.insert(rt, pass, &pair.key, pair.value),
-            Change::Upsert => index.upsert(rt, pass, &pair.key, pair.value),
-            Change::Remove => index.remove(rt, pass, &pair.key),
+            Change::Insert => self.handle.insert(rt, &pair.key, pair.value),
+            Change::Upsert => self.handle.upsert(rt, &pair.key, pair.value),
+            Change::Remove => self.handle.remove(rt, &pair.key),
         };
         match answer {
             Ok(
@@ -63,17 +63,17 @@ impl OrderedMap for Guest<'_> {
 
     fn scan<R: Wait>(&mut self, _rt: &R, from: &Key, limit: usize) -> io::Result<&Pairs> {
         let upto = key_of(&LAST)?;
-        self.index
-            .scan_into(&mut self.pass, from, &upto, limit, &mut self.pairs)?;
+        self.handle.scan_into(from, &upto, limit, &mut self.pairs)?;
         Ok(&self.pairs)
     }
 
     /// Those that are out of reach are given back first.
     fn nodes(&mut self) -> u32 {
-        self.index.collect(&mut self.pass);
-        self.index.collect(&mut self.pass);
+        self.handle.collect();
+        self.handle.collect();
         let mut census = Census::new();
-        self.index.collect_with(&mut self.pass, &mut census);
+        let handle = &mut self.handle;
+        handle.index.collect_with(&mut handle.pass, &mut census);
         census.nodes
     }
 }
@@ -81,7 +81,7 @@ impl OrderedMap for Guest<'_> {
 impl Guest<'_> {
     /// The number of its pass.
     pub fn number(&self) -> u16 {
-        self.pass.number()
+        self.handle.number()
     }
 
     /// Gives a key a value, and tells whether that was refused as full.
@@ -92,16 +92,14 @@ impl Guest<'_> {
         pair: &Pair,
         census: &mut Census,
     ) -> bool {
+        let (index, pass) = (self.handle.index, &mut self.handle.pass);
         match form {
             Form::Waits => {
                 let call = Call::Upsert(pair.key.copy(), pair.value);
-                self.index
-                    .call_with(rt, &mut self.pass, &call, census)
-                    .is_err()
+                index.call_with(rt, pass, &call, census).is_err()
             }
             Form::Tries => matches!(
-                self.index
-                    .try_upsert_with(&mut self.pass, &pair.key, pair.value, census),
+                index.try_upsert_with(pass, &pair.key, pair.value, census),
                 Err(TryFault::FullNodes | TryFault::FullLeaves)
             ),
         }
@@ -119,32 +117,14 @@ pub fn index_of(alloc: Global, passes: u32, stock: Stock) -> io::Result<(Index, 
     }
 }
 
-/// The last of these passes, at its index.
-fn next_guest<'a>(alloc: Global, index: &'a Index, passes: &mut Vec<Pass>) -> io::Result<Guest<'a>>
-    requires { All (Owns index.now) passes.old.items }
-    ensures { All (Owns index.now) passes.new.items }
-{
-    match passes.pop() {
-        Some(pass) => Ok(Guest {
-            index,
-            pass,
-            pairs: Pairs::new(alloc),
-        }),
-        None => Err(io::Error::from(ErrorKind::InvalidInput)),
-    }
-}
-
 /// Guests of an index, one for each of these passes.
-pub fn guests<'a>(
-    alloc: Global,
-    index: &'a Index,
-    mut passes: Vec<Pass>,
-) -> io::Result<Vec<Guest<'a>>>
+pub fn guests<'a>(alloc: Global, index: &'a Index, passes: Vec<Pass>) -> io::Result<Vec<Guest<'a>>>
     requires { All (Owns index.now) passes.items }
 {
     let mut guests = Vec::new(alloc);
-    for _thread in 0..passes.len() {
-        guests.push(next_guest(alloc, index, &mut passes)?)?;
+    for handle in handles_of(alloc, index, passes)? {
+        let pairs = Pairs::new(alloc);
+        guests.push(Guest { handle, pairs })?;
     }
     Ok(guests)
 }
