@@ -4,24 +4,75 @@ use rowex_core::{Act, Rec, Spot, Target};
 use std::alloc::AllocError;
 use std::fmt;
 
-/// A record, a place of an entry word, or what is locked.
+/// On what a step is.
 #[derive(Clone, Copy)]
 enum Thing {
+    Nothing,
     Root,
     Anchor,
     Leaf(u32),
     Node(u32),
     Entry(u32, u8),
+    /// A pass or an epoch.
+    Number(u64),
 }
 
 impl fmt::Display for Thing {
     fn fmt<W: fmt::Write>(&self, f: &mut fmt::Formatter<W>) -> fmt::Result {
         match self {
-            Thing::Root => write!(f, "root"),
-            Thing::Anchor => write!(f, "anchor"),
-            Thing::Leaf(number) => write!(f, "leaf {number}"),
-            Thing::Node(number) => write!(f, "node {number}"),
-            Thing::Entry(number, entry) => write!(f, "node {number} entry {entry}"),
+            Thing::Nothing => Ok(()),
+            Thing::Root => write!(f, " root"),
+            Thing::Anchor => write!(f, " anchor"),
+            Thing::Leaf(number) => write!(f, " leaf {number}"),
+            Thing::Node(number) => write!(f, " node {number}"),
+            Thing::Entry(number, entry) => write!(f, " node {number} entry {entry}"),
+            Thing::Number(number) => write!(f, " {number}"),
+        }
+    }
+}
+
+/// What a step stored, loaded or found. Words of a record are in hexadecimal digits.
+#[derive(Clone, Copy)]
+enum Found {
+    Nothing,
+    Number(u64),
+    Word(u64),
+}
+
+/// The parts of a line: the step's name, on what it is, which word of that or in which epoch, and what it found.
+#[derive(Clone, Copy)]
+struct Line {
+    name: &'static str,
+    thing: Thing,
+    detail: Option<(&'static str, u64)>,
+    found: Found,
+}
+
+impl Line {
+    fn on(name: &'static str, thing: Thing) -> Line {
+        Line {
+            name,
+            thing,
+            detail: None,
+            found: Found::Nothing,
+        }
+    }
+
+    fn found(name: &'static str, thing: Thing, number: u64) -> Line {
+        Line {
+            name,
+            thing,
+            detail: None,
+            found: Found::Number(number),
+        }
+    }
+
+    fn word(name: &'static str, rec: Rec, offset: u8, word: u64) -> Line {
+        Line {
+            name,
+            thing: record(rec),
+            detail: Some(("offset", u64::from(offset))),
+            found: Found::Word(word),
         }
     }
 }
@@ -47,36 +98,45 @@ fn locked(target: Target) -> Thing {
     }
 }
 
-/// Adds a step: its name, on what it is, and the word that it stored, loaded or found. Words of a record are in hexadecimal
-/// digits.
-pub fn push_act(text: &mut String, act: &Act) -> Result<(), AllocError> {
+/// The line of a step.
+fn line_of(act: &Act) -> Line {
     match *act {
-        Act::Claim { rec, found } => write!(text, "claim {}: {found}", record(rec)),
-        Act::Fill { rec, offset, word } => {
-            write!(text, "fill {} offset {offset}: {word:016x}", record(rec))
-        }
-        Act::Ready { rec } => write!(text, "ready {}", record(rec)),
-        Act::Release { rec } => write!(text, "release {}", record(rec)),
-        Act::LoadRef { spot, word } => write!(text, "load_ref {}: {word}", place(spot)),
-        Act::LoadFixed { rec, offset, word } => {
-            write!(
-                text,
-                "load_fixed {} offset {offset}: {word:016x}",
-                record(rec)
-            )
-        }
-        Act::Lock { target, found } => write!(text, "lock {}: {found}", locked(target)),
-        Act::Unlock { target } => write!(text, "unlock {}", locked(target)),
-        Act::Publish { spot, word } => write!(text, "publish {}: {word}", place(spot)),
-        Act::Mark { rec, epoch } => write!(text, "mark {} in {epoch}", record(rec)),
-        Act::LoadEpoch { word } => write!(text, "load_epoch: {word}"),
-        Act::Advance { expected, found } => write!(text, "advance {expected}: {found}"),
-        Act::SetPin { word } => write!(text, "set_pin: {word}"),
-        Act::ClearPin => text.push_str("clear_pin"),
-        Act::LoadPin { of, word } => write!(text, "load_pin {of}: {word}"),
-        Act::LoadState { rec, word } => write!(text, "load_state {}: {word}", record(rec)),
-        Act::GiveBack { rec, epoch, found } => {
-            write!(text, "give_back {} of {epoch}: {found}", record(rec))
-        }
+        Act::Claim { rec, found } => Line::found("claim", record(rec), found),
+        Act::Fill { rec, offset, word } => Line::word("fill", rec, offset, word),
+        Act::Ready { rec } => Line::on("ready", record(rec)),
+        Act::Release { rec } => Line::on("release", record(rec)),
+        Act::LoadRef { spot, word } => Line::found("load_ref", place(spot), word),
+        Act::LoadFixed { rec, offset, word } => Line::word("load_fixed", rec, offset, word),
+        Act::Lock { target, found } => Line::found("lock", locked(target), found),
+        Act::Unlock { target } => Line::on("unlock", locked(target)),
+        Act::Publish { spot, word } => Line::found("publish", place(spot), word),
+        Act::Mark { rec, epoch } => Line {
+            detail: Some(("in", epoch)),
+            ..Line::on("mark", record(rec))
+        },
+        Act::LoadEpoch { word } => Line::found("load_epoch", Thing::Nothing, word),
+        Act::Advance { expected, found } => Line::found("advance", Thing::Number(expected), found),
+        Act::SetPin { word } => Line::found("set_pin", Thing::Nothing, word),
+        Act::ClearPin => Line::on("clear_pin", Thing::Nothing),
+        Act::LoadPin { of, word } => Line::found("load_pin", Thing::Number(u64::from(of)), word),
+        Act::LoadState { rec, word } => Line::found("load_state", record(rec), word),
+        Act::GiveBack { rec, epoch, found } => Line {
+            detail: Some(("of", epoch)),
+            ..Line::found("give_back", record(rec), found)
+        },
+    }
+}
+
+/// Adds a step: its name, on what it is, and the word that it stored, loaded or found.
+pub fn push_act(text: &mut String, act: &Act) -> Result<(), AllocError> {
+    let line = line_of(act);
+    write!(text, "{}{}", line.name, line.thing)?;
+    if let Some((word, number)) = line.detail {
+        write!(text, " {word} {number}")?;
+    }
+    match line.found {
+        Found::Nothing => Ok(()),
+        Found::Number(number) => write!(text, ": {number}"),
+        Found::Word(word) => write!(text, ": {word:016x}"),
     }
 }

@@ -56,19 +56,18 @@ where
 {
     let (word, rest) = line.split_once(' ').unwrap_or((line, ""));
     match word {
-        "" | "#" => {}
-        "index" => case.begin(rest)?,
-        "before" => deeds_of(&mut case.before, rest)?,
-        "other" => case.others.push(rest)?,
-        "keys" => push_keys(&mut case.keys, rest)?,
-        "steps" => stops::print_steps(rt, case, rest)?,
-        "stop" => stops::stop_for_each(rt, case, rest, false)?,
-        "tell" => stops::stop_for_each(rt, case, rest, true)?,
-        "chance" => chance::run_turns(rt, case, rest)?,
-        "threads" => turns::run_seeds(rt, case, rest)?,
-        _ => return Err(cases::bad_line()),
+        "" | "#" => Ok(()),
+        "index" => case.begin(rest),
+        "before" => deeds_of(&mut case.before, rest),
+        "other" => Ok(case.others.push(rest)?),
+        "keys" => push_keys(&mut case.keys, rest),
+        "steps" => stops::print_steps(rt, case, rest),
+        "stop" => stops::stop_for_each(rt, case, rest, false),
+        "tell" => stops::stop_for_each(rt, case, rest, true),
+        "chance" => chance::run_turns(rt, case, rest),
+        "threads" => turns::run_seeds(rt, case, rest),
+        _ => Err(cases::bad_line()),
     }
-    Ok(())
 }
 
 fn main(rt: HostRuntime) -> io::Result<()> {

@@ -105,12 +105,25 @@ fn stop_each<R: Print + AllocGlobal>(
     other: &str,
     tells: bool,
 ) -> io::Result<()> {
-    let (mut first, mut wrong) = (1, 0u64);
     let (mut said, mut before) = (String::new(case.alloc), String::new(case.alloc));
+    stop_in_turn(rt, case, deeds, other, tells, &mut said, &mut before)
+}
+
+/// `stop_each`, with a text for what was said at a stop and one for what was said at the one before it.
+fn stop_in_turn<R: Print + AllocGlobal>(
+    rt: &R,
+    case: &Case,
+    deeds: &[Deed],
+    other: &str,
+    tells: bool,
+    said: &mut String,
+    before: &mut String,
+) -> io::Result<()> {
+    let (mut first, mut wrong) = (1, 0u64);
     for step in 1..MAX_STEPS {
-        mem::swap(&mut said, &mut before);
+        mem::swap(said, before);
         said.clear();
-        let stop = stop_at(case, deeds, other, step, &mut said)?;
+        let stop = stop_at(case, deeds, other, step, said)?;
         wrong = wrong.wrapping_add(stop.wrong);
         if tells && step > 1 && (!stop.is_made || said != before) {
             print!(rt; "\n  {first}..{}{before}", step.wrapping_sub(1))?;
