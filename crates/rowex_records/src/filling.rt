@@ -47,9 +47,9 @@ pub fn fill_leaf<G: Gate>(
         let word = key_word_at(key, index - 2);
         set_leaf_word(table, seat, gate, number, start, index as u8 + 1, word);
     }
-    let end = table.layout().leaf_size(number) - 1;
-    for index in used..end {
-        set_leaf_word(table, seat, gate, number, start, index as u8 + 1, 0);
+    let end = table.layout().leaf_size(number) as u8;
+    for offset in used as u8 + 1..end {
+        set_leaf_word(table, seat, gate, number, start, offset, 0);
     }
 }
 
