@@ -4,7 +4,7 @@ ghost use Rattle.std.specs.Prelude.{All};
 ghost use Rattle.hot_index.specs.Passes.{Owns};
 
 use crate::cases::{Case, Deed, two_of};
-use crate::guests::{Guest, lowest, open};
+use crate::guests::{Guest, does, lowest, open};
 use crate::judge::{Stopper, seated, verdict};
 use finite_map::Call;
 use hot_index::{Index, Pass};
@@ -88,7 +88,7 @@ fn take_turn(
     gate.deeds.push(chance.deed(&case.keys, turn))?;
     gate.left = chance.below(160).wrapping_add(1);
     let mut said = String::new(case.alloc);
-    guest.does(&[deed], gate, &mut said)?;
+    does(guest, &[deed], gate, &mut said)?;
     if turn % 32 == 0 {
         gate.left = 0;
         gate.said.clear();

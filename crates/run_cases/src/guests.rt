@@ -4,7 +4,7 @@ ghost use Rattle.std.specs.Prelude.{IfOk, All};
 ghost use Rattle.hot_index.specs.Passes.{Owns};
 
 use crate::cases::{Deed, bad_line};
-use hot_index::{Gate, Index, Pairs, Pass, Reply, Scan, TryFault, create};
+use hot_index::{Gate, Handle, Index, Pairs, Pass, Reply, Scan, TryFault, create};
 use key_bits::Key;
 use std::alloc::{AllocError, Global};
 use std::io;
@@ -20,12 +20,7 @@ pub fn open(alloc: Global, passes: u32, nodes: u32, leaves: u32) -> io::Result<(
 }
 
 /// A pass at its index.
-#[derive(Drop)]
-pub struct Guest<'a> {
-    index: &'a Index,
-    pass: Pass,
-    ghost owns: { Owns index.now pass },
-}
+pub type Guest<'a> = Handle<&'a Index>;
 
 /// The last of the passes that are left, at its index.
 pub fn next_guest<'a>(index: &'a Index, passes: &mut Vec<Pass>) -> io::Result<Guest<'a>>
@@ -33,84 +28,64 @@ pub fn next_guest<'a>(index: &'a Index, passes: &mut Vec<Pass>) -> io::Result<Gu
     ensures { All (Owns index.now) passes.new.items }
 {
     match passes.pop() {
-        Some(pass) => Ok(Guest { index, pass }),
+        Some(pass) => Ok(Handle::new(index, pass)),
         None => Err(bad_line()),
     }
 }
 
-/// A pass at its index.
-pub fn guest_of(index: &Index, pass: Pass) -> Guest<'_>
-    requires { Owns index.now pass }
-{
-    Guest { index, pass }
-}
-
-impl<'a> Guest<'a> {
-    /// The number of the pass.
-    pub fn number(&self) -> u16 {
-        self.pass.number()
-    }
-
-    /// Does all this, with a gate that is told each step, and adds what was answered, each time behind a semicolon.
-    pub fn does<G: Gate>(
-        &mut self,
-        deeds: &[Deed],
-        gate: &mut G,
-        said: &mut String,
-    ) -> Result<(), AllocError> {
-        for deed in deeds.iter() {
-            write!(said, "; ")?;
-            match deed {
-                Deed::Make(call) => {
-                    say(said, self.index.try_call_with(&mut self.pass, call, gate))?;
-                }
-                Deed::List(limit) => {
-                    let scan = self.list(*said.allocator(), *limit, gate)?;
-                    say_scan(said, &scan)?;
-                }
-                Deed::ListDown(limit) => {
-                    let scan = self.list_down(*said.allocator(), *limit, gate)?;
-                    say_scan(said, &scan)?;
-                }
-                Deed::Collect => {
-                    let given = self.index.collect_with(&mut self.pass, gate);
-                    write!(said, "given {} {}", given.nodes, given.leaves)?;
-                }
+/// Does all this, with a gate that is told each step, and adds what was answered, each time behind a semicolon.
+pub fn does<G: Gate>(
+    guest: &mut Guest,
+    deeds: &[Deed],
+    gate: &mut G,
+    said: &mut String,
+) -> Result<(), AllocError> {
+    for deed in deeds.iter() {
+        write!(said, "; ")?;
+        match deed {
+            Deed::Make(call) => {
+                say(said, guest.index.try_call_with(&mut guest.pass, call, gate))?;
+            }
+            Deed::List(limit) => {
+                let scan = list(guest, *said.allocator(), *limit, gate)?;
+                say_scan(said, &scan)?;
+            }
+            Deed::ListDown(limit) => {
+                let scan = list_down(guest, *said.allocator(), *limit, gate)?;
+                say_scan(said, &scan)?;
+            }
+            Deed::Collect => {
+                let given = guest.index.collect_with(&mut guest.pass, gate);
+                write!(said, "given {} {}", given.nodes, given.leaves)?;
             }
         }
-        Ok(())
     }
+    Ok(())
+}
 
-    /// So many pairs from the lowest key on.
-    pub fn list<G: Gate>(
-        &mut self,
-        alloc: Global,
-        limit: usize,
-        gate: &mut G,
-    ) -> Result<Scan, AllocError> {
-        self.index
-            .scan_with(alloc, &mut self.pass, &lowest(), &highest(), limit, gate)
-    }
+/// So many pairs from the lowest key on.
+pub fn list<G: Gate>(
+    guest: &mut Guest,
+    alloc: Global,
+    limit: usize,
+    gate: &mut G,
+) -> Result<Scan, AllocError> {
+    let (index, pass) = (guest.index, &mut guest.pass);
+    index.scan_with(alloc, pass, &lowest(), &highest(), limit, gate)
+}
 
-    /// So many pairs from the highest key downwards.
-    pub fn list_down<G: Gate>(
-        &mut self,
-        alloc: Global,
-        limit: usize,
-        gate: &mut G,
-    ) -> Result<Scan, AllocError> {
-        let mut list = Pairs::new(alloc);
-        let more = self.index.scan_reverse_into_with(
-            &mut self.pass,
-            &lowest(),
-            &highest(),
-            limit,
-            &mut list,
-            gate,
-        )?;
-        let pairs = list.to_vec(alloc)?;
-        Ok(Scan { pairs, more })
-    }
+/// So many pairs from the highest key downwards.
+pub fn list_down<G: Gate>(
+    guest: &mut Guest,
+    alloc: Global,
+    limit: usize,
+    gate: &mut G,
+) -> Result<Scan, AllocError> {
+    let (index, pass) = (guest.index, &mut guest.pass);
+    let mut list = Pairs::new(alloc);
+    let more = index.scan_reverse_into_with(pass, &lowest(), &highest(), limit, &mut list, gate)?;
+    let pairs = list.to_vec(alloc)?;
+    Ok(Scan { pairs, more })
 }
 
 /// The key of no bytes, below which there is none.

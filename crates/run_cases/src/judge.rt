@@ -4,7 +4,7 @@ ghost use Rattle.std.specs.Prelude.{All};
 ghost use Rattle.hot_index.specs.Passes.{Owns};
 
 use crate::cases::{Case, Deed, bad_line};
-use crate::guests::{Guest, next_guest};
+use crate::guests::{Guest, does, list, list_down, next_guest};
 use hot_index::{Event, Gate, Index, Pass, Scan};
 use record_words::Layout;
 use rowex_replay::Replay;
@@ -32,9 +32,9 @@ impl Judge {
 
     /// Holds what a scan of all keys finds, and one downwards, against what the steps so far have made.
     pub fn compare(&mut self, alloc: Global, guest: &mut Guest) -> Result<(), AllocError> {
-        let up = guest.list(alloc, usize::MAX, self)?;
+        let up = list(guest, alloc, usize::MAX, self)?;
         self.expect(alloc, &up)?;
-        let mut down = guest.list_down(alloc, usize::MAX, self)?;
+        let mut down = list_down(guest, alloc, usize::MAX, self)?;
         down.pairs.reverse();
         self.expect(alloc, &down)
     }
@@ -83,9 +83,12 @@ impl<'a> Gate for Stopper<'a> {
     fn at(&mut self, event: &Event) {
         self.judge.at(event);
         if self.left == 1 {
-            let done = self
-                .other
-                .does(&self.deeds, &mut self.judge, &mut self.said);
+            let done = does(
+                &mut self.other,
+                &self.deeds,
+                &mut self.judge,
+                &mut self.said,
+            );
             if done.is_err() {
                 self.judge.wrong = self.judge.wrong.wrapping_add(1);
             }
@@ -114,6 +117,6 @@ pub fn seated<'a>(
         said: String::new(alloc),
     };
     let mut said = String::new(alloc);
-    guest.does(&case.before, &mut gate, &mut said)?;
+    does(&mut guest, &case.before, &mut gate, &mut said)?;
     Ok((guest, gate))
 }

@@ -5,7 +5,7 @@ ghost use Rattle.hot_index.specs.Passes.{Owns};
 
 use crate::acts::push_act;
 use crate::cases::{Case, Deed, bad_line, deeds_of};
-use crate::guests::{Guest, open};
+use crate::guests::{Guest, does, open};
 use crate::judge::{Stopper, seated, verdict};
 use hot_index::{Event, Index, Pass};
 use std::alloc::AllocError;
@@ -58,7 +58,7 @@ fn push_answers(
     deeds: &[Deed],
     lines: &mut String,
 ) -> Result<(), AllocError> {
-    guest.does(deeds, gate, lines)?;
+    does(guest, deeds, gate, lines)?;
     push_acts(lines, &gate.judge.told)?;
     gate.judge.compare(case.alloc, guest)?;
     write!(lines, "\n  {}", verdict(gate.judge.wrong))
@@ -177,7 +177,7 @@ fn make_stop(
 ) -> io::Result<Stop> {
     deeds_of(&mut gate.deeds, other)?;
     gate.left = step;
-    guest.does(deeds, gate, said)?;
+    does(guest, deeds, gate, said)?;
     write!(said, "{}", gate.said)?;
     gate.judge.compare(case.alloc, guest)?;
     Ok(Stop {

@@ -5,9 +5,9 @@ ghost use Rattle.hot_index.specs.Passes.{Owns};
 
 use crate::cases::{Case, two_of};
 use crate::chance::Chance;
-use crate::guests::{Guest, guest_of, next_guest, open};
+use crate::guests::{Guest, does, next_guest, open};
 use crate::judge::{Judge, verdict};
-use hot_index::{Event, Gate, Index, Pass};
+use hot_index::{Event, Gate, Handle, Index, Pass};
 use std::alloc::{AllocError, Global};
 use std::sync::atomic::{AtomicU64, Ordering};
 use std::thread::{Threads, map_vec};
@@ -93,7 +93,7 @@ impl<'a> Gate for Turns<'a> {
 fn work(case: &Case, rota: &Rota, index: &Index, pass: Pass) -> Vec<(u64, Event)>
     requires { Owns index.now pass }
 {
-    let mut guest = guest_of(index, pass);
+    let mut guest = Handle::new(index, pass);
     let number = u64::from(guest.number());
     let mut chance = Chance(rota.seed.wrapping_add(number << 40));
     let told = Vec::new(case.alloc);
@@ -103,7 +103,7 @@ fn work(case: &Case, rota: &Rota, index: &Index, pass: Pass) -> Vec<(u64, Event)
     rota.wait(number);
     for turn in 0..DEEDS {
         let deed = chance.deed(&case.keys, turn);
-        if guest.does(&[deed], &mut gate, &mut said).is_err() {
+        if does(&mut guest, &[deed], &mut gate, &mut said).is_err() {
             rota.lost.fetch_add(1, Ordering::SeqCst);
         }
     }
