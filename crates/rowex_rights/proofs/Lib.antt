@@ -10,4 +10,3 @@ pub mod Replacing
 pub mod Acting
 pub mod Loops
 pub mod Ending
-pub mod Wholes
