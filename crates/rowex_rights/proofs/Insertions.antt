@@ -9,13 +9,9 @@ use Rattle.rowex_walks.specs.Rise.{body, entry}
 use Rattle.rowex_table.specs.Made.{Made}
 use Rattle.rowex_rights.specs.Stages.{HasLeaf, HasRisen}
 use Rattle.rowex_rights.specs.Rises.{of_view, of_leaf}
-use Rattle.rowex_rights.specs.Insertions.{in_node, at_root, Insertion, NormalInsert, Overflow, StaysWhole, PullUp, PullUpOverflow}
+use Rattle.rowex_rights.specs.Insertions.{NormalInsert, Overflow, StaysWhole, PullUp, PullUpOverflow}
 use Rattle.rowex_rights.proofs.Rising.{rise_grows, rise_whole, rises_copied, rises_wrapped, rises_pulled, rises_halved}
-use Rattle.rowex_rights.proofs.Inserting.{insert_in_slot, insert_at_root}
-
-pub insertion : Insertion
-insertion layout k held news gone has since x p l n w e at risen has_leaf (in_node o slot a place low) word = insert_in_slot layout k held news gone has since x p l o n slot w e risen has_leaf a place low word
-insertion layout k held news gone has since x p l n w e at risen has_leaf (at_root h anchor) word = insert_at_root layout k held news gone has since x p l n h w e risen has_leaf anchor word
+use Rattle.rowex_rights.proofs.Inserting.{insertion}
 
 -- more records leave the leaf among them
 leaf_still : (more news : List Made) (x : Item) → HasLeaf news x → HasLeaf (more ++ news) x

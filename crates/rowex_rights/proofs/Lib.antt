@@ -1,5 +1,6 @@
 -- The lemmas of the crate.
 pub mod Stages
+pub mod Holding
 pub mod Publishing
 pub mod Bounding
 pub mod Sure

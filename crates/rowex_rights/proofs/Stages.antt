@@ -22,8 +22,9 @@ use Rattle.tries.proofs.Places.{spot_below}
 use Rattle.moments.specs.declared.Rec.TheVariants.{Node as a_node, Leaf as a_leaf}
 use Rattle.moments.specs.Heap.{NodeWords}
 use Rattle.moments.proofs.Legal.{same_rec_refl}
-use Rattle.rowex_walks.specs.Writer.{IsNewLeaf}
-use Rattle.rowex_walks.specs.Rise.{IsNewPage, IsLockedNode, IsUpper, IsSlotStore, IsBelowNode}
+use Rattle.rowex_walks.specs.Writer.{IsNewLeaf, IsPageStored}
+use Rattle.rowex_walks.specs.Spots.{IsLockedNode}
+use Rattle.rowex_walks.specs.Rise.{IsNewPage, IsUpper}
 use Rattle.rowex_core.specs.declared.event.Spot.TheVariants.{Slot}
 use Rattle.rowex_core.specs.declared.known.Known.{Known}
 use Rattle.rowex_core.specs.declared.known.Locked.{Locked}
@@ -80,7 +81,8 @@ module _ (layout : Layout) (k : Known) (held : List Locked) (news : List Made) (
   -- the store of an entry at the key's place of a locked node
   pub slot_store : (o j w : ℕ) (words : List ℕ) (key : Key) (e : Entry) → IsOf (record { node = o; words = words }) held → spot key (node_words_of words).page ≡ j → HasEntryWord (Some e) → entry_word (Some e) ≡ w →
       IsLowerPage (node_words_of words).fixed.height (Place e) →
-      IsPackedAt c (Slot o j) w × IsSlotStore (bare c) (heap_of (stored_words c (Slot o j) w)) o key e × IsBelowNode (bare c) o e × IsLockedAt c k.pass (Slot o j)
+      IsPackedAt c (Slot o j) w × IsPageStored (heap_of c.words) (heap_of (stored_words c (Slot o j) w)) o (with_entry (node_words_of (c.words (a_node o))).page (spot key (node_words_of (c.words (a_node o))).page) e) ×
+      IsLowerPage (node_words_of (c.words (a_node o))).fixed.height (Place e) × IsLockedAt c k.pass (Slot o j)
   unfolding IsPacked
   slot_store o j w words key e h at fits is low =
       let (lock, tree, same) = stage.locks (record { node = o; words = words }) h in
@@ -114,7 +116,9 @@ module _ (layout : Layout) (k : Known) (held : List Locked) (news : List Made) (
       let (on, upper) = locked_node o a.upper a.has_upper in
       let (below, lower) = locked_node n a.lower a.has_lower in
       record {
-        over = record { locked = on; height = a.height; entry = ap (λ (z : NodeWords). seek key z.page) upper ∙ a.entry };
+        locked = on;
+        height = a.height;
+        entry = ap (λ (z : NodeWords). seek key z.page) upper ∙ a.entry;
         path = elim a.path [
           | inl h ↦ inl (subst (λ (z : NodeWords). IsFirstBelow p z.page) (sym lower) h)
           | inr h ↦ inr (subst (λ (z : NodeWords). IsTipPage (page_affected p key z.page)) (sym upper) h)

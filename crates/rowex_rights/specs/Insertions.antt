@@ -1,5 +1,5 @@
 -- Each case of an insertion below a node, with just the records that it makes, and just those that go.
-use Rattle.std.specs.Prelude.{◌≡◌, ℕ, List, [], ◌∷◌, ◌++◌, Some, None}
+use Rattle.std.specs.Prelude.{◌≡◌, ℕ, List, [], ◌∷◌, ◌++◌, None}
 use Rattle.compound_node.specs.Nodes.{NodeView, piece}
 use Rattle.compound_node.specs.declared.entries.Entry.{Entry}
 use Rattle.compound_node.specs.declared.entries.Entry.TheVariants.{Leaf, Node}
@@ -7,31 +7,24 @@ use Rattle.pieces.specs.Piece.{Place, Fork}
 use Rattle.record_words.specs.declared.layout.Layout.{Layout}
 use Rattle.tries.specs.Keys.{Key, bit}
 use Rattle.tries.specs.Tree.{Page}
-use Rattle.tries.specs.Place.{spot, with_page}
+use Rattle.tries.specs.Place.{with_page}
 use Rattle.tries.specs.Content.{Item}
-use Rattle.tries.specs.Affected.{page_affected, page_forked, page_grown, IsPartPage, IsLowerPage}
+use Rattle.tries.specs.Affected.{page_affected, page_forked, page_grown, IsPartPage}
 use Rattle.moments.specs.declared.Rec.{Rec}
 use Rattle.moments.specs.declared.Rec.TheVariants.{Node as a_node}
 use Rattle.moments.specs.State.{IsFrom}
 use Rattle.rowex_walks.specs.Writer.{added_change}
 use Rattle.rowex_walks.specs.Rise.{entry}
 use Rattle.rowex_core.specs.declared.event.Spot.{Spot}
-use Rattle.rowex_core.specs.declared.event.Spot.TheVariants.{Root, Slot}
 use Rattle.rowex_core.specs.declared.known.Known.{Known}
 use Rattle.rowex_core.specs.declared.known.Locked.{Locked}
 use Rattle.rowex_core.specs.Reading.{node_words_of}
 use Rattle.rowex_table.specs.Made.{Made}
 use Rattle.rowex_table.specs.Publishes.{Publishes}
 use Rattle.rowex_rights.specs.Stages.{HasReady, HasLeaf, HasRisen, IsLockedAbove}
+use Rattle.rowex_rights.specs.Spots.{IsSpotOf}
 use Rattle.rowex_rights.specs.Rises.{of_view, of_leaf, IsAnew, IsSide, HasFoundBelow}
 use Rattle.rowex_rights.specs.Cases.{IsWord}
-
--- The spot of the locked node n: its place in the locked node above it, or the root, under the anchor's lock. The entry e may stand
--- there.
-pub data IsSpotOf (k : Known) (held : List Locked) (key : Key) (p n : ℕ) (e : Entry) : Spot → Type 0 where
-  in_node : (o slot : ℕ) (a : IsLockedAbove held key p o n) → spot key (node_words_of a.upper).page ≡ slot → IsLowerPage (node_words_of a.upper).fixed.height (Place e) →
-      IsSpotOf k held key p n e (Slot o slot)
-  at_root : (h : ℕ) → k.anchor ≡ Some (Some (Node n h)) → IsSpotOf k held key p n e Root
 
 -- What has risen from the locked node n, one entry, at its spot.
 abbrev pub Insertion : Type 0

@@ -1,5 +1,5 @@
 -- What a writer has before its publish, by lists of its locks and of the records that it makes.
-use Rattle.std.specs.Prelude.{◌≡◌, ◌⊎◌, ℕ, List, map}
+use Rattle.std.specs.Prelude.{◌≡◌, ℕ, List, map}
 use Rattle.compound_node.specs.declared.entries.Entry.TheVariants.{Node}
 use Rattle.record_words.specs.declared.layout.Layout.{Layout}
 use Rattle.record_words.specs.Leaf.{HasLeafWords, leaf_words}
@@ -7,11 +7,11 @@ use Rattle.tries.specs.Keys.{Key}
 use Rattle.tries.specs.Tree.{Page}
 use Rattle.tries.specs.Search.{seek}
 use Rattle.tries.specs.Content.{Item}
-use Rattle.tries.specs.Affected.{page_affected, IsFirstBelow, IsTipPage}
 use Rattle.moments.specs.declared.Rec.{Rec}
 use Rattle.moments.specs.declared.Rec.TheVariants.{Leaf as a_leaf}
 use Rattle.moments.specs.State.{Past}
 use Rattle.moments.specs.Trades.{IsOf}
+use Rattle.rowex_walks.specs.Spots.{AffectsOne}
 use Rattle.rowex_walks.specs.Rise.{Side, IsRise, news_of, gone_of}
 use Rattle.rowex_core.specs.declared.known.Holding.TheVariants.{Ready}
 use Rattle.rowex_core.specs.declared.known.Known.{Known}
@@ -59,7 +59,7 @@ pub record IsLockedAbove (held : List Locked) (key : Key) (p o n : ℕ) : Type 0
   pub has_lower : IsOf (record { node = n; words = lower }) held
   pub height : ℕ
   pub entry : seek key (node_words_of upper).page ≡ Node n height
-  pub path : IsFirstBelow p (node_words_of lower).page ⊎ IsTipPage (page_affected p key (node_words_of upper).page)
+  pub path : AffectsOne p key (node_words_of upper).page (node_words_of lower).page
 
 -- In each stage leaf j has this key, and this value.
 abbrev pub IsLeafThere : Layout → Known → List Locked → List Made → ℕ → Key → ℕ → Type 0

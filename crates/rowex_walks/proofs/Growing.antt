@@ -1,18 +1,15 @@
 -- Each insertion is a chain of a few steps, from the lowest locked node up to the entry that is stored.
 use Rattle.std.proofs.Common.{◌≡◌, ◌⊎◌, inl, inr, ℕ, refl, ap, ap₂, ◌∙◌, Some}
 use Rattle.tries.specs.Keys.{Key, bit}
-use Rattle.tries.specs.Tree.{Fixed, Tree, node, fork, page, Has, IsTrie, IsTip, IsLower, IsBuilt, Within, here, inside}
-use Rattle.compound_node.specs.declared.entries.Entry.{Entry}
-use Rattle.pieces.specs.Piece.{Place}
-use Rattle.moments.specs.Heap.{Heap, IsShown}
+use Rattle.tries.specs.Tree.{Fixed, Tree, node, fork, Has, IsTrie, IsBuilt, Within, here, inside}
+use Rattle.moments.specs.Heap.{IsShown}
 use Rattle.moments.specs.State.{Links, IsLawfulState}
 use Rattle.moments.specs.declared.Rec.{Rec}
 use Rattle.moments.specs.declared.Rec.TheVariants.{Node as a_node}
 use Rattle.moments.specs.Core.{Ready, BareCore, view}
-use Rattle.moments.specs.Steps.{IsMomentPublish}
 use Rattle.tries.specs.Content.{Item}
 use Rattle.tries.proofs.Changes.{put, IsPathBelow, IsFlat}
-use Rattle.rowex_walks.specs.Writer.{added_change, IsPageStored, IsNewLeaf, IsFoundBelow}
+use Rattle.rowex_walks.specs.Writer.{IsNewLeaf, IsFoundBelow}
 use Rattle.tries.specs.Affected.{affected, IsPart}
 use Rattle.tries.proofs.Tries.{trie_within, built_within, within_trans}
 use Rattle.moments.proofs.Heaps.{shown_within}
@@ -20,7 +17,6 @@ use Rattle.tries.proofs.Places.{grown, bare}
 use Rattle.tries.proofs.Adding.{added_put, added_bare, added_here}
 use Rattle.rowex_walks.proofs.Now.{built_now, shown_now, trie_now}
 use Rattle.rowex_walks.proofs.Hands.{hand_stay, hand_around, hand_open, hand_put, hand_grown, added_around, added_open}
-use Rattle.rowex_walks.proofs.Cases.{slot_added, root_added}
 use Rattle.rowex_walks.proofs.Insertions.{found_added, found_away, hand_leaf_in, with_leaf}
 use Rattle.rowex_walks.proofs.AtHand.{IsNewNode, IsHalf, one, many, IsGrowth}
 
@@ -102,17 +98,6 @@ module _ (c : BareCore) (q : ℕ) (law : IsLawfulState (view c)) (t : Tree) (now
     hand = hand_grown c q (bit x.key p) p s s x (hand_stay c q s (built_within w (built_now c law t now)) (shown_within c.heap w (shown_now c law t now))) new.fate new.words;
     adds = added_here s x p (trie_within w (trie_now c law t now)) f.key (λ k h. found_away c q law t now v since p x l f is_part k (keys k h));
   }
-
-  -- The end: the store at an entry of a locked node, or at the root.
-  pub growth_slot : {n : ℕ} {y : Fixed} {b s : Tree} (v : Within (node n y b) t) (w : Within s b) → IsFlat w → IsTip s → IsPathBelow p w →
-      c.lock n ≡ Some q → (r : Tree) → IsTip r → IsLower y.height r → IsGrowth c q x p s r →
-      (heap : Heap) → IsPageStored c.heap heap n (page (put w r)) →
-      IsMomentPublish c q heap c.root (Some (put v (node n y (put w r)))) (added_change q x)
-  growth_slot v w flat ts path lock r tr low a heap st = slot_added c q law t now v w flat ts r tr lock a.hand low x p a.adds path heap st
-
-  pub growth_root : (r : Tree) (e : Entry) → page r ≡ Place e → c.anchor ≡ Some q → IsGrowth c q x p t r →
-      IsMomentPublish c q c.heap (Some e) (Some r) (added_change q x)
-  growth_root r e pg lock a = root_added c q law t now r e pg lock a.hand x p a.adds
 
   -- What the next node's body becomes.
   pub pulled : {o n : ℕ} {z y : Fixed} {d b : Tree} → Within (node o z d) t → (u : Within (node n y b) d) → IsFlat u → IsPathBelow p u → (r : Tree) →

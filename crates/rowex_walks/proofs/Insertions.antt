@@ -1,31 +1,29 @@
 -- The insertion cases.
-use Rattle.std.proofs.Common.{◌≡◌, ◌≢◌, inr, ℕ, ◌<◌, refl, ap, sym, ◌∙◌, subst, Some, None}
-use Rattle.tries.specs.Keys.{Key, bit, AgreeBelow}
-use Rattle.tries.specs.Tree.{Fixed, Tree, leaf, node, fork, page, Has, IsTrie, IsFork, IsBuilt, Within, here, inside}
-use Rattle.compound_node.specs.declared.entries.Entry.TheVariants.{Leaf, Node}
+use Rattle.std.proofs.Common.{◌≡◌, inr, ℕ, refl, ap, sym, ◌∙◌, subst, Some, None}
+use Rattle.tries.specs.Keys.{Key, bit}
+use Rattle.tries.specs.Tree.{Fixed, Tree, leaf, node, fork, Has, IsTrie, IsFork, IsBuilt, Within, here, inside}
+use Rattle.compound_node.specs.declared.entries.Entry.TheVariants.{Leaf}
 use Rattle.tries.specs.Search.{Follows, child}
-use Rattle.moments.specs.Heap.{Heap, IsShown}
 use Rattle.moments.specs.State.{IsLawfulState}
 use Rattle.moments.specs.declared.Rec.TheVariants.{Node as a_node}
 use Rattle.moments.specs.Core.{InTree, BareCore, view}
 use Rattle.moments.specs.Steps.{IsMomentPublish, at_root}
 use Rattle.tries.specs.Content.{Item, added}
 use Rattle.tries.specs.Changes.{IsAdded}
-use Rattle.tries.proofs.Changes.{put, IsFlat, IsExchanged}
+use Rattle.tries.proofs.Changes.{put}
 use Rattle.moments.specs.Told.{IsChange}
-use Rattle.rowex_walks.specs.Writer.{added_change, replaced_change, IsPageStored, IsNewLeaf, IsFoundBelow}
+use Rattle.rowex_walks.specs.Writer.{added_change, IsNewLeaf, IsFoundBelow}
 use Rattle.tries.specs.Affected.{affected, IsPart}
 use Rattle.tries.proofs.Tries.{trie_within, built_within, within_trans}
 use Rattle.moments.proofs.Heaps.{shown_within, near_refl}
 use Rattle.tries.proofs.Places.{grown, bare}
 use Rattle.moments.proofs.Growth.{in_tree_now}
-use Rattle.tries.proofs.Adding.{added_here, added as added_at, exchanged_leaf}
-use Rattle.tries.proofs.Affected.{IsAway, away, part_away, part_place}
+use Rattle.tries.proofs.Adding.{added as added_at}
+use Rattle.tries.proofs.Affected.{IsAway, part_away, part_place}
 use Rattle.rowex_walks.proofs.Now.{built_now, shown_now, trie_now}
 use Rattle.rowex_walks.proofs.Descent.{way_follows}
-use Rattle.rowex_walks.proofs.Hands.{hand_stay, hand_around, hand_put, hand_leaf, hand_grown, added_around}
-use Rattle.rowex_walks.proofs.Cases.{slot_exchanged, root_added, root_exchanged}
-use Rattle.rowex_walks.proofs.AtHand.{IsAtHand, IsNewNode}
+use Rattle.rowex_walks.proofs.Hands.{hand_stay, hand_put, hand_grown}
+use Rattle.rowex_walks.proofs.AtHand.{IsAtHand}
 
 -- The body with the new leaf at the affected part.
 abbrev pub with_leaf : Item → ℕ → Tree → Tree
@@ -65,39 +63,6 @@ module _ (c : BareCore) (q : ℕ) (law : IsLawfulState (view c)) (t : Tree) (now
       let j = shown_within c.heap (within_trans (inside here) v) (shown_now c law t now) in
       hand_put c q place.0 place.1 (grown (bit x.key p) p d x) i j
       (hand_grown c q (bit x.key p) p d d x (hand_stay c q d (built_within place.0 i) (shown_within c.heap place.0 j)) new.fate new.words)
-
-  -- Upsert of a held key: another leaf takes the leaf's place.
-  pub upsert : {n : ℕ} {y : Fixed} {b : Tree} (v : Within (node n y b) t) (j a : ℕ) (x : Item) (w : Within (leaf j x.key a) b) → IsFlat w →
-      c.lock n ≡ Some q → IsNewLeaf c q x → 0 < y.height → (heap : Heap) → IsPageStored c.heap heap n (page (put w (leaf x.number x.key x.value))) →
-      IsMomentPublish c q heap c.root (Some (put v (node n y (put w (leaf x.number x.key x.value))))) (replaced_change q x)
-  upsert {n} {y} {b} v j a x w flat lock new low heap st =
-      slot_exchanged c q law t now v w flat tt (leaf x.number x.key x.value) tt lock
-      (hand_leaf c q j x.number x.key x.key a x.value new.fate new.words) low
-      (record { number = j; key = x.key; value = a }) x refl (exchanged_leaf j x.number x.key a x.value new.key) heap st
-
-  pub upsert_top : (j a : ℕ) (x : Item) → t ≡ leaf j x.key a → c.anchor ≡ Some q → IsNewLeaf c q x →
-      IsMomentPublish c q c.heap (Some (Leaf x.number)) (Some (leaf x.number x.key x.value)) (replaced_change q x)
-  upsert_top j a x e lock new =
-      root_exchanged c q law t now (leaf x.number x.key x.value) (Leaf x.number) refl lock
-      (subst (λ s. IsAtHand c q s (leaf x.number x.key x.value)) (sym e) (hand_leaf c q j x.number x.key x.key a x.value new.fate new.words))
-      (record { number = j; key = x.key; value = a }) x refl
-      (subst (λ s. IsExchanged (record { number = j; key = x.key; value = a }) x s (leaf x.number x.key x.value)) (sym e) (exchanged_leaf j x.number x.key a x.value new.key))
-
-  -- A second key: a new node of two entries takes the place of the leaf at the root.
-  pub second_key : (j a p : ℕ) (k : Key) (x : Item) → t ≡ leaf j k a → AgreeBelow p x.key k → bit x.key p ≢ bit k p → c.anchor ≡ Some q → IsNewLeaf c q x →
-      (m : ℕ) (g : Fixed) → IsNewNode c q m g (grown (bit x.key p) p (leaf j k a) x) →
-      IsMomentPublish c q c.heap (Some (Node m g.height)) (Some (node m g (grown (bit x.key p) p (leaf j k a) x))) (added_change q x)
-  second_key j a p k x e agree differ lock leaf_new m g new =
-      let d : Tree = leaf j k a in
-      let s = grown (bit x.key p) p d x in
-      root_added c q law t now (node m g s) (Node m g.height) refl lock
-      (subst (λ o. IsAtHand c q o (node m g s)) (sym e)
-      (hand_around c q d s m g
-      (hand_grown c q (bit x.key p) p d d x (hand_stay c q d tt (subst (IsShown c.heap) e (shown_now c law t now))) leaf_new.fate leaf_new.words)
-      new))
-      x p
-      (subst (λ o. IsAdded x p o (node m g s)) (sym e)
-      (added_around d s m g x p (added_here d x p (subst IsTrie e (trie_now c law t now)) leaf_new.key (λ y h. away p x.key k y agree differ (λ r i. ap (λ o. bit o r) (sym h)) (ap (λ o. bit o p) (sym h))))))
 
 -- The first key.
 pub first_key : (c : BareCore) (q : ℕ) → IsLawfulState (view c) → c.past.moment c.past.now ≡ None → (x : Item) → c.anchor ≡ Some q → IsNewLeaf c q x →

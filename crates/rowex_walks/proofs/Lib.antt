@@ -4,7 +4,7 @@ pub mod AtHand
 pub mod Search
 pub mod Replaced
 pub mod Hands
-pub mod Cases
+pub mod Paths
 pub mod Descent
 pub mod Insertions
 pub mod Growing
@@ -13,9 +13,9 @@ pub mod Removal
 pub mod Steady
 pub mod Trading
 pub mod Differing
+pub mod Holding
 pub mod Rising
 pub mod Upwards
-pub mod Pushing
 pub mod Leaves
 pub mod Taking
 pub mod Scans

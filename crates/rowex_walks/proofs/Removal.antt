@@ -2,23 +2,19 @@
 use Rattle.moments.specs.Told.{IsChange}
 use Rattle.std.proofs.Common.{◌≡◌, inl, inr, ℕ, [], refl, sym, subst, Some, None}
 use Rattle.tries.specs.Keys.{Key}
-use Rattle.tries.specs.Tree.{Fixed, Tree, leaf, node, fork, page, IsTrie, IsTip, IsLower, IsBuilt, Within, here, inside, zero_side, one_side}
-use Rattle.compound_node.specs.declared.entries.Entry.{Entry}
-use Rattle.pieces.specs.Piece.{Place}
-use Rattle.moments.specs.Heap.{Heap, IsShown}
+use Rattle.tries.specs.Tree.{Fixed, Tree, leaf, node, fork, IsTrie, IsBuilt, Within, here, inside, zero_side, one_side}
+use Rattle.moments.specs.Heap.{IsShown}
 use Rattle.moments.specs.State.{Links, IsLawfulState}
 use Rattle.moments.specs.declared.Rec.TheVariants.{Node as a_node, Leaf as a_leaf}
 use Rattle.moments.specs.Core.{BareCore, view}
 use Rattle.moments.specs.Steps.{IsMomentPublish, at_root}
 use Rattle.tries.specs.Content.{Item, items, IsMore, added, item}
-use Rattle.tries.proofs.Changes.{put, IsFlat, IsRemoved}
-use Rattle.rowex_walks.specs.Writer.{removed_change, IsPageStored}
-use Rattle.tries.proofs.Tries.{trie_within, within_trans}
+use Rattle.tries.proofs.Changes.{put, IsRemoved}
+use Rattle.rowex_walks.specs.Writer.{removed_change}
 use Rattle.moments.proofs.Heaps.{near_refl}
 use Rattle.tries.proofs.Contents.{more_left, more_right}
 use Rattle.tries.proofs.Adding.{put_less, has_less}
-use Rattle.rowex_walks.proofs.Now.{trie_now}
-use Rattle.rowex_walks.proofs.Replaced.{slot_legal, root_legal, fate_linked}
+use Rattle.rowex_walks.proofs.Replaced.{fate_linked}
 use Rattle.rowex_walks.proofs.AtHand.{IsAtHand}
 use Rattle.tries.proofs.Places.{more_after}
 
@@ -65,20 +61,6 @@ module _ (c : BareCore) (q : ℕ) where
   }
 
 module _ (c : BareCore) (q : ℕ) (law : IsLawfulState (view c)) (t : Tree) (now : c.past.moment c.past.now ≡ Some t) where
-  -- At an entry of a locked node: what stands there loses one leaf.
-  pub slot_removed : {n : ℕ} {y : Fixed} {b s : Tree} (v : Within (node n y b) t) (w : Within s b) → IsFlat w → IsTip s → (r : Tree) → IsTip r →
-      c.lock n ≡ Some q → IsAtHand c q s r → IsLower y.height r → (x : Item) → IsRemoved x s r →
-      (heap : Heap) → IsPageStored c.heap heap n (page (put w r)) →
-      IsMomentPublish c q heap c.root (Some (put v (node n y (put w r)))) (removed_change q x)
-  slot_removed {n} {y} {b} {s} v w flat ts r tr lock hand low x a heap st =
-      let body = removed_put w r x (trie_within (within_trans (inside here) v) (trie_now c law t now)) a in
-      let whole : IsRemoved x t (put v (node n y (put w r))) = removed_put v (node n y (put w r)) x (trie_now c law t now) (removed_marks b (put w r) n n y y x body) in
-      slot_legal c q law t now v w flat ts r tr lock hand low whole.trie heap st (removed_change q x) refl (x.number, whole.less)
-
-  pub root_removed : (r : Tree) (e : Entry) → page r ≡ Place e → c.anchor ≡ Some q → IsAtHand c q t r → (x : Item) → IsRemoved x t r →
-      IsMomentPublish c q c.heap (Some e) (Some r) (removed_change q x)
-  root_removed r e pg lock hand x a = root_legal c q law t now r e pg lock hand a.trie (removed_change q x) refl (x.number, a.less)
-
   -- The one leaf: the index is empty then.
   pub remove_last : (n : ℕ) (k : Key) (a : ℕ) → t ≡ leaf n k a → c.anchor ≡ Some q → IsMomentPublish c q c.heap None None (removed_change q (item n k a))
   remove_last n k a e lock = record {

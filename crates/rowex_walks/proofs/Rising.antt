@@ -5,35 +5,35 @@ use Rattle.tries.specs.Keys.{Key, bit}
 use Rattle.compound_node.specs.declared.entries.Entry.{Entry}
 use Rattle.compound_node.specs.declared.entries.Entry.TheVariants.{Leaf, Node}
 use Rattle.pieces.specs.Piece.{Place, Fork}
-use Rattle.tries.specs.Tree.{Fixed, Page, Tree, leaf, node, fork, page, Has, IsTrie, IsTip, IsFork, Within, here, inside, IsFit, IsBuilt}
+use Rattle.tries.specs.Tree.{Fixed, Page, Tree, leaf, node, fork, page, Has, IsTrie, IsFork, Within, here, inside, IsFit, IsBuilt}
 use Rattle.tries.specs.Search.{child}
 use Rattle.tries.specs.Content.{Item}
 use Rattle.tries.proofs.Changes.{put, IsPathBelow, IsFlat}
 use Rattle.tries.specs.Place.{with_page}
 use Rattle.tries.specs.Affected.{affected, IsPart, page_affected, page_forked, page_grown, IsPartPage, IsLowerPage, IsFirstBelow, IsTipPage}
-use Rattle.moments.specs.Heap.{NodeWords, Heap, IsShown}
+use Rattle.moments.specs.Heap.{NodeWords, IsShown}
 use Rattle.moments.specs.State.{IsFrom, IsLawfulState, Links}
 use Rattle.moments.specs.Core.{BareCore, view, Ready}
-use Rattle.moments.specs.Steps.{IsMomentPublish}
-use Rattle.rowex_walks.specs.Writer.{added_change, IsPageStored, IsNewLeaf, IsFoundBelow}
-use Rattle.rowex_walks.specs.Rise.{IsNewPage, IsEntryFor, alone, in_node, IsUpper, Side, body, entry, IsRise, grows, pulls, copies, halves, stays_whole, wraps, IsSlotStore, IsBelowNode, entry_news, news_of, gone_of}
+use Rattle.rowex_walks.specs.Writer.{added_change, IsNewLeaf, IsFoundBelow}
+use Rattle.rowex_walks.specs.Rise.{IsNewPage, IsEntryFor, alone, in_node, IsUpper, Side, body, entry, IsRise, grows, pulls, copies, halves, stays_whole, wraps, entry_news, news_of, gone_of}
 use Rattle.tries.proofs.Tries.{trie_within, built_within, within_trans}
 use Rattle.tries.proofs.Affected.{affected_page, part_page, part_place, lower_page, place_page, grown_page}
 use Rattle.tries.proofs.Places.{grown}
 use Rattle.moments.proofs.Heaps.{shown_within}
 use Rattle.rowex_walks.proofs.Now.{built_now, shown_now, trie_now}
-use Rattle.rowex_walks.proofs.Cases.{path_rises_node}
+use Rattle.rowex_walks.proofs.Paths.{path_rises_node}
 use Rattle.rowex_walks.proofs.Insertions.{with_leaf, part_of}
-use Rattle.rowex_walks.proofs.Growing.{growth_around, growth_open, growth_cut, growth_leaf, growth_beside, growth_slot, growth_root, pulled}
-use Rattle.rowex_walks.proofs.Standing.{stands_now, entry_node, root_node, now_standing, now_rooted}
-use Rattle.tries.proofs.Spots.{IsSpot, page_spot, with_page_entry}
+use Rattle.rowex_walks.proofs.Growing.{growth_around, growth_open, growth_cut, growth_leaf, growth_beside, pulled}
+use Rattle.rowex_walks.proofs.Standing.{entry_node}
+use Rattle.tries.proofs.Adding.{added_put}
+use Rattle.tries.proofs.Spots.{IsSpot, page_spot}
 use Rattle.moments.specs.declared.Rec.TheVariants.{Node as a_node, Leaf as a_leaf}
 use Rattle.moments.specs.Trades.{IsOf}
 use Rattle.moments.specs.declared.Rec.{Rec}
 use Rattle.moments.proofs.Members.{of_append, of_left, of_right}
-use Rattle.rowex_walks.proofs.Trading.{IsTrade, old_now, traded_put, grown_trade, open_trade, around_trade, slot_trade}
-use Rattle.rowex_walks.proofs.Differing.{published}
-use Rattle.rowex_walks.specs.Statements.{InsertInSlot, InsertAtRoot}
+use Rattle.rowex_walks.proofs.Trading.{IsTrade, old_now, traded_put, grown_trade, open_trade, around_trade}
+use Rattle.rowex_walks.proofs.Holding.{is_tip, now_held, node_at, published_at}
+use Rattle.rowex_walks.specs.Statements.{InsertAtSpot}
 use Rattle.rowex_walks.proofs.AtHand.{IsNewNode, IsHalf, one, many, IsGrowth}
 
 -- A page's shape is that of its tree.
@@ -41,11 +41,6 @@ fork_of_page : (u : Tree) → (IsTipPage (page u) → ⊥) → IsFork u
 fork_of_page (leaf n k v) f = f tt
 fork_of_page (node n k v) f = f tt
 fork_of_page (fork n k v) f = tt
-
-pub is_tip : (u : Tree) → IsTipPage (page u) → IsTip u
-is_tip (leaf n k v) i = tt
-is_tip (node n k v) i = tt
-is_tip (fork n k v) i = i
 
 abbrev pub IsForkOf : ℕ → Page → Page → Tree → Type 0
 IsForkOf f a b u = (s : Tree) × (r : Tree) × (u ≡ fork f s r) × (page s ≡ a) × (page r ≡ b)
@@ -133,6 +128,12 @@ cut_trade c q s f d e a b new gone us vs old t u v = record {
     from : (n : Rec) → Links d n ⊎ Links e n → Links s n ⊎ IsOf n (us ++ (vs ++ new))
     from n h = elim (t.trade.comes n h) [ inl y ↦ inl y | inr y ↦ inr (of_right n us (vs ++ new) (of_right n vs new y)) ]
 
+-- The forks above a node whose first fork is before `p` are so too.
+first_path : (p : ℕ) {n : ℕ} {y : Fixed} {d : Tree} (b : Tree) (w : Within (node n y b) d) → IsTrie d → IsFirstBelow p (page b) → IsPathBelow p w
+first_path p (leaf a k s) w i h = absurd h
+first_path p (node a k s) w i h = absurd h
+first_path p (fork a k s) w i h = path_rises_node w i (omega arith)
+
 module _ (c : BareCore) (q : ℕ) (law : IsLawfulState (view c)) (t : Tree) (now : c.past.moment c.past.now ≡ Some t) (since : ℕ) (x : Item) (p : ℕ) (l : Key)
     (new : IsNewLeaf c q x) where
   words_of : {n : ℕ} {y : Fixed} {b : Tree} → Within (node n y b) t → c.heap.nodes n ≡ record { fixed = y; page = page b }
@@ -149,7 +150,7 @@ module _ (c : BareCore) (q : ℕ) (law : IsLawfulState (view c)) (t : Tree) (now
   IsChild d n = (y : Fixed) × (b : Tree) × (w : Within (node n y b) d) × IsFlat w × IsPathBelow p w × ((r : Tree) → page (put w r) ≡ with_page x.key (page r) (page d))
 
   child_of : {o n : ℕ} {z : Fixed} {d : Tree} → Within (node o z d) t → IsUpper c q x.key p o n → IsChild d n
-  child_of {o} {n} {z} {d} v u = go (entry_node c law t now v x.key n u.over.height u.over.entry)
+  child_of {o} {n} {z} {d} v u = go (entry_node c law t now v x.key n u.height u.entry)
     where
       go : (y : Fixed) × (b : Tree) × (child x.key d ≡ node n y b) × (c.heap.nodes n ≡ record { fixed = y; page = page b }) → IsChild d n
       go (y, b, f, w) = (y, b, at.0, at.1, path u.path, at.2)
@@ -160,13 +161,8 @@ module _ (c : BareCore) (q : ℕ) (law : IsLawfulState (view c)) (t : Tree) (now
           trie_d : IsTrie d
           trie_d = trie_within (within_trans (inside here) v) (trie_now c law t now)
 
-          first_path : (b : Tree) (w : Within (node n y b) d) → IsFirstBelow p (page b) → IsPathBelow p w
-          first_path (leaf a k s) w h = absurd h
-          first_path (node a k s) w h = absurd h
-          first_path (fork a k s) w h = path_rises_node w trie_d (omega arith)
-
           path : IsFirstBelow p (c.heap.nodes n).page ⊎ IsTipPage (page_affected p x.key (c.heap.nodes o).page) → IsPathBelow p at.0
-          path (inl h) = first_path b at.0 (subst (IsFirstBelow p) (ap (λ (z : NodeWords). z.page) w) h)
+          path (inl h) = first_path p b at.0 trie_d (subst (IsFirstBelow p) (ap (λ (z : NodeWords). z.page) w) h)
           path (inr h) = at.3 p (is_tip (affected p x.key d) (subst IsTipPage (ap (page_affected p x.key) (page_of v) ∙ sym (affected_page p x.key d)) h))
 
   -- What the rise of a node is the page of: a tree in the place of its body, or of its entry; and what it trades.
@@ -177,7 +173,7 @@ module _ (c : BareCore) (q : ℕ) (law : IsLawfulState (view c)) (t : Tree) (now
   -- The node is locked.
   rise_locked : (d : Side) (n : ℕ) (r : Page) → IsRise c q since x p l d n r → c.lock n ≡ Some q
   rise_locked d o r (grows n found i) = found.lock
-  rise_locked d o r (pulls k n s u i) = u.over.locked.lock
+  rise_locked d o r (pulls k n s u i) = u.locked.lock
   rise_locked d o r (copies n s m g i z) = rise_locked body n s i
   rise_locked d o r (halves n f a b e h i u v) = rise_locked body n (Fork f a b) i
   rise_locked d o r (stays_whole n found i) = found.lock
@@ -272,30 +268,6 @@ module _ (c : BareCore) (q : ℕ) (law : IsLawfulState (view c)) (t : Tree) (now
   risen d o r (stays_whole n found i) = rise_whole n found i
   risen d o r (wraps n s m g i z) = rise_wraps n s m g (news_of i) (gone_of i) (risen entry n s i) z
 
-  -- The publish, at an entry of a locked node.
-  pub rise_slot : (o n : ℕ) (e : Entry) (i : IsRise c q since x p l entry n (Place e)) → IsUpper c q x.key p o n → IsBelowNode c o e →
-      (heap : Heap) → IsSlotStore c heap o x.key e → (r : Tree) × IsMomentPublish c q heap c.root (Some r) (added_change q x) × IsTrade c q t r (news_of i) (gone_of i)
-  rise_slot o n e i u low heap st =
-      let (d, v, pg) = stands_now c law t now o u.over.locked.linked u.over.locked.fate in
-      let (y, b, w, flat, path, pages) = child_of v u in
-      let (s, z, a, tr) = risen entry n (Place e) i y b (within_trans w (within_trans (inside here) v)) in
-      let stored : IsPageStored c.heap heap o (page (put w s)) =
-      subst (IsPageStored c.heap heap o)
-      (sym (with_page_entry x.key e (c.heap.nodes o).page) ∙ (ap (with_page x.key (Place e)) (sym pg) ∙ (ap (λ r. with_page x.key r (page d)) (sym z) ∙ sym (pages s)))) st in (
-        put v (node o (c.heap.nodes o).fixed (put w s)),
-        growth_slot c q law t now since x p l new v w flat tt path u.over.locked.lock s (is_tip s (subst IsTipPage (sym z) tt))
-            (lower_page (c.heap.nodes o).fixed.height s (subst (IsLowerPage (c.heap.nodes o).fixed.height) (sym z) low)) a heap stored,
-        slot_trade c q law t now v w s (news_of i) (gone_of i) tr,
-      )
-
-  -- At the root.
-  pub rise_root : (n h : ℕ) (e : Entry) (i : IsRise c q since x p l entry n (Place e)) → c.anchor ≡ Some q → c.root ≡ Some (Node n h) →
-      (r : Tree) × IsMomentPublish c q c.heap (Some e) (Some r) (added_change q x) × IsTrade c q t r (news_of i) (gone_of i)
-  rise_root n h e i lock root =
-      let (y, b, is) = root_node c law t now n h root in
-      let (s, z, a, tr) = risen entry n (Place e) i y b (subst (Within (node n y b)) (sym is) here) in
-      (s, growth_root c q law t now since x p l new s e z lock (subst (λ u. IsGrowth c q x p u s) (sym is) a), subst (λ u. IsTrade c q u s (news_of i) (gone_of i)) (sym is) tr)
-
 -- The new leaf is among the records of a rise.
 pub leaf_risen : {c : BareCore} {q since : ℕ} {x : Item} {p : ℕ} {l : Key} {d : Side} {n : ℕ} {r : Page} (i : IsRise c q since x p l d n r) → IsOf (a_leaf x.number) (news_of i)
 leaf_risen (grows n found i) = inl refl
@@ -305,15 +277,12 @@ leaf_risen {x = x} (halves n f a b d e i u v) = of_right (a_leaf x.number) (entr
 leaf_risen (stays_whole n found i) = inl refl
 leaf_risen (wraps n r m g i z) = inr (leaf_risen i)
 
--- The same with no tree named: what is locked, or the root's entry, stands in the present tree.
-pub insert_slot : InsertInSlot
-insert_slot c q law since x p l new o n e i u low heap st =
-    let (t, now) = now_standing c law o u.over.locked.linked u.over.locked.fate in
-    let (r, legal, trade) = rise_slot c q law t now since x p l new o n e i u low heap st in
-    published c q law t now heap c.root (added_change q x) r x.number (news_of i) (gone_of i) legal trade (inl (leaf_risen i))
-
-pub insert_root : InsertAtRoot
-insert_root c q law since x p l new n h e i lock root =
-    let (t, now) = now_rooted c law (Node n h) root in
-    let (r, legal, trade) = rise_root c q law t now since x p l new n h e i lock root in
-    published c q law t now c.heap (Some e) (added_change q x) r x.number (news_of i) (gone_of i) legal trade (inl (leaf_risen i))
+-- The publish, at the spot of the node.
+pub insert_at_spot : InsertAtSpot
+insert_at_spot c q law since x p l new n h e i s only low heap root st =
+    let (t, now) = now_held c q law s in
+    let (y, b, at) = node_at c q law t now x.key n h s in
+    let (r, pg, a, tr) = risen c q law t now since x p l new entry n (Place e) i y b at.place in
+    let first : IsFirstBelow p (c.heap.nodes n).page → IsPathBelow p at.place = λ f. first_path p b at.place (trie_now c law t now) (subst (IsFirstBelow p) (ap (λ (z : NodeWords). z.page) (shown_within c.heap at.place (shown_now c law t now)).0) f) in
+    let whole = added_put at.place r x p (trie_now c law t now) (at.path p first only) a.adds in
+    published_at c q law t now x.key (Node n h) s (node n y b) at r e pg low a.hand x.number (news_of i) (gone_of i) tr (inl (leaf_risen i)) whole.trie (added_change q x) refl (x.number, whole.more) heap root st

@@ -1,7 +1,7 @@
 -- What a pass's locks and the words that it has read say of the present tree.
 use Rattle.std.proofs.Common.{◌≡◌, ℕ, refl, ap, sym, ◌∙◌, subst, Some, Option, None}
 use Rattle.tries.specs.Keys.{Key}
-use Rattle.tries.specs.Tree.{Fixed, Tree, leaf, node, fork, page, Within, here, inside}
+use Rattle.tries.specs.Tree.{Fixed, Tree, leaf, node, page, Within, here, inside}
 use Rattle.compound_node.specs.declared.entries.Entry.TheVariants.{Leaf, Node}
 use Rattle.pieces.specs.Piece.{Place}
 use Rattle.tries.specs.Search.{child, seek}
@@ -10,16 +10,20 @@ use Rattle.moments.specs.State.{IsLawfulState, IsTop}
 use Rattle.moments.specs.declared.Rec.TheVariants.{Node as a_node}
 use Rattle.moments.specs.Core.{InTree, BareCore, view}
 use Rattle.tries.proofs.Tries.{within_trans, page_child, within_child}
-use Rattle.moments.proofs.Heaps.{shown_within, leaf_parts}
+use Rattle.moments.proofs.Heaps.{shown_within}
 use Rattle.moments.proofs.Growth.{in_tree_now}
 use Rattle.compound_node.specs.declared.entries.Entry.{Entry}
 use Rattle.rowex_walks.proofs.Now.{shown_now}
-
-node_parts : {n m h g : ℕ} → Place (Node n h) ≡ Place (Node m g) → n ≡ m
-node_parts e = cc
+use Rattle.rowex_walks.proofs.Scans.{node_of, leaf_of as leaf_named}
 
 some_same : {a b : Tree} → Some a ≡ Some b → a ≡ b
 some_same e = cc
+
+-- A leaf is the one of its number, with its words.
+pub leaf_of : (c : BareCore) {j : ℕ} (u : Tree) → IsShown c.heap u → page u ≡ Place (Leaf j) → u ≡ leaf j (c.heap.leaves j).key (c.heap.leaves j).value
+leaf_of c {j} u s e =
+    let (k, v, is) = leaf_named j u e in
+    is ∙ sym (ap (λ (r : LeafWords). leaf j r.key r.value) (subst (IsShown c.heap) is s))
 
 module _ (c : BareCore) (law : IsLawfulState (view c)) (t : Tree) (now : c.past.moment c.past.now ≡ Some t) where
   -- A node that is in the tree stands in the present tree with its words.
@@ -38,26 +42,14 @@ module _ (c : BareCore) (law : IsLawfulState (view c)) (t : Tree) (now : c.past.
       (page_child k d ∙ ap Place (ap (seek k) (sym words) ∙ e))
     where
       go : (u : Tree) → IsShown c.heap u → page u ≡ Place (Node n h) → (y : Fixed) × (b : Tree) × (u ≡ node n y b) × (c.heap.nodes n ≡ record { fixed = y; page = page b })
-      go (leaf m y b) s e = absurd cc
-      go (fork m y b) s e = absurd cc
-      go (node m y b) s e = (y, b, ap (λ a. node a y b) (node_parts e), ap c.heap.nodes (sym (node_parts e)) ∙ s.0)
-
-  -- A leaf is the one of its number, with its words.
-  leaf_of : {j : ℕ} (u : Tree) → IsShown c.heap u → page u ≡ Place (Leaf j) → u ≡ leaf j (c.heap.leaves j).key (c.heap.leaves j).value
-  leaf_of (node m y b) s e = absurd cc
-  leaf_of (fork m y b) s e = absurd cc
-  leaf_of {j} (leaf m y b) s e =
-      let n : m ≡ j = leaf_parts e in
-      let w : c.heap.leaves j ≡ record { key = y; value = b } = ap c.heap.leaves (sym n) ∙ s in
-      let f : (c.heap.leaves j).key ≡ y = ap (λ (r : LeafWords). r.key) w in
-      let g : (c.heap.leaves j).value ≡ b = ap (λ (r : LeafWords). r.value) w in cc
+      go u s e = let (y, b, is, high) = node_of n h u e in (y, b, is, (subst (IsShown c.heap) is s).0)
 
   -- The leaf that its entry names stands there: the key is present.
   pub entry_leaf : {o : ℕ} {z : Fixed} {d : Tree} → Within (node o z d) t → (k : Key) (j : ℕ) → seek k (c.heap.nodes o).page ≡ Leaf j →
       child k d ≡ leaf j (c.heap.leaves j).key (c.heap.leaves j).value
   entry_leaf {o} {z} {d} v k j e =
       let words : (c.heap.nodes o).page ≡ page d = ap (λ (w : NodeWords). w.page) (shown_within c.heap v (shown_now c law t now)).0 in
-      leaf_of (child k d) (shown_within c.heap (within_trans (within_child k d) (within_trans (inside here) v)) (shown_now c law t now))
+      leaf_of c (child k d) (shown_within c.heap (within_trans (within_child k d) (within_trans (inside here) v)) (shown_now c law t now))
       (page_child k d ∙ ap Place (ap (seek k) (sym words) ∙ e))
 
   -- What the root entry says of the tree.
@@ -69,16 +61,8 @@ module _ (c : BareCore) (law : IsLawfulState (view c)) (t : Tree) (now : c.past.
       go (Some d) None a b i = absurd i
       go (Some d) (Some u) a b i = let z : d ≡ e = cc in let w : u ≡ t = cc in ap page (sym w) ∙ (i.0 ∙ ap Place z)
 
-  pub root_node : (n h : ℕ) → c.root ≡ Some (Node n h) → (y : Fixed) × (b : Tree) × (t ≡ node n y b)
-  root_node n h e = go t (root_page (Node n h) e)
-    where
-      go : (u : Tree) → page u ≡ Place (Node n h) → (y : Fixed) × (b : Tree) × (u ≡ node n y b)
-      go (leaf m y b) z = absurd cc
-      go (fork m y b) z = absurd cc
-      go (node m y b) z = let w : m ≡ n = cc in (y, b, ap (λ a. node a y b) w)
-
   pub root_leaf : (j : ℕ) → c.root ≡ Some (Leaf j) → t ≡ leaf j (c.heap.leaves j).key (c.heap.leaves j).value
-  root_leaf j e = leaf_of t (shown_now c law t now) (root_page (Leaf j) e)
+  root_leaf j e = leaf_of c t (shown_now c law t now) (root_page (Leaf j) e)
 
 -- The tree of the present, where there is a node in it or a root entry.
 pub now_standing : (c : BareCore) → IsLawfulState (view c) → (n f : ℕ) → c.fate (a_node n) ≡ InTree f → (t : Tree) × (c.past.moment c.past.now ≡ Some t)

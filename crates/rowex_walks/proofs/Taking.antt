@@ -6,30 +6,27 @@ use Rattle.compound_node.specs.declared.entries.Entry.TheVariants.{Leaf, Node}
 use Rattle.pieces.specs.Piece.{Place, Fork}
 use Rattle.tries.specs.Tree.{Fixed, Tree, leaf, node, fork, page, IsTrie, IsFork, IsBuilt, Page, Within, here, inside, zero_side, one_side}
 use Rattle.tries.specs.Search.{child}
-use Rattle.tries.proofs.Changes.{put, IsRemoved}
-use Rattle.tries.specs.Place.{with_page, page_without}
-use Rattle.tries.specs.Affected.{IsLowerPage, IsTipPage}
+use Rattle.tries.proofs.Changes.{IsRemoved}
+use Rattle.tries.specs.Place.{page_without}
 use Rattle.moments.specs.Heap.{NodeWords, Heap, IsShown}
 use Rattle.moments.specs.State.{IsLawfulState, Links}
 use Rattle.moments.specs.Core.{BareCore, Ready, InTree, view}
 use Rattle.moments.specs.declared.Rec.{Rec}
 use Rattle.moments.specs.declared.Rec.TheVariants.{Node as a_node, Leaf as a_leaf}
-use Rattle.moments.specs.Steps.{IsMomentPublish}
-use Rattle.rowex_walks.specs.Writer.{removed_change, IsPageStored}
-use Rattle.rowex_walks.specs.Rise.{IsNewPage, IsEntryFor, alone, in_node, IsOver, IsLeafOf, IsSlotStore, IsBelowNode, entry_news}
+use Rattle.rowex_walks.specs.Writer.{removed_change}
+use Rattle.rowex_walks.specs.Rise.{IsNewPage, IsEntryFor, alone, in_node, IsLeafOf, entry_news}
 use Rattle.tries.proofs.Tries.{trie_within, built_within, within_trans}
-use Rattle.tries.proofs.Affected.{lower_page}
-use Rattle.tries.proofs.Spots.{IsSpot, page_spot, with_page_entry}
 use Rattle.moments.proofs.Heaps.{shown_within}
 use Rattle.rowex_walks.proofs.Now.{built_now, shown_now, trie_now}
 use Rattle.rowex_walks.proofs.Hands.{hand_around, hand_open, hand_put}
-use Rattle.rowex_walks.proofs.Removal.{removed_zero, removed_one, removed_put, removed_marks, removed_open, hand_zero, hand_one, slot_removed, root_removed, remove_last}
-use Rattle.rowex_walks.proofs.Standing.{stands_now, entry_node, entry_leaf, root_node, root_leaf, now_standing, now_rooted}
+use Rattle.rowex_walks.proofs.Removal.{removed_zero, removed_one, removed_put, removed_marks, removed_open, hand_zero, hand_one, remove_last}
+use Rattle.rowex_walks.proofs.Standing.{stands_now, entry_leaf, root_leaf, now_rooted}
 use Rattle.moments.specs.Trades.{HasTraded}
-use Rattle.rowex_walks.proofs.Trading.{IsTrade, old_now, not_beside, traded_put, traded_around, traded_open, slot_trade, IsTraded}
-use Rattle.rowex_walks.proofs.Rising.{is_tip, new_node}
-use Rattle.rowex_walks.proofs.Differing.{published, trade_differs}
-use Rattle.rowex_walks.specs.Statements.{RemoveInSlot, RemoveAtRoot, RemoveLast}
+use Rattle.rowex_walks.proofs.Trading.{IsTrade, old_now, not_beside, traded_put, traded_around, traded_open, IsTraded}
+use Rattle.rowex_walks.proofs.Rising.{new_node}
+use Rattle.rowex_walks.proofs.Holding.{now_held, node_at, published_at}
+use Rattle.rowex_walks.proofs.Differing.{trade_differs}
+use Rattle.rowex_walks.specs.Statements.{RemoveAtSpot, RemoveLast}
 use Rattle.rowex_walks.proofs.AtHand.{IsAtHand}
 use Rattle.tries.specs.Content.{item}
 
@@ -157,48 +154,15 @@ module _ (c : BareCore) (q : ℕ) (law : IsLawfulState (view c)) (k : Key) (n j 
       let (z, news) = same_entry c q (page_without k (c.heap.nodes n).page) (page_without k (page b)) (ap (page_without k) pg) e i in
       subst (λ us. MayStandLeft c q k j (c.heap.leaves j).value n e (node n y b) us) news (left_over c q k j (c.heap.leaves j).value n y b e seen.lock z (old_now c q law t now v) built shown what)
 
-  -- At an entry of a locked node.
-  pub remove_slot_now : (o : ℕ) (e : Entry) (i : IsEntryFor c q (page_without k (c.heap.nodes n).page) e) → IsOver c q k o n → IsBelowNode c o e →
-      (heap : Heap) → IsSlotStore c heap o k e →
-      (r : Tree) × IsMomentPublish c q heap c.root (Some r) (removed_change q (item j k (c.heap.leaves j).value)) × IsTrade c q t r (entry_news i) (a_node n ∷ a_leaf j ∷ [])
-  remove_slot_now o e i over low heap st =
-      let (d, v, pg) = stands_now c law t now o over.locked.linked over.locked.fate in
-      let (y, b, is, words) = entry_node c law t now v k n over.height over.entry in
-      let (w, flat, pages, path) = subst (IsSpot k d) is (page_spot k d) in
-      let (s, z, gone, hand, tr) = left_now e i y b (within_trans w (within_trans (inside here) v)) in
-      let stored : IsPageStored c.heap heap o (page (put w s)) =
-      subst (IsPageStored c.heap heap o)
-      (sym (with_page_entry k e (c.heap.nodes o).page) ∙ (ap (with_page k (Place e)) (sym pg) ∙ (ap (λ r. with_page k r (page d)) (sym z) ∙ sym (pages s)))) st in (
-        put v (node o (c.heap.nodes o).fixed (put w s)),
-        slot_removed c q law t now v w flat tt s (is_tip s (subst IsTipPage (sym z) tt)) over.locked.lock hand
-            (lower_page (c.heap.nodes o).fixed.height s (subst (IsLowerPage (c.heap.nodes o).fixed.height) (sym z) low)) _ gone heap stored,
-        slot_trade c q law t now v w s (entry_news i) (a_node n ∷ a_leaf j ∷ []) tr,
-      )
-
-  -- At the root.
-  pub remove_root_now : (h : ℕ) (e : Entry) (i : IsEntryFor c q (page_without k (c.heap.nodes n).page) e) → c.anchor ≡ Some q → c.root ≡ Some (Node n h) →
-      (r : Tree) × IsMomentPublish c q c.heap (Some e) (Some r) (removed_change q (item j k (c.heap.leaves j).value)) × IsTrade c q t r (entry_news i) (a_node n ∷ a_leaf j ∷ [])
-  remove_root_now h e i lock root =
-      let (y, b, is) = root_node c law t now n h root in
-      let (s, z, gone, hand, tr) = left_now e i y b (subst (Within (node n y b)) (sym is) here) in (
-        s,
-        root_removed c q law t now s e z lock (subst (λ u. IsAtHand c q u s) (sym is) hand) (item j k (c.heap.leaves j).value)
-            (subst (λ u. IsRemoved (item j k (c.heap.leaves j).value) u s) (sym is) gone),
-        subst (λ u. IsTrade c q u s (entry_news i) (a_node n ∷ a_leaf j ∷ [])) (sym is) tr,
-      )
-
--- The same with no tree named.
-pub remove_slot : RemoveInSlot
-remove_slot c q law k n j seen o e i over low heap st =
-    let (t, now) = now_standing c law o over.locked.linked over.locked.fate in
-    let (r, legal, trade) = remove_slot_now c q law k n j seen t now o e i over low heap st in
-    published c q law t now heap c.root (removed_change q (item j k (c.heap.leaves j).value)) r j (entry_news i) (a_node n ∷ a_leaf j ∷ []) legal trade (inr (inr (inl refl)))
-
-pub remove_root : RemoveAtRoot
-remove_root c q law k n j seen h e i lock root =
-    let (t, now) = now_rooted c law (Node n h) root in
-    let (r, legal, trade) = remove_root_now c q law k n j seen t now h e i lock root in
-    published c q law t now c.heap (Some e) (removed_change q (item j k (c.heap.leaves j).value)) r j (entry_news i) (a_node n ∷ a_leaf j ∷ []) legal trade (inr (inr (inl refl)))
+-- At the spot of the node.
+pub remove_at_spot : RemoveAtSpot
+remove_at_spot c q law k n j seen h e i s low heap root st =
+    let (t, now) = now_held c q law s in
+    let (y, b, at) = node_at c q law t now k n h s in
+    let (r, pg, gone, hand, tr) = left_now c q law k n j seen t now e i y b at.place in
+    let x = item j k (c.heap.leaves j).value in
+    let whole = removed_put at.place r x (trie_now c law t now) gone in
+    published_at c q law t now k (Node n h) s (node n y b) at r e pg low hand j (entry_news i) (a_node n ∷ a_leaf j ∷ []) tr (inr (inr (inl refl))) whole.trie (removed_change q x) refl (j, whole.less) heap root st
 
 -- The one leaf: the index is empty then.
 pub remove_only : RemoveLast

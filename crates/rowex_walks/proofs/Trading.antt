@@ -5,7 +5,7 @@ use Rattle.tries.specs.Tree.{Fixed, Tree, leaf, node, fork, IsTrie, IsBuilt, Wit
 use Rattle.tries.proofs.Changes.{put}
 use Rattle.tries.specs.Content.{Item, first}
 use Rattle.tries.proofs.Places.{grown}
-use Rattle.tries.proofs.Tries.{has_first, has_within, trie_within, built_within}
+use Rattle.tries.proofs.Tries.{has_first, has_within, built_within}
 use Rattle.moments.specs.Heap.{Heap, IsShown, NodeWords, LeafWords}
 use Rattle.moments.specs.State.{Links, IsRecord, IsLawfulState}
 use Rattle.moments.specs.declared.Rec.{Rec}
@@ -20,7 +20,7 @@ use Rattle.moments.specs.Trades.{IsOf, AreApart}
 use Rattle.tries.specs.Keys.{Key, bit}
 use Rattle.moments.specs.Core.{BareCore, Ready, InTree, view}
 use Rattle.rowex_walks.specs.Writer.{IsNewLeaf}
-use Rattle.rowex_walks.proofs.Now.{built_now, shown_now, trie_now}
+use Rattle.rowex_walks.proofs.Now.{built_now, shown_now}
 
 -- Where `s` was is `r`: it links what `s` linked and the records `new`, but for just the records `gone`.
 pub record IsTraded (s r : Tree) (new gone : List Rec) : Type 0 where
@@ -109,15 +109,6 @@ traded_put m {s} {t} w r new gone f b h a = record {
   went = λ i l. (let g = a.went i l in (links_old w i g.0, λ o. g.1 (outside m i w r f b h g.0 o)));
 }
 
--- the body of a node that stays
-pub traded_body : (b r : Tree) (o : ℕ) (x : Fixed) (new gone : List Rec) → ¬ (IsOf (a_node o) gone) → IsTraded b r new gone → IsTraded (node o x b) (node o x r) new gone
-traded_body b r o x new gone stays t = record {
-  comes = λ i h. elim h [ inl e ↦ inl (inl e) | inr y ↦ elim (t.comes i y) [ inl z ↦ inl (inr z) | inr z ↦ inr z ] ];
-  came = λ i h. inr (t.came i h);
-  goes = λ i h. elim h [ inl e ↦ inl (inl e) | inr y ↦ elim (t.goes i y) [ inl z ↦ inl (inr z) | inr z ↦ inr z ] ];
-  went = λ i h. (let w = t.went i h in (inr w.0, λ y. elim y [ inl e ↦ stays (subst (λ i. IsOf i gone) e h) | inr z ↦ w.1 z ]));
-}
-
 -- a new leaf beside
 pub traded_grown : (u : Bool) (p : ℕ) (s : Tree) (x : Item) → ¬ (Links s (a_leaf x.number)) → IsTraded s (grown u p s x) (a_leaf x.number ∷ []) []
 traded_grown false p s x fresh = record {
@@ -170,20 +161,6 @@ module _ (c : BareCore) (q : ℕ) (law : IsLawfulState (view c)) (t : Tree) (now
     ready = λ i h. elim h [ inl e ↦ ap c.fate e ∙ fate | inr y ↦ a.ready i y ];
     apart = a.apart;
   }
-
-  -- a trade at an entry of a node is one of the whole
-  pub slot_trade : {o : ℕ} {y : Fixed} {d s : Tree} (v : Within (node o y d) t) (w : Within s d) (r : Tree) (new gone : List Rec) → IsTrade c q s r new gone →
-      IsTrade c q t (put v (node o y (put w r))) new gone
-  slot_trade {o} {y} {d} {s} v w r new gone tr =
-      let built = built_within v (built_now c law t now) in
-      let shown = shown_within c.heap v (shown_now c law t now) in
-      let trie = trie_within v (trie_now c law t now) in record {
-        trade = traded_put c.heap v (node o y (put w r)) new gone (trie_now c law t now) (built_now c law t now) (shown_now c law t now)
-            (traded_body d (put w r) o y new gone (λ h. not_above c.heap o y d built shown (links_old w (a_node o) (tr.trade.went (a_node o) h).0))
-            (traded_put c.heap w r new gone trie built.2 shown.1 tr.trade));
-        ready = tr.ready;
-        apart = tr.apart;
-      }
 
   -- one leaf for another
   pub leaf_trade : (j : ℕ) (k : Key) (a : ℕ) (x : Item) → Within (leaf j k a) t → IsNewLeaf c q x → IsTrade c q (leaf j k a) (leaf x.number x.key x.value) (a_leaf x.number ∷ []) (a_leaf j ∷ [])

@@ -11,12 +11,12 @@ use Rattle.tries.specs.Affected.{page_affected, IsFirstBelow, IsTipPage}
 use Rattle.moments.specs.Heap.{NodeWords}
 use Rattle.moments.specs.State.{IsLawfulState}
 use Rattle.moments.specs.Core.{BareCore, view}
-use Rattle.rowex_walks.specs.Rise.{IsLockedNode}
+use Rattle.rowex_walks.specs.Spots.{IsLockedNode}
 use Rattle.rowex_walks.specs.Statements.{UpperGoesOn}
 use Rattle.tries.proofs.Tries.{trie_within, built_within, within_trans}
 use Rattle.tries.proofs.Spots.{IsSpot, page_spot}
 use Rattle.rowex_walks.proofs.Now.{built_now, trie_now}
-use Rattle.rowex_walks.proofs.Cases.{path_rises_node}
+use Rattle.rowex_walks.proofs.Paths.{path_rises_node}
 use Rattle.rowex_walks.proofs.Standing.{stands_now, entry_node, now_standing}
 
 -- where the affected part of a page is one entry, the page's first fork is before p
@@ -63,5 +63,5 @@ module _ (c : BareCore) (q : ℕ) (law : IsLawfulState (view c)) (t : Tree) (now
 
 pub upper_goes_on : UpperGoesOn
 upper_goes_on c q law k p o n u =
-    let (t, now) = now_standing c law o u.over.locked.linked u.over.locked.fate in
-    elim u.path [ inl h ↦ upper_below c q law t now k p o n u.over.height u.over.locked u.over.entry h | inr h ↦ tip_below c q law t now k p o u.over.locked h ]
+    let (t, now) = now_standing c law o u.locked.linked u.locked.fate in
+    elim u.path [ inl h ↦ upper_below c q law t now k p o n u.height u.locked u.entry h | inr h ↦ tip_below c q law t now k p o u.locked h ]

@@ -1,5 +1,6 @@
 -- The definitions of the crate.
 pub mod Writer
+pub mod Spots
 pub mod Rise
 pub mod Scan
 pub mod Reverse

@@ -1,5 +1,5 @@
 -- What a writer has checked and prepared, in words: locked nodes with their pages, new records with theirs.
-use Rattle.std.specs.Prelude.{◌≡◌, ◌⊎◌, ℕ, List, [], ◌∷◌, ◌++◌, Some}
+use Rattle.std.specs.Prelude.{◌≡◌, ℕ, List, [], ◌∷◌, ◌++◌, Some}
 use Rattle.tries.specs.Keys.{Key, bit}
 use Rattle.compound_node.specs.declared.entries.Entry.{Entry}
 use Rattle.compound_node.specs.declared.entries.Entry.TheVariants.{Leaf, Node}
@@ -7,14 +7,14 @@ use Rattle.pieces.specs.Piece.{Place, Fork}
 use Rattle.tries.specs.Tree.{Fixed, Page, IsFit}
 use Rattle.tries.specs.Search.{seek}
 use Rattle.tries.specs.Content.{Item}
-use Rattle.tries.specs.Place.{spot, with_entry, with_page}
-use Rattle.tries.specs.Affected.{page_affected, page_forked, page_grown, IsPartPage, IsLowerPage, IsFirstBelow, IsTipPage}
-use Rattle.moments.specs.Heap.{Heap}
+use Rattle.tries.specs.Place.{with_page}
+use Rattle.tries.specs.Affected.{page_affected, page_forked, page_grown, IsPartPage, IsLowerPage, IsTipPage}
 use Rattle.moments.specs.State.{IsFrom}
 use Rattle.moments.specs.declared.Rec.{Rec}
 use Rattle.moments.specs.declared.Rec.TheVariants.{Node as a_node, Leaf as a_leaf}
-use Rattle.moments.specs.Core.{Ready, InTree, BareCore}
-use Rattle.rowex_walks.specs.Writer.{IsFoundBelow, IsPageStored}
+use Rattle.moments.specs.Core.{Ready, BareCore}
+use Rattle.rowex_walks.specs.Writer.{IsFoundBelow}
+use Rattle.rowex_walks.specs.Spots.{IsLockedNode, AffectsOne}
 
 -- A new node record that the pass has filled with this page and made ready.
 pub record IsNewPage (c : BareCore) (q m : ℕ) (g : Fixed) (x : Page) : Type 0 where
@@ -29,22 +29,12 @@ pub data IsEntryFor (c : BareCore) (q : ℕ) (x : Page) : Entry → Type 0 where
   alone : (e : Entry) → x ≡ Place e → IsEntryFor c q x e
   in_node : (m : ℕ) (g : Fixed) → IsNewPage c q m g x → IsEntryFor c q x (Node m g.height)
 
--- A node in the tree that the pass has locked.
-pub record IsLockedNode (c : BareCore) (q n : ℕ) : Type 0 where
-  pub lock : c.lock n ≡ Some q
-  pub linked : ℕ
-  pub fate : c.fate (a_node n) ≡ InTree linked
-
--- Such a node's entry on the key's way names node `n`.
-pub record IsOver (c : BareCore) (q : ℕ) (k : Key) (o n : ℕ) : Type 0 where
+-- A locked node's entry on the key's way names node `n`, and is all that an insertion at `p` affects there.
+pub record IsUpper (c : BareCore) (q : ℕ) (k : Key) (p o n : ℕ) : Type 0 where
   pub locked : IsLockedNode c q o
   pub height : ℕ
   pub entry : seek k (c.heap.nodes o).page ≡ Node n height
-
--- And it is the place of `n` alone that an insertion at `p` affects.
-pub record IsUpper (c : BareCore) (q : ℕ) (k : Key) (p o n : ℕ) : Type 0 where
-  pub over : IsOver c q k o n
-  pub path : IsFirstBelow p (c.heap.nodes n).page ⊎ IsTipPage (page_affected p k (c.heap.nodes o).page)
+  pub path : AffectsOne p k (c.heap.nodes o).page (c.heap.nodes n).page
 
 -- What an insertion makes of a locked node: of its body, or of the entry that names it.
 pub data Side : Type 0 where
@@ -99,11 +89,3 @@ pub record IsLeafOf (c : BareCore) (q : ℕ) (k : Key) (n j : ℕ) : Type 0 wher
   pub lock : c.lock n ≡ Some q
   pub entry : seek k (c.heap.nodes n).page ≡ Leaf j
   pub key : (c.heap.leaves j).key ≡ k
-
--- The store of one entry at the key's place of a node.
-abbrev pub IsSlotStore : BareCore → Heap → ℕ → Key → Entry → Type 0
-IsSlotStore c heap o k e = IsPageStored c.heap heap o (with_entry (c.heap.nodes o).page (spot k (c.heap.nodes o).page) e)
-
--- The entry is lower than the node.
-abbrev pub IsBelowNode : BareCore → ℕ → Entry → Type 0
-IsBelowNode c o e = IsLowerPage (c.heap.nodes o).fixed.height (Place e)

@@ -1,5 +1,5 @@
 -- The laws of walks.
-use Rattle.std.specs.Prelude.{◌≡◌, ◌≢◌, ◌⊎◌, ℕ, ◌++◌, List, [], ◌∷◌, length, Option, Some, None, false, true, ◌≤◌, ◌<◌}
+use Rattle.std.specs.Prelude.{◌≡◌, ◌≢◌, ◌⊎◌, ℕ, ◌++◌, List, [], ◌∷◌, length, Bool, false, true, Option, Some, None, ◌≤◌, ◌<◌}
 use Rattle.finite_map.specs.declared.Change.{Change}
 use Rattle.finite_map.specs.declared.Scan.{Scan as Answer}
 use Rattle.finite_map.specs.Scans.{IsLawfulScan}
@@ -10,10 +10,9 @@ use Rattle.compound_node.specs.declared.entries.Entry.TheVariants.{Leaf, Node}
 use Rattle.pieces.specs.Piece.{Place, size}
 use Rattle.tries.specs.Keys.{Key, bit, AgreeBelow}
 use Rattle.tries.specs.Tree.{Fixed, Tree, Page}
-use Rattle.tries.specs.Search.{seek}
 use Rattle.tries.specs.Content.{Item, item}
 use Rattle.tries.specs.Place.{page_without, spot, entry_at, shape}
-use Rattle.tries.specs.Affected.{page_affected, page_forked, IsFirstBelow}
+use Rattle.tries.specs.Affected.{page_forked, IsFirstBelow}
 use Rattle.moments.specs.Heap.{Heap}
 use Rattle.moments.specs.State.{State, Past, IsLawfulState, IsReach, IsSteady, IsLed, IsMissed, IsHeldSince}
 use Rattle.moments.specs.declared.Rec.{Rec}
@@ -24,7 +23,8 @@ use Rattle.moments.specs.declared.Pin.{Pin}
 use Rattle.moments.specs.Told.{TellChanges, items_of}
 use Rattle.moments.specs.Steps.{IsMomentPublish}
 use Rattle.rowex_walks.specs.Writer.{added_change, replaced_change, removed_change, IsFoundBelow, IsNewLeaf}
-use Rattle.rowex_walks.specs.Rise.{IsNewPage, IsEntryFor, IsLockedNode, IsOver, IsUpper, IsLeafOf, entry, IsRise, entry_news, news_of, gone_of, IsSlotStore, IsBelowNode}
+use Rattle.rowex_walks.specs.Spots.{HoldsSpot, IsLowAt, IsAloneAt, IsStoredAt}
+use Rattle.rowex_walks.specs.Rise.{IsNewPage, IsEntryFor, IsUpper, IsLeafOf, entry, IsRise, entry_news, news_of, gone_of}
 use Rattle.rowex_walks.specs.Scan.{Pair, Range, IsComplete, IsCut, turned, IsRooted, IsPlaced, IsShaped, IsRead, IsSeen}
 use Rattle.rowex_walks.specs.Reverse.{IsDownComplete, IsDownCut}
 use Rattle.compound_node.specs.Nodes.{height_of}
@@ -38,45 +38,27 @@ pub record IsPublished (c : BareCore) (q : ℕ) (heap : Heap) (root : Option Ent
   pub differs : items_of (c.past.moment c.past.now) ≢ items_of tree
   pub trade : HasTraded (c.past.moment c.past.now) tree new gone
 
--- Insertion: normal, with intermediate node, or with pull ups, stored in the node above the last one that changes.
-abbrev pub InsertInSlot : Type 0
-InsertInSlot =
-    (c : BareCore) (q : ℕ) → IsLawfulState (view c) → (since : ℕ) (x : Item) (p : ℕ) (l : Key) → IsNewLeaf c q x → (o n : ℕ) (e : Entry) →
-    (i : IsRise c q since x p l entry n (Place e)) → IsUpper c q x.key p o n → IsBelowNode c o e →
-    (heap : Heap) → IsSlotStore c heap o x.key e → IsPublished c q heap c.root (added_change q x) (news_of i) (gone_of i)
-
--- Insertion stored at the root: a copy of the topmost node, or a new root.
-abbrev pub InsertAtRoot : Type 0
-InsertAtRoot =
+-- Insertion: what has risen from node `n`, one entry, is stored at the spot of `n`. So it is a copy of the node, an intermediate node
+-- or a new root, where each that was pulled up below is in it.
+abbrev pub InsertAtSpot : Type 0
+InsertAtSpot =
     (c : BareCore) (q : ℕ) → IsLawfulState (view c) → (since : ℕ) (x : Item) (p : ℕ) (l : Key) → IsNewLeaf c q x → (n h : ℕ) (e : Entry) →
-    (i : IsRise c q since x p l entry n (Place e)) → c.anchor ≡ Some q → c.root ≡ Some (Node n h) →
-    IsPublished c q c.heap (Some e) (added_change q x) (news_of i) (gone_of i)
+    (i : IsRise c q since x p l entry n (Place e)) → (s : HoldsSpot c q x.key (Node n h)) → IsAloneAt s p → IsLowAt s e →
+    (heap : Heap) (root : Option Entry) → IsStoredAt s heap root e → IsPublished c q heap root (added_change q x) (news_of i) (gone_of i)
 
 -- Where a locked node's place of the node below is all that an insertion at p affects, its own first fork is before p: so the node
 -- above it needs no other check than that its entry names it.
 abbrev pub UpperGoesOn : Type 0
 UpperGoesOn = (c : BareCore) (q : ℕ) → IsLawfulState (view c) → (k : Key) (p o n : ℕ) → IsUpper c q k p o n → IsFirstBelow p (c.heap.nodes o).page
 
--- Leaf pushdown: a new node of the one affected leaf and the new one.
-abbrev pub PushDown : Type 0
-PushDown =
-    (c : BareCore) (q : ℕ) → IsLawfulState (view c) → (since : ℕ) (x : Item) (p : ℕ) (l : Key) → IsNewLeaf c q x → (n j m : ℕ) (g : Fixed) →
-    IsFoundBelow c q since x p l n → IsLockedNode c q n → page_affected p x.key (c.heap.nodes n).page ≡ Place (Leaf j) →
-    IsNewPage c q m g (page_forked (bit x.key p) p (Leaf x.number) (Place (Leaf j))) → IsBelowNode c n (Node m g.height) →
-    (heap : Heap) → IsSlotStore c heap n x.key (Node m g.height) → IsPublished c q heap c.root (added_change q x) (a_node m ∷ a_leaf x.number ∷ []) []
-
--- Upsert of a held key in a node.
-abbrev pub UpsertInSlot : Type 0
-UpsertInSlot =
-    (c : BareCore) (q : ℕ) → IsLawfulState (view c) → (n j : ℕ) (x : Item) → IsLockedNode c q n → seek x.key (c.heap.nodes n).page ≡ Leaf j →
-    (c.heap.leaves j).key ≡ x.key → IsNewLeaf c q x → (heap : Heap) → IsSlotStore c heap n x.key (Leaf x.number) →
-    IsPublished c q heap c.root (replaced_change q x) (a_leaf x.number ∷ []) (a_leaf j ∷ [])
-
--- And of the one held key, at the root.
-abbrev pub UpsertAtRoot : Type 0
-UpsertAtRoot =
-    (c : BareCore) (q : ℕ) → IsLawfulState (view c) → (j : ℕ) (x : Item) → c.anchor ≡ Some q → c.root ≡ Some (Leaf j) →
-    (c.heap.leaves j).key ≡ x.key → IsNewLeaf c q x → IsPublished c q c.heap (Some (Leaf x.number)) (replaced_change q x) (a_leaf x.number ∷ []) (a_leaf j ∷ [])
+-- A pair: a new node of a leaf, which alone is affected, and the new one. In a node this is a leaf pushdown, at the root the second key.
+abbrev pub PairAtSpot : Type 0
+PairAtSpot =
+    (c : BareCore) (q : ℕ) → IsLawfulState (view c) → (x : Item) (p : ℕ) → IsNewLeaf c q x → (j m : ℕ) (g : Fixed) →
+    (s : HoldsSpot c q x.key (Leaf j)) → IsAloneAt s p → AgreeBelow p x.key (c.heap.leaves j).key → bit x.key p ≢ bit (c.heap.leaves j).key p →
+    IsNewPage c q m g (page_forked (bit x.key p) p (Leaf x.number) (Place (Leaf j))) → IsLowAt s (Node m g.height) →
+    (heap : Heap) (root : Option Entry) → IsStoredAt s heap root (Node m g.height) →
+    IsPublished c q heap root (added_change q x) (a_node m ∷ a_leaf x.number ∷ []) []
 
 -- The first key: where the root is empty, the new leaf.
 abbrev pub FirstKey : Type 0
@@ -84,27 +66,20 @@ FirstKey =
     (c : BareCore) (q : ℕ) → IsLawfulState (view c) → (x : Item) → c.anchor ≡ Some q → c.root ≡ None → IsNewLeaf c q x →
     IsPublished c q c.heap (Some (Leaf x.number)) (added_change q x) (a_leaf x.number ∷ []) []
 
--- The second key: where the root is a leaf, a new node of it and the new one.
-abbrev pub SecondKey : Type 0
-SecondKey =
-    (c : BareCore) (q : ℕ) → IsLawfulState (view c) → (j p m : ℕ) (g : Fixed) (x : Item) → c.anchor ≡ Some q → c.root ≡ Some (Leaf j) →
-    AgreeBelow p x.key (c.heap.leaves j).key → bit x.key p ≢ bit (c.heap.leaves j).key p → IsNewLeaf c q x →
-    IsNewPage c q m g (page_forked (bit x.key p) p (Leaf x.number) (Place (Leaf j))) →
-    IsPublished c q c.heap (Some (Node m g.height)) (added_change q x) (a_node m ∷ a_leaf x.number ∷ []) []
+-- Upsert of a held key: a new leaf in the place of the old one.
+abbrev pub UpsertAtSpot : Type 0
+UpsertAtSpot =
+    (c : BareCore) (q : ℕ) → IsLawfulState (view c) → (x : Item) → IsNewLeaf c q x → (j : ℕ) (s : HoldsSpot c q x.key (Leaf j)) → (c.heap.leaves j).key ≡ x.key →
+    (heap : Heap) (root : Option Entry) → IsStoredAt s heap root (Leaf x.number) →
+    IsPublished c q heap root (replaced_change q x) (a_leaf x.number ∷ []) (a_leaf j ∷ [])
 
--- Removal of an entry: what is left of its node, one entry or a new node, takes the node's place in the node above.
-abbrev pub RemoveInSlot : Type 0
-RemoveInSlot =
-    (c : BareCore) (q : ℕ) → IsLawfulState (view c) → (k : Key) (n j : ℕ) → IsLeafOf c q k n j → (o : ℕ) (e : Entry) →
-    (i : IsEntryFor c q (page_without k (c.heap.nodes n).page) e) → IsOver c q k o n → IsBelowNode c o e → (heap : Heap) → IsSlotStore c heap o k e →
-    IsPublished c q heap c.root (removed_change q (item j k (c.heap.leaves j).value)) (entry_news i) (a_node n ∷ a_leaf j ∷ [])
-
--- And at the root.
-abbrev pub RemoveAtRoot : Type 0
-RemoveAtRoot =
+-- Removal of an entry: what is left of its node, one entry or a new node, takes the node's place.
+abbrev pub RemoveAtSpot : Type 0
+RemoveAtSpot =
     (c : BareCore) (q : ℕ) → IsLawfulState (view c) → (k : Key) (n j : ℕ) → IsLeafOf c q k n j → (h : ℕ) (e : Entry) →
-    (i : IsEntryFor c q (page_without k (c.heap.nodes n).page) e) → c.anchor ≡ Some q → c.root ≡ Some (Node n h) →
-    IsPublished c q c.heap (Some e) (removed_change q (item j k (c.heap.leaves j).value)) (entry_news i) (a_node n ∷ a_leaf j ∷ [])
+    (i : IsEntryFor c q (page_without k (c.heap.nodes n).page) e) → (s : HoldsSpot c q k (Node n h)) → IsLowAt s e →
+    (heap : Heap) (root : Option Entry) → IsStoredAt s heap root e →
+    IsPublished c q heap root (removed_change q (item j k (c.heap.leaves j).value)) (entry_news i) (a_node n ∷ a_leaf j ∷ [])
 
 -- Removal of the last key.
 abbrev pub RemoveLast : Type 0
@@ -118,33 +93,28 @@ GetEnds =
     (s : State) → IsLawfulState s → (m : ℕ) → IsReach s m → (k : Key) (n : ℕ) → IsLed s.past m k (Leaf n) →
     ((k ≡ (s.heap.leaves n).key) × IsHeldSince s.past m k (s.heap.leaves n).value) ⊎ ((k ≢ (s.heap.leaves n).key) × IsMissed s.past m k)
 
--- A scan that came to its end is lawful in the fronts.
+-- The end of a scan of this kind makes it lawful in the fronts, with or without more pairs.
+abbrev pub EndsLawful : (Past → ℕ → Range → List Pair → Type 0) → Bool → (List Change → List Change → List ℕ → List ℕ → ℕ → Answer → Type 0) → Type 0
+EndsLawful HasEnded more IsLawful =
+    (s : Past) (before rest : List Change) (m : ℕ) → IsSteady s m → TellChanges s (before ++ rest) → (g : Range) → IsKey g.from → IsKey g.upto →
+    (xs : List Pair) (scan : Answer) → scan.pairs.items ≡ turned xs → scan.more ≡ more → HasEnded s (length before) g xs →
+    IsLawful before (before ++ rest) g.from g.upto g.limit scan
+
+-- One that came to its end,
 abbrev pub ScanCompletes : Type 0
-ScanCompletes =
-    (s : Past) (before rest : List Change) (m : ℕ) → IsSteady s m → TellChanges s (before ++ rest) → (g : Range) → IsKey g.from → IsKey g.upto →
-    (xs : List Pair) (scan : Answer) → scan.pairs.items ≡ turned xs → scan.more ≡ false → IsComplete s (length before) g xs →
-    IsLawfulScan before (before ++ rest) g.from g.upto g.limit scan
+ScanCompletes = EndsLawful IsComplete false IsLawfulScan
 
--- And so is one that was cut at the limit.
+-- and one that was cut at the limit;
 abbrev pub ScanIsCut : Type 0
-ScanIsCut =
-    (s : Past) (before rest : List Change) (m : ℕ) → IsSteady s m → TellChanges s (before ++ rest) → (g : Range) → IsKey g.from → IsKey g.upto →
-    (xs : List Pair) (scan : Answer) → scan.pairs.items ≡ turned xs → scan.more ≡ true → IsCut s (length before) g xs →
-    IsLawfulScan before (before ++ rest) g.from g.upto g.limit scan
+ScanIsCut = EndsLawful IsCut true IsLawfulScan
 
--- Of scans that go downwards: one that came to its end,
+-- and of those that go downwards, one that came to its end,
 abbrev pub DownScanCompletes : Type 0
-DownScanCompletes =
-    (s : Past) (before rest : List Change) (m : ℕ) → IsSteady s m → TellChanges s (before ++ rest) → (g : Range) → IsKey g.from → IsKey g.upto →
-    (xs : List Pair) (scan : Answer) → scan.pairs.items ≡ turned xs → scan.more ≡ false → IsDownComplete s (length before) g xs →
-    IsLawfulReverseScan before (before ++ rest) g.from g.upto g.limit scan
+DownScanCompletes = EndsLawful IsDownComplete false IsLawfulReverseScan
 
 -- and one that was cut.
 abbrev pub DownScanIsCut : Type 0
-DownScanIsCut =
-    (s : Past) (before rest : List Change) (m : ℕ) → IsSteady s m → TellChanges s (before ++ rest) → (g : Range) → IsKey g.from → IsKey g.upto →
-    (xs : List Pair) (scan : Answer) → scan.pairs.items ≡ turned xs → scan.more ≡ true → IsDownCut s (length before) g xs →
-    IsLawfulReverseScan before (before ++ rest) g.from g.upto g.limit scan
+DownScanIsCut = EndsLawful IsDownCut true IsLawfulReverseScan
 
 -- The entry was found by a load: at the root, or at a place.
 abbrev pub LoadsRoot : Type 0

@@ -1,16 +1,11 @@
 //! The laws of walks. The functions do nothing: their contracts are the laws.
 
 ghost use Rattle.rowex_walks.specs.Ways.{FoundSame, OneBody, PlacedSame, RootedSame, StillGrows, StillPlaced, StillRooted, WayBegins, WayEnds, WayGoesOn, WayIsBelow, WayOfLeaf};
-ghost use Rattle.rowex_walks.specs.Statements.{DownScanCompletes, DownScanIsCut, FirstKey, FoundIsKept, GetEnds, InsertAtRoot, InsertInSlot, LedPlaced, LoadsLeaf, LoadsNone, LoadsPlace, LoadsRoot, LoadsShape, PushDown, RemoveAtRoot, RemoveInSlot, RemoveLast, ScanCompletes, ScanIsCut, SecondKey, UpperGoesOn, UpsertAtRoot, UpsertInSlot};
+ghost use Rattle.rowex_walks.specs.Statements.{DownScanCompletes, DownScanIsCut, FirstKey, FoundIsKept, GetEnds, InsertAtSpot, LedPlaced, LoadsLeaf, LoadsNone, LoadsPlace, LoadsRoot, LoadsShape, PairAtSpot, RemoveAtSpot, RemoveLast, ScanCompletes, ScanIsCut, UpperGoesOn, UpsertAtSpot};
 
-/// An insertion that was checked under its locks, of any case that ends in a node, is a legal publish that adds the key.
-pub fn insert_in_slot()
-    ensures { InsertInSlot }
-{}
-
-/// An insertion that ends at the root is a legal publish that adds the key.
-pub fn insert_at_root()
-    ensures { InsertAtRoot }
+/// An insertion that was checked under its locks is a legal publish that adds the key, in a node or at the root.
+pub fn insert_at_spot()
+    ensures { InsertAtSpot }
 {}
 
 /// Up from a locked node whose place alone is affected, each node above is so too.
@@ -18,19 +13,9 @@ pub fn upper_goes_on()
     ensures { UpperGoesOn }
 {}
 
-/// A leaf pushdown is a legal publish that adds the key.
-pub fn push_down()
-    ensures { PushDown }
-{}
-
-/// An upsert of a held key in a node is a legal publish that replaces its value.
-pub fn upsert_in_slot()
-    ensures { UpsertInSlot }
-{}
-
-/// An upsert of the one held key is a legal publish that replaces its value.
-pub fn upsert_at_root()
-    ensures { UpsertAtRoot }
+/// A new node of a leaf and the new one, in the place of that leaf, is a legal publish that adds the key.
+pub fn pair_at_spot()
+    ensures { PairAtSpot }
 {}
 
 /// The first key at an empty root is a legal publish.
@@ -38,19 +23,14 @@ pub fn first_key()
     ensures { FirstKey }
 {}
 
-/// The second key beside a leaf at the root is a legal publish.
-pub fn second_key()
-    ensures { SecondKey }
+/// An upsert of a held key is a legal publish that replaces its value.
+pub fn upsert_at_spot()
+    ensures { UpsertAtSpot }
 {}
 
-/// A removal that ends in a node is a legal publish that takes the key away.
-pub fn remove_in_slot()
-    ensures { RemoveInSlot }
-{}
-
-/// A removal from the topmost node is a legal publish that takes the key away.
-pub fn remove_at_root()
-    ensures { RemoveAtRoot }
+/// A removal that leaves something of the leaf's node is a legal publish that takes the key away.
+pub fn remove_at_spot()
+    ensures { RemoveAtSpot }
 {}
 
 /// The removal of the one leaf is a legal publish that leaves the index empty.

@@ -1,5 +1,5 @@
 -- From what a pass knows under its locks to the way up of a new leaf.
-use Rattle.std.proofs.Common.{◌≡◌, inl, inr, ◌⊎◌, ⊎_elim, ℕ, zero, suc, ◌+◌, ◌-◌, ◌<◌, ◌≤◌, Bool, true, false, List, [], ◌∷◌, length, take, drop, refl, sym, ap, subst, ◌∙◌, arith, le_trans, if◌then◌else◌, nat_lt, ◌&&◌, Some, None}
+use Rattle.std.proofs.Common.{◌≡◌, inl, inr, ◌⊎◌, ⊎_elim, ℕ, zero, suc, ◌+◌, ◌-◌, ◌<◌, ◌≤◌, Bool, true, false, List, [], ◌∷◌, length, refl, sym, ap, subst, ◌∙◌, arith, le_trans, if◌then◌else◌, nat_lt, ◌&&◌, Some, None}
 use Rattle.std.specs.Prelude.{slice_get}
 use Rattle.std.proofs.lemmas.Bool.{cases_lt, le-ltb, ltb-true}
 use Rattle.compound_node.specs.Nodes.{piece, height_of}
@@ -16,9 +16,8 @@ use Rattle.insert_cases.proofs.Choosing.{same_some, some_at}
 use Rattle.moments.specs.Heap.{NodeWords}
 use Rattle.moments.specs.Frames.{IsGrown}
 use Rattle.moments.specs.State.{Past}
-use Rattle.moments.specs.Trades.{IsOf}
 use Rattle.moments.specs.declared.Rec.TheVariants.{Node as a_node}
-use Rattle.moments.proofs.Members.{all_of, map_of}
+use Rattle.moments.proofs.Members.{all_of}
 use Rattle.pieces.proofs.Paths.{size_pos}
 use Rattle.pieces.specs.Piece.{Place, Fork, size}
 use Rattle.record_words.specs.Leaf.{HasLeafWords}
@@ -27,13 +26,13 @@ use Rattle.rowex_core.specs.Cores.{IsWhole}
 use Rattle.rowex_core.specs.Knowing.{IsSince}
 use Rattle.rowex_core.specs.Reading.{IsPacked, node_words_of}
 use Rattle.rowex_core.specs.Sharing.{IsLocked}
-use Rattle.rowex_core.specs.declared.event.Spot.TheVariants.{Root, Slot}
+use Rattle.rowex_core.specs.declared.event.Spot.{Spot}
 use Rattle.rowex_core.specs.declared.known.Known.{Known}
 use Rattle.rowex_core.proofs.Owning.{knows_all}
 use Rattle.rowex_core.proofs.Reading.{node_is}
 use Rattle.rowex_reading.specs.Possible.{IsPossible}
 use Rattle.rowex_reading.specs.Seen.{Sure}
-use Rattle.rowex_rights.specs.Insertions.{IsSpotOf, in_node, at_root}
+use Rattle.rowex_rights.specs.Spots.{IsSpotOf}
 use Rattle.rowex_rights.specs.Rises.{HasFoundBelow}
 use Rattle.rowex_rights.specs.Stages.{IsLockedAbove, IsSure}
 use Rattle.rowex_rights.proofs.Rising.{above_goes_on}
@@ -42,7 +41,7 @@ use Rattle.rowex_walks.specs.Scan.{IsSeen, IsPlaced, IsShaped, IsRead}
 use Rattle.rowex_walks.specs.Ways.{IsOnWay, IsWayFrom}
 use Rattle.rowex_walks.proofs.Persist.{placed_on, shaped_on, read_on}
 use Rattle.rowex_walks.proofs.Ways.{way_of_leaf}
-use Rattle.tries.specs.Affected.{page_affected, IsFirstBelow, IsLowerPage, IsPartPage, IsTipPage}
+use Rattle.tries.specs.Affected.{page_affected, IsFirstBelow, IsPartPage, IsTipPage}
 use Rattle.tries.specs.Keys.{Key, bit}
 use Rattle.tries.specs.Search.{seek}
 use Rattle.tries.specs.Tree.{Page, first_position}
@@ -51,6 +50,7 @@ use Rattle.rowex_writing.specs.Building.{FitsAbove, IsChain}
 use Rattle.rowex_writing.specs.Changes.{AreAffected, IsChecked, IsPlanned}
 use Rattle.rowex_writing.specs.Going.{HasLocked}
 use Rattle.rowex_writing.specs.Locks.{HasLockedSpan}
+use Rattle.rowex_writing.specs.Putting.{IsSpotAbove}
 use Rattle.rowex_writing.specs.Plans.{change, IsCase, IsNewLeafPlan}
 use Rattle.rowex_writing.specs.Remaking.{AffectsJust}
 use Rattle.rowex_reading.specs.Ways.{IsWayNode, IsWayOf, end_of, named}
@@ -64,6 +64,7 @@ use Rattle.rowex_writing.specs.declared.plan.Plan.{Plan}
 use Rattle.rowex_writing.specs.declared.plan.Plan.TheVariants.{Answer, Change}
 use Rattle.rowex_writing.specs.declared.plan.Span.{Span}
 use Rattle.rowex_writing.proofs.Planning.{chosen_within}
+use Rattle.rowex_writing.proofs.Above.{locked_at, holds_above}
 use Rattle.rowex_writing.proofs.Shapes.{IsStepOf, locked_shape, shape_affects, way_node_locked}
 use Rattle.rowex_writing.proofs.Staging.{stage_of_held}
 use Rattle.tries.specs.Content.{item}
@@ -296,25 +297,6 @@ module _ (layout : Layout) (k : Known) (m : ℕ) (key : Key) (number value p : �
   way_from (s ∷ way) nodes (suc i) e is = way_from way (rest_of s way nodes) i e is
 
 -- ---- the locked nodes of a span
-in_range : (xs : List Step) (b n i : ℕ) (s : Step) → slice_get xs i ≡ Some s → b ≤ i → i < b + n → IsOf s (take n (drop b xs))
-in_range [] b n i s at low high = absurd (let z : None ≡ Some s = at in cc)
-in_range (x ∷ xs) zero zero i s at low high = absurd (omega arith)
-in_range (x ∷ xs) zero (suc n) zero s at low high = inl (sym (same_some at))
-in_range (x ∷ xs) zero (suc n) (suc i) s at low high = inr (in_range xs zero n i s at (omega arith) (omega arith))
-in_range (x ∷ xs) (suc b) n zero s at low high = absurd (omega arith)
-in_range (x ∷ xs) (suc b) n (suc i) s at low high = in_range xs b n i s at (omega arith) (omega arith)
-
-lower_entry : (h : ℕ) (e : Entry) → height_of e < h → IsLowerPage h (Place e)
-lower_entry h (LeafEntry n) l = l
-lower_entry h (Node n g) l = l
-
--- each node of the span is locked, and the one above it
-pub locked_at : (k : Known) (way : List Step) (span : Span) → HasLockedSpan k way span → (i : ℕ) (s : Step) → span.end ≤ i + 1 → i < span.len → slice_get way i ≡ Some s → (words : List ℕ) × HasLocked k s.number words
-locked_at k way span locked i s low high at =
-    let there = in_range way (span.end - 1) (span.len - (span.end - 1)) i s at (omega arith) (omega arith) in
-    let (lock, is, same) = locked.nodes.0.each s.number (map_of (λ (z : Step). z.number) s (take (span.len - (span.end - 1)) (drop (span.end - 1) way)) there) in
-    (lock.words, subst (λ n. IsOf (record { node = n; words = lock.words }) k.locks) same is)
-
 module _ (layout : Layout) (k : Known) (m : ℕ) (key : Key) (way : List Step) (found : Found) (span : Span) (possible : IsPossible layout k) (own : k.own ≡ []) (w : IsWayOf layout k m key way found) (locked : HasLockedSpan k way span)
     (checked : IsChecked k key way found span) where
   -- each is locked
@@ -470,34 +452,29 @@ module _ (layout : Layout) (k : Known) (m : ℕ) (key : Key) (way : List Step) (
     full = λ i s low high at words h. pulled_full i s low (omega arith) at words h;
   }
 
-  -- ---- the place above the topmost node
-  pub spot_in_node : (n slot : ℕ) (s u : Step) (wu : List ℕ) (e : Entry) → 0 < span.end → slice_get way (span.end - 1) ≡ Some s → slice_get way span.end ≡ Some u → HasLocked k u.number wu → FitsAbove wu e → n ≡ s.number → slot ≡ s.at →
-      IsSpotOf k k.locks key position u.number e (Slot n slot)
+  -- ---- the spot above the topmost node
+  -- an entry that fits above may stand there
+  pub spot_of : (u : Step) (wu : List ℕ) (e : Entry) → slice_get way span.end ≡ Some u → HasLocked k u.number wu → FitsAbove wu e → (spot : Spot) → IsSpotAbove way span.end spot → IsSpotOf k k.locks key position u.number e spot
   unfolding over_at held_at over
-  spot_in_node n slot s u wu e low at below hu fits n_is slot_is =
-      let upto = plan.chain.upto in
-      let next : span.end - 1 + 1 ≡ span.end = omega arith in
-      let (ws, hs) = held_at layout k m key way found span possible own w locked checked (span.end - 1) s (omega arith) (omega (arith, top_below, upto)) at in
-      let below' : slice_get way (span.end - 1 + 1) ≡ Some u = ap (slice_get way) next ∙ below in
-      let above = over_at (span.end - 1) s u ws wu (omega arith) (omega (arith, upto)) at below' hs hu in
-      let upper = step_at layout k m key way found span possible own w locked checked (span.end - 1) s at ws hs in
+  spot_of u wu e below hu fits spot is =
+      let h = holds_above layout k m key way found span possible w locked checked (omega (arith, top_below, plan.chain.upto)) (Node u.number u.height) (named_at way found span.end u below) k k.locks refl refl spot is in
       let lower = step_at layout k m key way found span possible own w locked checked span.end u below wu hu in
-      let high = falls layout k m key way found span possible own w locked checked (span.end - 1) s u ws wu at below' hs hu in
-      let fit : height_of e < (node_words_of ws).fixed.height = ⊎_elim
-      (λ room. let l = fits.1 room in omega (arith, l, high))
-      (λ full. let count : u.count ≡ 32 = let r = lower.room in let c = lower.count in omega (arith, r, c, full) in
-      let apart = plan.chain.stops (span.end - 1) u s next below at count in
-      let l = fits.0 in
-      strictly (height_of e) (node_words_of wu).fixed.height (node_words_of ws).fixed.height l high (λ same. apart (sym upper.height ∙ (same ∙ ap (λ z. z + 1) lower.height))))
-      (cases_lt (size (node_words_of wu).page) 32) in
-      subst (λ z. IsSpotOf k k.locks key position u.number e (Slot z slot)) (sym n_is)
-      (in_node s.number slot above (upper.at ∙ sym slot_is) (lower_entry (node_words_of ws).fixed.height e fit))
+      record {
+        height = u.height;
+        holds = h.holds;
+        alone = h.alone position (λ s above. let over_u = over_at (span.end - 1) s u above.words wu (omega arith) (let b = above.low in omega (arith, plan.chain.upto)) above.at
+            (let next : span.end ≡ span.end - 1 + 1 = (let b = above.low in omega arith) in subst (λ i. slice_get way i ≡ Some u) next below) above.has hu in
+            ((node_words_of wu).page, (wu, hu, refl), over_u.path));
+        fits = h.fits e (λ s above. ⊎_elim
+            (λ room. let l = fits.1 room in let b = above.node.below in omega (arith, l, b, lower.height))
+            (λ full. let count : u.count ≡ 32 = let r = lower.room in let c = lower.count in omega (arith, r, c, full) in
+            let apart = plan.chain.stops (span.end - 1) u s (let b = above.low in omega arith) below above.at count in
+            strictly (height_of e) u.height s.height (let l = fits.0 in omega (arith, l, lower.height)) above.node.below apart)
+            (cases_lt (size (node_words_of wu).page) 32));
+      }
     where
       strictly : (e l h : ℕ) → e ≤ l + 1 → l < h → (h ≡ l + 1 → ⊥) → e < h
       strictly e l h fits low apart = ⊎_elim (λ o. omega arith) (λ o. absurd (apart (omega arith))) (cases_lt (l + 1) h)
-
-  pub spot_at_root : (s : Step) (e : Entry) → span.end ≡ 0 → slice_get way span.end ≡ Some s → IsSpotOf k k.locks key position s.number e Root
-  spot_at_root s e zero_end at = at_root s.height (checked.root zero_end ∙ ap Some (named_at way found 0 s (ap (slice_get way) (sym zero_end) ∙ at)))
 
 -- ---- below the chosen node
 pub found_below : (layout : Layout) (k : Known) (m : ℕ) (key : Key) (way : List Step) (number value p : ℕ) (span : Span) → IsWayOf layout k m key way (Leaf number value (Some p)) → IsChecked k key way (Leaf number value (Some p)) span →

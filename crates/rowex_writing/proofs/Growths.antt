@@ -26,10 +26,11 @@ use Rattle.rowex_core.specs.declared.event.Spot.{Spot}
 use Rattle.rowex_core.specs.declared.event.Spot.TheVariants.{Root, Slot}
 use Rattle.rowex_core.specs.declared.known.Known.{Known}
 use Rattle.rowex_core.specs.declared.known.Locked.{Locked}
-use Rattle.rowex_rights.specs.Insertions.{IsSpotOf, in_node, at_root}
+use Rattle.rowex_rights.specs.Spots.{IsSpotOf}
 use Rattle.rowex_rights.specs.Rises.{of_leaf, HasFoundBelow}
 use Rattle.rowex_rights.specs.Stages.{HasRisen}
-use Rattle.rowex_rights.proofs.Insertions.{insertion}
+use Rattle.rowex_rights.proofs.Holding.{spot_on}
+use Rattle.rowex_rights.proofs.Inserting.{insertion}
 use Rattle.rowex_rights.proofs.Rising.{risen_stays}
 use Rattle.rowex_table.specs.Made.{IsLater, nodes_of}
 use Rattle.rowex_table.specs.Publishes.{Publishes}
@@ -63,7 +64,8 @@ use Rattle.rowex_writing.specs.Locks.{AreNodes, Works, numbers_of, span_numbers}
 use Rattle.rowex_writing.specs.Putting.{IsSpotAbove}
 use Rattle.rowex_writing.specs.Retiring.{AreInTable}
 use Rattle.rowex_writing.specs.declared.plan.Span.{Span}
-use Rattle.rowex_writing.proofs.Bridging.{IsGrowPlan, chain_at, found_below, grow_plan, locked_at, part_at, pulled_full, spot_at_root, spot_in_node, top_within}
+use Rattle.rowex_writing.proofs.Bridging.{IsGrowPlan, chain_at, found_below, grow_plan, part_at, pulled_full, spot_of, top_within}
+use Rattle.rowex_writing.proofs.Above.{locked_at}
 use Rattle.rowex_writing.proofs.Lifting.{gone_more}
 use Rattle.rowex_writing.proofs.Runs.{works_run}
 use Rattle.rowex_writing.proofs.Keeping.{missed_from_on, missed_on}
@@ -193,11 +195,6 @@ full_since layout key a b c Nodes count missed = λ q low. (let (step, late, mis
 full_since layout key a b c Leaves count missed = λ q low room. (let (step, late, miss) = missed q low room in (step, le_trans count late, miss))
 
 -- ---- the leaf's record is made
--- the spot stays one
-spot_on : (k j : Known) (held : List Locked) (key : Key) (p n : ℕ) (e : Entry) (spot : Spot) → j.anchor ≡ k.anchor → IsSpotOf k held key p n e spot → IsSpotOf j held key p n e spot
-spot_on k j held key p n e spot same (in_node o slot a place low) = in_node o slot a place low
-spot_on k j held key p n e spot same (at_root h anchor) = at_root h (same ∙ anchor)
-
 pub may_grow : (table : TableView) (a b : SeatView) (made : List Rec) (m : ℕ) (key : Key) (value : ℕ) (way : List Step) (found : Found) (span : Span) (aim : Aim) (position first last leaf : ℕ) → HasTakenSpan table a m key way found span →
     IsPlanned a.known m key way aim found (change span.len span.end (Grow position first last)) → StaysLocked a.known b.known → IsBuilding table b made (of_leaf (item leaf key value) ∷ []) → HasLeafWords (key, value) →
     MayGrow table b made way key value span position first last leaf
@@ -279,15 +276,16 @@ may_grow table a b made m key value way found span aim position first last leaf 
         found_below table.layout a.known m key way plan.number plan.value position span (subst (IsWayOf table.layout a.known m key way) plan.found_is w) (subst (λ f. IsChecked a.known key way f span) plan.found_is t.checked) leaf value spelled
         plan.chosen.level s words (omega (arith, upto)) (omega (arith, len_is)) at held
 
+    in_table : (spot : Spot) → IsSpotAbove way span.end spot → HasSpot table.layout spot
+    in_table Root none = tt
+    in_table (Slot n i) (above, low, at_above, n_is, i_is) =
+        let node = (w.nodes (span.end - 1) above at_above).2 in
+        let small = spot_below key node.forks in
+        (omega (arith, n_is, node.range), omega (arith, i_is, node.at, small, node.room))
+
     place : (u : Step) (us : List ℕ) (e : Entry) → slice_get way span.end ≡ Some u → HasLocked a.known u.number us → FitsAbove us e → (spot : Spot) → IsSpotAbove way span.end spot →
         IsSpotOf a.known a.known.locks key position u.number e spot × HasSpot table.layout spot
-    place u us e there locked fits Root none = (spot_at_root table.layout a.known m key way found span t.possible t.own w t.locked t.checked position first last plan u e none there, tt)
-    place u us e there locked fits (Slot n i) (above, low, at_above, n_is, i_is) =
-        let node = (w.nodes (span.end - 1) above at_above).2 in
-        let small = spot_below key node.forks in (
-          spot_in_node table.layout a.known m key way found span t.possible t.own w t.locked t.checked position first last plan n i above u us e low at_above there locked fits n_is i_is,
-          (omega (arith, n_is, node.range), omega (arith, i_is, node.at, small, node.room)),
-        )
+    place u us e there locked fits spot is = (spot_of table.layout a.known m key way found span t.possible t.own w t.locked t.checked position first last plan u us e there locked fits spot is, in_table spot is)
 
 -- the span of such a plan has a node
 pub grow_within : (table : TableView) (a : SeatView) (m : ℕ) (key : Key) (way : List Step) (found : Found) (span : Span) (aim : Aim) (position first last : ℕ) → HasTakenSpan table a m key way found span →

@@ -14,6 +14,7 @@ pub mod Spans
 pub mod Tried
 pub mod Retiring
 pub mod Shapes
+pub mod Above
 pub mod Ways
 pub mod Onward
 pub mod Attempting

@@ -1,9 +1,9 @@
 -- A new leaf in the place of what stands there, or in a node with it: what the plan says, and that the store may be made.
-use Rattle.std.proofs.Common.{◌≡◌, ◌≢◌, inl, ⊎_elim, ℕ, ◌+◌, ◌-◌, ◌*◌, ◌<◌, ◌≤◌, List, [], ◌∷◌, ◌++◌, length, get_or, Bool, true, false, nat_lt, Option, Some, None, refl, sym, ap, ap₂, subst, ◌∙◌, arith, le_trans}
-use Rattle.std.specs.Prelude.{if◌then◌else◌, slice_get, slice_range}
+use Rattle.std.proofs.Common.{◌≡◌, inl, inr, ⊎_elim, ℕ, ◌+◌, ◌-◌, ◌*◌, ◌<◌, ◌≤◌, List, [], ◌∷◌, ◌++◌, length, get_or, Bool, true, false, nat_lt, Option, Some, None, refl, sym, ap, subst, ◌∙◌, arith, le_trans}
+use Rattle.std.specs.Prelude.{if◌then◌else◌, slice_get}
 use Rattle.std.proofs.lemmas.Bool.{cases_lt, ltb-true}
 use Rattle.std.proofs.lemmas.List.Elements.{All-cons}
-use Rattle.std.proofs.lemmas.Option.{slice_get-get_or, get_or_from_slice_get}
+use Rattle.std.proofs.lemmas.Option.{slice_get-get_or}
 use Rattle.finite_map.specs.declared.Change.{Change}
 use Rattle.compound_node.specs.Nodes.{NodeView, piece, greatest_height}
 use Rattle.compound_node.specs.declared.entries.Entry.{Entry}
@@ -20,23 +20,18 @@ use Rattle.pieces.specs.Piece.{Place, Fork, size, places}
 use Rattle.pieces.proofs.Paths.{size_pos}
 use Rattle.record_words.specs.Entry.{entry_word}
 use Rattle.record_words.specs.Leaf.{HasLeafWords}
-use Rattle.tries.specs.Affected.{page_affected, page_forked}
+use Rattle.tries.specs.Affected.{page_affected, page_forked, IsTipPage}
 use Rattle.tries.specs.Content.{Item, item}
-use Rattle.tries.specs.Keys.{Key, bit, AgreeBelow}
-use Rattle.tries.specs.Place.{spot, shape}
+use Rattle.tries.specs.Keys.{Key, bit}
+use Rattle.tries.specs.Place.{shape}
 use Rattle.tries.specs.Search.{seek}
-use Rattle.tries.specs.Tree.{Page, leaf, IsBuilt}
-use Rattle.tries.proofs.Adding.{added_here}
-use Rattle.tries.proofs.Affected.{away, grown_page}
-use Rattle.tries.proofs.Places.{grown, spot_shape}
+use Rattle.tries.specs.Tree.{Page, leaf}
 use Rattle.tries.proofs.Tries.{trie_within}
 use Rattle.moments.specs.declared.Rec.{Rec}
 use Rattle.moments.specs.declared.Rec.TheVariants.{Leaf as a_leaf}
 use Rattle.moments.specs.Trades.{IsOf}
-use Rattle.rowex_walks.specs.Scan.{IsRead, IsShaped}
+use Rattle.rowex_walks.specs.Scan.{IsRead}
 use Rattle.rowex_walks.specs.Writer.{added_change, replaced_change}
-use Rattle.rowex_walks.specs.Ways.{IsWayFrom}
-use Rattle.rowex_walks.proofs.Ways.{way_of_leaf}
 use Rattle.rowex_core.specs.declared.event.Spot.{Spot}
 use Rattle.rowex_core.specs.declared.event.Spot.TheVariants.{Root, Slot}
 use Rattle.rowex_core.specs.declared.known.Known.{Known}
@@ -51,21 +46,20 @@ use Rattle.rowex_reading.specs.Seen.{Sure}
 use Rattle.rowex_reading.proofs.Seeing.{read_stable, seen_within, since_later, stands_in}
 use Rattle.rowex_reading.proofs.Standing.{led_in_table}
 use Rattle.rowex_rights.specs.Cases.{IsWord}
-use Rattle.rowex_rights.specs.Rises.{of_leaf, of_view, IsAnew, IsSide, one, anew, HasFoundBelow}
+use Rattle.rowex_rights.specs.Rises.{of_leaf, of_view, IsAnew, IsSide, one, anew}
 use Rattle.rowex_rights.specs.Stages.{IsLeafThere, IsSure}
-use Rattle.rowex_rights.proofs.Inserting.{first_made, second_made, push_down_made}
+use Rattle.rowex_rights.proofs.Inserting.{first_made, pair}
 use Rattle.rowex_rights.proofs.Loops.{later_on}
-use Rattle.rowex_rights.proofs.Replacing.{leaf_stays, upsert_in_slot, upsert_at_root}
-use Rattle.rowex_rights.proofs.Sure.{seen_is_sure, sure_stays, descent_finds}
+use Rattle.rowex_rights.proofs.Replacing.{leaf_stays, upsert}
+use Rattle.rowex_rights.proofs.Sure.{seen_is_sure, sure_stays}
 use Rattle.rowex_writing.specs.Building.{IsBuilding}
 use Rattle.rowex_writing.specs.Changes.{AreAffected, HasTakenSpan, IsPlanned, IsStored, MayEnd}
 use Rattle.rowex_writing.specs.Going.{HasLocked}
-use Rattle.rowex_writing.specs.Locks.{numbers_of}
 use Rattle.rowex_writing.specs.Plans.{change, IsCase, IsNewLeafPlan, IsPlan}
 use Rattle.rowex_writing.specs.Putting.{IsSpotAbove, leaf_found}
-use Rattle.rowex_writing.specs.Remaking.{IsTreePage}
 use Rattle.rowex_writing.specs.Retiring.{AreInTable}
 use Rattle.rowex_reading.specs.Ways.{IsFoundAt, IsMismatch, IsWayNode, IsWayOf, end_of, named}
+use Rattle.rowex_reading.proofs.Ways.{named_end}
 use Rattle.rowex_writing.specs.declared.plan.Aim.{Aim}
 use Rattle.rowex_writing.specs.declared.plan.Aim.TheVariants.{Insert, Upsert, Remove}
 use Rattle.rowex_writing.specs.declared.plan.Deed.{Deed}
@@ -75,8 +69,8 @@ use Rattle.rowex_reading.specs.declared.descent.Found.TheVariants.{Nothing, Leaf
 use Rattle.rowex_writing.specs.declared.plan.Plan.{Plan}
 use Rattle.rowex_writing.specs.declared.plan.Plan.TheVariants.{Answer, Change as ChangePlan}
 use Rattle.rowex_writing.specs.declared.plan.Span.{Span}
+use Rattle.rowex_writing.proofs.Above.{holds_above}
 use Rattle.rowex_writing.proofs.Shapes.{locked_shape}
-use Rattle.rowex_writing.proofs.Spans.{slice_more, slice_none}
 use Rattle.rowex_writing.proofs.Keeping.{made_record}
 
 -- ---- plans
@@ -232,18 +226,13 @@ pair_spans_at [] p first last len end q (a, b, c) = (a ∙ sym b, b)
 pair_spans_at (s ∷ way) p first last len end q (a, b, c, d) = (a ∙ sym b, b)
 
 -- ---- what a way names at its end
-pub named_last : (way : List Step) (found : Found) → named way found (length way) ≡ end_of found
-named_last [] found = refl
-named_last (s ∷ way) found = named_last way found
-
--- where the search found nothing, the root is empty
 none_named : (way : List Step) (Is : (i : ℕ) → Step → Entry → Type 0) →
     ((i : ℕ) (s : Step) → slice_get way i ≡ Some s → (e : Entry) × (named way Nothing (i + 1) ≡ Some e) × Is i s e) → named way Nothing 0 ≡ None
 none_named [] Is each = refl
 none_named (s ∷ way) Is each =
     let last : length way + 1 ≡ length (s ∷ way) = omega arith in
     let (e, is, more) = each (length way) (get_or (s ∷ way) (length way) s) (slice_get-get_or (s ∷ way) (length way) s (omega arith)) in
-    let none : named (s ∷ way) Nothing (length way + 1) ≡ None = ap (named (s ∷ way) Nothing) last ∙ named_last (s ∷ way) Nothing in
+    let none : named (s ∷ way) Nothing (length way + 1) ≡ None = named_end (s ∷ way) Nothing (length way + 1) (omega (arith, last)) in
     absurd (let z : None ≡ Some e = sym none ∙ is in cc)
 
 -- ---- one entry that is affected
@@ -258,20 +247,6 @@ alone p k (Fork q x y) h = go (nat_lt q p) (bit k q) (alone p k x) (alone p k y)
     go true true f g h = g h
     go true false f g h = f h
     go false u f g h = absurd (omega (arith, h, size_pos (shape x), size_pos (shape y)))
-
--- ---- a tree of two leaves
-pub pair_tree : (n number value : ℕ) (key l : Key) (p : ℕ) → IsKey key → IsKey l → AgreeBelow p key l → bit key p ≢ bit l p → IsTreePage (page_forked (bit key p) p (LeafEntry number) (Place (LeafEntry n)))
-pair_tree n number value key l p is_key is_l agree differ =
-    let x : Item = record { number = number; key = key; value = value } in (
-      grown (bit key p) p (leaf n l value) x,
-      grown_page (bit key p) p (leaf n l value) x,
-      (added_here (leaf n l value) x p is_l is_key (λ y h. away p key l y agree differ (λ r i. ap (λ o. bit o r) (sym h)) (ap (λ o. bit o p) (sym h)))).trie,
-      both (bit key p),
-    )
-  where
-    both : (u : Bool) → IsBuilt (grown u p (leaf n l value) (record { number = number; key = key; value = value }))
-    both false = (tt, tt)
-    both true = (tt, tt)
 
 -- ---- entry words
 two_high : (u : Bool) (p a b : ℕ) → greatest_height (places (page_forked u p (LeafEntry a) (Place (LeafEntry b)))) ≡ 0
@@ -345,41 +320,8 @@ put_len k m key way aim found span (first, last, plan, affected) =
     let at = put_at way first last aim found span.len span.end plan in
     let (a, b) = put_spans way found span.len span.end at in (at, a, b)
 
--- ---- under the locks of a span that ends where it begins
-module _ (table : TableView) (a : SeatView) (m : ℕ) (key : Key) (way : List Step) (found : Found) (span : Span) (t : HasTakenSpan table a m key way found span) (same : span.len ≡ span.end) where
-  -- the node above is locked, with these words
-  pub record IsAboveAt (s : Step) : Type 0 where
-    pub words : List ℕ
-    pub locked : HasLocked a.known s.number words
-    pub range : s.number < table.layout.nodes
-    pub shape_is : (forks : Page) → Sure a.known (λ past. IsShaped past m s.number forks) → shape (node_words_of words).page ≡ forks
-    pub spot_is : spot key (node_words_of words).page ≡ s.at
-    pub named_is : named way found (span.end - 1 + 1) ≡ Some (seek key (node_words_of words).page)
-    pub height : (node_words_of words).fixed.height ≡ s.height
-    pub high : 0 < s.height
-
-  pub node_above : (s : Step) → 0 < span.end → span.end ≤ length way → slice_get way (span.end - 1) ≡ Some s → IsAboveAt s
-  node_above s low upto at =
-      let part : slice_range way (span.end - 1) span.len ≡ s ∷ [] =
-      ap (slice_range way (span.end - 1)) same ∙ (slice_more way (span.end - 1) span.end s (omega arith) upto ∙
-      ap₂ (λ (x : Step) (xs : List Step). x ∷ xs) (get_or_from_slice_get way (span.end - 1) s s at)
-      ((let e : span.end - 1 + 1 ≡ span.end = omega arith in ap (λ n. slice_range way n span.end) e) ∙ slice_none way span.end)) in
-      let (l, there, is) = t.locked.nodes.0.each s.number (subst (λ (z : List Step). IsOf s.number (numbers_of z)) (sym part) (inl refl)) in
-      let words = l.words in
-      let locked : HasLocked a.known s.number words = subst (λ n. IsOf (record { node = n; words = l.words }) a.known.locks) is there in
-      let (e, named_e, node) = t.way_of.nodes (span.end - 1) s at in
-      let shown = locked_shape table.layout a.known m s.number s.height node.forks words t.possible t.way_of.since node.seen node.shaped locked in
-      record {
-        words = words;
-        locked = locked;
-        range = node.range;
-        shape_is = λ forks shaped. (locked_shape table.layout a.known m s.number s.height forks words t.possible t.way_of.since node.seen shaped locked).0;
-        spot_is = sym (spot_shape key (node_words_of words).page) ∙ (ap (spot key) shown.0 ∙ sym node.at);
-        named_is = t.checked.entries (span.end - 1) s (omega arith) (omega arith) at words locked;
-        height = shown.1;
-        high = (let h = node.below in omega arith);
-      }
-
+-- ---- under the locks of the span
+module _ (table : TableView) (a : SeatView) (m : ℕ) (key : Key) (way : List Step) (found : Found) (span : Span) (t : HasTakenSpan table a m key way found span) where
   -- ---- what was found
   module _ (n v : ℕ) (mismatch : Option ℕ) (is_found : found ≡ Leaf n v mismatch) where
     pub leaf_at : (l : Key) × Sure a.known (λ past. IsRead past m n l v) × IsMismatch key l mismatch
@@ -414,24 +356,12 @@ module _ (table : TableView) (a : SeatView) (m : ℕ) (key : Key) (way : List St
       go Nothing is = λ i d low. absurd (omega arith)
       go (Leaf n v mismatch) is = All-cons (HasRecord table.layout) (a_leaf n) [] (found_there n v mismatch is) (λ i d low. absurd (omega arith))
 
-  -- the leaf stands at the root, or in the node above
-  end_named : (n v : ℕ) (mismatch : Option ℕ) → found ≡ Leaf n v mismatch → (i : ℕ) → i ≡ length way → named way found i ≡ Some (LeafEntry n)
-  end_named n v mismatch is i last = ap (named way found) last ∙ (named_last way found ∙ ap end_of is)
-
-  end_seek : (n v : ℕ) (mismatch : Option ℕ) → found ≡ Leaf n v mismatch → span.end ≡ length way → 0 < span.end → (s : Step) (above : IsAboveAt s) → seek key (node_words_of above.words).page ≡ LeafEntry n
-  end_seek n v mismatch is last low s above =
-      let e : Some (seek key (node_words_of above.words).page) ≡ Some (LeafEntry n) = sym above.named_is ∙ end_named n v mismatch is (span.end - 1 + 1) (omega arith) in
-      let z : seek key (node_words_of above.words).page ≡ LeafEntry n = cc in z
+  -- the leaf is named above
+  pub end_named : (n v : ℕ) (mismatch : Option ℕ) → found ≡ Leaf n v mismatch → span.end ≡ length way → named way found span.end ≡ Some (LeafEntry n)
+  end_named n v mismatch is last = named_end way found span.end (omega (arith, last)) ∙ ap end_of is
 
   -- ---- the store, once the records are made
   module _ (b : SeatView) (made : List Rec) (number value : ℕ) (later : IsLater a.known b.known) (locks : b.known.locks ≡ a.known.locks) (anchor : b.known.anchor ≡ a.known.anchor) (spelled : HasLeafWords (key, value)) where
-    root_is : (j : Known) → j.anchor ≡ b.known.anchor → span.end ≡ 0 → j.anchor ≡ Some (named way found 0)
-    root_is j e z = e ∙ (anchor ∙ t.checked.root z)
-
-    locked_in : (n : ℕ) (s : Step) (above : IsAboveAt s) → n ≡ s.number → IsOf (record { node = n; words = above.words }) b.known.locks
-    locked_in n s above is =
-        subst (λ z. IsOf (record { node = z; words = above.words }) b.known.locks) (sym is) (subst (IsOf (record { node = s.number; words = above.words })) (sym locks) above.locked)
-
     -- a new leaf alone
     pub put_may : IsBuilding table b made (of_leaf (item number key value) ∷ []) → IsPutAt way found span.len span.end → (spot : Spot) → IsSpotAbove way span.end spot →
         MayEnd table b made spot (4 * number + 1) (put_change a.known.pass (item number key value) found) (put_was found) (leaf_found found)
@@ -451,39 +381,38 @@ module _ (table : TableView) (a : SeatView) (m : ℕ) (key : Key) (way : List St
           publishes = λ j on ready same_anchor.
               subst (λ q. Publishes table.layout j Root (4 * number + 1) (added_change q (item number key value)) None []) (on.pass ∙ later.pass)
               (first_made table.layout j b.known.locks (item number key value) (4 * number + 1) ready spelled word
-              (root_is j same_anchor e ∙ ap (λ (o : Option Entry). Some o) (ap (λ (f : Found). named way f 0) is ∙
-              none_named way (λ i s d. IsWayNode table.layout a.known m key s d) (subst (λ f. IsWayOf table.layout a.known m key way f) is t.way_of).nodes)));
+              (same_anchor ∙ (anchor ∙ (t.checked.root e ∙ ap (λ (o : Option Entry). Some o) (ap (λ (f : Found). named way f 0) is ∙
+              none_named way (λ i s d. IsWayNode table.layout a.known m key s d) (subst (λ f. IsWayOf table.layout a.known m key way f) is t.way_of).nodes)))));
         }
         go Nothing is (l, e) (Slot n i) (s, low, at_s, number_is, place) = absurd (omega arith)
-        go (Leaf n v None) is (l, e) Root over = record {
+        go (Leaf n v None) is (l, e) spot over = record {
           news = news;
           building = building;
           publishes = λ j on ready same_anchor.
-              subst (λ q. Publishes table.layout j Root (4 * number + 1) (replaced_change q (item number key value)) (Some v) (a_leaf n ∷ [])) (on.pass ∙ later.pass)
-              (upsert_at_root table.layout j b.known.locks (item number key value) n (4 * number + 1) v ready spelled
-              (root_is j same_anchor over ∙ ap (λ (o : Option Entry). Some o) (end_named n v None is 0 (sym over ∙ e)))
+              let h = holds_above table.layout a.known m key way found span t.possible t.way_of t.locked t.checked t.within.0 (LeafEntry n) (end_named n v None is e) j b.known.locks locks (same_anchor ∙ anchor) spot over in
+              subst (λ q. Publishes table.layout j spot (4 * number + 1) (replaced_change q (item number key value)) (Some v) (a_leaf n ∷ [])) (on.pass ∙ later.pass)
+              (upsert table.layout j b.known.locks (item number key value) n (4 * number + 1) v spot ready spelled h.holds (h.fits (LeafEntry number) (λ s above. above.node.below))
               (subst (λ z. IsLeafThere table.layout j b.known.locks news n z v) (sym (leaf_at n v None is).2)
               (there_still n v None is j b.known.locks news (later_on a.known b.known j later on))) word);
         }
-        go (Leaf n v None) is (l, e) (Slot o i) (s, low, at_s, number_is, place) =
-            let above = node_above s low (omega arith) at_s in
-            record {
-              news = news;
-              building = building;
-              publishes = λ j on ready same_anchor.
-                  subst (λ q. Publishes table.layout j (Slot o i) (4 * number + 1) (replaced_change q (item number key value)) (Some v) (a_leaf n ∷ [])) (on.pass ∙ later.pass)
-                  (upsert_in_slot table.layout j b.known.locks (item number key value) o n i (4 * number + 1) v above.words ready spelled (locked_in o s above number_is)
-                  (end_seek n v None is e low s above) (above.spot_is ∙ sym place) (let h = above.high in let g = above.height in omega arith)
-                  (subst (λ z. IsLeafThere table.layout j b.known.locks news n z v) (sym (leaf_at n v None is).2)
-                  (there_still n v None is j b.known.locks news (later_on a.known b.known j later on))) word);
-            }
         go (Leaf n v (Some p)) is at spot over = absurd at
 
     -- a new node of the found leaf and the new one
     pub pair_may : (p n : ℕ) (here : IsPairHere a.known m key way found span n p) (e : Entry) (more : List Made) → IsSide (page_forked (bit key p) p (LeafEntry number) (Place (LeafEntry n))) e more →
         IsBuilding table b made (more ++ of_leaf (item number key value) ∷ []) → (spot : Spot) → IsSpotAbove way span.end spot → MayEnd table b made spot (entry_word (Some e)) (added_change a.known.pass (item number key value)) None []
     pair_may p n here e more (one f is) building spot over = absurd (no_single (bit key p) p (LeafEntry number) (Place (LeafEntry n)) f is)
-    pair_may p n here e more (anew o view built shows) building spot over = go spot over
+    pair_may p n here e more (anew o view built shows) building spot over = record {
+      news = news;
+      building = building;
+      publishes = λ j on ready same_anchor.
+          let h = holds_above table.layout a.known m key way found span t.possible t.way_of t.locked t.checked t.within.0 (LeafEntry n) (end_named n here.value (Some p) here.is_found here.upto) j b.known.locks locks
+          (same_anchor ∙ anchor) spot over in
+          subst (λ q. Publishes table.layout j spot (entry_word (Some e)) (added_change q (item number key value)) None []) (on.pass ∙ later.pass)
+          (pair table.layout j b.known.locks (item number key value) p n o (entry_word (Some e)) here.value leaf.0 view spot ready spelled h.holds
+          (h.alone p (λ s above. (Place (LeafEntry n), refl, inr (alone_at s above.words above.low above.at above.has))))
+          (h.fits e (λ s above. let high = (lowest above.low).high s (level_at s above.low above.at) in omega (arith, one_high, high)))
+          (there_still n here.value (Some p) here.is_found j b.known.locks news (later_on a.known b.known j later on)) leaf.2.0 leaf.2.1 built shows word);
+    }
       where
         news : List Made
         news = of_view o view ∷ of_leaf (item number key value) ∷ []
@@ -491,44 +420,22 @@ module _ (table : TableView) (a : SeatView) (m : ℕ) (key : Key) (way : List St
         word : IsWord (NodeEntry o view.height) (entry_word (Some (NodeEntry o view.height)))
         word = node_word table b made (of_view o view ∷ of_leaf (item number key value) ∷ []) building o view (inl refl) built
 
-        l : Key
-        l = (leaf_at n here.value (Some p) here.is_found).0
+        leaf : (l : Key) × Sure a.known (λ past. IsRead past m n l here.value) × IsMismatch key l (Some p)
+        leaf = leaf_at n here.value (Some p) here.is_found
 
-        mismatch : IsMismatch key (leaf_at n here.value (Some p) here.is_found).0 (Some p)
-        mismatch = (leaf_at n here.value (Some p) here.is_found).2
+        one_high : view.height ≡ 1
+        one_high = pair_height (bit key p) p number n view built shows
 
-        go : (spot : Spot) → IsSpotAbove way span.end spot → MayEnd table b made spot (entry_word (Some (NodeEntry o view.height))) (added_change a.known.pass (item number key value)) None []
-        go Root over = record {
-          news = news;
-          building = building;
-          publishes = λ j on ready same_anchor.
-              subst (λ q. Publishes table.layout j Root (entry_word (Some (NodeEntry o view.height))) (added_change q (item number key value)) None []) (on.pass ∙ later.pass)
-              (second_made table.layout j b.known.locks (item number key value) n p o (entry_word (Some (NodeEntry o view.height))) here.value (leaf_at n here.value (Some p) here.is_found).0 view ready spelled word
-              (root_is j same_anchor over ∙ ap (λ (o : Option Entry). Some o) (end_named n here.value (Some p) here.is_found 0 (sym over ∙ here.upto)))
-              (there_still n here.value (Some p) here.is_found j b.known.locks news (later_on a.known b.known j later on)) mismatch.0 mismatch.1 built shows);
-        }
-        go (Slot i at) (s, low, at_s, number_is, place) =
-            let above = node_above s low (omega (arith, here.upto)) at_s in
-            let seek_is = end_seek n here.value (Some p) here.is_found here.upto low s above in
-            let lowest = pair_last way p here.first here.last span.len span.end p here.at low in
-            let at_level : slice_get way lowest.level ≡ Some s = (let e : span.end - 1 ≡ lowest.level = omega (arith, lowest.is_last, here.upto) in subst (λ z. slice_get way z ≡ Some s) e at_s) in
-            let (forks, shaped, just) = (subst (λ f. AreAffected a.known m key way f here.first here.last) here.is_found here.affected) lowest.level s lowest.is_level at_level in
-            let shape_is = above.shape_is forks shaped in
-            let few : size (page_affected p key forks) ≤ 1 = omega (arith, just.upto, lowest.single, (key_part key p forks).count, just.from) in
-            let affected : page_affected p key (node_words_of above.words).page ≡ Place (LeafEntry n) =
-            alone p key (node_words_of above.words).page (subst (λ z. size (page_affected p key z) ≤ 1) (sym shape_is) few) ∙ ap (λ (z : Entry). let y : Page = Place z in y) seek_is in
-            let high = lowest.high s at_level in
-            let one_high = pair_height (bit key p) p number n view built shows in
-            record {
-              news = news;
-              building = building;
-              publishes = λ j on ready same_anchor.
-                  let on_from = later_on a.known b.known j later on in
-                  let found_below : HasFoundBelow j b.known.locks m (item number key value) p l i above.words =
-                  descent_finds j b.known.locks m (item number key value) p l i above.words spelled (since_later on_from t.way_of.since) (locked_in i s above number_is)
-                  (λ c law known. subst (λ z. IsWayFrom c.past m l z) (sym seek_is)
-                  (way_of_leaf c.past m n l here.value (sure_stays a.known j (λ past. IsRead past m n l here.value) on_from (found_sure n here.value (Some p) here.is_found) c law known))) mismatch.0 mismatch.1 in
-                  subst (λ q. Publishes table.layout j (Slot i at) (entry_word (Some (NodeEntry o view.height))) (added_change q (item number key value)) None []) (on.pass ∙ later.pass)
-                  (push_down_made table.layout j b.known.locks m (item number key value) p l i n o at (entry_word (Some (NodeEntry o view.height))) above.words view ready found_below affected shows built (above.spot_is ∙ sym place)
-                  (let g = above.height in omega (arith, one_high, high)) word);
-            }
+        lowest : 0 < span.end → IsLastLevel way p here.first here.last
+        lowest low = pair_last way p here.first here.last span.len span.end p here.at low
+
+        level_at : (s : Step) (low : 0 < span.end) → slice_get way (span.end - 1) ≡ Some s → slice_get way (lowest low).level ≡ Some s
+        level_at s low at = (let e : span.end - 1 ≡ (lowest low).level = (let is = (lowest low).is_last in omega (arith, is, here.upto)) in subst (λ z. slice_get way z ≡ Some s) e at)
+
+        alone_at : (s : Step) (words : List ℕ) (low : 0 < span.end) → slice_get way (span.end - 1) ≡ Some s → HasLocked a.known s.number words → IsTipPage (page_affected p key (node_words_of words).page)
+        alone_at s words low at has =
+            let (forks, shaped, just) = (subst (λ f. AreAffected a.known m key way f here.first here.last) here.is_found here.affected) (lowest low).level s (lowest low).is_level (level_at s low at) in
+            let node = (t.way_of.nodes (span.end - 1) s at).2 in
+            let shape_is = (locked_shape table.layout a.known m s.number s.height forks words t.possible t.way_of.since node.seen shaped has).0 in
+            let few : size (page_affected p key forks) ≤ 1 = (let single = (lowest low).single in omega (arith, just.upto, single, (key_part key p forks).count, just.from)) in
+            subst IsTipPage (sym (alone p key (node_words_of words).page (subst (λ z. size (page_affected p key z) ≤ 1) (sym shape_is) few))) tt

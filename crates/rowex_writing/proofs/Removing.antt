@@ -8,10 +8,10 @@ use Rattle.compound_node.specs.declared.entries.Entry.{Entry}
 use Rattle.compound_node.specs.declared.entries.Entry.TheVariants.{Leaf as LeafEntry, Node}
 use Rattle.finite_map.specs.declared.Change.{Change as MapChange}
 use Rattle.insert_cases.specs.declared.choice.Step.{Step}
+use Rattle.insert_cases.proofs.Choosing.{same_some}
 use Rattle.pieces.specs.Piece.{Place, Fork, places}
 use Rattle.record_words.specs.declared.layout.Layout.{Layout}
 use Rattle.record_words.specs.Entry.{HasEntryWord, entry_word}
-use Rattle.tries.specs.Affected.{IsLowerPage}
 use Rattle.tries.specs.Keys.{Key, bit}
 use Rattle.tries.specs.Place.{joined, page_without, spot}
 use Rattle.tries.specs.Search.{seek}
@@ -20,7 +20,7 @@ use Rattle.moments.specs.Heap.{NodeWords}
 use Rattle.moments.specs.declared.Rec.{Rec}
 use Rattle.moments.specs.declared.Rec.TheVariants.{Node as a_node, Leaf as a_leaf}
 use Rattle.moments.specs.Trades.{IsOf}
-use Rattle.moments.proofs.Members.{all_of, map_of, none_of, of_append, of_left, of_right}
+use Rattle.moments.proofs.Members.{all_of, none_of, of_append, of_left, of_right}
 use Rattle.rowex_core.specs.declared.event.Spot.{Spot}
 use Rattle.rowex_core.specs.declared.event.Spot.TheVariants.{Root, Slot}
 use Rattle.rowex_core.specs.declared.known.Known.{Known}
@@ -43,7 +43,7 @@ use Rattle.rowex_rights.specs.Loops.{StaysLocked}
 use Rattle.rowex_rights.specs.Rises.{IsSide, one, anew}
 use Rattle.rowex_rights.specs.Stages.{HasReady, IsLeafThere}
 use Rattle.rowex_rights.proofs.Loops.{later_on}
-use Rattle.rowex_rights.proofs.Replacing.{leaf_stays, remove_at_root, remove_in_slot, remove_the_last}
+use Rattle.rowex_rights.proofs.Replacing.{leaf_stays, remove, remove_the_last}
 use Rattle.rowex_rights.proofs.Sure.{seen_is_sure, sure_stays}
 use Rattle.rowex_writing.specs.Building.{IsBuilding}
 use Rattle.rowex_writing.specs.Changes.{HasTakenSpan, IsPlanned, MayEnd}
@@ -57,16 +57,16 @@ use Rattle.insert_cases.specs.declared.choice.Case.{Case}
 use Rattle.insert_cases.specs.declared.choice.Case.TheVariants.{LeafPushdown, NormalInsert, Overflow}
 use Rattle.insert_cases.specs.declared.choice.Choice.{Choice}
 use Rattle.rowex_writing.specs.Going.{HasLocked, IsLockedBy}
-use Rattle.rowex_writing.specs.Locks.{HasLockedSpan, numbers_of}
+use Rattle.rowex_writing.specs.Locks.{numbers_of}
 use Rattle.rowex_writing.specs.Putting.{IsSpotAbove}
 use Rattle.rowex_writing.specs.Retiring.{AreInTable}
 use Rattle.rowex_writing.specs.Taking.{HasLeafBelow, HasOnlyLeaf, HasReadLeaf}
-use Rattle.rowex_reading.specs.Ways.{IsWayOf, named}
+use Rattle.rowex_reading.specs.Ways.{IsWayOf}
 use Rattle.rowex_reading.proofs.Ways.{named_at, named_end}
 use Rattle.rowex_reading.specs.declared.descent.Found.{Found}
 use Rattle.rowex_reading.specs.declared.descent.Found.TheVariants.{Nothing, Leaf}
 use Rattle.rowex_writing.specs.declared.plan.Span.{Span}
-use Rattle.rowex_writing.proofs.Spared.{range_split}
+use Rattle.rowex_writing.proofs.Above.{locked_at, holds_above}
 use Rattle.rowex_writing.proofs.Shapes.{way_node_locked}
 use Rattle.rowex_writing.proofs.Spans.{slice_more, slice_none}
 use Rattle.tries.specs.Content.{item}
@@ -245,26 +245,6 @@ left_raised layout k n words key e news possible h side =
     let (view, all, page_is) = locked_view layout k n words possible h in
     side_raised key view e news all (subst (λ (z : Page). IsSide (page_without key z) e news) page_is side)
 
-low_page : (h : ℕ) (e : Entry) → height_of e < h → IsLowerPage h (Place e)
-low_page h (LeafEntry n) l = l
-low_page h (Node n g) l = l
-
--- ---- the span
-of_range : (xs : List Step) (a b i : ℕ) (s : Step) → a ≤ i → i < b → b ≤ length xs → slice_get xs i ≡ Some s → IsOf s (slice_range xs a b)
-of_range xs a b i s low high most at =
-    subst (IsOf s) (sym (range_split xs a i b low (omega (arith, high))))
-    (of_right s (slice_range xs a i) (slice_range xs i b) (subst (IsOf s) (sym (slice_more xs i b s high most)) (inl (sym (get_or_from_slice_get xs i s s at)))))
-
-same_some : {A : Type 0} {x y : A} → Some x ≡ Some y → x ≡ y
-same_some e = cc
-
--- the nodes of a span are locked
-pub held_at : (k : Known) (way : List Step) (span : Span) (i : ℕ) (s : Step) → HasLockedSpan k way span → span.len ≤ length way → span.end ≤ i + 1 → i < span.len → slice_get way i ≡ Some s → IsLockedBy k s.number
-held_at k way span i s locked most low high at =
-    let there = of_range way (span.end - 1) span.len i s (omega (arith, low)) high most at in
-    let (lock, is, same) = locked.nodes.0.each s.number (map_of (λ (z : Step). z.number) s (slice_range way (span.end - 1) span.len) there) in
-    (lock.words, subst (λ n. IsOf (record { node = n; words = lock.words }) k.locks) same is)
-
 -- ---- the node that names the leaf
 module _ (table : TableView) (a : SeatView) (m : ℕ) (key : Key) (way : List Step) (number value : ℕ) (span : Span) (b : HasLeafBelow table a m key way number value span) (s : Step) (at : slice_get way span.end ≡ Some s) where
   abbrev found : Found
@@ -277,7 +257,7 @@ module _ (table : TableView) (a : SeatView) (m : ℕ) (key : Key) (way : List St
   has_read = let (l, read, same) = w.found_at in (m, w.since, subst (λ z. Sure a.known (λ past. IsRead past m number z value)) (sym same) read)
 
   pub lowest_locked : IsLockedBy a.known s.number
-  lowest_locked = held_at a.known way span span.end s b.taken.locked (let e = b.len in omega (arith, e)) (omega arith) (let e = b.last in omega (arith, e)) at
+  lowest_locked = locked_at a.known way span b.taken.locked span.end s (omega arith) (let e = b.last in omega (arith, e)) at
 
   low_names : (words : List ℕ) → HasLocked a.known s.number words → seek key (node_words_of words).page ≡ LeafEntry number
   low_names words h =
@@ -301,9 +281,6 @@ module _ (table : TableView) (a : SeatView) (m : ℕ) (key : Key) (way : List St
   -- what is left may take the node's place
   module _ (c : SeatView) (made : List Rec) (news : List Made) (words : List ℕ) (h : HasLocked a.known s.number words) (e : Entry) (stays : StaysLocked a.known c.known) (building : IsBuilding table c made news)
       (side : IsSide (page_without key (node_words_of words).page) e news) (low : height_of e ≤ (node_words_of words).fixed.height) (word : HasEntryWord (Some e)) where
-    still : (n : ℕ) (ws : List ℕ) → HasLocked a.known n ws → HasLocked c.known n ws
-    still n ws i = subst (λ z. IsOf (record { node = n; words = ws }) z) (sym stays.1) i
-
     abbrev gone : List Rec
     gone = a_node s.number ∷ a_leaf number ∷ []
 
@@ -311,26 +288,14 @@ module _ (table : TableView) (a : SeatView) (m : ℕ) (key : Key) (way : List St
     gone_change q = removed_change q (item number key value)
 
     publishes : (spot : Spot) → IsSpotAbove way span.end spot → (j : Known) → IsLater c.known j → HasReady j c.known.locks news → j.anchor ≡ c.known.anchor → Publishes table.layout j spot (entry_word (Some e)) (gone_change j.pass) (Some value) gone
-    publishes Root is j later ready anchor =
-        let top = anchor ∙ (stays.2 ∙ b.taken.checked.root is) in
-        let names : named way found 0 ≡ Some (Node s.number s.height) = named_at way found 0 s (subst (λ i. slice_get way i ≡ Some s) is at) in
-        remove_at_root table.layout j c.known.locks news key s.number number s.height (entry_word (Some e)) value e words ready side (still s.number words h) (top ∙ ap Some names) (low_names words h)
+    publishes spot is j later ready anchor =
+        let t = b.taken in
+        let above = holds_above table.layout a.known m key way found span t.possible w t.locked t.checked t.within.0 (Node s.number s.height) (named_at way found span.end s at) j c.known.locks stays.1 (anchor ∙ stays.2) spot is in
+        let (f, f_is, own) = w.nodes span.end s at in
+        let node = way_node_locked table.layout a.known m key s f words t.possible w.since own h in
+        remove table.layout j c.known.locks news key s.number number s.height (entry_word (Some e)) value e words spot ready side (subst (IsOf (record { node = s.number; words = words })) (sym stays.1) h) (low_names words h)
+        above.holds (above.fits e (λ u on. let falls = on.node.below in omega (arith, low, falls, node.height)))
         (leaf_there table.layout a.known j c.known.locks news number key value (later_on a.known c.known j stays.0 later) has_read) (word, refl)
-    publishes (Slot n i) (u, some, there, n_is, i_is) j later ready anchor =
-        let e_last = b.last in
-        let e_len = b.len in
-        let (upper, hu) = held_at a.known way span (span.end - 1) u b.taken.locked (omega (arith, e_len)) (omega (arith, some)) (omega (arith, some, e_last)) there in
-        let next : span.end - 1 + 1 ≡ span.end = omega (arith, some) in
-        let names : named way found (span.end - 1 + 1) ≡ Some (Node s.number s.height) = named_at way found (span.end - 1 + 1) s (ap (slice_get way) next ∙ at) in
-        let upper_names : seek key (node_words_of upper).page ≡ Node s.number s.height = same_some (sym (b.taken.checked.entries (span.end - 1) u (omega (arith, some)) (omega (arith, some, e_last)) there upper hu) ∙ names) in
-        let (d, named_is, node) = w.nodes (span.end - 1) u there in
-        let falls : s.height < u.height = subst (λ z. height_of z < u.height) (same_some (sym named_is ∙ names)) node.below in
-        let above = way_node_locked table.layout a.known m key u d upper b.taken.possible w.since node hu in
-        let below = (let (f, f_is, own) = w.nodes span.end s at in way_node_locked table.layout a.known m key s f words b.taken.possible w.since own h) in
-        let lower : IsLowerPage (node_words_of upper).fixed.height (Place e) = (let tall = above.height in let small = below.height in low_page (node_words_of upper).fixed.height e (omega (arith, low, falls, tall, small))) in
-        subst (λ z. Publishes table.layout j (Slot z i) (entry_word (Some e)) (gone_change j.pass) (Some value) gone) (sym n_is)
-        (remove_in_slot table.layout j c.known.locks news key u.number s.number number s.height i (entry_word (Some e)) value e upper words ready side (still u.number upper hu) (still s.number words h)
-        upper_names (low_names words h) (above.at ∙ sym i_is) lower (leaf_there table.layout a.known j c.known.locks news number key value (later_on a.known c.known j stays.0 later) has_read) (word, refl))
 
     pub may_remake : (spot : Spot) → IsSpotAbove way span.end spot → MayEnd table c made spot (entry_word (Some e)) (gone_change c.known.pass) (Some value) gone
     may_remake spot is = record {

@@ -17,7 +17,8 @@ use Rattle.rowex_writing.proofs.Growths.{full_since}
 use Rattle.rowex_writing.proofs.Lifting.{paired}
 use Rattle.rowex_writing.proofs.Locking.{goes_more}
 use Rattle.rowex_writing.proofs.Making.{steps_rise}
-use Rattle.rowex_writing.proofs.Placing.{found_is_key, leaf_at, pair_here, pair_may, pair_tree}
+use Rattle.rowex_writing.proofs.Placing.{found_is_key, leaf_at, pair_here, pair_may}
+use Rattle.rowex_walks.proofs.Leaves.{pair_tree}
 use Rattle.rowex_writing.proofs.Walked.{walk_begins}
 use Rattle.rowex_writing.specs.declared.plan.Full.TheVariants.{Nodes}
 use Rattle.rowex_writing.proofs.pairing.pair_leaf.Goals as goal
@@ -40,9 +41,9 @@ pair_with_leaf-pair-requires g c =
     let job = c.args.job.now in
     let (m, aim, t, planned) = c.requires.taken in
     let here = pair_here c.args.seat.now.known m job.key.now job.way.now aim job.found job.span c.args.position planned c.in-Leaf.old _ _ c.in-Leaf.is in
-    let l = leaf_at c.args.table.now c.args.seat.now m job.key.now job.way.now job.found job.span t here.len c.in-Leaf.old here.value (Some c.args.position) here.is_found in
-    pair_tree c.in-Leaf.old c.in-Some.leaf here.value job.key.now l.0 c.args.position t.way_of.is_key
-    (found_is_key c.args.table.now c.args.seat.now m job.key.now job.way.now job.found job.span t here.len c.in-Leaf.old here.value (Some c.args.position) here.is_found) l.2.0 l.2.1
+    let l = leaf_at c.args.table.now c.args.seat.now m job.key.now job.way.now job.found job.span t c.in-Leaf.old here.value (Some c.args.position) here.is_found in
+    pair_tree (item c.in-Some.leaf job.key.now here.value) c.args.position c.in-Leaf.old here.value l.0 t.way_of.is_key
+    (found_is_key c.args.table.now c.args.seat.now m job.key.now job.way.now job.found job.span t c.in-Leaf.old here.value (Some c.args.position) here.is_found) l.2.0 l.2.1
 
 -- ---- no node record was free
 pub returns-in_default-make_node : goal.returns-in_default-make_node
@@ -87,7 +88,7 @@ returns g c = record {
             leaf = none_in_table c.args.table.now.layout;
             ends = λ spot over.
                 subst (MayEnd c.args.table.now c.make_node.new.seat c.make_node.new.build.made.items spot (entry_word (Some c.in-Some-make_node.entry)) x None) (sym (leaf_alone job.way.now job.span.end job.span.len None here.len))
-                (pair_may c.args.table.now c.args.seat.now m job.key.now job.way.now job.found job.span t here.len c.make_node.new.seat c.make_node.new.build.made.items c.in-Some.leaf job.value goes.stays.0 goes.stays.1 goes.stays.2
+                (pair_may c.args.table.now c.args.seat.now m job.key.now job.way.now job.found job.span t c.make_node.new.seat c.make_node.new.build.made.items c.in-Some.leaf job.value goes.stays.0 goes.stays.1 goes.stays.2
                 c.make_leaf.ensures.leaf c.args.position c.in-Leaf.old here c.in-Some-make_node.entry more side building spot over);
             few = omega (arith, made_one c.in-Some.ensures.made, c.make_node.ensures.more);
           },

@@ -34,10 +34,10 @@ returns g c = record {
             from = omega (arith, same);
             upto = omega arith;
             most = omega arith;
-            leaf = subst (AreInTable c.args.table.now.layout) (sym c.found_leaf.ensures) (found_records c.args.table.now c.args.seat.now m job.key.now job.way.now job.found job.span t same);
+            leaf = subst (AreInTable c.args.table.now.layout) (sym c.found_leaf.ensures) (found_records c.args.table.now c.args.seat.now m job.key.now job.way.now job.found job.span t);
             ends = λ spot over.
                 subst (MayEnd c.args.table.now c.make_leaf.new.seat c.make_leaf.new.build.made.items spot (4 * c.in-Some.number + 1) (put_change c.args.seat.now.known.pass (item c.in-Some.number job.key.now job.value) job.found) (put_was job.found)) (sym gone)
-                (put_may c.args.table.now c.args.seat.now m job.key.now job.way.now job.found job.span t same c.make_leaf.new.seat c.make_leaf.new.build.made.items c.in-Some.number job.value goes.stays.0 goes.stays.1 goes.stays.2
+                (put_may c.args.table.now c.args.seat.now m job.key.now job.way.now job.found job.span t c.make_leaf.new.seat c.make_leaf.new.build.made.items c.in-Some.number job.value goes.stays.0 goes.stays.1 goes.stays.2
                 c.make_leaf.ensures.leaf c.in-Some.ensures.made at spot over);
             few = omega (arith, made_one c.in-Some.ensures.made, ap length c.found_leaf.ensures, found_few job.found);
           },
