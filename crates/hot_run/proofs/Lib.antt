@@ -1,6 +1,7 @@
 -- The lemmas of the crate.
 pub mod Alone
 pub mod Answering
+pub mod Asking
 pub mod Commands
 pub mod Joint
 pub mod Numbered

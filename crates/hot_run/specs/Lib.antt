@@ -4,3 +4,4 @@ pub mod Told
 pub mod Progress
 pub mod Runs
 pub mod Scripts
+pub mod Asked

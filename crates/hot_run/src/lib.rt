@@ -15,6 +15,7 @@ ghost use Rattle.hot_run.specs.Scripts.{AllFrom};
 ghost use Rattle.hot_run.specs.Told.{IsOfSize, IsSizedFor};
 
 mod answer;
+pub mod asked;
 mod callers;
 mod engine;
 mod scripts;

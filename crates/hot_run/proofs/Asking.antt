@@ -10,7 +10,7 @@ use Rattle.hot_command_line.specs.Files.{AreStarts, IsFileFault}
 use Rattle.hot_command_line.specs.Options.{IsAsked}
 use Rattle.hot_command_line.specs.declared.ending.Ending.TheVariants.{Fault}
 use Rattle.hot_run.specs.Scripts.{LawfulScripts, MayEndScriptsBy}
-use Rattle.hot_run_cli.specs.Asked.{AnswersAll, HasFaultAsAsked, MayEndAllBy, MayEndAsAsked}
+use Rattle.hot_run.specs.Asked.{AnswersAll, HasFaultAsAsked, MayEndAllBy, MayEndAsAsked}
 
 -- files were named
 module _ (bytes : List ℕ → Option (List ℕ)) where

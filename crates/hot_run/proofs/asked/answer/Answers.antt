@@ -1,7 +1,7 @@
 -- The fault of a file, and what a run with files has answered, or by what it has ended.
 use Rattle.std.proofs.lemmas.Result.{err_from_is_err_and}
-use Rattle.hot_run_cli.proofs.Answering.{file_ended, files_answered, not_empty, run_ended}
-use Rattle.hot_run_cli.proofs.answer.Goals as goal
+use Rattle.hot_run.proofs.Asking.{file_ended, files_answered, not_empty, run_ended}
+use Rattle.hot_run.proofs.asked.answer.Goals as goal
 
 pub returns-in_err-files-clause-fault : goal.returns-in_err-files-clause-fault
 returns-in_err-files-clause-fault g c =

@@ -1,0 +1,48 @@
+//! Which run a command line asks for.
+
+ghost use Rattle.std.specs.Prelude.{◌≡◌, ◌≢◌, IfErr, OnOk, map, string_bytes};
+ghost use Rattle.hot_scripts.specs.declared.fault.RunFault.TheVariants.{Write as WriteFault};
+ghost use Rattle.hot_command_line.specs.declared.ending.Ending.TheVariants.{Fault};
+ghost use Rattle.hot_run.specs.Asked.{IsAnsweredAsAsked, MayEndAsAsked};
+
+use crate::run_one;
+use crate::scripts::run_scripts;
+use hot_command_line::arguments::parse;
+use hot_command_line::ending::Ending;
+use hot_command_line::files::{FileSystem, read_files};
+use std::io::{Read, Write};
+use std::sync::Wait;
+use std::thread::Threads;
+
+/// Answers what these words ask for: the script that the reader has, alone, or after the scripts in the files that they name.
+pub fn answer<T, S, R, W>(
+    rt: &T,
+    system: &S,
+    words: &[String],
+    reader: &mut R,
+    writer: &mut W,
+) -> Result<(), Ending>
+where
+    T: AllocGlobal + Wait + Threads + Sync,
+    S: FileSystem,
+    R: Read,
+    W: Write,
+    ensures ok { OnOk result (IsAnsweredAsAsked S.bytes (map string_bytes words.now) (R.remaining reader.old) (R.remaining reader.new)
+        (W.contents writer.old) (W.contents writer.new)) }
+
+    // A fault of the run is one that the scripts have.
+    ensures fault { IfErr result (MayEndAsAsked S.bytes (map string_bytes words.now) (R.remaining reader.old) (R.remaining reader.new)) }
+
+    // Nothing was written but where a write failed.
+    ensures nothing { IfErr result (λ ending. ending ≢ Fault WriteFault → writer.new ≡ writer.old) }
+{
+    let request = parse(rt.alloc(), words)?;
+    let (nodes, leaves) = (request.nodes, request.leaves);
+    if request.files.is_empty() {
+        run_one(rt.alloc(), nodes, leaves, reader, writer)?;
+        return Ok(());
+    }
+    let files = read_files(rt.alloc(), system, &request.files)?;
+    run_scripts(rt, rt.alloc(), nodes, leaves, files, reader, writer)?;
+    Ok(())
+}
