@@ -2,3 +2,4 @@
 pub mod Packing
 pub mod Lasts
 pub mod Backwards
+pub mod Fits

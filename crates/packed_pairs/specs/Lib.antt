@@ -1,3 +1,4 @@
 -- The definitions of the crate.
 pub mod Packed
 pub mod Last
+pub mod Parts

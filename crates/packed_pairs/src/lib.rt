@@ -4,6 +4,7 @@
 mod back;
 mod iter;
 mod pairs;
+mod parts;
 
 pub use iter::Iter;
-pub use pairs::Pairs;
+pub use pairs::{Head, Pairs};

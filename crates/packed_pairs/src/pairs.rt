@@ -9,7 +9,8 @@ use key_bits::Key;
 use std::alloc::{AllocError, Global};
 use std::marker::Model;
 
-/// How many bytes the key of a pair has, and its value.
+/// How many bytes the key of a pair has, and its value. The fields have the order of C's.
+#[repr(C)]
 #[derive(Clone, Copy, Drop)]
 pub struct Head {
     pub count: u8,
@@ -21,8 +22,8 @@ pub struct Head {
 /// Contracts see a list of pairs. It takes 16 bytes for each pair, and the bytes of its key.
 #[derive(Drop)]
 pub struct Pairs {
-    bytes: Vec<u8>,
-    heads: Vec<Head>,
+    pub(crate) bytes: Vec<u8>,
+    pub(crate) heads: Vec<Head>,
 }
 
 impl Model for Pairs {

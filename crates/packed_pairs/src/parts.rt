@@ -1,0 +1,53 @@
+//! The heads of a list and the bytes of its keys, as they lie in memory; and what makes a list fit into memory.
+
+ghost use Rattle.std.specs.Prelude.{◌≡◌, [], length, map, pred, take};
+ghost use Rattle.packed_pairs.specs.Parts.{fitting, packed_head, keys_in};
+
+use crate::pairs::{Head, Pairs};
+use std::alloc::Global;
+
+impl Pairs {
+    /// The heads of its pairs, and the bytes of their keys, one after another.
+    pub fn parts(&self) -> (&[Head], &[u8])
+        ensures heads { result.0.now ≡ map packed_head self.now }
+        ensures keys { result.1.now ≡ keys_in self.now }
+    {
+        (&self.heads, &self.bytes)
+    }
+
+    /// Takes out the last pair, if there is one.
+    fn pop(&mut self)
+        ensures { self.new ≡ take (pred (length self.old)) self.old }
+    {
+        if let Some(head) = self.heads.pop() {
+            self.bytes.truncate(self.bytes.len() - head.count as usize);
+        }
+    }
+
+    /// Takes out the last pairs, as many as it must for the keys of the others to have at most `room` bytes together.
+    pub fn fit(&mut self, room: usize)
+        ensures { self.new ≡ fitting room self.old }
+    {
+        while self.key_bytes() > room {
+            self.pop();
+        }
+    }
+
+    /// How many bytes its keys have together.
+    fn key_bytes(&self) -> usize
+        ensures { result ≡ length (keys_in self.now) }
+    {
+        self.bytes.len()
+    }
+
+    /// Takes out all pairs. Keeps its memory only where neither the heads nor the bytes of keys have more than `most` bytes of it.
+    pub fn let_go(&mut self, alloc: Global, most: usize)
+        ensures { self.new ≡ [] }
+    {
+        if self.bytes.capacity() > most || self.heads.capacity() > most / 16 {
+            *self = Pairs::new(alloc);
+        } else {
+            self.clear();
+        }
+    }
+}
