@@ -31,6 +31,8 @@ static void must(hot_status status, hot_status wanted)
 static void call(hot_handle *handle, const char *kind, uint64_t number, uint64_t keys)
 {
     static hot_pair pairs[PAGE];
+    static hot_head heads[PAGE];
+    static uint8_t bytes[PAGE * HOT_MAX_KEY];
     uint8_t key[KEY_BYTES], upto[HOT_MAX_KEY];
     uint64_t had;
     size_t found;
@@ -49,6 +51,10 @@ static void call(hot_handle *handle, const char *kind, uint64_t number, uint64_t
     case 'g':
         must(hot_get(handle, key, KEY_BYTES, &had), HOT_FOUND);
         break;
+    case 'p':
+        memset(upto, 0xff, sizeof upto);
+        must(hot_scan_packed(handle, key, KEY_BYTES, upto, sizeof upto, bytes, sizeof bytes, heads, PAGE, &found, &more), HOT_DONE);
+        break;
     default:
         memset(upto, 0xff, sizeof upto);
         must(hot_scan(handle, key, KEY_BYTES, upto, sizeof upto, pairs, PAGE, &found, &more), HOT_DONE);
@@ -59,8 +65,8 @@ int main(int words, char **word)
 {
     uint64_t keys = words > 3 ? strtoull(word[2], NULL, 10) : 0, calls = words > 3 ? strtoull(word[3], NULL, 10) : 0, number;
     hot_handle handle = HOT_HANDLE;
-    if (words != 4 || !strchr("iurgs", word[1][0]) || keys < 1 || keys > MOST_KEYS || calls > keys || calls > MOST_CALLS) {
-        fprintf(stderr, "usage: count insert|upsert|remove|get|scan KEYS CALLS    at most 200,000 and 20,000, and no more calls than keys\n");
+    if (words != 4 || !strchr("iurgsp", word[1][0]) || keys < 1 || keys > MOST_KEYS || calls > keys || calls > MOST_CALLS) {
+        fprintf(stderr, "usage: count insert|upsert|remove|get|scan|packed KEYS CALLS    at most 200,000 and 20,000, and no more calls than keys\n");
         return 2;
     }
     must(hot_create(MOST_KEYS / 8, MOST_KEYS + 2 * MOST_CALLS, &handle, 1), HOT_DONE);

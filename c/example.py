@@ -32,6 +32,12 @@ class Pair(ctypes.Structure):
     _fields_ = [("key", c_uint8 * MAX_KEY), ("length", c_uint32), ("value", c_uint64)]
 
 
+class Head(ctypes.Structure):
+    """struct hot_head: how many bytes a packed pair's key has, and its value."""
+
+    _fields_ = [("length", c_uint8), ("value", c_uint64)]
+
+
 class Lookup(ctypes.Structure):
     """struct hot_lookup: a key, and what was found of it."""
 
@@ -64,7 +70,7 @@ def load(path: str) -> ctypes.CDLL:
         "remove": [handle, *key, number],
         "exchange": [handle, *key, c_uint64, c_uint64, number],
         "remove_if": [handle, *key, c_uint64, number],
-        "scan": [handle, *key, *key, POINTER(Pair), c_size_t, POINTER(c_size_t), POINTER(c_uint32)],
+        "scan_packed": [handle, *key, *key, POINTER(c_uint8), c_size_t, POINTER(Head), c_size_t, POINTER(c_size_t), POINTER(c_uint32)],
         "census": [handle, POINTER(Counts)],
         "after": [POINTER(Pair), POINTER(c_uint8), POINTER(c_size_t)],
         "scan_reverse": [handle, *key, *key, POINTER(Pair), c_size_t, POINTER(c_size_t), POINTER(c_uint32)],
@@ -150,15 +156,19 @@ class Index:
 
     def scan(self, start: bytes = b"", end: bytes = b"\xff" * MAX_KEY, thread: int = 0):
         """The keys from one to another, both included, with their values, in order; asked for by pages."""
-        pairs, count, more = (Pair * PAGE)(), c_size_t(), c_uint32(1)
+        heads, keys, count, more = (Head * PAGE)(), (c_uint8 * (PAGE * MAX_KEY))(), c_size_t(), c_uint32(1)
         key, length = (c_uint8 * MAX_KEY)(), c_size_t()
         while more.value:
-            handle = self.handles[thread]
-            self.check(self.hot.hot_scan(handle, start, len(start), end, len(end), pairs, PAGE, byref(count), byref(more)))
-            for pair in pairs[: count.value]:
-                yield bytes(pair.key[: pair.length]), pair.value
+            handle, rooms = self.handles[thread], (keys, len(keys), heads, PAGE)
+            self.check(self.hot.hot_scan_packed(handle, start, len(start), end, len(end), *rooms, byref(count), byref(more)))
+            text, at = bytes(keys), 0
+            for head in heads[: count.value]:
+                yield text[at : at + head.length], head.value
+                at += head.length
             if more.value:
-                self.hot.hot_after(pairs[count.value - 1], key, length)
+                last = Pair(length=head.length)
+                last.key[: head.length] = text[at - head.length : at]
+                self.hot.hot_after(last, key, length)
                 start = bytes(key[: length.value])
 
     def scan_reverse(self, start: bytes = b"", end: bytes = b"\xff" * MAX_KEY, thread: int = 0):

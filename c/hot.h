@@ -27,6 +27,9 @@
  * Each other call ends after a bounded number of steps, whatever other threads do: a step is one atomic access to a word of the
  * index. Each call below that makes steps gives its bound, for the worst tree that there can be.
  *
+ * Each handle has memory for the pairs of its scans, which is used again: a scan takes more only if it finds more than those before it.
+ * After a scan it goes if the keys have more than 32 KiB of it, or the rest has. So a handle keeps 64 KiB at most, until it is closed.
+ *
  * The library starts no threads and keeps no data outside its indexes. It needs POSIX, and an x86-64-v2 processor or a later one.
  * `pkg-config --cflags --libs hot` tells how to link it. */
 #ifndef HOT_H
@@ -41,7 +44,7 @@ extern "C" {
 
 /* The version of this header. A program that is right with an earlier version of the same major number is right with this one. */
 #define HOT_VERSION_MAJOR 1
-#define HOT_VERSION_MINOR 5
+#define HOT_VERSION_MINOR 6
 #define HOT_VERSION_PATCH 0
 
 /* The greatest length of a key, in bytes. */
@@ -219,6 +222,21 @@ hot_status hot_before(const hot_pair *pair, uint8_t *key, size_t *length);
  * steps at most. */
 hot_status hot_scan_prefix(hot_handle *handle, const uint8_t *prefix, size_t length, const hot_pair *after,
                            hot_pair *pairs, size_t limit, size_t *count, uint32_t *more);
+
+/* The head of a packed pair: how many bytes its key has, and its value. */
+typedef struct hot_head {
+    uint8_t length;
+    uint64_t value;
+} hot_head;
+
+/* hot_scan with its pairs packed: writes the keys one after another to `bytes`, each as long as it is, and their heads to `heads`, so
+ * that the first `length` bytes are the first key, and so on. It lists the first `limit` pairs, for which `heads` has room, and of
+ * these only the first whose keys have `room` bytes together at most: a room of HOT_MAX_KEY bytes for each pair is always enough, and
+ * with one for a single key a call gets on. Writes 1 to `more` if the range has more than it wrote, else 0. What it wrote is a scan
+ * for as many pairs: no key is missing, up to the last one written, that was there all along. To go on, begin at the key that
+ * hot_after gives for a pair with the last key. It answers what hot_scan does, and makes no more steps than hot_scan may. */
+hot_status hot_scan_packed(hot_handle *handle, const uint8_t *from, size_t from_length, const uint8_t *upto, size_t upto_length,
+                           uint8_t *bytes, size_t room, hot_head *heads, size_t limit, size_t *count, uint32_t *more);
 
 /* What a call hands pairs to: `pair` is there until the function returns. It answers 0 to end the call. */
 typedef int hot_visitor(void *context, const hot_pair *pair);

@@ -139,6 +139,49 @@ class range {
     std::uint32_t more_ = 0;
 };
 
+/// A page with room for so many pairs, and for so many bytes of their keys, which lie one after another: hot_scan_packed. It may be
+/// filled again and again, and the keys of its pairs are valid until then.
+class packed {
+  public:
+    class iterator {
+      public:
+        using iterator_category = std::input_iterator_tag;
+        using value_type = pair;
+        using difference_type = std::ptrdiff_t;
+        using pointer = const pair *;
+        using reference = pair;
+
+        iterator(const std::uint8_t *key, const hot_head *head) : key_(key), head_(head) {}
+        pair operator*() const { return {{reinterpret_cast<const char *>(key_), head_->length}, head_->value}; }
+        iterator &operator++() {
+            key_ += head_++->length;
+            return *this;
+        }
+        void operator++(int) { ++*this; }
+        friend bool operator==(const iterator &one, const iterator &other) { return one.head_ == other.head_; }
+        friend bool operator!=(const iterator &one, const iterator &other) { return one.head_ != other.head_; }
+
+      private:
+        const std::uint8_t *key_;
+        const hot_head *head_;
+    };
+
+    // One more of both, so that they point somewhere with no room too.
+    packed(std::size_t pairs, std::size_t bytes) : keys_(bytes + 1), heads_(pairs + 1) {}
+    iterator begin() const { return {keys_.data(), heads_.data()}; }
+    iterator end() const { return {keys_.data(), heads_.data() + count_}; }
+    std::size_t size() const { return count_; }
+    /// Whether the range has more pairs than these.
+    bool has_more() const { return more_ != 0; }
+
+  private:
+    friend class handle;
+    std::vector<std::uint8_t> keys_;
+    std::vector<hot_head> heads_;
+    std::size_t count_ = 0;
+    std::uint32_t more_ = 0;
+};
+
 /// The right to use an index, for one thread at a time. It can be moved, and closes itself; a call on one that was moved from
 /// throws std::logic_error. Otherwise calls throw only as `check` does.
 class handle {
@@ -192,6 +235,12 @@ class handle {
     range scan_prefix(std::string_view prefix) {
         const std::size_t left = HOT_MAX_KEY - (prefix.size() < HOT_MAX_KEY ? prefix.size() : HOT_MAX_KEY);
         return scan(prefix, std::string(prefix).append(left, '\xff'));
+    }
+
+    /// Fills a page with the first pairs from one key to another, both included: hot_scan_packed.
+    void scan_packed(std::string_view from, std::string_view upto, packed &into) {
+        check(hot_scan_packed(it(), bytes(from), from.size(), bytes(upto), upto.size(), into.keys_.data(), into.keys_.size() - 1,
+                              into.heads_.data(), into.heads_.size() - 1, &into.count_, &into.more_));
     }
 
     /// The pairs from one key to another, both included, the greatest key first; and all pairs in that order.

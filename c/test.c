@@ -183,6 +183,80 @@ static void test_scan(void) {
     CHECK(hot_destroy(&handle) == HOT_DONE);
 }
 
+/* Scans whose pairs are packed: keys of all lengths, room for some of the pairs or of the bytes alone, and what is left as it was. */
+static void test_packed(void) {
+    hot_handle handle = HOT_HANDLE;
+    hot_pair last;
+    hot_head heads[4];
+    uint8_t keys[HOT_MAX_KEY + 1], key[HOT_MAX_KEY + 1];
+    uint64_t had;
+    size_t count = 9, length;
+    uint32_t more = 9;
+    memset(key, 0xff, sizeof key);
+    memset(keys, 0xee, sizeof keys);
+    memset(heads, 0xee, sizeof heads);
+    CHECK(hot_scan_packed(&handle, bytes("a"), 1, bytes("z"), 1, keys, sizeof keys, heads, 4, &count, &more) == HOT_CLOSED && count == 9);
+    CHECK(hot_create(100, 100, &handle, 1) == HOT_DONE);
+    CHECK(hot_try_insert(&handle, bytes("b"), 1, 3, &had) == HOT_INSERTED);
+    CHECK(hot_try_insert(&handle, bytes("aa"), 2, 2, &had) == HOT_INSERTED);
+    CHECK(hot_try_insert(&handle, bytes(""), 0, 1, &had) == HOT_INSERTED);
+    CHECK(hot_try_insert(&handle, key, HOT_MAX_KEY, 4, &had) == HOT_INSERTED);
+    CHECK(hot_scan_packed(&handle, bytes(""), 0, key, sizeof key, keys, sizeof keys, heads, 4, &count, &more) == HOT_KEY_TOO_LONG && more == 9);
+    /* As many as there are heads for. */
+    CHECK(hot_scan_packed(&handle, bytes(""), 0, key, HOT_MAX_KEY, keys, sizeof keys, heads, 2, &count, &more) == HOT_DONE);
+    CHECK(count == 2 && more == 1 && heads[0].length == 0 && heads[0].value == 1 && heads[1].length == 2 && heads[1].value == 2);
+    CHECK(!memcmp(keys, "aa", 2) && keys[2] == 0xee && heads[2].value == 0xeeeeeeeeeeeeeeee);
+    /* As many as there are bytes for, and on from there. */
+    CHECK(hot_scan_packed(&handle, bytes(""), 0, key, HOT_MAX_KEY, keys, sizeof keys, heads, 4, &count, &more) == HOT_DONE);
+    CHECK(count == 3 && more == 1 && heads[2].length == 1 && heads[2].value == 3 && !memcmp(keys, "aab", 3));
+    CHECK(keys[3] == 0xee && heads[3].value == 0xeeeeeeeeeeeeeeee);
+    memcpy(last.key, keys + 2, 1);
+    last.length = heads[2].length;
+    CHECK(hot_after(&last, key, &length) == HOT_DONE && length == 2);
+    memset(key + 2, 0xff, sizeof key - 2);
+    memset(key, 'b', 2);
+    CHECK(hot_scan_packed(&handle, key, 2, bytes("c"), 1, keys, 0, heads, 4, &count, &more) == HOT_DONE && count == 0 && more == 0);
+    memset(key, 0xff, 2);
+    CHECK(hot_scan_packed(&handle, bytes("b\0"), 2, key, HOT_MAX_KEY, keys, HOT_MAX_KEY, heads, 4, &count, &more) == HOT_DONE);
+    CHECK(count == 1 && more == 0 && heads[0].length == HOT_MAX_KEY && heads[0].value == 4 && !memcmp(keys, key, HOT_MAX_KEY));
+    CHECK(keys[HOT_MAX_KEY] == 0xee);
+    /* A key of no bytes has room where none is, and no heads are room for none. */
+    CHECK(hot_scan_packed(&handle, bytes(""), 0, bytes("b"), 1, keys, 0, heads, 4, &count, &more) == HOT_DONE && count == 1 && more == 1);
+    CHECK(hot_scan_packed(&handle, bytes("a"), 1, bytes("b"), 1, keys, 1, heads, 4, &count, &more) == HOT_DONE && count == 0 && more == 1);
+    CHECK(hot_scan_packed(&handle, bytes("a"), 1, bytes("b"), 1, keys, 9, heads, 0, &count, &more) == HOT_DONE && count == 0 && more == 1);
+    CHECK(hot_scan_packed(&handle, bytes("c"), 1, bytes("d"), 1, keys, 9, heads, 4, &count, &more) == HOT_DONE && count == 0 && more == 0);
+    CHECK(hot_destroy(&handle) == HOT_DONE);
+}
+
+/* A list that has grown large goes after the call, and the next scan makes another: the pairs are the same. */
+static void test_large_scan(void) {
+    enum { MANY = 3000 };
+    static hot_pair pairs[MANY];
+    static hot_head heads[MANY];
+    static uint8_t keys[3 * MANY];
+    hot_handle handle = HOT_HANDLE;
+    uint8_t key[3] = {0};
+    uint64_t had;
+    size_t count, place, round;
+    uint32_t more, number;
+    CHECK(hot_create(2000, MANY, &handle, 1) == HOT_DONE);
+    for (number = 0; number < MANY; number++) {
+        key[1] = (uint8_t)(number >> 8), key[2] = (uint8_t)number;
+        CHECK(hot_try_insert(&handle, key, 3, number, &had) == HOT_INSERTED);
+    }
+    for (round = 0; round < 3; round++) {
+        CHECK(hot_scan(&handle, bytes(""), 0, bytes("\1"), 1, pairs, MANY, &count, &more) == HOT_DONE && count == MANY && more == 0);
+        CHECK(hot_scan_packed(&handle, bytes(""), 0, bytes("\1"), 1, keys, sizeof keys, heads, MANY, &count, &more) == HOT_DONE);
+        CHECK(count == MANY && more == 0);
+        for (place = 0; place < MANY; place++) {
+            CHECK(pairs[place].value == place && heads[place].value == place && pairs[place].length == 3 && heads[place].length == 3);
+            CHECK(!memcmp(pairs[place].key, keys + 3 * place, 3));
+        }
+        CHECK(hot_scan_packed(&handle, bytes(""), 0, bytes("\1"), 1, keys, 10, heads, 5, &count, &more) == HOT_DONE && count == 3 && more == 1);
+    }
+    CHECK(hot_destroy(&handle) == HOT_DONE);
+}
+
 /* What pairs are handed to: it looks whether their values rise one by one up to the last, and may remove them by a handle. */
 typedef struct visit {
     hot_handle *handle;
@@ -628,13 +702,15 @@ static void test_sizes(void) {
 }
 
 int main(void) {
-    CHECK(sizeof(hot_handle) == 16 && sizeof(hot_pair) == 256 && sizeof(hot_stock) == 24);
+    CHECK(sizeof(hot_handle) == 16 && sizeof(hot_pair) == 256 && sizeof(hot_stock) == 24 && sizeof(hot_head) == 16);
     CHECK(sizeof(hot_lookup) == 32 && sizeof(hot_states) == 16 && sizeof(hot_counts) == 104);
     test_calls();
     test_many();
     test_census();
     test_expected();
     test_scan();
+    test_packed();
+    test_large_scan();
     test_each();
     test_scan_reverse();
     test_scan_last();

@@ -124,6 +124,16 @@ static void test_scans() {
         }
         CHECK(last == HOT_MAX_KEY && listed == (count < HOT_MAX_KEY ? count : HOT_MAX_KEY));
     }
+    hot::packed some(100, 30), all(HOT_MAX_KEY, HOT_MAX_KEY * HOT_MAX_KEY);
+    CHECK(some.begin() == some.end() && some.size() == 0 && !some.has_more());
+    for (const bool is_all : {false, true}) {
+        hot::packed &page = is_all ? all : some;
+        std::uint64_t last = 0;
+        handle.scan_packed("a", std::string(HOT_MAX_KEY, 'a'), page);
+        for (const auto [key, value] : page)
+            CHECK(value == ++last && key == std::string(value, 'a'));
+        CHECK(last == page.size() && last == (is_all ? HOT_MAX_KEY : 7) && page.has_more() == !is_all);
+    }
     std::uint64_t sum = 0;
     for (const auto it : handle.scan_prefix(std::string(238, 'a')))
         sum += it.value;

@@ -108,11 +108,23 @@ static void turn(hot_pair *pairs, size_t count) {
     }
 }
 
+static void unpack(const uint8_t *keys, const hot_head *heads, hot_pair *pairs, size_t count) {
+    size_t i;
+    for (i = 0; i < count; i++) {
+        memcpy(pairs[i].key, keys, heads[i].length);
+        pairs[i].length = heads[i].length;
+        pairs[i].value = heads[i].value;
+        keys += heads[i].length;
+    }
+}
+
 static void read_scans(hot_handle *handle, uint64_t *state) {
     hot_pair pairs[LIMIT];
+    hot_head heads[LIMIT];
+    uint8_t keys[LIMIT * HOT_MAX_KEY];
     unsigned low = next(state) % (NUMBERS - 100), high = low + next(state) % 100;
     key from = key_of(low), upto = key_of(high);
-    size_t count = 0, limit = 1 + next(state) % LIMIT;
+    size_t count = 0, limit = 1 + next(state) % LIMIT, room;
     uint32_t more = 0;
     CHECK(hot_scan(handle, from.bytes, from.length, upto.bytes, upto.length, pairs, limit, &count, &more) == HOT_DONE);
     check_pairs(pairs, count, (int)low, 1, (int)high, more);
@@ -124,6 +136,10 @@ static void read_scans(hot_handle *handle, uint64_t *state) {
     turn(pairs, count);
     check_pairs(pairs, count, (int)high, -1, (int)low, more);
     CHECK(!more || count == limit);
+    room = next(state) % sizeof keys;
+    CHECK(hot_scan_packed(handle, from.bytes, from.length, upto.bytes, upto.length, keys, room, heads, limit, &count, &more) == HOT_DONE);
+    unpack(keys, heads, pairs, count);
+    check_pairs(pairs, count, (int)low, 1, (int)high, more);
 }
 
 static void read_prefix(hot_handle *handle, uint64_t *state) {

@@ -1,33 +1,47 @@
--- What a search for one pair says, where it was made.
-use Rattle.std.proofs.Common.{◌≡◌, ℕ, List, Option, None, Some, Result, Ok, Err, IfOk, OnErr, inl, inr, sym, ◌∙◌, subst}
-use Rattle.std.specs.declared.alloc.AllocError.{AllocError}
+-- What a search for one pair says, by what a scan for one pair left in the handle's list.
+use Rattle.std.proofs.Common.{◌≡◌, ℕ, ◌≤◌, List, [], ◌∷◌, length, slice_get, Bool, Option, Some, inl, inr, refl, subst, arith}
+use Rattle.std.specs.Option.{option_to_list}
 use Rattle.record_words.specs.declared.layout.Layout.{Layout}
-use Rattle.hot_index.specs.Answers.{IsUnnoted}
 use Rattle.hot_index.specs.Passes.{PassView}
-use Rattle.hot_index.specs.Traces.{HasGotRange, untold}
-use Rattle.hot_c.specs.Calls.{FitsInKey}
-use Rattle.hot_c.specs.Ends.{FindsBy, IsPairTold}
+use Rattle.hot_c.specs.Ends.{FindsBy, FindsIn}
+use Rattle.hot_c.specs.Orders.{IsFilledIn}
+use Rattle.hot_c.specs.Pairs.{IsPairTold}
+use Rattle.hot_c.specs.Scans.{HasFilled, ListsNothing}
 use Rattle.hot_c.specs.declared.opened.Opened.{Opened}
+use Rattle.hot_c.specs.declared.pairs.Order.{Order}
 use Rattle.hot_c.specs.declared.pairs.Pair.{Pair}
-use Rattle.hot_c.specs.declared.status.TheConstants.{NO_MEMORY}
+use Rattle.hot_c.proofs.Listed.{few_here, made_here, not_closed, reads, stays}
 
-none_is_some : (s : Opened) → None ≡ Some s → ⊥
-none_is_some s e = cc
+-- a list of at most one pair is its first pair, or empty
+one_at_most : (pairs : List (List ℕ × ℕ)) → length pairs ≤ 1 → pairs ≡ option_to_list (slice_get pairs 0)
+one_at_most [] few = refl
+one_at_most (pair ∷ []) few = refl
+one_at_most (pair ∷ next ∷ pairs) few = absurd (omega (arith, few))
 
-module _ (IsFound : Layout → PassView → PassView → List ℕ → Option (List ℕ × ℕ) → Type 0) (HasPair : Layout → PassView → PassView → List ℕ → Type 0) where
-  pub found : (bytes k : List ℕ) (old new : Option Opened) (before after : Pair) (status : ℕ) (s u : Opened) (r : Result (Option (List ℕ × ℕ)) AllocError) → old ≡ Some s → new ≡ Some u → u.index ≡ s.index
-      → (k ≡ bytes) × FitsInKey bytes → IfOk r (IsFound s.index.value.layout s.pass u.pass k) → OnErr r (IsUnnoted s.index.value.layout s.pass u.pass) → OnErr r (HasPair s.index.value.layout s.pass u.pass k)
-      → HasGotRange s.index.value untold 1 (s.pass, tt) (u.pass, tt) → IfOk r (λ it. IsPairTold it before after status) → OnErr r ((status ≡ NO_MEMORY) × (after ≡ before))
-      → FindsBy IsFound HasPair bytes old new before after status
-  found bytes k old new before after status s u (Ok it) was is index fit ok err pair reads told untold = record {
-    closed = λ none. absurd (none_is_some s (sym none ∙ was));
-    long = λ some no. absurd (no fit.1);
-    made = λ some short. inl (it, record { before = s; after = u; was = was; is = is; index = index; became = subst (λ (x : List ℕ). IsFound s.index.value.layout s.pass u.pass x it) fit.0 ok }, told);
-    read = λ some short. record { before = s; after = u; was = was; is = is; index = index; became = reads };
+module _ (order : Order) {from upto : List ℕ} {old new : Option Opened} {before after : Pair} {status : ℕ} where
+  pub found : {mid : Option Opened} {count : ℕ} {is_more : Bool} (h : HasFilled (IsFilledIn order) from upto 1 old mid count is_more) (u v : Opened) → mid ≡ Some u → new ≡ Some v → v.index ≡ u.index → v.pass ≡ u.pass
+      → IsPairTold (slice_get u.list 0) before after status → FindsIn order from upto old new before after status
+  found {is_more = is_more} h u v is last index pass told = record {
+    closed = λ none. absurd (not_closed h u is none);
+    long = λ some no. absurd (no h.fit);
+    made = λ some fit. inl (
+      slice_get u.list 0,
+      stays h u is (λ layout k j. (more : Bool) × IsFilledIn order layout k j from upto 1 (option_to_list (slice_get u.list 0)) more) new v last index pass
+          (is_more, subst (λ (l : List (List ℕ × ℕ)). IsFilledIn order h.before.index.value.layout h.before.pass u.pass from upto 1 l is_more) (one_at_most u.list (few_here h u is)) (made_here h u is)),
+      told,
+    );
+    read = λ some fit. reads h u is new v last index pass;
   }
-  found bytes k old new before after status s u (Err e) was is index fit ok err pair reads told full = record {
-    closed = λ none. absurd (none_is_some s (sym none ∙ was));
-    long = λ some no. absurd (no fit.1);
-    made = λ some short. inr (full.0, record { before = s; after = u; was = was; is = is; index = index; became = (err, subst (λ (x : List ℕ). HasPair s.index.value.layout s.pass u.pass x) fit.0 pair) }, full.1);
-    read = λ some short. record { before = s; after = u; was = was; is = is; index = index; became = reads };
+
+  pub unfound : ListsNothing from upto 1 old new status → after ≡ before → FindsIn order from upto old new before after status
+  unfound h kept = record {
+    closed = λ none. (let e = h.closed none in (e.0, e.1, kept));
+    long = λ some no. (let e = h.long some no in (e.0, e.1, kept));
+    made = λ some fit. (let e = h.full some fit.0 fit.1 in inr (e.0, e.1, kept));
+    read = λ some fit. h.read some fit.0 fit.1;
   }
+
+-- keys fit where others do
+pub as_fit : {Fits Others : Type 0} {IsFound : Layout → PassView → PassView → Option (List ℕ × ℕ) → Type 0} {HasPair : Layout → PassView → PassView → Type 0} {old new : Option Opened} {before after : Pair} {status : ℕ}
+    → (Fits → Others) → (Others → Fits) → FindsBy Others IsFound HasPair old new before after status → FindsBy Fits IsFound HasPair old new before after status
+as_fit to back h = record { closed = h.closed; long = λ some no. h.long some (λ others. no (back others)); made = λ some fit. h.made some (to fit); read = λ some fit. h.read some (to fit) }

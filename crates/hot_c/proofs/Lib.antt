@@ -3,6 +3,7 @@ pub mod Steps
 pub mod Content
 pub mod Boxes
 pub mod Shares
+pub mod Parted
 pub mod Listed
 pub mod Found
 pub mod Places

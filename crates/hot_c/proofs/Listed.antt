@@ -1,25 +1,34 @@
--- What a scan for C says, where it was made.
+-- What a scan for C says, by what it left in the handle's list.
 use denote.RawPtr.{null_ptr}
-use Rattle.std.proofs.Common.{◌≡◌, ℕ, ◌<◌, ◌≤◌, ◌^◌, List, length, reverse, Bool, Option, None, Some, inl, inr, refl, sym, ◌∙◌, subst, le_refl}
-use Rattle.std.proofs.lemmas.List.{reverse-reverse}
+use Rattle.std.proofs.Common.{◌≡◌, ℕ, ◌<◌, ◌≤◌, ◌^◌, List, length, reverse, Bool, Option, None, Some, Result, IfOk, inl, inr, IsSome, refl, sym, ap, ◌∙◌, subst, le_refl}
+use Rattle.std.proofs.lemmas.List.{length-reverse, reverse-reverse}
+use Rattle.std.specs.declared.alloc.AllocError.{AllocError}
 use Rattle.finite_map.specs.declared.Scan.{Scan}
 use Rattle.record_words.specs.declared.layout.Layout.{Layout}
 use Rattle.hot_index.specs.Answers.{HasFoundPair, IsListed, IsUnnoted}
 use Rattle.hot_index.specs.Passes.{PassView}
 use Rattle.hot_index.specs.Reverse.{IsReverseListed}
 use Rattle.hot_index.specs.Traces.{HasGotRange, untold}
-use Rattle.hot_c.specs.Calls.{FitsInKey, IsArrayListed, Listing, ListsBy}
-use Rattle.hot_c.specs.Ends.{IsLastListed}
+use Rattle.hot_c.specs.Calls.{FitsInKey, StaysOpen}
+use Rattle.hot_c.specs.Orders.{IsFilledIn, IsListedIn, in_order}
 use Rattle.hot_c.specs.Owning.{heap}
+use Rattle.hot_c.specs.Packs.{IsListedByParts}
+use Rattle.hot_c.specs.Scans.{HasFilled, ListsInto, ListsNothing}
 use Rattle.hot_c.specs.declared.opened.Opened.{Opened}
+use Rattle.hot_c.specs.declared.pairs.Order.{Order}
+use Rattle.hot_c.specs.declared.pairs.Order.TheVariants.{Rising, Falling, LastRising}
 use Rattle.hot_c.specs.declared.status.TheConstants.{DONE, NO_MEMORY}
+use Rattle.hot_c.proofs.Parted.{cut}
+
+-- what a scan answers, and what it found
+abbrev pub Answer : Type 1
+Answer = Layout → PassView → PassView → List ℕ → List ℕ → ℕ → List (List ℕ × ℕ) → Bool → Type 0
 
 none_is_some : (s : Opened) → None ≡ Some s → ⊥
 none_is_some s e = cc
 
--- the pass of the handle makes the steps of a scan
-abbrev pub Reads : Opened → Opened → ℕ → Type 0
-Reads s u limit = HasGotRange s.index.value untold limit (s.pass, tt) (u.pass, tt)
+same : (s u : Opened) → Some s ≡ Some u → s ≡ u
+same s u e = cc
 
 -- a scan with these pairs
 abbrev scan_of : (pairs : List (List ℕ × ℕ)) → Bool → length pairs < 2 ^ 63 → Scan
@@ -28,42 +37,130 @@ scan_of pairs is_more short = record {
   more = is_more;
 }
 
-module _ {layout : Layout} {k j : PassView} {from upto : List ℕ} {limit : ℕ} {pairs : List (List ℕ × ℕ)} {is_more : Bool} where
-  -- a list has no more pairs than it was to have
-  pub few_listed : IsListed layout k j from upto limit pairs is_more → length pairs < 2 ^ 63 → length pairs ≤ limit
+module _ (layout : Layout) (k j : PassView) (from upto : List ℕ) (limit : ℕ) (pairs : List (List ℕ × ℕ)) (is_more : Bool) where
+  few_listed : IsListed layout k j from upto limit pairs is_more → length pairs < 2 ^ 63 → length pairs ≤ limit
   few_listed h small = (h.lawful (scan_of pairs is_more small) refl refl).short
 
-  pub few_reverse_listed : IsReverseListed layout k j from upto limit pairs is_more → length pairs < 2 ^ 63 → length pairs ≤ limit
+  few_reverse_listed : IsReverseListed layout k j from upto limit pairs is_more → length pairs < 2 ^ 63 → length pairs ≤ limit
   few_reverse_listed h small = (h.lawful (scan_of pairs is_more small) refl refl).short
 
-  -- the list of a scan downwards, turned round, is one of the last pairs
-  pub last_listed : IsReverseListed layout k j from upto limit pairs is_more → IsLastListed layout k j from upto limit (reverse pairs) is_more
-  last_listed h = subst (λ (l : List (List ℕ × ℕ)). IsReverseListed layout k j from upto limit l is_more) (sym (reverse-reverse pairs)) h
+-- a list has no more pairs than it was to have
+few_filled : (order : Order) (layout : Layout) (k j : PassView) (from upto : List ℕ) (limit : ℕ) (pairs : List (List ℕ × ℕ)) (is_more : Bool)
+    → IsFilledIn order layout k j from upto limit pairs is_more → length pairs < 2 ^ 63 → length pairs ≤ limit
+few_filled Rising layout k j from upto limit pairs is_more h small = few_listed layout k j from upto limit pairs is_more h small
+few_filled Falling layout k j from upto limit pairs is_more h small = few_reverse_listed layout k j from upto limit pairs is_more h small
+few_filled LastRising layout k j from upto limit pairs is_more h small = few_reverse_listed layout k j from upto limit pairs is_more h small
 
-module _ (IsMade : Layout → PassView → PassView → List ℕ → List ℕ → ℕ → List (List ℕ × ℕ) → Bool → Type 0) where
-  pub listed : (from upto k l : List ℕ) (old new : Option Opened) (before after : Listing) (status limit : ℕ) (s u : Opened) (pairs : List (List ℕ × ℕ)) (is_more : Bool) → old ≡ Some s → new ≡ Some u → u.index ≡ s.index
-      → (k ≡ from) × FitsInKey from → (l ≡ upto) × FitsInKey upto → limit ≡ length before.room → IsMade s.index.value.layout s.pass u.pass k l limit pairs is_more → Reads s u limit → status ≡ DONE → IsArrayListed pairs is_more before after
-      → ListsBy IsMade from upto old new before after status
-  listed from upto k l old new before after status limit s u pairs is_more was is index first last many scanned reads done written =
-      let here = subst (λ (x : List ℕ). IsMade s.index.value.layout s.pass u.pass x upto (length before.room) pairs is_more) first.0
-      (subst (λ (x : List ℕ). IsMade s.index.value.layout s.pass u.pass k x (length before.room) pairs is_more) last.0
-      (subst (λ (n : ℕ). IsMade s.index.value.layout s.pass u.pass k l n pairs is_more) many scanned)) in
+-- what a scan left in the list is answered in this order
+pub in_its_order : (order : Order) (layout : Layout) (k j : PassView) (from upto : List ℕ) (limit : ℕ) (pairs : List (List ℕ × ℕ)) (is_more : Bool)
+    → IsFilledIn order layout k j from upto limit pairs is_more → IsListedIn order layout k j from upto limit (in_order order pairs) is_more
+in_its_order Rising layout k j from upto limit pairs is_more h = h
+in_its_order Falling layout k j from upto limit pairs is_more h = h
+in_its_order LastRising layout k j from upto limit pairs is_more h = subst (λ (l : List (List ℕ × ℕ)). IsReverseListed layout k j from upto limit l is_more) (sym (reverse-reverse pairs)) h
+
+-- what is left in one order is left in the same one
+pub filled_as : (order other : Order) → order ≡ other → (layout : Layout) (k j : PassView) (from upto : List ℕ) (limit : ℕ) (pairs : List (List ℕ × ℕ)) (r : Result Bool AllocError)
+    → IfOk r (IsFilledIn other layout k j from upto limit pairs) → IfOk r (IsFilledIn order layout k j from upto limit pairs)
+filled_as order other same layout k j from upto limit pairs r h = subst (λ (o : Order). IfOk r (IsFilledIn o layout k j from upto limit pairs)) (sym same) h
+
+pub as_many : (order : Order) (pairs : List (List ℕ × ℕ)) → length (in_order order pairs) ≡ length pairs
+as_many Rising pairs = refl
+as_many Falling pairs = refl
+as_many LastRising pairs = length-reverse pairs
+
+module _ (from upto k l : List ℕ) (old new : Option Opened) (limit : ℕ) (s u : Opened) (was : old ≡ Some s) (first : (k ≡ from) × FitsInKey from) (last : (l ≡ upto) × FitsInKey upto) where
+  pub filled : (order : Order) (count : ℕ) (is_more : Bool) → new ≡ Some u → u.index ≡ s.index → IsFilledIn order s.index.value.layout s.pass u.pass k l limit u.list is_more
+      → HasGotRange s.index.value untold limit (s.pass, tt) (u.pass, tt) → count ≡ length u.list → length u.list < 2 ^ 63 → HasFilled (IsFilledIn order) from upto limit old new count is_more
+  filled order count is_more is index made read many small = record {
+    before = s;
+    after = u;
+    was = was;
+    is = is;
+    index = index;
+    fit = (first.1, last.1);
+    count_is = many;
+    few = subst (λ n. n ≤ limit) (sym many) (few_filled order s.index.value.layout s.pass u.pass k l limit u.list is_more made small);
+    made = subst (λ (x : List ℕ). IsFilledIn order s.index.value.layout s.pass u.pass x upto limit u.list is_more) first.0
+        (subst (λ (x : List ℕ). IsFilledIn order s.index.value.layout s.pass u.pass k x limit u.list is_more) last.0 made);
+    read = read;
+  }
+
+  -- the list that the scan left was emptied
+  pub unfilled : (v : Opened) (status : ℕ) → new ≡ Some v → v.index ≡ u.index → v.pass ≡ u.pass → u.index ≡ s.index → IsUnnoted s.index.value.layout s.pass u.pass
+      → HasFoundPair s.index.value.layout s.pass u.pass k l limit → HasGotRange s.index.value untold limit (s.pass, tt) (u.pass, tt) → status ≡ NO_MEMORY → ListsNothing from upto limit old new status
+  unfilled v status is same_index pass index unnoted pair read full =
+      let here = subst (λ (x : List ℕ). HasFoundPair s.index.value.layout s.pass u.pass x upto limit) first.0 (subst (λ (x : List ℕ). HasFoundPair s.index.value.layout s.pass u.pass k x limit) last.0 pair) in
       record {
         closed = λ none. absurd (none_is_some s (sym none ∙ was));
         long = λ some no. absurd (no (first.1, last.1));
-        made = λ some f t. inl (done, pairs, is_more, record { before = s; after = u; was = was; is = is; index = index; became = here }, written);
-        read = λ some f t. record { before = s; after = u; was = was; is = is; index = index; became = subst (Reads s u) many reads };
+        full = λ some f t. (full, record { before = s; after = v; was = was; is = is; index = same_index ∙ index; became = subst (λ (p : PassView). IsUnnoted s.index.value.layout s.pass p × HasFoundPair s.index.value.layout s.pass p from upto limit) (sym pass) (unnoted, here) });
+        read = λ some f t. record { before = s; after = v; was = was; is = is; index = same_index ∙ index; became = subst (λ (p : PassView). HasGotRange s.index.value untold limit (s.pass, tt) (p, tt)) (sym pass) read };
       }
 
-  pub unlisted : (from upto k l : List ℕ) (old new : Option Opened) (before after : Listing) (status limit : ℕ) (s u : Opened) → old ≡ Some s → new ≡ Some u → u.index ≡ s.index
-      → (k ≡ from) × FitsInKey from → (l ≡ upto) × FitsInKey upto → limit ≡ length before.room → IsUnnoted s.index.value.layout s.pass u.pass → HasFoundPair s.index.value.layout s.pass u.pass k l limit → Reads s u limit → status ≡ NO_MEMORY → after ≡ before → ListsBy IsMade from upto old new before after status
-  unlisted from upto k l old new before after status limit s u was is index first last many unnoted pair reads full kept =
-      let here = subst (λ (x : List ℕ). HasFoundPair s.index.value.layout s.pass u.pass x upto (length before.room)) first.0
-      (subst (λ (x : List ℕ). HasFoundPair s.index.value.layout s.pass u.pass k x (length before.room)) last.0
-      (subst (λ (n : ℕ). HasFoundPair s.index.value.layout s.pass u.pass k l n) many pair)) in
-      record {
-        closed = λ none. absurd (none_is_some s (sym none ∙ was));
-        long = λ some no. absurd (no (first.1, last.1));
-        made = λ some f t. inr (full, record { before = s; after = u; was = was; is = is; index = index; became = (unnoted, here) }, kept);
-        read = λ some f t. record { before = s; after = u; was = was; is = is; index = index; became = subst (Reads s u) many reads };
-      }
+-- the scan has left this list, which was read and then emptied
+module _ {IsMade : Answer} {from upto : List ℕ} {limit : ℕ} {old mid : Option Opened} {count : ℕ} {is_more : Bool} (h : HasFilled IsMade from upto limit old mid count is_more) (u : Opened) (is : mid ≡ Some u) where
+  pub count_here : count ≡ length u.list
+  count_here = h.count_is ∙ ap (λ (x : Opened). length x.list) (same h.after u (sym h.is ∙ is))
+
+  pub few_here : length u.list ≤ limit
+  few_here = subst (λ n. n ≤ limit) count_here h.few
+
+  pub made_here : IsMade h.before.index.value.layout h.before.pass u.pass from upto limit u.list is_more
+  made_here = subst (λ (x : Opened). IsMade h.before.index.value.layout h.before.pass x.pass from upto limit x.list is_more) (same h.after u (sym h.is ∙ is)) h.made
+
+  pub stays : (Became : Layout → PassView → PassView → Type 0) (new : Option Opened) (v : Opened) → new ≡ Some v → v.index ≡ u.index → v.pass ≡ u.pass
+      → Became h.before.index.value.layout h.before.pass u.pass → StaysOpen (λ index k j. Became index.layout k j) old new
+  stays Became new v last index pass became = record {
+    before = h.before;
+    after = v;
+    was = h.was;
+    is = last;
+    index = index ∙ (ap (λ (x : Opened). x.index) (same u h.after (sym is ∙ h.is)) ∙ h.index);
+    became = subst (Became h.before.index.value.layout h.before.pass) (sym pass) became;
+  }
+
+  pub reads : (new : Option Opened) (v : Opened) → new ≡ Some v → v.index ≡ u.index → v.pass ≡ u.pass → StaysOpen (λ index k j. HasGotRange index untold limit (k, tt) (j, tt)) old new
+  reads new v last index pass = record {
+    before = h.before;
+    after = v;
+    was = h.was;
+    is = last;
+    index = index ∙ (ap (λ (x : Opened). x.index) (same u h.after (sym is ∙ h.is)) ∙ h.index);
+    became = subst (λ (p : PassView). HasGotRange h.before.index.value untold limit (h.before.pass, tt) (p, tt)) (sym (pass ∙ ap (λ (x : Opened). x.pass) (same u h.after (sym is ∙ h.is)))) h.read;
+  }
+
+  pub not_closed : old ≡ None → ⊥
+  not_closed none = none_is_some h.before (sym none ∙ h.was)
+
+module _ {Room : Type 0} {limit : Room → ℕ} {IsWritten : List (List ℕ × ℕ) → Bool → Room → Room → Type 0} {from upto : List ℕ} {old new : Option Opened} {before after : Room} {status : ℕ} (IsTold : Answer) where
+  -- the pairs of the list were written
+  pub listed : {IsMade : Answer} {mid : Option Opened} {count : ℕ} {is_more : Bool} (h : HasFilled IsMade from upto (limit before) old mid count is_more) (u v : Opened) (pairs : List (List ℕ × ℕ))
+      → mid ≡ Some u → new ≡ Some v → v.index ≡ u.index → v.pass ≡ u.pass → status ≡ DONE
+      → IsTold h.before.index.value.layout h.before.pass u.pass from upto (limit before) pairs is_more → IsWritten pairs is_more before after → ListsInto limit IsWritten IsTold from upto old new before after status
+  listed h u v pairs is last index pass done told written = record {
+    closed = λ none. absurd (not_closed h u is none);
+    long = λ some no. absurd (no h.fit);
+    made = λ some f t. inl (done, pairs, _, stays h u is (λ layout k j. IsTold layout k j from upto (limit before) pairs _) new v last index pass told, written);
+    read = λ some f t. reads h u is new v last index pass;
+  }
+
+  pub unlisted : ListsNothing from upto (limit before) old new status → after ≡ before → ListsInto limit IsWritten IsTold from upto old new before after status
+  unlisted h kept = record {
+    closed = λ none. (let e = h.closed none in (e.0, e.1, kept));
+    long = λ some no. (let e = h.long some no in (e.0, e.1, kept));
+    made = λ some f t. (let e = h.full some f t in inr (e.0, e.1, kept));
+    read = h.read;
+  }
+
+-- the first pairs of a list are those of a scan that was cut after them
+pub by_parts : (layout : Layout) (k j : PassView) (from upto : List ℕ) (limit : ℕ) (pairs : List (List ℕ × ℕ)) (is_more : Bool) → length pairs < 2 ^ 63 → IsListed layout k j from upto limit pairs is_more
+    → IsListedByParts layout k j from upto limit pairs is_more
+by_parts layout k j from upto limit pairs is_more small h = record {
+  whole = h;
+  parts = λ n few. record {
+    on = h.on;
+    notes = h.notes;
+    lawful = λ scan is more. cut (scan_of pairs is_more small) (h.lawful (scan_of pairs is_more small) refl refl) pairs refl n few scan is more;
+    legal = h.legal;
+  };
+}

@@ -1,6 +1,5 @@
 -- What the calls of a program in C say.
-use Rattle.std.specs.Prelude.{◌≡◌, ◌⊎◌, ℕ, ◌≤◌, List, length, drop, map, All, slice_get, Bool, Option, Some, None, IsSome, Result, MatchResult}
-use Rattle.std.specs.Int.{from_bool}
+use Rattle.std.specs.Prelude.{◌≡◌, ℕ, ◌≤◌, List, length, map, All, slice_get, Option, Some, None, IsSome, Result, MatchResult}
 use Rattle.key_bits.specs.declared.TheConstants.{MAX_BYTES}
 use Rattle.finite_map.specs.declared.Call.{Call}
 use Rattle.finite_map.specs.declared.Call.TheVariants.{Get}
@@ -11,18 +10,15 @@ use Rattle.record_words.specs.declared.layout.Layout.{Layout}
 use Rattle.record_words.specs.declared.layout.Stock.{Stock}
 use Rattle.rowex_table.specs.Seats.{TableView}
 use Rattle.rowex_writing.specs.declared.attempts.TryFault.{TryFault}
-use Rattle.hot_index.specs.Answers.{HasFoundPair, IsListed, IsNoted, IsRefused, IsUnnoted}
+use Rattle.hot_index.specs.Answers.{IsNoted, IsRefused, IsUnnoted}
 use Rattle.hot_index.specs.Census.{HasCounted}
 use Rattle.hot_index.specs.Passes.{PassView, IsNewPass}
-use Rattle.hot_index.specs.Reverse.{IsReverseListed}
-use Rattle.hot_index.specs.Traces.{HasCollected, HasGot, HasGotRange, HasMade, untold}
+use Rattle.hot_index.specs.Traces.{HasCollected, HasGot, HasMade, untold}
 use Rattle.hot_index.specs.declared.census.RecordCounts.{RecordCounts}
-use Rattle.hot_c.specs.Pairs.{AreSpelled}
 use Rattle.hot_c.specs.Statuses.{reply_status, value_after}
 use Rattle.hot_c.specs.declared.handle.Handle.{Handle}
 use Rattle.hot_c.specs.declared.opened.Opened.{Opened}
-use Rattle.hot_c.specs.declared.pairs.Pair.{Pair}
-use Rattle.hot_c.specs.declared.status.TheConstants.{DONE, KEY_TOO_LONG, CLOSED, NO_MEMORY}
+use Rattle.hot_c.specs.declared.status.TheConstants.{KEY_TOO_LONG, CLOSED}
 
 -- the key is short enough
 abbrev pub FitsInKey : List ℕ → Type 0
@@ -55,41 +51,6 @@ pub record Answers (key : List ℕ) (call : Call) (old new : Option Opened) (bef
       (outcome : Result Reply TryFault) ×
       StaysOpen (λ index k j. HasOutcome call outcome index k j × MakesSteps call outcome index k j) old new
       × (status ≡ reply_status outcome) × (after ≡ value_after before outcome)
-
--- what C sees of a scan's answer: its array, the count of pairs, and whether there is a further one
-pub record Listing : Type 0 where
-  pub room : List Pair
-  pub count : ℕ
-  pub more : ℕ
-
--- the array begins with the scan's pairs, for which it has room, and is otherwise as it was
-pub record IsArrayListed (pairs : List (List ℕ × ℕ)) (is_more : Bool) (before after : Listing) : Type 0 where
-  pub short : length pairs ≤ length before.room
-  pub written : AreSpelled pairs after.room
-  pub others : drop (length pairs) after.room ≡ drop (length pairs) before.room
-  pub count : after.count ≡ length pairs
-  pub more : after.more ≡ from_bool is_more
-
--- A scan through a handle, of as many pairs as the array has places. A closed handle and a key that is too long are told as
--- such, and nothing has changed; else the scan is made and listed, or there is no memory for a pair that it found and nothing is
--- listed. Either way it makes the steps of a scan, so many at most.
-pub record ListsBy (IsMade : Layout → PassView → PassView → List ℕ → List ℕ → ℕ → List (List ℕ × ℕ) → Bool → Type 0)
-    (from upto : List ℕ) (old new : Option Opened) (before after : Listing) (status : ℕ) : Type 0 where
-  pub closed : old ≡ None → (status ≡ CLOSED) × (new ≡ old) × (after ≡ before)
-  pub long : IsSome old → ¬ (FitsInKey from × FitsInKey upto) → (status ≡ KEY_TOO_LONG) × (new ≡ old) × (after ≡ before)
-  pub made : IsSome old → FitsInKey from → FitsInKey upto →
-      ((status ≡ DONE) × (pairs : List (List ℕ × ℕ)) × (is_more : Bool) ×
-      StaysOpen (λ index k j. IsMade index.layout k j from upto (length before.room) pairs is_more) old new × IsArrayListed pairs is_more before after)
-      ⊎ ((status ≡ NO_MEMORY) × StaysOpen (λ index k j. IsUnnoted index.layout k j × HasFoundPair index.layout k j from upto (length before.room)) old new
-      × (after ≡ before))
-  pub read : IsSome old → FitsInKey from → FitsInKey upto → StaysOpen (λ index k j. HasGotRange index untold (length before.room) (k, tt) (j, tt)) old new
-
--- from the first key on, or from the last one downwards
-abbrev pub Lists : List ℕ → List ℕ → Option Opened → Option Opened → Listing → Listing → ℕ → Type 0
-Lists = ListsBy IsListed
-
-abbrev pub ListsReverse : List ℕ → List ℕ → Option Opened → Option Opened → Listing → Listing → ℕ → Type 0
-ListsReverse = ListsBy IsReverseListed
 
 -- a round of collection, which gave back so many nodes and leaves
 abbrev pub HasGivenBack : ℕ → ℕ → TableView → PassView → PassView → Type 0

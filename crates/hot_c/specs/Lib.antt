@@ -5,6 +5,9 @@ pub mod Statuses
 pub mod Pairs
 pub mod Around
 pub mod Calls
+pub mod Orders
+pub mod Scans
+pub mod Packs
 pub mod Ends
 pub mod Stocks
 pub mod Lookups

@@ -1,11 +1,11 @@
-//! The calls for the ends of a range, for programs in C: its first pair, its last pair, and its last pairs in rising order.
+//! The calls for the ends of a range, for programs in C: its first pair and its last pair.
 
-ghost use Rattle.hot_c.specs.Ends.{FindsFirst, FindsLast, ListsLast};
+ghost use Rattle.hot_c.specs.Ends.{FindsFirst, FindsIn, FindsLast};
 
 use crate::handle::Handle;
-use crate::pairs::{Pair, tell_pair, write_pairs_backwards};
-use crate::status::{CLOSED, DONE, KEY_TOO_LONG, NO_MEMORY};
-use key_bits::Key;
+use crate::pairs::{Order, Pair, tell_first};
+use crate::scans::fill;
+use key_bits::MAX_BYTES;
 use std::alloc::Global;
 
 /// Writes the first pair whose key is `from` or above: `FOUND`, or `ABSENT` if there is none.
@@ -13,13 +13,14 @@ use std::alloc::Global;
 pub extern "C" fn hot_first(alloc: Global, handle: &mut Handle, from: &[u8], pair: &mut Pair) -> u32
     ensures call { FindsFirst from.now handle.old.slot.opened handle.new.slot.opened pair.old pair.new result }
 {
-    if !handle.is_open() {
-        return CLOSED;
-    }
-    match &Key::from_bytes(from) {
-        Ok(key) => tell_pair(handle.slot.lend().first(alloc, key), pair),
-        Err(_) => KEY_TOO_LONG,
-    }
+    find(
+        alloc,
+        handle,
+        Order::Rising,
+        from,
+        &[u8::MAX; MAX_BYTES],
+        pair,
+    )
 }
 
 /// Writes the last pair whose key is `upto` or below: `FOUND`, or `ABSENT` if there is none.
@@ -27,47 +28,27 @@ pub extern "C" fn hot_first(alloc: Global, handle: &mut Handle, from: &[u8], pai
 pub extern "C" fn hot_last(alloc: Global, handle: &mut Handle, upto: &[u8], pair: &mut Pair) -> u32
     ensures call { FindsLast upto.now handle.old.slot.opened handle.new.slot.opened pair.old pair.new result }
 {
-    if !handle.is_open() {
-        return CLOSED;
-    }
-    match &Key::from_bytes(upto) {
-        Ok(key) => tell_pair(handle.slot.lend().last(alloc, key), pair),
-        Err(_) => KEY_TOO_LONG,
-    }
+    find(alloc, handle, Order::Falling, &[], upto, pair)
 }
 
-/// Lists the last pairs whose keys are from `from` to `upto`, both included, in rising key order: as many as `room` has places.
-/// `more` becomes 1 if the range has more below, else 0.
-#[unsafe(no_mangle)]
-pub extern "C" fn hot_scan_last(
+/// Writes the pair that a scan of the range for one pair finds.
+fn find(
     alloc: Global,
     handle: &mut Handle,
+    order: Order,
     from: &[u8],
     upto: &[u8],
-    room: &mut [Pair],
-    count: &mut usize,
-    more: &mut u32,
+    pair: &mut Pair,
 ) -> u32
-    ensures call { ListsLast from.now upto.now handle.old.slot.opened handle.new.slot.opened
-        (record { room = room.old; count = count.old; more = more.old }) (record { room = room.new; count = count.new; more = more.new }) result }
+    ensures { FindsIn order from.now upto.now handle.old.slot.opened handle.new.slot.opened pair.old pair.new result }
 {
-    if !handle.is_open() {
-        return CLOSED;
-    }
-    let (Ok(from), Ok(upto)) = (&Key::from_bytes(from), &Key::from_bytes(upto)) else {
-        return KEY_TOO_LONG;
-    };
-    match handle
-        .slot
-        .lend()
-        .scan_reverse(alloc, from, upto, room.len())
-    {
-        Ok((pairs, is_more)) => {
-            *count = pairs.len();
-            *more = u32::from(is_more);
-            write_pairs_backwards(&pairs, room);
-            DONE
+    match fill(alloc, handle, order, from, upto, 1) {
+        Ok(_) => {
+            let opened = handle.slot.lend();
+            let status = tell_first(&opened.list, pair);
+            opened.empty_list(alloc);
+            status
         }
-        Err(_) => NO_MEMORY,
+        Err(status) => status,
     }
 }

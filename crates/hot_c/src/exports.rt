@@ -5,7 +5,7 @@ ghost use Rattle.finite_map.specs.declared.Call.TheVariants.{Exchange, Get, Inse
 ghost use Rattle.rowex_writing.specs.Asking.{aim_of};
 ghost use Rattle.rowex_writing.specs.Attempts.{asked_call};
 ghost use Rattle.hot_c.specs.declared.opened.Opened.{Opened};
-ghost use Rattle.hot_c.specs.Calls.{Answers, AreClosed, HasGivenBack, HasSeenRecords, HaveOpened, HaveOpenedStock, IsSize, IsStockSize, Lists, ListsReverse, StaysOpen};
+ghost use Rattle.hot_c.specs.Calls.{Answers, AreClosed, HasGivenBack, HasSeenRecords, HaveOpened, HaveOpenedStock, IsSize, IsStockSize, StaysOpen};
 ghost use Rattle.hot_c.specs.Lookups.{LooksUpAll};
 ghost use Rattle.hot_c.specs.Stocks.{TakesBytes, stock_in};
 ghost use Rattle.record_words.specs.Layout.{stock_for};
@@ -13,7 +13,6 @@ ghost use Rattle.record_words.specs.Layout.{stock_for};
 use crate::handle::Handle;
 use crate::lookups::{Lookup, are_fit, keys_of, write_found};
 use crate::opening::{are_closed, make_passes, make_stocked, open_all};
-use crate::pairs::{Pair, write_pairs};
 use crate::status::{
     BUSY, CLOSED, DONE, FULL_LEAVES, FULL_NODES, KEY_TOO_LONG, NO_MEMORY, OPEN, OUT_OF_RANGE, tell,
 };
@@ -221,74 +220,6 @@ fn change(handle: &mut Handle, ask: Ask, key: &[u8], value: u64, had: &mut u64) 
     match &Key::from_bytes(key) {
         Ok(key) => tell(handle.slot.lend().change(ask, key, value), had),
         Err(_) => KEY_TOO_LONG,
-    }
-}
-
-/// Lists the first pairs whose keys are from `from` to `upto`, both included, in key order: as many as `room` has places. `more`
-/// becomes 1 if the range has more, else 0.
-#[unsafe(no_mangle)]
-pub extern "C" fn hot_scan(
-    alloc: Global,
-    handle: &mut Handle,
-    from: &[u8],
-    upto: &[u8],
-    room: &mut [Pair],
-    count: &mut usize,
-    more: &mut u32,
-) -> u32
-    ensures call { Lists from.now upto.now handle.old.slot.opened handle.new.slot.opened
-        (record { room = room.old; count = count.old; more = more.old }) (record { room = room.new; count = count.new; more = more.new }) result }
-{
-    if !handle.is_open() {
-        return CLOSED;
-    }
-    let (Ok(from), Ok(upto)) = (&Key::from_bytes(from), &Key::from_bytes(upto)) else {
-        return KEY_TOO_LONG;
-    };
-    match handle.slot.lend().scan(alloc, from, upto, room.len()) {
-        Ok((pairs, is_more)) => {
-            *count = pairs.len();
-            *more = u32::from(is_more);
-            write_pairs(&pairs, room);
-            DONE
-        }
-        Err(_) => NO_MEMORY,
-    }
-}
-
-/// Lists the last pairs whose keys are from `from` to `upto`, both included, in falling key order: as many as `room` has places.
-/// `more` becomes 1 if the range has more below, else 0.
-#[unsafe(no_mangle)]
-pub extern "C" fn hot_scan_reverse(
-    alloc: Global,
-    handle: &mut Handle,
-    from: &[u8],
-    upto: &[u8],
-    room: &mut [Pair],
-    count: &mut usize,
-    more: &mut u32,
-) -> u32
-    ensures call { ListsReverse from.now upto.now handle.old.slot.opened handle.new.slot.opened
-        (record { room = room.old; count = count.old; more = more.old }) (record { room = room.new; count = count.new; more = more.new }) result }
-{
-    if !handle.is_open() {
-        return CLOSED;
-    }
-    let (Ok(first), Ok(last)) = (&Key::from_bytes(from), &Key::from_bytes(upto)) else {
-        return KEY_TOO_LONG;
-    };
-    match handle
-        .slot
-        .lend()
-        .scan_reverse(alloc, first, last, room.len())
-    {
-        Ok((found, is_more)) => {
-            *count = found.len();
-            *more = u32::from(is_more);
-            write_pairs(&found, room);
-            DONE
-        }
-        Err(_) => NO_MEMORY,
     }
 }
 

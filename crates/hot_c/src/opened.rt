@@ -1,18 +1,17 @@
 //! What an open handle holds.
 
-ghost use Rattle.std.specs.Prelude.{[], ◌≡◌, ◌≢◌, Err, IfOk, MatchResult, OnErr, length};
+ghost use Rattle.std.specs.Prelude.{◌≡◌, ◌≢◌, Err, IfOk, MatchResult, OnErr, length};
 ghost use Rattle.finite_map.specs.declared.Call.TheVariants.{Get};
 ghost use Rattle.rowex_writing.specs.Asking.{aim_of};
 ghost use Rattle.rowex_writing.specs.Attempts.{asked_call};
-ghost use Rattle.hot_index.specs.Answers.{HasFoundPair, IsListed, IsNoted, IsRefused, IsUnnoted, got};
+ghost use Rattle.hot_index.specs.Answers.{HasFoundPair, IsNoted, IsRefused, IsUnnoted, got};
 ghost use Rattle.hot_index.specs.Census.{HasCounted};
 ghost use Rattle.hot_index.specs.Many.{AreNoted, HasGotMany, gets};
 ghost use Rattle.hot_index.specs.Passes.{Owns};
-ghost use Rattle.hot_index.specs.Ranges.{IsFirstFound};
-ghost use Rattle.hot_index.specs.Reverse.{IsLastFound, IsReverseListed};
 ghost use Rattle.hot_index.specs.Traces.{HasCollected, HasGot, HasGotRange, HasMade, untold};
-ghost use Rattle.key_ranges.specs.Ranges.{last_with};
+ghost use Rattle.hot_c.specs.Orders.{IsFilledIn};
 
+use crate::pairs::Order;
 use hot_index::{Given, Index, Pass, RecordCounts, Reply, TryFault};
 use key_bits::Key;
 use packed_pairs::Pairs;
@@ -20,11 +19,15 @@ use rowex_writing::{Aim, Ask};
 use std::alloc::{AllocError, Global};
 use std::sync::Arc;
 
-/// A pass, with a share of its index.
+/// So many bytes of memory at most does a list keep between two scans for its keys, and as many for the rest.
+const MOST_KEPT: usize = 32_768;
+
+/// A pass, with a share of its index, and a list which each scan fills anew.
 #[derive(Drop)]
 pub struct Opened {
     pub index: Arc<Index, Global>,
     pub pass: Pass,
+    pub list: Pairs,
     pub ghost owned: { Owns index.value pass },
 }
 
@@ -71,68 +74,38 @@ impl Opened {
         }
     }
 
-    /// The first `limit` pairs whose keys are from `from` to `upto`, and whether there are more.
+    /// Lists the pairs of a range in the list, in the order of the scan; and tells whether there are more.
     pub fn scan(
         &mut self,
-        alloc: Global,
+        order: Order,
         from: &Key,
         upto: &Key,
         limit: usize,
-    ) -> Result<(Pairs, bool), AllocError>
+    ) -> Result<bool, AllocError>
         ensures index { self.new.index ≡ self.old.index }
-        ensures ok { IfOk result (λ found. IsListed self.old.index.value.layout self.old.pass self.new.pass from.now upto.now limit found.0 found.1) }
+        ensures ok { IfOk result (IsFilledIn order self.old.index.value.layout self.old.pass self.new.pass from.now upto.now limit self.new.list) }
         ensures err { OnErr result (IsUnnoted self.old.index.value.layout self.old.pass self.new.pass) }
         ensures memory { OnErr result (HasFoundPair self.old.index.value.layout self.old.pass self.new.pass from.now upto.now limit) }
         ensures read { HasGotRange self.old.index.value untold limit (self.old.pass, tt) (self.new.pass, tt) }
     {
-        let mut pairs = Pairs::new(alloc);
-        let is_more = self
-            .index
-            .scan_into(&mut self.pass, from, upto, limit, &mut pairs)?;
-        Ok((pairs, is_more))
+        match order {
+            Order::Rising => {
+                self.index
+                    .scan_into(&mut self.pass, from, upto, limit, &mut self.list)
+            }
+            Order::Falling | Order::LastRising => {
+                self.index
+                    .scan_reverse_into(&mut self.pass, from, upto, limit, &mut self.list)
+            }
+        }
     }
 
-    /// The last `limit` pairs whose keys are from `from` to `upto`, in falling order, and whether there are more.
-    pub fn scan_reverse(
-        &mut self,
-        alloc: Global,
-        from: &Key,
-        upto: &Key,
-        limit: usize,
-    ) -> Result<(Pairs, bool), AllocError>
+    /// Empties the list, and gives its memory back if it has grown large.
+    pub fn empty_list(&mut self, alloc: Global)
         ensures index { self.new.index ≡ self.old.index }
-        ensures ok { IfOk result (λ found. IsReverseListed self.old.index.value.layout self.old.pass self.new.pass from.now upto.now limit found.0 found.1) }
-        ensures err { OnErr result (IsUnnoted self.old.index.value.layout self.old.pass self.new.pass) }
-        ensures memory { OnErr result (HasFoundPair self.old.index.value.layout self.old.pass self.new.pass from.now upto.now limit) }
-        ensures read { HasGotRange self.old.index.value untold limit (self.old.pass, tt) (self.new.pass, tt) }
+        ensures pass { self.new.pass ≡ self.old.pass }
     {
-        let mut pairs = Pairs::new(alloc);
-        let is_more = self
-            .index
-            .scan_reverse_into(&mut self.pass, from, upto, limit, &mut pairs)?;
-        Ok((pairs, is_more))
-    }
-
-    /// The first pair whose key is `from` or above.
-    pub fn first(&mut self, alloc: Global, from: &Key) -> Result<Option<(Key, u64)>, AllocError>
-        ensures index { self.new.index ≡ self.old.index }
-        ensures ok { IfOk result (IsFirstFound self.old.index.value.layout self.old.pass self.new.pass from.now) }
-        ensures err { OnErr result (IsUnnoted self.old.index.value.layout self.old.pass self.new.pass) }
-        ensures memory { OnErr result (HasFoundPair self.old.index.value.layout self.old.pass self.new.pass from.now (last_with []) 1) }
-        ensures read { HasGotRange self.old.index.value untold 1 (self.old.pass, tt) (self.new.pass, tt) }
-    {
-        self.index.first(alloc, &mut self.pass, from)
-    }
-
-    /// The last pair whose key is `upto` or below.
-    pub fn last(&mut self, alloc: Global, upto: &Key) -> Result<Option<(Key, u64)>, AllocError>
-        ensures index { self.new.index ≡ self.old.index }
-        ensures ok { IfOk result (IsLastFound self.old.index.value.layout self.old.pass self.new.pass upto.now) }
-        ensures err { OnErr result (IsUnnoted self.old.index.value.layout self.old.pass self.new.pass) }
-        ensures memory { OnErr result (HasFoundPair self.old.index.value.layout self.old.pass self.new.pass [] upto.now 1) }
-        ensures read { HasGotRange self.old.index.value untold 1 (self.old.pass, tt) (self.new.pass, tt) }
-    {
-        self.index.last(alloc, &mut self.pass, upto)
+        self.list.let_go(alloc, MOST_KEPT);
     }
 
     /// Makes a round of collection.

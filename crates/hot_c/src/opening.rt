@@ -8,6 +8,7 @@ ghost use Rattle.record_words.specs.Layout.{HasStock};
 use crate::handle::Handle;
 use crate::opened::Opened;
 use hot_index::{Index, IndexFault, Pass, create, create_with};
+use packed_pairs::Pairs;
 use record_words::Stock;
 use std::alloc::{AllocError, Global};
 use std::sync::Arc;
@@ -75,7 +76,8 @@ fn share(
     let mut shared = Vec::new(alloc);
     for pass in passes {
         let index = Arc::try_clone(&index)?;
-        shared.push(Box::new(alloc, Opened { index, pass })?)?;
+        let list = Pairs::new(alloc);
+        shared.push(Box::new(alloc, Opened { index, pass, list })?)?;
     }
     Ok(shared)
 }

@@ -1,14 +1,12 @@
 //! The pairs of a scan in an array of C, and one pair at a place of C's.
 
-ghost use Rattle.std.specs.Prelude.{◌≡◌, ◌≤◌, IfOk, OnErr, length, drop, reverse};
-ghost use Rattle.hot_c.specs.Ends.{IsPairTold};
-ghost use Rattle.hot_c.specs.Pairs.{AreSpelled, Spells};
+ghost use Rattle.std.specs.Prelude.{◌≡◌, ◌≤◌, length, drop, reverse, slice_get};
+ghost use Rattle.hot_c.specs.Orders.{in_order};
+ghost use Rattle.hot_c.specs.Pairs.{AreSpelled, IsPairTold, Spells};
 ghost use Rattle.key_bits.specs.Key.{IsKey};
 
-use crate::status::{ABSENT, FOUND, NO_MEMORY};
-use key_bits::Key;
+use crate::status::{ABSENT, FOUND};
 use packed_pairs::Pairs;
-use std::alloc::AllocError;
 
 /// A key with its value. The key is the first `length` bytes.
 #[repr(C)]
@@ -18,8 +16,31 @@ pub struct Pair {
     pub value: u64,
 }
 
+/// Which pairs of a range are listed where there is no room for all, and in which order.
+#[derive(Clone, Copy)]
+pub enum Order {
+    /// The first ones, in rising order.
+    Rising,
+    /// The last ones, in falling order.
+    Falling,
+    /// The last ones, in rising order.
+    LastRising,
+}
+
+/// Writes the pairs of a list, as a scan left it, to the first places of an array in this order.
+pub fn write_in(order: Order, pairs: &Pairs, room: &mut [Pair])
+    requires { length pairs.now ≤ length room.old }
+    ensures written { AreSpelled (in_order order pairs.now) room.new }
+    ensures others { drop (length pairs.now) room.new ≡ drop (length pairs.now) room.old }
+{
+    match order {
+        Order::Rising | Order::Falling => write_pairs(pairs, room),
+        Order::LastRising => write_pairs_backwards(pairs, room),
+    }
+}
+
 /// Writes the pairs of a list to the first places of an array.
-pub fn write_pairs(pairs: &Pairs, room: &mut [Pair])
+fn write_pairs(pairs: &Pairs, room: &mut [Pair])
     requires { length pairs.now ≤ length room.old }
     ensures written { AreSpelled pairs.now room.new }
     ensures others { drop (length pairs.now) room.new ≡ drop (length pairs.now) room.old }
@@ -30,7 +51,7 @@ pub fn write_pairs(pairs: &Pairs, room: &mut [Pair])
 }
 
 /// Writes the pairs of a list to the first places of an array, the last one first.
-pub fn write_pairs_backwards(pairs: &Pairs, room: &mut [Pair])
+fn write_pairs_backwards(pairs: &Pairs, room: &mut [Pair])
     requires { length pairs.now ≤ length room.old }
     ensures written { AreSpelled (reverse pairs.now) room.new }
     ensures others { drop (length pairs.now) room.new ≡ drop (length pairs.now) room.old }
@@ -54,17 +75,15 @@ fn write_pair(key: &[u8], value: u64, pair: &mut Pair)
     pair.value = value;
 }
 
-/// The status of a search for one pair. If it found one, that is written.
-pub fn tell_pair(found: Result<Option<(Key, u64)>, AllocError>, pair: &mut Pair) -> u32
-    ensures ok { IfOk found (λ it. IsPairTold it pair.old pair.new result) }
-    ensures err { OnErr found ((result ≡ NO_MEMORY) × (pair.new ≡ pair.old)) }
+/// Writes the first pair of a list: `FOUND`, or `ABSENT` if it has none.
+pub fn tell_first(pairs: &Pairs, pair: &mut Pair) -> u32
+    ensures { IsPairTold (slice_get pairs.now 0) pair.old pair.new result }
 {
-    match found {
-        Ok(Some((key, value))) => {
-            write_pair(key.as_bytes(), value, pair);
+    match pairs.iter().next() {
+        Some((key, value)) => {
+            write_pair(key, value, pair);
             FOUND
         }
-        Ok(None) => ABSENT,
-        Err(_) => NO_MEMORY,
+        None => ABSENT,
     }
 }

@@ -1,14 +1,7 @@
--- The search is made on the handle's pass, and the pair that it found is told.
-use Rattle.std.proofs.Common.{[], refl}
-use Rattle.hot_index.specs.Ranges.{IsFirstFound}
-use Rattle.hot_index.specs.Answers.{HasFoundPair}
-use Rattle.key_ranges.specs.Ranges.{last_with}
-use Rattle.hot_c.proofs.Answered.{of_key}
-use Rattle.hot_c.proofs.Found.{found}
+-- The first pair is the one that a scan up to the last key of all finds.
+use Rattle.std.proofs.Common.{arith}
+use Rattle.hot_c.proofs.Found.{as_fit}
 use Rattle.hot_c.proofs.ends.hot_first.Goals as goal
 
-pub returns-in-Ok : goal.returns-in-Ok
-returns-in-Ok c = record {
-  call = found IsFirstFound (λ layout k j from. HasFoundPair layout k j from (last_with []) 1) c.args.from.now _ _ _ _ _ _ _ _ c.first.result c.lend.ensures.value refl c.first.ensures.index
-      (of_key c.args.from.now _ _ c.in-Ok.is c.from_bytes.ensures.fits c.from_bytes.ensures.ok) c.first.ensures.ok c.first.ensures.err c.first.ensures.memory c.first.ensures.read c.tell_pair.ensures.ok c.tell_pair.ensures.err;
-}
+pub returns : goal.returns
+returns c = record { call = as_fit (λ fit. (fit, omega arith)) (λ fit. fit.0) c.find.ensures }

@@ -1,0 +1,30 @@
+-- The orders in which a scan lists its pairs, and what was answered in each.
+use Rattle.std.specs.Prelude.{ℕ, List, reverse, Bool}
+use Rattle.record_words.specs.declared.layout.Layout.{Layout}
+use Rattle.hot_index.specs.Answers.{IsListed}
+use Rattle.hot_index.specs.Passes.{PassView}
+use Rattle.hot_index.specs.Reverse.{IsReverseListed}
+use Rattle.hot_c.specs.declared.pairs.Order.{Order}
+use Rattle.hot_c.specs.declared.pairs.Order.TheVariants.{Rising, Falling, LastRising}
+
+-- A scan of the last pairs in rising order was answered: a scan downwards lists them from the last one on.
+abbrev pub IsLastListed : Layout → PassView → PassView → List ℕ → List ℕ → ℕ → List (List ℕ × ℕ) → Bool → Type 0
+IsLastListed layout k j from upto limit pairs is_more = IsReverseListed layout k j from upto limit (reverse pairs) is_more
+
+-- a scan in this order was answered
+abbrev pub IsListedIn : Order → Layout → PassView → PassView → List ℕ → List ℕ → ℕ → List (List ℕ × ℕ) → Bool → Type 0
+IsListedIn Rising = IsListed
+IsListedIn Falling = IsReverseListed
+IsListedIn LastRising = IsLastListed
+
+-- the pairs in this order, of those in the order in which the scan found them
+abbrev pub in_order : Order → List (List ℕ × ℕ) → List (List ℕ × ℕ)
+in_order Rising pairs = pairs
+in_order Falling pairs = pairs
+in_order LastRising pairs = reverse pairs
+
+-- a scan that found these pairs, one after the other, was answered
+abbrev pub IsFilledIn : Order → Layout → PassView → PassView → List ℕ → List ℕ → ℕ → List (List ℕ × ℕ) → Bool → Type 0
+IsFilledIn Rising = IsListed
+IsFilledIn Falling = IsReverseListed
+IsFilledIn LastRising = IsReverseListed

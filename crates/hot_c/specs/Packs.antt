@@ -1,0 +1,37 @@
+-- What a scan of a program in C says that packs its pairs.
+use Rattle.std.specs.Prelude.{◌≡◌, ◌||◌, ℕ, ◌<◌, ◌≤◌, List, ◌++◌, length, take, drop, map, Bool, true, nat_lt, Option}
+use Rattle.std.specs.Int.{from_bool}
+use Rattle.packed_pairs.specs.Parts.{fitting, packed_head, keys_in}
+use Rattle.packed_pairs.specs.declared.pairs.Head.{Head}
+use Rattle.record_words.specs.declared.layout.Layout.{Layout}
+use Rattle.hot_index.specs.Answers.{IsListed}
+use Rattle.hot_index.specs.Passes.{PassView}
+use Rattle.hot_c.specs.Scans.{ListsInto}
+use Rattle.hot_c.specs.declared.opened.Opened.{Opened}
+
+-- what C sees of such a scan's answer: an array of bytes, one of heads, the count of pairs, and whether there is a further one
+pub record Packing : Type 0 where
+  pub bytes : List ℕ
+  pub heads : List Head
+  pub count : ℕ
+  pub more : ℕ
+
+-- The arrays begin with the keys and the heads of the first pairs, of as many as have keys that fit into the bytes, and are otherwise
+-- as they were. There is a further pair if the scan found one, or if one didn't fit.
+pub record IsPackListed (pairs : List (List ℕ × ℕ)) (is_more : Bool) (before after : Packing) : Type 0 where
+  pub written : List (List ℕ × ℕ)
+  pub fit : written ≡ fitting (length before.bytes) pairs
+  pub short : length pairs ≤ length before.heads
+  pub bytes : after.bytes ≡ keys_in written ++ drop (length (keys_in written)) before.bytes
+  pub heads : after.heads ≡ map packed_head written ++ drop (length written) before.heads
+  pub count : after.count ≡ length written
+  pub more : after.more ≡ from_bool (is_more || nat_lt (length written) (length pairs))
+
+-- A scan was answered; and so are the scans that are cut after any of its first pairs, and have more.
+pub record IsListedByParts (layout : Layout) (k j : PassView) (from upto : List ℕ) (limit : ℕ) (pairs : List (List ℕ × ℕ)) (is_more : Bool) : Type 0 where
+  pub whole : IsListed layout k j from upto limit pairs is_more
+  pub parts : (n : ℕ) → n < length pairs → IsListed layout k j from upto n (take n pairs) true
+
+-- a scan of as many pairs as there is room for heads
+abbrev pub ListsPacked : List ℕ → List ℕ → Option Opened → Option Opened → Packing → Packing → ℕ → Type 0
+ListsPacked = ListsInto (λ (it : Packing). length it.heads) IsPackListed IsListedByParts

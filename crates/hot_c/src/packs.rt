@@ -1,0 +1,56 @@
+//! The scan of a range whose pairs are packed, for programs in C.
+
+ghost use Rattle.std.specs.Prelude.{◌≡◌, ◌≤◌, ◌++◌, drop, length, map};
+ghost use Rattle.hot_c.specs.Packs.{ListsPacked};
+ghost use Rattle.packed_pairs.specs.Parts.{packed_head, keys_in};
+
+use crate::handle::Handle;
+use crate::pairs::Order;
+use crate::scans::fill;
+use crate::status::DONE;
+use packed_pairs::{Head, Pairs};
+use std::alloc::Global;
+
+/// Lists the first pairs whose keys are from `from` to `upto`, both included, in key order, packed: the bytes of their keys one
+/// after another, and beside them a head for each. It lists as many as `heads` has places, and only those whose keys together have
+/// room in `bytes`. `more` becomes 1 if the range has more, else 0.
+#[unsafe(no_mangle)]
+pub extern "C" fn hot_scan_packed(
+    alloc: Global,
+    handle: &mut Handle,
+    from: &[u8],
+    upto: &[u8],
+    bytes: &mut [u8],
+    heads: &mut [Head],
+    count: &mut usize,
+    more: &mut u32,
+) -> u32
+    ensures call { ListsPacked from.now upto.now handle.old.slot.opened handle.new.slot.opened
+        (record { bytes = bytes.old; heads = heads.old; count = count.old; more = more.old })
+        (record { bytes = bytes.new; heads = heads.new; count = count.new; more = more.new }) result }
+{
+    match fill(alloc, handle, Order::Rising, from, upto, heads.len()) {
+        Ok((found, is_more)) => {
+            let opened = handle.slot.lend();
+            opened.list.fit(bytes.len());
+            *count = opened.list.len();
+            *more = u32::from(is_more || *count < found);
+            write_packed(&opened.list, bytes, heads);
+            opened.empty_list(alloc);
+            DONE
+        }
+        Err(status) => status,
+    }
+}
+
+/// Writes the heads of a list and the bytes of its keys to the first places of two arrays.
+fn write_packed(pairs: &Pairs, bytes: &mut [u8], heads: &mut [Head])
+    requires bytes { length (keys_in pairs.now) ≤ length bytes.old }
+    requires heads { length pairs.now ≤ length heads.old }
+    ensures bytes { bytes.new ≡ keys_in pairs.now ++ drop (length (keys_in pairs.now)) bytes.old }
+    ensures heads { heads.new ≡ map packed_head pairs.now ++ drop (length pairs.now) heads.old }
+{
+    let (all_heads, all_bytes) = pairs.parts();
+    heads[..all_heads.len()].copy_from_slice(all_heads);
+    bytes[..all_bytes.len()].copy_from_slice(all_bytes);
+}

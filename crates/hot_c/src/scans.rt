@@ -1,0 +1,131 @@
+//! The scans of a range, for programs in C.
+
+ghost use Rattle.std.specs.Prelude.{◌<◌, ◌^◌, IfErr, IfOk};
+ghost use Rattle.hot_c.specs.Orders.{IsFilledIn, IsListedIn};
+ghost use Rattle.hot_c.specs.Scans.{HasFilled, Lists, ListsBy, ListsLast, ListsNothing, ListsReverse};
+
+use crate::handle::Handle;
+use crate::pairs::{Order, Pair, write_in};
+use crate::status::{CLOSED, DONE, KEY_TOO_LONG, NO_MEMORY};
+use key_bits::Key;
+use std::alloc::Global;
+
+/// Lists the first pairs whose keys are from `from` to `upto`, both included, in key order: as many as `room` has places. `more`
+/// becomes 1 if the range has more, else 0.
+#[unsafe(no_mangle)]
+pub extern "C" fn hot_scan(
+    alloc: Global,
+    handle: &mut Handle,
+    from: &[u8],
+    upto: &[u8],
+    room: &mut [Pair],
+    count: &mut usize,
+    more: &mut u32,
+) -> u32
+    ensures call { Lists from.now upto.now handle.old.slot.opened handle.new.slot.opened
+        (record { room = room.old; count = count.old; more = more.old }) (record { room = room.new; count = count.new; more = more.new }) result }
+{
+    list(alloc, handle, Order::Rising, from, upto, room, count, more)
+}
+
+/// Lists the last pairs whose keys are from `from` to `upto`, both included, in falling key order: as many as `room` has places.
+/// `more` becomes 1 if the range has more below, else 0.
+#[unsafe(no_mangle)]
+pub extern "C" fn hot_scan_reverse(
+    alloc: Global,
+    handle: &mut Handle,
+    from: &[u8],
+    upto: &[u8],
+    room: &mut [Pair],
+    count: &mut usize,
+    more: &mut u32,
+) -> u32
+    ensures call { ListsReverse from.now upto.now handle.old.slot.opened handle.new.slot.opened
+        (record { room = room.old; count = count.old; more = more.old }) (record { room = room.new; count = count.new; more = more.new }) result }
+{
+    list(alloc, handle, Order::Falling, from, upto, room, count, more)
+}
+
+/// Lists the last pairs whose keys are from `from` to `upto`, both included, in rising key order: as many as `room` has places.
+/// `more` becomes 1 if the range has more below, else 0.
+#[unsafe(no_mangle)]
+pub extern "C" fn hot_scan_last(
+    alloc: Global,
+    handle: &mut Handle,
+    from: &[u8],
+    upto: &[u8],
+    room: &mut [Pair],
+    count: &mut usize,
+    more: &mut u32,
+) -> u32
+    ensures call { ListsLast from.now upto.now handle.old.slot.opened handle.new.slot.opened
+        (record { room = room.old; count = count.old; more = more.old }) (record { room = room.new; count = count.new; more = more.new }) result }
+{
+    list(
+        alloc,
+        handle,
+        Order::LastRising,
+        from,
+        upto,
+        room,
+        count,
+        more,
+    )
+}
+
+/// Lists pairs in this order.
+fn list(
+    alloc: Global,
+    handle: &mut Handle,
+    order: Order,
+    from: &[u8],
+    upto: &[u8],
+    room: &mut [Pair],
+    count: &mut usize,
+    more: &mut u32,
+) -> u32
+    ensures { ListsBy (IsListedIn order) from.now upto.now handle.old.slot.opened handle.new.slot.opened
+        (record { room = room.old; count = count.old; more = more.old }) (record { room = room.new; count = count.new; more = more.new }) result }
+{
+    match fill(alloc, handle, order, from, upto, room.len()) {
+        Ok((found, is_more)) => {
+            let opened = handle.slot.lend();
+            *count = found;
+            *more = u32::from(is_more);
+            write_in(order, &opened.list, room);
+            opened.empty_list(alloc);
+            DONE
+        }
+        Err(status) => status,
+    }
+}
+
+/// Scans a range into the handle's list, and tells how many pairs it found and whether there are more; or the status that says why
+/// it found none.
+pub fn fill(
+    alloc: Global,
+    handle: &mut Handle,
+    order: Order,
+    from: &[u8],
+    upto: &[u8],
+    limit: usize,
+) -> Result<(usize, bool), u32>
+    ensures ok { IfOk result (λ found. HasFilled (IsFilledIn order) from.now upto.now limit handle.old.slot.opened handle.new.slot.opened found.0 found.1) }
+    ensures short { IfOk result (λ found. found.0 < 2 ^ 63) }
+    ensures err { IfErr result (ListsNothing from.now upto.now limit handle.old.slot.opened handle.new.slot.opened) }
+{
+    if !handle.is_open() {
+        return Err(CLOSED);
+    }
+    let (Ok(from), Ok(upto)) = (&Key::from_bytes(from), &Key::from_bytes(upto)) else {
+        return Err(KEY_TOO_LONG);
+    };
+    let opened = handle.slot.lend();
+    match opened.scan(order, from, upto, limit) {
+        Ok(is_more) => Ok((opened.list.len(), is_more)),
+        Err(_) => {
+            opened.empty_list(alloc);
+            Err(NO_MEMORY)
+        }
+    }
+}
