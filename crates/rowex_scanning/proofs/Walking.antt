@@ -1,7 +1,7 @@
 -- The steps of a walk, over what its pass knows.
 use Rattle.std.proofs.Common.{◌≡◌, ◌≢◌, ◌⊎◌, inl, inr, ℕ, suc, ◌+◌, ◌-◌, ◌*◌, ◌^◌, ◌<◌, ◌≤◌, List, [], ◌∷◌, ◌++◌, length, refl, ap, sym, ◌∙◌, subst, arith, Bool, true, false, length-append, Option, Some, None, ⊎_elim}
 use Rattle.std.specs.Prelude.{◌↔◌, IsSome, IsTrue, option_to_list}
-use Rattle.std.proofs.Math.Nat.{mul-le-mul_right}
+use Rattle.std.proofs.Math.Nat.{pow-suc, pow-le-pow_right, one-le-pow, mul-le-mul_right}
 use Rattle.std.proofs.lemmas.Bool.{cases_lt}
 use Rattle.std.proofs.lemmas.List.{length-replicate}
 use Rattle.std.proofs.lemmas.Cmp.{tied_itself}
@@ -34,7 +34,6 @@ use Rattle.rowex_walks.proofs.Scans.{fit_leaf, shaped_several}
 use Rattle.rowex_walks.proofs.Walk.{stack_shape}
 use Rattle.rowex_walks.proofs.Ends.{stack_depth, stack_high, stack_seen, stack_low}
 use Rattle.rowex_walks.proofs.Persist.{rooted_on}
-use Rattle.rowex_walks.proofs.Measure.{one_power, power_step}
 use Rattle.rowex_table.specs.Made.{IsLater}
 use Rattle.rowex_table.specs.Seats.{SeatView, TableView}
 use Rattle.rowex_reading.specs.Lookups.{HasSearched}
@@ -154,6 +153,12 @@ length_frames (f ∷ fs) = let e = length-append (frames_of fs) (frame f ∷ [])
 rest_append : (d : Direction) (xs : List Step) (x : Step) → rest_of_frames d (xs ++ x ∷ []) ≡ to_come d x.count (gap_behind d x.at) * 34 ^ x.height + 1 + rest_of_frames d xs
 rest_append d [] x = omega arith
 rest_append d (y ∷ xs) x = let e = rest_append d xs x in omega (arith, e)
+
+power_step : (i j : ℕ) → i < j → 34 ^ i * 34 ≤ 34 ^ j
+power_step i j h = subst (λ z. z ≤ 34 ^ j) (pow-suc 34 i) (pow-le-pow_right {n = 34} (omega arith) {i = suc i} {j = j} (omega arith))
+
+one_power : (i : ℕ) → 1 ≤ 34 ^ i
+one_power i = one-le-pow i 34 (omega arith)
 
 suc_times : (n x : ℕ) → suc n * x ≡ x + n * x
 suc_times n x = omega arith

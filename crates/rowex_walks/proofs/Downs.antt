@@ -1,7 +1,6 @@
 -- The steps of a scan that goes downwards keep what it knows.
-use Rattle.std.proofs.Common.{◌≡◌, ◌⊎◌, inl, inr, ℕ, suc, ◌+◌, ◌*◌, ◌^◌, ◌<◌, ◌≤◌, List, [], ◌∷◌, length, refl, sym, ◌∙◌, subst, arith, le_refl, ⊎_elim}
+use Rattle.std.proofs.Common.{◌≡◌, ◌⊎◌, inl, inr, ℕ, suc, ◌<◌, ◌≤◌, List, [], ◌∷◌, length, refl, sym, ◌∙◌, subst, arith, le_refl, ⊎_elim}
 use Rattle.std.proofs.lemmas.Bool.{cases_lt}
-use Rattle.std.proofs.Math.Nat.{mul-le-mul_right}
 use Rattle.tries.specs.Affected.{page_affected}
 use Rattle.tries.specs.Keys.{Key, bit, AgreeBelow, IsBefore, IsAtMost}
 use Rattle.compound_node.specs.declared.entries.Entry.TheVariants.{Leaf, Node}
@@ -12,14 +11,13 @@ use Rattle.moments.specs.State.{Past, IsHeldSince, IsKeptSince, IsSteady}
 use Rattle.moments.specs.declared.Rec.TheVariants.{Node as a_node}
 use Rattle.tries.specs.Place.{spot}
 use Rattle.rowex_walks.specs.Scan.{IsPlaced, IsShaped, IsRooted, IsRead, IsBlank, MayStandAt, IsOn, IsOver, Frame, IsStack, Pair, Every, IsKeyListed, Range, IsInRange}
-use Rattle.rowex_walks.specs.Reverse.{IsFromOn, IsRightOfOne, IsPassedDown, IsLeftOfOne, IsClimbing, IsDownScan, IsDownComplete, IsDownTo, IsDownCut, IsBeneath}
+use Rattle.rowex_walks.specs.Reverse.{IsRightOfOne, IsPassedDown, IsLeftOfOne, IsDownScan, IsDownComplete, IsDownTo, IsDownCut, IsBeneath}
 use Rattle.rowex_walks.proofs.Ends.{scan_blank, scan_one, scan_outside}
-use Rattle.rowex_walks.proofs.Measure.{next, one_power, power_step}
 use Rattle.tries.proofs.Places.{spot_below}
 use Rattle.rowex_walks.proofs.Persist.{fit_on, held_on, kept_back, on_on, placed_on, shaped_on, stack_on}
 use Rattle.rowex_walks.proofs.Scans.{fit_order, fit_down, fit_leaf, on_fit, on_down, on_leaf, on_root, read_held, before_trans, never_before}
 use Rattle.rowex_walks.proofs.Starts.{sides, start_place}
-use Rattle.rowex_walks.proofs.Walk.{every_map, stack_place, stack_shape}
+use Rattle.rowex_walks.proofs.Walk.{every_map, next, stack_place, stack_shape}
 
 -- A key right of a frame's place is above those that may stand at the place of the topmost one of these frames, or left of it.
 right_above : (s : Past) (m : ℕ) → IsSteady s m → (f : Frame) (fs : List Frame) → IsStack s m (f ∷ fs) → (k z : Key) → IsRightOfOne s m k (f ∷ fs) →
@@ -338,25 +336,3 @@ pub down_outside : (s : Past) (m : ℕ) → IsSteady s m → (g : Range) (n : �
     IsBefore l g.from ⊎ IsBefore g.upto l → IsDownComplete s m g []
 down_outside s m law g n l v root is out =
     record { climbing = tt; within = tt; held = tt; short = omega arith; covered = (scan_outside s m law g n l v root is out).covered }
-
--- ---- the walk ends
--- What it has still to do, at most, where a node has at most 32 entries: the loop's measure.
-abbrev pub left_in : List Frame → ℕ
-left_in [] = 0
-left_in (f ∷ fs) = f.place * 34 ^ f.height + 1 + left_in fs
-
--- A push makes it less,
-pub down_push_less : (f : Frame) (fs : List Frame) (c : Frame) → c.height < f.height → c.place ≤ 32 → left_in (c ∷ f ∷ fs) < left_in (next f ∷ fs)
-down_push_less f fs c l w =
-    let a : c.place * 34 ^ c.height ≤ 32 * 34 ^ c.height = mul-le-mul_right (34 ^ c.height) w in
-    let b = power_step c.height f.height l in
-    let o = one_power c.height in
-    omega arith
-
--- and so does a place,
-pub down_next_less : (f : Frame) (fs : List Frame) → left_in (f ∷ fs) < left_in (next f ∷ fs)
-down_next_less f fs = let o = one_power f.height in omega arith
-
--- and a pop.
-pub down_pop_less : (f e : Frame) (fs : List Frame) → left_in (e ∷ fs) < left_in (f ∷ e ∷ fs)
-down_pop_less f e fs = omega arith

@@ -26,5 +26,4 @@ pub mod Loads
 pub mod Persist
 pub mod Fronts
 pub mod Ends
-pub mod Measure
 pub mod Ways

@@ -9,9 +9,12 @@ use Rattle.moments.specs.State.{Past, IsKeptSince, IsSteady}
 use Rattle.moments.specs.declared.Rec.TheVariants.{Node as a_node}
 use Rattle.tries.specs.Place.{spot}
 use Rattle.rowex_walks.specs.Scan.{IsPlaced, IsShaped, IsRead, MayStandAt, IsOn, Frame, IsStack, IsPassed, IsRight, IsAhead, Pair, Every, IsKeyListed, Range, IsInRange, IsScan, IsComplete, IsUpTo, IsCut}
-use Rattle.rowex_walks.proofs.Measure.{next}
 use Rattle.tries.proofs.Places.{spot_below}
 use Rattle.rowex_walks.proofs.Scans.{fit_order, fit_down, fit_leaf, on_fit, on_down, on_leaf, read_held, before_trans, never_before}
+
+-- The frame one place further.
+abbrev pub next : Frame → Frame
+next f = record f { place = suc f.place }
 
 pub every_map : (P Q : Pair → Type 0) (xs : List Pair) → ((x : Pair) → P x → Q x) → Every P xs → Every Q xs
 every_map P Q [] f h = tt
