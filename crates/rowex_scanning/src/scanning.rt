@@ -58,7 +58,7 @@ pub(crate) enum Verdict {
 /// The scan of a pinned pass: the first pairs of the range in the scan's direction, so many as the limit says, take the place of those
 /// in the list; and it answers whether there is a further one. An error where memory is refused: then too the pass has made loads
 /// alone, and the list has the first of these pairs, fewer than the limit, and there is a further one. The nodes of its way are left in
-/// `way`, which need not be empty. Inline, as the two that walk below a node are, so that a caller has a walk of its own direction.
+/// `way`, which need not be empty. Inline, as what it does at its root is, so that a caller has a walk of its own direction.
 #[inline(always)]
 pub fn scan_root<G: Gate>(
     table: &HotTable,
@@ -109,6 +109,7 @@ fn first_key<'a>(range: &'a Range) -> &'a Key
 }
 
 /// The scan from a root that is a leaf.
+#[inline(always)]
 fn scan_leaf<G: Gate>(
     table: &HotTable,
     seat: &mut TableSeat,
