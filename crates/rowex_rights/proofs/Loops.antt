@@ -1,10 +1,10 @@
--- The loops before a publish.
-use Rattle.std.proofs.Common.{◌≡◌, inl, inr, ℕ, ◌+◌, ◌-◌, List, [], ◌∷◌, ◌++◌, length, set, map, refl, sym, ap, subst, ◌∙◌, arith, append_assoc, length-append}
+-- The loop before a publish, and what may be done with what is held.
+use Rattle.std.proofs.Common.{◌≡◌, inl, inr, ℕ, ◌+◌, ◌-◌, List, [], ◌∷◌, ◌++◌, map, refl, sym, ap, subst, ◌∙◌, append_assoc, ◌<◌, ◌^◌}
 use Rattle.std.proofs.lemmas.List.{append-nil, map-append}
-use Rattle.std.proofs.Math.Seq.{set-append_seam}
+use Rattle.rowex_table.specs.Rule.{MayStep}
+use Rattle.rowex_core.specs.Events.{IsOffset}
 use Rattle.record_words.specs.declared.layout.Layout.{Layout}
-use Rattle.moments.specs.declared.Rec.{Rec}
-use Rattle.rowex_core.specs.declared.event.Act.TheVariants.{Claim, Fill, Ready, Release}
+use Rattle.rowex_core.specs.declared.event.Act.TheVariants.{Fill, Ready, Release}
 use Rattle.rowex_core.specs.declared.known.Holding.TheVariants.{Held, Ready as IsReady}
 use Rattle.rowex_core.specs.declared.known.Known.{Known}
 use Rattle.rowex_core.specs.Cores.{Core, FitsIn, HasWord}
@@ -17,11 +17,11 @@ use Rattle.rowex_core.specs.Sharing.{IsOwned}
 use Rattle.rowex_core.proofs.Owning.{knows_all}
 use Rattle.rowex_core.proofs.Having.{owned_used}
 use Rattle.moments.specs.Trades.{IsOf, AreApart}
-use Rattle.moments.proofs.Members.{of_map, map_of, of_right, all_of}
-use Rattle.rowex_table.proofs.ActsBefore.{claim_gives_one, fill_gives_first, ready_gives_next, release_gives_rest, recalls_on, claim_leaves, later_trans, same_later}
+use Rattle.moments.proofs.Members.{of_right, all_of}
+use Rattle.rowex_table.proofs.ActsBefore.{ready_gives_next, recalls_on, later_trans, same_later}
 use Rattle.rowex_table.specs.Runs.{silent}
-use Rattle.rowex_table.specs.Made.{HasReadied, IsLater, Made, held_as, recs_of}
-use Rattle.rowex_rights.specs.Loops.{FillsEach, HoldsRights, MakesOne, ReadiesAll, ReadiesEach, ReleasesAll, StaysLocked}
+use Rattle.rowex_table.specs.Made.{HasReadied, IsLater, Made, held_as, recs_of, HoldsMade}
+use Rattle.rowex_rights.specs.Loops.{ReadiesEach, StaysLocked}
 
 -- What is recalled on and on
 
@@ -31,37 +31,7 @@ later_same k j e = same_later k j (ap (λ (z : Known). z.pass) e) (ap (λ (z : K
 pub later_on : (k i j : Known) → IsLater k i → IsLater i j → IsLater k j
 later_on k i j a b = later_trans a b
 
--- Claim and fills
-
-fills_first : (layout : Layout) (r : Rec) (news : List Made) → (IsOf r (recs_of news) → ⊥) → (n : ℕ) (done old ws : List ℕ) (k j : Known) → length done ≡ n → length old ≡ length ws →
-    k.own ≡ record { rec = r; holding = Held; words = done ++ old } ∷ map (held_as Held) news → FillsEach layout r n ws k j →
-    (j.own ≡ record { rec = r; holding = Held; words = done ++ ws } ∷ map (held_as Held) news) × IsLater k j × (j.locks ≡ k.locks) × (j.anchor ≡ k.anchor)
-fills_first layout r news not_it n done [] [] k j at long own e = (ap (λ (z : Known). z.own) e ∙ own, later_same k j e, ap (λ (z : Known). z.locks) e, ap (λ (z : Known). z.anchor) e)
-fills_first layout r news not_it n done (o ∷ old) [] k j at long own e = absurd (omega (arith, long))
-fills_first layout r news not_it n done [] (w ∷ ws) k j at long own e = absurd (omega (arith, long))
-fills_first layout r news not_it n done (o ∷ old) (w ∷ ws) k j at long own (i, e, rest) =
-    let place : n + 1 - 1 ≡ length done = omega arith in
-    let stored : set (done ++ o ∷ old) (n + 1 - 1) w ≡ (done ++ w ∷ []) ++ old = ap (λ z. set (done ++ o ∷ old) z w) place ∙ (set-append_seam done o old w ∙ sym (append_assoc done (w ∷ []) old)) in
-    let now = fill_gives_first layout silent k i r (n + 1) w (done ++ o ∷ old) news e own not_it in
-    let next = fills_first layout r news not_it (n + 1) (done ++ w ∷ []) old ws i j (omega (arith, length-append done (w ∷ []), at)) (omega (arith, long))
-    (now ∙ ap (λ z. record { rec = r; holding = Held; words = z } ∷ map (held_as Held) news) stored) rest in (
-      next.0 ∙ ap (λ z. record { rec = r; holding = Held; words = z } ∷ map (held_as Held) news) (append_assoc done (w ∷ []) ws),
-      later_on k i j (recalls_on layout silent k i (Fill r (n + 1) w) tt e) next.1,
-      next.2 ∙ ap (λ (z : Known). z.locks) e.learned_is,
-      next.3 ∙ ap (λ (z : Known). z.anchor) e.learned_is,
-    )
-
-pub makes_one : MakesOne
-makes_one layout k i j news r words holds size claim fills =
-    let (old, long, own, fresh) = claim_gives_one layout silent k i r 0 claim refl in
-    let not_it : IsOf r (recs_of news) → ⊥ = λ h. (let (m, at, is) = of_map (λ (m : Made). m.rec) r news h in
-    fresh (held_as Held m) (subst (IsOf (held_as Held m)) (sym holds.0) (map_of (held_as Held) m news at)) (sym is)) in
-    let begun : i.own ≡ record { rec = r; holding = Held; words = old } ∷ map (held_as Held) news = own ∙ ap (λ z. record { rec = r; holding = Held; words = old } ∷ z) holds.0 in
-    let (filled, later, locks, anchor) = fills_first layout r news not_it 0 [] old words i j refl (long ∙ sym size) begun fills in
-    let still = claim_leaves layout silent k i r 0 claim in
-    ((filled, (not_it, holds.1)), (later_on k i j (recalls_on layout silent k i (Claim r 0) tt claim) later, locks ∙ still.0, anchor ∙ still.1))
-
--- All made ready, or given up
+-- All made ready
 
 pub recs_append : (us vs : List Made) → recs_of (us ++ vs) ≡ recs_of us ++ recs_of vs
 recs_append us vs = map-append (λ (m : Made). m.rec) us vs
@@ -97,17 +67,14 @@ ready_each layout done (m ∷ todo) k j has (i, e, rest) =
     let next = ready_each layout (done ++ m ∷ []) todo i j (ready_next layout done m todo k i has e) rest in
     (next.0 ∙ ap (map (held_as IsReady)) moved, locked_on k i j (still_locked layout k i (Ready m.rec) tt tt tt e) next.1)
 
-pub readies_all : ReadiesAll
+-- All that a pass holds it may make ready: then all of it is.
+pub readies_all : (layout : Layout) (k j : Known) (news : List Made) → HoldsMade k news → ReadiesEach layout news k j → (j.own ≡ map (held_as IsReady) news) × StaysLocked k j
 readies_all layout k j news holds e = ready_each layout [] news k j holds e
 
-pub releases_all : ReleasesAll
-releases_all layout k j [] holds e = (ap (λ (z : Known). z.own) e ∙ holds.0, locked_same k j e)
-releases_all layout k j (m ∷ news) holds (i, e, rest) =
-    let now = release_gives_rest layout silent k i m news e holds.0 holds.1.0 in
-    let next = releases_all layout i j news (now, holds.1.1) rest in
-    (next.0, locked_on k i j (still_locked layout k i (Release m.rec) tt tt tt e) next.1)
-
-pub holds_rights : HoldsRights
+-- What a pass holds it may fill where the table has a word, make ready once its words spell a value that has room in it, and give up.
+pub holds_rights : (layout : Layout) (k : Known) (done todo : List Made) (m : Made) → HasReadied k done (m ∷ todo) →
+    ((offset w : ℕ) → IsOffset m.rec offset → w < 2 ^ 64 → HasWord layout m.rec offset → MayStep layout (λ found. Fill m.rec offset w) k) ×
+    (IsPacked m.rec m.words → FitsIn layout m.rec m.words → MayStep layout (λ found. Ready m.rec) k) × MayStep layout (λ found. Release m.rec) k
 holds_rights layout k done todo m has = (
   λ offset w at low there c law layout_is known.
       (let owned = owned_here c known in (known.pass, (owned_used c law k.pass (held_as Held m) owned, owned.0, at, low, subst (λ (z : Layout). HasWord z m.rec offset) (sym layout_is) there))),

@@ -1,5 +1,12 @@
 -- Upserts and removals may be published; and leaves that a pass has read stay.
-use Rattle.std.proofs.Common.{inl, List, [], ◌∷◌, Some, None, refl, sym, ap, subst, ◌∙◌}
+use Rattle.std.proofs.Common.{ℕ, inl, List, [], ◌∷◌, Some, None, refl, sym, ap, subst, ◌∙◌}
+use Rattle.rowex_core.specs.declared.known.Locked.{Locked}
+use Rattle.rowex_core.specs.Knowing.{IsSince}
+use Rattle.rowex_walks.specs.Scan.{IsRead}
+use Rattle.tries.specs.Keys.{Key}
+use Rattle.rowex_rights.specs.Stages.{IsLeafThere, IsSure}
+use Rattle.record_words.specs.declared.layout.Layout.{Layout}
+use Rattle.rowex_core.specs.declared.known.Known.{Known}
 use Rattle.compound_node.specs.declared.entries.Entry.TheVariants.{Leaf, Node}
 use Rattle.finite_map.specs.declared.Change.{Change}
 use Rattle.tries.specs.Search.{seek}
@@ -27,11 +34,13 @@ use Rattle.rowex_rights.proofs.Rising.{side_in}
 use Rattle.rowex_walks.proofs.Leaves.{upsert_at_spot}
 use Rattle.rowex_walks.proofs.Taking.{left_tree, same_entry, remove_at_spot, remove_only}
 use Rattle.rowex_walks.proofs.Search.{leaf_now}
-use Rattle.rowex_rights.specs.Cases.{LeafStays, MayUpsert, MayRemove, MayRemoveLast}
+use Rattle.rowex_rights.specs.Cases.{MayUpsert, MayRemove, MayRemoveLast}
 use Rattle.rowex_core.proofs.Loading.{view as state_of}
 use Rattle.tries.specs.Content.{item}
 
-pub leaf_stays : LeafStays
+-- A leaf that a pinned pass has read keeps its key and value.
+pub leaf_stays : (layout : Layout) (k : Known) (held : List Locked) (news : List Made) (since j : ℕ) (key : Key) (value : ℕ) → IsSince k since →
+    IsSure k (λ s. IsRead s since j key value) → IsLeafThere layout k held news j key value
 leaf_stays layout k held news since j key value pinned sure c stage =
     let (n, lo, hi, st) = sure c stage.lawful stage.recalls in
     leaf_now (state_of c) stage.lawful.core.state since (reach_since k since pinned c stage.lawful stage.recalls) n j j key value lo hi st

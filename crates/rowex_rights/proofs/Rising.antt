@@ -1,6 +1,7 @@
 -- What has risen stays while the pass goes on, and grows by one step.
 use Rattle.std.proofs.Common.{◌≡◌, inl, ℕ, List, [], ◌∷◌, ◌++◌, refl, sym, ap, ap₂, subst, ◌∙◌}
-use Rattle.compound_node.specs.Nodes.{piece}
+use Rattle.moments.specs.declared.Rec.{Rec}
+use Rattle.compound_node.specs.Nodes.{piece, NodeView}
 use Rattle.compound_node.specs.declared.entries.Entry.{Entry}
 use Rattle.compound_node.specs.declared.entries.Entry.TheVariants.{Node, Leaf}
 use Rattle.pieces.specs.Piece.{Place, Fork}
@@ -11,7 +12,7 @@ use Rattle.tries.specs.Place.{with_page}
 use Rattle.tries.specs.Content.{Item}
 use Rattle.moments.specs.declared.Rec.TheVariants.{Node as a_node, Leaf as a_leaf}
 use Rattle.moments.specs.Heap.{NodeWords}
-use Rattle.rowex_walks.specs.Rise.{IsEntryFor, alone, in_node, IsNewPage, IsRise, body, entry, grows, pulls, copies, halves, stays_whole, wraps, entry_news, news_of, gone_of}
+use Rattle.rowex_walks.specs.Rise.{IsEntryFor, alone, in_node, IsNewPage, IsRise, body, entry, grows, pulls, copies, halves, stays_whole, wraps, entry_news, news_of, gone_of, Side}
 use Rattle.rowex_core.specs.declared.known.Holding.TheVariants.{Ready}
 use Rattle.rowex_core.specs.declared.known.Known.{Known}
 use Rattle.rowex_core.specs.declared.known.Locked.{Locked}
@@ -23,15 +24,14 @@ use Rattle.moments.proofs.Members.{of_left, of_right}
 use Rattle.rowex_walks.proofs.Rising.{fork_parts}
 use Rattle.rowex_walks.proofs.Upwards.{upper_goes_on}
 use Rattle.rowex_rights.proofs.Bounding.{bound_of, tree_risen, bound_risen}
-use Rattle.rowex_rights.specs.Sure.{LeafThereStays}
 use Rattle.rowex_rights.proofs.Sure.{reach_since}
 use Rattle.rowex_rights.proofs.Stages.{node_fixed, locked_node, upper_in, made_node}
 use Rattle.tries.specs.Affected.{page_affected, page_forked, page_grown, IsPartPage, IsFirstBelow}
 use Rattle.moments.specs.State.{IsFrom}
 use Rattle.rowex_walks.specs.Writer.{IsWayBelow, IsFoundBelow}
 use Rattle.rowex_table.specs.Made.{IsLater, Made, held_as, recs_of}
-use Rattle.rowex_rights.specs.Stages.{IsStage}
-use Rattle.rowex_rights.specs.Rises.{AboveGoesOn, HasFoundBelow, IsSide, RiseGrows, RiseWhole, RisenStays, RisesCopied, RisesHalved, RisesPulled, RisesWrapped, anew, of_leaf, of_view, one}
+use Rattle.rowex_rights.specs.Stages.{IsStage, HasRisen, HasLeaf, IsLockedAbove}
+use Rattle.rowex_rights.specs.Rises.{AboveGoesOn, HasFoundBelow, IsSide, anew, of_leaf, of_view, one, IsAnew}
 use Rattle.rowex_rights.proofs.Loops.{recs_append}
 use Rattle.rowex_table.proofs.ActsBefore.{recalls_before}
 
@@ -46,7 +46,9 @@ stage_earlier layout k j later held news c s = record {
   made = λ m i. subst (λ q. IsOwned q c (held_as Ready m)) later.pass (s.made m i);
 }
 
-pub risen_stays : RisenStays
+-- What has risen stays, while the pass goes on.
+pub risen_stays : (layout : Layout) (k j : Known) → IsLater k j → (held : List Locked) (news : List Made) (gone : List Rec) (since : ℕ) (x : Item) (p : ℕ) (l : Key) →
+    (d : Side) (n : ℕ) (r : Page) → HasRisen layout k held news since x p l d n r gone → HasRisen layout j held news since x p l d n r gone
 risen_stays layout k j later held news gone since x p l d n r risen c stage =
     subst (λ q. (i : IsRise (bare c) q since x p l d n r) × (news_of i ≡ recs_of news) × (gone_of i ≡ gone)) (sym later.pass)
     (risen c (stage_earlier layout k j later held news c stage))
@@ -57,7 +59,11 @@ fewer layout k held more news c s = record { lawful = s.lawful; layout_is = s.la
 
 -- One level more
 
-pub rises_copied : RisesCopied
+-- A body in a node of its own: a copy of the old one, which goes.
+pub rises_copied : (layout : Layout) (k : Known) (held : List Locked) (news : List Made) (gone : List Rec) (since : ℕ) (x : Item) (p : ℕ) (l : Key) →
+    HasLeaf news x → (n : ℕ) (words : List ℕ) → IsOf (record { node = n; words = words }) held → (m : ℕ) (view : NodeView) → IsAnew view →
+    HasRisen layout k held news since x p l body n (piece view) gone →
+    HasRisen layout k held (of_view m view ∷ news) since x p l entry n (Place (Node m view.height)) (a_node n ∷ gone)
 rises_copied layout k held news gone since x p l leaf n words at m view may risen c stage =
     let less = fewer layout k held (of_view m view ∷ []) news c stage in
     let (i, new, old) = risen c less in
@@ -65,7 +71,11 @@ rises_copied layout k held news gone since x p l leaf n words at m view may rise
     let page = made_node layout k held (of_view m view ∷ news) c stage m view (inl refl) may.0 bound in
     (copies n (piece view) m (node_fixed view) i page, ap (λ z. a_node m ∷ z) new, ap (λ z. a_node n ∷ z) old)
 
-pub rises_wrapped : RisesWrapped
+-- What comes in the place of an entry, in a node of its own: an intermediate node, or a new root.
+pub rises_wrapped : (layout : Layout) (k : Known) (held : List Locked) (news : List Made) (gone : List Rec) (since : ℕ) (x : Item) (p : ℕ) (l : Key) →
+    HasLeaf news x → (n : ℕ) (words : List ℕ) → IsOf (record { node = n; words = words }) held → (m : ℕ) (view : NodeView) → IsAnew view →
+    HasRisen layout k held news since x p l entry n (piece view) gone →
+    HasRisen layout k held (of_view m view ∷ news) since x p l entry n (Place (Node m view.height)) gone
 rises_wrapped layout k held news gone since x p l leaf n words at m view may risen c stage =
     let less = fewer layout k held (of_view m view ∷ []) news c stage in
     let (i, new, old) = risen c less in
@@ -73,7 +83,10 @@ rises_wrapped layout k held news gone since x p l leaf n words at m view may ris
     let page = made_node layout k held (of_view m view ∷ news) c stage m view (inl refl) may.0 bound in
     (wraps n (piece view) m (node_fixed view) i page, ap (λ z. a_node m ∷ z) new, old)
 
-pub rises_pulled : RisesPulled
+-- One level up, with no new record: the node above has what comes in the place of its entry.
+pub rises_pulled : (layout : Layout) (k : Known) (held : List Locked) (news : List Made) (gone : List Rec) (since : ℕ) (x : Item) (p : ℕ) (l : Key) →
+    (o n : ℕ) (r : Page) (a : IsLockedAbove held x.key p o n) →
+    HasRisen layout k held news since x p l entry n r gone → HasRisen layout k held news since x p l body o (with_page x.key r (node_words_of a.upper).page) gone
 rises_pulled layout k held news gone since x p l o n r a risen c stage =
     let (i, new, old) = risen c stage in
     let u = upper_in layout k held news c stage x.key p o n a in
@@ -87,7 +100,12 @@ side_in layout k held news c stage x e us (one d is) has s pg trie built = (alon
 side_in layout k held news c stage x e us (anew m view may is) has s pg trie built =
     (in_node m (node_fixed view) (subst (IsNewPage (bare c) k.pass m (node_fixed view)) is (made_node layout k held news c stage m view (has (of_view m view) (inl refl)) may.0 (bound_of view s may (is ∙ sym pg) trie built))), refl)
 
-pub rises_halved : RisesHalved
+-- A body cut at its first fork, of which each side has one entry; the upper side is made first.
+pub rises_halved : (layout : Layout) (k : Known) (held : List Locked) (news : List Made) (gone : List Rec) (since : ℕ) (x : Item) (p : ℕ) (l : Key) →
+    HasLeaf news x → (n : ℕ) (words : List ℕ) → IsOf (record { node = n; words = words }) held →
+    (f : ℕ) (a b : Page) (d e : Entry) (us vs : List Made) → IsSide a d us → IsSide b e vs →
+    HasRisen layout k held news since x p l body n (Fork f a b) gone →
+    HasRisen layout k held (us ++ (vs ++ news)) since x p l entry n (Fork f (Place d) (Place e)) (a_node n ∷ gone)
 rises_halved layout k held news gone since x p l leaf n words at f a b d e us vs lower upper risen c stage =
     let less = fewer layout k held vs news c (fewer layout k held us (vs ++ news) c stage) in
     let (i, new, old) = risen c less in
@@ -118,13 +136,20 @@ found_in layout k held news since x p l n words f c stage =
       same,
     )
 
-pub rise_grows : RiseGrows
+-- The lowest node gets the new leaf,
+pub rise_grows : (layout : Layout) (k : Known) (held : List Locked) (since : ℕ) (x : Item) (p : ℕ) (l : Key) (n : ℕ) (words : List ℕ) →
+    HasFoundBelow k held since x p l n words → IsPartPage (page_affected p x.key (node_words_of words).page) →
+    HasRisen layout k held (of_leaf x ∷ []) since x p l body n (page_grown p x.key (Leaf x.number) (node_words_of words).page) []
 rise_grows layout k held since x p l n words f part c stage =
     let (found, same) = found_in layout k held (of_leaf x ∷ []) since x p l n words f c stage in
     subst (λ (z : NodeWords). (i : IsRise (bare c) k.pass since x p l body n (page_grown p x.key (Leaf x.number) z.page)) × (news_of i ≡ a_leaf x.number ∷ []) × (gone_of i ≡ [])) same
     (grows n found (subst (λ (z : NodeWords). IsPartPage (page_affected p x.key z.page)) (sym same) part), refl, refl)
 
-pub rise_whole : RiseWhole
+-- or stays whole, and the new leaf stands beside it.
+pub rise_whole : (layout : Layout) (k : Known) (held : List Locked) (since : ℕ) (x : Item) (p : ℕ) (l : Key) (n : ℕ) (words : List ℕ) →
+    HasFoundBelow k held since x p l n words → IsFrom p (node_words_of words).page →
+    let height = (node_words_of words).fixed.height in
+    HasRisen layout k held (of_leaf x ∷ []) since x p l entry n (page_forked (bit x.key p) p (Leaf x.number) (Place (Node n height))) []
 rise_whole layout k held since x p l n words f first c stage =
     let (found, same) = found_in layout k held (of_leaf x ∷ []) since x p l n words f c stage in
     subst (λ (z : NodeWords). (i : IsRise (bare c) k.pass since x p l entry n (page_forked (bit x.key p) p (Leaf x.number) (Place (Node n z.fixed.height)))) × (news_of i ≡ a_leaf x.number ∷ []) × (gone_of i ≡ [])) same
@@ -137,6 +162,3 @@ above_goes_on layout k held news c stage key p o n a =
     let u = upper_in layout k held news c stage key p o n a in
     let (on, upper) = locked_node layout k held news c stage o a.upper a.has_upper in
     subst (λ (z : NodeWords). IsFirstBelow p z.page) upper (upper_goes_on (bare c) k.pass stage.lawful.core.state key p o n u)
-
-pub leaf_there_stays : LeafThereStays
-leaf_there_stays layout k j held news n key value later there c stage = there c (stage_earlier layout k j later held news c stage)

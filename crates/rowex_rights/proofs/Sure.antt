@@ -1,5 +1,15 @@
 -- What a pass is sure of.
+use Rattle.std.specs.Prelude.{List}
 use Rattle.std.proofs.Common.{◌≡◌, ℕ, ◌+◌, length, refl, ap, ◌∙◌, arith, length-append}
+use Rattle.rowex_core.specs.declared.known.Locked.{Locked}
+use Rattle.rowex_rights.specs.Rises.{HasFoundBelow}
+use Rattle.tries.specs.Content.{Item}
+use Rattle.tries.specs.Keys.{Key}
+use Rattle.compound_node.specs.declared.entries.Entry.{Entry}
+use Rattle.rowex_walks.specs.Ways.{IsOnWay, IsWayFrom}
+use Rattle.tries.specs.Tree.{Page, first_position}
+use Rattle.compound_node.specs.declared.entries.Entry.TheVariants.{Node, Leaf}
+use Rattle.rowex_walks.specs.Scan.{IsSeen, IsShaped, IsPlaced, IsRead}
 use Rattle.moments.specs.State.{Past, IsReach, IsSteady}
 use Rattle.moments.specs.Core.{pin_moment}
 use Rattle.moments.specs.Frames.{IsGrown}
@@ -12,7 +22,7 @@ use Rattle.rowex_core.specs.Cores.{Core, IsLawful}
 use Rattle.rowex_core.specs.Knowing.{Recalls, IsSince}
 use Rattle.rowex_table.specs.Made.{IsLater}
 use Rattle.rowex_rights.specs.Stages.{IsSure}
-use Rattle.rowex_rights.specs.Sure.{DescentBegins, DescentGoesOn, DescentEnds, DescentFinds, FoundStays}
+use Rattle.rowex_rights.specs.Sure.{DescentFinds}
 use Rattle.rowex_core.proofs.Loading.{view}
 use Rattle.rowex_table.proofs.ActsBefore.{recalls_before}
 
@@ -37,13 +47,19 @@ seen_is_sure k P stable seen c law recalls =
 pub sure_stays : (k j : Known) (P : Past → Type 0) → IsLater k j → IsSure k P → IsSure j P
 sure_stays k j P later sure c law recalls = sure c law (recalls_before later recalls)
 
-pub descent_begins : DescentBegins
+-- A pass's descent below its lock begins at a node to which it was led,
+pub descent_begins : (k : Known) (m a h r : ℕ) (x : Page) → IsSince k m → IsSure k (λ s. IsSeen s m (Node a h)) → IsSure k (λ s. IsShaped s m a x) → first_position x ≡ r →
+    IsSure k (λ s. IsOnWay s m r a (Node a h))
 descent_begins k m a h r x since led shaped first c law recalls = way_begins c.past m (steady_since k m since c law recalls) a h r x (led c law recalls) (shaped c law recalls) first
 
-pub descent_goes_on : DescentGoesOn
+-- goes on by each entry that it has read,
+pub descent_goes_on : (k : Known) (m r a n h j : ℕ) (e : Entry) → IsSince k m → IsSure k (λ s. IsOnWay s m r a (Node n h)) → IsSure k (λ s. IsPlaced s m n j e) →
+    IsSure k (λ s. IsOnWay s m r a e)
 descent_goes_on k m r a n h j e since way placed c law recalls = way_goes_on c.past m (steady_since k m since c law recalls) r a n h j e (way c law recalls) (placed c law recalls)
 
-pub descent_ends : DescentEnds
+-- and ends at a leaf that it has read.
+pub descent_ends : (k : Known) (m r a h j : ℕ) (l : Key) (v : ℕ) → IsSince k m → IsSure k (λ s. IsOnWay s m r a (Leaf j)) → IsSure k (λ s. IsRead s m j l v) →
+    IsSure k (λ s. IsWayFrom s m l (Node a h))
 descent_ends k m r a h j l v since way read c law recalls = way_ends c.past m (steady_since k m since c law recalls) r a h j l v (way c law recalls) (read c law recalls)
 
 pub descent_finds : DescentFinds
@@ -56,7 +72,9 @@ descent_finds k held since x p l n words spelled pinned locked way agree differ 
   differ = differ;
 }
 
-pub found_stays : FoundStays
+-- What it has found stays found, while the pass goes on.
+pub found_stays : (k j : Known) (held : List Locked) (since : ℕ) (x : Item) (p : ℕ) (l : Key) (n : ℕ) (words : List ℕ) → IsLater k j →
+    HasFoundBelow k held since x p l n words → HasFoundBelow j held since x p l n words
 found_stays k j held since x p l n words later f = record {
   leaf = f.leaf;
   pinned = (f.pinned.0, later.pin ∙ f.pinned.1, f.pinned.2);

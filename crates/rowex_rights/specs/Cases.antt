@@ -14,7 +14,6 @@ use Rattle.tries.specs.Content.{Item, item}
 use Rattle.tries.specs.Affected.{page_forked}
 use Rattle.moments.specs.declared.Rec.TheVariants.{Node as a_node, Leaf as a_leaf}
 use Rattle.moments.specs.Trades.{IsOf}
-use Rattle.rowex_walks.specs.Scan.{IsRead}
 use Rattle.rowex_walks.specs.Writer.{added_change, replaced_change, removed_change}
 use Rattle.rowex_core.specs.declared.event.Spot.{Spot}
 use Rattle.rowex_core.specs.declared.event.Spot.TheVariants.{Root}
@@ -23,20 +22,13 @@ use Rattle.rowex_core.specs.declared.known.Locked.{Locked}
 use Rattle.rowex_core.specs.Reading.{node_words_of}
 use Rattle.rowex_table.specs.Made.{Made}
 use Rattle.rowex_table.specs.Publishes.{Publishes}
-use Rattle.rowex_rights.specs.Stages.{IsSure, HasReady, IsLeafThere}
+use Rattle.rowex_rights.specs.Stages.{HasReady, IsLeafThere}
 use Rattle.rowex_rights.specs.Spots.{HoldsAt, FitsAt, IsAlone}
-use Rattle.rowex_core.specs.Knowing.{IsSince}
 use Rattle.rowex_rights.specs.Rises.{of_view, of_leaf, IsAnew, IsSide}
 
 -- The entry has a word, which is this one.
 abbrev pub IsWord : Entry → ℕ → Type 0
 IsWord e w = HasEntryWord (Some e) × (entry_word (Some e) ≡ w)
-
--- A leaf that a pinned pass has read keeps its key and value.
-abbrev pub LeafStays : Type 0
-LeafStays =
-    (layout : Layout) (k : Known) (held : List Locked) (news : List Made) (since j : ℕ) (key : Key) (value : ℕ) → IsSince k since →
-    IsSure k (λ s. IsRead s since j key value) → IsLeafThere layout k held news j key value
 
 -- The first key: where the root is empty, the new leaf.
 abbrev pub MayAddFirstKey : Type 0
