@@ -70,7 +70,7 @@ module _ {G : Type 0} {table : TableView} {becomes : G → Event → G → Type 
   under_pin p is = ⊎_elim
       (λ (same : c.0.known.fresh ≡ b.0.known.fresh). let step = ap (λ (z : Fresh). z.step) same in let late = loaded.from in absurd (omega (arith, step, late, before)))
       (λ (new : c.0.known.fresh.pinned ≡ moment_of b.0.known.pin). new ∙ ap moment_of is)
-      (runs_pinned table becomes run.acts b c run.pinned run.steps)
+      (runs_pinned table becomes run.acts b c run.each run.steps)
 
   pub overtaken : OthersGoOn b.0.known.pass b.0.known.front c.0.known.front → AreByPasses table.layout c.0.known.front → c.0.known.pass ≡ b.0.known.pass → (m : ℕ) → IsSince b.0.known m → m < length c.0.known.front →
       IsOvertaken table.layout (pass_of b.0) (pass_of c.0)

@@ -275,7 +275,7 @@ module _ {G : Type 0} (table : TableView) (becomes : G → Event → G → Type 
 
   -- the steps of an attempt, with the locks that they try
   pub attempt_run : (a b : SeatView × G) (h : HasAttempted table becomes a b) → HasTried table becomes (targets_of h.0) a b
-  attempt_run a b (acts, steps, run) = record { acts = acts; pinned = steps.pinned; tried_are = refl; steps = run }
+  attempt_run a b (acts, steps, run) = record { acts = acts; each = steps.pinned; tried_are = refl; steps = run }
 
   -- the call is over
   pub ended_once : {said : Known → List Note} (r : Result Reply TryFault) (a b : SeatView × G) → is_full r ≡ false → HasEnded table becomes (IsAttempt table.layout) said a b → HasEnded table becomes (AreTries table.layout r) said a b

@@ -312,7 +312,7 @@ module _ {G : Type 0} (table : TableView) (becomes : G → Event → G → Type 
   notes_stay (act ∷ acts) a b (m, s, more) = notes_stay acts m b more ∙ (act_leaves table.layout a.0.known m.0.known act s.event).notes
 
   pub run_pinned : {locks : List Target} (a b : SeatView × G) → HasTried table becomes locks a b → IsSome a.0.known.pin → IsSome b.0.known.pin
-  run_pinned a b run pinned = subst IsSome (sym (pin_stays run.acts a b run.pinned run.steps)) pinned
+  run_pinned a b run pinned = subst IsSome (sym (pin_stays run.acts a b run.each run.steps)) pinned
 
   pub run_same : {locks : List Target} (a b : SeatView × G) → HasTried table becomes locks a b → IsSame a.0 b.0
   run_same a b run = runs_same table becomes run.acts a b run.steps

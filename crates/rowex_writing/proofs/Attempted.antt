@@ -84,7 +84,7 @@ module _ {G : Type 0} (table : TableView) (becomes : G → Event → G → Type 
     rest = rest;
     acts_are = refl;
     searches = searches;
-    pinned = All-append LeavesPin search rest (All-weaker IsOfSearch LeavesPin search_pin search searches) tried.1.pinned;
+    pinned = All-append LeavesPin search rest (All-weaker IsOfSearch LeavesPin search_pin search searches) tried.1.each;
     once = once_after search rest none tried.2;
     depth = omega (arith, nodes_are, searched.low);
     locks = omega (arith, targets_are, most);

@@ -42,12 +42,12 @@ module _ {G : Type 0} (table : TableView) (becomes : G → Event → G → Type 
 
   -- ---- runs
   pub reads_run : (e n : ℕ) (a b : SeatView × G) → Reads table becomes e n a b → HasRun table becomes a b
-  reads_run e n a b r = record { acts = r.acts; pinned = All-weaker IsBelowRoot LeavesPin below_pin r.acts r.below; tried_are = quiet_tries_none r.acts (All-weaker IsBelowRoot IsQuiet below_quiet r.acts r.below); steps = r.steps }
+  reads_run e n a b r = record { acts = r.acts; each = All-weaker IsBelowRoot LeavesPin below_pin r.acts r.below; tried_are = quiet_tries_none r.acts (All-weaker IsBelowRoot IsQuiet below_quiet r.acts r.below); steps = r.steps }
 
   pub looks_run : (e n : ℕ) (a b : SeatView × G) → Looks table becomes e n a b → HasRun table becomes a b
   looks_run e n a b l = record {
     acts = LoadRef Root l.root.0 ∷ l.rest.acts;
-    pinned = All-cons LeavesPin (LoadRef Root l.root.0) l.rest.acts tt (All-weaker IsBelowRoot LeavesPin below_pin l.rest.acts l.rest.below);
+    each = All-cons LeavesPin (LoadRef Root l.root.0) l.rest.acts tt (All-weaker IsBelowRoot LeavesPin below_pin l.rest.acts l.rest.below);
     tried_are = quiet_tries_none l.rest.acts (All-weaker IsBelowRoot IsQuiet below_quiet l.rest.acts l.rest.below);
     steps = (l.at, l.root.1, l.rest.steps);
   }

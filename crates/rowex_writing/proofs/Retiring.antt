@@ -58,7 +58,7 @@ none_tried (r ∷ recs) = none_tried recs
 
 module _ {G : Type 0} (table : TableView) (becomes : G → Event → G → Type 0) (recs : List Rec) (a b : SeatView × G) (g : GivesUpAll table becomes recs a b) where
   pub given_works : Works table becomes a b
-  given_works = record { acts = map (λ r. Release r) recs; plain = all_plain recs; tried_are = none_tried recs; steps = g.does.steps }
+  given_works = record { acts = map (λ r. Release r) recs; each = all_plain recs; tried_are = none_tried recs; steps = g.does.steps }
 
   pub given_locks : (ns : List ℕ) → HasJustLocked a.0.known ns → HasJustLocked b.0.known ns
   given_locks ns h = locked_same a.0.known b.0.known ns (ap (λ (z : Known). z.locks) g.does.rest) h

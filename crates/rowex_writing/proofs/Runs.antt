@@ -1,8 +1,7 @@
 -- Steps of a pass, one after the other: what they leave as it was, and what only grows.
-use Rattle.std.proofs.Common.{◌≡◌, ◌≤◌, ℕ, List, length, [], ◌∷◌, ◌++◌, refl, sym, ap, subst, ◌∙◌, arith, ◌<◌, ◌+◌}
+use Rattle.std.proofs.Common.{◌≡◌, ◌≤◌, ℕ, List, [], ◌∷◌, ◌++◌, refl, sym, ap, subst, ◌∙◌, arith, ◌<◌, ◌+◌}
 use Rattle.std.specs.Prelude.{All}
-use Rattle.std.proofs.lemmas.List.{append-nil}
-use Rattle.std.proofs.lemmas.List.Elements.{All-append, All-cons, All-head, All-tail, All-weaker}
+use Rattle.std.proofs.lemmas.List.Elements.{All-head, All-tail, All-weaker}
 use Rattle.finite_map.specs.Fronts.{BeginsWith}
 use Rattle.finite_map.proofs.Growth.{begins_itself, begins_on, begins_push}
 use Rattle.record_words.specs.declared.layout.Layout.{Layout}
@@ -20,12 +19,11 @@ use Rattle.rowex_table.specs.Runs.{Runs, Steps, silent}
 use Rattle.rowex_table.specs.Seats.{TableView, SeatView}
 use Rattle.rowex_table.specs.Stays.{KeepsRecall, LeavesFresh, LeavesFront, LeavesPin}
 use Rattle.rowex_table.proofs.ActsLeave.{act_leaves}
-use Rattle.rowex_table.proofs.Running.{runs_one, runs_append}
 use Rattle.rowex_writing.specs.Attempts.{HasLoadedRoot}
 use Rattle.rowex_writing.specs.Changes.{HasRun, HasTried, HasTriedOnce}
 use Rattle.rowex_writing.specs.Going.{IsQuiet, WorksOn}
 use Rattle.rowex_writing.specs.Locks.{IsPlain, Tries, TriesOnce, Works, targets_of}
-use Rattle.rowex_writing.proofs.Tried.{once_after, once_before, quiet_tries_none, targets_append}
+use Rattle.rowex_writing.proofs.Tried.{once_then, then_once, quiet_tries_none, tries_more, tries_none, tries_one}
 
 -- ---- kinds of steps
 pub plain_recalls : (act : Act) → IsPlain act → KeepsRecall act
@@ -139,48 +137,37 @@ module _ {G : Type 0} (table : TableView) (becomes : G → Event → G → Type 
 
   -- ---- as runs of a call
   pub run_none : (a : SeatView × G) → HasRun table becomes a a
-  run_none a = record { acts = []; pinned = λ i d low. absurd (omega arith); tried_are = refl; steps = refl }
+  run_none a = tries_none table becomes a
 
   pub run_one : (act : Act) (a b : SeatView × G) → LeavesPin act → Steps table becomes act a b → HasTried table becomes (targets_of (act ∷ [])) a b
-  run_one act a b leaves s = record { acts = act ∷ []; pinned = All-cons LeavesPin act [] leaves (λ i d low. absurd (omega arith)); tried_are = refl; steps = runs_one table becomes act a b s }
-
-  tried_trans : {s t : List Target} (a m b : SeatView × G) → HasTried table becomes s a m → HasTried table becomes t m b → HasTried table becomes (s ++ t) a b
-  tried_trans {s} {t} a m b first second = record {
-    acts = first.acts ++ second.acts;
-    pinned = All-append LeavesPin first.acts second.acts first.pinned second.pinned;
-    tried_are = targets_append first.acts second.acts ∙ (ap (λ z. z ++ targets_of second.acts) first.tried_are ∙ ap (λ z. s ++ z) second.tried_are);
-    steps = runs_append table becomes first.acts second.acts a m b first.steps second.steps;
-  }
+  run_one act a b leaves s = tries_one table becomes act a b leaves s
 
   pub runs_trans : (a m b : SeatView × G) → HasRun table becomes a m → HasRun table becomes m b → HasRun table becomes a b
-  runs_trans a m b first second = tried_trans {s = []} {t = []} a m b first second
+  runs_trans a m b first second = tries_more table becomes {s = []} {t = []} a m b first second
 
   -- each lock is tried once at most, where none is tried after it or before
   pub once_run : {locks : ℕ} (a m b : SeatView × G) → HasTriedOnce table becomes locks a m → HasRun table becomes m b → HasTriedOnce table becomes locks a b
-  unfolding tried_trans
-  once_run a m b (tried, first, once, count) second =
-      (tried ++ [], tried_trans a m b first second, once_before first.acts second.acts once second.tried_are, ap length (append-nil tried) ∙ count)
+  once_run a m b first second = once_then table becomes a m b first second
 
   pub run_once : {locks : ℕ} (a m b : SeatView × G) → HasRun table becomes a m → HasTriedOnce table becomes locks m b → HasTriedOnce table becomes locks a b
-  unfolding tried_trans
-  run_once a m b first (tried, second, once, count) = (tried, tried_trans {s = []} a m b first second, once_after first.acts second.acts first.tried_are once, count)
+  run_once a m b first second = then_once table becomes a m b first second
 
   pub none_once : (a b : SeatView × G) → HasRun table becomes a b → HasTriedOnce table becomes 0 a b
   none_once a b r = ([], r, subst AreApart (sym r.tried_are) tt, refl)
 
   pub works_run : {tried : List Target} (a b : SeatView × G) → Tries table becomes tried a b → HasTried table becomes tried a b
-  works_run a b w = record { acts = w.acts; pinned = All-weaker IsPlain LeavesPin (λ act t. recalls_pin act (plain_recalls act t)) w.acts w.plain; tried_are = w.tried_are; steps = w.steps }
+  works_run a b w = record { acts = w.acts; each = All-weaker IsPlain LeavesPin (λ act t. recalls_pin act (plain_recalls act t)) w.acts w.each; tried_are = w.tried_are; steps = w.steps }
 
   pub tries_once : {locks : ℕ} (a b : SeatView × G) → TriesOnce table becomes locks a b → HasTriedOnce table becomes locks a b
   unfolding works_run
   tries_once a b (tried, run, once, count) = (tried, works_run a b run, once, count)
 
   pub goes_run : (a b : SeatView × G) → WorksOn table becomes a b → HasRun table becomes a b
-  goes_run a b w = record { acts = w.acts; pinned = All-weaker IsQuiet LeavesPin (λ act t. recalls_pin act (quiet_recalls act t)) w.acts w.plain; tried_are = quiet_tries_none w.acts w.plain; steps = w.steps }
+  goes_run a b w = record { acts = w.acts; each = All-weaker IsQuiet LeavesPin (λ act t. recalls_pin act (quiet_recalls act t)) w.acts w.plain; tried_are = quiet_tries_none w.acts w.plain; steps = w.steps }
 
   -- what they leave
   pub works_fresh : (a b : SeatView × G) → Works table becomes a b → b.0.known.fresh ≡ a.0.known.fresh
-  works_fresh a b w = runs_fresh w.acts a b (All-weaker IsPlain LeavesFresh plain_fresh w.acts w.plain) w.steps
+  works_fresh a b w = runs_fresh w.acts a b (All-weaker IsPlain LeavesFresh plain_fresh w.acts w.each) w.steps
 
   pub run_count : {tried : List Target} (a b : SeatView × G) → HasTried table becomes tried a b → a.0.known.steps ≤ b.0.known.steps
   run_count a b r = runs_count r.acts a b r.steps

@@ -2,7 +2,7 @@
 use Rattle.std.proofs.Common.{◌≡◌, inl, inr, ℕ, zero, suc, ◌+◌, ◌-◌, ◌<◌, ◌≤◌, List, [], ◌∷◌, ◌++◌, length, get_or, take, drop, map, refl, sym, ap, subst, ◌∙◌, arith}
 use Rattle.std.specs.Prelude.{All, slice_range}
 use Rattle.std.proofs.lemmas.List.{append-nil, length-append}
-use Rattle.std.proofs.lemmas.List.Elements.{All-append, All-head, All-tail}
+use Rattle.std.proofs.lemmas.List.Elements.{All-append, All-cons, All-head, All-nil, All-tail}
 use Rattle.insert_cases.specs.declared.choice.Step.{Step}
 use Rattle.moments.specs.Trades.{AreApart, IsOf}
 use Rattle.moments.proofs.Members.{of_append, of_map}
@@ -11,10 +11,11 @@ use Rattle.rowex_core.specs.declared.event.Act.TheVariants.{Lock}
 use Rattle.rowex_core.specs.declared.event.Event.{Event}
 use Rattle.rowex_core.specs.declared.event.Target.{Target}
 use Rattle.rowex_core.specs.declared.event.Target.TheVariants.{Anchor, Node as NodeTarget}
+use Rattle.rowex_table.specs.Runs.{Steps}
 use Rattle.rowex_table.specs.Seats.{TableView, SeatView}
-use Rattle.rowex_table.proofs.Running.{runs_append}
+use Rattle.rowex_table.proofs.Running.{runs_append, runs_one}
 use Rattle.rowex_writing.specs.Going.{IsQuiet}
-use Rattle.rowex_writing.specs.Locks.{IsPlain, Tries, TriesLocksOnce, TriesOnce, Works, numbers_of, targets_of}
+use Rattle.rowex_writing.specs.Locks.{Tries, TriesBy, TriesOnceBy, TriesLocksOnce, TriesOnce, numbers_of, targets_of}
 use Rattle.rowex_writing.proofs.Spans.{slice_more}
 
 -- ---- of two lists
@@ -73,15 +74,32 @@ same_number n m e = ap number_of e
     number_of (NodeTarget i) = i
     number_of Anchor = 0
 
-module _ {G : Type 0} (table : TableView) (becomes : G → Event → G → Type 0) where
-  pub tries_more : {s t : List Target} (a m b : SeatView × G) → Tries table becomes s a m → Tries table becomes t m b → Tries table becomes (s ++ t) a b
+module _ {G : Type 0} {Is : Act → Type 0} (table : TableView) (becomes : G → Event → G → Type 0) where
+  pub tries_none : (a : SeatView × G) → TriesBy Is table becomes [] a a
+  tries_none a = record { acts = []; each = All-nil Is; tried_are = refl; steps = refl }
+
+  pub tries_one : (act : Act) (a b : SeatView × G) → Is act → Steps table becomes act a b → TriesBy Is table becomes (targets_of (act ∷ [])) a b
+  tries_one act a b is s = record { acts = act ∷ []; each = All-cons Is act [] is (All-nil Is); tried_are = refl; steps = runs_one table becomes act a b s }
+
+  pub tries_more : {s t : List Target} (a m b : SeatView × G) → TriesBy Is table becomes s a m → TriesBy Is table becomes t m b → TriesBy Is table becomes (s ++ t) a b
   tries_more {s} {t} a m b first second = record {
     acts = first.acts ++ second.acts;
-    plain = All-append IsPlain first.acts second.acts first.plain second.plain;
+    each = All-append Is first.acts second.acts first.each second.each;
     tried_are = targets_append first.acts second.acts ∙ (ap (λ z. z ++ targets_of second.acts) first.tried_are ∙ ap (λ z. s ++ z) second.tried_are);
     steps = runs_append table becomes first.acts second.acts a m b first.steps second.steps;
   }
 
+  -- each lock is tried once at most, where none is tried after it
+  pub once_then : {locks : ℕ} (a m b : SeatView × G) → TriesOnceBy Is table becomes locks a m → TriesBy Is table becomes [] m b → TriesOnceBy Is table becomes locks a b
+  unfolding tries_more
+  once_then a m b (tried, run, once, count) works = (tried ++ [], tries_more a m b run works, once_before run.acts works.acts once works.tried_are, ap length (append-nil tried) ∙ count)
+
+  -- or before it
+  pub then_once : {locks : ℕ} (a m b : SeatView × G) → TriesBy Is table becomes [] a m → TriesOnceBy Is table becomes locks m b → TriesOnceBy Is table becomes locks a b
+  unfolding tries_more
+  then_once a m b first (tried, run, once, count) = (tried, tries_more {s = []} a m b first run, once_after first.acts run.acts first.tried_are once, count)
+
+module _ {G : Type 0} (table : TableView) (becomes : G → Event → G → Type 0) where
   -- Each is tried once, and these are locks of these nodes.
   pub record TriesNodes (nodes : List ℕ) (a b : SeatView × G) : Type 0 where
     pub tried : List Target
@@ -91,7 +109,8 @@ module _ {G : Type 0} (table : TableView) (becomes : G → Event → G → Type 
     pub among : (t : Target) → IsOf t tried → IsOf t (map NodeTarget nodes)
 
   pub nodes_none : (a : SeatView × G) → TriesNodes [] a a
-  nodes_none a = record { tried = []; run = record { acts = []; plain = λ i d low. absurd (omega arith); tried_are = refl; steps = refl }; once = tt; count = refl; among = λ t i. i }
+  unfolding tries_none
+  nodes_none a = record { tried = []; run = tries_none table becomes a; once = tt; count = refl; among = λ t i. i }
 
   pub nodes_once : (ns : List ℕ) (a b : SeatView × G) → TriesNodes ns a b → TriesOnce table becomes (length ns) a b
   nodes_once ns a b h = (h.tried, h.run, h.once, h.count)
@@ -103,7 +122,7 @@ module _ {G : Type 0} (table : TableView) (becomes : G → Event → G → Type 
   -- of a node
   pub nodes_more : (n : ℕ) (ns : List ℕ) (a m b : SeatView × G) → (IsOf n ns → ⊥) → TriesNodes ns a m → Tries table becomes (NodeTarget n ∷ []) m b → TriesNodes (n ∷ ns) a b
   nodes_more n ns a m b new h lock =
-      let all = tries_more a m b h.run lock in
+      let all = tries_more table becomes a m b h.run lock in
       record { tried = h.tried ++ NodeTarget n ∷ []; run = all; once = subst AreApart (sym all.tried_are) (apart_more (NodeTarget n) h.tried a m h.run h.once none); count = omega (arith, length-append h.tried (NodeTarget n ∷ []), h.count); among = within }
     where
       none : IsOf (NodeTarget n) h.tried → ⊥
@@ -115,12 +134,7 @@ module _ {G : Type 0} (table : TableView) (becomes : G → Event → G → Type 
   -- of the anchor
   pub anchor_more : (ns : List ℕ) (a m b : SeatView × G) → TriesNodes ns a m → Tries table becomes (Anchor ∷ []) m b → TriesOnce table becomes (suc (length ns)) a b
   anchor_more ns a m b h lock =
-      let all = tries_more a m b h.run lock in (h.tried ++ Anchor ∷ [], all, subst AreApart (sym all.tried_are) (apart_more Anchor h.tried a m h.run h.once none), omega (arith, length-append h.tried (Anchor ∷ []), h.count))
+      let all = tries_more table becomes a m b h.run lock in (h.tried ++ Anchor ∷ [], all, subst AreApart (sym all.tried_are) (apart_more Anchor h.tried a m h.run h.once none), omega (arith, length-append h.tried (Anchor ∷ []), h.count))
     where
       none : IsOf Anchor h.tried → ⊥
       none i = let (x, there, e) = of_map NodeTarget Anchor ns (h.among Anchor i) in cc
-
-  -- and then none
-  pub once_then : {locks : ℕ} (a m b : SeatView × G) → TriesOnce table becomes locks a m → Works table becomes m b → TriesOnce table becomes locks a b
-  unfolding tries_more
-  once_then a m b (tried, run, once, count) works = (tried ++ [], tries_more a m b run works, once_before run.acts works.acts once works.tried_are, ap length (append-nil tried) ∙ count)

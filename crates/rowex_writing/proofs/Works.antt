@@ -18,7 +18,7 @@ use Rattle.rowex_core.specs.declared.known.Locked.{Locked}
 use Rattle.rowex_core.specs.declared.known.Owned.{Owned}
 use Rattle.rowex_core.specs.Cores.{Core, IsLawful}
 use Rattle.rowex_core.specs.Sharing.{fate_of}
-use Rattle.std.proofs.lemmas.List.Elements.{All-cons, All-head, All-tail, All-weaker}
+use Rattle.std.proofs.lemmas.List.Elements.{All-head, All-tail, All-weaker}
 use Rattle.record_words.specs.declared.state.Tag.TheVariants.{Live}
 use Rattle.record_words.specs.State.{state_word}
 use Rattle.record_words.specs.declared.layout.Layout.{Layout}
@@ -45,19 +45,19 @@ use Rattle.rowex_table.specs.Runs.{Runs, Steps, silent}
 use Rattle.rowex_table.specs.Seats.{TableView, SeatView, IsSeatOf}
 use Rattle.rowex_table.proofs.ActsBefore as before
 use Rattle.rowex_table.proofs.ActsLeave as leave
-use Rattle.rowex_table.proofs.Running.{runs_one, runs_same}
+use Rattle.rowex_table.proofs.Running.{runs_same}
 use Rattle.rowex_rights.specs.Stages.{IsSure}
 use Rattle.rowex_rights.proofs.Loops.{later_same, later_on}
 use Rattle.rowex_writing.proofs.Runs.{plain_recalls}
-use Rattle.rowex_writing.proofs.Tried.{tries_more}
+use Rattle.rowex_writing.proofs.Tried.{tries_none, tries_one, tries_more}
 use Rattle.rowex_writing.specs.Locks.{Tries, Works, IsPlain, IsTakenWord, LocksOne, LocksAnchor, IsRefusedLock, NoneFrom, HasMadeNoChange, targets_of}
 
 module _ {G : Type 0} (table : TableView) (becomes : G → Event → G → Type 0) where
   pub works_none : (a : SeatView × G) → Works table becomes a a
-  works_none a = record { acts = []; plain = λ i d low. absurd (omega arith); tried_are = refl; steps = refl }
+  works_none a = tries_none table becomes a
 
   pub works_one : (act : Act) (a b : SeatView × G) → IsPlain act → Steps table becomes act a b → Tries table becomes (targets_of (act ∷ [])) a b
-  works_one act a b plain s = record { acts = act ∷ []; plain = All-cons IsPlain act [] plain (λ i d low. absurd (omega arith)); tried_are = refl; steps = runs_one table becomes act a b s }
+  works_one act a b plain s = tries_one table becomes act a b plain s
 
   pub works_more : (a m b : SeatView × G) → Works table becomes a m → Works table becomes m b → Works table becomes a b
   works_more a m b first second = tries_more table becomes {s = []} {t = []} a m b first second
@@ -73,7 +73,7 @@ module _ {G : Type 0} (table : TableView) (becomes : G → Event → G → Type 
       (later_runs acts m b (All-tail KeepsRecall act acts plain) more)
 
   pub works_later : {tried : List Target} (a b : SeatView × G) → Tries table becomes tried a b → IsLater a.0.known b.0.known
-  works_later a b w = later_runs w.acts a b (All-weaker IsPlain KeepsRecall plain_recalls w.acts w.plain) w.steps
+  works_later a b w = later_runs w.acts a b (All-weaker IsPlain KeepsRecall plain_recalls w.acts w.each) w.steps
 
   count_runs : (acts : List Act) (a b : SeatView × G) → Runs table becomes acts a b → a.0.known.steps ≤ b.0.known.steps
   count_runs [] a b e = let z : b.0.known.steps ≡ a.0.known.steps = ap (λ (z : SeatView × G). z.0.known.steps) e in omega arith

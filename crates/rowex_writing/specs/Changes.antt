@@ -1,5 +1,5 @@
 -- What a call that changes the map knows under its locks, and what its change leaves.
-use Rattle.std.specs.Prelude.{◌≡◌, ℕ, ◌+◌, ◌<◌, ◌≤◌, List, [], ◌∷◌, ◌++◌, slice_get, length, All, Option, Some, None}
+use Rattle.std.specs.Prelude.{◌≡◌, ℕ, ◌+◌, ◌<◌, ◌≤◌, List, [], ◌∷◌, ◌++◌, slice_get, length, Option, Some, None}
 use Rattle.finite_map.specs.declared.Change.{Change}
 use Rattle.finite_map.specs.declared.Kind.TheVariants.{Added, Replaced, Removed}
 use Rattle.finite_map.specs.Fronts.{BeginsWith, OthersGoOn, map_of, Fits}
@@ -13,7 +13,6 @@ use Rattle.tries.specs.Tree.{Page}
 use Rattle.moments.specs.declared.Rec.{Rec}
 use Rattle.record_words.specs.Leaf.{words_for}
 use Rattle.moments.specs.declared.Rec.TheVariants.{Node as a_node}
-use Rattle.rowex_core.specs.declared.event.Act.{Act}
 use Rattle.rowex_core.specs.declared.event.Event.{Event}
 use Rattle.rowex_core.specs.declared.event.Spot.{Spot}
 use Rattle.rowex_core.specs.declared.event.Target.{Target}
@@ -22,7 +21,6 @@ use Rattle.rowex_core.specs.Reading.{node_words_of}
 use Rattle.rowex_walks.specs.Scan.{IsShaped}
 use Rattle.rowex_table.specs.Made.{Made, IsLater}
 use Rattle.rowex_table.specs.Publishes.{Publishes}
-use Rattle.rowex_table.specs.Runs.{Runs}
 use Rattle.rowex_table.specs.Seats.{TableView, SeatView, IsSeatOf}
 use Rattle.rowex_table.specs.Stays.{LeavesPin}
 use Rattle.rowex_reading.specs.Possible.{IsPossible}
@@ -33,7 +31,7 @@ use Rattle.rowex_rights.specs.Stages.{HasReady}
 use Rattle.rowex_writing.specs.Building.{IsBuilding}
 use Rattle.rowex_writing.specs.Going.{HasLocked}
 use Rattle.rowex_writing.specs.Jobs.{IsJobFrom}
-use Rattle.rowex_writing.specs.Locks.{HasLockedSpan, TriesLocksOnce, targets_of}
+use Rattle.rowex_writing.specs.Locks.{HasLockedSpan, TriesBy, TriesOnceBy}
 use Rattle.rowex_writing.specs.Plans.{change, IsPlan}
 use Rattle.rowex_writing.specs.Remaking.{AffectsJust}
 use Rattle.rowex_reading.specs.Ways.{IsWayOf, named}
@@ -49,20 +47,17 @@ use Rattle.rowex_writing.specs.declared.plan.Plan.{Plan}
 use Rattle.rowex_writing.specs.declared.plan.Span.{Span}
 
 -- ---- steps
--- The pass makes steps of which the gate is told, and none of them sets or clears its pin. These are the locks that it tries.
-pub record HasTried {G : Type 0} (table : TableView) (becomes : G → Event → G → Type 0) (tried : List Target) (a b : SeatView × G) : Type 0 where
-  pub acts : List Act
-  pub pinned : All LeavesPin acts
-  pub tried_are : targets_of acts ≡ tried
-  pub steps : Runs table becomes acts a b
+-- The pass makes steps that neither set nor clear its pin, and tries these locks,
+abbrev pub HasTried : {G : Type 0} → TableView → (G → Event → G → Type 0) → List Target → SeatView × G → SeatView × G → Type 0
+HasTried table becomes tried a b = TriesBy LeavesPin table becomes tried a b
 
--- it tries none
+-- none,
 abbrev pub HasRun : {G : Type 0} → TableView → (G → Event → G → Type 0) → SeatView × G → SeatView × G → Type 0
 HasRun table becomes a b = HasTried table becomes [] a b
 
--- it tries so many, each once
+-- or so many, each once.
 abbrev pub HasTriedOnce : {G : Type 0} → TableView → (G → Event → G → Type 0) → ℕ → SeatView × G → SeatView × G → Type 0
-HasTriedOnce table becomes locks a b = (tried : List Target) × (run : HasTried table becomes tried a b) × TriesLocksOnce run.acts × (length tried ≡ locks)
+HasTriedOnce table becomes locks a b = TriesOnceBy LeavesPin table becomes locks a b
 
 -- ---- the plan
 -- where a new leaf goes into a node of the way, these are the entries that its position affects there, by the forks that were read

@@ -42,21 +42,28 @@ targets_of (act ∷ acts) = targets_of acts
 abbrev pub TriesLocksOnce : List Act → Type 0
 TriesLocksOnce acts = AreApart (targets_of acts)
 
--- The pass makes steps of which the gate is told, and recalls after each all that it did before; none of them loads the root. These
--- are the locks that it tries.
-pub record Tries {G : Type 0} (table : TableView) (becomes : G → Event → G → Type 0) (tried : List Target) (a b : SeatView × G) : Type 0 where
+-- The pass makes steps of this kind, of which the gate is told. These are the locks that it tries.
+pub record TriesBy {G : Type 0} (Is : Act → Type 0) (table : TableView) (becomes : G → Event → G → Type 0) (tried : List Target) (a b : SeatView × G) : Type 0 where
   pub acts : List Act
-  pub plain : All IsPlain acts
+  pub each : All Is acts
   pub tried_are : targets_of acts ≡ tried
   pub steps : Runs table becomes acts a b
 
--- it tries none
+-- it tries so many, each once
+abbrev pub TriesOnceBy : {G : Type 0} → (Act → Type 0) → TableView → (G → Event → G → Type 0) → ℕ → SeatView × G → SeatView × G → Type 0
+TriesOnceBy Is table becomes locks a b = (tried : List Target) × (run : TriesBy Is table becomes tried a b) × TriesLocksOnce run.acts × (length tried ≡ locks)
+
+-- The steps load no root, and after each the pass recalls all that it did before. It tries these locks,
+abbrev pub Tries : {G : Type 0} → TableView → (G → Event → G → Type 0) → List Target → SeatView × G → SeatView × G → Type 0
+Tries table becomes tried a b = TriesBy IsPlain table becomes tried a b
+
+-- none,
 abbrev pub Works : {G : Type 0} → TableView → (G → Event → G → Type 0) → SeatView × G → SeatView × G → Type 0
 Works table becomes a b = Tries table becomes [] a b
 
--- it tries so many, each once
+-- or so many, each once.
 abbrev pub TriesOnce : {G : Type 0} → TableView → (G → Event → G → Type 0) → ℕ → SeatView × G → SeatView × G → Type 0
-TriesOnce table becomes locks a b = (tried : List Target) × (run : Tries table becomes tried a b) × TriesLocksOnce run.acts × (length tried ≡ locks)
+TriesOnce table becomes locks a b = TriesOnceBy IsPlain table becomes locks a b
 
 -- no node is locked by the pass, and the anchor is not
 abbrev pub HasNoLock : Known → Type 0
