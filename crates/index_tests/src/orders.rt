@@ -4,7 +4,7 @@ use crate::gates::Meeting;
 use crate::made::Chance;
 use crate::streams::files_of;
 use hot_run::run_scripts_with;
-use std::alloc::{AllocError, Global};
+use std::alloc::Global;
 use std::process::Abort;
 use std::str;
 use std::str::Lines;
@@ -41,24 +41,32 @@ fn step_of(command: &str, answer: &str) -> Option<Step> {
     Some(Step { key, found, left })
 }
 
-/// The steps of a script, whose answers are the next lines, below a heading; nothing where they are none.
-fn steps_of(
-    alloc: Global,
-    script: &str,
-    lines: &mut Lines<'_>,
-) -> Result<Option<Vec<Step>>, AllocError> {
-    let mut steps = Vec::new(alloc);
+/// Adds the steps of a script, whose answers are the next lines, below a heading. Answers whether they can be that.
+fn push_steps(rt: &impl Abort, steps: &mut Vec<Step>, script: &str, lines: &mut Lines<'_>) -> bool {
     let _heading = lines.next();
     for command in script.lines() {
-        let Some(answer) = lines.next() else {
-            return Ok(None);
-        };
-        let Some(step) = step_of(command, answer) else {
-            return Ok(None);
-        };
-        steps.push(step)?;
+        match step_of(command, lines.next().unwrap_or("")) {
+            Some(step) => assert!(rt; steps.push(step).is_ok()),
+            None => return false,
+        }
     }
-    Ok(Some(steps))
+    true
+}
+
+/// The steps of scripts, and whether the lines can be their answers.
+fn steps_of(
+    rt: &impl Abort,
+    alloc: Global,
+    scripts: &[&str],
+    lines: &mut Lines<'_>,
+) -> (Vec<Vec<Step>>, bool) {
+    let (mut steps, mut are_answers) = (Vec::new(alloc), true);
+    for script in scripts {
+        let mut of_script = Vec::new(alloc);
+        are_answers = push_steps(rt, &mut of_script, script, lines) && are_answers;
+        assert!(rt; steps.push(of_script).is_ok());
+    }
+    (steps, are_answers)
 }
 
 /// How many steps of each of three scripts were made, and what they have left at their key. That is the same for each order that
@@ -87,62 +95,67 @@ impl Front {
     }
 }
 
-/// What is left at the key after all steps at it in one order, where there is one that explains them.
-fn left_by(
-    alloc: Global,
-    scripts: &[Vec<Step>],
-    key: u64,
-) -> Result<Option<Option<u64>>, AllocError> {
-    let (mut steps, mut count) = (Vec::new(alloc), 0usize);
+/// The steps of each script at a key.
+fn steps_at(rt: &impl Abort, alloc: Global, scripts: &[Vec<Step>], key: u64) -> Vec<Vec<Step>> {
+    let mut steps = Vec::new(alloc);
     for script in scripts {
         let mut at_key = Vec::new(alloc);
-        for step in script.iter().copied().filter(|step| step.key == key) {
-            at_key.push(step)?;
-        }
-        count = count.wrapping_add(at_key.len());
-        steps.push(at_key)?;
-    }
-    let mut fronts = vec![in alloc;
-        Front {
-            made: [0; 3],
-            left: None
-        },
-    ]?;
-    for _ in 0..count {
-        let mut later = Vec::new(alloc);
-        for front in fronts.iter() {
-            for script in 0..3usize {
-                if let Some(next) = front.after(&steps, script)
-                    && !later.contains(&next)
-                {
-                    later.push(next)?;
-                }
+        for step in script.iter() {
+            if step.key == key {
+                assert!(rt; at_key.push(*step).is_ok());
             }
         }
-        fronts = later;
+        assert!(rt; steps.push(at_key).is_ok());
     }
-    Ok(fronts.first().map(|front| front.left))
+    steps
+}
+
+/// Adds the fronts after one more step.
+fn push_later(rt: &impl Abort, later: &mut Vec<Front>, front: &Front, steps: &[Vec<Step>]) {
+    for script in 0..3usize {
+        if let Some(next) = front.after(steps, script)
+            && !later.contains(&next)
+        {
+            assert!(rt; later.push(next).is_ok());
+        }
+    }
+}
+
+/// What is left at the key of these steps after all of them in one order, where there is one that explains them.
+fn left_by(rt: &impl Abort, alloc: Global, steps: &[Vec<Step>]) -> Option<Option<u64>> {
+    let (made, left) = ([0; 3], None);
+    let mut fronts = Vec::new(alloc);
+    assert!(rt; fronts.push(Front { made, left }).is_ok());
+    for script in steps {
+        for _ in script.iter() {
+            let mut later = Vec::new(alloc);
+            for front in fronts.iter() {
+                push_later(rt, &mut later, front, steps);
+            }
+            fronts = later;
+        }
+    }
+    fronts.first().map(|front| front.left)
+}
+
+/// Whether each get of the last script has found what one order of the others' steps at its key has left.
+fn are_left(rt: &impl Abort, alloc: Global, steps: &[Vec<Step>]) -> bool {
+    let Some((last, scripts)) = steps.split_last() else {
+        return false;
+    };
+    let mut are_left = true;
+    for get in last.iter() {
+        let at_key = steps_at(rt, alloc, scripts, get.key);
+        are_left = left_by(rt, alloc, &at_key) == Some(get.found) && are_left;
+    }
+    are_left
 }
 
 /// Whether one order of three scripts explains this output, in which a fourth one, after all others, gets each key once.
-fn is_explained(alloc: Global, scripts: &[&str], output: &str) -> Result<bool, AllocError> {
+fn is_explained(rt: &impl Abort, alloc: Global, scripts: &[&str], output: &str) -> bool {
     let mut lines = output.lines();
-    let mut steps = Vec::new(alloc);
-    for script in scripts {
-        let Some(of_script) = steps_of(alloc, script, &mut lines)? else {
-            return Ok(false);
-        };
-        steps.push(of_script)?;
-    }
-    let Some(last) = steps.pop() else {
-        return Ok(false);
-    };
-    for get in last.iter() {
-        if left_by(alloc, &steps, get.key)? != Some(get.found) {
-            return Ok(false);
-        }
-    }
-    Ok(lines.next().is_none())
+    let (steps, are_answers) = steps_of(rt, alloc, scripts, &mut lines);
+    are_answers && lines.next().is_none() && are_left(rt, alloc, &steps)
 }
 
 /// A get of each key.
@@ -151,18 +164,19 @@ const LAST: &str =
     get 24\nget 25\nget 26\nget 27\nget 28\nget 29\n";
 
 /// So many commands on the keys from 10 to 29.
-fn script_of(alloc: Global, chance: &mut Chance, commands: u32) -> Result<String, AllocError> {
+fn script_of(rt: &impl Abort, alloc: Global, chance: &mut Chance, commands: u32) -> String {
     let mut script = String::new(alloc);
     for _ in 0..commands {
         let (key, value) = (chance.below(20).wrapping_add(10), chance.below(1_000_000));
-        match chance.below(8) {
-            0..=2 => write!(script, "insert {key} {value}\n")?,
-            3..=4 => write!(script, "upsert {key} {value}\n")?,
-            5..=6 => write!(script, "remove {key}\n")?,
-            _ => write!(script, "get {key}\n")?,
-        }
+        let written = match chance.below(8) {
+            0..=2 => write!(script, "insert {key} {value}\n"),
+            3..=4 => write!(script, "upsert {key} {value}\n"),
+            5..=6 => write!(script, "remove {key}\n"),
+            _ => write!(script, "get {key}\n"),
+        };
+        assert!(rt; written.is_ok());
     }
-    Ok(script)
+    script
 }
 
 /// What a run of these scripts in files, which meet at their first steps, and then of a last one, writes.
@@ -200,20 +214,15 @@ fn answers_of_meeting<T: Threads + Wait + Sync + Abort>(
 /// Three scripts of 1,000 commands on 20 keys.
 fn explain_three<T: Threads + Wait + Sync + Abort>(rt: &T, alloc: Global, seed: u64) {
     let mut chance = Chance(seed);
-    let (Ok(first), Ok(second), Ok(third)) = (
-        script_of(alloc, &mut chance, 1_000),
-        script_of(alloc, &mut chance, 1_000),
-        script_of(alloc, &mut chance, 1_000),
-    ) else {
-        panic!(rt; "no memory")
-    };
+    let first = script_of(rt, alloc, &mut chance, 1_000);
+    let second = script_of(rt, alloc, &mut chance, 1_000);
+    let third = script_of(rt, alloc, &mut chance, 1_000);
     let scripts = [first.as_str(), second.as_str(), third.as_str(), LAST];
     let output = answers_of_meeting(rt, alloc, &scripts[..3], LAST);
     let Ok(text) = str::from_utf8(&output) else {
         panic!(rt; "no text")
     };
-    let is_explained = is_explained(alloc, &scripts, text);
-    assert!(rt; matches!(is_explained, Ok(true)), "with seed {seed}");
+    assert!(rt; is_explained(rt, alloc, &scripts, text), "with seed {seed}");
 }
 
 #[test]
@@ -249,7 +258,9 @@ fn an_order_that_is_none_explains_nothing(rt: HostRuntime) {
         ),
         ("file 1\ninserted\n", false),
     ] {
-        let is_explained = is_explained(rt.alloc(), &scripts, output);
-        assert!(rt; is_explained.is_ok_and(|is| is == want), "{output}");
+        assert!(rt;
+            is_explained(&rt, rt.alloc(), &scripts, output) == want,
+            "{output}"
+        );
     }
 }
