@@ -1,6 +1,6 @@
 -- What a scan for C says, by what it left in the handle's list.
 use denote.RawPtr.{null_ptr}
-use Rattle.std.proofs.Common.{◌≡◌, ℕ, ◌<◌, ◌≤◌, ◌^◌, List, length, reverse, Bool, Option, None, Some, Result, IfOk, inl, inr, IsSome, refl, sym, ap, ◌∙◌, subst, le_refl}
+use Rattle.std.proofs.Common.{◌≡◌, ℕ, ◌<◌, ◌≤◌, ◌^◌, List, length, Bool, Option, None, Some, Result, IfOk, inl, inr, refl, sym, ap, ◌∙◌, subst, le_refl}
 use Rattle.std.proofs.lemmas.List.{length-reverse, reverse-reverse}
 use Rattle.std.specs.declared.alloc.AllocError.{AllocError}
 use Rattle.finite_map.specs.declared.Scan.{Scan}

@@ -4,7 +4,7 @@ ghost use Rattle.std.specs.Prelude.{◌≡◌, ◌≢◌, Err, IfOk, MatchResult
 ghost use Rattle.finite_map.specs.declared.Call.TheVariants.{Get};
 ghost use Rattle.rowex_writing.specs.Asking.{aim_of};
 ghost use Rattle.rowex_writing.specs.Attempts.{asked_call};
-ghost use Rattle.hot_index.specs.Answers.{HasFoundPair, IsNoted, IsRefused, IsUnnoted, got};
+ghost use Rattle.hot_index.specs.Answers.{HasFoundPair, IsNoted, IsRefused, IsUnnoted};
 ghost use Rattle.hot_index.specs.Census.{HasCounted};
 ghost use Rattle.hot_index.specs.Many.{AreNoted, HasGotMany, gets};
 ghost use Rattle.hot_index.specs.Passes.{Owns};

@@ -57,17 +57,12 @@ some : (room : ℕ) (pairs : List (List ℕ × ℕ)) → room < length (keys_in 
 some room [] low = absurd (omega (arith, low))
 some room (pair ∷ pairs) low = omega arith
 
--- as many fit of those without the last one, which are fewer
+-- as many fit of those without the last one
 pub fits_without : (room : ℕ) (pairs : List (List ℕ × ℕ)) → room < length (keys_in pairs) → fitting room (take (pred (length pairs)) pairs) ≡ fitting room pairs
 fits_without room pairs low =
     let front = snoc pairs (some room pairs low) in
     let rest = take (pred (length pairs)) pairs in
     sym (ap (fitting room) front.parts ∙ fitting_less room rest front.last (subst (λ (l : List (List ℕ × ℕ)). room < length (keys_in l)) front.parts low))
-
-pub fewer : (room : ℕ) (pairs : List (List ℕ × ℕ)) → room < length (keys_in pairs) → length (take (pred (length pairs)) pairs) < length pairs
-fewer room pairs low =
-    let front = snoc pairs (some room pairs low) in
-    let n = ap length front.parts ∙ length-append (take (pred (length pairs)) pairs) (front.last ∷ []) in omega (arith, n)
 
 -- those that fit are no more than all
 pub few_fit : (room : ℕ) (pairs : List (List ℕ × ℕ)) → length (fitting room pairs) ≤ length pairs

@@ -1,5 +1,5 @@
 -- The first pairs of the list stand in the two arrays.
-use Rattle.std.proofs.Common.{rules, ◌≡◌, ◌≤◌, ◌<◌, ◌^◌, ◌||◌, Bool, true, false, length, nat_lt, refl, ap, sym, subst, ◌∙◌, arith}
+use Rattle.std.proofs.Common.{◌≡◌, ◌<◌, ◌^◌, ◌||◌, Bool, true, false, length, nat_lt, refl, ap, subst, ◌∙◌, arith}
 use Rattle.std.specs.Int.{from_bool}
 use Rattle.packed_pairs.specs.Parts.{fitting, keys_in}
 use Rattle.packed_pairs.proofs.Fits.{few_fit, room_fits}

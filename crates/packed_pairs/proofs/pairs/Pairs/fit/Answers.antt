@@ -1,7 +1,7 @@
 -- As long as not all keys fit, the last pair doesn't.
-use Rattle.std.proofs.Common.{◌≡◌, ◌<◌, ◌≤◌, length, subst, sym, ap, ◌∙◌, arith}
+use Rattle.std.proofs.Common.{◌<◌, ◌≤◌, length, sym, ap, ◌∙◌, arith}
 use Rattle.packed_pairs.specs.Parts.{fitting, keys_in}
-use Rattle.packed_pairs.proofs.Fits.{fewer, fits_without, fitting_all}
+use Rattle.packed_pairs.proofs.Fits.{fits_without, fitting_all}
 use Rattle.packed_pairs.proofs.pairs.Pairs.fit.Goals as goal
 
 pub loop-self-preserved : goal.loop-self-preserved

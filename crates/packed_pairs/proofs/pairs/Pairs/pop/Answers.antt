@@ -1,5 +1,5 @@
 -- The last pair is taken: its key has the last bytes.
-use Rattle.std.proofs.Common.{◌≡◌, ◌-◌, length, take, drop, ap, refl, sym, ◌∙◌, arith}
+use Rattle.std.proofs.Common.{◌-◌, length, take, drop, ap, refl, sym, ◌∙◌, arith}
 use Rattle.packed_pairs.proofs.Backwards.{IsTaken, taken}
 use Rattle.packed_pairs.proofs.Fits.{popped}
 use Rattle.packed_pairs.proofs.pairs.Pairs.pop.Goals as goal
