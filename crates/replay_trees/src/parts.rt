@@ -11,25 +11,31 @@ use record_words::{LEAF_FIELDS, NODE_FIELDS};
 use std::alloc::AllocError;
 use unpacking::{unpack_leaf, unpack_node};
 
+/// The words of a table's records, each from offset 1 on.
+#[derive(Clone, Copy)]
+pub(crate) struct Records<'a> {
+    pub nodes: &'a [[u64; NODE_FIELDS]],
+    pub leaves: &'a [[u64; LEAF_FIELDS]],
+}
+
 /// Reads what stands below an entry, and answers whether that is lawful, with no fork before position `least`. What it
 /// links is added to `linked`.
 #[cycle(reading)]
 pub(crate) fn read_entry(
-    nodes: &[[u64; NODE_FIELDS]],
-    leaves: &[[u64; LEAF_FIELDS]],
+    records: Records,
     least: u32,
     entry: Entry,
     linked: &mut Linked,
 ) -> Result<bool, AllocError>
-    requires { HasMarks nodes.now leaves.now linked.old }
-    ensures room { IfOk result (λ good. HasMarks nodes.now leaves.now linked.new) }
+    requires { HasMarks records.nodes.now records.leaves.now linked.old }
+    ensures room { IfOk result (λ good. HasMarks records.entry.nodes.now records.entry.leaves.now linked.new) }
     ensures longer { IfOk result (λ good. good ≡ true → IsLonger linked.old linked.new) }
-    ensures read { IfOk result (λ good. IsEntryRead nodes.now leaves.now least entry good linked.old linked.new) }
+    ensures read { IfOk result (λ good. IsEntryRead records.entry.nodes.now records.entry.leaves.now least entry good linked.old linked.new) }
 {
     match entry {
-        Entry::Leaf(number) => take_leaf(leaves, number, linked),
+        Entry::Leaf(number) => take_leaf(records.leaves, number, linked),
         Entry::Node { number, height } => {
-            let Some(node) = node_at(nodes, number, height) else {
+            let Some(node) = node_at(records.nodes, number, height) else {
                 return Ok(false);
             };
             let cut = node.cut();
@@ -37,7 +43,7 @@ pub(crate) fn read_entry(
                 return Ok(false);
             }
             linked.nodes[number as usize] = true;
-            read_cut(nodes, leaves, least, cut, linked)
+            read_cut(records, least, cut, linked)
         }
     }
 }
@@ -45,48 +51,41 @@ pub(crate) fn read_entry(
 /// As `read_entry`, of one side of a fork.
 #[cycle(reading)]
 fn read_half(
-    nodes: &[[u64; NODE_FIELDS]],
-    leaves: &[[u64; LEAF_FIELDS]],
+    records: Records,
     least: u32,
     half: Half,
     linked: &mut Linked,
 ) -> Result<bool, AllocError>
-    requires { HasMarks nodes.now leaves.now linked.old }
-    ensures room { IfOk result (λ good. HasMarks nodes.now leaves.now linked.new) }
+    requires { HasMarks records.nodes.now records.leaves.now linked.old }
+    ensures room { IfOk result (λ good. HasMarks records.entry.nodes.now records.entry.leaves.now linked.new) }
     ensures longer { IfOk result (λ good. good ≡ true → IsLonger linked.old linked.new) }
-    ensures read { IfOk result (λ good. IsHalfRead nodes.now leaves.now least half good linked.old linked.new) }
+    ensures read { IfOk result (λ good. IsHalfRead records.entry.nodes.now records.entry.leaves.now least half good linked.old linked.new) }
 {
     match half {
-        Half::One(entry) => read_entry(nodes, leaves, least, entry, linked),
-        Half::Many(node) => read_cut(nodes, leaves, least, node.cut(), linked),
+        Half::One(entry) => read_entry(records, least, entry, linked),
+        Half::Many(node) => read_cut(records, least, node.cut(), linked),
         Half::Same => Ok(false),
     }
 }
 
 /// As `read_entry`, of a node's root fork and its two sides.
 #[cycle(reading)]
-fn read_cut(
-    nodes: &[[u64; NODE_FIELDS]],
-    leaves: &[[u64; LEAF_FIELDS]],
-    least: u32,
-    cut: Cut,
-    linked: &mut Linked,
-) -> Result<bool, AllocError>
-    requires { HasMarks nodes.now leaves.now linked.old }
-    ensures room { IfOk result (λ good. HasMarks nodes.now leaves.now linked.new) }
+fn read_cut(records: Records, least: u32, cut: Cut, linked: &mut Linked) -> Result<bool, AllocError>
+    requires { HasMarks records.nodes.now records.leaves.now linked.old }
+    ensures room { IfOk result (λ good. HasMarks records.entry.nodes.now records.entry.leaves.now linked.new) }
     ensures longer { IfOk result (λ good. good ≡ true → IsLonger linked.old linked.new) }
-    ensures read { IfOk result (λ good. IsCutRead nodes.now leaves.now least cut good linked.old linked.new) }
+    ensures read { IfOk result (λ good. IsCutRead records.entry.nodes.now records.entry.leaves.now least cut good linked.old linked.new) }
 {
     let position = cut.position;
     if u32::from(position) < least {
         return Ok(false);
     }
     let zero = linked.items.len();
-    if !read_half(nodes, leaves, u32::from(position) + 1, cut.zero, linked)? {
+    if !read_half(records, u32::from(position) + 1, cut.zero, linked)? {
         return Ok(false);
     }
     let one = linked.items.len();
-    if !read_half(nodes, leaves, u32::from(position) + 1, cut.one, linked)? {
+    if !read_half(records, u32::from(position) + 1, cut.one, linked)? {
         return Ok(false);
     }
     Ok(are_parted(position, &linked.items[zero].key, &linked.items[one].key))

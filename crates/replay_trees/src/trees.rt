@@ -3,7 +3,7 @@
 ghost use Rattle.std.specs.Prelude.{IfOk, ◌≡◌, replicate, false};
 ghost use Rattle.replay_trees.specs.Moments.{IsToldMoment};
 
-use crate::parts::read_entry;
+use crate::parts::{Records, read_entry};
 use compound_node::Entry;
 use key_bits::Key;
 use record_words::{LEAF_FIELDS, NODE_FIELDS};
@@ -45,7 +45,7 @@ pub fn read_tree(
         leaves: marks(alloc, leaves.len())?,
     };
     if let Some(entry) = root {
-        if !read_entry(nodes, leaves, 0, entry, &mut linked)? {
+        if !read_entry(Records { nodes, leaves }, 0, entry, &mut linked)? {
             return Ok(None);
         }
     }

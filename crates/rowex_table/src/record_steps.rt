@@ -77,13 +77,8 @@ impl HotTable {
         requires may { MayStep self.now.layout (λ _. Ready rec) seat.old.known }
         ensures { Steps self.now G.becomes (Ready rec) (seat.old, gate.old) (seat.new, gate.new) }
     {
-        self.store_as::<Brand, G>(
-            seat,
-            gate,
-            Act::Ready { rec },
-            record_place(rec, 0),
-            pack_state(Tag::Live),
-        );
+        let (act, state) = (Act::Ready { rec }, record_place(rec, 0));
+        self.store_as::<Brand, G>(seat, gate, act, state, pack_state(Tag::Live));
     }
 
     /// Makes a held record free.
@@ -93,13 +88,8 @@ impl HotTable {
         requires may { MayStep self.now.layout (λ _. Release rec) seat.old.known }
         ensures { Steps self.now G.becomes (Release rec) (seat.old, gate.old) (seat.new, gate.new) }
     {
-        self.store_as::<Brand, G>(
-            seat,
-            gate,
-            Act::Release { rec },
-            record_place(rec, 0),
-            pack_state(Tag::Free),
-        );
+        let (act, state) = (Act::Release { rec }, record_place(rec, 0));
+        self.store_as::<Brand, G>(seat, gate, act, state, pack_state(Tag::Free));
     }
 
     /// Loads a word of a record that is neither its state nor an entry.
