@@ -41,8 +41,8 @@ pub enum Case {
 /// It says which nodes get another one in their place: none for `LeafPushdown`, which stores into the affected node's
 /// entry `first`; the affected node for `NormalInsert`; and the nodes from the affected one up to `chain_end` for
 /// `Overflow`, but for a full node that stays whole as one half. The last two store into the entry at `at` of the node
-/// above the uppermost of these, or at the root. So these nodes and the one that is stored into are those that a
-/// writer locks.
+/// above the uppermost of these, or at the root. A writer locks these nodes, also the one that stays whole, and the one that
+/// is stored into.
 #[derive(Clone, Copy)]
 pub struct Choice {
     pub level: usize,

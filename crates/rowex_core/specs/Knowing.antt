@@ -78,7 +78,8 @@ pub record Knows (c : Core) (k : Known) : Type 0 where
   pub seen : HasSeen k.pass c.past c.changes k.front k.fresh.front k.facts
   pub own : share k.pass c ≡ known_share k
 
--- Of what the pass knows, what no step of its own makes untrue: the changes that it has seen, its facts of the past, its pin.
+-- Of what the pass knows, what only its own publish, pin or unpin makes untrue: the changes that it has seen, its facts of the past,
+-- its pin.
 pub record Recalls (c : Core) (k : Known) : Type 0 where
   pub front : OthersGoOn k.pass k.front c.changes
   pub facts : All (IsFact c.past) k.facts

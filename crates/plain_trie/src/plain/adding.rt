@@ -34,8 +34,9 @@ pub(super) enum Addition {
 
 /// Adds a key with its value below an entry, where it is absent, and makes room for so many nodes first.
 ///
-/// The search goes down once. A node whose first position is below the one at which the key differs takes the new leaf,
-/// and each node above it takes what took its child's place.
+/// The search goes down to a leaf once, and searches the node that takes the new leaf, and at times that node's child, again. A node
+/// whose first position is below the one at which the key differs takes the new leaf, and each node above it takes what took its
+/// child's place.
 pub(super) fn added(
     nodes: &mut Vec<Node>,
     leaves: &mut Vec<LeafRecord>,
