@@ -200,7 +200,7 @@ pub(crate) fn listed_rows(rows: &[u32]) -> ArrayVec<u32, 32>
     list
 }
 
-/// The rows with 0 in the first column.
+/// The rows, each with its bit of the first column cleared.
 pub(crate) fn cleared(rows: &[u32]) -> ArrayVec<u32, 32>
     requires { length rows.now ≤ 32 }
     ensures { result.items ≡ map (λ r. r % 2 ^ 31) rows.now }

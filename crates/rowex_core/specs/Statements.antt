@@ -68,7 +68,7 @@ SeesAll =
 abbrev pub KnowsAll : Type 0
 KnowsAll = (c : Core) (k : Known) → Knows c k → HasAll c k
 
--- a legal step changes one word, and its words show the core after it
+-- a legal step writes one word at most, and the words then show the core after it
 abbrev pub WritesOne : Type 0
 WritesOne =
     (c : Core) (q : ℕ) (act : Act) (words : List ℕ) → IsLawful c → Legal c q act → Shows c words →
