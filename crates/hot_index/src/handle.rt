@@ -1,4 +1,4 @@
-//! A handle: a pass at its index. Calls through it ask for nothing, since its pass belongs to the index.
+//! A handle: a pass at its index. Its calls don't ask that the pass belong to the index, since it does.
 
 ghost use Rattle.std.specs.Prelude.{◌≡◌, ◌≢◌, [], All, Err, IfOk, OnErr, length, map};
 ghost use Rattle.finite_map.specs.declared.Call.TheVariants.{Exchange, Get, Insert, Remove, RemoveIf, Upsert};
