@@ -1,6 +1,6 @@
 //! Gates that count what they are told, and gates that wait for each other.
 
-use crate::made::Guest;
+use crate::made::{Guest, ask};
 use hot_index::{Event, Gate, Key, TryFault};
 use rowex_core::Act;
 use std::alloc::Global;
@@ -165,7 +165,7 @@ impl<'a> Stopping<'a> {
             let value = (turn as u64)
                 .wrapping_mul(0x10000)
                 .wrapping_add(place as u64);
-            match self.other.ask(2, key, value, &mut self.reuse) {
+            match ask(&mut self.other, 2, key, value, &mut self.reuse) {
                 Ok(_) => self.made = self.made.wrapping_add(1),
                 Err(fault) => {
                     self.refused = Some(fault);

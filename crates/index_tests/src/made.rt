@@ -3,10 +3,9 @@
 ghost use Rattle.std.specs.Prelude.{All};
 ghost use Rattle.hot_index.specs.Passes.{Owns};
 
-use hot_index::{Full, Gate, Index, Key, Pass, Reply, TryFault, create};
+use hot_index::{Gate, Handle, Index, Key, Pass, Reply, TryFault, create, handles_of};
 use std::alloc::Global;
 use std::process::Abort;
-use std::sync::Wait;
 
 /// The key of these bytes, which are few enough.
 pub fn key(rt: &impl Abort, bytes: &[u8]) -> Key {
@@ -58,66 +57,39 @@ pub fn index_of(
 }
 
 /// A pass at its index.
-#[derive(Drop)]
-pub struct Guest<'a> {
-    pub index: &'a Index,
-    pub pass: Pass,
-    ghost owns: { Owns index.now pass },
-}
+pub type Guest<'a> = Handle<&'a Index>;
 
-/// The last of the passes that are left, at its index.
-pub fn next_guest<'a>(rt: &impl Abort, index: &'a Index, passes: &mut Vec<Pass>) -> Guest<'a>
-    requires { All (Owns index.now) passes.old.items }
-    ensures { All (Owns index.now) passes.new.items }
-{
-    match passes.pop() {
-        Some(pass) => Guest { index, pass },
-        None => panic!(rt; "no pass"),
-    }
-}
-
-/// The passes of an index, each at it, the last of them first.
+/// The passes of an index, each at it.
 pub fn guests_of<'a>(
     rt: &impl Abort,
     alloc: Global,
     index: &'a Index,
-    mut passes: Vec<Pass>,
+    passes: Vec<Pass>,
 ) -> Vec<Guest<'a>>
     requires { All (Owns index.now) passes.items }
 {
-    let mut guests = Vec::new(alloc);
-    let count = passes.len();
-    for number in 0..count {
-        let _ = number;
-        let guest = next_guest(rt, index, &mut passes);
-        assert!(rt; guests.push(guest).is_ok());
+    match handles_of(alloc, index, passes) {
+        Ok(guests) => guests,
+        Err(_) => panic!(rt; "no memory"),
     }
-    guests
 }
 
-impl<'a> Guest<'a> {
-    /// Makes a call, of a kind from 0 on: two of them insert, two upsert, two remove, and any further one gets.
-    pub fn ask<G: Gate>(
-        &mut self,
-        kind: u64,
-        key: &Key,
-        value: u64,
-        gate: &mut G,
-    ) -> Result<Reply, TryFault> {
-        let (index, pass) = (self.index, &mut self.pass);
-        match kind {
-            0 | 1 => index.try_insert_with(pass, key, value, gate),
-            2 | 3 => index.try_upsert_with(pass, key, value, gate),
-            4 | 5 => index.try_remove_with(pass, key, gate),
-            _ => Ok(match index.get_with(pass, key, gate) {
-                Some(value) => Reply::Value(value),
-                None => Reply::Absent,
-            }),
-        }
-    }
-
-    /// Gives a key a value by the call that waits.
-    pub fn upsert<R: Wait>(&mut self, rt: &R, key: &Key, value: u64) -> Result<Reply, Full> {
-        self.index.upsert(rt, &mut self.pass, key, value)
+/// Makes a call, of a kind from 0 on: two of them insert, two upsert, two remove, and any further one gets.
+pub fn ask<G: Gate>(
+    guest: &mut Guest,
+    kind: u64,
+    key: &Key,
+    value: u64,
+    gate: &mut G,
+) -> Result<Reply, TryFault> {
+    let (index, pass) = (guest.index, &mut guest.pass);
+    match kind {
+        0 | 1 => index.try_insert_with(pass, key, value, gate),
+        2 | 3 => index.try_upsert_with(pass, key, value, gate),
+        4 | 5 => index.try_remove_with(pass, key, gate),
+        _ => Ok(match index.get_with(pass, key, gate) {
+            Some(value) => Reply::Value(value),
+            None => Reply::Absent,
+        }),
     }
 }

@@ -10,26 +10,22 @@ use std::thread::map_vec;
 /// How many keys have the prefix. Each has its own number as its value, and those of even numbers stay.
 const COUNT: u64 = 256;
 
-impl<'a> Guest<'a> {
-    /// Puts a key in and takes it out again. Answers whether it was absent, and then there.
-    fn put_and_take<R: Wait>(&mut self, rt: &R, key: &Key, value: u64) -> bool {
-        let (index, pass) = (self.index, &mut self.pass);
-        let put = index.insert(rt, pass, key, value);
-        let taken = index.remove(rt, pass, key);
-        matches!(put, Ok(Reply::Inserted)) && matches!(taken, Ok(Reply::Removed(_)))
-    }
+/// Puts a key in and takes it out again. Answers whether it was absent, and then there.
+fn put_and_take<R: Wait>(rt: &R, guest: &mut Guest, key: &Key, value: u64) -> bool {
+    let put = guest.insert(rt, key, value);
+    let taken = guest.remove(rt, key);
+    matches!(put, Ok(Reply::Inserted)) && matches!(taken, Ok(Reply::Removed(_)))
+}
 
-    /// Lists all keys with a prefix. Answers whether there were no more.
-    fn list(&mut self, prefix: &Key, pairs: &mut Pairs) -> bool {
-        let listed = self.index.prefix_into(&mut self.pass, prefix, 1000, pairs);
-        matches!(listed, Ok(false))
-    }
+/// Lists all keys with a prefix. Answers whether there were no more.
+fn list(guest: &mut Guest, prefix: &Key, pairs: &mut Pairs) -> bool {
+    matches!(guest.prefix_into(prefix, 1000, pairs), Ok(false))
+}
 
-    /// Lists the next keys of a cursor. Answers whether there are more.
-    fn list_part(&mut self, cursor: &mut Cursor, limit: usize, pairs: &mut Pairs) -> bool {
-        let listed = cursor.next_into(self.index, &mut self.pass, limit, pairs);
-        matches!(listed, Ok(true))
-    }
+/// Lists the next keys of a cursor. Answers whether there are more.
+fn list_part(guest: &mut Guest, cursor: &mut Cursor, limit: usize, pairs: &mut Pairs) -> bool {
+    let listed = cursor.next_into(guest.index, &mut guest.pass, limit, pairs);
+    matches!(listed, Ok(true))
 }
 
 /// The number after the last pair's, if the pairs are keys from the number `next` on, in order, with each that stays.
@@ -50,7 +46,7 @@ fn change_odd<R: Wait>(rt: &R, mut guest: Guest, keys: &[Key]) -> bool {
     for _ in 0..10_000u64 {
         let number = chance.below(COUNT / 2).wrapping_mul(2).wrapping_add(1);
         if let Some(key) = keys.get(number as usize) {
-            if !guest.put_and_take(rt, key, number) {
+            if !put_and_take(rt, &mut guest, key, number) {
                 return false;
             }
         }
@@ -62,14 +58,14 @@ fn change_odd<R: Wait>(rt: &R, mut guest: Guest, keys: &[Key]) -> bool {
 fn list_all(alloc: Global, mut guest: Guest, prefix: &Key) -> bool {
     let mut pairs = Pairs::new(alloc);
     for round in 0..200usize {
-        let is_whole = guest.list(prefix, &mut pairs);
+        let is_whole = list(&mut guest, prefix, &mut pairs);
         if !is_whole || after_all(&pairs, 0).unwrap_or(0) < COUNT - 1 {
             return false;
         }
         let mut cursor = Cursor::of_prefix(prefix);
         let mut next = Some(0);
         for _ in 0..COUNT {
-            let more = guest.list_part(&mut cursor, 1 + round % 9, &mut pairs);
+            let more = list_part(&mut guest, &mut cursor, 1 + round % 9, &mut pairs);
             next = match next {
                 Some(first) => after_all(&pairs, first),
                 None => None,
@@ -100,7 +96,7 @@ fn keys_with_a_prefix_are_listed_while_others_come_and_go(rt: HostRuntime) {
     }
     let prefix = key(&rt, &[0]);
     let work = |guest: Guest<'_>| -> bool {
-        match guest.pass.number() {
+        match guest.number() {
             1 => change_odd(&rt, guest, &keys),
             _ => list_all(rt.alloc(), guest, &prefix),
         }

@@ -19,27 +19,27 @@ const SPARE: u32 = 90;
 /// Inserts these keys, each with its place as its value.
 fn insert_all(rt: &impl Abort, guest: &mut Guest, keys: &[Key]) {
     for (place, key) in keys.iter().enumerate() {
-        let told = guest.ask(0, key, place as u64, &mut NoGate);
+        let told = ask(guest, 0, key, place as u64, &mut NoGate);
         assert!(rt; told == Ok(Reply::Inserted));
     }
 }
 
 /// After two rounds all leaves to spare are free: so many further keys are inserted, and no other one; and removed again.
 fn use_all(rt: &impl Abort, guest: &mut Guest, further: &[Key]) {
-    guest.index.collect(&mut guest.pass);
-    guest.index.collect(&mut guest.pass);
+    guest.collect();
+    guest.collect();
     let Some((fitting, last)) = further.split_at_checked(SPARE as usize) else {
         panic!(rt; "too few keys")
     };
     insert_all(rt, guest, fitting);
     for key in last {
-        assert!(rt; guest.ask(0, key, 0, &mut NoGate) == Err(TryFault::FullLeaves));
+        assert!(rt; ask(guest, 0, key, 0, &mut NoGate) == Err(TryFault::FullLeaves));
     }
     for key in fitting {
-        assert!(rt; matches!(guest.ask(4, key, 0, &mut NoGate), Ok(Reply::Removed(_))));
+        assert!(rt; matches!(ask(guest, 4, key, 0, &mut NoGate), Ok(Reply::Removed(_))));
     }
-    guest.index.collect(&mut guest.pass);
-    guest.index.collect(&mut guest.pass);
+    guest.collect();
+    guest.collect();
 }
 
 /// A get that is stopped after each of its steps in turn. While it has its pin, the other pass can use each leaf once, and nothing is
@@ -59,7 +59,7 @@ fn nothing_comes_back_while_a_get_is_stopped(rt: HostRuntime) {
     let mut gate = Stopping::new(other, held);
     for stop in 0..100 {
         gate.stop_after(stop);
-        let told = reader.ask(6, &keys[3], 0, &mut gate);
+        let told = ask(&mut reader, 6, &keys[3], 0, &mut gate);
         assert!(rt; matches!(told, Ok(Reply::Value(value)) if value & 0xffff == 3));
         if gate.steps <= stop {
             break;
@@ -88,7 +88,7 @@ fn upserts_with_a_hundredth_to_spare_visit_what_they_have_retired(rt: HostRuntim
     insert_all(&rt, &mut guest, &keys);
     let mut reuse = Reuse::new();
     for (turn, key) in keys.iter().cycle().take(20_000).enumerate() {
-        let told = guest.ask(2, key, turn as u64, &mut reuse);
+        let told = ask(&mut guest, 2, key, turn as u64, &mut reuse);
         assert!(rt; matches!(told, Ok(Reply::Was(_))));
     }
     assert!(rt; reuse.retired == 20_000 && reuse.most_visits <= 128);
@@ -97,7 +97,7 @@ fn upserts_with_a_hundredth_to_spare_visit_what_they_have_retired(rt: HostRuntim
 
 /// Upserts keys by chance, by the call that waits. Answers whether each was held, and the call was made.
 fn upsert_some<R: Wait>(rt: &R, mut guest: Guest, keys: &[Key]) -> bool {
-    let mut chance = Chance(u64::from(guest.pass.number()));
+    let mut chance = Chance(u64::from(guest.number()));
     for turn in 0..5_000u64 {
         let number = chance.below(keys.len() as u64);
         if let Some(key) = keys.get(number as usize) {
