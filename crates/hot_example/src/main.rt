@@ -33,7 +33,7 @@ fn put<R: Wait>(rt: &R, handle: &mut Handle<&Index>, word: &str, value: u64)
 }
 
 fn run<R: Threads + Wait + AllocGlobal + Print + Sync>(rt: &R) -> io::Result<()> {
-    // Two passes, and room for 64 nodes and 1,024 keys.
+    // Two passes, 64 node records and 1,024 leaf records.
     let (index, mut passes) = create(rt.alloc(), 2, 64, 1024).map_err(as_error)?;
     let (Some(second), Some(first)) = (passes.pop(), passes.pop()) else {
         return Ok(());

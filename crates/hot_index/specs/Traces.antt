@@ -135,7 +135,7 @@ abbrev pub HasEnded : {G : Type 0} → TableView → (G → Event → G → Type
 HasEnded table becomes Are said a b = (acts : List Act) × Are acts × Ends table becomes acts ClearPin said a b
 
 -- The call makes one attempt, or two with a round of collection between them, and a small round or nothing before; it makes no other
--- step, from the seat that the pass has before to the one that it has after. An attempt tries each lock once, and the answer of a
+-- step, from the seat that the pass has before to the one that it has after. An attempt tries each lock once at most, and the answer of a
 -- first one that is full doesn't stand. The last step clears the pin, and with it come the call's notes. The gate is told each of the
 -- steps, in order, and nothing else. So many they are at most. Answered or refused, its last load of the root has shown the pass all that
 -- any pass had seen by then.

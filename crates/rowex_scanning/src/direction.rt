@@ -1,4 +1,4 @@
-//! The two directions of a scan, and what differs between them: in which order places and keys are passed.
+//! The two directions of a scan: in which order places and keys are passed.
 
 ghost use Rattle.std.specs.Prelude.{◌≡◌, ◌<◌, ◌≤◌, IsTrue, MatchOption, false};
 ghost use Rattle.key_bits.specs.Key.{IsKey};

@@ -8,7 +8,7 @@ pub(crate) const MOST_SPARE: usize = 256;
 /// Where the claims of a pass begin, of node records or of the leaf records of one class. Numbers are counted from the first of these
 /// on.
 ///
-/// No contract speaks of it: whatever a supply says, a claim tries each record before it finds that none is free.
+/// Whatever a supply says, a claim tries each record before it finds that none is free.
 #[derive(Drop)]
 pub struct Supply {
     /// Numbers that the pass has given back: claims begin with the last of these.
