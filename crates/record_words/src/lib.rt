@@ -38,7 +38,7 @@ pub const WORD_BYTES: usize = 8;
 /// a line, wherever in memory the table begins, and no thread's writes slow down what another does.
 pub const LINE_WORDS: usize = 8;
 
-/// The word of the epoch. Each call loads it and the root, so these two may share a line.
+/// The word of the epoch. Gets, scans and changes load it and the root, so these two may share a line.
 pub const EPOCH_WORD: usize = 0;
 
 /// The word of the root.

@@ -9,7 +9,7 @@ use rowex_core::View;
 use std::alloc::Global;
 use std::marker::Model;
 
-/// The right of one pass to step. What its pass knows has no bytes, and changes at its steps alone.
+/// The right of one pass to step. What its pass knows has no bytes, and changes at its steps, when it meets another and when it follows a stamp.
 #[derive(Drop)]
 pub struct TableSeat {
     pub(crate) seat: Seat<(), View>,
