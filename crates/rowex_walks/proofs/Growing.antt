@@ -91,7 +91,7 @@ module _ (c : BareCore) (q : ℕ) (law : IsLawfulState (view c)) (t : Tree) (now
     adds = found_added c q law t now v since p x l f is_part (with_leaf x p b) refl;
   }
 
-  -- Or the affected part alone with the new leaf beside it: leaf pushdown, and the full node that stays whole.
+  -- Or the affected part alone with the new leaf beside it: of a full node that stays whole.
   pub growth_beside : {n : ℕ} {y : Fixed} {b s : Tree} → Within (node n y b) t → IsFoundBelow c q since x p l n → IsPart (affected p x.key b) →
       Within s t → ((k : Key) → Has s k → Has (affected p x.key b) k) → IsGrowth c q x p s (grown (bit x.key p) p s x)
   growth_beside {b = b} {s = s} v f is_part w keys = record {
