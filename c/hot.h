@@ -12,11 +12,11 @@
  * threads and then close all handles. A thread that ends leaves its handle open; another thread may go on using it, or close it.
  *
  * When the index is full. A change writes new records before it retires those that it replaces. Retired records can be used again once
- * the calls that ran at that time have returned: the next collection gives them back, and a change that finds no record free makes a
- * collection itself before it answers HOT_FULL_NODES or HOT_FULL_LEAVES. If no other call is running, the index stays full until keys
- * are removed. If others are running, records may come back when they return: keep some records to spare, and try a refused change
- * again after a while. A thread that is stopped in the middle of a call, even of a look-up or a scan, holds back everything that is
- * retired meanwhile.
+ * the calls that ran at that time, or began soon after, have returned: the next collection gives them back, and a change that finds no
+ * record free makes a collection itself before it answers HOT_FULL_NODES or HOT_FULL_LEAVES. If no other call is running, the index
+ * stays full until keys are removed. If others are running, records may come back when they return: keep some records to spare, and
+ * try a refused change again after a while. A thread that is stopped in the middle of a call, even of a look-up or a scan, may hold
+ * back everything that is retired meanwhile.
  *
  * What the library relies on, and doesn't check. No pointer is NULL, not even a key's if its length is 0; each points to what its type
  * says, and what a call writes overlaps no other argument. A handle is zeroed before hot_create, and the program never copies, moves
@@ -27,8 +27,8 @@
  * Each other call ends after a bounded number of steps, whatever other threads do: a step is one atomic access to a word of the
  * index. Each call below that makes steps gives its bound, for the worst tree that there can be.
  *
- * Each handle has memory for the pairs of its scans, which is used again: a scan takes more only if it finds more than those before it.
- * After a scan it goes if the keys have more than 32 KiB of it, or the rest has. So a handle keeps 64 KiB at most, until it is closed.
+ * Each handle has memory for the pairs of its scans, which the next scan uses again. After a scan it goes if the keys have more than
+ * 32 KiB of it, or the rest has. So a handle keeps 64 KiB at most between its calls.
  *
  * The library starts no threads and keeps no data outside its indexes. It needs POSIX, and an x86-64-v2 processor or a later one.
  * `pkg-config --cflags --libs hot` tells how to link it. */
