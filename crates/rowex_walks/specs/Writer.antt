@@ -34,8 +34,8 @@ pub record IsNewLeaf (c : BareCore) (q : ℕ) (x : Item) : Type 0 where
   pub fate : c.fate (a_leaf x.number) ≡ Ready q
   pub words : c.heap.leaves x.number ≡ record { key = x.key; value = x.value }
 
--- What a writer knows: it has locked node `n`, from there on its descent since the lock ended at a leaf with the key
--- `l`, from which the new key differs first at `p`, and what stood in the tree since its pin is still in that life.
+-- What a writer knows: it has locked node `n`, from there on the way that was read since moment `since` ended at a leaf with the key
+-- `l`, from which the new key differs first at `p`, and what has stood in the tree since then is still in that life.
 pub record IsFoundBelow (c : BareCore) (q since : ℕ) (x : Item) (p : ℕ) (l : Key) (n : ℕ) : Type 0 where
   pub key : IsKey x.key
   pub reach : IsReach (view c) since
