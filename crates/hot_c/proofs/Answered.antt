@@ -9,6 +9,7 @@ use Rattle.rowex_writing.specs.Attempts.{asked_call}
 use Rattle.rowex_writing.specs.declared.attempts.TryFault.{TryFault}
 use Rattle.rowex_writing.specs.declared.plan.Ask.{Ask}
 use Rattle.rowex_writing.specs.declared.plan.Ask.TheVariants as ask
+use Rattle.hot_index.specs.Handles.{HandleView, IsTried, Stays}
 use Rattle.hot_index.specs.Passes.{PassView}
 use Rattle.hot_index.specs.Traces.{HasMade, untold}
 use Rattle.hot_c.specs.Calls.{Answers, HasOutcome, FitsInKey, MakesSteps}
@@ -23,9 +24,9 @@ pub of_key : (bytes k : List ℕ) (r : Result (List ℕ) KeyFault) → r ≡ Ok 
 of_key bytes k r is fits same = (subst (λ (x : Result (List ℕ) KeyFault). IfOk x (λ key. key ≡ bytes)) is same, fits.0 (subst IsOk (sym is) refl))
 
 pub answered : (call : List ℕ → Call) (bytes k : List ℕ) (old new : Option Opened) (before after status : ℕ) (s u : Opened) (outcome : Result Reply TryFault)
-    → old ≡ Some s → new ≡ Some u → u.index ≡ s.index → HasOutcome (call k) outcome s.index.value s.pass u.pass → MakesSteps (call k) outcome s.index.value s.pass u.pass → (k ≡ bytes) × FitsInKey bytes
+    → old ≡ Some s → new ≡ Some u → Stays (λ index a b. HasOutcome (call k) outcome index a b × MakesSteps (call k) outcome index a b) s.handle u.handle → (k ≡ bytes) × FitsInKey bytes
     → status ≡ reply_status outcome → after ≡ value_after before outcome → Answers bytes (call bytes) old new before after status
-answered call bytes k old new before after status s u outcome was is index ended steps fit told left = record {
+answered call bytes k old new before after status s u outcome was is stays fit told left = record {
   closed = λ none. absurd (some_is_none s (sym was ∙ none));
   long = λ some no. absurd (no fit.1);
   made = λ some short. (
@@ -35,8 +36,7 @@ answered call bytes k old new before after status s u outcome was is index ended
       after = u;
       was = was;
       is = is;
-      index = index;
-      became = subst (λ (x : List ℕ). HasOutcome (call x) outcome s.index.value s.pass u.pass × MakesSteps (call x) outcome s.index.value s.pass u.pass) fit.0 (ended, steps);
+      stays = subst (λ (x : List ℕ). Stays (λ index a b. HasOutcome (call x) outcome index a b × MakesSteps (call x) outcome index a b) s.handle u.handle) fit.0 stays;
     },
     told,
     left,
@@ -44,9 +44,13 @@ answered call bytes k old new before after status s u outcome was is index ended
 }
 
 -- a change makes attempts, whatever it asks for
-pub attempts : (what : Ask) (key : List ℕ) (value : ℕ) (outcome : Result Reply TryFault) (index : TableView) (k j : PassView) → HasMade index untold outcome (k, tt) (j, tt) → MakesSteps (asked_call what key value) outcome index k j
+attempts : (what : Ask) (key : List ℕ) (value : ℕ) (outcome : Result Reply TryFault) (index : TableView) (k j : PassView) → HasMade index untold outcome (k, tt) (j, tt) → MakesSteps (asked_call what key value) outcome index k j
 attempts ask.Insert key value outcome index k j made = made
 attempts ask.Upsert key value outcome index k j made = made
 attempts (ask.Exchange expected) key value outcome index k j made = made
 attempts ask.Remove key value outcome index k j made = made
 attempts (ask.RemoveIf expected) key value outcome index k j made = made
+
+pub tried : (what : Ask) (key : List ℕ) (value : ℕ) (outcome : Result Reply TryFault) (old new : HandleView) → Stays (IsTried (asked_call what key value) outcome) old new
+    → Stays (λ index k j. HasOutcome (asked_call what key value) outcome index k j × MakesSteps (asked_call what key value) outcome index k j) old new
+tried what key value outcome old new h = record { index = h.index; pass = (h.pass.answer, attempts what key value outcome old.index old.pass new.pass h.pass.made) }

@@ -19,18 +19,18 @@ one_at_most (pair ∷ []) few = refl
 one_at_most (pair ∷ next ∷ pairs) few = absurd (omega (arith, few))
 
 module _ (order : Order) {from upto : List ℕ} {old new : Option Opened} {before after : Pair} {status : ℕ} where
-  pub found : {mid : Option Opened} {count : ℕ} {is_more : Bool} (h : HasFilled (IsFilledIn order) from upto 1 old mid count is_more) (u v : Opened) → mid ≡ Some u → new ≡ Some v → v.index ≡ u.index → v.pass ≡ u.pass
+  pub found : {mid : Option Opened} {count : ℕ} {is_more : Bool} (h : HasFilled (IsFilledIn order) from upto 1 old mid count is_more) (u v : Opened) → mid ≡ Some u → new ≡ Some v → v.handle ≡ u.handle
       → IsPairTold (slice_get u.list 0) before after status → FindsIn order from upto old new before after status
-  found {is_more = is_more} h u v is last index pass told = record {
+  found {is_more = is_more} h u v is last kept told = record {
     closed = λ none. absurd (not_closed h u is none);
     long = λ some no. absurd (no h.fit);
     made = λ some fit. inl (
       slice_get u.list 0,
-      stays h u is (λ layout k j. (more : Bool) × IsFilledIn order layout k j from upto 1 (option_to_list (slice_get u.list 0)) more) new v last index pass
-          (is_more, subst (λ (l : List (List ℕ × ℕ)). IsFilledIn order h.before.index.value.layout h.before.pass u.pass from upto 1 l is_more) (one_at_most u.list (few_here h u is)) (made_here h u is)),
+      stays h u is (λ layout k j. (more : Bool) × IsFilledIn order layout k j from upto 1 (option_to_list (slice_get u.list 0)) more) new v last kept
+          (is_more, subst (λ (l : List (List ℕ × ℕ)). IsFilledIn order h.before.handle.index.layout h.before.handle.pass u.handle.pass from upto 1 l is_more) (one_at_most u.list (few_here h u is)) (made_here h u is)),
       told,
     );
-    read = λ some fit. reads h u is new v last index pass;
+    read = λ some fit. reads h u is new v last kept;
   }
 
   pub unfound : ListsNothing from upto 1 old new status → after ≡ before → FindsIn order from upto old new before after status

@@ -1,11 +1,12 @@
 -- What a scan for C says, by what it left in the handle's list.
 use denote.RawPtr.{null_ptr}
-use Rattle.std.proofs.Common.{◌≡◌, ℕ, ◌<◌, ◌≤◌, ◌^◌, List, length, Bool, Option, None, Some, Result, IfOk, inl, inr, refl, sym, ap, ◌∙◌, subst, le_refl}
+use Rattle.std.proofs.Common.{◌≡◌, ℕ, ◌<◌, ◌≤◌, ◌^◌, List, length, Bool, Option, None, Some, Result, inl, inr, refl, sym, ap, ◌∙◌, subst, le_refl}
 use Rattle.std.proofs.lemmas.List.{length-reverse, reverse-reverse}
 use Rattle.std.specs.declared.alloc.AllocError.{AllocError}
 use Rattle.finite_map.specs.declared.Scan.{Scan}
 use Rattle.record_words.specs.declared.layout.Layout.{Layout}
 use Rattle.hot_index.specs.Answers.{HasFoundPair, IsListed, IsUnnoted}
+use Rattle.hot_index.specs.Handles.{HandleView, IsRangeRead, Stays}
 use Rattle.hot_index.specs.Passes.{PassView}
 use Rattle.hot_index.specs.Reverse.{IsReverseListed}
 use Rattle.hot_index.specs.Traces.{HasGotRange, untold}
@@ -59,9 +60,9 @@ in_its_order Falling layout k j from upto limit pairs is_more h = h
 in_its_order LastRising layout k j from upto limit pairs is_more h = subst (λ (l : List (List ℕ × ℕ)). IsReverseListed layout k j from upto limit l is_more) (sym (reverse-reverse pairs)) h
 
 -- what is left in one order is left in the same one
-pub filled_as : (order other : Order) → order ≡ other → (layout : Layout) (k j : PassView) (from upto : List ℕ) (limit : ℕ) (pairs : List (List ℕ × ℕ)) (r : Result Bool AllocError)
-    → IfOk r (IsFilledIn other layout k j from upto limit pairs) → IfOk r (IsFilledIn order layout k j from upto limit pairs)
-filled_as order other same layout k j from upto limit pairs r h = subst (λ (o : Order). IfOk r (IsFilledIn o layout k j from upto limit pairs)) (sym same) h
+pub filled_as : (order other : Order) → order ≡ other → (from upto : List ℕ) (limit : ℕ) (pairs : List (List ℕ × ℕ)) (r : Result Bool AllocError) (old new : HandleView)
+    → Stays (IsRangeRead (λ layout k j. IsFilledIn other layout k j from upto limit pairs) from upto limit r) old new → Stays (IsRangeRead (λ layout k j. IsFilledIn order layout k j from upto limit pairs) from upto limit r) old new
+filled_as order other same from upto limit pairs r old new h = subst (λ (o : Order). Stays (IsRangeRead (λ layout k j. IsFilledIn o layout k j from upto limit pairs) from upto limit r) old new) (sym same) h
 
 pub as_many : (order : Order) (pairs : List (List ℕ × ℕ)) → length (in_order order pairs) ≡ length pairs
 as_many Rising pairs = refl
@@ -69,8 +70,8 @@ as_many Falling pairs = refl
 as_many LastRising pairs = length-reverse pairs
 
 module _ (from upto k l : List ℕ) (old new : Option Opened) (limit : ℕ) (s u : Opened) (was : old ≡ Some s) (first : (k ≡ from) × FitsInKey from) (last : (l ≡ upto) × FitsInKey upto) where
-  pub filled : (order : Order) (count : ℕ) (is_more : Bool) → new ≡ Some u → u.index ≡ s.index → IsFilledIn order s.index.value.layout s.pass u.pass k l limit u.list is_more
-      → HasGotRange s.index.value untold limit (s.pass, tt) (u.pass, tt) → count ≡ length u.list → length u.list < 2 ^ 63 → HasFilled (IsFilledIn order) from upto limit old new count is_more
+  pub filled : (order : Order) (count : ℕ) (is_more : Bool) → new ≡ Some u → u.handle.index ≡ s.handle.index → IsFilledIn order s.handle.index.layout s.handle.pass u.handle.pass k l limit u.list is_more
+      → HasGotRange s.handle.index untold limit (s.handle.pass, tt) (u.handle.pass, tt) → count ≡ length u.list → length u.list < 2 ^ 63 → HasFilled (IsFilledIn order) from upto limit old new count is_more
   filled order count is_more is index made read many small = record {
     before = s;
     after = u;
@@ -79,22 +80,22 @@ module _ (from upto k l : List ℕ) (old new : Option Opened) (limit : ℕ) (s u
     index = index;
     fit = (first.1, last.1);
     count_is = many;
-    few = subst (λ n. n ≤ limit) (sym many) (few_filled order s.index.value.layout s.pass u.pass k l limit u.list is_more made small);
-    made = subst (λ (x : List ℕ). IsFilledIn order s.index.value.layout s.pass u.pass x upto limit u.list is_more) first.0
-        (subst (λ (x : List ℕ). IsFilledIn order s.index.value.layout s.pass u.pass k x limit u.list is_more) last.0 made);
+    few = subst (λ n. n ≤ limit) (sym many) (few_filled order s.handle.index.layout s.handle.pass u.handle.pass k l limit u.list is_more made small);
+    made = subst (λ (x : List ℕ). IsFilledIn order s.handle.index.layout s.handle.pass u.handle.pass x upto limit u.list is_more) first.0
+        (subst (λ (x : List ℕ). IsFilledIn order s.handle.index.layout s.handle.pass u.handle.pass k x limit u.list is_more) last.0 made);
     read = read;
   }
 
   -- the list that the scan left was emptied
-  pub unfilled : (v : Opened) (status : ℕ) → new ≡ Some v → v.index ≡ u.index → v.pass ≡ u.pass → u.index ≡ s.index → IsUnnoted s.index.value.layout s.pass u.pass
-      → HasFoundPair s.index.value.layout s.pass u.pass k l limit → HasGotRange s.index.value untold limit (s.pass, tt) (u.pass, tt) → status ≡ NO_MEMORY → ListsNothing from upto limit old new status
-  unfilled v status is same_index pass index unnoted pair read full =
-      let here = subst (λ (x : List ℕ). HasFoundPair s.index.value.layout s.pass u.pass x upto limit) first.0 (subst (λ (x : List ℕ). HasFoundPair s.index.value.layout s.pass u.pass k x limit) last.0 pair) in
+  pub unfilled : (v : Opened) (status : ℕ) → new ≡ Some v → v.handle ≡ u.handle → u.handle.index ≡ s.handle.index → IsUnnoted s.handle.index.layout s.handle.pass u.handle.pass
+      → HasFoundPair s.handle.index.layout s.handle.pass u.handle.pass k l limit → HasGotRange s.handle.index untold limit (s.handle.pass, tt) (u.handle.pass, tt) → status ≡ NO_MEMORY → ListsNothing from upto limit old new status
+  unfilled v status is kept index unnoted pair read full =
+      let here = subst (λ (x : List ℕ). HasFoundPair s.handle.index.layout s.handle.pass u.handle.pass x upto limit) first.0 (subst (λ (x : List ℕ). HasFoundPair s.handle.index.layout s.handle.pass u.handle.pass k x limit) last.0 pair) in
       record {
         closed = λ none. absurd (none_is_some s (sym none ∙ was));
         long = λ some no. absurd (no (first.1, last.1));
-        full = λ some f t. (full, record { before = s; after = v; was = was; is = is; index = same_index ∙ index; became = subst (λ (p : PassView). IsUnnoted s.index.value.layout s.pass p × HasFoundPair s.index.value.layout s.pass p from upto limit) (sym pass) (unnoted, here) });
-        read = λ some f t. record { before = s; after = v; was = was; is = is; index = same_index ∙ index; became = subst (λ (p : PassView). HasGotRange s.index.value untold limit (s.pass, tt) (p, tt)) (sym pass) read };
+        full = λ some f t. (full, record { before = s; after = v; was = was; is = is; stays = subst (Stays (λ index k j. IsUnnoted index.layout k j × HasFoundPair index.layout k j from upto limit) s.handle) (sym kept) (record { index = index; pass = (unnoted, here) }) });
+        read = λ some f t. record { before = s; after = v; was = was; is = is; stays = subst (Stays (λ index k j. HasGotRange index untold limit (k, tt) (j, tt)) s.handle) (sym kept) (record { index = index; pass = read }) };
       }
 
 -- the scan has left this list, which was read and then emptied
@@ -105,28 +106,26 @@ module _ {IsMade : Answer} {from upto : List ℕ} {limit : ℕ} {old mid : Optio
   pub few_here : length u.list ≤ limit
   few_here = subst (λ n. n ≤ limit) count_here h.few
 
-  pub made_here : IsMade h.before.index.value.layout h.before.pass u.pass from upto limit u.list is_more
-  made_here = subst (λ (x : Opened). IsMade h.before.index.value.layout h.before.pass x.pass from upto limit x.list is_more) (same h.after u (sym h.is ∙ is)) h.made
+  pub made_here : IsMade h.before.handle.index.layout h.before.handle.pass u.handle.pass from upto limit u.list is_more
+  made_here = subst (λ (x : Opened). IsMade h.before.handle.index.layout h.before.handle.pass x.handle.pass from upto limit x.list is_more) (same h.after u (sym h.is ∙ is)) h.made
 
-  pub stays : (Became : Layout → PassView → PassView → Type 0) (new : Option Opened) (v : Opened) → new ≡ Some v → v.index ≡ u.index → v.pass ≡ u.pass
-      → Became h.before.index.value.layout h.before.pass u.pass → StaysOpen (λ index k j. Became index.layout k j) old new
-  stays Became new v last index pass became = record {
+  pub stays : (Became : Layout → PassView → PassView → Type 0) (new : Option Opened) (v : Opened) → new ≡ Some v → v.handle ≡ u.handle
+      → Became h.before.handle.index.layout h.before.handle.pass u.handle.pass → StaysOpen (λ index k j. Became index.layout k j) old new
+  stays Became new v last kept became = record {
     before = h.before;
     after = v;
     was = h.was;
     is = last;
-    index = index ∙ (ap (λ (x : Opened). x.index) (same u h.after (sym is ∙ h.is)) ∙ h.index);
-    became = subst (Became h.before.index.value.layout h.before.pass) (sym pass) became;
+    stays = subst (Stays (λ index k j. Became index.layout k j) h.before.handle) (sym kept) (record { index = ap (λ (x : Opened). x.handle.index) (same u h.after (sym is ∙ h.is)) ∙ h.index; pass = became });
   }
 
-  pub reads : (new : Option Opened) (v : Opened) → new ≡ Some v → v.index ≡ u.index → v.pass ≡ u.pass → StaysOpen (λ index k j. HasGotRange index untold limit (k, tt) (j, tt)) old new
-  reads new v last index pass = record {
+  pub reads : (new : Option Opened) (v : Opened) → new ≡ Some v → v.handle ≡ u.handle → StaysOpen (λ index k j. HasGotRange index untold limit (k, tt) (j, tt)) old new
+  reads new v last kept = record {
     before = h.before;
     after = v;
     was = h.was;
     is = last;
-    index = index ∙ (ap (λ (x : Opened). x.index) (same u h.after (sym is ∙ h.is)) ∙ h.index);
-    became = subst (λ (p : PassView). HasGotRange h.before.index.value untold limit (h.before.pass, tt) (p, tt)) (sym (pass ∙ ap (λ (x : Opened). x.pass) (same u h.after (sym is ∙ h.is)))) h.read;
+    stays = subst (Stays (λ index k j. HasGotRange index untold limit (k, tt) (j, tt)) h.before.handle) (sym (kept ∙ ap (λ (x : Opened). x.handle) (same u h.after (sym is ∙ h.is)))) (record { index = h.index; pass = h.read });
   }
 
   pub not_closed : old ≡ None → ⊥
@@ -135,13 +134,13 @@ module _ {IsMade : Answer} {from upto : List ℕ} {limit : ℕ} {old mid : Optio
 module _ {Room : Type 0} {limit : Room → ℕ} {IsWritten : List (List ℕ × ℕ) → Bool → Room → Room → Type 0} {from upto : List ℕ} {old new : Option Opened} {before after : Room} {status : ℕ} (IsTold : Answer) where
   -- the pairs of the list were written
   pub listed : {IsMade : Answer} {mid : Option Opened} {count : ℕ} {is_more : Bool} (h : HasFilled IsMade from upto (limit before) old mid count is_more) (u v : Opened) (pairs : List (List ℕ × ℕ))
-      → mid ≡ Some u → new ≡ Some v → v.index ≡ u.index → v.pass ≡ u.pass → status ≡ DONE
-      → IsTold h.before.index.value.layout h.before.pass u.pass from upto (limit before) pairs is_more → IsWritten pairs is_more before after → ListsInto limit IsWritten IsTold from upto old new before after status
-  listed h u v pairs is last index pass done told written = record {
+      → mid ≡ Some u → new ≡ Some v → v.handle ≡ u.handle → status ≡ DONE
+      → IsTold h.before.handle.index.layout h.before.handle.pass u.handle.pass from upto (limit before) pairs is_more → IsWritten pairs is_more before after → ListsInto limit IsWritten IsTold from upto old new before after status
+  listed h u v pairs is last kept done told written = record {
     closed = λ none. absurd (not_closed h u is none);
     long = λ some no. absurd (no h.fit);
-    made = λ some f t. inl (done, pairs, _, stays h u is (λ layout k j. IsTold layout k j from upto (limit before) pairs _) new v last index pass told, written);
-    read = λ some f t. reads h u is new v last index pass;
+    made = λ some f t. inl (done, pairs, _, stays h u is (λ layout k j. IsTold layout k j from upto (limit before) pairs _) new v last kept told, written);
+    read = λ some f t. reads h u is new v last kept;
   }
 
   pub unlisted : ListsNothing from upto (limit before) old new status → after ≡ before → ListsInto limit IsWritten IsTold from upto old new before after status

@@ -1,6 +1,7 @@
 -- Look-ups, answered one after the other.
 use Rattle.std.proofs.Common.{◌≡◌, ℕ, zero, suc, ◌+◌, ◌<◌, List, [], ◌∷◌, ◌++◌, length, map, take, get_or, slice_set, All, Option, None, Some, inl, inr, IsSome, refl, sym, ap, ◌∙◌, subst, arith}
 use Rattle.std.proofs.lemmas.List.{length-map}
+use Rattle.hot_index.specs.Handles.{Stays}
 use Rattle.hot_index.specs.Many.{AreNoted, HasGotMany, gets}
 use Rattle.hot_index.specs.Traces.{untold}
 use Rattle.hot_c.specs.Calls.{FitsInKey}
@@ -37,10 +38,10 @@ first_of n xs zs many = ap (λ m. take m (xs ++ zs)) many ∙ first_all xs zs
 some_is_none : (s : Opened) → Some s ≡ None → ⊥
 some_is_none s e = cc
 
-pub looked_up : (old new : Option Opened) (before after : List Lookup) (status : ℕ) (s u : Opened) (keys : List (List ℕ)) (found : List (Option ℕ)) → old ≡ Some s → new ≡ Some u → u.index ≡ s.index
-    → All (λ it. FitsInKey (key_in it)) before → keys ≡ map key_in before → length found ≡ length before → AreNoted s.index.value.layout s.pass u.pass (gets keys found) → HasGotMany s.index.value untold (length keys) (s.pass, tt) (u.pass, tt) → status ≡ DONE
+pub looked_up : (old new : Option Opened) (before after : List Lookup) (status : ℕ) (s u : Opened) (keys : List (List ℕ)) (found : List (Option ℕ)) → old ≡ Some s → new ≡ Some u
+    → All (λ it. FitsInKey (key_in it)) before → keys ≡ map key_in before → length found ≡ length before → Stays (λ index k j. AreNoted index.layout k j (gets keys found) × HasGotMany index untold (length keys) (k, tt) (j, tt)) s.handle u.handle → status ≡ DONE
     → after ≡ are_answered before found → LooksUpAll old new before after status
-looked_up old new before after status s u keys found was is index fit keys_are many noted steps done told = record {
+looked_up old new before after status s u keys found was is fit keys_are many stays done told = record {
   closed = λ none. absurd (some_is_none s (sym was ∙ none));
   long = λ some no. absurd (no fit);
   made = λ some short. inl (
@@ -52,11 +53,13 @@ looked_up old new before after status s u keys found was is index fit keys_are m
       after = u;
       was = was;
       is = is;
-      index = index;
-      became = (
-        subst (λ (l : List (List ℕ)). AreNoted s.index.value.layout s.pass u.pass (gets l found)) keys_are noted,
-        subst (λ n. HasGotMany s.index.value untold n (s.pass, tt) (u.pass, tt)) (ap length keys_are ∙ length-map before key_in) steps,
-      );
+      stays = record {
+        index = stays.index;
+        pass = (
+          subst (λ (l : List (List ℕ)). AreNoted s.handle.index.layout s.handle.pass u.handle.pass (gets l found)) keys_are stays.pass.0,
+          subst (λ n. HasGotMany s.handle.index untold n (s.handle.pass, tt) (u.handle.pass, tt)) (ap length keys_are ∙ length-map before key_in) stays.pass.1,
+        );
+      };
     },
     told,
   );

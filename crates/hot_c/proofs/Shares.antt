@@ -16,7 +16,7 @@ Shared = Box Opened Global
 
 -- each has its share of the index, and the pass of its place
 abbrev pub AreShares : TableView → List Shared → Type 0
-AreShares index shared = (q : ℕ) (b : Shared) → slice_get shared q ≡ Some b → (b.value.index.value ≡ index) × IsNewPass q b.value.pass
+AreShares index shared = (q : ℕ) (b : Shared) → slice_get shared q ≡ Some b → (b.value.handle.index ≡ index) × IsNewPass q b.value.handle.pass
 
 pub are_new : {E D : Type 0} (Q : E → D → Type 0) (index : TableView) (passes count : ℕ) (HasRecords : Layout → Type 0) (r : Result (Vec Shared Global) E) (s : Result (Vec Shared Global) D)
     → MatchResult r (λ x. s ≡ Ok x) (λ e. IsErrAnd s (Q e)) → (index.layout.passes ≡ passes) × HasRecords index.layout → count ≡ passes
@@ -26,7 +26,7 @@ are_new Q index passes count HasRecords (Ok x) s same layout all long each = sub
   layout = layout;
   count = length-map x.items (λ (b : Shared). b.value) ∙ long ∙ all;
   each = λ q o got. let found = mapped (λ (b : Shared). b.value) x.items q o got in
-      subst (λ (p : Opened). (p.index.value ≡ index) × IsNewPass q p.pass) found.2 (each q found.0 found.1);
+      subst (λ (p : Opened). (p.handle.index ≡ index) × IsNewPass q p.handle.pass) found.2 (each q found.0 found.1);
 })
 are_new Q index passes count HasRecords (Err e) (Err d) same layout all long each = tt
 are_new Q index passes count HasRecords (Err e) (Ok x) same layout all long each = absurd same

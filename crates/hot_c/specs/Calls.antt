@@ -12,6 +12,7 @@ use Rattle.rowex_table.specs.Seats.{TableView}
 use Rattle.rowex_writing.specs.declared.attempts.TryFault.{TryFault}
 use Rattle.hot_index.specs.Answers.{IsNoted, IsRefused, IsUnnoted}
 use Rattle.hot_index.specs.Census.{HasCounted}
+use Rattle.hot_index.specs.Handles.{Stays}
 use Rattle.hot_index.specs.Passes.{PassView, IsNewPass}
 use Rattle.hot_index.specs.Traces.{HasCollected, HasGot, HasMade, untold}
 use Rattle.hot_index.specs.declared.census.RecordCounts.{RecordCounts}
@@ -24,14 +25,13 @@ use Rattle.hot_c.specs.declared.status.TheConstants.{KEY_TOO_LONG, CLOSED}
 abbrev pub FitsInKey : List ℕ → Type 0
 FitsInKey key = length key ≤ MAX_BYTES
 
--- An open handle stays open, on the same index, and this became of its pass.
+-- An open handle stays open, at the same index, and this became of its pass.
 pub record StaysOpen (Became : TableView → PassView → PassView → Type 0) (old new : Option Opened) : Type 0 where
   pub before : Opened
   pub after : Opened
   pub was : old ≡ Some before
   pub is : new ≡ Some after
-  pub index : after.index ≡ before.index
-  pub became : Became before.index.value before.pass after.pass
+  pub stays : Stays Became before.handle after.handle
 
 -- A call for a key had this outcome: it was noted with the reply, or refused for the cause.
 abbrev pub HasOutcome : Call → Result Reply TryFault → TableView → PassView → PassView → Type 0
@@ -76,7 +76,7 @@ pub record AreNew (passes : ℕ) (HasRecords : Layout → Type 0) (opened : List
   pub index : TableView
   pub layout : (index.layout.passes ≡ passes) × HasRecords index.layout
   pub count : length opened ≡ passes
-  pub each : (q : ℕ) (o : Opened) → slice_get opened q ≡ Some o → (o.index.value ≡ index) × IsNewPass q o.pass
+  pub each : (q : ℕ) (o : Opened) → slice_get opened q ≡ Some o → (o.handle.index ≡ index) × IsNewPass q o.handle.pass
 
 -- the handles are open, on one new index with such records, each with the pass of its place
 abbrev pub HaveOpenedOn : (Layout → Type 0) → List Handle → Type 0

@@ -20,12 +20,12 @@ pub record HasFilled (IsMade : Layout → PassView → PassView → List ℕ →
   pub after : Opened
   pub was : old ≡ Some before
   pub is : new ≡ Some after
-  pub index : after.index ≡ before.index
+  pub index : after.handle.index ≡ before.handle.index
   pub fit : FitsInKey from × FitsInKey upto
   pub count_is : count ≡ length after.list
   pub few : count ≤ limit
-  pub made : IsMade before.index.value.layout before.pass after.pass from upto limit after.list is_more
-  pub read : HasGotRange before.index.value untold limit (before.pass, tt) (after.pass, tt)
+  pub made : IsMade before.handle.index.layout before.handle.pass after.handle.pass from upto limit after.list is_more
+  pub read : HasGotRange before.handle.index untold limit (before.handle.pass, tt) (after.handle.pass, tt)
 
 -- A scan through a handle lists nothing. A closed handle and a key that is too long are told as such, and nothing has changed; else
 -- there is no memory for a pair that it found, and it has made the steps of a scan, so many at most.

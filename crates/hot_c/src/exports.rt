@@ -103,13 +103,13 @@ pub extern "C" fn hot_stock_bytes(stock: &HotStock, handles: usize, bytes: &mut 
 #[unsafe(no_mangle)]
 pub extern "C" fn hot_number(handle: &mut Handle, number: &mut u16) -> u32
     ensures closed { handle.old.slot.opened ≡ None → (result ≡ CLOSED) × (number.new ≡ number.old) }
-    ensures number { (was : Opened) → handle.old.slot.opened ≡ Some was → (result ≡ DONE) × (number.new ≡ was.pass.number) }
+    ensures number { (was : Opened) → handle.old.slot.opened ≡ Some was → (result ≡ DONE) × (number.new ≡ was.handle.pass.number) }
     ensures kept { handle.new.slot.opened ≡ handle.old.slot.opened }
 {
     if !handle.is_open() {
         return CLOSED;
     }
-    *number = handle.slot.lend().pass.number();
+    *number = handle.slot.lend().handle.number();
     DONE
 }
 
@@ -149,7 +149,7 @@ pub extern "C" fn hot_get_many(
     let Ok(mut found) = Vec::from_elem(alloc, None, keys.len()) else {
         return NO_MEMORY;
     };
-    handle.slot.lend().get_many(&keys, &mut found);
+    handle.slot.lend().handle.get_many(&keys, &mut found);
     write_found(&found, lookups);
     DONE
 }
@@ -232,7 +232,7 @@ pub extern "C" fn hot_collect(handle: &mut Handle, nodes: &mut u32, leaves: &mut
     if !handle.is_open() {
         return CLOSED;
     }
-    let given = handle.slot.lend().collect();
+    let given = handle.slot.lend().handle.collect();
     *nodes = given.nodes;
     *leaves = given.leaves;
     DONE
@@ -248,7 +248,7 @@ pub extern "C" fn hot_census(handle: &mut Handle, counts: &mut RecordCounts) -> 
     if !handle.is_open() {
         return CLOSED;
     }
-    *counts = handle.slot.lend().census();
+    *counts = handle.slot.lend().handle.census();
     DONE
 }
 

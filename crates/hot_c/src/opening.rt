@@ -70,14 +70,15 @@ fn share(
 ) -> Result<Vec<Box<Opened, Global>>, AllocError>
     requires { (q : ℕ) (p : PassView) → slice_get passes.items q ≡ Some p → Owns index p × IsNewPass q p }
     ensures count { IfOk result (λ shared. length shared.items ≡ length passes.items) }
-    ensures each { IfOk result (λ shared. (q : ℕ) (b : _) → slice_get shared.items q ≡ Some b → (b.value.index.value ≡ index) × IsNewPass q b.value.pass) }
+    ensures each { IfOk result (λ shared. (q : ℕ) (b : _) → slice_get shared.items q ≡ Some b → (b.value.handle.index ≡ index) × IsNewPass q b.value.handle.pass) }
 {
     let index = Arc::new(alloc, index)?;
     let mut shared = Vec::new(alloc);
     for pass in passes {
         let index = Arc::try_clone(&index)?;
+        let handle = hot_index::Handle::new(index, pass);
         let list = Pairs::new(alloc);
-        shared.push(Box::new(alloc, Opened { index, pass, list })?)?;
+        shared.push(Box::new(alloc, Opened { handle, list })?)?;
     }
     Ok(shared)
 }

@@ -5,5 +5,5 @@ use Rattle.hot_c.proofs.Answered.{answered, of_key}
 use Rattle.hot_c.proofs.exports.hot_get.Goals as goal
 
 pub returns-in-Ok-clause-call : goal.returns-in-Ok-clause-call
-returns-in-Ok-clause-call c = answered Get c.args.key.now _ _ _ _ _ _ _ _ (Ok c.get.result) c.lend.ensures.value refl c.get.ensures.index c.get.ensures.call c.get.ensures.made
+returns-in-Ok-clause-call c = answered Get c.args.key.now _ _ _ _ _ _ _ _ (Ok c.get.result) c.lend.ensures.value refl c.get.ensures
     (of_key c.args.key.now _ _ c.in-Ok.is c.from_bytes.ensures.fits c.from_bytes.ensures.ok) c.tell.ensures.status c.tell.ensures.value

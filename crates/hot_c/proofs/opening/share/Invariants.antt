@@ -12,5 +12,5 @@ invariant-loop-pass l = record {
   long : into_iter_len l.pass-iterator ≡ length (into_iter_items l.pass-iterator);
   count : length l.shared.items + length (into_iter_items l.pass-iterator) ≡ length l.fn.passes.items;
   left : AreFrom (λ q (p : PassView). Owns l.index.value p × IsNewPass q p) (length l.shared.items) (into_iter_items l.pass-iterator);
-  each : (q : ℕ) (b : Box Opened Global) → slice_get l.shared.items q ≡ Some b → (b.value.index.value ≡ l.index.value) × IsNewPass q b.value.pass;
+  each : (q : ℕ) (b : Box Opened Global) → slice_get l.shared.items q ≡ Some b → (b.value.handle.index ≡ l.index.value) × IsNewPass q b.value.handle.pass;
 }

@@ -37,7 +37,7 @@ returns-after-is_more c =
     let is_further : c.if-is_more.from ≡ (c.in-Ok.is_more || nat_lt c.len.result c.in-Ok.found) =
     elim c.if-is_more.branch [ then-is_more w ↦ first _ _ _ w.if-is_more.true w.from-is | else-is_more w ↦ second _ _ _ w.if-is_more.false w.from-is ] in
     record {
-      call = listed IsListedByParts h u c.empty_list.new.self u.list is refl c.empty_list.ensures.index c.empty_list.ensures.pass refl
+      call = listed IsListedByParts h u c.empty_list.new.self u.list is refl c.empty_list.ensures refl
           (by_parts _ _ _ _ _ _ _ _ small (made_here h u is)) (record {
             written = c.fit.new.self;
             fit = c.fit.ensures;

@@ -8,10 +8,10 @@ pub returns-in-Ok-clause-ok : goal.returns-in-Ok-clause-ok
 returns-in-Ok-clause-ok c = filled c.args.from.now c.args.upto.now _ _ _ _ _ _ _ c.lend-opened.ensures.value
     (of_key c.args.from.now _ _ c.in-Ok-Ok.is-0 c.from_bytes.ensures.fits c.from_bytes.ensures.ok)
     (of_key c.args.upto.now _ _ c.in-Ok-Ok.is-1 c.from_bytes-2.ensures.fits c.from_bytes-2.ensures.ok)
-    c.args.order _ _ refl c.in-Ok.ensures.index c.in-Ok.ensures.ok c.in-Ok.ensures.read c.len.ensures.count c.len.ensures.short
+    c.args.order _ _ refl c.in-Ok.ensures.index c.in-Ok.ensures.pass.ok c.in-Ok.ensures.pass.read c.len.ensures.count c.len.ensures.short
 
 pub returns-in-Err-clause-err : goal.returns-in-Err-clause-err
 returns-in-Err-clause-err c = unfilled c.args.from.now c.args.upto.now _ _ _ _ _ _ c.scan.new.self c.lend-opened.ensures.value
     (of_key c.args.from.now _ _ c.in-Ok-Ok.is-0 c.from_bytes.ensures.fits c.from_bytes.ensures.ok)
     (of_key c.args.upto.now _ _ c.in-Ok-Ok.is-1 c.from_bytes-2.ensures.fits c.from_bytes-2.ensures.ok)
-    _ _ refl c.empty_list.ensures.index c.empty_list.ensures.pass c.in-Err.ensures.index c.in-Err.ensures.err c.in-Err.ensures.memory c.in-Err.ensures.read refl
+    _ _ refl c.empty_list.ensures c.in-Err.ensures.index c.in-Err.ensures.pass.err c.in-Err.ensures.pass.memory c.in-Err.ensures.pass.read refl

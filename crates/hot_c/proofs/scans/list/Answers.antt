@@ -13,7 +13,7 @@ returns-in-Ok c =
     let u = c.lend-opened.result.now in
     let is = c.lend-opened.ensures.value in
     let many = sym (as_many c.args.order u.list) in
-    listed (IsListedIn c.args.order) h u c.empty_list.new.self (in_order c.args.order u.list) is refl c.empty_list.ensures.index c.empty_list.ensures.pass refl
+    listed (IsListedIn c.args.order) h u c.empty_list.new.self (in_order c.args.order u.list) is refl c.empty_list.ensures refl
     (in_its_order c.args.order _ _ _ _ _ _ _ _ (made_here h u is)) (record {
       short = subst (λ n. n ≤ length c.args.room.now) many (few_here h u is);
       written = c.write_in.ensures.written;
