@@ -1,6 +1,5 @@
 -- One look-up more is answered.
-use Rattle.std.proofs.Common.{◌≡◌, ◌<◌, ◌+◌, ◌∙◌, ap, sym, length, take, arith}
-use Rattle.hot_c.specs.Lookups.{answer, are_answered}
+use Rattle.std.proofs.Common.{arith}
 use Rattle.hot_c.proofs.LookedUp.{none_answered, one_answered}
 use Rattle.hot_c.proofs.lookups.write_found.Goals as goal
 
