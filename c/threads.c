@@ -1,5 +1,5 @@
-/* Tests of the library by threads: two that change keys of all lengths beside two that read by each call; and four that make calls by
- * chance where few records are to spare, or none. */
+/* Tests of the library by threads: two that change keys of all lengths beside two that look up, scan and list; and four that make calls
+ * by chance where few records are to spare, or none. */
 #include "hot.h"
 #include <pthread.h>
 #include <sched.h>
@@ -424,6 +424,6 @@ int main(void) {
         test_crowd(crowds[i][0], crowds[i][1], crowds[i][2]);
     test_filling();
     if (!failures)
-        puts("passed: threads that read by each call while others change keys of all lengths, and threads where few records are to spare");
+        puts("passed: threads that read while others change keys of all lengths, and threads where few records are to spare");
     return failures;
 }

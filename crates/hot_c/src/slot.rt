@@ -1,4 +1,4 @@
-//! A place for an open handle's pass, behind an untyped pointer that C may hold.
+//! A place for what an open handle holds, behind an untyped pointer that C may hold.
 
 ghost use Rattle.std.specs.Prelude.{◌≡◌, Option as Maybe, None, Some, IsSome};
 ghost use Rattle.hot_c.specs.Owning.{owns_opened};
@@ -9,7 +9,7 @@ use std::alloc::Global;
 use std::marker::Model;
 use std::ptr::null_mut;
 
-/// An opened pass with its index, or nothing. Dropping a slot doesn't drop what it holds.
+/// What an open handle holds, or nothing. Dropping a slot doesn't drop what it holds.
 #[repr(C)]
 #[derive(Drop)]
 pub struct Slot {

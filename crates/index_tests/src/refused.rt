@@ -1,5 +1,5 @@
-//! Tests that pass also where any one allocation is refused: the call that was refused memory says so, and succeeds when it is made
-//! again. What they share asks again, too.
+//! Tests that pass also where any one allocation is refused: the call that was refused memory says so, and mostly is made again then,
+//! and succeeds. What they share asks again, too.
 
 ghost use Rattle.std.specs.Prelude.{All, IfOk};
 ghost use Rattle.hot_index.specs.Passes.{Owns};
