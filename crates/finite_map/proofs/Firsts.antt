@@ -225,7 +225,7 @@ module _ (front : List Change) (from upto : List ℕ) (limit : ℕ) (scan : Scan
 
   -- what the range has beyond the pairs
   beyond : (more : Map) × (range ≡ pairs ++ more)
-  beyond = begins pairs range h.rising (range-rising front from upto) first
+  beyond = begins pairs range h.ordered (range-rising front from upto) first
 
   -- the pairs are the range's first ones
   first_pairs : (more : Map) → range ≡ pairs ++ more → (length pairs ≡ limit) ⊎ (more ≡ []) → pairs ≡ take limit range

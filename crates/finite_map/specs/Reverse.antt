@@ -1,6 +1,6 @@
 -- Scans of a range from its end downwards: of one map outright, and lawful ones while the map changes. They say what `Scans` says of
 -- scans in rising order.
-use Rattle.std.specs.Prelude.{◌≡◌, ◌≢◌, ℕ, ◌≤◌, ◌<◌, ◌↔◌, List, length, take, reverse, All, Any, Contains, true, false, IsTrue}
+use Rattle.std.specs.Prelude.{◌≡◌, ◌≢◌, ℕ, ◌<◌, ◌↔◌, List, length, take, reverse, All, Any, IsTrue}
 use Rattle.std.specs.declared.cmp.Ordering.{Ordering}
 use Rattle.std.specs.declared.cmp.Ordering.TheVariants.{Less}
 use Rattle.std.specs.List.Sorted.{IsStrictlySortedBy}
@@ -8,8 +8,7 @@ use Rattle.std.specs.Map.{keys_of}
 use Rattle.finite_map.specs.declared.Change.{Change}
 use Rattle.finite_map.specs.declared.Scan.{Scan}
 use Rattle.finite_map.specs.Maps.{Map, key_order}
-use Rattle.finite_map.specs.Fronts.{BeginsWith}
-use Rattle.finite_map.specs.Scans.{is_within, range_of, IsHeldBetween, IsNeverRemoved}
+use Rattle.finite_map.specs.Scans.{range_of, IsLawfulScanWith}
 
 -- the order of keys, turned round
 abbrev pub falling_order : List ℕ → List ℕ → Ordering
@@ -32,19 +31,6 @@ IsDownToLast pairs key = Any (λ e. key_order key e.0 ≢ Less) pairs
 abbrev pub IsBelowLast : Map → List ℕ → Type 0
 IsBelowLast pairs key = All (λ e. key_order key e.0 ≡ Less) pairs
 
--- A scan of the keys from `upto` down to `from`, while the front `before` grew to `after`.
-pub record IsLawfulReverseScan (before after : List Change) (from upto : List ℕ) (limit : ℕ) (scan : Scan) : Type 0 where
-  pub begins : BeginsWith after before
-  pub falling : HasFallingKeys scan.pairs.items
-  pub within : All (λ e. IsTrue (is_within from upto e.0)) scan.pairs.items
-  pub short : length scan.pairs.items ≤ limit
-  pub held : All (λ e. IsHeldBetween before after e.0 e.1) scan.pairs.items
-  -- without `more`, each key of the range that was there all along is listed
-  pub whole : scan.more ≡ false → (key : List ℕ) → IsTrue (is_within from upto key) → IsNeverRemoved before after key → Contains (keys_of scan.pairs.items) key
-  -- with `more`, each such key down to the last pair's is listed
-  pub part : scan.more ≡ true → (key : List ℕ) → IsTrue (is_within from upto key) → IsNeverRemoved before after key → IsDownToLast scan.pairs.items key →
-      Contains (keys_of scan.pairs.items) key
-  -- with `more`, the scan is full, and some key of the range below the last pair's was there meanwhile
-  pub full : scan.more ≡ true → length scan.pairs.items ≡ limit
-  pub further : scan.more ≡ true → (key : List ℕ) × (value : ℕ) × IsTrue (is_within from upto key) × IsHeldBetween before after key value ×
-      IsBelowLast scan.pairs.items key
+-- a scan from `upto` down to `from`
+abbrev pub IsLawfulReverseScan : List Change → List Change → List ℕ → List ℕ → ℕ → Scan → Type 0
+IsLawfulReverseScan = IsLawfulScanWith HasFallingKeys IsDownToLast IsBelowLast

@@ -70,18 +70,18 @@ module _ {before after : List Change} {from upto : List ℕ} {limit : ℕ} (whol
   -- what is not above the last of the first pairs is not above the last of all
   up_all : (key : List ℕ) → IsUpToLast (take n pairs) key → IsUpToLast pairs key
   up_all key (j, e, front, at, up) =
-      let long = many pairs (subst IsRising all law.rising) n few in
+      let long = many pairs (subst IsRising all law.ordered) n few in
       let inside : j < n = omega (arith, front, long) in
       (j, e, omega (arith, inside, few), sym (get_or-take n pairs j e inside) ∙ at, up)
 
   pub cut : (scan : Scan) → scan.pairs.items ≡ take n pairs → scan.more ≡ true → IsLawfulScan before after from upto n scan
   cut scan is more =
-      let rising = subst IsRising all law.rising in
+      let rising = subst IsRising all law.ordered in
       let next = get_or pairs n ([], 0) in
       let long = many pairs rising n few in
       record {
         begins = law.begins;
-        rising = subst IsRising (sym is) (rising_part pairs rising n few);
+        ordered = subst IsRising (sym is) (rising_part pairs rising n few);
         within = subst (All (λ (e : List ℕ × ℕ). IsTrue (is_within from upto e.0))) (sym is) (All-take (λ (e : List ℕ × ℕ). IsTrue (is_within from upto e.0)) n pairs (subst (All (λ (e : List ℕ × ℕ). IsTrue (is_within from upto e.0))) all law.within));
         short = let m = ap length is in omega (arith, m, long);
         held = subst (All (λ (e : List ℕ × ℕ). IsHeldBetween before after e.0 e.1)) (sym is) (All-take (λ (e : List ℕ × ℕ). IsHeldBetween before after e.0 e.1) n pairs (subst (All (λ (e : List ℕ × ℕ). IsHeldBetween before after e.0 e.1)) all law.held));

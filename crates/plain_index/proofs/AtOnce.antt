@@ -96,7 +96,7 @@ module _ (front : List Change) (from upto : List ℕ) where
       let from_range : (P : Map → Type 0) → P (take limit range) → P scan.pairs.items = λ P p. subst P (sym h.pairs) p in
       record {
         begins = begins_itself front;
-        rising = from_range IsRising (subst (IsStrictlySortedBy key_order) (take-map {X = List ℕ × ℕ} (λ x. x.0) limit range) (take-sorted limit (keys_of range) (range-rising front from upto)));
+        ordered = from_range IsRising (subst (IsStrictlySortedBy key_order) (take-map {X = List ℕ × ℕ} (λ x. x.0) limit range) (take-sorted limit (keys_of range) (range-rising front from upto)));
         within = from_range (All (λ e. IsTrue (is_within from upto e.0))) (All-take (λ e. IsTrue (is_within from upto e.0)) limit range within);
         short = from_range (λ (xs : Map). length xs ≤ limit) (omega arith);
         held = from_range (All (λ e. IsHeldBetween front front e.0 e.1)) (All-take (λ e. IsHeldBetween front front e.0 e.1) limit range held);
