@@ -67,7 +67,7 @@ module _ {layout : Layout} {i : Known} (s t : SeatView) (looks : HasLooked s.kno
         taken = [];
         pairs_are = refl;
         answer = λ c lawful recalls. let (key, value, inside, held) = found c lawful recalls in record {
-          falling = tt;
+          ordered = tt;
           within = tt;
           held = tt;
           full = refl;

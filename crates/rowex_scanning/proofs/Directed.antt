@@ -68,8 +68,8 @@ module _ (s : Past) (m : ℕ) (g : Range) where
 
   -- the limit of its pairs would do
   pub scan_limited : (d : Direction) (n : ℕ) (fs : List Stage) (xs : List Pair) → length xs ≤ n → IsScanBy d s m g fs xs → IsScanBy d s m (limited g n) fs xs
-  scan_limited Upwards n fs xs few w = record { stack = w.stack; falling = w.falling; within = w.within; held = w.held; passed = w.passed; short = few; covered = w.covered }
-  scan_limited Downwards n fs xs few w = record { stack = w.stack; climbing = w.climbing; within = w.within; held = w.held; passed = w.passed; short = few; covered = w.covered }
+  scan_limited Upwards n fs xs few w = record { stack = w.stack; ordered = w.ordered; within = w.within; held = w.held; passed = w.passed; short = few; covered = w.covered }
+  scan_limited Downwards n fs xs few w = record { stack = w.stack; ordered = w.ordered; within = w.within; held = w.held; passed = w.passed; short = few; covered = w.covered }
 
   -- while the past grows
   pub scan_grown : (d : Direction) (t : Past) (fs : List Stage) (xs : List Pair) → IsGrown s t → IsScanBy d s m g fs xs → IsScanBy d t m g fs xs
@@ -81,8 +81,8 @@ module _ (s : Past) (m : ℕ) (g : Range) where
   none_between d low = go d (λ k range. never_before g.upto k (before_most g.upto g.from k low range.0) range.1)
     where
       go : (d : Direction) → ((k : Key) → IsInRange g k → ⊥) → IsAnswer d s m g [] false
-      go Upwards none = record { falling = tt; within = tt; held = tt; short = omega arith; covered = λ k kept range. absurd (none k range) }
-      go Downwards none = record { climbing = tt; within = tt; held = tt; short = omega arith; covered = λ k kept range. absurd (none k range) }
+      go Upwards none = record { ordered = tt; within = tt; held = tt; short = omega arith; covered = λ k kept range. absurd (none k range) }
+      go Downwards none = record { ordered = tt; within = tt; held = tt; short = omega arith; covered = λ k kept range. absurd (none k range) }
 
   -- ---- the root is None, or a leaf
   pub answer_blank : (d : Direction) → IsBlank s m → IsAnswer d s m g [] false

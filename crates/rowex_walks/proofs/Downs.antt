@@ -76,7 +76,7 @@ pub down_push : (s : Past) (m : ℕ) → IsSteady s m → (g : Range) (f : Frame
     IsDownScan s m g (record { number = c; height = h; shape = p; place = size p } ∷ f ∷ fs) xs
 down_push s m law g f fs xs w c h p at sh = record {
   stack = (at, sh, stack_place s m f f.place fs w.stack);
-  climbing = w.climbing;
+  ordered = w.ordered;
   within = w.within;
   held = w.held;
   passed = every_map (λ x. IsPassedDown s m x.key (next f ∷ fs)) (λ x. IsPassedDown s m x.key (record { number = c; height = h; shape = p; place = size p } ∷ f ∷ fs)) xs (λ x y. inr y) w.passed;
@@ -95,7 +95,7 @@ pub down_pop : (s : Past) (m : ℕ) → IsSteady s m → (g : Range) (f e : Fram
     f.place ≡ 0 → IsDownScan s m g (e ∷ fs) xs
 down_pop s m law g f e fs xs w over = record {
   stack = w.stack.2;
-  climbing = w.climbing;
+  ordered = w.ordered;
   within = w.within;
   held = w.held;
   passed = every_map (λ x. IsPassedDown s m x.key (f ∷ e ∷ fs)) (λ x. IsPassedDown s m x.key (e ∷ fs)) xs (λ x y. back x.key y) w.passed;
@@ -116,7 +116,7 @@ down_pop s m law g f e fs xs w over = record {
 -- The last frame has no place left: all is covered.
 pub down_end : (s : Past) (m : ℕ) → (g : Range) (f : Frame) (xs : List Pair) → IsDownScan s m g (f ∷ []) xs → f.place ≡ 0 → IsDownComplete s m g xs
 down_end s m g f xs w over = record {
-  climbing = w.climbing;
+  ordered = w.ordered;
   within = w.within;
   held = w.held;
   short = w.short;
@@ -157,7 +157,7 @@ module _ (s : Past) (m : ℕ) (law : IsSteady s m) (g : Range) (f : Frame) (fs :
   pub down_skip : IsBefore g.upto l → IsDownScan s m g (f ∷ fs) xs
   down_skip high = record {
     stack = stack_place s m f f.place fs w.stack;
-    climbing = w.climbing;
+    ordered = w.ordered;
     within = w.within;
     held = w.held;
     passed = passed_then;
@@ -174,7 +174,7 @@ module _ (s : Past) (m : ℕ) (law : IsSteady s m) (g : Range) (f : Frame) (fs :
   pub down_take : IsInRange g l → length xs < g.limit → IsDownScan s m g (f ∷ fs) (record { key = l; value = v } ∷ xs)
   down_take r room = record {
     stack = stack_place s m f f.place fs w.stack;
-    climbing = (all_above, w.climbing);
+    ordered = (all_above, w.ordered);
     within = (r, w.within);
     held = (read_held s m n l v is, w.held);
     passed = (inl (f.place, le_refl f.place, fit), passed_then);
@@ -191,7 +191,7 @@ module _ (s : Past) (m : ℕ) (law : IsSteady s m) (g : Range) (f : Frame) (fs :
   -- It is below the range: the scan is at its end.
   pub down_past : IsBefore l g.from → IsDownComplete s m g xs
   down_past low = record {
-    climbing = w.climbing;
+    ordered = w.ordered;
     within = w.within;
     held = w.held;
     short = w.short;
@@ -207,7 +207,7 @@ module _ (s : Past) (m : ℕ) (law : IsSteady s m) (g : Range) (f : Frame) (fs :
   -- It is in the range, and there is no room: the scan is cut.
   pub down_cut : IsInRange g l → length xs ≡ g.limit → IsDownCut s m g xs
   down_cut r full = record {
-    climbing = w.climbing;
+    ordered = w.ordered;
     within = w.within;
     held = w.held;
     full = full;
@@ -239,7 +239,7 @@ left_of_on a b g m k (f ∷ fs) (inr x) = inr (left_of_on a b g m k fs x)
 pub down_on : (a b : Past) → IsGrown a b → (m : ℕ) (x : Range) (fs : List Frame) (xs : List Pair) → IsDownScan a m x fs xs → IsDownScan b m x fs xs
 down_on a b g m x fs xs w = record {
   stack = stack_on a b g m fs w.stack;
-  climbing = w.climbing;
+  ordered = w.ordered;
   within = w.within;
   held = every_map (λ y. IsHeldSince a m y.key y.value) (λ y. IsHeldSince b m y.key y.value) xs (λ y h. held_on a b g m y.key y.value h) w.held;
   passed = every_map (λ y. IsPassedDown a m y.key fs) (λ y. IsPassedDown b m y.key fs) xs (λ y h. passed_down_on a b g m y.key fs h) w.passed;
@@ -296,7 +296,7 @@ pub down_start : (s : Past) (m : ℕ) → IsSteady s m → (g : Range) (f : Fram
     IsOver s m g.upto f.number f.place → IsDownScan s m g (f ∷ fs) []
 down_start s m law g f fs stack over right = record {
   stack = stack;
-  climbing = tt;
+  ordered = tt;
   within = tt;
   held = tt;
   passed = tt;
@@ -311,19 +311,19 @@ down_start s m law g f fs stack over right = record {
 
 -- ---- scans of an empty map, and of one leaf
 pub down_blank : (s : Past) (m : ℕ) (g : Range) → IsBlank s m → IsDownComplete s m g []
-down_blank s m g blank = record { climbing = tt; within = tt; held = tt; short = omega arith; covered = (scan_blank s m g blank).covered }
+down_blank s m g blank = record { ordered = tt; within = tt; held = tt; short = omega arith; covered = (scan_blank s m g blank).covered }
 
 -- The root is a leaf in the range.
 pub down_one : (s : Past) (m : ℕ) → IsSteady s m → (g : Range) (n : ℕ) (l : Key) (v : ℕ) → IsRooted s m (Leaf n) → IsRead s m n l v → IsInRange g l →
     0 < g.limit → IsDownComplete s m g (record { key = l; value = v } ∷ [])
 down_one s m law g n l v root is r room =
     let one = scan_one s m law g n l v root is r room in
-    record { climbing = (tt, tt); within = one.within; held = one.held; short = one.short; covered = one.covered }
+    record { ordered = (tt, tt); within = one.within; held = one.held; short = one.short; covered = one.covered }
 
 -- The limit is 0.
 pub down_nought : (s : Past) (m : ℕ) → (g : Range) (n : ℕ) (l : Key) (v : ℕ) → IsRead s m n l v → IsInRange g l → g.limit ≡ 0 → IsDownCut s m g []
 down_nought s m g n l v is r full = record {
-  climbing = tt;
+  ordered = tt;
   within = tt;
   held = tt;
   full = sym full;
@@ -335,4 +335,4 @@ down_nought s m g n l v is r full = record {
 pub down_outside : (s : Past) (m : ℕ) → IsSteady s m → (g : Range) (n : ℕ) (l : Key) (v : ℕ) → IsRooted s m (Leaf n) → IsRead s m n l v →
     IsBefore l g.from ⊎ IsBefore g.upto l → IsDownComplete s m g []
 down_outside s m law g n l v root is out =
-    record { climbing = tt; within = tt; held = tt; short = omega arith; covered = (scan_outside s m law g n l v root is out).covered }
+    record { ordered = tt; within = tt; held = tt; short = omega arith; covered = (scan_outside s m law g n l v root is out).covered }

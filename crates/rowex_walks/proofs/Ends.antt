@@ -22,7 +22,7 @@ top_height h (f ∷ fs) = top_height f.height fs
 
 pub scan_blank : (s : Past) (m : ℕ) (g : Range) → IsBlank s m → IsComplete s m g []
 scan_blank s m g (n, lo, hi, e) = record {
-  falling = tt;
+  ordered = tt;
   within = tt;
   held = tt;
   short = omega arith;
@@ -36,7 +36,7 @@ scan_blank s m g (n, lo, hi, e) = record {
 pub scan_one : (s : Past) (m : ℕ) → IsSteady s m → (g : Range) (n : ℕ) (l : Key) (v : ℕ) → IsRooted s m (Leaf n) → IsRead s m n l v → IsInRange g l →
     0 < g.limit → IsComplete s m g (record { key = l; value = v } ∷ [])
 scan_one s m law g n l v root is r room = record {
-  falling = (tt, tt);
+  ordered = (tt, tt);
   within = (r, tt);
   held = (read_held s m n l v is, tt);
   short = omega arith;
@@ -47,7 +47,7 @@ scan_one s m law g n l v root is r room = record {
 pub scan_nought : (s : Past) (m : ℕ) → (g : Range) (n : ℕ) (l : Key) (v : ℕ) → IsRead s m n l v → IsInRange g l →
     g.limit ≡ 0 → IsCut s m g []
 scan_nought s m g n l v is r full = record {
-  falling = tt;
+  ordered = tt;
   within = tt;
   held = tt;
   full = sym full;
@@ -59,7 +59,7 @@ scan_nought s m g n l v is r full = record {
 pub scan_outside : (s : Past) (m : ℕ) → IsSteady s m → (g : Range) (n : ℕ) (l : Key) (v : ℕ) → IsRooted s m (Leaf n) → IsRead s m n l v →
     IsBefore l g.from ⊎ IsBefore g.upto l → IsComplete s m g []
 scan_outside s m law g n l v root is out = record {
-  falling = tt;
+  ordered = tt;
   within = tt;
   held = tt;
   short = omega arith;

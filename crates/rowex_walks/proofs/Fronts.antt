@@ -234,7 +234,7 @@ module _ (s : Past) (before rest : List Change) (m : ℕ) (steady : IsSteady s m
   pub complete_lawful : scan.more ≡ false → IsComplete s (length before) g xs → IsLawfulScan before (before ++ rest) g.from g.upto g.limit scan
   complete_lawful ends w = record {
     begins = (rest, refl);
-    ordered = subst (λ (z : Map). IsStrictlySortedBy key_order (keys_of z)) (sym items) (turned_rises xs (are_keys w.held) w.falling);
+    ordered = subst (λ (z : Map). IsStrictlySortedBy key_order (keys_of z)) (sym items) (turned_rises xs (are_keys w.held) w.ordered);
     within = subst (All (λ e. IsTrue (is_within g.from g.upto e.0))) (sym items) (all_within (are_keys w.held) w.within);
     short = subst (λ (z : Map). length z ≤ g.limit) (sym items) (let e = length_turned xs in let l = w.short in omega arith);
     held = subst (All (λ e. IsHeldBetween before (before ++ rest) e.0 e.1)) (sym items) (all_held w.held);
@@ -249,7 +249,7 @@ module _ (s : Past) (before rest : List Change) (m : ℕ) (steady : IsSteady s m
   pub cut_lawful : scan.more ≡ true → IsCut s (length before) g xs → IsLawfulScan before (before ++ rest) g.from g.upto g.limit scan
   cut_lawful goes_on w = record {
     begins = (rest, refl);
-    ordered = subst (λ (z : Map). IsStrictlySortedBy key_order (keys_of z)) (sym items) (turned_rises xs (are_keys w.held) w.falling);
+    ordered = subst (λ (z : Map). IsStrictlySortedBy key_order (keys_of z)) (sym items) (turned_rises xs (are_keys w.held) w.ordered);
     within = subst (All (λ e. IsTrue (is_within g.from g.upto e.0))) (sym items) (all_within (are_keys w.held) w.within);
     short = subst (λ (z : Map). length z ≤ g.limit) (sym items) (let e = length_turned xs in let l = w.full in omega arith);
     held = subst (All (λ e. IsHeldBetween before (before ++ rest) e.0 e.1)) (sym items) (all_held w.held);
@@ -257,7 +257,7 @@ module _ (s : Past) (before rest : List Change) (m : ℕ) (steady : IsSteady s m
     part = λ e k h o u. subst (λ (z : Map). Contains (keys_of z) k) (sym items)
         (listed_turned k xs
         (w.covered k (front_kept s before rest m steady told k o) (in_range g kf ku k (kept_key k o) h)
-        (up_to_newest k xs (kept_key k o) (are_keys w.held) w.falling (subst (λ (z : Map). IsUpToLast z k) items u))));
+        (up_to_newest k xs (kept_key k o) (are_keys w.held) w.ordered (subst (λ (z : Map). IsUpToLast z k) items u))));
     full = λ e. subst (λ (z : Map). length z ≡ g.limit) (sym items) (length_turned xs ∙ w.full);
     further = λ e. more;
   }
@@ -281,7 +281,7 @@ module _ (s : Past) (before rest : List Change) (m : ℕ) (steady : IsSteady s m
   pub complete_lawful_down : scan.more ≡ false → IsDownComplete s (length before) g xs → IsLawfulReverseScan before (before ++ rest) g.from g.upto g.limit scan
   complete_lawful_down ends w = record {
     begins = (rest, refl);
-    ordered = subst (λ (z : Map). IsStrictlySortedBy falling_order (keys_of z)) (sym items) (turned_falls xs (are_keys w.held) w.climbing);
+    ordered = subst (λ (z : Map). IsStrictlySortedBy falling_order (keys_of z)) (sym items) (turned_falls xs (are_keys w.held) w.ordered);
     within = subst (All (λ e. IsTrue (is_within g.from g.upto e.0))) (sym items) (all_within (are_keys w.held) w.within);
     short = subst (λ (z : Map). length z ≤ g.limit) (sym items) (let e = length_turned xs in let l = w.short in omega arith);
     held = subst (All (λ e. IsHeldBetween before (before ++ rest) e.0 e.1)) (sym items) (all_held w.held);
@@ -296,7 +296,7 @@ module _ (s : Past) (before rest : List Change) (m : ℕ) (steady : IsSteady s m
   pub cut_lawful_down : scan.more ≡ true → IsDownCut s (length before) g xs → IsLawfulReverseScan before (before ++ rest) g.from g.upto g.limit scan
   cut_lawful_down goes_on w = record {
     begins = (rest, refl);
-    ordered = subst (λ (z : Map). IsStrictlySortedBy falling_order (keys_of z)) (sym items) (turned_falls xs (are_keys w.held) w.climbing);
+    ordered = subst (λ (z : Map). IsStrictlySortedBy falling_order (keys_of z)) (sym items) (turned_falls xs (are_keys w.held) w.ordered);
     within = subst (All (λ e. IsTrue (is_within g.from g.upto e.0))) (sym items) (all_within (are_keys w.held) w.within);
     short = subst (λ (z : Map). length z ≤ g.limit) (sym items) (let e = length_turned xs in let l = w.full in omega arith);
     held = subst (All (λ e. IsHeldBetween before (before ++ rest) e.0 e.1)) (sym items) (all_held w.held);
@@ -304,7 +304,7 @@ module _ (s : Past) (before rest : List Change) (m : ℕ) (steady : IsSteady s m
     part = λ e k h o u. subst (λ (z : Map). Contains (keys_of z) k) (sym items)
         (listed_turned k xs
         (w.covered k (front_kept s before rest m steady told k o) (in_range g kf ku k (kept_key k o) h)
-        (down_to_newest k xs (kept_key k o) (are_keys w.held) w.climbing (subst (λ (z : Map). IsDownToLast z k) items u))));
+        (down_to_newest k xs (kept_key k o) (are_keys w.held) w.ordered (subst (λ (z : Map). IsDownToLast z k) items u))));
     full = λ e. subst (λ (z : Map). length z ≡ g.limit) (sym items) (length_turned xs ∙ w.full);
     further = λ e. more;
   }

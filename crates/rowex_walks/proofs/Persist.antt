@@ -73,7 +73,7 @@ held_on a b g m k v (n, t, lo, hi, e, h) = (n, t, lo, le_trans hi g.longer, g.ke
 pub scan_on : (a b : Past) → IsGrown a b → (m : ℕ) (x : Range) (fs : List Frame) (xs : List Pair) → IsScan a m x fs xs → IsScan b m x fs xs
 scan_on a b g m x fs xs w = record {
   stack = stack_on a b g m fs w.stack;
-  falling = w.falling;
+  ordered = w.ordered;
   within = w.within;
   held = every_map (λ y. IsHeldSince a m y.key y.value) (λ y. IsHeldSince b m y.key y.value) xs (λ y h. held_on a b g m y.key y.value h) w.held;
   passed = every_map (λ y. IsPassed a m y.key fs) (λ y. IsPassed b m y.key fs) xs (λ y h. passed_on a b g m y.key fs h) w.passed;

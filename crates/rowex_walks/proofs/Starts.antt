@@ -324,7 +324,7 @@ pub scan_start : (s : Past) (m : ℕ) → IsSteady s m → (g : Range) (f : Fram
     ((j : ℕ) (z : Key) → j < f.place → MayStandAt s m f.number j z → IsBefore z g.from) → IsScan s m g (f ∷ fs) []
 scan_start s m law g f fs stack at left = record {
   stack = stack;
-  falling = tt;
+  ordered = tt;
   within = tt;
   held = tt;
   passed = tt;

@@ -83,7 +83,7 @@ pub scan_push : (s : Past) (m : ℕ) → IsSteady s m → (g : Range) (f : Frame
     IsScan s m g (record { number = c; height = h; shape = p; place = 0 } ∷ f ∷ fs) xs
 scan_push s m law g f fs xs w c h p at sh = record {
   stack = (at, sh, w.stack);
-  falling = w.falling;
+  ordered = w.ordered;
   within = w.within;
   held = w.held;
   passed = every_map (λ x. IsPassed s m x.key (f ∷ fs)) (λ x. IsPassed s m x.key (top ∷ f ∷ fs)) xs (λ x y. inr y) w.passed;
@@ -115,7 +115,7 @@ pub scan_pop : (s : Past) (m : ℕ) → IsSteady s m → (g : Range) (f e : Fram
     size f.shape ≤ f.place → IsScan s m g (next e ∷ fs) xs
 scan_pop s m law g f e fs xs w over = record {
   stack = stack_place s m e (suc e.place) fs w.stack.2;
-  falling = w.falling;
+  ordered = w.ordered;
   within = w.within;
   held = w.held;
   passed = every_map (λ x. IsPassed s m x.key (f ∷ e ∷ fs)) (λ x. IsPassed s m x.key (next e ∷ fs)) xs (λ x y. back x.key y) w.passed;
@@ -138,7 +138,7 @@ scan_pop s m law g f e fs xs w over = record {
 pub scan_end : (s : Past) (m : ℕ) → IsSteady s m → (g : Range) (f : Frame) (xs : List Pair) → IsScan s m g (f ∷ []) xs →
     size f.shape ≤ f.place → IsComplete s m g xs
 scan_end s m law g f xs w over = record {
-  falling = w.falling;
+  ordered = w.ordered;
   within = w.within;
   held = w.held;
   short = w.short;
@@ -170,7 +170,7 @@ pub scan_skip : (s : Past) (m : ℕ) → IsSteady s m → (g : Range) (f : Frame
     (n : ℕ) (l : Key) (v : ℕ) → IsPlaced s m f.number f.place (Leaf n) → IsRead s m n l v → IsBefore l g.from → IsScan s m g (next f ∷ fs) xs
 scan_skip s m law g f fs xs w n l v at is low = record {
   stack = stack_place s m f (suc f.place) fs w.stack;
-  falling = w.falling;
+  ordered = w.ordered;
   within = w.within;
   held = w.held;
   passed = every_map (λ x. IsPassed s m x.key (f ∷ fs)) (λ x. IsPassed s m x.key (next f ∷ fs)) xs (λ x y. passed_next s m x.key f fs y) w.passed;
@@ -189,10 +189,10 @@ pub scan_take : (s : Past) (m : ℕ) → IsSteady s m → (g : Range) (f : Frame
     IsScan s m g (next f ∷ fs) (record { key = l; value = v } ∷ xs)
 scan_take s m law g f fs xs w n l v at is r room = record {
   stack = stack_place s m f (suc f.place) fs w.stack;
-  falling = (
+  ordered = (
     every_map (λ x. IsPassed s m x.key (f ∷ fs)) (λ x. IsBefore x.key l) xs
         (λ x y. passed_before s m law f fs w.stack x.key l y f.place (le_refl f.place) fit) w.passed,
-    w.falling,
+    w.ordered,
   );
   within = (r, w.within);
   held = (read_held s m n l v is, w.held);
@@ -217,7 +217,7 @@ scan_take s m law g f fs xs w n l v at is r room = record {
 pub scan_past : (s : Past) (m : ℕ) → IsSteady s m → (g : Range) (f : Frame) (fs : List Frame) (xs : List Pair) → IsScan s m g (f ∷ fs) xs →
     (n : ℕ) (l : Key) (v : ℕ) → IsPlaced s m f.number f.place (Leaf n) → IsRead s m n l v → IsBefore g.upto l → IsComplete s m g xs
 scan_past s m law g f fs xs w n l v at is high = record {
-  falling = w.falling;
+  ordered = w.ordered;
   within = w.within;
   held = w.held;
   short = w.short;
@@ -238,7 +238,7 @@ scan_past s m law g f fs xs w n l v at is high = record {
 pub scan_cut : (s : Past) (m : ℕ) → IsSteady s m → (g : Range) (f : Frame) (fs : List Frame) (xs : List Pair) → IsScan s m g (f ∷ fs) xs →
     (n : ℕ) (l : Key) (v : ℕ) → IsPlaced s m f.number f.place (Leaf n) → IsRead s m n l v → IsInRange g l → length xs ≡ g.limit → IsCut s m g xs
 scan_cut s m law g f fs xs w n l v at is r full = record {
-  falling = w.falling;
+  ordered = w.ordered;
   within = w.within;
   held = w.held;
   full = full;

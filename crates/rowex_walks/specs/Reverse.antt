@@ -1,11 +1,11 @@
 -- What a scan that goes downwards knows: facts of the past alone. They are those of `Scan`, from the right to the left.
-use Rattle.std.specs.Prelude.{◌≡◌, ◌⊎◌, ℕ, suc, ◌<◌, ◌≤◌, List, [], ◌∷◌, length}
+use Rattle.std.specs.Prelude.{◌⊎◌, ℕ, suc, ◌<◌, ◌≤◌, List, [], ◌∷◌}
 use Rattle.tries.specs.Keys.{IsAtMost, Key, IsBefore}
 use Rattle.tries.specs.Place.{spot}
 use Rattle.moments.specs.Frames.{IsGrown}
-use Rattle.moments.specs.State.{Past, IsHeldSince, IsKeptSince, IsSteady}
+use Rattle.moments.specs.State.{Past, IsSteady}
 use Rattle.moments.specs.declared.Rec.TheVariants.{Node as a_node}
-use Rattle.rowex_walks.specs.Scan.{MayStandAt, IsOn, Frame, IsStack, Pair, Every, IsKeyListed, Range, IsInRange}
+use Rattle.rowex_walks.specs.Scan.{MayStandAt, IsOn, Frame, Pair, Every, Range, IsScanWith, IsCompleteWith, IsCutWith}
 
 -- The key may stand at the record's place, or right of it.
 abbrev pub IsFromOn : Past → ℕ → ℕ → ℕ → Key → Type 0
@@ -32,36 +32,20 @@ abbrev pub IsClimbing : List Pair → Type 0
 IsClimbing [] = Unit {0}
 IsClimbing (x ∷ xs) = Every (λ y. IsBefore x.key y.key) xs × IsClimbing xs
 
--- The loop's invariant: the pairs so far (the newest first) and the way.
-pub record IsDownScan (s : Past) (m : ℕ) (g : Range) (fs : List Frame) (xs : List Pair) : Type 0 where
-  pub stack : IsStack s m fs
-  pub climbing : IsClimbing xs
-  pub within : Every (λ x. IsInRange g x.key) xs
-  pub held : Every (λ x. IsHeldSince s m x.key x.value) xs
-  pub passed : Every (λ x. IsPassedDown s m x.key fs) xs
-  pub short : length xs ≤ g.limit
-  pub covered : (k : Key) → IsKeptSince s m k → IsInRange g k → IsKeyListed k xs ⊎ IsLeftOfOne s m k fs
+-- The invariant, and what the scan promises.
+abbrev pub IsDownScan : Past → ℕ → Range → List Frame → List Pair → Type 0
+IsDownScan = IsScanWith IsClimbing IsPassedDown IsLeftOfOne
 
--- What it promises, by moments: complete, or cut at the limit.
-pub record IsDownComplete (s : Past) (m : ℕ) (g : Range) (xs : List Pair) : Type 0 where
-  pub climbing : IsClimbing xs
-  pub within : Every (λ x. IsInRange g x.key) xs
-  pub held : Every (λ x. IsHeldSince s m x.key x.value) xs
-  pub short : length xs ≤ g.limit
-  pub covered : (k : Key) → IsKeptSince s m k → IsInRange g k → IsKeyListed k xs
+abbrev pub IsDownComplete : Past → ℕ → Range → List Pair → Type 0
+IsDownComplete = IsCompleteWith IsClimbing
 
 -- The key is that of the newest pair, or above it.
 abbrev pub IsDownTo : Key → List Pair → Type 0
 IsDownTo k [] = ⊥
 IsDownTo k (x ∷ xs) = IsAtMost x.key k
 
-pub record IsDownCut (s : Past) (m : ℕ) (g : Range) (xs : List Pair) : Type 0 where
-  pub climbing : IsClimbing xs
-  pub within : Every (λ x. IsInRange g x.key) xs
-  pub held : Every (λ x. IsHeldSince s m x.key x.value) xs
-  pub full : length xs ≡ g.limit
-  pub further : (k : Key) × (v : ℕ) × IsInRange g k × IsHeldSince s m k v × Every (λ x. IsBefore k x.key) xs
-  pub covered : (k : Key) → IsKeptSince s m k → IsInRange g k → IsDownTo k xs → IsKeyListed k xs
+abbrev pub IsDownCut : Past → ℕ → Range → List Pair → Type 0
+IsDownCut = IsCutWith IsClimbing IsDownTo (λ nearer further. IsBefore further nearer)
 
 -- Each key that may stand left of this place of the record is below the key, and stays so while the past grows.
 abbrev pub IsBeneath : Past → ℕ → Key → ℕ → ℕ → Type 0

@@ -117,36 +117,50 @@ pub record Range : Type 0 where
 abbrev pub IsInRange : Range → Key → Type 0
 IsInRange g k = IsAtMost g.from k × IsAtMost k g.upto
 
--- The loop's invariant: the pairs so far (the newest first) and the way.
-pub record IsScan (s : Past) (m : ℕ) (g : Range) (fs : List Frame) (xs : List Pair) : Type 0 where
+-- The loop's invariant: the pairs so far (the newest first) and the way. How the pairs are ordered, which keys the scan has passed and
+-- which are still before it, each direction says for itself.
+pub record IsScanWith (IsOrdered : List Pair → Type 0) (IsBehind IsComing : Past → ℕ → Key → List Frame → Type 0)
+    (s : Past) (m : ℕ) (g : Range) (fs : List Frame) (xs : List Pair) : Type 0 where
   pub stack : IsStack s m fs
-  pub falling : IsFalling xs
+  pub ordered : IsOrdered xs
   pub within : Every (λ x. IsInRange g x.key) xs
   pub held : Every (λ x. IsHeldSince s m x.key x.value) xs
-  pub passed : Every (λ x. IsPassed s m x.key fs) xs
+  pub passed : Every (λ x. IsBehind s m x.key fs) xs
   pub short : length xs ≤ g.limit
-  pub covered : (k : Key) → IsKeptSince s m k → IsInRange g k → IsKeyListed k xs ⊎ IsAhead s m k fs
+  pub covered : (k : Key) → IsKeptSince s m k → IsInRange g k → IsKeyListed k xs ⊎ IsComing s m k fs
 
 -- What a scan promises, by moments: complete, or cut at the limit.
-pub record IsComplete (s : Past) (m : ℕ) (g : Range) (xs : List Pair) : Type 0 where
-  pub falling : IsFalling xs
+pub record IsCompleteWith (IsOrdered : List Pair → Type 0) (s : Past) (m : ℕ) (g : Range) (xs : List Pair) : Type 0 where
+  pub ordered : IsOrdered xs
   pub within : Every (λ x. IsInRange g x.key) xs
   pub held : Every (λ x. IsHeldSince s m x.key x.value) xs
   pub short : length xs ≤ g.limit
   pub covered : (k : Key) → IsKeptSince s m k → IsInRange g k → IsKeyListed k xs
+
+-- Cut, some key lies beyond all pairs, and the keys that the newest pair reaches are covered.
+pub record IsCutWith (IsOrdered : List Pair → Type 0) (IsReached : Key → List Pair → Type 0) (IsNearer : Key → Key → Type 0)
+    (s : Past) (m : ℕ) (g : Range) (xs : List Pair) : Type 0 where
+  pub ordered : IsOrdered xs
+  pub within : Every (λ x. IsInRange g x.key) xs
+  pub held : Every (λ x. IsHeldSince s m x.key x.value) xs
+  pub full : length xs ≡ g.limit
+  pub further : (k : Key) × (v : ℕ) × IsInRange g k × IsHeldSince s m k v × Every (λ x. IsNearer x.key k) xs
+  pub covered : (k : Key) → IsKeptSince s m k → IsInRange g k → IsReached k xs → IsKeyListed k xs
+
+-- Of a scan upwards: the invariant, and what it promises.
+abbrev pub IsScan : Past → ℕ → Range → List Frame → List Pair → Type 0
+IsScan = IsScanWith IsFalling IsPassed IsAhead
+
+abbrev pub IsComplete : Past → ℕ → Range → List Pair → Type 0
+IsComplete = IsCompleteWith IsFalling
 
 -- The key is that of one of the pairs, or below one of them.
 abbrev pub IsUpTo : Key → List Pair → Type 0
 IsUpTo k [] = ⊥
 IsUpTo k (x ∷ xs) = IsAtMost k x.key
 
-pub record IsCut (s : Past) (m : ℕ) (g : Range) (xs : List Pair) : Type 0 where
-  pub falling : IsFalling xs
-  pub within : Every (λ x. IsInRange g x.key) xs
-  pub held : Every (λ x. IsHeldSince s m x.key x.value) xs
-  pub full : length xs ≡ g.limit
-  pub further : (k : Key) × (v : ℕ) × IsInRange g k × IsHeldSince s m k v × Every (λ x. IsBefore x.key k) xs
-  pub covered : (k : Key) → IsKeptSince s m k → IsInRange g k → IsUpTo k xs → IsKeyListed k xs
+abbrev pub IsCut : Past → ℕ → Range → List Pair → Type 0
+IsCut = IsCutWith IsFalling IsUpTo IsBefore
 
 -- Each key that may stand at this place of the record, or right of it, is above the key, and stays so while the past grows.
 abbrev pub IsOver : Past → ℕ → Key → ℕ → ℕ → Type 0
