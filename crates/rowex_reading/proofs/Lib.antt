@@ -8,6 +8,7 @@ pub mod Placing
 pub mod Wording
 pub mod Heading
 pub mod Leafing
+pub mod Fronting
 pub mod Comparing
 pub mod Led
 pub mod Looking

@@ -1,7 +1,7 @@
 //! What a pinned pass reads of the tree: the root's entry, the head and the entries of a node, and a leaf.
 
 ghost use Rattle.std.specs.Prelude.{◌≡◌, ◌*◌, ◌<◌, ◌≤◌, ℕ, length, replicate, take, IfSome, IsSome};
-ghost use Rattle.key_bits.specs.Key.{HoldsKey};
+ghost use Rattle.key_bits.specs.Key.{HoldsKey, IsKey};
 ghost use Rattle.key_bits.specs.declared.TheConstants.{MAX_BYTES};
 ghost use Rattle.compound_node.specs.Nodes.{IsLawfulNode, height_of, leaves, node_of};
 ghost use Rattle.compound_node.specs.declared.entries.Entry.TheVariants.{Leaf as LeafEntry, Node as NodeEntry};
@@ -102,8 +102,9 @@ pub fn load_leaf<G: Gate>(
 }
 
 /// Loads the value of a leaf, the length of its key, and the words that have bytes of the key, each of which goes at once to its
-/// place among a key's places. The others are 0, and are not loaded. Gives the length and the value; the places are the key's
-/// then (`Key::of_places`). Inline, so that a caller has them where they were read.
+/// place among these, which may have anything: the key's bytes stand in the first of them then. The words behind are not loaded, and
+/// the places of theirs stay: where all were 0 the places are the key's (`Key::of_places`), else the others mean nothing. Gives the
+/// length and the value. Inline, so that a caller has the bytes where they were read.
 #[inline(always)]
 pub fn load_places<G: Gate>(
     table: &HotTable,
@@ -114,10 +115,10 @@ pub fn load_places<G: Gate>(
 ) -> (usize, u64)
     requires reader { IsReader table.now seat.old }
     requires led { (m : ℕ) × IsLedTo seat.old.known m (LeafEntry number) }
-    requires zeros { places.old ≡ replicate MAX_BYTES 0 }
     ensures reads { Reads table.now G.becomes 0 (leaf_loads (take result.0 places.new)) (seat.old, gate.old) (seat.new, gate.new) }
     ensures few { leaf_loads (take result.0 places.new) ≤ LEAF_FIELDS }
-    ensures places { HoldsKey places.new result.0 }
+    ensures key { IsKey (take result.0 places.new) × (result.0 ≤ MAX_BYTES) }
+    ensures places { places.old ≡ replicate MAX_BYTES 0 → HoldsKey places.new result.0 }
     ensures leaf { (m : ℕ) → IsLedTo seat.old.known m (LeafEntry number) →
         Sure seat.new.known (λ s. IsRead s m number (take result.0 places.new) result.1) }
 {

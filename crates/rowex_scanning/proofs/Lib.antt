@@ -1,5 +1,4 @@
 -- The lemmas of the crate.
-pub mod Fronting
 pub mod Ordering
 pub mod Directed
 pub mod Walking

@@ -3,7 +3,6 @@
 #![tactic(auto)]
 
 mod direction;
-mod loading;
 mod scanning;
 mod start;
 

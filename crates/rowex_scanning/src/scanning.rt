@@ -16,7 +16,6 @@ ghost use Rattle.rowex_scanning.specs.Directions.{first_key as first_key_of};
 ghost use Rattle.rowex_scanning.specs.Scanning.{HasScanned, HasScannedPart, IsBound, IsEntered, IsLeafRefused, IsLeafTaken, IsPairRefused, IsPairTaken, IsReached, IsWalk, asked_range};
 
 use crate::direction::{Direction, behind, first_gap, is_before, is_earlier, next_place};
-use crate::loading::load_bytes;
 use crate::start::start_from;
 use arrayvec::ArrayVec;
 use compound_node::Entry;
@@ -265,7 +264,7 @@ fn take_leaf<G: Gate>(
     ensures taken { IfOk result (IsLeafTaken range.now.direction seat.old.known seat.new.known (asked_range range.now) number pairs.old pairs.new) }
     ensures refused { OnErr result (IsLeafRefused seat.old.known seat.new.known (asked_range range.now) number pairs.old pairs.new) }
 {
-    let (length, value) = load_bytes(table, seat, gate, number, places);
+    let (length, value) = load_places(table, seat, gate, number, places);
     take_pair(pairs, range, &places[..length], value)
 }
 

@@ -25,7 +25,7 @@ returns-then-is_earlier-clause-scanned g c =
     (subst (IsEarlier c.args.range.now.direction (take c.load_places-length.result.0 c.load_places-length.new.places)) (c.as_bytes.ensures.bytes ∙ c.first_key.ensures) (c.is_earlier.ensures.earlier c.if-is_earlier.true))
 
 pub take_pair-requires-clause-key : goal.take_pair-requires-clause-key
-take_pair-requires-clause-key g c = c.load_places-length.ensures.places.key
+take_pair-requires-clause-key g c = c.load_places-length.ensures.key.0
 
 pub take_pair-requires-clause-reached : goal.take_pair-requires-clause-reached
 take_pair-requires-clause-reached g c =
