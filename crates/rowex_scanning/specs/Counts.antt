@@ -5,8 +5,8 @@ use Rattle.rowex_core.specs.declared.event.Event.{Event}
 use Rattle.rowex_table.specs.Seats.{SeatView, TableView}
 use Rattle.rowex_reading.specs.Reads.{Looks, Reads}
 
--- The entries that the walk of a scan loads: one for each node that it enters, and one for each leaf that it reads. A node has two entries
--- or more, so it enters as many nodes as it reads leaves, and at most two more for each node on its way.
+-- The entries that the walk of a scan loads: one for each node that it enters, and at most one for each leaf that it reads. A node has
+-- two entries or more, so it enters as many nodes as it reads leaves, and at most two more for each node on its way.
 abbrev pub walk_entries : ℕ → ℕ
 walk_entries limit = 2 * (9 * MAX_BYTES) + 2 * limit + 1
 
