@@ -49,6 +49,12 @@ struct Tally {
     held_back: bool,
 }
 
+/// What no visits came to.
+const UNVISITED: Tally = Tally {
+    given: 0,
+    held_back: false,
+};
+
 /// Makes the epoch the next one, and gives back each record that was retired in an epoch below this one and below each pin that is
 /// set.
 ///
@@ -146,10 +152,7 @@ fn visit_nodes<G: Gate>(table: &HotTable, seat: &mut TableSeat, gate: &mut G, bo
     ensures same { (seat.new.known.pin ≡ seat.old.known.pin) × (seat.new.known.round ≡ seat.old.known.round) }
     ensures steps { VisitsAll table.now G.becomes bound a_node table.now.layout.nodes result.given (seat.old, gate.old) (seat.new, gate.new) }
 {
-    let mut tally = Tally {
-        given: 0,
-        held_back: false,
-    };
+    let mut tally = UNVISITED;
     let layout = table.layout();
     for number in 0..layout.nodes {
         let start = layout.node(number);
@@ -166,10 +169,7 @@ fn visit_leaves<G: Gate>(table: &HotTable, seat: &mut TableSeat, gate: &mut G, b
     ensures same { (seat.new.known.pin ≡ seat.old.known.pin) × (seat.new.known.round ≡ seat.old.known.round) }
     ensures steps { VisitsAll table.now G.becomes bound a_leaf table.now.layout.leaves result.given (seat.old, gate.old) (seat.new, gate.new) }
 {
-    let mut tally = Tally {
-        given: 0,
-        held_back: false,
-    };
+    let mut tally = UNVISITED;
     let layout = table.layout();
     let mut first = 0;
     while first < layout.leaves {
