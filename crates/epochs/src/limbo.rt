@@ -15,8 +15,8 @@ pub const MOST_VISITED: usize = 128;
 
 /// The limbo list of a pass: the records that it has retired and not given back yet, the oldest first.
 ///
-/// These are plain numbers, which promise nothing: a record of the list may have been given back by another pass's round, and
-/// what finds no place in it is left to full rounds.
+/// These are plain numbers, which promise nothing: a record of the list may have been given back by a full round, of this pass or of
+/// another, and one that finds no place in the list is left to those.
 #[derive(Drop)]
 pub struct Limbo {
     /// The ring of the records that wait.
