@@ -7,7 +7,7 @@ pub fn content_rises()
     ensures { ContentRises }
 {}
 
-/// A bit trie is told by its forks alone.
+/// A bit trie is told by the keys of its leaves and by its forks, one by one.
 pub fn local_is_trie()
     ensures { LocalIsTrie }
 {}
