@@ -61,9 +61,10 @@ abbrev pub IsCutRead : List (List ℕ) → List (List ℕ) → ℕ → Cut → B
 IsCutRead nodes leaves least cut good old new =
     (words : Rec → List ℕ) → AreWordsOf nodes leaves words → (p : Page) → CutShows cut p → IsPartRead nodes leaves words least p good old new
 
--- one leaf more is told, or several
-abbrev pub IsLonger : Linked → Linked → Type 0
-IsLonger old new = length old.items.items < length new.items.items
+-- There is a mark for each record still, and of a part that was read one leaf more is told, or several.
+pub record HasGrown (nodes leaves : List (List ℕ)) (good : Bool) (old new : Linked) : Type 0 where
+  pub room : HasMarks nodes leaves new
+  pub longer : good ≡ true → length old.items.items < length new.items.items
 
 -- a record of the table whose words spell this leaf
 pub record IsLeafAt (leaves : List (List ℕ)) (n : ℕ) (pair : List ℕ × ℕ) : Type 0 where

@@ -1,8 +1,8 @@
 //! Reading a part of a tree: below an entry, or below a fork of a node.
 
-ghost use Rattle.std.specs.Prelude.{IfOk, IsTrue, length, true, ◌≡◌, ◌↔◌};
+ghost use Rattle.std.specs.Prelude.{IfOk, IsTrue, length, ◌≡◌, ◌↔◌};
 ghost use Rattle.tries.specs.Keys.{IsParted};
-ghost use Rattle.replay_trees.specs.Parts.{HasMarks, IsCutRead, IsEntryRead, IsHalfRead, AddsLeaf, IsLonger, IsNodeAt};
+ghost use Rattle.replay_trees.specs.Parts.{HasGrown, HasMarks, IsCutRead, IsEntryRead, IsHalfRead, AddsLeaf, IsNodeAt};
 
 use crate::trees::{Item, Linked};
 use compound_node::{Cut, Entry, Half, Node};
@@ -28,8 +28,7 @@ pub(crate) fn read_entry(
     linked: &mut Linked,
 ) -> Result<bool, AllocError>
     requires { HasMarks records.nodes.now records.leaves.now linked.old }
-    ensures room { IfOk result (λ good. HasMarks records.entry.nodes.now records.entry.leaves.now linked.new) }
-    ensures longer { IfOk result (λ good. good ≡ true → IsLonger linked.old linked.new) }
+    ensures grown { IfOk result (λ good. HasGrown records.entry.nodes.now records.entry.leaves.now good linked.old linked.new) }
     ensures read { IfOk result (λ good. IsEntryRead records.entry.nodes.now records.entry.leaves.now least entry good linked.old linked.new) }
 {
     match entry {
@@ -57,8 +56,7 @@ fn read_half(
     linked: &mut Linked,
 ) -> Result<bool, AllocError>
     requires { HasMarks records.nodes.now records.leaves.now linked.old }
-    ensures room { IfOk result (λ good. HasMarks records.entry.nodes.now records.entry.leaves.now linked.new) }
-    ensures longer { IfOk result (λ good. good ≡ true → IsLonger linked.old linked.new) }
+    ensures grown { IfOk result (λ good. HasGrown records.entry.nodes.now records.entry.leaves.now good linked.old linked.new) }
     ensures read { IfOk result (λ good. IsHalfRead records.entry.nodes.now records.entry.leaves.now least half good linked.old linked.new) }
 {
     match half {
@@ -72,8 +70,7 @@ fn read_half(
 #[cycle(reading)]
 fn read_cut(records: Records, least: u32, cut: Cut, linked: &mut Linked) -> Result<bool, AllocError>
     requires { HasMarks records.nodes.now records.leaves.now linked.old }
-    ensures room { IfOk result (λ good. HasMarks records.entry.nodes.now records.entry.leaves.now linked.new) }
-    ensures longer { IfOk result (λ good. good ≡ true → IsLonger linked.old linked.new) }
+    ensures grown { IfOk result (λ good. HasGrown records.entry.nodes.now records.entry.leaves.now good linked.old linked.new) }
     ensures read { IfOk result (λ good. IsCutRead records.entry.nodes.now records.entry.leaves.now least cut good linked.old linked.new) }
 {
     let position = cut.position;

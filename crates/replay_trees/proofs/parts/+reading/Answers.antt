@@ -30,8 +30,8 @@ read_cut-returns-clause-read t c words are p s =
     (λ x h. subst (λ g. IsPartRead c.args.records.nodes.now c.args.records.leaves.now words (c.from-2.result + 1) x g c.args.linked.now c.read_half.new.linked) c.if-not-branch.false (c.in_ok-read_half.ensures.read words are x h))
     (λ x h. subst (λ g. IsPartRead c.args.records.nodes.now c.args.records.leaves.now words (c.from-3.result + 1) x g c.read_half.new.linked c.read_half-2.new.linked) c.if-not-branch-2.false (c.in_ok-read_half-2.ensures.read words are x h))
     c.index.result.now c.index-2.result.now c.len-zero.result c.len-one.result (omega (arith, c.len-zero.ensures, c.args.linked.now.items.ok.0)) (omega (arith, c.len-one.ensures, c.read_half.new.linked.items.ok.0))
-    (omega (arith, c.len-zero.ensures, c.args.linked.now.items.ok.0, c.in_ok-read_half.ensures.longer c.if-not-branch.false, c.in_ok-read_half-2.ensures.longer c.if-not-branch-2.false))
-    (omega (arith, c.len-one.ensures, c.read_half.new.linked.items.ok.0, c.in_ok-read_half-2.ensures.longer c.if-not-branch-2.false))
+    (omega (arith, c.len-zero.ensures, c.args.linked.now.items.ok.0, c.in_ok-read_half.ensures.grown.longer c.if-not-branch.false, c.in_ok-read_half-2.ensures.grown.longer c.if-not-branch-2.false))
+    (omega (arith, c.len-one.ensures, c.read_half.new.linked.items.ok.0, c.in_ok-read_half-2.ensures.grown.longer c.if-not-branch-2.false))
     (sym c.index.ensures) (sym c.index-2.ensures) c.are_parted.result c.are_parted.ensures p s
 
 pub read_entry-returns-in_default-clause-read : goal.read_entry-returns-in_default-clause-read

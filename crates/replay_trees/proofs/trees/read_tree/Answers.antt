@@ -21,7 +21,7 @@ returns c words are =
       | in-Some+in_ok-read_entry+else-not-branch w ↦
           subst (λ l. IsReadMoment c.args.nodes.now c.args.leaves.now words c.args.root (Some l)) (sym w.linked-is)
           (subst (λ r. IsReadMoment c.args.nodes.now c.args.leaves.now words r (Some w.read_entry.new.linked)) (sym w.in-Some.is)
-          (top_read c.args.nodes.now c.args.leaves.now words w.in-Some.entry old w.read_entry.new.linked empty w.in_ok-read_entry.ensures.room
+          (top_read c.args.nodes.now c.args.leaves.now words w.in-Some.entry old w.read_entry.new.linked empty w.in_ok-read_entry.ensures.grown.room
           (subst (λ g. IsPartRead c.args.nodes.now c.args.leaves.now words 0 (Place w.in-Some.entry) g old w.read_entry.new.linked) w.if-not-branch.false (w.in_ok-read_entry.ensures.read words are))))
       | in_default w ↦
           let h = w.in_default in
