@@ -15,8 +15,9 @@ use Rattle.rowex_core.specs.Opening.{opening}
 use Rattle.rowex_core.specs.Runs.{Leads}
 use Rattle.rowex_core.proofs.Runs.{runs_stay_lawful}
 use Rattle.rowex_replay.specs.Runs.{Run, HasLegalEvents, core_after, core_of, with_event}
-use Rattle.rowex_replay.specs.States.{StateView, IsStateOf, IsAfter, HasLock, IsLockedPublish, MayWantMemory}
-use Rattle.rowex_replay.proofs.Tables.{within}
+use Rattle.replay_state.specs.States.{StateView, IsStateOf, HasLock, IsLockedPublish}
+use Rattle.rowex_replay.specs.Replays.{IsAfter, MayWantMemory}
+use Rattle.replay_state.proofs.Tables.{within}
 
 -- ---- runs
 

@@ -1,9 +1,3 @@
 -- The definitions of the crate.
-pub mod Faults
-pub mod Fates
-pub mod Records
-pub mod Links
-pub mod Passes
 pub mod Runs
-pub mod States
-pub mod Publishing
+pub mod Replays

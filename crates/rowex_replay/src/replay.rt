@@ -2,11 +2,10 @@
 
 ghost use Rattle.std.specs.Prelude.{◌≡◌, IfOk, OnErr, OnOk, length};
 
-use crate::fault::ReplayFault;
 use crate::history::History;
-use crate::state::State;
 use key_bits::Key;
 use record_words::Layout;
+use replay_state::{ReplayFault, State};
 use rowex_core::Event;
 use std::alloc::{AllocError, Global};
 use std::marker::Model;
@@ -26,7 +25,7 @@ impl Model for Replay {
 
     ghost Value = { Run };
 
-    ghost use Rattle.rowex_replay.specs.States.{IsAfter};
+    ghost use Rattle.rowex_replay.specs.Replays.{IsAfter};
 
     ghost view = { λ a. a.history.run };
 
@@ -38,7 +37,7 @@ impl Replay {
     ghost use Rattle.moments.specs.Told.{content};
     ghost use Rattle.rowex_core.specs.Events.{Legal};
     ghost use Rattle.rowex_replay.specs.Runs.{core_of, new_run, with_event};
-    ghost use Rattle.rowex_replay.specs.States.{MayWantMemory};
+    ghost use Rattle.rowex_replay.specs.Replays.{MayWantMemory};
 
     /// A replay of no event yet, of an index of this layout.
     pub fn new(alloc: Global, layout: Layout) -> Result<Replay, AllocError>

@@ -1,0 +1,9 @@
+-- The pass was pinned.
+use Rattle.std.proofs.Common.{sym}
+use Rattle.std.proofs.Common.{arith}
+use Rattle.replay_state.proofs.EpochSteps.{unpins, pass_in, some_from}
+use Rattle.replay_state.proofs.state.State.clear_pin.Goals as goal
+
+pub returns : goal.returns
+returns c = rw (sym c.self.view_is, c.put.ensures)
+    (unpins _ c.args.pass c.own-own.result (pass_in _ _ c.self.view_is _ _ c.own-own.ensures) (some_from c.own-own.result.pin (let a = c.is_none.ensures in let b = c.if-is_none.false in grind arith)))

@@ -1,0 +1,99 @@
+//! The steps on the epoch and on pins.
+
+ghost use Rattle.std.specs.Prelude.{◌≡◌, ◌↔◌, ◌<◌, ◌^◌, IsTrue, length, slice_get, set, Some};
+ghost use Rattle.rowex_core.specs.declared.event.Act.{Act};
+ghost use Rattle.rowex_core.specs.declared.event.Act.TheVariants.{Advance, ClearPin, LoadEpoch, LoadPin, SetPin};
+ghost use Rattle.replay_state.specs.States.{IsStepped};
+
+use crate::passes::PassState;
+use crate::records::put;
+use crate::state::State;
+use record_words::EPOCHS;
+
+impl State {
+    /// The pin and the round of a pass.
+    pub(crate) fn own(&self, pass: u16) -> PassState
+        requires { pass < length self.now.passes }
+        ensures { slice_get self.now.passes pass ≡ Some result }
+    {
+        self.passes[pass as usize]
+    }
+
+    /// The pin and the round of a pass, where the index has it.
+    fn pass(&self, pass: u16) -> Option<PassState>
+        ensures { result ≡ slice_get self.now.passes pass }
+    {
+        self.passes.get(pass as usize).copied()
+    }
+
+    /// Loads the epoch, which begins a round.
+    pub(crate) fn load_epoch(&mut self, pass: u16, word: u64) -> bool
+        requires { pass < length self.old.passes }
+        ensures { IsStepped result self.old self.new pass (LoadEpoch word) }
+    {
+        if word != self.epoch {
+            return false;
+        }
+        let moment = self.changes.len() as u64;
+        let loaded = self.own(pass).loaded(self.epoch, moment);
+        put(&mut self.passes, pass as usize, loaded);
+        true
+    }
+
+    /// Raises the epoch by one, if it is the expected one.
+    pub(crate) fn advance(&mut self, pass: u16, expected: u64, found: u64) -> bool
+        ensures { IsStepped result self.old self.new pass (Advance expected found) }
+    {
+        if expected < 1 || expected >= EPOCHS - 1 || found != self.epoch {
+            return false;
+        }
+        if self.epoch == expected {
+            self.epoch = expected + 1;
+        }
+        true
+    }
+
+    /// Pins the pass by the epoch that it loaded last.
+    pub(crate) fn set_pin(&mut self, pass: u16, word: u64) -> bool
+        requires { pass < length self.old.passes }
+        ensures { IsStepped result self.old self.new pass (SetPin word) }
+    {
+        let mut own = self.own(pass);
+        if !own.may_pin(word) {
+            return false;
+        }
+        own.pin = Some(word);
+        put(&mut self.passes, pass as usize, own);
+        true
+    }
+
+    /// Unpins the pass.
+    pub(crate) fn clear_pin(&mut self, pass: u16) -> bool
+        requires { pass < length self.old.passes }
+        ensures { IsStepped result self.old self.new pass ClearPin }
+    {
+        let mut own = self.own(pass);
+        if own.pin.is_none() {
+            return false;
+        }
+        own.pin = None;
+        put(&mut self.passes, pass as usize, own);
+        true
+    }
+
+    /// Loads the pin of a pass into the round.
+    pub(crate) fn load_pin(&mut self, pass: u16, of: u16, word: u64) -> bool
+        requires { pass < length self.old.passes }
+        ensures { IsStepped result self.old self.new pass (LoadPin of word) }
+    {
+        let Some(other) = self.pass(of) else {
+            return false;
+        };
+        if word != other.pin.unwrap_or(0) {
+            return false;
+        }
+        let seen = self.own(pass).with_seen(of, other.pin);
+        put(&mut self.passes, pass as usize, seen);
+        true
+    }
+}

@@ -1,0 +1,95 @@
+//! The steps that lock and unlock the anchor and nodes.
+
+ghost use Rattle.std.specs.Prelude.{◌≡◌, ◌↔◌, IsTrue, Some};
+ghost use Rattle.rowex_core.specs.declared.event.Act.{Act};
+ghost use Rattle.rowex_core.specs.declared.event.Act.TheVariants.{Lock, Unlock};
+ghost use Rattle.rowex_core.specs.declared.event.Target.TheVariants.{Anchor, Node as NodeTarget};
+ghost use Rattle.replay_state.specs.States.{IsStepped};
+
+use crate::fate::tag_of_lock;
+use crate::state::State;
+use record_words::{Tag, pack_state};
+use rowex_core::{Rec, Target};
+
+impl State {
+    /// Whether the pass has locked the anchor.
+    pub(crate) fn is_anchored_by(&self, pass: u16) -> bool
+        ensures { IsTrue result ↔ (self.now.anchor ≡ Some pass) }
+    {
+        self.anchor == Some(pass)
+    }
+
+    /// Locks the anchor or a node, if it is not locked.
+    pub(crate) fn lock(&mut self, pass: u16, target: Target, found: u64) -> bool
+        ensures { IsStepped result self.old self.new pass (Lock target found) }
+    {
+        match target {
+            Target::Anchor => self.lock_anchor(pass, found),
+            Target::Node(number) => self.lock_node(pass, number, found),
+        }
+    }
+
+    /// Unlocks the anchor or a node.
+    pub(crate) fn unlock(&mut self, pass: u16, target: Target) -> bool
+        ensures { IsStepped result self.old self.new pass (Unlock target) }
+    {
+        match target {
+            Target::Anchor => self.unlock_anchor(pass),
+            Target::Node(number) => self.unlock_node(pass, number),
+        }
+    }
+
+    /// Locks the anchor, if it is not locked.
+    fn lock_anchor(&mut self, pass: u16, found: u64) -> bool
+        ensures { IsStepped result self.old self.new pass (Lock Anchor found) }
+    {
+        if found != pack_state(tag_of_lock(self.anchor)) {
+            return false;
+        }
+        if self.anchor.is_none() {
+            self.anchor = Some(pass);
+        }
+        true
+    }
+
+    /// Locks a node that is in the tree, if it is not locked.
+    fn lock_node(&mut self, pass: u16, node: u32, found: u64) -> bool
+        ensures { IsStepped result self.old self.new pass (Lock (NodeTarget node) found) }
+    {
+        if !self.records.has_state(Rec::Node(node), found) {
+            return false;
+        }
+        if found == pack_state(Tag::Live) {
+            if !self.records.is_in_tree(node) {
+                return false;
+            }
+            self.records.set_lock(node, Some(pass));
+        }
+        true
+    }
+
+    /// Unlocks the anchor.
+    fn unlock_anchor(&mut self, pass: u16) -> bool
+        ensures { IsStepped result self.old self.new pass (Unlock Anchor) }
+    {
+        if !self.is_anchored_by(pass) {
+            return false;
+        }
+        self.anchor = None;
+        true
+    }
+
+    /// Unlocks a node that is in the tree.
+    fn unlock_node(&mut self, pass: u16, node: u32) -> bool
+        ensures { IsStepped result self.old self.new pass (Unlock (NodeTarget node)) }
+    {
+        if !self.records.is_locked_by(node, pass) {
+            return false;
+        }
+        if !self.records.is_in_tree(node) {
+            return false;
+        }
+        self.records.set_lock(node, None);
+        true
+    }
+}

@@ -1,0 +1,95 @@
+//! The passes: their pins, and their rounds over the pins of all.
+
+ghost use Rattle.std.specs.Prelude.{◌≡◌, ◌↔◌, ◌<◌, ℕ, IsTrue, true, slice_get, set, Some, None, length, MatchOption, unwrap_or, min, replicate, false};
+
+use record_words::MAX_STOCK_PASSES;
+
+/// The most passes of an index, as a length.
+const PASSES: usize = MAX_STOCK_PASSES as usize;
+
+/// The pin of a pass, and its last load of the epoch: what it found, at which moment, the least of it and of the pins
+/// loaded since, and whose they were.
+#[derive(Clone, Copy)]
+pub(crate) struct PassState {
+    pub(crate) pin: Option<u64>,
+    pub(crate) epoch: u64,
+    pub(crate) moment: u64,
+    pub(crate) bound: u64,
+    pub(crate) seen: [bool; PASSES],
+}
+
+impl PassState {
+    ghost use Rattle.replay_state.specs.Passes.{fresh_pass, in_round, with_pin_seen, HasLoadedPins, IsOutOfReach, MayPin};
+
+    /// A pass that has done nothing yet.
+    pub(crate) fn new() -> PassState
+        ensures { result ≡ fresh_pass }
+    {
+        PassState {
+            pin: None,
+            epoch: 0,
+            moment: 0,
+            bound: 0,
+            seen: [false; PASSES],
+        }
+    }
+
+    /// The pass when it has loaded this epoch at this moment.
+    pub(crate) fn loaded(self, epoch: u64, moment: u64) -> PassState
+        ensures { result ≡ in_round self epoch moment }
+    {
+        PassState {
+            pin: self.pin,
+            epoch,
+            moment,
+            bound: epoch,
+            seen: [false; PASSES],
+        }
+    }
+
+    /// The pass when it has loaded this pin of another, or of its own.
+    pub(crate) fn with_seen(self, of: u16, pin: Option<u64>) -> PassState
+        ensures { result ≡ with_pin_seen self of pin }
+    {
+        let mut seen = self.seen;
+        if (of as usize) < PASSES {
+            seen[of as usize] = true;
+        }
+        let bound = match pin {
+            None => self.bound,
+            Some(word) => self.bound.min(word),
+        };
+        PassState {
+            pin: self.pin,
+            epoch: self.epoch,
+            moment: self.moment,
+            bound,
+            seen,
+        }
+    }
+
+    /// Whether the pass may be pinned by this epoch: it isn't pinned, and has loaded the epoch last.
+    pub(crate) fn may_pin(&self, epoch: u64) -> bool
+        ensures { IsTrue result ↔ MayPin self.now epoch }
+    {
+        self.pin.is_none() && epoch == self.epoch && epoch >= 1
+    }
+
+    /// Whether no pass can reach what was marked with this epoch: it is below the round's bound, and the round has loaded
+    /// the pin of each of so many passes.
+    pub(crate) fn is_past(&self, epoch: u64, passes: usize) -> bool
+        ensures { IsTrue result ↔ IsOutOfReach self.now epoch passes }
+    {
+        if epoch < 1 || epoch >= self.bound {
+            return false;
+        }
+        self.has_seen_all(passes)
+    }
+
+    /// Whether it has loaded the pin of each of the first passes in its round.
+    fn has_seen_all(&self, passes: usize) -> bool
+        ensures { IsTrue result ↔ HasLoadedPins self.now passes }
+    {
+        self.seen.iter().take(passes).all(|seen| *seen)
+    }
+}

@@ -1,0 +1,121 @@
+//! The publish: the one step that changes the map.
+
+ghost use Rattle.std.specs.Prelude.{◌≡◌, ◌<◌, IfOk, OnErr};
+ghost use Rattle.record_words.specs.Entry.{HasEntryWord, entry_word};
+ghost use Rattle.rowex_core.specs.declared.event.Act.TheVariants.{Publish};
+ghost use Rattle.rowex_core.specs.declared.event.Spot.TheVariants.{Root, Slot};
+ghost use Rattle.rowex_core.specs.Reading.{entry_of};
+ghost use Rattle.replay_state.specs.Publishing.{IsPublishJudged};
+ghost use Rattle.replay_state.specs.States.{HasLock, IsStepped};
+
+use crate::records::{filled, is_node};
+use crate::state::State;
+use compound_node::Entry;
+use record_words::{HEAD_WORDS, MAX_ENTRIES};
+use replay_trees::{Linked, change_between, read_tree};
+use rowex_core::Spot;
+use std::alloc::AllocError;
+use unpacking::unpack_entry;
+
+impl State {
+    /// Stores the root or an entry word under its lock.
+    pub(crate) fn publish(&mut self, pass: u16, spot: Spot, word: u64) -> Result<bool, AllocError>
+        ensures ok { IfOk result (λ made. IsStepped made self.old self.new pass (Publish spot word)) }
+        ensures err { OnErr result (self.new ≡ self.old) }
+        ensures locked { OnErr result (HasLock self.old pass spot) }
+    {
+        let Ok(entry) = unpack_entry(word) else {
+            return Ok(false);
+        };
+        match spot {
+            Spot::Root => self.publish_root(pass, entry, word),
+            Spot::Slot { node, entry } => self.publish_entry(pass, node, entry, word),
+        }
+    }
+
+    /// Stores the root.
+    fn publish_root(
+        &mut self,
+        pass: u16,
+        root: Option<Entry>,
+        word: u64,
+    ) -> Result<bool, AllocError>
+        requires fits { HasEntryWord root }
+        requires spelled { entry_word root ≡ word }
+        ensures ok { IfOk result (λ made. IsStepped made self.old self.new pass (Publish Root word)) }
+        ensures err { OnErr result (self.new ≡ self.old) }
+        ensures locked { OnErr result (HasLock self.old pass Root) }
+    {
+        if !self.is_anchored_by(pass) {
+            return Ok(false);
+        }
+        self.publish_tree(pass, root)
+    }
+
+    /// Stores an entry word of a node. Where that is not legal, the old word is put back.
+    fn publish_entry(
+        &mut self,
+        pass: u16,
+        node: u32,
+        entry: u8,
+        word: u64,
+    ) -> Result<bool, AllocError>
+        requires { HasEntryWord (entry_of word) × (entry_word (entry_of word) ≡ word) }
+        ensures ok { IfOk result (λ made. IsStepped made self.old self.new pass (Publish (Slot node entry) word)) }
+        ensures err { OnErr result (self.new ≡ self.old) }
+        ensures locked { OnErr result (HasLock self.old pass (Slot node entry)) }
+    {
+        if entry as usize >= MAX_ENTRIES {
+            return Ok(false);
+        }
+        if !self.records.is_locked_by(node, pass) {
+            return Ok(false);
+        }
+        let Some(before) = self.records.node(node) else {
+            return Ok(false);
+        };
+        let after = filled(before, HEAD_WORDS + entry as usize, word);
+        if !is_node(&after) {
+            return Ok(false);
+        }
+        let root = self.root;
+        self.records.set_node(node, after);
+        match self.publish_tree(pass, root) {
+            Ok(true) => Ok(true),
+            Ok(false) => {
+                self.records.set_node(node, before);
+                Ok(false)
+            }
+            Err(refused) => {
+                self.records.set_node(node, before);
+                Err(refused)
+            }
+        }
+    }
+
+    /// Makes the tree that the words show from this root the newest moment, if the pass may.
+    fn publish_tree(&mut self, pass: u16, root: Option<Entry>) -> Result<bool, AllocError>
+        ensures ok { IfOk result (λ made. IsPublishJudged made self.old self.new pass root) }
+        ensures err { OnErr result (self.new ≡ self.old) }
+    {
+        let nodes = self.records.nodes();
+        let leaves = self.records.leaves();
+        let Some(linked) = read_tree(self.alloc, nodes, leaves, root)? else {
+            return Ok(false);
+        };
+        if !self.records.may_link(pass, &linked.nodes, &linked.leaves) {
+            return Ok(false);
+        }
+        let before = self.items.as_slice();
+        let after = linked.items.as_slice();
+        let Some(change) = change_between(pass, before, after) else {
+            return Ok(false);
+        };
+        let now = self.changes.len() as u64;
+        self.changes.push(change)?;
+        self.records.link(now, pass, &linked.nodes, &linked.leaves);
+        self.root = root;
+        self.items = linked.items;
+        Ok(true)
+    }
+}

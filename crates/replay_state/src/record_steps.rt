@@ -1,0 +1,114 @@
+//! The steps on records of a pass's own: claim, fill, ready and release; marks, and giving back.
+
+ghost use Rattle.std.specs.Prelude.{◌≡◌, ◌↔◌, ◌<◌, IsTrue, length};
+ghost use Rattle.rowex_core.specs.declared.event.Act.{Act};
+ghost use Rattle.rowex_core.specs.declared.event.Act.TheVariants.{Claim, Fill, GiveBack, Mark, Ready, Release};
+ghost use Rattle.rowex_core.specs.Cores.{HasWord};
+ghost use Rattle.rowex_core.specs.Events.{IsFixedOffset, IsOffset};
+ghost use Rattle.replay_state.specs.States.{IsStepped};
+
+use crate::fate::Fate;
+use crate::state::State;
+use record_words::{FIRST_ENTRY, Layout, NODE_WORDS, Tag, pack_state};
+use rowex_core::Rec;
+
+impl State {
+    /// Claims a record, if it is free.
+    pub(crate) fn claim(&mut self, pass: u16, rec: Rec, found: u64) -> bool
+        ensures { IsStepped result self.old self.new pass (Claim rec found) }
+    {
+        if !self.records.has_state(rec, found) {
+            return false;
+        }
+        if found == pack_state(Tag::Free) {
+            self.records.set_fate(rec, Fate::Held { by: pass });
+        }
+        true
+    }
+
+    /// Stores a word of a held record.
+    pub(crate) fn fill(&mut self, pass: u16, rec: Rec, offset: u8, word: u64) -> bool
+        ensures { IsStepped result self.old self.new pass (Fill rec offset word) }
+    {
+        if !self.records.is_held(rec, pass) || !is_offset(self.records.layout(), rec, offset) {
+            return false;
+        }
+        self.records.set_word(rec, offset as usize - 1, word);
+        true
+    }
+
+    /// Makes a held record live.
+    pub(crate) fn ready(&mut self, pass: u16, rec: Rec) -> bool
+        ensures { IsStepped result self.old self.new pass (Ready rec) }
+    {
+        if !self.records.is_held(rec, pass) || !self.records.is_packed(rec) {
+            return false;
+        }
+        self.records.set_fate(rec, Fate::Ready { by: pass });
+        true
+    }
+
+    /// Makes a held record free.
+    pub(crate) fn release(&mut self, pass: u16, rec: Rec) -> bool
+        ensures { IsStepped result self.old self.new pass (Release rec) }
+    {
+        if !self.records.is_held(rec, pass) {
+            return false;
+        }
+        self.records.set_fate(rec, Fate::Free);
+        true
+    }
+
+    /// Makes a record obsolete that the pass has unlinked before its last load of the epoch. It is locked no more.
+    pub(crate) fn mark(&mut self, pass: u16, rec: Rec, epoch: u64) -> bool
+        requires { pass < length self.old.passes }
+        ensures { IsStepped result self.old self.new pass (Mark rec epoch) }
+    {
+        let own = self.own(pass);
+        let Some(Fate::Unlinked { since, last, by }) = self.records.fate(rec) else {
+            return false;
+        };
+        if by != pass || own.epoch != epoch || own.moment <= last {
+            return false;
+        }
+        self.records.mark(rec, Fate::Marked { since, last, epoch });
+        true
+    }
+
+    /// Makes a record free that is marked with this epoch, below the bound of the pass's whole round.
+    pub(crate) fn give_back(&mut self, pass: u16, rec: Rec, epoch: u64, found: u64) -> bool
+        requires { pass < length self.old.passes }
+        ensures { IsStepped result self.old self.new pass (GiveBack rec epoch found) }
+    {
+        if !self.own(pass).is_past(epoch, self.passes.len()) {
+            return false;
+        }
+        if !self.records.has_state(rec, found) {
+            return false;
+        }
+        if self.records.is_marked(rec, epoch) {
+            self.records.set_fate(rec, Fate::Free);
+        }
+        true
+    }
+}
+
+/// Whether a record of a table of this layout has a word other than its state at this offset.
+fn is_offset(layout: Layout, rec: Rec, offset: u8) -> bool
+    ensures { IsTrue result ↔ (IsOffset rec offset × HasWord layout rec offset) }
+{
+    match rec {
+        Rec::Node(_) => 1 <= offset && offset < NODE_WORDS as u8,
+        Rec::Leaf(number) => 1 <= offset && (offset as usize) < layout.leaf_size(number),
+    }
+}
+
+/// Whether a record of a table of this layout has a word at this offset that is neither its state nor an entry.
+pub(crate) fn is_fixed_offset(layout: Layout, rec: Rec, offset: u8) -> bool
+    ensures { IsTrue result ↔ (IsFixedOffset rec offset × HasWord layout rec offset) }
+{
+    match rec {
+        Rec::Node(_) => 1 <= offset && offset < FIRST_ENTRY as u8,
+        Rec::Leaf(number) => 1 <= offset && (offset as usize) < layout.leaf_size(number),
+    }
+}

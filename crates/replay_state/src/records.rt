@@ -1,0 +1,337 @@
+//! The records of the table: their words, what has become of them, and who has locked them.
+
+ghost use Rattle.std.specs.Prelude.{◌≡◌, ℕ, List, Some, None, IfOk, IsTrue, ◌↔◌, ◌+◌, ◌<◌, ◌^◌, MatchOption, replicate, set};
+ghost use Rattle.rowex_core.specs.Cores.{FitsIn};
+ghost use Rattle.rowex_core.specs.Reading.{IsPacked};
+ghost use Rattle.replay_state.specs.declared.fate.Fate.TheVariants.{Held, InTree, Marked};
+ghost use Rattle.moments.specs.declared.Rec.TheVariants.{Node as a_node, Leaf as a_leaf};
+
+use crate::fate::Fate;
+use crate::links::{all_may_come, all_may_go, link_all};
+use record_words::{LEAF_FIELDS, Layout, NODE_FIELDS, Tag, unpack_state};
+use rowex_core::Rec;
+use std::alloc::{AllocError, Global};
+use std::marker::Model;
+use unpacking::{unpack_leaf, unpack_node};
+
+/// The records of a table: of each its words but the state, and its fate; of each node who has locked it.
+#[derive(Drop)]
+pub(crate) struct Records {
+    layout: Layout,
+    nodes: Vec<[u64; NODE_FIELDS]>,
+    leaves: Vec<[u64; LEAF_FIELDS]>,
+    node_fates: Vec<Fate>,
+    leaf_fates: Vec<Fate>,
+    locks: Vec<Option<u16>>,
+}
+
+impl Model for Records {
+    ghost use Rattle.replay_state.specs.Records.{RecordsView};
+
+    ghost Value = { RecordsView };
+
+    ghost view = { λ a. record {
+      layout = a.layout;
+      nodes = a.nodes.items;
+      leaves = a.leaves.items;
+      node_fates = a.node_fates.items;
+      leaf_fates = a.leaf_fates.items;
+      locks = a.locks.items;
+    } };
+}
+
+impl Records {
+    ghost use Rattle.rowex_core.specs.Opening.{opening};
+    ghost use Rattle.replay_state.specs.Records.{AreRecordsOf, HasState, AreNextRecords, MayLink, HasWordStored, IsPackedIn, fate_in, lock_in, marked_in, tag_in, words_in, with_fate_in, with_lock_in, with_words_in};
+
+    /// Free records of a layout: all words are 0, and nothing is locked.
+    pub(crate) fn new(alloc: Global, layout: Layout) -> Result<Records, AllocError>
+        ensures { let c = opening layout in IfOk result (λ s. AreRecordsOf s layout c.words c.fate c.lock) }
+    {
+        Ok(Records {
+            layout,
+            nodes: repeated(alloc, [0; NODE_FIELDS], layout.nodes)?,
+            leaves: repeated(alloc, [0; LEAF_FIELDS], layout.leaves)?,
+            node_fates: repeated(alloc, Fate::Free, layout.nodes)?,
+            leaf_fates: repeated(alloc, Fate::Free, layout.leaves)?,
+            locks: repeated(alloc, None, layout.nodes)?,
+        })
+    }
+
+    /// The layout of the table.
+    pub(crate) fn layout(&self) -> Layout
+        ensures { result ≡ self.now.layout }
+    {
+        self.layout
+    }
+
+    /// What has become of a record, where the table has it.
+    pub(crate) fn fate(&self, rec: Rec) -> Option<Fate>
+        ensures { result ≡ fate_in self.now rec }
+    {
+        match rec {
+            Rec::Node(number) => self.node_fates.get(number as usize).copied(),
+            Rec::Leaf(number) => self.leaf_fates.get(number as usize).copied(),
+        }
+    }
+
+    /// Who has locked a record, where the table has it. A leaf is never locked.
+    pub(crate) fn lock(&self, rec: Rec) -> Option<Option<u16>>
+        ensures { result ≡ lock_in self.now rec }
+    {
+        match rec {
+            Rec::Node(number) => self.locks.get(number as usize).copied(),
+            Rec::Leaf(_) => Some(None),
+        }
+    }
+
+    /// The state of a record, where the table has it.
+    pub(crate) fn tag(&self, rec: Rec) -> Option<Tag>
+        ensures { result ≡ tag_in self.now rec }
+    {
+        let fate = self.fate(rec)?;
+        let lock = self.lock(rec)?;
+        Some(fate.tag(lock))
+    }
+
+    /// The words of a record but its state, where the table has it.
+    pub(crate) fn words(&self, rec: Rec) -> Option<&[u64]>
+        ensures { MatchOption result (words_in self.now rec ≡ None) (λ words. words_in self.now rec ≡ Some words.now) }
+    {
+        match rec {
+            Rec::Node(number) => match self.nodes.get(number as usize) {
+                Some(words) => Some(words.as_slice()),
+                None => None,
+            },
+            Rec::Leaf(number) => match self.leaves.get(number as usize) {
+                Some(words) => Some(words.as_slice()),
+                None => None,
+            },
+        }
+    }
+
+    /// The words of each node but its state.
+    pub(crate) fn nodes(&self) -> &[[u64; NODE_FIELDS]]
+        ensures { result.now ≡ self.now.nodes }
+    {
+        &self.nodes
+    }
+
+    /// The words of each leaf but its state.
+    pub(crate) fn leaves(&self) -> &[[u64; LEAF_FIELDS]]
+        ensures { result.now ≡ self.now.leaves }
+    {
+        &self.leaves
+    }
+
+    /// Whether the pass may publish a tree that links these nodes and leaves and no other, going by fates and locks.
+    pub(crate) fn may_link(&self, pass: u16, nodes: &[bool], leaves: &[bool]) -> bool
+        ensures { IsTrue result ↔ MayLink self.now pass nodes.now leaves.now }
+    {
+        if !all_may_come(&self.node_fates, pass, nodes) {
+            return false;
+        }
+        if !all_may_come(&self.leaf_fates, pass, leaves) {
+            return false;
+        }
+        all_may_go(&self.node_fates, &self.locks, pass, nodes)
+    }
+
+    /// Gives each record its fate after a publish by the pass of a tree that links these nodes and leaves. It makes the
+    /// moment after `now`.
+    pub(crate) fn link(&mut self, now: u64, pass: u16, nodes: &[bool], leaves: &[bool])
+        requires { now + 1 < 2 ^ 64 }
+        ensures { AreNextRecords now pass nodes.now leaves.now self.old self.new }
+    {
+        link_all(&mut self.node_fates, now, pass, nodes);
+        link_all(&mut self.leaf_fates, now, pass, leaves);
+    }
+
+    /// Whether the state of a record has this word.
+    pub(crate) fn has_state(&self, rec: Rec, word: u64) -> bool
+        ensures { IsTrue result ↔ HasState self.now rec word }
+    {
+        match (self.tag(rec), unpack_state(word)) {
+            (Some(tag), Ok(shown)) => tag == shown,
+            _ => false,
+        }
+    }
+
+    /// Whether this word stands among those of a record, at a place counted from its first word behind the state.
+    pub(crate) fn has_word(&self, rec: Rec, at: usize, word: u64) -> bool
+        ensures { IsTrue result ↔ HasWordStored self.now rec at word }
+    {
+        match self.words(rec) {
+            Some(words) => words.get(at).copied() == Some(word),
+            None => false,
+        }
+    }
+
+    /// Whether the words of a record spell a value, and the record has room for it.
+    pub(crate) fn is_packed(&self, rec: Rec) -> bool
+        ensures { IsTrue result ↔ IsPackedIn self.now rec }
+    {
+        match rec {
+            Rec::Node(number) => match self.nodes.get(number as usize) {
+                Some(words) => is_node(words),
+                None => false,
+            },
+            Rec::Leaf(number) => match self.leaf(number) {
+                Some(words) => is_leaf(&words) && self.has_room(number, &words),
+                None => false,
+            },
+        }
+    }
+
+    /// Whether a leaf record has room for a key of the length that these words have.
+    fn has_room(&self, number: u32, words: &[u64; LEAF_FIELDS]) -> bool
+        ensures { IsTrue result ↔ FitsIn self.now.layout (a_leaf number) words.now }
+    {
+        words[1] <= 8 * (self.layout.leaf_size(number) as u64 - 3)
+    }
+
+    /// Whether the pass holds the record.
+    pub(crate) fn is_held(&self, rec: Rec, pass: u16) -> bool
+        ensures { IsTrue result ↔ (fate_in self.now rec ≡ Some (Held pass)) }
+    {
+        match self.fate(rec) {
+            Some(Fate::Held { by }) => by == pass,
+            _ => false,
+        }
+    }
+
+    /// Whether the record is marked with this epoch.
+    pub(crate) fn is_marked(&self, rec: Rec, epoch: u64) -> bool
+        ensures { IsTrue result ↔ ((since : ℕ) × (last : ℕ) × (fate_in self.now rec ≡ Some (Marked since last epoch))) }
+    {
+        match self.fate(rec) {
+            Some(Fate::Marked { epoch: marked, .. }) => marked == epoch,
+            _ => false,
+        }
+    }
+
+    /// Whether the node is in the tree.
+    pub(crate) fn is_in_tree(&self, number: u32) -> bool
+        ensures { IsTrue result ↔ ((since : ℕ) × (fate_in self.now (a_node number) ≡ Some (InTree since))) }
+    {
+        matches!(self.fate(Rec::Node(number)), Some(Fate::InTree { .. }))
+    }
+
+    /// Whether the pass has locked the node.
+    pub(crate) fn is_locked_by(&self, number: u32, pass: u16) -> bool
+        ensures { IsTrue result ↔ (lock_in self.now (a_node number) ≡ Some (Some pass)) }
+    {
+        self.lock(Rec::Node(number)) == Some(Some(pass))
+    }
+
+    /// Puts a word in its place among those of a record; nothing where the table has it not.
+    pub(crate) fn set_word(&mut self, rec: Rec, at: usize, word: u64)
+        ensures { MatchOption (words_in self.old rec) (self.new ≡ self.old) (λ words. self.new ≡ with_words_in self.old rec (set words at word)) }
+    {
+        match rec {
+            Rec::Node(number) => {
+                if let Some(words) = self.nodes.get(number as usize).copied() {
+                    put(&mut self.nodes, number as usize, filled(words, at, word));
+                }
+            }
+            Rec::Leaf(number) => {
+                if let Some(words) = self.leaves.get(number as usize).copied() {
+                    put(&mut self.leaves, number as usize, filled(words, at, word));
+                }
+            }
+        }
+    }
+
+    /// The words of a node but its state, where the table has it.
+    pub(crate) fn node(&self, number: u32) -> Option<[u64; NODE_FIELDS]>
+        ensures { result ≡ words_in self.now (a_node number) }
+    {
+        self.nodes.get(number as usize).copied()
+    }
+
+    /// The words of a leaf but its state, where the table has it.
+    fn leaf(&self, number: u32) -> Option<[u64; LEAF_FIELDS]>
+        ensures { result ≡ words_in self.now (a_leaf number) }
+    {
+        self.leaves.get(number as usize).copied()
+    }
+
+    /// Gives a node these words; nothing where the table has it not.
+    pub(crate) fn set_node(&mut self, number: u32, words: [u64; NODE_FIELDS])
+        ensures { self.new ≡ with_words_in self.old (a_node number) words }
+    {
+        put(&mut self.nodes, number as usize, words);
+    }
+
+    /// Gives a record this fate; nothing where the table has it not.
+    pub(crate) fn set_fate(&mut self, rec: Rec, fate: Fate)
+        ensures { self.new ≡ with_fate_in self.old rec fate }
+    {
+        match rec {
+            Rec::Node(number) => put(&mut self.node_fates, number as usize, fate),
+            Rec::Leaf(number) => put(&mut self.leaf_fates, number as usize, fate),
+        }
+    }
+
+    /// Gives a record this fate and has it unlocked; nothing where the table has it not.
+    pub(crate) fn mark(&mut self, rec: Rec, fate: Fate)
+        ensures { self.new ≡ marked_in self.old rec fate }
+    {
+        if let Rec::Node(number) = rec {
+            self.set_lock(number, None);
+        }
+        self.set_fate(rec, fate);
+    }
+
+    /// Has a node locked by this pass, or by none; nothing where the table has it not.
+    pub(crate) fn set_lock(&mut self, number: u32, lock: Option<u16>)
+        ensures { self.new ≡ with_lock_in self.old number lock }
+    {
+        put(&mut self.locks, number as usize, lock);
+    }
+}
+
+/// So many copies of an item.
+pub(crate) fn repeated<T: Copy>(alloc: Global, item: T, count: u32) -> Result<Vec<T>, AllocError>
+    ensures { IfOk result (λ copies. copies.items ≡ replicate count item) }
+{
+    let mut copies = Vec::with_capacity(alloc, count as usize)?;
+    for _ in 0..count {
+        copies.push(item)?;
+    }
+    Ok(copies)
+}
+
+/// Puts an item in the place of another; nothing past the last one.
+pub(crate) fn put<T: Copy>(items: &mut Vec<T>, at: usize, item: T)
+    ensures { items.new.items ≡ set items.old.items at item }
+{
+    if at < items.len() {
+        items[at] = item;
+    }
+}
+
+/// These words with one of them changed; nothing past the last one.
+pub(crate) fn filled<const N: usize>(words: [u64; N], at: usize, word: u64) -> [u64; N]
+    ensures { result ≡ set words.entry at word }
+{
+    let mut filled = words;
+    if at < N {
+        filled[at] = word;
+    }
+    filled
+}
+
+/// Whether these are the words of a node.
+pub(crate) fn is_node(words: &[u64; NODE_FIELDS]) -> bool
+    ensures { (n : ℕ) → IsTrue result ↔ IsPacked (a_node n) words.now }
+{
+    unpack_node(words).is_ok()
+}
+
+/// Whether these are the words of a leaf.
+fn is_leaf(words: &[u64; LEAF_FIELDS]) -> bool
+    ensures { (n : ℕ) → IsTrue result ↔ IsPacked (a_leaf n) words.now }
+{
+    unpack_leaf(words).is_ok()
+}

@@ -1,6 +1,0 @@
--- What stays true in the loop of `repeated`.
-use Rattle.std.proofs.Common.{◌≡◌, replicate}
-use Rattle.rowex_replay.proofs.records.repeated.Given as goal
-
-abbrev pub invariant-loop : goal.invariant-loop
-invariant-loop g l = l.copies.items ≡ replicate l.counter l.item

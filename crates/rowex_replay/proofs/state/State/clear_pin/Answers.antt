@@ -1,9 +1,0 @@
--- The pass was pinned.
-use Rattle.std.proofs.Common.{sym}
-use Rattle.std.proofs.Common.{arith}
-use Rattle.rowex_replay.proofs.EpochSteps.{unpins, pass_in, some_from}
-use Rattle.rowex_replay.proofs.state.State.clear_pin.Goals as goal
-
-pub returns : goal.returns
-returns c = rw (sym c.self.view_is, c.put.ensures)
-    (unpins _ c.args.pass c.own-own.result (pass_in _ _ c.self.view_is _ _ c.own-own.ensures) (some_from c.own-own.result.pin (let a = c.is_none.ensures in let b = c.if-is_none.false in grind arith)))

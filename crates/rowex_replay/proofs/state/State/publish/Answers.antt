@@ -1,6 +1,0 @@
--- The word is that of an entry.
-use Rattle.rowex_replay.proofs.Stores.{entry_spelled}
-use Rattle.rowex_replay.proofs.state.State.publish.Goals as goal
-
-pub publish_entry-requires : goal.publish_entry-requires
-publish_entry-requires c = entry_spelled c.in-Ok.entry c.args.word (c.in-Ok.ensures.spelling)

@@ -1,0 +1,18 @@
+-- What a replay keeps beside its run, and what a step of it may want.
+use Rattle.std.specs.Prelude.{◌≡◌, ℕ}
+use Rattle.rowex_core.specs.declared.event.Act.{Act}
+use Rattle.rowex_core.specs.declared.event.Act.TheVariants.{Publish}
+use Rattle.rowex_core.specs.declared.event.Spot.{Spot}
+use Rattle.rowex_core.specs.Cores.{Core}
+use Rattle.rowex_core.specs.Events.{IsLockedAt}
+use Rattle.replay_state.specs.States.{StateView, IsStateOf}
+use Rattle.rowex_replay.specs.Runs.{Run, HasLegalEvents, core_of}
+
+-- The one kind of act that may want memory: a publish of a pass that has locked its word.
+abbrev pub MayWantMemory : Core → ℕ → Act → Type 0
+MayWantMemory c q act = (spot : Spot) × (w : ℕ) × (act ≡ Publish spot w) × IsLockedAt c q spot
+
+-- The state is that after a legal run.
+pub record IsAfter (s : StateView) (run : Run) : Type 0 where
+  pub legal : ∥ HasLegalEvents run ∥₁
+  pub at : IsStateOf s (core_of run)
