@@ -78,10 +78,17 @@ pub(crate) fn make_node<G: Gate>(
     let number = claim_node(table, seat, gate, build)?;
     fill_node(table, seat, gate, number, node);
     build.made.push(Rec::Node(number));
-    Some(Entry::Node {
+    Some(entry_of(number, node))
+}
+
+/// The entry that names this node, which is in the record of this number.
+fn entry_of(number: u32, node: &Node) -> Entry
+    ensures { result ≡ Entry.Node number node.now.height }
+{
+    Entry::Node {
         number,
         height: node.height(),
-    })
+    }
 }
 
 /// The entry for a half of what a node became: a node gets a record, and the node that stays whole keeps its own.
@@ -172,10 +179,7 @@ fn raise_level<G: Gate>(
 {
     let node = read_locked(table, seat, gate, number);
     let grown = with_fork(&node, fork);
-    let old = Entry::Node {
-        number,
-        height: node.height(),
-    };
+    let old = entry_of(number, &node);
     make_risen(table, seat, gate, build, old, &grown)
 }
 
@@ -205,10 +209,7 @@ fn make_grown<G: Gate>(
     ensures few { Spends (2 * node_steps) seat.old.known build.old seat.new.known build.new result }
 {
     if node.count() == 32 {
-        let old = Entry::Node {
-            number,
-            height: node.height(),
-        };
+        let old = entry_of(number, node);
         let grown = full_with_leaf(node, new);
         let stays = stays_whole(&grown);
         let risen = make_risen(table, seat, gate, build, old, &grown)?;
@@ -423,9 +424,6 @@ pub(crate) fn raise_without<G: Gate>(
 {
     let node = read_locked(table, seat, gate, number);
     let half = without_leaf(&node, key);
-    let old = Entry::Node {
-        number,
-        height: node.height(),
-    };
+    let old = entry_of(number, &node);
     make_half(table, seat, gate, build, old, &half)
 }

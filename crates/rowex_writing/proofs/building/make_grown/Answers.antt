@@ -1,6 +1,5 @@
 -- A full node gives its two sides; a node with room is stored anew with the leaf in it.
 use Rattle.std.proofs.Common.{◌≡◌, ◌<◌, false, true, refl, sym, subst, ◌∙◌, length, arith}
-use Rattle.compound_node.specs.declared.entries.Entry.TheVariants.{Node}
 use Rattle.insert_cases.specs.declared.growth.Grown.TheVariants.{One as Single}
 use Rattle.rowex_writing.specs.Building.{IsMadeFrom}
 use Rattle.rowex_writing.proofs.building.make_grown.Goals as goal
@@ -17,7 +16,7 @@ returns-then-count-eq32-clause-made g c = λ news b.
         keeps = c.stays_whole-stays.ensures;
         above = e.same.0;
         low = e.low;
-        made = subst (λ h. IsMadeFrom (Node c.args.number h) c.full_with_leaf-grown.result c.in_ok-risen.risen news after) c.height.ensures made;
+        made = subst (λ e. IsMadeFrom e c.full_with_leaf-grown.result c.in_ok-risen.risen news after) c.entry_of-old.ensures made;
       },
       now,
     )

@@ -1,6 +1,5 @@
 -- A claim and its fills are one record more.
 use Rattle.std.proofs.Common.{◌∷◌, [], ◌++◌, ap, sym, subst, ◌∙◌, arith}
-use Rattle.compound_node.specs.declared.entries.Entry.TheVariants.{Node}
 use Rattle.record_words.specs.Node.{node_words}
 use Rattle.moments.specs.declared.Rec.TheVariants.{Node as a_node}
 use Rattle.rowex_rights.specs.Rises.{of_view}
@@ -31,7 +30,7 @@ returns-clause-goes g c = goes_more c.args.table.now g.G.Gate.becomes _ _ _ c.cl
 pub returns-clause-made : goal.returns-clause-made
 returns-clause-made g c = λ news b. (
   c.in_ok-number.number,
-  ap (Node c.in_ok-number.number) c.height.ensures,
+  c.entry_of.ensures,
   c.fill_node.ensures.fits,
   subst (λ z. IsBuilding c.args.table.now c.fill_node.new.seat z (of_view c.in_ok-number.number c.args.node.now ∷ news)) (sym (c.push.ensures.items ∙ ap (λ z. z ++ a_node c.in_ok-number.number ∷ []) c.claim_node.ensures.made))
       (building_more c.args.table.now g.G.Gate.becomes (a_node c.in_ok-number.number) (node_words c.args.node.now) (c.args.seat.now, c.args.gate.now) (c.claim_node.new.seat, c.claim_node.new.gate) _

@@ -1,5 +1,6 @@
 -- The node above gets the fork.
-use Rattle.compound_node.specs.declared.entries.Entry.TheVariants.{Node}
+use Rattle.std.proofs.Common.{ap}
+use Rattle.compound_node.specs.Nodes.{height_of}
 use Rattle.rowex_writing.specs.Building.{IsBuilding}
 use Rattle.rowex_writing.proofs.Locking.{goes_more}
 use Rattle.rowex_writing.proofs.Lifting.{lift_tree, lift_zero, lift_one, lift_building, lifted, fork_level}
@@ -23,15 +24,15 @@ returns-clause-goes g c = goes_more c.args.table.now g.G.Gate.becomes _ _ _ c.re
 
 pub returns-clause-made : goal.returns-clause-made
 returns-clause-made g c = λ b.
-    lifted _ _ c.read_locked-node.ensures.reads b c.read_locked-node.ensures.node (c.make_risen.new.seat, c.make_risen.new.gate) c.make_risen.new.build.made.items (Node c.args.number c.height.result) c.with_fork-grown.result c.make_risen.result
+    lifted _ _ c.read_locked-node.ensures.reads b c.read_locked-node.ensures.node (c.make_risen.new.seat, c.make_risen.new.gate) c.make_risen.new.build.made.items c.entry_of-old.result c.with_fork-grown.result c.make_risen.result
     c.with_fork-grown.ensures.shows c.with_fork-grown.ensures.same c.make_risen.ensures.goes
     (c.make_risen.ensures.made b.here.news (lift_building _ _ c.read_locked-node.ensures.reads b c.read_locked-node.ensures.node))
 
 pub returns-clause-level : goal.returns-clause-level
 returns-clause-level g c = λ words h.
     let b = c.requires.below in
-    fork_level words c.read_locked-node.result (Node c.args.number c.height.result) c.with_fork-grown.result c.make_risen.result _ b.here.news (IsBuilding c.args.table.now c.make_risen.new.seat c.make_risen.new.build.made.items)
-    (c.read_locked-node.ensures.node words h) c.height.ensures c.with_fork-grown.ensures.low c.with_fork-grown.ensures.whole
+    fork_level words c.read_locked-node.result c.entry_of-old.result c.with_fork-grown.result c.make_risen.result _ b.here.news (IsBuilding c.args.table.now c.make_risen.new.seat c.make_risen.new.build.made.items)
+    (c.read_locked-node.ensures.node words h) (ap height_of c.entry_of-old.ensures) c.with_fork-grown.ensures.low c.with_fork-grown.ensures.whole
     (c.make_risen.ensures.made b.here.news (lift_building _ _ c.read_locked-node.ensures.reads b c.read_locked-node.ensures.node))
 
 pub returns-clause-walk : goal.returns-clause-walk
