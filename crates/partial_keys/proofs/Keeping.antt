@@ -41,7 +41,7 @@ module _ (places : List ℕ) (count p : ℕ) (h : HoldsColumns places count) (ro
 
   put_behind : drop (count + 1) places ≡ replicate (31 - (count + 1)) 65535
   put_behind =
-      ap (drop (count + 1)) h.filled
+      ap (drop (count + 1)) (sym h.filled)
       ∙ ap (λ n. drop (count + 1) (take count places ++ replicate (31 - n) 65535)) h.counted
       ∙ drop_pad 31 count (take count places) 65535 h.counted
 
@@ -49,8 +49,8 @@ module _ (places : List ℕ) (count p : ℕ) (h : HoldsColumns places count) (ro
   put_holds = record {
     columns = subst IsColumns (sym put_shown) (IsColumns-with_position p (take count places) h.columns room below new);
     counted = ap length put_shown ∙ longer;
-    filled = put_is ∙ ap (λ xs. with_position p (take count places) ++ xs) put_behind
-        ∙ sym (ap with_free put_shown ∙ ap (λ n. with_position p (take count places) ++ replicate (31 - n) 65535) longer);
+    filled = ap with_free put_shown ∙ ap (λ n. with_position p (take count places) ++ replicate (31 - n) 65535) longer
+        ∙ sym (put_is ∙ ap (λ xs. with_position p (take count places) ++ xs) put_behind);
   }
 
 -- ---- positions that are moved to the front
@@ -80,4 +80,4 @@ filled_behind places front found count l few at_front counted behind =
 pub holds_front : (cs places : List ℕ) (count : ℕ) → IsColumns cs → count ≡ length cs → places ≡ with_free cs → HoldsColumns places count
 holds_front cs places count columns counted filled =
     let shown : take count places ≡ cs = ap (take count) filled ∙ take_at cs (replicate (31 - length cs) 65535) count (sym counted) in
-    record { columns = subst IsColumns (sym shown) columns; counted = ap length shown ∙ sym counted; filled = filled ∙ sym (ap with_free shown) }
+    record { columns = subst IsColumns (sym shown) columns; counted = ap length shown ∙ sym counted; filled = ap with_free shown ∙ sym filled }

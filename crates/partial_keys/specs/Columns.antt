@@ -17,4 +17,4 @@ with_free positions = positions ++ replicate (31 - length positions) 65535
 pub record HoldsColumns (places : List ℕ) (count : ℕ) : Type 0 where
   pub columns : IsColumns (take count places)
   pub counted : length (take count places) ≡ count
-  pub filled : places ≡ with_free (take count places)
+  pub filled : with_free (take count places) ≡ places

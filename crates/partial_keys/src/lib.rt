@@ -35,9 +35,7 @@ impl Model for Columns {
 
     ghost inverse = { λ positions. record { positions = with_free positions; count = length positions } };
 
-    ghost use Rattle.std.proofs.Common.{sym};
-
-    ghost inverse_ok = { λ c h i. record { positions = sym h.filled i; count = h.counted i } };
+    ghost inverse_ok = { λ c h i. record { positions = h.filled i; count = h.counted i } };
 }
 
 impl Columns {

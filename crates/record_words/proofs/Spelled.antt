@@ -6,7 +6,7 @@ use Rattle.compound_node.specs.declared.entries.Entry.{Entry}
 use Rattle.compound_node.specs.declared.entries.Entry.TheVariants.{Leaf}
 use Rattle.record_words.specs.Entry.{HasEntryWord, entry_word}
 use Rattle.std.proofs.lemmas.List.{ext_get_or, get_or_default, length-replicate, take_at}
-use Rattle.partial_keys.specs.Columns.{HoldsColumns, IsColumns, with_free}
+use Rattle.partial_keys.specs.Columns.{with_free}
 use Rattle.partial_keys.specs.Rows.{with_unused}
 use Rattle.compound_node.specs.Nodes.{NodeView, HeadView, IsHead, IsLawfulNode, head_of, node_of}
 use Rattle.compound_node.proofs.Lawful.{same_count}
@@ -25,11 +25,6 @@ length-with_free columns few = length-append columns _ ∙ omega (arith, length-
 
 pub columns_in_front : (columns places : List ℕ) (count : ℕ) → places ≡ with_free columns → count ≡ length columns → take count places ≡ columns
 columns_in_front columns places count same counted = rw (same, counted) (take_at columns _ (length columns) refl)
-
-pub holds_columns : (columns places : List ℕ) (count : ℕ) → IsColumns columns → places ≡ with_free columns → count ≡ length columns → HoldsColumns places count
-holds_columns columns places count are same counted =
-    let front : take count places ≡ columns = columns_in_front columns places count same counted in
-    record { columns = rw front are; counted = rw front (sym counted); filled = rw front same }
 
 -- a node whose head has these words
 module _ (node : NodeView) (lawful : IsLawfulNode node) (words : List ℕ) (same : head_words (head_of node) ≡ words) where

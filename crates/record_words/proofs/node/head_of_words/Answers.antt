@@ -1,9 +1,10 @@
 -- The numbers that stand in the words are those of a node.
 use Rattle.std.proofs.Common.{List, ℕ, ◌≡◌, ap, arith, ◌∙◌}
 use Rattle.compound_node.specs.Nodes.{NodeView, IsLawfulNode, head_of}
+use Rattle.partial_keys.proofs.Keeping.{holds_front}
 use Rattle.record_words.specs.Node.{HasHeadWords, head_words}
 use Rattle.record_words.specs.Reading.{IsSpelling}
-use Rattle.record_words.proofs.Spelled.{columns_counted, columns_in_front, count_read, head_is, height-lt, height_read, holds_columns, is_head_read, spells_head, whole}
+use Rattle.record_words.proofs.Spelled.{columns_counted, columns_in_front, count_read, head_is, height-lt, height_read, is_head_read, spells_head, whole}
 use Rattle.record_words.proofs.node.head_of_words.Goals as goal
 
 -- a node whose head has the words
@@ -32,7 +33,7 @@ of_places-columns-requires c =
     let words = c.args.words.now in
     let its = node words c.requires in
     let is = lawful words c.requires in
-    holds_columns its.columns _ _ is.positions (c.read_places.ensures its is (same words c.requires)) (columns_counted its is words (same words c.requires))
+    holds_front its.columns _ _ is.positions (columns_counted its is words (same words c.requires)) (c.read_places.ensures its is (same words c.requires))
 
 pub overflow_cast-numbers-3 : goal.overflow_cast-numbers-3
 overflow_cast-numbers-3 c =
