@@ -4,7 +4,7 @@ use Rattle.std.proofs.lemmas.Bool.{cases_Bool}
 use Rattle.std.proofs.lemmas.List.Elements.{All-append, All-drop, All-push, All-take}
 use Rattle.std.proofs.lemmas.List.{length-drop, length-take-le}
 use Rattle.std.proofs.lemmas.Nat.{one_shl}
-use Rattle.std.specs.List.{All}
+use Rattle.std.specs.List.{All, insert}
 use Rattle.compound_node.proofs.Editing.{put-before, put-behind}
 use Rattle.compound_node.proofs.Heights.{greatest_height-insert}
 use Rattle.compound_node.proofs.Lawful.{built_lawful, parts_fit, same_count, with_leaves}
@@ -166,3 +166,38 @@ new_fork node lawful self same position first last bit entry at has_room below s
       leaves_fit = new_leaves node lawful position first last bit entry range room below stands;
       built = forked_built node lawful position first last bit entry range room below stands;
     }
+
+-- an element goes straight behind the affected ones, or straight before them
+pub put_beside : {X : Type 0} (first last : ℕ) (bit : Bool) (x : X) (xs : List X) → first ≤ last → edited first (last + 1 - first) (forked_places bit x) xs ≡ insert xs (cond bit (last + 1) first) x
+put_beside first last true x xs ordered =
+    let end : first + (last + 1 - first) ≡ last + 1 = omega (arith, ordered) in
+    sym (put-behind first (last + 1 - first) x xs) ∙ ap (λ k. insert xs k x) end
+put_beside first last false x xs ordered = sym (put-before first (last + 1 - first) x xs)
+
+-- what the head of a node of leaves needs for a new leaf
+pub record NewLeaf (node : NodeView) (position first last : ℕ) (bit : Bool) (leaf : ℕ) : Type 0 where
+  pub ordered : first ≤ last
+  pub in_range : last < length node.rows
+  pub leaves_fit : IsLawfulNode (node_of (forked_head 1 position first last bit (head_of node)) (leaves (length node.rows + 1)))
+  pub built : IsBuiltFrom (node_of (forked_head 1 position first last bit (head_of node)) (insert node.entries (cond bit (last + 1) first) (Leaf leaf))) (grown position bit (Leaf leaf) first (piece node))
+
+pub new_leaf : (node : NodeView) → IsLawfulNode node → (position first last : ℕ) (bit : Bool) (leaf : ℕ) →
+    IsAffected (piece node) position first last → length node.entries < 32 → position < 65535 → node.height ≡ 1 → NewLeaf node position first last bit leaf
+new_leaf node lawful position first last bit leaf at room below low =
+    let fork : NewFork node position first last bit (Leaf leaf) = new_fork node lawful node refl position first last bit (Leaf leaf) at room below tt in
+    let height : 1 + greatest_height (edited first (last + 1 - first) (forked_places bit (Leaf leaf)) node.entries) ≡ 1 = omega (arith, fork.greatest low) in
+    record {
+      ordered = fork.ordered;
+      in_range = omega (arith, fork.in_range, same_count node lawful);
+      leaves_fit = subst (λ h. IsLawfulNode (node_of (forked_head h position first last bit (head_of node)) (leaves (length node.rows + 1)))) height fork.leaves_fit;
+      built = subst (λ es. IsBuiltFrom (node_of (forked_head 1 position first last bit (head_of node)) es) (grown position bit (Leaf leaf) first (piece node)))
+          (put_beside first last bit (Leaf leaf) node.entries fork.ordered)
+          (subst (λ h. IsBuiltFrom (node_of (forked_head h position first last bit (head_of node)) (edited first (last + 1 - first) (forked_places bit (Leaf leaf)) node.entries)) (grown position bit (Leaf leaf) first (piece node))) height fork.built);
+    }
+
+-- and so for the head
+pub head_leaf : (head : HeadView) (position first last : ℕ) (bit : Bool) (leaf : ℕ) → length head.rows < 32 → head.height ≡ 1 → position < 65535 →
+    (node : NodeView) → IsLawfulNode node → head_of node ≡ head → IsAffected (piece node) position first last → NewLeaf node position first last bit leaf
+head_leaf head position first last bit leaf room low below node lawful same at =
+    let few : length node.rows < 32 = subst (λ (h : HeadView). length h.rows < 32) (sym same) room in
+    new_leaf node lawful position first last bit leaf at (omega (arith, few, same_count node lawful)) below (ap (λ (h : HeadView). h.height) same ∙ low)

@@ -33,13 +33,14 @@ impl Model for Head {
 }
 
 impl Head {
-    ghost use Rattle.std.specs.Prelude.{◌≡◌, ℕ, ◌↔◌, ◌+◌, ◌<◌, ◌≤◌, IsSome, IfSome, length, slice_index, take};
+    ghost use Rattle.std.specs.Prelude.{◌≡◌, ℕ, ◌↔◌, ◌+◌, ◌<◌, ◌≤◌, IsSome, IfSome, if◌then◌else◌, insert, length, slice_index, take};
     ghost use Rattle.compound_node.specs.Forking.{forked_head};
-    ghost use Rattle.compound_node.specs.Nodes.{AgreeBefore, InEachNode, IsHead, IsLawfulNode, leaves, node_of, piece};
+    ghost use Rattle.compound_node.specs.Nodes.{AgreeBefore, InEachNode, IsBuiltFrom, IsHead, IsLawfulNode, NodeView, head_of, leaves, node_of, piece};
+    ghost use Rattle.compound_node.specs.declared.entries.Entry.TheVariants.{Leaf as LeafEntry};
     ghost use Rattle.key_bits.specs.Bits.{bit_of};
     ghost use Rattle.partial_keys.specs.Rows.{with_unused};
     ghost use Rattle.pieces.specs.Changes.{AtRootFork};
-    ghost use Rattle.pieces.specs.Growth.{affected_count, affected_first};
+    ghost use Rattle.pieces.specs.Growth.{IsAffected, affected_count, affected_first, grown};
     ghost use Rattle.pieces.specs.Piece.{leads_to};
 
     /// The head of these fields, where some node has them: `count` entries, and 4,294,967,295 at
@@ -153,6 +154,19 @@ impl Head {
         self.height = height;
     }
 
+    /// Puts a new fork in over the entries from `first` to `last`, as `Node::add` does, for a new leaf of a node that has
+    /// leaves alone.
+    pub fn add_leaf(&mut self, first: u8, last: u8, position: u16, bit: bool)
+        requires room { length self.old.rows < 32 }
+        requires low { self.old.height ≡ 1 }
+        requires range { (node : NodeView) × IsLawfulNode node × (head_of node ≡ self.old) × IsAffected (piece node) position first last }
+        requires below { position < 65535 }
+        ensures { InEachNode self.old (λ node. IsAffected (piece node) position first last → (leaf : ℕ) →
+            IsBuiltFrom (node_of self.new (insert node.entries (if bit then last + 1 else first) (LeafEntry leaf))) (grown position bit (LeafEntry leaf) first (piece node))) }
+    {
+        self.add(1, position, first as usize, last as usize, bit);
+    }
+
     pub(crate) fn copy(&self) -> Head
         ensures { result ≡ self.now }
     {
@@ -164,7 +178,8 @@ impl Head {
         }
     }
 
-    pub(crate) fn columns(&self) -> &Columns
+    /// The positions of the forks.
+    pub fn columns(&self) -> &Columns
         ensures { result.now ≡ self.now.columns }
     {
         &self.columns
@@ -177,7 +192,7 @@ impl Head {
     }
 
     /// The rows at the first of 32 places, and 4,294,967,295 at the unused ones.
-    pub(crate) fn places(&self) -> &[u32; 32]
+    pub fn places(&self) -> &[u32; 32]
         ensures { result.now ≡ with_unused self.now.rows }
     {
         &self.sparse
