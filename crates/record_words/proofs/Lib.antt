@@ -2,6 +2,7 @@
 pub mod Bytes
 pub mod Entries
 pub mod Fixing
+pub mod Growing
 pub mod Heads
 pub mod Lawful
 pub mod Leaves

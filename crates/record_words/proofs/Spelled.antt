@@ -110,7 +110,7 @@ entries_counted node words has same =
     ap (λ word. word % 256) (sym (get_or-take 25 words 0 0 (lit< tt))) ∙ (count_read node has.lawful (take 25 words) (head_part node words same) ∙ same_count node has.lawful)
 
 -- ---- a node of its two parts
-head_read : (node : NodeView) (words : List ℕ) (head : HeadView) → HasNodeWords node → node_words node ≡ words → IsSpelledBy HasHeadWords head_words (take 25 words) head → head ≡ head_of node
+pub head_read : (node : NodeView) (words : List ℕ) (head : HeadView) → HasNodeWords node → node_words node ≡ words → IsSpelledBy HasHeadWords head_words (take 25 words) head → head ≡ head_of node
 head_read node words head has same spelled = spelled.only (head_of node) (node, has.lawful, refl) (head_part node words same)
 
 pub both_read : (node : NodeView) (words : List ℕ) (head : HeadView) (entries : List Entry) → HasNodeWords node → node_words node ≡ words → IsSpelledBy HasHeadWords head_words (take 25 words) head → entries ≡ node.entries → node_of head entries ≡ node

@@ -1,34 +1,32 @@
 -- A node's words, written one after another.
-use Rattle.std.proofs.Common.{ℕ, ◌≡◌, ◌+◌, ◌-◌, ◌<◌, ◌≤◌, arith, List, get_or, set, replicate, length, sym, ap, refl, ◌∙◌, ⊎_elim, below_more, get_or-set_other, get_or-set_same}
+use Rattle.std.proofs.Common.{ℕ, ◌≡◌, ◌+◌, ◌-◌, ◌<◌, ◌≤◌, ◌++◌, arith, List, drop, get_or, set, replicate, length, length-append, sym, ap, refl, ◌∙◌, ⊎_elim, below_more, get_or-set_other, get_or-set_same}
 use Rattle.std.specs.Prelude.{slice_get, Option}
 use Rattle.std.proofs.lemmas.Bool.{cases_lt}
-use Rattle.std.proofs.lemmas.List.{ext_get_or, get_or_append_left, length-replicate, length-set}
+use Rattle.std.proofs.lemmas.List.{ext_get_or, get_or-append_right, get_or-drop, get_or_append_left, length-drop, length-replicate, length-set}
 use Rattle.std.proofs.lemmas.Option.{slice_get_past}
 use Rattle.compound_node.specs.declared.entries.Entry.{Entry}
-use Rattle.compound_node.specs.Nodes.{NodeView, IsLawfulNode, head_of}
+use Rattle.compound_node.specs.Nodes.{HeadView, NodeView, head_of}
 use Rattle.partial_keys.specs.Columns.{with_free}
 use Rattle.partial_keys.specs.Rows.{with_unused}
-use Rattle.compound_node.proofs.Lawful.{same_count}
 use Rattle.record_words.specs.Entry.{HasEntryWord, entry_word}
 use Rattle.record_words.specs.Node.{HaveEntryWords, head_words, entry_words, node_words}
-use Rattle.record_words.specs.Packed.{meta_word, position_word, row_word}
-use Rattle.record_words.proofs.Fixing.{AreFixed, fixed_words_parts}
+use Rattle.record_words.specs.Packed.{fixed_words, meta_word, position_word, row_word}
+use Rattle.record_words.proofs.Fixing.{AreFixed, fixed_words-same, fixed_words_parts}
 use Rattle.record_words.proofs.Lawful.{get_or-padded, row_at-with_unused}
-use Rattle.record_words.proofs.Nodes.{length-head_words, length-node_words, node_words-entry}
-use Rattle.record_words.proofs.Packings.{position_word-same, row_word-same}
-use Rattle.record_words.proofs.Unused.{zero_in}
+use Rattle.record_words.proofs.Nodes.{length-head_words, node_words-entry}
+use Rattle.record_words.proofs.Packings.{position_word-same}
 
--- the words before place n are those of the node, and the others are 0
-pub record AreSoFar (node : NodeView) (words : List ℕ) (n : ℕ) : Type 0 where
+-- the words before place n are the new ones, and the others the old
+pub record AreSoFar (new old words : List ℕ) (n : ℕ) : Type 0 where
   pub whole : length words ≡ 57
-  pub written : (k : ℕ) → k < n → get_or words k 0 ≡ get_or (node_words node) k 0
-  pub unwritten : (k : ℕ) → n ≤ k → get_or words k 0 ≡ 0
+  pub written : (k : ℕ) → k < n → get_or words k 0 ≡ get_or new k 0
+  pub unwritten : (k : ℕ) → n ≤ k → get_or words k 0 ≡ get_or old k 0
 
-pub none_so_far : (node : NodeView) → AreSoFar node (replicate 57 0) 0
-none_so_far node = record { whole = length-replicate {A = ℕ} 57 0; written = λ k none. absurd (omega arith); unwritten = λ k past. zero_in 57 k }
+pub none_so_far : (new old : List ℕ) → length old ≡ 57 → AreSoFar new old old 0
+none_so_far new old whole = record { whole = whole; written = λ k none. absurd (omega arith); unwritten = λ k past. refl }
 
-pub one_more : (node : NodeView) (words : List ℕ) (n next value : ℕ) → AreSoFar node words n → n < 57 → next ≡ n + 1 → value ≡ get_or (node_words node) n 0 → AreSoFar node (set words n value) next
-one_more node words n next value so_far inside later same =
+pub one_more : (new old words : List ℕ) (n next value : ℕ) → AreSoFar new old words n → n < 57 → next ≡ n + 1 → value ≡ get_or new n 0 → AreSoFar new old (set words n value) next
+one_more new old words n next value so_far inside later same =
     let place : n < length words = omega (arith, so_far.whole) in
     record {
       whole = length-set words n value ∙ so_far.whole;
@@ -36,33 +34,60 @@ one_more node words n next value so_far inside later same =
       unwritten = λ k past. get_or-set_other words n k value 0 (omega arith) ∙ so_far.unwritten k (omega arith);
     }
 
--- the words are all there where those behind them are 0
-pub all_so_far : (node : NodeView) (words : List ℕ) (n : ℕ) → AreSoFar node words n → ((k : ℕ) → n ≤ k → k < 57 → get_or (node_words node) k 0 ≡ 0) → words ≡ node_words node
-all_so_far node words n so_far rest =
-    ext_get_or 0 words (node_words node) (so_far.whole ∙ sym (length-node_words node))
+-- the words are all there where those behind them stay
+pub all_so_far : (new old words : List ℕ) (n : ℕ) → AreSoFar new old words n → length new ≡ 57 → ((k : ℕ) → n ≤ k → k < 57 → get_or new k 0 ≡ get_or old k 0) → words ≡ new
+all_so_far new old words n so_far whole rest =
+    ext_get_or 0 words new (so_far.whole ∙ sym whole)
     (λ k inside. ⊎_elim (λ (before : k < n). so_far.written k before)
     (λ (past : n ≤ k). so_far.unwritten k past ∙ sym (rest k past (omega (arith, so_far.whole)))) (cases_lt k n))
 
--- ---- the word at each place
-module _ (node : NodeView) where
-  head : AreFixed (length node.rows) node.height node.columns node.rows (head_words (head_of node))
-  head = fixed_words_parts (length node.rows) node.height node.columns node.rows (head_words (head_of node)) refl
+-- ---- the words of a head before the old ones of the entries
+abbrev pub with_head : (count height : ℕ) (columns rows old : List ℕ) → List ℕ
+with_head count height columns rows old = fixed_words count height columns rows ++ drop 25 old
 
-  head_word : (k : ℕ) → k < 25 → get_or (node_words node) k 0 ≡ get_or (head_words (head_of node)) k 0
-  head_word k small = get_or_append_left (head_words (head_of node)) (entry_words node.entries) 0 k (omega (arith, length-head_words node))
+module _ (count height : ℕ) (columns rows old : List ℕ) where
+  head : AreFixed count height columns rows (fixed_words count height columns rows)
+  head = fixed_words_parts count height columns rows (fixed_words count height columns rows) refl
 
-  pub numbers_word : (count columns height : ℕ) → IsLawfulNode node → count ≡ length node.entries → columns ≡ length node.columns → height ≡ node.height → meta_word count columns height ≡ get_or (node_words node) 0 0
-  numbers_word count columns height lawful counts columns_are heights =
-      omega (arith, counts, columns_are, heights, same_count node lawful, head.numbers, head_word 0 (omega arith))
+  pub head_word : (k : ℕ) → k < 25 → get_or (with_head count height columns rows old) k 0 ≡ get_or (fixed_words count height columns rows) k 0
+  head_word k small = get_or_append_left (fixed_words count height columns rows) (drop 25 old) 0 k (omega (arith, small, head.whole))
 
-  pub places_word : (places : List ℕ) (j : ℕ) → places ≡ with_free node.columns → j < 8 → position_word places j ≡ get_or (node_words node) (1 + j) 0
+  pub length-with_head : length old ≡ 57 → length (with_head count height columns rows old) ≡ 57
+  length-with_head whole = length-append (fixed_words count height columns rows) (drop 25 old) ∙ omega (arith, head.whole, length-drop 25 old, whole)
+
+  pub numbers_word : meta_word count (length columns) height ≡ get_or (with_head count height columns rows old) 0 0
+  numbers_word = sym head.numbers ∙ sym (head_word 0 (omega arith))
+
+  pub places_word : (places : List ℕ) (j : ℕ) → places ≡ with_free columns → j < 8 → position_word places j ≡ get_or (with_head count height columns rows old) (1 + j) 0
   places_word places j are small =
-      ap (λ all. position_word all j) are ∙ (position_word-same (with_free node.columns) node.columns j (get_or-padded node.columns (31 - length node.columns) 65535)
+      ap (λ all. position_word all j) are ∙ (position_word-same (with_free columns) columns j (get_or-padded columns (31 - length columns) 65535)
       ∙ (head.positions j small ∙ sym (head_word (1 + j) (omega arith))))
 
-  pub rows_word : (rows : List ℕ) (j : ℕ) → rows ≡ with_unused node.rows → j < 16 → row_word rows j ≡ get_or (node_words node) (9 + j) 0
-  rows_word rows j are small =
-      ap (λ all. row_word all j) are ∙ (row_word-same (with_unused node.rows) node.rows j (row_at-with_unused node.rows) ∙ (head.rows_are j small ∙ sym (head_word (9 + j) (omega arith))))
+  pub rows_word : (j : ℕ) → j < 16 → row_word rows j ≡ get_or (with_head count height columns rows old) (9 + j) 0
+  rows_word j small = head.rows_are j small ∙ sym (head_word (9 + j) (omega arith))
+
+  pub behind_head : (k : ℕ) → 25 ≤ k → get_or (with_head count height columns rows old) k 0 ≡ get_or old k 0
+  behind_head k past =
+      get_or-append_right (fixed_words count height columns rows) (drop 25 old) 25 k 0 head.whole past
+      ∙ (get_or-drop 25 old (k - 25) 0 ∙ ap (λ i. get_or old i 0) (let e : 25 + (k - 25) ≡ k = omega (arith, past) in e))
+
+-- the fields of a head give its words
+pub head_put : (head : HeadView) (count height : ℕ) (columns rows : List ℕ) → count ≡ length head.rows → height ≡ head.height → columns ≡ head.columns → rows ≡ with_unused head.rows →
+    fixed_words count height columns rows ≡ head_words head
+head_put head count height columns rows counts heights columns_are rows_are =
+    rw (counts, heights, columns_are, rows_are) (fixed_words-same (length head.rows) head.height head.columns (with_unused head.rows) head.rows (row_at-with_unused head.rows))
+
+-- ---- a node's words
+module _ (node : NodeView) where
+  -- those of the head before zeros
+  pub head_so_far : (words : List ℕ) → words ≡ head_words (head_of node) ++ drop 25 (replicate 57 0) → AreSoFar (node_words node) (replicate 57 0) words 25
+  head_so_far words are = rw are record {
+    whole = length-with_head (length node.rows) node.height node.columns node.rows (replicate 57 0) (length-replicate {A = ℕ} 57 0);
+    written = λ k small.
+        head_word (length node.rows) node.height node.columns node.rows (replicate 57 0) k small
+        ∙ sym (get_or_append_left (head_words (head_of node)) (entry_words node.entries) 0 k (omega (arith, small, length-head_words node)));
+    unwritten = λ k past. behind_head (length node.rows) node.height node.columns node.rows (replicate 57 0) k past;
+  }
 
   -- behind the last entry the words are 0
   pub no_entry_word : (n k : ℕ) → length node.entries ≤ n → 25 + n ≤ k → k < 57 → get_or (node_words node) k 0 ≡ 0

@@ -1,8 +1,10 @@
 -- The words of a node record.
-use Rattle.std.specs.Prelude.{ℕ, ◌≡◌, ◌≤◌, ◌++◌, List, length, map, slice_get}
+use Rattle.std.specs.Prelude.{ℕ, ◌≡◌, ◌<◌, ◌≤◌, ◌++◌, List, length, map, slice_get}
 use Rattle.std.specs.List.{range_with_len}
 use Rattle.compound_node.specs.declared.entries.Entry.{Entry}
-use Rattle.compound_node.specs.Nodes.{NodeView, HeadView, IsLawfulNode, head_of}
+use Rattle.compound_node.specs.Nodes.{NodeView, HeadView, IsBuiltFrom, IsLawfulNode, head_of, piece}
+use Rattle.pieces.specs.Growth.{IsAffected}
+use Rattle.pieces.specs.Piece.{Piece}
 use Rattle.record_words.specs.Entry.{HasEntryWord, entry_word}
 use Rattle.record_words.specs.Packed.{fixed_words}
 use Rattle.record_words.specs.declared.TheConstants.{MAX_ENTRIES}
@@ -36,3 +38,22 @@ node_words node = head_words (head_of node) ++ entry_words node.entries
 pub record HasNodeWords (node : NodeView) : Type 0 where
   pub lawful : IsLawfulNode node
   pub entries : HaveEntryWords node.entries
+
+-- ---- words that get a new leaf
+-- a node of leaves alone with room for one more
+abbrev pub CanTakeLeaf : NodeView → Type 0
+CanTakeLeaf node = (node.height ≡ 1) × (length node.entries < MAX_ENTRIES)
+
+-- The words are those of this node. It can take a leaf, and a fork at the position parts that from the entries from first to last
+pub record IsGrowing (words : List ℕ) (node : NodeView) (position first last : ℕ) : Type 0 where
+  pub has : HasNodeWords node
+  pub spells : node_words node ≡ words
+  pub takes : CanTakeLeaf node
+  pub range : IsAffected (piece node) position first last
+
+-- the words are those of a node that was built anew to show this piece
+pub record SpellBuilt (words : List ℕ) (shown : Piece Entry) : Type 0 where
+  pub node : NodeView
+  pub has : HasNodeWords node
+  pub spells : node_words node ≡ words
+  pub built : IsBuiltFrom node shown

@@ -13,7 +13,9 @@ pub use entry::{pack_entry, read_entry, read_some};
 use key_bits::MAX_BYTES;
 pub use layout::{Layout, LayoutFault, LeafClass, Location, Stock};
 pub use leaf::{key_word_at, key_words, pack_leaf, words_for, write_word};
-pub use node::{pack_node, position_words, read_head, read_node, row_words};
+pub use node::{
+    add_leaf, can_take_leaf, pack_node, position_words, read_head, read_node, row_words,
+};
 pub use state::{Tag, pack_state, unpack_state};
 
 /// Epochs are below this number, and at least 1.

@@ -1,38 +1,99 @@
 //! The words of a node record.
 
-ghost use Rattle.std.specs.Prelude.{◌≡◌, ◌<◌, ◌/◌, ◌%◌, length, slice_get};
+ghost use Rattle.std.specs.Prelude.{◌≡◌, ◌↔◌, ◌<◌, ◌/◌, ◌%◌, ◌++◌, IsTrue, drop, length, slice_get};
+ghost use Rattle.compound_node.specs.Nodes.{NodeView, piece};
+ghost use Rattle.compound_node.specs.declared.entries.Entry.TheVariants.{Leaf as LeafEntry};
+ghost use Rattle.pieces.specs.Growth.{grown};
 ghost use Rattle.record_words.specs.Entry.{HasEntryWord, entry_word};
-ghost use Rattle.record_words.specs.Node.{HasHeadWords, HasNodeWords, head_words, node_words};
-ghost use Rattle.record_words.specs.Packed.{words_of_positions, words_of_rows};
+ghost use Rattle.record_words.specs.Node.{CanTakeLeaf, HasHeadWords, HasNodeWords, IsGrowing, SpellBuilt, head_words, node_words};
+ghost use Rattle.record_words.specs.Packed.{fixed_words, words_of_positions, words_of_rows};
 ghost use Rattle.record_words.specs.Reading.{IsSpelledBy, IsSpelling};
 
 use crate::entry::{pack_entry, read_some};
 use crate::fixed::{read_places, read_rows, word_of_numbers, word_of_places, word_of_rows};
-use crate::{FIRST_ROWS, HEAD_WORDS, NODE_FIELDS};
+use crate::{FIRST_ROWS, HEAD_WORDS, MAX_ENTRIES, NODE_FIELDS};
 use arrayvec::ArrayVec;
-use compound_node::{Head, Node};
-use partial_keys::Columns;
+use compound_node::{Entry, Head, Node};
+use partial_keys::{Columns, put_in};
 
 /// The words of a node record from offset 1 on.
 pub fn pack_node(node: &Node) -> [u64; NODE_FIELDS]
     ensures words { result ≡ node_words node.now }
     ensures fits { HasNodeWords node.now }
 {
-    let columns = node.columns();
-    let places = columns.places();
-    let rows = node.sparse_places();
     let mut words = [0; NODE_FIELDS];
-    words[0] = word_of_numbers(node.count(), columns.count(), node.height());
+    let columns = node.columns();
+    put_head(
+        &mut words,
+        node.count(),
+        node.height(),
+        columns,
+        node.sparse_places(),
+    );
+    for i in 0..node.count() {
+        words[HEAD_WORDS + i as usize] = entry_word_at(node, i);
+    }
+    words
+}
+
+/// Puts in the words of a head with these fields, where some node has it.
+fn put_head(
+    words: &mut [u64; NODE_FIELDS],
+    count: u8,
+    height: u16,
+    columns: &Columns,
+    rows: &[u32; MAX_ENTRIES],
+)
+    ensures { words.new ≡ fixed_words count height columns.now rows.now ++ drop HEAD_WORDS words.old }
+{
+    let places = columns.places();
+    words[0] = word_of_numbers(count, columns.count(), height);
     for j in 0..8 {
         words[1 + j] = word_of_places(places, j);
     }
     for k in 0..16 {
         words[FIRST_ROWS + k] = word_of_rows(rows, k);
     }
-    for i in 0..node.count() {
-        words[HEAD_WORDS + i as usize] = entry_word_at(node, i);
-    }
-    words
+}
+
+/// Whether the node that these words spell has leaves alone, and room for one more.
+pub fn can_take_leaf(words: &[u64; NODE_FIELDS]) -> bool
+    ensures { (node : NodeView) → HasNodeWords node → node_words node ≡ words.now → IsTrue result ↔ CanTakeLeaf node }
+{
+    words[0] / 65_536 == 1 && words[0] % 256 < MAX_ENTRIES as u64
+}
+
+/// Makes the words those of the node with a new leaf, which it can take: with a new fork over the entries from `first` to `last`, where
+/// they part from the leaf. With bit 1 that stands straight after them, with bit 0 straight before.
+pub fn add_leaf(
+    words: &mut [u64; NODE_FIELDS],
+    first: u8,
+    last: u8,
+    position: u16,
+    bit: bool,
+    leaf: u32,
+)
+    requires growing { (node : NodeView) × IsGrowing words.old node position first last }
+    requires below { position < 65535 }
+    ensures { (node : NodeView) → IsGrowing words.old node position first last → SpellBuilt words.new (grown position bit (LeafEntry leaf) first (piece node)) }
+{
+    let mut head = head_of_words(&words[..HEAD_WORDS]);
+    let end = HEAD_WORDS + head.count() as usize;
+    let at = HEAD_WORDS
+        + if bit {
+            last as usize + 1
+        } else {
+            first as usize
+        };
+    head.add_leaf(first, last, position, bit);
+    put_head(
+        words,
+        head.count(),
+        head.height(),
+        head.columns(),
+        head.places(),
+    );
+    put_in(words, end, at, pack_entry(Some(Entry::Leaf(leaf))));
 }
 
 /// How many words of a head have positions, by its first word; the words between them and the first with sparse partial keys
