@@ -2,12 +2,12 @@
 #![tactic(auto)]
 
 mod choosing;
-mod growing;
 mod overflow;
+mod places;
 mod plain;
 mod raising;
 mod rising;
 
-pub use growing::{Place, grow};
 pub use overflow::place;
+pub use places::Place;
 pub use plain::{LeafRecord, PlainTrie};

@@ -3,7 +3,7 @@
 ghost use Rattle.std.specs.Prelude.{◌≡◌, ◌↔◌, ◌+◌, ◌<◌, Some, IsNone};
 ghost use Rattle.std.specs.Option.{ForSome};
 
-use crate::growing::Place;
+use crate::places::Place;
 use insert_cases::is_pull_up;
 
 /// Where the halves of a cut node of this height go: into the parent where the parent is one higher, into a node

@@ -19,8 +19,8 @@ ghost use Rattle.plain_trie.specs.Risen.{IsNamed, RisenShows, OthersStay, AllSta
 ghost use Rattle.plain_trie.specs.declared.plain.LeafRecord.{LeafRecord};
 
 use crate::choosing::{choice_at, step_at, takes_leaf};
-use crate::growing::Place;
 use crate::overflow::place;
+use crate::places::Place;
 use crate::raising::{kept, settled, stored};
 use compound_node::{Entry, Node};
 use insert_cases::{Case, Choice, Risen, grow_full, pull_up};
