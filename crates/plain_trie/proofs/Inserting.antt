@@ -1,34 +1,32 @@
 -- What the map is after a key was added, or got another value.
-use Rattle.std.proofs.Common.{◌≡◌, ◌≢◌, inl, inr, ℕ, ◌<◌, List, true, false, refl, ap, sym, ◌∙◌, subst, Option, Some, None, if◌then◌else◌, set, get_or}
+use Rattle.std.proofs.Common.{◌≡◌, ℕ, List, refl, ap, sym, ◌∙◌, subst, Option, Some, None, set, get_or}
 use Rattle.std.specs.Prelude.{slice_get, option_and_then}
-use Rattle.std.proofs.lemmas.Bool.{false≢true}
-use Rattle.std.proofs.lemmas.Option.{slice_get_within}
 use Rattle.key_bits.specs.Bits.{bit_of}
-use Rattle.pieces.specs.Piece.{Place, places}
-use Rattle.compound_node.specs.Nodes.{NodeView, height_of, greatest_height}
+use Rattle.pieces.specs.Piece.{Place}
+use Rattle.compound_node.specs.Nodes.{NodeView, height_of}
 use Rattle.compound_node.specs.declared.entries.Entry.{Entry}
 use Rattle.finite_map.specs.Maps.{Map, with_value, value_at, step_where, reply_of, map_after}
 use Rattle.finite_map.specs.declared.Call.TheVariants.{Insert, Upsert}
 use Rattle.finite_map.specs.declared.Reply.TheVariants.{Inserted, Exists, New, Was}
 use Rattle.tries.proofs.Changes.{put, IsExchanged}
 use Rattle.tries.specs.Content.{Item, items, pairs, item}
-use Rattle.tries.specs.Keys.{Key, bit}
-use Rattle.tries.specs.Tree.{Tree, leaf, node, fork, page, Has, IsTrie, IsBuilt, IsFit, IsFork, Within, here, inside, zero_side, one_side}
+use Rattle.tries.specs.Keys.{Key}
+use Rattle.tries.specs.Tree.{Tree, leaf, page, IsTrie, IsBuilt, Within}
 use Rattle.tries.proofs.Adding.{exchanged_put, exchanged_leaf}
 use Rattle.tries.proofs.Contents.{content_rises}
 use Rattle.tries.proofs.Maps.{are_keys, more_inserts, exchange_inserts}
-use Rattle.tries.proofs.Tries.{has_within, trie_within}
+use Rattle.tries.proofs.Tries.{trie_within}
 use Rattle.tries.proofs.Puts.{page_put}
-use Rattle.plain_trie.specs.declared.plain.LeafRecord.{LeafRecord}
-use Rattle.plain_trie.specs.Adding.{IsStanding, IsAbsentFrom}
-use Rattle.plain_trie.specs.Rising.{IsRaised}
-use Rattle.plain_trie.specs.Store.{PlainView, ShowsTree, IsSound, ShowsSoundTree, IsHeldInLeaf, shown_tree, trie_map, entry_tree, item_record}
-use Rattle.tries.proofs.Building.{lower_from, lower_to}
+use Rattle.plain_records.specs.declared.leaf.LeafRecord.{LeafRecord}
+use Rattle.plain_records.specs.Adding.{IsStanding, IsAbsentFrom}
+use Rattle.plain_records.specs.Rising.{IsRaised}
+use Rattle.plain_trie.specs.Views.{PlainView, ShowsSoundTree, IsHeldInLeaf, shown_tree, trie_map}
+use Rattle.plain_records.specs.Store.{IsSound, ShowsTree, entry_tree, item_record}
 use Rattle.insert_cases.proofs.Choosing.{same_some}
-use Rattle.plain_trie.proofs.Reading.{IsTree, plain_tree, tree_is, tree_plain}
-use Rattle.plain_trie.proofs.Searching.{read_at}
-use Rattle.plain_trie.proofs.Storing.{set_same, set_other}
-use Rattle.plain_trie.proofs.Values.{map_is, value_found, value_missed}
+use Rattle.plain_trie.proofs.Trees.{IsTree, plain_tree, tree_is, tree_plain, map_is}
+use Rattle.plain_records.proofs.Putting.{found_place, put_same, shown_put}
+use Rattle.plain_records.proofs.Searching.{read_at}
+use Rattle.plain_records.proofs.Values.{value_found, value_missed}
 use Rattle.tries.specs.Search.{found}
 
 -- a trie with this map
@@ -63,57 +61,6 @@ raised_becomes v w ns e f t x p h i top u =
     (ap (λ m. with_value m x.key x.value) (map_is v t i.is) ∙ more_inserts x (items t) (items u.tree) u.adds.more (content_rises u.tree u.adds.trie) (are_keys u.tree u.adds.trie))
 
 -- ---- another value
--- the leaf at which a search ends
-found_place : (k : Key) (t : Tree) → Within (leaf (found k t).number (found k t).key (found k t).value) t
-found_place k (leaf n l v) = here
-found_place k (node n x b) = inside (found_place k b)
-found_place k (fork p a b) =
-    elim (bit k p) as (λ u. let y : Item = if u then found k b else found k a in Within (leaf y.number y.key y.value) (fork p a b)) [ true ↦ one_side (found_place k b) | false ↦ zero_side (found_place k a) ]
-
-fork_page : (s t : Tree) → page s ≡ page t → IsFork t → IsFork s
-fork_page s (leaf n l v) e f = elim f [ ]
-fork_page s (node n x b) e f = elim f [ ]
-fork_page (leaf n l v) (fork p a b) e f = absurd cc
-fork_page (node n x c) (fork p a b) e f = absurd cc
-fork_page (fork q c d) (fork p a b) e f = tt
-
-put_same : {s t : Tree} (w : Within s t) (r : Tree) → page r ≡ page s → IsBuilt r → IsBuilt t → IsBuilt (put w r)
-put_same here r e b i = b
-put_same (inside {n = n} {x = x} {b = d} w) r e b i =
-    let same = page_put w r e in (
-      fork_page (put w r) d same i.0,
-      lower_from x.height (put w r) (subst (λ f. greatest_height (places f) < x.height) (sym same) (lower_to x.height d i.1)),
-      put_same w r e b i.2,
-      subst (IsFit x) (sym same) i.3,
-    )
-put_same (zero_side w) r e b i = (put_same w r e b i.0, i.1)
-put_same (one_side w) r e b i = (i.0, put_same w r e b i.1)
-
--- a tree without the key stays shown where that key's leaf changes
-shown_else : (ns : List NodeView) (ls : List LeafRecord) (n : ℕ) (l m : LeafRecord) (t : Tree) → slice_get ls n ≡ Some l → ((k : Key) → Has t k → k ≢ l.key) →
-    ShowsTree ns ls t → ShowsTree ns (set ls n m) t
-shown_else ns ls n l m (leaf o k v) at other i =
-    set_other ls n o m _ (λ e. other k refl (ap (λ (r : LeafRecord). r.key) (same_some (sym i ∙ (ap (slice_get ls) (sym e) ∙ at))))) i
-shown_else ns ls n l m (node o x b) at other i = (i.0, shown_else ns ls n l m b at other i.1)
-shown_else ns ls n l m (fork p a b) at other i =
-    (shown_else ns ls n l m a at (λ k h. other k (inl h)) i.0, shown_else ns ls n l m b at (λ k h. other k (inr h)) i.1)
-
-shown_put : (ns : List NodeView) (ls : List LeafRecord) (n : ℕ) (k : Key) (v x : ℕ) {t : Tree} (w : Within (leaf n k v) t) → IsTrie t → slice_get ls n ≡ Some (record { key = k; value = v }) →
-    ShowsTree ns ls t → ShowsTree ns (set ls n (record { key = k; value = x })) (put w (leaf n k x))
-shown_put ns ls n k v x here trie at i = set_same ls n _ (slice_get_within ls n _ at)
-shown_put ns ls n k v x (inside {b = d} w) trie at i =
-    (record { view = i.0.view; at = i.0.at; fixed = i.0.fixed; shows = i.0.shows ∙ sym (page_put w (leaf n k x) refl) }, shown_put ns ls n k v x w trie at i.1)
-shown_put ns ls n k v x (zero_side {p = p} {a = a} {b = d} w) trie at i = (
-  shown_put ns ls n k v x w trie.0 at i.0,
-  shown_else ns ls n (record { key = k; value = v }) (record { key = k; value = x }) d at
-      (λ l h e. false≢true (sym (trie.3 k (has_within w k refl)) ∙ (ap (λ y. bit y p) (sym e) ∙ trie.4 l h))) i.1,
-)
-shown_put ns ls n k v x (one_side {p = p} {a = a} {b = d} w) trie at i = (
-  shown_else ns ls n (record { key = k; value = v }) (record { key = k; value = x }) a at
-      (λ l h e. false≢true (sym (trie.3 l h) ∙ (ap (λ y. bit y p) e ∙ trie.4 k (has_within w k refl)))) i.0,
-  shown_put ns ls n k v x w trie.1 at i.1,
-)
-
 -- a trie with a tree has a root
 top_of : (v : PlainView) (t : Tree) → shown_tree v ≡ Some t → (e : Entry) × (v.top ≡ Some e)
 top_of v t e = go v.top refl

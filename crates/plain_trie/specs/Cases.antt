@@ -1,128 +1,11 @@
--- The case of an insertion: how it is chosen at a node, and what is done there.
-use Rattle.std.specs.Prelude.{◌≡◌, ◌≢◌, ◌⊎◌, ℕ, zero, suc, ◌<◌, ◌≤◌, Bool, List, length, slice_get, slice_set, Some, MatchOption, false, true}
+-- What an insertion does to a trie's nodes, by the case of the one that it affects.
+use Rattle.std.specs.Prelude.{◌≡◌, ℕ, Bool, length, Some, MatchOption, true}
 use Rattle.key_bits.specs.Bits.{IsFirstDifference}
-use Rattle.pieces.specs.Changes.{AtRootFork}
-use Rattle.pieces.specs.Grafts.{grafted}
-use Rattle.pieces.specs.Growth.{grown}
-use Rattle.pieces.specs.Piece.{Place, Fork}
-use Rattle.compound_node.specs.Nodes.{NodeView, piece, height_of, IsBuiltFrom}
-use Rattle.compound_node.specs.declared.entries.Entry.{Entry}
-use Rattle.compound_node.specs.declared.entries.Entry.TheVariants.{Leaf, Node}
-use Rattle.insert_cases.specs.declared.choice.Case.{Case}
-use Rattle.insert_cases.specs.declared.choice.Case.TheVariants.{LeafPushdown, NormalInsert, Overflow}
-use Rattle.insert_cases.specs.declared.choice.Choice.{Choice}
-use Rattle.insert_cases.specs.declared.raising.Risen.{Risen}
-use Rattle.insert_cases.specs.declared.raising.Risen.TheVariants.{Whole, Split}
-use Rattle.insert_cases.specs.Levels.{IsPullUp}
-use Rattle.insert_cases.specs.Ways.{case_of, IsAffectedNode}
-use Rattle.tries.specs.Keys.{Key, bit}
-use Rattle.tries.specs.Place.{spot}
-use Rattle.tries.specs.Search.{child, found, seek}
-use Rattle.tries.specs.Tree.{Page, Tree, leaf, node, fork, page}
-use Rattle.plain_trie.specs.Heights.{Remains}
-use Rattle.plain_trie.specs.Store.{PlainView, shown_tree}
-
--- the entry is a leaf's, or there is a record of its number
-abbrev pub IsInRecords : List NodeView → Entry → Type 0
-IsInRecords nodes (Leaf n) = Unit {0}
-IsInRecords nodes (Node n h) = n < length nodes
-
--- What is chosen at a node of this height and count, of which these entries are affected, and where the search takes this
--- one: its case, or the next node.
-pub record IsChosenAt (height count first last : ℕ) (entry : Entry) (c : Choice) : Type 0 where
-  pub several : first < last → c ≡ record { level = 0; first = first; last = last; case = case_of height count false }
-  pub leaf : last ≤ first → height_of entry ≡ 0 → c ≡ record { level = 0; first = first; last = last; case = case_of height count true }
-  pub next : last ≤ first → 0 < height_of entry → c.level ≡ 1
-
--- the node gets the leaf itself
-abbrev pub TakesLeaf : Choice → Type 0
-TakesLeaf c = (c.level ≡ 0) × (c.case ≢ LeafPushdown)
-
--- the node shows one side of the root fork
-abbrev pub IsOneSide : NodeView → Page → Type 0
-IsOneSide view shown = AtRootFork (λ p zero one. (piece view ≡ zero) ⊎ (piece view ≡ one)) shown
-
--- What became of the affected node in its record, where it would show this page with the leaf as one entry more: a new node
--- over leaves stands in the place of its one affected leaf; or it has the leaf; or it was cut, and one side is left.
-abbrev pub IsCaseDone : Case → NodeView → NodeView → ℕ → Page → Type 0
-IsCaseDone LeafPushdown old new first shown = (number : ℕ) × (new ≡ record old { entries = slice_set old.entries first (Node number 1) })
-IsCaseDone NormalInsert old new first shown = IsBuiltFrom new shown
-IsCaseDone Overflow old new first shown = IsOneSide new shown
-
--- so in the record of this number
-abbrev pub DoesCase : List NodeView → ℕ → Case → NodeView → ℕ → Page → Type 0
-DoesCase nodes n case old first shown = (new : NodeView) × (slice_get nodes n ≡ Some new) × IsCaseDone case old new first shown
-
--- ---- above the affected node
--- a fork of two, and not one entry
-abbrev pub is_split : Risen → Bool
-is_split (Whole entry) = false
-is_split (Split position first second) = true
-
--- the node's root fork goes up
-abbrev pub is_overflow : Case → Bool
-is_overflow LeafPushdown = false
-is_overflow NormalInsert = false
-is_overflow Overflow = true
-
--- A node takes in a fork in place of its entry at a place: it has one entry more; or it was full and has one side of the
--- root fork that it would have then, which goes up.
-pub record TakesFork (old new : NodeView) (at : ℕ) (up : Bool) : Type 0 where
-  pub position : ℕ
-  pub zero_entry : Entry
-  pub one_entry : Entry
-  pub room : length old.entries < 32 → IsBuiltFrom new (grafted at (Fork position (Place zero_entry) (Place one_entry)) (piece old)) × (up ≡ false)
-  pub full : length old.entries ≡ 32 → IsOneSide new (grafted at (Fork position (Place zero_entry) (Place one_entry)) (piece old)) × (up ≡ true)
-
--- the node has a node at a place, and else it is as it was
-abbrev pub HasNodeAt : NodeView → NodeView → ℕ → Type 0
-HasNodeAt old new at = (number : ℕ) × (height : ℕ) × (new ≡ record old { entries = slice_set old.entries at (Node number height) })
-
--- What a node does above a child of this height. Where a fork rose from the child, the node takes it in if it goes into a
--- parent of the node's height, and else has it in a node at the child's place, and nothing goes up. Where none rose, the
--- node is as it was, or has another entry at one place.
-abbrev pub IsLevelDone : ℕ → Bool → NodeView → NodeView → ℕ → Bool → Type 0
-IsLevelDone low false old new at up = Remains old new × (up ≡ false)
-IsLevelDone low true old new at up = (IsPullUp low old.height → TakesFork old new at up) × ((IsPullUp low old.height → ⊥) → HasNodeAt old new at × (up ≡ false))
-
--- so in the record of this number
-pub record DoesLevel (old new : List NodeView) (n low at : ℕ) (rose up : Bool) : Type 0 where
-  pub before : NodeView
-  pub after : NodeView
-  pub old_at : slice_get old n ≡ Some before
-  pub new_at : slice_get new n ≡ Some after
-  pub does : IsLevelDone low rose before after at up
-
--- so at each node on the key's way from the node so many levels below t up to t: whether a fork rose down there, and whether
--- one rises from t
-abbrev pub DoesLevels : List NodeView → List NodeView → Key → ℕ → Tree → Bool → Bool → Type 0
-DoesLevels old new k zero t low up = up ≡ low
-DoesLevels old new k (suc l) (leaf n j v) low up = ⊥
-DoesLevels old new k (suc l) (node n y b) low up =
-    (rose : Bool) × DoesLevels old new k l (child k b) low rose × DoesLevel old new n (height_of (seek k (page b))) (spot k (page b)) rose up
-DoesLevels old new k (suc l) (fork q a b) low up = ⊥
-
--- ---- an insertion
--- The records before and after a new leaf was added below t, and whether a fork rises from there: what was done is the case
--- of the node that the leaf's key affects, and each node above did what it does with what rose to it.
-pub record IsByCase (old new : List NodeView) (k : Key) (p number : ℕ) (t : Tree) (up : Bool) : Type 0 where
-  pub choice : Choice
-  pub affected : IsAffectedNode k p t choice
-  pub view : NodeView
-  pub at : slice_get old affected.number ≡ Some view
-  pub does : DoesCase new affected.number choice.case view choice.first (grown p (bit k p) (Leaf number) choice.first (piece view))
-  pub rises : DoesLevels old new k choice.level t (is_overflow choice.case) up
-
--- so where there is a node; a leaf alone gives way to a fork of itself and the new one
-abbrev pub AddsByCase : List NodeView → List NodeView → Key → ℕ → ℕ → Tree → Bool → Type 0
-AddsByCase old new k p number (leaf n l v) up = up ≡ true
-AddsByCase old new k p number (node n x b) up = IsByCase old new k p number (node n x b) up
-AddsByCase old new k p number (fork q a b) up = Unit {0}
-
--- a node that was not among so many
-abbrev pub IsNewNode : ℕ → Entry → Type 0
-IsNewNode count (Leaf n) = ⊥
-IsNewNode count (Node n h) = count ≤ n
+use Rattle.tries.specs.Keys.{Key}
+use Rattle.tries.specs.Search.{found}
+use Rattle.tries.specs.Tree.{Tree}
+use Rattle.plain_records.specs.Cases.{AddsByCase, IsNewNode}
+use Rattle.plain_trie.specs.Views.{PlainView, shown_tree}
 
 -- a fork that rises from the root has a new node
 abbrev pub MakesRoot : PlainView → PlainView → Bool → Type 0
@@ -134,9 +17,3 @@ abbrev pub TakesCase : PlainView → PlainView → Key → Type 0
 TakesCase old new k =
     (t : Tree) → shown_tree old ≡ Some t →
     (p : ℕ) × IsFirstDifference k (found k t).key p × ((up : Bool) × AddsByCase old.nodes new.nodes k p (length old.leaves) t up × MakesRoot old new up)
-
--- In a node a new one was put between it and its child at a place: it has this page, the fork that rose there.
-pub record IsPutBetween (old new : List NodeView) (n at : ℕ) (node_view : NodeView) (shown : Page) : Type 0 where
-  pub view : NodeView
-  pub built : IsBuiltFrom view shown
-  pub after : slice_get new n ≡ Some (record node_view { entries = slice_set node_view.entries at (Node (length old) view.height) })

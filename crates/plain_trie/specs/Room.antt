@@ -5,7 +5,7 @@ use Rattle.compound_node.specs.declared.entries.Entry.{Entry}
 use Rattle.finite_map.specs.Maps.{map_after, reply_of, AddsKey}
 use Rattle.finite_map.specs.declared.Call.{Call}
 use Rattle.finite_map.specs.declared.Reply.{Reply}
-use Rattle.plain_trie.specs.Store.{PlainView, trie_map}
+use Rattle.plain_trie.specs.Views.{PlainView, trie_map}
 
 -- the most nodes that one insertion adds: one for each level, and one above the root; the first key adds none
 abbrev pub most_new_nodes : Option Entry → ℕ

@@ -8,24 +8,14 @@ ghost use Rattle.finite_map.specs.declared.Call.TheVariants.{Insert, Upsert};
 ghost use Rattle.finite_map.specs.declared.Reply.TheVariants.{Inserted, New};
 ghost use Rattle.tries.specs.Search.{seek, found};
 
-mod adding;
 mod scan;
 
-use crate::rising::{raised, rooted};
-use adding::{Addition, added, make_room};
 use compound_node::{Entry, Node};
 use finite_map::Reply;
 use key_bits::Key;
+use plain_records::{Addition, LeafRecord, added, make_room, raised, rooted};
 use std::alloc::{AllocError, Global};
 use std::marker::Model;
-
-/// A leaf's record: a key with its value.
-#[derive(Drop)]
-pub struct LeafRecord {
-    // The value stands first, beside the key's count and first bytes: so one line of memory has all of a short key's record.
-    value: u64,
-    key: Key,
-}
 
 /// A height optimized trie for one thread. Contracts see its records, the entry of its root, and for how many records its
 /// two vectors have memory.
@@ -41,7 +31,7 @@ pub struct PlainTrie {
 
 impl Model for PlainTrie {
     ghost use Rattle.std.specs.Vec.{vec_capacity};
-    ghost use Rattle.plain_trie.specs.Store.{PlainView, ShowsSoundTree};
+    ghost use Rattle.plain_trie.specs.Views.{PlainView, ShowsSoundTree};
 
     ghost Value = { PlainView };
 
@@ -64,9 +54,10 @@ impl Model for PlainTrie {
 
 impl PlainTrie {
     ghost use Rattle.plain_trie.specs.Cases.{TakesCase};
-    ghost use Rattle.plain_trie.specs.Heights.{KeepsHeights};
+    ghost use Rattle.plain_records.specs.Heights.{KeepsHeights};
     ghost use Rattle.plain_trie.specs.Room.{KeepsRoom, IsTrieAnswer, IsOutOfMemory};
-    ghost use Rattle.plain_trie.specs.Store.{trie_map, ShowsTrie, IsHeldInLeaf, shown_tree, item_record};
+    ghost use Rattle.plain_trie.specs.Views.{trie_map, ShowsTrie, IsHeldInLeaf, shown_tree};
+    ghost use Rattle.plain_records.specs.Store.{item_record};
     ghost use Rattle.tries.specs.Tree.{Tree};
     ghost use Rattle.compound_node.specs.Nodes.{height_of};
 

@@ -5,18 +5,19 @@ use Rattle.key_bits.specs.Bits.{IsFirstDifference}
 use Rattle.compound_node.specs.Nodes.{NodeView, height_of}
 use Rattle.compound_node.specs.declared.entries.Entry.{Entry}
 use Rattle.finite_map.specs.Maps.{with_value, value_at}
-use Rattle.plain_trie.specs.Adding.{IsStanding}
-use Rattle.plain_trie.specs.Cases.{AddsByCase, MakesRoot, TakesCase, is_split}
-use Rattle.plain_trie.specs.Heights.{KeepsHeights}
-use Rattle.plain_trie.specs.Rising.{IsAddable}
-use Rattle.plain_trie.specs.Store.{PlainView, ShowsSoundTree, IsHeldInLeaf, trie_map}
-use Rattle.plain_trie.specs.declared.plain.LeafRecord.{LeafRecord}
+use Rattle.plain_records.specs.Adding.{IsStanding}
+use Rattle.plain_records.specs.Cases.{AddsByCase, is_split}
+use Rattle.plain_trie.specs.Cases.{MakesRoot, TakesCase}
+use Rattle.plain_records.specs.Heights.{KeepsHeights}
+use Rattle.plain_records.specs.Rising.{IsAddable}
+use Rattle.plain_trie.specs.Views.{PlainView, ShowsSoundTree, IsHeldInLeaf, trie_map}
+use Rattle.plain_records.specs.declared.leaf.LeafRecord.{LeafRecord}
 use Rattle.plain_trie.specs.declared.plain.PlainTrie.TheInside.{Inside}
 use Rattle.insert_cases.proofs.Choosing.{same_some}
-use Rattle.plain_trie.proofs.Cases.{adds_by_case, later_by_case, new_node}
-use Rattle.plain_trie.proofs.Heights.{heights_then}
+use Rattle.plain_records.proofs.Cases.{adds_by_case, later_by_case, new_node}
+use Rattle.plain_records.proofs.Heights.{heights_then}
 use Rattle.plain_trie.proofs.Inserting.{Becomes, tree_standing, kept_plain, same_view, absent_value, raised_becomes}
-use Rattle.plain_trie.proofs.Reading.{IsTree, plain_tree}
+use Rattle.plain_trie.proofs.Trees.{IsTree, plain_tree}
 use Rattle.plain_trie.proofs.plain.PlainTrie.add_absent.Goals as goal
 use Rattle.plain_trie.proofs.plain.PlainTrie.add_absent.Goals.{After-rooted, After-rooted-in-Below}
 use Rattle.tries.specs.Content.{item}

@@ -2,8 +2,10 @@
 use Rattle.std.proofs.Common.{◌≡◌, ◌∙◌, ap, sym, subst, arith, Some}
 use Rattle.std.specs.Vec.{vec_capacity}
 use Rattle.compound_node.specs.Nodes.{height_of}
-use Rattle.plain_trie.specs.Store.{PlainView, shown_tree, item_record}
-use Rattle.plain_trie.proofs.Searching.{IsOnWay, on_way_start, on_way_down, on_way_within, on_way_end, on_way_number, tree_once}
+use Rattle.plain_trie.specs.Views.{PlainView, shown_tree}
+use Rattle.plain_records.specs.Store.{item_record}
+use Rattle.plain_records.proofs.Searching.{IsOnWay, on_way_down, on_way_within, on_way_end, on_way_number}
+use Rattle.plain_trie.proofs.Trees.{on_way_start, tree_once}
 use Rattle.plain_trie.proofs.plain.PlainTrie.find.Goals as goal
 use Rattle.tries.specs.Search.{found}
 

@@ -3,8 +3,8 @@ use Rattle.std.proofs.Common.{◌≡◌, Some}
 use Rattle.std.specs.Vec.{vec_capacity}
 use Rattle.tries.specs.Tree.{Tree}
 use Rattle.compound_node.specs.Nodes.{height_of}
-use Rattle.plain_trie.specs.Store.{PlainView, shown_tree}
-use Rattle.plain_trie.proofs.Searching.{IsOnWay}
+use Rattle.plain_trie.specs.Views.{PlainView, shown_tree}
+use Rattle.plain_records.proofs.Searching.{IsOnWay}
 use Rattle.plain_trie.proofs.plain.PlainTrie.find.Given as goal
 
 abbrev pub decreases-loop-entry : goal.decreases-loop-entry

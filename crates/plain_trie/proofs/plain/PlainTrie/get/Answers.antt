@@ -4,11 +4,12 @@ use Rattle.std.proofs.lemmas.Bool.{false≢true}
 use Rattle.std.proofs.lemmas.Option.{slice_get_within}
 use Rattle.tries.specs.Tree.{Tree}
 use Rattle.finite_map.specs.Maps.{value_at}
-use Rattle.plain_trie.specs.declared.plain.LeafRecord.{LeafRecord}
-use Rattle.plain_trie.specs.Store.{PlainView, item_record}
-use Rattle.plain_trie.proofs.Reading.{IsTree, plain_tree}
-use Rattle.plain_trie.proofs.Searching.{read_at}
-use Rattle.plain_trie.proofs.Values.{value_found, value_missed, map_is}
+use Rattle.plain_records.specs.declared.leaf.LeafRecord.{LeafRecord}
+use Rattle.plain_trie.specs.Views.{PlainView}
+use Rattle.plain_records.specs.Store.{item_record}
+use Rattle.plain_trie.proofs.Trees.{IsTree, plain_tree, map_is}
+use Rattle.plain_records.proofs.Searching.{read_at}
+use Rattle.plain_records.proofs.Values.{value_found, value_missed}
 use Rattle.plain_trie.proofs.plain.PlainTrie.get.Goals as goal
 use Rattle.plain_trie.proofs.plain.PlainTrie.get.Goals.{After-find}
 use Rattle.tries.specs.Search.{found}

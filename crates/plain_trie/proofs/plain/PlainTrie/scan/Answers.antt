@@ -13,15 +13,15 @@ use Rattle.finite_map.specs.Scans.{IsScanOf, range_of}
 use Rattle.tries.specs.Content.{items}
 use Rattle.tries.specs.Keys.{Key}
 use Rattle.tries.specs.Tree.{Tree}
-use Rattle.plain_trie.specs.declared.plain.LeafRecord.{LeafRecord}
-use Rattle.plain_trie.specs.declared.plain.scan.Range.{Range}
-use Rattle.plain_trie.specs.declared.plain.scan.Progress.TheVariants.{Full}
-use Rattle.plain_trie.specs.Gathered.{IsGathered, IsFirstMismatch, ShowsSound, pairs_read}
-use Rattle.plain_trie.specs.Store.{PlainView, item_record}
-use Rattle.plain_trie.proofs.Gathering.{gathered_pairs, gathered_scan, to_give_some}
-use Rattle.plain_trie.proofs.Reading.{IsTree, plain_tree}
-use Rattle.plain_trie.proofs.Searching.{read_at}
-use Rattle.plain_trie.proofs.Values.{map_is}
+use Rattle.plain_records.specs.declared.leaf.LeafRecord.{LeafRecord}
+use Rattle.plain_records.specs.declared.gathering.Range.{Range}
+use Rattle.plain_records.specs.declared.gathering.Progress.TheVariants.{Full}
+use Rattle.plain_records.specs.Gathered.{IsGathered, IsFirstMismatch, ShowsSound, pairs_read}
+use Rattle.plain_trie.specs.Views.{PlainView}
+use Rattle.plain_records.specs.Store.{item_record}
+use Rattle.plain_records.proofs.Further.{gathered_pairs, gathered_scan, to_give_some}
+use Rattle.plain_trie.proofs.Trees.{IsTree, plain_tree, map_is}
+use Rattle.plain_records.proofs.Searching.{read_at}
 use Rattle.plain_trie.proofs.plain.PlainTrie.scan.Goals as goal
 use Rattle.plain_trie.proofs.plain.PlainTrie.scan.Goals.{After-find, in-Full, in_default-matches}
 use Rattle.tries.specs.Search.{found}
@@ -31,8 +31,8 @@ tree : (c : After-find) → (t : Tree) × IsTree c.args.self.now c.in-Some.top t
 tree c =
     plain_tree c.args.self.now c.in-Some.top (sym (ap (λ (v : PlainView). v.top) c.self.view_is) ∙ c.in-Some.is) (rw (← c.self.view_is) c.self.invariant)
 
-stands : (c : After-find) → ShowsSound c.args.self.now (tree c).0
-stands c = record { shown = (tree c).1.shown; sound = (tree c).1.sound }
+stands : (c : After-find) → ShowsSound c.self.inside.nodes.items c.self.inside.leaves.items (tree c).0
+stands c = subst (λ (v : PlainView). ShowsSound v.nodes v.leaves (tree c).0) (sym c.self.view_is) (record { shown = (tree c).1.shown; sound = (tree c).1.sound })
 
 leaf_at : (c : After-find) → slice_get c.args.self.now.leaves c.find.result ≡ Some (item_record (found c.args.from.now (tree c).0))
 leaf_at c = c.find.ensures.record (tree c).0 (tree c).1.is

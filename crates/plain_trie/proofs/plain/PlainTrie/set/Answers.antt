@@ -1,6 +1,6 @@
 -- The key's leaf has another value, and nothing else changes.
 use Rattle.std.proofs.Common.{ap, subst, ◌∙◌, set}
-use Rattle.plain_trie.specs.Store.{PlainView, ShowsSoundTree}
+use Rattle.plain_trie.specs.Views.{PlainView, ShowsSoundTree}
 use Rattle.plain_trie.proofs.Inserting.{held_becomes}
 use Rattle.plain_trie.proofs.plain.PlainTrie.set.Goals as goal
 

@@ -1,7 +1,7 @@
 -- A held key has another value.
 use Rattle.std.proofs.Common.{ap, ◌∙◌}
 use Rattle.finite_map.specs.Maps.{with_value}
-use Rattle.plain_trie.specs.Store.{PlainView, trie_map}
+use Rattle.plain_trie.specs.Views.{PlainView, trie_map}
 use Rattle.plain_trie.proofs.Inserting.{held_reply, held_value}
 use Rattle.plain_trie.proofs.plain.PlainTrie.upsert.Goals as goal
 

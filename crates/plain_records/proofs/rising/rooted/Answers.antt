@@ -1,0 +1,40 @@
+-- An entry stands for itself, and a fork for a node.
+use Rattle.std.proofs.Common.{◌≡◌, suc, true, ap, sym, ◌∙◌, arith, subst}
+use Rattle.std.proofs.lemmas.Bool.{false≢true}
+use Rattle.std.specs.Vec.{vec_len}
+use Rattle.insert_cases.specs.declared.raising.Risen.{Risen}
+use Rattle.plain_records.specs.Cases.{IsNewNode, is_split}
+use Rattle.plain_records.specs.Rising.{IsRaised}
+use Rattle.insert_cases.specs.Risen.{page_of}
+use Rattle.insert_cases.proofs.Pairs.{pair_facts}
+use Rattle.plain_records.proofs.Climbing.{settle}
+use Rattle.plain_records.proofs.Keeping.{lower_more}
+use Rattle.plain_records.proofs.rising.rooted.Goals as goal
+
+pub settled-requires : goal.settled-requires
+settled-requires c =
+    let u = c.requires.place.6 in
+    let p = pair_facts c.in-Split.position c.in-Split.zero c.in-Split.one u.tree (u.begins ∙ ap page_of c.in-Split.is) u.adds.trie u.built in
+    record { room = c.requires.room; small = c.requires.small; position = omega (arith, p.position); zero = p.zero; one = p.one }
+
+pub returns-in-Whole-clause-raised : goal.returns-in-Whole-clause-raised
+returns-in-Whole-clause-raised c = λ ns leaves x p t h u. record {
+  tree = u.tree;
+  begins = u.begins ∙ ap page_of c.in-Whole.is;
+  adds = u.adds;
+  built = u.built;
+  lower = lower_more c.args.nodes.now.items h (suc h) u.tree u.lower (omega arith);
+  shown = u.shown;
+  kept = u.kept;
+}
+
+pub returns-in-Split-clause-raised : goal.returns-in-Split-clause-raised
+returns-in-Split-clause-raised c = λ ns leaves x p t h u.
+    settle ns c.args.nodes.now.items c.settled.new.nodes.items leaves x p t h c.in-Split.position c.in-Split.zero c.in-Split.one c.settled.result
+    (subst (IsRaised ns c.args.nodes.now.items leaves x p t h) (ap page_of c.in-Split.is) u) c.settled.ensures.new
+
+pub returns-in-Whole-clause-new : goal.returns-in-Whole-clause-new
+returns-in-Whole-clause-new c = λ up. absurd (false≢true (subst (λ (r : Risen). is_split r ≡ true) c.in-Whole.is up))
+
+pub returns-in-Split-clause-new : goal.returns-in-Split-clause-new
+returns-in-Split-clause-new c = λ up. subst (IsNewNode (vec_len c.args.nodes.now)) (sym c.settled.ensures.new.is) (omega (arith, c.args.nodes.now.ok.0))

@@ -1,0 +1,8 @@
+-- The definitions of the crate.
+pub mod Store
+pub mod Gathered
+pub mod Heights
+pub mod Risen
+pub mod Rising
+pub mod Adding
+pub mod Cases

@@ -1,0 +1,54 @@
+//! Which case an insertion is at a node, from its step and that of the next node.
+
+ghost use Rattle.std.specs.Prelude.{◌≡◌, ◌↔◌, IsTrue, length};
+ghost use Rattle.compound_node.specs.Nodes.{IsEntry};
+ghost use Rattle.plain_records.specs.Cases.{IsInRecords, IsChosenAt, TakesLeaf};
+
+use compound_node::{Entry, Node};
+use insert_cases::{Case, Choice, Step, choose};
+use key_bits::Key;
+
+/// The step of a key's search that takes entry `at` of a node.
+pub fn step_at(node: &Node, number: u32, at: u8) -> Step
+    ensures height { result.height ≡ node.now.height }
+    ensures count { result.count ≡ length node.now.entries }
+{
+    Step {
+        number,
+        height: node.height(),
+        first_position: node.first_position(),
+        count: node.count(),
+        at,
+    }
+}
+
+/// What `choose` says of a node for a new leaf: `step` is the node's, its entries from `first` to `last` are affected, and
+/// the key's search goes on to `entry`.
+pub fn choice_at(
+    nodes: &Vec<Node>,
+    step: Step,
+    entry: Entry,
+    key: &Key,
+    first: u8,
+    last: u8,
+) -> Choice
+    requires entry { IsEntry entry }
+    requires record { IsInRecords nodes.now.items entry }
+    ensures { IsChosenAt step.height step.count first last entry result }
+{
+    match entry {
+        Entry::Leaf(_) => choose(&[step], 0, first, last),
+        Entry::Node { number, .. } => {
+            let node = &nodes[number as usize];
+            let next = step_at(node, number, node.search(key));
+            choose(&[step, next], 0, first, last)
+        }
+    }
+}
+
+/// Whether the node for which this was chosen gets the leaf itself.
+pub fn takes_leaf(choice: Choice) -> bool
+    ensures { IsTrue result ↔ TakesLeaf choice }
+{
+    choice.level == 0 && !matches!(choice.case, Case::LeafPushdown)
+}

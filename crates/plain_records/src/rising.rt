@@ -1,0 +1,267 @@
+//! How a new leaf rises from the node that it affects to the root, in records that are kept in a vector.
+
+ghost use Rattle.std.specs.Prelude.{◌≡◌, ℕ, suc, ◌+◌, ◌^◌, ◌<◌, ◌≤◌, Bool, List, Some, false, true, length, slice_get, slice_set};
+ghost use Rattle.std.specs.Vec.{vec_len, vec_capacity};
+ghost use Rattle.pieces.specs.Growth.{grown, IsAffected};
+ghost use Rattle.pieces.specs.Piece.{Fork, Place as At, size};
+ghost use Rattle.compound_node.specs.Nodes.{NodeView, piece, IsEntry, IsLawfulNode, StandsBelow, height_of};
+ghost use Rattle.compound_node.specs.declared.entries.Entry.{Entry as EntryView};
+ghost use Rattle.tries.specs.Affected.{page_forked};
+ghost use Rattle.tries.specs.Content.{Item, item};
+ghost use Rattle.tries.specs.Tree.{Tree, Fixed, node as tree_node};
+ghost use Rattle.pieces.specs.Grafts.{grafted, IsAbovePath};
+ghost use Rattle.plain_records.specs.Cases.{AddsByCase, DoesCase, IsLevelDone, IsNewNode, IsPutBetween, TakesFork, is_overflow, is_split};
+ghost use Rattle.plain_records.specs.Heights.{KeepsHeights};
+ghost use Rattle.plain_records.specs.Rising.{IsRaised, IsAddable, IsLifting};
+ghost use Rattle.insert_cases.specs.Risen.{page_of};
+ghost use Rattle.insert_cases.specs.Ways.{case_of};
+ghost use Rattle.plain_records.specs.Risen.{IsNamed, RisenShows, OthersStay, AllStay};
+ghost use Rattle.plain_records.specs.declared.leaf.LeafRecord.{LeafRecord};
+
+use crate::choosing::{choice_at, step_at, takes_leaf};
+use crate::overflow::place;
+use crate::places::Place;
+use crate::raising::{kept, settled, stored};
+use compound_node::{Entry, Node};
+use insert_cases::{Case, Choice, Risen, grow_full, pull_up};
+use key_bits::Key;
+
+/// What takes the place of an entry when a key gets a leaf below it. The key differs first at `position` from that of
+/// the leaf where its search ends.
+///
+/// The search goes down until `choose` gives the new leaf to the node where it stands, or to a leaf. A node above leaves
+/// alone takes the new leaf beside one of them; below a higher node a leaf counts as a child of height 0 that gave way to a
+/// fork of itself and the new one. Each node on the way back takes what took its child's place, and stays as it is where
+/// that is the child's own entry.
+pub fn raised(nodes: &mut Vec<Node>, entry: Entry, key: &Key, position: u16, leaf: u32) -> Risen
+    requires place { (leaves : List LeafRecord) × (value : ℕ) × (t : Tree) × IsAddable nodes.old.items leaves (item leaf key.now value) position entry t }
+    requires position { position < 65535 }
+    requires room { vec_len nodes.old + height_of entry ≤ vec_capacity nodes.old }
+    requires small { vec_len nodes.old + height_of entry ≤ 2 ^ 32 }
+    ensures raised { (leaves : List LeafRecord) (value : ℕ) (t : Tree) → IsAddable nodes.old.items leaves (item leaf key.now value) position entry t →
+        IsRaised nodes.old.items nodes.new.items leaves (item leaf key.now value) position t (suc (height_of entry)) (page_of result) }
+    ensures case { (leaves : List LeafRecord) (value : ℕ) (t : Tree) → IsAddable nodes.old.items leaves (item leaf key.now value) position entry t →
+        AddsByCase nodes.old.items nodes.new.items key.now position leaf t (is_split result) }
+    ensures low { height_of entry ≡ 0 → (nodes.new.items ≡ nodes.old.items) × (bit : Bool) × (page_of result ≡ page_forked bit position (Entry.Leaf leaf) (At entry)) }
+    ensures heights { KeepsHeights nodes.old.items nodes.new.items }
+    ensures len { vec_len nodes.new ≤ vec_len nodes.old + height_of entry }
+    ensures capacity { vec_capacity nodes.new ≡ vec_capacity nodes.old }
+{
+    match entry {
+        Entry::Leaf(_) => beside(entry, position, key.bit(position), Entry::Leaf(leaf)),
+        Entry::Node { number, height } => {
+            let node = &nodes[number as usize];
+            let at = node.search(key);
+            prove!(at < node.count());
+            let (first, last) = node.affected(at, position);
+            let child = node.entry(at);
+            let step = step_at(node, number, at);
+            let choice = choice_at(nodes, step, child, key, first, last);
+            if takes_leaf(choice) {
+                return grown_at(
+                    nodes,
+                    number,
+                    height,
+                    choice,
+                    position,
+                    key.bit(position),
+                    leaf,
+                );
+            }
+            let risen = raised(nodes, child, key, position, leaf);
+            lifted(nodes, number, height, at, child, risen)
+        }
+    }
+}
+
+/// The fork of an entry and a new one, which stands on the side of the bit.
+fn beside(old: Entry, position: u16, bit: bool, new: Entry) -> Risen
+    ensures { page_of result ≡ page_forked bit position new (At old) }
+{
+    if bit {
+        Risen::Split {
+            position,
+            zero: old,
+            one: new,
+        }
+    } else {
+        Risen::Split {
+            position,
+            zero: new,
+            one: old,
+        }
+    }
+}
+
+/// What takes the place of a node that gets a leaf as was chosen: beside its entries from the first to the last, and cut
+/// where it is full.
+fn grown_at(
+    nodes: &mut Vec<Node>,
+    number: u32,
+    height: u16,
+    choice: Choice,
+    position: u16,
+    bit: bool,
+    leaf: u32,
+) -> Risen
+    requires place { (old : NodeView) × (slice_get nodes.old.items number ≡ Some old) × (old.height ≡ height) ×
+        IsAffected (piece old) position choice.first choice.last × (choice.case ≡ case_of height (length old.entries) false) }
+    requires position { position < 65535 }
+    requires room { vec_len nodes.old < vec_capacity nodes.old }
+    requires small { vec_len nodes.old < 2 ^ 32 }
+    ensures shows { (old : NodeView) → slice_get nodes.old.items number ≡ Some old →
+        RisenShows nodes.new.items old result (grown position bit (Entry.Leaf leaf) choice.first (piece old)) }
+    ensures does { (old : NodeView) → slice_get nodes.old.items number ≡ Some old →
+        DoesCase nodes.new.items number choice.case old choice.first (grown position bit (Entry.Leaf leaf) choice.first (piece old)) }
+    ensures up { is_split result ≡ is_overflow choice.case }
+    ensures others { OthersStay nodes.old.items nodes.new.items number }
+    ensures heights { KeepsHeights nodes.old.items nodes.new.items }
+    ensures len { vec_len nodes.new ≤ vec_len nodes.old + 1 }
+    ensures capacity { vec_capacity nodes.new ≡ vec_capacity nodes.old }
+{
+    let Choice {
+        first,
+        last,
+        case,
+        ..
+    } = choice;
+    let new = Entry::Leaf(leaf);
+    match case {
+        Case::NormalInsert => {
+            let node = &mut nodes[number as usize];
+            prove!(node.count() < 32);
+            node.add(first, last, position, bit, new);
+            Risen::Whole(Entry::Node {
+                number,
+                height: node.height(),
+            })
+        }
+        Case::Overflow => {
+            let node = &nodes[number as usize];
+            prove!(node.count() == 32);
+            let grown = grow_full(node, first, last, position, bit, new);
+            stored(nodes, number, height, grown)
+        }
+        Case::LeafPushdown => unreachable!(),
+    }
+}
+
+/// What takes a node's place when its child at `at` gave way. Where that is the child's own entry, the node stays as it
+/// is. A fork goes into the node where the node is one higher than the child, and into a new child otherwise.
+pub fn lifted(
+    nodes: &mut Vec<Node>,
+    number: u32,
+    height: u16,
+    at: u8,
+    child: Entry,
+    risen: Risen,
+) -> Risen
+    requires place { (ns : List NodeView) × (leaves : List LeafRecord) × (x : Item) × (p : ℕ) × (y : Fixed) × (b : Tree) ×
+        IsLifting ns nodes.old.items leaves x p number height at (height_of child) y b (page_of risen) }
+    requires child { (old : NodeView) → slice_get nodes.old.items number ≡ Some old → IsLawfulNode old × (slice_get old.entries at ≡ Some child) }
+    requires room { vec_len nodes.old < vec_capacity nodes.old }
+    requires small { vec_len nodes.old < 2 ^ 32 }
+    ensures raised { (ns : List NodeView) (leaves : List LeafRecord) (x : Item) (p : ℕ) (y : Fixed) (b : Tree) →
+        IsLifting ns nodes.old.items leaves x p number height at (height_of child) y b (page_of risen) →
+        IsRaised ns nodes.new.items leaves x p (tree_node number y b) (suc height) (page_of result) }
+    ensures between { (old : NodeView) (p : ℕ) (zero one : EntryView) → slice_get nodes.old.items number ≡ Some old → page_of risen ≡ Fork p (At zero) (At one) → height_of child + 1 < height →
+        IsPutBetween nodes.old.items nodes.new.items number at old (Fork p (At zero) (At one)) }
+    ensures takes { (old : NodeView) → slice_get nodes.old.items number ≡ Some old →
+        (new : NodeView) × (slice_get nodes.new.items number ≡ Some new) × IsLevelDone (height_of child) (is_split risen) old new at (is_split result) }
+    ensures others { OthersStay nodes.old.items nodes.new.items number }
+    ensures heights { KeepsHeights nodes.old.items nodes.new.items }
+    ensures len { vec_len nodes.new ≤ vec_len nodes.old + 1 }
+    ensures capacity { vec_capacity nodes.new ≡ vec_capacity nodes.old }
+{
+    match risen {
+        Risen::Whole(entry) => {
+            if entry == child {
+                return Risen::Whole(Entry::Node { number, height });
+            }
+            Risen::Whole(replaced(nodes, number, at, entry))
+        }
+        Risen::Split {
+            position,
+            zero,
+            one,
+        } => match place(child.height(), Some(height)) {
+            Place::PullUp => forked_at(nodes, number, height, at, position, zero, one),
+            _ => {
+                let entry = settled(nodes, position, zero, one);
+                Risen::Whole(replaced(nodes, number, at, entry))
+            }
+        },
+    }
+}
+
+/// What takes the place of a node that gets a fork of two entries in place of its entry `at`.
+fn forked_at(
+    nodes: &mut Vec<Node>,
+    number: u32,
+    height: u16,
+    at: u8,
+    position: u16,
+    zero: Entry,
+    one: Entry,
+) -> Risen
+    requires place { (old : NodeView) × (slice_get nodes.old.items number ≡ Some old) × (old.height ≡ height) ×
+        (at < size (piece old)) × IsAbovePath position at (piece old) }
+    requires position { position < 65535 }
+    requires zero { IsEntry zero }
+    requires one { IsEntry one }
+    requires room { vec_len nodes.old < vec_capacity nodes.old }
+    requires small { vec_len nodes.old < 2 ^ 32 }
+    ensures shows { (old : NodeView) → slice_get nodes.old.items number ≡ Some old →
+        RisenShows nodes.new.items old result (grafted at (Fork position (At zero) (At one)) (piece old)) }
+    ensures takes { (old : NodeView) → slice_get nodes.old.items number ≡ Some old →
+        (new : NodeView) × (slice_get nodes.new.items number ≡ Some new) × TakesFork old new at (is_split result) }
+    ensures others { OthersStay nodes.old.items nodes.new.items number }
+    ensures heights { KeepsHeights nodes.old.items nodes.new.items }
+    ensures len { vec_len nodes.new ≤ vec_len nodes.old + 1 }
+    ensures capacity { vec_capacity nodes.new ≡ vec_capacity nodes.old }
+{
+    let node = &nodes[number as usize];
+    prove!(at < node.count());
+    let grown = pull_up(node, at, position, zero, one);
+    stored(nodes, number, height, grown)
+}
+
+/// The root's entry, where this is what takes the place of the one before: a fork gets a new node.
+pub fn rooted(nodes: &mut Vec<Node>, risen: Risen) -> Entry
+    requires place { (ns : List NodeView) × (leaves : List LeafRecord) × (x : Item) × (p : ℕ) × (t : Tree) × (h : ℕ) ×
+        IsRaised ns nodes.old.items leaves x p t h (page_of risen) }
+    requires room { vec_len nodes.old < vec_capacity nodes.old }
+    requires small { vec_len nodes.old < 2 ^ 32 }
+    ensures raised { (ns : List NodeView) (leaves : List LeafRecord) (x : Item) (p : ℕ) (t : Tree) (h : ℕ) →
+        IsRaised ns nodes.old.items leaves x p t h (page_of risen) → IsRaised ns nodes.new.items leaves x p t (suc h) (At result) }
+    ensures new { is_split risen ≡ true → IsNewNode (vec_len nodes.old) result }
+    ensures all { AllStay nodes.old.items nodes.new.items }
+    ensures heights { KeepsHeights nodes.old.items nodes.new.items }
+    ensures capacity { vec_capacity nodes.new ≡ vec_capacity nodes.old }
+{
+    match risen {
+        Risen::Whole(entry) => entry,
+        Risen::Split {
+            position,
+            zero,
+            one,
+        } => settled(nodes, position, zero, one),
+    }
+}
+
+/// A node with another entry at a place, in its own record.
+fn replaced(nodes: &mut Vec<Node>, number: u32, at: u8, entry: Entry) -> Entry
+    requires { (old : NodeView) × (slice_get nodes.old.items number ≡ Some old) × (at < size (piece old)) × StandsBelow old.height entry }
+    ensures shows { (old : NodeView) → slice_get nodes.old.items number ≡ Some old → IsNamed nodes.new.items old result (grafted at (At entry) (piece old)) }
+    ensures fields { (old : NodeView) → slice_get nodes.old.items number ≡ Some old →
+        slice_get nodes.new.items number ≡ Some (record old { entries = slice_set old.entries at entry }) }
+    ensures others { OthersStay nodes.old.items nodes.new.items number }
+    ensures heights { KeepsHeights nodes.old.items nodes.new.items }
+    ensures len { vec_len nodes.new ≡ vec_len nodes.old }
+    ensures capacity { vec_capacity nodes.new ≡ vec_capacity nodes.old }
+{
+    let node = &nodes[number as usize];
+    prove!(at < node.count());
+    let node = node.replace(at, entry);
+    kept(nodes, number, node)
+}

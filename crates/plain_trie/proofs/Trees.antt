@@ -1,0 +1,67 @@
+-- The tree of a sequential trie, and its map.
+use Rattle.std.proofs.Common.{◌≡◌, refl, ap, sym, ◌∙◌, subst, Option, Some, None, []}
+use Rattle.std.specs.Prelude.{IsSomeAnd, MatchOption, option_and_then}
+use Rattle.pieces.specs.Piece.{Place}
+use Rattle.compound_node.specs.Nodes.{height_of}
+use Rattle.compound_node.specs.declared.entries.Entry.{Entry}
+use Rattle.insert_cases.proofs.Choosing.{same_some}
+use Rattle.tries.specs.Content.{items, pairs}
+use Rattle.tries.specs.Keys.{Key}
+use Rattle.tries.specs.Tree.{Tree, page}
+use Rattle.plain_records.specs.Store.{IsSound, ShowsTree, entry_tree}
+use Rattle.plain_records.proofs.Reading.{read_sound, read_exact}
+use Rattle.plain_records.proofs.Searching.{IsOnWay}
+use Rattle.plain_trie.specs.Views.{PlainView, shown_tree, map_read, trie_map, ShowsSoundTree, ShowsTrie}
+
+-- the tree of a trie from the root's entry on
+pub record IsTree (v : PlainView) (e : Entry) (t : Tree) : Type 0 where
+  pub is : shown_tree v ≡ Some t
+  pub head : page t ≡ Place e
+  pub sound : IsSound t
+  pub shown : ShowsTree v.nodes v.leaves t
+
+some_and : (o : Option Tree) (P : Tree → Type 0) → IsSomeAnd o P → (t : Tree) × (o ≡ Some t) × P t
+some_and None P h = elim h [ ]
+some_and (Some t) P h = (t, refl, h)
+
+match_some : (o : Option Entry) (e : Entry) (P : Type 0) (Q : Entry → Type 0) → o ≡ Some e → MatchOption o P Q → Q e
+match_some o e P Q h m = subst (λ z. MatchOption z P Q) h m
+
+-- each trie with a root's entry has a tree
+pub plain_tree : (v : PlainView) (e : Entry) → v.top ≡ Some e → ShowsSoundTree v → (t : Tree) × IsTree v e t
+plain_tree v e top i =
+    let s = some_and (shown_tree v) IsSound (match_some v.top e (Unit {0}) (λ _. IsSomeAnd (shown_tree v) IsSound) top i) in
+    let r : entry_tree v.nodes v.leaves (height_of e) e ≡ Some s.0 = sym (ap (option_and_then (λ z. entry_tree v.nodes v.leaves (height_of z) z)) top) ∙ s.1 in
+    let f = read_sound v.nodes v.leaves (height_of e) e s.0 r in
+    (s.0, record { is = s.1; head = f.0; sound = s.2; shown = f.1 })
+
+-- and records that show such a tree make a trie
+pub tree_is : (v : PlainView) (e : Entry) (t : Tree) → v.top ≡ Some e → page t ≡ Place e → IsSound t → ShowsTree v.nodes v.leaves t → shown_tree v ≡ Some t
+tree_is v e t top head sound shown = ap (option_and_then (λ z. entry_tree v.nodes v.leaves (height_of z) z)) top ∙ read_exact v.nodes v.leaves e t sound.built shown head
+
+pub tree_plain : (v : PlainView) (e : Entry) (t : Tree) → v.top ≡ Some e → page t ≡ Place e → IsSound t → ShowsTree v.nodes v.leaves t → ShowsSoundTree v
+tree_plain v e t top head sound shown =
+    subst (λ o. MatchOption o (Unit {0}) (λ _. IsSomeAnd (shown_tree v) IsSound)) (sym top)
+    (subst (λ o. IsSomeAnd o IsSound) (sym (tree_is v e t top head sound shown)) sound)
+
+pub shows_trie : (v : PlainView) → ShowsSoundTree v → ShowsTrie v
+shows_trie v i = go v.top refl
+  where
+    go : (o : Option Entry) → v.top ≡ o → MatchOption o (trie_map v ≡ []) (λ e.
+        (t : Tree) × (page t ≡ Place e) × IsSound t × ShowsTree v.nodes v.leaves t × (trie_map v ≡ pairs (items t)))
+    go None top = ap map_read (ap (option_and_then (λ z. entry_tree v.nodes v.leaves (height_of z) z)) top)
+    go (Some e) top = let t = plain_tree v e top i in (t.0, t.1.head, t.1.sound, t.1.shown, ap map_read t.1.is)
+
+-- the map of a trie's tree, and of none
+pub map_is : (v : PlainView) (t : Tree) → shown_tree v ≡ Some t → trie_map v ≡ pairs (items t)
+map_is v t e = ap map_read e
+
+-- where a search begins
+pub on_way_start : (v : PlainView) (k : Key) (e : Entry) → v.top ≡ Some e → ShowsSoundTree v → (t : Tree) × (shown_tree v ≡ Some t) × IsOnWay v.nodes v.leaves k t e
+on_way_start v k e top i =
+    let t = plain_tree v e top i in
+    (t.0, t.1.is, record { part = t.0; head = t.1.head; shown = t.1.shown; built = t.1.sound.built; same = refl })
+
+-- the same of any reading of the trie's tree
+pub tree_once : (v : PlainView) (t u : Tree) → shown_tree v ≡ Some t → shown_tree v ≡ Some u → t ≡ u
+tree_once v t u e f = same_some (sym e ∙ f)

@@ -1,0 +1,49 @@
+-- What contracts see of a sequential trie, the tree that it shows, and the map that it is.
+use Rattle.std.specs.Prelude.{◌≡◌, ℕ, List, [], slice_get, Option, Some, None, option_and_then, MatchOption, IsSomeAnd}
+use Rattle.pieces.specs.Piece.{Place}
+use Rattle.compound_node.specs.Nodes.{NodeView, height_of}
+use Rattle.compound_node.specs.declared.entries.Entry.{Entry}
+use Rattle.finite_map.specs.Maps.{Map}
+use Rattle.tries.specs.Content.{items, pairs}
+use Rattle.tries.specs.Keys.{Key}
+use Rattle.tries.specs.Search.{found}
+use Rattle.tries.specs.Tree.{Tree, page}
+use Rattle.plain_records.specs.declared.leaf.LeafRecord.{LeafRecord}
+use Rattle.plain_records.specs.Store.{ShowsTree, IsSound, entry_tree, item_record}
+
+-- what contracts see of a trie: its records, the root's entry, and for how many records the two vectors have memory
+pub record PlainView : Type 0 where
+  pub nodes : List NodeView
+  pub leaves : List LeafRecord
+  pub top : Option Entry
+  pub node_capacity : ℕ
+  pub leaf_capacity : ℕ
+
+-- the tree from the root's entry on
+abbrev pub shown_tree : PlainView → Option Tree
+shown_tree v = option_and_then (λ e. entry_tree v.nodes v.leaves (height_of e) e) v.top
+
+abbrev pub map_read : Option Tree → Map
+map_read None = []
+map_read (Some t) = pairs (items t)
+
+-- the map that the trie is
+abbrev pub trie_map : PlainView → Map
+trie_map v = map_read (shown_tree v)
+
+-- from the root's entry down the records show such a trie
+abbrev pub ShowsSoundTree : PlainView → Type 0
+ShowsSoundTree v = MatchOption v.top (Unit {0}) (λ e. IsSomeAnd (shown_tree v) IsSound)
+
+-- the nodes from the root's entry down show the bit trie of the keys
+abbrev pub ShowsTrie : PlainView → Type 0
+ShowsTrie v = MatchOption v.top (trie_map v ≡ []) (λ e.
+    (t : Tree) × (page t ≡ Place e) × IsSound t × ShowsTree v.nodes v.leaves t × (trie_map v ≡ pairs (items t)))
+
+-- the key's search ends at its own leaf, which is the record of this number
+pub record IsHeldInLeaf (v : PlainView) (k : Key) (n : ℕ) : Type 0 where
+  pub tree : Tree
+  pub is : shown_tree v ≡ Some tree
+  pub number : (found k tree).number ≡ n
+  pub key : (found k tree).key ≡ k
+  pub at : slice_get v.leaves n ≡ Some (item_record (found k tree))
