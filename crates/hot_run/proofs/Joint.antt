@@ -15,15 +15,16 @@ use Rattle.finite_map.proofs.Growth.{begins_itself, begins_on, legal_front_part}
 use Rattle.finite_map.proofs.Legal.{legal_at_first, legal_longer}
 use Rattle.rowex_core.specs.declared.event.Event.{Event}
 use Rattle.rowex_table.specs.Seats.{TableView}
-use Rattle.hot_index.specs.Passes.{PassView, AreByPasses, IsNewPass, Owns}
+use Rattle.hot_index.specs.Handles.{handle_at}
+use Rattle.hot_index.specs.Passes.{PassView, AreByPasses, IsNewPass}
 use Rattle.hot_index.specs.Traces.{untold}
 use Rattle.hot_scripts.specs.declared.command.Command.{Command}
 use Rattle.hot_run.specs.declared.together.Done.{Done}
 use Rattle.hot_scripts.specs.Meaning.{line}
-use Rattle.hot_run.specs.Progress.{AllThree, HasRunCommands, IsDone, IsNewPassOf, MeetInTurn}
+use Rattle.hot_run.specs.Progress.{AllThree, HasAnsweredLast, HasRunCommands, IsDone, IsNewPassOf, MeetInTurn}
 use Rattle.hot_run.specs.Scripts.{AllFrom, AllTwoFrom, AreAllAnswered, IsLegalRun, LawfulScripts, Ran, by_pass, commands_in, notes_in, sections, text_in}
 use Rattle.hot_run.specs.Told.{IsOfSize, WasTold}
-use Rattle.hot_run.proofs.Numbered.{AllFrom-append, first_with}
+use Rattle.hot_run.proofs.Numbered.{AllFrom-append, first_with, seat_at, zip_at}
 use Rattle.hot_run.proofs.Progressing.{AreTold-untold, stand_lower, told_stood}
 
 -- Calls between two fronts
@@ -174,7 +175,7 @@ module _ (index : TableView) where
     pub told : AllTwoFrom q (λ q gate ran. WasTold index becomes q gate [] ran.answers ran.front) gates rans
 
   pub files_have_run : {G : Type 0} (becomes : G → Event → G → Type 0) (last : List Change) (q : ℕ) (seats : List (PassView × G)) (scripts : List (List Command)) (done met again : List Done) (k j k' j' : PassView)
-      → AllFrom q (λ q a. IsNewPassOf index q a.0) seats → AllThree (IsDone index becomes) seats scripts done
+      → AllFrom q (λ q a. IsNewPassOf index q a.0) seats → AllThree (IsDone becomes) (map (seat_at index) seats) scripts done
       → MeetInTurn index k done j met → MeetInTurn index k' met j' again
       → BeginsWith last j.front → BeginsWith k'.front last
       → HaveRun becomes (map (λ a. a.1) seats) j.front last q scripts (map (λ d. d.text.items) again)
@@ -196,37 +197,38 @@ module _ (index : TableView) where
   files_have_run becomes last q (x ∷ seats) (y ∷ scripts) (z ∷ done) [] again k j k' j' new run first second b e = absurd first
   files_have_run becomes last q (x ∷ seats) (y ∷ scripts) (z ∷ done) (w ∷ met) [] k j k' j' new run first second b e = absurd second
   files_have_run becomes last q (p ∷ seats) (commands ∷ scripts) (d ∷ done) (a ∷ met) (f ∷ again) k j k' j' new run (m, one, same, first) (m', two, same', second) b e =
-      let ran = first_run becomes q p (d.pass, run.0.1.0) commands d.text.items new.0 run.0.1.1 in
+      let ran = first_run becomes q p (d.handle.pass, run.0.1.0) commands d.text.items new.0 run.0.1.1 in
       let others = files_have_run becomes last (q + 1) seats scripts done met again m j m' j' new.1 run.1 first second b
       (begins_on last k'.front m'.front e two.first.front) in
-      let seen : BeginsWith j.front d.pass.front =
-      begins_on d.pass.front m.front j.front (subst (λ cs. BeginsWith cs d.pass.front) (sym one.fronts) one.second.front) (met_begins m j done met first) in
-      let later : BeginsWith f.pass.front last = subst (λ cs. BeginsWith cs last) two.fronts (begins_on last k'.front m'.front e two.first.front) in
-      let number : f.pass.number ≡ q = two.second.number ∙ one.second.number ∙ ran.number in
-      let notes : f.pass.notes ≡ notes_in ran.ran = two.second.notes ∙ one.second.notes ∙ ran.notes in
-      let end : LegalCalls f.pass.front q (notes_in ran.ran) =
-      subst (λ n. LegalCalls f.pass.front n (notes_in ran.ran)) number (subst (λ ns. LegalCalls f.pass.front f.pass.number ns) notes two.second.legal) in
-      let begin : LegalCalls d.pass.front q (notes_in ran.ran) = subst (λ cs. LegalCalls cs q (notes_in ran.ran)) ran.front ran.run.legal in
+      let seen : BeginsWith j.front d.handle.pass.front =
+      begins_on d.handle.pass.front m.front j.front (subst (λ cs. BeginsWith cs d.handle.pass.front) (sym one.fronts) one.second.front) (met_begins m j done met first) in
+      let later : BeginsWith f.handle.pass.front last = subst (λ cs. BeginsWith cs last) two.fronts (begins_on last k'.front m'.front e two.first.front) in
+      let number : f.handle.pass.number ≡ q = two.second.number ∙ one.second.number ∙ ran.number in
+      let notes : f.handle.pass.notes ≡ notes_in ran.ran = two.second.notes ∙ one.second.notes ∙ ran.notes in
+      let end : LegalCalls f.handle.pass.front q (notes_in ran.ran) =
+      subst (λ n. LegalCalls f.handle.pass.front n (notes_in ran.ran)) number (subst (λ ns. LegalCalls f.handle.pass.front f.handle.pass.number ns) notes two.second.legal) in
+      let begin : LegalCalls d.handle.pass.front q (notes_in ran.ran) = subst (λ cs. LegalCalls cs q (notes_in ran.ran)) ran.front ran.run.legal in
       record {
         rans = ran.ran ∷ others.rans;
         commands = ap₂ (λ c cs. c ∷ cs) ran.commands_are others.commands;
         texts_are = ap₂ (λ t ts. t ∷ ts) (ran.text_is ∙ ap (λ t. t.items) (sym same) ∙ ap (λ t. t.items) (sym same')) others.texts_are;
         each = (ran.run, others.each);
         begins = All-cons (λ (ran : Ran). BeginsWith j.front ran.front) ran.ran others.rans (subst (λ cs. BeginsWith j.front cs) (sym ran.front) seen) others.begins;
-        shared = (legal_between d.pass.front last f.pass.front q (notes_in ran.ran) begin end (begins_on d.pass.front j.front last seen b) later, others.shared);
+        shared = (legal_between d.handle.pass.front last f.handle.pass.front q (notes_in ran.ran) begin end (begins_on d.handle.pass.front j.front last seen b) later, others.shared);
         told = (ran.told, others.told);
       }
 
   -- All scripts
 
   pub lawful_together : {G : Type 0} (becomes : G → Event → G → Type 0) (passes : List PassView) (gates : List G) (scripts : List (List Command))
-      (commands : List Command) (done met again : List Done) (pass k j l : PassView) (text : List ℕ) (nodes leaves : ℕ)
+      (commands : List Command) (done met : List Done) (pass k : PassView) (text : List ℕ) (nodes leaves : ℕ)
       → IsOfSize (length scripts + 1) nodes leaves index → length gates ≡ length passes
       → AllFrom 0 (IsNewPassOf index) passes → IsNewPassOf index (length scripts) pass
-      → AllThree (IsDone index becomes) (zip passes gates) scripts done → MeetInTurn index pass done k met
-      → Owns index k → HasRunCommands index untold (k, tt) commands (j, tt) text → MeetInTurn index j met l again
-      → AreAllAnswered nodes leaves becomes gates scripts commands (sections 1 (map (λ d. d.text.items) again) ++ line (codes "last") ++ text)
-  lawful_together becomes passes gates scripts commands done met again pass k j l text nodes leaves sized many_gates new last run first own ran second =
+      → AllThree (IsDone becomes) (zip (map (handle_at index) passes) gates) scripts done → MeetInTurn index pass done k met
+      → HasAnsweredLast (handle_at index k) met commands text → AreAllAnswered nodes leaves becomes gates scripts commands text
+  lawful_together becomes passes gates scripts commands done met pass k text nodes leaves sized many_gates new last run first answered =
+      let j = answered.after in
+      let ran = answered.ran in
       let kept = met_kept pass k done met (new_legal _ pass last.1) (new_makers _ pass last.1) first in
       let stood = told_stood index untold (k, tt) (j, tt) ran.answers kept.legal kept.makers ran.told in
       let whole : Ran = record { answers = ran.answers; front = j.front } in
@@ -235,8 +237,9 @@ module _ (index : TableView) where
       let number : j.number ≡ length scripts = stood.number ∙ began in
       let legal : LegalCalls j.front (length scripts) (notes_in whole) =
       subst (λ n. LegalCalls j.front n (notes_in whole)) number (subst (λ ns. LegalCalls j.front j.number ns) notes stood.legal) in
-      let files = files_have_run becomes j.front 0 (zip passes gates) scripts done met again pass k j l (first_with index 0 passes gates new) run first second
-      stood.front (begins_itself j.front) in
+      let seats = zip passes gates in
+      let files = files_have_run becomes j.front 0 seats scripts done met answered.again pass k j answered.last (first_with index 0 passes gates new)
+      (subst (λ seats. AllThree (IsDone becomes) seats scripts done) (zip_at index passes gates) run) first answered.meet stood.front (begins_itself j.front) in
       let many : length files.rans ≡ length scripts = sym (length-map files.rans commands_in) ∙ ap length files.commands in
       let at : length scripts ≡ 0 + length files.rans = omega (arith, many) in
       record {
@@ -253,12 +256,12 @@ module _ (index : TableView) where
           shared = all_legal j.front 0 (files.rans ++ whole ∷ [])
               (AllFrom-append (λ q ran. LegalCalls j.front q (notes_in ran)) 0 files.rans (whole ∷ []) files.shared (subst (λ n. LegalCalls j.front n (notes_in whole)) at legal, tt));
           makers = All-weaker (λ c. c.pass < index.layout.passes) (λ c. c.pass ≤ length scripts) (λ c below. omega (arith, below, sized.passes_are)) j.front stood.makers;
-          text_is = ap₂ (λ files text. sections 1 files ++ line (codes "last") ++ text) (sym files.texts_are) ran.text_is;
+          text_is = answered.text_is ∙ ap₂ (λ files text. sections 1 files ++ line (codes "last") ++ text) (sym files.texts_are) ran.text_is;
         };
         index = index;
         sized = sized;
         files_told = subst (λ gates. AllTwoFrom 0 (λ q gate ran. WasTold index becomes q gate [] ran.answers ran.front) gates files.rans) (seconds-zip passes gates many_gates) files.told;
-        last_told = record { first = k; last = j; gate_then = tt; own = own; number = began; begins = refl; ends = refl; told = ran.told };
+        last_told = record { first = k; last = j; gate_then = tt; own = answered.own; number = began; begins = refl; ends = refl; told = ran.told };
       }
 
 -- Nobody need be told

@@ -1,14 +1,15 @@
 -- Lists whose items are numbered, and three lists side by side.
-use Rattle.std.proofs.Common.{◌≡◌, ℕ, suc, ◌+◌, List, [], ◌∷◌, ◌++◌, length, Some, refl, ap, subst, arith}
+use Rattle.std.proofs.Common.{◌≡◌, ℕ, suc, ◌+◌, List, [], ◌∷◌, ◌++◌, length, map, Some, refl, sym, ap, subst, ◌∙◌, arith}
 use Rattle.std.specs.List.{All, AllZip, slice_get, zip}
-use Rattle.std.proofs.lemmas.List.Elements.{All-nil, All-cons}
+use Rattle.std.proofs.lemmas.List.Elements.{All-nil, All-cons, All-head, All-tail}
+use Rattle.hot_index.specs.Handles.{HandleView, handle_at}
 use Rattle.hot_index.specs.Passes.{PassView, Owns}
 use Rattle.rowex_core.specs.declared.event.Event.{Event}
 use Rattle.rowex_table.specs.Seats.{TableView}
 use Rattle.hot_scripts.specs.declared.command.Command.{Command}
 use Rattle.hot_run.specs.declared.together.Done.{Done}
 use Rattle.hot_run.specs.declared.together.Order.{Order}
-use Rattle.hot_run.specs.Progress.{AllThree, HasKept, IsDone, IsNewPassOf, IsOrderOf}
+use Rattle.hot_run.specs.Progress.{AllThree, AreAt, HasKept, IsDone, IsNewPassOf, IsOrderOf}
 use Rattle.hot_run.specs.Scripts.{AllFrom}
 
 module _ {A : Type 0} (p : ℕ → A → Type 0) where
@@ -52,38 +53,59 @@ module _ (index : TableView) where
   first_with first (p ∷ passes) [] h = tt
   first_with first (p ∷ passes) (g ∷ gates) h = (h.0, first_with (first + 1) passes gates h.1)
 
-  module _ {G : Type 0} (becomes : G → Event → G → Type 0) where
-    -- those of scripts that have run are the index's
-    pub owns_done : (seats : List (PassView × G)) (scripts : List (List Command)) (done : List Done) → AllThree (IsDone index becomes) seats scripts done
-        → All (λ d. Owns index d.pass) done
-    owns_done [] [] [] h = All-nil (λ d. Owns index d.pass)
-    owns_done [] [] (x ∷ done) h = absurd h
-    owns_done [] (x ∷ scripts) done h = absurd h
-    owns_done (x ∷ seats) [] done h = absurd h
-    owns_done (x ∷ seats) (y ∷ scripts) [] h = absurd h
-    owns_done (p ∷ seats) (s ∷ scripts) (d ∷ done) h = All-cons (λ d. Owns index d.pass) d done h.0.0 (owns_done seats scripts done h.1)
+  -- the handle of a pass at the index, beside a gate
+  abbrev pub seat_at : {G : Type 0} → PassView × G → HandleView × G
+  seat_at a = (handle_at index a.0, a.1)
 
-    pub done_long : (seats : List (PassView × G)) (scripts : List (List Command)) (done : List Done) → AllThree (IsDone index becomes) seats scripts done
-        → length done ≡ length scripts
-    done_long [] [] [] h = refl
-    done_long [] [] (x ∷ done) h = absurd h
-    done_long [] (x ∷ scripts) done h = absurd h
-    done_long (x ∷ seats) [] done h = absurd h
-    done_long (x ∷ seats) (y ∷ scripts) [] h = absurd h
-    done_long (p ∷ seats) (s ∷ scripts) (d ∷ done) h = ap suc (done_long seats scripts done h.1)
+  pub zip_at : {G : Type 0} (passes : List PassView) (gates : List G) → zip (map (handle_at index) passes) gates ≡ map seat_at (zip passes gates)
+  zip_at [] gates = refl
+  zip_at (p ∷ passes) [] = refl
+  zip_at (p ∷ passes) (g ∷ gates) = ap (λ seats. seat_at (p, g) ∷ seats) (zip_at passes gates)
 
-    -- what the threads did is what they were started for
-    pub all_joined : (seats : List (PassView × G)) (scripts : List (List Command)) (orders : List (Order G)) (done : List Done)
-        → AllThree (IsOrderOf index) seats scripts orders → AllZip (HasKept becomes) orders done → AllThree (IsDone index becomes) seats scripts done
-    all_joined [] [] [] [] h kept = tt
-    all_joined [] [] [] (x ∷ done) h kept = absurd kept
-    all_joined [] [] (x ∷ orders) done h kept = absurd h
-    all_joined [] (x ∷ scripts) orders done h kept = absurd h
-    all_joined (x ∷ seats) [] orders done h kept = absurd h
-    all_joined (x ∷ seats) (y ∷ scripts) [] done h kept = absurd h
-    all_joined (x ∷ seats) (y ∷ scripts) (z ∷ orders) [] h kept = absurd kept
-    all_joined (a ∷ seats) (s ∷ scripts) (o ∷ orders) (d ∷ done) h kept =
-        let first : IsDone index becomes a s d =
-        subst (λ i. IsDone i becomes a s d) h.0.0 (subst (λ a. IsDone o.index.value becomes a s d) (λ i. (h.0.1 i, h.0.2 i))
-        (subst (λ s. IsDone o.index.value becomes (o.pass.value, o.gate.value) s d) h.0.3 kept.0)) in
-        (first, all_joined seats scripts orders done h.1 kept.1)
+  pub all_at : (passes : List PassView) → All (λ h. h.index ≡ index) (map (handle_at index) passes)
+  all_at [] = All-nil (λ (h : HandleView). h.index ≡ index)
+  all_at (p ∷ passes) = All-cons (λ (h : HandleView). h.index ≡ index) (handle_at index p) (map (handle_at index) passes) refl (all_at passes)
+
+-- what is at an index with this handle is at the handle's
+pub at_own : (index : TableView) (handle : HandleView) (done : List Done) → AreAt index handle done → AreAt handle.index handle done
+at_own index handle done at = (refl, subst (λ (i : TableView). All (λ d. d.handle.index ≡ i) done) (sym at.0) at.1)
+
+module _ {G : Type 0} (becomes : G → Event → G → Type 0) where
+  -- scripts that have run by handles at the index are at it
+  pub done_at : (index : TableView) (handles : List HandleView) (gates : List G) (scripts : List (List Command)) (done : List Done)
+      → All (λ h. h.index ≡ index) handles → AllThree (IsDone becomes) (zip handles gates) scripts done → All (λ d. d.handle.index ≡ index) done
+  done_at index [] gates [] [] at h = All-nil (λ (d : Done). d.handle.index ≡ index)
+  done_at index [] gates [] (x ∷ done) at h = absurd h
+  done_at index [] gates (x ∷ scripts) done at h = absurd h
+  done_at index (x ∷ handles) [] [] [] at h = All-nil (λ (d : Done). d.handle.index ≡ index)
+  done_at index (x ∷ handles) [] [] (y ∷ done) at h = absurd h
+  done_at index (x ∷ handles) [] (y ∷ scripts) done at h = absurd h
+  done_at index (x ∷ handles) (g ∷ gates) [] done at h = absurd h
+  done_at index (x ∷ handles) (g ∷ gates) (s ∷ scripts) [] at h = absurd h
+  done_at index (x ∷ handles) (g ∷ gates) (s ∷ scripts) (d ∷ done) at h =
+      All-cons (λ (d : Done). d.handle.index ≡ index) d done (h.0.0 ∙ All-head (λ (h : HandleView). h.index ≡ index) x handles at)
+      (done_at index handles gates scripts done (All-tail (λ (h : HandleView). h.index ≡ index) x handles at) h.1)
+
+  pub done_long : (seats : List (HandleView × G)) (scripts : List (List Command)) (done : List Done) → AllThree (IsDone becomes) seats scripts done
+      → length done ≡ length scripts
+  done_long [] [] [] h = refl
+  done_long [] [] (x ∷ done) h = absurd h
+  done_long [] (x ∷ scripts) done h = absurd h
+  done_long (x ∷ seats) [] done h = absurd h
+  done_long (x ∷ seats) (y ∷ scripts) [] h = absurd h
+  done_long (p ∷ seats) (s ∷ scripts) (d ∷ done) h = ap suc (done_long seats scripts done h.1)
+
+  -- what the threads did is what they were started for
+  pub all_joined : (seats : List (HandleView × G)) (scripts : List (List Command)) (orders : List (Order G)) (done : List Done)
+      → AllThree IsOrderOf seats scripts orders → AllZip (HasKept becomes) orders done → AllThree (IsDone becomes) seats scripts done
+  all_joined [] [] [] [] h kept = tt
+  all_joined [] [] [] (x ∷ done) h kept = absurd kept
+  all_joined [] [] (x ∷ orders) done h kept = absurd h
+  all_joined [] (x ∷ scripts) orders done h kept = absurd h
+  all_joined (x ∷ seats) [] orders done h kept = absurd h
+  all_joined (x ∷ seats) (y ∷ scripts) [] done h kept = absurd h
+  all_joined (x ∷ seats) (y ∷ scripts) (z ∷ orders) [] h kept = absurd kept
+  all_joined (a ∷ seats) (s ∷ scripts) (o ∷ orders) (d ∷ done) h kept =
+      let first : IsDone becomes a s d =
+      subst (λ a. IsDone becomes a s d) (λ i. (h.0.0 i, h.0.1 i)) (subst (λ s. IsDone becomes (o.handle.value, o.gate.value) s d) h.0.2 kept.0) in
+      (first, all_joined seats scripts orders done h.1 kept.1)

@@ -64,19 +64,22 @@ module _ {G : Type 0} (index : TableView) (becomes : G → Event → G → Type 
   HasRunCommands-none a = record { answers = []; commands_are = refl; text_is = refl; told = refl }
 
   module _ (a m b : PassView × G) (commands : List Command) (rest : List ℕ) (ran : HasRunCommands index becomes m commands b rest) where
-    -- a command, and then the others
-    pub HasRunCommands-more : (command : Command) (before after : List ℕ) → HasAnsweredCommand index becomes a command m before after
+    -- a command of a handle at the index, and then the others
+    pub HasRunCommands-more : (here : TableView) → here ≡ index → (command : Command) (before after : List ℕ)
+        → HasAnsweredCommand here becomes a command m before after
         → (lines : List ℕ) × (after ≡ before ++ lines) × HasRunCommands index becomes a (command ∷ commands) b (lines ++ rest)
-    HasRunCommands-more command before after is = (
-      lines_of_answer is.answer,
-      is.text_is,
-      record {
-        answers = is.answer ∷ ran.answers;
-        commands_are = ap₂ (λ c cs. c ∷ cs) is.command_is ran.commands_are;
-        text_is = ap (λ more. lines_of_answer is.answer ++ more) ran.text_is ∙ sym (flat_map-cons lines_of_answer is.answer ran.answers);
-        told = (m, is.told, is.steps, ran.told);
-      },
-    )
+    HasRunCommands-more here at command before after answered =
+        let is : HasAnsweredCommand index becomes a command m before after =
+        subst (λ (i : TableView). HasAnsweredCommand i becomes a command m before after) at answered in (
+          lines_of_answer is.answer,
+          is.text_is,
+          record {
+            answers = is.answer ∷ ran.answers;
+            commands_are = ap₂ (λ c cs. c ∷ cs) is.command_is ran.commands_are;
+            text_is = ap (λ more. lines_of_answer is.answer ++ more) ran.text_is ∙ sym (flat_map-cons lines_of_answer is.answer ran.answers);
+            told = (m, is.told, is.steps, ran.told);
+          },
+        )
 
   -- nobody need be told
   pub AreTold-untold : (a b : PassView × G) (answers : List Answered) → AreTold index becomes a answers b

@@ -4,6 +4,7 @@ use Rattle.finite_map.specs.declared.Call.{Call}
 use Rattle.rowex_core.specs.declared.event.Event.{Event}
 use Rattle.rowex_table.specs.Seats.{TableView}
 use Rattle.hot_index.specs.Answers.{HaveMet}
+use Rattle.hot_index.specs.Handles.{HandleView}
 use Rattle.hot_index.specs.Passes.{PassView, IsNewPass, Owns}
 use Rattle.hot_index.specs.Traces.{HasTold, untold}
 use Rattle.hot_scripts.specs.declared.command.Command.{Command}
@@ -43,23 +44,23 @@ pub record HasRunCommands {G : Type 0} (index : TableView) (becomes : G → Even
 abbrev pub IsNewPassOf : TableView → ℕ → PassView → Type 0
 IsNewPassOf index q pass = Owns index pass × IsNewPass q pass
 
--- there are a pass of the index, a script and a gate for each thread
-abbrev pub AreReady : {C G : Type 0} → TableView → List PassView → List C → List G → Type 0
-AreReady index passes scripts gates = All (Owns index) passes × (length scripts ≡ length passes) × (length gates ≡ length passes)
+-- there are a script and a gate for each handle
+abbrev pub AreReady : {C G : Type 0} → List HandleView → List C → List G → Type 0
+AreReady handles scripts gates = (length scripts ≡ length handles) × (length gates ≡ length handles)
 
--- the thread of this pass and gate made these commands
-abbrev pub IsDone : {G : Type 0} → TableView → (G → Event → G → Type 0) → PassView × G → List Command → Done → Type 0
-IsDone {G = G} index becomes a commands done =
-    Owns index done.pass × ((gate : G) × HasRunCommands index becomes a commands (done.pass, gate) done.text.items)
+-- the thread of this handle and gate made these commands
+abbrev pub IsDone : {G : Type 0} → (G → Event → G → Type 0) → HandleView × G → List Command → Done → Type 0
+IsDone {G = G} becomes a commands done =
+    (done.handle.index ≡ a.0.index)
+    × ((gate : G) × HasRunCommands a.0.index becomes (a.0.pass, a.1) commands (done.handle.pass, gate) done.text.items)
 
--- a thread was started for these commands of this pass, with this gate
-abbrev pub IsOrderOf : {G : Type 0} → TableView → PassView × G → List Command → Order G → Type 0
-IsOrderOf index a commands order =
-    (order.index.value ≡ index) × (order.pass.value ≡ a.0) × (order.gate.value ≡ a.1) × (script_commands order.script.value ≡ commands)
+-- a thread was started for these commands of this handle, with this gate
+abbrev pub IsOrderOf : {G : Type 0} → HandleView × G → List Command → Order G → Type 0
+IsOrderOf a commands order = (order.handle.value ≡ a.0) × (order.gate.value ≡ a.1) × (script_commands order.script.value ≡ commands)
 
 -- the thread kept its order
 abbrev pub HasKept : {G : Type 0} → (G → Event → G → Type 0) → Order G → Done → Type 0
-HasKept becomes order done = IsDone order.index.value becomes (order.pass.value, order.gate.value) (script_commands order.script.value) done
+HasKept becomes order done = IsDone becomes (order.handle.value, order.gate.value) (script_commands order.script.value) done
 
 -- R holds of the items of three lists, place by place
 abbrev pub AllThree : {A B C : Type 0} → (A → B → C → Type 0) → List A → List B → List C → Type 0
@@ -67,27 +68,31 @@ AllThree R [] [] [] = Unit {0}
 AllThree R (x ∷ xs) (y ∷ ys) (z ∷ zs) = R x y z × AllThree R xs ys zs
 AllThree R _ _ _ = ⊥
 
+-- the handle is at the index, and so are those of scripts that have run
+abbrev pub AreAt : TableView → HandleView → List Done → Type 0
+AreAt index handle done = (handle.index ≡ index) × All (λ d. d.handle.index ≡ index) done
+
 -- the pass meets those of the others, one after another
 abbrev pub MeetInTurn : TableView → PassView → List Done → PassView → List Done → Type 0
 MeetInTurn index k [] j [] = j ≡ k
 MeetInTurn index k (before ∷ befores) j (after ∷ afters) =
-    (m : PassView) × HaveMet index.layout k before.pass m after.pass × (after.text ≡ before.text) × MeetInTurn index m befores j afters
+    (m : PassView) × HaveMet index.layout k before.handle.pass m after.handle.pass × (after.text ≡ before.text) × MeetInTurn index m befores j afters
 MeetInTurn index k _ j _ = ⊥
 
--- The threads of these passes and gates made these commands, and then the pass met theirs, one after another.
-pub record HaveRunAndMet {G : Type 0} (index : TableView) (becomes : G → Event → G → Type 0) (passes : List (PassView × G)) (scripts : List (List Command))
-    (k j : PassView) (met : List Done) : Type 0 where
+-- The threads of these handles and gates made these commands, and then the handle's pass met theirs, one after another.
+pub record HaveRunAndMet {G : Type 0} (becomes : G → Event → G → Type 0) (handles : List (HandleView × G)) (scripts : List (List Command))
+    (k j : HandleView) (met : List Done) : Type 0 where
   pub ran : List Done
-  pub have_run : AllThree (IsDone index becomes) passes scripts ran
-  pub meet : MeetInTurn index k ran j met
+  pub have_run : AllThree (IsDone becomes) handles scripts ran
+  pub meet : MeetInTurn k.index k.pass ran j.pass met
 
--- The pass made the last script's commands, and then met those of the files again. The text is what all were answered.
-pub record HasAnsweredLast (index : TableView) (k : PassView) (met : List Done) (commands : List Command) (text : List ℕ) : Type 0 where
+-- The handle's pass made the last script's commands, and then met those of the files again. The text is what all were answered.
+pub record HasAnsweredLast (k : HandleView) (met : List Done) (commands : List Command) (text : List ℕ) : Type 0 where
   pub after : PassView
   pub last : PassView
   pub again : List Done
   pub answers : List ℕ
-  pub own : Owns index k
-  pub ran : HasRunCommands index untold (k, tt) commands (after, tt) answers
-  pub meet : MeetInTurn index after met last again
+  pub own : Owns k.index k.pass
+  pub ran : HasRunCommands k.index untold (k.pass, tt) commands (after, tt) answers
+  pub meet : MeetInTurn k.index after met last again
   pub text_is : text ≡ sections 1 (map (λ d. d.text.items) again) ++ line (codes "last") ++ answers

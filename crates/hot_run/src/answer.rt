@@ -39,10 +39,14 @@ fn push_section(
 }
 
 /// The answers to scripts of files, each below its heading, and then those to the last script: texts that follow one another.
-pub fn sections(alloc: Global, files: Vec<Done>, last: Vec<u8>) -> Result<Vec<Vec<u8>>, AllocError>
+pub fn sections(
+    alloc: Global,
+    files: Vec<Done<'_>>,
+    last: Vec<u8>,
+) -> Result<Vec<Vec<u8>>, AllocError>
     requires { length files.items ≤ MAX_FILES }
     ensures { IfOk result (λ texts. flat_map (λ t. t.items) texts.items
-        ≡ sections 1 (map (λ f. f.text.items) files.items) ++ line (codes "last") ++ last.items) }
+        ≡ sections 1 (map (λ f. f.text.items) files.entry.items) ++ line (codes "last") ++ last.items) }
 {
     let mut texts = Vec::new(alloc);
     let mut number = 1u32;

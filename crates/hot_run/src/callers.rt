@@ -1,15 +1,15 @@
 //! How a pass makes the calls of its script: it waits for others, or has nobody to wait for.
 
-ghost use Rattle.std.specs.Prelude.{◌≡◌, IfErr, MatchResult};
-ghost use Rattle.hot_index.specs.Answers.{IsNoted, IsRefused, MayLack, fault_of};
-ghost use Rattle.hot_index.specs.Passes.{Owns};
+ghost use Rattle.std.specs.Prelude.{◌≡◌, IfErr};
+ghost use Rattle.hot_index.specs.Answers.{MayLack};
+ghost use Rattle.hot_index.specs.Handles.{IsAwaited, Stays};
 ghost use Rattle.hot_index.specs.Traces.{HasTold};
 
 use finite_map::{Call, Reply};
-use hot_index::{Full, Gate, Index, Pass, TryFault};
+use hot_index::{Full, Gate, Handle, Index, TryFault};
 use std::sync::Wait;
 
-/// What makes the calls of a pass.
+/// What makes the calls of a handle.
 pub trait Caller {
     ghost use Rattle.rowex_table.specs.Seats.{TableView};
 
@@ -19,18 +19,14 @@ pub trait Caller {
     /// Makes a call, with a gate that is told each of its steps.
     fn call<G: Gate>(
         &self,
-        index: &Index,
-        pass: &mut Pass,
+        handle: &mut Handle<&Index>,
         call: &Call,
         gate: &mut G,
     ) -> Result<Reply, Full>
-        requires own { Owns index.now pass.old }
-        requires fits { fits self.now index.now }
-        ensures own { Owns index.now pass.new }
-        ensures call { MatchResult result (IsNoted index.now.layout pass.old pass.new call.now)
-            (λ full. IsRefused index.now.layout call.now pass.old pass.new (fault_of full)) }
+        requires { fits self.now handle.old.index }
+        ensures call { Stays (IsAwaited call.now result) handle.old handle.new }
         ensures lacks { IfErr result (MayLack call.now) }
-        ensures told { HasTold index.now G.becomes (pass.old, gate.old) (pass.new, gate.new) };
+        ensures told { HasTold handle.old.index G.becomes (handle.old.pass, gate.old) (handle.new.pass, gate.new) };
 }
 
 /// It waits where another pass stands in its way.
@@ -44,12 +40,13 @@ impl<'a, T: Wait> Caller for Waits<'a, T> {
 
     fn call<G: Gate>(
         &self,
-        index: &Index,
-        pass: &mut Pass,
+        handle: &mut Handle<&Index>,
         call: &Call,
         gate: &mut G,
     ) -> Result<Reply, Full> {
-        index.call_with(self.rt, pass, call, gate)
+        handle
+            .index
+            .call_with(self.rt, &mut handle.pass, call, gate)
     }
 }
 
@@ -64,12 +61,11 @@ impl Caller for Alone {
 
     fn call<G: Gate>(
         &self,
-        index: &Index,
-        pass: &mut Pass,
+        handle: &mut Handle<&Index>,
         call: &Call,
         gate: &mut G,
     ) -> Result<Reply, Full> {
-        match index.try_call_with(pass, call, gate) {
+        match handle.index.try_call_with(&mut handle.pass, call, gate) {
             Ok(reply) => Ok(reply),
             Err(TryFault::FullNodes) => Err(Full::Nodes),
             Err(TryFault::FullLeaves) => Err(Full::Leaves),

@@ -1,7 +1,7 @@
-//! What answers the commands of a script: a pass of an index.
+//! What answers the commands of a script: a handle of an index.
 
-ghost use Rattle.std.specs.Prelude.{ℕ, IfOk, OnOk};
-ghost use Rattle.hot_index.specs.Passes.{Owns};
+ghost use Rattle.std.specs.Prelude.{◌≡◌, ℕ, IfOk, OnOk};
+ghost use Rattle.hot_index.specs.Handles.{Stays};
 ghost use Rattle.hot_scripts.specs.Parses.{script_commands};
 ghost use Rattle.hot_index.specs.Traces.{HasTold};
 ghost use Rattle.hot_run.specs.Progress.{HasAnsweredCommand, HasRunCommands, answered_as};
@@ -10,7 +10,7 @@ ghost use Rattle.hot_run.specs.Told.{IsCommandTold};
 use crate::answer::push_answer;
 use crate::callers::Caller;
 use finite_map::{Call, Reply};
-use hot_index::{Full, Gate, Index, Pairs, Pass};
+use hot_index::{Full, Gate, Handle, Index, Pairs};
 use hot_scripts::answer::push_scan;
 use hot_scripts::command::{Command, Range};
 use hot_scripts::script::Script;
@@ -28,18 +28,15 @@ pub enum Answer {
 /// Makes a call.
 fn make_call<C: Caller, G: Gate>(
     caller: &C,
-    index: &Index,
-    pass: &mut Pass,
+    handle: &mut Handle<&Index>,
     call: &Call,
     gate: &mut G,
 ) -> Answer
-    requires own { Owns index.now pass.old }
-    requires fits { C.fits caller.now index.now }
-    ensures own { Owns index.now pass.new }
-    ensures told { (place : ℕ) × IsCommandTold index.now.layout pass.old (answered_as call.now result place) pass.new }
-    ensures steps { HasTold index.now G.becomes (pass.old, gate.old) (pass.new, gate.new) }
+    requires { C.fits caller.now handle.old.index }
+    ensures told { Stays (λ index k j. (place : ℕ) × IsCommandTold index.layout k (answered_as call.now result place) j) handle.old handle.new }
+    ensures steps { HasTold handle.old.index G.becomes (handle.old.pass, gate.old) (handle.new.pass, gate.new) }
 {
-    match caller.call(index, pass, call, gate) {
+    match caller.call(handle, call, gate) {
         Ok(reply) => Answer::Reply(reply),
         Err(full) => Answer::Full(full),
     }
@@ -47,44 +44,47 @@ fn make_call<C: Caller, G: Gate>(
 
 /// Makes a scan into a list, and ends the text by its lines.
 fn answer_scan<G: Gate>(
-    index: &Index,
-    pass: &mut Pass,
+    handle: &mut Handle<&Index>,
     range: &Range,
     gate: &mut G,
     pairs: &mut Pairs,
     text: &mut Vec<u8>,
 ) -> Result<(), AllocError>
-    requires { Owns index.now pass.old }
-    ensures own { Owns index.now pass.new }
-    ensures answered { OnOk result (HasAnsweredCommand index.now G.becomes (pass.old, gate.old) (Command.Scan range.now) (pass.new, gate.new)
-        text.old.items text.new.items) }
+    ensures index { handle.new.index ≡ handle.old.index }
+    ensures answered { OnOk result (HasAnsweredCommand handle.old.index G.becomes (handle.old.pass, gate.old) (Command.Scan range.now)
+        (handle.new.pass, gate.new) text.old.items text.new.items) }
 {
-    let more = index.scan_into_with(pass, &range.from, &range.upto, range.limit, pairs, gate)?;
+    let more = handle.index.scan_into_with(
+        &mut handle.pass,
+        &range.from,
+        &range.upto,
+        range.limit,
+        pairs,
+        gate,
+    )?;
     push_scan(text, pairs, more)
 }
 
 /// Makes a command, and ends the text by the lines of its answer. A scan puts its pairs into the list.
 fn answer_command<C: Caller, G: Gate>(
     caller: &C,
-    index: &Index,
-    pass: &mut Pass,
+    handle: &mut Handle<&Index>,
     command: &Command,
     gate: &mut G,
     pairs: &mut Pairs,
     text: &mut Vec<u8>,
 ) -> Result<(), AllocError>
-    requires own { Owns index.now pass.old }
-    requires fits { C.fits caller.now index.now }
-    ensures own { Owns index.now pass.new }
-    ensures answered { OnOk result (HasAnsweredCommand index.now G.becomes (pass.old, gate.old) command.now (pass.new, gate.new)
-        text.old.items text.new.items) }
+    requires { C.fits caller.now handle.old.index }
+    ensures index { handle.new.index ≡ handle.old.index }
+    ensures answered { OnOk result (HasAnsweredCommand handle.old.index G.becomes (handle.old.pass, gate.old) command.now
+        (handle.new.pass, gate.new) text.old.items text.new.items) }
 {
     match command {
         Command::Call(call) => {
-            let answer = make_call(caller, index, pass, call, gate);
+            let answer = make_call(caller, handle, call, gate);
             push_answer(text, answer)
         }
-        Command::Scan(range) => answer_scan(index, pass, range, gate, pairs, text),
+        Command::Scan(range) => answer_scan(handle, range, gate, pairs, text),
     }
 }
 
@@ -92,21 +92,20 @@ fn answer_command<C: Caller, G: Gate>(
 pub fn run<C: Caller, G: Gate>(
     caller: &C,
     alloc: Global,
-    index: &Index,
-    pass: &mut Pass,
+    handle: &mut Handle<&Index>,
     script: &Script,
     gate: &mut G,
 ) -> Result<Vec<u8>, AllocError>
-    requires own { Owns index.now pass.old }
-    requires fits { C.fits caller.now index.now }
-    ensures own { Owns index.now pass.new }
-    ensures ran { IfOk result (λ text. HasRunCommands index.now G.becomes (pass.old, gate.old) (script_commands script.now) (pass.new, gate.new) text.items) }
+    requires { C.fits caller.now handle.old.index }
+    ensures index { handle.new.index ≡ handle.old.index }
+    ensures ran { IfOk result (λ text. HasRunCommands handle.old.index G.becomes (handle.old.pass, gate.old) (script_commands script.now)
+        (handle.new.pass, gate.new) text.items) }
 {
     let mut text = Vec::new(alloc);
     let mut pairs = Pairs::new(alloc);
     let mut commands = script.commands();
     while let Some(command) = commands.next_command() {
-        answer_command(caller, index, pass, &command, gate, &mut pairs, &mut text)?;
+        answer_command(caller, handle, &command, gate, &mut pairs, &mut text)?;
     }
     Ok(text)
 }

@@ -23,7 +23,7 @@ mod streams;
 mod together;
 
 use callers::Alone;
-use hot_index::{Index, IndexFault, NoGate, Pass, Stock, create, create_with};
+use hot_index::{Handle, Index, IndexFault, NoGate, Pass, Stock, create, create_with};
 pub use hot_scripts::fault::{Reason, RunFault};
 use hot_scripts::script::Script;
 pub use hot_scripts::script::{MAX_FILES, MAX_SCRIPT};
@@ -71,8 +71,9 @@ fn answer_one(alloc: Global, nodes: u32, leaves: u32, script: &Script) -> Result
     ensures ok { IfOk result (λ text. AreAnswered nodes leaves (script_commands script.now) text.items) }
     ensures fault { IfErr result (λ fault. fault ≡ RunFault.Memory) }
 {
-    let (index, mut pass) = index_for(alloc, nodes, leaves, script)?;
-    let text = engine::run(&Alone, alloc, &index, &mut pass, script, &mut NoGate)?;
+    let (index, pass) = index_for(alloc, nodes, leaves, script)?;
+    let mut handle = Handle::new(&index, pass);
+    let text = engine::run(&Alone, alloc, &mut handle, script, &mut NoGate)?;
     Ok(text)
 }
 

@@ -6,5 +6,6 @@ use Rattle.hot_run.proofs.engine.answer_scan.Goals as goal
 pub returns-clause-answered : goal.returns-clause-answered
 returns-clause-answered g c =
     let list = c.push_scan.ensures in
-    on_ok_weaker c.push_scan.result
-    (λ text. HasAnsweredCommand-list c.args.index.now _ c.args.text.now.alloc _ _ c.args.range.now _ list.short c.in_ok-more.more _ _ c.in_ok-more.ensures.ok c.in_ok-more.ensures.read.read text) list.lines
+    rw (← c.handle.view_is)
+    (on_ok_weaker c.push_scan.result
+    (λ text. HasAnsweredCommand-list c.handle.inside.index.now _ c.args.text.now.alloc _ _ c.args.range.now _ list.short c.in_ok-more.more _ _ c.in_ok-more.ensures.ok c.in_ok-more.ensures.read.read text) list.lines)

@@ -1,6 +1,6 @@
 -- What stays true in the loop of `run`.
-use Rattle.std.proofs.Common.{◌++◌, List, ℕ, length}
-use Rattle.hot_index.specs.Passes.{PassView, Owns}
+use Rattle.std.proofs.Common.{◌≡◌, ◌++◌, List, ℕ, length}
+use Rattle.hot_index.specs.Passes.{PassView}
 use Rattle.hot_scripts.specs.Parses.{commands_left, script_commands}
 use Rattle.hot_run.specs.Progress.{HasRunCommands}
 use Rattle.hot_run.proofs.engine.run.Given as goal
@@ -8,9 +8,9 @@ use Rattle.hot_run.proofs.engine.run.Given as goal
 -- what answers the commands that are left completes the text
 abbrev pub invariant-loop-command : goal.invariant-loop-command
 invariant-loop-command g l = record {
-  own : Owns l.fn.index l.pass;
-  completes : (b : PassView × _) (rest : List ℕ) → HasRunCommands l.fn.index g.G.Gate.becomes (l.pass, l.gate) (commands_left l.commands) b rest
-      → HasRunCommands l.fn.index g.G.Gate.becomes (l.fn.pass, l.fn.gate) (script_commands l.fn.script) b (l.text.items ++ rest);
+  index : l.handle.index ≡ l.fn.handle.index;
+  completes : (b : PassView × _) (rest : List ℕ) → HasRunCommands l.fn.handle.index g.G.Gate.becomes (l.handle.pass, l.gate) (commands_left l.commands) b rest
+      → HasRunCommands l.fn.handle.index g.G.Gate.becomes (l.fn.handle.pass, l.fn.gate) (script_commands l.fn.script) b (l.text.items ++ rest);
 }
 
 abbrev pub decreases-loop-command : goal.decreases-loop-command
