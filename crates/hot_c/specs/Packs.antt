@@ -16,6 +16,9 @@ pub record Packing : Type 0 where
   pub count : ℕ
   pub more : ℕ
 
+abbrev pub packing : List ℕ → List Head → ℕ → ℕ → Packing
+packing bytes heads count more = record { bytes = bytes; heads = heads; count = count; more = more }
+
 -- The arrays begin with the keys and the heads of the first pairs, of as many as have keys that fit into the bytes, and are otherwise
 -- as they were. There is a further pair if the scan found one, or if one didn't fit.
 pub record IsPackListed (pairs : List (List ℕ × ℕ)) (is_more : Bool) (before after : Packing) : Type 0 where

@@ -57,6 +57,9 @@ pub record Listing : Type 0 where
   pub count : ℕ
   pub more : ℕ
 
+abbrev pub listing : List Pair → ℕ → ℕ → Listing
+listing room count more = record { room = room; count = count; more = more }
+
 -- the array begins with the scan's pairs, for which it has room, and is otherwise as it was
 pub record IsArrayListed (pairs : List (List ℕ × ℕ)) (is_more : Bool) (before after : Listing) : Type 0 where
   pub short : length pairs ≤ length before.room

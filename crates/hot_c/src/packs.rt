@@ -1,7 +1,7 @@
 //! The scan of a range whose pairs are packed, for programs in C.
 
 ghost use Rattle.std.specs.Prelude.{◌≡◌, ◌≤◌, ◌++◌, drop, length, map};
-ghost use Rattle.hot_c.specs.Packs.{ListsPacked};
+ghost use Rattle.hot_c.specs.Packs.{ListsPacked, packing};
 ghost use Rattle.packed_pairs.specs.Parts.{packed_head, keys_in};
 
 use crate::handle::Handle;
@@ -25,9 +25,7 @@ pub extern "C" fn hot_scan_packed(
     count: &mut usize,
     more: &mut u32,
 ) -> u32
-    ensures call { ListsPacked from.now upto.now handle.old.slot.opened handle.new.slot.opened
-        (record { bytes = bytes.old; heads = heads.old; count = count.old; more = more.old })
-        (record { bytes = bytes.new; heads = heads.new; count = count.new; more = more.new }) result }
+    ensures call { ListsPacked from.now upto.now handle.old.slot.opened handle.new.slot.opened (packing bytes.old heads.old count.old more.old) (packing bytes.new heads.new count.new more.new) result }
 {
     match fill(alloc, handle, Order::Rising, from, upto, heads.len()) {
         Ok((found, is_more)) => {

@@ -2,7 +2,7 @@
 
 ghost use Rattle.std.specs.Prelude.{◌<◌, ◌^◌, IfErr, IfOk};
 ghost use Rattle.hot_c.specs.Orders.{IsFilledIn, IsListedIn};
-ghost use Rattle.hot_c.specs.Scans.{HasFilled, Lists, ListsBy, ListsLast, ListsNothing, ListsReverse};
+ghost use Rattle.hot_c.specs.Scans.{HasFilled, Lists, ListsBy, ListsLast, ListsNothing, ListsReverse, listing};
 
 use crate::handle::Handle;
 use crate::pairs::{Order, Pair, write_in};
@@ -22,8 +22,7 @@ pub extern "C" fn hot_scan(
     count: &mut usize,
     more: &mut u32,
 ) -> u32
-    ensures call { Lists from.now upto.now handle.old.slot.opened handle.new.slot.opened
-        (record { room = room.old; count = count.old; more = more.old }) (record { room = room.new; count = count.new; more = more.new }) result }
+    ensures call { Lists from.now upto.now handle.old.slot.opened handle.new.slot.opened (listing room.old count.old more.old) (listing room.new count.new more.new) result }
 {
     list(alloc, handle, Order::Rising, from, upto, room, count, more)
 }
@@ -40,8 +39,7 @@ pub extern "C" fn hot_scan_reverse(
     count: &mut usize,
     more: &mut u32,
 ) -> u32
-    ensures call { ListsReverse from.now upto.now handle.old.slot.opened handle.new.slot.opened
-        (record { room = room.old; count = count.old; more = more.old }) (record { room = room.new; count = count.new; more = more.new }) result }
+    ensures call { ListsReverse from.now upto.now handle.old.slot.opened handle.new.slot.opened (listing room.old count.old more.old) (listing room.new count.new more.new) result }
 {
     list(alloc, handle, Order::Falling, from, upto, room, count, more)
 }
@@ -58,8 +56,7 @@ pub extern "C" fn hot_scan_last(
     count: &mut usize,
     more: &mut u32,
 ) -> u32
-    ensures call { ListsLast from.now upto.now handle.old.slot.opened handle.new.slot.opened
-        (record { room = room.old; count = count.old; more = more.old }) (record { room = room.new; count = count.new; more = more.new }) result }
+    ensures call { ListsLast from.now upto.now handle.old.slot.opened handle.new.slot.opened (listing room.old count.old more.old) (listing room.new count.new more.new) result }
 {
     list(
         alloc,
@@ -84,8 +81,7 @@ fn list(
     count: &mut usize,
     more: &mut u32,
 ) -> u32
-    ensures { ListsBy (IsListedIn order) from.now upto.now handle.old.slot.opened handle.new.slot.opened
-        (record { room = room.old; count = count.old; more = more.old }) (record { room = room.new; count = count.new; more = more.new }) result }
+    ensures { ListsBy (IsListedIn order) from.now upto.now handle.old.slot.opened handle.new.slot.opened (listing room.old count.old more.old) (listing room.new count.new more.new) result }
 {
     match fill(alloc, handle, order, from, upto, room.len()) {
         Ok((found, is_more)) => {
