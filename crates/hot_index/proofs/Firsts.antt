@@ -5,9 +5,11 @@ use Rattle.std.specs.Option.{option_to_list}
 use Rattle.finite_map.specs.declared.Scan.{Scan}
 use Rattle.record_words.specs.declared.layout.Layout.{Layout}
 use Rattle.tries.specs.Keys.{Key}
-use Rattle.hot_index.specs.Answers.{IsListed}
+use Rattle.rowex_scanning.specs.Directions.{IsLawfulBy}
+use Rattle.rowex_scanning.specs.declared.direction.Direction.{Direction}
+use Rattle.rowex_scanning.specs.declared.direction.Direction.TheVariants.{Upwards, Downwards}
+use Rattle.hot_index.specs.Answers.{IsListedBy}
 use Rattle.hot_index.specs.Passes.{PassView}
-use Rattle.hot_index.specs.Reverse.{IsReverseListed}
 
 nothing : (found : Option (Key × ℕ)) → found ≡ None → IsSome found → ⊥
 nothing found e is = cc
@@ -21,10 +23,7 @@ only items (y ∷ ys) (Some pair) e few some =
     let n : length items ≡ length ((y ∷ ys) ++ pair ∷ []) = ap length e in let m = length-append (y ∷ ys) (pair ∷ []) in absurd (omega (arith, n, m, few))
 
 -- a scan of one pair at most lists one at most
-pub one_at_most : {layout : Layout} {k j : PassView} {from upto : Key} {pairs : List (Key × ℕ)} {more : Bool} → IsListed layout k j from upto 1 pairs more →
+pub one_at_most : (d : Direction) {layout : Layout} {k j : PassView} {from upto : Key} {pairs : List (Key × ℕ)} {more : Bool} → IsListedBy (IsLawfulBy d) layout k j from upto 1 pairs more →
     (scan : Scan) → scan.pairs.items ≡ pairs → scan.more ≡ more → length pairs ≤ 1
-one_at_most h scan same last = subst (λ (l : List (Key × ℕ)). length l ≤ 1) same (h.lawful scan same last).short
-
-pub last_at_most : {layout : Layout} {k j : PassView} {from upto : Key} {pairs : List (Key × ℕ)} {more : Bool} → IsReverseListed layout k j from upto 1 pairs more →
-    (scan : Scan) → scan.pairs.items ≡ pairs → scan.more ≡ more → length pairs ≤ 1
-last_at_most h scan same last = subst (λ (l : List (Key × ℕ)). length l ≤ 1) same (h.lawful scan same last).short
+one_at_most Upwards h scan same last = subst (λ (l : List (Key × ℕ)). length l ≤ 1) same (h.lawful scan same last).short
+one_at_most Downwards h scan same last = subst (λ (l : List (Key × ℕ)). length l ≤ 1) same (h.lawful scan same last).short

@@ -14,7 +14,7 @@ use Rattle.rowex_core.specs.Knowing.{IsEvent}
 use Rattle.rowex_reading.proofs.Loading.{pinned_by}
 use Rattle.rowex_reading.specs.Seen.{Sure, seen, since}
 use Rattle.rowex_scanning.proofs.Scanned.{lawful_scan}
-use Rattle.rowex_scanning.specs.Directions.{IsAnswer}
+use Rattle.rowex_scanning.specs.Directions.{IsAnswer, IsLawfulBy}
 use Rattle.rowex_scanning.specs.Scanning.{HasScanned, HasScannedPart, limited}
 use Rattle.rowex_scanning.specs.declared.direction.Direction.{Direction}
 use Rattle.rowex_scanning.specs.declared.direction.Direction.TheVariants.{Upwards, Downwards}
@@ -22,9 +22,8 @@ use Rattle.rowex_table.specs.Runs.{silent}
 use Rattle.rowex_table.specs.Seats.{SeatView}
 use Rattle.rowex_walks.specs.Scan.{IsInRange, Pair, Range}
 use Rattle.tries.specs.Keys.{Key}
-use Rattle.hot_index.specs.Answers.{GoesOn, HasFoundPair, IsListed}
+use Rattle.hot_index.specs.Answers.{GoesOn, HasFoundPair, IsListedBy}
 use Rattle.hot_index.specs.Passes.{PassView, pass_of}
-use Rattle.hot_index.specs.Reverse.{IsReverseListed}
 use Rattle.hot_index.proofs.Noting.{HasLooked, goes_on}
 
 -- a scan with these pairs
@@ -48,12 +47,10 @@ module _ {layout : Layout} {k j : PassView} {from upto : Key} {limit : ℕ} wher
     held = All-head (λ (e : Key × ℕ). IsHeldBetween j.fresh.front j.front e.0 e.1) e pairs held;
   }
 
-  pub listed_found : {pairs : List (Key × ℕ)} {more : Bool} → IsListed layout k j from upto limit pairs more → pairs ≢ [] → length pairs < 2 ^ 63 → HasFoundPair layout k j from upto limit
-  listed_found {pairs = pairs} {more = more} h some small =
+  pub listed_found : (d : Direction) {pairs : List (Key × ℕ)} {more : Bool} → IsListedBy (IsLawfulBy d) layout k j from upto limit pairs more → pairs ≢ [] → length pairs < 2 ^ 63 → HasFoundPair layout k j from upto limit
+  listed_found Upwards {pairs = pairs} {more = more} h some small =
       let l = h.lawful (scan_of pairs more small) refl refl in first_found pairs h.on some l.short l.within l.held
-
-  pub reverse_listed_found : {pairs : List (Key × ℕ)} {more : Bool} → IsReverseListed layout k j from upto limit pairs more → pairs ≢ [] → length pairs < 2 ^ 63 → HasFoundPair layout k j from upto limit
-  reverse_listed_found {pairs = pairs} {more = more} h some small =
+  listed_found Downwards {pairs = pairs} {more = more} h some small =
       let l = h.lawful (scan_of pairs more small) refl refl in first_found pairs h.on some l.short l.within l.held
 
 -- The pass has looked since it was settled, and clears the pin now; it is sure that a key of the range was held since its last load of the

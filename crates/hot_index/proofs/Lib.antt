@@ -6,6 +6,7 @@ pub mod ManyNoted
 pub mod Scanned
 pub mod Found
 pub mod Firsts
+pub mod Reading
 pub mod Collected
 pub mod Counted
 pub mod Conflicts

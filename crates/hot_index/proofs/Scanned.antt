@@ -19,13 +19,11 @@ use Rattle.rowex_table.specs.Seats.{SeatView, TableView}
 use Rattle.rowex_walks.specs.Scan.{Range}
 use Rattle.tries.specs.Keys.{Key}
 use Rattle.hot_index.specs.Passes.{PassView, IsSettled, pass_of}
-use Rattle.hot_index.specs.Answers.{IsListed, IsScanned, IsUnnoted}
+use Rattle.hot_index.specs.Answers.{IsListedBy, IsScannedBy, IsUnnoted, ScanLaw}
 use Rattle.rowex_scanning.specs.Directions.{IsLawfulBy}
 use Rattle.rowex_scanning.specs.Scanning.{HasScanned}
 use Rattle.rowex_scanning.specs.declared.direction.Direction.{Direction}
-use Rattle.rowex_scanning.specs.declared.direction.Direction.TheVariants.{Upwards, Downwards}
 use Rattle.rowex_scanning.proofs.Scanned.{lawful_scan}
-use Rattle.hot_index.specs.Reverse.{IsListedBy, IsReverseListed, IsReverseScanned}
 use Rattle.hot_index.proofs.Noting.{HasLooked, goes_on, legal_front, settles}
 use Rattle.rowex_reading.proofs.Loading.{pinned_by}
 
@@ -39,14 +37,13 @@ pub if_refused : {A : Type 0} (r : Result A AllocError) (Q : Type 0) → Q → O
 if_refused (Ok answer) Q h = tt
 if_refused (Err e) Q h = h
 
--- A list has the pairs of a scan, or they are not copied, for want of memory.
-module _ {layout : Layout} {k j : PassView} {from upto : Key} {limit : ℕ} {pairs : List (Key × ℕ)} {more : Bool} (h : IsListed layout k j from upto limit pairs more) where
-  pub listed_scanned : (scan : Scan) → scan.pairs.items ≡ pairs → scan.more ≡ more → IsScanned layout k j from upto limit scan
+-- A list has the pairs of a scan.
+module _ {IsLawful : ScanLaw} {layout : Layout} {k j : PassView} {from upto : Key} {limit : ℕ} {pairs : List (Key × ℕ)} {more : Bool} (h : IsListedBy IsLawful layout k j from upto limit pairs more) where
+  pub listed_scanned : (scan : Scan) → scan.pairs.items ≡ pairs → scan.more ≡ more → IsScannedBy IsLawful layout k j from upto limit scan
   listed_scanned scan same last = record { on = h.on; notes = h.notes; lawful = h.lawful scan same last; legal = h.legal }
 
-module _ {layout : Layout} {k j : PassView} {from upto : Key} {limit : ℕ} {pairs : List (Key × ℕ)} {more : Bool} (h : IsReverseListed layout k j from upto limit pairs more) where
-  pub reverse_listed_scanned : (scan : Scan) → scan.pairs.items ≡ pairs → scan.more ≡ more → IsReverseScanned layout k j from upto limit scan
-  reverse_listed_scanned scan same last = record { on = h.on; notes = h.notes; lawful = h.lawful scan same last; legal = h.legal }
+  pub listed_unnoted : IsUnnoted layout k j
+  listed_unnoted = record { number = h.on.number; front = h.on.front; notes = h.notes; legal = h.legal; makers = h.on.makers }
 
 -- The pass was settled, has looked since, and clears the pin now.
 module _ {layout : Layout} {i : Known} (s t : SeatView) (settled : IsSettled s.known) (looks : HasLooked s.known i) (event : IsEvent layout ClearPin silent i t.known) where
@@ -70,16 +67,17 @@ module _ {layout : Layout} {i : Known} (s t : SeatView) (settled : IsSettled s.k
   scan_refused = let on = goes_on s t looks.on event in record { number = on.number; front = on.front; notes = notes_stay; legal = legal_then; makers = on.makers }
 
   pub scan_answered : (d : Direction) (g : Range) → IsKey g.from × IsKey g.upto → IsSome i.pin → (pairs : List (Key × ℕ)) (more : Bool) → HasScanned d i g pairs more →
-      IsListedBy d layout (pass_of s) (pass_of t) g.from g.upto g.limit pairs more
-  scan_answered d g keys is pairs more h = by d (λ scan same last.
-      let p = pinned_by i.pin is in
-      let listed = subst (λ z. HasScanned d i g z scan.more) (sym same) (subst (λ z. HasScanned d i g pairs z) (sym last) h) in
-      subst (λ (z : Known). IsLawfulBy d z.fresh.front z.front g.from g.upto g.limit scan) (sym event.learned_is) (lawful_scan d i g scan layout silent t.known keys.0 keys.1 p.0 p.1 listed event))
-    where
-      by : (d : Direction) → ((scan : Scan) → scan.pairs.items ≡ pairs → scan.more ≡ more → IsLawfulBy d t.known.fresh.front t.known.front g.from g.upto g.limit scan) →
-          IsListedBy d layout (pass_of s) (pass_of t) g.from g.upto g.limit pairs more
-      by Upwards lawful = record { on = goes_on s t looks.on event; notes = notes_stay; lawful = lawful; legal = legal_then }
-      by Downwards lawful = record { on = goes_on s t looks.on event; notes = notes_stay; lawful = lawful; legal = legal_then }
+      IsListedBy (IsLawfulBy d) layout (pass_of s) (pass_of t) g.from g.upto g.limit pairs more
+  scan_answered d g keys is pairs more h = record {
+    on = goes_on s t looks.on event;
+    notes = notes_stay;
+    lawful =
+        λ scan same last.
+        let p = pinned_by i.pin is in
+        let listed = subst (λ z. HasScanned d i g z scan.more) (sym same) (subst (λ z. HasScanned d i g pairs z) (sym last) h) in
+        subst (λ (z : Known). IsLawfulBy d z.fresh.front z.front g.from g.upto g.limit scan) (sym event.learned_is) (lawful_scan d i g scan layout silent t.known keys.0 keys.1 p.0 p.1 listed event);
+    legal = legal_then;
+  }
 
 -- The steps of a scan: pinned by two, unpinned by one.
 pub scan_counted : {G : Type 0} {table : TableView} {becomes : G → Event → G → Type 0} {a b c d : SeatView × G} {said : Known → List Note} (loads : ℕ) → Pins table becomes a b →

@@ -1,10 +1,10 @@
 -- What an attempt to change the map leaves: it is noted where it was answered, and has changed nothing where it was refused.
-use Rattle.std.proofs.Common.{◌≡◌, ◌⊎◌, inl, inr, ⊎_elim, ℕ, ◌+◌, ◌-◌, ◌<◌, ◌≤◌, List, [], ◌∷◌, ◌++◌, length, take, true, false, Option, Some, None, IsSome, Result, Ok, Err, refl, sym, ap, subst, ◌∙◌, arith, le_trans, length-append}
+use Rattle.std.proofs.Common.{◌≡◌, ◌≢◌, ◌⊎◌, inl, inr, ⊎_elim, ℕ, ◌+◌, ◌-◌, ◌<◌, ◌≤◌, List, [], ◌∷◌, ◌++◌, length, take, true, false, Option, Some, None, IsSome, Result, Ok, Err, refl, sym, ap, subst, ◌∙◌, arith, le_trans, length-append}
 use Rattle.std.specs.Prelude.{All, IfOk, IfErr, MatchResult, is_some}
 use Rattle.std.proofs.lemmas.Bool.{eq-eqb, ne_eqb}
 use Rattle.std.proofs.lemmas.List.Elements.{All-head, All-tail}
 use Rattle.finite_map.specs.declared.Call.{Call}
-use Rattle.finite_map.specs.declared.Call.TheVariants.{Insert as InsertCall, Upsert as UpsertCall, Exchange as ExchangeCall, Remove as RemoveCall, RemoveIf as RemoveIfCall}
+use Rattle.finite_map.specs.declared.Call.TheVariants.{Get, Insert as InsertCall, Upsert as UpsertCall, Exchange as ExchangeCall, Remove as RemoveCall, RemoveIf as RemoveIfCall}
 use Rattle.finite_map.specs.declared.Change.{Change}
 use Rattle.finite_map.specs.declared.Note.{Note}
 use Rattle.finite_map.specs.declared.Reply.{Reply}
@@ -34,27 +34,31 @@ use Rattle.rowex_table.proofs.Running.{runs_same}
 use Rattle.rowex_records.specs.Claims.{AllMissed, HasMissed}
 use Rattle.rowex_rights.specs.Ending.{IsAtRest}
 use Rattle.epochs.specs.Runs.{Pins}
+use Rattle.rowex_writing.specs.Asking.{aim_of}
 use Rattle.rowex_writing.specs.Attempts as tries
 use Rattle.rowex_writing.specs.Attempts.{HasAnswered, HasLoadedRoot, HasRefused, IsChangeOf, asked_call}
 use Rattle.rowex_writing.specs.Changes.{HasChanged, HasTried}
 use Rattle.rowex_writing.specs.Locks.{HasMetLock, HasMetTaken}
+use Rattle.rowex_writing.specs.declared.plan.Aim.TheVariants.{Remove as ToRemove}
 use Rattle.rowex_writing.specs.declared.plan.Ask.{Ask}
 use Rattle.rowex_writing.specs.declared.plan.Full.{Full}
+use Rattle.rowex_writing.specs.declared.plan.Full.TheVariants.{Leaves as OfLeaves}
 use Rattle.rowex_writing.specs.declared.plan.Ask.TheVariants.{Insert, Upsert, Exchange, Remove, RemoveIf}
 use Rattle.rowex_writing.specs.declared.attempts.TryFault.{TryFault}
 use Rattle.rowex_writing.specs.declared.attempts.TryFault.TheVariants.{Busy, FullNodes, FullLeaves}
 use Rattle.epochs.specs.Rounds.{IsRound}
-use Rattle.hot_index.specs.Answers.{IsCause, IsNoted, IsRefused, IsUnnoted, fault_of}
+use Rattle.hot_index.specs.Answers.{IsCause, IsLeafless, IsNoted, IsRefused, IsUnnoted, fault_of}
 use Rattle.hot_index.specs.Asked.{HasAsked, HasReplied, last_try}
+use Rattle.hot_index.specs.Calls.{IsAwaited, IsTriedWith}
 use Rattle.hot_index.specs.Counts.{once_steps, try_steps, twice_steps}
 use Rattle.hot_index.specs.Noting.{change_notes, place_by}
 use Rattle.hot_index.specs.Passes.{IsSettled, Owns, PassView, pass_of}
-use Rattle.hot_index.specs.Traces.{AreAttempts, AreTries, HasMade, HasStepped, HasTold, IsAttempt, Tidies, is_full}
+use Rattle.hot_index.specs.Traces.{AreAttempts, AreTries, HasMade, HasStepped, HasTold, IsAttempt, Tidies, is_full, untold}
 use Rattle.hot_index.proofs.Noting.{HasGoneOn, HasLooked, WasRight, event_makers, found_had, goes_on, legal_front, longer, noted, settles, note_of}
 use Rattle.hot_index.proofs.Conflicts.{conflict_on, overtaken}
 use Rattle.hot_index.proofs.Collected.{round_unnoted, small_few, small_later, small_unnoted}
 use Rattle.hot_index.proofs.Scanned.{scan_refused, scan_settled}
-use Rattle.hot_index.proofs.Tracing.{ended_once, ended_tidied, has_made, has_told}
+use Rattle.hot_index.proofs.Tracing.{ended_once, ended_tidied, has_made, has_told, made_untold}
 
 -- Replies
 
@@ -264,7 +268,7 @@ module _ {G : Type 0} {table : TableView} {becomes : G → Event → G → Type 
       let later = small_later small in
       let both = outcome_then table.layout (pass_of a.0) (pass_of b.0) (pass_of c.0) (small_unnoted small settled) later call r asked.replied.noted asked.replied.refused in
       record {
-        replied = record { idle = asked.replied.idle; noted = both.0; refused = both.1; loaded = le_trans later asked.replied.loaded };
+        replied = record { idle = asked.replied.idle; noted = both.0; refused = both.1; leafless = asked.replied.leafless; loaded = le_trans later asked.replied.loaded };
         ended = ended_tidied table becomes a b c (inr small) asked.ended;
         later = le_trans later asked.later;
         few = omega (arith, asked.few, count);
@@ -285,10 +289,11 @@ waited_out table s m t call r (inl none) last = record {
   idle = last.idle;
   noted = subst (λ (z : PassView). IfOk r (IsNoted table.layout z (pass_of t) call)) none last.noted;
   refused = subst (λ (z : PassView). IfErr r (IsRefused table.layout call z (pass_of t))) none last.refused;
+  leafless = last.leafless;
   loaded = subst (λ (z : PassView). z.steps ≤ t.known.fresh.step) none last.loaded;
 }
 waited_out table s m t call r (inr some) last =
-    let both = outcome_then table.layout (pass_of s) (pass_of m) (pass_of t) some.0 some.1 call r last.noted last.refused in record { idle = last.idle; noted = both.0; refused = both.1; loaded = le_trans some.1 last.loaded }
+    let both = outcome_then table.layout (pass_of s) (pass_of m) (pass_of t) some.0 some.1 call r last.noted last.refused in record { idle = last.idle; noted = both.0; refused = both.1; leafless = last.leafless; loaded = le_trans some.1 last.loaded }
 
 -- a call is of the key that it is asked with
 called_key : (ask : Ask) (key : Key) (value : ℕ) → key_of (asked_call ask key value) ≡ key
@@ -429,12 +434,32 @@ module _ {G : Type 0} {table : TableView} {becomes : G → Event → G → Type 
       let cleared : d.0.known.steps ≡ c.0.known.steps + 1 = ap (λ (z : Known). z.steps) step.event.learned_is in
       omega (arith, counted, loaded.from, loaded.upto, cleared)
 
+-- a removal that is never full of leaves
+pub leafless_asked : {F : Type 0} (leaves : F) (ask : Ask) (key : Key) (value : ℕ) (r : Result Reply F) → (aim_of ask ≡ ToRemove → r ≢ Err leaves) → IsLeafless leaves (asked_call ask key value) r
+leafless_asked leaves Insert key value r h = tt
+leafless_asked leaves Upsert key value r h = tt
+leafless_asked leaves (Exchange expected) key value r h = tt
+leafless_asked leaves Remove key value r h = h refl
+leafless_asked leaves (RemoveIf expected) key value r h = h refl
+
+waited_leafless : (call : Call) (r : Result Reply Full) → IsLeafless FullLeaves call (last_try r) → IsLeafless OfLeaves call r
+waited_leafless (Get key) r h = tt
+waited_leafless (InsertCall key value) r h = tt
+waited_leafless (UpsertCall key value) r h = tt
+waited_leafless (ExchangeCall key expected value) r h = tt
+waited_leafless (RemoveCall key) r h = λ is. h (ap last_try is)
+waited_leafless (RemoveIfCall key expected) r h = λ is. h (ap last_try is)
+
+-- nobody need be told
+pub tried_untold : {G : Type 0} {call : Call} {r : Result Reply TryFault} {index : TableView} {becomes : G → Event → G → Type 0} {a b : PassView × G} → IsTriedWith call r index becomes a b → IsTriedWith call r index untold (a.0, tt) (b.0, tt)
+tried_untold x = record { own = x.own; call = x.call; made = made_untold _ _ _ _ _ x.made; leafless = x.leafless }
+
 -- A call on the seat of a pass of an index, as the index and the pass see it.
 module _ {table index : TableView} {k : PassView} {s t : SeatView} {call : Call} (index_is : table ≡ index) (pass_is : pass_of s ≡ k) where
-  pub replied_own : {r : Result Reply TryFault} → HasReplied table call r s t → Owns index (pass_of t)
+  replied_own : {r : Result Reply TryFault} → HasReplied table call r s t → Owns index (pass_of t)
   replied_own h = h.idle.0 ∙ ap (λ (z : TableView). z.id) index_is
 
-  pub replied_call : (r : Result Reply TryFault) → HasReplied table call r s t → MatchResult r (IsNoted index.layout k (pass_of t) call) (IsRefused index.layout call k (pass_of t))
+  replied_call : (r : Result Reply TryFault) → HasReplied table call r s t → MatchResult r (IsNoted index.layout k (pass_of t) call) (IsRefused index.layout call k (pass_of t))
   replied_call r h = subst (λ (x : TableView × PassView). MatchResult r (IsNoted x.0.layout x.1 (pass_of t) call) (IsRefused x.0.layout call x.1 (pass_of t))) (λ e. (index_is e, pass_is e)) (both r h.noted h.refused)
     where
       both : (r : Result Reply TryFault) → IfOk r (IsNoted table.layout (pass_of s) (pass_of t) call) → IfErr r (IsRefused table.layout call (pass_of s) (pass_of t)) →
@@ -442,15 +467,22 @@ module _ {table index : TableView} {k : PassView} {s t : SeatView} {call : Call}
       both (Ok reply) noted refused = noted
       both (Err fault) noted refused = refused
 
-  pub waited_call : (r : Result Reply Full) → HasReplied table call (last_try r) s t →
+  waited_call : (r : Result Reply Full) → HasReplied table call (last_try r) s t →
       MatchResult r (IsNoted index.layout k (pass_of t) call) (λ full. IsRefused index.layout call k (pass_of t) (fault_of full))
   waited_call (Ok reply) h = replied_call (Ok reply) h
   waited_call (Err full) h = replied_call (Err (fault_of full)) h
 
-  pub asked_made : {G : Type 0} {becomes : G → Event → G → Type 0} {g h : G} {r : Result Reply TryFault} → HasAsked table becomes (AreAttempts table.layout r) (try_steps table.layout) call r (s, g) (t, h) →
-      HasMade index becomes r (k, g) (pass_of t, h)
-  asked_made {becomes = becomes} {g = g} {h = h} {r = r} asked =
-      subst (λ (x : TableView × PassView). HasMade x.0 becomes r (x.1, g) (pass_of t, h)) (λ e. (index_is e, pass_is e)) (has_made table becomes (s, g) (t, h) asked.ended asked.few asked.replied.loaded)
+  pub tried_seen : {G : Type 0} {becomes : G → Event → G → Type 0} {g h : G} {r : Result Reply TryFault} → HasAsked table becomes (AreAttempts table.layout r) (try_steps table.layout) call r (s, g) (t, h) →
+      IsTriedWith call r index becomes (k, g) (pass_of t, h)
+  tried_seen {becomes = becomes} {g = g} {h = h} {r = r} asked = record {
+    own = replied_own asked.replied;
+    call = replied_call r asked.replied;
+    made = subst (λ (x : TableView × PassView). HasMade x.0 becomes r (x.1, g) (pass_of t, h)) (λ e. (index_is e, pass_is e)) (has_made table becomes (s, g) (t, h) asked.ended asked.few asked.replied.loaded);
+    leafless = asked.replied.leafless;
+  }
+
+  pub awaited_seen : {r : Result Reply Full} → HasReplied table call (last_try r) s t → IsAwaited call r index k (pass_of t)
+  awaited_seen {r = r} replied = record { own = replied_own replied; call = waited_call r replied; leafless = waited_leafless call r replied.leafless }
 
 -- and its steps, as the index and the pass see them
 pub stepped_told : {table index : TableView} {k : PassView} {s t : SeatView} {G : Type 0} {becomes : G → Event → G → Type 0} {g h : G} {said : Known → List Note} → table ≡ index → pass_of s ≡ k →

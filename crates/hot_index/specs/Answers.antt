@@ -1,5 +1,6 @@
 -- What calls of an index say.
-use Rattle.std.specs.Prelude.{◌≡◌, ◌≢◌, ◌⊎◌, ℕ, ◌<◌, ◌≤◌, List, [], ◌∷◌, ◌++◌, length, slice_get, Bool, true, IsTrue, Option, Some, None}
+use Rattle.std.specs.Prelude.{◌≡◌, ◌≢◌, ◌⊎◌, ℕ, ◌<◌, ◌≤◌, List, [], ◌∷◌, ◌++◌, length, slice_get, Bool, true, IsTrue, Option, Some, None, Result, Err}
+use Rattle.std.specs.Option.{option_to_list}
 use Rattle.finite_map.specs.declared.Change.{Change}
 use Rattle.finite_map.specs.declared.Call.{Call}
 use Rattle.finite_map.specs.declared.Call.TheVariants.{Insert, Upsert, Exchange, Get, Remove, RemoveIf}
@@ -47,24 +48,42 @@ pub record IsNoted (layout : Layout) (k j : PassView) (call : Call) (reply : Rep
   pub high : place ≤ length j.front
   pub legal : LegalCalls j.front j.number j.notes
 
+-- when a scan of a range, with this limit, is lawful while one front grew to another: upwards or downwards
+abbrev pub ScanLaw : Type 1
+ScanLaw = List Change → List Change → Key → Key → ℕ → Scan → Type 0
+
 -- A scan was answered: it is lawful from the last load of the root to what the pass has seen now, and adds no note.
-pub record IsScanned (layout : Layout) (k j : PassView) (from upto : Key) (limit : ℕ) (scan : Scan) : Type 0 where
+pub record IsScannedBy (IsLawful : ScanLaw) (layout : Layout) (k j : PassView) (from upto : Key) (limit : ℕ) (scan : Scan) : Type 0 where
   pub on : GoesOn layout k j
   pub notes : j.notes ≡ k.notes
-  pub lawful : IsLawfulScan j.fresh.front j.front from upto limit scan
+  pub lawful : IsLawful j.fresh.front j.front from upto limit scan
   pub legal : LegalCalls j.front j.number j.notes
 
 -- A scan into a list was answered, whether there is a further key. It adds no note; and a scan with these pairs is lawful from the
 -- last load of the root to what the pass has seen now.
-pub record IsListed (layout : Layout) (k j : PassView) (from upto : Key) (limit : ℕ) (pairs : List (Key × ℕ)) (more : Bool) : Type 0 where
+pub record IsListedBy (IsLawful : ScanLaw) (layout : Layout) (k j : PassView) (from upto : Key) (limit : ℕ) (pairs : List (Key × ℕ)) (more : Bool) : Type 0 where
   pub on : GoesOn layout k j
   pub notes : j.notes ≡ k.notes
-  pub lawful : (scan : Scan) → scan.pairs.items ≡ pairs → scan.more ≡ more → IsLawfulScan j.fresh.front j.front from upto limit scan
+  pub lawful : (scan : Scan) → scan.pairs.items ≡ pairs → scan.more ≡ more → IsLawful j.fresh.front j.front from upto limit scan
   pub legal : LegalCalls j.front j.number j.notes
 
 -- A scan into a list was refused memory: it is answered as one that was cut at the number of its pairs, which are fewer than the limit.
+abbrev pub IsListedInPartBy : ScanLaw → Layout → PassView → PassView → Key → Key → ℕ → List (Key × ℕ) → Type 0
+IsListedInPartBy IsLawful layout k j from upto limit pairs = (length pairs < limit) × IsListedBy IsLawful layout k j from upto (length pairs) pairs true
+
+-- a scan for one pair found this one, or found none
+abbrev pub IsFoundBy : ScanLaw → Layout → PassView → PassView → Key → Key → Option (Key × ℕ) → Type 0
+IsFoundBy IsLawful layout k j from upto found = (more : Bool) × IsListedBy IsLawful layout k j from upto 1 (option_to_list found) more
+
+-- the same of scans upwards
+abbrev pub IsScanned : Layout → PassView → PassView → Key → Key → ℕ → Scan → Type 0
+IsScanned = IsScannedBy IsLawfulScan
+
+abbrev pub IsListed : Layout → PassView → PassView → Key → Key → ℕ → List (Key × ℕ) → Bool → Type 0
+IsListed = IsListedBy IsLawfulScan
+
 abbrev pub IsListedInPart : Layout → PassView → PassView → Key → Key → ℕ → List (Key × ℕ) → Type 0
-IsListedInPart layout k j from upto limit pairs = (length pairs < limit) × IsListed layout k j from upto (length pairs) pairs true
+IsListedInPart = IsListedInPartBy IsLawfulScan
 
 -- A scan was refused memory, which it needed for a pair: the limit allows one, and a key of the range was in the index at a moment from
 -- the last load of the root to what the pass has seen now.
@@ -128,6 +147,12 @@ MayLack (Remove key) Nodes = Unit {0}
 MayLack (Remove key) Leaves = ⊥
 MayLack (RemoveIf key expected) Nodes = Unit {0}
 MayLack (RemoveIf key expected) Leaves = ⊥
+
+-- a removal is never refused for want of a leaf record
+abbrev pub IsLeafless : {F : Type 0} → F → Call → Result Reply F → Type 0
+IsLeafless leaves (Remove key) result = result ≢ Err leaves
+IsLeafless leaves (RemoveIf key expected) result = result ≢ Err leaves
+IsLeafless leaves asked result = Unit {0}
 
 -- Two passes have met: both have seen one list of changes, which begins with what each had seen; the calls of both are legal
 -- in it, and stand together in one sequential history.

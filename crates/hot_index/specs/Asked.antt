@@ -7,8 +7,9 @@ use Rattle.rowex_core.specs.declared.event.Event.{Event}
 use Rattle.rowex_table.specs.Runs.{silent}
 use Rattle.rowex_table.specs.Seats.{TableView, SeatView, IsSeatOf}
 use Rattle.rowex_writing.specs.declared.attempts.TryFault.{TryFault}
+use Rattle.rowex_writing.specs.declared.attempts.TryFault.TheVariants.{FullLeaves}
 use Rattle.rowex_writing.specs.declared.plan.Full.{Full}
-use Rattle.hot_index.specs.Answers.{IsNoted, IsRefused, IsUnnoted, fault_of}
+use Rattle.hot_index.specs.Answers.{IsLeafless, IsNoted, IsRefused, IsUnnoted, fault_of}
 use Rattle.hot_index.specs.Noting.{change_notes}
 use Rattle.hot_index.specs.Passes.{IsSettled, pass_of}
 use Rattle.hot_index.specs.Traces.{HasEnded, IsAttempt}
@@ -22,6 +23,7 @@ pub record HasReplied (table : TableView) (call : Call) (result : Result Reply T
   pub idle : IsIdle table t
   pub noted : IfOk result (IsNoted table.layout (pass_of s) (pass_of t) call)
   pub refused : IfErr result (IsRefused table.layout call (pass_of s) (pass_of t))
+  pub leafless : IsLeafless FullLeaves call result
   pub loaded : s.known.steps ≤ t.known.fresh.step
 
 -- And it has made such steps, so many at most.

@@ -11,5 +11,6 @@ pub mod Reverse
 pub mod Cursors
 pub mod Asked
 pub mod Stamps
+pub mod Calls
 pub mod Handles
 pub mod Statements

@@ -1,7 +1,7 @@
 -- What a call for a first pair says.
-use Rattle.std.specs.Prelude.{ℕ, [], Bool, Option}
-use Rattle.std.specs.Option.{option_to_list}
-use Rattle.hot_index.specs.Answers.{IsListed}
+use Rattle.std.specs.Prelude.{ℕ, [], Option}
+use Rattle.finite_map.specs.Scans.{IsLawfulScan}
+use Rattle.hot_index.specs.Answers.{IsFoundBy}
 use Rattle.hot_index.specs.Passes.{PassView}
 use Rattle.key_ranges.specs.Ranges.{last_with}
 use Rattle.record_words.specs.declared.layout.Layout.{Layout}
@@ -9,4 +9,4 @@ use Rattle.tries.specs.Keys.{Key}
 
 -- The first pair from the key on was asked for: a scan of one pair, of the keys from this one to the last key of all, has found it.
 abbrev pub IsFirstFound : Layout → PassView → PassView → Key → Option (Key × ℕ) → Type 0
-IsFirstFound layout k j from found = (more : Bool) × IsListed layout k j from (last_with []) 1 (option_to_list found) more
+IsFirstFound layout k j from found = IsFoundBy IsLawfulScan layout k j from (last_with []) found

@@ -1,4 +1,4 @@
-//! A call that is given as a value, tried once or twice: it never blocks.
+//! A call that is given as a value: tried once or twice, or made in the end.
 
 ghost use Rattle.std.specs.Prelude.{◌≡◌, ◌+◌, ◌≤◌, IfErr, MatchResult};
 ghost use Rattle.rowex_writing.specs.declared.plan.Full.{Full as FullValue};
@@ -10,7 +10,8 @@ ghost use Rattle.hot_index.specs.Traces.{HasTold};
 use crate::index::{Index, Pass, reply_of};
 use finite_map::{Call, Reply};
 use rowex_core::Gate;
-use rowex_writing::{Ask, TryFault};
+use rowex_writing::{Ask, Full, TryFault};
+use std::sync::Wait;
 
 impl Index {
     /// Makes any of the calls, as `get`, `try_insert`, `try_upsert`, `try_exchange`, `try_remove` or `try_remove_if` does, with a
@@ -40,6 +41,42 @@ impl Index {
             Call::Remove(key) => self.try_change_with(pass, gate, Ask::Remove, key, 0),
             Call::RemoveIf(key, expected) => {
                 self.try_change_with(pass, gate, Ask::RemoveIf(*expected), key, 0)
+            }
+        }
+    }
+
+    /// Makes any of the calls, as `get`, `insert`, `upsert`, `exchange`, `remove` or `remove_if` does, with a gate that is told
+    /// each of its steps.
+    ///
+    /// A get is never refused, and a removal never answers `Full::Leaves`.
+    pub fn call_with<R: Wait, G: Gate>(
+        &self,
+        rt: &R,
+        pass: &mut Pass,
+        call: &Call,
+        gate: &mut G,
+    ) -> Result<Reply, Full>
+        requires { Owns self.now pass.old }
+        ensures own { Owns self.now pass.new }
+        ensures call { MatchResult result (IsNoted self.now.layout pass.old pass.new call.now)
+            (λ full. IsRefused self.now.layout call.now pass.old pass.new (fault_of full)) }
+        ensures lacks { IfErr result (MayLack call.now) }
+        ensures told { HasTold self.now G.becomes (pass.old, gate.old) (pass.new, gate.new) }
+    {
+        match call {
+            Call::Get(key) => Ok(reply_of(self.get_with(pass, key, gate))),
+            Call::Insert(key, value) => {
+                self.change_with(rt, pass, gate, Ask::Insert, key, *value)
+            }
+            Call::Upsert(key, value) => {
+                self.change_with(rt, pass, gate, Ask::Upsert, key, *value)
+            }
+            Call::Exchange(key, expected, value) => {
+                self.change_with(rt, pass, gate, Ask::Exchange(*expected), key, *value)
+            }
+            Call::Remove(key) => self.change_with(rt, pass, gate, Ask::Remove, key, 0),
+            Call::RemoveIf(key, expected) => {
+                self.change_with(rt, pass, gate, Ask::RemoveIf(*expected), key, 0)
             }
         }
     }

@@ -1,12 +1,11 @@
 //! A call that may change the index, made with a pass's seat and room: its attempts, and the note of an answer.
 
-ghost use Rattle.std.specs.Prelude.{◌≡◌, ◌≢◌, List, Err, None, IfSome, IsSome, false};
+ghost use Rattle.std.specs.Prelude.{◌≡◌, List, Err, None, IfSome, IsSome, false};
 ghost use Rattle.finite_map.specs.declared.Note.{Note};
 ghost use Rattle.rowex_core.specs.declared.event.Act.TheVariants.{ClearPin};
 ghost use Rattle.rowex_core.specs.declared.known.Known.{Known};
 ghost use Rattle.rowex_table.specs.Runs.{StepsWith};
 ghost use Rattle.rowex_table.specs.Seats.{IsPassOf};
-ghost use Rattle.rowex_writing.specs.Asking.{aim_of};
 ghost use Rattle.rowex_writing.specs.Attempts.{asked_call};
 ghost use Rattle.hot_index.specs.Answers.{fault_of};
 ghost use Rattle.hot_index.specs.Asked.{HasAsked, HasReplied, HasRested, IsIdle, last_try};
@@ -20,7 +19,7 @@ use finite_map::Reply;
 use key_bits::Key;
 use rowex_core::Gate;
 use rowex_table::{HotTable, TableSeat};
-use rowex_writing::{Aim, Ask, Full, TryFault, attempt};
+use rowex_writing::{Ask, Full, TryFault, attempt};
 use std::sync::Wait;
 use std::thread;
 
@@ -35,9 +34,7 @@ pub fn try_change<G: Gate>(
     value: u64,
 ) -> Result<Reply, TryFault>
     requires idle { IsIdle table.now seat.old }
-    ensures asked { HasAsked table.now G.becomes (AreAttempts table.now.layout result) (try_steps table.now.layout)
-        (asked_call ask key.now value) result (seat.old, gate.old) (seat.new, gate.new) }
-    ensures leafless { aim_of ask ≡ Aim.Remove → result ≢ Err TryFault.FullLeaves }
+    ensures asked { HasAsked table.now G.becomes (AreAttempts table.now.layout result) (try_steps table.now.layout) (asked_call ask key.now value) result (seat.old, gate.old) (seat.new, gate.new) }
 {
     tidy(table, seat, gate, room);
     try_twice(table, seat, gate, room, ask, key, value)
@@ -68,9 +65,7 @@ fn try_twice<G: Gate>(
     value: u64,
 ) -> Result<Reply, TryFault>
     requires idle { IsIdle table.now seat.old }
-    ensures asked { HasAsked table.now G.becomes (AreTries table.now.layout result) (twice_steps table.now.layout)
-        (asked_call ask key.now value) result (seat.old, gate.old) (seat.new, gate.new) }
-    ensures leafless { aim_of ask ≡ Aim.Remove → result ≢ Err TryFault.FullLeaves }
+    ensures asked { HasAsked table.now G.becomes (AreTries table.now.layout result) (twice_steps table.now.layout) (asked_call ask key.now value) result (seat.old, gate.old) (seat.new, gate.new) }
 {
     let first = try_once(table, seat, gate, room, ask, key, value);
     let Some(lacks) = lacked(first) else {
@@ -142,7 +137,6 @@ pub fn change<R: Wait, G: Gate>(
     requires idle { IsIdle table.now seat.old }
     ensures replied { HasReplied table.now (asked_call ask key.now value) (last_try result) seat.old seat.new }
     ensures stepped { HasStepped table.now G.becomes (change_notes (asked_call ask key.now value) (last_try result)) (seat.old, gate.old) (seat.new, gate.new) }
-    ensures leafless { aim_of ask ≡ Aim.Remove → result ≢ Err Full.Leaves }
 {
     for _ in rt.forever() {
         match try_change(table, seat, gate, room, ask, key, value) {
@@ -181,7 +175,6 @@ fn try_once<G: Gate>(
 ) -> Result<Reply, TryFault>
     requires idle { IsIdle table.now seat.old }
     ensures asked { HasAsked table.now G.becomes (IsAttempt table.now.layout) (once_steps table.now.layout) (asked_call ask key.now value) result (seat.old, gate.old) (seat.new, gate.new) }
-    ensures leafless { aim_of ask ≡ Aim.Remove → result ≢ Err TryFault.FullLeaves }
 {
     room.build.gone.clear();
     pin(table, seat, gate);

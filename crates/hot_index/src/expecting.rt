@@ -1,10 +1,8 @@
 //! Calls that expect a key to have a certain value, and change nothing if it has another or none.
 
-ghost use Rattle.std.specs.Prelude.{◌≢◌, Err, MatchResult};
 ghost use Rattle.finite_map.specs.declared.Call.TheVariants.{Exchange, RemoveIf};
-ghost use Rattle.hot_index.specs.Answers.{IsNoted, IsRefused, fault_of};
+ghost use Rattle.hot_index.specs.Calls.{IsAwaited, IsTried, IsTriedWith};
 ghost use Rattle.hot_index.specs.Passes.{Owns};
-ghost use Rattle.hot_index.specs.Traces.{HasMade, untold};
 
 use crate::index::{Index, Pass};
 use finite_map::Reply;
@@ -26,10 +24,7 @@ impl Index {
         value: u64,
     ) -> Result<Reply, TryFault>
         requires { Owns self.now pass.old }
-        ensures own { Owns self.now pass.new }
-        ensures call { MatchResult result (IsNoted self.now.layout pass.old pass.new (Exchange key.now expected value))
-            (IsRefused self.now.layout (Exchange key.now expected value) pass.old pass.new) }
-        ensures made { HasMade self.now untold result (pass.old, tt) (pass.new, tt) }
+        ensures { IsTried (Exchange key.now expected value) result self.now pass.old pass.new }
     {
         self.try_exchange_with(pass, key, expected, value, &mut NoGate)
     }
@@ -44,10 +39,7 @@ impl Index {
         gate: &mut G,
     ) -> Result<Reply, TryFault>
         requires { Owns self.now pass.old }
-        ensures own { Owns self.now pass.new }
-        ensures call { MatchResult result (IsNoted self.now.layout pass.old pass.new (Exchange key.now expected value))
-            (IsRefused self.now.layout (Exchange key.now expected value) pass.old pass.new) }
-        ensures made { HasMade self.now G.becomes result (pass.old, gate.old) (pass.new, gate.new) }
+        ensures { IsTriedWith (Exchange key.now expected value) result self.now G.becomes (pass.old, gate.old) (pass.new, gate.new) }
     {
         self.try_change_with(pass, gate, Ask::Exchange(expected), key, value)
     }
@@ -65,9 +57,7 @@ impl Index {
         value: u64,
     ) -> Result<Reply, Full>
         requires { Owns self.now pass.old }
-        ensures own { Owns self.now pass.new }
-        ensures call { MatchResult result (IsNoted self.now.layout pass.old pass.new (Exchange key.now expected value))
-            (λ full. IsRefused self.now.layout (Exchange key.now expected value) pass.old pass.new (fault_of full)) }
+        ensures { IsAwaited (Exchange key.now expected value) result self.now pass.old pass.new }
     {
         self.change_with(rt, pass, &mut NoGate, Ask::Exchange(expected), key, value)
     }
@@ -83,11 +73,7 @@ impl Index {
         expected: u64,
     ) -> Result<Reply, TryFault>
         requires { Owns self.now pass.old }
-        ensures own { Owns self.now pass.new }
-        ensures call { MatchResult result (IsNoted self.now.layout pass.old pass.new (RemoveIf key.now expected))
-            (IsRefused self.now.layout (RemoveIf key.now expected) pass.old pass.new) }
-        ensures made { HasMade self.now untold result (pass.old, tt) (pass.new, tt) }
-        ensures leafless { result ≢ Err TryFault.FullLeaves }
+        ensures { IsTried (RemoveIf key.now expected) result self.now pass.old pass.new }
     {
         self.try_remove_if_with(pass, key, expected, &mut NoGate)
     }
@@ -101,11 +87,7 @@ impl Index {
         gate: &mut G,
     ) -> Result<Reply, TryFault>
         requires { Owns self.now pass.old }
-        ensures own { Owns self.now pass.new }
-        ensures call { MatchResult result (IsNoted self.now.layout pass.old pass.new (RemoveIf key.now expected))
-            (IsRefused self.now.layout (RemoveIf key.now expected) pass.old pass.new) }
-        ensures made { HasMade self.now G.becomes result (pass.old, gate.old) (pass.new, gate.new) }
-        ensures leafless { result ≢ Err TryFault.FullLeaves }
+        ensures { IsTriedWith (RemoveIf key.now expected) result self.now G.becomes (pass.old, gate.old) (pass.new, gate.new) }
     {
         self.try_change_with(pass, gate, Ask::RemoveIf(expected), key, 0)
     }
@@ -122,10 +104,7 @@ impl Index {
         expected: u64,
     ) -> Result<Reply, Full>
         requires { Owns self.now pass.old }
-        ensures own { Owns self.now pass.new }
-        ensures call { MatchResult result (IsNoted self.now.layout pass.old pass.new (RemoveIf key.now expected))
-            (λ full. IsRefused self.now.layout (RemoveIf key.now expected) pass.old pass.new (fault_of full)) }
-        ensures leafless { result ≢ Err Full.Leaves }
+        ensures { IsAwaited (RemoveIf key.now expected) result self.now pass.old pass.new }
     {
         self.change_with(rt, pass, &mut NoGate, Ask::RemoveIf(expected), key, 0)
     }

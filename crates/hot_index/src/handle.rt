@@ -1,14 +1,16 @@
 //! A handle: a pass at its index. Its calls don't ask that the pass belong to the index, since it does.
 
-ghost use Rattle.std.specs.Prelude.{◌≡◌, ◌≢◌, [], All, Err, IfOk, OnErr, length, map};
+ghost use Rattle.std.specs.Prelude.{◌≡◌, ◌≢◌, [], All, Err, IfOk, length, map};
 ghost use Rattle.finite_map.specs.declared.Call.TheVariants.{Exchange, Get, Insert, Remove, RemoveIf, Upsert};
-ghost use Rattle.hot_index.specs.Answers.{HaveMet, IsListed, IsListedInPart, IsNoted, IsScanned, IsUnnoted, got};
+ghost use Rattle.finite_map.specs.Reverse.{IsLawfulReverseScan};
+ghost use Rattle.hot_index.specs.Answers.{HaveMet, IsNoted, IsUnnoted, got};
+ghost use Rattle.hot_index.specs.Calls.{IsAwaited, IsListRead, IsListReadBy, IsRangeRead, IsScanRead, IsScanReadBy, IsTried};
 ghost use Rattle.hot_index.specs.Census.{HasCounted};
-ghost use Rattle.hot_index.specs.Handles.{IsRangeRead, IsAwaited, IsTried, Stays, handle_at};
+ghost use Rattle.hot_index.specs.Handles.{Stays, handle_at};
 ghost use Rattle.hot_index.specs.Many.{AreNoted, HasGotMany, gets};
 ghost use Rattle.hot_index.specs.Passes.{Owns};
 ghost use Rattle.hot_index.specs.Ranges.{IsFirstFound};
-ghost use Rattle.hot_index.specs.Reverse.{IsLastFound, IsReverseListed, IsReverseListedInPart, IsReverseScanned};
+ghost use Rattle.hot_index.specs.Reverse.{IsLastFound};
 ghost use Rattle.hot_index.specs.Traces.{HasCollected, HasGot, untold};
 ghost use Rattle.key_ranges.specs.Ranges.{last_with};
 
@@ -209,7 +211,7 @@ impl<I: ShowsIndex> Handle<I> {
         upto: &Key,
         limit: usize,
     ) -> Result<Scan, AllocError>
-        ensures { Stays (IsRangeRead (λ layout k j. IsScanned layout k j from.now upto.now limit) from.now upto.now limit result) self.old self.new }
+        ensures { Stays (IsScanRead from.now upto.now limit result) self.old self.new }
     {
         self.index
             .show()
@@ -224,9 +226,7 @@ impl<I: ShowsIndex> Handle<I> {
         limit: usize,
         pairs: &mut Pairs,
     ) -> Result<bool, AllocError>
-        ensures call { Stays (IsRangeRead (λ layout k j. IsListed layout k j from.now upto.now limit pairs.new) from.now upto.now limit result)
-            self.old self.new }
-        ensures part { OnErr result (IsListedInPart self.old.index.layout self.old.pass self.new.pass from.now upto.now limit pairs.new) }
+        ensures call { Stays (IsListRead from.now upto.now limit pairs.new result) self.old self.new }
     {
         self.index
             .show()
@@ -240,9 +240,7 @@ impl<I: ShowsIndex> Handle<I> {
         limit: usize,
         pairs: &mut Pairs,
     ) -> Result<bool, AllocError>
-        ensures call { Stays (IsRangeRead (λ layout k j. IsListed layout k j prefix.now (last_with prefix.now) limit pairs.new) prefix.now (last_with prefix.now) limit result)
-            self.old self.new }
-        ensures part { OnErr result (IsListedInPart self.old.index.layout self.old.pass self.new.pass prefix.now (last_with prefix.now) limit pairs.new) }
+        ensures call { Stays (IsListRead prefix.now (last_with prefix.now) limit pairs.new result) self.old self.new }
     {
         self.index
             .show()
@@ -257,9 +255,7 @@ impl<I: ShowsIndex> Handle<I> {
         limit: usize,
         pairs: &mut Pairs,
     ) -> Result<bool, AllocError>
-        ensures call { Stays (IsRangeRead (λ layout k j. IsReverseListed layout k j from.now upto.now limit pairs.new) from.now upto.now limit result)
-            self.old self.new }
-        ensures part { OnErr result (IsReverseListedInPart self.old.index.layout self.old.pass self.new.pass from.now upto.now limit pairs.new) }
+        ensures call { Stays (λ index k j. IsListReadBy IsLawfulReverseScan from.now upto.now limit pairs.new result index untold (k, tt) (j, tt)) self.old self.new }
     {
         self.index
             .show()
@@ -274,8 +270,7 @@ impl<I: ShowsIndex> Handle<I> {
         upto: &Key,
         limit: usize,
     ) -> Result<Scan, AllocError>
-        ensures { Stays (IsRangeRead (λ layout k j. IsReverseScanned layout k j from.now upto.now limit) from.now upto.now limit result)
-            self.old self.new }
+        ensures { Stays (λ index k j. IsScanReadBy IsLawfulReverseScan from.now upto.now limit result index untold (k, tt) (j, tt)) self.old self.new }
     {
         self.index
             .show()

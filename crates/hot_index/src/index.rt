@@ -1,36 +1,31 @@
 //! The index and the passes by which threads use it, and the calls on it.
 
-ghost use Rattle.std.specs.Prelude.{◌≡◌, ◌+◌, ◌≤◌, List, ◌≢◌, Err, IfErr, IfOk, IsSome, MatchResult, OnErr, length};
+ghost use Rattle.std.specs.Prelude.{◌≡◌, List, IsSome, length};
 ghost use Rattle.finite_map.specs.declared.Call.TheVariants.{Get, Insert, Remove, Upsert};
 ghost use Rattle.finite_map.specs.declared.Note.{Note};
 ghost use Rattle.rowex_core.specs.declared.event.Act.TheVariants.{ClearPin};
 ghost use Rattle.rowex_core.specs.declared.known.Known.{Known};
 ghost use Rattle.rowex_table.specs.Runs.{StepsWith};
 ghost use Rattle.rowex_table.specs.Seats.{IsPassOf};
-ghost use Rattle.rowex_writing.specs.Asking.{aim_of};
 ghost use Rattle.rowex_writing.specs.Attempts.{asked_call};
 ghost use Rattle.hot_index.specs.Passes.{Owns};
-ghost use Rattle.hot_index.specs.Counts.{scan_steps};
-ghost use Rattle.hot_index.specs.Answers.{HasFoundPair, IsListed, IsListedInPart, IsNoted, IsRefused, IsScanned, IsUnnoted, HaveMet, MayLack, fault_of, got};
+ghost use Rattle.hot_index.specs.Answers.{IsNoted, IsUnnoted, HaveMet, got};
+ghost use Rattle.hot_index.specs.Calls.{IsAwaited, IsTried, IsTriedWith};
 ghost use Rattle.hot_index.specs.Census.{HasCounted};
 ghost use Rattle.hot_index.specs.Many.{AreNoted, HasGotMany, gets};
-ghost use Rattle.hot_index.specs.Reverse.{IsListedBy, IsListedInPartBy};
-ghost use Rattle.hot_index.specs.Traces.{HasCollected, HasGot, HasGotRange, HasMade, HasTold, untold};
+ghost use Rattle.hot_index.specs.Traces.{HasCollected, HasGot, HasTold, untold};
 
 use crate::census::{RecordCounts, count_records};
 use crate::changing::{change, try_change};
 use crate::many::{end_gets, look_up_each};
 use crate::room::Room;
 use epochs::{Given, collect_round, pin, unpin};
-use finite_map::{Call, Reply, Scan};
+use finite_map::Reply;
 use key_bits::Key;
-use packed_pairs::Pairs;
 use rowex_core::{Gate, NoGate};
 use rowex_reading::look_up;
-use rowex_scanning::{Direction, Range, scan_root};
 use rowex_table::{HotTable, TableSeat};
-use rowex_writing::{Aim, Ask, Full, TryFault};
-use std::alloc::{AllocError, Global};
+use rowex_writing::{Ask, Full, TryFault};
 use std::marker::Model;
 use std::sync::Wait;
 
@@ -152,37 +147,9 @@ impl Index {
     /// and no record.
     pub fn try_insert(&self, pass: &mut Pass, key: &Key, value: u64) -> Result<Reply, TryFault>
         requires { Owns self.now pass.old }
-        ensures own { Owns self.now pass.new }
-        ensures call { MatchResult result (IsNoted self.now.layout pass.old pass.new (Insert key.now value))
-            (IsRefused self.now.layout (Insert key.now value) pass.old pass.new) }
-        ensures made { HasMade self.now untold result (pass.old, tt) (pass.new, tt) }
+        ensures { IsTried (Insert key.now value) result self.now pass.old pass.new }
     {
         self.try_insert_with(pass, key, value, &mut NoGate)
-    }
-
-    /// `try_insert`, with a gate that is told each of its steps.
-    pub fn try_insert_with<G: Gate>(
-        &self,
-        pass: &mut Pass,
-        key: &Key,
-        value: u64,
-        gate: &mut G,
-    ) -> Result<Reply, TryFault>
-        requires { Owns self.now pass.old }
-        ensures own { Owns self.now pass.new }
-        ensures call { MatchResult result (IsNoted self.now.layout pass.old pass.new (Insert key.now value))
-            (IsRefused self.now.layout (Insert key.now value) pass.old pass.new) }
-        ensures made { HasMade self.now G.becomes result (pass.old, gate.old) (pass.new, gate.new) }
-    {
-        try_change(
-            &self.table,
-            &mut pass.seat,
-            gate,
-            &mut pass.room,
-            Ask::Insert,
-            key,
-            value,
-        )
     }
 
     /// Gives a key a value, whether it has one or not: `New`, or `Was` with the value that it had.
@@ -190,37 +157,9 @@ impl Index {
     /// It never blocks, makes no more steps than `try_insert` may, and is refused for the same reasons.
     pub fn try_upsert(&self, pass: &mut Pass, key: &Key, value: u64) -> Result<Reply, TryFault>
         requires { Owns self.now pass.old }
-        ensures own { Owns self.now pass.new }
-        ensures call { MatchResult result (IsNoted self.now.layout pass.old pass.new (Upsert key.now value))
-            (IsRefused self.now.layout (Upsert key.now value) pass.old pass.new) }
-        ensures made { HasMade self.now untold result (pass.old, tt) (pass.new, tt) }
+        ensures { IsTried (Upsert key.now value) result self.now pass.old pass.new }
     {
         self.try_upsert_with(pass, key, value, &mut NoGate)
-    }
-
-    /// `try_upsert`, with a gate that is told each of its steps.
-    pub fn try_upsert_with<G: Gate>(
-        &self,
-        pass: &mut Pass,
-        key: &Key,
-        value: u64,
-        gate: &mut G,
-    ) -> Result<Reply, TryFault>
-        requires { Owns self.now pass.old }
-        ensures own { Owns self.now pass.new }
-        ensures call { MatchResult result (IsNoted self.now.layout pass.old pass.new (Upsert key.now value))
-            (IsRefused self.now.layout (Upsert key.now value) pass.old pass.new) }
-        ensures made { HasMade self.now G.becomes result (pass.old, gate.old) (pass.new, gate.new) }
-    {
-        try_change(
-            &self.table,
-            &mut pass.seat,
-            gate,
-            &mut pass.room,
-            Ask::Upsert,
-            key,
-            value,
-        )
     }
 
     /// Removes a key: `Removed` with the value that it had, or `Absent`.
@@ -229,10 +168,7 @@ impl Index {
     /// and so never answers `FullLeaves`.
     pub fn try_remove(&self, pass: &mut Pass, key: &Key) -> Result<Reply, TryFault>
         requires { Owns self.now pass.old }
-        ensures own { Owns self.now pass.new }
-        ensures call { MatchResult result (IsNoted self.now.layout pass.old pass.new (Remove key.now)) (IsRefused self.now.layout (Remove key.now) pass.old pass.new) }
-        ensures made { HasMade self.now untold result (pass.old, tt) (pass.new, tt) }
-        ensures leafless { result ≢ Err TryFault.FullLeaves }
+        ensures { IsTried (Remove key.now) result self.now pass.old pass.new }
     {
         self.try_remove_with(pass, key, &mut NoGate)
     }
@@ -245,56 +181,37 @@ impl Index {
         gate: &mut G,
     ) -> Result<Reply, TryFault>
         requires { Owns self.now pass.old }
-        ensures own { Owns self.now pass.new }
-        ensures call { MatchResult result (IsNoted self.now.layout pass.old pass.new (Remove key.now)) (IsRefused self.now.layout (Remove key.now) pass.old pass.new) }
-        ensures made { HasMade self.now G.becomes result (pass.old, gate.old) (pass.new, gate.new) }
-        ensures leafless { result ≢ Err TryFault.FullLeaves }
+        ensures { IsTriedWith (Remove key.now) result self.now G.becomes (pass.old, gate.old) (pass.new, gate.new) }
     {
-        try_change(
-            &self.table,
-            &mut pass.seat,
-            gate,
-            &mut pass.room,
-            Ask::Remove,
-            key,
-            0,
-        )
+        self.try_change_with(pass, gate, Ask::Remove, key, 0)
     }
 
-    /// Makes any of the calls, as `get`, `insert`, `upsert`, `exchange`, `remove` or `remove_if` does, with a gate that is told
-    /// each of its steps.
-    ///
-    /// A get is never refused, and a removal never answers `Full::Leaves`.
-    pub fn call_with<R: Wait, G: Gate>(
+    /// `try_insert`, with a gate that is told each of its steps.
+    pub fn try_insert_with<G: Gate>(
         &self,
-        rt: &R,
         pass: &mut Pass,
-        call: &Call,
+        key: &Key,
+        value: u64,
         gate: &mut G,
-    ) -> Result<Reply, Full>
+    ) -> Result<Reply, TryFault>
         requires { Owns self.now pass.old }
-        ensures own { Owns self.now pass.new }
-        ensures call { MatchResult result (IsNoted self.now.layout pass.old pass.new call.now)
-            (λ full. IsRefused self.now.layout call.now pass.old pass.new (fault_of full)) }
-        ensures lacks { IfErr result (MayLack call.now) }
-        ensures told { HasTold self.now G.becomes (pass.old, gate.old) (pass.new, gate.new) }
+        ensures { IsTriedWith (Insert key.now value) result self.now G.becomes (pass.old, gate.old) (pass.new, gate.new) }
     {
-        match call {
-            Call::Get(key) => Ok(reply_of(self.get_with(pass, key, gate))),
-            Call::Insert(key, value) => {
-                self.change_with(rt, pass, gate, Ask::Insert, key, *value)
-            }
-            Call::Upsert(key, value) => {
-                self.change_with(rt, pass, gate, Ask::Upsert, key, *value)
-            }
-            Call::Exchange(key, expected, value) => {
-                self.change_with(rt, pass, gate, Ask::Exchange(*expected), key, *value)
-            }
-            Call::Remove(key) => self.change_with(rt, pass, gate, Ask::Remove, key, 0),
-            Call::RemoveIf(key, expected) => {
-                self.change_with(rt, pass, gate, Ask::RemoveIf(*expected), key, 0)
-            }
-        }
+        self.try_change_with(pass, gate, Ask::Insert, key, value)
+    }
+
+    /// `try_upsert`, with a gate that is told each of its steps.
+    pub fn try_upsert_with<G: Gate>(
+        &self,
+        pass: &mut Pass,
+        key: &Key,
+        value: u64,
+        gate: &mut G,
+    ) -> Result<Reply, TryFault>
+        requires { Owns self.now pass.old }
+        ensures { IsTriedWith (Upsert key.now value) result self.now G.becomes (pass.old, gate.old) (pass.new, gate.new) }
+    {
+        self.try_change_with(pass, gate, Ask::Upsert, key, value)
     }
 
     /// Tries to make a change.
@@ -307,11 +224,7 @@ impl Index {
         value: u64,
     ) -> Result<Reply, TryFault>
         requires { Owns self.now pass.old }
-        ensures own { Owns self.now pass.new }
-        ensures call { MatchResult result (IsNoted self.now.layout pass.old pass.new (asked_call ask key.now value))
-            (IsRefused self.now.layout (asked_call ask key.now value) pass.old pass.new) }
-        ensures made { HasMade self.now G.becomes result (pass.old, gate.old) (pass.new, gate.new) }
-        ensures leafless { aim_of ask ≡ Aim.Remove → result ≢ Err TryFault.FullLeaves }
+        ensures { IsTriedWith (asked_call ask key.now value) result self.now G.becomes (pass.old, gate.old) (pass.new, gate.new) }
     {
         try_change(
             &self.table,
@@ -335,10 +248,7 @@ impl Index {
         value: u64,
     ) -> Result<Reply, Full>
         requires { Owns self.now pass.old }
-        ensures own { Owns self.now pass.new }
-        ensures call { MatchResult result (IsNoted self.now.layout pass.old pass.new (asked_call ask key.now value))
-            (λ full. IsRefused self.now.layout (asked_call ask key.now value) pass.old pass.new (fault_of full)) }
-        ensures leafless { aim_of ask ≡ Aim.Remove → result ≢ Err Full.Leaves }
+        ensures call { IsAwaited (asked_call ask key.now value) result self.now pass.old pass.new }
         ensures told { HasTold self.now G.becomes (pass.old, gate.old) (pass.new, gate.new) }
     {
         change(
@@ -368,9 +278,7 @@ impl Index {
         value: u64,
     ) -> Result<Reply, Full>
         requires { Owns self.now pass.old }
-        ensures own { Owns self.now pass.new }
-        ensures call { MatchResult result (IsNoted self.now.layout pass.old pass.new (Insert key.now value))
-            (λ full. IsRefused self.now.layout (Insert key.now value) pass.old pass.new (fault_of full)) }
+        ensures { IsAwaited (Insert key.now value) result self.now pass.old pass.new }
     {
         self.change_with(rt, pass, &mut NoGate, Ask::Insert, key, value)
     }
@@ -386,9 +294,7 @@ impl Index {
         value: u64,
     ) -> Result<Reply, Full>
         requires { Owns self.now pass.old }
-        ensures own { Owns self.now pass.new }
-        ensures call { MatchResult result (IsNoted self.now.layout pass.old pass.new (Upsert key.now value))
-            (λ full. IsRefused self.now.layout (Upsert key.now value) pass.old pass.new (fault_of full)) }
+        ensures { IsAwaited (Upsert key.now value) result self.now pass.old pass.new }
     {
         self.change_with(rt, pass, &mut NoGate, Ask::Upsert, key, value)
     }
@@ -399,150 +305,9 @@ impl Index {
     /// record, and so never answers `Full::Leaves`.
     pub fn remove<R: Wait>(&self, rt: &R, pass: &mut Pass, key: &Key) -> Result<Reply, Full>
         requires { Owns self.now pass.old }
-        ensures own { Owns self.now pass.new }
-        ensures call { MatchResult result (IsNoted self.now.layout pass.old pass.new (Remove key.now))
-            (λ full. IsRefused self.now.layout (Remove key.now) pass.old pass.new (fault_of full)) }
-        ensures leafless { result ≢ Err Full.Leaves }
+        ensures { IsAwaited (Remove key.now) result self.now pass.old pass.new }
     {
         self.change_with(rt, pass, &mut NoGate, Ask::Remove, key, 0)
-    }
-
-    /// Lists the first `limit` pairs whose keys are from `from` to `upto`, both included, in key order, and tells whether the range
-    /// has more.
-    ///
-    /// It takes no lock and never blocks. It makes at most 100 atomic steps, 7 for each pair of the limit, and 26 for each entry of a
-    /// node that it loads: at most 6,481 entries, and two for each pair of the limit. That is at most 168,606 steps, and 59 for each
-    /// pair, whatever others insert meanwhile. It is no snapshot: each pair was in the index at some moment of the call, and no key
-    /// is missing that was there all along (if there are more, no key up to the last one listed). If memory is refused, it lists
-    /// nothing; it asks for none unless it has found a pair to list.
-    pub fn scan(
-        &self,
-        alloc: Global,
-        pass: &mut Pass,
-        from: &Key,
-        upto: &Key,
-        limit: usize,
-    ) -> Result<Scan, AllocError>
-        requires { Owns self.now pass.old }
-        ensures own { Owns self.now pass.new }
-        ensures ok { IfOk result (IsScanned self.now.layout pass.old pass.new from.now upto.now limit) }
-        ensures err { OnErr result (IsUnnoted self.now.layout pass.old pass.new) }
-        ensures memory { OnErr result (HasFoundPair self.now.layout pass.old pass.new from.now upto.now limit) }
-        ensures steps { pass.new.steps ≤ pass.old.steps + scan_steps limit }
-        ensures read { HasGotRange self.now untold limit (pass.old, tt) (pass.new, tt) }
-    {
-        self.scan_with(alloc, pass, from, upto, limit, &mut NoGate)
-    }
-
-    /// `scan`, with a gate that is told each of its steps.
-    pub fn scan_with<G: Gate>(
-        &self,
-        alloc: Global,
-        pass: &mut Pass,
-        from: &Key,
-        upto: &Key,
-        limit: usize,
-        gate: &mut G,
-    ) -> Result<Scan, AllocError>
-        requires { Owns self.now pass.old }
-        ensures own { Owns self.now pass.new }
-        ensures ok { IfOk result (IsScanned self.now.layout pass.old pass.new from.now upto.now limit) }
-        ensures err { OnErr result (IsUnnoted self.now.layout pass.old pass.new) }
-        ensures memory { OnErr result (HasFoundPair self.now.layout pass.old pass.new from.now upto.now limit) }
-        ensures steps { pass.new.steps ≤ pass.old.steps + scan_steps limit }
-        ensures read { HasGotRange self.now G.becomes limit (pass.old, gate.old) (pass.new, gate.new) }
-    {
-        let mut list = Pairs::new(alloc);
-        let more = self.scan_into_with(pass, from, upto, limit, &mut list, gate)?;
-        let pairs = list.to_vec(alloc)?;
-        Ok(Scan { pairs, more })
-    }
-
-    /// `scan` into a list, whose earlier pairs are dropped. Returns whether the range has more.
-    ///
-    /// A list that is used again keeps its memory, and a key takes no more bytes of it than it has: so this is the form for frequent
-    /// scans. If memory is refused, the list holds the first pairs, fewer than the limit, and the range has more: it is what a scan
-    /// with their number as its limit gives.
-    pub fn scan_into(
-        &self,
-        pass: &mut Pass,
-        from: &Key,
-        upto: &Key,
-        limit: usize,
-        pairs: &mut Pairs,
-    ) -> Result<bool, AllocError>
-        requires { Owns self.now pass.old }
-        ensures own { Owns self.now pass.new }
-        ensures ok { IfOk result (IsListed self.now.layout pass.old pass.new from.now upto.now limit pairs.new) }
-        ensures err { OnErr result (IsUnnoted self.now.layout pass.old pass.new) }
-        ensures part { OnErr result (IsListedInPart self.now.layout pass.old pass.new from.now upto.now limit pairs.new) }
-        ensures memory { OnErr result (HasFoundPair self.now.layout pass.old pass.new from.now upto.now limit) }
-        ensures steps { pass.new.steps ≤ pass.old.steps + scan_steps limit }
-        ensures read { HasGotRange self.now untold limit (pass.old, tt) (pass.new, tt) }
-    {
-        self.scan_into_with(pass, from, upto, limit, pairs, &mut NoGate)
-    }
-
-    /// `scan_into`, with a gate that is told each of its steps.
-    pub fn scan_into_with<G: Gate>(
-        &self,
-        pass: &mut Pass,
-        from: &Key,
-        upto: &Key,
-        limit: usize,
-        pairs: &mut Pairs,
-        gate: &mut G,
-    ) -> Result<bool, AllocError>
-        requires { Owns self.now pass.old }
-        ensures own { Owns self.now pass.new }
-        ensures ok { IfOk result (IsListed self.now.layout pass.old pass.new from.now upto.now limit pairs.new) }
-        ensures err { OnErr result (IsUnnoted self.now.layout pass.old pass.new) }
-        ensures part { OnErr result (IsListedInPart self.now.layout pass.old pass.new from.now upto.now limit pairs.new) }
-        ensures memory { OnErr result (HasFoundPair self.now.layout pass.old pass.new from.now upto.now limit) }
-        ensures steps { pass.new.steps ≤ pass.old.steps + scan_steps limit }
-        ensures read { HasGotRange self.now G.becomes limit (pass.old, gate.old) (pass.new, gate.new) }
-    {
-        self.list_by(pass, Direction::Upwards, from, upto, limit, pairs, gate)
-    }
-
-    /// `scan_into_with` or `scan_reverse_into_with`. Inline, so that each has a walk of its own direction.
-    #[inline(always)]
-    pub(crate) fn list_by<G: Gate>(
-        &self,
-        pass: &mut Pass,
-        direction: Direction,
-        from: &Key,
-        upto: &Key,
-        limit: usize,
-        pairs: &mut Pairs,
-        gate: &mut G,
-    ) -> Result<bool, AllocError>
-        requires { Owns self.now pass.old }
-        ensures own { Owns self.now pass.new }
-        ensures ok { IfOk result (IsListedBy direction self.now.layout pass.old pass.new from.now upto.now limit pairs.new) }
-        ensures err { OnErr result (IsUnnoted self.now.layout pass.old pass.new) }
-        ensures part { OnErr result (IsListedInPartBy direction self.now.layout pass.old pass.new from.now upto.now limit pairs.new) }
-        ensures memory { OnErr result (HasFoundPair self.now.layout pass.old pass.new from.now upto.now limit) }
-        ensures steps { pass.new.steps ≤ pass.old.steps + scan_steps limit }
-        ensures read { HasGotRange self.now G.becomes limit (pass.old, gate.old) (pass.new, gate.new) }
-    {
-        let range = Range {
-            from,
-            upto,
-            direction,
-            limit,
-        };
-        pin(&self.table, &mut pass.seat, gate);
-        let scan = scan_root(
-            &self.table,
-            &mut pass.seat,
-            gate,
-            &mut pass.room.way,
-            &range,
-            pairs,
-        );
-        unpin(&self.table, &mut pass.seat, gate);
-        scan
     }
 
     /// Lets two passes meet, and gives them back: each has then seen what the other had seen, and all that was published before. It

@@ -15,6 +15,7 @@ mod many;
 mod ranges;
 mod reverse;
 mod room;
+mod scans;
 mod stamp;
 
 pub use census::{RecordCounts, StateCounts};

@@ -1,17 +1,16 @@
 //! Scans of the keys that begin with a prefix, and the first pair from a key on.
 
-ghost use Rattle.std.specs.Prelude.{◌+◌, ◌≤◌, [], IfOk, OnErr};
-ghost use Rattle.hot_index.specs.Answers.{HasFoundPair, IsListed, IsListedInPart, IsUnnoted};
-ghost use Rattle.hot_index.specs.Counts.{scan_steps};
+ghost use Rattle.std.specs.Prelude.{[]};
+ghost use Rattle.hot_index.specs.Calls.{IsListRead, IsRangeRead};
 ghost use Rattle.hot_index.specs.Passes.{Owns};
 ghost use Rattle.hot_index.specs.Ranges.{IsFirstFound};
-ghost use Rattle.hot_index.specs.Traces.{HasGotRange, untold};
 ghost use Rattle.key_ranges.specs.Ranges.{last_with};
 
 use crate::index::{Index, Pass};
 use key_bits::{Key, MAX_BYTES};
 use key_ranges::last_with_prefix;
 use packed_pairs::Pairs;
+use rowex_scanning::Direction;
 use std::alloc::{AllocError, Global};
 
 impl Index {
@@ -27,13 +26,7 @@ impl Index {
         pairs: &mut Pairs,
     ) -> Result<bool, AllocError>
         requires { Owns self.now pass.old }
-        ensures own { Owns self.now pass.new }
-        ensures ok { IfOk result (IsListed self.now.layout pass.old pass.new prefix.now (last_with prefix.now) limit pairs.new) }
-        ensures err { OnErr result (IsUnnoted self.now.layout pass.old pass.new) }
-        ensures part { OnErr result (IsListedInPart self.now.layout pass.old pass.new prefix.now (last_with prefix.now) limit pairs.new) }
-        ensures memory { OnErr result (HasFoundPair self.now.layout pass.old pass.new prefix.now (last_with prefix.now) limit) }
-        ensures steps { pass.new.steps ≤ pass.old.steps + scan_steps limit }
-        ensures read { HasGotRange self.now untold limit (pass.old, tt) (pass.new, tt) }
+        ensures { IsListRead prefix.now (last_with prefix.now) limit pairs.new result self.now pass.old pass.new }
     {
         self.scan_into(pass, prefix, &last_with_prefix(prefix), limit, pairs)
     }
@@ -50,17 +43,9 @@ impl Index {
         from: &Key,
     ) -> Result<Option<(Key, u64)>, AllocError>
         requires { Owns self.now pass.old }
-        ensures own { Owns self.now pass.new }
-        ensures ok { IfOk result (IsFirstFound self.now.layout pass.old pass.new from.now) }
-        ensures err { OnErr result (IsUnnoted self.now.layout pass.old pass.new) }
-        ensures memory { OnErr result (HasFoundPair self.now.layout pass.old pass.new from.now (last_with []) 1) }
-        ensures steps { pass.new.steps ≤ pass.old.steps + scan_steps 1 }
-        ensures read { HasGotRange self.now untold 1 (pass.old, tt) (pass.new, tt) }
+        ensures { IsRangeRead (λ layout k j. IsFirstFound layout k j from.now) from.now (last_with []) 1 result self.now pass.old pass.new }
     {
-        let empty = Key::of_places([0; MAX_BYTES], 0);
-        let mut list = Pairs::new(alloc);
-        self.scan_into(pass, from, &last_with_prefix(&empty), 1, &mut list)?;
-        let mut pairs = list.to_vec(alloc)?;
-        Ok(pairs.pop())
+        let last = last_with_prefix(&Key::of_places([0; MAX_BYTES], 0));
+        self.first_by(alloc, pass, Direction::Upwards, from, &last)
     }
 }

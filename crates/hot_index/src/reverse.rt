@@ -1,11 +1,11 @@
 //! Scans from the end of a range downwards, and the last pair up to a key.
 
-ghost use Rattle.std.specs.Prelude.{◌+◌, ◌≤◌, [], IfOk, OnErr};
-ghost use Rattle.hot_index.specs.Answers.{HasFoundPair, IsUnnoted};
-ghost use Rattle.hot_index.specs.Counts.{scan_steps};
+ghost use Rattle.std.specs.Prelude.{[]};
+ghost use Rattle.finite_map.specs.Reverse.{IsLawfulReverseScan};
+ghost use Rattle.hot_index.specs.Calls.{IsListReadBy, IsRangeRead, IsScanReadBy};
 ghost use Rattle.hot_index.specs.Passes.{Owns};
-ghost use Rattle.hot_index.specs.Reverse.{IsLastFound, IsReverseListed, IsReverseListedInPart, IsReverseScanned};
-ghost use Rattle.hot_index.specs.Traces.{HasGotRange, untold};
+ghost use Rattle.hot_index.specs.Reverse.{IsLastFound};
+ghost use Rattle.hot_index.specs.Traces.{untold};
 
 use crate::index::{Index, Pass};
 use finite_map::Scan;
@@ -32,17 +32,17 @@ impl Index {
         limit: usize,
     ) -> Result<Scan, AllocError>
         requires { Owns self.now pass.old }
-        ensures own { Owns self.now pass.new }
-        ensures ok { IfOk result (IsReverseScanned self.now.layout pass.old pass.new from.now upto.now limit) }
-        ensures err { OnErr result (IsUnnoted self.now.layout pass.old pass.new) }
-        ensures memory { OnErr result (HasFoundPair self.now.layout pass.old pass.new from.now upto.now limit) }
-        ensures steps { pass.new.steps ≤ pass.old.steps + scan_steps limit }
-        ensures read { HasGotRange self.now untold limit (pass.old, tt) (pass.new, tt) }
+        ensures { IsScanReadBy IsLawfulReverseScan from.now upto.now limit result self.now untold (pass.old, tt) (pass.new, tt) }
     {
-        let mut list = Pairs::new(alloc);
-        let more = self.scan_reverse_into(pass, from, upto, limit, &mut list)?;
-        let pairs = list.to_vec(alloc)?;
-        Ok(Scan { pairs, more })
+        self.scan_by(
+            alloc,
+            pass,
+            Direction::Downwards,
+            from,
+            upto,
+            limit,
+            &mut NoGate,
+        )
     }
 
     /// `scan_reverse` into a list, whose earlier pairs are dropped; the pair with the greatest key comes first. Returns whether the
@@ -57,37 +57,9 @@ impl Index {
         pairs: &mut Pairs,
     ) -> Result<bool, AllocError>
         requires { Owns self.now pass.old }
-        ensures own { Owns self.now pass.new }
-        ensures ok { IfOk result (IsReverseListed self.now.layout pass.old pass.new from.now upto.now limit pairs.new) }
-        ensures err { OnErr result (IsUnnoted self.now.layout pass.old pass.new) }
-        ensures part { OnErr result (IsReverseListedInPart self.now.layout pass.old pass.new from.now upto.now limit pairs.new) }
-        ensures memory { OnErr result (HasFoundPair self.now.layout pass.old pass.new from.now upto.now limit) }
-        ensures steps { pass.new.steps ≤ pass.old.steps + scan_steps limit }
-        ensures read { HasGotRange self.now untold limit (pass.old, tt) (pass.new, tt) }
+        ensures { IsListReadBy IsLawfulReverseScan from.now upto.now limit pairs.new result self.now untold (pass.old, tt) (pass.new, tt) }
     {
         self.scan_reverse_into_with(pass, from, upto, limit, pairs, &mut NoGate)
-    }
-
-    /// `scan_reverse_into`, with a gate that is told each of its steps.
-    pub fn scan_reverse_into_with<G: Gate>(
-        &self,
-        pass: &mut Pass,
-        from: &Key,
-        upto: &Key,
-        limit: usize,
-        pairs: &mut Pairs,
-        gate: &mut G,
-    ) -> Result<bool, AllocError>
-        requires { Owns self.now pass.old }
-        ensures own { Owns self.now pass.new }
-        ensures ok { IfOk result (IsReverseListed self.now.layout pass.old pass.new from.now upto.now limit pairs.new) }
-        ensures err { OnErr result (IsUnnoted self.now.layout pass.old pass.new) }
-        ensures part { OnErr result (IsReverseListedInPart self.now.layout pass.old pass.new from.now upto.now limit pairs.new) }
-        ensures memory { OnErr result (HasFoundPair self.now.layout pass.old pass.new from.now upto.now limit) }
-        ensures steps { pass.new.steps ≤ pass.old.steps + scan_steps limit }
-        ensures read { HasGotRange self.now G.becomes limit (pass.old, gate.old) (pass.new, gate.new) }
-    {
-        self.list_by(pass, Direction::Downwards, from, upto, limit, pairs, gate)
     }
 
     /// The last pair whose key is `upto` or below. If `upto` is the greatest key that there can be (`last_with_prefix` of the empty
@@ -103,17 +75,25 @@ impl Index {
         upto: &Key,
     ) -> Result<Option<(Key, u64)>, AllocError>
         requires { Owns self.now pass.old }
-        ensures own { Owns self.now pass.new }
-        ensures ok { IfOk result (IsLastFound self.now.layout pass.old pass.new upto.now) }
-        ensures err { OnErr result (IsUnnoted self.now.layout pass.old pass.new) }
-        ensures memory { OnErr result (HasFoundPair self.now.layout pass.old pass.new [] upto.now 1) }
-        ensures steps { pass.new.steps ≤ pass.old.steps + scan_steps 1 }
-        ensures read { HasGotRange self.now untold 1 (pass.old, tt) (pass.new, tt) }
+        ensures { IsRangeRead (λ layout k j. IsLastFound layout k j upto.now) [] upto.now 1 result self.now pass.old pass.new }
     {
         let empty = Key::of_places([0; MAX_BYTES], 0);
-        let mut list = Pairs::new(alloc);
-        self.scan_reverse_into(pass, &empty, upto, 1, &mut list)?;
-        let mut pairs = list.to_vec(alloc)?;
-        Ok(pairs.pop())
+        self.first_by(alloc, pass, Direction::Downwards, &empty, upto)
+    }
+
+    /// `scan_reverse_into`, with a gate that is told each of its steps.
+    pub fn scan_reverse_into_with<G: Gate>(
+        &self,
+        pass: &mut Pass,
+        from: &Key,
+        upto: &Key,
+        limit: usize,
+        pairs: &mut Pairs,
+        gate: &mut G,
+    ) -> Result<bool, AllocError>
+        requires { Owns self.now pass.old }
+        ensures { IsListReadBy IsLawfulReverseScan from.now upto.now limit pairs.new result self.now G.becomes (pass.old, gate.old) (pass.new, gate.new) }
+    {
+        self.list_by(pass, Direction::Downwards, from, upto, limit, pairs, gate)
     }
 }

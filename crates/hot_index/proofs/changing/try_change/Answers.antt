@@ -3,5 +3,5 @@ use Rattle.rowex_writing.specs.Attempts.{asked_call}
 use Rattle.hot_index.proofs.Trying.{tidied_asked}
 use Rattle.hot_index.proofs.changing.try_change.Goals as goal
 
-pub returns-clause-asked : goal.returns-clause-asked
-returns-clause-asked g c = tidied_asked _ _ _ (asked_call c.args.ask c.args.key.now c.args.value) c.try_twice.result c.requires.idle.1 c.try_twice.ensures.asked c.tidy.ensures.tidied
+pub returns : goal.returns
+returns g c = record { asked = tidied_asked _ _ _ (asked_call c.args.ask c.args.key.now c.args.value) c.try_twice.result c.requires.idle.1 c.try_twice.ensures.asked c.tidy.ensures.tidied }

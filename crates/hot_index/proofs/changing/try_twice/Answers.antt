@@ -17,11 +17,11 @@ use Rattle.hot_index.proofs.Tracing.{ended_again}
 use Rattle.hot_index.proofs.Trying.{once_asked, outcome_then, round_later, then_collected, unnoted_then}
 use Rattle.hot_index.proofs.changing.try_twice.Goals as goal
 
-pub returns-in_default-clause-asked : goal.returns-in_default-clause-asked
-returns-in_default-clause-asked g c = once_asked (asked_call c.args.ask c.args.key.now c.args.value) c.try_once-first.result (c.lacked.ensures.none c.in_default.is) c.try_once-first.ensures.asked
+pub returns-in_default : goal.returns-in_default
+returns-in_default g c = record { asked = once_asked (asked_call c.args.ask c.args.key.now c.args.value) c.try_once-first.result (c.lacked.ensures.none c.in_default.is) c.try_once-first.ensures.asked }
 
-pub returns-then-has_room-clause-asked : goal.returns-then-has_room-clause-asked
-returns-then-has_room-clause-asked g c =
+pub returns-then-has_room : goal.returns-then-has_room
+returns-then-has_room g c =
     let table = c.args.table.now in
     let call = asked_call c.args.ask c.args.key.now c.args.value in
     let k = pass_of c.args.seat.now in
@@ -32,14 +32,16 @@ returns-then-has_room-clause-asked g c =
     let later = round_later k (c.try_once-first.new.seat, c.try_once-first.new.gate) (c.collect_round-round.new.seat, c.collect_round-round.new.gate) unnoted first.later first.replied.idle.1 round in
     let both = outcome_then table.layout k (pass_of c.collect_round-round.new.seat) (pass_of c.try_once.new.seat) (then_collected k (c.try_once-first.new.seat, c.try_once-first.new.gate) (c.collect_round-round.new.seat, c.collect_round-round.new.gate) unnoted first.later first.replied.idle.1 round) later call c.try_once.result again.replied.noted again.replied.refused in
     record {
-      replied = record { idle = again.replied.idle; noted = both.0; refused = both.1; loaded = le_trans later again.replied.loaded };
-      ended = ended_again table g.G.Gate.becomes c.try_once.result (c.args.seat.now, c.args.gate.now) (c.try_once-first.new.seat, c.try_once-first.new.gate) (c.collect_round-round.new.seat, c.collect_round-round.new.gate) _ first.ended round again.ended;
-      later = le_trans later again.later;
-      few = (let count = round_few round in omega (arith, first.few, count, again.few));
+      asked = record {
+        replied = record { idle = again.replied.idle; noted = both.0; refused = both.1; leafless = again.replied.leafless; loaded = le_trans later again.replied.loaded };
+        ended = ended_again table g.G.Gate.becomes c.try_once.result (c.args.seat.now, c.args.gate.now) (c.try_once-first.new.seat, c.try_once-first.new.gate) (c.collect_round-round.new.seat, c.collect_round-round.new.gate) _ first.ended round again.ended;
+        later = le_trans later again.later;
+        few = (let count = round_few round in omega (arith, first.few, count, again.few));
+      };
     }
 
-pub returns-clause-asked : goal.returns-clause-asked
-returns-clause-asked g c =
+pub returns : goal.returns
+returns g c =
     let table = c.args.table.now in
     let call = asked_call c.args.ask c.args.key.now c.args.value in
     let k = pass_of c.args.seat.now in
@@ -56,10 +58,11 @@ returns-clause-asked g c =
         idle = again.idle;
         noted = tt;
         refused = record { unnoted = unnoted_then table.layout k (pass_of c.collect_round-round.new.seat) (pass_of c.refuse_again.new.seat) collected later again.unnoted; cause = cause };
+        leafless = first.replied.leafless;
         loaded = subst (λ (z : Fresh). c.args.seat.now.known.steps ≤ z.step) (sym (again.fresh ∙ ap (λ (z : Known). z.fresh) round.does.rest)) first.replied.loaded;
       };
       ended = ended_again table g.G.Gate.becomes (Err fault) (c.args.seat.now, c.args.gate.now) (c.try_once-first.new.seat, c.try_once-first.new.gate) (c.collect_round-round.new.seat, c.collect_round-round.new.gate) _ first.ended round again.ended;
       later = omega (arith, later, again.steps);
       few = (let count = round_few round in omega (arith, first.few, count, again.steps));
     } in
-    subst (λ (z : Result Reply TryFault). HasAsked table g.G.Gate.becomes (AreTries table.layout z) (twice_steps table.layout) call z (c.args.seat.now, c.args.gate.now) (c.refuse_again.new.seat, c.refuse_again.new.gate)) (sym c.in-Some.ensures.some) whole
+    record { asked = subst (λ (z : Result Reply TryFault). HasAsked table g.G.Gate.becomes (AreTries table.layout z) (twice_steps table.layout) call z (c.args.seat.now, c.args.gate.now) (c.refuse_again.new.seat, c.refuse_again.new.gate)) (sym c.in-Some.ensures.some) whole }

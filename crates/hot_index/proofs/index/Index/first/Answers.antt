@@ -1,32 +1,12 @@
--- The list has one pair at most, and this is taken.
-use Rattle.std.proofs.Common.{◌≡◌, ◌≤◌, ℕ, List, [], length, refl, sym, ap, subst, ◌∙◌, arith}
-use Rattle.std.proofs.lemmas.Result.{err_from_is_err_and}
-use Rattle.std.specs.Option.{option_to_list}
-use Rattle.hot_index.specs.Answers.{HasFoundPair, IsListed}
+-- The greatest key is the last one with the empty prefix.
+use Rattle.std.proofs.Common.{ℕ, List, ap, subst, ◌∙◌}
+use Rattle.finite_map.specs.Scans.{IsLawfulScan}
+use Rattle.hot_index.specs.Answers.{IsFoundBy}
+use Rattle.hot_index.specs.Calls.{IsRangeRead}
 use Rattle.key_ranges.specs.Ranges.{last_with}
-use Rattle.hot_index.proofs.Found.{listed_found}
-use Rattle.hot_index.proofs.Firsts.{one_at_most, only}
 use Rattle.hot_index.proofs.index.Index.first.Goals as goal
 
-pub returns-clause-ok : goal.returns-clause-ok
-returns-clause-ok c =
-    let more = c.in_ok-scan_into.field-0 in
-    let items = c.in_ok-pairs.pairs.items in
-    let few : length items ≤ 1 = subst (λ (l : List (List ℕ × ℕ)). length l ≤ 1) (sym c.in_ok-pairs.ensures.list) (one_at_most c.in_ok-scan_into.ensures.ok (record { pairs = c.in_ok-pairs.pairs; more = more }) c.in_ok-pairs.ensures.list refl) in
-    let taken : option_to_list c.pop.result ≡ c.scan_into.new.pairs = only items c.pop.new.self.items c.pop.result c.pop.ensures.items few (λ inside. c.pop.ensures.variant.1 (let ok = c.in_ok-pairs.pairs.ok.0 in omega (arith, ok, inside))) ∙ c.in_ok-pairs.ensures.list in
-    let upto = c.last_with_prefix.ensures ∙ ap last_with c.of_places-empty.ensures in (
-      more,
-      subst (λ pairs. IsListed c.args.self.now.layout c.args.pass.now c.scan_into.new.pass c.args.from.now (last_with []) 1 pairs more) (sym taken)
-          (subst (λ key. IsListed c.args.self.now.layout c.args.pass.now c.scan_into.new.pass c.args.from.now key 1 c.scan_into.new.pairs more) upto c.in_ok-scan_into.ensures.ok),
-    )
-
-pub returns-in_err-scan_into-clause-memory : goal.returns-in_err-scan_into-clause-memory
-returns-in_err-scan_into-clause-memory c =
-    rw (err_from_is_err_and c.from_residual.result c.from_residual.ensures.1).1
-    (subst (λ key. HasFoundPair c.args.self.now.layout c.args.pass.now c.scan_into.new.pass c.args.from.now key 1) (c.last_with_prefix.ensures ∙ ap last_with c.of_places-empty.ensures) c.in_err-scan_into.ensures.memory)
-
-pub returns-in_err-pairs-clause-memory : goal.returns-in_err-pairs-clause-memory
-returns-in_err-pairs-clause-memory c =
-    rw (err_from_is_err_and c.from_residual-in_err-pairs.result c.from_residual-in_err-pairs.ensures.1).1
-    (subst (λ key. HasFoundPair c.args.self.now.layout c.args.pass.now c.scan_into.new.pass c.args.from.now key 1) (c.last_with_prefix.ensures ∙ ap last_with c.of_places-empty.ensures)
-    (listed_found c.in_ok-scan_into.ensures.ok c.in_err-pairs.ensures.memory c.in_err-pairs.ensures.short))
+pub returns : goal.returns
+returns c =
+    subst (λ (upto : List ℕ). IsRangeRead (λ layout k j. IsFoundBy IsLawfulScan layout k j c.args.from.now upto) c.args.from.now upto 1 c.first_by.result c.args.self.now c.args.pass.now c.first_by.new.pass)
+    (c.last_with_prefix-last.ensures ∙ ap last_with c.of_places.ensures) c.first_by.ensures

@@ -1,0 +1,164 @@
+//! Scans, of a range of keys in either direction.
+
+ghost use Rattle.rowex_scanning.specs.Directions.{IsLawfulBy};
+ghost use Rattle.hot_index.specs.Answers.{IsFoundBy};
+ghost use Rattle.hot_index.specs.Calls.{IsListRead, IsListReadBy, IsListReadWith, IsRangeRead, IsScanRead, IsScanReadBy, IsScanReadWith};
+ghost use Rattle.hot_index.specs.Passes.{Owns};
+
+use crate::index::{Index, Pass};
+use epochs::{pin, unpin};
+use finite_map::Scan;
+use key_bits::Key;
+use packed_pairs::Pairs;
+use rowex_core::{Gate, NoGate};
+use rowex_scanning::{Direction, Range, scan_root};
+use std::alloc::{AllocError, Global};
+
+impl Index {
+    /// Lists the first `limit` pairs whose keys are from `from` to `upto`, both included, in key order, and tells whether the range
+    /// has more.
+    ///
+    /// It takes no lock and never blocks. It makes at most 100 atomic steps, 7 for each pair of the limit, and 26 for each entry of a
+    /// node that it loads: at most 6,481 entries, and two for each pair of the limit. That is at most 168,606 steps, and 59 for each
+    /// pair, whatever others insert meanwhile. It is no snapshot: each pair was in the index at some moment of the call, and no key
+    /// is missing that was there all along (if there are more, no key up to the last one listed). If memory is refused, it lists
+    /// nothing; it asks for none unless it has found a pair to list.
+    pub fn scan(
+        &self,
+        alloc: Global,
+        pass: &mut Pass,
+        from: &Key,
+        upto: &Key,
+        limit: usize,
+    ) -> Result<Scan, AllocError>
+        requires { Owns self.now pass.old }
+        ensures { IsScanRead from.now upto.now limit result self.now pass.old pass.new }
+    {
+        self.scan_with(alloc, pass, from, upto, limit, &mut NoGate)
+    }
+
+    /// `scan`, with a gate that is told each of its steps.
+    pub fn scan_with<G: Gate>(
+        &self,
+        alloc: Global,
+        pass: &mut Pass,
+        from: &Key,
+        upto: &Key,
+        limit: usize,
+        gate: &mut G,
+    ) -> Result<Scan, AllocError>
+        requires { Owns self.now pass.old }
+        ensures { IsScanReadWith from.now upto.now limit result self.now G.becomes (pass.old, gate.old) (pass.new, gate.new) }
+    {
+        self.scan_by(alloc, pass, Direction::Upwards, from, upto, limit, gate)
+    }
+
+    /// `scan` into a list, whose earlier pairs are dropped. Returns whether the range has more.
+    ///
+    /// A list that is used again keeps its memory, and a key takes no more bytes of it than it has: so this is the form for frequent
+    /// scans. If memory is refused, the list holds the first pairs, fewer than the limit, and the range has more: it is what a scan
+    /// with their number as its limit gives.
+    pub fn scan_into(
+        &self,
+        pass: &mut Pass,
+        from: &Key,
+        upto: &Key,
+        limit: usize,
+        pairs: &mut Pairs,
+    ) -> Result<bool, AllocError>
+        requires { Owns self.now pass.old }
+        ensures { IsListRead from.now upto.now limit pairs.new result self.now pass.old pass.new }
+    {
+        self.scan_into_with(pass, from, upto, limit, pairs, &mut NoGate)
+    }
+
+    /// `scan_into`, with a gate that is told each of its steps.
+    pub fn scan_into_with<G: Gate>(
+        &self,
+        pass: &mut Pass,
+        from: &Key,
+        upto: &Key,
+        limit: usize,
+        pairs: &mut Pairs,
+        gate: &mut G,
+    ) -> Result<bool, AllocError>
+        requires { Owns self.now pass.old }
+        ensures { IsListReadWith from.now upto.now limit pairs.new result self.now G.becomes (pass.old, gate.old) (pass.new, gate.new) }
+    {
+        self.list_by(pass, Direction::Upwards, from, upto, limit, pairs, gate)
+    }
+
+    /// `scan_into_with` or `scan_reverse_into_with`. Inline, so that each has a walk of its own direction.
+    #[inline(always)]
+    pub(crate) fn list_by<G: Gate>(
+        &self,
+        pass: &mut Pass,
+        direction: Direction,
+        from: &Key,
+        upto: &Key,
+        limit: usize,
+        pairs: &mut Pairs,
+        gate: &mut G,
+    ) -> Result<bool, AllocError>
+        requires { Owns self.now pass.old }
+        ensures { IsListReadBy (IsLawfulBy direction) from.now upto.now limit pairs.new result self.now G.becomes (pass.old, gate.old) (pass.new, gate.new) }
+    {
+        let range = Range {
+            from,
+            upto,
+            direction,
+            limit,
+        };
+        pin(&self.table, &mut pass.seat, gate);
+        let scan = scan_root(
+            &self.table,
+            &mut pass.seat,
+            gate,
+            &mut pass.room.way,
+            &range,
+            pairs,
+        );
+        unpin(&self.table, &mut pass.seat, gate);
+        scan
+    }
+
+    /// `scan_with`, or `scan_reverse` with a gate. Inline, as `list_by` is.
+    #[inline(always)]
+    pub(crate) fn scan_by<G: Gate>(
+        &self,
+        alloc: Global,
+        pass: &mut Pass,
+        direction: Direction,
+        from: &Key,
+        upto: &Key,
+        limit: usize,
+        gate: &mut G,
+    ) -> Result<Scan, AllocError>
+        requires { Owns self.now pass.old }
+        ensures { IsScanReadBy (IsLawfulBy direction) from.now upto.now limit result self.now G.becomes (pass.old, gate.old) (pass.new, gate.new) }
+    {
+        let mut list = Pairs::new(alloc);
+        let more = self.list_by(pass, direction, from, upto, limit, &mut list, gate)?;
+        let pairs = list.to_vec(alloc)?;
+        Ok(Scan { pairs, more })
+    }
+
+    /// The first pair of the range in this direction.
+    #[inline(always)]
+    pub(crate) fn first_by(
+        &self,
+        alloc: Global,
+        pass: &mut Pass,
+        direction: Direction,
+        from: &Key,
+        upto: &Key,
+    ) -> Result<Option<(Key, u64)>, AllocError>
+        requires { Owns self.now pass.old }
+        ensures { IsRangeRead (λ layout k j. IsFoundBy (IsLawfulBy direction) layout k j from.now upto.now) from.now upto.now 1 result self.now pass.old pass.new }
+    {
+        let mut list = Pairs::new(alloc);
+        self.list_by(pass, direction, from, upto, 1, &mut list, &mut NoGate)?;
+        let mut pairs = list.to_vec(alloc)?;
+        Ok(pairs.pop())
+    }
+}
