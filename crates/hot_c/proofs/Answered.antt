@@ -9,7 +9,8 @@ use Rattle.rowex_writing.specs.Attempts.{asked_call}
 use Rattle.rowex_writing.specs.declared.attempts.TryFault.{TryFault}
 use Rattle.rowex_writing.specs.declared.plan.Ask.{Ask}
 use Rattle.rowex_writing.specs.declared.plan.Ask.TheVariants as ask
-use Rattle.hot_index.specs.Handles.{HandleView, IsTried, Stays}
+use Rattle.hot_index.specs.Calls.{IsTried}
+use Rattle.hot_index.specs.Handles.{HandleView, Stays}
 use Rattle.hot_index.specs.Passes.{PassView}
 use Rattle.hot_index.specs.Traces.{HasMade, untold}
 use Rattle.hot_c.specs.Calls.{Answers, HasOutcome, FitsInKey, MakesSteps}
@@ -53,4 +54,4 @@ attempts (ask.RemoveIf expected) key value outcome index k j made = made
 
 pub tried : (what : Ask) (key : List ℕ) (value : ℕ) (outcome : Result Reply TryFault) (old new : HandleView) → Stays (IsTried (asked_call what key value) outcome) old new
     → Stays (λ index k j. HasOutcome (asked_call what key value) outcome index k j × MakesSteps (asked_call what key value) outcome index k j) old new
-tried what key value outcome old new h = record { index = h.index; pass = (h.pass.answer, attempts what key value outcome old.index old.pass new.pass h.pass.made) }
+tried what key value outcome old new h = record { index = h.index; pass = (h.pass.call, attempts what key value outcome old.index old.pass new.pass h.pass.made) }

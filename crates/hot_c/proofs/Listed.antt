@@ -5,11 +5,13 @@ use Rattle.std.proofs.lemmas.List.{length-reverse, reverse-reverse}
 use Rattle.std.specs.declared.alloc.AllocError.{AllocError}
 use Rattle.finite_map.specs.declared.Scan.{Scan}
 use Rattle.record_words.specs.declared.layout.Layout.{Layout}
-use Rattle.hot_index.specs.Answers.{HasFoundPair, IsListed, IsUnnoted}
-use Rattle.hot_index.specs.Handles.{HandleView, IsRangeRead, Stays}
+use Rattle.hot_index.specs.Answers.{HasFoundPair, IsListed, IsListedBy, IsUnnoted, ScanLaw}
+use Rattle.hot_index.specs.Calls.{IsListReadBy, IsRangeRead}
+use Rattle.hot_index.specs.Handles.{HandleView, Stays}
 use Rattle.hot_index.specs.Passes.{PassView}
 use Rattle.hot_index.specs.Reverse.{IsReverseListed}
 use Rattle.hot_index.specs.Traces.{HasGotRange, untold}
+use Rattle.hot_index.proofs.Reading.{range_whole}
 use Rattle.hot_c.specs.Calls.{FitsInKey, StaysOpen}
 use Rattle.hot_c.specs.Orders.{IsFilledIn, IsListedIn, in_order}
 use Rattle.hot_c.specs.Owning.{heap}
@@ -58,6 +60,11 @@ pub in_its_order : (order : Order) (layout : Layout) (k j : PassView) (from upto
 in_its_order Rising layout k j from upto limit pairs is_more h = h
 in_its_order Falling layout k j from upto limit pairs is_more h = h
 in_its_order LastRising layout k j from upto limit pairs is_more h = subst (λ (l : List (List ℕ × ℕ)). IsReverseListed layout k j from upto limit l is_more) (sym (reverse-reverse pairs)) h
+
+-- of a scan into a list, whatever part it leaves
+pub without_part : {IsLawful : ScanLaw} {from upto : List ℕ} {limit : ℕ} {pairs : List (List ℕ × ℕ)} {r : Result Bool AllocError} {old new : HandleView}
+    → Stays (λ index k j. IsListReadBy IsLawful from upto limit pairs r index untold (k, tt) (j, tt)) old new → Stays (IsRangeRead (λ layout k j. IsListedBy IsLawful layout k j from upto limit pairs) from upto limit r) old new
+without_part {r = r} h = record { index = h.index; pass = range_whole r h.pass }
 
 -- what is left in one order is left in the same one
 pub filled_as : (order other : Order) → order ≡ other → (from upto : List ℕ) (limit : ℕ) (pairs : List (List ℕ × ℕ)) (r : Result Bool AllocError) (old new : HandleView)
