@@ -1,7 +1,7 @@
 //! The index as a map that is measured.
 
 ghost use Rattle.std.specs.Prelude.{All, IfOk};
-ghost use Rattle.hot_index.specs.Passes.{Owns};
+ghost use Rattle.seat_calls.specs.Passes.{Owns};
 
 use crate::census::Census;
 use crate::keys::{LAST, key_of};

@@ -9,10 +9,10 @@ use Rattle.rowex_writing.specs.Attempts.{asked_call}
 use Rattle.rowex_writing.specs.declared.attempts.TryFault.{TryFault}
 use Rattle.rowex_writing.specs.declared.plan.Ask.{Ask}
 use Rattle.rowex_writing.specs.declared.plan.Ask.TheVariants as ask
-use Rattle.hot_index.specs.Calls.{IsTried}
+use Rattle.seat_calls.specs.Calls.{IsTried}
 use Rattle.hot_index.specs.Handles.{HandleView, Stays}
-use Rattle.hot_index.specs.Passes.{PassView}
-use Rattle.hot_index.specs.Traces.{HasMade, untold}
+use Rattle.seat_calls.specs.Passes.{PassView}
+use Rattle.seat_calls.specs.Traces.{HasMade, untold}
 use Rattle.hot_c.specs.Calls.{Answers, HasOutcome, FitsInKey, MakesSteps}
 use Rattle.hot_c.specs.Statuses.{reply_status, value_after}
 use Rattle.hot_c.specs.declared.opened.Opened.{Opened}

@@ -5,12 +5,12 @@ use Rattle.std.proofs.lemmas.List.{length-reverse, reverse-reverse}
 use Rattle.std.specs.declared.alloc.AllocError.{AllocError}
 use Rattle.finite_map.specs.declared.Scan.{Scan}
 use Rattle.record_words.specs.declared.layout.Layout.{Layout}
-use Rattle.hot_index.specs.Answers.{HasFoundPair, IsListed, IsListedBy, IsUnnoted, ScanLaw}
-use Rattle.hot_index.specs.Calls.{IsListReadBy, IsRangeRead}
+use Rattle.seat_calls.specs.Answers.{HasFoundPair, IsListed, IsListedBy, IsUnnoted, ScanLaw}
+use Rattle.seat_calls.specs.Calls.{IsListReadBy, IsRangeRead}
 use Rattle.hot_index.specs.Handles.{HandleView, Stays}
-use Rattle.hot_index.specs.Passes.{PassView}
-use Rattle.hot_index.specs.Reverse.{IsReverseListed}
-use Rattle.hot_index.specs.Traces.{HasGotRange, untold}
+use Rattle.seat_calls.specs.Passes.{PassView}
+use Rattle.seat_calls.specs.Reverse.{IsReverseListed}
+use Rattle.seat_calls.specs.Traces.{HasGotRange, untold}
 use Rattle.hot_index.proofs.Reading.{range_whole}
 use Rattle.hot_c.specs.Calls.{FitsInKey, StaysOpen}
 use Rattle.hot_c.specs.Orders.{IsFilledIn, IsListedIn, in_order}

@@ -5,7 +5,7 @@ use Rattle.std.specs.List.{slice_get}
 use Rattle.std.proofs.lemmas.List.{length-map}
 use Rattle.record_words.specs.declared.layout.Layout.{Layout}
 use Rattle.rowex_table.specs.Seats.{TableView}
-use Rattle.hot_index.specs.Passes.{IsNewPass}
+use Rattle.seat_calls.specs.Passes.{IsNewPass}
 use Rattle.hot_c.specs.Calls.{AreNew, HaveOpenedOn}
 use Rattle.hot_c.specs.declared.handle.Handle.{Handle}
 use Rattle.hot_c.specs.declared.opened.Opened.{Opened}

@@ -10,12 +10,12 @@ use Rattle.record_words.specs.declared.layout.Layout.{Layout}
 use Rattle.record_words.specs.declared.layout.Stock.{Stock}
 use Rattle.rowex_table.specs.Seats.{TableView}
 use Rattle.rowex_writing.specs.declared.attempts.TryFault.{TryFault}
-use Rattle.hot_index.specs.Answers.{IsNoted, IsRefused, IsUnnoted}
-use Rattle.hot_index.specs.Census.{HasCounted}
+use Rattle.seat_calls.specs.Answers.{IsNoted, IsRefused, IsUnnoted}
+use Rattle.seat_calls.specs.Census.{HasCounted}
 use Rattle.hot_index.specs.Handles.{Stays}
-use Rattle.hot_index.specs.Passes.{PassView, IsNewPass}
-use Rattle.hot_index.specs.Traces.{HasCollected, HasGot, HasMade, untold}
-use Rattle.hot_index.specs.declared.census.RecordCounts.{RecordCounts}
+use Rattle.seat_calls.specs.Passes.{PassView, IsNewPass}
+use Rattle.seat_calls.specs.Traces.{HasCollected, HasGot, HasMade, untold}
+use Rattle.seat_calls.specs.declared.census.RecordCounts.{RecordCounts}
 use Rattle.hot_c.specs.Statuses.{reply_status, value_after}
 use Rattle.hot_c.specs.declared.handle.Handle.{Handle}
 use Rattle.hot_c.specs.declared.opened.Opened.{Opened}

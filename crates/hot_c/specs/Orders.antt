@@ -1,9 +1,9 @@
 -- The orders in which a scan lists its pairs, and what was answered in each.
 use Rattle.std.specs.Prelude.{ℕ, List, reverse, Bool}
 use Rattle.record_words.specs.declared.layout.Layout.{Layout}
-use Rattle.hot_index.specs.Answers.{IsListed}
-use Rattle.hot_index.specs.Passes.{PassView}
-use Rattle.hot_index.specs.Reverse.{IsReverseListed}
+use Rattle.seat_calls.specs.Answers.{IsListed}
+use Rattle.seat_calls.specs.Passes.{PassView}
+use Rattle.seat_calls.specs.Reverse.{IsReverseListed}
 use Rattle.hot_c.specs.declared.pairs.Order.{Order}
 use Rattle.hot_c.specs.declared.pairs.Order.TheVariants.{Rising, Falling, LastRising}
 

@@ -4,8 +4,8 @@ use Rattle.std.specs.Int.{from_bool}
 use Rattle.packed_pairs.specs.Parts.{fitting, packed_head, keys_in}
 use Rattle.packed_pairs.specs.declared.pairs.Head.{Head}
 use Rattle.record_words.specs.declared.layout.Layout.{Layout}
-use Rattle.hot_index.specs.Answers.{IsListed}
-use Rattle.hot_index.specs.Passes.{PassView}
+use Rattle.seat_calls.specs.Answers.{IsListed}
+use Rattle.seat_calls.specs.Passes.{PassView}
 use Rattle.hot_c.specs.Scans.{ListsInto}
 use Rattle.hot_c.specs.declared.opened.Opened.{Opened}
 

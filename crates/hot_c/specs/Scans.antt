@@ -2,10 +2,10 @@
 use Rattle.std.specs.Prelude.{◌≡◌, ◌⊎◌, ℕ, ◌≤◌, List, length, drop, Bool, Option, Some, None, IsSome}
 use Rattle.std.specs.Int.{from_bool}
 use Rattle.record_words.specs.declared.layout.Layout.{Layout}
-use Rattle.hot_index.specs.Answers.{HasFoundPair, IsListed, IsUnnoted}
-use Rattle.hot_index.specs.Passes.{PassView}
-use Rattle.hot_index.specs.Reverse.{IsReverseListed}
-use Rattle.hot_index.specs.Traces.{HasGotRange, untold}
+use Rattle.seat_calls.specs.Answers.{HasFoundPair, IsListed, IsUnnoted}
+use Rattle.seat_calls.specs.Passes.{PassView}
+use Rattle.seat_calls.specs.Reverse.{IsReverseListed}
+use Rattle.seat_calls.specs.Traces.{HasGotRange, untold}
 use Rattle.hot_c.specs.Calls.{FitsInKey, StaysOpen}
 use Rattle.hot_c.specs.Orders.{IsLastListed}
 use Rattle.hot_c.specs.Pairs.{AreSpelled}

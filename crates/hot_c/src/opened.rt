@@ -4,10 +4,10 @@ ghost use Rattle.std.specs.Prelude.{◌≡◌, ◌≢◌, Err};
 ghost use Rattle.finite_map.specs.declared.Call.TheVariants.{Get};
 ghost use Rattle.rowex_writing.specs.Asking.{aim_of};
 ghost use Rattle.rowex_writing.specs.Attempts.{asked_call};
-ghost use Rattle.hot_index.specs.Answers.{IsNoted};
-ghost use Rattle.hot_index.specs.Calls.{IsRangeRead, IsTried};
+ghost use Rattle.seat_calls.specs.Answers.{IsNoted};
+ghost use Rattle.seat_calls.specs.Calls.{IsRangeRead, IsTried};
 ghost use Rattle.hot_index.specs.Handles.{Stays};
-ghost use Rattle.hot_index.specs.Traces.{HasGot, untold};
+ghost use Rattle.seat_calls.specs.Traces.{HasGot, untold};
 ghost use Rattle.hot_c.specs.Orders.{IsFilledIn};
 
 use crate::pairs::Order;

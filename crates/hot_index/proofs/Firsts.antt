@@ -8,8 +8,8 @@ use Rattle.tries.specs.Keys.{Key}
 use Rattle.rowex_scanning.specs.Directions.{IsLawfulBy}
 use Rattle.rowex_scanning.specs.declared.direction.Direction.{Direction}
 use Rattle.rowex_scanning.specs.declared.direction.Direction.TheVariants.{Upwards, Downwards}
-use Rattle.hot_index.specs.Answers.{IsListedBy}
-use Rattle.hot_index.specs.Passes.{PassView}
+use Rattle.seat_calls.specs.Answers.{IsListedBy}
+use Rattle.seat_calls.specs.Passes.{PassView}
 
 nothing : (found : Option (Key × ℕ)) → found ≡ None → IsSome found → ⊥
 nothing found e is = cc

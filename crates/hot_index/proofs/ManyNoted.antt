@@ -22,14 +22,14 @@ use Rattle.rowex_table.proofs.Running.{ends_told, runs_append, runs_one}
 use Rattle.epochs.specs.Runs.{Pins}
 use Rattle.rowex_reading.proofs.Led.{HasLookedAt, looked_at, looks_first}
 use Rattle.tries.specs.Keys.{Key}
-use Rattle.hot_index.specs.Answers.{GoesOn}
-use Rattle.hot_index.specs.Many.{AreNoted, AreRight, HasGotMany, HasLookedUp, gets, most_entries}
-use Rattle.hot_index.specs.Noting.{answers_so, same_reply}
-use Rattle.hot_index.specs.Passes.{IsSettled, PassView, pass_of}
-use Rattle.hot_index.specs.Traces.{reading, untold}
-use Rattle.hot_index.proofs.LookedUp.{looked_on}
-use Rattle.hot_index.proofs.Noting.{HasLooked, get_quiet, goes_on, itself, legal_front, longer, looked_then, reply_is, settles}
-use Rattle.hot_index.proofs.Tracing.{pinned_sees, runs_untold, step_untold}
+use Rattle.seat_calls.specs.Answers.{GoesOn}
+use Rattle.seat_calls.specs.Many.{AreNoted, AreRight, HasGotMany, HasLookedUp, gets, most_entries}
+use Rattle.seat_calls.specs.Noting.{answers_so, same_reply}
+use Rattle.seat_calls.specs.Passes.{IsSettled, PassView, pass_of}
+use Rattle.seat_calls.specs.Traces.{reading, untold}
+use Rattle.seat_calls.proofs.LookedUp.{looked_on}
+use Rattle.seat_calls.proofs.Noting.{HasLooked, get_quiet, goes_on, itself, legal_front, longer, looked_then, reply_is, settles}
+use Rattle.seat_calls.proofs.Tracing.{pinned_sees, runs_untold, step_untold}
 
 -- The places, from the last one on: each is the last right one up to that of the next call
 

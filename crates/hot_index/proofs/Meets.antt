@@ -11,8 +11,8 @@ use Rattle.record_words.specs.declared.layout.Layout.{Layout}
 use Rattle.rowex_core.specs.declared.known.Known.{Known}
 use Rattle.rowex_table.specs.Rule.{SeatsHaveMet, with_front}
 use Rattle.rowex_table.specs.Seats.{SeatView}
-use Rattle.hot_index.specs.Passes.{AreByPasses, IsSettled, pass_of}
-use Rattle.hot_index.specs.Answers.{HaveMet, IsUnnoted}
+use Rattle.seat_calls.specs.Passes.{AreByPasses, IsSettled, pass_of}
+use Rattle.seat_calls.specs.Answers.{HaveMet, IsUnnoted}
 
 -- a pass of which only the front goes on, by changes of others
 pub goes_on : (k : Known) (front : List Change) → IsSettled k → LegalFront front → OthersGoOn k.pass k.front front → IsSettled (with_front front k)

@@ -19,14 +19,14 @@ use Rattle.rowex_table.specs.Seats.{IsSeatOf, SeatView, TableView}
 use Rattle.rowex_walks.specs.Scan.{Range}
 use Rattle.epochs.specs.Runs.{Pins}
 use Rattle.tries.specs.Keys.{Key}
-use Rattle.hot_index.specs.Answers.{IsFoundBy, IsListedBy, IsUnnoted, ScanLaw}
-use Rattle.hot_index.specs.Calls.{IsListReadBy, IsRangeReadWith, IsScanReadBy, no_part}
-use Rattle.hot_index.specs.Passes.{PassView, IsSettled, pass_of}
-use Rattle.hot_index.specs.Traces.{untold}
+use Rattle.seat_calls.specs.Answers.{IsFoundBy, IsListedBy, IsUnnoted, ScanLaw}
+use Rattle.seat_calls.specs.Calls.{IsListReadBy, IsRangeReadWith, IsScanReadBy, no_part}
+use Rattle.seat_calls.specs.Passes.{PassView, IsSettled, pass_of}
+use Rattle.seat_calls.specs.Traces.{untold}
 use Rattle.hot_index.proofs.Found.{listed_found, part_found}
-use Rattle.hot_index.proofs.Noting.{looked}
-use Rattle.hot_index.proofs.Scanned.{if_answered, if_refused, listed_scanned, listed_unnoted, scan_answered, scan_counted, scan_refused}
-use Rattle.hot_index.proofs.Tracing.{has_walked, walked_untold}
+use Rattle.seat_calls.proofs.Noting.{looked}
+use Rattle.seat_calls.proofs.Scanned.{if_answered, if_refused, listed_scanned, listed_unnoted, scan_answered, scan_counted, scan_refused}
+use Rattle.seat_calls.proofs.Tracing.{has_walked, walked_untold}
 
 -- nobody need be told
 pub range_untold : {A E G : Type 0} {IsAnswer : Layout → PassView → PassView → A → Type 0} {IsPart : Layout → PassView → PassView → Type 0} {from upto : Key} {limit : ℕ} {r : Result A E} {index : TableView}

@@ -1,7 +1,7 @@
 -- What a cursor lists, and where it goes on.
 use Rattle.std.specs.Prelude.{◌≡◌, ◌⊎◌, ℕ, List, [], Bool, true, false, Option, Some, None}
-use Rattle.hot_index.specs.Answers.{IsListed}
-use Rattle.hot_index.specs.Passes.{PassView}
+use Rattle.seat_calls.specs.Answers.{IsListed}
+use Rattle.seat_calls.specs.Passes.{PassView}
 use Rattle.hot_index.specs.declared.cursor.Rest.{Rest}
 use Rattle.key_ranges.specs.Ranges.{IsNextKey, NoKeyAbove}
 use Rattle.packed_pairs.specs.Last.{IsLastKey}

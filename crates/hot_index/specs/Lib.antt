@@ -1,16 +1,6 @@
 -- The definitions of the crate.
-pub mod Passes
-pub mod Answers
-pub mod Noting
-pub mod Traces
-pub mod Many
-pub mod Census
-pub mod Counts
 pub mod Ranges
-pub mod Reverse
 pub mod Cursors
-pub mod Asked
 pub mod Stamps
-pub mod Calls
 pub mod Handles
 pub mod Statements

@@ -11,8 +11,8 @@ use Rattle.moments.specs.declared.Rec.TheVariants.{Leaf as a_leaf}
 use Rattle.tries.specs.Keys.{Key}
 use Rattle.rowex_records.specs.Claims.{AllMissed}
 use Rattle.rowex_writing.specs.declared.attempts.TryFault.TheVariants.{Busy, FullLeaves}
-use Rattle.hot_index.specs.Answers.{IsCause, IsNoted}
-use Rattle.hot_index.specs.Passes.{PassView}
+use Rattle.seat_calls.specs.Answers.{IsCause, IsNoted}
+use Rattle.seat_calls.specs.Passes.{PassView}
 
 -- Where all leaf records are long, as in an index that `create` makes, a call that lacks one has found each of them not free.
 abbrev pub LacksAllLong : Type 0

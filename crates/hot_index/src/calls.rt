@@ -2,10 +2,10 @@
 
 ghost use Rattle.std.specs.Prelude.{◌≡◌, ◌+◌, ◌≤◌, IfErr, MatchResult};
 ghost use Rattle.rowex_writing.specs.declared.plan.Full.{Full as FullValue};
-ghost use Rattle.hot_index.specs.Answers.{IsNoted, IsRefused, MayLack, fault_of};
-ghost use Rattle.hot_index.specs.Counts.{try_steps};
-ghost use Rattle.hot_index.specs.Passes.{Owns};
-ghost use Rattle.hot_index.specs.Traces.{HasTold};
+ghost use Rattle.seat_calls.specs.Answers.{IsNoted, IsRefused, MayLack, fault_of};
+ghost use Rattle.seat_calls.specs.Counts.{try_steps};
+ghost use Rattle.seat_calls.specs.Passes.{Owns};
+ghost use Rattle.seat_calls.specs.Traces.{HasTold};
 
 use crate::index::{Index, Pass, reply_of};
 use finite_map::{Call, Reply};

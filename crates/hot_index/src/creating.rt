@@ -6,12 +6,12 @@ ghost use lib.ListN.{get_elem?};
 ghost use Rattle.record_words.specs.Layout.{HasStock, leaves_of};
 ghost use Rattle.record_words.specs.Limits.{IsPassCount, IsStockPassCount, IsNodeCount, IsLeafCount, IsRecordCount};
 ghost use Rattle.rowex_table.specs.Seats.{IsNewSeatOf, SeatView};
-ghost use Rattle.hot_index.specs.Passes.{PassView, Owns, IsNewPass, IsSettled, pass_of};
+ghost use Rattle.seat_calls.specs.Passes.{PassView, Owns, IsNewPass, IsSettled, pass_of};
 
 use crate::index::{Index, Pass};
-use crate::room::new_room;
 use record_words::{Layout, LayoutFault, Stock};
 use rowex_table::{HotTable, TableSeat};
+use seat_calls::new_room;
 use std::alloc::{AllocError, Global};
 use thiserror::Error;
 

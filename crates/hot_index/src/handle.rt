@@ -3,24 +3,24 @@
 ghost use Rattle.std.specs.Prelude.{◌≡◌, ◌≢◌, [], All, Err, IfOk, length, map};
 ghost use Rattle.finite_map.specs.declared.Call.TheVariants.{Exchange, Get, Insert, Remove, RemoveIf, Upsert};
 ghost use Rattle.finite_map.specs.Reverse.{IsLawfulReverseScan};
-ghost use Rattle.hot_index.specs.Answers.{HaveMet, IsNoted, IsUnnoted, got};
-ghost use Rattle.hot_index.specs.Calls.{IsAwaited, IsListRead, IsListReadBy, IsRangeRead, IsScanRead, IsScanReadBy, IsTried};
-ghost use Rattle.hot_index.specs.Census.{HasCounted};
+ghost use Rattle.seat_calls.specs.Answers.{HaveMet, IsNoted, IsUnnoted, got};
+ghost use Rattle.seat_calls.specs.Calls.{IsAwaited, IsListRead, IsListReadBy, IsRangeRead, IsScanRead, IsScanReadBy, IsTried};
+ghost use Rattle.seat_calls.specs.Census.{HasCounted};
 ghost use Rattle.hot_index.specs.Handles.{Stays, handle_at};
-ghost use Rattle.hot_index.specs.Many.{AreNoted, HasGotMany, gets};
-ghost use Rattle.hot_index.specs.Passes.{Owns};
+ghost use Rattle.seat_calls.specs.Many.{AreNoted, HasGotMany, gets};
+ghost use Rattle.seat_calls.specs.Passes.{Owns};
 ghost use Rattle.hot_index.specs.Ranges.{IsFirstFound};
-ghost use Rattle.hot_index.specs.Reverse.{IsLastFound};
-ghost use Rattle.hot_index.specs.Traces.{HasCollected, HasGot, untold};
+ghost use Rattle.seat_calls.specs.Reverse.{IsLastFound};
+ghost use Rattle.seat_calls.specs.Traces.{HasCollected, HasGot, untold};
 ghost use Rattle.key_ranges.specs.Ranges.{last_with};
 
-use crate::census::RecordCounts;
 use crate::index::{Index, Pass};
 use epochs::Given;
 use finite_map::{Reply, Scan};
 use key_bits::Key;
 use packed_pairs::Pairs;
 use rowex_writing::{Full, TryFault};
+use seat_calls::RecordCounts;
 use std::alloc::{AllocError, Global};
 use std::marker::Model;
 use std::sync::{Arc, Wait};
@@ -65,7 +65,7 @@ pub struct Handle<I: ShowsIndex> {
 
 impl<I: ShowsIndex> Model for Handle<I> {
     ghost use Rattle.hot_index.specs.Handles.{HandleView};
-    ghost use Rattle.hot_index.specs.Passes.{Owns};
+    ghost use Rattle.seat_calls.specs.Passes.{Owns};
 
     ghost Value = { HandleView };
 

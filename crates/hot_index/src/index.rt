@@ -1,24 +1,15 @@
 //! The index and the passes by which threads use it, and the calls on it.
 
-ghost use Rattle.std.specs.Prelude.{◌≡◌, List, IsSome, length};
+ghost use Rattle.std.specs.Prelude.{◌≡◌, length};
 ghost use Rattle.finite_map.specs.declared.Call.TheVariants.{Get, Insert, Remove, Upsert};
-ghost use Rattle.finite_map.specs.declared.Note.{Note};
-ghost use Rattle.rowex_core.specs.declared.event.Act.TheVariants.{ClearPin};
-ghost use Rattle.rowex_core.specs.declared.known.Known.{Known};
-ghost use Rattle.rowex_table.specs.Runs.{StepsWith};
-ghost use Rattle.rowex_table.specs.Seats.{IsPassOf};
 ghost use Rattle.rowex_writing.specs.Attempts.{asked_call};
-ghost use Rattle.hot_index.specs.Passes.{Owns};
-ghost use Rattle.hot_index.specs.Answers.{IsNoted, IsUnnoted, HaveMet, got};
-ghost use Rattle.hot_index.specs.Calls.{IsAwaited, IsTried, IsTriedWith};
-ghost use Rattle.hot_index.specs.Census.{HasCounted};
-ghost use Rattle.hot_index.specs.Many.{AreNoted, HasGotMany, gets};
-ghost use Rattle.hot_index.specs.Traces.{HasCollected, HasGot, HasTold, untold};
+ghost use Rattle.seat_calls.specs.Passes.{Owns};
+ghost use Rattle.seat_calls.specs.Answers.{IsNoted, IsUnnoted, HaveMet, got};
+ghost use Rattle.seat_calls.specs.Calls.{IsAwaited, IsTried, IsTriedWith};
+ghost use Rattle.seat_calls.specs.Census.{HasCounted};
+ghost use Rattle.seat_calls.specs.Many.{AreNoted, HasGotMany, gets};
+ghost use Rattle.seat_calls.specs.Traces.{HasCollected, HasGot, HasTold, untold};
 
-use crate::census::{RecordCounts, count_records};
-use crate::changing::{change, try_change};
-use crate::many::{end_gets, look_up_each};
-use crate::room::Room;
 use epochs::{Given, collect_round, pin, unpin};
 use finite_map::Reply;
 use key_bits::Key;
@@ -26,6 +17,9 @@ use rowex_core::{Gate, NoGate};
 use rowex_reading::look_up;
 use rowex_table::{HotTable, TableSeat};
 use rowex_writing::{Ask, Full, TryFault};
+use seat_calls::{
+    RecordCounts, Room, change, count_records, end_get, end_gets, look_up_each, try_change,
+};
 use std::marker::Model;
 use std::sync::Wait;
 
@@ -52,7 +46,7 @@ pub struct Pass {
 }
 
 impl Model for Pass {
-    ghost use Rattle.hot_index.specs.Passes.{PassView, IsSettled, pass_of};
+    ghost use Rattle.seat_calls.specs.Passes.{PassView, IsSettled, pass_of};
 
     ghost Value = { PassView };
 
@@ -392,20 +386,4 @@ pub(crate) fn reply_of(found: Option<u64>) -> Reply
         Some(value) => Reply::Value(value),
         None => Reply::Absent,
     }
-}
-
-/// Clears the pin at the end of a get that looked for this key and found this. The get's note comes with this step.
-fn end_get<G: Gate>(
-    table: &HotTable,
-    seat: &mut TableSeat,
-    gate: &mut G,
-    _key: &Key,
-    _found: Option<u64>,
-)
-    ghost said: { Known → List Note }
-    requires fits { IsPassOf table.now seat.old }
-    requires pinned { IsSome seat.old.known.pin }
-    ensures step { StepsWith table.now G.becomes ClearPin said (seat.old, gate.old) (seat.new, gate.new) }
-{
-    unpin(table, seat, gate);
 }

@@ -3,22 +3,17 @@
 #![tactic(auto)]
 
 mod calls;
-mod census;
-mod changing;
 mod creating;
 mod cursor;
 mod expecting;
 mod handle;
 mod index;
 pub mod laws;
-mod many;
 mod ranges;
 mod reverse;
-mod room;
 mod scans;
 mod stamp;
 
-pub use census::{RecordCounts, StateCounts};
 pub use creating::{IndexFault, create, create_with};
 pub use cursor::{Cursor, Rest};
 pub use epochs::Given;
@@ -31,4 +26,5 @@ pub use packed_pairs::Pairs;
 pub use record_words::{LayoutFault, Stock};
 pub use rowex_core::{Event, Gate, NoGate};
 pub use rowex_writing::{Full, TryFault};
+pub use seat_calls::{RecordCounts, StateCounts};
 pub use stamp::Stamp;

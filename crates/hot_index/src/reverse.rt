@@ -2,10 +2,10 @@
 
 ghost use Rattle.std.specs.Prelude.{[]};
 ghost use Rattle.finite_map.specs.Reverse.{IsLawfulReverseScan};
-ghost use Rattle.hot_index.specs.Calls.{IsListReadBy, IsRangeRead, IsScanReadBy};
-ghost use Rattle.hot_index.specs.Passes.{Owns};
-ghost use Rattle.hot_index.specs.Reverse.{IsLastFound};
-ghost use Rattle.hot_index.specs.Traces.{untold};
+ghost use Rattle.seat_calls.specs.Calls.{IsListReadBy, IsRangeRead, IsScanReadBy};
+ghost use Rattle.seat_calls.specs.Passes.{Owns};
+ghost use Rattle.seat_calls.specs.Reverse.{IsLastFound};
+ghost use Rattle.seat_calls.specs.Traces.{untold};
 
 use crate::index::{Index, Pass};
 use finite_map::Scan;

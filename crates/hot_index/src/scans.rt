@@ -1,9 +1,9 @@
 //! Scans, of a range of keys in either direction.
 
 ghost use Rattle.rowex_scanning.specs.Directions.{IsLawfulBy};
-ghost use Rattle.hot_index.specs.Answers.{IsFoundBy};
-ghost use Rattle.hot_index.specs.Calls.{IsListRead, IsListReadBy, IsListReadWith, IsRangeRead, IsScanRead, IsScanReadBy, IsScanReadWith};
-ghost use Rattle.hot_index.specs.Passes.{Owns};
+ghost use Rattle.seat_calls.specs.Answers.{IsFoundBy};
+ghost use Rattle.seat_calls.specs.Calls.{IsListRead, IsListReadBy, IsListReadWith, IsRangeRead, IsScanRead, IsScanReadBy, IsScanReadWith};
+ghost use Rattle.seat_calls.specs.Passes.{Owns};
 
 use crate::index::{Index, Pass};
 use epochs::{pin, unpin};

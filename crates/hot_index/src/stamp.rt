@@ -1,7 +1,7 @@
 //! Stamps: what a pass has seen, as a value that can go to another thread without the pass.
 
 ghost use Rattle.std.specs.Prelude.{◌≡◌};
-ghost use Rattle.hot_index.specs.Passes.{Owns};
+ghost use Rattle.seat_calls.specs.Passes.{Owns};
 ghost use Rattle.hot_index.specs.Stamps.{HasCaughtUp, IsStampFrom};
 
 use crate::index::{Index, Pass};

@@ -19,8 +19,8 @@ use Rattle.finite_map.proofs.Steps.{map_after_all-push, replies_of-push}
 use Rattle.rowex_core.specs.declared.event.Event.{Event}
 use Rattle.rowex_table.specs.Seats.{TableView}
 use Rattle.hot_scripts.specs.Meaning.{line, reply_text}
-use Rattle.hot_index.specs.Answers.{IsScanned, IsUnnoted}
-use Rattle.hot_index.specs.Passes.{PassView, AreByPasses, IsNewPass}
+use Rattle.seat_calls.specs.Answers.{IsScanned, IsUnnoted}
+use Rattle.seat_calls.specs.Passes.{PassView, AreByPasses, IsNewPass}
 use Rattle.hot_run.specs.Answers.{Answered, called, refused, listed, full_text, lines_of_answer}
 use Rattle.hot_run.specs.Runs.{text_told}
 use Rattle.hot_run.specs.Told.{AreTold, IsCalled}

@@ -17,10 +17,10 @@ use Rattle.finite_map.proofs.Legal.{place_after-within}
 use Rattle.record_words.specs.declared.layout.Layout.{Layout}
 use Rattle.rowex_core.specs.declared.event.Event.{Event}
 use Rattle.rowex_table.specs.Seats.{TableView}
-use Rattle.hot_index.specs.Answers.{IsListed, IsNoted, IsScanned}
-use Rattle.hot_index.specs.Passes.{PassView, AreByPasses}
-use Rattle.hot_index.specs.Traces.{HasRead, HasTold, untold}
-use Rattle.hot_index.proofs.Tracing.{read_told, told_untold}
+use Rattle.seat_calls.specs.Answers.{IsListed, IsNoted, IsScanned}
+use Rattle.seat_calls.specs.Passes.{PassView, AreByPasses}
+use Rattle.seat_calls.specs.Traces.{HasRead, HasTold, untold}
+use Rattle.seat_calls.proofs.Tracing.{read_told, told_untold}
 use Rattle.hot_scripts.specs.declared.command.Command.{Command}
 use Rattle.hot_scripts.specs.declared.command.Command.TheVariants.{Call as Asks, Scan as Lists}
 use Rattle.hot_scripts.specs.declared.command.Range.{Range}

@@ -9,9 +9,9 @@ use Rattle.record_words.specs.Layout.{leaf_size}
 use Rattle.record_words.specs.Leaf.{words_for}
 use Rattle.rowex_core.specs.declared.event.Event.{Event}
 use Rattle.rowex_table.specs.Seats.{TableView}
-use Rattle.hot_index.specs.Answers.{IsRefused, IsScanned, MayLack, fault_of}
-use Rattle.hot_index.specs.Passes.{PassView, AreByPasses, Owns}
-use Rattle.hot_index.specs.Traces.{HasTold}
+use Rattle.seat_calls.specs.Answers.{IsRefused, IsScanned, MayLack, fault_of}
+use Rattle.seat_calls.specs.Passes.{PassView, AreByPasses, Owns}
+use Rattle.seat_calls.specs.Traces.{HasTold}
 use Rattle.hot_scripts.specs.declared.command.Command.{Command}
 use Rattle.hot_scripts.specs.Grammar.{called_key}
 use Rattle.hot_run.specs.Answers.{Answered, called, refused, listed}

@@ -3,7 +3,7 @@
 ghost use Rattle.std.specs.Prelude.{◌≡◌, ◌≢◌, ◌≤◌, List, ℕ, IfOk, OnOk, IfErr, length, map};
 ghost use Rattle.std.specs.Io.KnownBytes.{Appends};
 ghost use Rattle.record_words.specs.Limits.{IsLeafCount, IsNodeCount};
-ghost use Rattle.hot_index.specs.Traces.{untold};
+ghost use Rattle.seat_calls.specs.Traces.{untold};
 ghost use Rattle.hot_scripts.specs.Parses.{script_commands};
 ghost use Rattle.hot_run.specs.Runs.{TakesAll};
 ghost use Rattle.hot_run.specs.Scripts.{IsParsed, LawfulScripts, MayEndScriptsBy, commands_of_file, commands_of_files};

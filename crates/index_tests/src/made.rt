@@ -1,7 +1,7 @@
 //! What the tests share: keys, numbers that follow no plan, an index, and its passes, each of which knows where it belongs.
 
 ghost use Rattle.std.specs.Prelude.{All};
-ghost use Rattle.hot_index.specs.Passes.{Owns};
+ghost use Rattle.seat_calls.specs.Passes.{Owns};
 
 use hot_index::{Gate, Handle, Index, Key, Pass, Reply, TryFault, create, handles_of};
 use std::alloc::Global;

@@ -2,7 +2,7 @@
 //! and succeeds. What they share asks again, too.
 
 ghost use Rattle.std.specs.Prelude.{All, IfOk};
-ghost use Rattle.hot_index.specs.Passes.{Owns};
+ghost use Rattle.seat_calls.specs.Passes.{Owns};
 
 use crate::made::key;
 use finite_map::Call;

@@ -1,7 +1,7 @@
 //! How records are used again: beside a call that is stopped, in many upserts by one pass, and by threads that wait.
 
 ghost use Rattle.std.specs.Prelude.{All};
-ghost use Rattle.hot_index.specs.Passes.{Owns};
+ghost use Rattle.seat_calls.specs.Passes.{Owns};
 
 use crate::gates::{Reuse, Stopping};
 use crate::made::*;

@@ -1,7 +1,7 @@
 //! Runs of two passes by chance, the deeds of one in the middle of the other's.
 
 ghost use Rattle.std.specs.Prelude.{All};
-ghost use Rattle.hot_index.specs.Passes.{Owns};
+ghost use Rattle.seat_calls.specs.Passes.{Owns};
 
 use crate::cases::{Case, Deed, two_of};
 use crate::guests::{Guest, does, lowest, open};

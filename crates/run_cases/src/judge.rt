@@ -1,7 +1,7 @@
 //! Gates that judge each step of a run: one alone, and one that stops the run for another pass.
 
 ghost use Rattle.std.specs.Prelude.{All};
-ghost use Rattle.hot_index.specs.Passes.{Owns};
+ghost use Rattle.seat_calls.specs.Passes.{Owns};
 
 use crate::cases::{Case, Deed, bad_line};
 use crate::guests::{Guest, does, list, list_down, next_guest};

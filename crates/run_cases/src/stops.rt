@@ -1,7 +1,7 @@
 //! The steps of what a pass does, and what happens where it is stopped after each of them.
 
 ghost use Rattle.std.specs.Prelude.{All};
-ghost use Rattle.hot_index.specs.Passes.{Owns};
+ghost use Rattle.seat_calls.specs.Passes.{Owns};
 
 use crate::acts::push_act;
 use crate::cases::{Case, Deed, bad_line, deeds_of};

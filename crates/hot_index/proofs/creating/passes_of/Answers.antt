@@ -2,7 +2,7 @@
 use Rattle.std.proofs.Common.{rules, ◌≡◌, ℕ, suc, ◌∷◌, [], ◌++◌, List, length, Some, ◌∙◌, sym, ap, subst, arith, length-append}
 use Rattle.std.specs.List.{slice_get}
 use Rattle.std.specs.Vec.Iter.{into_iter_items}
-use Rattle.hot_index.specs.Passes.{PassView, Owns, IsNewPass, IsSettled, pass_of}
+use Rattle.seat_calls.specs.Passes.{PassView, Owns, IsNewPass, IsSettled, pass_of}
 use Rattle.hot_index.proofs.Making.{AreFrom, all_left, first_of, rest_of, each_of_none, each_longer, new_pass}
 use Rattle.hot_index.proofs.creating.passes_of.Goals as goal
 

@@ -1,6 +1,6 @@
 -- What stays true in the loop of `run`.
 use Rattle.std.proofs.Common.{◌≡◌, ◌++◌, List, ℕ, length}
-use Rattle.hot_index.specs.Passes.{PassView}
+use Rattle.seat_calls.specs.Passes.{PassView}
 use Rattle.hot_scripts.specs.Parses.{commands_left, script_commands}
 use Rattle.hot_run.specs.Progress.{HasRunCommands}
 use Rattle.hot_run.proofs.engine.run.Given as goal

@@ -2,7 +2,7 @@
 use Rattle.std.proofs.Common.{subst, arith}
 use Rattle.std.proofs.lemmas.Result.{IfOk-weaker}
 use Rattle.hot_index.specs.Handles.{HandleView}
-use Rattle.hot_index.specs.Passes.{Owns}
+use Rattle.seat_calls.specs.Passes.{Owns}
 use Rattle.hot_scripts.specs.Parses.{script_commands}
 use Rattle.hot_run.proofs.Joint.{met_long}
 use Rattle.hot_run.proofs.Numbered.{at_own}

@@ -4,7 +4,7 @@ use Rattle.std.specs.List.{All}
 use Rattle.std.specs.Vec.Iter.{into_iter_items}
 use Rattle.std.proofs.lemmas.List.{nil_from_length}
 use Rattle.std.proofs.lemmas.List.Elements.{All-head, All-push, All-rest, All-same}
-use Rattle.hot_index.specs.Answers.{HaveMet}
+use Rattle.seat_calls.specs.Answers.{HaveMet}
 use Rattle.hot_run.specs.declared.together.Done.{Done}
 use Rattle.hot_run.specs.Progress.{MeetInTurn}
 use Rattle.hot_run.proofs.together.meet_all.Goals as goal

@@ -2,7 +2,7 @@
 use Rattle.std.proofs.Common.{◌≡◌, ◌++◌, List}
 use Rattle.std.specs.List.{All}
 use Rattle.std.specs.Vec.Iter.{into_iter_items}
-use Rattle.hot_index.specs.Passes.{PassView}
+use Rattle.seat_calls.specs.Passes.{PassView}
 use Rattle.hot_run.specs.declared.together.Done.{Done}
 use Rattle.hot_run.specs.Progress.{AreAt, MeetInTurn}
 use Rattle.hot_run.proofs.together.meet_all.Given as goal

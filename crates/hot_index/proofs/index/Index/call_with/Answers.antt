@@ -1,5 +1,5 @@
 -- A get's steps are those of a call that only reads.
-use Rattle.hot_index.proofs.Tracing.{read_told}
+use Rattle.seat_calls.proofs.Tracing.{read_told}
 use Rattle.hot_index.proofs.index.Index.call_with.Goals as goal
 
 pub returns-in-Get-clause-told : goal.returns-in-Get-clause-told

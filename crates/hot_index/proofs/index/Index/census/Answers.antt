@@ -1,5 +1,5 @@
 -- The same count, of which nobody is told.
-use Rattle.hot_index.proofs.Counted.{counted_untold}
+use Rattle.seat_calls.proofs.Counted.{counted_untold}
 use Rattle.hot_index.proofs.index.Index.census.Goals as goal
 
 pub returns-clause-made : goal.returns-clause-made

@@ -1,5 +1,5 @@
 -- What the call leaves on the seat, as the pass sees it.
-use Rattle.hot_index.proofs.Trying.{awaited_seen, stepped_told}
+use Rattle.seat_calls.proofs.Trying.{awaited_seen, stepped_told}
 use Rattle.hot_index.proofs.index.Index.change_with.Goals as goal
 
 pub invariant_of-pass : goal.invariant_of-pass

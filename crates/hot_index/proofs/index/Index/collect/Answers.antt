@@ -1,5 +1,5 @@
 -- The same round, of which nobody is told.
-use Rattle.hot_index.proofs.Tracing.{collected_untold}
+use Rattle.seat_calls.proofs.Tracing.{collected_untold}
 use Rattle.hot_index.proofs.index.Index.collect.Goals as goal
 
 pub returns-clause-made : goal.returns-clause-made

@@ -1,5 +1,5 @@
 -- The same steps, of which nobody is told.
-use Rattle.hot_index.proofs.Tracing.{got_untold}
+use Rattle.seat_calls.proofs.Tracing.{got_untold}
 use Rattle.hot_index.proofs.index.Index.get.Goals as goal
 
 pub returns-clause-made : goal.returns-clause-made

@@ -5,11 +5,11 @@ use Rattle.rowex_table.specs.Seats.{TableView}
 use Rattle.rowex_walks.specs.Scan.{Range}
 use Rattle.rowex_reading.proofs.Led.{looked_at, looks_same}
 use Rattle.rowex_scanning.specs.Directions.{IsLawfulBy}
-use Rattle.hot_index.specs.Calls.{IsListReadBy}
-use Rattle.hot_index.specs.Passes.{PassView, pass_of}
-use Rattle.hot_index.proofs.Noting.{fits_then, looked}
+use Rattle.seat_calls.specs.Calls.{IsListReadBy}
+use Rattle.seat_calls.specs.Passes.{PassView, pass_of}
+use Rattle.seat_calls.proofs.Noting.{fits_then, looked}
 use Rattle.hot_index.proofs.Reading.{list_read}
-use Rattle.hot_index.proofs.Scanned.{scan_settled}
+use Rattle.seat_calls.proofs.Scanned.{scan_settled}
 use Rattle.hot_index.proofs.index.Index.list_by.Goals as goal
 
 pub unpin-requires : goal.unpin-requires

@@ -2,8 +2,8 @@
 use Rattle.std.proofs.Common.{subst, ap, ◌∙◌}
 use Rattle.rowex_core.specs.declared.known.Known.{Known}
 use Rattle.rowex_table.specs.Seats.{TableView}
-use Rattle.hot_index.specs.Answers.{HaveMet}
-use Rattle.hot_index.specs.Passes.{PassView, pass_of}
+use Rattle.seat_calls.specs.Answers.{HaveMet}
+use Rattle.seat_calls.specs.Passes.{PassView, pass_of}
 use Rattle.hot_index.proofs.Meets.{first_settled, second_settled, passes_met}
 use Rattle.hot_index.proofs.index.Index.meet.Goals as goal
 

@@ -1,5 +1,5 @@
 -- The same steps, of which nobody is told.
-use Rattle.hot_index.proofs.Trying.{tried_untold}
+use Rattle.seat_calls.proofs.Trying.{tried_untold}
 use Rattle.hot_index.proofs.index.Index.try_exchange.Goals as goal
 
 pub returns : goal.returns

@@ -1,9 +1,0 @@
--- The parts make the whole.
-use Rattle.hot_index.proofs.Counted.{counts_all}
-use Rattle.hot_index.proofs.census.count_records.Goals as goal
-
-pub returns-clause-steps : goal.returns-clause-steps
-returns-clause-steps g c =
-    let of = c.layout-layout.ensures in
-    counts_all c.count_nodes-nodes.ensures.steps (rw of at c.count_leaves-short.ensures.steps) (rw of at c.count_leaves-medium.ensures.steps) (rw of at c.count_leaves-large.ensures.steps)
-    (rw of at c.count_leaves-wide.ensures.steps) (rw of at c.count_leaves-long.ensures.steps) _ (rw of at c.bytes.ensures)

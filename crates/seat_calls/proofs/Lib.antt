@@ -1,0 +1,10 @@
+-- The lemmas of the crate.
+pub mod Tracing
+pub mod Noting
+pub mod LookedUp
+pub mod Scanned
+pub mod Collected
+pub mod Counted
+pub mod Conflicts
+pub mod Trying
+pub mod Resting

@@ -1,0 +1,20 @@
+-- One record more.
+use Rattle.std.proofs.Common.{rules, arith}
+use Rattle.moments.specs.declared.Rec.TheVariants.{Node as a_node}
+use Rattle.seat_calls.proofs.Counted.{counts_few, counts_more, counts_none, found_tag}
+use Rattle.seat_calls.proofs.census.count_nodes.Goals as goal
+
+pub loop-number-init : goal.loop-number-init
+loop-number-init g c = record { pin = search rules; steps = counts_none c.none-counts.ensures }
+
+pub loop-number-preserved : goal.loop-number-preserved
+loop-number-preserved g c = record {
+  pin = search rules;
+  steps = counts_more {kind = a_node} c.loop-number.invariant.steps c.load_state-word.ensures c.counted-counts.ensures;
+}
+
+pub counted-counts-requires-clause-few : goal.counted-counts-requires-clause-few
+counted-counts-requires-clause-few g c = omega (arith, counts_few c.loop-number.invariant.steps, c.loop-number-test.true)
+
+pub counted-counts-requires-clause-state : goal.counted-counts-requires-clause-state
+counted-counts-requires-clause-state g c = found_tag c.load_state-word.ensures

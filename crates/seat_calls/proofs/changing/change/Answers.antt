@@ -1,0 +1,36 @@
+-- The tries before were refused; what the last one leaves is what the whole call leaves.
+use Rattle.std.proofs.Common.{[], inl, Ok, Err, refl, subst}
+use Rattle.rowex_writing.specs.Attempts.{asked_call}
+use Rattle.seat_calls.specs.Answers.{fault_of}
+use Rattle.seat_calls.specs.Asked.{HasReplied}
+use Rattle.seat_calls.specs.Passes.{pass_of}
+use Rattle.seat_calls.proofs.Tracing.{ran_on, ran_out}
+use Rattle.seat_calls.proofs.Trying.{waited_on, waited_out}
+use Rattle.seat_calls.proofs.changing.change.Goals as goal
+
+pub returns-in-Ok-clause-replied : goal.returns-in-Ok-clause-replied
+returns-in-Ok-clause-replied g c =
+    waited_out c.args.table.now c.args.seat.now c.loop.seat c.try_change.new.seat (asked_call c.args.ask c.args.key.now c.args.value) (Ok c.in-Ok.reply) c.loop.invariant.waited c.in-Ok.ensures.asked.replied
+
+pub loop-init : goal.loop-init
+loop-init g c = record { idle = c.requires.idle; waited = inl refl; ran = ([], refl) }
+
+pub returns-in-Ok-clause-stepped : goal.returns-in-Ok-clause-stepped
+returns-in-Ok-clause-stepped g c = ran_out c.args.table.now g.G.Gate.becomes _ _ _ c.loop.invariant.ran c.in-Ok.ensures.asked.ended
+
+pub returns-in-Some-refusal-clause-stepped : goal.returns-in-Some-refusal-clause-stepped
+returns-in-Some-refusal-clause-stepped g c = ran_out c.args.table.now g.G.Gate.becomes _ _ _ c.loop.invariant.ran c.in-Err.ensures.asked.ended
+
+pub loop-preserved : goal.loop-preserved
+loop-preserved g c =
+    let o = c.in-Err.ensures.asked in
+    record {
+      idle = o.replied.idle;
+      waited = waited_on c.args.table.now.layout (pass_of c.args.seat.now) (pass_of c.loop.seat) (pass_of c.try_change.new.seat) c.loop.invariant.waited o.replied.refused.unnoted o.later;
+      ran = ran_on c.args.table.now g.G.Gate.becomes _ _ _ c.loop.invariant.ran o.ended;
+    }
+
+pub returns-in-Some-refusal-clause-replied : goal.returns-in-Some-refusal-clause-replied
+returns-in-Some-refusal-clause-replied g c =
+    waited_out c.args.table.now c.args.seat.now c.loop.seat c.try_change.new.seat (asked_call c.args.ask c.args.key.now c.args.value) (Err (fault_of c.in-Some-refusal.full)) c.loop.invariant.waited
+    (subst (λ fault. HasReplied c.args.table.now (asked_call c.args.ask c.args.key.now c.args.value) (Err fault) c.loop.seat c.try_change.new.seat) c.in-Some-refusal.ensures c.in-Err.ensures.asked.replied)

@@ -1,0 +1,14 @@
+-- A small round, or nothing.
+use Rattle.std.proofs.Common.{inl, inr, refl, ◌∙◌}
+use Rattle.seat_calls.proofs.Collected.{small_settled}
+use Rattle.seat_calls.proofs.changing.tidy.Goals as goal
+
+pub returns-then-is_due-clause-idle : goal.returns-then-is_due-clause-idle
+returns-then-is_due-clause-idle g c =
+    let small = c.collect_small.ensures.round in (small.does.seat.0 ∙ c.requires.idle.0, small_settled small c.collect_small.ensures.free c.requires.idle.1)
+
+pub returns-then-is_due-clause-tidied : goal.returns-then-is_due-clause-tidied
+returns-then-is_due-clause-tidied g c = inr c.collect_small.ensures.round
+
+pub returns-else-is_due-clause-tidied : goal.returns-else-is_due-clause-tidied
+returns-else-is_due-clause-tidied g c = inl refl

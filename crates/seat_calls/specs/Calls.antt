@@ -1,0 +1,77 @@
+-- What a call of an index ensures, each of its clauses a field by the clause's name.
+use Rattle.std.specs.Prelude.{◌+◌, ◌≤◌, ℕ, Bool, List, Result, MatchResult, IfOk, OnErr}
+use Rattle.finite_map.specs.declared.Call.{Call}
+use Rattle.finite_map.specs.declared.Reply.{Reply}
+use Rattle.finite_map.specs.declared.Scan.{Scan}
+use Rattle.finite_map.specs.Scans.{IsLawfulScan}
+use Rattle.record_words.specs.declared.layout.Layout.{Layout}
+use Rattle.rowex_core.specs.declared.event.Event.{Event}
+use Rattle.rowex_table.specs.Seats.{TableView}
+use Rattle.rowex_writing.specs.declared.attempts.TryFault.{TryFault}
+use Rattle.rowex_writing.specs.declared.attempts.TryFault.TheVariants.{FullLeaves}
+use Rattle.rowex_writing.specs.declared.plan.Full.{Full}
+use Rattle.rowex_writing.specs.declared.plan.Full.TheVariants.{Leaves}
+use Rattle.tries.specs.Keys.{Key}
+use Rattle.seat_calls.specs.Answers.{HasFoundPair, IsLeafless, IsListedBy, IsListedInPartBy, IsNoted, IsRefused, IsScannedBy, IsUnnoted, ScanLaw, fault_of}
+use Rattle.seat_calls.specs.Counts.{scan_steps}
+use Rattle.seat_calls.specs.Passes.{Owns, PassView}
+use Rattle.seat_calls.specs.Traces.{HasGotRange, HasMade, untold}
+
+-- A change that doesn't wait was answered or refused, by these steps, of which the gate was told.
+pub record IsTriedWith {G : Type 0} (asked : Call) (result : Result Reply TryFault) (index : TableView) (becomes : G → Event → G → Type 0)
+    (a b : PassView × G) : Type 0 where
+  pub own : Owns index b.0
+  pub call : MatchResult result (IsNoted index.layout a.0 b.0 asked) (IsRefused index.layout asked a.0 b.0)
+  pub made : HasMade index becomes result a b
+  pub leafless : IsLeafless FullLeaves asked result
+
+abbrev pub IsTried : Call → Result Reply TryFault → TableView → PassView → PassView → Type 0
+IsTried asked result index k j = IsTriedWith asked result index untold (k, tt) (j, tt)
+
+-- A change that waits was answered or refused.
+pub record IsAwaited (asked : Call) (result : Result Reply Full) (index : TableView) (k j : PassView) : Type 0 where
+  pub own : Owns index j
+  pub call : MatchResult result (IsNoted index.layout k j asked) (λ full. IsRefused index.layout asked k j (fault_of full))
+  pub leafless : IsLeafless Leaves asked result
+
+-- A range was read, with such an answer, or memory was refused for a pair that it had found, and such a part is left; by its steps, so
+-- many at most, of which the gate was told.
+pub record IsRangeReadWith {A E G : Type 0} (IsAnswer : Layout → PassView → PassView → A → Type 0) (IsPart : Layout → PassView → PassView → Type 0)
+    (from upto : Key) (limit : ℕ) (result : Result A E) (index : TableView) (becomes : G → Event → G → Type 0) (a b : PassView × G) : Type 0 where
+  pub own : Owns index b.0
+  pub ok : IfOk result (IsAnswer index.layout a.0 b.0)
+  pub err : OnErr result (IsUnnoted index.layout a.0 b.0)
+  pub part : OnErr result (IsPart index.layout a.0 b.0)
+  pub memory : OnErr result (HasFoundPair index.layout a.0 b.0 from upto limit)
+  pub steps : b.0.steps ≤ a.0.steps + scan_steps limit
+  pub read : HasGotRange index becomes limit a b
+
+-- no part is left
+abbrev pub no_part : Layout → PassView → PassView → Type 0
+no_part layout k j = Unit {0}
+
+abbrev pub IsRangeRead : {A E : Type 0} → (Layout → PassView → PassView → A → Type 0) → Key → Key → ℕ → Result A E → TableView → PassView → PassView → Type 0
+IsRangeRead IsAnswer from upto limit result index k j = IsRangeReadWith IsAnswer no_part from upto limit result index untold (k, tt) (j, tt)
+
+-- a scan was made that is lawful in this sense; and upwards, with a gate and without
+abbrev pub IsScanReadBy : {E G : Type 0} → ScanLaw → Key → Key → ℕ → Result Scan E → TableView → (G → Event → G → Type 0) → PassView × G → PassView × G → Type 0
+IsScanReadBy IsLawful from upto limit result index becomes a b =
+    IsRangeReadWith (λ layout k j. IsScannedBy IsLawful layout k j from upto limit) no_part from upto limit result index becomes a b
+
+abbrev pub IsScanReadWith : {E G : Type 0} → Key → Key → ℕ → Result Scan E → TableView → (G → Event → G → Type 0) → PassView × G → PassView × G → Type 0
+IsScanReadWith from upto limit result index becomes a b = IsScanReadBy IsLawfulScan from upto limit result index becomes a b
+
+abbrev pub IsScanRead : {E : Type 0} → Key → Key → ℕ → Result Scan E → TableView → PassView → PassView → Type 0
+IsScanRead from upto limit result index k j = IsScanReadWith from upto limit result index untold (k, tt) (j, tt)
+
+-- the same of a scan into a list
+abbrev pub IsListReadBy : {E G : Type 0} → ScanLaw → Key → Key → ℕ → List (Key × ℕ) → Result Bool E → TableView → (G → Event → G → Type 0) → PassView × G → PassView × G → Type 0
+IsListReadBy IsLawful from upto limit pairs result index becomes a b =
+    IsRangeReadWith (λ layout k j. IsListedBy IsLawful layout k j from upto limit pairs) (λ layout k j. IsListedInPartBy IsLawful layout k j from upto limit pairs)
+    from upto limit result index becomes a b
+
+abbrev pub IsListReadWith : {E G : Type 0} → Key → Key → ℕ → List (Key × ℕ) → Result Bool E → TableView → (G → Event → G → Type 0) → PassView × G → PassView × G → Type 0
+IsListReadWith from upto limit pairs result index becomes a b = IsListReadBy IsLawfulScan from upto limit pairs result index becomes a b
+
+abbrev pub IsListRead : {E : Type 0} → Key → Key → ℕ → List (Key × ℕ) → Result Bool E → TableView → PassView → PassView → Type 0
+IsListRead from upto limit pairs result index k j = IsListReadWith from upto limit pairs result index untold (k, tt) (j, tt)

@@ -1,0 +1,11 @@
+-- The definitions of the crate.
+pub mod Passes
+pub mod Answers
+pub mod Noting
+pub mod Traces
+pub mod Many
+pub mod Census
+pub mod Counts
+pub mod Reverse
+pub mod Asked
+pub mod Calls

@@ -1,0 +1,212 @@
+//! A call that may change the index, made with a pass's seat and room: its attempts, and the note of an answer.
+
+ghost use Rattle.std.specs.Prelude.{◌≡◌, List, Err, None, IfSome, IsSome, false};
+ghost use Rattle.finite_map.specs.declared.Note.{Note};
+ghost use Rattle.rowex_core.specs.declared.event.Act.TheVariants.{ClearPin};
+ghost use Rattle.rowex_core.specs.declared.known.Known.{Known};
+ghost use Rattle.rowex_table.specs.Runs.{StepsWith};
+ghost use Rattle.rowex_table.specs.Seats.{IsPassOf};
+ghost use Rattle.rowex_writing.specs.Attempts.{asked_call};
+ghost use Rattle.seat_calls.specs.Answers.{fault_of};
+ghost use Rattle.seat_calls.specs.Asked.{HasAsked, HasReplied, HasRested, IsIdle, last_try};
+ghost use Rattle.seat_calls.specs.Counts.{once_steps, try_steps, twice_steps};
+ghost use Rattle.seat_calls.specs.Noting.{change_notes};
+ghost use Rattle.seat_calls.specs.Traces.{AreAttempts, AreTries, HasStepped, IsAttempt, Tidies, is_full};
+
+use crate::room::Room;
+use epochs::{Given, collect_round, collect_small, pin, unpin};
+use finite_map::Reply;
+use key_bits::Key;
+use rowex_core::Gate;
+use rowex_table::{HotTable, TableSeat};
+use rowex_writing::{Ask, Full, TryFault, attempt};
+use std::sync::Wait;
+use std::thread;
+
+/// Tries to make a change, at most twice, after a small round if one is due.
+pub fn try_change<G: Gate>(
+    table: &HotTable,
+    seat: &mut TableSeat,
+    gate: &mut G,
+    room: &mut Room,
+    ask: Ask,
+    key: &Key,
+    value: u64,
+) -> Result<Reply, TryFault>
+    requires idle { IsIdle table.now seat.old }
+    ensures asked { HasAsked table.now G.becomes (AreAttempts table.now.layout result) (try_steps table.now.layout) (asked_call ask key.now value) result (seat.old, gate.old) (seat.new, gate.new) }
+{
+    tidy(table, seat, gate, room);
+    try_twice(table, seat, gate, room, ask, key, value)
+}
+
+/// Makes a small round, if one is due.
+fn tidy<G: Gate>(table: &HotTable, seat: &mut TableSeat, gate: &mut G, room: &mut Room)
+    requires idle { IsIdle table.now seat.old }
+    ensures idle { IsIdle table.now seat.new }
+    ensures tidied { Tidies table.now G.becomes (seat.old, gate.old) (seat.new, gate.new) }
+{
+    if room.limbo.is_due() {
+        collect_small(table, seat, gate, &mut room.limbo);
+        room.spare_given(table.layout());
+    }
+}
+
+/// Tries to make a change, at most twice: if no record was free, it makes a round of collection and tries again, and that answer
+/// stands. If the round gave back no record of the kind, and there is no other pass that could have done so, the second attempt
+/// does nothing and is refused as the first was.
+fn try_twice<G: Gate>(
+    table: &HotTable,
+    seat: &mut TableSeat,
+    gate: &mut G,
+    room: &mut Room,
+    ask: Ask,
+    key: &Key,
+    value: u64,
+) -> Result<Reply, TryFault>
+    requires idle { IsIdle table.now seat.old }
+    ensures asked { HasAsked table.now G.becomes (AreTries table.now.layout result) (twice_steps table.now.layout) (asked_call ask key.now value) result (seat.old, gate.old) (seat.new, gate.new) }
+{
+    let first = try_once(table, seat, gate, room, ask, key, value);
+    let Some(lacks) = lacked(first) else {
+        return first;
+    };
+    let round = collect_round(table, seat, gate);
+    let passes = table.layout().passes;
+    let count = given_of(round.given, lacks);
+    room.is_moving = round.held_back || may_be_taken(passes, count);
+    room.pass_none_by();
+    if has_room(passes, count) {
+        return try_once(table, seat, gate, room, ask, key, value);
+    }
+    refuse_again(table, seat, gate);
+    first
+}
+
+/// The kind of records of which none was free, if the call was refused for that.
+fn lacked(answer: Result<Reply, TryFault>) -> Option<Full>
+    ensures some { IfSome result (λ full. answer ≡ Err (fault_of full)) }
+    ensures none { result ≡ None → is_full answer ≡ false }
+{
+    match answer {
+        Err(TryFault::FullNodes) => Some(Full::Nodes),
+        Err(TryFault::FullLeaves) => Some(Full::Leaves),
+        Ok(_) | Err(TryFault::Busy) => None,
+    }
+}
+
+/// How many records of this kind a round gave back.
+fn given_of(given: Given, kind: Full) -> u32 {
+    match kind {
+        Full::Nodes => given.nodes,
+        Full::Leaves => given.leaves,
+    }
+}
+
+/// Whether a record of a kind may be free after a round that gave back so many: one of these, or one that another of so many passes gave
+/// back meanwhile.
+fn has_room(passes: u32, given: u32) -> bool {
+    passes > 1 || given > 0
+}
+
+/// Whether a round gave back records that another of so many passes may have taken before the next attempt.
+fn may_be_taken(passes: u32, given: u32) -> bool {
+    passes > 1 && given > 0
+}
+
+/// Makes an attempt that does nothing: it pins the pass and clears the pin.
+fn refuse_again<G: Gate>(table: &HotTable, seat: &mut TableSeat, gate: &mut G)
+    requires idle { IsIdle table.now seat.old }
+    ensures rested { HasRested table.now G.becomes (seat.old, gate.old) (seat.new, gate.new) }
+{
+    pin(table, seat, gate);
+    unpin(table, seat, gate);
+}
+
+/// Tries to make a change until no other pass is in its way, holds back the records that it lacks, or may have taken them.
+pub fn change<R: Wait, G: Gate>(
+    rt: &R,
+    table: &HotTable,
+    seat: &mut TableSeat,
+    gate: &mut G,
+    room: &mut Room,
+    ask: Ask,
+    key: &Key,
+    value: u64,
+) -> Result<Reply, Full>
+    requires idle { IsIdle table.now seat.old }
+    ensures replied { HasReplied table.now (asked_call ask key.now value) (last_try result) seat.old seat.new }
+    ensures stepped { HasStepped table.now G.becomes (change_notes (asked_call ask key.now value) (last_try result)) (seat.old, gate.old) (seat.new, gate.new) }
+{
+    for _ in rt.forever() {
+        match try_change(table, seat, gate, room, ask, key, value) {
+            Ok(reply) => return Ok(reply),
+            Err(fault) => {
+                if let Some(full) = refusal(fault, room.is_moving) {
+                    return Err(full);
+                }
+                thread::yield_now();
+            }
+        }
+    }
+    unreachable!()
+}
+
+/// The refusal with which a call that waits ends, if it ends: not if another pass is in its way, or records are moving.
+fn refusal(fault: TryFault, is_moving: bool) -> Option<Full>
+    ensures { IfSome result (λ full. fault ≡ fault_of full) }
+{
+    match fault {
+        TryFault::FullNodes if !is_moving => Some(Full::Nodes),
+        TryFault::FullLeaves if !is_moving => Some(Full::Leaves),
+        _ => None,
+    }
+}
+
+/// Makes one attempt, with the pass pinned, and notes its answer if it has one.
+fn try_once<G: Gate>(
+    table: &HotTable,
+    seat: &mut TableSeat,
+    gate: &mut G,
+    room: &mut Room,
+    ask: Ask,
+    key: &Key,
+    value: u64,
+) -> Result<Reply, TryFault>
+    requires idle { IsIdle table.now seat.old }
+    ensures asked { HasAsked table.now G.becomes (IsAttempt table.now.layout) (once_steps table.now.layout) (asked_call ask key.now value) result (seat.old, gate.old) (seat.new, gate.new) }
+{
+    room.build.gone.clear();
+    pin(table, seat, gate);
+    let outcome = attempt(
+        table,
+        seat,
+        gate,
+        &mut room.way,
+        &mut room.build,
+        ask,
+        key,
+        value,
+    );
+    end_try(table, seat, gate, ask, key, value, outcome);
+    room.keep_gone(outcome.is_ok());
+    outcome
+}
+
+/// Clears the pin at the end of an attempt at this call, which had this outcome. The note of an answer is added with this step.
+fn end_try<G: Gate>(
+    table: &HotTable,
+    seat: &mut TableSeat,
+    gate: &mut G,
+    _ask: Ask,
+    _key: &Key,
+    _value: u64,
+    _outcome: Result<Reply, TryFault>,
+)
+    ghost said: { Known → List Note }
+    requires fits { IsPassOf table.now seat.old }
+    requires pinned { IsSome seat.old.known.pin }
+    ensures step { StepsWith table.now G.becomes ClearPin said (seat.old, gate.old) (seat.new, gate.new) }
+{
+    unpin(table, seat, gate);
+}

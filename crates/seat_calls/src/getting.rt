@@ -1,0 +1,29 @@
+//! The end of a get.
+
+ghost use Rattle.std.specs.Prelude.{IsSome, List};
+ghost use Rattle.finite_map.specs.declared.Note.{Note};
+ghost use Rattle.rowex_core.specs.declared.event.Act.TheVariants.{ClearPin};
+ghost use Rattle.rowex_core.specs.declared.known.Known.{Known};
+ghost use Rattle.rowex_table.specs.Runs.{StepsWith};
+ghost use Rattle.rowex_table.specs.Seats.{IsPassOf};
+
+use epochs::unpin;
+use key_bits::Key;
+use rowex_core::Gate;
+use rowex_table::{HotTable, TableSeat};
+
+/// Clears the pin at the end of a get that looked for this key and found this. The get's note comes with this step.
+pub fn end_get<G: Gate>(
+    table: &HotTable,
+    seat: &mut TableSeat,
+    gate: &mut G,
+    _key: &Key,
+    _found: Option<u64>,
+)
+    ghost said: { Known → List Note }
+    requires fits { IsPassOf table.now seat.old }
+    requires pinned { IsSome seat.old.known.pin }
+    ensures step { StepsWith table.now G.becomes ClearPin said (seat.old, gate.old) (seat.new, gate.new) }
+{
+    unpin(table, seat, gate);
+}

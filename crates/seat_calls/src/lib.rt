@@ -1,0 +1,15 @@
+//! What a pass does in its calls, on its seat of the table: attempts at a change, look-ups of many keys, counts of records, and the
+//! notes that come with a call's last step. The calls themselves are those of `hot_index`.
+#![tactic(auto)]
+
+mod census;
+mod changing;
+mod getting;
+mod many;
+mod room;
+
+pub use census::{RecordCounts, StateCounts, count_records};
+pub use changing::{change, try_change};
+pub use getting::end_get;
+pub use many::{end_gets, look_up_each};
+pub use room::{Room, new_room};
