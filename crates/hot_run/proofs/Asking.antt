@@ -1,5 +1,5 @@
 -- What a run has answered, of one script or of several, and by what it may end.
-use Rattle.std.proofs.Common.{◌≡◌, ℕ, List, [], ◌∷◌, length, map, Option, Vec, vec_len, Bool, true, false, refl, ap, subst, sym, ◌∙◌, arith}
+use Rattle.std.proofs.Common.{◌≡◌, ◌⊎◌, inl, inr, ℕ, List, [], ◌∷◌, length, map, Option, Vec, vec_len, Bool, true, false, refl, ap, subst, sym, ◌∙◌, arith}
 use Rattle.std.specs.Prelude.{◌==◌}
 use Rattle.std.specs.Borrow.{Bor}
 use Rattle.std.specs.Global.{Global}
@@ -51,26 +51,24 @@ module _ (bytes : List ℕ → Option (List ℕ)) (names : List (Bor (List ℕ))
       (subst (λ (gates : List (Unit {0})). LawfulScripts nodes leaves untold gates (map (λ (f : Vec ℕ Global). f.items) files) script text) (units (λ (f : Vec ℕ Global). f.items) files) lawful)
 
   -- it has ended by a fault
-  pub run_ended : (words : List (List ℕ)) (nodes leaves : ℕ) (old new : Option (List ℕ)) (fault : RunFault) → IsAsked words nodes leaves (map (λ n. n.now) names)
-      → MayEndScriptsBy (map (λ f. f.items) files) old new fault → MayEndAsAsked bytes words old new (Fault fault)
-  run_ended words nodes leaves old new Read asked ended = tt
-  run_ended words nodes leaves old new Memory asked ended = tt
-  run_ended words nodes leaves old new Write asked ended = has_fault Write ended
-    where
-      has_fault : (fault : RunFault) → MayEndScriptsBy (map (λ (f : Vec ℕ Global). f.items) files) old new fault → HasFaultAsAsked bytes words old new fault
-      has_fault fault ended = record { nodes = nodes; leaves = leaves; names = map (λ n. n.now) names; asked = asked; ended = named_ends bytes _ _ old new fault (some_named names some) starts ended }
-  run_ended words nodes leaves old new (Script number reason) asked ended =
-      record { nodes = nodes; leaves = leaves; names = map (λ n. n.now) names; asked = asked; ended = named_ends bytes _ _ old new (Script number reason) (some_named names some) starts ended }
-  run_ended words nodes leaves old new (FileScript file number reason) asked ended =
-      record { nodes = nodes; leaves = leaves; names = map (λ n. n.now) names; asked = asked; ended = named_ends bytes _ _ old new (FileScript file number reason) (some_named names some) starts ended }
-  run_ended words nodes leaves old new Large asked ended =
-      record { nodes = nodes; leaves = leaves; names = map (λ n. n.now) names; asked = asked; ended = named_ends bytes _ _ old new Large (some_named names some) starts ended }
+  pub run_ended : (old new : Option (List ℕ)) (fault : RunFault) → MayEndScriptsBy (map (λ f. f.items) files) old new fault
+      → MayEndAllBy bytes (map (λ n. n.now) names) old new fault
+  run_ended old new fault ended = named_ends bytes (map (λ n. n.now) names) (map (λ f. f.items) files) old new fault (some_named names some) starts ended
 
--- a file could not be read, or memory was refused
-pub file_ended : (bytes : List ℕ → Option (List ℕ)) (words : List (List ℕ)) (old new : Option (List ℕ)) (fault : RunFault) → IsFileFault fault → MayEndAsAsked bytes words old new (Fault fault)
-file_ended bytes words old new Read is = tt
-file_ended bytes words old new Memory is = tt
-file_ended bytes words old new Write is = absurd is
-file_ended bytes words old new (Script number reason) is = absurd is
-file_ended bytes words old new (FileScript file number reason) is = absurd is
-file_ended bytes words old new Large is = absurd is
+-- A file could not be read, or memory was refused, or the run that was asked for has ended by a fault.
+module _ (bytes : List ℕ → Option (List ℕ)) (words : List (List ℕ)) (nodes leaves : ℕ) (names : List (List ℕ)) (old new : Option (List ℕ)) where
+  faulted : (fault : RunFault) → IsAsked words nodes leaves names → MayEndAllBy bytes names old new fault → HasFaultAsAsked bytes words old new fault
+  faulted fault asked ended = record { nodes = nodes; leaves = leaves; names = names; asked = asked; ended = ended }
+
+  pub asked_ended : (fault : RunFault) → IsAsked words nodes leaves names → IsFileFault fault ⊎ MayEndAllBy bytes names old new fault
+      → MayEndAsAsked bytes words old new (Fault fault)
+  asked_ended Read asked ended = tt
+  asked_ended Memory asked ended = tt
+  asked_ended Write asked (inl is) = absurd is
+  asked_ended Write asked (inr ended) = faulted Write asked ended
+  asked_ended (Script number reason) asked (inl is) = absurd is
+  asked_ended (Script number reason) asked (inr ended) = faulted (Script number reason) asked ended
+  asked_ended (FileScript file number reason) asked (inl is) = absurd is
+  asked_ended (FileScript file number reason) asked (inr ended) = faulted (FileScript file number reason) asked ended
+  asked_ended Large asked (inl is) = absurd is
+  asked_ended Large asked (inr ended) = faulted Large asked ended

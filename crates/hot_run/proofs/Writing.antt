@@ -1,5 +1,5 @@
 -- Texts that are written one after another.
-use Rattle.std.proofs.Common.{◌≡◌, ℕ, List, ◌++◌, Option, None, Some, ◌∙◌}
+use Rattle.std.proofs.Common.{ℕ, List, Option, None, Some, ◌∙◌}
 use Rattle.std.specs.Io.KnownBytes.{Appends, Keeps}
 
 -- a text, and then nothing more

@@ -1,15 +1,19 @@
 //! Which run a command line asks for.
 
-ghost use Rattle.std.specs.Prelude.{◌≡◌, ◌≢◌, IfErr, OnOk, map, string_bytes};
+ghost use Rattle.std.specs.Prelude.{◌≡◌, ◌≢◌, ◌⊎◌, List, ℕ, IfErr, OnOk, map, string_bytes};
+ghost use Rattle.std.specs.Io.KnownBytes.{Appends};
 ghost use Rattle.hot_scripts.specs.declared.fault.RunFault.TheVariants.{Write as WriteFault};
+ghost use Rattle.hot_command_line.specs.Files.{IsFileFault};
 ghost use Rattle.hot_command_line.specs.declared.ending.Ending.TheVariants.{Fault};
-ghost use Rattle.hot_run.specs.Asked.{IsAnsweredAsAsked, MayEndAsAsked};
+ghost use Rattle.hot_run.specs.Asked.{AnswersAll, IsAnsweredAsAsked, MayEndAllBy, MayEndAsAsked};
+ghost use Rattle.hot_run.specs.Runs.{TakesAll};
 
 use crate::run_one;
 use crate::scripts::run_scripts;
-use hot_command_line::arguments::parse;
+use hot_command_line::arguments::{Request, parse};
 use hot_command_line::ending::Ending;
 use hot_command_line::files::{FileSystem, read_files};
+use hot_scripts::fault::RunFault;
 use std::io::{Read, Write};
 use std::sync::Wait;
 use std::thread::Threads;
@@ -37,12 +41,30 @@ where
     ensures nothing { IfErr result (λ ending. ending ≢ Fault WriteFault → writer.new ≡ writer.old) }
 {
     let request = parse(rt.alloc(), words)?;
+    answer_request(rt, system, &request, reader, writer)?;
+    Ok(())
+}
+
+/// Answers what was asked for.
+fn answer_request<T: AllocGlobal + Wait + Threads + Sync, S: FileSystem, R: Read, W: Write>(
+    rt: &T,
+    system: &S,
+    request: &Request<'_>,
+    reader: &mut R,
+    writer: &mut W,
+) -> Result<(), RunFault>
+    ensures ok { OnOk result ((script : List ℕ) × (text : List ℕ)
+        × TakesAll (R.remaining reader.old) (R.remaining reader.new) script
+        × AnswersAll S.bytes (map (λ n. n.now) request.now.files.items) request.now.nodes request.now.leaves script text
+        × Appends (W.contents writer.old) (W.contents writer.new) text) }
+    ensures fault { IfErr result (λ fault. IsFileFault fault
+        ⊎ MayEndAllBy S.bytes (map (λ n. n.now) request.now.files.items) (R.remaining reader.old) (R.remaining reader.new) fault) }
+    ensures nothing { IfErr result (λ fault. fault ≢ WriteFault → writer.new ≡ writer.old) }
+{
     let (nodes, leaves) = (request.nodes, request.leaves);
     if request.files.is_empty() {
-        run_one(rt.alloc(), nodes, leaves, reader, writer)?;
-        return Ok(());
+        return run_one(rt.alloc(), nodes, leaves, reader, writer);
     }
     let files = read_files(rt.alloc(), system, &request.files)?;
-    run_scripts(rt, rt.alloc(), nodes, leaves, files, reader, writer)?;
-    Ok(())
+    run_scripts(rt, rt.alloc(), nodes, leaves, files, reader, writer)
 }

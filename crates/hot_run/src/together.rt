@@ -99,6 +99,7 @@ fn answer_last<'a, T: Wait>(
     requires few { length met.items ≤ MAX_FILES }
     ensures { IfOk result (λ texts. HasAnsweredLast handle.entry met.entry.items (script_commands last.now) (flat_map (λ t. t.items) texts.items)) }
 {
+    // The handle is opened: its pass belongs to its index.
     let _pass = &handle.pass;
     let done = run_file(rt, alloc, handle, last, NoGate)?;
     let (_, again) = meet_all(alloc, done.handle, met)?;

@@ -1,5 +1,5 @@
 -- Why `run` meets its contract.
-use Rattle.std.proofs.Common.{◌≡◌, ◌∷◌, [], ◌++◌, ◌∙◌, append_assoc, append-nil, rules}
+use Rattle.std.proofs.Common.{◌≡◌, ◌∷◌, [], ◌∙◌, append_assoc, append-nil, rules}
 use Rattle.seat_calls.specs.Passes.{PassView}
 use Rattle.hot_scripts.specs.Parses.{commands_left}
 use Rattle.hot_run.proofs.Progressing.{HasRunCommands-none, HasRunCommands-more}

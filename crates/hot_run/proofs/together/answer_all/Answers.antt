@@ -1,5 +1,5 @@
 -- Why `answer_all` meets its contract.
-use Rattle.std.proofs.Common.{◌≡◌, ◌+◌, length, map, sym, subst, ◌∙◌, ap, arith}
+use Rattle.std.proofs.Common.{◌≡◌, ◌+◌, length, map, subst, ◌∙◌, ap, arith}
 use Rattle.std.specs.List.{flat_map, zip}
 use Rattle.std.proofs.lemmas.List.{length-map}
 use Rattle.rowex_table.specs.Seats.{TableView}

@@ -1,0 +1,25 @@
+-- What a run with files has answered, or by what it has ended.
+use Rattle.std.proofs.Common.{inr}
+use Rattle.std.proofs.lemmas.Result.{IfErr-weaker, on_ok_weaker}
+use Rattle.hot_run.proofs.Asking.{files_answered, not_empty, run_ended}
+use Rattle.hot_run.proofs.asked.answer_request.Goals as goal
+
+pub returns-clause-ok : goal.returns-clause-ok
+returns-clause-ok g c =
+    let request = c.args.request.now in
+    let some = not_empty request.files c.is_empty.result c.is_empty.ensures c.if-is_empty.false in
+    on_ok_weaker c.run_scripts.result
+    (λ (script, text, taken, lawful, written). (
+      script,
+      text,
+      taken,
+      files_answered g.S.FileSystem.bytes request.files.items c.in_ok-files.files.items some (rw c.deref.ensures.value at c.in_ok-files.ensures.starts) request.nodes request.leaves script text lawful,
+      written,
+    )) c.run_scripts.ensures.ok
+
+pub returns-clause-fault : goal.returns-clause-fault
+returns-clause-fault g c =
+    let request = c.args.request.now in
+    let some = not_empty request.files c.is_empty.result c.is_empty.ensures c.if-is_empty.false in
+    IfErr-weaker c.run_scripts.result _ _
+    (λ fault ended. inr (run_ended g.S.FileSystem.bytes request.files.items c.in_ok-files.files.items some (rw c.deref.ensures.value at c.in_ok-files.ensures.starts) _ _ fault ended)) c.run_scripts.ensures.fault
