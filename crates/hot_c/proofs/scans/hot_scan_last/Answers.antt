@@ -1,0 +1,5 @@
+-- The last pairs are listed in rising order.
+use Rattle.hot_c.proofs.scans.hot_scan_last.Goals as goal
+
+pub returns : goal.returns
+returns c = record { call = c.list.ensures }
