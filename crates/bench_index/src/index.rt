@@ -11,8 +11,7 @@ use crate::measure::measure;
 use crate::stock::PASSES;
 use crate::work::Rate;
 use hot_index::{
-    Call, Handle, Index, IndexFault, Key, Pairs, Pass, Reply, Stock, TryFault, create_with,
-    handles_of,
+    Handle, Index, IndexFault, Key, Pairs, Pass, Reply, Stock, create_with, handles_of,
 };
 use std::alloc::Global;
 use std::io;
@@ -21,32 +20,19 @@ use std::rt::{Clock, CpuClock};
 use std::sync::Wait;
 use std::thread::Threads;
 
-/// How a call asks for its change.
-#[derive(Clone, Copy)]
-pub enum Form {
-    /// It waits for others.
-    Waits,
-    /// It tries, and may be refused as busy.
-    Tries,
-}
+/// A pass at its index.
+pub type Guest<'a> = Handle<&'a Index>;
 
-/// A pass at its index, and the list that its scans fill.
-#[derive(Drop)]
-pub struct Guest<'a> {
-    handle: Handle<&'a Index>,
-    pairs: Pairs,
-}
-
-impl OrderedMap for Guest<'_> {
-    fn get<R: Wait>(&mut self, _rt: &R, key: &Key) -> Option<u64> {
-        self.handle.get(key)
+impl<'a> OrderedMap for Handle<&'a Index> {
+    fn look_up<R: Wait>(&mut self, _rt: &R, key: &Key) -> Option<u64> {
+        self.get(key)
     }
 
     fn change<R: Wait>(&mut self, rt: &R, change: Change, pair: &Pair) -> io::Result<Option<u64>> {
         let answer = match change {
-            Change::Insert => self.handle.insert(rt, &pair.key, pair.value),
-            Change::Upsert => self.handle.upsert(rt, &pair.key, pair.value),
-            Change::Remove => self.handle.remove(rt, &pair.key),
+            Change::Insert => self.insert(rt, &pair.key, pair.value),
+            Change::Upsert => self.upsert(rt, &pair.key, pair.value),
+            Change::Remove => self.remove(rt, &pair.key),
         };
         match answer {
             Ok(
@@ -61,48 +47,25 @@ impl OrderedMap for Guest<'_> {
         }
     }
 
-    fn scan<R: Wait>(&mut self, _rt: &R, from: &Key, limit: usize) -> io::Result<&Pairs> {
+    fn list<R: Wait>(
+        &mut self,
+        _rt: &R,
+        from: &Key,
+        limit: usize,
+        pairs: &mut Pairs,
+    ) -> io::Result<()> {
         let upto = key_of(&LAST)?;
-        self.handle.scan_into(from, &upto, limit, &mut self.pairs)?;
-        Ok(&self.pairs)
+        self.scan_into(from, &upto, limit, pairs)?;
+        Ok(())
     }
 
     /// Those that are out of reach are given back first.
     fn nodes(&mut self) -> u32 {
-        self.handle.collect();
-        self.handle.collect();
+        self.collect();
+        self.collect();
         let mut census = Census::new();
-        let handle = &mut self.handle;
-        handle.index.collect_with(&mut handle.pass, &mut census);
+        self.index.collect_with(&mut self.pass, &mut census);
         census.nodes
-    }
-}
-
-impl Guest<'_> {
-    /// The number of its pass.
-    pub fn number(&self) -> u16 {
-        self.handle.number()
-    }
-
-    /// Gives a key a value, and tells whether that was refused as full.
-    pub fn is_refused<R: Wait>(
-        &mut self,
-        rt: &R,
-        form: Form,
-        pair: &Pair,
-        census: &mut Census,
-    ) -> bool {
-        let (index, pass) = (self.handle.index, &mut self.handle.pass);
-        match form {
-            Form::Waits => {
-                let call = Call::Upsert(pair.key.copy(), pair.value);
-                index.call_with(rt, pass, &call, census).is_err()
-            }
-            Form::Tries => matches!(
-                index.try_upsert_with(pass, &pair.key, pair.value, census),
-                Err(TryFault::FullNodes | TryFault::FullLeaves)
-            ),
-        }
     }
 }
 
@@ -117,34 +80,18 @@ pub fn index_of(alloc: Global, passes: u32, stock: Stock) -> io::Result<(Index, 
     }
 }
 
-/// Guests of an index, one for each of these passes.
-pub fn guests<'a>(alloc: Global, index: &'a Index, passes: Vec<Pass>) -> io::Result<Vec<Guest<'a>>>
-    requires { All (Owns index.now) passes.items }
-{
-    let mut guests = Vec::new(alloc);
-    for handle in handles_of(alloc, index, passes)? {
-        let pairs = Pairs::new(alloc);
-        guests.push(Guest { handle, pairs })?;
-    }
-    Ok(guests)
-}
-
-/// Measures the index, a new one of this stock in each round; and tells how many node records the keys took.
+/// Measures a new index of this stock, and adds its rates. Answers how many node records the keys took.
 pub fn measure_index<R>(
     rt: &R,
     alloc: Global,
+    rates: &mut Vec<Rate>,
     load: &Load,
     stock: Stock,
-) -> io::Result<(Vec<Rate>, u32)>
+) -> io::Result<u32>
 where
     R: Clock + CpuClock + Threads + Wait + Sync,
 {
-    let mut rates = Vec::new(alloc);
-    let mut nodes = 0;
-    for _ in 0..load.rounds {
-        let (index, passes) = index_of(alloc, PASSES, stock)?;
-        let maps = guests(alloc, &index, passes)?;
-        nodes = measure(rt, alloc, &mut rates, maps, load)?;
-    }
-    Ok((rates, nodes))
+    let (index, passes) = index_of(alloc, PASSES, stock)?;
+    let guests = handles_of(alloc, &index, passes)?;
+    measure(rt, alloc, rates, guests, load)
 }

@@ -25,10 +25,9 @@ use std::io::ErrorKind;
 use std::rt::{Clock, CpuClock, Env};
 use std::sync::Wait;
 use std::thread::Threads;
-use stock::Fit;
-use tight::{STEADY, measure_tight};
+use tight::{SHORT, STEADY, measure_steady, measure_tight};
 use tree::measure_tree;
-use work::{mixed, same_answers};
+use work::{mixed, same_answers, sum_of};
 
 /// Upserts with few leaf records to spare are measured with up to so many keys.
 const MOST_TIGHT: u32 = 200_000;
@@ -47,37 +46,40 @@ where
             eprintln!(rt; "{count} {} ..", kind.name())?;
         }
         let load = Load::new(rt.alloc(), kind, *count, options.is_check)?;
-        let column = measure_both(rt, &load)?;
-        for rate in column.index.iter() {
-            checksum = mixed(checksum, rate.checksum);
-        }
-        if !options.is_check {
-            print_column(rt, &column)?;
-        }
+        checksum = measure_load(rt, &load, options.is_check, checksum)?;
     }
     Ok(checksum)
 }
 
-/// Measures both maps with the same load. Answers that differ are `InvalidData`.
-fn measure_both<R>(rt: &R, load: &Load) -> io::Result<Column>
+/// Measures both maps with the same load, and prints it unless this is a check. Answers that differ are `InvalidData`.
+fn measure_load<R>(rt: &R, load: &Load, is_check: bool, before: u64) -> io::Result<u64>
+where
+    R: Clock + CpuClock + Print + AllocGlobal + Threads + Wait + Sync,
+{
+    let mut column = Column::new(rt.alloc(), load)?;
+    measure_both(rt, load, &mut column)?;
+    if !same_answers(&column.index, &column.tree) {
+        return Err(io::Error::from(ErrorKind::InvalidData));
+    }
+    if !is_check {
+        print_column(rt, &column)?;
+    }
+    Ok(sum_of(before, &column.index))
+}
+
+/// Measures both maps, new ones in each round.
+fn measure_both<R>(rt: &R, load: &Load, column: &mut Column) -> io::Result<()>
 where
     R: Clock + CpuClock + AllocGlobal + Threads + Wait + Sync,
 {
-    let fit = Fit::new(rt.alloc(), load)?;
-    let (index, nodes) = measure_index(rt, rt.alloc(), load, fit.stock)?;
-    let tree = measure_tree(rt, rt.alloc(), load)?;
-    if !same_answers(&index, &tree) {
-        return Err(io::Error::from(ErrorKind::InvalidData));
+    let (alloc, stock) = (rt.alloc(), column.fit.stock);
+    for _ in 0..load.rounds {
+        column.nodes = measure_index(rt, alloc, &mut column.index, load, stock)?;
     }
-    let bytes = fit.bytes(load.count)?;
-    Ok(Column {
-        keys: load.count,
-        index,
-        tree,
-        fit,
-        bytes,
-        nodes,
-    })
+    for _ in 0..load.rounds {
+        measure_tree(rt, alloc, &mut column.tree, load)?;
+    }
+    Ok(())
 }
 
 /// Measures upserts with few leaf records to spare for each number of keys that is not large, and the steady state.
@@ -88,14 +90,12 @@ where
     for count in options.counts.iter() {
         if *count <= MOST_TIGHT {
             let load = Load::new(rt.alloc(), Kind::Random, *count, options.is_check)?;
-            measure_tight(rt, &load, false, options.is_check)?;
+            measure_tight(rt, &load, options.is_check)?;
         }
     }
-    if !options.is_check {
-        let load = Load::new(rt.alloc(), Kind::Random, STEADY.0, false)?;
-        measure_tight(rt, &load, true, false)?;
-    }
-    Ok(())
+    let (count, turns) = if options.is_check { SHORT } else { STEADY };
+    let load = Load::new(rt.alloc(), Kind::Random, count, options.is_check)?;
+    measure_steady(rt, &load, turns, options.is_check)
 }
 
 fn run<R>(rt: &R) -> io::Result<()>

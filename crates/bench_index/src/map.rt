@@ -19,13 +19,19 @@ pub enum Change {
 /// An ordered map from keys to values, in the hands of one thread.
 pub trait OrderedMap {
     /// The value of a key.
-    fn get<R: Wait>(&mut self, rt: &R, key: &Key) -> Option<u64>;
+    fn look_up<R: Wait>(&mut self, rt: &R, key: &Key) -> Option<u64>;
 
     /// Changes the value of a key; answers the one that it had. Where there is no room, nothing is changed.
     fn change<R: Wait>(&mut self, rt: &R, change: Change, pair: &Pair) -> io::Result<Option<u64>>;
 
-    /// The first pairs from a key on, at most so many, in the order of their keys. The next scan takes their place.
-    fn scan<R: Wait>(&mut self, rt: &R, from: &Key, limit: usize) -> io::Result<&Pairs>;
+    /// Lists the first pairs from a key on, at most so many, in the order of their keys, in the place of those that are listed.
+    fn list<R: Wait>(
+        &mut self,
+        rt: &R,
+        from: &Key,
+        limit: usize,
+        pairs: &mut Pairs,
+    ) -> io::Result<()>;
 
     /// How many node records are in use, for a map that has some.
     fn nodes(&mut self) -> u32;

@@ -3,6 +3,7 @@
 use crate::load::{Load, Pair, THREADS};
 use crate::map::{Change, OrderedMap};
 use crate::work::{Rate, Work, mixed};
+use hot_index::Pairs;
 use std::alloc::Global;
 use std::io;
 use std::io::ErrorKind;
@@ -54,11 +55,28 @@ pub fn measure<M: OrderedMap + Send + Drop, R>(
 where
     R: Clock + CpuClock + Threads + Wait + Sync,
 {
-    let mut first = maps.pop().ok_or(ErrorKind::InvalidInput)?;
-    work_alone(rt, alloc, rates, &mut first, load, &ALONE)?;
+    match maps.pop() {
+        Some(mut first) => measure_all(rt, alloc, rates, &mut first, maps, load),
+        None => Err(io::Error::from(ErrorKind::InvalidInput)),
+    }
+}
+
+/// `measure`, by the map of one thread and those of several.
+fn measure_all<M: OrderedMap + Send + Drop, R>(
+    rt: &R,
+    alloc: Global,
+    rates: &mut Vec<Rate>,
+    first: &mut M,
+    maps: Vec<M>,
+    load: &Load,
+) -> io::Result<u32>
+where
+    R: Clock + CpuClock + Threads + Wait + Sync,
+{
+    work_alone(rt, alloc, rates, first, load, &ALONE)?;
     work_together(rt, alloc, rates, maps, load)?;
     let nodes = first.nodes();
-    work_alone(rt, alloc, rates, &mut first, load, &[Work::Removals])?;
+    work_alone(rt, alloc, rates, first, load, &[Work::Removals])?;
     Ok(nodes)
 }
 
@@ -153,18 +171,24 @@ fn make_calls<M: OrderedMap, R>(
 where
     R: Clock + CpuClock + Wait,
 {
-    let mut pairs = Vec::new(alloc);
+    let (mut pairs, mut list) = (Vec::new(alloc), Pairs::new(alloc));
     let mut sum = Rate::new();
     let upto = turns.end;
     for from in turns.step_by(batch.max(1) as usize) {
         load.fill(&mut pairs, work, from..from.saturating_add(batch).min(upto))?;
-        sum.add(&make_some(rt, map, work, &pairs)?);
+        sum.add(&make_some(rt, map, work, &pairs, &mut list)?);
     }
     Ok(sum)
 }
 
-/// Makes a call with each of these pairs.
-fn make_some<M: OrderedMap, R>(rt: &R, map: &mut M, work: Work, pairs: &[Pair]) -> io::Result<Rate>
+/// Makes a call with each of these pairs. Scans fill the list.
+fn make_some<M: OrderedMap, R>(
+    rt: &R,
+    map: &mut M,
+    work: Work,
+    pairs: &[Pair],
+    list: &mut Pairs,
+) -> io::Result<Rate>
 where
     R: Clock + CpuClock + Wait,
 {
@@ -172,7 +196,7 @@ where
     let start = Instant::now(rt)?;
     let before = rt.thread_cpu_time()?;
     for (turn, pair) in pairs.iter().enumerate() {
-        checksum = mixed(checksum, call(rt, map, work, turn as u64, pair)?);
+        checksum = mixed(checksum, call(rt, map, work, turn as u64, pair, list)?);
     }
     let used = rt.thread_cpu_time()?.saturating_sub(before);
     Ok(Rate {
@@ -190,26 +214,27 @@ fn call<M: OrderedMap, R: Wait>(
     work: Work,
     turn: u64,
     pair: &Pair,
+    list: &mut Pairs,
 ) -> io::Result<u64> {
     let change = match work {
-        Work::FirstInserts | Work::Inserts | Work::LastInserts => Some(Change::Insert),
-        Work::Upserts => Some(Change::Upsert),
-        Work::Removals => Some(Change::Remove),
-        Work::Threads { upserts } if turn.wrapping_mul(upserts) % 100 < upserts => {
-            Some(Change::Upsert)
+        Work::FirstInserts | Work::Inserts | Work::LastInserts => Change::Insert,
+        Work::Upserts => Change::Upsert,
+        Work::Removals => Change::Remove,
+        Work::Threads { upserts } if turn.wrapping_mul(upserts) % 100 < upserts => Change::Upsert,
+        Work::Scans => {
+            map.list(rt, &pair.key, LIMIT, list)?;
+            return Ok(sum_of(list));
         }
-        _ => None,
+        _ => return Ok(map.look_up(rt, &pair.key).unwrap_or(u64::MAX)),
     };
-    if matches!(work, Work::Scans) {
-        let mut checksum = 0;
-        for (_, value) in map.scan(rt, &pair.key, LIMIT)?.iter() {
-            checksum = mixed(checksum, value);
-        }
-        return Ok(checksum);
+    Ok(map.change(rt, change, pair)?.unwrap_or(u64::MAX))
+}
+
+/// The checksum of the values that are listed.
+fn sum_of(list: &Pairs) -> u64 {
+    let mut checksum = 0;
+    for (_, value) in list.iter() {
+        checksum = mixed(checksum, value);
     }
-    let had = match change {
-        Some(change) => map.change(rt, change, pair)?,
-        None => map.get(rt, &pair.key),
-    };
-    Ok(had.unwrap_or(u64::MAX))
+    checksum
 }

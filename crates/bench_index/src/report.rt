@@ -1,7 +1,9 @@
 //! What was measured, in lines that `bench/table.py` makes a table of.
 
+use crate::load::Load;
 use crate::stock::Fit;
 use crate::work::Rate;
+use std::alloc::Global;
 use std::io;
 
 /// What was measured with so many keys.
@@ -15,6 +17,22 @@ pub struct Column {
     pub bytes: (usize, usize),
     /// How many node records the keys took.
     pub nodes: u32,
+}
+
+impl Column {
+    /// A column of no rates yet.
+    pub fn new(alloc: Global, load: &Load) -> io::Result<Column> {
+        let fit = Fit::new(alloc, load)?;
+        let bytes = fit.bytes(load.count)?;
+        Ok(Column {
+            keys: load.count,
+            index: Vec::new(alloc),
+            tree: Vec::new(alloc),
+            fit,
+            bytes,
+            nodes: 0,
+        })
+    }
 }
 
 /// Prints a line for the numbers of keys, of bytes and of node records, the stock, and a line for each rate.

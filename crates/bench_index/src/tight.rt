@@ -1,11 +1,11 @@
 //! Upserts where few leaf records are to spare: how many are refused, and what the others cost.
 
 use crate::census::Census;
-use crate::index::{Form, Guest, guests, index_of};
-use crate::load::{Load, THREADS};
+use crate::index::{Guest, index_of};
+use crate::load::{Load, Pair, THREADS};
 use crate::map::{Change, OrderedMap};
 use crate::work::Work;
-use hot_index::Stock;
+use hot_index::{Call, Stock, TryFault, handles_of};
 use std::alloc::Global;
 use std::io;
 use std::io::ErrorKind;
@@ -13,6 +13,15 @@ use std::rt::Clock;
 use std::sync::Wait;
 use std::thread::{Threads, map_vec};
 use std::time::{Duration, Instant};
+
+/// How a call asks for its change.
+#[derive(Clone, Copy)]
+enum Form {
+    /// It waits for others.
+    Waits,
+    /// It tries, and may be refused as busy.
+    Tries,
+}
 
 /// The leaf records to spare that are measured, of a hundred keys.
 const SPARES: [u32; 5] = [1, 5, 10, 25, 100];
@@ -27,6 +36,9 @@ const WAYS: [(u32, Form); 4] = [
 
 /// The steady state that is measured: one thread upserts so many keys, so many times in all, with a hundredth to spare.
 pub const STEADY: (u32, u32) = (100_000, 1_000_000);
+
+/// The steady state of a check.
+pub const SHORT: (u32, u32) = (4_000, 20_000);
 
 /// How many keys a thread makes at a time.
 const BATCH: u32 = 1_000;
@@ -48,21 +60,12 @@ struct Tally {
     census: Census,
 }
 
-/// Measures upserts of the load's keys for each number of leaf records to spare, or the steady state alone; and prints a line for
-/// each, of which `bench/table.py` makes one of a table, unless this is a check.
-pub fn measure_tight<R>(rt: &R, load: &Load, is_steady: bool, is_check: bool) -> io::Result<()>
+/// Measures upserts of the load's keys for each number of leaf records to spare; and prints a line for each, of which
+/// `bench/table.py` makes one of a table, unless this is a check.
+pub fn measure_tight<R>(rt: &R, load: &Load, is_check: bool) -> io::Result<()>
 where
     R: Clock + Print + AllocGlobal + Threads + Wait + Sync,
 {
-    if is_steady {
-        let case = Case {
-            threads: 1,
-            form: Form::Waits,
-            spare: 1,
-            turns: STEADY.1,
-        };
-        return measure_case(rt, load, case, is_check);
-    }
     for (threads, form) in WAYS {
         for spare in SPARES {
             let case = Case {
@@ -77,24 +80,61 @@ where
     Ok(())
 }
 
+/// Measures so many upserts in the steady state. In a check a refusal, a full round, or more than three states that are loaded for a
+/// record that was retired are `InvalidData`.
+pub fn measure_steady<R>(rt: &R, load: &Load, turns: u32, is_check: bool) -> io::Result<()>
+where
+    R: Clock + Print + AllocGlobal + Threads + Wait + Sync,
+{
+    let case = Case {
+        threads: 1,
+        form: Form::Waits,
+        spare: 1,
+        turns,
+    };
+    let tally = measure_case(rt, load, case, is_check)?;
+    if is_check && !tally.is_steady() {
+        return Err(io::Error::from(ErrorKind::InvalidData));
+    }
+    Ok(())
+}
+
+impl Tally {
+    /// Whether small rounds were enough.
+    fn is_steady(&self) -> bool {
+        let census = &self.census;
+        self.refused == 0
+            && census.full_rounds == 0
+            && census.looks <= census.retired.saturating_mul(3)
+    }
+}
+
 /// Measures a case with a new index of the load's keys, and prints a line unless this is a check.
-fn measure_case<R>(rt: &R, load: &Load, case: Case, is_check: bool) -> io::Result<()>
+fn measure_case<R>(rt: &R, load: &Load, case: Case, is_check: bool) -> io::Result<Tally>
 where
     R: Clock + Print + AllocGlobal + Threads + Wait + Sync,
 {
     let (tally, time) = upsert_with(rt, rt.alloc(), load, case)?;
-    if is_check {
-        return Ok(());
+    if !is_check {
+        print_case(rt, load.count, case, &tally, time)?;
     }
+    Ok(tally)
+}
+
+/// Prints the line of a case.
+fn print_case<R: Print>(
+    rt: &R,
+    keys: u32,
+    case: Case,
+    tally: &Tally,
+    time: Duration,
+) -> io::Result<()> {
     let form = match case.form {
         Form::Waits => "wait",
         Form::Tries => "try",
     };
-    let (census, calls) = (tally.census, case.turns.saturating_mul(case.threads));
-    print!(rt;
-        "upserts {} {} {form} {}",
-        load.count, case.threads, case.spare
-    )?;
+    let (census, calls) = (&tally.census, case.turns.saturating_mul(case.threads));
+    print!(rt; "upserts {keys} {} {form} {}", case.threads, case.spare)?;
     print!(rt; " {calls} {} {}", tally.refused, census.full_rounds)?;
     println!(rt;
         " {} {} {} {}",
@@ -112,7 +152,7 @@ where
 {
     let stock = stock_with(load.count, case.spare);
     let (index, passes) = index_of(alloc, case.threads.saturating_add(1), stock)?;
-    let mut others = guests(alloc, &index, passes)?;
+    let mut others = handles_of(alloc, &index, passes)?;
     insert_all(rt, alloc, others.pop(), load)?;
     let start = Instant::now(rt)?;
     let tallies = map_vec(
@@ -176,10 +216,31 @@ fn upsert_all<R: Wait>(rt: &R, alloc: Global, mut guest: Guest, load: &Load, cas
             tally.refused = u32::MAX;
         }
         for pair in &pairs {
-            if guest.is_refused(rt, case.form, pair, &mut tally.census) {
+            if is_refused(rt, &mut guest, case.form, pair, &mut tally.census) {
                 tally.refused = tally.refused.saturating_add(1);
             }
         }
     }
     tally
+}
+
+/// Gives a key a value, and tells whether that was refused as full.
+fn is_refused<R: Wait>(
+    rt: &R,
+    guest: &mut Guest,
+    form: Form,
+    pair: &Pair,
+    census: &mut Census,
+) -> bool {
+    let (index, pass) = (guest.index, &mut guest.pass);
+    match form {
+        Form::Waits => {
+            let call = Call::Upsert(pair.key.copy(), pair.value);
+            index.call_with(rt, pass, &call, census).is_err()
+        }
+        Form::Tries => matches!(
+            index.try_upsert_with(pass, &pair.key, pair.value, census),
+            Err(TryFault::FullNodes | TryFault::FullLeaves)
+        ),
+    }
 }

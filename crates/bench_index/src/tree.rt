@@ -18,16 +18,15 @@ use std::{io, mem};
 /// The map that all threads share.
 type Tree = RwLock<BTreeMap<Vec<u8>, u64>>;
 
-/// The tree in the hands of one thread, and the list that its scans fill.
-#[derive(Drop)]
-struct Handle<'a> {
+/// The tree in the hands of one thread.
+#[derive(Clone, Copy)]
+struct Sharer<'a> {
     tree: &'a Tree,
     alloc: Global,
-    pairs: Pairs,
 }
 
-impl OrderedMap for Handle<'_> {
-    fn get<R: Wait>(&mut self, rt: &R, key: &Key) -> Option<u64> {
+impl OrderedMap for Sharer<'_> {
+    fn look_up<R: Wait>(&mut self, rt: &R, key: &Key) -> Option<u64> {
         self.tree.read(rt).get(key.as_bytes()).copied()
     }
 
@@ -39,15 +38,21 @@ impl OrderedMap for Handle<'_> {
         }
     }
 
-    fn scan<R: Wait>(&mut self, rt: &R, from: &Key, limit: usize) -> io::Result<&Pairs> {
+    fn list<R: Wait>(
+        &mut self,
+        rt: &R,
+        from: &Key,
+        limit: usize,
+        pairs: &mut Pairs,
+    ) -> io::Result<()> {
         let from = Vec::from_slice(self.alloc, from.as_bytes())?;
         let tree = self.tree.read(rt);
-        self.pairs.clear();
+        pairs.clear();
         for (bytes, value) in tree.range(from..).take(limit) {
             let key = key_of(bytes)?;
-            self.pairs.push(key.as_bytes(), *value)?;
+            pairs.push(key.as_bytes(), *value)?;
         }
-        Ok(&self.pairs)
+        Ok(())
     }
 
     fn nodes(&mut self) -> u32 {
@@ -55,7 +60,7 @@ impl OrderedMap for Handle<'_> {
     }
 }
 
-impl Handle<'_> {
+impl Sharer<'_> {
     fn insert<R: Wait>(&self, rt: &R, key: &Key, value: u64) -> io::Result<Option<u64>> {
         let bytes = Vec::from_slice(self.alloc, key.as_bytes())?;
         let mut tree = self.tree.write(rt);
@@ -78,23 +83,14 @@ impl Handle<'_> {
     }
 }
 
-/// Measures the tree: a new one in each round.
-pub fn measure_tree<R>(rt: &R, alloc: Global, load: &Load) -> io::Result<Vec<Rate>>
+/// Measures a new tree, and adds its rates.
+pub fn measure_tree<R>(rt: &R, alloc: Global, rates: &mut Vec<Rate>, load: &Load) -> io::Result<()>
 where
     R: Clock + CpuClock + Threads + Wait + Sync,
 {
-    let mut rates = Vec::new(alloc);
-    for _ in 0..load.rounds {
-        let tree = RwLock::new(BTreeMap::new(alloc));
-        let mut maps = Vec::new(alloc);
-        for _ in 0..PASSES {
-            maps.push(Handle {
-                tree: &tree,
-                alloc,
-                pairs: Pairs::new(alloc),
-            })?;
-        }
-        measure(rt, alloc, &mut rates, maps, load)?;
-    }
-    Ok(rates)
+    let tree = RwLock::new(BTreeMap::new(alloc));
+    let sharer = Sharer { tree: &tree, alloc };
+    let sharers = vec![in alloc; sharer; PASSES as usize]?;
+    measure(rt, alloc, rates, sharers, load)?;
+    Ok(())
 }

@@ -59,6 +59,15 @@ pub fn mixed(checksum: u64, answer: u64) -> u64 {
     checksum.wrapping_mul(31).wrapping_add(answer)
 }
 
+/// The checksum of all answers of these rates more.
+pub fn sum_of(before: u64, rates: &[Rate]) -> u64 {
+    let mut checksum = before;
+    for rate in rates {
+        checksum = mixed(checksum, rate.checksum);
+    }
+    checksum
+}
+
 /// Whether two maps answered the same works alike, which were done in the same order.
 pub fn same_answers(some: &[Rate], others: &[Rate]) -> bool {
     some.len() == others.len()
