@@ -6,23 +6,9 @@ ghost use Rattle.hot_index.specs.Stamps.{IsStampFrom};
 
 use crate::made::*;
 use hot_index::{Index, Key, Pass, Reply, Stamp};
-use std::process::Abort;
 use std::sync::Wait;
 use std::test::*;
 use std::thread::{Threads, join};
-
-/// The last of the passes that are left.
-fn next_pass(rt: &impl Abort, index: &Index, passes: &mut Vec<Pass>) -> Pass
-    requires { All (Owns index.now) passes.old.items }
-    ensures one { Owns index.now result }
-    ensures rest { All (Owns index.now) passes.new.items }
-{
-    let _ = index;
-    match passes.pop() {
-        Some(pass) => pass,
-        None => panic!(rt; "no pass"),
-    }
-}
 
 /// Inserts a key by a pass that ends then. Answers a stamp of what the pass had seen, if the key was inserted.
 fn insert_stamped<R: Wait>(rt: &R, index: &Index, mut pass: Pass, key: &Key) -> (bool, Stamp)
@@ -61,7 +47,7 @@ fn insert_both<R: Threads + Wait + Sync>(
 
 #[test]
 fn a_pass_that_follows_stamps_finds_what_they_tell_of(rt: HostRuntime) {
-    let (index, mut passes) = index_of(&rt, rt.alloc(), 3, 16, 128);
+    let (index, mut passes) = index_of(&rt, rt.alloc(), 3);
     let first = next_pass(&rt, &index, &mut passes);
     let second = next_pass(&rt, &index, &mut passes);
     let mut last = next_pass(&rt, &index, &mut passes);
