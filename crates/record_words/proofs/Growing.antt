@@ -12,7 +12,7 @@ use Rattle.compound_node.specs.Nodes.{HeadView, NodeView, IsLawfulNode, head_of}
 use Rattle.compound_node.proofs.Forks.{NewLeaf, new_leaf}
 use Rattle.compound_node.proofs.Lawful.{same_count}
 use Rattle.record_words.specs.Entry.{HasEntryWord, entry_word}
-use Rattle.record_words.specs.Node.{HasHeadWords, HasNodeWords, HaveEntryWords, IsGrowing, entry_words, head_words, node_words}
+use Rattle.record_words.specs.Node.{HasHeadWords, HasNodeWords, HaveEntryWords, CanGrowAt, entry_words, head_words, node_words}
 use Rattle.record_words.specs.Reading.{IsSpelledBy}
 use Rattle.record_words.proofs.Nodes.{head_part, length-head_words, length-node_words, node_words-entry}
 use Rattle.record_words.proofs.Spelled.{entries_counted, head_read, height_read}
@@ -157,7 +157,7 @@ module _ (node after : NodeView) (at leaf : ℕ) (few : at ≤ length node.entri
     words_grown words before out count place word spells before_is counted placed word_is is = sym (is ∙ (rw (before_is, ← spells, counted, placed, word_is) words_put))
 
 -- ---- what is read of words that get a leaf
-module _ {words : List ℕ} {node : NodeView} {position first last : ℕ} (growing : IsGrowing words node position first last) (below : position < 65535) where
+module _ {words : List ℕ} {node : NodeView} {position first last : ℕ} (growing : CanGrowAt words node position first last) (below : position < 65535) where
   module _ (head : HeadView) (spelled : IsSpelledBy HasHeadWords head_words (take 25 words) head) where
     pub head_is : head_of node ≡ head
     head_is = sym (head_read node words head growing.has growing.spells spelled)

@@ -45,7 +45,7 @@ abbrev pub CanTakeLeaf : NodeView → Type 0
 CanTakeLeaf node = (node.height ≡ 1) × (length node.entries < MAX_ENTRIES)
 
 -- The words are those of this node. It can take a leaf, and a fork at the position parts that from the entries from first to last
-pub record IsGrowing (words : List ℕ) (node : NodeView) (position first last : ℕ) : Type 0 where
+pub record CanGrowAt (words : List ℕ) (node : NodeView) (position first last : ℕ) : Type 0 where
   pub has : HasNodeWords node
   pub spells : node_words node ≡ words
   pub takes : CanTakeLeaf node

@@ -5,7 +5,7 @@ ghost use Rattle.compound_node.specs.Nodes.{NodeView, piece};
 ghost use Rattle.compound_node.specs.declared.entries.Entry.TheVariants.{Leaf as LeafEntry};
 ghost use Rattle.pieces.specs.Growth.{grown};
 ghost use Rattle.record_words.specs.Entry.{HasEntryWord, entry_word};
-ghost use Rattle.record_words.specs.Node.{CanTakeLeaf, HasHeadWords, HasNodeWords, IsGrowing, SpellBuilt, head_words, node_words};
+ghost use Rattle.record_words.specs.Node.{CanTakeLeaf, HasHeadWords, HasNodeWords, CanGrowAt, SpellBuilt, head_words, node_words};
 ghost use Rattle.record_words.specs.Packed.{fixed_words, words_of_positions, words_of_rows};
 ghost use Rattle.record_words.specs.Reading.{IsSpelledBy, IsSpelling};
 
@@ -73,9 +73,9 @@ pub fn add_leaf(
     bit: bool,
     leaf: u32,
 )
-    requires growing { (node : NodeView) × IsGrowing words.old node position first last }
+    requires growing { (node : NodeView) × CanGrowAt words.old node position first last }
     requires below { position < 65535 }
-    ensures { (node : NodeView) → IsGrowing words.old node position first last → SpellBuilt words.new (grown position bit (LeafEntry leaf) first (piece node)) }
+    ensures { (node : NodeView) → CanGrowAt words.old node position first last → SpellBuilt words.new (grown position bit (LeafEntry leaf) first (piece node)) }
 {
     let mut head = head_of_words(&words[..HEAD_WORDS]);
     let end = HEAD_WORDS + head.count() as usize;

@@ -4,7 +4,7 @@ use Rattle.std.specs.Prelude.{if◌then◌else◌}
 use Rattle.compound_node.specs.Nodes.{IsBuiltFrom, NodeView, head_of, node_of, piece}
 use Rattle.compound_node.specs.declared.entries.Entry.TheVariants.{Leaf}
 use Rattle.pieces.specs.Growth.{grown}
-use Rattle.record_words.specs.Node.{IsGrowing, SpellBuilt}
+use Rattle.record_words.specs.Node.{CanGrowAt, SpellBuilt}
 use Rattle.record_words.proofs.Growing.{has_words, head_counted, head_is, head_low, place_within, words_grown}
 use Rattle.record_words.proofs.Nodes.{head_part}
 use Rattle.record_words.proofs.Written.{head_put}
