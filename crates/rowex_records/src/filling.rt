@@ -5,6 +5,7 @@ ghost use Rattle.moments.specs.declared.Rec.TheVariants.{Node as a_node, Leaf as
 ghost use Rattle.record_words.specs.Layout.{leaf_size};
 ghost use Rattle.record_words.specs.Leaf.{leaf_words, words_for};
 ghost use Rattle.record_words.specs.Node.{HasNodeWords, node_words};
+ghost use Rattle.record_words.specs.Reading.{IsSpelling};
 ghost use Rattle.record_words.specs.declared.TheConstants.{LEAF_FIELDS};
 ghost use Rattle.rowex_core.specs.Cores.{FitsIn, HasRecord, HasWord};
 ghost use Rattle.rowex_core.specs.Events.{IsOffset};
@@ -14,9 +15,8 @@ ghost use Rattle.rowex_table.specs.Runs.{Steps};
 ghost use Rattle.rowex_table.specs.Seats.{IsSeatOf};
 ghost use Rattle.rowex_records.specs.Records.{IsFilled, Readies, Sets, SetsAll, looking, unused_word};
 
-use compound_node::Node;
 use key_bits::Key;
-use record_words::{FIRST_ENTRY, HEAD_WORDS, NODE_FIELDS, key_word_at, key_words, pack_node};
+use record_words::{FIRST_ENTRY, HEAD_WORDS, NODE_FIELDS, key_word_at, key_words};
 use rowex_core::{Gate, Rec};
 use rowex_table::{HotTable, TableSeat};
 
@@ -77,24 +77,23 @@ fn set_leaf_word<G: Gate>(
     }
 }
 
-/// Fills a claimed node record with a node, in a step or two for each of its words but the state: a word in which the node has
-/// nothing is loaded, and stored only where another stands.
-pub fn fill_node<G: Gate>(
+/// Fills a claimed node record with the words of a node, in a step or two for each of its words but the state: a word in which the node
+/// has nothing is loaded, and stored only where another stands.
+pub fn fill_words<G: Gate>(
     table: &HotTable,
     seat: &mut TableSeat,
     gate: &mut G,
     number: u32,
-    node: &Node,
+    words: &[u64; NODE_FIELDS],
 )
     requires own { IsSeatOf table.now seat.old }
     requires range { number < table.now.layout.nodes }
     requires held { IsClaimed seat.old.known (a_node number) }
-    ensures fits { HasNodeWords node.now }
-    ensures fills { SetsAll table.now G.becomes (a_node number) (node_words node.now) (seat.old, gate.old) (seat.new, gate.new) }
-    ensures filled { IsFilled seat.new.known (a_node number) (node_words node.now) }
+    requires spelling { IsSpelling HasNodeWords node_words words.now }
+    ensures fills { SetsAll table.now G.becomes (a_node number) words.now (seat.old, gate.old) (seat.new, gate.new) }
+    ensures filled { IsFilled seat.new.known (a_node number) words.now }
     ensures steps { seat.new.known.steps ≤ seat.old.known.steps + 2 * NODE_FIELDS }
 {
-    let words = pack_node(node);
     let start = table.start_of(Rec::Node(number));
     for index in 0..HEAD_WORDS {
         let offset = index as u8 + 1;

@@ -40,7 +40,8 @@ use Rattle.rowex_rights.proofs.Rising.{risen_stays, rises_pulled, rises_wrapped,
 use Rattle.rowex_rights.specs.Rises.{of_view, of_leaf, IsSide, anew, HasFoundBelow}
 use Rattle.rowex_writing.specs.Building.{IsBuilding, IsHalfMade, IsMadeFrom, IsRaising, IsBelow, IsLevelRisen, IsLowest, IsLowRisen, IsNextTo, IsRisenAt, IsSingle, IsSplit, FitsAbove, IsChain, IsUp, IsGrowing, IsGrownFrom, HasNotMade, HasRisenTo, gone_unless, gone_with}
 use Rattle.rowex_writing.specs.Going.{WorksOn, ReadsOn, HasLocked, IsNodeOf}
-use Rattle.rowex_writing.specs.Remaking.{IsTreePage, AffectsJust, IsLowHalf, IsNoHigher}
+use Rattle.rowex_writing.specs.Remaking.{IsTreePage, AffectsJust, IsLowHalf, IsNoHigher, page_with}
+use Rattle.rowex_writing.specs.declared.remaking.NewLeaf.{NewLeaf}
 use Rattle.rowex_writing.proofs.Remade.{built_low}
 use Rattle.rowex_writing.proofs.Making.{building_on}
 use Rattle.rowex_writing.proofs.Raising.{rises_made, rises_kept, side_made}
@@ -230,6 +231,11 @@ module _ {G : Type 0} (table : TableView) (becomes : G → Event → G → Type 
   lowest_made c after_made h tall None goes made = made
   lowest_made c after_made h tall (Some r) goes (after, grown, building) =
       (after, lowered c after_made grown.grown r.1 r.0 grown.shows grown.keeps grown.above goes after (subst (λ z. IsMadeFrom (Node number z) grown.grown r.0 (of_leaf b.item ∷ []) after) tall grown.made) building)
+
+-- so of the node that was read
+pub grown_for : {view node : NodeView} → view ≡ node → (number : ℕ) (new : NewLeaf) (risen : Risen) (stays : Bool) (before after : List Made) →
+    IsGrownFrom (Node number view.height) view (page_with new (piece view)) new.position risen stays before after → IsGrownFrom (Node number node.height) node (page_with new (piece node)) new.position risen stays before after
+grown_for same number new risen stays before after grown = subst (λ v. IsGrownFrom (Node number v.height) v (page_with new (piece v)) new.position risen stays before after) same grown
 
 -- ---- without a leaf
 pub left_over : {G : Type 0} (table : TableView) (becomes : G → Event → G → Type 0) (a m c : SeatView × G) (after_made : List Rec) (key : Key) (words : List ℕ) (node : NodeView) (half : Half) (old : Entry) (answer : Option Entry) →

@@ -1,18 +1,15 @@
 -- Loads under a lock, and steps one after the other.
-use Rattle.std.proofs.Common.{◌≡◌, ℕ, ◌+◌, ◌-◌, ◌%◌, ◌<◌, ◌≤◌, List, [], ◌∷◌, ◌++◌, Some, length, length-append, get_or, get_or-take, set, take, replicate, refl, sym, ap, subst, ◌∙◌, arith, add-one, inl, inr, ◌⊎◌}
+use Rattle.std.proofs.Common.{◌≡◌, ℕ, ◌+◌, ◌-◌, ◌%◌, ◌<◌, ◌≤◌, List, [], ◌∷◌, ◌++◌, length, get_or, set, replicate, refl, sym, ap, subst, ◌∙◌, arith, add-one, inl, inr, ◌⊎◌, ⊎_elim}
 use Rattle.std.proofs.lemmas.Bool.{cases_lt}
 use Rattle.std.proofs.lemmas.List.Elements.{All-append, All-cons}
-use Rattle.std.proofs.lemmas.List.{ext_get_or, get_or-set_same, get_or-set_other, length-replicate, length-set, take_all}
+use Rattle.std.proofs.lemmas.List.{ext_get_or, get_or-set_same, get_or-set_other, length-replicate, length-set}
 use Rattle.record_words.specs.declared.layout.Layout.{Layout}
-use Rattle.compound_node.specs.Nodes.{NodeView, head_of}
-use Rattle.compound_node.specs.declared.entries.Entry.{Entry}
-use Rattle.compound_node.specs.declared.entries.Entry.TheVariants.{Leaf}
+use Rattle.compound_node.specs.Nodes.{NodeView}
 use Rattle.rowex_core.proofs.Reading.{node_is}
-use Rattle.record_words.specs.Entry.{HasEntryWord, entry_word}
-use Rattle.record_words.specs.Node.{head_words}
-use Rattle.record_words.specs.Reading.{IsSpelledBy}
-use Rattle.record_words.proofs.Nodes.{head_part, length-head_words}
-use Rattle.record_words.proofs.Spelled.{entries_counted, entry_spelled, one_more_read}
+use Rattle.record_words.proofs.Nodes.{length-node_words}
+use Rattle.record_words.proofs.Spelled.{entries_counted}
+use Rattle.record_words.proofs.Unused.{zero_in}
+use Rattle.record_words.proofs.Written.{no_entry_word}
 use Rattle.moments.specs.declared.Rec.TheVariants.{Node as a_node}
 use Rattle.rowex_core.specs.declared.event.Act.{Act}
 use Rattle.rowex_core.specs.declared.event.Act.TheVariants.{LoadRef, LoadFixed}
@@ -121,97 +118,54 @@ slots_told loaded words those =
 pub slots_fit : (loaded words : List ℕ) → AreThose loaded words 25 → get_or loaded 0 0 % 256 ≤ 32
 slots_fit loaded words those = let (view, is, told) = slots_told loaded words those in omega (arith, told, is.has.lawful.room)
 
--- the words of the head have been loaded
-pub head_loaded : (loaded words : List ℕ) → length loaded ≡ 25 → AreThose loaded words 25 → (view : NodeView) → IsNodeOf words view → head_words (head_of view) ≡ loaded
-head_loaded loaded words long those view is = ext_get_or 0 (head_words (head_of view)) loaded (length-head_words view ∙ sym long) (λ o l.
-    let low : o < 25 = omega (arith, l, length-head_words view) in
-    ap (λ ws. get_or ws o 0) (head_part view words is.spells) ∙ (get_or-take 25 words o 0 low ∙ sym (those.each o low)))
-
 -- what was locked is
 pub locked_on : (k j : Known) (n : ℕ) (words : List ℕ) → j.locks ≡ k.locks → HasLocked k n words → HasLocked j n words
 locked_on k j n words same h = subst (λ locks. IsOf (record { node = n; words = words }) locks) (sym same) h
 
--- The first n words of a locked node's head have been loaded, each by one load.
+-- what was loaded is the node that the lock's words spell
+pub words_shown : (k : Known) (n : ℕ) {loaded : List ℕ} → ((words : List ℕ) → HasLocked k n words → loaded ≡ words) → (view : NodeView) → IsNodeOf loaded view → (words : List ℕ) → HasLocked k n words → IsNodeOf words view
+words_shown k n same view is words h = subst (λ ws. IsNodeOf ws view) (same words h) is
+
+-- The first n words of a locked node have been loaded, each by one load, and none behind them.
 pub record AreRead {G : Type 0} (table : TableView) (becomes : G → Event → G → Type 0) (a b : SeatView × G) (number : ℕ) (loaded : List ℕ) (n : ℕ) : Type 0 where
   pub own : IsSeatOf table b.0
   pub reads : ReadsOn table becomes a b
-  pub long : length loaded ≡ 25
+  pub long : length loaded ≡ 57
+  pub rest : (o : ℕ) → n ≤ o → get_or loaded o 0 ≡ 0
   pub those : (words : List ℕ) → HasLocked a.0.known number words → AreThose loaded words n
   pub few : b.0.known.steps ≤ a.0.known.steps + n
 
--- The words of a locked node before n have been loaded, each by one load, and these are the entries that they spell.
-pub record HaveRead {G : Type 0} (table : TableView) (becomes : G → Event → G → Type 0) (a b : SeatView × G) (number : ℕ) (entries : List Entry) (n : ℕ) : Type 0 where
-  pub own : IsSeatOf table b.0
-  pub reads : ReadsOn table becomes a b
-  pub those : (words : List ℕ) (view : NodeView) → HasLocked a.0.known number words → IsNodeOf words view → entries ≡ take (n - 25) view.entries
-  pub counted : 25 + length entries ≡ n
-  pub few : b.0.known.steps ≤ a.0.known.steps + n
-
 module _ {G : Type 0} (table : TableView) (becomes : G → Event → G → Type 0) (a : SeatView × G) where
-  pub none_read : (number : ℕ) → IsSeatOf table a.0 → AreRead table becomes a a number (replicate 25 0) 0
+  pub none_read : (number : ℕ) → IsSeatOf table a.0 → AreRead table becomes a a number (replicate 57 0) 0
   none_read number own = record {
     own = own;
     reads = reads_none table becomes a;
-    long = length-replicate {A = ℕ} 25 0;
-    those = λ words h. none_those (replicate 25 0) words;
+    long = length-replicate {A = ℕ} 57 0;
+    rest = λ o past. zero_in 57 o;
+    those = λ words h. none_those (replicate 57 0) words;
     few = omega arith;
   }
 
-  pub one_read : (b c : SeatView × G) (number : ℕ) (loaded : List ℕ) (n w : ℕ) → AreRead table becomes a b number loaded n → n < 25 → ReadsOn table becomes b c →
+  pub one_read : (b c : SeatView × G) (number : ℕ) (loaded : List ℕ) (n w : ℕ) → AreRead table becomes a b number loaded n → n < 57 → ReadsOn table becomes b c →
       ((words : List ℕ) → HasLocked b.0.known number words → w ≡ get_or words n 0) → ((words : List ℕ) → HasLocked b.0.known number words → (view : NodeView) × IsNodeOf words view) →
       c.0.known.steps ≤ b.0.known.steps + 1 → AreRead table becomes a c number (set loaded n w) (n + 1)
   one_read b c number loaded n w i low reads word spelled few = record {
     own = seat_of table becomes b c reads.goes i.own;
     reads = reads_more table becomes a b c i.reads reads;
     long = length-set loaded n w ∙ i.long;
+    rest = λ o past. get_or-set_other loaded n o w 0 (omega arith) ∙ i.rest o (omega (arith, past));
     those = λ words h. (let there = locked_on a.0.known b.0.known number words i.reads.goes.stays.1 h in
         more_those loaded words n w (omega (arith, i.long, low)) (i.those words h) (word words there) (spelled words there));
     few = let before = i.few in omega (arith, before, few);
   }
 
-  pub none_had : (b : SeatView × G) (number : ℕ) (head : List ℕ) (n : ℕ) → n ≡ 25 → AreRead table becomes a b number head n → HaveRead table becomes a b number [] 25
-  none_had b number head n all i = record {
-    own = i.own;
-    reads = i.reads;
-    those = λ words view h is. refl;
-    counted = refl;
-    few = let before = i.few in omega (arith, before, all);
-  }
-
-  module _ (b : SeatView × G) (number : ℕ) (head : List ℕ) (entries : List Entry) (n w : ℕ) (i : HaveRead table becomes a b number entries n)
-      (first : (words : List ℕ) → HasLocked a.0.known number words → AreThose head words 25) (low : n < 25 + get_or head 0 0 % 256)
-      (word : (words : List ℕ) → HasLocked b.0.known number words → w ≡ get_or words n 0) where
-    -- the next one is an entry of the node
-    within : (words : List ℕ) (view : NodeView) → HasLocked a.0.known number words → IsNodeOf words view → n - 25 < length view.entries
-    within words view h is =
-        let told : get_or head 0 0 % 256 ≡ length view.entries = ap (λ z. z % 256) ((first words h).each 0 (omega arith)) ∙ entries_counted view words is.has is.spells in
-        omega (arith, told, low, i.counted)
-
-    pub next_spelled : (words : List ℕ) (view : NodeView) → HasLocked a.0.known number words → IsNodeOf words view →
-        HasEntryWord (Some (get_or view.entries (n - 25) (Leaf 0))) × (entry_word (Some (get_or view.entries (n - 25) (Leaf 0))) ≡ w)
-    next_spelled words view h is =
-        let spelled = entry_spelled view words (n - 25) is.has is.spells (within words view h is) in
-        let at : 25 + (n - 25) ≡ n = omega (arith, i.counted) in
-        (spelled.0, spelled.1 ∙ (ap (λ z. get_or words z 0) at ∙ sym (word words (locked_on a.0.known b.0.known number words i.reads.goes.stays.1 h))))
-
-    pub one_had : (c : SeatView × G) (entry : Entry) (after : List Entry) → ReadsOn table becomes b c → c.0.known.steps ≤ b.0.known.steps + 1 →
-        IsSpelledBy (λ e. HasEntryWord (Some e)) (λ e. entry_word (Some e)) w entry → after ≡ entries ++ entry ∷ [] → HaveRead table becomes a c number after (n + 1)
-    one_had c entry after reads few spells pushed = record {
-      own = seat_of table becomes b c reads.goes i.own;
-      reads = reads_more table becomes a b c i.reads reads;
-      those = λ words view h is.
-          let spelled = next_spelled words view h is in
-          let next : (n - 25) + 1 ≡ n + 1 - 25 = omega (arith, i.counted) in
-          one_more_read view.entries entries after (n - 25) entry (spells.only (get_or view.entries (n - 25) (Leaf 0)) spelled.0 spelled.1) (within words view h is) (i.those words view h is) pushed
-          ∙ ap (λ k. take k view.entries) next;
-      counted = ap (λ es. 25 + length es) pushed ∙ (ap (λ k. 25 + k) (length-append entries (entry ∷ [])) ∙ omega (arith, i.counted));
-      few = let before = i.few in omega (arith, before, few);
-    }
-
-  -- all of them
-  pub all_had : (b : SeatView × G) (number : ℕ) (head : List ℕ) (entries : List Entry) (n : ℕ) → HaveRead table becomes a b number entries n →
-      ((words : List ℕ) → HasLocked a.0.known number words → AreThose head words 25) → n ≡ 25 + get_or head 0 0 % 256 →
-      (words : List ℕ) (view : NodeView) → HasLocked a.0.known number words → IsNodeOf words view → entries ≡ view.entries
-  all_had b number head entries n i first upto words view h is =
-      let told : get_or head 0 0 % 256 ≡ length view.entries = ap (λ z. z % 256) ((first words h).each 0 (omega arith)) ∙ entries_counted view words is.has is.spells in
-      i.those words view h is ∙ take_all (n - 25) view.entries (omega (arith, told, upto))
+  -- all of them, where those of its entries have been loaded
+  pub all_read : (b : SeatView × G) (number : ℕ) (loaded : List ℕ) (n : ℕ) → AreRead table becomes a b number loaded n →
+      (words : List ℕ) (view : NodeView) → HasLocked a.0.known number words → IsNodeOf words view → n ≡ 25 + length view.entries → loaded ≡ words
+  all_read b number loaded n i words view h is upto =
+      let long : length words ≡ 57 = ap (λ (ws : List ℕ). length ws) (sym is.spells) ∙ length-node_words view in
+      ext_get_or 0 loaded words (i.long ∙ sym long)
+      (λ o l. ⊎_elim (λ (low : o < n). (i.those words h).each o low)
+      (λ (past : n ≤ o).
+      i.rest o past ∙ sym (ap (λ ws. get_or ws o 0) (sym is.spells) ∙ no_entry_word view (length view.entries) o (omega arith) (omega (arith, past, upto)) (omega (arith, l, i.long))))
+      (cases_lt o n))

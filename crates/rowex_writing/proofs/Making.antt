@@ -3,7 +3,7 @@ use Rattle.std.proofs.Common.{◌≡◌, ◌≢◌, inl, inr, ℕ, zero, suc, �
 use Rattle.std.specs.Prelude.{All, MatchOption}
 use Rattle.std.proofs.lemmas.Grind.{reverse_onto}
 use Rattle.std.proofs.lemmas.List.Elements.{All-append, All-cons}
-use Rattle.compound_node.specs.Nodes.{NodeView}
+use Rattle.compound_node.specs.Nodes.{IsBuiltFrom, NodeView}
 use Rattle.compound_node.specs.declared.entries.Entry.{Entry}
 use Rattle.compound_node.specs.declared.entries.Entry.TheVariants.{Node}
 use Rattle.compound_node.specs.declared.halves.Half.{Half}
@@ -11,6 +11,7 @@ use Rattle.compound_node.specs.declared.halves.Half.TheVariants.{Many}
 use Rattle.rowex_table.proofs.ActsLeave.{act_leaves}
 use Rattle.record_words.specs.Node.{HasNodeWords}
 use Rattle.record_words.specs.declared.TheConstants.{FIRST_ENTRY}
+use Rattle.tries.specs.Tree.{Page}
 use Rattle.moments.specs.Trades.{IsOf}
 use Rattle.moments.specs.declared.Rec.{Rec}
 use Rattle.moments.specs.declared.Rec.TheVariants.{Node as a_node, Leaf as a_leaf}
@@ -182,6 +183,22 @@ steps_rise table becomes (act ∷ acts) a b run =
 pub not_made : {G : Type 0} (table : TableView) (becomes : G → Event → G → Type 0) (a b : SeatView × G) (made more : List Rec) (news : List Made) → WorksOn table becomes a b →
     b.0.known.own ≡ a.0.known.own → more ≡ made → IsBuilding table a.0 made news → HasNotMade table b.0 more
 not_made table becomes a b made more news goes own same was = record { news = news; building = subst (λ z. IsBuilding table b.0 z news) (sym same) (building_on table becomes a b made news goes own was) }
+
+-- ---- a node's record
+-- a node that is made has words
+pub has_made : (table : TableView) (b : SeatView) (made : List Rec) (news : List Made) (view : NodeView) (answer : Option Entry) → HasNodeWords view →
+    MatchOption answer (HasNotMade table b made) (λ e. (m : ℕ) × (e ≡ Node m view.height) × IsBuilding table b made (of_view m view ∷ news)) →
+    MatchOption answer (HasNotMade table b made) (λ e. (m : ℕ) × (e ≡ Node m view.height) × HasNodeWords view × IsBuilding table b made (of_view m view ∷ news))
+has_made table b made news view None has h = h
+has_made table b made news view (Some e) has (m, entry, building) = (m, entry, has, building)
+
+-- and so has one that was built for a page
+pub low_made : (table : TableView) (b : SeatView) (made : List Rec) (news : List Made) (view : NodeView) (shown : Page) (answer : Option Entry) → HasNodeWords view → IsBuiltFrom view shown →
+    MatchOption answer (HasNotMade table b made) (λ e. (m : ℕ) × (e ≡ Node m view.height) × IsBuilding table b made (of_view m view ∷ news)) →
+    MatchOption answer (HasNotMade table b made)
+    (λ e. (after : NodeView) × IsBuiltFrom after shown × (m : ℕ) × (e ≡ Node m after.height) × HasNodeWords after × IsBuilding table b made (of_view m after ∷ news))
+low_made table b made news view shown None has built h = h
+low_made table b made news view shown (Some e) has built (m, entry, building) = (view, built, m, entry, has, building)
 
 -- ---- halves
 pub half_of_node : (table : TableView) (a b : SeatView) (made : List Rec) (news : List Made) (old : Entry) (half : Half) (view : NodeView) (answer : Option Entry) → half ≡ Many view →

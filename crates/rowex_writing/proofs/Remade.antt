@@ -30,7 +30,10 @@ use Rattle.insert_cases.proofs.Affecting.{RootNot, key_part}
 use Rattle.insert_cases.proofs.Choosing.{root_not}
 use Rattle.insert_cases.proofs.Pairs.{IsPairOf, pair_facts}
 use Rattle.insert_cases.proofs.NodeFacts.{height_positive}
-use Rattle.rowex_writing.specs.Remaking.{IsTreePage, AffectsJust, IsLowHalf, IsNoHigher}
+use Rattle.record_words.specs.Node.{CanTakeLeaf, HasNodeWords, CanGrowAt, node_words}
+use Rattle.record_words.specs.Reading.{IsSpelledBy}
+use Rattle.rowex_writing.specs.Remaking.{IsTreePage, AffectsJust, IsLowHalf, IsNoHigher, AwaitsLeaf}
+use Rattle.rowex_writing.specs.declared.remaking.NewLeaf.{NewLeaf}
 use Rattle.rowex_walks.proofs.Rising.{fork_parts}
 
 -- ---- a new leaf
@@ -163,6 +166,22 @@ fits_leaf {k} {p} {first} {last} {v} n l affects tree = record {
   position = leaf_position k p (Leaf n) (piece v) tree;
   low = omega (arith, greatest_leaf p k (Leaf n) (piece v), entries_under v l, height_positive v l);
 }
+
+-- so in words that can take it
+pub growing_leaf : (words : List ℕ) (node : NodeView) (new : NewLeaf) → AwaitsLeaf words node new → CanTakeLeaf node → CanGrowAt words node new.position new.first new.last
+growing_leaf words node new takes can = record {
+  has = takes.is.has;
+  spells = takes.is.spells;
+  takes = can;
+  range = (fits_leaf new.number takes.is.has.lawful takes.affects takes.tree).range;
+}
+
+-- the node that is read of the words is the one
+pub takes_same : {words : List ℕ} {view : NodeView} → IsSpelledBy HasNodeWords node_words words view → (node : NodeView) (new : NewLeaf) → AwaitsLeaf words node new → view ≡ node
+takes_same spelled node new takes = spelled.only node takes.is.has takes.is.spells
+
+pub takes_read : {words : List ℕ} {view : NodeView} → IsSpelledBy HasNodeWords node_words words view → (node : NodeView) (new : NewLeaf) → AwaitsLeaf words node new → AwaitsLeaf words view new
+takes_read {words} spelled node new takes = subst (λ v. AwaitsLeaf words v new) (sym (takes_same spelled node new takes)) takes
 
 pub greatest_put : (k : Key) (r x : Page) → greatest_height (places (with_page k r x)) ≤ max (greatest_height (places r)) (greatest_height (places x))
 greatest_put k r (Place d) = omega arith

@@ -1,11 +1,12 @@
 -- What a node becomes, before it has records.
-use Rattle.std.specs.Prelude.{◌≡◌, ℕ, ◌+◌, ◌≤◌}
-use Rattle.compound_node.specs.Nodes.{height_of}
+use Rattle.std.specs.Prelude.{◌≡◌, ℕ, ◌+◌, ◌≤◌, List}
+use Rattle.compound_node.specs.Nodes.{NodeView, height_of, piece}
 use Rattle.compound_node.specs.declared.halves.Half.{Half}
 use Rattle.compound_node.specs.declared.halves.Half.TheVariants.{One, Many, Same}
 use Rattle.insert_cases.specs.declared.growth.Grown.{Grown}
 use Rattle.insert_cases.specs.declared.growth.Grown.TheVariants.{One as Whole, Two}
 use Rattle.compound_node.specs.declared.entries.Entry.TheVariants.{Leaf}
+use Rattle.rowex_writing.specs.Going.{IsNodeOf}
 use Rattle.rowex_writing.specs.declared.remaking.Fork.{Fork}
 use Rattle.rowex_writing.specs.declared.remaking.NewLeaf.{NewLeaf}
 use Rattle.pieces.specs.Piece.{Place, Fork as Branch}
@@ -27,6 +28,12 @@ pub record AffectsJust (key : Key) (position first last : ℕ) (shown : Page) : 
 -- the page with the new leaf
 abbrev pub page_with : NewLeaf → Page → Page
 page_with new shown = page_grown new.position new.key.now (Leaf new.number) shown
+
+-- the words spell this node, which an insertion affects at the leaf's place, and a tree begins with its page with the leaf
+pub record AwaitsLeaf (words : List ℕ) (node : NodeView) (new : NewLeaf) : Type 0 where
+  pub is : IsNodeOf words node
+  pub affects : AffectsJust new.key.now new.position new.first new.last (piece node)
+  pub tree : IsTreePage (page_with new (piece node))
 
 -- the page with the fork in the place of the entry of its key's search
 abbrev pub page_forking : Fork → Page → Page

@@ -2,14 +2,15 @@
 
 ghost use Rattle.std.specs.Prelude.{◌≡◌, ◌<◌, ◌≤◌, ◌+◌, ◌-◌, ◌*◌, ◌++◌, ◌∷◌, [], List, ℕ, length, slice_get, IfSome, MatchOption, Some};
 ghost use Rattle.insert_cases.specs.declared.choice.Step.{Step as StepView};
-ghost use Rattle.record_words.specs.Node.{HasNodeWords};
+ghost use Rattle.record_words.specs.Node.{CanTakeLeaf, HasNodeWords, node_words};
+ghost use Rattle.record_words.specs.Reading.{IsSpelling};
 ghost use Rattle.rowex_table.specs.Made.{Made};
 ghost use Rattle.rowex_rights.specs.Rises.{of_view, IsSide};
 ghost use Rattle.rowex_writing.specs.Building.{IsBuilding, IsGrowingBy, IsGrownFrom, IsHalfMade, IsLevelRisen, IsLowRisen, IsMadeFrom, IsNextTo, IsRaising, IsRisenAt, Rises, GetsFork, GetsLeaf, FitsAbove, HasNotMade, HasRisenTo, gone_unless, gone_with};
 ghost use Rattle.rowex_writing.specs.Going.{WorksOn, HasLocked, IsLockedBy};
 ghost use Rattle.rowex_writing.specs.Locks.{locks_of};
-ghost use Rattle.rowex_writing.specs.Remaking.{AffectsJust, IsTreePage, page_with};
-ghost use Rattle.compound_node.specs.Nodes.{height_of, piece};
+ghost use Rattle.rowex_writing.specs.Remaking.{AwaitsLeaf, page_with};
+ghost use Rattle.compound_node.specs.Nodes.{IsBuiltFrom, NodeView, height_of, piece};
 ghost use Rattle.insert_cases.specs.Grown.{keeps_node, is_same as is_the_same};
 ghost use Rattle.pieces.specs.Piece.{Place as At};
 ghost use Rattle.tries.specs.Place.{page_without};
@@ -21,7 +22,7 @@ ghost use Rattle.rowex_writing.specs.Counts.{level_steps, node_steps};
 ghost use Rattle.rowex_writing.specs.Walks.{Spends, WalksOn};
 
 use crate::deeds::Job;
-use crate::locked::read_locked;
+use crate::locked::{load_words, read_locked};
 use crate::remaking::{Fork, NewLeaf, add_leaf, full_with_leaf, with_fork, without_leaf};
 use crate::supply::Supply;
 use crate::walking::claim_node;
@@ -29,9 +30,9 @@ use arrayvec::ArrayVec;
 use compound_node::{Entry, Half, Node};
 use insert_cases::{Grown, Risen, Step};
 use key_bits::Key;
-use record_words::LEAF_CLASSES;
+use record_words::{LEAF_CLASSES, NODE_FIELDS, can_take_leaf, pack_node, read_node};
 use rowex_core::{Gate, Rec};
-use rowex_records::fill_node;
+use rowex_records::fill_words;
 use rowex_table::{HotTable, TableSeat};
 
 /// The most records that one change makes: a leaf, two nodes for each node of the longest way, and one above them.
@@ -75,10 +76,36 @@ pub(crate) fn make_node<G: Gate>(
     ensures walk { WalksOn table.now.layout seat.old.known build.old seat.new.known build.new result }
     ensures few { Spends node_steps seat.old.known build.old seat.new.known build.new result }
 {
+    let words = pack_node(node);
+    make_words(table, seat, gate, build, &words)
+}
+
+/// Makes a record of a node's words, as [`make_node`] does for the node.
+fn make_words<G: Gate>(
+    table: &HotTable,
+    seat: &mut TableSeat,
+    gate: &mut G,
+    build: &mut Build,
+    words: &[u64; NODE_FIELDS],
+) -> Option<Entry>
+    requires building { (news : List Made) × IsBuilding table.now seat.old build.old.made.items news }
+    requires spelling { IsSpelling HasNodeWords node_words words.now }
+    requires room { length build.old.made.items < MOST_MADE }
+    ensures goes { WorksOn table.now G.becomes (seat.old, gate.old) (seat.new, gate.new) }
+    ensures made { (news : List Made) (node : NodeView) → HasNodeWords node → node_words node ≡ words.now → IsBuilding table.now seat.old build.old.made.items news →
+        MatchOption result (HasNotMade table.now seat.new build.new.made.items)
+        (λ e. (number : ℕ) × (e ≡ Entry.Node number node.height) × IsBuilding table.now seat.new build.new.made.items (of_view number node ∷ news)) }
+    ensures more { length build.new.made.items ≤ length build.old.made.items + 1 }
+    ensures walk { WalksOn table.now.layout seat.old.known build.old seat.new.known build.new result }
+    ensures few { Spends node_steps seat.old.known build.old seat.new.known build.new result }
+{
     let number = claim_node(table, seat, gate, build)?;
-    fill_node(table, seat, gate, number, node);
+    fill_words(table, seat, gate, number, words);
     build.made.push(Rec::Node(number));
-    Some(entry_of(number, node))
+    Some(Entry::Node {
+        number,
+        height: (words[0] / 65_536) as u16,
+    })
 }
 
 /// The entry that names this node, which is in the record of this number.
@@ -89,6 +116,33 @@ fn entry_of(number: u32, node: &Node) -> Entry
         number,
         height: node.height(),
     }
+}
+
+/// Makes a record for the node that these words spell with a new leaf, which it can take, as [`make_node`] does. The words become those
+/// of the record, so that no node is read and none is packed.
+fn make_low<G: Gate>(
+    table: &HotTable,
+    seat: &mut TableSeat,
+    gate: &mut G,
+    build: &mut Build,
+    words: &mut [u64; NODE_FIELDS],
+    new: &NewLeaf<'_>,
+) -> Option<Entry>
+    requires building { (news : List Made) × IsBuilding table.now seat.old build.old.made.items news }
+    requires takes { (node : NodeView) × AwaitsLeaf words.old node new.now × CanTakeLeaf node }
+    requires room { length build.old.made.items < MOST_MADE }
+    ensures goes { WorksOn table.now G.becomes (seat.old, gate.old) (seat.new, gate.new) }
+    ensures made { (news : List Made) (node : NodeView) → AwaitsLeaf words.old node new.now → CanTakeLeaf node → IsBuilding table.now seat.old build.old.made.items news →
+        MatchOption result (HasNotMade table.now seat.new build.new.made.items)
+        (λ e. (after : NodeView) × IsBuiltFrom after (page_with new.now (piece node)) × (number : ℕ) × (e ≡ Entry.Node number after.height) × HasNodeWords after ×
+        IsBuilding table.now seat.new build.new.made.items (of_view number after ∷ news)) }
+    ensures more { length build.new.made.items ≤ length build.old.made.items + 1 }
+    ensures walk { WalksOn table.now.layout seat.old.known build.old seat.new.known build.new result }
+    ensures few { Spends node_steps seat.old.known build.old seat.new.known build.new result }
+{
+    let bit = new.key.bit(new.position);
+    record_words::add_leaf(words, new.first, new.last, new.position, bit, new.number);
+    make_words(table, seat, gate, build, words)
 }
 
 /// The entry for a half of what a node became: a node gets a record, and the node that stays whole keeps its own.
@@ -183,40 +237,45 @@ fn raise_level<G: Gate>(
     make_risen(table, seat, gate, build, old, &grown)
 }
 
-/// What comes in the place of a node of this record that gets a new leaf, and whether the node stays whole. A node with room gets the
-/// leaf where it stands, so that no whole node is moved.
+/// What comes in the place of the node of this record, with these words, that gets a new leaf, and whether the node stays whole. Where
+/// it has leaves alone, and room, no node is read or packed; any other with room gets the leaf where it stands, so that no whole node
+/// is moved.
 fn make_grown<G: Gate>(
     table: &HotTable,
     seat: &mut TableSeat,
     gate: &mut G,
     build: &mut Build,
     number: u32,
-    node: &mut Node,
+    words: &mut [u64; NODE_FIELDS],
     new: &NewLeaf<'_>,
 ) -> Option<(Risen, bool)>
     requires building { (news : List Made) × IsBuilding table.now seat.old build.old.made.items news }
-    requires affects { AffectsJust new.now.key.now new.now.position new.now.first new.now.last (piece node.old) }
-    requires tree { IsTreePage (page_with new.now (piece node.old)) }
+    requires takes { (node : NodeView) × AwaitsLeaf words.old node new.now }
     requires room { length build.old.made.items + 1 < MOST_MADE }
     ensures goes { WorksOn table.now G.becomes (seat.old, gate.old) (seat.new, gate.new) }
-    ensures made { (news : List Made) → IsBuilding table.now seat.old build.old.made.items news → MatchOption result
+    ensures made { (news : List Made) (node : NodeView) → AwaitsLeaf words.old node new.now → IsBuilding table.now seat.old build.old.made.items news → MatchOption result
         (HasNotMade table.now seat.new build.new.made.items)
         (λ r. (after : List Made) ×
-        IsGrownFrom (Entry.Node number node.old.height) node.old (page_with new.now (piece node.old)) new.now.position r.0 r.1 news after ×
+        IsGrownFrom (Entry.Node number node.height) node (page_with new.now (piece node)) new.now.position r.0 r.1 news after ×
         IsBuilding table.now seat.new build.new.made.items after) }
     ensures more { length build.new.made.items ≤ length build.old.made.items + 2 }
     ensures walk { WalksOn table.now.layout seat.old.known build.old seat.new.known build.new result }
     ensures few { Spends (2 * node_steps) seat.old.known build.old seat.new.known build.new result }
 {
+    if can_take_leaf(words) {
+        let entry = make_low(table, seat, gate, build, words, new)?;
+        return Some((Risen::Whole(entry), false));
+    }
+    let mut node = read_node(words);
     if node.count() == 32 {
-        let old = entry_of(number, node);
-        let grown = full_with_leaf(node, new);
+        let old = entry_of(number, &node);
+        let grown = full_with_leaf(&node, new);
         let stays = stays_whole(&grown);
         let risen = make_risen(table, seat, gate, build, old, &grown)?;
         return Some((risen, stays));
     }
-    add_leaf(node, new);
-    let entry = make_node(table, seat, gate, build, node)?;
+    add_leaf(&mut node, new);
+    let entry = make_node(table, seat, gate, build, &node)?;
     Some((Risen::Whole(entry), false))
 }
 
@@ -242,8 +301,8 @@ fn raise_lowest<G: Gate>(
     ensures walk { WalksOn table.now.layout seat.old.known build.old seat.new.known build.new result }
     ensures few { Spends level_steps seat.old.known build.old seat.new.known build.new result }
 {
-    let mut node = read_locked(table, seat, gate, number);
-    make_grown(table, seat, gate, build, number, &mut node, new)
+    let mut words = load_words(table, seat, gate, number);
+    make_grown(table, seat, gate, build, number, &mut words, new)
 }
 
 /// Whether one half is the old node as it stands.

@@ -3,19 +3,44 @@
 ghost use Rattle.std.specs.Prelude.{◌≡◌, ◌<◌, ℕ, List, get_or, ◌≤◌, ◌+◌};
 ghost use Rattle.compound_node.specs.Nodes.{NodeView};
 ghost use Rattle.moments.specs.declared.Rec.TheVariants.{Node as a_node};
-ghost use Rattle.record_words.specs.declared.TheConstants.{NODE_FIELDS};
 ghost use Rattle.rowex_table.specs.Rule.{IsStartOf};
 ghost use Rattle.rowex_table.specs.Seats.{IsSeatOf};
 ghost use Rattle.rowex_writing.specs.Going.{ReadsOn, HasLocked, IsLockedBy, IsNodeOf};
 
-use arrayvec::ArrayVec;
 use compound_node::Node;
-use record_words::{HEAD_WORDS, read_head, read_some};
+use record_words::{HEAD_WORDS, NODE_FIELDS, read_node};
 use rowex_core::{Gate, Rec};
 use rowex_table::{HotTable, TableSeat};
 
-/// The node in a record that the pass has locked: its words are those of the lock. Those past its last entry are 0, and are
-/// not loaded; each entry is read as its word is loaded.
+/// The words of a node that the pass has locked, from offset 1 on: those of the lock. Those past its last entry are 0, and are not
+/// loaded.
+pub(crate) fn load_words<G: Gate>(
+    table: &HotTable,
+    seat: &mut TableSeat,
+    gate: &mut G,
+    number: u32,
+) -> [u64; NODE_FIELDS]
+    requires own { IsSeatOf table.now seat.old }
+    requires range { number < table.now.layout.nodes }
+    requires locked { IsLockedBy seat.old.known number }
+    ensures reads { ReadsOn table.now G.becomes (seat.old, gate.old) (seat.new, gate.new) }
+    ensures words { (words : List ℕ) → HasLocked seat.old.known number words → result ≡ words }
+    ensures node { (view : NodeView) × IsNodeOf result view }
+    ensures few { seat.new.known.steps ≤ seat.old.known.steps + NODE_FIELDS }
+{
+    let start = table.start_of(Rec::Node(number));
+    let mut words = [0; NODE_FIELDS];
+    for index in 0..HEAD_WORDS {
+        words[index] = load_word(table, seat, gate, number, start, index);
+    }
+    let end = HEAD_WORDS + (words[0] % 256) as usize;
+    for index in HEAD_WORDS..end {
+        words[index] = load_word(table, seat, gate, number, start, index);
+    }
+    words
+}
+
+/// The node in a record that the pass has locked.
 pub(crate) fn read_locked<G: Gate>(
     table: &HotTable,
     seat: &mut TableSeat,
@@ -29,18 +54,8 @@ pub(crate) fn read_locked<G: Gate>(
     ensures node { (words : List ℕ) → HasLocked seat.old.known number words → IsNodeOf words result }
     ensures few { seat.new.known.steps ≤ seat.old.known.steps + NODE_FIELDS }
 {
-    let start = table.start_of(Rec::Node(number));
-    let mut head = [0; HEAD_WORDS];
-    for index in 0..HEAD_WORDS {
-        head[index] = load_word(table, seat, gate, number, start, index);
-    }
-    let end = HEAD_WORDS + (head[0] % 256) as usize;
-    let mut entries = ArrayVec::new();
-    for index in HEAD_WORDS..end {
-        let word = load_word(table, seat, gate, number, start, index);
-        entries.push(read_some(word));
-    }
-    Node::of(read_head(&head), entries)
+    let words = load_words(table, seat, gate, number);
+    read_node(&words)
 }
 
 /// One word of a locked node, of those after its state; its record begins at `start`. Inline, so that neither loop over the words tests which they are.

@@ -1,50 +1,12 @@
--- A claim and its fills are one record more.
-use Rattle.std.proofs.Common.{◌∷◌, [], ◌++◌, ap, sym, subst, ◌∙◌, arith}
-use Rattle.record_words.specs.Node.{node_words}
-use Rattle.moments.specs.declared.Rec.TheVariants.{Node as a_node}
-use Rattle.rowex_rights.specs.Rises.{of_view}
-use Rattle.rowex_writing.specs.Building.{IsBuilding}
-use Rattle.rowex_writing.specs.Walks.{IsClaimWalk}
-use Rattle.rowex_writing.proofs.Locking.{goes_more, seat_of}
-use Rattle.rowex_writing.proofs.Making.{set_on, building_more, not_made}
-use Rattle.rowex_writing.proofs.Walked.{walk_on}
+-- The record has the words of the node.
+use Rattle.std.proofs.Common.{sym}
+use Rattle.rowex_writing.proofs.Making.{has_made}
 use Rattle.rowex_writing.proofs.building.make_node.Goals as goal
 
-pub fill_node-requires-clause-own : goal.fill_node-requires-clause-own
-fill_node-requires-clause-own g c = seat_of c.args.table.now g.G.Gate.becomes (c.args.seat.now, c.args.gate.now) (c.claim_node.new.seat, c.claim_node.new.gate) c.claim_node.ensures.goes c.requires.building.1.seat
-
-pub returns-in_err-number-clause-made : goal.returns-in_err-number-clause-made
-returns-in_err-number-clause-made g c = λ news b. rw c.from_residual.ensures
-    (not_made c.args.table.now g.G.Gate.becomes (c.args.seat.now, c.args.gate.now) (c.claim_node.new.seat, c.claim_node.new.gate) c.args.build.now.made.items c.claim_node.new.build.made.items news c.claim_node.ensures.goes
-    c.in_err-number.ensures.claims c.claim_node.ensures.made b)
-
-pub returns-in_err-number-clause-walk : goal.returns-in_err-number-clause-walk
-returns-in_err-number-clause-walk g c = λ since w. rw c.from_residual.ensures (c.in_err-number.ensures.walk since w)
-
-pub returns-in_err-number-clause-few : goal.returns-in_err-number-clause-few
-returns-in_err-number-clause-few g c = rw c.from_residual.ensures (let few = c.in_err-number.ensures.few in omega arith)
-
-pub returns-clause-goes : goal.returns-clause-goes
-returns-clause-goes g c = goes_more c.args.table.now g.G.Gate.becomes _ _ _ c.claim_node.ensures.goes (set_on c.args.table.now g.G.Gate.becomes _ _ _ _ c.fill_node.ensures.fills)
+pub make_words-requires-clause-spelling : goal.make_words-requires-clause-spelling
+make_words-requires-clause-spelling g c = (c.args.node.now, c.pack_node-words.ensures.fits, sym c.pack_node-words.ensures.words)
 
 pub returns-clause-made : goal.returns-clause-made
-returns-clause-made g c = λ news b. (
-  c.in_ok-number.number,
-  c.entry_of.ensures,
-  c.fill_node.ensures.fits,
-  subst (λ z. IsBuilding c.args.table.now c.fill_node.new.seat z (of_view c.in_ok-number.number c.args.node.now ∷ news)) (sym (c.push.ensures.items ∙ ap (λ z. z ++ a_node c.in_ok-number.number ∷ []) c.claim_node.ensures.made))
-      (building_more c.args.table.now g.G.Gate.becomes (a_node c.in_ok-number.number) (node_words c.args.node.now) (c.args.seat.now, c.args.gate.now) (c.claim_node.new.seat, c.claim_node.new.gate) _
-      c.args.build.now.made.items news c.claim_node.ensures.goes c.in_ok-number.ensures.claims.1 (set_on c.args.table.now g.G.Gate.becomes _ _ _ _ c.fill_node.ensures.fills)
-      c.fill_node.ensures.fills.own c.fill_node.ensures.filled.1 tt b),
-)
-
-pub returns-clause-walk : goal.returns-clause-walk
-returns-clause-walk g c = λ since w.
-    subst (λ z. IsClaimWalk a_node c.args.table.now.layout.nodes since c.fill_node.new.seat.known z c.claim_node.new.build.nodes.next c.claim_node.new.build.left_nodes)
-    (sym (c.push.ensures.items ∙ ap (λ z. z ++ a_node c.in_ok-number.number ∷ []) c.claim_node.ensures.made))
-    (walk_on a_node c.args.table.now.layout.nodes c.args.table.now g.G.Gate.becomes since (c.claim_node.new.seat, c.claim_node.new.gate) (c.fill_node.new.seat, c.fill_node.new.gate)
-    (c.args.build.now.made.items ++ a_node c.in_ok-number.number ∷ []) (c.args.build.now.made.items ++ a_node c.in_ok-number.number ∷ []) c.claim_node.new.build.nodes.next c.claim_node.new.build.left_nodes
-    (set_on c.args.table.now g.G.Gate.becomes _ _ _ _ c.fill_node.ensures.fills) (λ r h. h) (c.in_ok-number.ensures.walk since w))
-
-pub returns-clause-few : goal.returns-clause-few
-returns-clause-few g c = omega (arith, c.in_ok-number.ensures.few, c.fill_node.ensures.steps)
+returns-clause-made g c = λ news b.
+    has_made c.args.table.now c.make_words.new.seat c.make_words.new.build.made.items news c.args.node.now c.make_words.result c.pack_node-words.ensures.fits
+    (c.make_words.ensures.made news c.args.node.now c.pack_node-words.ensures.fits (sym c.pack_node-words.ensures.words) b)
