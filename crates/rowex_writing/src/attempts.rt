@@ -35,7 +35,8 @@ use thiserror::Error;
 /// Why an attempt was refused. It has changed nothing then.
 #[derive(Clone, Copy, Debug, PartialEq, Eq, Error)]
 pub enum TryFault {
-    /// Another pass had locked or retired a record that the attempt had to lock, or has made a change since the attempt began.
+    /// Another pass had locked or retired what the attempt had to lock, a record or the anchor, or has made a change since the attempt
+    /// began.
     #[error("another pass is at work there")]
     Busy,
     /// Each node record was found not free.

@@ -8,7 +8,8 @@ pub(crate) const MOST_SPARE: usize = 256;
 /// Where the claims of a pass begin, of node records or of the leaf records of one class. Numbers are counted from the first of these
 /// on.
 ///
-/// Whatever a supply says, a claim tries each record before it finds that none is free.
+/// Whatever a supply says, a claim of a leaf record tries each that has room before it finds that none is free. All claims of node
+/// records in one change share one walk, which tries each of them once before it finds that.
 #[derive(Drop)]
 pub struct Supply {
     /// Numbers that the pass has given back: claims begin with the last of these.
