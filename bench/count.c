@@ -1,63 +1,38 @@
 /* Makes so many calls of one kind on an index that has so many random keys of 8 bytes. bench/count runs it with two numbers of calls,
  * under valgrind, and subtracts. */
-#include "hot.h"
-#include <stdio.h>
-#include <stdlib.h>
-#include <string.h>
+#include "keys.h"
 
-enum { KEY_BYTES = 8, PAGE = 100, MOST_KEYS = 200000, MOST_CALLS = 20000 };
-
-/* The key of a number: another one for each, in no order (splitmix64, Steele and others, OOPSLA 2014). */
-static void key_of(uint64_t number, uint8_t key[KEY_BYTES])
-{
-    uint64_t mixed = number * UINT64_C(0x9e3779b97f4a7c15);
-    int place;
-    mixed = (mixed ^ (mixed >> 30)) * UINT64_C(0xbf58476d1ce4e5b9);
-    mixed = (mixed ^ (mixed >> 27)) * UINT64_C(0x94d049bb133111eb);
-    mixed ^= mixed >> 31;
-    for (place = 0; place < KEY_BYTES; place++) {
-        key[place] = (uint8_t)(mixed >> (8 * (KEY_BYTES - 1 - place)));
-    }
-}
-
-static void must(hot_status status, hot_status wanted)
-{
-    if (status != wanted) {
-        fprintf(stderr, "count: %s\n", hot_status_text(status));
-        exit(1);
-    }
-}
+enum { PAGE = 100, MOST_KEYS = 200000, MOST_CALLS = 20000 };
 
 static void call(hot_handle *handle, const char *kind, uint64_t number, uint64_t keys)
 {
     static hot_pair pairs[PAGE];
     static hot_head heads[PAGE];
     static uint8_t bytes[PAGE * HOT_MAX_KEY];
-    uint8_t key[KEY_BYTES], upto[HOT_MAX_KEY];
+    uint8_t key[LONGEST], upto[HOT_MAX_KEY];
     uint64_t had;
-    size_t found;
+    size_t length = key_of(RANDOM, kind[0] == 'i' ? keys + number : number, key), found;
     uint32_t more;
-    key_of(kind[0] == 'i' ? keys + number : number, key);
     switch (kind[0]) {
     case 'i':
-        must(hot_try_insert(handle, key, KEY_BYTES, number, &had), HOT_INSERTED);
+        must(hot_try_insert(handle, key, length, number, &had), HOT_INSERTED);
         break;
     case 'u':
-        must(hot_try_upsert(handle, key, KEY_BYTES, number + 1, &had), HOT_WAS);
+        must(hot_try_upsert(handle, key, length, number + 1, &had), HOT_WAS);
         break;
     case 'r':
-        must(hot_try_remove(handle, key, KEY_BYTES, &had), HOT_REMOVED);
+        must(hot_try_remove(handle, key, length, &had), HOT_REMOVED);
         break;
     case 'g':
-        must(hot_get(handle, key, KEY_BYTES, &had), HOT_FOUND);
+        must(hot_get(handle, key, length, &had), HOT_FOUND);
         break;
     case 'p':
         memset(upto, 0xff, sizeof upto);
-        must(hot_scan_packed(handle, key, KEY_BYTES, upto, sizeof upto, bytes, sizeof bytes, heads, PAGE, &found, &more), HOT_DONE);
+        must(hot_scan_packed(handle, key, length, upto, sizeof upto, bytes, sizeof bytes, heads, PAGE, &found, &more), HOT_DONE);
         break;
     default:
         memset(upto, 0xff, sizeof upto);
-        must(hot_scan(handle, key, KEY_BYTES, upto, sizeof upto, pairs, PAGE, &found, &more), HOT_DONE);
+        must(hot_scan(handle, key, length, upto, sizeof upto, pairs, PAGE, &found, &more), HOT_DONE);
     }
 }
 
@@ -70,10 +45,10 @@ int main(int words, char **word)
         return 2;
     }
     must(hot_create(MOST_KEYS / 8, MOST_KEYS + 2 * MOST_CALLS, &handle, 1), HOT_DONE);
-    for (number = 1; number <= keys; number++) {
+    for (number = 0; number < keys; number++) {
         call(&handle, "i", number, 0);
     }
-    for (number = 1; number <= calls; number++) {
+    for (number = 0; number < calls; number++) {
         call(&handle, word[1], number, keys);
     }
     hot_destroy(&handle);

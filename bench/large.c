@@ -1,33 +1,8 @@
 /* Fills an index with many random keys of 8 bytes, looks each up, and goes through all by scans; says on standard error how far it is,
  * and at the end how long each part took. bench/large builds and runs it. */
-#define _POSIX_C_SOURCE 200112L
-#include "hot.h"
-#include <stdio.h>
-#include <stdlib.h>
-#include <string.h>
-#include <time.h>
+#include "keys.h"
 
-enum { KEY_BYTES = 8, PAGE = 1000, TOLD = 20 };
-
-static double now(void)
-{
-    struct timespec at;
-    clock_gettime(CLOCK_MONOTONIC, &at);
-    return (double)at.tv_sec + 1e-9 * (double)at.tv_nsec;
-}
-
-/* The key of a number: another one for each, in no order (splitmix64, Steele and others, OOPSLA 2014). */
-static void key_of(uint64_t number, uint8_t key[KEY_BYTES])
-{
-    uint64_t mixed = number * UINT64_C(0x9e3779b97f4a7c15);
-    int place;
-    mixed = (mixed ^ (mixed >> 30)) * UINT64_C(0xbf58476d1ce4e5b9);
-    mixed = (mixed ^ (mixed >> 27)) * UINT64_C(0x94d049bb133111eb);
-    mixed ^= mixed >> 31;
-    for (place = 0; place < KEY_BYTES; place++) {
-        key[place] = (uint8_t)(mixed >> (8 * (KEY_BYTES - 1 - place)));
-    }
-}
+enum { PAGE = 1000, TOLD = 20 };
 
 static void fail(const char *what, uint64_t number, hot_status status)
 {
@@ -38,53 +13,52 @@ static void fail(const char *what, uint64_t number, hot_status status)
 static void tell(const char *what, uint64_t done, uint64_t count, double begun)
 {
     if (done % (count / TOLD + 1) == 0 || done == count) {
-        fprintf(stderr, "large: %s %llu of %llu, %.0f s\n", what, (unsigned long long)done, (unsigned long long)count, now() - begun);
+        fprintf(stderr, "large: %s %llu of %llu, %.0f s\n", what, (unsigned long long)done, (unsigned long long)count,
+                seconds(CLOCK_MONOTONIC) - begun);
     }
 }
 
 static void insert_all(hot_handle *handle, uint64_t count)
 {
-    double begun = now();
+    double begun = seconds(CLOCK_MONOTONIC);
     uint64_t number;
     for (number = 1; number <= count; number++) {
-        uint8_t key[KEY_BYTES];
+        uint8_t key[LONGEST];
         uint64_t had;
-        hot_status status;
-        key_of(number, key);
-        status = hot_try_insert(handle, key, KEY_BYTES, number, &had);
+        size_t length = key_of(RANDOM, number - 1, key);
+        hot_status status = hot_try_insert(handle, key, length, number, &had);
         if (status != HOT_INSERTED) {
             fail("insert", number, status);
         }
         tell("inserted", number, count, begun);
     }
-    printf("inserts: %.0f ns each\n", 1e9 * (now() - begun) / (double)count);
+    printf("inserts: %.0f ns each\n", 1e9 * (seconds(CLOCK_MONOTONIC) - begun) / (double)count);
 }
 
 static void look_up_all(hot_handle *handle, uint64_t count)
 {
-    double begun = now();
+    double begun = seconds(CLOCK_MONOTONIC);
     uint64_t turn;
     /* In another order than they came; each once, where the count is no multiple of this prime. */
     uint64_t step = 0;
     for (turn = 1; turn <= count; turn++) {
-        uint8_t key[KEY_BYTES];
+        uint8_t key[LONGEST];
         uint64_t value = 0;
         hot_status status;
         step = (step + UINT64_C(7919)) % count;
-        key_of(step + 1, key);
-        status = hot_get(handle, key, KEY_BYTES, &value);
+        status = hot_get(handle, key, key_of(RANDOM, step, key), &value);
         if (status != HOT_FOUND || value != step + 1) {
             fail("look-up", step + 1, status);
         }
         tell("looked up", turn, count, begun);
     }
-    printf("look-ups: %.0f ns each\n", 1e9 * (now() - begun) / (double)count);
+    printf("look-ups: %.0f ns each\n", 1e9 * (seconds(CLOCK_MONOTONIC) - begun) / (double)count);
 }
 
 static void scan_all(hot_handle *handle, uint64_t count, hot_pair *pairs)
 {
-    double begun = now();
-    uint8_t from[HOT_MAX_KEY], last[KEY_BYTES], upto[HOT_MAX_KEY];
+    double begun = seconds(CLOCK_MONOTONIC);
+    uint8_t from[HOT_MAX_KEY], last[8], upto[HOT_MAX_KEY];
     size_t length = 0, found;
     uint64_t listed = 0;
     uint32_t more = 1;
@@ -96,10 +70,10 @@ static void scan_all(hot_handle *handle, uint64_t count, hot_pair *pairs)
             fail("scan after", listed, status);
         }
         for (place = 0; place < found; place++) {
-            if (listed > 0 && memcmp(last, pairs[place].key, KEY_BYTES) >= 0) {
+            if (listed > 0 && memcmp(last, pairs[place].key, sizeof last) >= 0) {
                 fail("order at", listed, HOT_DONE);
             }
-            memcpy(last, pairs[place].key, KEY_BYTES);
+            memcpy(last, pairs[place].key, sizeof last);
             listed++;
             tell("listed", listed, count, begun);
         }
@@ -110,7 +84,7 @@ static void scan_all(hot_handle *handle, uint64_t count, hot_pair *pairs)
     if (listed != count) {
         fail("pairs listed", listed, HOT_DONE);
     }
-    printf("scans: %.0f ns a pair\n", 1e9 * (now() - begun) / (double)count);
+    printf("scans: %.0f ns a pair\n", 1e9 * (seconds(CLOCK_MONOTONIC) - begun) / (double)count);
 }
 
 int main(int words, char **word)
@@ -121,7 +95,7 @@ int main(int words, char **word)
     hot_pair *pairs = malloc(PAGE * sizeof *pairs);
     size_t bytes;
     hot_status status;
-    double begun = now();
+    double begun = seconds(CLOCK_MONOTONIC);
     if (count < 1 || count > 200000000 || a_node < 1 || !pairs) {
         fprintf(stderr, "usage: large [KEYS [KEYS_A_NODE]]    at least 1, and at most 200,000,000 keys\n");
         return 2;
@@ -134,7 +108,7 @@ int main(int words, char **word)
         fail("index of keys", count, status);
     }
     printf("%llu keys: %.2f GB, %.1f bytes a key of the whole index, made in %.1f s\n", (unsigned long long)count, 1e-9 * (double)bytes,
-           (double)bytes / (double)count, now() - begun);
+           (double)bytes / (double)count, seconds(CLOCK_MONOTONIC) - begun);
     insert_all(&handle, count);
     look_up_all(&handle, count);
     scan_all(&handle, count, pairs);

@@ -1,72 +1,7 @@
 /* Tells how many keys there are for each node of an index: once keys of a kind have been inserted, in the order of their numbers,
  * and once a share of them, drawn by chance, has been replaced by keys of the next numbers, some times over. bench/nodes builds
  * and runs it. */
-#include "hot.h"
-#include <stdio.h>
-#include <stdlib.h>
-#include <string.h>
-
-enum { LONGEST = 96, KINDS = 4 };
-
-static const char *const names[KINDS] = { "random, 8 bytes", "dense numbers, 8 bytes", "URLs", "user:N" };
-
-/* Another number for each, in no order (splitmix64, Steele and others, OOPSLA 2014). */
-static uint64_t mixed(uint64_t number)
-{
-    uint64_t of = (number + 1) * UINT64_C(0x9e3779b97f4a7c15);
-    of = (of ^ (of >> 30)) * UINT64_C(0xbf58476d1ce4e5b9);
-    of = (of ^ (of >> 27)) * UINT64_C(0x94d049bb133111eb);
-    return of ^ (of >> 31);
-}
-
-static size_t spell(uint64_t number, uint8_t *key)
-{
-    int place;
-    for (place = 0; place < 8; place++) {
-        key[place] = (uint8_t)(number >> (8 * (7 - place)));
-    }
-    return 8;
-}
-
-/* The address of a page, as the benchmark of the index has it: a host and up to five parts by chance, and the number. */
-static size_t page(uint64_t number, uint8_t *key)
-{
-    static const char *const hosts[8] = { "example.org", "www.example.com", "shop.example.com", "blog.example.net",
-        "news.example.org", "static.example.com", "images.example.net", "archive.example.org" };
-    static const char *const parts[16] = { "2017", "2018", "about", "article", "author", "books", "category", "en", "fr", "item",
-        "music", "photo", "product", "search", "tag", "user" };
-    uint64_t chance = mixed(number), rest = chance / 64;
-    char text[LONGEST + 1];
-    int length = snprintf(text, sizeof text, "https://%s", hosts[chance % 8]), count = (int)(chance / 8 % 6);
-    for (; count > 0; count--, rest /= 16) {
-        length += snprintf(text + length, sizeof text - (size_t)length, "/%s", parts[rest % 16]);
-    }
-    length += snprintf(text + length, sizeof text - (size_t)length, "/%llu", (unsigned long long)number);
-    memcpy(key, text, (size_t)length);
-    return (size_t)length;
-}
-
-static size_t key_of(int kind, uint64_t number, uint8_t *key)
-{
-    if (kind == 0) {
-        return spell(mixed(number), key);
-    }
-    if (kind == 1) {
-        return spell(number, key);
-    }
-    if (kind == 2) {
-        return page(number, key);
-    }
-    return (size_t)sprintf((char *)key, "user:%llu", (unsigned long long)number);
-}
-
-static void must(hot_status status, hot_status wanted)
-{
-    if (status != wanted) {
-        fprintf(stderr, "nodes: %s\n", hot_status_text(status));
-        exit(1);
-    }
-}
+#include "keys.h"
 
 /* How many keys there are for each node, once all that was replaced has been given back. */
 static double keys_a_node(hot_handle *handle, uint32_t keys)
@@ -81,7 +16,7 @@ static double keys_a_node(hot_handle *handle, uint32_t keys)
 
 static void insert(hot_handle *handle, int kind, uint64_t number)
 {
-    uint8_t key[LONGEST + 1];
+    uint8_t key[LONGEST];
     uint64_t had;
     must(hot_try_insert(handle, key, key_of(kind, number, key), number, &had), HOT_INSERTED);
 }
@@ -94,7 +29,7 @@ static void replace(hot_handle *handle, int kind, uint64_t *numbers, uint32_t ke
     for (place = 0; place < (uint32_t)((uint64_t)keys * of_ten / 10); place++) {
         uint32_t other = place + (uint32_t)(mixed(~drawn++) % (keys - place));
         uint64_t number = numbers[other], had;
-        uint8_t key[LONGEST + 1];
+        uint8_t key[LONGEST];
         numbers[other] = numbers[place];
         must(hot_try_remove(handle, key, key_of(kind, number, key), &had), HOT_REMOVED);
         numbers[place] = *next;
@@ -124,7 +59,7 @@ static void measure(int kind, uint64_t *numbers, uint32_t keys, uint32_t of_ten,
         now = keys_a_node(&handle, keys);
         least = now < least ? now : least;
     }
-    printf("%-24s%6.1f keys a node; %u tenths replaced, %d times over: %.1f, at least %.1f\n", names[kind], before,
+    printf("%-26s%6.1f keys a node; %u tenths replaced, %d times over: %.1f, at least %.1f\n", kind_names[kind], before,
            (unsigned)of_ten, times, keys_a_node(&handle, keys), least);
     must(hot_destroy(&handle), HOT_DONE);
 }
