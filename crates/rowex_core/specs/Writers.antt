@@ -3,6 +3,7 @@ use Rattle.std.specs.Prelude.{◌≡◌, ◌≢◌, ℕ, ◌+◌, ◌<◌, ◌�
 use Rattle.compound_node.specs.declared.entries.Entry.{Entry}
 use Rattle.compound_node.specs.Nodes.{NodeView, StandsBelow}
 use Rattle.finite_map.specs.declared.Change.{Change}
+use Rattle.record_words.specs.declared.TheConstants.{HEAD_WORDS}
 use Rattle.record_words.specs.Entry.{HasEntryWord, entry_word}
 use Rattle.record_words.specs.Node.{HasNodeWords, node_words}
 use Rattle.tries.specs.Tree.{Tree}
@@ -38,7 +39,7 @@ abbrev pub SlotIsStored : Type 0
 SlotIsStored =
     (view : NodeView) (words : List ℕ) → HasNodeWords view → node_words view ≡ words → All (λ w. w < 2 ^ 64) words →
     (j : ℕ) (e : Entry) → j < length view.entries → HasEntryWord (Some e) → StandsBelow view.height e →
-    let stored = record view { entries = set view.entries j e } in let after = set words (25 + j) (entry_word (Some e)) in
+    let stored = record view { entries = set view.entries j e } in let after = set words (HEAD_WORDS + j) (entry_word (Some e)) in
     HasNodeWords stored × (node_words stored ≡ after) ×
     (node_words_of after ≡ record { fixed = (node_words_of words).fixed; page = with_entry (node_words_of words).page j e })
 

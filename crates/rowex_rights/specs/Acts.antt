@@ -2,6 +2,7 @@
 use Rattle.std.specs.Prelude.{◌≡◌, ℕ, ◌+◌, List, get_or}
 use Rattle.compound_node.specs.declared.entries.Entry.TheVariants.{Node}
 use Rattle.record_words.specs.declared.layout.Layout.{Layout}
+use Rattle.record_words.specs.declared.TheConstants.{HEAD_WORDS}
 use Rattle.moments.specs.declared.Rec.TheVariants.{Node as a_node}
 use Rattle.moments.specs.Trades.{IsOf}
 use Rattle.rowex_walks.specs.Scan.{IsSeen}
@@ -26,7 +27,7 @@ LedMayLock =
 abbrev pub LoadsOfLocked : Type 0
 LoadsOfLocked =
     (layout : Layout) (k j : Known) (n : ℕ) (words : List ℕ) → IsOf (record { node = n; words = words }) k.locks →
-    ((i w : ℕ) → IsEvent layout (LoadRef (Slot n i) w) silent k j → w ≡ get_or words (25 + i) 0) ×
+    ((i w : ℕ) → IsEvent layout (LoadRef (Slot n i) w) silent k j → w ≡ get_or words (HEAD_WORDS + i) 0) ×
     ((i w : ℕ) → IsEvent layout (LoadFixed (a_node n) (i + 1) w) silent k j → w ≡ get_or words i 0)
 
 -- After each act but a publish, a pin or an unpin a pass recalls all that it did before.

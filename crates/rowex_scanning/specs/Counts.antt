@@ -1,6 +1,7 @@
 -- How many loads a scan makes at most.
 use Rattle.std.specs.Prelude.{ℕ, ◌+◌, ◌*◌, ◌≤◌}
 use Rattle.key_bits.specs.declared.TheConstants.{MAX_BYTES}
+use Rattle.record_words.specs.declared.TheConstants.{HEAD_WORDS, LEAF_FIELDS}
 use Rattle.rowex_core.specs.declared.event.Event.{Event}
 use Rattle.rowex_table.specs.Seats.{SeatView, TableView}
 use Rattle.rowex_reading.specs.Reads.{Looks, Reads}
@@ -27,7 +28,7 @@ scan_entries limit = 9 * MAX_BYTES + walk_entries limit
 -- The loads of a scan below the root, by its entries: as for a walk; its search has read a leaf, and it may read one head and that leaf
 -- once more.
 abbrev pub loads_by : ℕ → ℕ → ℕ
-loads_by limit entries = 32 + 57 + 26 * entries + 7 * (limit + 1)
+loads_by limit entries = LEAF_FIELDS + (HEAD_WORDS + LEAF_FIELDS) + 26 * entries + 7 * (limit + 1)
 
 pub record AreScanLoads (limit entries loads : ℕ) : Type 0 where
   pub most : entries ≤ scan_entries limit
