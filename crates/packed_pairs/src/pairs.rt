@@ -120,13 +120,22 @@ impl Pairs {
     }
 }
 
-/// Ends the bytes by those of a key. Keys of eight bytes are common, and a copy of so many needs no call.
+/// Ends the bytes by those of a key. Keys of eight bytes are common: where there is room, a copy of so many needs no call, and changes
+/// nothing else but the length.
 #[inline(always)]
 fn append(bytes: &mut Vec<u8>, key: &[u8]) -> Result<(), AllocError>
     ensures items { bytes.new.items ≡ if is_ok result then bytes.old.items ++ key.now else bytes.old.items }
 {
-    if key.len() == 8 {
+    if key.len() == 8 && bytes.capacity() - bytes.len() >= 8 {
         return bytes.extend_from_slice(&key[..8]);
     }
+    append_any(bytes, key)
+}
+
+/// The same for any key. Never inline, so that keys of eight bytes need not pass through what is ready for any.
+#[inline(never)]
+fn append_any(bytes: &mut Vec<u8>, key: &[u8]) -> Result<(), AllocError>
+    ensures items { bytes.new.items ≡ if is_ok result then bytes.old.items ++ key.now else bytes.old.items }
+{
     bytes.extend_from_slice(key)
 }
