@@ -9,6 +9,7 @@ pub mod Wording
 pub mod Heading
 pub mod Leafing
 pub mod Fronting
+pub mod Whole
 pub mod Comparing
 pub mod Led
 pub mod Looking

@@ -9,6 +9,8 @@ ghost use Rattle.record_words.specs.declared.TheConstants.{HEAD_WORDS, LEAF_FIEL
 ghost use Rattle.rowex_walks.specs.Scan.{IsShaped, IsPlaced, IsRead};
 ghost use Rattle.rowex_reading.specs.Reads.{IsReader, Reads, ReadsRoot, head_loads, leaf_loads};
 ghost use Rattle.rowex_reading.specs.Seen.{Sure, RootIs, IsCompared, IsLedTo, HasPlace, shape_of};
+ghost use Rattle.moments.specs.declared.Rec.TheVariants.{Leaf as a_leaf, Node as a_node};
+ghost use Rattle.rowex_table.specs.Rule.{IsStartOf};
 ghost use Rattle.rowex_table.specs.Seats.{IsSeatOf};
 
 use compound_node::{Entry, Head};
@@ -74,11 +76,28 @@ pub fn load_entry<G: Gate>(
     ensures entry { (m h : ℕ) → HasPlace seat.old.known m number h place →
         (height_of result < h) × Sure seat.new.known (λ s. IsPlaced s m number place result) }
 {
-    let spot = Spot::Slot {
-        node: number,
-        entry: place,
-    };
-    let word = table.load_ref(seat, gate, spot);
+    let start = table.start_of(Rec::Node(number));
+    load_entry_from(table, seat, gate, number, start, place)
+}
+
+/// Loads as `load_entry` does, of a node whose record begins at this word: for several loads its place is found once.
+#[inline(always)]
+pub fn load_entry_from<G: Gate>(
+    table: &HotTable,
+    seat: &mut TableSeat,
+    gate: &mut G,
+    number: u32,
+    start: usize,
+    place: u8,
+) -> Entry
+    requires reader { IsReader table.now seat.old }
+    requires place { (m h : ℕ) × HasPlace seat.old.known m number h place }
+    requires start { IsStartOf table.now.layout (a_node number) start }
+    ensures reads { Reads table.now G.becomes 1 1 (seat.old, gate.old) (seat.new, gate.new) }
+    ensures entry { (m h : ℕ) → HasPlace seat.old.known m number h place →
+        (height_of result < h) × Sure seat.new.known (λ s. IsPlaced s m number place result) }
+{
+    let word = table.load_slot_from(seat, gate, number, start, place);
     read_some(word)
 }
 
@@ -122,10 +141,39 @@ pub fn load_places<G: Gate>(
     ensures leaf { (m : ℕ) → IsLedTo seat.old.known m (LeafEntry number) →
         Sure seat.new.known (λ s. IsRead s m number (take result.0 places.new) result.1) }
 {
+    let start = table.start_of(Rec::Leaf(number));
+    load_places_from(table, seat, gate, number, start, places)
+}
+
+/// Loads as `load_places` does, of a leaf whose record begins at this word: so a caller can find that in a way of its own. Keys of eight
+/// bytes are common, and their one word needs no loop.
+#[inline(always)]
+pub fn load_places_from<G: Gate>(
+    table: &HotTable,
+    seat: &mut TableSeat,
+    gate: &mut G,
+    number: u32,
+    start: usize,
+    places: &mut [u8; MAX_BYTES],
+) -> (usize, u64)
+    requires reader { IsReader table.now seat.old }
+    requires led { (m : ℕ) × IsLedTo seat.old.known m (LeafEntry number) }
+    requires start { IsStartOf table.now.layout (a_leaf number) start }
+    ensures reads { Reads table.now G.becomes 0 (leaf_loads (take result.0 places.new)) (seat.old, gate.old) (seat.new, gate.new) }
+    ensures few { leaf_loads (take result.0 places.new) ≤ LEAF_FIELDS }
+    ensures key { IsKey (take result.0 places.new) × (result.0 ≤ MAX_BYTES) }
+    ensures places { places.old ≡ replicate MAX_BYTES 0 → HoldsKey places.new result.0 }
+    ensures leaf { (m : ℕ) → IsLedTo seat.old.known m (LeafEntry number) →
+        Sure seat.new.known (λ s. IsRead s m number (take result.0 places.new) result.1) }
+{
     let rec = Rec::Leaf(number);
-    let start = table.start_of(rec);
     let value = table.load_fixed_from(seat, gate, rec, start, 1);
     let length = table.load_fixed_from(seat, gate, rec, start, 2);
+    if length == 8 {
+        let word = table.load_fixed_from(seat, gate, rec, start, 3);
+        write_word(places, 0, word);
+        return (length as usize, value);
+    }
     let used = 2 + key_words(length);
     for index in 2..used {
         let word = table.load_fixed_from(seat, gate, rec, start, index as u8 + 1);

@@ -7,7 +7,7 @@ use Rattle.record_words.specs.Leaf.{words_of_key}
 use Rattle.rowex_reading.specs.Reads.{IsReader, Reads}
 use Rattle.rowex_reading.proofs.Leafing.{AreSoFar}
 use Rattle.rowex_reading.proofs.Fronting.{front}
-use Rattle.rowex_reading.proofs.reading.load_places.Given as goal
+use Rattle.rowex_reading.proofs.reading.load_places_from.Given as goal
 
 abbrev pub invariant-loop-index : goal.invariant-loop-index
 invariant-loop-index g l = record {
