@@ -6,3 +6,4 @@ pub mod Starting
 pub mod Turning
 pub mod Scanned
 pub mod Parts
+pub mod Begins

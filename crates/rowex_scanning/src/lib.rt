@@ -3,6 +3,7 @@
 #![tactic(auto)]
 
 mod direction;
+mod origins;
 mod scanning;
 mod start;
 

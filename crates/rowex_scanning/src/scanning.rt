@@ -16,6 +16,7 @@ ghost use Rattle.rowex_scanning.specs.Directions.{first_key as first_key_of};
 ghost use Rattle.rowex_scanning.specs.Scanning.{HasScanned, HasScannedPart, IsBound, IsEntered, IsLeafRefused, IsLeafTaken, IsPairRefused, IsPairTaken, IsReached, IsWalk, asked_range};
 
 use crate::direction::{Direction, behind, first_gap, is_before, is_earlier, next_place};
+use crate::origins::Origins;
 use crate::start::start_from;
 use arrayvec::ArrayVec;
 use compound_node::Entry;
@@ -25,7 +26,8 @@ use packed_pairs::Pairs;
 use record_words::key_word_at;
 use rowex_core::Gate;
 use rowex_reading::{
-    Found, MOST_NODES, load_entry, load_head, load_places, load_root, search_way, step_of,
+    Found, MOST_NODES, load_entry_from, load_head, load_places, load_places_from, load_root,
+    search_way, step_of,
 };
 use rowex_table::{HotTable, TableSeat};
 use std::alloc::AllocError;
@@ -169,15 +171,35 @@ fn scan_node<G: Gate>(
     );
     let mut top = start.top;
     way.truncate(start.level);
+    let origins = Origins::of(table.layout());
     let mut places = [0; MAX_BYTES];
     if start.leaf {
-        match take_leaf(table, seat, gate, range, number, &mut places, pairs)? {
+        match take_leaf(
+            table,
+            &origins,
+            seat,
+            gate,
+            range,
+            number,
+            &mut places,
+            pairs,
+        )? {
             Verdict::Further => top.at = behind(direction, top.at),
             Verdict::Past => return Ok(false),
             Verdict::Full => return Ok(true),
         }
     }
-    walk(table, seat, gate, way, range, top, &mut places, pairs)
+    walk(
+        table,
+        &origins,
+        seat,
+        gate,
+        way,
+        range,
+        top,
+        &mut places,
+        pairs,
+    )
 }
 
 /// The walk over the places of the nodes on the way, in the scan's direction, from a gap of the lowest of them on. The bytes of each key
@@ -185,6 +207,7 @@ fn scan_node<G: Gate>(
 #[inline(always)]
 fn walk<G: Gate>(
     table: &HotTable,
+    origins: &Origins,
     seat: &mut TableSeat,
     gate: &mut G,
     way: &mut ArrayVec<Step, MOST_NODES>,
@@ -194,6 +217,7 @@ fn walk<G: Gate>(
     pairs: &mut Pairs,
 ) -> Result<bool, AllocError>
     requires reader { IsReader table.now seat.old }
+    requires origins { origins.now.layout ≡ table.now.layout }
     requires walk { IsWalk range.now.direction seat.old.known (since seat.old.known) (asked_range range.now) lowest way.old.items pairs.old }
     requires bound { IsBound range.now.direction seat.old.known (since seat.old.known) (first_key_of range.now.direction (asked_range range.now)) lowest way.old.items }
     ensures reads { Walks table.now G.becomes 0 range.now.limit (seat.old, gate.old) (seat.new, gate.new) }
@@ -205,13 +229,14 @@ fn walk<G: Gate>(
     loop {
         if let Some(place) = next_place(direction, &top) {
             top.at = place;
-            match load_entry(table, seat, gate, top.number, place) {
+            let start = origins.node(top.number);
+            match load_entry_from(table, seat, gate, top.number, start, place) {
                 Entry::Node { number, .. } => {
                     way.push(top);
                     top = enter(table, seat, gate, direction, number);
                 }
                 Entry::Leaf(number) => {
-                    match take_leaf(table, seat, gate, range, number, places, pairs)? {
+                    match take_leaf(table, origins, seat, gate, range, number, places, pairs)? {
                         Verdict::Further => top.at = behind(direction, place),
                         Verdict::Past => return Ok(false),
                         Verdict::Full => return Ok(true),
@@ -251,6 +276,7 @@ fn enter<G: Gate>(
 #[inline(always)]
 fn take_leaf<G: Gate>(
     table: &HotTable,
+    origins: &Origins,
     seat: &mut TableSeat,
     gate: &mut G,
     range: &Range,
@@ -259,17 +285,20 @@ fn take_leaf<G: Gate>(
     pairs: &mut Pairs,
 ) -> Result<Verdict, AllocError>
     requires reader { IsReader table.now seat.old }
+    requires origins { origins.now.layout ≡ table.now.layout }
     requires leaf { (m : ℕ) × IsLedTo seat.old.known m (LeafEntry number) × IsReached range.now.direction table.now.layout seat.old.known m (first_key_of range.now.direction (asked_range range.now)) number }
     ensures reads { (n : ℕ) × (n ≤ LEAF_FIELDS) × Reads table.now G.becomes 0 n (seat.old, gate.old) (seat.new, gate.new) }
     ensures taken { IfOk result (IsLeafTaken range.now.direction seat.old.known seat.new.known (asked_range range.now) number pairs.old pairs.new) }
     ensures refused { OnErr result (IsLeafRefused seat.old.known seat.new.known (asked_range range.now) number pairs.old pairs.new) }
 {
-    let (length, value) = load_places(table, seat, gate, number, places);
+    let start = origins.leaf(number);
+    let (length, value) = load_places_from(table, seat, gate, number, start, places);
     take_pair(pairs, range, &places[..length], value)
 }
 
-/// Takes a pair whose key does not come before the range, if it belongs to the range and there is room for it. Inline, so that the key's
-/// bytes go at once from where they were read to their place among the pairs.
+/// Takes a pair whose key does not come before the range, if it belongs to the range and there is room for it. Keys of eight bytes are
+/// common: what is compiled for them alone has each as a number. Inline, so that the key's bytes go at once from where they were read to
+/// their place among the pairs.
 #[inline(always)]
 fn take_pair(
     pairs: &mut Pairs,
@@ -277,6 +306,20 @@ fn take_pair(
     key: &[u8],
     value: u64,
 ) -> Result<Verdict, AllocError>
+    requires key { IsKey key.now }
+    requires reached { IsNoLater range.now.direction (first_key_of range.now.direction (asked_range range.now)) key.now }
+    ensures taken { IfOk result (IsPairTaken range.now.direction (asked_range range.now) pairs.old key.now value pairs.new) }
+    ensures refused { OnErr result (IsPairRefused (asked_range range.now) pairs.old key.now pairs.new) }
+{
+    if key.len() == 8 {
+        return take_key(pairs, range, &key[..8], value);
+    }
+    take_key(pairs, range, key, value)
+}
+
+/// The same, for keys of each length alike.
+#[inline(always)]
+fn take_key(pairs: &mut Pairs, range: &Range, key: &[u8], value: u64) -> Result<Verdict, AllocError>
     requires key { IsKey key.now }
     requires reached { IsNoLater range.now.direction (first_key_of range.now.direction (asked_range range.now)) key.now }
     ensures taken { IfOk result (IsPairTaken range.now.direction (asked_range range.now) pairs.old key.now value pairs.new) }

@@ -8,6 +8,7 @@ use Rattle.rowex_reading.proofs.Led.{reader_then, reads_later, reads_none, reads
 use Rattle.rowex_reading.proofs.Seeing.{placed_stable, sure_later}
 use Rattle.rowex_scanning.specs.Directions.{first_key, gap_behind}
 use Rattle.rowex_scanning.specs.Scanning.{IsBound, asked_range}
+use Rattle.rowex_scanning.proofs.Begins.{node_begins}
 use Rattle.rowex_scanning.proofs.Parts.{walk_part}
 use Rattle.rowex_scanning.proofs.Walking.{IsAtEntry, IsPaid, at_place, bound_later, bound_leaf, bound_next, bound_pop, bound_push, entered_first, entered_number, entry_at, entry_led, entry_place, next_less, none_popped, paid_end, paid_first, paid_last, paid_leaf, paid_pop, paid_push, pop_less, popped_is, rest_of, taken_more, walk_at_place, walk_end, walk_fits, walk_full, walk_further, walk_inside, walk_past, walk_pop, walk_push, walk_push_less, walk_room, walk_several, walk_short, way_short}
 use Rattle.rowex_scanning.proofs.scanning.walk.Given as given
@@ -16,17 +17,17 @@ use Rattle.rowex_scanning.proofs.scanning.walk.Goals.{After-take_leaf, In-Leaf, 
 
 -- The pass knows the entry at the place: a node,
 node : (g : given.Over) (c : In-Node g) →
-    IsAtEntry c.args.range.now.direction c.load_entry.new.seat.known (since c.args.seat.now.known) (asked_range c.args.range.now) (record c.loop-place.top { at = c.in-Some.place }) c.loop-place.way.items c.loop-place.pairs (Node c.in-Node.number c.in-Node.height)
-node g c = entry_at (Node c.in-Node.number c.in-Node.height) (walk_at_place c.in-Some.place c.loop-place.invariant.walk c.in-Some.ensures) (reads_later c.load_entry.ensures.reads) c.in-Node.ensures.entry
+    IsAtEntry c.args.range.now.direction c.load_entry_from.new.seat.known (since c.args.seat.now.known) (asked_range c.args.range.now) (record c.loop-place.top { at = c.in-Some.place }) c.loop-place.way.items c.loop-place.pairs (Node c.in-Node.number c.in-Node.height)
+node g c = entry_at (Node c.in-Node.number c.in-Node.height) (walk_at_place c.in-Some.place c.loop-place.invariant.walk c.in-Some.ensures) (reads_later c.load_entry_from.ensures.reads) c.in-Node.ensures.entry
 
 -- or a leaf.
 leaf : (g : given.Over) (c : In-Leaf g) →
-    IsAtEntry c.args.range.now.direction c.load_entry.new.seat.known (since c.args.seat.now.known) (asked_range c.args.range.now) (record c.loop-place.top { at = c.in-Some.place }) c.loop-place.way.items c.loop-place.pairs (Leaf c.in-Leaf.number)
-leaf g c = entry_at (Leaf c.in-Leaf.number) (walk_at_place c.in-Some.place c.loop-place.invariant.walk c.in-Some.ensures) (reads_later c.load_entry.ensures.reads) c.in-Leaf.ensures.entry
+    IsAtEntry c.args.range.now.direction c.load_entry_from.new.seat.known (since c.args.seat.now.known) (asked_range c.args.range.now) (record c.loop-place.top { at = c.in-Some.place }) c.loop-place.way.items c.loop-place.pairs (Leaf c.in-Leaf.number)
+leaf g c = entry_at (Leaf c.in-Leaf.number) (walk_at_place c.in-Some.place c.loop-place.invariant.walk c.in-Some.ensures) (reads_later c.load_entry_from.ensures.reads) c.in-Leaf.ensures.entry
 
 -- When the leaf has been read, the root has not been loaded again.
 same : (g : given.Over) (c : After-take_leaf g) → since c.take_leaf.new.seat.known ≡ since c.args.seat.now.known
-same g c = same_since (reads_trans c.loop-place.invariant.reads.3 (reads_trans c.load_entry.ensures.reads c.take_leaf.ensures.reads.2))
+same g c = same_since (reads_trans c.loop-place.invariant.reads.3 (reads_trans c.load_entry_from.ensures.reads c.take_leaf.ensures.reads.2))
 
 pub loop-place-init : goal.loop-place-init
 loop-place-init g c =
@@ -41,14 +42,20 @@ loop-place-init g c =
 pub next_place-requires : goal.next_place-requires
 next_place-requires g c = walk_fits c.loop-place.invariant.walk
 
-pub load_entry-requires-clause-place : goal.load_entry-requires-clause-place
-load_entry-requires-clause-place g c = (since c.args.seat.now.known, c.loop-place.top.height, entry_place (walk_at_place c.in-Some.place c.loop-place.invariant.walk c.in-Some.ensures))
+pub load_entry_from-requires-clause-place : goal.load_entry_from-requires-clause-place
+load_entry_from-requires-clause-place g c = (since c.args.seat.now.known, c.loop-place.top.height, entry_place (walk_at_place c.in-Some.place c.loop-place.invariant.walk c.in-Some.ensures))
+
+pub load_entry_from-requires-clause-start : goal.load_entry_from-requires-clause-start
+load_entry_from-requires-clause-start g c =
+    let i = c.loop-place.invariant in
+    node_begins c.args.table.now.layout c.args.origins.now.layout c.loop-place.seat.known (since c.args.seat.now.known) c.loop-place.top.number c.loop-place.top.height c.in-Some.place c.node-start.result i.reader.1
+    (entry_place (walk_at_place c.in-Some.place i.walk c.in-Some.ensures)) c.requires.origins c.node-start.ensures
 
 pub push-requires : goal.push-requires
 push-requires g c = (omega arith, way_short c.loop-place.invariant.walk c.loop-place.invariant.reader.1)
 
 pub enter-top-requires-clause-reader : goal.enter-top-requires-clause-reader
-enter-top-requires-clause-reader g c = reader_then c.loop-place.invariant.reader c.load_entry.ensures.reads
+enter-top-requires-clause-reader g c = reader_then c.loop-place.invariant.reader c.load_entry_from.ensures.reads
 
 pub enter-top-requires-clause-led : goal.enter-top-requires-clause-led
 enter-top-requires-clause-led g c = (since c.args.seat.now.known, c.in-Node.height, entry_led (node g (goal.at.enter-top-requires-clause-led g c).In-Node))
@@ -63,7 +70,7 @@ loop-place-smaller-in-Node g c =
 
 pub loop-place-preserved-in-Node : goal.loop-place-preserved-in-Node
 loop-place-preserved-in-Node g c =
-    let i = c.loop-place.invariant in let m = since c.args.seat.now.known in let o = c.load_entry.ensures in let e = c.enter-top.ensures in let d = c.args.range.now.direction in
+    let i = c.loop-place.invariant in let m = since c.args.seat.now.known in let o = c.load_entry_from.ensures in let e = c.enter-top.ensures in let d = c.args.range.now.direction in
     let key = first_key d (asked_range c.args.range.now) in
     let is = at_place d c.loop-place.top c.in-Some.place c.in-Some.ensures in
     let a = node g (goal.at.loop-place-preserved-in-Node g c).In-Node in
@@ -85,20 +92,20 @@ loop-place-preserved-in-Node g c =
     }
 
 pub take_leaf-requires-clause-reader : goal.take_leaf-requires-clause-reader
-take_leaf-requires-clause-reader g c = reader_then c.loop-place.invariant.reader c.load_entry.ensures.reads
+take_leaf-requires-clause-reader g c = reader_then c.loop-place.invariant.reader c.load_entry_from.ensures.reads
 
 -- it does not come before the range
 pub take_leaf-requires-clause-leaf : goal.take_leaf-requires-clause-leaf
 take_leaf-requires-clause-leaf g c =
     let i = c.loop-place.invariant in let m = since c.args.seat.now.known in let d = c.args.range.now.direction in let key = first_key d (asked_range c.args.range.now) in
     let a = leaf g (goal.at.take_leaf-requires-clause-leaf g c).In-Leaf in
-    let bound = subst (λ (z : Step). IsBound d c.load_entry.new.seat.known m key z c.loop-place.way.items) (at_place d c.loop-place.top c.in-Some.place c.in-Some.ensures)
-    (bound_later d m key (reads_later c.load_entry.ensures.reads) i.bound) in
+    let bound = subst (λ (z : Step). IsBound d c.load_entry_from.new.seat.known m key z c.loop-place.way.items) (at_place d c.loop-place.top c.in-Some.place c.in-Some.ensures)
+    (bound_later d m key (reads_later c.load_entry_from.ensures.reads) i.bound) in
     (m, entry_led a, bound_leaf d m key (record c.loop-place.top { at = c.in-Some.place }) bound c.in-Leaf.number a.walk.pinned a.placed)
 
 pub returns-in_err-take_leaf-in-Leaf-clause-reads : goal.returns-in_err-take_leaf-in-Leaf-clause-reads
 returns-in_err-take_leaf-in-Leaf-clause-reads g c =
-    let i = c.loop-place.invariant in paid_last i.reads i.walk i.reader.1 c.load_entry.ensures.reads c.take_leaf.ensures.reads
+    let i = c.loop-place.invariant in paid_last i.reads i.walk i.reader.1 c.load_entry_from.ensures.reads c.take_leaf.ensures.reads
 
 pub returns-in_err-take_leaf-in-Leaf-clause-part : goal.returns-in_err-take_leaf-in-Leaf-clause-part
 returns-in_err-take_leaf-in-Leaf-clause-part g c =
@@ -117,7 +124,7 @@ loop-place-smaller-in-Further g c =
 
 pub loop-place-preserved-in-Further : goal.loop-place-preserved-in-Further
 loop-place-preserved-in-Further g c =
-    let i = c.loop-place.invariant in let m = since c.args.seat.now.known in let o = c.load_entry.ensures in let e = c.take_leaf.ensures in let d = c.args.range.now.direction in
+    let i = c.loop-place.invariant in let m = since c.args.seat.now.known in let o = c.load_entry_from.ensures in let e = c.take_leaf.ensures in let d = c.args.range.now.direction in
     let key = first_key d (asked_range c.args.range.now) in
     let is = at_place d c.loop-place.top c.in-Some.place c.in-Some.ensures in
     let a = leaf g (goal.at.loop-place-preserved-in-Further g c).In-Leaf in
@@ -138,14 +145,14 @@ loop-place-preserved-in-Further g c =
     })
 
 pub returns-in-Past-clause-reads : goal.returns-in-Past-clause-reads
-returns-in-Past-clause-reads g c = let i = c.loop-place.invariant in paid_last i.reads i.walk i.reader.1 c.load_entry.ensures.reads c.take_leaf.ensures.reads
+returns-in-Past-clause-reads g c = let i = c.loop-place.invariant in paid_last i.reads i.walk i.reader.1 c.load_entry_from.ensures.reads c.take_leaf.ensures.reads
 
 pub returns-in-Past-clause-scanned : goal.returns-in-Past-clause-scanned
 returns-in-Past-clause-scanned g c =
     let at = goal.at.returns-in-Past-clause-scanned g c in walk_past (leaf g at.In-Leaf) (reads_later c.take_leaf.ensures.reads.2) c.in_ok-take_leaf-in-Leaf.ensures.taken (same g at.After-take_leaf) c.in-Past.is
 
 pub returns-in-Full-clause-reads : goal.returns-in-Full-clause-reads
-returns-in-Full-clause-reads g c = let i = c.loop-place.invariant in paid_last i.reads i.walk i.reader.1 c.load_entry.ensures.reads c.take_leaf.ensures.reads
+returns-in-Full-clause-reads g c = let i = c.loop-place.invariant in paid_last i.reads i.walk i.reader.1 c.load_entry_from.ensures.reads c.take_leaf.ensures.reads
 
 pub returns-in-Full-clause-scanned : goal.returns-in-Full-clause-scanned
 returns-in-Full-clause-scanned g c =
