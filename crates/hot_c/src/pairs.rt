@@ -61,13 +61,16 @@ fn write_pairs_backwards(pairs: &Pairs, room: &mut [Pair])
     }
 }
 
-/// Writes a pair. Keys of eight bytes are common, and a copy of so many needs no call.
+/// Writes a pair. Keys of eight bytes are common, and a copy of so many needs no call; nor, through an array, a test of whether the two
+/// places overlap.
 fn write_pair(key: &[u8], value: u64, pair: &mut Pair)
     requires { IsKey key.now }
     ensures { Spells (key.now, value) pair.new }
 {
     if key.len() == 8 {
-        pair.key[..8].copy_from_slice(&key[..8]);
+        let mut eight = [0; 8];
+        eight.copy_from_slice(&key[..8]);
+        pair.key[..8].copy_from_slice(&eight);
     } else {
         pair.key[..key.len()].copy_from_slice(key);
     }
