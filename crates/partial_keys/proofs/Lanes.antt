@@ -1,22 +1,37 @@
 -- The highest set bit of a mask of lanes.
-use Rattle.std.proofs.Common.{Bool, List, ap, arith, bit_and, cond, eqb, false, get_or, length, map, refl, replicate, subst, suc, sym, true, w32, ℕ, ⊎_elim, ◌%◌, ◌*◌, ◌+◌, ◌-◌, ◌/◌, ◌<◌, ◌^◌, ◌∙◌, ◌≡◌, ◌≤◌}
+use Rattle.std.proofs.Common.{Bool, Fits, List, [], ◌∷◌, ap, ap₂, arith, bit_and, cond, eqb, false, get_or, length, map, refl, replicate, subst, suc, sym, true, w32, ℕ, ⊎_elim, ◌%◌, ◌*◌, ◌+◌, ◌-◌, ◌/◌, ◌<◌, ◌^◌, ◌∙◌, ◌≡◌, ◌≤◌}
 use Rattle.std.proofs.Math.Nat.{pow-suc}
 use Rattle.std.proofs.Math.Pow.{pow_mono}
-use Rattle.std.proofs.lemmas.Bool.{cases_lt, eqb-true}
-use Rattle.std.proofs.lemmas.List.{get_or-map, length-map, map-id}
-use Rattle.std.proofs.lemmas.Nat.{and_comm, leading_top, shr_high}
-use Rattle.std.proofs.lemmas.Simd.{bit_mask_l, mask_l-lt, mask_l-mod, tops_compared, zip2_of_maps, zip2_splat_left}
+use Rattle.std.proofs.lemmas.Bool.{cases_lt, eq-eqb, eqb-false, eqb-true, ne_eqb}
+use Rattle.std.proofs.lemmas.List.{get_or-map, length-map}
+use Rattle.std.proofs.lemmas.Nat.{and-not, and_comm, leading_top, shr_high}
+use Rattle.std.proofs.lemmas.Simd.{bit_mask_l, bitmask_splat, map-map, mask_l-lt, zip2_splat_left}
 use Rattle.partial_keys.specs.Rows.{complies, IsHighest}
 use lib.Count.{count_leading_zeros}
-use lib.Lanes.{mask_l, top, zip2}
+use lib.Lanes.{Each1, mask_l, top, zip2}
 
-pub lanes_comply : (xs : List ℕ) (d : ℕ) → length xs ≡ 32 →
-    mask_l (map (top 31) (zip2 (λ a b. cond (eqb a b) (2 ^ 32 - 1) 0) (zip2 bit_and (replicate 32 d) xs) xs)) % 2 ^ 64 ≡ mask_l (map (complies d) xs)
-lanes_comply xs d long =
-    ap (λ ms. mask_l ms % 2 ^ 64) (
-    tops_compared w32 eqb (zip2 bit_and (replicate 32 d) xs) xs
-    ∙ zip2_of_maps eqb (bit_and d) (λ x. x) xs (zip2_splat_left bit_and d 32 xs long) (sym (map-id xs)))
-    ∙ mask_l-mod (map (complies d) xs) 64 (rw length-map (omega arith))
+-- a row that lacks no bit of the dense one complies
+row_complies : (d x : ℕ) → d < 2 ^ 32 → x < 2 ^ 32 → eqb (bit_and (2 ^ 32 - 1 - d) x) 0 ≡ complies d x
+row_complies d x dense row = go (eqb (bit_and (2 ^ 32 - 1 - d) x) 0) refl
+  where
+    both : bit_and (2 ^ 32 - 1 - d) x + bit_and d x ≡ x
+    both = and-not 32 d x dense row
+
+    go : (t : Bool) → eqb (bit_and (2 ^ 32 - 1 - d) x) 0 ≡ t → eqb (bit_and (2 ^ 32 - 1 - d) x) 0 ≡ complies d x
+    go true e = e ∙ sym (eq-eqb (bit_and d x) x (omega (arith, both, eqb-true _ _ e)))
+    go false e = e ∙ sym (ne_eqb (bit_and d x) x (λ same. eqb-false _ _ e (omega (arith, both, same))))
+
+rows_comply : (d : ℕ) (xs : List ℕ) → d < 2 ^ 32 → Each1 (Fits w32) xs → map (λ x. eqb (bit_and (2 ^ 32 - 1 - d) x) 0) xs ≡ map (complies d) xs
+rows_comply d [] dense fits = refl
+rows_comply d (x ∷ xs) dense fits = ap₂ (λ (b : Bool) (bs : List Bool). b ∷ bs) (row_complies d x dense fits.0.fits) (rows_comply d xs dense fits.1)
+
+pub lanes_comply : (xs : List ℕ) (d : ℕ) → length xs ≡ 32 → d < 2 ^ 32 → Each1 (Fits w32) xs →
+    mask_l (map (top 31) (zip2 (λ a b. cond (eqb a b) (2 ^ 32 - 1) 0) (zip2 bit_and (replicate 32 (2 ^ 32 - 1 - d)) xs) (replicate 32 0))) % 2 ^ 64 ≡ mask_l (map (complies d) xs)
+lanes_comply xs d long dense fits =
+    let n : ℕ = 2 ^ 32 - 1 - d in
+    let is : zip2 bit_and (replicate 32 n) xs ≡ map (bit_and n) xs = zip2_splat_left bit_and n 32 xs long in
+    bitmask_splat w32 eqb (zip2 bit_and (replicate 32 n) xs) 32 0 (ap length is ∙ (length-map xs (bit_and n) ∙ long)) (omega arith)
+    ∙ ap mask_l (ap (map (λ x. eqb x 0)) is ∙ (map-map (λ x. eqb x 0) (bit_and n) xs ∙ rows_comply d xs dense fits))
 
 top_digit : (m j : ℕ) → 2 ^ j ≤ m → m < 2 ^ suc j → m / 2 ^ j ≡ 1
 top_digit m j a b =

@@ -13,3 +13,4 @@ pub mod Squeezing
 pub mod Cutting
 pub mod Closing
 pub mod Worked
+pub mod Windows

@@ -18,3 +18,9 @@ pub record HoldsColumns (places : List ℕ) (count : ℕ) : Type 0 where
   pub columns : IsColumns (take count places)
   pub counted : length (take count places) ≡ count
   pub filled : with_free (take count places) ≡ places
+
+-- the first `count` of 32 lanes are columns, and the others are unused
+pub record AreColumnLanes (lanes : List ℕ) (count : ℕ) : Type 0 where
+  pub columns : IsColumns (take count lanes)
+  pub counted : length (take count lanes) ≡ count
+  pub unused : take count lanes ++ replicate (32 - count) 65535 ≡ lanes

@@ -7,3 +7,4 @@ pub mod Leads
 pub mod Squeezed
 pub mod Spread
 pub mod Runs
+pub mod Windows

@@ -11,7 +11,11 @@ ghost use Rattle.partial_keys.specs.Rows.{IsHighest, complies};
 ghost use Rattle.partial_keys.specs.Squeezed.{used_bits};
 ghost use lib.Lanes.{mask_l};
 
-use key_bits::{Key, extract};
+mod gathering;
+
+pub use gathering::dense_lanes;
+use gathering::lanes_of;
+use key_bits::Key;
 use std::marker::Model;
 use std::simd::prelude::*;
 
@@ -130,7 +134,7 @@ impl Columns {
     pub fn dense(&self, key: &Key) -> u32
         ensures { result ≡ dense_of self.now (bit_of key.now) }
     {
-        extract(key, self.as_slice())
+        dense_lanes(lanes_of(&self.positions), self.count, key)
     }
 
     /// Puts a position in as a column, in order, and answers its index.
@@ -255,13 +259,27 @@ pub fn search_lanes(sparse: &[u32; 32], dense: u32) -> u8
     ensures leads { dense % 2 ≡ 0 → IsPlaceForDense sparse.now dense result }
     ensures leads_key { IsPlaceForKey sparse.now dense result }
 {
+    search_rows(u32x32::from_array(*sparse), dense)
+}
+
+/// The same entry, of words that are lanes already.
+#[inline(always)]
+pub fn search_rows(sparse: u32x32, dense: u32) -> u8
+    requires { slice_index sparse 0 ≡ 0 }
+    ensures value { result ≡ highest (complies dense) sparse }
+    ensures highest { IsHighest sparse dense result }
+    ensures leads { dense % 2 ≡ 0 → IsPlaceForDense sparse dense result }
+    ensures leads_key { IsPlaceForKey sparse dense result }
+{
     (63 - complying_lanes(sparse, dense).leading_zeros()) as u8
 }
 
-/// Bit i is set exactly where entry i complies.
-fn complying_lanes(sparse: &[u32; 32], dense: u32) -> u64
-    ensures { result ≡ mask_l (map (complies dense) sparse.now) }
+/// Bit i is set exactly where lane i complies: where it has no bit that the dense one lacks.
+#[inline(always)]
+fn complying_lanes(lanes: u32x32, dense: u32) -> u64
+    ensures { result ≡ mask_l (map (complies dense) lanes) }
 {
-    let lanes = u32x32::from_array(*sparse);
-    (u32x32::splat(dense) & lanes).simd_eq(lanes).to_bitmask()
+    (u32x32::splat(!dense) & lanes)
+        .simd_eq(u32x32::splat(0))
+        .to_bitmask()
 }

@@ -3,4 +3,4 @@ use Rattle.partial_keys.proofs.complying_lanes.Goals as goal
 use Rattle.partial_keys.proofs.Lanes.{lanes_comply}
 
 pub returns : goal.returns
-returns c = lanes_comply c.args.sparse.now c.args.dense c.told-sparse
+returns c = lanes_comply c.args.lanes c.args.dense c.fits-lanes.0 c.ranges.dense.fits c.fits-lanes.1

@@ -1,14 +1,14 @@
--- Why `search_lanes` meets its contract.
+-- Why `search_rows` meets its contract.
 use Rattle.partial_keys.proofs.Lanes.{highest_of_lanes}
 use Rattle.partial_keys.proofs.Search.{highest-value, place_for_dense, place_for_key}
-use Rattle.partial_keys.proofs.search_lanes.Goals as goal
+use Rattle.partial_keys.proofs.search_rows.Goals as goal
 
 pub overflow_sub-result : goal.overflow_sub-result
-overflow_sub-result c = (highest_of_lanes c.args.sparse.now c.args.dense c.complying_lanes.result c.told-sparse c.requires c.complying_lanes.ensures).0
+overflow_sub-result c = (highest_of_lanes c.args.sparse c.args.dense c.complying_lanes.result c.fits-sparse.0 c.requires c.complying_lanes.ensures).0
 
 pub returns : goal.returns
 returns c =
-    let found = (highest_of_lanes c.args.sparse.now c.args.dense c.complying_lanes.result c.told-sparse c.requires c.complying_lanes.ensures).1 in
+    let found = (highest_of_lanes c.args.sparse c.args.dense c.complying_lanes.result c.fits-sparse.0 c.requires c.complying_lanes.ensures).1 in
     record {
       value = highest-value _ _ _ found;
       highest = found;

@@ -1,0 +1,16 @@
+-- The lanes of a gathering by vectors.
+use Rattle.std.specs.Prelude.{ℕ, List, min, bit_and, bit_or, slice_index, ◌+◌, ◌-◌, ◌*◌, ◌/◌, ◌%◌}
+use Rattle.partial_keys.specs.declared.gathering.TheConstants.{MASKS}
+
+-- the byte in which a position is, if it is one of a key's, and else a greater number
+abbrev pub byte_lane : ℕ → ℕ
+byte_lane p = min (p * 7282 / 65536) 255
+
+-- the bit of a position in its byte, and 0 for the first of the nine
+abbrev pub mask_lane : ℕ → ℕ
+mask_lane p = slice_index MASKS (p * 7282 % 65536 / 4096)
+
+-- what lane i misses
+abbrev pub missed_lane : List ℕ → ℕ → ℕ → ℕ → ℕ → ℕ → ℕ
+missed_lane window first last i byte mask =
+    bit_or (bit_and mask (255 - slice_index window (16 * (i / 16) + (byte + 256 - first) % 16))) (byte - last)

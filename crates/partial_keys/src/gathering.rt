@@ -1,0 +1,129 @@
+//! Bits of a key gathered by vectors.
+
+ghost use Rattle.std.specs.Prelude.{[], ◌∷◌, ◌++◌, ◌≡◌, ◌%◌, ◌*◌, ◌+◌, ◌-◌, ◌<◌, ◌≤◌, ◌⊎◌, IsTrue, ℕ, eqb, length, map, slice_index, take};
+ghost use Rattle.key_bits.specs.Bits.{bit_of};
+ghost use Rattle.key_bits.specs.Gather.{gathered};
+ghost use Rattle.key_bits.specs.Key.{with_zeros};
+ghost use Rattle.partial_keys.specs.Columns.{AreColumnLanes};
+ghost use Rattle.partial_keys.specs.Rows.{dense_of};
+ghost use Rattle.partial_keys.specs.Windows.{byte_lane, mask_lane, missed_lane};
+
+use key_bits::{Key, MAX_BYTES, extract};
+use std::simd::prelude::*;
+
+/// At each fraction of nine, in sixteenths, that a position can have: its bit in its byte, and none for the first of the nine bits.
+const MASKS: [u8; 16] = [0, 128, 0, 64, 0, 32, 0, 16, 8, 8, 4, 0, 2, 0, 1, 0];
+
+/// The bytes that have the bits at these positions; for a position behind all bytes of a key no byte of a key.
+#[inline(always)]
+fn bytes_at(positions: u16x32) -> u8x32
+    ensures { result ≡ map byte_lane positions }
+{
+    let products = positions.cast::<u32>() * u32x32::splat(7282);
+    let bytes = (products >> u32x32::splat(16)).cast::<u16>();
+    bytes.simd_min(u16x32::splat(255)).cast::<u8>()
+}
+
+/// Each position's bit in its byte.
+#[inline(always)]
+fn masks_at(positions: u16x32) -> u8x32
+    ensures { result ≡ map mask_lane positions }
+{
+    let parts = (positions * u16x32::splat(7282)) >> u16x32::splat(12);
+    doubled(u8x16::from_array(MASKS)).swizzle_dyn_within::<16>(parts.cast::<u8>())
+}
+
+/// Sixteen lanes, twice.
+#[inline(always)]
+fn doubled(lanes: u8x16) -> u8x32
+    ensures { (i : ℕ) → i < 32 → slice_index result i ≡ slice_index lanes (i % 16) }
+{
+    lanes.swizzle::<32>([
+        0, 1, 2, 3, 4, 5, 6, 7, 8, 9, 10, 11, 12, 13, 14, 15, 0, 1, 2, 3, 4, 5, 6, 7, 8, 9, 10, 11,
+        12, 13, 14, 15,
+    ])
+}
+
+/// Sixteen of the key's places from this byte on, twice.
+#[inline(always)]
+fn window_at(key: &Key, first: usize) -> u8x32
+    requires { first + 16 ≤ MAX_BYTES }
+    ensures { (i : ℕ) → i < 32 → slice_index result i ≡ slice_index (with_zeros key.now) (first + i % 16) }
+{
+    doubled(u8x16::from_slice(&key.places()[first..]))
+}
+
+/// For each lane the bits of its mask that its byte lacks, which stands in the window from the first byte on. A lane whose byte is
+/// behind the last has some bit anyhow.
+#[inline(always)]
+fn missed(bytes: u8x32, masks: u8x32, window: u8x32, first: u8, last: u8) -> u8x32
+    requires lanes { (length bytes ≡ 32) × (length masks ≡ 32) × (length window ≡ 32) }
+    ensures whole { length result ≡ 32 }
+    ensures each { (i : ℕ) → i < 32 → slice_index result i ≡ missed_lane window first last i (slice_index bytes i) (slice_index masks i) }
+{
+    let places = (bytes - u8x32::splat(first)) & u8x32::splat(15);
+    let there = window.swizzle_dyn_within::<16>(places);
+    masks & !there | bytes.saturating_sub(u8x32::splat(last))
+}
+
+/// Lane i as bit 31-i, set exactly where it is 0.
+#[inline(always)]
+fn zeros(lanes: u8x32) -> u32
+    requires { length lanes ≡ 32 }
+    ensures { result ≡ gathered (λ x. eqb x 0) lanes }
+{
+    lanes.reverse().simd_eq(u8x32::splat(0)).to_bitmask() as u32
+}
+
+/// The key's bits at the columns in the first `count` lanes: the bit of column j is bit 31-j.
+///
+/// By vectors, if the sixteen bytes from the first column's on have all bits at columns that the key has: seldom are columns further
+/// apart. A position p is bit p%9 of byte p/9, and p*7282/65536 is p/9 as long as p is below 9 * 3640.
+#[inline(always)]
+pub fn dense_lanes(lanes: u16x32, count: u8, key: &Key) -> u32
+    requires { AreColumnLanes lanes count }
+    ensures { result ≡ dense_of (take count lanes) (bit_of key.now) }
+{
+    let places = lanes.to_array();
+    let first = places[0] as usize / 9;
+    let length = key.as_bytes().len();
+    if is_near(&places, count, first, length) {
+        let (bytes, masks) = (bytes_at(lanes), masks_at(lanes));
+        let window = window_at(key, first);
+        zeros(missed(bytes, masks, window, first as u8, (length - 1) as u8))
+    } else {
+        extract(key, &places[..count as usize])
+    }
+}
+
+/// Whether sixteen bytes from the first on have all bits at columns that a key of this length has.
+#[inline(always)]
+fn is_near(places: &[u16; 32], count: u8, first: usize, length: usize) -> bool
+    requires few { (0 < count) × (count ≤ 32) }
+    ensures near { IsTrue result → (1 ≤ length) × (first + 16 ≤ MAX_BYTES) × ((length ≤ first + 16) ⊎ (slice_index places.now (count - 1) < 9 * first + 144)) }
+{
+    length > 0
+        && first <= MAX_BYTES - 16
+        && (length <= first + 16 || (places[count as usize - 1] as usize) < 9 * first + 144)
+}
+
+/// 31 positions as lanes, with 65,535 behind them.
+#[inline(always)]
+pub(crate) fn lanes_of(positions: &[u16; 31]) -> u16x32
+    ensures { result ≡ positions.now ++ 65535 ∷ [] }
+{
+    let low = u16x16::from_slice(positions);
+    let high = u16x16::from_slice(&positions[15..]);
+    let ends = u16x16::splat(u16::MAX);
+    let high = high.shuffle::<16>(
+        ends,
+        [1, 2, 3, 4, 5, 6, 7, 8, 9, 10, 11, 12, 13, 14, 15, 16],
+    );
+    low.shuffle::<32>(
+        high,
+        [
+            0, 1, 2, 3, 4, 5, 6, 7, 8, 9, 10, 11, 12, 13, 14, 15, 16, 17, 18, 19, 20, 21, 22, 23,
+            24, 25, 26, 27, 28, 29, 30, 31,
+        ],
+    )
+}
