@@ -1,5 +1,6 @@
 -- The lemmas of the crate.
 pub mod Bytes
+pub mod Lanes
 pub mod Entries
 pub mod Fixing
 pub mod Growing

@@ -6,6 +6,7 @@ mod fixed;
 mod layout;
 mod leaf;
 mod node;
+mod search;
 mod state;
 mod stock;
 
@@ -16,6 +17,7 @@ pub use leaf::{key_word_at, key_words, pack_leaf, words_for, write_word};
 pub use node::{
     add_leaf, can_take_leaf, pack_node, position_words, read_head, read_node, row_words,
 };
+pub use search::search_words;
 pub use state::{Tag, pack_state, unpack_state};
 
 /// Epochs are below this number, and at least 1.

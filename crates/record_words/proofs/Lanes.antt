@@ -1,0 +1,107 @@
+-- Words as lanes of fewer bits.
+use Rattle.std.proofs.Common.{ℕ, zero, suc, ◌≡◌, ◌+◌, ◌-◌, ◌*◌, ◌/◌, ◌%◌, ◌^◌, ◌<◌, ◌≤◌, ◌++◌, List, [], ◌∷◌, arith, get_or, length, length-append, replicate, take, drop, refl, sym, ap, subst, ◌∙◌, w64, Fits, below_more}
+use borrow.Author.Count.{below_none}
+use Rattle.std.proofs.Math.Nat.{pow-suc, pow-zero}
+use Rattle.std.proofs.lemmas.List.{ext_get_or, get_or_default, get_or-append_right, get_or-drop, get_or-take, length-replicate, take_at}
+use Rattle.std.proofs.lemmas.Simd.{below_from_Fits, get_or-chunk, get_or_narrower}
+use lib.Lanes.{Each1, chunk, digits_l, number_l}
+use Rattle.std.proofs.Common.{ap₂, inl, inr}
+use Rattle.std.proofs.Math.ListN.{get_or-append}
+use Rattle.std.proofs.lemmas.Bool.{cases_lt}
+use Rattle.compound_node.specs.Nodes.{NodeView, IsLawfulNode, head_of}
+use Rattle.record_words.specs.Node.{head_words}
+use Rattle.record_words.proofs.Fixing.{AreFixed, fixed_words_parts}
+use Rattle.record_words.proofs.Lawful.{column-lt, get_or-padded}
+use Rattle.record_words.proofs.Parts.{position_in_word}
+use Rattle.partial_keys.specs.Columns.{AreColumnLanes, IsColumns}
+
+number_of_digits : (n x : ℕ) → x < 256 ^ n → number_l 256 (digits_l 256 n x) ≡ x
+number_of_digits zero x h = omega (arith, h, pow-zero 256)
+number_of_digits (suc n) x h = omega (arith, number_of_digits n (x / 256) (omega (arith, h, pow-suc 256 n)))
+
+number-lt : (n : ℕ) (xs : List ℕ) → length xs ≡ n → Each1 (λ x. x < 2 ^ 64) xs → number_l (2 ^ 64) xs < (2 ^ 64) ^ n
+number-lt zero [] e h = omega (arith, pow-zero (2 ^ 64))
+number-lt zero (x ∷ xs) e h = absurd (omega (arith, e))
+number-lt (suc n) [] e h = absurd (omega (arith, e))
+number-lt (suc n) (x ∷ xs) e h = omega (arith, h.0, number-lt n xs (omega (arith, e)) h.1, pow-suc (2 ^ 64) n)
+
+-- eight words from an offset on
+abbrev pub eight : ℕ → List ℕ → List ℕ
+eight s words = chunk 0 8 (take (25 - s) (drop s words))
+
+pub eight_at : (words : List ℕ) (s j : ℕ) → s + 8 ≤ 25 → j < 8 → get_or (eight s words) j 0 ≡ get_or words (s + j) 0
+eight_at words s j room low =
+    get_or-chunk 0 8 (take (25 - s) (drop s words)) j 0 low
+    ∙ (get_or-take (25 - s) (drop s words) (0 + j) 0 (omega (arith, room, low))
+    ∙ (get_or-drop s words (0 + j) 0 ∙ ap (λ k. get_or words (s + k) 0) (omega arith)))
+
+-- eight words
+module _ (xs : List ℕ) (long : length xs ≡ 8) (fits : Each1 (Fits w64) xs) where
+  small : Each1 (λ x. x < 2 ^ 64) xs
+  small = below_from_Fits w64 xs fits
+
+  abbrev number : ℕ
+  number = number_l (2 ^ 64) xs
+
+  same : number_l 256 (digits_l 256 64 number) ≡ number
+  same = number_of_digits 64 number (let below = number-lt 8 xs long small in omega (arith, below))
+
+  pub quarter_at : (i : ℕ) → i < 32 → get_or (digits_l 65536 32 (number_l 256 (digits_l 256 64 (number_l (2 ^ 64) xs)))) i 0 ≡ get_or xs (i / 4) 0 / 2 ^ (16 * (i % 4)) % 2 ^ 16
+  quarter_at i low =
+      ap (λ x. get_or (digits_l 65536 32 x) i 0) same
+      ∙ (ap (λ k. get_or (digits_l 65536 32 number) k 0) (let e : i ≡ 4 * (i / 4) + i % 4 = omega arith in e)
+      ∙ (get_or_narrower (2 ^ 64) 4 65536 32 xs (i / 4) (i % 4) refl small (omega arith) (omega (arith, low))
+      ∙ ap (λ x. get_or xs (i / 4) 0 / x % 65536) (power (i % 4) (omega arith))))
+    where
+      power : (r : ℕ) → r < 4 → 65536 ^ r ≡ 2 ^ (16 * r)
+      power = below_more (λ r. 65536 ^ r ≡ 2 ^ (16 * r)) 3 (below_more (λ r. 65536 ^ r ≡ 2 ^ (16 * r)) 2 (below_more (λ r. 65536 ^ r ≡ 2 ^ (16 * r)) 1
+          (below_more (λ r. 65536 ^ r ≡ 2 ^ (16 * r)) 0 (below_none (λ r. 65536 ^ r ≡ 2 ^ (16 * r))) refl) refl) refl) refl
+
+  pub half_at : (i : ℕ) → i < 16 → get_or (digits_l (2 ^ 32) 16 (number_l 256 (digits_l 256 64 (number_l (2 ^ 64) xs)))) i 0 ≡ get_or xs (i / 2) 0 / 2 ^ (32 * (i % 2)) % 2 ^ 32
+  half_at i low =
+      ap (λ x. get_or (digits_l (2 ^ 32) 16 x) i 0) same
+      ∙ (ap (λ k. get_or (digits_l (2 ^ 32) 16 number) k 0) (let e : i ≡ 2 * (i / 2) + i % 2 = omega arith in e)
+      ∙ (get_or_narrower (2 ^ 64) 2 (2 ^ 32) 16 xs (i / 2) (i % 2) refl small (omega arith) (omega (arith, low))
+      ∙ ap (λ x. get_or xs (i / 2) 0 / x % 2 ^ 32) (power (i % 2) (omega arith))))
+    where
+      power : (r : ℕ) → r < 2 → (2 ^ 32) ^ r ≡ 2 ^ (32 * r)
+      power = below_more (λ r. (2 ^ 32) ^ r ≡ 2 ^ (32 * r)) 1 (below_more (λ r. (2 ^ 32) ^ r ≡ 2 ^ (32 * r)) 0 (below_none (λ r. (2 ^ 32) ^ r ≡ 2 ^ (32 * r))) refl) refl
+
+pub length-digits : (q n x : ℕ) → length (digits_l q n x) ≡ n
+length-digits q zero x = refl
+length-digits q (suc n) x = ap suc (length-digits q n (x / q))
+
+-- the positions of a node, and the unused lanes
+pub place_lanes_read : (node : NodeView) → IsLawfulNode node → (words lanes : List ℕ) → head_words (head_of node) ≡ words → length lanes ≡ 32 →
+    ((i : ℕ) → i < 32 → get_or lanes i 0 ≡ get_or words (1 + i / 4) 0 / 2 ^ (16 * (i % 4)) % 2 ^ 16) → lanes ≡ node.columns ++ replicate (32 - length node.columns) 65535
+place_lanes_read node lawful words lanes same long each =
+    let parts : AreFixed (length node.rows) node.height node.columns node.rows words = fixed_words_parts (length node.rows) node.height node.columns node.rows words same in
+    let count : length (node.columns ++ replicate (32 - length node.columns) 65535) ≡ 32 =
+    length-append node.columns _ ∙ omega (arith, length-replicate {A = ℕ} (32 - length node.columns) 65535, lawful.positions.few) in
+    ext_get_or 65535 lanes (node.columns ++ replicate (32 - length node.columns) 65535) (long ∙ sym count)
+    (λ i h. get_or_default lanes i 65535 0 h
+    ∙ (each i (omega (arith, h, long)) ∙ (ap (λ word. word / 2 ^ (16 * (i % 4)) % 2 ^ 16) (sym (parts.positions (i / 4) (omega (arith, h, long)))) ∙ (sym (position_in_word node.columns i (column-lt node lawful))
+    ∙ sym (get_or-padded node.columns (32 - length node.columns) 65535 i)))))
+
+-- the lanes of the low and of the high rows, one after the other
+pub rows_joined : (low high : List ℕ) → length low ≡ 16 → length high ≡ 16 → (words : List ℕ) →
+    ((i : ℕ) → i < 16 → get_or low i 0 ≡ get_or words (9 + i / 2) 0 / 2 ^ (32 * (i % 2)) % 2 ^ 32) →
+    ((i : ℕ) → i < 16 → get_or high i 0 ≡ get_or words (17 + i / 2) 0 / 2 ^ (32 * (i % 2)) % 2 ^ 32) →
+    (i : ℕ) → i < 32 → get_or (low ++ high) i 0 ≡ get_or words (9 + i / 2) 0 / 2 ^ (32 * (i % 2)) % 2 ^ 32
+rows_joined low high low_long high_long words of_low of_high i inside = elim (cases_lt i 16) [
+  | inl l ↦ get_or-append low high 0 i (omega (arith, l, low_long)) ∙ of_low i l
+  | inr g ↦ get_or-append_right low high 16 i 0 low_long g ∙ (of_high (i - 16) (omega (arith, g, inside))
+      ∙ ap₂ (λ j r. get_or words j 0 / 2 ^ (32 * r) % 2 ^ 32) (omega (arith, g)) (omega (arith, g)))
+]
+
+-- lanes with columns in front
+pub column_lanes : (columns lanes : List ℕ) (count : ℕ) → IsColumns columns → count ≡ length columns → lanes ≡ columns ++ replicate (32 - length columns) 65535 → (take count lanes ≡ columns) × AreColumnLanes lanes count
+column_lanes columns lanes count are counted same =
+    let taken : take count lanes ≡ columns = rw (same, counted) (take_at columns _ (length columns) refl) in (
+      taken,
+      record {
+        columns = subst IsColumns (sym taken) are;
+        counted = ap length taken ∙ sym counted;
+        unused = ap₂ (λ (cs : List ℕ) (n : ℕ). cs ++ replicate (32 - n) 65535) taken counted ∙ sym same;
+      },
+    )
