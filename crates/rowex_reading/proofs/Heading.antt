@@ -29,6 +29,7 @@ use Rattle.rowex_core.specs.declared.known.Known.{Known}
 use Rattle.rowex_core.specs.declared.event.Act.TheVariants.{LoadFixed}
 use Rattle.rowex_core.specs.Cores.{Core, IsLawful, IsSized, heap_of}
 use Rattle.rowex_core.specs.Knowing.{IsEvent, Recalls}
+use Rattle.rowex_table.specs.Made.{IsLater}
 use Rattle.rowex_table.specs.Runs.{silent}
 use Rattle.rowex_core.proofs.Owning.{recalls}
 use Rattle.rowex_core.specs.Reading.{IsPacked}
@@ -140,36 +141,23 @@ numbers_low layout k j n words possible loaded m h led =
 abbrev pub IsHeadWord : ℕ → ℕ → ℕ → Type 0
 IsHeadWord positions rows o = (o < positions) ⊎ ((FIRST_ROWS ≤ o) × (o < rows))
 
--- The words of a head have been loaded that have something, and all bits of the others are set.
+-- in each core of which j is true, these are the first words of the node's record
+abbrev pub AreWords : Known → ℕ → List ℕ → Type 0
+AreWords j n words = (c : Core) → IsLawful c → Recalls c j → (o : ℕ) → o < HEAD_WORDS → get_or words o 0 ≡ get_or (c.words (a_node n)) o 0
+
+-- The words of a head have been loaded that have something, and all bits of the others are set: all words are the node's.
 module _ (layout : Layout) (k j : Known) (n p i : ℕ) (words : List ℕ) (possible : IsPossible layout j) (loaded : AreLoaded k j (a_node n) (IsHeadWord p i) words)
     (positions : p ≡ 1 + words_of_positions (get_or words 0 0 / 256 % 256)) (rows : i ≡ FIRST_ROWS + words_of_rows (get_or words 0 0 % 256))
-    (rest : (o : ℕ) → p ≤ o → (o < FIRST_ROWS) ⊎ (i ≤ o) → o < HEAD_WORDS → get_or words o 0 ≡ 2 ^ 64 - 1) (long : length words ≡ HEAD_WORDS) (m h : ℕ) (led : IsLedTo k m (Node n h)) where
-  -- in each core of which j is true, the words are those of a node's head
-  record HeadNow (c : Core) : Type 0 where
-    view_now : NodeView
-    lawful_now : IsLawfulNode view_now
-    spelled : head_words (head_of view_now) ≡ words
-    nodes_are : (heap_of c.words).nodes n ≡ record { fixed = head_of view_now; page = piece view_now }
-
-  head_now : (c : Core) → IsLawful c → Recalls c j → HeadNow c
+    (rest : (o : ℕ) → p ≤ o → (o < FIRST_ROWS) ⊎ (i ≤ o) → o < HEAD_WORDS → get_or words o 0 ≡ 2 ^ 64 - 1) (m h : ℕ) (led : IsLedTo k m (Node n h)) where
+  pub part_loaded : AreWords j n words
   unfolding IsPacked
-  head_now c lawful known =
+  part_loaded c lawful known =
       let before = recalls_before loaded.later known in
       go (is_packed c k lawful before m led.0 (Node n h) (led.1 c lawful before))
     where
-      go : IsPacked (a_node n) (c.words (a_node n)) → HeadNow c
-      go (v, has, same) =
-          let are = words_now HEAD_WORDS words (c.words (a_node n)) long (omega (arith, sized.0)) (λ o low. word o low (cases_lt o p) (cases_lt o FIRST_ROWS) (cases_lt o i)) in
-          record {
-            view_now = v;
-            lawful_now = has.lawful;
-            spelled = spelled ∙ sym are;
-            nodes_are = node_is v (c.words (a_node n)) sized.1 has same;
-          }
+      go : IsPacked (a_node n) (c.words (a_node n)) → (o : ℕ) → o < HEAD_WORDS → get_or words o 0 ≡ get_or (c.words (a_node n)) o 0
+      go (v, has, same) = λ o low. word o low (cases_lt o p) (cases_lt o FIRST_ROWS) (cases_lt o i)
         where
-          now : List ℕ
-          now = c.words (a_node n)
-
           sized : IsSized (a_node n) (c.words (a_node n))
           sized = lawful.records.sized (a_node n)
 
@@ -194,6 +182,38 @@ module _ (layout : Layout) (k j : Known) (n p i : ℕ) (words : List ℕ) (possi
           word o low (inr past) (inr after) (inr end) = unloaded o low (rest o past (inr end) low)
               (rows_past (length v.rows) v.height v.columns v.rows o (omega (arith, end, rows, numbers.rows)) low)
 
+-- all words of a head have been loaded
+pub all_loaded : (layout : Layout) (k j : Known) (n : ℕ) (words : List ℕ) → AreLoaded k j (a_node n) (λ o. o < HEAD_WORDS) words → (m h : ℕ) → IsLedTo k m (Node n h) → AreWords j n words
+all_loaded layout k j n words loaded m h led c lawful known o low =
+    word_now k j (a_node n) (λ o. o < HEAD_WORDS) words loaded m (led_stood k m (Node n h) led) c lawful known o low (omega arith, omega (arith, low))
+
+-- A node's head by such words.
+module _ (layout : Layout) (k j : Known) (n : ℕ) (words : List ℕ) (possible : IsPossible layout j) (later : IsLater k j) (are_words : AreWords j n words)
+    (long : length words ≡ HEAD_WORDS) (m h : ℕ) (led : IsLedTo k m (Node n h)) where
+  -- in each core of which j is true, the words are those of a node's head
+  record HeadNow (c : Core) : Type 0 where
+    view_now : NodeView
+    lawful_now : IsLawfulNode view_now
+    spelled : head_words (head_of view_now) ≡ words
+    nodes_are : (heap_of c.words).nodes n ≡ record { fixed = head_of view_now; page = piece view_now }
+
+  head_now : (c : Core) → IsLawful c → Recalls c j → HeadNow c
+  unfolding IsPacked
+  head_now c lawful known =
+      let before = recalls_before later known in
+      go (is_packed c k lawful before m led.0 (Node n h) (led.1 c lawful before))
+    where
+      go : IsPacked (a_node n) (c.words (a_node n)) → HeadNow c
+      go (v, has, same) =
+          let sized : IsSized (a_node n) (c.words (a_node n)) = lawful.records.sized (a_node n) in
+          let are = words_now HEAD_WORDS words (c.words (a_node n)) long (omega (arith, sized.0)) (are_words c lawful known) in
+          record {
+            view_now = v;
+            lawful_now = has.lawful;
+            spelled = head_is v (c.words (a_node n)) sized.1 has same ∙ sym are;
+            nodes_are = node_is v (c.words (a_node n)) sized.1 has same;
+          }
+
   -- the words spell a head
   pub head_spelled : IsSpelling HasHeadWords head_words words
   head_spelled = let now = head_now possible.core possible.lawful (recalls possible.core j possible.knows) in (head_of now.view_now, (now.view_now, now.lawful_now, refl), now.spelled)
@@ -207,7 +227,7 @@ module _ (layout : Layout) (k j : Known) (n p i : ℕ) (words : List ℕ) (possi
     head_same = sym (read.only (head_of there.view_now) (there.view_now, there.lawful_now, refl) there.spelled)
 
     before : Recalls c k
-    before = recalls_before loaded.later known
+    before = recalls_before later known
 
     led_there : IsSeen (seen c k) m (Node n h)
     led_there = led.1 c lawful before
@@ -230,7 +250,7 @@ module _ (layout : Layout) (k j : Known) (n p i : ℕ) (words : List ℕ) (possi
       where
         go : (x : Fixed) × (b : Tree) × (led_there.1 ≡ node n x b) × (x.height ≡ h) → IsShaped (seen c j) m n (shape_of head)
         go (x, b, is_node, high) =
-            let inside : led_there.0 ≤ length j.front = le_trans led_there.3 (seen_grown c loaded.later).longer in
+            let inside : led_there.0 ≤ length j.front = le_trans led_there.3 (seen_grown c later).longer in
             let past : led_there.0 ≤ c.past.now = le_trans led_there.3 (seen_within lawful before) in
             let st = stands_in c k led_there.4 in
             let p = shape ((heap_of c.words).nodes n).page in

@@ -13,7 +13,7 @@ ghost use Rattle.rowex_reading.specs.Lookups.{HasFound, HasSearched};
 ghost use Rattle.rowex_reading.specs.Reads.{IsReader, Looks, Reads};
 ghost use Rattle.rowex_reading.specs.Seen.{IsLedTo, Sure};
 
-use crate::reading::{load_entry, load_head, load_root, load_value};
+use crate::reading::{find_place, load_entry, load_root, load_value};
 use compound_node::Entry;
 use key_bits::Key;
 use rowex_core::{Gate, Rec};
@@ -130,10 +130,7 @@ fn place_in<G: Gate>(
 {
     match turn {
         Some(turn) if turn.number == number => turn.place,
-        _ => {
-            let head = load_head(table, seat, gate, number);
-            head.search(key)
-        }
+        _ => find_place(table, seat, gate, number, key),
     }
 }
 
@@ -183,8 +180,7 @@ fn turn_at<G: Gate>(
 {
     match tip {
         Some(Entry::Node { number, .. }) => {
-            let head = load_head(table, seat, gate, number);
-            let place = head.search(key);
+            let place = find_place(table, seat, gate, number, key);
             Some(Turn { number, place })
         }
         _ => None,

@@ -4,7 +4,7 @@ ghost use Rattle.std.specs.Prelude.{IsSome};
 ghost use Rattle.rowex_table.specs.Seats.{IsSeatOf};
 ghost use Rattle.rowex_reading.specs.Lookups.{HasFound, HasSearched};
 
-use crate::reading::{load_entry, load_head, load_root, load_value};
+use crate::reading::{find_place, load_entry, load_root, load_value};
 use compound_node::Entry;
 use key_bits::Key;
 use rowex_core::Gate;
@@ -27,8 +27,7 @@ pub fn look_up<G: Gate>(
         match entry {
             Entry::Leaf(number) => return load_value(table, seat, gate, number, key),
             Entry::Node { number, .. } => {
-                let head = load_head(table, seat, gate, number);
-                let place = head.search(key);
+                let place = find_place(table, seat, gate, number, key);
                 entry = load_entry(table, seat, gate, number, place);
             }
         }

@@ -12,12 +12,14 @@ ghost use Rattle.rowex_reading.specs.Seen.{Sure, RootIs, IsCompared, IsLedTo, Ha
 ghost use Rattle.moments.specs.declared.Rec.TheVariants.{Leaf as a_leaf, Node as a_node};
 ghost use Rattle.rowex_table.specs.Rule.{IsStartOf};
 ghost use Rattle.rowex_table.specs.Seats.{IsSeatOf};
+ghost use Rattle.tries.specs.Place.{spot};
+ghost use Rattle.tries.specs.Tree.{Page};
 
 use compound_node::{Entry, Head};
 use key_bits::{Key, MAX_BYTES};
 use record_words::{
     FIRST_ROWS, HEAD_WORDS, key_word_at, key_words, position_words, read_entry, read_head,
-    read_some, row_words, write_word,
+    read_some, row_words, search_words, write_word,
 };
 use rowex_core::{Gate, Rec, Spot};
 use rowex_table::{HotTable, TableSeat};
@@ -60,6 +62,31 @@ pub fn load_head<G: Gate>(table: &HotTable, seat: &mut TableSeat, gate: &mut G, 
         words[index] = table.load_fixed_from(seat, gate, rec, start, index as u8 + 1);
     }
     read_head(&words)
+}
+
+/// The place in a node to which the key's bits lead: loads all words of its head, and searches them as they stand. Which words have
+/// positions and sparse partial keys is not asked first, so nothing waits for the numbers, and the loads are as many in each node.
+#[inline(always)]
+pub fn find_place<G: Gate>(
+    table: &HotTable,
+    seat: &mut TableSeat,
+    gate: &mut G,
+    number: u32,
+    key: &Key,
+) -> u8
+    requires reader { IsReader table.now seat.old }
+    requires led { (m h : ℕ) × IsLedTo seat.old.known m (NodeEntry number h) }
+    ensures reads { Reads table.now G.becomes 0 HEAD_WORDS (seat.old, gate.old) (seat.new, gate.new) }
+    ensures place { (m h : ℕ) → IsLedTo seat.old.known m (NodeEntry number h) →
+        (forks : Page) × Sure seat.new.known (λ s. IsShaped s m number forks) × (result ≡ spot key.now forks) }
+{
+    let rec = Rec::Node(number);
+    let start = table.start_of(rec);
+    let mut words = [0; HEAD_WORDS];
+    for index in 0..HEAD_WORDS {
+        words[index] = table.load_fixed_from(seat, gate, rec, start, index as u8 + 1);
+    }
+    search_words(&words, key)
 }
 
 /// Loads the entry of a node at a place that the node has.

@@ -1,11 +1,11 @@
 -- The node has the forks still that were read, or they have been read anew.
-use Rattle.std.proofs.Common.{subst, sym}
+use Rattle.std.proofs.Common.{le_refl, subst, sym}
 use Rattle.std.specs.Prelude.{IfSome}
 use Rattle.compound_node.specs.declared.entries.Entry.TheVariants.{Node}
+use Rattle.record_words.specs.declared.TheConstants.{HEAD_WORDS}
 use Rattle.rowex_walks.specs.Scan.{IsShaped}
-use Rattle.rowex_reading.specs.Seen.{IsLedTo, Sure, shape_of}
+use Rattle.rowex_reading.specs.Seen.{IsLedTo, Sure}
 use Rattle.rowex_reading.specs.Turns.{IsTurn}
-use Rattle.rowex_reading.proofs.Seeing.{search_spot}
 use Rattle.rowex_reading.proofs.Turning.{shape_kept}
 use Rattle.rowex_reading.proofs.along.place_in.Goals as goal
 
@@ -19,7 +19,8 @@ returns-in-Some-clause-place g c = λ m h led.
       turn.place,
     )
 
+pub returns-in_default-clause-reads : goal.returns-in_default-clause-reads
+returns-in_default-clause-reads g c = (HEAD_WORDS, le_refl HEAD_WORDS, c.find_place.ensures.reads)
+
 pub returns-in_default-clause-place : goal.returns-in_default-clause-place
-returns-in_default-clause-place g c = λ m h led.
-    let e = c.load_head-head.ensures in
-    (shape_of c.load_head-head.result, (e.head m h led).1, search_spot c.load_head-head.result c.args.key.now c.search.result e.lawful c.search.ensures.leads)
+returns-in_default-clause-place g c = c.find_place.ensures.place

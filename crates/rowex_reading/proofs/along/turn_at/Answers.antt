@@ -2,14 +2,12 @@
 use Rattle.std.proofs.Common.{◌≡◌, ◌∙◌, Some, ap, subst}
 use Rattle.std.specs.Prelude.{IfSome}
 use Rattle.compound_node.specs.declared.entries.Entry.TheVariants.{Node}
-use Rattle.rowex_reading.specs.Seen.{shape_of}
 use Rattle.rowex_reading.specs.Turns.{IsWayTip}
 use Rattle.rowex_reading.proofs.Led.{led_on}
-use Rattle.rowex_reading.proofs.Seeing.{search_spot}
 use Rattle.rowex_reading.proofs.along.turn_at.Goals as goal
 
-pub load_head-head-requires-clause-led : goal.load_head-head-requires-clause-led
-load_head-head-requires-clause-led g c =
+pub find_place-place-requires-clause-led : goal.find_place-place-requires-clause-led
+find_place-place-requires-clause-led g c =
     let inner : c.in-Some-Node.field-0 ≡ Node c.in-Some-Node.number c.in-Some-Node.field-0-1 = rw c.in-Some-Node.is at c.in-Some-Node.field-0-is in
     let is : c.args.tip ≡ Some (Node c.in-Some-Node.number c.in-Some-Node.field-0-1) = c.in-Some-Node.is ∙ ap Some inner in
     let tip : IsWayTip c.args.seat.now.known (Node c.in-Some-Node.number c.in-Some-Node.field-0-1) = subst (λ z. IfSome z (IsWayTip c.args.seat.now.known)) is c.requires.tip in
@@ -20,12 +18,13 @@ returns-in-Some-Node-clause-turn g c =
     let inner : c.in-Some-Node.field-0 ≡ Node c.in-Some-Node.number c.in-Some-Node.field-0-1 = rw c.in-Some-Node.is at c.in-Some-Node.field-0-is in
     let is : c.args.tip ≡ Some (Node c.in-Some-Node.number c.in-Some-Node.field-0-1) = c.in-Some-Node.is ∙ ap Some inner in
     let tip : IsWayTip c.args.seat.now.known (Node c.in-Some-Node.number c.in-Some-Node.field-0-1) = subst (λ z. IfSome z (IsWayTip c.args.seat.now.known)) is c.requires.tip in
-    let e = c.load_head-head.ensures in
+    let e = c.find_place-place.ensures in
+    let p = e.place tip.0 c.in-Some-Node.field-0-1 tip.1 in
     record {
       since = tip.0;
       height = c.in-Some-Node.field-0-1;
-      forks = shape_of c.load_head-head.result;
+      forks = p.0;
       led = led_on tip.0 (Node c.in-Some-Node.number c.in-Some-Node.field-0-1) e.reads tip.1;
-      shaped = (e.head tip.0 c.in-Some-Node.field-0-1 tip.1).1;
-      place = search_spot c.load_head-head.result c.args.key.now c.search-place.result e.lawful c.search-place.ensures.leads;
+      shaped = p.1;
+      place = p.2;
     }

@@ -1,10 +1,10 @@
 -- The empty root, the root's entry, one node down, and the leaf.
-use Rattle.std.proofs.Common.{◌<◌, sym, subst}
+use Rattle.std.proofs.Common.{◌<◌, le_refl, sym, subst}
 use Rattle.compound_node.specs.Nodes.{height_of}
 use Rattle.rowex_reading.specs.Seen.{since}
-use Rattle.rowex_reading.proofs.Looking.{none_searched, none_found, at_root, at_led, at_place, at_next, leaf_searched, leaf_found}
+use Rattle.rowex_reading.proofs.Looking.{none_searched, none_found, at_root, at_led, place_of, next_of, leaf_searched, leaf_found}
 use Rattle.rowex_reading.proofs.Led.{reader_then, root_reader}
-use Rattle.rowex_reading.proofs.Seeing.{search_spot}
+use Rattle.record_words.specs.declared.TheConstants.{HEAD_WORDS}
 use Rattle.rowex_reading.proofs.lookup.look_up.Goals as goal
 
 pub returns-in_err-entry-clause-found : goal.returns-in_err-entry-clause-found
@@ -16,40 +16,43 @@ returns-in_err-entry-clause-searched g c = none_searched c.load_root.ensures.rea
 pub loop-entry-init : goal.loop-entry-init
 loop-entry-init g c =
     let r = c.load_root.ensures.reads in
-    record { reader = root_reader c.requires.own r; at = at_root r c.requires.pinned _ c.in_ok-entry.entry c.in_ok-entry.ensures.low c.in_ok-entry.ensures.root }
+    record {
+      reader = root_reader c.requires.own r;
+      at = at_root r c.requires.pinned _ c.in_ok-entry.entry c.in_ok-entry.ensures.low c.in_ok-entry.ensures.root;
+    }
 
-pub load_head-head-requires-clause-led : goal.load_head-head-requires-clause-led
-load_head-head-requires-clause-led g c = (since c.loop-entry.seat.known, c.in-Node.height, at_led c.loop-entry.invariant.at _ c.in-Node.is)
+pub find_place-place-requires-clause-reader : goal.find_place-place-requires-clause-reader
+find_place-place-requires-clause-reader g c = c.loop-entry.invariant.reader
+
+pub find_place-place-requires-clause-led : goal.find_place-place-requires-clause-led
+find_place-place-requires-clause-led g c = (since c.loop-entry.seat.known, c.in-Node.height, at_led c.loop-entry.invariant.at _ c.in-Node.is)
 
 pub load_entry-entry-requires-clause-reader : goal.load_entry-entry-requires-clause-reader
-load_entry-entry-requires-clause-reader g c = reader_then c.loop-entry.invariant.reader c.load_head-head.ensures.reads
+load_entry-entry-requires-clause-reader g c = reader_then c.loop-entry.invariant.reader c.find_place-place.ensures.reads
 
 pub load_entry-entry-requires-clause-place : goal.load_entry-entry-requires-clause-place
 load_entry-entry-requires-clause-place g c =
-    let leads = search_spot c.load_head-head.result c.args.key.now c.search-place.result c.load_head-head.ensures.lawful c.search-place.ensures.leads in
-    let e = c.load_head-head.ensures in (
-      since c.loop-entry.seat.known,
-      c.in-Node.height,
-      at_place c.loop-entry.invariant.at c.in-Node.number c.in-Node.height c.load_head-head.result c.search-place.result c.in-Node.is e.few e.reads e.head leads,
-    )
+    let i = c.loop-entry.invariant in let e = c.find_place-place.ensures in let m = since c.loop-entry.seat.known in
+    let p = e.place m c.in-Node.height (at_led i.at _ c.in-Node.is) in
+    (m, c.in-Node.height, place_of i.at c.in-Node.number c.in-Node.height p.0 c.find_place-place.result c.in-Node.is (le_refl HEAD_WORDS) e.reads p.1 p.2)
 
 pub loop-entry-smaller : goal.loop-entry-smaller
 loop-entry-smaller g c =
-    let leads = search_spot c.load_head-head.result c.args.key.now c.search-place.result c.load_head-head.ensures.lawful c.search-place.ensures.leads in
-    let e = c.load_head-head.ensures in
-    let place = at_place c.loop-entry.invariant.at c.in-Node.number c.in-Node.height c.load_head-head.result c.search-place.result c.in-Node.is e.few e.reads e.head leads in
-    let entry = c.load_entry-entry.ensures.entry (since c.loop-entry.seat.known) c.in-Node.height place in
+    let i = c.loop-entry.invariant in let e = c.find_place-place.ensures in let m = since c.loop-entry.seat.known in
+    let p = e.place m c.in-Node.height (at_led i.at _ c.in-Node.is) in
+    let place = place_of i.at c.in-Node.number c.in-Node.height p.0 c.find_place-place.result c.in-Node.is (le_refl HEAD_WORDS) e.reads p.1 p.2 in
+    let entry = c.load_entry-entry.ensures.entry m c.in-Node.height place in
     subst (λ z. height_of c.load_entry-entry.result < height_of z) (sym c.in-Node.is) entry.0
 
 pub loop-entry-preserved : goal.loop-entry-preserved
 loop-entry-preserved g c =
-    let leads = search_spot c.load_head-head.result c.args.key.now c.search-place.result c.load_head-head.ensures.lawful c.search-place.ensures.leads in
-    let e = c.load_head-head.ensures in let i = c.loop-entry.invariant in
-    let place = at_place i.at c.in-Node.number c.in-Node.height c.load_head-head.result c.search-place.result c.in-Node.is e.few e.reads e.head leads in
-    let entry = c.load_entry-entry.ensures.entry (since c.loop-entry.seat.known) c.in-Node.height place in
+    let i = c.loop-entry.invariant in let e = c.find_place-place.ensures in let m = since c.loop-entry.seat.known in
+    let p = e.place m c.in-Node.height (at_led i.at _ c.in-Node.is) in
+    let place = place_of i.at c.in-Node.number c.in-Node.height p.0 c.find_place-place.result c.in-Node.is (le_refl HEAD_WORDS) e.reads p.1 p.2 in
+    let entry = c.load_entry-entry.ensures.entry m c.in-Node.height place in
     record {
       reader = reader_then (reader_then i.reader e.reads) c.load_entry-entry.ensures.reads;
-      at = at_next i.at c.in-Node.number c.in-Node.height c.load_head-head.result c.search-place.result c.in-Node.is e.few e.reads e.head leads c.load_entry-entry.result c.load_entry-entry.ensures.reads entry;
+      at = next_of i.at c.in-Node.number c.in-Node.height p.0 c.find_place-place.result c.in-Node.is (le_refl HEAD_WORDS) e.reads p.1 p.2 c.load_entry-entry.result c.load_entry-entry.ensures.reads entry;
     }
 
 pub load_value-requires-clause-led : goal.load_value-requires-clause-led

@@ -12,7 +12,7 @@ use Rattle.rowex_reading.specs.Reads.{Reads}
 use Rattle.rowex_reading.proofs.Led.{reader_then, reads_one, reads_trans}
 use Rattle.rowex_reading.proofs.Standing.{led_in_table}
 use Rattle.rowex_reading.proofs.Wording.{fewer_loaded, led_stood, next_loaded, one_loaded}
-use Rattle.rowex_reading.proofs.Heading.{IsHeadWord, HaveNumbers, first_loaded, first_long, first_numbers, first_rest, head_height, head_shaped, head_spelled, numbers_low, numbers_of}
+use Rattle.rowex_reading.proofs.Heading.{IsHeadWord, HaveNumbers, first_loaded, first_long, first_numbers, first_rest, head_height, head_shaped, head_spelled, numbers_low, numbers_of, part_loaded}
 use Rattle.rowex_core.proofs.Owning.{recalls}
 use Rattle.rowex_reading.proofs.reading.load_head.Goals as goal
 
@@ -103,7 +103,7 @@ read_head-requires g c =
     let l = c.requires.led in let i = c.loop-index-2.invariant in
     let positions : 1 + c.position_words-positions.result ≡ 1 + words_of_positions (get_or c.loop-index-2.words 0 0 / 256 % 256) = omega (arith, i.numbers_are, c.position_words-positions.ensures) in
     let rows : c.loop-index-2.index ≡ FIRST_ROWS + words_of_rows (get_or c.loop-index-2.words 0 0 % 256) = omega (arith, i.numbers_are, c.row_words-rows.ensures, c.loop-index-2-test.false, c.loop-index-2.auto.index-end) in
-    head_spelled _ _ _ c.args.number _ _ c.loop-index-2.words i.reader.1 i.loaded positions rows i.rest i.long l.0 l.1 l.2
+    head_spelled _ _ _ c.args.number c.loop-index-2.words i.reader.1 i.loaded.later (part_loaded _ _ _ c.args.number _ _ c.loop-index-2.words i.reader.1 i.loaded positions rows i.rest l.0 l.1 l.2) i.long l.0 l.1 l.2
 
 pub returns-clause-reads : goal.returns-clause-reads
 returns-clause-reads g c =
@@ -118,7 +118,8 @@ pub returns-clause-head : goal.returns-clause-head
 returns-clause-head g c = λ m h led.
     let i = c.loop-index-2.invariant in let x = i.reader.1 in
     let positions : 1 + c.position_words-positions.result ≡ 1 + words_of_positions (get_or c.loop-index-2.words 0 0 / 256 % 256) = omega (arith, i.numbers_are, c.position_words-positions.ensures) in
-    let rows : c.loop-index-2.index ≡ FIRST_ROWS + words_of_rows (get_or c.loop-index-2.words 0 0 % 256) = omega (arith, i.numbers_are, c.row_words-rows.ensures, c.loop-index-2-test.false, c.loop-index-2.auto.index-end) in (
-      head_height _ _ _ c.args.number _ _ c.loop-index-2.words x i.loaded positions rows i.rest i.long m h led c.read_head.result c.read_head.ensures x.core x.lawful (recalls x.core c.loop-index-2.seat.known x.knows),
-      head_shaped _ _ _ c.args.number _ _ c.loop-index-2.words x i.loaded positions rows i.rest i.long m h led c.read_head.result c.read_head.ensures,
+    let rows : c.loop-index-2.index ≡ FIRST_ROWS + words_of_rows (get_or c.loop-index-2.words 0 0 % 256) = omega (arith, i.numbers_are, c.row_words-rows.ensures, c.loop-index-2-test.false, c.loop-index-2.auto.index-end) in
+    let are = part_loaded _ _ _ c.args.number _ _ c.loop-index-2.words x i.loaded positions rows i.rest m h led in (
+      head_height _ _ _ c.args.number c.loop-index-2.words x i.loaded.later are i.long m h led c.read_head.result c.read_head.ensures x.core x.lawful (recalls x.core c.loop-index-2.seat.known x.knows),
+      head_shaped _ _ _ c.args.number c.loop-index-2.words x i.loaded.later are i.long m h led c.read_head.result c.read_head.ensures,
     )
