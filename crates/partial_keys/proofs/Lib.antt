@@ -1,5 +1,6 @@
 -- The lemmas of the crate.
 pub mod Putting
+pub mod Taking
 pub mod Codes
 pub mod Keeping
 pub mod Search

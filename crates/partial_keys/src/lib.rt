@@ -1,7 +1,7 @@
 //! Columns of a compound node, and the search of its sparse partial keys (Binna and others, "HOT", SIGMOD 2018).
 #![tactic(auto)]
 
-ghost use Rattle.std.specs.Prelude.{◌≡◌, ◌%◌, ◌+◌, ◌-◌, ◌++◌, ◌<◌, ◌≤◌, drop, insert, length, map, replicate, slice_index, take};
+ghost use Rattle.std.specs.Prelude.{◌≡◌, ◌%◌, ◌+◌, ◌-◌, ◌++◌, ◌∷◌, ◌<◌, ◌≤◌, drop, insert, length, map, remove, replicate, slice_index, take};
 ghost use Rattle.pieces.specs.Kept.{kept};
 ghost use Rattle.pieces.specs.Highest.{highest};
 ghost use Rattle.pieces.specs.Positions.{front_below};
@@ -209,6 +209,18 @@ pub fn put_in<T: Copy>(places: &mut [T], count: usize, at: usize, element: T)
         places[i] = moved;
         moved = next;
     }
+}
+
+/// Takes an element out of the first `count`: those behind it move down by one, and `fill` comes behind them.
+pub fn take_out<T: Copy>(places: &mut [T], count: usize, at: usize, fill: T)
+    requires place { at < count }
+    requires room { count ≤ length places.old }
+    ensures { places.new ≡ remove (take count places.old) at ++ fill ∷ drop count places.old }
+{
+    for i in at..count - 1 {
+        places[i] = places[i + 1];
+    }
+    places[count - 1] = fill;
 }
 
 /// Keeps of the first `count` positions those j whose bit 31-j is set in `used`, in front of unused places, and answers how
