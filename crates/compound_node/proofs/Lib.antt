@@ -9,3 +9,5 @@ pub mod Sides
 pub mod Removing
 pub mod Roots
 pub mod Forked
+pub mod Clearing
+pub mod Taken

@@ -1,12 +1,18 @@
 //! Nodes without their entries.
 
+ghost use Rattle.std.specs.List.{All};
 ghost use Rattle.std.specs.Prelude.{◌≡◌, ◌↔◌, ◌<◌, ◌≤◌, ◌++◌, IsTrue, drop, false, if◌then◌else◌, length, map, take};
 ghost use Rattle.compound_node.specs.Nodes.{FitsWords};
 ghost use Rattle.partial_keys.specs.Columns.{IsColumns};
 ghost use Rattle.partial_keys.specs.Spread.{spread_row};
+ghost use Rattle.partial_keys.specs.Squeezed.{IsRowOver, or_all, squeezed, used_bits};
+ghost use Rattle.pieces.specs.Kept.{kept};
 ghost use Rattle.pieces.specs.Positions.{front_below, has, with_position};
 
-use super::rows::{are_sparse_keys, fork_rows, is_padded, padded, run_end, run_start, spread_all};
+use super::rows::{
+    are_sparse_keys, fork_rows, is_padded, joined, padded, run_end, run_start, spread_all,
+    squeeze_all, take_row,
+};
 use key_bits::Key;
 use partial_keys::{Columns, search_lanes};
 use std::marker::Model;
@@ -33,13 +39,13 @@ impl Model for Head {
 }
 
 impl Head {
-    ghost use Rattle.std.specs.Prelude.{◌≡◌, ℕ, ◌↔◌, ◌+◌, ◌<◌, ◌≤◌, IsSome, IfSome, if◌then◌else◌, insert, length, slice_index, take};
+    ghost use Rattle.std.specs.Prelude.{◌≡◌, ℕ, ◌↔◌, ◌+◌, ◌<◌, ◌≤◌, IsSome, IfSome, if◌then◌else◌, insert, length, remove, slice_index, take};
     ghost use Rattle.compound_node.specs.Forking.{forked_head};
-    ghost use Rattle.compound_node.specs.Nodes.{AgreeBefore, InEachNode, IsBuiltFrom, IsHead, IsLawfulNode, NodeView, head_of, leaves, node_of, piece};
+    ghost use Rattle.compound_node.specs.Nodes.{AgreeBefore, InEachNode, IsBuiltFrom, IsHead, IsLawfulNode, NodeView, greatest_height, head_of, leaves, node_of, piece};
     ghost use Rattle.compound_node.specs.declared.entries.Entry.TheVariants.{Leaf as LeafEntry};
     ghost use Rattle.key_bits.specs.Bits.{bit_of};
     ghost use Rattle.partial_keys.specs.Rows.{with_unused};
-    ghost use Rattle.pieces.specs.Changes.{AtRootFork};
+    ghost use Rattle.pieces.specs.Changes.{AtRootFork, without};
     ghost use Rattle.pieces.specs.Growth.{IsAffected, affected_count, affected_first, grown};
     ghost use Rattle.pieces.specs.Piece.{leads_to};
 
@@ -167,6 +173,21 @@ impl Head {
         self.add(1, position, first as usize, last as usize, bit);
     }
 
+    /// Takes the entry at a place out, as `Node::without` does, of a node with more than two; the height is this one then.
+    pub fn take_out(&mut self, at: u8, height: u16)
+        requires several { 2 < length self.old.rows }
+        requires in_range { at < length self.old.rows }
+        requires height { 0 < height }
+        ensures { InEachNode self.old (λ node. height ≡ 1 + greatest_height (remove node.entries at) →
+            IsBuiltFrom (node_of self.new (remove node.entries at)) (without at (piece node))) }
+    {
+        let count = self.count as usize;
+        take_row(&mut self.sparse, count, at as usize);
+        drop_unused(&mut self.columns, &mut self.sparse, count - 1);
+        self.count -= 1;
+        self.height = height;
+    }
+
     pub(crate) fn copy(&self) -> Head
         ensures { result ≡ self.now }
     {
@@ -225,6 +246,22 @@ fn make_column(columns: &mut Columns, rows: &mut [u32; 32], count: usize, positi
         spread_all(rows, count, below);
     }
     below
+}
+
+/// Drops the columns in which each of the first `count` rows has 0.
+fn drop_unused(columns: &mut Columns, rows: &mut [u32; 32], count: usize)
+    requires columns { length columns.old ≤ 31 }
+    requires few { count ≤ 32 }
+    requires some { 0 < length (kept (used_bits (or_all (take count rows.old))) columns.old) }
+    requires used { IsRowOver (length columns.old) (or_all (take count rows.old)) }
+    requires rows { All (IsRowOver (length columns.old)) (take count rows.old) }
+    ensures columns { columns.new ≡ kept (used_bits (or_all (take count rows.old))) columns.old }
+    ensures rows { rows.new ≡ map (squeezed (or_all (take count rows.old))) (take count rows.old) ++ drop count rows.old }
+{
+    let used = joined(&rows[..count]);
+    let before = columns.count();
+    columns.drop_unused(used);
+    squeeze_all(&mut rows[..count], used, before);
 }
 
 /// Whether a head of some height has these fields.

@@ -1,7 +1,7 @@
 //! Sparse partial keys as rows of 32 bits, the column of the lowest position as the highest bit.
 
 ghost use Rattle.std.specs.List.{All};
-ghost use Rattle.std.specs.Prelude.{◌≡◌, ◌+◌, ◌-◌, ◌%◌, ◌^◌, ◌<◌, ◌≤◌, ◌↔◌, ◌++◌, IsTrue, drop, map, length, take, bit_or};
+ghost use Rattle.std.specs.Prelude.{◌≡◌, ◌+◌, ◌-◌, ◌%◌, ◌^◌, ◌<◌, ◌≤◌, ◌↔◌, ◌++◌, ◌∷◌, IsTrue, drop, map, length, take, bit_or};
 ghost use Rattle.arrayvec.specs.ArrayVec.{array_vec_len};
 ghost use Rattle.partial_keys.specs.Rows.{with_unused};
 ghost use Rattle.partial_keys.specs.Runs.{agree_in, IsRunStart, IsRunEnd};
@@ -13,7 +13,7 @@ ghost use Rattle.compound_node.specs.Ladders.{AreSparseKeys, IsLadder};
 ghost use Rattle.compound_node.specs.Removal.{lowest, bit_after, cleared_front, removed_row};
 
 use arrayvec::ArrayVec;
-use partial_keys::put_in;
+use partial_keys::{put_in, take_out};
 
 /// The rows, with the unused places filled.
 pub(crate) fn padded(rows: &[u32]) -> [u32; 32]
@@ -295,4 +295,31 @@ pub(crate) fn without_row(rows: &[u32], at: usize) -> ArrayVec<u32, 32>
     append(&mut out, &rows[..at]);
     append_cleared(&mut out, &rows[at + 1..], sibling_bit(rows, at));
     out
+}
+
+/// Takes a bit from the rows from `first` up to `end`, as far as they have it.
+fn clear_front(rows: &mut [u32; 32], first: usize, end: usize, bit: u32)
+    requires ordered { first ≤ end }
+    requires in_range { end ≤ 32 }
+    ensures { rows.new ≡ edited first (end - first) (cleared_front bit) rows.old }
+{
+    for i in first..end {
+        let found = rows[i] & bit;
+        if found == 0 {
+            return;
+        }
+        rows[i] -= found;
+    }
+}
+
+/// Takes row `at` out of the first `count`, as `without_row` does.
+pub(crate) fn take_row(rows: &mut [u32; 32], count: usize, at: usize)
+    requires ladder { IsLadder (take count rows.old) }
+    requires room { count ≤ 32 }
+    requires in_range { at < count }
+    ensures { rows.new ≡ removed_row at (take count rows.old) ++ 4294967295 ∷ drop count rows.old }
+{
+    let bit = sibling_bit(&rows[..count], at);
+    clear_front(rows, at + 1, count, bit);
+    take_out(rows, count, at, u32::MAX);
 }
