@@ -1,6 +1,7 @@
 -- The lemmas of the crate.
 pub mod Bytes
 pub mod Lanes
+pub mod Dropping
 pub mod Entries
 pub mod Fixing
 pub mod Growing

@@ -1,10 +1,10 @@
 -- The words of a node record.
-use Rattle.std.specs.Prelude.{ℕ, ◌≡◌, ◌<◌, ◌≤◌, ◌++◌, List, length, map, slice_get}
-use Rattle.std.specs.List.{range_with_len}
+use Rattle.std.specs.List.{All, range_with_len}
+use Rattle.std.specs.Prelude.{ℕ, ◌≡◌, ◌<◌, ◌≤◌, ◌++◌, List, Option, Some, None, length, map, slice_get}
 use Rattle.compound_node.specs.declared.entries.Entry.{Entry}
-use Rattle.compound_node.specs.Nodes.{NodeView, HeadView, IsBuiltFrom, IsLawfulNode, head_of, piece}
+use Rattle.compound_node.specs.Nodes.{NodeView, HeadView, IsBuiltFrom, IsEntry, IsLawfulNode, StandsBelow, head_of, piece}
 use Rattle.pieces.specs.Growth.{IsAffected}
-use Rattle.pieces.specs.Piece.{Piece}
+use Rattle.pieces.specs.Piece.{Piece, Place}
 use Rattle.record_words.specs.Entry.{HasEntryWord, entry_word}
 use Rattle.record_words.specs.Packed.{fixed_words}
 use Rattle.record_words.specs.declared.TheConstants.{MAX_ENTRIES}
@@ -57,3 +57,15 @@ pub record SpellBuilt (words : List ℕ) (shown : Piece Entry) : Type 0 where
   pub has : HasNodeWords node
   pub spells : node_words node ≡ words
   pub built : IsBuiltFrom node shown
+
+-- ---- words that lose an entry
+-- the words are those of these entries, all of which can stand in a node of this height
+pub record SpellEntries (height : ℕ) (words : List ℕ) (entries : List Entry) : Type 0 where
+  pub spells : map (λ entry. entry_word (Some entry)) entries ≡ words
+  pub each : All (λ entry. HasEntryWord (Some entry)) entries
+  pub stand : All (StandsBelow height) entries
+
+-- what is left of a node: the one entry, or a node that was built anew and that the words spell
+abbrev pub SpellLeft : List ℕ → Option Entry → Piece Entry → Type 0
+SpellLeft words (Some entry) shown = (shown ≡ Place entry) × IsEntry entry
+SpellLeft words None shown = SpellBuilt words shown

@@ -15,7 +15,7 @@ use key_bits::MAX_BYTES;
 pub use layout::{Layout, LayoutFault, LeafClass, Location, Stock};
 pub use leaf::{key_word_at, key_words, pack_leaf, words_for, write_word};
 pub use node::{
-    add_leaf, can_take_leaf, pack_node, position_words, read_head, read_node, row_words,
+    add_leaf, can_take_leaf, drop_entry, pack_node, position_words, read_head, read_node, row_words,
 };
 pub use search::search_words;
 pub use state::{Tag, pack_state, unpack_state};

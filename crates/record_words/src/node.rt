@@ -1,20 +1,24 @@
 //! The words of a node record.
 
-ghost use Rattle.std.specs.Prelude.{◌≡◌, ◌↔◌, ◌<◌, ◌/◌, ◌%◌, ◌++◌, IsTrue, drop, length, slice_get};
-ghost use Rattle.compound_node.specs.Nodes.{NodeView, piece};
+ghost use Rattle.std.specs.Prelude.{◌≡◌, ◌↔◌, ◌+◌, ◌<◌, ◌/◌, ◌%◌, ◌++◌, IsTrue, List, drop, length, slice_get};
+ghost use Rattle.compound_node.specs.Nodes.{NodeView, greatest_height, piece};
 ghost use Rattle.compound_node.specs.declared.entries.Entry.TheVariants.{Leaf as LeafEntry};
+ghost use Rattle.key_bits.specs.Bits.{bit_of};
+ghost use Rattle.pieces.specs.Changes.{without};
 ghost use Rattle.pieces.specs.Growth.{grown};
+ghost use Rattle.pieces.specs.Piece.{leads_to};
 ghost use Rattle.record_words.specs.Entry.{HasEntryWord, entry_word};
-ghost use Rattle.record_words.specs.Node.{CanTakeLeaf, HasHeadWords, HasNodeWords, CanGrowAt, SpellBuilt, head_words, node_words};
+ghost use Rattle.record_words.specs.Node.{CanTakeLeaf, HasHeadWords, HasNodeWords, CanGrowAt, SpellBuilt, SpellEntries, SpellLeft, head_words, node_words};
 ghost use Rattle.record_words.specs.Packed.{fixed_words, words_of_positions, words_of_rows};
 ghost use Rattle.record_words.specs.Reading.{IsSpelledBy, IsSpelling};
 
 use crate::entry::{pack_entry, read_some};
 use crate::fixed::{read_places, read_rows, word_of_numbers, word_of_places, word_of_rows};
-use crate::{FIRST_ROWS, HEAD_WORDS, MAX_ENTRIES, NODE_FIELDS};
+use crate::{FIRST_ROWS, HEAD_WORDS, HEIGHT_BIT, MAX_ENTRIES, NODE_FIELDS};
 use arrayvec::ArrayVec;
 use compound_node::{Entry, Head, Node};
-use partial_keys::{Columns, put_in};
+use key_bits::Key;
+use partial_keys::{Columns, put_in, take_out};
 
 /// The words of a node record from offset 1 on.
 pub fn pack_node(node: &Node) -> [u64; NODE_FIELDS]
@@ -94,6 +98,47 @@ pub fn add_leaf(
         head.places(),
     );
     put_in(words, end, at, pack_entry(Some(Entry::Leaf(leaf))));
+}
+
+/// Makes the words those of the node without the entry to which the key's bits lead, and without the last fork on its path. Of two
+/// entries the other one is the answer, and the words stay.
+pub fn drop_entry(words: &mut [u64; NODE_FIELDS], key: &Key) -> Option<Entry>
+    requires { IsSpelling HasNodeWords node_words words.old }
+    ensures { (node : NodeView) → HasNodeWords node → node_words node ≡ words.old →
+        SpellLeft words.new result (without (leads_to (bit_of key.now) (piece node)) (piece node)) }
+{
+    let mut head = head_of_words(&words[..HEAD_WORDS]);
+    let at = head.search(key);
+    if head.count() == 2 {
+        return Some(read_some(words[HEAD_WORDS + 1 - at as usize]));
+    }
+    let last = HEAD_WORDS + head.count() as usize - 1;
+    take_out(words, last + 1, HEAD_WORDS + at as usize, 0);
+    let height = height_over(&words[HEAD_WORDS..last], head.height());
+    head.take_out(at, height);
+    put_head(
+        words,
+        head.count(),
+        head.height(),
+        head.columns(),
+        head.places(),
+    );
+    None
+}
+
+/// The height of a new node over the entries with these words, all of which stood in a node of this height.
+fn height_over(words: &[u64], height: u16) -> u16
+    requires { (entries : List Entry) × SpellEntries height words.now entries }
+    ensures { (entries : List Entry) → SpellEntries height words.now entries → result ≡ 1 + greatest_height entries }
+{
+    if height == 1 {
+        return 1;
+    }
+    let mut greatest = 0;
+    for i in (0..words.len()).rev() {
+        greatest = (words[i] >> HEIGHT_BIT).max(greatest);
+    }
+    1 + greatest as u16
 }
 
 /// How many words of a head have positions, by its first word; the words between them and the first with sparse partial keys
