@@ -1,9 +1,8 @@
 -- One level up.
 use Rattle.std.proofs.Common.{◌≡◌, ℕ, ◌<◌, ◌≤◌, ◌+◌, List, [], ◌∷◌, ◌++◌, refl, sym, ap, ap₂, subst, ◌∙◌, arith, Option, Some, None, Bool, true, false, inl, inr, ◌⊎◌, append_assoc}
 use Rattle.std.specs.Prelude.{MatchOption, IfSome, IsTrue, ◌↔◌, slice_get, length, map, drop, take}
-use Rattle.std.proofs.lemmas.List.{append-nil, drop-append-le, drop-take, length-take-le, map-append, take_more}
+use Rattle.std.proofs.lemmas.List.{drop-append-le, drop-take, length-take-le, map-append, take_more}
 use Rattle.std.proofs.lemmas.Option.{get_or_from_slice_get, slice_get_within}
-use Rattle.compound_node.specs.Halves.{HalfShows}
 use Rattle.compound_node.specs.Nodes.{NodeView, piece, height_of, IsBuiltFrom}
 use Rattle.record_words.specs.Node.{HasNodeWords}
 use Rattle.compound_node.specs.declared.entries.Entry.{Entry}
@@ -23,7 +22,7 @@ use Rattle.tries.proofs.Building.{size-piece}
 use Rattle.tries.specs.Affected.{page_grown}
 use Rattle.tries.specs.Content.{Item}
 use Rattle.tries.specs.Keys.{Key}
-use Rattle.tries.specs.Place.{with_page, page_without}
+use Rattle.tries.specs.Place.{with_page}
 use Rattle.tries.specs.Tree.{Page}
 use Rattle.moments.specs.Heap.{NodeWords}
 use Rattle.moments.specs.Trades.{IsOf}
@@ -44,7 +43,7 @@ use Rattle.rowex_writing.specs.Remaking.{IsTreePage, AffectsJust, IsLowHalf, IsN
 use Rattle.rowex_writing.specs.declared.remaking.NewLeaf.{NewLeaf}
 use Rattle.rowex_writing.proofs.Remade.{built_low}
 use Rattle.rowex_writing.proofs.Making.{building_on}
-use Rattle.rowex_writing.proofs.Raising.{rises_made, rises_kept, side_made}
+use Rattle.rowex_writing.proofs.Raising.{rises_made, rises_kept}
 use Rattle.rowex_writing.proofs.Locking.{goes_more}
 use Rattle.rowex_writing.proofs.Staging.{risen_page}
 use Rattle.insert_cases.proofs.Pairs.{IsPairOf, pair_facts}
@@ -238,21 +237,17 @@ pub grown_for : {view node : NodeView} → view ≡ node → (number : ℕ) (new
 grown_for same number new risen stays before after grown = subst (λ v. IsGrownFrom (Node number v.height) v (page_with new (piece v)) new.position risen stays before after) same grown
 
 -- ---- without a leaf
-pub left_over : {G : Type 0} (table : TableView) (becomes : G → Event → G → Type 0) (a m c : SeatView × G) (after_made : List Rec) (key : Key) (words : List ℕ) (node : NodeView) (half : Half) (old : Entry) (answer : Option Entry) →
-    WorksOn table becomes a m → IsNodeOf words node → HalfShows half (page_without key (piece node)) →
-    MatchOption answer (HasNotMade table c.0 after_made) (λ e. (more : List Made) × IsHalfMade old half e more × IsBuilding table c.0 after_made (more ++ [])) →
-    MatchOption answer (HasNotMade table c.0 after_made) (λ e. (news : List Made) × IsSide (page_without key (node_words_of words).page) e news × IsBuilding table c.0 after_made news)
-left_over table becomes a m c after_made key words node half old None goes is shows made = made
-left_over table becomes a m c after_made key words node half old (Some e) goes is shows (more, half_made, building) = (
-  more,
-  subst (λ y. IsSide (page_without key y) e more) (sym (ap (λ (z : NodeWords). z.page) is.shows)) (side_made old e half (page_without key (piece node)) more shows half_made),
-  subst (IsBuilding table c.0 after_made) (append-nil more) building,
-)
+pub left_over : (table : TableView) (c : SeatView) (after_made : List Rec) (shown : Page) (view : NodeView) (answer : Option Entry) → IsBuiltFrom view shown → HasNodeWords view →
+    MatchOption answer (HasNotMade table c after_made) (λ e. (m : ℕ) × (e ≡ Node m view.height) × IsBuilding table c after_made (of_view m view ∷ [])) →
+    MatchOption answer (HasNotMade table c after_made) (λ e. (news : List Made) × IsSide shown e news × IsBuilding table c after_made news)
+left_over table c after_made shown view None built has made = made
+left_over table c after_made shown view (Some e) built has (m, is, building) =
+    (of_view m view ∷ [], subst (λ z. IsSide shown z (of_view m view ∷ [])) (sym is) (anew m view (has, built.height_is) built.shows_it), building)
 
-pub left_low : (words : List ℕ) (node : NodeView) (old : Entry) (half : Half) (answer : Option Entry) (None_made : Type 0) (Q : List Made → Type 0) → IsNodeOf words node → height_of old ≡ node.height → IsLowHalf node.height half →
-    MatchOption answer None_made (λ e. (more : List Made) × IsHalfMade old half e more × Q more) → IfSome answer (λ e. height_of e ≤ (node_words_of words).fixed.height)
-left_low words node old half None none Q is tall low made = tt
-left_low words node old half (Some e) none Q is tall low (more, made, rest) = let same = ap (λ (z : NodeWords). z.fixed.height) is.shows in omega (arith, half_made_low old node.height half e more tall low made)
+pub left_low : (view : NodeView) (height : ℕ) (answer : Option Entry) (None_made : Type 0) (Q : ℕ → Type 0) → view.height ≤ height → MatchOption answer None_made (λ e. (m : ℕ) × (e ≡ Node m view.height) × Q m) →
+    IfSome answer (λ e. height_of e ≤ height)
+left_low view height None none Q low made = tt
+left_low view height (Some e) none Q low (m, is, rest) = let same = ap height_of is in omega (arith, low)
 
 -- ---- a pair
 pub paired : (table : TableView) (a c : SeatView) (after_made : List Rec) (news : List Made) (view : NodeView) (shown : Page) (answer : Option Entry) → IsBuiltFrom view shown →

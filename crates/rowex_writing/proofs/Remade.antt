@@ -1,11 +1,12 @@
 -- What the page of a lawful tree tells of the fork that it got, and how high the nodes of a page are.
-use Rattle.std.proofs.Common.{◌≡◌, inl, inr, ℕ, suc, ◌+◌, ◌*◌, ◌<◌, ◌≤◌, Bool, true, false, List, [], ◌∷◌, ◌++◌, max, ap, sym, ◌∙◌, subst, arith, if◌then◌else◌, nat_lt}
+use Rattle.std.proofs.Common.{◌≡◌, inl, inr, ℕ, suc, Option, ◌+◌, ◌*◌, ◌<◌, ◌≤◌, Bool, true, false, List, [], ◌∷◌, ◌++◌, max, ap, sym, ◌∙◌, subst, arith, if◌then◌else◌, nat_lt}
 use Rattle.std.specs.Prelude.{All}
 use Rattle.key_bits.specs.Bits.{bit_of}
 use Rattle.key_bits.specs.declared.TheConstants.{MAX_BYTES}
 use Rattle.pieces.specs.Grafts.{IsAbovePath}
 use Rattle.pieces.specs.Growth.{affected_first, affected_count, grown, IsAffected, IsFresh}
-use Rattle.pieces.specs.Piece.{Place, Fork, places, size}
+use Rattle.pieces.specs.Changes.{without}
+use Rattle.pieces.specs.Piece.{Place, Fork, leads_to, places, size}
 use Rattle.pieces.proofs.Affected.{affected_again}
 use Rattle.compound_node.specs.Halves.{HalfShows}
 use Rattle.compound_node.specs.Nodes.{NodeView, piece, IsLawfulNode, IsBuiltFrom, IsEntry, height_of, greatest_height}
@@ -19,9 +20,9 @@ use Rattle.tries.specs.Keys.{Key, bit}
 use Rattle.tries.specs.Place.{spot, with_page, joined, page_without}
 use Rattle.tries.specs.Tree.{Page, Tree, fork, page, IsTrie, Within, here, zero_side, one_side}
 use Rattle.tries.proofs.Building.{bit_below, greatest-append}
-use Rattle.tries.proofs.Places.{spot_below}
+use Rattle.tries.proofs.Places.{leads_spot, spot_below}
 use Rattle.tries.proofs.Ranges.{has_key}
-use Rattle.tries.proofs.Spots.{path_low, path_high}
+use Rattle.tries.proofs.Spots.{path_low, path_high, without_spot}
 use Rattle.tries.proofs.Tries.{has_first, rises, trie_within, built_within}
 use Rattle.insert_cases.specs.Grown.{GrownShows, SidesShow}
 use Rattle.insert_cases.specs.declared.growth.Grown.{Grown}
@@ -30,7 +31,7 @@ use Rattle.insert_cases.proofs.Affecting.{RootNot, key_part}
 use Rattle.insert_cases.proofs.Choosing.{root_not}
 use Rattle.insert_cases.proofs.Pairs.{IsPairOf, pair_facts}
 use Rattle.insert_cases.proofs.NodeFacts.{height_positive}
-use Rattle.record_words.specs.Node.{CanTakeLeaf, HasNodeWords, CanGrowAt, node_words}
+use Rattle.record_words.specs.Node.{CanTakeLeaf, HasNodeWords, CanGrowAt, SpellLeft, node_words}
 use Rattle.record_words.specs.Reading.{IsSpelledBy}
 use Rattle.rowex_writing.specs.Remaking.{IsTreePage, AffectsJust, IsLowHalf, IsNoHigher, AwaitsLeaf}
 use Rattle.rowex_writing.specs.declared.remaking.NewLeaf.{NewLeaf}
@@ -208,6 +209,13 @@ greatest_without k (Fork q x y) = go (bit k q) (greatest_without k x) (greatest_
         greatest_height (places (joined q o x y (if o then page_without k y else page_without k x))) ≤ greatest_height (places x ++ places y)
     go true f g = greatest_joined q true x y (page_without k y) g
     go false f g = greatest_joined q false x y (page_without k x) f
+
+-- what is left of a lawful node's words
+pub left_page : (k : Key) (v : NodeView) (words : List ℕ) (answer : Option Entry) → SpellLeft words answer (without (leads_to (bit_of k) (piece v)) (piece v)) → SpellLeft words answer (page_without k (piece v))
+left_page k v words answer left = subst (SpellLeft words answer) (ap (λ j. without j (piece v)) (leads_spot k (piece v)) ∙ without_spot k (piece v)) left
+
+pub left_under : (k : Key) (v : NodeView) → IsLawfulNode v → greatest_height (places (page_without k (piece v))) < v.height
+left_under k v l = omega (arith, greatest_without k (piece v), entries_under v l)
 
 -- a node that was built for a page of lower entries
 pub built_low : (v : NodeView) (part : Page) (h : ℕ) → IsBuiltFrom v part → greatest_height (places part) < h → v.height ≤ h

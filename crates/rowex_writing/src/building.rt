@@ -23,14 +23,14 @@ ghost use Rattle.rowex_writing.specs.Walks.{Spends, WalksOn};
 
 use crate::deeds::Job;
 use crate::locked::{load_words, read_locked};
-use crate::remaking::{Fork, NewLeaf, add_leaf, full_with_leaf, with_fork, without_leaf};
+use crate::remaking::{Fork, NewLeaf, add_leaf, full_with_leaf, with_fork};
 use crate::supply::Supply;
 use crate::walking::claim_node;
 use arrayvec::ArrayVec;
 use compound_node::{Entry, Half, Node};
 use insert_cases::{Grown, Risen, Step};
 use key_bits::Key;
-use record_words::{LEAF_CLASSES, NODE_FIELDS, can_take_leaf, pack_node, read_node};
+use record_words::{LEAF_CLASSES, NODE_FIELDS, can_take_leaf, drop_entry, pack_node, read_node};
 use rowex_core::{Gate, Rec};
 use rowex_records::fill_words;
 use rowex_table::{HotTable, TableSeat};
@@ -458,8 +458,8 @@ pub(crate) fn raise_grown<G: Gate>(
     Some((entry, stays))
 }
 
-/// The entry for what is left of a locked node without the leaf to which the key's search leads. Nothing where no node record was
-/// free, as in [`make_node`].
+/// The entry for what is left of a locked node without the leaf to which the key's search leads. The node's words become those of the
+/// record, so that no node is read and none is packed. Nothing where no node record was free, as in [`make_node`].
 pub(crate) fn raise_without<G: Gate>(
     table: &HotTable,
     seat: &mut TableSeat,
@@ -481,8 +481,9 @@ pub(crate) fn raise_without<G: Gate>(
     ensures walk { WalksOn table.now.layout seat.old.known build.old seat.new.known build.new result }
     ensures few { Spends level_steps seat.old.known build.old seat.new.known build.new result }
 {
-    let node = read_locked(table, seat, gate, number);
-    let half = without_leaf(&node, key);
-    let old = entry_of(number, &node);
-    make_half(table, seat, gate, build, old, &half)
+    let mut words = load_words(table, seat, gate, number);
+    if let Some(entry) = drop_entry(&mut words, key) {
+        return Some(entry);
+    }
+    make_words(table, seat, gate, build, &words)
 }

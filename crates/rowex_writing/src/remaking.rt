@@ -1,17 +1,15 @@
-//! What a node becomes: with a new leaf, with a fork in the place of an entry, or without a leaf.
+//! What a node becomes with a new leaf, or with a fork in the place of an entry.
 
 ghost use Rattle.std.specs.Prelude.{◌≡◌, ◌↔◌, ◌<◌, ◌≤◌, IsTrue, length, false};
 ghost use Rattle.pieces.specs.Changes.{AtRootFork};
 ghost use Rattle.pieces.specs.Piece.{Place as At};
-ghost use Rattle.compound_node.specs.Halves.{HalfShows};
 ghost use Rattle.compound_node.specs.Nodes.{piece, height_of, IsBuiltFrom};
 ghost use Rattle.tries.specs.Affected.{page_forked};
 ghost use Rattle.tries.specs.Keys.{bit};
-ghost use Rattle.tries.specs.Place.{page_without};
 ghost use Rattle.insert_cases.specs.Grown.{GrownShows, is_whole, keeps_node};
-ghost use Rattle.rowex_writing.specs.Remaking.{IsTreePage, AffectsJust, IsLowHalf, IsNoHigher, page_forking, page_with};
+ghost use Rattle.rowex_writing.specs.Remaking.{IsTreePage, AffectsJust, IsNoHigher, page_forking, page_with};
 
-use compound_node::{Entry, Half, Node};
+use compound_node::{Entry, Node};
 use insert_cases::{Grown, grow_full, pull_up};
 use key_bits::Key;
 
@@ -90,16 +88,6 @@ pub(crate) fn with_fork(node: &Node, fork: &Fork<'_>) -> Grown
     prove!(node.count() <= 32);
     let at = node.search(fork.key);
     pull_up(node, at, fork.position, fork.zero, fork.one)
-}
-
-/// The node without the entry to which the key's search leads.
-pub(crate) fn without_leaf(node: &Node, key: &Key) -> Half
-    ensures shows { HalfShows result (page_without key.now (piece node.now)) }
-    ensures low { IsLowHalf node.now.height result }
-{
-    prove!(node.count() <= 32);
-    let at = node.search(key);
-    node.without(at)
 }
 
 /// A node of an entry and a new leaf for the key, with a fork at the position.
