@@ -237,9 +237,44 @@ fn raise_level<G: Gate>(
     make_risen(table, seat, gate, build, old, &grown)
 }
 
+/// What [`make_grown`] makes, by a value of the node: one with room gets the leaf where it stands, so that no whole node is moved.
+fn make_by_value<G: Gate>(
+    table: &HotTable,
+    seat: &mut TableSeat,
+    gate: &mut G,
+    build: &mut Build,
+    number: u32,
+    words: &[u64; NODE_FIELDS],
+    new: &NewLeaf<'_>,
+) -> Option<(Risen, bool)>
+    requires building { (news : List Made) × IsBuilding table.now seat.old build.old.made.items news }
+    requires takes { (node : NodeView) × AwaitsLeaf words.now node new.now }
+    requires room { length build.old.made.items + 1 < MOST_MADE }
+    ensures goes { WorksOn table.now G.becomes (seat.old, gate.old) (seat.new, gate.new) }
+    ensures made { (news : List Made) (node : NodeView) → AwaitsLeaf words.now node new.now → IsBuilding table.now seat.old build.old.made.items news → MatchOption result
+        (HasNotMade table.now seat.new build.new.made.items)
+        (λ r. (after : List Made) ×
+        IsGrownFrom (Entry.Node number node.height) node (page_with new.now (piece node)) new.now.position r.0 r.1 news after ×
+        IsBuilding table.now seat.new build.new.made.items after) }
+    ensures more { length build.new.made.items ≤ length build.old.made.items + 2 }
+    ensures walk { WalksOn table.now.layout seat.old.known build.old seat.new.known build.new result }
+    ensures few { Spends (2 * node_steps) seat.old.known build.old seat.new.known build.new result }
+{
+    let mut node = read_node(words);
+    if node.count() == 32 {
+        let old = entry_of(number, &node);
+        let grown = full_with_leaf(&node, new);
+        let stays = stays_whole(&grown);
+        let risen = make_risen(table, seat, gate, build, old, &grown)?;
+        return Some((risen, stays));
+    }
+    add_leaf(&mut node, new);
+    let entry = make_node(table, seat, gate, build, &node)?;
+    Some((Risen::Whole(entry), false))
+}
+
 /// What comes in the place of the node of this record, with these words, that gets a new leaf, and whether the node stays whole. Where
-/// it has leaves alone, and room, no node is read or packed; any other with room gets the leaf where it stands, so that no whole node
-/// is moved.
+/// it has leaves alone, and room, no node is read or packed, and no place for one is made.
 fn make_grown<G: Gate>(
     table: &HotTable,
     seat: &mut TableSeat,
@@ -266,17 +301,7 @@ fn make_grown<G: Gate>(
         let entry = make_low(table, seat, gate, build, words, new)?;
         return Some((Risen::Whole(entry), false));
     }
-    let mut node = read_node(words);
-    if node.count() == 32 {
-        let old = entry_of(number, &node);
-        let grown = full_with_leaf(&node, new);
-        let stays = stays_whole(&grown);
-        let risen = make_risen(table, seat, gate, build, old, &grown)?;
-        return Some((risen, stays));
-    }
-    add_leaf(&mut node, new);
-    let entry = make_node(table, seat, gate, build, &node)?;
-    Some((Risen::Whole(entry), false))
+    make_by_value(table, seat, gate, build, number, words, new)
 }
 
 /// What comes in the place of the lowest node, which gets a new leaf; and whether the node stays whole.
@@ -301,7 +326,8 @@ fn raise_lowest<G: Gate>(
     ensures walk { WalksOn table.now.layout seat.old.known build.old seat.new.known build.new result }
     ensures few { Spends level_steps seat.old.known build.old seat.new.known build.new result }
 {
-    let mut words = load_words(table, seat, gate, number);
+    let mut words = [0; NODE_FIELDS];
+    load_words(table, seat, gate, number, &mut words);
     make_grown(table, seat, gate, build, number, &mut words, new)
 }
 
@@ -481,7 +507,8 @@ pub(crate) fn raise_without<G: Gate>(
     ensures walk { WalksOn table.now.layout seat.old.known build.old seat.new.known build.new result }
     ensures few { Spends level_steps seat.old.known build.old seat.new.known build.new result }
 {
-    let mut words = load_words(table, seat, gate, number);
+    let mut words = [0; NODE_FIELDS];
+    load_words(table, seat, gate, number, &mut words);
     if let Some(entry) = drop_entry(&mut words, key) {
         return Some(entry);
     }

@@ -1,6 +1,6 @@
 //! What a pass reads of a node that it has locked.
 
-ghost use Rattle.std.specs.Prelude.{◌≡◌, ◌<◌, ℕ, List, get_or, ◌≤◌, ◌+◌};
+ghost use Rattle.std.specs.Prelude.{◌≡◌, ◌<◌, ℕ, List, get_or, replicate, ◌≤◌, ◌+◌};
 ghost use Rattle.compound_node.specs.Nodes.{NodeView};
 ghost use Rattle.moments.specs.declared.Rec.TheVariants.{Node as a_node};
 ghost use Rattle.rowex_table.specs.Rule.{IsStartOf};
@@ -12,24 +12,25 @@ use record_words::{HEAD_WORDS, NODE_FIELDS, read_node};
 use rowex_core::{Gate, Rec};
 use rowex_table::{HotTable, TableSeat};
 
-/// The words of a node that the pass has locked, from offset 1 on: those of the lock. Those past its last entry are 0, and are not
-/// loaded.
+/// Loads the words of a node that the pass has locked, from offset 1 on: those of the lock. Those past its last entry are 0, as all of
+/// these are before, and are not loaded.
 pub(crate) fn load_words<G: Gate>(
     table: &HotTable,
     seat: &mut TableSeat,
     gate: &mut G,
     number: u32,
-) -> [u64; NODE_FIELDS]
+    words: &mut [u64; NODE_FIELDS],
+)
     requires own { IsSeatOf table.now seat.old }
     requires range { number < table.now.layout.nodes }
     requires locked { IsLockedBy seat.old.known number }
+    requires empty { words.old ≡ replicate NODE_FIELDS 0 }
     ensures reads { ReadsOn table.now G.becomes (seat.old, gate.old) (seat.new, gate.new) }
-    ensures words { (words : List ℕ) → HasLocked seat.old.known number words → result ≡ words }
-    ensures node { (view : NodeView) × IsNodeOf result view }
+    ensures words { (those : List ℕ) → HasLocked seat.old.known number those → words.new ≡ those }
+    ensures node { (view : NodeView) × IsNodeOf words.new view }
     ensures few { seat.new.known.steps ≤ seat.old.known.steps + NODE_FIELDS }
 {
     let start = table.start_of(Rec::Node(number));
-    let mut words = [0; NODE_FIELDS];
     for index in 0..HEAD_WORDS {
         words[index] = load_word(table, seat, gate, number, start, index);
     }
@@ -37,7 +38,6 @@ pub(crate) fn load_words<G: Gate>(
     for index in HEAD_WORDS..end {
         words[index] = load_word(table, seat, gate, number, start, index);
     }
-    words
 }
 
 /// The node in a record that the pass has locked.
@@ -54,7 +54,8 @@ pub(crate) fn read_locked<G: Gate>(
     ensures node { (words : List ℕ) → HasLocked seat.old.known number words → IsNodeOf words result }
     ensures few { seat.new.known.steps ≤ seat.old.known.steps + NODE_FIELDS }
 {
-    let words = load_words(table, seat, gate, number);
+    let mut words = [0; NODE_FIELDS];
+    load_words(table, seat, gate, number, &mut words);
     read_node(&words)
 }
 

@@ -11,50 +11,50 @@ use Rattle.rowex_writing.proofs.building.raise_lowest.Goals as goal
 
 pub make_grown-requires-clause-takes : goal.make_grown-requires-clause-takes
 make_grown-requires-clause-takes g c =
-    let (view, is) = c.load_words-words.ensures.node in
-    let shown = words_shown c.args.seat.now.known c.args.number c.load_words-words.ensures.words view is in (
+    let (view, is) = c.load_words.ensures.node in
+    let shown = words_shown c.args.seat.now.known c.args.number c.load_words.ensures.words view is in (
       view,
       record {
         is = is;
-        affects = low_affects _ _ c.load_words-words.ensures.reads c.requires.lowest shown;
-        tree = low_tree _ _ c.load_words-words.ensures.reads c.requires.lowest shown;
+        affects = low_affects _ _ c.load_words.ensures.reads c.requires.lowest shown;
+        tree = low_tree _ _ c.load_words.ensures.reads c.requires.lowest shown;
       },
     )
 
 pub make_grown-requires-clause-building : goal.make_grown-requires-clause-building
 make_grown-requires-clause-building g c =
-    let (view, is) = c.load_words-words.ensures.node in
-    (of_leaf c.requires.lowest.item ∷ [], low_building _ _ c.load_words-words.ensures.reads c.requires.lowest (words_shown c.args.seat.now.known c.args.number c.load_words-words.ensures.words view is))
+    let (view, is) = c.load_words.ensures.node in
+    (of_leaf c.requires.lowest.item ∷ [], low_building _ _ c.load_words.ensures.reads c.requires.lowest (words_shown c.args.seat.now.known c.args.number c.load_words.ensures.words view is))
 
 pub returns-clause-goes : goal.returns-clause-goes
-returns-clause-goes g c = goes_more c.args.table.now g.G.Gate.becomes _ _ _ c.load_words-words.ensures.reads.goes c.make_grown.ensures.goes
+returns-clause-goes g c = goes_more c.args.table.now g.G.Gate.becomes _ _ _ c.load_words.ensures.reads.goes c.make_grown.ensures.goes
 
 pub returns-clause-made : goal.returns-clause-made
 returns-clause-made g c = λ b.
-    let (view, is) = c.load_words-words.ensures.node in
-    let shown = words_shown c.args.seat.now.known c.args.number c.load_words-words.ensures.words view is in
-    let takes : AwaitsLeaf c.load_words-words.result view c.args.new.now = record {
+    let (view, is) = c.load_words.ensures.node in
+    let shown = words_shown c.args.seat.now.known c.args.number c.load_words.ensures.words view is in
+    let takes : AwaitsLeaf c.load_words.new.words view c.args.new.now = record {
       is = is;
-      affects = low_affects _ _ c.load_words-words.ensures.reads b shown;
-      tree = low_tree _ _ c.load_words-words.ensures.reads b shown;
+      affects = low_affects _ _ c.load_words.ensures.reads b shown;
+      tree = low_tree _ _ c.load_words.ensures.reads b shown;
     } in
-    lowest_made _ _ c.load_words-words.ensures.reads b shown (c.make_grown.new.seat, c.make_grown.new.gate) c.make_grown.new.build.made.items view.height refl c.make_grown.result c.make_grown.ensures.goes
-    (c.make_grown.ensures.made (of_leaf b.item ∷ []) view takes (low_building _ _ c.load_words-words.ensures.reads b shown))
+    lowest_made _ _ c.load_words.ensures.reads b shown (c.make_grown.new.seat, c.make_grown.new.gate) c.make_grown.new.build.made.items view.height refl c.make_grown.result c.make_grown.ensures.goes
+    (c.make_grown.ensures.made (of_leaf b.item ∷ []) view takes (low_building _ _ c.load_words.ensures.reads b shown))
 
 pub returns-clause-level : goal.returns-clause-level
 returns-clause-level g c = λ words h.
     let b = c.requires.lowest in
-    let (view, is) = c.load_words-words.ensures.node in
-    let shown = words_shown c.args.seat.now.known c.args.number c.load_words-words.ensures.words view is in
-    let takes : AwaitsLeaf c.load_words-words.result view c.args.new.now = record {
+    let (view, is) = c.load_words.ensures.node in
+    let shown = words_shown c.args.seat.now.known c.args.number c.load_words.ensures.words view is in
+    let takes : AwaitsLeaf c.load_words.new.words view c.args.new.now = record {
       is = is;
-      affects = low_affects _ _ c.load_words-words.ensures.reads b shown;
-      tree = low_tree _ _ c.load_words-words.ensures.reads b shown;
+      affects = low_affects _ _ c.load_words.ensures.reads b shown;
+      tree = low_tree _ _ c.load_words.ensures.reads b shown;
     } in
     leaf_level words view (Node c.args.number view.height) _ c.args.new.now.position c.make_grown.result _ (of_leaf b.item ∷ []) (IsBuilding c.args.table.now c.make_grown.new.seat c.make_grown.new.build.made.items)
-    (shown words h) refl (c.make_grown.ensures.made (of_leaf b.item ∷ []) view takes (low_building _ _ c.load_words-words.ensures.reads b shown))
+    (shown words h) refl (c.make_grown.ensures.made (of_leaf b.item ∷ []) view takes (low_building _ _ c.load_words.ensures.reads b shown))
 
 pub returns-clause-walk : goal.returns-clause-walk
 returns-clause-walk g c =
-    walks_later c.args.table.now g.G.Gate.becomes (c.args.seat.now, c.args.gate.now) (c.load_words-words.new.seat, c.load_words-words.new.gate) c.make_grown.new.seat.known c.args.build.now c.make_grown.new.build c.make_grown.result
-    c.load_words-words.ensures.reads.goes c.make_grown.ensures.walk
+    walks_later c.args.table.now g.G.Gate.becomes (c.args.seat.now, c.args.gate.now) (c.load_words.new.seat, c.load_words.new.gate) c.make_grown.new.seat.known c.args.build.now c.make_grown.new.build c.make_grown.result
+    c.load_words.ensures.reads.goes c.make_grown.ensures.walk

@@ -18,22 +18,22 @@ use Rattle.rowex_writing.proofs.Walked.{walks_later}
 use Rattle.rowex_writing.proofs.building.raise_without.Goals as goal
 
 pub drop_entry-requires : goal.drop_entry-requires
-drop_entry-requires g c = let (view, is) = c.load_words-words.ensures.node in (view, is.has, is.spells)
+drop_entry-requires g c = let (view, is) = c.load_words.ensures.node in (view, is.has, is.spells)
 
 pub returns-in-Some-clause-made : goal.returns-in-Some-clause-made
 returns-in-Some-clause-made g c = λ words h.
-    let (view, is) = c.load_words-words.ensures.node in
-    let shown = words_shown c.args.seat.now.known c.args.number c.load_words-words.ensures.words view is words h in
+    let (view, is) = c.load_words.ensures.node in
+    let shown = words_shown c.args.seat.now.known c.args.number c.load_words.ensures.words view is words h in
     let left = left_page c.args.key.now view c.drop_entry.new.words (Some c.in-Some.entry) (c.in-Some.ensures view is.has is.spells) in (
       [],
       subst (λ y. IsSide (page_without c.args.key.now y) c.in-Some.entry []) (sym (ap (λ (z : NodeWords). z.page) shown.shows)) (one c.in-Some.entry left.0),
-      building_on c.args.table.now g.G.Gate.becomes (c.args.seat.now, c.args.gate.now) (c.load_words-words.new.seat, c.load_words-words.new.gate) c.args.build.now.made.items [] c.load_words-words.ensures.reads.goes c.load_words-words.ensures.reads.own c.requires.building,
+      building_on c.args.table.now g.G.Gate.becomes (c.args.seat.now, c.args.gate.now) (c.load_words.new.seat, c.load_words.new.gate) c.args.build.now.made.items [] c.load_words.ensures.reads.goes c.load_words.ensures.reads.own c.requires.building,
     )
 
 pub returns-in-Some-clause-low : goal.returns-in-Some-clause-low
 returns-in-Some-clause-low g c = λ words h.
-    let (view, is) = c.load_words-words.ensures.node in
-    let shown = words_shown c.args.seat.now.known c.args.number c.load_words-words.ensures.words view is words h in
+    let (view, is) = c.load_words.ensures.node in
+    let shown = words_shown c.args.seat.now.known c.args.number c.load_words.ensures.words view is words h in
     let left = left_page c.args.key.now view c.drop_entry.new.words (Some c.in-Some.entry) (c.in-Some.ensures view is.has is.spells) in
     let tall = ap (λ (z : NodeWords). z.fixed.height) shown.shows in
     let alone = ap (λ (x : Page). greatest_height (places x)) left.0 in
@@ -41,30 +41,30 @@ returns-in-Some-clause-low g c = λ words h.
 
 pub returns-in-Some-clause-walk : goal.returns-in-Some-clause-walk
 returns-in-Some-clause-walk g c =
-    walks_later c.args.table.now g.G.Gate.becomes (c.args.seat.now, c.args.gate.now) (c.load_words-words.new.seat, c.load_words-words.new.gate) c.load_words-words.new.seat.known c.args.build.now c.args.build.now (Some c.in-Some.entry)
-    c.load_words-words.ensures.reads.goes (λ since w. w)
+    walks_later c.args.table.now g.G.Gate.becomes (c.args.seat.now, c.args.gate.now) (c.load_words.new.seat, c.load_words.new.gate) c.load_words.new.seat.known c.args.build.now c.args.build.now (Some c.in-Some.entry)
+    c.load_words.ensures.reads.goes (λ since w. w)
 
 pub make_words-requires-clause-building : goal.make_words-requires-clause-building
 make_words-requires-clause-building g c = (
   [],
-  building_on c.args.table.now g.G.Gate.becomes (c.args.seat.now, c.args.gate.now) (c.load_words-words.new.seat, c.load_words-words.new.gate) c.args.build.now.made.items [] c.load_words-words.ensures.reads.goes c.load_words-words.ensures.reads.own c.requires.building,
+  building_on c.args.table.now g.G.Gate.becomes (c.args.seat.now, c.args.gate.now) (c.load_words.new.seat, c.load_words.new.gate) c.args.build.now.made.items [] c.load_words.ensures.reads.goes c.load_words.ensures.reads.own c.requires.building,
 )
 
 pub make_words-requires-clause-spelling : goal.make_words-requires-clause-spelling
 make_words-requires-clause-spelling g c =
-    let (view, is) = c.load_words-words.ensures.node in
+    let (view, is) = c.load_words.ensures.node in
     let built = c.in_default.ensures view is.has is.spells in
     (built.node, built.has, built.spells)
 
 pub returns-clause-goes : goal.returns-clause-goes
-returns-clause-goes g c = goes_more c.args.table.now g.G.Gate.becomes _ _ _ c.load_words-words.ensures.reads.goes c.make_words.ensures.goes
+returns-clause-goes g c = goes_more c.args.table.now g.G.Gate.becomes _ _ _ c.load_words.ensures.reads.goes c.make_words.ensures.goes
 
 pub returns-clause-made : goal.returns-clause-made
 returns-clause-made g c = λ words h.
-    let (view, is) = c.load_words-words.ensures.node in
-    let shown = words_shown c.args.seat.now.known c.args.number c.load_words-words.ensures.words view is words h in
+    let (view, is) = c.load_words.ensures.node in
+    let shown = words_shown c.args.seat.now.known c.args.number c.load_words.ensures.words view is words h in
     let built = left_page c.args.key.now view c.drop_entry.new.words None (c.in_default.ensures view is.has is.spells) in
-    let b = building_on c.args.table.now g.G.Gate.becomes (c.args.seat.now, c.args.gate.now) (c.load_words-words.new.seat, c.load_words-words.new.gate) c.args.build.now.made.items [] c.load_words-words.ensures.reads.goes c.load_words-words.ensures.reads.own c.requires.building in
+    let b = building_on c.args.table.now g.G.Gate.becomes (c.args.seat.now, c.args.gate.now) (c.load_words.new.seat, c.load_words.new.gate) c.args.build.now.made.items [] c.load_words.ensures.reads.goes c.load_words.ensures.reads.own c.requires.building in
     subst (λ (y : Page). MatchOption c.make_words.result (HasNotMade c.args.table.now c.make_words.new.seat c.make_words.new.build.made.items)
     (λ e. (news : List Made) × IsSide (page_without c.args.key.now y) e news × IsBuilding c.args.table.now c.make_words.new.seat c.make_words.new.build.made.items news))
     (sym (ap (λ (z : NodeWords). z.page) shown.shows))
@@ -73,10 +73,10 @@ returns-clause-made g c = λ words h.
 
 pub returns-clause-low : goal.returns-clause-low
 returns-clause-low g c = λ words h.
-    let (view, is) = c.load_words-words.ensures.node in
-    let shown = words_shown c.args.seat.now.known c.args.number c.load_words-words.ensures.words view is words h in
+    let (view, is) = c.load_words.ensures.node in
+    let shown = words_shown c.args.seat.now.known c.args.number c.load_words.ensures.words view is words h in
     let built = left_page c.args.key.now view c.drop_entry.new.words None (c.in_default.ensures view is.has is.spells) in
-    let b = building_on c.args.table.now g.G.Gate.becomes (c.args.seat.now, c.args.gate.now) (c.load_words-words.new.seat, c.load_words-words.new.gate) c.args.build.now.made.items [] c.load_words-words.ensures.reads.goes c.load_words-words.ensures.reads.own c.requires.building in
+    let b = building_on c.args.table.now g.G.Gate.becomes (c.args.seat.now, c.args.gate.now) (c.load_words.new.seat, c.load_words.new.gate) c.args.build.now.made.items [] c.load_words.ensures.reads.goes c.load_words.ensures.reads.own c.requires.building in
     let tall = ap (λ (z : NodeWords). z.fixed.height) shown.shows in
     let low = built_low built.node (page_without c.args.key.now (piece view)) view.height built.built (left_under c.args.key.now view is.has.lawful) in
     left_low built.node (node_words_of words).fixed.height c.make_words.result _ (λ m. IsBuilding c.args.table.now c.make_words.new.seat c.make_words.new.build.made.items (of_view m built.node ∷ []))
@@ -84,5 +84,5 @@ returns-clause-low g c = λ words h.
 
 pub returns-clause-walk : goal.returns-clause-walk
 returns-clause-walk g c =
-    walks_later c.args.table.now g.G.Gate.becomes (c.args.seat.now, c.args.gate.now) (c.load_words-words.new.seat, c.load_words-words.new.gate) c.make_words.new.seat.known c.args.build.now c.make_words.new.build c.make_words.result
-    c.load_words-words.ensures.reads.goes c.make_words.ensures.walk
+    walks_later c.args.table.now g.G.Gate.becomes (c.args.seat.now, c.args.gate.now) (c.load_words.new.seat, c.load_words.new.gate) c.make_words.new.seat.known c.args.build.now c.make_words.new.build c.make_words.result
+    c.load_words.ensures.reads.goes c.make_words.ensures.walk

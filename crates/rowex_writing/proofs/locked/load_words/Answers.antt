@@ -6,7 +6,9 @@ use Rattle.rowex_writing.proofs.Locking.{AreRead, AreThose, none_read, one_read,
 use Rattle.rowex_writing.proofs.locked.load_words.Goals as goal
 
 pub loop-index-init : goal.loop-index-init
-loop-index-init g c = none_read c.args.table.now g.G.Gate.becomes (c.args.seat.now, c.args.gate.now) c.args.number c.requires.own
+loop-index-init g c =
+    subst (λ ws. AreRead c.args.table.now g.G.Gate.becomes (c.args.seat.now, c.args.gate.now) (c.args.seat.now, c.args.gate.now) c.args.number ws 0) (sym c.requires.empty)
+    (none_read c.args.table.now g.G.Gate.becomes (c.args.seat.now, c.args.gate.now) c.args.number c.requires.own)
 
 pub loop-index-preserved : goal.loop-index-preserved
 loop-index-preserved g c =

@@ -5,10 +5,10 @@ use Rattle.rowex_writing.proofs.Locking.{words_shown}
 use Rattle.rowex_writing.proofs.locked.read_locked.Goals as goal
 
 pub read_node-requires : goal.read_node-requires
-read_node-requires g c = let (view, is) = c.load_words-words.ensures.node in (view, is.has, is.spells)
+read_node-requires g c = let (view, is) = c.load_words.ensures.node in (view, is.has, is.spells)
 
 pub returns-clause-node : goal.returns-clause-node
 returns-clause-node g c = λ words h.
-    let (view, is) = c.load_words-words.ensures.node in
+    let (view, is) = c.load_words.ensures.node in
     let same : c.read_node.result ≡ view = c.read_node.ensures.only view is.has is.spells in
-    subst (IsNodeOf words) (sym same) (words_shown c.args.seat.now.known c.args.number c.load_words-words.ensures.words view is words h)
+    subst (IsNodeOf words) (sym same) (words_shown c.args.seat.now.known c.args.number c.load_words.ensures.words view is words h)
