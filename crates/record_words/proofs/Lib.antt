@@ -1,11 +1,11 @@
 -- The lemmas of the crate.
 pub mod Bytes
-pub mod Lanes
 pub mod Dropping
 pub mod Entries
 pub mod Fixing
 pub mod Growing
 pub mod Heads
+pub mod Lanes
 pub mod Lawful
 pub mod Leaves
 pub mod Locations
