@@ -71,9 +71,20 @@ fn write_pair(key: &[u8], value: u64, pair: &mut Pair)
         let mut eight = [0; 8];
         eight.copy_from_slice(&key[..8]);
         pair.key[..8].copy_from_slice(&eight);
+        pair.length = 8;
+        pair.value = value;
     } else {
-        pair.key[..key.len()].copy_from_slice(key);
+        write_any(key, value, pair);
     }
+}
+
+/// Writes a pair with a key of any length. Never inline: so a loop over pairs has little to keep at hand.
+#[inline(never)]
+fn write_any(key: &[u8], value: u64, pair: &mut Pair)
+    requires { IsKey key.now }
+    ensures { Spells (key.now, value) pair.new }
+{
+    pair.key[..key.len()].copy_from_slice(key);
     pair.length = key.len() as u32;
     pair.value = value;
 }
