@@ -28,11 +28,18 @@ pub fn index_of(rt: &impl Abort, alloc: Global, passes: u32) -> (Index, Vec<Pass
         Ok(made) => made,
         Err(fault) => {
             assert!(rt; matches!(fault, IndexFault::Memory));
-            match create(alloc, passes, 2, 8) {
-                Ok(made) => made,
-                Err(_) => panic!(rt; "no index"),
-            }
+            index_again(rt, alloc, passes)
         }
+    }
+}
+
+/// The index, which is not refused now.
+fn index_again(rt: &impl Abort, alloc: Global, passes: u32) -> (Index, Vec<Pass>)
+    ensures { All (Owns result.0) result.1.items }
+{
+    match create(alloc, passes, 2, 8) {
+        Ok(made) => made,
+        Err(_) => panic!(rt; "no index"),
     }
 }
 

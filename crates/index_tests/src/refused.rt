@@ -41,14 +41,24 @@ fn expect_whole(rt: &impl Abort, scan: Result<Scan, AllocError>, count: usize) {
     }
 }
 
+/// Inserts two keys.
+fn insert_both(rt: &impl Abort, guest: &mut Guest, keys: &(Key, Key)) {
+    assert!(rt; guest.try_insert(&keys.0, 1) == Ok(Reply::Inserted));
+    assert!(rt; guest.try_insert(&keys.1, 2) == Ok(Reply::Inserted));
+}
+
+/// Replaces the leaf of the first key, which comes back with the next round.
+fn replace_first(rt: &impl Abort, guest: &mut Guest, keys: &(Key, Key)) {
+    assert!(rt; guest.try_upsert(&keys.0, 3) == Ok(Reply::Was(1)));
+    assert!(rt; guest.collect().leaves == 1);
+}
+
 /// A scan of two keys leaves no pin, though it was refused: a leaf that another pass replaces after it comes back with the next round.
 fn list_beside(rt: &impl Abort, alloc: Global, guest: &mut Guest, other: &mut Guest, way: Way) {
     let ends = ends(rt);
-    assert!(rt; other.try_insert(&ends.0, 1) == Ok(Reply::Inserted));
-    assert!(rt; other.try_insert(&ends.1, 2) == Ok(Reply::Inserted));
+    insert_both(rt, other, &ends);
     let first = list(alloc, guest, way, &ends);
-    assert!(rt; other.try_upsert(&ends.0, 3) == Ok(Reply::Was(1)));
-    assert!(rt; other.collect().leaves == 1);
+    replace_first(rt, other, &ends);
     let scan = match first {
         Ok(scan) => Ok(scan),
         Err(_) => list(alloc, guest, way, &ends),
@@ -57,13 +67,17 @@ fn list_beside(rt: &impl Abort, alloc: Global, guest: &mut Guest, other: &mut Gu
     find_last(rt, alloc, guest, &ends.1);
 }
 
-/// The last pair is that of this key, with the value 2.
-fn find_last(rt: &impl Abort, alloc: Global, guest: &mut Guest, key: &Key) {
-    let last = match guest.last(alloc, key) {
+/// The last pair up to a key.
+fn last_of(alloc: Global, guest: &mut Guest, key: &Key) -> Result<Option<(Key, u64)>, AllocError> {
+    match guest.last(alloc, key) {
         Ok(last) => Ok(last),
         Err(_) => guest.last(alloc, key),
-    };
-    let Ok(Some((found, value))) = last else {
+    }
+}
+
+/// The last pair is that of this key, with the value 2.
+fn find_last(rt: &impl Abort, alloc: Global, guest: &mut Guest, key: &Key) {
+    let Ok(Some((found, value))) = last_of(alloc, guest, key) else {
         panic!(rt; "no pair")
     };
     assert!(rt; found == *key && value == 2);

@@ -6,6 +6,7 @@ ghost use Rattle.hot_index.specs.Stamps.{IsStampFrom};
 
 use crate::made::*;
 use hot_index::{Index, Key, Pass, Reply, Stamp};
+use std::process::Abort;
 use std::sync::Wait;
 use std::test::*;
 use std::thread::{Threads, join};
@@ -45,17 +46,31 @@ fn insert_both<R: Threads + Wait + Sync>(
     )
 }
 
+/// A pass finds the keys that two others insert at the same time, once it has followed their stamps.
+fn find_both<R: Abort + Threads + Wait + Sync>(
+    rt: &R,
+    index: &Index,
+    passes: (Pass, Pass),
+    last: &mut Pass,
+)
+    requires first { Owns index.now passes.0 }
+    requires second { Owns index.now passes.1 }
+    requires last { Owns index.now last.old }
+{
+    let keys = (key(rt, &[0]), key(rt, &[1]));
+    let (ours, theirs) = insert_both(rt, index, passes, &keys);
+    assert!(rt; ours.0 && theirs.0);
+    index.follow(last, ours.1);
+    index.follow(last, theirs.1);
+    assert!(rt; index.get(last, &keys.0) == Some(1));
+    assert!(rt; index.get(last, &keys.1) == Some(1));
+}
+
 #[test]
 fn a_pass_that_follows_stamps_finds_what_they_tell_of(rt: HostRuntime) {
     let (index, mut passes) = index_of(&rt, rt.alloc(), 3);
     let first = next_pass(&rt, &index, &mut passes);
     let second = next_pass(&rt, &index, &mut passes);
     let mut last = next_pass(&rt, &index, &mut passes);
-    let keys = (key(&rt, &[0]), key(&rt, &[1]));
-    let (ours, theirs) = insert_both(&rt, &index, (first, second), &keys);
-    assert!(rt; ours.0 && theirs.0);
-    index.follow(&mut last, ours.1);
-    index.follow(&mut last, theirs.1);
-    assert!(rt; index.get(&mut last, &keys.0) == Some(1));
-    assert!(rt; index.get(&mut last, &keys.1) == Some(1));
+    find_both(&rt, &index, (first, second), &mut last);
 }
