@@ -144,6 +144,11 @@ fn expect_node(rt: &impl Abort, node: &Node, positions: &[u16], rows: &[u32], le
         assert!(rt; node.sparse(i) == rows[i as usize]);
         assert!(rt; node.entry(i) == Entry::Leaf(leaves[i as usize]));
     }
+    expect_unused(rt, node);
+}
+
+/// The node's other rows are those of no entry.
+fn expect_unused(rt: &impl Abort, node: &Node) {
     for i in node.count()..32 {
         assert!(rt; node.sparse(i) == u32::MAX);
     }
@@ -216,7 +221,7 @@ pub fn words_of_leaf(byte: u8, value: u64) -> [u64; LEAF_FIELDS] {
 }
 
 #[test]
-fn layouts_have_their_places(rt: HostRuntime) {
+fn layouts_are_in_range(rt: HostRuntime) {
     for (passes, nodes, leaves, want) in [
         (0, 0, 0, LayoutFault::Passes as u8),
         (65, 1, 1, LayoutFault::Passes as u8),
@@ -231,6 +236,10 @@ fn layouts_have_their_places(rt: HostRuntime) {
         };
         assert!(rt; told == want);
     }
+}
+
+#[test]
+fn layouts_have_their_places(rt: HostRuntime) {
     let Ok(layout) = Layout::of(2, 8, 8) else {
         panic!(rt; "no layout");
     };
@@ -250,6 +259,25 @@ fn layouts_have_their_places(rt: HostRuntime) {
         assert!(rt; layout.location(word).is_none(), "at {word}");
     }
     assert!(rt; layout.words() == 768);
+}
+
+/// The word at this place of a leaf record, which begins at this word, is known as such.
+fn expect_word(rt: &impl Abort, layout: &Layout, leaf: u32, word: usize, place: usize) {
+    let location = layout.location(word.wrapping_add(place));
+    assert!(rt;
+        matches!(location, Some(Location::LeafWord { leaf: found, offset }) if found == leaf && offset as usize == place),
+        "word {place} of leaf {leaf}"
+    );
+}
+
+/// A leaf record begins at this word and has so many words; the first and the last of them are known as such.
+fn expect_leaf(rt: &impl Abort, layout: &Layout, leaf: u32, word: usize, size: usize) {
+    assert!(rt;
+        layout.leaf(leaf) == word && layout.leaf_size(leaf) == size,
+        "leaf {leaf}"
+    );
+    expect_word(rt, layout, leaf, word, 0);
+    expect_word(rt, layout, leaf, word, size.wrapping_sub(1));
 }
 
 #[test]
@@ -274,17 +302,7 @@ fn leaf_records_have_their_sizes(rt: HostRuntime) {
         (5, 542, 33),
         (7, 608, 33),
     ] {
-        assert!(rt;
-            layout.leaf(leaf) == word && layout.leaf_size(leaf) == size,
-            "leaf {leaf}"
-        );
-        for place in [0, size - 1] {
-            let location = layout.location(word + place);
-            assert!(rt;
-                matches!(location, Some(Location::LeafWord { leaf: found, offset }) if found == leaf && offset as usize == place),
-                "word {place} of leaf {leaf}"
-            );
-        }
+        expect_leaf(&rt, &layout, leaf, word, size);
     }
     assert!(rt;
         layout.pin(1) == 32
