@@ -4,6 +4,23 @@
 pub mod laws;
 
 use std::collections::LinkedList;
+use std::marker::Model;
+use std::mem::ManuallyDrop;
+
+/// A list for contracts alone, of which no value is made. So there is nothing to do where what holds one is dropped, and no crate
+/// proves that anew.
+pub struct Listed<T> {
+    list: ManuallyDrop<LinkedList<T>>,
+}
+
+impl<T> Model for Listed<T> {
+    ghost use Rattle.std.specs.Mem.{manually_drop_value};
+    ghost use Rattle.std.specs.Prelude.{List};
+
+    ghost Value = { List T };
+
+    ghost view = { λ listed. manually_drop_value listed.list };
+}
 
 /// A record of the table.
 #[derive(Clone, Copy)]
@@ -32,5 +49,5 @@ pub struct Round {
     pub epoch: u64,
     pub moment: u64,
     pub bound: u64,
-    pub seen: LinkedList<u64>,
+    pub seen: Listed<u64>,
 }

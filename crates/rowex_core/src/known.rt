@@ -3,9 +3,8 @@
 
 use compound_node::Entry;
 use finite_map::{Change, Note};
-use moments::{Pin, Rec, Round};
+use moments::{Listed, Pin, Rec, Round};
 use record_words::Location;
-use std::collections::LinkedList;
 
 /// What a load found at the moment `at`, of a moment since any since `since`.
 pub enum Fact {
@@ -47,13 +46,13 @@ pub enum Holding {
 pub struct Owned {
     pub rec: Rec,
     pub holding: Holding,
-    pub words: LinkedList<u64>,
+    pub words: Listed<u64>,
 }
 
 /// A node in the tree that the pass has locked, with its words but the state.
 pub struct Locked {
     pub node: u32,
-    pub words: LinkedList<u64>,
+    pub words: Listed<u64>,
 }
 
 /// What kind of step it was that failed.
@@ -77,7 +76,7 @@ pub struct Failed {
 /// The front that the last load of the root left, the number of that step, and the moment at which the pass had set the pin that
 /// it had then. Before the first load the step is 0, the number of none; and so is the moment, where there was no pin.
 pub struct Fresh {
-    pub front: LinkedList<Change>,
+    pub front: Listed<Change>,
     pub step: u64,
     pub pinned: u64,
 }
@@ -86,16 +85,16 @@ pub struct Fresh {
 pub struct Known {
     pub pass: u64,
     /// The changes that it has seen.
-    pub front: LinkedList<Change>,
+    pub front: Listed<Change>,
     pub fresh: Fresh,
     /// Its answered calls.
-    pub notes: LinkedList<Note>,
+    pub notes: Listed<Note>,
     /// The number of its next atomic step; the first is 1.
     pub steps: u64,
-    pub failed: LinkedList<Failed>,
-    pub facts: LinkedList<Fact>,
-    pub own: LinkedList<Owned>,
-    pub locks: LinkedList<Locked>,
+    pub failed: Listed<Failed>,
+    pub facts: Listed<Fact>,
+    pub own: Listed<Owned>,
+    pub locks: Listed<Locked>,
     /// The root's entry, where it has locked the anchor.
     pub anchor: Option<Option<Entry>>,
     pub pin: Option<Pin>,
@@ -112,7 +111,7 @@ pub enum View {
     /// What two passes know that have been joined.
     Pair(Known, Known),
     /// That these changes have been made. Its seat is no pass's, and has nothing.
-    Witness(LinkedList<Change>),
+    Witness(Listed<Change>),
     /// What a pass knows that a witness has been joined to, and the witness's changes.
-    Follower(Known, LinkedList<Change>),
+    Follower(Known, Listed<Change>),
 }
